@@ -1,0 +1,6 @@
+pub mod Coding
+pub mod Words
+pub mod Slots
+pub mod Lookups
+pub mod Charges
+pub mod Valid

@@ -1,0 +1,16 @@
+-- `Fault::is_none` meets its contract. Assumes nothing.
+use mathlib.Core.Path.{ap}
+use Prim.Native.Nat.{ℕ}
+use lib.Dec.{eqb}
+use borrow.Author.Needs.{needs}
+use Rattle.heap.proofs.fault.Fault.is_none.Statement.{statement}
+use Rattle.heap.proofs.fault.Fault.is_none.Tie as tie
+
+number-requires : tie.Need-number-requires
+number-requires c κs = search needs
+
+returns : tie.Need-returns
+returns c = ap (λ (n : ℕ). eqb n 0) (c .number .ensures)
+
+pub is-none-spec : {M : Type 1} → statement M
+is-none-spec = tie.close (tie.spec number-requires returns)

@@ -1,0 +1,85 @@
+-- `dyn_int` meets its contract, by the word's class and what it names. Assumes nothing.
+use mathlib.Core.Path.{_≡_, ap, sym, _∙_}
+use mathlib.Core.List.{List}
+use Prim.Native.Nat.{ℕ}
+use Rattle.heap.specs.Object.{isFilled, intOf}
+use Rattle.heap.specs.Table.{get, dynIntAt, dynIntBy}
+use Rattle.heap.specs.Heap.{slotsOf}
+use Rattle.heap.specs.declared.object.Object.the-variants.{Empty}
+use Rattle.heap.proofs.Lookups.{found-words, found-object}
+use borrow.Author.Needs.{needs}
+use Rattle.heap.proofs.heap.dyn_int.Statement.{statement}
+use Rattle.heap.proofs.heap.dyn_int.Tie as tie
+
+class-requires : tie.Need-class-requires
+class-requires c κs = search needs
+
+enum-told : tie.Need-enum-told
+enum-told c = search needs
+
+enum-known-o : tie.Need-enum-known-o
+enum-known-o c = search needs
+
+get-requires : tie.Need-get-requires
+get-requires c κs = search needs
+
+enum-told-2 : tie.Need-enum-told-2
+enum-told-2 c = search needs
+
+enum-known-i : tie.Need-enum-known-i
+enum-known-i c = search needs
+
+object-at-requires : tie.Need-object-at-requires
+object-at-requires c κs = found-words (c .before .before .before .before .before .before .before .before .before .args .count) (c .before .before .before .before .before .before .before .before .before .args .slots .now) (c .before .before .before .before .before .o .given .0 .0 .0) (c .before .i .given .0 .0) (sym (c .before .i .given .1) ∙ c .before .before .before .get .ensures) (c .before .before .before .before .before .before .before .before .before .pre)
+
+int-in-requires : tie.Need-int-in-requires
+int-in-requires c κs = search needs
+
+enum-known-n : tie.Need-enum-known-n
+enum-known-n c = search needs
+
+enum-told-3 : tie.Need-enum-told-3
+enum-told-3 c = search needs
+
+returns : tie.Need-returns
+returns c = ap (dynIntBy Empty isFilled intOf (slotsOf (c .before .before .before .before .args .count) (c .before .before .before .before .args .slots .now))) (sym (c .enum-told .given .1) ∙ c .before .before .class .ensures)
+
+returns-2 : tie.Need-returns-2
+returns-2 c =
+    let xs = slotsOf (c .before .before .before .before .before .before .before .before .args .count) (c .before .before .before .before .before .before .before .before .args .slots .now) in
+    ap (dynIntAt Empty isFilled intOf xs) (sym (c .enum-told2 .given .1) ∙ c .before .before .get .ensures) ∙ ap (dynIntBy Empty isFilled intOf xs) (sym (c .before .before .before .before .o .given .1) ∙ c .before .before .before .before .before .before .class .ensures)
+
+returns-3 : tie.Need-returns-3
+returns-3 c =
+    let xs = slotsOf (c .before .before .before .before .before .before .before .before .before .before .before .args .count) (c .before .before .before .before .before .before .before .before .before .before .before .args .slots .now) in
+    let found = sym (c .before .before .before .i .given .1) ∙ c .before .before .before .before .before .get .ensures in
+    c .int-in .ensures
+    ∙ ap intOf (c .before .object-at .ensures ∙ found-object (c .before .before .before .before .before .before .before .before .before .before .before .args .count) (c .before .before .before .before .before .before .before .before .before .before .before .args .slots .now) (c .before .before .before .before .before .before .before .o .given .0 .0 .0) (c .before .before .before .i .given .0 .0) found)
+    ∙ ap (dynIntAt Empty isFilled intOf xs) found
+    ∙ ap (dynIntBy Empty isFilled intOf xs) (sym (c .before .before .before .before .before .before .before .o .given .1) ∙ c .before .before .before .before .before .before .before .before .before .class .ensures)
+
+returns-4 : tie.Need-returns-4
+returns-4 c = ap (dynIntBy Empty isFilled intOf (slotsOf (c .before .before .before .before .before .args .count) (c .before .before .before .before .before .args .slots .now))) (sym (c .before .n .given .1) ∙ c .before .before .before .class .ensures)
+
+returns-5 : tie.Need-returns-5
+returns-5 c = ap (dynIntBy Empty isFilled intOf (slotsOf (c .before .before .before .before .args .count) (c .before .before .before .before .args .slots .now))) (sym (c .enum-told3 .given .1) ∙ c .before .before .class .ensures)
+
+pub dyn-int-spec : {M : Type 1} → statement M
+dyn-int-spec =
+    tie.close
+    (tie.spec
+    class-requires
+    enum-told
+    enum-known-o
+    get-requires
+    enum-told-2
+    enum-known-i
+    object-at-requires
+    int-in-requires
+    enum-known-n
+    enum-told-3
+    returns
+    returns-2
+    returns-3
+    returns-4
+    returns-5)

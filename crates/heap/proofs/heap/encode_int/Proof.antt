@@ -1,0 +1,44 @@
+-- `encode_int` meets its contract. Assumes nothing.
+use mathlib.Core.Path.{_≡_, ap, sym, _∙_}
+use Rattle.heap.specs.Heap.{encodeBy}
+use Rattle.heap.specs.declared.int.Inline.{Inline}
+use borrow.Author.Needs.{needs}
+use Rattle.heap.proofs.heap.encode_int.Statement.{statement}
+use Rattle.heap.proofs.heap.encode_int.Tie as tie
+
+inline-int-requires : tie.Need-inline-int-requires
+inline-int-requires c κs = search needs
+
+enum-known-w : tie.Need-enum-known-w
+enum-known-w c = search needs
+
+enum-told : tie.Need-enum-told
+enum-told c = search needs
+
+alloc-requires : tie.Need-alloc-requires
+alloc-requires c κs = search needs
+
+returns : tie.Need-returns
+returns c =
+    let a = c .before .before .before .before .before .args in
+    ap (λ (x : Inline). encodeBy x (a .slots .now) (a .h) (a .bytes) (a .n)) (sym (c .before .w .given .1) ∙ c .before .before .before .inline-int .ensures)
+
+same-length : tie.Need-same-length
+same-length c = search needs
+
+returns-2 : tie.Need-returns-2
+returns-2 c =
+    let a = c .before .before .before .before .before .before .before .before .args in
+    c .before .before .alloc .ensures ∙ ap (λ (x : Inline). encodeBy x (a .slots .now) (a .h) (a .bytes) (a .n)) (sym (c .before .before .before .before .enum-told .given .1) ∙ c .before .before .before .before .before .before .inline-int .ensures)
+
+pub encode-int-spec : {M : Type 1} → statement M
+encode-int-spec =
+    tie.close
+    (tie.spec
+    inline-int-requires
+    enum-known-w
+    enum-told
+    alloc-requires
+    returns
+    same-length
+    returns-2)

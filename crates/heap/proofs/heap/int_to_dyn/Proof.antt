@@ -1,0 +1,44 @@
+-- `int_to_dyn` meets its contract. Assumes nothing.
+use mathlib.Core.Path.{_≡_, ap, sym, _∙_}
+use Rattle.heap.specs.Heap.{intBy}
+use Rattle.heap.specs.declared.int.Exact.{Exact}
+use borrow.Author.Needs.{needs}
+use Rattle.heap.proofs.heap.int_to_dyn.Statement.{statement}
+use Rattle.heap.proofs.heap.int_to_dyn.Tie as tie
+
+value-requires : tie.Need-value-requires
+value-requires c κs = search needs
+
+enum-known-v : tie.Need-enum-known-v
+enum-known-v c = search needs
+
+encode-int-requires : tie.Need-encode-int-requires
+encode-int-requires c κs = search needs
+
+enum-told : tie.Need-enum-told
+enum-told c = search needs
+
+same-length : tie.Need-same-length
+same-length c = search needs
+
+returns : tie.Need-returns
+returns c =
+    let a = c .before .before .before .before .before .before .before .before .before .args in
+    c .before .before .encode-int .ensures ∙ ap (λ (x : Exact). intBy x (a .slots .now) (a .h) (a .bytes)) (sym (c .before .before .before .before .before .v .given .1) ∙ c .before .before .before .before .before .before .before .value .ensures)
+
+returns-2 : tie.Need-returns-2
+returns-2 c =
+    let a = c .before .before .before .before .args in
+    ap (λ (x : Exact). intBy x (a .slots .now) (a .h) (a .bytes)) (sym (c .enum-told .given .1) ∙ c .before .before .value .ensures)
+
+pub int-to-dyn-spec : {M : Type 1} → statement M
+int-to-dyn-spec =
+    tie.close
+    (tie.spec
+    value-requires
+    enum-known-v
+    encode-int-requires
+    enum-told
+    same-length
+    returns
+    returns-2)

@@ -1,0 +1,68 @@
+-- `not_a` meets its contract, by the word's class. Assumes nothing.
+use mathlib.Core.Path.{_≡_, ap, ap₂, sym, _∙_}
+use Rattle.heap.specs.Object.{isFilled}
+use Rattle.heap.specs.Table.{get, notA}
+use Rattle.heap.specs.Heap.{slotsOf}
+use Rattle.heap.specs.declared.value.Class.{Class}
+use Rattle.heap.specs.declared.object.Object.the-variants.{Empty}
+use Rattle.heap.specs.declared.heap.Place.{Place}
+use borrow.Author.Needs.{needs}
+use Rattle.heap.proofs.heap.not_a.Statement.{statement}
+use Rattle.heap.proofs.heap.not_a.Tie as tie
+
+class-requires : tie.Need-class-requires
+class-requires c κs = search needs
+
+enum-told : tie.Need-enum-told
+enum-told c = search needs
+
+enum-told-2 : tie.Need-enum-told-2
+enum-told-2 c = search needs
+
+get-requires : tie.Need-get-requires
+get-requires c κs = search needs
+
+enum-told-3 : tie.Need-enum-told-3
+enum-told-3 c = search needs
+
+enum-told-4 : tie.Need-enum-told-4
+enum-told-4 c = search needs
+
+enum-told-5 : tie.Need-enum-told-5
+enum-told-5 c = search needs
+
+enum-told-6 : tie.Need-enum-told-6
+enum-told-6 c = search needs
+
+returns : tie.Need-returns
+returns c = ap (λ (k : Class). notA k (get Empty isFilled (slotsOf (c .before .before .before .before .args .count) (c .before .before .before .before .args .slots .now)) (c .before .before .before .before .args .w .0))) (sym (c .enum-told .given .1) ∙ c .before .before .class .ensures)
+
+returns-2 : tie.Need-returns-2
+returns-2 c = ap₂ notA (sym (c .before .before .before .enum-told2 .given .1) ∙ c .before .before .before .before .before .class .ensures) (sym (c .enum-told3 .given .1) ∙ c .before .before .get .ensures)
+
+returns-3 : tie.Need-returns-3
+returns-3 c = ap₂ notA (sym (c .before .before .before .enum-told2 .given .1) ∙ c .before .before .before .before .before .class .ensures) (sym (c .enum-told4 .given .1) ∙ c .before .before .get .ensures)
+
+returns-4 : tie.Need-returns-4
+returns-4 c = ap (λ (k : Class). notA k (get Empty isFilled (slotsOf (c .before .before .before .before .args .count) (c .before .before .before .before .args .slots .now)) (c .before .before .before .before .args .w .0))) (sym (c .enum-told5 .given .1) ∙ c .before .before .class .ensures)
+
+returns-5 : tie.Need-returns-5
+returns-5 c = ap (λ (k : Class). notA k (get Empty isFilled (slotsOf (c .before .before .before .before .args .count) (c .before .before .before .before .args .slots .now)) (c .before .before .before .before .args .w .0))) (sym (c .enum-told6 .given .1) ∙ c .before .before .class .ensures)
+
+pub not-a-spec : {M : Type 1} → statement M
+not-a-spec =
+    tie.close
+    (tie.spec
+    class-requires
+    enum-told
+    enum-told-2
+    get-requires
+    enum-told-3
+    enum-told-4
+    enum-told-5
+    enum-told-6
+    returns
+    returns-2
+    returns-3
+    returns-4
+    returns-5)

@@ -1,0 +1,49 @@
+-- `object_at` meets its contract: the part that is lent is the slot's words. Assumes nothing.
+use mathlib.Core.Path.{_≡_, ap, _∙_}
+use Prim.Native.Nat.{ℕ, _+_, _*_, _-_}
+use native.Mathlib.Omega.{arith}
+use lib.ListN.{take, drop}
+use Rattle.heap.specs.Slot.{objectAt}
+use borrow.Author.Needs.{needs}
+use Rattle.heap.proofs.slot.object_at.Statement.{statement}
+use Rattle.heap.proofs.slot.object_at.Tie as tie
+
+mul-b : tie.Need-mul-b
+mul-b c = search needs
+
+add-e : tie.Need-add-e
+add-e c = search needs
+
+mul-object-of : tie.Need-mul-object-of
+mul-object-of c = search needs
+
+sub-object-of : tie.Need-sub-object-of
+sub-object-of c = search needs
+
+part-object-of-start : tie.Need-part-object-of-start
+part-object-of-start c = search needs
+
+part-object-of-end : tie.Need-part-object-of-end
+part-object-of-end c = search needs
+
+object-of-requires : tie.Need-object-of-requires
+object-of-requires c κs = search needs
+
+returns : tie.Need-returns
+returns c =
+    let b = c .before .before .before .args .i * 20 in
+    let e : (b + 20) - b ≡ 20 = omega arith in
+    c .object-of .ensures ∙ ap (λ (n : ℕ). objectAt (take n (drop b (c .before .before .before .args .slots .now)))) e
+
+pub object-at-spec : {M : Type 1} → statement M
+object-at-spec =
+    tie.close
+    (tie.spec
+    mul-b
+    add-e
+    mul-object-of
+    sub-object-of
+    part-object-of-start
+    part-object-of-end
+    object-of-requires
+    returns)

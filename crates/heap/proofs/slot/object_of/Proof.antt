@@ -1,0 +1,102 @@
+-- `object_of` meets its contract: by the kind. Assumes nothing.
+use borrow.Author.Tests.{ne-eqb}
+use lib.ListN.{getD}
+use Rattle.lists.specs.Pick.{pick}
+use borrow.Author.Needs.{needs}
+use Rattle.heap.proofs.slot.object_of.Statement.{statement}
+use Rattle.heap.proofs.slot.object_of.Tie as tie
+
+shared-slice-read-kind : tie.Need-shared-slice-read-kind
+shared-slice-read-kind c = search needs
+
+shared-slice-read-t7 : tie.Need-shared-slice-read-t7
+shared-slice-read-t7 c = search needs
+
+shared-slice-read-t9 : tie.Need-shared-slice-read-t9
+shared-slice-read-t9 c = search needs
+
+shared-slice-read-t11 : tie.Need-shared-slice-read-t11
+shared-slice-read-t11 c = search needs
+
+shared-slice-read-t13 : tie.Need-shared-slice-read-t13
+shared-slice-read-t13 c = search needs
+
+shared-slice-read-t17 : tie.Need-shared-slice-read-t17
+shared-slice-read-t17 c = search needs
+
+shared-slice-read-t19 : tie.Need-shared-slice-read-t19
+shared-slice-read-t19 c = search needs
+
+shared-slice-read-t22 : tie.Need-shared-slice-read-t22
+shared-slice-read-t22 c = search needs
+
+shared-slice-read-t25 : tie.Need-shared-slice-read-t25
+shared-slice-read-t25 c = search needs
+
+shared-slice-read-t27 : tie.Need-shared-slice-read-t27
+shared-slice-read-t27 c = search needs
+
+shared-slice-read-t29 : tie.Need-shared-slice-read-t29
+shared-slice-read-t29 c = search needs
+
+shared-slice-read-t31 : tie.Need-shared-slice-read-t31
+shared-slice-read-t31 c = search needs
+
+coro-of-requires : tie.Need-coro-of-requires
+coro-of-requires c κs = search needs
+
+returns : tie.Need-returns
+unfolding pick
+returns c = rw (c .before .match .keys1)
+
+returns-2 : tie.Need-returns-2
+unfolding pick
+returns-2 c = rw (c .before .match .keys2)
+
+returns-3 : tie.Need-returns-3
+unfolding pick
+returns-3 c = rw (c .before .before .match .keys3)
+
+returns-4 : tie.Need-returns-4
+unfolding pick
+returns-4 c = rw (c .before .before .before .match .keys4)
+
+returns-5 : tie.Need-returns-5
+unfolding pick
+returns-5 c = rw (c .before .before .before .before .match .keys5)
+
+returns-6 : tie.Need-returns-6
+unfolding pick
+returns-6 c = rw (c .before .match .keys6, c .coro-of .ensures)
+
+returns-7 : tie.Need-returns-7
+unfolding pick
+returns-7 c =
+    let k = getD (c .before .before .before .args .s .now) 1 0 in
+    let r = c .match .rest in
+    rw (ne-eqb k 1 (r .0 .0 .0 .0 .0 .1), ne-eqb k 2 (r .0 .0 .0 .0 .1), ne-eqb k 3 (r .0 .0 .0 .1), ne-eqb k 4 (r .0 .0 .1), ne-eqb k 5 (r .0 .1), ne-eqb k 6 (r .1))
+
+pub object-of-spec : {M : Type 1} → statement M
+object-of-spec =
+    tie.close
+    (tie.spec
+    shared-slice-read-kind
+    shared-slice-read-t7
+    shared-slice-read-t9
+    shared-slice-read-t11
+    shared-slice-read-t13
+    shared-slice-read-t17
+    shared-slice-read-t19
+    shared-slice-read-t22
+    shared-slice-read-t25
+    shared-slice-read-t27
+    shared-slice-read-t29
+    shared-slice-read-t31
+    coro-of-requires
+    returns
+    returns-2
+    returns-3
+    returns-4
+    returns-5
+    returns-6
+    returns-7)

@@ -1,0 +1,62 @@
+use mathlib.Core.Path.{_≡_, ap₂, _∙_}
+use mathlib.Core.List.{List, _++_}
+use Prim.Native.Nat.{ℕ, _+_, _*_, _-_}
+use native.Mathlib.Omega.{arith}
+use lib.ListN.{take, drop}
+-- `put_slot` meets its contract: the part that is lent comes back as the slot's words. Assumes nothing.
+use borrow.Author.Needs.{needs}
+use Rattle.heap.proofs.slot.put_slot.Statement.{statement}
+use Rattle.heap.proofs.slot.put_slot.Tie as tie
+
+mul-b : tie.Need-mul-b
+mul-b c = search needs
+
+add-e : tie.Need-add-e
+add-e c = search needs
+
+words-of-requires : tie.Need-words-of-requires
+words-of-requires c κs = search needs
+
+mul-copy-words : tie.Need-mul-copy-words
+mul-copy-words c = search needs
+
+sub-copy-words : tie.Need-sub-copy-words
+sub-copy-words c = search needs
+
+part-copy-words-start : tie.Need-part-copy-words-start
+part-copy-words-start c = search needs
+
+part-copy-words-end : tie.Need-part-copy-words-end
+part-copy-words-end c = search needs
+
+slice-aggregate-copy-words : tie.Need-slice-aggregate-copy-words
+slice-aggregate-copy-words c = search needs
+
+copy-words-requires : tie.Need-copy-words-requires
+copy-words-requires c κs = search needs
+
+same-length : tie.Need-same-length
+same-length c = search needs
+
+returns : tie.Need-returns
+returns c =
+    let b = c .before .before .before .before .before .before .before .args .i * 20 in
+    let ws = c .before .before .before .before .before .before .before .args .slots .now in
+    let e : (b + 20) - b ≡ 20 = omega arith in
+    ap₂ (λ (n : ℕ) (ys : List ℕ). take b ws ++ (ys ++ drop n (drop b ws))) e (c .before .before .copy-words .ensures ∙ c .before .before .before .before .before .words-of .ensures)
+
+pub put-slot-spec : {M : Type 1} → statement M
+put-slot-spec =
+    tie.close
+    (tie.spec
+    mul-b
+    add-e
+    words-of-requires
+    mul-copy-words
+    sub-copy-words
+    part-copy-words-start
+    part-copy-words-end
+    slice-aggregate-copy-words
+    copy-words-requires
+    same-length
+    returns)

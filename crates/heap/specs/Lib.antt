@@ -1,0 +1,10 @@
+pub mod Fault
+pub mod Coding
+pub mod Word
+pub mod Int
+pub mod Object
+pub mod Table
+pub mod Charge
+pub mod Slot
+pub mod Heap
+pub mod Ranges

@@ -1,0 +1,46 @@
+-- heap.rs: Object. 01: State codes.
+use Prim.Native.Nat.{ℕ}
+use mathlib.Core.Bool.{Bool, true, false}
+use lib.Dec.{eqb}
+use Rattle.lists.specs.Pick.{pick}
+use Rattle.heap.specs.declared.value.Opt.{Opt}
+use Rattle.heap.specs.declared.value.Opt.the-variants as M
+use Rattle.heap.specs.declared.object.CoroState.{CoroState}
+use Rattle.heap.specs.declared.object.CoroState.the-variants as S
+use Rattle.heap.specs.declared.object.Object.{Object}
+use Rattle.heap.specs.declared.object.Object.the-variants as O
+
+-- 01: "Created 0, Running 1, Yielded 2, Awaiting 3, Returned 4, Failed 5"
+abbrev pub codeOf : CoroState → ℕ
+codeOf S.Created = 0
+codeOf S.Running = 1
+codeOf S.Yielded = 2
+codeOf S.Awaiting = 3
+codeOf S.Returned = 4
+codeOf S.Failed = 5
+
+abbrev pub stateOf : ℕ → CoroState
+stateOf n =
+    pick (eqb n 0) S.Created
+    (pick (eqb n 1) S.Running
+    (pick (eqb n 2) S.Yielded
+    (pick (eqb n 3) S.Awaiting
+    (pick (eqb n 4) S.Returned
+    S.Failed))))
+
+abbrev pub isFilled : Object → Bool
+isFilled O.Empty = false
+isFilled (O.Func f) = true
+isFilled (O.Int n) = true
+isFilled (O.Iter s d k) = true
+isFilled (O.Error e f p w) = true
+isFilled (O.Coro c) = true
+
+-- the integer of an integer object
+abbrev pub intOf : Object → Opt
+intOf O.Empty = M.None
+intOf (O.Func f) = M.None
+intOf (O.Int n) = M.Some n
+intOf (O.Iter s d k) = M.None
+intOf (O.Error e f p w) = M.None
+intOf (O.Coro c) = M.None

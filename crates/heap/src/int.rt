@@ -1,0 +1,84 @@
+// int.rs: value, at its two types, and the words of integers. An i64 is kept as its 64 bits of two's complement.
+ghost use mathlib.Core.Path.{_≡_};
+ghost use Rattle.heap.specs.Coding.{ofBits};
+ghost use Rattle.heap.specs.Int.{valueOf, exactly, inlineOf, nextKey, lessBits};
+use crate::value::Word;
+
+// The types that a result is read at.
+pub enum IntTy {
+    I64,
+    U64,
+}
+
+// An integer of 64 bits, or one that is out of their range.
+pub enum Exact {
+    Fits(u64),
+    Over,
+}
+
+// An integer's word, where it is inline.
+pub enum Inline {
+    At(Word),
+    Large,
+}
+
+// int.rs: value. The value of register bits read at a type, as an i64.
+pub fn value(ty: IntTy, bits: u64) -> Exact
+    ensures { λ r. ⌜ r ≡ exactly (valueOf ty bits) ⌝ }
+{
+    match ty {
+        IntTy::I64 => Exact::Fits(bits),
+        IntTy::U64 => {
+            if bits < 0x8000_0000_0000_0000 {
+                Exact::Fits(bits)
+            } else {
+                Exact::Over
+            }
+        }
+    }
+}
+
+// dynv: inline_int.
+pub fn inline_int(bits: u64) -> Inline
+    ensures { λ r. ⌜ r ≡ inlineOf (ofBits 63 bits) ⌝ }
+{
+    if bits < 0x8000_0000_0000 {
+        Inline::At(Word(Word::INT + bits))
+    } else if bits < 0xFFFF_8000_0000_0000 {
+        Inline::Large
+    } else {
+        Inline::At(Word(bits - Word::REF))
+    }
+}
+
+// coro.rs: auto_key's next key.
+pub fn next_key(largest: u64) -> Exact
+    ensures { λ r. ⌜ r ≡ nextKey largest ⌝ }
+{
+    if largest == 0x7FFF_FFFF_FFFF_FFFF {
+        Exact::Over
+    } else if largest == 0xFFFF_FFFF_FFFF_FFFF {
+        Exact::Fits(0)
+    } else {
+        Exact::Fits(largest + 1)
+    }
+}
+
+// The order of two integers.
+pub fn less(a: u64, b: u64) -> bool
+    ensures { λ r. ⌜ r ≡ lessBits a b ⌝ }
+{
+    if a < 0x8000_0000_0000_0000 {
+        if b < 0x8000_0000_0000_0000 {
+            a < b
+        } else {
+            false
+        }
+    } else {
+        if b < 0x8000_0000_0000_0000 {
+            true
+        } else {
+            a < b
+        }
+    }
+}

@@ -1,0 +1,8 @@
+// The lower crate: words, integers, the object table and its charges.
+pub mod fault;
+pub mod heap;
+pub mod int;
+pub mod object;
+pub mod ranges;
+pub mod slot;
+pub mod value;

@@ -1,0 +1,207 @@
+// The layout of a slot: tag, kind and fields in 20 words. Only this crate knows it.
+ghost use mathlib.Core.Path.{_≡_};
+ghost use Prim.Native.Nat.{_+_, _*_, _≤_};
+ghost use lib.ListN.{length};
+ghost use Rattle.lists.specs.Chunks.{chunkAt};
+ghost use Rattle.heap.specs.Table.{slot};
+ghost use Rattle.heap.specs.Object.{isFilled};
+ghost use Rattle.heap.specs.Slot.{coroAt, objectAt, fieldsOf, slotWords};
+ghost use Rattle.heap.specs.Heap.{slotIn, putSlot};
+ghost use Rattle.heap.specs.declared.object.Object.the-variants.{Iter, Coro};
+use crate::object::CoroObj;
+use crate::object::CoroState;
+use crate::object::Object;
+use crate::value::Opt;
+
+// The coroutine in a slot's words.
+fn coro_of(s: &[u64]) -> CoroObj
+    requires { ⌜ length (now s) ≡ 20 ⌝ }
+    ensures { λ r. ⌜ r ≡ coroAt (now (s .entry)) ⌝ }
+{
+    CoroObj {
+        state: CoroState::of_code(s[2]),
+        closing: s[3] != 0,
+        finalized: s[4] != 0,
+        task: s[5] != 0,
+        seq: s[6],
+        row: s[7],
+        regs: s[8],
+        frames: s[9],
+        maxregs: s[10],
+        maxframes: s[11],
+        waiting: s[12],
+        payload: s[13],
+        key: s[14],
+        largest: s[15],
+        result: s[16],
+        signal: s[17],
+    }
+}
+
+// The object in a slot's words.
+fn object_of(s: &[u64]) -> Object
+    requires { ⌜ length (now s) ≡ 20 ⌝ }
+    ensures { λ r. ⌜ r ≡ objectAt (now (s .entry)) ⌝ }
+{
+    let kind = s[1];
+    match kind {
+        1 => Object::Func(s[2]),
+        2 => Object::Int(s[2]),
+        3 => Object::Iter {
+            src: s[2],
+            done: s[3] != 0,
+            key: Opt::None,
+        },
+        4 => Object::Iter {
+            src: s[2],
+            done: s[3] != 0,
+            key: Opt::Some(s[4]),
+        },
+        5 => Object::Error {
+            kind: s[2],
+            func: s[3],
+            pc: s[4],
+            payload: s[5],
+        },
+        6 => Object::Coro(coro_of(s)),
+        _ => Object::Empty,
+    }
+}
+
+fn coro_words(tag: u64, c: CoroObj) -> [u64; 20]
+    ensures { λ r. ⌜ r ≡ slotWords (slot tag (Coro c)) ⌝ }
+{
+    let state = c.state;
+    [
+        tag,
+        6,
+        state.code(),
+        c.closing as u64,
+        c.finalized as u64,
+        c.task as u64,
+        c.seq,
+        c.row,
+        c.regs,
+        c.frames,
+        c.maxregs,
+        c.maxframes,
+        c.waiting,
+        c.payload,
+        c.key,
+        c.largest,
+        c.result,
+        c.signal,
+        0,
+        0,
+    ]
+}
+
+// Tag, kind and up to four fields.
+pub(crate) fn fields(tag: u64, kind: u64, a: u64, b: u64, c: u64, d: u64) -> [u64; 20]
+    ensures { λ r. ⌜ r ≡ fieldsOf tag kind a b c d ⌝ }
+{
+    [
+        tag,
+        kind,
+        a,
+        b,
+        c,
+        d,
+        0,
+        0,
+        0,
+        0,
+        0,
+        0,
+        0,
+        0,
+        0,
+        0,
+        0,
+        0,
+        0,
+        0,
+    ]
+}
+
+fn iter_words(tag: u64, src: u64, done: bool, key: Opt) -> [u64; 20]
+    ensures { λ r. ⌜ r ≡ slotWords (slot tag (Iter src done key)) ⌝ }
+{
+    match key {
+        Opt::None => fields(tag, 3, src, done as u64, 0, 0),
+        Opt::Some(k) => fields(tag, 4, src, done as u64, k, 0),
+    }
+}
+
+// The words of a slot.
+fn words_of(tag: u64, o: Object) -> [u64; 20]
+    ensures { λ r. ⌜ r ≡ slotWords (slot tag o) ⌝ }
+{
+    match o {
+        Object::Empty => fields(tag, 0, 0, 0, 0, 0),
+        Object::Func(f) => fields(tag, 1, f, 0, 0, 0),
+        Object::Int(n) => fields(tag, 2, n, 0, 0, 0),
+        Object::Iter { src, done, key } => iter_words(tag, src, done, key),
+        Object::Error {
+            kind,
+            func,
+            pc,
+            payload,
+        } => fields(tag, 5, kind, func, pc, payload),
+        Object::Coro(c) => coro_words(tag, c),
+    }
+}
+
+// The object at place i.
+pub fn object_at(slots: &[u64], i: usize) -> Object
+    requires { ⌜ i * 20 + 20 ≤ length (now slots) ⌝ }
+    ensures { λ r. ⌜ r ≡ slotIn (now (slots .entry)) i .object ⌝ }
+{
+    let b = i * 20;
+    let e = b + 20;
+    object_of(&slots[b..e])
+}
+
+// The tag at place i.
+pub(crate) fn tag_at(slots: &[u64], i: usize) -> u64
+    requires { ⌜ i * 20 + 20 ≤ length (now slots) ⌝ }
+    ensures { λ r. ⌜ r ≡ slotIn (now (slots .entry)) i .tag ⌝ }
+{
+    let b = i * 20;
+    slots[b]
+}
+
+// Slot i replaced.
+pub fn put_slot(slots: &mut [u64], i: usize, tag: u64, o: Object)
+    requires { ⌜ i * 20 + 20 ≤ length (now slots) ⌝ }
+    ensures { λ r. ⌜ now (slots .exit) ≡ putSlot (now (slots .entry)) i (slot tag o) ⌝ }
+{
+    let b = i * 20;
+    let e = b + 20;
+    let words = words_of(tag, o);
+    lists::copy_words(&mut slots[b..e], &words);
+}
+
+// Whether an object stands at place i.
+pub(crate) fn filled_at(slots: &[u64], i: usize) -> bool
+    requires { ⌜ i * 20 + 20 ≤ length (now slots) ⌝ }
+    ensures { λ r. ⌜ r ≡ isFilled (slotIn (now (slots .entry)) i .object) ⌝ }
+{
+    match object_at(slots, i) {
+        Object::Empty => false,
+        Object::Func(_) => true,
+        Object::Int(_) => true,
+        Object::Iter {
+            src: _,
+            done: _,
+            key: _,
+        } => true,
+        Object::Error {
+            kind: _,
+            func: _,
+            pc: _,
+            payload: _,
+        } => true,
+        Object::Coro(_) => true,
+    }
+}

@@ -1,0 +1,4 @@
+pub mod Pick
+pub mod Parts
+pub mod Chunks
+pub mod Tests

@@ -1,0 +1,153 @@
+-- 01: "P1 to P8 (depth limit 4, stack limit 10)", by computation.
+use Prim.Native.Nat.{ℕ, _-_, _^_}
+use mathlib.Core.Path.{_≡_, refl}
+use mathlib.Core.Bool.{Bool, true, false}
+use mathlib.Core.List.{List, [], _∷_, _++_}
+use lib.IntN.{pos, negsuc}
+use Rattle.heap.specs.Word.{intWord}
+use Rattle.heap.specs.declared.fault.Fault.{Fault}
+use Rattle.heap.specs.declared.value.Opt.{Opt}
+use Rattle.model.specs.Program.{Func, Setup}
+use Rattle.model.specs.Object.{Object}
+use Rattle.model.specs.World.{World, fresh}
+use Rattle.model.specs.Heap.{object, coro}
+use Rattle.model.specs.Sound.{marked}
+use Rattle.model.specs.Answer.{numberOf, takenOff}
+use Rattle.model.specs.Call.{Call, SetUp, Do}
+use Rattle.model.specs.Step.{step, run}
+use Rattle.model.specs.Compute.{computed}
+use Rattle.model.specs.declared.machine.Cont.{Cont}
+use Rattle.heap.specs.declared.heap.ResultKind.{ResultKind}
+use Rattle.model.specs.declared.call.Op.{Op}
+
+-- ---- a set-up
+
+-- a function of n registers
+abbrev pub plain : ℕ → Func
+plain n = record { regs = n; params = 0; handlers = [] }
+
+-- a function of two registers that catches what is thrown at a pc below 100: on at 50, with the word in register 1
+abbrev pub catching : Func
+catching = record { regs = 2; params = 0; handlers = record { start = 0; end = 100; target = 50; catch = 1 } ∷ [] }
+
+abbrev pub example : Setup
+example =
+    record {
+      limits = record { depth = 4; stack = 10; rows = 4; slots = 16; memory = 4096 };
+      costs = record { frame = 32; coro = 104; object = 160; int = 56; error = 56; iter = 112 };
+      hook = Opt.None;
+      functions = plain 1 ∷ plain 2 ∷ plain 4 ∷ plain 6 ∷ plain 7 ∷ catching ∷ [];
+    }
+
+-- functions 0 to 5 are the objects of slots 0 to 5, so these are the words of the first two that are made
+abbrev pub c : ℕ
+c = 0x1_0000_0000_0006
+
+abbrev pub d : ℕ
+d = 0x1_0000_0000_0007
+
+-- ---- runs of it
+
+-- a run of function f, with the first coroutine, of function g, in its register 0
+abbrev pub holding : ℕ → ℕ → List Call
+holding f g = SetUp example ∷ Do (Op.Grant 1000) ∷ Do (Op.HostCall f) ∷ Do (Op.CoroNew 1 0 g 0) ∷ []
+
+abbrev pub reached : List Call → World
+reached cs = run (fresh example) cs
+
+-- the number that a call answers after others
+abbrev pub number : List Call → Op → ℕ
+number cs o = numberOf (step (reached cs) (Do o) .answer)
+
+-- the registers of the top frame
+abbrev pub look : List Call → List ℕ
+look cs = step (reached cs) (Do Op.Look) .seen
+
+-- P1: it yields from its second frame, to a caller of one frame; then the caller calls, and holds it one frame deeper
+abbrev pub twoFrames : List Call
+twoFrames = holding 1 0 ++ (Do (Op.Resume 2 1 0 1) ∷ Do (Op.FunctionCall 7 0 Cont.Discard) ∷ Do (Op.Yield 8 0 0) ∷ [])
+
+abbrev pub deeper : List Call
+deeper = Do (Op.FunctionCall 3 0 Cont.Discard) ∷ Do (Op.PutWord 0 c) ∷ []
+
+-- P3: it yields with key k, then without, and the caller asks for the second key
+abbrev pub keyed : ℕ → List Call
+keyed k =
+    holding 3 1
+    ++ (Do (Op.Resume 2 1 0 1) ∷ Do (Op.PutWord 1 k) ∷ Do (Op.YieldKv 7 0 0 1) ∷ Do (Op.Resume 3 1 0 1) ∷ Do (Op.Yield 8 0 0) ∷ Do (Op.CoroKey 4 1 0) ∷ [])
+
+-- P4, P6: an i64 n comes back as a dynamic word, in register r of the caller
+abbrev pub integer : ℕ → ℕ → List Call
+integer r n = Do (Op.FunctionCall 6 0 (Cont.Dyn r)) ∷ Do (Op.Finish ResultKind.I64 n) ∷ []
+
+-- P7: it yielded where it catches, and is closed with the word 9
+abbrev pub closing : List Call
+closing =
+    holding 3 5
+    ++ (Do (Op.Resume 2 1 0 1) ∷ Do (Op.Yield 8 0 0) ∷ Do (Op.PutWord 2 9) ∷ Do (Op.CoroClose 3 1 0 2) ∷ Do (Op.Unwind (Fault.Throw 9) Opt.None) ∷ [])
+
+abbrev pub isClosing : List Call → Bool
+isClosing cs = marked (λ r. r .closing) (coro (reached cs) c)
+
+-- P8: it yielded, is handed over while three units are left, and returns, entered by the host
+abbrev pub handedOver : List Call
+handedOver =
+    SetUp example
+    ∷ Do (Op.Grant 3) ∷ Do (Op.HostCall 3) ∷ Do (Op.CoroNew 1 0 1 0) ∷ Do (Op.Resume 2 1 0 1) ∷ Do (Op.Yield 8 0 0) ∷ Do Op.StopRun
+    ∷ Do (Op.Grant 3) ∷ Do (Op.HandOver c) ∷ Do (Op.HostEntry c 0) ∷ Do (Op.Finish ResultKind.None 0) ∷ Do (Op.HostCall 3) ∷ []
+
+-- ---- "one list under one theorem"
+
+pub record P1-to-P8 : Type 0 where
+  -- "Frames 2 + saved 2 enters; 3 + 2 is 4."
+  pub depth-enters : number (twoFrames ++ deeper) (Op.Resume 4 0 0 0) ≡ 0
+  pub depth-passed : number (twoFrames ++ (deeper ++ deeper)) (Op.Resume 4 0 0 0) ≡ 4
+  -- "Stack 6 + saved 4 enters; 7 + 4 is 4."
+  pub stack-enters : number (holding 3 2) (Op.Resume 2 1 0 1) ≡ 0
+  pub stack-passed : number (holding 4 2) (Op.Resume 2 1 0 1) ≡ 4
+  -- "First key 0; after keyed 5, 6; after keyed -9 alone, 0."
+  pub first-key : look (holding 1 1 ++ (Do (Op.Resume 2 1 0 1) ∷ Do (Op.Yield 8 0 0) ∷ Do (Op.CoroKey 4 1 0) ∷ [])) ≡ c ∷ intWord (pos 0) ∷ []
+  pub after-five : look (keyed (intWord (pos 5))) ≡ c ∷ intWord (pos 6) ∷ 0 ∷ 0 ∷ 0 ∷ 0 ∷ []
+  pub after-minus-nine : look (keyed (intWord (negsuc 8))) ≡ c ∷ intWord (pos 0) ∷ 0 ∷ 0 ∷ 0 ∷ 0 ∷ []
+  -- "Largest 2^63 - 1: 7."
+  pub no-next-key : number (holding 1 1 ++ (Do (Op.Resume 2 1 0 1) ∷ (integer 1 (2 ^ 63 - 1) ++ (Do (Op.YieldKv 7 0 0 1) ∷ Do (Op.Resume 3 1 0 1) ∷ [])))) (Op.Yield 8 0 0) ≡ 7
+  -- "-1 is FFFEFFFFFFFFFFFF (hex)."
+  pub minus-one : look (holding 1 1 ++ integer 1 (2 ^ 64 - 1)) ≡ c ∷ 0xFFFEFFFFFFFFFFFF ∷ []
+  -- "2^47 is an object."
+  pub large : look (holding 1 1 ++ integer 1 (2 ^ 47)) ≡ c ∷ d ∷ []
+  pub large-object : object (reached (holding 1 1 ++ integer 1 (2 ^ 47))) (d) ≡ Object.Int (2 ^ 47)
+  -- "Closing: yield 6, await stays closing."
+  pub yield-ignores : number closing (Op.Yield 60 0 0) ≡ 6
+  pub yield-clears : isClosing (closing ++ (Do (Op.Yield 60 0 0) ∷ [])) ≡ false
+  pub await-stays : isClosing (closing ++ (Do (Op.Await 60 0 0) ∷ [])) ≡ true
+  -- "Fuel 0, bank 3, ready, queue of one Returned: done, fuel 2, no bank, one word taken off."
+  pub banked : reached handedOver .fuel ≡ record { fuel = 0; bank = Opt.Some 3; ready = true }
+  pub queued : reached handedOver .finalize ≡ c ∷ []
+  pub done : number handedOver (Op.CoroCurrent 5 0) ≡ 0
+  pub spent : step (reached handedOver) (Do (Op.CoroCurrent 5 0)) .world .fuel ≡ record { fuel = 2; bank = Opt.None; ready = false }
+  pub taken : takenOff (step (reached handedOver) (Do (Op.CoroCurrent 5 0)) .answer) ≡ 1
+
+pub p1-to-p8 : P1-to-P8
+unfolding computed
+p1-to-p8 =
+    record {
+      depth-enters = refl;
+      depth-passed = refl;
+      stack-enters = refl;
+      stack-passed = refl;
+      first-key = refl;
+      after-five = refl;
+      after-minus-nine = refl;
+      no-next-key = refl;
+      minus-one = refl;
+      large = refl;
+      large-object = refl;
+      yield-ignores = refl;
+      yield-clears = refl;
+      await-stays = refl;
+      banked = refl;
+      queued = refl;
+      done = refl;
+      spent = refl;
+      taken = refl;
+    }

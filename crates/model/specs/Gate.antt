@@ -1,0 +1,49 @@
+-- 01: "Gate. Order: 11, 12, 13, then `exec::charge` (10), then the instruction's own tests as the Rust orders them."
+use Prim.Native.Nat.{ℕ, _+_}
+use mathlib.Core.Bool.{Bool, not}
+use lib.ListN.{length}
+use lib.Dec.{eqb, ltb, leb}
+use Rattle.lists.specs.Pick.{pick}
+use Rattle.heap.specs.Fault.{numberOf}
+use Rattle.heap.specs.declared.fault.Fault.{Fault}
+use Rattle.heap.specs.declared.value.Opt.{Opt}
+use Rattle.model.specs.Lists.{isNil}
+use Rattle.model.specs.World.{World, After, after, andThen}
+use Rattle.model.specs.Frames.{topBase}
+use Rattle.model.specs.Cleanup.{charge}
+use Rattle.model.specs.declared.machine.Charge.{Charge}
+use Rattle.model.specs.declared.exec.Step.{Step}
+use Rattle.model.specs.declared.call.Answer.{Answer}
+
+abbrev pub refused : World → Fault → After Answer
+refused w f = after w (Answer.Refused f)
+
+-- "Every register operand must lie between the top frame's base and the stack's end"
+abbrev pub inFrame : World → ℕ → Bool
+inFrame w r = ltb (topBase (w .frames) + r) (length (w .stack))
+
+-- "for CoroNew, CoroNewIndirect and Spawn the argument window too. The last register passes."
+abbrev pub windowIn : World → ℕ → ℕ → Bool
+windowIn w dst argc = leb (topBase (w .frames) + dst + 1 + argc) (length (w .stack))
+
+-- n queue words were taken off; once its charge is done, only Spawn can answer 10, at its hook
+abbrev pub answerOf : ℕ → Step → Answer
+answerOf n Step.Next = Answer.Stepped Step.Next n
+answerOf n Step.Frame = Answer.Stepped Step.Frame n
+answerOf n (Step.Fault f) = pick (eqb (numberOf f) 10) (Answer.Unpaid n) (Answer.Stepped (Step.Fault f) n)
+answerOf n (Step.Unwind f) = Answer.Stepped (Step.Unwind f) n
+
+abbrev pub stepped : ℕ → World → Step → After Answer
+stepped n w s = after w (answerOf n s)
+
+abbrev pub charged : (World → After Step) → World → Charge → After Answer
+charged arm w (Charge.Done n) = andThen (arm w) (stepped n)
+charged arm w Charge.Spent = after w (Answer.Stepped (Step.Fault Fault.OutOfFuel) 0)
+charged arm w (Charge.Close n) = after w (Answer.Cleanup n)
+
+-- an instruction at pc, whose operands pass or not, and which then does `arm`
+unfoldable pub instruction : ℕ → Bool → (World → After Step) → World → After Answer
+instruction pc operands arm w =
+    pick (isNil (w .frames)) (refused w Fault.NoFrame)
+    (pick (not operands) (refused w Fault.BadOperand)
+    (andThen (charge (Opt.Some pc) w) (charged arm)))

@@ -1,0 +1,23 @@
+-- The machine as definitions, in the order in which they build on each other.
+pub mod Lists
+pub mod Program
+pub mod State
+pub mod Object
+pub mod World
+pub mod Frames
+pub mod Heap
+pub mod Rows
+pub mod Fuel
+pub mod Coro
+pub mod Cleanup
+pub mod Machine
+pub mod Exec
+pub mod Gate
+pub mod Added
+pub mod Answer
+pub mod Sound
+pub mod Call
+pub mod Step
+pub mod Compute
+pub mod Examples
+pub mod Runs

@@ -1,0 +1,102 @@
+//! One function per command.
+
+mod bench;
+mod examples;
+mod fuzz;
+mod recorded;
+mod run;
+mod trace;
+
+use oracle::engine::Engine;
+use oracle::world::Costs;
+
+const USAGE: &str = "usage: oracle COMMAND
+  check             everything below that tests, in one go
+  run               calls from the standard input: answers and states
+  fuzz SEED N       N random sequences on the original and the second engine
+  coverage SEED N   the same, with a table of calls by answers
+  trace SEED N      N random sequences as text
+  damaged SEED N    N states with one number changed, and whether each is sound
+  examples          the paper's P1 to P8
+  record SEED N     writes recorded/answers.txt: N sequences or more
+  verify            replays recorded/answers.txt
+  show I            recorded sequence I as text
+  mutants           wrong engines against recorded/answers.txt
+  bench             the original's speed, and others' where installed";
+
+#[cfg(not(original))]
+const SKIPPED: &str = "skipped: the original's sources are not here (BVM_SRC is unset)";
+
+/// The costs that the recorded answers were made with.
+pub(crate) const COSTS: Costs =
+    Costs { frame: 32, coro: 104, coro_object: 160, int: 56, error: 56, iter: 112 };
+
+pub(crate) fn run(args: &[&str]) -> Result<(), String> {
+    match *args {
+        ["check"] => check(),
+        ["run"] => with_original(run::run),
+        ["fuzz", seed, n] => seeded(seed, n, fuzz::fuzz),
+        ["coverage", seed, n] => seeded(seed, n, fuzz::coverage),
+        ["trace", seed, n] => seeded(seed, n, trace::trace),
+        ["damaged", seed, n] => {
+            trace::damaged(COSTS, number(seed)?, number(n)?);
+            Ok(())
+        }
+        ["examples"] => examples(),
+        ["record", seed, n] => seeded(seed, n, recorded::record),
+        ["verify"] => verify(),
+        ["show", i] => recorded::show(number(i)?),
+        ["mutants"] => recorded::mutants(true),
+        ["bench"] => bench::bench(),
+        _ => Err(USAGE.into()),
+    }
+}
+
+/// What the recorded answers allow, then what needs the original.
+fn check() -> Result<(), String> {
+    examples()?;
+    verify()?;
+    recorded::mutants(false)?;
+    with_original(|original, costs| fuzz::reached(original, costs, 1, 50_000))
+}
+
+fn examples() -> Result<(), String> {
+    examples::second(COSTS)?;
+    with_original(examples::original)
+}
+
+fn verify() -> Result<(), String> {
+    recorded::verify_second()?;
+    with_original(recorded::verify_original)
+}
+
+fn number(s: &str) -> Result<u64, String> {
+    s.parse().map_err(|_| format!("`{s}` is no number"))
+}
+
+/// A command of a seed and a number that needs the original.
+fn seeded(
+    seed: &str,
+    n: &str,
+    f: impl FnOnce(&mut dyn Engine, Costs, u64, u64) -> Result<(), String>,
+) -> Result<(), String> {
+    let (seed, n) = (number(seed)?, number(n)?);
+    with_original(|original, costs| f(original, costs, seed, n))
+}
+
+/// Runs `f` with the original and its costs, or says that it is not here.
+fn with_original(
+    f: impl FnOnce(&mut dyn Engine, Costs) -> Result<(), String>,
+) -> Result<(), String> {
+    #[cfg(original)]
+    {
+        let costs = crate::driver::bridge::costs();
+        f(&mut crate::driver::Original::blank(), costs)
+    }
+    #[cfg(not(original))]
+    {
+        let _ = f;
+        println!("{SKIPPED}");
+        Ok(())
+    }
+}
