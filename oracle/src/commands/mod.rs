@@ -1,5 +1,6 @@
 //! One function per command.
 
+mod antt;
 mod bench;
 mod examples;
 mod fuzz;
@@ -7,7 +8,10 @@ mod recorded;
 mod run;
 mod trace;
 
+use std::path::Path;
+
 use oracle::engine::Engine;
+use oracle::plain::Plain;
 use oracle::world::Costs;
 
 const USAGE: &str = "usage: oracle COMMAND
@@ -22,6 +26,9 @@ const USAGE: &str = "usage: oracle COMMAND
   verify            replays recorded/answers.txt
   show I            recorded sequence I as text
   mutants           wrong engines against recorded/answers.txt
+  antt SEED N DIR   N random sequences as theorems about the definitions
+  antt-recorded FROM TO DIR   recorded sequences as theorems
+  antt-damaged SEED N DIR     damaged states as theorems, each rule broken up to N times
   bench             the original's speed, and others' where installed";
 
 #[cfg(not(original))]
@@ -47,6 +54,16 @@ pub(crate) fn run(args: &[&str]) -> Result<(), String> {
         ["verify"] => verify(),
         ["show", i] => recorded::show(number(i)?),
         ["mutants"] => recorded::mutants(true),
+        ["antt", seed, n, dir] => {
+            seeded(seed, n, |o, costs, seed, n| antt::random(o, costs, seed, n, Path::new(dir)))
+        }
+        ["antt-recorded", from, to, dir] => {
+            let (from, to) = (number(from)? as usize, number(to)? as usize);
+            antt::recorded(&mut Plain::default(), from, to, Path::new(dir))
+        }
+        ["antt-damaged", seed, n, dir] => {
+            antt::damaged(COSTS, number(seed)?, number(n)?, Path::new(dir))
+        }
         ["bench"] => bench::bench(),
         _ => Err(USAGE.into()),
     }

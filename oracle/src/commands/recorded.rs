@@ -17,7 +17,7 @@ fn file() -> PathBuf {
     PathBuf::from(env!("CARGO_MANIFEST_DIR")).join("recorded/answers.txt")
 }
 
-fn load() -> Result<Vec<Recorded>, String> {
+pub(crate) fn load() -> Result<Vec<Recorded>, String> {
     let text = fs::read_to_string(file()).map_err(|e| format!("{}: {e}", file().display()))?;
     read(&text)
 }

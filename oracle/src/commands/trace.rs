@@ -49,7 +49,7 @@ pub(crate) fn damaged(costs: Costs, seed: u64, n: u64) {
 }
 
 /// `None` if the damaged numbers are no state at all.
-fn damage(rng: &mut Rng, costs: Costs) -> Option<World> {
+pub(crate) fn damage(rng: &mut Rng, costs: Costs) -> Option<World> {
     let mut numbers = layout::numbers(&machine(rng, costs, Profile::Small), layout::world);
     let at = rng.below(numbers.len());
     let other = numbers[rng.below(numbers.len())];
