@@ -21,3 +21,4 @@ pub mod Step
 pub mod Compute
 pub mod Examples
 pub mod Runs
+pub mod Mistakes

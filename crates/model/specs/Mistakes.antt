@@ -1,0 +1,55 @@
+-- 01: "Mistakes to keep out", each as a run that would come out otherwise.
+use Prim.Native.Nat.{ℕ, _^_, _-_}
+use mathlib.Core.Path.{_≡_, refl}
+use mathlib.Core.List.{List, [], _∷_, _++_}
+use Rattle.model.specs.World.{World}
+use Rattle.model.specs.Step.{step}
+use Rattle.model.specs.Call.{Call, Do}
+use Rattle.model.specs.Compute.{computed}
+use Rattle.model.specs.Examples.{c, d, holding, reached, number, look, integer}
+use Rattle.model.specs.Runs.{caller, body}
+use Rattle.model.specs.declared.machine.Cont.{Cont}
+use Rattle.model.specs.declared.call.Op.{Op}
+
+-- ---- "Charging a saved size twice."
+
+-- it yields from its second frame, of one register, and yields there again
+abbrev pub grown : List Call
+grown = holding 1 0 ++ (Do (Op.Resume 2 1 0 1) ∷ Do (Op.FunctionCall 7 0 Cont.Discard) ∷ Do (Op.Yield 8 0 0) ∷ [])
+
+abbrev pub again : List Call
+again = grown ++ (Do (Op.Resume 3 1 0 1) ∷ Do (Op.Yield 9 0 0) ∷ [])
+
+-- ---- "Writing `has` before `val`."
+
+abbrev pub sameRegister : List Call
+sameRegister =
+    holding 3 1
+    ++ (Do (Op.MakeIterator c) ∷ Do (Op.PutWord 1 d) ∷ Do (Op.IterNext 2 2 1 2 0) ∷ Do (Op.PutWord 0 7) ∷ Do (Op.Yield 8 1 0) ∷ [])
+
+-- ---- "Storing pc before Yield's 5 or 7."
+
+-- no coroutine runs; and one whose largest key is 2^63 - 1
+abbrev pub outside : List Call
+outside = holding 1 1
+
+abbrev pub lastKey : List Call
+lastKey = holding 1 1 ++ (Do (Op.Resume 2 1 0 1) ∷ (integer 1 (2 ^ 63 - 1) ++ (Do (Op.YieldKv 7 0 0 1) ∷ Do (Op.Resume 3 1 0 1) ∷ [])))
+
+abbrev pub afterYield : List Call → World
+afterYield cs = step (reached cs) (Do (Op.Yield 99 0 0)) .world
+
+pub record Mistakes : Type 0 where
+  -- one word and one frame beyond creation's: 8 + 32 bytes, once
+  pub grows : reached grown .used ≡ 240
+  pub charged-once : reached again .used ≡ 240
+  pub has-last : look sameRegister ≡ c ∷ d ∷ 1 ∷ 0 ∷ 0 ∷ 0 ∷ []
+  pub five : number outside (Op.Yield 99 0 0) ≡ 5
+  pub pc-after-five : afterYield outside .frames ≡ caller 0 ∷ []
+  pub seven : number lastKey (Op.Yield 99 0 0) ≡ 7
+  pub pc-after-seven : afterYield lastKey .frames ≡ body 8 2 ∷ caller 3 ∷ []
+
+pub kept-out : Mistakes
+unfolding computed
+kept-out =
+    record { grows = refl; charged-once = refl; has-last = refl; five = refl; pc-after-five = refl; seven = refl; pc-after-seven = refl }
