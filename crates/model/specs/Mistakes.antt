@@ -1,13 +1,16 @@
 -- 01: "Mistakes to keep out", each as a run that would come out otherwise.
 use Prim.Native.Nat.{ℕ, _^_, _-_}
 use mathlib.Core.Path.{_≡_, refl}
+use mathlib.Core.Bool.{true}
 use mathlib.Core.List.{List, [], _∷_, _++_}
+use Rattle.heap.specs.declared.heap.ResultKind.{ResultKind}
 use Rattle.model.specs.World.{World}
 use Rattle.model.specs.Step.{step}
 use Rattle.model.specs.Call.{Call, Do}
 use Rattle.model.specs.Compute.{computed}
 use Rattle.model.specs.Examples.{c, d, holding, reached, number, look, integer}
-use Rattle.model.specs.Runs.{caller, body}
+use Rattle.model.specs.Sound.{sound}
+use Rattle.model.specs.Runs.{caller, body, begun, yielded}
 use Rattle.model.specs.declared.machine.Cont.{Cont}
 use Rattle.model.specs.declared.call.Op.{Op}
 
@@ -53,3 +56,26 @@ pub kept-out : Mistakes
 unfolding computed
 kept-out =
     record { grows = refl; charged-once = refl; has-last = refl; five = refl; pc-after-five = refl; seven = refl; pc-after-seven = refl }
+
+-- ---- 01: "Sound", after runs that an engine without its upkeep would leave unsound
+
+-- two coroutines in rows 0 and 1, of which the second returns
+abbrev pub secondEnds : List Call
+secondEnds = holding 3 1 ++ (Do (Op.CoroNew 2 1 1 0) ∷ Do (Op.Resume 3 2 1 2) ∷ Do (Op.Finish ResultKind.None 0) ∷ [])
+
+abbrev pub taskTwice : List Call
+taskTwice = holding 3 1 ++ (Do (Op.SpawnTask c) ∷ Do (Op.SpawnTask c) ∷ [])
+
+pub record StaysSound : Type 0 where
+  -- "one row per unfinished coroutine": a row is given back at an end
+  pub ended : sound (reached secondEnds) ≡ true
+  -- "active floors rise, each at a Coro frame"
+  pub floor : sound (reached begun) ≡ true
+  -- "each not twice in one queue"
+  pub queued : sound (reached taskTwice) ≡ true
+  -- "the first Coro at base 0": saved bases are lowered
+  pub lowered : sound (reached yielded) ≡ true
+
+pub stays-sound : StaysSound
+unfolding computed
+stays-sound = record { ended = refl; floor = refl; queued = refl; lowered = refl }
