@@ -215,10 +215,10 @@ escapedOn (a ∷ chain) value f pc w =
 unfoldable pub coroEscaped : ℕ → ℕ → ℕ → World → After Bool
 coroEscaped value f pc w = escapedOn (w .chain) value f pc w
 
--- coro.rs: abort_coros, from the outermost coroutine on
+-- coro.rs: abort_coros. The Rust goes from the outermost one on; each is a coroutine of its own, so that no order shows.
 abbrev pub failAll : List Active → World → World
 failAll [] w = w
-failAll (a ∷ chain) w = finishCoroutine (a .coro) CoroState.Failed nil (failAll chain w)
+failAll (a ∷ chain) w = failAll chain (finishCoroutine (a .coro) CoroState.Failed nil w)
 
 unfoldable pub abortCoros : World → World
 abortCoros w = withOutcome Outcome.None (setFinalizing false (withChain [] (failAll (w .chain) w)))

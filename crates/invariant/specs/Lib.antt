@@ -1,0 +1,3 @@
+pub mod Kept
+pub mod Coverage
+pub mod Reachable

@@ -1,0 +1,1 @@
+// Soundness is kept: a claim about the definitions, with no code.
