@@ -1,0 +1,221 @@
+-- Every call has the shape. A call that is added owes its clauses of `act` (Entry.antt) and `suspendsIn` (Suspension.antt), and a
+-- clause of `shape`; what is claimed of lists follows.
+use Prim.Native.Nat.{ℕ, _+_, _^_}
+use mathlib.Core.Path.{_≡_, refl, sym, ap, _∙_, subst}
+use mathlib.Core.Bool.{Bool, true, false, not, _&&_, _||_}
+use mathlib.Core.List.{List, [], _∷_, _++_}
+use lib.ListN.{getD}
+use lib.Dec.{leb}
+use Rattle.lists.specs.Pick.{pick}
+use Rattle.heap.specs.Word.{nil}
+use Rattle.heap.specs.Table.{Slot}
+use Rattle.heap.specs.declared.fault.Fault.{Fault}
+use Rattle.heap.specs.declared.value.Opt.{Opt}
+use Rattle.heap.specs.declared.object.CoroState.{CoroState}
+use Rattle.model.specs.Lists.{isNil}
+use Rattle.model.specs.State.{isSuspended, isResumable}
+use Rattle.model.specs.Program.{isFunction}
+use Rattle.model.specs.Object.{Core, Rest, Object, Coroutine, Absent, Is, isDone, withTask, withFinalized}
+use Rattle.model.specs.World.{World, After, after, andThen, withReady, withFinalize, withFuel}
+use Rattle.model.specs.Frames.{isCoro, onTop, setPc, storePc, putReg}
+use Rattle.model.specs.Heap.{coro, setCoro, alloc}
+use Rattle.model.specs.Fuel.{setFinalizing}
+use Rattle.model.specs.Coro.{coroEnter}
+use Rattle.model.specs.Cleanup.{suspendedAs, spawnAs, spawnTask}
+use Rattle.model.specs.Machine.{pushFrame, finish, unwind}
+use Rattle.model.specs.Exec.{coroNew, coroNewIndirect, spawn, yield, yieldKv, await, resume, resumeThrow, coroClose, coroStatus, coroCurrent, coroKey, coroResult, iterNext}
+use Rattle.model.specs.Gate.{refused, inFrame, windowIn}
+use Rattle.model.specs.Added.{accepted, answerMade, pushedOr, hostCall, hostArrive, hostEntry, contAllowed, functionCall, putWord, iteratorOver, makeIterator, takeOutcome, handOverAs, handOver, reserve, refuel, grant}
+use Rattle.model.specs.Step.{call}
+use Rattle.model.specs.declared.machine.Cont.{Cont}
+use Rattle.model.specs.declared.machine.Driver.{Driver}
+use Rattle.model.specs.declared.machine.Frame.{Frame}
+use Rattle.model.specs.declared.coro.Made.{Made}
+use Rattle.model.specs.declared.coro.Entered.{Entered}
+use Rattle.model.specs.declared.call.Op.{Op}
+use Rattle.claims.specs.Entry.{Aim, enters, suspends, neither, awaits, act, nobody, entry, accepts, sentTo, entryBy}
+use Rattle.claims.specs.Held.{Returns, eventBy}
+use Rattle.claims.proofs.Cores.{no-both, cores, coroIn, objectIn, set-rest}
+use Rattle.claims.proofs.Shape as S
+use Rattle.claims.proofs.Shape.{view, Worked, done, tops, puts, Shape}
+use Rattle.claims.proofs.Under.{keeps-pc}
+use Rattle.claims.proofs.Instr.{instr-shape}
+use Rattle.claims.proofs.Quiet.{Calm, calm-worked, alloc-same, same-worked}
+use Rattle.claims.proofs.Arms.{PushCase, p-in, p-out, push-case, push-worked, new-arm, indirect-arm, spawn-arm, status-arm, current-arm, key-arm, result-arm}
+use Rattle.claims.proofs.Deliver.{yield-arm, yieldKv-arm, await-arm}
+use Rattle.claims.proofs.Switches.{sentW, Tried, t-in, t-out, try-at, resume-arm, throw-arm, close-arm, iter-arm}
+use Rattle.claims.proofs.Endings.{Done, d-works, d-returns, finish-done, unwind-done, stop-stops}
+
+-- ---- calls that are no instructions
+
+rest-calm : (v : ℕ) (k : Core) (r s : Rest) (w u : World) → coro w v ≡ Is k r → u .setup ≡ w .setup → u .stack ≡ w .stack → u .frames ≡ w .frames → u .chain ≡ w .chain → u .slots ≡ setCoro v k s w .slots → Calm w u
+rest-calm v k r s w u e a b c d f = record { setup = a; stack = b; frames = c; chain = d; cores = λ x. ap (λ xs. cores xs x) f ∙ set-rest (w .slots) v e s x }
+
+made-world : (w : World) (m : Made) → answerMade w m .world ≡ w
+made-world w (Made.Word v) = refl
+made-world w (Made.Refused f) = refl
+
+task-worked : (v : ℕ) (w : World) → Worked (view w) (view (andThen (spawnTask v w) answerMade .world))
+unfolding spawnTask pick
+task-worked v w = go (coro w v) refl
+  where
+    test : (k : Core) (r : Rest) → coro w v ≡ Is k r → (b : Bool) → Worked (view w) (view (andThen (pick b (after (setCoro v k (withTask true r) (withReady (w .ready ++ (v ∷ [])) w)) (Made.Word v)) (after w (Made.Word v))) answerMade .world))
+    test k r e true = calm-worked (rest-calm v k r (withTask true r) w (setCoro v k (withTask true r) (withReady (w .ready ++ (v ∷ [])) w)) e refl refl refl refl refl) done
+    test k r e false = done
+
+    go : (y : Coroutine) → coro w v ≡ y → Worked (view w) (view (andThen (spawnAs y v w) answerMade .world))
+    go Absent e = done
+    go (Is k r) e = test k r e (not (r .task) && isResumable (k .state))
+
+host-worked : (f : ℕ) (w : World) → Worked (view w) (view (hostCall f w .world))
+unfolding hostCall pick
+host-worked f w = go (not (isNil (w .frames))) (not (isFunction (w .setup) f))
+  where
+    pushed : (o : After Made) → PushCase f nil Cont.Entry w o → Worked (view w) (view (pushedOr w (o .world) (o .answer) .world))
+    pushed o (p-in n) = push-worked f nil Cont.Entry n w refl done
+    pushed o (p-out e) = done
+
+    go : (a b : Bool) → Worked (view w) (view (pick a (refused w Fault.Busy) (pick b (refused w Fault.BadOperand) (andThen (pushFrame f nil Cont.Entry w) (pushedOr w))) .world))
+    go true b = done
+    go false true = done
+    go false false = pushed (pushFrame f nil Cont.Entry w) (push-case f nil Cont.Entry w)
+
+allowed-plain : (w : World) (c : Cont) → contAllowed w c ≡ true → isCoro c ≡ false
+allowed-plain w Cont.Entry h = refl
+allowed-plain w (Cont.Write r) h = refl
+allowed-plain w (Cont.Dyn r) h = refl
+allowed-plain w (Cont.Value r) h = refl
+allowed-plain w Cont.Discard h = refl
+allowed-plain w Cont.Coro h = sym h
+
+function-worked : (pc f : ℕ) (cont : Cont) (w : World) → Worked (view w) (view (functionCall pc f cont w .world))
+unfolding functionCall pick
+function-worked pc f cont w = go (isNil (w .frames)) (isFunction (w .setup) f) (contAllowed w cont) refl
+  where
+    u : World
+    u = storePc pc w
+
+    pushed : isCoro cont ≡ false → (o : After Made) → PushCase f nil cont u o → Worked (view w) (view (pushedOr w (o .world) (o .answer) .world))
+    pushed e o (p-in n) = tops (setPc pc) (keeps-pc pc) (push-worked f nil cont n u e done)
+    pushed e o (p-out x) = done
+
+    go : (a b c : Bool) → contAllowed w cont ≡ c → Worked (view w) (view (pick a (refused w Fault.NoFrame) (pick (not (b && c)) (refused w Fault.BadOperand) (andThen (pushFrame f nil cont u) (pushedOr w))) .world))
+    go true b c e = done
+    go false false c e = done
+    go false true false e = done
+    go false true true e = pushed (allowed-plain w cont e) (pushFrame f nil cont u) (push-case f nil cont u)
+
+put-worked : (r v : ℕ) (w : World) → Worked (view w) (view (putWord r v w .world))
+unfolding putWord pick
+put-worked r v w = go (isNil (w .frames)) (not (inFrame w r))
+  where
+    go : (a b : Bool) → Worked (view w) (view (pick a (refused w Fault.NoFrame) (pick b (refused w Fault.BadOperand) (accepted (putReg r v w))) .world))
+    go true b = done
+    go false true = done
+    go false false = puts r v done
+
+iterator-worked : (v : ℕ) (w : World) → Worked (view w) (view (makeIterator v w .world))
+unfolding makeIterator
+iterator-worked v w = go (coro w v)
+  where
+    made : After Made
+    made = alloc (w .setup .costs .iter) (Object.Iter v false Opt.None) w
+
+    go : (y : Coroutine) → Worked (view w) (view (iteratorOver y v w .world))
+    go Absent = done
+    go (Is k r) = same-worked (alloc-same (w .setup .costs .iter) (Object.Iter v false Opt.None) w refl) (subst (λ z. Worked (view (made .world)) (view z)) (sym (made-world (made .world) (made .answer))) done)
+
+hand-worked : (v : ℕ) (w : World) → Worked (view w) (view (handOver v w .world))
+unfolding handOver pick
+hand-worked v w = go (coro w v) refl
+  where
+    test : (k : Core) (r : Rest) → coro w v ≡ Is k r → (b : Bool) → Worked (view w) (view (pick b (refused w Fault.InvalidCoroState) (accepted (setFinalizing (w .finalizing) (setCoro v k (withFinalized true r) (withFinalize (w .finalize ++ (v ∷ [])) w)))) .world))
+    test k r e true = done
+    test k r e false = calm-worked (rest-calm v k r (withFinalized true r) w (setFinalizing (w .finalizing) (setCoro v k (withFinalized true r) (withFinalize (w .finalize ++ (v ∷ [])) w))) e refl refl refl refl refl) done
+
+    go : (y : Coroutine) → coro w v ≡ y → Worked (view w) (view (handOverAs y v w .world))
+    go Absent e = done
+    go (Is k r) e = test k r e (not (isSuspended (k .state)) || r .finalized)
+
+grant-worked : (n : ℕ) (w : World) → Worked (view w) (view (grant n w .world))
+unfolding grant pick
+grant-worked n w = go (leb (2 ^ 64) (reserve (w .fuel .bank) (w .fuel) + n))
+  where
+    go : (b : Bool) → Worked (view w) (view (pick b (refused w Fault.GrantTooLarge) (accepted (withFuel (refuel (w .fuel .bank) (reserve (w .fuel .bank) (w .fuel) + n) (w .fuel)) w)) .world))
+    go true = done
+    go false = done
+
+-- ---- host entry
+
+hosted-world : (x : ℕ) (w : World) (e : Entered) → sentW x w e ≡ hostArrive x w e .world
+hosted-world x w Entered.Fresh = refl
+hosted-world x w (Entered.Suspended d) = refl
+hosted-world x w (Entered.Refused f) = refl
+
+entry-shape : (c v : ℕ) (w : World) → Shape w (Op.HostEntry c v) (hostEntry c v w .world)
+unfolding hostEntry pick
+entry-shape c v w = go (isNil (w .frames)) refl
+  where
+    e : After Entered
+    e = coroEnter c Driver.Host w
+
+    by : (b : Bool) → isNil (w .frames) ≡ b → entryBy (act w (Op.HostEntry c v)) w ≡ pick (not b) nobody (pick (accepts w c) (entry c Driver.Host (sentTo (coro w c) (Opt.Some v))) nobody)
+    by b h = ap (λ x. pick (not x) nobody (pick (accepts w c) (entry c Driver.Host (sentTo (coro w c) (Opt.Some v))) nobody)) h
+
+    top : (fs : List Frame) → isNil fs ≡ true → fs ≡ onTop (setPc 0) fs
+    top [] h = refl
+    top (f ∷ fs) h = no-both h refl
+
+    tried : (z : World) → isNil (w .frames) ≡ true → Tried w 0 c Driver.Host (Opt.Some v) z → Shape w (Op.HostEntry c v) z
+    tried z h (t-in a r t) = S.enters c Driver.Host (sentTo (coro w c) (Opt.Some v)) (record { entry = by true h ∙ ap (λ b. pick b (entry c Driver.Host (sentTo (coro w c) (Opt.Some v))) nobody) a; takes = refl }) t
+    tried z h (t-out a t) = S.works (record { entry = by true h ∙ ap (λ b. pick b (entry c Driver.Host (sentTo (coro w c) (Opt.Some v))) nobody) a; takes = refl }) t
+
+    go : (b : Bool) → isNil (w .frames) ≡ b → Shape w (Op.HostEntry c v) (pick (not b) (refused w Fault.Busy) (andThen e (hostArrive v)) .world)
+    go false h = S.works (record { entry = by false h; takes = refl }) done
+    go true h =
+        tried (hostArrive v (e .world) (e .answer) .world) h
+        (subst (Tried w 0 c Driver.Host (Opt.Some v)) (hosted-world v (e .world) (e .answer))
+        (try-at w 0 c Driver.Host v w (record { setup = refl; stack = refl; frames = top (w .frames) h; chain = refl; slots = refl }) done))
+
+-- ---- finish and unwind
+
+done-shape : (w : World) (o : Op) (x : ℕ) (z : World) → S.Says w o nobody false → ((c : ℕ) → eventBy (act w o) w c ≡ Returns x) → Done x (view w) z → Shape w o z
+done-shape w o x z e g (d-works t) = S.works e t
+done-shape w o x z e g (d-returns u f fs a chain t r) = S.returns u x f fs a chain e g t r
+
+-- ---- the table
+
+plain : ℕ → List ℕ → List (Slot Object) → Aim
+plain b s xs = neither
+
+pub shape : (w : World) (o : Op) → Shape w o (call o w .world)
+unfolding call plain takeOutcome
+shape w (Op.CoroNew pc dst f argc) = instr-shape w (Op.CoroNew pc dst f argc) pc (inFrame w dst && windowIn w dst argc && isFunction (w .setup) f) plain (coroNew dst f argc) refl (new-arm pc dst f argc)
+shape w (Op.CoroNewIndirect pc dst callee argc) = instr-shape w (Op.CoroNewIndirect pc dst callee argc) pc (inFrame w dst && inFrame w callee && windowIn w dst argc) plain (coroNewIndirect dst callee argc) refl (indirect-arm pc dst callee argc)
+shape w (Op.Spawn pc dst callee argc) = instr-shape w (Op.Spawn pc dst callee argc) pc (inFrame w dst && inFrame w callee && windowIn w dst argc) plain (spawn pc dst callee argc) refl (spawn-arm pc dst callee argc)
+shape w (Op.Yield pc dst src) = instr-shape w (Op.Yield pc dst src) pc (inFrame w dst && inFrame w src) (λ b s xs. suspends CoroState.Yielded dst (getD s (b + src) 0)) (yield pc dst src) refl (yield-arm pc dst src)
+shape w (Op.YieldKv pc dst src key) = instr-shape w (Op.YieldKv pc dst src key) pc (inFrame w dst && inFrame w src && inFrame w key) (λ b s xs. suspends CoroState.Yielded dst (getD s (b + src) 0)) (yieldKv pc dst src key) refl (yieldKv-arm pc dst src key)
+shape w (Op.Await pc dst src) = instr-shape w (Op.Await pc dst src) pc (inFrame w dst && inFrame w src) (λ b s xs. suspends CoroState.Awaiting dst (getD s (b + src) 0)) (await pc dst src) refl (await-arm pc dst src)
+shape w (Op.Resume pc dst c src) = instr-shape w (Op.Resume pc dst c src) pc (inFrame w dst && inFrame w c && inFrame w src) (λ b s xs. enters (getD s (b + c) 0) (Driver.Resume dst) (Opt.Some (getD s (b + src) 0)) true) (resume pc dst c src) refl (resume-arm pc dst c src)
+shape w (Op.ResumeThrow pc dst c src) = instr-shape w (Op.ResumeThrow pc dst c src) pc (inFrame w dst && inFrame w c && inFrame w src) (λ b s xs. enters (getD s (b + c) 0) (Driver.Resume dst) Opt.None (suspendedAs (coroIn xs (getD s (b + c) 0)))) (resumeThrow pc dst c src) refl (throw-arm pc dst c src)
+shape w (Op.CoroClose pc dst c src) = instr-shape w (Op.CoroClose pc dst c src) pc (inFrame w dst && inFrame w c && inFrame w src) (λ b s xs. enters (getD s (b + c) 0) (Driver.Resume dst) Opt.None (suspendedAs (coroIn xs (getD s (b + c) 0)))) (coroClose pc dst c src) refl (close-arm pc dst c src)
+shape w (Op.CoroStatus pc dst c) = instr-shape w (Op.CoroStatus pc dst c) pc (inFrame w dst && inFrame w c) plain (coroStatus dst c) refl (status-arm pc dst c)
+shape w (Op.CoroCurrent pc dst) = instr-shape w (Op.CoroCurrent pc dst) pc (inFrame w dst) plain (coroCurrent dst) refl (current-arm pc dst)
+shape w (Op.CoroKey pc dst c) = instr-shape w (Op.CoroKey pc dst c) pc (inFrame w dst && inFrame w c) plain (coroKey dst c) refl (key-arm pc dst c)
+shape w (Op.CoroResult pc dst c) = instr-shape w (Op.CoroResult pc dst c) pc (inFrame w dst && inFrame w c) plain (coroResult dst c) refl (result-arm pc dst c)
+shape w (Op.IterNext pc has iter val src) =
+    instr-shape w (Op.IterNext pc has iter val src) pc (inFrame w has && inFrame w iter && inFrame w val && inFrame w src)
+    (λ b s xs. enters (getD s (b + src) 0) (Driver.Iter has val (getD s (b + iter) 0)) (Opt.Some nil) (not (isDone (objectIn xs (getD s (b + iter) 0))) && not (awaits (coroIn xs (getD s (b + src) 0))))) (iterNext pc has iter val src) refl (iter-arm pc has iter val src)
+shape w (Op.Finish kind v) = done-shape w (Op.Finish kind v) _ (finish kind v w .world) (record { entry = refl; takes = refl }) (λ c. refl) (finish-done kind v w)
+shape w (Op.Unwind f pc) = done-shape w (Op.Unwind f pc) nil (unwind f pc w .world) (record { entry = refl; takes = refl }) (λ c. refl) (unwind-done f pc w)
+shape w (Op.SpawnTask v) = S.works (record { entry = refl; takes = refl }) (task-worked v w)
+shape w (Op.HostCall f) = S.works (record { entry = refl; takes = refl }) (host-worked f w)
+shape w (Op.HostEntry c v) = entry-shape c v w
+shape w (Op.FunctionCall pc f cont) = S.works (record { entry = refl; takes = refl }) (function-worked pc f cont w)
+shape w (Op.PutWord r v) = S.works (record { entry = refl; takes = refl }) (put-worked r v w)
+shape w (Op.MakeIterator v) = S.works (record { entry = refl; takes = refl }) (iterator-worked v w)
+shape w Op.TakeOutcome = S.works (record { entry = refl; takes = refl }) done
+shape w (Op.HandOver v) = S.works (record { entry = refl; takes = refl }) (hand-worked v w)
+shape w (Op.Grant n) = S.works (record { entry = refl; takes = refl }) (grant-worked n w)
+shape w Op.StopRun = S.stops (record { entry = refl; takes = refl }) (stop-stops w)
+shape w Op.Look = S.works (record { entry = refl; takes = refl }) done

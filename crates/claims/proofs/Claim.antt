@@ -1,0 +1,251 @@
+-- Demand 3: the proof, from the calls' shapes.
+use Prim.Native.Nat.{ℕ, zero, suc}
+use mathlib.Core.Path.{_≡_, refl, sym, ap, _∙_}
+use mathlib.Core.Bool.{Bool, true, false}
+use mathlib.Core.List.{List, [], _∷_, _++_, map}
+use lib.ListN.{length, getD}
+use borrow.Author.Tests.{eq-eqb}
+use Rattle.lists.specs.Pick.{pick, pick-true}
+use Rattle.heap.specs.Table.{slot}
+use Rattle.heap.specs.declared.heap.Place.{Place}
+use Rattle.heap.specs.declared.fault.Fault.{Fault}
+use Rattle.heap.specs.declared.value.Opt.{Opt}
+use Rattle.heap.specs.declared.object.CoroState.{CoroState}
+use Rattle.model.specs.State.{isCreated, isRunning, isSuspended, isResumable}
+use Rattle.model.specs.Program.{Func, Setup, setupOk}
+use Rattle.model.specs.Object.{Core, Object, Absent, asCoro}
+use Rattle.model.specs.World.{World, fresh, functionObjects}
+use Rattle.model.specs.Frames.{onTop, setPc, baseAt, raise}
+use Rattle.model.specs.Heap.{place, objectAt, coro}
+use Rattle.model.specs.Coro.{active}
+use Rattle.model.specs.Gate.{refused}
+use Rattle.model.specs.Added.{accepted}
+use Rattle.model.specs.Sound.{sound}
+use Rattle.model.specs.Call.{Call, SetUp, Do}
+use Rattle.model.specs.Step.{told, call, step, run}
+use Rattle.model.specs.declared.machine.Active.{Active}
+use Rattle.model.specs.declared.machine.Frame.{Frame}
+use Rattle.model.specs.declared.machine.Driver.{Driver}
+use Rattle.model.specs.declared.call.Op.{Op}
+use Rattle.claims.specs.Entry.{nobody, entry, act, entryBy, entryOf, driverOf, sentOf, pcOf}
+use Rattle.claims.specs.Held.{coreIn, coreAt, floorOf, heldAs, sleptBy, slept, isBody, wordsWith, framesWith, calling, eventOf, mem, deliverTo}
+use Rattle.claims.specs.Demand3.{next, hasLeft, Suspends, Enters, Leaves, restarts, Waits, Goes, Sleeps, Entered, Left, Demand3}
+use Rattle.claims.proofs.Cores.{no-both}
+use Rattle.claims.proofs.Shape.{view, Enter, Apart}
+use Rattle.claims.proofs.Events.{susp-run, run-susp, susp-born, entered-one, SuspendedBy, suspended-one, sleeps-on}
+use Rattle.claims.proofs.Fate as F
+use Rattle.claims.proofs.Fate.{Under, landed}
+use Rattle.claims.proofs.Sounds.{apart, lifts, body-saved}
+use Rattle.claims.proofs.Calls.{shape}
+
+-- ---- one call: a set-up that is accepted, one that does nothing, or one on a sound machine
+
+pub data StepCase (w : World) : Call → World → Type 0 where
+  anew : (s : Setup) → setupOk s ≡ true → StepCase w (SetUp s) (fresh s)
+  same : (k : Call) → entryOf w k ≡ nobody → StepCase w k w
+  does : (o : Op) → sound w ≡ true → StepCase w (Do o) (call o w .world)
+
+pub step-case : (w : World) (k : Call) → StepCase w k (next w k)
+unfolding step pick
+step-case w (SetUp s) = go (setupOk s) refl
+  where
+    go : (b : Bool) → setupOk s ≡ b → StepCase w (SetUp s) (pick b (accepted (fresh s)) (refused w Fault.Unsound) .world)
+    go true e = anew s e
+    go false e = same (SetUp s) refl
+step-case w (Do o) = go (sound w) refl
+  where
+    go : (b : Bool) → sound w ≡ b → StepCase w (Do o) (pick b (call o w) (told (refused w Fault.Unsound)) .world)
+    go true e = does o e
+    go false e = same (Do o) (ap (λ b. pick b (entryBy (act w o) w) nobody) e)
+
+pub next-sound : (w : World) (o : Op) → sound w ≡ true → next w (Do o) ≡ call o w .world
+unfolding step pick
+next-sound w o e = ap (λ b. pick b (call o w) (told (refused w Fault.Unsound)) .world) e
+
+-- nobody is there after a set-up
+absent-at : (n : ℕ) (fs : List Func) (i : ℕ) → asCoro (getD (functionObjects n fs) i (slot 0 Object.Empty) .object) ≡ Absent
+absent-at n [] i = refl
+absent-at n (f ∷ fs) zero = refl
+absent-at n (f ∷ fs) (suc i) = absent-at (suc n) fs i
+
+pub fresh-absent : (s : Setup) (c : ℕ) → coro (fresh s) c ≡ Absent
+fresh-absent s c = go (place (fresh s) c)
+  where
+    go : (p : Place) → asCoro (objectAt (functionObjects 0 (s .functions)) p) ≡ Absent
+    go Place.Nothing = refl
+    go (Place.At i) = absent-at 0 (s .functions) i
+
+pub entry-sound : (w : World) (o : Op) → sound w ≡ true → entryOf w (Do o) ≡ entryBy (act w o) w
+entry-sound w o h = ap (λ b. pick b (entryBy (act w o) w) nobody) h ∙ pick-true (entryBy (act w o) w) nobody
+
+-- ---- (1)
+
+floor-here : (chain rest : List Active) (a : Active) (c : ℕ) → chain ≡ a ∷ rest → c ≡ a .coro → floorOf chain c ≡ a .floor
+floor-here chain rest a c e q = ap (λ x. floorOf x c) e ∙ ap (λ b. pick b (a .floor) (floorOf rest c)) (eq-eqb (a .coro) c (sym q)) ∙ pick-true (a .floor) (floorOf rest c)
+
+suspends-as : (c : ℕ) (w : World) (o : Op) (z : World) → SuspendedBy w o c z → Sleeps z c (slept w (Do o) c)
+suspends-as c w o z s =
+    let t = s .suspend in
+    let k : coreAt z c ≡ slept w (Do o) c =
+    ap (coreAt z) (s .its-own) ∙ t .mine
+    ∙ ap (λ n. heldAs (s .state) (s .dst) n (baseAt n (onTop (setPc (s .pc)) (w .frames))) (onTop (setPc (s .pc)) (w .frames)) (w .stack)) (sym (floor-here (w .chain) (s .chain) (s .body) c (t .inmost) (s .its-own)))
+    ∙ ap (λ a. sleptBy a w c) (sym (s .by)) in
+    record { asleep = ap (λ x. isSuspended (x .state)) (sym k ∙ ap (coreAt z) (s .its-own) ∙ t .mine) ∙ t .asleep; holds = k }
+
+pub suspension : (c : ℕ) (w : World) (k : Call) → Suspends c w k → Sleeps (next w k) c (slept w k c)
+suspension c w k h = go (next w k) (step-case w k) (h .after)
+  where
+    go : {k : Call} (z : World) → StepCase w k z → isSuspended (coreAt z c .state) ≡ true → Sleeps z c (slept w k c)
+    go z (anew s e) a = no-both a (ap (λ x. isSuspended (coreIn x .state)) (fresh-absent s c))
+    go z (same k e) a = no-both a (run-susp (coreAt w c .state) (h .before))
+    go z (does o e) a = suspends-as c w o z (suspended-one c (shape w o) (run-susp (coreAt w c .state) (h .before)) a)
+
+pub its-body : (c : ℕ) (w : World) (k : Call) → Suspends c w k → isBody (slept w k c .frames) ≡ true
+its-body c w k h = go (next w k) (step-case w k) (h .after)
+  where
+    go : {k : Call} (z : World) → StepCase w k z → isSuspended (coreAt z c .state) ≡ true → isBody (slept w k c .frames) ≡ true
+    go z (anew s e) a = no-both a (ap (λ x. isSuspended (coreIn x .state)) (fresh-absent s c))
+    go z (same k e) a = no-both a (run-susp (coreAt w c .state) (h .before))
+    go z (does o e) a =
+        let s = suspended-one c (shape w o) (run-susp (coreAt w c .state) (h .before)) a in
+        ap (λ x. isBody (x .frames)) (sym (suspends-as c w o z s .holds) ∙ ap (coreAt z) (s .its-own) ∙ s .suspend .mine) ∙ body-saved w e (s .pc) (s .body) (s .chain) (s .suspend .inmost)
+
+-- ---- (2)
+
+stays : (c : ℕ) (w : World) (k : Call) (s : Core) → isCreated (s .state) ≡ false → isRunning (s .state) ≡ false → restarts k ≡ false → isRunning (coreAt (next w k) c .state) ≡ false → coreAt w c ≡ s → coreAt (next w k) c ≡ s
+stays c w k s b r n a h = go (next w k) (step-case w k) n a
+  where
+    go : {k : Call} (z : World) → StepCase w k z → restarts k ≡ false → isRunning (coreAt z c .state) ≡ false → coreAt z c ≡ s
+    go z (anew x e) n a = no-both e n
+    go z (same k e) n a = h
+    go z (does o e) n a = sleeps-on c s b (shape w o) (apart w e c (ap (λ x. isRunning (x .state)) h ∙ r)) h a
+
+pub sleep : (c : ℕ) (s : Core) (w : World) (ks : List Call) → Sleeps w c s → Waits c w ks → Sleeps (run w ks) c s
+sleep c s w [] h q = h
+sleep c s w (k ∷ ks) h q = go (isRunning (coreAt (next w k) c .state)) refl (sleep c s (next w k) ks)
+  where
+    still : isRunning (s .state) ≡ false
+    still = susp-run (s .state) (h .asleep)
+
+    go : (b : Bool) → isRunning (coreAt (next w k) c .state) ≡ b → (Sleeps (next w k) c s → Waits c (next w k) ks → Sleeps (run (next w k) ks) c s) → Sleeps (run (next w k) ks) c s
+    go true e rest = absurd (q .1 (record { before = ap (λ x. isRunning (x .state)) (h .holds) ∙ still; after = e }))
+    go false e rest = rest (record { asleep = h .asleep; holds = stays c w k s (susp-born (s .state) (h .asleep)) still (q .0) e (h .holds) }) (q .2)
+
+-- ---- (3)
+
+-- the entry of a call, with the sound world's shape
+pub record Entering (c : ℕ) (w : World) (k : Call) (z : World) : Type 0 where
+  pub healthy : sound w ≡ true
+  pub driver : Driver
+  pub sent : Opt
+  pub by : entryOf w k ≡ entry c driver sent
+  pub enter : Enter w (pcOf w k) c driver sent z
+
+pub entering : (c : ℕ) (w : World) (k : Call) → Enters c w k → Entering c w k (next w k)
+entering c w k h = go (next w k) (step-case w k) (h .after)
+  where
+    go : {k : Call} (z : World) → StepCase w k z → isRunning (coreAt z c .state) ≡ true → Entering c w k z
+    go z (anew s e) a = no-both a (ap (λ x. isRunning (coreIn x .state)) (fresh-absent s c))
+    go z (same k e) a = no-both a (h .before)
+    go z (does o e) a =
+        let t = entered-one c (shape w o) (h .before) a in
+        record { healthy = e; driver = t .driver; sent = t .sent; by = entry-sound w o e ∙ t .by; enter = t .enter }
+
+pub restored : (c : ℕ) (w : World) (k : Call) (s : Core) → Enters c w k → coreAt w c ≡ s → Entered w k c s (next w k)
+restored c w k s h q =
+    let e = entering c w k h in
+    let d : driverOf (entryOf w k) ≡ e .driver = ap driverOf (e .by) in
+    let x : sentOf (entryOf w k) ≡ e .sent = ap sentOf (e .by) in
+    record {
+      who = e .by ∙ (λ i. entry c (sym d i) (sym x i));
+      stack = e .enter .stack ∙ (λ i. w .stack ++ wordsWith (sym x i) (q i));
+      frames = e .enter .frames ∙ (λ i. map (raise (length (w .stack))) (framesWith (sym x i) (q i)) ++ calling w k);
+      chain = e .enter .chain ∙ (λ i. active c (length (w .frames)) (sym d i) ∷ w .chain);
+    }
+
+-- ---- (4)
+
+run-left : (s : CoroState) → isRunning s ≡ true → hasLeft s ≡ false
+run-left CoroState.Created e = refl
+run-left CoroState.Running e = refl
+run-left CoroState.Yielded e = sym e
+run-left CoroState.Awaiting e = sym e
+run-left CoroState.Returned e = sym e
+run-left CoroState.Failed e = refl
+
+-- what has failed stays so
+lost-on : (c : ℕ) (s : Core) → s .state ≡ CoroState.Failed → (w : World) (ks : List Call) → coreAt w c ≡ s → Goes c w ks → coreAt (run w ks) c ≡ s
+lost-on c s f w [] h q = h
+lost-on c s f w (k ∷ ks) h q = lost-on c s f (next w k) ks (stays c w k s (ap isCreated f) (ap isRunning f) (q .0) (out (isRunning (coreAt (next w k) c .state)) refl) h) (q .2)
+  where
+    out : (b : Bool) → isRunning (coreAt (next w k) c .state) ≡ b → isRunning (coreAt (next w k) c .state) ≡ false
+    out false e = e
+    out true e = no-both (entering c w k (record { before = ap (λ x. isRunning (x .state)) h ∙ ap isRunning f; after = e }) .enter .ready) (ap (λ x. isResumable (x .state)) h ∙ ap isResumable f)
+
+module _ (c : ℕ) (d : Driver) (bs : List ℕ) (bf : List Frame) (bc : List Active) (away : Apart c bc) where
+  -- what a call does to what lies below c
+  pub data Fate (w : World) (k : Call) (z : World) : Type 0 where
+    goes : Under c d bs bf bc (view z) → Fate w k z
+    left : mem (z .stack) (z .frames) ≡ deliverTo d (eventOf w k c) (mem bs bf) → z .chain ≡ bc → hasLeft (coreAt z c .state) ≡ true → Fate w k z
+    lost : coreAt z c .state ≡ CoroState.Failed → Fate w k z
+    over : restarts k ≡ true → hasLeft (coreAt z c .state) ≡ false → Fate w k z
+
+  fate-one : (w : World) (k : Call) → Under c d bs bf bc (view w) → Fate w k (next w k)
+  fate-one w k u = go (next w k) (step-case w k)
+    where
+      cases : (o : Op) (z : World) → F.Fate c d bs bf bc away w o z → Fate w (Do o) z
+      cases o z (F.goes x) = goes x
+      cases o z (F.left x y e) = left x y e
+      cases o z (F.lost x) = lost x
+
+      go : {k : Call} (z : World) → StepCase w k z → Fate w k z
+      go z (anew s e) = over e (ap (λ x. hasLeft (coreIn x .state)) (fresh-absent s c))
+      go z (same k e) = goes u
+      go z (does o e) = cases o z (F.fate c d bs bf bc away (shape w o) (lifts w e) u)
+
+  goes-on : (w : World) (ks : List Call) → Under c d bs bf bc (view w) → Goes c w ks → isRunning (coreAt (run w ks) c .state) ≡ true → Under c d bs bf bc (view (run w ks))
+  goes-on w [] u q r = u
+  goes-on w (k ∷ ks) u q r = go (fate-one w k u) (goes-on (next w k) ks)
+    where
+      go : Fate w k (next w k) → (Under c d bs bf bc (view (next w k)) → Goes c (next w k) ks → isRunning (coreAt (run (next w k) ks) c .state) ≡ true → Under c d bs bf bc (view (run (next w k) ks))) → Under c d bs bf bc (view (run (next w k) ks))
+      go (goes x) rest = rest x (q .2) r
+      go (left x y e) rest = absurd (q .1 (record { before = u .runs; after = e }))
+      go (lost x) rest = no-both r (ap (λ n. isRunning (n .state)) (lost-on c (coreAt (next w k) c) x (next w k) ks refl (q .2)) ∙ ap isRunning x)
+      go (over x e) rest = no-both x (q .0)
+
+  pub leaving : (w : World) (ks : List Call) (l : Call) → Under c d bs bf bc (view w) → Goes c w ks → Leaves c (run w ks) l
+      → (mem (next (run w ks) l .stack) (next (run w ks) l .frames) ≡ deliverTo d (eventOf (run w ks) l c) (mem bs bf)) × (next (run w ks) l .chain ≡ bc)
+  leaving w ks l u q h = go (fate-one (run w ks) l (goes-on w ks u q (h .before)))
+    where
+      v : World
+      v = run w ks
+
+      go : Fate v l (next v l) → (mem (next v l .stack) (next v l .frames) ≡ deliverTo d (eventOf v l c) (mem bs bf)) × (next v l .chain ≡ bc)
+      go (goes x) = no-both (h .after) (run-left (coreAt (next v l) c .state) (x .runs))
+      go (left x y e) = (x, y)
+      go (lost x) = no-both (h .after) (ap hasLeft x)
+      go (over x e) = no-both (h .after) e
+
+pub untouched : (c : ℕ) (w : World) (k : Call) (ks : List Call) (l : Call) → Enters c w k → Goes c (next w k) ks → Leaves c (run (next w k) ks) l → Left w k c (run (next w k) ks) l (next (run (next w k) ks) l)
+untouched c w k ks l h q e =
+    let t = entering c w k h in
+    let u = landed w (pcOf w k) c (t .driver) (t .sent) (next w k) (lifts w (t .healthy) c (t .enter .ready) (t .enter .solid)) (t .enter) in
+    let x = leaving c (t .driver) (w .stack) (calling w k) (w .chain) (apart w (t .healthy) c (h .before)) (next w k) ks l u q e in
+    record { under = x .0 ∙ ap (λ d. deliverTo d (eventOf (run (next w k) ks) l c) (mem (w .stack) (calling w k))) (sym (ap driverOf (t .by))); chain = x .1 }
+
+-- ---- the claim
+
+pub demand3-at : (w₁ : World) (x : Call) (waiting : List Call) (y : Call) (going : List Call) (z : Call) (c : ℕ) → Demand3 w₁ x waiting y going z c
+demand3-at w₁ x waiting y going z c =
+    record {
+      suspension = suspension c w₁ x;
+      its-body = its-body c w₁ x;
+      sleep = λ s h q. sleep c s (next w₁ x) waiting h q;
+      entry = λ e. restored c (run (next w₁ x) waiting) y (coreAt (run (next w₁ x) waiting) c) e refl;
+      restored = λ h q e. restored c (run (next w₁ x) waiting) y (slept w₁ x c) e (sleep c (slept w₁ x c) (next w₁ x) waiting (suspension c w₁ x h) q .holds);
+      untouched = untouched c (run (next w₁ x) waiting) y going z;
+    }
+
+-- DEMAND 3, of every list of calls that begins with an accepted set-up, wherever it is split
+pub demand3 : (w : World) (s : Setup) → setupOk s ≡ true → (before : List Call) (x : Call) (waiting : List Call) (y : Call) (going : List Call) (z : Call) (c : ℕ) → Demand3 (run w (SetUp s ∷ before)) x waiting y going z c
+demand3 w s ok before = demand3-at (run w (SetUp s ∷ before))

@@ -1,0 +1,246 @@
+-- Moves that touch no stack, no frame and no chain: objects made, rests changed, coroutines ended that never ran.
+use Prim.Native.Nat.{ℕ, _+_, _*_, _%_, _^_}
+use native.Mathlib.Decide.{ℕ-discrete}
+use mathlib.Core.Path.{_≡_, refl, sym, ap, _∙_, subst}
+use mathlib.Core.Logic.{_⊎_, inl, inr}
+use mathlib.Core.Bool.{Bool, true, false, not, _||_}
+use mathlib.Core.List.{List}
+use lib.Dec.{eqb}
+use Rattle.lists.specs.Pick.{pick}
+use Rattle.heap.specs.Charge.{satAdd}
+use Rattle.heap.specs.Coding.{ofBits}
+use Rattle.heap.specs.Int.{inlineOf, exactly, valueOf, nextKey}
+use Rattle.heap.specs.Table.{pushObject, nextWord}
+use Rattle.heap.specs.declared.fault.Fault.{Fault}
+use Rattle.heap.specs.declared.value.Opt.{Opt}
+use Rattle.heap.specs.declared.int.Exact.{Exact}
+use Rattle.heap.specs.declared.int.Inline.{Inline}
+use Rattle.heap.specs.declared.int.IntTy.{IntTy}
+use Rattle.heap.specs.declared.object.CoroState.{CoroState}
+use Rattle.model.specs.State.{isCreated}
+use Rattle.model.specs.Object.{Core, Rest, Object, Coroutine, Absent, Is, asCoro}
+use Rattle.model.specs.World.{World, After, after, withSlots, withUsed, withSeq}
+use Rattle.model.specs.Program.{func, isFunction}
+use Rattle.model.specs.Frames.{reg}
+use Rattle.model.specs.Heap.{object, coro, changeAs, changeCoro, changeIterIn, setDone, setKey, fits, slotsFull, refuse, alloc, encodeAt, encodeInt, encodeExact, toDyn}
+use Rattle.model.specs.Rows.{rowsFull, freeRow}
+use Rattle.model.specs.Coro.{newRegs, newCore, newRest, coroCreate, inState, ended, finishCoroutine}
+use Rattle.model.specs.Exec.{keyExact, keyAt, autoKey, indirectTo, indirect, window}
+use Rattle.model.specs.declared.coro.Made.{Made}
+use Rattle.heap.specs.declared.heap.ResultKind.{ResultKind}
+use Rattle.claims.specs.Held.{coreIn, coreAt}
+use Rattle.claims.proofs.Cores.{busy, Kept, kept, unborn, objectIn, push-cases, set-mine, set-other, set-rest, set-iter}
+use Rattle.claims.proofs.Shape.{View, view, Ends, Worked, quiet}
+
+-- v is w with objects added, none of which runs or sleeps
+pub record Grown (w v : World) : Type 0 where
+  pub setup : v .setup ≡ w .setup
+  pub stack : v .stack ≡ w .stack
+  pub frames : v .frames ≡ w .frames
+  pub chain : v .chain ≡ w .chain
+  pub finds : (c : ℕ) → (coro v c ≡ coro w c) ⊎ ((coro w c ≡ Absent) × (busy (coreAt v c .state) ≡ false))
+
+pub grown-none : {w : World} → Grown w w
+grown-none = record { setup = refl; stack = refl; frames = refl; chain = refl; finds = λ c. inl refl }
+
+pub grown-kept : {w v : World} → Grown w v → (c : ℕ) → Kept (coreAt w c) (coreAt v c)
+grown-kept {w} {v} g c = go (g .finds c)
+  where
+    go : (coro v c ≡ coro w c) ⊎ ((coro w c ≡ Absent) × (busy (coreAt v c .state) ≡ false)) → Kept (coreAt w c) (coreAt v c)
+    go (inl e) = kept (ap coreIn e)
+    go (inr e) = unborn (ap (λ x. isCreated (coreIn x .state)) (e .0)) (e .1)
+
+pub grown-worked : {w v : World} → Grown w v → {z : View} → Worked (view v) z → Worked (view w) z
+grown-worked {w} {v} g {z} t = quiet (coreAt v) (grown-kept g) (subst (λ x. Worked x z) (λ i. record { stack = g .stack i; frames = g .frames i; chain = g .chain i; cores = coreAt v }) t)
+
+-- ---- alloc and what calls it
+
+pub alloc-grown : (bytes : ℕ) (o : Object) (w : World) → busy (coreIn (asCoro o) .state) ≡ false → Grown w (alloc bytes o w .world)
+unfolding alloc pick
+alloc-grown bytes o w b = go (not (fits w bytes)) (slotsFull w)
+  where
+    found : (c : ℕ) → (objectIn (pushObject (w .slots) o) c ≡ objectIn (w .slots) c) ⊎ ((objectIn (w .slots) c ≡ Object.Empty) × (objectIn (pushObject (w .slots) o) c ≡ o))
+        → (asCoro (objectIn (pushObject (w .slots) o) c) ≡ coro w c) ⊎ ((coro w c ≡ Absent) × (busy (coreIn (asCoro (objectIn (pushObject (w .slots) o) c)) .state) ≡ false))
+    found c (inl e) = inl (ap asCoro e)
+    found c (inr e) = inr (ap asCoro (e .0), ap (λ x. busy (coreIn (asCoro x) .state)) (e .1) ∙ b)
+
+    go : (x y : Bool) → Grown w (pick x (refuse w Fault.OutOfMemory) (pick y (refuse w Fault.Full) (after (withUsed (satAdd (w .used) bytes) (withSlots (pushObject (w .slots) o) w)) (Made.Word (nextWord (w .slots))))) .world)
+    go true y = grown-none
+    go false true = grown-none
+    go false false = record { setup = refl; stack = refl; frames = refl; chain = refl; finds = λ c. found c (push-cases (w .slots) o c) }
+
+pub create-grown : (f closure : ℕ) (args : List ℕ) (w : World) → Grown w (coroCreate f closure args w .world)
+unfolding coroCreate pick
+create-grown f closure args w = go (not (fits w (8 * n + w .setup .costs .coro + w .setup .costs .frame))) (slotsFull w || rowsFull w)
+  where
+    n : ℕ
+    n = func (w .setup) f .regs
+
+    made : After Made
+    made = alloc (8 * n + w .setup .costs .object + w .setup .costs .frame) (Object.Coro (newCore f closure (newRegs n args)) (newRest (w .seq) (freeRow w) n)) (withSeq ((w .seq + 1) % 2 ^ 64) w)
+
+    inner : Grown w (made .world)
+    inner =
+        let g = alloc-grown (8 * n + w .setup .costs .object + w .setup .costs .frame) (Object.Coro (newCore f closure (newRegs n args)) (newRest (w .seq) (freeRow w) n)) (withSeq ((w .seq + 1) % 2 ^ 64) w) refl in
+        record { setup = g .setup; stack = g .stack; frames = g .frames; chain = g .chain; finds = g .finds }
+
+    go : (x y : Bool) → Grown w (pick x (refuse w Fault.OutOfMemory) (pick y (refuse w Fault.Full) made) .world)
+    go true y = grown-none
+    go false true = grown-none
+    go false false = inner
+
+-- v is w with objects added that are no coroutines
+pub record Same (w v : World) : Type 0 where
+  pub setup : v .setup ≡ w .setup
+  pub stack : v .stack ≡ w .stack
+  pub frames : v .frames ≡ w .frames
+  pub chain : v .chain ≡ w .chain
+  pub coros : (c : ℕ) → coro v c ≡ coro w c
+
+pub same-none : {w : World} → Same w w
+same-none = record { setup = refl; stack = refl; frames = refl; chain = refl; coros = λ c. refl }
+
+pub same-worked : {w v : World} → Same w v → {z : View} → Worked (view v) z → Worked (view w) z
+same-worked {w} {v} g {z} t = subst (λ x. Worked x z) (λ i. record { stack = g .stack i; frames = g .frames i; chain = g .chain i; cores = λ c. coreIn (g .coros c i) }) t
+
+pub alloc-same : (bytes : ℕ) (o : Object) (w : World) → asCoro o ≡ Absent → Same w (alloc bytes o w .world)
+unfolding alloc pick
+alloc-same bytes o w b = go (not (fits w bytes)) (slotsFull w)
+  where
+    found : (c : ℕ) → (objectIn (pushObject (w .slots) o) c ≡ objectIn (w .slots) c) ⊎ ((objectIn (w .slots) c ≡ Object.Empty) × (objectIn (pushObject (w .slots) o) c ≡ o)) → asCoro (objectIn (pushObject (w .slots) o) c) ≡ coro w c
+    found c (inl e) = ap asCoro e
+    found c (inr e) = ap asCoro (e .1) ∙ b ∙ sym (ap asCoro (e .0))
+
+    go : (x y : Bool) → Same w (pick x (refuse w Fault.OutOfMemory) (pick y (refuse w Fault.Full) (after (withUsed (satAdd (w .used) bytes) (withSlots (pushObject (w .slots) o) w)) (Made.Word (nextWord (w .slots))))) .world)
+    go true y = same-none
+    go false true = same-none
+    go false false = record { setup = refl; stack = refl; frames = refl; chain = refl; coros = λ c. found c (push-cases (w .slots) o c) }
+
+pub encode-same : (n : ℕ) (w : World) → Same w (encodeInt n w .world)
+encode-same n w = go (inlineOf (ofBits 63 n))
+  where
+    go : (x : Inline) → Same w (encodeAt x n w .world)
+    go (Inline.At x) = same-none
+    go Inline.Large = alloc-same (w .setup .costs .int) (Object.Int n) w refl
+
+exact-same : (x : Exact) (w : World) → Same w (encodeExact x w .world)
+exact-same (Exact.Fits n) w = encode-same n w
+exact-same Exact.Over w = same-none
+
+pub dyn-same : (kind : ResultKind) (v : ℕ) (w : World) → Same w (toDyn kind v w .world)
+unfolding toDyn
+dyn-same ResultKind.None v w = same-none
+dyn-same ResultKind.Dyn v w = same-none
+dyn-same ResultKind.I64 v w = exact-same (exactly (valueOf IntTy.I64 v)) w
+dyn-same ResultKind.U64 v w = exact-same (exactly (valueOf IntTy.U64 v)) w
+
+pub key-same : (largest : ℕ) (w : World) → Same w (autoKey largest w .world)
+unfolding autoKey
+key-same largest w = go (nextKey largest)
+  where
+    made : (n : ℕ) (o : After Made) → Same w (o .world) → Same w (keyAt n (o .world) (o .answer) .world)
+    made n o g = cases (o .answer)
+      where
+        cases : (m : Made) → Same w (keyAt n (o .world) m .world)
+        cases (Made.Word k) = g
+        cases (Made.Refused f) = g
+
+    go : (x : Exact) → Same w (keyExact x w .world)
+    go (Exact.Fits n) = made n (encodeInt n w) (encode-same n w)
+    go Exact.Over = same-none
+
+pub indirect-grown : (dst callee argc : ℕ) (w : World) → Grown w (indirect dst callee argc w .world)
+unfolding indirect pick
+indirect-grown dst callee argc w = go (object w v)
+  where
+    v : ℕ
+    v = reg w callee
+
+    tests : (f : ℕ) (a b : Bool) → Grown w (pick a (refuse w Fault.TypeError) (pick b (refuse w Fault.TypeError) (coroCreate f v (window dst argc w) w)) .world)
+    tests f true b = grown-none
+    tests f false true = grown-none
+    tests f false false = create-grown f v (window dst argc w) w
+
+    go : (o : Object) → Grown w (indirectTo o v dst argc w .world)
+    go Object.Empty = grown-none
+    go (Object.Func f) = tests f (not (isFunction (w .setup) f)) (not (eqb (func (w .setup) f .params) argc))
+    go (Object.Int n) = grown-none
+    go (Object.Iter s d k) = grown-none
+    go (Object.Error e f p x) = grown-none
+    go (Object.Coro k r) = grown-none
+
+-- ---- an iterator's mark or key: no core changes
+
+pub record Calm (w v : World) : Type 0 where
+  pub setup : v .setup ≡ w .setup
+  pub stack : v .stack ≡ w .stack
+  pub frames : v .frames ≡ w .frames
+  pub chain : v .chain ≡ w .chain
+  pub cores : (c : ℕ) → coreAt v c ≡ coreAt w c
+
+pub calm-worked : {w v : World} → Calm w v → {z : View} → Worked (view v) z → Worked (view w) z
+calm-worked {w} {v} g {z} t = subst (λ x. Worked x z) (λ i. record { stack = g .stack i; frames = g .frames i; chain = g .chain i; cores = λ c. g .cores c i }) t
+
+iter-calm : (v : ℕ) (f : Bool → Bool) (g : Opt → Opt) (w : World) → Calm w (changeIterIn (object w v) v f g w)
+iter-calm v f g w = go (object w v) refl
+  where
+    none : Calm w w
+    none = record { setup = refl; stack = refl; frames = refl; chain = refl; cores = λ c. refl }
+
+    go : (o : Object) → object w v ≡ o → Calm w (changeIterIn o v f g w)
+    go Object.Empty e = none
+    go (Object.Func n) e = none
+    go (Object.Int n) e = none
+    go (Object.Iter s d k) e = record { setup = refl; stack = refl; frames = refl; chain = refl; cores = set-iter (w .slots) v s d (f d) k (g k) e }
+    go (Object.Error n x p y) e = none
+    go (Object.Coro k r) e = none
+
+pub done-calm : (v : ℕ) (w : World) → Calm w (setDone v w)
+done-calm v w = iter-calm v (λ _. true) (λ k. k) w
+
+pub key-calm : (v key : ℕ) (w : World) → Calm w (setKey v key w)
+key-calm v key w = iter-calm v (λ d. d) (λ _. Opt.Some key) w
+
+-- ---- the end of a coroutine
+
+pub finish-ends : (v : ℕ) (s : CoroState) (result : ℕ) (w : World) → Ends s v (coreAt w) (coreAt (finishCoroutine v s result w))
+finish-ends v s result w = go (coro w v) refl
+  where
+    go : (x : Coroutine) → coro w v ≡ x → Ends s v (coreAt w) (coreAt (changeAs x v (inState s) (ended result) w))
+    go Absent e = record { mine = inr (ap (λ x. isCreated (coreIn x .state)) e, refl); others = λ u n. refl }
+    go (Is k r) e = record { mine = inl (ap coreIn (set-mine (w .slots) v e (inState s k) (ended result r)) ∙ ap (inState s) (sym (ap coreIn e))); others = set-other (w .slots) v e (inState s k) (ended result r) }
+
+-- one that has not begun ends without a run
+pub unborn-ends : (v : ℕ) (s : CoroState) (k l : ℕ → Core) → busy s ≡ false → isCreated (k v .state) ≡ true → Ends s v k l → (c : ℕ) → Kept (k c) (l c)
+unborn-ends v s k l b h e c = go (ℕ-discrete c v)
+  where
+    mine : (l v ≡ inState s (k v)) ⊎ ((isCreated (k v .state) ≡ true) × (l v ≡ k v)) → Kept (k v) (l v)
+    mine (inl x) = unborn h (ap (λ y. busy (y .state)) x ∙ b)
+    mine (inr x) = kept (x .1)
+
+    go : Dec (c ≡ v) → Kept (k c) (l c)
+    go (yes q) = subst (λ x. Kept (k x) (l x)) (sym q) (mine (e .mine))
+    go (no q) = kept (e .others c q)
+
+-- ---- a coroutine changed
+
+pub record Still (w v : World) : Type 0 where
+  pub setup : v .setup ≡ w .setup
+  pub stack : v .stack ≡ w .stack
+  pub frames : v .frames ≡ w .frames
+  pub chain : v .chain ≡ w .chain
+
+pub change-still : (w : World) (c : ℕ) (f : Core → Core) (g : Rest → Rest) → Still w (changeCoro c f g w)
+change-still w c f g = go (coro w c)
+  where
+    go : (x : Coroutine) → Still w (changeAs x c f g w)
+    go Absent = record { setup = refl; stack = refl; frames = refl; chain = refl }
+    go (Is k r) = record { setup = refl; stack = refl; frames = refl; chain = refl }
+
+-- in its rest alone
+pub change-calm : (c : ℕ) (g : Rest → Rest) (w : World) → Calm w (changeCoro c (λ k. k) g w)
+change-calm c g w = go (coro w c) refl
+  where
+    go : (y : Coroutine) → coro w c ≡ y → Calm w (changeAs y c (λ k. k) g w)
+    go Absent e = record { setup = refl; stack = refl; frames = refl; chain = refl; cores = λ x. refl }
+    go (Is k r) e = record { setup = refl; stack = refl; frames = refl; chain = refl; cores = set-rest (w .slots) c e (g r) }

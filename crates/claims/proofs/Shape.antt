@@ -1,0 +1,127 @@
+-- The shape of a call: what it does to stack, frames, chain and cores. Moves at and above the innermost body; or an entry; or a
+-- suspension; or such moves and then a return; or the end of the run.
+use Prim.Native.Nat.{ℕ}
+use mathlib.Core.Path.{_≡_}
+use mathlib.Core.Logic.{_≢_, _⊎_}
+use mathlib.Core.Bool.{Bool, true, false}
+use mathlib.Core.List.{List, [], _∷_, _++_, map}
+use lib.ListN.{length, take}
+use Rattle.heap.specs.declared.value.Opt.{Opt}
+use Rattle.heap.specs.declared.object.CoroState.{CoroState}
+use Rattle.model.specs.Lists.{isNil}
+use Rattle.model.specs.State.{isCreated, isRunning, isSuspended, isResumable}
+use Rattle.model.specs.Object.{Core}
+use Rattle.model.specs.World.{World}
+use Rattle.model.specs.Frames.{isCoro, onTop, setPc, raise, below, baseAt, putAt, storePc}
+use Rattle.model.specs.Heap.{coro}
+use Rattle.model.specs.Coro.{active, inState, saved}
+use Rattle.model.specs.Sound.{marked}
+use Rattle.model.specs.declared.machine.Driver.{Driver}
+use Rattle.model.specs.declared.machine.Active.{Active}
+use Rattle.model.specs.declared.machine.Frame.{Frame}
+use Rattle.model.specs.declared.call.Op.{Op}
+use Rattle.claims.specs.Entry.{suspends, at, act, Entry, nobody, entry, entryBy, pcBy}
+use Rattle.claims.specs.Suspension.{suspendsIn, takesBy}
+use Rattle.claims.specs.Held.{coreAt, wordsWith, framesWith, Returns, eventAs, eventBy, mem, deliverTo}
+use Rattle.claims.proofs.Cores.{Kept}
+
+-- what a switch moves
+pub record View : Type 0 where
+  pub stack : List ℕ
+  pub frames : List Frame
+  pub chain : List Active
+  pub cores : ℕ → Core
+
+abbrev pub view : World → View
+view w = record { stack = w .stack; frames = w .frames; chain = w .chain; cores = coreAt w }
+
+-- the core of a coroutine that ends in a state, and all others as they were
+pub record Ends (s : CoroState) (v : ℕ) (k l : ℕ → Core) : Type 0 where
+  pub mine : (l v ≡ inState s (k v)) ⊎ ((isCreated (k v .state) ≡ true) × (l v ≡ k v))
+  pub others : (u : ℕ) → u ≢ v → l u ≡ k u
+
+-- a frame keeps its base and its continuation
+pub record Keeps (g : Frame → Frame) : Type 0 where
+  pub base : (f : Frame) → g f .base ≡ f .base
+  pub cont : (f : Frame) → g f .cont ≡ f .cont
+
+abbrev pub topV : (Frame → Frame) → View → View
+topV g v = record { stack = v .stack; frames = onTop g (v .frames); chain = v .chain; cores = v .cores }
+
+abbrev pub putV : ℕ → ℕ → View → View
+putV r x v = record { stack = putAt (v .frames) r x (v .stack); frames = v .frames; chain = v .chain; cores = v .cores }
+
+abbrev pub pushV : Frame → List ℕ → View → View
+pushV f xs v = record { stack = v .stack ++ xs; frames = f ∷ v .frames; chain = v .chain; cores = v .cores }
+
+abbrev pub popV : Frame → List Frame → View → View
+popV f fs v = record { stack = take (f .base) (v .stack); frames = fs; chain = v .chain; cores = v .cores }
+
+abbrev pub coresV : (ℕ → Core) → View → View
+coresV k v = record { stack = v .stack; frames = v .frames; chain = v .chain; cores = k }
+
+abbrev pub endV : Frame → List Frame → List Active → (ℕ → Core) → View → View
+endV f fs chain k v = record { stack = take (f .base) (v .stack); frames = fs; chain = chain; cores = k }
+
+-- moves, from the first to the last
+pub data Worked : View → View → Type 0 where
+  done : {v : View} → Worked v v
+  -- cores that have not begun
+  quiet : {v z : View} (k : ℕ → Core) → ((c : ℕ) → Kept (v .cores c) (k c)) → Worked (coresV k v) z → Worked v z
+  -- the top frame's pc
+  tops : {v z : View} (g : Frame → Frame) → Keeps g → Worked (topV g v) z → Worked v z
+  puts : {v z : View} (r x : ℕ) → Worked (putV r x v) z → Worked v z
+  pushes : {v z : View} (f : Frame) (xs : List ℕ) → isCoro (f .cont) ≡ false → f .base ≡ length (v .stack) → Worked (pushV f xs v) z → Worked v z
+  pops : {v z : View} (f : Frame) (fs : List Frame) → v .frames ≡ f ∷ fs → (isCoro (f .cont) ≡ false) ⊎ (v .chain ≡ []) → Worked (popV f fs v) z → Worked v z
+  -- a body goes, and its coroutine fails
+  fails : {v z : View} (f : Frame) (fs : List Frame) (a : Active) (chain : List Active) (k : ℕ → Core) → v .frames ≡ f ∷ fs → isCoro (f .cont) ≡ true → v .chain ≡ a ∷ chain → Ends CoroState.Failed (a .coro) (v .cores) k → Worked (endV f fs chain k v) z → Worked v z
+
+-- c is entered at w, and z is left; p is the caller's pc
+pub record Enter (w : World) (p c : ℕ) (d : Driver) (sent : Opt) (z : World) : Type 0 where
+  pub ready : isResumable (coreAt w c .state) ≡ true
+  pub solid : isNil (coreAt w c .frames) ≡ false
+  pub stack : z .stack ≡ w .stack ++ wordsWith sent (coreAt w c)
+  pub frames : z .frames ≡ map (raise (length (w .stack))) (framesWith sent (coreAt w c)) ++ onTop (setPc p) (w .frames)
+  pub chain : z .chain ≡ active c (length (w .frames)) d ∷ w .chain
+  pub mine : isRunning (coreAt z c .state) ≡ true
+  pub others : (u : ℕ) → u ≢ c → coreAt z u ≡ coreAt w u
+
+-- the innermost coroutine a is suspended at w, and z is left
+pub record Suspend (w : World) (p : ℕ) (s : CoroState) (dst x : ℕ) (a : Active) (chain : List Active) (z : World) : Type 0 where
+  pub inmost : w .chain ≡ a ∷ chain
+  pub asleep : isSuspended s ≡ true
+  pub mine : coreAt z (a .coro) ≡ saved s dst (a .floor) (storePc p w)
+  pub others : (u : ℕ) → u ≢ a .coro → Kept (coreAt w u) (coreAt z u)
+  pub under : mem (z .stack) (z .frames) ≡ deliverTo (a .driver) (eventAs (marked (λ r. r .closing) (coro w (a .coro))) s x) (mem (take (baseAt (a .floor) (onTop (setPc p) (w .frames))) (w .stack)) (below (a .floor) (onTop (setPc p) (w .frames))))
+  pub outer : z .chain ≡ chain
+
+-- the body f of the innermost coroutine a returns x at v, and z is left
+pub record Return (v : View) (x : ℕ) (f : Frame) (fs : List Frame) (a : Active) (chain : List Active) (z : World) : Type 0 where
+  pub body : v .frames ≡ f ∷ fs
+  pub its-own : isCoro (f .cont) ≡ true
+  pub inmost : v .chain ≡ a ∷ chain
+  pub ends : Ends CoroState.Returned (a .coro) (v .cores) (coreAt z)
+  pub under : mem (z .stack) (z .frames) ≡ deliverTo (a .driver) (Returns x) (mem (take (f .base) (v .stack)) fs)
+  pub outer : z .chain ≡ chain
+
+abbrev pub Apart : ℕ → List Active → Type 0
+Apart c [] = Unit {0}
+Apart c (a ∷ chain) = (c ≢ a .coro) × Apart c chain
+
+-- every coroutine of the chain fails, and all others are as they were
+pub record Stop (w z : World) : Type 0 where
+  pub apart : (c : ℕ) → Apart c (w .chain) → coreAt z c ≡ coreAt w c
+  pub each : (c : ℕ) → (Apart c (w .chain) × (coreAt z c ≡ coreAt w c)) ⊎ ((coreAt z c .state ≡ CoroState.Failed) ⊎ ((isCreated (coreAt w c .state) ≡ true) × (coreAt z c ≡ coreAt w c)))
+  pub outer : z .chain ≡ []
+
+-- whom the call enters, and whether coro_suspend accepts in it
+pub record Says (w : World) (o : Op) (e : Entry) (b : Bool) : Type 0 where
+  pub entry : entryBy (act w o) w ≡ e
+  pub takes : takesBy (act w o) (suspendsIn o) w ≡ b
+
+pub data Shape (w : World) (o : Op) (z : World) : Type 0 where
+  works : Says w o nobody false → Worked (view w) (view z) → Shape w o z
+  enters : (c : ℕ) (d : Driver) (sent : Opt) → Says w o (entry c d sent) false → Enter w (pcBy (act w o)) c d sent z → Shape w o z
+  suspended : (p : ℕ) (ok : Bool) (s : CoroState) (dst x : ℕ) (a : Active) (chain : List Active) → Says w o nobody true → act w o ≡ at p ok (suspends s dst x) → Suspend w p s dst x a chain z → Shape w o z
+  returns : (v : View) (x : ℕ) (f : Frame) (fs : List Frame) (a : Active) (chain : List Active) → Says w o nobody false → ((c : ℕ) → eventBy (act w o) w c ≡ Returns x) → Worked (view w) v → Return v x f fs a chain z → Shape w o z
+  stops : Says w o nobody false → Stop w z → Shape w o z

@@ -1,0 +1,149 @@
+-- Who is entered by a call, by which driver, and with what word. 01: "An entry, from any driver, is accepted exactly if
+-- `coro_enter` accepts, also where the call then answers a fault".
+use Prim.Native.Nat.{ℕ}
+use mathlib.Core.Bool.{Bool, true, false, not, _&&_}
+use mathlib.Core.List.{List, [], _∷_}
+use Rattle.lists.specs.Pick.{pick}
+use Rattle.heap.specs.Word.{nil}
+use Rattle.heap.specs.declared.value.Opt.{Opt}
+use Rattle.heap.specs.declared.object.CoroState.{CoroState}
+use Rattle.model.specs.Lists.{isNil}
+use Rattle.model.specs.State.{isCreated, isAwaiting, isResumable}
+use Rattle.model.specs.Program.{isFunction}
+use Rattle.model.specs.Object.{Coroutine, Absent, Is, isDone}
+use Rattle.model.specs.World.{World}
+use Rattle.model.specs.Frames.{reg}
+use Rattle.model.specs.Heap.{object, coro}
+use Rattle.model.specs.Coro.{overflows}
+use Rattle.model.specs.Cleanup.{suspendedAs, charge}
+use Rattle.model.specs.Gate.{inFrame, windowIn}
+use Rattle.model.specs.Sound.{sound}
+use Rattle.model.specs.Call.{Call, SetUp, Do}
+use Rattle.model.specs.declared.machine.Driver.{Driver}
+use Rattle.model.specs.declared.machine.Charge.{Charge}
+use Rattle.heap.specs.declared.heap.ResultKind.{ResultKind}
+use Rattle.model.specs.declared.call.Op.{Op}
+
+-- ---- what the calls are after
+
+pub data Aim : Type 0 where
+  -- to enter the coroutine that a word names, if a further test passes: driver, sent word or none
+  enters : ℕ → Driver → Opt → Bool → Aim
+  -- to suspend: the new state, the waiting register, the payload
+  suspends : CoroState → ℕ → ℕ → Aim
+  neither : Aim
+
+pub data Act : Type 0 where
+  -- an instruction: its pc, whether its operands pass the gate, and what it is after
+  at : ℕ → Bool → Aim → Act
+  -- host entry: coroutine and word
+  byHost : ℕ → ℕ → Act
+  finishes : ResultKind → ℕ → Act
+  unwinds : Act
+  other : Act
+
+-- an Awaiting source refuses a loop
+abbrev pub awaits : Coroutine → Bool
+awaits Absent = false
+awaits (Is k r) = isAwaiting (k .state)
+
+abbrev pub act : World → Op → Act
+act w (Op.CoroNew pc dst f argc) = at pc (inFrame w dst && windowIn w dst argc && isFunction (w .setup) f) neither
+act w (Op.CoroNewIndirect pc dst callee argc) = at pc (inFrame w dst && inFrame w callee && windowIn w dst argc) neither
+act w (Op.Spawn pc dst callee argc) = at pc (inFrame w dst && inFrame w callee && windowIn w dst argc) neither
+act w (Op.Yield pc dst src) = at pc (inFrame w dst && inFrame w src) (suspends CoroState.Yielded dst (reg w src))
+act w (Op.YieldKv pc dst src key) = at pc (inFrame w dst && inFrame w src && inFrame w key) (suspends CoroState.Yielded dst (reg w src))
+act w (Op.Await pc dst src) = at pc (inFrame w dst && inFrame w src) (suspends CoroState.Awaiting dst (reg w src))
+act w (Op.Resume pc dst c src) = at pc (inFrame w dst && inFrame w c && inFrame w src) (enters (reg w c) (Driver.Resume dst) (Opt.Some (reg w src)) true)
+act w (Op.ResumeThrow pc dst c src) = at pc (inFrame w dst && inFrame w c && inFrame w src) (enters (reg w c) (Driver.Resume dst) Opt.None (suspendedAs (coro w (reg w c))))
+act w (Op.CoroClose pc dst c src) = at pc (inFrame w dst && inFrame w c && inFrame w src) (enters (reg w c) (Driver.Resume dst) Opt.None (suspendedAs (coro w (reg w c))))
+act w (Op.CoroStatus pc dst c) = at pc (inFrame w dst && inFrame w c) neither
+act w (Op.CoroCurrent pc dst) = at pc (inFrame w dst) neither
+act w (Op.CoroKey pc dst c) = at pc (inFrame w dst && inFrame w c) neither
+act w (Op.CoroResult pc dst c) = at pc (inFrame w dst && inFrame w c) neither
+act w (Op.IterNext pc has iter val src) =
+    at pc (inFrame w has && inFrame w iter && inFrame w val && inFrame w src)
+    (enters (reg w src) (Driver.Iter has val (reg w iter)) (Opt.Some nil) (not (isDone (object w (reg w iter))) && not (awaits (coro w (reg w src)))))
+act w (Op.Finish kind v) = finishes kind v
+act w (Op.Unwind f pc) = unwinds
+act w (Op.SpawnTask v) = other
+act w (Op.HostCall f) = other
+act w (Op.HostEntry c v) = byHost c v
+act w (Op.FunctionCall pc f cont) = other
+act w (Op.PutWord r v) = other
+act w (Op.MakeIterator v) = other
+act w Op.TakeOutcome = other
+act w (Op.HandOver v) = other
+act w (Op.Grant n) = other
+act w Op.StopRun = other
+act w Op.Look = other
+
+-- ---- who is entered
+
+pub data Entry : Type 0 where
+  nobody : Entry
+  -- a coroutine, its driver, and the word that it gets in its waiting register, or none
+  entry : ℕ → Driver → Opt → Entry
+
+-- coro_enter accepts. 01: "not a coroutine (1 or 2); not Created, Yielded or Awaiting (3); frames plus saved frames above the
+-- depth limit, or stack plus saved registers above the stack limit (4; equality passes)"
+abbrev pub acceptsAs : Coroutine → World → Bool
+acceptsAs Absent w = false
+acceptsAs (Is k r) w = isResumable (k .state) && not (isNil (k .frames)) && not (overflows k w)
+
+abbrev pub accepts : World → ℕ → Bool
+accepts w c = acceptsAs (coro w c) w
+
+-- 01: "A Created one ignores the sent word."
+abbrev pub sentTo : Coroutine → Opt → Opt
+sentTo Absent v = Opt.None
+sentTo (Is k r) v = pick (isCreated (k .state)) Opt.None v
+
+abbrev pub aimed : Aim → World → Entry
+aimed (enters c d v may) w = pick (may && accepts w c) (entry c d (sentTo (coro w c) v)) nobody
+aimed (suspends s dst v) w = nobody
+aimed neither w = nobody
+
+-- a cleanup: the first of the queue that is suspended and fits
+abbrev pub cleaned : List ℕ → World → Entry
+cleaned [] w = nobody
+cleaned (c ∷ queue) w = pick (suspendedAs (coro w c) && accepts w c) (entry c Driver.Finalize Opt.None) (cleaned queue w)
+
+-- a charge that starts a cleanup enters that coroutine, whatever the instruction is after
+abbrev pub charged : Charge → World → Entry → Entry
+charged (Charge.Done n) w e = e
+charged Charge.Spent w e = nobody
+charged (Charge.Close n) w e = cleaned (w .finalize) w
+
+abbrev pub entryBy : Act → World → Entry
+entryBy (at pc ok a) w = pick (isNil (w .frames)) nobody (pick (not ok) nobody (charged (charge (Opt.Some pc) w .answer) w (aimed a w)))
+entryBy (byHost c v) w = pick (not (isNil (w .frames))) nobody (aimed (enters c Driver.Host (Opt.Some v) true) w)
+entryBy (finishes kind v) w = nobody
+entryBy unwinds w = nobody
+entryBy other w = nobody
+
+-- who is entered by a call at the world w
+abbrev pub entryOf : World → Call → Entry
+entryOf w (SetUp s) = nobody
+entryOf w (Do o) = pick (sound w) (entryBy (act w o) w) nobody
+
+-- the driver of an entry, and its word
+abbrev pub driverOf : Entry → Driver
+driverOf nobody = Driver.Host
+driverOf (entry c d v) = d
+
+abbrev pub sentOf : Entry → Opt
+sentOf nobody = Opt.None
+sentOf (entry c d v) = v
+
+-- the pc that a call stores in the frame that it was made from
+abbrev pub pcBy : Act → ℕ
+pcBy (at pc ok a) = pc
+pcBy (byHost c v) = 0
+pcBy (finishes kind v) = 0
+pcBy unwinds = 0
+pcBy other = 0
+
+abbrev pub pcOf : World → Call → ℕ
+pcOf w (SetUp s) = 0
+pcOf w (Do o) = pcBy (act w o)
