@@ -22,18 +22,11 @@ use Rattle.model.specs.State.{isCreated, isRunning, isSuspended}
 use Rattle.model.specs.Object.{Core, Rest, Object, isFilled, Coroutine, Is, asCoro}
 use Rattle.model.specs.Heap.{objectAt}
 use Rattle.claims.specs.Held.{coreIn}
+pub use Rattle.lists.proofs.Tests.{and-left, and-right}
 
 -- false and true are not one
 pub no-both : {A : Type 0} {b : Bool} → b ≡ true → b ≡ false → A
 no-both p q = let z : _≡_ {A = ℕ} 0 1 = cc in absurd (omega arith)
-
-pub and-left : (a b : Bool) → (a && b) ≡ true → a ≡ true
-and-left true b e = refl
-and-left false b e = e
-
-pub and-right : (a b : Bool) → (a && b) ≡ true → b ≡ true
-and-right true b e = e
-and-right false b e = no-both e refl
 
 abbrev pub objectIn : List (Slot Object) → ℕ → Object
 objectIn xs v = objectAt xs (get Object.Empty isFilled xs v)

@@ -10,20 +10,13 @@ use lib.Dec.{eqb}
 use borrow.Author.Tests.{eqb-true, eqb-false, eq-eqb, ne-eqb}
 use Rattle.lists.specs.Pick.{pick}
 use Rattle.model.specs.Lists.{each, among, distinct}
+pub use Rattle.lists.proofs.Tests.{and-left, and-right}
 
 pub no-false : {A : Type 0} → false ≡ true → A
 no-false e = absurd (false≢true e)
 
 pub no-true : {A : Type 0} → true ≡ false → A
 no-true e = absurd (true≢false e)
-
-pub and-left : (a b : Bool) → (a && b) ≡ true → a ≡ true
-and-left true b e = refl
-and-left false b e = e
-
-pub and-right : (a b : Bool) → (a && b) ≡ true → b ≡ true
-and-right true b e = e
-and-right false b e = no-false e
 
 pub both : {a b : Bool} → a ≡ true → b ≡ true → (a && b) ≡ true
 both e f = rw (e, f)
