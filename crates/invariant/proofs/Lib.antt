@@ -20,7 +20,6 @@ pub mod Exec
 pub mod Added
 pub mod Call
 pub mod Kept
-pub mod Coverage
 pub mod Agree
 pub mod AgreeMachine
 pub mod AgreeExec

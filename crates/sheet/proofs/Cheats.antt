@@ -1,0 +1,74 @@
+-- The cheating engines, each at a world where it differs from `step`.
+use Prim.Native.Nat.{ℕ, _+_}
+use mathlib.Core.Path.{_≡_, refl, sym, ap, subst, _∙_}
+use mathlib.Core.Bool.{Bool, true, false}
+use mathlib.Core.List.{List, [], _∷_}
+use native.Mathlib.Omega.{arith}
+use lib.ListN.{length}
+use Rattle.model.specs.State.{isSuspended}
+use Rattle.model.specs.Object.{Core, Rest, Coroutine, Absent, Is}
+use Rattle.model.specs.World.{World}
+use Rattle.model.specs.Frames.{reg}
+use Rattle.model.specs.Heap.{coro}
+use Rattle.model.specs.Answer.{numberOf, takenOff}
+use Rattle.model.specs.Call.{Call, Do}
+use Rattle.model.specs.Step.{Out, step}
+use Rattle.model.specs.Compute.{computed}
+use Rattle.model.specs.declared.call.Op.{Op}
+use Rattle.model.specs.declared.call.Answer.{Answer}
+use Rattle.sheet.specs.Calls.{kind, number}
+use Rattle.sheet.specs.Charges.{passes}
+use Rattle.sheet.specs.Coverage.{usual, reached, holding, yielded, c}
+use Rattle.sheet.specs.Cheats.{Engine, Meets, Gives-up, Moves-once, Invents, Does-nothing, Constant, Refuses, Cheats}
+use Rattle.sheet.proofs.Queue.{queue}
+
+-- a caller that holds a new coroutine, and one that it yielded to
+abbrev new : World
+new = reached usual (holding 1 [])
+
+abbrev old : World
+old = reached usual (yielded 1 [])
+
+abbrev resume : Op
+resume = Op.Resume 2 1 0 2
+
+record Facts : Type 0 where
+  gate : passes new (kind new resume) ≡ true
+  accepted : number new (Do resume) ≡ 0
+  before : length (old .stack) ≡ 6
+  entered : length (step old (Do resume) .world .stack) ≡ 8
+  fuel : new .fuel .fuel ≡ 99
+  granted : step new (Do (Op.Grant 1)) .world .fuel .fuel ≡ 100
+  stops : number new (Do Op.StopRun) ≡ 0
+  busy : number new (Do (Op.HostCall 0)) ≡ 15
+
+facts : Facts
+unfolding computed
+facts = record { gate = refl; accepted = refl; before = refl; entered = refl; fuel = refl; granted = refl; stops = refl; busy = refl }
+
+gives-up : (n : ℕ) (e : Engine) → Meets e → Gives-up n e → n ≡ 0
+gives-up n e m g = sym (g new resume (facts .gate)) ∙ (ap (λ (x : Out). numberOf (x .answer)) (m new (Do resume)) ∙ facts .accepted)
+
+-- the coroutine in register 0 is suspended
+once : (e : Engine) → Meets e → Moves-once e → length (step old (Do resume) .world .stack) ≡ length (old .stack)
+unfolding computed
+once e m g = ap (λ (x : Out). length (x .world .stack)) (sym (m old (Do resume))) ∙ ap (λ (x : List ℕ). length x) (g old 2 1 0 2 _ _ refl refl)
+
+pub cheats : Cheats
+cheats =
+    record {
+      no-early-10 = λ e m g. let z : _≡_ {A = ℕ} 10 0 = gives-up 10 e m g in omega arith;
+      no-early-9 = λ e m g. let z : _≡_ {A = ℕ} 9 0 = gives-up 9 e m g in omega arith;
+      no-first-only = λ e m g. let z : _≡_ {A = ℕ} 8 6 = sym (facts .entered) ∙ (once e m g ∙ facts .before) in omega arith;
+      no-invention = λ e m i. i .untrue (subst (λ (x : Out). length (i .w .finalize) ≡ takenOff (x .answer) + length (x .world .finalize)) (sym (m (i .w) (Do (i .o)))) (queue .loss (i .w) (i .o) (i .pc) (i .ok) (i .arm) (i .instruction)));
+      no-idler = λ e m g. let z : _≡_ {A = ℕ} 100 99 = sym (facts .granted) ∙ (ap (λ (x : Out). x .world .fuel .fuel) (sym (m new (Do (Op.Grant 1)))) ∙ (ap (λ (x : World). x .fuel .fuel) (g new (Do (Op.Grant 1))) ∙ facts .fuel)) in omega arith;
+      no-constant = λ e a m g.
+          let z : _≡_ {A = ℕ} 15 0 =
+          sym (facts .busy)
+          ∙ (ap (λ (x : Out). numberOf (x .answer)) (sym (m new (Do (Op.HostCall 0))))
+          ∙ (ap (λ x. numberOf x) (g new (Do (Op.HostCall 0)) ∙ sym (g new (Do Op.StopRun)))
+          ∙ (ap (λ (x : Out). numberOf (x .answer)) (m new (Do Op.StopRun)) ∙ facts .stops)))
+          in
+          omega arith;
+      no-refuser = λ e m g. g new (Do Op.StopRun) (ap (λ (x : Out). numberOf (x .answer)) (m new (Do Op.StopRun)) ∙ facts .stops);
+    }

@@ -1,0 +1,387 @@
+-- The numbers of the gate, and the words of answers.
+use Prim.Native.Nat.{ℕ}
+use mathlib.Core.Path.{_≡_, refl, sym, ap, subst, _∙_}
+use mathlib.Core.Bool.{Bool, true, false, not, _&&_, _||_, true≢false, false≢true}
+use mathlib.Core.List.{List, [], _∷_, _++_}
+use lib.Dec.{eqb}
+use Rattle.lists.specs.Pick.{pick}
+use Rattle.heap.specs.Fault as Faults
+use Rattle.heap.specs.declared.fault.Fault.{Fault}
+use Rattle.model.specs.Lists.{isNil, among, each}
+use Rattle.model.specs.Program.{Setup, setupOk}
+use Rattle.model.specs.World.{World, After, after, fresh}
+use Rattle.model.specs.Gate.{refused}
+use Rattle.model.specs.Added.{accepted}
+use Rattle.model.specs.Answer.{numberOf, wordOf}
+use Rattle.model.specs.Sound.{sound}
+use Rattle.model.specs.Call.{Call, SetUp, Do}
+use Rattle.model.specs.Step.{Out, told, call, step}
+use Rattle.model.specs.declared.exec.Step.{Step}
+use Rattle.model.specs.declared.call.Op.{Op}
+use Rattle.model.specs.declared.call.Answer.{Answer}
+use Rattle.sheet.specs.Calls.{Kind, Instruction, OnFrame, OnHost, Adding, Raising, Other, kind, needsFrame, needsHost, misplaced, badOperand, tooLarge, noSuchFault, atGate, own, ownWord, number, given}
+use Rattle.sheet.specs.FaultSheet.{unchanging, FaultSheet}
+use Rattle.sheet.proofs.Among.{apart, passes, not-true, after-list, before-list}
+use Rattle.sheet.proofs.Tells.{Tells, noWord}
+use Rattle.sheet.proofs.Says.{gate, atCharge, Says, refuses, goes-on, says}
+
+-- ---- step: 11 for the machine, else the call
+
+module _ (n : ℕ) (w : World) where
+  eleven-else : eqb 11 n ≡ false → (b : Bool) (x : Out) → eqb (numberOf (pick b x (told (refused w Fault.Unsound)) .answer)) n ≡ b && eqb (numberOf (x .answer)) n
+  unfolding pick
+  eleven-else h true x = refl
+  eleven-else h false x = h
+
+  pub step-given : (o : Op) → eqb 11 n ≡ false → given n w (Do o) ≡ sound w && eqb (numberOf (call o w .answer)) n
+  unfolding step
+  step-given o h = eleven-else h (sound w) (call o w)
+
+eleven-or : (w : World) (b : Bool) (x : Out) → eqb (numberOf (pick b x (told (refused w Fault.Unsound)) .answer)) 11 ≡ not b || eqb (numberOf (x .answer)) 11
+unfolding pick
+eleven-or w true x = refl
+eleven-or w false x = refl
+
+step-eleven : (w : World) (o : Op) → given 11 w (Do o) ≡ not (sound w) || eqb (numberOf (call o w .answer)) 11
+unfolding step
+step-eleven w o = eleven-or w (sound w) (call o w)
+
+-- on a sound machine it is the call
+pub step-sound : (w : World) (o : Op) → sound w ≡ true → step w (Do o) ≡ call o w
+unfolding step pick
+step-sound w o h = ap (λ b. pick b (call o w) (told (refused w Fault.Unsound))) h
+
+-- ---- a call's answer is one of the five exactly if its gate's is
+
+abbrev isCalm : ℕ → Bool
+isCalm n = not (among n unchanging)
+
+calm-own : (w : World) (o : Op) → each isCalm (atCharge (kind w o) ++ own o) ≡ true
+calm-own w (Op.CoroNew pc dst f argc) = refl
+calm-own w (Op.CoroNewIndirect pc dst callee argc) = refl
+calm-own w (Op.Spawn pc dst callee argc) = refl
+calm-own w (Op.Yield pc dst src) = refl
+calm-own w (Op.YieldKv pc dst src key) = refl
+calm-own w (Op.Await pc dst src) = refl
+calm-own w (Op.Resume pc dst c src) = refl
+calm-own w (Op.ResumeThrow pc dst c src) = refl
+calm-own w (Op.CoroClose pc dst c src) = refl
+calm-own w (Op.CoroStatus pc dst c) = refl
+calm-own w (Op.CoroCurrent pc dst) = refl
+calm-own w (Op.CoroKey pc dst c) = refl
+calm-own w (Op.CoroResult pc dst c) = refl
+calm-own w (Op.IterNext pc has iter val src) = refl
+calm-own w (Op.Finish k v) = refl
+calm-own w (Op.Unwind f pc) = refl
+calm-own w (Op.SpawnTask v) = refl
+calm-own w (Op.HostCall f) = refl
+calm-own w (Op.HostEntry c v) = refl
+calm-own w (Op.FunctionCall pc f cont) = refl
+calm-own w (Op.PutWord r v) = refl
+calm-own w (Op.MakeIterator v) = refl
+calm-own w Op.TakeOutcome = refl
+calm-own w (Op.HandOver v) = refl
+calm-own w (Op.Grant n) = refl
+calm-own w Op.StopRun = refl
+calm-own w Op.Look = refl
+
+agrees : (n : ℕ) (w : World) (f : Fault) (ns : List ℕ) (own : Bool) (a : After Answer) → among n unchanging ≡ true → each isCalm ns ≡ true → Says w f ns own a → eqb (numberOf (a .answer)) n ≡ eqb (Faults.numberOf f) n
+agrees n w f ns own a h calm (refuses k) = refl
+agrees n w f ns own a h calm (goes-on e t) =
+    apart (numberOf (a .answer)) n unchanging (not-true _ (passes isCalm (numberOf (a .answer)) ns calm (t .number))) h
+    ∙ sym (ap (λ x. eqb x n) e ∙ apart 0 n unchanging refl h)
+
+call-gate : (n : ℕ) (w : World) (o : Op) → among n unchanging ≡ true → eqb (numberOf (call o w .answer)) n ≡ eqb (Faults.numberOf (gate w (kind w o))) n
+call-gate n w o h = agrees n w (gate w (kind w o)) _ (ownWord o) (after (call o w .world) (call o w .answer)) h (calm-own w o) (says o w)
+
+-- ---- each number at the gate, by the kind of call
+
+frame-twelve : (none ok : Bool) → eqb (Faults.numberOf (pick none Fault.NoFrame (pick (not ok) Fault.BadOperand Fault.None))) 12 ≡ none
+unfolding pick
+frame-twelve true ok = refl
+frame-twelve false true = refl
+frame-twelve false false = refl
+
+frame-thirteen : (none ok : Bool) → eqb (Faults.numberOf (pick none Fault.NoFrame (pick (not ok) Fault.BadOperand Fault.None))) 13 ≡ not (none || false) && not ok
+unfolding pick
+frame-thirteen true ok = refl
+frame-thirteen false true = refl
+frame-thirteen false false = refl
+
+module _ (n : ℕ) (twelve : eqb 12 n ≡ false) (thirteen : eqb 13 n ≡ false) (zero : eqb 0 n ≡ false) where
+  frame-none : (none ok : Bool) → eqb (Faults.numberOf (pick none Fault.NoFrame (pick (not ok) Fault.BadOperand Fault.None))) n ≡ false
+  unfolding pick
+  frame-none true ok = twelve
+  frame-none false true = zero
+  frame-none false false = thirteen
+
+host-thirteen : (none ok : Bool) → eqb (Faults.numberOf (pick (not none) Fault.Busy (pick (not ok) Fault.BadOperand Fault.None))) 13 ≡ not (not none) && not ok
+unfolding pick
+host-thirteen false ok = refl
+host-thirteen true true = refl
+host-thirteen true false = refl
+
+host-fifteen : (none ok : Bool) → eqb (Faults.numberOf (pick (not none) Fault.Busy (pick (not ok) Fault.BadOperand Fault.None))) 15 ≡ not none
+unfolding pick
+host-fifteen false ok = refl
+host-fifteen true true = refl
+host-fifteen true false = refl
+
+module _ (n : ℕ) (fifteen : eqb 15 n ≡ false) (thirteen : eqb 13 n ≡ false) (zero : eqb 0 n ≡ false) where
+  host-none : (none ok : Bool) → eqb (Faults.numberOf (pick (not none) Fault.Busy (pick (not ok) Fault.BadOperand Fault.None))) n ≡ false
+  unfolding pick
+  host-none false ok = fifteen
+  host-none true true = zero
+  host-none true false = thirteen
+
+sum-gate : (n : ℕ) (large : Bool) → eqb 0 n ≡ false → eqb (Faults.numberOf (pick large Fault.GrantTooLarge Fault.None)) n ≡ large && eqb 16 n
+unfolding pick
+sum-gate n true h = refl
+sum-gate n false h = h
+
+fault-gate : (n : ℕ) (ok : Bool) → eqb 0 n ≡ false → eqb (Faults.numberOf (pick ok Fault.None Fault.Unsound)) n ≡ not ok && eqb 11 n
+unfolding pick
+fault-gate n true h = h
+fault-gate n false h = refl
+
+and-true : (b : Bool) → b && true ≡ b
+and-true true = refl
+and-true false = refl
+
+and-false : (b : Bool) → b && false ≡ false
+and-false true = refl
+and-false false = refl
+
+eleven : (w : World) (k : Kind) → eqb (Faults.numberOf (gate w k)) 11 ≡ noSuchFault k
+eleven w (Instruction pc ok arm) = frame-none 11 refl refl refl (isNil (w .frames)) ok
+eleven w (OnFrame ok) = frame-none 11 refl refl refl (isNil (w .frames)) ok
+eleven w (OnHost ok) = host-none 11 refl refl refl (isNil (w .frames)) ok
+eleven w (Adding large) = sum-gate 11 large refl ∙ and-false large
+eleven w (Raising ok) = fault-gate 11 ok refl ∙ and-true (not ok)
+eleven w Other = refl
+
+twelve : (w : World) (k : Kind) → eqb (Faults.numberOf (gate w k)) 12 ≡ needsFrame k && isNil (w .frames)
+twelve w (Instruction pc ok arm) = frame-twelve (isNil (w .frames)) ok
+twelve w (OnFrame ok) = frame-twelve (isNil (w .frames)) ok
+twelve w (OnHost ok) = host-none 12 refl refl refl (isNil (w .frames)) ok
+twelve w (Adding large) = sum-gate 12 large refl ∙ and-false large
+twelve w (Raising ok) = fault-gate 12 ok refl ∙ and-false (not ok)
+twelve w Other = refl
+
+thirteen : (w : World) (k : Kind) → eqb (Faults.numberOf (gate w k)) 13 ≡ not (misplaced w k) && badOperand k
+thirteen w (Instruction pc ok arm) = frame-thirteen (isNil (w .frames)) ok
+thirteen w (OnFrame ok) = frame-thirteen (isNil (w .frames)) ok
+thirteen w (OnHost ok) = host-thirteen (isNil (w .frames)) ok
+thirteen w (Adding large) = sum-gate 13 large refl ∙ and-false large
+thirteen w (Raising ok) = fault-gate 13 ok refl ∙ and-false (not ok)
+thirteen w Other = refl
+
+fifteen : (w : World) (k : Kind) → eqb (Faults.numberOf (gate w k)) 15 ≡ needsHost k && not (isNil (w .frames))
+fifteen w (Instruction pc ok arm) = frame-none 15 refl refl refl (isNil (w .frames)) ok
+fifteen w (OnFrame ok) = frame-none 15 refl refl refl (isNil (w .frames)) ok
+fifteen w (OnHost ok) = host-fifteen (isNil (w .frames)) ok
+fifteen w (Adding large) = sum-gate 15 large refl ∙ and-false large
+fifteen w (Raising ok) = fault-gate 15 ok refl ∙ and-false (not ok)
+fifteen w Other = refl
+
+sixteen : (w : World) (k : Kind) → eqb (Faults.numberOf (gate w k)) 16 ≡ tooLarge k
+sixteen w (Instruction pc ok arm) = frame-none 16 refl refl refl (isNil (w .frames)) ok
+sixteen w (OnFrame ok) = frame-none 16 refl refl refl (isNil (w .frames)) ok
+sixteen w (OnHost ok) = host-none 16 refl refl refl (isNil (w .frames)) ok
+sixteen w (Adding large) = sum-gate 16 large refl ∙ and-true large
+sixteen w (Raising ok) = fault-gate 16 ok refl ∙ and-false (not ok)
+sixteen w Other = refl
+
+exactly : (n : ℕ) (w : World) (o : Op) (test : Bool) → eqb 11 n ≡ false → among n unchanging ≡ true → eqb (Faults.numberOf (gate w (kind w o))) n ≡ test → given n w (Do o) ≡ sound w && test
+exactly n w o test h k e = step-given n w o h ∙ ap (λ b. sound w && b) (call-gate n w o k ∙ e)
+
+-- ---- set-up
+
+module _ (w : World) (s : Setup) where
+  set-up-by : (b : Bool) → eqb (numberOf (told (pick b (accepted (fresh s)) (refused w Fault.Unsound)) .answer)) 11 ≡ not b
+  unfolding pick
+  set-up-by true = refl
+  set-up-by false = refl
+
+  set-up-same : (b : Bool) → among (numberOf (told (pick b (accepted (fresh s)) (refused w Fault.Unsound)) .answer)) unchanging ≡ true → told (pick b (accepted (fresh s)) (refused w Fault.Unsound)) .world ≡ w
+  unfolding pick
+  set-up-same true h = absurd (false≢true h)
+  set-up-same false h = refl
+
+  set-up-zero : (b : Bool) → wordOf (told (pick b (accepted (fresh s)) (refused w Fault.Unsound)) .answer) ≡ 0
+  unfolding pick
+  set-up-zero true = refl
+  set-up-zero false = refl
+
+-- ---- the world stays
+
+says-same : (w : World) (f : Fault) (ns : List ℕ) (own : Bool) (a : After Answer) → each isCalm ns ≡ true → Says w f ns own a → among (numberOf (a .answer)) unchanging ≡ true → a .world ≡ w
+says-same w f ns own a calm (refuses k) h = refl
+says-same w f ns own a calm (goes-on e t) h = absurd (true≢false (sym h ∙ not-true _ (passes isCalm (numberOf (a .answer)) ns calm (t .number))))
+
+machine-same : (w : World) (b : Bool) (x : Out) → (among (numberOf (x .answer)) unchanging ≡ true → x .world ≡ w) → among (numberOf (pick b x (told (refused w Fault.Unsound)) .answer)) unchanging ≡ true → pick b x (told (refused w Fault.Unsound)) .world ≡ w
+unfolding pick
+machine-same w true x k h = k h
+machine-same w false x k h = refl
+
+same-world : (w : World) (c : Call) → among (number w c) unchanging ≡ true → step w c .world ≡ w
+unfolding step
+same-world w (SetUp s) h = set-up-same w s (setupOk s) h
+same-world w (Do o) h =
+    machine-same w (sound w) (call o w) (says-same w (gate w (kind w o)) _ (ownWord o) (after (call o w .world) (call o w .answer)) (calm-own w o) (says o w)) h
+
+-- ---- the numbers of a call
+
+frame-in : (none ok : Bool) (ns : List ℕ) → among 12 ns ≡ true → among 13 ns ≡ true → among (Faults.numberOf (pick none Fault.NoFrame (pick (not ok) Fault.BadOperand Fault.None))) unchanging ≡ true → among (Faults.numberOf (pick none Fault.NoFrame (pick (not ok) Fault.BadOperand Fault.None))) ns ≡ true
+unfolding pick
+frame-in true ok ns t u h = t
+frame-in false true ns t u h = absurd (false≢true h)
+frame-in false false ns t u h = u
+
+host-in : (none ok : Bool) → among (Faults.numberOf (pick (not none) Fault.Busy (pick (not ok) Fault.BadOperand Fault.None))) unchanging ≡ true → among (Faults.numberOf (pick (not none) Fault.Busy (pick (not ok) Fault.BadOperand Fault.None))) (13 ∷ 15 ∷ []) ≡ true
+unfolding pick
+host-in false ok h = refl
+host-in true true h = absurd (false≢true h)
+host-in true false h = refl
+
+sum-in : (large : Bool) → among (Faults.numberOf (pick large Fault.GrantTooLarge Fault.None)) unchanging ≡ true → among (Faults.numberOf (pick large Fault.GrantTooLarge Fault.None)) (16 ∷ []) ≡ true
+unfolding pick
+sum-in true h = refl
+sum-in false h = absurd (false≢true h)
+
+fault-in : (ok : Bool) → among (Faults.numberOf (pick ok Fault.None Fault.Unsound)) unchanging ≡ true → among (Faults.numberOf (pick ok Fault.None Fault.Unsound)) (11 ∷ []) ≡ true
+unfolding pick
+fault-in true h = absurd (false≢true h)
+fault-in false h = refl
+
+gate-in : (w : World) (k : Kind) → among (Faults.numberOf (gate w k)) unchanging ≡ true → among (Faults.numberOf (gate w k)) (atGate k) ≡ true
+gate-in w (Instruction pc ok arm) h = frame-in (isNil (w .frames)) ok (10 ∷ 12 ∷ 13 ∷ 17 ∷ []) refl refl h
+gate-in w (OnFrame ok) h = frame-in (isNil (w .frames)) ok (12 ∷ 13 ∷ []) refl refl h
+gate-in w (OnHost ok) h = host-in (isNil (w .frames)) ok h
+gate-in w (Adding large) h = sum-in large h
+gate-in w (Raising ok) h = fault-in ok h
+gate-in w Other h = absurd (false≢true h)
+
+-- the charge's numbers are among the gate's
+wider : (k : Kind) (ms : List ℕ) (n : ℕ) → among n (atCharge k ++ ms) ≡ true → among n (atGate k ++ ms) ≡ true
+wider (Instruction pc ok arm) ms n h = go (eqb n 10) (eqb n 12) (eqb n 13) (eqb n 17) h
+  where
+    go : (a b c d : Bool) → a || (d || among n ms) ≡ true → a || (b || (c || (d || among n ms))) ≡ true
+    go true b c d h = refl
+    go false true c d h = refl
+    go false false true d h = refl
+    go false false false d h = h
+wider (OnFrame ok) ms n h = after-list n (12 ∷ 13 ∷ []) ms h
+wider (OnHost ok) ms n h = after-list n (13 ∷ 15 ∷ []) ms h
+wider (Adding large) ms n h = after-list n (16 ∷ []) ms h
+wider (Raising ok) ms n h = after-list n (11 ∷ []) ms h
+wider Other ms n h = h
+
+pub says-numbers : (w : World) (k : Kind) (ms : List ℕ) (own : Bool) (a : After Answer) → Says w (gate w k) (atCharge k ++ ms) own a → among (numberOf (a .answer)) (atGate k ++ ms) ≡ true
+says-numbers w k ms own a (refuses h) = before-list (Faults.numberOf (gate w k)) (atGate k) ms (gate-in w k h)
+says-numbers w k ms own a (goes-on e t) = wider k ms (numberOf (a .answer)) (t .number)
+
+-- ---- words
+
+fault-word : (f : Fault) → eqb (Faults.numberOf f) 17 ≡ false → Faults.wordOf f ≡ 0
+fault-word Fault.None h = refl
+fault-word Fault.NullReference h = refl
+fault-word Fault.TypeError h = refl
+fault-word Fault.InvalidCoroState h = refl
+fault-word Fault.StackOverflow h = refl
+fault-word Fault.CannotSuspend h = refl
+fault-word Fault.CloseIgnored h = refl
+fault-word Fault.ArithOverflow h = refl
+fault-word Fault.NoScheduler h = refl
+fault-word Fault.OutOfMemory h = refl
+fault-word Fault.OutOfFuel h = refl
+fault-word Fault.Unsound h = refl
+fault-word Fault.NoFrame h = refl
+fault-word Fault.BadOperand h = refl
+fault-word Fault.Full h = refl
+fault-word Fault.Busy h = refl
+fault-word Fault.GrantTooLarge h = refl
+fault-word (Fault.Throw w) h = absurd (true≢false h)
+
+step-word : (s : Step) (n : ℕ) → eqb (numberOf (Answer.Stepped s n)) 17 ≡ false → wordOf (Answer.Stepped s n) ≡ 0
+step-word Step.Next n h = refl
+step-word Step.Frame n h = refl
+step-word (Step.Fault f) n h = fault-word f h
+step-word (Step.Unwind f) n h = fault-word f h
+
+no-word : (a : Answer) → noWord a ≡ true → eqb (numberOf a) 17 ≡ false → wordOf a ≡ 0
+no-word Answer.Accepted h k = refl
+no-word (Answer.Word v) h k = absurd (false≢true h)
+no-word (Answer.Refused f) h k = fault-word f k
+no-word (Answer.Stepped s n) h k = step-word s n k
+no-word (Answer.Cleanup n) h k = refl
+no-word (Answer.Unpaid n) h k = refl
+no-word (Answer.Exit v) h k = absurd (false≢true h)
+no-word Answer.Resume h k = refl
+no-word Answer.Caught h k = refl
+no-word Answer.Stopped h k = refl
+no-word (Answer.Took o) h k = absurd (false≢true h)
+
+or-false : (a b : Bool) → a || b ≡ false → (a ≡ false) × (b ≡ false)
+or-false true b h = absurd (true≢false h)
+or-false false b h = (refl, h)
+
+-- a refused answer has no word of its own
+refused-none : (a : Answer) → eqb (numberOf a) 0 ≡ false → noWord a ≡ true
+refused-none Answer.Accepted h = refl
+refused-none (Answer.Word v) h = absurd (true≢false h)
+refused-none (Answer.Refused f) h = refl
+refused-none (Answer.Stepped s n) h = refl
+refused-none (Answer.Cleanup n) h = refl
+refused-none (Answer.Unpaid n) h = refl
+refused-none (Answer.Exit v) h = absurd (true≢false h)
+refused-none Answer.Resume h = refl
+refused-none Answer.Caught h = refl
+refused-none Answer.Stopped h = refl
+refused-none (Answer.Took o) h = absurd (true≢false h)
+
+zero-word : (a : Answer) → among (numberOf a) (0 ∷ 17 ∷ []) ≡ false → wordOf a ≡ 0
+zero-word a h =
+    let p = or-false (eqb (numberOf a) 0) _ h in
+    no-word a (refused-none a (p .0)) (or-false (eqb (numberOf a) 17) _ (p .1) .0)
+
+says-word : (w : World) (f : Fault) (ns : List ℕ) (a : After Answer) → Says w f ns false a → noWord (a .answer) ≡ true
+says-word w f ns a (refuses h) = refl
+says-word w f ns a (goes-on e t) = t .word
+
+machine-word : (w : World) (b : Bool) (x : Out) → noWord (x .answer) ≡ true → noWord (pick b x (told (refused w Fault.Unsound)) .answer) ≡ true
+unfolding pick
+machine-word w true x h = h
+machine-word w false x h = refl
+
+call-word : (w : World) (o : Op) → ownWord o ≡ false → noWord (step w (Do o) .answer) ≡ true
+unfolding step
+call-word w o h =
+    machine-word w (sound w) (call o w)
+    (says-word w (gate w (kind w o)) (atCharge (kind w o) ++ own o) (after (call o w .world) (call o w .answer)) (subst (λ b. Says w (gate w (kind w o)) (atCharge (kind w o) ++ own o) b (after (call o w .world) (call o w .answer))) h (says o w)))
+
+-- ---- the sheet
+
+set-up-eleven : (w : World) (s : Setup) → given 11 w (SetUp s) ≡ not (setupOk s)
+unfolding step
+set-up-eleven w s = set-up-by w s (setupOk s)
+
+set-up-no-word : (w : World) (s : Setup) → wordOf (step w (SetUp s) .answer) ≡ 0
+unfolding step
+set-up-no-word w s = set-up-zero w s (setupOk s)
+
+pub fault-sheet : FaultSheet
+fault-sheet =
+    record {
+      given-11-set-up = set-up-eleven;
+      given-11 = λ w o. step-eleven w o ∙ ap (λ b. not (sound w) || b) (call-gate 11 w o refl ∙ eleven w (kind w o));
+      given-12 = λ w o. exactly 12 w o _ refl refl (twelve w (kind w o));
+      given-13 = λ w o. exactly 13 w o _ refl refl (thirteen w (kind w o));
+      given-15 = λ w o. exactly 15 w o _ refl refl (fifteen w (kind w o));
+      given-16 = λ w o. exactly 16 w o _ refl refl (sixteen w (kind w o));
+      unchanged = same-world;
+      numbers = λ w o h. subst (λ x. among (numberOf (x .answer)) (atGate (kind w o) ++ own o) ≡ true) (sym (step-sound w o h)) (says-numbers w (kind w o) (own o) (ownWord o) _ (says o w));
+      refused-word = λ w c h. zero-word (step w c .answer) h;
+      accepted-word = λ w o h k. no-word (step w (Do o) .answer) (call-word w o h) (ap (λ x. eqb x 17) k);
+      set-up-word = set-up-no-word;
+    }

@@ -1,0 +1,24 @@
+-- Proofs, in the order in which they build on each other; specs/ has the statements.
+pub mod Choice
+pub mod Among
+pub mod Keep
+pub mod Arms
+pub mod Tells
+pub mod Says
+pub mod FaultSheet
+pub mod Charge
+pub mod Runs
+pub mod Floors
+pub mod Found
+pub mod Lookup
+pub mod Charges
+pub mod Unwind
+pub mod Entries
+pub mod Twos
+pub mod ChargeSheet
+pub mod Queue
+pub mod Places
+pub mod Memory
+pub mod Endings
+pub mod Premises
+pub mod Cheats

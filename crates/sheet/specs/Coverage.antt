@@ -1,0 +1,249 @@
+-- For each number of the fault sheet, short lists of calls that get it from a set-up: no refusal of the definitions is dead.
+use Prim.Native.Nat.{ℕ, _-_, _^_}
+use mathlib.Core.Path.{_≡_, refl}
+use mathlib.Core.List.{List, [], _∷_, map}
+use lib.IntN.{pos}
+use Rattle.heap.specs.Word.{nil, intWord}
+use Rattle.heap.specs.declared.fault.Fault.{Fault}
+use Rattle.heap.specs.declared.value.Opt.{Opt}
+use Rattle.model.specs.Program.{Func, Setup}
+use Rattle.model.specs.World.{World, fresh}
+use Rattle.model.specs.Answer.{numberOf, wordOf}
+use Rattle.model.specs.Call.{Call, SetUp, Do}
+use Rattle.model.specs.Step.{step, run}
+use Rattle.model.specs.Compute.{computed}
+use Rattle.model.specs.Examples.{plain, catching}
+use Rattle.model.specs.declared.machine.Cont.{Cont}
+use Rattle.model.specs.declared.machine.Outcome.{Outcome}
+use Rattle.model.specs.declared.machine.Stop.{Stop}
+use Rattle.model.specs.declared.exec.Step.{Step}
+use Rattle.heap.specs.declared.heap.ResultKind.{ResultKind}
+use Rattle.model.specs.declared.call.Op.{Op}
+use Rattle.model.specs.declared.call.Answer.{Answer}
+
+-- ---- a set-up: three functions of 1, 2 and 6 registers, and one of 2 registers that catches
+
+abbrev pub small : ℕ → ℕ → ℕ → Opt → Setup
+small rows slots memory hook =
+    record {
+      limits = record { depth = 4; stack = 10; rows = rows; slots = slots; memory = memory };
+      costs = record { frame = 32; coro = 104; object = 160; int = 56; error = 56; iter = 112 };
+      hook = hook;
+      functions = plain 1 ∷ plain 2 ∷ plain 6 ∷ catching ∷ [];
+    }
+
+abbrev pub usual : Setup
+usual = small 2 8 4096 Opt.None
+
+-- the words of the functions, and of the first object made
+abbrev pub f0 : ℕ
+f0 = 0x1_0000_0000_0000
+
+abbrev pub c : ℕ
+c = 0x1_0000_0000_0004
+
+abbrev pub d : ℕ
+d = 0x1_0000_0000_0005
+
+-- ---- calls from a set-up
+
+abbrev pub reached : Setup → List Op → World
+reached s os = run (fresh s) (SetUp s ∷ map Do os)
+
+abbrev pub answer : Setup → List Op → Op → Answer
+answer s os o = step (reached s os) (Do o) .answer
+
+abbrev pub gives : Setup → List Op → Op → ℕ
+gives s os o = numberOf (answer s os o)
+
+-- a run of the function of six registers, with n units of fuel
+abbrev pub begun : ℕ → List Op → List Op
+begun n os = Op.Grant n ∷ Op.HostCall 2 ∷ os
+
+-- .. that holds a new coroutine of function f in register 0
+abbrev pub holding : ℕ → List Op → List Op
+holding f os = begun 100 (Op.CoroNew 1 0 f 0 ∷ os)
+
+-- .. which has been resumed and runs
+abbrev pub running : ℕ → List Op → List Op
+running f os = holding f (Op.Resume 2 1 0 2 ∷ os)
+
+-- .. and has yielded
+abbrev pub yielded : ℕ → List Op → List Op
+yielded f os = running f (Op.Yield 8 0 0 ∷ os)
+
+-- .. and is closed with the word 9, which it catches
+abbrev pub ignoring : List Op → List Op
+ignoring os = yielded 3 (Op.PutWord 2 9 ∷ Op.CoroClose 3 1 0 2 ∷ Op.Unwind (Fault.Throw 9) Opt.None ∷ os)
+
+-- .. in a loop: the iterator in register 1, `has` 2, `val` 3
+abbrev pub looping : List Op → List Op
+looping os = holding 1 (Op.MakeIterator c ∷ Op.PutWord 1 d ∷ Op.IterNext 2 2 1 3 0 ∷ os)
+
+pub record Coverage : Type 0 where
+  -- 0 | accepted
+  pub resumed : gives usual (holding 1 []) (Op.Resume 2 1 0 2) ≡ 0
+  pub made : answer usual (holding 1 []) (Op.MakeIterator c) ≡ Answer.Word d
+  pub exit-none : answer usual (begun 0 []) (Op.Finish ResultKind.None 7) ≡ Answer.Exit Opt.None
+  pub exit-word : answer usual (begun 0 []) (Op.Finish ResultKind.Dyn 7) ≡ Answer.Exit (Opt.Some 7)
+  pub returned : answer usual (running 1 []) (Op.Finish ResultKind.Dyn 7) ≡ Answer.Resume
+  pub caught : answer usual (yielded 3 (Op.CoroClose 3 1 0 2 ∷ [])) (Op.Unwind (Fault.Throw 9) Opt.None) ≡ Answer.Caught
+  pub stopped : answer usual (yielded 1 (Op.CoroClose 3 1 0 2 ∷ [])) (Op.Unwind (Fault.Throw nil) Opt.None) ≡ Answer.Stopped
+  pub no-outcome : answer usual [] Op.TakeOutcome ≡ Answer.Took Outcome.None
+  pub outcome : answer usual (holding 1 (Op.StopRun ∷ Op.HostEntry c 0 ∷ Op.PutWord 0 7 ∷ Op.Yield 8 0 0 ∷ [])) Op.TakeOutcome ≡ Answer.Took (Outcome.Some (Stop.Yielded 7))
+  -- 1 | nil or a dead reference
+  pub nil-word : gives usual (begun 9 []) (Op.CoroStatus 1 0 0) ≡ 1
+  pub dead : gives usual (begun 9 (Op.PutWord 0 (c) ∷ [])) (Op.Resume 1 0 0 0) ≡ 1
+  -- 2 | wrong kind of object or word, wrong argument count, await in a loop
+  pub wrong-object : gives usual (begun 9 (Op.PutWord 0 f0 ∷ [])) (Op.CoroKey 1 0 0) ≡ 2
+  pub wrong-word : gives usual [] (Op.HandOver (intWord (pos 5))) ≡ 2
+  pub wrong-count : gives usual (begun 9 (Op.PutWord 0 f0 ∷ [])) (Op.CoroNewIndirect 1 0 0 3) ≡ 2
+  pub no-task : gives usual [] (Op.SpawnTask nil) ≡ 2
+  pub awaits-in-loop : gives usual (looping []) (Op.Await 8 0 0) ≡ 2
+  pub source-awaits : gives usual (running 1 (Op.Await 8 0 0 ∷ [])) (Op.IterNext 3 2 1 3 0) ≡ 2
+  -- 3 | coroutine state forbids it, or handed over before
+  pub no-result : gives usual (holding 1 []) (Op.CoroResult 2 1 0) ≡ 3
+  pub resumes-itself : gives usual (running 1 (Op.CoroCurrent 3 0 ∷ [])) (Op.Resume 4 1 0 1) ≡ 3
+  pub closes-itself : gives usual (running 1 (Op.CoroCurrent 3 0 ∷ [])) (Op.CoroClose 4 1 0 1) ≡ 3
+  pub handed-over : gives usual (yielded 1 (Op.HandOver c ∷ [])) (Op.HandOver c) ≡ 3
+  pub not-suspended : gives usual (holding 1 []) (Op.HandOver c) ≡ 3
+  -- 4 | depth or stack limit passed
+  pub stack-passed : gives usual (holding 2 []) (Op.Resume 2 1 0 2) ≡ 4
+  pub depth-passed : gives usual (begun 9 (Op.FunctionCall 1 0 Cont.Discard ∷ Op.FunctionCall 1 0 Cont.Discard ∷ Op.FunctionCall 1 0 Cont.Discard ∷ [])) (Op.FunctionCall 1 0 Cont.Discard) ≡ 4
+  pub hook-passed : gives (small 2 8 4096 (Opt.Some 2)) (begun 9 (Op.PutWord 0 f0 ∷ [])) (Op.Spawn 1 0 0 0) ≡ 4
+  -- 5 | suspending without an active coroutine
+  pub yields-outside : gives usual (begun 9 []) (Op.Yield 1 0 0) ≡ 5
+  pub yields-keyed-outside : gives usual (begun 9 []) (Op.YieldKv 1 0 0 0) ≡ 5
+  pub awaits-outside : gives usual (begun 9 []) (Op.Await 1 0 0) ≡ 5
+  -- 6 | yield while closing
+  pub ignores : gives usual (ignoring []) (Op.Yield 60 0 0) ≡ 6
+  pub ignores-keyed : gives usual (ignoring []) (Op.YieldKv 60 0 0 1) ≡ 6
+  -- 7 | integer out of range
+  pub u64-large : gives usual (begun 9 (Op.FunctionCall 1 0 (Cont.Dyn 0) ∷ [])) (Op.Finish ResultKind.U64 (2 ^ 63)) ≡ 7
+  pub no-next-key : gives usual (running 1 (Op.FunctionCall 5 0 (Cont.Dyn 1) ∷ Op.Finish ResultKind.I64 (2 ^ 63 - 1) ∷ Op.YieldKv 7 0 0 1 ∷ Op.Resume 3 1 0 2 ∷ [])) (Op.Yield 8 0 0) ≡ 7
+  -- 8 | Spawn without a hook
+  pub no-hook : gives usual (begun 9 (Op.PutWord 0 f0 ∷ [])) (Op.Spawn 1 0 0 0) ≡ 8
+  -- 9 | a memory charge or fit test fails: creation's two, a suspension's, an integer's, an error's, an iterator's
+  pub creation-fits : gives (small 2 8 151 Opt.None) (begun 9 []) (Op.CoroNew 1 0 1 0) ≡ 9
+  pub creation-charged : gives (small 2 8 207 Opt.None) (begun 9 []) (Op.CoroNew 1 0 1 0) ≡ 9
+  pub suspension-charged : gives (small 2 8 208 Opt.None) (running 1 (Op.FunctionCall 5 0 Cont.Discard ∷ [])) (Op.Yield 8 0 0) ≡ 9
+  pub integer-charged : gives (small 2 8 55 Opt.None) (begun 9 (Op.FunctionCall 1 0 (Cont.Dyn 0) ∷ [])) (Op.Finish ResultKind.I64 (2 ^ 47)) ≡ 9
+  pub error-charged : gives (small 2 8 55 Opt.None) (begun 9 []) (Op.Unwind Fault.TypeError Opt.None) ≡ 9
+  pub iterator-charged : gives (small 2 8 208 Opt.None) (holding 1 []) (Op.MakeIterator c) ≡ 9
+  pub passes-on-9 : gives usual [] (Op.Unwind Fault.OutOfMemory Opt.None) ≡ 9
+  -- 10 | bank and fuel both used up: an instruction's charge, Spawn's second, a handler's, unwind's own
+  pub nothing-left : answer usual (begun 0 []) (Op.CoroCurrent 1 0) ≡ Answer.Stepped (Step.Fault Fault.OutOfFuel) 0
+  pub hook-unpaid : answer (small 2 8 4096 (Opt.Some 0)) (begun 1 (Op.PutWord 0 f0 ∷ [])) (Op.Spawn 1 0 0 0) ≡ Answer.Unpaid 0
+  pub handler-unpaid : gives usual (Op.HostCall 3 ∷ []) (Op.Unwind (Fault.Throw 9) Opt.None) ≡ 10
+  pub passes-on-10 : gives usual [] (Op.Unwind Fault.OutOfFuel Opt.None) ≡ 10
+  -- 11 | set-up breaks the rules, or `unwind` gets no such fault
+  pub bad-set-up : numberOf (step (fresh usual) (SetUp (small 0 8 4096 Opt.None)) .answer) ≡ 11
+  pub bad-machine : gives (small 0 8 4096 Opt.None) [] Op.Look ≡ 11
+  pub no-such-fault : gives usual [] (Op.Unwind Fault.Full Opt.None) ≡ 11
+  -- 12 | instruction, put word or function call without a frame
+  pub no-frame : gives usual [] (Op.CoroCurrent 1 0) ≡ 12
+  pub no-frame-put : gives usual [] (Op.PutWord 0 1) ≡ 12
+  pub no-frame-call : gives usual [] (Op.FunctionCall 1 0 Cont.Discard) ≡ 12
+  -- 13 | register outside the frame, no such function, continuation not allowed
+  pub outside : gives usual (begun 9 []) (Op.CoroCurrent 1 6) ≡ 13
+  pub window-outside : gives usual (begun 9 []) (Op.CoroNew 1 0 1 6) ≡ 13
+  pub no-function : gives usual [] (Op.HostCall 4) ≡ 13
+  pub not-allowed : gives usual (begun 9 []) (Op.FunctionCall 1 0 Cont.Entry) ≡ 13
+  -- 14 | every slot taken, or every row held by an unfinished coroutine
+  pub rows-full : gives (small 1 8 4096 Opt.None) (holding 1 []) (Op.CoroNew 2 1 1 0) ≡ 14
+  pub slots-full : gives (small 2 4 4096 Opt.None) (begun 9 []) (Op.CoroNew 1 0 1 0) ≡ 14
+  pub slots-full-indirect : gives (small 2 4 4096 Opt.None) (begun 9 (Op.PutWord 0 f0 ∷ [])) (Op.CoroNewIndirect 1 0 0 0) ≡ 14
+  pub slots-full-spawn : gives (small 2 4 4096 (Opt.Some 0)) (begun 9 (Op.PutWord 0 f0 ∷ [])) (Op.Spawn 1 0 0 0) ≡ 14
+  pub slots-full-key : gives (small 2 6 4096 Opt.None) (running 1 (Op.FunctionCall 5 0 (Cont.Dyn 1) ∷ Op.Finish ResultKind.I64 (2 ^ 47) ∷ Op.YieldKv 7 0 0 1 ∷ Op.Resume 3 1 0 2 ∷ [])) (Op.Yield 8 0 0) ≡ 14
+  pub slots-full-result : gives (small 2 4 4096 Opt.None) (begun 9 (Op.FunctionCall 1 0 (Cont.Dyn 0) ∷ [])) (Op.Finish ResultKind.I64 (2 ^ 47)) ≡ 14
+  pub slots-full-return : gives (small 2 5 4096 Opt.None) (running 1 []) (Op.Finish ResultKind.I64 (2 ^ 47)) ≡ 14
+  pub slots-full-error : gives (small 2 4 4096 Opt.None) (begun 9 []) (Op.Unwind Fault.TypeError Opt.None) ≡ 14
+  pub slots-full-iterator : gives (small 2 5 4096 Opt.None) (holding 1 []) (Op.MakeIterator c) ≡ 14
+  -- 15 | host call or entry while a frame stands
+  pub busy-call : gives usual (begun 9 []) (Op.HostCall 0) ≡ 15
+  pub busy-entry : gives usual (begun 9 []) (Op.HostEntry c 0) ≡ 15
+  -- 16 | grant's sum above 2^64 - 1
+  pub too-large : gives usual (Op.Grant 1 ∷ []) (Op.Grant (2 ^ 64 - 1)) ≡ 16
+  -- 17 | a thrown or uncaught word, given with the answer
+  pub uncaught : answer usual (begun 9 []) (Op.Unwind (Fault.Throw 7) Opt.None) ≡ Answer.Refused (Fault.Throw 7)
+  pub uncaught-error : wordOf (answer usual (begun 9 []) (Op.Unwind Fault.TypeError Opt.None)) ≡ c
+  pub thrown-in : answer usual (yielded 1 (Op.PutWord 2 7 ∷ [])) (Op.ResumeThrow 3 1 0 2) ≡ Answer.Stepped (Step.Unwind (Fault.Throw 7)) 0
+  pub thrown-at-new : answer usual (holding 1 (Op.PutWord 2 7 ∷ [])) (Op.ResumeThrow 3 1 0 2) ≡ Answer.Stepped (Step.Fault (Fault.Throw 7)) 0
+  pub cleanup : answer usual (yielded 1 (Op.HandOver c ∷ [])) (Op.CoroCurrent 4 0) ≡ Answer.Cleanup 1
+
+pub coverage : Coverage
+unfolding computed
+coverage =
+    record {
+      resumed = refl;
+      made = refl;
+      exit-none = refl;
+      exit-word = refl;
+      returned = refl;
+      caught = refl;
+      stopped = refl;
+      no-outcome = refl;
+      outcome = refl;
+      nil-word = refl;
+      dead = refl;
+      wrong-object = refl;
+      wrong-word = refl;
+      wrong-count = refl;
+      no-task = refl;
+      awaits-in-loop = refl;
+      source-awaits = refl;
+      no-result = refl;
+      resumes-itself = refl;
+      closes-itself = refl;
+      handed-over = refl;
+      not-suspended = refl;
+      stack-passed = refl;
+      depth-passed = refl;
+      hook-passed = refl;
+      yields-outside = refl;
+      yields-keyed-outside = refl;
+      awaits-outside = refl;
+      ignores = refl;
+      ignores-keyed = refl;
+      u64-large = refl;
+      no-next-key = refl;
+      no-hook = refl;
+      creation-fits = refl;
+      creation-charged = refl;
+      suspension-charged = refl;
+      integer-charged = refl;
+      error-charged = refl;
+      iterator-charged = refl;
+      passes-on-9 = refl;
+      nothing-left = refl;
+      hook-unpaid = refl;
+      handler-unpaid = refl;
+      passes-on-10 = refl;
+      bad-set-up = refl;
+      bad-machine = refl;
+      no-such-fault = refl;
+      no-frame = refl;
+      no-frame-put = refl;
+      no-frame-call = refl;
+      outside = refl;
+      window-outside = refl;
+      no-function = refl;
+      not-allowed = refl;
+      rows-full = refl;
+      slots-full = refl;
+      slots-full-indirect = refl;
+      slots-full-spawn = refl;
+      slots-full-key = refl;
+      slots-full-result = refl;
+      slots-full-return = refl;
+      slots-full-error = refl;
+      slots-full-iterator = refl;
+      busy-call = refl;
+      busy-entry = refl;
+      too-large = refl;
+      uncaught = refl;
+      uncaught-error = refl;
+      thrown-in = refl;
+      thrown-at-new = refl;
+      cleanup = refl;
+    }

@@ -1,0 +1,1 @@
+// The fault sheet, as theorems on the model.
