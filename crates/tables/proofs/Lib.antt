@@ -1,0 +1,12 @@
+pub mod Codes
+pub mod Padded
+pub mod Moves
+pub mod Parts
+pub mod Decode
+pub mod Rowed
+pub mod Bases
+pub mod Doing
+pub mod Switch
+pub mod Fits
+pub mod Setups
+pub mod Sounds

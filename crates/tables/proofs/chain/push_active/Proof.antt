@@ -1,0 +1,27 @@
+-- `push_active` meets its contract: a record more. Assumes nothing.
+use Prim.Native.Nat.{_+_}
+use mathlib.Core.Path.{sym, subst}
+use mathlib.Core.List.{_∷_}
+use Rattle.model.specs.Coro.{active}
+use Rattle.tables.specs.Layout.{activeWords}
+use Rattle.tables.specs.Parts.{Chain}
+use Rattle.tables.proofs.Codes.{length-active}
+use Rattle.tables.proofs.Doing.{pushes}
+use borrow.Author.Needs.{needs}
+use Rattle.tables.proofs.chain.push_active.Statement.{statement}
+use Rattle.tables.proofs.chain.push_active.Tie as tie
+
+put-active-requires : tie.Need-put-active-requires
+put-active-requires c κs = search needs
+
+same-length : tie.Need-same-length
+same-length c = search needs
+
+returns : tie.Need-returns
+returns c =
+    let z = c .before .before .before .before .before .args in
+    let a = active (z .coro) (z .floor) (z .driver) in
+    λ cs p. subst (λ ws. Chain (a ∷ cs) ws (z .n + 1)) (sym (c .before .before .put-active .ensures)) (pushes activeWords length-active (z .chain .now) (z .n) a cs (c .before .before .before .before .before .pre) p)
+
+pub push-active-spec : {M : Type 1} → statement M
+push-active-spec = tie.close (tie.spec put-active-requires same-length returns)

@@ -1,0 +1,27 @@
+-- `push_frame` meets its contract: a record more. Assumes nothing.
+use Prim.Native.Nat.{_+_}
+use mathlib.Core.Path.{sym, subst}
+use mathlib.Core.List.{_∷_}
+use Rattle.model.specs.Frames.{frame}
+use Rattle.tables.specs.Layout.{frameWords}
+use Rattle.tables.specs.Parts.{Frames}
+use Rattle.tables.proofs.Codes.{length-frame}
+use Rattle.tables.proofs.Doing.{pushes}
+use borrow.Author.Needs.{needs}
+use Rattle.tables.proofs.frames.push_frame.Statement.{statement}
+use Rattle.tables.proofs.frames.push_frame.Tie as tie
+
+put-frame-requires : tie.Need-put-frame-requires
+put-frame-requires c κs = search needs
+
+same-length : tie.Need-same-length
+same-length c = search needs
+
+returns : tie.Need-returns
+returns c =
+    let a = c .before .before .before .before .before .args in
+    let f = frame (a .func) (a .base) (a .closure) (a .cont) in
+    λ fs p. subst (λ ws. Frames (f ∷ fs) ws (a .depth + 1)) (sym (c .before .before .put-frame .ensures)) (pushes frameWords length-frame (a .frames .now) (a .depth) f fs (c .before .before .before .before .before .pre) p)
+
+pub push-frame-spec : {M : Type 1} → statement M
+push-frame-spec = tie.close (tie.spec put-frame-requires same-length returns)

@@ -1,0 +1,44 @@
+-- `enter_frames` meets its contract: a move, and the bases raised. Assumes nothing.
+use Rattle.tables.proofs.Switch.{enter-asks, enters-frames}
+use borrow.Author.Needs.{needs}
+use Rattle.tables.proofs.rows.enter_frames.Statement.{statement}
+use Rattle.tables.proofs.rows.enter_frames.Tie as tie
+
+mul-move-words : tie.Need-mul-move-words
+mul-move-words c = search needs
+
+mul-move-words-2 : tie.Need-mul-move-words-2
+mul-move-words-2 c = search needs
+
+move-words-requires : tie.Need-move-words-requires
+move-words-requires c κs = search needs
+
+rebase-requires : tie.Need-rebase-requires
+rebase-requires c κs =
+    let a = c .before .before .before .before .before .before .before .before .before .before .args in
+    let m = c .before .before .before .before .before .move-words in
+    enter-asks (a .frames .now) (a .saved .now) (m .last .0) (a .depth) (a .at) (a .n) (a .by) (c .before .before .before .before .before .before .before .before .before .before .pre) (m .kept .0) (m .ensures .there)
+
+same-length : tie.Need-same-length
+same-length c = search needs
+
+same-length-2 : tie.Need-same-length-2
+same-length-2 c = search needs
+
+returns : tie.Need-returns
+returns c =
+    let a = c .before .before .before .before .before .before .before .before .before .before .before .before .before .args in
+    let m = c .before .before .before .before .before .before .before .before .move-words in
+    enters-frames (a .frames .now) (a .saved .now) (m .last .0) (m .last .1 .1 .0) (c .before .before .rebase .last .0) (a .depth) (a .at) (a .n) (a .by) (c .before .before .before .before .before .before .before .before .before .before .before .before .before .pre) (m .ensures) (c .before .before .rebase .ensures)
+
+pub enter-frames-spec : {M : Type 1} → statement M
+enter-frames-spec =
+    tie.close
+    (tie.spec
+    mul-move-words
+    mul-move-words-2
+    move-words-requires
+    rebase-requires
+    same-length
+    same-length-2
+    returns)

@@ -1,0 +1,57 @@
+-- `set_aside` meets its contract: the part that is lent comes back before zeros. Assumes nothing.
+use mathlib.Core.Path.{sym, ap, _∙_}
+use lib.ListN.{length, take, drop, replicate}
+use lib.Seq.{length-take-le}
+use Rattle.lists.specs.Parts.{part}
+use Rattle.tables.proofs.Padded.{length-part, span}
+use Rattle.tables.proofs.Moves.{aside}
+use borrow.Author.Needs.{needs}
+use Rattle.tables.proofs.runs.set_aside.Statement.{statement}
+use Rattle.tables.proofs.runs.set_aside.Tie as tie
+
+array-borrow-prefix-args : tie.Need-array-borrow-prefix-args
+array-borrow-prefix-args c = search needs
+
+slice-aggregate-copy-words : tie.Need-slice-aggregate-copy-words
+slice-aggregate-copy-words c = sym (length-take-le (c .before .before .args .n) (replicate 255 0) (c .before .before .pre .0))
+
+add-copy-words : tie.Need-add-copy-words
+add-copy-words c = search needs
+
+mul-copy-words : tie.Need-mul-copy-words
+mul-copy-words c = search needs
+
+sub-copy-words : tie.Need-sub-copy-words
+sub-copy-words c = search needs
+
+part-copy-words-start : tie.Need-part-copy-words-start
+part-copy-words-start c = search needs
+
+part-copy-words-end : tie.Need-part-copy-words-end
+part-copy-words-end c = search needs
+
+copy-words-requires : tie.Need-copy-words-requires
+copy-words-requires c κs =
+    let a = c .before .before .before .args in
+    length-take-le (a .n) (replicate 255 0) (c .before .before .before .pre .0)
+    ∙ sym (ap (λ n. length (take n (drop (a .at) (a .src .now)))) (span (a .at) (a .n)) ∙ length-part (a .at) (a .n) (a .src .now) (c .before .before .before .pre .1))
+
+returns : tie.Need-returns
+returns c =
+    let a = c .before .before .before .before .before .args in
+    aside 255 (a .n) _ (part (a .at) (a .n) (a .src .now)) (c .before .before .before .before .before .pre .0) (length-part (a .at) (a .n) (a .src .now) (c .before .before .before .before .before .pre .1))
+    (c .before .copy-words .ensures ∙ ap (λ n. take n (drop (a .at) (a .src .now))) (span (a .at) (a .n)))
+
+pub set-aside-spec : {M : Type 1} → statement M
+set-aside-spec =
+    tie.close
+    (tie.spec
+    array-borrow-prefix-args
+    slice-aggregate-copy-words
+    add-copy-words
+    mul-copy-words
+    sub-copy-words
+    part-copy-words-start
+    part-copy-words-end
+    copy-words-requires
+    returns)

@@ -1,0 +1,5 @@
+pub mod Layout
+pub mod Sizes
+pub mod Runs
+pub mod Parts
+pub mod Does
