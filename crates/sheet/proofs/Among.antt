@@ -25,6 +25,18 @@ pub not-true : (b : Bool) → not b ≡ true → b ≡ false
 not-true true h = absurd (false≢true h)
 not-true false h = refl
 
+pub and-true : (b : Bool) → b && true ≡ b
+and-true true = refl
+and-true false = refl
+
+pub and-false : (b : Bool) → b && false ≡ false
+and-false true = refl
+and-false false = refl
+
+pub or-none : (b : Bool) → b || false ≡ b
+or-none true = refl
+or-none false = refl
+
 -- two numbers that a list tells apart
 pub apart : (m n : ℕ) (ns : List ℕ) → among m ns ≡ false → among n ns ≡ true → eqb m n ≡ false
 apart m n ns h k = go (eqb m n) refl

@@ -1,7 +1,7 @@
 -- What each instruction can answer once its charge is taken, and that it leaves the cleanup queue.
 use Prim.Native.Nat.{ℕ}
 use mathlib.Core.Path.{_≡_, refl, _∙_}
-use mathlib.Core.Bool.{Bool, true, false}
+use mathlib.Core.Bool.{Bool, true}
 use mathlib.Core.List.{List, [], _∷_}
 use Rattle.heap.specs.Word.{nil}
 use Rattle.heap.specs.declared.fault.Fault.{Fault}
@@ -9,10 +9,10 @@ use Rattle.heap.specs.declared.value.Opt.{Opt}
 use Rattle.heap.specs.declared.object.CoroState.{CoroState}
 use Rattle.model.specs.Lists.{among}
 use Rattle.model.specs.Object.{Object, Coroutine, Absent, Is}
-use Rattle.model.specs.World.{World, After, after, andThen}
+use Rattle.model.specs.World.{World, After, andThen}
 use Rattle.model.specs.Frames.{reg, storePc}
 use Rattle.model.specs.Heap.{object, coro, notA}
-use Rattle.model.specs.Coro.{coroState, coroEnter, finishCoroutine, inState, ended}
+use Rattle.model.specs.Coro.{coroState, inState, ended}
 use Rattle.model.specs.Cleanup.{close, charge, chargeSlow}
 use Rattle.model.specs.Machine.{pushFrame}
 use Rattle.model.specs.Exec.{window, putMade, coroNew, indirectTo, indirect, coroNewIndirect, hooked, callHook, spawnMade, spawnBy, spawn, yieldOn, yieldKey, yield, yieldKvOn, yieldKv, awaitOn, await, largestIn, arrive, resume, throwEntered, throwTo, resumeThrow, closeEntered, closeIn, closeTo, coroClose, statusOf, coroStatus, coroCurrent, keyOf, coroKey, resultIn, coroResult, iterOn, iterNext}
@@ -23,7 +23,6 @@ use Rattle.model.specs.declared.machine.Driver.{Driver}
 use Rattle.model.specs.declared.coro.Made.{Made}
 use Rattle.model.specs.declared.coro.Stated.{Stated}
 use Rattle.model.specs.declared.coro.Entered.{Entered}
-use Rattle.model.specs.declared.coro.Keys.{Keys}
 use Rattle.model.specs.declared.exec.Step.{Step}
 use Rattle.sheet.proofs.Choice.{both}
 use Rattle.sheet.proofs.Keep.{Keeps, faultIn, stepIn, madeIn, statedIn, enteredIn, onward, on-queue, changed, done-queue, not-in, state-in, enter-keeps, create-keeps, key-keeps, push-keeps, yielded-keeps, yield-key, awaited-keeps}

@@ -1,22 +1,18 @@
 -- exec::charge with a pc: when it is taken, what it leaves alone, and the queue words that it takes off.
 use Prim.Native.Nat.{ℕ, suc, _+_}
-use mathlib.Core.Path.{_≡_, refl, sym, ap, subst, _∙_}
-use mathlib.Core.Bool.{Bool, true, false, not, _&&_, _||_, true≢false, false≢true}
+use mathlib.Core.Path.{_≡_, refl, ap, _∙_}
+use mathlib.Core.Bool.{Bool, true, false, not, _&&_, true≢false, false≢true}
 use mathlib.Core.List.{List, [], _∷_}
 use native.Mathlib.Omega.{arith}
 use lib.ListN.{length}
 use lib.Dec.{eqb}
 use Rattle.lists.specs.Pick.{pick}
-use Rattle.heap.specs.Table.{Slot}
 use Rattle.heap.specs.declared.value.Opt.{Opt}
-use Rattle.model.specs.Program.{Setup}
-use Rattle.model.specs.Object.{Object}
 use Rattle.model.specs.World.{World, After, after, withFinalize}
 use Rattle.model.specs.Frames.{onTop, setPc, storePc}
-use Rattle.model.specs.Heap.{coro, changeCoro}
 use Rattle.model.specs.Fuel.{unbank, unbankAt, setFinalizing}
 use Rattle.model.specs.Coro.{coroEnter}
-use Rattle.model.specs.Cleanup.{close, suspendedAs, isEntered, started, startFrom, startFinalizer, chargeDone, chargeOr, chargeAt, chargeSlow, charge}
+use Rattle.model.specs.Cleanup.{close, startFrom, startFinalizer, chargeDone, chargeAt, chargeSlow, charge}
 use Rattle.model.specs.Added.{reserve}
 use Rattle.model.specs.declared.machine.Charge.{Charge}
 use Rattle.model.specs.declared.machine.Driver.{Driver}

@@ -1,28 +1,24 @@
 -- 5, 8 and 10 of instructions.
 use Prim.Native.Nat.{ℕ}
 use mathlib.Core.Path.{_≡_, refl, sym, ap, subst, _∙_}
-use mathlib.Core.Bool.{Bool, true, false, not, _&&_, _||_, true≢false, false≢true}
+use mathlib.Core.Bool.{Bool, true, false, _&&_, _||_, false≢true}
 use mathlib.Core.List.{List, [], _∷_, _++_}
-use lib.ListN.{length}
 use lib.Dec.{eqb, leb}
-use Rattle.lists.specs.Pick.{pick}
 use Rattle.heap.specs.Fault as Faults
 use Rattle.heap.specs.Word.{nil}
 use Rattle.heap.specs.Int.{inlineOf, nextKey}
 use Rattle.heap.specs.Coding.{ofBits}
-use Rattle.heap.specs.declared.fault.Fault.{Fault}
 use Rattle.heap.specs.declared.value.Opt.{Opt}
 use Rattle.heap.specs.declared.int.Exact.{Exact}
 use Rattle.heap.specs.declared.int.Inline.{Inline}
-use Rattle.heap.specs.declared.object.CoroState.{CoroState}
 use Rattle.model.specs.Lists.{isNil, among}
 use Rattle.model.specs.Object.{Object}
-use Rattle.model.specs.World.{World, After, after, andThen}
+use Rattle.model.specs.World.{World, After}
 use Rattle.model.specs.Frames.{reg, storePc}
 use Rattle.model.specs.Heap.{coro, alloc, encodeAt, encodeInt}
 use Rattle.model.specs.Cleanup.{charge}
 use Rattle.model.specs.Machine.{pushFrame}
-use Rattle.model.specs.Exec.{indirect, hooked, callHook, spawnMade, spawnBy, spawn, autoKey, keyAt, keyExact, largestIn, yieldKey, yieldOn, yield, yieldKvOn, yieldKv, awaitOn, await}
+use Rattle.model.specs.Exec.{indirect, hooked, callHook, spawnMade, spawnBy, spawn, autoKey, keyAt, keyExact, largestIn, yieldOn, yield, yieldKvOn, yieldKv, awaitOn, await}
 use Rattle.model.specs.Gate.{instruction}
 use Rattle.model.specs.Answer.{numberOf, stepNumber}
 use Rattle.model.specs.Sound.{sound, isNone}
@@ -39,7 +35,7 @@ use Rattle.sheet.specs.Calls.{Kind, Instruction, OnFrame, OnHost, Adding
 use Rattle.sheet.specs.Charges.{passes, isDone, paid, usedUp, isMade, hookUnpaid, spawnUnpaid}
 use Rattle.sheet.proofs.Choice.{both}
 use Rattle.sheet.proofs.Among.{unlike}
-use Rattle.sheet.proofs.Keep.{Keeps, madeIn, stepIn, onward, on-queue, stuck, key-keeps, push-keeps, yielded-keeps, yield-key, awaited-keeps}
+use Rattle.sheet.proofs.Keep.{madeIn, onward, stuck, key-keeps, push-keeps, yielded-keeps, yield-key, awaited-keeps}
 use Rattle.sheet.proofs.Arms.{Fine, indirect-keeps, spawn-made}
 use Rattle.sheet.proofs.FaultSheet.{says-numbers, step-given}
 use Rattle.sheet.proofs.Says.{says}

@@ -1,25 +1,20 @@
 -- The cheating engines, each at a world where it differs from `step`.
 use Prim.Native.Nat.{ℕ, _+_}
 use mathlib.Core.Path.{_≡_, refl, sym, ap, subst, _∙_}
-use mathlib.Core.Bool.{Bool, true, false}
-use mathlib.Core.List.{List, [], _∷_}
+use mathlib.Core.Bool.{true}
+use mathlib.Core.List.{List, []}
 use native.Mathlib.Omega.{arith}
 use lib.ListN.{length}
-use Rattle.model.specs.State.{isSuspended}
-use Rattle.model.specs.Object.{Core, Rest, Coroutine, Absent, Is}
 use Rattle.model.specs.World.{World}
-use Rattle.model.specs.Frames.{reg}
-use Rattle.model.specs.Heap.{coro}
 use Rattle.model.specs.Answer.{numberOf, takenOff}
-use Rattle.model.specs.Call.{Call, Do}
+use Rattle.model.specs.Call.{Do}
 use Rattle.model.specs.Step.{Out, step}
 use Rattle.model.specs.Compute.{computed}
 use Rattle.model.specs.declared.call.Op.{Op}
-use Rattle.model.specs.declared.call.Answer.{Answer}
 use Rattle.sheet.specs.Calls.{kind, number}
 use Rattle.sheet.specs.Charges.{passes}
-use Rattle.sheet.specs.Coverage.{usual, reached, holding, yielded, c}
-use Rattle.sheet.specs.Cheats.{Engine, Meets, Gives-up, Moves-once, Invents, Does-nothing, Constant, Refuses, Cheats}
+use Rattle.sheet.specs.Coverage.{usual, reached, holding, yielded}
+use Rattle.sheet.specs.Cheats.{Engine, Meets, Gives-up, Moves-once, Cheats}
 use Rattle.sheet.proofs.Queue.{queue}
 
 -- a caller that holds a new coroutine, and one that it yielded to

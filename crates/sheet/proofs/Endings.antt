@@ -1,7 +1,7 @@
 -- What a coroutine that was resumed, thrown into or closed does next; deletion.
-use Prim.Native.Nat.{ℕ, suc, _+_}
+use Prim.Native.Nat.{ℕ, _+_}
 use mathlib.Core.Path.{_≡_, refl, sym, ap, subst, _∙_}
-use mathlib.Core.Bool.{Bool, true, false, not, _&&_, _||_, true≢false, false≢true}
+use mathlib.Core.Bool.{Bool, true, false, not, _&&_, _||_, false≢true}
 use mathlib.Core.List.{List, [], _∷_, _++_}
 use lib.ListN.{length}
 use lib.Dec.{eqb, ltb, leb}
@@ -11,23 +11,21 @@ use Rattle.heap.specs.declared.fault.Fault.{Fault}
 use Rattle.heap.specs.declared.value.Opt.{Opt}
 use Rattle.heap.specs.declared.object.CoroState.{CoroState}
 use Rattle.model.specs.Lists.{isNil}
-use Rattle.model.specs.State.{isSuspended, isResumable}
-use Rattle.model.specs.Program.{func, firstOf}
-use Rattle.model.specs.Object.{Core, Rest, Coroutine, Absent, Is, withFinalized}
-use Rattle.model.specs.World.{World, After, after, andThen, withChain, withFinalize, withOutcome}
-use Rattle.model.specs.Frames.{onTop, setPc, topFunc, topPc, reg, storePc, popTo}
+use Rattle.model.specs.State.{isSuspended}
+use Rattle.model.specs.Object.{Core, Rest, Is, withFinalized}
+use Rattle.model.specs.World.{World, After, after, andThen, withFinalize, withOutcome}
+use Rattle.model.specs.Frames.{setPc, topFunc, topPc, reg, storePc, popTo}
 use Rattle.model.specs.Heap.{coro, setCoro, changeCoro, fits, toDyn}
 use Rattle.model.specs.Fuel.{unbank, setFinalizing}
-use Rattle.model.specs.Coro.{entered, overflows, coroEnter, coroSend, saved, growth, setKeys, eventOf, suspended, suspendAs, suspendOn, coroSuspend, deliver, finishCoroutine, deliverReturn, returnedOn, coroReturned, closedBy, failTo, escapedOn, coroEscaped}
-use Rattle.model.specs.Cleanup.{suspendedAs, isEntered, close, started, startFrom, startFinalizer, chargeDone, chargeOr, chargeAt, chargeSlow, charge}
-use Rattle.model.specs.Machine.{isOk, returnMade, finishAs, finishOn, finish, stopOr, escape, searchAs, search, unwind}
-use Rattle.model.specs.Exec.{delivered, deliverAll, suspend, autoKey, largestIn, yieldKey, yieldOn, yield}
+use Rattle.model.specs.Coro.{entered, overflows, coroSend, saved, growth, suspended, suspendAs, suspendOn, coroSuspend, deliver, deliverReturn, returnedOn, coroReturned, closedBy, failTo, escapedOn, coroEscaped}
+use Rattle.model.specs.Cleanup.{suspendedAs, isEntered, close, started, startFrom, startFinalizer, chargeDone, chargeOr, chargeSlow, charge}
+use Rattle.model.specs.Machine.{finishAs, finishOn, finish, stopOr, escape, searchAs, search, unwind}
+use Rattle.model.specs.Exec.{delivered, deliverAll, largestIn, yieldKey, yieldOn, yield}
 use Rattle.model.specs.Gate.{refused, stepped, charged, instruction}
 use Rattle.model.specs.Added.{reserve, accepted, handOverAs, handOver}
 use Rattle.model.specs.Sound.{sound}
 use Rattle.model.specs.Call.{Do}
-use Rattle.model.specs.Step.{Out, told, call, step}
-use Rattle.model.specs.declared.program.Caught.{Caught}
+use Rattle.model.specs.Step.{told, call, step}
 use Rattle.model.specs.declared.machine.Active.{Active}
 use Rattle.model.specs.declared.machine.Charge.{Charge}
 use Rattle.model.specs.declared.machine.Cont.{Cont}
@@ -45,10 +43,11 @@ use Rattle.model.specs.declared.exec.Step.{Step}
 use Rattle.heap.specs.declared.heap.ResultKind.{ResultKind}
 use Rattle.model.specs.declared.call.Op.{Op}
 use Rattle.model.specs.declared.call.Answer.{Answer}
-use Rattle.sheet.specs.Calls.{Kind, Instruction, kind, own}
+use Rattle.sheet.specs.Calls.{Instruction, kind, own}
 use Rattle.sheet.specs.Charges.{passes}
 use Rattle.sheet.specs.Queue.{searches}
-use Rattle.sheet.specs.Pep342.{Pays, leaves, Yields, left, asks, Yielding, Body, over, Ending, Deletion}
+use Rattle.sheet.specs.Pep342.{leaves}
+use Rattle.sheet.specs.Pep342Ends.{Yields, left, asks, Yielding, Body, over, Ending, Deletion}
 use Rattle.sheet.proofs.Keep.{stuck}
 use Rattle.sheet.proofs.FaultSheet.{step-sound}
 use Rattle.sheet.proofs.Charge.{depth-top, unbanked, unbank-ready}
@@ -61,7 +60,7 @@ use Rattle.sheet.proofs.Entries.{opened, arm-runs, calm-by, accepts-sus
 chosen : {A : Type 0} (b : Bool) (x y : A) → b ≡ true → pick b x y ≡ x
 chosen b x y e = ap (λ t. pick t x y) e ∙ pick-true x y
 
-passed : {A : Type 0} (b : Bool) (x y : A) → b ≡ false → pick b x y ≡ y
+pub passed : {A : Type 0} (b : Bool) (x y : A) → b ≡ false → pick b x y ≡ y
 passed b x y e = ap (λ t. pick t x y) e ∙ pick-false x y
 
 -- ---- coro_suspend accepts
@@ -90,7 +89,7 @@ module _ (pc dst src : ℕ) (w u v : World) (n key largest : ℕ) (a : Active) (
       ap (λ m. leb m (a .floor)) (depth-top (setPc pc) (v .frames) ∙ ap (λ (x : List Frame). length x) (still .frames))
       ∙ (sym (ap (λ (x : List Active). stuck x (u .frames)) (y .innermost)) ∙ stands w u (y .pays .machine) (calm-by pc w u n (y .pays .charged)) a chain (y .innermost))
 
-  abbrev here : World
+  abbrev pub here : World
   here = left pc dst (reg u src) v key largest a chain r
 
   yields : yield pc dst src u ≡ andThen (deliver (a .driver) (pick (r .closing) Event.CloseIgnored (Event.Yielded (reg u src) key)) here) delivered
@@ -100,7 +99,7 @@ module _ (pc dst src : ℕ) (w u v : World) (n key largest : ℕ) (a : Active) (
       ∙ (ap (λ (x : After AutoKey). andThen x (yieldKey pc dst (reg u src))) (y .keyed)
       ∙ ap (λ (x : After Suspension). andThen x deliverAll) (suspends dst (reg u src) key largest a chain k r (storePc pc v) (still .chain ∙ y .innermost) above (y .found) (y .fits)))
 
-  yield-as : (x : After Step) → andThen (deliver (a .driver) (pick (r .closing) Event.CloseIgnored (Event.Yielded (reg u src) key)) here) delivered ≡ x → step w (Do (Op.Yield pc dst src)) ≡ told (andThen x (stepped n))
+  pub yield-as : (x : After Step) → andThen (deliver (a .driver) (pick (r .closing) Event.CloseIgnored (Event.Yielded (reg u src) key)) here) delivered ≡ x → step w (Do (Op.Yield pc dst src)) ≡ told (andThen x (stepped n))
   unfolding call
   yield-as x e =
       arm-runs (Op.Yield pc dst src) w u n pc _ (yield pc dst src) refl (y .pays .machine) (y .pays .gate) (y .pays .charged)

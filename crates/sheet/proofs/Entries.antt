@@ -1,8 +1,8 @@
 -- send, throw and close, behind their gate and charge.
 use Prim.Native.Nat.{ℕ}
 use mathlib.Core.Path.{_≡_, refl, sym, ap, subst, _∙_}
-use mathlib.Core.Bool.{Bool, true, false, not, _&&_, _||_, true≢false, false≢true}
-use mathlib.Core.List.{List, [], _∷_}
+use mathlib.Core.Bool.{Bool, true, false, not, _&&_, _||_, false≢true}
+use mathlib.Core.List.{List}
 use lib.Dec.{eqb}
 use Rattle.lists.specs.Pick.{pick, pick-true, pick-false}
 use Rattle.heap.specs.Fault.{numberOf}
@@ -13,17 +13,17 @@ use Rattle.heap.specs.declared.value.Opt.{Opt}
 use Rattle.heap.specs.declared.object.CoroState.{CoroState}
 use Rattle.model.specs.Lists.{isNil}
 use Rattle.model.specs.State.{isCreated, isSuspended, isResumable, isFinished, isRunning}
-use Rattle.model.specs.Object.{Core, Rest, Object, Coroutine, Absent, Is, isFilled, asCoro}
+use Rattle.model.specs.Object.{Core, Rest, Object, Is, isFilled, asCoro}
 use Rattle.model.specs.World.{World, After, after, andThen}
 use Rattle.model.specs.Frames.{reg, putReg, storePc}
 use Rattle.model.specs.Heap.{objectAt, coro, notA, setCoro, changeAs, changeCoro}
-use Rattle.model.specs.Coro.{stateAs, coroState, inState, entered, overflows, enterAs, coroEnter, coroSend, ended}
+use Rattle.model.specs.Coro.{stateAs, inState, entered, overflows, enterAs, coroEnter, ended}
 use Rattle.model.specs.Cleanup.{charge, close}
-use Rattle.model.specs.Exec.{put, arrive, resume, throwEntered, throwTo, resumeThrow, closeEntered, closeIn, closeTo, coroClose}
-use Rattle.model.specs.Gate.{refused, answerOf, stepped, charged, instruction}
+use Rattle.model.specs.Exec.{arrive, resume, throwEntered, throwTo, resumeThrow, closeEntered, closeIn, closeTo, coroClose}
+use Rattle.model.specs.Gate.{refused, stepped, charged, instruction}
 use Rattle.model.specs.Sound.{sound}
 use Rattle.model.specs.Call.{Do}
-use Rattle.model.specs.Step.{Out, told, call, step}
+use Rattle.model.specs.Step.{told, call, step}
 use Rattle.model.specs.declared.machine.Charge.{Charge}
 use Rattle.model.specs.declared.machine.Driver.{Driver}
 use Rattle.model.specs.declared.coro.Entered.{Entered}
@@ -31,9 +31,8 @@ use Rattle.model.specs.declared.coro.Stated.{Stated}
 use Rattle.model.specs.declared.exec.Step.{Step}
 use Rattle.model.specs.declared.call.Op.{Op}
 use Rattle.model.specs.declared.call.Answer.{Answer}
-use Rattle.sheet.specs.Calls.{Kind, Instruction, kind}
-use Rattle.sheet.specs.Charges.{passes, isDone}
-use Rattle.sheet.specs.Pep342.{Pays, leaves, Into, Enters, Send, Throw, Close}
+use Rattle.sheet.specs.Charges.{isDone}
+use Rattle.sheet.specs.Pep342.{Pays, leaves, Into, Send, Throw, Close}
 use Rattle.sheet.proofs.FaultSheet.{step-sound}
 use Rattle.sheet.proofs.Charge.{Calm, charge-calm}
 use Rattle.sheet.proofs.Lookup.{entered-then, has-frame}
@@ -153,7 +152,7 @@ throwNew c src u = after (changeCoro (reg u c) (inState CoroState.Failed) (ended
 abbrev throwOld : ℕ → ℕ → ℕ → ℕ → World → After Step
 throwOld pc dst c src u = andThen (coroEnter (reg u c) (Driver.Resume dst) (storePc pc u)) (throwEntered (reg u src))
 
-module _ (o : Op) (pc dst c src : ℕ) (w u : World) (n : ℕ) (k : Core) (r : Rest) (h : Into o pc dst c src w u n k r) where
+module _ (o : Op) (pc dst c src : ℕ) (w u : World) (n : ℕ) (k : Core) (r : Rest) (h : Into o pc c w u n k r) where
   -- a resumable one has a saved frame
   stands : isResumable (k .state) ≡ true → isNil (k .frames) ≡ false
   stands s =

@@ -21,8 +21,8 @@ use Rattle.model.specs.declared.call.Op.{Op}
 use Rattle.model.specs.declared.call.Answer.{Answer}
 use Rattle.sheet.specs.Calls.{Kind, Instruction, OnFrame, OnHost, Adding, Raising, Other, kind, needsFrame, needsHost, misplaced, badOperand, tooLarge, noSuchFault, atGate, own, ownWord, number, given}
 use Rattle.sheet.specs.FaultSheet.{unchanging, FaultSheet}
-use Rattle.sheet.proofs.Among.{apart, passes, not-true, after-list, before-list}
-use Rattle.sheet.proofs.Tells.{Tells, noWord}
+use Rattle.sheet.proofs.Among.{and-true, and-false, apart, passes, not-true, after-list, before-list}
+use Rattle.sheet.proofs.Tells.{noWord}
 use Rattle.sheet.proofs.Says.{gate, atCharge, Says, refuses, goes-on, says}
 
 -- ---- step: 11 for the machine, else the call
@@ -144,14 +144,6 @@ unfolding pick
 fault-gate n true h = h
 fault-gate n false h = refl
 
-and-true : (b : Bool) → b && true ≡ b
-and-true true = refl
-and-true false = refl
-
-and-false : (b : Bool) → b && false ≡ false
-and-false true = refl
-and-false false = refl
-
 eleven : (w : World) (k : Kind) → eqb (Faults.numberOf (gate w k)) 11 ≡ noSuchFault k
 eleven w (Instruction pc ok arm) = frame-none 11 refl refl refl (isNil (w .frames)) ok
 eleven w (OnFrame ok) = frame-none 11 refl refl refl (isNil (w .frames)) ok
@@ -202,6 +194,11 @@ module _ (w : World) (s : Setup) where
   unfolding pick
   set-up-by true = refl
   set-up-by false = refl
+
+  set-up-in : (b : Bool) → among (numberOf (told (pick b (accepted (fresh s)) (refused w Fault.Unsound)) .answer)) (0 ∷ 11 ∷ []) ≡ true
+  unfolding pick
+  set-up-in true = refl
+  set-up-in false = refl
 
   set-up-same : (b : Bool) → among (numberOf (told (pick b (accepted (fresh s)) (refused w Fault.Unsound)) .answer)) unchanging ≡ true → told (pick b (accepted (fresh s)) (refused w Fault.Unsound)) .world ≡ w
   unfolding pick
@@ -366,6 +363,10 @@ set-up-eleven : (w : World) (s : Setup) → given 11 w (SetUp s) ≡ not (setupO
 unfolding step
 set-up-eleven w s = set-up-by w s (setupOk s)
 
+set-up-either : (w : World) (s : Setup) → among (number w (SetUp s)) (0 ∷ 11 ∷ []) ≡ true
+unfolding step
+set-up-either w s = set-up-in w s (setupOk s)
+
 set-up-no-word : (w : World) (s : Setup) → wordOf (step w (SetUp s) .answer) ≡ 0
 unfolding step
 set-up-no-word w s = set-up-zero w s (setupOk s)
@@ -381,6 +382,7 @@ fault-sheet =
       given-16 = λ w o. exactly 16 w o _ refl refl (sixteen w (kind w o));
       unchanged = same-world;
       numbers = λ w o h. subst (λ x. among (numberOf (x .answer)) (atGate (kind w o) ++ own o) ≡ true) (sym (step-sound w o h)) (says-numbers w (kind w o) (own o) (ownWord o) _ (says o w));
+      set-up-numbers = set-up-either;
       refused-word = λ w c h. zero-word (step w c .answer) h;
       accepted-word = λ w o h k. no-word (step w (Do o) .answer) (call-word w o h) (ap (λ x. eqb x 17) k);
       set-up-word = set-up-no-word;

@@ -1,30 +1,19 @@
 -- On a sound machine the innermost running coroutine's body is a frame.
 use Prim.Native.Nat.{ℕ, suc, _<_, _≤_}
-use mathlib.Core.Path.{_≡_, refl, sym, subst, _∙_}
-use mathlib.Core.Bool.{Bool, true, false, _&&_, true≢false, false≢true}
+use mathlib.Core.Path.{_≡_, refl, sym, subst}
+use mathlib.Core.Bool.{Bool, true, false, false≢true}
 use mathlib.Core.List.{List, [], _∷_}
 use native.Mathlib.Omega.{arith}
 use lib.ListN.{length}
 use lib.Dec.{eqb, leb, leb→le, T}
-use Rattle.model.specs.Program.{setupOk}
 use Rattle.model.specs.World.{World}
 use Rattle.model.specs.Frames.{isCoro}
-use Rattle.model.specs.Sound.{beside, matches, sizesOk, savedSizesOk, framesOk, entryOk, floorsOk, driversOk, runningOk, savedOk, rowsOk, queuesOk, fuelOk, unusedOk, rangesOk, sound}
+use Rattle.model.specs.Sound.{beside, matches, floorsOk, sound}
 use Rattle.model.specs.declared.machine.Active.{Active}
 use Rattle.model.specs.declared.machine.Frame.{Frame}
-use Rattle.sheet.proofs.Among.{same, and-left, and-right}
+use Rattle.sheet.proofs.Rules.{floors}
+use Rattle.sheet.proofs.Among.{same, and-left}
 use Rattle.sheet.proofs.Keep.{stuck}
-
--- the first of nine tests
-first : (x a b c d e f g h : Bool) → x && a && b && c && d && e && f && g && h ≡ true → x ≡ true
-first true a b c d e f g h k = refl
-first false a b c d e f g h k = k
-
-floors : (w : World) → sound w ≡ true → floorsOk w ≡ true
-unfolding sound
-floors w h =
-    and-right (setupOk (w .setup) && sizesOk w && savedSizesOk w && framesOk w && entryOk w) (floorsOk w)
-    (first _ (driversOk w) (runningOk w) (savedOk w) (rowsOk w) (queuesOk w) (fuelOk w) (unusedOk w) (rangesOk w) h)
 
 under : (fs : List Frame) (a : Active) (chain : List Active) → matches (λ f fs a. eqb (a .floor) (length fs)) fs (a ∷ chain) ≡ true → a .floor < length fs
 under [] a chain h = absurd (false≢true h)

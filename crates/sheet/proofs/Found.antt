@@ -1,7 +1,7 @@
 -- On a sound machine the innermost running coroutine is found, also once its key is made.
-use Prim.Native.Nat.{ℕ, suc, _+_, _<_}
+use Prim.Native.Nat.{ℕ, _<_}
 use mathlib.Core.Path.{_≡_, refl, sym, ap, subst, _∙_}
-use mathlib.Core.Bool.{Bool, true, false, _&&_, true≢false, false≢true}
+use mathlib.Core.Bool.{Bool, true, false, _&&_, true≢false}
 use mathlib.Core.List.{List, [], _∷_, _++_}
 use native.Mathlib.Omega.{arith}
 use lib.ListN.{length, getD, length-append, List·getD-append}
@@ -16,29 +16,19 @@ use Rattle.heap.specs.declared.heap.Place.{Place}
 use Rattle.heap.specs.declared.int.Exact.{Exact}
 use Rattle.heap.specs.declared.int.Inline.{Inline}
 use Rattle.model.specs.Lists.{each, distinct}
-use Rattle.model.specs.Program.{setupOk}
 use Rattle.model.specs.Object.{Object, Coroutine, Absent, Is, isFilled, asCoro}
 use Rattle.model.specs.World.{World, After}
 use Rattle.model.specs.Heap.{objectAt, coro, alloc, encodeAt, encodeInt}
 use Rattle.model.specs.Exec.{autoKey, keyAt, keyExact}
-use Rattle.model.specs.Sound.{runs, coros, runsAmong, sizesOk, savedSizesOk, framesOk, entryOk, floorsOk, driversOk, runningOk, savedOk, rowsOk, queuesOk, fuelOk, unusedOk, rangesOk, sound}
+use Rattle.model.specs.Sound.{runs, coros, runsAmong, runningOk, sound}
 use Rattle.model.specs.declared.machine.Active.{Active}
 use Rattle.model.specs.declared.coro.Made.{Made}
 use Rattle.sheet.proofs.Choice.{both}
+use Rattle.sheet.proofs.Rules.{running}
 use Rattle.sheet.proofs.Among.{and-left, and-right}
 use Rattle.sheet.proofs.Keep.{isAbsent}
 
 -- ---- "of a Running coroutine of its own"
-
-first : (x a b c d e f : Bool) → x && a && b && c && d && e && f ≡ true → x ≡ true
-first true a b c d e f h = refl
-first false a b c d e f h = h
-
-running : (w : World) → sound w ≡ true → runningOk w ≡ true
-unfolding sound
-running w h =
-    and-right (setupOk (w .setup) && sizesOk w && savedSizesOk w && framesOk w && entryOk w && floorsOk w && driversOk w) (runningOk w)
-    (first _ (savedOk w) (rowsOk w) (queuesOk w) (fuelOk w) (unusedOk w) (rangesOk w) h)
 
 runs-found : (x : Coroutine) → runs x ≡ true → isAbsent x ≡ false
 runs-found Absent h = sym h

@@ -5,10 +5,9 @@ use mathlib.Core.Bool.{Bool, true, false, not, false≢true}
 use mathlib.Core.List.{List, [], _∷_}
 use lib.ListN.{length}
 use lib.Dec.{leb}
-use Rattle.lists.specs.Pick.{pick}
 use Rattle.heap.specs.Fault.{numberOf}
 use Rattle.heap.specs.Table as Table
-use Rattle.heap.specs.Word.{classOf, nil}
+use Rattle.heap.specs.Word.{classOf}
 use Rattle.heap.specs.Int.{inlineOf, nextKey}
 use Rattle.heap.specs.Coding.{ofBits}
 use Rattle.heap.specs.declared.fault.Fault.{Fault}
@@ -21,12 +20,12 @@ use Rattle.heap.specs.declared.object.CoroState.{CoroState}
 use Rattle.model.specs.Lists.{among}
 use Rattle.model.specs.State.{isAwaiting}
 use Rattle.model.specs.Object.{Core, Rest, Object, Coroutine, Absent, Is}
-use Rattle.model.specs.World.{World, After, after, andThen}
+use Rattle.model.specs.World.{World, After, andThen}
 use Rattle.model.specs.Frames.{onTop, setPc, storePc}
 use Rattle.model.specs.Heap.{object, coro, notA, place, changeAs, changeCoro, changeIterIn, setDone, setKey, alloc, encodeAt, encodeInt}
 use Rattle.model.specs.Coro.{coroCreate, coroState, stateAs, coroEnter, enterAs, setKeys, eventOf, coroSuspend, suspendOn, suspendAs, saved, deliver}
-use Rattle.model.specs.Machine.{pushFrame, isOk}
-use Rattle.model.specs.Exec.{delivered, deliverAll, suspend, autoKey, keyExact, keyAt, yieldKey}
+use Rattle.model.specs.Machine.{pushFrame}
+use Rattle.model.specs.Exec.{deliverAll, suspend, autoKey, keyExact, keyAt, yieldKey}
 use Rattle.model.specs.Answer.{stepNumber}
 use Rattle.model.specs.declared.machine.Active.{Active}
 use Rattle.model.specs.declared.machine.Cont.{Cont}

@@ -8,6 +8,7 @@ pub mod Says
 pub mod FaultSheet
 pub mod Charge
 pub mod Runs
+pub mod Rules
 pub mod Floors
 pub mod Found
 pub mod Lookup
@@ -20,5 +21,9 @@ pub mod Queue
 pub mod Places
 pub mod Memory
 pub mod Endings
+pub mod Awaits
+pub mod Mistakes
+pub mod Coverage
+pub mod Attained
 pub mod Premises
 pub mod Cheats

@@ -1,7 +1,7 @@
 -- A coroutine's word after its object is replaced; what a sound machine saves of a resumable one.
 use Prim.Native.Nat.{ℕ, zero, suc, _<_}
 use mathlib.Core.Path.{_≡_, refl, sym, ap, subst, _∙_}
-use mathlib.Core.Bool.{Bool, true, false, not, _&&_, true≢false, false≢true}
+use mathlib.Core.Bool.{Bool, true, false, _&&_, true≢false, false≢true}
 use mathlib.Core.List.{List, [], _∷_, map, _++_}
 use lib.ListN.{length, getD, set, length-set}
 use lib.Seq.{getD-set-same, set-set}
@@ -15,16 +15,17 @@ use Rattle.heap.specs.declared.heap.Place.{Place}
 use Rattle.heap.specs.declared.object.CoroState.{CoroState}
 use Rattle.model.specs.Lists.{isNil, each}
 use Rattle.model.specs.State.{isResumable}
-use Rattle.model.specs.Program.{Setup, setupOk}
-use Rattle.model.specs.Object.{Core, Rest, Object, Coroutine, Absent, Is, isFilled, asCoro}
+use Rattle.model.specs.Program.{Setup}
+use Rattle.model.specs.Object.{Core, Rest, Object, Absent, Is, isFilled, asCoro}
 use Rattle.model.specs.World.{World, withSlots, withStack, withFrames, withChain}
 use Rattle.model.specs.Frames.{raise}
 use Rattle.model.specs.Heap.{objectAt, place, coro, setCoro, changeAs, changeCoro}
 use Rattle.model.specs.Coro.{active, inState, entered}
-use Rattle.model.specs.Sound.{bodyLast, framesOver, waits, savedIn, sizesOk, savedSizesOk, framesOk, entryOk, floorsOk, driversOk, runningOk, savedOk, rowsOk, queuesOk, fuelOk, unusedOk, rangesOk, sound}
+use Rattle.model.specs.Sound.{bodyLast, framesOver, waits, savedIn, savedOk, sound}
 use Rattle.model.specs.declared.machine.Driver.{Driver}
 use Rattle.model.specs.declared.machine.Frame.{Frame}
 use Rattle.sheet.proofs.Choice.{both}
+use Rattle.sheet.proofs.Rules.{saved}
 use Rattle.sheet.proofs.Among.{and-left, and-right}
 
 -- ---- the same word finds what was put
@@ -106,16 +107,6 @@ entered-then v d k r g w h =
 
 -- ---- a resumable coroutine of a sound machine has a saved frame
 
-first : (x a b c d e : Bool) → x && a && b && c && d && e ≡ true → x ≡ true
-first true a b c d e h = refl
-first false a b c d e h = h
-
-saved-ok : (w : World) → sound w ≡ true → savedOk w ≡ true
-unfolding sound
-saved-ok w h =
-    and-right (setupOk (w .setup) && sizesOk w && savedSizesOk w && framesOk w && entryOk w && floorsOk w && driversOk w && runningOk w) (savedOk w)
-    (first _ (rowsOk w) (queuesOk w) (fuelOk w) (unusedOk w) (rangesOk w) h)
-
 each-at : (p : Slot Object → Bool) (xs : List (Slot Object)) (i : ℕ) → each p xs ≡ true → p vacant ≡ true → p (getD xs i vacant) ≡ true
 each-at p [] i h d = d
 each-at p (x ∷ xs) zero h d = and-left (p x) (each p xs) h
@@ -141,4 +132,4 @@ saved-at w (Place.At i) k r h e = subst (λ x. savedIn (w .setup) x ≡ true) e 
 
 pub has-frame : (w : World) (v : ℕ) (k : Core) (r : Rest) → sound w ≡ true → coro w v ≡ Is k r → isResumable (k .state) ≡ true → isNil (k .frames) ≡ false
 unfolding savedOk
-has-frame w v k r h e s = saved-by (w .setup) k r (saved-at w (place w v) k r (saved-ok w h) e) s
+has-frame w v k r h e s = saved-by (w .setup) k r (saved-at w (place w v) k r (saved w h) e) s

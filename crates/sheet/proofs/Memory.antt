@@ -1,7 +1,7 @@
 -- 9.
 use Prim.Native.Nat.{ℕ, _+_, _*_, _%_, _^_}
-use mathlib.Core.Path.{_≡_, refl, sym, ap, subst, _∙_}
-use mathlib.Core.Bool.{Bool, true, false, not, _&&_, _||_, true≢false, false≢true}
+use mathlib.Core.Path.{_≡_, refl, sym, ap, _∙_}
+use mathlib.Core.Bool.{Bool, true, false, not, _&&_, _||_}
 use mathlib.Core.List.{List, [], _∷_}
 use lib.ListN.{length}
 use lib.Dec.{eqb, leb}
@@ -16,8 +16,7 @@ use Rattle.heap.specs.declared.int.Exact.{Exact}
 use Rattle.heap.specs.declared.int.Inline.{Inline}
 use Rattle.heap.specs.declared.int.IntTy.{IntTy}
 use Rattle.heap.specs.declared.object.CoroState.{CoroState}
-use Rattle.model.specs.Lists.{isNil, among}
-use Rattle.model.specs.Program.{func, isFunction, between}
+use Rattle.model.specs.Program.{func, isFunction}
 use Rattle.model.specs.Object.{Core, Object, Coroutine, Absent, Is}
 use Rattle.model.specs.World.{World, After, after, andThen, withSeq}
 use Rattle.model.specs.Frames.{reg, storePc, popTo}
@@ -26,12 +25,11 @@ use Rattle.model.specs.Rows.{freeRow, rowsFull}
 use Rattle.model.specs.Coro.{newRegs, newCore, newRest, coroCreate, saved, growth, suspendAs, suspendOn, coroSuspend, deliver}
 use Rattle.model.specs.Cleanup.{charge}
 use Rattle.model.specs.Machine.{isOk, writeMade, applyCont, resumeIn, returnMade, finishAs, finishOn, finish, searchMade, errorOf, storeSome, unwind}
-use Rattle.model.specs.Exec.{window, putMade, coroNew, indirectTo, indirect, coroNewIndirect, spawnMade, spawnBy, spawn, delivered, deliverAll, suspend, autoKey, keyAt, keyExact, largestIn, yieldKey, yieldOn, yield, yieldKvOn, yieldKv, awaitOn, await}
+use Rattle.model.specs.Exec.{window, putMade, coroNew, indirectTo, indirect, coroNewIndirect, spawnMade, spawnBy, spawn, deliverAll, suspend, autoKey, keyAt, keyExact, largestIn, yieldKey, yieldOn, yield, yieldKvOn, yieldKv, awaitOn, await}
 use Rattle.model.specs.Gate.{instruction}
 use Rattle.model.specs.Added.{answerMade, iteratorOver, makeIterator}
 use Rattle.model.specs.Answer.{numberOf, stepNumber}
 use Rattle.model.specs.Sound.{sound}
-use Rattle.model.specs.Call.{Do}
 use Rattle.model.specs.Step.{Out, told, call}
 use Rattle.model.specs.declared.machine.Active.{Active}
 use Rattle.model.specs.declared.machine.Cont.{Cont}
@@ -46,12 +44,12 @@ use Rattle.model.specs.declared.exec.Step.{Step}
 use Rattle.heap.specs.declared.heap.ResultKind.{ResultKind}
 use Rattle.model.specs.declared.call.Op.{Op}
 use Rattle.model.specs.declared.call.Answer.{Answer}
-use Rattle.sheet.specs.Calls.{Kind, Instruction, kind}
+use Rattle.sheet.specs.Calls.{Instruction, kind}
 use Rattle.sheet.specs.Charges.{passes, isDone, paid}
 use Rattle.sheet.specs.Memory.{creation, creationOf, spawning, large, integer, result, finishing, finishingTop, grows, suspension, isKey, yielding, iterating, short, Memory}
 use Rattle.sheet.proofs.Choice.{both}
-use Rattle.sheet.proofs.Among.{same, unlike}
-use Rattle.sheet.proofs.Keep.{Keeps, stepIn, faultIn, not-in, deliver-keeps}
+use Rattle.sheet.proofs.Among.{and-false, or-none, same, unlike}
+use Rattle.sheet.proofs.Keep.{not-in, deliver-keeps}
 use Rattle.sheet.proofs.Arms.{spawn-made}
 use Rattle.sheet.proofs.Tells.{throw-tells}
 use Rattle.sheet.proofs.FaultSheet.{step-given}
@@ -61,14 +59,6 @@ use Rattle.sheet.proofs.Places.{made, keyed}
 
 abbrev nine : ℕ → Bool
 nine n = eqb n 9
-
-or-false : (b : Bool) → b || false ≡ b
-or-false true = refl
-or-false false = refl
-
-and-false : (b : Bool) → b && false ≡ false
-and-false true = refl
-and-false false = refl
 
 -- ---- alloc and coro_create
 
@@ -83,7 +73,7 @@ tests-then fit full w x b e = tests fit full w x ∙ ap (λ c. not fit || (not f
 
 alloc-nine : (bytes : ℕ) (o : Object) (w : World) → nine (made (alloc bytes o w .answer)) ≡ not (fits w bytes)
 unfolding alloc
-alloc-nine bytes o w = tests (fits w bytes) (slotsFull w) w _ ∙ (ap (λ b. not (fits w bytes) || b) (and-false (not (slotsFull w))) ∙ or-false (not (fits w bytes)))
+alloc-nine bytes o w = tests (fits w bytes) (slotsFull w) w _ ∙ (ap (λ b. not (fits w bytes) || b) (and-false (not (slotsFull w))) ∙ or-none (not (fits w bytes)))
 
 create-nine : (f closure : ℕ) (args : List ℕ) (w : World) → nine (made (coroCreate f closure args w .answer)) ≡ creation f w
 unfolding coroCreate
@@ -214,7 +204,7 @@ suspend-nine pc state dst payload keys w = deliver-nine _ (coroSuspend state dst
 
 keyed-nine : (pc dst payload : ℕ) (v : World) (x : AutoKey) → nine (stepNumber (yieldKey pc dst payload v x .answer)) ≡ nine (keyed x) || (isKey x && suspension (v .chain) CoroState.Yielded dst (storePc pc v))
 keyed-nine pc dst payload v (AutoKey.Key k n) = suspend-nine pc CoroState.Yielded dst payload (Keys.Set k n) v
-keyed-nine pc dst payload v (AutoKey.Refused f) = sym (or-false (nine (Faults.numberOf f)))
+keyed-nine pc dst payload v (AutoKey.Refused f) = sym (or-none (nine (Faults.numberOf f)))
 
 yield-on-nine : (chain : List Active) (pc dst src : ℕ) (w : World) → nine (stepNumber (yieldOn chain pc dst src w .answer)) ≡ yielding chain pc dst w
 yield-on-nine [] pc dst src w = refl
@@ -296,7 +286,7 @@ search-nine u (Made.Refused f) = refl
 
 raise-nine : (f : Fault) (w : World) → nine (numberOf (andThen (alloc (w .setup .costs .error) (errorOf f w) w) searchMade .answer)) ≡ not (fits w (w .setup .costs .error)) || false
 raise-nine f w =
-    search-nine _ (alloc (w .setup .costs .error) (errorOf f w) w .answer) ∙ (alloc-nine (w .setup .costs .error) (errorOf f w) w ∙ sym (or-false (not (fits w (w .setup .costs .error)))))
+    search-nine _ (alloc (w .setup .costs .error) (errorOf f w) w .answer) ∙ (alloc-nine (w .setup .costs .error) (errorOf f w) w ∙ sym (or-none (not (fits w (w .setup .costs .error)))))
 
 unwind-nine : (f : Fault) (pc : Opt) (w : World) → nine (numberOf (unwind f pc w .answer)) ≡ short w (Op.Unwind f pc)
 unfolding unwind pick

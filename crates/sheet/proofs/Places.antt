@@ -15,12 +15,11 @@ use Rattle.heap.specs.declared.value.Opt.{Opt}
 use Rattle.heap.specs.declared.int.Exact.{Exact}
 use Rattle.heap.specs.declared.int.Inline.{Inline}
 use Rattle.heap.specs.declared.int.IntTy.{IntTy}
-use Rattle.heap.specs.declared.object.CoroState.{CoroState}
-use Rattle.model.specs.Lists.{isNil, among}
+use Rattle.model.specs.Lists.{isNil}
 use Rattle.model.specs.Program.{func, isFunction}
 use Rattle.model.specs.Object.{Object, Coroutine, Absent, Is}
-use Rattle.model.specs.World.{World, After, after, andThen, withSeq}
-use Rattle.model.specs.Frames.{reg, storePc, popTo}
+use Rattle.model.specs.World.{World, After, after, andThen}
+use Rattle.model.specs.Frames.{reg, popTo}
 use Rattle.model.specs.Heap.{object, coro, notA, fits, slotsFull, refuse, alloc, encodeAt, encodeInt, encodeExact, toDyn}
 use Rattle.model.specs.Rows.{rowsFull}
 use Rattle.model.specs.Coro.{coroCreate}
@@ -48,7 +47,7 @@ use Rattle.sheet.specs.Calls.{number}
 use Rattle.sheet.specs.Places.{Site, Nowhere, At, fullAt, creation, creationOf, spawning, large, integer, nextKeyOf, result, finishing, finishingTop, raising, iterating, behindCharge, behind, site, Places}
 use Rattle.sheet.proofs.Choice.{both}
 use Rattle.sheet.proofs.Among.{same, unlike}
-use Rattle.sheet.proofs.Keep.{Keeps, stepIn, faultIn, not-in, yielded-keeps}
+use Rattle.sheet.proofs.Keep.{not-in, yielded-keeps}
 use Rattle.sheet.proofs.Arms.{spawn-made}
 use Rattle.sheet.proofs.Tells.{throw-tells}
 use Rattle.sheet.proofs.Says.{answer-number}

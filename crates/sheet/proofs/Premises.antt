@@ -1,15 +1,14 @@
 -- The premises of specs/Pep342.antt can be met: one world for each record, by computation.
 use Prim.Native.Nat.{ℕ}
-use mathlib.Core.Path.{_≡_, refl}
+use mathlib.Core.Path.{refl}
 use mathlib.Core.Bool.{Bool, true, false}
 use mathlib.Core.List.{List, [], _∷_}
 use lib.IntN.{pos}
 use Rattle.heap.specs.Word.{intWord}
 use Rattle.heap.specs.declared.value.Opt.{Opt}
 use Rattle.heap.specs.declared.object.CoroState.{CoroState}
-use Rattle.model.specs.World.{World, After, after}
+use Rattle.model.specs.World.{World}
 use Rattle.model.specs.Object.{Core, Rest}
-use Rattle.model.specs.Frames.{reg}
 use Rattle.model.specs.Heap.{coro}
 use Rattle.model.specs.Coro.{inState}
 use Rattle.model.specs.Cleanup.{charge}
@@ -21,7 +20,8 @@ use Rattle.model.specs.declared.machine.Driver.{Driver}
 use Rattle.model.specs.declared.machine.Frame.{Frame}
 use Rattle.model.specs.declared.call.Op.{Op}
 use Rattle.sheet.specs.Coverage.{usual, reached, running, yielded, ignoring, c}
-use Rattle.sheet.specs.Pep342.{Pays, Into, Enters, Yields, Body}
+use Rattle.sheet.specs.Pep342.{Into, Enters}
+use Rattle.sheet.specs.Pep342Ends.{Yields, Body}
 
 -- the coroutine of two registers, waiting at its first yield, and while it is closed with 9
 abbrev core : Core
@@ -37,7 +37,7 @@ charged pc w = charge (Opt.Some pc) w .world
 abbrev caller : World
 caller = reached usual (yielded 1 [])
 
-pub throws : Into (Op.ResumeThrow 3 1 0 2) 3 1 0 2 caller (charged 3 caller) 0 core (rest false 0)
+pub throws : Into (Op.ResumeThrow 3 1 0 2) 3 0 caller (charged 3 caller) 0 core (rest false 0)
 unfolding computed
 throws = record { pays = record { machine = refl; gate = refl; charged = refl }; found = refl }
 

@@ -2,14 +2,14 @@
 use Prim.Native.Nat.{ℕ, _+_}
 use mathlib.Core.Path.{_≡_, refl, sym, ap, subst, _∙_}
 use mathlib.Core.Bool.{Bool, true, false, not, _&&_}
-use mathlib.Core.List.{List, [], _∷_}
+use mathlib.Core.List.{List}
 use native.Mathlib.Omega.{arith}
 use lib.ListN.{length}
 use Rattle.lists.specs.Pick.{pick}
 use Rattle.heap.specs.declared.fault.Fault.{Fault}
 use Rattle.heap.specs.declared.value.Opt.{Opt}
 use Rattle.model.specs.Lists.{isNil}
-use Rattle.model.specs.World.{World, After, after, andThen}
+use Rattle.model.specs.World.{World, After}
 use Rattle.model.specs.Frames.{storePc}
 use Rattle.model.specs.Fuel.{unbank}
 use Rattle.model.specs.Cleanup.{charge}
@@ -22,7 +22,7 @@ use Rattle.model.specs.declared.machine.Charge.{Charge}
 use Rattle.model.specs.declared.exec.Step.{Step}
 use Rattle.model.specs.declared.call.Op.{Op}
 use Rattle.model.specs.declared.call.Answer.{Answer}
-use Rattle.sheet.specs.Calls.{Kind, Instruction, kind, own}
+use Rattle.sheet.specs.Calls.{Instruction, kind, own}
 use Rattle.sheet.specs.Charges.{passes}
 use Rattle.sheet.specs.Queue.{steps, searches, Queue}
 use Rattle.sheet.proofs.Choice.{both}

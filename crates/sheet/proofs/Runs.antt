@@ -1,14 +1,14 @@
 -- An instruction is its gate, its charge and its arm.
 use Prim.Native.Nat.{ℕ}
-use mathlib.Core.Path.{_≡_, refl, sym, ap, subst, _∙_}
-use mathlib.Core.Bool.{Bool, true, false, not, _&&_, _||_, false≢true}
-use mathlib.Core.List.{List, [], _∷_, _++_}
+use mathlib.Core.Path.{_≡_, refl, ap, _∙_}
+use mathlib.Core.Bool.{Bool, true, false, not, _&&_, _||_}
+use mathlib.Core.List.{List}
 use lib.Dec.{eqb}
 use Rattle.lists.specs.Pick.{pick}
 use Rattle.heap.specs.declared.fault.Fault.{Fault}
 use Rattle.heap.specs.declared.value.Opt.{Opt}
-use Rattle.model.specs.Lists.{isNil, among}
-use Rattle.model.specs.World.{World, After, after, andThen}
+use Rattle.model.specs.Lists.{isNil}
+use Rattle.model.specs.World.{World, After}
 use Rattle.model.specs.Cleanup.{charge}
 use Rattle.model.specs.Gate.{refused, charged, instruction}
 use Rattle.model.specs.Answer.{numberOf, stepNumber}

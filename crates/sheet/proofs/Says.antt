@@ -1,28 +1,26 @@
 -- Every call: refused at its gate with nothing changed, or an answer of its own.
 use Prim.Native.Nat.{ℕ}
-use mathlib.Core.Path.{_≡_, refl, sym, ap, subst, _∙_}
-use mathlib.Core.Bool.{Bool, true, false, not, _&&_, _||_, false≢true}
+use mathlib.Core.Path.{_≡_, refl, sym, subst}
+use mathlib.Core.Bool.{Bool, true, false, not, _&&_, _||_}
 use mathlib.Core.List.{List, [], _∷_, _++_}
-use lib.Dec.{eqb, leb}
+use lib.Dec.{eqb}
 use Rattle.lists.specs.Pick.{pick}
 use Rattle.heap.specs.Fault as Faults
 use Rattle.heap.specs.Word.{nil}
 use Rattle.heap.specs.declared.fault.Fault.{Fault}
 use Rattle.heap.specs.declared.value.Opt.{Opt}
-use Rattle.model.specs.Lists.{isNil, among, each}
-use Rattle.model.specs.Program.{isFunction, between}
-use Rattle.model.specs.World.{World, After, after, andThen, withFuel}
+use Rattle.model.specs.Lists.{isNil, among}
+use Rattle.model.specs.Program.{isFunction}
+use Rattle.model.specs.World.{World, After, after}
 use Rattle.model.specs.Frames.{storePc, putReg}
-use Rattle.model.specs.Coro.{coroEnter}
 use Rattle.model.specs.Cleanup.{charge}
-use Rattle.model.specs.Machine.{pushFrame, unwindFault, storeSome, unwind}
-use Rattle.model.specs.Gate.{refused, inFrame, answerOf, stepped, charged, instruction}
-use Rattle.model.specs.Added.{accepted, pushedOr, hostCall, hostArrive, hostEntry, contAllowed, functionCall, putWord, reserve, refuel, grant}
+use Rattle.model.specs.Machine.{storeSome, unwind}
+use Rattle.model.specs.Gate.{refused, inFrame, answerOf, charged, instruction}
+use Rattle.model.specs.Added.{accepted, hostCall, hostEntry, contAllowed, functionCall, putWord, grant}
 use Rattle.model.specs.Answer.{numberOf, stepNumber, takenOff}
 use Rattle.model.specs.Step.{call}
 use Rattle.model.specs.declared.machine.Charge.{Charge}
 use Rattle.model.specs.declared.machine.Cont.{Cont}
-use Rattle.model.specs.declared.machine.Driver.{Driver}
 use Rattle.model.specs.declared.exec.Step.{Step}
 use Rattle.model.specs.declared.call.Op.{Op}
 use Rattle.model.specs.declared.call.Answer.{Answer}

@@ -1,12 +1,11 @@
 -- What the calls that are no instructions can answer.
 use Prim.Native.Nat.{ℕ}
-use mathlib.Core.Path.{_≡_, refl, sym, ap, subst, _∙_}
+use mathlib.Core.Path.{_≡_, refl}
 use mathlib.Core.Bool.{Bool, true, false, _||_, false≢true}
 use mathlib.Core.List.{List, [], _∷_}
-use lib.Dec.{eqb, leb}
-use Rattle.lists.specs.Pick.{pick, pick-true, pick-false}
+use lib.Dec.{eqb}
+use Rattle.lists.specs.Pick.{pick}
 use Rattle.heap.specs.Fault as Faults
-use Rattle.heap.specs.Word.{nil}
 use Rattle.heap.specs.Int.{exactly, valueOf}
 use Rattle.heap.specs.declared.fault.Fault.{Fault}
 use Rattle.heap.specs.declared.value.Opt.{Opt}
@@ -15,14 +14,13 @@ use Rattle.heap.specs.declared.int.IntTy.{IntTy}
 use Rattle.model.specs.Lists.{among}
 use Rattle.model.specs.Program.{func, firstOf, between}
 use Rattle.model.specs.Object.{Object, Coroutine, Absent, Is}
-use Rattle.model.specs.World.{World, After, after, andThen}
-use Rattle.model.specs.Frames.{storePc, popTo, topFunc, topPc}
-use Rattle.model.specs.Heap.{coro, notA, alloc, toDyn, encodeExact}
+use Rattle.model.specs.World.{World, After, andThen}
+use Rattle.model.specs.Frames.{popTo, topFunc, topPc}
+use Rattle.model.specs.Heap.{coro, alloc, toDyn, encodeExact}
 use Rattle.model.specs.Coro.{coroEnter, coroEscaped}
 use Rattle.model.specs.Cleanup.{spawnTask, spawnAs, charge}
-use Rattle.model.specs.Machine.{pushFrame, applyCont, writeMade, resumeIn, returnMade, finishAs, finishOn, finish, caught, stopOr, escape, searchAs, search, searchFrames, searchMade, errorOf, unwindFault, storeSome, unwind}
-use Rattle.model.specs.Gate.{refused}
-use Rattle.model.specs.Added.{accepted, answerMade, pushedOr, hostArrive, iteratorOver, makeIterator, takeOutcome, handOverAs, handOver, stopRun}
+use Rattle.model.specs.Machine.{pushFrame, applyCont, writeMade, resumeIn, returnMade, finishAs, finishOn, finish, caught, escape, searchAs, search, searchFrames, searchMade, errorOf, unwindFault}
+use Rattle.model.specs.Added.{answerMade, pushedOr, hostArrive, iteratorOver, makeIterator, takeOutcome, handOverAs, handOver, stopRun}
 use Rattle.model.specs.Answer.{numberOf}
 use Rattle.model.specs.declared.program.Caught.{Caught}
 use Rattle.model.specs.declared.program.Handler.{Handler}
@@ -35,7 +33,7 @@ use Rattle.model.specs.declared.coro.Entered.{Entered}
 use Rattle.heap.specs.declared.heap.ResultKind.{ResultKind}
 use Rattle.model.specs.declared.call.Answer.{Answer}
 use Rattle.sheet.proofs.Choice.{both}
-use Rattle.sheet.proofs.Keep.{Keeps, faultIn, madeIn, enteredIn, not-in, enter-keeps, alloc-keeps, encode-keeps, push-keeps}
+use Rattle.sheet.proofs.Keep.{faultIn, madeIn, enteredIn, not-in, enter-keeps, alloc-keeps, encode-keeps, push-keeps}
 
 -- an answer with no word of its own
 abbrev pub noWord : Answer → Bool

@@ -4,13 +4,12 @@ use mathlib.Core.Path.{_≡_, refl, sym, ap, _∙_}
 use mathlib.Core.Bool.{Bool, true, false, _&&_, false≢true}
 use mathlib.Core.List.{List, [], _∷_}
 use lib.Dec.{eqb}
-use Rattle.heap.specs.declared.value.Opt.{Opt}
 use Rattle.model.specs.Lists.{among}
-use Rattle.model.specs.World.{World, After}
+use Rattle.model.specs.World.{World}
 use Rattle.model.specs.Frames.{reg}
 use Rattle.model.specs.Heap.{coro}
 use Rattle.model.specs.Exec.{autoKey, largestIn, yieldOn, yield, yieldKvOn, yieldKv}
-use Rattle.model.specs.Answer.{stepNumber, numberOf}
+use Rattle.model.specs.Answer.{stepNumber}
 use Rattle.model.specs.Sound.{sound}
 use Rattle.model.specs.Call.{Do}
 use Rattle.model.specs.Step.{call}

@@ -1,7 +1,7 @@
 -- unwind's 10: it is given one, or comes to a handler that nothing is left to pay for.
 use Prim.Native.Nat.{ℕ}
-use mathlib.Core.Path.{_≡_, refl, sym, ap, subst, _∙_}
-use mathlib.Core.Bool.{Bool, true, false, not, _&&_, _||_, true≢false, false≢true}
+use mathlib.Core.Path.{_≡_, refl, ap, _∙_}
+use mathlib.Core.Bool.{Bool, true, false, not, _&&_, true≢false}
 use mathlib.Core.List.{List, [], _∷_}
 use lib.Dec.{eqb}
 use Rattle.lists.specs.Pick.{pick}
@@ -13,10 +13,10 @@ use Rattle.model.specs.Program.{func, firstOf}
 use Rattle.model.specs.Object.{Core, Rest, Object, Coroutine, Absent, Is}
 use Rattle.model.specs.World.{World, After, after, andThen, withChain}
 use Rattle.model.specs.Frames.{topFunc, topPc, popTo}
-use Rattle.model.specs.Heap.{coro, changeAs, changeCoro, alloc}
-use Rattle.model.specs.Coro.{inState, ended, finishCoroutine, closedBy, failTo, escapedOn, coroEscaped}
+use Rattle.model.specs.Heap.{coro, changeAs, alloc}
+use Rattle.model.specs.Coro.{inState, ended, finishCoroutine, failTo, escapedOn, coroEscaped}
 use Rattle.model.specs.Cleanup.{charge}
-use Rattle.model.specs.Machine.{caught, stopOr, escape, searchAs, search, searchFrames, searchMade, errorOf, unwindFault, storeSome, unwind}
+use Rattle.model.specs.Machine.{caught, escape, searchAs, search, searchFrames, searchMade, errorOf, storeSome, unwind}
 use Rattle.model.specs.Added.{reserve}
 use Rattle.model.specs.Answer.{numberOf}
 use Rattle.model.specs.Sound.{sound}
@@ -35,8 +35,8 @@ use Rattle.model.specs.declared.coro.Made.{Made}
 use Rattle.model.specs.declared.call.Op.{Op}
 use Rattle.model.specs.declared.call.Answer.{Answer}
 use Rattle.sheet.specs.Calls.{given}
-use Rattle.sheet.specs.Charges.{usedUp, leaves, landsBy, landsFrom, lands, landsMade, caughtAt, unwindUnpaid}
-use Rattle.sheet.proofs.Choice.{both, by-test}
+use Rattle.sheet.specs.Charges.{usedUp, leaves, landsBy, landsFrom, lands, landsMade, unwindUnpaid}
+use Rattle.sheet.proofs.Choice.{both}
 use Rattle.sheet.proofs.Among.{unlike}
 use Rattle.sheet.proofs.Keep.{madeIn, alloc-keeps}
 use Rattle.sheet.proofs.FaultSheet.{step-given}

@@ -1,13 +1,12 @@
 -- Every number that `own` lists for a call is given by one: for each call, runs from a set-up whose numbers are its row of the
 -- table, by computation. (The 2 of Yield and YieldKv is left out: `Charges.never-2`.)
 use Prim.Native.Nat.{ℕ, _-_, _^_}
-use mathlib.Core.Path.{_≡_, refl}
+use mathlib.Core.Path.{_≡_}
 use mathlib.Core.List.{List, [], _∷_}
 use Rattle.heap.specs.Word.{nil}
 use Rattle.heap.specs.declared.fault.Fault.{Fault}
 use Rattle.heap.specs.declared.value.Opt.{Opt}
 use Rattle.model.specs.Program.{Setup}
-use Rattle.model.specs.Compute.{computed}
 use Rattle.model.specs.Examples.{plain}
 use Rattle.model.specs.declared.machine.Cont.{Cont}
 use Rattle.heap.specs.declared.heap.ResultKind.{ResultKind}
@@ -131,36 +130,3 @@ pub record Attained : Type 0 where
   pub grant : gives usual [] (Op.Grant 1) ∷ [] ≡ own (Op.Grant 1)
   pub stop-run : gives usual (running 1 []) Op.StopRun ∷ [] ≡ own Op.StopRun
   pub look : gives usual [] Op.Look ∷ [] ≡ own Op.Look
-
-pub attained : Attained
-unfolding computed
-attained =
-    record {
-      coro-new = refl;
-      coro-new-indirect = refl;
-      spawn = refl;
-      yield = refl;
-      yield-kv = refl;
-      await = refl;
-      resume = refl;
-      resume-throw = refl;
-      coro-close = refl;
-      coro-status = refl;
-      coro-current = refl;
-      coro-key = refl;
-      coro-result = refl;
-      iter-next = refl;
-      finish = refl;
-      unwind = refl;
-      spawn-task = refl;
-      host-call = refl;
-      host-entry = refl;
-      function-call = refl;
-      put-word = refl;
-      make-iterator = refl;
-      take-outcome = refl;
-      hand-over = refl;
-      grant = refl;
-      stop-run = refl;
-      look = refl;
-    }

@@ -4,18 +4,15 @@ use mathlib.Core.Bool.{Bool, true, false, not, _&&_, _||_}
 use mathlib.Core.List.{List, [], _∷_}
 use lib.Dec.{eqb, leb}
 use Rattle.heap.specs.Fault as Faults
-use Rattle.heap.specs.declared.value.Opt.{Opt}
 use Rattle.model.specs.Lists.{isNil}
 use Rattle.model.specs.Program.{isFunction, between}
 use Rattle.model.specs.World.{World, After}
-use Rattle.model.specs.Cleanup.{charge}
 use Rattle.model.specs.Exec.{coroNew, coroNewIndirect, spawn, yield, yieldKv, await, resume, resumeThrow, coroClose, coroStatus, coroCurrent, coroKey, coroResult, iterNext}
 use Rattle.model.specs.Gate.{inFrame, windowIn}
 use Rattle.model.specs.Added.{contAllowed, reserve}
 use Rattle.model.specs.Answer.{numberOf}
 use Rattle.model.specs.Call.{Call}
 use Rattle.model.specs.Step.{step}
-use Rattle.model.specs.declared.machine.Charge.{Charge}
 use Rattle.model.specs.declared.exec.Step.{Step}
 use Rattle.model.specs.declared.call.Op.{Op}
 

@@ -1,7 +1,7 @@
 -- 01: "Which engine would sneak past?" Each engine that it names, and that none of them is `step`.
 use Prim.Native.Nat.{ℕ, _+_}
 use mathlib.Core.Path.{_≡_}
-use mathlib.Core.Bool.{Bool, true, false}
+use mathlib.Core.Bool.{Bool, true}
 use lib.ListN.{length}
 use Rattle.model.specs.State.{isSuspended}
 use Rattle.model.specs.Object.{Core, Rest, Is}
@@ -14,7 +14,7 @@ use Rattle.model.specs.Step.{Out, step}
 use Rattle.model.specs.declared.exec.Step.{Step}
 use Rattle.model.specs.declared.call.Op.{Op}
 use Rattle.model.specs.declared.call.Answer.{Answer}
-use Rattle.sheet.specs.Calls.{Kind, Instruction, kind}
+use Rattle.sheet.specs.Calls.{Instruction, kind}
 use Rattle.sheet.specs.Charges.{passes}
 
 abbrev pub Engine : Type 0

@@ -1,17 +1,16 @@
 -- For each number of the fault sheet, short lists of calls that get it from a set-up: no refusal of the definitions is dead.
 use Prim.Native.Nat.{ℕ, _-_, _^_}
-use mathlib.Core.Path.{_≡_, refl}
+use mathlib.Core.Path.{_≡_}
 use mathlib.Core.List.{List, [], _∷_, map}
 use lib.IntN.{pos}
 use Rattle.heap.specs.Word.{nil, intWord}
 use Rattle.heap.specs.declared.fault.Fault.{Fault}
 use Rattle.heap.specs.declared.value.Opt.{Opt}
-use Rattle.model.specs.Program.{Func, Setup}
+use Rattle.model.specs.Program.{Setup}
 use Rattle.model.specs.World.{World, fresh}
 use Rattle.model.specs.Answer.{numberOf, wordOf}
-use Rattle.model.specs.Call.{Call, SetUp, Do}
+use Rattle.model.specs.Call.{SetUp, Do}
 use Rattle.model.specs.Step.{step, run}
-use Rattle.model.specs.Compute.{computed}
 use Rattle.model.specs.Examples.{plain, catching}
 use Rattle.model.specs.declared.machine.Cont.{Cont}
 use Rattle.model.specs.declared.machine.Outcome.{Outcome}
@@ -170,80 +169,3 @@ pub record Coverage : Type 0 where
   pub thrown-in : answer usual (yielded 1 (Op.PutWord 2 7 ∷ [])) (Op.ResumeThrow 3 1 0 2) ≡ Answer.Stepped (Step.Unwind (Fault.Throw 7)) 0
   pub thrown-at-new : answer usual (holding 1 (Op.PutWord 2 7 ∷ [])) (Op.ResumeThrow 3 1 0 2) ≡ Answer.Stepped (Step.Fault (Fault.Throw 7)) 0
   pub cleanup : answer usual (yielded 1 (Op.HandOver c ∷ [])) (Op.CoroCurrent 4 0) ≡ Answer.Cleanup 1
-
-pub coverage : Coverage
-unfolding computed
-coverage =
-    record {
-      resumed = refl;
-      made = refl;
-      exit-none = refl;
-      exit-word = refl;
-      returned = refl;
-      caught = refl;
-      stopped = refl;
-      no-outcome = refl;
-      outcome = refl;
-      nil-word = refl;
-      dead = refl;
-      wrong-object = refl;
-      wrong-word = refl;
-      wrong-count = refl;
-      no-task = refl;
-      awaits-in-loop = refl;
-      source-awaits = refl;
-      no-result = refl;
-      resumes-itself = refl;
-      closes-itself = refl;
-      handed-over = refl;
-      not-suspended = refl;
-      stack-passed = refl;
-      depth-passed = refl;
-      hook-passed = refl;
-      yields-outside = refl;
-      yields-keyed-outside = refl;
-      awaits-outside = refl;
-      ignores = refl;
-      ignores-keyed = refl;
-      u64-large = refl;
-      no-next-key = refl;
-      no-hook = refl;
-      creation-fits = refl;
-      creation-charged = refl;
-      suspension-charged = refl;
-      integer-charged = refl;
-      error-charged = refl;
-      iterator-charged = refl;
-      passes-on-9 = refl;
-      nothing-left = refl;
-      hook-unpaid = refl;
-      handler-unpaid = refl;
-      passes-on-10 = refl;
-      bad-set-up = refl;
-      bad-machine = refl;
-      no-such-fault = refl;
-      no-frame = refl;
-      no-frame-put = refl;
-      no-frame-call = refl;
-      outside = refl;
-      window-outside = refl;
-      no-function = refl;
-      not-allowed = refl;
-      rows-full = refl;
-      slots-full = refl;
-      slots-full-indirect = refl;
-      slots-full-spawn = refl;
-      slots-full-key = refl;
-      slots-full-result = refl;
-      slots-full-return = refl;
-      slots-full-error = refl;
-      slots-full-iterator = refl;
-      busy-call = refl;
-      busy-entry = refl;
-      too-large = refl;
-      uncaught = refl;
-      uncaught-error = refl;
-      thrown-in = refl;
-      thrown-at-new = refl;
-      cleanup = refl;
-    }

@@ -1,7 +1,7 @@
 -- 01: "Fault sheet", for the numbers of the gate: each "given exactly if" is one equation of tests.
 use Prim.Native.Nat.{ℕ}
 use mathlib.Core.Path.{_≡_}
-use mathlib.Core.Bool.{Bool, true, false, not, _&&_, _||_}
+use mathlib.Core.Bool.{true, false, not, _&&_, _||_}
 use mathlib.Core.List.{List, [], _∷_, _++_}
 use Rattle.model.specs.Lists.{isNil, among}
 use Rattle.model.specs.Program.{Setup, setupOk}
@@ -33,6 +33,7 @@ pub record FaultSheet : Type 0 where
   pub unchanged : (w : World) (c : Call) → among (number w c) unchanging ≡ true → step w c .world ≡ w
   -- a call answers a number of its gate, or of its own tests
   pub numbers : (w : World) (o : Op) → sound w ≡ true → among (number w (Do o)) (atGate (kind w o) ++ own o) ≡ true
+  pub set-up-numbers : (w : World) (s : Setup) → among (number w (SetUp s)) (0 ∷ 11 ∷ []) ≡ true
   -- "A refused answer's word is 0, except for 17."
   pub refused-word : (w : World) (c : Call) → among (number w c) (0 ∷ 17 ∷ []) ≡ false → wordOf (step w c .answer) ≡ 0
   -- "an accepted call with no word of its own answers 0"

@@ -6,6 +6,8 @@ pub mod Queue
 pub mod Places
 pub mod Memory
 pub mod Pep342
+pub mod Pep342Ends
+pub mod Mistakes
 pub mod Coverage
 pub mod Attained
 pub mod Cheats

@@ -8,13 +8,11 @@ use lib.Dec.{eqb, leb}
 use Rattle.heap.specs.Fault as Faults
 use Rattle.heap.specs.Coding.{ofBits}
 use Rattle.heap.specs.Int.{inlineOf, exactly, valueOf, nextKey}
-use Rattle.heap.specs.declared.fault.Fault.{Fault}
 use Rattle.heap.specs.declared.value.Opt.{Opt}
 use Rattle.heap.specs.declared.int.Exact.{Exact}
 use Rattle.heap.specs.declared.int.Inline.{Inline}
 use Rattle.heap.specs.declared.int.IntTy.{IntTy}
 use Rattle.heap.specs.declared.object.CoroState.{CoroState}
-use Rattle.model.specs.Lists.{isNil}
 use Rattle.model.specs.Program.{func, isFunction, between}
 use Rattle.model.specs.Object.{Core, Object, Coroutine, Absent, Is}
 use Rattle.model.specs.World.{World}

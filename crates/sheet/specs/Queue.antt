@@ -2,12 +2,11 @@
 -- number of steps that the search for a cleanup takes.
 use Prim.Native.Nat.{ℕ, suc, _+_}
 use mathlib.Core.Path.{_≡_}
-use mathlib.Core.Bool.{Bool, true, false, not, _&&_}
+use mathlib.Core.Bool.{Bool, not, _&&_}
 use mathlib.Core.List.{List, [], _∷_}
 use lib.ListN.{length}
 use lib.Dec.{eqb}
 use Rattle.lists.specs.Pick.{pick}
-use Rattle.heap.specs.declared.value.Opt.{Opt}
 use Rattle.model.specs.World.{World, After, withFinalize}
 use Rattle.model.specs.Frames.{storePc}
 use Rattle.model.specs.Heap.{coro}
@@ -22,7 +21,7 @@ use Rattle.model.specs.Step.{step}
 use Rattle.model.specs.declared.machine.Driver.{Driver}
 use Rattle.model.specs.declared.exec.Step.{Step}
 use Rattle.model.specs.declared.call.Op.{Op}
-use Rattle.sheet.specs.Calls.{Kind, Instruction, kind}
+use Rattle.sheet.specs.Calls.{Instruction, kind}
 use Rattle.sheet.specs.Charges.{passes}
 
 -- c can be closed now: it is suspended and fits on the stack

@@ -1,0 +1,37 @@
+-- By computation.
+use mathlib.Core.Path.{refl}
+use Rattle.model.specs.Compute.{computed}
+use Rattle.sheet.specs.Attained.{Attained}
+
+pub attained : Attained
+unfolding computed
+attained =
+    record {
+      coro-new = refl;
+      coro-new-indirect = refl;
+      spawn = refl;
+      yield = refl;
+      yield-kv = refl;
+      await = refl;
+      resume = refl;
+      resume-throw = refl;
+      coro-close = refl;
+      coro-status = refl;
+      coro-current = refl;
+      coro-key = refl;
+      coro-result = refl;
+      iter-next = refl;
+      finish = refl;
+      unwind = refl;
+      spawn-task = refl;
+      host-call = refl;
+      host-entry = refl;
+      function-call = refl;
+      put-word = refl;
+      make-iterator = refl;
+      take-outcome = refl;
+      hand-over = refl;
+      grant = refl;
+      stop-run = refl;
+      look = refl;
+    }
