@@ -1,0 +1,3 @@
+pub mod Enter
+pub mod Send
+pub mod Resume

@@ -1,0 +1,4 @@
+// coro.rs: impl Machine, on the lent words.
+pub mod enter;
+pub mod resume;
+pub mod send;

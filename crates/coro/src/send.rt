@@ -1,0 +1,12 @@
+// coro.rs: coro_send.
+ghost use Rattle.coro.specs.Send.{SendFits, Sends};
+use memory::machine::Machine;
+
+// A word into a register of the top frame, whose pc then steps.
+pub fn coro_send(stack: &mut [u64], frames: &mut [u64], m: Machine, dst: u64, v: u64)
+    requires { ⌜ SendFits (now stack) (now frames) (m .height) (m .depth) dst ⌝ }
+    ensures { λ _. ⌜ Sends (now (stack .entry)) (now (frames .entry)) (now (stack .exit)) (now (frames .exit)) (m .height) (m .depth) dst v ⌝ }
+{
+    tables::stack::put_reg(stack, frames, m.height, m.depth, dst as usize, v);
+    tables::frames::step_pc(frames, m.depth);
+}

@@ -1,0 +1,121 @@
+-- When lent words and numbers stand for a world, and what a call on them does.
+use mathlib.Core.Path.{_≡_}
+use mathlib.Core.Bool.{true}
+use mathlib.Core.List.{List, [], _∷_}
+use Prim.Native.Nat.{ℕ, zero, suc, _+_, _*_, _≤_}
+use lib.ListN.{length}
+use Rattle.lists.specs.Chunks.{words}
+use Rattle.lists.specs.Parts.{pad}
+use Rattle.heap.specs.Table.{Slot}
+use Rattle.heap.specs.Slot.{slotWords}
+use Rattle.heap.specs.declared.object.Object as H
+use Rattle.model.specs.Program.{Setup}
+use Rattle.model.specs.Object.{Object}
+use Rattle.model.specs.World.{World, After}
+use Rattle.model.specs.Sound.{rowWords, sound}
+use Rattle.model.specs.declared.machine.Frame.{Frame}
+use Rattle.model.specs.declared.machine.Fuel.{Fuel}
+use Rattle.tables.specs.Parts.{Stack, Frames, Chain, Queue, SavedStack, SavedFrames}
+use Rattle.tables.specs.Sizes.{setupWords, stackSize, framesSize, chainSize, savedStackSize, savedFramesSize, slotsSize, queueSize, setupSize}
+use Rattle.memory.specs.Slots.{toSlots}
+use Rattle.memory.specs.Rows.{rowAt}
+use Rattle.memory.specs.declared.machine.Machine.{Machine}
+use Rattle.memory.specs.declared.machine.Sizes.{Sizes}
+
+-- ---- the lent words
+
+pub record Lent : Type 0 where
+  pub stack : List ℕ
+  pub frames : List ℕ
+  pub chain : List ℕ
+  pub slots : List ℕ
+  pub savedStack : List ℕ
+  pub savedFrames : List ℕ
+  pub ready : List ℕ
+  pub finalize : List ℕ
+  pub setup : List ℕ
+
+-- what a call on the first six slices leaves alone
+pub record Beside : Type 0 where
+  pub ready : List ℕ
+  pub finalize : List ℕ
+  pub setup : List ℕ
+  pub fuel : Fuel
+
+abbrev pub lent : List ℕ → List ℕ → List ℕ → List ℕ → List ℕ → List ℕ → Beside → Lent
+lent s f c o r q b =
+    record { stack = s; frames = f; chain = c; slots = o; savedStack = r; savedFrames = q; ready = b .ready; finalize = b .finalize; setup = b .setup }
+
+-- ---- the parts that the tables do not have
+
+-- slots in words
+pub record Slots (xs : List (Slot H.Object)) (ws : List ℕ) (n : ℕ) : Type 0 where
+  pub are : ws ≡ pad (length ws) (words slotWords xs)
+  pub count : n ≡ length xs
+  pub within : n * 20 ≤ length ws
+
+-- f of i, i + 1, .. : n of them
+abbrev pub tabled : {A : Type 0} → (ℕ → A) → ℕ → ℕ → List A
+tabled f i zero = []
+tabled f i (suc n) = f i ∷ tabled f (suc i) n
+
+-- what the rows hold
+abbrev pub regsRows : ℕ → List (Slot Object) → List (List ℕ)
+regsRows n xs = tabled (λ i. rowAt i xs .regs) 0 n
+
+abbrev pub framesRows : ℕ → List (Slot Object) → List (List Frame)
+framesRows n xs = tabled (λ i. rowAt i xs .frames) 0 n
+
+pub record Sized (s : Setup) (l : Sizes) : Type 0 where
+  pub depth : l .depth ≡ s .limits .depth
+  pub stack : l .stack ≡ s .limits .stack
+  pub width : l .width ≡ rowWords s
+
+-- ---- the words M, the numbers m and the fuel f stand for the world w
+
+pub record Rep (l : Sizes) (w : World) (M : Lent) (m : Machine) (f : Fuel) : Type 0 where
+  pub sizes : Sized (w .setup) l
+  pub setup : M .setup ≡ pad (length (M .setup)) (setupWords (w .setup))
+  pub stack : Stack (w .stack) (M .stack) (m .height)
+  pub frames : Frames (w .frames) (M .frames) (m .depth)
+  pub chain : Chain (w .chain) (M .chain) (m .active)
+  pub slots : Slots (toSlots (w .slots)) (M .slots) (m .count)
+  pub savedStack : SavedStack (rowWords (w .setup)) (regsRows (w .setup .limits .rows) (w .slots)) (M .savedStack)
+  pub savedFrames : SavedFrames (framesSize (w .setup)) (framesRows (w .setup .limits .rows) (w .slots)) (M .savedFrames)
+  pub ready : Queue (w .ready) (M .ready) (m .ready)
+  pub finalize : Queue (w .finalize) (M .finalize) (m .finalize)
+  pub finalizing : m .finalizing ≡ w .finalizing
+  pub outcome : m .outcome ≡ w .outcome
+  pub used : m .used ≡ w .used
+  pub seq : m .seq ≡ w .seq
+  pub fuel : f ≡ w .fuel
+
+-- words enough
+pub record Room (s : Setup) (M : Lent) : Type 0 where
+  pub stack : stackSize s ≤ length (M .stack)
+  pub frames : framesSize s ≤ length (M .frames)
+  pub chain : chainSize s ≤ length (M .chain)
+  pub slots : slotsSize s ≤ length (M .slots)
+  pub savedStack : savedStackSize s ≤ length (M .savedStack)
+  pub savedFrames : savedFramesSize s ≤ length (M .savedFrames)
+  pub ready : queueSize s ≤ length (M .ready)
+  pub finalize : queueSize s ≤ length (M .finalize)
+  pub setup : setupSize s ≤ length (M .setup)
+
+-- some sound world is held, and there are words enough; M is of what the call leaves alone
+pub record Ok (l : Sizes) (M : Beside → Lent) (m : Machine) : Type 0 where
+  pub world : World
+  pub beside : Beside
+  pub rep : Rep l world (M beside) m (beside .fuel)
+  pub sound : sound world ≡ true
+  pub room : Room (world .setup) (M beside)
+
+-- ---- what a call leaves and answers
+
+pub record Does {A : Type 0} (l : Sizes) (o : After A) (M : Lent) (m : Machine) (f : Fuel) (a : A) : Type 0 where
+  pub world : Rep l (o .world) M m f
+  pub answer : a ≡ o .answer
+
+-- for every world that the words stood for, they stand for the one that the model's call leaves, and the answer is the model's
+abbrev pub Met : {A : Type 0} → Sizes → (World → After A) → (Beside → Lent) → Machine → (Beside → Lent) → Machine → A → Type 0
+Met l f M m M′ m′ a = (w : World) (b : Beside) → Rep l w (M b) m (b .fuel) → sound w ≡ true → Does l (f w) (M′ b) m′ (b .fuel) a

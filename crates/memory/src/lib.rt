@@ -1,0 +1,2 @@
+// The lent words that stand for a world.
+pub mod machine;
