@@ -16,3 +16,4 @@ pub mod Claim
 pub mod Acceptance
 pub mod Premises
 pub mod Witness
+pub mod Soundness
