@@ -35,16 +35,33 @@ pub record Lent : Type 0 where
   pub finalize : List ℕ
   pub setup : List ℕ
 
--- what a call on the first six slices leaves alone
+-- the words of a call that is lent some slices only: those, over whatever the others hold
+abbrev pub onStack : List ℕ → Lent → Lent
+onStack x M = record { stack = x; frames = M .frames; chain = M .chain; slots = M .slots; savedStack = M .savedStack; savedFrames = M .savedFrames; ready = M .ready; finalize = M .finalize; setup = M .setup }
+
+abbrev pub onFrames : List ℕ → Lent → Lent
+onFrames x M = record { stack = M .stack; frames = x; chain = M .chain; slots = M .slots; savedStack = M .savedStack; savedFrames = M .savedFrames; ready = M .ready; finalize = M .finalize; setup = M .setup }
+
+abbrev pub onChain : List ℕ → Lent → Lent
+onChain x M = record { stack = M .stack; frames = M .frames; chain = x; slots = M .slots; savedStack = M .savedStack; savedFrames = M .savedFrames; ready = M .ready; finalize = M .finalize; setup = M .setup }
+
+abbrev pub onSlots : List ℕ → Lent → Lent
+onSlots x M = record { stack = M .stack; frames = M .frames; chain = M .chain; slots = x; savedStack = M .savedStack; savedFrames = M .savedFrames; ready = M .ready; finalize = M .finalize; setup = M .setup }
+
+abbrev pub onSaved : List ℕ → List ℕ → Lent → Lent
+onSaved r q M = record { stack = M .stack; frames = M .frames; chain = M .chain; slots = M .slots; savedStack = r; savedFrames = q; ready = M .ready; finalize = M .finalize; setup = M .setup }
+
+abbrev pub onSetup : List ℕ → Lent → Lent
+onSetup x M = record { stack = M .stack; frames = M .frames; chain = M .chain; slots = M .slots; savedStack = M .savedStack; savedFrames = M .savedFrames; ready = M .ready; finalize = M .finalize; setup = x }
+
+-- what a call is not lent
 pub record Beside : Type 0 where
-  pub ready : List ℕ
-  pub finalize : List ℕ
-  pub setup : List ℕ
+  pub words : Lent
   pub fuel : Fuel
 
+-- the six slices that a switch moves words between
 abbrev pub lent : List ℕ → List ℕ → List ℕ → List ℕ → List ℕ → List ℕ → Beside → Lent
-lent s f c o r q b =
-    record { stack = s; frames = f; chain = c; slots = o; savedStack = r; savedFrames = q; ready = b .ready; finalize = b .finalize; setup = b .setup }
+lent s f c o r q b = onStack s (onFrames f (onChain c (onSlots o (onSaved r q (b .words)))))
 
 -- ---- the parts that the tables do not have
 
@@ -69,7 +86,11 @@ framesRows n xs = tabled (λ i. rowAt i xs .frames) 0 n
 pub record Sized (s : Setup) (l : Sizes) : Type 0 where
   pub depth : l .depth ≡ s .limits .depth
   pub stack : l .stack ≡ s .limits .stack
+  pub rows : l .rows ≡ s .limits .rows
+  pub slots : l .slots ≡ s .limits .slots
+  pub memory : l .memory ≡ s .limits .memory
   pub width : l .width ≡ rowWords s
+  pub costs : l .costs ≡ s .costs
 
 -- ---- the words M, the numbers m and the fuel f stand for the world w
 
@@ -119,3 +140,7 @@ pub record Does {A : Type 0} (l : Sizes) (o : After A) (M : Lent) (m : Machine) 
 -- for every world that the words stood for, they stand for the one that the model's call leaves, and the answer is the model's
 abbrev pub Met : {A : Type 0} → Sizes → (World → After A) → (Beside → Lent) → Machine → (Beside → Lent) → Machine → A → Type 0
 Met l f M m M′ m′ a = (w : World) (b : Beside) → Rep l w (M b) m (b .fuel) → sound w ≡ true → Does l (f w) (M′ b) m′ (b .fuel) a
+
+-- the same of a call that is given the fuel, and gives it back
+abbrev pub MetFuel : {A : Type 0} → Sizes → (World → After A) → (Beside → Lent) → Machine → Fuel → (Beside → Lent) → Machine → Fuel → A → Type 0
+MetFuel l g M m f M′ m′ f′ a = (w : World) (b : Beside) → Rep l w (M b) m f → sound w ≡ true → Does l (g w) (M′ b) m′ f′ a

@@ -1,5 +1,6 @@
 // The numbers beside the lent words.
 use model::machine::Outcome;
+use model::program::Costs;
 
 // Words on the stack, frames, running coroutines, slots taken, words in the two queues; whether a cleanup runs, the outcome, the
 // bytes charged, and the next coroutine's number.
@@ -16,9 +17,13 @@ pub struct Machine {
     pub seq: u64,
 }
 
-// What a set-up says of sizes: the two limits that an entry tests, and the words of a row of saved registers.
+// What a set-up says: the limits, the words of a row of saved registers, and the costs.
 pub struct Sizes {
     pub depth: usize,
     pub stack: usize,
+    pub rows: usize,
+    pub slots: usize,
+    pub memory: u64,
     pub width: usize,
+    pub costs: Costs,
 }
