@@ -45,6 +45,8 @@ pub record Sound (ex : Bool) (w : World) : Type 0 where
 
 pub record Facts (s : Setup) : Type 0 where
   pub deep : 1 ≤ s .limits .depth
+  pub depth : s .limits .depth ≤ 128
+  pub stack : s .limits .stack ≤ 1024
   pub slots : s .limits .slots ≤ 4096
   pub few : length (s .functions) ≤ 32
   pub fit : length (s .functions) ≤ s .limits .slots
@@ -71,8 +73,11 @@ facts s h =
     and-left (between 1 128 (l .depth) && between 1 1024 (l .stack) && between 1 64 (l .rows) && between 1 4096 (l .slots)) (ltb (l .memory) (2 ^ 64)) b in
     let d : (between 1 128 (l .depth) && between 1 1024 (l .stack)) ≡ true =
     and-left (between 1 128 (l .depth) && between 1 1024 (l .stack)) (between 1 64 (l .rows)) (and-left (between 1 128 (l .depth) && between 1 1024 (l .stack) && between 1 64 (l .rows)) (between 1 4096 (l .slots)) c) in
+    let e : between 1 128 (l .depth) ≡ true = and-left (between 1 128 (l .depth)) (between 1 1024 (l .stack)) d in
     record {
-      deep = leb-true 1 (l .depth) (and-left (leb 1 (l .depth)) (leb (l .depth) 128) (and-left (between 1 128 (l .depth)) (between 1 1024 (l .stack)) d));
+      deep = leb-true 1 (l .depth) (and-left (leb 1 (l .depth)) (leb (l .depth) 128) e);
+      depth = leb-true (l .depth) 128 (and-right (leb 1 (l .depth)) (leb (l .depth) 128) e);
+      stack = leb-true (l .stack) 1024 (and-right (leb 1 (l .stack)) (leb (l .stack) 1024) (and-right (between 1 128 (l .depth)) (between 1 1024 (l .stack)) d));
       slots = leb-true (l .slots) 4096 (and-right (leb 1 (l .slots)) (leb (l .slots) 4096) (and-right (between 1 128 (l .depth) && between 1 1024 (l .stack) && between 1 64 (l .rows)) (between 1 4096 (l .slots)) c));
       few = leb-true n 32 (and-right (leb 1 n) (leb n 32) (a .2));
       fit = leb-true n (l .slots) (a .3);

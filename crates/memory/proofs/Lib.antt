@@ -2,3 +2,4 @@ pub mod Slots
 pub mod Rows
 pub mod Tables
 pub mod Lookup
+pub mod Turn

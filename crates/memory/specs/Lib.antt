@@ -1,3 +1,4 @@
 pub mod Slots
 pub mod Rows
 pub mod Memory
+pub mod Numbers

@@ -1,0 +1,60 @@
+-- `pop` meets its contract. Assumes nothing.
+use mathlib.Core.Path.{_≡_, refl, ap, _∙_, subst}
+use mathlib.Core.List.{List, _∷_}
+use Prim.Native.Nat.{ℕ}
+use Rattle.model.specs.declared.machine.Frame.{Frame}
+use Rattle.tables.specs.Parts.{Frames}
+use Rattle.memory.specs.Memory.{onStack, onFrames}
+use Rattle.machine.proofs.Frames.{pop-rep, top-base}
+use borrow.Author.Needs.{needs}
+use Rattle.machine.proofs.frame.pop.Statement.{statement}
+use Rattle.machine.proofs.frame.pop.Tie as tie
+
+sub-base : tie.Need-sub-base
+sub-base c = search needs
+
+mul-base : tie.Need-mul-base
+mul-base c = search needs
+
+add-base : tie.Need-add-base
+add-base c = search needs
+
+mul-base-2 : tie.Need-mul-base-2
+mul-base-2 c = search needs
+
+slice-read-base : tie.Need-slice-read-base
+slice-read-base c = search needs
+
+cut-requires : tie.Need-cut-requires
+cut-requires c κs = search needs
+
+pop-frame-requires : tie.Need-pop-frame-requires
+pop-frame-requires c κs = search needs
+
+sub-next : tie.Need-sub-next
+sub-next c = search needs
+
+same-length : tie.Need-same-length
+same-length c = search needs
+
+same-length-2 : tie.Need-same-length-2
+same-length-2 c = search needs
+
+returns : tie.Need-returns
+returns c = λ l w b f fs e rep. pop-rep l w (onStack (c .before .before .before .before .before .before .before .before .before .before .before .before .before .args .stack .now) (onFrames (c .before .before .before .before .before .before .before .before .before .before .before .before .before .args .frames .now) (b .words))) (c .before .before .before .before .before .before .before .before .before .before .before .before .before .args .m) (b .fuel) rep f fs e _ _ _ (top-base f fs (c .before .before .before .before .before .before .before .before .before .before .before .before .before .args .frames .now) ((c .before .before .before .before .before .before .before .before .before .before .before .before .before .args .m .depth)) (subst (λ z. Frames z (c .before .before .before .before .before .before .before .before .before .before .before .before .before .args .frames .now) ((c .before .before .before .before .before .before .before .before .before .before .before .before .before .args .m .depth))) e (rep .frames))) (c .before .before .before .before .before .before .before .cut .ensures) (c .before .before .before .pop-frame .ensures)
+
+pub pop-spec : {M : Type 1} → statement M
+pop-spec =
+    tie.close
+    (tie.spec
+    sub-base
+    mul-base
+    add-base
+    mul-base-2
+    slice-read-base
+    cut-requires
+    pop-frame-requires
+    sub-next
+    same-length
+    same-length-2
+    returns)

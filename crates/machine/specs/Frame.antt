@@ -1,0 +1,56 @@
+-- machine.rs: frames and registers on the lent words.
+use mathlib.Core.Path.{_≡_}
+use mathlib.Core.Bool.{Bool, _||_}
+use mathlib.Core.List.{List, _∷_}
+use Prim.Native.Nat.{ℕ, _+_, _-_, _*_, _≤_, _<_}
+use lib.ListN.{length, getD}
+use lib.Dec.{ltb, leb}
+use Rattle.model.specs.World.{World}
+use Rattle.model.specs.Frames.{popTo}
+use Rattle.model.specs.declared.machine.Frame.{Frame}
+use Rattle.tables.specs.Layout.{functionIn}
+use Rattle.memory.specs.Memory.{Lent, Beside, onStack, onFrames, onSetup, Rep, Ok}
+use Rattle.memory.specs.Numbers.{withHeight, withDepth}
+use Rattle.memory.specs.declared.machine.Machine.{Machine}
+use Rattle.memory.specs.declared.machine.Sizes.{Sizes}
+
+-- for every world that the words stand for, they stand for g of it
+abbrev pub Turns : (World → World) → (Beside → Lent) → Machine → (Beside → Lent) → Machine → Type 0
+Turns g M m M′ m′ = (l : Sizes) (w : World) (b : Beside) → Rep l w (M b) m (b .fuel) → Rep l (g w) (M′ b) m′ (b .fuel)
+
+-- there is a frame
+pub record DepthFits (frames : List ℕ) (depth : ℕ) : Type 0 where
+  pub some : 1 ≤ depth
+  pub within : depth * 6 ≤ length frames
+
+-- ---- push_frame
+
+-- the registers of function f, in a set-up's words
+abbrev pub widthIn : List ℕ → ℕ → ℕ
+widthIn ws f = functionIn ws f .regs
+
+-- a frame too many, or too wide
+abbrev pub overflowing : Machine → Sizes → ℕ → Bool
+overflowing m l n = leb (l .depth) (m .depth) || ltb (l .stack) (m .height + n)
+
+-- one frame more, of n registers
+abbrev pub pushed : Machine → ℕ → Machine
+pushed m n = withHeight (m .height + n) (withDepth (m .depth + 1) m)
+
+-- a sound world, and one of its functions; word 13 of a set-up is their number
+pub record PushFits (l : Sizes) (stack frames setup : List ℕ) (m : Machine) (f : ℕ) : Type 0 where
+  pub ok : Ok l (λ b. onStack stack (onFrames frames (onSetup setup (b .words)))) m
+  pub function : f < getD setup 13 0
+
+-- ---- pop
+
+-- there is a frame, whose registers lie on the stack
+pub record PopFits (stack frames : List ℕ) (m : Machine) : Type 0 where
+  pub depth : DepthFits frames (m .depth)
+  pub base : getD frames ((m .depth - 1) * 6 + 2) 0 ≤ m .height
+  pub height : m .height ≤ length stack
+
+-- for every world that the words stand for, its top frame is gone
+abbrev pub Pops : (Beside → Lent) → Machine → (Beside → Lent) → Machine → Type 0
+Pops M m M′ m′ =
+    (l : Sizes) (w : World) (b : Beside) (f : Frame) (fs : List Frame) → w .frames ≡ f ∷ fs → Rep l w (M b) m (b .fuel) → Rep l (popTo f fs w) (M′ b) m′ (b .fuel)

@@ -1,0 +1,112 @@
+// machine.rs: registers and frames.
+ghost use mathlib.Core.Path.{_≡_};
+ghost use Prim.Native.Nat.{_+_, _*_, _^_, _≤_, _<_};
+ghost use lib.ListN.{length};
+ghost use Rattle.model.specs.Frames.{storePc, putReg};
+ghost use Rattle.model.specs.Machine.{pushFrame};
+ghost use Rattle.tables.specs.Does.{RegFits};
+ghost use Rattle.memory.specs.Memory.{onStack, onFrames, onSetup, Met};
+ghost use Rattle.machine.specs.Frame.{Turns, DepthFits, widthIn, PushFits, overflowing, pushed, PopFits, Pops};
+use heap::fault::Fault;
+use memory::machine::Machine;
+use memory::machine::Sizes;
+use model::coro::Made;
+use model::machine::Cont;
+
+// What a push leaves of the numbers, and answers.
+pub struct FrameDid {
+    pub machine: Machine,
+    pub answer: Made,
+}
+
+// The pc of the top frame.
+pub fn store_pc(frames: &mut [u64], m: Machine, pc: u64)
+    requires { ⌜ DepthFits (now frames) (m .depth) ⌝ }
+    ensures { λ _. ⌜ Turns (storePc pc) (λ b. onFrames (now (frames .entry)) (b .words)) m (λ b. onFrames (now (frames .exit)) (b .words)) m ⌝ }
+{
+    tables::frames::store_pc(frames, m.depth, pc);
+}
+
+// A word into a register of the top frame.
+pub fn put(stack: &mut [u64], frames: &[u64], m: Machine, r: u64, v: u64)
+    requires { ⌜ RegFits (now stack) (now frames) (m .height) (m .depth) r ⌝ }
+    ensures { λ _. ⌜ Turns (putReg r v) (λ b. onStack (now (stack .entry)) (onFrames (now (frames .entry)) (b .words))) m (λ b. onStack (now (stack .exit)) (onFrames (now (frames .entry)) (b .words))) m ⌝ }
+{
+    tables::stack::put_reg(stack, frames, m.height, m.depth, r as usize, v);
+}
+
+// Whether a frame of n registers is one too many, or too wide.
+fn overflows(m: Machine, l: Sizes, n: u64) -> bool
+    requires { ⌜ m .height ≤ l .stack ⌝ }
+    ensures { λ r. ⌜ r ≡ overflowing m l n ⌝ }
+{
+    if l.depth <= m.depth {
+        return true;
+    }
+    if ((l.stack - m.height) as u64) < n {
+        return true;
+    }
+    false
+}
+
+// The registers of function f.
+fn width(setup: &[u64], f: u64) -> u64
+    requires { ⌜ 14 + f * 35 + 35 ≤ length (now setup) ⌝ }
+    ensures { λ r. ⌜ r ≡ widthIn (now (setup .entry)) f ⌝ }
+{
+    let at = 14 + (f as usize) * 35;
+    setup[at]
+}
+
+fn grown(m: Machine, n: u64) -> Machine
+    requires { ⌜ (m .height + n < 2 ^ 64) × (m .depth + 1 < 2 ^ 64) ⌝ }
+    ensures { λ r. ⌜ r ≡ pushed m n ⌝ }
+{
+    let mut next = m;
+    next.height = m.height + (n as usize);
+    next.depth = m.depth + 1;
+    next
+}
+
+// machine.rs: push_frame. The new registers are the zeros after the stack.
+pub fn push_frame(
+    stack: &[u64],
+    frames: &mut [u64],
+    setup: &[u64],
+    m: Machine,
+    l: Sizes,
+    f: u64,
+    closure: u64,
+    cont: Cont,
+) -> FrameDid
+    requires { ⌜ PushFits l (now stack) (now frames) (now setup) m f ⌝ }
+    ensures { λ r. ⌜ Met l (pushFrame f closure cont) (λ b. onStack (now (stack .entry)) (onFrames (now (frames .entry)) (onSetup (now (setup .entry)) (b .words)))) m (λ b. onStack (now (stack .entry)) (onFrames (now (frames .exit)) (onSetup (now (setup .entry)) (b .words)))) (r .machine) (r .answer) ⌝ }
+{
+    let n = width(setup, f);
+    if overflows(m, l, n) {
+        return FrameDid {
+            machine: m,
+            answer: Made::Refused(Fault::StackOverflow),
+        };
+    }
+    let base = m.height as u64;
+    tables::frames::push_frame(frames, m.depth, f, base, closure, cont);
+    FrameDid {
+        machine: grown(m, n),
+        answer: Made::Word(base),
+    }
+}
+
+// The top frame goes, with its registers.
+pub fn pop(stack: &mut [u64], frames: &mut [u64], m: Machine) -> Machine
+    requires { ⌜ PopFits (now stack) (now frames) m ⌝ }
+    ensures { λ r. ⌜ Pops (λ b. onStack (now (stack .entry)) (onFrames (now (frames .entry)) (b .words))) m (λ b. onStack (now (stack .exit)) (onFrames (now (frames .exit)) (b .words))) r ⌝ }
+{
+    let base = frames[(m.depth - 1) * 6 + 2] as usize;
+    tables::stack::cut(stack, m.height, base);
+    tables::frames::pop_frame(frames, m.depth);
+    let mut next = m;
+    next.height = base;
+    next.depth = m.depth - 1;
+    next
+}

@@ -1,0 +1,2 @@
+// machine.rs: impl Machine, on the lent words.
+pub mod frame;
