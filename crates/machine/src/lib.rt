@@ -1,2 +1,3 @@
 // machine.rs: impl Machine, on the lent words.
 pub mod frame;
+pub mod setup;

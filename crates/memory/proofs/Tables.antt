@@ -1,19 +1,21 @@
 -- Slots in words looked up and replaced, and the list of rows after a change of one. Assumes nothing.
 use mathlib.Core.Logic.{_≢_}
 use mathlib.Core.Path.{_≡_, refl, sym, ap, ap₂, _∙_, subst}
-use mathlib.Core.List.{List, [], _∷_, _++_, append-assoc}
+use mathlib.Core.List.{List, [], _∷_, _++_, append-assoc, append-nil}
 use Prim.Native.Nat.{ℕ, zero, suc, _+_, _-_, _*_, _≤_, _<_}
 use native.Mathlib.Omega.{arith}
 use native.Mathlib.Nat.{le-of-suc-le-suc}
 use lib.ListN.{length, getD, set, take, drop, replicate, length-append, length-set, length-replicate}
 use lib.Seq.{drop-drop, take-at, drop-at, take-add}
 use Rattle.lists.specs.Chunks.{words, putChunk}
+use Rattle.lists.specs.Parts.{pad}
 use Rattle.lists.proofs.Tables.{words-chunks, length-words}
 use Rattle.heap.specs.Table.{Slot, slot}
 use Rattle.heap.specs.Slot.{width, slotWords, slotOfWords}
 use Rattle.heap.specs.Heap.{slotsOf, putSlot}
 use Rattle.heap.specs.declared.object.Object as H
 use Rattle.heap.proofs.Slots.{slot-back, length-slot}
+use Rattle.tables.proofs.Padded.{length-pad, pad-push}
 use Rattle.memory.specs.Memory.{Slots, tabled}
 
 -- ---- slots in words
@@ -68,6 +70,35 @@ slots-set xs ws n i y s h =
       are = whole ∙ ap₂ (λ a b. words slotWords (set xs i y) ++ replicate (a - b) 0) (sym le) (sym words-same);
       count = e ∙ sym same;
       within = subst (λ a. n * 20 ≤ a) (sym le) k;
+    }
+
+words-append : (xs : List (Slot H.Object)) (y : Slot H.Object) → words slotWords (xs ++ (y ∷ [])) ≡ words slotWords xs ++ slotWords y
+words-append [] y = append-nil (slotWords y)
+words-append (x ∷ xs) y = ap (λ (z : List ℕ). slotWords x ++ z) (words-append xs y) ∙ sym (append-assoc (slotWords x) (words slotWords xs) (slotWords y))
+
+-- one slot more
+pub slots-push : (xs : List (Slot H.Object)) (ws : List ℕ) (n : ℕ) (y : Slot H.Object) → Slots xs ws n → n * 20 + 20 ≤ length ws → Slots (xs ++ (y ∷ [])) (putSlot ws n y) (n + 1)
+slots-push xs ws n y s h =
+    let W : List ℕ = words slotWords xs in
+    let U : List ℕ = slotWords y in
+    let L : ℕ = length ws in
+    let lv : length U ≡ 20 = length-slot y in
+    let lw : length W ≡ length xs * 20 = length-words width slotWords slotOfWords length-slot xs in
+    let c = s .count in
+    let at : n * 20 ≡ length W = omega arith in
+    let la : length (xs ++ (y ∷ [])) ≡ length xs + 1 = length-append xs (y ∷ []) in
+    let room : length W + length U ≤ L = omega arith in
+    let whole : putSlot ws n y ≡ pad L (words slotWords (xs ++ (y ∷ []))) =
+    ap₂ (λ k (z : List ℕ). take k z ++ (U ++ drop 20 (drop k z))) at (s .are)
+    ∙ ap (λ k. take (length W) (pad L W) ++ (U ++ drop k (drop (length W) (pad L W)))) (sym lv)
+    ∙ pad-push L W U room
+    ∙ ap (pad L) (sym (words-append xs y)) in
+    let lz : length (words slotWords (xs ++ (y ∷ []))) ≡ length W + length U = ap length (words-append xs y) ∙ length-append W U in
+    let le : length (putSlot ws n y) ≡ L = ap length whole ∙ length-pad L (words slotWords (xs ++ (y ∷ []))) (omega arith) in
+    record {
+      are = whole ∙ ap (λ k. pad k (words slotWords (xs ++ (y ∷ [])))) (sym le);
+      count = omega arith;
+      within = omega arith;
     }
 
 -- ---- the list of rows

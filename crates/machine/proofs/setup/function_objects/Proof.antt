@@ -1,0 +1,57 @@
+-- `function_objects` meets its contract: after i turns the objects of i functions stand there. Assumes nothing.
+use Prim.Native.Nat.{_+_, _-_, _*_, _≤_}
+use mathlib.Core.Path.{_≡_, refl, sym, ap, _∙_, subst}
+use native.Mathlib.Omega.{arith}
+use native.Mathlib.Numerals.{add-one}
+use lib.ListN.{length}
+use Rattle.memory.specs.Memory.{Slots}
+use Rattle.machine.specs.Setup.{functionSlots}
+use Rattle.machine.proofs.Fresh.{slots-none, next-slot}
+use borrow.Author.Needs.{needs}
+use Rattle.machine.proofs.setup.function_objects.Statement.{statement}
+use Rattle.machine.proofs.setup.function_objects.Tie as tie
+
+abbrev Inv-loop : tie.InvT-loop
+Inv-loop slots₀ n i₀ slots i = (i ≤ n) × (length slots ≡ length slots₀) × Slots (functionSlots i) slots i
+
+abbrev μ-loop : tie.MeasureT-loop
+μ-loop slots₀ n i₀ slots i = n - i
+
+clear-words-requires : tie.Need-clear-words-requires Inv-loop μ-loop
+clear-words-requires c κs = search needs
+
+loop-holds : tie.Need-loop-holds Inv-loop μ-loop
+loop-holds c = (omega arith, refl, slots-none _ (length (c .before .before .before .before .before .args .slots .now)) (c .before .before .clear-words .ensures))
+
+put-slot-requires : tie.Need-put-slot-requires Inv-loop μ-loop
+put-slot-requires c κs = let k : length ((c .before .before .before .before .before .clear-words .last .0)) ≡ length (c .before .before .before .before .before .before .before .before .args .slots .now) = (c .before .before .before .before .before .clear-words .kept .0) in let a = (c .before .before .loop .inv .0) in let b = (c .before .before .loop .inv .1) in let t = (c .before .loop-test .taken) in let p = ((c .before .before .before .before .before .before .before .before .pre)) in omega arith
+
+add-i : tie.Need-add-i Inv-loop μ-loop
+add-i c = search needs
+
+loop-less : tie.Need-loop-less Inv-loop μ-loop
+loop-less c = search needs
+
+loop-again : tie.Need-loop-again Inv-loop μ-loop
+loop-again c = let k : length ((c .before .before .before .before .before .before .before .before .clear-words .last .0)) ≡ length (c .before .before .before .before .before .before .before .before .before .before .before .args .slots .now) = (c .before .before .before .before .before .before .before .before .clear-words .kept .0) in let a = (c .before .before .before .before .before .loop .inv .0) in let b = (c .before .before .before .before .before .loop .inv .1) in let t = (c .before .before .before .before .loop-test .taken) in let p = ((c .before .before .before .before .before .before .before .before .before .before .before .pre)) in (omega arith, (c .before .before .put-slot .kept .0) ∙ (c .before .before .before .before .before .loop .inv .1), next-slot (c .before .before .before .before .before .loop .slots) _ (c .before .before .before .before .before .loop .i) (c .before .before .put-slot .ensures) ((c .before .before .before .before .before .loop .inv .2)) (omega arith))
+
+same-length : tie.Need-same-length Inv-loop μ-loop
+same-length c = (c .before .loop .inv .1) ∙ (c .before .before .before .before .clear-words .kept .0)
+
+returns : tie.Need-returns Inv-loop μ-loop
+returns c = let a = (c .before .loop .inv .0) in let t = (c .loop-test .left) in let e : (c .before .loop .i) ≡ (c .before .before .before .before .before .before .before .args .n) = omega arith in subst (λ k. Slots (functionSlots k) (c .before .loop .slots) k) e ((c .before .loop .inv .2))
+
+pub function-objects-spec : {M : Type 1} → statement M
+function-objects-spec =
+    tie.close
+    (tie.spec
+    Inv-loop
+    μ-loop
+    clear-words-requires
+    loop-holds
+    put-slot-requires
+    add-i
+    loop-less
+    loop-again
+    same-length
+    returns)
