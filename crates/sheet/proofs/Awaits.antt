@@ -13,7 +13,7 @@ use Rattle.heap.specs.declared.object.CoroState.{CoroState}
 use Rattle.model.specs.Object.{Core, Rest, withClosing, withSignal, withPayload}
 use Rattle.model.specs.World.{World, After, after, andThen, withStack, withFrames, withChain, withUsed}
 use Rattle.model.specs.Frames.{below, baseAt, setPc, reg, storePc}
-use Rattle.model.specs.Heap.{coro, setCoro, fits}
+use Rattle.model.specs.Heap.{setCoro, fits}
 use Rattle.model.specs.Coro.{coroSend, saved, sized, growth, suspended, suspendAs, suspendOn, coroSuspend, deliver}
 use Rattle.model.specs.Exec.{delivered, deliverAll, awaitOn, await}
 use Rattle.model.specs.Gate.{stepped}
@@ -27,7 +27,7 @@ use Rattle.model.specs.declared.coro.Suspension.{Suspension}
 use Rattle.model.specs.declared.exec.Step.{Step}
 use Rattle.model.specs.declared.call.Op.{Op}
 use Rattle.sheet.specs.Pep342.{leaves}
-use Rattle.sheet.specs.Pep342Ends.{Awaits, waiting, Awaiting}
+use Rattle.sheet.specs.Pep342Awaits.{Awaits, waiting, Awaiting}
 use Rattle.sheet.proofs.Keep.{stuck}
 use Rattle.sheet.proofs.Charge.{depth-top}
 use Rattle.sheet.proofs.Charges.{stands}

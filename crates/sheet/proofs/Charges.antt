@@ -31,7 +31,9 @@ use Rattle.model.specs.declared.machine.Frame.{Frame}
 use Rattle.model.specs.declared.coro.Made.{Made}
 use Rattle.model.specs.declared.exec.Step.{Step}
 use Rattle.model.specs.declared.call.Op.{Op}
-use Rattle.sheet.specs.Calls.{Kind, Instruction, OnFrame, OnHost, Adding, Raising, Other, kind, atGate, own, ownWord, given}
+use Rattle.sheet.specs.Gates.{Kind, Instruction, OnFrame, OnHost, Adding, Raising, Other, kind, atGate}
+use Rattle.sheet.specs.Own.{own, ownWord}
+use Rattle.sheet.specs.Number.{given}
 use Rattle.sheet.specs.Charges.{passes, isDone, paid, usedUp, isMade, hookUnpaid, spawnUnpaid}
 use Rattle.sheet.proofs.Choice.{both}
 use Rattle.sheet.proofs.Among.{unlike}

@@ -11,9 +11,10 @@ use Rattle.model.specs.Call.{Do}
 use Rattle.model.specs.Step.{Out, step}
 use Rattle.model.specs.Compute.{computed}
 use Rattle.model.specs.declared.call.Op.{Op}
-use Rattle.sheet.specs.Calls.{kind, number}
+use Rattle.sheet.specs.Gates.{kind}
+use Rattle.sheet.specs.Number.{number}
 use Rattle.sheet.specs.Charges.{passes}
-use Rattle.sheet.specs.Coverage.{usual, reached, holding, yielded}
+use Rattle.sheet.specs.SmallRuns.{usual, reached, holding, yielded}
 use Rattle.sheet.specs.Cheats.{Engine, Meets, Gives-up, Moves-once, Cheats}
 use Rattle.sheet.proofs.Queue.{queue}
 

@@ -43,11 +43,14 @@ use Rattle.model.specs.declared.exec.Step.{Step}
 use Rattle.heap.specs.declared.heap.ResultKind.{ResultKind}
 use Rattle.model.specs.declared.call.Op.{Op}
 use Rattle.model.specs.declared.call.Answer.{Answer}
-use Rattle.sheet.specs.Calls.{Instruction, kind, own}
+use Rattle.sheet.specs.Gates.{Instruction, kind}
+use Rattle.sheet.specs.Own.{own}
 use Rattle.sheet.specs.Charges.{passes}
 use Rattle.sheet.specs.Queue.{searches}
 use Rattle.sheet.specs.Pep342.{leaves}
-use Rattle.sheet.specs.Pep342Ends.{Yields, left, asks, Yielding, Body, over, Ending, Deletion}
+use Rattle.sheet.specs.Pep342Yields.{Yields, left, asks, Yielding}
+use Rattle.sheet.specs.Pep342Ends.{Body, over, Ending}
+use Rattle.sheet.specs.Pep342Deletion.{Deletion}
 use Rattle.sheet.proofs.Keep.{stuck}
 use Rattle.sheet.proofs.FaultSheet.{step-sound}
 use Rattle.sheet.proofs.Charge.{depth-top, unbanked, unbank-ready}

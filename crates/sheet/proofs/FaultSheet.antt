@@ -19,7 +19,9 @@ use Rattle.model.specs.Step.{Out, told, call, step}
 use Rattle.model.specs.declared.exec.Step.{Step}
 use Rattle.model.specs.declared.call.Op.{Op}
 use Rattle.model.specs.declared.call.Answer.{Answer}
-use Rattle.sheet.specs.Calls.{Kind, Instruction, OnFrame, OnHost, Adding, Raising, Other, kind, needsFrame, needsHost, misplaced, badOperand, tooLarge, noSuchFault, atGate, own, ownWord, number, given}
+use Rattle.sheet.specs.Gates.{Kind, Instruction, OnFrame, OnHost, Adding, Raising, Other, kind, needsFrame, needsHost, misplaced, badOperand, tooLarge, noSuchFault, atGate}
+use Rattle.sheet.specs.Own.{own, ownWord}
+use Rattle.sheet.specs.Number.{number, given}
 use Rattle.sheet.specs.FaultSheet.{unchanging, FaultSheet}
 use Rattle.sheet.proofs.Among.{and-true, and-false, apart, passes, not-true, after-list, before-list}
 use Rattle.sheet.proofs.Tells.{noWord}

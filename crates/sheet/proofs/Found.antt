@@ -47,25 +47,25 @@ found w h a rest e =
 
 -- ---- a new object hides none
 
-abbrev vacant : Slot Object
+abbrev pub vacant : Slot Object
 vacant = slot 0 Object.Empty
 
 is-true : (b : Bool) → T b → b ≡ true
 is-true true t = refl
 
+pub inside : (xs : List (Slot Object)) (v : ℕ) → names Object.Empty isFilled xs v ≡ true → slotOf v < length xs
+inside xs v h = ltb→lt (slotOf v) (length xs) (subst (λ b. T b) (sym (and-left (ltb (slotOf v) (length xs)) _ h)) tt)
+
 module _ (xs : List (Slot Object)) (s : Slot Object) where
   abbrev more : List (Slot Object)
   more = xs ++ (s ∷ [])
 
-  inside : (v : ℕ) → names Object.Empty isFilled xs v ≡ true → slotOf v < length xs
-  inside v h = ltb→lt (slotOf v) (length xs) (subst (λ b. T b) (sym (and-left (ltb (slotOf v) (length xs)) _ h)) tt)
-
   same-slot : (v : ℕ) → names Object.Empty isFilled xs v ≡ true → getD more (slotOf v) vacant ≡ getD xs (slotOf v) vacant
-  same-slot v h = List·getD-append xs (s ∷ []) vacant (slotOf v) (inside v h)
+  same-slot v h = List·getD-append xs (s ∷ []) vacant (slotOf v) (inside xs v h)
 
   names-more : (v : ℕ) → names Object.Empty isFilled xs v ≡ true → names Object.Empty isFilled more v ≡ true
   names-more v h =
-      let l : slotOf v < length xs = inside v h in
+      let l : slotOf v < length xs = inside xs v h in
       let m : slotOf v < length more = simp length-append (omega arith) in
       ap (λ b. b && (eqb (getD more (slotOf v) vacant .tag) (tagOf v) && isFilled (getD more (slotOf v) vacant .object))) (is-true (ltb (slotOf v) (length more)) (lt→ltb (slotOf v) (length more) m))
       ∙ (ap (λ (x : Slot Object). eqb (x .tag) (tagOf v) && isFilled (x .object)) (same-slot v h)

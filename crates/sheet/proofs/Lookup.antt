@@ -27,11 +27,9 @@ use Rattle.model.specs.declared.machine.Frame.{Frame}
 use Rattle.sheet.proofs.Choice.{both}
 use Rattle.sheet.proofs.Rules.{saved}
 use Rattle.sheet.proofs.Among.{and-left, and-right}
+use Rattle.sheet.proofs.Found.{vacant, inside}
 
 -- ---- the same word finds what was put
-
-abbrev vacant : Slot Object
-vacant = slot 0 Object.Empty
 
 -- a word of the reference class is its own handle
 handle : (v : ℕ) (o : Obj) → classOf v ≡ Class.Ref o → o .0 ≡ v
@@ -47,11 +45,8 @@ module _ (xs : List (Slot Object)) (k k′ : Core) (r r′ : Rest) where
   abbrev new : ℕ → Slot Object
   new v = slot (getD xs (slotOf v) vacant .tag) (Object.Coro k′ r′)
 
-  inside : (v : ℕ) → names Object.Empty isFilled xs v ≡ true → slotOf v < length xs
-  inside v h = ltb→lt (slotOf v) (length xs) (subst (λ b. T b) (sym (and-left (ltb (slotOf v) (length xs)) _ h)) tt)
-
   found-there : (v : ℕ) → names Object.Empty isFilled xs v ≡ true → getD (stored v) (slotOf v) vacant ≡ new v
-  found-there v h = getD-set-same xs (slotOf v) (new v) vacant (inside v h)
+  found-there v h = getD-set-same xs (slotOf v) (new v) vacant (inside xs v h)
 
   still-names : (v : ℕ) → names Object.Empty isFilled xs v ≡ true → names Object.Empty isFilled (stored v) v ≡ true
   still-names v h =

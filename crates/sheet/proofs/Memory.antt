@@ -44,7 +44,7 @@ use Rattle.model.specs.declared.exec.Step.{Step}
 use Rattle.heap.specs.declared.heap.ResultKind.{ResultKind}
 use Rattle.model.specs.declared.call.Op.{Op}
 use Rattle.model.specs.declared.call.Answer.{Answer}
-use Rattle.sheet.specs.Calls.{Instruction, kind}
+use Rattle.sheet.specs.Gates.{Instruction, kind}
 use Rattle.sheet.specs.Charges.{passes, isDone, paid}
 use Rattle.sheet.specs.Memory.{creation, creationOf, spawning, large, integer, result, finishing, finishingTop, grows, suspension, isKey, yielding, iterating, short, Memory}
 use Rattle.sheet.proofs.Choice.{both}

@@ -25,7 +25,7 @@ use Rattle.model.specs.declared.coro.Event.{Event}
 use Rattle.model.specs.declared.exec.Step.{Step}
 use Rattle.model.specs.declared.call.Op.{Op}
 use Rattle.sheet.specs.Pep342.{Pays, leaves}
-use Rattle.sheet.specs.Pep342Ends.{Yields, left}
+use Rattle.sheet.specs.Pep342Yields.{Yields, left}
 use Rattle.sheet.specs.Mistakes.{Mistakes}
 use Rattle.sheet.proofs.Entries.{arm-runs, left-by}
 use Rattle.sheet.proofs.Endings.{passed, yield-as}

@@ -43,8 +43,9 @@ use Rattle.model.specs.declared.exec.Step.{Step}
 use Rattle.heap.specs.declared.heap.ResultKind.{ResultKind}
 use Rattle.model.specs.declared.call.Op.{Op}
 use Rattle.model.specs.declared.call.Answer.{Answer}
-use Rattle.sheet.specs.Calls.{number}
-use Rattle.sheet.specs.Places.{Site, Nowhere, At, fullAt, creation, creationOf, spawning, large, integer, nextKeyOf, result, finishing, finishingTop, raising, iterating, behindCharge, behind, site, Places}
+use Rattle.sheet.specs.Number.{number}
+use Rattle.sheet.specs.Sites.{Site, Nowhere, At, creation, creationOf, spawning, large, integer, nextKeyOf, result, finishing, finishingTop, raising, iterating}
+use Rattle.sheet.specs.Places.{fullAt, behindCharge, behind, site, Places}
 use Rattle.sheet.proofs.Choice.{both}
 use Rattle.sheet.proofs.Among.{same, unlike}
 use Rattle.sheet.proofs.Keep.{not-in, yielded-keeps}

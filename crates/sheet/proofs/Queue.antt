@@ -22,7 +22,8 @@ use Rattle.model.specs.declared.machine.Charge.{Charge}
 use Rattle.model.specs.declared.exec.Step.{Step}
 use Rattle.model.specs.declared.call.Op.{Op}
 use Rattle.model.specs.declared.call.Answer.{Answer}
-use Rattle.sheet.specs.Calls.{Instruction, kind, own}
+use Rattle.sheet.specs.Gates.{Instruction, kind}
+use Rattle.sheet.specs.Own.{own}
 use Rattle.sheet.specs.Charges.{passes}
 use Rattle.sheet.specs.Queue.{steps, searches, Queue}
 use Rattle.sheet.proofs.Choice.{both}

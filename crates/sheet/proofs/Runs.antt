@@ -17,7 +17,8 @@ use Rattle.model.specs.declared.machine.Charge.{Charge}
 use Rattle.model.specs.declared.exec.Step.{Step}
 use Rattle.model.specs.declared.call.Op.{Op}
 use Rattle.model.specs.declared.call.Answer.{Answer}
-use Rattle.sheet.specs.Calls.{Kind, Instruction, OnFrame, OnHost, Adding, Raising, Other, kind, own}
+use Rattle.sheet.specs.Gates.{Kind, Instruction, OnFrame, OnHost, Adding, Raising, Other, kind}
+use Rattle.sheet.specs.Own.{own}
 use Rattle.sheet.specs.Charges.{isDone}
 use Rattle.sheet.proofs.Arms.{Fine, new-fine, new-indirect-fine, spawn-fine, yield-fine, yield-kv-fine, await-fine, resume-fine, throw-fine, close-fine, iter-fine, status-fine, current-fine, key-fine, result-fine}
 use Rattle.sheet.proofs.Says.{answer-number}

@@ -24,7 +24,8 @@ use Rattle.model.specs.declared.machine.Cont.{Cont}
 use Rattle.model.specs.declared.exec.Step.{Step}
 use Rattle.model.specs.declared.call.Op.{Op}
 use Rattle.model.specs.declared.call.Answer.{Answer}
-use Rattle.sheet.specs.Calls.{Kind, Instruction, OnFrame, OnHost, Adding, Raising, Other, kind, own, ownWord}
+use Rattle.sheet.specs.Gates.{Kind, Instruction, OnFrame, OnHost, Adding, Raising, Other, kind}
+use Rattle.sheet.specs.Own.{own, ownWord}
 use Rattle.sheet.specs.FaultSheet.{unchanging}
 use Rattle.sheet.proofs.Choice.{both}
 use Rattle.sheet.proofs.Among.{same}

@@ -15,7 +15,8 @@ use Rattle.model.specs.Call.{Do}
 use Rattle.model.specs.Step.{call}
 use Rattle.model.specs.declared.machine.Active.{Active}
 use Rattle.model.specs.declared.call.Op.{Op}
-use Rattle.sheet.specs.Calls.{kind, given}
+use Rattle.sheet.specs.Gates.{kind}
+use Rattle.sheet.specs.Number.{given}
 use Rattle.sheet.specs.Charges.{paid}
 use Rattle.sheet.proofs.Among.{unlike}
 use Rattle.sheet.proofs.Keep.{lost, isAbsent, key-keeps, yielded-keeps, yield-key}

@@ -34,7 +34,7 @@ use Rattle.model.specs.declared.machine.Stop.{Stop}
 use Rattle.model.specs.declared.coro.Made.{Made}
 use Rattle.model.specs.declared.call.Op.{Op}
 use Rattle.model.specs.declared.call.Answer.{Answer}
-use Rattle.sheet.specs.Calls.{given}
+use Rattle.sheet.specs.Number.{given}
 use Rattle.sheet.specs.Charges.{usedUp, leaves, landsBy, landsFrom, lands, landsMade, unwindUnpaid}
 use Rattle.sheet.proofs.Choice.{both}
 use Rattle.sheet.proofs.Among.{unlike}

@@ -11,8 +11,8 @@ use Rattle.model.specs.Examples.{plain}
 use Rattle.model.specs.declared.machine.Cont.{Cont}
 use Rattle.heap.specs.declared.heap.ResultKind.{ResultKind}
 use Rattle.model.specs.declared.call.Op.{Op}
-use Rattle.sheet.specs.Calls.{own}
-use Rattle.sheet.specs.Coverage.{small, usual, f0, c, gives, begun, holding, running, yielded, ignoring, looping}
+use Rattle.sheet.specs.Own.{own}
+use Rattle.sheet.specs.SmallRuns.{small, usual, f0, c, gives, begun, holding, running, yielded, ignoring, looping, itself, tall, keyed}
 
 -- ---- set-ups: with a hook, with little memory, with no slot left, and with a function wider than the stack
 
@@ -34,22 +34,13 @@ wide =
       functions = plain 1 ∷ plain 20 ∷ [];
     }
 
--- ---- runs: register 0 holds a function; it runs and holds its own word; it waits with more words than fit above the caller's
+-- ---- runs
 
+-- register 0 holds a function
 abbrev pub function : List Op
 function = begun 100 (Op.PutWord 0 f0 ∷ [])
 
-abbrev pub itself : List Op
-itself = running 1 (Op.CoroCurrent 3 0 ∷ [])
-
-abbrev pub tall : List Op
-tall = running 1 (Op.FunctionCall 5 1 Cont.Discard ∷ Op.Yield 8 0 0 ∷ Op.FunctionCall 6 0 Cont.Discard ∷ Op.PutWord 0 c ∷ [])
-
--- .. it was given n as its key, and goes on
-abbrev pub keyed : ℕ → List Op
-keyed n = running 1 (Op.FunctionCall 5 0 (Cont.Dyn 1) ∷ Op.Finish ResultKind.I64 n ∷ Op.YieldKv 7 0 0 1 ∷ Op.Resume 3 1 0 2 ∷ [])
-
--- .. it stands one frame deeper than ever
+-- a coroutine stands one frame deeper than ever
 abbrev pub deeper : List Op
 deeper = running 1 (Op.FunctionCall 5 0 Cont.Discard ∷ [])
 

@@ -14,7 +14,7 @@ use Rattle.model.specs.Step.{Out, step}
 use Rattle.model.specs.declared.exec.Step.{Step}
 use Rattle.model.specs.declared.call.Op.{Op}
 use Rattle.model.specs.declared.call.Answer.{Answer}
-use Rattle.sheet.specs.Calls.{Instruction, kind}
+use Rattle.sheet.specs.Gates.{Instruction, kind}
 use Rattle.sheet.specs.Charges.{passes}
 
 abbrev pub Engine : Type 0

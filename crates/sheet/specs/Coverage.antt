@@ -1,17 +1,15 @@
 -- For each number of the fault sheet, short lists of calls that get it from a set-up: no refusal of the definitions is dead.
-use Prim.Native.Nat.{ℕ, _-_, _^_}
+use Prim.Native.Nat.{_-_, _^_}
 use mathlib.Core.Path.{_≡_}
-use mathlib.Core.List.{List, [], _∷_, map}
+use mathlib.Core.List.{[], _∷_}
 use lib.IntN.{pos}
 use Rattle.heap.specs.Word.{nil, intWord}
 use Rattle.heap.specs.declared.fault.Fault.{Fault}
 use Rattle.heap.specs.declared.value.Opt.{Opt}
-use Rattle.model.specs.Program.{Setup}
-use Rattle.model.specs.World.{World, fresh}
+use Rattle.model.specs.World.{fresh}
 use Rattle.model.specs.Answer.{numberOf, wordOf}
-use Rattle.model.specs.Call.{SetUp, Do}
-use Rattle.model.specs.Step.{step, run}
-use Rattle.model.specs.Examples.{plain, catching}
+use Rattle.model.specs.Call.{SetUp}
+use Rattle.model.specs.Step.{step}
 use Rattle.model.specs.declared.machine.Cont.{Cont}
 use Rattle.model.specs.declared.machine.Outcome.{Outcome}
 use Rattle.model.specs.declared.machine.Stop.{Stop}
@@ -19,65 +17,7 @@ use Rattle.model.specs.declared.exec.Step.{Step}
 use Rattle.heap.specs.declared.heap.ResultKind.{ResultKind}
 use Rattle.model.specs.declared.call.Op.{Op}
 use Rattle.model.specs.declared.call.Answer.{Answer}
-
--- ---- a set-up: three functions of 1, 2 and 6 registers, and one of 2 registers that catches
-
-abbrev pub small : ℕ → ℕ → ℕ → Opt → Setup
-small rows slots memory hook =
-    record {
-      limits = record { depth = 4; stack = 10; rows = rows; slots = slots; memory = memory };
-      costs = record { frame = 32; coro = 104; object = 160; int = 56; error = 56; iter = 112 };
-      hook = hook;
-      functions = plain 1 ∷ plain 2 ∷ plain 6 ∷ catching ∷ [];
-    }
-
-abbrev pub usual : Setup
-usual = small 2 8 4096 Opt.None
-
--- the words of the functions, and of the first object made
-abbrev pub f0 : ℕ
-f0 = 0x1_0000_0000_0000
-
-abbrev pub c : ℕ
-c = 0x1_0000_0000_0004
-
-abbrev pub d : ℕ
-d = 0x1_0000_0000_0005
-
--- ---- calls from a set-up
-
-abbrev pub reached : Setup → List Op → World
-reached s os = run (fresh s) (SetUp s ∷ map Do os)
-
-abbrev pub answer : Setup → List Op → Op → Answer
-answer s os o = step (reached s os) (Do o) .answer
-
-abbrev pub gives : Setup → List Op → Op → ℕ
-gives s os o = numberOf (answer s os o)
-
--- a run of the function of six registers, with n units of fuel
-abbrev pub begun : ℕ → List Op → List Op
-begun n os = Op.Grant n ∷ Op.HostCall 2 ∷ os
-
--- .. that holds a new coroutine of function f in register 0
-abbrev pub holding : ℕ → List Op → List Op
-holding f os = begun 100 (Op.CoroNew 1 0 f 0 ∷ os)
-
--- .. which has been resumed and runs
-abbrev pub running : ℕ → List Op → List Op
-running f os = holding f (Op.Resume 2 1 0 2 ∷ os)
-
--- .. and has yielded
-abbrev pub yielded : ℕ → List Op → List Op
-yielded f os = running f (Op.Yield 8 0 0 ∷ os)
-
--- .. and is closed with the word 9, which it catches
-abbrev pub ignoring : List Op → List Op
-ignoring os = yielded 3 (Op.PutWord 2 9 ∷ Op.CoroClose 3 1 0 2 ∷ Op.Unwind (Fault.Throw 9) Opt.None ∷ os)
-
--- .. in a loop: the iterator in register 1, `has` 2, `val` 3
-abbrev pub looping : List Op → List Op
-looping os = holding 1 (Op.MakeIterator c ∷ Op.PutWord 1 d ∷ Op.IterNext 2 2 1 3 0 ∷ os)
+use Rattle.sheet.specs.SmallRuns.{small, usual, f0, c, d, answer, gives, begun, holding, running, yielded, ignoring, looping}
 
 pub record Coverage : Type 0 where
   -- 0 | accepted

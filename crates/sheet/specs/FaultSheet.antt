@@ -11,7 +11,9 @@ use Rattle.model.specs.Answer.{wordOf}
 use Rattle.model.specs.Call.{Call, SetUp, Do}
 use Rattle.model.specs.Step.{step}
 use Rattle.model.specs.declared.call.Op.{Op}
-use Rattle.sheet.specs.Calls.{kind, needsFrame, needsHost, misplaced, badOperand, tooLarge, noSuchFault, atGate, own, ownWord, number, given}
+use Rattle.sheet.specs.Gates.{kind, needsFrame, needsHost, misplaced, badOperand, tooLarge, noSuchFault, atGate}
+use Rattle.sheet.specs.Own.{own, ownWord}
+use Rattle.sheet.specs.Number.{number, given}
 
 -- 01: "11, 12, 13, 15, 16 change no word."
 abbrev pub unchanging : List ℕ

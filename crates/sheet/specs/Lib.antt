@@ -1,13 +1,22 @@
 -- The fault sheet, PEP 342, coverage and the cheating engines, as statements on the model.
-pub mod Calls
+pub mod Gates
+pub mod Own
+pub mod Number
 pub mod FaultSheet
 pub mod Charges
 pub mod Queue
+pub mod Sites
 pub mod Places
 pub mod Memory
 pub mod Pep342
+pub mod Pep342Yields
+pub mod Pep342Awaits
 pub mod Pep342Ends
+pub mod Pep342Deletion
 pub mod Mistakes
+pub mod SmallRuns
 pub mod Coverage
 pub mod Attained
+pub mod Met
+pub mod Premises
 pub mod Cheats

@@ -31,7 +31,8 @@ use Rattle.model.specs.declared.machine.Frame.{Frame}
 use Rattle.model.specs.declared.coro.AutoKey.{AutoKey}
 use Rattle.heap.specs.declared.heap.ResultKind.{ResultKind}
 use Rattle.model.specs.declared.call.Op.{Op}
-use Rattle.sheet.specs.Calls.{kind, given}
+use Rattle.sheet.specs.Gates.{kind}
+use Rattle.sheet.specs.Number.{given}
 use Rattle.sheet.specs.Charges.{paid}
 
 -- ---- creation: "tests 8 times registers + C + F against the limit (9), then 14, .. then charges 8 times registers + A + F (9 ..)"

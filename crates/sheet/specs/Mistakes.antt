@@ -19,7 +19,7 @@ use Rattle.model.specs.declared.machine.Driver.{Driver}
 use Rattle.model.specs.declared.exec.Step.{Step}
 use Rattle.model.specs.declared.call.Op.{Op}
 use Rattle.sheet.specs.Pep342.{Pays, leaves}
-use Rattle.sheet.specs.Pep342Ends.{Yields, left}
+use Rattle.sheet.specs.Pep342Yields.{Yields, left}
 
 pub record Mistakes : Type 0 where
   -- a suspension keeps the sizes that it paid for, and pays no more for them

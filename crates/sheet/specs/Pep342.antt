@@ -1,5 +1,5 @@
 -- What this machine keeps of PEP 342: send, throw and close, as one short statement for each sentence. The table of sentences
--- is docs/PEP342.md; what the coroutine does next, and deletion, are in Pep342Ends.antt.
+-- is docs/PEP342.md; what the coroutine does next is in Pep342Yields, Pep342Awaits and Pep342Ends, deletion in Pep342Deletion.
 use Prim.Native.Nat.{ℕ}
 use mathlib.Core.Path.{_≡_}
 use mathlib.Core.Bool.{true, false}
@@ -19,11 +19,10 @@ use Rattle.model.specs.Call.{Do}
 use Rattle.model.specs.Step.{Out, told, step}
 use Rattle.model.specs.declared.machine.Charge.{Charge}
 use Rattle.model.specs.declared.machine.Driver.{Driver}
-use Rattle.model.specs.declared.machine.Frame.{Frame}
 use Rattle.model.specs.declared.exec.Step.{Step}
 use Rattle.model.specs.declared.call.Op.{Op}
 use Rattle.model.specs.declared.call.Answer.{Answer}
-use Rattle.sheet.specs.Calls.{kind}
+use Rattle.sheet.specs.Gates.{kind}
 use Rattle.sheet.specs.Charges.{passes}
 
 -- an instruction at pc of a sound machine passes its gate and its charge, which leaves u and takes n words off the queue

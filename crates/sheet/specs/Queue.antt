@@ -21,7 +21,7 @@ use Rattle.model.specs.Step.{step}
 use Rattle.model.specs.declared.machine.Driver.{Driver}
 use Rattle.model.specs.declared.exec.Step.{Step}
 use Rattle.model.specs.declared.call.Op.{Op}
-use Rattle.sheet.specs.Calls.{Instruction, kind}
+use Rattle.sheet.specs.Gates.{Instruction, kind}
 use Rattle.sheet.specs.Charges.{passes}
 
 -- c can be closed now: it is suspended and fits on the stack
