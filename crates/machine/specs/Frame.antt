@@ -14,10 +14,6 @@ use Rattle.memory.specs.Numbers.{withHeight, withDepth}
 use Rattle.memory.specs.declared.machine.Machine.{Machine}
 use Rattle.memory.specs.declared.machine.Sizes.{Sizes}
 
--- for every world that the words stand for, they stand for g of it
-abbrev pub Turns : (World → World) → (Beside → Lent) → Machine → (Beside → Lent) → Machine → Type 0
-Turns g M m M′ m′ = (l : Sizes) (w : World) (b : Beside) → Rep l w (M b) m (b .fuel) → Rep l (g w) (M′ b) m′ (b .fuel)
-
 -- there is a frame
 pub record DepthFits (frames : List ℕ) (depth : ℕ) : Type 0 where
   pub some : 1 ≤ depth

@@ -6,7 +6,8 @@ ghost use Rattle.model.specs.Frames.{storePc, putReg};
 ghost use Rattle.model.specs.Machine.{pushFrame};
 ghost use Rattle.tables.specs.Does.{RegFits};
 ghost use Rattle.memory.specs.Memory.{onStack, onFrames, onSetup, Met};
-ghost use Rattle.machine.specs.Frame.{Turns, DepthFits, widthIn, PushFits, overflowing, pushed, PopFits, Pops};
+ghost use Rattle.memory.specs.Leaves.{Leaves, lentTop};
+ghost use Rattle.machine.specs.Frame.{DepthFits, widthIn, PushFits, overflowing, pushed, PopFits, Pops};
 use heap::fault::Fault;
 use memory::machine::Machine;
 use memory::machine::Sizes;
@@ -22,7 +23,7 @@ pub struct FrameDid {
 // The pc of the top frame.
 pub fn store_pc(frames: &mut [u64], m: Machine, pc: u64)
     requires { ⌜ DepthFits (now frames) (m .depth) ⌝ }
-    ensures { λ _. ⌜ Turns (storePc pc) (λ b. onFrames (now (frames .entry)) (b .words)) m (λ b. onFrames (now (frames .exit)) (b .words)) m ⌝ }
+    ensures { λ _. ⌜ Leaves (storePc pc) (λ b. onFrames (now (frames .entry)) (b .words)) m (λ b. onFrames (now (frames .exit)) (b .words)) m ⌝ }
 {
     tables::frames::store_pc(frames, m.depth, pc);
 }
@@ -30,7 +31,7 @@ pub fn store_pc(frames: &mut [u64], m: Machine, pc: u64)
 // A word into a register of the top frame.
 pub fn put(stack: &mut [u64], frames: &[u64], m: Machine, r: u64, v: u64)
     requires { ⌜ RegFits (now stack) (now frames) (m .height) (m .depth) r ⌝ }
-    ensures { λ _. ⌜ Turns (putReg r v) (λ b. onStack (now (stack .entry)) (onFrames (now (frames .entry)) (b .words))) m (λ b. onStack (now (stack .exit)) (onFrames (now (frames .entry)) (b .words))) m ⌝ }
+    ensures { λ _. ⌜ Leaves (putReg r v) (lentTop (now (stack .entry)) (now (frames .entry))) m (lentTop (now (stack .exit)) (now (frames .entry))) m ⌝ }
 {
     tables::stack::put_reg(stack, frames, m.height, m.depth, r as usize, v);
 }
@@ -100,7 +101,7 @@ pub fn push_frame(
 // The top frame goes, with its registers.
 pub fn pop(stack: &mut [u64], frames: &mut [u64], m: Machine) -> Machine
     requires { ⌜ PopFits (now stack) (now frames) m ⌝ }
-    ensures { λ r. ⌜ Pops (λ b. onStack (now (stack .entry)) (onFrames (now (frames .entry)) (b .words))) m (λ b. onStack (now (stack .exit)) (onFrames (now (frames .exit)) (b .words))) r ⌝ }
+    ensures { λ r. ⌜ Pops (lentTop (now (stack .entry)) (now (frames .entry))) m (lentTop (now (stack .exit)) (now (frames .exit))) r ⌝ }
 {
     let base = frames[(m.depth - 1) * 6 + 2] as usize;
     tables::stack::cut(stack, m.height, base);

@@ -1,4 +1,5 @@
 pub mod Slots
 pub mod Rows
 pub mod Memory
+pub mod Leaves
 pub mod Numbers

@@ -19,6 +19,7 @@ pub mod Sound
 pub mod Call
 pub mod Step
 pub mod Compute
+pub mod Example
 pub mod Examples
 pub mod Runs
 pub mod Mistakes

@@ -8,7 +8,8 @@ use Rattle.model.specs.World.{World}
 use Rattle.model.specs.Step.{step}
 use Rattle.model.specs.Call.{Call, Do}
 use Rattle.model.specs.Compute.{computed}
-use Rattle.model.specs.Examples.{c, d, holding, reached, number, look, integer}
+use Rattle.model.specs.Example.{c, d, holding, reached, number, look}
+use Rattle.model.specs.Examples.{integer}
 use Rattle.model.specs.Sound.{sound}
 use Rattle.model.specs.Runs.{caller, body, begun, yielded}
 use Rattle.model.specs.declared.machine.Cont.{Cont}

@@ -14,7 +14,7 @@ use Rattle.model.specs.Coro.{coroState}
 use Rattle.model.specs.Call.{Call, Do}
 use Rattle.model.specs.Step.{step}
 use Rattle.model.specs.Compute.{computed}
-use Rattle.model.specs.Examples.{c, d, holding, reached, look}
+use Rattle.model.specs.Example.{c, d, holding, reached, look}
 use Rattle.model.specs.declared.machine.Cont.{Cont}
 use Rattle.model.specs.declared.machine.Driver.{Driver}
 use Rattle.model.specs.declared.machine.Frame.{Frame}

@@ -8,7 +8,7 @@ use Rattle.model.specs.World.{World, fresh}
 use Rattle.model.specs.Answer.{numberOf}
 use Rattle.model.specs.Call.{SetUp, Do}
 use Rattle.model.specs.Step.{step, run}
-use Rattle.model.specs.Examples.{plain, catching}
+use Rattle.model.specs.Example.{plain, catching}
 use Rattle.model.specs.declared.machine.Cont.{Cont}
 use Rattle.heap.specs.declared.heap.ResultKind.{ResultKind}
 use Rattle.model.specs.declared.call.Op.{Op}

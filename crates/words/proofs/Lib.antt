@@ -1,0 +1,5 @@
+pub mod Few
+pub mod Encoded
+pub mod Saved
+pub mod Decoded
+pub mod Widest

@@ -1,0 +1,22 @@
+-- `sizes` meets its contract. Assumes nothing.
+use borrow.Author.Needs.{needs}
+use Rattle.words.proofs.Widest.{told}
+use Rattle.words.proofs.sizes.sizes.Statement.{statement}
+use Rattle.words.proofs.sizes.sizes.Tie as tie
+
+limits-requires : tie.Need-limits-requires
+limits-requires c κs = search needs
+
+costs-requires : tie.Need-costs-requires
+costs-requires c κs = search needs
+
+row-words-requires : tie.Need-row-words-requires
+row-words-requires c κs = search needs
+
+returns : tie.Need-returns
+returns c =
+    told (c .before .before .before .before .args .setup .now) (c .before .before .limits .result) (c .before .costs .result) (c .row-words .result)
+    (c .before .before .limits .ensures) (c .before .costs .ensures) (c .row-words .ensures)
+
+pub sizes-spec : {M : Type 1} → statement M
+sizes-spec = tie.close (tie.spec limits-requires costs-requires row-words-requires returns)
