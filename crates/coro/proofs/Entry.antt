@@ -29,14 +29,13 @@ use Rattle.model.specs.Coro.{active, inState, entered, overflows, enterAs, coro
 use Rattle.model.specs.Sound.{rowWords, sound, basesOk, frameNames, contsLie, catchesLie, framesOver, bodyLast, waits, savedIn, savedSizes}
 use Rattle.model.specs.Program.{Setup}
 use Rattle.model.specs.declared.coro.Entered.{Entered}
-use Rattle.model.specs.declared.machine.Active.{Active}
 use Rattle.model.specs.declared.machine.Cont.{Cont}
 use Rattle.model.specs.declared.machine.Driver.{Driver}
 use Rattle.model.specs.declared.machine.Frame.{Frame}
 use Rattle.model.specs.declared.machine.Fuel.{Fuel}
 use Rattle.invariant.proofs.Tests.{no-false, no-true, and-left, and-right, or-first, or-second}
 use Rattle.invariant.proofs.Point.{Points, finds}
-use Rattle.invariant.proofs.Stand.{Stands, ground, plain, body}
+use Rattle.invariant.proofs.Stand.{chained}
 use Rattle.invariant.proofs.Sound.{Sound, sound→}
 use Rattle.invariant.proofs.Coros.{object-ok}
 use Rattle.invariant.proofs.Enter.{resumable-held}
@@ -66,18 +65,13 @@ nil-length : {A : Type 0} (xs : List A) → eqb (length xs) 0 ≡ isNil xs
 nil-length [] = refl
 nil-length (x ∷ xs) = ne-eqb (suc (length xs)) 0 (λ z. omega arith)
 
-bases-under : (n : ℕ) (fs : List Frame) (d : Frame) → basesOk n fs ≡ true → (i : ℕ) → i < length fs → getD fs i d .base ≤ n
+pub bases-under : (n : ℕ) (fs : List Frame) (d : Frame) → basesOk n fs ≡ true → (i : ℕ) → i < length fs → getD fs i d .base ≤ n
 bases-under n [] d h i k = absurd (not-suc-le-zero k)
 bases-under n (f ∷ fs) d h zero k = leb-true (f .base) n (and-left (leb (f .base) n) (basesOk (f .base) fs) h)
 bases-under n (f ∷ fs) d h (suc i) k =
     let a = leb-true (f .base) n (and-left (leb (f .base) n) (basesOk (f .base) fs) h) in
     let b = bases-under (f .base) fs d (and-right (leb (f .base) n) (basesOk (f .base) fs) h) i (le-of-suc-le-suc k) in
     omega arith
-
-chained : {ex : Bool} {s : Setup} {n : ℕ} {fs : List Frame} {chain : List Active} → Stands ex s n fs chain → length chain ≤ length fs
-chained (ground e) = omega arith
-chained (plain a b c d) = let h = chained d in omega arith
-chained (body a b c d e) = let h = chained e in omega arith
 
 some-frame : (fs : List Frame) → isNil fs ≡ false → 1 ≤ length fs
 some-frame [] e = no-true e

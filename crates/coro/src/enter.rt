@@ -7,9 +7,9 @@ ghost use Rattle.heap.specs.Table.{slot};
 ghost use Rattle.heap.specs.Word.{tagOf};
 ghost use Rattle.heap.specs.declared.object.Object.the-variants.{Coro};
 ghost use Rattle.model.specs.Coro.{coroEnter};
-ghost use Rattle.model.specs.State.{isResumable};
 ghost use Rattle.memory.specs.Memory.{lent, Ok, Met};
 ghost use Rattle.coro.specs.Enter.{refusalOf, running, enteredAs, grown, MoveFits, Moves};
+use crate::state::is_resumable;
 use heap::fault::Fault;
 use heap::heap::Coroutine;
 use heap::object::CoroObj;
@@ -26,20 +26,6 @@ use model::machine::Driver;
 pub struct EnterDid {
     pub machine: Machine,
     pub answer: Entered,
-}
-
-// CoroState::is_resumable
-pub(crate) fn is_resumable(s: CoroState) -> bool
-    ensures { λ r. ⌜ r ≡ isResumable s ⌝ }
-{
-    match s {
-        CoroState::Created => true,
-        CoroState::Running => false,
-        CoroState::Yielded => true,
-        CoroState::Awaiting => true,
-        CoroState::Returned => false,
-        CoroState::Failed => false,
-    }
 }
 
 // Why a coroutine is not entered, or None.

@@ -2,3 +2,4 @@
 pub mod enter;
 pub mod resume;
 pub mod send;
+pub mod state;

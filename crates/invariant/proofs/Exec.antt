@@ -136,15 +136,15 @@ suspend-step : {ex : Bool} (pc : ℕ) (st : CoroState) (dst payload : ℕ) (keys
 suspend-step pc st dst payload keys w h p is small t =
     then-good deliverAll (suspend-good st dst payload keys (storePc pc w) (store-sound pc w p h) is small (calm-top dst (calm-store pc w) t .inside)) (λ u s k f. deliver-all u s k f)
 
-record Keyed (w u : World) (k : AutoKey) : Type 0 where
-  still : Still w u
-  fine : keyFine k ≡ true
+pub record Keyed (w u : World) (k : AutoKey) : Type 0 where
+  pub still : Still w u
+  pub fine : keyFine k ≡ true
 
 key-at : {ex : Bool} (n : ℕ) (w u : World) (m : Made) → Sound ex u → Making w u m → Good ex (Keyed w) (keyAt n u m)
 key-at n w u (Made.Word k) h p = good h (record { still = p .still; fine = refl })
 key-at n w u (Made.Refused f) h p = good h (record { still = p .still; fine = p .fine })
 
-auto-good : {ex : Bool} (largest : ℕ) (w : World) → Sound ex w → Good ex (Keyed w) (autoKey largest w)
+pub auto-good : {ex : Bool} (largest : ℕ) (w : World) → Sound ex w → Good ex (Keyed w) (autoKey largest w)
 unfolding autoKey
 auto-good {ex} largest w h = go (nextKey largest)
   where

@@ -58,7 +58,7 @@ suspended-idle CoroState.Awaiting e = refl
 suspended-idle CoroState.Returned e = no-false e
 suspended-idle CoroState.Failed e = no-false e
 
-suspended-held : (st : CoroState) → isSuspended st ≡ true → isFinished st ≡ false
+pub suspended-held : (st : CoroState) → isSuspended st ≡ true → isFinished st ≡ false
 suspended-held CoroState.Created e = no-false e
 suspended-held CoroState.Running e = no-false e
 suspended-held CoroState.Yielded e = refl

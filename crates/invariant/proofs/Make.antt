@@ -100,12 +100,12 @@ dyn-good ResultKind.U64 v w h = exact-good (exactly (valueOf IntTy.U64 v)) w h
 
 -- ---- coro_create
 
-length-newRegs : (n : ℕ) (args : List ℕ) → length (newRegs n args) ≡ n
+pub length-newRegs : (n : ℕ) (args : List ℕ) → length (newRegs n args) ≡ n
 length-newRegs n args =
     picked (λ (x : List ℕ). length x ≡ n) (leb (length args) n)
     (λ e. let l = leb-true (length args) n e in let a = length-append args (replicate (n - length args) 0) in let b = length-replicate {A = ℕ} (n - length args) 0 in omega arith) (λ e. length-replicate n 0)
 
-regs-widest : (fs : List Func) (f : ℕ) → f < length fs → getD fs f noFunc .regs ≤ widest fs
+pub regs-widest : (fs : List Func) (f : ℕ) → f < length fs → getD fs f noFunc .regs ≤ widest fs
 regs-widest [] f l = absurd (not-suc-le-zero l)
 regs-widest (x ∷ fs) zero l = omega arith
 regs-widest (x ∷ fs) (suc f) l = let h = regs-widest fs f (le-of-suc-le-suc l) in omega arith

@@ -47,11 +47,15 @@ pub record Facts (s : Setup) : Type 0 where
   pub deep : 1 ≤ s .limits .depth
   pub depth : s .limits .depth ≤ 128
   pub stack : s .limits .stack ≤ 1024
+  pub rows : s .limits .rows ≤ 64
   pub slots : s .limits .slots ≤ 4096
   pub few : length (s .functions) ≤ 32
   pub fit : length (s .functions) ≤ s .limits .slots
   pub functions : each functionOk (s .functions) ≡ true
   pub hook : hookOk s (s .hook) ≡ true
+  pub frame : s .costs .frame ≤ 65536
+  pub coro : s .costs .coro ≤ 65536
+  pub object : s .costs .object ≤ 65536
 
 -- four of six facts, in order
 six : (a b c d e f : Bool) → (a && b && c && d && e && f) ≡ true → (a ≡ true) × (b ≡ true) × (c ≡ true) × (d ≡ true) × (e ≡ true) × (f ≡ true)
@@ -71,18 +75,26 @@ facts s h =
     let b = a .0 in
     let c : (between 1 128 (l .depth) && between 1 1024 (l .stack) && between 1 64 (l .rows) && between 1 4096 (l .slots)) ≡ true =
     and-left (between 1 128 (l .depth) && between 1 1024 (l .stack) && between 1 64 (l .rows) && between 1 4096 (l .slots)) (ltb (l .memory) (2 ^ 64)) b in
+    let r : (between 1 128 (l .depth) && between 1 1024 (l .stack) && between 1 64 (l .rows)) ≡ true =
+    and-left (between 1 128 (l .depth) && between 1 1024 (l .stack) && between 1 64 (l .rows)) (between 1 4096 (l .slots)) c in
     let d : (between 1 128 (l .depth) && between 1 1024 (l .stack)) ≡ true =
-    and-left (between 1 128 (l .depth) && between 1 1024 (l .stack)) (between 1 64 (l .rows)) (and-left (between 1 128 (l .depth) && between 1 1024 (l .stack) && between 1 64 (l .rows)) (between 1 4096 (l .slots)) c) in
+    and-left (between 1 128 (l .depth) && between 1 1024 (l .stack)) (between 1 64 (l .rows)) r in
+    let o = s .costs in
+    let k = six (leb (o .frame) 65536) (leb (o .coro) 65536) (leb (o .object) 65536) (leb (o .int) 65536) (leb (o .error) 65536) (leb (o .iter) 65536) (a .1) in
     let e : between 1 128 (l .depth) ≡ true = and-left (between 1 128 (l .depth)) (between 1 1024 (l .stack)) d in
     record {
       deep = leb-true 1 (l .depth) (and-left (leb 1 (l .depth)) (leb (l .depth) 128) e);
       depth = leb-true (l .depth) 128 (and-right (leb 1 (l .depth)) (leb (l .depth) 128) e);
       stack = leb-true (l .stack) 1024 (and-right (leb 1 (l .stack)) (leb (l .stack) 1024) (and-right (between 1 128 (l .depth)) (between 1 1024 (l .stack)) d));
+      rows = leb-true (l .rows) 64 (and-right (leb 1 (l .rows)) (leb (l .rows) 64) (and-right (between 1 128 (l .depth) && between 1 1024 (l .stack)) (between 1 64 (l .rows)) r));
       slots = leb-true (l .slots) 4096 (and-right (leb 1 (l .slots)) (leb (l .slots) 4096) (and-right (between 1 128 (l .depth) && between 1 1024 (l .stack) && between 1 64 (l .rows)) (between 1 4096 (l .slots)) c));
       few = leb-true n 32 (and-right (leb 1 n) (leb n 32) (a .2));
       fit = leb-true n (l .slots) (a .3);
       functions = a .4;
       hook = a .5;
+      frame = leb-true (o .frame) 65536 (k .0);
+      coro = leb-true (o .coro) 65536 (k .1);
+      object = leb-true (o .object) 65536 (k .2);
     }
 
 -- ---- the parts

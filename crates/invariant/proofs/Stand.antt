@@ -3,6 +3,7 @@ use mathlib.Core.Path.{_≡_, refl, sym, _∙_, subst}
 use mathlib.Core.Bool.{Bool, true, false, not, _&&_, _||_}
 use mathlib.Core.List.{List, [], _∷_}
 use Prim.Native.Nat.{ℕ, _+_, _≤_}
+use native.Mathlib.Omega.{arith}
 use lib.ListN.{length}
 use lib.Dec.{eqb, ltb, leb}
 use borrow.Author.Tests.{leb-true, le-leb, eqb-true, eq-eqb}
@@ -41,6 +42,12 @@ pub data Lifts (ex : Bool) (s : Setup) : ℕ → List Frame → Type 0 where
   l-body : {n : ℕ} {f : Frame} → isCoro (f .cont) ≡ true → f .base ≡ 0 → Fits ex s n f [] → Lifts ex s n (f ∷ [])
   l-plain : {n : ℕ} {f g : Frame} {fs : List Frame} → isCoro (f .cont) ≡ false → isEntry (f .cont) ≡ false → Fits ex s n f (g ∷ fs) → Lifts ex s (f .base) (g ∷ fs)
       → Lifts ex s n (f ∷ g ∷ fs)
+
+-- no more running coroutines than frames
+pub chained : {ex : Bool} {s : Setup} {n : ℕ} {fs : List Frame} {chain : List Active} → Stands ex s n fs chain → length chain ≤ length fs
+chained (ground e) = omega arith
+chained (plain a b c d) = let h = chained d in omega arith
+chained (body a b c d e) = let h = chained e in omega arith
 
 -- ---- from the tests
 

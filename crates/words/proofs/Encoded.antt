@@ -18,10 +18,9 @@ use Rattle.model.specs.Program.{Setup, noFunc, setupOk}
 use Rattle.model.specs.World.{World, fresh}
 use Rattle.model.specs.Sound.{rowWords, sound}
 use Rattle.model.specs.Example.{example}
-use Rattle.model.specs.declared.machine.Active.{Active}
 use Rattle.model.specs.declared.machine.Frame.{Frame}
 use Rattle.invariant.proofs.Tests.{no-false}
-use Rattle.invariant.proofs.Stand.{Stands, ground, plain, body}
+use Rattle.invariant.proofs.Stand.{chained}
 use Rattle.invariant.proofs.Sound.{Sound, sound→, →sound}
 use Rattle.invariant.proofs.Kept.{fresh-sound}
 use Rattle.tables.specs.Layout.{frameWords, activeWords, functionWords}
@@ -37,12 +36,6 @@ use Rattle.memory.specs.Memory.{Lent, Beside, lent, Slots, regsRows, framesRows
 use Rattle.memory.proofs.Tables.{length-tabled}
 use Rattle.words.specs.Words.{sizesOf, Lengths, lengthsOf, needed, wordsIn, wordsOf, numbersOf, besideOf, Encoded, EveryWorld}
 use Rattle.words.proofs.Few.{queue-few}
-
--- no more running coroutines than frames
-chained : {ex : Bool} {s : Setup} {n : ℕ} {fs : List Frame} {chain : List Active} → Stands ex s n fs chain → length chain ≤ length fs
-chained (ground e) = omega arith
-chained (plain a b c d) = let h = chained d in omega arith
-chained (body a b c d e) = let h = chained e in omega arith
 
 -- ---- lengths
 

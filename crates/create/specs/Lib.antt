@@ -1,0 +1,5 @@
+pub mod Numbers
+pub mod Row
+pub mod Create
+pub mod Key
+pub mod State

@@ -1,0 +1,4 @@
+pub mod Settled
+pub mod Keys
+pub mod Yields
+pub mod Newly

@@ -1,0 +1,3 @@
+pub mod New
+pub mod Suspend
+pub mod Yielding

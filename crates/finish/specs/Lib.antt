@@ -1,0 +1,4 @@
+pub mod Iter
+pub mod Deliver
+pub mod Finish
+pub mod Returned

@@ -1,0 +1,4 @@
+pub mod Parts
+pub mod Innermost
+pub mod Asleep
+pub mod Awake

@@ -1,0 +1,2 @@
+// coro.rs: coro_suspend, on the lent words.
+pub mod suspend;
