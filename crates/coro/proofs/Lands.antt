@@ -2,41 +2,30 @@
 use mathlib.Core.Path.{_≡_, refl, sym, ap, _∙_, subst}
 use mathlib.Core.Bool.{Bool, true, false, not, _&&_, _||_}
 use mathlib.Core.List.{List, [], _∷_, _++_, map}
-use Prim.Native.Nat.{ℕ, _+_, _-_, _*_, _^_, _<_}
+use Prim.Native.Nat.{ℕ, _+_, _-_, _^_, _<_}
 use native.Mathlib.Omega.{arith}
-use lib.ListN.{length, getD, length-append}
+use lib.ListN.{length, length-append}
 use lib.Dec.{ltb}
 use borrow.Author.Tests.{ltb-true, lt-ltb, not-false}
 use Rattle.lists.specs.Pick.{pick, pick-true}
-use Rattle.lists.proofs.Tables.{chunk-get}
 use Rattle.heap.specs.declared.object.CoroState.{CoroState}
 use Rattle.model.specs.Lists.{isNil, each}
 use Rattle.model.specs.State.{isCreated, isResumable, isSuspended}
 use Rattle.model.specs.Program.{Setup, isFunction}
 use Rattle.model.specs.Object.{Coroutine, Absent, Is}
 use Rattle.model.specs.World.{World, After}
-use Rattle.model.specs.Frames.{raise, topBase, storePc, onTop, setPc}
+use Rattle.model.specs.Frames.{raise, topBase, storePc}
 use Rattle.model.specs.Heap.{coro}
 use Rattle.model.specs.Coro.{overflows, enterAs, coroEnter}
 use Rattle.model.specs.Sound.{sound, basesOk, frameNames, contsLie, catchesLie, framesOver, bodyLast, waits, savedIn}
 use Rattle.model.specs.declared.coro.Entered.{Entered}
 use Rattle.model.specs.declared.machine.Driver.{Driver}
 use Rattle.model.specs.declared.machine.Frame.{Frame}
-use Rattle.model.specs.declared.machine.Fuel.{Fuel}
 use Rattle.invariant.proofs.Tests.{no-false, no-true, and-left, and-right, or-first, or-second, picked}
 use Rattle.invariant.proofs.Point.{finds}
 use Rattle.invariant.proofs.Sound.{Sound, sound→, →sound}
 use Rattle.invariant.proofs.Coros.{object-ok}
 use Rattle.invariant.proofs.Tower.{store-sound}
-use Rattle.tables.specs.Parts.{Frames}
-use Rattle.tables.specs.Does.{FramesDo}
-use Rattle.tables.proofs.Decode.{top-frame}
-use Rattle.tables.proofs.Doing.{reg-fits}
-use Rattle.memory.specs.Memory.{Lent, lent, Ok, Does}
-use Rattle.memory.specs.declared.machine.Machine.{Machine}
-use Rattle.memory.specs.declared.machine.Sizes.{Sizes}
-use Rattle.coro.specs.Resume.{ArriveFits}
-use Rattle.coro.proofs.Lift.{store-rep}
 
 never : {A : Type 0} → _≡_ {A = ℕ} 0 1 → A
 never e = absurd (omega arith)
@@ -107,38 +96,7 @@ enter-lands v d w snd x q = go (coro w v) refl q
         frames-land s fs (w .frames) (w .stack) (k .regs) _ x (or-second (not (isResumable (k .state))) (isNil fs) fit) (and-right (basesOk n fs) (each (frameNames s) fs) b₂)
         (subst (λ y. topBase fs + y < n) (a .1) (ltb-true (topBase fs + k .waiting) n low)) refl refl)) q
 
--- ---- what the code may rely on after an entry, and before it
-
-top-pc : (f : Frame) (fs : List Frame) (ws : List ℕ) (n : ℕ) → Frames (f ∷ fs) ws n → getD ws ((n - 1) * 6 + 1) 0 ≡ f .pc
-top-pc f fs ws n p = sym (chunk-get 6 (n - 1) 1 ws (omega arith)) ∙ ap (λ g. g .pc) (top-frame f fs ws n p)
-
-pub arrive-fits : (l : Sizes) (M : Lent) (m : Machine) (fuel : Fuel) (v : ℕ) (d : Driver) (w : World) (a : Entered) → sound w ≡ true → Does l (coroEnter v d w) M m fuel a
-    → ArriveFits (M .stack) (M .frames) (m .height) (m .depth) a
-arrive-fits l M m fuel v d w a snd did =
-    record {
-      waits = λ x e.
-          let t : Lands (coroEnter v d w .world) x = enter-lands v d w snd x (sym (did .answer) ∙ e) in
-          let fr : Frames (t .top ∷ t .rest) (M .frames) (m .depth) = subst (λ z. Frames z (M .frames) (m .depth)) (t .are) (did .world .frames) in
-          let i = t .inside in
-          record {
-            reg = reg-fits (coroEnter v d w .world .stack) (t .top ∷ t .rest) (M .stack) (M .frames) (m .height) (m .depth) x (did .world .stack) fr (omega arith) i;
-            pc = subst (λ z. z < 2 ^ 32) (sym (top-pc (t .top) (t .rest) (M .frames) (m .depth) fr)) (t .pc);
-          };
-    }
+-- ---- a stored pc
 
 pub store-sounds : (pc : ℕ) (w : World) → pc < 2 ^ 32 → sound w ≡ true → sound (storePc pc w) ≡ true
 store-sounds pc w h snd = →sound {ex = false} (storePc pc w) (store-sound pc w (lt-ltb pc (2 ^ 32) h) (sound→ w snd (λ z. no-false z)))
-
-module _ (l : Sizes) (m : Machine) (stack frames chain slots savedStack savedFrames : List ℕ) where
-  pub store-ok : (frames′ : List ℕ) (pc : ℕ) → FramesDo (onTop (setPc pc)) frames frames′ (m .depth) (m .depth) → length frames′ ≡ length frames → pc < 2 ^ 32
-      → Ok l (lent stack frames chain slots savedStack savedFrames) m → Ok l (lent stack frames′ chain slots savedStack savedFrames) m
-  store-ok frames′ pc k e h o =
-      let q = o .room in
-      let z = q .frames in
-      record {
-        world = storePc pc (o .world);
-        beside = o .beside;
-        rep = store-rep l m (o .world) stack frames chain slots savedStack savedFrames (o .beside) (o .rep) frames′ pc k;
-        sound = store-sounds pc (o .world) h (o .sound);
-        room = record { stack = q .stack; frames = omega arith; chain = q .chain; slots = q .slots; savedStack = q .savedStack; savedFrames = q .savedFrames; ready = q .ready; finalize = q .finalize; setup = q .setup };
-      }

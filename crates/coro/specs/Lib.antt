@@ -1,3 +1,2 @@
 pub mod Enter
 pub mod Send
-pub mod Resume

@@ -1,5 +1,4 @@
 // coro.rs: impl Machine, on the lent words.
 pub mod enter;
-pub mod resume;
 pub mod send;
 pub mod state;

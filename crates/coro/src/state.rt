@@ -1,6 +1,6 @@
 // heap.rs: CoroState's questions.
 ghost use mathlib.Core.Path.{_≡_};
-ghost use Rattle.model.specs.State.{isResumable, isAwaiting, isFinished};
+ghost use Rattle.model.specs.State.{isResumable, isFinished};
 use heap::object::CoroState;
 
 // CoroState::is_resumable
@@ -11,19 +11,6 @@ pub fn is_resumable(s: CoroState) -> bool
         CoroState::Created => true,
         CoroState::Running => false,
         CoroState::Yielded => true,
-        CoroState::Awaiting => true,
-        CoroState::Returned => false,
-        CoroState::Failed => false,
-    }
-}
-
-pub fn is_awaiting(s: CoroState) -> bool
-    ensures { λ r. ⌜ r ≡ isAwaiting s ⌝ }
-{
-    match s {
-        CoroState::Created => false,
-        CoroState::Running => false,
-        CoroState::Yielded => false,
         CoroState::Awaiting => true,
         CoroState::Returned => false,
         CoroState::Failed => false,

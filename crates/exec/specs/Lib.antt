@@ -1,3 +1,4 @@
 pub mod New
+pub mod Resume
 pub mod Suspend
 pub mod Yielding

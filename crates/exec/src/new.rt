@@ -4,17 +4,12 @@ ghost use Rattle.tables.specs.Does.{RegFits};
 ghost use Rattle.memory.specs.Memory.{Met};
 ghost use Rattle.memory.specs.Leaves.{Answers, lentTop};
 ghost use Rattle.exec.specs.New.{lentNew, NewFits};
+use crate::step::StepDid;
 use create::create::coro_create;
 use memory::machine::Machine;
 use memory::machine::Sizes;
 use model::coro::Made;
 use model::exec::Step;
-
-// What an instruction leaves of the numbers, and leads to.
-pub struct StepDid {
-    pub machine: Machine,
-    pub step: Step,
-}
 
 // r!(dst) = t!(made); Step::Next
 pub(crate) fn put_made(stack: &mut [u64], frames: &[u64], m: Machine, dst: u64, a: Made) -> Step

@@ -4,6 +4,7 @@ ghost use Rattle.model.specs.Exec.{deliverAll, suspend};
 ghost use Rattle.memory.specs.Memory.{lent, MetFuel};
 ghost use Rattle.memory.specs.Leaves.{AnswersFuel, lentThree};
 ghost use Rattle.exec.specs.Suspend.{steppedBy, DeliverFits, SuspendFits};
+use crate::step::Stepped;
 use finish::deliver::deliver;
 use heap::fault::Fault;
 use heap::object::CoroState;
@@ -14,13 +15,6 @@ use model::coro::Suspension;
 use model::exec::Step;
 use model::machine::Fuel;
 use suspend::suspend::coro_suspend;
-
-// What an instruction leaves of the numbers and of the fuel, and leads to.
-pub struct Stepped {
-    pub machine: Machine,
-    pub fuel: Fuel,
-    pub step: Step,
-}
 
 // After a delivery: the driver's frame goes on, or the fault is raised there.
 fn stepped_by(f: Fault) -> Step

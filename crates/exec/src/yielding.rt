@@ -8,7 +8,7 @@ ghost use Rattle.memory.specs.Memory.{lent, MetFuel};
 ghost use Rattle.memory.specs.Leaves.{lentSlots, Reads};
 ghost use Rattle.exec.specs.Suspend.{RunFits};
 ghost use Rattle.exec.specs.Yielding.{keysFor, YieldFits, YieldKvFits};
-use crate::suspending::Stepped;
+use crate::step::Stepped;
 use crate::suspending::suspend;
 use create::key::auto_key;
 use heap::fault::Fault;

@@ -8,10 +8,10 @@ ghost use Rattle.heap.specs.Heap.{putSlot};
 ghost use Rattle.heap.specs.Table.{slot};
 ghost use Rattle.heap.specs.Word.{nil, tagOf};
 ghost use Rattle.heap.specs.declared.object.Object.the-variants.{Coro};
+ghost use Rattle.model.specs.State.{isAwaiting};
 ghost use Rattle.model.specs.Coro.{coroSuspend};
 ghost use Rattle.memory.specs.Memory.{lent, Met};
 ghost use Rattle.suspend.specs.Suspend.{growthOf, keyOf, largestOf, ignores, asleep, eventAs, shrunk, LeaveFit, Leaves, Found, SuspendFits};
-use coro::state::is_awaiting;
 use heap::fault::Fault;
 use heap::heap::Charged;
 use heap::heap::Coroutine;
@@ -32,6 +32,19 @@ use model::machine::Active;
 pub struct SuspendDid {
     pub machine: Machine,
     pub answer: Suspension,
+}
+
+fn is_awaiting(s: CoroState) -> bool
+    ensures { λ r. ⌜ r ≡ isAwaiting s ⌝ }
+{
+    match s {
+        CoroState::Created => false,
+        CoroState::Running => false,
+        CoroState::Yielded => false,
+        CoroState::Awaiting => true,
+        CoroState::Returned => false,
+        CoroState::Failed => false,
+    }
 }
 
 // saturating_sub

@@ -1,21 +1,17 @@
 // coro.rs: exec, Resume. Its operands have been tested.
-ghost use Rattle.model.specs.Exec.{resume};
+ghost use Rattle.model.specs.Exec.{arrive, resume};
 ghost use Rattle.memory.specs.Memory.{lent, Met};
-ghost use Rattle.coro.specs.Resume.{ArriveFits, Arrives, ResumeFits};
-use crate::enter::coro_enter;
-use crate::send::coro_send;
+ghost use Rattle.memory.specs.Leaves.{Answers, lentTop};
+ghost use Rattle.exec.specs.Resume.{ArriveFits, ResumeFits};
+use crate::step::StepDid;
+use coro::enter::coro_enter;
+use coro::send::coro_send;
 use heap::value::Word;
 use memory::machine::Machine;
 use memory::machine::Sizes;
 use model::coro::Entered;
 use model::exec::Step;
 use model::machine::Driver;
-
-// What an instruction leaves of the numbers, and leads to.
-pub struct StepDid {
-    pub machine: Machine,
-    pub step: Step,
-}
 
 // The sent word goes to a coroutine that waits for it.
 pub(crate) fn arrive(
@@ -26,7 +22,7 @@ pub(crate) fn arrive(
     sent: u64,
 ) -> Step
     requires { ⌜ ArriveFits (now stack) (now frames) (m .height) (m .depth) a ⌝ }
-    ensures { λ r. ⌜ Arrives (now (stack .entry)) (now (frames .entry)) (now (stack .exit)) (now (frames .exit)) m a sent r ⌝ }
+    ensures { λ r. ⌜ Answers (λ w. arrive sent w a) (lentTop (now (stack .entry)) (now (frames .entry))) m (lentTop (now (stack .exit)) (now (frames .exit))) m r ⌝ }
 {
     match a {
         Entered::Fresh => Step::Frame,
@@ -58,7 +54,7 @@ pub fn resume(
 {
     let v = tables::stack::reg(stack, frames, m.height, m.depth, c as usize);
     let sent = tables::stack::reg(stack, frames, m.height, m.depth, src as usize);
-    tables::frames::store_pc(frames, m.depth, pc);
+    machine::frame::store_pc(frames, m, pc);
     let did = coro_enter(
         stack,
         frames,

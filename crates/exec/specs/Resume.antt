@@ -2,25 +2,16 @@
 use mathlib.Core.Path.{_≡_}
 use mathlib.Core.List.{List}
 use Prim.Native.Nat.{ℕ, _^_, _<_}
-use Rattle.model.specs.World.{World}
-use Rattle.model.specs.Exec.{arrive}
 use Rattle.model.specs.declared.coro.Entered.{Entered}
-use Rattle.model.specs.declared.exec.Step.{Step}
 use Rattle.tables.specs.Does.{RegFits}
-use Rattle.memory.specs.Memory.{Beside, lent, Rep, Ok, Does}
+use Rattle.memory.specs.Memory.{lent, Ok}
 use Rattle.memory.specs.declared.machine.Machine.{Machine}
 use Rattle.memory.specs.declared.machine.Sizes.{Sizes}
 use Rattle.coro.specs.Send.{SendFits}
 
 -- the register of a coroutine that waits for a word
 pub record ArriveFits (stack frames : List ℕ) (height depth : ℕ) (a : Entered) : Type 0 where
   pub waits : (x : ℕ) → a ≡ Entered.Suspended x → SendFits stack frames height depth x
-
--- on every world, whatever the other slices hold
-abbrev pub Arrives : List ℕ → List ℕ → List ℕ → List ℕ → Machine → Entered → ℕ → Step → Type 0
-Arrives stack frames stack′ frames′ m a sent s =
-    (l : Sizes) (w : World) (chain slots savedStack savedFrames : List ℕ) (b : Beside) → Rep l w (lent stack frames chain slots savedStack savedFrames b) m (b .fuel)
-    → Does l (arrive sent w a) (lent stack′ frames′ chain slots savedStack savedFrames b) m (b .fuel) s
 
 -- a sound world, and operands that the gate has tested
 pub record ResumeFits (l : Sizes) (stack frames chain slots savedStack savedFrames : List ℕ) (m : Machine) (pc c src : ℕ) : Type 0 where
