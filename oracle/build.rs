@@ -4,6 +4,9 @@
 //! Most files are taken as they are, by `#[path]`. heap.rs gets two edits, and
 //! exec.rs and program.rs are cut down to the parts the coroutine code needs.
 //! Every edit is listed in docs/DIFFERENCES.md.
+//!
+//! `BVM_LIB` names the folder that holds libexports.a, the proved functions;
+//! without it the crate builds without them.
 
 use std::fs;
 use std::path::{Path, PathBuf};
@@ -13,6 +16,7 @@ fn main() {
     println!("cargo::rerun-if-env-changed=BVM_SRC");
     println!("cargo::rerun-if-changed=build.rs");
     println!("cargo::rustc-check-cfg=cfg(original)");
+    proved();
     let Some(src) = env::var_os("BVM_SRC").filter(|s| !s.is_empty()) else {
         return;
     };
@@ -37,6 +41,21 @@ fn main() {
     }
     write(&out.join("original.rs"), &mods);
     println!("cargo::rustc-cfg=original");
+}
+
+/// Links the static library.
+fn proved() {
+    println!("cargo::rerun-if-env-changed=BVM_LIB");
+    println!("cargo::rustc-check-cfg=cfg(proved)");
+    let Some(lib) = env::var_os("BVM_LIB").filter(|s| !s.is_empty()) else {
+        return;
+    };
+    let lib = fs::canonicalize(&lib).unwrap_or_else(|e| fail(&format!("BVM_LIB: {e}")));
+    let file = lib.join("libexports.a");
+    println!("cargo::rerun-if-changed={}", file.display());
+    println!("cargo::rustc-link-search=native={}", lib.display());
+    println!("cargo::rustc-link-lib=static=exports");
+    println!("cargo::rustc-cfg=proved");
 }
 
 /// A module of the crate root, read from `file`. The original declares far

@@ -1,6 +1,7 @@
 //! States, calls and answers of the coroutine switch as plain values, with a
 //! soundness test, generators, a second engine written from the paper, and
-//! recorded answers. Nothing here needs the original.
+//! recorded answers. Nothing here needs the original. `proved` is the static
+//! library, where it is linked.
 
 pub mod call;
 pub mod codec;
@@ -11,6 +12,8 @@ pub mod examples;
 pub mod generate;
 pub mod layout;
 pub mod plain;
+#[cfg(proved)]
+pub mod proved;
 pub mod recorded;
 pub mod sample;
 pub mod situations;

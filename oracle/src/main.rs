@@ -38,6 +38,7 @@ mod map;
 #[cfg(original)]
 mod driver;
 
+mod bench;
 mod commands;
 
 use std::process::ExitCode;

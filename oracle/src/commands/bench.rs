@@ -1,5 +1,5 @@
-//! The original's speed, and that of other coroutines where they are
-//! installed.
+//! The original's speed and that of the proved functions, where they are
+//! linked, and that of other coroutines where they are installed.
 
 use std::path::PathBuf;
 use std::process::Command;
@@ -15,12 +15,19 @@ const OTHERS: [(&str, &str); 4] = [
 ];
 
 pub(crate) fn bench() -> Result<(), String> {
-    super::with_original(|_, _costs| {
-        println!("original\n\n{HEAD}");
-        #[cfg(original)]
-        crate::driver::bench::bench(_costs);
+    let mut costs = super::COSTS;
+    super::with_original(|_, own| {
+        costs = own;
         Ok(())
     })?;
+    crate::bench::round_trips(costs);
+    #[cfg(original)]
+    {
+        println!("\noriginal\n\n{HEAD}");
+        crate::driver::bench::alone(costs);
+    }
+    #[cfg(not(proved))]
+    println!("\nskipped: the proved functions are not linked (BVM_LIB is unset)");
     for (binary, program) in OTHERS {
         let version = ["-V", "-v", "--version"].iter().find_map(|flag| {
             let out = Command::new(binary).arg(flag).output().ok()?;

@@ -29,7 +29,7 @@ const USAGE: &str = "usage: oracle COMMAND
   antt SEED N DIR   N random sequences as theorems about the definitions
   antt-recorded FROM TO DIR   recorded sequences as theorems
   antt-damaged SEED N DIR     damaged states as theorems, each rule broken up to N times
-  bench             the original's speed, and others' where installed";
+  bench             the original's speed, the proved functions' beside it, and others'";
 
 #[cfg(not(original))]
 const SKIPPED: &str = "skipped: the original's sources are not here (BVM_SRC is unset)";

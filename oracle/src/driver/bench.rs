@@ -1,53 +1,37 @@
 //! The original's speed, without the gate and the dumps around it.
 
 use std::hint::black_box;
-use std::time::Instant;
 
 use bytecode_lang::{FuncId, Inst, Reg};
-use oracle::world::{Costs, Func, Handler, Setup, World};
+use oracle::world::{Costs, World};
 
 use super::bridge;
+use crate::bench::{setup, timed, Found, Switch};
 use crate::coro;
 use crate::exec::{Cx, Step};
 use crate::fault::Fault;
 use crate::machine::{Cont, Machine};
 use crate::program::Program;
 
-const SAMPLES: usize = 1001;
-const BATCH: usize = 1000;
-
 /// A machine with a bottom frame and a coroutine's word in its register 0.
-struct Bench {
+pub(crate) struct Bench {
     prog: Program,
     m: Machine,
     stack: Vec<u64>,
 }
 
 impl Bench {
-    /// Function 0 has four registers, function 1 sixteen; function 0 has a
-    /// handler over every pc.
-    fn new(costs: Costs) -> Bench {
-        let handler = Handler { start: 0, end: u64::from(u32::MAX), target: 0, catch: 3 };
-        let func = |nregs, handlers| Func { nregs, nparams: 0, handlers };
-        let w = World::fresh(Setup {
-            depth: 128,
-            stack: 1024,
-            rows: 64,
-            slots: 4096,
-            memory: u64::MAX,
-            costs,
-            hook: None,
-            funcs: vec![func(4, vec![handler]), func(16, vec![])],
-        });
+    pub(crate) fn new(costs: Costs) -> Bench {
+        let w = World::fresh(setup(costs));
         let prog = bridge::program(&w.setup);
         let mut m = bridge::machine(&prog, &w);
         m.fuel = u64::MAX;
         let mut b = Bench { prog, m, stack: Vec::new() };
-        b.push(0, Cont::Entry);
+        b.call(0, Cont::Entry);
         b
     }
 
-    fn push(&mut self, func: u32, cont: Cont) {
+    fn call(&mut self, func: u32, cont: Cont) {
         let pushed = self.m.push_frame(&mut self.stack, &self.prog, func, 0, cont);
         assert!(pushed.is_ok(), "room for a frame");
     }
@@ -62,6 +46,12 @@ impl Bench {
             fi,
         };
         coro::exec(&mut self.m, &mut self.stack, &self.prog, &cx, 0, inst)
+    }
+}
+
+impl Switch for Bench {
+    fn push(&mut self, func: u32) {
+        self.call(func, Cont::Discard);
     }
 
     fn create(&mut self, func: u32) {
@@ -81,46 +71,13 @@ impl Bench {
 }
 
 /// Prints the median and the least of many batches, per operation.
-fn report(name: &str, mut batch: impl FnMut() -> u128) {
-    let mut found: Vec<f64> = (0..SAMPLES).map(|_| batch() as f64 / BATCH as f64).collect();
-    found.sort_by(f64::total_cmp);
-    println!("| {name} | {:.1} | {:.1} |", found[SAMPLES / 2], found[0]);
+fn report(name: &str, batch: impl FnMut() -> u128) {
+    let f = Found::among(batch);
+    println!("| {name} | {:.1} | {:.1} |", f.median, f.least);
 }
 
-fn timed(mut f: impl FnMut()) -> u128 {
-    let start = Instant::now();
-    for _ in 0..BATCH {
-        f();
-    }
-    start.elapsed().as_nanos()
-}
-
-pub(crate) fn bench(costs: Costs) {
-    let mut one = Bench::new(costs);
-    one.create(0);
-    report("resume + yield, 1 frame of 4 registers", || {
-        timed(|| {
-            one.resume();
-            one.suspend();
-            black_box(&mut one.stack);
-        })
-    });
-
-    let mut four = Bench::new(costs);
-    four.create(1);
-    four.resume();
-    for _ in 0..3 {
-        four.push(1, Cont::Discard);
-    }
-    four.suspend();
-    report("resume + yield, 4 frames of 64 registers in all", || {
-        timed(|| {
-            four.resume();
-            four.suspend();
-            black_box(&mut four.stack);
-        })
-    });
-
+/// What the original alone is measured on.
+pub(crate) fn alone(costs: Costs) {
     report("creation, 4 registers", || {
         let mut b = Bench::new(costs);
         timed(|| b.create(0))
@@ -148,6 +105,51 @@ pub(crate) fn bench(costs: Costs) {
 /// Four frames of sixteen registers above the handler's.
 fn calls(b: &mut Bench) {
     for _ in 0..4 {
-        b.push(1, Cont::Discard);
+        b.push(1);
+    }
+}
+
+/// The proved functions beside the original: the same answers, stacks and
+/// numbers of frames in the round trips that are measured.
+#[cfg(all(test, proved))]
+mod tests {
+    use super::*;
+    use crate::bench::Ours;
+
+    fn agree(original: &Bench, ours: &Ours) {
+        assert_eq!(ours.0.stack(), original.stack);
+        assert_eq!(ours.0.depth(), original.m.frames.len());
+    }
+
+    fn both(mut call: impl FnMut(&mut dyn Switch), original: &mut Bench, ours: &mut Ours) {
+        call(original);
+        call(ours);
+        agree(original, ours);
+    }
+
+    #[test]
+    fn round_trips_agree() {
+        let costs = bridge::costs();
+        for (func, frames) in [(0, 0), (1, 3)] {
+            let (mut a, mut b) = (Bench::new(costs), Ours::new(costs));
+            both(|e| e.create(func), &mut a, &mut b);
+            both(|e| e.resume(), &mut a, &mut b);
+            for _ in 0..frames {
+                both(|e| e.push(1), &mut a, &mut b);
+            }
+            for sent in 0..50 {
+                let base = a.m.frames[a.m.frames.len() - 1].base;
+                for r in 0..4 {
+                    let word = 1000 * sent + r;
+                    a.stack[base + r as usize] = word;
+                    b.0.put(r as u16, word);
+                }
+                agree(&a, &b);
+                both(|e| e.suspend(), &mut a, &mut b);
+                a.stack[2] = 7 + sent;
+                b.0.put(2, 7 + sent);
+                both(|e| e.resume(), &mut a, &mut b);
+            }
+        }
     }
 }

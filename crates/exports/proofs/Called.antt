@@ -1,0 +1,73 @@
+-- A call between words: what is read from them is what the inner call is given, and what it leaves is written back. Assumes nothing.
+use mathlib.Core.Path.{_≡_, sym, ap, _∙_, subst}
+use mathlib.Core.List.{List}
+use Prim.Native.Nat.{ℕ}
+use Rattle.lists.specs.Parts.{splice}
+use Rattle.model.specs.World.{World, After}
+use Rattle.model.specs.declared.machine.Fuel.{Fuel}
+use Rattle.memory.specs.Memory.{Lent, Beside, Met, MetFuel}
+use Rattle.memory.specs.declared.machine.Machine.{Machine}
+use Rattle.memory.specs.declared.machine.Sizes.{Sizes}
+use Rattle.words.specs.Sizes.{SizesTold}
+use Rattle.machine.specs.Setup.{SetsUp}
+use Rattle.exports.specs.Words.{machineIn, machineWords, fuelIn, fuelWords}
+use Rattle.exports.specs.Calls.{sizesIn, Numbers, Fuelled, Called, CalledFuel}
+use Rattle.exports.specs.Begin.{Begun}
+use Rattle.exports.proofs.Back.{machine-back, fuel-back}
+
+-- ---- numbers written over words are told by them
+
+module _ (ms ms′ : List ℕ) (n : Machine) (e : ms′ ≡ splice ms 0 (machineWords n)) where
+  pub back : machineIn ms′ ≡ n
+  back = ap machineIn e ∙ machine-back ms n
+
+  pub numbers : Numbers ms ms′
+  numbers = e ∙ ap (λ (k : Machine). splice ms 0 (machineWords k)) (sym back)
+
+  pub begun : (given : List ℕ) (M : Lent) → SetsUp given M n → Begun given M ms ms′
+  begun given M s = record { tables = subst (λ k. SetsUp given M k) (sym back) s; numbers = numbers }
+
+module _ (fs fs′ : List ℕ) (f : Fuel) (e : fs′ ≡ splice fs 0 (fuelWords f)) where
+  pub fuel-told : fuelIn fs′ ≡ f
+  fuel-told = ap fuelIn e ∙ fuel-back fs f
+
+  pub fuelled : Fuelled fs fs′
+  fuelled = e ∙ ap (λ (k : Fuel). splice fs 0 (fuelWords k)) (sym fuel-told)
+
+-- ---- a call
+
+module _ (us ms : List ℕ) (l : Sizes) (m : Machine) (told : SizesTold us l) (is : m ≡ machineIn ms) where
+  -- what is required of the words is required of what was read
+  pub given : (P : Sizes → Machine → Type 0) → P (sizesIn us) (machineIn ms) → P l m
+  given P p = subst (λ k. P k m) (sym (told .words)) (subst (λ k. P (sizesIn us) k) (sym is) p)
+
+  -- and what holds of what was read holds of the words
+  taken : (P : Sizes → Machine → Type 0) → P l m → P (sizesIn us) (machineIn ms)
+  taken P p = subst (λ k. P (sizesIn us) k) is (subst (λ k. P k m) (told .words) p)
+
+  module _ {A : Type 0} (g : World → After A) (enc : A → List ℕ) (M M′ : Beside → Lent) (xs ms′ xs′ : List ℕ) (n : Machine) (a : A) (e : ms′ ≡ splice ms 0 (machineWords n)) (h : xs′ ≡ splice xs 0 (enc a)) where
+    pub called : Met l g M m M′ n a → Called us g enc M ms M′ ms′ xs xs′
+    called met =
+        record {
+          answer = a;
+          met = subst (λ k. Met (sizesIn us) g M (machineIn ms) M′ k a) (sym (back ms ms′ n e)) (taken (λ k i. Met k g M i M′ n a) met);
+          numbers = numbers ms ms′ n e;
+          told = h;
+        }
+
+    -- the same where the model's call is known by an equation
+    pub called-as : (g′ : World → After A) → g′ ≡ g → Met l g′ M m M′ n a → Called us g enc M ms M′ ms′ xs xs′
+    called-as g′ q met = called (subst (λ (k : World → After A). Met l k M m M′ n a) q met)
+
+    pub called-fuel : (fs fs′ : List ℕ) (f f′ : Fuel) → f ≡ fuelIn fs → fs′ ≡ splice fs 0 (fuelWords f′) → MetFuel l g M m f M′ n f′ a → CalledFuel us g enc M ms fs M′ ms′ fs′ xs xs′
+    called-fuel fs fs′ f f′ q p met =
+        record {
+          answer = a;
+          met =
+              subst (λ k. MetFuel (sizesIn us) g M (machineIn ms) (fuelIn fs) M′ k (fuelIn fs′) a) (sym (back ms ms′ n e))
+              (subst (λ k. MetFuel (sizesIn us) g M (machineIn ms) (fuelIn fs) M′ n k a) (sym (fuel-told fs fs′ f′ p))
+              (subst (λ k. MetFuel (sizesIn us) g M (machineIn ms) k M′ n f′ a) q (taken (λ k i. MetFuel k g M i f M′ n f′ a) met)));
+          numbers = numbers ms ms′ n e;
+          fuel = fuelled fs fs′ f′ p;
+          told = h;
+        }

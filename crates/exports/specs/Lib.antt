@@ -1,0 +1,5 @@
+pub mod Words
+pub mod Calls
+pub mod Begin
+pub mod Registers
+pub mod Switch

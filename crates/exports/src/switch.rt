@@ -1,0 +1,51 @@
+// Entries into coroutines. The operands have been tested.
+ghost use Rattle.model.specs.Exec.{resume};
+ghost use Rattle.memory.specs.Memory.{lent};
+ghost use Rattle.exports.specs.Words.{stepWords};
+ghost use Rattle.exports.specs.Calls.{Called};
+ghost use Rattle.exports.specs.Switch.{ResumeCallFits};
+use crate::answers::put_step;
+use crate::numbers::machine_of;
+use crate::numbers::put_machine;
+
+// coro.rs: exec, Resume.
+#[no_mangle]
+pub extern "C" fn bvm_resume(
+    stack: &mut [u64],
+    frames: &mut [u64],
+    chain: &mut [u64],
+    slots: &mut [u64],
+    saved_stack: &mut [u64],
+    saved_frames: &mut [u64],
+    setup: &[u64],
+    machine: &mut [u64],
+    answer: &mut [u64],
+    pc: u64,
+    dst: u64,
+    c: u64,
+    src: u64,
+)
+    requires { ⌜ ResumeCallFits (now stack) (now frames) (now chain) (now slots) (now «saved_stack») (now «saved_frames») (now setup) (now machine) (now answer) pc c src ⌝ }
+    ensures { λ _. ⌜ Called (now (setup .entry)) (resume pc dst c src) stepWords (lent (now (stack .entry)) (now (frames .entry)) (now (chain .entry)) (now (slots .entry)) (now («saved_stack» .entry)) (now («saved_frames» .entry))) (now (machine .entry)) (lent (now (stack .exit)) (now (frames .exit)) (now (chain .exit)) (now (slots .exit)) (now («saved_stack» .exit)) (now («saved_frames» .exit))) (now (machine .exit)) (now (answer .entry)) (now (answer .exit)) ⌝ }
+{
+    let m = machine_of(machine);
+    let l = words::sizes::sizes(setup);
+    let did = exec::resume::resume(
+        stack,
+        frames,
+        chain,
+        slots,
+        saved_stack,
+        saved_frames,
+        m,
+        l,
+        pc,
+        dst,
+        c,
+        src,
+    );
+    let n = did.machine;
+    let s = did.step;
+    put_machine(machine, n);
+    put_step(answer, s);
+}
