@@ -88,5 +88,9 @@ objectAt ws =
     (pick (eqb (getD ws 1 0) 6) (O.Coro (coroAt ws))
     O.Empty)))))
 
+-- the kinds of objects that are there
+abbrev pub fills : ℕ → Bool
+fills k = pick (eqb k 1) true (pick (eqb k 2) true (pick (eqb k 3) true (pick (eqb k 4) true (pick (eqb k 5) true (pick (eqb k 6) true false)))))
+
 abbrev pub slotOfWords : List ℕ → Slot Object
 slotOfWords ws = slot (getD ws 0 0) (objectAt ws)

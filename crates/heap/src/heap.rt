@@ -88,23 +88,13 @@ pub fn coro(slots: &[u64], count: usize, w: Word) -> Coroutine
 {
     match get(slots, count, w) {
         Place::Nothing => Coroutine::Not(not_a(slots, count, w)),
-        Place::At(i) => match slot::object_at(slots, i) {
-            Object::Empty => Coroutine::Not(Fault::TypeError),
-            Object::Func(_) => Coroutine::Not(Fault::TypeError),
-            Object::Int(_) => Coroutine::Not(Fault::TypeError),
-            Object::Iter {
-                src: _,
-                done: _,
-                key: _,
-            } => Coroutine::Not(Fault::TypeError),
-            Object::Error {
-                kind: _,
-                func: _,
-                pc: _,
-                payload: _,
-            } => Coroutine::Not(Fault::TypeError),
-            Object::Coro(c) => Coroutine::At(i, c),
-        },
+        Place::At(i) => {
+            if slot::is_coro(slots, i) {
+                let c = slot::coro_at(slots, i);
+                return Coroutine::At(i, c);
+            }
+            Coroutine::Not(Fault::TypeError)
+        }
     }
 }
 

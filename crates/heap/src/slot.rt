@@ -1,11 +1,12 @@
 // The layout of a slot: tag, kind and fields in 20 words. Only this crate knows it.
 ghost use mathlib.Core.Path.{_≡_};
 ghost use Prim.Native.Nat.{_+_, _*_, _≤_};
-ghost use lib.ListN.{length};
+ghost use lib.ListN.{length, getD};
+ghost use lib.Dec.{eqb};
 ghost use Rattle.lists.specs.Chunks.{chunkAt};
 ghost use Rattle.heap.specs.Table.{slot};
 ghost use Rattle.heap.specs.Object.{isFilled};
-ghost use Rattle.heap.specs.Slot.{coroAt, objectAt, fieldsOf, slotWords};
+ghost use Rattle.heap.specs.Slot.{coroAt, objectAt, fieldsOf, fills, slotWords};
 ghost use Rattle.heap.specs.Heap.{slotIn, putSlot};
 ghost use Rattle.heap.specs.declared.object.Object.the-variants.{Iter, Coro};
 use crate::object::CoroObj;
@@ -162,6 +163,25 @@ pub fn object_at(slots: &[u64], i: usize) -> Object
     object_of(&slots[b..e])
 }
 
+// Whether a coroutine stands at place i.
+pub(crate) fn is_coro(slots: &[u64], i: usize) -> bool
+    requires { ⌜ i * 20 + 20 ≤ length (now slots) ⌝ }
+    ensures { λ r. ⌜ r ≡ eqb (getD (chunkAt 20 (now (slots .entry)) i) 1 0) 6 ⌝ }
+{
+    let b = i * 20;
+    slots[b + 1] == 6
+}
+
+// The coroutine at place i.
+pub(crate) fn coro_at(slots: &[u64], i: usize) -> CoroObj
+    requires { ⌜ i * 20 + 20 ≤ length (now slots) ⌝ }
+    ensures { λ r. ⌜ r ≡ coroAt (chunkAt 20 (now (slots .entry)) i) ⌝ }
+{
+    let b = i * 20;
+    let e = b + 20;
+    coro_of(&slots[b..e])
+}
+
 // The tag at place i.
 pub(crate) fn tag_at(slots: &[u64], i: usize) -> u64
     requires { ⌜ i * 20 + 20 ≤ length (now slots) ⌝ }
@@ -182,26 +202,27 @@ pub fn put_slot(slots: &mut [u64], i: usize, tag: u64, o: Object)
     lists::copy_words(&mut slots[b..e], &words);
 }
 
+// Whether a slot of this kind holds an object.
+fn fills(kind: u64) -> bool
+    ensures { λ r. ⌜ r ≡ fills kind ⌝ }
+{
+    match kind {
+        1 => true,
+        2 => true,
+        3 => true,
+        4 => true,
+        5 => true,
+        6 => true,
+        _ => false,
+    }
+}
+
 // Whether an object stands at place i.
 pub(crate) fn filled_at(slots: &[u64], i: usize) -> bool
     requires { ⌜ i * 20 + 20 ≤ length (now slots) ⌝ }
     ensures { λ r. ⌜ r ≡ isFilled (slotIn (now (slots .entry)) i .object) ⌝ }
 {
-    match object_at(slots, i) {
-        Object::Empty => false,
-        Object::Func(_) => true,
-        Object::Int(_) => true,
-        Object::Iter {
-            src: _,
-            done: _,
-            key: _,
-        } => true,
-        Object::Error {
-            kind: _,
-            func: _,
-            pc: _,
-            payload: _,
-        } => true,
-        Object::Coro(_) => true,
-    }
+    let b = i * 20;
+    let kind = slots[b + 1];
+    fills(kind)
 }

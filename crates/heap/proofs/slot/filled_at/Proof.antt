@@ -1,63 +1,35 @@
--- `filled_at` meets its contract, by cases. Assumes nothing.
-use mathlib.Core.Path.{ap, sym, _∙_}
-use Rattle.heap.specs.Object.{isFilled}
+-- `filled_at` meets its contract: the second of the slot's words tells. Assumes nothing.
+use mathlib.Core.Path.{sym, ap, _∙_}
+use native.Mathlib.Omega.{arith}
+use Rattle.lists.specs.Chunks.{chunkAt}
+use Rattle.lists.proofs.Tables.{chunk-get}
+use Rattle.heap.specs.Slot.{fills}
+use Rattle.heap.proofs.Slots.{filled-kind}
 use borrow.Author.Needs.{needs}
 use Rattle.heap.proofs.slot.filled_at.Statement.{statement}
 use Rattle.heap.proofs.slot.filled_at.Tie as tie
 
-object-at-requires : tie.Need-object-at-requires
-object-at-requires c κs = search needs
+mul-b : tie.Need-mul-b
+mul-b c = search needs
 
-enum-told : tie.Need-enum-told
-enum-told c = search needs
+add-kind : tie.Need-add-kind
+add-kind c = search needs
 
-enum-told-2 : tie.Need-enum-told-2
-enum-told-2 c = search needs
+mul-kind : tie.Need-mul-kind
+mul-kind c = search needs
 
-enum-told-3 : tie.Need-enum-told-3
-enum-told-3 c = search needs
+shared-slice-read-kind : tie.Need-shared-slice-read-kind
+shared-slice-read-kind c = search needs
 
-enum-told-4 : tie.Need-enum-told-4
-enum-told-4 c = search needs
-
-enum-told-5 : tie.Need-enum-told-5
-enum-told-5 c = search needs
-
-enum-told-6 : tie.Need-enum-told-6
-enum-told-6 c = search needs
+fills-requires : tie.Need-fills-requires
+fills-requires c κs = search needs
 
 returns : tie.Need-returns
-returns c = ap isFilled (sym (c .enum-told .given .1) ∙ c .before .before .object-at .ensures)
-
-returns-2 : tie.Need-returns-2
-returns-2 c = ap isFilled (sym (c .enum-told2 .given .1) ∙ c .before .before .object-at .ensures)
-
-returns-3 : tie.Need-returns-3
-returns-3 c = ap isFilled (sym (c .enum-told3 .given .1) ∙ c .before .before .object-at .ensures)
-
-returns-4 : tie.Need-returns-4
-returns-4 c = ap isFilled (sym (c .enum-told4 .given .1) ∙ c .before .before .object-at .ensures)
-
-returns-5 : tie.Need-returns-5
-returns-5 c = ap isFilled (sym (c .enum-told5 .given .1) ∙ c .before .before .object-at .ensures)
-
-returns-6 : tie.Need-returns-6
-returns-6 c = ap isFilled (sym (c .enum-told6 .given .1) ∙ c .before .before .object-at .ensures)
+returns c =
+    let i = c .before .before .before .args .i in
+    let ws = c .before .before .before .args .slots .now in
+    c .fills .ensures ∙ ap fills (sym (chunk-get 20 i 1 ws (omega arith))) ∙ sym (filled-kind (chunkAt 20 ws i))
 
 pub filled-at-spec : {M : Type 1} → statement M
 filled-at-spec =
-    tie.close
-    (tie.spec
-    object-at-requires
-    enum-told
-    enum-told-2
-    enum-told-3
-    enum-told-4
-    enum-told-5
-    enum-told-6
-    returns
-    returns-2
-    returns-3
-    returns-4
-    returns-5
-    returns-6)
+    tie.close (tie.spec mul-b add-kind mul-kind shared-slice-read-kind fills-requires returns)

@@ -1,0 +1,49 @@
+-- `coro_at` meets its contract: the part that is lent is the slot's words. Assumes nothing.
+use mathlib.Core.Path.{_≡_, ap, _∙_}
+use Prim.Native.Nat.{ℕ, _+_, _*_, _-_}
+use native.Mathlib.Omega.{arith}
+use lib.ListN.{take, drop}
+use Rattle.heap.specs.Slot.{coroAt}
+use borrow.Author.Needs.{needs}
+use Rattle.heap.proofs.slot.coro_at.Statement.{statement}
+use Rattle.heap.proofs.slot.coro_at.Tie as tie
+
+mul-b : tie.Need-mul-b
+mul-b c = search needs
+
+add-e : tie.Need-add-e
+add-e c = search needs
+
+mul-coro-of : tie.Need-mul-coro-of
+mul-coro-of c = search needs
+
+sub-coro-of : tie.Need-sub-coro-of
+sub-coro-of c = search needs
+
+part-coro-of-start : tie.Need-part-coro-of-start
+part-coro-of-start c = search needs
+
+part-coro-of-end : tie.Need-part-coro-of-end
+part-coro-of-end c = search needs
+
+coro-of-requires : tie.Need-coro-of-requires
+coro-of-requires c κs = search needs
+
+returns : tie.Need-returns
+returns c =
+    let b = c .before .before .before .args .i * 20 in
+    let e : (b + 20) - b ≡ 20 = omega arith in
+    c .coro-of .ensures ∙ ap (λ (n : ℕ). coroAt (take n (drop b (c .before .before .before .args .slots .now)))) e
+
+pub coro-at-spec : {M : Type 1} → statement M
+coro-at-spec =
+    tie.close
+    (tie.spec
+    mul-b
+    add-e
+    mul-coro-of
+    sub-coro-of
+    part-coro-of-start
+    part-coro-of-end
+    coro-of-requires
+    returns)
