@@ -1,5 +1,5 @@
 -- What soundness tells of the worlds that deliveries and ends are called on: the rows, and the driver's registers. Assumes nothing.
-use mathlib.Core.Path.{_≡_, refl, sym, ap, _∙_, subst}
+use mathlib.Core.Path.{_≡_, refl, sym, _∙_, subst}
 use mathlib.Core.Bool.{Bool, true, false}
 use mathlib.Core.List.{List, [], _∷_}
 use Prim.Native.Nat.{ℕ, zero, suc, _^_, _<_, zero-le}
@@ -16,28 +16,24 @@ use Rattle.model.specs.State.{isFinished}
 use Rattle.model.specs.Program.{Setup, isFunction}
 use Rattle.model.specs.Object.{Core, Rest, Object, Is, asCoro}
 use Rattle.model.specs.World.{World}
-use Rattle.model.specs.Frames.{isCoro, topPc, popTo, below, baseAt}
+use Rattle.model.specs.Frames.{isCoro, topPc, popTo, below}
 use Rattle.model.specs.Coro.{inState, ended, finishCoroutine}
 use Rattle.model.specs.Sound.{rowWords, savedSizes, frameNames, sound}
 use Rattle.model.specs.declared.machine.Active.{Active}
 use Rattle.model.specs.declared.machine.Frame.{Frame}
-use Rattle.model.specs.declared.machine.Fuel.{Fuel}
 use Rattle.invariant.proofs.Tests.{no-false, no-true, and-left, and-right, both}
 use Rattle.invariant.proofs.Point.{at, Points, finds}
 use Rattle.invariant.proofs.Held.{Rows}
 use Rattle.invariant.proofs.Slots.{freed-rows}
 use Rattle.invariant.proofs.Stand.{Stands, plain, body, names-of}
 use Rattle.invariant.proofs.Tower.{stands-within}
-use Rattle.invariant.proofs.Cut.{Cut, cut, below-cut, base-cut}
 use Rattle.invariant.proofs.Sound.{Sound, sound→}
 use Rattle.invariant.proofs.Coros.{changed}
 use Rattle.memory.specs.Memory.{Lent, Beside, Rep}
 use Rattle.memory.specs.declared.machine.Machine.{Machine}
 use Rattle.memory.specs.declared.machine.Sizes.{Sizes}
-use Rattle.finish.specs.Deliver.{DriverFits}
 use Rattle.finish.specs.Finish.{Rowed, FinishFits}
 use Rattle.finish.specs.Returned.{lastLies, ReturnFits}
-use Rattle.finish.proofs.Registers.{driver-fits}
 use Rattle.finish.proofs.Ending.{sound-rowed}
 
 -- ---- the rows stay in order when a coroutine ends
@@ -76,12 +72,6 @@ pub record Lies (chain : List Active) (n : ℕ) (fs : List Frame) : Type 0 where
   pub registers : lastLies chain n fs ≡ true
   pub pc : topPc fs < 2 ^ 32
 
--- what a delivery asks, on such a world
-pub deliver-asks : (l : Sizes) (M : Lent) (m : Machine) (f : Fuel) (w : World) (a : Active) (rest : List Active) → Rep l w M m f → Lies (a ∷ rest) (length (w .stack)) (w .frames)
-    → DriverFits (M .stack) (M .frames) (M .slots) m (a .driver)
-deliver-asks l M m f w a rest rep h =
-    driver-fits (w .stack) (w .frames) (M .stack) (M .frames) (M .slots) m (a .driver) (rep .stack) (rep .frames) (rep .slots .within) (h .registers) (h .pc)
-
 -- of the frame below a body
 body-lies : {u : Setup} {n : ℕ} {f : Frame} {fs : List Frame} {chain : List Active} → isCoro (f .cont) ≡ true → Stands false u n (f ∷ fs) chain → Lies chain (f .base) fs
 body-lies c (plain q e t r) = no-true (sym c ∙ q)
@@ -106,15 +96,3 @@ module _ (w : World) (snd : sound w ≡ true) where
     pub return-asks : (l : Sizes) (M : Beside → Lent) (m : Machine) (b : Beside) → Rep l (popTo x xs w) (M b) m (b .fuel) → ReturnFits l M m
     return-asks l M m b rep =
         record { held = record { world = popTo x xs w; beside = b; rep = rep; rowed = sound-rowed w snd }; lies = popped-lies .registers; pc = popped-lies .pc }
-
-  -- after the innermost coroutine was suspended
-  module _ (a : Active) (rest : List Active) (ch : w .chain ≡ a ∷ rest) where
-    pub suspended-lies : Lies (a ∷ rest) (length (take (baseAt (a .floor) (w .frames)) (w .stack))) (below (a .floor) (w .frames))
-    suspended-lies =
-        let u = w .setup in
-        let fs = w .frames in
-        let k : Cut false u (length (w .stack)) fs a rest = cut u (subst (Stands false u (length (w .stack)) fs) ch (known .tower .stands)) in
-        let base : baseAt (a .floor) fs ≡ k .b .base = base-cut u k in
-        let long : length (take (baseAt (a .floor) fs) (w .stack)) ≡ k .b .base = ap (λ n. length (take n (w .stack))) base ∙ length-take-le (k .b .base) (w .stack) (k .within) in
-        subst (λ gs. Lies (a ∷ rest) (length (take (baseAt (a .floor) fs) (w .stack))) gs) (sym (below-cut u k))
-        (subst (λ n. Lies (a ∷ rest) n (k .low)) (sym long) (record { registers = k .driver; pc = top-pc u (k .low) (names-of u (k .lows)) }))
