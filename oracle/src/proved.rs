@@ -15,12 +15,13 @@ macro_rules! functions {
 
 functions! {
     bvm_set_up(stack frames chain slots saved_stack saved_frames ready finalize setup machine given;);
-    bvm_push_frame(stack frames setup machine answer; func closure code reg);
+    bvm_sizes(setup sizes;);
+    bvm_push_frame(stack frames setup sizes machine answer; func closure code reg);
     bvm_put(stack frames machine; reg word);
     bvm_reg(stack frames machine; reg) -> u64;
-    bvm_coro_new(stack frames slots saved_stack saved_frames setup machine answer; dst func argc);
-    bvm_resume(stack frames chain slots saved_stack saved_frames setup machine answer; pc dst coro src);
-    bvm_yield(stack frames chain slots saved_stack saved_frames setup machine fuel answer; pc dst src);
+    bvm_coro_new(stack frames slots saved_stack saved_frames setup sizes machine answer; dst func argc);
+    bvm_resume(stack frames chain slots saved_stack saved_frames sizes machine answer; pc dst coro src);
+    bvm_yield(stack frames chain slots saved_stack saved_frames sizes machine fuel answer; pc dst src);
 }
 
 /// Lends the named slices, then passes the words.
@@ -50,6 +51,7 @@ pub struct Proved {
     ready: Vec<u64>,
     finalize: Vec<u64>,
     setup: Vec<u64>,
+    sizes: [u64; 12],
     machine: [u64; 13],
     fuel: [u64; 4],
     answer: Answer,
@@ -73,12 +75,14 @@ impl Proved {
             ready: zeros(s.slots),
             finalize: zeros(s.slots),
             setup: vec![0; given.len()],
+            sizes: [0; 12],
             machine: [0; 13],
             fuel: [0; 4],
             answer: NEXT,
             given,
         };
         call!(e.bvm_set_up(stack frames chain slots saved_stack saved_frames ready finalize setup machine given;));
+        call!(e.bvm_sizes(setup sizes;));
         e
     }
 
@@ -86,7 +90,7 @@ impl Proved {
     /// number and word.
     pub fn push(&mut self, func: u32, closure: u64, cont: Cont) -> [u64; 2] {
         let (code, reg) = cont_words(cont);
-        call!(self.bvm_push_frame(stack frames setup machine answer; u64::from(func), closure, code, reg));
+        call!(self.bvm_push_frame(stack frames setup sizes machine answer; u64::from(func), closure, code, reg));
         [self.answer[0], self.answer[1]]
     }
 
@@ -100,19 +104,19 @@ impl Proved {
 
     #[inline]
     pub fn coro_new(&mut self, dst: u16, func: u32, argc: u8) -> Answer {
-        call!(self.bvm_coro_new(stack frames slots saved_stack saved_frames setup machine answer; u64::from(dst), u64::from(func), u64::from(argc)));
+        call!(self.bvm_coro_new(stack frames slots saved_stack saved_frames setup sizes machine answer; u64::from(dst), u64::from(func), u64::from(argc)));
         self.answer
     }
 
     #[inline]
     pub fn resume(&mut self, pc: u32, dst: u16, coro: u16, src: u16) -> Answer {
-        call!(self.bvm_resume(stack frames chain slots saved_stack saved_frames setup machine answer; u64::from(pc), u64::from(dst), u64::from(coro), u64::from(src)));
+        call!(self.bvm_resume(stack frames chain slots saved_stack saved_frames sizes machine answer; u64::from(pc), u64::from(dst), u64::from(coro), u64::from(src)));
         self.answer
     }
 
     #[inline]
     pub fn suspend(&mut self, pc: u32, dst: u16, src: u16) -> Answer {
-        call!(self.bvm_yield(stack frames chain slots saved_stack saved_frames setup machine fuel answer; u64::from(pc), u64::from(dst), u64::from(src)));
+        call!(self.bvm_yield(stack frames chain slots saved_stack saved_frames sizes machine fuel answer; u64::from(pc), u64::from(dst), u64::from(src)));
         self.answer
     }
 

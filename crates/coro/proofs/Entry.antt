@@ -9,7 +9,10 @@ use lib.ListN.{length, getD, set}
 use lib.Dec.{eqb, ltb, leb}
 use borrow.Author.Tests.{leb-true, ltb-false, not-false, ne-eqb}
 use Rattle.lists.specs.Pick.{pick, pick-true}
+use Rattle.lists.specs.Chunks.{chunkAt, putChunk}
 use Rattle.heap.specs.Fault.{numberOf}
+use Rattle.heap.specs.Object.{codeOf}
+use Rattle.heap.specs.Slot.{stateWords}
 use Rattle.heap.specs.Word.{slotOf, tagOf}
 use Rattle.heap.specs.Table.{Slot, slot, putObject}
 use Rattle.heap.specs.Heap.{slotsOf, coroOf, putSlot}
@@ -53,7 +56,7 @@ use Rattle.memory.specs.declared.machine.Machine.{Machine}
 use Rattle.memory.specs.declared.machine.Sizes.{Sizes}
 use Rattle.memory.proofs.Slots.{at-map, put-same}
 use Rattle.memory.proofs.Tables.{slots-are, slots-set, length-tabled}
-use Rattle.memory.proofs.Lookup.{There, there, lacks, regs-row, frames-row, row-below, regs-set, frames-set}
+use Rattle.memory.proofs.Lookup.{There, there, there-words, lacks, regs-row, frames-row, row-below, regs-set, frames-set}
 use Rattle.coro.specs.Enter.{refusalOf, running, enteredAs, grown, MoveFits, Moves}
 
 pub does : {A : Type 0} (l : Sizes) (M : Lent) (m : Machine) (f : Fuel) (o : After A) (w : World) (a : A) → o ≡ after w a → Rep l w M m f → Does l o M m f a
@@ -360,9 +363,11 @@ module _ (l : Sizes) (M : Lent) (m : Machine) (f : Fuel) (v : ℕ) (w : World) (
           pub accepted : (n : Machine) (a : Entered)
               → Moves (M .stack) (M .frames) (M .savedStack) (M .savedFrames) stack′ frames′ savedStack′ savedFrames′ (m .height) (m .depth) l c
               → ChainDo (λ cs. active v (m .depth) d ∷ cs) (M .chain) chain′ (m .active) (m .active + 1)
-              → slots′ ≡ putSlot (M .slots) i (slot (tagOf v) (O.Coro (running c)))
+              → slots′ ≡ putChunk 20 (M .slots) i (stateWords (codeOf CoroState.Running) 0 0 (chunkAt 20 (M .slots) i))
               → a ≡ enteredAs c
               → n ≡ grown m c
               → Does l (coroEnter v d w) M′ n f a
           accepted n a moves push mark ea en =
-              subst (λ z. Does l (coroEnter v d w) M′ z f a) (sym en) (done a moves push mark ea)
+              let here = there-words (w .slots) v i c in-world (M .slots) (m .count) (rep .slots) in
+              subst (λ z. Does l (coroEnter v d w) M′ z f a) (sym en)
+              (done a moves push (mark ∙ ap (λ z. putChunk 20 (M .slots) i (stateWords (codeOf CoroState.Running) 0 0 z)) here) ea)

@@ -8,6 +8,7 @@ use lib.ListN.{length, length-append}
 use lib.Dec.{ltb}
 use borrow.Author.Tests.{ltb-true, lt-ltb, not-false}
 use Rattle.lists.specs.Pick.{pick, pick-true}
+use Rattle.lists.proofs.Tests.{never}
 use Rattle.heap.specs.declared.object.CoroState.{CoroState}
 use Rattle.model.specs.Lists.{isNil, each}
 use Rattle.model.specs.State.{isCreated, isResumable, isSuspended}
@@ -26,9 +27,6 @@ use Rattle.invariant.proofs.Point.{finds}
 use Rattle.invariant.proofs.Sound.{Sound, sound→, →sound}
 use Rattle.invariant.proofs.Coros.{object-ok}
 use Rattle.invariant.proofs.Tower.{store-sound}
-
-never : {A : Type 0} → _≡_ {A = ℕ} 0 1 → A
-never e = absurd (omega arith)
 
 pub record Lands (u : World) (x : ℕ) : Type 0 where
   pub top : Frame

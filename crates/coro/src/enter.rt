@@ -1,21 +1,14 @@
 // coro.rs: coro_enter. What it refuses is tested before anything is lent.
 ghost use mathlib.Core.Path.{_≡_};
-ghost use Prim.Native.Nat.{_+_, _*_, _^_, _≤_, _<_};
-ghost use lib.ListN.{length};
-ghost use Rattle.heap.specs.Heap.{putSlot};
-ghost use Rattle.heap.specs.Table.{slot};
-ghost use Rattle.heap.specs.Word.{tagOf};
-ghost use Rattle.heap.specs.declared.object.Object.the-variants.{Coro};
+ghost use Prim.Native.Nat.{_+_, _^_, _≤_, _<_};
 ghost use Rattle.model.specs.Coro.{coroEnter};
 ghost use Rattle.memory.specs.Memory.{lent, Ok, Met};
-ghost use Rattle.coro.specs.Enter.{refusalOf, running, enteredAs, grown, MoveFits, Moves};
+ghost use Rattle.coro.specs.Enter.{refusalOf, enteredAs, grown, MoveFits, Moves};
 use crate::state::is_resumable;
 use heap::fault::Fault;
-use heap::heap::Coroutine;
+use heap::heap::CoroPlace;
 use heap::object::CoroObj;
 use heap::object::CoroState;
-use heap::object::Object;
-use heap::value::Obj;
 use heap::value::Word;
 use memory::machine::Machine;
 use memory::machine::Sizes;
@@ -75,41 +68,6 @@ pub(crate) fn move_in(
     );
 }
 
-// A coroutine that runs: nothing is saved any more.
-fn running(c: CoroObj) -> CoroObj
-    ensures { λ r. ⌜ r ≡ running c ⌝ }
-{
-    let state = CoroState::Running;
-    CoroObj {
-        state,
-        closing: c.closing,
-        finalized: c.finalized,
-        task: c.task,
-        seq: c.seq,
-        row: c.row,
-        regs: 0,
-        frames: 0,
-        maxregs: c.maxregs,
-        maxframes: c.maxframes,
-        waiting: c.waiting,
-        payload: c.payload,
-        key: c.key,
-        largest: c.largest,
-        result: c.result,
-        signal: c.signal,
-    }
-}
-
-// Its slot says that it runs.
-pub(crate) fn mark_running(slots: &mut [u64], i: usize, v: u64, c: CoroObj)
-    requires { ⌜ i * 20 + 20 ≤ length (now slots) ⌝ }
-    ensures { λ _. ⌜ now (slots .exit) ≡ putSlot (now (slots .entry)) i (slot (tagOf v) (Coro (running c))) ⌝ }
-{
-    let tag = Obj(v).tag();
-    let d = running(c);
-    heap::slot::put_slot(slots, i, tag, Object::Coro(d));
-}
-
 // What an entry answers.
 pub(crate) fn entered_as(c: CoroObj) -> Entered
     ensures { λ r. ⌜ r ≡ enteredAs c ⌝ }
@@ -152,12 +110,13 @@ pub fn coro_enter(
     requires { ⌜ Ok l (lent (now stack) (now frames) (now chain) (now slots) (now «saved_stack») (now «saved_frames»)) m ⌝ }
     ensures { λ r. ⌜ Met l (coroEnter (v .0) d) (lent (now (stack .entry)) (now (frames .entry)) (now (chain .entry)) (now (slots .entry)) (now («saved_stack» .entry)) (now («saved_frames» .entry))) m (lent (now (stack .exit)) (now (frames .exit)) (now (chain .exit)) (now (slots .exit)) (now («saved_stack» .exit)) (now («saved_frames» .exit))) (r .machine) (r .answer) ⌝ }
 {
-    match heap::heap::coro(slots, m.count, v) {
-        Coroutine::Not(f) => EnterDid {
+    match heap::heap::coro_place(slots, m.count, v) {
+        CoroPlace::Not(f) => EnterDid {
             machine: m,
             answer: Entered::Refused(f),
         },
-        Coroutine::At(i, c) => {
+        CoroPlace::At(i) => {
+            let c = heap::slot::coro_at(slots, i);
             let fault = refusal(m, l, c);
             if fault.number() != 0 {
                 return EnterDid {
@@ -167,7 +126,7 @@ pub fn coro_enter(
             }
             move_in(stack, frames, saved_stack, saved_frames, m, l, c);
             tables::chain::push_active(chain, m.active, v.0, m.depth as u64, d);
-            mark_running(slots, i, v.0, c);
+            heap::slot::put_state(slots, i, CoroState::Running, 0, 0);
             EnterDid {
                 machine: entered(m, c),
                 answer: entered_as(c),

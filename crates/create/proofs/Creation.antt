@@ -10,6 +10,7 @@ use lib.Dec.{ltb, leb}
 use borrow.Author.Tests.{leb-false}
 use Rattle.lists.specs.Pick.{pick}
 use Rattle.lists.specs.Parts.{splice, pad}
+use Rattle.lists.proofs.Tests.{never}
 use Rattle.heap.specs.Fault.{isNone}
 use Rattle.heap.specs.Charge as Charge
 use Rattle.heap.specs.Table.{Slot}
@@ -60,9 +61,6 @@ use Rattle.create.proofs.Pushed.{alloc-done, alloc-lacks}
 use Rattle.create.proofs.Allocation.{fits-same, full-same, alloc-refused, alloc-made}
 use Rattle.create.proofs.Setting.{known, one-of, regs-is, numbers}
 use Rattle.create.proofs.NewRow.{regs-new, frames-new, regs-written}
-
-never : {A : Type 0} → _≡_ {A = ℕ} 0 1 → A
-never e = absurd (omega arith)
 
 -- ---- the tests of the code and of the model
 

@@ -2,8 +2,8 @@
 use mathlib.Core.Path.{_≡_, refl, sym, ap, ap₂, _∙_, subst, subst₂}
 use mathlib.Core.List.{List}
 use Prim.Native.Nat.{ℕ, _*_, _≤_}
-use native.Mathlib.Omega.{arith}
 use lib.ListN.{length}
+use Rattle.lists.proofs.Tests.{never}
 use Rattle.heap.specs.Coding.{ofBits}
 use Rattle.heap.specs.Int.{inlineOf, nextKey}
 use Rattle.heap.specs.Heap.{Out, out, encodeBy, encodeOf}
@@ -33,9 +33,6 @@ use Rattle.create.specs.Numbers.{heapOf, allocated}
 use Rattle.create.proofs.Pushed.{alloc-done, alloc-lacks}
 use Rattle.create.proofs.Allocation.{alloc-refused, alloc-made}
 use Rattle.create.proofs.NewRow.{regs-same, frames-same}
-
-never : {A : Type 0} → _≡_ {A = ℕ} 0 1 → A
-never e = absurd (omega arith)
 
 module _ (l : Sizes) (M : Lent) (m : Machine) (fu : Fuel) (w : World) (rep : Rep l w M m fu) where
   cost : l .costs .int ≡ w .setup .costs .int

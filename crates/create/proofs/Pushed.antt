@@ -3,10 +3,10 @@ use mathlib.Core.Path.{_≡_, refl, sym, ap, ap₂, _∙_}
 use mathlib.Core.Bool.{Bool, true, false}
 use mathlib.Core.List.{List}
 use Prim.Native.Nat.{ℕ, _+_}
-use native.Mathlib.Omega.{arith}
 use lib.Dec.{ltb}
 use Rattle.lists.specs.Pick.{pick}
 use Rattle.lists.specs.Chunks.{words}
+use Rattle.lists.proofs.Tests.{never}
 use Rattle.heap.specs.Word.{reference}
 use Rattle.heap.specs.Fault.{isNone}
 use Rattle.heap.specs.Charge.{fits, satAdd, withUsed, withCount}
@@ -18,9 +18,6 @@ use Rattle.heap.specs.declared.heap.Heap.{Heap}
 use Rattle.heap.specs.declared.heap.Made.the-variants as M
 use Rattle.heap.specs.declared.object.Object as H
 use Rattle.heap.specs.declared.value.Word.{Word}
-
-never : {A : Type 0} → _≡_ {A = ℕ} 0 1 → A
-never e = absurd (omega arith)
 
 -- ---- what an allocation tells
 

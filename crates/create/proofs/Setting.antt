@@ -1,10 +1,9 @@
 -- What a creation knows of the set-up: its function's registers, and numbers that are small. Assumes nothing.
-use mathlib.Core.Path.{_≡_, sym, ap, _∙_, subst}
+use mathlib.Core.Path.{_≡_, sym, ap, subst}
 use mathlib.Core.Bool.{true, false, _&&_}
-use mathlib.Core.List.{List}
-use Prim.Native.Nat.{ℕ, _+_, _-_, _*_, _^_, _≤_, _<_}
+use Prim.Native.Nat.{ℕ, _+_, _*_, _^_, _≤_, _<_}
 use native.Mathlib.Omega.{arith}
-use lib.ListN.{length, getD, replicate}
+use lib.ListN.{length, getD}
 use lib.Dec.{leb}
 use borrow.Author.Tests.{leb-true, ltb-true}
 use Rattle.model.specs.Lists.{each}
@@ -12,28 +11,22 @@ use Rattle.model.specs.Program.{Func, Setup, func, noFunc, isFunction, function
 use Rattle.model.specs.World.{World}
 use Rattle.model.specs.Sound.{sound}
 use Rattle.model.specs.declared.machine.Fuel.{Fuel}
-use Rattle.invariant.proofs.Tests.{and-left, and-right, no-false, each-at}
+use Rattle.invariant.proofs.Tests.{and-left, no-false, each-at}
 use Rattle.invariant.proofs.Sound.{Sound, sound→, facts}
 use Rattle.tables.specs.Layout.{functionIn}
-use Rattle.tables.specs.Sizes.{setupWords}
-use Rattle.tables.proofs.Setups.{functions-count, function-at}
+use Rattle.tables.proofs.Setups.{functions-in, regs-in}
 use Rattle.memory.specs.Memory.{Lent, Rep, Room}
 use Rattle.memory.specs.declared.machine.Machine.{Machine}
 use Rattle.memory.specs.declared.machine.Sizes.{Sizes}
 use Rattle.create.specs.Create.{bytesOf}
 
--- "registers 0-256 .. at most eight handlers"
-record Narrow (f : Func) : Type 0 where
-  regs : f .regs ≤ 256
-  handlers : length (f .handlers) ≤ 8
-
-narrow : (f : Func) → functionOk f ≡ true → Narrow f
+-- "registers 0-256"
+narrow : (f : Func) → functionOk f ≡ true → f .regs ≤ 256
 narrow f h =
     let a = leb (f .regs) 256 in
     let b = leb (f .params) (f .regs) in
     let c = leb (length (f .handlers)) 8 in
-    let k = and-left (a && b && c) (each (handlerOk (f .regs)) (f .handlers)) h in
-    record { regs = leb-true (f .regs) 256 (and-left a b (and-left (a && b) c k)); handlers = leb-true (length (f .handlers)) 8 (and-right (a && b) c k) }
+    leb-true (f .regs) 256 (and-left a b (and-left (a && b) c (and-left (a && b && c) (each (handlerOk (f .regs)) (f .handlers)) h)))
 
 -- ---- the function of a creation, in one world that the words stand for
 
@@ -44,26 +37,19 @@ module _ (l : Sizes) (M : Lent) (m : Machine) (fu : Fuel) (w : World) (rep : Rep
   abbrev s : Setup
   s = w .setup
 
-  abbrev rest : List ℕ
-  rest = replicate (length (M .setup) - length (setupWords s)) 0
-
-  -- word 13 is the number of functions
-  counted : getD (M .setup) 13 0 ≡ length (s .functions)
-  counted = ap (λ (ws : List ℕ). getD ws 13 0) (rep .setup) ∙ functions-count s rest
-
   -- a function of the world is one of the words
   pub named-in : isFunction s f ≡ true → f < getD (M .setup) 13 0
-  named-in e = subst (λ n. f < n) (sym counted) (ltb-true f (length (s .functions)) e)
+  named-in e = subst (λ n. f < n) (sym (functions-in s (M .setup) (rep .setup))) (ltb-true f (length (s .functions)) e)
 
   module _ (snd : sound w ≡ true) (named : f < getD (M .setup) 13 0) where
     pub one-of : f < length (s .functions)
-    one-of = subst (λ n. f < n) counted named
+    one-of = subst (λ n. f < n) (functions-in s (M .setup) (rep .setup)) named
 
-    is-narrow : Narrow (func s f)
+    is-narrow : func s f .regs ≤ 256
     is-narrow = narrow (func s f) (each-at functionOk (s .functions) f noFunc (facts s (known w snd .setup) .functions) one-of)
 
     pub regs-is : functionIn (M .setup) f .regs ≡ func s f .regs
-    regs-is = ap (λ (ws : List ℕ). functionIn ws f .regs) (rep .setup) ∙ ap (λ (x : Func). x .regs) (function-at s rest f one-of (is-narrow .handlers))
+    regs-is = regs-in s (M .setup) (rep .setup) f named
 
     pub record Numbers (regs : ℕ) : Type 0 where
       pub rows : l .rows ≤ 64
@@ -76,7 +62,7 @@ module _ (l : Sizes) (M : Lent) (m : Machine) (fu : Fuel) (w : World) (rep : Rep
     numbers regs e =
         let k = facts s (known w snd .setup) in
         let g = facts s (known w snd .setup) in
-        let r = is-narrow .regs in
+        let r = is-narrow in
         let ei = regs-is in
         let k₁ = k .rows in
         let k₂ = k .frame in

@@ -1,11 +1,10 @@
 // coro.rs: coro_create.
 ghost use mathlib.Core.Path.{_≡_};
-ghost use Prim.Native.Nat.{_+_, _*_, _^_, _<_};
-ghost use lib.ListN.{length, take};
+ghost use Prim.Native.Nat.{_^_, _<_};
+ghost use lib.ListN.{take};
 ghost use Rattle.heap.specs.Heap.{slotsOf};
 ghost use Rattle.model.specs.Coro.{coroCreate};
 ghost use Rattle.memory.specs.Memory.{Met};
-ghost use Rattle.tables.specs.Layout.{functionIn};
 ghost use Rattle.create.specs.Create.{newObject, bytesOf, SpotFits, spotOf, copiedOf, WriteFits, Writes, CreateFits, created};
 use crate::numbers::allocated;
 use crate::numbers::heap_of;
@@ -35,15 +34,6 @@ pub struct CreateDid {
 pub(crate) enum Spot {
     Row(usize),
     Lacks(Fault),
-}
-
-// The registers of a function.
-fn registers(setup: &[u64], f: usize) -> u64
-    requires { ⌜ 14 + f * 35 < length (now setup) ⌝ }
-    ensures { λ r. ⌜ r ≡ functionIn (now (setup .entry)) f .regs ⌝ }
-{
-    let at = 14 + f * 35;
-    setup[at]
 }
 
 // 8 times registers, an object's size, and a frame's.
@@ -148,7 +138,7 @@ pub fn coro_create(
     requires { ⌜ CreateFits l (now slots) (now «saved_stack») (now «saved_frames») (now setup) m f n ⌝ }
     ensures { λ r. ⌜ Met l (coroCreate f closure (take n args)) (created (now (slots .entry)) (now («saved_stack» .entry)) (now («saved_frames» .entry)) (now (setup .entry))) m (created (now (slots .exit)) (now («saved_stack» .exit)) (now («saved_frames» .exit)) (now (setup .entry))) (r .machine) (r .answer) ⌝ }
 {
-    let regs = registers(setup, f as usize);
+    let regs = tables::program::regs_at(setup, f as usize);
     match find_spot(slots, m, l, regs) {
         Spot::Lacks(g) => CreateDid {
             machine: m,

@@ -1,5 +1,2 @@
-pub mod Settled
-pub mod Keys
-pub mod Yields
 pub mod Newly
 pub mod Resumed

@@ -1,4 +1,2 @@
 pub mod New
 pub mod Resume
-pub mod Suspend
-pub mod Yielding

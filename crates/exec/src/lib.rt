@@ -1,6 +1,4 @@
-// coro.rs: exec, its arms after their gate and charge.
+// coro.rs: exec, its arms that make and enter coroutines, after their gate and charge.
 pub mod new;
 pub mod resume;
 pub mod step;
-pub mod suspending;
-pub mod yielding;

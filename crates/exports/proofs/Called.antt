@@ -1,19 +1,26 @@
 -- A call between words: what is read from them is what the inner call is given, and what it leaves is written back. Assumes nothing.
 use mathlib.Core.Path.{_≡_, sym, ap, _∙_, subst}
+use mathlib.Core.Bool.{true}
 use mathlib.Core.List.{List}
 use Prim.Native.Nat.{ℕ}
-use Rattle.lists.specs.Parts.{splice}
+use lib.ListN.{length}
+use Rattle.lists.specs.Parts.{pad, splice}
+use Rattle.model.specs.Program.{Setup, setupOk}
 use Rattle.model.specs.World.{World, After}
 use Rattle.model.specs.declared.machine.Fuel.{Fuel}
-use Rattle.memory.specs.Memory.{Lent, Beside, Met, MetFuel}
+use Rattle.tables.specs.Sizes.{setupWords}
+use Rattle.memory.specs.Memory.{Lent, Beside, Sized, Met, MetFuel}
 use Rattle.memory.specs.declared.machine.Machine.{Machine}
 use Rattle.memory.specs.declared.machine.Sizes.{Sizes}
-use Rattle.words.specs.Sizes.{SizesTold}
+use Rattle.words.specs.Words.{sizesOf}
+use Rattle.words.specs.Decode.{setupOf}
+use Rattle.words.proofs.Decoded.{setup-is}
+use Rattle.words.proofs.Widest.{sizes-sized}
 use Rattle.machine.specs.Setup.{SetsUp}
-use Rattle.exports.specs.Words.{machineIn, machineWords, fuelIn, fuelWords}
-use Rattle.exports.specs.Calls.{sizesIn, Numbers, Fuelled, Called, CalledFuel}
+use Rattle.exports.specs.Words.{machineIn, machineWords, sizesIn, sizesWords, fuelIn, fuelWords}
+use Rattle.exports.specs.Calls.{Numbers, Fuelled, Called, CalledFuel}
 use Rattle.exports.specs.Begin.{Begun}
-use Rattle.exports.proofs.Back.{machine-back, fuel-back}
+use Rattle.exports.proofs.Back.{machine-back, sizes-back, fuel-back}
 
 -- ---- numbers written over words are told by them
 
@@ -34,39 +41,44 @@ module _ (fs fs′ : List ℕ) (f : Fuel) (e : fs′ ≡ splice fs 0 (fuelWords 
   pub fuelled : Fuelled fs fs′
   fuelled = e ∙ ap (λ (k : Fuel). splice fs 0 (fuelWords k)) (sym fuel-told)
 
+-- sizes written over words are those of every accepted set-up that the words read hold
+pub sizes-held : (s : Setup) (us ls ls′ : List ℕ) → setupOk s ≡ true → us ≡ pad (length us) (setupWords s) → ls′ ≡ splice ls 0 (sizesWords (sizesOf (setupOf us)))
+    → Sized s (sizesIn ls′)
+sizes-held s us ls ls′ ok held e = sizes-sized (ap sizesIn e ∙ sizes-back ls (sizesOf (setupOf us)) ∙ ap sizesOf (setup-is s us ok held))
+
 -- ---- a call
 
-module _ (us ms : List ℕ) (l : Sizes) (m : Machine) (told : SizesTold us l) (is : m ≡ machineIn ms) where
+module _ (ls ms : List ℕ) (l : Sizes) (m : Machine) (told : l ≡ sizesIn ls) (is : m ≡ machineIn ms) where
   -- what is required of the words is required of what was read
-  pub given : (P : Sizes → Machine → Type 0) → P (sizesIn us) (machineIn ms) → P l m
-  given P p = subst (λ k. P k m) (sym (told .words)) (subst (λ k. P (sizesIn us) k) (sym is) p)
+  pub given : (P : Sizes → Machine → Type 0) → P (sizesIn ls) (machineIn ms) → P l m
+  given P p = subst (λ k. P k m) (sym told) (subst (λ k. P (sizesIn ls) k) (sym is) p)
 
   -- and what holds of what was read holds of the words
-  taken : (P : Sizes → Machine → Type 0) → P l m → P (sizesIn us) (machineIn ms)
-  taken P p = subst (λ k. P (sizesIn us) k) is (subst (λ k. P k m) (told .words) p)
+  taken : (P : Sizes → Machine → Type 0) → P l m → P (sizesIn ls) (machineIn ms)
+  taken P p = subst (λ k. P (sizesIn ls) k) is (subst (λ k. P k m) told p)
 
   module _ {A : Type 0} (g : World → After A) (enc : A → List ℕ) (M M′ : Beside → Lent) (xs ms′ xs′ : List ℕ) (n : Machine) (a : A) (e : ms′ ≡ splice ms 0 (machineWords n)) (h : xs′ ≡ splice xs 0 (enc a)) where
-    pub called : Met l g M m M′ n a → Called us g enc M ms M′ ms′ xs xs′
+    pub called : Met l g M m M′ n a → Called ls g enc M ms M′ ms′ xs xs′
     called met =
         record {
           answer = a;
-          met = subst (λ k. Met (sizesIn us) g M (machineIn ms) M′ k a) (sym (back ms ms′ n e)) (taken (λ k i. Met k g M i M′ n a) met);
+          met = subst (λ k. Met (sizesIn ls) g M (machineIn ms) M′ k a) (sym (back ms ms′ n e)) (taken (λ k i. Met k g M i M′ n a) met);
           numbers = numbers ms ms′ n e;
           told = h;
         }
 
     -- the same where the model's call is known by an equation
-    pub called-as : (g′ : World → After A) → g′ ≡ g → Met l g′ M m M′ n a → Called us g enc M ms M′ ms′ xs xs′
+    pub called-as : (g′ : World → After A) → g′ ≡ g → Met l g′ M m M′ n a → Called ls g enc M ms M′ ms′ xs xs′
     called-as g′ q met = called (subst (λ (k : World → After A). Met l k M m M′ n a) q met)
 
-    pub called-fuel : (fs fs′ : List ℕ) (f f′ : Fuel) → f ≡ fuelIn fs → fs′ ≡ splice fs 0 (fuelWords f′) → MetFuel l g M m f M′ n f′ a → CalledFuel us g enc M ms fs M′ ms′ fs′ xs xs′
+    pub called-fuel : (fs fs′ : List ℕ) (f f′ : Fuel) → f ≡ fuelIn fs → fs′ ≡ splice fs 0 (fuelWords f′) → MetFuel l g M m f M′ n f′ a → CalledFuel ls g enc M ms fs M′ ms′ fs′ xs xs′
     called-fuel fs fs′ f f′ q p met =
         record {
           answer = a;
           met =
-              subst (λ k. MetFuel (sizesIn us) g M (machineIn ms) (fuelIn fs) M′ k (fuelIn fs′) a) (sym (back ms ms′ n e))
-              (subst (λ k. MetFuel (sizesIn us) g M (machineIn ms) (fuelIn fs) M′ n k a) (sym (fuel-told fs fs′ f′ p))
-              (subst (λ k. MetFuel (sizesIn us) g M (machineIn ms) k M′ n f′ a) q (taken (λ k i. MetFuel k g M i f M′ n f′ a) met)));
+              subst (λ k. MetFuel (sizesIn ls) g M (machineIn ms) (fuelIn fs) M′ k (fuelIn fs′) a) (sym (back ms ms′ n e))
+              (subst (λ k. MetFuel (sizesIn ls) g M (machineIn ms) (fuelIn fs) M′ n k a) (sym (fuel-told fs fs′ f′ p))
+              (subst (λ k. MetFuel (sizesIn ls) g M (machineIn ms) k M′ n f′ a) q (taken (λ k i. MetFuel k g M i f M′ n f′ a) met)));
           numbers = numbers ms ms′ n e;
           fuel = fuelled fs fs′ f′ p;
           told = h;

@@ -15,10 +15,3 @@ module _ (ws zs : List ℕ) where
 
   pub four : (a b c d : ℕ) → 4 ≤ length ws → b ∷ c ∷ d ∷ [] ≡ zs → set (set (set (set ws 0 a) 1 b) 2 c) 3 d ≡ splice ws 0 (a ∷ zs)
   four a b c d h e = sets-splice ws (a ∷ b ∷ c ∷ d ∷ []) 0 h ∙ ap (λ (y : List ℕ). splice ws 0 (a ∷ y)) e
-
-  pub thirteen : (a b c d e f g h i j k l m : ℕ) → 13 ≤ length ws → j ∷ k ∷ l ∷ m ∷ [] ≡ zs
-      → set (set (set (set (set (set (set (set (set (set (set (set (set ws 0 a) 1 b) 2 c) 3 d) 4 e) 5 f) 6 g) 7 h) 8 i) 9 j) 10 k) 11 l) 12 m
-      ≡ splice ws 0 (a ∷ b ∷ c ∷ d ∷ e ∷ f ∷ g ∷ h ∷ i ∷ zs)
-  thirteen a b c d e f g h i j k l m n p =
-      sets-splice ws (a ∷ b ∷ c ∷ d ∷ e ∷ f ∷ g ∷ h ∷ i ∷ j ∷ k ∷ l ∷ m ∷ []) 0 n
-      ∙ ap (λ (y : List ℕ). splice ws 0 (a ∷ b ∷ c ∷ d ∷ e ∷ f ∷ g ∷ h ∷ i ∷ y)) p

@@ -1,12 +1,18 @@
--- The functions that begin: a fresh machine, and a frame on it.
+-- The functions that begin: a set-up's sizes, a fresh machine, and a frame on it.
 use mathlib.Core.List.{List}
 use Prim.Native.Nat.{ℕ, _≤_}
 use lib.ListN.{length}
 use Rattle.memory.specs.Memory.{Lent}
 use Rattle.machine.specs.Frame.{PushFits}
 use Rattle.machine.specs.Setup.{SetUpFits, SetsUp}
-use Rattle.exports.specs.Words.{machineIn}
-use Rattle.exports.specs.Calls.{sizesIn, Passed, Numbers}
+use Rattle.words.specs.Sizes.{SetupFits}
+use Rattle.exports.specs.Words.{machineIn, sizesIn}
+use Rattle.exports.specs.Calls.{Passed, Numbers}
+
+-- a set-up's words, and room for its sizes
+pub record SizesFits (setup sizes : List ℕ) : Type 0 where
+  pub numbers : SetupFits setup
+  pub room : 12 ≤ length sizes
 
 -- room for the set-up and for the machine's numbers
 pub record BeginFits (slots setup given ms : List ℕ) : Type 0 where
@@ -19,6 +25,6 @@ pub record Begun (given : List ℕ) (M : Lent) (ms ms′ : List ℕ) : Type 0 wh
   pub numbers : Numbers ms ms′
 
 -- a sound world, and one of its functions
-pub record PushCallFits (stack frames setup machine answer : List ℕ) (f : ℕ) : Type 0 where
-  pub passed : Passed setup machine answer 2
-  pub fits : PushFits (sizesIn setup) stack frames setup (machineIn machine) f
+pub record PushCallFits (stack frames setup sizes machine answer : List ℕ) (f : ℕ) : Type 0 where
+  pub passed : Passed sizes machine answer 2
+  pub fits : PushFits (sizesIn sizes) stack frames setup (machineIn machine) f

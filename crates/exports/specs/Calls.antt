@@ -6,19 +6,11 @@ use lib.ListN.{length}
 use Rattle.lists.specs.Parts.{splice}
 use Rattle.model.specs.World.{World, After}
 use Rattle.memory.specs.Memory.{Lent, Beside, Met, MetFuel}
-use Rattle.memory.specs.declared.machine.Sizes.{Sizes}
-use Rattle.words.specs.Words.{sizesOf}
-use Rattle.words.specs.Decode.{setupOf}
-use Rattle.words.specs.Sizes.{SetupFits}
-use Rattle.exports.specs.Words.{machineIn, machineWords, fuelIn, fuelWords}
+use Rattle.exports.specs.Words.{machineIn, machineWords, sizesIn, fuelIn, fuelWords}
 
--- the sizes that a set-up's words tell
-abbrev pub sizesIn : List ℕ → Sizes
-sizesIn ws = sizesOf (setupOf ws)
-
--- words enough for the set-up, the machine's numbers, and an answer of n words
-pub record Passed (us ms xs : List ℕ) (n : ℕ) : Type 0 where
-  pub setup : SetupFits us
+-- words enough for the sizes, the machine's numbers, and an answer of n words
+pub record Passed (ls ms xs : List ℕ) (n : ℕ) : Type 0 where
+  pub sizes : 12 ≤ length ls
   pub machine : 13 ≤ length ms
   pub answer : n ≤ length xs
 
@@ -30,16 +22,16 @@ abbrev pub Fuelled : List ℕ → List ℕ → Type 0
 Fuelled fs fs′ = fs′ ≡ splice fs 0 (fuelWords (fuelIn fs′))
 
 -- the model's call on every sound world that the words stood for, and its answer in words
-pub record Called {A : Type 0} (setup : List ℕ) (g : World → After A) (enc : A → List ℕ) (M : Beside → Lent) (ms : List ℕ) (M′ : Beside → Lent) (ms′ xs xs′ : List ℕ) : Type 0 where
+pub record Called {A : Type 0} (sizes : List ℕ) (g : World → After A) (enc : A → List ℕ) (M : Beside → Lent) (ms : List ℕ) (M′ : Beside → Lent) (ms′ xs xs′ : List ℕ) : Type 0 where
   pub answer : A
-  pub met : Met (sizesIn setup) g M (machineIn ms) M′ (machineIn ms′) answer
+  pub met : Met (sizesIn sizes) g M (machineIn ms) M′ (machineIn ms′) answer
   pub numbers : Numbers ms ms′
   pub told : xs′ ≡ splice xs 0 (enc answer)
 
 -- the same of a call that is lent the fuel's words
-pub record CalledFuel {A : Type 0} (setup : List ℕ) (g : World → After A) (enc : A → List ℕ) (M : Beside → Lent) (ms fs : List ℕ) (M′ : Beside → Lent) (ms′ fs′ xs xs′ : List ℕ) : Type 0 where
+pub record CalledFuel {A : Type 0} (sizes : List ℕ) (g : World → After A) (enc : A → List ℕ) (M : Beside → Lent) (ms fs : List ℕ) (M′ : Beside → Lent) (ms′ fs′ xs xs′ : List ℕ) : Type 0 where
   pub answer : A
-  pub met : MetFuel (sizesIn setup) g M (machineIn ms) (fuelIn fs) M′ (machineIn ms′) (fuelIn fs′) answer
+  pub met : MetFuel (sizesIn sizes) g M (machineIn ms) (fuelIn fs) M′ (machineIn ms′) (fuelIn fs′) answer
   pub numbers : Numbers ms ms′
   pub fuel : Fuelled fs fs′
   pub told : xs′ ≡ splice xs 0 (enc answer)

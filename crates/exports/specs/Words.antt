@@ -1,4 +1,5 @@
--- What is passed by value inside, in lent words: a machine's numbers in 13, the fuel in four, a step in three, a new word in two.
+-- What is passed by value inside, in lent words: a machine's numbers in 13, a set-up's sizes in 12, the fuel in four, a
+-- step in three, a new word in two.
 use mathlib.Core.List.{List, [], _∷_}
 use Prim.Native.Nat.{ℕ}
 use lib.ListN.{getD}
@@ -10,64 +11,15 @@ use Rattle.heap.specs.declared.value.Opt.{Opt}
 use Rattle.model.specs.declared.coro.Made.{Made}
 use Rattle.model.specs.declared.exec.Step.{Step}
 use Rattle.model.specs.declared.machine.Fuel.{Fuel}
-use Rattle.model.specs.declared.machine.Outcome.{Outcome}
-use Rattle.model.specs.declared.machine.Stop.{Stop}
 use Rattle.memory.specs.declared.machine.Machine.{Machine}
+use Rattle.memory.specs.declared.machine.Sizes.{Sizes}
 
--- ---- an outcome: code, then up to three words
-
--- 0 is no outcome
-abbrev pub stopCode : Stop → ℕ
-stopCode (Stop.Yielded v) = 1
-stopCode (Stop.Awaiting v) = 2
-stopCode (Stop.Returned v) = 3
-stopCode (Stop.Failed v f p) = 4
-stopCode Stop.CloseIgnored = 5
-
--- the word handed on
-abbrev pub stopFirst : Stop → ℕ
-stopFirst (Stop.Yielded v) = v
-stopFirst (Stop.Awaiting v) = v
-stopFirst (Stop.Returned v) = v
-stopFirst (Stop.Failed v f p) = v
-stopFirst Stop.CloseIgnored = 0
-
--- of a failure, the function
-abbrev pub stopSecond : Stop → ℕ
-stopSecond (Stop.Yielded v) = 0
-stopSecond (Stop.Awaiting v) = 0
-stopSecond (Stop.Returned v) = 0
-stopSecond (Stop.Failed v f p) = f
-stopSecond Stop.CloseIgnored = 0
-
--- and the pc
-abbrev pub stopThird : Stop → ℕ
-stopThird (Stop.Yielded v) = 0
-stopThird (Stop.Awaiting v) = 0
-stopThird (Stop.Returned v) = 0
-stopThird (Stop.Failed v f p) = p
-stopThird Stop.CloseIgnored = 0
-
-abbrev pub outcomeWords : Outcome → List ℕ
-outcomeWords Outcome.None = 0 ∷ 0 ∷ 0 ∷ 0 ∷ []
-outcomeWords (Outcome.Some s) = stopCode s ∷ stopFirst s ∷ stopSecond s ∷ stopThird s ∷ []
-
-abbrev pub stopOf : ℕ → ℕ → ℕ → ℕ → Stop
-stopOf n a b c =
-    pick (eqb n 1) (Stop.Yielded a)
-    (pick (eqb n 2) (Stop.Awaiting a)
-    (pick (eqb n 3) (Stop.Returned a)
-    (pick (eqb n 4) (Stop.Failed a b c)
-    Stop.CloseIgnored)))
-
-abbrev pub outcomeOf : ℕ → ℕ → ℕ → ℕ → Outcome
-outcomeOf n a b c = pick (eqb n 0) Outcome.None (Outcome.Some (stopOf n a b c))
-
--- ---- the machine's numbers
+-- ---- the machine's numbers; the last four are the outcome's
 
 abbrev pub machineWords : Machine → List ℕ
 machineWords m =
-    m .height ∷ m .depth ∷ m .active ∷ m .count ∷ m .ready ∷ m .finalize ∷ flag (m .finalizing) ∷ m .used ∷ m .seq ∷ outcomeWords (m .outcome)
+    m .height ∷ m .depth ∷ m .active ∷ m .count ∷ m .ready ∷ m .finalize ∷ flag (m .finalizing) ∷ m .used ∷ m .seq
+    ∷ m .outcome .0 ∷ m .outcome .1 ∷ m .outcome .2 ∷ m .outcome .3 ∷ []
 
 abbrev pub machineIn : List ℕ → Machine
 machineIn ws =
@@ -79,9 +31,28 @@ machineIn ws =
       ready = getD ws 4 0;
       finalize = getD ws 5 0;
       finalizing = isSet (getD ws 6 0);
-      outcome = outcomeOf (getD ws 9 0) (getD ws 10 0) (getD ws 11 0) (getD ws 12 0);
+      outcome = record { 0 = getD ws 9 0; 1 = getD ws 10 0; 2 = getD ws 11 0; 3 = getD ws 12 0 };
       used = getD ws 7 0;
       seq = getD ws 8 0;
+    }
+
+-- ---- the sizes: five limits, the words of a row, six costs
+
+abbrev pub sizesWords : Sizes → List ℕ
+sizesWords l =
+    l .depth ∷ l .stack ∷ l .rows ∷ l .slots ∷ l .memory ∷ l .width
+    ∷ l .costs .frame ∷ l .costs .coro ∷ l .costs .object ∷ l .costs .int ∷ l .costs .error ∷ l .costs .iter ∷ []
+
+abbrev pub sizesIn : List ℕ → Sizes
+sizesIn ws =
+    record {
+      depth = getD ws 0 0;
+      stack = getD ws 1 0;
+      rows = getD ws 2 0;
+      slots = getD ws 3 0;
+      memory = getD ws 4 0;
+      width = getD ws 5 0;
+      costs = record { frame = getD ws 6 0; coro = getD ws 7 0; object = getD ws 8 0; int = getD ws 9 0; error = getD ws 10 0; iter = getD ws 11 0 };
     }
 
 -- ---- the fuel: what is left, whether some is set aside, how much, whether a cleanup is ready

@@ -34,14 +34,14 @@ pub fn fuel_of(ws: &[u64]) -> Fuel
 }
 
 // Three words.
-struct Told(u64, u64, u64);
+struct Three(u64, u64, u64);
 
-fn told_bank(bank: Opt, ready: bool) -> Told
+fn told_bank(bank: Opt, ready: bool) -> Three
     ensures { λ r. ⌜ r .0 ∷ r .1 ∷ r .2 ∷ [] ≡ bankWords bank (flag ready) ⌝ }
 {
     match bank {
-        Opt::None => Told(0, 0, ready as u64),
-        Opt::Some(n) => Told(1, n, ready as u64),
+        Opt::None => Three(0, 0, ready as u64),
+        Opt::Some(n) => Three(1, n, ready as u64),
     }
 }
 
@@ -58,14 +58,14 @@ pub fn put_fuel(ws: &mut [u64], f: Fuel)
     ws[3] = t.2;
 }
 
-fn told_step(s: Step) -> Told
+fn told_step(s: Step) -> Three
     ensures { λ r. ⌜ r .0 ∷ r .1 ∷ r .2 ∷ [] ≡ stepWords s ⌝ }
 {
     match s {
-        Step::Next => Told(0, 0, 0),
-        Step::Frame => Told(1, 0, 0),
-        Step::Fault(f) => Told(2, f.number(), f.word()),
-        Step::Unwind(f) => Told(3, f.number(), f.word()),
+        Step::Next => Three(0, 0, 0),
+        Step::Frame => Three(1, 0, 0),
+        Step::Fault(f) => Three(2, f.number(), f.word()),
+        Step::Unwind(f) => Three(3, f.number(), f.word()),
     }
 }
 

@@ -1,5 +1,4 @@
 // A fresh machine, and a frame on it.
-ghost use mathlib.Core.Path.{_≡_};
 ghost use Rattle.model.specs.Machine.{pushFrame};
 ghost use Rattle.tables.specs.Layout.{contOf};
 ghost use Rattle.memory.specs.Memory.{onStack, onFrames, onSetup};
@@ -10,7 +9,7 @@ ghost use Rattle.exports.specs.Begin.{BeginFits, Begun, PushCallFits};
 use crate::answers::put_made;
 use crate::numbers::machine_of;
 use crate::numbers::put_machine;
-use model::machine::Cont;
+use crate::sizes::sizes_of;
 
 // machine.rs: Machine::new, of the set-up's words given.
 #[no_mangle]
@@ -45,26 +44,13 @@ pub extern "C" fn bvm_set_up(
     put_machine(machine, m);
 }
 
-// A continuation by its code and register.
-fn cont_of(code: u64, r: u64) -> Cont
-    ensures { λ k. ⌜ k ≡ contOf code r ⌝ }
-{
-    match code {
-        0 => Cont::Entry,
-        1 => Cont::Write(r),
-        2 => Cont::Dyn(r),
-        3 => Cont::Value(r),
-        4 => Cont::Discard,
-        _ => Cont::Coro,
-    }
-}
-
 // machine.rs: push_frame.
 #[no_mangle]
 pub extern "C" fn bvm_push_frame(
     stack: &[u64],
     frames: &mut [u64],
     setup: &[u64],
+    sizes: &[u64],
     machine: &mut [u64],
     answer: &mut [u64],
     f: u64,
@@ -72,12 +58,12 @@ pub extern "C" fn bvm_push_frame(
     code: u64,
     r: u64,
 )
-    requires { ⌜ PushCallFits (now stack) (now frames) (now setup) (now machine) (now answer) f ⌝ }
-    ensures { λ _. ⌜ Called (now (setup .entry)) (pushFrame f closure (contOf code r)) madeWords (λ b. onStack (now (stack .entry)) (onFrames (now (frames .entry)) (onSetup (now (setup .entry)) (b .words)))) (now (machine .entry)) (λ b. onStack (now (stack .entry)) (onFrames (now (frames .exit)) (onSetup (now (setup .entry)) (b .words)))) (now (machine .exit)) (now (answer .entry)) (now (answer .exit)) ⌝ }
+    requires { ⌜ PushCallFits (now stack) (now frames) (now setup) (now sizes) (now machine) (now answer) f ⌝ }
+    ensures { λ _. ⌜ Called (now (sizes .entry)) (pushFrame f closure (contOf code r)) madeWords (λ b. onStack (now (stack .entry)) (onFrames (now (frames .entry)) (onSetup (now (setup .entry)) (b .words)))) (now (machine .entry)) (λ b. onStack (now (stack .entry)) (onFrames (now (frames .exit)) (onSetup (now (setup .entry)) (b .words)))) (now (machine .exit)) (now (answer .entry)) (now (answer .exit)) ⌝ }
 {
     let m = machine_of(machine);
-    let l = words::sizes::sizes(setup);
-    let cont = cont_of(code, r);
+    let l = sizes_of(sizes);
+    let cont = tables::frame::cont_of(code, r);
     let did = machine::frame::push_frame(stack, frames, setup, m, l, f, closure, cont);
     let n = did.machine;
     let a = did.answer;

@@ -4,5 +4,6 @@ pub mod begin;
 pub mod making;
 pub mod numbers;
 pub mod registers;
+pub mod sizes;
 pub mod suspending;
 pub mod switch;

@@ -7,6 +7,7 @@ ghost use Rattle.exports.specs.Switch.{NewCallFits};
 use crate::answers::put_step;
 use crate::numbers::machine_of;
 use crate::numbers::put_machine;
+use crate::sizes::sizes_of;
 
 // coro.rs: exec, CoroNew.
 #[no_mangle]
@@ -17,17 +18,18 @@ pub extern "C" fn bvm_coro_new(
     saved_stack: &mut [u64],
     saved_frames: &mut [u64],
     setup: &[u64],
+    sizes: &[u64],
     machine: &mut [u64],
     answer: &mut [u64],
     dst: u64,
     f: u64,
     argc: u64,
 )
-    requires { ⌜ NewCallFits (now stack) (now frames) (now slots) (now «saved_stack») (now «saved_frames») (now setup) (now machine) (now answer) dst f argc ⌝ }
-    ensures { λ _. ⌜ Called (now (setup .entry)) (coroNew dst f argc) stepWords (lentNew (now (stack .entry)) (now (frames .entry)) (now (slots .entry)) (now («saved_stack» .entry)) (now («saved_frames» .entry)) (now (setup .entry))) (now (machine .entry)) (lentNew (now (stack .exit)) (now (frames .entry)) (now (slots .exit)) (now («saved_stack» .exit)) (now («saved_frames» .exit)) (now (setup .entry))) (now (machine .exit)) (now (answer .entry)) (now (answer .exit)) ⌝ }
+    requires { ⌜ NewCallFits (now stack) (now frames) (now slots) (now «saved_stack») (now «saved_frames») (now setup) (now sizes) (now machine) (now answer) dst f argc ⌝ }
+    ensures { λ _. ⌜ Called (now (sizes .entry)) (coroNew dst f argc) stepWords (lentNew (now (stack .entry)) (now (frames .entry)) (now (slots .entry)) (now («saved_stack» .entry)) (now («saved_frames» .entry)) (now (setup .entry))) (now (machine .entry)) (lentNew (now (stack .exit)) (now (frames .entry)) (now (slots .exit)) (now («saved_stack» .exit)) (now («saved_frames» .exit)) (now (setup .entry))) (now (machine .exit)) (now (answer .entry)) (now (answer .exit)) ⌝ }
 {
     let m = machine_of(machine);
-    let l = words::sizes::sizes(setup);
+    let l = sizes_of(sizes);
     let did = exec::new::coro_new(
         stack,
         frames,

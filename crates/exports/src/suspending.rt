@@ -9,6 +9,7 @@ use crate::answers::put_fuel;
 use crate::answers::put_step;
 use crate::numbers::machine_of;
 use crate::numbers::put_machine;
+use crate::sizes::sizes_of;
 
 // coro.rs: exec, Yield.
 #[no_mangle]
@@ -19,7 +20,7 @@ pub extern "C" fn bvm_yield(
     slots: &mut [u64],
     saved_stack: &mut [u64],
     saved_frames: &mut [u64],
-    setup: &[u64],
+    sizes: &[u64],
     machine: &mut [u64],
     fuel: &mut [u64],
     answer: &mut [u64],
@@ -27,13 +28,13 @@ pub extern "C" fn bvm_yield(
     dst: u64,
     src: u64,
 )
-    requires { ⌜ YieldCallFits (now stack) (now frames) (now chain) (now slots) (now «saved_stack») (now «saved_frames») (now setup) (now machine) (now fuel) (now answer) pc src ⌝ }
-    ensures { λ _. ⌜ CalledFuel (now (setup .entry)) (yield pc dst src) stepWords (lent (now (stack .entry)) (now (frames .entry)) (now (chain .entry)) (now (slots .entry)) (now («saved_stack» .entry)) (now («saved_frames» .entry))) (now (machine .entry)) (now (fuel .entry)) (lent (now (stack .exit)) (now (frames .exit)) (now (chain .exit)) (now (slots .exit)) (now («saved_stack» .exit)) (now («saved_frames» .exit))) (now (machine .exit)) (now (fuel .exit)) (now (answer .entry)) (now (answer .exit)) ⌝ }
+    requires { ⌜ YieldCallFits (now stack) (now frames) (now chain) (now slots) (now «saved_stack») (now «saved_frames») (now sizes) (now machine) (now fuel) (now answer) pc src ⌝ }
+    ensures { λ _. ⌜ CalledFuel (now (sizes .entry)) (yield pc dst src) stepWords (lent (now (stack .entry)) (now (frames .entry)) (now (chain .entry)) (now (slots .entry)) (now («saved_stack» .entry)) (now («saved_frames» .entry))) (now (machine .entry)) (now (fuel .entry)) (lent (now (stack .exit)) (now (frames .exit)) (now (chain .exit)) (now (slots .exit)) (now («saved_stack» .exit)) (now («saved_frames» .exit))) (now (machine .exit)) (now (fuel .exit)) (now (answer .entry)) (now (answer .exit)) ⌝ }
 {
     let m = machine_of(machine);
-    let l = words::sizes::sizes(setup);
+    let l = sizes_of(sizes);
     let held = fuel_of(fuel);
-    let did = exec::yielding::coro_yield(
+    let did = yields::yielding::coro_yield(
         stack,
         frames,
         chain,

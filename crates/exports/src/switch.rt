@@ -7,6 +7,7 @@ ghost use Rattle.exports.specs.Switch.{ResumeCallFits};
 use crate::answers::put_step;
 use crate::numbers::machine_of;
 use crate::numbers::put_machine;
+use crate::sizes::sizes_of;
 
 // coro.rs: exec, Resume.
 #[no_mangle]
@@ -17,7 +18,7 @@ pub extern "C" fn bvm_resume(
     slots: &mut [u64],
     saved_stack: &mut [u64],
     saved_frames: &mut [u64],
-    setup: &[u64],
+    sizes: &[u64],
     machine: &mut [u64],
     answer: &mut [u64],
     pc: u64,
@@ -25,11 +26,11 @@ pub extern "C" fn bvm_resume(
     c: u64,
     src: u64,
 )
-    requires { ⌜ ResumeCallFits (now stack) (now frames) (now chain) (now slots) (now «saved_stack») (now «saved_frames») (now setup) (now machine) (now answer) pc c src ⌝ }
-    ensures { λ _. ⌜ Called (now (setup .entry)) (resume pc dst c src) stepWords (lent (now (stack .entry)) (now (frames .entry)) (now (chain .entry)) (now (slots .entry)) (now («saved_stack» .entry)) (now («saved_frames» .entry))) (now (machine .entry)) (lent (now (stack .exit)) (now (frames .exit)) (now (chain .exit)) (now (slots .exit)) (now («saved_stack» .exit)) (now («saved_frames» .exit))) (now (machine .exit)) (now (answer .entry)) (now (answer .exit)) ⌝ }
+    requires { ⌜ ResumeCallFits (now stack) (now frames) (now chain) (now slots) (now «saved_stack») (now «saved_frames») (now sizes) (now machine) (now answer) pc c src ⌝ }
+    ensures { λ _. ⌜ Called (now (sizes .entry)) (resume pc dst c src) stepWords (lent (now (stack .entry)) (now (frames .entry)) (now (chain .entry)) (now (slots .entry)) (now («saved_stack» .entry)) (now («saved_frames» .entry))) (now (machine .entry)) (lent (now (stack .exit)) (now (frames .exit)) (now (chain .exit)) (now (slots .exit)) (now («saved_stack» .exit)) (now («saved_frames» .exit))) (now (machine .exit)) (now (answer .entry)) (now (answer .exit)) ⌝ }
 {
     let m = machine_of(machine);
-    let l = words::sizes::sizes(setup);
+    let l = sizes_of(sizes);
     let did = exec::resume::resume(
         stack,
         frames,

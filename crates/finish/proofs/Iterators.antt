@@ -6,6 +6,7 @@ use mathlib.Core.List.{List}
 use Prim.Native.Nat.{ℕ, _+_, _*_, _≤_}
 use native.Mathlib.Omega.{arith}
 use lib.ListN.{length}
+use Rattle.lists.proofs.Tests.{never}
 use Rattle.heap.specs.Word.{slotOf, tagOf}
 use Rattle.heap.specs.Table.{Slot, slot, slotAt, get}
 use Rattle.heap.specs.Heap.{slotIn, slotsOf, putSlot}
@@ -31,9 +32,6 @@ use Rattle.finish.specs.Iter.{asIter, iterBy, iterOf}
 use Rattle.finish.specs.declared.iter.Iterator.{Iterator}
 use Rattle.finish.specs.declared.iter.Iterator.the-variants as I
 use Rattle.finish.proofs.Slotted.{object-rep}
-
-never : {A : Type 0} → _≡_ {A = ℕ} 0 1 → A
-never e = absurd (omega arith)
 
 -- an object that was found in the words, as an iterator
 pub iter-here : (n : ℕ) (ws : List ℕ) (w i : ℕ) (o r : H.Object) → Place.At i ≡ get O.Empty HO.isFilled (slotsOf n ws) w → r ≡ o → r ≡ slotIn ws i .object

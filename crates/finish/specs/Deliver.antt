@@ -11,6 +11,7 @@ use Rattle.model.specs.declared.machine.Driver.{Driver}
 use Rattle.model.specs.declared.machine.Outcome.{Outcome}
 use Rattle.model.specs.declared.machine.Stop.{Stop}
 use Rattle.tables.specs.Does.{RegFits}
+use Rattle.memory.specs.Told.{told}
 use Rattle.memory.specs.declared.machine.Machine.{Machine}
 use Rattle.coro.specs.Send.{SendFits}
 
@@ -44,7 +45,7 @@ stopped s m =
       ready = m .ready;
       finalize = m .finalize;
       finalizing = m .finalizing;
-      outcome = Outcome.Some s;
+      outcome = told (Outcome.Some s);
       used = m .used;
       seq = m .seq;
     }

@@ -4,7 +4,9 @@ ghost use Prim.Native.Nat.{_*_, _≤_};
 ghost use lib.ListN.{length};
 ghost use Rattle.model.specs.Coro.{outcomeOf, deliver, deliverReturn};
 ghost use Rattle.model.specs.declared.machine.Driver.the-variants.{Resume, Iter};
+ghost use Rattle.model.specs.declared.machine.Outcome.the-variants.{Some};
 ghost use Rattle.coro.specs.Send.{SendFits};
+ghost use Rattle.memory.specs.Told.{told};
 ghost use Rattle.memory.specs.Leaves.{lentTop, lentThree, Leaves, LeavesFuel, Answers, AnswersFuel};
 ghost use Rattle.finish.specs.Deliver.{IterFits, DriverFits, iterYielded, iterReturned, stopped};
 use crate::fuel::FuelDid;
@@ -15,10 +17,10 @@ use coro::send::coro_send;
 use heap::fault::Fault;
 use heap::value::Word;
 use memory::machine::Machine;
+use memory::machine::Told;
 use model::coro::Event;
 use model::machine::Driver;
 use model::machine::Fuel;
-use model::machine::Outcome;
 use model::machine::Stop;
 
 // What a delivery leaves of the numbers and of the fuel, and answers.
@@ -39,10 +41,24 @@ fn outcome_of(e: Event) -> Stop
     }
 }
 
+// What the coroutine did, in words.
+fn told_stop(s: Stop) -> Told
+    ensures { λ r. ⌜ r ≡ told (Some s) ⌝ }
+{
+    match s {
+        Stop::Yielded(v) => Told(1, v, 0, 0),
+        Stop::Awaiting(v) => Told(2, v, 0, 0),
+        Stop::Returned(v) => Told(3, v, 0, 0),
+        Stop::Failed(v, f, p) => Told(4, v, f, p),
+        Stop::CloseIgnored => Told(5, 0, 0, 0),
+    }
+}
+
 // The numbers with an outcome for the host.
 pub(crate) fn stopped(m: Machine, s: Stop) -> Machine
     ensures { λ r. ⌜ r ≡ stopped s m ⌝ }
 {
+    let outcome = told_stop(s);
     Machine {
         height: m.height,
         depth: m.depth,
@@ -51,7 +67,7 @@ pub(crate) fn stopped(m: Machine, s: Stop) -> Machine
         ready: m.ready,
         finalize: m.finalize,
         finalizing: m.finalizing,
-        outcome: Outcome::Some(s),
+        outcome,
         used: m.used,
         seq: m.seq,
     }

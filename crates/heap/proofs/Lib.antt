@@ -2,5 +2,6 @@ pub mod Coding
 pub mod Words
 pub mod Slots
 pub mod Lookups
+pub mod Place
 pub mod Charges
 pub mod Valid

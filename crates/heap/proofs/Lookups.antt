@@ -8,7 +8,7 @@ use borrow.Author.Tests.{ltb-true, lt-ltb, le-ltb, eq-eqb, ne-eqb}
 use lib.Dec.{ltb, eqb}
 use lib.ListN.{length}
 use Rattle.lists.specs.Pick.{pick}
-use Rattle.lists.proofs.Tests.{and-left}
+use Rattle.lists.proofs.Tests.{never, and-left}
 use Rattle.lists.proofs.Tables.{length-chunks, chunks-at}
 use Rattle.heap.specs.Word.{slotOf, tagOf, classOf}
 use Rattle.heap.specs.Object.{isFilled}
@@ -24,22 +24,19 @@ use Rattle.heap.specs.declared.value.Class.the-variants as C
 use Rattle.heap.specs.declared.heap.Place.the-variants as P
 
 module _ {A : Type 0} (none : A) (filled : A → Bool) (xs : List (Slot A)) where
-  never : {i : ℕ} → P.At i ≡ P.Nothing → ⊥
-  never e = let z : _≡_ {A = ℕ} 0 1 = cc in omega arith
-
   by-test : (i w : ℕ) (b : Bool) → names none filled xs w ≡ b → P.At i ≡ pick b (P.At (slotOf w)) P.Nothing → i < length xs
   unfolding pick
   by-test i w true e f =
       let h : i ≡ slotOf w = cc in
       let t = and-left (ltb (slotOf w) (length xs)) (eqb (slotAt none filled xs (slotOf w) .tag) (tagOf w) && filled (slotAt none filled xs (slotOf w) .object)) e in
       rw h (ltb-true (slotOf w) (length xs) t)
-  by-test i w false e f = absurd (never f)
+  by-test i w false e f = never cc
 
   in-class : (i : ℕ) (k : Class) → P.At i ≡ getIn none filled xs k → i < length xs
-  in-class i C.Nil e = absurd (never e)
+  in-class i C.Nil e = never cc
   in-class i (C.Ref o) e = by-test i (o .0) (names none filled xs (o .0)) refl e
-  in-class i (C.Int z) e = absurd (never e)
-  in-class i C.Opaque e = absurd (never e)
+  in-class i (C.Int z) e = never cc
+  in-class i C.Opaque e = never cc
 
   -- what is found is a slot of the table
   pub place-below : (i w : ℕ) → P.At i ≡ get none filled xs w → i < length xs

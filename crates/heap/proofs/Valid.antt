@@ -12,7 +12,7 @@ use Rattle.lists.specs.Pick.{pick}
 use Rattle.lists.specs.Parts.{pad}
 use Rattle.lists.specs.Chunks.{chunkAt, words}
 use Rattle.lists.specs.Tests.{allBelow, zeros}
-use Rattle.lists.proofs.Tests.{and-left, and-right, holds-at, holds-all, zeros-are, are-zeros}
+use Rattle.lists.proofs.Tests.{never, and-left, and-right, holds-at, holds-all, zeros-are, are-zeros}
 use Rattle.lists.proofs.Tables.{length-chunk, length-chunks, chunks-at, length-words, words-chunks, words-at, chunks-words}
 use Rattle.heap.specs.Object.{codeOf, stateOf}
 use Rattle.heap.specs.Table.{Slot, slot}
@@ -23,9 +23,6 @@ use Rattle.heap.specs.declared.object.Object.{Object}
 use Rattle.heap.specs.declared.object.Object.the-variants as O
 use Rattle.heap.proofs.Slots.{slot-back, length-slot}
 
-never : {A : Type 0} → false ≡ true → A
-never e = absurd (let z : _≡_ {A = ℕ} 0 1 = cc in omega arith)
-
 -- words within ranges, as facts
 abbrev pub In : List Range → List ℕ → Type 0
 In [] [] = Unit {0}
@@ -35,8 +32,8 @@ In (r ∷ rs) (w ∷ ws) = ((r .least ≤ w) × (w ≤ r .most)) × In rs ws
 
 pub facts : (rs : List Range) (ws : List ℕ) → within rs ws ≡ true → In rs ws
 facts [] [] e = tt
-facts [] (w ∷ ws) e = never e
-facts (r ∷ rs) [] e = never e
+facts [] (w ∷ ws) e = never cc
+facts (r ∷ rs) [] e = never cc
 facts (r ∷ rs) (w ∷ ws) e =
     let h = and-left (leb (r .least) w && leb w (r .most)) (within rs ws) e in (
       (leb-true (r .least) w (and-left (leb (r .least) w) (leb w (r .most)) h), leb-true w (r .most) (and-right (leb (r .least) w) (leb w (r .most)) h)),

@@ -25,6 +25,8 @@ use Rattle.heap.specs.declared.heap.Place.{Place}
 use Rattle.heap.specs.declared.heap.Place.the-variants as P
 use Rattle.heap.specs.declared.heap.Coroutine.{Coroutine}
 use Rattle.heap.specs.declared.heap.Coroutine.the-variants as R
+use Rattle.heap.specs.declared.heap.CoroPlace.{CoroPlace}
+use Rattle.heap.specs.declared.heap.CoroPlace.the-variants as L
 use Rattle.heap.specs.declared.heap.Heap.{Heap}
 use Rattle.heap.specs.declared.heap.Made.{Made}
 use Rattle.heap.specs.declared.heap.Made.the-variants as M
@@ -58,6 +60,11 @@ coroBy xs w (P.At i) = asCoro i (slotAt O.Empty isFilled xs i .object)
 
 abbrev pub coroOf : List (Slot Object) → ℕ → Coroutine
 coroOf xs w = coroBy xs w (get O.Empty isFilled xs w)
+
+-- the place alone
+abbrev pub placeOf : Coroutine → CoroPlace
+placeOf (R.At i c) = L.At i
+placeOf (R.Not f) = L.Not f
 
 -- words enough for the slots, whose numbers have 32 bits
 pub record Room (ws : List ℕ) (h : Heap) : Type 0 where

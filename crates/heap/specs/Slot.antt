@@ -3,7 +3,7 @@
 use Prim.Native.Nat.{ℕ, _^_, _-_}
 use mathlib.Core.Bool.{Bool, true, false, not}
 use mathlib.Core.List.{List, [], _∷_, _++_}
-use lib.ListN.{getD, replicate}
+use lib.ListN.{getD, set, replicate}
 use lib.Dec.{eqb}
 use Rattle.lists.specs.Pick.{pick}
 use Rattle.heap.specs.Object.{codeOf, stateOf}
@@ -54,6 +54,19 @@ objectWords (O.Coro c) = 6 ∷ coroFields c
 
 abbrev pub slotWords : Slot Object → List ℕ
 slotWords v = v .tag ∷ objectWords (v .object)
+
+-- ---- a coroutine's words, some changed
+
+-- its state, and how many registers and frames are saved
+abbrev pub stateWords : ℕ → ℕ → ℕ → List ℕ → List ℕ
+stateWords s regs frames ws = set (set (set ws 2 s) 8 regs) 9 frames
+
+-- what a suspension changes: neither finalized, task, seq and row nor the result
+abbrev pub sleepWords : CoroObj → List ℕ → List ℕ
+sleepWords c ws =
+    let a = set (set (set (set ws 2 (codeOf (c .state))) 3 (flag (c .closing))) 8 (c .regs)) 9 (c .frames) in
+    let b = set (set (set (set a 10 (c .maxregs)) 11 (c .maxframes)) 12 (c .waiting)) 13 (c .payload) in
+    set (set (set b 14 (c .key)) 15 (c .largest)) 17 (c .signal)
 
 -- ---- words as an object
 

@@ -7,7 +7,7 @@ ghost use Rattle.heap.specs.Int.{exactly, valueOf};
 ghost use Rattle.heap.specs.Object.{isFilled, intOf};
 ghost use Rattle.heap.specs.Table.{get, notA, dynIntOf};
 ghost use Rattle.heap.specs.Charge.{satAdd, fits, chargeOf};
-ghost use Rattle.heap.specs.Heap.{slotsOf, coroOf, Room, out, lacksOf, allocOf, encodeOf, intBy, toDyn};
+ghost use Rattle.heap.specs.Heap.{slotsOf, placeOf, coroOf, Room, out, lacksOf, allocOf, encodeOf, intBy, toDyn};
 ghost use Rattle.heap.specs.declared.object.Object.the-variants.{Empty};
 use crate::fault::Fault;
 use crate::int::Exact;
@@ -29,6 +29,12 @@ pub enum Place {
 // The coroutine that a word names, or the fault of a word that names none.
 pub enum Coroutine {
     At(usize, CoroObj),
+    Not(Fault),
+}
+
+// Its place alone.
+pub enum CoroPlace {
+    At(usize),
     Not(Fault),
 }
 
@@ -81,19 +87,32 @@ pub fn get(slots: &[u64], count: usize, w: Word) -> Place
     }
 }
 
+// heap.rs: coro, or coll: not_a; where the coroutine stands.
+pub fn coro_place(slots: &[u64], count: usize, w: Word) -> CoroPlace
+    requires { ⌜ count * 20 ≤ length (now slots) ⌝ }
+    ensures { λ r. ⌜ r ≡ placeOf (coroOf (slotsOf count (now (slots .entry))) (w .0)) ⌝ }
+{
+    match get(slots, count, w) {
+        Place::Nothing => CoroPlace::Not(not_a(slots, count, w)),
+        Place::At(i) => {
+            if slot::is_coro(slots, i) {
+                return CoroPlace::At(i);
+            }
+            CoroPlace::Not(Fault::TypeError)
+        }
+    }
+}
+
 // heap.rs: coro, or coll: not_a.
 pub fn coro(slots: &[u64], count: usize, w: Word) -> Coroutine
     requires { ⌜ count * 20 ≤ length (now slots) ⌝ }
     ensures { λ r. ⌜ r ≡ coroOf (slotsOf count (now (slots .entry))) (w .0) ⌝ }
 {
-    match get(slots, count, w) {
-        Place::Nothing => Coroutine::Not(not_a(slots, count, w)),
-        Place::At(i) => {
-            if slot::is_coro(slots, i) {
-                let c = slot::coro_at(slots, i);
-                return Coroutine::At(i, c);
-            }
-            Coroutine::Not(Fault::TypeError)
+    match coro_place(slots, count, w) {
+        CoroPlace::Not(f) => Coroutine::Not(f),
+        CoroPlace::At(i) => {
+            let c = slot::coro_at(slots, i);
+            Coroutine::At(i, c)
         }
     }
 }

@@ -3,10 +3,10 @@ ghost use mathlib.Core.Path.{_≡_};
 ghost use Prim.Native.Nat.{_+_, _*_, _≤_};
 ghost use lib.ListN.{length, getD};
 ghost use lib.Dec.{eqb};
-ghost use Rattle.lists.specs.Chunks.{chunkAt};
+ghost use Rattle.lists.specs.Chunks.{chunkAt, putChunk};
 ghost use Rattle.heap.specs.Table.{slot};
-ghost use Rattle.heap.specs.Object.{isFilled};
-ghost use Rattle.heap.specs.Slot.{coroAt, objectAt, fieldsOf, fills, slotWords};
+ghost use Rattle.heap.specs.Object.{isFilled, codeOf};
+ghost use Rattle.heap.specs.Slot.{coroAt, objectAt, fieldsOf, fills, slotWords, stateWords, sleepWords};
 ghost use Rattle.heap.specs.Heap.{slotIn, putSlot};
 ghost use Rattle.heap.specs.declared.object.Object.the-variants.{Iter, Coro};
 use crate::object::CoroObj;
@@ -173,7 +173,7 @@ pub(crate) fn is_coro(slots: &[u64], i: usize) -> bool
 }
 
 // The coroutine at place i.
-pub(crate) fn coro_at(slots: &[u64], i: usize) -> CoroObj
+pub fn coro_at(slots: &[u64], i: usize) -> CoroObj
     requires { ⌜ i * 20 + 20 ≤ length (now slots) ⌝ }
     ensures { λ r. ⌜ r ≡ coroAt (chunkAt 20 (now (slots .entry)) i) ⌝ }
 {
@@ -200,6 +200,53 @@ pub fn put_slot(slots: &mut [u64], i: usize, tag: u64, o: Object)
     let e = b + 20;
     let words = words_of(tag, o);
     lists::copy_words(&mut slots[b..e], &words);
+}
+
+fn write_state(s: &mut [u64], state: u64, regs: u64, frames: u64)
+    requires { ⌜ length (now s) ≡ 20 ⌝ }
+    ensures { λ _. ⌜ now (s .exit) ≡ stateWords state regs frames (now (s .entry)) ⌝ }
+{
+    s[2] = state;
+    s[8] = regs;
+    s[9] = frames;
+}
+
+fn write_sleep(s: &mut [u64], c: CoroObj)
+    requires { ⌜ length (now s) ≡ 20 ⌝ }
+    ensures { λ _. ⌜ now (s .exit) ≡ sleepWords c (now (s .entry)) ⌝ }
+{
+    let state = c.state;
+    s[2] = state.code();
+    s[3] = c.closing as u64;
+    s[8] = c.regs;
+    s[9] = c.frames;
+    s[10] = c.maxregs;
+    s[11] = c.maxframes;
+    s[12] = c.waiting;
+    s[13] = c.payload;
+    s[14] = c.key;
+    s[15] = c.largest;
+    s[17] = c.signal;
+}
+
+// The coroutine at place i in another state, with so many registers and frames saved: three words.
+pub fn put_state(slots: &mut [u64], i: usize, state: CoroState, regs: u64, frames: u64)
+    requires { ⌜ i * 20 + 20 ≤ length (now slots) ⌝ }
+    ensures { λ _. ⌜ now (slots .exit) ≡ putChunk 20 (now (slots .entry)) i (stateWords (codeOf state) regs frames (chunkAt 20 (now (slots .entry)) i)) ⌝ }
+{
+    let b = i * 20;
+    let e = b + 20;
+    write_state(&mut slots[b..e], state.code(), regs, frames);
+}
+
+// The coroutine at place i asleep: the words that a suspension changes.
+pub fn put_sleep(slots: &mut [u64], i: usize, c: CoroObj)
+    requires { ⌜ i * 20 + 20 ≤ length (now slots) ⌝ }
+    ensures { λ _. ⌜ now (slots .exit) ≡ putChunk 20 (now (slots .entry)) i (sleepWords c (chunkAt 20 (now (slots .entry)) i)) ⌝ }
+{
+    let b = i * 20;
+    let e = b + 20;
+    write_sleep(&mut slots[b..e], c);
 }
 
 // Whether a slot of this kind holds an object.

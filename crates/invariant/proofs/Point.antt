@@ -10,6 +10,7 @@ use lib.Seq.{getD-set-same, getD-set-other}
 use lib.Dec.{eqb, ltb}
 use borrow.Author.Tests.{ltb-true, lt-ltb, eqb-true, eq-eqb, ne-eqb}
 use Rattle.lists.specs.Pick.{pick}
+use Rattle.lists.proofs.Tests.{never}
 use Rattle.heap.specs.Word.{nil, reference, slotOf, tagOf, topOf}
 use Rattle.heap.specs.Coding.{bitsOf, ofBits}
 use Rattle.heap.specs.Table.{Slot, slot, names, get, getIn, putObject, pushObject}
@@ -89,11 +90,11 @@ module _ (xs : List (Slot Object)) (v : ℕ) (o : Object) (f : isFilled o ≡ tr
 -- ---- coroutines
 
 as-coro : (o : Object) (k : Core) (r : Rest) → asCoro o ≡ Is k r → o ≡ Object.Coro k r
-as-coro Object.Empty k r e = absurd (let z : _≡_ {A = ℕ} 0 1 = cc in omega arith)
-as-coro (Object.Func x) k r e = absurd (let z : _≡_ {A = ℕ} 0 1 = cc in omega arith)
-as-coro (Object.Int x) k r e = absurd (let z : _≡_ {A = ℕ} 0 1 = cc in omega arith)
-as-coro (Object.Iter s d x) k r e = absurd (let z : _≡_ {A = ℕ} 0 1 = cc in omega arith)
-as-coro (Object.Error a b c x) k r e = absurd (let z : _≡_ {A = ℕ} 0 1 = cc in omega arith)
+as-coro Object.Empty k r e = never cc
+as-coro (Object.Func x) k r e = never cc
+as-coro (Object.Int x) k r e = never cc
+as-coro (Object.Iter s d x) k r e = never cc
+as-coro (Object.Error a b c x) k r e = never cc
 as-coro (Object.Coro x y) k r e = cc
 
 pub finds : (xs : List (Slot Object)) (v : ℕ) (k : Core) (r : Rest) → coroIn xs v ≡ Is k r → Points xs v (Object.Coro k r)

@@ -8,6 +8,7 @@ use lib.ListN.{length, replicate}
 use lib.Dec.{eqb, ltb, leb}
 use borrow.Author.Tests.{ltb-true, ltb-false, lt-ltb, leb-true, leb-false, ne-eqb}
 use Rattle.lists.specs.Pick.{pick}
+use Rattle.lists.proofs.Tests.{never}
 use Rattle.heap.specs.Fault as Faults
 use Rattle.heap.specs.declared.fault.Fault.{Fault}
 use Rattle.heap.specs.declared.value.Opt.{Opt}
@@ -109,7 +110,7 @@ finish-good kind v w h = finish-on kind v w h (w .frames) refl
 
 -- the handler found is one of the function's
 first-in : (p : Handler → Bool) (pc : ℕ) (hs : List Handler) (h : Handler) → each p hs ≡ true → firstOf pc hs ≡ Caught.By h → p h ≡ true
-first-in p pc [] h e q = absurd (let z : _≡_ {A = ℕ} 0 1 = cc in omega arith)
+first-in p pc [] h e q = never cc
 first-in p pc (x ∷ hs) h e q = go (covers pc x) q (λ z. first-in p pc hs h (and-right (p x) _ e) z)
   where
     same : Caught.By x ≡ Caught.By h → x ≡ h

@@ -18,6 +18,12 @@ copy-suc (suc n) (x ∷ s) (y ∷ d) h k = ap (λ (t : List ℕ). x ∷ t) (copy
 pub copy-more : (n : ℕ) (s d : List ℕ) → n < length s → n < length d → set (take n s ++ drop n d) n (getD s n 0) ≡ take (n + 1) s ++ drop (n + 1) d
 copy-more n s d h k = rw add-one (copy-suc n s d h k)
 
+-- the word after those that were cleared is as it was
+pub next-kept : (n : ℕ) (s : List ℕ) → n < length s → getD (replicate n 0 ++ drop n s) n 0 ≡ getD s n 0
+next-kept n [] h = absurd (not-suc-le-zero h)
+next-kept zero (x ∷ s) h = refl
+next-kept (suc n) (x ∷ s) h = next-kept n s (le-of-suc-le-suc h)
+
 -- the loops' ends
 pub copy-all : (n : ℕ) (s d : List ℕ) → length d ≡ length s → length d ≤ n → take n s ++ drop n d ≡ s
 copy-all n s d e h = let k : length s ≤ n = omega arith in simp (take-all n s k, drop-of-length-le d h, append-nil)

@@ -10,13 +10,17 @@ use lib.Dec.{eqb}
 use lib.ListN.{replicate, length}
 use Rattle.lists.specs.Tests.{allBelow, zeros}
 
+-- what equates two cases equates 0 and 1, by `cc`
+pub never : {A : Type 0} → _≡_ {A = ℕ} 0 1 → A
+never e = absurd (omega arith)
+
 pub and-left : (a b : Bool) → (a && b) ≡ true → a ≡ true
 and-left true b e = refl
 and-left false b e = e
 
 pub and-right : (a b : Bool) → (a && b) ≡ true → b ≡ true
 and-right true b e = e
-and-right false b e = absurd (let z : _≡_ {A = ℕ} 0 1 = cc in omega arith)
+and-right false b e = never cc
 
 pub and-false : (b : Bool) → (b && false) ≡ false
 and-false true = refl

@@ -26,6 +26,20 @@ pub fn clear_words(s: &mut [u64])
     }
 }
 
+// All words of `src`, into a slice as long; they become 0 in `src`.
+pub fn take_words(dst: &mut [u64], src: &mut [u64])
+    requires { ⌜ length (now dst) ≡ length (now src) ⌝ }
+    ensures { λ _. ⌜ (now (dst .exit) ≡ now (src .entry)) × (now (src .exit) ≡ replicate (length (now (src .entry))) 0) ⌝ }
+{
+    let mut i = 0;
+    while i < dst.len() {
+        let w = src[i];
+        dst[i] = w;
+        src[i] = 0;
+        i += 1;
+    }
+}
+
 // Whether all words are 0.
 pub fn all_zero(s: &[u64]) -> bool
     ensures { λ r. ⌜ r ≡ zeros (now (s .entry)) ⌝ }

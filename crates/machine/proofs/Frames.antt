@@ -1,16 +1,15 @@
 -- Frames pushed and gone, on the world. Assumes nothing.
 use mathlib.Core.Path.{_≡_, refl, sym, ap, ap₂, _∙_, subst}
-use mathlib.Core.Bool.{Bool, true, false, _&&_, _||_}
+use mathlib.Core.Bool.{Bool, true, false, _||_}
 use mathlib.Core.List.{List, [], _∷_, _++_}
 use Prim.Native.Nat.{ℕ, _+_, _-_, _*_, _^_, _≤_, _<_}
 use native.Mathlib.Omega.{arith}
 use lib.ListN.{length, getD, take, drop, replicate}
 use lib.Dec.{ltb, leb}
-use borrow.Author.Tests.{le-leb, lt-leb, lt-ltb, le-ltb, ltb-true, ltb-false, leb-true, leb-false}
+use borrow.Author.Tests.{le-leb, lt-leb, lt-ltb, le-ltb, ltb-false, leb-false}
 use Rattle.lists.specs.Pick.{pick}
 use Rattle.heap.specs.declared.fault.Fault.{Fault}
-use Rattle.model.specs.Program.{Setup, func, isFunction, functionOk, handlerOk}
-use Rattle.model.specs.Lists.{each}
+use Rattle.model.specs.Program.{Setup, func}
 use Rattle.model.specs.World.{World, After, after, withStack, withFrames}
 use Rattle.model.specs.Frames.{frame, popTo}
 use Rattle.model.specs.Machine.{pushFrame}
@@ -19,22 +18,21 @@ use Rattle.model.specs.declared.coro.Made.{Made}
 use Rattle.model.specs.declared.machine.Cont.{Cont}
 use Rattle.model.specs.declared.machine.Frame.{Frame}
 use Rattle.model.specs.declared.machine.Fuel.{Fuel}
-use Rattle.invariant.proofs.Tests.{no-false, no-true, and-left, and-right, or-first, or-second}
+use Rattle.invariant.proofs.Tests.{no-false, no-true, or-first, or-second}
 use Rattle.invariant.proofs.Sound.{Sound, sound→, facts}
-use Rattle.invariant.proofs.Tower.{function-ok}
-use Rattle.tables.specs.Sizes.{setupWords}
+use Rattle.tables.specs.Layout.{functionIn}
 use Rattle.tables.specs.Does.{FramesDo, StackDo}
 use Rattle.tables.specs.Parts.{Frames}
 use Rattle.tables.proofs.Parts.{run-grow}
 use Rattle.tables.proofs.Decode.{top-frame}
 use Rattle.lists.proofs.Tables.{chunk-get}
-use Rattle.tables.proofs.Setups.{functions-count, function-at}
+use Rattle.tables.proofs.Setups.{functions-in, regs-in}
 use Rattle.memory.specs.Memory.{Lent, Rep, Room, Does, onStack, onFrames, onSetup}
 use Rattle.memory.specs.Numbers.{withHeight, withDepth}
 use Rattle.memory.specs.declared.machine.Machine.{Machine}
 use Rattle.memory.specs.declared.machine.Sizes.{Sizes}
 use Rattle.memory.proofs.Turn.{turn-stack, turn-frames}
-use Rattle.machine.specs.Frame.{widthIn, overflowing, pushed}
+use Rattle.machine.specs.Frame.{overflowing, pushed}
 
 chosen : {A : Type 0} (x y : A) (b : Bool) → b ≡ true → pick b x y ≡ x
 unfolding pick
@@ -80,29 +78,14 @@ module _ (l : Sizes) (w : World) (M : Lent) (m : Machine) (fuel : Fuel) (rep : R
     abbrev s : Setup
     s = w .setup
 
-    abbrev spare : List ℕ
-    spare = replicate (length (M .setup) - length (setupWords s)) 0
-
     known : Sound false w
     known = sound→ w snd (λ z. no-false z)
 
     among : f < length (s .functions)
-    among = subst (λ k. f < k) (ap (λ (z : List ℕ). getD z 13 0) (rep .setup) ∙ functions-count s spare) function
-
-    ok : functionOk (func s f) ≡ true
-    ok = function-ok s f (facts s (known .setup)) (lt-ltb f (length (s .functions)) among)
-
-    few : length (func s f .handlers) ≤ 8
-    few =
-        let h = func s f in
-        let a = and-left (leb (h .regs) 256 && leb (h .params) (h .regs) && leb (length (h .handlers)) 8) (each (handlerOk (h .regs)) (h .handlers)) ok in
-        leb-true (length (h .handlers)) 8 (and-right (leb (h .regs) 256 && leb (h .params) (h .regs)) (leb (length (h .handlers)) 8) a)
-
-    width-is : widthIn (M .setup) f ≡ func s f .regs
-    width-is = ap (λ (z : List ℕ). widthIn z f) (rep .setup) ∙ ap (λ z. z .regs) (function-at s spare f among few)
+    among = subst (λ k. f < k) (functions-in s (M .setup) (rep .setup)) function
 
     pub record Asked : Type 0 where
-      pub record-there : 14 + f * 35 + 35 ≤ length (M .setup)
+      pub function-there : 14 + f * 35 < length (M .setup)
       pub height : m .height ≤ l .stack
 
     pub asked : Room s M → Asked
@@ -112,11 +95,14 @@ module _ (l : Sizes) (w : World) (M : Lent) (m : Machine) (fuel : Fuel) (rep : R
         let e = rep .stack .count in
         let z = rep .sizes .stack in
         let h = known .tower .height in
-        record { record-there = omega arith; height = omega arith }
+        record { function-there = omega arith; height = omega arith }
 
     module _ (closure : ℕ) (cont : Cont) where
       abbrev n : ℕ
-      n = widthIn (M .setup) f
+      n = functionIn (M .setup) f .regs
+
+      width-is : n ≡ func s f .regs
+      width-is = regs-in s (M .setup) (rep .setup) f function
 
       same-test : (leb (s .limits .depth) (length (w .frames)) || ltb (s .limits .stack) (length (w .stack) + func s f .regs)) ≡ overflowing m l n
       same-test =

@@ -8,7 +8,6 @@ use lib.Dec.{ltb, leb}
 use Rattle.model.specs.World.{World}
 use Rattle.model.specs.Frames.{popTo}
 use Rattle.model.specs.declared.machine.Frame.{Frame}
-use Rattle.tables.specs.Layout.{functionIn}
 use Rattle.memory.specs.Memory.{Lent, Beside, onStack, onFrames, onSetup, Rep, Ok}
 use Rattle.memory.specs.Numbers.{withHeight, withDepth}
 use Rattle.memory.specs.declared.machine.Machine.{Machine}
@@ -20,10 +19,6 @@ pub record DepthFits (frames : List ℕ) (depth : ℕ) : Type 0 where
   pub within : depth * 6 ≤ length frames
 
 -- ---- push_frame
-
--- the registers of function f, in a set-up's words
-abbrev pub widthIn : List ℕ → ℕ → ℕ
-widthIn ws f = functionIn ws f .regs
 
 -- a frame too many, or too wide
 abbrev pub overflowing : Machine → Sizes → ℕ → Bool

@@ -11,6 +11,7 @@ use Rattle.model.specs.Program.{Setup, setupOk}
 use Rattle.model.specs.World.{World, fresh}
 use Rattle.model.specs.declared.machine.Outcome.{Outcome}
 use Rattle.tables.specs.Sizes.{setupWords}
+use Rattle.memory.specs.Told.{told}
 use Rattle.memory.specs.Memory.{Lent, tabled, Rep, Room, Sized}
 use Rattle.memory.specs.declared.machine.Machine.{Machine}
 use Rattle.memory.specs.declared.machine.Sizes.{Sizes}
@@ -24,7 +25,7 @@ Cleared ws ws′ = ws′ ≡ replicate (length ws) 0
 
 -- the numbers of a machine that has not begun, with n slots taken
 abbrev pub start : ℕ → Machine
-start n = record { height = 0; depth = 0; active = 0; count = n; ready = 0; finalize = 0; finalizing = false; outcome = Outcome.None; used = 0; seq = 0 }
+start n = record { height = 0; depth = 0; active = 0; count = n; ready = 0; finalize = 0; finalizing = false; outcome = told Outcome.None; used = 0; seq = 0 }
 
 abbrev pub words : List ℕ → List ℕ → List ℕ → List ℕ → List ℕ → List ℕ → List ℕ → List ℕ → List ℕ → Lent
 words s f c o r q a z u =

@@ -1,13 +1,12 @@
 // machine.rs: registers and frames.
 ghost use mathlib.Core.Path.{_≡_};
-ghost use Prim.Native.Nat.{_+_, _*_, _^_, _≤_, _<_};
-ghost use lib.ListN.{length};
+ghost use Prim.Native.Nat.{_+_, _^_, _≤_, _<_};
 ghost use Rattle.model.specs.Frames.{storePc, putReg};
 ghost use Rattle.model.specs.Machine.{pushFrame};
 ghost use Rattle.tables.specs.Does.{RegFits};
 ghost use Rattle.memory.specs.Memory.{onStack, onFrames, onSetup, Met};
 ghost use Rattle.memory.specs.Leaves.{Leaves, lentTop};
-ghost use Rattle.machine.specs.Frame.{DepthFits, widthIn, PushFits, overflowing, pushed, PopFits, Pops};
+ghost use Rattle.machine.specs.Frame.{DepthFits, PushFits, overflowing, pushed, PopFits, Pops};
 use heap::fault::Fault;
 use memory::machine::Machine;
 use memory::machine::Sizes;
@@ -50,15 +49,6 @@ fn overflows(m: Machine, l: Sizes, n: u64) -> bool
     false
 }
 
-// The registers of function f.
-fn width(setup: &[u64], f: u64) -> u64
-    requires { ⌜ 14 + f * 35 + 35 ≤ length (now setup) ⌝ }
-    ensures { λ r. ⌜ r ≡ widthIn (now (setup .entry)) f ⌝ }
-{
-    let at = 14 + (f as usize) * 35;
-    setup[at]
-}
-
 fn grown(m: Machine, n: u64) -> Machine
     requires { ⌜ (m .height + n < 2 ^ 64) × (m .depth + 1 < 2 ^ 64) ⌝ }
     ensures { λ r. ⌜ r ≡ pushed m n ⌝ }
@@ -83,7 +73,7 @@ pub fn push_frame(
     requires { ⌜ PushFits l (now stack) (now frames) (now setup) m f ⌝ }
     ensures { λ r. ⌜ Met l (pushFrame f closure cont) (λ b. onStack (now (stack .entry)) (onFrames (now (frames .entry)) (onSetup (now (setup .entry)) (b .words)))) m (λ b. onStack (now (stack .entry)) (onFrames (now (frames .exit)) (onSetup (now (setup .entry)) (b .words)))) (r .machine) (r .answer) ⌝ }
 {
-    let n = width(setup, f);
+    let n = tables::program::regs_at(setup, f as usize);
     if overflows(m, l, n) {
         return FrameDid {
             machine: m,

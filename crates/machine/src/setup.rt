@@ -7,7 +7,7 @@ ghost use Rattle.memory.specs.Memory.{Slots};
 ghost use Rattle.machine.specs.Setup.{functionSlots, Cleared, start, words, SetUpFits, SetsUp};
 use heap::object::Object;
 use memory::machine::Machine;
-use model::machine::Outcome;
+use memory::machine::Told;
 
 // A function object for each of n functions, and nothing after them.
 fn function_objects(slots: &mut [u64], n: usize)
@@ -42,7 +42,7 @@ fn clear_tables(
 fn none(n: usize) -> Machine
     ensures { λ r. ⌜ r ≡ start n ⌝ }
 {
-    let outcome = Outcome::None;
+    let outcome = Told(0, 0, 0, 0);
     Machine {
         height: 0,
         depth: 0,

@@ -1,3 +1,4 @@
+pub mod Told
 pub mod Slots
 pub mod Rows
 pub mod Tables

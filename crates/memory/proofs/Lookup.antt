@@ -5,12 +5,14 @@ use mathlib.Core.Bool.{Bool, true, false, not, _&&_}
 use mathlib.Core.List.{List, []}
 use Prim.Native.Nat.{ℕ, _%_, _^_, _<_}
 use native.Mathlib.Omega.{arith}
-use lib.ListN.{getD, set}
+use lib.ListN.{length, getD, set, length-map}
 use lib.Dec.{eqb, ltb}
 use borrow.Author.Tests.{eq-eqb, ne-eqb, ltb-true}
 use Rattle.lists.specs.Pick.{pick}
-use Rattle.lists.proofs.Tests.{and-false}
-use Rattle.heap.specs.Word.{nil, slotOf, topOf, classOf}
+use Rattle.lists.proofs.Tests.{never, and-false}
+use Rattle.lists.specs.Chunks.{chunkAt}
+use Rattle.heap.specs.Word.{nil, slotOf, tagOf, topOf, classOf}
+use Rattle.heap.specs.Slot.{slotWords}
 use Rattle.heap.specs.Coding.{bitsOf, ofBits}
 use Rattle.heap.specs.Table.{Slot, slot, names, get, getIn, notA, putObject}
 use Rattle.heap.specs.Heap.{asCoro, coroBy, coroOf}
@@ -21,6 +23,7 @@ use Rattle.heap.specs.declared.heap.Coroutine.the-variants as RV
 use Rattle.heap.specs.declared.fault.Fault.{Fault}
 use Rattle.heap.specs.declared.object.CoroObj.{CoroObj}
 use Rattle.heap.specs.declared.object.Object as H
+use Rattle.heap.specs.declared.object.Object.the-variants as O
 use Rattle.model.specs.Lists.{each, distinct}
 use Rattle.model.specs.State.{isFinished}
 use Rattle.model.specs.Object.{Core, Rest, Object, isFilled, Coroutine, Absent, Is}
@@ -29,15 +32,12 @@ use Rattle.model.specs.Heap.{objectAt}
 use Rattle.model.specs.Rows.{heldRows}
 use Rattle.invariant.proofs.Point.{at, coroIn, Points, finds}
 use Rattle.invariant.proofs.Tests.{among-each}
-use Rattle.memory.specs.Slots.{toCoro, toObject, toSlots}
+use Rattle.memory.specs.Slots.{toCoro, toObject, toSlot, toSlots}
 use Rattle.memory.specs.Rows.{owns, savedBy, rowAt}
-use Rattle.memory.specs.Memory.{regsRows, framesRows}
+use Rattle.memory.specs.Memory.{Slots, regsRows, framesRows}
 use Rattle.memory.proofs.Slots.{at-map, get-same}
 use Rattle.memory.proofs.Rows.{held-at, row-is, row-own, row-other}
-use Rattle.memory.proofs.Tables.{rows-at, rows-set}
-
-never : {A : Type 0} → _≡_ {A = ℕ} 0 1 → A
-never e = absurd (omega arith)
+use Rattle.memory.proofs.Tables.{slot-words, rows-at, rows-set}
 
 -- ---- none is found
 
@@ -122,6 +122,20 @@ module _ (xs : List (Slot Object)) (v : ℕ) where
         go (Place.At j) q e =
             let z = inside (at xs j .object) j (e ∙ ap (λ (x : Slot H.Object). asCoro j (x .object)) (at-map xs j)) in
             record { core = z .core; rest = z .rest; coro = ap (λ p. M.asCoro (objectAt xs p)) q ∙ z .object; is = z .is; slot = z .slot ∙ place-slot j q }
+
+-- the words of its slot
+pub there-words : (xs : List (Slot Object)) (v i : ℕ) (c : CoroObj) → There xs v i c → (ws : List ℕ) (n : ℕ) → Slots (toSlots xs) ws n → chunkAt 20 ws i ≡ slotWords (slot (tagOf v) (O.Coro c))
+there-words xs v i c t ws n s =
+    let p : Points xs v (Object.Coro (t .core) (t .rest)) = finds xs v (t .core) (t .rest) (t .coro) in
+    let q = p .inside in
+    let e₁ = s .count in
+    let e₂ : length (toSlots xs) ≡ length xs = length-map xs toSlot in
+    let e₃ = t .slot in
+    slot-words (toSlots xs) ws n i s (omega arith)
+    ∙ ap (λ j. slotWords (getD (toSlots xs) j (slot 0 O.Empty))) (t .slot)
+    ∙ ap slotWords (at-map xs (slotOf v))
+    ∙ ap₂ (λ a o. slotWords (slot a (toObject o))) (p .tag) (p .here)
+    ∙ ap (λ (x : CoroObj). slotWords (slot (tagOf v) (O.Coro x))) (sym (t .is))
 
 -- ---- its row
 

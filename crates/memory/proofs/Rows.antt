@@ -15,10 +15,8 @@ use Rattle.model.specs.Lists.{among, distinct}
 use Rattle.model.specs.State.{isFinished}
 use Rattle.model.specs.Object.{Core, Rest, Object, Coroutine, Absent, Is, asCoro}
 use Rattle.model.specs.Rows.{heldBy, heldRows}
+use Rattle.invariant.proofs.Tests.{no-false, no-true}
 use Rattle.memory.specs.Rows.{Row, noRow, rowOf, owns, savedBy, rowAt}
-
-never : {A : Type 0} → true ≡ false → A
-never e = absurd (let z : _≡_ {A = ℕ} 0 1 = cc in omega arith)
 
 -- ---- who owns a row that is not among those held
 
@@ -32,7 +30,7 @@ held-step (Is k r) rows n e = go (isFinished (k .state)) refl e
     flip a b false e = ne-eqb b a (λ q. eqb-false a b e (sym q))
 
     either : (t : Bool) (x : Bool) → eqb n (r .row) ≡ t → (t || x) ≡ false → (eqb (r .row) n ≡ false) × (x ≡ false)
-    either true x p q = never q
+    either true x p q = no-true q
     either false x p q = (flip n (r .row) false p, q)
 
     go : (f : Bool) → isFinished (k .state) ≡ f → among n (pick f rows (r .row ∷ rows)) ≡ false → (owns n (Is k r) ≡ false) × (among n rows ≡ false)
@@ -69,16 +67,16 @@ head-apart (Is k r) rows n e h = go (isFinished (k .state)) (eqb (r .row) n) ref
     go false true p q d =
         let s : r .row ≡ n = eqb-true (r .row) n q in
         let a : not (among (r .row) rows) ≡ true = and-left (not (among (r .row) rows)) (distinct rows) d in
-        never (sym (rw (s, h) at a))
+        no-true (sym (rw (s, h) at a))
 
 owner-held : (c : Coroutine) (rows : List ℕ) (n : ℕ) → owns n c ≡ true → among n (heldBy c rows) ≡ true
 unfolding pick
-owner-held Absent rows n e = never (sym e)
+owner-held Absent rows n e = no-false e
 owner-held (Is k r) rows n e = go (isFinished (k .state)) (eqb (r .row) n) refl refl e
   where
     go : (f t : Bool) → isFinished (k .state) ≡ f → eqb (r .row) n ≡ t → (not f && t) ≡ true → among n (pick (isFinished (k .state)) rows (r .row ∷ rows)) ≡ true
-    go true t p q d = never (sym d)
-    go false false p q d = never (sym d)
+    go true t p q d = no-false d
+    go false false p q d = no-false d
     go false true p q d = rw (p, eq-eqb n (r .row) (sym (eqb-true (r .row) n q)))
 
 later-held : (c : Coroutine) (rows : List ℕ) (n : ℕ) → among n rows ≡ true → among n (heldBy c rows) ≡ true
@@ -98,7 +96,7 @@ abbrev coroIn : List (Slot Object) → ℕ → Coroutine
 coroIn xs i = asCoro (getD xs i (slot 0 Object.Empty) .object)
 
 pub held-at : (xs : List (Slot Object)) (i n : ℕ) → owns n (coroIn xs i) ≡ true → among n (heldRows xs) ≡ true
-held-at [] i n e = never (sym e)
+held-at [] i n e = no-false e
 held-at (x ∷ xs) zero n e = owner-held (asCoro (x .object)) (heldRows xs) n e
 held-at (x ∷ xs) (suc i) n e = later-held (asCoro (x .object)) (heldRows xs) n (held-at xs i n e)
 
@@ -131,7 +129,7 @@ row-left [] i n y l d e f = absurd (omega arith)
 row-left (x ∷ xs) zero n y l d e f = skip y xs n f ∙ nobody xs n (apart (among n (heldRows xs)) refl)
   where
     apart : (b : Bool) → among n (heldRows xs) ≡ b → among n (heldRows xs) ≡ false
-    apart true p = never (sym e ∙ head-apart (asCoro (x .object)) (heldRows xs) n d p)
+    apart true p = no-true (sym e ∙ head-apart (asCoro (x .object)) (heldRows xs) n d p)
     apart false p = p
 row-left (x ∷ xs) (suc i) n y l d e f =
     skip x (set xs i y) n (head-apart (asCoro (x .object)) (heldRows xs) n d (held-at xs i n e))

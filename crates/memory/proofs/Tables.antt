@@ -7,9 +7,9 @@ use native.Mathlib.Omega.{arith}
 use native.Mathlib.Nat.{le-of-suc-le-suc}
 use lib.ListN.{length, getD, set, take, drop, replicate, length-append, length-set, length-replicate}
 use lib.Seq.{drop-drop, take-at, drop-at, take-add}
-use Rattle.lists.specs.Chunks.{words, putChunk}
+use Rattle.lists.specs.Chunks.{words, chunkAt, putChunk}
 use Rattle.lists.specs.Parts.{pad}
-use Rattle.lists.proofs.Tables.{words-chunks, length-words}
+use Rattle.lists.proofs.Tables.{words-chunks, words-at, length-words}
 use Rattle.heap.specs.Table.{Slot, slot}
 use Rattle.heap.specs.Slot.{width, slotWords, slotOfWords}
 use Rattle.heap.specs.Heap.{slotsOf, putSlot}
@@ -25,6 +25,13 @@ pub slots-are : (xs : List (Slot H.Object)) (ws : List ℕ) (n : ℕ) → Slots 
 slots-are xs ws n s =
     ap₂ (λ k (z : List ℕ). slotsOf k z) (s .count) (s .are)
     ∙ words-chunks width slotWords slotOfWords length-slot slot-back xs (replicate (length ws - length (words slotWords xs)) 0)
+
+-- the words of slot i
+pub slot-words : (xs : List (Slot H.Object)) (ws : List ℕ) (n i : ℕ) → Slots xs ws n → i < n → chunkAt 20 ws i ≡ slotWords (getD xs i (slot 0 H.Object.Empty))
+slot-words xs ws n i s h =
+    let e = s .count in
+    ap (λ (z : List ℕ). chunkAt 20 z i) (s .are)
+    ∙ words-at width slotWords slotOfWords length-slot xs (replicate (length ws - length (words slotWords xs)) 0) i (slot 0 H.Object.Empty) (omega arith)
 
 turn : (i : ℕ) → suc i * 20 ≡ 20 + i * 20
 turn i = omega arith

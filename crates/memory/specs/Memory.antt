@@ -19,6 +19,7 @@ use Rattle.tables.specs.Parts.{Stack, Frames, Chain, Queue, SavedStack, SavedFr
 use Rattle.tables.specs.Sizes.{setupWords, stackSize, framesSize, chainSize, savedStackSize, savedFramesSize, slotsSize, queueSize, setupSize}
 use Rattle.memory.specs.Slots.{toSlots}
 use Rattle.memory.specs.Rows.{rowAt}
+use Rattle.memory.specs.Told.{told}
 use Rattle.memory.specs.declared.machine.Machine.{Machine}
 use Rattle.memory.specs.declared.machine.Sizes.{Sizes}
 
@@ -106,7 +107,7 @@ pub record Rep (l : Sizes) (w : World) (M : Lent) (m : Machine) (f : Fuel) : Typ
   pub ready : Queue (w .ready) (M .ready) (m .ready)
   pub finalize : Queue (w .finalize) (M .finalize) (m .finalize)
   pub finalizing : m .finalizing ≡ w .finalizing
-  pub outcome : m .outcome ≡ w .outcome
+  pub outcome : m .outcome ≡ told (w .outcome)
   pub used : m .used ≡ w .used
   pub seq : m .seq ≡ w .seq
   pub fuel : f ≡ w .fuel

@@ -1,6 +1,8 @@
 // The numbers beside the lent words.
-use model::machine::Outcome;
 use model::program::Costs;
+
+// An outcome in words: 0 for none, else the number of what the coroutine did; the word handed on; of a failure, function and pc.
+pub struct Told(pub u64, pub u64, pub u64, pub u64);
 
 // Words on the stack, frames, running coroutines, slots taken, words in the two queues; whether a cleanup runs, the outcome, the
 // bytes charged, and the next coroutine's number.
@@ -12,7 +14,7 @@ pub struct Machine {
     pub ready: usize,
     pub finalize: usize,
     pub finalizing: bool,
-    pub outcome: Outcome,
+    pub outcome: Told,
     pub used: u64,
     pub seq: u64,
 }

@@ -8,6 +8,8 @@ use lib.ListN.{length, getD, take, drop, set, length-map, length-take, length-dr
 use lib.Dec.{leb}
 use borrow.Author.Tests.{le-leb, lt-leb}
 use Rattle.lists.specs.Pick.{pick, pick-true, pick-false}
+use Rattle.lists.specs.Chunks.{chunkAt, putChunk}
+use Rattle.heap.specs.Slot.{sleepWords}
 use Rattle.heap.specs.Word.{slotOf, tagOf}
 use Rattle.heap.specs.Charge as Charge
 use Rattle.heap.specs.Charge.{satAdd, chargeOf}
@@ -48,7 +50,7 @@ use Rattle.memory.specs.declared.machine.Machine.{Machine}
 use Rattle.memory.specs.declared.machine.Sizes.{Sizes}
 use Rattle.memory.proofs.Slots.{at-map, put-same}
 use Rattle.memory.proofs.Tables.{slots-are, slots-set, length-tabled}
-use Rattle.memory.proofs.Lookup.{There, there, lacks, regs-row, frames-row, regs-set, frames-set}
+use Rattle.memory.proofs.Lookup.{There, there, there-words, lacks, regs-row, frames-row, regs-set, frames-set}
 use Rattle.coro.proofs.Entry.{does}
 use Rattle.suspend.specs.Suspend.{growthOf, keyOf, asleep, eventAs, shrunk, LeaveFit, Leaves}
 use Rattle.suspend.proofs.Parts.{heapOf, spends, pays, asleep-is, event-is}
@@ -340,7 +342,7 @@ module _ (l : Sizes) (M : Lent) (m : Machine) (f : Fuel) (st : CoroState) (dst p
                 → Leaves (M .stack) (M .frames) (M .savedStack) (M .savedFrames) stack′ frames′ savedStack′ savedFrames′ m l (c .row) (a .floor) base
                 → ChainDo (drop 1) (M .chain) chain′ (m .active) (m .active - 1)
                 → x ≡ d
-                → slots′ ≡ putSlot (M .slots) i (slot (tagOf (a .coro)) (O.Coro x))
+                → slots′ ≡ putChunk 20 (M .slots) i (sleepWords x (chunkAt 20 (M .slots) i))
                 → event ≡ eventAs st payload (c .closing) (x .key)
                 → n ≡ shrunk m base (a .floor) (g .used)
                 → Does l goal M′ n f (Suspension.Done (a .driver) event)
@@ -348,4 +350,4 @@ module _ (l : Sizes) (M : Lent) (m : Machine) (f : Fuel) (st : CoroState) (dst p
                 subst (λ z. Does l goal M′ z f (Suspension.Done (a .driver) event)) (sym en)
                 (subst (λ z. Does l goal M′ (shrunk m base (a .floor) (g .used)) f (Suspension.Done (a .driver) z))
                 (sym (ee ∙ ap (λ (y : CoroObj). eventAs st payload (c .closing) (y .key)) ex))
-                (done g is paid moves pop (mark ∙ ap (λ y. putSlot (M .slots) i (slot (tagOf (a .coro)) (O.Coro y))) ex)))
+                (done g is paid moves pop (mark ∙ ap₂ (λ y z. putChunk 20 (M .slots) i (sleepWords y z)) ex (there-words (w .slots) (a .coro) i c in-world (M .slots) (m .count) (rep .slots)))))

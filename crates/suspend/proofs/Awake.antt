@@ -8,6 +8,7 @@ use lib.ListN.{length, getD, take, length-take}
 use lib.Dec.{ltb, leb}
 use borrow.Author.Tests.{ltb-true}
 use Rattle.lists.proofs.Tables.{chunk-get}
+use Rattle.lists.proofs.Tests.{never}
 use Rattle.heap.specs.declared.object.CoroState.{CoroState}
 use Rattle.model.specs.Lists.{each}
 use Rattle.model.specs.Program.{Setup, isFunction}
@@ -36,10 +37,6 @@ use Rattle.memory.specs.declared.machine.Machine.{Machine}
 use Rattle.memory.specs.declared.machine.Sizes.{Sizes}
 use Rattle.coro.specs.Send.{SendFits}
 use Rattle.coro.proofs.Lands.{Lands}
-use Rattle.suspend.specs.Deliver.{DeliverFits}
-
-never : {A : Type 0} → _≡_ {A = ℕ} 0 1 → A
-never e = absurd (omega arith)
 
 -- a register that lies in the top frame of a world, in its words
 pub lands-fits : (l : Sizes) (M : Lent) (m : Machine) (fuel : Fuel) (u : World) (x : ℕ) → Rep l u M m fuel → Lands u x → SendFits (M .stack) (M .frames) (m .height) (m .depth) x
@@ -109,15 +106,3 @@ module _ (st : CoroState) (dst payload : ℕ) (keys : Keys) (w : World) (snd : s
   pub suspend-lands : coroSuspend st dst payload keys w .answer ≡ Suspension.Done d event → Receives (coroSuspend st dst payload keys w .world) d
   unfolding coroSuspend
   suspend-lands = lie-on (w .chain) refl
-
-  -- what a delivery may rely on
-  pub deliver-fits : (l : Sizes) (M : Lent) (m : Machine) (fuel : Fuel) → Does l (coroSuspend st dst payload keys w) M m fuel (Suspension.Done d event)
-      → DeliverFits (M .stack) (M .frames) (m .height) (m .depth) d
-  deliver-fits l M m fuel did =
-      let u = coroSuspend st dst payload keys w .world in
-      let t = suspend-lands (sym (did .answer)) in
-      record {
-        resume = λ x e. lands-fits l M m fuel u x (did .world) (t .resume x e);
-        has = λ x val iter e. lands-fits l M m fuel u x (did .world) (t .has x val iter e);
-        val = λ has x iter e. lands-fits l M m fuel u x (did .world) (t .val has x iter e) .reg;
-      }

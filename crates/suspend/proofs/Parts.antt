@@ -6,6 +6,7 @@ use native.Mathlib.Omega.{arith}
 use native.Mathlib.Nat.{mul-le-mul-right}
 use lib.ListN.{length}
 use Rattle.lists.specs.Pick.{pick, pick-true, pick-false}
+use Rattle.lists.proofs.Tests.{never}
 use Rattle.heap.specs.Word.{nil}
 use Rattle.heap.specs.Charge.{fits, satAdd, withUsed, chargeOf}
 use Rattle.heap.specs.declared.heap.Heap.{Heap}
@@ -30,9 +31,6 @@ small-product a b p q = let h : a * b ≤ 128 * b = mul-le-mul-right b p in omeg
 -- the numbers that it reads
 abbrev pub heapOf : Machine → Sizes → Heap
 heapOf m l = record { count = m .count; slots = l .slots; used = m .used; limit = l .memory }
-
-never : {A : Type 0} → _≡_ {A = ℕ} 0 1 → A
-never e = absurd (omega arith)
 
 pub spends : (h : Heap) (bytes : ℕ) → C.OutOfMemory ≡ chargeOf h bytes → fits (h .used) (h .limit) bytes ≡ false
 unfolding pick

@@ -1,2 +1,1 @@
 pub mod Suspend
-pub mod Deliver

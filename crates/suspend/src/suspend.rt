@@ -1,25 +1,19 @@
 // coro.rs: coro_suspend. What it refuses is tested before anything is lent.
 ghost use mathlib.Core.Path.{_≡_};
 ghost use mathlib.Core.Bool.{false};
-ghost use Prim.Native.Nat.{_+_, _-_, _*_, _≤_, max};
-ghost use lib.ListN.{length};
+ghost use Prim.Native.Nat.{_-_, _≤_, max};
 ghost use Rattle.lists.specs.Pick.{pick};
-ghost use Rattle.heap.specs.Heap.{putSlot};
-ghost use Rattle.heap.specs.Table.{slot};
-ghost use Rattle.heap.specs.Word.{nil, tagOf};
-ghost use Rattle.heap.specs.declared.object.Object.the-variants.{Coro};
+ghost use Rattle.heap.specs.Word.{nil};
 ghost use Rattle.model.specs.State.{isAwaiting};
 ghost use Rattle.model.specs.Coro.{coroSuspend};
 ghost use Rattle.memory.specs.Memory.{lent, Met};
 ghost use Rattle.suspend.specs.Suspend.{growthOf, keyOf, largestOf, ignores, asleep, eventAs, shrunk, LeaveFit, Leaves, Found, SuspendFits};
 use heap::fault::Fault;
 use heap::heap::Charged;
-use heap::heap::Coroutine;
+use heap::heap::CoroPlace;
 use heap::heap::Heap;
 use heap::object::CoroObj;
 use heap::object::CoroState;
-use heap::object::Object;
-use heap::value::Obj;
 use heap::value::Word;
 use memory::machine::Machine;
 use memory::machine::Sizes;
@@ -175,15 +169,6 @@ pub(crate) fn move_out(
     tables::rows::leave_frames(frames, m.depth, floor, base as u64, saved_frames, from);
 }
 
-// The record of a coroutine in its slot.
-pub(crate) fn put_coro(slots: &mut [u64], i: usize, v: u64, c: CoroObj)
-    requires { ⌜ i * 20 + 20 ≤ length (now slots) ⌝ }
-    ensures { λ _. ⌜ now (slots .exit) ≡ putSlot (now (slots .entry)) i (slot (tagOf v) (Coro c)) ⌝ }
-{
-    let tag = Obj(v).tag();
-    heap::slot::put_slot(slots, i, tag, Object::Coro(c));
-}
-
 fn shrunk(m: Machine, base: usize, floor: usize, used: u64) -> Machine
     requires { ⌜ 1 ≤ m .active ⌝ }
     ensures { λ r. ⌜ r ≡ shrunk m base floor used ⌝ }
@@ -247,7 +232,7 @@ pub(crate) fn suspend_found(
             );
             tables::chain::pop_active(chain, m.active);
             let d = asleep(state, regs, deep, dst, payload, keys, c);
-            put_coro(slots, i, a.coro, d);
+            heap::slot::put_sleep(slots, i, d);
             let driver = a.driver;
             let event = event_of(state, payload, c.closing, d.key);
             SuspendDid {
@@ -289,27 +274,30 @@ pub fn coro_suspend(
             answer: Suspension::Refused(Fault::CannotSuspend),
         };
     }
-    match heap::heap::coro(slots, m.count, Word(a.coro)) {
-        Coroutine::Not(_) => SuspendDid {
+    match heap::heap::coro_place(slots, m.count, Word(a.coro)) {
+        CoroPlace::Not(_) => SuspendDid {
             machine: m,
             answer: Suspension::Refused(Fault::TypeError),
         },
-        Coroutine::At(i, c) => suspend_found(
-            stack,
-            frames,
-            chain,
-            slots,
-            saved_stack,
-            saved_frames,
-            m,
-            l,
-            state,
-            dst,
-            payload,
-            keys,
-            a,
-            i,
-            c,
-        ),
+        CoroPlace::At(i) => {
+            let c = heap::slot::coro_at(slots, i);
+            suspend_found(
+                stack,
+                frames,
+                chain,
+                slots,
+                saved_stack,
+                saved_frames,
+                m,
+                l,
+                state,
+                dst,
+                payload,
+                keys,
+                a,
+                i,
+                c,
+            )
+        }
     }
 }

@@ -5,15 +5,14 @@ use mathlib.Core.List.{List}
 use Prim.Native.Nat.{ℕ, _+_, _-_, _*_, _^_, _≤_, _<_}
 use native.Mathlib.Omega.{arith}
 use borrow.Author.Tests.{ltb-true}
-use lib.ListN.{length, getD, replicate}
+use lib.ListN.{length, getD}
 use Rattle.model.specs.World.{World, After}
 use Rattle.model.specs.Frames.{topBase, reg, putReg}
 use Rattle.model.specs.Sound.{sound}
 use Rattle.model.specs.declared.machine.Fuel.{Fuel}
 use Rattle.tables.specs.Does.{RegFits, Gets}
-use Rattle.tables.specs.Sizes.{setupWords}
 use Rattle.tables.proofs.Doing.{reg-fits}
-use Rattle.tables.proofs.Setups.{functions-count}
+use Rattle.tables.proofs.Setups.{functions-in}
 use Rattle.memory.specs.Memory.{Lent, Beside, onStack, onFrames, onSetup, lent, Rep, Room, Ok, Met, MetFuel}
 use Rattle.memory.specs.Leaves.{Leaves, lentTop}
 use Rattle.memory.specs.declared.machine.Machine.{Machine}
@@ -21,7 +20,7 @@ use Rattle.memory.specs.declared.machine.Sizes.{Sizes}
 use Rattle.machine.specs.Frame.{PushFits}
 use Rattle.exec.specs.Resume.{ResumeFits}
 use Rattle.exec.specs.New.{lentNew, NewFits}
-use Rattle.exec.specs.Yielding.{YieldFits}
+use Rattle.yields.specs.Yielding.{YieldFits}
 use Rattle.switch.specs.Story.{furnace}
 use Rattle.switch.specs.Stage.{At}
 use Rattle.switch.proofs.Told.{Known}
@@ -58,10 +57,7 @@ module _ (l : Sizes) (w : World) (M : Lent) (m : Machine) (f : Fuel) (at : At l 
   -- the number of functions, as the set-up's words say it
   pub at-functions : w .setup ≡ furnace → getD (M .setup) 13 0 ≡ 3
   at-functions own =
-      let s = w .setup in
-      ap (λ (z : List ℕ). getD z 13 0) (at .rep .setup)
-      ∙ functions-count s (replicate (length (M .setup) - length (setupWords s)) 0)
-      ∙ ap (λ x. length (x .functions)) own
+      functions-in (w .setup) (M .setup) (at .rep .setup) ∙ ap (λ x. length (x .functions)) own
 
   pub at-push : sound w ≡ true → w .setup ≡ furnace → (g : ℕ) → g < 3 → PushFits l (M .stack) (M .frames) (M .setup) m g
   at-push s own g h =

@@ -95,7 +95,7 @@ pub(crate) fn work(
     machine::frame::put(stack, frames, n, 1, 25);
     top(b"the script works", stack, frames, n);
     let fuel = idle();
-    let slept = exec::yielding::coro_yield(
+    let slept = yields::yielding::coro_yield(
         stack,
         frames,
         chain,

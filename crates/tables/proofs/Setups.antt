@@ -1,13 +1,14 @@
 -- The set-up read from its words. Assumes nothing.
 use mathlib.Core.Path.{_≡_, refl, sym, ap, _∙_}
 use mathlib.Core.List.{List, _++_}
-use Prim.Native.Nat.{ℕ, zero, suc, _+_, _*_, _≤_, _<_}
+use Prim.Native.Nat.{ℕ, zero, suc, _+_, _-_, _*_, _≤_, _<_}
 use native.Mathlib.Omega.{arith}
 use native.Mathlib.Nat.{add-zero}
-use lib.ListN.{length, getD, drop}
+use lib.ListN.{length, getD, drop, replicate}
 use lib.Seq.{getD-drop}
 use Rattle.lists.specs.Pick.{pick}
 use Rattle.lists.specs.Chunks.{chunkAt, words}
+use Rattle.lists.specs.Parts.{pad}
 use Rattle.lists.proofs.Tables.{chunk-get, words-at}
 use Rattle.heap.specs.declared.value.Opt.{Opt}
 use Rattle.model.specs.Program.{Setup, func, funcOf, noFunc}
@@ -60,15 +61,36 @@ shift-function at ws cs same =
     let two = same 2 (omega arith) in
     λ i. record { regs = first i; params = one i; handlers = hs i; count = two i }
 
+-- word j of function i
+function-word : (s : Setup) (rest : List ℕ) (i j : ℕ) → i < length (s .functions) → j < 35
+    → getD (setupWords s ++ rest) (14 + i * 35 + j) 0 ≡ getD (functionWords (func s i)) j 0
+function-word s rest i j h g =
+    let ws : List ℕ = setupWords s ++ rest in
+    let e : 14 + i * 35 + j ≡ 14 + (i * 35 + j) = omega arith in
+    ap (λ n. getD ws n 0) e ∙ sym (getD-drop 14 ws (i * 35 + j) 0) ∙ sym (chunk-get 35 i j (drop 14 ws) g)
+    ∙ ap (λ (z : List ℕ). getD (chunkAt 35 z i) j 0) (after s rest (s .hook) refl)
+    ∙ ap (λ (z : List ℕ). getD z j 0) (words-at 35 functionWords (λ z. noFunc) length-function (s .functions) rest i noFunc h)
+
 -- function i of a set-up is read from its words
 pub function-at : (s : Setup) (rest : List ℕ) (i : ℕ) → i < length (s .functions) → length (func s i .handlers) ≤ 8
     → funcOf (functionIn (setupWords s ++ rest) i) ≡ func s i
 function-at s rest i h k =
-    let ws : List ℕ = setupWords s ++ rest in
-    let cs : List ℕ = chunkAt 35 (drop 14 ws) i in
-    let is : cs ≡ functionWords (func s i) =
-    ap (λ (z : List ℕ). chunkAt 35 z i) (after s rest (s .hook) refl) ∙ words-at 35 functionWords (λ z. noFunc) length-function (s .functions) rest i noFunc h in
-    let same : (j : ℕ) → j < 35 → getD ws (14 + i * 35 + j) 0 ≡ getD cs j 0 =
-    λ j g. let e : 14 + i * 35 + j ≡ 14 + (i * 35 + j) = omega arith in
-    ap (λ n. getD ws n 0) e ∙ sym (getD-drop 14 ws (i * 35 + j) 0) ∙ sym (chunk-get 35 i j (drop 14 ws) g) in
-    ap funcOf (shift-function (14 + i * 35) ws cs same) ∙ ap (λ (z : List ℕ). funcOf (functionFrom z 0)) is ∙ function-back (func s i) k
+    ap funcOf (shift-function (14 + i * 35) (setupWords s ++ rest) (functionWords (func s i)) (λ j g. function-word s rest i j h g)) ∙ function-back (func s i) k
+
+-- ---- words that hold a set-up, and zeros after it
+
+module _ (s : Setup) (ws : List ℕ) (held : ws ≡ pad (length ws) (setupWords s)) where
+  abbrev rest : List ℕ
+  rest = replicate (length ws - length (setupWords s)) 0
+
+  -- word 13 is the number of functions
+  pub functions-in : getD ws 13 0 ≡ length (s .functions)
+  functions-in = ap (λ (z : List ℕ). getD z 13 0) held ∙ functions-count s rest
+
+  -- the registers of a function
+  pub regs-in : (i : ℕ) → i < getD ws 13 0 → functionIn ws i .regs ≡ func s i .regs
+  regs-in i h =
+      let n = functions-in in
+      ap (λ (z : List ℕ). getD z (14 + i * 35) 0) held
+      ∙ ap (λ k. getD (setupWords s ++ rest) k 0) (sym (add-zero (14 + i * 35)))
+      ∙ function-word s rest i 0 (omega arith) (omega arith)

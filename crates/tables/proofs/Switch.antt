@@ -4,19 +4,19 @@ use mathlib.Core.List.{List, [], _++_, map, append-assoc}
 use Prim.Native.Nat.{ℕ, _+_, _-_, _*_, _^_, _≤_, _<_, zero-le}
 use native.Mathlib.Omega.{arith}
 use native.Mathlib.Nat.{sub-zero}
-use lib.ListN.{length, getD, take, drop, set, replicate, length-append, length-map, length-drop, take-append-drop, List·getD-append}
-use lib.Seq.{getD-append-add, length-take-le}
+use lib.ListN.{length, getD, take, drop, set, replicate, length-append, length-set, length-map, length-drop, take-append-drop, List·getD-append}
+use lib.Seq.{getD-append-add, getD-set-same, set-set, length-take-le}
 use Rattle.lists.specs.Parts.{part, splice, pad}
 use Rattle.model.specs.Frames.{raise, lower, above, below}
 use Rattle.model.specs.declared.machine.Frame.{Frame}
 use Rattle.tables.specs.Layout.{frameWords}
 use Rattle.tables.specs.Runs.{Moved, rebase, between, RebaseFits}
-use Rattle.tables.specs.Parts.{Stack, Frames, SavedStack, SavedFrames, upward}
+use Rattle.tables.specs.Parts.{Stack, Frames, SavedStack, SavedFrames, RowIs, upward}
 use Rattle.tables.specs.Does.{EntersStack, EntersFrames, EnterFits, LeavesStack, LeavesFrames, LeaveFits}
 use Rattle.tables.proofs.Codes.{length-frame}
 use Rattle.tables.proofs.Padded.{length-part, getD-part}
 use Rattle.tables.proofs.Parts.{run-push, run-cut, run-part, length-upward, upward-append, piled-of, piled-push, piled-pop, piled-part}
-use Rattle.tables.proofs.Rowed.{rows-part, rows-empty, rows-fill}
+use Rattle.tables.proofs.Rowed.{row-at, rows-part, rows-empty, rows-fill}
 use Rattle.tables.proofs.Bases.{moveBase, moved-raise, moved-lower, rebase-upward}
 
 -- a word that was written
@@ -25,6 +25,18 @@ getD-splice xs ys at i h k =
     let D : List ℕ = drop (length ys) (drop at xs) in
     ap (λ n. getD (splice xs at ys) (n + i) 0) (sym (length-take-le at xs h))
     ∙ getD-append-add (take at xs) (ys ++ D) i 0 ∙ List·getD-append ys D 0 i k
+
+-- the base of the frame at place j of those that were moved
+moved-base : (dst src mid : List ℕ) (at from n j : ℕ) → at ≤ length dst → from + n * 6 ≤ length src → mid ≡ splice dst at (part from (n * 6) src) → j < n
+    → getD mid (at + j * 6 + 2) 0 ≡ getD src (from + j * 6 + 2) 0
+moved-base dst src mid at from n j h k e g =
+    let l : length (part from (n * 6) src) ≡ n * 6 = length-part from (n * 6) src k in
+    let i : at + j * 6 + 2 ≡ at + (j * 6 + 2) = omega arith in
+    let o : from + (j * 6 + 2) ≡ from + j * 6 + 2 = omega arith in
+    ap₂ (λ (z : List ℕ) (x : ℕ). getD z x 0) e i
+    ∙ getD-splice dst (part from (n * 6) src) at (j * 6 + 2) h (omega arith)
+    ∙ getD-part from (n * 6) src (j * 6 + 2) (omega arith)
+    ∙ ap (λ x. getD src x 0) o
 
 -- the frames gs above fs, with their bases changed
 pub rebased : (g : ℕ → ℕ) (fs gs : List Frame) (ws : List ℕ) (n m : ℕ) → Frames (gs ++ fs) ws (n + m) → n ≡ length fs → m ≡ length gs
@@ -49,6 +61,22 @@ rebased g fs gs ws n m p e k =
     ∙ ap₂ (λ (z : List ℕ) (i : ℕ). z ++ replicate (length ws - i) 0) (sym (upward-append frameWords new fs)) lw in
     piled-of frameWords 6 length-frame (length ws) (new ++ fs) (rebase g m (n * 6) ws) (n + m) whole (omega arith) (p .within)
 
+-- the frames gs of a row, with their bases changed
+rows-rebased : (g : ℕ → ℕ) (w : ℕ) (rs : List (List Frame)) (ws : List ℕ) (r at : ℕ) (gs : List Frame) → SavedFrames w rs ws
+    → RowIs (upward frameWords) w rs r at gs [] → SavedFrames w (set rs r (map (moveBase g) gs)) (rebase g (length gs) at ws)
+rows-rebased g w rs ws r at gs p q =
+    let up = upward frameWords in
+    let new : List Frame = map (moveBase g) gs in
+    let t = row-at up w rs ws r at gs [] p q in
+    let Z : List ℕ = replicate (w - length (up gs)) 0 in
+    let lw : length (up gs) ≡ length (up new) =
+    length-upward frameWords 6 length-frame gs ∙ ap (λ i. i * 6) (sym (length-map gs (moveBase g))) ∙ sym (length-upward frameWords 6 length-frame new) in
+    let fits = q .fits in
+    t .there new (rebase g (length gs) at ws) (omega arith)
+    (ap₂ (λ (i : ℕ) (z : List ℕ). rebase g (length gs) i z) (sym (t .start ∙ sym (q .place))) (t .here ∙ ap (λ (z : List ℕ). t .before ++ z) (append-assoc (up gs) Z (t .after)))
+    ∙ rebase-upward g (t .before) gs (Z ++ t .after)
+    ∙ ap (λ (z : List ℕ). t .before ++ z) (sym (append-assoc (up new) Z (t .after)) ∙ ap (λ i. (up new ++ replicate (w - i) 0) ++ t .after) lw))
+
 -- ---- entries
 
 pub enters-stack : (stack saved stack′ saved′ : List ℕ) (height at n : ℕ) → height + n ≤ length stack → Moved stack saved stack′ saved′ height at n
@@ -67,20 +95,16 @@ enters-stack stack saved stack′ saved′ height at n h m w xs ys rs r s q i e 
 
 -- what the change of bases asks after the move
 pub enter-asks : (frames saved mid : List ℕ) (depth at n by : ℕ) → EnterFits frames saved depth at n by → length mid ≡ length frames
-    → mid ≡ splice frames (depth * 6) (part at (n * 6) saved) → RebaseFits mid depth n 0 by
+    → mid ≡ splice frames (depth * 6) (part at (n * 6) saved) → RebaseFits mid (depth * 6) n 0 by
 enter-asks frames saved mid depth at n by f l e =
-    let lp : length (part at (n * 6) saved) ≡ n * 6 = length-part at (n * 6) saved (f .in-saved) in
     let inside = f .on-frames in
     record {
       inside = omega arith;
       above = λ j k. zero-le;
       fits = λ j k.
-          let i : depth * 6 + j * 6 + 2 ≡ depth * 6 + (j * 6 + 2) = omega arith in
-          let word : getD mid (depth * 6 + j * 6 + 2) 0 ≡ getD saved (at + (j * 6 + 2)) 0 =
-          ap₂ (λ (z : List ℕ) (x : ℕ). getD z x 0) e i
-          ∙ getD-splice frames (part at (n * 6) saved) (depth * 6) (j * 6 + 2) (omega arith) (omega arith)
-          ∙ getD-part at (n * 6) saved (j * 6 + 2) (omega arith) in
-          subst (λ x. x + by < 2 ^ 64) (sym (sub-zero (getD mid (depth * 6 + j * 6 + 2) 0) ∙ word)) (f .fits j k);
+          let o : at + j * 6 + 2 ≡ at + (j * 6 + 2) = omega arith in
+          let word = moved-base frames saved mid (depth * 6) at n j (omega arith) (f .in-saved) e k in
+          subst (λ x. x + by < 2 ^ 64) (sym (sub-zero (getD mid (depth * 6 + j * 6 + 2) 0) ∙ word ∙ ap (λ x. getD saved x 0) o)) (f .fits j k);
     }
 
 pub enters-frames : (frames saved mid saved′ frames′ : List ℕ) (depth at n by : ℕ) → EnterFits frames saved depth at n by
@@ -119,45 +143,46 @@ leaves-stack stack saved stack′ saved′ height base at h m w xs rs r s q i k 
           (rows-fill id w rs saved r at [] [] q i (drop base xs) refl (omega arith));
     }
 
-pub leave-asks : (frames saved : List ℕ) (depth floor by at : ℕ) → LeaveFits frames saved depth floor by at → ((i : ℕ) → getD frames i 0 < 2 ^ 64)
-    → RebaseFits frames floor (depth - floor) by 0
-leave-asks frames saved depth floor by at f small =
+pub leave-asks : (frames saved mid : List ℕ) (depth floor by at : ℕ) → LeaveFits frames saved depth floor by at → ((i : ℕ) → getD mid i 0 < 2 ^ 64)
+    → length mid ≡ length saved → mid ≡ splice saved at (part (floor * 6) ((depth - floor) * 6) frames) → RebaseFits mid at (depth - floor) by 0
+leave-asks frames saved mid depth floor by at f small l e =
     let u = f .under in
-    let inside = f .on-frames in
+    let on = f .on-frames in
+    let inside = f .in-saved in
     record {
       inside = omega arith;
-      above = f .above;
-      fits = λ j k. let s = small (floor * 6 + j * 6 + 2) in omega arith;
+      above = λ j k. subst (λ x. by ≤ x) (sym (moved-base saved frames mid at (floor * 6) (depth - floor) j (omega arith) (omega arith) e k)) (f .above j k);
+      fits = λ j k. let s = small (at + j * 6 + 2) in omega arith;
     }
 
 pub leaves-frames : (frames saved mid saved′ frames′ : List ℕ) (depth floor by at : ℕ) → LeaveFits frames saved depth floor by at
-    → mid ≡ rebase (between by 0) (depth - floor) (floor * 6) frames → Moved saved mid saved′ frames′ at (floor * 6) ((depth - floor) * 6)
+    → Moved saved frames mid frames′ at (floor * 6) ((depth - floor) * 6) → saved′ ≡ rebase (between by 0) (depth - floor) at mid
     → LeavesFrames frames saved frames′ saved′ depth floor by at
-leaves-frames frames saved mid saved′ frames′ depth floor by at f e m w fs rs r p q i k =
+leaves-frames frames saved mid saved′ frames′ depth floor by at f m e w fs rs r p q i k =
     let up = upward frameWords in
     let u = f .under in
     let c = p .count in
     let gs : List Frame = above floor fs in
     let hs : List Frame = below floor fs in
-    let down : List Frame = map (lower by) gs in
     let whole : gs ++ hs ≡ fs = take-append-drop (length fs - floor) fs in
     let lg : length gs ≡ depth - floor = length-take-le (length fs - floor) fs (omega arith) ∙ (omega arith) in
     let lh : floor ≡ length hs = sym (length-drop (length fs - floor) fs ∙ (omega arith)) in
-    let ld : length down ≡ depth - floor = length-map gs (lower by) ∙ lg in
+    let lw : length (up gs) ≡ (depth - floor) * 6 = length-upward frameWords 6 length-frame gs ∙ ap (λ j. j * 6) lg in
     let all : floor + (depth - floor) ≡ depth = omega arith in
-    let before : Frames (gs ++ hs) frames (floor + (depth - floor)) = subst (λ (z : List Frame). Frames z frames (floor + (depth - floor))) (sym whole) (subst (λ j. Frames fs frames j) (sym all) p) in
-    let lowered : Frames (down ++ hs) mid (floor + (depth - floor)) =
-    subst (λ (z : List ℕ). Frames (down ++ hs) z (floor + (depth - floor))) (sym e)
-    (subst (λ (z : List Frame). Frames (z ++ hs) (rebase (between by 0) (depth - floor) (floor * 6) frames) (floor + (depth - floor))) (moved-lower by gs)
-    (rebased (between by 0) hs gs frames floor (depth - floor) before lh (sym lg))) in
-    let inside = lowered .within in
-    let lw : length (up down) ≡ (depth - floor) * 6 = length-upward frameWords 6 length-frame down ∙ ap (λ j. j * 6) ld in
+    let both : Frames (gs ++ hs) frames (floor + (depth - floor)) = subst (λ (z : List Frame). Frames z frames (floor + (depth - floor))) (sym whole) (subst (λ j. Frames fs frames j) (sym all) p) in
+    let inside = both .within in
+    let kept : SavedFrames w (set rs r gs) mid =
+    subst (λ (z : List ℕ). SavedFrames w (set rs r gs) z)
+    (sym (m .there ∙ ap (splice saved at) (piled-part frameWords 6 length-frame hs gs frames floor (depth - floor) both lh (omega arith))))
+    (rows-fill up w rs saved r at [] [] q i gs refl (omega arith)) in
+    let holds : RowIs up w (set rs r gs) r at gs [] =
+    record { among = rw (length-set rs r gs) (i .among); place = i .place; holds = getD-set-same rs r gs [] (i .among); fits = omega arith } in
     record {
       frames =
           subst (λ (z : List ℕ). Frames hs z floor) (sym (m .here))
-          (piled-pop frameWords 6 length-frame hs down mid floor (depth - floor) lowered lh (omega arith));
+          (piled-pop frameWords 6 length-frame hs gs frames floor (depth - floor) both lh (omega arith));
       saved =
-          subst (λ (z : List ℕ). SavedFrames w (set rs r down) z)
-          (sym (m .there ∙ ap (splice saved at) (piled-part frameWords 6 length-frame hs down mid floor (depth - floor) lowered lh (omega arith))))
-          (rows-fill up w rs saved r at [] [] q i down refl (omega arith));
+          subst (λ (z : List ℕ). SavedFrames w (set rs r (map (lower by) gs)) z) (sym (e ∙ ap (λ j. rebase (between by 0) j at mid) (sym lg)))
+          (subst (λ (z : List (List Frame)). SavedFrames w z (rebase (between by 0) (length gs) at mid)) (set-set rs r gs (map (moveBase (between by 0)) gs) ∙ ap (set rs r) (moved-lower by gs))
+          (rows-rebased (between by 0) w (set rs r gs) mid r at gs kept holds));
     }

@@ -23,7 +23,7 @@ rebase g (suc n) at ws = set (rebase g n at ws) (at + n * 6 + 2) (g (getD ws (at
 abbrev pub between : ℕ → ℕ → ℕ → ℕ
 between old new b = b - old + new
 
-pub record RebaseFits (ws : List ℕ) (from n old new : ℕ) : Type 0 where
-  pub inside : (from + n) * 6 ≤ length ws
-  pub above : (j : ℕ) → j < n → old ≤ getD ws (from * 6 + j * 6 + 2) 0
-  pub fits : (j : ℕ) → j < n → getD ws (from * 6 + j * 6 + 2) 0 - old + new < 2 ^ 64
+pub record RebaseFits (ws : List ℕ) (at n old new : ℕ) : Type 0 where
+  pub inside : at + n * 6 ≤ length ws
+  pub above : (j : ℕ) → j < n → old ≤ getD ws (at + j * 6 + 2) 0
+  pub fits : (j : ℕ) → j < n → getD ws (at + j * 6 + 2) 0 - old + new < 2 ^ 64

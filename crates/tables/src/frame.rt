@@ -33,7 +33,8 @@ fn cont_reg(k: Cont) -> u64
     }
 }
 
-fn cont_of(code: u64, r: u64) -> Cont
+// The continuation of a code and a register.
+pub fn cont_of(code: u64, r: u64) -> Cont
     ensures { λ k. ⌜ k ≡ contOf code r ⌝ }
 {
     match code {

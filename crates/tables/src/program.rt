@@ -1,6 +1,6 @@
 // A set-up read by value from its words: its numbers, a function's record, and the search for a handler.
 ghost use mathlib.Core.Path.{_≡_};
-ghost use Prim.Native.Nat.{_+_, _*_, _≤_};
+ghost use Prim.Native.Nat.{_+_, _*_, _≤_, _<_};
 ghost use lib.ListN.{length, take};
 ghost use Rattle.model.specs.Program.{covers, firstOf, funcOf};
 ghost use Rattle.tables.specs.Layout.{handlerFrom, handlersFrom, functionIn};
@@ -97,6 +97,15 @@ pub fn function_at(setup: &[u64], i: usize) -> Function
         handlers,
         count: setup[at + 2],
     }
+}
+
+// The registers of function i.
+pub fn regs_at(setup: &[u64], i: usize) -> u64
+    requires { ⌜ 14 + i * 35 < length (now setup) ⌝ }
+    ensures { λ r. ⌜ r ≡ functionIn (now (setup .entry)) i .regs ⌝ }
+{
+    let at = 14 + i * 35;
+    setup[at]
 }
 
 fn covered(h: Handler, pc: u64) -> bool

@@ -25,8 +25,9 @@ pub fn enter_frames(
     requires { ⌜ EnterFits (now frames) (now saved) depth at n by ⌝ }
     ensures { λ _. ⌜ EntersFrames (now (frames .entry)) (now (saved .entry)) (now (frames .exit)) (now (saved .exit)) depth at n by ⌝ }
 {
-    move_words(frames, depth * 6, saved, at, n * 6);
-    rebase(frames, depth, n, 0, by);
+    let top = depth * 6;
+    move_words(frames, top, saved, at, n * 6);
+    rebase(frames, top, n, 0, by);
 }
 
 // The words from `base` up go to an empty row.
@@ -50,6 +51,6 @@ pub fn leave_frames(
     ensures { λ _. ⌜ LeavesFrames (now (frames .entry)) (now (saved .entry)) (now (frames .exit)) (now (saved .exit)) depth floor by at ⌝ }
 {
     let n = depth - floor;
-    rebase(frames, floor, n, by, 0);
     move_words(saved, at, frames, floor * 6, n * 6);
+    rebase(saved, at, n, by, 0);
 }

@@ -10,8 +10,7 @@ pub fn move_words(dst: &mut [u64], at: usize, src: &mut [u64], from: usize, n: u
     requires { ⌜ (at + n ≤ length (now dst)) × (from + n ≤ length (now src)) ⌝ }
     ensures { λ _. ⌜ Moved (now (dst .entry)) (now (src .entry)) (now (dst .exit)) (now (src .exit)) at from n ⌝ }
 {
-    lists::copy_words(&mut dst[at..at + n], &src[from..from + n]);
-    lists::clear_words(&mut src[from..from + n]);
+    lists::take_words(&mut dst[at..at + n], &mut src[from..from + n]);
 }
 
 // Up to 255 words set aside.
@@ -50,12 +49,11 @@ pub fn shift_down(s: &mut [u64], n: usize) -> u64
     first
 }
 
-// The bases of the n frames from place `from` on: less by `old`, and more by `new`.
-pub fn rebase(ws: &mut [u64], from: usize, n: usize, old: u64, new: u64)
-    requires { ⌜ RebaseFits (now ws) from n old new ⌝ }
-    ensures { λ _. ⌜ now (ws .exit) ≡ rebase (between old new) n (from * 6) (now (ws .entry)) ⌝ }
+// The bases of the n frames from word `at` on: less by `old`, and more by `new`.
+pub fn rebase(ws: &mut [u64], at: usize, n: usize, old: u64, new: u64)
+    requires { ⌜ RebaseFits (now ws) at n old new ⌝ }
+    ensures { λ _. ⌜ now (ws .exit) ≡ rebase (between old new) n at (now (ws .entry)) ⌝ }
 {
-    let at = from * 6;
     let mut i = 0;
     while i < n {
         let k = at + i * 6 + 2;

@@ -26,9 +26,11 @@ use Rattle.tables.proofs.Padded.{take-pad}
 use Rattle.tables.proofs.Setups.{limits-back, costs-back, hook-back, functions-count, function-at}
 use Rattle.tables.proofs.Decode.{frames-back, chain-back}
 use Rattle.memory.specs.Slots.{toSlot, toSlots}
+use Rattle.memory.specs.Told.{outcomeIn}
 use Rattle.memory.specs.Memory.{Lent, Rep}
 use Rattle.memory.specs.declared.machine.Machine.{Machine}
 use Rattle.memory.specs.declared.machine.Sizes.{Sizes}
+use Rattle.memory.proofs.Told.{told-back}
 use Rattle.memory.proofs.Tables.{slots-are, rows-at, length-tabled}
 use Rattle.words.specs.Words.{sizesOf, lengthsOf, wordsIn, numbersOf}
 use Rattle.words.specs.Decode.{functionsOf, setupOf, objectsOf, worldOf, SoundWords, OneWorld}
@@ -89,6 +91,7 @@ module _ {l : Sizes} {w : World} {M : Lent} {m : Machine} {f : Fuel} (h : Sound 
       let e₅ = same-slots in
       let e₆ = run-back (w .ready) (M .ready) (m .ready) (rep .ready) in
       let e₇ = run-back (w .finalize) (M .finalize) (m .finalize) (rep .finalize) in
+      let e₈ = ap outcomeIn (rep .outcome) ∙ told-back (w .outcome) in
       λ i.
       record {
         setup = e₁ i;
@@ -99,7 +102,7 @@ module _ {l : Sizes} {w : World} {M : Lent} {m : Machine} {f : Fuel} (h : Sound 
         ready = e₆ i;
         finalize = e₇ i;
         finalizing = rep .finalizing i;
-        outcome = rep .outcome i;
+        outcome = e₈ i;
         used = rep .used i;
         seq = rep .seq i;
         fuel = rep .fuel i;

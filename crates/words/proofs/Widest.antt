@@ -12,7 +12,7 @@ use Rattle.model.specs.declared.program.Limits.{Limits}
 use Rattle.model.specs.declared.program.Costs.{Costs}
 use Rattle.tables.specs.Layout.{functionIn}
 use Rattle.tables.specs.Sizes.{setupWords, limitsOf, costsOf}
-use Rattle.tables.proofs.Setups.{functions-count}
+use Rattle.tables.proofs.Setups.{functions-in}
 use Rattle.memory.specs.Memory.{tabled, Sized}
 use Rattle.memory.specs.declared.machine.Sizes.{Sizes}
 use Rattle.words.specs.Words.{sizesOf}
@@ -57,7 +57,7 @@ held-fits s ws e =
     let rest : List ℕ = replicate (length ws - length (setupWords s)) 0 in
     let a : length ws ≡ length (setupWords s) + length rest = ap length e ∙ length-append (setupWords s) rest in
     let b : length (setupWords s) ≡ 14 + length (s .functions) * 35 = length-setup s in
-    let c : getD ws 13 0 ≡ length (s .functions) = ap (λ (z : List ℕ). getD z 13 0) e ∙ functions-count s rest in
+    let c : getD ws 13 0 ≡ length (s .functions) = functions-in s ws e in
     record { numbers = omega arith; functions = omega arith }
 
 -- the sizes of a set-up are what `Rep` asks for

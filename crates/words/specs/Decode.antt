@@ -18,6 +18,7 @@ use Rattle.model.specs.declared.machine.Fuel.{Fuel}
 use Rattle.tables.specs.Layout.{frameOf, activeOf, functionIn}
 use Rattle.tables.specs.Parts.{piled}
 use Rattle.tables.specs.Sizes.{limitsOf, costsOf, hookOf, framesSize}
+use Rattle.memory.specs.Told.{outcomeIn}
 use Rattle.memory.specs.Memory.{Lent, tabled, Rep}
 use Rattle.memory.specs.declared.machine.Machine.{Machine}
 use Rattle.memory.specs.declared.machine.Sizes.{Sizes}
@@ -78,7 +79,7 @@ objectsOf s M xs = map (λ x. slot (x .tag) (objectOf s M (x .object))) xs
 
 -- ---- the world
 
--- each table as far as its count says
+-- each table as far as its count says, and the outcome that its four words tell
 abbrev pub worldOf : Lent → Machine → Fuel → World
 worldOf M m f =
     record {
@@ -90,7 +91,7 @@ worldOf M m f =
       ready = take (m .ready) (M .ready);
       finalize = take (m .finalize) (M .finalize);
       finalizing = m .finalizing;
-      outcome = m .outcome;
+      outcome = outcomeIn (m .outcome);
       used = m .used;
       seq = m .seq;
       fuel = f;

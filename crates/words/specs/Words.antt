@@ -14,6 +14,7 @@ use Rattle.tables.specs.Layout.{frameWords, activeWords}
 use Rattle.tables.specs.Parts.{upward, inRow}
 use Rattle.tables.specs.Sizes.{setupWords, stackSize, framesSize, chainSize, savedStackSize, savedFramesSize, slotsSize, queueSize, setupSize}
 use Rattle.memory.specs.Slots.{toSlots}
+use Rattle.memory.specs.Told.{told}
 use Rattle.memory.specs.Memory.{Lent, Beside, regsRows, framesRows, Rep, Room, Ok}
 use Rattle.memory.specs.declared.machine.Machine.{Machine}
 use Rattle.memory.specs.declared.machine.Sizes.{Sizes}
@@ -106,7 +107,7 @@ numbersOf w =
       ready = length (w .ready);
       finalize = length (w .finalize);
       finalizing = w .finalizing;
-      outcome = w .outcome;
+      outcome = told (w .outcome);
       used = w .used;
       seq = w .seq;
     }

@@ -27,14 +27,14 @@ room c = let z = c .pre .ok .rep .sizes .slots in let r = c .pre .ok .room .slot
 abbrev row : tie.After-known-told2 → ℕ
 row c = c .before .row .given .0 .0
 
-found : (c : tie.After-known-told2) → Spot.Row (row c) ≡ spotOf (slotsOf (c .before .before .before .before .before .before .before .before .before .before .args .m .count) (c .before .before .before .before .before .before .before .before .before .before .args .slots .now)) (c .before .before .before .before .before .before .before .before .before .before .args .m) (c .before .before .before .before .before .before .before .before .before .before .args .l) (c .before .before .before .before .before .registers .result)
+found : (c : tie.After-known-told2) → Spot.Row (row c) ≡ spotOf (slotsOf (c .before .before .before .before .before .before .before .before .before .before .args .m .count) (c .before .before .before .before .before .before .before .before .before .before .args .slots .now)) (c .before .before .before .before .before .before .before .before .before .before .args .m) (c .before .before .before .before .before .before .before .before .before .before .args .l) (c .before .before .before .before .before .regs-at .result)
 found c = sym (c .before .row .given .1) ∙ c .before .before .before .find-spot .ensures
 
-registers-requires : tie.Need-registers-requires
-registers-requires c κs = in-setup (c .before .before .before .before .args .l) (mem ((c .before .before .before .before)) (c .before .before .before .before .pre .ok .beside)) (c .before .before .before .before .args .m) (c .before .before .before .before .pre .ok .beside .fuel) (c .before .before .before .before .pre .ok .world) (c .before .before .before .before .pre .ok .rep) (c .before .before .before .before .args .f) (c .before .before .before .before .pre .ok .sound) (c .before .before .before .before .pre .function) (c .before .before .before .before .pre .ok .room)
+regs-at-requires : tie.Need-regs-at-requires
+regs-at-requires c κs = in-setup (c .before .before .before .before .args .l) (mem ((c .before .before .before .before)) (c .before .before .before .before .pre .ok .beside)) (c .before .before .before .before .args .m) (c .before .before .before .before .pre .ok .beside .fuel) (c .before .before .before .before .pre .ok .world) (c .before .before .before .before .pre .ok .rep) (c .before .before .before .before .args .f) (c .before .before .before .before .pre .ok .sound) (c .before .before .before .before .pre .function) (c .before .before .before .before .pre .ok .room)
 
 find-spot-requires : tie.Need-find-spot-requires
-find-spot-requires c κs = let k = numbers (c .before .before .before .before .before .before .args .l) (mem ((c .before .before .before .before .before .before)) (c .before .before .before .before .before .before .pre .ok .beside)) (c .before .before .before .before .before .before .args .m) (c .before .before .before .before .before .before .pre .ok .beside .fuel) (c .before .before .before .before .before .before .pre .ok .world) (c .before .before .before .before .before .before .pre .ok .rep) (c .before .before .before .before .before .before .args .f) (c .before .before .before .before .before .before .pre .ok .sound) (c .before .before .before .before .before .before .pre .function) (c .before .registers .result) (c .before .registers .ensures) in record { words = c .before .before .before .before .before .before .pre .ok .rep .slots .within; rows = k .rows; bytes = k .first }
+find-spot-requires c κs = let k = numbers (c .before .before .before .before .before .before .args .l) (mem ((c .before .before .before .before .before .before)) (c .before .before .before .before .before .before .pre .ok .beside)) (c .before .before .before .before .before .before .args .m) (c .before .before .before .before .before .before .pre .ok .beside .fuel) (c .before .before .before .before .before .before .pre .ok .world) (c .before .before .before .before .before .before .pre .ok .rep) (c .before .before .before .before .before .before .args .f) (c .before .before .before .before .before .before .pre .ok .sound) (c .before .before .before .before .before .before .pre .function) (c .before .regs-at .result) (c .before .regs-at .ensures) in record { words = c .before .before .before .before .before .before .pre .ok .rep .slots .within; rows = k .rows; bytes = k .first }
 
 enum-known-g : tie.Need-enum-known-g
 enum-known-g c = search needs
@@ -49,13 +49,13 @@ sequenced-requires : tie.Need-sequenced-requires
 sequenced-requires c κs = search needs
 
 bytes-requires : tie.Need-bytes-requires
-bytes-requires c κs = numbers (c .before .before .before .before .before .before .before .before .before .before .before .before .before .args .l) (mem ((c .before .before .before .before .before .before .before .before .before .before .before .before .before)) (c .before .before .before .before .before .before .before .before .before .before .before .before .before .pre .ok .beside)) (c .before .before .before .before .before .before .before .before .before .before .before .before .before .args .m) (c .before .before .before .before .before .before .before .before .before .before .before .before .before .pre .ok .beside .fuel) (c .before .before .before .before .before .before .before .before .before .before .before .before .before .pre .ok .world) (c .before .before .before .before .before .before .before .before .before .before .before .before .before .pre .ok .rep) (c .before .before .before .before .before .before .before .before .before .before .before .before .before .args .f) (c .before .before .before .before .before .before .before .before .before .before .before .before .before .pre .ok .sound) (c .before .before .before .before .before .before .before .before .before .before .before .before .before .pre .function) (c .before .before .before .before .before .before .before .before .registers .result) (c .before .before .before .before .before .before .before .before .registers .ensures) .second
+bytes-requires c κs = numbers (c .before .before .before .before .before .before .before .before .before .before .before .before .before .args .l) (mem ((c .before .before .before .before .before .before .before .before .before .before .before .before .before)) (c .before .before .before .before .before .before .before .before .before .before .before .before .before .pre .ok .beside)) (c .before .before .before .before .before .before .before .before .before .before .before .before .before .args .m) (c .before .before .before .before .before .before .before .before .before .before .before .before .before .pre .ok .beside .fuel) (c .before .before .before .before .before .before .before .before .before .before .before .before .before .pre .ok .world) (c .before .before .before .before .before .before .before .before .before .before .before .before .before .pre .ok .rep) (c .before .before .before .before .before .before .before .before .before .before .before .before .before .args .f) (c .before .before .before .before .before .before .before .before .before .before .before .before .before .pre .ok .sound) (c .before .before .before .before .before .before .before .before .before .before .before .before .before .pre .function) (c .before .before .before .before .before .before .before .before .regs-at .result) (c .before .before .before .before .before .before .before .before .regs-at .ensures) .second
 
 heap-of-requires : tie.Need-heap-of-requires
 heap-of-requires c κs = search needs
 
 alloc-requires : tie.Need-alloc-requires
-alloc-requires c κs = let k = numbers (c .before .before .before .before .before .before .before .before .before .before .before .before .before .before .before .before .args .l) (mem ((c .before .before .before .before .before .before .before .before .before .before .before .before .before .before .before .before)) (c .before .before .before .before .before .before .before .before .before .before .before .before .before .before .before .before .pre .ok .beside)) (c .before .before .before .before .before .before .before .before .before .before .before .before .before .before .before .before .args .m) (c .before .before .before .before .before .before .before .before .before .before .before .before .before .before .before .before .pre .ok .beside .fuel) (c .before .before .before .before .before .before .before .before .before .before .before .before .before .before .before .before .pre .ok .world) (c .before .before .before .before .before .before .before .before .before .before .before .before .before .before .before .before .pre .ok .rep) (c .before .before .before .before .before .before .before .before .before .before .before .before .before .before .before .before .args .f) (c .before .before .before .before .before .before .before .before .before .before .before .before .before .before .before .before .pre .ok .sound) (c .before .before .before .before .before .before .before .before .before .before .before .before .before .before .before .before .pre .function) (c .before .before .before .before .before .before .before .before .before .before .before .registers .result) (c .before .before .before .before .before .before .before .before .before .before .before .registers .ensures) in let k₁ = k .slots in let e : c .heap-of .result .slots ≡ c .before .before .before .before .before .before .before .before .before .before .before .before .before .before .before .before .args .l .slots = ap (λ x. x .slots) (c .heap-of .ensures) in let z = c .before .before .before .before .before .before .before .before .before .before .before .before .before .before .before .before .pre .ok .rep .sizes .slots in let r = c .before .before .before .before .before .before .before .before .before .before .before .before .before .before .before .before .pre .ok .room .slots in record { words = omega arith; slots = omega arith }
+alloc-requires c κs = let k = numbers (c .before .before .before .before .before .before .before .before .before .before .before .before .before .before .before .before .args .l) (mem ((c .before .before .before .before .before .before .before .before .before .before .before .before .before .before .before .before)) (c .before .before .before .before .before .before .before .before .before .before .before .before .before .before .before .before .pre .ok .beside)) (c .before .before .before .before .before .before .before .before .before .before .before .before .before .before .before .before .args .m) (c .before .before .before .before .before .before .before .before .before .before .before .before .before .before .before .before .pre .ok .beside .fuel) (c .before .before .before .before .before .before .before .before .before .before .before .before .before .before .before .before .pre .ok .world) (c .before .before .before .before .before .before .before .before .before .before .before .before .before .before .before .before .pre .ok .rep) (c .before .before .before .before .before .before .before .before .before .before .before .before .before .before .before .before .args .f) (c .before .before .before .before .before .before .before .before .before .before .before .before .before .before .before .before .pre .ok .sound) (c .before .before .before .before .before .before .before .before .before .before .before .before .before .before .before .before .pre .function) (c .before .before .before .before .before .before .before .before .before .before .before .regs-at .result) (c .before .before .before .before .before .before .before .before .before .before .before .regs-at .ensures) in let k₁ = k .slots in let e : c .heap-of .result .slots ≡ c .before .before .before .before .before .before .before .before .before .before .before .before .before .before .before .before .args .l .slots = ap (λ x. x .slots) (c .heap-of .ensures) in let z = c .before .before .before .before .before .before .before .before .before .before .before .before .before .before .before .before .pre .ok .rep .sizes .slots in let r = c .before .before .before .before .before .before .before .before .before .before .before .before .before .before .before .before .pre .ok .room .slots in record { words = omega arith; slots = omega arith }
 
 enum-known-g-2 : tie.Need-enum-known-g-2
 enum-known-g-2 c = search needs
@@ -64,7 +64,7 @@ enum-known-v : tie.Need-enum-known-v
 enum-known-v c = search needs
 
 write-row-requires : tie.Need-write-row-requires
-write-row-requires c κs = write-fits (c .before .before .before .before .before .before .before .before .before .before .before .before .before .before .before .before .before .before .before .before .before .before .before .before .args .l) (mem ((c .before .before .before .before .before .before .before .before .before .before .before .before .before .before .before .before .before .before .before .before .before .before .before .before)) (c .before .before .before .before .before .before .before .before .before .before .before .before .before .before .before .before .before .before .before .before .before .before .before .before .pre .ok .beside)) (c .before .before .before .before .before .before .before .before .before .before .before .before .before .before .before .before .before .before .before .before .before .before .before .before .args .m) (c .before .before .before .before .before .before .before .before .before .before .before .before .before .before .before .before .before .before .before .before .before .before .before .before .pre .ok .beside .fuel) (c .before .before .before .before .before .before .before .before .before .before .before .before .before .before .before .before .before .before .before .before .before .before .before .before .pre .ok .world) (c .before .before .before .before .before .before .before .before .before .before .before .before .before .before .before .before .before .before .before .before .before .before .before .before .pre .ok .rep) (c .before .before .before .before .before .before .before .before .before .before .before .before .before .before .before .before .before .before .before .before .before .before .before .before .pre .ok .sound) (c .before .before .before .before .before .before .before .before .before .before .before .before .before .before .before .before .before .before .before .before .before .before .before .before .args .f) (c .before .before .before .before .before .before .before .before .before .before .before .before .before .before .before .before .before .before .before .before .before .before .before .before .args .closure) (c .before .before .before .before .before .before .before .before .before .before .before .before .before .before .before .before .before .before .before .before .before .before .before .before .args .n) (c .before .before .before .before .before .before .before .before .before .before .before .before .before .before .before .before .before .before .before .registers .result) (c .before .before .before .before .before .before .before .before .before .before .before .before .before .before .before .before .before .before .before .before .before .before .before .before .args .args) (few ((c .before .before .before .before .before .before .before .before .before .before .before .before .before .before .before .before .before .before .before .before .before .before .before .before))) (c .before .before .before .before .before .before .before .before .before .before .before .before .before .before .before .before .before .before .before .before .before .before .before .before .pre .function) (c .before .before .before .before .before .before .before .before .before .before .before .before .before .before .before .before .before .before .before .registers .ensures) (row ((c .before .before .before .before .before .before .before .before .before .before .before .before .before .before))) (found ((c .before .before .before .before .before .before .before .before .before .before .before .before .before .before))) (c .before .before .before .before .before .before .before .before .before .before .before .before .before .before .before .before .before .before .before .before .before .before .before .before .pre .few)
+write-row-requires c κs = write-fits (c .before .before .before .before .before .before .before .before .before .before .before .before .before .before .before .before .before .before .before .before .before .before .before .before .args .l) (mem ((c .before .before .before .before .before .before .before .before .before .before .before .before .before .before .before .before .before .before .before .before .before .before .before .before)) (c .before .before .before .before .before .before .before .before .before .before .before .before .before .before .before .before .before .before .before .before .before .before .before .before .pre .ok .beside)) (c .before .before .before .before .before .before .before .before .before .before .before .before .before .before .before .before .before .before .before .before .before .before .before .before .args .m) (c .before .before .before .before .before .before .before .before .before .before .before .before .before .before .before .before .before .before .before .before .before .before .before .before .pre .ok .beside .fuel) (c .before .before .before .before .before .before .before .before .before .before .before .before .before .before .before .before .before .before .before .before .before .before .before .before .pre .ok .world) (c .before .before .before .before .before .before .before .before .before .before .before .before .before .before .before .before .before .before .before .before .before .before .before .before .pre .ok .rep) (c .before .before .before .before .before .before .before .before .before .before .before .before .before .before .before .before .before .before .before .before .before .before .before .before .pre .ok .sound) (c .before .before .before .before .before .before .before .before .before .before .before .before .before .before .before .before .before .before .before .before .before .before .before .before .args .f) (c .before .before .before .before .before .before .before .before .before .before .before .before .before .before .before .before .before .before .before .before .before .before .before .before .args .closure) (c .before .before .before .before .before .before .before .before .before .before .before .before .before .before .before .before .before .before .before .before .before .before .before .before .args .n) (c .before .before .before .before .before .before .before .before .before .before .before .before .before .before .before .before .before .before .before .regs-at .result) (c .before .before .before .before .before .before .before .before .before .before .before .before .before .before .before .before .before .before .before .before .before .before .before .before .args .args) (few ((c .before .before .before .before .before .before .before .before .before .before .before .before .before .before .before .before .before .before .before .before .before .before .before .before))) (c .before .before .before .before .before .before .before .before .before .before .before .before .before .before .before .before .before .before .before .before .before .before .before .before .pre .function) (c .before .before .before .before .before .before .before .before .before .before .before .before .before .before .before .before .before .before .before .regs-at .ensures) (row ((c .before .before .before .before .before .before .before .before .before .before .before .before .before .before))) (found ((c .before .before .before .before .before .before .before .before .before .before .before .before .before .before))) (c .before .before .before .before .before .before .before .before .before .before .before .before .before .before .before .before .before .before .before .before .before .before .before .before .pre .few)
 
 allocated-requires : tie.Need-allocated-requires
 allocated-requires c κs = search needs
@@ -73,13 +73,13 @@ same-length : tie.Need-same-length
 same-length c = search needs
 
 returns : tie.Need-returns
-returns c = λ w b rep snd. not-created (c .before .before .before .before .before .before .before .before .before .before .args .l) (mem ((c .before .before .before .before .before .before .before .before .before .before)) b) (c .before .before .before .before .before .before .before .before .before .before .args .m) (b .fuel) w rep snd (c .before .before .before .before .before .before .before .before .before .before .args .f) (c .before .before .before .before .before .before .before .before .before .before .args .closure) (c .before .before .before .before .before .before .before .before .before .before .args .n) (c .before .before .before .before .before .registers .result) (c .before .before .before .before .before .before .before .before .before .before .args .args) (few ((c .before .before .before .before .before .before .before .before .before .before))) (c .before .before .before .before .before .before .before .before .before .before .pre .function) (c .before .before .before .before .before .registers .ensures) _ (sym (c .before .g .given .1) ∙ c .before .before .before .find-spot .ensures)
+returns c = λ w b rep snd. not-created (c .before .before .before .before .before .before .before .before .before .before .args .l) (mem ((c .before .before .before .before .before .before .before .before .before .before)) b) (c .before .before .before .before .before .before .before .before .before .before .args .m) (b .fuel) w rep snd (c .before .before .before .before .before .before .before .before .before .before .args .f) (c .before .before .before .before .before .before .before .before .before .before .args .closure) (c .before .before .before .before .before .before .before .before .before .before .args .n) (c .before .before .before .before .before .regs-at .result) (c .before .before .before .before .before .before .before .before .before .before .args .args) (few ((c .before .before .before .before .before .before .before .before .before .before))) (c .before .before .before .before .before .before .before .before .before .before .pre .function) (c .before .before .before .before .before .regs-at .ensures) _ (sym (c .before .g .given .1) ∙ c .before .before .before .find-spot .ensures)
 
 same-length-2 : tie.Need-same-length-2
 same-length-2 c = search needs
 
 returns-2 : tie.Need-returns-2
-returns-2 c = λ w b rep snd. not-charged (c .before .before .before .before .before .before .before .before .before .before .before .before .before .before .before .before .before .before .before .before .before .before .args .l) (mem ((c .before .before .before .before .before .before .before .before .before .before .before .before .before .before .before .before .before .before .before .before .before .before)) b) (c .before .before .before .before .before .before .before .before .before .before .before .before .before .before .before .before .before .before .before .before .before .before .args .m) (b .fuel) w rep snd (c .before .before .before .before .before .before .before .before .before .before .before .before .before .before .before .before .before .before .before .before .before .before .args .f) (c .before .before .before .before .before .before .before .before .before .before .before .before .before .before .before .before .before .before .before .before .before .before .args .closure) (c .before .before .before .before .before .before .before .before .before .before .before .before .before .before .before .before .before .before .before .before .before .before .args .n) (c .before .before .before .before .before .before .before .before .before .before .before .before .before .before .before .before .before .registers .result) (c .before .before .before .before .before .before .before .before .before .before .before .before .before .before .before .before .before .before .before .before .before .before .args .args) (few ((c .before .before .before .before .before .before .before .before .before .before .before .before .before .before .before .before .before .before .before .before .before .before))) (c .before .before .before .before .before .before .before .before .before .before .before .before .before .before .before .before .before .before .before .before .before .before .pre .function) (c .before .before .before .before .before .before .before .before .before .before .before .before .before .before .before .before .before .registers .ensures) (row ((c .before .before .before .before .before .before .before .before .before .before .before .before))) (found ((c .before .before .before .before .before .before .before .before .before .before .before .before))) _ (c .before .before .before .before .before .before .before .before .before .sequenced .result) _ (c .before .before .before .before .before .before .before .before .before .sequenced .ensures) (alloc-told (c .before .before .before .before .before .before .before .before .before .before .before .before .before .before .before .before .before .before .before .before .before .before .args .slots .now) _ _ _ _ _ _ _ _ _ (c .before .before .before .before .before .alloc .ensures) (c .before .g2 .given .1) (c .before .before .before .before .before .before .heap-of .ensures ∙ ap (λ q. heapOf q (c .before .before .before .before .before .before .before .before .before .before .before .before .before .before .before .before .before .before .before .before .before .before .args .l)) (c .before .before .before .before .before .before .before .before .before .sequenced .ensures)) (c .before .before .before .before .before .before .before .before .bytes .ensures) (c .before .before .before .before .before .before .before .before .before .before .new-object .ensures))
+returns-2 c = λ w b rep snd. not-charged (c .before .before .before .before .before .before .before .before .before .before .before .before .before .before .before .before .before .before .before .before .before .before .args .l) (mem ((c .before .before .before .before .before .before .before .before .before .before .before .before .before .before .before .before .before .before .before .before .before .before)) b) (c .before .before .before .before .before .before .before .before .before .before .before .before .before .before .before .before .before .before .before .before .before .before .args .m) (b .fuel) w rep snd (c .before .before .before .before .before .before .before .before .before .before .before .before .before .before .before .before .before .before .before .before .before .before .args .f) (c .before .before .before .before .before .before .before .before .before .before .before .before .before .before .before .before .before .before .before .before .before .before .args .closure) (c .before .before .before .before .before .before .before .before .before .before .before .before .before .before .before .before .before .before .before .before .before .before .args .n) (c .before .before .before .before .before .before .before .before .before .before .before .before .before .before .before .before .before .regs-at .result) (c .before .before .before .before .before .before .before .before .before .before .before .before .before .before .before .before .before .before .before .before .before .before .args .args) (few ((c .before .before .before .before .before .before .before .before .before .before .before .before .before .before .before .before .before .before .before .before .before .before))) (c .before .before .before .before .before .before .before .before .before .before .before .before .before .before .before .before .before .before .before .before .before .before .pre .function) (c .before .before .before .before .before .before .before .before .before .before .before .before .before .before .before .before .before .regs-at .ensures) (row ((c .before .before .before .before .before .before .before .before .before .before .before .before))) (found ((c .before .before .before .before .before .before .before .before .before .before .before .before))) _ (c .before .before .before .before .before .before .before .before .before .sequenced .result) _ (c .before .before .before .before .before .before .before .before .before .sequenced .ensures) (alloc-told (c .before .before .before .before .before .before .before .before .before .before .before .before .before .before .before .before .before .before .before .before .before .before .args .slots .now) _ _ _ _ _ _ _ _ _ (c .before .before .before .before .before .alloc .ensures) (c .before .g2 .given .1) (c .before .before .before .before .before .before .heap-of .ensures ∙ ap (λ q. heapOf q (c .before .before .before .before .before .before .before .before .before .before .before .before .before .before .before .before .before .before .before .before .before .before .args .l)) (c .before .before .before .before .before .before .before .before .before .sequenced .ensures)) (c .before .before .before .before .before .before .before .before .bytes .ensures) (c .before .before .before .before .before .before .before .before .before .before .new-object .ensures))
 
 same-length-3 : tie.Need-same-length-3
 same-length-3 c = search needs
@@ -91,13 +91,13 @@ same-length-5 : tie.Need-same-length-5
 same-length-5 c = search needs
 
 returns-3 : tie.Need-returns-3
-returns-3 c = λ w b rep snd. was-created (c .before .before .before .before .before .before .before .before .before .before .before .before .before .before .before .before .before .before .before .before .before .before .before .before .before .before .before .before .before .before .args .l) (mem ((c .before .before .before .before .before .before .before .before .before .before .before .before .before .before .before .before .before .before .before .before .before .before .before .before .before .before .before .before .before .before)) b) (c .before .before .before .before .before .before .before .before .before .before .before .before .before .before .before .before .before .before .before .before .before .before .before .before .before .before .before .before .before .before .args .m) (b .fuel) w rep snd (c .before .before .before .before .before .before .before .before .before .before .before .before .before .before .before .before .before .before .before .before .before .before .before .before .before .before .before .before .before .before .args .f) (c .before .before .before .before .before .before .before .before .before .before .before .before .before .before .before .before .before .before .before .before .before .before .before .before .before .before .before .before .before .before .args .closure) (c .before .before .before .before .before .before .before .before .before .before .before .before .before .before .before .before .before .before .before .before .before .before .before .before .before .before .before .before .before .before .args .n) (c .before .before .before .before .before .before .before .before .before .before .before .before .before .before .before .before .before .before .before .before .before .before .before .before .before .registers .result) (c .before .before .before .before .before .before .before .before .before .before .before .before .before .before .before .before .before .before .before .before .before .before .before .before .before .before .before .before .before .before .args .args) (few ((c .before .before .before .before .before .before .before .before .before .before .before .before .before .before .before .before .before .before .before .before .before .before .before .before .before .before .before .before .before .before))) (c .before .before .before .before .before .before .before .before .before .before .before .before .before .before .before .before .before .before .before .before .before .before .before .before .before .before .before .before .before .before .pre .function) (c .before .before .before .before .before .before .before .before .before .before .before .before .before .before .before .before .before .before .before .before .before .before .before .before .before .registers .ensures) (row ((c .before .before .before .before .before .before .before .before .before .before .before .before .before .before .before .before .before .before .before .before))) (found ((c .before .before .before .before .before .before .before .before .before .before .before .before .before .before .before .before .before .before .before .before))) _ (room ((c .before .before .before .before .before .before .before .before .before .before .before .before .before .before .before .before .before .before .before .before .before .before .before .before .before .before .before .before .before .before))) (c .before .before .before .before .before .before .before .before .before .before .before .before .before .before .before .before .before .sequenced .result) (c .allocated .result) _ _ _ _ (c .before .before .before .before .before .before .before .before .before .before .before .before .before .before .before .before .before .sequenced .ensures) (c .allocated .ensures) (alloc-told (c .before .before .before .before .before .before .before .before .before .before .before .before .before .before .before .before .before .before .before .before .before .before .before .before .before .before .before .before .before .before .args .slots .now) _ _ _ _ _ _ _ _ _ (c .before .before .before .before .before .before .before .before .before .before .before .before .before .alloc .ensures) (c .before .before .before .before .before .before .before .before .before .v .given .1) (c .before .before .before .before .before .before .before .before .before .before .before .before .before .before .heap-of .ensures ∙ ap (λ q. heapOf q (c .before .before .before .before .before .before .before .before .before .before .before .before .before .before .before .before .before .before .before .before .before .before .before .before .before .before .before .before .before .before .args .l)) (c .before .before .before .before .before .before .before .before .before .before .before .before .before .before .before .before .before .sequenced .ensures)) (c .before .before .before .before .before .before .before .before .before .before .before .before .before .before .before .before .bytes .ensures) (c .before .before .before .before .before .before .before .before .before .before .before .before .before .before .before .before .before .before .new-object .ensures)) (c .before .before .before .before .before .write-row .ensures)
+returns-3 c = λ w b rep snd. was-created (c .before .before .before .before .before .before .before .before .before .before .before .before .before .before .before .before .before .before .before .before .before .before .before .before .before .before .before .before .before .before .args .l) (mem ((c .before .before .before .before .before .before .before .before .before .before .before .before .before .before .before .before .before .before .before .before .before .before .before .before .before .before .before .before .before .before)) b) (c .before .before .before .before .before .before .before .before .before .before .before .before .before .before .before .before .before .before .before .before .before .before .before .before .before .before .before .before .before .before .args .m) (b .fuel) w rep snd (c .before .before .before .before .before .before .before .before .before .before .before .before .before .before .before .before .before .before .before .before .before .before .before .before .before .before .before .before .before .before .args .f) (c .before .before .before .before .before .before .before .before .before .before .before .before .before .before .before .before .before .before .before .before .before .before .before .before .before .before .before .before .before .before .args .closure) (c .before .before .before .before .before .before .before .before .before .before .before .before .before .before .before .before .before .before .before .before .before .before .before .before .before .before .before .before .before .before .args .n) (c .before .before .before .before .before .before .before .before .before .before .before .before .before .before .before .before .before .before .before .before .before .before .before .before .before .regs-at .result) (c .before .before .before .before .before .before .before .before .before .before .before .before .before .before .before .before .before .before .before .before .before .before .before .before .before .before .before .before .before .before .args .args) (few ((c .before .before .before .before .before .before .before .before .before .before .before .before .before .before .before .before .before .before .before .before .before .before .before .before .before .before .before .before .before .before))) (c .before .before .before .before .before .before .before .before .before .before .before .before .before .before .before .before .before .before .before .before .before .before .before .before .before .before .before .before .before .before .pre .function) (c .before .before .before .before .before .before .before .before .before .before .before .before .before .before .before .before .before .before .before .before .before .before .before .before .before .regs-at .ensures) (row ((c .before .before .before .before .before .before .before .before .before .before .before .before .before .before .before .before .before .before .before .before))) (found ((c .before .before .before .before .before .before .before .before .before .before .before .before .before .before .before .before .before .before .before .before))) _ (room ((c .before .before .before .before .before .before .before .before .before .before .before .before .before .before .before .before .before .before .before .before .before .before .before .before .before .before .before .before .before .before))) (c .before .before .before .before .before .before .before .before .before .before .before .before .before .before .before .before .before .sequenced .result) (c .allocated .result) _ _ _ _ (c .before .before .before .before .before .before .before .before .before .before .before .before .before .before .before .before .before .sequenced .ensures) (c .allocated .ensures) (alloc-told (c .before .before .before .before .before .before .before .before .before .before .before .before .before .before .before .before .before .before .before .before .before .before .before .before .before .before .before .before .before .before .args .slots .now) _ _ _ _ _ _ _ _ _ (c .before .before .before .before .before .before .before .before .before .before .before .before .before .alloc .ensures) (c .before .before .before .before .before .before .before .before .before .v .given .1) (c .before .before .before .before .before .before .before .before .before .before .before .before .before .before .heap-of .ensures ∙ ap (λ q. heapOf q (c .before .before .before .before .before .before .before .before .before .before .before .before .before .before .before .before .before .before .before .before .before .before .before .before .before .before .before .before .before .before .args .l)) (c .before .before .before .before .before .before .before .before .before .before .before .before .before .before .before .before .before .sequenced .ensures)) (c .before .before .before .before .before .before .before .before .before .before .before .before .before .before .before .before .bytes .ensures) (c .before .before .before .before .before .before .before .before .before .before .before .before .before .before .before .before .before .before .new-object .ensures)) (c .before .before .before .before .before .write-row .ensures)
 
 pub coro-create-spec : {M : Type 1} → statement M
 coro-create-spec =
     tie.close
     (tie.spec
-    registers-requires
+    regs-at-requires
     find-spot-requires
     enum-known-g
     enum-known-row

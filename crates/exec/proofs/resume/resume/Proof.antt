@@ -5,7 +5,7 @@ use Rattle.model.specs.Coro.{coroEnter}
 use Rattle.model.specs.declared.machine.Driver.{Driver}
 use Rattle.memory.specs.Memory.{Lent, Beside, lent}
 use Rattle.coro.proofs.Lands.{store-sounds}
-use Rattle.exec.proofs.Settled.{stored-ok}
+use Rattle.coro.proofs.Stored.{stored-ok}
 use Rattle.exec.proofs.Resumed.{arrive-fits, resumed}
 use borrow.Author.Needs.{needs}
 use Rattle.exec.proofs.resume.resume.Statement.{statement}

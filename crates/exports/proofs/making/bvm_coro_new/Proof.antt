@@ -8,17 +8,17 @@ use Rattle.exports.proofs.making.bvm_coro_new.Tie as tie
 machine-of-requires : tie.Need-machine-of-requires
 machine-of-requires c κs = search needs
 
-sizes-requires : tie.Need-sizes-requires
-sizes-requires c κs = search needs
+sizes-of-requires : tie.Need-sizes-of-requires
+sizes-of-requires c κs = search needs
 
 coro-new-requires : tie.Need-coro-new-requires
-coro-new-requires c κs = given (c .before .before .before .before .before .before .before .before .before .before .before .before .before .before .before .args .setup .now) (c .before .before .before .before .before .before .before .before .before .before .before .before .before .before .before .args .machine .now) (c .before .before .before .before .sizes .result) (c .before .before .before .before .before .machine-of .result) (c .before .before .before .before .sizes .ensures) (c .before .before .before .before .before .machine-of .ensures) (λ l m. NewFits l (c .before .before .before .before .before .before .before .before .before .before .before .before .before .before .before .args .stack .now) (c .before .before .before .before .before .before .before .before .before .before .before .before .before .before .before .args .frames .now) (c .before .before .before .before .before .before .before .before .before .before .before .before .before .before .before .args .slots .now) (c .before .before .before .before .before .before .before .before .before .before .before .before .before .before .before .args .saved-stack .now) (c .before .before .before .before .before .before .before .before .before .before .before .before .before .before .before .args .saved-frames .now) (c .before .before .before .before .before .before .before .before .before .before .before .before .before .before .before .args .setup .now) m (c .before .before .before .before .before .before .before .before .before .before .before .before .before .before .before .args .dst) (c .before .before .before .before .before .before .before .before .before .before .before .before .before .before .before .args .f) (c .before .before .before .before .before .before .before .before .before .before .before .before .before .before .before .args .argc)) ((c .before .before .before .before .before .before .before .before .before .before .before .before .before .before .before .pre) .fits)
+coro-new-requires c κs = given (c .before .before .before .before .before .before .before .before .before .before .before .before .before .before .before .before .args .sizes .now) (c .before .before .before .before .before .before .before .before .before .before .before .before .before .before .before .before .args .machine .now) (c .before .before .before .before .sizes-of .result) (c .before .before .before .before .before .machine-of .result) (c .before .before .before .before .sizes-of .ensures) (c .before .before .before .before .before .machine-of .ensures) (λ l m. NewFits l (c .before .before .before .before .before .before .before .before .before .before .before .before .before .before .before .before .args .stack .now) (c .before .before .before .before .before .before .before .before .before .before .before .before .before .before .before .before .args .frames .now) (c .before .before .before .before .before .before .before .before .before .before .before .before .before .before .before .before .args .slots .now) (c .before .before .before .before .before .before .before .before .before .before .before .before .before .before .before .before .args .saved-stack .now) (c .before .before .before .before .before .before .before .before .before .before .before .before .before .before .before .before .args .saved-frames .now) (c .before .before .before .before .before .before .before .before .before .before .before .before .before .before .before .before .args .setup .now) m (c .before .before .before .before .before .before .before .before .before .before .before .before .before .before .before .before .args .dst) (c .before .before .before .before .before .before .before .before .before .before .before .before .before .before .before .before .args .f) (c .before .before .before .before .before .before .before .before .before .before .before .before .before .before .before .before .args .argc)) ((c .before .before .before .before .before .before .before .before .before .before .before .before .before .before .before .before .pre) .fits)
 
 put-machine-requires : tie.Need-put-machine-requires
-put-machine-requires c κs = (c .before .before .before .before .before .before .before .before .before .before .before .before .before .before .before .before .before .before .before .before .before .before .before .before .before .before .pre) .passed .machine
+put-machine-requires c κs = (c .before .before .before .before .before .before .before .before .before .before .before .before .before .before .before .before .before .before .before .before .before .before .before .before .before .before .before .pre) .passed .machine
 
 put-step-requires : tie.Need-put-step-requires
-put-step-requires c κs = (c .before .before .before .before .before .before .before .before .before .before .before .before .before .before .before .before .before .before .before .before .before .before .before .before .before .before .before .before .before .before .pre) .passed .answer
+put-step-requires c κs = (c .before .before .before .before .before .before .before .before .before .before .before .before .before .before .before .before .before .before .before .before .before .before .before .before .before .before .before .before .before .before .before .pre) .passed .answer
 
 same-length : tie.Need-same-length
 same-length c = search needs
@@ -39,14 +39,14 @@ same-length-6 : tie.Need-same-length-6
 same-length-6 c = search needs
 
 returns : tie.Need-returns
-returns c = called _ (c .before .before .before .before .before .before .before .before .before .before .before .before .before .before .before .before .before .before .before .before .before .before .before .before .before .before .before .before .before .before .before .before .before .args .machine .now) (c .before .before .before .before .before .before .before .before .before .before .before .before .before .before .before .before .before .before .before .before .before .before .sizes .result) (c .before .before .before .before .before .before .before .before .before .before .before .before .before .before .before .before .before .before .before .before .before .before .before .machine-of .result) (c .before .before .before .before .before .before .before .before .before .before .before .before .before .before .before .before .before .before .before .before .before .before .sizes .ensures) (c .before .before .before .before .before .before .before .before .before .before .before .before .before .before .before .before .before .before .before .before .before .before .before .machine-of .ensures) _ _ _ _ _ _ _ (c .before .before .before .before .before .before .before .before .before .before .before .before .before .before .before .before .before .coro-new .result .machine) (c .before .before .before .before .before .before .before .before .before .before .before .before .before .before .before .before .before .coro-new .result .step) (c .before .before .before .before .before .before .put-machine .ensures) (c .before .before .put-step .ensures) (c .before .before .before .before .before .before .before .before .before .before .before .before .before .before .before .before .before .coro-new .ensures)
+returns c = called _ (c .before .before .before .before .before .before .before .before .before .before .before .before .before .before .before .before .before .before .before .before .before .before .before .before .before .before .before .before .before .before .before .before .before .before .args .machine .now) (c .before .before .before .before .before .before .before .before .before .before .before .before .before .before .before .before .before .before .before .before .before .before .sizes-of .result) (c .before .before .before .before .before .before .before .before .before .before .before .before .before .before .before .before .before .before .before .before .before .before .before .machine-of .result) (c .before .before .before .before .before .before .before .before .before .before .before .before .before .before .before .before .before .before .before .before .before .before .sizes-of .ensures) (c .before .before .before .before .before .before .before .before .before .before .before .before .before .before .before .before .before .before .before .before .before .before .before .machine-of .ensures) _ _ _ _ _ _ _ (c .before .before .before .before .before .before .before .before .before .before .before .before .before .before .before .before .before .coro-new .result .machine) (c .before .before .before .before .before .before .before .before .before .before .before .before .before .before .before .before .before .coro-new .result .step) (c .before .before .before .before .before .before .put-machine .ensures) (c .before .before .put-step .ensures) (c .before .before .before .before .before .before .before .before .before .before .before .before .before .before .before .before .before .coro-new .ensures)
 
 pub bvm-coro-new-spec : {M : Type 1} → statement M
 bvm-coro-new-spec =
     tie.close
     (tie.spec
     machine-of-requires
-    sizes-requires
+    sizes-of-requires
     coro-new-requires
     put-machine-requires
     put-step-requires

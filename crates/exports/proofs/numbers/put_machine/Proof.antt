@@ -1,13 +1,11 @@
 -- `put_machine` meets its contract: thirteen stores are one run. Assumes nothing.
 use native.Mathlib.Omega.{arith}
 use lib.ListN.{length-set}
-use Rattle.exports.proofs.Stores.{thirteen}
+use Rattle.tables.proofs.Padded.{sets-splice}
+use Rattle.exports.specs.Words.{machineWords}
 use borrow.Author.Needs.{needs}
 use Rattle.exports.proofs.numbers.put_machine.Statement.{statement}
 use Rattle.exports.proofs.numbers.put_machine.Tie as tie
-
-told-outcome-requires : tie.Need-told-outcome-requires
-told-outcome-requires c κs = search needs
 
 slice-write-ws : tie.Need-slice-write-ws
 slice-write-ws c = search needs
@@ -55,13 +53,12 @@ same-length : tie.Need-same-length
 same-length c = simp length-set
 
 returns : tie.Need-returns
-returns c = let t = c .before .told-outcome in thirteen (c .before .before .before .args .ws .now) _ _ _ _ _ _ _ _ _ _ (t .result .0) (t .result .1) (t .result .2) (t .result .3) (c .before .before .before .pre) (t .ensures)
+returns c = sets-splice (c .before .before .args .ws .now) (machineWords (c .before .before .args .m)) 0 (c .before .before .pre)
 
 pub put-machine-spec : {M : Type 1} → statement M
 put-machine-spec =
     tie.close
     (tie.spec
-    told-outcome-requires
     slice-write-ws
     slice-write-ws-2
     slice-write-ws-3

@@ -20,7 +20,7 @@ active-at-requires : tie.Need-active-at-requires
 active-at-requires c κs = search needs
 
 pop-active-requires : tie.Need-pop-active-requires
-pop-active-requires c κs = search needs
+pop-active-requires c κs = (omega (arith, c .before .before .before .before .if1 .left), (c .before .before .before .before .before .before .before .before .before .before .before .before .pre) .held .rep .chain .within)
 
 sub-n : tie.Need-sub-n
 sub-n c = search needs

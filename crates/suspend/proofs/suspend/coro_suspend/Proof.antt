@@ -1,7 +1,10 @@
 -- `coro_suspend` meets the model, outcome by outcome. Assumes nothing.
-use mathlib.Core.Path.{sym, _∙_}
+use mathlib.Core.Path.{sym, ap, _∙_}
 use Prim.Native.Nat.{_≤_}
 use native.Mathlib.Omega.{arith}
+use Rattle.heap.specs.Heap.{slotsOf, coroOf}
+use Rattle.heap.specs.declared.heap.Coroutine.the-variants as RV
+use Rattle.heap.proofs.Place.{none-there, stands, stands-words}
 use Rattle.memory.specs.Memory.{Lent, Beside, lent}
 use Rattle.suspend.proofs.Asleep.{idle, no-frame, not-found}
 use borrow.Author.Needs.{needs}
@@ -29,8 +32,8 @@ same-length c = search needs
 returns-2 : tie.Need-returns-2
 returns-2 c = λ w b rep snd. no-frame (c .before .before .before .before .before .before .before .before .before .before .before .before .before .args .l) (mem (c .before .before .before .before .before .before .before .before .before .before .before .before .before) b) (c .before .before .before .before .before .before .before .before .before .before .before .before .before .args .m) (b .fuel) (c .before .before .before .before .before .before .before .before .before .before .before .before .before .args .state) (c .before .before .before .before .before .before .before .before .before .before .before .before .before .args .dst) (c .before .before .before .before .before .before .before .before .before .before .before .before .before .args .payload) (c .before .before .before .before .before .before .before .before .before .before .before .before .before .args .keys) w rep (c .before .before .active-at .result) (some (c .before .before .before .before .before)) (c .before .before .active-at .ensures) (c .if2 .taken)
 
-coro-requires : tie.Need-coro-requires
-coro-requires c κs = c .before .before .before .before .before .before .before .before .before .before .before .before .before .before .pre .ok .rep .slots .within
+coro-place-requires : tie.Need-coro-place-requires
+coro-place-requires c κs = c .before .before .before .before .before .before .before .before .before .before .before .before .before .before .pre .ok .rep .slots .within
 
 enum-told : tie.Need-enum-told
 enum-told c = search needs
@@ -38,8 +41,11 @@ enum-told c = search needs
 enum-known-i : tie.Need-enum-known-i
 enum-known-i c = search needs
 
+coro-at-requires : tie.Need-coro-at-requires
+coro-at-requires c κs = stands-words (c .before .before .before .before .before .before .before .before .before .before .before .before .before .before .before .before .before .before .before .args .m .count) (c .before .before .before .before .before .before .before .before .before .before .before .before .before .before .before .before .before .before .before .args .slots .now) (c .before .before .before .before .before .before .before .before .active-at .result .coro) (c .before .before .i .given .0 .0) (sym (c .before .before .i .given .1) ∙ c .before .before .before .before .coro-place .ensures) (c .before .before .before .before .before .before .before .before .before .before .before .before .before .before .before .before .before .before .before .pre .ok .rep .slots .within)
+
 suspend-found-requires : tie.Need-suspend-found-requires
-suspend-found-requires c κs = record { ok = c .before .before .before .before .before .before .before .before .before .before .before .before .before .before .before .before .before .before .before .before .before .before .before .before .pre .ok; state = c .before .before .before .before .before .before .before .before .before .before .before .before .before .before .before .before .before .before .before .before .before .before .before .before .pre .state; some = some (c .before .before .before .before .before .before .before .before .before .before .before .before .before .before .before .before); top = c .before .before .before .before .before .before .before .before .before .before .before .before .before .active-at .ensures; floor = c .before .before .before .before .before .before .before .before .before .before .before .if2 .left; coro = sym (c .before .before .before .before .before .before .before .i .given .1) ∙ c .before .before .before .before .before .before .before .before .before .coro .ensures }
+suspend-found-requires c κs = record { ok = c .before .before .before .before .before .before .before .before .before .before .before .before .before .before .before .before .before .before .before .before .before .before .before .before .before .before .pre .ok; state = c .before .before .before .before .before .before .before .before .before .before .before .before .before .before .before .before .before .before .before .before .before .before .before .before .before .before .pre .state; some = some (c .before .before .before .before .before .before .before .before .before .before .before .before .before .before .before .before .before .before); top = c .before .before .before .before .before .before .before .before .before .before .before .before .before .before .before .active-at .ensures; floor = c .before .before .before .before .before .before .before .before .before .before .before .before .before .if2 .left; coro = ap (RV.At (c .before .before .before .before .before .before .before .before .before .i .given .0 .0)) (c .before .before .before .before .before .before .coro-at .ensures) ∙ stands (c .before .before .before .before .before .before .before .before .before .before .before .before .before .before .before .before .before .before .before .before .before .before .before .before .before .before .args .m .count) (c .before .before .before .before .before .before .before .before .before .before .before .before .before .before .before .before .before .before .before .before .before .before .before .before .before .before .args .slots .now) (c .before .before .before .before .before .before .before .before .before .before .before .before .before .before .before .active-at .result .coro) (c .before .before .before .before .before .before .before .before .before .i .given .0 .0) (sym (c .before .before .before .before .before .before .before .before .before .i .given .1) ∙ c .before .before .before .before .before .before .before .before .before .before .before .coro-place .ensures) .coro }
 
 same-length-2 : tie.Need-same-length-2
 same-length-2 c = search needs
@@ -48,7 +54,7 @@ same-length-3 : tie.Need-same-length-3
 same-length-3 c = search needs
 
 returns-3 : tie.Need-returns-3
-returns-3 c = λ w b rep snd. not-found (c .before .before .before .before .before .before .before .before .before .before .before .before .before .before .before .before .before .args .l) (mem (c .before .before .before .before .before .before .before .before .before .before .before .before .before .before .before .before .before) b) (c .before .before .before .before .before .before .before .before .before .before .before .before .before .before .before .before .before .args .m) (b .fuel) (c .before .before .before .before .before .before .before .before .before .before .before .before .before .before .before .before .before .args .state) (c .before .before .before .before .before .before .before .before .before .before .before .before .before .before .before .before .before .args .dst) (c .before .before .before .before .before .before .before .before .before .before .before .before .before .before .before .before .before .args .payload) (c .before .before .before .before .before .before .before .before .before .before .before .before .before .before .before .before .before .args .keys) w rep (c .before .before .before .before .before .before .active-at .result) (some (c .before .before .before .before .before .before .before .before .before)) (c .before .before .before .before .before .before .active-at .ensures) (c .before .before .before .before .if2 .left) _ (sym (c .enum-told .given .1) ∙ c .before .before .coro .ensures)
+returns-3 c = λ w b rep snd. not-found (c .before .before .before .before .before .before .before .before .before .before .before .before .before .before .before .before .before .args .l) (mem (c .before .before .before .before .before .before .before .before .before .before .before .before .before .before .before .before .before) b) (c .before .before .before .before .before .before .before .before .before .before .before .before .before .before .before .before .before .args .m) (b .fuel) (c .before .before .before .before .before .before .before .before .before .before .before .before .before .before .before .before .before .args .state) (c .before .before .before .before .before .before .before .before .before .before .before .before .before .before .before .before .before .args .dst) (c .before .before .before .before .before .before .before .before .before .before .before .before .before .before .before .before .before .args .payload) (c .before .before .before .before .before .before .before .before .before .before .before .before .before .before .before .before .before .args .keys) w rep (c .before .before .before .before .before .before .active-at .result) (some (c .before .before .before .before .before .before .before .before .before)) (c .before .before .before .before .before .before .active-at .ensures) (c .before .before .before .before .if2 .left) _ (none-there (coroOf (slotsOf (c .before .before .before .before .before .before .before .before .before .before .before .before .before .before .before .before .before .args .m .count) (c .before .before .before .before .before .before .before .before .before .before .before .before .before .before .before .before .before .args .slots .now)) (c .before .before .before .before .before .before .active-at .result .coro)) (c .enum-told .given .0 .0) (sym (c .enum-told .given .1) ∙ c .before .before .coro-place .ensures))
 
 same-length-4 : tie.Need-same-length-4
 same-length-4 c = c .before .before .before .before .before .before .before .before .before .before .before .before .suspend-found .kept .0
@@ -80,9 +86,10 @@ coro-suspend-spec =
     active-at-requires
     same-length
     returns-2
-    coro-requires
+    coro-place-requires
     enum-told
     enum-known-i
+    coro-at-requires
     suspend-found-requires
     same-length-2
     same-length-3

@@ -4,11 +4,11 @@ use borrow.Author.Needs.{needs}
 use Rattle.tables.proofs.rows.enter_frames.Statement.{statement}
 use Rattle.tables.proofs.rows.enter_frames.Tie as tie
 
+mul-top : tie.Need-mul-top
+mul-top c = search needs
+
 mul-move-words : tie.Need-mul-move-words
 mul-move-words c = search needs
-
-mul-move-words-2 : tie.Need-mul-move-words-2
-mul-move-words-2 c = search needs
 
 move-words-requires : tie.Need-move-words-requires
 move-words-requires c κs = search needs
@@ -35,8 +35,8 @@ pub enter-frames-spec : {M : Type 1} → statement M
 enter-frames-spec =
     tie.close
     (tie.spec
+    mul-top
     mul-move-words
-    mul-move-words-2
     move-words-requires
     rebase-requires
     same-length

@@ -1,4 +1,4 @@
--- `leave_frames` meets its contract: the bases lowered, and a move. Assumes nothing.
+-- `leave_frames` meets its contract: a move, and the bases lowered. Assumes nothing.
 use Rattle.tables.proofs.Switch.{leave-asks, leaves-frames}
 use borrow.Author.Needs.{needs}
 use Rattle.tables.proofs.rows.leave_frames.Statement.{statement}
@@ -6,11 +6,6 @@ use Rattle.tables.proofs.rows.leave_frames.Tie as tie
 
 sub-n : tie.Need-sub-n
 sub-n c = search needs
-
-rebase-requires : tie.Need-rebase-requires
-rebase-requires c κs =
-    let a = c .before .before .before .args in
-    leave-asks (a .frames .now) (a .saved .now) (a .depth) (a .floor) (a .by) (a .at) (c .before .before .before .pre) (λ i. c .before .before .slice-known .given i .fits)
 
 mul-move-words : tie.Need-mul-move-words
 mul-move-words c = search needs
@@ -21,6 +16,12 @@ mul-move-words-2 c = search needs
 move-words-requires : tie.Need-move-words-requires
 move-words-requires c κs = search needs
 
+rebase-requires : tie.Need-rebase-requires
+rebase-requires c κs =
+    let a = c .before .before .before .before .before .before .before .before .before .before .args in
+    let m = c .before .before .before .before .before .move-words in
+    leave-asks (a .frames .now) (a .saved .now) (m .last .0) (a .depth) (a .floor) (a .by) (a .at) (c .before .before .before .before .before .before .before .before .before .before .pre) (λ i. c .before .before .before .slice-known3 .given i .fits) (m .kept .0) (m .ensures .there)
+
 same-length : tie.Need-same-length
 same-length c = search needs
 
@@ -30,18 +31,19 @@ same-length-2 c = search needs
 returns : tie.Need-returns
 returns c =
     let a = c .before .before .before .before .before .before .before .before .before .before .before .before .before .args in
-    let m = c .before .before .before .before .move-words in
-    leaves-frames (a .frames .now) (a .saved .now) (c .before .before .before .before .before .before .before .before .before .rebase .last .0) (m .last .0) (m .last .1 .1 .0) (a .depth) (a .floor) (a .by) (a .at) (c .before .before .before .before .before .before .before .before .before .before .before .before .before .pre) (c .before .before .before .before .before .before .before .before .before .rebase .ensures) (m .ensures)
+    let m = c .before .before .before .before .before .before .before .before .move-words in
+    let r = c .before .before .rebase in
+    leaves-frames (a .frames .now) (a .saved .now) (m .last .0) (r .last .0) (m .last .1 .1 .0) (a .depth) (a .floor) (a .by) (a .at) (c .before .before .before .before .before .before .before .before .before .before .before .before .before .pre) (m .ensures) (r .ensures)
 
 pub leave-frames-spec : {M : Type 1} → statement M
 leave-frames-spec =
     tie.close
     (tie.spec
     sub-n
-    rebase-requires
     mul-move-words
     mul-move-words-2
     move-words-requires
+    rebase-requires
     same-length
     same-length-2
     returns)

@@ -4,56 +4,38 @@ use borrow.Author.Needs.{needs}
 use Rattle.tables.proofs.runs.move_words.Statement.{statement}
 use Rattle.tables.proofs.runs.move_words.Tie as tie
 
-add-copy-words : tie.Need-add-copy-words
-add-copy-words c = search needs
+add-take-words : tie.Need-add-take-words
+add-take-words c = search needs
 
-mul-copy-words : tie.Need-mul-copy-words
-mul-copy-words c = search needs
+mul-take-words : tie.Need-mul-take-words
+mul-take-words c = search needs
 
-sub-copy-words : tie.Need-sub-copy-words
-sub-copy-words c = search needs
+sub-take-words : tie.Need-sub-take-words
+sub-take-words c = search needs
 
-part-copy-words-start : tie.Need-part-copy-words-start
-part-copy-words-start c = search needs
+part-take-words-start : tie.Need-part-take-words-start
+part-take-words-start c = search needs
 
-part-copy-words-end : tie.Need-part-copy-words-end
-part-copy-words-end c = search needs
+part-take-words-end : tie.Need-part-take-words-end
+part-take-words-end c = search needs
 
-add-copy-words-2 : tie.Need-add-copy-words-2
-add-copy-words-2 c = search needs
+add-take-words-2 : tie.Need-add-take-words-2
+add-take-words-2 c = search needs
 
-mul-copy-words-2 : tie.Need-mul-copy-words-2
-mul-copy-words-2 c = search needs
+mul-take-words-2 : tie.Need-mul-take-words-2
+mul-take-words-2 c = search needs
 
-sub-copy-words-2 : tie.Need-sub-copy-words-2
-sub-copy-words-2 c = search needs
+sub-take-words-2 : tie.Need-sub-take-words-2
+sub-take-words-2 c = search needs
 
-part-copy-words-start-2 : tie.Need-part-copy-words-start-2
-part-copy-words-start-2 c = search needs
+part-take-words-start-2 : tie.Need-part-take-words-start-2
+part-take-words-start-2 c = search needs
 
-part-copy-words-end-2 : tie.Need-part-copy-words-end-2
-part-copy-words-end-2 c = search needs
+part-take-words-end-2 : tie.Need-part-take-words-end-2
+part-take-words-end-2 c = search needs
 
-copy-words-requires : tie.Need-copy-words-requires
-copy-words-requires c κs = search needs
-
-add-clear-words : tie.Need-add-clear-words
-add-clear-words c = search needs
-
-mul-clear-words : tie.Need-mul-clear-words
-mul-clear-words c = search needs
-
-sub-clear-words : tie.Need-sub-clear-words
-sub-clear-words c = search needs
-
-part-clear-words-start : tie.Need-part-clear-words-start
-part-clear-words-start c = search needs
-
-part-clear-words-end : tie.Need-part-clear-words-end
-part-clear-words-end c = search needs
-
-clear-words-requires : tie.Need-clear-words-requires
-clear-words-requires c κs = search needs
+take-words-requires : tie.Need-take-words-requires
+take-words-requires c κs = search needs
 
 same-length : tie.Need-same-length
 same-length c = search needs
@@ -63,33 +45,29 @@ same-length-2 c = search needs
 
 returns : tie.Need-returns
 returns c =
-    let a = c .before .before .before .before .before .before .before .before .before .before .before .before .args in
+    let a = c .before .before .before .before .before .before .before .before .before .args in
+    let inside = c .before .before .before .before .before .before .before .before .before .pre .1 in
+    let took = c .before .before .before .before .take-words .ensures in
     record {
-      there = moved (a .dst .now) (a .src .now) _ (a .at) (a .from) (a .n) (c .before .before .before .before .before .before .before .before .before .before .before .before .pre .1) (c .before .before .before .before .before .before .copy-words .ensures);
-      here = cleared (a .src .now) _ (a .from) (a .n) (c .before .before .before .before .before .before .before .before .before .before .before .before .pre .1) (c .before .before .clear-words .ensures);
+      there = moved (a .dst .now) (a .src .now) _ (a .at) (a .from) (a .n) inside (took .0);
+      here = cleared (a .src .now) _ (a .from) (a .n) inside (took .1);
     }
 
 pub move-words-spec : {M : Type 1} → statement M
 move-words-spec =
     tie.close
     (tie.spec
-    add-copy-words
-    mul-copy-words
-    sub-copy-words
-    part-copy-words-start
-    part-copy-words-end
-    add-copy-words-2
-    mul-copy-words-2
-    sub-copy-words-2
-    part-copy-words-start-2
-    part-copy-words-end-2
-    copy-words-requires
-    add-clear-words
-    mul-clear-words
-    sub-clear-words
-    part-clear-words-start
-    part-clear-words-end
-    clear-words-requires
+    add-take-words
+    mul-take-words
+    sub-take-words
+    part-take-words-start
+    part-take-words-end
+    add-take-words-2
+    mul-take-words-2
+    sub-take-words-2
+    part-take-words-start-2
+    part-take-words-end-2
+    take-words-requires
     same-length
     same-length-2
     returns)

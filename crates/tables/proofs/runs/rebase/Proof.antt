@@ -10,20 +10,17 @@ use Rattle.tables.proofs.runs.rebase.Statement.{statement}
 use Rattle.tables.proofs.runs.rebase.Tie as tie
 
 abbrev Inv-loop : tie.InvT-loop
-Inv-loop ws₀ from n old new at i₀ ws i = (i ≤ n) × (length ws ≡ length ws₀) × (ws ≡ rebase (between old new) i (from * 6) ws₀)
+Inv-loop ws₀ at n old new i₀ ws i = (i ≤ n) × (length ws ≡ length ws₀) × (ws ≡ rebase (between old new) i at ws₀)
 
 abbrev μ-loop : tie.MeasureT-loop
-μ-loop ws₀ from n old new at i₀ ws i = n - i
+μ-loop ws₀ at n old new i₀ ws i = n - i
 
 -- the base of the next frame is as it was
-base-kept : (c : tie.In-loop Inv-loop μ-loop) → getD (c .before .loop .ws) (c .before .before .args .from * 6 + c .before .loop .i * 6 + 2) 0 ≡ getD (c .before .before .args .ws .now) (c .before .before .args .from * 6 + c .before .loop .i * 6 + 2) 0
+base-kept : (c : tie.In-loop Inv-loop μ-loop) → getD (c .before .loop .ws) (c .before .before .args .at + c .before .loop .i * 6 + 2) 0 ≡ getD (c .before .before .args .ws .now) (c .before .before .args .at + c .before .loop .i * 6 + 2) 0
 base-kept c =
     let a = c .before .before .args in
     let i = c .before .loop .i in
-    ap (λ ws. getD ws (a .from * 6 + i * 6 + 2) 0) (c .before .loop .inv .2) ∙ rebase-ahead (between (a .old) (a .new)) (a .from * 6) i i (a .ws .now) (omega arith)
-
-mul-at : tie.Need-mul-at Inv-loop μ-loop
-mul-at c = search needs
+    ap (λ ws. getD ws (a .at + i * 6 + 2) 0) (c .before .loop .inv .2) ∙ rebase-ahead (between (a .old) (a .new)) (a .at) i i (a .ws .now) (omega arith)
 
 loop-holds : tie.Need-loop-holds Inv-loop μ-loop
 loop-holds c = (search needs, refl, refl)
@@ -68,7 +65,7 @@ loop-less c = search needs
 loop-again : tie.Need-loop-again Inv-loop μ-loop
 loop-again c =
     let a = c .before .before .before .args in
-    (search needs, simp length-set (c .before .before .loop .inv .1), rebase-more (between (a .old) (a .new)) (a .from * 6) (c .before .before .loop .i) (c .before .before .loop .ws) (a .ws .now) (c .before .before .loop .inv .2))
+    (search needs, simp length-set (c .before .before .loop .inv .1), rebase-more (between (a .old) (a .new)) (a .at) (c .before .before .loop .i) (c .before .before .loop .ws) (a .ws .now) (c .before .before .loop .inv .2))
 
 same-length : tie.Need-same-length Inv-loop μ-loop
 same-length c = c .before .loop .inv .1
@@ -77,7 +74,7 @@ returns : tie.Need-returns Inv-loop μ-loop
 returns c =
     let a = c .before .before .args in
     let e : c .before .loop .i ≡ a .n = omega arith in
-    c .before .loop .inv .2 ∙ ap (λ n. rebase (between (a .old) (a .new)) n (a .from * 6) (a .ws .now)) e
+    c .before .loop .inv .2 ∙ ap (λ n. rebase (between (a .old) (a .new)) n (a .at) (a .ws .now)) e
 
 pub rebase-spec : {M : Type 1} → statement M
 rebase-spec =
@@ -85,7 +82,6 @@ rebase-spec =
     (tie.spec
     Inv-loop
     μ-loop
-    mul-at
     loop-holds
     mul-k
     add-k

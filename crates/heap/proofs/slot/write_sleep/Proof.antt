@@ -1,0 +1,71 @@
+-- `write_sleep` meets its contract: eleven words are written. Assumes nothing.
+use native.Mathlib.Omega.{arith}
+use lib.ListN.{length-set}
+use borrow.Author.Needs.{needs}
+use Rattle.heap.proofs.slot.write_sleep.Statement.{statement}
+use Rattle.heap.proofs.slot.write_sleep.Tie as tie
+
+code-requires : tie.Need-code-requires
+code-requires c κs = search needs
+
+slice-write-s : tie.Need-slice-write-s
+slice-write-s c = search needs
+
+cast-s : tie.Need-cast-s
+cast-s c = search needs
+
+slice-write-s-2 : tie.Need-slice-write-s-2
+slice-write-s-2 c = simp length-set (omega arith)
+
+slice-write-s-3 : tie.Need-slice-write-s-3
+slice-write-s-3 c = simp length-set (omega arith)
+
+slice-write-s-4 : tie.Need-slice-write-s-4
+slice-write-s-4 c = simp length-set (omega arith)
+
+slice-write-s-5 : tie.Need-slice-write-s-5
+slice-write-s-5 c = simp length-set (omega arith)
+
+slice-write-s-6 : tie.Need-slice-write-s-6
+slice-write-s-6 c = simp length-set (omega arith)
+
+slice-write-s-7 : tie.Need-slice-write-s-7
+slice-write-s-7 c = simp length-set (omega arith)
+
+slice-write-s-8 : tie.Need-slice-write-s-8
+slice-write-s-8 c = simp length-set (omega arith)
+
+slice-write-s-9 : tie.Need-slice-write-s-9
+slice-write-s-9 c = simp length-set (omega arith)
+
+slice-write-s-10 : tie.Need-slice-write-s-10
+slice-write-s-10 c = simp length-set (omega arith)
+
+slice-write-s-11 : tie.Need-slice-write-s-11
+slice-write-s-11 c = simp length-set (omega arith)
+
+same-length : tie.Need-same-length
+same-length c = simp length-set
+
+returns : tie.Need-returns
+returns c = rw (c .before .code .ensures)
+
+pub write-sleep-spec : {M : Type 1} → statement M
+write-sleep-spec =
+    tie.close
+    (tie.spec
+    code-requires
+    slice-write-s
+    cast-s
+    slice-write-s-2
+    slice-write-s-3
+    slice-write-s-4
+    slice-write-s-5
+    slice-write-s-6
+    slice-write-s-7
+    slice-write-s-8
+    slice-write-s-9
+    slice-write-s-10
+    slice-write-s-11
+    same-length
+    returns)

@@ -1,0 +1,2 @@
+pub mod Suspend
+pub mod Yielding
