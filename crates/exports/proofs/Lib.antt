@@ -1,3 +1,5 @@
 pub mod Stores
 pub mod Back
 pub mod Called
+pub mod Keeps
+pub mod Kept

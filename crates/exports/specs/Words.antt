@@ -1,8 +1,9 @@
 -- What is passed by value inside, in lent words: a machine's numbers in 13, a set-up's sizes in 12, the fuel in four, a
 -- step in three, a new word in two.
+use mathlib.Core.Bool.{Bool, true, false}
 use mathlib.Core.List.{List, [], _∷_}
 use Prim.Native.Nat.{ℕ}
-use lib.ListN.{getD}
+use lib.ListN.{getD, set}
 use lib.Dec.{eqb}
 use Rattle.lists.specs.Pick.{pick}
 use Rattle.heap.specs.Fault.{numberOf, wordOf}
@@ -10,6 +11,7 @@ use Rattle.heap.specs.Slot.{flag, isSet}
 use Rattle.heap.specs.declared.value.Opt.{Opt}
 use Rattle.model.specs.declared.coro.Made.{Made}
 use Rattle.model.specs.declared.exec.Step.{Step}
+use Rattle.model.specs.declared.machine.Driver.{Driver}
 use Rattle.model.specs.declared.machine.Fuel.{Fuel}
 use Rattle.memory.specs.declared.machine.Machine.{Machine}
 use Rattle.memory.specs.declared.machine.Sizes.{Sizes}
@@ -35,6 +37,20 @@ machineIn ws =
       used = getD ws 7 0;
       seq = getD ws 8 0;
     }
+
+-- what an entry changes of them, and what a suspension does that tells the host nothing
+abbrev pub enteredOver : Machine → List ℕ → List ℕ
+enteredOver m ws = set (set (set ws 0 (m .height)) 1 (m .depth)) 2 (m .active)
+
+abbrev pub suspendedOver : Machine → List ℕ → List ℕ
+suspendedOver m ws = set (set (enteredOver m ws) 3 (m .count)) 7 (m .used)
+
+-- a driver whose delivery changes outcome, flags or fuel
+abbrev pub tellsHost : Driver → Bool
+tellsHost (Driver.Resume dst) = false
+tellsHost (Driver.Iter has val iter) = false
+tellsHost Driver.Host = true
+tellsHost Driver.Finalize = true
 
 -- ---- the sizes: five limits, the words of a row, six costs
 

@@ -3,7 +3,7 @@ ghost use mathlib.Core.Path.{_≡_};
 ghost use Prim.Native.Nat.{_≤_};
 ghost use lib.ListN.{length};
 ghost use Rattle.lists.specs.Parts.{splice};
-ghost use Rattle.exports.specs.Words.{machineWords, machineIn};
+ghost use Rattle.exports.specs.Words.{enteredOver, suspendedOver, machineWords, machineIn};
 use memory::machine::Machine;
 use memory::machine::Told;
 
@@ -46,4 +46,24 @@ pub fn put_machine(ws: &mut [u64], m: Machine)
     ws[10] = o.1;
     ws[11] = o.2;
     ws[12] = o.3;
+}
+
+// The numbers that an entry changes, into words that hold the others.
+pub(crate) fn put_entered(ws: &mut [u64], m: Machine)
+    requires { ⌜ 13 ≤ length (now ws) ⌝ }
+    ensures { λ _. ⌜ now (ws .exit) ≡ enteredOver m (now (ws .entry)) ⌝ }
+{
+    ws[0] = m.height as u64;
+    ws[1] = m.depth as u64;
+    ws[2] = m.active as u64;
+}
+
+// Those that a suspension changes, where the host is told nothing.
+pub(crate) fn put_suspended(ws: &mut [u64], m: Machine)
+    requires { ⌜ 13 ≤ length (now ws) ⌝ }
+    ensures { λ _. ⌜ now (ws .exit) ≡ suspendedOver m (now (ws .entry)) ⌝ }
+{
+    put_entered(ws, m);
+    ws[3] = m.count as u64;
+    ws[7] = m.used;
 }

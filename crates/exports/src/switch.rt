@@ -6,7 +6,7 @@ ghost use Rattle.exports.specs.Calls.{Called};
 ghost use Rattle.exports.specs.Switch.{ResumeCallFits};
 use crate::answers::put_step;
 use crate::numbers::machine_of;
-use crate::numbers::put_machine;
+use crate::numbers::put_entered;
 use crate::sizes::sizes_of;
 
 // coro.rs: exec, Resume.
@@ -47,6 +47,6 @@ pub extern "C" fn bvm_resume(
     );
     let n = did.machine;
     let s = did.step;
-    put_machine(machine, n);
+    put_entered(machine, n);
     put_step(answer, s);
 }
