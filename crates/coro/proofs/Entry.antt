@@ -57,7 +57,29 @@ use Rattle.memory.specs.declared.machine.Sizes.{Sizes}
 use Rattle.memory.proofs.Slots.{at-map, put-same}
 use Rattle.memory.proofs.Tables.{slots-are, slots-set, length-tabled}
 use Rattle.memory.proofs.Lookup.{There, there, there-words, lacks, regs-row, frames-row, row-below, regs-set, frames-set}
-use Rattle.coro.specs.Enter.{refusalOf, running, enteredAs, grown, MoveFits, Moves}
+use Rattle.coro.specs.Enter.{refusalOf, enteredAs, grown, MoveFits, Moves}
+
+-- its record when it runs: nothing is saved any more
+abbrev running : CoroObj → CoroObj
+running c =
+    record {
+      state = CoroState.Running;
+      closing = c .closing;
+      finalized = c .finalized;
+      task = c .task;
+      seq = c .seq;
+      row = c .row;
+      regs = 0;
+      frames = 0;
+      maxregs = c .maxregs;
+      maxframes = c .maxframes;
+      waiting = c .waiting;
+      payload = c .payload;
+      key = c .key;
+      largest = c .largest;
+      result = c .result;
+      signal = c .signal;
+    }
 
 pub does : {A : Type 0} (l : Sizes) (M : Lent) (m : Machine) (f : Fuel) (o : After A) (w : World) (a : A) → o ≡ after w a → Rep l w M m f → Does l o M m f a
 does l M m f o w a e r = subst (λ z. Does l z M m f a) (sym e) (record { world = r; answer = refl })

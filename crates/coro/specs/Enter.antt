@@ -7,7 +7,6 @@ use lib.Dec.{eqb, ltb}
 use Rattle.lists.specs.Pick.{pick}
 use Rattle.heap.specs.declared.fault.Fault.{Fault}
 use Rattle.heap.specs.declared.object.CoroObj.{CoroObj}
-use Rattle.heap.specs.declared.object.CoroState.{CoroState}
 use Rattle.model.specs.State.{isCreated, isResumable}
 use Rattle.model.specs.declared.coro.Entered.{Entered}
 use Rattle.tables.specs.Does.{EntersStack, EntersFrames, EnterFits}
@@ -20,27 +19,6 @@ refusalOf height depth l c =
     pick (not (isResumable (c .state)) || eqb (c .frames) 0) Fault.InvalidCoroState
     (pick (ltb (l .depth) (depth + c .frames) || ltb (l .stack) (height + c .regs)) Fault.StackOverflow
     Fault.None)
-
-abbrev pub running : CoroObj → CoroObj
-running c =
-    record {
-      state = CoroState.Running;
-      closing = c .closing;
-      finalized = c .finalized;
-      task = c .task;
-      seq = c .seq;
-      row = c .row;
-      regs = 0;
-      frames = 0;
-      maxregs = c .maxregs;
-      maxframes = c .maxframes;
-      waiting = c .waiting;
-      payload = c .payload;
-      key = c .key;
-      largest = c .largest;
-      result = c .result;
-      signal = c .signal;
-    }
 
 abbrev pub enteredAs : CoroObj → Entered
 enteredAs c = pick (isCreated (c .state)) Entered.Fresh (Entered.Suspended (c .waiting))

@@ -1,14 +1,14 @@
 // Suspensions. The operands have been tested.
-ghost use Rattle.model.specs.Exec.{yield};
-ghost use Rattle.memory.specs.Memory.{lent};
-ghost use Rattle.lists.specs.Parts.{splice};
-ghost use Rattle.lists.specs.Pick.{pick};
-ghost use Rattle.exports.specs.Words.{machineWords, suspendedOver, fuelWords, stepWords};
-ghost use Rattle.exports.specs.Calls.{CalledFuel};
-ghost use Rattle.exports.specs.Switch.{YieldCallFits, toldBy};
 ghost use mathlib.Core.Path.{_≡_};
 ghost use Prim.Native.Nat.{_*_, _≤_};
 ghost use lib.ListN.{length};
+ghost use Rattle.lists.specs.Parts.{splice};
+ghost use Rattle.lists.specs.Pick.{pick};
+ghost use Rattle.model.specs.Exec.{yield};
+ghost use Rattle.memory.specs.Memory.{lent};
+ghost use Rattle.exports.specs.Words.{machineWords, suspendedOver, fuelWords, stepWords};
+ghost use Rattle.exports.specs.Calls.{CalledFuel};
+ghost use Rattle.exports.specs.Switch.{YieldCallFits, toldBy};
 use crate::answers::fuel_of;
 use crate::answers::put_fuel;
 use crate::answers::put_step;
