@@ -1,5 +1,4 @@
 pub mod Parts
 pub mod Entry
-pub mod Lift
 pub mod Lands
 pub mod Stored

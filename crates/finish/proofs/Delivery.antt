@@ -7,7 +7,7 @@ use native.Mathlib.Omega.{arith}
 use lib.ListN.{length}
 use Rattle.heap.specs.declared.fault.Fault.{Fault}
 use Rattle.model.specs.World.{World, withOutcome}
-use Rattle.model.specs.Frames.{putReg}
+use Rattle.model.specs.Frames.{putAt, putReg}
 use Rattle.model.specs.Fuel.{setFinalizing}
 use Rattle.model.specs.Coro.{coroSend, outcomeOf, deliver, deliverReturn}
 use Rattle.model.specs.declared.coro.Event.{Event}
@@ -19,9 +19,10 @@ use Rattle.tables.specs.Does.{RegFits, Puts}
 use Rattle.memory.specs.Memory.{Lent, onStack, onFrames, Rep, Does}
 use Rattle.memory.specs.declared.machine.Machine.{Machine}
 use Rattle.memory.specs.declared.machine.Sizes.{Sizes}
-use Rattle.coro.specs.Send.{SendFits, Sends}
+use Rattle.memory.specs.Leaves.{lentTop, Leaves}
+use Rattle.memory.proofs.Turn.{turn-stack}
+use Rattle.coro.specs.Send.{SendFits}
 use Rattle.coro.proofs.Entry.{does}
-use Rattle.coro.proofs.Lift.{put-rep, send-rep}
 use Rattle.finish.specs.Deliver.{iterYielded, stopped}
 
 -- ---- what is asked after a word was put into a register
@@ -36,13 +37,12 @@ send-still stack stack′ frames height depth r e f = record { reg = reg-still s
 -- ---- moves
 
 module _ (l : Sizes) (M : Lent) (m : Machine) (f : Fuel) (w : World) (rep : Rep l w M m f) where
-  pub sent : (stack′ frames′ : List ℕ) (r v : ℕ) → Sends (M .stack) (M .frames) stack′ frames′ (m .height) (m .depth) r v
+  pub sent : (stack′ frames′ : List ℕ) (r v : ℕ) → Leaves (coroSend r v) (lentTop (M .stack) (M .frames)) m (lentTop stack′ frames′) m
       → Rep l (coroSend r v w) (onStack stack′ (onFrames frames′ M)) m f
-  sent stack′ frames′ r v k =
-      send-rep l m w (M .stack) (M .frames) (M .chain) (M .slots) (M .savedStack) (M .savedFrames) (record { words = M; fuel = f }) rep stack′ frames′ r v k
+  sent stack′ frames′ r v k = k l w (record { words = M; fuel = f }) rep
 
   pub put : (stack′ : List ℕ) (r v : ℕ) → Puts (M .stack) (M .frames) stack′ (m .height) (m .depth) r v → Rep l (putReg r v w) (onStack stack′ M) m f
-  put stack′ r v k = put-rep l m w (M .stack) (M .frames) (M .chain) (M .slots) (M .savedStack) (M .savedFrames) (record { words = M; fuel = f }) rep stack′ r v k
+  put stack′ r v k = turn-stack l w M m f rep (putAt (w .frames) r v (w .stack)) stack′ (m .height) (k (w .stack) (w .frames) (rep .stack) (rep .frames))
 
   pub told-host : (s : Stop) (n : Machine) → n ≡ stopped s m → Rep l (withOutcome (Outcome.Some s) w) M n f
   told-host s n e =

@@ -1,4 +1,9 @@
 -- `coro_send` meets its contract: a word put, and a pc stepped. Assumes nothing.
+use Rattle.model.specs.World.{withStack}
+use Rattle.model.specs.Frames.{putAt, onTop, stepPc}
+use Rattle.memory.specs.Memory.{onStack}
+use Rattle.memory.specs.Leaves.{lentTop}
+use Rattle.memory.proofs.Turn.{turn-stack, turn-frames}
 use borrow.Author.Needs.{needs}
 use Rattle.coro.proofs.send.coro_send.Statement.{statement}
 use Rattle.coro.proofs.send.coro_send.Tie as tie
@@ -16,7 +21,10 @@ same-length-2 : tie.Need-same-length-2
 same-length-2 c = search needs
 
 returns : tie.Need-returns
-returns c = λ xs fs s p. record { stack = c .before .before .before .before .before .before .put-reg .ensures xs fs s p; frames = c .before .before .step-pc .ensures fs p }
+returns c = λ l w b rep. let M = lentTop (c .before .before .before .before .before .before .before .before .before .before .before .args .stack .now) (c .before .before .before .before .before .before .before .before .before .before .before .args .frames .now) b in
+    let xs = putAt (w .frames) (c .before .before .before .before .before .before .before .before .before .before .before .args .dst) (c .before .before .before .before .before .before .before .before .before .before .before .args .v) (w .stack) in
+    let p = turn-stack l w M (c .before .before .before .before .before .before .before .before .before .before .before .args .m) (b .fuel) rep xs (c .before .before .before .before .before .before .put-reg .last .0) (c .before .before .before .before .before .before .before .before .before .before .before .args .m .height) (c .before .before .before .before .before .before .put-reg .ensures (w .stack) (w .frames) (rep .stack) (rep .frames)) in
+    turn-frames l (withStack xs w) (onStack (c .before .before .before .before .before .before .put-reg .last .0) M) (c .before .before .before .before .before .before .before .before .before .before .before .args .m) (b .fuel) p (onTop stepPc (w .frames)) _ (c .before .before .before .before .before .before .before .before .before .before .before .args .m .depth) (c .before .before .step-pc .ensures (w .frames) (rep .frames))
 
 pub coro-send-spec : {M : Type 1} → statement M
 coro-send-spec =

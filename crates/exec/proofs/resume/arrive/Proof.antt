@@ -1,5 +1,4 @@
 -- `arrive` meets its contract, by what the entry answered. Assumes nothing.
-use Rattle.coro.proofs.Lift.{send-rep}
 use Rattle.exec.proofs.Resumed.{arrive-fresh, arrive-sent, arrive-refused}
 use borrow.Author.Needs.{needs}
 use Rattle.exec.proofs.resume.arrive.Statement.{statement}
@@ -27,7 +26,7 @@ same-length-2 : tie.Need-same-length-2
 same-length-2 c = search needs
 
 returns-2 : tie.Need-returns-2
-returns-2 c = λ l w b rep. arrive-sent l _ (c .before .before .before .before .before .before .before .before .before .before .before .before .args .m) (b .fuel) w (c .before .before .before .before .before .before .before .before .before .before .before .before .args .a) (c .before .before .before .before .before .before .before .before .before .before .before .before .args .sent) (c .before .before .before .before .before .before .before .before .a .given .0 .0) (c .before .before .before .before .before .before .before .before .a .given .1) (send-rep l (c .before .before .before .before .before .before .before .before .before .before .before .before .args .m) w (c .before .before .before .before .before .before .before .before .before .before .before .before .args .stack .now) (c .before .before .before .before .before .before .before .before .before .before .before .before .args .frames .now) (b .words .chain) (b .words .slots) (b .words .savedStack) (b .words .savedFrames) b rep _ _ (c .before .before .before .before .before .before .before .before .a .given .0 .0) (c .before .before .before .before .before .before .before .before .before .before .before .before .args .sent) (c .before .before .before .before .coro-send .ensures))
+returns-2 c = λ l w b rep. arrive-sent l _ (c .before .before .before .before .before .before .before .before .before .before .before .before .args .m) (b .fuel) w (c .before .before .before .before .before .before .before .before .before .before .before .before .args .a) (c .before .before .before .before .before .before .before .before .before .before .before .before .args .sent) (c .before .before .before .before .before .before .before .before .a .given .0 .0) (c .before .before .before .before .before .before .before .before .a .given .1) (c .before .before .before .before .coro-send .ensures l w b rep)
 
 returns-3 : tie.Need-returns-3
 returns-3 c = λ l w b rep. arrive-refused l _ (c .before .before .before .before .before .args .m) (b .fuel) w (c .before .before .before .before .before .args .a) (c .before .before .before .before .before .args .sent) (c .before .a2 .given .0 .0) (c .before .a2 .given .1) rep
