@@ -4,12 +4,11 @@ use mathlib.Core.Path.{_≡_, refl, ap, _∙_}
 use mathlib.Core.Bool.{Bool, true, false, not, _&&_}
 use mathlib.Core.List.{List, [], _∷_}
 use borrow.Author.Tests.{not-true}
-use Rattle.model.specs.State.{isRunning, isSuspended}
 use Rattle.model.specs.World.{World}
 use Rattle.model.specs.Call.{Call}
 use Rattle.model.specs.Step.{run}
-use Rattle.claims.specs.Held.{coreAt, slept}
-use Rattle.claims.specs.Demand3.{next, hasLeft, Suspends, Enters, restarts, Waits, Goes, Sleeps, Entered, Left, Demand3}
+use Rattle.claims.specs.Held.{slept}
+use Rattle.claims.specs.Demand3.{next, Suspends, Enters, restarts, Waits, Goes, Demand3}
 use Rattle.claims.proofs.Cores.{no-both, and-left, and-right}
 use Rattle.claims.proofs.Claim.{demand3-at}
 use Rattle.claims.specs.Premises.{runsIn, sleepsIn, leftIn, waits, goes, meets, premises, Holds}

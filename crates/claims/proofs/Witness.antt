@@ -1,20 +1,13 @@
 -- The list of calls in which every premise of demand 3 holds, by computation. Assumes nothing.
-use Prim.Native.Nat.{ℕ, suc, _-_}
+use Prim.Native.Nat.{ℕ, _-_}
 use mathlib.Core.Path.{_≡_, refl}
-use mathlib.Core.Bool.{Bool, true}
-use mathlib.Core.List.{List, [], _∷_, _++_, map}
-use lib.ListN.{take, drop, getD}
-use Rattle.model.specs.Program.{setupOk}
+use mathlib.Core.Bool.{true}
+use mathlib.Core.List.{_++_}
+use lib.ListN.{take}
 use Rattle.model.specs.World.{fresh}
-use Rattle.model.specs.Frames.{topPc}
-use Rattle.model.specs.Answer.{numberOf}
-use Rattle.model.specs.Call.{Call}
-use Rattle.model.specs.Coro.{coroState}
-use Rattle.model.specs.Step.{run, answers}
+use Rattle.model.specs.Step.{run}
 use Rattle.model.specs.Compute.{computed}
-use Rattle.heap.specs.declared.object.CoroState.{CoroState}
-use Rattle.model.specs.declared.coro.Stated.{Stated}
-use Rattle.claims.specs.Story.{wide, c, d, finish, deep, loop, story, part, past}
+use Rattle.claims.specs.Story.{wide, part, past}
 use Rattle.claims.specs.Premises.{Holds}
 use Rattle.claims.specs.Witness.{nth, between, meets, Witness}
 use Rattle.claims.proofs.Premises.{premises-hold}

@@ -1,7 +1,7 @@
 -- CoroNew on the world. Assumes nothing.
-use mathlib.Core.Path.{_≡_, refl, sym, ap, ap₂, _∙_, subst}
+use mathlib.Core.Path.{_≡_, sym, ap, _∙_, subst}
 use mathlib.Core.Bool.{true, false}
-use mathlib.Core.List.{List, [], _∷_, _++_}
+use mathlib.Core.List.{List, [], _∷_}
 use Prim.Native.Nat.{ℕ, suc, _+_, _-_, _*_, _≤_, _<_}
 use native.Mathlib.Omega.{arith}
 use lib.ListN.{length, getD, take, drop, replicate, length-drop}
@@ -11,7 +11,7 @@ use Rattle.lists.specs.Parts.{part, pad}
 use Rattle.heap.specs.Word.{nil}
 use Rattle.heap.specs.declared.fault.Fault.{Fault}
 use Rattle.model.specs.Program.{isFunction}
-use Rattle.model.specs.World.{World, After, after, andThen}
+use Rattle.model.specs.World.{World, after, andThen}
 use Rattle.model.specs.Frames.{topBase, putReg}
 use Rattle.model.specs.Coro.{coroCreate}
 use Rattle.model.specs.Exec.{window, putMade, coroNew}
@@ -22,14 +22,13 @@ use Rattle.model.specs.declared.machine.Cont.{Cont}
 use Rattle.model.specs.declared.machine.Frame.{Frame}
 use Rattle.model.specs.declared.machine.Fuel.{Fuel}
 use Rattle.invariant.proofs.Tests.{no-false}
-use Rattle.invariant.proofs.Sound.{Sound, sound→}
+use Rattle.invariant.proofs.Sound.{sound→}
 use Rattle.invariant.proofs.Good.{Still}
 use Rattle.invariant.proofs.Make.{create-good}
 use Rattle.tables.specs.Does.{RegFits}
-use Rattle.tables.specs.Parts.{Stack, Frames}
 use Rattle.tables.proofs.Padded.{length-part, take-pad}
 use Rattle.tables.proofs.Decode.{base-at}
-use Rattle.memory.specs.Memory.{Lent, Rep, Room, Ok, Does}
+use Rattle.memory.specs.Memory.{Lent, Rep, Does}
 use Rattle.memory.specs.declared.machine.Machine.{Machine}
 use Rattle.memory.specs.declared.machine.Sizes.{Sizes}
 use Rattle.coro.proofs.Entry.{does}

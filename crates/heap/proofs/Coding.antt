@@ -1,7 +1,7 @@
 -- Range and coding in two's complement, for any width h + 1. Assumes nothing.
 use mathlib.Core.Path.{_≡_, refl, ap}
 use mathlib.Core.Bool.{Bool, true, false}
-use Prim.Native.Nat.{ℕ, zero, suc, _+_, _-_, _*_, _≤_, _<_, _^_}
+use Prim.Native.Nat.{ℕ, suc, _+_, _-_, _*_, _≤_, _<_, _^_}
 use native.Mathlib.Omega.{arith}
 use native.Mathlib.Nat.{pow-suc}
 use native.Mathlib.Numerals.{add-one}
@@ -10,7 +10,7 @@ use lib.Dec.{ltb}
 use lib.Signed.{mag}
 use borrow.Author.Tests.{lt-ltb, le-ltb, ltb-true, ltb-false}
 use Rattle.lists.specs.Pick.{pick}
-use Rattle.heap.specs.Coding.{inRange, bitsOf, ofBits}
+use Rattle.heap.specs.Coding.{bitsOf, ofBits}
 
 -- 2 ^ (h + 1) is twice 2 ^ h
 pub double : (h : ℕ) → 2 ^ (h + 1) ≡ 2 ^ h * 2

@@ -1,4 +1,4 @@
--- Where a coroutine stands, its record there, and its words when some change. Assumes nothing.
+-- Where a coroutine stands, and its record there. Assumes nothing.
 use mathlib.Core.Path.{_≡_, refl, sym, ap, _∙_}
 use mathlib.Core.Bool.{Bool, true, false}
 use mathlib.Core.List.{List}

@@ -1,5 +1,5 @@
 -- A slot's words decode to the slot, and tables of slots in words: replaced, and with one more. Assumes nothing.
-use mathlib.Core.Path.{_≡_, refl, sym, ap, _∙_}
+use mathlib.Core.Path.{_≡_, refl, ap, _∙_}
 use mathlib.Core.Bool.{Bool, true, false}
 use mathlib.Core.List.{List, [], _∷_, _++_}
 use Prim.Native.Nat.{ℕ, suc, _+_, _*_, _≤_, _<_}
@@ -14,7 +14,6 @@ use Rattle.heap.specs.Heap.{slotsOf, putSlot, asCoro}
 use Rattle.heap.specs.declared.heap.Coroutine.the-variants as R
 use Rattle.heap.specs.declared.fault.Fault.the-variants as F
 use borrow.Author.Tests.{ne-eqb}
-use Rattle.heap.specs.declared.value.Opt.{Opt}
 use Rattle.heap.specs.declared.value.Opt.the-variants as M
 use Rattle.heap.specs.declared.object.CoroState.{CoroState}
 use Rattle.heap.specs.declared.object.CoroState.the-variants as S

@@ -1,12 +1,12 @@
 -- What passing the test of the table means, both ways. Assumes nothing.
 use mathlib.Core.Path.{_≡_, refl, sym, ap, ap₂, _∙_}
-use mathlib.Core.Bool.{Bool, true, false, _&&_}
+use mathlib.Core.Bool.{true, _&&_}
 use mathlib.Core.List.{List, [], _∷_, _++_}
 use Prim.Native.Nat.{ℕ, zero, suc, _+_, _-_, _*_, _≤_, _<_}
 use native.Mathlib.Omega.{arith}
 use borrow.Author.Tests.{leb-true}
 use lib.Dec.{leb}
-use lib.ListN.{length, getD, drop, replicate, length-append, length-drop}
+use lib.ListN.{length, getD, drop, replicate, length-drop}
 use lib.Seq.{drop-at}
 use Rattle.lists.specs.Pick.{pick}
 use Rattle.lists.specs.Parts.{pad}
@@ -18,7 +18,7 @@ use Rattle.heap.specs.Object.{codeOf, stateOf}
 use Rattle.heap.specs.Table.{Slot, slot}
 use Rattle.heap.specs.Slot.{width, flag, isSet, slotWords, slotOfWords}
 use Rattle.heap.specs.Heap.{slotsOf}
-use Rattle.heap.specs.Ranges.{Range, range, unused, kinds, within, slotOk, tableOk}
+use Rattle.heap.specs.Ranges.{Range, unused, kinds, within, slotOk, tableOk}
 use Rattle.heap.specs.declared.object.Object.{Object}
 use Rattle.heap.specs.declared.object.Object.the-variants as O
 use Rattle.heap.proofs.Slots.{slot-back, length-slot}

@@ -1,22 +1,20 @@
 -- The classes of words: what the constructors make, and what a class says of the word. `classOf` is a function, so every
 -- word has exactly one class. Assumes nothing.
-use mathlib.Core.Path.{_≡_, refl, sym, ap, _∙_}
+use mathlib.Core.Path.{_≡_, refl, ap}
 use mathlib.Core.Bool.{Bool, true, false}
-use Prim.Native.Nat.{ℕ, _+_, _*_, _/_, _%_, _≤_, _<_, _^_}
+use Prim.Native.Nat.{ℕ, _+_, _/_, _%_, _<_, _^_}
 use native.Mathlib.Omega.{arith}
-use borrow.Author.Tests.{ne-eqb, eqb-true, eqb-false}
+use borrow.Author.Tests.{ne-eqb, eqb-true}
 use lib.Dec.{eqb}
-use lib.IntN.{ℤ, negsuc, pos}
+use lib.IntN.{ℤ}
 use lib.Signed.{mag}
 use Rattle.lists.specs.Pick.{pick}
 use Rattle.heap.specs.Coding.{bitsOf, ofBits}
 use Rattle.heap.specs.Word.{nil, reference, slotOf, tagOf, topOf, intWord, classOf}
-use Rattle.heap.specs.Int.{exactly, nextKey, inlineOf}
+use Rattle.heap.specs.Int.{exactly}
 use Rattle.heap.specs.declared.value.Class.{Class}
 use Rattle.heap.specs.declared.value.Class.the-variants as C
-use Rattle.heap.specs.declared.int.Exact.the-variants as X
-use Rattle.heap.specs.declared.int.Inline.the-variants as I
-use Rattle.heap.proofs.Coding.{of-bits, bits-of, of-range, bits-below}
+use Rattle.heap.proofs.Coding.{of-bits, bits-of, bits-below}
 
 -- ---- decode after encode
 

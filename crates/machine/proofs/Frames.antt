@@ -1,7 +1,7 @@
 -- Frames pushed and gone, on the world. Assumes nothing.
 use mathlib.Core.Path.{_≡_, refl, sym, ap, ap₂, _∙_, subst}
 use mathlib.Core.Bool.{Bool, true, false, _||_}
-use mathlib.Core.List.{List, [], _∷_, _++_}
+use mathlib.Core.List.{List, _∷_, _++_}
 use Prim.Native.Nat.{ℕ, _+_, _-_, _*_, _^_, _≤_, _<_}
 use native.Mathlib.Omega.{arith}
 use lib.ListN.{length, getD, take, drop, replicate}
@@ -10,7 +10,7 @@ use borrow.Author.Tests.{le-leb, lt-leb, lt-ltb, le-ltb, ltb-false, leb-false}
 use Rattle.lists.specs.Pick.{pick}
 use Rattle.heap.specs.declared.fault.Fault.{Fault}
 use Rattle.model.specs.Program.{Setup, func}
-use Rattle.model.specs.World.{World, After, after, withStack, withFrames}
+use Rattle.model.specs.World.{World, after, withStack, withFrames}
 use Rattle.model.specs.Frames.{frame, popTo}
 use Rattle.model.specs.Machine.{pushFrame}
 use Rattle.model.specs.Sound.{sound}
@@ -27,7 +27,7 @@ use Rattle.tables.proofs.Parts.{run-grow}
 use Rattle.tables.proofs.Decode.{top-frame}
 use Rattle.lists.proofs.Tables.{chunk-get}
 use Rattle.tables.proofs.Setups.{functions-in, regs-in}
-use Rattle.memory.specs.Memory.{Lent, Rep, Room, Does, onStack, onFrames, onSetup}
+use Rattle.memory.specs.Memory.{Lent, Rep, Room, Does, onStack, onFrames}
 use Rattle.memory.specs.Numbers.{withHeight, withDepth}
 use Rattle.memory.specs.declared.machine.Machine.{Machine}
 use Rattle.memory.specs.declared.machine.Sizes.{Sizes}

@@ -1,11 +1,11 @@
 -- Cleared words, a set-up's words and its function objects stand for its fresh world. Assumes nothing.
 use mathlib.Core.Path.{_≡_, refl, sym, ap, ap₂, _∙_, subst}
 use mathlib.Core.List.{List, [], _∷_, _++_, append-nil}
-use Prim.Native.Nat.{ℕ, zero, suc, _+_, _-_, _*_, _≤_, _<_}
+use Prim.Native.Nat.{ℕ, zero, suc, _+_, _-_, _*_, _≤_}
 use native.Mathlib.Omega.{arith}
 use native.Mathlib.Numerals.{add-one}
 use native.Mathlib.Nat.{suc-mul, zero-mul, sub-zero}
-use lib.ListN.{length, getD, take, drop, replicate, length-replicate, length-append, drop-of-length-le}
+use lib.ListN.{length, getD, take, replicate, length-replicate, drop-of-length-le}
 use lib.Seq.{take-at}
 use Rattle.lists.specs.Pick.{pick-false}
 use Rattle.lists.specs.Chunks.{words}
@@ -16,12 +16,12 @@ use Rattle.heap.specs.declared.object.Object as H
 use Rattle.heap.specs.declared.object.Object.the-variants as O
 use Rattle.model.specs.Program.{Func, Setup}
 use Rattle.model.specs.Sound.{rowWords}
-use Rattle.model.specs.World.{World, fresh, functionObjects}
+use Rattle.model.specs.World.{fresh, functionObjects}
 use Rattle.tables.specs.Parts.{Run, Piled, Rows, inRow, upward}
 use Rattle.tables.specs.Layout.{frameWords, activeWords}
 use Rattle.tables.specs.Sizes.{setupWords, framesSize}
 use Rattle.tables.proofs.Padded.{zeros-split, length-pad}
-use Rattle.tables.proofs.Parts.{run-of, piled-of}
+use Rattle.tables.proofs.Parts.{run-of}
 use Rattle.tables.proofs.Setups.{functions-count}
 use Rattle.tables.proofs.Rowed.{rows-of}
 use Rattle.memory.specs.Rows.{noRow, rowAt}

@@ -1,7 +1,7 @@
 -- What the rows hold after a slot is replaced or added: each row has one owner, so only its own row changes. Assumes nothing.
-use mathlib.Core.Path.{_≡_, refl, sym, ap, ap₂, _∙_}
+use mathlib.Core.Path.{_≡_, refl, sym, ap, _∙_}
 use mathlib.Core.Bool.{Bool, true, false, not, _&&_, _||_}
-use mathlib.Core.List.{List, [], _∷_, _++_}
+use mathlib.Core.List.{List, [], _∷_}
 use Prim.Native.Nat.{ℕ, zero, suc, _<_}
 use native.Mathlib.Omega.{arith}
 use native.Mathlib.Nat.{le-of-suc-le-suc}
@@ -13,10 +13,10 @@ use Rattle.lists.proofs.Tests.{and-left, and-right}
 use Rattle.heap.specs.Table.{Slot, slot, pushObject}
 use Rattle.model.specs.Lists.{among, distinct}
 use Rattle.model.specs.State.{isFinished}
-use Rattle.model.specs.Object.{Core, Rest, Object, Coroutine, Absent, Is, asCoro}
+use Rattle.model.specs.Object.{Object, Coroutine, Absent, Is, asCoro}
 use Rattle.model.specs.Rows.{heldBy, heldRows}
 use Rattle.invariant.proofs.Tests.{no-false, no-true}
-use Rattle.memory.specs.Rows.{Row, noRow, rowOf, owns, savedBy, rowAt}
+use Rattle.memory.specs.Rows.{noRow, owns, savedBy, rowAt}
 
 -- ---- who owns a row that is not among those held
 

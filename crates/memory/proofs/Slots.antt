@@ -1,25 +1,20 @@
 -- Lookups, replacements and additions in the lower crate's slots are those of the world. Assumes nothing.
-use mathlib.Core.Path.{_≡_, refl, sym, ap, ap₂, _∙_}
-use mathlib.Core.Bool.{Bool, true, false, _&&_}
-use mathlib.Core.List.{List, [], _∷_, _++_, map}
+use mathlib.Core.Path.{_≡_, refl, sym, ap, _∙_}
+use mathlib.Core.Bool.{Bool}
+use mathlib.Core.List.{List, [], _∷_}
 use Prim.Native.Nat.{ℕ, zero, suc}
-use lib.ListN.{length, getD, set, length-map}
-use lib.Dec.{ltb, eqb}
+use lib.ListN.{getD, set, length-map}
 use Rattle.lists.specs.Pick.{pick}
-use Rattle.heap.specs.Word.{slotOf, tagOf, classOf}
+use Rattle.heap.specs.Word.{slotOf, classOf}
 use Rattle.heap.specs.Object as HO
-use Rattle.heap.specs.Table.{Slot, slot, slotAt, names, getIn, get, notA, putObject, pushObject}
+use Rattle.heap.specs.Table.{Slot, slot, slotAt, names, getIn, get, putObject, pushObject}
 use Rattle.heap.specs.Heap.{asCoro, coroBy, coroOf}
 use Rattle.heap.specs.declared.value.Class.{Class}
 use Rattle.heap.specs.declared.heap.Place.{Place}
-use Rattle.heap.specs.declared.heap.Coroutine as R
 use Rattle.heap.specs.declared.heap.Coroutine.the-variants as RV
-use Rattle.heap.specs.declared.fault.Fault.{Fault}
 use Rattle.heap.specs.declared.object.Object as H
 use Rattle.heap.specs.declared.object.Object.the-variants as O
-use Rattle.model.specs.Object.{Core, Rest, Object, isFilled, Coroutine, Absent, Is}
-use Rattle.model.specs.Object as M
-use Rattle.model.specs.Heap.{objectAt}
+use Rattle.model.specs.Object.{Core, Rest, Object, isFilled}
 use Rattle.memory.specs.Slots.{toCoro, toObject, toSlot, toSlots}
 
 -- ---- a table whose objects are changed one by one

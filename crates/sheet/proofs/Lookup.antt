@@ -1,11 +1,11 @@
 -- A coroutine's word after its object is replaced; what a sound machine saves of a resumable one.
-use Prim.Native.Nat.{ℕ, zero, suc, _<_}
+use Prim.Native.Nat.{ℕ, zero, suc}
 use mathlib.Core.Path.{_≡_, refl, sym, ap, subst, _∙_}
 use mathlib.Core.Bool.{Bool, true, false, _&&_, true≢false, false≢true}
 use mathlib.Core.List.{List, [], _∷_, map, _++_}
 use lib.ListN.{length, getD, set, length-set}
 use lib.Seq.{getD-set-same, set-set}
-use lib.Dec.{eqb, ltb, ltb→lt, T}
+use lib.Dec.{eqb, ltb}
 use Rattle.lists.specs.Pick.{pick, pick-true}
 use Rattle.heap.specs.Word.{slotOf, tagOf, classOf}
 use Rattle.heap.specs.Table.{Slot, slot, names, getIn, putObject}

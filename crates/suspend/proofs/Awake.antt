@@ -2,7 +2,7 @@
 use mathlib.Core.Path.{_≡_, refl, sym, ap, _∙_, subst}
 use mathlib.Core.Bool.{true, false, not}
 use mathlib.Core.List.{List, [], _∷_}
-use Prim.Native.Nat.{ℕ, _+_, _-_, _*_, _^_, _≤_, _<_}
+use Prim.Native.Nat.{ℕ, _+_, _-_, _*_, _^_, _<_}
 use native.Mathlib.Omega.{arith}
 use lib.ListN.{length, getD, take, length-take}
 use lib.Dec.{ltb, leb}
@@ -14,7 +14,7 @@ use Rattle.model.specs.Lists.{each}
 use Rattle.model.specs.Program.{Setup, isFunction}
 use Rattle.model.specs.Object.{Coroutine, Absent, Is}
 use Rattle.model.specs.World.{World, After}
-use Rattle.model.specs.Frames.{below, baseAt}
+use Rattle.model.specs.Frames.{baseAt}
 use Rattle.model.specs.Heap.{coro, fits}
 use Rattle.model.specs.Coro.{saved, growth, suspendAs, suspendOn, coroSuspend}
 use Rattle.model.specs.Sound.{sound, frameNames, liesUnder, driverLies}
@@ -32,7 +32,7 @@ use Rattle.invariant.proofs.Sound.{Sound, sound→}
 use Rattle.tables.specs.Parts.{Frames}
 use Rattle.tables.proofs.Decode.{top-frame}
 use Rattle.tables.proofs.Doing.{reg-fits}
-use Rattle.memory.specs.Memory.{Lent, Rep, Does}
+use Rattle.memory.specs.Memory.{Lent, Rep}
 use Rattle.memory.specs.declared.machine.Machine.{Machine}
 use Rattle.memory.specs.declared.machine.Sizes.{Sizes}
 use Rattle.coro.specs.Send.{SendFits}

@@ -2,7 +2,7 @@
 use mathlib.Core.Path.{_≡_, refl, subst}
 use Prim.Native.Nat.{ℕ}
 use Rattle.heap.specs.Word.{nil}
-use Rattle.model.specs.World.{World, fresh}
+use Rattle.model.specs.World.{fresh}
 use Rattle.model.specs.Frames.{reg, putReg}
 use Rattle.model.specs.Machine.{pushFrame}
 use Rattle.model.specs.Exec.{coroNew, yield, resume}

@@ -1,6 +1,6 @@
 -- Every sound world has its words. Assumes nothing.
 use mathlib.Core.Path.{_≡_, refl, sym, ap, _∙_, subst}
-use mathlib.Core.Bool.{Bool, true, false}
+use mathlib.Core.Bool.{true, false}
 use mathlib.Core.List.{List, []}
 use Prim.Native.Nat.{ℕ, _+_, _-_, _*_, _≤_}
 use native.Mathlib.Omega.{arith}
@@ -18,7 +18,6 @@ use Rattle.model.specs.Program.{Setup, noFunc, setupOk}
 use Rattle.model.specs.World.{World, fresh}
 use Rattle.model.specs.Sound.{rowWords, sound}
 use Rattle.model.specs.Example.{example}
-use Rattle.model.specs.declared.machine.Frame.{Frame}
 use Rattle.invariant.proofs.Tests.{no-false}
 use Rattle.invariant.proofs.Stand.{chained}
 use Rattle.invariant.proofs.Sound.{Sound, sound→, →sound}

@@ -1,21 +1,18 @@
 -- A suspension and its delivery on the world. Assumes nothing.
-use mathlib.Core.Path.{_≡_, refl, sym, ap, ap₂, _∙_, subst}
+use mathlib.Core.Path.{_≡_, refl, sym, ap, _∙_, subst}
 use mathlib.Core.Bool.{Bool, true, false}
-use mathlib.Core.List.{List, [], _∷_}
-use Prim.Native.Nat.{ℕ, _+_, _-_, _*_, _^_, _≤_, _<_}
+use Prim.Native.Nat.{ℕ, _-_, _≤_}
 use native.Mathlib.Omega.{arith}
-use lib.ListN.{length}
-use lib.Dec.{eqb}
 use borrow.Author.Tests.{eq-eqb, ne-eqb}
 use Rattle.lists.specs.Pick.{pick, pick-true, pick-false}
 use Rattle.heap.specs.Fault.{numberOf}
 use Rattle.heap.specs.declared.fault.Fault.{Fault}
 use Rattle.heap.specs.declared.object.CoroState.{CoroState}
-use Rattle.model.specs.World.{World, After, after, andThen}
+use Rattle.model.specs.World.{World, after}
 use Rattle.model.specs.Frames.{storePc}
 use Rattle.model.specs.Machine.{isOk}
 use Rattle.model.specs.Coro.{coroSuspend, deliver}
-use Rattle.model.specs.Exec.{delivered, deliverAll, suspend}
+use Rattle.model.specs.Exec.{deliverAll, suspend}
 use Rattle.model.specs.Sound.{sound}
 use Rattle.model.specs.declared.coro.Event.{Event}
 use Rattle.model.specs.declared.coro.Keys.{Keys}

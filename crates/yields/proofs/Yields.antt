@@ -1,10 +1,10 @@
 -- Yield, YieldKv and Await on the world. Assumes nothing.
 use mathlib.Core.Path.{_≡_, refl, sym, ap, ap₂, _∙_, subst}
-use mathlib.Core.Bool.{Bool, true, false, not}
+use mathlib.Core.Bool.{true, false, not}
 use mathlib.Core.List.{List, [], _∷_}
-use Prim.Native.Nat.{ℕ, zero, suc, _+_, _-_, _*_, _^_, _≤_, _<_}
+use Prim.Native.Nat.{ℕ, zero, suc, _-_, _^_, _≤_, _<_}
 use native.Mathlib.Omega.{arith}
-use lib.ListN.{length, getD}
+use lib.ListN.{length}
 use Rattle.heap.specs.Heap as HH
 use Rattle.heap.specs.declared.fault.Fault.{Fault}
 use Rattle.heap.specs.declared.object.CoroState.{CoroState}
@@ -25,12 +25,12 @@ use Rattle.model.specs.declared.exec.Step.{Step}
 use Rattle.model.specs.declared.machine.Active.{Active}
 use Rattle.model.specs.declared.machine.Fuel.{Fuel}
 use Rattle.invariant.proofs.Tests.{no-false, picked}
-use Rattle.invariant.proofs.Sound.{Sound, sound→, →sound, facts}
+use Rattle.invariant.proofs.Sound.{sound→, →sound, facts}
 use Rattle.invariant.proofs.Exec.{auto-good}
 use Rattle.tables.specs.Layout.{activeIn}
 use Rattle.tables.specs.Parts.{Chain}
 use Rattle.tables.proofs.Decode.{top-active}
-use Rattle.memory.specs.Memory.{Lent, Beside, Rep, Room, Ok, Does, lent, onSlots}
+use Rattle.memory.specs.Memory.{Lent, Rep, Room, Ok, Does, lent}
 use Rattle.memory.specs.declared.machine.Machine.{Machine}
 use Rattle.memory.specs.declared.machine.Sizes.{Sizes}
 use Rattle.coro.proofs.Entry.{does}

@@ -1,17 +1,12 @@
 use Prim.Native.Nat.{_≤_, _<_, _-_, _+_}
-use mathlib.Core.Path.{_≡_, refl, sym, ap, _∙_}
+use mathlib.Core.Path.{_≡_, refl, _∙_}
 use mathlib.Core.List.{_++_}
-use native.Mathlib.Omega.{arith}
 use borrow.Author.Needs.{needs}
-use lib.ListN.{length, take, drop, replicate, length-set}
-use lib.Seq.{take-all}
-use lib.ListN.{drop-of-length-le}
+use lib.ListN.{length, drop, replicate, length-set}
 use borrow.Author.Fill.{fill-more}
-use Rattle.lists.proofs.Runs.{copy-more, copy-all, fill-all}
+use Rattle.lists.proofs.Runs.{fill-all}
 use Rattle.lists.proofs.clear_words.Statement.{statement}
 use Rattle.lists.proofs.clear_words.Tie as tie
-use Rattle.lists.proofs.clear_words.Reads as reads
-use Rattle.lists.proofs.clear_words.Lts as lts
 
 abbrev Inv-loop : tie.InvT-loop
 Inv-loop s₀ i₀ s i = (i ≤ length s₀) × (length s ≡ length s₀) × (s ≡ replicate i 0 ++ drop i s₀)

@@ -1,17 +1,11 @@
 use Prim.Native.Nat.{_≤_, _<_, _-_, _+_}
-use mathlib.Core.Path.{_≡_, refl, sym, ap, _∙_}
+use mathlib.Core.Path.{_≡_, refl, _∙_}
 use mathlib.Core.List.{_++_}
-use native.Mathlib.Omega.{arith}
 use borrow.Author.Needs.{needs}
-use lib.ListN.{length, take, drop, replicate, length-set}
-use lib.Seq.{take-all}
-use lib.ListN.{drop-of-length-le}
-use borrow.Author.Fill.{fill-more}
-use Rattle.lists.proofs.Runs.{copy-more, copy-all, fill-all}
+use lib.ListN.{length, take, drop, length-set}
+use Rattle.lists.proofs.Runs.{copy-more, copy-all}
 use Rattle.lists.proofs.copy_words.Statement.{statement}
 use Rattle.lists.proofs.copy_words.Tie as tie
-use Rattle.lists.proofs.copy_words.Reads as reads
-use Rattle.lists.proofs.copy_words.Lts as lts
 
 abbrev Inv-loop : tie.InvT-loop
 Inv-loop dst₀ src i₀ dst i = (i ≤ length dst₀) × (length dst ≡ length dst₀) × (dst ≡ take i src ++ drop i dst₀)

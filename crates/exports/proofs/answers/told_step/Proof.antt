@@ -1,5 +1,5 @@
 -- `told_step` meets its contract, by cases of the step. Assumes nothing.
-use mathlib.Core.Path.{sym, ap, _∙_}
+use mathlib.Core.Path.{sym, ap}
 use Rattle.exports.specs.Words.{stepWords}
 use borrow.Author.Needs.{needs}
 use Rattle.exports.proofs.answers.told_step.Statement.{statement}

@@ -1,6 +1,5 @@
 -- `alloc` meets its contract: refused by what is lacking, or put into the next slot. Assumes nothing.
-use mathlib.Core.Path.{_≡_, ap, sym, _∙_}
-use Prim.Native.Nat.{ℕ, _+_, _<_, _≤_}
+use mathlib.Core.Path.{sym, _∙_}
 use native.Mathlib.Omega.{arith}
 use borrow.Author.Tests.{not-true, not-false}
 use Rattle.heap.proofs.Charges.{slot-left, slot-words, refused, done}

@@ -1,7 +1,5 @@
 -- `dyn_int` meets its contract, by the word's class and what it names. Assumes nothing.
-use mathlib.Core.Path.{_≡_, ap, sym, _∙_}
-use mathlib.Core.List.{List}
-use Prim.Native.Nat.{ℕ}
+use mathlib.Core.Path.{ap, sym, _∙_}
 use Rattle.heap.specs.Object.{isFilled, intOf}
 use Rattle.heap.specs.Table.{get, dynIntAt, dynIntBy}
 use Rattle.heap.specs.Heap.{slotsOf}

@@ -1,5 +1,5 @@
 -- `encode_int` meets its contract. Assumes nothing.
-use mathlib.Core.Path.{_≡_, ap, sym, _∙_}
+use mathlib.Core.Path.{ap, sym, _∙_}
 use Rattle.heap.specs.Heap.{encodeBy}
 use Rattle.heap.specs.declared.int.Inline.{Inline}
 use borrow.Author.Needs.{needs}

@@ -1,18 +1,15 @@
 -- `get` meets its contract: the tests are those of the definition, on the slot that the word numbers. Assumes nothing.
 use mathlib.Core.Path.{_≡_, refl, sym, ap, _∙_}
-use mathlib.Core.Bool.{Bool}
 use mathlib.Core.List.{List, [], _∷_}
 use Prim.Native.Nat.{ℕ}
 use types.Run.{OneOf, miss}
 use denote.Enum.Declared.{tagOf}
 use Rattle.lists.specs.Pick.{pick}
-use Rattle.heap.specs.Word.{classOf}
 use Rattle.heap.specs.Object.{isFilled}
-use Rattle.heap.specs.Table.{Slot, getIn}
+use Rattle.heap.specs.Table.{getIn}
 use Rattle.heap.specs.Heap.{slotsOf}
 use Rattle.heap.specs.declared.value.Class.{Class}
 use Rattle.heap.specs.declared.value.Class.the-variants as C
-use Rattle.heap.specs.declared.object.Object.{Object}
 use Rattle.heap.specs.declared.object.Object.the-variants as O
 use Rattle.heap.specs.declared.heap.Place.{Place}
 use Rattle.heap.specs.declared.heap.Place.the-variants as P

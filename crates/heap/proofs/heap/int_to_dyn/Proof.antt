@@ -1,5 +1,5 @@
 -- `int_to_dyn` meets its contract. Assumes nothing.
-use mathlib.Core.Path.{_≡_, ap, sym, _∙_}
+use mathlib.Core.Path.{ap, sym, _∙_}
 use Rattle.heap.specs.Heap.{intBy}
 use Rattle.heap.specs.declared.int.Exact.{Exact}
 use borrow.Author.Needs.{needs}

@@ -1,11 +1,10 @@
 -- `not_a` meets its contract, by the word's class. Assumes nothing.
-use mathlib.Core.Path.{_≡_, ap, ap₂, sym, _∙_}
+use mathlib.Core.Path.{ap, ap₂, sym, _∙_}
 use Rattle.heap.specs.Object.{isFilled}
 use Rattle.heap.specs.Table.{get, notA}
 use Rattle.heap.specs.Heap.{slotsOf}
 use Rattle.heap.specs.declared.value.Class.{Class}
 use Rattle.heap.specs.declared.object.Object.the-variants.{Empty}
-use Rattle.heap.specs.declared.heap.Place.{Place}
 use borrow.Author.Needs.{needs}
 use Rattle.heap.proofs.heap.not_a.Statement.{statement}
 use Rattle.heap.proofs.heap.not_a.Tie as tie

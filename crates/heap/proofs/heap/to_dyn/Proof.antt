@@ -1,5 +1,5 @@
 -- `to_dyn` meets its contract, by the kind of the result. Assumes nothing.
-use mathlib.Core.Path.{_≡_, ap, sym, _∙_}
+use mathlib.Core.Path.{ap, sym, _∙_}
 use Prim.Native.Nat.{ℕ}
 use Rattle.heap.specs.Heap.{out, toDyn}
 use Rattle.heap.specs.declared.heap.ResultKind.{ResultKind}

@@ -1,5 +1,4 @@
 -- `overflows` meets its contract. Assumes nothing.
-use native.Mathlib.Omega.{arith}
 use Rattle.machine.proofs.Frames.{too-deep, too-wide, room-left}
 use borrow.Author.Needs.{needs}
 use Rattle.machine.proofs.frame.overflows.Statement.{statement}

@@ -1,8 +1,5 @@
 -- `pop` meets its contract. Assumes nothing.
-use mathlib.Core.Path.{_≡_, refl, ap, _∙_, subst}
-use mathlib.Core.List.{List, _∷_}
-use Prim.Native.Nat.{ℕ}
-use Rattle.model.specs.declared.machine.Frame.{Frame}
+use mathlib.Core.Path.{subst}
 use Rattle.tables.specs.Parts.{Frames}
 use Rattle.memory.specs.Memory.{onStack, onFrames}
 use Rattle.machine.proofs.Frames.{pop-rep, top-base}

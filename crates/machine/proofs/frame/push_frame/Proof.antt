@@ -1,6 +1,5 @@
 -- `push_frame` meets its contract, refused or done. Assumes nothing.
-use mathlib.Core.Path.{_≡_, sym, ap, _∙_, subst}
-use mathlib.Core.Bool.{true, false}
+use mathlib.Core.Path.{sym, ap, _∙_, subst}
 use Rattle.model.specs.declared.coro.Made.{Made}
 use Rattle.memory.specs.Memory.{Lent, Beside, Does, onStack, onFrames, onSetup}
 use Prim.Native.Nat.{_+_, _^_, _<_}

@@ -1,8 +1,7 @@
 -- `function_objects` meets its contract: after i turns the objects of i functions stand there. Assumes nothing.
-use Prim.Native.Nat.{_+_, _-_, _*_, _≤_}
-use mathlib.Core.Path.{_≡_, refl, sym, ap, _∙_, subst}
+use Prim.Native.Nat.{_-_, _≤_}
+use mathlib.Core.Path.{_≡_, refl, _∙_, subst}
 use native.Mathlib.Omega.{arith}
-use native.Mathlib.Numerals.{add-one}
 use lib.ListN.{length}
 use Rattle.memory.specs.Memory.{Slots}
 use Rattle.machine.specs.Setup.{functionSlots}

@@ -1,9 +1,5 @@
 -- `put_setup` meets its contract: the whole slice is one row. Assumes nothing.
-use mathlib.Core.Path.{_≡_, refl, sym, ap, _∙_}
-use Prim.Native.Nat.{ℕ, _≤_}
-use mathlib.Core.List.{List, []}
-use lib.ListN.{length}
-use native.Mathlib.Omega.{arith}
+use mathlib.Core.Path.{_∙_}
 use Rattle.machine.proofs.Fresh.{whole-row}
 use borrow.Author.Needs.{needs}
 use Rattle.machine.proofs.setup.put_setup.Statement.{statement}

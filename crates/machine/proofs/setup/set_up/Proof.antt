@@ -1,10 +1,7 @@
 -- `set_up` meets its contract. Assumes nothing.
-use mathlib.Core.Path.{_≡_, refl, sym, ap, _∙_, subst}
-use Prim.Native.Nat.{ℕ}
-use lib.ListN.{length, getD}
+use mathlib.Core.Path.{refl, sym, ap, _∙_}
+use lib.ListN.{length}
 use Rattle.lists.specs.Parts.{pad}
-use Rattle.model.specs.World.{fresh}
-use Rattle.memory.specs.Memory.{Rep}
 use Rattle.machine.proofs.Fresh.{set-up-rep}
 use borrow.Author.Needs.{needs}
 use Rattle.machine.proofs.setup.set_up.Statement.{statement}

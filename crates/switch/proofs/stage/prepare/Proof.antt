@@ -1,6 +1,5 @@
 -- `prepare` leads from the fresh world to the one with a coroutine. Assumes nothing.
 use mathlib.Core.Path.{refl, _∙_}
-use Prim.Native.Nat.{_≤_}
 use native.Mathlib.Omega.{arith}
 use Rattle.heap.specs.Word.{nil}
 use Rattle.model.specs.World.{fresh}

@@ -1,6 +1,5 @@
 -- `wake` leads from the sleeping script to the script, woken at another height. Assumes nothing.
 use mathlib.Core.Path.{refl, _∙_}
-use Prim.Native.Nat.{_≤_}
 use native.Mathlib.Omega.{arith}
 use Rattle.heap.specs.Word.{nil}
 use Rattle.model.specs.Machine.{pushFrame}

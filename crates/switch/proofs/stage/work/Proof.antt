@@ -1,7 +1,6 @@
 -- `work` leads from the new coroutine to the script asleep. Assumes nothing.
 use Prim.{tt}
 use mathlib.Core.Path.{refl, _∙_}
-use Prim.Native.Nat.{_≤_}
 use native.Mathlib.Omega.{arith}
 use Rattle.model.specs.Exec.{yield, resume}
 use Rattle.memory.specs.Memory.{Lent, Beside, lent}

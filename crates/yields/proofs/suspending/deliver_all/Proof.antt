@@ -1,6 +1,4 @@
 -- `deliver_all` meets its contract, arm by arm. Assumes nothing.
-use Rattle.model.specs.Exec.{deliverAll}
-use Rattle.memory.specs.Leaves.{lentThree}
 use Rattle.yields.proofs.Settled.{deliver-done, deliver-refused}
 use borrow.Author.Needs.{needs}
 use Rattle.yields.proofs.suspending.deliver_all.Statement.{statement}

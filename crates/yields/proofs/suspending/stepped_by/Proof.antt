@@ -1,5 +1,5 @@
 -- `stepped_by` meets its contract. Assumes nothing.
-use mathlib.Core.Path.{_≡_, sym, _∙_}
+use mathlib.Core.Path.{sym, _∙_}
 use Rattle.yields.proofs.Settled.{frame-step, unwind-step}
 use borrow.Author.Needs.{needs}
 use Rattle.yields.proofs.suspending.stepped_by.Statement.{statement}

@@ -1,9 +1,8 @@
 -- `suspend` meets the model: a pc stored, a suspension, a delivery. Assumes nothing.
-use mathlib.Core.Path.{_≡_, sym, _∙_}
-use Prim.Native.Nat.{ℕ}
+use mathlib.Core.Path.{_∙_}
 use Rattle.model.specs.Frames.{storePc}
 use Rattle.model.specs.Coro.{coroSuspend}
-use Rattle.memory.specs.Memory.{Lent, Beside, lent, Ok}
+use Rattle.memory.specs.Memory.{Lent, Beside, lent}
 use Rattle.coro.proofs.Lands.{store-sounds}
 use Rattle.coro.proofs.Stored.{stored-ok}
 use Rattle.yields.proofs.Settled.{drives, suspended, framed}

@@ -1,5 +1,5 @@
 -- `coro_yield` meets the model: none runs, or a key is made and the innermost one suspends. Assumes nothing.
-use mathlib.Core.Path.{refl, ap, _∙_}
+use mathlib.Core.Path.{ap, _∙_}
 use native.Mathlib.Omega.{arith}
 use Rattle.model.specs.Exec.{autoKey}
 use Rattle.memory.specs.Memory.{Lent, Beside, lent}

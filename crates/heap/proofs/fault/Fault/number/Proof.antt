@@ -1,8 +1,6 @@
 use borrow.Author.Needs.{needs}
 use Rattle.heap.proofs.fault.Fault.number.Statement.{statement}
 use Rattle.heap.proofs.fault.Fault.number.Tie as tie
-use Rattle.heap.proofs.fault.Fault.number.Reads as reads
-use Rattle.heap.proofs.fault.Fault.number.Lts as lts
 
 enum-told : tie.Need-enum-told
 enum-told c = search needs

@@ -1,5 +1,5 @@
 -- `Heap::charge` meets its contract. Assumes nothing.
-use mathlib.Core.Path.{_≡_, sym, _∙_}
+use mathlib.Core.Path.{sym, _∙_}
 use Rattle.lists.specs.Pick.{pick}
 use borrow.Author.Needs.{needs}
 use Rattle.heap.proofs.heap.Heap.charge.Statement.{statement}

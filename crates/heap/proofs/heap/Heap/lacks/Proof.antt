@@ -1,5 +1,5 @@
 -- `Heap::lacks` meets its contract: memory is tested before slots. Assumes nothing.
-use mathlib.Core.Path.{_≡_, sym, _∙_}
+use mathlib.Core.Path.{sym, _∙_}
 use borrow.Author.Tests.{lt-ltb, le-ltb}
 use Rattle.lists.specs.Pick.{pick}
 use borrow.Author.Needs.{needs}

@@ -2,8 +2,6 @@ use borrow.Author.Tests.{ne-eqb}
 use Rattle.lists.specs.Pick.{pick}
 use Rattle.heap.proofs.object.CoroState.of_code.Statement.{statement}
 use Rattle.heap.proofs.object.CoroState.of_code.Tie as tie
-use Rattle.heap.proofs.object.CoroState.of_code.Reads as reads
-use Rattle.heap.proofs.object.CoroState.of_code.Lts as lts
 
 returns : tie.Need-returns
 unfolding pick

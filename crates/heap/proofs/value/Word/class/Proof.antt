@@ -1,14 +1,12 @@
 -- `Word::class` meets its contract: the tests are those of `classOf`, and 48 bits are widened to 64. Assumes nothing.
-use mathlib.Core.Path.{_≡_, refl, ap, _∙_}
+use mathlib.Core.Path.{_≡_, ap}
 use Prim.Native.Nat.{ℕ, _+_, _/_, _%_, _≤_, _<_, _^_}
 use native.Mathlib.Omega.{arith}
 use borrow.Author.Needs.{needs}
 use borrow.Author.Tests.{eq-eqb, ne-eqb}
-use lib.Dec.{eqb}
 use Rattle.lists.specs.Pick.{pick}
 use Rattle.heap.specs.Coding.{bitsOf, ofBits}
 use Rattle.heap.specs.Word.{classOf}
-use Rattle.heap.specs.declared.value.Class.{Class}
 use Rattle.heap.specs.declared.value.Class.the-variants as C
 use Rattle.heap.proofs.Coding.{low, high}
 use Rattle.heap.proofs.value.Word.class.Statement.{statement}
