@@ -5,7 +5,7 @@ use mathlib.Core.List.{List, [], _∷_, _++_, map}
 use Prim.Native.Nat.{ℕ, zero, suc, _+_, _-_, _*_, _^_, _≤_, _<_}
 use native.Mathlib.Omega.{arith}
 use native.Mathlib.Nat.{not-suc-le-zero, le-of-suc-le-suc}
-use lib.ListN.{length, getD, set}
+use lib.ListN.{length, getD, set, length-map}
 use lib.Dec.{eqb, ltb, leb}
 use borrow.Author.Tests.{leb-true, ltb-false, not-false, ne-eqb}
 use Rattle.lists.specs.Pick.{pick, pick-true}
@@ -49,7 +49,7 @@ use Rattle.tables.specs.Sizes.{framesSize}
 use Rattle.tables.proofs.Codes.{length-frame}
 use Rattle.tables.proofs.Parts.{length-upward}
 use Rattle.tables.proofs.Fits.{row-inside, enter-fits}
-use Rattle.memory.specs.Slots.{toSlots}
+use Rattle.memory.specs.Slots.{toSlot, toSlots}
 use Rattle.memory.specs.Memory.{Lent, Slots, Rep, Room, Does, regsRows, framesRows}
 use Rattle.memory.specs.Rows.{rowAt}
 use Rattle.memory.specs.declared.machine.Machine.{Machine}
@@ -191,17 +191,13 @@ module _ (l : Sizes) (M : Lent) (m : Machine) (f : Fuel) (v : ℕ) (w : World) (
           let e₂ = rep .stack .count in
           let e₃ = rep .chain .count in
           let e₄ = rep .slots .count in
-          let e₅ : length (toSlots (w .slots)) ≡ length (w .slots) = length-toSlots (w .slots) in
+          let e₅ : length (toSlots (w .slots)) ≡ length (w .slots) = length-map (w .slots) toSlot in
           let z₁ = rep .sizes .depth in
           let z₂ = rep .sizes .stack in
           let p = points .inside in
           let q = in-world .slot in
           let ch = chained (known .tower .stands) in
           record { depth = omega arith; height = omega arith; below = omega arith; active = omega arith }
-        where
-          length-toSlots : (xs : List (Slot Object)) → length (toSlots xs) ≡ length xs
-          length-toSlots [] = refl
-          length-toSlots (x ∷ xs) = ap suc (length-toSlots xs)
 
       -- what is known when nothing is refused
       module _ (g : Fault) (told : g ≡ refusalOf (m .height) (m .depth) l c) (none : numberOf g ≡ 0) where

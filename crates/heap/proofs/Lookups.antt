@@ -1,5 +1,5 @@
 -- What a lookup says of the slots. Assumes nothing.
-use mathlib.Core.Path.{_≡_, refl, sym, ap}
+use mathlib.Core.Path.{_≡_, refl, sym, ap, _∙_}
 use mathlib.Core.Bool.{Bool, true, false, _&&_}
 use mathlib.Core.List.{List}
 use Prim.Native.Nat.{ℕ, _+_, _*_, _≤_, _<_}
@@ -14,7 +14,7 @@ use Rattle.heap.specs.Word.{slotOf, tagOf, classOf}
 use Rattle.heap.specs.Object.{isFilled}
 use Rattle.heap.specs.Table.{Slot, slot, slotAt, names, getIn, get}
 use Rattle.heap.specs.Slot.{width, slotOfWords}
-use Rattle.heap.specs.Heap.{slotIn, slotsOf}
+use Rattle.heap.specs.Heap.{slotIn, slotsOf, asCoro, coroBy, coroOf}
 use Rattle.heap.specs.declared.value.Obj.{Obj}
 use Rattle.heap.specs.declared.object.Object.{Object}
 use Rattle.heap.specs.declared.object.Object.the-variants as O
@@ -75,3 +75,7 @@ module _ (n : ℕ) (ws : List ℕ) (w i : ℕ) (found : P.At i ≡ get O.Empty i
 
   pub found-object : slotIn ws i .object ≡ slotAt O.Empty isFilled (slotsOf n ws) i .object
   found-object = ap (λ (v : Slot Object). v .object) (sym (chunks-at width slotOfWords n i ws (slot 0 O.Empty) found-below))
+
+  -- as a coroutine
+  pub found-coro : asCoro i (slotIn ws i .object) ≡ coroOf (slotsOf n ws) w
+  found-coro = ap (asCoro i) found-object ∙ ap (coroBy (slotsOf n ws) w) found

@@ -13,14 +13,13 @@ use Rattle.heap.specs.Table.{get}
 use Rattle.heap.specs.Slot.{coroAt, objectAt}
 use Rattle.heap.specs.Heap.{slotsOf, asCoro, coroBy, placeOf, coroOf}
 use Rattle.heap.specs.declared.fault.Fault.{Fault}
-use Rattle.heap.specs.declared.object.Object.{Object}
 use Rattle.heap.specs.declared.object.Object.the-variants as O
 use Rattle.heap.specs.declared.heap.Place.{Place}
 use Rattle.heap.specs.declared.heap.Place.the-variants as P
 use Rattle.heap.specs.declared.heap.Coroutine.{Coroutine}
 use Rattle.heap.specs.declared.heap.Coroutine.the-variants as R
 use Rattle.heap.specs.declared.heap.CoroPlace.the-variants as L
-use Rattle.heap.proofs.Lookups.{found-words, found-object}
+use Rattle.heap.proofs.Lookups.{found-words, found-coro}
 use Rattle.heap.proofs.Slots.{coro-kind, other-kind}
 
 -- no coroutine
@@ -46,11 +45,10 @@ module _ (n : ℕ) (ws : List ℕ) (w i : ℕ) (at : L.At i ≡ placeOf (coroOf 
   by-place : (p : Place) → p ≡ get O.Empty isFilled (slotsOf n ws) w → L.At i ≡ placeOf (coroBy (slotsOf n ws) w p) → Stands
   by-place P.Nothing q e = never cc
   by-place (P.At j) q e =
-      let o = found-object n ws w j q in
-      let z = by-kind j (eqb (getD (here j) 1 0) 6) refl (e ∙ ap (λ (x : Object). placeOf (asCoro j x)) (sym o)) in
+      let z = by-kind j (eqb (getD (here j) 1 0) 6) refl (at ∙ ap placeOf (sym (found-coro n ws w j q))) in
       record {
         place = ap P.At (z .0) ∙ q;
-        coro = ap (λ k. R.At k (coroAt (here k))) (z .0) ∙ z .1 ∙ ap (asCoro j) o ∙ ap (coroBy (slotsOf n ws) w) q;
+        coro = ap (λ k. R.At k (coroAt (here k))) (z .0) ∙ z .1 ∙ found-coro n ws w j q;
       }
 
   pub stands : Stands

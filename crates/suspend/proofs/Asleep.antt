@@ -43,7 +43,7 @@ use Rattle.tables.specs.Does.{ChainDo, StackLeft, FramesLeft}
 use Rattle.tables.specs.Sizes.{framesSize}
 use Rattle.tables.proofs.Decode.{base-at, top-active}
 use Rattle.tables.proofs.Fits.{row-inside, leave-fits}
-use Rattle.memory.specs.Slots.{toCoro, toSlots}
+use Rattle.memory.specs.Slots.{toSlot, toCoro, toSlots}
 use Rattle.memory.specs.Memory.{Lent, Slots, Rep, Room, Does, regsRows, framesRows}
 use Rattle.memory.specs.Rows.{rowAt}
 use Rattle.memory.specs.declared.machine.Machine.{Machine}
@@ -65,10 +65,6 @@ no-chain (a ∷ cs) e = absurd (omega arith)
 top-is : (cs : List Active) (ws : List ℕ) (n : ℕ) (a : Active) → Chain cs ws n → 1 ≤ n → a ≡ activeIn ws (n - 1) → cs ≡ a ∷ drop 1 cs
 top-is [] ws n a p h e = absurd (let z = p .count in omega arith)
 top-is (b ∷ cs) ws n a p h e = ap (λ x. x ∷ cs) (sym (e ∙ top-active b cs ws n p))
-
-length-toSlots : (xs : List (Slot Object)) → length (toSlots xs) ≡ length xs
-length-toSlots [] = refl
-length-toSlots (x ∷ xs) = ap suc (length-toSlots xs)
 
 -- ---- one world that the words stand for
 
@@ -197,7 +193,7 @@ module _ (l : Sizes) (M : Lent) (m : Machine) (f : Fuel) (st : CoroState) (dst p
           pub below-count : i < m .count
           below-count =
               let e₁ = rep .slots .count in
-              let e₂ = length-toSlots (w .slots) in
+              let e₂ : length (toSlots (w .slots)) ≡ length (w .slots) = length-map (w .slots) toSlot in
               let p = known .points .inside in
               let q = in-world .slot in
               omega arith

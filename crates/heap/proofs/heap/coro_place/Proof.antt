@@ -1,27 +1,17 @@
 -- `coro_place` meets its contract, by what the word names. Assumes nothing.
-use mathlib.Core.Path.{_≡_, ap, sym, _∙_}
-use mathlib.Core.List.{List}
-use Prim.Native.Nat.{ℕ}
+use mathlib.Core.Path.{ap, sym, _∙_}
 use lib.ListN.{getD}
 use borrow.Author.Tests.{eqb-true, eqb-false}
 use Rattle.lists.specs.Chunks.{chunkAt}
 use Rattle.heap.specs.Word.{classOf}
-use Rattle.heap.specs.Object.{isFilled}
-use Rattle.heap.specs.Slot.{objectAt}
 use Rattle.heap.specs.Table.{get, notA}
-use Rattle.heap.specs.Heap.{slotsOf, asCoro, coroBy, placeOf, coroOf}
-use Rattle.heap.specs.declared.object.Object.the-variants.{Empty}
-use Rattle.heap.specs.declared.heap.Place.the-variants as P
+use Rattle.heap.specs.Heap.{slotsOf, asCoro, coroBy, placeOf}
 use Rattle.heap.specs.declared.heap.CoroPlace.the-variants as L
-use Rattle.heap.proofs.Lookups.{found-words, found-object}
+use Rattle.heap.proofs.Lookups.{found-words, found-coro}
 use Rattle.heap.proofs.Slots.{coro-kind, other-kind}
 use borrow.Author.Needs.{needs}
 use Rattle.heap.proofs.heap.coro_place.Statement.{statement}
 use Rattle.heap.proofs.heap.coro_place.Tie as tie
-
--- the object at a place that was found, as a coroutine
-here : (n : ℕ) (ws : List ℕ) (w i : ℕ) → P.At i ≡ get Empty isFilled (slotsOf n ws) w → asCoro i (objectAt (chunkAt 20 ws i)) ≡ coroOf (slotsOf n ws) w
-here n ws w i found = ap (asCoro i) (found-object n ws w i found) ∙ ap (coroBy (slotsOf n ws) w) found
 
 get-requires : tie.Need-get-requires
 get-requires c κs = search needs
@@ -41,7 +31,7 @@ is-coro-requires c κs = found-words (c .before .before .before .before .before 
 returns : tie.Need-returns
 returns c = let ws = chunkAt 20 (c .before .before .before .before .before .before .before .args .slots .now) (c .before .before .before .i .given .0 .0) in
     sym (ap (λ o. placeOf (asCoro (c .before .before .before .i .given .0 .0) o)) (coro-kind ws (eqb-true (getD ws 1 0) 6 (sym (c .before .is-coro .ensures) ∙ (c .if1 .taken)))))
-    ∙ ap placeOf (here (c .before .before .before .before .before .before .before .args .count) (c .before .before .before .before .before .before .before .args .slots .now) (c .before .before .before .before .before .before .before .args .w .0) (c .before .before .before .i .given .0 .0) (sym (c .before .before .before .i .given .1) ∙ (c .before .before .before .before .before .get .ensures)))
+    ∙ ap placeOf (found-coro (c .before .before .before .before .before .before .before .args .count) (c .before .before .before .before .before .before .before .args .slots .now) (c .before .before .before .before .before .before .before .args .w .0) (c .before .before .before .i .given .0 .0) (sym (c .before .before .before .i .given .1) ∙ (c .before .before .before .before .before .get .ensures)))
 
 returns-2 : tie.Need-returns-2
 returns-2 c = ap L.Not (c .not-a .ensures ∙ ap (notA (classOf (c .before .before .before .before .before .args .w .0))) (sym (sym (c .before .enum-told .given .1) ∙ (c .before .before .before .get .ensures))))
@@ -50,7 +40,7 @@ returns-2 c = ap L.Not (c .not-a .ensures ∙ ap (notA (classOf (c .before .befo
 returns-3 : tie.Need-returns-3
 returns-3 c = let ws = chunkAt 20 (c .before .before .before .before .before .before .before .args .slots .now) (c .before .before .before .i .given .0 .0) in
     sym (ap placeOf (other-kind ws (c .before .before .before .i .given .0 .0) (eqb-false (getD ws 1 0) 6 (sym (c .before .is-coro .ensures) ∙ (c .if1 .left)))))
-    ∙ ap placeOf (here (c .before .before .before .before .before .before .before .args .count) (c .before .before .before .before .before .before .before .args .slots .now) (c .before .before .before .before .before .before .before .args .w .0) (c .before .before .before .i .given .0 .0) (sym (c .before .before .before .i .given .1) ∙ (c .before .before .before .before .before .get .ensures)))
+    ∙ ap placeOf (found-coro (c .before .before .before .before .before .before .before .args .count) (c .before .before .before .before .before .before .before .args .slots .now) (c .before .before .before .before .before .before .before .args .w .0) (c .before .before .before .i .given .0 .0) (sym (c .before .before .before .i .given .1) ∙ (c .before .before .before .before .before .get .ensures)))
 
 pub coro-place-spec : {M : Type 1} → statement M
 coro-place-spec =
