@@ -9,7 +9,8 @@ use Rattle.model.specs.Program.{Setup, setupOk}
 use Rattle.model.specs.World.{World, After}
 use Rattle.model.specs.declared.machine.Fuel.{Fuel}
 use Rattle.tables.specs.Sizes.{setupWords}
-use Rattle.memory.specs.Memory.{Lent, Beside, Sized, Met, MetFuel}
+use Rattle.memory.specs.Memory.{Lent, Beside, Sized}
+use Rattle.memory.specs.Contract.{Gives, ifSound, only, with}
 use Rattle.memory.specs.declared.machine.Machine.{Machine}
 use Rattle.memory.specs.declared.machine.Sizes.{Sizes}
 use Rattle.words.specs.Words.{sizesOf}
@@ -58,27 +59,27 @@ module _ (ls ms : List ℕ) (l : Sizes) (m : Machine) (told : l ≡ sizesIn ls) 
   taken P p = subst (λ k. P (sizesIn ls) k) is (subst (λ k. P k m) told p)
 
   module _ {A : Type 0} (g : World → After A) (enc : A → List ℕ) (M M′ : Beside → Lent) (xs ms′ xs′ : List ℕ) (n : Machine) (a : A) (e : ms′ ≡ splice ms 0 (machineWords n)) (h : xs′ ≡ splice xs 0 (enc a)) where
-    pub called : Met l g M m M′ n a → Called ls g enc M ms M′ ms′ xs xs′
+    pub called : Gives ifSound l g M (only m) M′ (only n) a → Called ls g enc M ms M′ ms′ xs xs′
     called met =
         record {
           answer = a;
-          met = subst (λ k. Met (sizesIn ls) g M (machineIn ms) M′ k a) (sym (back ms ms′ n e)) (taken (λ k i. Met k g M i M′ n a) met);
+          met = subst (λ k. Gives ifSound (sizesIn ls) g M (only (machineIn ms)) M′ (only k) a) (sym (back ms ms′ n e)) (taken (λ k i. Gives ifSound k g M (only i) M′ (only n) a) met);
           numbers = numbers ms ms′ n e;
           told = h;
         }
 
     -- the same where the model's call is known by an equation
-    pub called-as : (g′ : World → After A) → g′ ≡ g → Met l g′ M m M′ n a → Called ls g enc M ms M′ ms′ xs xs′
-    called-as g′ q met = called (subst (λ (k : World → After A). Met l k M m M′ n a) q met)
+    pub called-as : (g′ : World → After A) → g′ ≡ g → Gives ifSound l g′ M (only m) M′ (only n) a → Called ls g enc M ms M′ ms′ xs xs′
+    called-as g′ q met = called (subst (λ (k : World → After A). Gives ifSound l k M (only m) M′ (only n) a) q met)
 
-    pub called-fuel : (fs fs′ : List ℕ) (f f′ : Fuel) → f ≡ fuelIn fs → fs′ ≡ splice fs 0 (fuelWords f′) → MetFuel l g M m f M′ n f′ a → CalledFuel ls g enc M ms fs M′ ms′ fs′ xs xs′
+    pub called-fuel : (fs fs′ : List ℕ) (f f′ : Fuel) → f ≡ fuelIn fs → fs′ ≡ splice fs 0 (fuelWords f′) → Gives ifSound l g M (with m f) M′ (with n f′) a → CalledFuel ls g enc M ms fs M′ ms′ fs′ xs xs′
     called-fuel fs fs′ f f′ q p met =
         record {
           answer = a;
           met =
-              subst (λ k. MetFuel (sizesIn ls) g M (machineIn ms) (fuelIn fs) M′ k (fuelIn fs′) a) (sym (back ms ms′ n e))
-              (subst (λ k. MetFuel (sizesIn ls) g M (machineIn ms) (fuelIn fs) M′ n k a) (sym (fuel-told fs fs′ f′ p))
-              (subst (λ k. MetFuel (sizesIn ls) g M (machineIn ms) k M′ n f′ a) q (taken (λ k i. MetFuel k g M i f M′ n f′ a) met)));
+              subst (λ k. Gives ifSound (sizesIn ls) g M (with (machineIn ms) (fuelIn fs)) M′ (with k (fuelIn fs′)) a) (sym (back ms ms′ n e))
+              (subst (λ k. Gives ifSound (sizesIn ls) g M (with (machineIn ms) (fuelIn fs)) M′ (with n k) a) (sym (fuel-told fs fs′ f′ p))
+              (subst (λ k. Gives ifSound (sizesIn ls) g M (with (machineIn ms) k) M′ (with n f′) a) q (taken (λ k i. Gives ifSound k g M (with i f) M′ (with n f′) a) met)));
           numbers = numbers ms ms′ n e;
           fuel = fuelled fs fs′ f′ p;
           told = h;

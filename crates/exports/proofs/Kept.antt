@@ -19,7 +19,8 @@ use Rattle.tables.specs.Layout.{activeIn}
 use Rattle.tables.specs.Parts.{Chain}
 use Rattle.tables.proofs.Decode.{top-active}
 use Rattle.memory.specs.Slots.{toSlot}
-use Rattle.memory.specs.Memory.{Lent, Beside, Rep, Ok, Met, MetFuel}
+use Rattle.memory.specs.Memory.{Lent, Beside, Rep}
+use Rattle.memory.specs.Contract.{Ok, Gives, ifSound, only, with}
 use Rattle.memory.specs.Told.{told}
 use Rattle.memory.specs.declared.machine.Machine.{Machine}
 use Rattle.memory.specs.declared.machine.Sizes.{Sizes}
@@ -89,16 +90,16 @@ quiet cs ws n p e a rest q =
 -- ---- what the calls leave in the words
 
 -- Resume
-pub resumed-words : (ms : List ℕ) (m n : Machine) → m ≡ machineIn ms → Numbers ms ms → (pc dst c src : ℕ) (l : Sizes) (M M′ : Beside → Lent) (a : Step) → Ok l M m
-    → Met l (resume pc dst c src) M m M′ n a → enteredOver n ms ≡ splice ms 0 (machineWords n)
+pub resumed-words : (ms : List ℕ) (m n : Machine) → m ≡ machineIn ms → Numbers ms ms → (pc dst c src : ℕ) (l : Sizes) (M M′ : Beside → Lent) (a : Step) → Ok l M (only m)
+    → Gives ifSound l (resume pc dst c src) M (only m) M′ (only n) a → enteredOver n ms ≡ splice ms 0 (machineWords n)
 resumed-words ms m n is tell pc dst c src l M M′ a ok met =
     let d = met (ok .world) (ok .beside) (ok .rep) (ok .sound) in
     let k = resume-keeps pc dst c src (ok .world) in
     entered-words ms m n is tell (stays (ok .rep) (d .world) (k .rest)) (count-stays (ok .rep) (d .world) k) (used-stays (ok .rep) (d .world) k)
 
 -- Yield, to a driver that is not the host
-module _ (pc dst src : ℕ) (l : Sizes) (M M′ : Beside → Lent) (m n : Machine) (f f′ : Fuel) (a : Step) (ok : Ok l M m) (fuel : ok .beside .fuel ≡ f)
-    (met : MetFuel l (yield pc dst src) M m f M′ n f′ a) (near : toldBy (m .active) (M (ok .beside) .chain) ≡ false) where
+module _ (pc dst src : ℕ) (l : Sizes) (M M′ : Beside → Lent) (m n : Machine) (f f′ : Fuel) (a : Step) (ok : Ok l M (only m)) (fuel : ok .beside .fuel ≡ f)
+    (met : Gives ifSound l (yield pc dst src) M (with m f) M′ (with n f′) a) (near : toldBy (m .active) (M (ok .beside) .chain) ≡ false) where
   keeps : Keeps (ok .world) (yield pc dst src (ok .world) .world)
   keeps = yield-keeps pc dst src (ok .world) (quiet (ok .world .chain) (M (ok .beside) .chain) (m .active) (ok .rep .chain) near)
 

@@ -5,7 +5,8 @@ use Prim.Native.Nat.{ℕ, _≤_}
 use lib.ListN.{length}
 use Rattle.lists.specs.Parts.{splice}
 use Rattle.model.specs.World.{World, After}
-use Rattle.memory.specs.Memory.{Lent, Beside, Met, MetFuel}
+use Rattle.memory.specs.Memory.{Lent, Beside}
+use Rattle.memory.specs.Contract.{Gives, ifSound, only, with}
 use Rattle.exports.specs.Words.{machineIn, machineWords, sizesIn, fuelIn, fuelWords}
 
 -- words enough for the sizes, the machine's numbers, and an answer of n words
@@ -24,14 +25,14 @@ Fuelled fs fs′ = fs′ ≡ splice fs 0 (fuelWords (fuelIn fs′))
 -- the model's call on every sound world that the words stood for, and its answer in words
 pub record Called {A : Type 0} (sizes : List ℕ) (g : World → After A) (enc : A → List ℕ) (M : Beside → Lent) (ms : List ℕ) (M′ : Beside → Lent) (ms′ xs xs′ : List ℕ) : Type 0 where
   pub answer : A
-  pub met : Met (sizesIn sizes) g M (machineIn ms) M′ (machineIn ms′) answer
+  pub met : Gives ifSound (sizesIn sizes) g M (only (machineIn ms)) M′ (only (machineIn ms′)) answer
   pub numbers : Numbers ms ms′
   pub told : xs′ ≡ splice xs 0 (enc answer)
 
 -- the same of a call that is lent the fuel's words
 pub record CalledFuel {A : Type 0} (sizes : List ℕ) (g : World → After A) (enc : A → List ℕ) (M : Beside → Lent) (ms fs : List ℕ) (M′ : Beside → Lent) (ms′ fs′ xs xs′ : List ℕ) : Type 0 where
   pub answer : A
-  pub met : MetFuel (sizesIn sizes) g M (machineIn ms) (fuelIn fs) M′ (machineIn ms′) (fuelIn fs′) answer
+  pub met : Gives ifSound (sizesIn sizes) g M (with (machineIn ms) (fuelIn fs)) M′ (with (machineIn ms′) (fuelIn fs′)) answer
   pub numbers : Numbers ms ms′
   pub fuel : Fuelled fs fs′
   pub told : xs′ ≡ splice xs 0 (enc answer)

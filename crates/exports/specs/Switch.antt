@@ -10,9 +10,9 @@ use Rattle.model.specs.declared.machine.Fuel.{Fuel}
 use Rattle.tables.specs.Layout.{activeIn}
 use Rattle.memory.specs.declared.machine.Machine.{Machine}
 use Rattle.memory.specs.declared.machine.Sizes.{Sizes}
-use Rattle.exec.specs.Resume.{ResumeFits}
-use Rattle.exec.specs.New.{NewFits}
-use Rattle.yields.specs.Yielding.{YieldFits}
+use Rattle.exec_enter.specs.Resume.{ResumeFits}
+use Rattle.exec_make.specs.New.{NewFits}
+use Rattle.exec_yield.specs.Yielding.{YieldFits}
 use Rattle.exports.specs.Words.{machineIn, sizesIn, tellsHost, fuelIn}
 use Rattle.exports.specs.Calls.{Passed, Numbers, Fuelled}
 

@@ -1,6 +1,6 @@
 // New coroutines. The operands have been tested.
 ghost use Rattle.model.specs.Exec.{coroNew};
-ghost use Rattle.exec.specs.New.{lentNew};
+ghost use Rattle.exec_make.specs.New.{lentNew};
 ghost use Rattle.exports.specs.Words.{stepWords};
 ghost use Rattle.exports.specs.Calls.{Called};
 ghost use Rattle.exports.specs.Switch.{NewCallFits};
@@ -30,7 +30,7 @@ pub extern "C" fn bvm_coro_new(
 {
     let m = machine_of(machine);
     let l = sizes_of(sizes);
-    let did = exec::new::coro_new(
+    let did = exec_make::new::coro_new(
         stack,
         frames,
         slots,

@@ -5,7 +5,6 @@ ghost use lib.ListN.{length};
 ghost use Rattle.lists.specs.Parts.{splice};
 ghost use Rattle.lists.specs.Pick.{pick};
 ghost use Rattle.model.specs.Exec.{yield};
-ghost use Rattle.memory.specs.Memory.{lent};
 ghost use Rattle.exports.specs.Words.{machineWords, suspendedOver, fuelWords, stepWords};
 ghost use Rattle.exports.specs.Calls.{CalledFuel};
 ghost use Rattle.exports.specs.Switch.{YieldCallFits, toldBy};
@@ -79,7 +78,7 @@ pub extern "C" fn bvm_yield(
     let l = sizes_of(sizes);
     let held = fuel_of(fuel);
     let whole = tells_host(chain, m.active);
-    let did = yields::yielding::coro_yield(
+    let did = exec_yield::yielding::coro_yield(
         stack,
         frames,
         chain,

@@ -1,6 +1,5 @@
 // Entries into coroutines. The operands have been tested.
 ghost use Rattle.model.specs.Exec.{resume};
-ghost use Rattle.memory.specs.Memory.{lent};
 ghost use Rattle.exports.specs.Words.{stepWords};
 ghost use Rattle.exports.specs.Calls.{Called};
 ghost use Rattle.exports.specs.Switch.{ResumeCallFits};
@@ -31,7 +30,7 @@ pub extern "C" fn bvm_resume(
 {
     let m = machine_of(machine);
     let l = sizes_of(sizes);
-    let did = exec::resume::resume(
+    let did = exec_enter::resume::resume(
         stack,
         frames,
         chain,

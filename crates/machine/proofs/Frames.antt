@@ -27,7 +27,8 @@ use Rattle.tables.proofs.Parts.{run-grow}
 use Rattle.tables.proofs.Decode.{top-frame}
 use Rattle.lists.proofs.Tables.{chunk-get}
 use Rattle.tables.proofs.Setups.{functions-in, regs-in}
-use Rattle.memory.specs.Memory.{Lent, Rep, Room, Does, onStack, onFrames}
+use Rattle.memory.specs.Memory.{Lent, Rep, Room, onStack, onFrames}
+use Rattle.memory.specs.Contract.{Does}
 use Rattle.memory.specs.Numbers.{withHeight, withDepth}
 use Rattle.memory.specs.declared.machine.Machine.{Machine}
 use Rattle.memory.specs.declared.machine.Sizes.{Sizes}

@@ -8,10 +8,12 @@ use lib.Dec.{ltb, leb}
 use Rattle.model.specs.World.{World}
 use Rattle.model.specs.Frames.{popTo}
 use Rattle.model.specs.declared.machine.Frame.{Frame}
-use Rattle.memory.specs.Memory.{Lent, Beside, onStack, onFrames, onSetup, Rep, Ok}
+use Rattle.memory.specs.Memory.{Lent, Beside, onStack, onFrames, onSetup, Rep}
+use Rattle.memory.specs.Contract.{Ok, only}
 use Rattle.memory.specs.Numbers.{withHeight, withDepth}
 use Rattle.memory.specs.declared.machine.Machine.{Machine}
 use Rattle.memory.specs.declared.machine.Sizes.{Sizes}
+use Rattle.memory.specs.Lendings.{topSetup, plain}
 
 -- there is a frame
 pub record DepthFits (frames : List ℕ) (depth : ℕ) : Type 0 where
@@ -30,7 +32,7 @@ pushed m n = withHeight (m .height + n) (withDepth (m .depth + 1) m)
 
 -- a sound world, and one of its functions; word 13 of a set-up is their number
 pub record PushFits (l : Sizes) (stack frames setup : List ℕ) (m : Machine) (f : ℕ) : Type 0 where
-  pub ok : Ok l (λ b. onStack stack (onFrames frames (onSetup setup (b .words)))) m
+  pub ok : Ok l (topSetup stack frames setup plain) (only m)
   pub function : f < getD setup 13 0
 
 -- ---- pop

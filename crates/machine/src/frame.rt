@@ -4,9 +4,9 @@ ghost use Prim.Native.Nat.{_+_, _^_, _≤_, _<_};
 ghost use Rattle.model.specs.Frames.{storePc, putReg};
 ghost use Rattle.model.specs.Machine.{pushFrame};
 ghost use Rattle.tables.specs.Does.{RegFits};
-ghost use Rattle.memory.specs.Memory.{onStack, onFrames, onSetup, Met};
-ghost use Rattle.memory.specs.Leaves.{Leaves, lentTop};
 ghost use Rattle.machine.specs.Frame.{DepthFits, PushFits, overflowing, pushed, PopFits, Pops};
+ghost use Rattle.memory.specs.Lendings.{frame, top, topSetup};
+ghost use Rattle.memory.specs.Contract.{Leaves, Met, any, atEntry, atExit, every, ifSound, only};
 use heap::fault::Fault;
 use memory::machine::Machine;
 use memory::machine::Sizes;
@@ -22,7 +22,7 @@ pub struct FrameDid {
 // The pc of the top frame.
 pub fn store_pc(frames: &mut [u64], m: Machine, pc: u64)
     requires { ⌜ DepthFits (now frames) (m .depth) ⌝ }
-    ensures { λ _. ⌜ Leaves (storePc pc) (λ b. onFrames (now (frames .entry)) (b .words)) m (λ b. onFrames (now (frames .exit)) (b .words)) m ⌝ }
+    ensures { λ _. ⌜ every (λ l. Leaves any l (storePc pc) (frame frames) (only m) (only m)) ⌝ }
 {
     tables::frames::store_pc(frames, m.depth, pc);
 }
@@ -30,7 +30,7 @@ pub fn store_pc(frames: &mut [u64], m: Machine, pc: u64)
 // A word into a register of the top frame.
 pub fn put(stack: &mut [u64], frames: &[u64], m: Machine, r: u64, v: u64)
     requires { ⌜ RegFits (now stack) (now frames) (m .height) (m .depth) r ⌝ }
-    ensures { λ _. ⌜ Leaves (putReg r v) (lentTop (now (stack .entry)) (now (frames .entry))) m (lentTop (now (stack .exit)) (now (frames .entry))) m ⌝ }
+    ensures { λ _. ⌜ every (λ l. Leaves any l (putReg r v) (top stack frames) (only m) (only m)) ⌝ }
 {
     tables::stack::put_reg(stack, frames, m.height, m.depth, r as usize, v);
 }
@@ -71,7 +71,7 @@ pub fn push_frame(
     cont: Cont,
 ) -> FrameDid
     requires { ⌜ PushFits l (now stack) (now frames) (now setup) m f ⌝ }
-    ensures { λ r. ⌜ Met l (pushFrame f closure cont) (λ b. onStack (now (stack .entry)) (onFrames (now (frames .entry)) (onSetup (now (setup .entry)) (b .words)))) m (λ b. onStack (now (stack .entry)) (onFrames (now (frames .exit)) (onSetup (now (setup .entry)) (b .words)))) (r .machine) (r .answer) ⌝ }
+    ensures { λ r. ⌜ Met ifSound l (pushFrame f closure cont) (topSetup stack frames setup) (only m) (only (r .machine)) (r .answer) ⌝ }
 {
     let n = tables::program::regs_at(setup, f as usize);
     if overflows(m, l, n) {
@@ -91,7 +91,7 @@ pub fn push_frame(
 // The top frame goes, with its registers.
 pub fn pop(stack: &mut [u64], frames: &mut [u64], m: Machine) -> Machine
     requires { ⌜ PopFits (now stack) (now frames) m ⌝ }
-    ensures { λ r. ⌜ Pops (lentTop (now (stack .entry)) (now (frames .entry))) m (lentTop (now (stack .exit)) (now (frames .exit))) r ⌝ }
+    ensures { λ r. ⌜ Pops (top stack frames atEntry) m (top stack frames atExit) r ⌝ }
 {
     let base = frames[(m.depth - 1) * 6 + 2] as usize;
     tables::stack::cut(stack, m.height, base);

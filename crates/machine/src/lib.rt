@@ -1,3 +1,7 @@
 // machine.rs: impl Machine, on the lent words.
 pub mod frame;
+pub mod fuel;
+pub mod send;
 pub mod setup;
+pub mod state;
+pub mod step;

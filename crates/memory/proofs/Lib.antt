@@ -4,3 +4,4 @@ pub mod Rows
 pub mod Tables
 pub mod Lookup
 pub mod Turn
+pub mod Does

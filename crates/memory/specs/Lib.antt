@@ -2,5 +2,6 @@ pub mod Slots
 pub mod Rows
 pub mod Told
 pub mod Memory
-pub mod Leaves
 pub mod Numbers
+pub mod Lendings
+pub mod Contract

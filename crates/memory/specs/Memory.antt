@@ -1,6 +1,5 @@
--- When lent words and numbers stand for a world, and what a call on them does.
+-- When lent words and numbers stand for a world.
 use mathlib.Core.Path.{_≡_}
-use mathlib.Core.Bool.{true}
 use mathlib.Core.List.{List, [], _∷_}
 use Prim.Native.Nat.{ℕ, zero, suc, _+_, _*_, _≤_}
 use lib.ListN.{length}
@@ -11,8 +10,8 @@ use Rattle.heap.specs.Slot.{slotWords}
 use Rattle.heap.specs.declared.object.Object as H
 use Rattle.model.specs.Program.{Setup}
 use Rattle.model.specs.Object.{Object}
-use Rattle.model.specs.World.{World, After}
-use Rattle.model.specs.Sound.{rowWords, sound}
+use Rattle.model.specs.World.{World}
+use Rattle.model.specs.Sound.{rowWords}
 use Rattle.model.specs.declared.machine.Frame.{Frame}
 use Rattle.model.specs.declared.machine.Fuel.{Fuel}
 use Rattle.tables.specs.Parts.{Stack, Frames, Chain, Queue, SavedStack, SavedFrames}
@@ -52,6 +51,12 @@ onSlots x M = record { stack = M .stack; frames = M .frames; chain = M .chain; s
 abbrev pub onSaved : List ℕ → List ℕ → Lent → Lent
 onSaved r q M = record { stack = M .stack; frames = M .frames; chain = M .chain; slots = M .slots; savedStack = r; savedFrames = q; ready = M .ready; finalize = M .finalize; setup = M .setup }
 
+abbrev pub onReady : List ℕ → Lent → Lent
+onReady x M = record { stack = M .stack; frames = M .frames; chain = M .chain; slots = M .slots; savedStack = M .savedStack; savedFrames = M .savedFrames; ready = x; finalize = M .finalize; setup = M .setup }
+
+abbrev pub onFinalize : List ℕ → Lent → Lent
+onFinalize x M = record { stack = M .stack; frames = M .frames; chain = M .chain; slots = M .slots; savedStack = M .savedStack; savedFrames = M .savedFrames; ready = M .ready; finalize = x; setup = M .setup }
+
 abbrev pub onSetup : List ℕ → Lent → Lent
 onSetup x M = record { stack = M .stack; frames = M .frames; chain = M .chain; slots = M .slots; savedStack = M .savedStack; savedFrames = M .savedFrames; ready = M .ready; finalize = M .finalize; setup = x }
 
@@ -59,10 +64,6 @@ onSetup x M = record { stack = M .stack; frames = M .frames; chain = M .chain; s
 pub record Beside : Type 0 where
   pub words : Lent
   pub fuel : Fuel
-
--- the six slices that a switch moves words between
-abbrev pub lent : List ℕ → List ℕ → List ℕ → List ℕ → List ℕ → List ℕ → Beside → Lent
-lent s f c o r q b = onStack s (onFrames f (onChain c (onSlots o (onSaved r q (b .words)))))
 
 -- ---- the parts that the tables do not have
 
@@ -123,25 +124,3 @@ pub record Room (s : Setup) (M : Lent) : Type 0 where
   pub ready : queueSize s ≤ length (M .ready)
   pub finalize : queueSize s ≤ length (M .finalize)
   pub setup : setupSize s ≤ length (M .setup)
-
--- some sound world is held, and there are words enough; M is of what the call leaves alone
-pub record Ok (l : Sizes) (M : Beside → Lent) (m : Machine) : Type 0 where
-  pub world : World
-  pub beside : Beside
-  pub rep : Rep l world (M beside) m (beside .fuel)
-  pub sound : sound world ≡ true
-  pub room : Room (world .setup) (M beside)
-
--- ---- what a call leaves and answers
-
-pub record Does {A : Type 0} (l : Sizes) (o : After A) (M : Lent) (m : Machine) (f : Fuel) (a : A) : Type 0 where
-  pub world : Rep l (o .world) M m f
-  pub answer : a ≡ o .answer
-
--- for every world that the words stood for, they stand for the one that the model's call leaves, and the answer is the model's
-abbrev pub Met : {A : Type 0} → Sizes → (World → After A) → (Beside → Lent) → Machine → (Beside → Lent) → Machine → A → Type 0
-Met l f M m M′ m′ a = (w : World) (b : Beside) → Rep l w (M b) m (b .fuel) → sound w ≡ true → Does l (f w) (M′ b) m′ (b .fuel) a
-
--- the same of a call that is given the fuel, and gives it back
-abbrev pub MetFuel : {A : Type 0} → Sizes → (World → After A) → (Beside → Lent) → Machine → Fuel → (Beside → Lent) → Machine → Fuel → A → Type 0
-MetFuel l g M m f M′ m′ f′ a = (w : World) (b : Beside) → Rep l w (M b) m f → sound w ≡ true → Does l (g w) (M′ b) m′ f′ a

@@ -13,14 +13,16 @@ use Rattle.model.specs.declared.machine.Fuel.{Fuel}
 use Rattle.tables.specs.Does.{RegFits, Gets}
 use Rattle.tables.proofs.Doing.{reg-fits}
 use Rattle.tables.proofs.Setups.{functions-in}
-use Rattle.memory.specs.Memory.{Lent, Beside, onStack, onFrames, onSetup, lent, Rep, Room, Ok, Met, MetFuel}
-use Rattle.memory.specs.Leaves.{Leaves, lentTop}
+use Rattle.memory.specs.Memory.{Lent, Beside, onStack, onFrames, onSetup, Rep, Room}
+use Rattle.memory.specs.Lendings.{lent}
+use Rattle.memory.specs.Contract.{Ok, Gives, Turns, any, ifSound, every, only, with}
+use Rattle.memory.specs.Lendings.{top, plain}
 use Rattle.memory.specs.declared.machine.Machine.{Machine}
 use Rattle.memory.specs.declared.machine.Sizes.{Sizes}
 use Rattle.machine.specs.Frame.{PushFits}
-use Rattle.exec.specs.Resume.{ResumeFits}
-use Rattle.exec.specs.New.{lentNew, NewFits}
-use Rattle.yields.specs.Yielding.{YieldFits}
+use Rattle.exec_enter.specs.Resume.{ResumeFits}
+use Rattle.exec_make.specs.New.{NewFits}
+use Rattle.exec_yield.specs.Yielding.{YieldFits}
 use Rattle.switch.specs.Story.{furnace}
 use Rattle.switch.specs.Stage.{At}
 use Rattle.switch.proofs.Told.{Known}
@@ -37,7 +39,7 @@ six s f c o r q M x = lent s f c o r q (record { words = M; fuel = x })
 module _ (l : Sizes) (w : World) (M : Lent) (m : Machine) (f : Fuel) (at : At l w M m f) where
   -- ---- what calls ask
 
-  pub at-ok : sound w ≡ true → w .setup ≡ furnace → (N : Beside → Lent) → N (record { words = M; fuel = f }) ≡ M → Ok l N m
+  pub at-ok : sound w ≡ true → w .setup ≡ furnace → (N : Beside → Lent) → N (record { words = M; fuel = f }) ≡ M → Ok l N (only m)
   at-ok s own N e =
       record {
         world = w;
@@ -80,7 +82,7 @@ module _ (l : Sizes) (w : World) (M : Lent) (m : Machine) (f : Fuel) (at : At l 
       let e = at-functions (k .own) in
       let last = at-reg k 1 (omega arith) .below in
       record {
-        ok = at-ok (k .sound) (k .own) (lentNew (M .stack) (M .frames) (M .slots) (M .savedStack) (M .savedFrames) (M .setup)) (λ _. M);
+        ok = at-ok (k .sound) (k .own) (topMaking (M .stack) (M .frames) (M .slots) (M .savedStack) (M .savedFrames) (M .setup) plain) (λ _. M);
         function = omega arith;
         few = omega arith;
         reg = at-reg k 0 (omega arith);
@@ -103,7 +105,7 @@ module _ (l : Sizes) (w : World) (M : Lent) (m : Machine) (f : Fuel) (at : At l 
   read-reg r v g = g (w .stack) (w .frames) (at .rep .stack) (at .rep .frames) .is
 
   pub after-put : (r v : ℕ) (stack : List ℕ) → length stack ≡ length (M .stack)
-      → Leaves (putReg r v) (lentTop (M .stack) (M .frames)) m (lentTop stack (M .frames)) m → At l (putReg r v w) (onStack stack M) m f
+      → every (λ l. Turns any l (putReg r v) (top (M .stack) (M .frames) plain) (only m) (top stack (M .frames) plain) (only m)) → At l (putReg r v w) (onStack stack M) m f
   after-put r v stack e k =
       let q = at .room in
       let z = q .stack in
@@ -113,7 +115,7 @@ module _ (l : Sizes) (w : World) (M : Lent) (m : Machine) (f : Fuel) (at : At l 
       }
 
   pub after-push : {A : Type 0} (g : World → After A) (frames : List ℕ) (m′ : Machine) (a : A) → sound w ≡ true → length frames ≡ length (M .frames)
-      → Met l g (lentPush (M .stack) (M .frames) (M .setup)) m (lentPush (M .stack) frames (M .setup)) m′ a
+      → Gives ifSound l g (lentPush (M .stack) (M .frames) (M .setup)) (only m) (lentPush (M .stack) frames (M .setup)) (only m′) a
       → At l (g w .world) (onFrames frames M) m′ f
   after-push g frames m′ a s e k =
       let q = at .room in
@@ -141,20 +143,20 @@ module _ (l : Sizes) (w : World) (M : Lent) (m : Machine) (f : Fuel) (at : At l 
       }
 
   pub after-six : {A : Type 0} (g : World → After A) (s f′ c o r q : List ℕ) (m′ : Machine) (a : A) → sound w ≡ true → Room furnace (six s f′ c o r q M f)
-      → Met l g (lent (M .stack) (M .frames) (M .chain) (M .slots) (M .savedStack) (M .savedFrames)) m (lent s f′ c o r q) m′ a
+      → Gives ifSound l g (lent (M .stack) (M .frames) (M .chain) (M .slots) (M .savedStack) (M .savedFrames)) (only m) (lent s f′ c o r q) (only m′) a
       → At l (g w .world) (six s f′ c o r q M f) m′ f
   after-six g s f′ c o r q m′ a snd z k = record { rep = k w (record { words = M; fuel = f }) (at .rep) snd .world; room = z }
 
   pub after-new : {A : Type 0} (g : World → After A) (s o r q : List ℕ) (m′ : Machine) (a : A) → sound w ≡ true
       → Room furnace (six s (M .frames) (M .chain) o r q M f)
-      → Met l g (lentNew (M .stack) (M .frames) (M .slots) (M .savedStack) (M .savedFrames) (M .setup)) m (lentNew s (M .frames) o r q (M .setup)) m′ a
+      → Gives ifSound l g (topMaking (M .stack) (M .frames) (M .slots) (M .savedStack) (M .savedFrames) (M .setup) plain) (only m) (topMaking s (M .frames) o r q (M .setup) plain) (only m′) a
       → At l (g w .world) (six s (M .frames) (M .chain) o r q M f) m′ f
   after-new g s o r q m′ a snd z k = record { rep = k w (record { words = M; fuel = f }) (at .rep) snd .world; room = z }
 
   -- a call that is given the fuel, and leaves it
   pub after-fuel : {A : Type 0} (g : World → After A) (s f′ c o r q : List ℕ) (m′ : Machine) (x x′ : Fuel) (a : A) → sound w ≡ true
       → Room furnace (six s f′ c o r q M f) → x ≡ w .fuel → w .fuel ≡ g w .world .fuel
-      → MetFuel l g (lent (M .stack) (M .frames) (M .chain) (M .slots) (M .savedStack) (M .savedFrames)) m x (lent s f′ c o r q) m′ x′ a
+      → Gives ifSound l g (lent (M .stack) (M .frames) (M .chain) (M .slots) (M .savedStack) (M .savedFrames)) (with m x) (lent s f′ c o r q) (with m′ x′) a
       → At l (g w .world) (six s f′ c o r q M f) m′ f
   after-fuel g s f′ c o r q m′ x x′ a snd z e e′ k =
       let from = subst (λ y. Rep l w M m y) (at .rep .fuel ∙ sym e) (at .rep) in

@@ -1,8 +1,7 @@
 // The stages of the story: each makes the calls that lead from one of its worlds to a later one, and shows the top frame.
 ghost use mathlib.Core.Path.{_≡_};
 ghost use Rattle.model.specs.World.{fresh};
-ghost use Rattle.memory.specs.Memory.{lent};
-ghost use Rattle.exec.specs.New.{lentNew};
+ghost use Rattle.exec_make.specs.New.{lentNew};
 ghost use Rattle.switch.specs.Story.{furnace, made, asleep, woken};
 ghost use Rattle.switch.specs.Stage.{Held, Turns, lentSwitch};
 use crate::show::top;
@@ -31,7 +30,7 @@ pub(crate) fn prepare(
     let n = did.machine;
     machine::frame::put(stack, frames, n, 1, 70);
     top(b"the controller begins", stack, frames, n);
-    let new = exec::new::coro_new(
+    let new = exec_make::new::coro_new(
         stack,
         frames,
         slots,
@@ -76,7 +75,7 @@ pub(crate) fn work(
     requires { ⌜ Held l made (lent (now stack) (now frames) (now chain) (now slots) (now «saved_stack») (now «saved_frames»)) m ⌝ }
     ensures { λ r. ⌜ Turns l made asleep (lent (now (stack .entry)) (now (frames .entry)) (now (chain .entry)) (now (slots .entry)) (now («saved_stack» .entry)) (now («saved_frames» .entry))) m (lent (now (stack .exit)) (now (frames .exit)) (now (chain .exit)) (now (slots .exit)) (now («saved_stack» .exit)) (now («saved_frames» .exit))) r ⌝ }
 {
-    let did = exec::resume::resume(
+    let did = exec_enter::resume::resume(
         stack,
         frames,
         chain,
@@ -95,7 +94,7 @@ pub(crate) fn work(
     machine::frame::put(stack, frames, n, 1, 25);
     top(b"the script works", stack, frames, n);
     let fuel = idle();
-    let slept = yields::yielding::coro_yield(
+    let slept = exec_yield::yielding::coro_yield(
         stack,
         frames,
         chain,
@@ -140,7 +139,7 @@ pub(crate) fn wake(
     machine::frame::put(stack, frames, n, 0, c);
     machine::frame::put(stack, frames, n, 1, 72);
     top(b"the survey begins", stack, frames, n);
-    let woke = exec::resume::resume(
+    let woke = exec_enter::resume::resume(
         stack,
         frames,
         chain,

@@ -31,7 +31,9 @@ use Rattle.tables.proofs.Parts.{run-of, piled-of}
 use Rattle.tables.proofs.Rowed.{rows-of}
 use Rattle.memory.specs.Slots.{toSlot, toSlots}
 use Rattle.memory.specs.Rows.{rowAt}
-use Rattle.memory.specs.Memory.{Lent, Beside, lent, Slots, regsRows, framesRows, Rep, Room, Ok}
+use Rattle.memory.specs.Memory.{Lent, Beside, Slots, regsRows, framesRows, Rep, Room}
+use Rattle.memory.specs.Lendings.{lent}
+use Rattle.memory.specs.Contract.{Ok, only}
 use Rattle.memory.proofs.Tables.{length-tabled}
 use Rattle.words.specs.Words.{sizesOf, Lengths, lengthsOf, needed, wordsIn, wordsOf, numbersOf, besideOf, Encoded, EveryWorld}
 use Rattle.words.proofs.Few.{queue-few}
@@ -160,7 +162,7 @@ plainly w e = sound→ w e (λ z. no-false z)
 encoded : (w : World) → sound w ≡ true → Encoded w
 encoded w e = record { rep = encodes w (plainly w e) (needed (w .setup)) (least (w .setup)); room = enough w }
 
-required : (w : World) (M : Beside → Lent) → sound w ≡ true → M (besideOf w) ≡ wordsOf w → Ok (sizesOf (w .setup)) M (numbersOf w)
+required : (w : World) (M : Beside → Lent) → sound w ≡ true → M (besideOf w) ≡ wordsOf w → Ok (sizesOf (w .setup)) M (only (numbersOf w))
 required w M e own =
     let k = encoded w e in
     record {
@@ -173,7 +175,7 @@ required w M e own =
 
 -- the six slices of a switch
 pub switch-required : (w : World) → sound w ≡ true
-    → Ok (sizesOf (w .setup)) (lent (wordsOf w .stack) (wordsOf w .frames) (wordsOf w .chain) (wordsOf w .slots) (wordsOf w .savedStack) (wordsOf w .savedFrames)) (numbersOf w)
+    → Ok (sizesOf (w .setup)) (lent (wordsOf w .stack) (wordsOf w .frames) (wordsOf w .chain) (wordsOf w .slots) (wordsOf w .savedStack) (wordsOf w .savedFrames)) (only (numbersOf w))
 switch-required w e = required w (lent (wordsOf w .stack) (wordsOf w .frames) (wordsOf w .chain) (wordsOf w .slots) (wordsOf w .savedStack) (wordsOf w .savedFrames)) e refl
 
 -- by computation

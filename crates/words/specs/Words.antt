@@ -15,7 +15,8 @@ use Rattle.tables.specs.Parts.{upward, inRow}
 use Rattle.tables.specs.Sizes.{setupWords, stackSize, framesSize, chainSize, savedStackSize, savedFramesSize, slotsSize, queueSize, setupSize}
 use Rattle.memory.specs.Slots.{toSlots}
 use Rattle.memory.specs.Told.{told}
-use Rattle.memory.specs.Memory.{Lent, Beside, regsRows, framesRows, Rep, Room, Ok}
+use Rattle.memory.specs.Memory.{Lent, Beside, regsRows, framesRows, Rep, Room}
+use Rattle.memory.specs.Contract.{Ok, only}
 use Rattle.memory.specs.declared.machine.Machine.{Machine}
 use Rattle.memory.specs.declared.machine.Sizes.{Sizes}
 
@@ -128,8 +129,8 @@ pub record EveryWorld : Type 0 where
   -- in any slices that have room
   pub inside : (w : World) (M : Lent) → sound w ≡ true → Room (w .setup) M → Rep (sizesOf (w .setup)) w (wordsIn (lengthsOf M) w) (numbersOf w) (w .fuel)
   -- so what a call requires, whichever slices it is lent, holds of every sound world's words
-  pub required : (w : World) (M : Beside → Lent) → sound w ≡ true → M (besideOf w) ≡ wordsOf w → Ok (sizesOf (w .setup)) M (numbersOf w)
+  pub required : (w : World) (M : Beside → Lent) → sound w ≡ true → M (besideOf w) ≡ wordsOf w → Ok (sizesOf (w .setup)) M (only (numbersOf w))
   -- every accepted set-up gives such a world
-  pub begun : (s : Setup) → setupOk s ≡ true → Ok (sizesOf s) (λ _. wordsOf (fresh s)) (numbersOf (fresh s))
+  pub begun : (s : Setup) → setupOk s ≡ true → Ok (sizesOf s) (λ _. wordsOf (fresh s)) (only (numbersOf (fresh s)))
   -- and there is an accepted one
   pub accepted : setupOk example ≡ true

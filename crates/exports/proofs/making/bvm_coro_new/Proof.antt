@@ -1,5 +1,5 @@
 -- `bvm_coro_new` meets its contract by that of `coro_new`. Assumes nothing.
-use Rattle.exec.specs.New.{NewFits}
+use Rattle.exec_make.specs.New.{NewFits}
 use Rattle.exports.proofs.Called.{given, called}
 use borrow.Author.Needs.{needs}
 use Rattle.exports.proofs.making.bvm_coro_new.Statement.{statement}

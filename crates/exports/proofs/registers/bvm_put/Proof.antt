@@ -1,5 +1,6 @@
 -- `bvm_put` meets its contract by that of `put`. Assumes nothing.
-use Rattle.memory.specs.Leaves.{Leaves, lentTop}
+use Rattle.memory.specs.Lendings.{top, plain}
+use Rattle.memory.specs.Contract.{any, only, every, Turns}
 use Rattle.model.specs.Frames.{putReg}
 use Rattle.tables.specs.Does.{RegFits}
 use mathlib.Core.Path.{subst, sym}
@@ -17,7 +18,7 @@ same-length : tie.Need-same-length
 same-length c = search needs
 
 returns : tie.Need-returns
-returns c = subst (λ m. Leaves (putReg (c .before .before .before .before .before .before .before .before .args .r) (c .before .before .before .before .before .before .before .before .args .v)) (lentTop (c .before .before .before .before .before .before .before .before .args .stack .now) (c .before .before .before .before .before .before .before .before .args .frames .now)) m (lentTop (c .before .before .put .last .0) (c .before .before .before .before .before .before .before .before .args .frames .now)) m) (c .before .before .before .before .machine-of .ensures) (c .before .before .put .ensures)
+returns c = subst (λ m. every (λ l. Turns any l (putReg (c .before .before .before .before .before .before .before .before .args .r) (c .before .before .before .before .before .before .before .before .args .v)) (top (c .before .before .before .before .before .before .before .before .args .stack .now) (c .before .before .before .before .before .before .before .before .args .frames .now) plain) (only m) (top (c .before .before .put .last .0) (c .before .before .before .before .before .before .before .before .args .frames .now) plain) (only m))) (c .before .before .before .before .machine-of .ensures) (c .before .before .put .ensures)
 
 pub bvm-put-spec : {M : Type 1} → statement M
 bvm-put-spec = tie.close (tie.spec machine-of-requires put-requires same-length returns)

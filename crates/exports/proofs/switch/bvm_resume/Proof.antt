@@ -1,5 +1,5 @@
 -- `bvm_resume` meets its contract by that of `resume`. Assumes nothing.
-use Rattle.exec.specs.Resume.{ResumeFits}
+use Rattle.exec_enter.specs.Resume.{ResumeFits}
 use mathlib.Core.Path.{_∙_}
 use Rattle.exports.proofs.Called.{given, called}
 use Rattle.exports.proofs.Kept.{resumed-words}

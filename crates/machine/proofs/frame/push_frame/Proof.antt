@@ -1,7 +1,8 @@
 -- `push_frame` meets its contract, refused or done. Assumes nothing.
 use mathlib.Core.Path.{sym, ap, _∙_, subst}
 use Rattle.model.specs.declared.coro.Made.{Made}
-use Rattle.memory.specs.Memory.{Lent, Beside, Does, onStack, onFrames, onSetup}
+use Rattle.memory.specs.Memory.{Lent, Beside, onStack, onFrames, onSetup}
+use Rattle.memory.specs.Contract.{Does}
 use Prim.Native.Nat.{_+_, _^_, _<_}
 use native.Mathlib.Omega.{arith}
 use Rattle.model.specs.Machine.{pushFrame}

@@ -7,7 +7,7 @@ use Rattle.model.specs.Machine.{pushFrame}
 use Rattle.model.specs.Exec.{coroNew}
 use Rattle.model.specs.declared.machine.Cont.{Cont}
 use Rattle.memory.specs.Memory.{Lent, Beside}
-use Rattle.exec.specs.New.{lentNew}
+use Rattle.memory.specs.Lendings.{topMaking, plain}
 use Rattle.switch.specs.Story.{furnace, opened, called, made}
 use Rattle.switch.specs.Stage.{At}
 use Rattle.switch.proofs.Told.{fresh-sound, opened-known, called-known, made-known}
@@ -17,25 +17,25 @@ use Rattle.switch.proofs.stage.prepare.Statement.{statement}
 use Rattle.switch.proofs.stage.prepare.Tie as tie
 
 abbrev mem : tie.Start → Beside → Lent
-mem c b = lentNew (c .args .stack .now) (c .args .frames .now) (c .args .slots .now) (c .args .saved-stack .now) (c .args .saved-frames .now) (c .args .setup .now) b
+mem c b = topMaking (c .args .stack .now) (c .args .frames .now) (c .args .slots .now) (c .args .saved-stack .now) (c .args .saved-frames .now) (c .args .setup .now) plain b
 
 abbrev Begun : tie.Start → Beside → Type 0
 Begun c b = At (c .args .l) (fresh furnace) (mem c b) (c .args .m) (b .fuel)
 
 abbrev opened-mem : tie.After-push-frame → Beside → Lent
-opened-mem c b = lentNew (c .before .before .before .before .before .before .before .before .before .args .stack .now) (c .push-frame .last .1 .0) (c .before .before .before .before .before .before .before .before .before .args .slots .now) (c .before .before .before .before .before .before .before .before .before .args .saved-stack .now) (c .before .before .before .before .before .before .before .before .before .args .saved-frames .now) (c .before .before .before .before .before .before .before .before .before .args .setup .now) b
+opened-mem c b = topMaking (c .before .before .before .before .before .before .before .before .before .args .stack .now) (c .push-frame .last .1 .0) (c .before .before .before .before .before .before .before .before .before .args .slots .now) (c .before .before .before .before .before .before .before .before .before .args .saved-stack .now) (c .before .before .before .before .before .before .before .before .before .args .saved-frames .now) (c .before .before .before .before .before .before .before .before .before .args .setup .now) plain b
 
 opened-at : (c : tie.After-push-frame) (b : Beside) → Begun (c .before .before .before .before .before .before .before .before .before) b → At (c .before .before .before .before .before .before .before .before .before .args .l) opened (opened-mem c b) (c .push-frame .result .machine) (b .fuel)
 opened-at c b at = at-opened (c .before .before .before .before .before .before .before .before .before .args .l) (opened-mem c b) (c .push-frame .result .machine) (b .fuel) (after-push (c .before .before .before .before .before .before .before .before .before .args .l) (fresh furnace) (mem (c .before .before .before .before .before .before .before .before .before) b) (c .before .before .before .before .before .before .before .before .before .args .m) (b .fuel) at (pushFrame 0 nil Cont.Entry) (c .push-frame .last .1 .0) (c .push-frame .result .machine) (c .push-frame .result .answer) fresh-sound (c .push-frame .kept .1 .0) (c .push-frame .ensures))
 
 abbrev called-mem : tie.After-put → Beside → Lent
-called-mem c b = lentNew (c .put .last .0) (c .before .before .before .before .before .before .push-frame .last .1 .0) (c .before .before .before .before .before .before .before .before .before .before .before .before .before .before .before .args .slots .now) (c .before .before .before .before .before .before .before .before .before .before .before .before .before .before .before .args .saved-stack .now) (c .before .before .before .before .before .before .before .before .before .before .before .before .before .before .before .args .saved-frames .now) (c .before .before .before .before .before .before .before .before .before .before .before .before .before .before .before .args .setup .now) b
+called-mem c b = topMaking (c .put .last .0) (c .before .before .before .before .before .before .push-frame .last .1 .0) (c .before .before .before .before .before .before .before .before .before .before .before .before .before .before .before .args .slots .now) (c .before .before .before .before .before .before .before .before .before .before .before .before .before .before .before .args .saved-stack .now) (c .before .before .before .before .before .before .before .before .before .before .before .before .before .before .before .args .saved-frames .now) (c .before .before .before .before .before .before .before .before .before .before .before .before .before .before .before .args .setup .now) plain b
 
 called-at : (c : tie.After-put) (b : Beside) → Begun (c .before .before .before .before .before .before .before .before .before .before .before .before .before .before .before) b → At (c .before .before .before .before .before .before .before .before .before .before .before .before .before .before .before .args .l) called (called-mem c b) (c .before .before .before .before .before .before .push-frame .result .machine) (b .fuel)
 called-at c b at = at-called (c .before .before .before .before .before .before .before .before .before .before .before .before .before .before .before .args .l) (called-mem c b) (c .before .before .before .before .before .before .push-frame .result .machine) (b .fuel) (after-put (c .before .before .before .before .before .before .before .before .before .before .before .before .before .before .before .args .l) opened (opened-mem (c .before .before .before .before .before .before) b) (c .before .before .before .before .before .before .push-frame .result .machine) (b .fuel) (opened-at (c .before .before .before .before .before .before) b at) 1 70 (c .put .last .0) (c .put .kept .0) (c .put .ensures))
 
 abbrev made-mem : tie.After-coro-new → Beside → Lent
-made-mem c b = lentNew (c .coro-new .last .0) (c .before .before .before .before .before .before .before .before .before .before .before .before .before .before .before .before .before .before .push-frame .last .1 .0) (c .coro-new .last .1 .1 .0) (c .coro-new .last .1 .1 .1 .0) (c .coro-new .last .1 .1 .1 .1 .0) (c .before .before .before .before .before .before .before .before .before .before .before .before .before .before .before .before .before .before .before .before .before .before .before .before .before .before .before .args .setup .now) b
+made-mem c b = topMaking (c .coro-new .last .0) (c .before .before .before .before .before .before .before .before .before .before .before .before .before .before .before .before .before .before .push-frame .last .1 .0) (c .coro-new .last .1 .1 .0) (c .coro-new .last .1 .1 .1 .0) (c .coro-new .last .1 .1 .1 .1 .0) (c .before .before .before .before .before .before .before .before .before .before .before .before .before .before .before .before .before .before .before .before .before .before .before .before .before .before .before .args .setup .now) plain b
 
 made-at : (c : tie.After-coro-new) (b : Beside) → Begun (c .before .before .before .before .before .before .before .before .before .before .before .before .before .before .before .before .before .before .before .before .before .before .before .before .before .before .before) b → At (c .before .before .before .before .before .before .before .before .before .before .before .before .before .before .before .before .before .before .before .before .before .before .before .before .before .before .before .args .l) made (made-mem c b) (c .coro-new .result .machine) (b .fuel)
 made-at c b at = at-made (c .before .before .before .before .before .before .before .before .before .before .before .before .before .before .before .before .before .before .before .before .before .before .before .before .before .before .before .args .l) (made-mem c b) (c .coro-new .result .machine) (b .fuel) (after-new (c .before .before .before .before .before .before .before .before .before .before .before .before .before .before .before .before .before .before .before .before .before .before .before .before .before .before .before .args .l) called (called-mem (c .before .before .before .before .before .before .before .before .before .before .before .before) b) (c .before .before .before .before .before .before .before .before .before .before .before .before .before .before .before .before .before .before .push-frame .result .machine) (b .fuel) (called-at (c .before .before .before .before .before .before .before .before .before .before .before .before) b at) (coroNew 0 1 1) (c .coro-new .last .0) (c .coro-new .last .1 .1 .0) (c .coro-new .last .1 .1 .1 .0) (c .coro-new .last .1 .1 .1 .1 .0) (c .coro-new .result .machine) (c .coro-new .result .step) (called-known .sound) (room-six (c .before .before .before .before .before .before .before .before .before .before .before .before .before .before .before .before .before .before .before .before .before .before .before .before .before .before .before .args .l) called (called-mem (c .before .before .before .before .before .before .before .before .before .before .before .before) b) (c .before .before .before .before .before .before .before .before .before .before .before .before .before .before .before .before .before .before .push-frame .result .machine) (b .fuel) (called-at (c .before .before .before .before .before .before .before .before .before .before .before .before) b at) (c .coro-new .last .0) (c .before .before .before .before .before .before .before .before .before .before .before .before .before .before .before .before .before .before .push-frame .last .1 .0) (b .words .chain) (c .coro-new .last .1 .1 .0) (c .coro-new .last .1 .1 .1 .0) (c .coro-new .last .1 .1 .1 .1 .0) (c .coro-new .kept .0) refl refl (c .coro-new .kept .1 .1 .0) (c .coro-new .kept .1 .1 .1 .0) (c .coro-new .kept .1 .1 .1 .1 .0)) (c .coro-new .ensures))

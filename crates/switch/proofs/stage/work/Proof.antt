@@ -3,7 +3,8 @@ use Prim.{tt}
 use mathlib.Core.Path.{refl, _∙_}
 use native.Mathlib.Omega.{arith}
 use Rattle.model.specs.Exec.{yield, resume}
-use Rattle.memory.specs.Memory.{Lent, Beside, lent}
+use Rattle.memory.specs.Memory.{Lent, Beside}
+use Rattle.memory.specs.Lendings.{lent}
 use Rattle.switch.specs.Story.{made, begun, working, asleep}
 use Rattle.switch.specs.Stage.{At}
 use Rattle.switch.proofs.Told.{made-known, begun-known, working-known, asleep-known}

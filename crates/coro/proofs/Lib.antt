@@ -1,4 +1,0 @@
-pub mod Parts
-pub mod Entry
-pub mod Lands
-pub mod Stored

@@ -1,0 +1,123 @@
+-- An allocation on the lent words is the world's. Assumes nothing.
+use mathlib.Core.Path.{_≡_, refl, sym, ap, ap₂, _∙_, subst}
+use mathlib.Core.Bool.{Bool, true, false, not}
+use mathlib.Core.List.{List}
+use Prim.Native.Nat.{ℕ, _+_, _*_, _≤_}
+use native.Mathlib.Omega.{arith}
+use lib.ListN.{length, length-map}
+use lib.Dec.{ltb, leb}
+use borrow.Author.Tests.{ltb-true, ltb-false, le-leb, lt-leb}
+use Rattle.lists.specs.Pick.{pick}
+use Rattle.heap.specs.Word.{reference}
+use Rattle.heap.specs.Fault.{isNone}
+use Rattle.heap.specs.Charge as Charge
+use Rattle.heap.specs.Charge.{satAdd}
+use Rattle.heap.specs.Table.{slot, pushObject, nextWord}
+use Rattle.heap.specs.Heap.{putSlot}
+use Rattle.heap.specs.declared.fault.Fault.{Fault}
+use Rattle.heap.specs.declared.heap.Heap.{Heap}
+use Rattle.heap.specs.declared.value.Word.{Word}
+use Rattle.model.specs.Object.{Object}
+use Rattle.model.specs.World.{World, After, after, withSlots, withUsed}
+use Rattle.model.specs.Heap.{fits, slotsFull, refuse, alloc}
+use Rattle.model.specs.Sound.{rowWords}
+use Rattle.model.specs.declared.coro.Made.{Made}
+use Rattle.model.specs.declared.machine.Fuel.{Fuel}
+use Rattle.tables.specs.Parts.{SavedStack, SavedFrames}
+use Rattle.tables.specs.Sizes.{framesSize}
+use Rattle.memory.specs.Slots.{toObject, toSlot, toSlots}
+use Rattle.memory.specs.Memory.{Lent, onSlots, onSaved, Slots, Rep, regsRows, framesRows}
+use Rattle.memory.specs.Contract.{Does}
+use Rattle.memory.specs.declared.machine.Machine.{Machine}
+use Rattle.memory.specs.declared.machine.Sizes.{Sizes}
+use Rattle.memory.proofs.Slots.{push-same}
+use Rattle.memory.proofs.Does.{does}
+use Rattle.coro_create.specs.Numbers.{heapOf, allocated}
+use Rattle.memory.proofs.Tables.{slots-push}
+use Rattle.coro_create.proofs.Pushed.{Done, Lacking}
+
+-- ---- tests
+
+full-not : (a b : ℕ) → leb b a ≡ not (ltb a b)
+full-not a b = go (ltb a b) refl
+  where
+    go : (t : Bool) → ltb a b ≡ t → leb b a ≡ not t
+    go true e = lt-leb b a (ltb-true a b e)
+    go false e = le-leb b a (ltb-false a b e)
+
+refuses : (a b : Bool) (w : World) (g : Fault) (o : After Made) → g ≡ pick a (pick b Fault.None Fault.Full) Fault.OutOfMemory → isNone g ≡ false
+    → pick (not a) (refuse w Fault.OutOfMemory) (pick (not b) (refuse w Fault.Full) o) ≡ refuse w g
+unfolding pick
+refuses true true w g o e n = absurd (let z : true ≡ false = sym (ap isNone e) ∙ n in let y : _≡_ {A = ℕ} 0 1 = cc in omega arith)
+refuses true false w g o e n = ap (refuse w) (sym e)
+refuses false b w g o e n = ap (refuse w) (sym e)
+
+passes : (a b : Bool) (w : World) (o : After Made) → a ≡ true → b ≡ true → pick (not a) (refuse w Fault.OutOfMemory) (pick (not b) (refuse w Fault.Full) o) ≡ o
+unfolding pick
+passes a b w o p q = rw (p, q)
+
+-- ---- one world that the words stand for
+
+module _ (l : Sizes) (M : Lent) (m : Machine) (f : Fuel) (w : World) (rep : Rep l w M m f) where
+  pub count-is : m .count ≡ length (w .slots)
+  count-is = rep .slots .count ∙ length-map (w .slots) toSlot
+
+  pub fits-same : (bytes : ℕ) → fits w bytes ≡ Charge.fits (m .used) (l .memory) bytes
+  fits-same bytes = sym (ap₂ (λ a b. Charge.fits a b bytes) (rep .used) (rep .sizes .memory))
+
+  pub full-same : slotsFull w ≡ not (ltb (m .count) (l .slots))
+  full-same = sym (ap₂ (λ a b. leb a b) (rep .sizes .slots) count-is) ∙ full-not (m .count) (l .slots)
+
+  module _ (bytes : ℕ) (o : Object) where
+    abbrev pushed : World
+    pushed = withUsed (satAdd (w .used) bytes) (withSlots (pushObject (w .slots) o) w)
+
+    abbrev a : Bool
+    a = Charge.fits (m .used) (l .memory) bytes
+
+    abbrev b : Bool
+    b = ltb (m .count) (l .slots)
+
+    model : alloc bytes o w ≡ pick (not a) (refuse w Fault.OutOfMemory) (pick (not b) (refuse w Fault.Full) (after pushed (Made.Word (nextWord (w .slots)))))
+    unfolding alloc
+    model =
+        ap₂ (λ x y. pick (not x) (refuse w Fault.OutOfMemory) (pick y (refuse w Fault.Full) (after pushed (Made.Word (nextWord (w .slots)))))) (fits-same bytes) full-same
+
+    pub alloc-refused : (ws′ : List ℕ) (g : Fault) → Lacking (M .slots) ws′ (heapOf m l) bytes g → Does l (alloc bytes o w) (onSlots ws′ M) m f (Made.Refused g)
+    alloc-refused ws′ g k =
+        subst (λ z. Does l (alloc bytes o w) (onSlots z M) m f (Made.Refused g)) (sym (k .words))
+        (does l M m f (alloc bytes o w) w (Made.Refused g) (model ∙ refuses a b w g _ (k .fault) (k .some)) rep)
+
+    module _ (ws′ savedStack′ savedFrames′ : List ℕ) (h′ : Heap) (v : Word) (k : Done (M .slots) ws′ (heapOf m l) h′ bytes (toObject o) v) (room : l .slots * 20 ≤ length (M .slots)) where
+      slots-after : Slots (toSlots (pushObject (w .slots) o)) ws′ (h′ .count)
+      slots-after =
+          let left = ltb-true (m .count) (l .slots) (k .left) in
+          let s : Slots (pushObject (toSlots (w .slots)) (toObject o)) (putSlot (M .slots) (m .count) (slot 0 (toObject o))) (m .count + 1) =
+          slots-push (toSlots (w .slots)) (M .slots) (m .count) (slot 0 (toObject o)) (rep .slots) (omega arith) in
+          subst (λ xs. Slots xs ws′ (h′ .count)) (sym (push-same (w .slots) o))
+          (subst (λ z. Slots (pushObject (toSlots (w .slots)) (toObject o)) z (h′ .count)) (sym (k .words))
+          (subst (λ n. Slots (pushObject (toSlots (w .slots)) (toObject o)) (putSlot (M .slots) (m .count) (slot 0 (toObject o))) n) (sym (k .count)) s))
+
+      pub alloc-made : SavedStack (rowWords (w .setup)) (regsRows (w .setup .limits .rows) (pushObject (w .slots) o)) savedStack′
+          → SavedFrames (framesSize (w .setup)) (framesRows (w .setup .limits .rows) (pushObject (w .slots) o)) savedFrames′
+          → Does l (alloc bytes o w) (onSlots ws′ (onSaved savedStack′ savedFrames′ M)) (allocated m h′) f (Made.Word (v .0))
+      alloc-made on up =
+          does l (onSlots ws′ (onSaved savedStack′ savedFrames′ M)) (allocated m h′) f (alloc bytes o w) pushed (Made.Word (v .0))
+          (model ∙ passes a b w _ (k .fit) (k .left) ∙ ap (λ n. after pushed (Made.Word n)) (sym (k .word ∙ ap (λ n. reference n 0) count-is)))
+          (record {
+            sizes = rep .sizes;
+            setup = rep .setup;
+            stack = rep .stack;
+            frames = rep .frames;
+            chain = rep .chain;
+            slots = slots-after;
+            savedStack = on;
+            savedFrames = up;
+            ready = rep .ready;
+            finalize = rep .finalize;
+            finalizing = rep .finalizing;
+            outcome = rep .outcome;
+            used = k .used ∙ ap (λ n. satAdd n bytes) (rep .used);
+            seq = rep .seq;
+            fuel = rep .fuel;
+          })

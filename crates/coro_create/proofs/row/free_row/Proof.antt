@@ -1,0 +1,23 @@
+-- `free_row` meets its contract: the marks tell the rows that are held. Assumes nothing.
+use mathlib.Core.Path.{ap, _∙_}
+use mathlib.Core.Bool.{Bool, false}
+use mathlib.Core.List.{List}
+use lib.ListN.{getD}
+use Rattle.heap.specs.Heap.{slotsOf}
+use Rattle.coro_create.specs.Row.{lowestBy}
+use Rattle.coro_create.proofs.Held.{free-in}
+use borrow.Author.Needs.{needs}
+use Rattle.coro_create.proofs.row.free_row.Statement.{statement}
+use Rattle.coro_create.proofs.row.free_row.Tie as tie
+
+held-rows-requires : tie.Need-held-rows-requires
+held-rows-requires c κs = search needs
+
+lowest-requires : tie.Need-lowest-requires
+lowest-requires c κs = search needs
+
+returns : tie.Need-returns
+returns c = c .lowest .ensures ∙ ap (λ (held : List Bool). lowestBy (λ n. getD held n false) (c .before .before .before .args .rows) 0) (c .before .held-rows .ensures) ∙ free-in (slotsOf (c .before .before .before .args .count) (c .before .before .before .args .slots .now)) (c .before .before .before .args .rows) (c .before .before .before .pre .1)
+
+pub free-row-spec : {M : Type 1} → statement M
+free-row-spec = tie.close (tie.spec held-rows-requires lowest-requires returns)

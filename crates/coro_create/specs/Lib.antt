@@ -1,0 +1,4 @@
+pub mod Numbers
+pub mod Row
+pub mod Create
+pub mod State

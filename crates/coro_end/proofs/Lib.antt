@@ -1,0 +1,8 @@
+pub mod Slotted
+pub mod Iterators
+pub mod Delivery
+pub mod Rowless
+pub mod Ending
+pub mod Registers
+pub mod Homecoming
+pub mod Known

@@ -1,0 +1,81 @@
+-- `deliver_return` meets the definition, driver by driver. Assumes nothing.
+use Rattle.model.specs.declared.machine.Driver.{Driver}
+use Rattle.model.specs.declared.machine.Stop.{Stop}
+use Rattle.memory.specs.Lendings.{topTable, plain}
+use Rattle.coro_end.proofs.Delivery.{sent, told-host, return-to}
+use borrow.Author.Needs.{needs}
+use Rattle.coro_end.proofs.deliver.deliver_return.Statement.{statement}
+use Rattle.coro_end.proofs.deliver.deliver_return.Tie as tie
+
+enum-known-d : tie.Need-enum-known-d
+enum-known-d c = search needs
+
+coro-send-requires : tie.Need-coro-send-requires
+coro-send-requires c κs = (c .before .before .before .before .before .before .before .before .pre) .resumes (c .before .before .before .d .given .0 .0) (c .before .before .before .d .given .1)
+
+enum-known-d-2 : tie.Need-enum-known-d-2
+enum-known-d-2 c = search needs
+
+iter-returned-requires : tie.Need-iter-returned-requires
+iter-returned-requires c κs = let f = (c .before .before .before .before .before .before .before .before .before .pre) .iterates (c .before .before .before .before .d2 .given .0 .0) (c .before .before .before .before .d2 .given .0 .1 .0) (c .before .before .before .before .d2 .given .0 .1 .1 .0) (c .before .before .before .before .d2 .given .1) in (f .table, f .flag)
+
+enum-told : tie.Need-enum-told
+enum-told c = search needs
+
+stopped-requires : tie.Need-stopped-requires
+stopped-requires c κs = search needs
+
+enum-told-2 : tie.Need-enum-told-2
+enum-told-2 c = search needs
+
+set-finalizing-requires : tie.Need-set-finalizing-requires
+set-finalizing-requires c κs = search needs
+
+same-length : tie.Need-same-length
+same-length c = search needs
+
+same-length-2 : tie.Need-same-length-2
+same-length-2 c = search needs
+
+returns : tie.Need-returns
+returns c = λ l w b rep. return-to l _ (c .before .before .before .before .before .before .before .before .before .before .before .before .before .args .m) (c .before .before .before .before .before .before .before .before .before .before .before .before .before .args .fuel) w (c .before .before .before .before .before .before .before .before .before .before .before .before .before .args .d) (Driver.Resume (c .before .before .before .before .before .before .before .before .d .given .0 .0)) (c .before .before .before .before .before .before .before .before .before .before .before .before .before .args .value) (c .before .before .before .before .before .before .before .before .d .given .1) (sent l (topTable (c .before .before .before .before .before .before .before .before .before .before .before .before .before .args .stack .now) (c .before .before .before .before .before .before .before .before .before .before .before .before .before .args .frames .now) (c .before .before .before .before .before .before .before .before .before .before .before .before .before .args .slots .now) plain b) (c .before .before .before .before .before .before .before .before .before .before .before .before .before .args .m) (c .before .before .before .before .before .before .before .before .before .before .before .before .before .args .fuel) w rep _ _ (c .before .before .before .before .before .before .before .before .d .given .0 .0) (c .before .before .before .before .before .before .before .before .before .before .before .before .before .args .value) (c .before .before .before .before .coro-send .ensures))
+
+same-length-3 : tie.Need-same-length-3
+same-length-3 c = search needs
+
+same-length-4 : tie.Need-same-length-4
+same-length-4 c = search needs
+
+same-length-5 : tie.Need-same-length-5
+same-length-5 c = search needs
+
+returns-2 : tie.Need-returns-2
+returns-2 c = λ l w b rep. return-to l _ (c .before .before .before .before .before .before .before .before .before .before .before .before .before .before .before .before .args .m) (c .before .before .before .before .before .before .before .before .before .before .before .before .before .before .before .before .args .fuel) w (c .before .before .before .before .before .before .before .before .before .before .before .before .before .before .before .before .args .d) (Driver.Iter (c .before .before .before .before .before .before .before .before .before .before .before .d2 .given .0 .0) (c .before .before .before .before .before .before .before .before .before .before .before .d2 .given .0 .1 .0) (c .before .before .before .before .before .before .before .before .before .before .before .d2 .given .0 .1 .1 .0)) (c .before .before .before .before .before .before .before .before .before .before .before .before .before .before .before .before .args .value) (c .before .before .before .before .before .before .before .before .before .before .before .d2 .given .1) (c .before .before .before .before .before .before .iter-returned .ensures l w (record { words = b .words; fuel = c .before .before .before .before .before .before .before .before .before .before .before .before .before .before .before .before .args .fuel }) rep)
+
+returns-3 : tie.Need-returns-3
+returns-3 c = λ l w b rep. return-to l _ (c .stopped .result) (c .before .before .before .before .before .before .args .fuel) w (c .before .before .before .before .before .before .args .d) Driver.Host (c .before .before .before .before .before .before .args .value) (c .before .enum-told .given .1) (told-host l (topTable (c .before .before .before .before .before .before .args .stack .now) (c .before .before .before .before .before .before .args .frames .now) (c .before .before .before .before .before .before .args .slots .now) plain b) (c .before .before .before .before .before .before .args .m) (c .before .before .before .before .before .before .args .fuel) w rep (Stop.Returned (c .before .before .before .before .before .before .args .value)) (c .stopped .result) (c .stopped .ensures))
+
+returns-4 : tie.Need-returns-4
+returns-4 c = λ l w b rep. return-to l _ _ _ w (c .before .before .before .before .before .before .args .d) Driver.Finalize (c .before .before .before .before .before .before .args .value) (c .before .enum-told2 .given .1) (c .set-finalizing .ensures l w (record { words = topTable (c .before .before .before .before .before .before .args .stack .now) (c .before .before .before .before .before .before .args .frames .now) (c .before .before .before .before .before .before .args .slots .now) plain b; fuel = b .fuel }) rep)
+
+pub deliver-return-spec : {M : Type 1} → statement M
+deliver-return-spec =
+    tie.close
+    (tie.spec
+    enum-known-d
+    coro-send-requires
+    enum-known-d-2
+    iter-returned-requires
+    enum-told
+    stopped-requires
+    enum-told-2
+    set-finalizing-requires
+    same-length
+    same-length-2
+    returns
+    same-length-3
+    same-length-4
+    same-length-5
+    returns-2
+    returns-3
+    returns-4)

@@ -1,0 +1,29 @@
+-- `free_row` meets its contract, whether the coroutine is finished or not. Assumes nothing.
+use mathlib.Core.Path.{refl, sym, _∙_}
+use Rattle.invariant.proofs.Tests.{no-true}
+use borrow.Author.Needs.{needs}
+use Rattle.coro_end.proofs.finish.free_row.Statement.{statement}
+use Rattle.coro_end.proofs.finish.free_row.Tie as tie
+
+is-finished-requires : tie.Need-is-finished-requires
+is-finished-requires c κs = search needs
+
+returns : tie.Need-returns
+returns c = record { row = λ e. no-true (sym (sym (c .before .is-finished .ensures) ∙ c .if1 .taken) ∙ e); none = λ e. (refl, refl) }
+
+clear-row-requires : tie.Need-clear-row-requires
+clear-row-requires c κs = (c .before .before .before .before .before .before .pre) .row (sym (c .before .before .before .is-finished .ensures) ∙ c .before .before .if1 .left)
+
+same-length : tie.Need-same-length
+same-length c = search needs
+
+same-length-2 : tie.Need-same-length-2
+same-length-2 c = search needs
+
+returns-2 : tie.Need-returns-2
+returns-2 c = record { row = λ e. c .before .before .before .before .clear-row .ensures; none = λ e. no-true (sym e ∙ sym (c .before .before .before .before .before .before .before .before .is-finished .ensures) ∙ c .before .before .before .before .before .before .before .if1 .left) }
+
+pub free-row-spec : {M : Type 1} → statement M
+free-row-spec =
+    tie.close
+    (tie.spec is-finished-requires returns clear-row-requires same-length same-length-2 returns-2)

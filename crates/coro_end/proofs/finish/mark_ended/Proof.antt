@@ -1,0 +1,29 @@
+-- `mark_ended` meets its contract: it writes the record of a coroutine that has ended. Assumes nothing.
+use mathlib.Core.Path.{ap₂, _∙_}
+use Prim.Native.Nat.{ℕ}
+use Rattle.heap.specs.Heap.{putSlot}
+use Rattle.heap.specs.Table.{slot}
+use Rattle.heap.specs.declared.object.CoroObj.{CoroObj}
+use Rattle.heap.specs.declared.object.Object.the-variants as O
+use borrow.Author.Needs.{needs}
+use Rattle.coro_end.proofs.finish.mark_ended.Statement.{statement}
+use Rattle.coro_end.proofs.finish.mark_ended.Tie as tie
+
+tag-requires : tie.Need-tag-requires
+tag-requires c κs = search needs
+
+ended-requires : tie.Need-ended-requires
+ended-requires c κs = search needs
+
+put-slot-requires : tie.Need-put-slot-requires
+put-slot-requires c κs = search needs
+
+same-length : tie.Need-same-length
+same-length c = search needs
+
+returns : tie.Need-returns
+returns c = let a = c .before .before .before .before .before .before .before .args in c .before .before .put-slot .ensures ∙ ap₂ (λ (t : ℕ) (x : CoroObj). putSlot (a .slots .now) (a .i) (slot t (O.Coro x))) (c .before .before .before .before .before .tag .ensures) (c .before .before .before .before .ended .ensures)
+
+pub mark-ended-spec : {M : Type 1} → statement M
+mark-ended-spec =
+    tie.close (tie.spec tag-requires ended-requires put-slot-requires same-length returns)

@@ -1,0 +1,82 @@
+-- `iter_at` meets its contract, by what the word names. Assumes nothing.
+use mathlib.Core.Path.{sym, ap, _∙_}
+use Rattle.heap.specs.Heap.{slotsOf}
+use Rattle.heap.proofs.Lookups.{found-words}
+use Rattle.coro_end.specs.Iter.{iterBy}
+use Rattle.coro_end.proofs.Iterators.{iter-here}
+use borrow.Author.Needs.{needs}
+use Rattle.coro_end.proofs.iter.iter_at.Statement.{statement}
+use Rattle.coro_end.proofs.iter.iter_at.Tie as tie
+
+get-requires : tie.Need-get-requires
+get-requires c κs = search needs
+
+enum-told : tie.Need-enum-told
+enum-told c = search needs
+
+enum-known-i : tie.Need-enum-known-i
+enum-known-i c = search needs
+
+object-at-requires : tie.Need-object-at-requires
+object-at-requires c κs = found-words (c .before .before .before .before .before .args .count) (c .before .before .before .before .before .args .slots .now) (c .before .before .before .before .before .args .v .0) (c .before .i .given .0 .0) (sym (c .before .i .given .1) ∙ c .before .before .before .get .ensures) (c .before .before .before .before .before .pre)
+
+enum-told-2 : tie.Need-enum-told-2
+enum-told-2 c = search needs
+
+enum-told-3 : tie.Need-enum-told-3
+enum-told-3 c = search needs
+
+enum-told-4 : tie.Need-enum-told-4
+enum-told-4 c = search needs
+
+enum-known-src : tie.Need-enum-known-src
+enum-known-src c = search needs
+
+enum-told-5 : tie.Need-enum-told-5
+enum-told-5 c = search needs
+
+enum-told-6 : tie.Need-enum-told-6
+enum-told-6 c = search needs
+
+returns : tie.Need-returns
+returns c = ap (iterBy (slotsOf (c .before .before .before .before .args .count) (c .before .before .before .before .args .slots .now))) (sym (c .enum-told .given .1) ∙ c .before .before .get .ensures)
+
+returns-2 : tie.Need-returns-2
+returns-2 c = iter-here (c .before .before .before .before .before .before .before .before .args .count) (c .before .before .before .before .before .before .before .before .args .slots .now) (c .before .before .before .before .before .before .before .before .args .v .0) (c .before .before .before .before .i .given .0 .0) _ (c .before .before .object-at .result) (sym (c .before .before .before .before .i .given .1) ∙ c .before .before .before .before .before .before .get .ensures) (c .enum-told2 .given .1) (c .before .before .object-at .ensures)
+
+returns-3 : tie.Need-returns-3
+returns-3 c = iter-here (c .before .before .before .before .before .before .before .before .args .count) (c .before .before .before .before .before .before .before .before .args .slots .now) (c .before .before .before .before .before .before .before .before .args .v .0) (c .before .before .before .before .i .given .0 .0) _ (c .before .before .object-at .result) (sym (c .before .before .before .before .i .given .1) ∙ c .before .before .before .before .before .before .get .ensures) (c .enum-told3 .given .1) (c .before .before .object-at .ensures)
+
+returns-4 : tie.Need-returns-4
+returns-4 c = iter-here (c .before .before .before .before .before .before .before .before .args .count) (c .before .before .before .before .before .before .before .before .args .slots .now) (c .before .before .before .before .before .before .before .before .args .v .0) (c .before .before .before .before .i .given .0 .0) _ (c .before .before .object-at .result) (sym (c .before .before .before .before .i .given .1) ∙ c .before .before .before .before .before .before .get .ensures) (c .enum-told4 .given .1) (c .before .before .object-at .ensures)
+
+returns-5 : tie.Need-returns-5
+returns-5 c = iter-here (c .before .before .before .before .before .before .before .before .before .args .count) (c .before .before .before .before .before .before .before .before .before .args .slots .now) (c .before .before .before .before .before .before .before .before .before .args .v .0) (c .before .before .before .before .before .i .given .0 .0) _ (c .before .before .before .object-at .result) (sym (c .before .before .before .before .before .i .given .1) ∙ c .before .before .before .before .before .before .before .get .ensures) (c .before .src .given .1) (c .before .before .before .object-at .ensures)
+
+returns-6 : tie.Need-returns-6
+returns-6 c = iter-here (c .before .before .before .before .before .before .before .before .args .count) (c .before .before .before .before .before .before .before .before .args .slots .now) (c .before .before .before .before .before .before .before .before .args .v .0) (c .before .before .before .before .i .given .0 .0) _ (c .before .before .object-at .result) (sym (c .before .before .before .before .i .given .1) ∙ c .before .before .before .before .before .before .get .ensures) (c .enum-told5 .given .1) (c .before .before .object-at .ensures)
+
+returns-7 : tie.Need-returns-7
+returns-7 c = iter-here (c .before .before .before .before .before .before .before .before .args .count) (c .before .before .before .before .before .before .before .before .args .slots .now) (c .before .before .before .before .before .before .before .before .args .v .0) (c .before .before .before .before .i .given .0 .0) _ (c .before .before .object-at .result) (sym (c .before .before .before .before .i .given .1) ∙ c .before .before .before .before .before .before .get .ensures) (c .enum-told6 .given .1) (c .before .before .object-at .ensures)
+
+pub iter-at-spec : {M : Type 1} → statement M
+iter-at-spec =
+    tie.close
+    (tie.spec
+    get-requires
+    enum-told
+    enum-known-i
+    object-at-requires
+    enum-told-2
+    enum-told-3
+    enum-told-4
+    enum-known-src
+    enum-told-5
+    enum-told-6
+    returns
+    returns-2
+    returns-3
+    returns-4
+    returns-5
+    returns-6
+    returns-7)

@@ -1,0 +1,24 @@
+-- `put_iter` meets its contract. Assumes nothing.
+use mathlib.Core.Path.{ap, _∙_}
+use Prim.Native.Nat.{ℕ}
+use Rattle.heap.specs.Heap.{putSlot}
+use Rattle.heap.specs.Table.{slot}
+use Rattle.heap.specs.declared.object.Object.the-variants as O
+use borrow.Author.Needs.{needs}
+use Rattle.coro_end.proofs.iter.put_iter.Statement.{statement}
+use Rattle.coro_end.proofs.iter.put_iter.Tie as tie
+
+tag-requires : tie.Need-tag-requires
+tag-requires c κs = search needs
+
+put-slot-requires : tie.Need-put-slot-requires
+put-slot-requires c κs = search needs
+
+same-length : tie.Need-same-length
+same-length c = search needs
+
+returns : tie.Need-returns
+returns c = c .before .before .put-slot .ensures ∙ ap (λ (t : ℕ). putSlot (c .before .before .before .before .before .before .args .slots .now) (c .before .before .before .before .before .before .args .i) (slot t (O.Iter (c .before .before .before .before .before .before .args .src) (c .before .before .before .before .before .before .args .done) (c .before .before .before .before .before .before .args .key)))) (c .before .before .before .before .tag .ensures)
+
+pub put-iter-spec : {M : Type 1} → statement M
+put-iter-spec = tie.close (tie.spec tag-requires put-slot-requires same-length returns)

@@ -1,0 +1,3 @@
+pub mod Parts
+pub mod Entry
+pub mod Lands

@@ -1,0 +1,44 @@
+-- `refusal` meets its contract, by its four tests. Assumes nothing.
+use mathlib.Core.Path.{sym, _∙_}
+use borrow.Author.Tests.{not-true, not-false}
+use Rattle.coro_enter.proofs.Parts.{by-state, by-none, by-depth, by-stack, by-nothing}
+use borrow.Author.Needs.{needs}
+use Rattle.coro_enter.proofs.enter.refusal.Statement.{statement}
+use Rattle.coro_enter.proofs.enter.refusal.Tie as tie
+
+is-resumable-requires : tie.Need-is-resumable-requires
+is-resumable-requires c κs = search needs
+
+returns : tie.Need-returns
+returns c = let a = c .before .before .args in by-state (a .m .height) (a .m .depth) (a .l) (a .c) (sym (c .before .is-resumable .ensures) ∙ not-true _ (c .if1 .taken))
+
+returns-2 : tie.Need-returns-2
+returns-2 c = let a = c .before .before .before .before .args in by-none (a .m .height) (a .m .depth) (a .l) (a .c) (c .if2 .taken)
+
+sub-if3 : tie.Need-sub-if3
+sub-if3 c = search needs
+
+returns-3 : tie.Need-returns-3
+returns-3 c = let a = c .before .before .before .before .before .before .before .before .args in by-depth (a .m .height) (a .m .depth) (a .l) (a .c) (sym (c .before .before .before .before .before .before .before .is-resumable .ensures) ∙ not-false _ (c .before .before .before .before .before .before .if1 .left)) (c .before .before .before .before .if2 .left) (c .before .before .before .before .before .before .before .before .pre .0) (c .if3 .taken)
+
+sub-if4 : tie.Need-sub-if4
+sub-if4 c = search needs
+
+returns-4 : tie.Need-returns-4
+returns-4 c = let a = c .before .before .before .before .before .before .before .before .before .before .before .before .args in by-stack (a .m .height) (a .m .depth) (a .l) (a .c) (sym (c .before .before .before .before .before .before .before .before .before .before .before .is-resumable .ensures) ∙ not-false _ (c .before .before .before .before .before .before .before .before .before .before .if1 .left)) (c .before .before .before .before .before .before .before .before .if2 .left) (c .before .before .before .before .before .before .before .before .before .before .before .before .pre .1) (c .if4 .taken)
+
+returns-5 : tie.Need-returns-5
+returns-5 c = let a = c .before .before .before .before .before .before .before .before .before .before .before .before .args in by-nothing (a .m .height) (a .m .depth) (a .l) (a .c) (sym (c .before .before .before .before .before .before .before .before .before .before .before .is-resumable .ensures) ∙ not-false _ (c .before .before .before .before .before .before .before .before .before .before .if1 .left)) (c .before .before .before .before .before .before .before .before .if2 .left) (c .before .before .before .before .before .before .before .before .before .before .before .before .pre .0) (c .before .before .before .before .before .before .before .before .before .before .before .before .pre .1) (c .before .before .before .before .if3 .left) (c .if4 .left)
+
+pub refusal-spec : {M : Type 1} → statement M
+refusal-spec =
+    tie.close
+    (tie.spec
+    is-resumable-requires
+    returns
+    returns-2
+    sub-if3
+    returns-3
+    sub-if4
+    returns-4
+    returns-5)

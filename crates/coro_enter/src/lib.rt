@@ -1,0 +1,2 @@
+// coro.rs: impl Machine, on the lent words.
+pub mod enter;

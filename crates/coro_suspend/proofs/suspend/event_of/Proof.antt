@@ -1,0 +1,21 @@
+-- `event_of` meets its contract, by its two tests. Assumes nothing.
+use mathlib.Core.Path.{sym, _∙_}
+use Rattle.coro_suspend.proofs.Parts.{awaits, ignored, yielded}
+use borrow.Author.Needs.{needs}
+use Rattle.coro_suspend.proofs.suspend.event_of.Statement.{statement}
+use Rattle.coro_suspend.proofs.suspend.event_of.Tie as tie
+
+is-awaiting-requires : tie.Need-is-awaiting-requires
+is-awaiting-requires c κs = search needs
+
+returns : tie.Need-returns
+returns c = let a = c .before .before .args in awaits (a .s) (a .payload) (a .closing) (a .key) (sym (c .before .is-awaiting .ensures) ∙ c .if1 .taken)
+
+returns-2 : tie.Need-returns-2
+returns-2 c = let a = c .before .before .before .args in ignored (a .s) (a .payload) (a .closing) (a .key) (sym (c .before .before .is-awaiting .ensures) ∙ c .before .if1 .left) (c .if2 .taken)
+
+returns-3 : tie.Need-returns-3
+returns-3 c = let a = c .before .before .before .args in yielded (a .s) (a .payload) (a .closing) (a .key) (sym (c .before .before .is-awaiting .ensures) ∙ c .before .if1 .left) (c .if2 .left)
+
+pub event-of-spec : {M : Type 1} → statement M
+event-of-spec = tie.close (tie.spec is-awaiting-requires returns returns-2 returns-3)

@@ -1,0 +1,34 @@
+-- `growth` meets its contract: the numbers are small. Assumes nothing.
+use mathlib.Core.Path.{ap₂}
+use Prim.Native.Nat.{_+_, _*_, _≤_}
+use native.Mathlib.Omega.{arith}
+use Rattle.coro_suspend.proofs.Parts.{small-product}
+use borrow.Author.Needs.{needs}
+use Rattle.coro_suspend.proofs.suspend.growth.Statement.{statement}
+use Rattle.coro_suspend.proofs.suspend.growth.Tie as tie
+
+product : (c : tie.After-beyond2) → c .beyond2 .result * c .before .before .before .args .l .costs .frame ≤ 8388608
+product c = let a = c .before .before .before .args in let e = c .beyond2 .ensures in let p = c .before .before .before .pre in small-product (c .beyond2 .result) (a .l .costs .frame) (omega (arith, p .1)) (p .2)
+
+beyond-requires : tie.Need-beyond-requires
+beyond-requires c κs = search needs
+
+beyond-requires-2 : tie.Need-beyond-requires-2
+beyond-requires-2 c κs = search needs
+
+mul-result : tie.Need-mul-result
+mul-result c = search needs
+
+mul-result-2 : tie.Need-mul-result-2
+mul-result-2 c = let h = product (c .before) in omega arith
+
+add-result : tie.Need-add-result
+add-result c = let h = product (c .before) in omega arith
+
+returns : tie.Need-returns
+returns c = let a = c .before .before .before .before .args in ap₂ (λ x y. x * 8 + y * a .l .costs .frame) (c .before .before .beyond .ensures) (c .before .beyond2 .ensures)
+
+pub growth-spec : {M : Type 1} → statement M
+growth-spec =
+    tie.close
+    (tie.spec beyond-requires beyond-requires-2 mul-result mul-result-2 add-result returns)

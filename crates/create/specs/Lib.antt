@@ -1,5 +1,0 @@
-pub mod Numbers
-pub mod Row
-pub mod Create
-pub mod Key
-pub mod State

@@ -1,2 +1,0 @@
-pub mod Newly
-pub mod Resumed

@@ -1,0 +1,50 @@
+-- Resume on the world: an entry, and then an arrival. Assumes nothing.
+use mathlib.Core.Path.{_≡_, ap, ap₂, _∙_, subst, sym}
+use Prim.Native.Nat.{ℕ}
+use Rattle.heap.specs.declared.fault.Fault.{Fault}
+use Rattle.model.specs.World.{World, andThen}
+use Rattle.model.specs.Frames.{storePc, reg}
+use Rattle.model.specs.Coro.{coroSend, coroEnter}
+use Rattle.model.specs.Exec.{arrive, resume}
+use Rattle.model.specs.declared.coro.Entered.{Entered}
+use Rattle.model.specs.declared.exec.Step.{Step}
+use Rattle.model.specs.declared.machine.Driver.{Driver}
+use Rattle.model.specs.declared.machine.Fuel.{Fuel}
+use Rattle.memory.specs.Memory.{Lent, Rep}
+use Rattle.memory.specs.Contract.{Does}
+use Rattle.memory.specs.declared.machine.Machine.{Machine}
+use Rattle.memory.specs.declared.machine.Sizes.{Sizes}
+use Rattle.memory.proofs.Does.{does}
+use mathlib.Core.Bool.{true}
+use Rattle.model.specs.Sound.{sound}
+use Rattle.exec_enter.specs.Resume.{ArriveFits}
+use Rattle.coro_enter.proofs.Lands.{enter-lands}
+use Rattle.machine.proofs.Lands.{lands-fits}
+
+-- ---- a word arrives, or does not
+
+module _ (l : Sizes) (M : Lent) (m : Machine) (f : Fuel) (w : World) (a : Entered) (sent : ℕ) where
+  pub arrive-fresh : a ≡ Entered.Fresh → Rep l w M m f → Does l (arrive sent w a) M m f Step.Frame
+  arrive-fresh e rep = does l M m f (arrive sent w a) w Step.Frame (ap (arrive sent w) e) rep
+
+  pub arrive-sent : (x : ℕ) → a ≡ Entered.Suspended x → Rep l (coroSend x sent w) M m f → Does l (arrive sent w a) M m f Step.Frame
+  arrive-sent x e rep = does l M m f (arrive sent w a) (coroSend x sent w) Step.Frame (ap (arrive sent w) e) rep
+
+  pub arrive-refused : (g : Fault) → a ≡ Entered.Refused g → Rep l w M m f → Does l (arrive sent w a) M m f (Step.Fault g)
+  arrive-refused g e rep = does l M m f (arrive sent w a) w (Step.Fault g) (ap (arrive sent w) e) rep
+
+-- Resume is an entry, and then an arrival
+pub resumed : (l : Sizes) (M : Lent) (m : Machine) (f : Fuel) (w : World) (pc dst c src v sent : ℕ) (a : Entered) (s : Step) → v ≡ reg w c → sent ≡ reg w src
+    → a ≡ coroEnter v (Driver.Resume dst) (storePc pc w) .answer → Does l (arrive sent (coroEnter v (Driver.Resume dst) (storePc pc w) .world) a) M m f s
+    → Does l (resume pc dst c src w) M m f s
+unfolding resume
+resumed l M m f w pc dst c src v sent a s ev es ea d =
+    subst (λ z. Does l z M m f s)
+    (ap (arrive sent (coroEnter v (Driver.Resume dst) (storePc pc w) .world)) ea
+    ∙ ap₂ (λ x y. andThen (coroEnter x (Driver.Resume dst) (storePc pc w)) (arrive y)) ev es) d
+
+-- the register that waits lies in the top frame of what was entered
+pub arrive-fits : (l : Sizes) (M : Lent) (m : Machine) (fuel : Fuel) (v : ℕ) (d : Driver) (w : World) (a : Entered) → sound w ≡ true → Does l (coroEnter v d w) M m fuel a
+    → ArriveFits (M .stack) (M .frames) (m .height) (m .depth) a
+arrive-fits l M m fuel v d w a snd did =
+    record { waits = λ x e. lands-fits l M m fuel (coroEnter v d w .world) x (did .world) (enter-lands v d w snd x (sym (did .answer) ∙ e)) }

@@ -1,0 +1,2 @@
+// coro.rs: exec, its arms that enter coroutines, after their gate and charge.
+pub mod resume;

@@ -1,0 +1,17 @@
+-- coro.rs: exec, CoroNew, on the lent words.
+use mathlib.Core.List.{List}
+use Prim.Native.Nat.{ℕ, _+_, _-_, _*_, _≤_, _<_}
+use lib.ListN.{getD}
+use Rattle.tables.specs.Does.{RegFits}
+use Rattle.memory.specs.Lendings.{topMaking, plain}
+use Rattle.memory.specs.Contract.{Ok, only}
+use Rattle.memory.specs.declared.machine.Machine.{Machine}
+use Rattle.memory.specs.declared.machine.Sizes.{Sizes}
+
+-- a sound world, one of the set-up's functions, a register of the top frame, and the argument window after it on the stack
+pub record NewFits (l : Sizes) (stack frames slots savedStack savedFrames setup : List ℕ) (m : Machine) (dst f argc : ℕ) : Type 0 where
+  pub ok : Ok l (topMaking stack frames slots savedStack savedFrames setup plain) (only m)
+  pub function : f < getD setup 13 0
+  pub few : argc ≤ 255
+  pub reg : RegFits stack frames (m .height) (m .depth) dst
+  pub window : getD frames ((m .depth - 1) * 6 + 2) 0 + dst + 1 + argc ≤ m .height

@@ -1,0 +1,2 @@
+// coro.rs: exec, its arms that make coroutines, after their gate and charge.
+pub mod new;

@@ -1,0 +1,57 @@
+// coro.rs: exec, CoroNew. Its operands have been tested.
+ghost use Rattle.model.specs.Exec.{putMade, coroNew};
+ghost use Rattle.tables.specs.Does.{RegFits};
+ghost use Rattle.exec_make.specs.New.{NewFits};
+ghost use Rattle.memory.specs.Lendings.{top, topMaking};
+ghost use Rattle.memory.specs.Contract.{Met, any, every, ifSound, only};
+use coro_create::create::coro_create;
+use machine::step::StepDid;
+use memory::machine::Machine;
+use memory::machine::Sizes;
+use model::coro::Made;
+use model::exec::Step;
+
+// r!(dst) = t!(made); Step::Next
+pub(crate) fn put_made(stack: &mut [u64], frames: &[u64], m: Machine, dst: u64, a: Made) -> Step
+    requires { ⌜ RegFits (now stack) (now frames) (m .height) (m .depth) dst ⌝ }
+    ensures { λ r. ⌜ every (λ l. Met any l (λ w. putMade dst w a) (top stack frames) (only m) (only m) r) ⌝ }
+{
+    match a {
+        Made::Word(v) => {
+            machine::frame::put(stack, frames, m, dst, v);
+            Step::Next
+        }
+        Made::Refused(f) => Step::Fault(f),
+    }
+}
+
+// coro.rs: exec, CoroNew: a coroutine of function f, with the argc words after register dst.
+pub fn coro_new(
+    stack: &mut [u64],
+    frames: &[u64],
+    slots: &mut [u64],
+    saved_stack: &mut [u64],
+    saved_frames: &mut [u64],
+    setup: &[u64],
+    m: Machine,
+    l: Sizes,
+    dst: u64,
+    f: u64,
+    argc: u64,
+) -> StepDid
+    requires { ⌜ NewFits l (now stack) (now frames) (now slots) (now «saved_stack») (now «saved_frames») (now setup) m dst f argc ⌝ }
+    ensures { λ r. ⌜ Met ifSound l (coroNew dst f argc) (topMaking stack frames slots «saved_stack» «saved_frames» setup) (only m) (only (r .machine)) (r .step) ⌝ }
+{
+    let base = frames[(m.depth - 1) * 6 + 2] as usize;
+    let at = base + (dst as usize) + 1;
+    let n = argc as usize;
+    let args = tables::runs::set_aside(stack, at, n);
+    let did = coro_create(slots, saved_stack, saved_frames, setup, m, l, f, 0, args, n);
+    let next = did.machine;
+    let answer = did.answer;
+    let step = put_made(stack, frames, next, dst, answer);
+    StepDid {
+        machine: next,
+        step,
+    }
+}

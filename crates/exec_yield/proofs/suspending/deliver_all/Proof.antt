@@ -1,0 +1,46 @@
+-- `deliver_all` meets its contract, arm by arm. Assumes nothing.
+use Rattle.exec_yield.proofs.Settled.{deliver-done, deliver-refused}
+use borrow.Author.Needs.{needs}
+use Rattle.exec_yield.proofs.suspending.deliver_all.Statement.{statement}
+use Rattle.exec_yield.proofs.suspending.deliver_all.Tie as tie
+
+enum-known-a : tie.Need-enum-known-a
+enum-known-a c = search needs
+
+deliver-requires : tie.Need-deliver-requires
+deliver-requires c κs = (c .before .before .before .before .before .before .before .before .before .pre .drives) ((c .before .before .before .before .a .given .0 .0)) ((c .before .before .before .before .a .given .0 .1 .0)) ((c .before .before .before .before .a .given .1))
+
+stepped-by-requires : tie.Need-stepped-by-requires
+stepped-by-requires c κs = search needs
+
+enum-known-a-2 : tie.Need-enum-known-a-2
+enum-known-a-2 c = search needs
+
+same-length : tie.Need-same-length
+same-length c = search needs
+
+same-length-2 : tie.Need-same-length-2
+same-length-2 c = search needs
+
+same-length-3 : tie.Need-same-length-3
+same-length-3 c = search needs
+
+returns : tie.Need-returns
+returns c = λ l w b rep. deliver-done l _ _ _ w (c .before .before .before .before .before .before .before .before .before .before .before .before .before .before .before .before .before .before .before .args .a) ((c .before .before .before .before .before .before .before .before .before .before .before .before .before .before .a .given .0 .0)) ((c .before .before .before .before .before .before .before .before .before .before .before .before .before .before .a .given .0 .1 .0)) _ _ ((c .before .before .before .before .before .before .before .before .before .before .before .before .before .before .a .given .1)) ((c .before .before .before .before .before .before .before .before .before .deliver .ensures) l w b rep) (c .stepped-by .ensures)
+
+returns-2 : tie.Need-returns-2
+returns-2 c = λ l w b rep. deliver-refused l _ _ _ w (c .before .before .before .before .before .before .args .a) ((c .before .a2 .given .0 .0)) ((c .before .a2 .given .1)) rep
+
+pub deliver-all-spec : {M : Type 1} → statement M
+deliver-all-spec =
+    tie.close
+    (tie.spec
+    enum-known-a
+    deliver-requires
+    stepped-by-requires
+    enum-known-a-2
+    same-length
+    same-length-2
+    same-length-3
+    returns
+    returns-2)

@@ -1,0 +1,22 @@
+-- `keyed` meets its contract. Assumes nothing.
+use mathlib.Core.Path.{ap, ap₂, _∙_}
+use Rattle.model.specs.Exec.{largerOf}
+use Rattle.model.specs.declared.coro.Keys.{Keys}
+use borrow.Author.Needs.{needs}
+use Rattle.exec_yield.proofs.yielding.keyed.Statement.{statement}
+use Rattle.exec_yield.proofs.yielding.keyed.Tie as tie
+
+dyn-int-requires : tie.Need-dyn-int-requires
+dyn-int-requires c κs = search needs
+
+largest-in-requires : tie.Need-largest-in-requires
+largest-in-requires c κs = search needs
+
+larger-of-requires : tie.Need-larger-of-requires
+larger-of-requires c κs = search needs
+
+returns : tie.Need-returns
+returns c = λ l w b rep. ap (Keys.Set (c .before .before .before .before .args .key)) ((c .larger-of .ensures) ∙ ap₂ largerOf ((c .before .largest-in .ensures) l w b rep) ((c .before .before .dyn-int .ensures) l w b rep))
+
+pub keyed-spec : {M : Type 1} → statement M
+keyed-spec = tie.close (tie.spec dyn-int-requires largest-in-requires larger-of-requires returns)

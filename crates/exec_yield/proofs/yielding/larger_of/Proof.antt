@@ -1,0 +1,28 @@
+-- `larger_of` meets its contract. Assumes nothing.
+use mathlib.Core.Path.{sym, _∙_}
+use Rattle.exec_yield.proofs.Keys.{keeps-none, rises, keeps}
+use borrow.Author.Needs.{needs}
+use Rattle.exec_yield.proofs.yielding.larger_of.Statement.{statement}
+use Rattle.exec_yield.proofs.yielding.larger_of.Tie as tie
+
+enum-told : tie.Need-enum-told
+enum-told c = search needs
+
+enum-known-n : tie.Need-enum-known-n
+enum-known-n c = search needs
+
+less-requires : tie.Need-less-requires
+less-requires c κs = search needs
+
+returns : tie.Need-returns
+returns c = rises (c .before .before .before .before .before .args .largest) (c .before .before .before .before .before .args .n) (c .before .before .before .n .given .0 .0) (c .before .before .before .n .given .1) (sym (c .before .less .ensures) ∙ (c .if1 .taken))
+
+returns-2 : tie.Need-returns-2
+returns-2 c = keeps-none (c .before .before .args .largest) (c .before .before .args .n) (c .enum-told .given .1)
+
+returns-3 : tie.Need-returns-3
+returns-3 c = keeps (c .before .before .before .before .before .args .largest) (c .before .before .before .before .before .args .n) (c .before .before .before .n .given .0 .0) (c .before .before .before .n .given .1) (sym (c .before .less .ensures) ∙ (c .if1 .left))
+
+pub larger-of-spec : {M : Type 1} → statement M
+larger-of-spec =
+    tie.close (tie.spec enum-told enum-known-n less-requires returns returns-2 returns-3)

@@ -1,0 +1,80 @@
+-- `yield_kv` meets the model: none runs, or the innermost one suspends with its keys. Assumes nothing.
+use mathlib.Core.Path.{refl, ap, _∙_}
+use native.Mathlib.Omega.{arith}
+use Rattle.memory.specs.Memory.{Lent, Beside}
+use Rattle.memory.specs.Lendings.{lent}
+use Rattle.exec_yield.proofs.Yields.{some-active, idle, runs, innermost, kv-idle, kv-runs}
+use borrow.Author.Needs.{needs}
+use Rattle.exec_yield.proofs.yielding.yield_kv.Statement.{statement}
+use Rattle.exec_yield.proofs.yielding.yield_kv.Tie as tie
+
+abbrev mem : tie.Start → Beside → Lent
+mem c b = lent (c .args .stack .now) (c .args .frames .now) (c .args .chain .now) (c .args .slots .now) (c .args .saved-stack .now) (c .args .saved-frames .now) b
+
+returns : tie.Need-returns
+returns c = λ w b rep snd. kv-idle (c .before .before .before .before .before .before .before .before .args .l) (mem ((c .before .before .before .before .before .before .before .before)) b) (c .before .before .before .before .before .before .before .before .args .m) (c .before .before .before .before .before .before .before .before .args .fuel) w (c .before .before .before .before .before .before .before .before .args .pc) (c .before .before .before .before .before .before .before .before .args .dst) (c .before .before .before .before .before .before .before .before .args .src) (c .before .before .before .before .before .before .before .before .args .key) (idle (c .before .before .before .before .before .before .before .before .args .l) w (mem ((c .before .before .before .before .before .before .before .before)) b) (c .before .before .before .before .before .before .before .before .args .m) (c .before .before .before .before .before .before .before .before .args .fuel) rep (c .if1 .taken)) rep
+
+reg-requires : tie.Need-reg-requires
+reg-requires c κs = search needs
+
+reg-requires-2 : tie.Need-reg-requires-2
+reg-requires-2 c κs = search needs
+
+sub-active-at : tie.Need-sub-active-at
+sub-active-at c = search needs
+
+active-at-requires : tie.Need-active-at-requires
+active-at-requires c κs = let h = some-active ((c .before .before .before .before .before .before .before .before .before .before .before .before .before .before .before .before .args .m .active)) (c .before .before .before .before .before .before .before .before .if1 .left) in let k = (c .before .before .before .before .before .before .before .before .before .before .before .before .before .before .before .before .pre .plain .ok .rep .chain .within) in omega arith
+
+keyed-requires : tie.Need-keyed-requires
+keyed-requires c κs = (c .before .before .before .before .before .before .before .before .before .before .before .before .before .before .before .before .before .before .pre .plain .ok .rep .slots .within)
+
+suspend-requires : tie.Need-suspend-requires
+suspend-requires c κs = record { run = record { ok = (c .before .before .before .before .before .before .before .before .before .before .before .before .before .before .before .before .before .before .before .before .before .before .before .before .before .pre .plain .ok); running = some-active ((c .before .before .before .before .before .before .before .before .before .before .before .before .before .before .before .before .before .before .before .before .before .before .before .before .before .args .m .active)) (c .before .before .before .before .before .before .before .before .before .before .before .before .before .before .before .before .before .if1 .left); narrow = (c .before .before .before .before .before .before .before .before .before .before .before .before .before .before .before .before .before .before .before .before .before .before .before .before .before .pre .plain .narrow) }; state = refl }
+
+same-length : tie.Need-same-length
+same-length c = search needs
+
+same-length-2 : tie.Need-same-length-2
+same-length-2 c = search needs
+
+same-length-3 : tie.Need-same-length-3
+same-length-3 c = search needs
+
+same-length-4 : tie.Need-same-length-4
+same-length-4 c = search needs
+
+same-length-5 : tie.Need-same-length-5
+same-length-5 c = search needs
+
+same-length-6 : tie.Need-same-length-6
+same-length-6 c = search needs
+
+returns-2 : tie.Need-returns-2
+returns-2 c = λ w b rep snd.
+    let h = some-active ((c .before .before .before .before .before .before .before .before .before .before .before .before .before .before .before .before .before .before .before .before .before .before .before .before .before .before .before .before .before .before .before .before .before .before .before .before .before .before .args .m .active)) (c .before .before .before .before .before .before .before .before .before .before .before .before .before .before .before .before .before .before .before .before .before .before .before .before .before .before .before .before .before .before .if1 .left) in
+    kv-runs (c .before .before .before .before .before .before .before .before .before .before .before .before .before .before .before .before .before .before .before .before .before .before .before .before .before .before .before .before .before .before .before .before .before .before .before .before .before .before .args .l) _ _ _ w (c .before .before .before .before .before .before .before .before .before .before .before .before .before .before .before .before .before .before .before .before .before .before .before .before .before .before .before .before .before .before .before .before .before .before .before .before .before .before .args .pc) (c .before .before .before .before .before .before .before .before .before .before .before .before .before .before .before .before .before .before .before .before .before .before .before .before .before .before .before .before .before .before .before .before .before .before .before .before .before .before .args .dst) (c .before .before .before .before .before .before .before .before .before .before .before .before .before .before .before .before .before .before .before .before .before .before .before .before .before .before .before .before .before .before .before .before .before .before .before .before .before .before .args .src) (c .before .before .before .before .before .before .before .before .before .before .before .before .before .before .before .before .before .before .before .before .before .before .before .before .before .before .before .before .before .before .before .before .before .before .before .before .before .before .args .key) (runs (c .before .before .before .before .before .before .before .before .before .before .before .before .before .before .before .before .before .before .before .before .before .before .before .before .before .before .before .before .before .before .before .before .before .before .before .before .before .before .args .l) w (mem ((c .before .before .before .before .before .before .before .before .before .before .before .before .before .before .before .before .before .before .before .before .before .before .before .before .before .before .before .before .before .before .before .before .before .before .before .before .before .before)) b) (c .before .before .before .before .before .before .before .before .before .before .before .before .before .before .before .before .before .before .before .before .before .before .before .before .before .before .before .before .before .before .before .before .before .before .before .before .before .before .args .m) (c .before .before .before .before .before .before .before .before .before .before .before .before .before .before .before .before .before .before .before .before .before .before .before .before .before .before .before .before .before .before .before .before .before .before .before .before .before .before .args .fuel) rep h) _ _ _ _ _
+    ((c .before .before .before .before .before .before .before .before .before .before .before .before .before .before .before .before .before .before .before .before .before .before .before .before .before .before .before .reg .ensures) (w .stack) (w .frames) (rep .stack) (rep .frames) .is)
+    (ap (λ z. z .coro) ((c .before .before .before .before .before .before .before .before .before .before .before .before .before .before .before .before .before .before .before .before .before .active-at .ensures) ∙ innermost (c .before .before .before .before .before .before .before .before .before .before .before .before .before .before .before .before .before .before .before .before .before .before .before .before .before .before .before .before .before .before .before .before .before .before .before .before .before .before .args .l) w (mem ((c .before .before .before .before .before .before .before .before .before .before .before .before .before .before .before .before .before .before .before .before .before .before .before .before .before .before .before .before .before .before .before .before .before .before .before .before .before .before)) b) (c .before .before .before .before .before .before .before .before .before .before .before .before .before .before .before .before .before .before .before .before .before .before .before .before .before .before .before .before .before .before .before .before .before .before .before .before .before .before .args .m) (c .before .before .before .before .before .before .before .before .before .before .before .before .before .before .before .before .before .before .before .before .before .before .before .before .before .before .before .before .before .before .before .before .before .before .before .before .before .before .args .fuel) rep h))
+    ((c .before .before .before .before .before .before .before .before .before .before .before .before .before .before .before .before .before .before .before .before .before .before .before .before .reg2 .ensures) (w .stack) (w .frames) (rep .stack) (rep .frames) .is)
+    ((c .before .before .before .before .before .before .before .before .before .before .before .before .before .before .before .before .before .before .before .keyed .ensures) (c .before .before .before .before .before .before .before .before .before .before .before .before .before .before .before .before .before .before .before .before .before .before .before .before .before .before .before .before .before .before .before .before .before .before .before .before .before .before .args .l) w (record { words = mem ((c .before .before .before .before .before .before .before .before .before .before .before .before .before .before .before .before .before .before .before .before .before .before .before .before .before .before .before .before .before .before .before .before .before .before .before .before .before .before)) b; fuel = (c .before .before .before .before .before .before .before .before .before .before .before .before .before .before .before .before .before .before .before .before .before .before .before .before .before .before .before .before .before .before .before .before .before .before .before .before .before .before .args .fuel) }) rep)
+    ((c .before .before .before .before .before .before .before .before .before .before .before .before .suspend .ensures) w b rep snd)
+
+pub yield-kv-spec : {M : Type 1} → statement M
+yield-kv-spec =
+    tie.close
+    (tie.spec
+    returns
+    reg-requires
+    reg-requires-2
+    sub-active-at
+    active-at-requires
+    keyed-requires
+    suspend-requires
+    same-length
+    same-length-2
+    same-length-3
+    same-length-4
+    same-length-5
+    same-length-6
+    returns-2)

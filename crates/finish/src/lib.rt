@@ -1,6 +1,0 @@
-// coro.rs: deliveries, and the end of a coroutine.
-pub mod deliver;
-pub mod finish;
-pub mod fuel;
-pub mod iter;
-pub mod returned;

@@ -1,0 +1,18 @@
+-- `set_finalizing` meets its contract: the mark, then the fuel. Assumes nothing.
+use mathlib.Core.Path.{refl}
+use borrow.Author.Needs.{needs}
+use Rattle.machine.proofs.Flags.{finalizes}
+use Rattle.machine.proofs.fuel.set_finalizing.Statement.{statement}
+use Rattle.machine.proofs.fuel.set_finalizing.Tie as tie
+
+close-ready-requires : tie.Need-close-ready-requires
+close-ready-requires c κs = search needs
+
+arm-close-requires : tie.Need-arm-close-requires
+arm-close-requires c κs = search needs
+
+returns : tie.Need-returns
+returns c = λ l w b rep. finalizes l (b .words) (c .before .before .args .m) (c .before .before .args .f) w (c .before .before .args .running) (c .before .close-ready .result) _ _ rep (c .before .close-ready .ensures) refl (c .arm-close .ensures)
+
+pub set-finalizing-spec : {M : Type 1} → statement M
+set-finalizing-spec = tie.close (tie.spec close-ready-requires arm-close-requires returns)
