@@ -1,7 +1,7 @@
 -- Which slices a function is lent: those, by a way to read one, over whatever the others hold.
 use mathlib.Core.List.{List}
 use Prim.Native.Nat.{ℕ}
-use Rattle.memory.specs.Memory.{Lent, Beside, onStack, onFrames, onChain, onSlots, onSaved, onSetup}
+use Rattle.memory.specs.Memory.{Lent, Beside, onStack, onFrames, onChain, onSlots, onSaved, onReady, onFinalize, onSetup}
 
 module _ {X : Type 0} where
   abbrev pub none : (X → List ℕ) → Beside → Lent
@@ -37,6 +37,26 @@ module _ {X : Type 0} where
   -- the six slices that a switch moves words between
   abbrev pub six : X → X → X → X → X → X → (X → List ℕ) → Beside → Lent
   six s f c o r q t b = onStack (t s) (onFrames (t f) (onChain (t c) (onSlots (t o) (onSaved (t r) (t q) (b .words)))))
+
+  -- .. and the cleanup queue; the set-up; all nine
+  abbrev pub cleaning : X → X → X → X → X → X → X → (X → List ℕ) → Beside → Lent
+  cleaning s f c o r q z t b = six s f c o r q t (record { words = onFinalize (t z) (b .words); fuel = b .fuel })
+
+  abbrev pub sixSetup : X → X → X → X → X → X → X → (X → List ℕ) → Beside → Lent
+  sixSetup s f c o r q u t b = six s f c o r q t (record { words = onSetup (t u) (b .words); fuel = b .fuel })
+
+  abbrev pub all : X → X → X → X → X → X → X → X → X → (X → List ℕ) → Beside → Lent
+  all s f c o r q a z u t b = six s f c o r q t (record { words = onReady (t a) (onFinalize (t z) (onSetup (t u) (b .words))); fuel = b .fuel })
+
+  -- the stack, the frames and the chain; the slots and a queue
+  abbrev pub topChain : X → X → X → (X → List ℕ) → Beside → Lent
+  topChain s f c t b = onStack (t s) (onFrames (t f) (onChain (t c) (b .words)))
+
+  abbrev pub tasks : X → X → (X → List ℕ) → Beside → Lent
+  tasks o a t b = onSlots (t o) (onReady (t a) (b .words))
+
+  abbrev pub cleanups : X → X → (X → List ℕ) → Beside → Lent
+  cleanups o z t b = onSlots (t o) (onFinalize (t z) (b .words))
 
 -- words as they are
 abbrev pub plain : List ℕ → List ℕ
