@@ -2,7 +2,7 @@
 use Prim.Native.Nat.{ℕ}
 use mathlib.Core.Path.{_≡_, refl, sym, ap, subst, _∙_}
 use mathlib.Core.Bool.{Bool, true, false, not, _&&_, _||_, true≢false, false≢true}
-use mathlib.Core.List.{List, [], _∷_}
+use mathlib.Core.List.{List, [], _∷_, _++_}
 use native.Mathlib.Omega.{arith}
 use lib.Dec.{eqb}
 use Rattle.lists.specs.Pick.{pick}
@@ -15,7 +15,7 @@ use Rattle.heap.specs.declared.value.Opt.{Opt}
 use Rattle.heap.specs.declared.int.Exact.{Exact}
 use Rattle.heap.specs.declared.int.Inline.{Inline}
 use Rattle.heap.specs.declared.int.IntTy.{IntTy}
-use Rattle.model.specs.Lists.{isNil}
+use Rattle.model.specs.Lists.{isNil, among}
 use Rattle.model.specs.Program.{func, isFunction}
 use Rattle.model.specs.Object.{Object, Coroutine, Absent, Is}
 use Rattle.model.specs.World.{World, After, after, andThen}
@@ -26,12 +26,14 @@ use Rattle.model.specs.Coro.{coroCreate}
 use Rattle.model.specs.Cleanup.{charge}
 use Rattle.model.specs.Machine.{isOk, writeMade, applyCont, resumeIn, returnMade, finishAs, finishOn, finish, searchMade, errorOf, storeSome, unwind}
 use Rattle.model.specs.Exec.{window, putMade, coroNew, indirectTo, indirect, coroNewIndirect, spawnMade, spawnBy, spawn, autoKey, keyAt, keyExact, largestIn, yieldKey, yieldOn, yield}
-use Rattle.model.specs.Gate.{refused, inFrame, windowIn, charged, instruction}
+use Rattle.model.specs.Gate.{refused, charged, instruction}
 use Rattle.model.specs.Added.{answerMade, iteratorOver, makeIterator}
 use Rattle.model.specs.Answer.{numberOf, stepNumber}
 use Rattle.model.specs.Sound.{sound}
-use Rattle.model.specs.Call.{Do}
-use Rattle.model.specs.Step.{call, step}
+use Rattle.model.specs.Step.{call, tested, doing}
+use Rattle.model.specs.Calls.{Row, Instruction, OnFrame, OnHost, Raise, Add, Seen, Other, table}
+use Rattle.sheet.specs.Gates.{atGate}
+use Rattle.sheet.specs.Own.{line, own}
 use Rattle.model.specs.declared.machine.Active.{Active}
 use Rattle.model.specs.declared.machine.Charge.{Charge}
 use Rattle.model.specs.declared.machine.Cont.{Cont}
@@ -41,11 +43,12 @@ use Rattle.model.specs.declared.coro.Keys.{Keys}
 use Rattle.model.specs.declared.coro.Made.{Made}
 use Rattle.model.specs.declared.exec.Step.{Step}
 use Rattle.heap.specs.declared.heap.ResultKind.{ResultKind}
+use Rattle.model.specs.declared.call.OptPc.{OptPc}
 use Rattle.model.specs.declared.call.Op.{Op}
 use Rattle.model.specs.declared.call.Answer.{Answer}
 use Rattle.sheet.specs.Number.{number}
 use Rattle.sheet.specs.Sites.{Site, Nowhere, At, creation, creationOf, spawning, large, integer, nextKeyOf, result, finishing, finishingTop, raising, iterating}
-use Rattle.sheet.specs.Places.{fullAt, behindCharge, behind, site, Places}
+use Rattle.sheet.specs.Places.{fullAt, behindCharge, behind, site, Places, siteBy}
 use Rattle.sheet.proofs.Choice.{both}
 use Rattle.sheet.proofs.Among.{same, unlike}
 use Rattle.sheet.proofs.Keep.{not-in, yielded-keeps}
@@ -289,7 +292,7 @@ raise-place f w =
     let o = alloc (w .setup .costs .error) (errorOf f w) w in
     carry (At w (w .setup .costs .error) (slotsFull w)) _ _ _ _ (search-follows (o .world) (o .answer)) (alloc-place (w .setup .costs .error) (errorOf f w) w)
 
-unwind-place : (f : Fault) (pc : Opt) (w : World) → Place (raising f (storeSome pc w)) (numberOf (unwind f pc w .answer)) (unwind f pc w .world)
+unwind-place : (f : Fault) (pc : OptPc) (w : World) → Place (raising f (storeSome pc w)) (numberOf (unwind f pc w .answer)) (unwind f pc w .world)
 unfolding unwind pick
 unwind-place Fault.None pc w = refl
 unwind-place Fault.NullReference pc w = raise-place Fault.NullReference (storeSome pc w)
@@ -342,38 +345,64 @@ module _ (arm : World → After Step) (next : World → Site) (p : (u : World) �
   instruction-place : (pc : ℕ) (ok : Bool) (w : World) → Place (behind pc ok w next) (numberOf (instruction pc ok arm w .answer)) (instruction pc ok arm w .world)
   unfolding instruction
   instruction-place pc ok w =
-      let c = charge (Opt.Some pc) w in
+      let c = charge (OptPc.Some pc) w in
       gate-place (isNil (w .frames)) ok w (behindCharge (c .answer) (c .world) next) _ (charged-place (c .world) (c .answer))
+
+-- a call that makes no object
+nowhere : (w : World) (r : Row) → siteBy w r (λ u. Nowhere) ≡ Nowhere
+unfolding pick
+nowhere w (Instruction pc operands arm) = go (isNil (w .frames)) (operands w) (charge (OptPc.Some pc) w .answer)
+  where
+    go : (none ok : Bool) (c : Charge) → pick none Nowhere (pick (not ok) Nowhere (behindCharge c (charge (OptPc.Some pc) w .world) (λ u. Nowhere))) ≡ Nowhere
+    go true ok c = refl
+    go false false c = refl
+    go false true (Charge.Done n) = refl
+    go false true Charge.Spent = refl
+    go false true (Charge.Close n) = refl
+nowhere w (OnFrame operands body) = refl
+nowhere w (OnHost operands body) = refl
+nowhere w (Raise f pc) = refl
+nowhere w (Add n) = refl
+nowhere w Seen = refl
+nowhere w (Other body) = refl
+
+none-of : (w : World) (o : Op) → line o .site ≡ (λ u. Nowhere) → among 14 (atGate (table o) ++ own o) ≡ false → Place (site w o) (numberOf (call o w .answer)) (call o w .world)
+none-of w o e h = subst (λ s. Place s (numberOf (call o w .answer)) (call o w .world)) (sym (ap (λ f. siteBy w (table o) f) e ∙ nowhere w (table o))) (not-given 14 w o h)
+
+arm-of : (w : World) (o : Op) (pc : ℕ) (operands : World → Bool) (arm : World → After Step) (e : table o ≡ Instruction pc operands arm) → ((u : World) → Place (line o .site u) (stepNumber (arm u .answer)) (arm u .world)) →
+    Place (site w o) (numberOf (call o w .answer)) (call o w .world)
+unfolding call
+arm-of w o pc operands arm e p = subst (λ r. Place (siteBy w r (line o .site)) (numberOf (doing r w .answer)) (doing r w .world)) (sym e) (instruction-place arm (line o .site) p pc (operands w) w)
 
 place-of : (w : World) (o : Op) → Place (site w o) (numberOf (call o w .answer)) (call o w .world)
 unfolding call
-place-of w (Op.CoroNew pc dst f argc) = instruction-place (coroNew dst f argc) (creation f) (new-place dst f argc) pc (inFrame w dst && windowIn w dst argc && isFunction (w .setup) f) w
-place-of w (Op.CoroNewIndirect pc dst callee argc) = instruction-place (coroNewIndirect dst callee argc) (λ u. creationOf (object u (reg u callee)) argc u) (new-indirect-place dst callee argc) pc (inFrame w dst && inFrame w callee && windowIn w dst argc) w
-place-of w (Op.Spawn pc dst callee argc) = instruction-place (spawn pc dst callee argc) (λ u. spawning (u .setup .hook) callee argc u) (spawn-place pc dst callee argc) pc (inFrame w dst && inFrame w callee && windowIn w dst argc) w
-place-of w (Op.Yield pc dst src) = instruction-place (yield pc dst src) (λ u. nextKeyOf (u .chain) u) (yield-place pc dst src) pc (inFrame w dst && inFrame w src) w
-place-of w (Op.YieldKv pc dst src key) = not-given 14 w (Op.YieldKv pc dst src key) refl
-place-of w (Op.Await pc dst src) = not-given 14 w (Op.Await pc dst src) refl
-place-of w (Op.Resume pc dst c src) = not-given 14 w (Op.Resume pc dst c src) refl
-place-of w (Op.ResumeThrow pc dst c src) = not-given 14 w (Op.ResumeThrow pc dst c src) refl
-place-of w (Op.CoroClose pc dst c src) = not-given 14 w (Op.CoroClose pc dst c src) refl
-place-of w (Op.CoroStatus pc dst c) = not-given 14 w (Op.CoroStatus pc dst c) refl
-place-of w (Op.CoroCurrent pc dst) = not-given 14 w (Op.CoroCurrent pc dst) refl
-place-of w (Op.CoroKey pc dst c) = not-given 14 w (Op.CoroKey pc dst c) refl
-place-of w (Op.CoroResult pc dst c) = not-given 14 w (Op.CoroResult pc dst c) refl
-place-of w (Op.IterNext pc has iter val src) = not-given 14 w (Op.IterNext pc has iter val src) refl
+place-of w (Op.CoroNew pc dst f argc) = arm-of w (Op.CoroNew pc dst f argc) pc _ _ refl (new-place dst f argc)
+place-of w (Op.CoroNewIndirect pc dst callee argc) = arm-of w (Op.CoroNewIndirect pc dst callee argc) pc _ _ refl (new-indirect-place dst callee argc)
+place-of w (Op.Spawn pc dst callee argc) = arm-of w (Op.Spawn pc dst callee argc) pc _ _ refl (spawn-place pc dst callee argc)
+place-of w (Op.Yield pc dst src) = arm-of w (Op.Yield pc dst src) pc _ _ refl (yield-place pc dst src)
+place-of w (Op.YieldKv pc dst src key) = none-of w (Op.YieldKv pc dst src key) refl refl
+place-of w (Op.Await pc dst src) = none-of w (Op.Await pc dst src) refl refl
+place-of w (Op.Resume pc dst c src) = none-of w (Op.Resume pc dst c src) refl refl
+place-of w (Op.ResumeThrow pc dst c src) = none-of w (Op.ResumeThrow pc dst c src) refl refl
+place-of w (Op.CoroClose pc dst c src) = none-of w (Op.CoroClose pc dst c src) refl refl
+place-of w (Op.CoroStatus pc dst c) = none-of w (Op.CoroStatus pc dst c) refl refl
+place-of w (Op.CoroCurrent pc dst) = none-of w (Op.CoroCurrent pc dst) refl refl
+place-of w (Op.CoroKey pc dst c) = none-of w (Op.CoroKey pc dst c) refl refl
+place-of w (Op.CoroResult pc dst c) = none-of w (Op.CoroResult pc dst c) refl refl
+place-of w (Op.IterNext pc has iter val src) = none-of w (Op.IterNext pc has iter val src) refl refl
 place-of w (Op.Finish k v) = finish-place k v w
 place-of w (Op.Unwind f pc) = unwind-place f pc w
-place-of w (Op.SpawnTask v) = not-given 14 w (Op.SpawnTask v) refl
-place-of w (Op.HostCall f) = not-given 14 w (Op.HostCall f) refl
-place-of w (Op.HostEntry c v) = not-given 14 w (Op.HostEntry c v) refl
-place-of w (Op.FunctionCall pc f cont) = not-given 14 w (Op.FunctionCall pc f cont) refl
-place-of w (Op.PutWord r v) = not-given 14 w (Op.PutWord r v) refl
+place-of w (Op.SpawnTask v) = none-of w (Op.SpawnTask v) refl refl
+place-of w (Op.HostCall f) = none-of w (Op.HostCall f) refl refl
+place-of w (Op.HostEntry c v) = none-of w (Op.HostEntry c v) refl refl
+place-of w (Op.FunctionCall pc f cont) = none-of w (Op.FunctionCall pc f cont) refl refl
+place-of w (Op.PutWord r v) = none-of w (Op.PutWord r v) refl refl
 place-of w (Op.MakeIterator v) = iterator-place v w
-place-of w Op.TakeOutcome = not-given 14 w Op.TakeOutcome refl
-place-of w (Op.HandOver v) = not-given 14 w (Op.HandOver v) refl
-place-of w (Op.Grant n) = not-given 14 w (Op.Grant n) refl
-place-of w Op.StopRun = not-given 14 w Op.StopRun refl
-place-of w Op.Look = not-given 14 w Op.Look refl
+place-of w Op.TakeOutcome = none-of w Op.TakeOutcome refl refl
+place-of w (Op.HandOver v) = none-of w (Op.HandOver v) refl refl
+place-of w (Op.Grant n) = none-of w (Op.Grant n) refl refl
+place-of w Op.StopRun = none-of w Op.StopRun refl refl
+place-of w Op.Look = none-of w Op.Look refl refl
 
 -- ---- the statements
 
@@ -386,9 +415,9 @@ full-by (At u bytes full) n v p = go (fits u bytes) full refl refl
     go true true e k = ap (λ m. eqb m 14) (p .lacks e k .0)
     go true false e k = p .room e k
 
-at-site : (w : World) (o : Op) (u : World) (bytes : ℕ) (full : Bool) → sound w ≡ true → site w o ≡ At u bytes full → Holds (fits u bytes) full u (number w (Do o)) (step w (Do o) .world)
+at-site : (w : World) (o : Op) (u : World) (bytes : ℕ) (full : Bool) → sound w ≡ true → site w o ≡ At u bytes full → Holds (fits u bytes) full u (number w o) (tested w o .world)
 at-site w o u bytes full h e =
-    subst (λ s. Place s (number w (Do o)) (step w (Do o) .world)) e (subst (λ x. Place (site w o) (numberOf (x .answer)) (x .world)) (sym (step-sound w o h)) (place-of w o))
+    subst (λ s. Place s (number w o) (tested w o .world)) e (subst (λ x. Place (site w o) (numberOf (x .answer)) (x .world)) (sym (step-sound w o h)) (place-of w o))
 
 pub places : Places
 places =
