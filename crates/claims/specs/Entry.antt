@@ -17,7 +17,7 @@ use Rattle.model.specs.Coro.{overflows}
 use Rattle.model.specs.Cleanup.{suspendedAs, charge}
 use Rattle.model.specs.Sound.{sound}
 use Rattle.model.specs.Call.{Call, SetUp, Do}
-use Rattle.model.specs.Calls.{Row, Instruction, OnFrame, OnHost, Raise, Add, Seen, Other, table}
+use Rattle.model.specs.Calls.{Row, Instruction, OnFrame, OnHost, Unwinds, Grants, Looks, Other, table}
 use Rattle.model.specs.Exec.{largestIn, largerOf, autoKey}
 use Rattle.model.specs.declared.coro.Keys.{Keys}
 use Rattle.claims.specs.Tries.{tries, keyed, inBody}
@@ -109,9 +109,9 @@ abbrev pub actBy : World → Row → Plan → Act
 actBy w (Instruction pc operands arm) p = at pc (operands w) (aimOf p w)
 actBy w (OnFrame operands body) p = ownBy p
 actBy w (OnHost operands body) p = ownBy p
-actBy w (Raise f pc) p = unwinds
-actBy w (Add n) p = ownBy p
-actBy w Seen p = ownBy p
+actBy w (Unwinds f pc) p = unwinds
+actBy w (Grants n) p = ownBy p
+actBy w Looks p = ownBy p
 actBy w (Other body) p = ownBy p
 
 abbrev pub act : World → Op → Act

@@ -21,7 +21,7 @@ use Rattle.model.specs.Gate.{charged, instruction, onFrame, onHost}
 use Rattle.model.specs.Added.{answerMade, pushedOr, hostCall, hostArrive, hostEntry, functionCall, putWord, iteratorOver, makeIterator, takeOutcome, handOverAs, handOver, refuel, granted, grantTooLarge, grant, stopRun}
 use Rattle.model.specs.Sound.{sound, isNone}
 use Rattle.model.specs.Call.{Call, SetUp, Do}
-use Rattle.model.specs.Calls.{Row, Instruction, OnFrame, OnHost, Raise, Add, Seen, Other, table}
+use Rattle.model.specs.Calls.{Row, Instruction, OnFrame, OnHost, Unwinds, Grants, Looks, Other, table}
 use Rattle.model.specs.Step.{Out, doing, call, tested, step, run}
 use Rattle.model.specs.declared.machine.Cont.{Cont}
 use Rattle.model.specs.declared.machine.Driver.{Driver}
@@ -129,9 +129,9 @@ abbrev Owes : Row → Type 0
 Owes (Instruction pc operands arm) = (u : World) → Agree u → Ag (arm u)
 Owes (OnFrame operands body) = (u : World) → Agree u → Ag (body u)
 Owes (OnHost operands body) = (u : World) → Agree u → isNil (u .frames) ≡ true → Ag (body u)
-Owes (Raise f pc) = Unit {0}
-Owes (Add n) = Unit {0}
-Owes Seen = Unit {0}
+Owes (Unwinds f pc) = Unit {0}
+Owes (Grants n) = Unit {0}
+Owes Looks = Unit {0}
 Owes (Other body) = (u : World) → Agree u → Ag (body u)
 
 owes : (o : Op) → Owes (table o)
@@ -172,9 +172,9 @@ row-agree (Instruction pc operands arm) w owed h = instruction-agree w h pc (ope
 row-agree (OnFrame operands body) w owed h = picked Ag (isNil (w .frames)) (λ _. h) (λ _. picked Ag (not (operands w)) (λ _. h) (λ _. owed w h))
 row-agree (OnHost operands body) w owed h =
     picked Ag (not (isNil (w .frames))) (λ _. h) (λ empty. picked Ag (not (operands w)) (λ _. h) (λ _. owed w h (not-false (isNil (w .frames)) empty)))
-row-agree (Raise f pc) w owed h = unwind-agree f pc w h
-row-agree (Add n) w owed h = grant-agree w h n
-row-agree Seen w owed h = h
+row-agree (Unwinds f pc) w owed h = unwind-agree f pc w h
+row-agree (Grants n) w owed h = grant-agree w h n
+row-agree Looks w owed h = h
 row-agree (Other body) w owed h = owed w h
 
 call-agree : (w : World) → Agree w → (o : Op) → Agree (call o w .world)

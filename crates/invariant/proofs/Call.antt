@@ -12,7 +12,7 @@ use Rattle.model.specs.Program.{isFunction}
 use Rattle.model.specs.World.{World, After}
 use Rattle.model.specs.Gate.{inFrame, allIn, windowIn, answerOf, stepped, charged, instruction, onFrame, onHost}
 use Rattle.model.specs.Call.{isPc, isReg, areRegs, isArgc, isWord, optPc, typed}
-use Rattle.model.specs.Calls.{Row, Instruction, OnFrame, OnHost, Raise, Add, Seen, Other, table}
+use Rattle.model.specs.Calls.{Row, Instruction, OnFrame, OnHost, Unwinds, Grants, Looks, Other, table}
 use Rattle.model.specs.Step.{Out, told, doing, call}
 use Rattle.model.specs.declared.machine.Charge.{Charge}
 use Rattle.model.specs.declared.exec.Step.{Step}
@@ -61,9 +61,9 @@ module _ (ex : Bool) where
   Owes (Instruction pc operands arm) = (ltb pc (2 ^ 32) ≡ true) × ((w u : World) → operands w ≡ true → isNil (w .frames) ≡ false → Sound ex u → Calm w u → Good ex Stepping (arm u))
   Owes (OnFrame operands body) = (w : World) → isNil (w .frames) ≡ false → operands w ≡ true → Sound ex w → Good ex Fine (body w)
   Owes (OnHost operands body) = (w : World) → isNil (w .frames) ≡ true → operands w ≡ true → Sound ex w → Good ex Fine (body w)
-  Owes (Raise f pc) = optPc pc ≡ true
-  Owes (Add n) = Unit {0}
-  Owes Seen = Unit {0}
+  Owes (Unwinds f pc) = optPc pc ≡ true
+  Owes (Grants n) = Unit {0}
+  Owes Looks = Unit {0}
   Owes (Other body) = (w : World) → Sound ex w → Good ex Fine (body w)
 
   -- an instruction at pc whose first register is d: both are of their types, and d has passed the gate
@@ -146,9 +146,9 @@ row-keeps ex (OnHost operands body) w owed h =
     by-good (OnHost operands body) _
     (picked (Good ex Fine) (not (isNil (w .frames))) (λ _. good h refl)
     (λ empty. picked (Good ex Fine) (not (operands w)) (λ _. good h refl) (λ ok. owed w (not-false (isNil (w .frames)) empty) (not-false (operands w) ok) h)))
-row-keeps ex (Raise f pc) w e h = let g = unwind-good f pc w e h in record { sound = g .sound; fine = g .fact }
-row-keeps ex (Add n) w owed h = by-good (Add n) _ (grant-good n w h)
-row-keeps ex Seen w owed h = record { sound = h; fine = λ _. refl }
+row-keeps ex (Unwinds f pc) w e h = let g = unwind-good f pc w e h in record { sound = g .sound; fine = g .fact }
+row-keeps ex (Grants n) w owed h = by-good (Grants n) _ (grant-good n w h)
+row-keeps ex Looks w owed h = record { sound = h; fine = λ _. refl }
 row-keeps ex (Other body) w owed h = by-good (Other body) _ (owed w h)
 
 pub call-keeps : {ex : Bool} (o : Op) (w : World) → typed o ≡ true → Sound ex w → Keeps ex (table o) (call o w)

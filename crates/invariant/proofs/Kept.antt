@@ -22,7 +22,7 @@ use Rattle.model.specs.Added.{accepted}
 use Rattle.model.specs.Sound.{sound}
 use Rattle.model.specs.Answer.{numberOf}
 use Rattle.model.specs.Call.{Operation, Call, SetUp, Do}
-use Rattle.model.specs.Calls.{Row, Instruction, OnFrame, OnHost, Raise, Add, Seen, Other, table}
+use Rattle.model.specs.Calls.{Row, Instruction, OnFrame, OnHost, Unwinds, Grants, Looks, Other, table}
 use Rattle.model.specs.Step.{Out, told, doing, call, tested, step, run}
 use Rattle.model.specs.declared.call.OptPc.{OptPc}
 use Rattle.model.specs.declared.call.Op.{Op}
@@ -133,9 +133,9 @@ refuses : (r : Row) (w : World) → raises r ≡ false → doing r w .answer ≡
 refuses (Instruction pc operands arm) w e = no-true e
 refuses (OnFrame operands body) w e = no-true e
 refuses (OnHost operands body) w e = no-true e
-refuses (Raise f pc) w e = unraisable f pc w e
-refuses (Add n) w e = no-true e
-refuses Seen w e = no-true e
+refuses (Unwinds f pc) w e = unraisable f pc w e
+refuses (Grants n) w e = no-true e
+refuses Looks w e = no-true e
 refuses (Other body) w e = no-true e
 
 badly : (w : World) (c : Call) → sound w ≡ true → wellPut c ≡ false → step w c .answer ≡ Answer.Refused Fault.Unsound

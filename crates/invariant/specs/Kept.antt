@@ -11,7 +11,7 @@ use Rattle.model.specs.Sound.{sound}
 use Rattle.model.specs.Answer.{numberOf}
 use Rattle.model.specs.Machine.{raisable}
 use Rattle.model.specs.Call.{Operation, Call, SetUp, Do}
-use Rattle.model.specs.Calls.{Row, Instruction, OnFrame, OnHost, Raise, Add, Seen, Other, table}
+use Rattle.model.specs.Calls.{Row, Instruction, OnFrame, OnHost, Unwinds, Grants, Looks, Other, table}
 use Rattle.model.specs.Step.{call, step, run}
 use Rattle.model.specs.declared.call.Answer.{Answer}
 
@@ -20,9 +20,9 @@ abbrev pub raises : Row → Bool
 raises (Instruction pc operands arm) = true
 raises (OnFrame operands body) = true
 raises (OnHost operands body) = true
-raises (Raise f pc) = raisable f
-raises (Add n) = true
-raises Seen = true
+raises (Unwinds f pc) = raisable f
+raises (Grants n) = true
+raises Looks = true
 raises (Other body) = true
 
 -- 01: 11, "set-up .. breaks the rules below, or `unwind` gets no such fault": what a call can be refused for by itself

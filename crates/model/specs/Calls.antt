@@ -23,11 +23,11 @@ pub data Row : Type 0 where
   -- host call, host entry
   OnHost : (World → Bool) → (World → After Answer) → Row
   -- unwind: the fault, and the pc to store
-  Raise : Fault → OptPc → Row
+  Unwinds : Fault → OptPc → Row
   -- grant: the sum may be too large
-  Add : ℕ → Row
+  Grants : ℕ → Row
   -- look: nothing is done
-  Seen : Row
+  Looks : Row
   -- no gate
   Other : (World → After Answer) → Row
 
@@ -47,7 +47,7 @@ table (Op.CoroKey pc dst c) = Instruction pc (allIn (dst ∷ c ∷ [])) (coroKey
 table (Op.CoroResult pc dst c) = Instruction pc (allIn (dst ∷ c ∷ [])) (coroResult dst c)
 table (Op.IterNext pc has iter val src) = Instruction pc (allIn (has ∷ iter ∷ val ∷ src ∷ [])) (iterNext pc has iter val src)
 table (Op.Finish kind v) = Other (finish kind v)
-table (Op.Unwind f pc) = Raise f pc
+table (Op.Unwind f pc) = Unwinds f pc
 table (Op.SpawnTask v) = Other (λ w. andThen (spawnTask v w) answerMade)
 table (Op.HostCall f) = OnHost (λ w. isFunction (w .setup) f) (hostCall f)
 table (Op.HostEntry c v) = OnHost (λ w. true) (hostEntry c v)
@@ -56,6 +56,6 @@ table (Op.PutWord r v) = OnFrame (allIn (r ∷ [])) (putWord r v)
 table (Op.MakeIterator v) = Other (makeIterator v)
 table Op.TakeOutcome = Other takeOutcome
 table (Op.HandOver v) = Other (handOver v)
-table (Op.Grant n) = Add n
+table (Op.Grant n) = Grants n
 table Op.StopRun = Other stopRun
-table Op.Look = Seen
+table Op.Look = Looks

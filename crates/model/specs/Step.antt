@@ -13,7 +13,7 @@ use Rattle.model.specs.Gate.{refused, instruction, onFrame, onHost}
 use Rattle.model.specs.Added.{accepted, grant, registers}
 use Rattle.model.specs.Sound.{sound}
 use Rattle.model.specs.Call.{Call, SetUp, Do, typed, asCall}
-use Rattle.model.specs.Calls.{Row, Instruction, OnFrame, OnHost, Raise, Add, Seen, Other, table}
+use Rattle.model.specs.Calls.{Row, Instruction, OnFrame, OnHost, Unwinds, Grants, Looks, Other, table}
 use Rattle.model.specs.declared.call.Op.{Op}
 use Rattle.model.specs.declared.call.Answer.{Answer}
 
@@ -34,9 +34,9 @@ abbrev pub doing : Row → World → Out
 doing (Instruction pc operands arm) w = told (instruction pc (operands w) arm w)
 doing (OnFrame operands body) w = told (onFrame (operands w) body w)
 doing (OnHost operands body) w = told (onHost (operands w) body w)
-doing (Raise f pc) w = told (unwind f pc w)
-doing (Add n) w = told (grant n w)
-doing Seen w = out (accepted w) (registers w)
+doing (Unwinds f pc) w = told (unwind f pc w)
+doing (Grants n) w = told (grant n w)
+doing Looks w = out (accepted w) (registers w)
 doing (Other body) w = told (body w)
 
 -- a call on a sound machine

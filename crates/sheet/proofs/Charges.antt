@@ -23,7 +23,7 @@ use Rattle.model.specs.Gate.{instruction}
 use Rattle.model.specs.Answer.{numberOf, stepNumber}
 use Rattle.model.specs.Sound.{sound, isNone}
 use Rattle.model.specs.Step.{Out, call, tested}
-use Rattle.model.specs.Calls.{Instruction, OnFrame, OnHost, Other, table, Row, Raise, Add, Seen}
+use Rattle.model.specs.Calls.{Instruction, OnFrame, OnHost, Other, table, Row, Unwinds, Grants, Looks}
 use Rattle.model.specs.declared.machine.Active.{Active}
 use Rattle.model.specs.declared.machine.Charge.{Charge}
 use Rattle.model.specs.declared.machine.Cont.{Cont}
@@ -120,7 +120,7 @@ module _ (w u : World) (h : sound w ≡ true) (c : Calm w u) where
   idle : u .chain ≡ [] → true ≡ isNil (w .chain)
   idle e = sym (ap (λ (y : List Active). isNil y) (sym (c .chain) ∙ e))
 
-  yield-five : (pc dst src : ℕ) → eqb (stepNumber (yield pc dst src u .answer)) 5 ≡ isNil (w .chain)
+  pub yield-five : (pc dst src : ℕ) → eqb (stepNumber (yield pc dst src u .answer)) 5 ≡ isNil (w .chain)
   unfolding yield
   yield-five pc dst src = go (u .chain) refl
     where
@@ -135,7 +135,7 @@ module _ (w u : World) (h : sound w ≡ true) (c : Calm w u) where
           in
           active _ a rest e (yield-key suspends refl refl refl (u .finalize) pc dst (reg u src) v (λ t. never a rest e (sym same ∙ t)) (λ _. refl) (autoKey l u .answer) (k .passes) (k .queue))
 
-  yield-kv-five : (pc dst src key : ℕ) → eqb (stepNumber (yieldKv pc dst src key u .answer)) 5 ≡ isNil (w .chain)
+  pub yield-kv-five : (pc dst src key : ℕ) → eqb (stepNumber (yieldKv pc dst src key u .answer)) 5 ≡ isNil (w .chain)
   unfolding yieldKv
   yield-kv-five pc dst src key = go (u .chain) refl
     where
@@ -143,46 +143,13 @@ module _ (w u : World) (h : sound w ≡ true) (c : Calm w u) where
       go [] e = idle e
       go (a ∷ rest) e = active _ a rest e (yielded-keeps suspends refl refl refl pc dst (reg u src) _ u (never a rest e) (λ _. refl))
 
-  await-five : (pc dst src : ℕ) → eqb (stepNumber (await pc dst src u .answer)) 5 ≡ isNil (w .chain)
+  pub await-five : (pc dst src : ℕ) → eqb (stepNumber (await pc dst src u .answer)) 5 ≡ isNil (w .chain)
   unfolding await
   await-five pc dst src = go (u .chain) refl
     where
       go : (chain : List Active) → u .chain ≡ chain → eqb (stepNumber (awaitOn chain pc dst src u .answer)) 5 ≡ isNil (w .chain)
       go [] e = idle e
       go (a ∷ rest) e = active _ a rest e (awaited-keeps suspends refl refl refl pc dst (reg u src) _ u (never a rest e))
-
-five : (w : World) (o : Op) → sound w ≡ true → eqb (numberOf (call o w .answer)) 5 ≡ among 5 (own o) && (paid w (table o) && isNil (w .chain))
-unfolding call
-five w (Op.CoroNew pc dst f argc) h = not-given 5 w (Op.CoroNew pc dst f argc) refl
-five w (Op.CoroNewIndirect pc dst callee argc) h = not-given 5 w (Op.CoroNewIndirect pc dst callee argc) refl
-five w (Op.Spawn pc dst callee argc) h = not-given 5 w (Op.Spawn pc dst callee argc) refl
-five w (Op.Yield pc dst src) h = arm-test 5 refl refl refl refl w (Op.Yield pc dst src) pc _ _ refl (isNil (w .chain)) (λ u c. yield-five w u h c pc dst src)
-five w (Op.YieldKv pc dst src key) h = arm-test 5 refl refl refl refl w (Op.YieldKv pc dst src key) pc _ _ refl (isNil (w .chain)) (λ u c. yield-kv-five w u h c pc dst src key)
-five w (Op.Await pc dst src) h = arm-test 5 refl refl refl refl w (Op.Await pc dst src) pc _ _ refl (isNil (w .chain)) (λ u c. await-five w u h c pc dst src)
-five w (Op.Resume pc dst c src) h = not-given 5 w (Op.Resume pc dst c src) refl
-five w (Op.ResumeThrow pc dst c src) h = not-given 5 w (Op.ResumeThrow pc dst c src) refl
-five w (Op.CoroClose pc dst c src) h = not-given 5 w (Op.CoroClose pc dst c src) refl
-five w (Op.CoroStatus pc dst c) h = not-given 5 w (Op.CoroStatus pc dst c) refl
-five w (Op.CoroCurrent pc dst) h = not-given 5 w (Op.CoroCurrent pc dst) refl
-five w (Op.CoroKey pc dst c) h = not-given 5 w (Op.CoroKey pc dst c) refl
-five w (Op.CoroResult pc dst c) h = not-given 5 w (Op.CoroResult pc dst c) refl
-five w (Op.IterNext pc has iter val src) h = not-given 5 w (Op.IterNext pc has iter val src) refl
-five w (Op.Finish k v) h = not-given 5 w (Op.Finish k v) refl
-five w (Op.Unwind f pc) h = not-given 5 w (Op.Unwind f pc) refl
-five w (Op.SpawnTask v) h = not-given 5 w (Op.SpawnTask v) refl
-five w (Op.HostCall f) h = not-given 5 w (Op.HostCall f) refl
-five w (Op.HostEntry c v) h = not-given 5 w (Op.HostEntry c v) refl
-five w (Op.FunctionCall pc f cont) h = not-given 5 w (Op.FunctionCall pc f cont) refl
-five w (Op.PutWord r v) h = not-given 5 w (Op.PutWord r v) refl
-five w (Op.MakeIterator v) h = not-given 5 w (Op.MakeIterator v) refl
-five w Op.TakeOutcome h = not-given 5 w Op.TakeOutcome refl
-five w (Op.HandOver v) h = not-given 5 w (Op.HandOver v) refl
-five w (Op.Grant n) h = not-given 5 w (Op.Grant n) refl
-five w Op.StopRun h = not-given 5 w Op.StopRun refl
-five w Op.Look h = not-given 5 w Op.Look refl
-
-pub given-five : (w : World) (o : Op) → given 5 w o ≡ sound w && (among 5 (own o) && (paid w (table o) && isNil (w .chain)))
-given-five w o = step-given 5 w o refl ∙ under-test (sound w) _ _ (five w o)
 
 -- ---- 8
 
@@ -195,42 +162,9 @@ spawn-by-eight (Opt.Some hook) pc dst callee argc u =
     unlike 8 (stepNumber (spawnBy (Opt.Some hook) pc dst callee argc u .answer)) spawns refl
     (onward (spawnMade hook pc dst) (indirect-keeps spawns refl refl refl refl dst callee argc u) (spawn-made spawns refl refl refl _ hook pc dst) .passes)
 
-spawn-eight : (w u : World) → Calm w u → (pc dst callee argc : ℕ) → eqb (stepNumber (spawn pc dst callee argc u .answer)) 8 ≡ isNone (w .setup .hook)
+pub spawn-eight : (w u : World) → Calm w u → (pc dst callee argc : ℕ) → eqb (stepNumber (spawn pc dst callee argc u .answer)) 8 ≡ isNone (w .setup .hook)
 unfolding spawn
 spawn-eight w u c pc dst callee argc = spawn-by-eight (u .setup .hook) pc dst callee argc u ∙ ap (λ s. isNone (s .hook)) (c .setup)
-
-eight : (w : World) (o : Op) → eqb (numberOf (call o w .answer)) 8 ≡ among 8 (own o) && (paid w (table o) && isNone (w .setup .hook))
-unfolding call
-eight w (Op.CoroNew pc dst f argc) = not-given 8 w (Op.CoroNew pc dst f argc) refl
-eight w (Op.CoroNewIndirect pc dst callee argc) = not-given 8 w (Op.CoroNewIndirect pc dst callee argc) refl
-eight w (Op.Spawn pc dst callee argc) = arm-test 8 refl refl refl refl w (Op.Spawn pc dst callee argc) pc _ _ refl (isNone (w .setup .hook)) (λ u c. spawn-eight w u c pc dst callee argc)
-eight w (Op.Yield pc dst src) = not-given 8 w (Op.Yield pc dst src) refl
-eight w (Op.YieldKv pc dst src key) = not-given 8 w (Op.YieldKv pc dst src key) refl
-eight w (Op.Await pc dst src) = not-given 8 w (Op.Await pc dst src) refl
-eight w (Op.Resume pc dst c src) = not-given 8 w (Op.Resume pc dst c src) refl
-eight w (Op.ResumeThrow pc dst c src) = not-given 8 w (Op.ResumeThrow pc dst c src) refl
-eight w (Op.CoroClose pc dst c src) = not-given 8 w (Op.CoroClose pc dst c src) refl
-eight w (Op.CoroStatus pc dst c) = not-given 8 w (Op.CoroStatus pc dst c) refl
-eight w (Op.CoroCurrent pc dst) = not-given 8 w (Op.CoroCurrent pc dst) refl
-eight w (Op.CoroKey pc dst c) = not-given 8 w (Op.CoroKey pc dst c) refl
-eight w (Op.CoroResult pc dst c) = not-given 8 w (Op.CoroResult pc dst c) refl
-eight w (Op.IterNext pc has iter val src) = not-given 8 w (Op.IterNext pc has iter val src) refl
-eight w (Op.Finish k v) = not-given 8 w (Op.Finish k v) refl
-eight w (Op.Unwind f pc) = not-given 8 w (Op.Unwind f pc) refl
-eight w (Op.SpawnTask v) = not-given 8 w (Op.SpawnTask v) refl
-eight w (Op.HostCall f) = not-given 8 w (Op.HostCall f) refl
-eight w (Op.HostEntry c v) = not-given 8 w (Op.HostEntry c v) refl
-eight w (Op.FunctionCall pc f cont) = not-given 8 w (Op.FunctionCall pc f cont) refl
-eight w (Op.PutWord r v) = not-given 8 w (Op.PutWord r v) refl
-eight w (Op.MakeIterator v) = not-given 8 w (Op.MakeIterator v) refl
-eight w Op.TakeOutcome = not-given 8 w Op.TakeOutcome refl
-eight w (Op.HandOver v) = not-given 8 w (Op.HandOver v) refl
-eight w (Op.Grant n) = not-given 8 w (Op.Grant n) refl
-eight w Op.StopRun = not-given 8 w Op.StopRun refl
-eight w Op.Look = not-given 8 w Op.Look refl
-
-pub given-eight : (w : World) (o : Op) → given 8 w o ≡ sound w && (among 8 (own o) && (paid w (table o) && isNone (w .setup .hook)))
-given-eight w o = step-given 8 w o refl ∙ ap (λ b. sound w && b) (eight w o)
 
 -- ---- 10
 
@@ -249,9 +183,9 @@ module _ (w : World) (o : Op) (none : among 10 (own o) ≡ false) where
       only false false h = refl
   ten-by (OnFrame operands body) e h = unlike 10 (numberOf (call o w .answer)) (12 ∷ 13 ∷ own o) none h
   ten-by (OnHost operands body) e h = unlike 10 (numberOf (call o w .answer)) (13 ∷ 15 ∷ own o) none h
-  ten-by (Raise f pc) e h = unlike 10 (numberOf (call o w .answer)) (11 ∷ own o) none h
-  ten-by (Add n) e h = unlike 10 (numberOf (call o w .answer)) (16 ∷ own o) none h
-  ten-by Seen e h = unlike 10 (numberOf (call o w .answer)) (own o) none h
+  ten-by (Unwinds f pc) e h = unlike 10 (numberOf (call o w .answer)) (11 ∷ own o) none h
+  ten-by (Grants n) e h = unlike 10 (numberOf (call o w .answer)) (16 ∷ own o) none h
+  ten-by Looks e h = unlike 10 (numberOf (call o w .answer)) (own o) none h
   ten-by (Other body) e h = unlike 10 (numberOf (call o w .answer)) (own o) none h
 
 pub given-ten : (w : World) (o : Op) → among 10 (own o) ≡ false → given 10 w o ≡ sound w && (passes w (table o) && usedUp w)

@@ -16,7 +16,7 @@ use Rattle.model.specs.Answer.{numberOf, wordOf}
 use Rattle.model.specs.Sound.{sound}
 use Rattle.model.specs.Call.{Call, SetUp, Do}
 use Rattle.model.specs.Step.{Out, told, call, step, tested}
-use Rattle.model.specs.Calls.{Instruction, OnFrame, OnHost, Other, table, Row, Raise, Add, Seen}
+use Rattle.model.specs.Calls.{Instruction, OnFrame, OnHost, Other, table, Row, Unwinds, Grants, Looks}
 use Rattle.model.specs.Machine.{raisable}
 use Rattle.model.specs.declared.exec.Step.{Step}
 use Rattle.model.specs.declared.call.Op.{Op}
@@ -61,9 +61,9 @@ calm-own : (r : Row) (ns : List ℕ) → each isCalm ns ≡ true → each isCalm
 calm-own (Instruction pc operands arm) ns h = h
 calm-own (OnFrame operands body) ns h = h
 calm-own (OnHost operands body) ns h = h
-calm-own (Raise f pc) ns h = h
-calm-own (Add n) ns h = h
-calm-own Seen ns h = h
+calm-own (Unwinds f pc) ns h = h
+calm-own (Grants n) ns h = h
+calm-own Looks ns h = h
 calm-own (Other body) ns h = h
 
 agrees : (n : ℕ) (w : World) (f : Fault) (ns : List ℕ) (own : Bool) (a : After Answer) → among n unchanging ≡ true → each isCalm ns ≡ true → Says w f ns own a → eqb (numberOf (a .answer)) n ≡ eqb (Faults.numberOf f) n
@@ -129,45 +129,45 @@ eleven : (w : World) (r : Row) → eqb (Faults.numberOf (gate w r)) 11 ≡ noSuc
 eleven w (Instruction pc operands arm) = frame-none 11 refl refl refl (isNil (w .frames)) (operands w)
 eleven w (OnFrame operands body) = frame-none 11 refl refl refl (isNil (w .frames)) (operands w)
 eleven w (OnHost operands body) = host-none 11 refl refl refl (isNil (w .frames)) (operands w)
-eleven w (Raise f pc) = fault-gate 11 (raisable f) refl ∙ and-true (not (raisable f))
-eleven w (Add n) = sum-gate 11 (grantTooLarge n w) refl ∙ and-false (grantTooLarge n w)
-eleven w Seen = refl
+eleven w (Unwinds f pc) = fault-gate 11 (raisable f) refl ∙ and-true (not (raisable f))
+eleven w (Grants n) = sum-gate 11 (grantTooLarge n w) refl ∙ and-false (grantTooLarge n w)
+eleven w Looks = refl
 eleven w (Other body) = refl
 
 twelve : (w : World) (r : Row) → eqb (Faults.numberOf (gate w r)) 12 ≡ needsFrame r && isNil (w .frames)
 twelve w (Instruction pc operands arm) = frame-twelve (isNil (w .frames)) (operands w)
 twelve w (OnFrame operands body) = frame-twelve (isNil (w .frames)) (operands w)
 twelve w (OnHost operands body) = host-none 12 refl refl refl (isNil (w .frames)) (operands w)
-twelve w (Raise f pc) = fault-gate 12 (raisable f) refl ∙ and-false (not (raisable f))
-twelve w (Add n) = sum-gate 12 (grantTooLarge n w) refl ∙ and-false (grantTooLarge n w)
-twelve w Seen = refl
+twelve w (Unwinds f pc) = fault-gate 12 (raisable f) refl ∙ and-false (not (raisable f))
+twelve w (Grants n) = sum-gate 12 (grantTooLarge n w) refl ∙ and-false (grantTooLarge n w)
+twelve w Looks = refl
 twelve w (Other body) = refl
 
 thirteen : (w : World) (r : Row) → eqb (Faults.numberOf (gate w r)) 13 ≡ not (misplaced w r) && badOperand w r
 thirteen w (Instruction pc operands arm) = frame-thirteen (isNil (w .frames)) (operands w)
 thirteen w (OnFrame operands body) = frame-thirteen (isNil (w .frames)) (operands w)
 thirteen w (OnHost operands body) = host-thirteen (isNil (w .frames)) (operands w)
-thirteen w (Raise f pc) = fault-gate 13 (raisable f) refl ∙ and-false (not (raisable f))
-thirteen w (Add n) = sum-gate 13 (grantTooLarge n w) refl ∙ and-false (grantTooLarge n w)
-thirteen w Seen = refl
+thirteen w (Unwinds f pc) = fault-gate 13 (raisable f) refl ∙ and-false (not (raisable f))
+thirteen w (Grants n) = sum-gate 13 (grantTooLarge n w) refl ∙ and-false (grantTooLarge n w)
+thirteen w Looks = refl
 thirteen w (Other body) = refl
 
 fifteen : (w : World) (r : Row) → eqb (Faults.numberOf (gate w r)) 15 ≡ needsHost r && not (isNil (w .frames))
 fifteen w (Instruction pc operands arm) = frame-none 15 refl refl refl (isNil (w .frames)) (operands w)
 fifteen w (OnFrame operands body) = frame-none 15 refl refl refl (isNil (w .frames)) (operands w)
 fifteen w (OnHost operands body) = host-fifteen (isNil (w .frames)) (operands w)
-fifteen w (Raise f pc) = fault-gate 15 (raisable f) refl ∙ and-false (not (raisable f))
-fifteen w (Add n) = sum-gate 15 (grantTooLarge n w) refl ∙ and-false (grantTooLarge n w)
-fifteen w Seen = refl
+fifteen w (Unwinds f pc) = fault-gate 15 (raisable f) refl ∙ and-false (not (raisable f))
+fifteen w (Grants n) = sum-gate 15 (grantTooLarge n w) refl ∙ and-false (grantTooLarge n w)
+fifteen w Looks = refl
 fifteen w (Other body) = refl
 
 sixteen : (w : World) (r : Row) → eqb (Faults.numberOf (gate w r)) 16 ≡ tooLarge w r
 sixteen w (Instruction pc operands arm) = frame-none 16 refl refl refl (isNil (w .frames)) (operands w)
 sixteen w (OnFrame operands body) = frame-none 16 refl refl refl (isNil (w .frames)) (operands w)
 sixteen w (OnHost operands body) = host-none 16 refl refl refl (isNil (w .frames)) (operands w)
-sixteen w (Raise f pc) = fault-gate 16 (raisable f) refl ∙ and-false (not (raisable f))
-sixteen w (Add n) = sum-gate 16 (grantTooLarge n w) refl ∙ and-true (grantTooLarge n w)
-sixteen w Seen = refl
+sixteen w (Unwinds f pc) = fault-gate 16 (raisable f) refl ∙ and-false (not (raisable f))
+sixteen w (Grants n) = sum-gate 16 (grantTooLarge n w) refl ∙ and-true (grantTooLarge n w)
+sixteen w Looks = refl
 sixteen w (Other body) = refl
 
 exactly : (n : ℕ) (w : World) (o : Op) (test : Bool) → eqb 11 n ≡ false → among n unchanging ≡ true → eqb (Faults.numberOf (gate w (table o))) n ≡ test → given n w o ≡ sound w && test
@@ -242,9 +242,9 @@ gate-in : (w : World) (r : Row) → among (Faults.numberOf (gate w r)) unchangin
 gate-in w (Instruction pc operands arm) h = frame-in (isNil (w .frames)) (operands w) (10 ∷ 12 ∷ 13 ∷ 17 ∷ []) refl refl h
 gate-in w (OnFrame operands body) h = frame-in (isNil (w .frames)) (operands w) (12 ∷ 13 ∷ []) refl refl h
 gate-in w (OnHost operands body) h = host-in (isNil (w .frames)) (operands w) h
-gate-in w (Raise f pc) h = fault-in (raisable f) h
-gate-in w (Add n) h = sum-in (grantTooLarge n w) h
-gate-in w Seen h = absurd (false≢true h)
+gate-in w (Unwinds f pc) h = fault-in (raisable f) h
+gate-in w (Grants n) h = sum-in (grantTooLarge n w) h
+gate-in w Looks h = absurd (false≢true h)
 gate-in w (Other body) h = absurd (false≢true h)
 
 -- the charge's numbers are among the gate's
@@ -258,9 +258,9 @@ wider (Instruction pc operands arm) ms n h = go (eqb n 10) (eqb n 12) (eqb n 13)
     go false false false d h = h
 wider (OnFrame operands body) ms n h = after-list n (12 ∷ 13 ∷ []) ms h
 wider (OnHost operands body) ms n h = after-list n (13 ∷ 15 ∷ []) ms h
-wider (Raise f pc) ms n h = after-list n (11 ∷ []) ms h
-wider (Add k) ms n h = after-list n (16 ∷ []) ms h
-wider Seen ms n h = h
+wider (Unwinds f pc) ms n h = after-list n (11 ∷ []) ms h
+wider (Grants k) ms n h = after-list n (16 ∷ []) ms h
+wider Looks ms n h = h
 wider (Other body) ms n h = h
 
 pub says-numbers : (w : World) (k : Row) (ms : List ℕ) (own : Bool) (a : After Answer) → Says w (gate w k) (atCharge k ++ ms) own a → among (numberOf (a .answer)) (atGate k ++ ms) ≡ true

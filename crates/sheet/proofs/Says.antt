@@ -17,7 +17,7 @@ use Rattle.model.specs.Gate.{refused, answerOf, charged, instruction, onFrame, 
 use Rattle.model.specs.Added.{accepted, hostCall, hostEntry, functionCall, putWord, grant, grantTooLarge}
 use Rattle.model.specs.Answer.{numberOf, stepNumber, takenOff}
 use Rattle.model.specs.Step.{call, doing}
-use Rattle.model.specs.Calls.{Instruction, OnFrame, OnHost, Other, table, Row, Raise, Add, Seen}
+use Rattle.model.specs.Calls.{Instruction, OnFrame, OnHost, Other, table, Row, Unwinds, Grants, Looks}
 use Rattle.model.specs.declared.machine.Charge.{Charge}
 use Rattle.model.specs.declared.machine.Cont.{Cont}
 use Rattle.model.specs.declared.exec.Step.{Step}
@@ -43,9 +43,9 @@ abbrev pub gate : World → Row → Fault
 gate w (Instruction pc operands arm) = frameGate (isNil (w .frames)) (operands w)
 gate w (OnFrame operands body) = frameGate (isNil (w .frames)) (operands w)
 gate w (OnHost operands body) = hostGate (isNil (w .frames)) (operands w)
-gate w (Raise f pc) = pick (raisable f) Fault.None Fault.Unsound
-gate w (Add n) = pick (grantTooLarge n w) Fault.GrantTooLarge Fault.None
-gate w Seen = Fault.None
+gate w (Unwinds f pc) = pick (raisable f) Fault.None Fault.Unsound
+gate w (Grants n) = pick (grantTooLarge n w) Fault.GrantTooLarge Fault.None
+gate w Looks = Fault.None
 gate w (Other body) = Fault.None
 
 -- the numbers of the charge
@@ -53,9 +53,9 @@ abbrev pub atCharge : Row → List ℕ
 atCharge (Instruction pc operands arm) = 10 ∷ 17 ∷ []
 atCharge (OnFrame operands body) = []
 atCharge (OnHost operands body) = []
-atCharge (Raise f pc) = []
-atCharge (Add n) = []
-atCharge Seen = []
+atCharge (Unwinds f pc) = []
+atCharge (Grants n) = []
+atCharge Looks = []
 atCharge (Other body) = []
 
 pub data Says (w : World) (f : Fault) (ns : List ℕ) (own : Bool) : After Answer → Type 0 where
@@ -142,9 +142,9 @@ abbrev pub Answers : List ℕ → Bool → Row → Type 0
 Answers ns word (Instruction pc operands arm) = (word ≡ false) × ((u : World) → Fine ns u (arm u))
 Answers ns word (OnFrame operands body) = (w : World) → Tells ns word (body w)
 Answers ns word (OnHost operands body) = (w : World) → Tells ns word (body w)
-Answers ns word (Raise f pc) = (w : World) → raisable f ≡ true → Tells ns word (unwindFault f (storeSome pc w))
-Answers ns word (Add n) = (u : World) → Tells ns word (accepted u)
-Answers ns word Seen = (u : World) → Tells ns word (accepted u)
+Answers ns word (Unwinds f pc) = (w : World) → raisable f ≡ true → Tells ns word (unwindFault f (storeSome pc w))
+Answers ns word (Grants n) = (u : World) → Tells ns word (accepted u)
+Answers ns word Looks = (u : World) → Tells ns word (accepted u)
 Answers ns word (Other body) = (w : World) → Tells ns word (body w)
 
 abbrev pub isCalm : ℕ → Bool
@@ -196,9 +196,9 @@ says-row (Instruction pc operands arm) ns word w (e, fine) =
     subst (λ b. Says w (frameGate (isNil (w .frames)) (operands w)) (10 ∷ 17 ∷ ns) b (instruction pc (operands w) arm w)) (sym e) (instruction-says ns arm fine pc (operands w) w)
 says-row (OnFrame operands body) ns word w t = on-frame w ns word (body w) (t w) (isNil (w .frames)) (operands w)
 says-row (OnHost operands body) ns word w t = on-host w ns word (body w) (t w) (isNil (w .frames)) (operands w)
-says-row (Raise f pc) ns word w t = on-fault w ns word (unwindFault f (storeSome pc w)) (raisable f) (t w)
-says-row (Add n) ns word w t = on-sum w ns word _ (t _) (grantTooLarge n w)
-says-row Seen ns word w t = goes-on refl (t w)
+says-row (Unwinds f pc) ns word w t = on-fault w ns word (unwindFault f (storeSome pc w)) (raisable f) (t w)
+says-row (Grants n) ns word w t = on-sum w ns word _ (t _) (grantTooLarge n w)
+says-row Looks ns word w t = goes-on refl (t w)
 says-row (Other body) ns word w t = goes-on refl (t w)
 
 pub says : (o : Op) (w : World) → Says w (gate w (table o)) (atCharge (table o) ++ own o) (ownWord o) (after (call o w .world) (call o w .answer))

@@ -19,7 +19,7 @@ use Rattle.model.specs.Machine.{storeSome, errorOf}
 use Rattle.model.specs.Exec.{indirect}
 use Rattle.model.specs.Added.{reserve}
 use Rattle.model.specs.Sound.{sound, isNone}
-use Rattle.model.specs.Calls.{Row, Instruction, OnFrame, OnHost, Raise, Add, Seen, Other, table}
+use Rattle.model.specs.Calls.{Row, Instruction, OnFrame, OnHost, Unwinds, Grants, Looks, Other, table}
 use Rattle.model.specs.declared.program.Caught.{Caught}
 use Rattle.model.specs.declared.machine.Charge.{Charge}
 use Rattle.model.specs.declared.machine.Cont.{Cont}
@@ -36,9 +36,9 @@ abbrev pub passes : World → Row → Bool
 passes w (Instruction pc operands arm) = not (isNil (w .frames)) && operands w
 passes w (OnFrame operands body) = false
 passes w (OnHost operands body) = false
-passes w (Raise f pc) = false
-passes w (Add n) = false
-passes w Seen = false
+passes w (Unwinds f pc) = false
+passes w (Grants n) = false
+passes w Looks = false
 passes w (Other body) = false
 
 abbrev pub isDone : Charge → Bool
@@ -50,9 +50,9 @@ abbrev pub paid : World → Row → Bool
 paid w (Instruction pc operands arm) = passes w (Instruction pc operands arm) && isDone (charge (OptPc.Some pc) w .answer)
 paid w (OnFrame operands body) = false
 paid w (OnHost operands body) = false
-paid w (Raise f pc) = false
-paid w (Add n) = false
-paid w Seen = false
+paid w (Unwinds f pc) = false
+paid w (Grants n) = false
+paid w Looks = false
 paid w (Other body) = false
 
 -- "bank and fuel both used up"

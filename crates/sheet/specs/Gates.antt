@@ -7,16 +7,16 @@ use Rattle.model.specs.Lists.{isNil}
 use Rattle.model.specs.World.{World}
 use Rattle.model.specs.Machine.{raisable}
 use Rattle.model.specs.Added.{grantTooLarge}
-use Rattle.model.specs.Calls.{Row, Instruction, OnFrame, OnHost, Raise, Add, Seen, Other}
+use Rattle.model.specs.Calls.{Row, Instruction, OnFrame, OnHost, Unwinds, Grants, Looks, Other}
 
 -- 12: "instruction, put word or function call"
 abbrev pub needsFrame : Row → Bool
 needsFrame (Instruction pc operands arm) = true
 needsFrame (OnFrame operands body) = true
 needsFrame (OnHost operands body) = false
-needsFrame (Raise f pc) = false
-needsFrame (Add n) = false
-needsFrame Seen = false
+needsFrame (Unwinds f pc) = false
+needsFrame (Grants n) = false
+needsFrame Looks = false
 needsFrame (Other body) = false
 
 -- 15: "host call or entry"
@@ -24,9 +24,9 @@ abbrev pub needsHost : Row → Bool
 needsHost (Instruction pc operands arm) = false
 needsHost (OnFrame operands body) = false
 needsHost (OnHost operands body) = true
-needsHost (Raise f pc) = false
-needsHost (Add n) = false
-needsHost Seen = false
+needsHost (Unwinds f pc) = false
+needsHost (Grants n) = false
+needsHost Looks = false
 needsHost (Other body) = false
 
 -- 13: "register outside the frame, no such function, continuation not allowed"
@@ -34,9 +34,9 @@ abbrev pub badOperand : World → Row → Bool
 badOperand w (Instruction pc operands arm) = not (operands w)
 badOperand w (OnFrame operands body) = not (operands w)
 badOperand w (OnHost operands body) = not (operands w)
-badOperand w (Raise f pc) = false
-badOperand w (Add n) = false
-badOperand w Seen = false
+badOperand w (Unwinds f pc) = false
+badOperand w (Grants n) = false
+badOperand w Looks = false
 badOperand w (Other body) = false
 
 -- 16: "grant's sum above 2^64 - 1"
@@ -44,9 +44,9 @@ abbrev pub tooLarge : World → Row → Bool
 tooLarge w (Instruction pc operands arm) = false
 tooLarge w (OnFrame operands body) = false
 tooLarge w (OnHost operands body) = false
-tooLarge w (Raise f pc) = false
-tooLarge w (Add n) = grantTooLarge n w
-tooLarge w Seen = false
+tooLarge w (Unwinds f pc) = false
+tooLarge w (Grants n) = grantTooLarge n w
+tooLarge w Looks = false
 tooLarge w (Other body) = false
 
 -- 11: "`unwind` gets no such fault"
@@ -54,9 +54,9 @@ abbrev pub noSuchFault : Row → Bool
 noSuchFault (Instruction pc operands arm) = false
 noSuchFault (OnFrame operands body) = false
 noSuchFault (OnHost operands body) = false
-noSuchFault (Raise f pc) = not (raisable f)
-noSuchFault (Add n) = false
-noSuchFault Seen = false
+noSuchFault (Unwinds f pc) = not (raisable f)
+noSuchFault (Grants n) = false
+noSuchFault Looks = false
 noSuchFault (Other body) = false
 
 -- the tests of 12 and 15
@@ -68,7 +68,7 @@ abbrev pub atGate : Row → List ℕ
 atGate (Instruction pc operands arm) = 10 ∷ 12 ∷ 13 ∷ 17 ∷ []
 atGate (OnFrame operands body) = 12 ∷ 13 ∷ []
 atGate (OnHost operands body) = 13 ∷ 15 ∷ []
-atGate (Raise f pc) = 11 ∷ []
-atGate (Add n) = 16 ∷ []
-atGate Seen = []
+atGate (Unwinds f pc) = 11 ∷ []
+atGate (Grants n) = 16 ∷ []
+atGate Looks = []
 atGate (Other body) = []

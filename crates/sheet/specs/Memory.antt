@@ -5,7 +5,7 @@ use mathlib.Core.Bool.{Bool, _&&_}
 use Rattle.model.specs.World.{World}
 use Rattle.model.specs.Cleanup.{charge}
 use Rattle.model.specs.Sound.{sound}
-use Rattle.model.specs.Calls.{Row, Instruction, OnFrame, OnHost, Raise, Add, Seen, Other, table}
+use Rattle.model.specs.Calls.{Row, Instruction, OnFrame, OnHost, Unwinds, Grants, Looks, Other, table}
 use Rattle.model.specs.declared.call.OptPc.{OptPc}
 use Rattle.model.specs.declared.call.Op.{Op}
 use Rattle.sheet.specs.Own.{line}
@@ -20,9 +20,9 @@ abbrev pub shortBy : World → Row → (World → Bool) → Bool
 shortBy w (Instruction pc operands arm) test = paid w (Instruction pc operands arm) && test (charged pc w)
 shortBy w (OnFrame operands body) test = test w
 shortBy w (OnHost operands body) test = test w
-shortBy w (Raise f pc) test = test w
-shortBy w (Add n) test = test w
-shortBy w Seen test = test w
+shortBy w (Unwinds f pc) test = test w
+shortBy w (Grants n) test = test w
+shortBy w Looks test = test w
 shortBy w (Other body) test = test w
 
 abbrev pub short : World → Op → Bool

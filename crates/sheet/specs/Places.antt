@@ -8,7 +8,7 @@ use Rattle.model.specs.World.{World}
 use Rattle.model.specs.Heap.{fits}
 use Rattle.model.specs.Cleanup.{charge}
 use Rattle.model.specs.Sound.{sound}
-use Rattle.model.specs.Calls.{Row, Instruction, OnFrame, OnHost, Raise, Add, Seen, Other, table}
+use Rattle.model.specs.Calls.{Row, Instruction, OnFrame, OnHost, Unwinds, Grants, Looks, Other, table}
 use Rattle.model.specs.Step.{tested}
 use Rattle.model.specs.declared.machine.Charge.{Charge}
 use Rattle.model.specs.declared.call.OptPc.{OptPc}
@@ -41,9 +41,9 @@ abbrev pub siteBy : World → Row → (World → Site) → Site
 siteBy w (Instruction pc operands arm) next = behind pc (operands w) w next
 siteBy w (OnFrame operands body) next = next w
 siteBy w (OnHost operands body) next = next w
-siteBy w (Raise f pc) next = next w
-siteBy w (Add n) next = next w
-siteBy w Seen next = next w
+siteBy w (Unwinds f pc) next = next w
+siteBy w (Grants n) next = next w
+siteBy w Looks next = next w
 siteBy w (Other body) next = next w
 
 abbrev pub site : World → Op → Site
