@@ -4,7 +4,6 @@ ghost use Prim.Native.Nat.{_+_, _^_, _≤_, _<_};
 ghost use Rattle.model.specs.Coro.{coroEnter};
 ghost use Rattle.memory.specs.Memory.{lent, Ok, Met};
 ghost use Rattle.coro.specs.Enter.{refusalOf, enteredAs, grown, MoveFits, Moves};
-use crate::state::is_resumable;
 use heap::fault::Fault;
 use heap::heap::CoroPlace;
 use heap::object::CoroObj;
@@ -27,7 +26,7 @@ pub(crate) fn refusal(m: Machine, l: Sizes, c: CoroObj) -> Fault
     ensures { λ r. ⌜ r ≡ refusalOf (m .height) (m .depth) l c ⌝ }
 {
     let s = c.state;
-    if !is_resumable(s) {
+    if !s.is_resumable() {
         return Fault::InvalidCoroState;
     }
     if c.frames == 0 {

@@ -1,4 +1,3 @@
 // coro.rs: impl Machine, on the lent words.
 pub mod enter;
 pub mod send;
-pub mod state;

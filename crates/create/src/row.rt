@@ -6,7 +6,6 @@ ghost use lib.ListN.{length, getD, replicate};
 ghost use Rattle.heap.specs.Heap.{slotsOf};
 ghost use Rattle.model.specs.Rows.{lowestFree};
 ghost use Rattle.create.specs.Row.{rowOf, heldIn, marked, lowestBy};
-use coro::state::is_finished;
 use heap::object::CoroState;
 use heap::object::Object;
 
@@ -31,7 +30,7 @@ fn row_of(o: Object) -> u64
         } => 64,
         Object::Coro(c) => {
             let s = c.state;
-            if is_finished(s) {
+            if s.is_finished() {
                 return 64;
             }
             c.row

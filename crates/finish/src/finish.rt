@@ -9,7 +9,6 @@ ghost use Rattle.heap.specs.Word.{tagOf};
 ghost use Rattle.heap.specs.declared.object.Object.the-variants.{Coro};
 ghost use Rattle.model.specs.Coro.{finishCoroutine};
 ghost use Rattle.finish.specs.Finish.{FinishFits, LeavesRowed, lentRows, endedAs, RowFits, Cleared, FreeFits, Freed};
-use coro::state::is_finished;
 use heap::heap::Coroutine;
 use heap::object::CoroObj;
 use heap::object::CoroState;
@@ -47,7 +46,7 @@ pub(crate) fn free_row(saved_stack: &mut [u64], saved_frames: &mut [u64], l: Siz
     ensures { λ _. ⌜ Freed (now («saved_stack» .entry)) (now («saved_frames» .entry)) (now («saved_stack» .exit)) (now («saved_frames» .exit)) l c ⌝ }
 {
     let state = c.state;
-    if is_finished(state) {
+    if state.is_finished() {
         return;
     }
     clear_row(saved_stack, saved_frames, l, c);
