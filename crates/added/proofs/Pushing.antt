@@ -1,0 +1,51 @@
+-- Host call and function call: a frame pushed, or refused with nothing changed. Assumes nothing.
+use mathlib.Core.Path.{_≡_, refl, sym, ap, _∙_, subst}
+use Prim.Native.Nat.{ℕ}
+use Rattle.heap.specs.Word.{nil}
+use Rattle.model.specs.World.{World, After, after, andThen}
+use Rattle.model.specs.Frames.{putReg, storePc}
+use Rattle.model.specs.Machine.{pushFrame}
+use Rattle.model.specs.Added.{hostCall, functionCall, putWord}
+use Rattle.model.specs.Added as Added
+use Rattle.model.specs.declared.coro.Made.{Made}
+use Rattle.model.specs.declared.call.Answer.{Answer}
+use Rattle.model.specs.declared.machine.Cont.{Cont}
+use Rattle.model.specs.declared.machine.Fuel.{Fuel}
+use Rattle.invariant.proofs.Tests.{picked}
+use Rattle.memory.specs.Memory.{Lent, Rep}
+use Rattle.memory.specs.Contract.{Does}
+use Rattle.memory.specs.declared.machine.Machine.{Machine}
+use Rattle.memory.specs.declared.machine.Sizes.{Sizes}
+use Rattle.machine.specs.Frame.{pushedOr, pushAt}
+use Rattle.added.specs.Call.{pushedAs}
+
+-- what was pushed, as an answer
+abbrev told : After Made → After Answer
+told o = after (o .world) (pushedAs (o .answer))
+
+back : (w u : World) (a : Made) → told (pushedOr w u a) ≡ Added.pushedOr w u a
+back w u (Made.Word b) = refl
+back w u (Made.Refused f) = refl
+
+-- a refused frame leaves the world
+pushes-back : (f closure : ℕ) (cont : Cont) (w : World) → pushFrame f closure cont w ≡ andThen (pushFrame f closure cont w) (pushedOr w)
+unfolding pushFrame
+pushes-back f closure cont w = picked (λ (o : After Made). o ≡ andThen o (pushedOr w)) _ (λ _. refl) (λ _. refl)
+
+module _ (l : Sizes) (M : Lent) (m : Machine) (fuel : Fuel) (w : World) (a : Made) (x : Answer) where
+  answered : (o : After Made) (p : After Answer) → told o ≡ p → x ≡ pushedAs a → Does l o M m fuel a → Does l p M m fuel x
+  answered o p e q d = subst (λ (z : After Answer). Does l z M m fuel x) e (record { world = d .world; answer = q ∙ ap pushedAs (d .answer) })
+
+  pub host-called : (f : ℕ) → x ≡ pushedAs a → Does l (pushFrame f nil Cont.Entry w) M m fuel a → Does l (hostCall f w) M m fuel x
+  unfolding hostCall
+  host-called f = answered (pushFrame f nil Cont.Entry w) (hostCall f w) (ap told (pushes-back f nil Cont.Entry w) ∙ back w (pushFrame f nil Cont.Entry w .world) (pushFrame f nil Cont.Entry w .answer))
+
+  pub function-called : (pc f : ℕ) (cont : Cont) → x ≡ pushedAs a → Does l (pushAt pc f nil cont w) M m fuel a → Does l (functionCall pc f cont w) M m fuel x
+  unfolding functionCall pushAt
+  function-called pc f cont = answered (pushAt pc f nil cont w) (functionCall pc f cont w) (back w (pushFrame f nil cont (storePc pc w) .world) (pushFrame f nil cont (storePc pc w) .answer))
+
+-- ---- put word
+
+pub word-put : (l : Sizes) (M : Lent) (m : Machine) (fuel : Fuel) (w : World) (r v : ℕ) → Rep l (putReg r v w) M m fuel → Does l (putWord r v w) M m fuel Answer.Accepted
+unfolding putWord
+word-put l M m fuel w r v rep = record { world = rep; answer = refl }

@@ -1,0 +1,22 @@
+-- `pushed_as` meets its contract. Assumes nothing.
+use mathlib.Core.Path.{sym, ap}
+use Rattle.added.specs.Call.{pushedAs}
+use borrow.Author.Needs.{needs}
+use Rattle.added.proofs.call.pushed_as.Statement.{statement}
+use Rattle.added.proofs.call.pushed_as.Tie as tie
+
+enum-told : tie.Need-enum-told
+enum-told c = search needs
+
+enum-known-a : tie.Need-enum-known-a
+enum-known-a c = search needs
+
+returns : tie.Need-returns
+returns c = search needs
+
+returns-2 : tie.Need-returns-2
+returns-2 c =
+    sym (ap pushedAs (c .before .a .given .1))
+
+pub pushed-as-spec : {M : Type 1} → statement M
+pushed-as-spec = tie.close (tie.spec enum-told enum-known-a returns returns-2)

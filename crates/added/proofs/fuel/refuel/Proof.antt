@@ -1,0 +1,26 @@
+-- `refuel` meets its contract. Assumes nothing.
+use mathlib.Core.Path.{sym, ap, _∙_}
+use Rattle.model.specs.Fuel.{fuelOf}
+use Rattle.model.specs.Added.{refuel}
+use borrow.Author.Needs.{needs}
+use Rattle.added.proofs.fuel.refuel.Statement.{statement}
+use Rattle.added.proofs.fuel.refuel.Tie as tie
+
+enum-told : tie.Need-enum-told
+enum-told c = search needs
+
+enum-told-2 : tie.Need-enum-told-2
+enum-told-2 c = search needs
+
+returns : tie.Need-returns
+returns c =
+    let start = c .before .before in
+    sym (ap (λ b. refuel b (start .args .n) (start .args .f)) (c .enum-told .given .1) ∙ ap (λ b. fuelOf (start .args .n) b (start .args .f .ready)) (c .enum-told .given .1))
+
+returns-2 : tie.Need-returns-2
+returns-2 c =
+    let start = c .before .before in
+    sym (ap (λ b. refuel b (start .args .n) (start .args .f)) (c .enum-told2 .given .1))
+
+pub refuel-spec : {M : Type 1} → statement M
+refuel-spec = tie.close (tie.spec enum-told enum-told-2 returns returns-2)

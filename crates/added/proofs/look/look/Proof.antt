@@ -1,0 +1,37 @@
+-- `look` meets its contract: nothing without a frame, else from its base to the end. Assumes nothing.
+use Rattle.memory.specs.Memory.{onFrames}
+use Rattle.added.proofs.Looking.{none-seen, seen}
+use native.Mathlib.Omega.{arith}
+use borrow.Author.Needs.{needs}
+use Rattle.added.proofs.look.look.Statement.{statement}
+use Rattle.added.proofs.look.look.Tie as tie
+
+returns : tie.Need-returns
+returns c =
+    let start = c .before .before in
+    λ l w b rep. none-seen l w (onFrames (start .args .frames .now) (b .words)) (start .args .m) (b .fuel) rep (c .if1 .taken)
+
+sub-start : tie.Need-sub-start
+sub-start c = search needs
+
+mul-start : tie.Need-mul-start
+mul-start c = search needs
+
+add-start : tie.Need-add-start
+add-start c = search needs
+
+mul-start-2 : tie.Need-mul-start-2
+mul-start-2 c = search needs
+
+shared-slice-read-start : tie.Need-shared-slice-read-start
+shared-slice-read-start c = search needs
+
+returns-2 : tie.Need-returns-2
+returns-2 c =
+    let at-if1 = c .before .before in let start = at-if1 .before .before in let h = at-if1 .if1 .left in
+    λ l w b rep. seen l w (onFrames (start .args .frames .now) (b .words)) (start .args .m) (b .fuel) rep (omega arith)
+
+pub look-spec : {M : Type 1} → statement M
+look-spec =
+    tie.close
+    (tie.spec returns sub-start mul-start add-start mul-start-2 shared-slice-read-start returns-2)

@@ -1,0 +1,5 @@
+// 01: "Added calls", behind their gates.
+pub mod call;
+pub mod fuel;
+pub mod look;
+pub mod outcome;
