@@ -2,12 +2,11 @@
 use mathlib.Core.Logic.{_≢_}
 use mathlib.Core.Path.{_≡_, refl, sym, ap, ap₂, _∙_}
 use mathlib.Core.Bool.{true, false, not, _&&_}
-use mathlib.Core.List.{List, [], _++_}
-use Prim.Native.Nat.{ℕ, _+_, _≤_}
-use lib.ListN.{length, set, take, drop, replicate, length-replicate}
+use mathlib.Core.List.{List, []}
+use Prim.Native.Nat.{ℕ}
+use lib.ListN.{set}
 use lib.Dec.{eqb}
 use borrow.Author.Tests.{eq-eqb, ne-eqb}
-use Rattle.lists.specs.Parts.{splice}
 use Rattle.lists.proofs.Tests.{and-false}
 use Rattle.heap.specs.Word.{slotOf}
 use Rattle.heap.specs.Table.{Slot, slot, putObject}
@@ -16,19 +15,10 @@ use Rattle.model.specs.State.{isFinished}
 use Rattle.model.specs.Object.{Core, Rest, Object, Is, asCoro}
 use Rattle.model.specs.Rows.{heldRows}
 use Rattle.invariant.proofs.Point.{at, Points}
-use Rattle.tables.proofs.Padded.{back, length-part}
 use Rattle.memory.specs.Rows.{noRow, owns, rowAt}
 use Rattle.memory.specs.Memory.{regsRows, framesRows}
 use Rattle.memory.proofs.Rows.{row-left, row-other}
 use Rattle.memory.proofs.Tables.{rows-set}
-
--- the part of the words that is lent comes back as zeros
-pub cleared : (ws ys : List ℕ) (at n m : ℕ) → m ≡ n → at + n ≤ length ws → ys ≡ replicate (length (take m (drop at ws))) 0
-    → take at ws ++ (ys ++ drop m (drop at ws)) ≡ splice ws at (replicate n 0)
-cleared ws ys at n m k h e =
-    let l : length (take m (drop at ws)) ≡ n = ap (λ j. length (take j (drop at ws))) k ∙ length-part at n ws h in
-    let z : length (replicate {A = ℕ} n 0) ≡ n = length-replicate n 0 in
-    back ws ys (replicate n 0) at n m k z (e ∙ ap (λ j. replicate j 0) l)
 
 -- a finished coroutine owns no row
 pub disowned : (k : Core) (r : Rest) → isFinished (k .state) ≡ true → (n : ℕ) → owns n (Is k r) ≡ false

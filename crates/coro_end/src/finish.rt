@@ -1,8 +1,7 @@
 // coro.rs: finish, of a coroutine.
 ghost use mathlib.Core.Path.{_≡_};
 ghost use Prim.Native.Nat.{_+_, _*_, _≤_};
-ghost use lib.ListN.{length, replicate};
-ghost use Rattle.lists.specs.Parts.{splice};
+ghost use lib.ListN.{length};
 ghost use Rattle.heap.specs.Heap.{putSlot};
 ghost use Rattle.heap.specs.Table.{slot};
 ghost use Rattle.heap.specs.Word.{tagOf};
@@ -19,15 +18,7 @@ use heap::value::Obj;
 use heap::value::Word;
 use memory::machine::Machine;
 use memory::machine::Sizes;
-
-// n words from index `at` become 0.
-pub(crate) fn clear_part(ws: &mut [u64], at: usize, n: usize)
-    requires { ⌜ at + n ≤ length (now ws) ⌝ }
-    ensures { λ _. ⌜ now (ws .exit) ≡ splice (now (ws .entry)) at (replicate n 0) ⌝ }
-{
-    let end = at + n;
-    lists::clear_words(&mut ws[at..end]);
-}
+use tables::runs::clear_part;
 
 // The words of a row become 0.
 pub(crate) fn clear_row(saved_stack: &mut [u64], saved_frames: &mut [u64], l: Sizes, c: CoroObj)

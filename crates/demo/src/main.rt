@@ -30,7 +30,7 @@ fn integer(text: &[u8], n: u64) {
 
 // The integer that a word is or names.
 fn recall(slots: &[u64], count: usize, w: Word) {
-    if slots.len() / 20 < count {
+    if slots.len() / heap::slot::WIDTH < count {
         return;
     }
     match heap::heap::dyn_int(slots, count, w) {

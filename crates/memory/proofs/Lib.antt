@@ -3,5 +3,7 @@ pub mod Slots
 pub mod Rows
 pub mod Tables
 pub mod Lookup
+pub mod Fields
+pub mod Named
 pub mod Turn
 pub mod Does
