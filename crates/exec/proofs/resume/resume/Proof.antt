@@ -11,6 +11,16 @@ use borrow.Author.Needs.{needs}
 use Rattle.exec.proofs.resume.resume.Statement.{statement}
 use Rattle.exec.proofs.resume.resume.Tie as tie
 
+-- the ways back that several clauses take
+abbrev coro-enter-of : tie.After-arrive-arg2 → tie.After-coro-enter
+coro-enter-of c = c .before .before .before .before .before .before .before .before .before .before .before .before .before .before .before
+
+abbrev store-pc-of : tie.After-coro-enter-arg6 → tie.After-store-pc
+store-pc-of c = c .before .before .before .before .before .before .before .before
+
+abbrev start-of : tie.After-reg → tie.Start
+start-of c = c .before .before .before .before .before .before .before .before .before
+
 abbrev mem : tie.Start → Beside → Lent
 mem c b = lent (c .args .stack .now) (c .args .frames .now) (c .args .chain .now) (c .args .slots .now) (c .args .saved-stack .now) (c .args .saved-frames .now) b
 
@@ -21,25 +31,38 @@ reg-requires-2 : tie.Need-reg-requires-2
 reg-requires-2 c κs = search needs
 
 store-pc-requires : tie.Need-store-pc-requires
-store-pc-requires c κs = record { some = (c .before .before .before .before .before .before .before .before .before .before .before .before .before .pre .coro .some); within = (c .before .before .before .before .before .before .before .before .before .before .before .before .before .pre .coro .on-frames) }
+store-pc-requires c κs =
+    let start = start-of (c .before .before .before .before) in
+    record { some = start .pre .coro .some; within = start .pre .coro .on-frames }
 
 coro-enter-requires : tie.Need-coro-enter-requires
-coro-enter-requires c κs = let o = (c .before .before .before .before .before .before .before .before .before .before .before .before .before .before .before .before .before .before .before .before .before .before .pre .ok) in
-    stored-ok (c .before .before .before .before .before .before .before .before .before .before .before .before .before .before .before .before .before .before .before .before .before .before .args .l) (c .before .before .before .before .before .before .before .before .before .before .before .before .before .before .before .before .before .before .before .before .before .before .args .m) (c .before .before .before .before .before .before .before .before .before .before .before .before .before .before .before .before .before .before .before .before .before .before .args .stack .now) (c .before .before .before .before .before .before .before .before .before .before .before .before .before .before .before .before .before .before .before .before .before .before .args .frames .now) (c .before .before .before .before .before .before .before .before .before .before .before .before .before .before .before .before .before .before .before .before .before .before .args .chain .now) (c .before .before .before .before .before .before .before .before .before .before .before .before .before .before .before .before .before .before .before .before .before .before .args .slots .now) (c .before .before .before .before .before .before .before .before .before .before .before .before .before .before .before .before .before .before .before .before .before .before .args .saved-stack .now) (c .before .before .before .before .before .before .before .before .before .before .before .before .before .before .before .before .before .before .before .before .before .before .args .saved-frames .now) (c .before .before .before .before .before .before .before .before .store-pc .last .0) (c .before .before .before .before .before .before .before .before .before .before .before .before .before .before .before .before .before .before .before .before .before .before .args .pc) (c .before .before .before .before .before .before .before .before .store-pc .kept .0) (c .before .before .before .before .before .before .before .before .before .before .before .before .before .before .before .before .before .before .before .before .before .before .pre .narrow) o
-    ((c .before .before .before .before .before .before .before .before .store-pc .ensures) (c .before .before .before .before .before .before .before .before .before .before .before .before .before .before .before .before .before .before .before .before .before .before .args .l) (o .world) (record { words = mem ((c .before .before .before .before .before .before .before .before .before .before .before .before .before .before .before .before .before .before .before .before .before .before)) (o .beside); fuel = o .beside .fuel }) (o .rep))
+coro-enter-requires c κs =
+    let at-store-pc = store-pc-of c in let start = start-of (at-store-pc .before .before .before .before .before) in
+    let o = start .pre .ok in
+    stored-ok (start .args .l) (start .args .m) (start .args .stack .now) (start .args .frames .now) (start .args .chain .now) (start .args .slots .now)
+    (start .args .saved-stack .now) (start .args .saved-frames .now) (at-store-pc .store-pc .last .0) (start .args .pc) (at-store-pc .store-pc .kept .0)
+    (start .pre .narrow) o
+    (at-store-pc .store-pc .ensures (start .args .l) (o .world) (record { words = mem start (o .beside); fuel = o .beside .fuel }) (o .rep))
 
 arrive-requires : tie.Need-arrive-requires
-arrive-requires c κs = let o = (c .before .before .before .before .before .before .before .before .before .before .before .before .before .before .before .before .before .before .before .before .before .before .before .before .before .before .before .before .before .before .before .before .before .before .before .before .before .before .pre .ok) in
-    let u = storePc (c .before .before .before .before .before .before .before .before .before .before .before .before .before .before .before .before .before .before .before .before .before .before .before .before .before .before .before .before .before .before .before .before .before .before .before .before .before .before .args .pc) (o .world) in
-    let k = store-sounds (c .before .before .before .before .before .before .before .before .before .before .before .before .before .before .before .before .before .before .before .before .before .before .before .before .before .before .before .before .before .before .before .before .before .before .before .before .before .before .args .pc) (o .world) (c .before .before .before .before .before .before .before .before .before .before .before .before .before .before .before .before .before .before .before .before .before .before .before .before .before .before .before .before .before .before .before .before .before .before .before .before .before .before .pre .narrow) (o .sound) in
-    arrive-fits (c .before .before .before .before .before .before .before .before .before .before .before .before .before .before .before .before .before .before .before .before .before .before .before .before .before .before .before .before .before .before .before .before .before .before .before .before .before .before .args .l) _ _ _ (c .before .before .before .before .before .before .before .before .before .before .before .before .before .before .before .before .before .before .before .before .before .before .before .before .before .before .before .before .before .reg .result) (Driver.Resume (c .before .before .before .before .before .before .before .before .before .before .before .before .before .before .before .before .before .before .before .before .before .before .before .before .before .before .before .before .before .before .before .before .before .before .before .before .before .before .args .dst)) u _ k
-    ((c .before .before .before .before .before .before .before .before .before .before .before .before .before .before .before .coro-enter .ensures) u (o .beside) ((c .before .before .before .before .before .before .before .before .before .before .before .before .before .before .before .before .before .before .before .before .before .before .before .before .store-pc .ensures) (c .before .before .before .before .before .before .before .before .before .before .before .before .before .before .before .before .before .before .before .before .before .before .before .before .before .before .before .before .before .before .before .before .before .before .before .before .before .before .args .l) (o .world) (record { words = mem ((c .before .before .before .before .before .before .before .before .before .before .before .before .before .before .before .before .before .before .before .before .before .before .before .before .before .before .before .before .before .before .before .before .before .before .before .before .before .before)) (o .beside); fuel = o .beside .fuel }) (o .rep)) k)
+arrive-requires c κs =
+    let at-coro-enter = coro-enter-of c in let at-store-pc = store-pc-of (at-coro-enter .before) in
+    let at-reg = at-store-pc .before .before .before .before .before in let start = start-of at-reg in
+    let o = start .pre .ok in
+    let u = storePc (start .args .pc) (o .world) in
+    let k = store-sounds (start .args .pc) (o .world) (start .pre .narrow) (o .sound) in
+    arrive-fits (start .args .l) _ _ _ (at-reg .reg .result) (Driver.Resume (start .args .dst)) u _ k
+    (at-coro-enter .coro-enter .ensures u (o .beside)
+    (at-store-pc .store-pc .ensures (start .args .l) (o .world) (record { words = mem start (o .beside); fuel = o .beside .fuel }) (o .rep)) k)
 
 same-length : tie.Need-same-length
 same-length c = search needs
 
 same-length-2 : tie.Need-same-length-2
-same-length-2 c = (c .before .before .before .before .arrive .kept .1 .0) ∙ (c .before .before .before .before .before .before .before .before .before .before .before .before .before .before .before .before .before .before .before .before .coro-enter .kept .1 .0) ∙ (c .before .before .before .before .before .before .before .before .before .before .before .before .before .before .before .before .before .before .before .before .before .before .before .before .before .before .before .before .before .store-pc .kept .0)
+same-length-2 c =
+    let at-arrive = c .before .before .before .before in let at-coro-enter = coro-enter-of (at-arrive .before) in
+    let at-store-pc = store-pc-of (at-coro-enter .before) in
+    at-arrive .arrive .kept .1 .0 ∙ at-coro-enter .coro-enter .kept .1 .0 ∙ at-store-pc .store-pc .kept .0
 
 same-length-3 : tie.Need-same-length-3
 same-length-3 c = search needs
@@ -54,13 +77,22 @@ same-length-6 : tie.Need-same-length-6
 same-length-6 c = search needs
 
 returns : tie.Need-returns
-returns c = λ w b rep snd.
-    let u = storePc (c .before .before .before .before .before .before .before .before .before .before .before .before .before .before .before .before .before .before .before .before .before .before .before .before .before .before .before .before .before .before .before .before .before .before .before .before .before .before .before .before .before .before .before .args .pc) w in
-    let k = store-sounds (c .before .before .before .before .before .before .before .before .before .before .before .before .before .before .before .before .before .before .before .before .before .before .before .before .before .before .before .before .before .before .before .before .before .before .before .before .before .before .before .before .before .before .before .args .pc) w (c .before .before .before .before .before .before .before .before .before .before .before .before .before .before .before .before .before .before .before .before .before .before .before .before .before .before .before .before .before .before .before .before .before .before .before .before .before .before .before .before .before .before .before .pre .narrow) snd in
-    let d = (c .before .before .before .before .before .before .before .before .before .before .before .before .before .before .before .before .before .before .before .before .coro-enter .ensures) u b ((c .before .before .before .before .before .before .before .before .before .before .before .before .before .before .before .before .before .before .before .before .before .before .before .before .before .before .before .before .before .store-pc .ensures) (c .before .before .before .before .before .before .before .before .before .before .before .before .before .before .before .before .before .before .before .before .before .before .before .before .before .before .before .before .before .before .before .before .before .before .before .before .before .before .before .before .before .before .before .args .l) w (record { words = mem ((c .before .before .before .before .before .before .before .before .before .before .before .before .before .before .before .before .before .before .before .before .before .before .before .before .before .before .before .before .before .before .before .before .before .before .before .before .before .before .before .before .before .before .before)) b; fuel = b .fuel }) rep) k in
-    resumed (c .before .before .before .before .before .before .before .before .before .before .before .before .before .before .before .before .before .before .before .before .before .before .before .before .before .before .before .before .before .before .before .before .before .before .before .before .before .before .before .before .before .before .before .args .l) _ _ (b .fuel) w (c .before .before .before .before .before .before .before .before .before .before .before .before .before .before .before .before .before .before .before .before .before .before .before .before .before .before .before .before .before .before .before .before .before .before .before .before .before .before .before .before .before .before .before .args .pc) (c .before .before .before .before .before .before .before .before .before .before .before .before .before .before .before .before .before .before .before .before .before .before .before .before .before .before .before .before .before .before .before .before .before .before .before .before .before .before .before .before .before .before .before .args .dst) (c .before .before .before .before .before .before .before .before .before .before .before .before .before .before .before .before .before .before .before .before .before .before .before .before .before .before .before .before .before .before .before .before .before .before .before .before .before .before .before .before .before .before .before .args .c) (c .before .before .before .before .before .before .before .before .before .before .before .before .before .before .before .before .before .before .before .before .before .before .before .before .before .before .before .before .before .before .before .before .before .before .before .before .before .before .before .before .before .before .before .args .src) (c .before .before .before .before .before .before .before .before .before .before .before .before .before .before .before .before .before .before .before .before .before .before .before .before .before .before .before .before .before .before .before .before .before .before .reg .result) (c .before .before .before .before .before .before .before .before .before .before .before .before .before .before .before .before .before .before .before .before .before .before .before .before .before .before .before .before .before .before .before .reg2 .result) _ _
-    ((c .before .before .before .before .before .before .before .before .before .before .before .before .before .before .before .before .before .before .before .before .before .before .before .before .before .before .before .before .before .before .before .before .before .before .reg .ensures) (w .stack) (w .frames) (rep .stack) (rep .frames) .is) ((c .before .before .before .before .before .before .before .before .before .before .before .before .before .before .before .before .before .before .before .before .before .before .before .before .before .before .before .before .before .before .before .reg2 .ensures) (w .stack) (w .frames) (rep .stack) (rep .frames) .is) (d .answer)
-    ((c .before .before .before .before .arrive .ensures) (c .before .before .before .before .before .before .before .before .before .before .before .before .before .before .before .before .before .before .before .before .before .before .before .before .before .before .before .before .before .before .before .before .before .before .before .before .before .before .before .before .before .before .before .args .l) (coroEnter (c .before .before .before .before .before .before .before .before .before .before .before .before .before .before .before .before .before .before .before .before .before .before .before .before .before .before .before .before .before .before .before .before .before .before .reg .result) (Driver.Resume (c .before .before .before .before .before .before .before .before .before .before .before .before .before .before .before .before .before .before .before .before .before .before .before .before .before .before .before .before .before .before .before .before .before .before .before .before .before .before .before .before .before .before .before .args .dst)) u .world) (record { words = lent ((c .before .before .before .before .before .before .before .before .before .before .before .before .before .before .before .before .before .before .before .before .coro-enter .last .0)) ((c .before .before .before .before .before .before .before .before .before .before .before .before .before .before .before .before .before .before .before .before .coro-enter .last .1 .0)) ((c .before .before .before .before .before .before .before .before .before .before .before .before .before .before .before .before .before .before .before .before .coro-enter .last .1 .1 .0)) ((c .before .before .before .before .before .before .before .before .before .before .before .before .before .before .before .before .before .before .before .before .coro-enter .last .1 .1 .1 .0)) ((c .before .before .before .before .before .before .before .before .before .before .before .before .before .before .before .before .before .before .before .before .coro-enter .last .1 .1 .1 .1 .0)) ((c .before .before .before .before .before .before .before .before .before .before .before .before .before .before .before .before .before .before .before .before .coro-enter .last .1 .1 .1 .1 .1 .0)) b; fuel = b .fuel }) (d .world))
+returns c =
+    let at-arrive = c .before .before .before .before in let at-coro-enter = coro-enter-of (at-arrive .before) in
+    let at-store-pc = store-pc-of (at-coro-enter .before) in let at-reg2 = at-store-pc .before .before in
+    let at-reg = at-reg2 .before .before .before in let start = start-of at-reg in
+    λ w b rep snd.
+    let u = storePc (start .args .pc) w in
+    let k = store-sounds (start .args .pc) w (start .pre .narrow) snd in
+    let d = at-coro-enter .coro-enter .ensures u b (at-store-pc .store-pc .ensures (start .args .l) w (record { words = mem start b; fuel = b .fuel }) rep) k in
+    resumed (start .args .l) _ _ (b .fuel) w (start .args .pc) (start .args .dst) (start .args .c) (start .args .src) (at-reg .reg .result) (at-reg2 .reg2 .result) _ _
+    (at-reg .reg .ensures (w .stack) (w .frames) (rep .stack) (rep .frames) .is) (at-reg2 .reg2 .ensures (w .stack) (w .frames) (rep .stack) (rep .frames) .is) (d .answer)
+    (at-arrive .arrive .ensures (start .args .l) (coroEnter (at-reg .reg .result) (Driver.Resume (start .args .dst)) u .world)
+    (record {
+      words = lent (at-coro-enter .coro-enter .last .0) (at-coro-enter .coro-enter .last .1 .0) (at-coro-enter .coro-enter .last .1 .1 .0)
+          (at-coro-enter .coro-enter .last .1 .1 .1 .0) (at-coro-enter .coro-enter .last .1 .1 .1 .1 .0) (at-coro-enter .coro-enter .last .1 .1 .1 .1 .1 .0) b;
+      fuel = b .fuel;
+    }) (d .world))
 
 pub resume-spec : {M : Type 1} → statement M
 resume-spec =
