@@ -17,10 +17,14 @@ same-length : tie.Need-same-length
 same-length c = search needs
 
 returns : tie.Need-returns
-returns c = λ l w b rep. made-word l _ (c .before .before .before .before .before .before .before .before .before .args .m) (b .fuel) w (c .before .before .before .before .before .before .before .before .before .args .dst) (c .before .before .before .before .before .before .before .before .before .args .a) (c .before .before .before .before .before .a .given .0 .0) (c .before .before .before .before .before .a .given .1) ((c .before .before .put .ensures) l w b rep)
+returns c =
+    let at-put = c .before .before in let at-a = at-put .before .before .before in let start = at-a .before .before .before .before in
+    λ l w b rep. made-word l _ (start .args .m) (b .fuel) w (start .args .dst) (start .args .a) (at-a .a .given .0 .0) (at-a .a .given .1) (at-put .put .ensures l w b rep)
 
 returns-2 : tie.Need-returns-2
-returns-2 c = λ l w b rep. made-refused l _ (c .before .before .before .before .before .args .m) (b .fuel) w (c .before .before .before .before .before .args .dst) (c .before .before .before .before .before .args .a) (c .before .a2 .given .0 .0) (c .before .a2 .given .1) rep
+returns-2 c =
+    let at-a2 = c .before in let start = at-a2 .before .before .before .before in
+    λ l w b rep. made-refused l _ (start .args .m) (b .fuel) w (start .args .dst) (start .args .a) (at-a2 .a2 .given .0 .0) (at-a2 .a2 .given .1) rep
 
 pub put-made-spec : {M : Type 1} → statement M
 put-made-spec =

@@ -8,7 +8,9 @@ enum-known-a : tie.Need-enum-known-a
 enum-known-a c = search needs
 
 deliver-requires : tie.Need-deliver-requires
-deliver-requires c κs = (c .before .before .before .before .before .before .before .before .before .pre .drives) ((c .before .before .before .before .a .given .0 .0)) ((c .before .before .before .before .a .given .0 .1 .0)) ((c .before .before .before .before .a .given .1))
+deliver-requires c κs =
+    let at-a = c .before .before .before .before in let start = at-a .before .before .before .before .before in
+    start .pre .drives (at-a .a .given .0 .0) (at-a .a .given .0 .1 .0) (at-a .a .given .1)
 
 stepped-by-requires : tie.Need-stepped-by-requires
 stepped-by-requires c κs = search needs
@@ -26,10 +28,16 @@ same-length-3 : tie.Need-same-length-3
 same-length-3 c = search needs
 
 returns : tie.Need-returns
-returns c = λ l w b rep. deliver-done l _ _ _ w (c .before .before .before .before .before .before .before .before .before .before .before .before .before .before .before .before .before .before .before .args .a) ((c .before .before .before .before .before .before .before .before .before .before .before .before .before .before .a .given .0 .0)) ((c .before .before .before .before .before .before .before .before .before .before .before .before .before .before .a .given .0 .1 .0)) _ _ ((c .before .before .before .before .before .before .before .before .before .before .before .before .before .before .a .given .1)) ((c .before .before .before .before .before .before .before .before .before .deliver .ensures) l w b rep) (c .stepped-by .ensures)
+returns c =
+    let at-deliver = c .before .before .before .before .before .before .before .before .before in
+    let at-a = at-deliver .before .before .before .before .before in let start = at-a .before .before .before .before .before in
+    λ l w b rep. deliver-done l _ _ _ w (start .args .a) (at-a .a .given .0 .0) (at-a .a .given .0 .1 .0) _ _ (at-a .a .given .1)
+    (at-deliver .deliver .ensures l w b rep) (c .stepped-by .ensures)
 
 returns-2 : tie.Need-returns-2
-returns-2 c = λ l w b rep. deliver-refused l _ _ _ w (c .before .before .before .before .before .before .args .a) ((c .before .a2 .given .0 .0)) ((c .before .a2 .given .1)) rep
+returns-2 c =
+    let at-a2 = c .before in let start = at-a2 .before .before .before .before .before in
+    λ l w b rep. deliver-refused l _ _ _ w (start .args .a) (at-a2 .a2 .given .0 .0) (at-a2 .a2 .given .1) rep
 
 pub deliver-all-spec : {M : Type 1} → statement M
 deliver-all-spec =

@@ -7,17 +7,26 @@ use borrow.Author.Needs.{needs}
 use Rattle.exec_yield.proofs.yielding.coro_await.Statement.{statement}
 use Rattle.exec_yield.proofs.yielding.coro_await.Tie as tie
 
+-- the ways back that several clauses take
+abbrev start-of : tie.After-struct-known → tie.Start
+start-of c = c .before .before .before .before .before .before .before
+
 abbrev mem : tie.Start → Beside → Lent
 mem c b = lent (c .args .stack .now) (c .args .frames .now) (c .args .chain .now) (c .args .slots .now) (c .args .saved-stack .now) (c .args .saved-frames .now) b
 
 returns : tie.Need-returns
-returns c = λ w b rep snd. await-idle (c .before .before .before .before .before .before .before .before .args .l) (mem ((c .before .before .before .before .before .before .before .before)) b) (c .before .before .before .before .before .before .before .before .args .m) (c .before .before .before .before .before .before .before .before .args .fuel) w (c .before .before .before .before .before .before .before .before .args .pc) (c .before .before .before .before .before .before .before .before .args .dst) (c .before .before .before .before .before .before .before .before .args .src) (idle (c .before .before .before .before .before .before .before .before .args .l) w (mem ((c .before .before .before .before .before .before .before .before)) b) (c .before .before .before .before .before .before .before .before .args .m) (c .before .before .before .before .before .before .before .before .args .fuel) rep (c .if1 .taken)) rep
+returns c =
+    let start = start-of (c .before) in
+    λ w b rep snd. await-idle (start .args .l) (mem start b) (start .args .m) (start .args .fuel) w (start .args .pc) (start .args .dst) (start .args .src)
+    (idle (start .args .l) w (mem start b) (start .args .m) (start .args .fuel) rep (c .if1 .taken)) rep
 
 reg-requires : tie.Need-reg-requires
 reg-requires c κs = search needs
 
 suspend-requires : tie.Need-suspend-requires
-suspend-requires c κs = record { run = record { ok = (c .before .before .before .before .before .before .before .before .before .before .before .before .before .before .before .before .before .pre .ok); running = some-active ((c .before .before .before .before .before .before .before .before .before .before .before .before .before .before .before .before .before .args .m .active)) (c .before .before .before .before .before .before .before .before .before .if1 .left); narrow = (c .before .before .before .before .before .before .before .before .before .before .before .before .before .before .before .before .before .pre .narrow) }; state = refl }
+suspend-requires c κs =
+    let at-if1 = c .before .before .before .before .before .before .before .before .before in let start = start-of (at-if1 .before) in
+    record { run = record { ok = start .pre .ok; running = some-active (start .args .m .active) (at-if1 .if1 .left); narrow = start .pre .narrow }; state = refl }
 
 same-length : tie.Need-same-length
 same-length c = search needs
@@ -38,7 +47,13 @@ same-length-6 : tie.Need-same-length-6
 same-length-6 c = search needs
 
 returns-2 : tie.Need-returns-2
-returns-2 c = λ w b rep snd. await-runs (c .before .before .before .before .before .before .before .before .before .before .before .before .before .before .before .before .before .before .before .before .before .before .before .before .before .before .before .before .before .before .args .l) _ _ _ w (c .before .before .before .before .before .before .before .before .before .before .before .before .before .before .before .before .before .before .before .before .before .before .before .before .before .before .before .before .before .before .args .pc) (c .before .before .before .before .before .before .before .before .before .before .before .before .before .before .before .before .before .before .before .before .before .before .before .before .before .before .before .before .before .before .args .dst) (c .before .before .before .before .before .before .before .before .before .before .before .before .before .before .before .before .before .before .before .before .before .before .before .before .before .before .before .before .before .before .args .src) (runs (c .before .before .before .before .before .before .before .before .before .before .before .before .before .before .before .before .before .before .before .before .before .before .before .before .before .before .before .before .before .before .args .l) w (mem ((c .before .before .before .before .before .before .before .before .before .before .before .before .before .before .before .before .before .before .before .before .before .before .before .before .before .before .before .before .before .before)) b) (c .before .before .before .before .before .before .before .before .before .before .before .before .before .before .before .before .before .before .before .before .before .before .before .before .before .before .before .before .before .before .args .m) (c .before .before .before .before .before .before .before .before .before .before .before .before .before .before .before .before .before .before .before .before .before .before .before .before .before .before .before .before .before .before .args .fuel) rep (some-active ((c .before .before .before .before .before .before .before .before .before .before .before .before .before .before .before .before .before .before .before .before .before .before .before .before .before .before .before .before .before .before .args .m .active)) (c .before .before .before .before .before .before .before .before .before .before .before .before .before .before .before .before .before .before .before .before .before .before .if1 .left))) _ _ ((c .before .before .before .before .before .before .before .before .before .before .before .before .before .before .before .before .before .before .before .reg .ensures) (w .stack) (w .frames) (rep .stack) (rep .frames) .is) ((c .before .before .before .before .before .before .before .before .before .before .before .before .suspend .ensures) w b rep snd)
+returns-2 c =
+    let at-suspend = c .before .before .before .before .before .before .before .before .before .before .before .before in
+    let at-reg = at-suspend .before .before .before .before .before .before .before in let at-if1 = at-reg .before .before .before in
+    let start = start-of (at-if1 .before) in
+    λ w b rep snd. await-runs (start .args .l) _ _ _ w (start .args .pc) (start .args .dst) (start .args .src)
+    (runs (start .args .l) w (mem start b) (start .args .m) (start .args .fuel) rep (some-active (start .args .m .active) (at-if1 .if1 .left))) _ _
+    (at-reg .reg .ensures (w .stack) (w .frames) (rep .stack) (rep .frames) .is) (at-suspend .suspend .ensures w b rep snd)
 
 pub coro-await-spec : {M : Type 1} → statement M
 coro-await-spec =

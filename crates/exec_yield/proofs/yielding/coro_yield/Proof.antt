@@ -9,31 +9,52 @@ use borrow.Author.Needs.{needs}
 use Rattle.exec_yield.proofs.yielding.coro_yield.Statement.{statement}
 use Rattle.exec_yield.proofs.yielding.coro_yield.Tie as tie
 
+-- the ways back that several clauses take
+abbrev start-of : tie.Else1 → tie.Start
+start-of c = c .before .before .before .before .before .before .before .before
+
 abbrev mem : tie.Start → Beside → Lent
 mem c b = lent (c .args .stack .now) (c .args .frames .now) (c .args .chain .now) (c .args .slots .now) (c .args .saved-stack .now) (c .args .saved-frames .now) b
 
 returns : tie.Need-returns
-returns c = λ w b rep snd. yield-idle (c .before .before .before .before .before .before .before .before .args .l) (mem ((c .before .before .before .before .before .before .before .before)) b) (c .before .before .before .before .before .before .before .before .args .m) (c .before .before .before .before .before .before .before .before .args .fuel) w (c .before .before .before .before .before .before .before .before .args .pc) (c .before .before .before .before .before .before .before .before .args .dst) (c .before .before .before .before .before .before .before .before .args .src) (idle (c .before .before .before .before .before .before .before .before .args .l) w (mem ((c .before .before .before .before .before .before .before .before)) b) (c .before .before .before .before .before .before .before .before .args .m) (c .before .before .before .before .before .before .before .before .args .fuel) rep (c .if1 .taken)) rep
+returns c =
+    let start = c .before .before .before .before .before .before .before .before in
+    λ w b rep snd. yield-idle (start .args .l) (mem start b) (start .args .m) (start .args .fuel) w (start .args .pc) (start .args .dst) (start .args .src)
+    (idle (start .args .l) w (mem start b) (start .args .m) (start .args .fuel) rep (c .if1 .taken)) rep
 
 reg-requires : tie.Need-reg-requires
 reg-requires c κs = search needs
 
 sub-active-at : tie.Need-sub-active-at
-sub-active-at c = some-active ((c .before .before .before .before .before .before .before .before .before .before .before .before .before .args .m .active)) (c .before .before .before .before .before .if1 .left)
+sub-active-at c =
+    let at-if1 = c .before .before .before .before .before in let start = start-of at-if1 in
+    some-active (start .args .m .active) (at-if1 .if1 .left)
 
 active-at-requires : tie.Need-active-at-requires
-active-at-requires c κs = let h = some-active ((c .before .before .before .before .before .before .before .before .before .before .before .before .before .args .m .active)) (c .before .before .before .before .before .if1 .left) in let k = (c .before .before .before .before .before .before .before .before .before .before .before .before .before .pre .ok .rep .chain .within) in omega arith
+active-at-requires c κs =
+    let at-if1 = c .before .before .before .before .before in let start = start-of at-if1 in
+    let h = some-active (start .args .m .active) (at-if1 .if1 .left) in let k = start .pre .ok .rep .chain .within in omega arith
 
 largest-in-requires : tie.Need-largest-in-requires
-largest-in-requires c κs = (c .before .before .before .before .before .before .before .before .before .before .before .before .before .before .before .pre .ok .rep .slots .within)
+largest-in-requires c κs =
+    let start = start-of (c .before .before .before .before .before .before .before) in
+    start .pre .ok .rep .slots .within
 
 auto-key-requires : tie.Need-auto-key-requires
-auto-key-requires c κs = key-room (c .before .before .before .before .before .before .before .before .before .before .before .before .before .before .before .before .before .pre .ok .rep) (c .before .before .before .before .before .before .before .before .before .before .before .before .before .before .before .before .before .pre .ok .sound) (c .before .before .before .before .before .before .before .before .before .before .before .before .before .before .before .before .before .pre .ok .room)
+auto-key-requires c κs =
+    let start = start-of (c .before .before .before .before .before .before .before .before .before) in
+    key-room (start .pre .ok .rep) (start .pre .ok .sound) (start .pre .ok .room)
 
 yield-key-requires : tie.Need-yield-key-requires
-yield-key-requires c κs = let o = (c .before .before .before .before .before .before .before .before .before .before .before .before .before .before .before .before .before .before .before .before .before .before .before .before .before .before .before .pre .ok) in
-    key-run (c .before .before .before .before .before .before .before .before .before .before .before .before .before .before .before .before .before .before .before .before .before .before .before .before .before .before .before .args .l) (c .before .before .before .before .before .before .before .before .before .before .before .before .before .before .before .before .before .before .before .before .before .before .before .before .before .before .before .args .m) _ (c .before .before .before .before .before .before .before .before .before .before .before .before .before .before .before .before .before .before .before .before .before .before .before .before .before .before .before .args .stack .now) (c .before .before .before .before .before .before .before .before .before .before .before .before .before .before .before .before .before .before .before .before .before .before .before .before .before .before .before .args .frames .now) (c .before .before .before .before .before .before .before .before .before .before .before .before .before .before .before .before .before .before .before .before .before .before .before .before .before .before .before .args .chain .now) (c .before .before .before .before .before .before .before .before .before .before .before .before .before .before .before .before .before .before .before .before .before .before .before .before .before .before .before .args .slots .now) (c .before .before .before .before .before .before .before .before .before .before .before .before .before .before .before .before .before .before .before .before .before .before .before .before .before .before .before .args .saved-stack .now) (c .before .before .before .before .before .before .before .before .before .before .before .before .before .before .before .before .before .before .before .before .before .before .before .before .before .before .before .args .saved-frames .now) _ (c .before .before .before .before .before .before .before .before .before .before .before .largest-in .result) (c .before .before .before .before .before .before .before .before .before .before .before .before .before .before .before .before .before .before .before .before .before .before .before .before .before .before .before .args .pc) o (c .before .before .before .before .before .before .before .before .before .auto-key .kept .0) (some-active ((c .before .before .before .before .before .before .before .before .before .before .before .before .before .before .before .before .before .before .before .before .before .before .before .before .before .before .before .args .m .active)) (c .before .before .before .before .before .before .before .before .before .before .before .before .before .before .before .before .before .before .before .if1 .left)) (c .before .before .before .before .before .before .before .before .before .before .before .before .before .before .before .before .before .before .before .before .before .before .before .before .before .before .before .pre .narrow)
-    ((c .before .before .before .before .before .before .before .before .before .auto-key .ensures) (o .world) (record { words = mem ((c .before .before .before .before .before .before .before .before .before .before .before .before .before .before .before .before .before .before .before .before .before .before .before .before .before .before .before)) (o .beside); fuel = o .beside .fuel }) (o .rep) (o .sound) .world)
+yield-key-requires c κs =
+    let at-auto-key = c .before .before .before .before .before .before .before .before .before in
+    let at-largest-in = at-auto-key .before .before in
+    let at-if1 = at-largest-in .before .before .before .before .before .before .before .before in let start = start-of at-if1 in
+    let o = start .pre .ok in
+    key-run (start .args .l) (start .args .m) _ (start .args .stack .now) (start .args .frames .now) (start .args .chain .now) (start .args .slots .now)
+    (start .args .saved-stack .now) (start .args .saved-frames .now) _ (at-largest-in .largest-in .result) (start .args .pc) o (at-auto-key .auto-key .kept .0)
+    (some-active (start .args .m .active) (at-if1 .if1 .left)) (start .pre .narrow)
+    (at-auto-key .auto-key .ensures (o .world) (record { words = mem start (o .beside); fuel = o .beside .fuel }) (o .rep) (o .sound) .world)
 
 same-length : tie.Need-same-length
 same-length c = search needs
@@ -54,15 +75,21 @@ same-length-6 : tie.Need-same-length-6
 same-length-6 c = search needs
 
 returns-2 : tie.Need-returns-2
-returns-2 c = λ w b rep snd.
-    let h = some-active ((c .before .before .before .before .before .before .before .before .before .before .before .before .before .before .before .before .before .before .before .before .before .before .before .before .before .before .before .before .before .before .before .before .before .before .before .before .before .before .before .before .args .m .active)) (c .before .before .before .before .before .before .before .before .before .before .before .before .before .before .before .before .before .before .before .before .before .before .before .before .before .before .before .before .before .before .before .before .if1 .left) in
-    let d = (c .before .before .before .before .before .before .before .before .before .before .before .before .before .before .before .before .before .before .before .before .before .before .auto-key .ensures) w (record { words = mem ((c .before .before .before .before .before .before .before .before .before .before .before .before .before .before .before .before .before .before .before .before .before .before .before .before .before .before .before .before .before .before .before .before .before .before .before .before .before .before .before .before)) b; fuel = (c .before .before .before .before .before .before .before .before .before .before .before .before .before .before .before .before .before .before .before .before .before .before .before .before .before .before .before .before .before .before .before .before .before .before .before .before .before .before .before .before .args .fuel) }) rep snd in
-    yield-runs (c .before .before .before .before .before .before .before .before .before .before .before .before .before .before .before .before .before .before .before .before .before .before .before .before .before .before .before .before .before .before .before .before .before .before .before .before .before .before .before .before .args .l) _ _ _ w (c .before .before .before .before .before .before .before .before .before .before .before .before .before .before .before .before .before .before .before .before .before .before .before .before .before .before .before .before .before .before .before .before .before .before .before .before .before .before .before .before .args .pc) (c .before .before .before .before .before .before .before .before .before .before .before .before .before .before .before .before .before .before .before .before .before .before .before .before .before .before .before .before .before .before .before .before .before .before .before .before .before .before .before .before .args .dst) (c .before .before .before .before .before .before .before .before .before .before .before .before .before .before .before .before .before .before .before .before .before .before .before .before .before .before .before .before .before .before .before .before .before .before .before .before .before .before .before .before .args .src) (runs (c .before .before .before .before .before .before .before .before .before .before .before .before .before .before .before .before .before .before .before .before .before .before .before .before .before .before .before .before .before .before .before .before .before .before .before .before .before .before .before .before .args .l) w (mem ((c .before .before .before .before .before .before .before .before .before .before .before .before .before .before .before .before .before .before .before .before .before .before .before .before .before .before .before .before .before .before .before .before .before .before .before .before .before .before .before .before)) b) (c .before .before .before .before .before .before .before .before .before .before .before .before .before .before .before .before .before .before .before .before .before .before .before .before .before .before .before .before .before .before .before .before .before .before .before .before .before .before .before .before .args .m) (c .before .before .before .before .before .before .before .before .before .before .before .before .before .before .before .before .before .before .before .before .before .before .before .before .before .before .before .before .before .before .before .before .before .before .before .before .before .before .before .before .args .fuel) rep h) _ _ (c .before .before .before .before .before .before .before .before .before .before .before .before .before .before .before .before .before .before .before .before .before .before .before .before .largest-in .result) _ _
-    ((c .before .before .before .before .before .before .before .before .before .before .before .before .before .before .before .before .before .before .before .before .before .before .before .before .before .before .before .before .before .reg .ensures) (w .stack) (w .frames) (rep .stack) (rep .frames) .is)
-    (ap (λ z. z .coro) ((c .before .before .before .before .before .before .before .before .before .before .before .before .before .before .before .before .before .before .before .before .before .before .before .before .before .before .active-at .ensures) ∙ innermost (c .before .before .before .before .before .before .before .before .before .before .before .before .before .before .before .before .before .before .before .before .before .before .before .before .before .before .before .before .before .before .before .before .before .before .before .before .before .before .before .before .args .l) w (mem ((c .before .before .before .before .before .before .before .before .before .before .before .before .before .before .before .before .before .before .before .before .before .before .before .before .before .before .before .before .before .before .before .before .before .before .before .before .before .before .before .before)) b) (c .before .before .before .before .before .before .before .before .before .before .before .before .before .before .before .before .before .before .before .before .before .before .before .before .before .before .before .before .before .before .before .before .before .before .before .before .before .before .before .before .args .m) (c .before .before .before .before .before .before .before .before .before .before .before .before .before .before .before .before .before .before .before .before .before .before .before .before .before .before .before .before .before .before .before .before .before .before .before .before .before .before .before .before .args .fuel) rep h))
-    ((c .before .before .before .before .before .before .before .before .before .before .before .before .before .before .before .before .before .before .before .before .before .before .before .before .largest-in .ensures) (c .before .before .before .before .before .before .before .before .before .before .before .before .before .before .before .before .before .before .before .before .before .before .before .before .before .before .before .before .before .before .before .before .before .before .before .before .before .before .before .before .args .l) w (record { words = mem ((c .before .before .before .before .before .before .before .before .before .before .before .before .before .before .before .before .before .before .before .before .before .before .before .before .before .before .before .before .before .before .before .before .before .before .before .before .before .before .before .before)) b; fuel = (c .before .before .before .before .before .before .before .before .before .before .before .before .before .before .before .before .before .before .before .before .before .before .before .before .before .before .before .before .before .before .before .before .before .before .before .before .before .before .before .before .args .fuel) }) rep)
+returns-2 c =
+    let at-yield-key = c .before .before .before .before .before .before .before .before .before .before .before .before in
+    let at-auto-key = at-yield-key .before .before .before .before .before .before .before .before .before .before in
+    let at-largest-in = at-auto-key .before .before in let at-active-at = at-largest-in .before .before in
+    let at-reg = at-active-at .before .before .before in let at-if1 = at-reg .before .before .before in let start = start-of at-if1 in
+    λ w b rep snd.
+    let h = some-active (start .args .m .active) (at-if1 .if1 .left) in
+    let d = at-auto-key .auto-key .ensures w (record { words = mem start b; fuel = start .args .fuel }) rep snd in
+    yield-runs (start .args .l) _ _ _ w (start .args .pc) (start .args .dst) (start .args .src)
+    (runs (start .args .l) w (mem start b) (start .args .m) (start .args .fuel) rep h) _ _ (at-largest-in .largest-in .result) _ _
+    (at-reg .reg .ensures (w .stack) (w .frames) (rep .stack) (rep .frames) .is)
+    (ap (λ z. z .coro) (at-active-at .active-at .ensures ∙ innermost (start .args .l) w (mem start b) (start .args .m) (start .args .fuel) rep h))
+    (at-largest-in .largest-in .ensures (start .args .l) w (record { words = mem start b; fuel = start .args .fuel }) rep)
     (d .answer)
-    ((c .before .before .before .before .before .before .before .before .before .before .before .before .yield-key .ensures) (autoKey (c .before .before .before .before .before .before .before .before .before .before .before .before .before .before .before .before .before .before .before .before .before .before .before .before .largest-in .result) w .world) b (d .world) (key-sounds (c .before .before .before .before .before .before .before .before .before .before .before .before .before .before .before .before .before .before .before .before .before .before .before .before .largest-in .result) w snd))
+    (at-yield-key .yield-key .ensures (autoKey (at-largest-in .largest-in .result) w .world) b (d .world) (key-sounds (at-largest-in .largest-in .result) w snd))
 
 pub coro-yield-spec : {M : Type 1} → statement M
 coro-yield-spec =

@@ -16,7 +16,9 @@ larger-of-requires : tie.Need-larger-of-requires
 larger-of-requires c κs = search needs
 
 returns : tie.Need-returns
-returns c = λ l w b rep. ap (Keys.Set (c .before .before .before .before .args .key)) ((c .larger-of .ensures) ∙ ap₂ largerOf ((c .before .largest-in .ensures) l w b rep) ((c .before .before .dyn-int .ensures) l w b rep))
+returns c =
+    let at-largest-in = c .before in let at-dyn-int = at-largest-in .before in let start = at-dyn-int .before .before in
+    λ l w b rep. ap (Keys.Set (start .args .key)) (c .larger-of .ensures ∙ ap₂ largerOf (at-largest-in .largest-in .ensures l w b rep) (at-dyn-int .dyn-int .ensures l w b rep))
 
 pub keyed-spec : {M : Type 1} → statement M
 keyed-spec = tie.close (tie.spec dyn-int-requires largest-in-requires larger-of-requires returns)

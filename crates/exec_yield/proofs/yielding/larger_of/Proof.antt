@@ -15,13 +15,17 @@ less-requires : tie.Need-less-requires
 less-requires c κs = search needs
 
 returns : tie.Need-returns
-returns c = rises (c .before .before .before .before .before .args .largest) (c .before .before .before .before .before .args .n) (c .before .before .before .n .given .0 .0) (c .before .before .before .n .given .1) (sym (c .before .less .ensures) ∙ (c .if1 .taken))
+returns c =
+    let at-less = c .before in let at-n = at-less .before .before in let start = at-n .before .before in
+    rises (start .args .largest) (start .args .n) (at-n .n .given .0 .0) (at-n .n .given .1) (sym (at-less .less .ensures) ∙ c .if1 .taken)
 
 returns-2 : tie.Need-returns-2
 returns-2 c = keeps-none (c .before .before .args .largest) (c .before .before .args .n) (c .enum-told .given .1)
 
 returns-3 : tie.Need-returns-3
-returns-3 c = keeps (c .before .before .before .before .before .args .largest) (c .before .before .before .before .before .args .n) (c .before .before .before .n .given .0 .0) (c .before .before .before .n .given .1) (sym (c .before .less .ensures) ∙ (c .if1 .left))
+returns-3 c =
+    let at-less = c .before in let at-n = at-less .before .before in let start = at-n .before .before in
+    keeps (start .args .largest) (start .args .n) (at-n .n .given .0 .0) (at-n .n .given .1) (sym (at-less .less .ensures) ∙ c .if1 .left)
 
 pub larger-of-spec : {M : Type 1} → statement M
 larger-of-spec =

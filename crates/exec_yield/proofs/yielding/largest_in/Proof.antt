@@ -18,13 +18,23 @@ enum-known-i : tie.Need-enum-known-i
 enum-known-i c = search needs
 
 coro-at-requires : tie.Need-coro-at-requires
-coro-at-requires c κs = stands-words (c .before .before .before .before .before .args .m .count) (c .before .before .before .before .before .args .slots .now) (c .before .before .before .before .before .args .v) (c .before .i .given .0 .0) (sym (c .before .i .given .1) ∙ (c .before .before .before .coro-place .ensures)) (c .before .before .before .before .before .pre)
+coro-at-requires c κs =
+    let at-i = c .before in let at-coro-place = at-i .before .before in let start = at-coro-place .before .before in
+    stands-words (start .args .m .count) (start .args .slots .now) (start .args .v) (at-i .i .given .0 .0) (sym (at-i .i .given .1) ∙ at-coro-place .coro-place .ensures) (start .pre)
 
 returns : tie.Need-returns
-returns c = λ l w b rep. largest-none l _ (c .before .before .before .before .args .m) (b .fuel) w rep (c .before .before .before .before .args .v) _ (none-there (coroOf (slotsOf (c .before .before .before .before .args .m .count) (c .before .before .before .before .args .slots .now)) (c .before .before .before .before .args .v)) (c .enum-told .given .0 .0) (sym (c .enum-told .given .1) ∙ (c .before .before .coro-place .ensures)))
+returns c =
+    let at-coro-place = c .before .before in let start = at-coro-place .before .before in
+    λ l w b rep. largest-none l _ (start .args .m) (b .fuel) w rep (start .args .v) _
+    (none-there (coroOf (slotsOf (start .args .m .count) (start .args .slots .now)) (start .args .v)) (c .enum-told .given .0 .0)
+    (sym (c .enum-told .given .1) ∙ at-coro-place .coro-place .ensures))
 
 returns-2 : tie.Need-returns-2
-returns-2 c = λ l w b rep. largest-at l _ (c .before .before .before .before .before .before .args .m) (b .fuel) w rep (c .before .before .before .before .before .before .args .v) (c .before .before .i .given .0 .0) (c .coro-at .result) (ap (RV.At (c .before .before .i .given .0 .0)) (c .coro-at .ensures) ∙ stands (c .before .before .before .before .before .before .args .m .count) (c .before .before .before .before .before .before .args .slots .now) (c .before .before .before .before .before .before .args .v) (c .before .before .i .given .0 .0) (sym (c .before .before .i .given .1) ∙ (c .before .before .before .before .coro-place .ensures)) .coro)
+returns-2 c =
+    let at-i = c .before .before in let at-coro-place = at-i .before .before in let start = at-coro-place .before .before in
+    λ l w b rep. largest-at l _ (start .args .m) (b .fuel) w rep (start .args .v) (at-i .i .given .0 .0) (c .coro-at .result)
+    (ap (RV.At (at-i .i .given .0 .0)) (c .coro-at .ensures) ∙ stands (start .args .m .count) (start .args .slots .now) (start .args .v) (at-i .i .given .0 .0)
+    (sym (at-i .i .given .1) ∙ at-coro-place .coro-place .ensures) .coro)
 
 pub largest-in-spec : {M : Type 1} → statement M
 largest-in-spec =

@@ -14,7 +14,9 @@ enum-known-a : tie.Need-enum-known-a
 enum-known-a c = search needs
 
 suspend-requires : tie.Need-suspend-requires
-suspend-requires c κs = record { run = (c .before .before .before .before .before .before .before .before .before .before .before .before .before .before .before .pre); state = refl }
+suspend-requires c κs =
+    let start = c .before .before .before .before .before .before .before .before .before .before .before .before .before .before .before in
+    record { run = start .pre; state = refl }
 
 enum-known-a-2 : tie.Need-enum-known-a-2
 enum-known-a-2 c = search needs
@@ -38,10 +40,18 @@ same-length-6 : tie.Need-same-length-6
 same-length-6 c = search needs
 
 returns : tie.Need-returns
-returns c = λ w b rep snd. keyed-yield (c .before .before .before .before .before .before .before .before .before .before .before .before .before .before .before .before .before .before .before .before .before .before .before .before .before .before .before .before .args .l) _ _ _ w (c .before .before .before .before .before .before .before .before .before .before .before .before .before .before .before .before .before .before .before .before .before .before .before .before .before .before .before .before .args .pc) (c .before .before .before .before .before .before .before .before .before .before .before .before .before .before .before .before .before .before .before .before .before .before .before .before .before .before .before .before .args .dst) (c .before .before .before .before .before .before .before .before .before .before .before .before .before .before .before .before .before .before .before .before .before .before .before .before .before .before .before .before .args .payload) (c .before .before .before .before .before .before .before .before .before .before .before .before .before .before .before .before .before .before .before .before .before .before .before .before .before .before .before .before .args .a) _ (c .before .before .before .before .before .before .before .before .before .before .before .before .before .before .before .before .before .before .before .before .a .given .0 .0) (c .before .before .before .before .before .before .before .before .before .before .before .before .before .before .before .before .before .before .before .before .a .given .0 .1 .0) (c .before .before .before .before .before .before .before .before .before .before .before .before .before .before .before .before .before .before .before .before .a .given .1) ((c .before .before .before .before .before .before .before .before .before .before .before .before .suspend .ensures) w b rep snd)
+returns c =
+    let at-suspend = c .before .before .before .before .before .before .before .before .before .before .before .before in
+    let at-a = at-suspend .before .before .before .before .before .before .before .before in
+    let start = at-a .before .before .before .before .before .before .before .before in
+    λ w b rep snd. keyed-yield (start .args .l) _ _ _ w (start .args .pc) (start .args .dst) (start .args .payload) (start .args .a) _ (at-a .a .given .0 .0)
+    (at-a .a .given .0 .1 .0) (at-a .a .given .1) (at-suspend .suspend .ensures w b rep snd)
 
 returns-2 : tie.Need-returns-2
-returns-2 c = λ w b rep snd. unkeyed-yield (c .before .before .before .before .before .before .before .before .before .args .l) (mem ((c .before .before .before .before .before .before .before .before .before)) b) (c .before .before .before .before .before .before .before .before .before .args .m) (c .before .before .before .before .before .before .before .before .before .args .fuel) w (c .before .before .before .before .before .before .before .before .before .args .pc) (c .before .before .before .before .before .before .before .before .before .args .dst) (c .before .before .before .before .before .before .before .before .before .args .payload) (c .before .before .before .before .before .before .before .before .before .args .a) (c .before .a2 .given .0 .0) (c .before .a2 .given .1) rep
+returns-2 c =
+    let at-a2 = c .before in let start = at-a2 .before .before .before .before .before .before .before .before in
+    λ w b rep snd. unkeyed-yield (start .args .l) (mem start b) (start .args .m) (start .args .fuel) w (start .args .pc) (start .args .dst)
+    (start .args .payload) (start .args .a) (at-a2 .a2 .given .0 .0) (at-a2 .a2 .given .1) rep
 
 pub yield-key-spec : {M : Type 1} → statement M
 yield-key-spec =

@@ -8,11 +8,18 @@ use borrow.Author.Needs.{needs}
 use Rattle.exec_yield.proofs.yielding.yield_kv.Statement.{statement}
 use Rattle.exec_yield.proofs.yielding.yield_kv.Tie as tie
 
+-- the ways back that several clauses take
+abbrev start-of : tie.After-struct-known → tie.Start
+start-of c = c .before .before .before .before .before .before .before
+
 abbrev mem : tie.Start → Beside → Lent
 mem c b = lent (c .args .stack .now) (c .args .frames .now) (c .args .chain .now) (c .args .slots .now) (c .args .saved-stack .now) (c .args .saved-frames .now) b
 
 returns : tie.Need-returns
-returns c = λ w b rep snd. kv-idle (c .before .before .before .before .before .before .before .before .args .l) (mem ((c .before .before .before .before .before .before .before .before)) b) (c .before .before .before .before .before .before .before .before .args .m) (c .before .before .before .before .before .before .before .before .args .fuel) w (c .before .before .before .before .before .before .before .before .args .pc) (c .before .before .before .before .before .before .before .before .args .dst) (c .before .before .before .before .before .before .before .before .args .src) (c .before .before .before .before .before .before .before .before .args .key) (idle (c .before .before .before .before .before .before .before .before .args .l) w (mem ((c .before .before .before .before .before .before .before .before)) b) (c .before .before .before .before .before .before .before .before .args .m) (c .before .before .before .before .before .before .before .before .args .fuel) rep (c .if1 .taken)) rep
+returns c =
+    let start = start-of (c .before) in
+    λ w b rep snd. kv-idle (start .args .l) (mem start b) (start .args .m) (start .args .fuel) w (start .args .pc) (start .args .dst) (start .args .src)
+    (start .args .key) (idle (start .args .l) w (mem start b) (start .args .m) (start .args .fuel) rep (c .if1 .taken)) rep
 
 reg-requires : tie.Need-reg-requires
 reg-requires c κs = search needs
@@ -24,13 +31,20 @@ sub-active-at : tie.Need-sub-active-at
 sub-active-at c = search needs
 
 active-at-requires : tie.Need-active-at-requires
-active-at-requires c κs = let h = some-active ((c .before .before .before .before .before .before .before .before .before .before .before .before .before .before .before .before .args .m .active)) (c .before .before .before .before .before .before .before .before .if1 .left) in let k = (c .before .before .before .before .before .before .before .before .before .before .before .before .before .before .before .before .pre .plain .ok .rep .chain .within) in omega arith
+active-at-requires c κs =
+    let at-if1 = c .before .before .before .before .before .before .before .before in let start = start-of (at-if1 .before) in
+    let h = some-active (start .args .m .active) (at-if1 .if1 .left) in let k = start .pre .plain .ok .rep .chain .within in omega arith
 
 keyed-requires : tie.Need-keyed-requires
-keyed-requires c κs = (c .before .before .before .before .before .before .before .before .before .before .before .before .before .before .before .before .before .before .pre .plain .ok .rep .slots .within)
+keyed-requires c κs =
+    let start = start-of (c .before .before .before .before .before .before .before .before .before .before .before) in
+    start .pre .plain .ok .rep .slots .within
 
 suspend-requires : tie.Need-suspend-requires
-suspend-requires c κs = record { run = record { ok = (c .before .before .before .before .before .before .before .before .before .before .before .before .before .before .before .before .before .before .before .before .before .before .before .before .before .pre .plain .ok); running = some-active ((c .before .before .before .before .before .before .before .before .before .before .before .before .before .before .before .before .before .before .before .before .before .before .before .before .before .args .m .active)) (c .before .before .before .before .before .before .before .before .before .before .before .before .before .before .before .before .before .if1 .left); narrow = (c .before .before .before .before .before .before .before .before .before .before .before .before .before .before .before .before .before .before .before .before .before .before .before .before .before .pre .plain .narrow) }; state = refl }
+suspend-requires c κs =
+    let at-if1 = c .before .before .before .before .before .before .before .before .before .before .before .before .before .before .before .before .before in
+    let start = start-of (at-if1 .before) in
+    record { run = record { ok = start .pre .plain .ok; running = some-active (start .args .m .active) (at-if1 .if1 .left); narrow = start .pre .plain .narrow }; state = refl }
 
 same-length : tie.Need-same-length
 same-length c = search needs
@@ -51,14 +65,21 @@ same-length-6 : tie.Need-same-length-6
 same-length-6 c = search needs
 
 returns-2 : tie.Need-returns-2
-returns-2 c = λ w b rep snd.
-    let h = some-active ((c .before .before .before .before .before .before .before .before .before .before .before .before .before .before .before .before .before .before .before .before .before .before .before .before .before .before .before .before .before .before .before .before .before .before .before .before .before .before .args .m .active)) (c .before .before .before .before .before .before .before .before .before .before .before .before .before .before .before .before .before .before .before .before .before .before .before .before .before .before .before .before .before .before .if1 .left) in
-    kv-runs (c .before .before .before .before .before .before .before .before .before .before .before .before .before .before .before .before .before .before .before .before .before .before .before .before .before .before .before .before .before .before .before .before .before .before .before .before .before .before .args .l) _ _ _ w (c .before .before .before .before .before .before .before .before .before .before .before .before .before .before .before .before .before .before .before .before .before .before .before .before .before .before .before .before .before .before .before .before .before .before .before .before .before .before .args .pc) (c .before .before .before .before .before .before .before .before .before .before .before .before .before .before .before .before .before .before .before .before .before .before .before .before .before .before .before .before .before .before .before .before .before .before .before .before .before .before .args .dst) (c .before .before .before .before .before .before .before .before .before .before .before .before .before .before .before .before .before .before .before .before .before .before .before .before .before .before .before .before .before .before .before .before .before .before .before .before .before .before .args .src) (c .before .before .before .before .before .before .before .before .before .before .before .before .before .before .before .before .before .before .before .before .before .before .before .before .before .before .before .before .before .before .before .before .before .before .before .before .before .before .args .key) (runs (c .before .before .before .before .before .before .before .before .before .before .before .before .before .before .before .before .before .before .before .before .before .before .before .before .before .before .before .before .before .before .before .before .before .before .before .before .before .before .args .l) w (mem ((c .before .before .before .before .before .before .before .before .before .before .before .before .before .before .before .before .before .before .before .before .before .before .before .before .before .before .before .before .before .before .before .before .before .before .before .before .before .before)) b) (c .before .before .before .before .before .before .before .before .before .before .before .before .before .before .before .before .before .before .before .before .before .before .before .before .before .before .before .before .before .before .before .before .before .before .before .before .before .before .args .m) (c .before .before .before .before .before .before .before .before .before .before .before .before .before .before .before .before .before .before .before .before .before .before .before .before .before .before .before .before .before .before .before .before .before .before .before .before .before .before .args .fuel) rep h) _ _ _ _ _
-    ((c .before .before .before .before .before .before .before .before .before .before .before .before .before .before .before .before .before .before .before .before .before .before .before .before .before .before .before .reg .ensures) (w .stack) (w .frames) (rep .stack) (rep .frames) .is)
-    (ap (λ z. z .coro) ((c .before .before .before .before .before .before .before .before .before .before .before .before .before .before .before .before .before .before .before .before .before .active-at .ensures) ∙ innermost (c .before .before .before .before .before .before .before .before .before .before .before .before .before .before .before .before .before .before .before .before .before .before .before .before .before .before .before .before .before .before .before .before .before .before .before .before .before .before .args .l) w (mem ((c .before .before .before .before .before .before .before .before .before .before .before .before .before .before .before .before .before .before .before .before .before .before .before .before .before .before .before .before .before .before .before .before .before .before .before .before .before .before)) b) (c .before .before .before .before .before .before .before .before .before .before .before .before .before .before .before .before .before .before .before .before .before .before .before .before .before .before .before .before .before .before .before .before .before .before .before .before .before .before .args .m) (c .before .before .before .before .before .before .before .before .before .before .before .before .before .before .before .before .before .before .before .before .before .before .before .before .before .before .before .before .before .before .before .before .before .before .before .before .before .before .args .fuel) rep h))
-    ((c .before .before .before .before .before .before .before .before .before .before .before .before .before .before .before .before .before .before .before .before .before .before .before .before .reg2 .ensures) (w .stack) (w .frames) (rep .stack) (rep .frames) .is)
-    ((c .before .before .before .before .before .before .before .before .before .before .before .before .before .before .before .before .before .before .before .keyed .ensures) (c .before .before .before .before .before .before .before .before .before .before .before .before .before .before .before .before .before .before .before .before .before .before .before .before .before .before .before .before .before .before .before .before .before .before .before .before .before .before .args .l) w (record { words = mem ((c .before .before .before .before .before .before .before .before .before .before .before .before .before .before .before .before .before .before .before .before .before .before .before .before .before .before .before .before .before .before .before .before .before .before .before .before .before .before)) b; fuel = (c .before .before .before .before .before .before .before .before .before .before .before .before .before .before .before .before .before .before .before .before .before .before .before .before .before .before .before .before .before .before .before .before .before .before .before .before .before .before .args .fuel) }) rep)
-    ((c .before .before .before .before .before .before .before .before .before .before .before .before .suspend .ensures) w b rep snd)
+returns-2 c =
+    let at-suspend = c .before .before .before .before .before .before .before .before .before .before .before .before in
+    let at-keyed = at-suspend .before .before .before .before .before .before .before in
+    let at-active-at = at-keyed .before .before in let at-reg2 = at-active-at .before .before .before in
+    let at-reg = at-reg2 .before .before .before in let at-if1 = at-reg .before .before .before in
+    let start = start-of (at-if1 .before) in
+    λ w b rep snd.
+    let h = some-active (start .args .m .active) (at-if1 .if1 .left) in
+    kv-runs (start .args .l) _ _ _ w (start .args .pc) (start .args .dst) (start .args .src) (start .args .key)
+    (runs (start .args .l) w (mem start b) (start .args .m) (start .args .fuel) rep h) _ _ _ _ _
+    (at-reg .reg .ensures (w .stack) (w .frames) (rep .stack) (rep .frames) .is)
+    (ap (λ z. z .coro) (at-active-at .active-at .ensures ∙ innermost (start .args .l) w (mem start b) (start .args .m) (start .args .fuel) rep h))
+    (at-reg2 .reg2 .ensures (w .stack) (w .frames) (rep .stack) (rep .frames) .is)
+    (at-keyed .keyed .ensures (start .args .l) w (record { words = mem start b; fuel = start .args .fuel }) rep)
+    (at-suspend .suspend .ensures w b rep snd)
 
 pub yield-kv-spec : {M : Type 1} → statement M
 yield-kv-spec =

@@ -25,7 +25,9 @@ same-length : tie.Need-same-length
 same-length c = search needs
 
 returns : tie.Need-returns
-returns c = let t = c .told-bank in four (c .before .before .args .ws .now) _ (c .before .before .args .f .fuel) (t .result .0) (t .result .1) (t .result .2) (c .before .before .pre) (t .ensures)
+returns c =
+    let start = c .before .before in
+    let t = c .told-bank in four (start .args .ws .now) _ (start .args .f .fuel) (t .result .0) (t .result .1) (t .result .2) (start .pre) (t .ensures)
 
 pub put-fuel-spec : {M : Type 1} → statement M
 put-fuel-spec =

@@ -34,13 +34,18 @@ same-length : tie.Need-same-length
 same-length c = search needs
 
 returns : tie.Need-returns
-returns c = two _ _ _ _ (c .before .before .before .before .pre) (sym (ap madeWords (c .before .a .given .1)))
+returns c =
+    let at-a = c .before in let start = at-a .before .before .before in
+    two _ _ _ _ (start .pre) (sym (ap madeWords (at-a .a .given .1)))
 
 same-length-2 : tie.Need-same-length-2
 same-length-2 c = search needs
 
 returns-2 : tie.Need-returns-2
-returns-2 c = two (c .before .before .before .before .before .before .args .ws .now) (madeWords (c .before .before .before .before .before .before .args .a)) (c .before .number .result) (c .word .result) (c .before .before .before .before .before .before .pre) (rw (c .before .number .ensures, c .word .ensures) (sym (ap madeWords (c .before .before .before .a2 .given .1))))
+returns-2 c =
+    let at-number = c .before in let at-a2 = at-number .before .before in let start = at-a2 .before .before .before in
+    two (start .args .ws .now) (madeWords (start .args .a)) (at-number .number .result) (c .word .result) (start .pre)
+    (rw (at-number .number .ensures, c .word .ensures) (sym (ap madeWords (at-a2 .a2 .given .1))))
 
 pub put-made-spec : {M : Type 1} → statement M
 put-made-spec =

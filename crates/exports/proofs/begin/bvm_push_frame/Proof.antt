@@ -7,6 +7,10 @@ use borrow.Author.Needs.{needs}
 use Rattle.exports.proofs.begin.bvm_push_frame.Statement.{statement}
 use Rattle.exports.proofs.begin.bvm_push_frame.Tie as tie
 
+-- the ways back that several clauses take
+abbrev start-of : tie.After-machine-of → tie.Start
+start-of c = c .before .before .before .before .before .before .before .before
+
 machine-of-requires : tie.Need-machine-of-requires
 machine-of-requires c κs = search needs
 
@@ -17,13 +21,21 @@ cont-of-requires : tie.Need-cont-of-requires
 cont-of-requires c κs = search needs
 
 push-frame-requires : tie.Need-push-frame-requires
-push-frame-requires c κs = given (c .before .before .before .before .before .before .before .before .before .before .before .args .sizes .now) (c .before .before .before .before .before .before .before .before .before .before .before .args .machine .now) (c .before .before .sizes-of .result) (c .before .before .before .machine-of .result) (c .before .before .sizes-of .ensures) (c .before .before .before .machine-of .ensures) (λ l m. PushFits l (c .before .before .before .before .before .before .before .before .before .before .before .args .stack .now) (c .before .before .before .before .before .before .before .before .before .before .before .args .frames .now) (c .before .before .before .before .before .before .before .before .before .before .before .args .setup .now) m (c .before .before .before .before .before .before .before .before .before .before .before .args .f)) ((c .before .before .before .before .before .before .before .before .before .before .before .pre) .fits)
+push-frame-requires c κs =
+    let at-sizes-of = c .before .before in let at-machine-of = at-sizes-of .before in let start = start-of at-machine-of in
+    given (start .args .sizes .now) (start .args .machine .now) (at-sizes-of .sizes-of .result)
+    (at-machine-of .machine-of .result) (at-sizes-of .sizes-of .ensures) (at-machine-of .machine-of .ensures)
+    (λ l m. PushFits l (start .args .stack .now) (start .args .frames .now) (start .args .setup .now) m (start .args .f)) (start .pre .fits)
 
 put-machine-requires : tie.Need-put-machine-requires
-put-machine-requires c κs = (c .before .before .before .before .before .before .before .before .before .before .before .before .before .before .before .before .pre) .passed .machine
+put-machine-requires c κs =
+    let start = start-of (c .before .before .before .before .before .before .before .before) in
+    start .pre .passed .machine
 
 put-made-requires : tie.Need-put-made-requires
-put-made-requires c κs = (c .before .before .before .before .before .before .before .before .before .before .before .before .before .before .before .before .before .before .before .before .pre) .passed .answer
+put-made-requires c κs =
+    let start = start-of (c .before .before .before .before .before .before .before .before .before .before .before .before) in
+    start .pre .passed .answer
 
 same-length : tie.Need-same-length
 same-length c = search needs
@@ -35,7 +47,14 @@ same-length-3 : tie.Need-same-length-3
 same-length-3 c = search needs
 
 returns : tie.Need-returns
-returns c = called-as _ (c .before .before .before .before .before .before .before .before .before .before .before .before .before .before .before .before .before .before .before .before .before .before .before .args .machine .now) (c .before .before .before .before .before .before .before .before .before .before .before .before .before .before .sizes-of .result) (c .before .before .before .before .before .before .before .before .before .before .before .before .before .before .before .machine-of .result) (c .before .before .before .before .before .before .before .before .before .before .before .before .before .before .sizes-of .ensures) (c .before .before .before .before .before .before .before .before .before .before .before .before .before .before .before .machine-of .ensures) _ _ _ _ _ _ _ (c .before .before .before .before .before .before .before .before .before .before .before .push-frame .result .machine) (c .before .before .before .before .before .before .before .before .before .before .before .push-frame .result .answer) (c .before .before .before .before .before .before .put-machine .ensures) (c .before .before .put-made .ensures) _ (ap (λ k. pushFrame (c .before .before .before .before .before .before .before .before .before .before .before .before .before .before .before .before .before .before .before .before .before .before .before .args .f) (c .before .before .before .before .before .before .before .before .before .before .before .before .before .before .before .before .before .before .before .before .before .before .before .args .closure) k) (c .before .before .before .before .before .before .before .before .before .before .before .before .before .cont-of .ensures)) (c .before .before .before .before .before .before .before .before .before .before .before .push-frame .ensures)
+returns c =
+    let at-put-made = c .before .before in let at-put-machine = at-put-made .before .before .before .before in
+    let at-push-frame = at-put-machine .before .before .before .before .before in let at-cont-of = at-push-frame .before .before in
+    let at-sizes-of = at-cont-of .before in let at-machine-of = at-sizes-of .before in let start = start-of at-machine-of in
+    called-as _ (start .args .machine .now) (at-sizes-of .sizes-of .result) (at-machine-of .machine-of .result)
+    (at-sizes-of .sizes-of .ensures) (at-machine-of .machine-of .ensures) _ _ _ _ _ _ _ (at-push-frame .push-frame .result .machine)
+    (at-push-frame .push-frame .result .answer) (at-put-machine .put-machine .ensures) (at-put-made .put-made .ensures) _
+    (ap (λ k. pushFrame (start .args .f) (start .args .closure) k) (at-cont-of .cont-of .ensures)) (at-push-frame .push-frame .ensures)
 
 pub bvm-push-frame-spec : {M : Type 1} → statement M
 bvm-push-frame-spec =

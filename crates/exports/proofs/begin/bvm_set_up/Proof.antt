@@ -4,11 +4,20 @@ use borrow.Author.Needs.{needs}
 use Rattle.exports.proofs.begin.bvm_set_up.Statement.{statement}
 use Rattle.exports.proofs.begin.bvm_set_up.Tie as tie
 
+-- the ways back that several clauses take
+abbrev set-up-of : tie.After-put-machine-arg → tie.After-set-up
+set-up-of c = c .before .before .before .before .before .before .before .before .before .before .before .before .before .before .before .before .before .before .before
+
+abbrev start-of : tie.After-set-up → tie.Start
+start-of c = c .before .before .before .before .before .before .before .before .before .before .before .before .before .before .before .before .before .before .before .before .before
+
 set-up-requires : tie.Need-set-up-requires
 set-up-requires c κs = search needs
 
 put-machine-requires : tie.Need-put-machine-requires
-put-machine-requires c κs = (c .before .before .before .before .before .before .before .before .before .before .before .before .before .before .before .before .before .before .before .before .before .before .before .before .before .before .before .before .before .before .before .before .before .before .before .before .before .before .before .before .pre) .machine
+put-machine-requires c κs =
+    let at-set-up = set-up-of c in let start = start-of at-set-up in
+    start .pre .machine
 
 same-length : tie.Need-same-length
 same-length c = search needs
@@ -41,7 +50,9 @@ same-length-10 : tie.Need-same-length-10
 same-length-10 c = search needs
 
 returns : tie.Need-returns
-returns c = begun (c .before .before .before .before .before .before .before .before .before .before .before .before .before .before .before .before .before .before .before .before .before .before .before .before .before .before .before .before .before .before .before .before .before .before .before .before .before .before .before .before .before .before .before .args .machine .now) _ (c .before .before .before .before .before .before .before .before .before .before .before .before .before .before .before .before .before .before .before .before .before .before .set-up .result) (c .before .before .put-machine .ensures) _ _ (c .before .before .before .before .before .before .before .before .before .before .before .before .before .before .before .before .before .before .before .before .before .before .set-up .ensures)
+returns c =
+    let at-put-machine = c .before .before in let at-set-up = set-up-of (at-put-machine .before) in let start = start-of at-set-up in
+    begun (start .args .machine .now) _ (at-set-up .set-up .result) (at-put-machine .put-machine .ensures) _ _ (at-set-up .set-up .ensures)
 
 pub bvm-set-up-spec : {M : Type 1} → statement M
 bvm-set-up-spec =

@@ -5,6 +5,10 @@ use borrow.Author.Needs.{needs}
 use Rattle.exports.proofs.making.bvm_coro_new.Statement.{statement}
 use Rattle.exports.proofs.making.bvm_coro_new.Tie as tie
 
+-- the ways back that several clauses take
+abbrev start-of : tie.After-machine-of → tie.Start
+start-of c = c .before .before .before .before .before .before .before .before .before .before .before
+
 machine-of-requires : tie.Need-machine-of-requires
 machine-of-requires c κs = search needs
 
@@ -12,13 +16,24 @@ sizes-of-requires : tie.Need-sizes-of-requires
 sizes-of-requires c κs = search needs
 
 coro-new-requires : tie.Need-coro-new-requires
-coro-new-requires c κs = given (c .before .before .before .before .before .before .before .before .before .before .before .before .before .before .before .before .args .sizes .now) (c .before .before .before .before .before .before .before .before .before .before .before .before .before .before .before .before .args .machine .now) (c .before .before .before .before .sizes-of .result) (c .before .before .before .before .before .machine-of .result) (c .before .before .before .before .sizes-of .ensures) (c .before .before .before .before .before .machine-of .ensures) (λ l m. NewFits l (c .before .before .before .before .before .before .before .before .before .before .before .before .before .before .before .before .args .stack .now) (c .before .before .before .before .before .before .before .before .before .before .before .before .before .before .before .before .args .frames .now) (c .before .before .before .before .before .before .before .before .before .before .before .before .before .before .before .before .args .slots .now) (c .before .before .before .before .before .before .before .before .before .before .before .before .before .before .before .before .args .saved-stack .now) (c .before .before .before .before .before .before .before .before .before .before .before .before .before .before .before .before .args .saved-frames .now) (c .before .before .before .before .before .before .before .before .before .before .before .before .before .before .before .before .args .setup .now) m (c .before .before .before .before .before .before .before .before .before .before .before .before .before .before .before .before .args .dst) (c .before .before .before .before .before .before .before .before .before .before .before .before .before .before .before .before .args .f) (c .before .before .before .before .before .before .before .before .before .before .before .before .before .before .before .before .args .argc)) ((c .before .before .before .before .before .before .before .before .before .before .before .before .before .before .before .before .pre) .fits)
+coro-new-requires c κs =
+    let at-sizes-of = c .before .before .before .before in let at-machine-of = at-sizes-of .before in
+    let start = start-of at-machine-of in
+    given (start .args .sizes .now) (start .args .machine .now) (at-sizes-of .sizes-of .result)
+    (at-machine-of .machine-of .result) (at-sizes-of .sizes-of .ensures) (at-machine-of .machine-of .ensures)
+    (λ l m. NewFits l (start .args .stack .now) (start .args .frames .now) (start .args .slots .now) (start .args .saved-stack .now)
+    (start .args .saved-frames .now) (start .args .setup .now) m (start .args .dst) (start .args .f) (start .args .argc)) (start .pre .fits)
 
 put-machine-requires : tie.Need-put-machine-requires
-put-machine-requires c κs = (c .before .before .before .before .before .before .before .before .before .before .before .before .before .before .before .before .before .before .before .before .before .before .before .before .before .before .before .pre) .passed .machine
+put-machine-requires c κs =
+    let start = start-of (c .before .before .before .before .before .before .before .before .before .before .before .before .before .before .before .before) in
+    start .pre .passed .machine
 
 put-step-requires : tie.Need-put-step-requires
-put-step-requires c κs = (c .before .before .before .before .before .before .before .before .before .before .before .before .before .before .before .before .before .before .before .before .before .before .before .before .before .before .before .before .before .before .before .pre) .passed .answer
+put-step-requires c κs =
+    let at-coro-new = c .before .before .before .before .before .before .before .before .before .before .before .before .before .before in
+    let start = start-of (at-coro-new .before .before .before .before .before .before) in
+    start .pre .passed .answer
 
 same-length : tie.Need-same-length
 same-length c = search needs
@@ -39,7 +54,14 @@ same-length-6 : tie.Need-same-length-6
 same-length-6 c = search needs
 
 returns : tie.Need-returns
-returns c = called _ (c .before .before .before .before .before .before .before .before .before .before .before .before .before .before .before .before .before .before .before .before .before .before .before .before .before .before .before .before .before .before .before .before .before .before .args .machine .now) (c .before .before .before .before .before .before .before .before .before .before .before .before .before .before .before .before .before .before .before .before .before .before .sizes-of .result) (c .before .before .before .before .before .before .before .before .before .before .before .before .before .before .before .before .before .before .before .before .before .before .before .machine-of .result) (c .before .before .before .before .before .before .before .before .before .before .before .before .before .before .before .before .before .before .before .before .before .before .sizes-of .ensures) (c .before .before .before .before .before .before .before .before .before .before .before .before .before .before .before .before .before .before .before .before .before .before .before .machine-of .ensures) _ _ _ _ _ _ _ (c .before .before .before .before .before .before .before .before .before .before .before .before .before .before .before .before .before .coro-new .result .machine) (c .before .before .before .before .before .before .before .before .before .before .before .before .before .before .before .before .before .coro-new .result .step) (c .before .before .before .before .before .before .put-machine .ensures) (c .before .before .put-step .ensures) (c .before .before .before .before .before .before .before .before .before .before .before .before .before .before .before .before .before .coro-new .ensures)
+returns c =
+    let at-put-step = c .before .before in let at-put-machine = at-put-step .before .before .before .before in
+    let at-coro-new = at-put-machine .before .before .before .before .before .before .before .before .before .before .before in
+    let at-sizes-of = at-coro-new .before .before .before .before .before in let at-machine-of = at-sizes-of .before in
+    let start = start-of at-machine-of in
+    called _ (start .args .machine .now) (at-sizes-of .sizes-of .result) (at-machine-of .machine-of .result) (at-sizes-of .sizes-of .ensures)
+    (at-machine-of .machine-of .ensures) _ _ _ _ _ _ _ (at-coro-new .coro-new .result .machine) (at-coro-new .coro-new .result .step)
+    (at-put-machine .put-machine .ensures) (at-put-step .put-step .ensures) (at-coro-new .coro-new .ensures)
 
 pub bvm-coro-new-spec : {M : Type 1} → statement M
 bvm-coro-new-spec =

@@ -53,7 +53,9 @@ same-length : tie.Need-same-length
 same-length c = simp length-set
 
 returns : tie.Need-returns
-returns c = sets-splice (c .before .before .args .ws .now) (machineWords (c .before .before .args .m)) 0 (c .before .before .pre)
+returns c =
+    let start = c .before .before in
+    sets-splice (start .args .ws .now) (machineWords (start .args .m)) 0 (start .pre)
 
 pub put-machine-spec : {M : Type 1} → statement M
 put-machine-spec =

@@ -21,7 +21,9 @@ same-length : tie.Need-same-length
 same-length c = search needs
 
 returns : tie.Need-returns
-returns c = ap (λ (z : List ℕ). set (set z 3 (c .before .before .before .before .before .args .m .count)) 7 (c .before .before .before .before .before .args .m .used)) (c .before .before .put-entered .ensures)
+returns c =
+    let at-put-entered = c .before .before in let start = at-put-entered .before .before .before in
+    ap (λ (z : List ℕ). set (set z 3 (start .args .m .count)) 7 (start .args .m .used)) (at-put-entered .put-entered .ensures)
 
 pub put-suspended-spec : {M : Type 1} → statement M
 put-suspended-spec =

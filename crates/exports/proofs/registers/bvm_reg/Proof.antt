@@ -9,10 +9,14 @@ machine-of-requires : tie.Need-machine-of-requires
 machine-of-requires c κs = search needs
 
 reg-requires : tie.Need-reg-requires
-reg-requires c κs = subst (λ m. RegFits (c .before .before .before .before .args .stack .now) (c .before .before .before .before .args .frames .now) (m .height) (m .depth) (c .before .before .before .before .args .r)) (sym (c .machine-of .ensures)) ((c .before .before .before .before .pre) .fits)
+reg-requires c κs =
+    let start = c .before .before .before .before in
+    subst (λ m. RegFits (start .args .stack .now) (start .args .frames .now) (m .height) (m .depth) (start .args .r)) (sym (c .machine-of .ensures)) (start .pre .fits)
 
 returns : tie.Need-returns
-returns c = subst (λ m. Gets (c .before .before .before .before .before .args .stack .now) (c .before .before .before .before .before .args .frames .now) (m .height) (m .depth) (c .before .before .before .before .before .args .r) (c .reg .result)) (c .before .machine-of .ensures) (c .reg .ensures)
+returns c =
+    let at-machine-of = c .before in let start = at-machine-of .before .before .before .before in
+    subst (λ m. Gets (start .args .stack .now) (start .args .frames .now) (m .height) (m .depth) (start .args .r) (c .reg .result)) (at-machine-of .machine-of .ensures) (c .reg .ensures)
 
 pub bvm-reg-spec : {M : Type 1} → statement M
 bvm-reg-spec = tie.close (tie.spec machine-of-requires reg-requires returns)

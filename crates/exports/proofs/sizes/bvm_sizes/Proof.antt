@@ -18,8 +18,10 @@ same-length c = search needs
 
 returns : tie.Need-returns
 returns c =
-    c .before .before .put-sizes .ensures
-    ∙ ap (λ (l : Sizes). splice (c .before .before .before .before .before .before .before .args .sizes .now) 0 (sizesWords l)) (c .before .before .before .before .sizes .ensures .words)
+    let at-put-sizes = c .before .before in let at-sizes = at-put-sizes .before .before in
+    let start = at-sizes .before .before .before in
+    at-put-sizes .put-sizes .ensures
+    ∙ ap (λ (l : Sizes). splice (start .args .sizes .now) 0 (sizesWords l)) (at-sizes .sizes .ensures .words)
 
 pub bvm-sizes-spec : {M : Type 1} → statement M
 bvm-sizes-spec = tie.close (tie.spec sizes-requires put-sizes-requires same-length returns)

@@ -27,7 +27,10 @@ same-length-2 : tie.Need-same-length-2
 same-length-2 c = search needs
 
 returns : tie.Need-returns
-returns c = (all (c .before .before .before .before .before .before .before .before .before .before .before .args .whole) _ _ _ (c .before .before .before .before .before .before .before .before .if1 .taken) (c .before .before .before .before .before .before .put-machine .ensures), all (c .before .before .before .before .before .before .before .before .before .before .before .args .whole) _ _ _ (c .before .before .before .before .before .before .before .before .if1 .taken) (c .before .before .put-fuel .ensures))
+returns c =
+    let at-put-fuel = c .before .before in let at-put-machine = at-put-fuel .before .before .before .before in
+    let at-if1 = at-put-machine .before .before in let start = at-if1 .before .before .before in
+    (all (start .args .whole) _ _ _ (at-if1 .if1 .taken) (at-put-machine .put-machine .ensures), all (start .args .whole) _ _ _ (at-if1 .if1 .taken) (at-put-fuel .put-fuel .ensures))
 
 put-suspended-requires : tie.Need-put-suspended-requires
 put-suspended-requires c κs = search needs
@@ -36,7 +39,10 @@ same-length-3 : tie.Need-same-length-3
 same-length-3 c = search needs
 
 returns-2 : tie.Need-returns-2
-returns-2 c = (some (c .before .before .before .before .before .before .before .args .whole) _ _ _ (c .before .before .before .before .if1 .left) (c .before .before .put-suspended .ensures), some (c .before .before .before .before .before .before .before .args .whole) _ _ _ (c .before .before .before .before .if1 .left) refl)
+returns-2 c =
+    let at-put-suspended = c .before .before in let at-if1 = at-put-suspended .before .before in
+    let start = at-if1 .before .before .before in
+    (some (start .args .whole) _ _ _ (at-if1 .if1 .left) (at-put-suspended .put-suspended .ensures), some (start .args .whole) _ _ _ (at-if1 .if1 .left) refl)
 
 pub put-back-spec : {M : Type 1} → statement M
 put-back-spec =

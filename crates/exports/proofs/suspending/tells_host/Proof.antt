@@ -44,16 +44,24 @@ enum-told-4 : tie.Need-enum-told-4
 enum-told-4 c = search needs
 
 returns-2 : tie.Need-returns-2
-returns-2 c = running _ (c .before .before .active-at .result) _ _ (c .before .before .before .if1 .left) (c .enum-told .given .1) refl _ (c .before .before .active-at .ensures)
+returns-2 c =
+    let at-active-at = c .before .before in let at-if1 = at-active-at .before in
+    running _ (at-active-at .active-at .result) _ _ (at-if1 .if1 .left) (c .enum-told .given .1) refl _ (at-active-at .active-at .ensures)
 
 returns-3 : tie.Need-returns-3
-returns-3 c = running _ (c .before .before .active-at .result) _ _ (c .before .before .before .if1 .left) (c .enum-told2 .given .1) refl _ (c .before .before .active-at .ensures)
+returns-3 c =
+    let at-active-at = c .before .before in let at-if1 = at-active-at .before in
+    running _ (at-active-at .active-at .result) _ _ (at-if1 .if1 .left) (c .enum-told2 .given .1) refl _ (at-active-at .active-at .ensures)
 
 returns-4 : tie.Need-returns-4
-returns-4 c = running _ (c .before .before .active-at .result) _ _ (c .before .before .before .if1 .left) (c .enum-told3 .given .1) refl _ (c .before .before .active-at .ensures)
+returns-4 c =
+    let at-active-at = c .before .before in let at-if1 = at-active-at .before in
+    running _ (at-active-at .active-at .result) _ _ (at-if1 .if1 .left) (c .enum-told3 .given .1) refl _ (at-active-at .active-at .ensures)
 
 returns-5 : tie.Need-returns-5
-returns-5 c = running _ (c .before .before .active-at .result) _ _ (c .before .before .before .if1 .left) (c .enum-told4 .given .1) refl _ (c .before .before .active-at .ensures)
+returns-5 c =
+    let at-active-at = c .before .before in let at-if1 = at-active-at .before in
+    running _ (at-active-at .active-at .result) _ _ (at-if1 .if1 .left) (c .enum-told4 .given .1) refl _ (at-active-at .active-at .ensures)
 
 pub tells-host-spec : {M : Type 1} → statement M
 tells-host-spec =

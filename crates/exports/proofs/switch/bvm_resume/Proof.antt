@@ -7,6 +7,13 @@ use borrow.Author.Needs.{needs}
 use Rattle.exports.proofs.switch.bvm_resume.Statement.{statement}
 use Rattle.exports.proofs.switch.bvm_resume.Tie as tie
 
+-- the ways back that several clauses take
+abbrev resume-of : tie.After-put-entered-arg → tie.After-resume
+resume-of c = c .before .before .before .before .before .before .before .before .before .before .before .before .before .before
+
+abbrev start-of : tie.After-machine-of → tie.Start
+start-of c = c .before .before .before .before .before .before .before .before .before .before .before
+
 machine-of-requires : tie.Need-machine-of-requires
 machine-of-requires c κs = search needs
 
@@ -14,13 +21,24 @@ sizes-of-requires : tie.Need-sizes-of-requires
 sizes-of-requires c κs = search needs
 
 resume-requires : tie.Need-resume-requires
-resume-requires c κs = given (c .before .before .before .before .before .before .before .before .before .before .before .before .before .before .before .before .before .before .args .sizes .now) (c .before .before .before .before .before .before .before .before .before .before .before .before .before .before .before .before .before .before .args .machine .now) (c .before .before .before .before .before .before .sizes-of .result) (c .before .before .before .before .before .before .before .machine-of .result) (c .before .before .before .before .before .before .sizes-of .ensures) (c .before .before .before .before .before .before .before .machine-of .ensures) (λ l m. ResumeFits l (c .before .before .before .before .before .before .before .before .before .before .before .before .before .before .before .before .before .before .args .stack .now) (c .before .before .before .before .before .before .before .before .before .before .before .before .before .before .before .before .before .before .args .frames .now) (c .before .before .before .before .before .before .before .before .before .before .before .before .before .before .before .before .before .before .args .chain .now) (c .before .before .before .before .before .before .before .before .before .before .before .before .before .before .before .before .before .before .args .slots .now) (c .before .before .before .before .before .before .before .before .before .before .before .before .before .before .before .before .before .before .args .saved-stack .now) (c .before .before .before .before .before .before .before .before .before .before .before .before .before .before .before .before .before .before .args .saved-frames .now) m (c .before .before .before .before .before .before .before .before .before .before .before .before .before .before .before .before .before .before .args .pc) (c .before .before .before .before .before .before .before .before .before .before .before .before .before .before .before .before .before .before .args .c) (c .before .before .before .before .before .before .before .before .before .before .before .before .before .before .before .before .before .before .args .src)) ((c .before .before .before .before .before .before .before .before .before .before .before .before .before .before .before .before .before .before .pre) .fits)
+resume-requires c κs =
+    let at-sizes-of = c .before .before .before .before .before .before in let at-machine-of = at-sizes-of .before in
+    let start = start-of at-machine-of in
+    given (start .args .sizes .now) (start .args .machine .now) (at-sizes-of .sizes-of .result)
+    (at-machine-of .machine-of .result) (at-sizes-of .sizes-of .ensures) (at-machine-of .machine-of .ensures)
+    (λ l m. ResumeFits l (start .args .stack .now) (start .args .frames .now) (start .args .chain .now) (start .args .slots .now)
+    (start .args .saved-stack .now) (start .args .saved-frames .now) m (start .args .pc) (start .args .c) (start .args .src)) (start .pre .fits)
 
 put-entered-requires : tie.Need-put-entered-requires
-put-entered-requires c κs = (c .before .before .before .before .before .before .before .before .before .before .before .before .before .before .before .before .before .before .before .before .before .before .before .before .before .before .before .before .before .before .before .before .before .pre) .passed .machine
+put-entered-requires c κs =
+    let at-resume = resume-of c in let start = start-of (at-resume .before .before .before .before .before .before .before .before) in
+    start .pre .passed .machine
 
 put-step-requires : tie.Need-put-step-requires
-put-step-requires c κs = (c .before .before .before .before .before .before .before .before .before .before .before .before .before .before .before .before .before .before .before .before .before .before .before .before .before .before .before .before .before .before .before .before .before .before .before .before .before .pre) .passed .answer
+put-step-requires c κs =
+    let at-resume = resume-of (c .before .before .before .before) in
+    let start = start-of (at-resume .before .before .before .before .before .before .before .before) in
+    start .pre .passed .answer
 
 same-length : tie.Need-same-length
 same-length c = search needs
@@ -47,7 +65,20 @@ same-length-8 : tie.Need-same-length-8
 same-length-8 c = search needs
 
 returns : tie.Need-returns
-returns c = called _ (c .before .before .before .before .before .before .before .before .before .before .before .before .before .before .before .before .before .before .before .before .before .before .before .before .before .before .before .before .before .before .before .before .before .before .before .before .before .before .before .before .args .machine .now) (c .before .before .before .before .before .before .before .before .before .before .before .before .before .before .before .before .before .before .before .before .before .before .before .before .before .before .before .before .sizes-of .result) (c .before .before .before .before .before .before .before .before .before .before .before .before .before .before .before .before .before .before .before .before .before .before .before .before .before .before .before .before .before .machine-of .result) (c .before .before .before .before .before .before .before .before .before .before .before .before .before .before .before .before .before .before .before .before .before .before .before .before .before .before .before .before .sizes-of .ensures) (c .before .before .before .before .before .before .before .before .before .before .before .before .before .before .before .before .before .before .before .before .before .before .before .before .before .before .before .before .before .machine-of .ensures) _ _ _ _ _ _ _ (c .before .before .before .before .before .before .before .before .before .before .before .before .before .before .before .before .before .before .before .before .before .resume .result .machine) (c .before .before .before .before .before .before .before .before .before .before .before .before .before .before .before .before .before .before .before .before .before .resume .result .step) ((c .before .before .before .before .before .before .put-entered .ensures) ∙ resumed-words (c .before .before .before .before .before .before .before .before .before .before .before .before .before .before .before .before .before .before .before .before .before .before .before .before .before .before .before .before .before .before .before .before .before .before .before .before .before .before .before .before .args .machine .now) (c .before .before .before .before .before .before .before .before .before .before .before .before .before .before .before .before .before .before .before .before .before .before .before .before .before .before .before .before .before .machine-of .result) (c .before .before .before .before .before .before .before .before .before .before .before .before .before .before .before .before .before .before .before .before .before .resume .result .machine) (c .before .before .before .before .before .before .before .before .before .before .before .before .before .before .before .before .before .before .before .before .before .before .before .before .before .before .before .before .before .machine-of .ensures) (c .before .before .before .before .before .before .before .before .before .before .before .before .before .before .before .before .before .before .before .before .before .before .before .before .before .before .before .before .before .before .before .before .before .before .before .before .before .before .before .before .pre .numbers) (c .before .before .before .before .before .before .before .before .before .before .before .before .before .before .before .before .before .before .before .before .before .before .before .before .before .before .before .before .before .before .before .before .before .before .before .before .before .before .before .before .args .pc) (c .before .before .before .before .before .before .before .before .before .before .before .before .before .before .before .before .before .before .before .before .before .before .before .before .before .before .before .before .before .before .before .before .before .before .before .before .before .before .before .before .args .dst) (c .before .before .before .before .before .before .before .before .before .before .before .before .before .before .before .before .before .before .before .before .before .before .before .before .before .before .before .before .before .before .before .before .before .before .before .before .before .before .before .before .args .c) (c .before .before .before .before .before .before .before .before .before .before .before .before .before .before .before .before .before .before .before .before .before .before .before .before .before .before .before .before .before .before .before .before .before .before .before .before .before .before .before .before .args .src) (c .before .before .before .before .before .before .before .before .before .before .before .before .before .before .before .before .before .before .before .before .before .before .before .before .before .before .before .before .sizes-of .result) _ _ (c .before .before .before .before .before .before .before .before .before .before .before .before .before .before .before .before .before .before .before .before .before .resume .result .step) (given (c .before .before .before .before .before .before .before .before .before .before .before .before .before .before .before .before .before .before .before .before .before .before .before .before .before .before .before .before .before .before .before .before .before .before .before .before .before .before .before .before .args .sizes .now) (c .before .before .before .before .before .before .before .before .before .before .before .before .before .before .before .before .before .before .before .before .before .before .before .before .before .before .before .before .before .before .before .before .before .before .before .before .before .before .before .before .args .machine .now) (c .before .before .before .before .before .before .before .before .before .before .before .before .before .before .before .before .before .before .before .before .before .before .before .before .before .before .before .before .sizes-of .result) (c .before .before .before .before .before .before .before .before .before .before .before .before .before .before .before .before .before .before .before .before .before .before .before .before .before .before .before .before .before .machine-of .result) (c .before .before .before .before .before .before .before .before .before .before .before .before .before .before .before .before .before .before .before .before .before .before .before .before .before .before .before .before .sizes-of .ensures) (c .before .before .before .before .before .before .before .before .before .before .before .before .before .before .before .before .before .before .before .before .before .before .before .before .before .before .before .before .before .machine-of .ensures) (λ l m. ResumeFits l (c .before .before .before .before .before .before .before .before .before .before .before .before .before .before .before .before .before .before .before .before .before .before .before .before .before .before .before .before .before .before .before .before .before .before .before .before .before .before .before .before .args .stack .now) (c .before .before .before .before .before .before .before .before .before .before .before .before .before .before .before .before .before .before .before .before .before .before .before .before .before .before .before .before .before .before .before .before .before .before .before .before .before .before .before .before .args .frames .now) (c .before .before .before .before .before .before .before .before .before .before .before .before .before .before .before .before .before .before .before .before .before .before .before .before .before .before .before .before .before .before .before .before .before .before .before .before .before .before .before .before .args .chain .now) (c .before .before .before .before .before .before .before .before .before .before .before .before .before .before .before .before .before .before .before .before .before .before .before .before .before .before .before .before .before .before .before .before .before .before .before .before .before .before .before .before .args .slots .now) (c .before .before .before .before .before .before .before .before .before .before .before .before .before .before .before .before .before .before .before .before .before .before .before .before .before .before .before .before .before .before .before .before .before .before .before .before .before .before .before .before .args .saved-stack .now) (c .before .before .before .before .before .before .before .before .before .before .before .before .before .before .before .before .before .before .before .before .before .before .before .before .before .before .before .before .before .before .before .before .before .before .before .before .before .before .before .before .args .saved-frames .now) m (c .before .before .before .before .before .before .before .before .before .before .before .before .before .before .before .before .before .before .before .before .before .before .before .before .before .before .before .before .before .before .before .before .before .before .before .before .before .before .before .before .args .pc) (c .before .before .before .before .before .before .before .before .before .before .before .before .before .before .before .before .before .before .before .before .before .before .before .before .before .before .before .before .before .before .before .before .before .before .before .before .before .before .before .before .args .c) (c .before .before .before .before .before .before .before .before .before .before .before .before .before .before .before .before .before .before .before .before .before .before .before .before .before .before .before .before .before .before .before .before .before .before .before .before .before .before .before .before .args .src)) (c .before .before .before .before .before .before .before .before .before .before .before .before .before .before .before .before .before .before .before .before .before .before .before .before .before .before .before .before .before .before .before .before .before .before .before .before .before .before .before .before .pre .fits) .ok) (c .before .before .before .before .before .before .before .before .before .before .before .before .before .before .before .before .before .before .before .before .before .resume .ensures)) (c .before .before .put-step .ensures) (c .before .before .before .before .before .before .before .before .before .before .before .before .before .before .before .before .before .before .before .before .before .resume .ensures)
+returns c =
+    let at-put-step = c .before .before in let at-put-entered = at-put-step .before .before .before .before in
+    let at-resume = resume-of (at-put-entered .before) in
+    let at-sizes-of = at-resume .before .before .before .before .before .before .before in let at-machine-of = at-sizes-of .before in
+    let start = start-of at-machine-of in
+    called _ (start .args .machine .now) (at-sizes-of .sizes-of .result) (at-machine-of .machine-of .result) (at-sizes-of .sizes-of .ensures)
+    (at-machine-of .machine-of .ensures) _ _ _ _ _ _ _ (at-resume .resume .result .machine) (at-resume .resume .result .step)
+    (at-put-entered .put-entered .ensures ∙ resumed-words (start .args .machine .now) (at-machine-of .machine-of .result) (at-resume .resume .result .machine)
+    (at-machine-of .machine-of .ensures) (start .pre .numbers) (start .args .pc) (start .args .dst) (start .args .c) (start .args .src)
+    (at-sizes-of .sizes-of .result) _ _ (at-resume .resume .result .step) (given (start .args .sizes .now) (start .args .machine .now)
+    (at-sizes-of .sizes-of .result) (at-machine-of .machine-of .result) (at-sizes-of .sizes-of .ensures) (at-machine-of .machine-of .ensures) (λ l m.
+    ResumeFits l (start .args .stack .now) (start .args .frames .now) (start .args .chain .now) (start .args .slots .now) (start .args .saved-stack .now)
+    (start .args .saved-frames .now) m (start .args .pc) (start .args .c) (start .args .src)) (start .pre .fits) .ok) (at-resume .resume .ensures))
+    (at-put-step .put-step .ensures) (at-resume .resume .ensures)
 
 pub bvm-resume-spec : {M : Type 1} → statement M
 bvm-resume-spec =
