@@ -5,10 +5,18 @@ use mathlib.Core.List.{List, [], _∷_}
 use Prim.Native.Nat.{ℕ, zero, suc, _+_, _≤_, _<_}
 use native.Mathlib.Omega.{arith}
 use native.Mathlib.Nat.{le-of-suc-le-suc}
-use lib.ListN.{length, getD, drop}
-use lib.Seq.{drop-cons}
+use native.Mathlib.Numerals.{add-one}
+use lib.ListN.{length, getD, take, drop}
+use lib.Dec.{eqb}
+use lib.Seq.{drop-cons, length-take-le, getD-take}
 use Rattle.lists.specs.Pick.{pick, pick-true, pick-false}
+use Rattle.heap.specs.Fault.{numberOf}
+use Rattle.heap.specs.Heap.{slotsOf, coroOf}
 use Rattle.heap.specs.Word.{nil}
+use Rattle.heap.specs.declared.fault.Fault.{Fault}
+use Rattle.heap.specs.declared.heap.Coroutine.the-variants as RV
+use Rattle.heap.specs.declared.object.CoroObj.{CoroObj}
+use Rattle.model.specs.State.{isSuspended}
 use Rattle.model.specs.World.{World, After, after, withFinalize}
 use Rattle.model.specs.Heap.{coro, changeCoro}
 use Rattle.model.specs.Fuel.{unbank, setFinalizing}
@@ -16,7 +24,10 @@ use Rattle.model.specs.Coro.{coroEnter}
 use Rattle.model.specs.Cleanup.{suspendedAs, isEntered, close, started, startFrom, startFinalizer}
 use Rattle.model.specs.declared.coro.Started.{Started}
 use Rattle.model.specs.declared.machine.Driver.{Driver}
-use Rattle.coro_clean.specs.Start.{firstOf, startNone, startAt}
+use Rattle.memory.specs.declared.machine.Machine.{Machine}
+use Rattle.memory.specs.declared.machine.Sizes.{Sizes}
+use Rattle.coro_enter.specs.Enter.{refusalOf}
+use Rattle.coro_clean.specs.Start.{firstOf, startsAs, starts, startNone, startAt}
 use Rattle.coro_clean.proofs.Paid.{chosen, passed}
 
 -- ---- the first of a list
@@ -36,35 +47,58 @@ module _ (p : ℕ → Bool) where
       go true e h = let z = first-here x xs e in omega arith
       go false e h = let z = first-later x xs e in omega arith
 
-  -- what a loop knows when it has passed i of them: the first of the rest is the first of all
-  abbrev pub Ahead : List ℕ → ℕ → Type 0
-  Ahead xs i = i + firstOf p (drop i xs) ≡ firstOf p xs
+  hit : (xs : List ℕ) (i : ℕ) → i < length xs → p (getD xs i 0) ≡ true → firstOf p (drop i xs) ≡ 0
+  hit xs i h e = ap (firstOf p) (drop-cons xs i 0 h) ∙ first-here (getD xs i 0) (drop (suc i) xs) e
 
-  pub ahead-start : (xs : List ℕ) → Ahead xs 0
-  ahead-start xs = let z : 0 + firstOf p xs ≡ firstOf p xs = omega arith in z
+  miss : (xs : List ℕ) (i : ℕ) → i < length xs → p (getD xs i 0) ≡ false → firstOf p (drop i xs) ≡ suc (firstOf p (drop (i + 1) xs))
+  miss xs i h e =
+      ap (firstOf p) (drop-cons xs i 0 h) ∙ first-later (getD xs i 0) (drop (suc i) xs) e ∙ ap (λ k. suc (firstOf p (drop k xs))) (sym (add-one i))
 
-  pub ahead-hit : (xs : List ℕ) (i : ℕ) → i < length xs → p (getD xs i 0) ≡ true → Ahead xs i → i ≡ firstOf p xs
-  ahead-hit xs i h e a =
-      let z : firstOf p (drop i xs) ≡ 0 = ap (firstOf p) (drop-cons xs i 0 h) ∙ first-here (getD xs i 0) (drop (suc i) xs) e in
-      omega arith
+  past : (xs : List ℕ) (i : ℕ) → length xs ≤ i → firstOf p (drop i xs) ≡ 0
+  past [] zero h = refl
+  past [] (suc i) h = refl
+  past (x ∷ xs) zero h = absurd (omega arith)
+  past (x ∷ xs) (suc i) h = past xs i (le-of-suc-le-suc h)
 
-  pub ahead-next : (xs : List ℕ) (i : ℕ) → i < length xs → p (getD xs i 0) ≡ false → Ahead xs i → Ahead xs (i + 1)
-  ahead-next xs i h e a =
-      let z : firstOf p (drop i xs) ≡ suc (firstOf p (drop (suc i) xs)) = ap (firstOf p) (drop-cons xs i 0 h) ∙ first-later (getD xs i 0) (drop (suc i) xs) e in
-      let s : i + 1 ≡ suc i = omega arith in
-      let y : i + 1 + firstOf p (drop (i + 1) xs) ≡ i + 1 + firstOf p (drop (suc i) xs) = ap (λ j. i + 1 + firstOf p (drop j xs)) s in
-      y ∙ (omega arith)
+  -- ---- a loop over the first n words
 
-  pub ahead-end : (xs : List ℕ) (i : ℕ) → length xs ≤ i → Ahead xs i → i ≡ firstOf p xs
-  ahead-end xs i h a =
-      let z : firstOf p (drop i xs) ≡ 0 = ap (firstOf p) (none-left xs i h) in
-      omega arith
-    where
-      none-left : (ys : List ℕ) (j : ℕ) → length ys ≤ j → drop j ys ≡ []
-      none-left [] zero k = refl
-      none-left [] (suc j) k = refl
-      none-left (y ∷ ys) zero k = absurd (omega arith)
-      none-left (y ∷ ys) (suc j) k = none-left ys j (le-of-suc-le-suc k)
+  module _ (ws : List ℕ) (n : ℕ) where
+    -- i are passed: the first of the others is the first of all
+    abbrev pub Ahead : ℕ → Type 0
+    Ahead i = i + firstOf p (drop i (take n ws)) ≡ firstOf p (take n ws)
+
+    pub ahead-start : Ahead 0
+    ahead-start = let z : 0 + firstOf p (take n ws) ≡ firstOf p (take n ws) = omega arith in z
+
+    module _ (i : ℕ) (fits : n ≤ length ws) (a : Ahead i) where
+      long : length (take n ws) ≡ n
+      long = length-take-le n ws fits
+
+      here : (b : Bool) → i < n → p (getD ws i 0) ≡ b → p (getD (take n ws) i 0) ≡ b
+      here b h e = ap p (getD-take n ws i 0 h) ∙ e
+
+      pub ahead-hit : i < n → p (getD ws i 0) ≡ true → i ≡ firstOf p (take n ws)
+      ahead-hit h e = let k = long in let z = hit (take n ws) i (omega arith) (here true h e) in omega arith
+
+      pub ahead-next : i < n → p (getD ws i 0) ≡ false → Ahead (i + 1)
+      ahead-next h e = let k = long in let z = miss (take n ws) i (omega arith) (here false h e) in omega arith
+
+      pub ahead-end : n ≤ i → i ≡ firstOf p (take n ws)
+      ahead-end h = let k = long in let z = past (take n ws) i (omega arith) in omega arith
+
+-- ---- the test of a word, by the code's tests
+
+module _ (slots : List ℕ) (m : Machine) (l : Sizes) (v : ℕ) where
+  pub starts-not : (g : Fault) → RV.Not g ≡ coroOf (slotsOf (m .count) slots) v → false ≡ starts slots m l v
+  starts-not g e = ap (startsAs m l) e
+
+  module _ (i : ℕ) (c : CoroObj) (found : RV.At i c ≡ coroOf (slotsOf (m .count) slots) v) where
+    pub starts-awake : isSuspended (c .state) ≡ false → false ≡ starts slots m l v
+    starts-awake e = sym (ap (λ b. b && eqb (numberOf (refusalOf (m .height) (m .depth) l c)) 0) e) ∙ ap (startsAs m l) found
+
+    pub starts-asleep : (f : Fault) → isSuspended (c .state) ≡ true → f ≡ refusalOf (m .height) (m .depth) l c → eqb (numberOf f) 0 ≡ starts slots m l v
+    starts-asleep f e r =
+        ap (λ g. eqb (numberOf g) 0) r ∙ sym (ap (λ b. b && eqb (numberOf (refusalOf (m .height) (m .depth) l c)) 0) e) ∙ ap (startsAs m l) found
 
 -- ---- the definition goes the same way
 

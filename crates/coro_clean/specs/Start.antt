@@ -42,12 +42,16 @@ startsAs m l (R.At i c) = isSuspended (c .state) && eqb (numberOf (refusalOf (m 
 abbrev pub starts : List ℕ → Machine → Sizes → ℕ → Bool
 starts slots m l v = startsAs m l (coroOf (slotsOf (m .count) slots) v)
 
--- the slots and the queue lie in the words, the frames and the stack within their limits
-pub record SearchFits (slots queue : List ℕ) (m : Machine) (l : Sizes) : Type 0 where
+-- the slots lie in the words, the frames and the stack within their limits
+pub record MayFits (slots : List ℕ) (m : Machine) (l : Sizes) : Type 0 where
   pub table : m .count * 20 ≤ length slots
-  pub words : m .finalize ≤ length queue
   pub depth : m .depth ≤ l .depth
   pub height : m .height ≤ l .stack
+
+-- .. and so does the queue
+pub record SearchFits (slots queue : List ℕ) (m : Machine) (l : Sizes) : Type 0 where
+  pub may : MayFits slots m l
+  pub words : m .finalize ≤ length queue
 
 -- ---- what it leads to
 
