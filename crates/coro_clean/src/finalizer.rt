@@ -1,18 +1,22 @@
 // coro.rs: start_finalizer. The queue is searched before anything is lent.
 ghost use mathlib.Core.Path.{_≡_};
-ghost use Prim.Native.Nat.{_*_, _≤_};
+ghost use Prim.Native.Nat.{_≤_};
 ghost use lib.ListN.{length, take};
-ghost use Rattle.model.specs.State.{isSuspended};
-ghost use Rattle.memory.specs.Contract.{Met, any, every, with};
-ghost use Rattle.coro_clean.specs.Start.{firstOf, starts, MayFits, SearchFits, queue, startNone};
+ghost use Rattle.model.specs.Cleanup.{startFinalizer};
+ghost use Rattle.memory.specs.Lendings.{cleaning};
+ghost use Rattle.memory.specs.Contract.{Met, Ok, any, every, ifSound, with};
+ghost use Rattle.coro_clean.specs.Start.{firstOf, starts, MayFits, SearchFits, queue, startNone, startAt, StartFits};
+use coro_enter::close::set_closing;
+use coro_enter::enter::coro_enter;
 use coro_enter::enter::refusal;
 use heap::heap::CoroPlace;
-use heap::object::CoroState;
 use heap::value::Word;
 use machine::fuel::set_finalizing;
+use machine::fuel::unbank;
 use memory::machine::Machine;
 use memory::machine::Sizes;
 use model::coro::Started;
+use model::machine::Driver;
 use model::machine::Fuel;
 
 // What a search for a cleanup leaves of the numbers and of the fuel, and answers.
@@ -20,19 +24,6 @@ pub struct StartDid {
     pub machine: Machine,
     pub fuel: Fuel,
     pub answer: Started,
-}
-
-fn is_suspended(s: CoroState) -> bool
-    ensures { λ r. ⌜ r ≡ isSuspended s ⌝ }
-{
-    match s {
-        CoroState::Created => false,
-        CoroState::Running => false,
-        CoroState::Yielded => true,
-        CoroState::Awaiting => true,
-        CoroState::Returned => false,
-        CoroState::Failed => false,
-    }
 }
 
 // Whether a word names a suspended coroutine that can be entered.
@@ -45,7 +36,7 @@ pub(crate) fn may_start(slots: &[u64], m: Machine, l: Sizes, v: Word) -> bool
         CoroPlace::At(i) => {
             let c = heap::slot::coro_at(slots, i);
             let s = c.state;
-            if !is_suspended(s) {
+            if !s.is_suspended() {
                 return false;
             }
             let f = refusal(m, l, c);
@@ -90,4 +81,90 @@ pub(crate) fn start_none(finalize: &mut [u64], m: Machine, fuel: Fuel) -> StartD
         fuel: f,
         answer,
     }
+}
+
+// The word at index i and those before it leave the queue, and its coroutine is entered and closes, with nil for a signal.
+pub(crate) fn start_at(
+    stack: &mut [u64],
+    frames: &mut [u64],
+    chain: &mut [u64],
+    slots: &mut [u64],
+    saved_stack: &mut [u64],
+    saved_frames: &mut [u64],
+    finalize: &mut [u64],
+    m: Machine,
+    l: Sizes,
+    fuel: Fuel,
+    i: usize,
+) -> StartDid
+    requires { ⌜ StartFits l (cleaning stack frames chain slots «saved_stack» «saved_frames» finalize now) m fuel i ⌝ }
+    ensures { λ r. ⌜ Met ifSound l (startAt i) (cleaning stack frames chain slots «saved_stack» «saved_frames» finalize) (with m fuel) (with (r .machine) (r .fuel)) (r .answer) ⌝ }
+{
+    let v = tables::queue::word_at(finalize, i);
+    let taken = i + 1;
+    tables::queue::take_front(finalize, m.finalize, taken);
+    let mut n = m;
+    n.finalize = m.finalize - taken;
+    let did = coro_enter(
+        stack,
+        frames,
+        chain,
+        slots,
+        saved_stack,
+        saved_frames,
+        n,
+        l,
+        Word(v),
+        Driver::Finalize,
+    );
+    let k = did.machine;
+    set_closing(slots, k, Word(v), 0);
+    let marked = set_finalizing(k, fuel, true);
+    let last = marked.machine;
+    let f = marked.fuel;
+    let answer = Started {
+        entered: true,
+        taken: taken as u64,
+    };
+    StartDid {
+        machine: last,
+        fuel: f,
+        answer,
+    }
+}
+
+// coro.rs: start_finalizer.
+pub fn start_finalizer(
+    stack: &mut [u64],
+    frames: &mut [u64],
+    chain: &mut [u64],
+    slots: &mut [u64],
+    saved_stack: &mut [u64],
+    saved_frames: &mut [u64],
+    finalize: &mut [u64],
+    m: Machine,
+    l: Sizes,
+    fuel: Fuel,
+) -> StartDid
+    requires { ⌜ Ok l (cleaning stack frames chain slots «saved_stack» «saved_frames» finalize now) (with m fuel) ⌝ }
+    ensures { λ r. ⌜ Met ifSound l startFinalizer (cleaning stack frames chain slots «saved_stack» «saved_frames» finalize) (with m fuel) (with (r .machine) (r .fuel)) (r .answer) ⌝ }
+{
+    let f = unbank(fuel);
+    let i = first_start(slots, finalize, m, l);
+    if i < m.finalize {
+        return start_at(
+            stack,
+            frames,
+            chain,
+            slots,
+            saved_stack,
+            saved_frames,
+            finalize,
+            m,
+            l,
+            f,
+            i,
+        );
+    }
+    start_none(finalize, m, f)
 }

@@ -3,20 +3,24 @@
 use mathlib.Core.Path.{_≡_, refl, sym, ap, ap₂, _∙_, subst}
 use mathlib.Core.Bool.{Bool, true, false, not, _&&_}
 use mathlib.Core.List.{List, [], _∷_}
-use Prim.Native.Nat.{ℕ, zero, suc, _+_, _*_, _≤_, _<_}
+use Prim.Native.Nat.{ℕ, zero, suc, _<_}
 use native.Mathlib.Omega.{arith}
 use lib.ListN.{length, getD, set, length-map}
 use lib.Dec.{eqb}
 use Rattle.lists.specs.Pick.{pick, pick-true, pick-false}
+use Rattle.lists.specs.Chunks.{chunkAt}
 use Rattle.heap.specs.Word.{slotOf, tagOf}
 use Rattle.heap.specs.Table.{Slot, slot, putObject}
-use Rattle.heap.specs.Heap.{slotsOf, coroOf, putSlot}
+use Rattle.heap.specs.Slot.{width, slotWords}
+use Rattle.heap.specs.Heap.{SlotFits, coroIn, slotsOf, placeOf, coroOf, putSlot}
 use Rattle.heap.specs.declared.fault.Fault.{Fault}
 use Rattle.heap.specs.declared.heap.Coroutine as R
 use Rattle.heap.specs.declared.heap.Coroutine.the-variants as RV
+use Rattle.heap.specs.declared.heap.CoroPlace.the-variants as L
 use Rattle.heap.specs.declared.object.CoroObj.{CoroObj}
 use Rattle.heap.specs.declared.object.Object as H
 use Rattle.heap.specs.declared.object.Object.the-variants as O
+use Rattle.heap.proofs.Place.{stands}
 use Rattle.model.specs.State.{isFinished}
 use Rattle.model.specs.Object.{Core, Rest, Object, Absent, Is, asCoro}
 use Rattle.model.specs.World.{World}
@@ -33,7 +37,7 @@ use Rattle.memory.specs.declared.machine.Machine.{Machine}
 use Rattle.memory.specs.declared.machine.Sizes.{Sizes}
 use Rattle.memory.proofs.Slots.{at-map, put-same}
 use Rattle.memory.proofs.Tables.{slots-are, slots-set, rows-set}
-use Rattle.memory.proofs.Lookup.{There, there, lacks}
+use Rattle.memory.proofs.Lookup.{There, there, there-words, lacks}
 use Rattle.memory.proofs.Turn.{turn-slots}
 
 -- ---- the slot that a word names, replaced
@@ -114,28 +118,48 @@ module _ (l : Sizes) (M : Lent) (m : Machine) (f : Fuel) (v : ℕ) (w : World) (
   pub rest-absent : (g : Rest → Rest) (x : Fault) → RV.Not x ≡ coroOf (slotsOf (m .count) (M .slots)) v → Rep l (changeAs (coro w v) v (λ k. k) g w) M m f
   rest-absent g x e = subst (λ c. Rep l (changeAs c v (λ k. k) g w) M m f) (sym (coro-absent x e)) rep
 
-  module _ (i : ℕ) (c : CoroObj) (found : RV.At i c ≡ coroOf (slotsOf (m .count) (M .slots)) v) where
-    pub coro-there : There (w .slots) v i c
-    coro-there = there (w .slots) v i c (in-slots (RV.At i c) found)
+  module _ (i : ℕ) (c : CoroObj) where
+    pub coro-there : RV.At i c ≡ coroOf (slotsOf (m .count) (M .slots)) v → There (w .slots) v i c
+    coro-there found = there (w .slots) v i c (in-slots (RV.At i c) found)
 
-    points : Points (w .slots) v (Object.Coro (coro-there .core) (coro-there .rest))
-    points = finds (w .slots) v (coro-there .core) (coro-there .rest) (coro-there .coro)
+    module _ (t : There (w .slots) v i c) where
+      points : Points (w .slots) v (Object.Coro (t .core) (t .rest))
+      points = finds (w .slots) v (t .core) (t .rest) (t .coro)
 
-    -- its slot lies in the words
-    pub slot-fits : i * 20 + 20 ≤ length (M .slots)
-    slot-fits =
-        let a = slot-inside (w .slots) (M .slots) (m .count) v i (Object.Coro (coro-there .core) (coro-there .rest)) (rep .slots) points (coro-there .slot) in
-        let b = rep .slots .within in
-        omega arith
+      -- its slot lies in the words
+      pub slot-fits : SlotFits (M .slots) i
+      slot-fits =
+          let a = slot-inside (w .slots) (M .slots) (m .count) v i (Object.Coro (t .core) (t .rest)) (rep .slots) points (t .slot) in
+          let b = rep .slots .within in
+          omega arith
 
-    pub rest-rep : (r′ : Rest) (slots′ : List ℕ) → r′ .row ≡ coro-there .rest .row → slots′ ≡ putSlot (M .slots) i (slot (tagOf v) (O.Coro (toCoro (coro-there .core) r′)))
-        → Rep l (setCoro v (coro-there .core) r′ w) (onSlots slots′ M) m f
-    rest-rep r′ slots′ row q =
-        let k = coro-there .core in
-        let r = coro-there .rest in
-        object-rep l M m f w v i (Object.Coro k r) (Object.Coro k r′) slots′ rep points (coro-there .slot)
-        (λ n. ap (λ j. not (isFinished (k .state)) && eqb j n) row) (λ n e. refl) q
+      pub rest-rep : (r′ : Rest) (slots′ : List ℕ) → r′ .row ≡ t .rest .row → slots′ ≡ putSlot (M .slots) i (slot (tagOf v) (O.Coro (toCoro (t .core) r′)))
+          → Rep l (setCoro v (t .core) r′ w) (onSlots slots′ M) m f
+      rest-rep r′ slots′ row q =
+          object-rep l M m f w v i (Object.Coro (t .core) (t .rest)) (Object.Coro (t .core) r′) slots′ rep points (t .slot)
+          (λ n. ap (λ j. not (isFinished (t .core .state)) && eqb j n) row) (λ n e. refl) q
 
-    pub rest-changed : (g : Rest → Rest) (slots′ : List ℕ) → g (coro-there .rest) .row ≡ coro-there .rest .row
-        → slots′ ≡ putSlot (M .slots) i (slot (tagOf v) (O.Coro (toCoro (coro-there .core) (g (coro-there .rest))))) → Rep l (changeAs (coro w v) v (λ k. k) g w) (onSlots slots′ M) m f
-    rest-changed g slots′ row q = subst (λ x. Rep l (changeAs x v (λ k. k) g w) (onSlots slots′ M) m f) (sym (coro-there .coro)) (rest-rep (g (coro-there .rest)) slots′ row q)
+-- ---- a coroutine at a place, whose words are read and written there
+
+module _ (l : Sizes) (M : Lent) (m : Machine) (f : Fuel) (v : ℕ) (w : World) (rep : Rep l w M m f) (i : ℕ) (at : L.At i ≡ placeOf (coroOf (slotsOf (m .count) (M .slots)) v)) where
+  pub placed : There (w .slots) v i (coroIn (M .slots) i)
+  placed = coro-there l M m f v w rep i (coroIn (M .slots) i) (stands (m .count) (M .slots) v i at .coro)
+
+  pub placed-words : chunkAt width (M .slots) i ≡ slotWords (slot (tagOf v) (O.Coro (coroIn (M .slots) i)))
+  placed-words = there-words (w .slots) v i (coroIn (M .slots) i) placed (M .slots) (m .count) (rep .slots)
+
+  -- what a word of its slot says is so in the world
+  pub reads-state : coroIn (M .slots) i .state ≡ placed .core .state
+  reads-state = ap (λ (x : CoroObj). x .state) (placed .is)
+
+  -- its slot is written as that of the changed coroutine: h changes its record as g does the rest
+  module _ (g : Rest → Rest) (h : CoroObj → CoroObj) (same : (k : Core) (r : Rest) → h (toCoro k r) ≡ toCoro k (g r)) (row : (r : Rest) → g r .row ≡ r .row) (slots′ : List ℕ)
+      (written : slots′ ≡ putSlot (M .slots) i (slot (tagOf v) (O.Coro (h (coroIn (M .slots) i))))) where
+    as-changed : slots′ ≡ putSlot (M .slots) i (slot (tagOf v) (O.Coro (toCoro (placed .core) (g (placed .rest)))))
+    as-changed = written ∙ ap (λ (x : CoroObj). putSlot (M .slots) i (slot (tagOf v) (O.Coro x))) (ap h (placed .is) ∙ same (placed .core) (placed .rest))
+
+    pub marks-rep : Rep l (setCoro v (placed .core) (g (placed .rest)) w) (onSlots slots′ M) m f
+    marks-rep = rest-rep l M m f v w rep i (coroIn (M .slots) i) placed (g (placed .rest)) slots′ (row (placed .rest)) as-changed
+
+    pub marks-changed : Rep l (changeAs (coro w v) v (λ k. k) g w) (onSlots slots′ M) m f
+    marks-changed = subst (λ x. Rep l (changeAs x v (λ k. k) g w) (onSlots slots′ M) m f) (sym (placed .coro)) marks-rep
