@@ -18,7 +18,7 @@ use Rattle.model.specs.State.{isSuspended}
 use Rattle.model.specs.Object.{Rest, Object}
 use Rattle.model.specs.World.{World, After, after, withFinalize}
 use Rattle.model.specs.Heap.{coro, changeCoro}
-use Rattle.model.specs.Fuel.{unbank, setFinalizing}
+use Rattle.model.specs.Fuel.{unbankAt, unbank, setFinalizing}
 use Rattle.model.specs.Coro.{coroEnter}
 use Rattle.model.specs.Cleanup.{suspendedAs, isEntered, close, started, startFinalizer}
 use Rattle.model.specs.Sound.{sound}
@@ -32,16 +32,18 @@ use Rattle.invariant.proofs.Coros.{cleanups-sound, unbank-sound}
 use Rattle.tables.specs.Parts.{Queue, Run}
 use Rattle.tables.specs.Does.{QueueDo}
 use Rattle.tables.proofs.Parts.{run-of}
-use Rattle.memory.specs.Memory.{Lent, Rep, onFinalize}
-use Rattle.memory.specs.Contract.{Does}
+use Rattle.memory.specs.Memory.{Lent, Beside, Rep, onFinalize}
+use Rattle.memory.specs.Lendings.{plain, lent, cleaning}
+use Rattle.memory.specs.Contract.{Ok, Does, only, with}
 use Rattle.memory.specs.Numbers.{withCleanups}
 use Rattle.memory.specs.declared.machine.Machine.{Machine}
 use Rattle.memory.specs.declared.machine.Sizes.{Sizes}
-use Rattle.memory.proofs.Does.{does}
+use Rattle.memory.proofs.Does.{room-same}
 use Rattle.memory.proofs.Turn.{turn-finalize}
 use Rattle.memory.proofs.Slotted.{coro-absent, coro-there}
+use Rattle.machine.proofs.Flags.{unbank-rep}
 use Rattle.coro_enter.proofs.Accepts.{accepts-if}
-use Rattle.coro_clean.specs.Start.{firstOf, startsAs, starts, startNone, startAt}
+use Rattle.coro_clean.specs.Start.{firstOf, startsAs, starts, SearchFits, startNone, startAt}
 use Rattle.coro_clean.proofs.Search.{first-most, test, starts-none, starts-at}
 
 -- ---- a queue in words
@@ -135,3 +137,43 @@ module _ (l : Sizes) (M : Lent) (m : Machine) (f : Fuel) (w : World) (rep : Rep 
       let e = first-is in
       let t = first-most (starts (M .slots) m l) (w .finalize) in
       subst (λ o. Does l o M′ n g a) (sym (starts-none w (starts (M .slots) m l) (test-same l M m f (unbank w) rep) (omega arith))) d
+
+-- ---- what the next call may rely on
+
+pub search-fits : (l : Sizes) (M : Lent) (m : Machine) (f : Fuel) (w : World) → Rep l w M m f → sound w ≡ true → SearchFits (M .slots) (M .finalize) m l
+search-fits l M m f w rep snd =
+    let h : Sound false w = sound→ w snd (λ z. no-false z) in
+    let a = h .tower .depth in
+    let b = h .tower .height in
+    let e₁ = rep .frames .count in
+    let e₂ = rep .stack .count in
+    let z₁ = rep .sizes .depth in
+    let z₂ = rep .sizes .stack in
+    record { may = record { table = rep .slots .within; depth = omega arith; height = omega arith }; words = rep .finalize .within }
+
+pub unbank-ok : (l : Sizes) (M : Beside → Lent) (m : Machine) (f g : Fuel) → g ≡ unbankAt (f .bank) f → Ok l M (with m f) → Ok l M (with m g)
+unbank-ok l M m f g e o =
+    record {
+      world = unbank (o .world);
+      beside = o .beside;
+      rep = unbank-rep l (M (o .beside)) m f (o .world) (o .rep) g e;
+      sound = unbank-sounds (o .world) (o .sound);
+      room = o .room;
+    }
+
+module _ (l : Sizes) (m : Machine) (f : Fuel) (stack frames chain slots savedStack savedFrames finalize finalize′ : List ℕ) where
+  pub fewer-ok : (k n : ℕ) → Ok l (cleaning stack frames chain slots savedStack savedFrames finalize plain) (with m f) → QueueDo (drop k) finalize finalize′ (m .finalize) n → length finalize′ ≡ length finalize
+      → Ok l (lent stack frames chain slots savedStack savedFrames) (only (withCleanups n m))
+  fewer-ok k n o takes e =
+      let b : Beside = record { words = onFinalize finalize′ (o .beside .words); fuel = f } in
+      let M = cleaning stack frames chain slots savedStack savedFrames finalize plain (o .beside) in
+      let u = withFinalize (drop k (o .world .finalize)) (o .world) in
+      record {
+        world = u;
+        beside = b;
+        rep = fewer-rep l M m f (o .world) (o .rep) k n finalize′ takes;
+        sound = fewer-sound (o .world) k (o .sound);
+        room =
+            room-same (o .world .setup) (u .setup) M (lent stack frames chain slots savedStack savedFrames b) refl
+            (record { stack = refl; frames = refl; chain = refl; slots = refl; savedStack = refl; savedFrames = refl; ready = refl; finalize = e; setup = refl }) (o .room);
+      }

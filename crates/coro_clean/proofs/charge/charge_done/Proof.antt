@@ -11,8 +11,9 @@ arm-close-requires : tie.Need-arm-close-requires
 arm-close-requires c κs = search needs
 
 returns : tie.Need-returns
-returns c = let start = c .before .before in
-    λ m l w b rep. done-does l (b .words) m (start .args .f) w rep (c .before .spend .result) _ (start .args .taken) (c .before .spend .ensures) (c .arm-close .ensures)
+returns c =
+    let at-spend = c .before in let start = at-spend .before in
+    λ m l w b rep. done-does l (b .words) m (start .args .f) w rep (at-spend .spend .result) _ (start .args .taken) (at-spend .spend .ensures) (c .arm-close .ensures)
 
 pub charge-done-spec : {M : Type 1} → statement M
 charge-done-spec = tie.close (tie.spec spend-requires arm-close-requires returns)

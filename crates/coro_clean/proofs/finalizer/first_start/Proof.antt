@@ -22,18 +22,20 @@ mul-t9 : tie.Need-mul-t9 Inv-loop μ-loop
 mul-t9 c = omega arith
 
 shared-slice-read-t11 : tie.Need-shared-slice-read-t11 Inv-loop μ-loop
-shared-slice-read-t11 c = let h = c .before .before .before .before .before .pre .words in omega arith
+shared-slice-read-t11 c =
+    let start = c .before .before .before .before .before in
+    let h = start .pre .words in omega arith
 
 may-start-requires : tie.Need-may-start-requires Inv-loop μ-loop
-may-start-requires c κs = c .before .before .before .before .before .pre .may
+may-start-requires c κs =
+    let start = c .before .before .before .before .before in
+    start .pre .may
 
 returns : tie.Need-returns Inv-loop μ-loop
 returns c =
-    let asked = c .before in
-    let turn = asked .before .before in
-    let loop = turn .before in
-    let start = loop .before .before .before in
-    ahead-hit (starts (start .args .slots .now) (start .args .m) (start .args .l)) (start .args .finalize .now) (start .args .m .finalize) (loop .loop .i) (start .pre .words) (loop .loop .inv .1)
+    let asked = c .before in let loop = asked .before .before .before in let start = loop .before .before .before in
+    ahead-hit (starts (start .args .slots .now) (start .args .m) (start .args .l)) (start .args .finalize .now) (start .args .m .finalize) (loop .loop .i)
+    (start .pre .words) (loop .loop .inv .1)
     (omega arith) (sym (asked .may-start .ensures) ∙ c .if1 .taken)
 
 add-i : tie.Need-add-i Inv-loop μ-loop
@@ -44,19 +46,18 @@ loop-less c = omega arith
 
 loop-again : tie.Need-loop-again Inv-loop μ-loop
 loop-again c =
-    let asked = c .before in
-    let loop = asked .before .before .before in
-    let start = loop .before .before .before in (
+    let asked = c .before in let loop = asked .before .before .before in let start = loop .before .before .before in (
       omega arith,
-      ahead-next (starts (start .args .slots .now) (start .args .m) (start .args .l)) (start .args .finalize .now) (start .args .m .finalize) (loop .loop .i) (start .pre .words) (loop .loop .inv .1)
+      ahead-next (starts (start .args .slots .now) (start .args .m) (start .args .l)) (start .args .finalize .now) (start .args .m .finalize) (loop .loop .i)
+          (start .pre .words) (loop .loop .inv .1)
           (omega arith) (sym (asked .may-start .ensures) ∙ c .if1 .left),
     )
 
 returns-2 : tie.Need-returns-2 Inv-loop μ-loop
 returns-2 c =
-    let loop = c .before in
-    let start = loop .before .before .before in
-    ahead-end (starts (start .args .slots .now) (start .args .m) (start .args .l)) (start .args .finalize .now) (start .args .m .finalize) (loop .loop .i) (start .pre .words) (loop .loop .inv .1) (omega arith)
+    let loop = c .before in let start = loop .before .before .before in
+    ahead-end (starts (start .args .slots .now) (start .args .m) (start .args .l)) (start .args .finalize .now) (start .args .m .finalize) (loop .loop .i)
+    (start .pre .words) (loop .loop .inv .1) (omega arith)
 
 pub first-start-spec : {M : Type 1} → statement M
 first-start-spec =

@@ -18,14 +18,14 @@ use Rattle.coro_clean.proofs.finalizer.may_start.Tie as tie
 abbrev slot : tie.After-known-told → ℕ
 slot c = c .before .i .given .0 .0
 
-found : (c : tie.After-coro-at) → let start = c .before .before .before .before .before .before in
-    RV.At (slot (c .before)) (c .coro-at .result) ≡ coroOf (slotsOf (start .args .m .count) (start .args .slots .now)) (start .args .v .0)
+found : (c : tie.After-coro-at) →
+    let at-known-told = c .before in let start = at-known-told .before .before .before .before .before in
+    RV.At (slot at-known-told) (c .coro-at .result) ≡ coroOf (slotsOf (start .args .m .count) (start .args .slots .now)) (start .args .v .0)
 found c =
-    let told = c .before .before in
-    let placed = told .before .before in
+    let at-known-told = c .before in let told = at-known-told .before in let placed = told .before .before in
     let start = placed .before .before in
-    ap (RV.At (slot (c .before))) (c .coro-at .ensures)
-    ∙ stands (start .args .m .count) (start .args .slots .now) (start .args .v .0) (slot (c .before)) (sym (told .i .given .1) ∙ placed .coro-place .ensures) .coro
+    ap (RV.At (slot at-known-told)) (c .coro-at .ensures)
+    ∙ stands (start .args .m .count) (start .args .slots .now) (start .args .v .0) (slot at-known-told) (sym (told .i .given .1) ∙ placed .coro-place .ensures) .coro
 
 coro-place-requires : tie.Need-coro-place-requires
 coro-place-requires c κs = search needs
@@ -48,10 +48,10 @@ is-suspended-requires c κs = search needs
 
 returns : tie.Need-returns
 returns c =
-    let asked = c .before in
-    let read = asked .before in
-    let start = read .before .before .before .before .before .before in
-    starts-awake (start .args .slots .now) (start .args .m) (start .args .l) (start .args .v .0) (slot (read .before)) (read .coro-at .result) (found read) (sym (asked .is-suspended .ensures) ∙ not-true _ (c .if1 .taken))
+    let asked = c .before in let read = asked .before in let at-known-told = read .before in
+    let start = at-known-told .before .before .before .before .before in
+    starts-awake (start .args .slots .now) (start .args .m) (start .args .l) (start .args .v .0) (slot at-known-told) (read .coro-at .result) (found read)
+    (sym (asked .is-suspended .ensures) ∙ not-true _ (c .if1 .taken))
 
 refusal-requires : tie.Need-refusal-requires
 refusal-requires c κs = search needs
@@ -68,13 +68,10 @@ returns-2 c =
 
 returns-3 : tie.Need-returns-3
 returns-3 c =
-    let refused = c .before in
-    let tested = refused .before in
-    let asked = tested .before in
-    let read = asked .before in
-    let start = read .before .before .before .before .before .before in
+    let refused = c .before in let tested = refused .before in let asked = tested .before in let read = asked .before in
+    let at-known-told = read .before in let start = at-known-told .before .before .before .before .before in
     ap (λ n. eqb n 0) (c .number .ensures)
-    ∙ starts-asleep (start .args .slots .now) (start .args .m) (start .args .l) (start .args .v .0) (slot (read .before)) (read .coro-at .result) (found read) (refused .refusal .result)
+    ∙ starts-asleep (start .args .slots .now) (start .args .m) (start .args .l) (start .args .v .0) (slot at-known-told) (read .coro-at .result) (found read) (refused .refusal .result)
     (sym (asked .is-suspended .ensures) ∙ not-false _ (tested .if1 .left)) (refused .refusal .ensures)
 
 pub may-start-spec : {M : Type 1} → statement M

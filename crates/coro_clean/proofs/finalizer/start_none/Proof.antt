@@ -20,14 +20,13 @@ same-length c = search needs
 
 returns : tie.Need-returns
 returns c =
-    let marked = c .before .before in
-    let taken = marked .before .before .before in
-    let start = taken .before .before .before in
+    let marked = c .before .before in let taken = marked .before .before .before in let start = taken .before .before .before in
     λ l w b rep.
     let M = queue (start .args .finalize .now) plain b in
     let left = taken .take-front .last .0 in
     none-does l M (start .args .m) (start .args .fuel) w rep (queue left plain b) _ _
-    (marked .set-finalizing .ensures l (withFinalize [] w) (record { words = queue left plain b; fuel = start .args .fuel }) (none-rep l M (start .args .m) (start .args .fuel) w rep left (taken .take-front .ensures)))
+    (marked .set-finalizing .ensures l (withFinalize [] w) (record { words = queue left plain b; fuel = start .args .fuel })
+    (none-rep l M (start .args .m) (start .args .fuel) w rep left (taken .take-front .ensures)))
 
 pub start-none-spec : {M : Type 1} → statement M
 start-none-spec =
