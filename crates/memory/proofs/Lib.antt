@@ -7,3 +7,5 @@ pub mod Fields
 pub mod Named
 pub mod Turn
 pub mod Does
+pub mod Slotted
+pub mod Few

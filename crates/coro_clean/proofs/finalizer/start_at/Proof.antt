@@ -1,0 +1,152 @@
+-- `start_at` meets the definition: words taken off, an entry, a close, the mark of a running cleanup. Assumes nothing.
+use mathlib.Core.Path.{_≡_}
+use Prim.Native.Nat.{ℕ, _+_}
+use lib.ListN.{drop}
+use Rattle.model.specs.World.{World, withFinalize}
+use Rattle.model.specs.Heap.{changeCoro}
+use Rattle.model.specs.Coro.{coroEnter}
+use Rattle.model.specs.Cleanup.{close}
+use Rattle.model.specs.Sound.{sound}
+use Rattle.model.specs.declared.machine.Driver.{Driver}
+use Rattle.memory.specs.Memory.{Lent, Beside, Rep, onSlots, onFinalize}
+use Rattle.memory.specs.Lendings.{lent, cleaning, plain}
+use Rattle.memory.specs.Contract.{Does}
+use mathlib.Core.Bool.{true}
+use Rattle.coro_clean.proofs.Starting.{fewer-sound, fewer-rep, fewer-ok, start-does}
+use borrow.Author.Needs.{needs}
+use Rattle.coro_clean.proofs.finalizer.start_at.Statement.{statement}
+use Rattle.coro_clean.proofs.finalizer.start_at.Tie as tie
+
+-- the ways back that several clauses take
+abbrev coro-enter-of : tie.After-set-closing-arg → tie.After-coro-enter
+coro-enter-of c = c .before .before .before .before .before .before .before .before .before .before .before .before .before .before
+
+abbrev word-at-of : tie.After-coro-enter → tie.After-word-at
+word-at-of c = c .before .before .before .before .before .before .before .before .before .before .before .before
+
+abbrev take-front-of : tie.After-coro-enter-arg6 → tie.After-take-front
+take-front-of c = c .before .before .before .before .before .before .before .before .before
+
+abbrev start-of : tie.After-word-at → tie.Start
+start-of c = c .before .before .before .before .before .before .before .before .before
+
+abbrev mem : tie.Start → Beside → Lent
+mem c b = cleaning (c .args .stack .now) (c .args .frames .now) (c .args .chain .now) (c .args .slots .now) (c .args .saved-stack .now)
+    (c .args .saved-frames .now) (c .args .finalize .now) plain b
+
+-- the world without the words taken off
+abbrev fewer : tie.Start → World → World
+fewer c w = withFinalize (drop (c .args .i + 1) (w .finalize)) w
+
+-- what is left when its coroutine was entered
+abbrev words : tie.After-coro-enter → Beside → Lent
+words c b =
+    let at-take-front = take-front-of (c .before) in let entry = start-of (at-take-front .before .before) in
+    let e = c .coro-enter in
+    lent (e .last .0) (e .last .1 .0) (e .last .1 .1 .0) (e .last .1 .1 .1 .0) (e .last .1 .1 .1 .1 .0) (e .last .1 .1 .1 .1 .1 .0)
+    (record { words = onFinalize (at-take-front .take-front .last .0) (b .words); fuel = entry .args .fuel })
+
+entered : (c : tie.After-coro-enter) (w : World) (b : Beside) →
+    let at-word-at = word-at-of c in let entry = start-of at-word-at in
+    Rep (entry .args .l) w (mem entry b) (entry .args .m) (entry .args .fuel) → sound w ≡ true
+    → Does (entry .args .l) (coroEnter (at-word-at .word-at .result) Driver.Finalize (fewer entry w)) (words c b) (c .coro-enter .result .machine)
+    (entry .args .fuel) (c .coro-enter .result .answer)
+entered c w b rep snd =
+    let at-take-front = take-front-of (c .before) in let entry = start-of (at-take-front .before .before) in
+    let taken = at-take-front in
+    let start = entry in
+    c .coro-enter .ensures (fewer start w) (record { words = onFinalize (taken .take-front .last .0) (b .words); fuel = start .args .fuel })
+    (fewer-rep (start .args .l) (mem start b) (start .args .m) (start .args .fuel) w rep (start .args .i + 1) _ _ (taken .take-front .ensures)) (fewer-sound w (start .args .i + 1) snd)
+
+word-at-requires : tie.Need-word-at-requires
+word-at-requires c κs = search needs
+
+add-taken : tie.Need-add-taken
+add-taken c = search needs
+
+take-front-requires : tie.Need-take-front-requires
+take-front-requires c κs = search needs
+
+sub-n : tie.Need-sub-n
+sub-n c = search needs
+
+coro-enter-requires : tie.Need-coro-enter-requires
+coro-enter-requires c κs =
+    let at-take-front = take-front-of c in let entry = start-of (at-take-front .before .before) in
+    let taken = at-take-front in
+    let start = entry in
+    fewer-ok (start .args .l) (start .args .m) (start .args .fuel) (start .args .stack .now) (start .args .frames .now) (start .args .chain .now)
+    (start .args .slots .now) (start .args .saved-stack .now) (start .args .saved-frames .now)
+    (start .args .finalize .now) (taken .take-front .last .0) (start .args .i + 1) _ (start .pre .ok) (taken .take-front .ensures) (taken .take-front .kept .0)
+
+set-closing-requires : tie.Need-set-closing-requires
+set-closing-requires c κs =
+    let at-coro-enter = coro-enter-of c in
+    let entry = start-of (at-coro-enter .before .before .before .before .before .before .before .before .before .before .before .before) in
+    let o = entry .pre .ok in
+    entered at-coro-enter (o .world) (o .beside) (o .rep) (o .sound) .world .slots .within
+
+set-finalizing-requires : tie.Need-set-finalizing-requires
+set-finalizing-requires c κs = search needs
+
+same-length : tie.Need-same-length
+same-length c = search needs
+
+same-length-2 : tie.Need-same-length-2
+same-length-2 c = search needs
+
+same-length-3 : tie.Need-same-length-3
+same-length-3 c = search needs
+
+same-length-4 : tie.Need-same-length-4
+same-length-4 c = search needs
+
+same-length-5 : tie.Need-same-length-5
+same-length-5 c = search needs
+
+same-length-6 : tie.Need-same-length-6
+same-length-6 c = search needs
+
+same-length-7 : tie.Need-same-length-7
+same-length-7 c =
+    let at-take-front = take-front-of (c .before .before .before .before .before .before .before .before .before .before .before .before .before .before .before .before .before .before .before .before .before) in
+    at-take-front .take-front .kept .0
+
+returns : tie.Need-returns
+returns c =
+    let at-set-finalizing = c .before .before in let at-set-closing = at-set-finalizing .before .before .before in
+    let at-coro-enter = coro-enter-of (at-set-closing .before) in let at-word-at = word-at-of at-coro-enter in
+    let entry = start-of at-word-at in
+    let marked = at-set-finalizing in
+    let closed = at-set-closing in
+    let inside = at-coro-enter in
+    let asked = at-word-at in
+    let start = entry in
+    λ w b rep snd.
+    let v = asked .word-at .result in
+    let u = coroEnter v Driver.Finalize (fewer start w) .world in
+    let f = start .args .fuel in
+    start-does (start .args .l) (mem start b) (start .args .m) f w rep (start .args .i) v _ _ _
+    (asked .word-at .ensures (w .finalize) (start .args .m .finalize) (rep .finalize) (start .pre .below) .is)
+    (marked .set-finalizing .ensures (start .args .l) (changeCoro v (λ k. k) (close 0) u) (record { words = onSlots (closed .set-closing .last .0) (words inside b); fuel = f })
+    (closed .set-closing .ensures (start .args .l) u (record { words = words inside b; fuel = f }) (entered inside w b rep snd .world)))
+
+pub start-at-spec : {M : Type 1} → statement M
+start-at-spec =
+    tie.close
+    (tie.spec
+    word-at-requires
+    add-taken
+    take-front-requires
+    sub-n
+    coro-enter-requires
+    set-closing-requires
+    set-finalizing-requires
+    same-length
+    same-length-2
+    same-length-3
+    same-length-4
+    same-length-5
+    same-length-6
+    same-length-7
+    returns)

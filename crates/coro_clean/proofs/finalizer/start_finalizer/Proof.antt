@@ -1,0 +1,116 @@
+-- `start_finalizer` meets the definition: the first word that starts, or none. Assumes nothing.
+use Rattle.model.specs.Fuel.{unbank}
+use Rattle.memory.specs.Memory.{Lent, Beside}
+use Rattle.memory.specs.Lendings.{cleaning, plain}
+use Rattle.machine.proofs.Flags.{unbank-rep}
+use Rattle.coro_clean.proofs.Starting.{unbank-sounds, search-fits, unbank-ok, finalizer-at, finalizer-none}
+use borrow.Author.Needs.{needs}
+use Rattle.coro_clean.proofs.finalizer.start_finalizer.Statement.{statement}
+use Rattle.coro_clean.proofs.finalizer.start_finalizer.Tie as tie
+
+-- the ways back that several clauses take
+abbrev start-of : tie.After-unbank → tie.Start
+start-of c = c .before .before .before .before .before .before .before .before
+
+abbrev mem : tie.Start → Beside → Lent
+mem c b = cleaning (c .args .stack .now) (c .args .frames .now) (c .args .chain .now) (c .args .slots .now) (c .args .saved-stack .now)
+    (c .args .saved-frames .now) (c .args .finalize .now) plain b
+
+unbank-requires : tie.Need-unbank-requires
+unbank-requires c κs = search needs
+
+first-start-requires : tie.Need-first-start-requires
+first-start-requires c κs =
+    let entry = start-of (c .before .before) in
+    let start = entry in
+    let o = start .pre in
+    search-fits (start .args .l) (mem start (o .beside)) (start .args .m) (start .args .fuel) (o .world) (o .rep) (o .sound)
+
+start-at-requires : tie.Need-start-at-requires
+start-at-requires c κs =
+    let at-if1 = c .before .before .before .before .before .before .before in
+    let at-unbank = at-if1 .before .before .before .before .before in let entry = start-of at-unbank in
+    let back = at-unbank in
+    let start = entry in
+    record { ok = unbank-ok (start .args .l) (mem start) (start .args .m) (start .args .fuel) (back .unbank .result) (back .unbank .ensures) (start .pre); below = at-if1 .if1 .taken }
+
+same-length : tie.Need-same-length
+same-length c = search needs
+
+same-length-2 : tie.Need-same-length-2
+same-length-2 c = search needs
+
+same-length-3 : tie.Need-same-length-3
+same-length-3 c = search needs
+
+same-length-4 : tie.Need-same-length-4
+same-length-4 c = search needs
+
+same-length-5 : tie.Need-same-length-5
+same-length-5 c = search needs
+
+same-length-6 : tie.Need-same-length-6
+same-length-6 c = search needs
+
+same-length-7 : tie.Need-same-length-7
+same-length-7 c = search needs
+
+returns : tie.Need-returns
+returns c =
+    let at-start-at = c .before .before .before .before .before .before .before .before .before .before .before .before .before .before in
+    let at-if1 = at-start-at .before .before .before .before .before .before .before .before in
+    let at-first-start = at-if1 .before .before in let at-unbank = at-first-start .before .before .before in
+    let entry = start-of at-unbank in
+    let begun = at-start-at in
+    let tested = at-if1 in
+    let sought = at-first-start in
+    let back = at-unbank in
+    let start = entry in
+    λ w b rep snd.
+    let again = unbank-rep (start .args .l) (mem start b) (start .args .m) (start .args .fuel) w rep (back .unbank .result) (back .unbank .ensures) in
+    finalizer-at (start .args .l) (mem start b) (start .args .m) (back .unbank .result) w again (sought .first-start .result) (sought .first-start .ensures) _ _ _ _ (tested .if1 .taken)
+    (begun .start-at .ensures (unbank w) b again (unbank-sounds w snd))
+
+start-none-requires : tie.Need-start-none-requires
+start-none-requires c κs = search needs
+
+same-length-8 : tie.Need-same-length-8
+same-length-8 c = search needs
+
+same-length-9 : tie.Need-same-length-9
+same-length-9 c = search needs
+
+returns-2 : tie.Need-returns-2
+returns-2 c =
+    let at-start-none = c .before .before in let at-if1 = at-start-none .before .before in
+    let at-first-start = at-if1 .before .before in let at-unbank = at-first-start .before .before .before in
+    let entry = start-of at-unbank in
+    let ended = at-start-none in
+    let tested = at-if1 in
+    let sought = at-first-start in
+    let back = at-unbank in
+    let start = entry in
+    λ w b rep snd.
+    let again = unbank-rep (start .args .l) (mem start b) (start .args .m) (start .args .fuel) w rep (back .unbank .result) (back .unbank .ensures) in
+    finalizer-none (start .args .l) (mem start b) (start .args .m) (back .unbank .result) w again (sought .first-start .result) (sought .first-start .ensures) _ _ _ _ (tested .if1 .left)
+    (ended .start-none .ensures (start .args .l) (unbank w) (record { words = mem start b; fuel = b .fuel }) again)
+
+pub start-finalizer-spec : {M : Type 1} → statement M
+start-finalizer-spec =
+    tie.close
+    (tie.spec
+    unbank-requires
+    first-start-requires
+    start-at-requires
+    same-length
+    same-length-2
+    same-length-3
+    same-length-4
+    same-length-5
+    same-length-6
+    same-length-7
+    returns
+    start-none-requires
+    same-length-8
+    same-length-9
+    returns-2)
