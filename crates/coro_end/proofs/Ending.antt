@@ -43,7 +43,7 @@ use Rattle.memory.specs.declared.machine.Sizes.{Sizes}
 use Rattle.memory.proofs.Tables.{slots-are, length-tabled}
 use Rattle.memory.proofs.Lookup.{There, there, lacks, regs-row, frames-row, row-below}
 use Rattle.coro_end.specs.Finish.{endedAs, FreeFits, Freed}
-use Rattle.coro_end.proofs.Slotted.{slot-inside, put-slots, object-rep}
+use Rattle.memory.proofs.Slotted.{slot-inside, put-slots, object-rep}
 use Rattle.coro_end.proofs.Rowless.{disowned, regs-left, frames-left}
 
 -- a sound world has its rows

@@ -31,7 +31,7 @@ use Rattle.memory.proofs.Lookup.{place-slot}
 use Rattle.coro_end.specs.Iter.{asIter, iterBy, iterOf}
 use Rattle.coro_end.specs.declared.iter.Iterator.{Iterator}
 use Rattle.coro_end.specs.declared.iter.Iterator.the-variants as I
-use Rattle.coro_end.proofs.Slotted.{object-rep}
+use Rattle.memory.proofs.Slotted.{object-rep}
 
 -- an object that was found in the words, as an iterator
 pub iter-here : (n : ℕ) (ws : List ℕ) (w i : ℕ) (o r : H.Object) → Place.At i ≡ get O.Empty HO.isFilled (slotsOf n ws) w → r ≡ o → r ≡ slotIn ws i .object

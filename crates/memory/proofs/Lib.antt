@@ -4,4 +4,5 @@ pub mod Rows
 pub mod Tables
 pub mod Lookup
 pub mod Turn
+pub mod Slotted
 pub mod Does
