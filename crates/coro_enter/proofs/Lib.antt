@@ -1,3 +1,5 @@
 pub mod Parts
 pub mod Entry
+pub mod Accepts
+pub mod Closing
 pub mod Lands

@@ -10,7 +10,6 @@ use heap::heap::CoroPlace;
 use heap::object::CoroObj;
 use heap::object::CoroState;
 use heap::value::Word;
-use machine::state::is_resumable;
 use memory::machine::Machine;
 use memory::machine::Sizes;
 use model::coro::Entered;
@@ -23,12 +22,12 @@ pub struct EnterDid {
 }
 
 // Why a coroutine is not entered, or None.
-pub(crate) fn refusal(m: Machine, l: Sizes, c: CoroObj) -> Fault
+pub fn refusal(m: Machine, l: Sizes, c: CoroObj) -> Fault
     requires { ⌜ (m .depth ≤ l .depth) × (m .height ≤ l .stack) ⌝ }
     ensures { λ r. ⌜ r ≡ refusalOf (m .height) (m .depth) l c ⌝ }
 {
     let s = c.state;
-    if !is_resumable(s) {
+    if !s.is_resumable() {
         return Fault::InvalidCoroState;
     }
     if c.frames == 0 {

@@ -1,2 +1,3 @@
-// coro.rs: impl Machine, on the lent words.
+// coro.rs: coro_enter, and the mark of a close.
+pub mod close;
 pub mod enter;

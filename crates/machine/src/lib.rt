@@ -4,5 +4,4 @@ pub mod frame;
 pub mod fuel;
 pub mod send;
 pub mod setup;
-pub mod state;
 pub mod step;

@@ -4,5 +4,6 @@ pub mod Rows
 pub mod Tables
 pub mod Lookup
 pub mod Turn
-pub mod Slotted
 pub mod Does
+pub mod Slotted
+pub mod Few

@@ -1,5 +1,5 @@
 -- What the rows hold after a slot is replaced or added: each row has one owner, so only its own row changes. Assumes nothing.
-use mathlib.Core.Path.{_≡_, refl, sym, ap, ap₂, _∙_}
+use mathlib.Core.Path.{_≡_, refl, sym, ap, _∙_}
 use mathlib.Core.Bool.{Bool, true, false, not, _&&_, _||_}
 use mathlib.Core.List.{List, [], _∷_}
 use Prim.Native.Nat.{ℕ, zero, suc, _<_}
@@ -16,7 +16,7 @@ use Rattle.model.specs.State.{isFinished}
 use Rattle.model.specs.Object.{Object, Coroutine, Absent, Is, asCoro}
 use Rattle.model.specs.Rows.{heldBy, heldRows}
 use Rattle.invariant.proofs.Tests.{no-false, no-true}
-use Rattle.memory.specs.Rows.{Row, noRow, owns, savedBy, rowAt}
+use Rattle.memory.specs.Rows.{noRow, owns, savedBy, rowAt}
 
 -- ---- who owns a row that is not among those held
 
@@ -140,13 +140,6 @@ pub row-other : (xs : List (Slot Object)) (i m : ℕ) (y : Slot Object) → owns
 row-other [] i m y e f = refl
 row-other (x ∷ xs) zero m y e f = skip y xs m f ∙ sym (skip x xs m e)
 row-other (x ∷ xs) (suc i) m y e f = ap (pick (owns m (asCoro (x .object))) (savedBy (asCoro (x .object)))) (row-other xs i m y e f)
-
--- a slot whose coroutine, before and after, owns the same row and has saved the same: the row holds what it held
-pub row-like : (xs : List (Slot Object)) (i m : ℕ) (y : Slot Object) → owns m (asCoro (y .object)) ≡ owns m (coroIn xs i) → savedBy (asCoro (y .object)) ≡ savedBy (coroIn xs i)
-    → rowAt m (set xs i y) ≡ rowAt m xs
-row-like [] i m y e f = refl
-row-like (x ∷ xs) zero m y e f = ap₂ (λ (b : Bool) (r : Row). pick b r (rowAt m xs)) e f
-row-like (x ∷ xs) (suc i) m y e f = ap (pick (owns m (asCoro (x .object))) (savedBy (asCoro (x .object)))) (row-like xs i m y e f)
 
 -- a slot is added that owns row n, or none
 pub row-new : (xs : List (Slot Object)) (n : ℕ) (o : Object) → among n (heldRows xs) ≡ false → owns n (asCoro o) ≡ true → rowAt n (pushObject xs o) ≡ savedBy (asCoro o)

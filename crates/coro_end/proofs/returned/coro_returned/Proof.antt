@@ -11,8 +11,15 @@ use borrow.Author.Needs.{needs}
 use Rattle.coro_end.proofs.returned.coro_returned.Statement.{statement}
 use Rattle.coro_end.proofs.returned.coro_returned.Tie as tie
 
+-- the ways back that several clauses take
+abbrev start-of : tie.After-struct-known → tie.Start
+start-of c = c .before .before .before .before .before .before .before
+
 returns : tie.Need-returns
-returns c = λ w b rep rowed. none-active (c .before .before .before .before .before .before .before .before .args .l) (lent (c .before .before .before .before .before .before .before .before .args .stack .now) (c .before .before .before .before .before .before .before .before .args .frames .now) (c .before .before .before .before .before .before .before .before .args .chain .now) (c .before .before .before .before .before .before .before .before .args .slots .now) (c .before .before .before .before .before .before .before .before .args .saved-stack .now) (c .before .before .before .before .before .before .before .before .args .saved-frames .now) b) (c .before .before .before .before .before .before .before .before .args .m) (c .before .before .before .before .before .before .before .before .args .fuel) w rep (c .before .before .before .before .before .before .before .before .args .value) (c .if1 .taken)
+returns c =
+    let start = start-of (c .before) in
+    λ w b rep rowed. none-active (start .args .l) (lent (start .args .stack .now) (start .args .frames .now) (start .args .chain .now) (start .args .slots .now)
+    (start .args .saved-stack .now) (start .args .saved-frames .now) b) (start .args .m) (start .args .fuel) w rep (start .args .value) (c .if1 .taken)
 
 sub-active-at : tie.Need-sub-active-at
 sub-active-at c = search needs
@@ -21,16 +28,31 @@ active-at-requires : tie.Need-active-at-requires
 active-at-requires c κs = search needs
 
 pop-active-requires : tie.Need-pop-active-requires
-pop-active-requires c κs = (omega (arith, c .before .before .before .before .if1 .left), (c .before .before .before .before .before .before .before .before .before .before .before .before .pre) .held .rep .chain .within)
+pop-active-requires c κs =
+    let at-if1 = c .before .before .before .before in let start = start-of (at-if1 .before) in
+    (omega (arith, at-if1 .if1 .left), start .pre .held .rep .chain .within)
 
 sub-n : tie.Need-sub-n
 sub-n c = search needs
 
 finish-coroutine-requires : tie.Need-finish-coroutine-requires
-finish-coroutine-requires c κs = let some : 1 ≤ c .before .before .before .before .before .before .before .before .before .before .before .before .before .before .before .before .before .before .before .args .m .active = omega (arith, c .before .before .before .before .before .before .before .before .before .before .before .if1 .left) in finish-fits (c .before .before .before .before .before .before .before .before .before .before .before .before .before .before .before .before .before .before .before .args .l) (c .before .before .before .before .before .before .before .before .before .before .before .before .before .before .before .before .before .before .before .args .m) (c .before .before .before .before .before .before .before .before .before .before .before .before .before .before .before .before .before .before .before .args .stack .now) (c .before .before .before .before .before .before .before .before .before .before .before .before .before .before .before .before .before .before .before .args .frames .now) (c .before .before .before .before .before .before .before .before .before .before .before .before .before .before .before .before .before .before .before .args .chain .now) (c .before .before .before .before .before .before .before .before .before .before .before .before .before .before .before .before .before .before .before .args .slots .now) (c .before .before .before .before .before .before .before .before .before .before .before .before .before .before .before .before .before .before .before .args .saved-stack .now) (c .before .before .before .before .before .before .before .before .before .before .before .before .before .before .before .before .before .before .before .args .saved-frames .now) (c .before .before .before .before .before .before .before .before .before .before .before .before .before .before .before .before .before .before .before .pre) (c .before .before .before .before .before .before .before .before .active-at .result) some (c .before .before .before .before .before .before .before .before .active-at .ensures) (c .before .before .before .before .before .before .pop-active .last .0) (c .before .before .before .before .before .before .pop-active .ensures)
+finish-coroutine-requires c κs =
+    let at-pop-active = c .before .before .before .before .before .before in let at-active-at = at-pop-active .before .before in
+    let at-if1 = at-active-at .before .before .before in let start = start-of (at-if1 .before) in
+    let some : 1 ≤ start .args .m .active = omega (arith, at-if1 .if1 .left) in
+    finish-fits (start .args .l) (start .args .m) (start .args .stack .now) (start .args .frames .now) (start .args .chain .now) (start .args .slots .now)
+    (start .args .saved-stack .now) (start .args .saved-frames .now) (start .pre) (at-active-at .active-at .result) some (at-active-at .active-at .ensures)
+    (at-pop-active .pop-active .last .0) (at-pop-active .pop-active .ensures)
 
 deliver-return-requires : tie.Need-deliver-return-requires
-deliver-return-requires c κs = let some : 1 ≤ c .before .before .before .before .before .before .before .before .before .before .before .before .before .before .before .before .before .before .before .before .before .before .before .before .before .before .before .before .before .args .m .active = omega (arith, c .before .before .before .before .before .before .before .before .before .before .before .before .before .before .before .before .before .before .before .before .before .if1 .left) in return-fits (c .before .before .before .before .before .before .before .before .before .before .before .before .before .before .before .before .before .before .before .before .before .before .before .before .before .before .before .before .before .args .l) (c .before .before .before .before .before .before .before .before .before .before .before .before .before .before .before .before .before .before .before .before .before .before .before .before .before .before .before .before .before .args .m) (c .before .before .before .before .before .before .before .before .before .before .before .before .before .before .before .before .before .before .before .before .before .before .before .before .before .before .before .before .before .args .stack .now) (c .before .before .before .before .before .before .before .before .before .before .before .before .before .before .before .before .before .before .before .before .before .before .before .before .before .before .before .before .before .args .frames .now) (c .before .before .before .before .before .before .before .before .before .before .before .before .before .before .before .before .before .before .before .before .before .before .before .before .before .before .before .before .before .args .chain .now) (c .before .before .before .before .before .before .before .before .before .before .before .before .before .before .before .before .before .before .before .before .before .before .before .before .before .before .before .before .before .args .slots .now) (c .before .before .before .before .before .before .before .before .before .before .before .before .before .before .before .before .before .before .before .before .before .before .before .before .before .before .before .before .before .args .saved-stack .now) (c .before .before .before .before .before .before .before .before .before .before .before .before .before .before .before .before .before .before .before .before .before .before .before .before .before .before .before .before .before .args .saved-frames .now) (c .before .before .before .before .before .before .before .before .before .before .before .before .before .before .before .before .before .before .before .before .before .before .before .before .before .before .before .before .before .pre) (c .before .before .before .before .before .before .before .before .before .before .before .before .before .before .before .before .before .before .active-at .result) some (c .before .before .before .before .before .before .before .before .before .before .before .before .before .before .before .before .before .before .active-at .ensures) (c .before .before .before .before .before .before .before .before .before .finish-coroutine .last .0) (c .before .before .before .before .before .before .before .before .before .finish-coroutine .kept .0)
+deliver-return-requires c κs =
+    let at-finish-coroutine = c .before .before .before .before .before .before .before .before .before in
+    let at-active-at = at-finish-coroutine .before .before .before .before .before .before .before .before .before in
+    let at-if1 = at-active-at .before .before .before in let start = start-of (at-if1 .before) in
+    let some : 1 ≤ start .args .m .active = omega (arith, at-if1 .if1 .left) in
+    return-fits (start .args .l) (start .args .m) (start .args .stack .now) (start .args .frames .now) (start .args .chain .now) (start .args .slots .now)
+    (start .args .saved-stack .now) (start .args .saved-frames .now) (start .pre) (at-active-at .active-at .result) some (at-active-at .active-at .ensures)
+    (at-finish-coroutine .finish-coroutine .last .0) (at-finish-coroutine .finish-coroutine .kept .0)
 
 same-length : tie.Need-same-length
 same-length c = search needs
@@ -39,7 +61,9 @@ same-length-2 : tie.Need-same-length-2
 same-length-2 c = search needs
 
 same-length-3 : tie.Need-same-length-3
-same-length-3 c = c .before .before .before .before .before .before .before .before .before .before .before .before .before .before .before .before .before .before .before .before .before .before .before .pop-active .kept .0
+same-length-3 c =
+    let at-pop-active = c .before .before .before .before .before .before .before .before .before .before .before .before .before .before .before .before .before .before .before .before .before .before .before in
+    at-pop-active .pop-active .kept .0
 
 same-length-4 : tie.Need-same-length-4
 same-length-4 c = search needs
@@ -51,16 +75,36 @@ same-length-6 : tie.Need-same-length-6
 same-length-6 c = search needs
 
 returns-2 : tie.Need-returns-2
-returns-2 c = λ w b rep rowed.
-    let a = c .before .before .before .before .before .before .before .before .before .before .before .before .before .before .before .before .before .before .before .before .before .before .before .before .before .active-at .result in
-    let some : 1 ≤ c .before .before .before .before .before .before .before .before .before .before .before .before .before .before .before .before .before .before .before .before .before .before .before .before .before .before .before .before .before .before .before .before .before .before .before .before .args .m .active = omega (arith, c .before .before .before .before .before .before .before .before .before .before .before .before .before .before .before .before .before .before .before .before .before .before .before .before .before .before .before .before .if1 .left) in
-    let t = last (c .before .before .before .before .before .before .before .before .before .before .before .before .before .before .before .before .before .before .before .before .before .before .before .before .before .before .before .before .before .before .before .before .before .before .before .before .args .l) (lent (c .before .before .before .before .before .before .before .before .before .before .before .before .before .before .before .before .before .before .before .before .before .before .before .before .before .before .before .before .before .before .before .before .before .before .before .before .args .stack .now) (c .before .before .before .before .before .before .before .before .before .before .before .before .before .before .before .before .before .before .before .before .before .before .before .before .before .before .before .before .before .before .before .before .before .before .before .before .args .frames .now) (c .before .before .before .before .before .before .before .before .before .before .before .before .before .before .before .before .before .before .before .before .before .before .before .before .before .before .before .before .before .before .before .before .before .before .before .before .args .chain .now) (c .before .before .before .before .before .before .before .before .before .before .before .before .before .before .before .before .before .before .before .before .before .before .before .before .before .before .before .before .before .before .before .before .before .before .before .before .args .slots .now) (c .before .before .before .before .before .before .before .before .before .before .before .before .before .before .before .before .before .before .before .before .before .before .before .before .before .before .before .before .before .before .before .before .before .before .before .before .args .saved-stack .now) (c .before .before .before .before .before .before .before .before .before .before .before .before .before .before .before .before .before .before .before .before .before .before .before .before .before .before .before .before .before .before .before .before .before .before .before .before .args .saved-frames .now) b) (c .before .before .before .before .before .before .before .before .before .before .before .before .before .before .before .before .before .before .before .before .before .before .before .before .before .before .before .before .before .before .before .before .before .before .before .before .args .m) (c .before .before .before .before .before .before .before .before .before .before .before .before .before .before .before .before .before .before .before .before .before .before .before .before .before .before .before .before .before .before .before .before .before .before .before .before .args .fuel) w rep a some (c .before .before .before .before .before .before .before .before .before .before .before .before .before .before .before .before .before .before .before .before .before .before .before .before .before .active-at .ensures) in
-    let p = popped (c .before .before .before .before .before .before .before .before .before .before .before .before .before .before .before .before .before .before .before .before .before .before .before .before .before .before .before .before .before .before .before .before .before .before .before .before .args .l) (lent (c .before .before .before .before .before .before .before .before .before .before .before .before .before .before .before .before .before .before .before .before .before .before .before .before .before .before .before .before .before .before .before .before .before .before .before .before .args .stack .now) (c .before .before .before .before .before .before .before .before .before .before .before .before .before .before .before .before .before .before .before .before .before .before .before .before .before .before .before .before .before .before .before .before .before .before .before .before .args .frames .now) (c .before .before .before .before .before .before .before .before .before .before .before .before .before .before .before .before .before .before .before .before .before .before .before .before .before .before .before .before .before .before .before .before .before .before .before .before .args .chain .now) (c .before .before .before .before .before .before .before .before .before .before .before .before .before .before .before .before .before .before .before .before .before .before .before .before .before .before .before .before .before .before .before .before .before .before .before .before .args .slots .now) (c .before .before .before .before .before .before .before .before .before .before .before .before .before .before .before .before .before .before .before .before .before .before .before .before .before .before .before .before .before .before .before .before .before .before .before .before .args .saved-stack .now) (c .before .before .before .before .before .before .before .before .before .before .before .before .before .before .before .before .before .before .before .before .before .before .before .before .before .before .before .before .before .before .before .before .before .before .before .before .args .saved-frames .now) b) (c .before .before .before .before .before .before .before .before .before .before .before .before .before .before .before .before .before .before .before .before .before .before .before .before .before .before .before .before .before .before .before .before .before .before .before .before .args .m) (c .before .before .before .before .before .before .before .before .before .before .before .before .before .before .before .before .before .before .before .before .before .before .before .before .before .before .before .before .before .before .before .before .before .before .before .before .args .fuel) w rep a t (c .before .before .before .before .before .before .before .before .before .before .before .before .before .before .before .before .before .before .before .before .before .before .before .pop-active .last .0) (c .before .before .before .before .before .before .before .before .before .before .before .before .before .before .before .before .before .before .before .before .before .before .before .pop-active .ensures) in
+returns-2 c =
+    let at-deliver-return = c .before .before .before .before .before .before in
+    let at-finish-coroutine = at-deliver-return .before .before .before .before .before .before .before .before .before .before in
+    let at-pop-active = at-finish-coroutine .before .before .before .before .before .before .before in
+    let at-active-at = at-pop-active .before .before in let at-if1 = at-active-at .before .before .before in
+    let start = start-of (at-if1 .before) in
+    λ w b rep rowed.
+    let a = at-active-at .active-at .result in
+    let some : 1 ≤ start .args .m .active = omega (arith, at-if1 .if1 .left) in
+    let t = last (start .args .l) (lent (start .args .stack .now) (start .args .frames .now) (start .args .chain .now) (start .args .slots .now)
+    (start .args .saved-stack .now) (start .args .saved-frames .now) b) (start .args .m) (start .args .fuel) w rep a some (at-active-at .active-at .ensures) in
+    let p = popped (start .args .l) (lent (start .args .stack .now) (start .args .frames .now) (start .args .chain .now) (start .args .slots .now)
+    (start .args .saved-stack .now) (start .args .saved-frames .now) b) (start .args .m) (start .args .fuel) w rep a t (at-pop-active .pop-active .last .0)
+    (at-pop-active .pop-active .ensures) in
     let u = withChain (t .rest) w in
-    let q = c .before .before .before .before .before .before .before .before .before .before .before .before .before .before .before .before .finish-coroutine .ensures u (record { words = onStack (c .before .before .before .before .before .before .before .before .before .before .before .before .before .before .before .before .before .before .before .before .before .before .before .before .before .before .before .before .before .before .before .before .before .before .before .before .args .stack .now) (onFrames (c .before .before .before .before .before .before .before .before .before .before .before .before .before .before .before .before .before .before .before .before .before .before .before .before .before .before .before .before .before .before .before .before .before .before .before .before .args .frames .now) (onChain (c .before .before .before .before .before .before .before .before .before .before .before .before .before .before .before .before .before .before .before .before .before .before .before .pop-active .last .0) (b .words))); fuel = c .before .before .before .before .before .before .before .before .before .before .before .before .before .before .before .before .before .before .before .before .before .before .before .before .before .before .before .before .before .before .before .before .before .before .before .before .args .fuel }) p rowed in
-    let v = finishCoroutine (a .coro) CoroState.Returned (c .before .before .before .before .before .before .before .before .before .before .before .before .before .before .before .before .before .before .before .before .before .before .before .before .before .before .before .before .before .before .before .before .before .before .before .before .args .value) u in
-    returned (c .before .before .before .before .before .before .before .before .before .before .before .before .before .before .before .before .before .before .before .before .before .before .before .before .before .before .before .before .before .before .before .before .before .before .before .before .args .l) (lent (c .before .before .before .before .before .before .deliver-return .last .0) (c .before .before .before .before .before .before .deliver-return .last .1 .0) (c .before .before .before .before .before .before .before .before .before .before .before .before .before .before .before .before .before .before .before .before .before .before .before .pop-active .last .0) (c .before .before .before .before .before .before .deliver-return .last .1 .1 .0) (c .before .before .before .before .before .before .before .before .before .before .before .before .before .before .before .before .finish-coroutine .last .1 .0) (c .before .before .before .before .before .before .before .before .before .before .before .before .before .before .before .before .finish-coroutine .last .1 .1 .0) b) (c .before .before .before .before .before .before .deliver-return .result .machine) (c .before .before .before .before .before .before .deliver-return .result .fuel) w (c .before .before .before .before .before .before .before .before .before .before .before .before .before .before .before .before .before .before .before .before .before .before .before .before .before .before .before .before .before .before .before .before .before .before .before .before .args .value) a t
-    (c .before .before .before .before .before .before .deliver-return .ensures (c .before .before .before .before .before .before .before .before .before .before .before .before .before .before .before .before .before .before .before .before .before .before .before .before .before .before .before .before .before .before .before .before .before .before .before .before .args .l) v (record { words = onChain (c .before .before .before .before .before .before .before .before .before .before .before .before .before .before .before .before .before .before .before .before .before .before .before .pop-active .last .0) (onSaved (c .before .before .before .before .before .before .before .before .before .before .before .before .before .before .before .before .finish-coroutine .last .1 .0) (c .before .before .before .before .before .before .before .before .before .before .before .before .before .before .before .before .finish-coroutine .last .1 .1 .0) (b .words)); fuel = b .fuel }) q)
+    let q = at-finish-coroutine .finish-coroutine .ensures u (record {
+      words = onStack (start .args .stack .now)
+          (onFrames (start .args .frames .now) (onChain (at-pop-active .pop-active .last .0) (b .words)));
+      fuel = start .args .fuel;
+    }) p rowed in
+    let v = finishCoroutine (a .coro) CoroState.Returned (start .args .value) u in
+    returned (start .args .l) (lent (at-deliver-return .deliver-return .last .0) (at-deliver-return .deliver-return .last .1 .0)
+    (at-pop-active .pop-active .last .0) (at-deliver-return .deliver-return .last .1 .1 .0) (at-finish-coroutine .finish-coroutine .last .1 .0)
+    (at-finish-coroutine .finish-coroutine .last .1 .1 .0) b) (at-deliver-return .deliver-return .result .machine)
+    (at-deliver-return .deliver-return .result .fuel) w (start .args .value) a t
+    (at-deliver-return .deliver-return .ensures (start .args .l) v (record {
+      words = onChain (at-pop-active .pop-active .last .0)
+          (onSaved (at-finish-coroutine .finish-coroutine .last .1 .0) (at-finish-coroutine .finish-coroutine .last .1 .1 .0) (b .words));
+      fuel = b .fuel;
+    }) q)
 
 pub coro-returned-spec : {M : Type 1} → statement M
 coro-returned-spec =

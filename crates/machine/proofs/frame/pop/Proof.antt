@@ -38,7 +38,12 @@ same-length-2 : tie.Need-same-length-2
 same-length-2 c = search needs
 
 returns : tie.Need-returns
-returns c = λ l w b f fs e rep. pop-rep l w (onStack (c .before .before .before .before .before .before .before .before .before .before .before .before .before .args .stack .now) (onFrames (c .before .before .before .before .before .before .before .before .before .before .before .before .before .args .frames .now) (b .words))) (c .before .before .before .before .before .before .before .before .before .before .before .before .before .args .m) (b .fuel) rep f fs e _ _ _ (top-base f fs (c .before .before .before .before .before .before .before .before .before .before .before .before .before .args .frames .now) ((c .before .before .before .before .before .before .before .before .before .before .before .before .before .args .m .depth)) (subst (λ z. Frames z (c .before .before .before .before .before .before .before .before .before .before .before .before .before .args .frames .now) ((c .before .before .before .before .before .before .before .before .before .before .before .before .before .args .m .depth))) e (rep .frames))) (c .before .before .before .before .before .before .before .cut .ensures) (c .before .before .before .pop-frame .ensures)
+returns c =
+    let at-pop-frame = c .before .before .before in let at-cut = at-pop-frame .before .before .before .before in
+    let start = at-cut .before .before .before .before .before .before in
+    λ l w b f fs e rep. pop-rep l w (onStack (start .args .stack .now) (onFrames (start .args .frames .now) (b .words)))
+    (start .args .m) (b .fuel) rep f fs e _ _ _ (top-base f fs (start .args .frames .now) (start .args .m .depth)
+    (subst (λ z. Frames z (start .args .frames .now) (start .args .m .depth)) e (rep .frames))) (at-cut .cut .ensures) (at-pop-frame .pop-frame .ensures)
 
 pub pop-spec : {M : Type 1} → statement M
 pop-spec =
