@@ -35,12 +35,12 @@ use Rattle.memory.specs.declared.machine.Sizes.{Sizes}
 use Rattle.memory.proofs.Turn.{turn-stack, turn-frames}
 use Rattle.machine.specs.Frame.{overflowing, pushed}
 
-chosen : {A : Type 0} (x y : A) (b : Bool) → b ≡ true → pick b x y ≡ x
+pub chosen : {A : Type 0} (x y : A) (b : Bool) → b ≡ true → pick b x y ≡ x
 unfolding pick
 chosen x y true e = refl
 chosen x y false e = no-false e
 
-passed : {A : Type 0} (x y : A) (b : Bool) → b ≡ false → pick b x y ≡ y
+pub passed : {A : Type 0} (x y : A) (b : Bool) → b ≡ false → pick b x y ≡ y
 unfolding pick
 passed x y true e = no-true e
 passed x y false e = refl
@@ -105,7 +105,7 @@ module _ (l : Sizes) (w : World) (M : Lent) (m : Machine) (fuel : Fuel) (rep : R
       width-is : n ≡ func s f .regs
       width-is = regs-in s (M .setup) (rep .setup) f function
 
-      same-test : (leb (s .limits .depth) (length (w .frames)) || ltb (s .limits .stack) (length (w .stack) + func s f .regs)) ≡ overflowing m l n
+      pub same-test : (leb (s .limits .depth) (length (w .frames)) || ltb (s .limits .stack) (length (w .stack) + func s f .regs)) ≡ overflowing m l n
       same-test =
           ap₂ (λ a b. leb a (length (w .frames)) || ltb b (length (w .stack) + func s f .regs)) (sym (rep .sizes .depth)) (sym (rep .sizes .stack))
           ∙ ap₂ (λ a b. leb (l .depth) a || ltb (l .stack) (b + func s f .regs)) (sym (rep .frames .count)) (sym (rep .stack .count))
