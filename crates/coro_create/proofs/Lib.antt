@@ -1,4 +1,3 @@
-pub mod Stating
 pub mod Held
 pub mod Parts
 pub mod Pushed

@@ -1,4 +1,3 @@
 pub mod Numbers
 pub mod Row
 pub mod Create
-pub mod State

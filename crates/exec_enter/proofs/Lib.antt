@@ -1,1 +1,5 @@
-pub mod Resumed
+pub mod Entries
+pub mod Sent
+pub mod Thrown
+pub mod Looped
+pub mod Closed

@@ -1,1 +1,4 @@
+pub mod Entry
 pub mod Resume
+pub mod Close
+pub mod Iter

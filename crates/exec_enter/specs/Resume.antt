@@ -1,18 +1,11 @@
--- coro.rs: exec, Resume, on the lent words.
-use mathlib.Core.Path.{_≡_}
+-- coro.rs: exec, Resume and ResumeThrow, on the lent words.
 use mathlib.Core.List.{List}
 use Prim.Native.Nat.{ℕ, _^_, _<_}
-use Rattle.model.specs.declared.coro.Entered.{Entered}
 use Rattle.tables.specs.Does.{RegFits}
 use Rattle.memory.specs.Lendings.{lent}
 use Rattle.memory.specs.Contract.{Ok, only}
 use Rattle.memory.specs.declared.machine.Machine.{Machine}
 use Rattle.memory.specs.declared.machine.Sizes.{Sizes}
-use Rattle.machine.specs.Send.{SendFits}
-
--- the register of a coroutine that waits for a word
-pub record ArriveFits (stack frames : List ℕ) (height depth : ℕ) (a : Entered) : Type 0 where
-  pub waits : (x : ℕ) → a ≡ Entered.Suspended x → SendFits stack frames height depth x
 
 -- a sound world, and operands that the gate has tested
 pub record ResumeFits (l : Sizes) (stack frames chain slots savedStack savedFrames : List ℕ) (m : Machine) (pc c src : ℕ) : Type 0 where

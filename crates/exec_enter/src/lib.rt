@@ -1,2 +1,3 @@
 // coro.rs: exec, its arms that enter coroutines, after their gate and charge.
+pub mod entry;
 pub mod resume;

@@ -1,38 +1,13 @@
 // coro.rs: exec, Resume. Its operands have been tested.
-ghost use Rattle.model.specs.Exec.{arrive, resume};
-ghost use Rattle.exec_enter.specs.Resume.{ArriveFits, ResumeFits};
-ghost use Rattle.memory.specs.Lendings.{six, top};
-ghost use Rattle.memory.specs.Contract.{Met, any, every, ifSound, only};
-use coro_enter::enter::coro_enter;
-use heap::value::Word;
-use machine::send::coro_send;
+ghost use Rattle.model.specs.Exec.{resume};
+ghost use Rattle.exec_enter.specs.Resume.{ResumeFits};
+ghost use Rattle.memory.specs.Lendings.{six};
+ghost use Rattle.memory.specs.Contract.{Met, ifSound, only};
+use crate::entry::enter_send;
 use machine::step::StepDid;
 use memory::machine::Machine;
 use memory::machine::Sizes;
-use model::coro::Entered;
-use model::exec::Step;
 use model::machine::Driver;
-
-// The sent word goes to a coroutine that waits for it.
-pub(crate) fn arrive(
-    stack: &mut [u64],
-    frames: &mut [u64],
-    m: Machine,
-    a: Entered,
-    sent: u64,
-) -> Step
-    requires { ⌜ ArriveFits (now stack) (now frames) (m .height) (m .depth) a ⌝ }
-    ensures { λ r. ⌜ every (λ l. Met any l (λ w. arrive sent w a) (top stack frames) (only m) (only m) r) ⌝ }
-{
-    match a {
-        Entered::Fresh => Step::Frame,
-        Entered::Suspended(d) => {
-            coro_send(stack, frames, m, d, sent);
-            Step::Frame
-        }
-        Entered::Refused(f) => Step::Fault(f),
-    }
-}
 
 // coro.rs: exec, Resume.
 pub fn resume(
@@ -54,8 +29,7 @@ pub fn resume(
 {
     let v = tables::stack::reg(stack, frames, m.height, m.depth, c as usize);
     let sent = tables::stack::reg(stack, frames, m.height, m.depth, src as usize);
-    machine::frame::store_pc(frames, m, pc);
-    let did = coro_enter(
+    enter_send(
         stack,
         frames,
         chain,
@@ -64,11 +38,9 @@ pub fn resume(
         saved_frames,
         m,
         l,
-        Word(v),
+        pc,
+        v,
         Driver::Resume(dst),
-    );
-    let n = did.machine;
-    let a = did.answer;
-    let step = arrive(stack, frames, n, a, sent);
-    StepDid { machine: n, step }
+        sent,
+    )
 }

@@ -1,11 +1,12 @@
--- Resume on the world: an entry, and then an arrival. Assumes nothing.
-use mathlib.Core.Path.{_≡_, ap, ap₂, _∙_, subst, sym}
+-- An entry after a stored pc, and what follows it, on the world. Assumes nothing.
+use mathlib.Core.Path.{_≡_, refl, ap, _∙_, subst, sym}
+use mathlib.Core.Bool.{true}
 use Prim.Native.Nat.{ℕ}
 use Rattle.heap.specs.declared.fault.Fault.{Fault}
-use Rattle.model.specs.World.{World, andThen}
-use Rattle.model.specs.Frames.{storePc, reg}
+use Rattle.model.specs.World.{World, After, after, andThen}
 use Rattle.model.specs.Coro.{coroSend, coroEnter}
-use Rattle.model.specs.Exec.{arrive, resume}
+use Rattle.model.specs.Exec.{arrive}
+use Rattle.model.specs.Sound.{sound}
 use Rattle.model.specs.declared.coro.Entered.{Entered}
 use Rattle.model.specs.declared.exec.Step.{Step}
 use Rattle.model.specs.declared.machine.Driver.{Driver}
@@ -15,11 +16,13 @@ use Rattle.memory.specs.Contract.{Does}
 use Rattle.memory.specs.declared.machine.Machine.{Machine}
 use Rattle.memory.specs.declared.machine.Sizes.{Sizes}
 use Rattle.memory.proofs.Does.{does}
-use mathlib.Core.Bool.{true}
-use Rattle.model.specs.Sound.{sound}
-use Rattle.exec_enter.specs.Resume.{ArriveFits}
-use Rattle.coro_enter.proofs.Lands.{enter-lands}
 use Rattle.machine.proofs.Lands.{lands-fits}
+use Rattle.coro_enter.proofs.Lands.{enter-lands}
+use Rattle.exec_enter.specs.Entry.{ArriveFits}
+
+-- f, and then g with what f answered
+pub then-does : {A B : Type 0} (l : Sizes) (M : Lent) (m : Machine) (f : Fuel) (o : After A) (g : World → A → After B) (a : A) (b : B) → a ≡ o .answer → Does l (g (o .world) a) M m f b → Does l (andThen o g) M m f b
+then-does l M m f o g a b e d = subst (λ z. Does l (g (o .world) z) M m f b) e d
 
 -- ---- a word arrives, or does not
 
@@ -32,16 +35,6 @@ module _ (l : Sizes) (M : Lent) (m : Machine) (f : Fuel) (w : World) (a : Entere
 
   pub arrive-refused : (g : Fault) → a ≡ Entered.Refused g → Rep l w M m f → Does l (arrive sent w a) M m f (Step.Fault g)
   arrive-refused g e rep = does l M m f (arrive sent w a) w (Step.Fault g) (ap (arrive sent w) e) rep
-
--- Resume is an entry, and then an arrival
-pub resumed : (l : Sizes) (M : Lent) (m : Machine) (f : Fuel) (w : World) (pc dst c src v sent : ℕ) (a : Entered) (s : Step) → v ≡ reg w c → sent ≡ reg w src
-    → a ≡ coroEnter v (Driver.Resume dst) (storePc pc w) .answer → Does l (arrive sent (coroEnter v (Driver.Resume dst) (storePc pc w) .world) a) M m f s
-    → Does l (resume pc dst c src w) M m f s
-unfolding resume
-resumed l M m f w pc dst c src v sent a s ev es ea d =
-    subst (λ z. Does l z M m f s)
-    (ap (arrive sent (coroEnter v (Driver.Resume dst) (storePc pc w) .world)) ea
-    ∙ ap₂ (λ x y. andThen (coroEnter x (Driver.Resume dst) (storePc pc w)) (arrive y)) ev es) d
 
 -- the register that waits lies in the top frame of what was entered
 pub arrive-fits : (l : Sizes) (M : Lent) (m : Machine) (fuel : Fuel) (v : ℕ) (d : Driver) (w : World) (a : Entered) → sound w ≡ true → Does l (coroEnter v d w) M m fuel a

@@ -1,8 +1,8 @@
 -- `arrive` meets its contract, by what the entry answered. Assumes nothing.
-use Rattle.exec_enter.proofs.Resumed.{arrive-fresh, arrive-sent, arrive-refused}
+use Rattle.exec_enter.proofs.Entries.{arrive-fresh, arrive-sent, arrive-refused}
 use borrow.Author.Needs.{needs}
-use Rattle.exec_enter.proofs.resume.arrive.Statement.{statement}
-use Rattle.exec_enter.proofs.resume.arrive.Tie as tie
+use Rattle.exec_enter.proofs.entry.arrive.Statement.{statement}
+use Rattle.exec_enter.proofs.entry.arrive.Tie as tie
 
 enum-told : tie.Need-enum-told
 enum-told c = search needs

@@ -1,0 +1,2 @@
+// coro.rs: exec, its arms that ask, after their gate and charge.
+pub mod ask;

@@ -1,0 +1,25 @@
+// coro.rs: coro_state.
+ghost use Prim.Native.Nat.{_*_, _≤_};
+ghost use lib.ListN.{length};
+ghost use Rattle.model.specs.Coro.{coroState};
+ghost use Rattle.memory.specs.Lendings.{table};
+ghost use Rattle.memory.specs.Contract.{Reads, every, only};
+use heap::heap::CoroPlace;
+use heap::value::Word;
+use memory::machine::Machine;
+use model::coro::Stated;
+
+// The state of the coroutine that a word names.
+pub fn coro_state(slots: &[u64], m: Machine, v: Word) -> Stated
+    requires { ⌜ m .count * 20 ≤ length (now slots) ⌝ }
+    ensures { λ r. ⌜ every (λ l. Reads l (λ w. coroState w (v .0)) (table slots) (only m) r) ⌝ }
+{
+    match heap::heap::coro_place(slots, m.count, v) {
+        CoroPlace::Not(f) => Stated::Refused(f),
+        CoroPlace::At(i) => {
+            let c = heap::slot::coro_at(slots, i);
+            let s = c.state;
+            Stated::In(s)
+        }
+    }
+}
