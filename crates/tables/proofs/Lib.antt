@@ -6,6 +6,7 @@ pub mod Decode
 pub mod Rowed
 pub mod Bases
 pub mod Doing
+pub mod Queues
 pub mod Switch
 pub mod Fits
 pub mod Setups

@@ -6,14 +6,15 @@ use native.Mathlib.Omega.{arith}
 use native.Mathlib.Nat.{add-zero}
 use lib.ListN.{length, getD, drop, replicate}
 use lib.Seq.{getD-drop}
+use lib.Dec.{ltb}
 use Rattle.lists.specs.Pick.{pick}
 use Rattle.lists.specs.Chunks.{chunkAt, words}
 use Rattle.lists.specs.Parts.{pad}
 use Rattle.lists.proofs.Tables.{chunk-get, words-at}
 use Rattle.heap.specs.declared.value.Opt.{Opt}
-use Rattle.model.specs.Program.{Setup, func, funcOf, noFunc}
+use Rattle.model.specs.Program.{Setup, func, funcOf, noFunc, isFunction}
 use Rattle.tables.specs.Layout.{handlersFrom, functionFrom, functionIn, functionWords}
-use Rattle.tables.specs.Sizes.{setupWords, limitsOf, costsOf, hookOf}
+use Rattle.tables.specs.Sizes.{setupWords, limitsOf, costsOf, hookOf, functionsOf}
 use Rattle.tables.proofs.Codes.{length-function, function-back}
 
 pub limits-back : (s : Setup) (rest : List ℕ) → limitsOf (setupWords s ++ rest) ≡ s .limits
@@ -94,3 +95,24 @@ module _ (s : Setup) (ws : List ℕ) (held : ws ≡ pad (length ws) (setupWords 
       ap (λ (z : List ℕ). getD z (14 + i * 35) 0) held
       ∙ ap (λ k. getD (setupWords s ++ rest) k 0) (sym (add-zero (14 + i * 35)))
       ∙ function-word s rest i 0 (omega arith) (omega arith)
+
+  -- its parameters, and the number of its handlers
+  field-in : (i j : ℕ) → i < getD ws 13 0 → j < 35 → getD ws (14 + i * 35 + j) 0 ≡ getD (functionWords (func s i)) j 0
+  field-in i j h g = let n = functions-in in ap (λ (z : List ℕ). getD z (14 + i * 35 + j) 0) held ∙ function-word s rest i j (omega arith) g
+
+  pub params-in : (i : ℕ) → i < getD ws 13 0 → functionIn ws i .params ≡ func s i .params
+  params-in i h = field-in i 1 h (omega arith)
+
+  pub count-in : (i : ℕ) → i < getD ws 13 0 → functionIn ws i .count ≡ length (func s i .handlers)
+  count-in i h = field-in i 2 h (omega arith)
+
+  -- the whole function
+  pub function-in : (i : ℕ) → i < getD ws 13 0 → length (func s i .handlers) ≤ 8 → funcOf (functionIn ws i) ≡ func s i
+  function-in i h k = let n = functions-in in ap (λ (z : List ℕ). funcOf (functionIn z i)) held ∙ function-at s rest i (omega arith) k
+
+  -- whether a number is a function's, and the hook
+  pub is-function-in : (f : ℕ) → ltb f (functionsOf ws) ≡ isFunction s f
+  is-function-in f = ap (ltb f) functions-in
+
+  pub hook-in : hookOf ws ≡ s .hook
+  hook-in = ap hookOf held ∙ hook-back s rest

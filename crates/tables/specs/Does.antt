@@ -48,6 +48,14 @@ pub record Popped (x : ℕ) (xs ws : List ℕ) (n r : ℕ) : Type 0 where
 abbrev pub Pops : List ℕ → List ℕ → ℕ → ℕ → Type 0
 Pops ws ws′ n r = (x : ℕ) (xs : List ℕ) → Queue (x ∷ xs) ws n → Popped x xs ws′ n r
 
+-- ---- a word of a queue
+
+pub record Peeked (xs : List ℕ) (i r : ℕ) : Type 0 where
+  pub is : r ≡ getD xs i 0
+
+abbrev pub Peeks : List ℕ → ℕ → ℕ → Type 0
+Peeks ws i r = (xs : List ℕ) (n : ℕ) → Queue xs ws n → i < n → Peeked xs i r
+
 -- ---- an entry: a row's registers and frames go on top, and the row is empty
 
 pub record StackEntered (w : ℕ) (xs ys : List ℕ) (rs : List (List ℕ)) (r : ℕ) (ws vs : List ℕ) (height : ℕ) : Type 0 where

@@ -14,6 +14,10 @@ pub record Moved (dst src dst′ src′ : List ℕ) (at from n : ℕ) : Type 0 w
 abbrev pub shifted : ℕ → List ℕ → List ℕ
 shifted n ws = set (take n (drop 1 ws) ++ drop n ws) n 0
 
+-- the n words from index `from` on moved to the front; those after the first n are as they were
+abbrev pub lowered : ℕ → ℕ → List ℕ → List ℕ
+lowered from n ws = part from n ws ++ drop n ws
+
 -- the bases of n frames from word at on, each changed by g
 abbrev pub rebase : (ℕ → ℕ) → ℕ → ℕ → List ℕ → List ℕ
 rebase g zero at ws = ws

@@ -37,6 +37,10 @@ costsOf ws = record { frame = getD ws 5 0; coro = getD ws 6 0; object = getD ws 
 abbrev pub hookOf : List ℕ → Opt
 hookOf ws = pick (eqb (getD ws 11 0) 0) Opt.None (Opt.Some (getD ws 12 0))
 
+-- the number of functions
+abbrev pub functionsOf : List ℕ → ℕ
+functionsOf ws = getD ws 13 0
+
 -- ---- the words needed
 
 abbrev pub stackSize : Setup → ℕ

@@ -2,9 +2,10 @@
 ghost use mathlib.Core.Path.{_≡_};
 ghost use Prim.Native.Nat.{_+_, _*_, _≤_, _<_};
 ghost use lib.ListN.{length, take};
+ghost use lib.Dec.{ltb};
 ghost use Rattle.model.specs.Program.{covers, firstOf, funcOf};
 ghost use Rattle.tables.specs.Layout.{handlerFrom, handlersFrom, functionIn};
-ghost use Rattle.tables.specs.Sizes.{limitsOf, costsOf, hookOf};
+ghost use Rattle.tables.specs.Sizes.{limitsOf, costsOf, hookOf, functionsOf};
 use heap::value::Opt;
 use model::program::Caught;
 use model::program::Costs;
@@ -108,6 +109,23 @@ pub fn regs_at(setup: &[u64], i: usize) -> u64
     setup[at]
 }
 
+// The parameters of function i.
+pub fn params_at(setup: &[u64], i: usize) -> u64
+    requires { ⌜ 14 + i * 35 + 1 < length (now setup) ⌝ }
+    ensures { λ r. ⌜ r ≡ functionIn (now (setup .entry)) i .params ⌝ }
+{
+    let at = 14 + i * 35;
+    setup[at + 1]
+}
+
+// Whether a number is a function's.
+pub fn is_function(setup: &[u64], f: u64) -> bool
+    requires { ⌜ 14 ≤ length (now setup) ⌝ }
+    ensures { λ r. ⌜ r ≡ ltb f (functionsOf (now (setup .entry))) ⌝ }
+{
+    f < setup[13]
+}
+
 fn covered(h: Handler, pc: u64) -> bool
     ensures { λ r. ⌜ r ≡ covers pc h ⌝ }
 {
@@ -137,4 +155,13 @@ pub fn first_handler(f: Function, pc: u64) -> Caught
 {
     let hs = f.handlers;
     first_of(hs, f.count as usize, pc)
+}
+
+// The first handler of function i that covers a pc.
+pub fn handler_at(setup: &[u64], i: usize, pc: u64) -> Caught
+    requires { ⌜ (14 + i * 35 + 35 ≤ length (now setup)) × (functionIn (now setup) i .count ≤ 8) ⌝ }
+    ensures { λ r. ⌜ r ≡ firstOf pc (funcOf (functionIn (now (setup .entry)) i) .handlers) ⌝ }
+{
+    let f = function_at(setup, i);
+    first_handler(f, pc)
 }

@@ -1,9 +1,11 @@
 // A queue of words, its front first in a lent slice; `n` is their number.
 ghost use mathlib.Core.List.{[], _∷_, _++_};
 ghost use Prim.Native.Nat.{_+_, _-_, _≤_, _<_};
-ghost use lib.ListN.{length};
-ghost use Rattle.tables.specs.Does.{QueueDo, Pops};
+ghost use lib.ListN.{length, drop};
+ghost use Rattle.tables.specs.Does.{QueueDo, Pops, Peeks};
+use crate::runs::move_down;
 use crate::runs::shift_down;
+use crate::stack::cut;
 
 // A word at the end.
 pub fn push_back(queue: &mut [u64], n: usize, v: u64)
@@ -20,4 +22,22 @@ pub fn pop_front(queue: &mut [u64], n: usize) -> u64
 {
     let last = n - 1;
     shift_down(queue, last)
+}
+
+// The first k words go, in one move; the places that the others leave become 0.
+pub fn take_front(queue: &mut [u64], n: usize, k: usize)
+    requires { ⌜ (k ≤ n) × (n ≤ length (now queue)) ⌝ }
+    ensures { λ _. ⌜ QueueDo (drop k) (now (queue .entry)) (now (queue .exit)) n (n - k) ⌝ }
+{
+    let rest = n - k;
+    move_down(queue, k, rest);
+    cut(queue, n, rest);
+}
+
+// The word at index i.
+pub fn word_at(queue: &[u64], i: usize) -> u64
+    requires { ⌜ i < length (now queue) ⌝ }
+    ensures { λ r. ⌜ Peeks (now (queue .entry)) i r ⌝ }
+{
+    queue[i]
 }

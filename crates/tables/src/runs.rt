@@ -3,7 +3,7 @@ ghost use mathlib.Core.Path.{_≡_};
 ghost use Prim.Native.Nat.{_+_, _-_, _*_, _≤_, _<_};
 ghost use lib.ListN.{length, getD, take};
 ghost use Rattle.lists.specs.Parts.{part, splice, pad};
-ghost use Rattle.tables.specs.Runs.{Moved, shifted, rebase, between, RebaseFits};
+ghost use Rattle.tables.specs.Runs.{Moved, shifted, lowered, rebase, between, RebaseFits};
 
 // The n words of `src` from index `from` go to `dst` from index `at`, and become 0 in `src`.
 pub fn move_words(dst: &mut [u64], at: usize, src: &mut [u64], from: usize, n: usize)
@@ -47,6 +47,18 @@ pub fn shift_down(s: &mut [u64], n: usize) -> u64
     }
     s[n] = 0;
     first
+}
+
+// The n words from index `from` on move to the front.
+pub fn move_down(s: &mut [u64], from: usize, n: usize)
+    requires { ⌜ from + n ≤ length (now s) ⌝ }
+    ensures { λ _. ⌜ now (s .exit) ≡ lowered from n (now (s .entry)) ⌝ }
+{
+    let mut to = 0;
+    while to < n {
+        s[to] = s[to + from];
+        to += 1;
+    }
 }
 
 // The bases of the n frames from word `at` on: less by `old`, and more by `new`.

@@ -1,0 +1,28 @@
+-- `take_front` meets its contract: words move to the front, and the last places are cut. Assumes nothing.
+use Rattle.tables.proofs.Queues.{takes-front}
+use borrow.Author.Needs.{needs}
+use Rattle.tables.proofs.queue.take_front.Statement.{statement}
+use Rattle.tables.proofs.queue.take_front.Tie as tie
+
+sub-rest : tie.Need-sub-rest
+sub-rest c = search needs
+
+move-down-requires : tie.Need-move-down-requires
+move-down-requires c κs = search needs
+
+cut-requires : tie.Need-cut-requires
+cut-requires c κs = search needs
+
+same-length : tie.Need-same-length
+same-length c = search needs
+
+returns : tie.Need-returns
+returns c =
+    let cleared = c .before .before in
+    let moved = cleared .before .before .before .before in
+    let begin = moved .before .before .before in
+    takes-front (begin .args .queue .now) (moved .move-down .last .0) (cleared .cut .last .0) (begin .args .n) (begin .args .k)
+    (begin .pre .0) (moved .move-down .ensures) (cleared .cut .ensures)
+
+pub take-front-spec : {M : Type 1} → statement M
+take-front-spec = tie.close (tie.spec sub-rest move-down-requires cut-requires same-length returns)
