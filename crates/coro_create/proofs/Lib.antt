@@ -1,8 +1,6 @@
 pub mod Stating
 pub mod Held
 pub mod Parts
-pub mod Pushed
-pub mod Allocation
 pub mod Setting
 pub mod NewRow
 pub mod Creation

@@ -1,6 +1,8 @@
 // machine.rs: impl Machine, on the lent words.
 pub mod frame;
 pub mod fuel;
+pub mod numbers;
+pub mod object;
 pub mod send;
 pub mod setup;
 pub mod state;

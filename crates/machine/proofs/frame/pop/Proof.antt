@@ -1,8 +1,7 @@
 -- `pop` meets its contract. Assumes nothing.
-use mathlib.Core.Path.{subst}
-use Rattle.tables.specs.Parts.{Frames}
-use Rattle.memory.specs.Memory.{onStack, onFrames}
-use Rattle.machine.proofs.Frames.{pop-rep, top-base}
+use mathlib.Core.Path.{refl}
+use Rattle.memory.specs.Lendings.{top, plain}
+use Rattle.machine.proofs.Frames.{pop-rep}
 use borrow.Author.Needs.{needs}
 use Rattle.machine.proofs.frame.pop.Statement.{statement}
 use Rattle.machine.proofs.frame.pop.Tie as tie
@@ -38,7 +37,12 @@ same-length-2 : tie.Need-same-length-2
 same-length-2 c = search needs
 
 returns : tie.Need-returns
-returns c = λ l w b f fs e rep. pop-rep l w (onStack (c .before .before .before .before .before .before .before .before .before .before .before .before .before .args .stack .now) (onFrames (c .before .before .before .before .before .before .before .before .before .before .before .before .before .args .frames .now) (b .words))) (c .before .before .before .before .before .before .before .before .before .before .before .before .before .args .m) (b .fuel) rep f fs e _ _ _ (top-base f fs (c .before .before .before .before .before .before .before .before .before .before .before .before .before .args .frames .now) ((c .before .before .before .before .before .before .before .before .before .before .before .before .before .args .m .depth)) (subst (λ z. Frames z (c .before .before .before .before .before .before .before .before .before .before .before .before .before .args .frames .now) ((c .before .before .before .before .before .before .before .before .before .before .before .before .before .args .m .depth))) e (rep .frames))) (c .before .before .before .before .before .before .before .cut .ensures) (c .before .before .before .pop-frame .ensures)
+returns c =
+    let gone = c .before .before .before in let short = gone .before .before .before .before in
+    let start = short .before .before .before .before .before .before in
+    let a = start .args in
+    λ l w b rep.
+    pop-rep l w (top (a .stack .now) (a .frames .now) plain b) (a .m) (b .fuel) rep (start .pre .depth .some) (short .cut .last .0) (gone .pop-frame .last .0) _ refl (short .cut .ensures) (gone .pop-frame .ensures)
 
 pub pop-spec : {M : Type 1} → statement M
 pop-spec =
