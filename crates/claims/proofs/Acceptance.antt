@@ -15,13 +15,13 @@ use Rattle.model.specs.Frames.{reg}
 use Rattle.model.specs.Heap.{object, coro}
 use Rattle.model.specs.Coro.{coroEnter}
 use Rattle.model.specs.Cleanup.{suspendedAs, isEntered, charge}
-use Rattle.model.specs.Gate.{inFrame}
 use Rattle.model.specs.Sound.{sound}
-use Rattle.model.specs.Call.{Call, SetUp, Do}
+use Rattle.model.specs.Call.{Call, SetUp, Do, Operation, asCall}
 use Rattle.model.specs.Step.{call}
 use Rattle.model.specs.declared.machine.Driver.{Driver}
 use Rattle.model.specs.declared.machine.Charge.{Charge}
 use Rattle.model.specs.declared.coro.Entered as E
+use Rattle.model.specs.declared.call.OptPc.{OptPc}
 use Rattle.model.specs.declared.call.Op.{Op}
 use Rattle.claims.specs.Entry.{enters, at, awaits, act, nobody, entry, acceptsAs, accepts, sentTo, charged, entryBy, entryOf, driverOf, sentOf, pcBy}
 use Rattle.claims.specs.Suspension.{suspendsIn, takesBy, suspendsOf}
@@ -53,10 +53,10 @@ named-enters w k c d v h = let x = go (next w k) (step-case w k) h in record { b
     go : {k : Call} (z : World) → StepCase w k z → entryOf w k ≡ entry c d v → (isRunning (coreAt w c .state) ≡ false) × (isRunning (coreAt z c .state) ≡ true)
     go z (anew s e) q = no-entry refl q
     go z (same k e) q = no-entry e q
-    go z (does o e) q = entry-enters c d v (shape w o) (sym (entry-sound w o e) ∙ q)
+    go z (does o e) q = entry-enters c d v (shape w (o .op)) (sym (entry-sound w o e) ∙ q)
 
-takes-sound : (w : World) (o : Op) → sound w ≡ true → suspendsOf w (Do o) ≡ takesBy (act w o) (suspendsIn o) w
-takes-sound w o h = ap (λ b. pick b (takesBy (act w o) (suspendsIn o) w) false) h ∙ pick-true (takesBy (act w o) (suspendsIn o) w) false
+takes-sound : (w : World) (o : Operation) → sound w ≡ true → suspendsOf w (Do o) ≡ takesBy (act w (o .op)) (suspendsIn (o .op)) w
+takes-sound w o h = ap (λ b. pick b (takesBy (act w (o .op)) (suspendsIn (o .op)) w) false) h ∙ pick-true (takesBy (act w (o .op)) (suspendsIn (o .op)) w) false
 
 -- what a suspension says of its call
 pub record Suspending (c : ℕ) (w : World) (k : Call) : Type 0 where
@@ -71,7 +71,7 @@ suspending w k c h = go (next w k) (step-case w k) (h .after)
     go z (anew s e) a = no-both a (ap (λ x. isSuspended (coreIn x .state)) (fresh-absent s c))
     go z (same k e) a = no-both a (run-susp (coreAt w c .state) (h .before))
     go z (does o e) a =
-        let t = suspended-one c (shape w o) (run-susp (coreAt w c .state) (h .before)) a in
+        let t = suspended-one c (shape w (o .op)) (run-susp (coreAt w c .state) (h .before)) a in
         record {
           takes = takes-sound w o e ∙ t .says .takes;
           first = ap inmost (t .suspend .inmost) ∙ ap {B = Option ℕ} some (sym (t .its-own));
@@ -84,16 +84,16 @@ one-of p q = cc
 suspends-exactly : (w : World) (k : Call) (c : ℕ) → suspendsOf w k ≡ true → inmost (w .chain) ≡ some c → Suspends c w k
 suspends-exactly w (SetUp s) c h f = no-both h refl
 suspends-exactly w (Do o) c h f =
-    let t = takes-suspends (shape w o) (sym (takes-sound w o e) ∙ h) in
+    let t = takes-suspends (shape w (o .op)) (sym (takes-sound w o e) ∙ h) in
     let n : t .0 .coro ≡ c = one-of (ap inmost (t .2)) f in
     record {
       before = ap (λ x. isRunning (coreAt w x .state)) (sym n) ∙ first-runs w e (t .0) (t .1) (t .2);
-      after = ap (λ x. isSuspended (coreAt x c .state)) (next-sound w o e) ∙ ap (λ x. isSuspended (coreAt (call o w .world) x .state)) (sym n) ∙ t .3;
+      after = ap (λ x. isSuspended (coreAt x c .state)) (next-sound w o e) ∙ ap (λ x. isSuspended (coreAt (call (o .op) w .world) x .state)) (sym n) ∙ t .3;
     }
   where
     healthy : (b : Bool) → sound w ≡ b → sound w ≡ true
     healthy true e = e
-    healthy false e = no-both h (ap (λ b. pick b (takesBy (act w o) (suspendsIn o) w) false) e ∙ pick-false (takesBy (act w o) (suspendsIn o) w) false)
+    healthy false e = no-both h (ap (λ b. pick b (takesBy (act w (o .op)) (suspendsIn (o .op)) w) false) e ∙ pick-false (takesBy (act w (o .op)) (suspendsIn (o .op)) w) false)
 
     e : sound w ≡ true
     e = healthy (sound w) refl
@@ -120,14 +120,14 @@ accepts-fits w c k r h f =
     ∙ rw (f .resumable, solid w h c k r (f .there) (f .resumable), le-ltb (w .setup .limits .depth) (length (w .frames) + length (k .frames)) (f .depth), le-ltb (w .setup .limits .stack) (length (w .stack) + length (k .regs)) (f .stack))
 
 -- an instruction whose test passes enters whom it names
-starts-enters : (w : World) (o : Op) (n : ℕ) (p : ℕ) (ok : Bool) (c : ℕ) (d : Driver) (v : Opt) (may : Bool) → act w o ≡ at p ok (enters c d v may) → Starts w o n → may ≡ true → accepts w c ≡ true → Enters c w (Do o)
-starts-enters w o n p ok c d v may e s m a = named-enters w (Do o) c d (sentTo (coro w c) v) (entry-sound w o (s .healthy) ∙ ap (λ x. entryBy x w) e ∙ opened)
+starts-enters : (w : World) (o : Op) (n : ℕ) (p : ℕ) (ok : Bool) (c : ℕ) (d : Driver) (v : Opt) (may : Bool) → act w o ≡ at p ok (enters c d v may) → (s : Starts w o n) → may ≡ true → accepts w c ≡ true → Enters c w (asCall o (s .fits))
+starts-enters w o n p ok c d v may e s m a = named-enters w (asCall o (s .fits)) c d (sentTo (coro w c) v) (entry-sound w (record { op = o; within = s .fits }) (s .healthy) ∙ ap (λ x. entryBy x w) e ∙ opened)
   where
     gate : ok ≡ true
     gate = sym (ap passes e) ∙ s .gate
 
-    pay : charge (Opt.Some p) w .answer ≡ Charge.Done n
-    pay = ap (λ x. charge (Opt.Some x) w .answer) (sym (ap pcBy e)) ∙ s .paid
+    pay : charge (OptPc.Some p) w .answer ≡ Charge.Done n
+    pay = ap (λ x. charge (OptPc.Some x) w .answer) (sym (ap pcBy e)) ∙ s .paid
 
     opened : entryBy (at p ok (enters c d v may)) w ≡ entry c d (sentTo (coro w c) v)
     opened =
@@ -141,10 +141,10 @@ susp-at w c k r f h = ap suspendedAs (f .there) ∙ h
 pub acceptance : (w : World) (n : ℕ) (k : Core) (r : Rest) → Acceptance w n k r
 acceptance w n k r =
     record {
-      resume = λ pc dst c src s f. starts-enters w (Op.Resume pc dst c src) n pc (inFrame w dst && inFrame w c && inFrame w src) (reg w c) (Driver.Resume dst) (Opt.Some (reg w src)) true refl s refl (accepts-fits w (reg w c) k r (s .healthy) f);
-      throw = λ pc dst c src s f h. starts-enters w (Op.ResumeThrow pc dst c src) n pc (inFrame w dst && inFrame w c && inFrame w src) (reg w c) (Driver.Resume dst) Opt.None (suspendedAs (coro w (reg w c))) refl s (susp-at w (reg w c) k r f h) (accepts-fits w (reg w c) k r (s .healthy) f);
-      close = λ pc dst c src s f h. starts-enters w (Op.CoroClose pc dst c src) n pc (inFrame w dst && inFrame w c && inFrame w src) (reg w c) (Driver.Resume dst) Opt.None (suspendedAs (coro w (reg w c))) refl s (susp-at w (reg w c) k r f h) (accepts-fits w (reg w c) k r (s .healthy) f);
-      loop = λ pc has iter val src s f h g. starts-enters w (Op.IterNext pc has iter val src) n pc (inFrame w has && inFrame w iter && inFrame w val && inFrame w src) (reg w src) (Driver.Iter has val (reg w iter)) (Opt.Some nil) (not (isDone (object w (reg w iter))) && not (awaits (coro w (reg w src)))) refl s
+      resume = λ pc dst c src s f. starts-enters w (Op.Resume pc dst c src) n pc _ (reg w c) (Driver.Resume dst) (Opt.Some (reg w src)) true refl s refl (accepts-fits w (reg w c) k r (s .healthy) f);
+      throw = λ pc dst c src s f h. starts-enters w (Op.ResumeThrow pc dst c src) n pc _ (reg w c) (Driver.Resume dst) Opt.None (suspendedAs (coro w (reg w c))) refl s (susp-at w (reg w c) k r f h) (accepts-fits w (reg w c) k r (s .healthy) f);
+      close = λ pc dst c src s f h. starts-enters w (Op.CoroClose pc dst c src) n pc _ (reg w c) (Driver.Resume dst) Opt.None (suspendedAs (coro w (reg w c))) refl s (susp-at w (reg w c) k r f h) (accepts-fits w (reg w c) k r (s .healthy) f);
+      loop = λ pc has iter val src s f h g. starts-enters w (Op.IterNext pc has iter val src) n pc _ (reg w src) (Driver.Iter has val (reg w iter)) (Opt.Some nil) (not (isDone (object w (reg w iter))) && not (awaits (coro w (reg w src)))) refl s
           (ap (λ b. not b && not (awaits (coro w (reg w src)))) h ∙ ap (λ x. not (awaits x)) (f .there) ∙ ap not g) (accepts-fits w (reg w src) k r (s .healthy) f);
-      host = λ c v h e f. named-enters w (Do (Op.HostEntry c v)) c Driver.Host (sentTo (coro w c) (Opt.Some v)) (entry-sound w (Op.HostEntry c v) h ∙ (λ i. pick (not (e i)) nobody (pick (accepts-fits w c k r h f i) (entry c Driver.Host (sentTo (coro w c) (Opt.Some v))) nobody)) ∙ pick-false nobody (pick true (entry c Driver.Host (sentTo (coro w c) (Opt.Some v))) nobody) ∙ pick-true (entry c Driver.Host (sentTo (coro w c) (Opt.Some v))) nobody);
+      host = λ c v t h e f. named-enters w (asCall (Op.HostEntry c v) t) c Driver.Host (sentTo (coro w c) (Opt.Some v)) (entry-sound w (record { op = Op.HostEntry c v; within = t }) h ∙ (λ i. pick (not (e i)) nobody (pick (accepts-fits w c k r h f i) (entry c Driver.Host (sentTo (coro w c) (Opt.Some v))) nobody)) ∙ pick-false nobody (pick true (entry c Driver.Host (sentTo (coro w c) (Opt.Some v))) nobody) ∙ pick-true (entry c Driver.Host (sentTo (coro w c) (Opt.Some v))) nobody);
     }

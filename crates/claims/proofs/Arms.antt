@@ -26,6 +26,7 @@ use Rattle.model.specs.declared.machine.Cont.{Cont}
 use Rattle.model.specs.declared.machine.Charge.{Charge}
 use Rattle.model.specs.declared.coro.Made.{Made}
 use Rattle.model.specs.declared.coro.Stated.{Stated}
+use Rattle.model.specs.declared.call.OptPc.{OptPc}
 use Rattle.claims.specs.Entry.{neither}
 use Rattle.claims.proofs.Shape.{View, view, Worked, done, tops, puts, pushes, pushV}
 use Rattle.claims.proofs.Under.{keeps-pc}
@@ -94,7 +95,7 @@ spawn-arm p dst callee argc v = a-works refl refl (by (v .setup .hook))
     paid hook c w (Charge.Close n) = hook-worked hook p dst c w
 
     made : (hook : ℕ) (w : World) (m : Made) → Worked (view w) (view (spawnMade hook p dst w m .world))
-    made hook w (Made.Word c) = same-worked (charge-none w) (paid hook c (charge Opt.None w .world) (charge Opt.None w .answer))
+    made hook w (Made.Word c) = same-worked (charge-none w) (paid hook c (charge OptPc.None w .world) (charge OptPc.None w .answer))
     made hook w (Made.Refused f) = done
 
     by : (h : Opt) → Worked (view v) (view (spawnBy h p dst callee argc v .world))

@@ -1,11 +1,10 @@
--- Every call has the shape. A call that is added owes its clauses of `act` (Entry.antt) and `suspendsIn` (Suspension.antt), and a
--- clause of `shape`; what is claimed of lists follows.
-use Prim.Native.Nat.{ℕ, _+_, _^_}
+-- Every call has the shape. A call that is added owes its clause of `plan` (Entry.antt), and a clause of `shape`; what is claimed
+-- of lists follows.
+use Prim.Native.Nat.{ℕ, _+_}
 use mathlib.Core.Path.{_≡_, refl, sym, ap, _∙_, subst}
 use mathlib.Core.Bool.{Bool, true, false, not, _&&_, _||_}
 use mathlib.Core.List.{List, [], _∷_, _++_}
 use lib.ListN.{getD}
-use lib.Dec.{leb}
 use Rattle.lists.specs.Pick.{pick}
 use Rattle.heap.specs.Word.{nil}
 use Rattle.heap.specs.Table.{Slot}
@@ -17,16 +16,17 @@ use Rattle.model.specs.State.{isSuspended, isResumable}
 use Rattle.model.specs.Program.{isFunction}
 use Rattle.model.specs.Object.{Core, Rest, Object, Coroutine, Absent, Is, isDone, withTask, withFinalized}
 use Rattle.model.specs.World.{World, After, after, andThen, withReady, withFinalize, withFuel}
-use Rattle.model.specs.Frames.{isCoro, onTop, setPc, storePc, putReg}
+use Rattle.model.specs.Frames.{isCoro, onTop, setPc, storePc}
 use Rattle.model.specs.Heap.{coro, setCoro, alloc}
 use Rattle.model.specs.Fuel.{setFinalizing}
 use Rattle.model.specs.Coro.{coroEnter}
 use Rattle.model.specs.Cleanup.{suspendedAs, spawnAs, spawnTask}
 use Rattle.model.specs.Machine.{pushFrame, finish, unwind}
 use Rattle.model.specs.Exec.{coroNew, coroNewIndirect, spawn, yield, yieldKv, await, resume, resumeThrow, coroClose, coroStatus, coroCurrent, coroKey, coroResult, iterNext}
-use Rattle.model.specs.Gate.{refused, inFrame, windowIn}
-use Rattle.model.specs.Added.{accepted, answerMade, pushedOr, hostCall, hostArrive, hostEntry, contAllowed, functionCall, putWord, iteratorOver, makeIterator, takeOutcome, handOverAs, handOver, reserve, refuel, grant}
+use Rattle.model.specs.Gate.{refused, allIn, onFrame, onHost}
+use Rattle.model.specs.Added.{accepted, answerMade, pushedOr, hostCall, hostArrive, hostEntry, contAllowed, functionCall, putWord, iteratorOver, makeIterator, takeOutcome, handOverAs, handOver, refuel, grant, granted, grantTooLarge}
 use Rattle.model.specs.Step.{call}
+use Rattle.model.specs.declared.call.Answer.{Answer}
 use Rattle.model.specs.declared.machine.Cont.{Cont}
 use Rattle.model.specs.declared.machine.Driver.{Driver}
 use Rattle.model.specs.declared.machine.Frame.{Frame}
@@ -67,18 +67,32 @@ task-worked v w = go (coro w v) refl
     go Absent e = done
     go (Is k r) e = test k r e (not (r .task) && isResumable (k .state))
 
+-- behind a gate
+on-host : (ok : Bool) (body : World → After Answer) (w : World) → Worked (view w) (view (body w .world)) → Worked (view w) (view (onHost ok body w .world))
+unfolding onHost pick
+on-host ok body w t = go (isNil (w .frames)) ok
+  where
+    go : (none ok : Bool) → Worked (view w) (view (pick (not none) (refused w Fault.Busy) (pick (not ok) (refused w Fault.BadOperand) (body w)) .world))
+    go false ok = done
+    go true false = done
+    go true true = t
+
+on-frame : (ok : Bool) (body : World → After Answer) (w : World) → (ok ≡ true → Worked (view w) (view (body w .world))) → Worked (view w) (view (onFrame ok body w .world))
+unfolding onFrame pick
+on-frame ok body w t = go (isNil (w .frames)) ok refl
+  where
+    go : (none b : Bool) → ok ≡ b → Worked (view w) (view (pick none (refused w Fault.NoFrame) (pick (not b) (refused w Fault.BadOperand) (body w)) .world))
+    go true b e = done
+    go false false e = done
+    go false true e = t e
+
 host-worked : (f : ℕ) (w : World) → Worked (view w) (view (hostCall f w .world))
-unfolding hostCall pick
-host-worked f w = go (not (isNil (w .frames))) (not (isFunction (w .setup) f))
+unfolding hostCall
+host-worked f w = pushed (pushFrame f nil Cont.Entry w) (push-case f nil Cont.Entry w)
   where
     pushed : (o : After Made) → PushCase f nil Cont.Entry w o → Worked (view w) (view (pushedOr w (o .world) (o .answer) .world))
     pushed o (p-in n) = push-worked f nil Cont.Entry n w refl done
     pushed o (p-out e) = done
-
-    go : (a b : Bool) → Worked (view w) (view (pick a (refused w Fault.Busy) (pick b (refused w Fault.BadOperand) (andThen (pushFrame f nil Cont.Entry w) (pushedOr w))) .world))
-    go true b = done
-    go false true = done
-    go false false = pushed (pushFrame f nil Cont.Entry w) (push-case f nil Cont.Entry w)
 
 allowed-plain : (w : World) (c : Cont) → contAllowed w c ≡ true → isCoro c ≡ false
 allowed-plain w Cont.Entry h = refl
@@ -88,9 +102,13 @@ allowed-plain w (Cont.Value r) h = refl
 allowed-plain w Cont.Discard h = refl
 allowed-plain w Cont.Coro h = sym h
 
-function-worked : (pc f : ℕ) (cont : Cont) (w : World) → Worked (view w) (view (functionCall pc f cont w .world))
-unfolding functionCall pick
-function-worked pc f cont w = go (isNil (w .frames)) (isFunction (w .setup) f) (contAllowed w cont) refl
+second-true : (a b : Bool) → (a && b) ≡ true → b ≡ true
+second-true true b h = h
+second-true false b h = no-both h refl
+
+function-worked : (pc f : ℕ) (cont : Cont) (w : World) → (isFunction (w .setup) f && contAllowed w cont) ≡ true → Worked (view w) (view (functionCall pc f cont w .world))
+unfolding functionCall
+function-worked pc f cont w ok = pushed (allowed-plain w cont (second-true (isFunction (w .setup) f) (contAllowed w cont) ok)) (pushFrame f nil cont u) (push-case f nil cont u)
   where
     u : World
     u = storePc pc w
@@ -99,20 +117,9 @@ function-worked pc f cont w = go (isNil (w .frames)) (isFunction (w .setup) f) (
     pushed e o (p-in n) = tops (setPc pc) (keeps-pc pc) (push-worked f nil cont n u e done)
     pushed e o (p-out x) = done
 
-    go : (a b c : Bool) → contAllowed w cont ≡ c → Worked (view w) (view (pick a (refused w Fault.NoFrame) (pick (not (b && c)) (refused w Fault.BadOperand) (andThen (pushFrame f nil cont u) (pushedOr w))) .world))
-    go true b c e = done
-    go false false c e = done
-    go false true false e = done
-    go false true true e = pushed (allowed-plain w cont e) (pushFrame f nil cont u) (push-case f nil cont u)
-
 put-worked : (r v : ℕ) (w : World) → Worked (view w) (view (putWord r v w .world))
-unfolding putWord pick
-put-worked r v w = go (isNil (w .frames)) (not (inFrame w r))
-  where
-    go : (a b : Bool) → Worked (view w) (view (pick a (refused w Fault.NoFrame) (pick b (refused w Fault.BadOperand) (accepted (putReg r v w))) .world))
-    go true b = done
-    go false true = done
-    go false false = puts r v done
+unfolding putWord
+put-worked r v w = puts r v done
 
 iterator-worked : (v : ℕ) (w : World) → Worked (view w) (view (makeIterator v w .world))
 unfolding makeIterator
@@ -139,9 +146,9 @@ hand-worked v w = go (coro w v) refl
 
 grant-worked : (n : ℕ) (w : World) → Worked (view w) (view (grant n w .world))
 unfolding grant pick
-grant-worked n w = go (leb (2 ^ 64) (reserve (w .fuel .bank) (w .fuel) + n))
+grant-worked n w = go (grantTooLarge n w)
   where
-    go : (b : Bool) → Worked (view w) (view (pick b (refused w Fault.GrantTooLarge) (accepted (withFuel (refuel (w .fuel .bank) (reserve (w .fuel .bank) (w .fuel) + n) (w .fuel)) w)) .world))
+    go : (b : Bool) → Worked (view w) (view (pick b (refused w Fault.GrantTooLarge) (accepted (withFuel (refuel (w .fuel .bank) (granted n w) (w .fuel)) w)) .world))
     go true = done
     go false = done
 
@@ -152,8 +159,8 @@ hosted-world x w Entered.Fresh = refl
 hosted-world x w (Entered.Suspended d) = refl
 hosted-world x w (Entered.Refused f) = refl
 
-entry-shape : (c v : ℕ) (w : World) → Shape w (Op.HostEntry c v) (hostEntry c v w .world)
-unfolding hostEntry pick
+entry-shape : (c v : ℕ) (w : World) → Shape w (Op.HostEntry c v) (onHost true (hostEntry c v) w .world)
+unfolding onHost hostEntry pick
 entry-shape c v w = go (isNil (w .frames)) refl
   where
     e : After Entered
@@ -190,29 +197,29 @@ plain b s xs = neither
 
 pub shape : (w : World) (o : Op) → Shape w o (call o w .world)
 unfolding call plain takeOutcome
-shape w (Op.CoroNew pc dst f argc) = instr-shape w (Op.CoroNew pc dst f argc) pc (inFrame w dst && windowIn w dst argc && isFunction (w .setup) f) plain (coroNew dst f argc) refl (new-arm pc dst f argc)
-shape w (Op.CoroNewIndirect pc dst callee argc) = instr-shape w (Op.CoroNewIndirect pc dst callee argc) pc (inFrame w dst && inFrame w callee && windowIn w dst argc) plain (coroNewIndirect dst callee argc) refl (indirect-arm pc dst callee argc)
-shape w (Op.Spawn pc dst callee argc) = instr-shape w (Op.Spawn pc dst callee argc) pc (inFrame w dst && inFrame w callee && windowIn w dst argc) plain (spawn pc dst callee argc) refl (spawn-arm pc dst callee argc)
-shape w (Op.Yield pc dst src) = instr-shape w (Op.Yield pc dst src) pc (inFrame w dst && inFrame w src) (λ b s xs. suspends CoroState.Yielded dst (getD s (b + src) 0)) (yield pc dst src) refl (yield-arm pc dst src)
-shape w (Op.YieldKv pc dst src key) = instr-shape w (Op.YieldKv pc dst src key) pc (inFrame w dst && inFrame w src && inFrame w key) (λ b s xs. suspends CoroState.Yielded dst (getD s (b + src) 0)) (yieldKv pc dst src key) refl (yieldKv-arm pc dst src key)
-shape w (Op.Await pc dst src) = instr-shape w (Op.Await pc dst src) pc (inFrame w dst && inFrame w src) (λ b s xs. suspends CoroState.Awaiting dst (getD s (b + src) 0)) (await pc dst src) refl (await-arm pc dst src)
-shape w (Op.Resume pc dst c src) = instr-shape w (Op.Resume pc dst c src) pc (inFrame w dst && inFrame w c && inFrame w src) (λ b s xs. enters (getD s (b + c) 0) (Driver.Resume dst) (Opt.Some (getD s (b + src) 0)) true) (resume pc dst c src) refl (resume-arm pc dst c src)
-shape w (Op.ResumeThrow pc dst c src) = instr-shape w (Op.ResumeThrow pc dst c src) pc (inFrame w dst && inFrame w c && inFrame w src) (λ b s xs. enters (getD s (b + c) 0) (Driver.Resume dst) Opt.None (suspendedAs (coroIn xs (getD s (b + c) 0)))) (resumeThrow pc dst c src) refl (throw-arm pc dst c src)
-shape w (Op.CoroClose pc dst c src) = instr-shape w (Op.CoroClose pc dst c src) pc (inFrame w dst && inFrame w c && inFrame w src) (λ b s xs. enters (getD s (b + c) 0) (Driver.Resume dst) Opt.None (suspendedAs (coroIn xs (getD s (b + c) 0)))) (coroClose pc dst c src) refl (close-arm pc dst c src)
-shape w (Op.CoroStatus pc dst c) = instr-shape w (Op.CoroStatus pc dst c) pc (inFrame w dst && inFrame w c) plain (coroStatus dst c) refl (status-arm pc dst c)
-shape w (Op.CoroCurrent pc dst) = instr-shape w (Op.CoroCurrent pc dst) pc (inFrame w dst) plain (coroCurrent dst) refl (current-arm pc dst)
-shape w (Op.CoroKey pc dst c) = instr-shape w (Op.CoroKey pc dst c) pc (inFrame w dst && inFrame w c) plain (coroKey dst c) refl (key-arm pc dst c)
-shape w (Op.CoroResult pc dst c) = instr-shape w (Op.CoroResult pc dst c) pc (inFrame w dst && inFrame w c) plain (coroResult dst c) refl (result-arm pc dst c)
+shape w (Op.CoroNew pc dst f argc) = instr-shape w (Op.CoroNew pc dst f argc) pc _ plain (coroNew dst f argc) refl (new-arm pc dst f argc)
+shape w (Op.CoroNewIndirect pc dst callee argc) = instr-shape w (Op.CoroNewIndirect pc dst callee argc) pc _ plain (coroNewIndirect dst callee argc) refl (indirect-arm pc dst callee argc)
+shape w (Op.Spawn pc dst callee argc) = instr-shape w (Op.Spawn pc dst callee argc) pc _ plain (spawn pc dst callee argc) refl (spawn-arm pc dst callee argc)
+shape w (Op.Yield pc dst src) = instr-shape w (Op.Yield pc dst src) pc _ (λ b s xs. suspends CoroState.Yielded dst (getD s (b + src) 0)) (yield pc dst src) refl (yield-arm pc dst src)
+shape w (Op.YieldKv pc dst src key) = instr-shape w (Op.YieldKv pc dst src key) pc _ (λ b s xs. suspends CoroState.Yielded dst (getD s (b + src) 0)) (yieldKv pc dst src key) refl (yieldKv-arm pc dst src key)
+shape w (Op.Await pc dst src) = instr-shape w (Op.Await pc dst src) pc _ (λ b s xs. suspends CoroState.Awaiting dst (getD s (b + src) 0)) (await pc dst src) refl (await-arm pc dst src)
+shape w (Op.Resume pc dst c src) = instr-shape w (Op.Resume pc dst c src) pc _ (λ b s xs. enters (getD s (b + c) 0) (Driver.Resume dst) (Opt.Some (getD s (b + src) 0)) true) (resume pc dst c src) refl (resume-arm pc dst c src)
+shape w (Op.ResumeThrow pc dst c src) = instr-shape w (Op.ResumeThrow pc dst c src) pc _ (λ b s xs. enters (getD s (b + c) 0) (Driver.Resume dst) Opt.None (suspendedAs (coroIn xs (getD s (b + c) 0)))) (resumeThrow pc dst c src) refl (throw-arm pc dst c src)
+shape w (Op.CoroClose pc dst c src) = instr-shape w (Op.CoroClose pc dst c src) pc _ (λ b s xs. enters (getD s (b + c) 0) (Driver.Resume dst) Opt.None (suspendedAs (coroIn xs (getD s (b + c) 0)))) (coroClose pc dst c src) refl (close-arm pc dst c src)
+shape w (Op.CoroStatus pc dst c) = instr-shape w (Op.CoroStatus pc dst c) pc _ plain (coroStatus dst c) refl (status-arm pc dst c)
+shape w (Op.CoroCurrent pc dst) = instr-shape w (Op.CoroCurrent pc dst) pc _ plain (coroCurrent dst) refl (current-arm pc dst)
+shape w (Op.CoroKey pc dst c) = instr-shape w (Op.CoroKey pc dst c) pc _ plain (coroKey dst c) refl (key-arm pc dst c)
+shape w (Op.CoroResult pc dst c) = instr-shape w (Op.CoroResult pc dst c) pc _ plain (coroResult dst c) refl (result-arm pc dst c)
 shape w (Op.IterNext pc has iter val src) =
-    instr-shape w (Op.IterNext pc has iter val src) pc (inFrame w has && inFrame w iter && inFrame w val && inFrame w src)
+    instr-shape w (Op.IterNext pc has iter val src) pc _
     (λ b s xs. enters (getD s (b + src) 0) (Driver.Iter has val (getD s (b + iter) 0)) (Opt.Some nil) (not (isDone (objectIn xs (getD s (b + iter) 0))) && not (awaits (coroIn xs (getD s (b + src) 0))))) (iterNext pc has iter val src) refl (iter-arm pc has iter val src)
 shape w (Op.Finish kind v) = done-shape w (Op.Finish kind v) _ (finish kind v w .world) (record { entry = refl; takes = refl }) (λ c. refl) (finish-done kind v w)
 shape w (Op.Unwind f pc) = done-shape w (Op.Unwind f pc) nil (unwind f pc w .world) (record { entry = refl; takes = refl }) (λ c. refl) (unwind-done f pc w)
 shape w (Op.SpawnTask v) = S.works (record { entry = refl; takes = refl }) (task-worked v w)
-shape w (Op.HostCall f) = S.works (record { entry = refl; takes = refl }) (host-worked f w)
+shape w (Op.HostCall f) = S.works (record { entry = refl; takes = refl }) (on-host (isFunction (w .setup) f) (hostCall f) w (host-worked f w))
 shape w (Op.HostEntry c v) = entry-shape c v w
-shape w (Op.FunctionCall pc f cont) = S.works (record { entry = refl; takes = refl }) (function-worked pc f cont w)
-shape w (Op.PutWord r v) = S.works (record { entry = refl; takes = refl }) (put-worked r v w)
+shape w (Op.FunctionCall pc f cont) = S.works (record { entry = refl; takes = refl }) (on-frame (isFunction (w .setup) f && contAllowed w cont) (functionCall pc f cont) w (function-worked pc f cont w))
+shape w (Op.PutWord r v) = S.works (record { entry = refl; takes = refl }) (on-frame (allIn (r ∷ []) w) (putWord r v) w (λ _. put-worked r v w))
 shape w (Op.MakeIterator v) = S.works (record { entry = refl; takes = refl }) (iterator-worked v w)
 shape w Op.TakeOutcome = S.works (record { entry = refl; takes = refl }) done
 shape w (Op.HandOver v) = S.works (record { entry = refl; takes = refl }) (hand-worked v w)

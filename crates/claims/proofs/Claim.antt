@@ -21,12 +21,11 @@ use Rattle.model.specs.Coro.{active}
 use Rattle.model.specs.Gate.{refused}
 use Rattle.model.specs.Added.{accepted}
 use Rattle.model.specs.Sound.{sound}
-use Rattle.model.specs.Call.{Call, SetUp, Do}
-use Rattle.model.specs.Step.{told, call, step, run}
+use Rattle.model.specs.Call.{Call, SetUp, Do, Operation}
+use Rattle.model.specs.Step.{told, call, step, run, tested}
 use Rattle.model.specs.declared.machine.Active.{Active}
 use Rattle.model.specs.declared.machine.Frame.{Frame}
 use Rattle.model.specs.declared.machine.Driver.{Driver}
-use Rattle.model.specs.declared.call.Op.{Op}
 use Rattle.claims.specs.Entry.{nobody, entry, act, entryBy, entryOf, driverOf, sentOf, pcOf}
 use Rattle.claims.specs.Held.{coreIn, coreAt, floorOf, heldAs, sleptBy, slept, isBody, wordsWith, framesWith, calling, eventOf, mem, deliverTo}
 use Rattle.claims.specs.Demand3.{next, hasLeft, Suspends, Enters, Leaves, restarts, Waits, Goes, Sleeps, Entered, Left, Demand3}
@@ -43,10 +42,10 @@ use Rattle.claims.proofs.Calls.{shape}
 pub data StepCase (w : World) : Call → World → Type 0 where
   anew : (s : Setup) → setupOk s ≡ true → StepCase w (SetUp s) (fresh s)
   same : (k : Call) → entryOf w k ≡ nobody → StepCase w k w
-  does : (o : Op) → sound w ≡ true → StepCase w (Do o) (call o w .world)
+  does : (o : Operation) → sound w ≡ true → StepCase w (Do o) (call (o .op) w .world)
 
 pub step-case : (w : World) (k : Call) → StepCase w k (next w k)
-unfolding step pick
+unfolding step tested pick
 step-case w (SetUp s) = go (setupOk s) refl
   where
     go : (b : Bool) → setupOk s ≡ b → StepCase w (SetUp s) (pick b (accepted (fresh s)) (refused w Fault.Unsound) .world)
@@ -54,13 +53,13 @@ step-case w (SetUp s) = go (setupOk s) refl
     go false e = same (SetUp s) refl
 step-case w (Do o) = go (sound w) refl
   where
-    go : (b : Bool) → sound w ≡ b → StepCase w (Do o) (pick b (call o w) (told (refused w Fault.Unsound)) .world)
+    go : (b : Bool) → sound w ≡ b → StepCase w (Do o) (pick b (call (o .op) w) (told (refused w Fault.Unsound)) .world)
     go true e = does o e
-    go false e = same (Do o) (ap (λ b. pick b (entryBy (act w o) w) nobody) e)
+    go false e = same (Do o) (ap (λ b. pick b (entryBy (act w (o .op)) w) nobody) e)
 
-pub next-sound : (w : World) (o : Op) → sound w ≡ true → next w (Do o) ≡ call o w .world
-unfolding step pick
-next-sound w o e = ap (λ b. pick b (call o w) (told (refused w Fault.Unsound)) .world) e
+pub next-sound : (w : World) (o : Operation) → sound w ≡ true → next w (Do o) ≡ call (o .op) w .world
+unfolding step tested pick
+next-sound w o e = ap (λ b. pick b (call (o .op) w) (told (refused w Fault.Unsound)) .world) e
 
 -- nobody is there after a set-up
 absent-at : (n : ℕ) (fs : List Func) (i : ℕ) → asCoro (getD (functionObjects n fs) i (slot 0 Object.Empty) .object) ≡ Absent
@@ -75,15 +74,15 @@ fresh-absent s c = go (place (fresh s) c)
     go Place.Nothing = refl
     go (Place.At i) = absent-at 0 (s .functions) i
 
-pub entry-sound : (w : World) (o : Op) → sound w ≡ true → entryOf w (Do o) ≡ entryBy (act w o) w
-entry-sound w o h = ap (λ b. pick b (entryBy (act w o) w) nobody) h ∙ pick-true (entryBy (act w o) w) nobody
+pub entry-sound : (w : World) (o : Operation) → sound w ≡ true → entryOf w (Do o) ≡ entryBy (act w (o .op)) w
+entry-sound w o h = ap (λ b. pick b (entryBy (act w (o .op)) w) nobody) h ∙ pick-true (entryBy (act w (o .op)) w) nobody
 
 -- ---- (1)
 
 floor-here : (chain rest : List Active) (a : Active) (c : ℕ) → chain ≡ a ∷ rest → c ≡ a .coro → floorOf chain c ≡ a .floor
 floor-here chain rest a c e q = ap (λ x. floorOf x c) e ∙ ap (λ b. pick b (a .floor) (floorOf rest c)) (eq-eqb (a .coro) c (sym q)) ∙ pick-true (a .floor) (floorOf rest c)
 
-suspends-as : (c : ℕ) (w : World) (o : Op) (z : World) → SuspendedBy w o c z → Sleeps z c (slept w (Do o) c)
+suspends-as : (c : ℕ) (w : World) (o : Operation) (z : World) → SuspendedBy w (o .op) c z → Sleeps z c (slept w (Do o) c)
 suspends-as c w o z s =
     let t = s .suspend in
     let k : coreAt z c ≡ slept w (Do o) c =
@@ -98,7 +97,7 @@ suspension c w k h = go (next w k) (step-case w k) (h .after)
     go : {k : Call} (z : World) → StepCase w k z → isSuspended (coreAt z c .state) ≡ true → Sleeps z c (slept w k c)
     go z (anew s e) a = no-both a (ap (λ x. isSuspended (coreIn x .state)) (fresh-absent s c))
     go z (same k e) a = no-both a (run-susp (coreAt w c .state) (h .before))
-    go z (does o e) a = suspends-as c w o z (suspended-one c (shape w o) (run-susp (coreAt w c .state) (h .before)) a)
+    go z (does o e) a = suspends-as c w o z (suspended-one c (shape w (o .op)) (run-susp (coreAt w c .state) (h .before)) a)
 
 pub its-body : (c : ℕ) (w : World) (k : Call) → Suspends c w k → isBody (slept w k c .frames) ≡ true
 its-body c w k h = go (next w k) (step-case w k) (h .after)
@@ -107,7 +106,7 @@ its-body c w k h = go (next w k) (step-case w k) (h .after)
     go z (anew s e) a = no-both a (ap (λ x. isSuspended (coreIn x .state)) (fresh-absent s c))
     go z (same k e) a = no-both a (run-susp (coreAt w c .state) (h .before))
     go z (does o e) a =
-        let s = suspended-one c (shape w o) (run-susp (coreAt w c .state) (h .before)) a in
+        let s = suspended-one c (shape w (o .op)) (run-susp (coreAt w c .state) (h .before)) a in
         ap (λ x. isBody (x .frames)) (sym (suspends-as c w o z s .holds) ∙ ap (coreAt z) (s .its-own) ∙ s .suspend .mine) ∙ body-saved w e (s .pc) (s .body) (s .chain) (s .suspend .inmost)
 
 -- ---- (2)
@@ -118,7 +117,7 @@ stays c w k s b r n a h = go (next w k) (step-case w k) n a
     go : {k : Call} (z : World) → StepCase w k z → restarts k ≡ false → isRunning (coreAt z c .state) ≡ false → coreAt z c ≡ s
     go z (anew x e) n a = no-both e n
     go z (same k e) n a = h
-    go z (does o e) n a = sleeps-on c s b (shape w o) (apart w e c (ap (λ x. isRunning (x .state)) h ∙ r)) h a
+    go z (does o e) n a = sleeps-on c s b (shape w (o .op)) (apart w e c (ap (λ x. isRunning (x .state)) h ∙ r)) h a
 
 pub sleep : (c : ℕ) (s : Core) (w : World) (ks : List Call) → Sleeps w c s → Waits c w ks → Sleeps (run w ks) c s
 sleep c s w [] h q = h
@@ -148,7 +147,7 @@ entering c w k h = go (next w k) (step-case w k) (h .after)
     go z (anew s e) a = no-both a (ap (λ x. isRunning (coreIn x .state)) (fresh-absent s c))
     go z (same k e) a = no-both a (h .before)
     go z (does o e) a =
-        let t = entered-one c (shape w o) (h .before) a in
+        let t = entered-one c (shape w (o .op)) (h .before) a in
         record { healthy = e; driver = t .driver; sent = t .sent; by = entry-sound w o e ∙ t .by; enter = t .enter }
 
 pub restored : (c : ℕ) (w : World) (k : Call) (s : Core) → Enters c w k → coreAt w c ≡ s → Entered w k c s (next w k)
@@ -193,7 +192,7 @@ module _ (c : ℕ) (d : Driver) (bs : List ℕ) (bf : List Frame) (bc : List Act
   fate-one : (w : World) (k : Call) → Under c d bs bf bc (view w) → Fate w k (next w k)
   fate-one w k u = go (next w k) (step-case w k)
     where
-      cases : (o : Op) (z : World) → F.Fate c d bs bf bc away w o z → Fate w (Do o) z
+      cases : (o : Operation) (z : World) → F.Fate c d bs bf bc away w (o .op) z → Fate w (Do o) z
       cases o z (F.goes x) = goes x
       cases o z (F.left x y e) = left x y e
       cases o z (F.lost x) = lost x
@@ -201,7 +200,7 @@ module _ (c : ℕ) (d : Driver) (bs : List ℕ) (bf : List Frame) (bc : List Act
       go : {k : Call} (z : World) → StepCase w k z → Fate w k z
       go z (anew s e) = over e (ap (λ x. hasLeft (coreIn x .state)) (fresh-absent s c))
       go z (same k e) = goes u
-      go z (does o e) = cases o z (F.fate c d bs bf bc away (shape w o) (lifts w e) u)
+      go z (does o e) = cases o z (F.fate c d bs bf bc away (shape w (o .op)) (lifts w e) u)
 
   goes-on : (w : World) (ks : List Call) → Under c d bs bf bc (view w) → Goes c w ks → isRunning (coreAt (run w ks) c .state) ≡ true → Under c d bs bf bc (view (run w ks))
   goes-on w [] u q r = u

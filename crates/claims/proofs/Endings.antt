@@ -3,7 +3,7 @@ use Prim.Native.Nat.{ℕ}
 use native.Mathlib.Decide.{ℕ-discrete}
 use mathlib.Core.Path.{_≡_, refl, sym, ap, _∙_, subst}
 use mathlib.Core.Logic.{_⊎_, inl, inr}
-use mathlib.Core.Bool.{Bool, true, false, _||_}
+use mathlib.Core.Bool.{Bool, true, false}
 use mathlib.Core.List.{List, [], _∷_}
 use lib.Dec.{eqb, leb}
 use Rattle.lists.specs.Pick.{pick}
@@ -13,14 +13,14 @@ use Rattle.heap.specs.declared.fault.Fault.{Fault}
 use Rattle.heap.specs.declared.value.Opt.{Opt}
 use Rattle.heap.specs.declared.object.CoroState.{CoroState}
 use Rattle.model.specs.State.{isCreated}
-use Rattle.model.specs.Program.{func, firstOf, between}
+use Rattle.model.specs.Program.{func, firstOf}
 use Rattle.model.specs.Object.{Core}
 use Rattle.model.specs.World.{World, After, after, andThen, withChain}
 use Rattle.model.specs.Frames.{isCoro, stepPc, setPc, topFunc, topPc, putReg, storePc, nextPc, popTo}
 use Rattle.model.specs.Heap.{coro, alloc, toDyn}
 use Rattle.model.specs.Coro.{finishCoroutine, inState, ended, deliverReturn, returnedOn, coroReturned, closedBy, failTo, escapedOn, coroEscaped, failAll, abortCoros}
 use Rattle.model.specs.Cleanup.{charge}
-use Rattle.model.specs.Machine.{resultOf, orNil, writeResult, writeMade, applyCont, isOk, resumeIn, returnMade, finishAs, finishOn, finish, caught, stopOr, escape, searchAs, search, searchFrames, searchMade, errorOf, unwindFault, storeSome, unwind}
+use Rattle.model.specs.Machine.{resultOf, orNil, writeResult, writeMade, applyCont, isOk, resumeIn, returnMade, finishAs, finishOn, finish, caught, stopOr, escape, searchAs, search, searchFrames, searchMade, errorOf, unwindFault, storeSome, unwind, raisable}
 use Rattle.model.specs.Added.{stopRun}
 use Rattle.model.specs.declared.program.Handler.{Handler}
 use Rattle.model.specs.declared.program.Caught.{Caught}
@@ -32,6 +32,7 @@ use Rattle.model.specs.declared.machine.Stop.{Stop}
 use Rattle.model.specs.declared.machine.Charge.{Charge}
 use Rattle.model.specs.declared.coro.Made.{Made}
 use Rattle.heap.specs.declared.heap.ResultKind.{ResultKind}
+use Rattle.model.specs.declared.call.OptPc.{OptPc}
 use Rattle.model.specs.declared.call.Answer.{Answer}
 use Rattle.claims.specs.Held.{coreAt, Returns, mem, deliverTo, madeWord}
 use Rattle.claims.proofs.Shape as S
@@ -194,15 +195,15 @@ module _ (value f pc : ℕ) where
 
   looked : (x : Frame) (xs : List Frame) → Next xs → (w : World) → w .frames ≡ x ∷ xs → (c : Caught) → Done nil (view w) (searchAs c x xs value f pc (search xs value f pc) w .world)
   looked x xs next w p Caught.Nothing = leaving x xs next w p (x .cont) refl
-  looked x xs next w p (Caught.By h) = d-works (same-worked (charge-none w) (handled h (charge Opt.None w .world) (charge Opt.None w .answer)))
+  looked x xs next w p (Caught.By h) = d-works (same-worked (charge-none w) (handled h (charge OptPc.None w .world) (charge OptPc.None w .answer)))
 
   search-done : (fs : List Frame) → Next fs
   search-done [] w p = d-works done
   search-done (x ∷ xs) w p = looked x xs (search-done xs) w p (firstOf (x .pc) (func (w .setup) (x .func) .handlers))
 
-pub unwind-done : (f : Fault) (pc : Opt) (w : World) → Done nil (view w) (unwind f pc w .world)
+pub unwind-done : (f : Fault) (pc : OptPc) (w : World) → Done nil (view w) (unwind f pc w .world)
 unfolding unwind pick
-unwind-done f pc w = valid (between 1 10 (numberOf f) || eqb (numberOf f) 17)
+unwind-done f pc w = valid (raisable f)
   where
     frames : (value : ℕ) (u : World) → Done nil (view u) (searchFrames value u .world)
     frames value u = search-done value (topFunc (u .frames)) (topPc (u .frames)) (u .frames) u refl
@@ -216,9 +217,9 @@ unwind-done f pc w = valid (between 1 10 (numberOf f) || eqb (numberOf f) 17)
     kinds u false true = let o = alloc (u .setup .costs .error) (errorOf f u) u in then-done (λ y t. same-worked (alloc-same (u .setup .costs .error) (errorOf f u) u refl) t) (made (o .world) (o .answer))
     kinds u false false = d-works done
 
-    store : (p : Opt) → Done nil (view w) (unwindFault f (storeSome p w) .world)
-    store Opt.None = kinds w (eqb (numberOf f) 17) (leb (numberOf f) 8)
-    store (Opt.Some p) = then-done (λ y t. tops (setPc p) (keeps-pc p) t) (kinds (storePc p w) (eqb (numberOf f) 17) (leb (numberOf f) 8))
+    store : (p : OptPc) → Done nil (view w) (unwindFault f (storeSome p w) .world)
+    store OptPc.None = kinds w (eqb (numberOf f) 17) (leb (numberOf f) 8)
+    store (OptPc.Some p) = then-done (λ y t. tops (setPc p) (keeps-pc p) t) (kinds (storePc p w) (eqb (numberOf f) 17) (leb (numberOf f) 8))
 
     valid : (b : Bool) → Done nil (view w) (pick b (unwindFault f (storeSome pc w)) (after w (Answer.Refused Fault.Unsound)) .world)
     valid true = store pc

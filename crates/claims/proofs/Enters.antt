@@ -26,6 +26,7 @@ use Rattle.model.specs.declared.machine.Frame.{Frame}
 use Rattle.model.specs.declared.machine.Charge.{Charge}
 use Rattle.model.specs.declared.coro.Entered.{Entered}
 use Rattle.model.specs.declared.coro.Started.{Started}
+use Rattle.model.specs.declared.call.OptPc.{OptPc}
 use Rattle.claims.specs.Entry.{entry, acceptsAs, accepts, cleaned}
 use Rattle.claims.specs.Held.{coreIn, coreAt, wordsWith, framesWith}
 use Rattle.claims.proofs.Cores.{no-both, coroIn, and-right, set-mine, set-other}
@@ -212,7 +213,7 @@ pub data ChargeCase (p : ℕ) (w : World) : After Charge → Type 0 where
   c-spent : (v : World) → Ready p w v → ChargeCase p w (after v Charge.Spent)
   c-close : (n c : ℕ) (z : World) → cleaned (w .finalize) w ≡ entry c Driver.Finalize Opt.None → Enter w p c Driver.Finalize Opt.None z → ChargeCase p w (after z (Charge.Close n))
 
-pub charge-case : (p : ℕ) (w : World) → ChargeCase p w (charge (Opt.Some p) w)
+pub charge-case : (p : ℕ) (w : World) → ChargeCase p w (charge (OptPc.Some p) w)
 unfolding charge chargeSlow startFinalizer pick
 charge-case p w = fast (eqb (w .fuel .fuel) 0)
   where
@@ -230,23 +231,23 @@ charge-case p w = fast (eqb (w .fuel .fuel) 0)
     ready true = start (startFrom 0 (w .finalize) u) (start-case p w u su 0 (w .finalize))
     ready false = c-done 0 (armClose (spend (unbank w))) (r-same refl refl refl refl refl)
 
-    slow : (b : Bool) → ChargeCase p w (pick b (after (unbank w) Charge.Spent) (chargeAt (Opt.Some p) (unbank w)))
+    slow : (b : Bool) → ChargeCase p w (pick b (after (unbank w) Charge.Spent) (chargeAt (OptPc.Some p) (unbank w)))
     slow true = c-spent (unbank w) (r-same refl refl refl refl refl)
     slow false = ready (unbank w .fuel .ready)
 
-    fast : (b : Bool) → ChargeCase p w (pick b (chargeSlow (Opt.Some p) w) (after (spend w) (Charge.Done 0)))
+    fast : (b : Bool) → ChargeCase p w (pick b (chargeSlow (OptPc.Some p) w) (after (spend w) (Charge.Done 0)))
     fast true = slow (eqb (unbank w .fuel .fuel) 0)
     fast false = c-done 0 (spend w) (r-same refl refl refl refl refl)
 
 -- without a pc nothing is touched but fuel
-pub charge-none : (w : World) → Same w (charge Opt.None w .world)
+pub charge-none : (w : World) → Same w (charge OptPc.None w .world)
 unfolding charge chargeSlow pick
 charge-none w = fast (eqb (w .fuel .fuel) 0)
   where
-    slow : (b : Bool) → Same w (pick b (after (unbank w) Charge.Spent) (chargeAt Opt.None (unbank w)) .world)
+    slow : (b : Bool) → Same w (pick b (after (unbank w) Charge.Spent) (chargeAt OptPc.None (unbank w)) .world)
     slow true = record { setup = refl; stack = refl; frames = refl; chain = refl; coros = λ c. refl }
     slow false = record { setup = refl; stack = refl; frames = refl; chain = refl; coros = λ c. refl }
 
-    fast : (b : Bool) → Same w (pick b (chargeSlow Opt.None w) (after (spend w) (Charge.Done 0)) .world)
+    fast : (b : Bool) → Same w (pick b (chargeSlow OptPc.None w) (after (spend w) (Charge.Done 0)) .world)
     fast true = slow (eqb (unbank w .fuel .fuel) 0)
     fast false = record { setup = refl; stack = refl; frames = refl; chain = refl; coros = λ c. refl }

@@ -25,6 +25,7 @@ use Rattle.model.specs.declared.machine.Active.{Active}
 use Rattle.model.specs.declared.machine.Frame.{Frame}
 use Rattle.model.specs.declared.machine.Charge.{Charge}
 use Rattle.model.specs.declared.exec.Step.{Step}
+use Rattle.model.specs.declared.call.OptPc.{OptPc}
 use Rattle.model.specs.declared.call.Op.{Op}
 use Rattle.claims.specs.Entry.{Aim, enters, suspends, neither, at, act, Entry, nobody, entry, accepts, sentTo, aimed, charged, entryBy, pcBy}
 use Rattle.claims.specs.Suspension.{suspendsIn, paidBy, takesBy}
@@ -137,10 +138,10 @@ instr-shape w o p ok F arm e owes = gate (isNil (w .frames)) ok refl refl
     aim-same : {v : World} → Alike p w v → aim v ≡ aim w
     aim-same a = λ i. F (a .base i) (a .stack i) (a .slots i)
 
-    by : entryBy (act w o) w ≡ pick (isNil (w .frames)) nobody (pick (not ok) nobody (charged (charge (Opt.Some p) w .answer) w (aimed (aim w) w)))
+    by : entryBy (act w o) w ≡ pick (isNil (w .frames)) nobody (pick (not ok) nobody (charged (charge (OptPc.Some p) w .answer) w (aimed (aim w) w)))
     by = ap (λ x. entryBy x w) e
 
-    held : takesBy (act w o) (suspendsIn o) w ≡ pick (isNil (w .frames)) false (pick (not ok) false (paidBy (suspendsIn o) (charge (Opt.Some p) w .world) (charge (Opt.Some p) w .answer)))
+    held : takesBy (act w o) (suspendsIn o) w ≡ pick (isNil (w .frames)) false (pick (not ok) false (paidBy (suspendsIn o) (charge (OptPc.Some p) w .world) (charge (OptPc.Some p) w .answer)))
     held = ap (λ x. takesBy x (suspendsIn o) w) e
 
     at-pc : pcBy (act w o) ≡ p
@@ -164,8 +165,8 @@ instr-shape w o p ok F arm e owes = gate (isNil (w .frames)) ok refl refl
     paid ch q h (c-spent v r) = S.works (record { entry = q; takes = h }) (alike r .works (view v) done)
     paid ch q h (c-close n c z x t) = entering (record { entry = q ∙ x; takes = h }) t
 
-    gate : (a b : Bool) → isNil (w .frames) ≡ a → ok ≡ b → Shape w o (pick a (refused w Fault.NoFrame) (pick (not b) (refused w Fault.BadOperand) (andThen (charge (Opt.Some p) w) (Gate.charged arm))) .world)
-    gate true b x y = S.works (record { entry = by ∙ ap (λ t. pick t nobody (pick (not ok) nobody (charged (charge (Opt.Some p) w .answer) w (aimed (aim w) w)))) x; takes = held ∙ ap (λ t. pick t false (pick (not ok) false (paidBy (suspendsIn o) (charge (Opt.Some p) w .world) (charge (Opt.Some p) w .answer)))) x }) done
-    gate false false x y = S.works (record { entry = by ∙ (λ i. pick (x i) nobody (pick (not (y i)) nobody (charged (charge (Opt.Some p) w .answer) w (aimed (aim w) w)))); takes = held ∙ (λ i. pick (x i) false (pick (not (y i)) false (paidBy (suspendsIn o) (charge (Opt.Some p) w .world) (charge (Opt.Some p) w .answer)))) }) done
+    gate : (a b : Bool) → isNil (w .frames) ≡ a → ok ≡ b → Shape w o (pick a (refused w Fault.NoFrame) (pick (not b) (refused w Fault.BadOperand) (andThen (charge (OptPc.Some p) w) (Gate.charged arm))) .world)
+    gate true b x y = S.works (record { entry = by ∙ ap (λ t. pick t nobody (pick (not ok) nobody (charged (charge (OptPc.Some p) w .answer) w (aimed (aim w) w)))) x; takes = held ∙ ap (λ t. pick t false (pick (not ok) false (paidBy (suspendsIn o) (charge (OptPc.Some p) w .world) (charge (OptPc.Some p) w .answer)))) x }) done
+    gate false false x y = S.works (record { entry = by ∙ (λ i. pick (x i) nobody (pick (not (y i)) nobody (charged (charge (OptPc.Some p) w .answer) w (aimed (aim w) w)))); takes = held ∙ (λ i. pick (x i) false (pick (not (y i)) false (paidBy (suspendsIn o) (charge (OptPc.Some p) w .world) (charge (OptPc.Some p) w .answer)))) }) done
     gate false true x y =
-        paid (charge (Opt.Some p) w) (by ∙ (λ i. pick (x i) nobody (pick (not (y i)) nobody (charged (charge (Opt.Some p) w .answer) w (aimed (aim w) w))))) (held ∙ (λ i. pick (x i) false (pick (not (y i)) false (paidBy (suspendsIn o) (charge (Opt.Some p) w .world) (charge (Opt.Some p) w .answer))))) (charge-case p w)
+        paid (charge (OptPc.Some p) w) (by ∙ (λ i. pick (x i) nobody (pick (not (y i)) nobody (charged (charge (OptPc.Some p) w .answer) w (aimed (aim w) w))))) (held ∙ (λ i. pick (x i) false (pick (not (y i)) false (paidBy (suspendsIn o) (charge (OptPc.Some p) w .world) (charge (OptPc.Some p) w .answer))))) (charge-case p w)

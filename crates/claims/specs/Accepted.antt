@@ -16,10 +16,11 @@ use Rattle.model.specs.Heap.{object, coro}
 use Rattle.model.specs.Coro.{coroEnter}
 use Rattle.model.specs.Cleanup.{isEntered, charge}
 use Rattle.model.specs.Sound.{sound}
-use Rattle.model.specs.Call.{Call, Do}
+use Rattle.model.specs.Call.{Call, typed, asCall}
 use Rattle.model.specs.declared.machine.Active.{Active}
 use Rattle.model.specs.declared.machine.Driver.{Driver}
 use Rattle.model.specs.declared.machine.Charge.{Charge}
+use Rattle.model.specs.declared.call.OptPc.{OptPc}
 use Rattle.model.specs.declared.call.Op.{Op}
 use Rattle.claims.specs.Entry.{Act, at, byHost, finishes, unwinds, other, act, entry, accepts, entryOf, driverOf, sentOf, pcBy}
 use Rattle.claims.specs.Suspension.{suspendsOf}
@@ -59,15 +60,16 @@ passes other = true
 
 -- the machine is sound, the gate is passed and the charge is taken
 pub record Starts (w : World) (o : Op) (n : ℕ) : Type 0 where
+  pub fits : typed o ≡ true
   pub healthy : sound w ≡ true
   pub frame : isNil (w .frames) ≡ false
   pub gate : passes (act w o) ≡ true
-  pub paid : charge (Opt.Some (pcBy (act w o))) w .answer ≡ Charge.Done n
+  pub paid : charge (OptPc.Some (pcBy (act w o))) w .answer ≡ Charge.Done n
 
 pub record Acceptance (w : World) (n : ℕ) (k : Core) (r : Rest) : Type 0 where
-  pub resume : (pc dst c src : ℕ) → Starts w (Op.Resume pc dst c src) n → Fits w (reg w c) k r → Enters (reg w c) w (Do (Op.Resume pc dst c src))
-  pub throw : (pc dst c src : ℕ) → Starts w (Op.ResumeThrow pc dst c src) n → Fits w (reg w c) k r → isSuspended (k .state) ≡ true → Enters (reg w c) w (Do (Op.ResumeThrow pc dst c src))
-  pub close : (pc dst c src : ℕ) → Starts w (Op.CoroClose pc dst c src) n → Fits w (reg w c) k r → isSuspended (k .state) ≡ true → Enters (reg w c) w (Do (Op.CoroClose pc dst c src))
-  pub loop : (pc has iter val src : ℕ) → Starts w (Op.IterNext pc has iter val src) n → Fits w (reg w src) k r → isDone (object w (reg w iter)) ≡ false → isAwaiting (k .state) ≡ false
-      → Enters (reg w src) w (Do (Op.IterNext pc has iter val src))
-  pub host : (c v : ℕ) → sound w ≡ true → isNil (w .frames) ≡ true → Fits w c k r → Enters c w (Do (Op.HostEntry c v))
+  pub resume : (pc dst c src : ℕ) (s : Starts w (Op.Resume pc dst c src) n) → Fits w (reg w c) k r → Enters (reg w c) w (asCall (Op.Resume pc dst c src) (s .fits))
+  pub throw : (pc dst c src : ℕ) (s : Starts w (Op.ResumeThrow pc dst c src) n) → Fits w (reg w c) k r → isSuspended (k .state) ≡ true → Enters (reg w c) w (asCall (Op.ResumeThrow pc dst c src) (s .fits))
+  pub close : (pc dst c src : ℕ) (s : Starts w (Op.CoroClose pc dst c src) n) → Fits w (reg w c) k r → isSuspended (k .state) ≡ true → Enters (reg w c) w (asCall (Op.CoroClose pc dst c src) (s .fits))
+  pub loop : (pc has iter val src : ℕ) (s : Starts w (Op.IterNext pc has iter val src) n) → Fits w (reg w src) k r → isDone (object w (reg w iter)) ≡ false → isAwaiting (k .state) ≡ false
+      → Enters (reg w src) w (asCall (Op.IterNext pc has iter val src) (s .fits))
+  pub host : (c v : ℕ) (fits : typed (Op.HostEntry c v) ≡ true) → sound w ≡ true → isNil (w .frames) ≡ true → Fits w c k r → Enters c w (asCall (Op.HostEntry c v) fits)

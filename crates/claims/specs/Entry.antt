@@ -9,19 +9,22 @@ use Rattle.heap.specs.declared.value.Opt.{Opt}
 use Rattle.heap.specs.declared.object.CoroState.{CoroState}
 use Rattle.model.specs.Lists.{isNil}
 use Rattle.model.specs.State.{isCreated, isAwaiting, isResumable}
-use Rattle.model.specs.Program.{isFunction}
 use Rattle.model.specs.Object.{Coroutine, Absent, Is, isDone}
 use Rattle.model.specs.World.{World}
 use Rattle.model.specs.Frames.{reg}
-use Rattle.model.specs.Heap.{object, coro}
+use Rattle.model.specs.Heap.{object, coro, dynInt}
 use Rattle.model.specs.Coro.{overflows}
 use Rattle.model.specs.Cleanup.{suspendedAs, charge}
-use Rattle.model.specs.Gate.{inFrame, windowIn}
 use Rattle.model.specs.Sound.{sound}
 use Rattle.model.specs.Call.{Call, SetUp, Do}
+use Rattle.model.specs.Calls.{Row, Instruction, OnFrame, OnHost, Unwinds, Grants, Looks, Other, table}
+use Rattle.model.specs.Exec.{largestIn, largerOf, autoKey}
+use Rattle.model.specs.declared.coro.Keys.{Keys}
+use Rattle.claims.specs.Tries.{tries, keyed, inBody}
 use Rattle.model.specs.declared.machine.Driver.{Driver}
 use Rattle.model.specs.declared.machine.Charge.{Charge}
 use Rattle.heap.specs.declared.heap.ResultKind.{ResultKind}
+use Rattle.model.specs.declared.call.OptPc.{OptPc}
 use Rattle.model.specs.declared.call.Op.{Op}
 
 -- ---- what the calls are after
@@ -47,36 +50,72 @@ abbrev pub awaits : Coroutine → Bool
 awaits Absent = false
 awaits (Is k r) = isAwaiting (k .state)
 
+-- what a call is after, read at the world where it is made
+pub data Plan : Type 0 where
+  entering : (World → Aim) → Plan
+  -- with whether coro_suspend accepts, at the world that the charge left
+  suspending : (World → Aim) → (World → Bool) → Plan
+  -- host entry
+  hosting : ℕ → ℕ → Plan
+  finishing : ResultKind → ℕ → Plan
+  idle : Plan
+
+abbrev pub plan : Op → Plan
+plan (Op.CoroNew pc dst f argc) = idle
+plan (Op.CoroNewIndirect pc dst callee argc) = idle
+plan (Op.Spawn pc dst callee argc) = idle
+plan (Op.Yield pc dst src) = suspending (λ w. suspends CoroState.Yielded dst (reg w src)) (λ w. inBody (w .chain) (λ a. keyed (tries pc CoroState.Yielded dst (reg w src)) (autoKey (largestIn (coro w (a .coro))) w .world) (autoKey (largestIn (coro w (a .coro))) w .answer)))
+plan (Op.YieldKv pc dst src key) = suspending (λ w. suspends CoroState.Yielded dst (reg w src)) (λ w. inBody (w .chain) (λ a. tries pc CoroState.Yielded dst (reg w src) w (Keys.Set (reg w key) (largerOf (largestIn (coro w (a .coro))) (dynInt w (reg w key))))))
+plan (Op.Await pc dst src) = suspending (λ w. suspends CoroState.Awaiting dst (reg w src)) (λ w. inBody (w .chain) (λ a. tries pc CoroState.Awaiting dst (reg w src) w Keys.Keep))
+plan (Op.Resume pc dst c src) = entering (λ w. enters (reg w c) (Driver.Resume dst) (Opt.Some (reg w src)) true)
+plan (Op.ResumeThrow pc dst c src) = entering (λ w. enters (reg w c) (Driver.Resume dst) Opt.None (suspendedAs (coro w (reg w c))))
+plan (Op.CoroClose pc dst c src) = entering (λ w. enters (reg w c) (Driver.Resume dst) Opt.None (suspendedAs (coro w (reg w c))))
+plan (Op.CoroStatus pc dst c) = idle
+plan (Op.CoroCurrent pc dst) = idle
+plan (Op.CoroKey pc dst c) = idle
+plan (Op.CoroResult pc dst c) = idle
+plan (Op.IterNext pc has iter val src) = entering (λ w. enters (reg w src) (Driver.Iter has val (reg w iter)) (Opt.Some nil) (not (isDone (object w (reg w iter))) && not (awaits (coro w (reg w src)))))
+plan (Op.Finish kind v) = finishing kind v
+plan (Op.Unwind f pc) = idle
+plan (Op.SpawnTask v) = idle
+plan (Op.HostCall f) = idle
+plan (Op.HostEntry c v) = hosting c v
+plan (Op.FunctionCall pc f cont) = idle
+plan (Op.PutWord r v) = idle
+plan (Op.MakeIterator v) = idle
+plan Op.TakeOutcome = idle
+plan (Op.HandOver v) = idle
+plan (Op.Grant n) = idle
+plan Op.StopRun = idle
+plan Op.Look = idle
+
+abbrev pub aimOf : Plan → World → Aim
+aimOf (entering f) w = f w
+aimOf (suspending f accepts) w = f w
+aimOf (hosting c v) w = neither
+aimOf (finishing kind v) w = neither
+aimOf idle w = neither
+
+-- a call that is no instruction
+abbrev pub ownBy : Plan → Act
+ownBy (entering f) = other
+ownBy (suspending f accepts) = other
+ownBy (hosting c v) = byHost c v
+ownBy (finishing kind v) = finishes kind v
+ownBy idle = other
+
+-- pc and operands are those of the call's row
+abbrev pub actBy : World → Row → Plan → Act
+actBy w (Instruction pc operands arm) p = at pc (operands w) (aimOf p w)
+actBy w (OnFrame operands body) p = ownBy p
+actBy w (OnHost operands body) p = ownBy p
+actBy w (Unwinds f pc) p = unwinds
+actBy w (Grants n) p = ownBy p
+actBy w Looks p = ownBy p
+actBy w (Other body) p = ownBy p
+
 abbrev pub act : World → Op → Act
-act w (Op.CoroNew pc dst f argc) = at pc (inFrame w dst && windowIn w dst argc && isFunction (w .setup) f) neither
-act w (Op.CoroNewIndirect pc dst callee argc) = at pc (inFrame w dst && inFrame w callee && windowIn w dst argc) neither
-act w (Op.Spawn pc dst callee argc) = at pc (inFrame w dst && inFrame w callee && windowIn w dst argc) neither
-act w (Op.Yield pc dst src) = at pc (inFrame w dst && inFrame w src) (suspends CoroState.Yielded dst (reg w src))
-act w (Op.YieldKv pc dst src key) = at pc (inFrame w dst && inFrame w src && inFrame w key) (suspends CoroState.Yielded dst (reg w src))
-act w (Op.Await pc dst src) = at pc (inFrame w dst && inFrame w src) (suspends CoroState.Awaiting dst (reg w src))
-act w (Op.Resume pc dst c src) = at pc (inFrame w dst && inFrame w c && inFrame w src) (enters (reg w c) (Driver.Resume dst) (Opt.Some (reg w src)) true)
-act w (Op.ResumeThrow pc dst c src) = at pc (inFrame w dst && inFrame w c && inFrame w src) (enters (reg w c) (Driver.Resume dst) Opt.None (suspendedAs (coro w (reg w c))))
-act w (Op.CoroClose pc dst c src) = at pc (inFrame w dst && inFrame w c && inFrame w src) (enters (reg w c) (Driver.Resume dst) Opt.None (suspendedAs (coro w (reg w c))))
-act w (Op.CoroStatus pc dst c) = at pc (inFrame w dst && inFrame w c) neither
-act w (Op.CoroCurrent pc dst) = at pc (inFrame w dst) neither
-act w (Op.CoroKey pc dst c) = at pc (inFrame w dst && inFrame w c) neither
-act w (Op.CoroResult pc dst c) = at pc (inFrame w dst && inFrame w c) neither
-act w (Op.IterNext pc has iter val src) =
-    at pc (inFrame w has && inFrame w iter && inFrame w val && inFrame w src)
-    (enters (reg w src) (Driver.Iter has val (reg w iter)) (Opt.Some nil) (not (isDone (object w (reg w iter))) && not (awaits (coro w (reg w src)))))
-act w (Op.Finish kind v) = finishes kind v
-act w (Op.Unwind f pc) = unwinds
-act w (Op.SpawnTask v) = other
-act w (Op.HostCall f) = other
-act w (Op.HostEntry c v) = byHost c v
-act w (Op.FunctionCall pc f cont) = other
-act w (Op.PutWord r v) = other
-act w (Op.MakeIterator v) = other
-act w Op.TakeOutcome = other
-act w (Op.HandOver v) = other
-act w (Op.Grant n) = other
-act w Op.StopRun = other
-act w Op.Look = other
+act w o = actBy w (table o) (plan o)
 
 -- ---- who is entered
 
@@ -116,7 +155,7 @@ charged Charge.Spent w e = nobody
 charged (Charge.Close n) w e = cleaned (w .finalize) w
 
 abbrev pub entryBy : Act → World → Entry
-entryBy (at pc ok a) w = pick (isNil (w .frames)) nobody (pick (not ok) nobody (charged (charge (Opt.Some pc) w .answer) w (aimed a w)))
+entryBy (at pc ok a) w = pick (isNil (w .frames)) nobody (pick (not ok) nobody (charged (charge (OptPc.Some pc) w .answer) w (aimed a w)))
 entryBy (byHost c v) w = pick (not (isNil (w .frames))) nobody (aimed (enters c Driver.Host (Opt.Some v) true) w)
 entryBy (finishes kind v) w = nobody
 entryBy unwinds w = nobody
@@ -125,7 +164,7 @@ entryBy other w = nobody
 -- who is entered by a call at the world w
 abbrev pub entryOf : World → Call → Entry
 entryOf w (SetUp s) = nobody
-entryOf w (Do o) = pick (sound w) (entryBy (act w o) w) nobody
+entryOf w (Do o) = pick (sound w) (entryBy (act w (o .op)) w) nobody
 
 -- the driver of an entry, and its word
 abbrev pub driverOf : Entry → Driver
@@ -146,4 +185,4 @@ pcBy other = 0
 
 abbrev pub pcOf : World → Call → ℕ
 pcOf w (SetUp s) = 0
-pcOf w (Do o) = pcBy (act w o)
+pcOf w (Do o) = pcBy (act w (o .op))

@@ -55,7 +55,7 @@ sleptBy other w c = coreAt w c
 -- what the suspending call k found of c: its frames with bases from 0, the top one at k's pc, its words, and k's register
 abbrev pub slept : World → Call → ℕ → Core
 slept w (SetUp s) c = coreAt w c
-slept w (Do o) c = sleptBy (act w o) w c
+slept w (Do o) c = sleptBy (act w (o .op)) w c
 
 -- plain frames over one Coro frame, which is at base 0
 abbrev pub isBody : List Frame → Bool
@@ -107,7 +107,7 @@ eventBy other w c = Returns nil
 -- what c gives in the call k at w: the payload; the result as a dynamic word; nil where a closing ends it
 abbrev pub eventOf : World → Call → ℕ → Event
 eventOf w (SetUp s) c = Returns nil
-eventOf w (Do o) c = eventBy (act w o) w c
+eventOf w (Do o) c = eventBy (act w (o .op)) w c
 
 pub record Mem : Type 0 where
   pub stack : List ℕ

@@ -1,3 +1,4 @@
+pub mod Tries
 pub mod Entry
 pub mod Suspension
 pub mod Held

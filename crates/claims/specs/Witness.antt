@@ -8,20 +8,20 @@ use Rattle.model.specs.Program.{setupOk}
 use Rattle.model.specs.World.{fresh}
 use Rattle.model.specs.Frames.{topPc}
 use Rattle.model.specs.Answer.{numberOf}
-use Rattle.model.specs.Call.{Call}
+use Rattle.model.specs.Call.{Call, SetUp}
 use Rattle.model.specs.Coro.{coroState}
 use Rattle.model.specs.Step.{run, answers}
 use Rattle.heap.specs.declared.object.CoroState.{CoroState}
 use Rattle.model.specs.declared.coro.Stated.{Stated}
 use Rattle.claims.specs.Premises.{premises}
-use Rattle.claims.specs.Story.{wide, c, d, finish, deep, loop, story, part, past}
+use Rattle.claims.specs.Story.{wide, c, d, story, part, past}
 
 -- the numbers that the calls of part n answer
 abbrev pub numbers : ℕ → List ℕ
 numbers n = map numberOf (answers (run (fresh wide) (past n)) (part n))
 
 abbrev pub nth : List Call → ℕ → Call
-nth ks i = getD ks i finish
+nth ks i = getD ks i (SetUp wide)
 
 -- the calls between two positions
 abbrev pub between : List Call → ℕ → ℕ → List Call
@@ -59,9 +59,9 @@ pub record Witness : Type 0 where
   pub catching-numbers : numbers 8 ≡ 0 ∷ 0 ∷ 0 ∷ 0 ∷ 0 ∷ 0 ∷ 0 ∷ 17 ∷ 0 ∷ 0 ∷ []
   pub through-numbers : numbers 9 ≡ 0 ∷ 0 ∷ 0 ∷ 0 ∷ 0 ∷ 0 ∷ 0 ∷ 17 ∷ 0 ∷ 0 ∷ 0 ∷ []
   -- the pc 2^32 - 1 steps to 0
-  pub wraps : topPc (run (fresh wide) (take 21 deep) .frames) ≡ 0
+  pub wraps : topPc (run (fresh wide) (take 21 (part 0)) .frames) ≡ 0
   -- in the last part the inner coroutine fails, and the outer one returns
   pub inner-fails : coroState (run (fresh wide) story) d ≡ Stated.In CoroState.Failed
   pub outer-returns : coroState (run (fresh wide) story) c ≡ Stated.In CoroState.Returned
   -- `has` = `val` ends as 1
-  pub has-is-one : run (fresh wide) (past 2 ++ take 15 loop) .stack ≡ c ∷ d ∷ 1 ∷ 7 ∷ []
+  pub has-is-one : run (fresh wide) (past 2 ++ take 15 (part 2)) .stack ≡ c ∷ d ∷ 1 ∷ 7 ∷ []

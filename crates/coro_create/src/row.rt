@@ -8,7 +8,6 @@ ghost use Rattle.model.specs.Rows.{lowestFree};
 ghost use Rattle.coro_create.specs.Row.{rowOf, heldIn, marked, lowestBy};
 use heap::object::CoroState;
 use heap::object::Object;
-use machine::state::is_finished;
 
 // The row that an object holds, or 64.
 fn row_of(o: Object) -> u64
@@ -31,7 +30,7 @@ fn row_of(o: Object) -> u64
         } => 64,
         Object::Coro(c) => {
             let s = c.state;
-            if is_finished(s) {
+            if s.is_finished() {
                 return 64;
             }
             c.row

@@ -17,7 +17,6 @@ use heap::object::CoroState;
 use heap::object::Object;
 use heap::value::Obj;
 use heap::value::Word;
-use machine::state::is_finished;
 use memory::machine::Machine;
 use memory::machine::Sizes;
 
@@ -49,7 +48,7 @@ pub(crate) fn free_row(saved_stack: &mut [u64], saved_frames: &mut [u64], l: Siz
     ensures { λ _. ⌜ Freed (now («saved_stack» .entry)) (now («saved_frames» .entry)) (now («saved_stack» .exit)) (now («saved_frames» .exit)) l c ⌝ }
 {
     let state = c.state;
-    if is_finished(state) {
+    if state.is_finished() {
         return;
     }
     clear_row(saved_stack, saved_frames, l, c);

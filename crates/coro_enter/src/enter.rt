@@ -10,7 +10,6 @@ use heap::heap::CoroPlace;
 use heap::object::CoroObj;
 use heap::object::CoroState;
 use heap::value::Word;
-use machine::state::is_resumable;
 use memory::machine::Machine;
 use memory::machine::Sizes;
 use model::coro::Entered;
@@ -28,7 +27,7 @@ pub(crate) fn refusal(m: Machine, l: Sizes, c: CoroObj) -> Fault
     ensures { λ r. ⌜ r ≡ refusalOf (m .height) (m .depth) l c ⌝ }
 {
     let s = c.state;
-    if !is_resumable(s) {
+    if !s.is_resumable() {
         return Fault::InvalidCoroState;
     }
     if c.frames == 0 {

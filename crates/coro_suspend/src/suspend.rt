@@ -4,7 +4,6 @@ ghost use mathlib.Core.Bool.{false};
 ghost use Prim.Native.Nat.{_-_, _≤_, max};
 ghost use Rattle.lists.specs.Pick.{pick};
 ghost use Rattle.heap.specs.Word.{nil};
-ghost use Rattle.model.specs.State.{isAwaiting};
 ghost use Rattle.model.specs.Coro.{coroSuspend};
 ghost use Rattle.coro_suspend.specs.Suspend.{growthOf, keyOf, largestOf, ignores, asleep, eventAs, shrunk, LeaveFit, Leaves, Found, SuspendFits};
 ghost use Rattle.memory.specs.Lendings.{six};
@@ -27,19 +26,6 @@ use model::machine::Active;
 pub struct SuspendDid {
     pub machine: Machine,
     pub answer: Suspension,
-}
-
-fn is_awaiting(s: CoroState) -> bool
-    ensures { λ r. ⌜ r ≡ isAwaiting s ⌝ }
-{
-    match s {
-        CoroState::Created => false,
-        CoroState::Running => false,
-        CoroState::Yielded => false,
-        CoroState::Awaiting => true,
-        CoroState::Returned => false,
-        CoroState::Failed => false,
-    }
 }
 
 // saturating_sub
@@ -88,7 +74,7 @@ fn largest_of(keys: Keys, n: u64) -> u64
 fn ignores(s: CoroState, closing: bool) -> bool
     ensures { λ r. ⌜ r ≡ ignores s closing ⌝ }
 {
-    if is_awaiting(s) { false } else { closing }
+    if s.is_awaiting() { false } else { closing }
 }
 
 fn closing_after(ignored: bool, closing: bool) -> bool
@@ -140,7 +126,7 @@ pub(crate) fn asleep(
 pub(crate) fn event_of(s: CoroState, payload: u64, closing: bool, key: u64) -> Event
     ensures { λ r. ⌜ r ≡ eventAs s payload closing key ⌝ }
 {
-    if is_awaiting(s) {
+    if s.is_awaiting() {
         return Event::Awaiting(payload);
     }
     if closing {

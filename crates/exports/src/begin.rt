@@ -1,11 +1,12 @@
 // A fresh machine, and a frame on it.
 ghost use Rattle.model.specs.Machine.{pushFrame};
 ghost use Rattle.tables.specs.Layout.{contOf};
-ghost use Rattle.memory.specs.Memory.{onStack, onFrames, onSetup};
 ghost use Rattle.machine.specs.Setup.{words};
 ghost use Rattle.exports.specs.Words.{madeWords};
 ghost use Rattle.exports.specs.Calls.{Called};
 ghost use Rattle.exports.specs.Begin.{BeginFits, Begun, PushCallFits};
+ghost use Rattle.memory.specs.Lendings.{topSetup};
+ghost use Rattle.memory.specs.Contract.{atEntry, atExit};
 use crate::answers::put_made;
 use crate::numbers::machine_of;
 use crate::numbers::put_machine;
@@ -59,7 +60,7 @@ pub extern "C" fn bvm_push_frame(
     r: u64,
 )
     requires { ⌜ PushCallFits (now stack) (now frames) (now setup) (now sizes) (now machine) (now answer) f ⌝ }
-    ensures { λ _. ⌜ Called (now (sizes .entry)) (pushFrame f closure (contOf code r)) madeWords (λ b. onStack (now (stack .entry)) (onFrames (now (frames .entry)) (onSetup (now (setup .entry)) (b .words)))) (now (machine .entry)) (λ b. onStack (now (stack .entry)) (onFrames (now (frames .exit)) (onSetup (now (setup .entry)) (b .words)))) (now (machine .exit)) (now (answer .entry)) (now (answer .exit)) ⌝ }
+    ensures { λ _. ⌜ Called (now (sizes .entry)) (pushFrame f closure (contOf code r)) madeWords (topSetup stack frames setup atEntry) (now (machine .entry)) (topSetup stack frames setup atExit) (now (machine .exit)) (now (answer .entry)) (now (answer .exit)) ⌝ }
 {
     let m = machine_of(machine);
     let l = sizes_of(sizes);

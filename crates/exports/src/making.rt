@@ -1,9 +1,10 @@
 // New coroutines. The operands have been tested.
 ghost use Rattle.model.specs.Exec.{coroNew};
-ghost use Rattle.exec_make.specs.New.{lentNew};
 ghost use Rattle.exports.specs.Words.{stepWords};
 ghost use Rattle.exports.specs.Calls.{Called};
 ghost use Rattle.exports.specs.Switch.{NewCallFits};
+ghost use Rattle.memory.specs.Lendings.{topMaking};
+ghost use Rattle.memory.specs.Contract.{atEntry, atExit};
 use crate::answers::put_step;
 use crate::numbers::machine_of;
 use crate::numbers::put_machine;
@@ -26,7 +27,7 @@ pub extern "C" fn bvm_coro_new(
     argc: u64,
 )
     requires { ⌜ NewCallFits (now stack) (now frames) (now slots) (now «saved_stack») (now «saved_frames») (now setup) (now sizes) (now machine) (now answer) dst f argc ⌝ }
-    ensures { λ _. ⌜ Called (now (sizes .entry)) (coroNew dst f argc) stepWords (lentNew (now (stack .entry)) (now (frames .entry)) (now (slots .entry)) (now («saved_stack» .entry)) (now («saved_frames» .entry)) (now (setup .entry))) (now (machine .entry)) (lentNew (now (stack .exit)) (now (frames .entry)) (now (slots .exit)) (now («saved_stack» .exit)) (now («saved_frames» .exit)) (now (setup .entry))) (now (machine .exit)) (now (answer .entry)) (now (answer .exit)) ⌝ }
+    ensures { λ _. ⌜ Called (now (sizes .entry)) (coroNew dst f argc) stepWords (topMaking stack frames slots «saved_stack» «saved_frames» setup atEntry) (now (machine .entry)) (topMaking stack frames slots «saved_stack» «saved_frames» setup atExit) (now (machine .exit)) (now (answer .entry)) (now (answer .exit)) ⌝ }
 {
     let m = machine_of(machine);
     let l = sizes_of(sizes);

@@ -8,6 +8,8 @@ ghost use Rattle.model.specs.Exec.{yield};
 ghost use Rattle.exports.specs.Words.{machineWords, suspendedOver, fuelWords, stepWords};
 ghost use Rattle.exports.specs.Calls.{CalledFuel};
 ghost use Rattle.exports.specs.Switch.{YieldCallFits, toldBy};
+ghost use Rattle.memory.specs.Lendings.{six};
+ghost use Rattle.memory.specs.Contract.{atEntry, atExit};
 use crate::answers::fuel_of;
 use crate::answers::put_fuel;
 use crate::answers::put_step;
@@ -72,7 +74,7 @@ pub extern "C" fn bvm_yield(
     src: u64,
 )
     requires { ⌜ YieldCallFits (now stack) (now frames) (now chain) (now slots) (now «saved_stack») (now «saved_frames») (now sizes) (now machine) (now fuel) (now answer) pc src ⌝ }
-    ensures { λ _. ⌜ CalledFuel (now (sizes .entry)) (yield pc dst src) stepWords (lent (now (stack .entry)) (now (frames .entry)) (now (chain .entry)) (now (slots .entry)) (now («saved_stack» .entry)) (now («saved_frames» .entry))) (now (machine .entry)) (now (fuel .entry)) (lent (now (stack .exit)) (now (frames .exit)) (now (chain .exit)) (now (slots .exit)) (now («saved_stack» .exit)) (now («saved_frames» .exit))) (now (machine .exit)) (now (fuel .exit)) (now (answer .entry)) (now (answer .exit)) ⌝ }
+    ensures { λ _. ⌜ CalledFuel (now (sizes .entry)) (yield pc dst src) stepWords (six stack frames chain slots «saved_stack» «saved_frames» atEntry) (now (machine .entry)) (now (fuel .entry)) (six stack frames chain slots «saved_stack» «saved_frames» atExit) (now (machine .exit)) (now (fuel .exit)) (now (answer .entry)) (now (answer .exit)) ⌝ }
 {
     let m = machine_of(machine);
     let l = sizes_of(sizes);

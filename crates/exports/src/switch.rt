@@ -3,6 +3,8 @@ ghost use Rattle.model.specs.Exec.{resume};
 ghost use Rattle.exports.specs.Words.{stepWords};
 ghost use Rattle.exports.specs.Calls.{Called};
 ghost use Rattle.exports.specs.Switch.{ResumeCallFits};
+ghost use Rattle.memory.specs.Lendings.{six};
+ghost use Rattle.memory.specs.Contract.{atEntry, atExit};
 use crate::answers::put_step;
 use crate::numbers::machine_of;
 use crate::numbers::put_entered;
@@ -26,7 +28,7 @@ pub extern "C" fn bvm_resume(
     src: u64,
 )
     requires { ⌜ ResumeCallFits (now stack) (now frames) (now chain) (now slots) (now «saved_stack») (now «saved_frames») (now sizes) (now machine) (now answer) pc c src ⌝ }
-    ensures { λ _. ⌜ Called (now (sizes .entry)) (resume pc dst c src) stepWords (lent (now (stack .entry)) (now (frames .entry)) (now (chain .entry)) (now (slots .entry)) (now («saved_stack» .entry)) (now («saved_frames» .entry))) (now (machine .entry)) (lent (now (stack .exit)) (now (frames .exit)) (now (chain .exit)) (now (slots .exit)) (now («saved_stack» .exit)) (now («saved_frames» .exit))) (now (machine .exit)) (now (answer .entry)) (now (answer .exit)) ⌝ }
+    ensures { λ _. ⌜ Called (now (sizes .entry)) (resume pc dst c src) stepWords (six stack frames chain slots «saved_stack» «saved_frames» atEntry) (now (machine .entry)) (six stack frames chain slots «saved_stack» «saved_frames» atExit) (now (machine .exit)) (now (answer .entry)) (now (answer .exit)) ⌝ }
 {
     let m = machine_of(machine);
     let l = sizes_of(sizes);

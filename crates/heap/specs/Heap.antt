@@ -10,7 +10,7 @@ use Rattle.heap.specs.Coding.{ofBits}
 use Rattle.heap.specs.Int.{inlineOf, exactly, valueOf}
 use Rattle.heap.specs.Object.{isFilled}
 use Rattle.heap.specs.Table.{Slot, slot, slotAt, get, notA}
-use Rattle.heap.specs.Slot.{width, slotOfWords, slotWords}
+use Rattle.heap.specs.Slot.{width, coroAt, slotOfWords, slotWords}
 use Rattle.heap.specs.Charge.{lacks, withUsed, withCount, satAdd}
 use Rattle.heap.specs.declared.fault.Fault.{Fault}
 use Rattle.heap.specs.declared.fault.Fault.the-variants as F
@@ -19,6 +19,7 @@ use Rattle.heap.specs.declared.int.Inline.the-variants as I
 use Rattle.heap.specs.declared.int.IntTy.the-variants as T
 use Rattle.heap.specs.declared.int.Exact.{Exact}
 use Rattle.heap.specs.declared.int.Exact.the-variants as X
+use Rattle.heap.specs.declared.object.CoroObj.{CoroObj}
 use Rattle.heap.specs.declared.object.Object.{Object}
 use Rattle.heap.specs.declared.object.Object.the-variants as O
 use Rattle.heap.specs.declared.heap.Place.{Place}
@@ -33,9 +34,20 @@ use Rattle.heap.specs.declared.heap.Made.the-variants as M
 use Rattle.heap.specs.declared.heap.ResultKind.{ResultKind}
 use Rattle.heap.specs.declared.heap.ResultKind.the-variants as K
 
+-- the words have room for n slots; they have a slot i
+abbrev pub TableFits : List ℕ → ℕ → Type 0
+TableFits ws n = n * width ≤ length ws
+
+abbrev pub SlotFits : List ℕ → ℕ → Type 0
+SlotFits ws i = i * width + width ≤ length ws
+
 -- the slot at place i of the words
 abbrev pub slotIn : List ℕ → ℕ → Slot Object
 slotIn ws i = slotOfWords (chunkAt width ws i)
+
+-- the coroutine there
+abbrev pub coroIn : List ℕ → ℕ → CoroObj
+coroIn ws i = coroAt (chunkAt width ws i)
 
 -- the first n slots
 abbrev pub slotsOf : ℕ → List ℕ → List (Slot Object)
@@ -68,7 +80,7 @@ placeOf (R.Not f) = L.Not f
 
 -- words enough for the slots, whose numbers have 32 bits
 pub record Room (ws : List ℕ) (h : Heap) : Type 0 where
-  pub words : h .slots * 20 ≤ length ws
+  pub words : TableFits ws (h .slots)
   pub slots : h .slots ≤ 4096
 
 -- what an allocation answers, and the words after it

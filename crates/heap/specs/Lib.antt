@@ -3,6 +3,7 @@ pub mod Coding
 pub mod Word
 pub mod Int
 pub mod Object
+pub mod State
 pub mod Table
 pub mod Charge
 pub mod Slot

@@ -7,6 +7,7 @@ use Rattle.heap.specs.declared.value.Opt.{Opt}
 use Rattle.heap.specs.declared.value.Opt.the-variants as M
 use Rattle.heap.specs.declared.object.CoroState.{CoroState}
 use Rattle.heap.specs.declared.object.CoroState.the-variants as S
+use Rattle.heap.specs.declared.object.CoroObj.{CoroObj}
 use Rattle.heap.specs.declared.object.Object.{Object}
 use Rattle.heap.specs.declared.object.Object.the-variants as O
 
@@ -44,3 +45,17 @@ intOf (O.Int n) = M.Some n
 intOf (O.Iter s d k) = M.None
 intOf (O.Error e f p w) = M.None
 intOf (O.Coro c) = M.None
+
+-- ---- a coroutine with a field replaced
+
+-- coro.rs: co.closing = true, co.signal = signal
+abbrev pub asClosing : ℕ → CoroObj → CoroObj
+asClosing v c = record { state = c .state; closing = true; finalized = c .finalized; task = c .task; seq = c .seq; row = c .row; regs = c .regs; frames = c .frames; maxregs = c .maxregs; maxframes = c .maxframes; waiting = c .waiting; payload = c .payload; key = c .key; largest = c .largest; result = c .result; signal = v }
+
+-- co.task = true
+abbrev pub asTask : CoroObj → CoroObj
+asTask c = record { state = c .state; closing = c .closing; finalized = c .finalized; task = true; seq = c .seq; row = c .row; regs = c .regs; frames = c .frames; maxregs = c .maxregs; maxframes = c .maxframes; waiting = c .waiting; payload = c .payload; key = c .key; largest = c .largest; result = c .result; signal = c .signal }
+
+-- co.finalized = true
+abbrev pub asFinalized : CoroObj → CoroObj
+asFinalized c = record { state = c .state; closing = c .closing; finalized = true; task = c .task; seq = c .seq; row = c .row; regs = c .regs; frames = c .frames; maxregs = c .maxregs; maxframes = c .maxframes; waiting = c .waiting; payload = c .payload; key = c .key; largest = c .largest; result = c .result; signal = c .signal }

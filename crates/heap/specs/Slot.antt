@@ -68,6 +68,17 @@ sleepWords c ws =
     let b = set (set (set (set a 10 (c .maxregs)) 11 (c .maxframes)) 12 (c .waiting)) 13 (c .payload) in
     set (set (set b 14 (c .key)) 15 (c .largest)) 17 (c .signal)
 
+-- closing, with its signal
+abbrev pub closingWords : ℕ → List ℕ → List ℕ
+closingWords v ws = set (set ws 3 1) 17 v
+
+-- its marks: a task; handed over for a cleanup
+abbrev pub taskWords : List ℕ → List ℕ
+taskWords ws = set ws 5 1
+
+abbrev pub finalizedWords : List ℕ → List ℕ
+finalizedWords ws = set ws 4 1
+
 -- ---- words as an object
 
 abbrev pub coroAt : List ℕ → CoroObj

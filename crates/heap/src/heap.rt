@@ -1,13 +1,11 @@
 // heap.rs: the object table in lent words, its lookups, charges and allocations.
 ghost use mathlib.Core.Path.{_≡_};
-ghost use Prim.Native.Nat.{_+_, _*_, _≤_};
-ghost use lib.ListN.{length};
 ghost use Rattle.heap.specs.Word.{classOf};
 ghost use Rattle.heap.specs.Int.{exactly, valueOf};
 ghost use Rattle.heap.specs.Object.{isFilled, intOf};
 ghost use Rattle.heap.specs.Table.{get, notA, dynIntOf};
 ghost use Rattle.heap.specs.Charge.{satAdd, fits, chargeOf};
-ghost use Rattle.heap.specs.Heap.{slotsOf, placeOf, coroOf, Room, out, lacksOf, allocOf, encodeOf, intBy, toDyn};
+ghost use Rattle.heap.specs.Heap.{TableFits, slotsOf, placeOf, coroOf, Room, out, lacksOf, allocOf, encodeOf, intBy, toDyn};
 ghost use Rattle.heap.specs.declared.object.Object.the-variants.{Empty};
 use crate::fault::Fault;
 use crate::int::Exact;
@@ -67,7 +65,7 @@ pub enum ResultKind {
 
 // heap.rs: get.
 pub fn get(slots: &[u64], count: usize, w: Word) -> Place
-    requires { ⌜ count * 20 ≤ length (now slots) ⌝ }
+    requires { ⌜ TableFits (now slots) count ⌝ }
     ensures { λ r. ⌜ r ≡ get Empty isFilled (slotsOf count (now (slots .entry))) (w .0) ⌝ }
 {
     let Class::Ref(o) = w.class() else {
@@ -89,7 +87,7 @@ pub fn get(slots: &[u64], count: usize, w: Word) -> Place
 
 // heap.rs: coro, or coll: not_a; where the coroutine stands.
 pub fn coro_place(slots: &[u64], count: usize, w: Word) -> CoroPlace
-    requires { ⌜ count * 20 ≤ length (now slots) ⌝ }
+    requires { ⌜ TableFits (now slots) count ⌝ }
     ensures { λ r. ⌜ r ≡ placeOf (coroOf (slotsOf count (now (slots .entry))) (w .0)) ⌝ }
 {
     match get(slots, count, w) {
@@ -105,7 +103,7 @@ pub fn coro_place(slots: &[u64], count: usize, w: Word) -> CoroPlace
 
 // heap.rs: coro, or coll: not_a.
 pub fn coro(slots: &[u64], count: usize, w: Word) -> Coroutine
-    requires { ⌜ count * 20 ≤ length (now slots) ⌝ }
+    requires { ⌜ TableFits (now slots) count ⌝ }
     ensures { λ r. ⌜ r ≡ coroOf (slotsOf count (now (slots .entry))) (w .0) ⌝ }
 {
     match coro_place(slots, count, w) {
@@ -119,7 +117,7 @@ pub fn coro(slots: &[u64], count: usize, w: Word) -> Coroutine
 
 // coll: not_a, the fault of a word that is not the object that was asked for.
 pub fn not_a(slots: &[u64], count: usize, w: Word) -> Fault
-    requires { ⌜ count * 20 ≤ length (now slots) ⌝ }
+    requires { ⌜ TableFits (now slots) count ⌝ }
     ensures { λ r. ⌜ r ≡ notA (classOf (w .0)) (get Empty isFilled (slotsOf count (now (slots .entry))) (w .0)) ⌝ }
 {
     match w.class() {
@@ -158,7 +156,7 @@ fn int_in(o: Object) -> Opt
 
 // conv: dyn_int.
 pub fn dyn_int(slots: &[u64], count: usize, w: Word) -> Opt
-    requires { ⌜ count * 20 ≤ length (now slots) ⌝ }
+    requires { ⌜ TableFits (now slots) count ⌝ }
     ensures { λ r. ⌜ r ≡ dynIntOf Empty isFilled intOf (slotsOf count (now (slots .entry))) (w .0) ⌝ }
 {
     match w.class() {

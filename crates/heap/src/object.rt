@@ -1,6 +1,7 @@
 // heap.rs: Object. A coroutine's saved registers and frames are rows of the upper crate.
 ghost use mathlib.Core.Path.{_≡_};
 ghost use Rattle.heap.specs.Object.{codeOf, stateOf};
+ghost use Rattle.heap.specs.State.{isCreated, isRunning, isAwaiting, isReturned};
 use crate::value::Opt;
 
 // 01: "State codes"
@@ -37,6 +38,62 @@ impl CoroState {
             3 => CoroState::Awaiting,
             4 => CoroState::Returned,
             _ => CoroState::Failed,
+        }
+    }
+
+    // Made, and not entered yet.
+    pub fn is_created(self) -> bool
+        ensures { λ r. ⌜ r ≡ isCreated self ⌝ }
+    {
+        match self {
+            CoroState::Created => true,
+            CoroState::Running => false,
+            CoroState::Yielded => false,
+            CoroState::Awaiting => false,
+            CoroState::Returned => false,
+            CoroState::Failed => false,
+        }
+    }
+
+    // Entered, and neither suspended nor ended since.
+    pub fn is_running(self) -> bool
+        ensures { λ r. ⌜ r ≡ isRunning self ⌝ }
+    {
+        match self {
+            CoroState::Created => false,
+            CoroState::Running => true,
+            CoroState::Yielded => false,
+            CoroState::Awaiting => false,
+            CoroState::Returned => false,
+            CoroState::Failed => false,
+        }
+    }
+
+    // Suspended by an Await.
+    pub fn is_awaiting(self) -> bool
+        ensures { λ r. ⌜ r ≡ isAwaiting self ⌝ }
+    {
+        match self {
+            CoroState::Created => false,
+            CoroState::Running => false,
+            CoroState::Yielded => false,
+            CoroState::Awaiting => true,
+            CoroState::Returned => false,
+            CoroState::Failed => false,
+        }
+    }
+
+    // Ended with a result.
+    pub fn is_returned(self) -> bool
+        ensures { λ r. ⌜ r ≡ isReturned self ⌝ }
+    {
+        match self {
+            CoroState::Created => false,
+            CoroState::Running => false,
+            CoroState::Yielded => false,
+            CoroState::Awaiting => false,
+            CoroState::Returned => true,
+            CoroState::Failed => false,
         }
     }
 }

@@ -1,9 +1,10 @@
 // Whether lent words are a table of slots: each word within the range of its place.
 ghost use mathlib.Core.Path.{_≡_};
-ghost use Prim.Native.Nat.{_+_, _*_, _≤_};
 ghost use lib.ListN.{length};
 ghost use Rattle.lists.specs.Chunks.{chunkAt};
+ghost use Rattle.heap.specs.Heap.{TableFits, SlotFits};
 ghost use Rattle.heap.specs.Ranges.{rangesOf, within, slotOk, tableOk};
+use crate::slot::WIDTH;
 use crate::slot::fields;
 
 // The largest value of a word, and of one of 32 and of 16 bits.
@@ -78,17 +79,17 @@ fn slot_ok(s: &[u64]) -> bool
 }
 
 fn slot_ok_at(slots: &[u64], i: usize) -> bool
-    requires { ⌜ i * 20 + 20 ≤ length (now slots) ⌝ }
+    requires { ⌜ SlotFits (now slots) i ⌝ }
     ensures { λ r. ⌜ r ≡ slotOk (chunkAt 20 (now (slots .entry)) i) ⌝ }
 {
-    let b = i * 20;
-    let e = b + 20;
+    let b = i * WIDTH;
+    let e = b + WIDTH;
     slot_ok(&slots[b..e])
 }
 
 // The words are those of `count` slots, with zeros after them.
 pub fn table_ok(slots: &[u64], count: usize) -> bool
-    requires { ⌜ count * 20 ≤ length (now slots) ⌝ }
+    requires { ⌜ TableFits (now slots) count ⌝ }
     ensures { λ r. ⌜ r ≡ tableOk count (now (slots .entry)) ⌝ }
 {
     for i in 0..count {
@@ -96,6 +97,6 @@ pub fn table_ok(slots: &[u64], count: usize) -> bool
             return false;
         }
     }
-    let end = count * 20;
+    let end = count * WIDTH;
     lists::all_zero(&slots[end..])
 }

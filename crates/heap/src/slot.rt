@@ -1,18 +1,20 @@
 // The layout of a slot: tag, kind and fields in 20 words. Only this crate knows it.
 ghost use mathlib.Core.Path.{_≡_};
-ghost use Prim.Native.Nat.{_+_, _*_, _≤_};
 ghost use lib.ListN.{length, getD};
 ghost use lib.Dec.{eqb};
 ghost use Rattle.lists.specs.Chunks.{chunkAt, putChunk};
 ghost use Rattle.heap.specs.Table.{slot};
 ghost use Rattle.heap.specs.Object.{isFilled, codeOf};
 ghost use Rattle.heap.specs.Slot.{coroAt, objectAt, fieldsOf, fills, slotWords, stateWords, sleepWords};
-ghost use Rattle.heap.specs.Heap.{slotIn, putSlot};
+ghost use Rattle.heap.specs.Heap.{SlotFits, slotIn, putSlot};
 ghost use Rattle.heap.specs.declared.object.Object.the-variants.{Iter, Coro};
 use crate::object::CoroObj;
 use crate::object::CoroState;
 use crate::object::Object;
 use crate::value::Opt;
+
+// The words of a slot.
+pub const WIDTH: usize = 20;
 
 // The coroutine in a slot's words.
 fn coro_of(s: &[u64]) -> CoroObj
@@ -155,49 +157,49 @@ fn words_of(tag: u64, o: Object) -> [u64; 20]
 
 // The object at place i.
 pub fn object_at(slots: &[u64], i: usize) -> Object
-    requires { ⌜ i * 20 + 20 ≤ length (now slots) ⌝ }
+    requires { ⌜ SlotFits (now slots) i ⌝ }
     ensures { λ r. ⌜ r ≡ slotIn (now (slots .entry)) i .object ⌝ }
 {
-    let b = i * 20;
-    let e = b + 20;
+    let b = i * WIDTH;
+    let e = b + WIDTH;
     object_of(&slots[b..e])
 }
 
 // Whether a coroutine stands at place i.
 pub(crate) fn is_coro(slots: &[u64], i: usize) -> bool
-    requires { ⌜ i * 20 + 20 ≤ length (now slots) ⌝ }
+    requires { ⌜ SlotFits (now slots) i ⌝ }
     ensures { λ r. ⌜ r ≡ eqb (getD (chunkAt 20 (now (slots .entry)) i) 1 0) 6 ⌝ }
 {
-    let b = i * 20;
+    let b = i * WIDTH;
     slots[b + 1] == 6
 }
 
 // The coroutine at place i.
 pub fn coro_at(slots: &[u64], i: usize) -> CoroObj
-    requires { ⌜ i * 20 + 20 ≤ length (now slots) ⌝ }
+    requires { ⌜ SlotFits (now slots) i ⌝ }
     ensures { λ r. ⌜ r ≡ coroAt (chunkAt 20 (now (slots .entry)) i) ⌝ }
 {
-    let b = i * 20;
-    let e = b + 20;
+    let b = i * WIDTH;
+    let e = b + WIDTH;
     coro_of(&slots[b..e])
 }
 
 // The tag at place i.
 pub(crate) fn tag_at(slots: &[u64], i: usize) -> u64
-    requires { ⌜ i * 20 + 20 ≤ length (now slots) ⌝ }
+    requires { ⌜ SlotFits (now slots) i ⌝ }
     ensures { λ r. ⌜ r ≡ slotIn (now (slots .entry)) i .tag ⌝ }
 {
-    let b = i * 20;
+    let b = i * WIDTH;
     slots[b]
 }
 
 // Slot i replaced.
 pub fn put_slot(slots: &mut [u64], i: usize, tag: u64, o: Object)
-    requires { ⌜ i * 20 + 20 ≤ length (now slots) ⌝ }
+    requires { ⌜ SlotFits (now slots) i ⌝ }
     ensures { λ r. ⌜ now (slots .exit) ≡ putSlot (now (slots .entry)) i (slot tag o) ⌝ }
 {
-    let b = i * 20;
-    let e = b + 20;
+    let b = i * WIDTH;
+    let e = b + WIDTH;
     let words = words_of(tag, o);
     lists::copy_words(&mut slots[b..e], &words);
 }
@@ -231,21 +233,21 @@ fn write_sleep(s: &mut [u64], c: CoroObj)
 
 // The coroutine at place i in another state, with so many registers and frames saved: three words.
 pub fn put_state(slots: &mut [u64], i: usize, state: CoroState, regs: u64, frames: u64)
-    requires { ⌜ i * 20 + 20 ≤ length (now slots) ⌝ }
+    requires { ⌜ SlotFits (now slots) i ⌝ }
     ensures { λ _. ⌜ now (slots .exit) ≡ putChunk 20 (now (slots .entry)) i (stateWords (codeOf state) regs frames (chunkAt 20 (now (slots .entry)) i)) ⌝ }
 {
-    let b = i * 20;
-    let e = b + 20;
+    let b = i * WIDTH;
+    let e = b + WIDTH;
     write_state(&mut slots[b..e], state.code(), regs, frames);
 }
 
 // The coroutine at place i asleep: the words that a suspension changes.
 pub fn put_sleep(slots: &mut [u64], i: usize, c: CoroObj)
-    requires { ⌜ i * 20 + 20 ≤ length (now slots) ⌝ }
+    requires { ⌜ SlotFits (now slots) i ⌝ }
     ensures { λ _. ⌜ now (slots .exit) ≡ putChunk 20 (now (slots .entry)) i (sleepWords c (chunkAt 20 (now (slots .entry)) i)) ⌝ }
 {
-    let b = i * 20;
-    let e = b + 20;
+    let b = i * WIDTH;
+    let e = b + WIDTH;
     write_sleep(&mut slots[b..e], c);
 }
 
@@ -266,10 +268,10 @@ fn fills(kind: u64) -> bool
 
 // Whether an object stands at place i.
 pub(crate) fn filled_at(slots: &[u64], i: usize) -> bool
-    requires { ⌜ i * 20 + 20 ≤ length (now slots) ⌝ }
+    requires { ⌜ SlotFits (now slots) i ⌝ }
     ensures { λ r. ⌜ r ≡ isFilled (slotIn (now (slots .entry)) i .object) ⌝ }
 {
-    let b = i * 20;
+    let b = i * WIDTH;
     let kind = slots[b + 1];
     fills(kind)
 }

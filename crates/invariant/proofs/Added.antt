@@ -1,10 +1,9 @@
 -- The added calls keep a sound world sound, and none answers 11.
 use mathlib.Core.Path.{_≡_, refl, sym, ap, _∙_}
 use mathlib.Core.Bool.{Bool, true, false, not, _&&_, _||_}
-use Prim.Native.Nat.{ℕ, _+_, _^_}
+use Prim.Native.Nat.{ℕ, _^_}
 use lib.ListN.{length}
-use lib.Dec.{eqb, ltb, leb}
-use borrow.Author.Tests.{not-false}
+use lib.Dec.{eqb, ltb}
 use Rattle.heap.specs.Word.{nil}
 use Rattle.heap.specs.declared.value.Opt.{Opt}
 use Rattle.model.specs.Lists.{isNil}
@@ -15,8 +14,7 @@ use Rattle.model.specs.World.{World, andThen}
 use Rattle.model.specs.Frames.{isEntry, isCoro, storePc}
 use Rattle.model.specs.Heap.{coro}
 use Rattle.model.specs.Cleanup.{spawnTask}
-use Rattle.model.specs.Gate.{inFrame}
-use Rattle.model.specs.Added.{answerMade, pushedOr, hostCall, hostArrive, hostEntry, contAllowed, functionCall, putWord, iteratorOver, makeIterator, takeOutcome, handOverAs, handOver, reserve, refuel, grant, stopRun}
+use Rattle.model.specs.Added.{answerMade, pushedOr, hostCall, hostArrive, hostEntry, contAllowed, functionCall, putWord, iteratorOver, makeIterator, takeOutcome, handOverAs, handOver, refuel, granted, grantTooLarge, grant, stopRun}
 use Rattle.model.specs.Sound.{contLies, isNone}
 use Rattle.model.specs.declared.machine.Cont.{Cont}
 use Rattle.model.specs.declared.machine.Driver.{Driver}
@@ -43,14 +41,9 @@ answer-made : {ex : Bool} (u : World) (m : Made) → Sound ex u → madeFine m �
 answer-made u (Made.Word v) h e = good h refl
 answer-made u (Made.Refused f) h e = good h e
 
-pub host-call-good : {ex : Bool} (f : ℕ) (w : World) → Sound ex w → Good ex Fine (hostCall f w)
+pub host-call-good : {ex : Bool} (f : ℕ) (w : World) → isNil (w .frames) ≡ true → isFunction (w .setup) f ≡ true → Sound ex w → Good ex Fine (hostCall f w)
 unfolding hostCall
-host-call-good {ex} f w h =
-    picked (Good ex Fine) (not (isNil (w .frames))) (λ _. good h refl)
-    (λ empty.
-    picked (Good ex Fine) (not (isFunction (w .setup) f)) (λ _. good h refl)
-    (λ is.
-    then-good (pushedOr w) (push-good f nil Cont.Entry w h (not-false (isFunction (w .setup) f) is) refl (not-false (isNil (w .frames)) empty) refl refl) (λ u m k e. pushed-or w u m h k e)))
+host-call-good f w empty is h = then-good (pushedOr w) (push-good f nil Cont.Entry w h is refl empty refl refl) (λ u m k e. pushed-or w u m h k e)
 
 host-arrive : {ex : Bool} (v : ℕ) (u : World) (e : Entered) → Sound ex u → enteredFine e ≡ true → Good ex Fine (hostArrive v u e)
 host-arrive v u Entered.Fresh h f = good h refl
@@ -59,8 +52,7 @@ host-arrive v u (Entered.Refused x) h f = good h f
 
 pub host-entry-good : {ex : Bool} (c v : ℕ) (w : World) → Sound ex w → Good ex Fine (hostEntry c v w)
 unfolding hostEntry
-host-entry-good {ex} c v w h =
-    picked (Good ex Fine) (not (isNil (w .frames))) (λ _. good h refl) (λ _. then-good (hostArrive v) (enter-good c Driver.Host w h refl) (λ u e k f. host-arrive v u e k f))
+host-entry-good c v w h = then-good (hostArrive v) (enter-good c Driver.Host w h refl) (λ u e k f. host-arrive v u e k f)
 
 -- a continuation that is allowed is neither Coro nor Entry, and its register lies in the top frame
 cont-coro : (w : World) (c : Cont) → contAllowed w c ≡ true → isCoro c ≡ false
@@ -87,24 +79,18 @@ cont-lies pc w (Cont.Value r) s e = top-under (storePc pc w) r (calm-top r (calm
 cont-lies pc w Cont.Discard s e = refl
 cont-lies pc w Cont.Coro s e = refl
 
-pub function-call-good : {ex : Bool} (pc f : ℕ) (cont : Cont) (w : World) → ltb pc (2 ^ 32) ≡ true → Sound ex w → Good ex Fine (functionCall pc f cont w)
+pub function-call-good : {ex : Bool} (pc f : ℕ) (cont : Cont) (w : World) → ltb pc (2 ^ 32) ≡ true → isNil (w .frames) ≡ false → (isFunction (w .setup) f && contAllowed w cont) ≡ true → Sound ex w → Good ex Fine (functionCall pc f cont w)
 unfolding functionCall
-function-call-good {ex} pc f cont w p h =
-    picked (Good ex Fine) (isNil (w .frames)) (λ _. good h refl)
-    (λ some.
-    picked (Good ex Fine) (not (isFunction (w .setup) f && contAllowed w cont)) (λ _. good h refl)
-    (λ ok.
-    let both = not-false (isFunction (w .setup) f && contAllowed w cont) ok in
+function-call-good pc f cont w p some both h =
     let c : contAllowed w cont ≡ true = and-right (isFunction (w .setup) f) (contAllowed w cont) both in
     then-good (pushedOr w)
     (push-good f nil cont (storePc pc w) (store-sound pc w p h) (and-left (isFunction (w .setup) f) (contAllowed w cont) both) (cont-coro w cont c) (cont-entry w cont (isNil (storePc pc w .frames)) c)
     (cont-lies pc w cont some c) (or-right (isEntry cont || isCoro cont) _ (negate (calm-store pc w .some ∙ some))))
-    (λ u m k e. pushed-or w u m h k e)))
+    (λ u m k e. pushed-or w u m h k e)
 
 pub put-word-good : {ex : Bool} (r v : ℕ) (w : World) → Sound ex w → Good ex Fine (putWord r v w)
 unfolding putWord
-put-word-good {ex} r v w h =
-    picked (Good ex Fine) (isNil (w .frames)) (λ _. good h refl) (λ _. picked (Good ex Fine) (not (inFrame w r)) (λ _. good h refl) (λ _. good (put-sound r v w h) refl))
+put-word-good r v w h = good (put-sound r v w h) refl
 
 pub make-iterator-good : {ex : Bool} (v : ℕ) (w : World) → Sound ex w → Good ex Fine (makeIterator v w)
 unfolding makeIterator
@@ -137,9 +123,8 @@ refuel-ok (Opt.Some b) n f e h = ap (λ o. isNone o || eqb (f .fuel) 0) (sym e) 
 pub grant-good : {ex : Bool} (n : ℕ) (w : World) → Sound ex w → Good ex Fine (grant n w)
 unfolding grant
 grant-good {ex} n w h =
-    let sum = reserve (w .fuel .bank) (w .fuel) + n in
-    picked (Good ex Fine) (leb (2 ^ 64) sum) (λ _. good h refl)
-    (λ _. good (fuel-move w (refuel (w .fuel .bank) sum (w .fuel)) (w .finalizing) h (refuel-ok (w .fuel .bank) sum (w .fuel) refl (h .banked))) refl)
+    picked (Good ex Fine) (grantTooLarge n w) (λ _. good h refl)
+    (λ _. good (fuel-move w (refuel (w .fuel .bank) (granted n w) (w .fuel)) (w .finalizing) h (refuel-ok (w .fuel .bank) (granted n w) (w .fuel) refl (h .banked))) refl)
 
 pub stop-run-good : {ex : Bool} (w : World) → Sound ex w → Good ex Fine (stopRun w)
 unfolding stopRun

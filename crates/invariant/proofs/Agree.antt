@@ -35,6 +35,7 @@ use Rattle.model.specs.declared.coro.Keys.{Keys}
 use Rattle.model.specs.declared.coro.Entered.{Entered}
 use Rattle.model.specs.declared.coro.Suspension.{Suspension}
 use Rattle.model.specs.declared.coro.Started.{Started}
+use Rattle.model.specs.declared.call.OptPc.{OptPc}
 use Rattle.heap.specs.declared.heap.ResultKind.{ResultKind}
 use Rattle.invariant.specs.Reachable.{finalOf, finals, oneIf, AgreeOf, Owing, Agree, hostLow, hostsLow}
 use Rattle.invariant.proofs.Tests.{no-false, no-true, or-left, or-right, or-else, and-right, picked, both}
@@ -293,10 +294,10 @@ done-good n w h = arm-agree (spend w) (spend-agree w h)
 or-agree : (s : After Started) → Ag s → Ag (chargeOr s)
 or-agree s h = picked Ag (s .answer .entered) (λ _. h) (λ _. done-good (s .answer .taken) (s .world) h)
 
-at-agree : (pc : Opt) (w : World) → Agree w → Ag (chargeAt pc w)
+at-agree : (pc : OptPc) (w : World) → Agree w → Ag (chargeAt pc w)
 unfolding startFinalizer
-at-agree Opt.None w h = done-good 0 w h
-at-agree (Opt.Some pc) w h =
+at-agree OptPc.None w h = done-good 0 w h
+at-agree (OptPc.Some pc) w h =
     picked Ag (w .fuel .ready)
     (λ r. or-agree (startFinalizer (storePc pc w)) (start-agree (w .finalize) 0 (unbank (storePc pc w)) (h .hosts) (idle r) (unbank-at (w .fuel .bank) (w .fuel) refl))) (λ _. done-good 0 w h)
   where
@@ -308,7 +309,7 @@ at-agree (Opt.Some pc) w h =
         go true e = no-true (sym r ∙ h .ready ∙ ap (λ b. not b && not (isNil (w .finalize))) e)
         go false e = let a : 0 + finals (w .chain) ≡ 0 = h .active ∙ ap oneIf e in omega arith
 
-pub charge-agree : (pc : Opt) (w : World) → Agree w → Ag (charge pc w)
+pub charge-agree : (pc : OptPc) (w : World) → Agree w → Ag (charge pc w)
 unfolding charge chargeSlow
 charge-agree pc w h =
     picked Ag (eqb (w .fuel .fuel) 0) (λ _. picked Ag (eqb (unbank w .fuel .fuel) 0) (λ _. unbank-agree w h) (λ _. at-agree pc (unbank w) (unbank-agree w h))) (λ _. spend-agree w h)

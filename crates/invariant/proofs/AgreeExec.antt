@@ -30,6 +30,7 @@ use Rattle.model.specs.declared.coro.Entered.{Entered}
 use Rattle.model.specs.declared.coro.Keys.{Keys}
 use Rattle.model.specs.declared.coro.AutoKey.{AutoKey}
 use Rattle.model.specs.declared.coro.Suspension.{Suspension}
+use Rattle.model.specs.declared.call.OptPc.{OptPc}
 use Rattle.invariant.specs.Reachable.{Agree}
 use Rattle.invariant.proofs.Tests.{picked}
 use Rattle.invariant.proofs.Agree.{Ag, Suspended, change-owing, done-agree, int-agree, create-agree, enter-agree, suspend-agree, deliver-agree, charge-agree}
@@ -64,7 +65,7 @@ hook-agree hook pc dst c w Charge.Spent h = h
 hook-agree hook pc dst c w (Charge.Close n) h = then-ag (pushFrame hook nil (Cont.Value dst) (storePc pc w)) (hooked w c) (push-agree hook nil (Cont.Value dst) (storePc pc w) h) (λ u m k. hooked-agree w c u m h k)
 
 spawn-made : (hook pc dst : ℕ) (w : World) (m : Made) → Agree w → Ag (spawnMade hook pc dst w m)
-spawn-made hook pc dst w (Made.Word c) h = then-ag (charge Opt.None w) (callHook hook pc dst c) (charge-agree Opt.None w h) (hook-agree hook pc dst c)
+spawn-made hook pc dst w (Made.Word c) h = then-ag (charge OptPc.None w) (callHook hook pc dst c) (charge-agree OptPc.None w h) (hook-agree hook pc dst c)
 spawn-made hook pc dst w (Made.Refused f) h = h
 
 deliver-all : (u : World) (s : Suspension) → Suspended u s → Ag (deliverAll u s)

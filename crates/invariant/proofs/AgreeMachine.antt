@@ -7,13 +7,13 @@ use lib.Dec.{eqb, ltb, leb}
 use Rattle.heap.specs.Fault as Faults
 use Rattle.heap.specs.declared.fault.Fault.{Fault}
 use Rattle.heap.specs.declared.value.Opt.{Opt}
-use Rattle.model.specs.Program.{func, firstOf, between}
+use Rattle.model.specs.Program.{func, firstOf}
 use Rattle.model.specs.World.{World, After, andThen}
 use Rattle.model.specs.Frames.{topFunc, topPc, popTo}
 use Rattle.model.specs.Heap.{alloc, toDyn}
 use Rattle.model.specs.Coro.{coroEscaped}
 use Rattle.model.specs.Cleanup.{charge}
-use Rattle.model.specs.Machine.{pushFrame, resultOf, writeResult, writeMade, applyCont, isOk, resumeIn, returnMade, finishAs, finishOn, finish, caught, stopOr, escape, searchAs, search, searchMade, errorOf, unwindFault, storeSome, unwind}
+use Rattle.model.specs.Machine.{pushFrame, resultOf, writeResult, writeMade, applyCont, isOk, resumeIn, returnMade, finishAs, finishOn, finish, caught, stopOr, escape, searchAs, search, searchMade, errorOf, unwindFault, storeSome, raisable, unwind}
 use Rattle.model.specs.declared.program.Handler.{Handler}
 use Rattle.model.specs.declared.program.Caught.{Caught}
 use Rattle.model.specs.declared.machine.Cont.{Cont}
@@ -21,6 +21,7 @@ use Rattle.model.specs.declared.machine.Frame.{Frame}
 use Rattle.model.specs.declared.machine.Charge.{Charge}
 use Rattle.model.specs.declared.coro.Made.{Made}
 use Rattle.heap.specs.declared.heap.ResultKind.{ResultKind}
+use Rattle.model.specs.declared.call.OptPc.{OptPc}
 use Rattle.model.specs.declared.call.Answer.{Answer}
 use Rattle.invariant.specs.Reachable.{Agree}
 use Rattle.invariant.proofs.Tests.{picked}
@@ -97,7 +98,7 @@ search-agree (x ∷ xs) value fn pc w h = go (firstOf (x .pc) (func (w .setup) (
   where
     go : (c : Caught) → ((u : World) → Agree u → Ag (search xs value fn pc u)) → Ag (searchAs c x xs value fn pc (search xs value fn pc) w)
     go Caught.Nothing next = escape-agree (x .cont) value fn pc (search xs value fn pc) next (popTo x xs w) h
-    go (Caught.By y) next = then-ag (charge Opt.None w) (caught y value) (charge-agree Opt.None w h) (caught-agree y value)
+    go (Caught.By y) next = then-ag (charge OptPc.None w) (caught y value) (charge-agree OptPc.None w h) (caught-agree y value)
 
 pub search-made : (u : World) (m : Made) → Agree u → Ag (searchMade u m)
 search-made u (Made.Word v) h = search-agree (u .frames) v (topFunc (u .frames)) (topPc (u .frames)) u h
@@ -108,10 +109,10 @@ fault-agree f w h =
     picked Ag (eqb (Faults.numberOf f) 17) (λ _. search-agree (w .frames) (Faults.wordOf f) (topFunc (w .frames)) (topPc (w .frames)) w h)
     (λ _. picked Ag (leb (Faults.numberOf f) 8) (λ _. then-ag (alloc (w .setup .costs .error) (errorOf f w) w) searchMade (alloc-agree (w .setup .costs .error) (errorOf f w) w h) search-made) (λ _. h))
 
-pub some-agree : (pc : Opt) (w : World) → Agree w → Agree (storeSome pc w)
-some-agree Opt.None w h = h
-some-agree (Opt.Some pc) w h = h
+pub some-agree : (pc : OptPc) (w : World) → Agree w → Agree (storeSome pc w)
+some-agree OptPc.None w h = h
+some-agree (OptPc.Some pc) w h = h
 
-pub unwind-agree : (f : Fault) (pc : Opt) (w : World) → Agree w → Ag (unwind f pc w)
+pub unwind-agree : (f : Fault) (pc : OptPc) (w : World) → Agree w → Ag (unwind f pc w)
 unfolding unwind
-unwind-agree f pc w h = picked Ag (between 1 10 (Faults.numberOf f) || eqb (Faults.numberOf f) 17) (λ _. fault-agree f (storeSome pc w) (some-agree pc w h)) (λ _. h)
+unwind-agree f pc w h = picked Ag (raisable f) (λ _. fault-agree f (storeSome pc w) (some-agree pc w h)) (λ _. h)

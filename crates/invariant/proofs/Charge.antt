@@ -6,7 +6,6 @@ use Prim.Native.Nat.{ℕ, suc}
 use lib.Dec.{eqb}
 use borrow.Author.Tests.{not-true}
 use Rattle.heap.specs.Word.{nil}
-use Rattle.heap.specs.declared.value.Opt.{Opt}
 use Rattle.model.specs.Lists.{isNil}
 use Rattle.model.specs.State.{isResumable}
 use Rattle.model.specs.Object.{Coroutine, Absent, Is}
@@ -21,6 +20,7 @@ use Rattle.model.specs.declared.machine.Driver.{Driver}
 use Rattle.model.specs.declared.machine.Frame.{Frame}
 use Rattle.model.specs.declared.machine.Charge.{Charge}
 use Rattle.model.specs.declared.coro.Started.{Started}
+use Rattle.model.specs.declared.call.OptPc.{OptPc}
 use Rattle.invariant.proofs.Tests.{no-true, and-left, picked}
 use Rattle.invariant.proofs.Queue.{Queue, queue-tail}
 use Rattle.invariant.proofs.Sound.{Sound}
@@ -60,11 +60,11 @@ start-good {ex} (c ∷ queue) n w h q =
 -- ---- charges
 
 -- only a charge that starts a cleanup, which one without a pc does not, moves the frames
-abbrev pub Charging : Opt → World → World → Charge → Type 0
+abbrev pub Charging : OptPc → World → World → Charge → Type 0
 Charging pc w u (Charge.Done n) = Calm w u
 Charging pc w u Charge.Spent = Calm w u
-Charging Opt.None w u (Charge.Close n) = Calm w u
-Charging (Opt.Some pc) w u (Charge.Close n) = Unit {0}
+Charging OptPc.None w u (Charge.Close n) = Calm w u
+Charging (OptPc.Some pc) w u (Charge.Close n) = Unit {0}
 
 pub calm-store : (pc : ℕ) (w : World) → Calm w (storePc pc w)
 calm-store pc w = record { setup = refl; height = refl; base = base (w .frames); some = some (w .frames) }
@@ -77,29 +77,29 @@ calm-store pc w = record { setup = refl; height = refl; base = base (w .frames);
     some [] = refl
     some (f ∷ fs) = refl
 
-done-good : {ex : Bool} (pc : Opt) (n : ℕ) (w u : World) → Calm w u → Sound ex u → Good ex (Charging pc w) (chargeDone n u)
+done-good : {ex : Bool} (pc : OptPc) (n : ℕ) (w u : World) → Calm w u → Sound ex u → Good ex (Charging pc w) (chargeDone n u)
 done-good pc n w u c h = good (arm-sound _ (spend-sound u h)) (calm-then c (record { setup = refl; height = refl; base = refl; some = refl }))
 
-or-good : {ex : Bool} (pc : ℕ) (w u : World) (s : After Started) → Calm w u → Good ex (λ t x. x .entered ≡ false → Calm u t) s → Good ex (Charging (Opt.Some pc) w) (chargeOr s)
+or-good : {ex : Bool} (pc : ℕ) (w u : World) (s : After Started) → Calm w u → Good ex (λ t x. x .entered ≡ false → Calm u t) s → Good ex (Charging (OptPc.Some pc) w) (chargeOr s)
 or-good {ex} pc w u s c g =
-    picked (Good ex (Charging (Opt.Some pc) w)) (s .answer .entered) (λ _. good (g .sound) tt) (λ e. done-good (Opt.Some pc) (s .answer .taken) w (s .world) (calm-then c (g .fact e)) (g .sound))
+    picked (Good ex (Charging (OptPc.Some pc) w)) (s .answer .entered) (λ _. good (g .sound) tt) (λ e. done-good (OptPc.Some pc) (s .answer .taken) w (s .world) (calm-then c (g .fact e)) (g .sound))
 
-at-good : {ex : Bool} (pc : Opt) (w u : World) → optPc pc ≡ true → Calm w u → Sound ex u → Good ex (Charging pc w) (chargeAt pc u)
+at-good : {ex : Bool} (pc : OptPc) (w u : World) → optPc pc ≡ true → Calm w u → Sound ex u → Good ex (Charging pc w) (chargeAt pc u)
 unfolding startFinalizer
-at-good Opt.None w u e c h = done-good Opt.None 0 w u c h
-at-good {ex} (Opt.Some pc) w u e c h =
+at-good OptPc.None w u e c h = done-good OptPc.None 0 w u c h
+at-good {ex} (OptPc.Some pc) w u e c h =
     let t = storePc pc u in
     let k = store-sound pc u e h in
-    picked (Good ex (Charging (Opt.Some pc) w)) (u .fuel .ready)
-    (λ _. or-good pc w (unbank t) (startFinalizer t) (calm-then (calm-then c (calm-store pc u)) (record { setup = refl; height = refl; base = refl; some = refl })) (start-good (t .finalize) 0 (unbank t) (unbank-sound t k) (k .cleanups))) (λ _. done-good (Opt.Some pc) 0 w u c h)
+    picked (Good ex (Charging (OptPc.Some pc) w)) (u .fuel .ready)
+    (λ _. or-good pc w (unbank t) (startFinalizer t) (calm-then (calm-then c (calm-store pc u)) (record { setup = refl; height = refl; base = refl; some = refl })) (start-good (t .finalize) 0 (unbank t) (unbank-sound t k) (k .cleanups))) (λ _. done-good (OptPc.Some pc) 0 w u c h)
 
-slow-good : {ex : Bool} (pc : Opt) (w : World) → optPc pc ≡ true → Sound ex w → Good ex (Charging pc w) (chargeSlow pc w)
+slow-good : {ex : Bool} (pc : OptPc) (w : World) → optPc pc ≡ true → Sound ex w → Good ex (Charging pc w) (chargeSlow pc w)
 unfolding chargeSlow
 slow-good {ex} pc w e h =
     picked (Good ex (Charging pc w)) (eqb (unbank w .fuel .fuel) 0) (λ _. good (unbank-sound w h) (record { setup = refl; height = refl; base = refl; some = refl }))
     (λ _. at-good pc w (unbank w) e (record { setup = refl; height = refl; base = refl; some = refl }) (unbank-sound w h))
 
-pub charge-good : {ex : Bool} (pc : Opt) (w : World) → optPc pc ≡ true → Sound ex w → Good ex (Charging pc w) (charge pc w)
+pub charge-good : {ex : Bool} (pc : OptPc) (w : World) → optPc pc ≡ true → Sound ex w → Good ex (Charging pc w) (charge pc w)
 unfolding charge
 charge-good {ex} pc w e h =
     picked (Good ex (Charging pc w)) (eqb (w .fuel .fuel) 0) (λ _. slow-good pc w e h) (λ _. good (spend-sound w h) (record { setup = refl; height = refl; base = refl; some = refl }))

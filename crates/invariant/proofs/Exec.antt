@@ -34,6 +34,7 @@ use Rattle.model.specs.declared.coro.Keys.{Keys}
 use Rattle.model.specs.declared.coro.AutoKey.{AutoKey}
 use Rattle.model.specs.declared.coro.Suspension.{Suspension}
 use Rattle.model.specs.declared.exec.Step.{Step}
+use Rattle.model.specs.declared.call.OptPc.{OptPc}
 use Rattle.invariant.proofs.Tests.{no-false, and-left, both, picked, negate}
 use Rattle.invariant.proofs.Sound.{Sound, facts}
 use Rattle.invariant.proofs.Tower.{tower-move, tower-stack, put-sound, store-sound}
@@ -100,14 +101,14 @@ hook-good hook pc dst c w (Charge.Done n) h p e t = pushed-hook hook pc dst c w 
 hook-good hook pc dst c w Charge.Spent h p e t = good h refl
 hook-good hook pc dst c w (Charge.Close n) h p e t = pushed-hook hook pc dst c w h p e t
 
-none-calm : (w u : World) (x : Charge) → Charging Opt.None w u x → Calm w u
+none-calm : (w u : World) (x : Charge) → Charging OptPc.None w u x → Calm w u
 none-calm w u (Charge.Done n) c = c
 none-calm w u Charge.Spent c = c
 none-calm w u (Charge.Close n) c = c
 
 spawn-made : {ex : Bool} (hook pc dst : ℕ) (w : World) (m : Made) → Sound ex w → madeFine m ≡ true → ltb pc (2 ^ 32) ≡ true → isFunction (w .setup) hook ≡ true → InTop w dst → Good ex Stepping (spawnMade hook pc dst w m)
 spawn-made hook pc dst w (Made.Word c) h f p e t =
-    then-good (callHook hook pc dst c) (charge-good Opt.None w refl h)
+    then-good (callHook hook pc dst c) (charge-good OptPc.None w refl h)
     (λ u x k q. let l = none-calm w u x q in hook-good hook pc dst c u x k p (ap (λ s. isFunction s hook) (l .setup) ∙ e) (calm-top dst l t))
 spawn-made hook pc dst w (Made.Refused x) h f p e t = good h f
 

@@ -11,24 +11,25 @@ use borrow.Author.Tests.{lt-ltb}
 use Rattle.lists.specs.Pick.{pick, pick-true, pick-false}
 use Rattle.heap.specs.Table.{slot}
 use Rattle.heap.specs.declared.fault.Fault.{Fault}
-use Rattle.heap.specs.declared.value.Opt.{Opt}
 use Rattle.model.specs.Lists.{each}
 use Rattle.model.specs.Program.{Func, Setup, setupOk}
 use Rattle.model.specs.Object.{Object}
 use Rattle.model.specs.World.{World, After, functionObjects, fresh}
 use Rattle.model.specs.Rows.{heldRows}
-use Rattle.model.specs.Machine.{unwind, unwindFault, storeSome}
+use Rattle.model.specs.Machine.{raisable, unwind, unwindFault, storeSome}
 use Rattle.model.specs.Gate.{refused}
 use Rattle.model.specs.Added.{accepted}
 use Rattle.model.specs.Sound.{sound}
 use Rattle.model.specs.Answer.{numberOf}
-use Rattle.model.specs.Call.{Call, SetUp, Do, callOk}
-use Rattle.model.specs.Step.{Out, told, call, step, run}
+use Rattle.model.specs.Call.{Operation, Call, SetUp, Do}
+use Rattle.model.specs.Calls.{Row, Instruction, OnFrame, OnHost, Unwinds, Grants, Looks, Other, table}
+use Rattle.model.specs.Step.{Out, told, doing, call, tested, step, run}
+use Rattle.model.specs.declared.call.OptPc.{OptPc}
 use Rattle.model.specs.declared.call.Op.{Op}
 use Rattle.model.specs.declared.call.Answer.{Answer}
-use Rattle.invariant.specs.Kept.{inRange, raisable, raises, wellPut, runUntested, SoundnessKept}
+use Rattle.invariant.specs.Kept.{raises, wellPut, runUntested, SoundnessKept}
 use Rattle.invariant.specs.Reachable.{Reachable}
-use Rattle.invariant.proofs.Tests.{no-true, no-false, and-left, and-right, unnegate, picked}
+use Rattle.invariant.proofs.Tests.{no-true, no-false, unnegate, picked}
 use Rattle.invariant.proofs.Stand.{ground}
 use Rattle.invariant.proofs.Point.{at}
 use Rattle.invariant.proofs.Slots.{SlotOk}
@@ -89,105 +90,80 @@ fresh-sound s e =
 
 -- ---- one call
 
--- a call on a sound machine is not refused for the machine
-accepts : (w : World) (o : Op) → sound w ≡ true → step w (Do o) ≡ call o w
-unfolding step
+-- an operation on a sound machine is not refused for the machine
+accepts : (w : World) (o : Op) → sound w ≡ true → tested w o ≡ call o w
+unfolding tested
 accepts w o e = ap (λ b. pick b (call o w) (told (refused w Fault.Unsound))) e ∙ pick-true _ _
 
-done : {ex : Bool} (w : World) (o : Op) → Sound ex w → callOk o ≡ true → Sound ex (step w (Do o) .world)
-done {ex} w o h k = subst (λ (x : Out). Sound ex (x .world)) (sym (accepts w o (→sound w h))) (call-keeps o w k h .sound)
-
-next : {ex : Bool} (w : World) (c : Call) → Sound ex w → inRange c ≡ true → Sound ex (step w c .world)
+next : {ex : Bool} (w : World) (c : Call) → Sound ex w → Sound ex (step w c .world)
 unfolding step
-next {ex} w (SetUp s) h k = picked (λ (x : After Answer). Sound ex (x .world)) (setupOk s) (λ ok. fresh-sound s ok) (λ _. h)
-next w (Do o) h k = done w o h k
+next {ex} w (SetUp s) h = picked (λ (x : After Answer). Sound ex (x .world)) (setupOk s) (λ ok. fresh-sound s ok) (λ _. h)
+next {ex} w (Do o) h = subst (λ (x : Out). Sound ex (x .world)) (sym (accepts w (o .op) (→sound w h))) (call-keeps (o .op) w (o .within) h .sound)
 
 -- ---- lists of calls
 
-runs-on : {ex : Bool} (w : World) (cs : List Call) → Sound ex w → each inRange cs ≡ true → Sound ex (run w cs)
-runs-on w [] h k = h
-runs-on w (c ∷ cs) h k = runs-on (step w c .world) cs (next w c h (and-left (inRange c) _ k)) (and-right (inRange c) _ k)
+runs-on : {ex : Bool} (w : World) (cs : List Call) → Sound ex w → Sound ex (run w cs)
+runs-on w [] h = h
+runs-on w (c ∷ cs) h = runs-on (step w c .world) cs (next w c h)
 
 -- a machine that a list of calls reaches
-reached : (s : Setup) (cs : List Call) → setupOk s ≡ true → each inRange cs ≡ true → Sound true (run (fresh s) cs)
-reached s cs e k = runs-on (fresh s) cs (fresh-sound s e) k
+reached : (s : Setup) (cs : List Call) → setupOk s ≡ true → Sound true (run (fresh s) cs)
+reached s cs e = runs-on (fresh s) cs (fresh-sound s e)
 
 plainly : (w : World) → sound w ≡ true → Sound false w
 plainly w e = sound→ w e (λ z. no-false z)
 
-eleven : {ex : Bool} (w : World) (c : Call) → Sound ex w → inRange c ≡ true → eqb (numberOf (step w c .answer)) 11 ≡ true → wellPut c ≡ false
+eleven : {ex : Bool} (w : World) (c : Call) → Sound ex w → eqb (numberOf (step w c .answer)) 11 ≡ true → wellPut c ≡ false
 unfolding step
-eleven w (SetUp s) h k n = picked (λ (x : After Answer). eqb (numberOf (x .answer)) 11 ≡ true → setupOk s ≡ false) (setupOk s) (λ _ z. no-false z) (λ no z. no) n
-eleven w (Do o) h k n = go (raises o) refl
+eleven w (SetUp s) h n = picked (λ (x : After Answer). eqb (numberOf (x .answer)) 11 ≡ true → setupOk s ≡ false) (setupOk s) (λ _ z. no-false z) (λ no z. no) n
+eleven w (Do o) h n = go (raises (table (o .op))) refl
   where
-    go : (b : Bool) → raises o ≡ b → b ≡ false
+    go : (b : Bool) → raises (table (o .op)) ≡ b → b ≡ false
     go true q =
-        let f = call-keeps o w k h .fine q in
-        let m : eqb (numberOf (call o w .answer)) 11 ≡ true = subst (λ (x : Out). eqb (numberOf (x .answer)) 11 ≡ true) (accepts w o (→sound w h)) n in
-        no-true (sym m ∙ unnegate (eqb (numberOf (call o w .answer)) 11) f)
+        let f = call-keeps (o .op) w (o .within) h .fine q in
+        let m : eqb (numberOf (call (o .op) w .answer)) 11 ≡ true = subst (λ (x : Out). eqb (numberOf (x .answer)) 11 ≡ true) (accepts w (o .op) (→sound w h)) n in
+        no-true (sym m ∙ unnegate (eqb (numberOf (call (o .op) w .answer)) 11) f)
     go false q = refl
 
-unraisable : (f : Fault) (pc : Opt) (w : World) → raisable f ≡ false → unwind f pc w .answer ≡ Answer.Refused Fault.Unsound
+unraisable : (f : Fault) (pc : OptPc) (w : World) → raisable f ≡ false → unwind f pc w .answer ≡ Answer.Refused Fault.Unsound
 unfolding unwind
 unraisable f pc w e = ap (λ b. pick b (unwindFault f (storeSome pc w)) (Rattle.model.specs.World.after w (Answer.Refused Fault.Unsound)) .answer) e ∙ ap (λ (x : After Answer). x .answer) (pick-false _ _)
 
-refuses : (o : Op) (w : World) → raises o ≡ false → call o w .answer ≡ Answer.Refused Fault.Unsound
-unfolding call
-refuses (Op.CoroNew pc dst f argc) w e = no-true e
-refuses (Op.CoroNewIndirect pc dst callee argc) w e = no-true e
-refuses (Op.Spawn pc dst callee argc) w e = no-true e
-refuses (Op.Yield pc dst src) w e = no-true e
-refuses (Op.YieldKv pc dst src key) w e = no-true e
-refuses (Op.Await pc dst src) w e = no-true e
-refuses (Op.Resume pc dst c src) w e = no-true e
-refuses (Op.ResumeThrow pc dst c src) w e = no-true e
-refuses (Op.CoroClose pc dst c src) w e = no-true e
-refuses (Op.CoroStatus pc dst c) w e = no-true e
-refuses (Op.CoroCurrent pc dst) w e = no-true e
-refuses (Op.CoroKey pc dst c) w e = no-true e
-refuses (Op.CoroResult pc dst c) w e = no-true e
-refuses (Op.IterNext pc has iter val src) w e = no-true e
-refuses (Op.Finish kind v) w e = no-true e
-refuses (Op.Unwind f pc) w e = unraisable f pc w e
-refuses (Op.SpawnTask v) w e = no-true e
-refuses (Op.HostCall f) w e = no-true e
-refuses (Op.HostEntry c v) w e = no-true e
-refuses (Op.FunctionCall pc f cont) w e = no-true e
-refuses (Op.PutWord r v) w e = no-true e
-refuses (Op.MakeIterator v) w e = no-true e
-refuses Op.TakeOutcome w e = no-true e
-refuses (Op.HandOver v) w e = no-true e
-refuses (Op.Grant n) w e = no-true e
-refuses Op.StopRun w e = no-true e
-refuses Op.Look w e = no-true e
+refuses : (r : Row) (w : World) → raises r ≡ false → doing r w .answer ≡ Answer.Refused Fault.Unsound
+refuses (Instruction pc operands arm) w e = no-true e
+refuses (OnFrame operands body) w e = no-true e
+refuses (OnHost operands body) w e = no-true e
+refuses (Unwinds f pc) w e = unraisable f pc w e
+refuses (Grants n) w e = no-true e
+refuses Looks w e = no-true e
+refuses (Other body) w e = no-true e
 
 badly : (w : World) (c : Call) → sound w ≡ true → wellPut c ≡ false → step w c .answer ≡ Answer.Refused Fault.Unsound
-unfolding step
+unfolding step call
 badly w (SetUp s) e k = ap (λ b. pick b (accepted (fresh s)) (refused w Fault.Unsound) .answer) k ∙ ap (λ (x : After Answer). x .answer) (pick-false _ _)
-badly w (Do o) e k = ap (λ (x : Out). x .answer) (accepts w o e) ∙ refuses o w k
+badly w (Do o) e k = ap (λ (x : Out). x .answer) (accepts w (o .op) e) ∙ refuses (table (o .op)) w k
 
-once : {ex : Bool} (w : World) (os : List Op) → Sound ex w → each callOk os ≡ true → run w (map Do os) ≡ runUntested w os
-once w [] h k = refl
-once w (o ∷ os) h k =
-    let e = and-left (callOk o) _ k in
-    ap (λ (x : Out). run (x .world) (map Do os)) (accepts w o (→sound w h)) ∙ once (call o w .world) os (call-keeps o w e h .sound) (and-right (callOk o) _ k)
+once : {ex : Bool} (w : World) (os : List Operation) → Sound ex w → run w (map Do os) ≡ runUntested w os
+unfolding step
+once w [] h = refl
+once w (o ∷ os) h = ap (λ (x : Out). run (x .world) (map Do os)) (accepts w (o .op) (→sound w h)) ∙ once (call (o .op) w .world) os (call-keeps (o .op) w (o .within) h .sound)
 
 pub soundness-kept : SoundnessKept
 soundness-kept =
     record {
-      kept = λ w o e k. →sound _ (done w o (plainly w e) k);
+      kept = λ w o e. →sound _ (next w (Do o) (plainly w e));
       begun = λ s e. →sound {ex = true} (fresh s) (fresh-sound s e);
-      lasts = λ s cs e k. →sound _ (reached s cs e k);
-      answers = λ s cs c e k r n. eleven _ c (reached s cs e k) r n;
-      refused = λ s cs c e k b. badly _ c (→sound _ (reached s cs e k)) b;
-      once = λ w os e k. once w os (plainly w e) k;
+      lasts = λ s cs e. →sound _ (reached s cs e);
+      answers = λ s cs c e n. eleven _ c (reached s cs e) n;
+      refused = λ s cs c e b. badly _ c (→sound _ (reached s cs e)) b;
+      once = λ w os e. once w os (plainly w e);
     }
 
 pub reachable : Reachable
 reachable =
     record {
-      exact-kept = λ w o e y k. →wide _ (done w o (sound→ w e (λ _. y)) k);
-      exactly = λ s cs e k. →wide _ (reached s cs e k);
+      exact-kept = λ w o e y. →wide _ (next w (Do o) (sound→ w e (λ _. y)));
+      exactly = λ s cs e. →wide _ (reached s cs e);
       agree-kept = step-agree;
       agree = run-agree;
     }

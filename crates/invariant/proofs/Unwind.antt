@@ -16,7 +16,7 @@ use Rattle.model.specs.Lists.{isNil, each}
 use Rattle.model.specs.Program.{Setup, func, isFunction, covers, firstOf, between, handlerOk}
 use Rattle.model.specs.World.{World, After, andThen}
 use Rattle.model.specs.Frames.{isEntry, isCoro, frame, topFunc, topPc, popTo}
-use Rattle.model.specs.Machine.{pushFrame, resultOf, orNil, writeResult, writeMade, applyCont, isOk, resumeIn, returnMade, finishAs, finishOn, finish, caught, stopOr, escape, searchAs, search, searchFrames, searchMade, errorOf, unwindFault, storeSome, unwind}
+use Rattle.model.specs.Machine.{pushFrame, resultOf, orNil, writeResult, writeMade, applyCont, isOk, resumeIn, returnMade, finishAs, finishOn, finish, caught, stopOr, escape, searchAs, search, searchFrames, searchMade, errorOf, unwindFault, storeSome, raisable, unwind}
 use Rattle.model.specs.Call.{optPc}
 use Rattle.model.specs.Sound.{contLies, frameNames}
 use Rattle.model.specs.declared.program.Handler.{Handler}
@@ -26,8 +26,8 @@ use Rattle.model.specs.declared.machine.Frame.{Frame}
 use Rattle.model.specs.declared.machine.Charge.{Charge}
 use Rattle.model.specs.declared.coro.Made.{Made}
 use Rattle.heap.specs.declared.heap.ResultKind.{ResultKind}
+use Rattle.model.specs.declared.call.OptPc.{OptPc}
 use Rattle.model.specs.declared.call.Answer.{Answer}
-use Rattle.invariant.specs.Kept.{raisable}
 use Rattle.invariant.specs.Reachable.{rooted}
 use Rattle.invariant.proofs.Tests.{no-true, and-left, and-right, both, negate, or-first, or-second, or-else, picked}
 use Rattle.invariant.proofs.Stand.{names-of}
@@ -159,7 +159,7 @@ module _ (value fn pc : ℕ) (a : ltb fn (2 ^ 32) ≡ true) (b : ltb pc (2 ^ 32)
           let ok : handlerOk (func s (x .func) .regs) y ≡ true =
           first-in (handlerOk (func s (x .func) .regs)) (x .pc) (func s (x .func) .handlers) y (handlers-ok s (x .func) (facts s (h .setup)) is) q in
           let t : ltb (y .target) (2 ^ 32) ≡ true = and-right (ltb (y .catch) (func s (x .func) .regs) && ltb (y .start) (2 ^ 32) && ltb (y .end) (2 ^ 32)) (ltb (y .target) (2 ^ 32)) ok in
-          then-good (caught y value) (charge-good Opt.None w refl h) (λ u c k p. caught-good y value u c t k)
+          then-good (caught y value) (charge-good OptPc.None w refl h) (λ u c k p. caught-good y value u c t k)
 
 top-func-small : (s : Setup) (fs : List Frame) → Facts s → each (frameNames s) fs ≡ true → ltb (topFunc fs) (2 ^ 32) ≡ true
 top-func-small s [] k e = refl
@@ -196,11 +196,11 @@ fault-good {ex} f w h range =
     (λ u m k p. made-good u m k (p .fine)))
     (λ _. good h (negate (ne-eqb n 11 (λ z. let t = leb-true n 10 (and-right (leb 1 n) (leb n 10) low) in omega arith)))))
 
-some-sound : {ex : Bool} (pc : Opt) (w : World) → optPc pc ≡ true → Sound ex w → Sound ex (storeSome pc w)
-some-sound Opt.None w e h = h
-some-sound (Opt.Some pc) w e h = store-sound pc w e h
+some-sound : {ex : Bool} (pc : OptPc) (w : World) → optPc pc ≡ true → Sound ex w → Sound ex (storeSome pc w)
+some-sound OptPc.None w e h = h
+some-sound (OptPc.Some pc) w e h = store-sound pc w e h
 
-pub unwind-good : {ex : Bool} (f : Fault) (pc : Opt) (w : World) → optPc pc ≡ true → Sound ex w → Good ex (λ _ a. raisable f ≡ true → answerFine a ≡ true) (unwind f pc w)
+pub unwind-good : {ex : Bool} (f : Fault) (pc : OptPc) (w : World) → optPc pc ≡ true → Sound ex w → Good ex (λ _ a. raisable f ≡ true → answerFine a ≡ true) (unwind f pc w)
 unfolding unwind
 unwind-good {ex} f pc w e h =
     picked (Good ex (λ _ a. raisable f ≡ true → answerFine a ≡ true)) (raisable f)

@@ -12,15 +12,13 @@ use Rattle.model.specs.Object.{Coroutine, Absent, Is, asCoro}
 use Rattle.model.specs.World.{World, fresh}
 use Rattle.model.specs.Frames.{isEntry, isCoro}
 use Rattle.model.specs.Sound.{isNone, sound}
-use Rattle.model.specs.Call.{Call, Do, callOk}
+use Rattle.model.specs.Call.{Operation, Call, Do}
 use Rattle.model.specs.Step.{step, run}
-use Rattle.model.specs.declared.call.Op.{Op}
 use Rattle.model.specs.declared.machine.Cont.{Cont}
 use Rattle.model.specs.declared.machine.Driver.{Driver}
 use Rattle.model.specs.declared.machine.Active.{Active}
 use Rattle.model.specs.declared.machine.Frame.{Frame}
 use Rattle.model.specs.declared.machine.Fuel.{Fuel}
-use Rattle.invariant.specs.Kept.{inRange}
 
 -- at the bottom stands an Entry or a Coro frame
 abbrev pub rooted : Cont → List Frame → Bool
@@ -82,8 +80,8 @@ Agree w = Owing 0 w
 pub record Reachable : Type 0 where
   -- every frame, saved ones too, is as wide as its function's register count, the bottom frame is Entry or Coro, and a Created
   -- coroutine has one frame: kept by each call, and so after every list of them
-  pub exact-kept : (w : World) (o : Op) → sound w ≡ true → exactOk w ≡ true → callOk o ≡ true → exactOk (step w (Do o) .world) ≡ true
-  pub exactly : (s : Setup) (cs : List Call) → setupOk s ≡ true → each inRange cs ≡ true → exactOk (run (fresh s) cs) ≡ true
+  pub exact-kept : (w : World) (o : Operation) → sound w ≡ true → exactOk w ≡ true → exactOk (step w (Do o) .world) ≡ true
+  pub exactly : (s : Setup) (cs : List Call) → setupOk s ≡ true → exactOk (run (fresh s) cs) ≡ true
   -- ready, bank and finalizing agree with the queue and the chain, and the host drives at floor 0 only
   pub agree-kept : (w : World) (c : Call) → Agree w → Agree (step w c .world)
   pub agree : (s : Setup) (cs : List Call) → Agree (run (fresh s) cs)

@@ -5,7 +5,7 @@ use Prim.Native.Nat.{ℕ, zero, suc, _+_, _*_, _≤_, _<_}
 use native.Mathlib.Omega.{arith}
 use native.Mathlib.Nat.{suc-mul, zero-mul, le-of-suc-le-suc}
 use lib.ListN.{length, take, drop, getD, set, length-drop, length-append, take-append-drop}
-use lib.Seq.{drop-drop, take-at, drop-at, take-add, length-take-le, getD-take, getD-drop}
+use lib.Seq.{drop-drop, take-at, drop-at, take-add, length-take-le, getD-take, getD-drop, take-set-le, take-set-lt, drop-set-add, drop-set-lt}
 use Rattle.lists.specs.Chunks.{chunks, words, chunkAt, putChunk}
 
 turn : (w i : ℕ) → suc i * w ≡ w + i * w
@@ -23,6 +23,32 @@ chunk-get w i k ws h = getD-take w (drop (i * w) ws) k 0 h ∙ getD-drop (i * w)
 
 pub length-chunk : (w i : ℕ) (ws : List ℕ) → i * w + w ≤ length ws → length (chunkAt w ws i) ≡ w
 length-chunk w i ws h = length-take-le w (drop (i * w) ws) (simp length-drop (omega arith))
+
+-- word k of the record at place i stored
+module _ (w i k v : ℕ) (ws : List ℕ) (h : k < w) where
+  abbrev at : ℕ
+  at = i * w + k
+
+  pub chunk-set : set ws at v ≡ putChunk w ws i (set (chunkAt w ws i) k v)
+  chunk-set =
+      sym (take-append-drop (i * w) (set ws at v))
+      ∙ rw (take-set-le (i * w) ws at v (omega arith), drop-set-add (i * w) ws k v)
+      (ap (λ (l : List ℕ). take (i * w) ws ++ l)
+      (sym (take-append-drop w (set (drop (i * w) ws) k v)) ∙ rw (take-set-lt w (drop (i * w) ws) k v h, drop-set-lt w (drop (i * w) ws) k v h)))
+
+  pub chunk-after : chunkAt w (set ws at v) i ≡ set (chunkAt w ws i) k v
+  chunk-after = rw (drop-set-add (i * w) ws k v, take-set-lt w (drop (i * w) ws) k v h)
+
+  pub put-after : (us : List ℕ) → putChunk w (set ws at v) i us ≡ putChunk w ws i us
+  put-after us = rw (take-set-le (i * w) ws at v (omega arith), drop-set-add (i * w) ws k v, drop-set-lt w (drop (i * w) ws) k v h)
+
+-- and another of its words
+pub chunk-set-two : (w i k l v u : ℕ) (ws : List ℕ) → k < w → l < w
+    → set (set ws (i * w + k) v) (i * w + l) u ≡ putChunk w ws i (set (set (chunkAt w ws i) k v) l u)
+chunk-set-two w i k l v u ws h g =
+    chunk-set w i l u (set ws (i * w + k) v) g
+    ∙ ap (λ (z : List ℕ). putChunk w (set ws (i * w + k) v) i (set z l u)) (chunk-after w i k v ws h)
+    ∙ put-after w i k v ws h (set (set (chunkAt w ws i) k v) l u)
 
 module _ {A : Type 0} (w : ℕ) (dec : List ℕ → A) where
   pub length-chunks : (n : ℕ) (ws : List ℕ) → length (chunks w dec n ws) ≡ n

@@ -125,7 +125,7 @@ module _ (l : Sizes) (w : World) (M : Lent) (m : Machine) (fuel : Fuel) (rep : R
       width-is : n ≡ func s f .regs
       width-is = regs-in s (M .setup) (rep .setup) f function
 
-      same-test : (leb (s .limits .depth) (length (w .frames)) || ltb (s .limits .stack) (length (w .stack) + func s f .regs)) ≡ overflowing m l n
+      pub same-test : (leb (s .limits .depth) (length (w .frames)) || ltb (s .limits .stack) (length (w .stack) + func s f .regs)) ≡ overflowing m l n
       same-test =
           ap₂ (λ a b. leb a (length (w .frames)) || ltb b (length (w .stack) + func s f .regs)) (sym (rep .sizes .depth)) (sym (rep .sizes .stack))
           ∙ ap₂ (λ a b. leb (l .depth) a || ltb (l .stack) (b + func s f .regs)) (sym (rep .frames .count)) (sym (rep .stack .count))

@@ -4,8 +4,11 @@ use mathlib.Core.List.{List, [], _∷_}
 use Prim.Native.Nat.{ℕ, _+_, _-_, _*_, _^_, _≤_, _<_}
 use lib.ListN.{length, getD}
 use lib.Dec.{ltb, leb}
-use Rattle.model.specs.World.{World}
-use Rattle.model.specs.Frames.{popTo}
+use Rattle.model.specs.World.{World, After, after, andThen}
+use Rattle.model.specs.Frames.{storePc, popTo}
+use Rattle.model.specs.Machine.{pushFrame}
+use Rattle.model.specs.declared.coro.Made.{Made}
+use Rattle.model.specs.declared.machine.Cont.{Cont}
 use Rattle.model.specs.declared.machine.Frame.{Frame}
 use Rattle.memory.specs.Contract.{Ok, only}
 use Rattle.memory.specs.Numbers.{withHeight, withDepth}
@@ -37,6 +40,20 @@ pushed m n = withHeight (m .height + n) (withDepth (m .depth + 1) m)
 pub record PushFits (l : Sizes) (stack frames setup : List ℕ) (m : Machine) (f : ℕ) : Type 0 where
   pub ok : Ok l (topSetup stack frames setup plain) (only m)
   pub function : f < getD setup 13 0
+
+-- a frame pushed by a call at pc: the pc is stored only if the frame fits
+abbrev pub pushedOr : World → World → Made → After Made
+pushedOr w u (Made.Word base) = after u (Made.Word base)
+pushedOr w u (Made.Refused f) = after w (Made.Refused f)
+
+unfoldable pub pushAt : ℕ → ℕ → ℕ → Cont → World → After Made
+pushAt pc f closure cont w = andThen (pushFrame f closure cont (storePc pc w)) (pushedOr w)
+
+-- .. and a frame stands there that calls
+pub record CallFits (l : Sizes) (stack frames setup : List ℕ) (m : Machine) (pc f : ℕ) : Type 0 where
+  pub push : PushFits l stack frames setup m f
+  pub some : 1 ≤ m .depth
+  pub narrow : pc < 2 ^ 32
 
 -- ---- pop
 

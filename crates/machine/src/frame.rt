@@ -4,7 +4,7 @@ ghost use Prim.Native.Nat.{_+_, _^_, _≤_, _<_};
 ghost use Rattle.model.specs.Frames.{storePc, nextPc, putReg};
 ghost use Rattle.model.specs.Machine.{pushFrame};
 ghost use Rattle.tables.specs.Does.{RegFits};
-ghost use Rattle.machine.specs.Frame.{DepthFits, StepFits, PushFits, overflowing, pushed, PopFits, popTop};
+ghost use Rattle.machine.specs.Frame.{DepthFits, StepFits, PushFits, overflowing, pushed, pushAt, CallFits, PopFits, popTop};
 ghost use Rattle.memory.specs.Lendings.{frame, top, topSetup};
 ghost use Rattle.memory.specs.Contract.{Leaves, Met, any, every, ifSound, only};
 use heap::fault::Fault;
@@ -97,6 +97,32 @@ pub fn push_frame(
         machine: grown(m, n),
         answer: Made::Word(base),
     }
+}
+
+// A frame pushed by a call at pc. The pc is stored only if the frame fits.
+pub fn push_at(
+    stack: &[u64],
+    frames: &mut [u64],
+    setup: &[u64],
+    m: Machine,
+    l: Sizes,
+    pc: u64,
+    f: u64,
+    closure: u64,
+    cont: Cont,
+) -> FrameDid
+    requires { ⌜ CallFits l (now stack) (now frames) (now setup) m pc f ⌝ }
+    ensures { λ r. ⌜ Met ifSound l (pushAt pc f closure cont) (topSetup stack frames setup) (only m) (only (r .machine)) (r .answer) ⌝ }
+{
+    let n = tables::program::regs_at(setup, f as usize);
+    if overflows(m, l, n) {
+        return FrameDid {
+            machine: m,
+            answer: Made::Refused(Fault::StackOverflow),
+        };
+    }
+    store_pc(frames, m, pc);
+    push_frame(stack, frames, setup, m, l, f, closure, cont)
 }
 
 // The top frame goes, with its registers.

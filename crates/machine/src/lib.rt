@@ -5,5 +5,4 @@ pub mod numbers;
 pub mod object;
 pub mod send;
 pub mod setup;
-pub mod state;
 pub mod step;

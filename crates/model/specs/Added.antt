@@ -1,6 +1,6 @@
--- 01: "Added calls". Each tests 12 or 15, then 13 or 16, then what its Rust function tests.
+-- 01: "Added calls": what each does behind its gate (Gate, Calls).
 use Prim.Native.Nat.{ℕ, _+_, _^_}
-use mathlib.Core.Bool.{Bool, true, false, not, _&&_, _||_}
+use mathlib.Core.Bool.{Bool, true, false, not, _||_}
 use mathlib.Core.List.{List, [], _∷_, _++_}
 use lib.ListN.{drop}
 use lib.Dec.{leb}
@@ -8,9 +8,7 @@ use Rattle.lists.specs.Pick.{pick}
 use Rattle.heap.specs.Word.{nil}
 use Rattle.heap.specs.declared.fault.Fault.{Fault}
 use Rattle.heap.specs.declared.value.Opt.{Opt}
-use Rattle.model.specs.Lists.{isNil}
 use Rattle.model.specs.State.{isSuspended}
-use Rattle.model.specs.Program.{isFunction}
 use Rattle.model.specs.Object.{Object, Coroutine, Absent, Is, withFinalized}
 use Rattle.model.specs.World.{World, After, after, andThen, withStack, withFrames, withFinalize, withOutcome, withFuel}
 use Rattle.model.specs.Frames.{putReg, storePc}
@@ -43,10 +41,7 @@ pushedOr w u (Made.Refused f) = refused w f
 
 -- "Host call: an Entry frame."
 unfoldable pub hostCall : ℕ → World → After Answer
-hostCall f w =
-    pick (not (isNil (w .frames))) (refused w Fault.Busy)
-    (pick (not (isFunction (w .setup) f)) (refused w Fault.BadOperand)
-    (andThen (pushFrame f nil Cont.Entry w) (pushedOr w)))
+hostCall f w = andThen (pushFrame f nil Cont.Entry w) (pushedOr w)
 
 abbrev pub hostArrive : ℕ → World → Entered → After Answer
 hostArrive v w Entered.Fresh = accepted w
@@ -55,7 +50,7 @@ hostArrive v w (Entered.Refused f) = refused w f
 
 -- "Host entry: `coro_enter` with the host driver, then the word delivered if suspended."
 unfoldable pub hostEntry : ℕ → ℕ → World → After Answer
-hostEntry c v w = pick (not (isNil (w .frames))) (refused w Fault.Busy) (andThen (coroEnter c Driver.Host w) (hostArrive v))
+hostEntry c v w = andThen (coroEnter c Driver.Host w) (hostArrive v)
 
 -- "with Write, Dyn, Value or Discard (another continuation, or its register outside the frame, is 13)"
 abbrev pub contAllowed : World → Cont → Bool
@@ -68,17 +63,11 @@ contAllowed w Cont.Coro = false
 
 -- "Function call: `push_frame` .., pc stored only if accepted."
 unfoldable pub functionCall : ℕ → ℕ → Cont → World → After Answer
-functionCall pc f cont w =
-    pick (isNil (w .frames)) (refused w Fault.NoFrame)
-    (pick (not (isFunction (w .setup) f && contAllowed w cont)) (refused w Fault.BadOperand)
-    (andThen (pushFrame f nil cont (storePc pc w)) (pushedOr w)))
+functionCall pc f cont w = andThen (pushFrame f nil cont (storePc pc w)) (pushedOr w)
 
 -- "Put word: one register of the top frame."
 unfoldable pub putWord : ℕ → ℕ → World → After Answer
-putWord r v w =
-    pick (isNil (w .frames)) (refused w Fault.NoFrame)
-    (pick (not (inFrame w r)) (refused w Fault.BadOperand)
-    (accepted (putReg r v w)))
+putWord r v w = accepted (putReg r v w)
 
 -- "Make iterator: over a coroutine (else 1 or 2), not done, no key."
 abbrev pub iteratorOver : Coroutine → ℕ → World → After Answer
@@ -112,10 +101,15 @@ abbrev pub refuel : Opt → ℕ → Fuel → Fuel
 refuel Opt.None n f = fuelOf n (f .bank) (f .ready)
 refuel (Opt.Some b) n f = fuelOf (f .fuel) (Opt.Some n) (f .ready)
 
+abbrev pub granted : ℕ → World → ℕ
+granted n w = reserve (w .fuel .bank) (w .fuel) + n
+
+-- "grant's sum above 2^64 - 1"
+abbrev pub grantTooLarge : ℕ → World → Bool
+grantTooLarge n w = leb (2 ^ 64) (granted n w)
+
 unfoldable pub grant : ℕ → World → After Answer
-grant n w =
-    let sum = reserve (w .fuel .bank) (w .fuel) + n in
-    pick (leb (2 ^ 64) sum) (refused w Fault.GrantTooLarge) (accepted (withFuel (refuel (w .fuel .bank) sum (w .fuel)) w))
+grant n w = pick (grantTooLarge n w) (refused w Fault.GrantTooLarge) (accepted (withFuel (refuel (w .fuel .bank) (granted n w) (w .fuel)) w))
 
 -- "Stop run: `abort_coros`, then frames and stack emptied."
 unfoldable pub stopRun : World → After Answer

@@ -1,21 +1,21 @@
 -- The calls, and the operands that their types can hold.
 use Prim.Native.Nat.{ℕ, _^_}
+use mathlib.Core.Path.{_≡_}
 use mathlib.Core.Bool.{Bool, true, _&&_}
+use mathlib.Core.List.{List, [], _∷_}
 use lib.Dec.{ltb}
 use Rattle.heap.specs.Fault.{wordOf}
-use Rattle.heap.specs.declared.value.Opt.{Opt}
+use Rattle.model.specs.Lists.{each}
 use Rattle.model.specs.Program.{Setup}
-use Rattle.model.specs.declared.machine.Cont.{Cont}
+use Rattle.model.specs.declared.call.OptPc.{OptPc}
 use Rattle.model.specs.declared.call.Op.{Op}
-
--- one call: a set-up with its numbers, or one whose operands are words
-pub data Call : Type 0 where
-  SetUp : Setup → Call
-  Do : Op → Call
 
 -- registers have 16 bits, argument counts 8, pc and function numbers 32, words 64
 abbrev pub isReg : ℕ → Bool
 isReg r = ltb r (2 ^ 16)
+
+abbrev pub areRegs : List ℕ → Bool
+areRegs rs = each isReg rs
 
 abbrev pub isArgc : ℕ → Bool
 isArgc n = ltb n (2 ^ 8)
@@ -26,43 +26,49 @@ isPc pc = ltb pc (2 ^ 32)
 abbrev pub isWord : ℕ → Bool
 isWord v = ltb v (2 ^ 64)
 
-abbrev pub optPc : Opt → Bool
-optPc Opt.None = true
-optPc (Opt.Some pc) = isPc pc
+abbrev pub optPc : OptPc → Bool
+optPc OptPc.None = true
+optPc (OptPc.Some pc) = isPc pc
 
-abbrev pub contReg : Cont → Bool
-contReg Cont.Entry = true
-contReg (Cont.Write r) = isReg r
-contReg (Cont.Dyn r) = isReg r
-contReg (Cont.Value r) = isReg r
-contReg Cont.Discard = true
-contReg Cont.Coro = true
+-- every operand is a value of its type in `Op`; a continuation's register lies in the frame, or the gate refuses it
+unfoldable pub typed : Op → Bool
+typed (Op.CoroNew pc dst f argc) = isPc pc && isReg dst && isPc f && isArgc argc
+typed (Op.CoroNewIndirect pc dst callee argc) = isPc pc && areRegs (dst ∷ callee ∷ []) && isArgc argc
+typed (Op.Spawn pc dst callee argc) = isPc pc && areRegs (dst ∷ callee ∷ []) && isArgc argc
+typed (Op.Yield pc dst src) = isPc pc && areRegs (dst ∷ src ∷ [])
+typed (Op.YieldKv pc dst src key) = isPc pc && areRegs (dst ∷ src ∷ key ∷ [])
+typed (Op.Await pc dst src) = isPc pc && areRegs (dst ∷ src ∷ [])
+typed (Op.Resume pc dst c src) = isPc pc && areRegs (dst ∷ c ∷ src ∷ [])
+typed (Op.ResumeThrow pc dst c src) = isPc pc && areRegs (dst ∷ c ∷ src ∷ [])
+typed (Op.CoroClose pc dst c src) = isPc pc && areRegs (dst ∷ c ∷ src ∷ [])
+typed (Op.CoroStatus pc dst c) = isPc pc && areRegs (dst ∷ c ∷ [])
+typed (Op.CoroCurrent pc dst) = isPc pc && isReg dst
+typed (Op.CoroKey pc dst c) = isPc pc && areRegs (dst ∷ c ∷ [])
+typed (Op.CoroResult pc dst c) = isPc pc && areRegs (dst ∷ c ∷ [])
+typed (Op.IterNext pc has iter val src) = isPc pc && areRegs (has ∷ iter ∷ val ∷ src ∷ [])
+typed (Op.Finish kind v) = isWord v
+typed (Op.Unwind f pc) = isWord (wordOf f) && optPc pc
+typed (Op.SpawnTask v) = isWord v
+typed (Op.HostCall f) = isPc f
+typed (Op.HostEntry c v) = isWord c && isWord v
+typed (Op.FunctionCall pc f cont) = isPc pc && isPc f
+typed (Op.PutWord r v) = isReg r && isWord v
+typed (Op.MakeIterator v) = isWord v
+typed Op.TakeOutcome = true
+typed (Op.HandOver v) = isWord v
+typed (Op.Grant n) = isWord n
+typed Op.StopRun = true
+typed Op.Look = true
 
-unfoldable pub callOk : Op → Bool
-callOk (Op.CoroNew pc dst f argc) = isPc pc && isReg dst && isPc f && isArgc argc
-callOk (Op.CoroNewIndirect pc dst callee argc) = isPc pc && isReg dst && isReg callee && isArgc argc
-callOk (Op.Spawn pc dst callee argc) = isPc pc && isReg dst && isReg callee && isArgc argc
-callOk (Op.Yield pc dst src) = isPc pc && isReg dst && isReg src
-callOk (Op.YieldKv pc dst src key) = isPc pc && isReg dst && isReg src && isReg key
-callOk (Op.Await pc dst src) = isPc pc && isReg dst && isReg src
-callOk (Op.Resume pc dst c src) = isPc pc && isReg dst && isReg c && isReg src
-callOk (Op.ResumeThrow pc dst c src) = isPc pc && isReg dst && isReg c && isReg src
-callOk (Op.CoroClose pc dst c src) = isPc pc && isReg dst && isReg c && isReg src
-callOk (Op.CoroStatus pc dst c) = isPc pc && isReg dst && isReg c
-callOk (Op.CoroCurrent pc dst) = isPc pc && isReg dst
-callOk (Op.CoroKey pc dst c) = isPc pc && isReg dst && isReg c
-callOk (Op.CoroResult pc dst c) = isPc pc && isReg dst && isReg c
-callOk (Op.IterNext pc has iter val src) = isPc pc && isReg has && isReg iter && isReg val && isReg src
-callOk (Op.Finish kind v) = isWord v
-callOk (Op.Unwind f pc) = isWord (wordOf f) && optPc pc
-callOk (Op.SpawnTask v) = isWord v
-callOk (Op.HostCall f) = isPc f
-callOk (Op.HostEntry c v) = isWord c && isWord v
-callOk (Op.FunctionCall pc f cont) = isPc pc && isPc f && contReg cont
-callOk (Op.PutWord r v) = isReg r && isWord v
-callOk (Op.MakeIterator v) = isWord v
-callOk Op.TakeOutcome = true
-callOk (Op.HandOver v) = isWord v
-callOk (Op.Grant n) = isWord n
-callOk Op.StopRun = true
-callOk Op.Look = true
+-- a number stands for any of these types, so an operation is one with such operands: no other can be written
+pub record Operation : Type 0 where
+  pub op : Op
+  pub within : typed op ≡ true
+
+-- one call: a set-up with its numbers, or an operation
+pub data Call : Type 0 where
+  SetUp : Setup → Call
+  Do : Operation → Call
+
+abbrev pub asCall : (o : Op) → typed o ≡ true → Call
+asCall o h = Do (record { op = o; within = h })

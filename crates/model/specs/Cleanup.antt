@@ -6,7 +6,6 @@ use lib.Dec.{eqb}
 use Rattle.lists.specs.Pick.{pick}
 use Rattle.heap.specs.Word.{nil}
 use Rattle.heap.specs.declared.fault.Fault.{Fault}
-use Rattle.heap.specs.declared.value.Opt.{Opt}
 use Rattle.model.specs.State.{isResumable, isSuspended}
 use Rattle.model.specs.Object.{Rest, Coroutine, Absent, Is, withClosing, withSignal, withTask}
 use Rattle.model.specs.World.{World, After, after, withReady, withFinalize}
@@ -19,6 +18,7 @@ use Rattle.model.specs.declared.machine.Charge.{Charge}
 use Rattle.model.specs.declared.coro.Made.{Made}
 use Rattle.model.specs.declared.coro.Entered.{Entered}
 use Rattle.model.specs.declared.coro.Started.{Started}
+use Rattle.model.specs.declared.call.OptPc.{OptPc}
 
 -- ---- tasks
 
@@ -72,14 +72,14 @@ abbrev pub chargeOr : After Started → After Charge
 chargeOr s = pick (s .answer .entered) (after (s .world) (Charge.Close (s .answer .taken))) (chargeDone (s .answer .taken) (s .world))
 
 -- 01: "Where charge_slow has fuel, a pc and cleanups ready, it stores pc first, even if no cleanup then starts."
-abbrev pub chargeAt : Opt → World → After Charge
-chargeAt Opt.None w = chargeDone 0 w
-chargeAt (Opt.Some pc) w = pick (w .fuel .ready) (chargeOr (startFinalizer (storePc pc w))) (chargeDone 0 w)
+abbrev pub chargeAt : OptPc → World → After Charge
+chargeAt OptPc.None w = chargeDone 0 w
+chargeAt (OptPc.Some pc) w = pick (w .fuel .ready) (chargeOr (startFinalizer (storePc pc w))) (chargeDone 0 w)
 
 -- coro.rs: charge_slow; without a pc no cleanup starts
-unfoldable pub chargeSlow : Opt → World → After Charge
+unfoldable pub chargeSlow : OptPc → World → After Charge
 chargeSlow pc w = pick (eqb (unbank w .fuel .fuel) 0) (after (unbank w) Charge.Spent) (chargeAt pc (unbank w))
 
 -- exec.rs: charge, one unit of fuel
-unfoldable pub charge : Opt → World → After Charge
+unfoldable pub charge : OptPc → World → After Charge
 charge pc w = pick (eqb (w .fuel .fuel) 0) (chargeSlow pc w) (after (spend w) (Charge.Done 0))

@@ -5,8 +5,8 @@ use Rattle.heap.specs.declared.value.Opt.{Opt}
 use Rattle.model.specs.Program.{Func, Setup}
 use Rattle.model.specs.World.{World, fresh}
 use Rattle.model.specs.Answer.{numberOf}
-use Rattle.model.specs.Call.{Call, SetUp, Do}
-use Rattle.model.specs.Step.{step, run}
+use Rattle.model.specs.Call.{SetUp}
+use Rattle.model.specs.Step.{tested, step, runOps}
 use Rattle.model.specs.declared.call.Op.{Op}
 
 -- ---- a set-up
@@ -38,16 +38,17 @@ d = 0x1_0000_0000_0007
 -- ---- runs of it
 
 -- a run of function f, with the first coroutine, of function g, in its register 0
-abbrev pub holding : ℕ → ℕ → List Call
-holding f g = SetUp example ∷ Do (Op.Grant 1000) ∷ Do (Op.HostCall f) ∷ Do (Op.CoroNew 1 0 g 0) ∷ []
+abbrev pub holding : ℕ → ℕ → List Op
+holding f g = Op.Grant 1000 ∷ Op.HostCall f ∷ Op.CoroNew 1 0 g 0 ∷ []
 
-abbrev pub reached : List Call → World
-reached cs = run (fresh example) cs
+-- from an accepted set-up
+abbrev pub reached : List Op → World
+reached os = runOps (step (fresh example) (SetUp example) .world) os
 
 -- the number that a call answers after others
-abbrev pub number : List Call → Op → ℕ
-number cs o = numberOf (step (reached cs) (Do o) .answer)
+abbrev pub number : List Op → Op → ℕ
+number os o = numberOf (tested (reached os) o .answer)
 
 -- the registers of the top frame
-abbrev pub look : List Call → List ℕ
-look cs = step (reached cs) (Do Op.Look) .seen
+abbrev pub look : List Op → List ℕ
+look os = tested (reached os) Op.Look .seen

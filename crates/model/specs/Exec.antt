@@ -34,6 +34,7 @@ use Rattle.model.specs.declared.coro.Keys.{Keys}
 use Rattle.model.specs.declared.coro.AutoKey.{AutoKey}
 use Rattle.model.specs.declared.coro.Suspension.{Suspension}
 use Rattle.model.specs.declared.exec.Step.{Step}
+use Rattle.model.specs.declared.call.OptPc.{OptPc}
 
 abbrev pub fault : World → Fault → After Step
 fault w f = after w (Step.Fault f)
@@ -89,7 +90,7 @@ callHook hook pc dst c w Charge.Spent = fault w Fault.OutOfFuel
 callHook hook pc dst c w (Charge.Close n) = andThen (pushFrame hook nil (Cont.Value dst) (storePc pc w)) (hooked w c)
 
 abbrev pub spawnMade : ℕ → ℕ → ℕ → World → Made → After Step
-spawnMade hook pc dst w (Made.Word c) = andThen (charge Opt.None w) (callHook hook pc dst c)
+spawnMade hook pc dst w (Made.Word c) = andThen (charge OptPc.None w) (callHook hook pc dst c)
 spawnMade hook pc dst w (Made.Refused f) = fault w f
 
 abbrev pub spawnBy : Opt → ℕ → ℕ → ℕ → ℕ → World → After Step

@@ -17,6 +17,7 @@ pub mod Added
 pub mod Answer
 pub mod Sound
 pub mod Call
+pub mod Calls
 pub mod Step
 pub mod Compute
 pub mod Example

@@ -23,6 +23,7 @@ use Rattle.model.specs.declared.machine.Frame.{Frame}
 use Rattle.model.specs.declared.machine.Charge.{Charge}
 use Rattle.model.specs.declared.coro.Made.{Made}
 use Rattle.heap.specs.declared.heap.ResultKind.{ResultKind}
+use Rattle.model.specs.declared.call.OptPc.{OptPc}
 use Rattle.model.specs.declared.call.Answer.{Answer}
 
 -- machine.rs: push_frame; the answer is the new frame's base
@@ -118,7 +119,7 @@ escape Cont.Coro value f pc next w = andThen (coroEscaped value f pc w) (stopOr 
 
 abbrev pub searchAs : Caught → Frame → List Frame → ℕ → ℕ → ℕ → (World → After Answer) → World → After Answer
 searchAs Caught.Nothing x xs value f pc next w = escape (x .cont) value f pc next (popTo x xs w)
-searchAs (Caught.By h) x xs value f pc next w = andThen (charge Opt.None w) (caught h value)
+searchAs (Caught.By h) x xs value f pc next w = andThen (charge OptPc.None w) (caught h value)
 
 -- machine.rs: unwind's loop, from the top frame down
 abbrev pub search : List Frame → ℕ → ℕ → ℕ → World → After Answer
@@ -142,11 +143,14 @@ unwindFault f w =
     (pick (leb (numberOf f) 8) (andThen (alloc (w .setup .costs .error) (errorOf f w) w) searchMade)
     (after w (Answer.Refused f)))
 
-abbrev pub storeSome : Opt → World → World
-storeSome Opt.None w = w
-storeSome (Opt.Some pc) w = storePc pc w
+abbrev pub storeSome : OptPc → World → World
+storeSome OptPc.None w = w
+storeSome (OptPc.Some pc) w = storePc pc w
 
--- machine.rs: unwind. 01: "takes a fault 1 to 10, or 17 with its word (else 11)"; "may be given a pc to store in the top
--- frame first"
-unfoldable pub unwind : Fault → Opt → World → After Answer
-unwind f pc w = pick (between 1 10 (numberOf f) || eqb (numberOf f) 17) (unwindFault f (storeSome pc w)) (after w (Answer.Refused Fault.Unsound))
+-- 01: "`unwind` takes a fault 1 to 10, or 17 with its word (else 11)"
+abbrev pub raisable : Fault → Bool
+raisable f = between 1 10 (numberOf f) || eqb (numberOf f) 17
+
+-- machine.rs: unwind. 01: "may be given a pc to store in the top frame first"
+unfoldable pub unwind : Fault → OptPc → World → After Answer
+unwind f pc w = pick (raisable f) (unwindFault f (storeSome pc w)) (after w (Answer.Refused Fault.Unsound))

@@ -1,12 +1,11 @@
 -- 01: "Mistakes to keep out", each as a run that would come out otherwise.
-use Prim.Native.Nat.{ℕ, _^_, _-_}
+use Prim.Native.Nat.{_^_, _-_}
 use mathlib.Core.Path.{_≡_, refl}
 use mathlib.Core.Bool.{true}
 use mathlib.Core.List.{List, [], _∷_, _++_}
 use Rattle.heap.specs.declared.heap.ResultKind.{ResultKind}
 use Rattle.model.specs.World.{World}
-use Rattle.model.specs.Step.{step}
-use Rattle.model.specs.Call.{Call, Do}
+use Rattle.model.specs.Step.{tested}
 use Rattle.model.specs.Compute.{computed}
 use Rattle.model.specs.Example.{c, d, holding, reached, number, look}
 use Rattle.model.specs.Examples.{integer}
@@ -18,30 +17,30 @@ use Rattle.model.specs.declared.call.Op.{Op}
 -- ---- "Charging a saved size twice."
 
 -- it yields from its second frame, of one register, and yields there again
-abbrev pub grown : List Call
-grown = holding 1 0 ++ (Do (Op.Resume 2 1 0 1) ∷ Do (Op.FunctionCall 7 0 Cont.Discard) ∷ Do (Op.Yield 8 0 0) ∷ [])
+abbrev pub grown : List Op
+grown = holding 1 0 ++ (Op.Resume 2 1 0 1 ∷ Op.FunctionCall 7 0 Cont.Discard ∷ Op.Yield 8 0 0 ∷ [])
 
-abbrev pub again : List Call
-again = grown ++ (Do (Op.Resume 3 1 0 1) ∷ Do (Op.Yield 9 0 0) ∷ [])
+abbrev pub again : List Op
+again = grown ++ (Op.Resume 3 1 0 1 ∷ Op.Yield 9 0 0 ∷ [])
 
 -- ---- "Writing `has` before `val`."
 
-abbrev pub sameRegister : List Call
+abbrev pub sameRegister : List Op
 sameRegister =
     holding 3 1
-    ++ (Do (Op.MakeIterator c) ∷ Do (Op.PutWord 1 d) ∷ Do (Op.IterNext 2 2 1 2 0) ∷ Do (Op.PutWord 0 7) ∷ Do (Op.Yield 8 1 0) ∷ [])
+    ++ (Op.MakeIterator c ∷ Op.PutWord 1 d ∷ Op.IterNext 2 2 1 2 0 ∷ Op.PutWord 0 7 ∷ Op.Yield 8 1 0 ∷ [])
 
 -- ---- "Storing pc before Yield's 5 or 7."
 
 -- no coroutine runs; and one whose largest key is 2^63 - 1
-abbrev pub outside : List Call
+abbrev pub outside : List Op
 outside = holding 1 1
 
-abbrev pub lastKey : List Call
-lastKey = holding 1 1 ++ (Do (Op.Resume 2 1 0 1) ∷ (integer 1 (2 ^ 63 - 1) ++ (Do (Op.YieldKv 7 0 0 1) ∷ Do (Op.Resume 3 1 0 1) ∷ [])))
+abbrev pub lastKey : List Op
+lastKey = holding 1 1 ++ (Op.Resume 2 1 0 1 ∷ (integer 1 (2 ^ 63 - 1) ++ (Op.YieldKv 7 0 0 1 ∷ Op.Resume 3 1 0 1 ∷ [])))
 
-abbrev pub afterYield : List Call → World
-afterYield cs = step (reached cs) (Do (Op.Yield 99 0 0)) .world
+abbrev pub afterYield : List Op → World
+afterYield cs = tested (reached cs) (Op.Yield 99 0 0) .world
 
 pub record Mistakes : Type 0 where
   -- one word and one frame beyond creation's: 8 + 32 bytes, once
@@ -61,11 +60,11 @@ kept-out =
 -- ---- 01: "Sound", after runs that an engine without its upkeep would leave unsound
 
 -- two coroutines in rows 0 and 1, of which the second returns
-abbrev pub secondEnds : List Call
-secondEnds = holding 3 1 ++ (Do (Op.CoroNew 2 1 1 0) ∷ Do (Op.Resume 3 2 1 2) ∷ Do (Op.Finish ResultKind.None 0) ∷ [])
+abbrev pub secondEnds : List Op
+secondEnds = holding 3 1 ++ (Op.CoroNew 2 1 1 0 ∷ Op.Resume 3 2 1 2 ∷ Op.Finish ResultKind.None 0 ∷ [])
 
-abbrev pub taskTwice : List Call
-taskTwice = holding 3 1 ++ (Do (Op.SpawnTask c) ∷ Do (Op.SpawnTask c) ∷ [])
+abbrev pub taskTwice : List Op
+taskTwice = holding 3 1 ++ (Op.SpawnTask c ∷ Op.SpawnTask c ∷ [])
 
 pub record StaysSound : Type 0 where
   -- "one row per unfinished coroutine": a row is given back at an end

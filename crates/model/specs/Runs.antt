@@ -11,8 +11,7 @@ use Rattle.heap.specs.declared.object.CoroState.{CoroState}
 use Rattle.model.specs.Object.{Object}
 use Rattle.model.specs.Heap.{object}
 use Rattle.model.specs.Coro.{coroState}
-use Rattle.model.specs.Call.{Call, Do}
-use Rattle.model.specs.Step.{step}
+use Rattle.model.specs.Step.{tested}
 use Rattle.model.specs.Compute.{computed}
 use Rattle.model.specs.Example.{c, d, holding, reached, look}
 use Rattle.model.specs.declared.machine.Cont.{Cont}
@@ -20,6 +19,7 @@ use Rattle.model.specs.declared.machine.Driver.{Driver}
 use Rattle.model.specs.declared.machine.Frame.{Frame}
 use Rattle.model.specs.declared.coro.Stated.{Stated}
 use Rattle.heap.specs.declared.heap.ResultKind.{ResultKind}
+use Rattle.model.specs.declared.call.OptPc.{OptPc}
 use Rattle.model.specs.declared.call.Op.{Op}
 use Rattle.model.specs.declared.call.Answer.{Answer}
 
@@ -32,8 +32,8 @@ body pc base = record { func = 1; pc = pc; base = base; closure = nil; cont = Co
 
 -- ---- 1. A caller of two registers resumes a new coroutine: its two registers stand above the caller's.
 
-abbrev pub begun : List Call
-begun = holding 1 1 ++ (Do (Op.Resume 2 1 0 1) ∷ [])
+abbrev pub begun : List Op
+begun = holding 1 1 ++ (Op.Resume 2 1 0 1 ∷ [])
 
 pub record Begun : Type 0 where
   pub stack : reached begun .stack ≡ c ∷ 0 ∷ 0 ∷ 0 ∷ []
@@ -46,8 +46,8 @@ run-begun = record { stack = refl; frames = refl; chain = refl }
 
 -- ---- 2. It yields 7 at pc 8 and waits at its register 1: the caller has 7 in its register 1, and steps to pc 3.
 
-abbrev pub yielded : List Call
-yielded = begun ++ (Do (Op.PutWord 0 7) ∷ Do (Op.Yield 8 1 0) ∷ [])
+abbrev pub yielded : List Op
+yielded = begun ++ (Op.PutWord 0 7 ∷ Op.Yield 8 1 0 ∷ [])
 
 pub record Yielded : Type 0 where
   pub stack : reached yielded .stack ≡ c ∷ 7 ∷ []
@@ -61,8 +61,8 @@ run-yielded = record { stack = refl; frames = refl; chain = refl }
 -- ---- 3. The caller calls a function of two registers, which resumes it with 5: it stands four words up, its 7 still in
 -- register 0, the sent 5 in register 1, and goes on at pc 9.
 
-abbrev pub resumed : List Call
-resumed = yielded ++ (Do (Op.FunctionCall 4 1 Cont.Discard) ∷ Do (Op.PutWord 0 c) ∷ Do (Op.PutWord 1 5) ∷ Do (Op.Resume 6 0 0 1) ∷ [])
+abbrev pub resumed : List Op
+resumed = yielded ++ (Op.FunctionCall 4 1 Cont.Discard ∷ Op.PutWord 0 c ∷ Op.PutWord 1 5 ∷ Op.Resume 6 0 0 1 ∷ [])
 
 pub record Resumed : Type 0 where
   pub stack : reached resumed .stack ≡ c ∷ 7 ∷ c ∷ 5 ∷ 7 ∷ 5 ∷ []
@@ -75,13 +75,13 @@ run-resumed = record { stack = refl; frames = refl }
 -- ---- 4. A loop over a coroutine: iter_next with `has` 2, the iterator in 1, `val` 3, the source in 0. It yields 7 once and
 -- returns: `has` is 1 with the value 7, then 0.
 
-abbrev pub looping : List Call
+abbrev pub looping : List Op
 looping =
     holding 3 1
-    ++ (Do (Op.MakeIterator c) ∷ Do (Op.PutWord 1 d) ∷ Do (Op.IterNext 2 2 1 3 0) ∷ Do (Op.PutWord 0 7) ∷ Do (Op.Yield 8 1 0) ∷ [])
+    ++ (Op.MakeIterator c ∷ Op.PutWord 1 d ∷ Op.IterNext 2 2 1 3 0 ∷ Op.PutWord 0 7 ∷ Op.Yield 8 1 0 ∷ [])
 
-abbrev pub looped : List Call
-looped = looping ++ (Do (Op.IterNext 2 2 1 3 0) ∷ Do (Op.Finish ResultKind.None 0) ∷ [])
+abbrev pub looped : List Op
+looped = looping ++ (Op.IterNext 2 2 1 3 0 ∷ Op.Finish ResultKind.None 0 ∷ [])
 
 pub record Looped : Type 0 where
   pub first : look looping ≡ c ∷ d ∷ 1 ∷ 7 ∷ 0 ∷ 0 ∷ []
@@ -96,15 +96,15 @@ run-looped = record { first = refl; key = refl; last = refl; done = refl }
 -- ---- 5. It is handed over, and the next instruction's charge closes it: nothing is sent, nil is thrown where it yielded, and
 -- as nobody catches it the cleanup is over and the caller goes on where it was, at the pc of the instruction that did nothing yet.
 
-abbrev pub handed : List Call
-handed = yielded ++ (Do (Op.HandOver c) ∷ [])
+abbrev pub handed : List Op
+handed = yielded ++ (Op.HandOver c ∷ [])
 
-abbrev pub cleaned : List Call
-cleaned = handed ++ (Do (Op.CoroCurrent 9 1) ∷ Do (Op.Unwind (Fault.Throw nil) Opt.None) ∷ [])
+abbrev pub cleaned : List Op
+cleaned = handed ++ (Op.CoroCurrent 9 1 ∷ Op.Unwind (Fault.Throw nil) OptPc.None ∷ [])
 
 pub record Cleaned : Type 0 where
-  pub starts : step (reached handed) (Do (Op.CoroCurrent 9 1)) .answer ≡ Answer.Cleanup 1
-  pub ends : step (reached (handed ++ (Do (Op.CoroCurrent 9 1) ∷ []))) (Do (Op.Unwind (Fault.Throw nil) Opt.None)) .answer ≡ Answer.Stopped
+  pub starts : tested (reached handed) (Op.CoroCurrent 9 1) .answer ≡ Answer.Cleanup 1
+  pub ends : tested (reached (handed ++ (Op.CoroCurrent 9 1 ∷ []))) (Op.Unwind (Fault.Throw nil) OptPc.None) .answer ≡ Answer.Stopped
   pub stack : reached cleaned .stack ≡ c ∷ 7 ∷ []
   pub frames : reached cleaned .frames ≡ caller 9 ∷ []
   pub state : coroState (reached cleaned) c ≡ Stated.In CoroState.Returned

@@ -7,86 +7,93 @@ use heap::fault::Fault;
 use heap::heap::ResultKind;
 use heap::value::Opt;
 
+// Option<u32>: a pc to store, or none
+pub enum OptPc {
+    None,
+    Some(u32),
+}
+
 // Every call but the set-up, whose operands are a table. An instruction has its pc first, then its operands in the order
-// that exec spells them.
+// that exec spells them. pc and function numbers have 32 bits, registers 16, argument counts 8, words 64; a continuation
+// is the one that a frame stores.
 pub enum Op {
     CoroNew {
-        pc: u64,
-        dst: u64,
-        func: u64,
-        argc: u64,
+        pc: u32,
+        dst: u16,
+        func: u32,
+        argc: u8,
     },
     CoroNewIndirect {
-        pc: u64,
-        dst: u64,
-        callee: u64,
-        argc: u64,
+        pc: u32,
+        dst: u16,
+        callee: u16,
+        argc: u8,
     },
     Spawn {
-        pc: u64,
-        dst: u64,
-        callee: u64,
-        argc: u64,
+        pc: u32,
+        dst: u16,
+        callee: u16,
+        argc: u8,
     },
     Yield {
-        pc: u64,
-        dst: u64,
-        src: u64,
+        pc: u32,
+        dst: u16,
+        src: u16,
     },
     YieldKv {
-        pc: u64,
-        dst: u64,
-        src: u64,
-        key: u64,
+        pc: u32,
+        dst: u16,
+        src: u16,
+        key: u16,
     },
     Await {
-        pc: u64,
-        dst: u64,
-        src: u64,
+        pc: u32,
+        dst: u16,
+        src: u16,
     },
     Resume {
-        pc: u64,
-        dst: u64,
-        coro: u64,
-        src: u64,
+        pc: u32,
+        dst: u16,
+        coro: u16,
+        src: u16,
     },
     ResumeThrow {
-        pc: u64,
-        dst: u64,
-        coro: u64,
-        src: u64,
+        pc: u32,
+        dst: u16,
+        coro: u16,
+        src: u16,
     },
     CoroClose {
-        pc: u64,
-        dst: u64,
-        coro: u64,
-        src: u64,
+        pc: u32,
+        dst: u16,
+        coro: u16,
+        src: u16,
     },
     CoroStatus {
-        pc: u64,
-        dst: u64,
-        coro: u64,
+        pc: u32,
+        dst: u16,
+        coro: u16,
     },
     CoroCurrent {
-        pc: u64,
-        dst: u64,
+        pc: u32,
+        dst: u16,
     },
     CoroKey {
-        pc: u64,
-        dst: u64,
-        coro: u64,
+        pc: u32,
+        dst: u16,
+        coro: u16,
     },
     CoroResult {
-        pc: u64,
-        dst: u64,
-        coro: u64,
+        pc: u32,
+        dst: u16,
+        coro: u16,
     },
     IterNext {
-        pc: u64,
-        has: u64,
-        iter: u64,
-        val: u64,
-        src: u64,
+        pc: u32,
+        has: u16,
+        iter: u16,
+        val: u16,
+        src: u16,
     },
     Finish {
         kind: ResultKind,
@@ -94,25 +101,25 @@ pub enum Op {
     },
     Unwind {
         fault: Fault,
-        pc: Opt,
+        pc: OptPc,
     },
     SpawnTask {
         word: u64,
     },
     HostCall {
-        func: u64,
+        func: u32,
     },
     HostEntry {
         coro: u64,
         word: u64,
     },
     FunctionCall {
-        pc: u64,
-        func: u64,
+        pc: u32,
+        func: u32,
         cont: Cont,
     },
     PutWord {
-        reg: u64,
+        reg: u16,
         word: u64,
     },
     MakeIterator {

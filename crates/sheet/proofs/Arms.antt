@@ -24,6 +24,7 @@ use Rattle.model.specs.declared.coro.Made.{Made}
 use Rattle.model.specs.declared.coro.Stated.{Stated}
 use Rattle.model.specs.declared.coro.Entered.{Entered}
 use Rattle.model.specs.declared.exec.Step.{Step}
+use Rattle.model.specs.declared.call.OptPc.{OptPc}
 use Rattle.sheet.proofs.Choice.{both}
 use Rattle.sheet.proofs.Keep.{Keeps, faultIn, stepIn, madeIn, statedIn, enteredIn, onward, on-queue, changed, done-queue, not-in, state-in, enter-keeps, create-keeps, key-keeps, push-keeps, yielded-keeps, yield-key, awaited-keeps}
 
@@ -71,7 +72,7 @@ new-indirect-fine dst callee argc w = onward (putMade dst) (indirect-keeps finds
 abbrev any : Charge → Bool
 any x = true
 
-charge-none : (w : World) → Keeps any (w .finalize) (charge Opt.None w)
+charge-none : (w : World) → Keeps any (w .finalize) (charge OptPc.None w)
 unfolding charge chargeSlow
 charge-none w =
     both (λ a. Keeps any (w .finalize) a) _

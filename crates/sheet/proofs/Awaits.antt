@@ -17,8 +17,7 @@ use Rattle.model.specs.Heap.{setCoro, fits}
 use Rattle.model.specs.Coro.{coroSend, saved, sized, growth, suspended, suspendAs, suspendOn, coroSuspend, deliver}
 use Rattle.model.specs.Exec.{delivered, deliverAll, awaitOn, await}
 use Rattle.model.specs.Gate.{stepped}
-use Rattle.model.specs.Call.{Do}
-use Rattle.model.specs.Step.{told, call, step}
+use Rattle.model.specs.Step.{told, call, tested}
 use Rattle.model.specs.declared.machine.Active.{Active}
 use Rattle.model.specs.declared.machine.Driver.{Driver}
 use Rattle.model.specs.declared.coro.Event.{Event}
@@ -63,7 +62,7 @@ module _ (pc dst src : ℕ) (w u : World) (n : ℕ) (a : Active) (chain : List A
       (withChain chain (withFrames (below (a .floor) (z .frames)) (withStack (take (baseAt (a .floor) (z .frames)) (z .stack)) (withUsed (satAdd (z .used) (growth z core r)) z)))))
       (pick-false (withClosing false (withSignal nil (withPayload (reg u src) (sized core r)))) (withPayload (reg u src) (sized core r)))
 
-  delivers : (d : ℕ) → a .driver ≡ Driver.Resume d → step w (Do (Op.Await pc dst src)) ≡ leaves (coroSend d (reg u src) (waiting pc dst (reg u src) a chain r u)) Step.Frame n
+  delivers : (d : ℕ) → a .driver ≡ Driver.Resume d → tested w (Op.Await pc dst src) ≡ leaves (coroSend d (reg u src) (waiting pc dst (reg u src) a chain r u)) Step.Frame n
   unfolding call await deliver
   delivers d e =
       arm-runs (Op.Await pc dst src) w u n pc _ (await pc dst src) refl (y .pays .machine) (y .pays .gate) (y .pays .charged)

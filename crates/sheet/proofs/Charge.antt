@@ -19,6 +19,7 @@ use Rattle.model.specs.declared.machine.Driver.{Driver}
 use Rattle.model.specs.declared.machine.Frame.{Frame}
 use Rattle.model.specs.declared.machine.Fuel.{Fuel}
 use Rattle.model.specs.declared.coro.Started.{Started}
+use Rattle.model.specs.declared.call.OptPc.{OptPc}
 use Rattle.sheet.specs.Charges.{isDone, usedUp}
 use Rattle.sheet.specs.Queue.{starts, steps, searches}
 use Rattle.sheet.proofs.Choice.{both, by-test}
@@ -86,7 +87,7 @@ unbank-ready w = go (w .fuel .bank) (w .fuel)
 abbrev DoneCalm : World → After Charge → Type 0
 DoneCalm w a = isDone (a .answer) ≡ true → Calm w (a .world)
 
-pub charge-calm : (pc : ℕ) (w : World) → DoneCalm w (charge (Opt.Some pc) w)
+pub charge-calm : (pc : ℕ) (w : World) → DoneCalm w (charge (OptPc.Some pc) w)
 unfolding charge chargeSlow startFinalizer
 charge-calm pc w =
     both (λ a. DoneCalm w a) _
@@ -110,7 +111,7 @@ charge-calm pc w =
         }
 
 -- the queue's loss
-pub charge-loss : (pc : ℕ) (w : World) → countOf (charge (Opt.Some pc) w .answer) + length (charge (Opt.Some pc) w .world .finalize) ≡ length (w .finalize)
+pub charge-loss : (pc : ℕ) (w : World) → countOf (charge (OptPc.Some pc) w .answer) + length (charge (OptPc.Some pc) w .world .finalize) ≡ length (w .finalize)
 unfolding charge chargeSlow startFinalizer
 charge-loss pc w =
     both (λ (a : After Charge). countOf (a .answer) + length (a .world .finalize) ≡ length (w .finalize)) _
@@ -136,13 +137,13 @@ spent-by true true u x y h k = refl
 spent-by true false u x y h k = h
 spent-by false b u x y h k = k
 
-at-spends : (pc : Opt) (w : World) → isSpent (chargeAt pc w .answer) ≡ false
-at-spends Opt.None w = refl
-at-spends (Opt.Some pc) w =
+at-spends : (pc : OptPc) (w : World) → isSpent (chargeAt pc w .answer) ≡ false
+at-spends OptPc.None w = refl
+at-spends (OptPc.Some pc) w =
     both (λ (a : After Charge). isSpent (a .answer) ≡ false) _ (both (λ (a : After Charge). isSpent (a .answer) ≡ false) _ refl refl) refl
 
 -- "bank and fuel both used up"
-pub spent : (pc : Opt) (w : World) → isSpent (charge pc w .answer) ≡ usedUp w
+pub spent : (pc : OptPc) (w : World) → isSpent (charge pc w .answer) ≡ usedUp w
 unfolding charge chargeSlow
 spent pc w =
     spent-by (eqb (w .fuel .fuel) 0) (eqb (unbank w .fuel .fuel) 0) (unbank w) (chargeAt pc (unbank w)) _ (at-spends pc (unbank w)) refl
@@ -157,7 +158,7 @@ module _ (n : ℕ) where
   count-by true false false u x y z h k l = k
   count-by false b r u x y z h k l = l
 
-pub charge-count : (pc : ℕ) (w : World) → countOf (charge (Opt.Some pc) w .answer) ≡ pick (searches w) (steps (w .finalize) (unbank (storePc pc (unbank w)))) 0
+pub charge-count : (pc : ℕ) (w : World) → countOf (charge (OptPc.Some pc) w .answer) ≡ pick (searches w) (steps (w .finalize) (unbank (storePc pc (unbank w)))) 0
 unfolding charge chargeSlow startFinalizer
 charge-count pc w =
     count-by (steps (w .finalize) (unbank (storePc pc (unbank w)))) (eqb (w .fuel .fuel) 0) (eqb (unbank w .fuel .fuel) 0) (unbank w .fuel .ready) (unbank w) _ _ _

@@ -1,6 +1,7 @@
 -- 5, 8 and 10.
 use Rattle.sheet.specs.Charges.{Charges}
-use Rattle.sheet.proofs.Charges.{given-five, given-eight, given-ten, given-ten-spawn}
+use Rattle.sheet.proofs.Charges.{given-ten, given-ten-spawn}
+use Rattle.sheet.proofs.Decides.{given-five, given-eight}
 use Rattle.sheet.proofs.Unwind.{given-ten-unwind}
 use Rattle.sheet.proofs.Twos.{never-two, never-two-keyed}
 

@@ -22,16 +22,17 @@ use Rattle.model.specs.Exec.{indirect, hooked, callHook, spawnMade, spawnBy, sp
 use Rattle.model.specs.Gate.{instruction}
 use Rattle.model.specs.Answer.{numberOf, stepNumber}
 use Rattle.model.specs.Sound.{sound, isNone}
-use Rattle.model.specs.Call.{Do}
-use Rattle.model.specs.Step.{Out, told, call}
+use Rattle.model.specs.Step.{Out, call, tested}
+use Rattle.model.specs.Calls.{Instruction, OnFrame, OnHost, Other, table, Row, Unwinds, Grants, Looks}
 use Rattle.model.specs.declared.machine.Active.{Active}
 use Rattle.model.specs.declared.machine.Charge.{Charge}
 use Rattle.model.specs.declared.machine.Cont.{Cont}
 use Rattle.model.specs.declared.machine.Frame.{Frame}
 use Rattle.model.specs.declared.coro.Made.{Made}
 use Rattle.model.specs.declared.exec.Step.{Step}
+use Rattle.model.specs.declared.call.OptPc.{OptPc}
 use Rattle.model.specs.declared.call.Op.{Op}
-use Rattle.sheet.specs.Gates.{Kind, Instruction, OnFrame, OnHost, Adding, Raising, Other, kind, atGate}
+use Rattle.sheet.specs.Gates.{atGate}
 use Rattle.sheet.specs.Own.{own, ownWord}
 use Rattle.sheet.specs.Number.{given}
 use Rattle.sheet.specs.Charges.{passes, isDone, paid, usedUp, isMade, hookUnpaid, spawnUnpaid}
@@ -42,7 +43,7 @@ use Rattle.sheet.proofs.Arms.{Fine, indirect-keeps, spawn-made}
 use Rattle.sheet.proofs.FaultSheet.{says-numbers, step-given}
 use Rattle.sheet.proofs.Says.{says}
 use Rattle.sheet.proofs.Charge.{Calm, charge-calm, isSpent, spent}
-use Rattle.sheet.proofs.Runs.{Runs, runs, arm-given, ten-given}
+use Rattle.sheet.proofs.Runs.{runs, arm-given, ten-given}
 use Rattle.sheet.proofs.Floors.{not-stuck}
 
 -- ---- tests
@@ -57,18 +58,18 @@ under-test true x y h = h refl
 under-test false x y h = refl
 
 -- a number that a call cannot answer
-pub not-given : (n : ℕ) (w : World) (o : Op) → among n (atGate (kind w o) ++ own o) ≡ false → eqb (numberOf (call o w .answer)) n ≡ false
-not-given n w o h = unlike n (numberOf (call o w .answer)) (atGate (kind w o) ++ own o) h (says-numbers w (kind w o) (own o) (ownWord o) _ (says o w))
+pub not-given : (n : ℕ) (w : World) (o : Op) → among n (atGate (table o) ++ own o) ≡ false → eqb (numberOf (call o w .answer)) n ≡ false
+not-given n w o h = unlike n (numberOf (call o w .answer)) (atGate (table o) ++ own o) h (says-numbers w (table o) (own o) (ownWord o) _ (says o w))
 
 -- the arm of an instruction decides a number that neither its gate nor its charge gives
 module _ (n : ℕ) (ten : eqb 10 n ≡ false) (twelve : eqb 12 n ≡ false) (thirteen : eqb 13 n ≡ false) (thrown : eqb 17 n ≡ false) (w : World) where
-  pub arm-test : (o : Op) (pc : ℕ) (ok : Bool) (arm : World → After Step) → call o w ≡ told (instruction pc ok arm w) → (test : Bool) →
-      ((u : World) → Calm w u → eqb (stepNumber (arm u .answer)) n ≡ test) → eqb (numberOf (call o w .answer)) n ≡ paid w (Instruction pc ok arm) && test
-  arm-test o pc ok arm e test h =
-      ap (λ x. eqb (numberOf (x .answer)) n) e
-      ∙ (arm-given n ten twelve thirteen thrown pc ok arm w
-      ∙ (ap (λ b. passes w (Instruction pc ok arm) && b) (under-test (isDone (charge (Opt.Some pc) w .answer)) _ test (λ d. h _ (charge-calm pc w d)))
-      ∙ sym (and-assoc (passes w (Instruction pc ok arm)) (isDone (charge (Opt.Some pc) w .answer)) test)))
+  pub arm-test : (o : Op) (pc : ℕ) (operands : World → Bool) (arm : World → After Step) → table o ≡ Instruction pc operands arm → (test : Bool) →
+      ((u : World) → Calm w u → eqb (stepNumber (arm u .answer)) n ≡ test) → eqb (numberOf (call o w .answer)) n ≡ paid w (Instruction pc operands arm) && test
+  arm-test o pc operands arm e test h =
+      ap (λ x. eqb (numberOf (x .answer)) n) (runs w o pc operands arm e .does)
+      ∙ (arm-given n ten twelve thirteen thrown pc (operands w) arm w
+      ∙ (ap (λ b. passes w (Instruction pc operands arm) && b) (under-test (isDone (charge (OptPc.Some pc) w .answer)) _ test (λ d. h _ (charge-calm pc w d)))
+      ∙ sym (and-assoc (passes w (Instruction pc operands arm)) (isDone (charge (OptPc.Some pc) w .answer)) test)))
 
 -- ---- 5
 
@@ -119,7 +120,7 @@ module _ (w u : World) (h : sound w ≡ true) (c : Calm w u) where
   idle : u .chain ≡ [] → true ≡ isNil (w .chain)
   idle e = sym (ap (λ (y : List Active). isNil y) (sym (c .chain) ∙ e))
 
-  yield-five : (pc dst src : ℕ) → eqb (stepNumber (yield pc dst src u .answer)) 5 ≡ isNil (w .chain)
+  pub yield-five : (pc dst src : ℕ) → eqb (stepNumber (yield pc dst src u .answer)) 5 ≡ isNil (w .chain)
   unfolding yield
   yield-five pc dst src = go (u .chain) refl
     where
@@ -134,7 +135,7 @@ module _ (w u : World) (h : sound w ≡ true) (c : Calm w u) where
           in
           active _ a rest e (yield-key suspends refl refl refl (u .finalize) pc dst (reg u src) v (λ t. never a rest e (sym same ∙ t)) (λ _. refl) (autoKey l u .answer) (k .passes) (k .queue))
 
-  yield-kv-five : (pc dst src key : ℕ) → eqb (stepNumber (yieldKv pc dst src key u .answer)) 5 ≡ isNil (w .chain)
+  pub yield-kv-five : (pc dst src key : ℕ) → eqb (stepNumber (yieldKv pc dst src key u .answer)) 5 ≡ isNil (w .chain)
   unfolding yieldKv
   yield-kv-five pc dst src key = go (u .chain) refl
     where
@@ -142,46 +143,13 @@ module _ (w u : World) (h : sound w ≡ true) (c : Calm w u) where
       go [] e = idle e
       go (a ∷ rest) e = active _ a rest e (yielded-keeps suspends refl refl refl pc dst (reg u src) _ u (never a rest e) (λ _. refl))
 
-  await-five : (pc dst src : ℕ) → eqb (stepNumber (await pc dst src u .answer)) 5 ≡ isNil (w .chain)
+  pub await-five : (pc dst src : ℕ) → eqb (stepNumber (await pc dst src u .answer)) 5 ≡ isNil (w .chain)
   unfolding await
   await-five pc dst src = go (u .chain) refl
     where
       go : (chain : List Active) → u .chain ≡ chain → eqb (stepNumber (awaitOn chain pc dst src u .answer)) 5 ≡ isNil (w .chain)
       go [] e = idle e
       go (a ∷ rest) e = active _ a rest e (awaited-keeps suspends refl refl refl pc dst (reg u src) _ u (never a rest e))
-
-five : (w : World) (o : Op) → sound w ≡ true → eqb (numberOf (call o w .answer)) 5 ≡ among 5 (own o) && (paid w (kind w o) && isNil (w .chain))
-unfolding call
-five w (Op.CoroNew pc dst f argc) h = not-given 5 w (Op.CoroNew pc dst f argc) refl
-five w (Op.CoroNewIndirect pc dst callee argc) h = not-given 5 w (Op.CoroNewIndirect pc dst callee argc) refl
-five w (Op.Spawn pc dst callee argc) h = not-given 5 w (Op.Spawn pc dst callee argc) refl
-five w (Op.Yield pc dst src) h = arm-test 5 refl refl refl refl w (Op.Yield pc dst src) pc _ _ refl (isNil (w .chain)) (λ u c. yield-five w u h c pc dst src)
-five w (Op.YieldKv pc dst src key) h = arm-test 5 refl refl refl refl w (Op.YieldKv pc dst src key) pc _ _ refl (isNil (w .chain)) (λ u c. yield-kv-five w u h c pc dst src key)
-five w (Op.Await pc dst src) h = arm-test 5 refl refl refl refl w (Op.Await pc dst src) pc _ _ refl (isNil (w .chain)) (λ u c. await-five w u h c pc dst src)
-five w (Op.Resume pc dst c src) h = not-given 5 w (Op.Resume pc dst c src) refl
-five w (Op.ResumeThrow pc dst c src) h = not-given 5 w (Op.ResumeThrow pc dst c src) refl
-five w (Op.CoroClose pc dst c src) h = not-given 5 w (Op.CoroClose pc dst c src) refl
-five w (Op.CoroStatus pc dst c) h = not-given 5 w (Op.CoroStatus pc dst c) refl
-five w (Op.CoroCurrent pc dst) h = not-given 5 w (Op.CoroCurrent pc dst) refl
-five w (Op.CoroKey pc dst c) h = not-given 5 w (Op.CoroKey pc dst c) refl
-five w (Op.CoroResult pc dst c) h = not-given 5 w (Op.CoroResult pc dst c) refl
-five w (Op.IterNext pc has iter val src) h = not-given 5 w (Op.IterNext pc has iter val src) refl
-five w (Op.Finish k v) h = not-given 5 w (Op.Finish k v) refl
-five w (Op.Unwind f pc) h = not-given 5 w (Op.Unwind f pc) refl
-five w (Op.SpawnTask v) h = not-given 5 w (Op.SpawnTask v) refl
-five w (Op.HostCall f) h = not-given 5 w (Op.HostCall f) refl
-five w (Op.HostEntry c v) h = not-given 5 w (Op.HostEntry c v) refl
-five w (Op.FunctionCall pc f cont) h = not-given 5 w (Op.FunctionCall pc f cont) refl
-five w (Op.PutWord r v) h = not-given 5 w (Op.PutWord r v) refl
-five w (Op.MakeIterator v) h = not-given 5 w (Op.MakeIterator v) refl
-five w Op.TakeOutcome h = not-given 5 w Op.TakeOutcome refl
-five w (Op.HandOver v) h = not-given 5 w (Op.HandOver v) refl
-five w (Op.Grant n) h = not-given 5 w (Op.Grant n) refl
-five w Op.StopRun h = not-given 5 w Op.StopRun refl
-five w Op.Look h = not-given 5 w Op.Look refl
-
-pub given-five : (w : World) (o : Op) → given 5 w (Do o) ≡ sound w && (among 5 (own o) && (paid w (kind w o) && isNil (w .chain)))
-given-five w o = step-given 5 w o refl ∙ under-test (sound w) _ _ (five w o)
 
 -- ---- 8
 
@@ -194,66 +162,34 @@ spawn-by-eight (Opt.Some hook) pc dst callee argc u =
     unlike 8 (stepNumber (spawnBy (Opt.Some hook) pc dst callee argc u .answer)) spawns refl
     (onward (spawnMade hook pc dst) (indirect-keeps spawns refl refl refl refl dst callee argc u) (spawn-made spawns refl refl refl _ hook pc dst) .passes)
 
-spawn-eight : (w u : World) → Calm w u → (pc dst callee argc : ℕ) → eqb (stepNumber (spawn pc dst callee argc u .answer)) 8 ≡ isNone (w .setup .hook)
+pub spawn-eight : (w u : World) → Calm w u → (pc dst callee argc : ℕ) → eqb (stepNumber (spawn pc dst callee argc u .answer)) 8 ≡ isNone (w .setup .hook)
 unfolding spawn
 spawn-eight w u c pc dst callee argc = spawn-by-eight (u .setup .hook) pc dst callee argc u ∙ ap (λ s. isNone (s .hook)) (c .setup)
 
-eight : (w : World) (o : Op) → eqb (numberOf (call o w .answer)) 8 ≡ among 8 (own o) && (paid w (kind w o) && isNone (w .setup .hook))
-unfolding call
-eight w (Op.CoroNew pc dst f argc) = not-given 8 w (Op.CoroNew pc dst f argc) refl
-eight w (Op.CoroNewIndirect pc dst callee argc) = not-given 8 w (Op.CoroNewIndirect pc dst callee argc) refl
-eight w (Op.Spawn pc dst callee argc) = arm-test 8 refl refl refl refl w (Op.Spawn pc dst callee argc) pc _ _ refl (isNone (w .setup .hook)) (λ u c. spawn-eight w u c pc dst callee argc)
-eight w (Op.Yield pc dst src) = not-given 8 w (Op.Yield pc dst src) refl
-eight w (Op.YieldKv pc dst src key) = not-given 8 w (Op.YieldKv pc dst src key) refl
-eight w (Op.Await pc dst src) = not-given 8 w (Op.Await pc dst src) refl
-eight w (Op.Resume pc dst c src) = not-given 8 w (Op.Resume pc dst c src) refl
-eight w (Op.ResumeThrow pc dst c src) = not-given 8 w (Op.ResumeThrow pc dst c src) refl
-eight w (Op.CoroClose pc dst c src) = not-given 8 w (Op.CoroClose pc dst c src) refl
-eight w (Op.CoroStatus pc dst c) = not-given 8 w (Op.CoroStatus pc dst c) refl
-eight w (Op.CoroCurrent pc dst) = not-given 8 w (Op.CoroCurrent pc dst) refl
-eight w (Op.CoroKey pc dst c) = not-given 8 w (Op.CoroKey pc dst c) refl
-eight w (Op.CoroResult pc dst c) = not-given 8 w (Op.CoroResult pc dst c) refl
-eight w (Op.IterNext pc has iter val src) = not-given 8 w (Op.IterNext pc has iter val src) refl
-eight w (Op.Finish k v) = not-given 8 w (Op.Finish k v) refl
-eight w (Op.Unwind f pc) = not-given 8 w (Op.Unwind f pc) refl
-eight w (Op.SpawnTask v) = not-given 8 w (Op.SpawnTask v) refl
-eight w (Op.HostCall f) = not-given 8 w (Op.HostCall f) refl
-eight w (Op.HostEntry c v) = not-given 8 w (Op.HostEntry c v) refl
-eight w (Op.FunctionCall pc f cont) = not-given 8 w (Op.FunctionCall pc f cont) refl
-eight w (Op.PutWord r v) = not-given 8 w (Op.PutWord r v) refl
-eight w (Op.MakeIterator v) = not-given 8 w (Op.MakeIterator v) refl
-eight w Op.TakeOutcome = not-given 8 w Op.TakeOutcome refl
-eight w (Op.HandOver v) = not-given 8 w (Op.HandOver v) refl
-eight w (Op.Grant n) = not-given 8 w (Op.Grant n) refl
-eight w Op.StopRun = not-given 8 w Op.StopRun refl
-eight w Op.Look = not-given 8 w Op.Look refl
-
-pub given-eight : (w : World) (o : Op) → given 8 w (Do o) ≡ sound w && (among 8 (own o) && (paid w (kind w o) && isNone (w .setup .hook)))
-given-eight w o = step-given 8 w o refl ∙ ap (λ b. sound w && b) (eight w o)
-
 -- ---- 10
 
-module _ (w : World) (ns : List ℕ) (none : among 10 ns ≡ false) where
+module _ (w : World) (o : Op) (none : among 10 (own o) ≡ false) where
   -- a number of a gate without a charge, or of its own
-  ten-by : (k : Kind) (x : Out) → Runs w ns k x → among (numberOf (x .answer)) (atGate k ++ ns) ≡ true → eqb (numberOf (x .answer)) 10 ≡ passes w k && usedUp w
-  ten-by (Instruction pc ok arm) x (e, fine) h =
-      ap (λ (y : Out). eqb (numberOf (y .answer)) 10) e
-      ∙ (ten-given pc ok arm w
-      ∙ ap (λ b. passes w (Instruction pc ok arm) && b) (only (isSpent (charge (Opt.Some pc) w .answer)) (isDone (charge (Opt.Some pc) w .answer)) (unlike 10 (stepNumber (arm (charge (Opt.Some pc) w .world) .answer)) ns none (fine (charge (Opt.Some pc) w .world) .passes)) ∙ spent (Opt.Some pc) w))
+  ten-by : (r : Row) → table o ≡ r → among (numberOf (call o w .answer)) (atGate r ++ own o) ≡ true → eqb (numberOf (call o w .answer)) 10 ≡ passes w r && usedUp w
+  ten-by (Instruction pc operands arm) e h =
+      let r = runs w o pc operands arm e in
+      ap (λ (y : Out). eqb (numberOf (y .answer)) 10) (r .does)
+      ∙ (ten-given pc (operands w) arm w
+      ∙ ap (λ b. passes w (Instruction pc operands arm) && b) (only (isSpent (charge (OptPc.Some pc) w .answer)) (isDone (charge (OptPc.Some pc) w .answer)) (unlike 10 (stepNumber (arm (charge (OptPc.Some pc) w .world) .answer)) (own o) none (r .fine (charge (OptPc.Some pc) w .world) .passes)) ∙ spent (OptPc.Some pc) w))
     where
       only : (a b : Bool) {c : Bool} → c ≡ false → a || (b && c) ≡ a
       only true b h = refl
       only false true h = h
       only false false h = refl
-  ten-by (OnFrame ok) x r h = unlike 10 (numberOf (x .answer)) (12 ∷ 13 ∷ ns) none h
-  ten-by (OnHost ok) x r h = unlike 10 (numberOf (x .answer)) (13 ∷ 15 ∷ ns) none h
-  ten-by (Adding large) x r h = unlike 10 (numberOf (x .answer)) (16 ∷ ns) none h
-  ten-by (Raising ok) x r h = unlike 10 (numberOf (x .answer)) (11 ∷ ns) none h
-  ten-by Other x r h = unlike 10 (numberOf (x .answer)) ns none h
+  ten-by (OnFrame operands body) e h = unlike 10 (numberOf (call o w .answer)) (12 ∷ 13 ∷ own o) none h
+  ten-by (OnHost operands body) e h = unlike 10 (numberOf (call o w .answer)) (13 ∷ 15 ∷ own o) none h
+  ten-by (Unwinds f pc) e h = unlike 10 (numberOf (call o w .answer)) (11 ∷ own o) none h
+  ten-by (Grants n) e h = unlike 10 (numberOf (call o w .answer)) (16 ∷ own o) none h
+  ten-by Looks e h = unlike 10 (numberOf (call o w .answer)) (own o) none h
+  ten-by (Other body) e h = unlike 10 (numberOf (call o w .answer)) (own o) none h
 
-pub given-ten : (w : World) (o : Op) → among 10 (own o) ≡ false → given 10 w (Do o) ≡ sound w && (passes w (kind w o) && usedUp w)
-given-ten w o h =
-    step-given 10 w o refl ∙ ap (λ b. sound w && b) (ten-by w (own o) h (kind w o) (call o w) (runs w o) (says-numbers w (kind w o) (own o) (ownWord o) _ (says o w)))
+pub given-ten : (w : World) (o : Op) → among 10 (own o) ≡ false → given 10 w o ≡ sound w && (passes w (table o) && usedUp w)
+given-ten w o h = step-given 10 w o refl ∙ ap (λ b. sound w && b) (ten-by w o h (table o) refl (says-numbers w (table o) (own o) (ownWord o) _ (says o w)))
 
 -- Spawn's hook: only its charge answers 10
 
@@ -273,7 +209,7 @@ abbrev finds : List ℕ
 finds = 1 ∷ 2 ∷ 9 ∷ 14 ∷ []
 
 made-ten : (hook pc dst : ℕ) (v : World) (m : Made) → madeIn finds m ≡ true → eqb (stepNumber (spawnMade hook pc dst v m .answer)) 10 ≡ isMade m && usedUp v
-made-ten hook pc dst v (Made.Word c) h = call-ten hook pc dst c (charge Opt.None v .world) (charge Opt.None v .answer) ∙ spent Opt.None v
+made-ten hook pc dst v (Made.Word c) h = call-ten hook pc dst c (charge OptPc.None v .world) (charge OptPc.None v .answer) ∙ spent OptPc.None v
 made-ten hook pc dst v (Made.Refused f) h = unlike 10 (Faults.numberOf f) finds refl h
 
 by-ten : (hook : Opt) (pc dst callee argc : ℕ) (u : World) → eqb (stepNumber (spawnBy hook pc dst callee argc u .answer)) 10 ≡ hookUnpaid hook (indirect dst callee argc u)
@@ -282,13 +218,13 @@ by-ten (Opt.Some hook) pc dst callee argc u =
     made-ten hook pc dst (indirect dst callee argc u .world) (indirect dst callee argc u .answer) (indirect-keeps finds refl refl refl refl dst callee argc u .passes)
 
 pub given-ten-spawn : (w : World) (pc dst callee argc : ℕ) →
-    given 10 w (Do (Op.Spawn pc dst callee argc)) ≡ sound w && (passes w (kind w (Op.Spawn pc dst callee argc)) && (usedUp w || spawnUnpaid pc dst callee argc w))
+    given 10 w (Op.Spawn pc dst callee argc) ≡ sound w && (passes w (table (Op.Spawn pc dst callee argc)) && (usedUp w || spawnUnpaid pc dst callee argc w))
 unfolding call spawn
 given-ten-spawn w pc dst callee argc =
-    let u = charge (Opt.Some pc) w .world in
-    let done = isDone (charge (Opt.Some pc) w .answer) in
+    let u = charge (OptPc.Some pc) w .world in
+    let done = isDone (charge (OptPc.Some pc) w .answer) in
     step-given 10 w (Op.Spawn pc dst callee argc) refl
     ∙ ap (λ b. sound w && b)
     (ten-given pc _ (spawn pc dst callee argc) w
-    ∙ (ap (λ b. passes w (kind w (Op.Spawn pc dst callee argc)) && (b || (done && eqb (stepNumber (spawn pc dst callee argc u .answer)) 10))) (spent (Opt.Some pc) w)
-    ∙ ap (λ b. passes w (kind w (Op.Spawn pc dst callee argc)) && (usedUp w || (done && b))) (by-ten (u .setup .hook) pc dst callee argc u)))
+    ∙ (ap (λ b. passes w (table (Op.Spawn pc dst callee argc)) && (b || (done && eqb (stepNumber (spawn pc dst callee argc u .answer)) 10))) (spent (OptPc.Some pc) w)
+    ∙ ap (λ b. passes w (table (Op.Spawn pc dst callee argc)) && (usedUp w || (done && b))) (by-ten (u .setup .hook) pc dst callee argc u)))

@@ -8,7 +8,6 @@ use lib.Dec.{eqb, ltb, leb}
 use Rattle.lists.specs.Pick.{pick, pick-true, pick-false}
 use Rattle.heap.specs.Word.{nil}
 use Rattle.heap.specs.declared.fault.Fault.{Fault}
-use Rattle.heap.specs.declared.value.Opt.{Opt}
 use Rattle.heap.specs.declared.object.CoroState.{CoroState}
 use Rattle.model.specs.Lists.{isNil}
 use Rattle.model.specs.State.{isSuspended}
@@ -24,8 +23,8 @@ use Rattle.model.specs.Exec.{delivered, deliverAll, largestIn, yieldKey, yieldO
 use Rattle.model.specs.Gate.{refused, stepped, charged, instruction}
 use Rattle.model.specs.Added.{reserve, accepted, handOverAs, handOver}
 use Rattle.model.specs.Sound.{sound}
-use Rattle.model.specs.Call.{Do}
-use Rattle.model.specs.Step.{told, call, step}
+use Rattle.model.specs.Step.{told, call, tested}
+use Rattle.model.specs.Calls.{Instruction, table}
 use Rattle.model.specs.declared.machine.Active.{Active}
 use Rattle.model.specs.declared.machine.Charge.{Charge}
 use Rattle.model.specs.declared.machine.Cont.{Cont}
@@ -41,10 +40,9 @@ use Rattle.model.specs.declared.coro.Started.{Started}
 use Rattle.model.specs.declared.coro.Suspension.{Suspension}
 use Rattle.model.specs.declared.exec.Step.{Step}
 use Rattle.heap.specs.declared.heap.ResultKind.{ResultKind}
+use Rattle.model.specs.declared.call.OptPc.{OptPc}
 use Rattle.model.specs.declared.call.Op.{Op}
 use Rattle.model.specs.declared.call.Answer.{Answer}
-use Rattle.sheet.specs.Gates.{Instruction, kind}
-use Rattle.sheet.specs.Own.{own}
 use Rattle.sheet.specs.Charges.{passes}
 use Rattle.sheet.specs.Queue.{searches}
 use Rattle.sheet.specs.Pep342.{leaves}
@@ -55,7 +53,7 @@ use Rattle.sheet.proofs.Keep.{stuck}
 use Rattle.sheet.proofs.FaultSheet.{step-sound}
 use Rattle.sheet.proofs.Charge.{depth-top, unbanked, unbank-ready}
 use Rattle.sheet.proofs.Charges.{Still, auto-still, stands}
-use Rattle.sheet.proofs.Runs.{Runs, runs}
+use Rattle.sheet.proofs.Runs.{runs}
 use Rattle.sheet.proofs.Lookup.{entered-then, has-frame}
 use Rattle.sheet.proofs.Entries.{opened, arm-runs, calm-by, accepts-suspended, suspended-resumes}
 
@@ -102,13 +100,13 @@ module _ (pc dst src : ℕ) (w u v : World) (n key largest : ℕ) (a : Active) (
       ∙ (ap (λ (x : After AutoKey). andThen x (yieldKey pc dst (reg u src))) (y .keyed)
       ∙ ap (λ (x : After Suspension). andThen x deliverAll) (suspends dst (reg u src) key largest a chain k r (storePc pc v) (still .chain ∙ y .innermost) above (y .found) (y .fits)))
 
-  pub yield-as : (x : After Step) → andThen (deliver (a .driver) (pick (r .closing) Event.CloseIgnored (Event.Yielded (reg u src) key)) here) delivered ≡ x → step w (Do (Op.Yield pc dst src)) ≡ told (andThen x (stepped n))
+  pub yield-as : (x : After Step) → andThen (deliver (a .driver) (pick (r .closing) Event.CloseIgnored (Event.Yielded (reg u src) key)) here) delivered ≡ x → tested w (Op.Yield pc dst src) ≡ told (andThen x (stepped n))
   unfolding call
   yield-as x e =
       arm-runs (Op.Yield pc dst src) w u n pc _ (yield pc dst src) refl (y .pays .machine) (y .pays .gate) (y .pays .charged)
       ∙ ap (λ (z : After Step). told (andThen z (stepped n))) (yields ∙ e)
 
-  delivers : r .closing ≡ false → (d : ℕ) → a .driver ≡ Driver.Resume d → step w (Do (Op.Yield pc dst src)) ≡ leaves (coroSend d (reg u src) here) Step.Frame n
+  delivers : r .closing ≡ false → (d : ℕ) → a .driver ≡ Driver.Resume d → tested w (Op.Yield pc dst src) ≡ leaves (coroSend d (reg u src) here) Step.Frame n
   unfolding deliver
   delivers c d e =
       yield-as _
@@ -123,17 +121,17 @@ module _ (pc dst src : ℕ) (w u v : World) (n key largest : ℕ) (a : Active) (
   ignored-by Driver.Host h = absurd (false≢true h)
   ignored-by Driver.Finalize h = absurd (false≢true h)
 
-  closing-as : r .closing ≡ true → (x : After Step) → andThen (deliver (a .driver) Event.CloseIgnored here) delivered ≡ x → step w (Do (Op.Yield pc dst src)) ≡ told (andThen x (stepped n))
+  closing-as : r .closing ≡ true → (x : After Step) → andThen (deliver (a .driver) Event.CloseIgnored here) delivered ≡ x → tested w (Op.Yield pc dst src) ≡ told (andThen x (stepped n))
   closing-as c x e = yield-as x (ap (λ z. andThen (deliver (a .driver) z here) delivered) (chosen (r .closing) Event.CloseIgnored (Event.Yielded (reg u src) key) c) ∙ e)
 
-  ignores : r .closing ≡ true → asks (a .driver) ≡ true → step w (Do (Op.Yield pc dst src)) ≡ leaves here (Step.Unwind Fault.CloseIgnored) n
+  ignores : r .closing ≡ true → asks (a .driver) ≡ true → tested w (Op.Yield pc dst src) ≡ leaves here (Step.Unwind Fault.CloseIgnored) n
   ignores c e = closing-as c _ (ignored-by (a .driver) e)
 
-  ignores-host : r .closing ≡ true → a .driver ≡ Driver.Host → step w (Do (Op.Yield pc dst src)) ≡ leaves (withOutcome (Outcome.Some Stop.CloseIgnored) here) Step.Frame n
+  ignores-host : r .closing ≡ true → a .driver ≡ Driver.Host → tested w (Op.Yield pc dst src) ≡ leaves (withOutcome (Outcome.Some Stop.CloseIgnored) here) Step.Frame n
   unfolding deliver
   ignores-host c e = closing-as c _ (ap (λ z. andThen (deliver z Event.CloseIgnored here) delivered) e ∙ pick-true (after (withOutcome (Outcome.Some Stop.CloseIgnored) here) Step.Frame) _)
 
-  ignores-cleanup : r .closing ≡ true → a .driver ≡ Driver.Finalize → step w (Do (Op.Yield pc dst src)) ≡ leaves (setFinalizing false here) Step.Frame n
+  ignores-cleanup : r .closing ≡ true → a .driver ≡ Driver.Finalize → tested w (Op.Yield pc dst src) ≡ leaves (setFinalizing false here) Step.Frame n
   unfolding deliver
   ignores-cleanup c e = closing-as c _ (ap (λ z. andThen (deliver z Event.CloseIgnored here) delivered) e ∙ pick-true (after (setFinalizing false here) Step.Frame) _)
 
@@ -184,12 +182,12 @@ module _ (x : Frame) (xs : List Frame) (value f pc : ℕ) (w : World) (a : Activ
   to-cleanup : closedBy (coro w (a .coro)) value ≡ false → a .driver ≡ Driver.Finalize → search (x ∷ xs) value f pc w ≡ after (setFinalizing false (over CoroState.Failed value x xs a chain w)) Answer.Stopped
   to-cleanup c e = fails Driver.Finalize e c ∙ pick-true (after (setFinalizing false (over CoroState.Failed value x xs a chain w)) Answer.Stopped) _
 
-raises : (w : World) (v : ℕ) → sound w ≡ true → step w (Do (Op.Unwind (Fault.Throw v) Opt.None)) ≡ told (search (w .frames) v (topFunc (w .frames)) (topPc (w .frames)) w)
+raises : (w : World) (v : ℕ) → sound w ≡ true → tested w (Op.Unwind (Fault.Throw v) OptPc.None) ≡ told (search (w .frames) v (topFunc (w .frames)) (topPc (w .frames)) w)
 unfolding call unwind pick
-raises w v h = step-sound w (Op.Unwind (Fault.Throw v) Opt.None) h
+raises w v h = step-sound w (Op.Unwind (Fault.Throw v) OptPc.None) h
 
 returns : (x : Frame) (xs : List Frame) (v : ℕ) (w : World) (a : Active) (chain : List Active) (d : ℕ) → sound w ≡ true → w .frames ≡ x ∷ xs → x .cont ≡ Cont.Coro → w .chain ≡ a ∷ chain → a .driver ≡ Driver.Resume d →
-    step w (Do (Op.Finish ResultKind.Dyn v)) ≡ told (after (coroSend d v (over CoroState.Returned v x xs a chain w)) Answer.Resume)
+    tested w (Op.Finish ResultKind.Dyn v) ≡ told (after (coroSend d v (over CoroState.Returned v x xs a chain w)) Answer.Resume)
 unfolding call finish toDyn coroReturned
 returns x xs v w a chain d h fs c ch dr =
     step-sound w (Op.Finish ResultKind.Dyn v) h
@@ -212,24 +210,24 @@ ending =
 -- ---- deletion
 
 module _ (w : World) (v : ℕ) (k : Core) (r : Rest) (s : sound w ≡ true) (found : coro w v ≡ Is k r) where
-  handed-as : (x : After Answer) → handOverAs (Is k r) v w ≡ x → step w (Do (Op.HandOver v)) ≡ told x
+  handed-as : (x : After Answer) → handOverAs (Is k r) v w ≡ x → tested w (Op.HandOver v) ≡ told x
   unfolding call handOver
   handed-as x e = step-sound w (Op.HandOver v) s ∙ (ap (λ y. told (handOverAs y v w)) found ∙ ap (λ (y : After Answer). told y) e)
 
   hands : isSuspended (k .state) ≡ true → r .finalized ≡ false →
-      step w (Do (Op.HandOver v)) ≡ told (accepted (setFinalizing (w .finalizing) (setCoro v k (withFinalized true r) (withFinalize (w .finalize ++ (v ∷ [])) w))))
+      tested w (Op.HandOver v) ≡ told (accepted (setFinalizing (w .finalizing) (setCoro v k (withFinalized true r) (withFinalize (w .finalize ++ (v ∷ [])) w))))
   hands h f =
       handed-as _
       (passed (not (isSuspended (k .state)) || r .finalized) (refused w Fault.InvalidCoroState) _ (ap (λ b. not b || r .finalized) h ∙ f))
 
-  hands-again : r .finalized ≡ true → step w (Do (Op.HandOver v)) ≡ told (refused w Fault.InvalidCoroState)
+  hands-again : r .finalized ≡ true → tested w (Op.HandOver v) ≡ told (refused w Fault.InvalidCoroState)
   hands-again f = handed-as _ (chosen (not (isSuspended (k .state)) || r .finalized) _ _ (either (not (isSuspended (k .state))) (r .finalized) f))
     where
       either : (a b : Bool) → b ≡ true → a || b ≡ true
       either true b h = refl
       either false b h = h
 
-  hands-none : isSuspended (k .state) ≡ false → step w (Do (Op.HandOver v)) ≡ told (refused w Fault.InvalidCoroState)
+  hands-none : isSuspended (k .state) ≡ false → tested w (Op.HandOver v) ≡ told (refused w Fault.InvalidCoroState)
   hands-none h = handed-as _ (chosen (not (isSuspended (k .state)) || r .finalized) _ _ (ap (λ b. not b || r .finalized) h))
 
 -- the first of the queue starts
@@ -252,7 +250,7 @@ slow false b r x y z t h = absurd (false≢true h)
 abbrev searched : ℕ → World → World
 searched pc w = unbank (storePc pc (unbank w))
 
-charge-starts : (pc : ℕ) (w v : World) → searches w ≡ true → startFrom 0 (w .finalize) (searched pc w) ≡ after v (started true 1) → charge (Opt.Some pc) w ≡ after v (Charge.Close 1)
+charge-starts : (pc : ℕ) (w v : World) → searches w ≡ true → startFrom 0 (w .finalize) (searched pc w) ≡ after v (started true 1) → charge (OptPc.Some pc) w ≡ after v (Charge.Close 1)
 unfolding charge chargeSlow startFinalizer
 charge-starts pc w v h e =
     slow (eqb (w .fuel .fuel) 0) (eqb (unbank w .fuel .fuel) 0) (unbank w .fuel .ready) _ (chargeOr (startFrom 0 (w .finalize) (searched pc w))) _ _
@@ -260,15 +258,14 @@ charge-starts pc w v h e =
     ∙ (ap (λ (s : After Started). chargeOr s) e
     ∙ pick-true (after v (Charge.Close 1)) (chargeDone 1 v))
 
-begins : (w : World) (o : Op) (pc : ℕ) (ok : Bool) (arm : World → After Step) (c : ℕ) (queue : List ℕ) (k : Core) (r : Rest) →
-    kind w o ≡ Instruction pc ok arm → sound w ≡ true → passes w (kind w o) ≡ true → searches w ≡ true → w .finalize ≡ c ∷ queue → coro w c ≡ Is k r → isSuspended (k .state) ≡ true → overflows k w ≡ false →
-    step w (Do o) ≡ told (after (setFinalizing true (entered c Driver.Finalize k (close nil r) (withFinalize queue (searched pc w)))) (Answer.Cleanup 1))
+begins : (w : World) (o : Op) (pc : ℕ) (operands : World → Bool) (arm : World → After Step) (c : ℕ) (queue : List ℕ) (k : Core) (r : Rest) →
+    table o ≡ Instruction pc operands arm → sound w ≡ true → passes w (table o) ≡ true → searches w ≡ true → w .finalize ≡ c ∷ queue → coro w c ≡ Is k r → isSuspended (k .state) ≡ true → overflows k w ≡ false →
+    tested w o ≡ told (after (setFinalizing true (entered c Driver.Finalize k (close nil r) (withFinalize queue (searched pc w)))) (Answer.Cleanup 1))
 unfolding instruction
-begins w o pc ok arm c queue k r e s g h q found i f =
-    let t : Runs w (own o) (Instruction pc ok arm) (call o w) = subst (λ y. Runs w (own o) y (call o w)) e (runs w o) in
+begins w o pc operands arm c queue k r e s g h q found i f =
     step-sound w o s
-    ∙ (t .0
-    ∙ (ap (λ (x : After Answer). told x) (opened (isNil (w .frames)) ok (refused w Fault.NoFrame) (refused w Fault.BadOperand) _ (sym (ap (λ y. passes w y) e) ∙ g))
+    ∙ (runs w o pc operands arm e .does
+    ∙ (ap (λ (x : After Answer). told x) (opened (isNil (w .frames)) (operands w) (refused w Fault.NoFrame) (refused w Fault.BadOperand) _ (sym (ap (λ y. passes w y) e) ∙ g))
     ∙ ap (λ (x : After Charge). told (andThen x (charged arm)))
     (charge-starts pc w _ h
     (ap (λ (x : List ℕ). startFrom 0 x (searched pc w)) q

@@ -9,7 +9,6 @@ use Rattle.heap.specs.Fault.{numberOf}
 use Rattle.heap.specs.Word.{nil}
 use Rattle.heap.specs.Table.{Slot, get}
 use Rattle.heap.specs.declared.fault.Fault.{Fault}
-use Rattle.heap.specs.declared.value.Opt.{Opt}
 use Rattle.heap.specs.declared.object.CoroState.{CoroState}
 use Rattle.model.specs.Lists.{isNil}
 use Rattle.model.specs.State.{isCreated, isSuspended, isResumable, isFinished, isRunning}
@@ -22,13 +21,13 @@ use Rattle.model.specs.Cleanup.{charge, close}
 use Rattle.model.specs.Exec.{arrive, resume, throwEntered, throwTo, resumeThrow, closeEntered, closeIn, closeTo, coroClose}
 use Rattle.model.specs.Gate.{refused, stepped, charged, instruction}
 use Rattle.model.specs.Sound.{sound}
-use Rattle.model.specs.Call.{Do}
-use Rattle.model.specs.Step.{told, call, step}
+use Rattle.model.specs.Step.{told, call, tested}
 use Rattle.model.specs.declared.machine.Charge.{Charge}
 use Rattle.model.specs.declared.machine.Driver.{Driver}
 use Rattle.model.specs.declared.coro.Entered.{Entered}
 use Rattle.model.specs.declared.coro.Stated.{Stated}
 use Rattle.model.specs.declared.exec.Step.{Step}
+use Rattle.model.specs.declared.call.OptPc.{OptPc}
 use Rattle.model.specs.declared.call.Op.{Op}
 use Rattle.model.specs.declared.call.Answer.{Answer}
 use Rattle.sheet.specs.Charges.{isDone}
@@ -46,7 +45,7 @@ opened false true a b c h = refl
 opened false false a b c h = absurd (false≢true h)
 
 pub arm-runs : (o : Op) (w u : World) (n pc : ℕ) (ok : Bool) (arm : World → After Step) → call o w ≡ told (instruction pc ok arm w) → sound w ≡ true → not (isNil (w .frames)) && ok ≡ true →
-    charge (Opt.Some pc) w ≡ after u (Charge.Done n) → step w (Do o) ≡ told (andThen (arm u) (stepped n))
+    charge (OptPc.Some pc) w ≡ after u (Charge.Done n) → tested w o ≡ told (andThen (arm u) (stepped n))
 unfolding instruction
 arm-runs o w u n pc ok arm e s g c =
     step-sound w o s
@@ -58,7 +57,7 @@ arm-runs o w u n pc ok arm e s g c =
 pub left-by : (n : ℕ) (v : World) (f : Fault) → eqb (numberOf f) 10 ≡ false → told (andThen (after v (Step.Fault f)) (stepped n)) ≡ leaves v (Step.Fault f) n
 left-by n v f h = ap (λ b. told (after v (pick b (Answer.Unpaid n) (Answer.Stepped (Step.Fault f) n)))) h ∙ ap (λ a. told (after v a)) (pick-false (Answer.Unpaid n) (Answer.Stepped (Step.Fault f) n))
 
-pub calm-by : (pc : ℕ) (w u : World) (n : ℕ) → charge (Opt.Some pc) w ≡ after u (Charge.Done n) → Calm w u
+pub calm-by : (pc : ℕ) (w u : World) (n : ℕ) → charge (OptPc.Some pc) w ≡ after u (Charge.Done n) → Calm w u
 calm-by pc w u n e = subst (λ (a : After Charge). isDone (a .answer) ≡ true → Calm w (a .world)) e (charge-calm pc w) refl
 
 -- what a word finds depends on the slots
@@ -242,15 +241,15 @@ module _ (o : Op) (pc dst c src : ℕ) (w u : World) (n : ℕ) (k : Core) (r : R
 -- ---- as calls
 
 module _ (pc dst c src : ℕ) (w u : World) (n : ℕ) where
-  resumed-as : (x : After Step) → Pays pc (Op.Resume pc dst c src) w u n → resume pc dst c src u ≡ x → step w (Do (Op.Resume pc dst c src)) ≡ told (andThen x (stepped n))
+  resumed-as : (x : After Step) → Pays pc (Op.Resume pc dst c src) w u n → resume pc dst c src u ≡ x → tested w (Op.Resume pc dst c src) ≡ told (andThen x (stepped n))
   unfolding call
   resumed-as x p e = arm-runs (Op.Resume pc dst c src) w u n pc _ (resume pc dst c src) refl (p .machine) (p .gate) (p .charged) ∙ ap (λ (y : After Step). told (andThen y (stepped n))) e
 
-  thrown-as : (x : After Step) → Pays pc (Op.ResumeThrow pc dst c src) w u n → resumeThrow pc dst c src u ≡ x → step w (Do (Op.ResumeThrow pc dst c src)) ≡ told (andThen x (stepped n))
+  thrown-as : (x : After Step) → Pays pc (Op.ResumeThrow pc dst c src) w u n → resumeThrow pc dst c src u ≡ x → tested w (Op.ResumeThrow pc dst c src) ≡ told (andThen x (stepped n))
   unfolding call
   thrown-as x p e = arm-runs (Op.ResumeThrow pc dst c src) w u n pc _ (resumeThrow pc dst c src) refl (p .machine) (p .gate) (p .charged) ∙ ap (λ (y : After Step). told (andThen y (stepped n))) e
 
-  closed-as : (x : After Step) → Pays pc (Op.CoroClose pc dst c src) w u n → coroClose pc dst c src u ≡ x → step w (Do (Op.CoroClose pc dst c src)) ≡ told (andThen x (stepped n))
+  closed-as : (x : After Step) → Pays pc (Op.CoroClose pc dst c src) w u n → coroClose pc dst c src u ≡ x → tested w (Op.CoroClose pc dst c src) ≡ told (andThen x (stepped n))
   unfolding call
   closed-as x p e = arm-runs (Op.CoroClose pc dst c src) w u n pc _ (coroClose pc dst c src) refl (p .machine) (p .gate) (p .charged) ∙ ap (λ (y : After Step). told (andThen y (stepped n))) e
 

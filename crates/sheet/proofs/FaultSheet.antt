@@ -11,21 +11,23 @@ use Rattle.model.specs.Lists.{isNil, among, each}
 use Rattle.model.specs.Program.{Setup, setupOk}
 use Rattle.model.specs.World.{World, After, after, fresh}
 use Rattle.model.specs.Gate.{refused}
-use Rattle.model.specs.Added.{accepted}
+use Rattle.model.specs.Added.{accepted, grantTooLarge}
 use Rattle.model.specs.Answer.{numberOf, wordOf}
 use Rattle.model.specs.Sound.{sound}
 use Rattle.model.specs.Call.{Call, SetUp, Do}
-use Rattle.model.specs.Step.{Out, told, call, step}
+use Rattle.model.specs.Step.{Out, told, call, step, tested}
+use Rattle.model.specs.Calls.{Instruction, OnFrame, OnHost, Other, table, Row, Unwinds, Grants, Looks}
+use Rattle.model.specs.Machine.{raisable}
 use Rattle.model.specs.declared.exec.Step.{Step}
 use Rattle.model.specs.declared.call.Op.{Op}
 use Rattle.model.specs.declared.call.Answer.{Answer}
-use Rattle.sheet.specs.Gates.{Kind, Instruction, OnFrame, OnHost, Adding, Raising, Other, kind, needsFrame, needsHost, misplaced, badOperand, tooLarge, noSuchFault, atGate}
+use Rattle.sheet.specs.Gates.{needsFrame, needsHost, misplaced, badOperand, tooLarge, noSuchFault, atGate}
 use Rattle.sheet.specs.Own.{own, ownWord}
 use Rattle.sheet.specs.Number.{number, given}
 use Rattle.sheet.specs.FaultSheet.{unchanging, FaultSheet}
 use Rattle.sheet.proofs.Among.{and-true, and-false, apart, passes, not-true, after-list, before-list}
 use Rattle.sheet.proofs.Tells.{noWord}
-use Rattle.sheet.proofs.Says.{gate, atCharge, Says, refuses, goes-on, says}
+use Rattle.sheet.proofs.Says.{gate, atCharge, Says, refuses, goes-on, says, isCalm, owns}
 
 -- ---- step: 11 for the machine, else the call
 
@@ -35,8 +37,8 @@ module _ (n : ℕ) (w : World) where
   eleven-else h true x = refl
   eleven-else h false x = h
 
-  pub step-given : (o : Op) → eqb 11 n ≡ false → given n w (Do o) ≡ sound w && eqb (numberOf (call o w .answer)) n
-  unfolding step
+  pub step-given : (o : Op) → eqb 11 n ≡ false → given n w o ≡ sound w && eqb (numberOf (call o w .answer)) n
+  unfolding tested
   step-given o h = eleven-else h (sound w) (call o w)
 
 eleven-or : (w : World) (b : Bool) (x : Out) → eqb (numberOf (pick b x (told (refused w Fault.Unsound)) .answer)) 11 ≡ not b || eqb (numberOf (x .answer)) 11
@@ -44,48 +46,25 @@ unfolding pick
 eleven-or w true x = refl
 eleven-or w false x = refl
 
-step-eleven : (w : World) (o : Op) → given 11 w (Do o) ≡ not (sound w) || eqb (numberOf (call o w .answer)) 11
-unfolding step
+step-eleven : (w : World) (o : Op) → given 11 w o ≡ not (sound w) || eqb (numberOf (call o w .answer)) 11
+unfolding tested
 step-eleven w o = eleven-or w (sound w) (call o w)
 
 -- on a sound machine it is the call
-pub step-sound : (w : World) (o : Op) → sound w ≡ true → step w (Do o) ≡ call o w
-unfolding step pick
+pub step-sound : (w : World) (o : Op) → sound w ≡ true → tested w o ≡ call o w
+unfolding tested pick
 step-sound w o h = ap (λ b. pick b (call o w) (told (refused w Fault.Unsound))) h
 
 -- ---- a call's answer is one of the five exactly if its gate's is
 
-abbrev isCalm : ℕ → Bool
-isCalm n = not (among n unchanging)
-
-calm-own : (w : World) (o : Op) → each isCalm (atCharge (kind w o) ++ own o) ≡ true
-calm-own w (Op.CoroNew pc dst f argc) = refl
-calm-own w (Op.CoroNewIndirect pc dst callee argc) = refl
-calm-own w (Op.Spawn pc dst callee argc) = refl
-calm-own w (Op.Yield pc dst src) = refl
-calm-own w (Op.YieldKv pc dst src key) = refl
-calm-own w (Op.Await pc dst src) = refl
-calm-own w (Op.Resume pc dst c src) = refl
-calm-own w (Op.ResumeThrow pc dst c src) = refl
-calm-own w (Op.CoroClose pc dst c src) = refl
-calm-own w (Op.CoroStatus pc dst c) = refl
-calm-own w (Op.CoroCurrent pc dst) = refl
-calm-own w (Op.CoroKey pc dst c) = refl
-calm-own w (Op.CoroResult pc dst c) = refl
-calm-own w (Op.IterNext pc has iter val src) = refl
-calm-own w (Op.Finish k v) = refl
-calm-own w (Op.Unwind f pc) = refl
-calm-own w (Op.SpawnTask v) = refl
-calm-own w (Op.HostCall f) = refl
-calm-own w (Op.HostEntry c v) = refl
-calm-own w (Op.FunctionCall pc f cont) = refl
-calm-own w (Op.PutWord r v) = refl
-calm-own w (Op.MakeIterator v) = refl
-calm-own w Op.TakeOutcome = refl
-calm-own w (Op.HandOver v) = refl
-calm-own w (Op.Grant n) = refl
-calm-own w Op.StopRun = refl
-calm-own w Op.Look = refl
+calm-own : (r : Row) (ns : List ℕ) → each isCalm ns ≡ true → each isCalm (atCharge r ++ ns) ≡ true
+calm-own (Instruction pc operands arm) ns h = h
+calm-own (OnFrame operands body) ns h = h
+calm-own (OnHost operands body) ns h = h
+calm-own (Unwinds f pc) ns h = h
+calm-own (Grants n) ns h = h
+calm-own Looks ns h = h
+calm-own (Other body) ns h = h
 
 agrees : (n : ℕ) (w : World) (f : Fault) (ns : List ℕ) (own : Bool) (a : After Answer) → among n unchanging ≡ true → each isCalm ns ≡ true → Says w f ns own a → eqb (numberOf (a .answer)) n ≡ eqb (Faults.numberOf f) n
 agrees n w f ns own a h calm (refuses k) = refl
@@ -93,8 +72,8 @@ agrees n w f ns own a h calm (goes-on e t) =
     apart (numberOf (a .answer)) n unchanging (not-true _ (passes isCalm (numberOf (a .answer)) ns calm (t .number))) h
     ∙ sym (ap (λ x. eqb x n) e ∙ apart 0 n unchanging refl h)
 
-call-gate : (n : ℕ) (w : World) (o : Op) → among n unchanging ≡ true → eqb (numberOf (call o w .answer)) n ≡ eqb (Faults.numberOf (gate w (kind w o))) n
-call-gate n w o h = agrees n w (gate w (kind w o)) _ (ownWord o) (after (call o w .world) (call o w .answer)) h (calm-own w o) (says o w)
+call-gate : (n : ℕ) (w : World) (o : Op) → among n unchanging ≡ true → eqb (numberOf (call o w .answer)) n ≡ eqb (Faults.numberOf (gate w (table o))) n
+call-gate n w o h = agrees n w (gate w (table o)) _ (ownWord o) (after (call o w .world) (call o w .answer)) h (calm-own (table o) (own o) (owns o .calm)) (says o w)
 
 -- ---- each number at the gate, by the kind of call
 
@@ -146,47 +125,52 @@ unfolding pick
 fault-gate n true h = h
 fault-gate n false h = refl
 
-eleven : (w : World) (k : Kind) → eqb (Faults.numberOf (gate w k)) 11 ≡ noSuchFault k
-eleven w (Instruction pc ok arm) = frame-none 11 refl refl refl (isNil (w .frames)) ok
-eleven w (OnFrame ok) = frame-none 11 refl refl refl (isNil (w .frames)) ok
-eleven w (OnHost ok) = host-none 11 refl refl refl (isNil (w .frames)) ok
-eleven w (Adding large) = sum-gate 11 large refl ∙ and-false large
-eleven w (Raising ok) = fault-gate 11 ok refl ∙ and-true (not ok)
-eleven w Other = refl
+eleven : (w : World) (r : Row) → eqb (Faults.numberOf (gate w r)) 11 ≡ noSuchFault r
+eleven w (Instruction pc operands arm) = frame-none 11 refl refl refl (isNil (w .frames)) (operands w)
+eleven w (OnFrame operands body) = frame-none 11 refl refl refl (isNil (w .frames)) (operands w)
+eleven w (OnHost operands body) = host-none 11 refl refl refl (isNil (w .frames)) (operands w)
+eleven w (Unwinds f pc) = fault-gate 11 (raisable f) refl ∙ and-true (not (raisable f))
+eleven w (Grants n) = sum-gate 11 (grantTooLarge n w) refl ∙ and-false (grantTooLarge n w)
+eleven w Looks = refl
+eleven w (Other body) = refl
 
-twelve : (w : World) (k : Kind) → eqb (Faults.numberOf (gate w k)) 12 ≡ needsFrame k && isNil (w .frames)
-twelve w (Instruction pc ok arm) = frame-twelve (isNil (w .frames)) ok
-twelve w (OnFrame ok) = frame-twelve (isNil (w .frames)) ok
-twelve w (OnHost ok) = host-none 12 refl refl refl (isNil (w .frames)) ok
-twelve w (Adding large) = sum-gate 12 large refl ∙ and-false large
-twelve w (Raising ok) = fault-gate 12 ok refl ∙ and-false (not ok)
-twelve w Other = refl
+twelve : (w : World) (r : Row) → eqb (Faults.numberOf (gate w r)) 12 ≡ needsFrame r && isNil (w .frames)
+twelve w (Instruction pc operands arm) = frame-twelve (isNil (w .frames)) (operands w)
+twelve w (OnFrame operands body) = frame-twelve (isNil (w .frames)) (operands w)
+twelve w (OnHost operands body) = host-none 12 refl refl refl (isNil (w .frames)) (operands w)
+twelve w (Unwinds f pc) = fault-gate 12 (raisable f) refl ∙ and-false (not (raisable f))
+twelve w (Grants n) = sum-gate 12 (grantTooLarge n w) refl ∙ and-false (grantTooLarge n w)
+twelve w Looks = refl
+twelve w (Other body) = refl
 
-thirteen : (w : World) (k : Kind) → eqb (Faults.numberOf (gate w k)) 13 ≡ not (misplaced w k) && badOperand k
-thirteen w (Instruction pc ok arm) = frame-thirteen (isNil (w .frames)) ok
-thirteen w (OnFrame ok) = frame-thirteen (isNil (w .frames)) ok
-thirteen w (OnHost ok) = host-thirteen (isNil (w .frames)) ok
-thirteen w (Adding large) = sum-gate 13 large refl ∙ and-false large
-thirteen w (Raising ok) = fault-gate 13 ok refl ∙ and-false (not ok)
-thirteen w Other = refl
+thirteen : (w : World) (r : Row) → eqb (Faults.numberOf (gate w r)) 13 ≡ not (misplaced w r) && badOperand w r
+thirteen w (Instruction pc operands arm) = frame-thirteen (isNil (w .frames)) (operands w)
+thirteen w (OnFrame operands body) = frame-thirteen (isNil (w .frames)) (operands w)
+thirteen w (OnHost operands body) = host-thirteen (isNil (w .frames)) (operands w)
+thirteen w (Unwinds f pc) = fault-gate 13 (raisable f) refl ∙ and-false (not (raisable f))
+thirteen w (Grants n) = sum-gate 13 (grantTooLarge n w) refl ∙ and-false (grantTooLarge n w)
+thirteen w Looks = refl
+thirteen w (Other body) = refl
 
-fifteen : (w : World) (k : Kind) → eqb (Faults.numberOf (gate w k)) 15 ≡ needsHost k && not (isNil (w .frames))
-fifteen w (Instruction pc ok arm) = frame-none 15 refl refl refl (isNil (w .frames)) ok
-fifteen w (OnFrame ok) = frame-none 15 refl refl refl (isNil (w .frames)) ok
-fifteen w (OnHost ok) = host-fifteen (isNil (w .frames)) ok
-fifteen w (Adding large) = sum-gate 15 large refl ∙ and-false large
-fifteen w (Raising ok) = fault-gate 15 ok refl ∙ and-false (not ok)
-fifteen w Other = refl
+fifteen : (w : World) (r : Row) → eqb (Faults.numberOf (gate w r)) 15 ≡ needsHost r && not (isNil (w .frames))
+fifteen w (Instruction pc operands arm) = frame-none 15 refl refl refl (isNil (w .frames)) (operands w)
+fifteen w (OnFrame operands body) = frame-none 15 refl refl refl (isNil (w .frames)) (operands w)
+fifteen w (OnHost operands body) = host-fifteen (isNil (w .frames)) (operands w)
+fifteen w (Unwinds f pc) = fault-gate 15 (raisable f) refl ∙ and-false (not (raisable f))
+fifteen w (Grants n) = sum-gate 15 (grantTooLarge n w) refl ∙ and-false (grantTooLarge n w)
+fifteen w Looks = refl
+fifteen w (Other body) = refl
 
-sixteen : (w : World) (k : Kind) → eqb (Faults.numberOf (gate w k)) 16 ≡ tooLarge k
-sixteen w (Instruction pc ok arm) = frame-none 16 refl refl refl (isNil (w .frames)) ok
-sixteen w (OnFrame ok) = frame-none 16 refl refl refl (isNil (w .frames)) ok
-sixteen w (OnHost ok) = host-none 16 refl refl refl (isNil (w .frames)) ok
-sixteen w (Adding large) = sum-gate 16 large refl ∙ and-true large
-sixteen w (Raising ok) = fault-gate 16 ok refl ∙ and-false (not ok)
-sixteen w Other = refl
+sixteen : (w : World) (r : Row) → eqb (Faults.numberOf (gate w r)) 16 ≡ tooLarge w r
+sixteen w (Instruction pc operands arm) = frame-none 16 refl refl refl (isNil (w .frames)) (operands w)
+sixteen w (OnFrame operands body) = frame-none 16 refl refl refl (isNil (w .frames)) (operands w)
+sixteen w (OnHost operands body) = host-none 16 refl refl refl (isNil (w .frames)) (operands w)
+sixteen w (Unwinds f pc) = fault-gate 16 (raisable f) refl ∙ and-false (not (raisable f))
+sixteen w (Grants n) = sum-gate 16 (grantTooLarge n w) refl ∙ and-true (grantTooLarge n w)
+sixteen w Looks = refl
+sixteen w (Other body) = refl
 
-exactly : (n : ℕ) (w : World) (o : Op) (test : Bool) → eqb 11 n ≡ false → among n unchanging ≡ true → eqb (Faults.numberOf (gate w (kind w o))) n ≡ test → given n w (Do o) ≡ sound w && test
+exactly : (n : ℕ) (w : World) (o : Op) (test : Bool) → eqb 11 n ≡ false → among n unchanging ≡ true → eqb (Faults.numberOf (gate w (table o))) n ≡ test → given n w o ≡ sound w && test
 exactly n w o test h k e = step-given n w o h ∙ ap (λ b. sound w && b) (call-gate n w o k ∙ e)
 
 -- ---- set-up
@@ -223,11 +207,12 @@ unfolding pick
 machine-same w true x k h = k h
 machine-same w false x k h = refl
 
-same-world : (w : World) (c : Call) → among (number w c) unchanging ≡ true → step w c .world ≡ w
-unfolding step
+same-world : (w : World) (c : Call) → among (numberOf (step w c .answer)) unchanging ≡ true → step w c .world ≡ w
+unfolding step tested
 same-world w (SetUp s) h = set-up-same w s (setupOk s) h
-same-world w (Do o) h =
-    machine-same w (sound w) (call o w) (says-same w (gate w (kind w o)) _ (ownWord o) (after (call o w .world) (call o w .answer)) (calm-own w o) (says o w)) h
+same-world w (Do x) h =
+    let o = x .op in
+    machine-same w (sound w) (call o w) (says-same w (gate w (table o)) _ (ownWord o) (after (call o w .world) (call o w .answer)) (calm-own (table o) (own o) (owns o .calm)) (says o w)) h
 
 -- ---- the numbers of a call
 
@@ -253,30 +238,32 @@ unfolding pick
 fault-in true h = absurd (false≢true h)
 fault-in false h = refl
 
-gate-in : (w : World) (k : Kind) → among (Faults.numberOf (gate w k)) unchanging ≡ true → among (Faults.numberOf (gate w k)) (atGate k) ≡ true
-gate-in w (Instruction pc ok arm) h = frame-in (isNil (w .frames)) ok (10 ∷ 12 ∷ 13 ∷ 17 ∷ []) refl refl h
-gate-in w (OnFrame ok) h = frame-in (isNil (w .frames)) ok (12 ∷ 13 ∷ []) refl refl h
-gate-in w (OnHost ok) h = host-in (isNil (w .frames)) ok h
-gate-in w (Adding large) h = sum-in large h
-gate-in w (Raising ok) h = fault-in ok h
-gate-in w Other h = absurd (false≢true h)
+gate-in : (w : World) (r : Row) → among (Faults.numberOf (gate w r)) unchanging ≡ true → among (Faults.numberOf (gate w r)) (atGate r) ≡ true
+gate-in w (Instruction pc operands arm) h = frame-in (isNil (w .frames)) (operands w) (10 ∷ 12 ∷ 13 ∷ 17 ∷ []) refl refl h
+gate-in w (OnFrame operands body) h = frame-in (isNil (w .frames)) (operands w) (12 ∷ 13 ∷ []) refl refl h
+gate-in w (OnHost operands body) h = host-in (isNil (w .frames)) (operands w) h
+gate-in w (Unwinds f pc) h = fault-in (raisable f) h
+gate-in w (Grants n) h = sum-in (grantTooLarge n w) h
+gate-in w Looks h = absurd (false≢true h)
+gate-in w (Other body) h = absurd (false≢true h)
 
 -- the charge's numbers are among the gate's
-wider : (k : Kind) (ms : List ℕ) (n : ℕ) → among n (atCharge k ++ ms) ≡ true → among n (atGate k ++ ms) ≡ true
-wider (Instruction pc ok arm) ms n h = go (eqb n 10) (eqb n 12) (eqb n 13) (eqb n 17) h
+wider : (r : Row) (ms : List ℕ) (n : ℕ) → among n (atCharge r ++ ms) ≡ true → among n (atGate r ++ ms) ≡ true
+wider (Instruction pc operands arm) ms n h = go (eqb n 10) (eqb n 12) (eqb n 13) (eqb n 17) h
   where
     go : (a b c d : Bool) → a || (d || among n ms) ≡ true → a || (b || (c || (d || among n ms))) ≡ true
     go true b c d h = refl
     go false true c d h = refl
     go false false true d h = refl
     go false false false d h = h
-wider (OnFrame ok) ms n h = after-list n (12 ∷ 13 ∷ []) ms h
-wider (OnHost ok) ms n h = after-list n (13 ∷ 15 ∷ []) ms h
-wider (Adding large) ms n h = after-list n (16 ∷ []) ms h
-wider (Raising ok) ms n h = after-list n (11 ∷ []) ms h
-wider Other ms n h = h
+wider (OnFrame operands body) ms n h = after-list n (12 ∷ 13 ∷ []) ms h
+wider (OnHost operands body) ms n h = after-list n (13 ∷ 15 ∷ []) ms h
+wider (Unwinds f pc) ms n h = after-list n (11 ∷ []) ms h
+wider (Grants k) ms n h = after-list n (16 ∷ []) ms h
+wider Looks ms n h = h
+wider (Other body) ms n h = h
 
-pub says-numbers : (w : World) (k : Kind) (ms : List ℕ) (own : Bool) (a : After Answer) → Says w (gate w k) (atCharge k ++ ms) own a → among (numberOf (a .answer)) (atGate k ++ ms) ≡ true
+pub says-numbers : (w : World) (k : Row) (ms : List ℕ) (own : Bool) (a : After Answer) → Says w (gate w k) (atCharge k ++ ms) own a → among (numberOf (a .answer)) (atGate k ++ ms) ≡ true
 says-numbers w k ms own a (refuses h) = before-list (Faults.numberOf (gate w k)) (atGate k) ms (gate-in w k h)
 says-numbers w k ms own a (goes-on e t) = wider k ms (numberOf (a .answer)) (t .number)
 
@@ -353,19 +340,19 @@ unfolding pick
 machine-word w true x h = h
 machine-word w false x h = refl
 
-call-word : (w : World) (o : Op) → ownWord o ≡ false → noWord (step w (Do o) .answer) ≡ true
-unfolding step
+call-word : (w : World) (o : Op) → ownWord o ≡ false → noWord (tested w o .answer) ≡ true
+unfolding tested
 call-word w o h =
     machine-word w (sound w) (call o w)
-    (says-word w (gate w (kind w o)) (atCharge (kind w o) ++ own o) (after (call o w .world) (call o w .answer)) (subst (λ b. Says w (gate w (kind w o)) (atCharge (kind w o) ++ own o) b (after (call o w .world) (call o w .answer))) h (says o w)))
+    (says-word w (gate w (table o)) (atCharge (table o) ++ own o) (after (call o w .world) (call o w .answer)) (subst (λ b. Says w (gate w (table o)) (atCharge (table o) ++ own o) b (after (call o w .world) (call o w .answer))) h (says o w)))
 
 -- ---- the sheet
 
-set-up-eleven : (w : World) (s : Setup) → given 11 w (SetUp s) ≡ not (setupOk s)
+set-up-eleven : (w : World) (s : Setup) → eqb (numberOf (step w (SetUp s) .answer)) 11 ≡ not (setupOk s)
 unfolding step
 set-up-eleven w s = set-up-by w s (setupOk s)
 
-set-up-either : (w : World) (s : Setup) → among (number w (SetUp s)) (0 ∷ 11 ∷ []) ≡ true
+set-up-either : (w : World) (s : Setup) → among (numberOf (step w (SetUp s) .answer)) (0 ∷ 11 ∷ []) ≡ true
 unfolding step
 set-up-either w s = set-up-in w s (setupOk s)
 
@@ -377,15 +364,15 @@ pub fault-sheet : FaultSheet
 fault-sheet =
     record {
       given-11-set-up = set-up-eleven;
-      given-11 = λ w o. step-eleven w o ∙ ap (λ b. not (sound w) || b) (call-gate 11 w o refl ∙ eleven w (kind w o));
-      given-12 = λ w o. exactly 12 w o _ refl refl (twelve w (kind w o));
-      given-13 = λ w o. exactly 13 w o _ refl refl (thirteen w (kind w o));
-      given-15 = λ w o. exactly 15 w o _ refl refl (fifteen w (kind w o));
-      given-16 = λ w o. exactly 16 w o _ refl refl (sixteen w (kind w o));
+      given-11 = λ w o. step-eleven w o ∙ ap (λ b. not (sound w) || b) (call-gate 11 w o refl ∙ eleven w (table o));
+      given-12 = λ w o. exactly 12 w o _ refl refl (twelve w (table o));
+      given-13 = λ w o. exactly 13 w o _ refl refl (thirteen w (table o));
+      given-15 = λ w o. exactly 15 w o _ refl refl (fifteen w (table o));
+      given-16 = λ w o. exactly 16 w o _ refl refl (sixteen w (table o));
       unchanged = same-world;
-      numbers = λ w o h. subst (λ x. among (numberOf (x .answer)) (atGate (kind w o) ++ own o) ≡ true) (sym (step-sound w o h)) (says-numbers w (kind w o) (own o) (ownWord o) _ (says o w));
+      numbers = λ w o h. subst (λ x. among (numberOf (x .answer)) (atGate (table o) ++ own o) ≡ true) (sym (step-sound w o h)) (says-numbers w (table o) (own o) (ownWord o) _ (says o w));
       set-up-numbers = set-up-either;
       refused-word = λ w c h. zero-word (step w c .answer) h;
-      accepted-word = λ w o h k. no-word (step w (Do o) .answer) (call-word w o h) (ap (λ x. eqb x 17) k);
+      accepted-word = λ w o h k. no-word (tested w o .answer) (call-word w o h) (ap (λ x. eqb x 17) k);
       set-up-word = set-up-no-word;
     }

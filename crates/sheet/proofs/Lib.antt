@@ -16,10 +16,11 @@ pub mod Charges
 pub mod Unwind
 pub mod Entries
 pub mod Twos
-pub mod ChargeSheet
 pub mod Queue
 pub mod Places
 pub mod Memory
+pub mod Decides
+pub mod ChargeSheet
 pub mod Endings
 pub mod Awaits
 pub mod Mistakes

@@ -2,7 +2,7 @@
 use Prim.Native.Nat.{ℕ, _+_, _*_, _%_, _^_}
 use mathlib.Core.Path.{_≡_, refl, sym, ap, _∙_}
 use mathlib.Core.Bool.{Bool, true, false, not, _&&_, _||_}
-use mathlib.Core.List.{List, [], _∷_}
+use mathlib.Core.List.{List, [], _∷_, _++_}
 use lib.ListN.{length}
 use lib.Dec.{eqb, leb}
 use Rattle.lists.specs.Pick.{pick}
@@ -26,11 +26,12 @@ use Rattle.model.specs.Coro.{newRegs, newCore, newRest, coroCreate, saved, grow
 use Rattle.model.specs.Cleanup.{charge}
 use Rattle.model.specs.Machine.{isOk, writeMade, applyCont, resumeIn, returnMade, finishAs, finishOn, finish, searchMade, errorOf, storeSome, unwind}
 use Rattle.model.specs.Exec.{window, putMade, coroNew, indirectTo, indirect, coroNewIndirect, spawnMade, spawnBy, spawn, deliverAll, suspend, autoKey, keyAt, keyExact, largestIn, yieldKey, yieldOn, yield, yieldKvOn, yieldKv, awaitOn, await}
-use Rattle.model.specs.Gate.{instruction}
 use Rattle.model.specs.Added.{answerMade, iteratorOver, makeIterator}
 use Rattle.model.specs.Answer.{numberOf, stepNumber}
-use Rattle.model.specs.Sound.{sound}
-use Rattle.model.specs.Step.{Out, told, call}
+use Rattle.model.specs.Step.{Out, call}
+use Rattle.model.specs.Calls.{Row, Instruction, OnFrame, OnHost, Unwinds, Grants, Looks, Other, table}
+use Rattle.model.specs.Lists.{among}
+use Rattle.sheet.specs.Own.{line, own}
 use Rattle.model.specs.declared.machine.Active.{Active}
 use Rattle.model.specs.declared.machine.Cont.{Cont}
 use Rattle.model.specs.declared.machine.Driver.{Driver}
@@ -42,22 +43,23 @@ use Rattle.model.specs.declared.coro.Made.{Made}
 use Rattle.model.specs.declared.coro.Suspension.{Suspension}
 use Rattle.model.specs.declared.exec.Step.{Step}
 use Rattle.heap.specs.declared.heap.ResultKind.{ResultKind}
+use Rattle.model.specs.declared.call.OptPc.{OptPc}
 use Rattle.model.specs.declared.call.Op.{Op}
 use Rattle.model.specs.declared.call.Answer.{Answer}
-use Rattle.sheet.specs.Gates.{Instruction, kind}
+use Rattle.sheet.specs.Gates.{atGate}
 use Rattle.sheet.specs.Charges.{passes, isDone, paid}
-use Rattle.sheet.specs.Memory.{creation, creationOf, spawning, large, integer, result, finishing, finishingTop, grows, suspension, isKey, yielding, iterating, short, Memory}
+use Rattle.sheet.specs.Needs.{creation, creationOf, spawning, large, integer, result, finishing, finishingTop, grows, suspension, isKey, yielding, iterating}
+use Rattle.sheet.specs.Memory.{shortBy, short}
 use Rattle.sheet.proofs.Choice.{both}
 use Rattle.sheet.proofs.Among.{and-false, or-none, same, unlike}
 use Rattle.sheet.proofs.Keep.{not-in, deliver-keeps}
 use Rattle.sheet.proofs.Arms.{spawn-made}
 use Rattle.sheet.proofs.Tells.{throw-tells}
-use Rattle.sheet.proofs.FaultSheet.{step-given}
-use Rattle.sheet.proofs.Runs.{arm-given}
+use Rattle.sheet.proofs.Runs.{arm-given, runs}
 use Rattle.sheet.proofs.Charges.{and-assoc, not-given}
 use Rattle.sheet.proofs.Places.{made, keyed}
 
-abbrev nine : ℕ → Bool
+abbrev pub nine : ℕ → Bool
 nine n = eqb n 9
 
 -- ---- alloc and coro_create
@@ -86,7 +88,7 @@ put-nine : (dst : ℕ) (u : World) (m : Made) → nine (stepNumber (putMade dst 
 put-nine dst u (Made.Word v) = refl
 put-nine dst u (Made.Refused f) = refl
 
-new-nine : (dst f argc : ℕ) (w : World) → nine (stepNumber (coroNew dst f argc w .answer)) ≡ creation f w
+pub new-nine : (dst f argc : ℕ) (w : World) → nine (stepNumber (coroNew dst f argc w .answer)) ≡ creation f w
 unfolding coroNew
 new-nine dst f argc w = put-nine dst _ (coroCreate f nil (window dst argc w) w .answer) ∙ create-nine f nil (window dst argc w) w
 
@@ -116,7 +118,7 @@ indirect-nine : (dst callee argc : ℕ) (w : World) → nine (made (indirect dst
 unfolding indirect
 indirect-nine dst callee argc w = to-nine (object w (reg w callee)) (reg w callee) dst argc w
 
-new-indirect-nine : (dst callee argc : ℕ) (w : World) → nine (stepNumber (coroNewIndirect dst callee argc w .answer)) ≡ creationOf (object w (reg w callee)) argc w
+pub new-indirect-nine : (dst callee argc : ℕ) (w : World) → nine (stepNumber (coroNewIndirect dst callee argc w .answer)) ≡ creationOf (object w (reg w callee)) argc w
 unfolding coroNewIndirect
 new-indirect-nine dst callee argc w = put-nine dst _ (indirect dst callee argc w .answer) ∙ indirect-nine dst callee argc w
 
@@ -131,7 +133,7 @@ by-nine : (hook : Opt) (pc dst callee argc : ℕ) (w : World) → nine (stepNumb
 by-nine Opt.None pc dst callee argc w = refl
 by-nine (Opt.Some hook) pc dst callee argc w = hook-nine hook pc dst _ (indirect dst callee argc w .answer) ∙ indirect-nine dst callee argc w
 
-spawn-nine : (pc dst callee argc : ℕ) (w : World) → nine (stepNumber (spawn pc dst callee argc w .answer)) ≡ spawning (w .setup .hook) callee argc w
+pub spawn-nine : (pc dst callee argc : ℕ) (w : World) → nine (stepNumber (spawn pc dst callee argc w .answer)) ≡ spawning (w .setup .hook) callee argc w
 unfolding spawn
 spawn-nine pc dst callee argc w = by-nine (w .setup .hook) pc dst callee argc w
 
@@ -213,7 +215,7 @@ yield-on-nine (a ∷ chain) pc dst src w =
     keyed-nine pc dst (reg w src) (autoKey l w .world) (autoKey l w .answer)
     ∙ ap (λ b. b || (isKey (autoKey l w .answer) && suspension (autoKey l w .world .chain) CoroState.Yielded dst (storePc pc (autoKey l w .world)))) (auto-nine l w)
 
-yield-nine : (pc dst src : ℕ) (w : World) → nine (stepNumber (yield pc dst src w .answer)) ≡ yielding (w .chain) pc dst w
+pub yield-nine : (pc dst src : ℕ) (w : World) → nine (stepNumber (yield pc dst src w .answer)) ≡ yielding (w .chain) pc dst w
 unfolding yield
 yield-nine pc dst src w = yield-on-nine (w .chain) pc dst src w
 
@@ -221,7 +223,7 @@ kv-on-nine : (chain : List Active) (pc dst src key : ℕ) (w : World) → w .cha
 kv-on-nine [] pc dst src key w e = refl
 kv-on-nine (a ∷ chain) pc dst src key w e = suspend-nine pc CoroState.Yielded dst (reg w src) _ w ∙ ap (λ (c : List Active). suspension c CoroState.Yielded dst (storePc pc w)) e
 
-kv-nine : (pc dst src key : ℕ) (w : World) → nine (stepNumber (yieldKv pc dst src key w .answer)) ≡ suspension (w .chain) CoroState.Yielded dst (storePc pc w)
+pub kv-nine : (pc dst src key : ℕ) (w : World) → nine (stepNumber (yieldKv pc dst src key w .answer)) ≡ suspension (w .chain) CoroState.Yielded dst (storePc pc w)
 unfolding yieldKv
 kv-nine pc dst src key w = kv-on-nine (w .chain) pc dst src key w refl
 
@@ -229,7 +231,7 @@ await-on-nine : (chain : List Active) (pc dst src : ℕ) (w : World) → w .chai
 await-on-nine [] pc dst src w e = refl
 await-on-nine (a ∷ chain) pc dst src w e = suspend-nine pc CoroState.Awaiting dst (reg w src) _ w ∙ ap (λ (c : List Active). suspension c CoroState.Awaiting dst (storePc pc w)) e
 
-await-nine : (pc dst src : ℕ) (w : World) → nine (stepNumber (await pc dst src w .answer)) ≡ suspension (w .chain) CoroState.Awaiting dst (storePc pc w)
+pub await-nine : (pc dst src : ℕ) (w : World) → nine (stepNumber (await pc dst src w .answer)) ≡ suspension (w .chain) CoroState.Awaiting dst (storePc pc w)
 unfolding await
 await-nine pc dst src w = await-on-nine (w .chain) pc dst src w refl
 
@@ -271,7 +273,7 @@ finish-on : (fs : List Frame) (kind : ResultKind) (v : ℕ) (w : World) → nine
 finish-on [] kind v w = refl
 finish-on (f ∷ fs) kind v w = finish-as (f .cont) f fs kind v w
 
-finish-nine : (kind : ResultKind) (v : ℕ) (w : World) → nine (numberOf (finish kind v w .answer)) ≡ finishingTop (w .frames) kind v w
+pub finish-nine : (kind : ResultKind) (v : ℕ) (w : World) → nine (numberOf (finish kind v w .answer)) ≡ finishingTop (w .frames) kind v w
 unfolding finish
 finish-nine kind v w = finish-on (w .frames) kind v w
 
@@ -288,7 +290,7 @@ raise-nine : (f : Fault) (w : World) → nine (numberOf (andThen (alloc (w .setu
 raise-nine f w =
     search-nine _ (alloc (w .setup .costs .error) (errorOf f w) w .answer) ∙ (alloc-nine (w .setup .costs .error) (errorOf f w) w ∙ sym (or-none (not (fits w (w .setup .costs .error)))))
 
-unwind-nine : (f : Fault) (pc : Opt) (w : World) → nine (numberOf (unwind f pc w .answer)) ≡ short w (Op.Unwind f pc)
+pub unwind-nine : (f : Fault) (pc : OptPc) (w : World) → nine (numberOf (unwind f pc w .answer)) ≡ short w (Op.Unwind f pc)
 unfolding unwind pick
 unwind-nine Fault.None pc w = refl
 unwind-nine Fault.NullReference pc w = raise-nine Fault.NullReference (storeSome pc w)
@@ -318,48 +320,30 @@ over-nine Absent v w = wrong w v
 over-nine (Is k r) v w =
     answer-nine _ (alloc (w .setup .costs .iter) (Object.Iter v false Opt.None) w .answer) ∙ alloc-nine (w .setup .costs .iter) (Object.Iter v false Opt.None) w
 
-iterator-nine : (v : ℕ) (w : World) → nine (numberOf (makeIterator v w .answer)) ≡ iterating (coro w v) w
+pub iterator-nine : (v : ℕ) (w : World) → nine (numberOf (makeIterator v w .answer)) ≡ iterating (coro w v) w
 unfolding makeIterator
 iterator-nine v w = over-nine (coro w v) v w
 
 -- ---- every call
 
-armed : (w : World) (o : Op) (pc : ℕ) (ok : Bool) (arm : World → After Step) (test : Bool) → call o w ≡ told (instruction pc ok arm w) → nine (stepNumber (arm (charge (Opt.Some pc) w .world) .answer)) ≡ test → nine (numberOf (call o w .answer)) ≡ paid w (Instruction pc ok arm) && test
-armed w o pc ok arm test e h =
-    ap (λ (x : Out). nine (numberOf (x .answer))) e
-    ∙ (arm-given 9 refl refl refl refl pc ok arm w
-    ∙ (ap (λ b. passes w (Instruction pc ok arm) && (isDone (charge (Opt.Some pc) w .answer) && b)) h
-    ∙ sym (and-assoc (passes w (Instruction pc ok arm)) (isDone (charge (Opt.Some pc) w .answer)) test)))
+pub arm-nine : (w : World) (o : Op) (pc : ℕ) (operands : World → Bool) (arm : World → After Step) → table o ≡ Instruction pc operands arm → ((u : World) → nine (stepNumber (arm u .answer)) ≡ line o .short u) → nine (numberOf (call o w .answer)) ≡ short w o
+arm-nine w o pc operands arm e h =
+    let u = charge (OptPc.Some pc) w .world in
+    ap (λ (x : Out). nine (numberOf (x .answer))) (runs w o pc operands arm e .does)
+    ∙ (arm-given 9 refl refl refl refl pc (operands w) arm w
+    ∙ (ap (λ b. passes w (Instruction pc operands arm) && (isDone (charge (OptPc.Some pc) w .answer) && b)) (h u)
+    ∙ (sym (and-assoc (passes w (Instruction pc operands arm)) (isDone (charge (OptPc.Some pc) w .answer)) (line o .short u))
+    ∙ sym (ap (λ r. shortBy w r (line o .short)) e))))
 
-nine-of : (w : World) (o : Op) → nine (numberOf (call o w .answer)) ≡ short w o
-unfolding call
-nine-of w (Op.CoroNew pc dst f argc) = armed w (Op.CoroNew pc dst f argc) pc _ (coroNew dst f argc) _ refl (new-nine dst f argc (charge (Opt.Some pc) w .world))
-nine-of w (Op.CoroNewIndirect pc dst callee argc) = armed w (Op.CoroNewIndirect pc dst callee argc) pc _ (coroNewIndirect dst callee argc) _ refl (new-indirect-nine dst callee argc (charge (Opt.Some pc) w .world))
-nine-of w (Op.Spawn pc dst callee argc) = armed w (Op.Spawn pc dst callee argc) pc _ (spawn pc dst callee argc) _ refl (spawn-nine pc dst callee argc (charge (Opt.Some pc) w .world))
-nine-of w (Op.Yield pc dst src) = armed w (Op.Yield pc dst src) pc _ (yield pc dst src) _ refl (yield-nine pc dst src (charge (Opt.Some pc) w .world))
-nine-of w (Op.YieldKv pc dst src key) = armed w (Op.YieldKv pc dst src key) pc _ (yieldKv pc dst src key) _ refl (kv-nine pc dst src key (charge (Opt.Some pc) w .world))
-nine-of w (Op.Await pc dst src) = armed w (Op.Await pc dst src) pc _ (await pc dst src) _ refl (await-nine pc dst src (charge (Opt.Some pc) w .world))
-nine-of w (Op.Resume pc dst c src) = not-given 9 w (Op.Resume pc dst c src) refl
-nine-of w (Op.ResumeThrow pc dst c src) = not-given 9 w (Op.ResumeThrow pc dst c src) refl
-nine-of w (Op.CoroClose pc dst c src) = not-given 9 w (Op.CoroClose pc dst c src) refl
-nine-of w (Op.CoroStatus pc dst c) = not-given 9 w (Op.CoroStatus pc dst c) refl
-nine-of w (Op.CoroCurrent pc dst) = not-given 9 w (Op.CoroCurrent pc dst) refl
-nine-of w (Op.CoroKey pc dst c) = not-given 9 w (Op.CoroKey pc dst c) refl
-nine-of w (Op.CoroResult pc dst c) = not-given 9 w (Op.CoroResult pc dst c) refl
-nine-of w (Op.IterNext pc has iter val src) = not-given 9 w (Op.IterNext pc has iter val src) refl
-nine-of w (Op.Finish k v) = finish-nine k v w
-nine-of w (Op.Unwind f pc) = unwind-nine f pc w
-nine-of w (Op.SpawnTask v) = not-given 9 w (Op.SpawnTask v) refl
-nine-of w (Op.HostCall f) = not-given 9 w (Op.HostCall f) refl
-nine-of w (Op.HostEntry c v) = not-given 9 w (Op.HostEntry c v) refl
-nine-of w (Op.FunctionCall pc f cont) = not-given 9 w (Op.FunctionCall pc f cont) refl
-nine-of w (Op.PutWord r v) = not-given 9 w (Op.PutWord r v) refl
-nine-of w (Op.MakeIterator v) = iterator-nine v w
-nine-of w Op.TakeOutcome = not-given 9 w Op.TakeOutcome refl
-nine-of w (Op.HandOver v) = not-given 9 w (Op.HandOver v) refl
-nine-of w (Op.Grant n) = not-given 9 w (Op.Grant n) refl
-nine-of w Op.StopRun = not-given 9 w Op.StopRun refl
-nine-of w Op.Look = not-given 9 w Op.Look refl
+-- a call without a memory test
+never : (w : World) (r : Row) → shortBy w r (λ u. false) ≡ false
+never w (Instruction pc operands arm) = and-false (paid w (Instruction pc operands arm))
+never w (OnFrame operands body) = refl
+never w (OnHost operands body) = refl
+never w (Unwinds f pc) = refl
+never w (Grants n) = refl
+never w Looks = refl
+never w (Other body) = refl
 
-pub memory : Memory
-memory = record { given-9 = λ w o. step-given 9 w o refl ∙ ap (λ b. sound w && b) (nine-of w o) }
+pub no-nine : (w : World) (o : Op) → line o .short ≡ (λ u. false) → among 9 (atGate (table o) ++ own o) ≡ false → nine (numberOf (call o w .answer)) ≡ short w o
+no-nine w o e h = not-given 9 w o h ∙ sym (ap (λ f. shortBy w (table o) f) e ∙ never w (table o))

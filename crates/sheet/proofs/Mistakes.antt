@@ -17,8 +17,7 @@ use Rattle.model.specs.Heap.{coro, setKey}
 use Rattle.model.specs.Coro.{coroSend, sized, growth, deliver}
 use Rattle.model.specs.Exec.{delivered, autoKey, keyExact, largestIn, yieldKey, yieldOn, yield, yieldKvOn, yieldKv, awaitOn, await}
 use Rattle.model.specs.Gate.{stepped}
-use Rattle.model.specs.Call.{Do}
-use Rattle.model.specs.Step.{told, call, step}
+use Rattle.model.specs.Step.{told, call, tested}
 use Rattle.model.specs.declared.machine.Active.{Active}
 use Rattle.model.specs.declared.machine.Driver.{Driver}
 use Rattle.model.specs.declared.coro.Event.{Event}
@@ -47,7 +46,7 @@ once w k r =
 
 module _ (pc dst src : ℕ) (w u v : World) (n key largest : ℕ) (a : Active) (chain : List Active) (k : Core) (r : Rest) (y : Yields pc dst src w u v n key largest a chain k r) where
   looped : r .closing ≡ false → (has val iter : ℕ) → a .driver ≡ Driver.Iter has val iter →
-      step w (Do (Op.Yield pc dst src)) ≡ leaves (coroSend has 1 (putReg val (reg u src) (setKey iter key (left pc dst (reg u src) v key largest a chain r)))) Step.Frame n
+      tested w (Op.Yield pc dst src) ≡ leaves (coroSend has 1 (putReg val (reg u src) (setKey iter key (left pc dst (reg u src) v key largest a chain r)))) Step.Frame n
   unfolding deliver
   looped c has val iter e =
       yield-as pc dst src w u v n key largest a chain k r y _
@@ -57,27 +56,27 @@ module _ (pc dst src : ℕ) (w u v : World) (n key largest : ℕ) (a : Active) (
 
 -- ---- 5 and 7
 
-yield-as-told : (pc dst src : ℕ) (w u : World) (n : ℕ) (x : After Step) → Pays pc (Op.Yield pc dst src) w u n → yieldOn (u .chain) pc dst src u ≡ x → step w (Do (Op.Yield pc dst src)) ≡ told (andThen x (stepped n))
+yield-as-told : (pc dst src : ℕ) (w u : World) (n : ℕ) (x : After Step) → Pays pc (Op.Yield pc dst src) w u n → yieldOn (u .chain) pc dst src u ≡ x → tested w (Op.Yield pc dst src) ≡ told (andThen x (stepped n))
 unfolding call yield
 yield-as-told pc dst src w u n x p e = arm-runs (Op.Yield pc dst src) w u n pc _ (yield pc dst src) refl (p .machine) (p .gate) (p .charged) ∙ ap (λ (z : After Step). told (andThen z (stepped n))) e
 
-idle : (pc dst src : ℕ) (w u : World) (n : ℕ) → Pays pc (Op.Yield pc dst src) w u n → u .chain ≡ [] → step w (Do (Op.Yield pc dst src)) ≡ leaves u (Step.Fault Fault.CannotSuspend) n
+idle : (pc dst src : ℕ) (w u : World) (n : ℕ) → Pays pc (Op.Yield pc dst src) w u n → u .chain ≡ [] → tested w (Op.Yield pc dst src) ≡ leaves u (Step.Fault Fault.CannotSuspend) n
 idle pc dst src w u n p e = yield-as-told pc dst src w u n _ p (ap (λ (c : List Active). yieldOn c pc dst src u) e) ∙ left-by n u Fault.CannotSuspend refl
 
-idle-keyed : (pc dst src key : ℕ) (w u : World) (n : ℕ) → Pays pc (Op.YieldKv pc dst src key) w u n → u .chain ≡ [] → step w (Do (Op.YieldKv pc dst src key)) ≡ leaves u (Step.Fault Fault.CannotSuspend) n
+idle-keyed : (pc dst src key : ℕ) (w u : World) (n : ℕ) → Pays pc (Op.YieldKv pc dst src key) w u n → u .chain ≡ [] → tested w (Op.YieldKv pc dst src key) ≡ leaves u (Step.Fault Fault.CannotSuspend) n
 unfolding call yieldKv
 idle-keyed pc dst src key w u n p e =
     arm-runs (Op.YieldKv pc dst src key) w u n pc _ (yieldKv pc dst src key) refl (p .machine) (p .gate) (p .charged)
     ∙ (ap (λ (c : List Active). told (andThen (yieldKvOn c pc dst src key u) (stepped n))) e ∙ left-by n u Fault.CannotSuspend refl)
 
-idle-await : (pc dst src : ℕ) (w u : World) (n : ℕ) → Pays pc (Op.Await pc dst src) w u n → u .chain ≡ [] → step w (Do (Op.Await pc dst src)) ≡ leaves u (Step.Fault Fault.CannotSuspend) n
+idle-await : (pc dst src : ℕ) (w u : World) (n : ℕ) → Pays pc (Op.Await pc dst src) w u n → u .chain ≡ [] → tested w (Op.Await pc dst src) ≡ leaves u (Step.Fault Fault.CannotSuspend) n
 unfolding call await
 idle-await pc dst src w u n p e =
     arm-runs (Op.Await pc dst src) w u n pc _ (await pc dst src) refl (p .machine) (p .gate) (p .charged)
     ∙ (ap (λ (c : List Active). told (andThen (awaitOn c pc dst src u) (stepped n))) e ∙ left-by n u Fault.CannotSuspend refl)
 
 no-key : (pc dst src : ℕ) (w u : World) (n : ℕ) (a : Active) (chain : List Active) → Pays pc (Op.Yield pc dst src) w u n → u .chain ≡ a ∷ chain → nextKey (largestIn (coro u (a .coro))) ≡ Exact.Over →
-    step w (Do (Op.Yield pc dst src)) ≡ leaves u (Step.Fault Fault.ArithOverflow) n
+    tested w (Op.Yield pc dst src) ≡ leaves u (Step.Fault Fault.ArithOverflow) n
 unfolding autoKey
 no-key pc dst src w u n a chain p e f =
     yield-as-told pc dst src w u n _ p (ap (λ (c : List Active). yieldOn c pc dst src u) e ∙ ap (λ x. andThen (keyExact x u) (yieldKey pc dst (reg u src))) f)

@@ -2,7 +2,7 @@
 use Prim.Native.Nat.{ℕ}
 use mathlib.Core.Path.{_≡_, refl, sym, ap, subst, _∙_}
 use mathlib.Core.Bool.{Bool, true, false, not, _&&_, _||_, true≢false, false≢true}
-use mathlib.Core.List.{List, [], _∷_}
+use mathlib.Core.List.{List, [], _∷_, _++_}
 use native.Mathlib.Omega.{arith}
 use lib.Dec.{eqb}
 use Rattle.lists.specs.Pick.{pick}
@@ -15,7 +15,7 @@ use Rattle.heap.specs.declared.value.Opt.{Opt}
 use Rattle.heap.specs.declared.int.Exact.{Exact}
 use Rattle.heap.specs.declared.int.Inline.{Inline}
 use Rattle.heap.specs.declared.int.IntTy.{IntTy}
-use Rattle.model.specs.Lists.{isNil}
+use Rattle.model.specs.Lists.{isNil, among}
 use Rattle.model.specs.Program.{func, isFunction}
 use Rattle.model.specs.Object.{Object, Coroutine, Absent, Is}
 use Rattle.model.specs.World.{World, After, after, andThen}
@@ -26,12 +26,13 @@ use Rattle.model.specs.Coro.{coroCreate}
 use Rattle.model.specs.Cleanup.{charge}
 use Rattle.model.specs.Machine.{isOk, writeMade, applyCont, resumeIn, returnMade, finishAs, finishOn, finish, searchMade, errorOf, storeSome, unwind}
 use Rattle.model.specs.Exec.{window, putMade, coroNew, indirectTo, indirect, coroNewIndirect, spawnMade, spawnBy, spawn, autoKey, keyAt, keyExact, largestIn, yieldKey, yieldOn, yield}
-use Rattle.model.specs.Gate.{refused, inFrame, windowIn, charged, instruction}
+use Rattle.model.specs.Gate.{refused, charged, instruction}
 use Rattle.model.specs.Added.{answerMade, iteratorOver, makeIterator}
 use Rattle.model.specs.Answer.{numberOf, stepNumber}
-use Rattle.model.specs.Sound.{sound}
-use Rattle.model.specs.Call.{Do}
-use Rattle.model.specs.Step.{call, step}
+use Rattle.model.specs.Step.{call, doing}
+use Rattle.model.specs.Calls.{Row, Instruction, OnFrame, OnHost, Unwinds, Grants, Looks, Other, table}
+use Rattle.sheet.specs.Gates.{atGate}
+use Rattle.sheet.specs.Own.{line, own}
 use Rattle.model.specs.declared.machine.Active.{Active}
 use Rattle.model.specs.declared.machine.Charge.{Charge}
 use Rattle.model.specs.declared.machine.Cont.{Cont}
@@ -41,29 +42,29 @@ use Rattle.model.specs.declared.coro.Keys.{Keys}
 use Rattle.model.specs.declared.coro.Made.{Made}
 use Rattle.model.specs.declared.exec.Step.{Step}
 use Rattle.heap.specs.declared.heap.ResultKind.{ResultKind}
+use Rattle.model.specs.declared.call.OptPc.{OptPc}
 use Rattle.model.specs.declared.call.Op.{Op}
 use Rattle.model.specs.declared.call.Answer.{Answer}
 use Rattle.sheet.specs.Number.{number}
 use Rattle.sheet.specs.Sites.{Site, Nowhere, At, creation, creationOf, spawning, large, integer, nextKeyOf, result, finishing, finishingTop, raising, iterating}
-use Rattle.sheet.specs.Places.{fullAt, behindCharge, behind, site, Places}
+use Rattle.sheet.specs.Places.{fullAt, behindCharge, behind, site, siteBy}
 use Rattle.sheet.proofs.Choice.{both}
 use Rattle.sheet.proofs.Among.{same, unlike}
 use Rattle.sheet.proofs.Keep.{not-in, yielded-keeps}
 use Rattle.sheet.proofs.Arms.{spawn-made}
 use Rattle.sheet.proofs.Tells.{throw-tells}
 use Rattle.sheet.proofs.Says.{answer-number}
-use Rattle.sheet.proofs.FaultSheet.{step-given, step-sound}
 use Rattle.sheet.proofs.Charges.{not-given}
 
 -- ---- what a number n and a world v have to do with a place
 
 -- fit is the memory test, full the test of slots and rows, u the world there
-record Holds (fit full : Bool) (u : World) (n : ℕ) (v : World) : Type 0 where
-  short : fit ≡ false → (n ≡ 9) × (v ≡ u)
-  lacks : fit ≡ true → full ≡ true → (n ≡ 14) × (v ≡ u)
-  room : fit ≡ true → full ≡ false → eqb n 14 ≡ false
+pub record Holds (fit full : Bool) (u : World) (n : ℕ) (v : World) : Type 0 where
+  pub short : fit ≡ false → (n ≡ 9) × (v ≡ u)
+  pub lacks : fit ≡ true → full ≡ true → (n ≡ 14) × (v ≡ u)
+  pub room : fit ≡ true → full ≡ false → eqb n 14 ≡ false
 
-abbrev Place : Site → ℕ → World → Type 0
+abbrev pub Place : Site → ℕ → World → Type 0
 Place Nowhere n v = eqb n 14 ≡ false
 Place (At u bytes full) n v = Holds (fits u bytes) full u n v
 
@@ -126,7 +127,7 @@ put-follows : (dst : ℕ) (u : World) (m : Made) → Follows (made m) (stepNumbe
 put-follows dst u (Made.Word v) = anew 0 u _ refl
 put-follows dst u (Made.Refused f) = as-is (Faults.numberOf f) u
 
-new-place : (dst f argc : ℕ) (w : World) → Place (creation f w) (stepNumber (coroNew dst f argc w .answer)) (coroNew dst f argc w .world)
+pub new-place : (dst f argc : ℕ) (w : World) → Place (creation f w) (stepNumber (coroNew dst f argc w .answer)) (coroNew dst f argc w .world)
 unfolding coroNew
 new-place dst f argc w =
     let o = coroCreate f nil (window dst argc w) w in
@@ -157,7 +158,7 @@ indirect-place : (dst callee argc : ℕ) (w : World) → Place (creationOf (obje
 unfolding indirect
 indirect-place dst callee argc w = to-place (object w (reg w callee)) (reg w callee) dst argc w
 
-new-indirect-place : (dst callee argc : ℕ) (w : World) → Place (creationOf (object w (reg w callee)) argc w) (stepNumber (coroNewIndirect dst callee argc w .answer)) (coroNewIndirect dst callee argc w .world)
+pub new-indirect-place : (dst callee argc : ℕ) (w : World) → Place (creationOf (object w (reg w callee)) argc w) (stepNumber (coroNewIndirect dst callee argc w .answer)) (coroNewIndirect dst callee argc w .world)
 unfolding coroNewIndirect
 new-indirect-place dst callee argc w =
     let o = indirect dst callee argc w in
@@ -176,7 +177,7 @@ by-place (Opt.Some hook) pc dst callee argc w =
     let o = indirect dst callee argc w in
     carry (creationOf (object w (reg w callee)) argc w) _ _ _ _ (spawn-follows hook pc dst (o .world) (o .answer)) (indirect-place dst callee argc w)
 
-spawn-place : (pc dst callee argc : ℕ) (w : World) → Place (spawning (w .setup .hook) callee argc w) (stepNumber (spawn pc dst callee argc w .answer)) (spawn pc dst callee argc w .world)
+pub spawn-place : (pc dst callee argc : ℕ) (w : World) → Place (spawning (w .setup .hook) callee argc w) (stepNumber (spawn pc dst callee argc w .answer)) (spawn pc dst callee argc w .world)
 unfolding spawn
 spawn-place pc dst callee argc w = by-place (w .setup .hook) pc dst callee argc w
 
@@ -217,7 +218,7 @@ on-place (a ∷ chain) pc dst src w =
     let l = largestIn (coro w (a .coro)) in
     carry (integer (nextKey l) w) _ _ _ _ (yield-follows pc dst (reg w src) (autoKey l w .world) (autoKey l w .answer)) (auto-place l w)
 
-yield-place : (pc dst src : ℕ) (w : World) → Place (nextKeyOf (w .chain) w) (stepNumber (yield pc dst src w .answer)) (yield pc dst src w .world)
+pub yield-place : (pc dst src : ℕ) (w : World) → Place (nextKeyOf (w .chain) w) (stepNumber (yield pc dst src w .answer)) (yield pc dst src w .world)
 unfolding yield
 yield-place pc dst src w = on-place (w .chain) pc dst src w
 
@@ -271,7 +272,7 @@ finish-on : (fs : List Frame) (kind : ResultKind) (v : ℕ) (w : World) → Plac
 finish-on [] kind v w = refl
 finish-on (f ∷ fs) kind v w = finish-as (f .cont) f fs kind v w
 
-finish-place : (kind : ResultKind) (v : ℕ) (w : World) → Place (finishingTop (w .frames) kind v w) (numberOf (finish kind v w .answer)) (finish kind v w .world)
+pub finish-place : (kind : ResultKind) (v : ℕ) (w : World) → Place (finishingTop (w .frames) kind v w) (numberOf (finish kind v w .answer)) (finish kind v w .world)
 unfolding finish
 finish-place kind v w = finish-on (w .frames) kind v w
 
@@ -289,7 +290,7 @@ raise-place f w =
     let o = alloc (w .setup .costs .error) (errorOf f w) w in
     carry (At w (w .setup .costs .error) (slotsFull w)) _ _ _ _ (search-follows (o .world) (o .answer)) (alloc-place (w .setup .costs .error) (errorOf f w) w)
 
-unwind-place : (f : Fault) (pc : Opt) (w : World) → Place (raising f (storeSome pc w)) (numberOf (unwind f pc w .answer)) (unwind f pc w .world)
+pub unwind-place : (f : Fault) (pc : OptPc) (w : World) → Place (raising f (storeSome pc w)) (numberOf (unwind f pc w .answer)) (unwind f pc w .world)
 unfolding unwind pick
 unwind-place Fault.None pc w = refl
 unwind-place Fault.NullReference pc w = raise-place Fault.NullReference (storeSome pc w)
@@ -320,7 +321,7 @@ over-place (Is k r) v w =
     let o = alloc (w .setup .costs .iter) (Object.Iter v false Opt.None) w in
     carry (At w (w .setup .costs .iter) (slotsFull w)) _ _ _ _ (answer-follows (o .world) (o .answer)) (alloc-place (w .setup .costs .iter) (Object.Iter v false Opt.None) w)
 
-iterator-place : (v : ℕ) (w : World) → Place (iterating (coro w v) w) (numberOf (makeIterator v w .answer)) (makeIterator v w .world)
+pub iterator-place : (v : ℕ) (w : World) → Place (iterating (coro w v) w) (numberOf (makeIterator v w .answer)) (makeIterator v w .world)
 unfolding makeIterator
 iterator-place v w = over-place (coro w v) v w
 
@@ -342,42 +343,36 @@ module _ (arm : World → After Step) (next : World → Site) (p : (u : World) �
   instruction-place : (pc : ℕ) (ok : Bool) (w : World) → Place (behind pc ok w next) (numberOf (instruction pc ok arm w .answer)) (instruction pc ok arm w .world)
   unfolding instruction
   instruction-place pc ok w =
-      let c = charge (Opt.Some pc) w in
+      let c = charge (OptPc.Some pc) w in
       gate-place (isNil (w .frames)) ok w (behindCharge (c .answer) (c .world) next) _ (charged-place (c .world) (c .answer))
 
-place-of : (w : World) (o : Op) → Place (site w o) (numberOf (call o w .answer)) (call o w .world)
+-- a call that makes no object
+nowhere : (w : World) (r : Row) → siteBy w r (λ u. Nowhere) ≡ Nowhere
+unfolding pick
+nowhere w (Instruction pc operands arm) = go (isNil (w .frames)) (operands w) (charge (OptPc.Some pc) w .answer)
+  where
+    go : (none ok : Bool) (c : Charge) → pick none Nowhere (pick (not ok) Nowhere (behindCharge c (charge (OptPc.Some pc) w .world) (λ u. Nowhere))) ≡ Nowhere
+    go true ok c = refl
+    go false false c = refl
+    go false true (Charge.Done n) = refl
+    go false true Charge.Spent = refl
+    go false true (Charge.Close n) = refl
+nowhere w (OnFrame operands body) = refl
+nowhere w (OnHost operands body) = refl
+nowhere w (Unwinds f pc) = refl
+nowhere w (Grants n) = refl
+nowhere w Looks = refl
+nowhere w (Other body) = refl
+
+pub no-place : (w : World) (o : Op) → line o .site ≡ (λ u. Nowhere) → among 14 (atGate (table o) ++ own o) ≡ false → Place (site w o) (numberOf (call o w .answer)) (call o w .world)
+no-place w o e h = subst (λ s. Place s (numberOf (call o w .answer)) (call o w .world)) (sym (ap (λ f. siteBy w (table o) f) e ∙ nowhere w (table o))) (not-given 14 w o h)
+
+pub arm-place : (w : World) (o : Op) (pc : ℕ) (operands : World → Bool) (arm : World → After Step) (e : table o ≡ Instruction pc operands arm) → ((u : World) → Place (line o .site u) (stepNumber (arm u .answer)) (arm u .world)) →
+    Place (site w o) (numberOf (call o w .answer)) (call o w .world)
 unfolding call
-place-of w (Op.CoroNew pc dst f argc) = instruction-place (coroNew dst f argc) (creation f) (new-place dst f argc) pc (inFrame w dst && windowIn w dst argc && isFunction (w .setup) f) w
-place-of w (Op.CoroNewIndirect pc dst callee argc) = instruction-place (coroNewIndirect dst callee argc) (λ u. creationOf (object u (reg u callee)) argc u) (new-indirect-place dst callee argc) pc (inFrame w dst && inFrame w callee && windowIn w dst argc) w
-place-of w (Op.Spawn pc dst callee argc) = instruction-place (spawn pc dst callee argc) (λ u. spawning (u .setup .hook) callee argc u) (spawn-place pc dst callee argc) pc (inFrame w dst && inFrame w callee && windowIn w dst argc) w
-place-of w (Op.Yield pc dst src) = instruction-place (yield pc dst src) (λ u. nextKeyOf (u .chain) u) (yield-place pc dst src) pc (inFrame w dst && inFrame w src) w
-place-of w (Op.YieldKv pc dst src key) = not-given 14 w (Op.YieldKv pc dst src key) refl
-place-of w (Op.Await pc dst src) = not-given 14 w (Op.Await pc dst src) refl
-place-of w (Op.Resume pc dst c src) = not-given 14 w (Op.Resume pc dst c src) refl
-place-of w (Op.ResumeThrow pc dst c src) = not-given 14 w (Op.ResumeThrow pc dst c src) refl
-place-of w (Op.CoroClose pc dst c src) = not-given 14 w (Op.CoroClose pc dst c src) refl
-place-of w (Op.CoroStatus pc dst c) = not-given 14 w (Op.CoroStatus pc dst c) refl
-place-of w (Op.CoroCurrent pc dst) = not-given 14 w (Op.CoroCurrent pc dst) refl
-place-of w (Op.CoroKey pc dst c) = not-given 14 w (Op.CoroKey pc dst c) refl
-place-of w (Op.CoroResult pc dst c) = not-given 14 w (Op.CoroResult pc dst c) refl
-place-of w (Op.IterNext pc has iter val src) = not-given 14 w (Op.IterNext pc has iter val src) refl
-place-of w (Op.Finish k v) = finish-place k v w
-place-of w (Op.Unwind f pc) = unwind-place f pc w
-place-of w (Op.SpawnTask v) = not-given 14 w (Op.SpawnTask v) refl
-place-of w (Op.HostCall f) = not-given 14 w (Op.HostCall f) refl
-place-of w (Op.HostEntry c v) = not-given 14 w (Op.HostEntry c v) refl
-place-of w (Op.FunctionCall pc f cont) = not-given 14 w (Op.FunctionCall pc f cont) refl
-place-of w (Op.PutWord r v) = not-given 14 w (Op.PutWord r v) refl
-place-of w (Op.MakeIterator v) = iterator-place v w
-place-of w Op.TakeOutcome = not-given 14 w Op.TakeOutcome refl
-place-of w (Op.HandOver v) = not-given 14 w (Op.HandOver v) refl
-place-of w (Op.Grant n) = not-given 14 w (Op.Grant n) refl
-place-of w Op.StopRun = not-given 14 w Op.StopRun refl
-place-of w Op.Look = not-given 14 w Op.Look refl
+arm-place w o pc operands arm e p = subst (λ r. Place (siteBy w r (line o .site)) (numberOf (doing r w .answer)) (doing r w .world)) (sym e) (instruction-place arm (line o .site) p pc (operands w) w)
 
--- ---- the statements
-
-full-by : (s : Site) (n : ℕ) (v : World) → Place s n v → eqb n 14 ≡ fullAt s
+pub full-by : (s : Site) (n : ℕ) (v : World) → Place s n v → eqb n 14 ≡ fullAt s
 full-by Nowhere n v p = p
 full-by (At u bytes full) n v p = go (fits u bytes) full refl refl
   where
@@ -385,15 +380,3 @@ full-by (At u bytes full) n v p = go (fits u bytes) full refl refl
     go false b e k = ap (λ m. eqb m 14) (p .short e .0)
     go true true e k = ap (λ m. eqb m 14) (p .lacks e k .0)
     go true false e k = p .room e k
-
-at-site : (w : World) (o : Op) (u : World) (bytes : ℕ) (full : Bool) → sound w ≡ true → site w o ≡ At u bytes full → Holds (fits u bytes) full u (number w (Do o)) (step w (Do o) .world)
-at-site w o u bytes full h e =
-    subst (λ s. Place s (number w (Do o)) (step w (Do o) .world)) e (subst (λ x. Place (site w o) (numberOf (x .answer)) (x .world)) (sym (step-sound w o h)) (place-of w o))
-
-pub places : Places
-places =
-    record {
-      given-14 = λ w o. step-given 14 w o refl ∙ ap (λ b. sound w && b) (full-by (site w o) _ (call o w .world) (place-of w o));
-      leaves-9 = λ w o u bytes full h e k. at-site w o u bytes full h e .short k;
-      leaves-14 = λ w o u bytes h e k. at-site w o u bytes true h e .lacks k refl;
-    }

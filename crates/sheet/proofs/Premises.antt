@@ -3,7 +3,6 @@ use Prim.Native.Nat.{ℕ}
 use mathlib.Core.Path.{_≡_, refl, ap}
 use mathlib.Core.Bool.{Bool, true, false, false≢true, true≢false}
 use mathlib.Core.List.{List, [], _∷_}
-use Rattle.heap.specs.declared.value.Opt.{Opt}
 use Rattle.heap.specs.declared.object.CoroState.{CoroState}
 use Rattle.model.specs.Lists.{isNil}
 use Rattle.model.specs.State.{isSuspended}
@@ -13,10 +12,12 @@ use Rattle.model.specs.Frames.{reg, storePc}
 use Rattle.model.specs.Heap.{coro, fits}
 use Rattle.model.specs.Coro.{saved, growth, overflows, closedBy}
 use Rattle.model.specs.Cleanup.{charge}
-use Rattle.model.specs.Exec.{autoKey, largestIn, coroCurrent}
+use Rattle.model.specs.Exec.{autoKey, largestIn}
 use Rattle.model.specs.Program.{func, firstOf}
 use Rattle.model.specs.Sound.{sound}
 use Rattle.model.specs.Compute.{computed}
+use Rattle.model.specs.Calls.{Instruction, table}
+use Rattle.sheet.specs.Needs.{isKey}
 use Rattle.model.specs.declared.program.Caught.{Caught}
 use Rattle.model.specs.declared.machine.Active.{Active}
 use Rattle.model.specs.declared.machine.Charge.{Charge}
@@ -25,11 +26,11 @@ use Rattle.model.specs.declared.machine.Driver.{Driver}
 use Rattle.model.specs.declared.machine.Frame.{Frame}
 use Rattle.model.specs.declared.coro.AutoKey.{AutoKey}
 use Rattle.model.specs.declared.exec.Step.{Step}
+use Rattle.model.specs.declared.call.OptPc.{OptPc}
 use Rattle.model.specs.declared.call.Op.{Op}
-use Rattle.sheet.specs.Gates.{Instruction, kind}
 use Rattle.sheet.specs.Charges.{passes}
 use Rattle.sheet.specs.Queue.{searches}
-use Rattle.sheet.specs.Memory.{charged, isKey}
+use Rattle.sheet.specs.Memory.{charged}
 use Rattle.sheet.specs.Pep342.{Pays}
 use Rattle.sheet.specs.SmallRuns.{usual, c, reached}
 use Rattle.sheet.specs.Met.{Pays-at, Into-at, Yields-at, Awaits-at, Body-at, Handed-at, Starts-at}
@@ -108,10 +109,10 @@ module _ (os : List Op) where
 
     -- the instruction passes its gate and its charge
     abbrev Passes : Op → Type 0
-    Passes o = (sound w ≡ true) × (passes w (kind w o) ≡ true) × (charge (Opt.Some pc) w .answer ≡ Charge.Done 0)
+    Passes o = (sound w ≡ true) × (passes w (table o) ≡ true) × (charge (OptPc.Some pc) w .answer ≡ Charge.Done 0)
 
     paying : (o : Op) → Passes o → Pays pc o w u 0
-    paying o p = record { machine = p .0; gate = p .1; charged = answered (charge (Opt.Some pc) w) (Charge.Done 0) (p .2) }
+    paying o p = record { machine = p .0; gate = p .1; charged = answered (charge (OptPc.Some pc) w) (Charge.Done 0) (p .2) }
 
     only : (o : Op) (More : World → Type 0) → Passes o → More u → Pays-at os pc o More
     only o More p more = record { pays = paying o p; more = more }
@@ -175,11 +176,11 @@ module _ (os : List Op) where
   handed suspended finalized machine found suspends finalizes =
       record { core = coreOf (coro w c); rest = restOf (coro w c); machine = machine; found = there (coro w c) found; suspends = suspends; finalizes = finalizes }
 
-  starting : (pc : ℕ) (o : Op) (ok : Bool) (arm : World → After Step) → kind w o ≡ Instruction pc ok arm → sound w ≡ true → passes w (kind w o) ≡ true → searches w ≡ true → w .finalize ≡ c ∷ [] → isAbsent (coro w c) ≡ false →
+  starting : (pc : ℕ) (o : Op) (operands : World → Bool) (arm : World → After Step) → table o ≡ Instruction pc operands arm → sound w ≡ true → passes w (table o) ≡ true → searches w ≡ true → w .finalize ≡ c ∷ [] → isAbsent (coro w c) ≡ false →
       isSuspended (coreOf (coro w c) .state) ≡ true → overflows (coreOf (coro w c)) w ≡ false → Starts-at os pc o
-  starting pc o ok arm instruction machine gate search first found suspends fits =
+  starting pc o operands arm instruction machine gate search first found suspends fits =
       record {
-        ok = ok;
+        operands = operands;
         arm = arm;
         queue = [];
         core = coreOf (coro w c);
@@ -222,7 +223,7 @@ premises =
       hand-over = handed _ _ _ refl refl refl refl;
       hand-over-again = handed _ _ _ refl refl refl refl;
       hand-over-refused = handed _ _ _ refl refl refl refl;
-      cleanup-starts = starting _ _ _ true (coroCurrent 1) refl refl refl refl refl refl refl refl;
+      cleanup-starts = starting _ _ _ _ _ refl refl refl refl refl refl refl refl;
       val-first = yielding _ _ _ _ (refl, refl, refl) refl refl refl refl refl refl;
       yield-5 = only _ _ _ _ (refl, refl, refl) refl;
       yield-kv-5 = only _ _ _ _ (refl, refl, refl) refl;

@@ -1,13 +1,12 @@
 -- The cleanup queue's loss, and the search's steps.
 use Prim.Native.Nat.{ℕ, _+_}
-use mathlib.Core.Path.{_≡_, refl, sym, ap, subst, _∙_}
+use mathlib.Core.Path.{_≡_, refl, sym, ap, _∙_}
 use mathlib.Core.Bool.{Bool, true, false, not, _&&_}
 use mathlib.Core.List.{List}
 use native.Mathlib.Omega.{arith}
 use lib.ListN.{length}
 use Rattle.lists.specs.Pick.{pick}
 use Rattle.heap.specs.declared.fault.Fault.{Fault}
-use Rattle.heap.specs.declared.value.Opt.{Opt}
 use Rattle.model.specs.Lists.{isNil}
 use Rattle.model.specs.World.{World, After}
 use Rattle.model.specs.Frames.{storePc}
@@ -16,13 +15,13 @@ use Rattle.model.specs.Cleanup.{charge}
 use Rattle.model.specs.Gate.{refused, charged, instruction}
 use Rattle.model.specs.Answer.{takenOff}
 use Rattle.model.specs.Sound.{sound}
-use Rattle.model.specs.Call.{Do}
-use Rattle.model.specs.Step.{Out, told, call, step}
+use Rattle.model.specs.Step.{Out, told, call, tested}
+use Rattle.model.specs.Calls.{Instruction, table}
 use Rattle.model.specs.declared.machine.Charge.{Charge}
 use Rattle.model.specs.declared.exec.Step.{Step}
+use Rattle.model.specs.declared.call.OptPc.{OptPc}
 use Rattle.model.specs.declared.call.Op.{Op}
 use Rattle.model.specs.declared.call.Answer.{Answer}
-use Rattle.sheet.specs.Gates.{Instruction, kind}
 use Rattle.sheet.specs.Own.{own}
 use Rattle.sheet.specs.Charges.{passes}
 use Rattle.sheet.specs.Queue.{steps, searches, Queue}
@@ -30,7 +29,7 @@ use Rattle.sheet.proofs.Choice.{both}
 use Rattle.sheet.proofs.Arms.{Fine}
 use Rattle.sheet.proofs.Says.{answer-count}
 use Rattle.sheet.proofs.Charge.{countOf, charge-loss, charge-count}
-use Rattle.sheet.proofs.Runs.{Runs, runs}
+use Rattle.sheet.proofs.Runs.{runs}
 
 -- an instruction's count is its charge's, and its arm leaves the queue
 module _ (ns : List ℕ) (arm : World → After Step) (fine : (u : World) → Fine ns u (arm u)) (u : World) where
@@ -55,14 +54,14 @@ count-gate n w true ok s x h = refl
 count-gate n w false true s x h = h
 count-gate n w false false s x h = refl
 
-module _ (w : World) (ns : List ℕ) (pc : ℕ) (ok : Bool) (arm : World → After Step) (fine : (u : World) → Fine ns u (arm u)) where
-  instruction-loss : Same w (instruction pc ok arm w)
+module _ (w : World) (ns : List ℕ) (pc : ℕ) (operands : World → Bool) (arm : World → After Step) (fine : (u : World) → Fine ns u (arm u)) where
+  instruction-loss : Same w (instruction pc (operands w) arm w)
   unfolding instruction
   instruction-loss =
       both (λ a. Same w a) _ (omega arith) (both (λ a. Same w a) _ (omega arith) lost)
     where
       c : After Charge
-      c = charge (Opt.Some pc) w
+      c = charge (OptPc.Some pc) w
 
       lost : Same w (charged arm (c .world) (c .answer))
       lost =
@@ -70,11 +69,11 @@ module _ (w : World) (ns : List ℕ) (pc : ℕ) (ok : Bool) (arm : World → Aft
           ∙ (ap (λ (q : List ℕ). countOf (c .answer) + length q) (charged-queue ns arm fine (c .world) (c .answer))
           ∙ charge-loss pc w)
 
-  instruction-count : takenOff (instruction pc ok arm w .answer) ≡ pick (passes w (Instruction pc ok arm) && searches w) (steps (w .finalize) (unbank (storePc pc (unbank w)))) 0
+  instruction-count : takenOff (instruction pc (operands w) arm w .answer) ≡ pick (passes w (Instruction pc operands arm) && searches w) (steps (w .finalize) (unbank (storePc pc (unbank w)))) 0
   unfolding instruction
   instruction-count =
-      count-gate (steps (w .finalize) (unbank (storePc pc (unbank w)))) w (isNil (w .frames)) ok (searches w) _
-      (charged-count ns arm fine (charge (Opt.Some pc) w .world) (charge (Opt.Some pc) w .answer) ∙ charge-count pc w)
+      count-gate (steps (w .finalize) (unbank (storePc pc (unbank w)))) w (isNil (w .frames)) (operands w) (searches w) _
+      (charged-count ns arm fine (charge (OptPc.Some pc) w .world) (charge (OptPc.Some pc) w .answer) ∙ charge-count pc w)
 
 -- ---- the machine's test first
 
@@ -89,20 +88,20 @@ unfolding pick
 step-count w n true s x h = h
 step-count w n false s x h = refl
 
-loss-of : (w : World) (o : Op) (pc : ℕ) (ok : Bool) (arm : World → After Step) → kind w o ≡ Instruction pc ok arm → length (w .finalize) ≡ takenOff (step w (Do o) .answer) + length (step w (Do o) .world .finalize)
-unfolding step
-loss-of w o pc ok arm e =
-    let r : Runs w (own o) (Instruction pc ok arm) (call o w) = subst (λ k. Runs w (own o) k (call o w)) e (runs w o) in
-    sym (step-loss w (sound w) (call o w) (ap (λ (x : Out). takenOff (x .answer) + length (x .world .finalize)) (r .0) ∙ instruction-loss w (own o) pc ok arm (r .1)))
+loss-of : (w : World) (o : Op) (pc : ℕ) (operands : World → Bool) (arm : World → After Step) → table o ≡ Instruction pc operands arm → length (w .finalize) ≡ takenOff (tested w o .answer) + length (tested w o .world .finalize)
+unfolding tested
+loss-of w o pc operands arm e =
+    let r = runs w o pc operands arm e in
+    sym (step-loss w (sound w) (call o w) (ap (λ (x : Out). takenOff (x .answer) + length (x .world .finalize)) (r .does) ∙ instruction-loss w (own o) pc operands arm (r .fine)))
 
-count-of : (w : World) (o : Op) (pc : ℕ) (ok : Bool) (arm : World → After Step) → kind w o ≡ Instruction pc ok arm →
-    takenOff (step w (Do o) .answer) ≡ pick (sound w && (passes w (kind w o) && searches w)) (steps (w .finalize) (unbank (storePc pc (unbank w)))) 0
-unfolding step
-count-of w o pc ok arm e =
-    let r : Runs w (own o) (Instruction pc ok arm) (call o w) = subst (λ k. Runs w (own o) k (call o w)) e (runs w o) in
-    step-count w (steps (w .finalize) (unbank (storePc pc (unbank w)))) (sound w) (passes w (kind w o) && searches w) (call o w)
-    (ap (λ (x : Out). takenOff (x .answer)) (r .0)
-    ∙ (instruction-count w (own o) pc ok arm (r .1)
+count-of : (w : World) (o : Op) (pc : ℕ) (operands : World → Bool) (arm : World → After Step) → table o ≡ Instruction pc operands arm →
+    takenOff (tested w o .answer) ≡ pick (sound w && (passes w (table o) && searches w)) (steps (w .finalize) (unbank (storePc pc (unbank w)))) 0
+unfolding tested
+count-of w o pc operands arm e =
+    let r = runs w o pc operands arm e in
+    step-count w (steps (w .finalize) (unbank (storePc pc (unbank w)))) (sound w) (passes w (table o) && searches w) (call o w)
+    (ap (λ (x : Out). takenOff (x .answer)) (r .does)
+    ∙ (instruction-count w (own o) pc operands arm (r .fine)
     ∙ ap (λ k. pick (passes w k && searches w) (steps (w .finalize) (unbank (storePc pc (unbank w)))) 0) (sym e)))
 
 pub queue : Queue

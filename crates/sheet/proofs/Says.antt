@@ -1,31 +1,30 @@
 -- Every call: refused at its gate with nothing changed, or an answer of its own.
 use Prim.Native.Nat.{ℕ}
 use mathlib.Core.Path.{_≡_, refl, sym, subst}
-use mathlib.Core.Bool.{Bool, true, false, not, _&&_, _||_}
+use mathlib.Core.Bool.{Bool, true, false, not, _||_}
 use mathlib.Core.List.{List, [], _∷_, _++_}
 use lib.Dec.{eqb}
 use Rattle.lists.specs.Pick.{pick}
 use Rattle.heap.specs.Fault as Faults
 use Rattle.heap.specs.Word.{nil}
 use Rattle.heap.specs.declared.fault.Fault.{Fault}
-use Rattle.heap.specs.declared.value.Opt.{Opt}
-use Rattle.model.specs.Lists.{isNil, among}
-use Rattle.model.specs.Program.{isFunction}
+use Rattle.model.specs.Lists.{isNil, among, each}
 use Rattle.model.specs.World.{World, After, after}
 use Rattle.model.specs.Frames.{storePc, putReg}
 use Rattle.model.specs.Cleanup.{charge}
-use Rattle.model.specs.Machine.{storeSome, unwind}
-use Rattle.model.specs.Gate.{refused, inFrame, answerOf, charged, instruction}
-use Rattle.model.specs.Added.{accepted, hostCall, hostEntry, contAllowed, functionCall, putWord, grant}
+use Rattle.model.specs.Machine.{storeSome, unwind, raisable, unwindFault}
+use Rattle.model.specs.Gate.{refused, answerOf, charged, instruction, onFrame, onHost}
+use Rattle.model.specs.Added.{accepted, hostCall, hostEntry, functionCall, putWord, grant, grantTooLarge}
 use Rattle.model.specs.Answer.{numberOf, stepNumber, takenOff}
-use Rattle.model.specs.Step.{call}
+use Rattle.model.specs.Step.{call, doing}
+use Rattle.model.specs.Calls.{Instruction, OnFrame, OnHost, Other, table, Row, Unwinds, Grants, Looks}
 use Rattle.model.specs.declared.machine.Charge.{Charge}
 use Rattle.model.specs.declared.machine.Cont.{Cont}
 use Rattle.model.specs.declared.exec.Step.{Step}
+use Rattle.model.specs.declared.call.OptPc.{OptPc}
 use Rattle.model.specs.declared.call.Op.{Op}
 use Rattle.model.specs.declared.call.Answer.{Answer}
-use Rattle.sheet.specs.Gates.{Kind, Instruction, OnFrame, OnHost, Adding, Raising, Other, kind}
-use Rattle.sheet.specs.Own.{own, ownWord}
+use Rattle.sheet.specs.Own.{own, ownWord, Line, line}
 use Rattle.sheet.specs.FaultSheet.{unchanging}
 use Rattle.sheet.proofs.Choice.{both}
 use Rattle.sheet.proofs.Among.{same}
@@ -40,22 +39,24 @@ frameGate none ok = pick none Fault.NoFrame (pick (not ok) Fault.BadOperand Faul
 abbrev hostGate : Bool → Bool → Fault
 hostGate none ok = pick (not none) Fault.Busy (pick (not ok) Fault.BadOperand Fault.None)
 
-abbrev pub gate : World → Kind → Fault
-gate w (Instruction pc ok arm) = frameGate (isNil (w .frames)) ok
-gate w (OnFrame ok) = frameGate (isNil (w .frames)) ok
-gate w (OnHost ok) = hostGate (isNil (w .frames)) ok
-gate w (Adding large) = pick large Fault.GrantTooLarge Fault.None
-gate w (Raising ok) = pick ok Fault.None Fault.Unsound
-gate w Other = Fault.None
+abbrev pub gate : World → Row → Fault
+gate w (Instruction pc operands arm) = frameGate (isNil (w .frames)) (operands w)
+gate w (OnFrame operands body) = frameGate (isNil (w .frames)) (operands w)
+gate w (OnHost operands body) = hostGate (isNil (w .frames)) (operands w)
+gate w (Unwinds f pc) = pick (raisable f) Fault.None Fault.Unsound
+gate w (Grants n) = pick (grantTooLarge n w) Fault.GrantTooLarge Fault.None
+gate w Looks = Fault.None
+gate w (Other body) = Fault.None
 
 -- the numbers of the charge
-abbrev pub atCharge : Kind → List ℕ
-atCharge (Instruction pc ok arm) = 10 ∷ 17 ∷ []
-atCharge (OnFrame ok) = []
-atCharge (OnHost ok) = []
-atCharge (Adding large) = []
-atCharge (Raising ok) = []
-atCharge Other = []
+abbrev pub atCharge : Row → List ℕ
+atCharge (Instruction pc operands arm) = 10 ∷ 17 ∷ []
+atCharge (OnFrame operands body) = []
+atCharge (OnHost operands body) = []
+atCharge (Unwinds f pc) = []
+atCharge (Grants n) = []
+atCharge Looks = []
+atCharge (Other body) = []
 
 pub data Says (w : World) (f : Fault) (ns : List ℕ) (own : Bool) : After Answer → Type 0 where
   refuses : among (Faults.numberOf f) unchanging ≡ true → Says w f ns own (refused w f)
@@ -75,11 +76,6 @@ module _ (w : World) (ns : List ℕ) (own : Bool) (a : After Answer) (t : Tells 
   on-host false ok = refuses refl
   on-host true true = goes-on refl t
   on-host true false = refuses refl
-
-  on-host-alone : (none : Bool) → Says w (hostGate none true) ns own (pick (not none) (refused w Fault.Busy) a)
-  unfolding pick
-  on-host-alone false = refuses refl
-  on-host-alone true = goes-on refl t
 
   on-sum : (large : Bool) → Says w (pick large Fault.GrantTooLarge Fault.None) ns own (pick large (refused w Fault.GrantTooLarge) a)
   unfolding pick
@@ -138,62 +134,73 @@ module _ (ns : List ℕ) (arm : World → After Step) (fine : (u : World) → Fi
   instruction-says : (pc : ℕ) (ok : Bool) (w : World) → Says w (frameGate (isNil (w .frames)) ok) (10 ∷ 17 ∷ ns) false (instruction pc ok arm w)
   unfolding instruction
   instruction-says pc ok w =
-      on-frame w _ _ _ (charged-tells (charge (Opt.Some pc) w .world) (charge (Opt.Some pc) w .answer)) (isNil (w .frames)) ok
+      on-frame w _ _ _ (charged-tells (charge (OptPc.Some pc) w .world) (charge (OptPc.Some pc) w .answer)) (isNil (w .frames)) ok
 
--- ---- the others with a gate
+-- ---- what the own tests of each call answer
 
-entry-says : (c v : ℕ) (w : World) → Says w (hostGate (isNil (w .frames)) true) (own (Op.HostEntry c v)) false (hostEntry c v w)
-unfolding hostEntry
-entry-says c v w = on-host-alone w _ _ _ (entry-tells c v w) (isNil (w .frames))
+abbrev pub Answers : List ℕ → Bool → Row → Type 0
+Answers ns word (Instruction pc operands arm) = (word ≡ false) × ((u : World) → Fine ns u (arm u))
+Answers ns word (OnFrame operands body) = (w : World) → Tells ns word (body w)
+Answers ns word (OnHost operands body) = (w : World) → Tells ns word (body w)
+Answers ns word (Unwinds f pc) = (w : World) → raisable f ≡ true → Tells ns word (unwindFault f (storeSome pc w))
+Answers ns word (Grants n) = (u : World) → Tells ns word (accepted u)
+Answers ns word Looks = (u : World) → Tells ns word (accepted u)
+Answers ns word (Other body) = (w : World) → Tells ns word (body w)
 
-call-says : (f : ℕ) (w : World) → Says w (hostGate (isNil (w .frames)) (isFunction (w .setup) f)) (own (Op.HostCall f)) false (hostCall f w)
-unfolding hostCall
-call-says f w = on-host w _ _ _ (push-tells f nil Cont.Entry w w) (isNil (w .frames)) (isFunction (w .setup) f)
+abbrev pub isCalm : ℕ → Bool
+isCalm n = not (among n unchanging)
 
-function-says : (pc f : ℕ) (cont : Cont) (w : World) → Says w (gate w (kind w (Op.FunctionCall pc f cont))) (0 ∷ 4 ∷ []) false (functionCall pc f cont w)
-unfolding functionCall
-function-says pc f cont w = on-frame w _ _ _ (push-tells f nil cont w (storePc pc w)) (isNil (w .frames)) (isFunction (w .setup) f && contAllowed w cont)
+pub record Owns (l : Line) (r : Row) : Type 0 where
+  -- none of the five that change no word
+  pub calm : each isCalm (l .own) ≡ true
+  pub answers : Answers (l .own) (l .word) r
 
-put-says : (r v : ℕ) (w : World) → Says w (gate w (kind w (Op.PutWord r v))) (0 ∷ []) false (putWord r v w)
-unfolding putWord
-put-says r v w = on-frame w (0 ∷ []) false (accepted (putReg r v w)) (record { number = refl; word = refl }) (isNil (w .frames)) (inFrame w r)
+plainly : (u : World) → Tells (0 ∷ []) false (accepted u)
+plainly u = record { number = refl; word = refl }
 
-grant-says : (n : ℕ) (w : World) → Says w (gate w (kind w (Op.Grant n))) (0 ∷ []) false (grant n w)
-unfolding grant
-grant-says n w = on-sum w (0 ∷ []) false _ (record { number = refl; word = refl }) _
-
-unwind-says : (f : Fault) (pc : Opt) (w : World) → Says w (gate w (kind w (Op.Unwind f pc))) (own (Op.Unwind f pc)) false (unwind f pc w)
-unfolding unwind
-unwind-says f pc w = on-fault w _ _ _ _ (unwind-tells f (storeSome pc w))
+pub owns : (o : Op) → Owns (line o) (table o)
+unfolding hostCall hostEntry functionCall putWord
+owns (Op.CoroNew pc dst f argc) = record { calm = refl; answers = (refl, new-fine dst f argc) }
+owns (Op.CoroNewIndirect pc dst callee argc) = record { calm = refl; answers = (refl, new-indirect-fine dst callee argc) }
+owns (Op.Spawn pc dst callee argc) = record { calm = refl; answers = (refl, spawn-fine pc dst callee argc) }
+owns (Op.Yield pc dst src) = record { calm = refl; answers = (refl, yield-fine pc dst src) }
+owns (Op.YieldKv pc dst src key) = record { calm = refl; answers = (refl, yield-kv-fine pc dst src key) }
+owns (Op.Await pc dst src) = record { calm = refl; answers = (refl, await-fine pc dst src) }
+owns (Op.Resume pc dst c src) = record { calm = refl; answers = (refl, resume-fine pc dst c src) }
+owns (Op.ResumeThrow pc dst c src) = record { calm = refl; answers = (refl, throw-fine pc dst c src) }
+owns (Op.CoroClose pc dst c src) = record { calm = refl; answers = (refl, close-fine pc dst c src) }
+owns (Op.CoroStatus pc dst c) = record { calm = refl; answers = (refl, status-fine dst c) }
+owns (Op.CoroCurrent pc dst) = record { calm = refl; answers = (refl, current-fine dst) }
+owns (Op.CoroKey pc dst c) = record { calm = refl; answers = (refl, key-fine dst c) }
+owns (Op.CoroResult pc dst c) = record { calm = refl; answers = (refl, result-fine dst c) }
+owns (Op.IterNext pc has iter val src) = record { calm = refl; answers = (refl, iter-fine pc has iter val src) }
+owns (Op.Finish k v) = record { calm = refl; answers = finish-tells k v }
+owns (Op.Unwind f pc) = record { calm = refl; answers = λ w h. unwind-tells f (storeSome pc w) h }
+owns (Op.SpawnTask v) = record { calm = refl; answers = spawn-task-tells v }
+owns (Op.HostCall f) = record { calm = refl; answers = λ w. push-tells f nil Cont.Entry w w }
+owns (Op.HostEntry c v) = record { calm = refl; answers = entry-tells c v }
+owns (Op.FunctionCall pc f cont) = record { calm = refl; answers = λ w. push-tells f nil cont w (storePc pc w) }
+owns (Op.PutWord r v) = record { calm = refl; answers = λ w. plainly (putReg r v w) }
+owns (Op.MakeIterator v) = record { calm = refl; answers = iterator-tells v }
+owns Op.TakeOutcome = record { calm = refl; answers = outcome-tells }
+owns (Op.HandOver v) = record { calm = refl; answers = hand-tells v }
+owns (Op.Grant n) = record { calm = refl; answers = plainly }
+owns Op.StopRun = record { calm = refl; answers = stop-tells }
+owns Op.Look = record { calm = refl; answers = plainly }
 
 -- ---- every call
 
-pub says : (o : Op) (w : World) → Says w (gate w (kind w o)) (atCharge (kind w o) ++ own o) (ownWord o) (after (call o w .world) (call o w .answer))
+says-row : (r : Row) (ns : List ℕ) (word : Bool) (w : World) → Answers ns word r → Says w (gate w r) (atCharge r ++ ns) word (after (doing r w .world) (doing r w .answer))
+unfolding onFrame onHost grant unwind
+says-row (Instruction pc operands arm) ns word w (e, fine) =
+    subst (λ b. Says w (frameGate (isNil (w .frames)) (operands w)) (10 ∷ 17 ∷ ns) b (instruction pc (operands w) arm w)) (sym e) (instruction-says ns arm fine pc (operands w) w)
+says-row (OnFrame operands body) ns word w t = on-frame w ns word (body w) (t w) (isNil (w .frames)) (operands w)
+says-row (OnHost operands body) ns word w t = on-host w ns word (body w) (t w) (isNil (w .frames)) (operands w)
+says-row (Unwinds f pc) ns word w t = on-fault w ns word (unwindFault f (storeSome pc w)) (raisable f) (t w)
+says-row (Grants n) ns word w t = on-sum w ns word _ (t _) (grantTooLarge n w)
+says-row Looks ns word w t = goes-on refl (t w)
+says-row (Other body) ns word w t = goes-on refl (t w)
+
+pub says : (o : Op) (w : World) → Says w (gate w (table o)) (atCharge (table o) ++ own o) (ownWord o) (after (call o w .world) (call o w .answer))
 unfolding call
-says (Op.CoroNew pc dst f argc) w = instruction-says _ _ (new-fine dst f argc) pc _ w
-says (Op.CoroNewIndirect pc dst callee argc) w = instruction-says _ _ (new-indirect-fine dst callee argc) pc _ w
-says (Op.Spawn pc dst callee argc) w = instruction-says _ _ (spawn-fine pc dst callee argc) pc _ w
-says (Op.Yield pc dst src) w = instruction-says _ _ (yield-fine pc dst src) pc _ w
-says (Op.YieldKv pc dst src key) w = instruction-says _ _ (yield-kv-fine pc dst src key) pc _ w
-says (Op.Await pc dst src) w = instruction-says _ _ (await-fine pc dst src) pc _ w
-says (Op.Resume pc dst c src) w = instruction-says _ _ (resume-fine pc dst c src) pc _ w
-says (Op.ResumeThrow pc dst c src) w = instruction-says _ _ (throw-fine pc dst c src) pc _ w
-says (Op.CoroClose pc dst c src) w = instruction-says _ _ (close-fine pc dst c src) pc _ w
-says (Op.CoroStatus pc dst c) w = instruction-says _ _ (status-fine dst c) pc _ w
-says (Op.CoroCurrent pc dst) w = instruction-says _ _ (current-fine dst) pc _ w
-says (Op.CoroKey pc dst c) w = instruction-says _ _ (key-fine dst c) pc _ w
-says (Op.CoroResult pc dst c) w = instruction-says _ _ (result-fine dst c) pc _ w
-says (Op.IterNext pc has iter val src) w = instruction-says _ _ (iter-fine pc has iter val src) pc _ w
-says (Op.Finish k v) w = goes-on refl (finish-tells k v w)
-says (Op.Unwind f pc) w = unwind-says f pc w
-says (Op.SpawnTask v) w = goes-on refl (spawn-task-tells v w)
-says (Op.HostCall f) w = call-says f w
-says (Op.HostEntry c v) w = entry-says c v w
-says (Op.FunctionCall pc f cont) w = function-says pc f cont w
-says (Op.PutWord r v) w = put-says r v w
-says (Op.MakeIterator v) w = goes-on refl (iterator-tells v w)
-says Op.TakeOutcome w = goes-on refl (outcome-tells w)
-says (Op.HandOver v) w = goes-on refl (hand-tells v w)
-says (Op.Grant n) w = grant-says n w
-says Op.StopRun w = goes-on refl (stop-tells w)
-says Op.Look w = goes-on refl (record { number = refl; word = refl })
+says o w = says-row (table o) (own o) (ownWord o) w (owns o .answers)

@@ -3,7 +3,6 @@ use Prim.Native.Nat.{ℕ}
 use mathlib.Core.Path.{_≡_, refl}
 use mathlib.Core.Bool.{Bool, true, false, _||_, false≢true}
 use mathlib.Core.List.{List, [], _∷_}
-use lib.Dec.{eqb}
 use Rattle.lists.specs.Pick.{pick}
 use Rattle.heap.specs.Fault as Faults
 use Rattle.heap.specs.Int.{exactly, valueOf}
@@ -12,14 +11,14 @@ use Rattle.heap.specs.declared.value.Opt.{Opt}
 use Rattle.heap.specs.declared.int.Exact.{Exact}
 use Rattle.heap.specs.declared.int.IntTy.{IntTy}
 use Rattle.model.specs.Lists.{among}
-use Rattle.model.specs.Program.{func, firstOf, between}
+use Rattle.model.specs.Program.{func, firstOf}
 use Rattle.model.specs.Object.{Object, Coroutine, Absent, Is}
 use Rattle.model.specs.World.{World, After, andThen}
 use Rattle.model.specs.Frames.{popTo, topFunc, topPc}
 use Rattle.model.specs.Heap.{coro, alloc, toDyn, encodeExact}
 use Rattle.model.specs.Coro.{coroEnter, coroEscaped}
 use Rattle.model.specs.Cleanup.{spawnTask, spawnAs, charge}
-use Rattle.model.specs.Machine.{pushFrame, applyCont, writeMade, resumeIn, returnMade, finishAs, finishOn, finish, caught, escape, searchAs, search, searchFrames, searchMade, errorOf, unwindFault}
+use Rattle.model.specs.Machine.{pushFrame, applyCont, writeMade, resumeIn, returnMade, finishAs, finishOn, finish, caught, escape, searchAs, search, searchFrames, searchMade, errorOf, unwindFault, raisable}
 use Rattle.model.specs.Added.{answerMade, pushedOr, hostArrive, iteratorOver, makeIterator, takeOutcome, handOverAs, handOver, stopRun}
 use Rattle.model.specs.Answer.{numberOf}
 use Rattle.model.specs.declared.program.Caught.{Caught}
@@ -31,6 +30,7 @@ use Rattle.model.specs.declared.machine.Frame.{Frame}
 use Rattle.model.specs.declared.coro.Made.{Made}
 use Rattle.model.specs.declared.coro.Entered.{Entered}
 use Rattle.heap.specs.declared.heap.ResultKind.{ResultKind}
+use Rattle.model.specs.declared.call.OptPc.{OptPc}
 use Rattle.model.specs.declared.call.Answer.{Answer}
 use Rattle.sheet.proofs.Choice.{both}
 use Rattle.sheet.proofs.Keep.{faultIn, madeIn, enteredIn, not-in, enter-keeps, alloc-keeps, encode-keeps, push-keeps}
@@ -196,7 +196,7 @@ module _ (ns : List ℕ) (zero : among 0 ns ≡ true) (ten : among 10 ns ≡ tru
 
   search-as : (c : Caught) (x : Frame) (xs : List Frame) (value f pc : ℕ) (next : World → After Answer) → ((u : World) → Tells ns false (next u)) → (w : World) → Tells ns false (searchAs c x xs value f pc next w)
   search-as Caught.Nothing x xs value f pc next k w = escape-tells (x .cont) value f pc next k (popTo x xs w)
-  search-as (Caught.By h) x xs value f pc next k w = caught-tells h value (charge Opt.None w .world) (charge Opt.None w .answer)
+  search-as (Caught.By h) x xs value f pc next k w = caught-tells h value (charge OptPc.None w .world) (charge OptPc.None w .answer)
 
   search-tells : (fs : List Frame) (value f pc : ℕ) (w : World) → Tells ns false (search fs value f pc w)
   search-tells [] value f pc w = record { number = thrown; word = refl }
@@ -222,7 +222,7 @@ raise-tells f w =
     search-made (o .world) (o .answer) (alloc-keeps unwinds refl refl (w .setup .costs .error) (errorOf f w) w .passes)
 
 -- a fault of unwind: 1 to 10 or 17
-pub unwind-tells : (f : Fault) (w : World) → between 1 10 (Faults.numberOf f) || eqb (Faults.numberOf f) 17 ≡ true → Ends (unwindFault f w)
+pub unwind-tells : (f : Fault) (w : World) → raisable f ≡ true → Ends (unwindFault f w)
 unfolding pick
 unwind-tells Fault.None w h = absurd (false≢true h)
 unwind-tells Fault.NullReference w h = raise-tells Fault.NullReference w

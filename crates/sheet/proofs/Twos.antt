@@ -11,11 +11,10 @@ use Rattle.model.specs.Heap.{coro}
 use Rattle.model.specs.Exec.{autoKey, largestIn, yieldOn, yield, yieldKvOn, yieldKv}
 use Rattle.model.specs.Answer.{stepNumber}
 use Rattle.model.specs.Sound.{sound}
-use Rattle.model.specs.Call.{Do}
 use Rattle.model.specs.Step.{call}
+use Rattle.model.specs.Calls.{table}
 use Rattle.model.specs.declared.machine.Active.{Active}
 use Rattle.model.specs.declared.call.Op.{Op}
-use Rattle.sheet.specs.Gates.{kind}
 use Rattle.sheet.specs.Number.{given}
 use Rattle.sheet.specs.Charges.{paid}
 use Rattle.sheet.proofs.Among.{unlike}
@@ -64,16 +63,16 @@ none true true c = refl
 none true false c = refl
 none false b c = refl
 
-pub never-two : (w : World) (pc dst src : ℕ) → given 2 w (Do (Op.Yield pc dst src)) ≡ false
+pub never-two : (w : World) (pc dst src : ℕ) → given 2 w (Op.Yield pc dst src) ≡ false
 unfolding call
 never-two w pc dst src =
     step-given 2 w (Op.Yield pc dst src) refl
-    ∙ (under-test (sound w) _ (paid w (kind w (Op.Yield pc dst src)) && false) (λ h. arm-test 2 refl refl refl refl w (Op.Yield pc dst src) pc _ (yield pc dst src) refl false (λ u c. yield-two w u h c pc dst src))
-    ∙ none (sound w) (paid w (kind w (Op.Yield pc dst src))) false)
+    ∙ (under-test (sound w) _ (paid w (table (Op.Yield pc dst src)) && false) (λ h. arm-test 2 refl refl refl refl w (Op.Yield pc dst src) pc _ (yield pc dst src) refl false (λ u c. yield-two w u h c pc dst src))
+    ∙ none (sound w) (paid w (table (Op.Yield pc dst src))) false)
 
-pub never-two-keyed : (w : World) (pc dst src key : ℕ) → given 2 w (Do (Op.YieldKv pc dst src key)) ≡ false
+pub never-two-keyed : (w : World) (pc dst src key : ℕ) → given 2 w (Op.YieldKv pc dst src key) ≡ false
 unfolding call
 never-two-keyed w pc dst src key =
     step-given 2 w (Op.YieldKv pc dst src key) refl
-    ∙ (under-test (sound w) _ (paid w (kind w (Op.YieldKv pc dst src key)) && false) (λ h. arm-test 2 refl refl refl refl w (Op.YieldKv pc dst src key) pc _ (yieldKv pc dst src key) refl false (λ u c. keyed-two w u h c pc dst src key))
-    ∙ none (sound w) (paid w (kind w (Op.YieldKv pc dst src key))) false)
+    ∙ (under-test (sound w) _ (paid w (table (Op.YieldKv pc dst src key)) && false) (λ h. arm-test 2 refl refl refl refl w (Op.YieldKv pc dst src key) pc _ (yieldKv pc dst src key) refl false (λ u c. keyed-two w u h c pc dst src key))
+    ∙ none (sound w) (paid w (table (Op.YieldKv pc dst src key))) false)

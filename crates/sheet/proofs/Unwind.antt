@@ -7,7 +7,6 @@ use lib.Dec.{eqb}
 use Rattle.lists.specs.Pick.{pick}
 use Rattle.heap.specs.Fault as Faults
 use Rattle.heap.specs.declared.fault.Fault.{Fault}
-use Rattle.heap.specs.declared.value.Opt.{Opt}
 use Rattle.heap.specs.declared.object.CoroState.{CoroState}
 use Rattle.model.specs.Program.{func, firstOf}
 use Rattle.model.specs.Object.{Core, Rest, Object, Coroutine, Absent, Is}
@@ -20,7 +19,6 @@ use Rattle.model.specs.Machine.{caught, escape, searchAs, search, searchFrames,
 use Rattle.model.specs.Added.{reserve}
 use Rattle.model.specs.Answer.{numberOf}
 use Rattle.model.specs.Sound.{sound}
-use Rattle.model.specs.Call.{Do}
 use Rattle.model.specs.Step.{call}
 use Rattle.model.specs.declared.program.Caught.{Caught}
 use Rattle.model.specs.declared.program.Handler.{Handler}
@@ -32,6 +30,7 @@ use Rattle.model.specs.declared.machine.Frame.{Frame}
 use Rattle.model.specs.declared.machine.Fuel.{Fuel}
 use Rattle.model.specs.declared.machine.Stop.{Stop}
 use Rattle.model.specs.declared.coro.Made.{Made}
+use Rattle.model.specs.declared.call.OptPc.{OptPc}
 use Rattle.model.specs.declared.call.Op.{Op}
 use Rattle.model.specs.declared.call.Answer.{Answer}
 use Rattle.sheet.specs.Number.{given}
@@ -97,7 +96,7 @@ caught-ten h value u (Charge.Close n) = refl
 
 search-as-ten : (c : Caught) (x : Frame) (xs : List Frame) (value f pc : ℕ) (next : World → After Answer) (l : World → Bool) → Ten next l → Ten (searchAs c x xs value f pc next) (landsBy c x xs value f pc l)
 search-as-ten Caught.Nothing x xs value f pc next l h w = escape-ten (x .cont) value f pc next l h (popTo x xs w)
-search-as-ten (Caught.By c) x xs value f pc next l h w = caught-ten c value (charge Opt.None w .world) (charge Opt.None w .answer) ∙ spent Opt.None w
+search-as-ten (Caught.By c) x xs value f pc next l h w = caught-ten c value (charge OptPc.None w .world) (charge OptPc.None w .answer) ∙ spent OptPc.None w
 
 search-ten : (fs : List Frame) (value f pc : ℕ) → Ten (search fs value f pc) (landsFrom fs value f pc)
 search-ten [] value f pc w = refl
@@ -128,9 +127,9 @@ raise-ten f w =
     made-ten (o .world) (o .answer) (alloc-keeps lacks refl refl (w .setup .costs .error) (errorOf f w) w .passes)
     ∙ ap (λ (x : Fuel). landsMade (o .world) (o .answer) && used x) (alloc-fuel (w .setup .costs .error) (errorOf f w) w)
 
-stored-fuel : (pc : Opt) (w : World) → storeSome pc w .fuel ≡ w .fuel
-stored-fuel Opt.None w = refl
-stored-fuel (Opt.Some pc) w = refl
+stored-fuel : (pc : OptPc) (w : World) → storeSome pc w .fuel ≡ w .fuel
+stored-fuel OptPc.None w = refl
+stored-fuel (OptPc.Some pc) w = refl
 
 raised : (f : Fault) (w u : World) → u .fuel ≡ w .fuel →
     eqb (numberOf (andThen (alloc (u .setup .costs .error) (errorOf f u) u) searchMade .answer)) 10
@@ -139,7 +138,7 @@ raised f w u e =
     raise-ten f u
     ∙ ap (λ (x : Fuel). landsMade (alloc (u .setup .costs .error) (errorOf f u) u .world) (alloc (u .setup .costs .error) (errorOf f u) u .answer) && used x) e
 
-unwind-ten : (f : Fault) (pc : Opt) (w : World) → eqb (numberOf (unwind f pc w .answer)) 10 ≡ unwindUnpaid f pc w
+unwind-ten : (f : Fault) (pc : OptPc) (w : World) → eqb (numberOf (unwind f pc w .answer)) 10 ≡ unwindUnpaid f pc w
 unfolding unwind pick
 unwind-ten Fault.None pc w = refl
 unwind-ten Fault.NullReference pc w = raised Fault.NullReference w (storeSome pc w) (stored-fuel pc w)
@@ -160,6 +159,6 @@ unwind-ten Fault.Busy pc w = refl
 unwind-ten Fault.GrantTooLarge pc w = refl
 unwind-ten (Fault.Throw v) pc w = throw-ten v (storeSome pc w) ∙ ap (λ (x : Fuel). lands v (storeSome pc w) && used x) (stored-fuel pc w)
 
-pub given-ten-unwind : (w : World) (f : Fault) (pc : Opt) → given 10 w (Do (Op.Unwind f pc)) ≡ sound w && unwindUnpaid f pc w
+pub given-ten-unwind : (w : World) (f : Fault) (pc : OptPc) → given 10 w (Op.Unwind f pc) ≡ sound w && unwindUnpaid f pc w
 unfolding call
 given-ten-unwind w f pc = step-given 10 w (Op.Unwind f pc) refl ∙ ap (λ b. sound w && b) (unwind-ten f pc w)

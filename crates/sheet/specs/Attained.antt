@@ -10,6 +10,7 @@ use Rattle.model.specs.Program.{Setup}
 use Rattle.model.specs.Example.{plain}
 use Rattle.model.specs.declared.machine.Cont.{Cont}
 use Rattle.heap.specs.declared.heap.ResultKind.{ResultKind}
+use Rattle.model.specs.declared.call.OptPc.{OptPc}
 use Rattle.model.specs.declared.call.Op.{Op}
 use Rattle.sheet.specs.Own.{own}
 use Rattle.sheet.specs.SmallRuns.{small, usual, f0, c, gives, begun, holding, running, yielded, ignoring, looping, itself, tall, keyed}
@@ -97,10 +98,10 @@ pub record Attained : Type 0 where
       ∷ gives (tight 4) converting (Op.Finish ResultKind.I64 (2 ^ 47)) ∷ []
       ≡ own (Op.Finish ResultKind.I64 0)
   pub unwind :
-      gives usual (Op.Grant 9 ∷ Op.HostCall 3 ∷ []) (Op.Unwind (Fault.Throw 9) Opt.None) ∷ gives (poor 55) (begun 9 []) (Op.Unwind Fault.TypeError Opt.None)
-      ∷ gives usual (Op.HostCall 3 ∷ []) (Op.Unwind (Fault.Throw 9) Opt.None) ∷ gives (tight 4) (begun 9 []) (Op.Unwind Fault.TypeError Opt.None)
-      ∷ gives usual (begun 9 []) (Op.Unwind (Fault.Throw 7) Opt.None) ∷ []
-      ≡ own (Op.Unwind Fault.None Opt.None)
+      gives usual (Op.Grant 9 ∷ Op.HostCall 3 ∷ []) (Op.Unwind (Fault.Throw 9) OptPc.None) ∷ gives (poor 55) (begun 9 []) (Op.Unwind Fault.TypeError OptPc.None)
+      ∷ gives usual (Op.HostCall 3 ∷ []) (Op.Unwind (Fault.Throw 9) OptPc.None) ∷ gives (tight 4) (begun 9 []) (Op.Unwind Fault.TypeError OptPc.None)
+      ∷ gives usual (begun 9 []) (Op.Unwind (Fault.Throw 7) OptPc.None) ∷ []
+      ≡ own (Op.Unwind Fault.None OptPc.None)
   pub spawn-task : gives usual (holding 1 []) (Op.SpawnTask c) ∷ gives usual [] (Op.SpawnTask nil) ∷ [] ≡ own (Op.SpawnTask c)
   pub host-call : gives wide [] (Op.HostCall 0) ∷ gives wide [] (Op.HostCall 1) ∷ [] ≡ own (Op.HostCall 0)
   pub host-entry :

@@ -19,39 +19,41 @@ use Rattle.model.specs.Machine.{storeSome, errorOf}
 use Rattle.model.specs.Exec.{indirect}
 use Rattle.model.specs.Added.{reserve}
 use Rattle.model.specs.Sound.{sound, isNone}
-use Rattle.model.specs.Call.{Do}
+use Rattle.model.specs.Calls.{Row, Instruction, OnFrame, OnHost, Unwinds, Grants, Looks, Other, table}
 use Rattle.model.specs.declared.program.Caught.{Caught}
 use Rattle.model.specs.declared.machine.Charge.{Charge}
 use Rattle.model.specs.declared.machine.Cont.{Cont}
 use Rattle.model.specs.declared.machine.Frame.{Frame}
 use Rattle.model.specs.declared.coro.Made.{Made}
+use Rattle.model.specs.declared.call.OptPc.{OptPc}
 use Rattle.model.specs.declared.call.Op.{Op}
-use Rattle.sheet.specs.Gates.{Kind, Instruction, OnFrame, OnHost, Adding, Raising, Other, kind}
 use Rattle.sheet.specs.Own.{own}
 use Rattle.sheet.specs.Number.{given}
 
 -- ---- an instruction behind its gate, and behind its charge
 
-abbrev pub passes : World → Kind → Bool
-passes w (Instruction pc ok arm) = not (isNil (w .frames)) && ok
-passes w (OnFrame ok) = false
-passes w (OnHost ok) = false
-passes w (Adding large) = false
-passes w (Raising ok) = false
-passes w Other = false
+abbrev pub passes : World → Row → Bool
+passes w (Instruction pc operands arm) = not (isNil (w .frames)) && operands w
+passes w (OnFrame operands body) = false
+passes w (OnHost operands body) = false
+passes w (Unwinds f pc) = false
+passes w (Grants n) = false
+passes w Looks = false
+passes w (Other body) = false
 
 abbrev pub isDone : Charge → Bool
 isDone (Charge.Done n) = true
 isDone Charge.Spent = false
 isDone (Charge.Close n) = false
 
-abbrev pub paid : World → Kind → Bool
-paid w (Instruction pc ok arm) = passes w (Instruction pc ok arm) && isDone (charge (Opt.Some pc) w .answer)
-paid w (OnFrame ok) = false
-paid w (OnHost ok) = false
-paid w (Adding large) = false
-paid w (Raising ok) = false
-paid w Other = false
+abbrev pub paid : World → Row → Bool
+paid w (Instruction pc operands arm) = passes w (Instruction pc operands arm) && isDone (charge (OptPc.Some pc) w .answer)
+paid w (OnFrame operands body) = false
+paid w (OnHost operands body) = false
+paid w (Unwinds f pc) = false
+paid w (Grants n) = false
+paid w Looks = false
+paid w (Other body) = false
 
 -- "bank and fuel both used up"
 abbrev pub usedUp : World → Bool
@@ -69,8 +71,8 @@ hookUnpaid (Opt.Some hook) made = isMade (made .answer) && usedUp (made .world)
 
 abbrev pub spawnUnpaid : ℕ → ℕ → ℕ → ℕ → World → Bool
 spawnUnpaid pc dst callee argc w =
-    let u = charge (Opt.Some pc) w .world in
-    isDone (charge (Opt.Some pc) w .answer) && hookUnpaid (u .setup .hook) (indirect dst callee argc u)
+    let u = charge (OptPc.Some pc) w .world in
+    isDone (charge (OptPc.Some pc) w .answer) && hookUnpaid (u .setup .hook) (indirect dst callee argc u)
 
 -- ---- the handler at which an unwinding arrives: the word value, raised at pc of function f, from the top frame down
 
@@ -104,19 +106,19 @@ caughtAt f w =
     pick (eqb (Faults.numberOf f) 17) (lands (Faults.wordOf f) w) (pick (between 1 8 (Faults.numberOf f)) (landsMade (made .world) (made .answer)) false)
 
 -- unwind is given 10, or comes to a handler that nothing is left to pay for
-abbrev pub unwindUnpaid : Fault → Opt → World → Bool
+abbrev pub unwindUnpaid : Fault → OptPc → World → Bool
 unwindUnpaid f pc w = eqb (Faults.numberOf f) 10 || (caughtAt f (storeSome pc w) && usedUp w)
 
 pub record Charges : Type 0 where
   -- 5 | suspending without an active coroutine. Yield, YieldKv and Await alone have a 5 among their own numbers.
-  pub given-5 : (w : World) (o : Op) → given 5 w (Do o) ≡ sound w && (among 5 (own o) && (paid w (kind w o) && isNil (w .chain)))
+  pub given-5 : (w : World) (o : Op) → given 5 w o ≡ sound w && (among 5 (own o) && (paid w (table o) && isNil (w .chain)))
   -- 8 | Spawn without a hook. Spawn alone has an 8 among its own numbers.
-  pub given-8 : (w : World) (o : Op) → given 8 w (Do o) ≡ sound w && (among 8 (own o) && (paid w (kind w o) && isNone (w .setup .hook)))
+  pub given-8 : (w : World) (o : Op) → given 8 w o ≡ sound w && (among 8 (own o) && (paid w (table o) && isNone (w .setup .hook)))
   -- 10 | bank and fuel both used up: at the charge of an instruction; Spawn and unwind, which charge again, have a 10 of their own
-  pub given-10 : (w : World) (o : Op) → among 10 (own o) ≡ false → given 10 w (Do o) ≡ sound w && (passes w (kind w o) && usedUp w)
+  pub given-10 : (w : World) (o : Op) → among 10 (own o) ≡ false → given 10 w o ≡ sound w && (passes w (table o) && usedUp w)
   pub given-10-spawn : (w : World) (pc dst callee argc : ℕ) →
-      given 10 w (Do (Op.Spawn pc dst callee argc)) ≡ sound w && (passes w (kind w (Op.Spawn pc dst callee argc)) && (usedUp w || spawnUnpaid pc dst callee argc w))
-  pub given-10-unwind : (w : World) (f : Fault) (pc : Opt) → given 10 w (Do (Op.Unwind f pc)) ≡ sound w && unwindUnpaid f pc w
+      given 10 w (Op.Spawn pc dst callee argc) ≡ sound w && (passes w (table (Op.Spawn pc dst callee argc)) && (usedUp w || spawnUnpaid pc dst callee argc w))
+  pub given-10-unwind : (w : World) (f : Fault) (pc : OptPc) → given 10 w (Op.Unwind f pc) ≡ sound w && unwindUnpaid f pc w
   -- the 2 of coro_suspend, for a running coroutine whose word finds none, is an unsound machine's alone
-  pub never-2 : (w : World) (pc dst src : ℕ) → given 2 w (Do (Op.Yield pc dst src)) ≡ false
-  pub never-2-keyed : (w : World) (pc dst src key : ℕ) → given 2 w (Do (Op.YieldKv pc dst src key)) ≡ false
+  pub never-2 : (w : World) (pc dst src : ℕ) → given 2 w (Op.Yield pc dst src) ≡ false
+  pub never-2-keyed : (w : World) (pc dst src key : ℕ) → given 2 w (Op.YieldKv pc dst src key) ≡ false

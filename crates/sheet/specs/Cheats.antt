@@ -9,12 +9,12 @@ use Rattle.model.specs.World.{World, After}
 use Rattle.model.specs.Frames.{reg}
 use Rattle.model.specs.Heap.{coro}
 use Rattle.model.specs.Answer.{numberOf, takenOff}
-use Rattle.model.specs.Call.{Call, Do}
+use Rattle.model.specs.Call.{Operation, Call, Do, typed, asCall}
 use Rattle.model.specs.Step.{Out, step}
+use Rattle.model.specs.Calls.{Instruction, table}
 use Rattle.model.specs.declared.exec.Step.{Step}
 use Rattle.model.specs.declared.call.Op.{Op}
 use Rattle.model.specs.declared.call.Answer.{Answer}
-use Rattle.sheet.specs.Gates.{Instruction, kind}
 use Rattle.sheet.specs.Charges.{passes}
 
 abbrev pub Engine : Type 0
@@ -26,21 +26,22 @@ Meets e = (w : World) (c : Call) → e w c ≡ step w c
 
 -- "answering 10 or 9 before trying": behind the gate nothing is tried
 abbrev pub Gives-up : ℕ → Engine → Type 0
-Gives-up n e = (w : World) (o : Op) → passes w (kind w o) ≡ true → numberOf (e w (Do o) .answer) ≡ n
+Gives-up n e = (w : World) (o : Operation) → passes w (table (o .op)) ≡ true → numberOf (e w (Do o) .answer) ≡ n
 
 -- "moving rows at the first entry and later only changing states": a suspended coroutine's words do not come back
 abbrev pub Moves-once : Engine → Type 0
 Moves-once e =
-    (w : World) (pc dst c src : ℕ) (k : Core) (r : Rest) → coro w (reg w c) ≡ Is k r → isSuspended (k .state) ≡ true → e w (Do (Op.Resume pc dst c src)) .world .stack ≡ w .stack
+    (w : World) (pc dst c src : ℕ) (fits : typed (Op.Resume pc dst c src) ≡ true) (k : Core) (r : Rest) → coro w (reg w c) ≡ Is k r → isSuspended (k .state) ≡ true →
+    e w (asCall (Op.Resume pc dst c src) fits) .world .stack ≡ w .stack
 
 -- "inventing the number of queue words": at some instruction the count is not the queue's loss
 pub record Invents (e : Engine) : Type 0 where
   pub w : World
-  pub o : Op
+  pub o : Operation
   pub pc : ℕ
-  pub ok : Bool
+  pub operands : World → Bool
   pub arm : World → After Step
-  pub instruction : kind w o ≡ Instruction pc ok arm
+  pub instruction : table (o .op) ≡ Instruction pc operands arm
   pub untrue : length (w .finalize) ≡ takenOff (e w (Do o) .answer) + length (e w (Do o) .world .finalize) → ⊥
 
 -- "doing nothing"

@@ -10,11 +10,13 @@ use Rattle.model.specs.World.{fresh}
 use Rattle.model.specs.Answer.{numberOf, wordOf}
 use Rattle.model.specs.Call.{SetUp}
 use Rattle.model.specs.Step.{step}
+use Rattle.model.specs.Calls.{table}
 use Rattle.model.specs.declared.machine.Cont.{Cont}
 use Rattle.model.specs.declared.machine.Outcome.{Outcome}
 use Rattle.model.specs.declared.machine.Stop.{Stop}
 use Rattle.model.specs.declared.exec.Step.{Step}
 use Rattle.heap.specs.declared.heap.ResultKind.{ResultKind}
+use Rattle.model.specs.declared.call.OptPc.{OptPc}
 use Rattle.model.specs.declared.call.Op.{Op}
 use Rattle.model.specs.declared.call.Answer.{Answer}
 use Rattle.sheet.specs.SmallRuns.{small, usual, f0, c, d, answer, gives, begun, holding, running, yielded, ignoring, looping}
@@ -26,14 +28,14 @@ pub record Coverage : Type 0 where
   pub exit-none : answer usual (begun 0 []) (Op.Finish ResultKind.None 7) ≡ Answer.Exit Opt.None
   pub exit-word : answer usual (begun 0 []) (Op.Finish ResultKind.Dyn 7) ≡ Answer.Exit (Opt.Some 7)
   pub returned : answer usual (running 1 []) (Op.Finish ResultKind.Dyn 7) ≡ Answer.Resume
-  pub caught : answer usual (yielded 3 (Op.CoroClose 3 1 0 2 ∷ [])) (Op.Unwind (Fault.Throw 9) Opt.None) ≡ Answer.Caught
-  pub stopped : answer usual (yielded 1 (Op.CoroClose 3 1 0 2 ∷ [])) (Op.Unwind (Fault.Throw nil) Opt.None) ≡ Answer.Stopped
+  pub caught : answer usual (yielded 3 (Op.CoroClose 3 1 0 2 ∷ [])) (Op.Unwind (Fault.Throw 9) OptPc.None) ≡ Answer.Caught
+  pub stopped : answer usual (yielded 1 (Op.CoroClose 3 1 0 2 ∷ [])) (Op.Unwind (Fault.Throw nil) OptPc.None) ≡ Answer.Stopped
   pub no-outcome : answer usual [] Op.TakeOutcome ≡ Answer.Took Outcome.None
   pub outcome : answer usual (holding 1 (Op.StopRun ∷ Op.HostEntry c 0 ∷ Op.PutWord 0 7 ∷ Op.Yield 8 0 0 ∷ [])) Op.TakeOutcome ≡ Answer.Took (Outcome.Some (Stop.Yielded 7))
   -- 1 | nil or a dead reference
   pub nil-word : gives usual (begun 9 []) (Op.CoroStatus 1 0 0) ≡ 1
   pub dead : gives usual (begun 9 (Op.PutWord 0 (c) ∷ [])) (Op.Resume 1 0 0 0) ≡ 1
-  -- 2 | wrong kind of object or word, wrong argument count, await in a loop
+  -- 2 | wrong table object or word, wrong argument count, await in a loop
   pub wrong-object : gives usual (begun 9 (Op.PutWord 0 f0 ∷ [])) (Op.CoroKey 1 0 0) ≡ 2
   pub wrong-word : gives usual [] (Op.HandOver (intWord (pos 5))) ≡ 2
   pub wrong-count : gives usual (begun 9 (Op.PutWord 0 f0 ∷ [])) (Op.CoroNewIndirect 1 0 0 3) ≡ 2
@@ -67,18 +69,18 @@ pub record Coverage : Type 0 where
   pub creation-charged : gives (small 2 8 207 Opt.None) (begun 9 []) (Op.CoroNew 1 0 1 0) ≡ 9
   pub suspension-charged : gives (small 2 8 208 Opt.None) (running 1 (Op.FunctionCall 5 0 Cont.Discard ∷ [])) (Op.Yield 8 0 0) ≡ 9
   pub integer-charged : gives (small 2 8 55 Opt.None) (begun 9 (Op.FunctionCall 1 0 (Cont.Dyn 0) ∷ [])) (Op.Finish ResultKind.I64 (2 ^ 47)) ≡ 9
-  pub error-charged : gives (small 2 8 55 Opt.None) (begun 9 []) (Op.Unwind Fault.TypeError Opt.None) ≡ 9
+  pub error-charged : gives (small 2 8 55 Opt.None) (begun 9 []) (Op.Unwind Fault.TypeError OptPc.None) ≡ 9
   pub iterator-charged : gives (small 2 8 208 Opt.None) (holding 1 []) (Op.MakeIterator c) ≡ 9
-  pub passes-on-9 : gives usual [] (Op.Unwind Fault.OutOfMemory Opt.None) ≡ 9
+  pub passes-on-9 : gives usual [] (Op.Unwind Fault.OutOfMemory OptPc.None) ≡ 9
   -- 10 | bank and fuel both used up: an instruction's charge, Spawn's second, a handler's, unwind's own
   pub nothing-left : answer usual (begun 0 []) (Op.CoroCurrent 1 0) ≡ Answer.Stepped (Step.Fault Fault.OutOfFuel) 0
   pub hook-unpaid : answer (small 2 8 4096 (Opt.Some 0)) (begun 1 (Op.PutWord 0 f0 ∷ [])) (Op.Spawn 1 0 0 0) ≡ Answer.Unpaid 0
-  pub handler-unpaid : gives usual (Op.HostCall 3 ∷ []) (Op.Unwind (Fault.Throw 9) Opt.None) ≡ 10
-  pub passes-on-10 : gives usual [] (Op.Unwind Fault.OutOfFuel Opt.None) ≡ 10
+  pub handler-unpaid : gives usual (Op.HostCall 3 ∷ []) (Op.Unwind (Fault.Throw 9) OptPc.None) ≡ 10
+  pub passes-on-10 : gives usual [] (Op.Unwind Fault.OutOfFuel OptPc.None) ≡ 10
   -- 11 | set-up breaks the rules, or `unwind` gets no such fault
   pub bad-set-up : numberOf (step (fresh usual) (SetUp (small 0 8 4096 Opt.None)) .answer) ≡ 11
   pub bad-machine : gives (small 0 8 4096 Opt.None) [] Op.Look ≡ 11
-  pub no-such-fault : gives usual [] (Op.Unwind Fault.Full Opt.None) ≡ 11
+  pub no-such-fault : gives usual [] (Op.Unwind Fault.Full OptPc.None) ≡ 11
   -- 12 | instruction, put word or function call without a frame
   pub no-frame : gives usual [] (Op.CoroCurrent 1 0) ≡ 12
   pub no-frame-put : gives usual [] (Op.PutWord 0 1) ≡ 12
@@ -96,7 +98,7 @@ pub record Coverage : Type 0 where
   pub slots-full-key : gives (small 2 6 4096 Opt.None) (running 1 (Op.FunctionCall 5 0 (Cont.Dyn 1) ∷ Op.Finish ResultKind.I64 (2 ^ 47) ∷ Op.YieldKv 7 0 0 1 ∷ Op.Resume 3 1 0 2 ∷ [])) (Op.Yield 8 0 0) ≡ 14
   pub slots-full-result : gives (small 2 4 4096 Opt.None) (begun 9 (Op.FunctionCall 1 0 (Cont.Dyn 0) ∷ [])) (Op.Finish ResultKind.I64 (2 ^ 47)) ≡ 14
   pub slots-full-return : gives (small 2 5 4096 Opt.None) (running 1 []) (Op.Finish ResultKind.I64 (2 ^ 47)) ≡ 14
-  pub slots-full-error : gives (small 2 4 4096 Opt.None) (begun 9 []) (Op.Unwind Fault.TypeError Opt.None) ≡ 14
+  pub slots-full-error : gives (small 2 4 4096 Opt.None) (begun 9 []) (Op.Unwind Fault.TypeError OptPc.None) ≡ 14
   pub slots-full-iterator : gives (small 2 5 4096 Opt.None) (holding 1 []) (Op.MakeIterator c) ≡ 14
   -- 15 | host call or entry while a frame stands
   pub busy-call : gives usual (begun 9 []) (Op.HostCall 0) ≡ 15
@@ -104,8 +106,8 @@ pub record Coverage : Type 0 where
   -- 16 | grant's sum above 2^64 - 1
   pub too-large : gives usual (Op.Grant 1 ∷ []) (Op.Grant (2 ^ 64 - 1)) ≡ 16
   -- 17 | a thrown or uncaught word, given with the answer
-  pub uncaught : answer usual (begun 9 []) (Op.Unwind (Fault.Throw 7) Opt.None) ≡ Answer.Refused (Fault.Throw 7)
-  pub uncaught-error : wordOf (answer usual (begun 9 []) (Op.Unwind Fault.TypeError Opt.None)) ≡ c
+  pub uncaught : answer usual (begun 9 []) (Op.Unwind (Fault.Throw 7) OptPc.None) ≡ Answer.Refused (Fault.Throw 7)
+  pub uncaught-error : wordOf (answer usual (begun 9 []) (Op.Unwind Fault.TypeError OptPc.None)) ≡ c
   pub thrown-in : answer usual (yielded 1 (Op.PutWord 2 7 ∷ [])) (Op.ResumeThrow 3 1 0 2) ≡ Answer.Stepped (Step.Unwind (Fault.Throw 7)) 0
   pub thrown-at-new : answer usual (holding 1 (Op.PutWord 2 7 ∷ [])) (Op.ResumeThrow 3 1 0 2) ≡ Answer.Stepped (Step.Fault (Fault.Throw 7)) 0
   pub cleanup : answer usual (yielded 1 (Op.HandOver c ∷ [])) (Op.CoroCurrent 4 0) ≡ Answer.Cleanup 1

@@ -1,11 +1,12 @@
 -- The fault sheet, PEP 342, coverage and the cheating engines, as statements on the model.
 pub mod Gates
+pub mod Needs
+pub mod Sites
 pub mod Own
 pub mod Number
 pub mod FaultSheet
 pub mod Charges
 pub mod Queue
-pub mod Sites
 pub mod Places
 pub mod Memory
 pub mod Pep342

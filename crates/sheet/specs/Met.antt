@@ -12,12 +12,12 @@ use Rattle.model.specs.Heap.{coro}
 use Rattle.model.specs.Coro.{overflows, closedBy}
 use Rattle.model.specs.Exec.{largestIn}
 use Rattle.model.specs.Sound.{sound}
+use Rattle.model.specs.Calls.{Instruction, table}
 use Rattle.model.specs.declared.machine.Active.{Active}
 use Rattle.model.specs.declared.machine.Driver.{Driver}
 use Rattle.model.specs.declared.machine.Frame.{Frame}
 use Rattle.model.specs.declared.exec.Step.{Step}
 use Rattle.model.specs.declared.call.Op.{Op}
-use Rattle.sheet.specs.Gates.{Instruction, kind}
 use Rattle.sheet.specs.Charges.{passes}
 use Rattle.sheet.specs.Queue.{searches}
 use Rattle.sheet.specs.Memory.{charged}
@@ -85,14 +85,14 @@ pub record Handed-at (os : List Op) (suspended finalized : Bool) : Type 0 where
 
 -- the charge of the instruction o at pc searches, and the first coroutine is the first in the queue
 pub record Starts-at (os : List Op) (pc : ℕ) (o : Op) : Type 0 where
-  pub ok : Bool
+  pub operands : World → Bool
   pub arm : World → After Step
   pub queue : List ℕ
   pub core : Core
   pub rest : Rest
-  pub instruction : kind (reached usual os) o ≡ Instruction pc ok arm
+  pub instruction : table o ≡ Instruction pc operands arm
   pub machine : sound (reached usual os) ≡ true
-  pub gate : passes (reached usual os) (kind (reached usual os) o) ≡ true
+  pub gate : passes (reached usual os) (table o) ≡ true
   pub search : searches (reached usual os) ≡ true
   pub first : reached usual os .finalize ≡ c ∷ queue
   pub found : coro (reached usual os) c ≡ Is core rest

@@ -11,8 +11,7 @@ use Rattle.model.specs.World.{World, withStack, withFrames, withChain, withUsed
 use Rattle.model.specs.Frames.{below, baseAt, reg, storePc}
 use Rattle.model.specs.Heap.{coro, setCoro, fits}
 use Rattle.model.specs.Coro.{sized, coroSend, saved, growth}
-use Rattle.model.specs.Call.{Do}
-use Rattle.model.specs.Step.{step}
+use Rattle.model.specs.Step.{tested}
 use Rattle.model.specs.declared.machine.Active.{Active}
 use Rattle.model.specs.declared.machine.Driver.{Driver}
 use Rattle.model.specs.declared.exec.Step.{Step}
@@ -36,4 +35,4 @@ waiting pc dst payload a chain r u =
 
 pub record Awaiting : Type 0 where
   pub await-stays : (pc dst src : ℕ) (w u : World) (n : ℕ) (a : Active) (chain : List Active) (k : Core) (r : Rest) → Awaits pc dst src w u n a chain k r → (d : ℕ) → a .driver ≡ Driver.Resume d →
-      step w (Do (Op.Await pc dst src)) ≡ leaves (coroSend d (reg u src) (waiting pc dst (reg u src) a chain r u)) Step.Frame n
+      tested w (Op.Await pc dst src) ≡ leaves (coroSend d (reg u src) (waiting pc dst (reg u src) a chain r u)) Step.Frame n

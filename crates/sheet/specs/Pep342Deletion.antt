@@ -16,29 +16,28 @@ use Rattle.model.specs.Cleanup.{close}
 use Rattle.model.specs.Added.{accepted}
 use Rattle.model.specs.Gate.{refused}
 use Rattle.model.specs.Sound.{sound}
-use Rattle.model.specs.Call.{Do}
-use Rattle.model.specs.Step.{told, step}
+use Rattle.model.specs.Step.{told, tested}
+use Rattle.model.specs.Calls.{Instruction, table}
 use Rattle.model.specs.declared.machine.Driver.{Driver}
 use Rattle.model.specs.declared.exec.Step.{Step}
 use Rattle.model.specs.declared.call.Op.{Op}
 use Rattle.model.specs.declared.call.Answer.{Answer}
-use Rattle.sheet.specs.Gates.{Instruction, kind}
 use Rattle.sheet.specs.Charges.{passes}
 use Rattle.sheet.specs.Queue.{searches}
 
 pub record Deletion : Type 0 where
   -- a suspended coroutine that nobody holds any more joins the cleanup queue ..
   pub hand-over : (w : World) (v : ℕ) (k : Core) (r : Rest) → sound w ≡ true → coro w v ≡ Is k r → isSuspended (k .state) ≡ true → r .finalized ≡ false →
-      step w (Do (Op.HandOver v)) ≡ told (accepted (setFinalizing (w .finalizing) (setCoro v k (withFinalized true r) (withFinalize (w .finalize ++ (v ∷ [])) w))))
+      tested w (Op.HandOver v) ≡ told (accepted (setFinalizing (w .finalizing) (setCoro v k (withFinalized true r) (withFinalize (w .finalize ++ (v ∷ [])) w))))
   -- .. once
   pub hand-over-again : (w : World) (v : ℕ) (k : Core) (r : Rest) → sound w ≡ true → coro w v ≡ Is k r → r .finalized ≡ true →
-      step w (Do (Op.HandOver v)) ≡ told (refused w Fault.InvalidCoroState)
+      tested w (Op.HandOver v) ≡ told (refused w Fault.InvalidCoroState)
   -- others have nothing to close
   pub hand-over-refused : (w : World) (v : ℕ) (k : Core) (r : Rest) → sound w ≡ true → coro w v ≡ Is k r → isSuspended (k .state) ≡ false →
-      step w (Do (Op.HandOver v)) ≡ told (refused w Fault.InvalidCoroState)
+      tested w (Op.HandOver v) ≡ told (refused w Fault.InvalidCoroState)
   -- the charge of a later instruction closes it: it is entered by the cleanup's driver, marked closing with nil, and nil is
   -- raised where it is suspended
-  pub cleanup-starts : (w : World) (o : Op) (pc : ℕ) (ok : Bool) (arm : World → After Step) (c : ℕ) (queue : List ℕ) (k : Core) (r : Rest) →
-      kind w o ≡ Instruction pc ok arm → sound w ≡ true → passes w (kind w o) ≡ true → searches w ≡ true → w .finalize ≡ c ∷ queue →
+  pub cleanup-starts : (w : World) (o : Op) (pc : ℕ) (operands : World → Bool) (arm : World → After Step) (c : ℕ) (queue : List ℕ) (k : Core) (r : Rest) →
+      table o ≡ Instruction pc operands arm → sound w ≡ true → passes w (table o) ≡ true → searches w ≡ true → w .finalize ≡ c ∷ queue →
       coro w c ≡ Is k r → isSuspended (k .state) ≡ true → overflows k w ≡ false →
-      step w (Do o) ≡ told (after (setFinalizing true (entered c Driver.Finalize k (close nil r) (withFinalize queue (unbank (storePc pc (unbank w)))))) (Answer.Cleanup 1))
+      tested w o ≡ told (after (setFinalizing true (entered c Driver.Finalize k (close nil r) (withFinalize queue (unbank (storePc pc (unbank w)))))) (Answer.Cleanup 1))

@@ -6,7 +6,6 @@ use mathlib.Core.Bool.{true, false}
 use mathlib.Core.List.{List, _∷_}
 use Rattle.heap.specs.Word.{nil}
 use Rattle.heap.specs.declared.fault.Fault.{Fault}
-use Rattle.heap.specs.declared.value.Opt.{Opt}
 use Rattle.heap.specs.declared.object.CoroState.{CoroState}
 use Rattle.model.specs.Program.{func, firstOf}
 use Rattle.model.specs.World.{World, after, withChain, withOutcome}
@@ -16,8 +15,7 @@ use Rattle.model.specs.Fuel.{setFinalizing}
 use Rattle.model.specs.Coro.{coroSend, finishCoroutine, deliverReturn, closedBy}
 use Rattle.model.specs.Machine.{search}
 use Rattle.model.specs.Sound.{sound}
-use Rattle.model.specs.Call.{Do}
-use Rattle.model.specs.Step.{told, step}
+use Rattle.model.specs.Step.{told, tested}
 use Rattle.model.specs.declared.program.Caught.{Caught}
 use Rattle.model.specs.declared.machine.Active.{Active}
 use Rattle.model.specs.declared.machine.Cont.{Cont}
@@ -26,6 +24,7 @@ use Rattle.model.specs.declared.machine.Frame.{Frame}
 use Rattle.model.specs.declared.machine.Outcome.{Outcome}
 use Rattle.model.specs.declared.machine.Stop.{Stop}
 use Rattle.heap.specs.declared.heap.ResultKind.{ResultKind}
+use Rattle.model.specs.declared.call.OptPc.{OptPc}
 use Rattle.model.specs.declared.call.Op.{Op}
 use Rattle.model.specs.declared.call.Answer.{Answer}
 use Rattle.sheet.specs.Pep342Yields.{asks}
@@ -42,7 +41,7 @@ over s result x xs a chain w = finishCoroutine (a .coro) s result (withChain cha
 
 pub record Ending : Type 0 where
   -- a thrown word is looked for from the top frame down
-  pub raised : (w : World) (v : ℕ) → sound w ≡ true → step w (Do (Op.Unwind (Fault.Throw v) Opt.None)) ≡ told (search (w .frames) v (topFunc (w .frames)) (topPc (w .frames)) w)
+  pub raised : (w : World) (v : ℕ) → sound w ≡ true → tested w (Op.Unwind (Fault.Throw v) OptPc.None) ≡ told (search (w .frames) v (topFunc (w .frames)) (topPc (w .frames)) w)
   -- a closing coroutine lets its own signal escape: Returned with nil, which is delivered, and the search ends
   pub signal-escapes : (x : Frame) (xs : List Frame) (value f pc : ℕ) (w : World) (a : Active) (chain : List Active) → Body x w a chain → closedBy (coro w (a .coro)) value ≡ true →
       search (x ∷ xs) value f pc w ≡ after (deliverReturn (a .driver) nil (over CoroState.Returned nil x xs a chain w)) Answer.Stopped
@@ -57,4 +56,4 @@ pub record Ending : Type 0 where
   -- a returned word is what send, throw or close leaves in its register
   pub return-delivers : (x : Frame) (xs : List Frame) (v : ℕ) (w : World) (a : Active) (chain : List Active) (d : ℕ) → sound w ≡ true → w .frames ≡ x ∷ xs → x .cont ≡ Cont.Coro →
       w .chain ≡ a ∷ chain → a .driver ≡ Driver.Resume d →
-      step w (Do (Op.Finish ResultKind.Dyn v)) ≡ told (after (coroSend d v (over CoroState.Returned v x xs a chain w)) Answer.Resume)
+      tested w (Op.Finish ResultKind.Dyn v) ≡ told (after (coroSend d v (over CoroState.Returned v x xs a chain w)) Answer.Resume)

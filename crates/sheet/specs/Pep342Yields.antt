@@ -12,8 +12,7 @@ use Rattle.model.specs.Heap.{coro, fits}
 use Rattle.model.specs.Fuel.{setFinalizing}
 use Rattle.model.specs.Coro.{coroSend, saved, growth, suspended}
 use Rattle.model.specs.Exec.{autoKey, largestIn}
-use Rattle.model.specs.Call.{Do}
-use Rattle.model.specs.Step.{step}
+use Rattle.model.specs.Step.{tested}
 use Rattle.model.specs.declared.machine.Active.{Active}
 use Rattle.model.specs.declared.machine.Driver.{Driver}
 use Rattle.model.specs.declared.machine.Outcome.{Outcome}
@@ -49,15 +48,15 @@ pub record Yielding : Type 0 where
   -- the yielded word is what send, throw or close leaves in its register
   pub yield-delivers : (pc dst src : ℕ) (w u v : World) (n key largest : ℕ) (a : Active) (chain : List Active) (k : Core) (r : Rest) → Yields pc dst src w u v n key largest a chain k r →
       r .closing ≡ false → (d : ℕ) → a .driver ≡ Driver.Resume d →
-      step w (Do (Op.Yield pc dst src)) ≡ leaves (coroSend d (reg u src) (left pc dst (reg u src) v key largest a chain r)) Step.Frame n
+      tested w (Op.Yield pc dst src) ≡ leaves (coroSend d (reg u src) (left pc dst (reg u src) v key largest a chain r)) Step.Frame n
   -- but where it is being closed that is an error: 6, raised in whoever closes it
   pub yield-closing : (pc dst src : ℕ) (w u v : World) (n key largest : ℕ) (a : Active) (chain : List Active) (k : Core) (r : Rest) → Yields pc dst src w u v n key largest a chain k r →
       r .closing ≡ true → asks (a .driver) ≡ true →
-      step w (Do (Op.Yield pc dst src)) ≡ leaves (left pc dst (reg u src) v key largest a chain r) (Step.Unwind Fault.CloseIgnored) n
+      tested w (Op.Yield pc dst src) ≡ leaves (left pc dst (reg u src) v key largest a chain r) (Step.Unwind Fault.CloseIgnored) n
   -- the host finds it as the outcome; a cleanup ends
   pub yield-closing-host : (pc dst src : ℕ) (w u v : World) (n key largest : ℕ) (a : Active) (chain : List Active) (k : Core) (r : Rest) → Yields pc dst src w u v n key largest a chain k r →
       r .closing ≡ true → a .driver ≡ Driver.Host →
-      step w (Do (Op.Yield pc dst src)) ≡ leaves (withOutcome (Outcome.Some Stop.CloseIgnored) (left pc dst (reg u src) v key largest a chain r)) Step.Frame n
+      tested w (Op.Yield pc dst src) ≡ leaves (withOutcome (Outcome.Some Stop.CloseIgnored) (left pc dst (reg u src) v key largest a chain r)) Step.Frame n
   pub yield-closing-cleanup : (pc dst src : ℕ) (w u v : World) (n key largest : ℕ) (a : Active) (chain : List Active) (k : Core) (r : Rest) → Yields pc dst src w u v n key largest a chain k r →
       r .closing ≡ true → a .driver ≡ Driver.Finalize →
-      step w (Do (Op.Yield pc dst src)) ≡ leaves (setFinalizing false (left pc dst (reg u src) v key largest a chain r)) Step.Frame n
+      tested w (Op.Yield pc dst src) ≡ leaves (setFinalizing false (left pc dst (reg u src) v key largest a chain r)) Step.Frame n

@@ -6,12 +6,12 @@ use mathlib.Core.Bool.{true, false}
 use mathlib.Core.List.{List, [], _∷_}
 use Rattle.heap.specs.Word.{nil}
 use Rattle.heap.specs.declared.fault.Fault.{Fault}
-use Rattle.heap.specs.declared.value.Opt.{Opt}
 use Rattle.heap.specs.declared.heap.ResultKind.{ResultKind}
 use Rattle.model.specs.State.{isCreated, isSuspended, isResumable, isFinished, isRunning}
 use Rattle.model.specs.Frames.{storePc}
 use Rattle.model.specs.Coro.{overflows}
 use Rattle.model.specs.declared.machine.Driver.{Driver}
+use Rattle.model.specs.declared.call.OptPc.{OptPc}
 use Rattle.model.specs.declared.call.Op.{Op}
 use Rattle.sheet.specs.Pep342.{Enters}
 use Rattle.sheet.specs.SmallRuns.{c, d, begun, holding, running, yielded, ignoring, looping, itself, tall, keyed}
@@ -43,7 +43,7 @@ pub record Premises : Type 0 where
   pub yield-closing : Yields-at (ignoring []) 60 true (Driver.Resume 1)
   -- it awaited while it was closed, and the host goes on with it
   pub yield-closing-host : Yields-at (ignoring (Op.Await 60 0 0 ∷ hosted [])) 61 true Driver.Host
-  pub yield-closing-cleanup : Yields-at (yielded 3 (cleaned (Op.Unwind (Fault.Throw nil) Opt.None ∷ []))) 60 true Driver.Finalize
+  pub yield-closing-cleanup : Yields-at (yielded 3 (cleaned (Op.Unwind (Fault.Throw nil) OptPc.None ∷ []))) 60 true Driver.Finalize
   -- Pep342Awaits
   pub await-stays : Awaits-at (ignoring []) 60 true (Driver.Resume 1)
   -- Pep342Ends; `raised` asks only for a sound machine, as all of these are

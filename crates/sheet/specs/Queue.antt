@@ -16,12 +16,11 @@ use Rattle.model.specs.Cleanup.{suspendedAs, isEntered}
 use Rattle.model.specs.Added.{reserve}
 use Rattle.model.specs.Sound.{sound}
 use Rattle.model.specs.Answer.{takenOff}
-use Rattle.model.specs.Call.{Do}
-use Rattle.model.specs.Step.{step}
+use Rattle.model.specs.Step.{tested}
+use Rattle.model.specs.Calls.{Instruction, table}
 use Rattle.model.specs.declared.machine.Driver.{Driver}
 use Rattle.model.specs.declared.exec.Step.{Step}
 use Rattle.model.specs.declared.call.Op.{Op}
-use Rattle.sheet.specs.Gates.{Instruction, kind}
 use Rattle.sheet.specs.Charges.{passes}
 
 -- c can be closed now: it is suspended and fits on the stack
@@ -39,7 +38,7 @@ searches w = eqb (w .fuel .fuel) 0 && (not (eqb (reserve (w .fuel .bank) (w .fue
 
 pub record Queue : Type 0 where
   -- the queue's loss; no instruction puts a word on that queue
-  pub loss : (w : World) (o : Op) (pc : ℕ) (ok : Bool) (arm : World → After Step) → kind w o ≡ Instruction pc ok arm → length (w .finalize) ≡ takenOff (step w (Do o) .answer) + length (step w (Do o) .world .finalize)
+  pub loss : (w : World) (o : Op) (pc : ℕ) (operands : World → Bool) (arm : World → After Step) → table o ≡ Instruction pc operands arm → length (w .finalize) ≡ takenOff (tested w o .answer) + length (tested w o .world .finalize)
   -- the definition's steps
-  pub count : (w : World) (o : Op) (pc : ℕ) (ok : Bool) (arm : World → After Step) → kind w o ≡ Instruction pc ok arm →
-      takenOff (step w (Do o) .answer) ≡ pick (sound w && (passes w (kind w o) && searches w)) (steps (w .finalize) (unbank (storePc pc (unbank w)))) 0
+  pub count : (w : World) (o : Op) (pc : ℕ) (operands : World → Bool) (arm : World → After Step) → table o ≡ Instruction pc operands arm →
+      takenOff (tested w o .answer) ≡ pick (sound w && (passes w (table o) && searches w)) (steps (w .finalize) (unbank (storePc pc (unbank w)))) 0

@@ -1,16 +1,17 @@
 -- A small set-up and short lists of calls from it, which the statements by computation begin with.
 use Prim.Native.Nat.{ℕ}
-use mathlib.Core.List.{List, [], _∷_, map}
+use mathlib.Core.List.{List, [], _∷_}
 use Rattle.heap.specs.declared.fault.Fault.{Fault}
 use Rattle.heap.specs.declared.value.Opt.{Opt}
 use Rattle.model.specs.Program.{Setup}
 use Rattle.model.specs.World.{World, fresh}
 use Rattle.model.specs.Answer.{numberOf}
-use Rattle.model.specs.Call.{SetUp, Do}
-use Rattle.model.specs.Step.{step, run}
+use Rattle.model.specs.Call.{SetUp}
+use Rattle.model.specs.Step.{tested, step, runOps}
 use Rattle.model.specs.Example.{plain, catching}
 use Rattle.model.specs.declared.machine.Cont.{Cont}
 use Rattle.heap.specs.declared.heap.ResultKind.{ResultKind}
+use Rattle.model.specs.declared.call.OptPc.{OptPc}
 use Rattle.model.specs.declared.call.Op.{Op}
 use Rattle.model.specs.declared.call.Answer.{Answer}
 
@@ -43,11 +44,11 @@ d = 0x1_0000_0000_0005
 
 -- the world after them
 abbrev pub reached : Setup → List Op → World
-reached s os = run (fresh s) (SetUp s ∷ map Do os)
+reached s os = runOps (step (fresh s) (SetUp s) .world) os
 
 -- what the next call answers, and its number
 abbrev pub answer : Setup → List Op → Op → Answer
-answer s os o = step (reached s os) (Do o) .answer
+answer s os o = tested (reached s os) o .answer
 
 abbrev pub gives : Setup → List Op → Op → ℕ
 gives s os o = numberOf (answer s os o)
@@ -70,7 +71,7 @@ yielded f os = running f (Op.Yield 8 0 0 ∷ os)
 
 -- .. and is closed with the word 9, which it catches
 abbrev pub ignoring : List Op → List Op
-ignoring os = yielded 3 (Op.PutWord 2 9 ∷ Op.CoroClose 3 1 0 2 ∷ Op.Unwind (Fault.Throw 9) Opt.None ∷ os)
+ignoring os = yielded 3 (Op.PutWord 2 9 ∷ Op.CoroClose 3 1 0 2 ∷ Op.Unwind (Fault.Throw 9) OptPc.None ∷ os)
 
 -- .. in a loop: the iterator in register 1, `has` 2, `val` 3
 abbrev pub looping : List Op → List Op

@@ -14,7 +14,7 @@ use Rattle.tables.specs.Does.{RegFits, Gets}
 use Rattle.tables.proofs.Doing.{reg-fits}
 use Rattle.tables.proofs.Setups.{functions-in}
 use Rattle.memory.specs.Memory.{Lent, Beside, onStack, onFrames, onSetup, Rep, Room}
-use Rattle.memory.specs.Lendings.{lent}
+use Rattle.memory.specs.Lendings.{lent, topMaking}
 use Rattle.memory.specs.Contract.{Ok, Gives, Turns, any, ifSound, every, only, with}
 use Rattle.memory.specs.Lendings.{top, plain}
 use Rattle.memory.specs.declared.machine.Machine.{Machine}

@@ -5,7 +5,7 @@ use Prim.Native.Nat.{ℕ}
 use Rattle.model.specs.World.{World}
 use Rattle.model.specs.declared.machine.Fuel.{Fuel}
 use Rattle.tables.specs.Sizes.{setupWords}
-use Rattle.memory.specs.Memory.{Lent, Beside, onStack, onFrames, onChain, onSlots, onSaved, onSetup, Rep, Room}
+use Rattle.memory.specs.Memory.{Lent, Beside, Rep, Room}
 use Rattle.memory.specs.declared.machine.Machine.{Machine}
 use Rattle.memory.specs.declared.machine.Sizes.{Sizes}
 use Rattle.machine.specs.Setup.{words}
@@ -24,10 +24,6 @@ pub record Held (l : Sizes) (w : World) (M : Beside → Lent) (m : Machine) : Ty
 -- words that stood for w stand for w′, whatever the stage was not lent
 abbrev pub Turns : Sizes → World → World → (Beside → Lent) → Machine → (Beside → Lent) → Machine → Type 0
 Turns l w w′ M m M′ m′ = (b : Beside) → At l w (M b) m (b .fuel) → At l w′ (M′ b) m′ (b .fuel)
-
--- all but the queues
-abbrev pub lentSwitch : List ℕ → List ℕ → List ℕ → List ℕ → List ℕ → List ℕ → List ℕ → Beside → Lent
-lentSwitch s f c o r q u b = onStack s (onFrames f (onChain c (onSlots o (onSaved r q (onSetup u (b .words))))))
 
 -- the nine slices have room, and the words given are the set-up's
 pub record StoryFits (stack frames chain slots savedStack savedFrames ready finalize setup given : List ℕ) : Type 0 where

@@ -1,9 +1,10 @@
 // The stages of the story: each makes the calls that lead from one of its worlds to a later one, and shows the top frame.
 ghost use mathlib.Core.Path.{_≡_};
 ghost use Rattle.model.specs.World.{fresh};
-ghost use Rattle.exec_make.specs.New.{lentNew};
 ghost use Rattle.switch.specs.Story.{furnace, made, asleep, woken};
-ghost use Rattle.switch.specs.Stage.{Held, Turns, lentSwitch};
+ghost use Rattle.switch.specs.Stage.{Held, Turns};
+ghost use Rattle.memory.specs.Lendings.{six, topMaking, sixSetup};
+ghost use Rattle.memory.specs.Contract.{atEntry, atExit};
 use crate::show::top;
 use heap::value::Opt;
 use heap::value::Word;
@@ -23,8 +24,8 @@ pub(crate) fn prepare(
     m: Machine,
     l: Sizes,
 ) -> Machine
-    requires { ⌜ Held l (fresh furnace) (lentNew (now stack) (now frames) (now slots) (now «saved_stack») (now «saved_frames») (now setup)) m ⌝ }
-    ensures { λ r. ⌜ Turns l (fresh furnace) made (lentNew (now (stack .entry)) (now (frames .entry)) (now (slots .entry)) (now («saved_stack» .entry)) (now («saved_frames» .entry)) (now (setup .entry))) m (lentNew (now (stack .exit)) (now (frames .exit)) (now (slots .exit)) (now («saved_stack» .exit)) (now («saved_frames» .exit)) (now (setup .entry))) r ⌝ }
+    requires { ⌜ Held l (fresh furnace) (topMaking stack frames slots «saved_stack» «saved_frames» setup now) m ⌝ }
+    ensures { λ r. ⌜ Turns l (fresh furnace) made (topMaking stack frames slots «saved_stack» «saved_frames» setup atEntry) m (topMaking stack frames slots «saved_stack» «saved_frames» setup atExit) r ⌝ }
 {
     let did = machine::frame::push_frame(stack, frames, setup, m, l, 0, Word::NIL, Cont::Entry);
     let n = did.machine;
@@ -72,8 +73,8 @@ pub(crate) fn work(
     m: Machine,
     l: Sizes,
 ) -> Machine
-    requires { ⌜ Held l made (lent (now stack) (now frames) (now chain) (now slots) (now «saved_stack») (now «saved_frames»)) m ⌝ }
-    ensures { λ r. ⌜ Turns l made asleep (lent (now (stack .entry)) (now (frames .entry)) (now (chain .entry)) (now (slots .entry)) (now («saved_stack» .entry)) (now («saved_frames» .entry))) m (lent (now (stack .exit)) (now (frames .exit)) (now (chain .exit)) (now (slots .exit)) (now («saved_stack» .exit)) (now («saved_frames» .exit))) r ⌝ }
+    requires { ⌜ Held l made (six stack frames chain slots «saved_stack» «saved_frames» now) m ⌝ }
+    ensures { λ r. ⌜ Turns l made asleep (six stack frames chain slots «saved_stack» «saved_frames» atEntry) m (six stack frames chain slots «saved_stack» «saved_frames» atExit) r ⌝ }
 {
     let did = exec_enter::resume::resume(
         stack,
@@ -130,8 +131,8 @@ pub(crate) fn wake(
     m: Machine,
     l: Sizes,
 ) -> Machine
-    requires { ⌜ Held l asleep (lentSwitch (now stack) (now frames) (now chain) (now slots) (now «saved_stack») (now «saved_frames») (now setup)) m ⌝ }
-    ensures { λ r. ⌜ Turns l asleep woken (lentSwitch (now (stack .entry)) (now (frames .entry)) (now (chain .entry)) (now (slots .entry)) (now («saved_stack» .entry)) (now («saved_frames» .entry)) (now (setup .entry))) m (lentSwitch (now (stack .exit)) (now (frames .exit)) (now (chain .exit)) (now (slots .exit)) (now («saved_stack» .exit)) (now («saved_frames» .exit)) (now (setup .entry))) r ⌝ }
+    requires { ⌜ Held l asleep (sixSetup stack frames chain slots «saved_stack» «saved_frames» setup now) m ⌝ }
+    ensures { λ r. ⌜ Turns l asleep woken (sixSetup stack frames chain slots «saved_stack» «saved_frames» setup atEntry) m (sixSetup stack frames chain slots «saved_stack» «saved_frames» setup atExit) r ⌝ }
 {
     let c = tables::stack::reg(stack, frames, m.height, m.depth, 0);
     let did = machine::frame::push_frame(stack, frames, setup, m, l, 2, Word::NIL, Cont::Write(3));

@@ -40,8 +40,8 @@ use Rattle.model.specs.Program.{Setup}
 use Rattle.model.specs.Object.{Object}
 use Rattle.model.specs.World.{World}
 use Rattle.model.specs.Sound.{sound}
-use Rattle.model.specs.Call.{SetUp, Do}
-use Rattle.model.specs.Step.{step}
+use Rattle.model.specs.Call.{SetUp, typed}
+use Rattle.model.specs.Step.{tested, step}
 use Rattle.model.specs.Compute.{computed}
 use Rattle.model.specs.declared.machine.Cont.{Cont}
 use Rattle.model.specs.declared.machine.Driver.{Driver}
@@ -49,6 +49,7 @@ use Rattle.model.specs.declared.machine.Stop.{Stop}
 use Rattle.model.specs.declared.machine.Outcome.{Outcome}
 use Rattle.model.specs.declared.exec.Step.{Step}
 use Rattle.heap.specs.declared.heap.ResultKind.{ResultKind}
+use Rattle.model.specs.declared.call.OptPc.{OptPc}
 use Rattle.model.specs.declared.call.Op.{Op}
 use Rattle.model.specs.declared.call.Answer.{Answer}
 ";
@@ -68,6 +69,10 @@ fn words(xs: &[u64]) -> String {
 
 fn option(x: Option<u64>) -> String {
     x.map_or("Opt.None".into(), |x| format!("(Opt.Some {x})"))
+}
+
+fn option_pc(x: Option<u32>) -> String {
+    x.map_or("OptPc.None".into(), |x| format!("(OptPc.Some {x})"))
 }
 
 fn fault(n: u8, w: u64) -> String {
@@ -212,7 +217,9 @@ fn world(w: &World, old: Option<(&str, &World)>) -> String {
     format!("record {{ {} }}", fields.join("; "))
 }
 
-fn call(k: &Call) -> String {
+/// What is claimed of a call, and its proof: of a set-up by `step`; of an operation what `step` does with it, and that its
+/// operands are of their types.
+fn claim(k: &Call, name: &str, out: &str) -> (String, &'static str) {
     let op = match k {
         Call::CoroNew { pc, dst, func, argc } => format!("Op.CoroNew {pc} {dst} {func} {argc}"),
         Call::CoroNewIndirect { pc, dst, callee, argc } => format!("Op.CoroNewIndirect {pc} {dst} {callee} {argc}"),
@@ -237,9 +244,9 @@ fn call(k: &Call) -> String {
             };
             format!("Op.Finish ResultKind.{kind} {word}")
         }
-        Call::Unwind { fault: n, word, pc } => format!("Op.Unwind {} {}", fault(*n, *word), option(pc.map(u64::from))),
+        Call::Unwind { fault: n, word, pc } => format!("Op.Unwind {} {}", fault(*n, *word), option_pc(*pc)),
         Call::SpawnTask { word } => format!("Op.SpawnTask {word}"),
-        Call::SetUp(s) => return format!("SetUp ({})", setup(s)),
+        Call::SetUp(s) => return (format!("step {name} (SetUp ({})) ≡ {out}", setup(s)), "refl"),
         Call::HostCall { func } => format!("Op.HostCall {func}"),
         Call::HostEntry { coro, word } => format!("Op.HostEntry {coro} {word}"),
         Call::FunctionCall { pc, func, cont: k } => format!("Op.FunctionCall {pc} {func} {}", cont(*k)),
@@ -251,7 +258,7 @@ fn call(k: &Call) -> String {
         Call::StopRun => "Op.StopRun".into(),
         Call::Look => "Op.Look".into(),
     };
-    format!("Do ({op})")
+    (format!("(typed ({op}) ≡ true) × (tested {name} ({op}) ≡ {out})"), "(refl, refl)")
 }
 
 fn answer(k: &Call, a: &Answer) -> String {
@@ -298,12 +305,9 @@ fn theorems(text: &mut String, original: &mut dyn Engine, i: usize, s: &Sequence
         let next = format!("s{i}-{}", j + 1);
         let old = (!matches!(k, Call::SetUp(_))).then_some((&name[..], &was));
         let _ = writeln!(text, "\nabbrev {next} : World\n{next} = {}", world(&now, old));
-        let _ = writeln!(
-            text,
-            "t{i}-{j} : step {name} ({}) ≡ record {{ world = {next}; answer = {}; seen = {seen} }}\nunfolding computed\nt{i}-{j} = refl",
-            call(k),
-            answer(k, &a)
-        );
+        let out = format!("record {{ world = {next}; answer = {}; seen = {seen} }}", answer(k, &a));
+        let (statement, proof) = claim(k, &name, &out);
+        let _ = writeln!(text, "t{i}-{j} : {statement}\nunfolding computed\nt{i}-{j} = {proof}");
         (was, name) = (now, next);
     }
     s.calls.len()

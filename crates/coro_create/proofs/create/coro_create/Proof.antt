@@ -15,6 +15,13 @@ use borrow.Author.Needs.{needs}
 use Rattle.coro_create.proofs.create.coro_create.Statement.{statement}
 use Rattle.coro_create.proofs.create.coro_create.Tie as tie
 
+-- the ways back that several clauses take
+abbrev regs-at-of : tie.After-known-told2 → tie.After-regs-at
+regs-at-of c = c .before .before .before .before .before
+
+abbrev start-of : tie.After-regs-at → tie.Start
+start-of c = c .before .before .before .before .before
+
 abbrev mem : tie.Start → Beside → Lent
 mem c b = making (c .args .slots .now) (c .args .saved-stack .now) (c .args .saved-frames .now) (c .args .setup .now) plain b
 
@@ -28,14 +35,23 @@ room c = let z = c .pre .ok .rep .sizes .slots in let r = c .pre .ok .room .slot
 abbrev row : tie.After-known-told2 → ℕ
 row c = c .before .row .given .0 .0
 
-found : (c : tie.After-known-told2) → Spot.Row (row c) ≡ spotOf (slotsOf (c .before .before .before .before .before .before .before .before .before .before .args .m .count) (c .before .before .before .before .before .before .before .before .before .before .args .slots .now)) (c .before .before .before .before .before .before .before .before .before .before .args .m) (c .before .before .before .before .before .before .before .before .before .before .args .l) (c .before .before .before .before .before .regs-at .result)
+found : (c : tie.After-known-told2) →
+    let at-regs-at = regs-at-of c in let start = start-of at-regs-at in
+    Spot.Row (row c) ≡ spotOf (slotsOf (start .args .m .count) (start .args .slots .now)) (start .args .m) (start .args .l) (at-regs-at .regs-at .result)
 found c = sym (c .before .row .given .1) ∙ c .before .before .before .find-spot .ensures
 
 regs-at-requires : tie.Need-regs-at-requires
-regs-at-requires c κs = in-setup (c .before .before .before .before .args .l) (mem ((c .before .before .before .before)) (c .before .before .before .before .pre .ok .beside)) (c .before .before .before .before .args .m) (c .before .before .before .before .pre .ok .beside .fuel) (c .before .before .before .before .pre .ok .world) (c .before .before .before .before .pre .ok .rep) (c .before .before .before .before .args .f) (c .before .before .before .before .pre .ok .sound) (c .before .before .before .before .pre .function) (c .before .before .before .before .pre .ok .room)
+regs-at-requires c κs =
+    let start = c .before .before .before .before in
+    in-setup (start .args .l) (mem start (start .pre .ok .beside)) (start .args .m) (start .pre .ok .beside .fuel) (start .pre .ok .world) (start .pre .ok .rep)
+    (start .args .f) (start .pre .ok .sound) (start .pre .function) (start .pre .ok .room)
 
 find-spot-requires : tie.Need-find-spot-requires
-find-spot-requires c κs = let k = numbers (c .before .before .before .before .before .before .args .l) (mem ((c .before .before .before .before .before .before)) (c .before .before .before .before .before .before .pre .ok .beside)) (c .before .before .before .before .before .before .args .m) (c .before .before .before .before .before .before .pre .ok .beside .fuel) (c .before .before .before .before .before .before .pre .ok .world) (c .before .before .before .before .before .before .pre .ok .rep) (c .before .before .before .before .before .before .args .f) (c .before .before .before .before .before .before .pre .ok .sound) (c .before .before .before .before .before .before .pre .function) (c .before .regs-at .result) (c .before .regs-at .ensures) in record { words = c .before .before .before .before .before .before .pre .ok .rep .slots .within; rows = k .rows; bytes = k .first }
+find-spot-requires c κs =
+    let at-regs-at = c .before in let start = start-of at-regs-at in
+    let k = numbers (start .args .l) (mem start (start .pre .ok .beside)) (start .args .m) (start .pre .ok .beside .fuel) (start .pre .ok .world)
+    (start .pre .ok .rep) (start .args .f) (start .pre .ok .sound) (start .pre .function) (at-regs-at .regs-at .result) (at-regs-at .regs-at .ensures) in
+    record { words = start .pre .ok .rep .slots .within; rows = k .rows; bytes = k .first }
 
 enum-known-g : tie.Need-enum-known-g
 enum-known-g c = search needs
@@ -50,13 +66,24 @@ sequenced-requires : tie.Need-sequenced-requires
 sequenced-requires c κs = search needs
 
 bytes-requires : tie.Need-bytes-requires
-bytes-requires c κs = numbers (c .before .before .before .before .before .before .before .before .before .before .before .before .before .args .l) (mem ((c .before .before .before .before .before .before .before .before .before .before .before .before .before)) (c .before .before .before .before .before .before .before .before .before .before .before .before .before .pre .ok .beside)) (c .before .before .before .before .before .before .before .before .before .before .before .before .before .args .m) (c .before .before .before .before .before .before .before .before .before .before .before .before .before .pre .ok .beside .fuel) (c .before .before .before .before .before .before .before .before .before .before .before .before .before .pre .ok .world) (c .before .before .before .before .before .before .before .before .before .before .before .before .before .pre .ok .rep) (c .before .before .before .before .before .before .before .before .before .before .before .before .before .args .f) (c .before .before .before .before .before .before .before .before .before .before .before .before .before .pre .ok .sound) (c .before .before .before .before .before .before .before .before .before .before .before .before .before .pre .function) (c .before .before .before .before .before .before .before .before .regs-at .result) (c .before .before .before .before .before .before .before .before .regs-at .ensures) .second
+bytes-requires c κs =
+    let at-regs-at = regs-at-of (c .before .before .before) in let start = start-of at-regs-at in
+    numbers (start .args .l) (mem start (start .pre .ok .beside)) (start .args .m) (start .pre .ok .beside .fuel) (start .pre .ok .world) (start .pre .ok .rep)
+    (start .args .f) (start .pre .ok .sound) (start .pre .function) (at-regs-at .regs-at .result) (at-regs-at .regs-at .ensures) .second
 
 heap-of-requires : tie.Need-heap-of-requires
 heap-of-requires c κs = search needs
 
 alloc-requires : tie.Need-alloc-requires
-alloc-requires c κs = let k = numbers (c .before .before .before .before .before .before .before .before .before .before .before .before .before .before .before .before .args .l) (mem ((c .before .before .before .before .before .before .before .before .before .before .before .before .before .before .before .before)) (c .before .before .before .before .before .before .before .before .before .before .before .before .before .before .before .before .pre .ok .beside)) (c .before .before .before .before .before .before .before .before .before .before .before .before .before .before .before .before .args .m) (c .before .before .before .before .before .before .before .before .before .before .before .before .before .before .before .before .pre .ok .beside .fuel) (c .before .before .before .before .before .before .before .before .before .before .before .before .before .before .before .before .pre .ok .world) (c .before .before .before .before .before .before .before .before .before .before .before .before .before .before .before .before .pre .ok .rep) (c .before .before .before .before .before .before .before .before .before .before .before .before .before .before .before .before .args .f) (c .before .before .before .before .before .before .before .before .before .before .before .before .before .before .before .before .pre .ok .sound) (c .before .before .before .before .before .before .before .before .before .before .before .before .before .before .before .before .pre .function) (c .before .before .before .before .before .before .before .before .before .before .before .regs-at .result) (c .before .before .before .before .before .before .before .before .before .before .before .regs-at .ensures) in let k₁ = k .slots in let e : c .heap-of .result .slots ≡ c .before .before .before .before .before .before .before .before .before .before .before .before .before .before .before .before .args .l .slots = ap (λ x. x .slots) (c .heap-of .ensures) in let z = c .before .before .before .before .before .before .before .before .before .before .before .before .before .before .before .before .pre .ok .rep .sizes .slots in let r = c .before .before .before .before .before .before .before .before .before .before .before .before .before .before .before .before .pre .ok .room .slots in record { words = omega arith; slots = omega arith }
+alloc-requires c κs =
+    let at-regs-at = regs-at-of (c .before .before .before .before .before .before) in let start = start-of at-regs-at in
+    let k = numbers (start .args .l) (mem start (start .pre .ok .beside)) (start .args .m) (start .pre .ok .beside .fuel) (start .pre .ok .world)
+    (start .pre .ok .rep) (start .args .f) (start .pre .ok .sound) (start .pre .function) (at-regs-at .regs-at .result) (at-regs-at .regs-at .ensures) in
+    let k₁ = k .slots in
+    let e : c .heap-of .result .slots ≡ start .args .l .slots = ap (λ x. x .slots) (c .heap-of .ensures) in
+    let z = start .pre .ok .rep .sizes .slots in
+    let r = start .pre .ok .room .slots in
+    record { words = omega arith; slots = omega arith }
 
 enum-known-g-2 : tie.Need-enum-known-g-2
 enum-known-g-2 c = search needs
@@ -65,7 +92,12 @@ enum-known-v : tie.Need-enum-known-v
 enum-known-v c = search needs
 
 write-row-requires : tie.Need-write-row-requires
-write-row-requires c κs = write-fits (c .before .before .before .before .before .before .before .before .before .before .before .before .before .before .before .before .before .before .before .before .before .before .before .before .args .l) (mem ((c .before .before .before .before .before .before .before .before .before .before .before .before .before .before .before .before .before .before .before .before .before .before .before .before)) (c .before .before .before .before .before .before .before .before .before .before .before .before .before .before .before .before .before .before .before .before .before .before .before .before .pre .ok .beside)) (c .before .before .before .before .before .before .before .before .before .before .before .before .before .before .before .before .before .before .before .before .before .before .before .before .args .m) (c .before .before .before .before .before .before .before .before .before .before .before .before .before .before .before .before .before .before .before .before .before .before .before .before .pre .ok .beside .fuel) (c .before .before .before .before .before .before .before .before .before .before .before .before .before .before .before .before .before .before .before .before .before .before .before .before .pre .ok .world) (c .before .before .before .before .before .before .before .before .before .before .before .before .before .before .before .before .before .before .before .before .before .before .before .before .pre .ok .rep) (c .before .before .before .before .before .before .before .before .before .before .before .before .before .before .before .before .before .before .before .before .before .before .before .before .pre .ok .sound) (c .before .before .before .before .before .before .before .before .before .before .before .before .before .before .before .before .before .before .before .before .before .before .before .before .args .f) (c .before .before .before .before .before .before .before .before .before .before .before .before .before .before .before .before .before .before .before .before .before .before .before .before .args .closure) (c .before .before .before .before .before .before .before .before .before .before .before .before .before .before .before .before .before .before .before .before .before .before .before .before .args .n) (c .before .before .before .before .before .before .before .before .before .before .before .before .before .before .before .before .before .before .before .regs-at .result) (c .before .before .before .before .before .before .before .before .before .before .before .before .before .before .before .before .before .before .before .before .before .before .before .before .args .args) (few ((c .before .before .before .before .before .before .before .before .before .before .before .before .before .before .before .before .before .before .before .before .before .before .before .before))) (c .before .before .before .before .before .before .before .before .before .before .before .before .before .before .before .before .before .before .before .before .before .before .before .before .pre .function) (c .before .before .before .before .before .before .before .before .before .before .before .before .before .before .before .before .before .before .before .regs-at .ensures) (row ((c .before .before .before .before .before .before .before .before .before .before .before .before .before .before))) (found ((c .before .before .before .before .before .before .before .before .before .before .before .before .before .before))) (c .before .before .before .before .before .before .before .before .before .before .before .before .before .before .before .before .before .before .before .before .before .before .before .before .pre .few)
+write-row-requires c κs =
+    let at-known-told2 = c .before .before .before .before .before .before .before .before .before .before .before .before .before .before in
+    let at-regs-at = regs-at-of at-known-told2 in let start = start-of at-regs-at in
+    write-fits (start .args .l) (mem start (start .pre .ok .beside)) (start .args .m) (start .pre .ok .beside .fuel) (start .pre .ok .world)
+    (start .pre .ok .rep) (start .pre .ok .sound) (start .args .f) (start .args .closure) (start .args .n) (at-regs-at .regs-at .result) (start .args .args)
+    (few start) (start .pre .function) (at-regs-at .regs-at .ensures) (row at-known-told2) (found at-known-told2) (start .pre .few)
 
 allocated-requires : tie.Need-allocated-requires
 allocated-requires c κs = search needs
@@ -74,13 +106,27 @@ same-length : tie.Need-same-length
 same-length c = search needs
 
 returns : tie.Need-returns
-returns c = λ w b rep snd. not-created (c .before .before .before .before .before .before .before .before .before .before .args .l) (mem ((c .before .before .before .before .before .before .before .before .before .before)) b) (c .before .before .before .before .before .before .before .before .before .before .args .m) (b .fuel) w rep snd (c .before .before .before .before .before .before .before .before .before .before .args .f) (c .before .before .before .before .before .before .before .before .before .before .args .closure) (c .before .before .before .before .before .before .before .before .before .before .args .n) (c .before .before .before .before .before .regs-at .result) (c .before .before .before .before .before .before .before .before .before .before .args .args) (few ((c .before .before .before .before .before .before .before .before .before .before))) (c .before .before .before .before .before .before .before .before .before .before .pre .function) (c .before .before .before .before .before .regs-at .ensures) _ (sym (c .before .g .given .1) ∙ c .before .before .before .find-spot .ensures)
+returns c =
+    let at-g = c .before in let at-find-spot = at-g .before .before in let at-regs-at = at-find-spot .before .before in
+    let start = start-of at-regs-at in
+    λ w b rep snd. not-created (start .args .l) (mem start b) (start .args .m) (b .fuel) w rep snd (start .args .f) (start .args .closure)
+    (start .args .n) (at-regs-at .regs-at .result) (start .args .args) (few start) (start .pre .function) (at-regs-at .regs-at .ensures) _
+    (sym (at-g .g .given .1) ∙ at-find-spot .find-spot .ensures)
 
 same-length-2 : tie.Need-same-length-2
 same-length-2 c = search needs
 
 returns-2 : tie.Need-returns-2
-returns-2 c = λ w b rep snd. not-charged (c .before .before .before .before .before .before .before .before .before .before .before .before .before .before .before .before .before .before .before .before .before .before .args .l) (mem ((c .before .before .before .before .before .before .before .before .before .before .before .before .before .before .before .before .before .before .before .before .before .before)) b) (c .before .before .before .before .before .before .before .before .before .before .before .before .before .before .before .before .before .before .before .before .before .before .args .m) (b .fuel) w rep snd (c .before .before .before .before .before .before .before .before .before .before .before .before .before .before .before .before .before .before .before .before .before .before .args .f) (c .before .before .before .before .before .before .before .before .before .before .before .before .before .before .before .before .before .before .before .before .before .before .args .closure) (c .before .before .before .before .before .before .before .before .before .before .before .before .before .before .before .before .before .before .before .before .before .before .args .n) (c .before .before .before .before .before .before .before .before .before .before .before .before .before .before .before .before .before .regs-at .result) (c .before .before .before .before .before .before .before .before .before .before .before .before .before .before .before .before .before .before .before .before .before .before .args .args) (few ((c .before .before .before .before .before .before .before .before .before .before .before .before .before .before .before .before .before .before .before .before .before .before))) (c .before .before .before .before .before .before .before .before .before .before .before .before .before .before .before .before .before .before .before .before .before .before .pre .function) (c .before .before .before .before .before .before .before .before .before .before .before .before .before .before .before .before .before .regs-at .ensures) (row ((c .before .before .before .before .before .before .before .before .before .before .before .before))) (found ((c .before .before .before .before .before .before .before .before .before .before .before .before))) _ (c .before .before .before .before .before .before .before .before .before .sequenced .result) _ (c .before .before .before .before .before .before .before .before .before .sequenced .ensures) (alloc-told (c .before .before .before .before .before .before .before .before .before .before .before .before .before .before .before .before .before .before .before .before .before .before .args .slots .now) _ _ _ _ _ _ _ _ _ (c .before .before .before .before .before .alloc .ensures) (c .before .g2 .given .1) (c .before .before .before .before .before .before .heap-of .ensures ∙ ap (λ q. heapOf q (c .before .before .before .before .before .before .before .before .before .before .before .before .before .before .before .before .before .before .before .before .before .before .args .l)) (c .before .before .before .before .before .before .before .before .before .sequenced .ensures)) (c .before .before .before .before .before .before .before .before .bytes .ensures) (c .before .before .before .before .before .before .before .before .before .before .new-object .ensures))
+returns-2 c =
+    let at-g2 = c .before in let at-alloc = at-g2 .before .before .before .before in let at-heap-of = at-alloc .before in
+    let at-bytes = at-heap-of .before .before in let at-sequenced = at-bytes .before in let at-new-object = at-sequenced .before in
+    let at-known-told2 = at-new-object .before .before in let at-regs-at = regs-at-of at-known-told2 in
+    let start = start-of at-regs-at in
+    λ w b rep snd. not-charged (start .args .l) (mem start b) (start .args .m) (b .fuel) w rep snd (start .args .f) (start .args .closure)
+    (start .args .n) (at-regs-at .regs-at .result) (start .args .args) (few start) (start .pre .function) (at-regs-at .regs-at .ensures)
+    (row at-known-told2) (found at-known-told2) _ (at-sequenced .sequenced .result) _ (at-sequenced .sequenced .ensures)
+    (alloc-told (start .args .slots .now) _ _ _ _ _ _ _ _ _ (at-alloc .alloc .ensures) (at-g2 .g2 .given .1) (at-heap-of .heap-of .ensures
+    ∙ ap (λ q. heapOf q (start .args .l)) (at-sequenced .sequenced .ensures)) (at-bytes .bytes .ensures) (at-new-object .new-object .ensures))
 
 same-length-3 : tie.Need-same-length-3
 same-length-3 c = search needs
@@ -92,7 +138,18 @@ same-length-5 : tie.Need-same-length-5
 same-length-5 c = search needs
 
 returns-3 : tie.Need-returns-3
-returns-3 c = λ w b rep snd. was-created (c .before .before .before .before .before .before .before .before .before .before .before .before .before .before .before .before .before .before .before .before .before .before .before .before .before .before .before .before .before .before .args .l) (mem ((c .before .before .before .before .before .before .before .before .before .before .before .before .before .before .before .before .before .before .before .before .before .before .before .before .before .before .before .before .before .before)) b) (c .before .before .before .before .before .before .before .before .before .before .before .before .before .before .before .before .before .before .before .before .before .before .before .before .before .before .before .before .before .before .args .m) (b .fuel) w rep snd (c .before .before .before .before .before .before .before .before .before .before .before .before .before .before .before .before .before .before .before .before .before .before .before .before .before .before .before .before .before .before .args .f) (c .before .before .before .before .before .before .before .before .before .before .before .before .before .before .before .before .before .before .before .before .before .before .before .before .before .before .before .before .before .before .args .closure) (c .before .before .before .before .before .before .before .before .before .before .before .before .before .before .before .before .before .before .before .before .before .before .before .before .before .before .before .before .before .before .args .n) (c .before .before .before .before .before .before .before .before .before .before .before .before .before .before .before .before .before .before .before .before .before .before .before .before .before .regs-at .result) (c .before .before .before .before .before .before .before .before .before .before .before .before .before .before .before .before .before .before .before .before .before .before .before .before .before .before .before .before .before .before .args .args) (few ((c .before .before .before .before .before .before .before .before .before .before .before .before .before .before .before .before .before .before .before .before .before .before .before .before .before .before .before .before .before .before))) (c .before .before .before .before .before .before .before .before .before .before .before .before .before .before .before .before .before .before .before .before .before .before .before .before .before .before .before .before .before .before .pre .function) (c .before .before .before .before .before .before .before .before .before .before .before .before .before .before .before .before .before .before .before .before .before .before .before .before .before .regs-at .ensures) (row ((c .before .before .before .before .before .before .before .before .before .before .before .before .before .before .before .before .before .before .before .before))) (found ((c .before .before .before .before .before .before .before .before .before .before .before .before .before .before .before .before .before .before .before .before))) _ (room ((c .before .before .before .before .before .before .before .before .before .before .before .before .before .before .before .before .before .before .before .before .before .before .before .before .before .before .before .before .before .before))) (c .before .before .before .before .before .before .before .before .before .before .before .before .before .before .before .before .before .sequenced .result) (c .allocated .result) _ _ _ _ (c .before .before .before .before .before .before .before .before .before .before .before .before .before .before .before .before .before .sequenced .ensures) (c .allocated .ensures) (alloc-told (c .before .before .before .before .before .before .before .before .before .before .before .before .before .before .before .before .before .before .before .before .before .before .before .before .before .before .before .before .before .before .args .slots .now) _ _ _ _ _ _ _ _ _ (c .before .before .before .before .before .before .before .before .before .before .before .before .before .alloc .ensures) (c .before .before .before .before .before .before .before .before .before .v .given .1) (c .before .before .before .before .before .before .before .before .before .before .before .before .before .before .heap-of .ensures ∙ ap (λ q. heapOf q (c .before .before .before .before .before .before .before .before .before .before .before .before .before .before .before .before .before .before .before .before .before .before .before .before .before .before .before .before .before .before .args .l)) (c .before .before .before .before .before .before .before .before .before .before .before .before .before .before .before .before .before .sequenced .ensures)) (c .before .before .before .before .before .before .before .before .before .before .before .before .before .before .before .before .bytes .ensures) (c .before .before .before .before .before .before .before .before .before .before .before .before .before .before .before .before .before .before .new-object .ensures)) (c .before .before .before .before .before .write-row .ensures)
+returns-3 c =
+    let at-write-row = c .before .before .before .before .before in let at-v = at-write-row .before .before .before .before in
+    let at-alloc = at-v .before .before .before .before in let at-heap-of = at-alloc .before in
+    let at-bytes = at-heap-of .before .before in let at-sequenced = at-bytes .before in let at-new-object = at-sequenced .before in
+    let at-known-told2 = at-new-object .before .before in let at-regs-at = regs-at-of at-known-told2 in
+    let start = start-of at-regs-at in
+    λ w b rep snd. was-created (start .args .l) (mem start b) (start .args .m) (b .fuel) w rep snd (start .args .f) (start .args .closure) (start .args .n)
+    (at-regs-at .regs-at .result) (start .args .args) (few start) (start .pre .function) (at-regs-at .regs-at .ensures) (row at-known-told2)
+    (found at-known-told2) _ (room start) (at-sequenced .sequenced .result) (c .allocated .result) _ _ _ _ (at-sequenced .sequenced .ensures)
+    (c .allocated .ensures) (alloc-told (start .args .slots .now) _ _ _ _ _ _ _ _ _ (at-alloc .alloc .ensures) (at-v .v .given .1) (at-heap-of .heap-of .ensures
+    ∙ ap (λ q. heapOf q (start .args .l)) (at-sequenced .sequenced .ensures)) (at-bytes .bytes .ensures) (at-new-object .new-object .ensures))
+    (at-write-row .write-row .ensures)
 
 pub coro-create-spec : {M : Type 1} → statement M
 coro-create-spec =

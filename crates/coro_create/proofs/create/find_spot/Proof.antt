@@ -8,9 +8,17 @@ use borrow.Author.Needs.{needs}
 use Rattle.coro_create.proofs.create.find_spot.Statement.{statement}
 use Rattle.coro_create.proofs.create.find_spot.Tie as tie
 
+-- the ways back that several clauses take
+abbrev start-of : tie.After-lacks → tie.Start
+start-of c = c .before .before .before .before .before
+
 -- what is lacking for the first test
-fault : (c : tie.After-number) → c .before .lacks .result ≡ lacksOf (heapOf (c .before .before .before .before .before .before .args .m) (c .before .before .before .before .before .before .args .l)) (bytesOf (c .before .before .before .before .before .before .args .regs) (c .before .before .before .before .before .before .args .l .costs .coro) (c .before .before .before .before .before .before .args .l .costs .frame))
-fault c = c .before .lacks .ensures ∙ ap₂ lacksOf (c .before .before .before .heap-of .ensures) (c .before .before .bytes .ensures)
+fault : (c : tie.After-number) →
+    let at-lacks = c .before in let start = start-of at-lacks in
+    at-lacks .lacks .result ≡ lacksOf (heapOf (start .args .m) (start .args .l)) (bytesOf (start .args .regs) (start .args .l .costs .coro) (start .args .l .costs .frame))
+fault c =
+    let at-lacks = c .before in let at-bytes = at-lacks .before in let at-heap-of = at-bytes .before in
+    at-lacks .lacks .ensures ∙ ap₂ lacksOf (at-heap-of .heap-of .ensures) (at-bytes .bytes .ensures)
 
 heap-of-requires : tie.Need-heap-of-requires
 heap-of-requires c κs = search needs
@@ -25,16 +33,27 @@ number-requires : tie.Need-number-requires
 number-requires c κs = search needs
 
 returns : tie.Need-returns
-returns c = spot-lacks (slotsOf (c .before .before .before .before .before .before .before .args .m .count) (c .before .before .before .before .before .before .before .args .slots .now)) (c .before .before .before .before .before .before .before .args .m) (c .before .before .before .before .before .before .before .args .l) (c .before .before .before .before .before .before .before .args .regs) (c .before .before .lacks .result) (fault ((c .before))) (λ z. c .if1 .taken (c .before .number .ensures ∙ z))
+returns c =
+    let at-number = c .before in let at-lacks = at-number .before in let start = start-of at-lacks in
+    spot-lacks (slotsOf (start .args .m .count) (start .args .slots .now)) (start .args .m) (start .args .l) (start .args .regs) (at-lacks .lacks .result)
+    (fault at-number) (λ z. c .if1 .taken (at-number .number .ensures ∙ z))
 
 free-row-requires : tie.Need-free-row-requires
 free-row-requires c κs = search needs
 
 returns-2 : tie.Need-returns-2
-returns-2 c = spot-full (slotsOf (c .before .before .before .before .before .before .before .before .before .before .args .m .count) (c .before .before .before .before .before .before .before .before .before .before .args .slots .now)) (c .before .before .before .before .before .before .before .before .before .before .args .m) (c .before .before .before .before .before .before .before .before .before .before .args .l) (c .before .before .before .before .before .before .before .before .before .before .args .regs) (c .before .before .before .before .before .lacks .result) (fault ((c .before .before .before .before))) (sym (c .before .before .before .before .number .ensures) ∙ c .before .before .before .if1 .left) (c .before .before .free-row .result) (c .before .before .free-row .ensures) (c .if2 .taken)
+returns-2 c =
+    let at-free-row = c .before .before in let at-if1 = at-free-row .before in let at-number = at-if1 .before in
+    let at-lacks = at-number .before in let start = start-of at-lacks in
+    spot-full (slotsOf (start .args .m .count) (start .args .slots .now)) (start .args .m) (start .args .l) (start .args .regs) (at-lacks .lacks .result)
+    (fault at-number) (sym (at-number .number .ensures) ∙ at-if1 .if1 .left) (at-free-row .free-row .result) (at-free-row .free-row .ensures) (c .if2 .taken)
 
 returns-3 : tie.Need-returns-3
-returns-3 c = spot-row (slotsOf (c .before .before .before .before .before .before .before .before .before .before .args .m .count) (c .before .before .before .before .before .before .before .before .before .before .args .slots .now)) (c .before .before .before .before .before .before .before .before .before .before .args .m) (c .before .before .before .before .before .before .before .before .before .before .args .l) (c .before .before .before .before .before .before .before .before .before .before .args .regs) (c .before .before .before .before .before .lacks .result) (fault ((c .before .before .before .before))) (sym (c .before .before .before .before .number .ensures) ∙ c .before .before .before .if1 .left) (c .before .before .free-row .result) (c .before .before .free-row .ensures) (c .if2 .left)
+returns-3 c =
+    let at-free-row = c .before .before in let at-if1 = at-free-row .before in let at-number = at-if1 .before in
+    let at-lacks = at-number .before in let start = start-of at-lacks in
+    spot-row (slotsOf (start .args .m .count) (start .args .slots .now)) (start .args .m) (start .args .l) (start .args .regs) (at-lacks .lacks .result)
+    (fault at-number) (sym (at-number .number .ensures) ∙ at-if1 .if1 .left) (at-free-row .free-row .result) (at-free-row .free-row .ensures) (c .if2 .left)
 
 pub find-spot-spec : {M : Type 1} → statement M
 find-spot-spec =

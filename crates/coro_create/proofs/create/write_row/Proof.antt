@@ -9,6 +9,13 @@ use borrow.Author.Needs.{needs}
 use Rattle.coro_create.proofs.create.write_row.Statement.{statement}
 use Rattle.coro_create.proofs.create.write_row.Tie as tie
 
+-- the ways back that several clauses take
+abbrev copied-of : tie.After-args2 → tie.After-copied
+copied-of c = c .before .before
+
+abbrev start-of : tie.After-args2 → tie.Start
+start-of c = c .before .before .before .before .before .before
+
 mul-at : tie.Need-mul-at
 mul-at c = search needs
 
@@ -19,7 +26,12 @@ slice-aggregate-fill-row : tie.Need-slice-aggregate-fill-row
 slice-aggregate-fill-row c = search needs
 
 fill-row-requires : tie.Need-fill-row-requires
-fill-row-requires c κs = let k = copied-fits (c .before .before .before .before .before .before .args .n) (c .before .before .before .before .before .before .args .regs) in let e = c .before .before .copied .ensures in let p = c .before .before .before .before .before .before .pre in let few = p .few in let on = p .stack in (omega arith, omega arith, omega arith)
+fill-row-requires c κs = let k = copied-fits (start-of c .args .n) (start-of c .args .regs) in
+    let e = copied-of c .copied .ensures in
+    let p = start-of c .pre in
+    let few = p .few in
+    let on = p .stack in
+    (omega arith, omega arith, omega arith)
 
 mul-put-frame : tie.Need-mul-put-frame
 mul-put-frame c = search needs
@@ -34,7 +46,14 @@ same-length-2 : tie.Need-same-length-2
 same-length-2 c = search needs
 
 returns : tie.Need-returns
-returns c = record { stack = c .before .before .before .before .before .before .before .fill-row .ensures ∙ ap (λ k. splice (c .before .before .before .before .before .before .before .before .before .before .before .before .before .before .args .saved-stack .now) (c .before .before .before .before .before .before .before .before .before .before .before .before .before .before .args .row * c .before .before .before .before .before .before .before .before .before .before .before .before .before .before .args .l .width) (pad (c .before .before .before .before .before .before .before .before .before .before .before .before .before .before .args .regs) (take k (c .before .before .before .before .before .before .before .before .before .before .before .before .before .before .args .t8)))) (c .before .before .before .before .before .before .before .before .before .before .copied .ensures); frames = c .before .before .put-frame .ensures }
+returns c =
+    let at-put-frame = c .before .before in let at-fill-row = at-put-frame .before .before .before .before .before in
+    let at-copied = at-fill-row .before .before .before in let start = at-copied .before .before .before .before in
+    record {
+      stack = at-fill-row .fill-row .ensures ∙ ap (λ k. splice (start .args .saved-stack .now) (start .args .row * start .args .l .width)
+          (pad (start .args .regs) (take k (start .args .t8)))) (at-copied .copied .ensures);
+      frames = at-put-frame .put-frame .ensures;
+    }
 
 pub write-row-spec : {M : Type 1} → statement M
 write-row-spec =

@@ -17,7 +17,10 @@ lowest-requires : tie.Need-lowest-requires
 lowest-requires c κs = search needs
 
 returns : tie.Need-returns
-returns c = c .lowest .ensures ∙ ap (λ (held : List Bool). lowestBy (λ n. getD held n false) (c .before .before .before .args .rows) 0) (c .before .held-rows .ensures) ∙ free-in (slotsOf (c .before .before .before .args .count) (c .before .before .before .args .slots .now)) (c .before .before .before .args .rows) (c .before .before .before .pre .1)
+returns c =
+    let at-held-rows = c .before in let start = at-held-rows .before .before in
+    c .lowest .ensures ∙ ap (λ (held : List Bool). lowestBy (λ n. getD held n false) (start .args .rows) 0) (at-held-rows .held-rows .ensures)
+    ∙ free-in (slotsOf (start .args .count) (start .args .slots .now)) (start .args .rows) (start .pre .1)
 
 pub free-row-spec : {M : Type 1} → statement M
 free-row-spec = tie.close (tie.spec held-rows-requires lowest-requires returns)

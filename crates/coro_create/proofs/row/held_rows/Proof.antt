@@ -66,19 +66,30 @@ loop-less : tie.Need-loop-less Inv-loop μ-loop
 loop-less c = omega arith
 
 -- a row that is no row leaves the marks
-marks : (c : tie.Joined1 Inv-loop μ-loop) → c .if1 .held ≡ set (c .before .before .before .before .loop .held) (c .before .row-of .result) true
+marks : (c : tie.Joined1 Inv-loop μ-loop) →
+    let at-row-of = c .before in let at-loop = at-row-of .before .before .before in
+    c .if1 .held ≡ set (at-loop .loop .held) (at-row-of .row-of .result) true
 marks c =
+    let at-row-of = c .before in let at-loop = at-row-of .before .before .before in
     ⊎-elim (λ z. z .1)
-    (λ z. let l = c .before .before .before .before .loop .inv .1 in let k = z .0 .left in z .1 ∙ sym (mark-none (c .before .before .before .before .loop .held) (c .before .row-of .result) (omega arith)))
+    (λ z. let l = at-loop .loop .inv .1 in let k = z .0 .left in z .1 ∙ sym (mark-none (at-loop .loop .held) (at-row-of .row-of .result) (omega arith)))
     (c .if1 .came)
 
 loop-again : tie.Need-loop-again Inv-loop μ-loop
 loop-again c =
-    let e = marks c in
-    (omega arith, ap length e ∙ length-set (c .before .before .before .before .loop .held) (c .before .row-of .result) true ∙ c .before .before .before .before .loop .inv .1, next (c .before .before .before .before .before .before .args .slots .now) (c .before .before .before .before .before .before .args .count) (c .before .before .before .before .loop .i) (c .before .row-of .result) (c .before .before .object-at .result) (c .before .before .before .before .loop .held) (c .if1 .held) (c .before .before .before .loop-test .taken) (c .before .before .object-at .ensures) (c .before .row-of .ensures) e (c .before .before .before .before .loop .inv .2))
+    let at-row-of = c .before in let at-object-at = at-row-of .before in let at-loop-test = at-object-at .before in
+    let at-loop = at-loop-test .before in let start = at-loop .before .before in
+    let e = marks c in (
+      omega arith,
+      ap length e ∙ length-set (at-loop .loop .held) (at-row-of .row-of .result) true ∙ at-loop .loop .inv .1,
+      next (start .args .slots .now) (start .args .count) (at-loop .loop .i) (at-row-of .row-of .result) (at-object-at .object-at .result) (at-loop .loop .held)
+          (c .if1 .held) (at-loop-test .loop-test .taken) (at-object-at .object-at .ensures) (at-row-of .row-of .ensures) e (at-loop .loop .inv .2),
+    )
 
 returns : tie.Need-returns Inv-loop μ-loop
-returns c = end (c .before .before .before .args .slots .now) (c .before .before .before .args .count) (c .before .loop .i) (c .before .loop .held) (c .before .loop .inv .0) (c .loop-test .left) (c .before .loop .inv .2)
+returns c =
+    let at-loop = c .before in let start = at-loop .before .before in
+    end (start .args .slots .now) (start .args .count) (at-loop .loop .i) (at-loop .loop .held) (at-loop .loop .inv .0) (c .loop-test .left) (at-loop .loop .inv .2)
 
 pub held-rows-spec : {M : Type 1} → statement M
 held-rows-spec =

@@ -25,7 +25,9 @@ array-read-if1 : tie.Need-array-read-if1 Inv-loop μ-loop
 array-read-if1 c = omega arith
 
 returns : tie.Need-returns Inv-loop μ-loop
-returns c = sym (c .before .before .loop .inv .3 ∙ lowest-stop (λ n. getD (c .before .before .before .args .t1) n false) (c .before .before .before .args .rows) (c .before .before .loop .i) (c .before .loop-test .taken) (not-true _ (c .if1 .taken)))
+returns c =
+    let at-loop-test = c .before in let at-loop = at-loop-test .before in let start = at-loop .before in
+    sym (at-loop .loop .inv .3 ∙ lowest-stop (λ n. getD (start .args .t1) n false) (start .args .rows) (at-loop .loop .i) (at-loop-test .loop-test .taken) (not-true _ (c .if1 .taken)))
 
 add-i : tie.Need-add-i Inv-loop μ-loop
 add-i c = omega arith
@@ -34,10 +36,19 @@ loop-less : tie.Need-loop-less Inv-loop μ-loop
 loop-less c = omega arith
 
 loop-again : tie.Need-loop-again Inv-loop μ-loop
-loop-again c = (omega arith, c .before .before .loop .inv .1, c .before .before .loop .inv .2, c .before .before .loop .inv .3 ∙ lowest-on (λ n. getD (c .before .before .before .args .t1) n false) (c .before .before .before .args .rows) (c .before .before .loop .i) (c .before .loop-test .taken) (not-false _ (c .if1 .left)))
+loop-again c =
+    let at-loop-test = c .before in let at-loop = at-loop-test .before in let start = at-loop .before in (
+      omega arith,
+      at-loop .loop .inv .1,
+      at-loop .loop .inv .2,
+      at-loop .loop .inv .3
+          ∙ lowest-on (λ n. getD (start .args .t1) n false) (start .args .rows) (at-loop .loop .i) (at-loop-test .loop-test .taken) (not-false _ (c .if1 .left)),
+    )
 
 returns-2 : tie.Need-returns-2 Inv-loop μ-loop
-returns-2 c = sym (c .before .loop .inv .3 ∙ lowest-end (λ n. getD (c .before .before .args .t1) n false) (c .before .before .args .rows) (c .before .loop .i) (c .before .loop .inv .0) (c .loop-test .left))
+returns-2 c =
+    let at-loop = c .before in let start = at-loop .before in
+    sym (at-loop .loop .inv .3 ∙ lowest-end (λ n. getD (start .args .t1) n false) (start .args .rows) (at-loop .loop .i) (at-loop .loop .inv .0) (c .loop-test .left))
 
 pub lowest-spec : {M : Type 1} → statement M
 lowest-spec =

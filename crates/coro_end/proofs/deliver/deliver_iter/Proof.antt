@@ -26,13 +26,21 @@ same-length-3 : tie.Need-same-length-3
 same-length-3 c = search needs
 
 returns : tie.Need-returns
-returns c = λ l w b rep. iter-yielded l _ (c .before .before .before .before .before .before .before .before .before .before .before .before .before .before .before .before .args .m) (b .fuel) w (c .before .before .before .before .before .before .before .before .before .before .before .before .before .before .before .before .args .e) (c .before .before .before .before .before .before .before .before .before .before .before .before .before .before .before .before .args .has) (c .before .before .before .before .before .before .before .before .before .before .before .before .before .before .before .before .args .val) (c .before .before .before .before .before .before .before .before .before .before .before .before .before .before .before .before .args .iter) (c .before .before .before .before .before .before .before .before .before .before .before .e .given .0 .0) (c .before .before .before .before .before .before .before .before .before .before .before .e .given .0 .1 .0) (c .before .before .before .before .before .before .before .before .before .before .before .e .given .1) (c .before .before .before .before .before .before .iter-yielded .ensures l w b rep)
+returns c =
+    let at-iter-yielded = c .before .before .before .before .before .before in
+    let at-e = at-iter-yielded .before .before .before .before .before in let start = at-e .before .before .before .before .before in
+    λ l w b rep. iter-yielded l _ (start .args .m) (b .fuel) w (start .args .e) (start .args .has) (start .args .val) (start .args .iter) (at-e .e .given .0 .0)
+    (at-e .e .given .0 .1 .0) (at-e .e .given .1) (at-iter-yielded .iter-yielded .ensures l w b rep)
 
 returns-2 : tie.Need-returns-2
-returns-2 c = λ l w b rep. iter-awaiting l _ (c .before .before .before .before .before .args .m) (b .fuel) w (c .before .before .before .before .before .args .e) (c .before .before .before .before .before .args .has) (c .before .before .before .before .before .args .val) (c .before .before .before .before .before .args .iter) _ (c .enum-told .given .1) rep
+returns-2 c =
+    let start = c .before .before .before .before .before in
+    λ l w b rep. iter-awaiting l _ (start .args .m) (b .fuel) w (start .args .e) (start .args .has) (start .args .val) (start .args .iter) _ (c .enum-told .given .1) rep
 
 returns-3 : tie.Need-returns-3
-returns-3 c = λ l w b rep. iter-ignored l _ (c .before .before .before .before .before .args .m) (b .fuel) w (c .before .before .before .before .before .args .e) (c .before .before .before .before .before .args .has) (c .before .before .before .before .before .args .val) (c .before .before .before .before .before .args .iter) (c .enum-told2 .given .1) rep
+returns-3 c =
+    let start = c .before .before .before .before .before in
+    λ l w b rep. iter-ignored l _ (start .args .m) (b .fuel) w (start .args .e) (start .args .has) (start .args .val) (start .args .iter) (c .enum-told2 .given .1) rep
 
 pub deliver-iter-spec : {M : Type 1} → statement M
 deliver-iter-spec =

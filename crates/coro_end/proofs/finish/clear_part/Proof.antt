@@ -29,7 +29,11 @@ same-length : tie.Need-same-length
 same-length c = search needs
 
 returns : tie.Need-returns
-returns c = let a = c .before .before .before .before .before .args in cleared (a .ws .now) (c .before .before .clear-words .last .0) (a .at) (a .n) (a .at + a .n - a .at) (let z : a .at + a .n - a .at ≡ a .n = omega arith in z) (c .before .before .before .before .before .pre) (c .before .before .clear-words .ensures)
+returns c =
+    let at-clear-words = c .before .before in let start = at-clear-words .before .before .before in
+    let a = start .args in
+    cleared (a .ws .now) (at-clear-words .clear-words .last .0) (a .at) (a .n) (a .at + a .n - a .at) (let z : a .at + a .n - a .at ≡ a .n = omega arith in
+    z) (start .pre) (at-clear-words .clear-words .ensures)
 
 pub clear-part-spec : {M : Type 1} → statement M
 clear-part-spec =

@@ -28,7 +28,9 @@ same-length-2 : tie.Need-same-length-2
 same-length-2 c = search needs
 
 returns : tie.Need-returns
-returns c = record { regs = c .before .before .before .before .before .before .before .clear-part .ensures; frames = c .before .before .clear-part2 .ensures }
+returns c =
+    let at-clear-part2 = c .before .before in let at-clear-part = at-clear-part2 .before .before .before .before .before in
+    record { regs = at-clear-part .clear-part .ensures; frames = at-clear-part2 .clear-part2 .ensures }
 
 pub clear-row-spec : {M : Type 1} → statement M
 clear-row-spec = tie.close (tie.spec mul-at clear-part-requires mul-from mul-from-2 mul-k clear-part-requires-2 same-length same-length-2 returns)

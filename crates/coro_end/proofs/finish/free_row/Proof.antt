@@ -12,7 +12,9 @@ returns : tie.Need-returns
 returns c = record { row = λ e. no-true (sym (sym (c .before .is-finished .ensures) ∙ c .if1 .taken) ∙ e); none = λ e. (refl, refl) }
 
 clear-row-requires : tie.Need-clear-row-requires
-clear-row-requires c κs = (c .before .before .before .before .before .before .pre) .row (sym (c .before .before .before .is-finished .ensures) ∙ c .before .before .if1 .left)
+clear-row-requires c κs =
+    let at-if1 = c .before .before in let at-is-finished = at-if1 .before in let start = at-is-finished .before .before .before in
+    start .pre .row (sym (at-is-finished .is-finished .ensures) ∙ at-if1 .if1 .left)
 
 same-length : tie.Need-same-length
 same-length c = search needs
@@ -21,7 +23,10 @@ same-length-2 : tie.Need-same-length-2
 same-length-2 c = search needs
 
 returns-2 : tie.Need-returns-2
-returns-2 c = record { row = λ e. c .before .before .before .before .clear-row .ensures; none = λ e. no-true (sym e ∙ sym (c .before .before .before .before .before .before .before .before .is-finished .ensures) ∙ c .before .before .before .before .before .before .before .if1 .left) }
+returns-2 c =
+    let at-clear-row = c .before .before .before .before in let at-if1 = at-clear-row .before .before .before in
+    let at-is-finished = at-if1 .before in
+    record { row = λ e. at-clear-row .clear-row .ensures; none = λ e. no-true (sym e ∙ sym (at-is-finished .is-finished .ensures) ∙ at-if1 .if1 .left) }
 
 pub free-row-spec : {M : Type 1} → statement M
 free-row-spec =

@@ -22,7 +22,12 @@ same-length : tie.Need-same-length
 same-length c = search needs
 
 returns : tie.Need-returns
-returns c = let a = c .before .before .before .before .before .before .before .args in c .before .before .put-slot .ensures ∙ ap₂ (λ (t : ℕ) (x : CoroObj). putSlot (a .slots .now) (a .i) (slot t (O.Coro x))) (c .before .before .before .before .before .tag .ensures) (c .before .before .before .before .ended .ensures)
+returns c =
+    let at-put-slot = c .before .before in let at-ended = at-put-slot .before .before in let at-tag = at-ended .before in
+    let start = at-tag .before .before in
+    let a = start .args in
+    at-put-slot .put-slot .ensures
+    ∙ ap₂ (λ (t : ℕ) (x : CoroObj). putSlot (a .slots .now) (a .i) (slot t (O.Coro x))) (at-tag .tag .ensures) (at-ended .ended .ensures)
 
 pub mark-ended-spec : {M : Type 1} → statement M
 mark-ended-spec =

@@ -18,7 +18,9 @@ enum-known-i : tie.Need-enum-known-i
 enum-known-i c = search needs
 
 object-at-requires : tie.Need-object-at-requires
-object-at-requires c κs = found-words (c .before .before .before .before .before .args .count) (c .before .before .before .before .before .args .slots .now) (c .before .before .before .before .before .args .v .0) (c .before .i .given .0 .0) (sym (c .before .i .given .1) ∙ c .before .before .before .get .ensures) (c .before .before .before .before .before .pre)
+object-at-requires c κs =
+    let at-i = c .before in let at-get = at-i .before .before in let start = at-get .before .before in
+    found-words (start .args .count) (start .args .slots .now) (start .args .v .0) (at-i .i .given .0 .0) (sym (at-i .i .given .1) ∙ at-get .get .ensures) (start .pre)
 
 enum-told-2 : tie.Need-enum-told-2
 enum-told-2 c = search needs
@@ -39,25 +41,51 @@ enum-told-6 : tie.Need-enum-told-6
 enum-told-6 c = search needs
 
 returns : tie.Need-returns
-returns c = ap (iterBy (slotsOf (c .before .before .before .before .args .count) (c .before .before .before .before .args .slots .now))) (sym (c .enum-told .given .1) ∙ c .before .before .get .ensures)
+returns c =
+    let at-get = c .before .before in let start = at-get .before .before in
+    ap (iterBy (slotsOf (start .args .count) (start .args .slots .now))) (sym (c .enum-told .given .1) ∙ at-get .get .ensures)
 
 returns-2 : tie.Need-returns-2
-returns-2 c = iter-here (c .before .before .before .before .before .before .before .before .args .count) (c .before .before .before .before .before .before .before .before .args .slots .now) (c .before .before .before .before .before .before .before .before .args .v .0) (c .before .before .before .before .i .given .0 .0) _ (c .before .before .object-at .result) (sym (c .before .before .before .before .i .given .1) ∙ c .before .before .before .before .before .before .get .ensures) (c .enum-told2 .given .1) (c .before .before .object-at .ensures)
+returns-2 c =
+    let at-object-at = c .before .before in let at-i = at-object-at .before .before in let at-get = at-i .before .before in
+    let start = at-get .before .before in
+    iter-here (start .args .count) (start .args .slots .now) (start .args .v .0) (at-i .i .given .0 .0) _ (at-object-at .object-at .result)
+    (sym (at-i .i .given .1) ∙ at-get .get .ensures) (c .enum-told2 .given .1) (at-object-at .object-at .ensures)
 
 returns-3 : tie.Need-returns-3
-returns-3 c = iter-here (c .before .before .before .before .before .before .before .before .args .count) (c .before .before .before .before .before .before .before .before .args .slots .now) (c .before .before .before .before .before .before .before .before .args .v .0) (c .before .before .before .before .i .given .0 .0) _ (c .before .before .object-at .result) (sym (c .before .before .before .before .i .given .1) ∙ c .before .before .before .before .before .before .get .ensures) (c .enum-told3 .given .1) (c .before .before .object-at .ensures)
+returns-3 c =
+    let at-object-at = c .before .before in let at-i = at-object-at .before .before in let at-get = at-i .before .before in
+    let start = at-get .before .before in
+    iter-here (start .args .count) (start .args .slots .now) (start .args .v .0) (at-i .i .given .0 .0) _ (at-object-at .object-at .result)
+    (sym (at-i .i .given .1) ∙ at-get .get .ensures) (c .enum-told3 .given .1) (at-object-at .object-at .ensures)
 
 returns-4 : tie.Need-returns-4
-returns-4 c = iter-here (c .before .before .before .before .before .before .before .before .args .count) (c .before .before .before .before .before .before .before .before .args .slots .now) (c .before .before .before .before .before .before .before .before .args .v .0) (c .before .before .before .before .i .given .0 .0) _ (c .before .before .object-at .result) (sym (c .before .before .before .before .i .given .1) ∙ c .before .before .before .before .before .before .get .ensures) (c .enum-told4 .given .1) (c .before .before .object-at .ensures)
+returns-4 c =
+    let at-object-at = c .before .before in let at-i = at-object-at .before .before in let at-get = at-i .before .before in
+    let start = at-get .before .before in
+    iter-here (start .args .count) (start .args .slots .now) (start .args .v .0) (at-i .i .given .0 .0) _ (at-object-at .object-at .result)
+    (sym (at-i .i .given .1) ∙ at-get .get .ensures) (c .enum-told4 .given .1) (at-object-at .object-at .ensures)
 
 returns-5 : tie.Need-returns-5
-returns-5 c = iter-here (c .before .before .before .before .before .before .before .before .before .args .count) (c .before .before .before .before .before .before .before .before .before .args .slots .now) (c .before .before .before .before .before .before .before .before .before .args .v .0) (c .before .before .before .before .before .i .given .0 .0) _ (c .before .before .before .object-at .result) (sym (c .before .before .before .before .before .i .given .1) ∙ c .before .before .before .before .before .before .before .get .ensures) (c .before .src .given .1) (c .before .before .before .object-at .ensures)
+returns-5 c =
+    let at-src = c .before in let at-object-at = at-src .before .before in let at-i = at-object-at .before .before in
+    let at-get = at-i .before .before in let start = at-get .before .before in
+    iter-here (start .args .count) (start .args .slots .now) (start .args .v .0) (at-i .i .given .0 .0) _ (at-object-at .object-at .result)
+    (sym (at-i .i .given .1) ∙ at-get .get .ensures) (at-src .src .given .1) (at-object-at .object-at .ensures)
 
 returns-6 : tie.Need-returns-6
-returns-6 c = iter-here (c .before .before .before .before .before .before .before .before .args .count) (c .before .before .before .before .before .before .before .before .args .slots .now) (c .before .before .before .before .before .before .before .before .args .v .0) (c .before .before .before .before .i .given .0 .0) _ (c .before .before .object-at .result) (sym (c .before .before .before .before .i .given .1) ∙ c .before .before .before .before .before .before .get .ensures) (c .enum-told5 .given .1) (c .before .before .object-at .ensures)
+returns-6 c =
+    let at-object-at = c .before .before in let at-i = at-object-at .before .before in let at-get = at-i .before .before in
+    let start = at-get .before .before in
+    iter-here (start .args .count) (start .args .slots .now) (start .args .v .0) (at-i .i .given .0 .0) _ (at-object-at .object-at .result)
+    (sym (at-i .i .given .1) ∙ at-get .get .ensures) (c .enum-told5 .given .1) (at-object-at .object-at .ensures)
 
 returns-7 : tie.Need-returns-7
-returns-7 c = iter-here (c .before .before .before .before .before .before .before .before .args .count) (c .before .before .before .before .before .before .before .before .args .slots .now) (c .before .before .before .before .before .before .before .before .args .v .0) (c .before .before .before .before .i .given .0 .0) _ (c .before .before .object-at .result) (sym (c .before .before .before .before .i .given .1) ∙ c .before .before .before .before .before .before .get .ensures) (c .enum-told6 .given .1) (c .before .before .object-at .ensures)
+returns-7 c =
+    let at-object-at = c .before .before in let at-i = at-object-at .before .before in let at-get = at-i .before .before in
+    let start = at-get .before .before in
+    iter-here (start .args .count) (start .args .slots .now) (start .args .v .0) (at-i .i .given .0 .0) _ (at-object-at .object-at .result)
+    (sym (at-i .i .given .1) ∙ at-get .get .ensures) (c .enum-told6 .given .1) (at-object-at .object-at .ensures)
 
 pub iter-at-spec : {M : Type 1} → statement M
 iter-at-spec =

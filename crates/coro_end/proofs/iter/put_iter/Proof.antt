@@ -18,7 +18,11 @@ same-length : tie.Need-same-length
 same-length c = search needs
 
 returns : tie.Need-returns
-returns c = c .before .before .put-slot .ensures ∙ ap (λ (t : ℕ). putSlot (c .before .before .before .before .before .before .args .slots .now) (c .before .before .before .before .before .before .args .i) (slot t (O.Iter (c .before .before .before .before .before .before .args .src) (c .before .before .before .before .before .before .args .done) (c .before .before .before .before .before .before .args .key)))) (c .before .before .before .before .tag .ensures)
+returns c =
+    let at-put-slot = c .before .before in let at-tag = at-put-slot .before .before in let start = at-tag .before .before in
+    at-put-slot .put-slot .ensures
+    ∙ ap (λ (t : ℕ). putSlot (start .args .slots .now) (start .args .i) (slot t (O.Iter (start .args .src) (start .args .done) (start .args .key))))
+    (at-tag .tag .ensures)
 
 pub put-iter-spec : {M : Type 1} → statement M
 put-iter-spec = tie.close (tie.spec tag-requires put-slot-requires same-length returns)

@@ -15,6 +15,16 @@ use borrow.Author.Needs.{needs}
 use Rattle.coro_enter.proofs.enter.coro_enter.Statement.{statement}
 use Rattle.coro_enter.proofs.enter.coro_enter.Tie as tie
 
+-- the ways back that several clauses take
+abbrev if1-of : tie.After-push-active-arg → tie.Else1
+if1-of c = c .before .before .before .before .before .before .before .before .before .before .before .before .before .before
+
+abbrev start-of : tie.After-coro-at → tie.Start
+start-of c = c .before .before .before .before .before .before .before .before .before .before .before .before .before
+
+abbrev start-of-coro-place : tie.After-coro-place → tie.Start
+start-of-coro-place c = c .before .before .before .before .before .before .before .before
+
 abbrev mem : tie.Start → Beside → Lent
 mem c b = lent (c .args .stack .now) (c .args .frames .now) (c .args .chain .now) (c .args .slots .now) (c .args .saved-stack .now) (c .args .saved-frames .now) b
 
@@ -25,14 +35,27 @@ slot c = c .before .before .before .i .given .0 .0
 abbrev coro : tie.After-coro-at → CoroObj
 coro c = c .coro-at .result
 
-found : (c : tie.After-coro-at) → RV.At (slot c) (coro c) ≡ coroOf (slotsOf (c .before .before .before .before .before .before .before .before .before .before .before .before .before .args .m .count) (c .before .before .before .before .before .before .before .before .before .before .before .before .before .args .slots .now)) (c .before .before .before .before .before .before .before .before .before .before .before .before .before .args .v .0)
-found c = ap (RV.At (slot c)) (c .coro-at .ensures) ∙ stands (c .before .before .before .before .before .before .before .before .before .before .before .before .before .args .m .count) (c .before .before .before .before .before .before .before .before .before .before .before .before .before .args .slots .now) (c .before .before .before .before .before .before .before .before .before .before .before .before .before .args .v .0) (slot c) (sym (c .before .before .before .i .given .1) ∙ c .before .before .before .before .before .coro-place .ensures) .coro
+found : (c : tie.After-coro-at) →
+    let start = start-of c in
+    RV.At (slot c) (coro c) ≡ coroOf (slotsOf (start .args .m .count) (start .args .slots .now)) (start .args .v .0)
+found c =
+    let at-i = c .before .before .before in let at-coro-place = at-i .before .before in
+    let start = start-of-coro-place at-coro-place in
+    ap (RV.At (slot c)) (c .coro-at .ensures)
+    ∙ stands (start .args .m .count) (start .args .slots .now) (start .args .v .0) (slot c) (sym (at-i .i .given .1) ∙ at-coro-place .coro-place .ensures) .coro
 
 none : (c : tie.Else1) → numberOf (c .before .before .refusal .result) ≡ 0
 none c = sym (c .before .number .ensures) ∙ c .if1 .left
 
-sum : (c : tie.Else1) → Sums (c .before .before .before .before .before .before .before .before .before .before .before .before .before .before .before .before .args .l) (mem (c .before .before .before .before .before .before .before .before .before .before .before .before .before .before .before .before) (c .before .before .before .before .before .before .before .before .before .before .before .before .before .before .before .before .pre .beside)) (c .before .before .before .before .before .before .before .before .before .before .before .before .before .before .before .before .args .m) (c .before .before .before .before .before .before .before .before .before .before .before .before .before .before .before .before .pre .beside .fuel) (c .before .before .before .before .before .before .before .before .before .before .before .before .before .before .before .before .args .v .0) (c .before .before .before .before .before .before .before .before .before .before .before .before .before .before .before .before .pre .world) (c .before .before .before .before .before .before .before .before .before .before .before .before .before .before .before .before .pre .rep) (slot (c .before .before .before)) (coro (c .before .before .before)) (found (c .before .before .before)) (c .before .before .before .before .before .before .before .before .before .before .before .before .before .before .before .before .pre .sound) (c .before .before .refusal .result) (c .before .before .refusal .ensures) (none c)
-sum c = sums (c .before .before .before .before .before .before .before .before .before .before .before .before .before .before .before .before .args .l) (mem (c .before .before .before .before .before .before .before .before .before .before .before .before .before .before .before .before) (c .before .before .before .before .before .before .before .before .before .before .before .before .before .before .before .before .pre .beside)) (c .before .before .before .before .before .before .before .before .before .before .before .before .before .before .before .before .args .m) (c .before .before .before .before .before .before .before .before .before .before .before .before .before .before .before .before .pre .beside .fuel) (c .before .before .before .before .before .before .before .before .before .before .before .before .before .before .before .before .args .v .0) (c .before .before .before .before .before .before .before .before .before .before .before .before .before .before .before .before .pre .world) (c .before .before .before .before .before .before .before .before .before .before .before .before .before .before .before .before .pre .rep) (slot (c .before .before .before)) (coro (c .before .before .before)) (found (c .before .before .before)) (c .before .before .before .before .before .before .before .before .before .before .before .before .before .before .before .before .pre .sound) (c .before .before .refusal .result) (c .before .before .refusal .ensures) (none c) (c .before .before .before .before .before .before .before .before .before .before .before .before .before .before .before .before .pre .room)
+sum : (c : tie.Else1) →
+    let at-refusal = c .before .before in let at-coro-at = at-refusal .before in let start = start-of at-coro-at in
+    Sums (start .args .l) (mem start (start .pre .beside)) (start .args .m) (start .pre .beside .fuel) (start .args .v .0) (start .pre .world) (start .pre .rep)
+    (slot at-coro-at) (coro at-coro-at) (found at-coro-at) (start .pre .sound) (at-refusal .refusal .result) (at-refusal .refusal .ensures) (none c)
+sum c =
+    let at-refusal = c .before .before in let at-coro-at = at-refusal .before in let start = start-of at-coro-at in
+    sums (start .args .l) (mem start (start .pre .beside)) (start .args .m) (start .pre .beside .fuel) (start .args .v .0) (start .pre .world) (start .pre .rep)
+    (slot at-coro-at) (coro at-coro-at) (found at-coro-at) (start .pre .sound) (at-refusal .refusal .result) (at-refusal .refusal .ensures) (none c)
+    (start .pre .room)
 
 coro-place-requires : tie.Need-coro-place-requires
 coro-place-requires c κs = search needs
@@ -44,10 +67,17 @@ enum-known-i : tie.Need-enum-known-i
 enum-known-i c = search needs
 
 coro-at-requires : tie.Need-coro-at-requires
-coro-at-requires c κs = stands-words (c .before .before .before .before .before .before .before .before .before .before .before .before .args .m .count) (c .before .before .before .before .before .before .before .before .before .before .before .before .args .slots .now) (c .before .before .before .before .before .before .before .before .before .before .before .before .args .v .0) (c .before .before .i .given .0 .0) (sym (c .before .before .i .given .1) ∙ c .before .before .before .before .coro-place .ensures) (c .before .before .before .before .before .before .before .before .before .before .before .before .pre .rep .slots .within)
+coro-at-requires c κs =
+    let at-i = c .before .before in let at-coro-place = at-i .before .before in let start = start-of-coro-place at-coro-place in
+    stands-words (start .args .m .count) (start .args .slots .now) (start .args .v .0) (at-i .i .given .0 .0)
+    (sym (at-i .i .given .1) ∙ at-coro-place .coro-place .ensures) (start .pre .rep .slots .within)
 
 refusal-requires : tie.Need-refusal-requires
-refusal-requires c κs = let b = before (c .before .before .before .before .before .before .before .before .before .before .before .before .before .args .l) (mem (c .before .before .before .before .before .before .before .before .before .before .before .before .before) (c .before .before .before .before .before .before .before .before .before .before .before .before .before .pre .beside)) (c .before .before .before .before .before .before .before .before .before .before .before .before .before .args .m) (c .before .before .before .before .before .before .before .before .before .before .before .before .before .pre .beside .fuel) (c .before .before .before .before .before .before .before .before .before .before .before .before .before .args .v .0) (c .before .before .before .before .before .before .before .before .before .before .before .before .before .pre .world) (c .before .before .before .before .before .before .before .before .before .before .before .before .before .pre .rep) (slot (c)) (coro (c)) (found (c)) (c .before .before .before .before .before .before .before .before .before .before .before .before .before .pre .sound) in (b .depth, b .height)
+refusal-requires c κs =
+    let start = start-of c in
+    let b = before (start .args .l) (mem start (start .pre .beside)) (start .args .m) (start .pre .beside .fuel) (start .args .v .0) (start .pre .world)
+    (start .pre .rep) (slot c) (coro c) (found c) (start .pre .sound) in
+    (b .depth, b .height)
 
 number-requires : tie.Need-number-requires
 number-requires c κs = search needs
@@ -56,19 +86,36 @@ same-length : tie.Need-same-length
 same-length c = search needs
 
 returns : tie.Need-returns
-returns c = λ w b rep snd. refused (c .before .before .before .before .before .before .before .before .before .before .before .before .before .before .before .before .args .l) (mem (c .before .before .before .before .before .before .before .before .before .before .before .before .before .before .before .before) b) (c .before .before .before .before .before .before .before .before .before .before .before .before .before .before .before .before .args .m) (b .fuel) (c .before .before .before .before .before .before .before .before .before .before .before .before .before .before .before .before .args .v .0) w rep (slot (c .before .before .before)) (coro (c .before .before .before)) (found (c .before .before .before)) (c .before .before .before .before .before .before .before .before .before .before .before .before .before .before .before .before .args .d) (c .before .before .refusal .result) (c .before .before .refusal .ensures) (λ z. c .if1 .taken (c .before .number .ensures ∙ z))
+returns c =
+    let at-number = c .before in let at-refusal = at-number .before in let at-coro-at = at-refusal .before in
+    let start = start-of at-coro-at in
+    λ w b rep snd. refused (start .args .l) (mem start b) (start .args .m) (b .fuel) (start .args .v .0) w rep (slot at-coro-at) (coro at-coro-at)
+    (found at-coro-at) (start .args .d) (at-refusal .refusal .result) (at-refusal .refusal .ensures) (λ z. c .if1 .taken (at-number .number .ensures ∙ z))
 
 move-in-requires : tie.Need-move-in-requires
-move-in-requires c κs = let h : length (c .before .before .before .before .before .before .before .before .before .before .before .before .before .before .before .before .before .before .before .before .args .stack .now) < 2 ^ 64 = omega (arith, c .before .before .before .before .before .before .before .before .before .before .before .before .before .before .before .before .before .before .before .before .good) in move-fits (c .before .before .before .before .before .before .before .before .before .before .before .before .before .before .before .before .before .before .before .before .args .l) (mem (c .before .before .before .before .before .before .before .before .before .before .before .before .before .before .before .before .before .before .before .before) (c .before .before .before .before .before .before .before .before .before .before .before .before .before .before .before .before .before .before .before .before .pre .beside)) (c .before .before .before .before .before .before .before .before .before .before .before .before .before .before .before .before .before .before .before .before .args .m) (c .before .before .before .before .before .before .before .before .before .before .before .before .before .before .before .before .before .before .before .before .pre .beside .fuel) (c .before .before .before .before .before .before .before .before .before .before .before .before .before .before .before .before .before .before .before .before .args .v .0) (c .before .before .before .before .before .before .before .before .before .before .before .before .before .before .before .before .before .before .before .before .pre .world) (c .before .before .before .before .before .before .before .before .before .before .before .before .before .before .before .before .before .before .before .before .pre .rep) (slot (c .before .before .before .before .before .before .before)) (coro (c .before .before .before .before .before .before .before)) (found (c .before .before .before .before .before .before .before)) (c .before .before .before .before .before .before .before .before .before .before .before .before .before .before .before .before .before .before .before .before .pre .sound) (c .before .before .before .before .before .before .refusal .result) (c .before .before .before .before .before .before .refusal .ensures) (none (c .before .before .before .before)) (c .before .before .before .before .before .before .before .before .before .before .before .before .before .before .before .before .before .before .before .before .pre .room) h
+move-in-requires c κs =
+    let at-if1 = c .before .before .before .before in let at-refusal = at-if1 .before .before in
+    let at-coro-at = at-refusal .before in let start = start-of at-coro-at in
+    let h : length (start .args .stack .now) < 2 ^ 64 = omega (arith, start .good) in
+    move-fits (start .args .l) (mem start (start .pre .beside)) (start .args .m) (start .pre .beside .fuel) (start .args .v .0) (start .pre .world)
+    (start .pre .rep) (slot at-coro-at) (coro at-coro-at) (found at-coro-at) (start .pre .sound) (at-refusal .refusal .result) (at-refusal .refusal .ensures)
+    (none at-if1) (start .pre .room) h
 
 push-active-requires : tie.Need-push-active-requires
-push-active-requires c κs = sum (c .before .before .before .before .before .before .before .before .before .before .before .before .before .before) .chain
+push-active-requires c κs =
+    let at-if1 = if1-of c in
+    sum at-if1 .chain
 
 put-state-requires : tie.Need-put-state-requires
-put-state-requires c κs = sum (c .before .before .before .before .before .before .before .before .before .before .before .before .before .before .before .before .before .before) .slot
+put-state-requires c κs =
+    let at-if1 = if1-of (c .before .before .before .before) in
+    sum at-if1 .slot
 
 entered-requires : tie.Need-entered-requires
-entered-requires c κs = let s = sum (c .before .before .before .before .before .before .before .before .before .before .before .before .before .before .before .before .before .before .before .before .before) in let h₁ = s .height in let h₂ = s .depth in let h₃ = s .active in (omega (arith, h₁, c .before .before .before .before .before .before .before .before .before .before .before .before .before .before .before .before .before .before .before .before .before .before .before .before .before .before .before .before .before .before .before .before .before .before .before .before .before .good), omega (arith, h₂, c .before .before .before .before .before .before .before .before .before .before .before .before .before .before .before .before .before .before .before .before .before .before .before .before .before .before .before .before .before .before .before .before .before .before .before .before .before .good), omega (arith, h₃, c .before .before .before .before .before .before .before .before .before .before .before .before .before .before .before .before .before .before .before .before .before .before .before .before .before .before .before .before .before .before .before .before .before .before .before .before .before .good))
+entered-requires c κs =
+    let at-if1 = if1-of (c .before .before .before .before .before .before .before) in
+    let start = start-of (at-if1 .before .before .before) in
+    let s = sum at-if1 in let h₁ = s .height in let h₂ = s .depth in let h₃ = s .active in (omega (arith, h₁, start .good), omega (arith, h₂, start .good), omega (arith, h₃, start .good))
 
 entered-as-requires : tie.Need-entered-as-requires
 entered-as-requires c κs = search needs
@@ -77,7 +124,11 @@ same-length-2 : tie.Need-same-length-2
 same-length-2 c = search needs
 
 returns-2 : tie.Need-returns-2
-returns-2 c = λ w b rep snd. not-found (c .before .before .before .before .before .before .before .before .before .before .before .args .l) (mem (c .before .before .before .before .before .before .before .before .before .before .before) b) (c .before .before .before .before .before .before .before .before .before .before .before .args .m) (b .fuel) (c .before .before .before .before .before .before .before .before .before .before .before .args .v .0) w rep (c .before .before .before .before .before .before .before .before .before .before .before .args .d) _ (none-there (coroOf (slotsOf (c .before .before .before .before .before .before .before .before .before .before .before .args .m .count) (c .before .before .before .before .before .before .before .before .before .before .before .args .slots .now)) (c .before .before .before .before .before .before .before .before .before .before .before .args .v .0)) (c .before .f .given .0 .0) (sym (c .before .f .given .1) ∙ c .before .before .before .coro-place .ensures))
+returns-2 c =
+    let at-f = c .before in let at-coro-place = at-f .before .before in let start = start-of-coro-place at-coro-place in
+    λ w b rep snd. not-found (start .args .l) (mem start b) (start .args .m) (b .fuel) (start .args .v .0) w rep (start .args .d)
+    _ (none-there (coroOf (slotsOf (start .args .m .count) (start .args .slots .now)) (start .args .v .0)) (at-f .f .given .0 .0)
+    (sym (at-f .f .given .1) ∙ at-coro-place .coro-place .ensures))
 
 same-length-3 : tie.Need-same-length-3
 same-length-3 c = search needs
@@ -98,7 +149,16 @@ same-length-8 : tie.Need-same-length-8
 same-length-8 c = search needs
 
 returns-3 : tie.Need-returns-3
-returns-3 c = λ w b rep snd. accepted (c .before .before .before .before .before .before .before .before .before .before .before .before .before .before .before .before .before .before .before .before .before .before .before .before .before .before .before .before .before .before .before .before .before .before .before .before .before .before .before .args .l) (mem (c .before .before .before .before .before .before .before .before .before .before .before .before .before .before .before .before .before .before .before .before .before .before .before .before .before .before .before .before .before .before .before .before .before .before .before .before .before .before .before) b) (c .before .before .before .before .before .before .before .before .before .before .before .before .before .before .before .before .before .before .before .before .before .before .before .before .before .before .before .before .before .before .before .before .before .before .before .before .before .before .before .args .m) (b .fuel) (c .before .before .before .before .before .before .before .before .before .before .before .before .before .before .before .before .before .before .before .before .before .before .before .before .before .before .before .before .before .before .before .before .before .before .before .before .before .before .before .args .v .0) w rep (slot (c .before .before .before .before .before .before .before .before .before .before .before .before .before .before .before .before .before .before .before .before .before .before .before .before .before .before)) (coro (c .before .before .before .before .before .before .before .before .before .before .before .before .before .before .before .before .before .before .before .before .before .before .before .before .before .before)) (found (c .before .before .before .before .before .before .before .before .before .before .before .before .before .before .before .before .before .before .before .before .before .before .before .before .before .before)) snd (c .before .before .before .before .before .before .before .before .before .before .before .before .before .before .before .before .before .before .before .before .before .before .before .before .before .refusal .result) (c .before .before .before .before .before .before .before .before .before .before .before .before .before .before .before .before .before .before .before .before .before .before .before .before .before .refusal .ensures) (none (c .before .before .before .before .before .before .before .before .before .before .before .before .before .before .before .before .before .before .before .before .before .before .before)) (c .before .before .before .before .before .before .before .before .before .before .before .before .before .before .before .before .before .before .before .before .before .before .before .before .before .before .before .before .before .before .before .before .before .before .before .before .before .before .before .args .d) _ _ _ _ _ _ (c .before .entered .result) (c .entered-as .result) (c .before .before .before .before .before .before .before .before .before .before .before .before .before .before .before .before .before .before .move-in .ensures) (c .before .before .before .before .before .before .before .before .push-active .ensures) (c .before .before .before .before .put-state .ensures) (c .entered-as .ensures) (c .before .entered .ensures)
+returns-3 c =
+    let at-entered = c .before in let at-put-state = at-entered .before .before .before in
+    let at-push-active = at-put-state .before .before .before .before in
+    let at-move-in = at-push-active .before .before .before .before .before .before .before .before .before .before in
+    let at-if1 = at-move-in .before .before .before .before .before in let at-refusal = at-if1 .before .before in
+    let at-coro-at = at-refusal .before in let start = start-of at-coro-at in
+    λ w b rep snd. accepted (start .args .l) (mem start b) (start .args .m) (b .fuel) (start .args .v .0) w rep (slot at-coro-at) (coro at-coro-at)
+    (found at-coro-at) snd (at-refusal .refusal .result) (at-refusal .refusal .ensures) (none at-if1) (start .args .d) _ _ _ _ _ _ (at-entered .entered .result)
+    (c .entered-as .result) (at-move-in .move-in .ensures) (at-push-active .push-active .ensures) (at-put-state .put-state .ensures) (c .entered-as .ensures)
+    (at-entered .entered .ensures)
 
 pub coro-enter-spec : {M : Type 1} → statement M
 coro-enter-spec =

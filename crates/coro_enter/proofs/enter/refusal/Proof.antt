@@ -19,16 +19,31 @@ sub-if3 : tie.Need-sub-if3
 sub-if3 c = search needs
 
 returns-3 : tie.Need-returns-3
-returns-3 c = let a = c .before .before .before .before .before .before .before .before .args in by-depth (a .m .height) (a .m .depth) (a .l) (a .c) (sym (c .before .before .before .before .before .before .before .is-resumable .ensures) ∙ not-false _ (c .before .before .before .before .before .before .if1 .left)) (c .before .before .before .before .if2 .left) (c .before .before .before .before .before .before .before .before .pre .0) (c .if3 .taken)
+returns-3 c =
+    let at-if2 = c .before .before .before .before in let at-if1 = at-if2 .before .before in let at-is-resumable = at-if1 .before in
+    let start = at-is-resumable .before in
+    let a = start .args in
+    by-depth (a .m .height) (a .m .depth) (a .l) (a .c) (sym (at-is-resumable .is-resumable .ensures) ∙ not-false _ (at-if1 .if1 .left)) (at-if2 .if2 .left)
+    (start .pre .0) (c .if3 .taken)
 
 sub-if4 : tie.Need-sub-if4
 sub-if4 c = search needs
 
 returns-4 : tie.Need-returns-4
-returns-4 c = let a = c .before .before .before .before .before .before .before .before .before .before .before .before .args in by-stack (a .m .height) (a .m .depth) (a .l) (a .c) (sym (c .before .before .before .before .before .before .before .before .before .before .before .is-resumable .ensures) ∙ not-false _ (c .before .before .before .before .before .before .before .before .before .before .if1 .left)) (c .before .before .before .before .before .before .before .before .if2 .left) (c .before .before .before .before .before .before .before .before .before .before .before .before .pre .1) (c .if4 .taken)
+returns-4 c =
+    let at-if2 = c .before .before .before .before .before .before .before .before in let at-if1 = at-if2 .before .before in
+    let at-is-resumable = at-if1 .before in let start = at-is-resumable .before in
+    let a = start .args in
+    by-stack (a .m .height) (a .m .depth) (a .l) (a .c) (sym (at-is-resumable .is-resumable .ensures) ∙ not-false _ (at-if1 .if1 .left)) (at-if2 .if2 .left)
+    (start .pre .1) (c .if4 .taken)
 
 returns-5 : tie.Need-returns-5
-returns-5 c = let a = c .before .before .before .before .before .before .before .before .before .before .before .before .args in by-nothing (a .m .height) (a .m .depth) (a .l) (a .c) (sym (c .before .before .before .before .before .before .before .before .before .before .before .is-resumable .ensures) ∙ not-false _ (c .before .before .before .before .before .before .before .before .before .before .if1 .left)) (c .before .before .before .before .before .before .before .before .if2 .left) (c .before .before .before .before .before .before .before .before .before .before .before .before .pre .0) (c .before .before .before .before .before .before .before .before .before .before .before .before .pre .1) (c .before .before .before .before .if3 .left) (c .if4 .left)
+returns-5 c =
+    let at-if3 = c .before .before .before .before in let at-if2 = at-if3 .before .before .before .before in
+    let at-if1 = at-if2 .before .before in let at-is-resumable = at-if1 .before in let start = at-is-resumable .before in
+    let a = start .args in
+    by-nothing (a .m .height) (a .m .depth) (a .l) (a .c) (sym (at-is-resumable .is-resumable .ensures) ∙ not-false _ (at-if1 .if1 .left)) (at-if2 .if2 .left)
+    (start .pre .0) (start .pre .1) (at-if3 .if3 .left) (c .if4 .left)
 
 pub refusal-spec : {M : Type 1} → statement M
 refusal-spec =

@@ -25,7 +25,18 @@ signal-after-requires : tie.Need-signal-after-requires
 signal-after-requires c κs = search needs
 
 returns : tie.Need-returns
-returns c = rw (c .before .before .before .before .before .closing-after .ensures, c .before .before .before .before .larger .ensures, c .before .before .before .larger2 .ensures, c .before .before .key-of .ensures, c .before .largest-of .ensures, c .signal-after .ensures, c .before .before .before .before .before .before .ignores .ensures)
+returns c =
+    let at-largest-of = c .before in let at-key-of = at-largest-of .before in let at-larger2 = at-key-of .before in
+    let at-larger = at-larger2 .before in let at-closing-after = at-larger .before in let at-ignores = at-closing-after .before in
+    rw (
+      at-closing-after .closing-after .ensures,
+      at-larger .larger .ensures,
+      at-larger2 .larger2 .ensures,
+      at-key-of .key-of .ensures,
+      at-largest-of .largest-of .ensures,
+      c .signal-after .ensures,
+      at-ignores .ignores .ensures,
+    )
 
 pub asleep-spec : {M : Type 1} → statement M
 asleep-spec =

@@ -12,14 +12,25 @@ use borrow.Author.Needs.{needs}
 use Rattle.coro_suspend.proofs.suspend.coro_suspend.Statement.{statement}
 use Rattle.coro_suspend.proofs.suspend.coro_suspend.Tie as tie
 
+-- the ways back that several clauses take
+abbrev suspend-found-of : tie.After-slice-known12 → tie.After-suspend-found
+suspend-found-of c = c .before .before .before .before .before .before .before .before .before .before .before .before
+
+abbrev start-of : tie.Else1 → tie.Start
+start-of c = c .before .before .before .before .before .before .before .before
+
 abbrev mem : tie.Start → Beside → Lent
 mem c b = lent (c .args .stack .now) (c .args .frames .now) (c .args .chain .now) (c .args .slots .now) (c .args .saved-stack .now) (c .args .saved-frames .now) b
 
-some : (c : tie.Else1) → 1 ≤ c .before .before .before .before .before .before .before .before .args .m .active
+some : (c : tie.Else1) →
+    let start = start-of c in
+    1 ≤ start .args .m .active
 some c = let h = c .if1 .left in omega arith
 
 returns : tie.Need-returns
-returns c = λ w b rep snd. idle (c .before .before .before .before .before .before .before .before .args .l) (mem (c .before .before .before .before .before .before .before .before) b) (c .before .before .before .before .before .before .before .before .args .m) (b .fuel) (c .before .before .before .before .before .before .before .before .args .state) (c .before .before .before .before .before .before .before .before .args .dst) (c .before .before .before .before .before .before .before .before .args .payload) (c .before .before .before .before .before .before .before .before .args .keys) w rep (c .if1 .taken)
+returns c =
+    let start = c .before .before .before .before .before .before .before .before in
+    λ w b rep snd. idle (start .args .l) (mem start b) (start .args .m) (b .fuel) (start .args .state) (start .args .dst) (start .args .payload) (start .args .keys) w rep (c .if1 .taken)
 
 sub-active-at : tie.Need-sub-active-at
 sub-active-at c = search needs
@@ -31,10 +42,15 @@ same-length : tie.Need-same-length
 same-length c = search needs
 
 returns-2 : tie.Need-returns-2
-returns-2 c = λ w b rep snd. no-frame (c .before .before .before .before .before .before .before .before .before .before .before .before .before .args .l) (mem (c .before .before .before .before .before .before .before .before .before .before .before .before .before) b) (c .before .before .before .before .before .before .before .before .before .before .before .before .before .args .m) (b .fuel) (c .before .before .before .before .before .before .before .before .before .before .before .before .before .args .state) (c .before .before .before .before .before .before .before .before .before .before .before .before .before .args .dst) (c .before .before .before .before .before .before .before .before .before .before .before .before .before .args .payload) (c .before .before .before .before .before .before .before .before .before .before .before .before .before .args .keys) w rep (c .before .before .active-at .result) (some (c .before .before .before .before .before)) (c .before .before .active-at .ensures) (c .if2 .taken)
+returns-2 c =
+    let at-active-at = c .before .before in let at-if1 = at-active-at .before .before .before in let start = start-of at-if1 in
+    λ w b rep snd. no-frame (start .args .l) (mem start b) (start .args .m) (b .fuel) (start .args .state) (start .args .dst) (start .args .payload)
+    (start .args .keys) w rep (at-active-at .active-at .result) (some at-if1) (at-active-at .active-at .ensures) (c .if2 .taken)
 
 coro-place-requires : tie.Need-coro-place-requires
-coro-place-requires c κs = c .before .before .before .before .before .before .before .before .before .before .before .before .before .before .pre .ok .rep .slots .within
+coro-place-requires c κs =
+    let start = start-of (c .before .before .before .before .before .before) in
+    start .pre .ok .rep .slots .within
 
 enum-told : tie.Need-enum-told
 enum-told c = search needs
@@ -43,10 +59,26 @@ enum-known-i : tie.Need-enum-known-i
 enum-known-i c = search needs
 
 coro-at-requires : tie.Need-coro-at-requires
-coro-at-requires c κs = stands-words (c .before .before .before .before .before .before .before .before .before .before .before .before .before .before .before .before .before .before .before .args .m .count) (c .before .before .before .before .before .before .before .before .before .before .before .before .before .before .before .before .before .before .before .args .slots .now) (c .before .before .before .before .before .before .before .before .active-at .result .coro) (c .before .before .i .given .0 .0) (sym (c .before .before .i .given .1) ∙ c .before .before .before .before .coro-place .ensures) (c .before .before .before .before .before .before .before .before .before .before .before .before .before .before .before .before .before .before .before .pre .ok .rep .slots .within)
+coro-at-requires c κs =
+    let at-i = c .before .before in let at-coro-place = at-i .before .before in
+    let at-active-at = at-coro-place .before .before .before .before in let start = start-of (at-active-at .before .before .before) in
+    stands-words (start .args .m .count) (start .args .slots .now) (at-active-at .active-at .result .coro) (at-i .i .given .0 .0)
+    (sym (at-i .i .given .1) ∙ at-coro-place .coro-place .ensures) (start .pre .ok .rep .slots .within)
 
 suspend-found-requires : tie.Need-suspend-found-requires
-suspend-found-requires c κs = record { ok = c .before .before .before .before .before .before .before .before .before .before .before .before .before .before .before .before .before .before .before .before .before .before .before .before .before .before .pre .ok; state = c .before .before .before .before .before .before .before .before .before .before .before .before .before .before .before .before .before .before .before .before .before .before .before .before .before .before .pre .state; some = some (c .before .before .before .before .before .before .before .before .before .before .before .before .before .before .before .before .before .before); top = c .before .before .before .before .before .before .before .before .before .before .before .before .before .before .before .active-at .ensures; floor = c .before .before .before .before .before .before .before .before .before .before .before .before .before .if2 .left; coro = ap (RV.At (c .before .before .before .before .before .before .before .before .before .i .given .0 .0)) (c .before .before .before .before .before .before .coro-at .ensures) ∙ stands (c .before .before .before .before .before .before .before .before .before .before .before .before .before .before .before .before .before .before .before .before .before .before .before .before .before .before .args .m .count) (c .before .before .before .before .before .before .before .before .before .before .before .before .before .before .before .before .before .before .before .before .before .before .before .before .before .before .args .slots .now) (c .before .before .before .before .before .before .before .before .before .before .before .before .before .before .before .active-at .result .coro) (c .before .before .before .before .before .before .before .before .before .i .given .0 .0) (sym (c .before .before .before .before .before .before .before .before .before .i .given .1) ∙ c .before .before .before .before .before .before .before .before .before .before .before .coro-place .ensures) .coro }
+suspend-found-requires c κs =
+    let at-coro-at = c .before .before .before .before .before .before in let at-i = at-coro-at .before .before .before in
+    let at-coro-place = at-i .before .before in let at-if2 = at-coro-place .before .before in
+    let at-active-at = at-if2 .before .before in let at-if1 = at-active-at .before .before .before in let start = start-of at-if1 in
+    record {
+      ok = start .pre .ok;
+      state = start .pre .state;
+      some = some at-if1;
+      top = at-active-at .active-at .ensures;
+      floor = at-if2 .if2 .left;
+      coro = ap (RV.At (at-i .i .given .0 .0)) (at-coro-at .coro-at .ensures) ∙ stands (start .args .m .count) (start .args .slots .now)
+          (at-active-at .active-at .result .coro) (at-i .i .given .0 .0) (sym (at-i .i .given .1) ∙ at-coro-place .coro-place .ensures) .coro;
+    }
 
 same-length-2 : tie.Need-same-length-2
 same-length-2 c = search needs
@@ -55,28 +87,48 @@ same-length-3 : tie.Need-same-length-3
 same-length-3 c = search needs
 
 returns-3 : tie.Need-returns-3
-returns-3 c = λ w b rep snd. not-found (c .before .before .before .before .before .before .before .before .before .before .before .before .before .before .before .before .before .args .l) (mem (c .before .before .before .before .before .before .before .before .before .before .before .before .before .before .before .before .before) b) (c .before .before .before .before .before .before .before .before .before .before .before .before .before .before .before .before .before .args .m) (b .fuel) (c .before .before .before .before .before .before .before .before .before .before .before .before .before .before .before .before .before .args .state) (c .before .before .before .before .before .before .before .before .before .before .before .before .before .before .before .before .before .args .dst) (c .before .before .before .before .before .before .before .before .before .before .before .before .before .before .before .before .before .args .payload) (c .before .before .before .before .before .before .before .before .before .before .before .before .before .before .before .before .before .args .keys) w rep (c .before .before .before .before .before .before .active-at .result) (some (c .before .before .before .before .before .before .before .before .before)) (c .before .before .before .before .before .before .active-at .ensures) (c .before .before .before .before .if2 .left) _ (none-there (coroOf (slotsOf (c .before .before .before .before .before .before .before .before .before .before .before .before .before .before .before .before .before .args .m .count) (c .before .before .before .before .before .before .before .before .before .before .before .before .before .before .before .before .before .args .slots .now)) (c .before .before .before .before .before .before .active-at .result .coro)) (c .enum-told .given .0 .0) (sym (c .enum-told .given .1) ∙ c .before .before .coro-place .ensures))
+returns-3 c =
+    let at-coro-place = c .before .before in let at-if2 = at-coro-place .before .before in
+    let at-active-at = at-if2 .before .before in let at-if1 = at-active-at .before .before .before in let start = start-of at-if1 in
+    λ w b rep snd. not-found (start .args .l) (mem start b) (start .args .m) (b .fuel) (start .args .state) (start .args .dst) (start .args .payload)
+    (start .args .keys) w rep (at-active-at .active-at .result) (some at-if1) (at-active-at .active-at .ensures) (at-if2 .if2 .left) _
+    (none-there (coroOf (slotsOf (start .args .m .count) (start .args .slots .now)) (at-active-at .active-at .result .coro)) (c .enum-told .given .0 .0)
+    (sym (c .enum-told .given .1) ∙ at-coro-place .coro-place .ensures))
 
 same-length-4 : tie.Need-same-length-4
-same-length-4 c = c .before .before .before .before .before .before .before .before .before .before .before .before .suspend-found .kept .0
+same-length-4 c =
+    let at-suspend-found = suspend-found-of c in
+    at-suspend-found .suspend-found .kept .0
 
 same-length-5 : tie.Need-same-length-5
-same-length-5 c = c .before .before .before .before .before .before .before .before .before .before .before .before .suspend-found .kept .1 .0
+same-length-5 c =
+    let at-suspend-found = suspend-found-of c in
+    at-suspend-found .suspend-found .kept .1 .0
 
 same-length-6 : tie.Need-same-length-6
-same-length-6 c = c .before .before .before .before .before .before .before .before .before .before .before .before .suspend-found .kept .1 .1 .0
+same-length-6 c =
+    let at-suspend-found = suspend-found-of c in
+    at-suspend-found .suspend-found .kept .1 .1 .0
 
 same-length-7 : tie.Need-same-length-7
-same-length-7 c = c .before .before .before .before .before .before .before .before .before .before .before .before .suspend-found .kept .1 .1 .1 .0
+same-length-7 c =
+    let at-suspend-found = suspend-found-of c in
+    at-suspend-found .suspend-found .kept .1 .1 .1 .0
 
 same-length-8 : tie.Need-same-length-8
-same-length-8 c = c .before .before .before .before .before .before .before .before .before .before .before .before .suspend-found .kept .1 .1 .1 .1 .0
+same-length-8 c =
+    let at-suspend-found = suspend-found-of c in
+    at-suspend-found .suspend-found .kept .1 .1 .1 .1 .0
 
 same-length-9 : tie.Need-same-length-9
-same-length-9 c = c .before .before .before .before .before .before .before .before .before .before .before .before .suspend-found .kept .1 .1 .1 .1 .1 .0
+same-length-9 c =
+    let at-suspend-found = suspend-found-of c in
+    at-suspend-found .suspend-found .kept .1 .1 .1 .1 .1 .0
 
 returns-4 : tie.Need-returns-4
-returns-4 c = c .before .before .before .before .before .before .before .before .before .before .before .before .suspend-found .ensures
+returns-4 c =
+    let at-suspend-found = suspend-found-of c in
+    at-suspend-found .suspend-found .ensures
 
 pub coro-suspend-spec : {M : Type 1} → statement M
 coro-suspend-spec =

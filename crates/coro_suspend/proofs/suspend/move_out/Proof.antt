@@ -11,7 +11,9 @@ leave-stack-requires : tie.Need-leave-stack-requires
 leave-stack-requires c κs = search needs
 
 mul-from : tie.Need-mul-from
-mul-from c = omega (arith, (c .before .before .before .before .before .before .before .before .before .before .before .before .before .pre) .deep, c .before .before .before .before .before .before .before .before .before .before .before .before .before .good)
+mul-from c =
+    let start = c .before .before .before .before .before .before .before .before .before .before .before .before .before in
+    omega (arith, start .pre .deep, start .good)
 
 mul-from-2 : tie.Need-mul-from-2
 mul-from-2 c = search needs

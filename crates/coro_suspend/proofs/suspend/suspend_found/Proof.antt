@@ -9,11 +9,25 @@ use borrow.Author.Needs.{needs}
 use Rattle.coro_suspend.proofs.suspend.suspend_found.Statement.{statement}
 use Rattle.coro_suspend.proofs.suspend.suspend_found.Tie as tie
 
+-- the ways back that several clauses take
+abbrev move-out-of : tie.After-event-of → tie.After-move-out
+move-out-of c = c .before .before .before .before .before .before .before .before .before .before .before .before .before .before .before .before .before .before
+
+abbrev start-of : tie.After-move-out-arg4 → tie.Start
+start-of c = c .before .before .before .before .before .before .before .before .before .before .before .before .before .before .before .before .before .before
+
+abbrev start-of-struct-known : tie.After-struct-known → tie.Start
+start-of-struct-known c = c .before .before .before .before .before .before .before .before
+
 abbrev mem : tie.Start → Beside → Lent
 mem c b = lent (c .args .stack .now) (c .args .frames .now) (c .args .chain .now) (c .args .slots .now) (c .args .saved-stack .now) (c .args .saved-frames .now) b
 
-known : (c : tie.Start) → Before (c .args .l) (mem c (c .pre .ok .beside)) (c .args .m) (c .pre .ok .beside .fuel) (c .args .state) (c .args .dst) (c .args .payload) (c .args .keys) (c .pre .ok .world) (c .pre .ok .rep) (c .args .a) (c .pre .some) (c .pre .top) (c .pre .floor) (c .args .i) (c .args .c) (c .pre .coro) (c .pre .ok .sound)
-known c = before (c .args .l) (mem c (c .pre .ok .beside)) (c .args .m) (c .pre .ok .beside .fuel) (c .args .state) (c .args .dst) (c .args .payload) (c .args .keys) (c .pre .ok .world) (c .pre .ok .rep) (c .args .a) (c .pre .some) (c .pre .top) (c .pre .floor) (c .args .i) (c .args .c) (c .pre .coro) (c .pre .ok .sound)
+known : (c : tie.Start) →
+    Before (c .args .l) (mem c (c .pre .ok .beside)) (c .args .m) (c .pre .ok .beside .fuel) (c .args .state) (c .args .dst) (c .args .payload) (c .args .keys)
+    (c .pre .ok .world) (c .pre .ok .rep) (c .args .a) (c .pre .some) (c .pre .top) (c .pre .floor) (c .args .i) (c .args .c) (c .pre .coro) (c .pre .ok .sound)
+known c = before (c .args .l) (mem c (c .pre .ok .beside)) (c .args .m) (c .pre .ok .beside .fuel) (c .args .state) (c .args .dst) (c .args .payload)
+    (c .args .keys) (c .pre .ok .world) (c .pre .ok .rep) (c .args .a) (c .pre .some) (c .pre .top) (c .pre .floor) (c .args .i) (c .args .c) (c .pre .coro)
+    (c .pre .ok .sound)
 
 mul-base : tie.Need-mul-base
 mul-base c = search needs
@@ -28,13 +42,17 @@ slice-read-base : tie.Need-slice-read-base
 slice-read-base c = search needs
 
 sub-regs : tie.Need-sub-regs
-sub-regs c = known (c .before .before .before .before .before .before .before .before) .under
+sub-regs c =
+    let start = start-of-struct-known c in
+    known start .under
 
 sub-deep : tie.Need-sub-deep
 sub-deep c = search needs
 
 growth-requires : tie.Need-growth-requires
-growth-requires c κs = let k = known (c .before .before .before .before .before .before .before .before .before) in (k .regs, k .frames, k .cost)
+growth-requires c κs =
+    let start = start-of-struct-known (c .before) in
+    let k = known start in (k .regs, k .frames, k .cost)
 
 charge-requires : tie.Need-charge-requires
 charge-requires c κs = search needs
@@ -46,46 +64,83 @@ enum-known-g : tie.Need-enum-known-g
 enum-known-g c = search needs
 
 move-out-requires : tie.Need-move-out-requires
-move-out-requires c κs = leave-fit (c .before .before .before .before .before .before .before .before .before .before .before .before .before .before .before .before .before .before .args .l) (mem (c .before .before .before .before .before .before .before .before .before .before .before .before .before .before .before .before .before .before) (c .before .before .before .before .before .before .before .before .before .before .before .before .before .before .before .before .before .before .pre .ok .beside)) (c .before .before .before .before .before .before .before .before .before .before .before .before .before .before .before .before .before .before .args .m) (c .before .before .before .before .before .before .before .before .before .before .before .before .before .before .before .before .before .before .pre .ok .beside .fuel) (c .before .before .before .before .before .before .before .before .before .before .before .before .before .before .before .before .before .before .args .state) (c .before .before .before .before .before .before .before .before .before .before .before .before .before .before .before .before .before .before .args .dst) (c .before .before .before .before .before .before .before .before .before .before .before .before .before .before .before .before .before .before .args .payload) (c .before .before .before .before .before .before .before .before .before .before .before .before .before .before .before .before .before .before .args .keys) (c .before .before .before .before .before .before .before .before .before .before .before .before .before .before .before .before .before .before .pre .ok .world) (c .before .before .before .before .before .before .before .before .before .before .before .before .before .before .before .before .before .before .pre .ok .rep) (c .before .before .before .before .before .before .before .before .before .before .before .before .before .before .before .before .before .before .args .a) (c .before .before .before .before .before .before .before .before .before .before .before .before .before .before .before .before .before .before .pre .some) (c .before .before .before .before .before .before .before .before .before .before .before .before .before .before .before .before .before .before .pre .top) (c .before .before .before .before .before .before .before .before .before .before .before .before .before .before .before .before .before .before .pre .floor) (c .before .before .before .before .before .before .before .before .before .before .before .before .before .before .before .before .before .before .args .i) (c .before .before .before .before .before .before .before .before .before .before .before .before .before .before .before .before .before .before .args .c) (c .before .before .before .before .before .before .before .before .before .before .before .before .before .before .before .before .before .before .pre .coro) (c .before .before .before .before .before .before .before .before .before .before .before .before .before .before .before .before .before .before .pre .ok .sound) (c .before .before .before .before .before .before .before .before .before .before .before .before .before .before .before .before .before .before .pre .ok .room)
+move-out-requires c κs =
+    let start = start-of c in
+    leave-fit (start .args .l) (mem start (start .pre .ok .beside)) (start .args .m) (start .pre .ok .beside .fuel) (start .args .state) (start .args .dst)
+    (start .args .payload) (start .args .keys) (start .pre .ok .world) (start .pre .ok .rep) (start .args .a) (start .pre .some) (start .pre .top)
+    (start .pre .floor) (start .args .i) (start .args .c) (start .pre .coro) (start .pre .ok .sound) (start .pre .ok .room)
 
 pop-active-requires : tie.Need-pop-active-requires
-pop-active-requires c κs = (c .before .before .before .before .before .before .before .before .before .before .before .before .before .before .before .before .before .before .before .before .before .before .before .before .before .before .before .before .pre .some, known (c .before .before .before .before .before .before .before .before .before .before .before .before .before .before .before .before .before .before .before .before .before .before .before .before .before .before .before .before) .chain)
+pop-active-requires c κs =
+    let start = start-of (c .before .before .before .before .before .before .before .before .before .before) in
+    (start .pre .some, known start .chain)
 
 asleep-requires : tie.Need-asleep-requires
 asleep-requires c κs = search needs
 
 put-sleep-requires : tie.Need-put-sleep-requires
-put-sleep-requires c κs = known (c .before .before .before .before .before .before .before .before .before .before .before .before .before .before .before .before .before .before .before .before .before .before .before .before .before .before .before .before .before .before .before .before .before) .slot
+put-sleep-requires c κs =
+    let at-move-out = c .before .before .before .before .before .before .before .before .before .before .before .before .before .before in
+    let start = start-of (at-move-out .before) in
+    known start .slot
 
 event-of-requires : tie.Need-event-of-requires
 event-of-requires c κs = search needs
 
 shrunk-requires : tie.Need-shrunk-requires
-shrunk-requires c κs = c .before .before .before .before .before .before .before .before .before .before .before .before .before .before .before .before .before .before .before .before .before .before .before .before .before .before .before .before .before .before .before .before .before .before .before .before .before .pre .some
+shrunk-requires c κs =
+    let at-move-out = move-out-of c in let start = start-of (at-move-out .before) in
+    start .pre .some
 
 returns : tie.Need-returns
-returns c = λ w b rep snd. spent (c .before .before .before .before .before .before .before .before .before .before .before .before .before .args .l) (mem (c .before .before .before .before .before .before .before .before .before .before .before .before .before) b) (c .before .before .before .before .before .before .before .before .before .before .before .before .before .args .m) (b .fuel) (c .before .before .before .before .before .before .before .before .before .before .before .before .before .args .state) (c .before .before .before .before .before .before .before .before .before .before .before .before .before .args .dst) (c .before .before .before .before .before .before .before .before .before .before .before .before .before .args .payload) (c .before .before .before .before .before .before .before .before .before .before .before .before .before .args .keys) w rep (c .before .before .before .before .before .before .before .before .before .before .before .before .before .args .a) (c .before .before .before .before .before .before .before .before .before .before .before .before .before .pre .some) (c .before .before .before .before .before .before .before .before .before .before .before .before .before .pre .top) (c .before .before .before .before .before .before .before .before .before .before .before .before .before .pre .floor) (c .before .before .before .before .before .before .before .before .before .before .before .before .before .args .i) (c .before .before .before .before .before .before .before .before .before .before .before .before .before .args .c) (c .before .before .before .before .before .before .before .before .before .before .before .before .before .pre .coro) (sym (c .enum-told .given .1) ∙ c .before .before .charge .ensures ∙ ap (chargeOf (heapOf (c .before .before .before .before .before .before .before .before .before .before .before .before .before .args .m) (c .before .before .before .before .before .before .before .before .before .before .before .before .before .args .l))) (c .before .before .before .growth .ensures))
+returns c =
+    let at-charge = c .before .before in let at-growth = at-charge .before in
+    let start = start-of-struct-known (at-growth .before .before) in
+    λ w b rep snd. spent (start .args .l) (mem start b) (start .args .m) (b .fuel) (start .args .state) (start .args .dst) (start .args .payload)
+    (start .args .keys) w rep (start .args .a) (start .pre .some) (start .pre .top) (start .pre .floor) (start .args .i) (start .args .c) (start .pre .coro)
+    (sym (c .enum-told .given .1) ∙ at-charge .charge .ensures ∙ ap (chargeOf (heapOf (start .args .m) (start .args .l))) (at-growth .growth .ensures))
 
 same-length : tie.Need-same-length
-same-length c = c .before .before .before .before .before .before .before .before .before .before .before .before .before .before .before .before .before .before .before .move-out .kept .0
+same-length c =
+    let at-move-out = move-out-of (c .before) in
+    at-move-out .move-out .kept .0
 
 same-length-2 : tie.Need-same-length-2
-same-length-2 c = c .before .before .before .before .before .before .before .before .before .before .before .before .before .before .before .before .before .before .before .move-out .kept .1 .0
+same-length-2 c =
+    let at-move-out = move-out-of (c .before) in
+    at-move-out .move-out .kept .1 .0
 
 same-length-3 : tie.Need-same-length-3
-same-length-3 c = c .before .before .before .before .before .before .before .before .before .pop-active .kept .0
+same-length-3 c =
+    let at-pop-active = c .before .before .before .before .before .before .before .before .before in
+    at-pop-active .pop-active .kept .0
 
 same-length-4 : tie.Need-same-length-4
 same-length-4 c = c .before .before .before .before .put-sleep .kept .0
 
 same-length-5 : tie.Need-same-length-5
-same-length-5 c = c .before .before .before .before .before .before .before .before .before .before .before .before .before .before .before .before .before .before .before .move-out .kept .1 .1 .0
+same-length-5 c =
+    let at-move-out = move-out-of (c .before) in
+    at-move-out .move-out .kept .1 .1 .0
 
 same-length-6 : tie.Need-same-length-6
-same-length-6 c = c .before .before .before .before .before .before .before .before .before .before .before .before .before .before .before .before .before .before .before .move-out .kept .1 .1 .1 .0
+same-length-6 c =
+    let at-move-out = move-out-of (c .before) in
+    at-move-out .move-out .kept .1 .1 .1 .0
 
 returns-2 : tie.Need-returns-2
-returns-2 c = λ w b rep snd. accepted (c .before .before .before .before .before .before .before .before .before .before .before .before .before .before .before .before .before .before .before .before .before .before .before .before .before .before .before .before .before .before .before .before .before .before .before .before .before .before .args .l) (mem (c .before .before .before .before .before .before .before .before .before .before .before .before .before .before .before .before .before .before .before .before .before .before .before .before .before .before .before .before .before .before .before .before .before .before .before .before .before .before) b) (c .before .before .before .before .before .before .before .before .before .before .before .before .before .before .before .before .before .before .before .before .before .before .before .before .before .before .before .before .before .before .before .before .before .before .before .before .before .before .args .m) (b .fuel) (c .before .before .before .before .before .before .before .before .before .before .before .before .before .before .before .before .before .before .before .before .before .before .before .before .before .before .before .before .before .before .before .before .before .before .before .before .before .before .args .state) (c .before .before .before .before .before .before .before .before .before .before .before .before .before .before .before .before .before .before .before .before .before .before .before .before .before .before .before .before .before .before .before .before .before .before .before .before .before .before .args .dst) (c .before .before .before .before .before .before .before .before .before .before .before .before .before .before .before .before .before .before .before .before .before .before .before .before .before .before .before .before .before .before .before .before .before .before .before .before .before .before .args .payload) (c .before .before .before .before .before .before .before .before .before .before .before .before .before .before .before .before .before .before .before .before .before .before .before .before .before .before .before .before .before .before .before .before .before .before .before .before .before .before .args .keys) w rep (c .before .before .before .before .before .before .before .before .before .before .before .before .before .before .before .before .before .before .before .before .before .before .before .before .before .before .before .before .before .before .before .before .before .before .before .before .before .before .args .a) (c .before .before .before .before .before .before .before .before .before .before .before .before .before .before .before .before .before .before .before .before .before .before .before .before .before .before .before .before .before .before .before .before .before .before .before .before .before .before .pre .some) (c .before .before .before .before .before .before .before .before .before .before .before .before .before .before .before .before .before .before .before .before .before .before .before .before .before .before .before .before .before .before .before .before .before .before .before .before .before .before .pre .top) (c .before .before .before .before .before .before .before .before .before .before .before .before .before .before .before .before .before .before .before .before .before .before .before .before .before .before .before .before .before .before .before .before .before .before .before .before .before .before .pre .floor) (c .before .before .before .before .before .before .before .before .before .before .before .before .before .before .before .before .before .before .before .before .before .before .before .before .before .before .before .before .before .before .before .before .before .before .before .before .before .before .args .i) (c .before .before .before .before .before .before .before .before .before .before .before .before .before .before .before .before .before .before .before .before .before .before .before .before .before .before .before .before .before .before .before .before .before .before .before .before .before .before .args .c) (c .before .before .before .before .before .before .before .before .before .before .before .before .before .before .before .before .before .before .before .before .before .before .before .before .before .before .before .before .before .before .before .before .before .before .before .before .before .before .pre .coro) snd _ _ _ _ _ _ (c .before .before .before .before .before .before .before .before .before .before .before .before .before .before .before .before .before .before .before .before .before .before .before .before .before .g .given .0 .0) (c .before .before .before .before .before .before .asleep .result) (c .shrunk .result) (c .before .event-of .result) (c .before .before .before .before .before .before .before .before .before .before .before .before .before .before .before .before .before .before .before .before .before .before .before .before .before .before .before .before .before .before .before .before .before .before .before .before .before .before .pre .state) (sym (c .before .before .before .before .before .before .before .before .before .before .before .before .before .before .before .before .before .before .before .before .before .before .before .before .before .g .given .1) ∙ c .before .before .before .before .before .before .before .before .before .before .before .before .before .before .before .before .before .before .before .before .before .before .before .before .before .before .before .charge .ensures ∙ ap (chargeOf (heapOf (c .before .before .before .before .before .before .before .before .before .before .before .before .before .before .before .before .before .before .before .before .before .before .before .before .before .before .before .before .before .before .before .before .before .before .before .before .before .before .args .m) (c .before .before .before .before .before .before .before .before .before .before .before .before .before .before .before .before .before .before .before .before .before .before .before .before .before .before .before .before .before .before .before .before .before .before .before .before .before .before .args .l))) (c .before .before .before .before .before .before .before .before .before .before .before .before .before .before .before .before .before .before .before .before .before .before .before .before .before .before .before .before .growth .ensures)) (c .before .before .before .before .before .before .before .before .before .before .before .before .before .before .before .before .before .before .before .move-out .ensures) (c .before .before .before .before .before .before .before .before .before .pop-active .ensures) (c .before .before .before .before .before .before .asleep .ensures) (c .before .before .before .before .put-sleep .ensures) (c .before .event-of .ensures) (c .shrunk .ensures)
+returns-2 c =
+    let at-event-of = c .before in let at-put-sleep = at-event-of .before .before .before in
+    let at-asleep = at-put-sleep .before .before in let at-pop-active = at-asleep .before .before .before in
+    let at-move-out = at-pop-active .before .before .before .before .before .before .before .before .before .before in
+    let at-g = at-move-out .before .before .before .before .before .before in let at-charge = at-g .before .before in
+    let at-growth = at-charge .before in let start = start-of-struct-known (at-growth .before .before) in
+    λ w b rep snd. accepted (start .args .l) (mem start b) (start .args .m) (b .fuel) (start .args .state) (start .args .dst) (start .args .payload)
+    (start .args .keys) w rep (start .args .a) (start .pre .some) (start .pre .top) (start .pre .floor) (start .args .i) (start .args .c) (start .pre .coro)
+    snd _ _ _ _ _ _ (at-g .g .given .0 .0) (at-asleep .asleep .result) (c .shrunk .result) (at-event-of .event-of .result) (start .pre .state)
+    (sym (at-g .g .given .1) ∙ at-charge .charge .ensures ∙ ap (chargeOf (heapOf (start .args .m) (start .args .l))) (at-growth .growth .ensures))
+    (at-move-out .move-out .ensures) (at-pop-active .pop-active .ensures) (at-asleep .asleep .ensures) (at-put-sleep .put-sleep .ensures)
+    (at-event-of .event-of .ensures) (c .shrunk .ensures)
 
 pub suspend-found-spec : {M : Type 1} → statement M
 suspend-found-spec =

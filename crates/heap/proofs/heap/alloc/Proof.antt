@@ -15,19 +15,25 @@ is-none-requires c κs = search needs
 
 returns : tie.Need-returns
 returns c =
-    let a = c .before .before .before .before .args in
-    refused (a .slots .now) (a .h) (a .bytes) (a .o) (c .before .before .lacks .result) (c .before .before .lacks .ensures) (sym (c .before .is-none .ensures) ∙ not-true _ (c .if1 .taken))
+    let at-is-none = c .before in let at-lacks = at-is-none .before in let start = at-lacks .before .before in
+    let a = start .args in
+    refused (a .slots .now) (a .h) (a .bytes) (a .o) (at-lacks .lacks .result) (at-lacks .lacks .ensures) (sym (at-is-none .is-none .ensures) ∙ not-true _ (c .if1 .taken))
 
 put-slot-requires : tie.Need-put-slot-requires
 put-slot-requires c κs =
-    let a = c .before .before .before .before .before .args in
-    slot-words (a .slots .now) (a .h) (a .bytes) (a .o) (c .before .before .before .lacks .result) (c .before .before .before .lacks .ensures) (sym (c .before .before .is-none .ensures) ∙ not-false _ (c .before .if1 .left)) (c .before .before .before .before .before .pre)
+    let at-if1 = c .before in let at-is-none = at-if1 .before in let at-lacks = at-is-none .before in
+    let start = at-lacks .before .before in
+    let a = start .args in
+    slot-words (a .slots .now) (a .h) (a .bytes) (a .o) (at-lacks .lacks .result) (at-lacks .lacks .ensures)
+    (sym (at-is-none .is-none .ensures) ∙ not-false _ (at-if1 .if1 .left)) (start .pre)
 
 cast-reference : tie.Need-cast-reference
 cast-reference c =
-    let a = c .before .before .before .before .before .before .before .before .args in
-    let k = slot-left (a .slots .now) (a .h) (a .bytes) (a .o) (c .before .before .before .before .before .before .lacks .result) (c .before .before .before .before .before .before .lacks .ensures) (sym (c .before .before .before .before .before .is-none .ensures) ∙ not-false _ (c .before .before .before .before .if1 .left)) in
-    let m = c .before .before .before .before .before .before .before .before .pre .slots in
+    let at-if1 = c .before .before .before .before in let at-is-none = at-if1 .before in let at-lacks = at-is-none .before in
+    let start = at-lacks .before .before in
+    let a = start .args in
+    let k = slot-left (a .slots .now) (a .h) (a .bytes) (a .o) (at-lacks .lacks .result) (at-lacks .lacks .ensures) (sym (at-is-none .is-none .ensures) ∙ not-false _ (at-if1 .if1 .left)) in
+    let m = start .pre .slots in
     record { fits = omega arith }
 
 reference-requires : tie.Need-reference-requires
@@ -44,8 +50,13 @@ same-length c = search needs
 
 returns-2 : tie.Need-returns-2
 returns-2 c =
-    let a = c .before .before .before .before .before .before .before .before .before .before .args in
-    done (a .slots .now) (a .h) (a .bytes) (a .o) (c .before .before .before .before .before .before .before .before .lacks .result) (c .before .before .before .before .before .before .before .before .lacks .ensures) (sym (c .before .before .before .before .before .before .before .is-none .ensures) ∙ not-false _ (c .before .before .before .before .before .before .if1 .left)) (c .before .reference .result) (c .sat-add .result) (c .before .before .before .before .put-slot .last .0) (c .before .reference .ensures) (c .sat-add .ensures) (c .before .before .before .before .put-slot .ensures)
+    let at-reference = c .before in let at-put-slot = at-reference .before .before .before in
+    let at-if1 = at-put-slot .before .before in let at-is-none = at-if1 .before in let at-lacks = at-is-none .before in
+    let start = at-lacks .before .before in
+    let a = start .args in
+    done (a .slots .now) (a .h) (a .bytes) (a .o) (at-lacks .lacks .result) (at-lacks .lacks .ensures)
+    (sym (at-is-none .is-none .ensures) ∙ not-false _ (at-if1 .if1 .left)) (at-reference .reference .result) (c .sat-add .result)
+    (at-put-slot .put-slot .last .0) (at-reference .reference .ensures) (c .sat-add .ensures) (at-put-slot .put-slot .ensures)
 
 pub alloc-spec : {M : Type 1} → statement M
 alloc-spec =

@@ -17,13 +17,20 @@ enum-known-i : tie.Need-enum-known-i
 enum-known-i c = search needs
 
 coro-at-requires : tie.Need-coro-at-requires
-coro-at-requires c κs = stands-words (c .before .before .before .before .before .args .count) (c .before .before .before .before .before .args .slots .now) (c .before .before .before .before .before .args .w .0) (c .before .i .given .0 .0) (sym (c .before .i .given .1) ∙ (c .before .before .before .coro-place .ensures)) (c .before .before .before .before .before .pre)
+coro-at-requires c κs =
+    let at-i = c .before in let at-coro-place = at-i .before .before in let start = at-coro-place .before .before in
+    stands-words (start .args .count) (start .args .slots .now) (start .args .w .0) (at-i .i .given .0 .0) (sym (at-i .i .given .1) ∙ at-coro-place .coro-place .ensures) (start .pre)
 
 returns : tie.Need-returns
-returns c = none-there (coroOf (slotsOf (c .before .before .before .before .before .args .count) (c .before .before .before .before .before .args .slots .now)) (c .before .before .before .before .before .args .w .0)) (c .before .f .given .0 .0) (sym (c .before .f .given .1) ∙ (c .before .before .before .coro-place .ensures))
+returns c =
+    let at-f = c .before in let at-coro-place = at-f .before .before in let start = at-coro-place .before .before in
+    none-there (coroOf (slotsOf (start .args .count) (start .args .slots .now)) (start .args .w .0)) (at-f .f .given .0 .0) (sym (at-f .f .given .1) ∙ at-coro-place .coro-place .ensures)
 
 returns-2 : tie.Need-returns-2
-returns-2 c = ap (R.At (c .before .before .i .given .0 .0)) (c .coro-at .ensures) ∙ stands (c .before .before .before .before .before .before .args .count) (c .before .before .before .before .before .before .args .slots .now) (c .before .before .before .before .before .before .args .w .0) (c .before .before .i .given .0 .0) (sym (c .before .before .i .given .1) ∙ (c .before .before .before .before .coro-place .ensures)) .coro
+returns-2 c =
+    let at-i = c .before .before in let at-coro-place = at-i .before .before in let start = at-coro-place .before .before in
+    ap (R.At (at-i .i .given .0 .0)) (c .coro-at .ensures) ∙ stands (start .args .count) (start .args .slots .now) (start .args .w .0) (at-i .i .given .0 .0)
+    (sym (at-i .i .given .1) ∙ at-coro-place .coro-place .ensures) .coro
 
 pub coro-spec : {M : Type 1} → statement M
 coro-spec =

@@ -26,21 +26,31 @@ enum-known-i : tie.Need-enum-known-i
 enum-known-i c = search needs
 
 is-coro-requires : tie.Need-is-coro-requires
-is-coro-requires c κs = found-words (c .before .before .before .before .before .args .count) (c .before .before .before .before .before .args .slots .now) (c .before .before .before .before .before .args .w .0) (c .before .i .given .0 .0) (sym (c .before .i .given .1) ∙ (c .before .before .before .get .ensures)) (c .before .before .before .before .before .pre)
+is-coro-requires c κs =
+    let at-i = c .before in let at-get = at-i .before .before in let start = at-get .before .before in
+    found-words (start .args .count) (start .args .slots .now) (start .args .w .0) (at-i .i .given .0 .0) (sym (at-i .i .given .1) ∙ at-get .get .ensures) (start .pre)
 
 returns : tie.Need-returns
-returns c = let ws = chunkAt 20 (c .before .before .before .before .before .before .before .args .slots .now) (c .before .before .before .i .given .0 .0) in
-    sym (ap (λ o. placeOf (asCoro (c .before .before .before .i .given .0 .0) o)) (coro-kind ws (eqb-true (getD ws 1 0) 6 (sym (c .before .is-coro .ensures) ∙ (c .if1 .taken)))))
-    ∙ ap placeOf (found-coro (c .before .before .before .before .before .before .before .args .count) (c .before .before .before .before .before .before .before .args .slots .now) (c .before .before .before .before .before .before .before .args .w .0) (c .before .before .before .i .given .0 .0) (sym (c .before .before .before .i .given .1) ∙ (c .before .before .before .before .before .get .ensures)))
+returns c =
+    let at-is-coro = c .before in let at-i = at-is-coro .before .before in let at-get = at-i .before .before in
+    let start = at-get .before .before in
+    let ws = chunkAt 20 (start .args .slots .now) (at-i .i .given .0 .0) in
+    sym (ap (λ o. placeOf (asCoro (at-i .i .given .0 .0) o)) (coro-kind ws (eqb-true (getD ws 1 0) 6 (sym (at-is-coro .is-coro .ensures) ∙ c .if1 .taken))))
+    ∙ ap placeOf (found-coro (start .args .count) (start .args .slots .now) (start .args .w .0) (at-i .i .given .0 .0) (sym (at-i .i .given .1) ∙ at-get .get .ensures))
 
 returns-2 : tie.Need-returns-2
-returns-2 c = ap L.Not (c .not-a .ensures ∙ ap (notA (classOf (c .before .before .before .before .before .args .w .0))) (sym (sym (c .before .enum-told .given .1) ∙ (c .before .before .before .get .ensures))))
-    ∙ ap (λ p. placeOf (coroBy (slotsOf (c .before .before .before .before .before .args .count) (c .before .before .before .before .before .args .slots .now)) (c .before .before .before .before .before .args .w .0) p)) (sym (c .before .enum-told .given .1) ∙ (c .before .before .before .get .ensures))
+returns-2 c =
+    let at-enum-told = c .before in let at-get = at-enum-told .before .before in let start = at-get .before .before in
+    ap L.Not (c .not-a .ensures ∙ ap (notA (classOf (start .args .w .0))) (sym (sym (at-enum-told .enum-told .given .1) ∙ at-get .get .ensures)))
+    ∙ ap (λ p. placeOf (coroBy (slotsOf (start .args .count) (start .args .slots .now)) (start .args .w .0) p)) (sym (at-enum-told .enum-told .given .1) ∙ at-get .get .ensures)
 
 returns-3 : tie.Need-returns-3
-returns-3 c = let ws = chunkAt 20 (c .before .before .before .before .before .before .before .args .slots .now) (c .before .before .before .i .given .0 .0) in
-    sym (ap placeOf (other-kind ws (c .before .before .before .i .given .0 .0) (eqb-false (getD ws 1 0) 6 (sym (c .before .is-coro .ensures) ∙ (c .if1 .left)))))
-    ∙ ap placeOf (found-coro (c .before .before .before .before .before .before .before .args .count) (c .before .before .before .before .before .before .before .args .slots .now) (c .before .before .before .before .before .before .before .args .w .0) (c .before .before .before .i .given .0 .0) (sym (c .before .before .before .i .given .1) ∙ (c .before .before .before .before .before .get .ensures)))
+returns-3 c =
+    let at-is-coro = c .before in let at-i = at-is-coro .before .before in let at-get = at-i .before .before in
+    let start = at-get .before .before in
+    let ws = chunkAt 20 (start .args .slots .now) (at-i .i .given .0 .0) in
+    sym (ap placeOf (other-kind ws (at-i .i .given .0 .0) (eqb-false (getD ws 1 0) 6 (sym (at-is-coro .is-coro .ensures) ∙ c .if1 .left))))
+    ∙ ap placeOf (found-coro (start .args .count) (start .args .slots .now) (start .args .w .0) (at-i .i .given .0 .0) (sym (at-i .i .given .1) ∙ at-get .get .ensures))
 
 pub coro-place-spec : {M : Type 1} → statement M
 coro-place-spec =

@@ -28,7 +28,10 @@ enum-known-i : tie.Need-enum-known-i
 enum-known-i c = search needs
 
 object-at-requires : tie.Need-object-at-requires
-object-at-requires c κs = found-words (c .before .before .before .before .before .before .before .before .before .args .count) (c .before .before .before .before .before .before .before .before .before .args .slots .now) (c .before .before .before .before .before .o .given .0 .0 .0) (c .before .i .given .0 .0) (sym (c .before .i .given .1) ∙ c .before .before .before .get .ensures) (c .before .before .before .before .before .before .before .before .before .pre)
+object-at-requires c κs =
+    let at-i = c .before in let at-get = at-i .before .before in let at-o = at-get .before .before in
+    let start = at-o .before .before .before .before in
+    found-words (start .args .count) (start .args .slots .now) (at-o .o .given .0 .0 .0) (at-i .i .given .0 .0) (sym (at-i .i .given .1) ∙ at-get .get .ensures) (start .pre)
 
 int-in-requires : tie.Need-int-in-requires
 int-in-requires c κs = search needs
@@ -40,27 +43,37 @@ enum-told-3 : tie.Need-enum-told-3
 enum-told-3 c = search needs
 
 returns : tie.Need-returns
-returns c = ap (dynIntBy Empty isFilled intOf (slotsOf (c .before .before .before .before .args .count) (c .before .before .before .before .args .slots .now))) (sym (c .enum-told .given .1) ∙ c .before .before .class .ensures)
+returns c =
+    let at-class = c .before .before in let start = at-class .before .before in
+    ap (dynIntBy Empty isFilled intOf (slotsOf (start .args .count) (start .args .slots .now))) (sym (c .enum-told .given .1) ∙ at-class .class .ensures)
 
 returns-2 : tie.Need-returns-2
 returns-2 c =
-    let xs = slotsOf (c .before .before .before .before .before .before .before .before .args .count) (c .before .before .before .before .before .before .before .before .args .slots .now) in
-    ap (dynIntAt Empty isFilled intOf xs) (sym (c .enum-told2 .given .1) ∙ c .before .before .get .ensures) ∙ ap (dynIntBy Empty isFilled intOf xs) (sym (c .before .before .before .before .o .given .1) ∙ c .before .before .before .before .before .before .class .ensures)
+    let at-get = c .before .before in let at-o = at-get .before .before in let at-class = at-o .before .before in
+    let start = at-class .before .before in
+    let xs = slotsOf (start .args .count) (start .args .slots .now) in
+    ap (dynIntAt Empty isFilled intOf xs) (sym (c .enum-told2 .given .1) ∙ at-get .get .ensures) ∙ ap (dynIntBy Empty isFilled intOf xs) (sym (at-o .o .given .1) ∙ at-class .class .ensures)
 
 returns-3 : tie.Need-returns-3
 returns-3 c =
-    let xs = slotsOf (c .before .before .before .before .before .before .before .before .before .before .before .args .count) (c .before .before .before .before .before .before .before .before .before .before .before .args .slots .now) in
-    let found = sym (c .before .before .before .i .given .1) ∙ c .before .before .before .before .before .get .ensures in
+    let at-object-at = c .before in let at-i = at-object-at .before .before in let at-get = at-i .before .before in
+    let at-o = at-get .before .before in let at-class = at-o .before .before in let start = at-class .before .before in
+    let xs = slotsOf (start .args .count) (start .args .slots .now) in
+    let found = sym (at-i .i .given .1) ∙ at-get .get .ensures in
     c .int-in .ensures
-    ∙ ap intOf (c .before .object-at .ensures ∙ found-object (c .before .before .before .before .before .before .before .before .before .before .before .args .count) (c .before .before .before .before .before .before .before .before .before .before .before .args .slots .now) (c .before .before .before .before .before .before .before .o .given .0 .0 .0) (c .before .before .before .i .given .0 .0) found)
+    ∙ ap intOf (at-object-at .object-at .ensures ∙ found-object (start .args .count) (start .args .slots .now) (at-o .o .given .0 .0 .0) (at-i .i .given .0 .0) found)
     ∙ ap (dynIntAt Empty isFilled intOf xs) found
-    ∙ ap (dynIntBy Empty isFilled intOf xs) (sym (c .before .before .before .before .before .before .before .o .given .1) ∙ c .before .before .before .before .before .before .before .before .before .class .ensures)
+    ∙ ap (dynIntBy Empty isFilled intOf xs) (sym (at-o .o .given .1) ∙ at-class .class .ensures)
 
 returns-4 : tie.Need-returns-4
-returns-4 c = ap (dynIntBy Empty isFilled intOf (slotsOf (c .before .before .before .before .before .args .count) (c .before .before .before .before .before .args .slots .now))) (sym (c .before .n .given .1) ∙ c .before .before .before .class .ensures)
+returns-4 c =
+    let at-n = c .before in let at-class = at-n .before .before in let start = at-class .before .before in
+    ap (dynIntBy Empty isFilled intOf (slotsOf (start .args .count) (start .args .slots .now))) (sym (at-n .n .given .1) ∙ at-class .class .ensures)
 
 returns-5 : tie.Need-returns-5
-returns-5 c = ap (dynIntBy Empty isFilled intOf (slotsOf (c .before .before .before .before .args .count) (c .before .before .before .before .args .slots .now))) (sym (c .enum-told3 .given .1) ∙ c .before .before .class .ensures)
+returns-5 c =
+    let at-class = c .before .before in let start = at-class .before .before in
+    ap (dynIntBy Empty isFilled intOf (slotsOf (start .args .count) (start .args .slots .now))) (sym (c .enum-told3 .given .1) ∙ at-class .class .ensures)
 
 pub dyn-int-spec : {M : Type 1} → statement M
 dyn-int-spec =

@@ -20,16 +20,19 @@ alloc-requires c κs = search needs
 
 returns : tie.Need-returns
 returns c =
-    let a = c .before .before .before .before .before .args in
-    ap (λ (x : Inline). encodeBy x (a .slots .now) (a .h) (a .bytes) (a .n)) (sym (c .before .w .given .1) ∙ c .before .before .before .inline-int .ensures)
+    let at-w = c .before in let at-inline-int = at-w .before .before in let start = at-inline-int .before .before in
+    let a = start .args in
+    ap (λ (x : Inline). encodeBy x (a .slots .now) (a .h) (a .bytes) (a .n)) (sym (at-w .w .given .1) ∙ at-inline-int .inline-int .ensures)
 
 same-length : tie.Need-same-length
 same-length c = search needs
 
 returns-2 : tie.Need-returns-2
 returns-2 c =
-    let a = c .before .before .before .before .before .before .before .before .args in
-    c .before .before .alloc .ensures ∙ ap (λ (x : Inline). encodeBy x (a .slots .now) (a .h) (a .bytes) (a .n)) (sym (c .before .before .before .before .enum-told .given .1) ∙ c .before .before .before .before .before .before .inline-int .ensures)
+    let at-alloc = c .before .before in let at-enum-told = at-alloc .before .before in
+    let at-inline-int = at-enum-told .before .before in let start = at-inline-int .before .before in
+    let a = start .args in
+    at-alloc .alloc .ensures ∙ ap (λ (x : Inline). encodeBy x (a .slots .now) (a .h) (a .bytes) (a .n)) (sym (at-enum-told .enum-told .given .1) ∙ at-inline-int .inline-int .ensures)
 
 pub encode-int-spec : {M : Type 1} → statement M
 encode-int-spec =

@@ -35,15 +35,19 @@ enum-known-o : tie.Need-enum-known-o
 enum-known-o c = search needs
 
 returns : tie.Need-returns
-returns c = other (c .before .before .before .args .count) (c .before .before .before .args .slots .now) (c .before .class .result) (c .match .keys2) ∙ ap (look (c .before .before .before .args .count) (c .before .before .before .args .slots .now)) (c .before .class .ensures)
+returns c =
+    let at-class = c .before in let start = at-class .before .before in
+    other (start .args .count) (start .args .slots .now) (at-class .class .result) (c .match .keys2) ∙ ap (look (start .args .count) (start .args .slots .now)) (at-class .class .ensures)
 
 slot-requires : tie.Need-slot-requires
 slot-requires c κs = search needs
 
 returns-2 : tie.Need-returns-2
 returns-2 c =
-    beyond (c .before .before .before .before .before .before .before .args .count) (c .before .before .before .before .before .before .before .args .slots .now) (c .before .before .before .o .given .0 .0) (c .before .slot .result) _ (c .before .slot .ensures) refl (c .if1 .taken)
-    ∙ ap (look (c .before .before .before .before .before .before .before .args .count) (c .before .before .before .before .before .before .before .args .slots .now)) (sym (c .before .before .before .o .given .1) ∙ c .before .before .before .before .before .class .ensures)
+    let at-slot = c .before in let at-o = at-slot .before .before in let at-class = at-o .before .before in
+    let start = at-class .before .before in
+    beyond (start .args .count) (start .args .slots .now) (at-o .o .given .0 .0) (at-slot .slot .result) _ (at-slot .slot .ensures) refl (c .if1 .taken)
+    ∙ ap (look (start .args .count) (start .args .slots .now)) (sym (at-o .o .given .1) ∙ at-class .class .ensures)
 
 tag-at-requires : tie.Need-tag-at-requires
 tag-at-requires c κs = search needs
@@ -53,8 +57,11 @@ tag-requires c κs = search needs
 
 returns-3 : tie.Need-returns-3
 returns-3 c =
-    other-tag (c .before .before .before .before .before .before .before .before .before .before .args .count) (c .before .before .before .before .before .before .before .before .before .before .args .slots .now) (c .before .before .before .before .before .before .o .given .0 .0) (c .before .before .before .before .slot .result) (c .before .tag .result) (c .before .before .before .before .slot .ensures) (c .before .tag .ensures) (c .before .before .before .if1 .left) (λ e. c .if2 .taken (c .before .before .tag-at .ensures ∙ e))
-    ∙ ap (look (c .before .before .before .before .before .before .before .before .before .before .args .count) (c .before .before .before .before .before .before .before .before .before .before .args .slots .now)) (sym (c .before .before .before .before .before .before .o .given .1) ∙ c .before .before .before .before .before .before .before .before .class .ensures)
+    let at-tag = c .before in let at-tag-at = at-tag .before in let at-if1 = at-tag-at .before in let at-slot = at-if1 .before in
+    let at-o = at-slot .before .before in let at-class = at-o .before .before in let start = at-class .before .before in
+    other-tag (start .args .count) (start .args .slots .now) (at-o .o .given .0 .0) (at-slot .slot .result) (at-tag .tag .result) (at-slot .slot .ensures)
+    (at-tag .tag .ensures) (at-if1 .if1 .left) (λ e. c .if2 .taken (at-tag-at .tag-at .ensures ∙ e))
+    ∙ ap (look (start .args .count) (start .args .slots .now)) (sym (at-o .o .given .1) ∙ at-class .class .ensures)
 
 filled-at-requires : tie.Need-filled-at-requires
 filled-at-requires c κs = search needs
@@ -62,14 +69,22 @@ filled-at-requires c κs = search needs
 returns-4 : tie.Need-returns-4
 unfolding pick
 returns-4 c =
-    same-tag (c .before .before .before .before .before .before .before .before .before .before .before .before .args .count) (c .before .before .before .before .before .before .before .before .before .before .before .before .args .slots .now) (c .before .before .before .before .before .before .before .before .o .given .0 .0) (c .before .before .before .before .before .before .slot .result) (c .before .before .before .tag .result) (c .before .before .before .before .before .before .slot .ensures) (c .before .before .before .tag .ensures) _ (c .before .before .before .before .before .if1 .left) (sym (c .before .before .before .before .tag-at .ensures) ∙ c .before .before .if2 .left) (sym (c .if3 .taken) ∙ c .before .filled-at .ensures)
-    ∙ ap (look (c .before .before .before .before .before .before .before .before .before .before .before .before .args .count) (c .before .before .before .before .before .before .before .before .before .before .before .before .args .slots .now)) (sym (c .before .before .before .before .before .before .before .before .o .given .1) ∙ c .before .before .before .before .before .before .before .before .before .before .class .ensures)
+    let at-filled-at = c .before in let at-if2 = at-filled-at .before in let at-tag = at-if2 .before in
+    let at-tag-at = at-tag .before in let at-if1 = at-tag-at .before in let at-slot = at-if1 .before in
+    let at-o = at-slot .before .before in let at-class = at-o .before .before in let start = at-class .before .before in
+    same-tag (start .args .count) (start .args .slots .now) (at-o .o .given .0 .0) (at-slot .slot .result) (at-tag .tag .result) (at-slot .slot .ensures)
+    (at-tag .tag .ensures) _ (at-if1 .if1 .left) (sym (at-tag-at .tag-at .ensures) ∙ at-if2 .if2 .left) (sym (c .if3 .taken) ∙ at-filled-at .filled-at .ensures)
+    ∙ ap (look (start .args .count) (start .args .slots .now)) (sym (at-o .o .given .1) ∙ at-class .class .ensures)
 
 returns-5 : tie.Need-returns-5
 unfolding pick
 returns-5 c =
-    same-tag (c .before .before .before .before .before .before .before .before .before .before .before .before .args .count) (c .before .before .before .before .before .before .before .before .before .before .before .before .args .slots .now) (c .before .before .before .before .before .before .before .before .o .given .0 .0) (c .before .before .before .before .before .before .slot .result) (c .before .before .before .tag .result) (c .before .before .before .before .before .before .slot .ensures) (c .before .before .before .tag .ensures) _ (c .before .before .before .before .before .if1 .left) (sym (c .before .before .before .before .tag-at .ensures) ∙ c .before .before .if2 .left) (sym (c .if3 .left) ∙ c .before .filled-at .ensures)
-    ∙ ap (look (c .before .before .before .before .before .before .before .before .before .before .before .before .args .count) (c .before .before .before .before .before .before .before .before .before .before .before .before .args .slots .now)) (sym (c .before .before .before .before .before .before .before .before .o .given .1) ∙ c .before .before .before .before .before .before .before .before .before .before .class .ensures)
+    let at-filled-at = c .before in let at-if2 = at-filled-at .before in let at-tag = at-if2 .before in
+    let at-tag-at = at-tag .before in let at-if1 = at-tag-at .before in let at-slot = at-if1 .before in
+    let at-o = at-slot .before .before in let at-class = at-o .before .before in let start = at-class .before .before in
+    same-tag (start .args .count) (start .args .slots .now) (at-o .o .given .0 .0) (at-slot .slot .result) (at-tag .tag .result) (at-slot .slot .ensures)
+    (at-tag .tag .ensures) _ (at-if1 .if1 .left) (sym (at-tag-at .tag-at .ensures) ∙ at-if2 .if2 .left) (sym (c .if3 .left) ∙ at-filled-at .filled-at .ensures)
+    ∙ ap (look (start .args .count) (start .args .slots .now)) (sym (at-o .o .given .1) ∙ at-class .class .ensures)
 
 pub get-spec : {M : Type 1} → statement M
 get-spec =

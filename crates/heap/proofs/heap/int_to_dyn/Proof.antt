@@ -23,13 +23,16 @@ same-length c = search needs
 
 returns : tie.Need-returns
 returns c =
-    let a = c .before .before .before .before .before .before .before .before .before .args in
-    c .before .before .encode-int .ensures ∙ ap (λ (x : Exact). intBy x (a .slots .now) (a .h) (a .bytes)) (sym (c .before .before .before .before .before .v .given .1) ∙ c .before .before .before .before .before .before .before .value .ensures)
+    let at-encode-int = c .before .before in let at-v = at-encode-int .before .before .before in
+    let at-value = at-v .before .before in let start = at-value .before .before in
+    let a = start .args in
+    at-encode-int .encode-int .ensures ∙ ap (λ (x : Exact). intBy x (a .slots .now) (a .h) (a .bytes)) (sym (at-v .v .given .1) ∙ at-value .value .ensures)
 
 returns-2 : tie.Need-returns-2
 returns-2 c =
-    let a = c .before .before .before .before .args in
-    ap (λ (x : Exact). intBy x (a .slots .now) (a .h) (a .bytes)) (sym (c .enum-told .given .1) ∙ c .before .before .value .ensures)
+    let at-value = c .before .before in let start = at-value .before .before in
+    let a = start .args in
+    ap (λ (x : Exact). intBy x (a .slots .now) (a .h) (a .bytes)) (sym (c .enum-told .given .1) ∙ at-value .value .ensures)
 
 pub int-to-dyn-spec : {M : Type 1} → statement M
 int-to-dyn-spec =

@@ -34,19 +34,29 @@ enum-told-6 : tie.Need-enum-told-6
 enum-told-6 c = search needs
 
 returns : tie.Need-returns
-returns c = ap (λ (k : Class). notA k (get Empty isFilled (slotsOf (c .before .before .before .before .args .count) (c .before .before .before .before .args .slots .now)) (c .before .before .before .before .args .w .0))) (sym (c .enum-told .given .1) ∙ c .before .before .class .ensures)
+returns c =
+    let at-class = c .before .before in let start = at-class .before .before in
+    ap (λ (k : Class). notA k (get Empty isFilled (slotsOf (start .args .count) (start .args .slots .now)) (start .args .w .0))) (sym (c .enum-told .given .1) ∙ at-class .class .ensures)
 
 returns-2 : tie.Need-returns-2
-returns-2 c = ap₂ notA (sym (c .before .before .before .enum-told2 .given .1) ∙ c .before .before .before .before .before .class .ensures) (sym (c .enum-told3 .given .1) ∙ c .before .before .get .ensures)
+returns-2 c =
+    let at-get = c .before .before in let at-enum-told2 = at-get .before in let at-class = at-enum-told2 .before .before in
+    ap₂ notA (sym (at-enum-told2 .enum-told2 .given .1) ∙ at-class .class .ensures) (sym (c .enum-told3 .given .1) ∙ at-get .get .ensures)
 
 returns-3 : tie.Need-returns-3
-returns-3 c = ap₂ notA (sym (c .before .before .before .enum-told2 .given .1) ∙ c .before .before .before .before .before .class .ensures) (sym (c .enum-told4 .given .1) ∙ c .before .before .get .ensures)
+returns-3 c =
+    let at-get = c .before .before in let at-enum-told2 = at-get .before in let at-class = at-enum-told2 .before .before in
+    ap₂ notA (sym (at-enum-told2 .enum-told2 .given .1) ∙ at-class .class .ensures) (sym (c .enum-told4 .given .1) ∙ at-get .get .ensures)
 
 returns-4 : tie.Need-returns-4
-returns-4 c = ap (λ (k : Class). notA k (get Empty isFilled (slotsOf (c .before .before .before .before .args .count) (c .before .before .before .before .args .slots .now)) (c .before .before .before .before .args .w .0))) (sym (c .enum-told5 .given .1) ∙ c .before .before .class .ensures)
+returns-4 c =
+    let at-class = c .before .before in let start = at-class .before .before in
+    ap (λ (k : Class). notA k (get Empty isFilled (slotsOf (start .args .count) (start .args .slots .now)) (start .args .w .0))) (sym (c .enum-told5 .given .1) ∙ at-class .class .ensures)
 
 returns-5 : tie.Need-returns-5
-returns-5 c = ap (λ (k : Class). notA k (get Empty isFilled (slotsOf (c .before .before .before .before .args .count) (c .before .before .before .before .args .slots .now)) (c .before .before .before .before .args .w .0))) (sym (c .enum-told6 .given .1) ∙ c .before .before .class .ensures)
+returns-5 c =
+    let at-class = c .before .before in let start = at-class .before .before in
+    ap (λ (k : Class). notA k (get Empty isFilled (slotsOf (start .args .count) (start .args .slots .now)) (start .args .w .0))) (sym (c .enum-told6 .given .1) ∙ at-class .class .ensures)
 
 pub not-a-spec : {M : Type 1} → statement M
 not-a-spec =

@@ -31,9 +31,10 @@ int-to-dyn-requires-2 c κs = search needs
 
 returns : tie.Need-returns
 returns c =
-    let a = c .before .before .before .before .args in
+    let at-enum-told = c .before in let start = at-enum-told .before .before .before in
+    let a = start .args in
     ap (λ (w : ℕ). out (M.Done (record { 0 = w }) (a .h)) (a .slots .now)) (c .nil .ensures)
-    ∙ ap (λ (k : ResultKind). toDyn k (a .slots .now) (a .h) (a .bytes) (a .n)) (sym (c .before .enum-told .given .1))
+    ∙ ap (λ (k : ResultKind). toDyn k (a .slots .now) (a .h) (a .bytes) (a .n)) (sym (at-enum-told .enum-told .given .1))
 
 returns-2 : tie.Need-returns-2
 returns-2 c = let a = c .before .before .before .args in ap (λ (k : ResultKind). toDyn k (a .slots .now) (a .h) (a .bytes) (a .n)) (sym (c .enum-told2 .given .1))
@@ -42,13 +43,19 @@ same-length : tie.Need-same-length
 same-length c = search needs
 
 returns-3 : tie.Need-returns-3
-returns-3 c = let a = c .before .before .before .before .before .before .before .args in c .before .before .int-to-dyn .ensures ∙ ap (λ (k : ResultKind). toDyn k (a .slots .now) (a .h) (a .bytes) (a .n)) (sym (c .before .before .before .before .enum-told3 .given .1))
+returns-3 c =
+    let at-int-to-dyn = c .before .before in let at-enum-told3 = at-int-to-dyn .before .before in
+    let start = at-enum-told3 .before .before .before in
+    let a = start .args in at-int-to-dyn .int-to-dyn .ensures ∙ ap (λ (k : ResultKind). toDyn k (a .slots .now) (a .h) (a .bytes) (a .n)) (sym (at-enum-told3 .enum-told3 .given .1))
 
 same-length-2 : tie.Need-same-length-2
 same-length-2 c = search needs
 
 returns-4 : tie.Need-returns-4
-returns-4 c = let a = c .before .before .before .before .before .before .before .args in c .before .before .int-to-dyn2 .ensures ∙ ap (λ (k : ResultKind). toDyn k (a .slots .now) (a .h) (a .bytes) (a .n)) (sym (c .before .before .before .before .enum-told4 .given .1))
+returns-4 c =
+    let at-int-to-dyn2 = c .before .before in let at-enum-told4 = at-int-to-dyn2 .before .before in
+    let start = at-enum-told4 .before .before .before in
+    let a = start .args in at-int-to-dyn2 .int-to-dyn2 .ensures ∙ ap (λ (k : ResultKind). toDyn k (a .slots .now) (a .h) (a .bytes) (a .n)) (sym (at-enum-told4 .enum-told4 .given .1))
 
 pub to-dyn-spec : {M : Type 1} → statement M
 to-dyn-spec =

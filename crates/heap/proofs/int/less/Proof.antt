@@ -25,9 +25,10 @@ returns-3 c = rw (high 63 (c .before .before .args .a) (omega arith), low 63 (c 
 
 returns-4 : tie.Need-returns-4
 returns-4 c =
-    let a = c .before .before .args .a in
-    let b = c .before .before .args .b in
-    let f = c .before .before .fits in
+    let start = c .before .before in
+    let a = start .args .a in
+    let b = start .args .b in
+    let f = start .fits in
     rw (high 63 a (omega arith), high 63 b (omega arith), turned a b (ltb a b) refl (f .a .fits) (f .b .fits))
 
 pub less-spec : {M : Type 1} → statement M

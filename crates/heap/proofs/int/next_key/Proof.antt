@@ -36,8 +36,9 @@ returns-2 c = rw (c .if2 .taken)
 
 returns-3 : tie.Need-returns-3
 returns-3 c =
-    let n = c .before .before .args .largest in
-    next n (ltb n (2 ^ 63)) refl (c .before .before .fits .largest .fits) (c .before .if1 .left) (c .if2 .left)
+    let at-if1 = c .before in let start = at-if1 .before in
+    let n = start .args .largest in
+    next n (ltb n (2 ^ 63)) refl (start .fits .largest .fits) (at-if1 .if1 .left) (c .if2 .left)
 
 pub next-key-spec : {M : Type 1} → statement M
 next-key-spec = tie.close (tie.spec add-t6 returns returns-2 returns-3)

@@ -52,7 +52,9 @@ array-read-if1 : tie.Need-array-read-if1 Inv-loop μ-loop
 array-read-if1 c = search needs
 
 returns : tie.Need-returns Inv-loop μ-loop
-returns c = low (c .before .before .before .before .args .s .now) (c .before .before .before .before .args .t2) (c .before .before .before .before .args .t3) (c .before .before .before .loop .k) (search needs) (search needs) (search needs) (c .before .before .before .loop .inv .1) (c .if1 .taken)
+returns c =
+    let at-loop = c .before .before .before in let start = at-loop .before in
+    low (start .args .s .now) (start .args .t2) (start .args .t3) (at-loop .loop .k) (search needs) (search needs) (search needs) (at-loop .loop .inv .1) (c .if1 .taken)
 
 mul-if2 : tie.Need-mul-if2 Inv-loop μ-loop
 mul-if2 c = search needs
@@ -61,7 +63,9 @@ array-read-if2 : tie.Need-array-read-if2 Inv-loop μ-loop
 array-read-if2 c = search needs
 
 returns-2 : tie.Need-returns-2 Inv-loop μ-loop
-returns-2 c = high (c .before .before .before .before .before .args .s .now) (c .before .before .before .before .before .args .t2) (c .before .before .before .before .before .args .t3) (c .before .before .before .before .loop .k) (search needs) (search needs) (search needs) (c .before .before .before .before .loop .inv .1) (c .before .if1 .left) (c .if2 .taken)
+returns-2 c =
+    let at-if1 = c .before in let at-loop = at-if1 .before .before .before in let start = at-loop .before in
+    high (start .args .s .now) (start .args .t2) (start .args .t3) (at-loop .loop .k) (search needs) (search needs) (search needs) (at-loop .loop .inv .1) (at-if1 .if1 .left) (c .if2 .taken)
 
 add-k : tie.Need-add-k Inv-loop μ-loop
 add-k c = search needs
@@ -70,16 +74,22 @@ loop-less : tie.Need-loop-less Inv-loop μ-loop
 loop-less c = search needs
 
 loop-again : tie.Need-loop-again Inv-loop μ-loop
-loop-again c = (omega arith, more (c .before .before .before .before .before .args .s .now) (c .before .before .before .before .before .args .t2) (c .before .before .before .before .before .args .t3) (c .before .before .before .before .loop .k) (search needs) (search needs) (search needs) (c .before .before .before .before .loop .inv .1) (c .before .if1 .left) (c .if2 .left))
+loop-again c =
+    let at-if1 = c .before in let at-loop = at-if1 .before .before .before in let start = at-loop .before in (
+      omega arith,
+      more (start .args .s .now) (start .args .t2) (start .args .t3) (at-loop .loop .k) (search needs) (search needs) (search needs)
+          (at-loop .loop .inv .1) (at-if1 .if1 .left) (c .if2 .left),
+    )
 
 returns-3 : tie.Need-returns-3 Inv-loop μ-loop
 returns-3 c =
-    let e : 20 ≤ c .before .loop .k = search needs in
-    let s = c .before .before .args .s .now in
-    let ls : length s ≤ c .before .loop .k = search needs in
-    let la : length (c .before .before .args .t2) ≤ c .before .loop .k = search needs in
-    let lb : length (c .before .before .args .t3) ≤ c .before .loop .k = search needs in
-    sym (c .before .loop .inv .1 ∙ (rw (drop-of-length-le s ls, drop-of-length-le (c .before .before .args .t2) la, drop-of-length-le (c .before .before .args .t3) lb)))
+    let at-loop = c .before in let start = at-loop .before in
+    let e : 20 ≤ at-loop .loop .k = search needs in
+    let s = start .args .s .now in
+    let ls : length s ≤ at-loop .loop .k = search needs in
+    let la : length (start .args .t2) ≤ at-loop .loop .k = search needs in
+    let lb : length (start .args .t3) ≤ at-loop .loop .k = search needs in
+    sym (at-loop .loop .inv .1 ∙ (rw (drop-of-length-le s ls, drop-of-length-le (start .args .t2) la, drop-of-length-le (start .args .t3) lb)))
 
 pub in-ranges-spec : {M : Type 1} → statement M
 in-ranges-spec =

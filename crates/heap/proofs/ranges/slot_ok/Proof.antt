@@ -76,31 +76,51 @@ in-ranges-requires-7 : tie.Need-in-ranges-requires-7
 in-ranges-requires-7 c κs = search needs
 
 returns : tie.Need-returns
-returns c = row (c .before .before .before .before .before .args .s .now) 0 (c .in-ranges .result) _ _ _ _ (c .in-ranges .ensures) (c .before .before .fields .ensures) (c .before .before .fields .ensures) refl (c .before .match .keys1)
+returns c =
+    let at-match = c .before in let at-fields = at-match .before in let start = at-fields .before .before .before in
+    row (start .args .s .now) 0 (c .in-ranges .result) _ _ _ _ (c .in-ranges .ensures) (at-fields .fields .ensures) (at-fields .fields .ensures) refl (at-match .match .keys1)
 
 returns-2 : tie.Need-returns-2
-returns-2 c = row (c .before .before .before .before .before .before .args .s .now) 1 (c .in-ranges2 .result) _ _ _ _ (c .in-ranges2 .ensures) (c .before .before .before .fields .ensures) (c .before .fields2 .ensures) refl (c .before .before .match .keys2)
+returns-2 c =
+    let at-fields2 = c .before in let at-match = at-fields2 .before in let at-fields = at-match .before in
+    let start = at-fields .before .before .before in
+    row (start .args .s .now) 1 (c .in-ranges2 .result) _ _ _ _ (c .in-ranges2 .ensures) (at-fields .fields .ensures) (at-fields2 .fields2 .ensures) refl (at-match .match .keys2)
 
 returns-3 : tie.Need-returns-3
-returns-3 c = row (c .before .before .before .before .before .before .args .s .now) 2 (c .in-ranges3 .result) _ _ _ _ (c .in-ranges3 .ensures) (c .before .before .before .fields .ensures) (c .before .fields3 .ensures) refl (c .before .before .match .keys3)
+returns-3 c =
+    let at-fields3 = c .before in let at-match = at-fields3 .before in let at-fields = at-match .before in
+    let start = at-fields .before .before .before in
+    row (start .args .s .now) 2 (c .in-ranges3 .result) _ _ _ _ (c .in-ranges3 .ensures) (at-fields .fields .ensures) (at-fields3 .fields3 .ensures) refl (at-match .match .keys3)
 
 returns-4 : tie.Need-returns-4
-returns-4 c = row (c .before .before .before .before .before .before .args .s .now) 3 (c .in-ranges4 .result) _ _ _ _ (c .in-ranges4 .ensures) (c .before .before .before .fields .ensures) (c .before .fields4 .ensures) refl (c .before .before .match .keys4)
+returns-4 c =
+    let at-fields4 = c .before in let at-match = at-fields4 .before in let at-fields = at-match .before in
+    let start = at-fields .before .before .before in
+    row (start .args .s .now) 3 (c .in-ranges4 .result) _ _ _ _ (c .in-ranges4 .ensures) (at-fields .fields .ensures) (at-fields4 .fields4 .ensures) refl (at-match .match .keys4)
 
 returns-5 : tie.Need-returns-5
-returns-5 c = row (c .before .before .before .before .before .before .args .s .now) 4 (c .in-ranges5 .result) _ _ _ _ (c .in-ranges5 .ensures) (c .before .before .before .fields .ensures) (c .before .fields5 .ensures) refl (c .before .before .match .keys5)
+returns-5 c =
+    let at-fields5 = c .before in let at-match = at-fields5 .before in let at-fields = at-match .before in
+    let start = at-fields .before .before .before in
+    row (start .args .s .now) 4 (c .in-ranges5 .result) _ _ _ _ (c .in-ranges5 .ensures) (at-fields .fields .ensures) (at-fields5 .fields5 .ensures) refl (at-match .match .keys5)
 
 returns-6 : tie.Need-returns-6
-returns-6 c = row (c .before .before .before .before .before .before .before .args .s .now) 5 (c .in-ranges6 .result) _ _ _ _ (c .in-ranges6 .ensures) (c .before .before .fields6 .ensures) (c .before .fields7 .ensures) refl (c .before .before .before .match .keys6)
+returns-6 c =
+    let at-fields7 = c .before in let at-fields6 = at-fields7 .before in let at-match = at-fields6 .before in
+    let start = at-match .before .before .before .before in
+    row (start .args .s .now) 5 (c .in-ranges6 .result) _ _ _ _ (c .in-ranges6 .ensures) (at-fields6 .fields6 .ensures) (at-fields7 .fields7 .ensures) refl (at-match .match .keys6)
 
 returns-7 : tie.Need-returns-7
-returns-7 c = row (c .before .before .before .before .before .args .s .now) 6 (c .in-ranges7 .result) _ _ _ _ (c .in-ranges7 .ensures) (c .before .before .fields .ensures) refl refl (c .before .match .keys7)
+returns-7 c =
+    let at-match = c .before in let at-fields = at-match .before in let start = at-fields .before .before .before in
+    row (start .args .s .now) 6 (c .in-ranges7 .result) _ _ _ _ (c .in-ranges7 .ensures) (at-fields .fields .ensures) refl refl (at-match .match .keys7)
 
 returns-8 : tie.Need-returns-8
 returns-8 c =
-    let s = c .before .before .before .before .args .s .now in
+    let start = c .before .before .before .before in
+    let s = start .args .s .now in
     let r = c .match .rest in
-    let n : length s ≡ 20 = c .before .before .before .before .pre in
+    let n : length s ≡ 20 = start .pre in
     none s (omega arith)
     ∙ ap (λ (rs : List Range). within rs s) (sym (past (getD s 1 0) (r .0 .0 .0 .0 .0 .0 .1) (r .0 .0 .0 .0 .0 .1) (r .0 .0 .0 .0 .1) (r .0 .0 .0 .1) (r .0 .0 .1) (r .0 .1) (r .1)))
 

@@ -31,9 +31,10 @@ slot-ok-requires c κs = search needs
 
 returns : tie.Need-returns
 returns c =
-    let b = c .before .before .before .args .i * 20 in
+    let start = c .before .before .before in
+    let b = start .args .i * 20 in
     let e : (b + 20) - b ≡ 20 = omega arith in
-    c .slot-ok .ensures ∙ ap (λ (n : ℕ). slotOk (take n (drop b (c .before .before .before .args .slots .now)))) e
+    c .slot-ok .ensures ∙ ap (λ (n : ℕ). slotOk (take n (drop b (start .args .slots .now)))) e
 
 pub slot-ok-at-spec : {M : Type 1} → statement M
 slot-ok-at-spec =

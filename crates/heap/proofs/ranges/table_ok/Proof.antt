@@ -40,7 +40,11 @@ slot-ok-at-requires : tie.Need-slot-ok-at-requires Inv-loop μ-loop
 slot-ok-at-requires c κs = omega arith
 
 returns : tie.Need-returns Inv-loop μ-loop
-returns c = stop (c .before .before .before .before .before .args .slots .now) (c .before .before .before .before .before .args .count) (c .before .before .before .loop .i) (c .before .slot-ok-at .result) (c .before .before .loop-test .taken) (c .before .slot-ok-at .ensures) (not-true _ (c .if1 .taken))
+returns c =
+    let at-slot-ok-at = c .before in let at-loop-test = at-slot-ok-at .before in let at-loop = at-loop-test .before in
+    let start = at-loop .before .before in
+    stop (start .args .slots .now) (start .args .count) (at-loop .loop .i) (at-slot-ok-at .slot-ok-at .result) (at-loop-test .loop-test .taken)
+    (at-slot-ok-at .slot-ok-at .ensures) (not-true _ (c .if1 .taken))
 
 add-i : tie.Need-add-i Inv-loop μ-loop
 add-i c = omega arith
@@ -49,7 +53,9 @@ loop-less : tie.Need-loop-less Inv-loop μ-loop
 loop-less c = omega arith
 
 loop-again : tie.Need-loop-again Inv-loop μ-loop
-loop-again c = (omega arith, holds-next (c .before .before .before .loop .i) (slotsOk (c .before .before .before .before .before .args .slots .now)) (c .before .before .before .loop .inv .1) (sym (c .before .slot-ok-at .ensures) ∙ not-false _ (c .if1 .left)))
+loop-again c =
+    let at-slot-ok-at = c .before in let at-loop = at-slot-ok-at .before .before in let start = at-loop .before .before in
+    (omega arith, holds-next (at-loop .loop .i) (slotsOk (start .args .slots .now)) (at-loop .loop .inv .1) (sym (at-slot-ok-at .slot-ok-at .ensures) ∙ not-false _ (c .if1 .left)))
 
 mul-end : tie.Need-mul-end Inv-loop μ-loop
 mul-end c = omega arith
@@ -70,7 +76,10 @@ all-zero-requires : tie.Need-all-zero-requires Inv-loop μ-loop
 all-zero-requires c κs = search needs
 
 returns-2 : tie.Need-returns-2 Inv-loop μ-loop
-returns-2 c = end (c .before .before .before .before .before .args .slots .now) (c .before .before .before .before .before .args .count) (c .before .before .before .loop .i) (length (c .before .before .before .before .before .args .slots .now) - c .before .before .before .before .before .args .count * 20) (c .all-zero .result) (c .before .before .loop-test .left) (c .before .before .before .loop .inv .0) (c .before .before .before .loop .inv .1) (omega arith) (c .all-zero .ensures)
+returns-2 c =
+    let at-loop-test = c .before .before in let at-loop = at-loop-test .before in let start = at-loop .before .before in
+    end (start .args .slots .now) (start .args .count) (at-loop .loop .i) (length (start .args .slots .now) - start .args .count * 20) (c .all-zero .result)
+    (at-loop-test .loop-test .left) (at-loop .loop .inv .0) (at-loop .loop .inv .1) (omega arith) (c .all-zero .ensures)
 
 pub table-ok-spec : {M : Type 1} → statement M
 table-ok-spec =

@@ -55,7 +55,9 @@ shared-slice-read-t37 : tie.Need-shared-slice-read-t37
 shared-slice-read-t37 c = search needs
 
 returns : tie.Need-returns
-returns c = rw (c .before .before .before .before .before .before .before .before .before .before .before .before .before .before .before .of-code .ensures)
+returns c =
+    let at-of-code = c .before .before .before .before .before .before .before .before .before .before .before .before .before .before .before in
+    rw (at-of-code .of-code .ensures)
 
 pub coro-of-spec : {M : Type 1} → statement M
 coro-of-spec =

@@ -26,8 +26,9 @@ fills-requires c κs = search needs
 
 returns : tie.Need-returns
 returns c =
-    let i = c .before .before .before .args .i in
-    let ws = c .before .before .before .args .slots .now in
+    let start = c .before .before .before in
+    let i = start .args .i in
+    let ws = start .args .slots .now in
     c .fills .ensures ∙ ap fills (sym (chunk-get 20 i 1 ws (omega arith))) ∙ sym (filled-kind (chunkAt 20 ws i))
 
 pub filled-at-spec : {M : Type 1} → statement M

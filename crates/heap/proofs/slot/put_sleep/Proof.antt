@@ -34,11 +34,13 @@ same-length : tie.Need-same-length
 same-length c = search needs
 
 returns : tie.Need-returns
-returns c = let b = (c .before .before .before .before .before .args .i) * 20 in
-    let ws = (c .before .before .before .before .before .args .slots .now) in
+returns c =
+    let at-write-sleep = c .before .before in let start = at-write-sleep .before .before .before in
+    let b = start .args .i * 20 in
+    let ws = start .args .slots .now in
     let e : (b + 20) - b ≡ 20 = omega arith in
     ap₂ (λ (n : ℕ) (ys : List ℕ). take b ws ++ (ys ++ drop n (drop b ws))) e
-    (c .before .before .write-sleep .ensures ∙ ap (λ (n : ℕ). sleepWords (c .before .before .before .before .before .args .c) (take n (drop b ws))) e)
+    (at-write-sleep .write-sleep .ensures ∙ ap (λ (n : ℕ). sleepWords (start .args .c) (take n (drop b ws))) e)
 
 pub put-sleep-spec : {M : Type 1} → statement M
 put-sleep-spec =

@@ -40,10 +40,12 @@ same-length c = search needs
 
 returns : tie.Need-returns
 returns c =
-    let b = c .before .before .before .before .before .before .before .args .i * 20 in
-    let ws = c .before .before .before .before .before .before .before .args .slots .now in
+    let at-copy-words = c .before .before in let at-words-of = at-copy-words .before .before .before in
+    let start = at-words-of .before .before in
+    let b = start .args .i * 20 in
+    let ws = start .args .slots .now in
     let e : (b + 20) - b ≡ 20 = omega arith in
-    ap₂ (λ (n : ℕ) (ys : List ℕ). take b ws ++ (ys ++ drop n (drop b ws))) e (c .before .before .copy-words .ensures ∙ c .before .before .before .before .before .words-of .ensures)
+    ap₂ (λ (n : ℕ) (ys : List ℕ). take b ws ++ (ys ++ drop n (drop b ws))) e (at-copy-words .copy-words .ensures ∙ at-words-of .words-of .ensures)
 
 pub put-slot-spec : {M : Type 1} → statement M
 put-slot-spec =

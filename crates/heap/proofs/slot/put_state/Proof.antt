@@ -37,11 +37,13 @@ same-length : tie.Need-same-length
 same-length c = search needs
 
 returns : tie.Need-returns
-returns c = let b = (c .before .before .before .before .before .before .args .i) * 20 in
-    let ws = (c .before .before .before .before .before .before .args .slots .now) in
+returns c =
+    let at-write-state = c .before .before in let at-code = at-write-state .before in let start = at-code .before .before .before in
+    let b = start .args .i * 20 in
+    let ws = start .args .slots .now in
     let e : (b + 20) - b ≡ 20 = omega arith in
     ap₂ (λ (n : ℕ) (ys : List ℕ). take b ws ++ (ys ++ drop n (drop b ws))) e
-    (c .before .before .write-state .ensures ∙ ap₂ (λ (s n : ℕ). stateWords s (c .before .before .before .before .before .before .args .regs) (c .before .before .before .before .before .before .args .frames) (take n (drop b ws))) (c .before .before .before .code .ensures) e)
+    (at-write-state .write-state .ensures ∙ ap₂ (λ (s n : ℕ). stateWords s (start .args .regs) (start .args .frames) (take n (drop b ws))) (at-code .code .ensures) e)
 
 pub put-state-spec : {M : Type 1} → statement M
 put-state-spec =

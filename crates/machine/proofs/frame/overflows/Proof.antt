@@ -5,16 +5,22 @@ use Rattle.machine.proofs.frame.overflows.Statement.{statement}
 use Rattle.machine.proofs.frame.overflows.Tie as tie
 
 returns : tie.Need-returns
-returns c = too-deep (c .before .before .before .args .m) (c .before .before .before .args .l) (c .before .before .before .args .n) (c .if1 .taken)
+returns c =
+    let start = c .before .before .before in
+    too-deep (start .args .m) (start .args .l) (start .args .n) (c .if1 .taken)
 
 sub-if2 : tie.Need-sub-if2
 sub-if2 c = search needs
 
 returns-2 : tie.Need-returns-2
-returns-2 c = too-wide (c .before .before .before .before .before .before .args .m) (c .before .before .before .before .before .before .args .l) (c .before .before .before .before .before .before .args .n) (c .before .before .before .if1 .left) ((c .before .before .before .before .before .before .pre)) (c .if2 .taken)
+returns-2 c =
+    let at-if1 = c .before .before .before in let start = at-if1 .before .before .before in
+    too-wide (start .args .m) (start .args .l) (start .args .n) (at-if1 .if1 .left) (start .pre) (c .if2 .taken)
 
 returns-3 : tie.Need-returns-3
-returns-3 c = room-left (c .before .before .before .before .before .before .args .m) (c .before .before .before .before .before .before .args .l) (c .before .before .before .before .before .before .args .n) (c .before .before .before .if1 .left) ((c .before .before .before .before .before .before .pre)) (c .if2 .left)
+returns-3 c =
+    let at-if1 = c .before .before .before in let start = at-if1 .before .before .before in
+    room-left (start .args .m) (start .args .l) (start .args .n) (at-if1 .if1 .left) (start .pre) (c .if2 .left)
 
 pub overflows-spec : {M : Type 1} → statement M
 overflows-spec = tie.close (tie.spec returns sub-if2 returns-2 returns-3)

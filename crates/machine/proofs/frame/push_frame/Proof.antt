@@ -16,25 +16,56 @@ abbrev mem : tie.Start → Beside → Lent
 mem c b = onStack (c .args .stack .now) (onFrames (c .args .frames .now) (onSetup (c .args .setup .now) (b .words)))
 
 regs-at-requires : tie.Need-regs-at-requires
-regs-at-requires c κs = asked (c .before .before .before .args .l) ((c .before .before .before .pre .ok .world)) (mem ((c .before .before .before)) ((c .before .before .before .pre .ok .beside))) (c .before .before .before .args .m) ((c .before .before .before .pre .ok .beside .fuel)) ((c .before .before .before .pre .ok .rep)) ((c .before .before .before .pre .ok .sound)) (c .before .before .before .args .f) ((c .before .before .before .pre .function)) ((c .before .before .before .pre .ok .room)) .function-there
+regs-at-requires c κs =
+    let start = c .before .before .before in
+    asked (start .args .l) (start .pre .ok .world) (mem start (start .pre .ok .beside)) (start .args .m) (start .pre .ok .beside .fuel) (start .pre .ok .rep)
+    (start .pre .ok .sound) (start .args .f) (start .pre .function) (start .pre .ok .room) .function-there
 
 overflows-requires : tie.Need-overflows-requires
-overflows-requires c κs = asked (c .before .before .before .before .args .l) ((c .before .before .before .before .pre .ok .world)) (mem ((c .before .before .before .before)) ((c .before .before .before .before .pre .ok .beside))) (c .before .before .before .before .args .m) ((c .before .before .before .before .pre .ok .beside .fuel)) ((c .before .before .before .before .pre .ok .rep)) ((c .before .before .before .before .pre .ok .sound)) (c .before .before .before .before .args .f) ((c .before .before .before .before .pre .function)) ((c .before .before .before .before .pre .ok .room)) .height
+overflows-requires c κs =
+    let start = c .before .before .before .before in
+    asked (start .args .l) (start .pre .ok .world) (mem start (start .pre .ok .beside)) (start .args .m) (start .pre .ok .beside .fuel) (start .pre .ok .rep)
+    (start .pre .ok .sound) (start .args .f) (start .pre .function) (start .pre .ok .room) .height
 
 returns : tie.Need-returns
-returns c = λ w b rep snd. push-refused (c .before .before .before .before .before .before .args .l) w (mem ((c .before .before .before .before .before .before)) b) (c .before .before .before .before .before .before .args .m) (b .fuel) rep snd (c .before .before .before .before .before .before .args .f) ((c .before .before .before .before .before .before .pre .function)) (c .before .before .before .before .before .before .args .closure) (c .before .before .before .before .before .before .args .cont) (ap (overflowing (c .before .before .before .before .before .before .args .m) (c .before .before .before .before .before .before .args .l)) (sym ((c .before .before .regs-at .ensures))) ∙ sym ((c .before .overflows .ensures)) ∙ (c .if1 .taken))
+returns c =
+    let at-overflows = c .before in let at-regs-at = at-overflows .before in let start = at-regs-at .before .before .before .before in
+    λ w b rep snd. push-refused (start .args .l) w (mem start b) (start .args .m) (b .fuel)
+    rep snd (start .args .f) (start .pre .function) (start .args .closure) (start .args .cont)
+    (ap (overflowing (start .args .m) (start .args .l)) (sym (at-regs-at .regs-at .ensures)) ∙ sym (at-overflows .overflows .ensures) ∙ c .if1 .taken)
 
 push-frame-requires : tie.Need-push-frame-requires
-push-frame-requires c κs = fitting (c .before .before .before .before .before .before .before .args .l) ((c .before .before .before .before .before .before .before .pre .ok .world)) (mem ((c .before .before .before .before .before .before .before)) ((c .before .before .before .before .before .before .before .pre .ok .beside))) (c .before .before .before .before .before .before .before .args .m) ((c .before .before .before .before .before .before .before .pre .ok .beside .fuel)) ((c .before .before .before .before .before .before .before .pre .ok .rep)) ((c .before .before .before .before .before .before .before .pre .ok .sound)) (c .before .before .before .before .before .before .before .args .f) ((c .before .before .before .before .before .before .before .pre .function)) (c .before .before .before .before .before .before .before .args .closure) (c .before .before .before .before .before .before .before .args .cont) ((c .before .before .before .before .before .before .before .pre .ok .room)) (ap (overflowing (c .before .before .before .before .before .before .before .args .m) (c .before .before .before .before .before .before .before .args .l)) (sym ((c .before .before .before .regs-at .ensures))) ∙ sym ((c .before .before .overflows .ensures)) ∙ (c .before .if1 .left)) .frames
+push-frame-requires c κs =
+    let at-if1 = c .before in let at-overflows = at-if1 .before in let at-regs-at = at-overflows .before in
+    let start = at-regs-at .before .before .before .before in
+    fitting (start .args .l) (start .pre .ok .world) (mem start (start .pre .ok .beside)) (start .args .m) (start .pre .ok .beside .fuel)
+    (start .pre .ok .rep) (start .pre .ok .sound) (start .args .f) (start .pre .function) (start .args .closure) (start .args .cont) (start .pre .ok .room) (ap
+    (overflowing (start .args .m) (start .args .l)) (sym (at-regs-at .regs-at .ensures)) ∙ sym (at-overflows .overflows .ensures) ∙ at-if1 .if1 .left) .frames
 
 grown-requires : tie.Need-grown-requires
-grown-requires c κs = let h = fitting (c .before .before .before .before .before .before .before .before .before .before .args .l) ((c .before .before .before .before .before .before .before .before .before .before .pre .ok .world)) (mem ((c .before .before .before .before .before .before .before .before .before .before)) ((c .before .before .before .before .before .before .before .before .before .before .pre .ok .beside))) (c .before .before .before .before .before .before .before .before .before .before .args .m) ((c .before .before .before .before .before .before .before .before .before .before .pre .ok .beside .fuel)) ((c .before .before .before .before .before .before .before .before .before .before .pre .ok .rep)) ((c .before .before .before .before .before .before .before .before .before .before .pre .ok .sound)) (c .before .before .before .before .before .before .before .before .before .before .args .f) ((c .before .before .before .before .before .before .before .before .before .before .pre .function)) (c .before .before .before .before .before .before .before .before .before .before .args .closure) (c .before .before .before .before .before .before .before .before .before .before .args .cont) ((c .before .before .before .before .before .before .before .before .before .before .pre .ok .room)) (ap (overflowing (c .before .before .before .before .before .before .before .before .before .before .args .m) (c .before .before .before .before .before .before .before .before .before .before .args .l)) (sym ((c .before .before .before .before .before .before .regs-at .ensures))) ∙ sym ((c .before .before .before .before .before .overflows .ensures)) ∙ (c .before .before .before .before .if1 .left)) in (subst (λ n. (c .before .before .before .before .before .before .before .before .before .before .args .m .height) + n < 2 ^ 64) (sym ((c .before .before .before .before .before .before .regs-at .ensures))) (h .height), h .depth)
+grown-requires c κs =
+    let at-if1 = c .before .before .before .before in let at-overflows = at-if1 .before in let at-regs-at = at-overflows .before in
+    let start = at-regs-at .before .before .before .before in
+    let h = fitting (start .args .l) (start .pre .ok .world) (mem start (start .pre .ok .beside)) (start .args .m) (start .pre .ok .beside .fuel)
+    (start .pre .ok .rep) (start .pre .ok .sound) (start .args .f) (start .pre .function) (start .args .closure) (start .args .cont) (start .pre .ok .room)
+    (ap (overflowing (start .args .m) (start .args .l)) (sym (at-regs-at .regs-at .ensures)) ∙ sym (at-overflows .overflows .ensures) ∙ at-if1 .if1 .left) in
+    (subst (λ n. start .args .m .height + n < 2 ^ 64) (sym (at-regs-at .regs-at .ensures)) (h .height), h .depth)
 
 same-length : tie.Need-same-length
 same-length c = search needs
 
 returns-2 : tie.Need-returns-2
-returns-2 c = λ w b rep snd. let q = (c .before .before .before .before .before .before .before .before .before .before .before .pre .ok .room .stack) in let z = (c .before .before .before .before .before .before .before .before .before .before .before .pre .ok .rep .sizes .stack) in subst (λ z. Does (c .before .before .before .before .before .before .before .before .before .before .before .args .l) (pushFrame (c .before .before .before .before .before .before .before .before .before .before .before .args .f) (c .before .before .before .before .before .before .before .before .before .before .before .args .closure) (c .before .before .before .before .before .before .before .before .before .before .before .args .cont) w) (onFrames ((c .before .before .before .push-frame .last .0)) (mem ((c .before .before .before .before .before .before .before .before .before .before .before)) b)) z (b .fuel) (Made.Word ((c .before .before .before .before .before .before .before .before .before .before .before .args .m .height)))) (sym ((c .grown .ensures) ∙ ap (pushed (c .before .before .before .before .before .before .before .before .before .before .before .args .m)) ((c .before .before .before .before .before .before .before .regs-at .ensures)))) (push-done (c .before .before .before .before .before .before .before .before .before .before .before .args .l) w (mem ((c .before .before .before .before .before .before .before .before .before .before .before)) b) (c .before .before .before .before .before .before .before .before .before .before .before .args .m) (b .fuel) rep snd (c .before .before .before .before .before .before .before .before .before .before .before .args .f) ((c .before .before .before .before .before .before .before .before .before .before .before .pre .function)) (c .before .before .before .before .before .before .before .before .before .before .before .args .closure) (c .before .before .before .before .before .before .before .before .before .before .before .args .cont) (omega arith) (ap (overflowing (c .before .before .before .before .before .before .before .before .before .before .before .args .m) (c .before .before .before .before .before .before .before .before .before .before .before .args .l)) (sym ((c .before .before .before .before .before .before .before .regs-at .ensures))) ∙ sym ((c .before .before .before .before .before .before .overflows .ensures)) ∙ (c .before .before .before .before .before .if1 .left)) _ (c .before .before .before .push-frame .ensures))
+returns-2 c =
+    let at-push-frame = c .before .before .before in let at-if1 = at-push-frame .before .before in
+    let at-overflows = at-if1 .before in let at-regs-at = at-overflows .before in
+    let start = at-regs-at .before .before .before .before in
+    λ w b rep snd. let q = start .pre .ok .room .stack in
+    let z = start .pre .ok .rep .sizes .stack in
+    subst (λ z. Does (start .args .l) (pushFrame (start .args .f) (start .args .closure) (start .args .cont) w) (onFrames (at-push-frame .push-frame .last .0)
+    (mem start b)) z (b .fuel) (Made.Word (start .args .m .height))) (sym (c .grown .ensures ∙ ap (pushed (start .args .m)) (at-regs-at .regs-at .ensures)))
+    (push-done (start .args .l) w (mem start b) (start .args .m) (b .fuel) rep snd (start .args .f) (start .pre .function) (start .args .closure)
+    (start .args .cont) (omega arith) (ap (overflowing (start .args .m) (start .args .l)) (sym (at-regs-at .regs-at .ensures))
+    ∙ sym (at-overflows .overflows .ensures) ∙ at-if1 .if1 .left) _ (at-push-frame .push-frame .ensures))
 
 pub push-frame-spec : {M : Type 1} → statement M
 push-frame-spec =

@@ -13,7 +13,11 @@ same-length : tie.Need-same-length
 same-length c = search needs
 
 returns : tie.Need-returns
-returns c = λ l w b rep. turn-stack l w (onStack (c .before .before .before .before .before .before .args .stack .now) (onFrames (c .before .before .before .before .before .before .args .frames .now) (b .words))) (c .before .before .before .before .before .before .args .m) (b .fuel) rep (putAt (w .frames) (c .before .before .before .before .before .before .args .r) (c .before .before .before .before .before .before .args .v) (w .stack)) _ ((c .before .before .before .before .before .before .args .m .height)) ((c .before .before .put-reg .ensures) (w .stack) (w .frames) (rep .stack) (rep .frames))
+returns c =
+    let at-put-reg = c .before .before in let start = at-put-reg .before .before .before .before in
+    λ l w b rep. turn-stack l w (onStack (start .args .stack .now) (onFrames (start .args .frames .now) (b .words)))
+    (start .args .m) (b .fuel) rep (putAt (w .frames) (start .args .r) (start .args .v) (w .stack)) _ (start .args .m .height)
+    (at-put-reg .put-reg .ensures (w .stack) (w .frames) (rep .stack) (rep .frames))
 
 pub put-spec : {M : Type 1} → statement M
 put-spec = tie.close (tie.spec put-reg-requires same-length returns)

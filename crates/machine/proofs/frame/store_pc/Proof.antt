@@ -13,7 +13,10 @@ same-length : tie.Need-same-length
 same-length c = search needs
 
 returns : tie.Need-returns
-returns c = λ l w b rep. turn-frames l w (onFrames (c .before .before .before .before .before .args .frames .now) (b .words)) (c .before .before .before .before .before .args .m) (b .fuel) rep (onTop (setPc (c .before .before .before .before .before .args .pc)) (w .frames)) _ ((c .before .before .before .before .before .args .m .depth)) ((c .before .before .store-pc .ensures) (w .frames) (rep .frames))
+returns c =
+    let at-store-pc = c .before .before in let start = at-store-pc .before .before .before in
+    λ l w b rep. turn-frames l w (onFrames (start .args .frames .now) (b .words)) (start .args .m) (b .fuel) rep (onTop (setPc (start .args .pc)) (w .frames)) _
+    (start .args .m .depth) (at-store-pc .store-pc .ensures (w .frames) (rep .frames))
 
 pub store-pc-spec : {M : Type 1} → statement M
 store-pc-spec = tie.close (tie.spec store-pc-requires same-length returns)

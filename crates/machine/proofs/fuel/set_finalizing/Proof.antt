@@ -12,7 +12,10 @@ arm-close-requires : tie.Need-arm-close-requires
 arm-close-requires c κs = search needs
 
 returns : tie.Need-returns
-returns c = λ l w b rep. finalizes l (b .words) (c .before .before .args .m) (c .before .before .args .f) w (c .before .before .args .running) (c .before .close-ready .result) _ _ rep (c .before .close-ready .ensures) refl (c .arm-close .ensures)
+returns c =
+    let at-close-ready = c .before in let start = at-close-ready .before in
+    λ l w b rep. finalizes l (b .words) (start .args .m) (start .args .f) w (start .args .running) (at-close-ready .close-ready .result) _ _ rep
+    (at-close-ready .close-ready .ensures) refl (c .arm-close .ensures)
 
 pub set-finalizing-spec : {M : Type 1} → statement M
 set-finalizing-spec = tie.close (tie.spec close-ready-requires arm-close-requires returns)

@@ -20,10 +20,20 @@ clear-words-requires : tie.Need-clear-words-requires Inv-loop μ-loop
 clear-words-requires c κs = search needs
 
 loop-holds : tie.Need-loop-holds Inv-loop μ-loop
-loop-holds c = (omega arith, refl, slots-none _ (length (c .before .before .before .before .before .args .slots .now)) (c .before .before .clear-words .ensures))
+loop-holds c =
+    let at-clear-words = c .before .before in let start = at-clear-words .before .before .before in
+    (omega arith, refl, slots-none _ (length (start .args .slots .now)) (at-clear-words .clear-words .ensures))
 
 put-slot-requires : tie.Need-put-slot-requires Inv-loop μ-loop
-put-slot-requires c κs = let k : length ((c .before .before .before .before .before .clear-words .last .0)) ≡ length (c .before .before .before .before .before .before .before .before .args .slots .now) = (c .before .before .before .before .before .clear-words .kept .0) in let a = (c .before .before .loop .inv .0) in let b = (c .before .before .loop .inv .1) in let t = (c .before .loop-test .taken) in let p = ((c .before .before .before .before .before .before .before .before .pre)) in omega arith
+put-slot-requires c κs =
+    let at-loop-test = c .before in let at-loop = at-loop-test .before in let at-clear-words = at-loop .before .before .before in
+    let start = at-clear-words .before .before .before in
+    let k : length (at-clear-words .clear-words .last .0) ≡ length (start .args .slots .now) = at-clear-words .clear-words .kept .0 in
+    let a = at-loop .loop .inv .0 in
+    let b = at-loop .loop .inv .1 in
+    let t = at-loop-test .loop-test .taken in
+    let p = start .pre in
+    omega arith
 
 add-i : tie.Need-add-i Inv-loop μ-loop
 add-i c = search needs
@@ -32,13 +42,31 @@ loop-less : tie.Need-loop-less Inv-loop μ-loop
 loop-less c = search needs
 
 loop-again : tie.Need-loop-again Inv-loop μ-loop
-loop-again c = let k : length ((c .before .before .before .before .before .before .before .before .clear-words .last .0)) ≡ length (c .before .before .before .before .before .before .before .before .before .before .before .args .slots .now) = (c .before .before .before .before .before .before .before .before .clear-words .kept .0) in let a = (c .before .before .before .before .before .loop .inv .0) in let b = (c .before .before .before .before .before .loop .inv .1) in let t = (c .before .before .before .before .loop-test .taken) in let p = ((c .before .before .before .before .before .before .before .before .before .before .before .pre)) in (omega arith, (c .before .before .put-slot .kept .0) ∙ (c .before .before .before .before .before .loop .inv .1), next-slot (c .before .before .before .before .before .loop .slots) _ (c .before .before .before .before .before .loop .i) (c .before .before .put-slot .ensures) ((c .before .before .before .before .before .loop .inv .2)) (omega arith))
+loop-again c =
+    let at-put-slot = c .before .before in let at-loop-test = at-put-slot .before .before in let at-loop = at-loop-test .before in
+    let at-clear-words = at-loop .before .before .before in let start = at-clear-words .before .before .before in
+    let k : length (at-clear-words .clear-words .last .0) ≡ length (start .args .slots .now) = at-clear-words .clear-words .kept .0 in
+    let a = at-loop .loop .inv .0 in
+    let b = at-loop .loop .inv .1 in
+    let t = at-loop-test .loop-test .taken in
+    let p = start .pre in (
+      omega arith,
+      at-put-slot .put-slot .kept .0 ∙ at-loop .loop .inv .1,
+      next-slot (at-loop .loop .slots) _ (at-loop .loop .i) (at-put-slot .put-slot .ensures) (at-loop .loop .inv .2) (omega arith),
+    )
 
 same-length : tie.Need-same-length Inv-loop μ-loop
-same-length c = (c .before .loop .inv .1) ∙ (c .before .before .before .before .clear-words .kept .0)
+same-length c =
+    let at-loop = c .before in let at-clear-words = at-loop .before .before .before in
+    at-loop .loop .inv .1 ∙ at-clear-words .clear-words .kept .0
 
 returns : tie.Need-returns Inv-loop μ-loop
-returns c = let a = (c .before .loop .inv .0) in let t = (c .loop-test .left) in let e : (c .before .loop .i) ≡ (c .before .before .before .before .before .before .before .args .n) = omega arith in subst (λ k. Slots (functionSlots k) (c .before .loop .slots) k) e ((c .before .loop .inv .2))
+returns c =
+    let at-loop = c .before in let start = at-loop .before .before .before .before .before .before in
+    let a = at-loop .loop .inv .0 in
+    let t = c .loop-test .left in
+    let e : at-loop .loop .i ≡ start .args .n = omega arith in
+    subst (λ k. Slots (functionSlots k) (at-loop .loop .slots) k) e (at-loop .loop .inv .2)
 
 pub function-objects-spec : {M : Type 1} → statement M
 function-objects-spec =

@@ -12,7 +12,9 @@ same-length : tie.Need-same-length
 same-length c = search needs
 
 returns : tie.Need-returns
-returns c = (c .before .before .fill-row .ensures) ∙ whole-row (c .before .before .before .before .before .before .args .setup .now) (c .before .before .before .before .before .before .args .given .now) ((c .before .before .before .before .before .before .pre))
+returns c =
+    let at-fill-row = c .before .before in let start = at-fill-row .before .before .before .before in
+    at-fill-row .fill-row .ensures ∙ whole-row (start .args .setup .now) (start .args .given .now) (start .pre)
 
 pub put-setup-spec : {M : Type 1} → statement M
 put-setup-spec = tie.close (tie.spec fill-row-requires same-length returns)

@@ -56,10 +56,21 @@ same-length-9 : tie.Need-same-length-9
 same-length-9 c = search needs
 
 returns : tie.Need-returns
-returns c = λ s l e sized room.
-    set-up-rep s l _ _ _ (c .before .before .before .before .before .before .before .before .before .before .before .before .before .before .before .before .before .before .before .before .before .before .before .before .before .before .before .before .before .before .before .before .before .before .before .before .before .before .before .before .before .before .before .before .args .given .now) (c .none .ensures) e sized room refl (length (c .before .before .before .before .before .before .before .before .before .before .before .before .before .before .before .before .before .before .before .before .before .before .before .before .before .before .before .before .before .before .before .before .before .before .before .before .before .before .before .before .before .before .before .before .args .stack .now)) (length (c .before .before .before .before .before .before .before .before .before .before .before .before .before .before .before .before .before .before .before .before .before .before .before .before .before .before .before .before .before .before .before .before .before .before .before .before .before .before .before .before .before .before .before .before .args .frames .now)) (length (c .before .before .before .before .before .before .before .before .before .before .before .before .before .before .before .before .before .before .before .before .before .before .before .before .before .before .before .before .before .before .before .before .before .before .before .before .before .before .before .before .before .before .before .before .args .chain .now)) (length (c .before .before .before .before .before .before .before .before .before .before .before .before .before .before .before .before .before .before .before .before .before .before .before .before .before .before .before .before .before .before .before .before .before .before .before .before .before .before .before .before .before .before .before .before .args .saved-stack .now)) (length (c .before .before .before .before .before .before .before .before .before .before .before .before .before .before .before .before .before .before .before .before .before .before .before .before .before .before .before .before .before .before .before .before .before .before .before .before .before .before .before .before .before .before .before .before .args .saved-frames .now)) (length (c .before .before .before .before .before .before .before .before .before .before .before .before .before .before .before .before .before .before .before .before .before .before .before .before .before .before .before .before .before .before .before .before .before .before .before .before .before .before .before .before .before .before .before .before .args .ready .now)) (length (c .before .before .before .before .before .before .before .before .before .before .before .before .before .before .before .before .before .before .before .before .before .before .before .before .before .before .before .before .before .before .before .before .before .before .before .before .before .before .before .before .before .before .before .before .args .finalize .now))
-    ((c .before .before .before .before .before .before .before .before .before .before .before .before .before .before .before .before .before .before .before .before .before .before .before .before .before .before .before .before .clear-tables .ensures .0)) ((c .before .before .before .before .before .before .before .before .before .before .before .before .before .before .before .before .before .before .before .before .before .before .before .before .before .before .before .before .clear-tables .ensures .1)) ((c .before .before .before .before .before .before .before .before .before .before .before .before .before .before .before .before .before .before .before .before .before .before .before .before .before .before .before .before .clear-tables .ensures .2)) ((c .before .before .before .before .before .before .before .before .before .before .before .before .before .before .before .before .before .before .before .before .before .before .before .before .before .before .before .before .clear-tables .ensures .3)) ((c .before .before .before .before .before .before .before .before .before .before .before .before .before .before .before .before .before .before .before .before .before .before .before .before .before .before .before .before .clear-tables .ensures .4))
-    (c .before .before .before .before .before .before .before .before .before .before .before .before .before .before .before .before .clear-words .ensures) (c .before .before .before .before .before .before .before .before .before .before .before .before .clear-words2 .ensures) ((c .before .before .before .before .before .before .before .before .put-setup .ensures) ∙ ap (λ n. pad n (c .before .before .before .before .before .before .before .before .before .before .before .before .before .before .before .before .before .before .before .before .before .before .before .before .before .before .before .before .before .before .before .before .before .before .before .before .before .before .before .before .before .before .before .before .args .given .now)) (sym ((c .before .before .before .before .before .before .before .before .put-setup .kept .0)))) (c .before .before .before .function-objects .ensures)
+returns c =
+    let at-function-objects = c .before .before .before in
+    let at-put-setup = at-function-objects .before .before .before .before .before in
+    let at-clear-words2 = at-put-setup .before .before .before .before in
+    let at-clear-words = at-clear-words2 .before .before .before .before in
+    let at-clear-tables = at-clear-words .before .before .before .before .before .before .before .before .before .before .before .before in
+    let start = at-clear-tables .before .before .before .before .before .before .before .before .before .before .before .before .before .before .before .before in
+    λ s l e sized room.
+    set-up-rep s l _ _ _ (start .args .given .now) (c .none .ensures) e sized room refl (length (start .args .stack .now)) (length (start .args .frames .now))
+    (length (start .args .chain .now)) (length (start .args .saved-stack .now)) (length (start .args .saved-frames .now)) (length (start .args .ready .now))
+    (length (start .args .finalize .now))
+    (at-clear-tables .clear-tables .ensures .0) (at-clear-tables .clear-tables .ensures .1) (at-clear-tables .clear-tables .ensures .2)
+    (at-clear-tables .clear-tables .ensures .3) (at-clear-tables .clear-tables .ensures .4)
+    (at-clear-words .clear-words .ensures) (at-clear-words2 .clear-words2 .ensures) (at-put-setup .put-setup .ensures
+    ∙ ap (λ n. pad n (start .args .given .now)) (sym (at-put-setup .put-setup .kept .0))) (at-function-objects .function-objects .ensures)
 
 pub set-up-spec : {M : Type 1} → statement M
 set-up-spec =

@@ -62,7 +62,9 @@ shared-slice-read-t16 : tie.Need-shared-slice-read-t16
 shared-slice-read-t16 c = search needs
 
 returns : tie.Need-returns
-returns c = active-read (c .before .before .before .before .before .before .before .before .args .chain .now) (c .before .before .before .before .before .before .before .before .args .i) (c .before .before .driver-of .result) (c .before .before .driver-of .ensures)
+returns c =
+    let at-driver-of = c .before .before in let start = at-driver-of .before .before .before .before .before .before in
+    active-read (start .args .chain .now) (start .args .i) (at-driver-of .driver-of .result) (at-driver-of .driver-of .ensures)
 
 pub active-at-spec : {M : Type 1} → statement M
 active-at-spec =

@@ -78,7 +78,12 @@ same-length : tie.Need-same-length
 same-length c = search needs
 
 returns : tie.Need-returns
-returns c = six-sets (c .before .before .before .before .before .args .chain .now) (c .before .before .before .before .before .args .i * 6) _ _ (c .before .before .before .driver-code .result) (c .before .before .driver-first .result) (c .before .driver-second .result) (c .driver-third .result) (c .before .before .before .before .before .pre) ∙ rw (c .before .before .before .driver-code .ensures, c .before .before .driver-first .ensures, c .before .driver-second .ensures, c .driver-third .ensures)
+returns c =
+    let at-driver-second = c .before in let at-driver-first = at-driver-second .before in
+    let at-driver-code = at-driver-first .before in let start = at-driver-code .before .before in
+    six-sets (start .args .chain .now) (start .args .i * 6) _ _ (at-driver-code .driver-code .result) (at-driver-first .driver-first .result)
+    (at-driver-second .driver-second .result) (c .driver-third .result) (start .pre)
+    ∙ rw (at-driver-code .driver-code .ensures, at-driver-first .driver-first .ensures, at-driver-second .driver-second .ensures, c .driver-third .ensures)
 
 pub put-active-spec : {M : Type 1} → statement M
 put-active-spec =

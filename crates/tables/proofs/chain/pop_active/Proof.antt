@@ -34,7 +34,10 @@ same-length : tie.Need-same-length
 same-length c = search needs
 
 returns : tie.Need-returns
-returns c = pops-cleared activeWords length-active (c .before .before .before .before .before .args .chain .now) (c .before .before .clear-words .last .0) (c .before .before .before .before .before .args .n) (c .before .before .before .before .before .pre .0) (c .before .before .before .before .before .pre .1) (c .before .before .clear-words .ensures)
+returns c =
+    let at-clear-words = c .before .before in let start = at-clear-words .before .before .before in
+    pops-cleared activeWords length-active (start .args .chain .now) (at-clear-words .clear-words .last .0) (start .args .n) (start .pre .0) (start .pre .1)
+    (at-clear-words .clear-words .ensures)
 
 pub pop-active-spec : {M : Type 1} → statement M
 pop-active-spec =

@@ -19,9 +19,10 @@ same-length c = search needs
 
 returns : tie.Need-returns
 returns c =
-    let z = c .before .before .before .before .before .args in
+    let at-put-active = c .before .before in let start = at-put-active .before .before .before in
+    let z = start .args in
     let a = active (z .coro) (z .floor) (z .driver) in
-    λ cs p. subst (λ ws. Chain (a ∷ cs) ws (z .n + 1)) (sym (c .before .before .put-active .ensures)) (pushes activeWords length-active (z .chain .now) (z .n) a cs (c .before .before .before .before .before .pre) p)
+    λ cs p. subst (λ ws. Chain (a ∷ cs) ws (z .n + 1)) (sym (at-put-active .put-active .ensures)) (pushes activeWords length-active (z .chain .now) (z .n) a cs (start .pre) p)
 
 pub push-active-spec : {M : Type 1} → statement M
 push-active-spec = tie.close (tie.spec put-active-requires same-length returns)

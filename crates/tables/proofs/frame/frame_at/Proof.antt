@@ -62,7 +62,9 @@ shared-slice-read-t21 : tie.Need-shared-slice-read-t21
 shared-slice-read-t21 c = search needs
 
 returns : tie.Need-returns
-returns c = frame-read (c .before .before .before .before .before .before .before .before .args .frames .now) (c .before .before .before .before .before .before .before .before .args .i) (c .before .before .before .before .cont-of .result) (c .before .before .before .before .cont-of .ensures)
+returns c =
+    let at-cont-of = c .before .before .before .before in let start = at-cont-of .before .before .before .before in
+    frame-read (start .args .frames .now) (start .args .i) (at-cont-of .cont-of .result) (at-cont-of .cont-of .ensures)
 
 pub frame-at-spec : {M : Type 1} → statement M
 frame-at-spec =

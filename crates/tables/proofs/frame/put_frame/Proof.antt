@@ -72,7 +72,10 @@ same-length : tie.Need-same-length
 same-length c = search needs
 
 returns : tie.Need-returns
-returns c = six-sets (c .before .before .before .args .frames .now) (c .before .before .before .args .i * 6) _ _ _ _ (c .before .cont-code .result) (c .cont-reg .result) (c .before .before .before .pre) ∙ rw (c .before .cont-code .ensures, c .cont-reg .ensures)
+returns c =
+    let at-cont-code = c .before in let start = at-cont-code .before .before in
+    six-sets (start .args .frames .now) (start .args .i * 6) _ _ _ _ (at-cont-code .cont-code .result) (c .cont-reg .result) (start .pre)
+    ∙ rw (at-cont-code .cont-code .ensures, c .cont-reg .ensures)
 
 pub put-frame-spec : {M : Type 1} → statement M
 put-frame-spec =

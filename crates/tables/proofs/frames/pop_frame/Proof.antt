@@ -34,7 +34,10 @@ same-length : tie.Need-same-length
 same-length c = search needs
 
 returns : tie.Need-returns
-returns c = pops-cleared frameWords length-frame (c .before .before .before .before .before .args .frames .now) (c .before .before .clear-words .last .0) (c .before .before .before .before .before .args .depth) (c .before .before .before .before .before .pre .0) (c .before .before .before .before .before .pre .1) (c .before .before .clear-words .ensures)
+returns c =
+    let at-clear-words = c .before .before in let start = at-clear-words .before .before .before in
+    pops-cleared frameWords length-frame (start .args .frames .now) (at-clear-words .clear-words .last .0) (start .args .depth) (start .pre .0) (start .pre .1)
+    (at-clear-words .clear-words .ensures)
 
 pub pop-frame-spec : {M : Type 1} → statement M
 pop-frame-spec =

@@ -19,9 +19,10 @@ same-length c = search needs
 
 returns : tie.Need-returns
 returns c =
-    let a = c .before .before .before .before .before .args in
+    let at-put-frame = c .before .before in let start = at-put-frame .before .before .before in
+    let a = start .args in
     let f = frame (a .func) (a .base) (a .closure) (a .cont) in
-    λ fs p. subst (λ ws. Frames (f ∷ fs) ws (a .depth + 1)) (sym (c .before .before .put-frame .ensures)) (pushes frameWords length-frame (a .frames .now) (a .depth) f fs (c .before .before .before .before .before .pre) p)
+    λ fs p. subst (λ ws. Frames (f ∷ fs) ws (a .depth + 1)) (sym (at-put-frame .put-frame .ensures)) (pushes frameWords length-frame (a .frames .now) (a .depth) f fs (start .pre) p)
 
 pub push-frame-spec : {M : Type 1} → statement M
 push-frame-spec = tie.close (tie.spec put-frame-requires same-length returns)

@@ -38,7 +38,9 @@ same-length : tie.Need-same-length
 same-length c = search needs
 
 returns : tie.Need-returns
-returns c = steps (c .before .before .before .args .frames .now) (c .before .before .before .args .depth) (c .wrapping-add-u32 .result) (c .before .before .before .pre .0) (c .wrapping-add-u32 .ensures)
+returns c =
+    let start = c .before .before .before in
+    steps (start .args .frames .now) (start .args .depth) (c .wrapping-add-u32 .result) (start .pre .0) (c .wrapping-add-u32 .ensures)
 
 pub step-pc-spec : {M : Type 1} → statement M
 step-pc-spec =

@@ -57,9 +57,10 @@ covered-requires c κs = tt
 
 returns : tie.Need-returns Inv-loop μ-loop
 returns c =
-    let a = c .before .before .before .before .before .args in
-    let v = c .before .before .before .before .loop .inv in
-    sym (v .3 ∙ look (a .pc) (a .n) (c .before .before .before .before .loop .i) (a .t1) none (omega arith) (omega arith) ∙ yes _ _ _ (sym (c .before .covered .ensures) ∙ c .if1 .taken))
+    let at-covered = c .before in let at-loop = at-covered .before .before .before in let entry = at-loop .before in
+    let a = entry .args in
+    let v = at-loop .loop .inv in
+    sym (v .3 ∙ look (a .pc) (a .n) (at-loop .loop .i) (a .t1) none (omega arith) (omega arith) ∙ yes _ _ _ (sym (at-covered .covered .ensures) ∙ c .if1 .taken))
 
 add-i : tie.Need-add-i Inv-loop μ-loop
 add-i c = omega arith
@@ -69,9 +70,10 @@ loop-less c = omega arith
 
 loop-again : tie.Need-loop-again Inv-loop μ-loop
 loop-again c =
-    let a = c .before .before .before .before .before .args in
-    let v = c .before .before .before .before .loop .inv in
-    (omega arith, v .1, v .2, v .3 ∙ look (a .pc) (a .n) (c .before .before .before .before .loop .i) (a .t1) none (omega arith) (omega arith) ∙ no _ _ _ (sym (c .before .covered .ensures) ∙ c .if1 .left))
+    let at-covered = c .before in let at-loop = at-covered .before .before .before in let entry = at-loop .before in
+    let a = entry .args in
+    let v = at-loop .loop .inv in
+    (omega arith, v .1, v .2, v .3 ∙ look (a .pc) (a .n) (at-loop .loop .i) (a .t1) none (omega arith) (omega arith) ∙ no _ _ _ (sym (at-covered .covered .ensures) ∙ c .if1 .left))
 
 returns-2 : tie.Need-returns-2 Inv-loop μ-loop
 returns-2 c =

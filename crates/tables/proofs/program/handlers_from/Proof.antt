@@ -49,7 +49,21 @@ handler-from-requires-8 : tie.Need-handler-from-requires-8
 handler-from-requires-8 c κs = search needs
 
 returns : tie.Need-returns
-returns c = rw (c .before .before .before .before .before .before .before .handler-from .ensures, c .before .before .before .before .before .before .handler-from2 .ensures, c .before .before .before .before .before .handler-from3 .ensures, c .before .before .before .before .handler-from4 .ensures, c .before .before .before .handler-from5 .ensures, c .before .before .handler-from6 .ensures, c .before .handler-from7 .ensures, c .handler-from8 .ensures)
+returns c =
+    let at-handler-from7 = c .before in let at-handler-from6 = at-handler-from7 .before in
+    let at-handler-from5 = at-handler-from6 .before in let at-handler-from4 = at-handler-from5 .before in
+    let at-handler-from3 = at-handler-from4 .before in let at-handler-from2 = at-handler-from3 .before in
+    let at-handler-from = at-handler-from2 .before in
+    rw (
+      at-handler-from .handler-from .ensures,
+      at-handler-from2 .handler-from2 .ensures,
+      at-handler-from3 .handler-from3 .ensures,
+      at-handler-from4 .handler-from4 .ensures,
+      at-handler-from5 .handler-from5 .ensures,
+      at-handler-from6 .handler-from6 .ensures,
+      at-handler-from7 .handler-from7 .ensures,
+      c .handler-from8 .ensures,
+    )
 
 pub handlers-from-spec : {M : Type 1} → statement M
 handlers-from-spec =

@@ -14,7 +14,10 @@ same-length : tie.Need-same-length
 same-length c = search needs
 
 returns : tie.Need-returns
-returns c = pops-front (c .before .before .before .before .before .args .queue .now) (c .before .before .before .before .before .args .n) (c .before .before .shift-down .result) (c .before .before .shift-down .last .0) (c .before .before .before .before .before .pre .0) (c .before .before .shift-down .ensures .0) (c .before .before .shift-down .ensures .1)
+returns c =
+    let at-shift-down = c .before .before in let start = at-shift-down .before .before .before in
+    pops-front (start .args .queue .now) (start .args .n) (at-shift-down .shift-down .result) (at-shift-down .shift-down .last .0) (start .pre .0)
+    (at-shift-down .shift-down .ensures .0) (at-shift-down .shift-down .ensures .1)
 
 pub pop-front-spec : {M : Type 1} → statement M
 pop-front-spec = tie.close (tie.spec sub-last shift-down-requires same-length returns)

@@ -15,9 +15,11 @@ move-words-requires c κs = search needs
 
 rebase-requires : tie.Need-rebase-requires
 rebase-requires c κs =
-    let a = c .before .before .before .before .before .before .before .before .before .before .args in
-    let m = c .before .before .before .before .before .move-words in
-    enter-asks (a .frames .now) (a .saved .now) (m .last .0) (a .depth) (a .at) (a .n) (a .by) (c .before .before .before .before .before .before .before .before .before .before .pre) (m .kept .0) (m .ensures .there)
+    let at-move-words = c .before .before .before .before .before in
+    let start = at-move-words .before .before .before .before .before in
+    let a = start .args in
+    let m = at-move-words .move-words in
+    enter-asks (a .frames .now) (a .saved .now) (m .last .0) (a .depth) (a .at) (a .n) (a .by) (start .pre) (m .kept .0) (m .ensures .there)
 
 same-length : tie.Need-same-length
 same-length c = search needs
@@ -27,9 +29,12 @@ same-length-2 c = search needs
 
 returns : tie.Need-returns
 returns c =
-    let a = c .before .before .before .before .before .before .before .before .before .before .before .before .before .args in
-    let m = c .before .before .before .before .before .before .before .before .move-words in
-    enters-frames (a .frames .now) (a .saved .now) (m .last .0) (m .last .1 .1 .0) (c .before .before .rebase .last .0) (a .depth) (a .at) (a .n) (a .by) (c .before .before .before .before .before .before .before .before .before .before .before .before .before .pre) (m .ensures) (c .before .before .rebase .ensures)
+    let at-rebase = c .before .before in let at-move-words = at-rebase .before .before .before .before .before .before in
+    let start = at-move-words .before .before .before .before .before in
+    let a = start .args in
+    let m = at-move-words .move-words in
+    enters-frames (a .frames .now) (a .saved .now) (m .last .0) (m .last .1 .1 .0) (at-rebase .rebase .last .0) (a .depth) (a .at) (a .n) (a .by) (start .pre)
+    (m .ensures) (at-rebase .rebase .ensures)
 
 pub enter-frames-spec : {M : Type 1} → statement M
 enter-frames-spec =

@@ -15,9 +15,10 @@ same-length-2 c = search needs
 
 returns : tie.Need-returns
 returns c =
-    let a = c .before .before .before .before .before .before .before .before .before .args in
-    let m = c .before .before .before .before .move-words in
-    enters-stack (a .stack .now) (a .saved .now) (m .last .0) (m .last .1 .1 .0) (a .height) (a .at) (a .n) (c .before .before .before .before .before .before .before .before .before .pre .0) (m .ensures)
+    let at-move-words = c .before .before .before .before in let start = at-move-words .before .before .before .before .before in
+    let a = start .args in
+    let m = at-move-words .move-words in
+    enters-stack (a .stack .now) (a .saved .now) (m .last .0) (m .last .1 .1 .0) (a .height) (a .at) (a .n) (start .pre .0) (m .ensures)
 
 pub enter-stack-spec : {M : Type 1} → statement M
 enter-stack-spec = tie.close (tie.spec move-words-requires same-length same-length-2 returns)

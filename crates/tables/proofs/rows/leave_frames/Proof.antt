@@ -18,9 +18,12 @@ move-words-requires c κs = search needs
 
 rebase-requires : tie.Need-rebase-requires
 rebase-requires c κs =
-    let a = c .before .before .before .before .before .before .before .before .before .before .args in
-    let m = c .before .before .before .before .before .move-words in
-    leave-asks (a .frames .now) (a .saved .now) (m .last .0) (a .depth) (a .floor) (a .by) (a .at) (c .before .before .before .before .before .before .before .before .before .before .pre) (λ i. c .before .before .before .slice-known3 .given i .fits) (m .kept .0) (m .ensures .there)
+    let at-slice-known3 = c .before .before .before in let at-move-words = at-slice-known3 .before .before in
+    let start = at-move-words .before .before .before .before .before in
+    let a = start .args in
+    let m = at-move-words .move-words in
+    leave-asks (a .frames .now) (a .saved .now) (m .last .0) (a .depth) (a .floor) (a .by) (a .at) (start .pre)
+    (λ i. at-slice-known3 .slice-known3 .given i .fits) (m .kept .0) (m .ensures .there)
 
 same-length : tie.Need-same-length
 same-length c = search needs
@@ -30,10 +33,12 @@ same-length-2 c = search needs
 
 returns : tie.Need-returns
 returns c =
-    let a = c .before .before .before .before .before .before .before .before .before .before .before .before .before .args in
-    let m = c .before .before .before .before .before .before .before .before .move-words in
-    let r = c .before .before .rebase in
-    leaves-frames (a .frames .now) (a .saved .now) (m .last .0) (r .last .0) (m .last .1 .1 .0) (a .depth) (a .floor) (a .by) (a .at) (c .before .before .before .before .before .before .before .before .before .before .before .before .before .pre) (m .ensures) (r .ensures)
+    let at-rebase = c .before .before in let at-move-words = at-rebase .before .before .before .before .before .before in
+    let start = at-move-words .before .before .before .before .before in
+    let a = start .args in
+    let m = at-move-words .move-words in
+    let r = at-rebase .rebase in
+    leaves-frames (a .frames .now) (a .saved .now) (m .last .0) (r .last .0) (m .last .1 .1 .0) (a .depth) (a .floor) (a .by) (a .at) (start .pre) (m .ensures) (r .ensures)
 
 pub leave-frames-spec : {M : Type 1} → statement M
 leave-frames-spec =

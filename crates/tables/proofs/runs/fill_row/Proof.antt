@@ -28,13 +28,16 @@ part-copy-words-end : tie.Need-part-copy-words-end
 part-copy-words-end c = search needs
 
 slice-aggregate-copy-words : tie.Need-slice-aggregate-copy-words
-slice-aggregate-copy-words c = sym (length-take-le (c .before .before .before .before .args .n) (c .before .before .before .before .args .src .now) (c .before .before .before .before .pre .1))
+slice-aggregate-copy-words c =
+    let start = c .before .before .before .before in
+    sym (length-take-le (start .args .n) (start .args .src .now) (start .pre .1))
 
 copy-words-requires : tie.Need-copy-words-requires
 copy-words-requires c κs =
-    let a = c .before .before .before .before .args in
+    let start = c .before .before .before .before in
+    let a = start .args in
     ap (λ n. length (take n (drop (a .at) (a .rows .now)))) (span (a .at) (a .n)) ∙ length-part (a .at) (a .n) (a .rows .now) (omega arith)
-    ∙ sym (length-take-le (a .n) (a .src .now) (c .before .before .before .before .pre .1))
+    ∙ sym (length-take-le (a .n) (a .src .now) (start .pre .1))
 
 mul-clear-words : tie.Need-mul-clear-words
 mul-clear-words c = search needs
@@ -56,9 +59,11 @@ same-length c = search needs
 
 returns : tie.Need-returns
 returns c =
-    let a = c .before .before .before .before .before .before .before .before .before .before .before .args in
-    filled (a .rows .now) (c .before .before .before .before .before .before .copy-words .last .0) (c .before .before .clear-words .last .0) (take (a .n) (a .src .now)) (a .at) (a .room) (a .n) (c .before .before .before .before .before .before .before .before .before .before .before .pre .0) (c .before .before .before .before .before .before .before .before .before .before .before .pre .2)
-    (length-take-le (a .n) (a .src .now) (c .before .before .before .before .before .before .before .before .before .before .before .pre .1)) (c .before .before .before .before .before .before .copy-words .ensures) (c .before .before .clear-words .ensures)
+    let at-clear-words = c .before .before in let at-copy-words = at-clear-words .before .before .before .before in
+    let start = at-copy-words .before .before .before .before .before in
+    let a = start .args in
+    filled (a .rows .now) (at-copy-words .copy-words .last .0) (at-clear-words .clear-words .last .0) (take (a .n) (a .src .now)) (a .at) (a .room) (a .n) (start .pre .0) (start .pre .2)
+    (length-take-le (a .n) (a .src .now) (start .pre .1)) (at-copy-words .copy-words .ensures) (at-clear-words .clear-words .ensures)
 
 pub fill-row-spec : {M : Type 1} → statement M
 fill-row-spec =

@@ -45,9 +45,10 @@ same-length-2 c = search needs
 
 returns : tie.Need-returns
 returns c =
-    let a = c .before .before .before .before .before .before .before .before .before .args in
-    let inside = c .before .before .before .before .before .before .before .before .before .pre .1 in
-    let took = c .before .before .before .before .take-words .ensures in
+    let at-take-words = c .before .before .before .before in let start = at-take-words .before .before .before .before .before in
+    let a = start .args in
+    let inside = start .pre .1 in
+    let took = at-take-words .take-words .ensures in
     record {
       there = moved (a .dst .now) (a .src .now) _ (a .at) (a .from) (a .n) inside (took .0);
       here = cleared (a .src .now) _ (a .from) (a .n) inside (took .1);

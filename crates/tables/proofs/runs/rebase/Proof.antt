@@ -16,7 +16,9 @@ abbrev μ-loop : tie.MeasureT-loop
 μ-loop ws₀ at n old new i₀ ws i = n - i
 
 -- the base of the next frame is as it was
-base-kept : (c : tie.In-loop Inv-loop μ-loop) → getD (c .before .loop .ws) (c .before .before .args .at + c .before .loop .i * 6 + 2) 0 ≡ getD (c .before .before .args .ws .now) (c .before .before .args .at + c .before .loop .i * 6 + 2) 0
+base-kept : (c : tie.In-loop Inv-loop μ-loop) →
+    let at-loop = c .before in let start = at-loop .before in
+    getD (at-loop .loop .ws) (start .args .at + at-loop .loop .i * 6 + 2) 0 ≡ getD (start .args .ws .now) (start .args .at + at-loop .loop .i * 6 + 2) 0
 base-kept c =
     let a = c .before .before .args in
     let i = c .before .loop .i in
@@ -42,13 +44,15 @@ slice-read-ws c = search needs
 
 sub-ws : tie.Need-sub-ws Inv-loop μ-loop
 sub-ws c =
-    let k = base-kept (c .before) in
-    rw k (c .before .before .before .pre .above (c .before .before .loop .i) (omega arith))
+    let at-loop-test = c .before in let at-loop = at-loop-test .before in let start = at-loop .before in
+    let k = base-kept at-loop-test in
+    rw k (start .pre .above (at-loop .loop .i) (omega arith))
 
 add-ws : tie.Need-add-ws Inv-loop μ-loop
 add-ws c =
-    let k = base-kept (c .before) in
-    record { fits = rw k (c .before .before .before .pre .fits (c .before .before .loop .i) (omega arith)) }
+    let at-loop-test = c .before in let at-loop = at-loop-test .before in let start = at-loop .before in
+    let k = base-kept at-loop-test in
+    record { fits = rw k (start .pre .fits (at-loop .loop .i) (omega arith)) }
 
 mul-ws-2 : tie.Need-mul-ws-2 Inv-loop μ-loop
 mul-ws-2 c = search needs
@@ -64,8 +68,9 @@ loop-less c = search needs
 
 loop-again : tie.Need-loop-again Inv-loop μ-loop
 loop-again c =
-    let a = c .before .before .before .args in
-    (search needs, simp length-set (c .before .before .loop .inv .1), rebase-more (between (a .old) (a .new)) (a .at) (c .before .before .loop .i) (c .before .before .loop .ws) (a .ws .now) (c .before .before .loop .inv .2))
+    let at-loop = c .before .before in let start = at-loop .before in
+    let a = start .args in
+    (search needs, simp length-set (at-loop .loop .inv .1), rebase-more (between (a .old) (a .new)) (a .at) (at-loop .loop .i) (at-loop .loop .ws) (a .ws .now) (at-loop .loop .inv .2))
 
 same-length : tie.Need-same-length Inv-loop μ-loop
 same-length c = c .before .loop .inv .1

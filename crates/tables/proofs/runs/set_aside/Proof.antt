@@ -32,15 +32,17 @@ part-copy-words-end c = search needs
 
 copy-words-requires : tie.Need-copy-words-requires
 copy-words-requires c κs =
-    let a = c .before .before .before .args in
-    length-take-le (a .n) (replicate 255 0) (c .before .before .before .pre .0)
-    ∙ sym (ap (λ n. length (take n (drop (a .at) (a .src .now)))) (span (a .at) (a .n)) ∙ length-part (a .at) (a .n) (a .src .now) (c .before .before .before .pre .1))
+    let start = c .before .before .before in
+    let a = start .args in
+    length-take-le (a .n) (replicate 255 0) (start .pre .0)
+    ∙ sym (ap (λ n. length (take n (drop (a .at) (a .src .now)))) (span (a .at) (a .n)) ∙ length-part (a .at) (a .n) (a .src .now) (start .pre .1))
 
 returns : tie.Need-returns
 returns c =
-    let a = c .before .before .before .before .before .args in
-    aside 255 (a .n) _ (part (a .at) (a .n) (a .src .now)) (c .before .before .before .before .before .pre .0) (length-part (a .at) (a .n) (a .src .now) (c .before .before .before .before .before .pre .1))
-    (c .before .copy-words .ensures ∙ ap (λ n. take n (drop (a .at) (a .src .now))) (span (a .at) (a .n)))
+    let at-copy-words = c .before in let start = at-copy-words .before .before .before .before in
+    let a = start .args in
+    aside 255 (a .n) _ (part (a .at) (a .n) (a .src .now)) (start .pre .0) (length-part (a .at) (a .n) (a .src .now) (start .pre .1))
+    (at-copy-words .copy-words .ensures ∙ ap (λ n. take n (drop (a .at) (a .src .now))) (span (a .at) (a .n)))
 
 pub set-aside-spec : {M : Type 1} → statement M
 set-aside-spec =

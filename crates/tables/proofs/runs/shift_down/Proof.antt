@@ -44,9 +44,10 @@ loop-less c = search needs
 
 loop-again : tie.Need-loop-again Inv-loop μ-loop
 loop-again c =
-    let s₀ = c .before .before .before .before .args .s .now in
-    let i = c .before .before .loop .i in
-    (search needs, simp length-set (c .before .before .loop .inv .1), rw (c .before .before .loop .inv .2) (shift-more i s₀ (omega arith)))
+    let at-loop = c .before .before in let start = at-loop .before .before in
+    let s₀ = start .args .s .now in
+    let i = at-loop .loop .i in
+    (search needs, simp length-set (at-loop .loop .inv .1), rw (at-loop .loop .inv .2) (shift-more i s₀ (omega arith)))
 
 mul-s-3 : tie.Need-mul-s-3 Inv-loop μ-loop
 mul-s-3 c = search needs
@@ -59,10 +60,11 @@ same-length c = simp length-set (c .before .loop .inv .1)
 
 returns : tie.Need-returns Inv-loop μ-loop
 returns c =
-    let s₀ = c .before .before .before .args .s .now in
-    let n = c .before .before .before .args .n in
-    let e : c .before .loop .i ≡ n = omega arith in
-    (refl, ap (λ s. set s n 0) (c .before .loop .inv .2 ∙ ap (λ i. take i (drop 1 s₀) ++ drop i s₀) e))
+    let at-loop = c .before in let start = at-loop .before .before in
+    let s₀ = start .args .s .now in
+    let n = start .args .n in
+    let e : at-loop .loop .i ≡ n = omega arith in
+    (refl, ap (λ s. set s n 0) (at-loop .loop .inv .2 ∙ ap (λ i. take i (drop 1 s₀) ++ drop i s₀) e))
 
 pub shift-down-spec : {M : Type 1} → statement M
 shift-down-spec =

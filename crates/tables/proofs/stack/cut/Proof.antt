@@ -23,7 +23,9 @@ same-length : tie.Need-same-length
 same-length c = search needs
 
 returns : tie.Need-returns
-returns c = cuts (c .before .before .before .before .before .args .stack .now) (c .before .before .clear-words .last .0) (c .before .before .before .before .before .args .height) (c .before .before .before .before .before .args .base) (c .before .before .before .before .before .pre .0) (c .before .before .before .before .before .pre .1) (c .before .before .clear-words .ensures)
+returns c =
+    let at-clear-words = c .before .before in let start = at-clear-words .before .before .before in
+    cuts (start .args .stack .now) (at-clear-words .clear-words .last .0) (start .args .height) (start .args .base) (start .pre .0) (start .pre .1) (at-clear-words .clear-words .ensures)
 
 pub cut-spec : {M : Type 1} → statement M
 cut-spec =

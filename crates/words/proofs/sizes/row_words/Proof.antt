@@ -48,17 +48,19 @@ loop-less c = search needs
 
 loop-again : tie.Need-loop-again Inv-loop μ-loop
 loop-again c =
-    let ws = c .before .before .before .before .before .before .before .args .setup .now in
-    let i = c .before .before .before .loop .i in
-    let most = c .before .before .before .loop .most in
+    let at-loop = c .before .before .before in let entry = at-loop .before .before .before .before in
+    let ws = entry .args .setup .now in
+    let i = at-loop .loop .i in
+    let most = at-loop .loop .most in
     let n = getD ws 13 0 in
-    (omega arith, ap (λ k. max k (widestIn ws (i + 1) (n - (i + 1)))) (c .larger .ensures) ∙ sym (more ws i n most (omega arith)) ∙ c .before .before .before .loop .inv .1)
+    (omega arith, ap (λ k. max k (widestIn ws (i + 1) (n - (i + 1)))) (c .larger .ensures) ∙ sym (more ws i n most (omega arith)) ∙ at-loop .loop .inv .1)
 
 returns : tie.Need-returns Inv-loop μ-loop
 returns c =
-    let ws = c .before .before .before .before .before .args .setup .now in
-    let i = c .before .loop .i in
-    sym (end ws i (getD ws 13 0) (c .before .loop .most) (omega arith)) ∙ c .before .loop .inv .1
+    let at-loop = c .before in let entry = at-loop .before .before .before .before in
+    let ws = entry .args .setup .now in
+    let i = at-loop .loop .i in
+    sym (end ws i (getD ws 13 0) (at-loop .loop .most) (omega arith)) ∙ at-loop .loop .inv .1
 
 pub row-words-spec : {M : Type 1} → statement M
 row-words-spec =

@@ -15,8 +15,9 @@ row-words-requires c κs = search needs
 
 returns : tie.Need-returns
 returns c =
-    told (c .before .before .before .before .args .setup .now) (c .before .before .limits .result) (c .before .costs .result) (c .row-words .result)
-    (c .before .before .limits .ensures) (c .before .costs .ensures) (c .row-words .ensures)
+    let at-costs = c .before in let at-limits = at-costs .before in let start = at-limits .before .before in
+    told (start .args .setup .now) (at-limits .limits .result) (at-costs .costs .result) (c .row-words .result)
+    (at-limits .limits .ensures) (at-costs .costs .ensures) (c .row-words .ensures)
 
 pub sizes-spec : {M : Type 1} → statement M
 sizes-spec = tie.close (tie.spec limits-requires costs-requires row-words-requires returns)

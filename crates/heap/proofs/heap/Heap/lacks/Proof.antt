@@ -11,11 +11,15 @@ fits-requires c κs = search needs
 
 returns : tie.Need-returns
 unfolding pick
-returns c = rw (sym (c .before .before .before .fits2 .ensures) ∙ c .before .before .if1 .taken, lt-ltb _ _ (c .if2 .taken))
+returns c =
+    let at-if1 = c .before .before in let at-fits2 = at-if1 .before in
+    rw (sym (at-fits2 .fits2 .ensures) ∙ at-if1 .if1 .taken, lt-ltb _ _ (c .if2 .taken))
 
 returns-2 : tie.Need-returns-2
 unfolding pick
-returns-2 c = rw (sym (c .before .before .before .fits2 .ensures) ∙ c .before .before .if1 .taken, le-ltb _ _ (c .if2 .left))
+returns-2 c =
+    let at-if1 = c .before .before in let at-fits2 = at-if1 .before in
+    rw (sym (at-fits2 .fits2 .ensures) ∙ at-if1 .if1 .taken, le-ltb _ _ (c .if2 .left))
 
 returns-3 : tie.Need-returns-3
 unfolding pick

@@ -37,13 +37,15 @@ returns-2 c = rw (ne-eqb _ _ (c .before .if1 .left), eq-eqb _ _ (c .if2 .taken))
 
 returns-3 : tie.Need-returns-3
 returns-3 c =
-    let w = c .before .before .before .before .args .self .0 in
-    int w _ (c .before .before .before .if1 .left) (c .before .before .if2 .left) (c .before .if3 .taken) (low48 (w % 2 ^ 48) (c .if4 .taken))
+    let at-if3 = c .before in let at-if2 = at-if3 .before in let at-if1 = at-if2 .before in let start = at-if1 .before in
+    let w = start .args .self .0 in
+    int w _ (at-if1 .if1 .left) (at-if2 .if2 .left) (at-if3 .if3 .taken) (low48 (w % 2 ^ 48) (c .if4 .taken))
 
 returns-4 : tie.Need-returns-4
 returns-4 c =
-    let w = c .before .before .before .before .args .self .0 in
-    int w _ (c .before .before .before .if1 .left) (c .before .before .if2 .left) (c .before .if3 .taken) (high48 (w % 2 ^ 48) (c .if4 .left) (omega arith))
+    let at-if3 = c .before in let at-if2 = at-if3 .before in let at-if1 = at-if2 .before in let start = at-if1 .before in
+    let w = start .args .self .0 in
+    int w _ (at-if1 .if1 .left) (at-if2 .if2 .left) (at-if3 .if3 .taken) (high48 (w % 2 ^ 48) (c .if4 .left) (omega arith))
 
 returns-5 : tie.Need-returns-5
 unfolding pick
