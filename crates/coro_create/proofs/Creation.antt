@@ -2,7 +2,7 @@
 use mathlib.Core.Path.{_≡_, refl, sym, ap, ap₂, _∙_, subst, subst₂}
 use mathlib.Core.Bool.{Bool, true, false, not, _||_}
 use mathlib.Core.List.{List, [], _∷_}
-use Prim.Native.Nat.{ℕ, _+_, _-_, _*_, _%_, _^_, _≤_, _<_}
+use Prim.Native.Nat.{ℕ, _+_, _*_, _%_, _^_, _≤_, _<_}
 use native.Mathlib.Omega.{arith}
 use native.Mathlib.Nat.{mul-assoc}
 use lib.ListN.{length, getD, set, take}
@@ -53,13 +53,14 @@ use Rattle.memory.specs.declared.machine.Sizes.{Sizes}
 use Rattle.memory.proofs.Rows.{nobody}
 use Rattle.memory.proofs.Tables.{slots-are, rows-at, length-tabled}
 use Rattle.memory.proofs.Does.{does}
-use Rattle.coro_create.specs.Numbers.{heapOf, allocated, sequenced}
+use Rattle.machine.specs.Numbers.{heapOf, allocated}
+use Rattle.coro_create.specs.Numbers.{sequenced}
 use Rattle.coro_create.specs.Row.{heldIn}
 use Rattle.coro_create.specs.Create.{bytesOf, spotOf, newObject, copiedOf, WriteFits, Writes}
 use Rattle.coro_create.specs.declared.create.Spot.{Spot}
 use Rattle.coro_create.proofs.Held.{free-same}
-use Rattle.coro_create.proofs.Pushed.{alloc-done, alloc-lacks}
-use Rattle.coro_create.proofs.Allocation.{fits-same, full-same, alloc-refused, alloc-made}
+use Rattle.machine.proofs.Pushed.{alloc-done, alloc-lacks}
+use Rattle.machine.proofs.Allocation.{fits-same, full-same, alloc-refused, alloc-made}
 use Rattle.coro_create.proofs.Setting.{known, one-of, regs-is, numbers}
 use Rattle.coro_create.proofs.NewRow.{regs-new, frames-new, regs-written}
 

@@ -1,7 +1,5 @@
 pub mod Held
 pub mod Parts
-pub mod Pushed
-pub mod Allocation
 pub mod Setting
 pub mod NewRow
 pub mod Creation

@@ -1,4 +1,4 @@
--- The rows after a slot is added: of a new coroutine, or of an object that owns no row. Assumes nothing.
+-- The rows after a new coroutine was added. Assumes nothing.
 use mathlib.Core.Logic.{_≢_}
 use mathlib.Core.Path.{_≡_, refl, sym, ap, _∙_}
 use mathlib.Core.Bool.{Bool, true, false}
@@ -13,26 +13,14 @@ use Rattle.lists.specs.Pick.{pick}
 use Rattle.lists.specs.Parts.{pad}
 use Rattle.heap.specs.Table.{Slot, pushObject}
 use Rattle.model.specs.Lists.{among}
-use Rattle.model.specs.Object.{Object, Absent, asCoro}
+use Rattle.model.specs.Object.{Object, asCoro}
 use Rattle.model.specs.Rows.{heldRows}
 use Rattle.model.specs.Coro.{newRegs, newCore, newRest}
-use Rattle.memory.specs.Rows.{owns, savedBy, rowAt}
-use Rattle.memory.specs.Memory.{tabled, regsRows, framesRows}
+use Rattle.memory.specs.Rows.{savedBy, rowAt}
+use Rattle.memory.specs.Memory.{regsRows, framesRows}
 use Rattle.memory.proofs.Rows.{row-new, row-same}
 use Rattle.memory.proofs.Tables.{rows-set}
 use Rattle.coro_create.specs.Create.{copiedOf}
-
--- ---- an object that owns no row
-
-module _ (xs : List (Slot Object)) (o : Object) (plain : asCoro o ≡ Absent) where
-  same : (j : ℕ) → rowAt j (pushObject xs o) ≡ rowAt j xs
-  same j = row-same xs j o (ap (owns j) plain)
-
-  pub regs-same : (n : ℕ) → regsRows n (pushObject xs o) ≡ regsRows n xs
-  regs-same n = λ i. tabled (λ j. same j i .regs) 0 n
-
-  pub frames-same : (n : ℕ) → framesRows n (pushObject xs o) ≡ framesRows n xs
-  frames-same n = λ i. tabled (λ j. same j i .frames) 0 n
 
 -- ---- a new coroutine
 

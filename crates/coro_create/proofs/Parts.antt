@@ -15,7 +15,7 @@ use Rattle.heap.specs.declared.object.Object as H
 use Rattle.model.specs.Rows.{lowestFree}
 use Rattle.memory.specs.declared.machine.Machine.{Machine}
 use Rattle.memory.specs.declared.machine.Sizes.{Sizes}
-use Rattle.coro_create.specs.Numbers.{heapOf}
+use Rattle.machine.specs.Numbers.{heapOf}
 use Rattle.coro_create.specs.Row.{heldIn}
 use Rattle.coro_create.specs.Create.{bytesOf, rowOr, spotOf, copiedOf}
 use Rattle.coro_create.specs.declared.create.Spot.{Spot}

@@ -25,7 +25,7 @@ use Rattle.memory.specs.Memory.{Lent, Beside, onSlots, onSaved, onSetup}
 use Rattle.memory.specs.Contract.{Ok, only}
 use Rattle.memory.specs.declared.machine.Machine.{Machine}
 use Rattle.memory.specs.declared.machine.Sizes.{Sizes}
-use Rattle.coro_create.specs.Numbers.{heapOf}
+use Rattle.machine.specs.Numbers.{heapOf}
 use Rattle.coro_create.specs.Row.{heldIn}
 use Rattle.coro_create.specs.declared.create.Spot.{Spot}
 use Rattle.memory.specs.Lendings.{making, plain}

@@ -1,13 +1,13 @@
 // coro.rs: auto_key.
 ghost use Rattle.heap.specs.Heap.{Room};
 ghost use Rattle.model.specs.Exec.{autoKey};
-ghost use Rattle.coro_create.specs.Numbers.{heapOf};
+ghost use Rattle.machine.specs.Numbers.{heapOf};
 ghost use Rattle.memory.specs.Lendings.{table};
 ghost use Rattle.memory.specs.Contract.{Met, ifSound, only};
-use crate::numbers::allocated;
-use crate::numbers::heap_of;
 use heap::fault::Fault;
 use heap::int::Exact;
+use machine::numbers::allocated;
+use machine::numbers::heap_of;
 use memory::machine::Machine;
 use memory::machine::Sizes;
 use model::coro::AutoKey;

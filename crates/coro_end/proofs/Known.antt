@@ -16,7 +16,7 @@ use Rattle.model.specs.State.{isFinished}
 use Rattle.model.specs.Program.{Setup, isFunction}
 use Rattle.model.specs.Object.{Core, Rest, Object, Is, asCoro}
 use Rattle.model.specs.World.{World}
-use Rattle.model.specs.Frames.{isCoro, topPc, popTo, below}
+use Rattle.model.specs.Frames.{isCoro, topPc, popTo}
 use Rattle.model.specs.Coro.{inState, ended, finishCoroutine}
 use Rattle.model.specs.Sound.{rowWords, savedSizes, frameNames, sound}
 use Rattle.model.specs.declared.machine.Active.{Active}

@@ -3,5 +3,8 @@ pub mod Delivery
 pub mod Rowless
 pub mod Ending
 pub mod Registers
-pub mod Homecoming
 pub mod Known
+pub mod Innermost
+pub mod Homecoming
+pub mod Signal
+pub mod Failing

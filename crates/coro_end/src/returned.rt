@@ -4,9 +4,8 @@ ghost use Rattle.coro_end.specs.Returned.{ReturnFits};
 ghost use Rattle.memory.specs.Lendings.{six};
 ghost use Rattle.memory.specs.Contract.{Leaves, ifRowed, with};
 use crate::deliver::deliver_return;
-use crate::finish::finish_coroutine;
+use crate::last::end_last;
 use heap::object::CoroState;
-use heap::value::Word;
 use machine::fuel::FuelDid;
 use memory::machine::Machine;
 use memory::machine::Sizes;
@@ -31,20 +30,9 @@ pub fn coro_returned(
     if m.active == 0 {
         return FuelDid { machine: m, fuel };
     }
-    let top = tables::active::active_at(chain, m.active - 1);
-    let d = top.driver;
-    tables::chain::pop_active(chain, m.active);
-    let mut n = m;
-    n.active = m.active - 1;
-    finish_coroutine(
-        slots,
-        saved_stack,
-        saved_frames,
-        n,
-        l,
-        Word(top.coro),
-        CoroState::Returned,
-        value,
-    );
+    let last = tables::active::active_at(chain, m.active - 1);
+    let d = last.driver;
+    let s = CoroState::Returned;
+    let n = end_last(chain, slots, saved_stack, saved_frames, m, l, s, value);
     deliver_return(stack, frames, slots, n, fuel, d, value)
 }

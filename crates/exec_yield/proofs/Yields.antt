@@ -5,10 +5,9 @@ use mathlib.Core.List.{List, [], _∷_}
 use Prim.Native.Nat.{ℕ, zero, suc, _-_, _^_, _≤_, _<_}
 use native.Mathlib.Omega.{arith}
 use lib.ListN.{length}
-use Rattle.heap.specs.Heap as HH
 use Rattle.heap.specs.declared.fault.Fault.{Fault}
 use Rattle.heap.specs.declared.object.CoroState.{CoroState}
-use Rattle.model.specs.World.{World, After, after, andThen}
+use Rattle.model.specs.World.{World, After, andThen}
 use Rattle.model.specs.Frames.{reg}
 use Rattle.heap.specs.Coding.{ofBits}
 use Rattle.heap.specs.Int.{inlineOf, nextKey}
@@ -25,7 +24,7 @@ use Rattle.model.specs.declared.exec.Step.{Step}
 use Rattle.model.specs.declared.machine.Active.{Active}
 use Rattle.model.specs.declared.machine.Fuel.{Fuel}
 use Rattle.invariant.proofs.Tests.{no-false, picked}
-use Rattle.invariant.proofs.Sound.{sound→, →sound, facts}
+use Rattle.invariant.proofs.Sound.{sound→, →sound}
 use Rattle.invariant.proofs.Exec.{auto-good}
 use Rattle.tables.specs.Layout.{activeIn}
 use Rattle.tables.specs.Parts.{Chain}
@@ -36,7 +35,6 @@ use Rattle.memory.specs.Contract.{Ok, Does, only}
 use Rattle.memory.specs.declared.machine.Machine.{Machine}
 use Rattle.memory.specs.declared.machine.Sizes.{Sizes}
 use Rattle.memory.proofs.Does.{does}
-use Rattle.coro_create.specs.Numbers.{heapOf}
 use Rattle.exec_yield.specs.Suspend.{RunFits}
 use Rattle.exec_yield.specs.Yielding.{keysFor}
 
@@ -142,13 +140,6 @@ key-chain largest w = go (nextKey largest)
 
 pub key-sounds : (largest : ℕ) (w : World) → sound w ≡ true → sound (autoKey largest w .world) ≡ true
 key-sounds largest w snd = →sound {ex = false} _ (auto-good largest w (sound→ w snd (λ z. no-false z)) .sound)
-
-pub key-room : {l : Sizes} {w : World} {M : Lent} {m : Machine} {f : Fuel} → Rep l w M m f → sound w ≡ true → Room (w .setup) M → HH.Room (M .slots) (heapOf m l)
-key-room {l} {w} rep snd room =
-    let k = facts (w .setup) (sound→ {ex = false} w snd (λ z. no-false z) .setup) .slots in
-    let q = room .slots in
-    let z = rep .sizes .slots in
-    record { words = omega arith; slots = omega arith }
 
 module _ (l : Sizes) (m n : Machine) (stack frames chain slots savedStack savedFrames slots′ : List ℕ) (largest pc : ℕ) where
   pub key-run : (o : Ok l (lent stack frames chain slots savedStack savedFrames) (only m)) → length slots′ ≡ length slots → 1 ≤ m .active → pc < 2 ^ 32

@@ -1,7 +1,7 @@
 -- Frames pushed and gone, on the world. Assumes nothing.
 use mathlib.Core.Path.{_≡_, refl, sym, ap, ap₂, _∙_, subst}
 use mathlib.Core.Bool.{Bool, true, false, _||_}
-use mathlib.Core.List.{List, _∷_, _++_}
+use mathlib.Core.List.{List, [], _∷_, _++_}
 use Prim.Native.Nat.{ℕ, _+_, _-_, _*_, _^_, _≤_, _<_}
 use native.Mathlib.Omega.{arith}
 use lib.ListN.{length, getD, take, drop, replicate}
@@ -11,7 +11,7 @@ use Rattle.lists.specs.Pick.{pick}
 use Rattle.heap.specs.declared.fault.Fault.{Fault}
 use Rattle.model.specs.Program.{Setup, func}
 use Rattle.model.specs.World.{World, after, withStack, withFrames}
-use Rattle.model.specs.Frames.{frame, popTo}
+use Rattle.model.specs.Frames.{frame, stepPc, onTop, nextPc}
 use Rattle.model.specs.Machine.{pushFrame}
 use Rattle.model.specs.Sound.{sound}
 use Rattle.model.specs.declared.coro.Made.{Made}
@@ -33,7 +33,7 @@ use Rattle.memory.specs.Numbers.{withHeight, withDepth}
 use Rattle.memory.specs.declared.machine.Machine.{Machine}
 use Rattle.memory.specs.declared.machine.Sizes.{Sizes}
 use Rattle.memory.proofs.Turn.{turn-stack, turn-frames}
-use Rattle.machine.specs.Frame.{overflowing, pushed}
+use Rattle.machine.specs.Frame.{overflowing, pushed, popOn, popTop}
 
 pub chosen : {A : Type 0} (x y : A) (b : Bool) → b ≡ true → pick b x y ≡ x
 unfolding pick
@@ -64,16 +64,36 @@ top-base f fs ws n p = sym (chunk-get 6 (n - 1) 2 ws (omega arith)) ∙ ap (λ g
 
 module _ (l : Sizes) (w : World) (M : Lent) (m : Machine) (fuel : Fuel) (rep : Rep l w M m fuel) where
   -- the top frame gone
-  pub pop-rep : (f : Frame) (fs : List Frame) → w .frames ≡ f ∷ fs → (stack′ frames′ : List ℕ) (base : ℕ) → base ≡ f .base
-      → StackDo (take base) (M .stack) stack′ (m .height) base
+  pub pop-rep : 1 ≤ m .depth → (stack′ frames′ : List ℕ) (base : ℕ) → base ≡ getD (M .frames) ((m .depth - 1) * 6 + 2) 0 → StackDo (take base) (M .stack) stack′ (m .height) base
       → FramesDo (drop 1) (M .frames) frames′ (m .depth) (m .depth - 1)
-      → Rep l (popTo f fs w) (onStack stack′ (onFrames frames′ M)) (withHeight base (withDepth (m .depth - 1) m)) fuel
-  pop-rep f fs e stack′ frames′ base eb cut gone =
-      let u : World = withStack (take base (w .stack)) w in
-      let a = turn-stack l w M m fuel rep (take base (w .stack)) stack′ base (cut (w .stack) (rep .stack)) in
-      let b = turn-frames l u (onStack stack′ M) (withHeight base m) fuel a (drop 1 (w .frames)) frames′ (m .depth - 1) (gone (w .frames) (rep .frames)) in
-      subst (λ k. Rep l (withFrames fs (withStack (take k (w .stack)) w)) (onStack stack′ (onFrames frames′ M)) (withHeight base (withDepth (m .depth - 1) m)) fuel) eb
-      (subst (λ (z : List Frame). Rep l (withFrames (drop 1 z) u) (onStack stack′ (onFrames frames′ M)) (withHeight base (withDepth (m .depth - 1) m)) fuel) e b)
+      → Rep l (popTop w) (onStack stack′ (onFrames frames′ M)) (withHeight base (withDepth (m .depth - 1) m)) fuel
+  pop-rep some stack′ frames′ base eb cut gone = go (w .frames) (rep .frames) b
+    where
+      M′ : Lent
+      M′ = onStack stack′ (onFrames frames′ M)
+
+      m′ : Machine
+      m′ = withHeight base (withDepth (m .depth - 1) m)
+
+      u : World
+      u = withStack (take base (w .stack)) w
+
+      b : Rep l (withFrames (drop 1 (w .frames)) u) M′ m′ fuel
+      b =
+          turn-frames l u (onStack stack′ M) (withHeight base m) fuel (turn-stack l w M m fuel rep (take base (w .stack)) stack′ base (cut (w .stack) (rep .stack)))
+          (drop 1 (w .frames)) frames′ (m .depth - 1) (gone (w .frames) (rep .frames))
+
+      go : (fs : List Frame) → Frames fs (M .frames) (m .depth) → Rep l (withFrames (drop 1 fs) u) M′ m′ fuel → Rep l (popOn fs w) M′ m′ fuel
+      go [] p q = let c = p .count in absurd (omega arith)
+      go (f ∷ fs) p q = subst (λ k. Rep l (withFrames fs (withStack (take k (w .stack)) w)) M′ m′ fuel) (eb ∙ top-base f fs (M .frames) (m .depth) p) q
+
+  -- the pc of a top frame steps, or there is none
+  pub none-steps : m .depth ≡ 0 → Rep l (nextPc w) M m fuel
+  none-steps e = subst (λ (fs : List Frame). Rep l (withFrames fs w) M m fuel) (go (w .frames) (sym (rep .frames .count) ∙ e)) rep
+    where
+      go : (fs : List Frame) → length fs ≡ 0 → fs ≡ onTop stepPc fs
+      go [] p = refl
+      go (f ∷ fs) p = absurd (omega arith)
 
   module _ (snd : sound w ≡ true) (f : ℕ) (function : f < getD (M .setup) 13 0) where
     abbrev s : Setup

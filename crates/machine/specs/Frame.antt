@@ -1,7 +1,6 @@
 -- machine.rs: frames and registers on the lent words.
-use mathlib.Core.Path.{_≡_}
 use mathlib.Core.Bool.{Bool, _||_}
-use mathlib.Core.List.{List, _∷_}
+use mathlib.Core.List.{List, [], _∷_}
 use Prim.Native.Nat.{ℕ, _+_, _-_, _*_, _^_, _≤_, _<_}
 use lib.ListN.{length, getD}
 use lib.Dec.{ltb, leb}
@@ -11,7 +10,6 @@ use Rattle.model.specs.Machine.{pushFrame}
 use Rattle.model.specs.declared.coro.Made.{Made}
 use Rattle.model.specs.declared.machine.Cont.{Cont}
 use Rattle.model.specs.declared.machine.Frame.{Frame}
-use Rattle.memory.specs.Memory.{Lent, Beside, onStack, onFrames, onSetup, Rep}
 use Rattle.memory.specs.Contract.{Ok, only}
 use Rattle.memory.specs.Numbers.{withHeight, withDepth}
 use Rattle.memory.specs.declared.machine.Machine.{Machine}
@@ -22,6 +20,11 @@ use Rattle.memory.specs.Lendings.{topSetup, plain}
 pub record DepthFits (frames : List ℕ) (depth : ℕ) : Type 0 where
   pub some : 1 ≤ depth
   pub within : depth * 6 ≤ length frames
+
+-- a top frame's pc has 32 bits
+pub record StepFits (frames : List ℕ) (depth : ℕ) : Type 0 where
+  pub within : depth * 6 ≤ length frames
+  pub narrow : 1 ≤ depth → getD frames ((depth - 1) * 6 + 1) 0 < 2 ^ 32
 
 -- ---- push_frame
 
@@ -60,7 +63,10 @@ pub record PopFits (stack frames : List ℕ) (m : Machine) : Type 0 where
   pub base : getD frames ((m .depth - 1) * 6 + 2) 0 ≤ m .height
   pub height : m .height ≤ length stack
 
--- for every world that the words stand for, its top frame is gone
-abbrev pub Pops : (Beside → Lent) → Machine → (Beside → Lent) → Machine → Type 0
-Pops M m M′ m′ =
-    (l : Sizes) (w : World) (b : Beside) (f : Frame) (fs : List Frame) → w .frames ≡ f ∷ fs → Rep l w (M b) m (b .fuel) → Rep l (popTo f fs w) (M′ b) m′ (b .fuel)
+-- the top frame is gone, if there was one
+abbrev pub popOn : List Frame → World → World
+popOn [] w = w
+popOn (f ∷ fs) w = popTo f fs w
+
+abbrev pub popTop : World → World
+popTop w = popOn (w .frames) w

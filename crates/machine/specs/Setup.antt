@@ -1,14 +1,14 @@
 -- machine.rs: Machine::new, on the lent words.
 use mathlib.Core.Path.{_≡_}
-use mathlib.Core.Bool.{true, false}
+use mathlib.Core.Bool.{false}
 use mathlib.Core.List.{List}
 use Prim.Native.Nat.{ℕ, _*_, _≤_}
 use lib.ListN.{length, getD, replicate}
 use Rattle.heap.specs.Table.{Slot, slot}
 use Rattle.heap.specs.declared.object.Object as H
 use Rattle.heap.specs.declared.object.Object.the-variants as O
-use Rattle.model.specs.Program.{Setup, setupOk}
-use Rattle.model.specs.World.{World, fresh}
+use Rattle.model.specs.Program.{Setup}
+use Rattle.model.specs.World.{fresh}
 use Rattle.model.specs.declared.machine.Outcome.{Outcome}
 use Rattle.tables.specs.Sizes.{setupWords}
 use Rattle.memory.specs.Told.{told}

@@ -1,12 +1,12 @@
 // machine.rs: registers and frames.
 ghost use mathlib.Core.Path.{_≡_};
 ghost use Prim.Native.Nat.{_+_, _^_, _≤_, _<_};
-ghost use Rattle.model.specs.Frames.{storePc, putReg};
+ghost use Rattle.model.specs.Frames.{storePc, nextPc, putReg};
 ghost use Rattle.model.specs.Machine.{pushFrame};
 ghost use Rattle.tables.specs.Does.{RegFits};
-ghost use Rattle.machine.specs.Frame.{DepthFits, PushFits, overflowing, pushed, pushAt, CallFits, PopFits, Pops};
+ghost use Rattle.machine.specs.Frame.{DepthFits, StepFits, PushFits, overflowing, pushed, pushAt, CallFits, PopFits, popTop};
 ghost use Rattle.memory.specs.Lendings.{frame, top, topSetup};
-ghost use Rattle.memory.specs.Contract.{Leaves, Met, any, atEntry, atExit, every, ifSound, only};
+ghost use Rattle.memory.specs.Contract.{Leaves, Met, any, every, ifSound, only};
 use heap::fault::Fault;
 use memory::machine::Machine;
 use memory::machine::Sizes;
@@ -25,6 +25,17 @@ pub fn store_pc(frames: &mut [u64], m: Machine, pc: u64)
     ensures { λ _. ⌜ every (λ l. Leaves any l (storePc pc) (frame frames) (only m) (only m)) ⌝ }
 {
     tables::frames::store_pc(frames, m.depth, pc);
+}
+
+// The pc of the top frame, if there is one, steps.
+pub fn next_pc(frames: &mut [u64], m: Machine)
+    requires { ⌜ StepFits (now frames) (m .depth) ⌝ }
+    ensures { λ _. ⌜ every (λ l. Leaves any l nextPc (frame frames) (only m) (only m)) ⌝ }
+{
+    if m.depth == 0 {
+        return;
+    }
+    tables::frames::step_pc(frames, m.depth);
 }
 
 // A word into a register of the top frame.
@@ -117,7 +128,7 @@ pub fn push_at(
 // The top frame goes, with its registers.
 pub fn pop(stack: &mut [u64], frames: &mut [u64], m: Machine) -> Machine
     requires { ⌜ PopFits (now stack) (now frames) m ⌝ }
-    ensures { λ r. ⌜ Pops (top stack frames atEntry) m (top stack frames atExit) r ⌝ }
+    ensures { λ r. ⌜ every (λ l. Leaves any l popTop (top stack frames) (only m) (only r)) ⌝ }
 {
     let base = frames[(m.depth - 1) * 6 + 2] as usize;
     tables::stack::cut(stack, m.height, base);

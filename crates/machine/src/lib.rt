@@ -2,6 +2,8 @@
 pub mod coro;
 pub mod frame;
 pub mod fuel;
+pub mod numbers;
+pub mod object;
 pub mod send;
 pub mod setup;
 pub mod step;

@@ -1,7 +1,7 @@
 // machine.rs: Machine::new, of a set-up in words. That they are a set-up's has been tested.
 ghost use mathlib.Core.Path.{_≡_};
-ghost use Prim.Native.Nat.{_+_, _-_, _*_, _≤_, _<_};
-ghost use lib.ListN.{length, getD};
+ghost use Prim.Native.Nat.{_*_, _≤_, _<_};
+ghost use lib.ListN.{length};
 ghost use Rattle.lists.specs.Parts.{pad};
 ghost use Rattle.memory.specs.Memory.{Slots};
 ghost use Rattle.machine.specs.Setup.{functionSlots, Cleared, start, words, SetUpFits, SetsUp};

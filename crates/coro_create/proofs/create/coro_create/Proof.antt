@@ -5,7 +5,7 @@ use native.Mathlib.Omega.{arith}
 use lib.ListN.{length}
 use Rattle.heap.specs.Heap.{slotsOf}
 use Rattle.memory.specs.Memory.{Lent, Beside}
-use Rattle.coro_create.specs.Numbers.{heapOf}
+use Rattle.machine.specs.Numbers.{heapOf}
 use Rattle.memory.specs.Lendings.{making, plain}
 use Rattle.coro_create.specs.Create.{spotOf}
 use Rattle.coro_create.specs.declared.create.Spot.{Spot}

@@ -1,6 +1,6 @@
 -- `sequenced` meets its contract: the library's sum wraps. Assumes nothing.
 use mathlib.Core.Path.{ap}
-use Rattle.coro_create.specs.Numbers.{numbered}
+use Rattle.memory.specs.Numbers.{withNumber}
 use borrow.Author.Needs.{needs}
 use Rattle.coro_create.proofs.numbers.sequenced.Statement.{statement}
 use Rattle.coro_create.proofs.numbers.sequenced.Tie as tie
@@ -9,7 +9,7 @@ wrapping-add-u64-requires : tie.Need-wrapping-add-u64-requires
 wrapping-add-u64-requires c κs = search needs
 
 returns : tie.Need-returns
-returns c = let m = c .before .args .m in ap (numbered m (m .count) (m .used)) (c .wrapping-add-u64 .ensures)
+returns c = ap (λ n. withNumber n (c .before .args .m)) (c .wrapping-add-u64 .ensures)
 
 pub sequenced-spec : {M : Type 1} → statement M
 sequenced-spec = tie.close (tie.spec wrapping-add-u64-requires returns)

@@ -4,7 +4,8 @@ use native.Mathlib.Omega.{arith}
 use Rattle.model.specs.Exec.{autoKey}
 use Rattle.memory.specs.Memory.{Lent, Beside}
 use Rattle.memory.specs.Lendings.{lent}
-use Rattle.exec_yield.proofs.Yields.{some-active, idle, runs, innermost, yield-idle, yield-runs, key-sounds, key-room, key-run}
+use Rattle.machine.proofs.Allocation.{heap-room}
+use Rattle.exec_yield.proofs.Yields.{some-active, idle, runs, innermost, yield-idle, yield-runs, key-sounds, key-run}
 use borrow.Author.Needs.{needs}
 use Rattle.exec_yield.proofs.yielding.coro_yield.Statement.{statement}
 use Rattle.exec_yield.proofs.yielding.coro_yield.Tie as tie
@@ -43,7 +44,7 @@ largest-in-requires c κs =
 auto-key-requires : tie.Need-auto-key-requires
 auto-key-requires c κs =
     let start = start-of (c .before .before .before .before .before .before .before .before .before) in
-    key-room (start .pre .ok .rep) (start .pre .ok .sound) (start .pre .ok .room)
+    heap-room (start .pre .ok .rep) (start .pre .ok .sound) (start .pre .ok .room)
 
 yield-key-requires : tie.Need-yield-key-requires
 yield-key-requires c κs =

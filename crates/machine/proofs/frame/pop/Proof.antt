@@ -1,8 +1,7 @@
 -- `pop` meets its contract. Assumes nothing.
-use mathlib.Core.Path.{subst}
-use Rattle.tables.specs.Parts.{Frames}
-use Rattle.memory.specs.Memory.{onStack, onFrames}
-use Rattle.machine.proofs.Frames.{pop-rep, top-base}
+use mathlib.Core.Path.{refl}
+use Rattle.memory.specs.Lendings.{top, plain}
+use Rattle.machine.proofs.Frames.{pop-rep}
 use borrow.Author.Needs.{needs}
 use Rattle.machine.proofs.frame.pop.Statement.{statement}
 use Rattle.machine.proofs.frame.pop.Tie as tie
@@ -39,11 +38,11 @@ same-length-2 c = search needs
 
 returns : tie.Need-returns
 returns c =
-    let at-pop-frame = c .before .before .before in let at-cut = at-pop-frame .before .before .before .before in
-    let start = at-cut .before .before .before .before .before .before in
-    λ l w b f fs e rep. pop-rep l w (onStack (start .args .stack .now) (onFrames (start .args .frames .now) (b .words)))
-    (start .args .m) (b .fuel) rep f fs e _ _ _ (top-base f fs (start .args .frames .now) (start .args .m .depth)
-    (subst (λ z. Frames z (start .args .frames .now) (start .args .m .depth)) e (rep .frames))) (at-cut .cut .ensures) (at-pop-frame .pop-frame .ensures)
+    let gone = c .before .before .before in let short = gone .before .before .before .before in
+    let start = short .before .before .before .before .before .before in
+    let a = start .args in
+    λ l w b rep.
+    pop-rep l w (top (a .stack .now) (a .frames .now) plain b) (a .m) (b .fuel) rep (start .pre .depth .some) (short .cut .last .0) (gone .pop-frame .last .0) _ refl (short .cut .ensures) (gone .pop-frame .ensures)
 
 pub pop-spec : {M : Type 1} → statement M
 pop-spec =

@@ -12,29 +12,50 @@ use Rattle.heap.specs.Word.{reference}
 use Rattle.heap.specs.Fault.{isNone}
 use Rattle.heap.specs.Charge as Charge
 use Rattle.heap.specs.Charge.{satAdd}
-use Rattle.heap.specs.Table.{slot, pushObject, nextWord}
-use Rattle.heap.specs.Heap.{putSlot}
+use Rattle.heap.specs.Table.{Slot, slot, pushObject, nextWord}
+use Rattle.heap.specs.Heap as Heaped
+use Rattle.heap.specs.Heap.{out, allocOf, putSlot}
 use Rattle.heap.specs.declared.fault.Fault.{Fault}
 use Rattle.heap.specs.declared.heap.Heap.{Heap}
+use Rattle.heap.specs.declared.heap.Made as HM
+use Rattle.heap.specs.declared.heap.Made.the-variants as H
 use Rattle.heap.specs.declared.value.Word.{Word}
-use Rattle.model.specs.Object.{Object}
+use Rattle.model.specs.Object.{Object, Absent, asCoro}
 use Rattle.model.specs.World.{World, After, after, withSlots, withUsed}
 use Rattle.model.specs.Heap.{fits, slotsFull, refuse, alloc}
-use Rattle.model.specs.Sound.{rowWords}
+use Rattle.model.specs.Sound.{rowWords, sound}
+use Rattle.invariant.proofs.Tests.{no-false}
+use Rattle.invariant.proofs.Sound.{sound→, facts}
 use Rattle.model.specs.declared.coro.Made.{Made}
 use Rattle.model.specs.declared.machine.Fuel.{Fuel}
 use Rattle.tables.specs.Parts.{SavedStack, SavedFrames}
 use Rattle.tables.specs.Sizes.{framesSize}
 use Rattle.memory.specs.Slots.{toObject, toSlot, toSlots}
-use Rattle.memory.specs.Memory.{Lent, onSlots, onSaved, Slots, Rep, regsRows, framesRows}
+use Rattle.memory.specs.Rows.{owns, rowAt}
+use Rattle.memory.specs.Memory.{Lent, onSlots, onSaved, Slots, Rep, Room, tabled, regsRows, framesRows}
+use Rattle.memory.specs.Numbers.{withCount, withCharged}
 use Rattle.memory.specs.Contract.{Does}
 use Rattle.memory.specs.declared.machine.Machine.{Machine}
 use Rattle.memory.specs.declared.machine.Sizes.{Sizes}
 use Rattle.memory.proofs.Slots.{push-same}
 use Rattle.memory.proofs.Does.{does}
-use Rattle.coro_create.specs.Numbers.{heapOf, allocated}
+use Rattle.memory.proofs.Rows.{row-same}
 use Rattle.memory.proofs.Tables.{slots-push}
-use Rattle.coro_create.proofs.Pushed.{Done, Lacking}
+use Rattle.memory.proofs.Turn.{turn-slots, turn-used}
+use Rattle.machine.specs.Numbers.{heapOf, allocated}
+use Rattle.machine.proofs.Pushed.{Done, Lacking, alloc-done, alloc-lacks}
+
+-- ---- the rows after an object that owns none was added
+
+module _ (xs : List (Slot Object)) (o : Object) (plain : asCoro o ≡ Absent) where
+  same : (j : ℕ) → rowAt j (pushObject xs o) ≡ rowAt j xs
+  same j = row-same xs j o (ap (owns j) plain)
+
+  regs-same : (n : ℕ) → regsRows n (pushObject xs o) ≡ regsRows n xs
+  regs-same n = λ i. tabled (λ j. same j i .regs) 0 n
+
+  frames-same : (n : ℕ) → framesRows n (pushObject xs o) ≡ framesRows n xs
+  frames-same n = λ i. tabled (λ j. same j i .frames) 0 n
 
 -- ---- tests
 
@@ -104,20 +125,30 @@ module _ (l : Sizes) (M : Lent) (m : Machine) (f : Fuel) (w : World) (rep : Rep 
       alloc-made on up =
           does l (onSlots ws′ (onSaved savedStack′ savedFrames′ M)) (allocated m h′) f (alloc bytes o w) pushed (Made.Word (v .0))
           (model ∙ passes a b w _ (k .fit) (k .left) ∙ ap (λ n. after pushed (Made.Word n)) (sym (k .word ∙ ap (λ n. reference n 0) count-is)))
-          (record {
-            sizes = rep .sizes;
-            setup = rep .setup;
-            stack = rep .stack;
-            frames = rep .frames;
-            chain = rep .chain;
-            slots = slots-after;
-            savedStack = on;
-            savedFrames = up;
-            ready = rep .ready;
-            finalize = rep .finalize;
-            finalizing = rep .finalizing;
-            outcome = rep .outcome;
-            used = k .used ∙ ap (λ n. satAdd n bytes) (rep .used);
-            seq = rep .seq;
-            fuel = rep .fuel;
-          })
+          (subst (λ n. Rep l pushed (onSlots ws′ (onSaved savedStack′ savedFrames′ M)) (withCount (h′ .count) (withCharged n m)) f) (sym (k .used ∙ ap (λ n. satAdd n bytes) (rep .used)))
+          (turn-used l (withSlots (pushObject (w .slots) o) w) (onSlots ws′ (onSaved savedStack′ savedFrames′ M)) (withCount (h′ .count) m) f
+          (turn-slots l w M m f rep (pushObject (w .slots) o) ws′ savedStack′ savedFrames′ (h′ .count) slots-after on up) (satAdd (w .used) bytes)))
+
+    -- an object that owns no row
+    module _ (unowned : asCoro o ≡ Absent) (ws′ : List ℕ) (h : Heap) (r : HM.Made) (told : out r ws′ ≡ allocOf (M .slots) h bytes (toObject o)) (is-heap : h ≡ heapOf m l) where
+      answered : (r₀ : HM.Made) → r ≡ r₀ → out r₀ ws′ ≡ allocOf (M .slots) (heapOf m l) bytes (toObject o)
+      answered r₀ e = ap (λ x. out x ws′) (sym e) ∙ told ∙ ap (λ x. allocOf (M .slots) x bytes (toObject o)) is-heap
+
+      pub plain-refused : (g : Fault) → r ≡ H.Refused g → Does l (alloc bytes o w) (onSlots ws′ M) m f (Made.Refused g)
+      plain-refused g e = alloc-refused ws′ g (alloc-lacks (M .slots) (heapOf m l) bytes (toObject o) ws′ g (answered (H.Refused g) e))
+
+      pub plain-made : l .slots * 20 ≤ length (M .slots) → (v : Word) (h′ : Heap) (m′ : Machine) → r ≡ H.Done v h′ → m′ ≡ allocated m h′ → Does l (alloc bytes o w) (onSlots ws′ M) m′ f (Made.Word (v .0))
+      plain-made room v h′ m′ e em =
+          let s = w .setup in
+          subst (λ z. Does l (alloc bytes o w) (onSlots ws′ M) z f (Made.Word (v .0))) (sym em)
+          (alloc-made ws′ (M .savedStack) (M .savedFrames) h′ v (alloc-done (M .slots) (heapOf m l) bytes (toObject o) ws′ v h′ (answered (H.Done v h′) e)) room
+          (subst (λ z. SavedStack (rowWords s) z (M .savedStack)) (sym (regs-same (w .slots) o unowned (s .limits .rows))) (rep .savedStack))
+          (subst (λ z. SavedFrames (framesSize s) z (M .savedFrames)) (sym (frames-same (w .slots) o unowned (s .limits .rows))) (rep .savedFrames)))
+
+-- a sound world, with room: the heap has room
+pub heap-room : {l : Sizes} {w : World} {M : Lent} {m : Machine} {f : Fuel} → Rep l w M m f → sound w ≡ true → Room (w .setup) M → Heaped.Room (M .slots) (heapOf m l)
+heap-room {l} {w} rep snd room =
+    let k = facts (w .setup) (sound→ {ex = false} w snd (λ z. no-false z) .setup) .slots in
+    let q = room .slots in
+    let z = rep .sizes .slots in
+    record { words = omega arith; slots = omega arith }

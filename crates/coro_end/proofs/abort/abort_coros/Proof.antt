@@ -1,0 +1,49 @@
+-- `abort_coros` meets the definition: the coroutines, then the flags, then the outcome. Assumes nothing.
+use Rattle.memory.specs.Lendings.{plain}
+use Rattle.coro_end.specs.Last.{ending, failActive}
+use Rattle.coro_end.proofs.Failing.{aborted}
+use borrow.Author.Needs.{needs}
+use Rattle.coro_end.proofs.abort.abort_coros.Statement.{statement}
+use Rattle.coro_end.proofs.abort.abort_coros.Tie as tie
+
+fail-all-requires : tie.Need-fail-all-requires
+fail-all-requires c κs = search needs
+
+set-finalizing-requires : tie.Need-set-finalizing-requires
+set-finalizing-requires c κs = search needs
+
+same-length : tie.Need-same-length
+same-length c = search needs
+
+same-length-2 : tie.Need-same-length-2
+same-length-2 c = search needs
+
+same-length-3 : tie.Need-same-length-3
+same-length-3 c = search needs
+
+same-length-4 : tie.Need-same-length-4
+same-length-4 c = search needs
+
+returns : tie.Need-returns
+returns c =
+    let set = c .before .before in let failed = set .before .before .before .before .before .before .before .before .before in
+    let start = failed .before .before .before .before .before .before .before .before .before in
+    let a = start .args in
+    let f = failed .fail-all in
+    let g = set .set-finalizing in
+    λ w b rep rowed.
+    let M = ending (f .last .0) (f .last .1 .0) (f .last .1 .1 .0) (f .last .1 .1 .1 .0) plain b in
+    aborted (a .l) M (g .result .machine) (g .result .fuel) w
+    (g .ensures (a .l) (failActive w) (record { words = M; fuel = b .fuel }) (f .ensures w (record { words = b .words; fuel = a .fuel }) rep rowed))
+
+pub abort-coros-spec : {M : Type 1} → statement M
+abort-coros-spec =
+    tie.close
+    (tie.spec
+    fail-all-requires
+    set-finalizing-requires
+    same-length
+    same-length-2
+    same-length-3
+    same-length-4
+    returns)

@@ -1,0 +1,131 @@
+-- `coro_escaped` meets the definition: no coroutine, a close that succeeds, a failure. Assumes nothing.
+use mathlib.Core.Path.{refl, sym, _∙_}
+use Prim.Native.Nat.{_≤_}
+use native.Mathlib.Omega.{arith}
+use Rattle.heap.specs.declared.object.CoroState.{CoroState}
+use Rattle.memory.specs.Memory.{onStack, onFrames}
+use Rattle.memory.specs.Lendings.{lent}
+use Rattle.coro_end.specs.Last.{endLast}
+use Rattle.coro_end.proofs.Innermost.{last}
+use Rattle.coro_end.proofs.Homecoming.{none-escaped, close-succeeds, fails, end-fits}
+use borrow.Author.Needs.{needs}
+use Rattle.coro_end.proofs.escaped.coro_escaped.Statement.{statement}
+use Rattle.coro_end.proofs.escaped.coro_escaped.Tie as tie
+
+returns : tie.Need-returns
+returns c =
+    let start = c .before .before .before .before .before .before .before .before in
+    let a = start .args in
+    λ w b rep rowed.
+    none-escaped (a .l) (lent (a .stack .now) (a .frames .now) (a .chain .now) (a .slots .now) (a .saved-stack .now) (a .saved-frames .now) b) (a .m) (a .fuel) w (a .value) (a .func) (a .pc) rep (c .if1 .taken)
+
+sub-active-at : tie.Need-sub-active-at
+sub-active-at c = search needs
+
+active-at-requires : tie.Need-active-at-requires
+active-at-requires c κs = search needs
+
+closed-by-requires : tie.Need-closed-by-requires
+closed-by-requires c κs =
+    let start = c .before .before .before .before .before .before .before .before .before .before .before .before in
+    start .pre .held .rep .slots .within
+
+coro-returned-requires : tie.Need-coro-returned-requires
+coro-returned-requires c κs = search needs
+
+same-length : tie.Need-same-length
+same-length c = search needs
+
+same-length-2 : tie.Need-same-length-2
+same-length-2 c = search needs
+
+same-length-3 : tie.Need-same-length-3
+same-length-3 c = search needs
+
+same-length-4 : tie.Need-same-length-4
+same-length-4 c = search needs
+
+same-length-5 : tie.Need-same-length-5
+same-length-5 c = search needs
+
+same-length-6 : tie.Need-same-length-6
+same-length-6 c = search needs
+
+returns-2 : tie.Need-returns-2
+returns-2 c =
+    let home = c .before .before .before .before .before .before .before .before .before .before .before .before .before .before in
+    let test = home .before .before .before .before .before .before .before in let asked = test .before in let read = asked .before .before in
+    let some = read .before .before .before in let start = some .before .before .before .before .before .before .before .before in
+    let a = start .args in
+    let x = read .active-at .result in
+    let f = home .coro-returned in
+    let active : 1 ≤ a .m .active = omega (arith, some .if1 .left) in
+    λ w b rep rowed.
+    let M = lent (a .stack .now) (a .frames .now) (a .chain .now) (a .slots .now) (a .saved-stack .now) (a .saved-frames .now) b in
+    let t = last (a .l) M (a .m) (a .fuel) w rep x active (read .active-at .ensures) in
+    let closed = sym (asked .closed-by .ensures (a .l) w (record { words = M; fuel = a .fuel }) rep) ∙ test .if2 .taken in
+    close-succeeds (a .l) (lent (f .last .0) (f .last .1 .0) (f .last .1 .1 .0) (f .last .1 .1 .1 .0) (f .last .1 .1 .1 .1 .0) (f .last .1 .1 .1 .1 .1 .0) b) (f .result .machine) (f .result .fuel) w (a .value) (a .func) (a .pc) x t closed (f .ensures w b rep rowed)
+
+end-last-requires : tie.Need-end-last-requires
+end-last-requires c κs =
+    let start = c .before .before .before .before .before .before .before .before .before .before .before .before .before .before .before .before .before .before in
+    let a = start .args in
+    end-fits (a .l) (a .m) (a .stack .now) (a .frames .now) (a .chain .now) (a .slots .now) (a .saved-stack .now) (a .saved-frames .now) (start .pre) CoroState.Failed refl
+
+fail-to-requires : tie.Need-fail-to-requires
+fail-to-requires c κs = search needs
+
+same-length-7 : tie.Need-same-length-7
+same-length-7 c = search needs
+
+same-length-8 : tie.Need-same-length-8
+same-length-8 c = search needs
+
+same-length-9 : tie.Need-same-length-9
+same-length-9 c = search needs
+
+same-length-10 : tie.Need-same-length-10
+same-length-10 c = search needs
+
+returns-3 : tie.Need-returns-3
+returns-3 c =
+    let told = c in let done = told .before .before .before .before .before .before .before .before .before in
+    let test = done .before .before .before .before .before in let asked = test .before in let read = asked .before .before in
+    let some = read .before .before .before in let start = some .before .before .before .before .before .before .before .before in
+    let a = start .args in
+    let x = read .active-at .result in
+    let f = done .end-last in
+    let g = told .fail-to in
+    let active : 1 ≤ a .m .active = omega (arith, some .if1 .left) in
+    λ w b rep rowed.
+    let M = lent (a .stack .now) (a .frames .now) (a .chain .now) (a .slots .now) (a .saved-stack .now) (a .saved-frames .now) b in
+    let M′ = lent (a .stack .now) (a .frames .now) (f .last .0) (f .last .1 .0) (f .last .1 .1 .0) (f .last .1 .1 .1 .0) b in
+    let t = last (a .l) M (a .m) (a .fuel) w rep x active (read .active-at .ensures) in
+    let left = sym (asked .closed-by .ensures (a .l) w (record { words = M; fuel = a .fuel }) rep) ∙ test .if2 .left in
+    let e = f .ensures w (record { words = onStack (a .stack .now) (onFrames (a .frames .now) (b .words)); fuel = a .fuel }) rep rowed in
+    fails (a .l) M′ (g .result .machine) (g .result .fuel) w (a .value) (a .func) (a .pc) x t (g .result .answer) left
+    (g .ensures (a .l) (endLast CoroState.Failed (a .value) w) (record { words = M′; fuel = b .fuel }) e)
+
+pub coro-escaped-spec : {M : Type 1} → statement M
+coro-escaped-spec =
+    tie.close
+    (tie.spec
+    returns
+    sub-active-at
+    active-at-requires
+    closed-by-requires
+    coro-returned-requires
+    same-length
+    same-length-2
+    same-length-3
+    same-length-4
+    same-length-5
+    same-length-6
+    returns-2
+    end-last-requires
+    fail-to-requires
+    same-length-7
+    same-length-8
+    same-length-9
+    same-length-10
+    returns-3)

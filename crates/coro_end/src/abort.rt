@@ -1,0 +1,58 @@
+// coro.rs: abort_coros.
+ghost use Rattle.model.specs.Coro.{abortCoros};
+ghost use Rattle.memory.specs.Contract.{Held, Leaves, ifRowed, only, with};
+ghost use Rattle.coro_end.specs.Last.{InRows, ending, failActive};
+use crate::last::end_last;
+use heap::object::CoroState;
+use heap::value::Word;
+use machine::fuel::FuelDid;
+use machine::fuel::set_finalizing;
+use memory::machine::Machine;
+use memory::machine::Sizes;
+use memory::machine::Told;
+use model::machine::Fuel;
+
+// Every active coroutine fails, from the innermost on.
+pub(crate) fn fail_all(
+    chain: &mut [u64],
+    slots: &mut [u64],
+    saved_stack: &mut [u64],
+    saved_frames: &mut [u64],
+    m: Machine,
+    l: Sizes,
+) -> Machine
+    requires { ⌜ Held InRows l (ending chain slots «saved_stack» «saved_frames» now) (only m) ⌝ }
+    ensures { λ r. ⌜ Leaves ifRowed l failActive (ending chain slots «saved_stack» «saved_frames») (only m) (only r) ⌝ }
+{
+    if m.active == 0 {
+        return m;
+    }
+    let s = CoroState::Failed;
+    let n = end_last(chain, slots, saved_stack, saved_frames, m, l, s, Word::NIL);
+    fail_all(chain, slots, saved_stack, saved_frames, n, l)
+}
+
+// No coroutine runs any more, no cleanup, and nothing has happened.
+pub fn abort_coros(
+    chain: &mut [u64],
+    slots: &mut [u64],
+    saved_stack: &mut [u64],
+    saved_frames: &mut [u64],
+    m: Machine,
+    l: Sizes,
+    fuel: Fuel,
+) -> FuelDid
+    requires { ⌜ Held InRows l (ending chain slots «saved_stack» «saved_frames» now) (only m) ⌝ }
+    ensures { λ r. ⌜ Leaves ifRowed l abortCoros (ending chain slots «saved_stack» «saved_frames») (with m fuel) (with (r .machine) (r .fuel)) ⌝ }
+{
+    let failed = fail_all(chain, slots, saved_stack, saved_frames, m, l);
+    let did = set_finalizing(failed, fuel, false);
+    let f = did.fuel;
+    let mut n = did.machine;
+    let none = Told(0, 0, 0, 0);
+    n.outcome = none;
+    FuelDid {
+        machine: n,
+        fuel: f,
+    }
+}

@@ -1,0 +1,35 @@
+// heap.rs: alloc, of an object that has no row.
+ghost use Rattle.heap.specs.Heap.{Room};
+ghost use Rattle.machine.specs.Numbers.{heapOf};
+ghost use Rattle.machine.specs.Object.{Allocates};
+ghost use Rattle.memory.specs.Lendings.{table};
+ghost use Rattle.memory.specs.Contract.{only};
+use crate::numbers::allocated;
+use crate::numbers::heap_of;
+use heap::object::Object;
+use memory::machine::Machine;
+use memory::machine::Sizes;
+use model::coro::Made;
+
+// What an allocation leaves of the numbers, and answers.
+pub struct MadeDid {
+    pub machine: Machine,
+    pub answer: Made,
+}
+
+// heap.rs: alloc.
+pub fn alloc_plain(slots: &mut [u64], m: Machine, l: Sizes, bytes: u64, o: Object) -> MadeDid
+    requires { ⌜ Room (now slots) (heapOf m l) ⌝ }
+    ensures { λ r. ⌜ Allocates l bytes o (table slots) (only m) (only (r .machine)) (r .answer) ⌝ }
+{
+    match heap::heap::alloc(slots, heap_of(m, l), bytes, o) {
+        heap::heap::Made::Refused(g) => MadeDid {
+            machine: m,
+            answer: Made::Refused(g),
+        },
+        heap::heap::Made::Done(v, h) => MadeDid {
+            machine: allocated(m, h),
+            answer: Made::Word(v.0),
+        },
+    }
+}
