@@ -1,3 +1,5 @@
 pub mod Pushing
 pub mod Granting
 pub mod Looking
+pub mod Iterators
+pub mod Stopping

@@ -1,4 +1,4 @@
--- 01: host call and function call, in code.
+-- 01: host call, function call and make iterator: what was pushed or made, as an answer.
 use Rattle.model.specs.declared.coro.Made.{Made}
 use Rattle.model.specs.declared.call.Answer.{Answer}
 
@@ -6,3 +6,8 @@ use Rattle.model.specs.declared.call.Answer.{Answer}
 abbrev pub pushedAs : Made → Answer
 pushedAs (Made.Word base) = Answer.Accepted
 pushedAs (Made.Refused f) = Answer.Refused f
+
+-- the word made is the answer
+abbrev pub madeAs : Made → Answer
+madeAs (Made.Word v) = Answer.Word v
+madeAs (Made.Refused f) = Answer.Refused f

@@ -1,3 +1,4 @@
 pub mod Call
 pub mod Outcome
 pub mod Look
+pub mod Stop

@@ -1,0 +1,52 @@
+-- Make iterator: refused where the word names no coroutine, else an object of its own. Assumes nothing.
+use mathlib.Core.Path.{_≡_, refl, sym, ap, _∙_, subst}
+use mathlib.Core.Bool.{false}
+use Prim.Native.Nat.{ℕ}
+use Rattle.lists.proofs.Tests.{never}
+use Rattle.heap.specs.declared.fault.Fault.{Fault}
+use Rattle.heap.specs.declared.value.Opt.{Opt}
+use Rattle.heap.specs.declared.object.CoroState.{CoroState}
+use Rattle.model.specs.Object.{Object, Coroutine, Absent, Is}
+use Rattle.model.specs.World.{World, After, after, andThen}
+use Rattle.model.specs.Heap.{coro, notA, alloc}
+use Rattle.model.specs.Coro.{stateAs, coroState}
+use Rattle.model.specs.Gate.{refused}
+use Rattle.model.specs.Added.{answerMade, iteratorOver, makeIterator}
+use Rattle.model.specs.declared.coro.Made.{Made}
+use Rattle.model.specs.declared.coro.Stated.{Stated}
+use Rattle.model.specs.declared.call.Answer.{Answer}
+use Rattle.model.specs.declared.machine.Fuel.{Fuel}
+use Rattle.memory.specs.Memory.{Lent, Rep}
+use Rattle.memory.specs.Contract.{Does}
+use Rattle.memory.specs.declared.machine.Machine.{Machine}
+use Rattle.memory.specs.declared.machine.Sizes.{Sizes}
+use Rattle.memory.proofs.Does.{does}
+use Rattle.added.specs.Call.{madeAs}
+
+module _ (l : Sizes) (M : Lent) (m : Machine) (f : Fuel) (w : World) (v : ℕ) where
+  pub not-over : (g : Fault) → Stated.Refused g ≡ coroState w v → Rep l w M m f → Does l (makeIterator v w) M m f (Answer.Refused g)
+  unfolding makeIterator
+  not-over g e rep = does l M m f (makeIterator v w) w (Answer.Refused g) (go (coro w v) e) rep
+    where
+      go : (c : Coroutine) → Stated.Refused g ≡ stateAs c (notA w v) → iteratorOver c v w ≡ after w (Answer.Refused g)
+      go Absent q = ap (refused w) (let z : notA w v ≡ g = cc in z)
+      go (Is k r) q = never cc
+
+  -- the word made, as an answer
+  abbrev iterator : ℕ → After Made
+  iterator bytes = alloc bytes (Object.Iter v false Opt.None) w
+
+  told : (u : World) (a : Made) → answerMade u a ≡ after u (madeAs a)
+  told u (Made.Word x) = refl
+  told u (Made.Refused g) = refl
+
+  pub over : (s : CoroState) (a : Made) (x : Answer) (bytes : ℕ) → Stated.In s ≡ coroState w v → bytes ≡ w .setup .costs .iter → x ≡ madeAs a → Does l (iterator bytes) M m f a → Does l (makeIterator v w) M m f x
+  unfolding makeIterator
+  over s a x bytes e k q d =
+      subst (λ (o : After Answer). Does l o M m f x)
+      (sym (go (coro w v) e ∙ ap (λ n. andThen (iterator n) answerMade) (sym k) ∙ told (iterator bytes .world) (iterator bytes .answer)))
+      (record { world = d .world; answer = q ∙ ap madeAs (d .answer) })
+    where
+      go : (c : Coroutine) → Stated.In s ≡ stateAs c (notA w v) → iteratorOver c v w ≡ andThen (iterator (w .setup .costs .iter)) answerMade
+      go Absent q = never cc
+      go (Is k r) q = refl

@@ -1,0 +1,60 @@
+-- `make_iterator` meets its contract: refused, or an object made. Assumes nothing.
+use mathlib.Core.Path.{refl, sym, ap, _∙_}
+use mathlib.Core.Bool.{false}
+use Rattle.heap.specs.declared.value.Opt.{Opt}
+use Rattle.model.specs.Object.{Object}
+use Rattle.machine.proofs.Allocation.{heap-room}
+use Rattle.added.proofs.Iterators.{not-over, over}
+use borrow.Author.Needs.{needs}
+use Rattle.added.proofs.iterator.make_iterator.Statement.{statement}
+use Rattle.added.proofs.iterator.make_iterator.Tie as tie
+
+coro-state-requires : tie.Need-coro-state-requires
+coro-state-requires c κs = search needs
+
+enum-known-f : tie.Need-enum-known-f
+enum-known-f c = search needs
+
+enum-told : tie.Need-enum-told
+enum-told c = search needs
+
+alloc-plain-requires : tie.Need-alloc-plain-requires
+alloc-plain-requires c κs =
+    let start = c .before .before .before .before .before .before .before in
+    heap-room (start .pre .rep) (start .pre .sound) (start .pre .room)
+
+made-as-requires : tie.Need-made-as-requires
+made-as-requires c κs = search needs
+
+same-length : tie.Need-same-length
+same-length c = search needs
+
+returns : tie.Need-returns
+returns c =
+    let at-f = c .before in let at-coro-state = at-f .before .before in let start = at-coro-state .before .before .before in
+    λ w b rep snd. not-over (start .args .l) _ (start .args .m) (b .fuel) w (start .args .v) _ (sym (at-f .f .given .1) ∙ at-coro-state .coro-state .ensures (start .args .l) w b rep) rep
+
+same-length-2 : tie.Need-same-length-2
+same-length-2 c = search needs
+
+returns-2 : tie.Need-returns-2
+returns-2 c =
+    let at-alloc-plain = c .before .before .before .before in let at-enum-told = at-alloc-plain .before .before .before in
+    let at-coro-state = at-enum-told .before .before in let start = at-coro-state .before .before .before in
+    λ w b rep snd. over (start .args .l) _ _ (b .fuel) w (start .args .v) _ _ _ (start .args .l .costs .iter)
+    (sym (at-enum-told .enum-told .given .1) ∙ at-coro-state .coro-state .ensures (start .args .l) w b rep) (ap (λ k. k .iter) (rep .sizes .costs)) (c .made-as .ensures)
+    (at-alloc-plain .alloc-plain .ensures (Object.Iter (start .args .v) false Opt.None) refl refl w b rep)
+
+pub make-iterator-spec : {M : Type 1} → statement M
+make-iterator-spec =
+    tie.close
+    (tie.spec
+    coro-state-requires
+    enum-known-f
+    enum-told
+    alloc-plain-requires
+    made-as-requires
+    same-length
+    returns
+    same-length-2
+    returns-2)

@@ -1,0 +1,54 @@
+// 01: "Make iterator: over a coroutine (else 1 or 2), not done, no key."
+ghost use mathlib.Core.Path.{_≡_};
+ghost use Rattle.model.specs.Added.{makeIterator};
+ghost use Rattle.memory.specs.Lendings.{table};
+ghost use Rattle.memory.specs.Contract.{Ok, Met, ifSound, only};
+ghost use Rattle.added.specs.Call.{madeAs};
+use crate::call::CallDid;
+use heap::object::Object;
+use heap::value::Opt;
+use heap::value::Word;
+use machine::coro::coro_state;
+use machine::object::alloc_plain;
+use memory::machine::Machine;
+use memory::machine::Sizes;
+use model::call::Answer;
+use model::coro::Made;
+use model::coro::Stated;
+
+// The word made is the answer.
+fn made_as(a: Made) -> Answer
+    ensures { λ r. ⌜ r ≡ madeAs a ⌝ }
+{
+    match a {
+        Made::Word(v) => Answer::Word(v),
+        Made::Refused(f) => Answer::Refused(f),
+    }
+}
+
+pub fn make_iterator(slots: &mut [u64], m: Machine, l: Sizes, v: u64) -> CallDid
+    requires { ⌜ Ok l (table slots now) (only m) ⌝ }
+    ensures { λ r. ⌜ Met ifSound l (makeIterator v) (table slots) (only m) (only (r .machine)) (r .answer) ⌝ }
+{
+    match coro_state(slots, m, Word(v)) {
+        Stated::Refused(f) => CallDid {
+            machine: m,
+            answer: Answer::Refused(f),
+        },
+        Stated::In(_) => {
+            let costs = l.costs;
+            let o = Object::Iter {
+                src: v,
+                done: false,
+                key: Opt::None,
+            };
+            let did = alloc_plain(slots, m, l, costs.iter, o);
+            let n = did.machine;
+            let a = did.answer;
+            CallDid {
+                machine: n,
+                answer: made_as(a),
+            }
+        }
+    }
+}

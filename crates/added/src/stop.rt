@@ -1,0 +1,53 @@
+// 01: "Stop run: `abort_coros`, then frames and stack emptied."
+ghost use mathlib.Core.Path.{_≡_};
+ghost use Rattle.model.specs.Added.{stopRun};
+ghost use Rattle.memory.specs.Lendings.{six};
+ghost use Rattle.memory.specs.Contract.{Ok, Met, ifSound, with};
+ghost use Rattle.added.specs.Stop.{emptied};
+use coro_end::abort::abort_coros;
+use memory::machine::Machine;
+use memory::machine::Sizes;
+use model::call::Answer;
+use model::machine::Fuel;
+
+// What it leaves of the numbers and of the fuel, and answers.
+pub struct StopDid {
+    pub machine: Machine,
+    pub fuel: Fuel,
+    pub answer: Answer,
+}
+
+fn emptied(m: Machine) -> Machine
+    ensures { λ r. ⌜ r ≡ emptied m ⌝ }
+{
+    let mut n = m;
+    n.height = 0;
+    n.depth = 0;
+    n
+}
+
+pub fn stop_run(
+    stack: &mut [u64],
+    frames: &mut [u64],
+    chain: &mut [u64],
+    slots: &mut [u64],
+    saved_stack: &mut [u64],
+    saved_frames: &mut [u64],
+    m: Machine,
+    l: Sizes,
+    fuel: Fuel,
+) -> StopDid
+    requires { ⌜ Ok l (six stack frames chain slots «saved_stack» «saved_frames» now) (with m fuel) ⌝ }
+    ensures { λ r. ⌜ Met ifSound l stopRun (six stack frames chain slots «saved_stack» «saved_frames») (with m fuel) (with (r .machine) (r .fuel)) (r .answer) ⌝ }
+{
+    let did = abort_coros(chain, slots, saved_stack, saved_frames, m, l, fuel);
+    let n = did.machine;
+    let f = did.fuel;
+    tables::frames::clear_frames(frames, n.depth);
+    tables::stack::cut(stack, n.height, 0);
+    StopDid {
+        machine: emptied(n),
+        fuel: f,
+        answer: Answer::Accepted,
+    }
+}
