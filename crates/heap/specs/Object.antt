@@ -55,16 +55,38 @@ isDone (O.Iter s d k) = d
 isDone (O.Error e f p w) = false
 isDone (O.Coro c) = false
 
--- ---- a coroutine with a field replaced
+-- ---- a coroutine with some fields replaced
+
+-- its three marks, and its signal
+abbrev pub flagged : Bool → Bool → Bool → ℕ → CoroObj → CoroObj
+flagged x y z v c =
+    record {
+      state = c .state;
+      closing = x;
+      finalized = y;
+      task = z;
+      seq = c .seq;
+      row = c .row;
+      regs = c .regs;
+      frames = c .frames;
+      maxregs = c .maxregs;
+      maxframes = c .maxframes;
+      waiting = c .waiting;
+      payload = c .payload;
+      key = c .key;
+      largest = c .largest;
+      result = c .result;
+      signal = v;
+    }
 
 -- coro.rs: co.closing = true, co.signal = signal
 abbrev pub asClosing : ℕ → CoroObj → CoroObj
-asClosing v c = record { state = c .state; closing = true; finalized = c .finalized; task = c .task; seq = c .seq; row = c .row; regs = c .regs; frames = c .frames; maxregs = c .maxregs; maxframes = c .maxframes; waiting = c .waiting; payload = c .payload; key = c .key; largest = c .largest; result = c .result; signal = v }
+asClosing v c = flagged true (c .finalized) (c .task) v c
 
 -- co.task = true
 abbrev pub asTask : CoroObj → CoroObj
-asTask c = record { state = c .state; closing = c .closing; finalized = c .finalized; task = true; seq = c .seq; row = c .row; regs = c .regs; frames = c .frames; maxregs = c .maxregs; maxframes = c .maxframes; waiting = c .waiting; payload = c .payload; key = c .key; largest = c .largest; result = c .result; signal = c .signal }
+asTask c = flagged (c .closing) (c .finalized) true (c .signal) c
 
 -- co.finalized = true
 abbrev pub asFinalized : CoroObj → CoroObj
-asFinalized c = record { state = c .state; closing = c .closing; finalized = true; task = c .task; seq = c .seq; row = c .row; regs = c .regs; frames = c .frames; maxregs = c .maxregs; maxframes = c .maxframes; waiting = c .waiting; payload = c .payload; key = c .key; largest = c .largest; result = c .result; signal = c .signal }
+asFinalized c = flagged (c .closing) true (c .task) (c .signal) c

@@ -1,21 +1,18 @@
 -- What the functions of the parts do to the lists that the words hold. Assumes nothing.
-use mathlib.Core.Path.{_≡_, refl, sym, ap, ap₂, _∙_, subst}
+use mathlib.Core.Path.{_≡_, refl, sym, ap, _∙_, subst}
 use mathlib.Core.List.{List, [], _∷_, _++_}
-use Prim.Native.Nat.{ℕ, suc, _+_, _-_, _*_, _%_, _^_, _≤_, _<_}
+use Prim.Native.Nat.{ℕ, _+_, _-_, _*_, _%_, _^_, _≤_, _<_}
 use native.Mathlib.Omega.{arith}
-use native.Mathlib.Nat.{add-zero}
-use lib.ListN.{length, getD, take, drop, set, replicate, length-replicate, drop-of-length-le}
-use lib.Seq.{take-at, drop-append-le, drop-cons}
-use Rattle.lists.specs.Parts.{splice, pad}
+use lib.ListN.{length, getD, take, drop, set, replicate, length-replicate}
+use Rattle.lists.specs.Parts.{splice}
 use Rattle.model.specs.Frames.{onTop, setPc, stepPc, topBase}
 use Rattle.model.specs.declared.machine.Frame.{Frame}
 use Rattle.tables.specs.Layout.{frameWords}
-use Rattle.tables.specs.Runs.{shifted}
 use Rattle.tables.specs.Parts.{Stack, Queue, Piled, Frames}
-use Rattle.tables.specs.Does.{FramesDo, StackDo, QueueDo, RegFits, Puts, Gets, Pops}
+use Rattle.tables.specs.Does.{FramesDo, StackDo, QueueDo, RegFits, Puts, Gets}
 use Rattle.tables.proofs.Codes.{length-frame}
-use Rattle.tables.proofs.Padded.{length-part, back, cleared, sets-splice, set-append-add}
-use Rattle.tables.proofs.Parts.{run-of, run-get, run-set, run-push, run-cut, piled-push, piled-pop, top-get, top-set}
+use Rattle.tables.proofs.Padded.{length-part, back, cleared, sets-splice}
+use Rattle.tables.proofs.Parts.{run-get, run-set, run-push, run-cut, piled-push, piled-pop, top-get, top-set}
 
 -- ---- the top frame's pc
 
@@ -93,31 +90,3 @@ cuts ws ys n i h k e xs s =
 pub pushes-back : (ws : List ℕ) (n v : ℕ) → n < length ws → QueueDo (λ xs. xs ++ (v ∷ [])) ws (set ws n v) n (n + 1)
 pushes-back ws n v h xs q =
     subst (λ (z : List ℕ). Queue (xs ++ (v ∷ [])) z (n + 1)) (sym (sets-splice ws (v ∷ []) n (omega arith))) (run-push xs (v ∷ []) ws n q (omega arith))
-
--- the last of n + 1 words, cleared
-last-zero : (x : ℕ) (xs zs : List ℕ) → set (drop (length xs) ((x ∷ xs) ++ zs)) 0 0 ≡ 0 ∷ zs
-last-zero x xs zs =
-    let all : length (x ∷ xs) ≤ suc (length xs) = omega arith in
-    let one : drop (suc (length xs)) (x ∷ xs) ≡ [] = drop-of-length-le (x ∷ xs) {i = suc (length xs)} all in
-    let e : drop (length xs) (x ∷ xs) ≡ getD (x ∷ xs) (length xs) 0 ∷ [] =
-    drop-cons (x ∷ xs) (length xs) 0 (omega arith) ∙ ap (λ (z : List ℕ). getD (x ∷ xs) (length xs) 0 ∷ z) one in
-    ap (λ (z : List ℕ). set z 0 0) (drop-append-le (length xs) (x ∷ xs) zs (omega arith) ∙ ap (λ (z : List ℕ). z ++ zs) e)
-
-pub pops-front : (ws : List ℕ) (n r : ℕ) (ws′ : List ℕ) → 1 ≤ n → r ≡ getD ws 0 0 → ws′ ≡ shifted (n - 1) ws → Pops ws ws′ n r
-pops-front ws n r ws′ h er ew x xs q =
-    let c = q .count in
-    let w = q .within in
-    let L : ℕ = length ws in
-    let m : n - 1 ≡ length xs = omega arith in
-    let Z : List ℕ = replicate (L - suc (length xs)) 0 in
-    let more : suc (L - suc (length xs)) ≡ L - length xs = omega arith in
-    let e : ws′ ≡ pad L xs =
-    ew ∙ ap₂ (λ (k : ℕ) (z : List ℕ). set (take k (drop 1 z) ++ drop k z) k 0) m (q .are)
-    ∙ ap (λ (z : List ℕ). set (z ++ drop (length xs) ((x ∷ xs) ++ Z)) (length xs) 0) (take-at xs Z (length xs) refl)
-    ∙ ap (λ k. set (xs ++ drop (length xs) ((x ∷ xs) ++ Z)) k 0) (sym (add-zero (length xs)))
-    ∙ set-append-add xs (drop (length xs) ((x ∷ xs) ++ Z)) 0 0
-    ∙ ap (λ (z : List ℕ). xs ++ z) (last-zero x xs Z ∙ ap (λ k. replicate k 0) more) in
-    record {
-      word = er ∙ run-get (x ∷ xs) ws n 0 q (omega arith);
-      rest = run-of L xs ws′ (n - 1) e m (omega arith);
-    }

@@ -2,13 +2,12 @@
 use mathlib.Core.Logic.{_≢_}
 use mathlib.Core.Path.{_≡_, refl, sym, ap, ap₂, _∙_}
 use mathlib.Core.List.{List, _++_, append-assoc}
-use Prim.Native.Nat.{ℕ, zero, suc, _+_, _-_, _*_, _≤_, _<_}
+use Prim.Native.Nat.{ℕ, zero, suc, _+_, _-_, _*_, _≤_}
 use native.Mathlib.Omega.{arith}
 use native.Mathlib.Numerals.{add-one}
 use lib.ListN.{length, getD, take, drop, set, replicate, length-append, length-drop, length-set, length-replicate}
-use lib.Seq.{take-at, drop-at, drop-drop, length-take-le, getD-append-add, getD-drop, getD-set-other}
+use lib.Seq.{take-at, drop-at, drop-drop, length-take-le, getD-set-other}
 use Rattle.lists.specs.Parts.{splice, pad}
-use Rattle.lists.proofs.Runs.{copy-more}
 use Rattle.tables.specs.Runs.{rebase}
 use Rattle.tables.proofs.Padded.{zeros-split, back, span}
 
@@ -56,19 +55,6 @@ filled rows ys zs xs at room n h k l e f =
     ∙ ap₂ (λ (x : List ℕ) (i : ℕ). splice x (at + i) (replicate (room - n) 0)) one (sym l)
     ∙ splice-splice rows xs (replicate (room - n) 0) at (omega arith)
     ∙ ap (λ i. splice rows at (xs ++ replicate (room - i) 0)) (sym l)
-
--- ---- a turn of the loop that moves words down by one
-
-pub shift-more : (n : ℕ) (s : List ℕ) → n + 1 < length s
-    → set (take n (drop 1 s) ++ drop n s) n (getD (take n (drop 1 s) ++ drop n s) (n + 1) 0) ≡ take (n + 1) (drop 1 s) ++ drop (n + 1) s
-shift-more n s h =
-    let d = length-drop 1 s in
-    let l : length (take n (drop 1 s)) ≡ n = length-take-le n (drop 1 s) (omega arith) in
-    let c : 1 + n ≡ n + 1 = omega arith in
-    let e : getD (take n (drop 1 s) ++ drop n s) (n + 1) 0 ≡ getD (drop 1 s) n 0 =
-    ap (λ i. getD (take n (drop 1 s) ++ drop n s) (i + 1) 0) (sym l)
-    ∙ getD-append-add (take n (drop 1 s)) (drop n s) 1 0 ∙ getD-drop n s 1 0 ∙ ap (λ i. getD s i 0) (sym c) ∙ sym (getD-drop 1 s n 0) in
-    ap (set (take n (drop 1 s) ++ drop n s) n) e ∙ copy-more n (drop 1 s) s (omega arith) (omega arith)
 
 -- ---- bases changed one after the other
 

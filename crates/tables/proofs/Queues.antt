@@ -1,11 +1,11 @@
 -- Queues: words read, and taken off the front in one move. Assumes nothing.
-use mathlib.Core.Path.{_≡_, refl, sym, ap, ap₂, _∙_, subst}
+use mathlib.Core.Path.{_≡_, sym, ap, ap₂, _∙_, subst}
 use mathlib.Core.List.{List, _++_, append-assoc}
 use Prim.Native.Nat.{ℕ, _+_, _-_, _≤_, _<_}
 use native.Mathlib.Omega.{arith}
 use lib.ListN.{length, getD, take, drop, set, replicate, length-append, length-drop}
 use lib.Seq.{take-at, drop-append-le, length-take-le, getD-append-add, getD-drop}
-use Rattle.lists.specs.Parts.{part, pad}
+use Rattle.lists.specs.Parts.{part}
 use Rattle.lists.proofs.Runs.{copy-more}
 use Rattle.tables.specs.Runs.{lowered}
 use Rattle.tables.specs.Parts.{Queue}

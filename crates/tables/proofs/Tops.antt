@@ -1,13 +1,11 @@
 -- Words of the frames, one by one; piled records emptied. Assumes nothing.
-use mathlib.Core.Path.{_≡_, refl, sym, ap, ap₂, _∙_, subst}
+use mathlib.Core.Path.{_≡_, refl, sym, ap, ap₂, _∙_}
 use mathlib.Core.List.{List, [], _∷_}
-use Prim.Native.Nat.{ℕ, suc, _+_, _-_, _*_, _≤_, _<_}
+use Prim.Native.Nat.{ℕ, suc, _+_, _-_, _*_, _<_}
 use native.Mathlib.Omega.{arith}
 use native.Mathlib.Nat.{add-zero}
 use lib.ListN.{length, getD, replicate}
-use Rattle.lists.specs.Parts.{splice, pad}
-use Rattle.model.specs.Frames.{topBase, topFunc, topPc}
-use Rattle.model.specs.declared.machine.Cont.{Cont}
+use Rattle.lists.specs.Parts.{splice}
 use Rattle.model.specs.declared.machine.Frame.{Frame}
 use Rattle.tables.specs.Layout.{contOf, frameWords, funcIn, pcIn, baseIn, contIn}
 use Rattle.tables.specs.Parts.{Piled, Frames, upward}

@@ -1,6 +1,6 @@
 -- What the functions of the parts do: for every list that the words held, the list that they hold after.
 use mathlib.Core.Path.{_≡_}
-use mathlib.Core.List.{List, [], _∷_, _++_, map}
+use mathlib.Core.List.{List, [], _++_, map}
 use Prim.Native.Nat.{ℕ, _+_, _-_, _*_, _^_, _≤_, _<_}
 use lib.ListN.{length, getD, take, drop, set}
 use Rattle.model.specs.Frames.{topBase, putAt, raise, lower, above, below}
@@ -38,15 +38,6 @@ pub record Got (xs : List ℕ) (fs : List Frame) (r v : ℕ) : Type 0 where
 
 abbrev pub Gets : List ℕ → List ℕ → ℕ → ℕ → ℕ → ℕ → Type 0
 Gets stack frames height depth r v = (xs : List ℕ) (fs : List Frame) → Stack xs stack height → Frames fs frames depth → Got xs fs r v
-
--- ---- the front of a queue
-
-pub record Popped (x : ℕ) (xs ws : List ℕ) (n r : ℕ) : Type 0 where
-  pub word : r ≡ x
-  pub rest : Queue xs ws (n - 1)
-
-abbrev pub Pops : List ℕ → List ℕ → ℕ → ℕ → Type 0
-Pops ws ws′ n r = (x : ℕ) (xs : List ℕ) → Queue (x ∷ xs) ws n → Popped x xs ws′ n r
 
 -- ---- a word of a queue
 

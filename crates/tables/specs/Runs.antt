@@ -2,17 +2,13 @@
 use mathlib.Core.Path.{_≡_}
 use mathlib.Core.List.{List, _++_}
 use Prim.Native.Nat.{ℕ, zero, suc, _+_, _-_, _*_, _^_, _≤_, _<_}
-use lib.ListN.{length, getD, set, take, drop, replicate}
+use lib.ListN.{length, getD, set, drop, replicate}
 use Rattle.lists.specs.Parts.{part, splice}
 
 -- n words moved, and 0 where they were
 pub record Moved (dst src dst′ src′ : List ℕ) (at from n : ℕ) : Type 0 where
   pub there : dst′ ≡ splice dst at (part from n src)
   pub here : src′ ≡ splice src from (replicate n 0)
-
--- the n words from index 1 on moved down by one, and a 0 after them
-abbrev pub shifted : ℕ → List ℕ → List ℕ
-shifted n ws = set (take n (drop 1 ws) ++ drop n ws) n 0
 
 -- the n words from index `from` on moved to the front; those after the first n are as they were
 abbrev pub lowered : ℕ → ℕ → List ℕ → List ℕ

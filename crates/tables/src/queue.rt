@@ -2,9 +2,8 @@
 ghost use mathlib.Core.List.{[], _∷_, _++_};
 ghost use Prim.Native.Nat.{_+_, _-_, _≤_, _<_};
 ghost use lib.ListN.{length, drop};
-ghost use Rattle.tables.specs.Does.{QueueDo, Pops, Peeks};
+ghost use Rattle.tables.specs.Does.{QueueDo, Peeks};
 use crate::runs::move_down;
-use crate::runs::shift_down;
 use crate::stack::cut;
 
 // A word at the end.
@@ -13,15 +12,6 @@ pub fn push_back(queue: &mut [u64], n: usize, v: u64)
     ensures { λ _. ⌜ QueueDo (λ xs. xs ++ (v ∷ [])) (now (queue .entry)) (now (queue .exit)) n (n + 1) ⌝ }
 {
     queue[n] = v;
-}
-
-// The word at the front goes, and comes back.
-pub fn pop_front(queue: &mut [u64], n: usize) -> u64
-    requires { ⌜ (1 ≤ n) × (n ≤ length (now queue)) ⌝ }
-    ensures { λ r. ⌜ Pops (now (queue .entry)) (now (queue .exit)) n r ⌝ }
-{
-    let last = n - 1;
-    shift_down(queue, last)
 }
 
 // The first k words go, in one move; the places that the others leave become 0.

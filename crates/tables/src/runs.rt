@@ -1,9 +1,9 @@
 // Runs of words moved between lent slices.
 ghost use mathlib.Core.Path.{_≡_};
 ghost use Prim.Native.Nat.{_+_, _-_, _*_, _≤_, _<_};
-ghost use lib.ListN.{length, getD, take, replicate};
+ghost use lib.ListN.{length, take, replicate};
 ghost use Rattle.lists.specs.Parts.{part, splice, pad};
-ghost use Rattle.tables.specs.Runs.{Moved, shifted, lowered, rebase, between, RebaseFits};
+ghost use Rattle.tables.specs.Runs.{Moved, lowered, rebase, between, RebaseFits};
 
 // The n words of `src` from index `from` go to `dst` from index `at`, and become 0 in `src`.
 pub fn move_words(dst: &mut [u64], at: usize, src: &mut [u64], from: usize, n: usize)
@@ -41,21 +41,6 @@ pub fn fill_row(rows: &mut [u64], at: usize, room: usize, src: &[u64], n: usize)
     let end = at + room;
     lists::copy_words(&mut rows[at..mid], &src[..n]);
     lists::clear_words(&mut rows[mid..end]);
-}
-
-// The n words from index 1 on move down by one, and the word before them comes back; the last place becomes 0.
-pub fn shift_down(s: &mut [u64], n: usize) -> u64
-    requires { ⌜ n < length (now s) ⌝ }
-    ensures { λ r. ⌜ (r ≡ getD (now (s .entry)) 0 0) × (now (s .exit) ≡ shifted n (now (s .entry))) ⌝ }
-{
-    let first = s[0];
-    let mut i = 0;
-    while i < n {
-        s[i] = s[i + 1];
-        i += 1;
-    }
-    s[n] = 0;
-    first
 }
 
 // The n words from index `from` on move to the front.
