@@ -3,3 +3,4 @@ pub mod Search
 pub mod Starting
 pub mod Loss
 pub mod Closes
+pub mod Charged
