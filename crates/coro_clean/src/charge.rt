@@ -1,19 +1,31 @@
 // exec.rs: charge, one unit of fuel. coro.rs: charge_slow.
 ghost use mathlib.Core.Path.{_≡_};
+ghost use mathlib.Core.Bool.{false};
 ghost use Prim.Native.Nat.{_≤_};
-ghost use Rattle.model.specs.declared.call.OptPc.the-variants.{None};
-ghost use Rattle.model.specs.Cleanup.{chargeDone, chargeSlow, charge};
-ghost use Rattle.memory.specs.Lendings.{none};
-ghost use Rattle.memory.specs.Contract.{Met, any, every, with};
-ghost use Rattle.memory.specs.declared.machine.Machine.{Machine};
-ghost use Rattle.coro_clean.specs.Charge.{spent};
+ghost use Rattle.model.specs.World.{after};
+ghost use Rattle.model.specs.Cleanup.{chargeDone, chargeOr, chargeSlow, charge};
+ghost use Rattle.model.specs.declared.call.OptPc.the-variants.{None, Some};
+ghost use Rattle.memory.specs.Lendings.{none, cleaning};
+ghost use Rattle.memory.specs.Contract.{Met, any, every, ifSound, with};
+ghost use Rattle.coro_clean.specs.Charge.{spent, chargeReady, ChargeFits, ReadyFits};
+use crate::finalizer::start_finalizer;
 use machine::fuel::arm_close;
 use machine::fuel::unbank;
+use memory::machine::Machine;
+use memory::machine::Sizes;
+use model::coro::Started;
 use model::machine::Charge;
 use model::machine::Fuel;
 
 // What a charge without a pc leaves of the fuel, and answers.
 pub struct Charged {
+    pub fuel: Fuel,
+    pub answer: Charge,
+}
+
+// What a charge leaves of the numbers and of the fuel, and answers.
+pub struct ChargeDid {
+    pub machine: Machine,
     pub fuel: Fuel,
     pub answer: Charge,
 }
@@ -67,4 +79,152 @@ pub fn charge_plain(fuel: Fuel) -> Charged
         };
     }
     slow_plain(fuel)
+}
+
+// A cleanup has started, or a unit is paid.
+pub(crate) fn charge_or(m: Machine, f: Fuel, s: Started) -> ChargeDid
+    requires { ⌜ (s .entered ≡ false → 1 ≤ f .fuel) ⌝ }
+    ensures { λ r. ⌜ every (λ l. Met any l (λ w. chargeOr (after w s)) none (with m f) (with (r .machine) (r .fuel)) (r .answer)) ⌝ }
+{
+    if s.entered {
+        return ChargeDid {
+            machine: m,
+            fuel: f,
+            answer: Charge::Close(s.taken),
+        };
+    }
+    let did = charge_done(f, s.taken);
+    let fuel = did.fuel;
+    let answer = did.answer;
+    ChargeDid {
+        machine: m,
+        fuel,
+        answer,
+    }
+}
+
+// Cleanups are ready: the pc is stored first, even if none then starts.
+pub(crate) fn charge_ready(
+    stack: &mut [u64],
+    frames: &mut [u64],
+    chain: &mut [u64],
+    slots: &mut [u64],
+    saved_stack: &mut [u64],
+    saved_frames: &mut [u64],
+    finalize: &mut [u64],
+    m: Machine,
+    l: Sizes,
+    fuel: Fuel,
+    pc: u64,
+) -> ChargeDid
+    requires { ⌜ ReadyFits l (cleaning stack frames chain slots «saved_stack» «saved_frames» finalize now) m fuel pc ⌝ }
+    ensures { λ r. ⌜ Met ifSound l (chargeReady pc) (cleaning stack frames chain slots «saved_stack» «saved_frames» finalize) (with m fuel) (with (r .machine) (r .fuel)) (r .answer) ⌝ }
+{
+    machine::frame::store_pc(frames, m, pc);
+    let did = start_finalizer(
+        stack,
+        frames,
+        chain,
+        slots,
+        saved_stack,
+        saved_frames,
+        finalize,
+        m,
+        l,
+        fuel,
+    );
+    let n = did.machine;
+    let f = did.fuel;
+    let s = did.answer;
+    charge_or(n, f, s)
+}
+
+// coro.rs: charge_slow.
+pub(crate) fn charge_slow(
+    stack: &mut [u64],
+    frames: &mut [u64],
+    chain: &mut [u64],
+    slots: &mut [u64],
+    saved_stack: &mut [u64],
+    saved_frames: &mut [u64],
+    finalize: &mut [u64],
+    m: Machine,
+    l: Sizes,
+    fuel: Fuel,
+    pc: u64,
+) -> ChargeDid
+    requires { ⌜ ChargeFits l (cleaning stack frames chain slots «saved_stack» «saved_frames» finalize now) m fuel pc ⌝ }
+    ensures { λ r. ⌜ Met ifSound l (chargeSlow (Some pc)) (cleaning stack frames chain slots «saved_stack» «saved_frames» finalize) (with m fuel) (with (r .machine) (r .fuel)) (r .answer) ⌝ }
+{
+    let f = unbank(fuel);
+    if f.fuel == 0 {
+        return ChargeDid {
+            machine: m,
+            fuel: f,
+            answer: Charge::Spent,
+        };
+    }
+    if f.ready {
+        return charge_ready(
+            stack,
+            frames,
+            chain,
+            slots,
+            saved_stack,
+            saved_frames,
+            finalize,
+            m,
+            l,
+            f,
+            pc,
+        );
+    }
+    let did = charge_done(f, 0);
+    let g = did.fuel;
+    let answer = did.answer;
+    ChargeDid {
+        machine: m,
+        fuel: g,
+        answer,
+    }
+}
+
+// exec.rs: charge. With fuel in hand nothing is lent.
+pub fn charge(
+    stack: &mut [u64],
+    frames: &mut [u64],
+    chain: &mut [u64],
+    slots: &mut [u64],
+    saved_stack: &mut [u64],
+    saved_frames: &mut [u64],
+    finalize: &mut [u64],
+    m: Machine,
+    l: Sizes,
+    fuel: Fuel,
+    pc: u64,
+) -> ChargeDid
+    requires { ⌜ ChargeFits l (cleaning stack frames chain slots «saved_stack» «saved_frames» finalize now) m fuel pc ⌝ }
+    ensures { λ r. ⌜ Met ifSound l (charge (Some pc)) (cleaning stack frames chain slots «saved_stack» «saved_frames» finalize) (with m fuel) (with (r .machine) (r .fuel)) (r .answer) ⌝ }
+{
+    if fuel.fuel != 0 {
+        let f = spend(fuel);
+        return ChargeDid {
+            machine: m,
+            fuel: f,
+            answer: Charge::Done(0),
+        };
+    }
+    charge_slow(
+        stack,
+        frames,
+        chain,
+        slots,
+        saved_stack,
+        saved_frames,
+        finalize,
+        m,
+        l,
+        fuel,
+        pc,
+    )
 }

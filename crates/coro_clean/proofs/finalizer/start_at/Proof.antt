@@ -53,10 +53,9 @@ entered : (c : tie.After-coro-enter) (w : World) (b : Beside) →
     (entry .args .fuel) (c .coro-enter .result .answer)
 entered c w b rep snd =
     let at-take-front = take-front-of (c .before) in let entry = start-of (at-take-front .before .before) in
-    let taken = at-take-front in
-    let start = entry in
-    c .coro-enter .ensures (fewer start w) (record { words = onFinalize (taken .take-front .last .0) (b .words); fuel = start .args .fuel })
-    (fewer-rep (start .args .l) (mem start b) (start .args .m) (start .args .fuel) w rep (start .args .i + 1) _ _ (taken .take-front .ensures)) (fewer-sound w (start .args .i + 1) snd)
+    c .coro-enter .ensures (fewer entry w) (record { words = onFinalize (at-take-front .take-front .last .0) (b .words); fuel = entry .args .fuel })
+    (fewer-rep (entry .args .l) (mem entry b) (entry .args .m) (entry .args .fuel) w rep (entry .args .i + 1) _ _ (at-take-front .take-front .ensures))
+    (fewer-sound w (entry .args .i + 1) snd)
 
 word-at-requires : tie.Need-word-at-requires
 word-at-requires c κs = search needs
@@ -73,16 +72,13 @@ sub-n c = search needs
 coro-enter-requires : tie.Need-coro-enter-requires
 coro-enter-requires c κs =
     let at-take-front = take-front-of c in let entry = start-of (at-take-front .before .before) in
-    let taken = at-take-front in
-    let start = entry in
-    fewer-ok (start .args .l) (start .args .m) (start .args .fuel) (start .args .stack .now) (start .args .frames .now) (start .args .chain .now)
-    (start .args .slots .now) (start .args .saved-stack .now) (start .args .saved-frames .now)
-    (start .args .finalize .now) (taken .take-front .last .0) (start .args .i + 1) _ (start .pre .ok) (taken .take-front .ensures) (taken .take-front .kept .0)
+    fewer-ok (entry .args .l) (entry .args .m) (entry .args .fuel) (entry .args .stack .now) (entry .args .frames .now) (entry .args .chain .now)
+    (entry .args .slots .now) (entry .args .saved-stack .now) (entry .args .saved-frames .now)
+    (entry .args .finalize .now) (at-take-front .take-front .last .0) (entry .args .i + 1) _ (entry .pre .ok) (at-take-front .take-front .ensures) (at-take-front .take-front .kept .0)
 
 set-closing-requires : tie.Need-set-closing-requires
 set-closing-requires c κs =
-    let at-coro-enter = coro-enter-of c in
-    let entry = start-of (at-coro-enter .before .before .before .before .before .before .before .before .before .before .before .before) in
+    let at-coro-enter = coro-enter-of c in let at-word-at = word-at-of at-coro-enter in let entry = start-of at-word-at in
     let o = entry .pre .ok in
     entered at-coro-enter (o .world) (o .beside) (o .rep) (o .sound) .world .slots .within
 
@@ -109,7 +105,8 @@ same-length-6 c = search needs
 
 same-length-7 : tie.Need-same-length-7
 same-length-7 c =
-    let at-take-front = take-front-of (c .before .before .before .before .before .before .before .before .before .before .before .before .before .before .before .before .before .before .before .before .before) in
+    let after-coro-enter = coro-enter-of (c .before .before .before .before .before .before) in
+    let at-take-front = take-front-of (after-coro-enter .before) in
     at-take-front .take-front .kept .0
 
 returns : tie.Need-returns
@@ -117,19 +114,15 @@ returns c =
     let at-set-finalizing = c .before .before in let at-set-closing = at-set-finalizing .before .before .before in
     let at-coro-enter = coro-enter-of (at-set-closing .before) in let at-word-at = word-at-of at-coro-enter in
     let entry = start-of at-word-at in
-    let marked = at-set-finalizing in
-    let closed = at-set-closing in
-    let inside = at-coro-enter in
-    let asked = at-word-at in
-    let start = entry in
     λ w b rep snd.
-    let v = asked .word-at .result in
-    let u = coroEnter v Driver.Finalize (fewer start w) .world in
-    let f = start .args .fuel in
-    start-does (start .args .l) (mem start b) (start .args .m) f w rep (start .args .i) v _ _ _
-    (asked .word-at .ensures (w .finalize) (start .args .m .finalize) (rep .finalize) (start .pre .below) .is)
-    (marked .set-finalizing .ensures (start .args .l) (changeCoro v (λ k. k) (close 0) u) (record { words = onSlots (closed .set-closing .last .0) (words inside b); fuel = f })
-    (closed .set-closing .ensures (start .args .l) u (record { words = words inside b; fuel = f }) (entered inside w b rep snd .world)))
+    let v = at-word-at .word-at .result in
+    let u = coroEnter v Driver.Finalize (fewer entry w) .world in
+    let f = entry .args .fuel in
+    start-does (entry .args .l) (mem entry b) (entry .args .m) f w rep (entry .args .i) v _ _ _
+    (at-word-at .word-at .ensures (w .finalize) (entry .args .m .finalize) (rep .finalize) (entry .pre .below) .is)
+    (at-set-finalizing .set-finalizing .ensures (entry .args .l) (changeCoro v (λ k. k) (close 0) u)
+    (record { words = onSlots (at-set-closing .set-closing .last .0) (words at-coro-enter b); fuel = f })
+    (at-set-closing .set-closing .ensures (entry .args .l) u (record { words = words at-coro-enter b; fuel = f }) (entered at-coro-enter w b rep snd .world)))
 
 pub start-at-spec : {M : Type 1} → statement M
 start-at-spec =

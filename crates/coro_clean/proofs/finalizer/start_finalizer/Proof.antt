@@ -22,17 +22,18 @@ unbank-requires c κs = search needs
 first-start-requires : tie.Need-first-start-requires
 first-start-requires c κs =
     let entry = start-of (c .before .before) in
-    let start = entry in
-    let o = start .pre in
-    search-fits (start .args .l) (mem start (o .beside)) (start .args .m) (start .args .fuel) (o .world) (o .rep) (o .sound)
+    let o = entry .pre in
+    search-fits (entry .args .l) (mem entry (o .beside)) (entry .args .m) (entry .args .fuel) (o .world) (o .rep) (o .sound)
 
 start-at-requires : tie.Need-start-at-requires
 start-at-requires c κs =
     let at-if1 = c .before .before .before .before .before .before .before in
     let at-unbank = at-if1 .before .before .before .before .before in let entry = start-of at-unbank in
-    let back = at-unbank in
-    let start = entry in
-    record { ok = unbank-ok (start .args .l) (mem start) (start .args .m) (start .args .fuel) (back .unbank .result) (back .unbank .ensures) (start .pre); below = at-if1 .if1 .taken }
+    record {
+      ok = unbank-ok (entry .args .l) (mem entry) (entry .args .m) (entry .args .fuel) (at-unbank .unbank .result) (at-unbank .unbank .ensures)
+          (entry .pre);
+      below = at-if1 .if1 .taken;
+    }
 
 same-length : tie.Need-same-length
 same-length c = search needs
@@ -61,15 +62,11 @@ returns c =
     let at-if1 = at-start-at .before .before .before .before .before .before .before .before in
     let at-first-start = at-if1 .before .before in let at-unbank = at-first-start .before .before .before in
     let entry = start-of at-unbank in
-    let begun = at-start-at in
-    let tested = at-if1 in
-    let sought = at-first-start in
-    let back = at-unbank in
-    let start = entry in
     λ w b rep snd.
-    let again = unbank-rep (start .args .l) (mem start b) (start .args .m) (start .args .fuel) w rep (back .unbank .result) (back .unbank .ensures) in
-    finalizer-at (start .args .l) (mem start b) (start .args .m) (back .unbank .result) w again (sought .first-start .result) (sought .first-start .ensures) _ _ _ _ (tested .if1 .taken)
-    (begun .start-at .ensures (unbank w) b again (unbank-sounds w snd))
+    let again = unbank-rep (entry .args .l) (mem entry b) (entry .args .m) (entry .args .fuel) w rep (at-unbank .unbank .result) (at-unbank .unbank .ensures) in
+    finalizer-at (entry .args .l) (mem entry b) (entry .args .m) (at-unbank .unbank .result) w again (at-first-start .first-start .result)
+    (at-first-start .first-start .ensures) _ _ _ _ (at-if1 .if1 .taken)
+    (at-start-at .start-at .ensures (unbank w) b again (unbank-sounds w snd))
 
 start-none-requires : tie.Need-start-none-requires
 start-none-requires c κs = search needs
@@ -85,15 +82,11 @@ returns-2 c =
     let at-start-none = c .before .before in let at-if1 = at-start-none .before .before in
     let at-first-start = at-if1 .before .before in let at-unbank = at-first-start .before .before .before in
     let entry = start-of at-unbank in
-    let ended = at-start-none in
-    let tested = at-if1 in
-    let sought = at-first-start in
-    let back = at-unbank in
-    let start = entry in
     λ w b rep snd.
-    let again = unbank-rep (start .args .l) (mem start b) (start .args .m) (start .args .fuel) w rep (back .unbank .result) (back .unbank .ensures) in
-    finalizer-none (start .args .l) (mem start b) (start .args .m) (back .unbank .result) w again (sought .first-start .result) (sought .first-start .ensures) _ _ _ _ (tested .if1 .left)
-    (ended .start-none .ensures (start .args .l) (unbank w) (record { words = mem start b; fuel = b .fuel }) again)
+    let again = unbank-rep (entry .args .l) (mem entry b) (entry .args .m) (entry .args .fuel) w rep (at-unbank .unbank .result) (at-unbank .unbank .ensures) in
+    finalizer-none (entry .args .l) (mem entry b) (entry .args .m) (at-unbank .unbank .result) w again (at-first-start .first-start .result)
+    (at-first-start .first-start .ensures) _ _ _ _ (at-if1 .if1 .left)
+    (at-start-none .start-none .ensures (entry .args .l) (unbank w) (record { words = mem entry b; fuel = b .fuel }) again)
 
 pub start-finalizer-spec : {M : Type 1} → statement M
 start-finalizer-spec =

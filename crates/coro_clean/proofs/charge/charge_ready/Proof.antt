@@ -1,0 +1,121 @@
+-- `charge_ready` meets the definition: a pc stored, a search for a cleanup, and what it comes to. Assumes nothing.
+use mathlib.Core.Path.{_≡_, _∙_}
+use mathlib.Core.Bool.{true}
+use Rattle.model.specs.World.{World}
+use Rattle.model.specs.Frames.{storePc}
+use Rattle.model.specs.Cleanup.{startFinalizer}
+use Rattle.model.specs.Sound.{sound}
+use Rattle.memory.specs.Memory.{Lent, Beside, Rep}
+use Rattle.memory.specs.Lendings.{cleaning, plain}
+use Rattle.memory.specs.Contract.{Does}
+use Rattle.machine.proofs.Stored.{store-sounds}
+use Rattle.coro_clean.proofs.Closes.{sought, unit-left, stored-ok}
+use borrow.Author.Needs.{needs}
+use Rattle.coro_clean.proofs.charge.charge_ready.Statement.{statement}
+use Rattle.coro_clean.proofs.charge.charge_ready.Tie as tie
+
+-- the ways back that several clauses take
+abbrev start-finalizer-of : tie.After-s → tie.After-start-finalizer
+start-finalizer-of c = c .before .before .before .before .before .before .before .before .before .before .before .before .before .before .before .before .before
+
+abbrev start-of : tie.After-start-finalizer → tie.Start
+start-of c = c .before .before .before .before .before .before .before .before .before .before .before .before .before .before .before .before .before .before .before
+
+abbrev store-pc-of : tie.After-start-finalizer-arg7 → tie.After-store-pc
+store-pc-of c = c .before .before .before .before .before .before .before .before .before
+
+abbrev mem : tie.Start → Beside → Lent
+mem c b = cleaning (c .args .stack .now) (c .args .frames .now) (c .args .chain .now) (c .args .slots .now) (c .args .saved-stack .now)
+    (c .args .saved-frames .now) (c .args .finalize .now) plain b
+
+-- what a search for a cleanup leaves
+abbrev words : tie.After-start-finalizer → Beside → Lent
+words c b =
+    let e = c .start-finalizer in
+    cleaning (e .last .0) (e .last .1 .0) (e .last .1 .1 .0) (e .last .1 .1 .1 .0) (e .last .1 .1 .1 .1 .0) (e .last .1 .1 .1 .1 .1 .0) (e .last .1 .1 .1 .1 .1 .1 .0) plain b
+
+searched : (c : tie.After-start-finalizer) (w : World) (b : Beside) →
+    let entry = start-of c in
+    Rep (entry .args .l) w (mem entry b) (entry .args .m) (entry .args .fuel) → sound w ≡ true
+    → Does (entry .args .l) (startFinalizer (storePc (entry .args .pc) w)) (words c b) (c .start-finalizer .result .machine) (c .start-finalizer .result .fuel)
+    (c .start-finalizer .result .answer)
+searched c w b rep snd =
+    let at-store-pc = store-pc-of (c .before) in
+    let entry = at-store-pc .before .before .before .before .before .before .before .before .before in
+    let stored = at-store-pc in
+    let start = entry in
+    c .start-finalizer .ensures (storePc (start .args .pc) w) b (stored .store-pc .ensures (start .args .l) w (record { words = mem start b; fuel = start .args .fuel }) rep)
+    (store-sounds (start .args .pc) w (start .pre .charge .narrow) snd)
+
+store-pc-requires : tie.Need-store-pc-requires
+store-pc-requires c κs = search needs
+
+start-finalizer-requires : tie.Need-start-finalizer-requires
+start-finalizer-requires c κs =
+    let at-store-pc = store-pc-of c in
+    let entry = at-store-pc .before .before .before .before .before .before .before .before .before in
+    let stored = at-store-pc in
+    let start = entry in
+    let o = start .pre .charge .ok in
+    stored-ok (start .args .l) (start .args .m) (start .args .fuel) (start .args .stack .now) (start .args .frames .now) (start .args .chain .now)
+    (start .args .slots .now) (start .args .saved-stack .now) (start .args .saved-frames .now)
+    (start .args .finalize .now) (stored .store-pc .last .0) (start .args .pc) (stored .store-pc .kept .0) (start .pre .charge .narrow) o
+    (stored .store-pc .ensures (start .args .l) (o .world) (record { words = mem start (o .beside); fuel = start .args .fuel }) (o .rep))
+
+charge-or-requires : tie.Need-charge-or-requires
+charge-or-requires c κs =
+    let at-start-finalizer = start-finalizer-of c in let entry = start-of at-start-finalizer in
+    let start = entry in
+    let o = start .pre .charge .ok in
+    unit-left (start .args .l) _ _ _ (start .args .fuel) (storePc (start .args .pc) (o .world)) _ (o .rep .fuel)
+    (searched at-start-finalizer (o .world) (o .beside) (o .rep) (o .sound)) (start .pre .paid)
+
+same-length : tie.Need-same-length
+same-length c = search needs
+
+same-length-2 : tie.Need-same-length-2
+same-length-2 c =
+    let at-start-finalizer = start-finalizer-of (c .before) in let at-store-pc = store-pc-of (at-start-finalizer .before) in
+    at-start-finalizer .start-finalizer .kept .1 .0 ∙ at-store-pc .store-pc .kept .0
+
+same-length-3 : tie.Need-same-length-3
+same-length-3 c = search needs
+
+same-length-4 : tie.Need-same-length-4
+same-length-4 c = search needs
+
+same-length-5 : tie.Need-same-length-5
+same-length-5 c = search needs
+
+same-length-6 : tie.Need-same-length-6
+same-length-6 c = search needs
+
+same-length-7 : tie.Need-same-length-7
+same-length-7 c = search needs
+
+returns : tie.Need-returns
+returns c =
+    let at-start-finalizer = start-finalizer-of (c .before) in let entry = start-of at-start-finalizer in
+    let paid = c in
+    let begun = at-start-finalizer in
+    let start = entry in
+    λ w b rep snd.
+    let d = searched begun w b rep snd in
+    sought (start .args .l) _ _ _ (start .args .pc) w _ _ (d .answer)
+    (paid .charge-or .ensures (start .args .l) (startFinalizer (storePc (start .args .pc) w) .world) (record { words = words begun b; fuel = start .args .fuel }) (d .world))
+
+pub charge-ready-spec : {M : Type 1} → statement M
+charge-ready-spec =
+    tie.close
+    (tie.spec
+    store-pc-requires
+    start-finalizer-requires
+    charge-or-requires
+    same-length
+    same-length-2
+    same-length-3
+    same-length-4
+    same-length-5
+    same-length-6
+    same-length-7
+    returns)

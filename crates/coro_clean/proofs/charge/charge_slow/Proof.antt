@@ -1,0 +1,125 @@
+-- `charge_slow` meets the definition, by the fuel taken back and whether cleanups are ready. Assumes nothing.
+use mathlib.Core.Path.{sym, ap, _∙_}
+use Rattle.model.specs.Fuel.{unbank}
+use Rattle.model.specs.declared.call.OptPc.{OptPc}
+use Rattle.model.specs.declared.machine.Fuel.{Fuel}
+use Rattle.memory.specs.Memory.{Lent, Beside}
+use Rattle.memory.specs.Lendings.{cleaning, plain}
+use Rattle.coro_clean.proofs.Paid.{back-rep, slow-spent, slow-paid}
+use Rattle.coro_clean.proofs.Starting.{unbank-sounds, unbank-ok}
+use Rattle.coro_clean.proofs.Closes.{at-ready, at-idle, paid-again}
+use borrow.Author.Needs.{needs}
+use Rattle.coro_clean.proofs.charge.charge_slow.Statement.{statement}
+use Rattle.coro_clean.proofs.charge.charge_slow.Tie as tie
+
+-- the ways back that several clauses take
+abbrev start-of : tie.After-unbank → tie.Start
+start-of c = c .before .before .before .before .before .before .before .before
+
+abbrev mem : tie.Start → Beside → Lent
+mem c b = cleaning (c .args .stack .now) (c .args .frames .now) (c .args .chain .now) (c .args .slots .now) (c .args .saved-stack .now)
+    (c .args .saved-frames .now) (c .args .finalize .now) plain b
+
+unbank-requires : tie.Need-unbank-requires
+unbank-requires c κs = search needs
+
+returns : tie.Need-returns
+returns c =
+    let at-unbank = c .before .before in let entry = start-of at-unbank in
+    let back = at-unbank in
+    let start = entry in
+    λ w b rep snd. slow-spent (start .args .l) (mem start b) (start .args .m) (start .args .fuel) w rep (back .unbank .result) (back .unbank .ensures)
+    (OptPc.Some (start .args .pc)) (c .if1 .taken)
+
+charge-ready-requires : tie.Need-charge-ready-requires
+charge-ready-requires c κs =
+    let at-if1 = c .before .before .before .before .before .before .before .before in let at-unbank = at-if1 .before .before in
+    let entry = start-of at-unbank in
+    let some = at-if1 in
+    let back = at-unbank in
+    let start = entry in
+    let p = start .pre in
+    record {
+      charge = record {
+        ok = unbank-ok (start .args .l) (mem start) (start .args .m) (start .args .fuel) (back .unbank .result) (back .unbank .ensures) (p .ok);
+        narrow = p .narrow;
+        some = p .some;
+      };
+      paid = paid-again (start .args .fuel) (back .unbank .result) (back .unbank .ensures) (some .if1 .left);
+    }
+
+same-length : tie.Need-same-length
+same-length c = search needs
+
+same-length-2 : tie.Need-same-length-2
+same-length-2 c = search needs
+
+same-length-3 : tie.Need-same-length-3
+same-length-3 c = search needs
+
+same-length-4 : tie.Need-same-length-4
+same-length-4 c = search needs
+
+same-length-5 : tie.Need-same-length-5
+same-length-5 c = search needs
+
+same-length-6 : tie.Need-same-length-6
+same-length-6 c = search needs
+
+same-length-7 : tie.Need-same-length-7
+same-length-7 c = search needs
+
+returns-2 : tie.Need-returns-2
+returns-2 c =
+    let at-charge-ready = c .before .before .before .before .before .before .before .before .before .before .before .before .before .before in
+    let at-if2 = at-charge-ready .before .before .before .before .before .before .before .before in let at-if1 = at-if2 .before in
+    let at-unbank = at-if1 .before .before in let entry = start-of at-unbank in
+    let begun = at-charge-ready in
+    let ready = at-if2 in
+    let some = at-if1 in
+    let back = at-unbank in
+    let start = entry in
+    λ w b rep snd.
+    let f = back .unbank .result in
+    let again = back-rep (start .args .l) (mem start b) (start .args .m) (start .args .fuel) w rep f (back .unbank .ensures) in
+    slow-paid (start .args .l) (mem start b) (start .args .m) (start .args .fuel) w rep f (back .unbank .ensures) (OptPc.Some (start .args .pc)) _ _ _ _ (some .if1 .left)
+    (at-ready (start .args .l) _ _ _ (start .args .pc) (unbank w) _ (sym (ap (λ (x : Fuel). x .ready) (again .fuel)) ∙ ready .if2 .taken)
+    (begun .charge-ready .ensures (unbank w) b again (unbank-sounds w snd)))
+
+charge-done-requires : tie.Need-charge-done-requires
+charge-done-requires c κs = search needs
+
+returns-3 : tie.Need-returns-3
+returns-3 c =
+    let at-charge-done = c .before in let at-if2 = at-charge-done .before in let at-if1 = at-if2 .before in
+    let at-unbank = at-if1 .before .before in let entry = start-of at-unbank in
+    let paid = at-charge-done in
+    let ready = at-if2 in
+    let some = at-if1 in
+    let back = at-unbank in
+    let start = entry in
+    λ w b rep snd.
+    let f = back .unbank .result in
+    let again = back-rep (start .args .l) (mem start b) (start .args .m) (start .args .fuel) w rep f (back .unbank .ensures) in
+    slow-paid (start .args .l) (mem start b) (start .args .m) (start .args .fuel) w rep f (back .unbank .ensures) (OptPc.Some (start .args .pc)) (mem start b)
+    (start .args .m) _ _ (some .if1 .left)
+    (at-idle (start .args .l) (mem start b) (start .args .m) _ (start .args .pc) (unbank w) _ (sym (ap (λ (x : Fuel). x .ready) (again .fuel)) ∙ ready .if2 .left)
+    (paid .charge-done .ensures (start .args .m) (start .args .l) (unbank w) (record { words = mem start b; fuel = f }) again))
+
+pub charge-slow-spec : {M : Type 1} → statement M
+charge-slow-spec =
+    tie.close
+    (tie.spec
+    unbank-requires
+    returns
+    charge-ready-requires
+    same-length
+    same-length-2
+    same-length-3
+    same-length-4
+    same-length-5
+    same-length-6
+    same-length-7
+    returns-2
+    charge-done-requires
+    returns-3)
