@@ -2,6 +2,7 @@ pub mod Coding
 pub mod Words
 pub mod Slots
 pub mod Fields
+pub mod ByKind
 pub mod Lookups
 pub mod Place
 pub mod Charges

@@ -8,4 +8,5 @@ pub mod Table
 pub mod Charge
 pub mod Slot
 pub mod Heap
+pub mod Kind
 pub mod Ranges

@@ -46,6 +46,15 @@ intOf (O.Iter s d k) = M.None
 intOf (O.Error e f p w) = M.None
 intOf (O.Coro c) = M.None
 
+-- an iterator that is done
+abbrev pub isDone : Object → Bool
+isDone O.Empty = false
+isDone (O.Func f) = false
+isDone (O.Int n) = false
+isDone (O.Iter s d k) = d
+isDone (O.Error e f p w) = false
+isDone (O.Coro c) = false
+
 -- ---- a coroutine with a field replaced
 
 -- coro.rs: co.closing = true, co.signal = signal

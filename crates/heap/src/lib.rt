@@ -3,6 +3,7 @@ pub mod fault;
 pub mod field;
 pub mod heap;
 pub mod int;
+pub mod kind;
 pub mod object;
 pub mod ranges;
 pub mod slot;

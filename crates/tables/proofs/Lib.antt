@@ -7,6 +7,7 @@ pub mod Rowed
 pub mod Bases
 pub mod Doing
 pub mod Queues
+pub mod Tops
 pub mod Switch
 pub mod Fits
 pub mod Setups

@@ -57,6 +57,19 @@ frameOf ws =
 abbrev pub frameIn : List ℕ → ℕ → Frame
 frameIn ws i = frameOf (chunkAt 6 ws i)
 
+-- its function, pc, base and continuation, word by word
+abbrev pub funcIn : List ℕ → ℕ → ℕ
+funcIn ws i = getD ws (i * 6) 0
+
+abbrev pub pcIn : List ℕ → ℕ → ℕ
+pcIn ws i = getD ws (i * 6 + 1) 0
+
+abbrev pub baseIn : List ℕ → ℕ → ℕ
+baseIn ws i = getD ws (i * 6 + 2) 0
+
+abbrev pub contIn : List ℕ → ℕ → Cont
+contIn ws i = contOf (getD ws (i * 6 + 4) 0) (getD ws (i * 6 + 5) 0)
+
 -- ---- an active coroutine: its word, floor, driver code, three numbers
 
 abbrev pub driverCode : Driver → ℕ

@@ -3,7 +3,7 @@ ghost use mathlib.Core.Path.{_≡_};
 ghost use Prim.Native.Nat.{_+_, _*_, _≤_};
 ghost use lib.ListN.{length};
 ghost use Rattle.lists.specs.Parts.{splice};
-ghost use Rattle.tables.specs.Layout.{contCode, contReg, contOf, frameIn, frameWords};
+ghost use Rattle.tables.specs.Layout.{contCode, contReg, contOf, frameIn, funcIn, pcIn, baseIn, contIn, frameWords};
 use model::machine::Cont;
 use model::machine::Frame;
 
@@ -61,6 +61,35 @@ pub fn frame_at(frames: &[u64], i: usize) -> Frame
         closure: frames[at + 3],
         cont,
     }
+}
+
+// Its function, pc, base and continuation alone.
+pub fn func_at(frames: &[u64], i: usize) -> u64
+    requires { ⌜ i * 6 + 6 ≤ length (now frames) ⌝ }
+    ensures { λ r. ⌜ r ≡ funcIn (now (frames .entry)) i ⌝ }
+{
+    frames[i * 6]
+}
+
+pub fn pc_at(frames: &[u64], i: usize) -> u64
+    requires { ⌜ i * 6 + 6 ≤ length (now frames) ⌝ }
+    ensures { λ r. ⌜ r ≡ pcIn (now (frames .entry)) i ⌝ }
+{
+    frames[i * 6 + 1]
+}
+
+pub fn base_at(frames: &[u64], i: usize) -> usize
+    requires { ⌜ i * 6 + 6 ≤ length (now frames) ⌝ }
+    ensures { λ r. ⌜ r ≡ baseIn (now (frames .entry)) i ⌝ }
+{
+    frames[i * 6 + 2] as usize
+}
+
+pub fn cont_at(frames: &[u64], i: usize) -> Cont
+    requires { ⌜ i * 6 + 6 ≤ length (now frames) ⌝ }
+    ensures { λ k. ⌜ k ≡ contIn (now (frames .entry)) i ⌝ }
+{
+    cont_of(frames[i * 6 + 4], frames[i * 6 + 5])
 }
 
 // The frame at place i replaced.

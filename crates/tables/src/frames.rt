@@ -1,10 +1,11 @@
 // The frames, bottom first in a lent slice; `depth` is their number.
-ghost use mathlib.Core.List.{_∷_};
+ghost use mathlib.Core.List.{[], _∷_};
 ghost use Prim.Native.Nat.{_+_, _-_, _*_, _^_, _≤_, _<_};
 ghost use lib.ListN.{length, getD, drop};
 ghost use Rattle.model.specs.Frames.{frame, onTop, setPc, stepPc};
 ghost use Rattle.tables.specs.Does.{FramesDo};
 use crate::frame::put_frame;
+use crate::runs::clear_part;
 use model::machine::Cont;
 use model::machine::Frame;
 
@@ -49,4 +50,12 @@ pub fn pop_frame(frames: &mut [u64], depth: usize)
 {
     let at = (depth - 1) * 6;
     lists::clear_words(&mut frames[at..at + 6]);
+}
+
+// All frames go.
+pub fn clear_frames(frames: &mut [u64], depth: usize)
+    requires { ⌜ depth * 6 ≤ length (now frames) ⌝ }
+    ensures { λ _. ⌜ FramesDo (λ _. []) (now (frames .entry)) (now (frames .exit)) depth 0 ⌝ }
+{
+    clear_part(frames, 0, depth * 6);
 }

@@ -1,7 +1,7 @@
 // Runs of words moved between lent slices.
 ghost use mathlib.Core.Path.{_≡_};
 ghost use Prim.Native.Nat.{_+_, _-_, _*_, _≤_, _<_};
-ghost use lib.ListN.{length, getD, take};
+ghost use lib.ListN.{length, getD, take, replicate};
 ghost use Rattle.lists.specs.Parts.{part, splice, pad};
 ghost use Rattle.tables.specs.Runs.{Moved, shifted, lowered, rebase, between, RebaseFits};
 
@@ -11,6 +11,15 @@ pub fn move_words(dst: &mut [u64], at: usize, src: &mut [u64], from: usize, n: u
     ensures { λ _. ⌜ Moved (now (dst .entry)) (now (src .entry)) (now (dst .exit)) (now (src .exit)) at from n ⌝ }
 {
     lists::take_words(&mut dst[at..at + n], &mut src[from..from + n]);
+}
+
+// n words from index `at` become 0.
+pub fn clear_part(ws: &mut [u64], at: usize, n: usize)
+    requires { ⌜ at + n ≤ length (now ws) ⌝ }
+    ensures { λ _. ⌜ now (ws .exit) ≡ splice (now (ws .entry)) at (replicate n 0) ⌝ }
+{
+    let end = at + n;
+    lists::clear_words(&mut ws[at..end]);
 }
 
 // Up to 255 words set aside.
