@@ -25,7 +25,7 @@ use Rattle.model.specs.Heap.{changeAs, setCoro}
 use Rattle.model.specs.Coro.{inState, ended, finishCoroutine}
 use Rattle.model.specs.Sound.{rowWords, savedSizes, sound}
 use Rattle.model.specs.declared.machine.Fuel.{Fuel}
-use Rattle.invariant.proofs.Tests.{no-false, and-left, and-right, each-at, at-each}
+use Rattle.invariant.proofs.Tests.{no-false, no-true, and-left, and-right, each-at, at-each}
 use Rattle.invariant.proofs.Point.{Points, finds}
 use Rattle.invariant.proofs.Sound.{sound→}
 use Rattle.tables.specs.Layout.{frameWords}
@@ -42,8 +42,8 @@ use Rattle.memory.specs.declared.machine.Machine.{Machine}
 use Rattle.memory.specs.declared.machine.Sizes.{Sizes}
 use Rattle.memory.proofs.Tables.{slots-are, length-tabled}
 use Rattle.memory.proofs.Lookup.{There, there, lacks, regs-row, frames-row, row-below}
+use Rattle.memory.proofs.Slotted.{slot-inside, put-slots, object-rep}
 use Rattle.coro_end.specs.Finish.{endedAs, FreeFits, Freed}
-use Rattle.coro_end.proofs.Slotted.{slot-inside, put-slots, object-rep}
 use Rattle.coro_end.proofs.Rowless.{disowned, regs-left, frames-left}
 
 -- a sound world has its rows
@@ -177,7 +177,8 @@ module _ (l : Sizes) (M : Lent) (m : Machine) (f : Fuel) (v : ℕ) (w : World) (
           let h = free .none (ap (λ (x : CoroObj). isFinished (x .state)) (in-world .is) ∙ e) in
           subst (λ a. Rep l (setCoro v k′ r′ w) (onSlots slots′ (onSaved a savedFrames′ M)) m f) (sym (h .0))
           (subst (λ b. Rep l (setCoro v k′ r′ w) (onSlots slots′ (onSaved (M .savedStack) b M)) m f) (sym (h .1))
-          (object-rep l M m f w v i (Object.Coro k r) (Object.Coro k′ r′) slots′ rep points (in-world .slot) (disowned k r e) (disowned k′ r′ fin) marked))
+          (object-rep l M m f w v i (Object.Coro k r) (Object.Coro k′ r′) slots′ rep points (in-world .slot)
+          (λ n. disowned k′ r′ fin n ∙ sym (disowned k r e n)) (λ n t. no-true (sym t ∙ disowned k r e n)) marked))
 
       -- its row is empty
       freed : isFinished (k .state) ≡ false → Rep l (setCoro v k′ r′ w) M′ m f

@@ -28,10 +28,10 @@ use Rattle.memory.specs.declared.machine.Sizes.{Sizes}
 use Rattle.memory.proofs.Slots.{at-map, get-same}
 use Rattle.memory.proofs.Tables.{slots-are}
 use Rattle.memory.proofs.Lookup.{place-slot}
+use Rattle.memory.proofs.Slotted.{object-rep}
 use Rattle.coro_end.specs.Iter.{asIter, iterBy, iterOf}
 use Rattle.coro_end.specs.declared.iter.Iterator.{Iterator}
 use Rattle.coro_end.specs.declared.iter.Iterator.the-variants as I
-use Rattle.coro_end.proofs.Slotted.{object-rep}
 
 -- an object that was found in the words, as an iterator
 pub iter-here : (n : ℕ) (ws : List ℕ) (w i : ℕ) (o r : H.Object) → Place.At i ≡ get O.Empty HO.isFilled (slotsOf n ws) w → r ≡ o → r ≡ slotIn ws i .object
@@ -111,4 +111,4 @@ module _ (l : Sizes) (M : Lent) (m : Machine) (fuel : Fuel) (w : World) (rep : R
   iter-changed i s d k slots′ e q =
       let h = held (w .slots) v i s d k (in-world (I.At i s d k) e) in
       subst (λ o. Rep l (changeIterIn o v f g w) (onSlots slots′ M) m fuel) (sym (pointed (w .slots) v (Object.Iter s d k) refl (h .points)))
-      (object-rep l M m fuel w v i (Object.Iter s d k) (Object.Iter s (f d) (g k)) slots′ rep (h .points) (h .slot) (λ n. refl) (λ n. refl) q)
+      (object-rep l M m fuel w v i (Object.Iter s d k) (Object.Iter s (f d) (g k)) slots′ rep (h .points) (h .slot) (λ n. refl) (λ n e. refl) q)

@@ -1,4 +1,3 @@
-pub mod Slotted
 pub mod Iterators
 pub mod Delivery
 pub mod Rowless

@@ -96,7 +96,7 @@ some-frame (f ∷ fs) e = omega arith
 
 -- ---- the verdict
 
-abbrev verdict : Bool → Bool → Fault
+abbrev pub verdict : Bool → Bool → Fault
 verdict a b = pick a Fault.InvalidCoroState (pick b Fault.StackOverflow Fault.None)
 
 refuses : (a b : Bool) (f : Fault) (w : World) (o : After Entered) → f ≡ verdict a b → (numberOf f ≡ 0 → ⊥)
@@ -139,17 +139,17 @@ module _ (l : Sizes) (M : Lent) (m : Machine) (f : Fuel) (v : ℕ) (w : World) (
     abbrev r : Rest
     r = in-world .rest
 
-    abbrev unfit : Bool
+    abbrev pub unfit : Bool
     unfit = not (isResumable (k .state)) || isNil (k .frames)
 
-    same-verdict : refusalOf (m .height) (m .depth) l c ≡ verdict unfit (overflows k w)
+    pub same-verdict : refusalOf (m .height) (m .depth) l c ≡ verdict unfit (overflows k w)
     same-verdict =
         ap (refusalOf (m .height) (m .depth) l) (in-world .is)
         ∙ ap (λ b. verdict (not (isResumable (k .state)) || b) (ltb (l .depth) (m .depth + length (k .frames)) || ltb (l .stack) (m .height + length (k .regs)))) (nil-length (k .frames))
         ∙ ap₂ (λ x y. verdict unfit (ltb x (m .depth + length (k .frames)) || ltb y (m .height + length (k .regs)))) (rep .sizes .depth) (rep .sizes .stack)
         ∙ ap₂ (λ x y. verdict unfit (ltb (w .setup .limits .depth) (x + length (k .frames)) || ltb (w .setup .limits .stack) (y + length (k .regs)))) (rep .frames .count) (rep .stack .count)
 
-    model-enter : (d : Driver) → coroEnter v d w ≡ enterAs (Is k r) v d w
+    pub model-enter : (d : Driver) → coroEnter v d w ≡ enterAs (Is k r) v d w
     unfolding coroEnter
     model-enter d = ap (λ x. enterAs x v d w) (in-world .coro)
 

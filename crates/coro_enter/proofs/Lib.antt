@@ -1,3 +1,4 @@
 pub mod Parts
 pub mod Entry
+pub mod Accepts
 pub mod Lands

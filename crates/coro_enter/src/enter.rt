@@ -22,7 +22,7 @@ pub struct EnterDid {
 }
 
 // Why a coroutine is not entered, or None.
-pub(crate) fn refusal(m: Machine, l: Sizes, c: CoroObj) -> Fault
+pub fn refusal(m: Machine, l: Sizes, c: CoroObj) -> Fault
     requires { ⌜ (m .depth ≤ l .depth) × (m .height ≤ l .stack) ⌝ }
     ensures { λ r. ⌜ r ≡ refusalOf (m .height) (m .depth) l c ⌝ }
 {

@@ -5,3 +5,5 @@ pub mod Tables
 pub mod Lookup
 pub mod Turn
 pub mod Does
+pub mod Slotted
+pub mod Few

@@ -35,8 +35,8 @@ use Rattle.memory.specs.Memory.{Lent, Beside, Slots, regsRows, framesRows, Rep,
 use Rattle.memory.specs.Lendings.{lent}
 use Rattle.memory.specs.Contract.{Ok, only}
 use Rattle.memory.proofs.Tables.{length-tabled}
+use Rattle.memory.proofs.Few.{queue-few}
 use Rattle.words.specs.Words.{sizesOf, Lengths, lengthsOf, needed, wordsIn, wordsOf, numbersOf, besideOf, Encoded, EveryWorld}
-use Rattle.words.proofs.Few.{queue-few}
 
 -- ---- lengths
 

@@ -1,4 +1,3 @@
-pub mod Few
 pub mod Encoded
 pub mod Saved
 pub mod Decoded

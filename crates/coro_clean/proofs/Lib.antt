@@ -1,0 +1,4 @@
+pub mod Paid
+pub mod Search
+pub mod Starting
+pub mod Loss
