@@ -5,7 +5,7 @@ use Prim.Native.Nat.{ℕ}
 use lib.Dec.{eqb}
 use borrow.Author.Tests.{eq-eqb, ne-eqb}
 use Rattle.lists.specs.Pick.{pick, pick-true, pick-false}
-use Rattle.heap.specs.declared.value.Opt.{Opt}
+use Rattle.model.specs.declared.call.OptPc.{OptPc}
 use Rattle.model.specs.World.{World, After, after}
 use Rattle.model.specs.Fuel.{unbankAt, unbank, armAt, armClose, spend}
 use Rattle.model.specs.Cleanup.{chargeDone, chargeAt, chargeSlow, charge}
@@ -36,13 +36,13 @@ module _ (l : Sizes) (M : Lent) (m : Machine) (f : Fuel) (w : World) (rep : Rep 
 
   -- ---- fuel in hand, and none
 
-  pub charge-fast : (pc : Opt) (g : Fuel) → (f .fuel ≡ 0 → ⊥) → g ≡ spent f → Does l (charge pc w) M m g (Charge.Done 0)
+  pub charge-fast : (pc : OptPc) (g : Fuel) → (f .fuel ≡ 0 → ⊥) → g ≡ spent f → Does l (charge pc w) M m g (Charge.Done 0)
   unfolding charge
   charge-fast pc g n e =
       does l M m g (charge pc w) (spend w) (Charge.Done 0)
       (passed (chargeSlow pc w) (after (spend w) (Charge.Done 0)) (eqb (w .fuel .fuel) 0) (ap (λ x. eqb (x .fuel) 0) (sym (rep .fuel)) ∙ ne-eqb (f .fuel) 0 n)) (spend-rep g e)
 
-  pub charge-slow : (pc : Opt) (M′ : Lent) (n : Machine) (g : Fuel) (a : Charge) → f .fuel ≡ 0 → Does l (chargeSlow pc w) M′ n g a → Does l (charge pc w) M′ n g a
+  pub charge-slow : (pc : OptPc) (M′ : Lent) (n : Machine) (g : Fuel) (a : Charge) → f .fuel ≡ 0 → Does l (chargeSlow pc w) M′ n g a → Does l (charge pc w) M′ n g a
   unfolding charge
   charge-slow pc M′ n g a e d =
       subst (λ o. Does l o M′ n g a)
@@ -54,13 +54,13 @@ module _ (l : Sizes) (M : Lent) (m : Machine) (f : Fuel) (w : World) (rep : Rep 
     pub back-rep : Rep l (unbank w) M m g
     back-rep = unbank-rep l M m f w rep g back
 
-    pub slow-spent : (pc : Opt) → g .fuel ≡ 0 → Does l (chargeSlow pc w) M m g Charge.Spent
+    pub slow-spent : (pc : OptPc) → g .fuel ≡ 0 → Does l (chargeSlow pc w) M m g Charge.Spent
     unfolding chargeSlow
     slow-spent pc e =
         does l M m g (chargeSlow pc w) (unbank w) Charge.Spent
         (chosen (after (unbank w) Charge.Spent) (chargeAt pc (unbank w)) (eqb (unbank w .fuel .fuel) 0) (ap (λ x. eqb (x .fuel) 0) (sym (back-rep .fuel)) ∙ eq-eqb (g .fuel) 0 e)) back-rep
 
-    pub slow-paid : (pc : Opt) (M′ : Lent) (n : Machine) (h : Fuel) (a : Charge) → (g .fuel ≡ 0 → ⊥) → Does l (chargeAt pc (unbank w)) M′ n h a → Does l (chargeSlow pc w) M′ n h a
+    pub slow-paid : (pc : OptPc) (M′ : Lent) (n : Machine) (h : Fuel) (a : Charge) → (g .fuel ≡ 0 → ⊥) → Does l (chargeAt pc (unbank w)) M′ n h a → Does l (chargeSlow pc w) M′ n h a
     unfolding chargeSlow
     slow-paid pc M′ n h a k d =
         subst (λ o. Does l o M′ n h a)

@@ -1,7 +1,7 @@
 // exec.rs: charge, one unit of fuel. coro.rs: charge_slow.
 ghost use mathlib.Core.Path.{_≡_};
 ghost use Prim.Native.Nat.{_≤_};
-ghost use Rattle.heap.specs.declared.value.Opt.the-variants.{None};
+ghost use Rattle.model.specs.declared.call.OptPc.the-variants.{None};
 ghost use Rattle.model.specs.Cleanup.{chargeDone, chargeSlow, charge};
 ghost use Rattle.memory.specs.Lendings.{none};
 ghost use Rattle.memory.specs.Contract.{Met, any, every, with};

@@ -54,7 +54,7 @@ pub record There (xs : List (Slot Object)) (v i : ℕ) (c : CoroObj) : Type 0 wh
   pub slot : i ≡ slotOf v
 
 module _ (xs : List (Slot Object)) (v : ℕ) where
-  found-fault : (k : Class) (i : ℕ) → getIn Object.Empty isFilled xs k ≡ Place.At i → notA k (Place.At i) ≡ Fault.TypeError
+  pub found-fault : (k : Class) (i : ℕ) → getIn Object.Empty isFilled xs k ≡ Place.At i → notA k (Place.At i) ≡ Fault.TypeError
   found-fault Class.Nil i e = never cc
   found-fault (Class.Ref o) i e = refl
   found-fault (Class.Int n) i e = refl

@@ -1,5 +1,5 @@
 -- `charge_plain` meets the definition, by the fuel in hand. Assumes nothing.
-use Rattle.heap.specs.declared.value.Opt.{Opt}
+use Rattle.model.specs.declared.call.OptPc.{OptPc}
 use Rattle.coro_clean.proofs.Paid.{charge-fast, charge-slow}
 use borrow.Author.Needs.{needs}
 use Rattle.coro_clean.proofs.charge.charge_plain.Statement.{statement}
@@ -12,7 +12,7 @@ returns : tie.Need-returns
 returns c =
     let tested = c .before in
     let start = tested .before .before in
-    λ m l w b rep. charge-fast l (b .words) m (start .args .fuel) w rep Opt.None _ (tested .if1 .taken) (c .spend .ensures)
+    λ m l w b rep. charge-fast l (b .words) m (start .args .fuel) w rep OptPc.None _ (tested .if1 .taken) (c .spend .ensures)
 
 slow-plain-requires : tie.Need-slow-plain-requires
 slow-plain-requires c κs = search needs
@@ -21,7 +21,7 @@ returns-2 : tie.Need-returns-2
 returns-2 c =
     let tested = c .before in
     let start = tested .before .before in
-    λ m l w b rep. charge-slow l (b .words) m (start .args .fuel) w rep Opt.None (b .words) m _ _ (tested .if1 .left) (c .slow-plain .ensures m l w b rep)
+    λ m l w b rep. charge-slow l (b .words) m (start .args .fuel) w rep OptPc.None (b .words) m _ _ (tested .if1 .left) (c .slow-plain .ensures m l w b rep)
 
 pub charge-plain-spec : {M : Type 1} → statement M
 charge-plain-spec = tie.close (tie.spec spend-requires returns slow-plain-requires returns-2)

@@ -1,6 +1,6 @@
 -- `slow_plain` meets the definition, by the fuel taken back. Assumes nothing.
 use Rattle.model.specs.Fuel.{unbank}
-use Rattle.heap.specs.declared.value.Opt.{Opt}
+use Rattle.model.specs.declared.call.OptPc.{OptPc}
 use Rattle.coro_clean.proofs.Paid.{back-rep, slow-spent, slow-paid}
 use borrow.Author.Needs.{needs}
 use Rattle.coro_clean.proofs.charge.slow_plain.Statement.{statement}
@@ -13,7 +13,7 @@ returns : tie.Need-returns
 returns c =
     let back = c .before .before in
     let start = back .before in
-    λ m l w b rep. slow-spent l (b .words) m (start .args .fuel) w rep (back .unbank .result) (back .unbank .ensures) Opt.None (c .if1 .taken)
+    λ m l w b rep. slow-spent l (b .words) m (start .args .fuel) w rep (back .unbank .result) (back .unbank .ensures) OptPc.None (c .if1 .taken)
 
 charge-done-requires : tie.Need-charge-done-requires
 charge-done-requires c κs = search needs
@@ -24,7 +24,7 @@ returns-2 c =
     let back = tested .before .before in
     let start = back .before in
     λ m l w b rep.
-    slow-paid l (b .words) m (start .args .fuel) w rep (back .unbank .result) (back .unbank .ensures) Opt.None (b .words) m _ _ (tested .if1 .left)
+    slow-paid l (b .words) m (start .args .fuel) w rep (back .unbank .result) (back .unbank .ensures) OptPc.None (b .words) m _ _ (tested .if1 .left)
     (c .charge-done .ensures m l (unbank w) b (back-rep l (b .words) m (start .args .fuel) w rep (back .unbank .result) (back .unbank .ensures)))
 
 pub slow-plain-spec : {M : Type 1} → statement M
