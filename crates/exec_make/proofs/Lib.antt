@@ -1,1 +1,2 @@
 pub mod Newly
+pub mod Callee

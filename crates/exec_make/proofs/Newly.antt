@@ -1,6 +1,6 @@
--- CoroNew on the world. Assumes nothing.
+-- A creation with its argument window, and CoroNew, on the world. Assumes nothing.
 use mathlib.Core.Path.{_≡_, sym, ap, _∙_, subst}
-use mathlib.Core.Bool.{true, false}
+use mathlib.Core.Bool.{true}
 use mathlib.Core.List.{List, [], _∷_}
 use Prim.Native.Nat.{ℕ, suc, _+_, _-_, _*_, _≤_, _<_}
 use native.Mathlib.Omega.{arith}
@@ -10,8 +10,7 @@ use lib.Seq.{drop-append-le, take-append-le}
 use Rattle.lists.specs.Parts.{part, pad}
 use Rattle.heap.specs.Word.{nil}
 use Rattle.heap.specs.declared.fault.Fault.{Fault}
-use Rattle.model.specs.Program.{isFunction}
-use Rattle.model.specs.World.{World, after, andThen}
+use Rattle.model.specs.World.{World, After, andThen}
 use Rattle.model.specs.Frames.{topBase, putReg}
 use Rattle.model.specs.Coro.{coroCreate}
 use Rattle.model.specs.Exec.{window, putMade, coroNew}
@@ -21,8 +20,6 @@ use Rattle.model.specs.declared.exec.Step.{Step}
 use Rattle.model.specs.declared.machine.Cont.{Cont}
 use Rattle.model.specs.declared.machine.Frame.{Frame}
 use Rattle.model.specs.declared.machine.Fuel.{Fuel}
-use Rattle.invariant.proofs.Tests.{no-false}
-use Rattle.invariant.proofs.Sound.{sound→}
 use Rattle.invariant.proofs.Good.{Still}
 use Rattle.invariant.proofs.Make.{create-good}
 use Rattle.tables.specs.Does.{RegFits}
@@ -33,7 +30,7 @@ use Rattle.memory.specs.Contract.{Does}
 use Rattle.memory.specs.declared.machine.Machine.{Machine}
 use Rattle.memory.specs.declared.machine.Sizes.{Sizes}
 use Rattle.memory.proofs.Does.{does}
-use Rattle.coro_create.proofs.Setting.{one-of}
+use Rattle.coro_create.proofs.Setting.{known, one-of}
 
 -- ---- the word of what was made
 
@@ -55,7 +52,7 @@ part-pad at n xs ws e h =
 pub aside-is : (at n : ℕ) (ws args : List ℕ) → n ≤ 255 → at + n ≤ length ws → args ≡ pad 255 (part at n ws) → take n args ≡ part at n ws
 aside-is at n ws args few h e = ap (take n) e ∙ take-pad 255 n (part at n ws) (sym (length-part at n ws h))
 
--- ---- the creation
+-- ---- the argument window of a world
 
 module _ (l : Sizes) (w : World) (M : Lent) (m : Machine) (fuel : Fuel) (rep : Rep l w M m fuel) where
   -- the window starts after register dst of the top frame
@@ -76,27 +73,34 @@ module _ (l : Sizes) (w : World) (M : Lent) (m : Machine) (fuel : Fuel) (rep : R
       top-is [] n d c s = absurd (omega arith)
       top-is (f ∷ fs) n d c s = ap (λ k. getD (f ∷ fs) k d .base) (let z : n - suc (n - 1) ≡ 0 = omega arith in z)
 
-  module _ (snd : sound w ≡ true) (f closure : ℕ) (args : List ℕ) (named : f < getD (M .setup) 13 0) where
-    abbrev u : World
-    u = coroCreate f closure args w .world
+-- arguments that are the window
+pub with-window : (l : Sizes) (w : World) (M : Lent) (m : Machine) (fuel : Fuel) (a : Made) (f closure : ℕ) (args window : List ℕ) → args ≡ window → Does l (coroCreate f closure args w) M m fuel a
+    → Does l (coroCreate f closure window w) M m fuel a
+with-window l w M m fuel a f closure args window e d = subst (λ x. Does l (coroCreate f closure x w) M m fuel a) e d
 
-    is-function : isFunction (w .setup) f ≡ true
-    is-function = lt-ltb f (length (w .setup .functions)) (one-of l M m fuel w rep f snd named)
+-- ---- what a creation leaves as it was
 
-    kept : Still w u
-    kept = create-good f closure args w (sound→ {ex = false} w snd (λ z. no-false z)) is-function .fact .still
+-- the stack and the frames: a register of the top frame is one still
+pub still-fits : (l : Sizes) (w u : World) (M M′ : Lent) (m n : Machine) (fuel fuel′ : Fuel) (dst : ℕ) → Still w u → Rep l w M m fuel → Rep l u M′ n fuel′
+    → RegFits (M .stack) (M .frames) (m .height) (m .depth) dst → RegFits (M .stack) (M .frames) (n .height) (n .depth) dst
+still-fits l w u M M′ m n fuel fuel′ dst kept rep rep′ fits =
+    let h : n .height ≡ m .height = rep′ .stack .count ∙ ap length (kept .stack) ∙ sym (rep .stack .count) in
+    let d : n .depth ≡ m .depth = rep′ .frames .count ∙ ap length (kept .frames) ∙ sym (rep .frames .count) in
+    subst (λ k. RegFits (M .stack) (M .frames) k (n .depth) dst) (sym h) (subst (λ k. RegFits (M .stack) (M .frames) (m .height) k dst) (sym d) fits)
 
-    -- stack and frames are as they were
-    pub still-fits : (M′ : Lent) (n : Machine) (fuel′ : Fuel) (dst : ℕ) → Rep l u M′ n fuel′ → RegFits (M .stack) (M .frames) (m .height) (m .depth) dst
-        → RegFits (M .stack) (M .frames) (n .height) (n .depth) dst
-    still-fits M′ n fuel′ dst rep′ fits =
-        let h : n .height ≡ m .height = rep′ .stack .count ∙ ap length (kept .stack) ∙ sym (rep .stack .count) in
-        let d : n .depth ≡ m .depth = rep′ .frames .count ∙ ap length (kept .frames) ∙ sym (rep .frames .count) in
-        subst (λ k. RegFits (M .stack) (M .frames) k (n .depth) dst) (sym h) (subst (λ k. RegFits (M .stack) (M .frames) (m .height) k dst) (sym d) fits)
+pub create-still : (l : Sizes) (M : Lent) (m : Machine) (fuel : Fuel) (w : World) → Rep l w M m fuel → sound w ≡ true → (f closure : ℕ) (args : List ℕ) → f < getD (M .setup) 13 0
+    → Still w (coroCreate f closure args w .world)
+create-still l M m fuel w rep snd f closure args named =
+    create-good f closure args w (known w snd) (lt-ltb f (length (w .setup .functions)) (one-of l M m fuel w rep f snd named)) .fact .still
 
--- CoroNew is a creation, and then its word
-pub new-met : (l : Sizes) (M : Lent) (m : Machine) (fuel : Fuel) (w : World) (dst f argc : ℕ) (args : List ℕ) (a : Made) (s : Step) → args ≡ window dst argc w
-    → a ≡ coroCreate f nil args w .answer → Does l (putMade dst (coroCreate f nil args w .world) a) M m fuel s → Does l (coroNew dst f argc w) M m fuel s
+-- ---- the instruction
+
+-- something is made, and then its word is put
+pub made-put : (l : Sizes) (M : Lent) (m : Machine) (fuel : Fuel) (o : After Made) (dst : ℕ) (a : Made) (s : Step) → a ≡ o .answer → Does l (putMade dst (o .world) a) M m fuel s
+    → Does l (andThen o (putMade dst)) M m fuel s
+made-put l M m fuel o dst a s e d = subst (λ x. Does l (putMade dst (o .world) x) M m fuel s) e d
+
+pub new-met : (l : Sizes) (M : Lent) (m : Machine) (fuel : Fuel) (w : World) (dst f argc : ℕ) (a : Made) (s : Step) →
+    let o = coroCreate f nil (window dst argc w) w in a ≡ o .answer → Does l (putMade dst (o .world) a) M m fuel s → Does l (coroNew dst f argc w) M m fuel s
 unfolding coroNew
-new-met l M m fuel w dst f argc args a s e ea d =
-    subst (λ o. Does l o M m fuel s) (ap (putMade dst (coroCreate f nil args w .world)) ea ∙ ap (λ x. andThen (coroCreate f nil x w) (putMade dst)) e) d
+new-met l M m fuel w dst f argc a s e d = made-put l M m fuel (coroCreate f nil (window dst argc w) w) dst a s e d

@@ -1,2 +1,3 @@
 // coro.rs: exec, its arms that make coroutines, after their gate and charge.
+pub mod indirect;
 pub mod new;

@@ -1,15 +1,53 @@
 // coro.rs: exec, CoroNew. Its operands have been tested.
-ghost use Rattle.model.specs.Exec.{putMade, coroNew};
+ghost use Rattle.model.specs.Coro.{coroCreate};
+ghost use Rattle.model.specs.Exec.{putMade, window, coroNew};
 ghost use Rattle.tables.specs.Does.{RegFits};
 ghost use Rattle.exec_make.specs.New.{NewFits};
 ghost use Rattle.memory.specs.Lendings.{top, topMaking};
 ghost use Rattle.memory.specs.Contract.{Met, any, every, ifSound, only};
+use coro_create::create::CreateDid;
 use coro_create::create::coro_create;
 use machine::step::StepDid;
 use memory::machine::Machine;
 use memory::machine::Sizes;
 use model::coro::Made;
 use model::exec::Step;
+
+// A coroutine of function f and a closure, with the argc words after register dst, which are set aside.
+pub(crate) fn create(
+    stack: &[u64],
+    frames: &[u64],
+    slots: &mut [u64],
+    saved_stack: &mut [u64],
+    saved_frames: &mut [u64],
+    setup: &[u64],
+    m: Machine,
+    l: Sizes,
+    dst: u64,
+    f: u64,
+    closure: u64,
+    argc: u64,
+) -> CreateDid
+    requires { ⌜ NewFits l (now stack) (now frames) (now slots) (now «saved_stack») (now «saved_frames») (now setup) m dst f argc ⌝ }
+    ensures { λ r. ⌜ Met ifSound l (λ w. coroCreate f closure (window dst argc w) w) (topMaking stack frames slots «saved_stack» «saved_frames» setup) (only m) (only (r .machine)) (r .answer) ⌝ }
+{
+    let base = frames[(m.depth - 1) * 6 + 2] as usize;
+    let at = base + (dst as usize) + 1;
+    let n = argc as usize;
+    let args = tables::runs::set_aside(stack, at, n);
+    coro_create(
+        slots,
+        saved_stack,
+        saved_frames,
+        setup,
+        m,
+        l,
+        f,
+        closure,
+        args,
+        n,
+    )
+}
 
 // r!(dst) = t!(made); Step::Next
 pub(crate) fn put_made(stack: &mut [u64], frames: &[u64], m: Machine, dst: u64, a: Made) -> Step
@@ -42,11 +80,20 @@ pub fn coro_new(
     requires { ⌜ NewFits l (now stack) (now frames) (now slots) (now «saved_stack») (now «saved_frames») (now setup) m dst f argc ⌝ }
     ensures { λ r. ⌜ Met ifSound l (coroNew dst f argc) (topMaking stack frames slots «saved_stack» «saved_frames» setup) (only m) (only (r .machine)) (r .step) ⌝ }
 {
-    let base = frames[(m.depth - 1) * 6 + 2] as usize;
-    let at = base + (dst as usize) + 1;
-    let n = argc as usize;
-    let args = tables::runs::set_aside(stack, at, n);
-    let did = coro_create(slots, saved_stack, saved_frames, setup, m, l, f, 0, args, n);
+    let did = create(
+        stack,
+        frames,
+        slots,
+        saved_stack,
+        saved_frames,
+        setup,
+        m,
+        l,
+        dst,
+        f,
+        0,
+        argc,
+    );
     let next = did.machine;
     let answer = did.answer;
     let step = put_made(stack, frames, next, dst, answer);

@@ -1,0 +1,85 @@
+-- `create` meets the model: its arguments set aside are the window, and then a creation. Assumes nothing.
+use mathlib.Core.Path.{refl}
+use native.Mathlib.Omega.{arith}
+use Rattle.memory.specs.Memory.{Lent, Beside}
+use Rattle.memory.specs.Lendings.{topMaking, plain}
+use Rattle.exec_make.proofs.Newly.{window-is, with-window}
+use borrow.Author.Needs.{needs}
+use Rattle.exec_make.proofs.new.create.Statement.{statement}
+use Rattle.exec_make.proofs.new.create.Tie as tie
+
+abbrev mem : tie.Start → Beside → Lent
+mem s b = topMaking (s .args .stack .now) (s .args .frames .now) (s .args .slots .now) (s .args .saved-stack .now) (s .args .saved-frames .now) (s .args .setup .now) plain b
+
+abbrev around : tie.Start → Beside → Beside
+around s b = record { words = mem s b; fuel = b .fuel }
+
+sub-base : tie.Need-sub-base
+sub-base c = search needs
+
+mul-base : tie.Need-mul-base
+mul-base c = search needs
+
+add-base : tie.Need-add-base
+add-base c = search needs
+
+mul-base-2 : tie.Need-mul-base-2
+mul-base-2 c = search needs
+
+shared-slice-read-base : tie.Need-shared-slice-read-base
+shared-slice-read-base c = search needs
+
+add-at : tie.Need-add-at
+add-at c = search needs
+
+add-at-2 : tie.Need-add-at-2
+add-at-2 c = search needs
+
+set-aside-requires : tie.Need-set-aside-requires
+set-aside-requires c κs = search needs
+
+coro-create-requires : tie.Need-coro-create-requires
+coro-create-requires c κs =
+    let start = c .before .before .before .before .before .before .before .before .before .before .before .before in let o = start .pre .ok in
+    record {
+      ok = record { world = o .world; beside = around start (o .beside); rep = o .rep; sound = o .sound; room = o .room };
+      function = start .pre .function;
+      few = start .pre .few;
+    }
+
+same-length : tie.Need-same-length
+same-length c = search needs
+
+same-length-2 : tie.Need-same-length-2
+same-length-2 c = search needs
+
+same-length-3 : tie.Need-same-length-3
+same-length-3 c = search needs
+
+returns : tie.Need-returns
+returns c =
+    let at-create = c .before .before .before .before .before .before in let aside = at-create .before .before .before .before in let start = aside .before .before .before .before .before .before .before .before .before in
+    λ w b rep snd.
+    let h = start .pre .window in
+    with-window (start .args .l) w _ _ _ _ (start .args .f) (start .args .closure) _ _
+    (window-is (start .args .l) w (mem start b) (start .args .m) (b .fuel) rep (start .args .dst) (start .args .argc) _ (aside .set-aside .result)
+    (start .pre .reg) (start .pre .few) refl (omega arith) (aside .set-aside .ensures))
+    (at-create .coro-create .ensures w (around start b) rep snd)
+
+pub create-spec : {M : Type 1} → statement M
+create-spec =
+    tie.close
+    (tie.spec
+    sub-base
+    mul-base
+    add-base
+    mul-base-2
+    shared-slice-read-base
+    add-at
+    add-at-2
+    set-aside-requires
+    coro-create-requires
+    same-length
+    same-length-2
+    same-length-3
+    returns)
