@@ -53,7 +53,24 @@ pays h bytes g e = go (fits (h .used) (h .limit) bytes) e
 -- closing and signal, where a close is ignored or not
 unclosed : (b : Bool) (k : Core) (r : Rest)
     → toCoro k (pick b (withClosing false (withSignal nil r)) r)
-    ≡ record { state = k .state; closing = pick b false (r .closing); finalized = r .finalized; task = r .task; seq = r .seq; row = r .row; regs = length (k .regs); frames = length (k .frames); maxregs = r .maxregs; maxframes = r .maxframes; waiting = k .waiting; payload = r .payload; key = r .key; largest = r .largest; result = r .result; signal = pick b nil (r .signal) }
+    ≡ record {
+      state = k .state;
+      closing = pick b false (r .closing);
+      finalized = r .finalized;
+      task = r .task;
+      seq = r .seq;
+      row = r .row;
+      regs = length (k .regs);
+      frames = length (k .frames);
+      maxregs = r .maxregs;
+      maxframes = r .maxframes;
+      waiting = k .waiting;
+      payload = r .payload;
+      key = r .key;
+      largest = r .largest;
+      result = r .result;
+      signal = pick b nil (r .signal);
+    }
 unfolding pick
 unclosed true k r = refl
 unclosed false k r = refl

@@ -20,7 +20,13 @@ heap-of-requires : tie.Need-heap-of-requires
 heap-of-requires c κs = search needs
 
 encode-int-requires : tie.Need-encode-int-requires
-encode-int-requires c κs = let e : c .heap-of .result .slots ≡ c .before .before .before .before .before .before .before .before .args .l .slots = ap (λ x. x .slots) (c .heap-of .ensures) in let p = c .before .before .before .before .before .before .before .before .pre in let p₁ = p .words in let p₂ = p .slots in record { words = omega arith; slots = omega arith }
+encode-int-requires c κs =
+    let start = c .before .before .before .before .before .before .before .before in
+    let e : c .heap-of .result .slots ≡ start .args .l .slots = ap (λ x. x .slots) (c .heap-of .ensures) in
+    let p = start .pre in
+    let p₁ = p .words in
+    let p₂ = p .slots in
+    record { words = omega arith; slots = omega arith }
 
 enum-known-g : tie.Need-enum-known-g
 enum-known-g c = search needs
@@ -32,19 +38,35 @@ allocated-requires : tie.Need-allocated-requires
 allocated-requires c κs = search needs
 
 returns : tie.Need-returns
-returns c = λ w b rep snd. key-over (c .before .before .before .before .args .l) (table (c .before .before .before .before .args .slots .now) plain b) (c .before .before .before .before .args .m) (b .fuel) w rep (c .before .before .before .before .args .largest) (sym (c .enum-told .given .1) ∙ c .before .before .next-key .ensures)
+returns c =
+    let at-next-key = c .before .before in let start = at-next-key .before .before in
+    λ w b rep snd. key-over (start .args .l) (table (start .args .slots .now) plain b) (start .args .m) (b .fuel) w rep (start .args .largest)
+    (sym (c .enum-told .given .1) ∙ at-next-key .next-key .ensures)
 
 same-length : tie.Need-same-length
 same-length c = search needs
 
 returns-2 : tie.Need-returns-2
-returns-2 c = λ w b rep snd. key-refused (c .before .before .before .before .before .before .before .before .before .before .before .before .before .before .args .l) (table (c .before .before .before .before .before .before .before .before .before .before .before .before .before .before .args .slots .now) plain b) (c .before .before .before .before .before .before .before .before .before .before .before .before .before .before .args .m) (b .fuel) w rep (c .before .before .before .before .before .before .before .before .before .before .before .before .before .before .args .largest) (c .before .before .before .before .before .before .before .before .before .before .n .given .0 .0) (sym (c .before .before .before .before .before .before .before .before .before .before .n .given .1) ∙ c .before .before .before .before .before .before .before .before .before .before .before .before .next-key .ensures) _ (c .before .before .before .before .before .encode-int .result) (c .before .before .before .before .before .before .heap-of .result) (c .before .before .before .before .before .encode-int .ensures) (c .before .before .before .before .before .before .heap-of .ensures) _ (c .before .g .given .1)
+returns-2 c =
+    let at-g = c .before in let at-encode-int = at-g .before .before .before .before in let at-heap-of = at-encode-int .before in
+    let at-n = at-heap-of .before .before .before .before in let at-next-key = at-n .before .before in
+    let start = at-next-key .before .before in
+    λ w b rep snd. key-refused (start .args .l) (table (start .args .slots .now) plain b) (start .args .m) (b .fuel) w rep (start .args .largest)
+    (at-n .n .given .0 .0) (sym (at-n .n .given .1) ∙ at-next-key .next-key .ensures) _ (at-encode-int .encode-int .result) (at-heap-of .heap-of .result)
+    (at-encode-int .encode-int .ensures) (at-heap-of .heap-of .ensures) _ (at-g .g .given .1)
 
 same-length-2 : tie.Need-same-length-2
 same-length-2 c = search needs
 
 returns-3 : tie.Need-returns-3
-returns-3 c = λ w b rep snd. key-made (c .before .before .before .before .before .before .before .before .before .before .before .before .before .before .before .args .l) (table (c .before .before .before .before .before .before .before .before .before .before .before .before .before .before .before .args .slots .now) plain b) (c .before .before .before .before .before .before .before .before .before .before .before .before .before .before .before .args .m) (b .fuel) w rep (c .before .before .before .before .before .before .before .before .before .before .before .before .before .before .before .args .largest) (c .before .before .before .before .before .before .before .before .before .before .before .n .given .0 .0) (sym (c .before .before .before .before .before .before .before .before .before .before .before .n .given .1) ∙ c .before .before .before .before .before .before .before .before .before .before .before .before .before .next-key .ensures) _ (c .before .before .before .before .before .before .encode-int .result) (c .before .before .before .before .before .before .before .heap-of .result) (c .before .before .before .before .before .before .encode-int .ensures) (c .before .before .before .before .before .before .before .heap-of .ensures) (c .before .before .before .before .before .before .before .before .before .before .before .before .before .before .before .pre .words) _ _ (c .allocated .result) (c .before .before .v .given .1) (c .allocated .ensures)
+returns-3 c =
+    let at-v = c .before .before in let at-encode-int = at-v .before .before .before .before in
+    let at-heap-of = at-encode-int .before in let at-n = at-heap-of .before .before .before .before in
+    let at-next-key = at-n .before .before in let start = at-next-key .before .before in
+    λ w b rep snd. key-made (start .args .l) (table (start .args .slots .now) plain b) (start .args .m) (b .fuel) w rep (start .args .largest)
+    (at-n .n .given .0 .0) (sym (at-n .n .given .1) ∙ at-next-key .next-key .ensures) _ (at-encode-int .encode-int .result) (at-heap-of .heap-of .result)
+    (at-encode-int .encode-int .ensures) (at-heap-of .heap-of .ensures) (start .pre .words) _ _ (c .allocated .result) (at-v .v .given .1)
+    (c .allocated .ensures)
 
 pub auto-key-spec : {M : Type 1} → statement M
 auto-key-spec =

@@ -11,13 +11,17 @@ enum-known-d : tie.Need-enum-known-d
 enum-known-d c = search needs
 
 deliver-resume-requires : tie.Need-deliver-resume-requires
-deliver-resume-requires c κs = (c .before .before .before .before .before .before .before .before .pre) .resumes (c .before .before .before .d .given .0 .0) (c .before .before .before .d .given .1)
+deliver-resume-requires c κs =
+    let at-d = c .before .before .before in let start = at-d .before .before .before .before .before in
+    start .pre .resumes (at-d .d .given .0 .0) (at-d .d .given .1)
 
 enum-known-d-2 : tie.Need-enum-known-d-2
 enum-known-d-2 c = search needs
 
 deliver-iter-requires : tie.Need-deliver-iter-requires
-deliver-iter-requires c κs = (c .before .before .before .before .before .before .before .before .before .pre) .iterates (c .before .before .before .before .d2 .given .0 .0) (c .before .before .before .before .d2 .given .0 .1 .0) (c .before .before .before .before .d2 .given .0 .1 .1 .0) (c .before .before .before .before .d2 .given .1)
+deliver-iter-requires c κs =
+    let at-d2 = c .before .before .before .before in let start = at-d2 .before .before .before .before .before in
+    start .pre .iterates (at-d2 .d2 .given .0 .0) (at-d2 .d2 .given .0 .1 .0) (at-d2 .d2 .given .0 .1 .1 .0) (at-d2 .d2 .given .1)
 
 enum-told : tie.Need-enum-told
 enum-told c = search needs
@@ -41,7 +45,12 @@ same-length-2 : tie.Need-same-length-2
 same-length-2 c = search needs
 
 returns : tie.Need-returns
-returns c = λ l w b rep. to-driver l _ (c .before .before .before .before .before .before .before .before .before .before .before .before .before .args .m) (c .before .before .before .before .before .before .before .before .before .before .before .before .before .args .fuel) w (c .before .before .before .before .before .before .before .before .before .before .before .before .before .args .e) (c .before .before .before .before .before .before .before .before .before .before .before .before .before .args .d) (Driver.Resume (c .before .before .before .before .before .before .before .before .d .given .0 .0)) (c .before .before .before .before .deliver-resume .result) (c .before .before .before .before .before .before .before .before .d .given .1) (c .before .before .before .before .deliver-resume .ensures l w (record { words = onSlots (c .before .before .before .before .before .before .before .before .before .before .before .before .before .args .slots .now) (b .words); fuel = c .before .before .before .before .before .before .before .before .before .before .before .before .before .args .fuel }) rep)
+returns c =
+    let at-deliver-resume = c .before .before .before .before in let at-d = at-deliver-resume .before .before .before .before in
+    let start = at-d .before .before .before .before .before in
+    λ l w b rep. to-driver l _ (start .args .m) (start .args .fuel) w (start .args .e) (start .args .d)
+    (Driver.Resume (at-d .d .given .0 .0)) (at-deliver-resume .deliver-resume .result) (at-d .d .given .1)
+    (at-deliver-resume .deliver-resume .ensures l w (record { words = onSlots (start .args .slots .now) (b .words); fuel = start .args .fuel }) rep)
 
 same-length-3 : tie.Need-same-length-3
 same-length-3 c = search needs
@@ -53,13 +62,29 @@ same-length-5 : tie.Need-same-length-5
 same-length-5 c = search needs
 
 returns-2 : tie.Need-returns-2
-returns-2 c = λ l w b rep. to-driver l _ (c .before .before .before .before .before .before .before .before .before .before .before .before .before .before .before .before .args .m) (c .before .before .before .before .before .before .before .before .before .before .before .before .before .before .before .before .args .fuel) w (c .before .before .before .before .before .before .before .before .before .before .before .before .before .before .before .before .args .e) (c .before .before .before .before .before .before .before .before .before .before .before .before .before .before .before .before .args .d) (Driver.Iter (c .before .before .before .before .before .before .before .before .before .before .before .d2 .given .0 .0) (c .before .before .before .before .before .before .before .before .before .before .before .d2 .given .0 .1 .0) (c .before .before .before .before .before .before .before .before .before .before .before .d2 .given .0 .1 .1 .0)) (c .before .before .before .before .before .before .deliver-iter .result) (c .before .before .before .before .before .before .before .before .before .before .before .d2 .given .1) (c .before .before .before .before .before .before .deliver-iter .ensures l w (record { words = b .words; fuel = c .before .before .before .before .before .before .before .before .before .before .before .before .before .before .before .before .args .fuel }) rep)
+returns-2 c =
+    let at-deliver-iter = c .before .before .before .before .before .before in
+    let at-d2 = at-deliver-iter .before .before .before .before .before in
+    let start = at-d2 .before .before .before .before .before in
+    λ l w b rep. to-driver l _ (start .args .m) (start .args .fuel) w (start .args .e) (start .args .d)
+    (Driver.Iter (at-d2 .d2 .given .0 .0) (at-d2 .d2 .given .0 .1 .0) (at-d2 .d2 .given .0 .1 .1 .0)) (at-deliver-iter .deliver-iter .result)
+    (at-d2 .d2 .given .1) (at-deliver-iter .deliver-iter .ensures l w (record { words = b .words; fuel = start .args .fuel }) rep)
 
 returns-3 : tie.Need-returns-3
-returns-3 c = λ l w b rep. to-host l _ (c .stopped .result) (c .before .before .before .before .before .before .before .args .fuel) w (c .before .before .before .before .before .before .before .args .e) (c .before .before .before .before .before .before .before .args .d) (c .before .outcome-of .result) (c .before .before .enum-told .given .1) (c .before .outcome-of .ensures) (told-host l (topTable (c .before .before .before .before .before .before .before .args .stack .now) (c .before .before .before .before .before .before .before .args .frames .now) (c .before .before .before .before .before .before .before .args .slots .now) plain b) (c .before .before .before .before .before .before .before .args .m) (c .before .before .before .before .before .before .before .args .fuel) w rep (c .before .outcome-of .result) (c .stopped .result) (c .stopped .ensures))
+returns-3 c =
+    let at-outcome-of = c .before in let at-enum-told = at-outcome-of .before in
+    let start = at-enum-told .before .before .before .before .before in
+    λ l w b rep. to-host l _ (c .stopped .result) (start .args .fuel) w (start .args .e) (start .args .d)
+    (at-outcome-of .outcome-of .result) (at-enum-told .enum-told .given .1) (at-outcome-of .outcome-of .ensures)
+    (told-host l (topTable (start .args .stack .now) (start .args .frames .now) (start .args .slots .now) plain b) (start .args .m) (start .args .fuel) w rep
+    (at-outcome-of .outcome-of .result) (c .stopped .result) (c .stopped .ensures))
 
 returns-4 : tie.Need-returns-4
-returns-4 c = λ l w b rep. to-cleanup l _ _ _ w (c .before .before .before .before .before .before .before .before .args .e) (c .before .before .before .before .before .before .before .before .args .d) (c .before .before .before .enum-told2 .given .1) (c .before .before .set-finalizing .ensures l w (record { words = topTable (c .before .before .before .before .before .before .before .before .args .stack .now) (c .before .before .before .before .before .before .before .before .args .frames .now) (c .before .before .before .before .before .before .before .before .args .slots .now) plain b; fuel = b .fuel }) rep)
+returns-4 c =
+    let at-set-finalizing = c .before .before in let at-enum-told2 = at-set-finalizing .before in
+    let start = at-enum-told2 .before .before .before .before .before in
+    λ l w b rep. to-cleanup l _ _ _ w (start .args .e) (start .args .d) (at-enum-told2 .enum-told2 .given .1) (at-set-finalizing .set-finalizing .ensures l w
+    (record { words = topTable (start .args .stack .now) (start .args .frames .now) (start .args .slots .now) plain b; fuel = b .fuel }) rep)
 
 pub deliver-spec : {M : Type 1} → statement M
 deliver-spec =

@@ -27,7 +27,12 @@ same-length-2 : tie.Need-same-length-2
 same-length-2 c = search needs
 
 returns : tie.Need-returns
-returns c = λ l w b rep. resume-yielded l _ (c .before .before .before .before .before .before .before .before .before .before .before .before .args .m) (b .fuel) w (c .before .before .before .before .before .before .before .before .before .before .before .before .args .e) (c .before .before .before .before .before .before .before .before .before .before .before .before .args .dst) (c .before .before .before .before .before .before .before .before .e .given .0 .0) (c .before .before .before .before .before .before .before .before .e .given .0 .1 .0) (c .before .before .before .before .before .before .before .before .e .given .1) (sent l (top (c .before .before .before .before .before .before .before .before .before .before .before .before .args .stack .now) (c .before .before .before .before .before .before .before .before .before .before .before .before .args .frames .now) plain b) (c .before .before .before .before .before .before .before .before .before .before .before .before .args .m) (b .fuel) w rep _ _ (c .before .before .before .before .before .before .before .before .before .before .before .before .args .dst) (c .before .before .before .before .before .before .before .before .e .given .0 .0) (c .before .before .before .before .coro-send .ensures))
+returns c =
+    let at-coro-send = c .before .before .before .before in let at-e = at-coro-send .before .before .before .before in
+    let start = at-e .before .before .before .before in
+    λ l w b rep. resume-yielded l _ (start .args .m) (b .fuel) w (start .args .e) (start .args .dst) (at-e .e .given .0 .0) (at-e .e .given .0 .1 .0)
+    (at-e .e .given .1) (sent l (top (start .args .stack .now) (start .args .frames .now) plain b) (start .args .m) (b .fuel) w rep _ _ (start .args .dst)
+    (at-e .e .given .0 .0) (at-coro-send .coro-send .ensures))
 
 same-length-3 : tie.Need-same-length-3
 same-length-3 c = search needs
@@ -36,10 +41,17 @@ same-length-4 : tie.Need-same-length-4
 same-length-4 c = search needs
 
 returns-2 : tie.Need-returns-2
-returns-2 c = λ l w b rep. resume-awaiting l _ (c .before .before .before .before .before .before .before .before .before .before .before .before .args .m) (b .fuel) w (c .before .before .before .before .before .before .before .before .before .before .before .before .args .e) (c .before .before .before .before .before .before .before .before .before .before .before .before .args .dst) (c .before .before .before .before .before .before .before .before .e2 .given .0 .0) (c .before .before .before .before .before .before .before .before .e2 .given .1) (sent l (top (c .before .before .before .before .before .before .before .before .before .before .before .before .args .stack .now) (c .before .before .before .before .before .before .before .before .before .before .before .before .args .frames .now) plain b) (c .before .before .before .before .before .before .before .before .before .before .before .before .args .m) (b .fuel) w rep _ _ (c .before .before .before .before .before .before .before .before .before .before .before .before .args .dst) (c .before .before .before .before .before .before .before .before .e2 .given .0 .0) (c .before .before .before .before .coro-send2 .ensures))
+returns-2 c =
+    let at-coro-send2 = c .before .before .before .before in let at-e2 = at-coro-send2 .before .before .before .before in
+    let start = at-e2 .before .before .before .before in
+    λ l w b rep. resume-awaiting l _ (start .args .m) (b .fuel) w (start .args .e) (start .args .dst) (at-e2 .e2 .given .0 .0) (at-e2 .e2 .given .1)
+    (sent l (top (start .args .stack .now) (start .args .frames .now) plain b) (start .args .m) (b .fuel) w rep _ _ (start .args .dst) (at-e2 .e2 .given .0 .0)
+    (at-coro-send2 .coro-send2 .ensures))
 
 returns-3 : tie.Need-returns-3
-returns-3 c = λ l w b rep. resume-ignored l _ (c .before .before .before .before .args .m) (b .fuel) w (c .before .before .before .before .args .e) (c .before .before .before .before .args .dst) (c .enum-told .given .1) rep
+returns-3 c =
+    let start = c .before .before .before .before in
+    λ l w b rep. resume-ignored l _ (start .args .m) (b .fuel) w (start .args .e) (start .args .dst) (c .enum-told .given .1) rep
 
 pub deliver-resume-spec : {M : Type 1} → statement M
 deliver-resume-spec =

@@ -11,13 +11,17 @@ enum-known-d : tie.Need-enum-known-d
 enum-known-d c = search needs
 
 coro-send-requires : tie.Need-coro-send-requires
-coro-send-requires c κs = (c .before .before .before .before .before .before .before .before .pre) .resumes (c .before .before .before .d .given .0 .0) (c .before .before .before .d .given .1)
+coro-send-requires c κs =
+    let at-d = c .before .before .before in let start = at-d .before .before .before .before .before in
+    start .pre .resumes (at-d .d .given .0 .0) (at-d .d .given .1)
 
 enum-known-d-2 : tie.Need-enum-known-d-2
 enum-known-d-2 c = search needs
 
 iter-returned-requires : tie.Need-iter-returned-requires
-iter-returned-requires c κs = let f = (c .before .before .before .before .before .before .before .before .before .pre) .iterates (c .before .before .before .before .d2 .given .0 .0) (c .before .before .before .before .d2 .given .0 .1 .0) (c .before .before .before .before .d2 .given .0 .1 .1 .0) (c .before .before .before .before .d2 .given .1) in (f .table, f .flag)
+iter-returned-requires c κs =
+    let at-d2 = c .before .before .before .before in let start = at-d2 .before .before .before .before .before in
+    let f = start .pre .iterates (at-d2 .d2 .given .0 .0) (at-d2 .d2 .given .0 .1 .0) (at-d2 .d2 .given .0 .1 .1 .0) (at-d2 .d2 .given .1) in (f .table, f .flag)
 
 enum-told : tie.Need-enum-told
 enum-told c = search needs
@@ -38,7 +42,12 @@ same-length-2 : tie.Need-same-length-2
 same-length-2 c = search needs
 
 returns : tie.Need-returns
-returns c = λ l w b rep. return-to l _ (c .before .before .before .before .before .before .before .before .before .before .before .before .before .args .m) (c .before .before .before .before .before .before .before .before .before .before .before .before .before .args .fuel) w (c .before .before .before .before .before .before .before .before .before .before .before .before .before .args .d) (Driver.Resume (c .before .before .before .before .before .before .before .before .d .given .0 .0)) (c .before .before .before .before .before .before .before .before .before .before .before .before .before .args .value) (c .before .before .before .before .before .before .before .before .d .given .1) (sent l (topTable (c .before .before .before .before .before .before .before .before .before .before .before .before .before .args .stack .now) (c .before .before .before .before .before .before .before .before .before .before .before .before .before .args .frames .now) (c .before .before .before .before .before .before .before .before .before .before .before .before .before .args .slots .now) plain b) (c .before .before .before .before .before .before .before .before .before .before .before .before .before .args .m) (c .before .before .before .before .before .before .before .before .before .before .before .before .before .args .fuel) w rep _ _ (c .before .before .before .before .before .before .before .before .d .given .0 .0) (c .before .before .before .before .before .before .before .before .before .before .before .before .before .args .value) (c .before .before .before .before .coro-send .ensures))
+returns c =
+    let at-coro-send = c .before .before .before .before in let at-d = at-coro-send .before .before .before .before in
+    let start = at-d .before .before .before .before .before in
+    λ l w b rep. return-to l _ (start .args .m) (start .args .fuel) w (start .args .d) (Driver.Resume (at-d .d .given .0 .0)) (start .args .value)
+    (at-d .d .given .1) (sent l (topTable (start .args .stack .now) (start .args .frames .now) (start .args .slots .now) plain b) (start .args .m)
+    (start .args .fuel) w rep _ _ (at-d .d .given .0 .0) (start .args .value) (at-coro-send .coro-send .ensures))
 
 same-length-3 : tie.Need-same-length-3
 same-length-3 c = search needs
@@ -50,13 +59,26 @@ same-length-5 : tie.Need-same-length-5
 same-length-5 c = search needs
 
 returns-2 : tie.Need-returns-2
-returns-2 c = λ l w b rep. return-to l _ (c .before .before .before .before .before .before .before .before .before .before .before .before .before .before .before .before .args .m) (c .before .before .before .before .before .before .before .before .before .before .before .before .before .before .before .before .args .fuel) w (c .before .before .before .before .before .before .before .before .before .before .before .before .before .before .before .before .args .d) (Driver.Iter (c .before .before .before .before .before .before .before .before .before .before .before .d2 .given .0 .0) (c .before .before .before .before .before .before .before .before .before .before .before .d2 .given .0 .1 .0) (c .before .before .before .before .before .before .before .before .before .before .before .d2 .given .0 .1 .1 .0)) (c .before .before .before .before .before .before .before .before .before .before .before .before .before .before .before .before .args .value) (c .before .before .before .before .before .before .before .before .before .before .before .d2 .given .1) (c .before .before .before .before .before .before .iter-returned .ensures l w (record { words = b .words; fuel = c .before .before .before .before .before .before .before .before .before .before .before .before .before .before .before .before .args .fuel }) rep)
+returns-2 c =
+    let at-iter-returned = c .before .before .before .before .before .before in
+    let at-d2 = at-iter-returned .before .before .before .before .before in
+    let start = at-d2 .before .before .before .before .before in
+    λ l w b rep. return-to l _ (start .args .m) (start .args .fuel) w (start .args .d)
+    (Driver.Iter (at-d2 .d2 .given .0 .0) (at-d2 .d2 .given .0 .1 .0) (at-d2 .d2 .given .0 .1 .1 .0)) (start .args .value) (at-d2 .d2 .given .1)
+    (at-iter-returned .iter-returned .ensures l w (record { words = b .words; fuel = start .args .fuel }) rep)
 
 returns-3 : tie.Need-returns-3
-returns-3 c = λ l w b rep. return-to l _ (c .stopped .result) (c .before .before .before .before .before .before .args .fuel) w (c .before .before .before .before .before .before .args .d) Driver.Host (c .before .before .before .before .before .before .args .value) (c .before .enum-told .given .1) (told-host l (topTable (c .before .before .before .before .before .before .args .stack .now) (c .before .before .before .before .before .before .args .frames .now) (c .before .before .before .before .before .before .args .slots .now) plain b) (c .before .before .before .before .before .before .args .m) (c .before .before .before .before .before .before .args .fuel) w rep (Stop.Returned (c .before .before .before .before .before .before .args .value)) (c .stopped .result) (c .stopped .ensures))
+returns-3 c =
+    let at-enum-told = c .before in let start = at-enum-told .before .before .before .before .before in
+    λ l w b rep. return-to l _ (c .stopped .result) (start .args .fuel) w (start .args .d) Driver.Host (start .args .value) (at-enum-told .enum-told .given .1)
+    (told-host l (topTable (start .args .stack .now) (start .args .frames .now) (start .args .slots .now) plain b) (start .args .m) (start .args .fuel) w rep
+    (Stop.Returned (start .args .value)) (c .stopped .result) (c .stopped .ensures))
 
 returns-4 : tie.Need-returns-4
-returns-4 c = λ l w b rep. return-to l _ _ _ w (c .before .before .before .before .before .before .args .d) Driver.Finalize (c .before .before .before .before .before .before .args .value) (c .before .enum-told2 .given .1) (c .set-finalizing .ensures l w (record { words = topTable (c .before .before .before .before .before .before .args .stack .now) (c .before .before .before .before .before .before .args .frames .now) (c .before .before .before .before .before .before .args .slots .now) plain b; fuel = b .fuel }) rep)
+returns-4 c =
+    let at-enum-told2 = c .before in let start = at-enum-told2 .before .before .before .before .before in
+    λ l w b rep. return-to l _ _ _ w (start .args .d) Driver.Finalize (start .args .value) (at-enum-told2 .enum-told2 .given .1) (c .set-finalizing .ensures l w
+    (record { words = topTable (start .args .stack .now) (start .args .frames .now) (start .args .slots .now) plain b; fuel = b .fuel }) rep)
 
 pub deliver-return-spec : {M : Type 1} → statement M
 deliver-return-spec =

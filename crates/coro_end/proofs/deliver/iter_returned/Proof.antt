@@ -22,7 +22,13 @@ same-length-3 : tie.Need-same-length-3
 same-length-3 c = search needs
 
 returns : tie.Need-returns
-returns c = λ l w b rep. sent l (topTable (c .before .before .before .before .before .before .before .before .before .before .before .before .before .before .args .stack .now) (c .before .before .before .before .before .before .before .before .before .before .before .before .before .before .args .frames .now) (c .before .before .before .before .before .before .before .before .before .set-done .last .0) plain b) (c .before .before .before .before .before .before .before .before .before .before .before .before .before .before .args .m) (b .fuel) (setDone (c .before .before .before .before .before .before .before .before .before .before .before .before .before .before .args .iter) w) (c .before .before .before .before .before .before .before .before .before .set-done .ensures l w (record { words = top (c .before .before .before .before .before .before .before .before .before .before .before .before .before .before .args .stack .now) (c .before .before .before .before .before .before .before .before .before .before .before .before .before .before .args .frames .now) plain b; fuel = b .fuel }) rep) _ _ (c .before .before .before .before .before .before .before .before .before .before .before .before .before .before .args .has) 0 (c .before .before .before .before .coro-send .ensures)
+returns c =
+    let at-coro-send = c .before .before .before .before in let at-set-done = at-coro-send .before .before .before .before .before in
+    let start = at-set-done .before .before .before .before .before in
+    λ l w b rep. sent l (topTable (start .args .stack .now) (start .args .frames .now) (at-set-done .set-done .last .0) plain b)
+    (start .args .m) (b .fuel) (setDone (start .args .iter) w)
+    (at-set-done .set-done .ensures l w (record { words = top (start .args .stack .now) (start .args .frames .now) plain b; fuel = b .fuel }) rep) _ _
+    (start .args .has) 0 (at-coro-send .coro-send .ensures)
 
 pub iter-returned-spec : {M : Type 1} → statement M
 iter-returned-spec =

@@ -26,11 +26,17 @@ same-length-3 : tie.Need-same-length-3
 same-length-3 c = search needs
 
 returns : tie.Need-returns
-returns c = λ l w b rep.
-    let u = setKey (c .before .before .before .before .before .before .before .before .before .before .before .before .before .before .before .before .before .before .before .args .iter) (c .before .before .before .before .before .before .before .before .before .before .before .before .before .before .before .before .before .before .before .args .key) w in
-    let k = c .before .before .before .before .before .before .before .before .before .before .before .before .before .before .set-key .ensures l w (record { words = top (c .before .before .before .before .before .before .before .before .before .before .before .before .before .before .before .before .before .before .before .args .stack .now) (c .before .before .before .before .before .before .before .before .before .before .before .before .before .before .before .before .before .before .before .args .frames .now) plain b; fuel = b .fuel }) rep in
-    let p = put l (topTable (c .before .before .before .before .before .before .before .before .before .before .before .before .before .before .before .before .before .before .before .args .stack .now) (c .before .before .before .before .before .before .before .before .before .before .before .before .before .before .before .before .before .before .before .args .frames .now) (c .before .before .before .before .before .before .before .before .before .before .before .before .before .before .set-key .last .0) plain b) (c .before .before .before .before .before .before .before .before .before .before .before .before .before .before .before .before .before .before .before .args .m) (b .fuel) u k (c .before .before .before .before .before .before .before .before .before .put-reg .last .0) (c .before .before .before .before .before .before .before .before .before .before .before .before .before .before .before .before .before .before .before .args .val) (c .before .before .before .before .before .before .before .before .before .before .before .before .before .before .before .before .before .before .before .args .payload) (c .before .before .before .before .before .before .before .before .before .put-reg .ensures) in
-    sent l (topTable (c .before .before .before .before .before .before .before .before .before .put-reg .last .0) (c .before .before .before .before .before .before .before .before .before .before .before .before .before .before .before .before .before .before .before .args .frames .now) (c .before .before .before .before .before .before .before .before .before .before .before .before .before .before .set-key .last .0) plain b) (c .before .before .before .before .before .before .before .before .before .before .before .before .before .before .before .before .before .before .before .args .m) (b .fuel) (putReg (c .before .before .before .before .before .before .before .before .before .before .before .before .before .before .before .before .before .before .before .args .val) (c .before .before .before .before .before .before .before .before .before .before .before .before .before .before .before .before .before .before .before .args .payload) u) p _ _ (c .before .before .before .before .before .before .before .before .before .before .before .before .before .before .before .before .before .before .before .args .has) 1 (c .before .before .before .before .coro-send .ensures)
+returns c =
+    let at-coro-send = c .before .before .before .before in let at-put-reg = at-coro-send .before .before .before .before .before in
+    let at-set-key = at-put-reg .before .before .before .before .before in
+    let start = at-set-key .before .before .before .before .before in
+    λ l w b rep.
+    let u = setKey (start .args .iter) (start .args .key) w in
+    let k = at-set-key .set-key .ensures l w (record { words = top (start .args .stack .now) (start .args .frames .now) plain b; fuel = b .fuel }) rep in
+    let p = put l (topTable (start .args .stack .now) (start .args .frames .now) (at-set-key .set-key .last .0) plain b) (start .args .m) (b .fuel) u k
+    (at-put-reg .put-reg .last .0) (start .args .val) (start .args .payload) (at-put-reg .put-reg .ensures) in
+    sent l (topTable (at-put-reg .put-reg .last .0) (start .args .frames .now) (at-set-key .set-key .last .0) plain b) (start .args .m) (b .fuel)
+    (putReg (start .args .val) (start .args .payload) u) p _ _ (start .args .has) 1 (at-coro-send .coro-send .ensures)
 
 pub iter-yielded-spec : {M : Type 1} → statement M
 iter-yielded-spec =

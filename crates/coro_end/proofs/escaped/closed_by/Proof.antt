@@ -16,9 +16,11 @@ enum-known-c c = search needs
 
 returns : tie.Need-returns
 returns c =
-    let test = c .before in let found = test .before .before in let looked = found .before .before in let start = looked .before .before in
+    let test = c .before in let found = test .before .before in let looked = found .before .before in
+    let start = looked .before .before in
     let a = start .args in
-    λ l w b rep. closing-by w (a .slots .now) (a .m .count) (a .v .0) (a .value) (rep .slots) _ (found .c .given .0 .1 .0) (sym (found .c .given .1) ∙ looked .coro .ensures) (test .if1 .taken)
+    λ l w b rep. closing-by w (a .slots .now) (a .m .count) (a .v .0) (a .value) (rep .slots) _ (found .c .given .0 .1 .0)
+    (sym (found .c .given .1) ∙ looked .coro .ensures) (test .if1 .taken)
 
 returns-2 : tie.Need-returns-2
 returns-2 c =

@@ -12,12 +12,16 @@ use borrow.Author.Needs.{needs}
 use Rattle.coro_end.proofs.escaped.coro_escaped.Statement.{statement}
 use Rattle.coro_end.proofs.escaped.coro_escaped.Tie as tie
 
+-- the ways back that several clauses take
+abbrev start-of : tie.After-struct-known → tie.Start
+start-of c = c .before .before .before .before .before .before .before
+
 returns : tie.Need-returns
 returns c =
-    let start = c .before .before .before .before .before .before .before .before in
-    let a = start .args in
+    let a = start-of (c .before) .args in
     λ w b rep rowed.
-    none-escaped (a .l) (lent (a .stack .now) (a .frames .now) (a .chain .now) (a .slots .now) (a .saved-stack .now) (a .saved-frames .now) b) (a .m) (a .fuel) w (a .value) (a .func) (a .pc) rep (c .if1 .taken)
+    none-escaped (a .l) (lent (a .stack .now) (a .frames .now) (a .chain .now) (a .slots .now) (a .saved-stack .now) (a .saved-frames .now) b) (a .m) (a .fuel)
+    w (a .value) (a .func) (a .pc) rep (c .if1 .taken)
 
 sub-active-at : tie.Need-sub-active-at
 sub-active-at c = search needs
@@ -27,8 +31,7 @@ active-at-requires c κs = search needs
 
 closed-by-requires : tie.Need-closed-by-requires
 closed-by-requires c κs =
-    let start = c .before .before .before .before .before .before .before .before .before .before .before .before in
-    start .pre .held .rep .slots .within
+    start-of (c .before .before .before .before .before) .pre .held .rep .slots .within
 
 coro-returned-requires : tie.Need-coro-returned-requires
 coro-returned-requires c κs = search needs
@@ -54,8 +57,8 @@ same-length-6 c = search needs
 returns-2 : tie.Need-returns-2
 returns-2 c =
     let home = c .before .before .before .before .before .before .before .before .before .before .before .before .before .before in
-    let test = home .before .before .before .before .before .before .before in let asked = test .before in let read = asked .before .before in
-    let some = read .before .before .before in let start = some .before .before .before .before .before .before .before .before in
+    let test = home .before .before .before .before .before .before .before in let asked = test .before in
+    let read = asked .before .before in let some = read .before .before .before in let start = start-of (some .before) in
     let a = start .args in
     let x = read .active-at .result in
     let f = home .coro-returned in
@@ -64,11 +67,12 @@ returns-2 c =
     let M = lent (a .stack .now) (a .frames .now) (a .chain .now) (a .slots .now) (a .saved-stack .now) (a .saved-frames .now) b in
     let t = last (a .l) M (a .m) (a .fuel) w rep x active (read .active-at .ensures) in
     let closed = sym (asked .closed-by .ensures (a .l) w (record { words = M; fuel = a .fuel }) rep) ∙ test .if2 .taken in
-    close-succeeds (a .l) (lent (f .last .0) (f .last .1 .0) (f .last .1 .1 .0) (f .last .1 .1 .1 .0) (f .last .1 .1 .1 .1 .0) (f .last .1 .1 .1 .1 .1 .0) b) (f .result .machine) (f .result .fuel) w (a .value) (a .func) (a .pc) x t closed (f .ensures w b rep rowed)
+    close-succeeds (a .l) (lent (f .last .0) (f .last .1 .0) (f .last .1 .1 .0) (f .last .1 .1 .1 .0) (f .last .1 .1 .1 .1 .0) (f .last .1 .1 .1 .1 .1 .0) b)
+    (f .result .machine) (f .result .fuel) w (a .value) (a .func) (a .pc) x t closed (f .ensures w b rep rowed)
 
 end-last-requires : tie.Need-end-last-requires
 end-last-requires c κs =
-    let start = c .before .before .before .before .before .before .before .before .before .before .before .before .before .before .before .before .before .before in
+    let start = start-of (c .before .before .before .before .before .before .before .before .before .before .before) in
     let a = start .args in
     end-fits (a .l) (a .m) (a .stack .now) (a .frames .now) (a .chain .now) (a .slots .now) (a .saved-stack .now) (a .saved-frames .now) (start .pre) CoroState.Failed refl
 

@@ -52,7 +52,8 @@ returns-4 c =
     let a = start .args in
     let did = set .set-finalizing in
     λ l w b rep.
-    fail-by l (b .words) (did .result .machine) (did .result .fuel) w (a .d) Driver.Finalize (a .s) true (arm .enum-told4 .given .1) (record { world = did .ensures l w b rep; answer = refl })
+    fail-by l (b .words) (did .result .machine) (did .result .fuel) w (a .d) Driver.Finalize (a .s) true (arm .enum-told4 .given .1)
+    (record { world = did .ensures l w b rep; answer = refl })
 
 pub fail-to-spec : {M : Type 1} → statement M
 fail-to-spec =

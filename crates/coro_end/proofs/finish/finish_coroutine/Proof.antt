@@ -6,6 +6,10 @@ use borrow.Author.Needs.{needs}
 use Rattle.coro_end.proofs.finish.finish_coroutine.Statement.{statement}
 use Rattle.coro_end.proofs.finish.finish_coroutine.Tie as tie
 
+-- the ways back that several clauses take
+abbrev start-of : tie.After-coro → tie.Start
+start-of c = c .before .before .before .before .before
+
 coro-requires : tie.Need-coro-requires
 coro-requires c κs = search needs
 
@@ -16,16 +20,30 @@ enum-known-i : tie.Need-enum-known-i
 enum-known-i c = search needs
 
 free-row-requires : tie.Need-free-row-requires
-free-row-requires c κs = let h = (c .before .before .before .before .before .before .before .before .before .before .pre) .held in free-fits (c .before .before .before .before .before .before .before .before .before .before .args .l) (rows (c .before .before .before .before .before .before .before .before .before .before .args .slots .now) (c .before .before .before .before .before .before .before .before .before .before .args .saved-stack .now) (c .before .before .before .before .before .before .before .before .before .before .args .saved-frames .now) plain (h .beside)) (c .before .before .before .before .before .before .before .before .before .before .args .m) (h .beside .fuel) (c .before .before .before .before .before .before .before .before .before .before .args .v .0) (h .world) (h .rep) (h .known) (c .before .before .before .i .given .0 .0) (c .before .before .before .i .given .0 .1 .0) (sym (c .before .before .before .i .given .1) ∙ c .before .before .before .before .before .coro .ensures)
+free-row-requires c κs =
+    let at-i = c .before .before .before in let at-coro = at-i .before .before in let start = start-of at-coro in
+    let h = start .pre .held in
+    free-fits (start .args .l) (rows (start .args .slots .now) (start .args .saved-stack .now) (start .args .saved-frames .now) plain (h .beside))
+    (start .args .m) (h .beside .fuel) (start .args .v .0) (h .world) (h .rep) (h .known) (at-i .i .given .0 .0) (at-i .i .given .0 .1 .0)
+    (sym (at-i .i .given .1) ∙ at-coro .coro .ensures)
 
 mark-ended-requires : tie.Need-mark-ended-requires
-mark-ended-requires c κs = let h = (c .before .before .before .before .before .before .before .before .before .before .before .before .before .before .before .before .pre) .held in slot-fits (c .before .before .before .before .before .before .before .before .before .before .before .before .before .before .before .before .args .l) (rows (c .before .before .before .before .before .before .before .before .before .before .before .before .before .before .before .before .args .slots .now) (c .before .before .before .before .before .before .before .before .before .before .before .before .before .before .before .before .args .saved-stack .now) (c .before .before .before .before .before .before .before .before .before .before .before .before .before .before .before .before .args .saved-frames .now) plain (h .beside)) (c .before .before .before .before .before .before .before .before .before .before .before .before .before .before .before .before .args .m) (h .beside .fuel) (c .before .before .before .before .before .before .before .before .before .before .before .before .before .before .before .before .args .v .0) (h .world) (h .rep) (h .known) (c .before .before .before .before .before .before .before .before .before .i .given .0 .0) (c .before .before .before .before .before .before .before .before .before .i .given .0 .1 .0) (sym (c .before .before .before .before .before .before .before .before .before .i .given .1) ∙ c .before .before .before .before .before .before .before .before .before .before .before .coro .ensures)
+mark-ended-requires c κs =
+    let at-i = c .before .before .before .before .before .before .before .before .before in let at-coro = at-i .before .before in
+    let start = start-of at-coro in
+    let h = start .pre .held in
+    slot-fits (start .args .l) (rows (start .args .slots .now) (start .args .saved-stack .now) (start .args .saved-frames .now) plain (h .beside))
+    (start .args .m) (h .beside .fuel) (start .args .v .0) (h .world) (h .rep) (h .known) (at-i .i .given .0 .0) (at-i .i .given .0 .1 .0)
+    (sym (at-i .i .given .1) ∙ at-coro .coro .ensures)
 
 same-length : tie.Need-same-length
 same-length c = search needs
 
 returns : tie.Need-returns
-returns c = λ w b rep rowed. none-ends (c .before .before .before .before .before .before .before .args .l) (rows (c .before .before .before .before .before .before .before .args .slots .now) (c .before .before .before .before .before .before .before .args .saved-stack .now) (c .before .before .before .before .before .before .before .args .saved-frames .now) plain b) (c .before .before .before .before .before .before .before .args .m) (b .fuel) (c .before .before .before .before .before .before .before .args .v .0) w rep (c .before .before .before .before .before .before .before .args .s) (c .before .before .before .before .before .before .before .args .result) _ (sym (c .enum-told .given .1) ∙ c .before .before .coro .ensures)
+returns c =
+    let at-coro = c .before .before in let start = start-of at-coro in
+    λ w b rep rowed. none-ends (start .args .l) (rows (start .args .slots .now) (start .args .saved-stack .now) (start .args .saved-frames .now) plain b)
+    (start .args .m) (b .fuel) (start .args .v .0) w rep (start .args .s) (start .args .result) _ (sym (c .enum-told .given .1) ∙ at-coro .coro .ensures)
 
 same-length-2 : tie.Need-same-length-2
 same-length-2 c = search needs
@@ -37,7 +55,13 @@ same-length-4 : tie.Need-same-length-4
 same-length-4 c = search needs
 
 returns-2 : tie.Need-returns-2
-returns-2 c = λ w b rep rowed. ends (c .before .before .before .before .before .before .before .before .before .before .before .before .before .before .before .before .before .before .before .args .l) (rows (c .before .before .before .before .before .before .before .before .before .before .before .before .before .before .before .before .before .before .before .args .slots .now) (c .before .before .before .before .before .before .before .before .before .before .before .before .before .before .before .before .before .before .before .args .saved-stack .now) (c .before .before .before .before .before .before .before .before .before .before .before .before .before .before .before .before .before .before .before .args .saved-frames .now) plain b) (c .before .before .before .before .before .before .before .before .before .before .before .before .before .before .before .before .before .before .before .args .m) (b .fuel) (c .before .before .before .before .before .before .before .before .before .before .before .before .before .before .before .before .before .before .before .args .v .0) w rep rowed (c .before .before .before .before .before .before .before .before .before .before .before .before .i .given .0 .0) (c .before .before .before .before .before .before .before .before .before .before .before .before .i .given .0 .1 .0) (sym (c .before .before .before .before .before .before .before .before .before .before .before .before .i .given .1) ∙ c .before .before .before .before .before .before .before .before .before .before .before .before .before .before .coro .ensures) (c .before .before .before .before .before .before .before .before .before .before .before .before .before .before .before .before .before .before .before .args .s) (c .before .before .before .before .before .before .before .before .before .before .before .before .before .before .before .before .before .before .before .args .result) ((c .before .before .before .before .before .before .before .before .before .before .before .before .before .before .before .before .before .before .before .pre) .ends) _ _ _ (c .before .before .mark-ended .ensures) (c .before .before .before .before .before .before .before .before .free-row .ensures)
+returns-2 c =
+    let at-mark-ended = c .before .before in let at-free-row = at-mark-ended .before .before .before .before .before .before in
+    let at-i = at-free-row .before .before .before .before in let at-coro = at-i .before .before in let start = start-of at-coro in
+    λ w b rep rowed. ends (start .args .l) (rows (start .args .slots .now) (start .args .saved-stack .now) (start .args .saved-frames .now) plain b)
+    (start .args .m) (b .fuel) (start .args .v .0) w rep rowed (at-i .i .given .0 .0) (at-i .i .given .0 .1 .0)
+    (sym (at-i .i .given .1) ∙ at-coro .coro .ensures) (start .args .s) (start .args .result) (start .pre .ends) _ _ _ (at-mark-ended .mark-ended .ensures)
+    (at-free-row .free-row .ensures)
 
 pub finish-coroutine-spec : {M : Type 1} → statement M
 finish-coroutine-spec =

@@ -14,7 +14,10 @@ enum-known-slot : tie.Need-enum-known-slot
 enum-known-slot c = search needs
 
 put-iter-requires : tie.Need-put-iter-requires
-put-iter-requires c κs = iter-words (c .before .before .before .before .before .before .before .args .m .count) (c .before .before .before .before .before .before .before .args .slots .now) (c .before .before .before .before .before .before .before .args .v .0) (c .before .before .slot .given .0 .0) (c .before .before .slot .given .0 .1 .0) (c .before .before .slot .given .0 .1 .1 .0) (c .before .before .slot .given .0 .1 .1 .1 .0) (sym (c .before .before .slot .given .1) ∙ c .before .before .before .before .iter-at .ensures) (c .before .before .before .before .before .before .before .pre)
+put-iter-requires c κs =
+    let at-slot = c .before .before in let at-iter-at = at-slot .before .before in let start = at-iter-at .before .before .before in
+    iter-words (start .args .m .count) (start .args .slots .now) (start .args .v .0) (at-slot .slot .given .0 .0) (at-slot .slot .given .0 .1 .0)
+    (at-slot .slot .given .0 .1 .1 .0) (at-slot .slot .given .0 .1 .1 .1 .0) (sym (at-slot .slot .given .1) ∙ at-iter-at .iter-at .ensures) (start .pre)
 
 enum-told : tie.Need-enum-told
 enum-told c = search needs
@@ -23,13 +26,21 @@ same-length : tie.Need-same-length
 same-length c = search needs
 
 returns : tie.Need-returns
-returns c = λ l w b rep. iter-changed l (table (c .before .before .before .before .before .before .before .before .before .before .args .slots .now) plain b) (c .before .before .before .before .before .before .before .before .before .before .args .m) (b .fuel) w rep (c .before .before .before .before .before .before .before .before .before .before .args .v .0) (λ _. true) (λ k. k) (c .before .before .before .before .before .slot .given .0 .0) (c .before .before .before .before .before .slot .given .0 .1 .0) (c .before .before .before .before .before .slot .given .0 .1 .1 .0) (c .before .before .before .before .before .slot .given .0 .1 .1 .1 .0) _ (sym (c .before .before .before .before .before .slot .given .1) ∙ c .before .before .before .before .before .before .before .iter-at .ensures) (c .before .before .put-iter .ensures)
+returns c =
+    let at-put-iter = c .before .before in let at-slot = at-put-iter .before .before .before in
+    let at-iter-at = at-slot .before .before in let start = at-iter-at .before .before .before in
+    λ l w b rep. iter-changed l (table (start .args .slots .now) plain b) (start .args .m) (b .fuel) w rep (start .args .v .0) (λ _. true) (λ k. k)
+    (at-slot .slot .given .0 .0) (at-slot .slot .given .0 .1 .0) (at-slot .slot .given .0 .1 .1 .0) (at-slot .slot .given .0 .1 .1 .1 .0) _
+    (sym (at-slot .slot .given .1) ∙ at-iter-at .iter-at .ensures) (at-put-iter .put-iter .ensures)
 
 same-length-2 : tie.Need-same-length-2
 same-length-2 c = search needs
 
 returns-2 : tie.Need-returns-2
-returns-2 c = λ l w b rep. iter-absent l (table (c .before .before .before .before .before .args .slots .now) plain b) (c .before .before .before .before .before .args .m) (b .fuel) w rep (c .before .before .before .before .before .args .v .0) (λ _. true) (λ k. k) (sym (c .enum-told .given .1) ∙ c .before .before .iter-at .ensures)
+returns-2 c =
+    let at-iter-at = c .before .before in let start = at-iter-at .before .before .before in
+    λ l w b rep. iter-absent l (table (start .args .slots .now) plain b) (start .args .m) (b .fuel) w rep (start .args .v .0) (λ _. true) (λ k. k)
+    (sym (c .enum-told .given .1) ∙ at-iter-at .iter-at .ensures)
 
 pub set-done-spec : {M : Type 1} → statement M
 set-done-spec =

@@ -13,7 +13,8 @@ returns : tie.Need-returns
 returns c =
     let start = c .before .before .before .before .before .before in
     let a = start .args in
-    λ w b rep rowed. none-ends-last (a .l) (ending (a .chain .now) (a .slots .now) (a .saved-stack .now) (a .saved-frames .now) plain b) (a .m) (b .fuel) w rep (a .s) (a .result) (c .if1 .taken)
+    λ w b rep rowed. none-ends-last (a .l) (ending (a .chain .now) (a .slots .now) (a .saved-stack .now) (a .saved-frames .now) plain b) (a .m) (b .fuel) w rep
+    (a .s) (a .result) (c .if1 .taken)
 
 sub-active-at : tie.Need-sub-active-at
 sub-active-at c = search needs
@@ -29,11 +30,12 @@ sub-n c = search needs
 
 finish-coroutine-requires : tie.Need-finish-coroutine-requires
 finish-coroutine-requires c κs =
-    let gone = c .before .before .before .before .before .before in let read = gone .before .before in let test = read .before .before .before in
-    let start = test .before .before .before .before .before .before in
+    let gone = c .before .before .before .before .before .before in let read = gone .before .before in
+    let test = read .before .before .before in let start = test .before .before .before .before .before .before in
     let a = start .args in
     let some : 1 ≤ a .m .active = omega (arith, test .if1 .left) in
-    finish-fits (a .l) (a .m) (a .chain .now) (a .slots .now) (a .saved-stack .now) (a .saved-frames .now) (a .s) (start .pre) (read .active-at .result) some (read .active-at .ensures) (gone .pop-active .last .0)
+    finish-fits (a .l) (a .m) (a .chain .now) (a .slots .now) (a .saved-stack .now) (a .saved-frames .now) (a .s) (start .pre) (read .active-at .result) some
+    (read .active-at .ensures) (gone .pop-active .last .0)
     (gone .pop-active .ensures)
 
 same-length : tie.Need-same-length

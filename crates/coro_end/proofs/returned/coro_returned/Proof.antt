@@ -12,12 +12,16 @@ use borrow.Author.Needs.{needs}
 use Rattle.coro_end.proofs.returned.coro_returned.Statement.{statement}
 use Rattle.coro_end.proofs.returned.coro_returned.Tie as tie
 
+-- the ways back that several clauses take
+abbrev start-of : tie.After-struct-known → tie.Start
+start-of c = c .before .before .before .before .before .before .before
+
 returns : tie.Need-returns
 returns c =
-    let start = c .before .before .before .before .before .before .before .before in
-    let a = start .args in
+    let a = start-of (c .before) .args in
     λ w b rep rowed.
-    none-active (a .l) (lent (a .stack .now) (a .frames .now) (a .chain .now) (a .slots .now) (a .saved-stack .now) (a .saved-frames .now) b) (a .m) (a .fuel) w (a .value) rep (c .if1 .taken)
+    none-active (a .l) (lent (a .stack .now) (a .frames .now) (a .chain .now) (a .slots .now) (a .saved-stack .now) (a .saved-frames .now) b) (a .m) (a .fuel) w
+    (a .value) rep (c .if1 .taken)
 
 sub-active-at : tie.Need-sub-active-at
 sub-active-at c = search needs
@@ -27,7 +31,7 @@ active-at-requires c κs = search needs
 
 end-last-requires : tie.Need-end-last-requires
 end-last-requires c κs =
-    let start = c .before .before .before .before .before .before .before .before .before .before .before .before .before .before .before in
+    let start = start-of (c .before .before .before .before .before .before .before .before) in
     let a = start .args in
     end-fits (a .l) (a .m) (a .stack .now) (a .frames .now) (a .chain .now) (a .slots .now) (a .saved-stack .now) (a .saved-frames .now) (start .pre) CoroState.Returned refl
 
@@ -35,11 +39,12 @@ deliver-return-requires : tie.Need-deliver-return-requires
 deliver-return-requires c κs =
     let done = c .before .before .before .before .before .before .before .before .before .before .before in
     let read = done .before .before .before .before .before in let test = read .before .before .before in
-    let start = test .before .before .before .before .before .before .before .before in
+    let start = start-of (test .before) in
     let a = start .args in
     let f = done .end-last in
     let some : 1 ≤ a .m .active = omega (arith, test .if1 .left) in
-    return-fits (a .l) (a .m) (a .stack .now) (a .frames .now) (a .chain .now) (a .slots .now) (a .saved-stack .now) (a .saved-frames .now) (start .pre) (read .active-at .result) some (read .active-at .ensures)
+    return-fits (a .l) (a .m) (a .stack .now) (a .frames .now) (a .chain .now) (a .slots .now) (a .saved-stack .now) (a .saved-frames .now) (start .pre)
+    (read .active-at .result) some (read .active-at .ensures)
     (f .last .0) (f .last .1 .0) (f .last .1 .1 .0) (f .last .1 .1 .1 .0) (f .result) CoroState.Returned (a .value) (f .ensures)
 
 same-length : tie.Need-same-length
@@ -65,14 +70,15 @@ returns-2 c =
     let told = c .before .before .before .before .before .before in
     let done = told .before .before .before .before .before .before .before .before .before .before .before .before in
     let read = done .before .before .before .before .before in let test = read .before .before .before in
-    let start = test .before .before .before .before .before .before .before .before in
+    let start = start-of (test .before) in
     let a = start .args in
     let x = read .active-at .result in
     let f = done .end-last in
     let g = told .deliver-return in
     let some : 1 ≤ a .m .active = omega (arith, test .if1 .left) in
     λ w b rep rowed.
-    let t = last (a .l) (lent (a .stack .now) (a .frames .now) (a .chain .now) (a .slots .now) (a .saved-stack .now) (a .saved-frames .now) b) (a .m) (a .fuel) w rep x some (read .active-at .ensures) in
+    let t = last (a .l) (lent (a .stack .now) (a .frames .now) (a .chain .now) (a .slots .now) (a .saved-stack .now) (a .saved-frames .now) b) (a .m) (a .fuel)
+    w rep x some (read .active-at .ensures) in
     let e = f .ensures w (record { words = onStack (a .stack .now) (onFrames (a .frames .now) (b .words)); fuel = a .fuel }) rep rowed in
     let d =
     g .ensures (a .l) (endLast CoroState.Returned (a .value) w)

@@ -23,8 +23,7 @@ abbrev mem : tie.Start → Beside → Lent
 mem c b = lent (c .args .stack .now) (c .args .frames .now) (c .args .chain .now) (c .args .slots .now) (c .args .saved-stack .now) (c .args .saved-frames .now) b
 
 some : (c : tie.Else1) →
-    let start = start-of c in
-    1 ≤ start .args .m .active
+    1 ≤ start-of c .args .m .active
 some c = let h = c .if1 .left in omega arith
 
 returns : tie.Need-returns
@@ -49,8 +48,7 @@ returns-2 c =
 
 coro-place-requires : tie.Need-coro-place-requires
 coro-place-requires c κs =
-    let start = start-of (c .before .before .before .before .before .before) in
-    start .pre .ok .rep .slots .within
+    start-of (c .before .before .before .before .before .before) .pre .ok .rep .slots .within
 
 enum-told : tie.Need-enum-told
 enum-told c = search needs

@@ -51,8 +51,7 @@ sub-deep c = search needs
 
 growth-requires : tie.Need-growth-requires
 growth-requires c κs =
-    let start = start-of-struct-known (c .before) in
-    let k = known start in (k .regs, k .frames, k .cost)
+    let k = known (start-of-struct-known (c .before)) in (k .regs, k .frames, k .cost)
 
 charge-requires : tie.Need-charge-requires
 charge-requires c κs = search needs
@@ -80,8 +79,7 @@ asleep-requires c κs = search needs
 
 put-sleep-requires : tie.Need-put-sleep-requires
 put-sleep-requires c κs =
-    let at-move-out = c .before .before .before .before .before .before .before .before .before .before .before .before .before .before in
-    let start = start-of (at-move-out .before) in
+    let start = start-of (c .before .before .before .before .before .before .before .before .before .before .before .before .before .before .before) in
     known start .slot
 
 event-of-requires : tie.Need-event-of-requires
@@ -102,13 +100,11 @@ returns c =
 
 same-length : tie.Need-same-length
 same-length c =
-    let at-move-out = move-out-of (c .before) in
-    at-move-out .move-out .kept .0
+    move-out-of (c .before) .move-out .kept .0
 
 same-length-2 : tie.Need-same-length-2
 same-length-2 c =
-    let at-move-out = move-out-of (c .before) in
-    at-move-out .move-out .kept .1 .0
+    move-out-of (c .before) .move-out .kept .1 .0
 
 same-length-3 : tie.Need-same-length-3
 same-length-3 c =
@@ -120,13 +116,11 @@ same-length-4 c = c .before .before .before .before .put-sleep .kept .0
 
 same-length-5 : tie.Need-same-length-5
 same-length-5 c =
-    let at-move-out = move-out-of (c .before) in
-    at-move-out .move-out .kept .1 .1 .0
+    move-out-of (c .before) .move-out .kept .1 .1 .0
 
 same-length-6 : tie.Need-same-length-6
 same-length-6 c =
-    let at-move-out = move-out-of (c .before) in
-    at-move-out .move-out .kept .1 .1 .1 .0
+    move-out-of (c .before) .move-out .kept .1 .1 .1 .0
 
 returns-2 : tie.Need-returns-2
 returns-2 c =

@@ -28,7 +28,8 @@ returns-2 : tie.Need-returns-2
 returns-2 c =
     let did = c .before .before in let start = did .before .before .before .before .before in
     let a = start .args in
-    λ l w b rep. turn-frames l w (frame (a .frames .now) plain b) (a .m) (b .fuel) rep (onTop stepPc (w .frames)) (did .step-pc .last .0) (a .m .depth) (did .step-pc .ensures (w .frames) (rep .frames))
+    λ l w b rep. turn-frames l w (frame (a .frames .now) plain b) (a .m) (b .fuel) rep (onTop stepPc (w .frames)) (did .step-pc .last .0) (a .m .depth)
+    (did .step-pc .ensures (w .frames) (rep .frames))
 
 pub next-pc-spec : {M : Type 1} → statement M
 next-pc-spec = tie.close (tie.spec returns step-pc-requires same-length returns-2)

@@ -42,7 +42,8 @@ returns c =
     let start = short .before .before .before .before .before .before in
     let a = start .args in
     λ l w b rep.
-    pop-rep l w (top (a .stack .now) (a .frames .now) plain b) (a .m) (b .fuel) rep (start .pre .depth .some) (short .cut .last .0) (gone .pop-frame .last .0) _ refl (short .cut .ensures) (gone .pop-frame .ensures)
+    pop-rep l w (top (a .stack .now) (a .frames .now) plain b) (a .m) (b .fuel) rep (start .pre .depth .some) (short .cut .last .0) (gone .pop-frame .last .0) _
+    refl (short .cut .ensures) (gone .pop-frame .ensures)
 
 pub pop-spec : {M : Type 1} → statement M
 pop-spec =

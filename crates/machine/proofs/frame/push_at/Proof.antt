@@ -14,6 +14,10 @@ use borrow.Author.Needs.{needs}
 use Rattle.machine.proofs.frame.push_at.Statement.{statement}
 use Rattle.machine.proofs.frame.push_at.Tie as tie
 
+-- the ways back that several clauses take
+abbrev start-of : tie.After-overflows → tie.Start
+start-of c = c .before .before .before .before .before
+
 abbrev mem : tie.Start → Beside → Lent
 mem s b = topSetup (s .args .stack .now) (s .args .frames .now) (s .args .setup .now) plain b
 
@@ -23,11 +27,11 @@ around s b = record { words = mem s b; fuel = b .fuel }
 
 -- the code's test is that of the function's width
 test : (c : tie.After-overflows) →
-    let s = c .before .before .before .before .before in
+    let s = start-of c in
     overflowing (s .args .m) (s .args .l) (functionIn (s .args .setup .now) (s .args .f) .regs) ≡ c .overflows .result
 test c =
-    let s = c .before .before .before .before .before in
-    ap (overflowing (s .args .m) (s .args .l)) (sym (c .before .regs-at .ensures)) ∙ sym (c .overflows .ensures)
+    let at-regs-at = c .before in let s = at-regs-at .before .before .before .before in
+    ap (overflowing (s .args .m) (s .args .l)) (sym (at-regs-at .regs-at .ensures)) ∙ sym (c .overflows .ensures)
 
 regs-at-requires : tie.Need-regs-at-requires
 regs-at-requires c κs =
@@ -41,20 +45,19 @@ overflows-requires c κs =
 
 returns : tie.Need-returns
 returns c =
-    let s = c .before .before .before .before .before .before in
+    let at-overflows = c .before in let s = start-of at-overflows in
     λ w b rep snd. call-refused (s .args .l) w (mem s b) (s .args .m) (b .fuel) rep snd (s .args .f) (s .pre .push .function) (s .args .closure) (s .args .cont) (s .args .pc)
-    (test (c .before) ∙ c .if1 .taken)
+    (test at-overflows ∙ c .if1 .taken)
 
 store-pc-requires : tie.Need-store-pc-requires
 store-pc-requires c κs =
-    let s = c .before .before .before .before .before .before .before in
+    let s = start-of (c .before .before) in
     let q = s .pre .push .ok .rep .frames .within in
     record { some = s .pre .some; within = q }
 
 push-frame-requires : tie.Need-push-frame-requires
 push-frame-requires c κs =
-    let at-store-pc = c .before .before .before in
-    let s = at-store-pc .before .before .before .before .before .before .before .before in
+    let at-store-pc = c .before .before .before in let s = start-of (at-store-pc .before .before .before) in
     let o = s .pre .push .ok in
     let frames′ = at-store-pc .store-pc .last .0 in
     record {
@@ -72,10 +75,10 @@ same-length c = search needs
 returns-2 : tie.Need-returns-2
 returns-2 c =
     let at-push-frame = c .before .before in let at-store-pc = at-push-frame .before .before .before .before in
-    let at-if1 = at-store-pc .before .before in let s = at-if1 .before .before .before .before .before .before in
+    let at-if1 = at-store-pc .before .before in let at-overflows = at-if1 .before in let s = start-of at-overflows in
     λ w b rep snd.
     call-done (s .args .l) w (mem s b) (s .args .m) (b .fuel) rep snd (s .args .f) (s .pre .push .function) (s .args .closure) (s .args .cont) (s .args .pc) _ _ _
-    (test (at-if1 .before) ∙ at-if1 .if1 .left)
+    (test at-overflows ∙ at-if1 .if1 .left)
     (at-push-frame .push-frame .ensures (storePc (s .args .pc) w) b (at-store-pc .store-pc .ensures (s .args .l) w (around s b) rep) (store-sounds (s .args .pc) w (s .pre .narrow) snd))
 
 pub push-at-spec : {M : Type 1} → statement M

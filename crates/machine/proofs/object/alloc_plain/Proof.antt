@@ -50,7 +50,8 @@ returns-2 c =
     let a = start .args in
     λ x e none w b rep.
     plain-made (a .l) (table (a .slots .now) plain b) (a .m) (b .fuel) w rep (a .bytes) x none (did .alloc .last .0) (numbers .heap-of .result) (did .alloc .result)
-    (did .alloc .ensures ∙ ap (allocOf (a .slots .now) (numbers .heap-of .result) (a .bytes)) (sym e)) (numbers .heap-of .ensures) (start .pre .words) (arm .v .given .0 .0) (arm .v .given .0 .1 .0)
+    (did .alloc .ensures ∙ ap (allocOf (a .slots .now) (numbers .heap-of .result) (a .bytes)) (sym e)) (numbers .heap-of .ensures) (start .pre .words)
+    (arm .v .given .0 .0) (arm .v .given .0 .1 .0)
     (c .allocated .result) (arm .v .given .1) (c .allocated .ensures)
 
 pub alloc-plain-spec : {M : Type 1} → statement M

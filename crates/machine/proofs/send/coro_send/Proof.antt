@@ -21,10 +21,15 @@ same-length-2 : tie.Need-same-length-2
 same-length-2 c = search needs
 
 returns : tie.Need-returns
-returns c = λ l w b rep. let M = top (c .before .before .before .before .before .before .before .before .before .before .before .args .stack .now) (c .before .before .before .before .before .before .before .before .before .before .before .args .frames .now) plain b in
-    let xs = putAt (w .frames) (c .before .before .before .before .before .before .before .before .before .before .before .args .dst) (c .before .before .before .before .before .before .before .before .before .before .before .args .v) (w .stack) in
-    let p = turn-stack l w M (c .before .before .before .before .before .before .before .before .before .before .before .args .m) (b .fuel) rep xs (c .before .before .before .before .before .before .put-reg .last .0) (c .before .before .before .before .before .before .before .before .before .before .before .args .m .height) (c .before .before .before .before .before .before .put-reg .ensures (w .stack) (w .frames) (rep .stack) (rep .frames)) in
-    turn-frames l (withStack xs w) (onStack (c .before .before .before .before .before .before .put-reg .last .0) M) (c .before .before .before .before .before .before .before .before .before .before .before .args .m) (b .fuel) p (onTop stepPc (w .frames)) _ (c .before .before .before .before .before .before .before .before .before .before .before .args .m .depth) (c .before .before .step-pc .ensures (w .frames) (rep .frames))
+returns c =
+    let at-step-pc = c .before .before in let at-put-reg = at-step-pc .before .before .before .before in
+    let start = at-put-reg .before .before .before .before .before in
+    λ l w b rep. let M = top (start .args .stack .now) (start .args .frames .now) plain b in
+    let xs = putAt (w .frames) (start .args .dst) (start .args .v) (w .stack) in
+    let p = turn-stack l w M (start .args .m) (b .fuel) rep xs (at-put-reg .put-reg .last .0) (start .args .m .height)
+    (at-put-reg .put-reg .ensures (w .stack) (w .frames) (rep .stack) (rep .frames)) in
+    turn-frames l (withStack xs w) (onStack (at-put-reg .put-reg .last .0) M) (start .args .m) (b .fuel) p (onTop stepPc (w .frames)) _ (start .args .m .depth)
+    (at-step-pc .step-pc .ensures (w .frames) (rep .frames))
 
 pub coro-send-spec : {M : Type 1} → statement M
 coro-send-spec =
