@@ -23,11 +23,11 @@ use Rattle.model.specs.declared.machine.Charge.{Charge}
 use Rattle.model.specs.declared.coro.Entered as E
 use Rattle.model.specs.declared.call.OptPc.{OptPc}
 use Rattle.model.specs.declared.call.Op.{Op}
-use Rattle.claims.specs.Entry.{enters, at, awaits, act, nobody, entry, acceptsAs, accepts, sentTo, charged, entryBy, entryOf, driverOf, sentOf, pcBy}
-use Rattle.claims.specs.Suspension.{suspendsIn, takesBy, suspendsOf}
-use Rattle.claims.specs.Held.{coreIn, coreAt}
-use Rattle.claims.specs.Demand3.{next, Suspends, Enters}
-use Rattle.claims.specs.Accepted.{inmost, Exactly, Fits, passes, Starts, Acceptance}
+use Rattle.claims.proofs.Entry.{enters, at, awaits, act, nobody, entry, acceptsAs, accepts, sentTo, charged, entryBy, entryOf, driverOf, sentOf, pcBy}
+use Rattle.claims.proofs.Suspension.{suspendsIn, takesBy, suspendsOf}
+use Rattle.claims.proofs.Held.{coreIn, coreAt}
+use Rattle.claims.proofs.Split.{next, Suspends, Enters}
+use Rattle.claims.proofs.Accepted.{inmost, Exactly, Fits, passes, Starts, Acceptance}
 use Rattle.claims.proofs.Cores.{no-both}
 use Rattle.claims.proofs.Events.{run-susp, no-entry, who, entry-enters, suspended-one, takes-suspends}
 use Rattle.claims.proofs.Enters.{EnterCase, e-in, e-out, enter-case, is-in}

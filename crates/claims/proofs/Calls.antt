@@ -33,8 +33,8 @@ use Rattle.model.specs.declared.machine.Frame.{Frame}
 use Rattle.model.specs.declared.coro.Made.{Made}
 use Rattle.model.specs.declared.coro.Entered.{Entered}
 use Rattle.model.specs.declared.call.Op.{Op}
-use Rattle.claims.specs.Entry.{Aim, enters, suspends, neither, awaits, act, nobody, entry, accepts, sentTo, entryBy}
-use Rattle.claims.specs.Held.{Returns, eventBy}
+use Rattle.claims.proofs.Entry.{Aim, enters, suspends, neither, awaits, act, nobody, entry, accepts, sentTo, entryBy}
+use Rattle.claims.proofs.Held.{Returns, eventBy}
 use Rattle.claims.proofs.Cores.{no-both, cores, coroIn, objectIn, set-rest}
 use Rattle.claims.proofs.Shape as S
 use Rattle.claims.proofs.Shape.{view, Worked, done, tops, puts, Shape}

@@ -34,7 +34,7 @@ use Rattle.model.specs.declared.coro.Made.{Made}
 use Rattle.heap.specs.declared.heap.ResultKind.{ResultKind}
 use Rattle.model.specs.declared.call.OptPc.{OptPc}
 use Rattle.model.specs.declared.call.Answer.{Answer}
-use Rattle.claims.specs.Held.{coreAt, Returns, mem, deliverTo, madeWord}
+use Rattle.claims.proofs.Held.{coreAt, Returns, mem, deliverTo, madeWord}
 use Rattle.claims.proofs.Shape as S
 use Rattle.claims.proofs.Shape.{View, view, Ends, Worked, done, tops, puts, pops, fails, Return, Apart}
 use Rattle.claims.proofs.Under.{keeps-pc, keeps-step}

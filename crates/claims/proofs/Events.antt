@@ -15,9 +15,9 @@ use Rattle.model.specs.declared.machine.Driver.{Driver}
 use Rattle.model.specs.declared.machine.Active.{Active}
 use Rattle.model.specs.declared.machine.Frame.{Frame}
 use Rattle.model.specs.declared.call.Op.{Op}
-use Rattle.claims.specs.Entry.{suspends, at, Entry, entry, nobody, act, entryBy, pcBy}
-use Rattle.claims.specs.Suspension.{suspendsIn, takesBy}
-use Rattle.claims.specs.Held.{coreAt}
+use Rattle.claims.proofs.Entry.{suspends, at, Entry, entry, nobody, act, entryBy, pcBy}
+use Rattle.claims.proofs.Suspension.{suspendsIn, takesBy}
+use Rattle.claims.proofs.Held.{coreAt}
 use Rattle.claims.proofs.Cores.{no-both, busy, Kept, kept, unborn}
 use Rattle.claims.proofs.Shape.{View, Ends, Worked, done, quiet, tops, puts, pushes, pops, fails, Enter, Suspend, Return, Apart, Stop, Says, Shape, works, enters, suspended, returns, stops}
 

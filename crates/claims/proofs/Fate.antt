@@ -22,8 +22,8 @@ use Rattle.model.specs.declared.machine.Driver.{Driver}
 use Rattle.model.specs.declared.machine.Active.{Active}
 use Rattle.model.specs.declared.machine.Frame.{Frame}
 use Rattle.model.specs.declared.call.Op.{Op}
-use Rattle.claims.specs.Entry.{at, suspends, act, pcBy}
-use Rattle.claims.specs.Held.{coreAt, wordsWith, framesWith, Event, Yields, Awaits, Ignores, Returns, eventAs, eventBy, Mem, mem, put, send, deliverTo}
+use Rattle.claims.proofs.Entry.{at, suspends, act, pcBy}
+use Rattle.claims.proofs.Held.{coreAt, wordsWith, framesWith, Event, Yields, Awaits, Ignores, Returns, eventAs, eventBy, Mem, mem, put, send, deliverTo}
 use Rattle.claims.proofs.Cores.{no-both, Kept, kept, unborn}
 use Rattle.claims.proofs.Shape.{View, view, Ends, Keeps, Worked, done, quiet, tops, puts, pushes, pops, fails, Enter, Suspend, Return, Apart, Shape, works, enters, suspended, returns, stops}
 use Rattle.claims.proofs.Events.{run-born, ready-run}

@@ -1,3 +1,9 @@
+pub mod Tries
+pub mod Entry
+pub mod Suspension
+pub mod Held
+pub mod Split
+pub mod Accepted
 pub mod Cores
 pub mod Shape
 pub mod Events
@@ -14,6 +20,8 @@ pub mod Endings
 pub mod Calls
 pub mod Claim
 pub mod Acceptance
-pub mod Premises
-pub mod Witness
 pub mod Soundness
+pub mod Views
+pub mod Whom
+pub mod Bodies
+pub mod Restores

@@ -20,9 +20,9 @@ use Rattle.model.specs.declared.machine.Driver.{Driver}
 use Rattle.model.specs.declared.machine.Active.{Active}
 use Rattle.model.specs.declared.machine.Frame.{Frame}
 use Rattle.model.specs.declared.call.Op.{Op}
-use Rattle.claims.specs.Entry.{suspends, at, act, Entry, nobody, entry, entryBy, pcBy}
-use Rattle.claims.specs.Suspension.{suspendsIn, takesBy}
-use Rattle.claims.specs.Held.{coreAt, wordsWith, framesWith, Returns, eventAs, eventBy, mem, deliverTo}
+use Rattle.claims.proofs.Entry.{suspends, at, act, Entry, nobody, entry, entryBy, pcBy}
+use Rattle.claims.proofs.Suspension.{suspendsIn, takesBy}
+use Rattle.claims.proofs.Held.{coreAt, wordsWith, framesWith, Returns, eventAs, eventBy, mem, deliverTo}
 use Rattle.claims.proofs.Cores.{Kept}
 
 -- what a switch moves
