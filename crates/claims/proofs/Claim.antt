@@ -164,7 +164,7 @@ restored c w k s h q =
 
 -- ---- (4)
 
-run-left : (s : CoroState) → isRunning s ≡ true → hasLeft s ≡ false
+pub run-left : (s : CoroState) → isRunning s ≡ true → hasLeft s ≡ false
 run-left CoroState.Created e = refl
 run-left CoroState.Running e = refl
 run-left CoroState.Yielded e = sym e

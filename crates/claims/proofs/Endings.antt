@@ -54,7 +54,7 @@ then-done g (d-returns u f fs a chain t r) = d-returns u f fs a chain (g u t) r
 
 -- ---- the innermost body f goes, and its coroutine returns x
 
-return-done : (x : ℕ) (f : Frame) (fs : List Frame) (w : World) (a : Active) (chain : List Active) → w .frames ≡ f ∷ fs → isCoro (f .cont) ≡ true → w .chain ≡ a ∷ chain
+pub return-done : (x : ℕ) (f : Frame) (fs : List Frame) (w : World) (a : Active) (chain : List Active) → w .frames ≡ f ∷ fs → isCoro (f .cont) ≡ true → w .chain ≡ a ∷ chain
     → Return (view w) x f fs a chain (deliverReturn (a .driver) x (finishCoroutine (a .coro) CoroState.Returned x (withChain chain (popTo f fs w))))
 return-done x f fs w a chain p q r =
     record {

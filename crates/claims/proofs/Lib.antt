@@ -25,3 +25,5 @@ pub mod Views
 pub mod Whom
 pub mod Bodies
 pub mod Restores
+pub mod Finishes
+pub mod Untouched
