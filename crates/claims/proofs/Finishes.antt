@@ -75,39 +75,46 @@ return-records d x c w h = ap (λ y. recorded (seenOf y)) (return-coros d x (fin
     go Absent e = no-both h (ap (λ y. isRunning (coreIn y .state)) e)
     go (Is k r) e = ap (λ y. recorded (seenOf y)) (set-mine (w .slots) c e (inState CoroState.Returned k) (ended x r))
 
--- ---- a result that does not convert is answered by a number
+-- ---- what does not convert is refused with 7, 9 or 14: by a test that fails there
 
--- whether a refusal has a number of its own
-abbrev refusal : Made → Bool
-refusal (Made.Word v) = false
-refusal (Made.Refused f) = eqb (Faults.numberOf f) 0
+module _ (P : ℕ → Bool) (p7 : P 7 ≡ false) (p9 : P 9 ≡ false) (p14 : P 14 ≡ false) where
+  abbrev refusal : Made → Bool
+  refusal (Made.Word v) = false
+  refusal (Made.Refused f) = P (Faults.numberOf f)
 
-refused-some : (bytes : ℕ) (o : Object) (w : World) (f : Fault) → alloc bytes o w .answer ≡ Made.Refused f → eqb (Faults.numberOf f) 0 ≡ false
-unfolding alloc pick
-refused-some bytes o w f = go (not (fits w bytes)) (slotsFull w)
-  where
-    go : (a b : Bool) → pick a (refuse w Fault.OutOfMemory) (pick b (refuse w Fault.Full) (after (withUsed (satAdd (w .used) bytes) (withSlots (pushObject (w .slots) o) w)) (Made.Word (nextWord (w .slots))))) .answer ≡ Made.Refused f → eqb (Faults.numberOf f) 0 ≡ false
-    go true b e = ap (λ m. refusal m) (sym e)
-    go false true e = ap (λ m. refusal m) (sym e)
-    go false false e = let z : _≡_ {A = ℕ} 0 1 = cc in absurd (omega arith)
+  pub refused-alloc : (bytes : ℕ) (o : Object) (w : World) → refusal (alloc bytes o w .answer) ≡ false
+  unfolding alloc pick
+  refused-alloc bytes o w = go (not (fits w bytes)) (slotsFull w)
+    where
+      go : (a b : Bool) → refusal (pick a (refuse w Fault.OutOfMemory) (pick b (refuse w Fault.Full) (after (withUsed (satAdd (w .used) bytes) (withSlots (pushObject (w .slots) o) w)) (Made.Word (nextWord (w .slots))))) .answer) ≡ false
+      go true b = p9
+      go false true = p14
+      go false false = refl
 
-refused-int : (n : ℕ) (w : World) (f : Fault) → encodeInt n w .answer ≡ Made.Refused f → eqb (Faults.numberOf f) 0 ≡ false
-refused-int n w f = go (inlineOf (ofBits 63 n))
-  where
-    go : (x : Inline) → encodeAt x n w .answer ≡ Made.Refused f → eqb (Faults.numberOf f) 0 ≡ false
-    go (Inline.At x) e = let z : _≡_ {A = ℕ} 0 1 = cc in absurd (omega arith)
-    go Inline.Large e = refused-some (w .setup .costs .int) (Object.Int n) w f e
+  pub refused-int : (n : ℕ) (w : World) → refusal (encodeInt n w .answer) ≡ false
+  refused-int n w = go (inlineOf (ofBits 63 n))
+    where
+      go : (x : Inline) → refusal (encodeAt x n w .answer) ≡ false
+      go (Inline.At x) = refl
+      go Inline.Large = refused-alloc (w .setup .costs .int) (Object.Int n) w
 
-refused-exact : (y : Exact) (w : World) (f : Fault) → encodeExact y w .answer ≡ Made.Refused f → eqb (Faults.numberOf f) 0 ≡ false
-refused-exact (Exact.Fits n) w f e = refused-int n w f e
-refused-exact Exact.Over w f e = ap refusal (sym e)
+  pub refused-exact : (y : Exact) (w : World) → refusal (encodeExact y w .answer) ≡ false
+  refused-exact (Exact.Fits n) w = refused-int n w
+  refused-exact Exact.Over w = p7
 
-refused-dyn : (kind : ResultKind) (x : ℕ) (w : World) (f : Fault) → toDyn kind x w .answer ≡ Made.Refused f → eqb (Faults.numberOf f) 0 ≡ false
-unfolding toDyn
-refused-dyn ResultKind.None x w f e = let z : _≡_ {A = ℕ} 0 1 = cc in absurd (omega arith)
-refused-dyn ResultKind.Dyn x w f e = let z : _≡_ {A = ℕ} 0 1 = cc in absurd (omega arith)
-refused-dyn ResultKind.I64 x w f e = refused-exact (exactly (valueOf IntTy.I64 x)) w f e
-refused-dyn ResultKind.U64 x w f e = refused-exact (exactly (valueOf IntTy.U64 x)) w f e
+  pub refused-dyn : (kind : ResultKind) (x : ℕ) (w : World) → refusal (toDyn kind x w .answer) ≡ false
+  unfolding toDyn
+  refused-dyn ResultKind.None x w = refl
+  refused-dyn ResultKind.Dyn x w = refl
+  refused-dyn ResultKind.I64 x w = refused-exact (exactly (valueOf IntTy.I64 x)) w
+  refused-dyn ResultKind.U64 x w = refused-exact (exactly (valueOf IntTy.U64 x)) w
+
+  -- so it is with a refusal that is at hand
+  pub refused-at : {m : Made} {f : Fault} → refusal m ≡ false → m ≡ Made.Refused f → P (Faults.numberOf f) ≡ false
+  refused-at h e = ap refusal (sym e) ∙ h
+
+abbrev isZero : ℕ → Bool
+isZero n = eqb n 0
 
 -- ---- the cases
 
@@ -144,7 +151,7 @@ finish-case kind x w = go (w .frames) refl
     dyn dst u (Made.Refused f) e c = resumed u f e (isOk f) c
 
     body : (f : Frame) (fs : List Frame) → w .frames ≡ f ∷ fs → isCoro (f .cont) ≡ true → (m : Made) → made .answer ≡ m → FinishCase kind x w (returnMade f fs (made .world) m)
-    body f fs p q (Made.Refused y) e = f-other (dyn-same kind x w .coros) (inr (inr (refused-dyn kind x w y e)))
+    body f fs p q (Made.Refused y) e = f-other (dyn-same kind x w .coros) (inr (inr (refused-at isZero refl refl refl (refused-dyn isZero refl refl refl kind x w) e)))
     body f fs p q (Made.Word y) e = chained (made .world .chain) refl
       where
         u : World

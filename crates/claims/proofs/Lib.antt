@@ -27,3 +27,4 @@ pub mod Bodies
 pub mod Restores
 pub mod Finishes
 pub mod Untouched
+pub mod Escapes

@@ -32,7 +32,7 @@ parts true false b c d e f g h = no-both h refl
 parts true true false c d e f g h = no-both h refl
 parts true true true c d e f g h = (refl, refl)
 
-two : (w : World) → sound w ≡ true → (runningOk w ≡ true) × (savedOk w ≡ true)
+pub two : (w : World) → sound w ≡ true → (runningOk w ≡ true) × (savedOk w ≡ true)
 unfolding sound
 two w h = parts (setupOk (w .setup) && sizesOk w && savedSizesOk w && framesOk w && entryOk w && floorsOk w && driversOk w) (runningOk w) (savedOk w) (rowsOk w) (queuesOk w) (fuelOk w) (unusedOk w) (rangesOk w) h
 
