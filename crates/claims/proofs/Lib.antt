@@ -28,3 +28,8 @@ pub mod Restores
 pub mod Finishes
 pub mod Untouched
 pub mod Escapes
+pub mod Unwinds
+pub mod Numbers
+pub mod Exact
+pub mod Returned
+pub mod Exactly

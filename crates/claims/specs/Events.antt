@@ -131,3 +131,4 @@ pub record Events (e : Engine) : Type 0 where
   -- one a call
   pub one-switch : (c u : ℕ) (s : e .State) (k : e .Call) → Enters e c s k → Suspends e u s k → ⊥
   pub no-return : (c u : ℕ) (s : e .State) (k : e .Call) → Enters e c s k → Returns e u s k → ⊥
+  pub one-leaves : (c u : ℕ) (s : e .State) (k : e .Call) → Suspends e c s k → Returns e u s k → ⊥
