@@ -122,9 +122,15 @@ abbrev pub bodyOn : List Frame → Bool
 bodyOn [] = false
 bodyOn (f ∷ fs) = isCoro (f .cont)
 
+-- the result does not convert
+pub record Unmade (kind : ResultKind) (x : ℕ) (w : World) (o : After Answer) : Type 0 where
+  pub fault : Fault
+  pub refused : toDyn kind x w .answer ≡ Made.Refused fault
+  pub numbered : eqb (numberOf (o .answer)) 0 ≡ false
+
 pub data FinishCase (kind : ResultKind) (x : ℕ) (w : World) (o : After Answer) : Type 0 where
   -- nobody returns: no body is on top, or none is active, or it is refused
-  f-other : ((c : ℕ) → coro (o .world) c ≡ coro w c) → (bodyOn (w .frames) ≡ false) ⊎ ((w .chain ≡ []) ⊎ (eqb (numberOf (o .answer)) 0 ≡ false)) → FinishCase kind x w o
+  f-other : ((c : ℕ) → coro (o .world) c ≡ coro w c) → (bodyOn (w .frames) ≡ false) ⊎ ((w .chain ≡ []) ⊎ Unmade kind x w o) → FinishCase kind x w o
   f-returns : (f : Frame) (fs : List Frame) (a : Active) (chain : List Active) (y : ℕ) → w .frames ≡ f ∷ fs → isCoro (f .cont) ≡ true → w .chain ≡ a ∷ chain → toDyn kind x w .answer ≡ Made.Word y → numberOf (o .answer) ≡ 0
       → Ends CoroState.Returned (a .coro) (coreAt w) (coreAt (o .world)) → (isRunning (coreAt w (a .coro) .state) ≡ true → recorded (seenOf (coro (o .world) (a .coro))) ≡ y) → FinishCase kind x w o
 
@@ -151,7 +157,7 @@ finish-case kind x w = go (w .frames) refl
     dyn dst u (Made.Refused f) e c = resumed u f e (isOk f) c
 
     body : (f : Frame) (fs : List Frame) → w .frames ≡ f ∷ fs → isCoro (f .cont) ≡ true → (m : Made) → made .answer ≡ m → FinishCase kind x w (returnMade f fs (made .world) m)
-    body f fs p q (Made.Refused y) e = f-other (dyn-same kind x w .coros) (inr (inr (refused-at isZero refl refl refl (refused-dyn isZero refl refl refl kind x w) e)))
+    body f fs p q (Made.Refused y) e = f-other (dyn-same kind x w .coros) (inr (inr (record { fault = y; refused = e; numbered = refused-at isZero refl refl refl (refused-dyn isZero refl refl refl kind x w) e })))
     body f fs p q (Made.Word y) e = chained (made .world .chain) refl
       where
         u : World

@@ -33,3 +33,4 @@ pub mod Numbers
 pub mod Exact
 pub mod Returned
 pub mod Exactly
+pub mod Premises

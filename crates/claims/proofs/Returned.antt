@@ -58,7 +58,7 @@ use Rattle.claims.proofs.Whom as Whom
 use Rattle.claims.proofs.Whom.{whom-told}
 use Rattle.claims.proofs.Restores as Restores
 use Rattle.claims.proofs.Restores.{enters-old, suspends-old}
-use Rattle.claims.proofs.Finishes.{FinishCase, f-other, f-returns, finish-case, bodyOn}
+use Rattle.claims.proofs.Finishes.{Unmade, FinishCase, f-other, f-returns, finish-case, bodyOn}
 use Rattle.claims.proofs.Escapes.{Ended, e-works, e-returns}
 use Rattle.claims.proofs.Unwinds.{unwind-ended}
 use Rattle.claims.proofs.Exact.{number-sound, no-some, pick-some}
@@ -191,7 +191,7 @@ body-coro (Cont.Value r) = refl
 body-coro Cont.Discard = refl
 body-coro Cont.Coro = refl
 
-on-body : (fs : List Frame) → onBody fs ≡ bodyOn fs
+pub on-body : (fs : List Frame) → onBody fs ≡ bodyOn fs
 on-body [] = refl
 on-body (f ∷ fs) = body-coro (f .cont)
 
@@ -212,10 +212,10 @@ finish-has kind x w h c o e (f-other all why) = go why
     t : ((eqb (numberOf (o .answer)) 0 && onBody (w .frames)) ≡ true) × (inmost (w .chain) ≡ some c)
     t = pick-some (eqb (numberOf (o .answer)) 0 && onBody (w .frames)) (inmost (w .chain)) c e
 
-    go : (bodyOn (w .frames) ≡ false) ⊎ ((w .chain ≡ []) ⊎ (eqb (numberOf (o .answer)) 0 ≡ false)) → Has w c (o .world)
+    go : (bodyOn (w .frames) ≡ false) ⊎ ((w .chain ≡ []) ⊎ Unmade kind x w o) → Has w c (o .world)
     go (inl q) = no-both (and-right (eqb (numberOf (o .answer)) 0) (onBody (w .frames)) (t .0)) (on-body (w .frames) ∙ q)
     go (inr (inl q)) = no-some (ap inmost q) (t .1)
-    go (inr (inr q)) = no-both (and-left (eqb (numberOf (o .answer)) 0) (onBody (w .frames)) (t .0)) q
+    go (inr (inr q)) = no-both (and-left (eqb (numberOf (o .answer)) 0) (onBody (w .frames)) (t .0)) (q .numbered)
 finish-has kind x w h c o e (f-returns f fs a chain y p q r m n ends tells) = record { before = ap (λ u. isRunning (coreAt w u .state)) (sym its) ∙ ran; after = ap (λ u. isReturned (coreAt (o .world) u .state)) (sym its) ∙ go (ends .mine) }
   where
     its : a .coro ≡ c

@@ -109,7 +109,7 @@ module _ (w : World) (h : sound w ≡ true) where
   stored-sees OptPc.None = sees w h
   stored-sees (OptPc.Some p) = let s = sees w h in record { handlers = s .handlers; coros = s .coros }
 
-  word-ended : (x : ℕ) (pc : OptPc) → Ended (view w) (searchFrames x (storeSome pc w)) (raisedAt (viewOf w) (some x) pc)
+  pub word-ended : (x : ℕ) (pc : OptPc) → Ended (view w) (searchFrames x (storeSome pc w)) (raisedAt (viewOf w) (some x) pc)
   word-ended x OptPc.None = frames-ended x (w .frames) w (sees w h) refl refl
   word-ended x (OptPc.Some p) = then-ended (λ y t. tops (setPc p) (keeps-pc p) t) (frames-ended x (at p (w .frames)) (storePc p w) (stored-sees (OptPc.Some p)) (at-top p (w .frames)) refl)
 

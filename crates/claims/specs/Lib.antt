@@ -4,5 +4,7 @@ pub mod Held
 pub mod Delivery
 pub mod Demand3
 pub mod Events
+pub mod Promise
+pub mod Premises
 pub mod Steps
 pub mod Story
