@@ -34,3 +34,4 @@ pub mod Exact
 pub mod Returned
 pub mod Exactly
 pub mod Premises
+pub mod Witness

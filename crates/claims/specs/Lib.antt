@@ -8,3 +8,4 @@ pub mod Promise
 pub mod Premises
 pub mod Steps
 pub mod Story
+pub mod Witness
