@@ -35,3 +35,4 @@ pub mod Returned
 pub mod Exactly
 pub mod Premises
 pub mod Witness
+pub mod Promise
