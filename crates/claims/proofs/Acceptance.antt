@@ -23,11 +23,11 @@ use Rattle.model.specs.declared.machine.Charge.{Charge}
 use Rattle.model.specs.declared.coro.Entered as E
 use Rattle.model.specs.declared.call.OptPc.{OptPc}
 use Rattle.model.specs.declared.call.Op.{Op}
-use Rattle.claims.specs.Entry.{enters, at, awaits, act, nobody, entry, acceptsAs, accepts, sentTo, charged, entryBy, entryOf, driverOf, sentOf, pcBy}
-use Rattle.claims.specs.Suspension.{suspendsIn, takesBy, suspendsOf}
-use Rattle.claims.specs.Held.{coreIn, coreAt}
-use Rattle.claims.specs.Demand3.{next, Suspends, Enters}
-use Rattle.claims.specs.Accepted.{inmost, Exactly, Fits, passes, Starts, Acceptance}
+use Rattle.claims.proofs.Entry.{enters, at, awaits, act, nobody, entry, acceptsAs, accepts, sentTo, charged, entryBy, entryOf, driverOf, sentOf, pcBy}
+use Rattle.claims.proofs.Suspension.{suspendsIn, takesBy, suspendsOf}
+use Rattle.claims.proofs.Held.{coreIn, coreAt}
+use Rattle.claims.proofs.Split.{next, Suspends, Enters}
+use Rattle.claims.proofs.Accepted.{inmost, Exactly, Fits, passes, Starts, Acceptance}
 use Rattle.claims.proofs.Cores.{no-both}
 use Rattle.claims.proofs.Events.{run-susp, no-entry, who, entry-enters, suspended-one, takes-suspends}
 use Rattle.claims.proofs.Enters.{EnterCase, e-in, e-out, enter-case, is-in}
@@ -55,7 +55,7 @@ named-enters w k c d v h = let x = go (next w k) (step-case w k) h in record { b
     go z (same k e) q = no-entry e q
     go z (does o e) q = entry-enters c d v (shape w (o .op)) (sym (entry-sound w o e) ∙ q)
 
-takes-sound : (w : World) (o : Operation) → sound w ≡ true → suspendsOf w (Do o) ≡ takesBy (act w (o .op)) (suspendsIn (o .op)) w
+pub takes-sound : (w : World) (o : Operation) → sound w ≡ true → suspendsOf w (Do o) ≡ takesBy (act w (o .op)) (suspendsIn (o .op)) w
 takes-sound w o h = ap (λ b. pick b (takesBy (act w (o .op)) (suspendsIn (o .op)) w) false) h ∙ pick-true (takesBy (act w (o .op)) (suspendsIn (o .op)) w) false
 
 -- what a suspension says of its call
@@ -78,10 +78,10 @@ suspending w k c h = go (next w k) (step-case w k) (h .after)
           alone = entry-sound w o e ∙ t .says .entry;
         }
 
-one-of : {a b : ℕ} {x : Option ℕ} → x ≡ some a → x ≡ some b → a ≡ b
+pub one-of : {a b : ℕ} {x : Option ℕ} → x ≡ some a → x ≡ some b → a ≡ b
 one-of p q = cc
 
-suspends-exactly : (w : World) (k : Call) (c : ℕ) → suspendsOf w k ≡ true → inmost (w .chain) ≡ some c → Suspends c w k
+pub suspends-exactly : (w : World) (k : Call) (c : ℕ) → suspendsOf w k ≡ true → inmost (w .chain) ≡ some c → Suspends c w k
 suspends-exactly w (SetUp s) c h f = no-both h refl
 suspends-exactly w (Do o) c h f =
     let t = takes-suspends (shape w (o .op)) (sym (takes-sound w o e) ∙ h) in

@@ -27,7 +27,7 @@ use Rattle.model.specs.declared.machine.Charge.{Charge}
 use Rattle.model.specs.declared.coro.Made.{Made}
 use Rattle.model.specs.declared.coro.Stated.{Stated}
 use Rattle.model.specs.declared.call.OptPc.{OptPc}
-use Rattle.claims.specs.Entry.{neither}
+use Rattle.claims.proofs.Entry.{neither}
 use Rattle.claims.proofs.Shape.{View, view, Worked, done, tops, puts, pushes, pushV}
 use Rattle.claims.proofs.Under.{keeps-pc}
 use Rattle.claims.proofs.Enters.{charge-none}

@@ -33,8 +33,8 @@ use Rattle.model.specs.declared.machine.Frame.{Frame}
 use Rattle.model.specs.declared.coro.Made.{Made}
 use Rattle.model.specs.declared.coro.Entered.{Entered}
 use Rattle.model.specs.declared.call.Op.{Op}
-use Rattle.claims.specs.Entry.{Aim, enters, suspends, neither, awaits, act, nobody, entry, accepts, sentTo, entryBy}
-use Rattle.claims.specs.Held.{Returns, eventBy}
+use Rattle.claims.proofs.Entry.{Aim, enters, suspends, neither, awaits, act, nobody, entry, accepts, sentTo, entryBy}
+use Rattle.claims.proofs.Held.{Returns, eventBy}
 use Rattle.claims.proofs.Cores.{no-both, cores, coroIn, objectIn, set-rest}
 use Rattle.claims.proofs.Shape as S
 use Rattle.claims.proofs.Shape.{view, Worked, done, tops, puts, Shape}
@@ -186,9 +186,9 @@ entry-shape c v w = go (isNil (w .frames)) refl
 
 -- ---- finish and unwind
 
-done-shape : (w : World) (o : Op) (x : ℕ) (z : World) → S.Says w o nobody false → ((c : ℕ) → eventBy (act w o) w c ≡ Returns x) → Done x (view w) z → Shape w o z
-done-shape w o x z e g (d-works t) = S.works e t
-done-shape w o x z e g (d-returns u f fs a chain t r) = S.returns u x f fs a chain e g t r
+done-shape : (w : World) (o : Op) (x : ℕ) (z : World) → S.Says w o nobody false → S.isEnding (act w o) ≡ true → ((c : ℕ) → eventBy (act w o) w c ≡ Returns x) → Done x (view w) z → Shape w o z
+done-shape w o x z e n g (d-works t) = S.works e t
+done-shape w o x z e n g (d-returns u f fs a chain t r) = S.returns u x f fs a chain e n g t r
 
 -- ---- the table
 
@@ -213,8 +213,8 @@ shape w (Op.CoroResult pc dst c) = instr-shape w (Op.CoroResult pc dst c) pc _ p
 shape w (Op.IterNext pc has iter val src) =
     instr-shape w (Op.IterNext pc has iter val src) pc _
     (λ b s xs. enters (getD s (b + src) 0) (Driver.Iter has val (getD s (b + iter) 0)) (Opt.Some nil) (not (isDone (objectIn xs (getD s (b + iter) 0))) && not (awaits (coroIn xs (getD s (b + src) 0))))) (iterNext pc has iter val src) refl (iter-arm pc has iter val src)
-shape w (Op.Finish kind v) = done-shape w (Op.Finish kind v) _ (finish kind v w .world) (record { entry = refl; takes = refl }) (λ c. refl) (finish-done kind v w)
-shape w (Op.Unwind f pc) = done-shape w (Op.Unwind f pc) nil (unwind f pc w .world) (record { entry = refl; takes = refl }) (λ c. refl) (unwind-done f pc w)
+shape w (Op.Finish kind v) = done-shape w (Op.Finish kind v) _ (finish kind v w .world) (record { entry = refl; takes = refl }) refl (λ c. refl) (finish-done kind v w)
+shape w (Op.Unwind f pc) = done-shape w (Op.Unwind f pc) nil (unwind f pc w .world) (record { entry = refl; takes = refl }) refl (λ c. refl) (unwind-done f pc w)
 shape w (Op.SpawnTask v) = S.works (record { entry = refl; takes = refl }) (task-worked v w)
 shape w (Op.HostCall f) = S.works (record { entry = refl; takes = refl }) (on-host (isFunction (w .setup) f) (hostCall f) w (host-worked f w))
 shape w (Op.HostEntry c v) = entry-shape c v w

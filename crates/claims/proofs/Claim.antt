@@ -26,9 +26,9 @@ use Rattle.model.specs.Step.{told, call, step, run, tested}
 use Rattle.model.specs.declared.machine.Active.{Active}
 use Rattle.model.specs.declared.machine.Frame.{Frame}
 use Rattle.model.specs.declared.machine.Driver.{Driver}
-use Rattle.claims.specs.Entry.{nobody, entry, act, entryBy, entryOf, driverOf, sentOf, pcOf}
-use Rattle.claims.specs.Held.{coreIn, coreAt, floorOf, heldAs, sleptBy, slept, isBody, wordsWith, framesWith, calling, eventOf, mem, deliverTo}
-use Rattle.claims.specs.Demand3.{next, hasLeft, Suspends, Enters, Leaves, restarts, Waits, Goes, Sleeps, Entered, Left, Demand3}
+use Rattle.claims.proofs.Entry.{nobody, entry, act, entryBy, entryOf, driverOf, sentOf, pcOf}
+use Rattle.claims.proofs.Held.{coreIn, coreAt, floorOf, heldAs, sleptBy, slept, isBody, wordsWith, framesWith, calling, eventOf, mem, deliverTo}
+use Rattle.claims.proofs.Split.{next, hasLeft, Suspends, Enters, Leaves, restarts, Waits, Goes, Sleeps, Entered, Left, Split}
 use Rattle.claims.proofs.Cores.{no-both}
 use Rattle.claims.proofs.Shape.{view, Enter, Apart}
 use Rattle.claims.proofs.Events.{susp-run, run-susp, susp-born, entered-one, SuspendedBy, suspended-one, sleeps-on}
@@ -164,7 +164,7 @@ restored c w k s h q =
 
 -- ---- (4)
 
-run-left : (s : CoroState) → isRunning s ≡ true → hasLeft s ≡ false
+pub run-left : (s : CoroState) → isRunning s ≡ true → hasLeft s ≡ false
 run-left CoroState.Created e = refl
 run-left CoroState.Running e = refl
 run-left CoroState.Yielded e = sym e
@@ -234,7 +234,7 @@ untouched c w k ks l h q e =
 
 -- ---- the claim
 
-pub demand3-at : (w₁ : World) (x : Call) (waiting : List Call) (y : Call) (going : List Call) (z : Call) (c : ℕ) → Demand3 w₁ x waiting y going z c
+pub demand3-at : (w₁ : World) (x : Call) (waiting : List Call) (y : Call) (going : List Call) (z : Call) (c : ℕ) → Split w₁ x waiting y going z c
 demand3-at w₁ x waiting y going z c =
     record {
       suspension = suspension c w₁ x;
@@ -246,5 +246,5 @@ demand3-at w₁ x waiting y going z c =
     }
 
 -- DEMAND 3, of every list of calls that begins with an accepted set-up, wherever it is split
-pub demand3 : (w : World) (s : Setup) → setupOk s ≡ true → (before : List Call) (x : Call) (waiting : List Call) (y : Call) (going : List Call) (z : Call) (c : ℕ) → Demand3 (run w (SetUp s ∷ before)) x waiting y going z c
+pub demand3 : (w : World) (s : Setup) → setupOk s ≡ true → (before : List Call) (x : Call) (waiting : List Call) (y : Call) (going : List Call) (z : Call) (c : ℕ) → Split (run w (SetUp s ∷ before)) x waiting y going z c
 demand3 w s ok before = demand3-at (run w (SetUp s ∷ before))

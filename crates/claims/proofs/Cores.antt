@@ -21,7 +21,7 @@ use Rattle.heap.specs.declared.object.CoroState.{CoroState}
 use Rattle.model.specs.State.{isCreated, isRunning, isSuspended}
 use Rattle.model.specs.Object.{Core, Rest, Object, isFilled, Coroutine, Is, asCoro}
 use Rattle.model.specs.Heap.{objectAt}
-use Rattle.claims.specs.Held.{coreIn}
+use Rattle.claims.proofs.Held.{coreIn}
 pub use Rattle.lists.proofs.Tests.{and-left, and-right}
 
 -- false and true are not one

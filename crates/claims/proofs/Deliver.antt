@@ -26,10 +26,10 @@ use Rattle.model.specs.declared.coro.AutoKey.{AutoKey}
 use Rattle.model.specs.declared.coro.Suspension.{Suspension}
 use Rattle.model.specs.declared.exec.Step.{Step}
 use Rattle.model.specs.declared.call.Op.{Op}
-use Rattle.claims.specs.Entry.{suspends}
-use Rattle.claims.specs.Tries.{taken, tries, keyed, inBody}
-use Rattle.claims.specs.Suspension.{suspendsIn}
-use Rattle.claims.specs.Held.{coreIn, coreAt, heldAs, Event, Yields, Awaits, Ignores, Returns, eventAs, mem, put, send, deliverTo}
+use Rattle.claims.proofs.Entry.{suspends}
+use Rattle.claims.proofs.Tries.{taken, tries, keyed, inBody}
+use Rattle.claims.proofs.Suspension.{suspendsIn}
+use Rattle.claims.proofs.Held.{coreIn, coreAt, heldAs, Event, Yields, Awaits, Ignores, Returns, eventAs, mem, put, send, deliverTo}
 use Rattle.claims.proofs.Cores.{kept, set-mine, set-other}
 use Rattle.claims.proofs.Shape.{done, tops, Suspend}
 use Rattle.claims.proofs.Under.{keeps-pc}

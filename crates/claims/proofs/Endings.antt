@@ -34,7 +34,7 @@ use Rattle.model.specs.declared.coro.Made.{Made}
 use Rattle.heap.specs.declared.heap.ResultKind.{ResultKind}
 use Rattle.model.specs.declared.call.OptPc.{OptPc}
 use Rattle.model.specs.declared.call.Answer.{Answer}
-use Rattle.claims.specs.Held.{coreAt, Returns, mem, deliverTo, madeWord}
+use Rattle.claims.proofs.Held.{coreAt, Returns, mem, deliverTo, madeWord}
 use Rattle.claims.proofs.Shape as S
 use Rattle.claims.proofs.Shape.{View, view, Ends, Worked, done, tops, puts, pops, fails, Return, Apart}
 use Rattle.claims.proofs.Under.{keeps-pc, keeps-step}
@@ -54,7 +54,7 @@ then-done g (d-returns u f fs a chain t r) = d-returns u f fs a chain (g u t) r
 
 -- ---- the innermost body f goes, and its coroutine returns x
 
-return-done : (x : ℕ) (f : Frame) (fs : List Frame) (w : World) (a : Active) (chain : List Active) → w .frames ≡ f ∷ fs → isCoro (f .cont) ≡ true → w .chain ≡ a ∷ chain
+pub return-done : (x : ℕ) (f : Frame) (fs : List Frame) (w : World) (a : Active) (chain : List Active) → w .frames ≡ f ∷ fs → isCoro (f .cont) ≡ true → w .chain ≡ a ∷ chain
     → Return (view w) x f fs a chain (deliverReturn (a .driver) x (finishCoroutine (a .coro) CoroState.Returned x (withChain chain (popTo f fs w))))
 return-done x f fs w a chain p q r =
     record {
@@ -141,7 +141,7 @@ finish-done kind v w = go (w .frames) refl
 -- ---- unwind
 
 -- the body x fails, and then more
-failing : (x : Frame) (xs : List Frame) (value : ℕ) (w : World) (a : Active) (chain : List Active) → w .frames ≡ x ∷ xs → isCoro (x .cont) ≡ true → w .chain ≡ a ∷ chain
+pub failing : (x : Frame) (xs : List Frame) (value : ℕ) (w : World) (a : Active) (chain : List Active) → w .frames ≡ x ∷ xs → isCoro (x .cont) ≡ true → w .chain ≡ a ∷ chain
     → {z : View} → Worked (view (finishCoroutine (a .coro) CoroState.Failed value (withChain chain (popTo x xs w)))) z → Worked (view w) z
 failing x xs value w a chain p q r {z} t =
     let v = withChain chain (popTo x xs w) in
@@ -188,7 +188,7 @@ module _ (value f pc : ℕ) where
   leaving x xs next w p Cont.Discard q = then-done (λ y t. pops x xs p (inl (ap isCoro q)) t) (next (popTo x xs w) refl)
   leaving x xs next w p Cont.Coro q = escaped x xs next w p (ap isCoro q)
 
-  handled : (h : Handler) (w : World) (ch : Charge) → Worked (view w) (view (caught h value w ch .world))
+  pub handled : (h : Handler) (w : World) (ch : Charge) → Worked (view w) (view (caught h value w ch .world))
   handled h w (Charge.Done n) = tops (setPc (h .target)) (keeps-pc (h .target)) (puts (h .catch) value done)
   handled h w Charge.Spent = done
   handled h w (Charge.Close n) = tops (setPc (h .target)) (keeps-pc (h .target)) (puts (h .catch) value done)

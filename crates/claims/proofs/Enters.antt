@@ -27,8 +27,8 @@ use Rattle.model.specs.declared.machine.Charge.{Charge}
 use Rattle.model.specs.declared.coro.Entered.{Entered}
 use Rattle.model.specs.declared.coro.Started.{Started}
 use Rattle.model.specs.declared.call.OptPc.{OptPc}
-use Rattle.claims.specs.Entry.{entry, acceptsAs, accepts, cleaned}
-use Rattle.claims.specs.Held.{coreIn, coreAt, wordsWith, framesWith}
+use Rattle.claims.proofs.Entry.{nobody, entry, acceptsAs, accepts, cleaned}
+use Rattle.claims.proofs.Held.{coreIn, coreAt, wordsWith, framesWith}
 use Rattle.claims.proofs.Cores.{no-both, coroIn, and-right, set-mine, set-other}
 use Rattle.claims.proofs.Shape.{Enter}
 use Rattle.claims.proofs.Quiet.{Same, Calm, change-calm}
@@ -64,7 +64,7 @@ pub record Raw (u : World) (v : ℕ) (s : Core) (d : Driver) (sent : Opt) (z : W
   pub mine : isRunning (coreAt z v .state) ≡ true
   pub others : (x : ℕ) → x ≢ v → coreAt z x ≡ coreAt u x
 
-set-append-at : (xs ys : List ℕ) (n i a : ℕ) → n ≡ length xs + i → set (xs ++ ys) n a ≡ xs ++ set ys i a
+pub set-append-at : (xs ys : List ℕ) (n i a : ℕ) → n ≡ length xs + i → set (xs ++ ys) n a ≡ xs ++ set ys i a
 set-append-at [] ys n i a h = let e : n ≡ i = omega arith in ap (λ x. set ys x a) e
 set-append-at (x ∷ xs) ys zero i a h = absurd (omega arith)
 set-append-at (x ∷ xs) ys (suc n) i a h = ap (λ (l : List ℕ). x ∷ l) (set-append-at xs ys n i a (omega arith))
@@ -151,7 +151,7 @@ accepts-reads w u a b c e v = go (coro u v) ∙ ap (λ x. acceptsAs x w) (coro-s
 pub accepts-stored : {p : ℕ} {w u : World} → Stored p w u → (v : ℕ) → accepts u v ≡ accepts w v
 accepts-stored {p} {w} {u} s v = accepts-reads w u (s .setup) (ap length (s .frames) ∙ length-top (setPc p) (w .frames)) (s .stack) (s .slots) v
 
-cleaned-stored : {p : ℕ} {w u : World} → Stored p w u → (q : List ℕ) → cleaned q u ≡ cleaned q w
+pub cleaned-stored : {p : ℕ} {w u : World} → Stored p w u → (q : List ℕ) → cleaned q u ≡ cleaned q w
 cleaned-stored s [] = refl
 cleaned-stored {p} {w} {u} s (c ∷ q) = λ i. pick (suspendedAs (coro-slots u w (s .slots) c i) && accepts-stored s c i) (entry c Driver.Finalize Opt.None) (cleaned-stored s q i)
 
@@ -159,15 +159,15 @@ cleaned-stored {p} {w} {u} s (c ∷ q) = λ i. pick (suspendedAs (coro-slots u w
 
 pub data StartCase (p : ℕ) (w u : World) (q : List ℕ) : After Started → Type 0 where
   s-some : (c n : ℕ) (z : World) → cleaned q u ≡ entry c Driver.Finalize Opt.None → Enter w p c Driver.Finalize Opt.None z → StartCase p w u q (after z (started true n))
-  s-none : (n : ℕ) (v : World) → Stored p w v → StartCase p w u q (after v (started false n))
+  s-none : (n : ℕ) (v : World) → cleaned q u ≡ nobody → Stored p w v → StartCase p w u q (after v (started false n))
 
 pub is-in : (b : Bool) (x : ℕ) → isEntered (pick b Entered.Fresh (Entered.Suspended x)) ≡ true
 unfolding pick
 is-in true x = refl
 is-in false x = refl
 
-start-case : (p : ℕ) (w u : World) → Stored p w u → (n : ℕ) (q : List ℕ) → StartCase p w u q (startFrom n q u)
-start-case p w u s n [] = s-none n (setFinalizing false (withFinalize [] u)) (record { setup = s .setup; stack = s .stack; frames = s .frames; chain = s .chain; slots = s .slots })
+pub start-case : (p : ℕ) (w u : World) → Stored p w u → (n : ℕ) (q : List ℕ) → StartCase p w u q (startFrom n q u)
+start-case p w u s n [] = s-none n (setFinalizing false (withFinalize [] u)) refl (record { setup = s .setup; stack = s .stack; frames = s .frames; chain = s .chain; slots = s .slots })
 start-case p w u s n (c ∷ q) = go (coroEnter c Driver.Finalize (withFinalize q u)) (enter-case c Driver.Finalize (withFinalize q u)) (start-case p w u s (suc n) q)
   where
     v : World
@@ -182,7 +182,7 @@ start-case p w u s n (c ∷ q) = go (coroEnter c Driver.Finalize (withFinalize q
 
     later : (a : After Started) → StartCase p w u q a → cleaned (c ∷ q) u ≡ cleaned q u → StartCase p w u (c ∷ q) a
     later a (s-some c n z e t) h = s-some c n z (h ∙ e) t
-    later a (s-none n v t) h = s-none n v t
+    later a (s-none n v e t) h = s-none n v (h ∙ e) t
 
     choose : (a b : Bool) (x y : After Started) → (suspendedAs (coro u c) && a) ≡ b → accepts u c ≡ a → (b ≡ true → cleaned (c ∷ q) u ≡ entry c Driver.Finalize Opt.None → StartCase p w u (c ∷ q) x) → StartCase p w u q y → StartCase p w u (c ∷ q) (pick b x y)
     choose a true x y e h f g = subst (StartCase p w u (c ∷ q)) (sym (pick-true x y)) (f refl (ap (λ b. pick (suspendedAs (coro u c) && b) (entry c Driver.Finalize Opt.None) (cleaned q u)) h ∙ ap (λ b. pick b (entry c Driver.Finalize Opt.None) (cleaned q u)) e ∙ pick-true (entry c Driver.Finalize Opt.None) (cleaned q u)))
@@ -225,7 +225,7 @@ charge-case p w = fast (eqb (w .fuel .fuel) 0)
 
     start : (a : After Started) → StartCase p w u (w .finalize) a → ChargeCase p w (chargeOr a)
     start a (s-some c n z e t) = c-close n c z (sym (cleaned-stored su (w .finalize)) ∙ e) t
-    start a (s-none n v t) = c-done n (armClose (spend v)) (r-stored (record { setup = t .setup; stack = t .stack; frames = t .frames; chain = t .chain; slots = t .slots }))
+    start a (s-none n v e t) = c-done n (armClose (spend v)) (r-stored (record { setup = t .setup; stack = t .stack; frames = t .frames; chain = t .chain; slots = t .slots }))
 
     ready : (b : Bool) → ChargeCase p w (pick b (chargeOr (startFrom 0 (w .finalize) u)) (chargeDone 0 (unbank w)))
     ready true = start (startFrom 0 (w .finalize) u) (start-case p w u su 0 (w .finalize))

@@ -15,9 +15,9 @@ use Rattle.model.specs.declared.machine.Driver.{Driver}
 use Rattle.model.specs.declared.machine.Active.{Active}
 use Rattle.model.specs.declared.machine.Frame.{Frame}
 use Rattle.model.specs.declared.call.Op.{Op}
-use Rattle.claims.specs.Entry.{suspends, at, Entry, entry, nobody, act, entryBy, pcBy}
-use Rattle.claims.specs.Suspension.{suspendsIn, takesBy}
-use Rattle.claims.specs.Held.{coreAt}
+use Rattle.claims.proofs.Entry.{suspends, at, Entry, entry, nobody, act, entryBy, pcBy}
+use Rattle.claims.proofs.Suspension.{suspendsIn, takesBy}
+use Rattle.claims.proofs.Held.{coreAt}
 use Rattle.claims.proofs.Cores.{no-both, busy, Kept, kept, unborn}
 use Rattle.claims.proofs.Shape.{View, Ends, Worked, done, quiet, tops, puts, pushes, pops, fails, Enter, Suspend, Return, Apart, Stop, Says, Shape, works, enters, suspended, returns, stops}
 
@@ -134,7 +134,7 @@ entered-one {w} {z} {o} c (suspended p ok s dst x a chain e q t) h r = go (ℕ-d
     go : Dec (c ≡ a .coro) → EnteredBy w o c z
     go (yes y) = no-both r (ap (λ u. isRunning (coreAt z u .state)) y ∙ ap (λ k. isRunning (k .state)) (t .mine) ∙ susp-run s (t .asleep))
     go (no y) = no-both r (not-kept isRunning idle-run (t .others c y) h)
-entered-one c (returns v x f fs a chain e g t u) h r = no-both r (not-return isRunning idle-run c u (not-worked isRunning idle-run c t h))
+entered-one c (returns v x f fs a chain e en g t u) h r = no-both r (not-return isRunning idle-run c u (not-worked isRunning idle-run c t h))
 entered-one c (stops e t) h r = no-both r (not-stop isRunning idle-run c t h)
 
 pub no-entry : {A : Type 0} {x : Entry} {c : ℕ} {d : Driver} {sent : Opt} → x ≡ nobody → x ≡ entry c d sent → A
@@ -149,7 +149,7 @@ entry-enters c d sent (works e t) h = no-entry (e .entry) h
 entry-enters {w} {z} c d sent (enters u b s e t) h =
     (ap (λ x. isRunning (coreAt w x .state)) (who h (e .entry)) ∙ ready-run (coreAt w u .state) (t .ready), ap (λ x. isRunning (coreAt z x .state)) (who h (e .entry)) ∙ t .mine)
 entry-enters c d sent (suspended p ok s dst x a chain e q t) h = no-entry (e .entry) h
-entry-enters c d sent (returns v x f fs a chain e g t u) h = no-entry (e .entry) h
+entry-enters c d sent (returns v x f fs a chain e en g t u) h = no-entry (e .entry) h
 entry-enters c d sent (stops e t) h = no-entry (e .entry) h
 
 -- ---- a suspension: the innermost coroutine, by a yield or await
@@ -178,7 +178,7 @@ suspended-one {w} {z} {o} c (suspended p ok s dst x a chain e q t) h r = go (ℕ
     go : Dec (c ≡ a .coro) → SuspendedBy w o c z
     go (yes y) = record { pc = p; ok = ok; state = s; dst = dst; payload = x; body = a; chain = chain; says = e; by = q; its-own = y; suspend = t }
     go (no y) = no-both r (not-kept isSuspended idle-susp (t .others c y) h)
-suspended-one c (returns v x f fs a chain e g t u) h r = no-both r (not-return isSuspended idle-susp c u (not-worked isSuspended idle-susp c t h))
+suspended-one c (returns v x f fs a chain e en g t u) h r = no-both r (not-return isSuspended idle-susp c u (not-worked isSuspended idle-susp c t h))
 suspended-one c (stops e t) h r = no-both r (not-stop isSuspended idle-susp c t h)
 
 -- ---- one that has begun, does not run and is not entered stays as it is
@@ -206,7 +206,7 @@ module _ (c : ℕ) (k : Core) (begun : isCreated (k .state) ≡ false) where
       go (yes q) = no-both (ap (λ x. isRunning (coreAt z x .state)) q ∙ t .mine) r
       go (no q) = t .others c q ∙ h
   sleeps-on {w} (suspended p ok s dst x a chain e q t) n h r = stays (t .others c (subst (Apart c) (t .inmost) n .0)) h
-  sleeps-on (returns v x f fs a chain e g t u) n h r =
+  sleeps-on (returns v x f fs a chain e en g t u) n h r =
       let m = keep-worked t n h in
       u .ends .others c (subst (Apart c) (u .inmost) (m .0) .0) ∙ m .1
   sleeps-on (stops e t) n h r = t .apart c n ∙ h
@@ -216,5 +216,5 @@ pub takes-suspends : {w z : World} {o : Op} → Shape w o z → takesBy (act w o
 takes-suspends (works e t) h = no-both h (e .takes)
 takes-suspends (enters u d sent e t) h = no-both h (e .takes)
 takes-suspends (suspended p ok s dst x a chain e q t) h = (a, chain, t .inmost, ap (λ k. isSuspended (k .state)) (t .mine) ∙ t .asleep)
-takes-suspends (returns v x f fs a chain e g t u) h = no-both h (e .takes)
+takes-suspends (returns v x f fs a chain e en g t u) h = no-both h (e .takes)
 takes-suspends (stops e t) h = no-both h (e .takes)

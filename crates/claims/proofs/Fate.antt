@@ -22,8 +22,8 @@ use Rattle.model.specs.declared.machine.Driver.{Driver}
 use Rattle.model.specs.declared.machine.Active.{Active}
 use Rattle.model.specs.declared.machine.Frame.{Frame}
 use Rattle.model.specs.declared.call.Op.{Op}
-use Rattle.claims.specs.Entry.{at, suspends, act, pcBy}
-use Rattle.claims.specs.Held.{coreAt, wordsWith, framesWith, Event, Yields, Awaits, Ignores, Returns, eventAs, eventBy, Mem, mem, put, send, deliverTo}
+use Rattle.claims.proofs.Entry.{at, suspends, act, pcBy}
+use Rattle.claims.proofs.Held.{coreAt, wordsWith, framesWith, Event, Yields, Awaits, Ignores, Returns, eventAs, eventBy, Mem, mem, put, send, deliverTo}
 use Rattle.claims.proofs.Cores.{no-both, Kept, kept, unborn}
 use Rattle.claims.proofs.Shape.{View, view, Ends, Keeps, Worked, done, quiet, tops, puts, pushes, pops, fails, Enter, Suspend, Return, Apart, Shape, works, enters, suspended, returns, stops}
 use Rattle.claims.proofs.Events.{run-born, ready-run}
@@ -252,7 +252,7 @@ module _ (c : ℕ) (d : Driver) (bs : List ℕ) (bf : List Frame) (bc : List Act
       go (inr x) = lost (x .failed)
   fate {w} {z} {o} (enters u e sent q t) l h = goes (fate-enter w o (pcBy (act w o)) u e sent z (l u (t .ready) (t .solid)) t h)
   fate {w} {z} {o} (suspended p ok s dst x a rs e q t) l h = fate-suspend w o p ok s dst x a rs z q t h
-  fate {w} {z} {o} (returns v x f fs a rs e q t u) l h = fate-return w o v x f fs a rs z q u (worked-under t h)
+  fate {w} {z} {o} (returns v x f fs a rs e en q t u) l h = fate-return w o v x f fs a rs z q u (worked-under t h)
   fate {w} {z} {o} (stops e t) l h = go (t .each c)
     where
       go : (Apart c (w .chain) × (coreAt z c ≡ coreAt w c)) ⊎ ((coreAt z c .state ≡ CoroState.Failed) ⊎ ((isCreated (coreAt w c .state) ≡ true) × (coreAt z c ≡ coreAt w c))) → Fate w o z

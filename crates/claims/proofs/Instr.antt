@@ -27,9 +27,9 @@ use Rattle.model.specs.declared.machine.Charge.{Charge}
 use Rattle.model.specs.declared.exec.Step.{Step}
 use Rattle.model.specs.declared.call.OptPc.{OptPc}
 use Rattle.model.specs.declared.call.Op.{Op}
-use Rattle.claims.specs.Entry.{Aim, enters, suspends, neither, at, act, Entry, nobody, entry, accepts, sentTo, aimed, charged, entryBy, pcBy}
-use Rattle.claims.specs.Suspension.{suspendsIn, paidBy, takesBy}
-use Rattle.claims.specs.Held.{coreIn, coreAt, wordsWith, framesWith, heldAs, eventAs, mem, deliverTo}
+use Rattle.claims.proofs.Entry.{Aim, enters, suspends, neither, at, act, Entry, nobody, entry, accepts, sentTo, aimed, charged, entryBy, pcBy}
+use Rattle.claims.proofs.Suspension.{suspendsIn, paidBy, takesBy}
+use Rattle.claims.proofs.Held.{coreIn, coreAt, wordsWith, framesWith, heldAs, eventAs, mem, deliverTo}
 use Rattle.claims.proofs.Cores.{coroIn, Kept}
 use Rattle.claims.proofs.Shape as S
 use Rattle.claims.proofs.Shape.{View, view, Worked, done, tops, Enter, Suspend, Shape}

@@ -1,37 +1,19 @@
--- The premises of demand 3, met by computation, give what it claims. Assumes nothing.
+-- The premises of demand 3, met by computation, give what it claims: of every engine that has it.
 use Prim.Native.Nat.{ℕ}
 use mathlib.Core.Path.{_≡_, refl, ap, _∙_}
 use mathlib.Core.Bool.{Bool, true, false, not, _&&_}
 use mathlib.Core.List.{List, [], _∷_}
-use borrow.Author.Tests.{not-true}
-use Rattle.model.specs.World.{World}
-use Rattle.model.specs.Call.{Call}
-use Rattle.model.specs.Step.{run}
-use Rattle.claims.specs.Held.{slept}
-use Rattle.claims.specs.Demand3.{next, Suspends, Enters, restarts, Waits, Goes, Demand3}
+use mathlib.Core.Option.{Option, none, some}
+use lib.Dec.{eqb}
+use borrow.Author.Tests.{not-true, eq-eqb}
+use Rattle.model.specs.declared.call.Op.{Op}
+use Rattle.claims.specs.Engine.{Engine, run}
+use Rattle.claims.specs.Demand3.{Suspends, Enters, Leaves, Restarts, Waits, Goes, Demand3}
+use Rattle.claims.specs.Premises.{isSetUp, runsIn, sleepsIn, leftIn, restarts, waits, goes, meets, premises, Holds}
 use Rattle.claims.proofs.Cores.{no-both, and-left, and-right}
-use Rattle.claims.proofs.Claim.{demand3-at}
-use Rattle.claims.specs.Premises.{runsIn, sleepsIn, leftIn, waits, goes, meets, premises, Holds}
 
 not-both : (a b : Bool) → not (a && b) ≡ true → a ≡ true → b ≡ true → ⊥
 not-both a b h p q = no-both (ap (λ x. x && b) p ∙ q) (not-true (a && b) h)
-
-not-not : (a : Bool) → a ≡ false → not a ≡ true
-not-not a e = ap not e
-
-waits-true : (c : ℕ) (w : World) (ks : List Call) → waits c w ks ≡ true → Waits c w ks
-waits-true c w [] h = tt
-waits-true c w (k ∷ ks) h =
-    let a : not (restarts k) ≡ true = and-left (not (restarts k)) (not (not (runsIn c w) && runsIn c (next w k)) && waits c (next w k) ks) h in
-    let b : (not (not (runsIn c w) && runsIn c (next w k)) && waits c (next w k) ks) ≡ true = and-right (not (restarts k)) (not (not (runsIn c w) && runsIn c (next w k)) && waits c (next w k) ks) h in
-    (not-true (restarts k) a, (λ e. not-both (not (runsIn c w)) (runsIn c (next w k)) (and-left (not (not (runsIn c w) && runsIn c (next w k))) (waits c (next w k) ks) b) (not-not (runsIn c w) (e .before)) (e .after)), waits-true c (next w k) ks (and-right (not (not (runsIn c w) && runsIn c (next w k))) (waits c (next w k) ks) b))
-
-goes-true : (c : ℕ) (w : World) (ks : List Call) → goes c w ks ≡ true → Goes c w ks
-goes-true c w [] h = tt
-goes-true c w (k ∷ ks) h =
-    let a : not (restarts k) ≡ true = and-left (not (restarts k)) (not (runsIn c w && leftIn c (next w k)) && goes c (next w k) ks) h in
-    let b : (not (runsIn c w && leftIn c (next w k)) && goes c (next w k) ks) ≡ true = and-right (not (restarts k)) (not (runsIn c w && leftIn c (next w k)) && goes c (next w k) ks) h in
-    (not-true (restarts k) a, (λ e. not-both (runsIn c w) (leftIn c (next w k)) (and-left (not (runsIn c w && leftIn c (next w k))) (goes c (next w k) ks) b) (e .before) (e .after)), goes-true c (next w k) ks (and-right (not (runsIn c w && leftIn c (next w k))) (goes c (next w k) ks) b))
 
 six : (a b c d e f : Bool) → (a && b && not c && d && e && f) ≡ true → (a ≡ true) × (b ≡ true) × (c ≡ false) × (d ≡ true) × (e ≡ true) × (f ≡ true)
 six false b c d e f h = no-both h refl
@@ -41,18 +23,59 @@ six true true false false e f h = no-both h refl
 six true true false true false f h = no-both h refl
 six true true false true true f h = (refl, refl, refl, refl, refl, h)
 
-pub premises-hold : (c : ℕ) (w₁ : World) (x : Call) (waiting : List Call) (y : Call) (going : List Call) (z : Call) → premises c w₁ x waiting y going z ≡ true → Holds c w₁ x waiting y going z
-premises-hold c w₁ x waiting y going z h =
-    let w₂ = next w₁ x in
-    let w₃ = run w₂ waiting in
-    let w₄ = next w₃ y in
-    let w₅ = run w₄ going in
-    let w₆ = next w₅ z in
-    let m : (meets c w₁ w₂ w₃ w₄ w₅ w₆ && waits c w₂ waiting) ≡ true = and-left (meets c w₁ w₂ w₃ w₄ w₅ w₆ && waits c w₂ waiting) (goes c w₄ going) h in
-    let g : Goes c w₄ going = goes-true c w₄ going (and-right (meets c w₁ w₂ w₃ w₄ w₅ w₆ && waits c w₂ waiting) (goes c w₄ going) h) in
-    let q : Waits c w₂ waiting = waits-true c w₂ waiting (and-right (meets c w₁ w₂ w₃ w₄ w₅ w₆) (waits c w₂ waiting) m) in
-    let s = six (runsIn c w₁) (sleepsIn c w₂) (runsIn c w₃) (runsIn c w₄) (runsIn c w₅) (leftIn c w₆) (and-left (meets c w₁ w₂ w₃ w₄ w₅ w₆) (waits c w₂ waiting) m) in
-    let d : Demand3 w₁ x waiting y going z c = demand3-at w₁ x waiting y going z c in
-    let a : Suspends c w₁ x = record { before = s .0; after = s .1 } in
-    let e : Enters c w₃ y = record { before = s .2; after = s .3 } in
-    record { asleep = d .sleep (slept w₁ x c) (d .suspension a) q; restored = d .restored a q e; untouched = d .untouched e g (record { before = s .4; after = s .5 }) }
+set-up : {o : Option Op} → o ≡ none → isSetUp o ≡ true
+set-up e = ap isSetUp e
+
+module _ (e : Engine) (c : ℕ) where
+  no-restart : (s : e .State) (k : e .Call) → not (restarts e c s k) ≡ true → Restarts e s k → ⊥
+  no-restart s k h r = not-both (isSetUp (e .op k)) (eqb (e .number s k) 0) h (set-up (r .sets-up)) (eq-eqb (e .number s k) 0 (r .accepted))
+
+  pub waits-true : (s : e .State) (ks : List (e .Call)) → waits e c s ks ≡ true → Waits e c s ks
+  waits-true s [] h = tt
+  waits-true s (k ∷ ks) h =
+      let t = e .next s k in
+      let b : (not (not (runsIn e c s) && runsIn e c t) && waits e c t ks) ≡ true = and-right (not (restarts e c s k)) (not (not (runsIn e c s) && runsIn e c t) && waits e c t ks) h in (
+        no-restart s k (and-left (not (restarts e c s k)) (not (not (runsIn e c s) && runsIn e c t) && waits e c t ks) h),
+        (λ g. not-both (not (runsIn e c s)) (runsIn e c t) (and-left (not (not (runsIn e c s) && runsIn e c t)) (waits e c t ks) b) (ap not (g .before)) (g .after)),
+        waits-true t ks (and-right (not (not (runsIn e c s) && runsIn e c t)) (waits e c t ks) b),
+      )
+
+  pub goes-true : (s : e .State) (ks : List (e .Call)) → goes e c s ks ≡ true → Goes e c s ks
+  goes-true s [] h = tt
+  goes-true s (k ∷ ks) h =
+      let t = e .next s k in
+      let b : (not (runsIn e c s && leftIn e c t) && goes e c t ks) ≡ true = and-right (not (restarts e c s k)) (not (runsIn e c s && leftIn e c t) && goes e c t ks) h in (
+        no-restart s k (and-left (not (restarts e c s k)) (not (runsIn e c s && leftIn e c t) && goes e c t ks) h),
+        (λ g. not-both (runsIn e c s) (leftIn e c t) (and-left (not (runsIn e c s && leftIn e c t)) (goes e c t ks) b) (g .before) (g .after)),
+        goes-true t ks (and-right (not (runsIn e c s && leftIn e c t)) (goes e c t ks) b),
+      )
+
+-- the premises apart
+pub record Premises (e : Engine) (c : ℕ) (s : e .State) (x : e .Call) (waiting : List (e .Call)) (y : e .Call) (going : List (e .Call)) (z : e .Call) : Type 0 where
+  pub suspends : Suspends e c s x
+  pub waits : Waits e c (e .next s x) waiting
+  pub enters : Enters e c (run e (e .next s x) waiting) y
+  pub goes : Goes e c (e .next (run e (e .next s x) waiting) y) going
+  pub leaves : Leaves e c (run e (e .next (run e (e .next s x) waiting) y) going) z
+
+pub premises-met : (e : Engine) (c : ℕ) (s : e .State) (x : e .Call) (waiting : List (e .Call)) (y : e .Call) (going : List (e .Call)) (z : e .Call) → premises e c s x waiting y going z ≡ true → Premises e c s x waiting y going z
+premises-met e c s₁ x waiting y going z h =
+    let s₂ = e .next s₁ x in
+    let s₃ = run e s₂ waiting in
+    let s₄ = e .next s₃ y in
+    let s₅ = run e s₄ going in
+    let s₆ = e .next s₅ z in
+    let m : (meets e c s₁ s₂ s₃ s₄ s₅ s₆ && waits e c s₂ waiting) ≡ true = and-left (meets e c s₁ s₂ s₃ s₄ s₅ s₆ && waits e c s₂ waiting) (goes e c s₄ going) h in
+    let t = six (runsIn e c s₁) (sleepsIn e c s₂) (runsIn e c s₃) (runsIn e c s₄) (runsIn e c s₅) (leftIn e c s₆) (and-left (meets e c s₁ s₂ s₃ s₄ s₅ s₆) (waits e c s₂ waiting) m) in
+    record {
+      suspends = record { before = t .0; after = t .1 };
+      waits = waits-true e c s₂ waiting (and-right (meets e c s₁ s₂ s₃ s₄ s₅ s₆) (waits e c s₂ waiting) m);
+      enters = record { before = t .2; after = t .3 };
+      goes = goes-true e c s₄ going (and-right (meets e c s₁ s₂ s₃ s₄ s₅ s₆ && waits e c s₂ waiting) (goes e c s₄ going) h);
+      leaves = record { before = t .4; after = t .5 };
+    }
+
+pub premises-hold : (e : Engine) → Demand3 e → (c : ℕ) (s : e .State) (x : e .Call) (waiting : List (e .Call)) (y : e .Call) (going : List (e .Call)) (z : e .Call) → premises e c s x waiting y going z ≡ true → Holds e c s x waiting y going z
+premises-hold e d c s x waiting y going z h =
+    let p = premises-met e c s x waiting y going z h in
+    record { restored = d .restored c s x waiting y (p .suspends) (p .waits) (p .enters); untouched = d .untouched c (run e (e .next s x) waiting) y going z (p .enters) (p .goes) (p .leaves) }

@@ -28,7 +28,7 @@ use Rattle.model.specs.Coro.{newRegs, newCore, newRest, coroCreate, inState, en
 use Rattle.model.specs.Exec.{keyExact, keyAt, autoKey, indirectTo, indirect, window}
 use Rattle.model.specs.declared.coro.Made.{Made}
 use Rattle.heap.specs.declared.heap.ResultKind.{ResultKind}
-use Rattle.claims.specs.Held.{coreIn, coreAt}
+use Rattle.claims.proofs.Held.{coreIn, coreAt}
 use Rattle.claims.proofs.Cores.{busy, Kept, kept, unborn, objectIn, push-cases, set-mine, set-other, set-rest, set-iter}
 use Rattle.claims.proofs.Shape.{View, view, Ends, Worked, quiet}
 

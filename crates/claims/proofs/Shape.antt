@@ -20,9 +20,9 @@ use Rattle.model.specs.declared.machine.Driver.{Driver}
 use Rattle.model.specs.declared.machine.Active.{Active}
 use Rattle.model.specs.declared.machine.Frame.{Frame}
 use Rattle.model.specs.declared.call.Op.{Op}
-use Rattle.claims.specs.Entry.{suspends, at, act, Entry, nobody, entry, entryBy, pcBy}
-use Rattle.claims.specs.Suspension.{suspendsIn, takesBy}
-use Rattle.claims.specs.Held.{coreAt, wordsWith, framesWith, Returns, eventAs, eventBy, mem, deliverTo}
+use Rattle.claims.proofs.Entry.{suspends, Act, at, byHost, finishes, unwinds, other, act, Entry, nobody, entry, entryBy, pcBy}
+use Rattle.claims.proofs.Suspension.{suspendsIn, takesBy}
+use Rattle.claims.proofs.Held.{coreAt, wordsWith, framesWith, Returns, eventAs, eventBy, mem, deliverTo}
 use Rattle.claims.proofs.Cores.{Kept}
 
 -- what a switch moves
@@ -119,9 +119,17 @@ pub record Says (w : World) (o : Op) (e : Entry) (b : Bool) : Type 0 where
   pub entry : entryBy (act w o) w ≡ e
   pub takes : takesBy (act w o) (suspendsIn o) w ≡ b
 
+-- finish and unwind
+abbrev pub isEnding : Act → Bool
+isEnding (at pc ok a) = false
+isEnding (byHost c v) = false
+isEnding (finishes kind v) = true
+isEnding unwinds = true
+isEnding other = false
+
 pub data Shape (w : World) (o : Op) (z : World) : Type 0 where
   works : Says w o nobody false → Worked (view w) (view z) → Shape w o z
   enters : (c : ℕ) (d : Driver) (sent : Opt) → Says w o (entry c d sent) false → Enter w (pcBy (act w o)) c d sent z → Shape w o z
   suspended : (p : ℕ) (ok : Bool) (s : CoroState) (dst x : ℕ) (a : Active) (chain : List Active) → Says w o nobody true → act w o ≡ at p ok (suspends s dst x) → Suspend w p s dst x a chain z → Shape w o z
-  returns : (v : View) (x : ℕ) (f : Frame) (fs : List Frame) (a : Active) (chain : List Active) → Says w o nobody false → ((c : ℕ) → eventBy (act w o) w c ≡ Returns x) → Worked (view w) v → Return v x f fs a chain z → Shape w o z
+  returns : (v : View) (x : ℕ) (f : Frame) (fs : List Frame) (a : Active) (chain : List Active) → Says w o nobody false → isEnding (act w o) ≡ true → ((c : ℕ) → eventBy (act w o) w c ≡ Returns x) → Worked (view w) v → Return v x f fs a chain z → Shape w o z
   stops : Says w o nobody false → Stop w z → Shape w o z

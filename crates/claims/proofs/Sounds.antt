@@ -21,7 +21,7 @@ use Rattle.model.specs.Sound.{sizesOk, savedSizesOk, framesOk, entryOk, floorsO
 use Rattle.model.specs.Lists.{distinct}
 use Rattle.model.specs.declared.machine.Active.{Active}
 use Rattle.model.specs.declared.machine.Frame.{Frame}
-use Rattle.claims.specs.Held.{coreIn, coreAt, isBody}
+use Rattle.claims.proofs.Held.{coreIn, coreAt, isBody}
 use Rattle.claims.proofs.Cores.{no-both, and-left, and-right}
 use Rattle.claims.proofs.Shape.{Apart}
 use Rattle.claims.proofs.Under.{Lift, l-body, l-plain, base-cons, base-here}
@@ -32,7 +32,7 @@ parts true false b c d e f g h = no-both h refl
 parts true true false c d e f g h = no-both h refl
 parts true true true c d e f g h = (refl, refl)
 
-two : (w : World) → sound w ≡ true → (runningOk w ≡ true) × (savedOk w ≡ true)
+pub two : (w : World) → sound w ≡ true → (runningOk w ≡ true) × (savedOk w ≡ true)
 unfolding sound
 two w h = parts (setupOk (w .setup) && sizesOk w && savedSizesOk w && framesOk w && entryOk w && floorsOk w && driversOk w) (runningOk w) (savedOk w) (rowsOk w) (queuesOk w) (fuelOk w) (unusedOk w) (rangesOk w) h
 
@@ -41,13 +41,13 @@ floors-part false a b c d e f g h i q = no-both q refl
 floors-part true false b c d e f g h i q = no-both q refl
 floors-part true true b c d e f g h i q = refl
 
-floors : (w : World) → sound w ≡ true → floorsOk w ≡ true
+pub floors : (w : World) → sound w ≡ true → floorsOk w ≡ true
 unfolding sound
 floors w h = floors-part (setupOk (w .setup) && sizesOk w && savedSizesOk w && framesOk w && entryOk w) (floorsOk w) (driversOk w) (runningOk w) (savedOk w) (rowsOk w) (queuesOk w) (fuelOk w) (unusedOk w) (rangesOk w) h
 
 -- ---- the frames from the innermost floor up are plain, over one Coro frame
 
-abbrev Floors : List Frame → List Active → Type 0
+abbrev pub Floors : List Frame → List Active → Type 0
 Floors fs chain = matches (λ f fs a. eqb (a .floor) (length fs)) fs chain ≡ true
 
 body-some : (fs : List Frame) → isBody fs ≡ true → isNil fs ≡ false

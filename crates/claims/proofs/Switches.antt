@@ -20,8 +20,8 @@ use Rattle.model.specs.Exec.{fault, arrive, resume, throwEntered, throwTo, resu
 use Rattle.model.specs.declared.machine.Driver.{Driver}
 use Rattle.model.specs.declared.coro.Entered.{Entered}
 use Rattle.model.specs.declared.coro.Stated.{Stated}
-use Rattle.claims.specs.Entry.{enters, awaits, nobody, entry, acceptsAs, accepts, sentTo}
-use Rattle.claims.specs.Held.{coreIn, coreAt}
+use Rattle.claims.proofs.Entry.{enters, awaits, nobody, entry, acceptsAs, accepts, sentTo}
+use Rattle.claims.proofs.Held.{coreIn, coreAt}
 use Rattle.claims.proofs.Cores.{no-both, busy}
 use Rattle.claims.proofs.Shape.{View, view, Worked, done, quiet, tops, puts, Enter}
 use Rattle.claims.proofs.Under.{keeps-pc}

@@ -17,7 +17,7 @@ use Rattle.model.specs.declared.machine.Cont.{Cont}
 use Rattle.model.specs.declared.machine.Driver.{Driver}
 use Rattle.model.specs.declared.machine.Active.{Active}
 use Rattle.model.specs.declared.machine.Frame.{Frame}
-use Rattle.claims.specs.Held.{framesWith}
+use Rattle.claims.proofs.Held.{framesWith}
 use Rattle.claims.proofs.Shape.{Keeps, Apart}
 
 -- saved frames: plain ones over one Coro frame at base 0

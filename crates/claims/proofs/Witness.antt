@@ -1,20 +1,19 @@
--- The list of calls in which every premise of demand 3 holds, by computation. Assumes nothing.
-use Prim.Native.Nat.{ℕ, _-_}
+-- The lists of calls in which every premise of demand 3 holds, by computation. Assumes nothing.
+use Prim.Native.Nat.{ℕ}
 use mathlib.Core.Path.{_≡_, refl}
 use mathlib.Core.Bool.{true}
-use mathlib.Core.List.{_++_}
-use lib.ListN.{take}
-use Rattle.model.specs.World.{fresh}
-use Rattle.model.specs.Step.{run}
+use mathlib.Core.List.{List}
+use Rattle.model.specs.Call.{Call}
 use Rattle.model.specs.Compute.{computed}
-use Rattle.claims.specs.Story.{wide, part, past}
 use Rattle.claims.specs.Premises.{Holds}
-use Rattle.claims.specs.Witness.{nth, between, meets, Witness}
+use Rattle.claims.specs.Steps.{steps}
+use Rattle.claims.specs.Witness.{nth, between, at, meetsIn, Witness}
 use Rattle.claims.proofs.Premises.{premises-hold}
+use Rattle.claims.proofs.Exactly.{demand3}
 
 -- the claim's conclusions, where the premises are met
-pub meets-holds : (n i j l v : ℕ) → meets n i j l v ≡ true → Holds v (run (fresh wide) (past n ++ take i (part n))) (nth (part n) i) (between (part n) i j) (nth (part n) j) (between (part n) j l) (nth (part n) l)
-meets-holds n i j l v = premises-hold v (run (fresh wide) (past n ++ take i (part n))) (nth (part n) i) (between (part n) i j) (nth (part n) j) (between (part n) j l) (nth (part n) l)
+pub meets-holds : (before ks : List Call) (i j l v : ℕ) → meetsIn before ks i j l v ≡ true → Holds steps v (at before ks i) (nth ks i) (between ks i j) (nth ks j) (between ks j l) (nth ks l)
+meets-holds before ks i j l v = premises-hold steps demand3 v (at before ks i) (nth ks i) (between ks i j) (nth ks j) (between ks j l) (nth ks l)
 
 pub witness : Witness
 unfolding computed
@@ -35,6 +34,10 @@ witness =
       operand-meets = refl;
       catching-meets = refl;
       through-meets = refl;
+      twice-meets = refl;
+      held-meets = refl;
+      stopped-meets = refl;
+      yielding-meets = refl;
       deep-numbers = refl;
       nested-numbers = refl;
       loop-numbers = refl;
@@ -45,6 +48,15 @@ witness =
       operand-numbers = refl;
       catching-numbers = refl;
       through-numbers = refl;
+      held-numbers = refl;
+      stopped-numbers = refl;
+      yielding-numbers = refl;
+      found-stack = refl;
+      found-frames = refl;
+      back-stack = refl;
+      back-frames = refl;
+      left-stack = refl;
+      left-frames = refl;
       wraps = refl;
       inner-fails = refl;
       outer-returns = refl;

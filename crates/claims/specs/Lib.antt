@@ -1,9 +1,11 @@
-pub mod Tries
-pub mod Entry
-pub mod Suspension
+pub mod Engine
+pub mod Says
 pub mod Held
+pub mod Delivery
 pub mod Demand3
-pub mod Accepted
+pub mod Events
+pub mod Promise
+pub mod Premises
+pub mod Steps
 pub mod Story
 pub mod Witness
-pub mod Premises

@@ -1,51 +1,53 @@
--- The premises of demand 3 as one test, so that a run can be shown to meet them by computation.
+-- The premises of demand 3 as one test, so that a list of calls can be shown to meet them by computation; and what follows.
 use Prim.Native.Nat.{ℕ}
-use mathlib.Core.Bool.{Bool, true, false, not, _&&_}
+use mathlib.Core.Bool.{Bool, true, false, not, _&&_, _||_}
 use mathlib.Core.List.{List, [], _∷_}
-use Rattle.model.specs.State.{isRunning, isSuspended}
-use Rattle.model.specs.World.{World}
-use Rattle.model.specs.Call.{Call}
-use Rattle.model.specs.Step.{run}
-use Rattle.claims.specs.Held.{coreAt, slept}
-use Rattle.claims.specs.Demand3.{next, hasLeft, restarts, Sleeps, Entered, Left}
+use mathlib.Core.Option.{Option, none, some}
+use lib.Dec.{eqb}
+use Rattle.model.specs.declared.call.Op.{Op}
+use Rattle.claims.specs.Engine.{Engine, run, runs, sleeps, ended, is}
+use Rattle.claims.specs.Held.{Restored}
+use Rattle.claims.specs.Delivery.{Left}
 
--- c runs in w, sleeps in w, has left in w
-abbrev pub runsIn : ℕ → World → Bool
-runsIn c w = isRunning (coreAt w c .state)
+abbrev pub isSetUp : Option Op → Bool
+isSetUp none = true
+isSetUp (some o) = false
 
-abbrev pub sleepsIn : ℕ → World → Bool
-sleepsIn c w = isSuspended (coreAt w c .state)
+module _ (e : Engine) (c : ℕ) where
+  abbrev pub runsIn : e .State → Bool
+  runsIn s = is (e .view s) runs c
 
-abbrev pub leftIn : ℕ → World → Bool
-leftIn c w = hasLeft (coreAt w c .state)
+  abbrev pub sleepsIn : e .State → Bool
+  sleepsIn s = is (e .view s) sleeps c
 
--- no call is an accepted set-up or enters c; or is one, or lets c leave
-abbrev pub waits : ℕ → World → List Call → Bool
-waits c w [] = true
-waits c w (k ∷ ks) =
-    let z = next w k in
-    not (restarts k) && (not (not (runsIn c w) && runsIn c z) && waits c z ks)
+  abbrev pub leftIn : e .State → Bool
+  leftIn s = is (e .view s) (λ x. sleeps x || ended x) c
 
-abbrev pub goes : ℕ → World → List Call → Bool
-goes c w [] = true
-goes c w (k ∷ ks) =
-    let z = next w k in
-    not (restarts k) && (not (runsIn c w && leftIn c z) && goes c z ks)
+  abbrev pub restarts : e .State → e .Call → Bool
+  restarts s k = isSetUp (e .op k) && eqb (e .number s k) 0
 
--- w₁, w₂, .. are the worlds before and after x, before and after y, before and after z
-abbrev pub meets : ℕ → World → World → World → World → World → World → Bool
-meets c w₁ w₂ w₃ w₄ w₅ w₆ = runsIn c w₁ && sleepsIn c w₂ && not (runsIn c w₃) && runsIn c w₄ && runsIn c w₅ && leftIn c w₆
+  -- no call is an accepted set-up or enters c; or is one, or lets c leave
+  abbrev pub waits : e .State → List (e .Call) → Bool
+  waits s [] = true
+  waits s (k ∷ ks) = not (restarts s k) && (not (not (runsIn s) && runsIn (e .next s k)) && waits (e .next s k) ks)
 
-abbrev pub premises : ℕ → World → Call → List Call → Call → List Call → Call → Bool
-premises c w₁ x waiting y going z =
-    let w₂ = next w₁ x in
-    let w₃ = run w₂ waiting in
-    let w₄ = next w₃ y in
-    let w₅ = run w₄ going in
-    meets c w₁ w₂ w₃ w₄ w₅ (next w₅ z) && waits c w₂ waiting && goes c w₄ going
+  abbrev pub goes : e .State → List (e .Call) → Bool
+  goes s [] = true
+  goes s (k ∷ ks) = not (restarts s k) && (not (runsIn s && leftIn (e .next s k)) && goes (e .next s k) ks)
+
+  -- before and after x, before and after y, before and after z
+  abbrev pub meets : e .State → e .State → e .State → e .State → e .State → e .State → Bool
+  meets s₁ s₂ s₃ s₄ s₅ s₆ = runsIn s₁ && sleepsIn s₂ && not (runsIn s₃) && runsIn s₄ && runsIn s₅ && leftIn s₆
+
+  abbrev pub premises : e .State → e .Call → List (e .Call) → e .Call → List (e .Call) → e .Call → Bool
+  premises s₁ x waiting y going z =
+      let s₂ = e .next s₁ x in
+      let s₃ = run e s₂ waiting in
+      let s₄ = e .next s₃ y in
+      let s₅ = run e s₄ going in
+      meets s₁ s₂ s₃ s₄ s₅ (e .next s₅ z) && waits s₂ waiting && goes s₄ going
 
 -- what follows from them
-pub record Holds (c : ℕ) (w₁ : World) (x : Call) (waiting : List Call) (y : Call) (going : List Call) (z : Call) : Type 0 where
-  pub asleep : Sleeps (run (next w₁ x) waiting) c (slept w₁ x c)
-  pub restored : Entered (run (next w₁ x) waiting) y c (slept w₁ x c) (next (run (next w₁ x) waiting) y)
-  pub untouched : let w₃ = run (next w₁ x) waiting in Left w₃ y c (run (next w₃ y) going) z (next (run (next w₃ y) going) z)
+pub record Holds (e : Engine) (c : ℕ) (s : e .State) (x : e .Call) (waiting : List (e .Call)) (y : e .Call) (going : List (e .Call)) (z : e .Call) : Type 0 where
+  pub restored : let t = run e (e .next s x) waiting in Restored (e .view s) (e .op x) (e .view t) (e .op y) c (e .view (e .next t y))
+  pub untouched : let t = run e (e .next s x) waiting in let u = run e (e .next t y) going in Left (e .view t) (e .op y) c (e .view u) (e .op z) (e .view (e .next u z))

@@ -4,7 +4,7 @@ use Prim.Native.Nat.{ℕ, _-_, _^_}
 use mathlib.Core.Path.{_≡_, refl}
 use mathlib.Core.Bool.{true}
 use mathlib.Core.List.{List, [], _∷_, _++_}
-use lib.ListN.{take, getD}
+use lib.ListN.{take, drop, getD}
 use Rattle.heap.specs.Word.{nil}
 use Rattle.heap.specs.declared.fault.Fault.{Fault}
 use Rattle.heap.specs.declared.value.Opt.{Opt}
@@ -24,9 +24,17 @@ wide =
     record {
       limits = record { depth = 6; stack = 40; rows = 4; slots = 16; memory = 65536 };
       costs = record { frame = 32; coro = 104; object = 160; int = 56; error = 56; iter = 112 };
-      hook = Opt.None;
+      hook = Opt.Some 0;
       functions = plain 4 ∷ record { regs = 4; params = 0; handlers = record { start = 0; end = 100; target = 50; catch = 1 } ∷ [] } ∷ [];
     }
+
+-- one that is refused: no depth
+abbrev pub bad : Setup
+bad = record { limits = record { depth = 0; stack = 40; rows = 4; slots = 16; memory = 65536 }; costs = wide .costs; hook = Opt.None; functions = wide .functions }
+
+-- function 0 as a word
+abbrev pub f : ℕ
+f = 0x1_0000_0000_0000
 
 -- the first two words made: functions are the objects of slots 0 and 1
 abbrev pub c : ℕ
@@ -35,9 +43,9 @@ c = 0x1_0000_0000_0002
 abbrev pub d : ℕ
 d = 0x1_0000_0000_0003
 
--- a run of function 0, which resumes a new coroutine of function f
+-- a run of function 0, which resumes a new coroutine of function n
 abbrev pub begin : ℕ → List Op
-begin f = Op.Grant 1000 ∷ Op.HostCall 0 ∷ Op.CoroNew 1 0 f 0 ∷ Op.Resume 2 1 0 2 ∷ []
+begin n = Op.Grant 1000 ∷ Op.HostCall 0 ∷ Op.CoroNew 1 0 n 0 ∷ Op.Resume 2 1 0 2 ∷ []
 
 abbrev pub finish : Op
 finish = Op.Finish ResultKind.None 0
@@ -109,10 +117,27 @@ through =
     begin 0
     ++ (Op.Yield 8 3 0 ∷ Op.PutWord 2 9 ∷ Op.CoroClose 3 1 0 2 ∷ Op.CoroNew 1 0 0 0 ∷ Op.Resume 6 1 0 2 ∷ throws 9 ∷ [])
 
+-- 10. c, of a closure, calls function 1 and yields there, with a key: two frames are held. Two frames and a spawned coroutine later it is
+-- resumed, with 44; the callee returns to it, and it returns. On the way 12, 15 and 13 are given.
+abbrev pub twice : List Op
+twice =
+    Op.CoroCurrent 0 0 ∷ Op.Grant 1000 ∷ Op.HostCall 0 ∷ Op.HostCall 0 ∷ Op.PutWord 1 f ∷ Op.CoroNewIndirect 1 0 1 0 ∷ Op.PutWord 2 66 ∷ Op.Resume 2 1 0 2
+    ∷ Op.PutWord 0 11 ∷ Op.FunctionCall 5 1 (Cont.Dyn 2) ∷ Op.PutWord 1 22 ∷ Op.PutWord 2 33 ∷ Op.YieldKv 7 3 1 2
+    ∷ deeper ∷ deeper ∷ Op.PutWord 9 0 ∷ Op.PutWord 3 f ∷ Op.Spawn 12 1 3 0 ∷ finish ∷ Op.PutWord 0 c ∷ Op.PutWord 2 44 ∷ Op.Resume 15 1 0 2
+    ∷ Op.PutWord 0 55 ∷ returns 6 ∷ returns 77 ∷ []
+
+-- 11. The run is stopped while c sleeps; the host enters it, and it returns to the host.
+abbrev pub stopped : List Op
+stopped = begin 0 ++ (Op.Yield 8 3 0 ∷ Op.StopRun ∷ Op.HostEntry c 5 ∷ returns 9 ∷ [])
+
+-- 12. It yields in its cleanup, having caught that: no error.
+abbrev pub yielding : List Op
+yielding = begin 1 ++ (Op.Yield 8 3 0 ∷ Op.HandOver c ∷ Op.CoroCurrent 9 1 ∷ throws nil ∷ Op.Yield 60 3 0 ∷ [])
+
 -- ---- the list, and its splits
 
 abbrev pub parts : List (List Op)
-parts = deep ∷ nested ∷ loop ∷ host ∷ ignoring ∷ awaiting ∷ cleaning ∷ operand ∷ catching ∷ through ∷ []
+parts = deep ∷ nested ∷ loop ∷ host ∷ ignoring ∷ awaiting ∷ cleaning ∷ operand ∷ catching ∷ through ∷ twice ∷ stopped ∷ yielding ∷ []
 
 pub written : each (each typed) parts ≡ true
 unfolding typed
@@ -137,3 +162,7 @@ part n = getD (blocks parts written) n []
 
 abbrev pub past : ℕ → List Call
 past n = joined (take n (blocks parts written))
+
+-- part 10, with a set-up that is refused while c sleeps
+abbrev pub held : List Call
+held = take 14 (part 10) ++ (SetUp bad ∷ drop 14 (part 10))

@@ -1,24 +1,31 @@
--- Demand 3 is not empty: these are splits of one list of calls in which every premise holds, by computation.
+-- The promise is not empty: these are splits of lists of calls in which every premise of demand 3 holds, by computation; what the calls
+-- answer; and one split as literal lists.
 use Prim.Native.Nat.{ℕ, suc, _-_}
 use mathlib.Core.Path.{_≡_}
 use mathlib.Core.Bool.{Bool, true}
 use mathlib.Core.List.{List, [], _∷_, _++_, map}
 use lib.ListN.{take, drop, getD}
 use Rattle.model.specs.Program.{setupOk}
-use Rattle.model.specs.World.{fresh}
+use Rattle.model.specs.World.{World, fresh}
 use Rattle.model.specs.Frames.{topPc}
 use Rattle.model.specs.Answer.{numberOf}
 use Rattle.model.specs.Call.{Call, SetUp}
 use Rattle.model.specs.Coro.{coroState}
 use Rattle.model.specs.Step.{run, answers}
 use Rattle.heap.specs.declared.object.CoroState.{CoroState}
+use Rattle.model.specs.declared.machine.Cont.{Cont}
+use Rattle.model.specs.declared.machine.Frame.{Frame}
 use Rattle.model.specs.declared.coro.Stated.{Stated}
 use Rattle.claims.specs.Premises.{premises}
-use Rattle.claims.specs.Story.{wide, c, d, story, part, past}
+use Rattle.claims.specs.Steps.{steps}
+use Rattle.claims.specs.Story.{wide, f, c, d, story, part, past, held}
 
--- the numbers that the calls of part n answer
+-- the numbers that the calls answer, made after others
+abbrev pub numbersOf : List Call → List Call → List ℕ
+numbersOf before ks = map numberOf (answers (run (fresh wide) before) ks)
+
 abbrev pub numbers : ℕ → List ℕ
-numbers n = map numberOf (answers (run (fresh wide) (past n)) (part n))
+numbers n = numbersOf (past n) (part n)
 
 abbrev pub nth : List Call → ℕ → Call
 nth ks i = getD ks i (SetUp wide)
@@ -27,9 +34,19 @@ nth ks i = getD ks i (SetUp wide)
 abbrev pub between : List Call → ℕ → ℕ → List Call
 between ks i j = take (j - suc i) (drop (suc i) ks)
 
--- in part n, calls i, j and l are a suspension of v, its next entry, and its next yield, await or return
+-- the world before call i
+abbrev pub at : List Call → List Call → ℕ → World
+at before ks i = run (fresh wide) (before ++ take i ks)
+
+-- of the calls ks, made after others, calls i, j and l are a suspension of v, its next entry, and its next yield, await or return
+abbrev pub meetsIn : List Call → List Call → ℕ → ℕ → ℕ → ℕ → Bool
+meetsIn before ks i j l v = premises steps v (at before ks i) (nth ks i) (between ks i j) (nth ks j) (between ks j l) (nth ks l)
+
 abbrev pub meets : ℕ → ℕ → ℕ → ℕ → ℕ → Bool
-meets n i j l v = premises v (run (fresh wide) (past n ++ take i (part n))) (nth (part n) i) (between (part n) i j) (nth (part n) j) (between (part n) j l) (nth (part n) l)
+meets n i j l v = meetsIn (past n) (part n) i j l v
+
+abbrev pub frame : ℕ → ℕ → ℕ → ℕ → Cont → Frame
+frame func pc base closure cont = record { func = func; pc = pc; base = base; closure = closure; cont = cont }
 
 pub record Witness : Type 0 where
   pub accepted : setupOk wide ≡ true
@@ -47,6 +64,10 @@ pub record Witness : Type 0 where
   pub operand-meets : meets 7 5 7 8 c ≡ true
   pub catching-meets : meets 8 5 7 9 c ≡ true
   pub through-meets : meets 9 5 7 10 c ≡ true
+  pub twice-meets : meets 10 13 22 25 c ≡ true
+  pub held-meets : meetsIn (past 10) held 13 23 26 c ≡ true
+  pub stopped-meets : meets 11 5 7 8 c ≡ true
+  pub yielding-meets : meets 12 5 7 9 c ≡ true
   -- what the calls answer
   pub deep-numbers : numbers 0 ≡ 0 ∷ 0 ∷ 0 ∷ 0 ∷ 0 ∷ 0 ∷ 0 ∷ 0 ∷ 0 ∷ 0 ∷ 0 ∷ 0 ∷ 0 ∷ 4 ∷ 0 ∷ 0 ∷ 0 ∷ 0 ∷ 0 ∷ 0 ∷ 0 ∷ 0 ∷ 0 ∷ []
   pub nested-numbers : numbers 1 ≡ 0 ∷ 0 ∷ 0 ∷ 0 ∷ 0 ∷ 0 ∷ 0 ∷ 0 ∷ 0 ∷ 0 ∷ 0 ∷ 0 ∷ 0 ∷ 0 ∷ 0 ∷ 0 ∷ 0 ∷ 0 ∷ 0 ∷ []
@@ -58,10 +79,23 @@ pub record Witness : Type 0 where
   pub operand-numbers : numbers 7 ≡ 0 ∷ 0 ∷ 0 ∷ 0 ∷ 0 ∷ 0 ∷ 0 ∷ 17 ∷ 0 ∷ []
   pub catching-numbers : numbers 8 ≡ 0 ∷ 0 ∷ 0 ∷ 0 ∷ 0 ∷ 0 ∷ 0 ∷ 17 ∷ 0 ∷ 0 ∷ []
   pub through-numbers : numbers 9 ≡ 0 ∷ 0 ∷ 0 ∷ 0 ∷ 0 ∷ 0 ∷ 0 ∷ 17 ∷ 0 ∷ 0 ∷ 0 ∷ []
+  pub held-numbers : numbersOf (past 10) held ≡ 0 ∷ 12 ∷ 0 ∷ 0 ∷ 15 ∷ 0 ∷ 0 ∷ 0 ∷ 0 ∷ 0 ∷ 0 ∷ 0 ∷ 0 ∷ 0 ∷ 11 ∷ 0 ∷ 0 ∷ 13 ∷ 0 ∷ 0 ∷ 0 ∷ 0 ∷ 0 ∷ 0 ∷ 0 ∷ 0 ∷ 0 ∷ []
+  pub stopped-numbers : numbers 11 ≡ 0 ∷ 0 ∷ 0 ∷ 0 ∷ 0 ∷ 0 ∷ 0 ∷ 0 ∷ 0 ∷ []
+  pub yielding-numbers : numbers 12 ≡ 0 ∷ 0 ∷ 0 ∷ 0 ∷ 0 ∷ 0 ∷ 0 ∷ 17 ∷ 0 ∷ 0 ∷ []
+  -- one split as lists, `held`: what the suspending call finds of c, from base 4 up ..
+  pub found-stack : at (past 10) held 13 .stack ≡ c ∷ f ∷ 66 ∷ 0 ∷ 11 ∷ 0 ∷ 0 ∷ 0 ∷ 0 ∷ 22 ∷ 33 ∷ 0 ∷ []
+  pub found-frames : at (past 10) held 13 .frames ≡ frame 1 0 8 0 (Cont.Dyn 2) ∷ frame 0 5 4 f Cont.Coro ∷ frame 0 2 0 0 Cont.Entry ∷ []
+  -- .. and what the entering call leaves: the same from base 12 up, moved by 8, with 44 in the callee's register 3, and its pc stepped
+  pub back-stack : at (past 10) held 24 .stack ≡ c ∷ 22 ∷ 66 ∷ 0 ∷ 0 ∷ 0 ∷ 0 ∷ 0 ∷ c ∷ 0 ∷ 44 ∷ f ∷ 11 ∷ 0 ∷ 0 ∷ 0 ∷ 0 ∷ 22 ∷ 33 ∷ 44 ∷ []
+  pub back-frames : at (past 10) held 24 .frames
+      ≡ frame 1 8 16 0 (Cont.Dyn 2) ∷ frame 0 5 12 f Cont.Coro ∷ frame 0 15 8 0 Cont.Discard ∷ frame 0 5 4 0 Cont.Discard ∷ frame 0 5 0 0 Cont.Entry ∷ []
+  -- and at its return: the caller's words and frames, with 77 in register 1, and the pc stepped
+  pub left-stack : at (past 10) held 27 .stack ≡ c ∷ 22 ∷ 66 ∷ 0 ∷ 0 ∷ 0 ∷ 0 ∷ 0 ∷ c ∷ 77 ∷ 44 ∷ f ∷ []
+  pub left-frames : at (past 10) held 27 .frames ≡ frame 0 16 8 0 Cont.Discard ∷ frame 0 5 4 0 Cont.Discard ∷ frame 0 5 0 0 Cont.Entry ∷ []
   -- the pc 2^32 - 1 steps to 0
   pub wraps : topPc (run (fresh wide) (take 21 (part 0)) .frames) ≡ 0
-  -- in the last part the inner coroutine fails, and the outer one returns
-  pub inner-fails : coroState (run (fresh wide) story) d ≡ Stated.In CoroState.Failed
-  pub outer-returns : coroState (run (fresh wide) story) c ≡ Stated.In CoroState.Returned
+  -- in part 9 the inner coroutine fails, and the outer one returns
+  pub inner-fails : coroState (run (fresh wide) (past 10)) d ≡ Stated.In CoroState.Failed
+  pub outer-returns : coroState (run (fresh wide) (past 10)) c ≡ Stated.In CoroState.Returned
   -- `has` = `val` ends as 1
   pub has-is-one : run (fresh wide) (past 2 ++ take 15 (part 2)) .stack ≡ c ∷ d ∷ 1 ∷ 7 ∷ []

@@ -22,9 +22,9 @@ use Rattle.model.specs.declared.machine.Driver.{Driver}
 use Rattle.model.specs.declared.machine.Charge.{Charge}
 use Rattle.model.specs.declared.call.OptPc.{OptPc}
 use Rattle.model.specs.declared.call.Op.{Op}
-use Rattle.claims.specs.Entry.{Act, at, byHost, finishes, unwinds, other, act, entry, accepts, entryOf, driverOf, sentOf, pcBy}
-use Rattle.claims.specs.Suspension.{suspendsOf}
-use Rattle.claims.specs.Demand3.{Suspends, Enters}
+use Rattle.claims.proofs.Entry.{Act, at, byHost, finishes, unwinds, other, act, entry, accepts, entryOf, driverOf, sentOf, pcBy}
+use Rattle.claims.proofs.Suspension.{suspendsOf}
+use Rattle.claims.proofs.Split.{Suspends, Enters}
 
 -- the innermost active coroutine
 abbrev pub inmost : List Active → Option ℕ

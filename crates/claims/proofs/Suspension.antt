@@ -10,7 +10,7 @@ use Rattle.model.specs.Call.{Call, SetUp, Do}
 use Rattle.model.specs.declared.machine.Charge.{Charge}
 use Rattle.model.specs.declared.call.OptPc.{OptPc}
 use Rattle.model.specs.declared.call.Op.{Op}
-use Rattle.claims.specs.Entry.{Act, at, byHost, finishes, unwinds, other, act, Plan, entering, suspending, hosting, finishing, idle, plan}
+use Rattle.claims.proofs.Entry.{Act, at, byHost, finishes, unwinds, other, act, Plan, entering, suspending, hosting, finishing, idle, plan}
 
 -- whether the instruction comes to coro_suspend, and it accepts, at the world that the charge left
 abbrev pub suspendsBy : Plan → World → Bool

@@ -20,7 +20,7 @@ use Rattle.model.specs.Call.{Call, SetUp, Do}
 use Rattle.model.specs.Calls.{Row, Instruction, OnFrame, OnHost, Unwinds, Grants, Looks, Other, table}
 use Rattle.model.specs.Exec.{largestIn, largerOf, autoKey}
 use Rattle.model.specs.declared.coro.Keys.{Keys}
-use Rattle.claims.specs.Tries.{tries, keyed, inBody}
+use Rattle.claims.proofs.Tries.{tries, keyed, inBody}
 use Rattle.model.specs.declared.machine.Driver.{Driver}
 use Rattle.model.specs.declared.machine.Charge.{Charge}
 use Rattle.heap.specs.declared.heap.ResultKind.{ResultKind}

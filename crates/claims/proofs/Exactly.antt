@@ -1,0 +1,58 @@
+-- The events are exact: the claim, of `step`.
+use Prim.Native.Nat.{ℕ}
+use native.Mathlib.Omega.{arith}
+use mathlib.Core.Path.{_≡_, refl, sym, _∙_}
+use mathlib.Core.Option.{Option, none, some}
+use Rattle.model.specs.World.{World}
+use Rattle.model.specs.Answer.{numberOf}
+use Rattle.model.specs.Call.{Call}
+use Rattle.model.specs.Step.{step}
+use Rattle.claims.specs.Engine.{View}
+use Rattle.claims.specs.Says.{Aim, enter, suspend, neither, Does, instr, hosts, finishes, raises, other, doing, Entry, whomBy}
+use Rattle.claims.specs.Demand3 as D
+use Rattle.claims.specs.Demand3.{Demand3}
+use Rattle.claims.specs.Events as Said
+use Rattle.claims.specs.Events.{suspended, returned, Events}
+use Rattle.claims.specs.Steps.{viewOf, opOf, steps}
+use Rattle.claims.proofs.Acceptance.{exactly}
+use Rattle.claims.proofs.Restores as Restores
+use Rattle.claims.proofs.Restores.{enters-old, suspends-old}
+use Rattle.claims.proofs.Untouched.{untouched}
+use Rattle.claims.proofs.Exact.{healthy-sound, no-some, entered, suspends, suspended-by}
+use Rattle.claims.proofs.Returned.{returns, returned-by}
+
+-- a call that lets one return enters nobody, and suspends nobody
+not-whom : (v : View) (d : Does) (n u : ℕ) → returned v d n ≡ some u → whomBy v d ≡ none
+not-whom v (instr pc ok a) n u h = no-some refl h
+not-whom v (hosts c x) n u h = no-some refl h
+not-whom v (finishes kind x) n u h = refl
+not-whom v (raises f pc) n u h = refl
+not-whom v other n u h = no-some refl h
+
+not-suspended : (v : View) (d : Does) (n c u : ℕ) → suspended v d n ≡ some c → returned v d n ≡ some u → ⊥
+not-suspended v (instr pc ok a) n c u p q = no-some refl q
+not-suspended v (hosts x y) n c u p q = no-some refl q
+not-suspended v (finishes kind x) n c u p q = no-some refl p
+not-suspended v (raises f pc) n c u p q = no-some refl p
+not-suspended v other n c u p q = no-some refl p
+
+no-entry : {x : Option Entry} {y : Entry} → x ≡ none → x ≡ some y → ⊥
+no-entry p q = let z : _≡_ {A = ℕ} 0 1 = cc in absurd (omega arith)
+
+pub events : Events steps
+events =
+    record {
+      enters = λ c w k h. Restores.entered c w k h .by;
+      entered = entered;
+      suspends = suspends;
+      suspended = suspended-by;
+      returns = returns;
+      returned = λ c w k h e. returned-by c w k (healthy-sound w h) e;
+      one-switch = λ c u w k h g. exactly w k c .one-switch u (enters-old c w k h) (suspends-old u w k g);
+      no-return = λ c u w k h g. no-entry (not-whom (viewOf w) (doing (viewOf w) (opOf k)) (numberOf (step w k .answer)) u (returns u w k g)) (Restores.entered c w k h .by .says);
+      one-leaves = λ c u w k h g. not-suspended (viewOf w) (doing (viewOf w) (opOf k)) (numberOf (step w k .answer)) c u (suspends c w k h) (returns u w k g);
+    }
+
+-- DEMAND 3
+pub demand3 : Demand3 steps
+demand3 = record { entered = Restores.entered; restored = Restores.restored; untouched = untouched }

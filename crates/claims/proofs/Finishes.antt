@@ -1,0 +1,194 @@
+-- finish: who returns by it, what is recorded as its result, and the number that it answers.
+use Prim.Native.Nat.{ℕ}
+use native.Mathlib.Omega.{arith}
+use native.Mathlib.Decide.{ℕ-discrete}
+use mathlib.Core.Path.{_≡_, refl, sym, ap, _∙_, subst}
+use mathlib.Core.Logic.{_⊎_, inl, inr}
+use mathlib.Core.Bool.{Bool, true, false, not}
+use mathlib.Core.List.{List, [], _∷_}
+use mathlib.Core.Option.{Option, none, some}
+use lib.Dec.{eqb}
+use Rattle.lists.specs.Pick.{pick}
+use Rattle.heap.specs.Word.{slotOf}
+use Rattle.heap.specs.Coding.{ofBits}
+use Rattle.heap.specs.Fault as Faults
+use Rattle.heap.specs.Int.{inlineOf, exactly, valueOf}
+use Rattle.heap.specs.Table.{Slot, putObject, pushObject, nextWord}
+use Rattle.heap.specs.Charge.{satAdd}
+use Rattle.heap.specs.declared.fault.Fault.{Fault}
+use Rattle.heap.specs.declared.value.Opt.{Opt}
+use Rattle.heap.specs.declared.int.Exact.{Exact}
+use Rattle.heap.specs.declared.int.Inline.{Inline}
+use Rattle.heap.specs.declared.int.IntTy.{IntTy}
+use Rattle.heap.specs.declared.heap.ResultKind.{ResultKind}
+use Rattle.heap.specs.declared.object.CoroState.{CoroState}
+use Rattle.model.specs.State.{isRunning}
+use Rattle.model.specs.Object.{Core, Rest, Object, Coroutine, Absent, Is, isFilled, asCoro}
+use Rattle.model.specs.World.{World, After, after, withChain, withUsed, withSlots}
+use Rattle.model.specs.Frames.{isCoro, nextPc, popTo, putReg}
+use Rattle.model.specs.Heap.{object, coro, changeAs, changeIterIn, fits, slotsFull, refuse, alloc, encodeAt, encodeInt, encodeExact, toDyn}
+use Rattle.model.specs.Coro.{inState, ended, finishCoroutine, deliverReturn, returnedOn, coroReturned}
+use Rattle.model.specs.Machine.{resultOf, orNil, writeResult, writeMade, applyCont, isOk, resumeIn, returnMade, finishAs, finishOn, finish}
+use Rattle.model.specs.Answer.{numberOf}
+use Rattle.model.specs.declared.machine.Cont.{Cont}
+use Rattle.model.specs.declared.machine.Driver.{Driver}
+use Rattle.model.specs.declared.machine.Active.{Active}
+use Rattle.model.specs.declared.machine.Frame.{Frame}
+use Rattle.model.specs.declared.coro.Made.{Made}
+use Rattle.model.specs.declared.call.Answer.{Answer}
+use Rattle.claims.specs.Delivery.{recorded}
+use Rattle.claims.specs.Steps.{seenOf}
+use Rattle.claims.proofs.Held.{coreIn, coreAt}
+use Rattle.claims.proofs.Cores.{no-both, coroIn, objectIn, Named, named, put-here, put-away, set-mine}
+use Rattle.claims.proofs.Shape.{view, Ends, Return}
+use Rattle.claims.proofs.Quiet.{dyn-same}
+use Rattle.claims.proofs.Endings.{return-done}
+
+-- ---- what is recorded
+
+-- an iterator's mark: no coroutine changes
+iter-coros : (v : ℕ) (f : Bool → Bool) (g : Opt → Opt) (w : World) (c : ℕ) → coro (changeIterIn (object w v) v f g w) c ≡ coro w c
+iter-coros v f g w c = go (object w v) refl
+  where
+    same : (s : ℕ) (d : Bool) (k : Opt) → object w v ≡ Object.Iter s d k → (y : Object) → isFilled y ≡ true → asCoro y ≡ Absent → Dec (c ≡ v) → coroIn (putObject Object.Empty (w .slots) (slotOf v) y) c ≡ coro w c
+    same s d k e y p q (yes h) = ap (coroIn (putObject Object.Empty (w .slots) (slotOf v) y)) h ∙ ap asCoro (put-here (w .slots) v y (named (w .slots) v (ap isFilled e)) p) ∙ q ∙ sym (ap asCoro e) ∙ ap (coro w) (sym h)
+    same s d k e y p q (no h) = ap asCoro (put-away (w .slots) v y c (named (w .slots) v (ap isFilled e)) h)
+
+    go : (o : Object) → object w v ≡ o → coro (changeIterIn o v f g w) c ≡ coro w c
+    go Object.Empty e = refl
+    go (Object.Func n) e = refl
+    go (Object.Int n) e = refl
+    go (Object.Iter s d k) e = same s d k e (Object.Iter s (f d) (g k)) refl refl (ℕ-discrete c v)
+    go (Object.Error n x p y) e = refl
+    go (Object.Coro k r) e = refl
+
+return-coros : (d : Driver) (x : ℕ) (w : World) (c : ℕ) → coro (deliverReturn d x w) c ≡ coro w c
+return-coros (Driver.Resume dst) x w c = refl
+return-coros (Driver.Iter has val iter) x w c = iter-coros iter (λ _. true) (λ k. k) w c
+return-coros Driver.Host x w c = refl
+return-coros Driver.Finalize x w c = refl
+
+return-records : (d : Driver) (x c : ℕ) (w : World) → isRunning (coreAt w c .state) ≡ true → recorded (seenOf (coro (deliverReturn d x (finishCoroutine c CoroState.Returned x w)) c)) ≡ x
+return-records d x c w h = ap (λ y. recorded (seenOf y)) (return-coros d x (finishCoroutine c CoroState.Returned x w) c) ∙ go (coro w c) refl
+  where
+    go : (y : Coroutine) → coro w c ≡ y → recorded (seenOf (coro (changeAs y c (inState CoroState.Returned) (ended x) w) c)) ≡ x
+    go Absent e = no-both h (ap (λ y. isRunning (coreIn y .state)) e)
+    go (Is k r) e = ap (λ y. recorded (seenOf y)) (set-mine (w .slots) c e (inState CoroState.Returned k) (ended x r))
+
+-- ---- what does not convert is refused with 7, 9 or 14: by a test that fails there
+
+module _ (P : ℕ → Bool) (p7 : P 7 ≡ false) (p9 : P 9 ≡ false) (p14 : P 14 ≡ false) where
+  abbrev refusal : Made → Bool
+  refusal (Made.Word v) = false
+  refusal (Made.Refused f) = P (Faults.numberOf f)
+
+  pub refused-alloc : (bytes : ℕ) (o : Object) (w : World) → refusal (alloc bytes o w .answer) ≡ false
+  unfolding alloc pick
+  refused-alloc bytes o w = go (not (fits w bytes)) (slotsFull w)
+    where
+      go : (a b : Bool) → refusal (pick a (refuse w Fault.OutOfMemory) (pick b (refuse w Fault.Full) (after (withUsed (satAdd (w .used) bytes) (withSlots (pushObject (w .slots) o) w)) (Made.Word (nextWord (w .slots))))) .answer) ≡ false
+      go true b = p9
+      go false true = p14
+      go false false = refl
+
+  pub refused-int : (n : ℕ) (w : World) → refusal (encodeInt n w .answer) ≡ false
+  refused-int n w = go (inlineOf (ofBits 63 n))
+    where
+      go : (x : Inline) → refusal (encodeAt x n w .answer) ≡ false
+      go (Inline.At x) = refl
+      go Inline.Large = refused-alloc (w .setup .costs .int) (Object.Int n) w
+
+  pub refused-exact : (y : Exact) (w : World) → refusal (encodeExact y w .answer) ≡ false
+  refused-exact (Exact.Fits n) w = refused-int n w
+  refused-exact Exact.Over w = p7
+
+  pub refused-dyn : (kind : ResultKind) (x : ℕ) (w : World) → refusal (toDyn kind x w .answer) ≡ false
+  unfolding toDyn
+  refused-dyn ResultKind.None x w = refl
+  refused-dyn ResultKind.Dyn x w = refl
+  refused-dyn ResultKind.I64 x w = refused-exact (exactly (valueOf IntTy.I64 x)) w
+  refused-dyn ResultKind.U64 x w = refused-exact (exactly (valueOf IntTy.U64 x)) w
+
+  -- so it is with a refusal that is at hand
+  pub refused-at : {m : Made} {f : Fault} → refusal m ≡ false → m ≡ Made.Refused f → P (Faults.numberOf f) ≡ false
+  refused-at h e = ap refusal (sym e) ∙ h
+
+abbrev isZero : ℕ → Bool
+isZero n = eqb n 0
+
+-- ---- the cases
+
+abbrev pub bodyOn : List Frame → Bool
+bodyOn [] = false
+bodyOn (f ∷ fs) = isCoro (f .cont)
+
+-- the result does not convert
+pub record Unmade (kind : ResultKind) (x : ℕ) (w : World) (o : After Answer) : Type 0 where
+  pub fault : Fault
+  pub refused : toDyn kind x w .answer ≡ Made.Refused fault
+  pub numbered : eqb (numberOf (o .answer)) 0 ≡ false
+
+pub data FinishCase (kind : ResultKind) (x : ℕ) (w : World) (o : After Answer) : Type 0 where
+  -- nobody returns: no body is on top, or none is active, or it is refused
+  f-other : ((c : ℕ) → coro (o .world) c ≡ coro w c) → (bodyOn (w .frames) ≡ false) ⊎ ((w .chain ≡ []) ⊎ Unmade kind x w o) → FinishCase kind x w o
+  f-returns : (f : Frame) (fs : List Frame) (a : Active) (chain : List Active) (y : ℕ) → w .frames ≡ f ∷ fs → isCoro (f .cont) ≡ true → w .chain ≡ a ∷ chain → toDyn kind x w .answer ≡ Made.Word y → numberOf (o .answer) ≡ 0
+      → Ends CoroState.Returned (a .coro) (coreAt w) (coreAt (o .world)) → (isRunning (coreAt w (a .coro) .state) ≡ true → recorded (seenOf (coro (o .world) (a .coro))) ≡ y) → FinishCase kind x w o
+
+pub finish-case : (kind : ResultKind) (x : ℕ) (w : World) → FinishCase kind x w (finish kind x w)
+unfolding finish applyCont coroReturned pick
+finish-case kind x w = go (w .frames) refl
+  where
+    made : After Made
+    made = toDyn kind x w
+
+    resumed : (u : World) (f : Fault) → ((c : ℕ) → coro u c ≡ coro w c) → (b : Bool) (c : ℕ) → coro (pick b (after (nextPc u) Answer.Resume) (after u (Answer.Refused f)) .world) c ≡ coro w c
+    resumed u f e true c = e c
+    resumed u f e false c = e c
+
+    plain : (f : Frame) (fs : List Frame) → w .frames ≡ f ∷ fs → isCoro (f .cont) ≡ false → (o : After Answer) → ((c : ℕ) → coro (o .world) c ≡ coro w c) → FinishCase kind x w o
+    plain f fs p q o e = f-other e (inl (ap bodyOn p ∙ q))
+
+    written : (dst : ℕ) (u : World) (r : Opt) (c : ℕ) → coro (writeResult dst r u) c ≡ coro u c
+    written dst u Opt.None c = refl
+    written dst u (Opt.Some y) c = refl
+
+    dyn : (dst : ℕ) (u : World) (m : Made) → ((c : ℕ) → coro u c ≡ coro w c) → (c : ℕ) → coro (resumeIn (writeMade dst u m .world) (writeMade dst u m .answer) .world) c ≡ coro w c
+    dyn dst u (Made.Word y) e c = e c
+    dyn dst u (Made.Refused f) e c = resumed u f e (isOk f) c
+
+    body : (f : Frame) (fs : List Frame) → w .frames ≡ f ∷ fs → isCoro (f .cont) ≡ true → (m : Made) → made .answer ≡ m → FinishCase kind x w (returnMade f fs (made .world) m)
+    body f fs p q (Made.Refused y) e = f-other (dyn-same kind x w .coros) (inr (inr (record { fault = y; refused = e; numbered = refused-at isZero refl refl refl (refused-dyn isZero refl refl refl kind x w) e })))
+    body f fs p q (Made.Word y) e = chained (made .world .chain) refl
+      where
+        u : World
+        u = made .world
+
+        chained : (cs : List Active) → u .chain ≡ cs → FinishCase kind x w (after (coroReturned y (popTo f fs u)) Answer.Resume)
+        chained [] r = f-other (λ c. ap (λ cs. coro (returnedOn cs y (popTo f fs u)) c) r ∙ dyn-same kind x w .coros c) (inr (inl (sym (dyn-same kind x w .chain) ∙ r)))
+        chained (a ∷ chain) r = f-returns f fs a chain y p q (sym (dyn-same kind x w .chain) ∙ r) e refl ends tells
+          where
+            z : World
+            z = deliverReturn (a .driver) y (finishCoroutine (a .coro) CoroState.Returned y (withChain chain (popTo f fs u)))
+
+            same : returnedOn (u .chain) y (popTo f fs u) ≡ z
+            same = ap (λ cs. returnedOn cs y (popTo f fs u)) r
+
+            ends : Ends CoroState.Returned (a .coro) (coreAt w) (coreAt (returnedOn (u .chain) y (popTo f fs u)))
+            ends = subst (λ t. Ends CoroState.Returned (a .coro) (coreAt w) (coreAt t)) (sym same) (subst (λ k. Ends CoroState.Returned (a .coro) k (coreAt z)) (λ i c. coreIn (dyn-same kind x w .coros c i)) (return-done y f fs u a chain (dyn-same kind x w .frames ∙ p) q r .ends))
+
+            tells : isRunning (coreAt w (a .coro) .state) ≡ true → recorded (seenOf (coro (returnedOn (u .chain) y (popTo f fs u)) (a .coro))) ≡ y
+            tells h = ap (λ t. recorded (seenOf (coro t (a .coro)))) same ∙ return-records (a .driver) y (a .coro) (withChain chain (popTo f fs u)) (ap (λ k. isRunning (coreIn k .state)) (dyn-same kind x w .coros (a .coro)) ∙ h)
+
+    top : (f : Frame) (fs : List Frame) → w .frames ≡ f ∷ fs → (c : Cont) → f .cont ≡ c → FinishCase kind x w (finishAs c f fs kind x w)
+    top f fs p Cont.Entry q = plain f fs p (ap isCoro q) _ (λ c. refl)
+    top f fs p (Cont.Write dst) q = plain f fs p (ap isCoro q) _ (written dst (popTo f fs w) (resultOf kind x))
+    top f fs p (Cont.Dyn dst) q =
+        let o = toDyn kind x (popTo f fs w) in
+        plain f fs p (ap isCoro q) _ (dyn dst (o .world) (o .answer) (dyn-same kind x (popTo f fs w) .coros))
+    top f fs p (Cont.Value dst) q = plain f fs p (ap isCoro q) _ (λ c. refl)
+    top f fs p Cont.Discard q = plain f fs p (ap isCoro q) _ (λ c. refl)
+    top f fs p Cont.Coro q = body f fs p (ap isCoro q) (made .answer) refl
+
+    go : (fs : List Frame) → w .frames ≡ fs → FinishCase kind x w (finishOn fs kind x w)
+    go [] p = f-other (λ c. refl) (inl (ap bodyOn p))
+    go (f ∷ fs) p = top f fs p (f .cont) refl

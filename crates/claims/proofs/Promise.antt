@@ -1,0 +1,239 @@
+-- THE PROMISE, of `step`. Assumes nothing.
+use Prim.Native.Nat.{ℕ}
+use native.Mathlib.Omega.{arith}
+use mathlib.Core.Path.{_≡_, refl, sym, ap, _∙_, subst}
+use mathlib.Core.Logic.{_⊎_, inl, inr}
+use mathlib.Core.Bool.{Bool, true, false, not}
+use mathlib.Core.List.{List, [], _∷_}
+use mathlib.Core.Option.{Option, none, some}
+use lib.ListN.{length, take, drop}
+use lib.Dec.{eqb}
+use borrow.Author.Tests.{eq-eqb, not-true}
+use Rattle.lists.specs.Pick.{pick}
+use Rattle.heap.specs.declared.fault.Fault.{Fault}
+use Rattle.heap.specs.declared.heap.ResultKind.{ResultKind}
+use Rattle.model.specs.Program.{Setup, setupOk}
+use Rattle.model.specs.World.{World, After, after, fresh}
+use Rattle.model.specs.Frames.{isCoro}
+use Rattle.model.specs.Heap.{toDyn}
+use Rattle.model.specs.Machine.{searchFrames, storeSome, finish, unwind, raisable}
+use Rattle.model.specs.Gate.{refused}
+use Rattle.model.specs.Added.{accepted}
+use Rattle.model.specs.Sound.{sound, floorsOk, beside, matches}
+use Rattle.model.specs.Answer.{numberOf}
+use Rattle.model.specs.Call.{Call, SetUp, Do, Operation}
+use Rattle.model.specs.Calls.{table}
+use Rattle.model.specs.Step.{call, tested, step, told}
+use Rattle.model.specs.Compute.{computed}
+use Rattle.model.specs.declared.machine.Active.{Active}
+use Rattle.model.specs.declared.machine.Frame.{Frame}
+use Rattle.model.specs.declared.coro.Made.{Made}
+use Rattle.model.specs.declared.call.OptPc.{OptPc}
+use Rattle.model.specs.declared.call.Op.{Op}
+use Rattle.model.specs.declared.call.Answer.{Answer}
+use Rattle.invariant.specs.Kept.{raises}
+use Rattle.invariant.proofs.Sound.{sound→}
+use Rattle.invariant.proofs.Call.{call-keeps}
+use Rattle.claims.specs.Engine as Engine
+use Rattle.claims.specs.Demand3.{Restarts}
+use Rattle.claims.specs.Events.{Healthy, onBody, raised, raisedAt}
+use Rattle.claims.specs.Promise.{plain, Accepts, Eleven, sets-up, no-fault, Soundness, NotEmpty, Promise}
+use Rattle.claims.specs.Steps.{viewOf, opOf, steps}
+use Rattle.claims.specs.Story.{wide, c, held}
+use Rattle.claims.specs.Premises.{premises}
+use Rattle.claims.specs.Witness.{nth, between}
+use Rattle.claims.proofs.Cores.{no-both}
+use Rattle.claims.proofs.Shape.{View, view}
+use Rattle.claims.proofs.Sounds.{Floors, floors}
+use Rattle.claims.proofs.Soundness.{soundness-kept}
+use Rattle.claims.proofs.Finishes.{bodyOn, Unmade, FinishCase, f-other, f-returns, finish-case}
+use Rattle.claims.proofs.Escapes.{Ended, e-works, e-returns}
+use Rattle.claims.proofs.Unwinds.{word-ended}
+use Rattle.claims.proofs.Exact.{healthy-sound, number-sound, no-some}
+use Rattle.claims.proofs.Returned.{on-body}
+use Rattle.claims.proofs.Premises.{Premises, premises-met}
+use Rattle.claims.proofs.Exactly.{events, demand3}
+
+-- ---- soundness
+
+some-op : {a b : Op} → _≡_ {A = Option Op} (some a) (some b) → a ≡ b
+some-op e = cc
+
+-- a sound machine is not refused
+look-numbered : (w : World) → numberOf (call Op.Look w .answer) ≡ 0
+unfolding call
+look-numbered w = refl
+
+sound-healthy : (w : World) → sound w ≡ true → Healthy steps w
+sound-healthy w h (SetUp s) e = let z : _≡_ {A = ℕ} 0 1 = cc in absurd (omega arith)
+sound-healthy w h (Do o) e = ap numberOf (number-sound w o h) ∙ ap (λ p. numberOf (call p w .answer)) (some-op e) ∙ look-numbered w
+
+begun : (w : World) (k : Call) → Restarts steps w k → sound (step w k .world) ≡ true
+unfolding step pick
+begun w (Do o) r = let q = r .sets-up in let z : _≡_ {A = ℕ} 0 1 = cc in absurd (omega arith)
+begun w (SetUp s) r = go (setupOk s) refl (r .accepted)
+  where
+    go : (b : Bool) → setupOk s ≡ b → numberOf (pick b (accepted (fresh s)) (refused w Fault.Unsound) .answer) ≡ 0 → sound (pick b (accepted (fresh s)) (refused w Fault.Unsound) .world) ≡ true
+    go true e n = soundness-kept .begun s e
+    go false e n = absurd (omega (arith, n))
+
+kept : (w : World) (k : Call) → sound w ≡ true → sound (step w k .world) ≡ true
+unfolding step pick
+kept w (Do o) h = soundness-kept .kept w o h
+kept w (SetUp s) h = go (setupOk s) refl
+  where
+    go : (b : Bool) → setupOk s ≡ b → sound (pick b (accepted (fresh s)) (refused w Fault.Unsound) .world) ≡ true
+    go true e = soundness-kept .begun s e
+    go false e = h
+
+unraised : (v : Engine.View) (f : Fault) → raisable f ≡ false → raised v f ≡ none
+unraised v Fault.None h = refl
+unraised v Fault.NullReference h = no-both refl h
+unraised v Fault.TypeError h = no-both refl h
+unraised v Fault.InvalidCoroState h = no-both refl h
+unraised v Fault.StackOverflow h = no-both refl h
+unraised v Fault.CannotSuspend h = no-both refl h
+unraised v Fault.CloseIgnored h = no-both refl h
+unraised v Fault.ArithOverflow h = no-both refl h
+unraised v Fault.NoScheduler h = no-both refl h
+unraised v Fault.OutOfMemory h = refl
+unraised v Fault.OutOfFuel h = refl
+unraised v Fault.Unsound h = refl
+unraised v Fault.NoFrame h = refl
+unraised v Fault.BadOperand h = refl
+unraised v Fault.Full h = refl
+unraised v Fault.Busy h = refl
+unraised v Fault.GrantTooLarge h = refl
+unraised v (Fault.Throw x) h = no-both refl h
+
+-- only an unwind can be given what it does not take
+unput : (v : Engine.View) (o : Op) → raises (table o) ≡ false → Eleven v (some o)
+unput v (Op.CoroNew pc dst f argc) h = no-both refl h
+unput v (Op.CoroNewIndirect pc dst callee argc) h = no-both refl h
+unput v (Op.Spawn pc dst callee argc) h = no-both refl h
+unput v (Op.Yield pc dst src) h = no-both refl h
+unput v (Op.YieldKv pc dst src key) h = no-both refl h
+unput v (Op.Await pc dst src) h = no-both refl h
+unput v (Op.Resume pc dst u src) h = no-both refl h
+unput v (Op.ResumeThrow pc dst u src) h = no-both refl h
+unput v (Op.CoroClose pc dst u src) h = no-both refl h
+unput v (Op.CoroStatus pc dst u) h = no-both refl h
+unput v (Op.CoroCurrent pc dst) h = no-both refl h
+unput v (Op.CoroKey pc dst u) h = no-both refl h
+unput v (Op.CoroResult pc dst u) h = no-both refl h
+unput v (Op.IterNext pc has iter val src) h = no-both refl h
+unput v (Op.Finish kind x) h = no-both refl h
+unput v (Op.Unwind f pc) h = no-fault f pc (unraised v f h)
+unput v (Op.SpawnTask x) h = no-both refl h
+unput v (Op.HostCall f) h = no-both refl h
+unput v (Op.HostEntry u x) h = no-both refl h
+unput v (Op.FunctionCall pc f cont) h = no-both refl h
+unput v (Op.PutWord r x) h = no-both refl h
+unput v (Op.MakeIterator x) h = no-both refl h
+unput v Op.TakeOutcome h = no-both refl h
+unput v (Op.HandOver x) h = no-both refl h
+unput v (Op.Grant n) h = no-both refl h
+unput v Op.StopRun h = no-both refl h
+unput v Op.Look h = no-both refl h
+
+eleven : (w : World) (k : Call) → sound w ≡ true → numberOf (step w k .answer) ≡ 11 → Eleven (viewOf w) (opOf k)
+eleven w (SetUp s) h n = sets-up
+eleven w (Do o) h n = unput (viewOf w) (o .op) (go (raises (table (o .op))) refl)
+  where
+    go : (b : Bool) → raises (table (o .op)) ≡ b → raises (table (o .op)) ≡ false
+    go false q = q
+    go true q = no-both (eq-eqb (numberOf (call (o .op) w .answer)) 11 (ap numberOf (sym (number-sound w o h)) ∙ n)) (not-true (eqb (numberOf (call (o .op) w .answer)) 11) (call-keeps {ex = false} (o .op) w (o .within) (sound→ w h (λ z. no-both z refl)) .fine q))
+
+pub soundness : Soundness steps
+soundness =
+    record {
+      begun = λ w k r. sound-healthy (step w k .world) (begun w k r);
+      kept = λ w k h. sound-healthy (step w k .world) (kept w k (healthy-sound w h));
+      eleven = λ w k h n. eleven w k (healthy-sound w h) n;
+    }
+
+-- ---- acceptance
+
+-- without an active coroutine no body is on top
+bodiless : (fs : List Frame) → Floors fs [] → bodyOn fs ≡ false
+bodiless [] h = refl
+bodiless (f ∷ fs) h = go (isCoro (f .cont)) refl h
+  where
+    go : (b : Bool) → isCoro (f .cont) ≡ b → beside b (λ f fs a. eqb (a .floor) (length fs)) f fs [] (matches (λ f fs a. eqb (a .floor) (length fs)) fs) ≡ true → isCoro (f .cont) ≡ false
+    go false e h = e
+    go true e h = no-both h refl
+
+plain-made : {A : Type 0} (kind : ResultKind) (x : ℕ) (w : World) (g : Fault) → plain kind ≡ true → toDyn kind x w .answer ≡ Made.Refused g → A
+unfolding toDyn
+plain-made ResultKind.None x w g p e = let z : _≡_ {A = ℕ} 0 1 = cc in absurd (omega arith)
+plain-made ResultKind.Dyn x w g p e = let z : _≡_ {A = ℕ} 0 1 = cc in absurd (omega arith)
+plain-made ResultKind.I64 x w g p e = no-both p refl
+plain-made ResultKind.U64 x w g p e = no-both p refl
+
+finish-zero : (kind : ResultKind) (x : ℕ) (w : World) (o : After Answer) → sound w ≡ true → plain kind ≡ true → onBody (w .frames) ≡ true → FinishCase kind x w o → numberOf (o .answer) ≡ 0
+unfolding floorsOk
+finish-zero kind x w o h p b (f-returns f fs a chain y q r t m n ends tells) = n
+finish-zero kind x w o h p b (f-other same why) = go why
+  where
+    go : (bodyOn (w .frames) ≡ false) ⊎ ((w .chain ≡ []) ⊎ Unmade kind x w o) → numberOf (o .answer) ≡ 0
+    go (inl q) = no-both b (on-body (w .frames) ∙ q)
+    go (inr (inl q)) = no-both b (on-body (w .frames) ∙ bodiless (w .frames) (ap (matches (λ f fs a. eqb (a .floor) (length fs)) (w .frames)) (sym q) ∙ floors w h))
+    go (inr (inr u)) = plain-made kind x w (u .fault) p (u .refused)
+
+finish-call : (kind : ResultKind) (x : ℕ) (w : World) → sound w ≡ true → plain kind ≡ true → onBody (w .frames) ≡ true → numberOf (call (Op.Finish kind x) w .answer) ≡ 0
+unfolding call
+finish-call kind x w h p b = finish-zero kind x w (finish kind x w) h p b (finish-case kind x w)
+
+escape-zero : {v : View} {o : After Answer} {who : Option ℕ} {c : ℕ} → Ended v o who → who ≡ some c → numberOf (o .answer) ≡ 0
+escape-zero (e-works t) q = no-some refl q
+escape-zero (e-returns u f fs a chain t r n) q = n
+
+escape-call : (x : ℕ) (pc : OptPc) (w : World) (c : ℕ) → sound w ≡ true → raisedAt (viewOf w) (some x) pc ≡ some c → numberOf (call (Op.Unwind (Fault.Throw x) pc) w .answer) ≡ 0
+unfolding call unwind pick
+escape-call x pc w c h e = escape-zero (word-ended w h x pc) e
+
+accepts-finish : (w : World) (k : Call) (kind : ResultKind) (x : ℕ) → Healthy steps w → opOf k ≡ some (Op.Finish kind x) → plain kind ≡ true → onBody (w .frames) ≡ true → numberOf (step w k .answer) ≡ 0
+accepts-finish w (SetUp s) kind x h e p b = let z : _≡_ {A = ℕ} 0 1 = cc in absurd (omega arith)
+accepts-finish w (Do o) kind x h e p b = ap numberOf (number-sound w o (healthy-sound w h)) ∙ ap (λ q. numberOf (call q w .answer)) (some-op e) ∙ finish-call kind x w (healthy-sound w h) p b
+
+accepts-escape : (w : World) (k : Call) (x : ℕ) (pc : OptPc) (c : ℕ) → Healthy steps w → opOf k ≡ some (Op.Unwind (Fault.Throw x) pc) → raisedAt (viewOf w) (some x) pc ≡ some c → numberOf (step w k .answer) ≡ 0
+accepts-escape w (SetUp s) x pc c h e q = let z : _≡_ {A = ℕ} 0 1 = cc in absurd (omega arith)
+accepts-escape w (Do o) x pc c h e q = ap numberOf (number-sound w o (healthy-sound w h)) ∙ ap (λ p. numberOf (call p w .answer)) (some-op e) ∙ escape-call x pc w c (healthy-sound w h) q
+
+-- ---- not empty: the split that Witness.antt shows as lists
+
+before : List Call
+before = drop 1 (take 13 held)
+
+begins : step (fresh wide) (SetUp wide) .answer ≡ Answer.Accepted
+unfolding computed
+begins = refl
+
+split-met : premises steps c (Engine.run steps (step (fresh wide) (SetUp wide) .world) before) (nth held 13) (between held 13 23) (nth held 23) (between held 23 26) (nth held 26) ≡ true
+unfolding computed before
+split-met = refl
+
+pub not-empty : NotEmpty steps
+not-empty =
+    let p = premises-met steps c (Engine.run steps (step (fresh wide) (SetUp wide) .world) before) (nth held 13) (between held 13 23) (nth held 23) (between held 23 26) (nth held 26) split-met in
+    record {
+      start = fresh wide;
+      first = SetUp wide;
+      accepted = record { sets-up = refl; accepted = ap numberOf begins };
+      before = before;
+      x = nth held 13;
+      waiting = between held 13 23;
+      y = nth held 23;
+      going = between held 23 26;
+      z = nth held 26;
+      c = c;
+      suspends = p .suspends;
+      waits = p .waits;
+      enters = p .enters;
+      goes = p .goes;
+      leaves = p .leaves;
+    }
+
+-- THE PROMISE
+pub promise : Promise steps
+promise = record { demand3 = demand3; events = events; accepts = record { finish = accepts-finish; escape = accepts-escape }; soundness = soundness; not-empty = not-empty }

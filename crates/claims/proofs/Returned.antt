@@ -1,0 +1,308 @@
+-- Returns are exact: the proof.
+use Prim.Native.Nat.{ℕ}
+use native.Mathlib.Omega.{arith}
+use native.Mathlib.Decide.{ℕ-discrete}
+use mathlib.Core.Path.{_≡_, refl, sym, ap, _∙_, subst}
+use mathlib.Core.Logic.{_≢_, _⊎_, inl, inr}
+use mathlib.Core.Bool.{Bool, true, false, _&&_}
+use mathlib.Core.List.{List, [], _∷_}
+use mathlib.Core.Option.{Option, none, some}
+use lib.Dec.{eqb}
+use Rattle.lists.specs.Pick.{pick, pick-true}
+use Rattle.heap.specs.declared.fault.Fault.{Fault}
+use Rattle.heap.specs.declared.heap.ResultKind.{ResultKind}
+use Rattle.heap.specs.declared.object.CoroState.{CoroState}
+use Rattle.model.specs.State.{isCreated, isRunning, isSuspended, isReturned}
+use Rattle.model.specs.Object.{Core}
+use Rattle.model.specs.World.{World, After}
+use Rattle.model.specs.Frames.{isCoro}
+use Rattle.model.specs.Heap.{coro}
+use Rattle.model.specs.Coro.{inState}
+use Rattle.model.specs.Machine.{finish, unwind}
+use Rattle.model.specs.Gate.{refused}
+use Rattle.model.specs.Sound.{sound}
+use Rattle.model.specs.Answer.{numberOf}
+use Rattle.model.specs.Call.{Call, SetUp, Do, Operation, typed, asCall}
+use Rattle.model.specs.Step as M
+use Rattle.model.specs.Step.{call, tested, step, told}
+use Rattle.model.specs.declared.machine.Cont.{Cont}
+use Rattle.model.specs.declared.machine.Active.{Active}
+use Rattle.model.specs.declared.machine.Frame.{Frame}
+use Rattle.model.specs.declared.call.OptPc.{OptPc}
+use Rattle.model.specs.declared.call.Op.{Op}
+use Rattle.model.specs.declared.call.Answer.{Answer}
+use Rattle.claims.specs.Engine as Engine
+use Rattle.claims.specs.Says.{Aim, enter, suspend, neither, Does, instr, hosts, finishes, raises, other, does, doing, Entry, entry, whomBy, whom}
+use Rattle.claims.specs.Held.{By}
+use Rattle.claims.specs.Demand3 as D
+use Rattle.claims.specs.Events as Said
+use Rattle.claims.specs.Events.{Healthy, inmost, isBody, onBody, suspended, returned}
+use Rattle.claims.specs.Steps.{viewOf, opOf, steps}
+use Rattle.claims.proofs.Entry as E
+use Rattle.claims.proofs.Entry.{act, pcBy, entryBy}
+use Rattle.claims.proofs.Suspension.{suspendsIn, takesBy}
+use Rattle.claims.proofs.Held.{coreIn, coreAt}
+use Rattle.claims.proofs.Split.{next, Suspends, Enters}
+use Rattle.claims.proofs.Accepted as A
+use Rattle.claims.proofs.Cores.{no-both, and-left, and-right, Kept, kept, unborn}
+use Rattle.claims.proofs.Shape as S
+use Rattle.claims.proofs.Shape.{View, view, Ends, Worked, done, quiet, tops, puts, pushes, pops, fails, Apart, Shape}
+use Rattle.claims.proofs.Events.{run-born, run-susp, ready-run, suspended-one, no-entry}
+use Rattle.claims.proofs.Sounds.{apart, first-runs}
+use Rattle.claims.proofs.Calls.{shape}
+use Rattle.claims.proofs.Claim as Claim
+use Rattle.claims.proofs.Claim.{StepCase, anew, same, step-case, fresh-absent, next-sound}
+use Rattle.claims.proofs.Acceptance.{exactly, named-enters, suspends-exactly, takes-sound}
+use Rattle.claims.proofs.Views.{is-runs, is-sleeps, is-ended, Alike, l-at, l-host, l-finish, l-raise, l-other, says-alike}
+use Rattle.claims.proofs.Whom as Whom
+use Rattle.claims.proofs.Whom.{whom-told}
+use Rattle.claims.proofs.Restores as Restores
+use Rattle.claims.proofs.Restores.{enters-old, suspends-old}
+use Rattle.claims.proofs.Finishes.{Unmade, FinishCase, f-other, f-returns, finish-case, bodyOn}
+use Rattle.claims.proofs.Escapes.{Ended, e-works, e-returns}
+use Rattle.claims.proofs.Unwinds.{unwind-ended}
+use Rattle.claims.proofs.Exact.{number-sound, no-some, pick-some}
+
+-- ---- one that runs, and is moved, runs or has failed
+
+pub data Going (s : CoroState) : Type 0 where
+  runs : isRunning s ≡ true → Going s
+  failed : s ≡ CoroState.Failed → Going s
+
+run-returned : (s : CoroState) → isRunning s ≡ true → isReturned s ≡ false
+run-returned CoroState.Created e = refl
+run-returned CoroState.Running e = refl
+run-returned CoroState.Yielded e = refl
+run-returned CoroState.Awaiting e = refl
+run-returned CoroState.Returned e = sym e
+run-returned CoroState.Failed e = refl
+
+going-not : {s : CoroState} → Going s → isReturned s ≡ false
+going-not {s} (runs e) = run-returned s e
+going-not (failed e) = ap isReturned e
+
+going-born : {s : CoroState} → Going s → isCreated s ≡ false
+going-born {s} (runs e) = run-born s e
+going-born (failed e) = ap isCreated e
+
+going-kept : {k l : Core} → Kept k l → Going (k .state) → Going (l .state)
+going-kept {k} {l} (kept e) g = subst (λ y. Going (y .state)) (sym e) g
+going-kept (unborn a b) g = no-both a (going-born g)
+
+going-ends : {v c : ℕ} {k l : ℕ → Core} → Ends CoroState.Failed v k l → Going (k c .state) → Going (l c .state)
+going-ends {v} {c} {k} {l} e g = go (ℕ-discrete c v)
+  where
+    mine : (l v ≡ inState CoroState.Failed (k v)) ⊎ ((isCreated (k v .state) ≡ true) × (l v ≡ k v)) → c ≡ v → Going (l c .state)
+    mine (inl x) q = failed (ap (λ y. l y .state) q ∙ ap (λ y. y .state) x)
+    mine (inr x) q = subst (λ y. Going (y .state)) (sym (ap l q ∙ x .1 ∙ ap k (sym q))) g
+
+    go : Dec (c ≡ v) → Going (l c .state)
+    go (yes q) = mine (e .mine) q
+    go (no q) = subst (λ y. Going (y .state)) (sym (e .others c q)) g
+
+going-worked : (c : ℕ) {v z : View} → Worked v z → Going (v .cores c .state) → Going (z .cores c .state)
+going-worked c done g = g
+going-worked c (quiet k q t) g = going-worked c t (going-kept (q c) g)
+going-worked c (tops f e t) g = going-worked c t g
+going-worked c (puts r x t) g = going-worked c t g
+going-worked c (pushes f xs p q t) g = going-worked c t g
+going-worked c (pops f fs p q t) g = going-worked c t g
+going-worked c (fails f fs a chain k p q r e t) g = going-worked c t (going-ends e g)
+
+apart-worked : (c : ℕ) {v z : View} → Worked v z → Apart c (v .chain) → Apart c (z .chain)
+apart-worked c done g = g
+apart-worked c (quiet k q t) g = apart-worked c t g
+apart-worked c (tops f e t) g = apart-worked c t g
+apart-worked c (puts r x t) g = apart-worked c t g
+apart-worked c (pushes f xs p q t) g = apart-worked c t g
+apart-worked c (pops f fs p q t) g = apart-worked c t g
+apart-worked c (fails f fs a chain k p q r e t) g = apart-worked c t (subst (Apart c) r g .1)
+
+-- ---- a call that is no finish and no unwind lets nobody return
+
+no-return : {A : Type 0} {w z : World} {o : Op} (c : ℕ) → Shape w o z → S.isEnding (act w o) ≡ false → isRunning (coreAt w c .state) ≡ true → isReturned (coreAt z c .state) ≡ true → A
+no-return c (S.works e t) n b l = no-both l (going-not (going-worked c t (runs b)))
+no-return {A} {w} {z} c (S.enters u d sent e t) n b l = go (ℕ-discrete c u)
+  where
+    go : Dec (c ≡ u) → A
+    go (yes q) = no-both b (ap (λ x. isRunning (coreAt w x .state)) q ∙ ready-run (coreAt w u .state) (t .ready))
+    go (no q) = no-both l (ap (λ x. isReturned (x .state)) (t .others c q) ∙ run-returned (coreAt w c .state) b)
+no-return {A} {w} {z} c (S.suspended p ok s dst x a chain e q t) n b l = go (ℕ-discrete c (a .coro))
+  where
+    slept : (s : CoroState) → isSuspended s ≡ true → isReturned s ≡ false
+    slept CoroState.Created h = refl
+    slept CoroState.Running h = refl
+    slept CoroState.Yielded h = refl
+    slept CoroState.Awaiting h = refl
+    slept CoroState.Returned h = sym h
+    slept CoroState.Failed h = refl
+
+    go : Dec (c ≡ a .coro) → A
+    go (yes y) = no-both l (ap (λ u. isReturned (coreAt z u .state)) y ∙ ap (λ k. isReturned (k .state)) (t .mine) ∙ slept s (t .asleep))
+    go (no y) = no-both l (going-not (going-kept (t .others c y) (runs b)))
+no-return c (S.returns v x f fs a chain e en g t u) n b l = no-both en n
+no-return {A} {w} {z} c (S.stops e t) n b l = go (t .each c)
+  where
+    go : (Apart c (w .chain) × (coreAt z c ≡ coreAt w c)) ⊎ ((coreAt z c .state ≡ CoroState.Failed) ⊎ ((isCreated (coreAt w c .state) ≡ true) × (coreAt z c ≡ coreAt w c))) → A
+    go (inl x) = no-both l (ap (λ y. isReturned (y .state)) (x .1) ∙ run-returned (coreAt w c .state) b)
+    go (inr (inl x)) = no-both l (ap isReturned x)
+    go (inr (inr x)) = no-both (x .0) (run-born (coreAt w c .state) b)
+
+-- ---- by an unwind
+
+ended-who : (w : World) (c : ℕ) {o : After Answer} {who : Option ℕ} → Ended (view w) o who → isRunning (coreAt w c .state) ≡ true → isReturned (coreAt (o .world) c .state) ≡ true → who ≡ some c
+ended-who w c (e-works t) b l = no-both l (going-not (going-worked c t (runs b)))
+ended-who w c {o} (e-returns u f fs a chain t r n) b l = go (ℕ-discrete c (a .coro))
+  where
+    go : Dec (c ≡ a .coro) → some (a .coro) ≡ some c
+    go (yes q) = ap {B = Option ℕ} some (sym q)
+    go (no q) = no-both l (ap (λ y. isReturned (y .state)) (r .ends .others c q) ∙ going-not (going-worked c t (runs b)))
+
+-- whoever is named ran, and has returned
+pub record Has (w : World) (c : ℕ) (z : World) : Type 0 where
+  pub before : isRunning (coreAt w c .state) ≡ true
+  pub after : isReturned (coreAt z c .state) ≡ true
+
+some-one : {a c : ℕ} → _≡_ {A = Option ℕ} (some a) (some c) → a ≡ c
+some-one e = cc
+
+ended-has : (w : World) → sound w ≡ true → (c : ℕ) {o : After Answer} {who : Option ℕ} → Ended (view w) o who → who ≡ some c → Has w c (o .world)
+ended-has w h c (e-works t) q = no-some refl q
+ended-has w h c {o} (e-returns u f fs a chain t r n) q = go (isRunning (coreAt w c .state)) refl
+  where
+    its : a .coro ≡ c
+    its = some-one q
+
+    ends : Going (u .cores (a .coro) .state) → (coreAt (o .world) (a .coro) ≡ inState CoroState.Returned (u .cores (a .coro))) ⊎ ((isCreated (u .cores (a .coro) .state) ≡ true) × (coreAt (o .world) (a .coro) ≡ u .cores (a .coro))) → isReturned (coreAt (o .world) c .state) ≡ true
+    ends g (inl x) = ap (λ y. isReturned (coreAt (o .world) y .state)) (sym its) ∙ ap (λ y. isReturned (y .state)) x
+    ends g (inr x) = no-both (x .0) (going-born g)
+
+    go : (b : Bool) → isRunning (coreAt w c .state) ≡ b → Has w c (o .world)
+    go true b = record { before = b; after = ends (subst (λ y. Going (u .cores y .state)) (sym its) (going-worked c t (runs b))) (r .ends .mine) }
+    go false b = absurd (subst (Apart c) (r .inmost) (apart-worked c t (apart w h c b)) .0 (sym its))
+
+-- ---- by a finish
+
+body-coro : (c : Cont) → isBody c ≡ isCoro c
+body-coro Cont.Entry = refl
+body-coro (Cont.Write r) = refl
+body-coro (Cont.Dyn r) = refl
+body-coro (Cont.Value r) = refl
+body-coro Cont.Discard = refl
+body-coro Cont.Coro = refl
+
+pub on-body : (fs : List Frame) → onBody fs ≡ bodyOn fs
+on-body [] = refl
+on-body (f ∷ fs) = body-coro (f .cont)
+
+both-true : {a b : Bool} → a ≡ true → b ≡ true → (a && b) ≡ true
+both-true p q = λ i. p i && q i
+
+finish-who : (kind : ResultKind) (x : ℕ) (w : World) (c : ℕ) (o : After Answer) → isRunning (coreAt w c .state) ≡ true → isReturned (coreAt (o .world) c .state) ≡ true → FinishCase kind x w o → returned (viewOf w) (finishes kind x) (numberOf (o .answer)) ≡ some c
+finish-who kind x w c o b l (f-other e n) = no-both l (ap (λ k. isReturned (coreIn k .state)) (e c) ∙ run-returned (coreAt w c .state) b)
+finish-who kind x w c o b l (f-returns f fs a chain y p q r m n ends tells) = go (ℕ-discrete c (a .coro))
+  where
+    go : Dec (c ≡ a .coro) → returned (viewOf w) (finishes kind x) (numberOf (o .answer)) ≡ some c
+    go (yes h) = (λ i. pick (both-true (ap (λ t. eqb t 0) n) (ap onBody p ∙ body-coro (f .cont) ∙ q) i) (inmost (r i)) none) ∙ pick-true (some (a .coro)) none ∙ ap {B = Option ℕ} some (sym h)
+    go (no h) = no-both l (ap (λ k. isReturned (k .state)) (ends .others c h) ∙ run-returned (coreAt w c .state) b)
+
+finish-has : (kind : ResultKind) (x : ℕ) (w : World) → sound w ≡ true → (c : ℕ) (o : After Answer) → returned (viewOf w) (finishes kind x) (numberOf (o .answer)) ≡ some c → FinishCase kind x w o → Has w c (o .world)
+finish-has kind x w h c o e (f-other all why) = go why
+  where
+    t : ((eqb (numberOf (o .answer)) 0 && onBody (w .frames)) ≡ true) × (inmost (w .chain) ≡ some c)
+    t = pick-some (eqb (numberOf (o .answer)) 0 && onBody (w .frames)) (inmost (w .chain)) c e
+
+    go : (bodyOn (w .frames) ≡ false) ⊎ ((w .chain ≡ []) ⊎ Unmade kind x w o) → Has w c (o .world)
+    go (inl q) = no-both (and-right (eqb (numberOf (o .answer)) 0) (onBody (w .frames)) (t .0)) (on-body (w .frames) ∙ q)
+    go (inr (inl q)) = no-some (ap inmost q) (t .1)
+    go (inr (inr q)) = no-both (and-left (eqb (numberOf (o .answer)) 0) (onBody (w .frames)) (t .0)) (q .numbered)
+finish-has kind x w h c o e (f-returns f fs a chain y p q r m n ends tells) = record { before = ap (λ u. isRunning (coreAt w u .state)) (sym its) ∙ ran; after = ap (λ u. isReturned (coreAt (o .world) u .state)) (sym its) ∙ go (ends .mine) }
+  where
+    its : a .coro ≡ c
+    its = some-one (sym (ap inmost r) ∙ pick-some (eqb (numberOf (o .answer)) 0 && onBody (w .frames)) (inmost (w .chain)) c e .1)
+
+    ran : isRunning (coreAt w (a .coro) .state) ≡ true
+    ran = first-runs w h a chain r
+
+    go : (coreAt (o .world) (a .coro) ≡ inState CoroState.Returned (coreAt w (a .coro))) ⊎ ((isCreated (coreAt w (a .coro) .state) ≡ true) × (coreAt (o .world) (a .coro) ≡ coreAt w (a .coro))) → isReturned (coreAt (o .world) (a .coro) .state) ≡ true
+    go (inl k) = ap (λ y. isReturned (y .state)) k
+    go (inr k) = no-both (k .0) (run-born (coreAt w (a .coro) .state) ran)
+
+-- ---- every call
+
+call-who : (w : World) → sound w ≡ true → (o : Op) (c : ℕ) → isRunning (coreAt w c .state) ≡ true → isReturned (coreAt (call o w .world) c .state) ≡ true → returned (viewOf w) (does (viewOf w) o) (numberOf (call o w .answer)) ≡ some c
+unfolding call
+call-who w h (Op.CoroNew pc dst f argc) c b l = no-return c (shape w (Op.CoroNew pc dst f argc)) refl b l
+call-who w h (Op.CoroNewIndirect pc dst callee argc) c b l = no-return c (shape w (Op.CoroNewIndirect pc dst callee argc)) refl b l
+call-who w h (Op.Spawn pc dst callee argc) c b l = no-return c (shape w (Op.Spawn pc dst callee argc)) refl b l
+call-who w h (Op.Yield pc dst src) c b l = no-return c (shape w (Op.Yield pc dst src)) refl b l
+call-who w h (Op.YieldKv pc dst src key) c b l = no-return c (shape w (Op.YieldKv pc dst src key)) refl b l
+call-who w h (Op.Await pc dst src) c b l = no-return c (shape w (Op.Await pc dst src)) refl b l
+call-who w h (Op.Resume pc dst u src) c b l = no-return c (shape w (Op.Resume pc dst u src)) refl b l
+call-who w h (Op.ResumeThrow pc dst u src) c b l = no-return c (shape w (Op.ResumeThrow pc dst u src)) refl b l
+call-who w h (Op.CoroClose pc dst u src) c b l = no-return c (shape w (Op.CoroClose pc dst u src)) refl b l
+call-who w h (Op.CoroStatus pc dst u) c b l = no-return c (shape w (Op.CoroStatus pc dst u)) refl b l
+call-who w h (Op.CoroCurrent pc dst) c b l = no-return c (shape w (Op.CoroCurrent pc dst)) refl b l
+call-who w h (Op.CoroKey pc dst u) c b l = no-return c (shape w (Op.CoroKey pc dst u)) refl b l
+call-who w h (Op.CoroResult pc dst u) c b l = no-return c (shape w (Op.CoroResult pc dst u)) refl b l
+call-who w h (Op.IterNext pc has iter val src) c b l = no-return c (shape w (Op.IterNext pc has iter val src)) refl b l
+call-who w h (Op.Finish kind x) c b l = finish-who kind x w c (finish kind x w) b l (finish-case kind x w)
+call-who w h (Op.Unwind f pc) c b l = ended-who w c (unwind-ended w h f pc) b l
+call-who w h (Op.SpawnTask x) c b l = no-return c (shape w (Op.SpawnTask x)) refl b l
+call-who w h (Op.HostCall f) c b l = no-return c (shape w (Op.HostCall f)) refl b l
+call-who w h (Op.HostEntry u x) c b l = no-return c (shape w (Op.HostEntry u x)) refl b l
+call-who w h (Op.FunctionCall pc f cont) c b l = no-return c (shape w (Op.FunctionCall pc f cont)) refl b l
+call-who w h (Op.PutWord r x) c b l = no-return c (shape w (Op.PutWord r x)) refl b l
+call-who w h (Op.MakeIterator x) c b l = no-return c (shape w (Op.MakeIterator x)) refl b l
+call-who w h Op.TakeOutcome c b l = no-return c (shape w Op.TakeOutcome) refl b l
+call-who w h (Op.HandOver x) c b l = no-return c (shape w (Op.HandOver x)) refl b l
+call-who w h (Op.Grant n) c b l = no-return c (shape w (Op.Grant n)) refl b l
+call-who w h Op.StopRun c b l = no-return c (shape w Op.StopRun) refl b l
+call-who w h Op.Look c b l = no-return c (shape w Op.Look) refl b l
+
+call-has : (w : World) → sound w ≡ true → (o : Op) (c : ℕ) → returned (viewOf w) (does (viewOf w) o) (numberOf (call o w .answer)) ≡ some c → Has w c (call o w .world)
+unfolding call
+call-has w h (Op.CoroNew pc dst f argc) c e = no-some refl e
+call-has w h (Op.CoroNewIndirect pc dst callee argc) c e = no-some refl e
+call-has w h (Op.Spawn pc dst callee argc) c e = no-some refl e
+call-has w h (Op.Yield pc dst src) c e = no-some refl e
+call-has w h (Op.YieldKv pc dst src key) c e = no-some refl e
+call-has w h (Op.Await pc dst src) c e = no-some refl e
+call-has w h (Op.Resume pc dst u src) c e = no-some refl e
+call-has w h (Op.ResumeThrow pc dst u src) c e = no-some refl e
+call-has w h (Op.CoroClose pc dst u src) c e = no-some refl e
+call-has w h (Op.CoroStatus pc dst u) c e = no-some refl e
+call-has w h (Op.CoroCurrent pc dst) c e = no-some refl e
+call-has w h (Op.CoroKey pc dst u) c e = no-some refl e
+call-has w h (Op.CoroResult pc dst u) c e = no-some refl e
+call-has w h (Op.IterNext pc has iter val src) c e = no-some refl e
+call-has w h (Op.Finish kind x) c e = finish-has kind x w h c (finish kind x w) e (finish-case kind x w)
+call-has w h (Op.Unwind f pc) c e = ended-has w h c (unwind-ended w h f pc) e
+call-has w h (Op.SpawnTask x) c e = no-some refl e
+call-has w h (Op.HostCall f) c e = no-some refl e
+call-has w h (Op.HostEntry u x) c e = no-some refl e
+call-has w h (Op.FunctionCall pc f cont) c e = no-some refl e
+call-has w h (Op.PutWord r x) c e = no-some refl e
+call-has w h (Op.MakeIterator x) c e = no-some refl e
+call-has w h Op.TakeOutcome c e = no-some refl e
+call-has w h (Op.HandOver x) c e = no-some refl e
+call-has w h (Op.Grant n) c e = no-some refl e
+call-has w h Op.StopRun c e = no-some refl e
+call-has w h Op.Look c e = no-some refl e
+
+pub returns : (c : ℕ) (w : World) (k : Call) → D.Returns steps c w k → returned (viewOf w) (doing (viewOf w) (opOf k)) (numberOf (step w k .answer)) ≡ some c
+returns c w k g = go (next w k) (step-case w k) (sym (is-ended (next w k) c) ∙ g .after)
+  where
+    ran : isRunning (coreAt w c .state) ≡ true
+    ran = sym (is-runs w c) ∙ g .before
+
+    go : {k : Call} (z : World) → StepCase w k z → isReturned (coreAt z c .state) ≡ true → returned (viewOf w) (doing (viewOf w) (opOf k)) (numberOf (step w k .answer)) ≡ some c
+    go z (anew s e) a = no-both a (ap (λ x. isReturned (coreIn x .state)) (fresh-absent s c))
+    go z (same k e) a = no-both a (run-returned (coreAt w c .state) ran)
+    go z (Claim.does o e) a = ap (λ y. returned (viewOf w) (does (viewOf w) (o .op)) (numberOf y)) (number-sound w o e) ∙ call-who w e (o .op) c ran a
+
+pub returned-by : (c : ℕ) (w : World) (k : Call) → sound w ≡ true → returned (viewOf w) (doing (viewOf w) (opOf k)) (numberOf (step w k .answer)) ≡ some c → D.Returns steps c w k
+returned-by c w (SetUp s) h e = no-some refl e
+returned-by c w (Do o) h e =
+    let t = call-has w h (o .op) c (ap (λ y. returned (viewOf w) (does (viewOf w) (o .op)) (numberOf y)) (sym (number-sound w o h)) ∙ e) in
+    record { before = is-runs w c ∙ t .before; after = is-ended (next w (Do o)) c ∙ ap (λ y. isReturned (coreAt y c .state)) (next-sound w o h) ∙ t .after }

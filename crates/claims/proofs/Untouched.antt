@@ -1,0 +1,199 @@
+-- Demand 3's second half in the claim's words: what lay below an entry is left as it was, but for the delivery.
+use Prim.Native.Nat.{ℕ}
+use native.Mathlib.Decide.{ℕ-discrete}
+use mathlib.Core.Path.{_≡_, refl, sym, ap, _∙_}
+use mathlib.Core.Logic.{_⊎_, inl, inr}
+use mathlib.Core.Bool.{Bool, true, false}
+use mathlib.Core.List.{List, [], _∷_}
+use mathlib.Core.Option.{some}
+use Rattle.lists.specs.Pick.{pick}
+use Rattle.heap.specs.declared.heap.ResultKind.{ResultKind}
+use Rattle.heap.specs.declared.object.CoroState.{CoroState}
+use Rattle.model.specs.State.{isCreated, isRunning, isAwaiting}
+use Rattle.model.specs.Object.{Core, Coroutine, Absent, Is}
+use Rattle.model.specs.World.{World, After}
+use Rattle.model.specs.Frames.{onTop, stepPc, putAt}
+use Rattle.model.specs.Heap.{coro, toDyn}
+use Rattle.model.specs.Coro.{inState}
+use Rattle.model.specs.Sound.{marked}
+use Rattle.model.specs.Machine.{finish}
+use Rattle.model.specs.Call.{Call, SetUp, Do}
+use Rattle.model.specs.Step as M
+use Rattle.model.specs.Step.{call}
+use Rattle.model.specs.declared.machine.Driver.{Driver}
+use Rattle.model.specs.declared.machine.Frame.{Frame}
+use Rattle.model.specs.declared.coro.Made.{Made}
+use Rattle.model.specs.declared.call.Op.{Op}
+use Rattle.model.specs.declared.call.Answer.{Answer}
+use Rattle.claims.specs.Engine.{Seen, View, run, seenIn}
+use Rattle.claims.specs.Says.{Does, does, doing}
+use Rattle.claims.specs.Held.{at, into, By}
+use Rattle.claims.specs.Delivery as Y
+use Rattle.claims.specs.Delivery.{recorded, resultOf, Memory, memory, onward, deliver, Left}
+use Rattle.claims.specs.Demand3 as D
+use Rattle.claims.specs.Steps.{seenOf, viewOf, opOf, steps}
+use Rattle.claims.proofs.Entry as E
+use Rattle.claims.proofs.Entry.{act, pcBy, driverOf, entryOf}
+use Rattle.claims.proofs.Held.{coreIn, coreAt, Event, Yields, Awaits, Ignores, Returns, madeWord, eventAs, eventBy, eventOf, Mem, mem, deliverTo, calling}
+use Rattle.claims.proofs.Split.{next, hasLeft, Enters, Leaves, restarts, Goes}
+use Rattle.claims.proofs.Cores.{no-both}
+use Rattle.claims.proofs.Events.{run-born, no-entry}
+use Rattle.claims.proofs.Shape.{Ends}
+use Rattle.claims.proofs.Finishes.{FinishCase, f-other, f-returns, finish-case}
+use Rattle.claims.proofs.Claim as Claim
+use Rattle.claims.proofs.Claim.{StepCase, anew, same, step-case, fresh-absent, run-left, Entering, entering}
+use Rattle.claims.proofs.Views.{is-runs, is-left, Alike, l-at, l-host, l-finish, l-raise, l-other, says-alike}
+use Rattle.claims.proofs.Bodies.{at-top}
+use Rattle.claims.proofs.Restores.{enters-old, restarts-old, entry-by}
+
+-- ---- events
+
+pub leaves-old : (c : ℕ) (w : World) (k : Call) → D.Leaves steps c w k → Leaves c w k
+leaves-old c w k h = record { before = sym (is-runs w c) ∙ h .before; after = sym (is-left (next w k) c) ∙ h .after }
+
+goes-old : (c : ℕ) (w : World) (ks : List Call) → D.Goes steps c w ks → Goes c w ks
+goes-old c w [] h = tt
+goes-old c w (k ∷ ks) h = (restarts-old w k (h .0), (λ e. h .1 (record { before = is-runs w c ∙ e .before; after = is-left (next w k) c ∙ e .after })), goes-old c (next w k) ks (h .2))
+
+-- ---- the delivery
+
+abbrev eventTo : Event → Y.Event
+eventTo (Yields x) = Y.Yields x
+eventTo (Awaits x) = Y.Awaits x
+eventTo Ignores = Y.Ignores
+eventTo (Returns x) = Y.Returns x
+
+put-into : (fs : List Frame) (r x : ℕ) (xs : List ℕ) → putAt fs r x xs ≡ into fs r x xs
+put-into [] r x xs = refl
+put-into (f ∷ fs) r x xs = refl
+
+step-onward : (fs : List Frame) → onTop stepPc fs ≡ onward fs
+step-onward [] = refl
+step-onward (f ∷ fs) = refl
+
+abbrev memoryOf : Mem → Memory
+memoryOf m = memory (m .stack) (m .frames)
+
+deliver-alike : (d : Driver) (e : Event) (m : Mem) → memoryOf (deliverTo d e m) ≡ deliver d (eventTo e) (memoryOf m)
+deliver-alike (Driver.Resume r) (Yields x) m = λ i. memory (put-into (m .frames) r x (m .stack) i) (step-onward (m .frames) i)
+deliver-alike (Driver.Resume r) (Awaits x) m = λ i. memory (put-into (m .frames) r x (m .stack) i) (step-onward (m .frames) i)
+deliver-alike (Driver.Resume r) Ignores m = refl
+deliver-alike (Driver.Resume r) (Returns x) m = λ i. memory (put-into (m .frames) r x (m .stack) i) (step-onward (m .frames) i)
+deliver-alike (Driver.Iter has val iter) (Yields x) m = λ i. memory ((put-into (m .frames) has 1 (putAt (m .frames) val x (m .stack)) ∙ ap (into (m .frames) has 1) (put-into (m .frames) val x (m .stack))) i) (step-onward (m .frames) i)
+deliver-alike (Driver.Iter has val iter) (Awaits x) m = refl
+deliver-alike (Driver.Iter has val iter) Ignores m = refl
+deliver-alike (Driver.Iter has val iter) (Returns x) m = λ i. memory (put-into (m .frames) has 0 (m .stack) i) (step-onward (m .frames) i)
+deliver-alike Driver.Host e m = refl
+deliver-alike Driver.Finalize e m = refl
+
+-- ---- what is given
+
+event-pick : (b : Bool) (x y : Event) → pick b (eventTo x) (eventTo y) ≡ eventTo (pick b x y)
+unfolding pick
+event-pick true x y = refl
+event-pick false x y = refl
+
+closing-seen : (k : Coroutine) → seenIn (λ x. x .closing) (seenOf k) ≡ marked (λ r. r .closing) k
+closing-seen Absent = refl
+closing-seen (Is k r) = refl
+
+abbrev isFinish : E.Act → Bool
+isFinish (E.at pc ok a) = false
+isFinish (E.byHost c x) = false
+isFinish (E.finishes kind x) = true
+isFinish E.unwinds = false
+isFinish E.other = false
+
+event-alike : (v : World) (c : ℕ) (z : View) {a : E.Act} {d : Does} → isFinish a ≡ false → Alike a d → Y.eventOf (viewOf v) d c z ≡ eventTo (eventBy a v c)
+event-alike v c z n (l-at pc ok (E.enters u d x may)) = refl
+event-alike v c z n (l-at pc ok (E.suspends s dst x)) =
+    let b = marked (λ r. r .closing) (coro v c) in
+    ap (λ t. pick (isAwaiting s) (Y.Awaits x) (pick t Y.Ignores (Y.Yields x))) (closing-seen (coro v c))
+    ∙ ap (pick (isAwaiting s) (Y.Awaits x)) (event-pick b Ignores (Yields x)) ∙ event-pick (isAwaiting s) (Awaits x) (pick b Ignores (Yields x))
+event-alike v c z n (l-at pc ok E.neither) = refl
+event-alike v c z n (l-host u x) = refl
+event-alike v c z n (l-finish kind x) = no-both refl n
+event-alike v c z n (l-raise f pc) = refl
+event-alike v c z n l-other = refl
+
+-- who leaves by a finish returns, and has recorded its result
+result-alike : (kind : ResultKind) (x : ℕ) (v : World) (r : ℕ) → ((y : ℕ) → toDyn kind x v .answer ≡ Made.Word y → r ≡ y) → (y : ℕ) → toDyn kind x v .answer ≡ Made.Word y → resultOf kind x r ≡ madeWord (toDyn kind x v .answer)
+unfolding toDyn
+result-alike ResultKind.None x v r h y e = refl
+result-alike ResultKind.Dyn x v r h y e = refl
+result-alike ResultKind.I64 x v r h y e = h y e ∙ ap madeWord (sym e)
+result-alike ResultKind.U64 x v r h y e = h y e ∙ ap madeWord (sym e)
+
+one-made : {m : Made} {x y : ℕ} → m ≡ Made.Word x → m ≡ Made.Word y → x ≡ y
+one-made p q = ap madeWord (sym p ∙ q)
+
+finish-event : (kind : ResultKind) (x : ℕ) (v : World) (c : ℕ) (o : After Answer) → isRunning (coreAt v c .state) ≡ true → hasLeft (coreAt (o .world) c .state) ≡ true → FinishCase kind x v o → resultOf kind x (recorded (seenOf (coro (o .world) c))) ≡ madeWord (toDyn kind x v .answer)
+finish-event kind x v c o b l (f-other e n) = no-both l (run-left (coreAt (o .world) c .state) (ap (λ k. isRunning (coreIn k .state)) (e c) ∙ b))
+finish-event kind x v c o b l (f-returns f fs a chain y p q r m n ends tells) = go (ℕ-discrete c (a .coro))
+  where
+    go : Dec (c ≡ a .coro) → resultOf kind x (recorded (seenOf (coro (o .world) c))) ≡ madeWord (toDyn kind x v .answer)
+    go (yes h) = result-alike kind x v (recorded (seenOf (coro (o .world) c))) (λ t g. ap (λ u. recorded (seenOf (coro (o .world) u))) h ∙ tells (ap (λ u. isRunning (coreAt v u .state)) (sym h) ∙ b) ∙ one-made m g) y m
+    go (no h) = no-both l (run-left (coreAt (o .world) c .state) (ap (λ k. isRunning (k .state)) (ends .others c h) ∙ b))
+
+event-told : (v : World) (o : Op) (c : ℕ) → isRunning (coreAt v c .state) ≡ true → hasLeft (coreAt (call o v .world) c .state) ≡ true → Y.eventOf (viewOf v) (does (viewOf v) o) c (viewOf (call o v .world)) ≡ eventTo (eventBy (act v o) v c)
+unfolding call
+event-told v (Op.CoroNew pc dst f argc) c b l = event-alike v c (viewOf (call (Op.CoroNew pc dst f argc) v .world)) refl (says-alike v (Op.CoroNew pc dst f argc))
+event-told v (Op.CoroNewIndirect pc dst callee argc) c b l = event-alike v c (viewOf (call (Op.CoroNewIndirect pc dst callee argc) v .world)) refl (says-alike v (Op.CoroNewIndirect pc dst callee argc))
+event-told v (Op.Spawn pc dst callee argc) c b l = event-alike v c (viewOf (call (Op.Spawn pc dst callee argc) v .world)) refl (says-alike v (Op.Spawn pc dst callee argc))
+event-told v (Op.Yield pc dst src) c b l = event-alike v c (viewOf (call (Op.Yield pc dst src) v .world)) refl (says-alike v (Op.Yield pc dst src))
+event-told v (Op.YieldKv pc dst src key) c b l = event-alike v c (viewOf (call (Op.YieldKv pc dst src key) v .world)) refl (says-alike v (Op.YieldKv pc dst src key))
+event-told v (Op.Await pc dst src) c b l = event-alike v c (viewOf (call (Op.Await pc dst src) v .world)) refl (says-alike v (Op.Await pc dst src))
+event-told v (Op.Resume pc dst u src) c b l = event-alike v c (viewOf (call (Op.Resume pc dst u src) v .world)) refl (says-alike v (Op.Resume pc dst u src))
+event-told v (Op.ResumeThrow pc dst u src) c b l = event-alike v c (viewOf (call (Op.ResumeThrow pc dst u src) v .world)) refl (says-alike v (Op.ResumeThrow pc dst u src))
+event-told v (Op.CoroClose pc dst u src) c b l = event-alike v c (viewOf (call (Op.CoroClose pc dst u src) v .world)) refl (says-alike v (Op.CoroClose pc dst u src))
+event-told v (Op.CoroStatus pc dst u) c b l = event-alike v c (viewOf (call (Op.CoroStatus pc dst u) v .world)) refl (says-alike v (Op.CoroStatus pc dst u))
+event-told v (Op.CoroCurrent pc dst) c b l = event-alike v c (viewOf (call (Op.CoroCurrent pc dst) v .world)) refl (says-alike v (Op.CoroCurrent pc dst))
+event-told v (Op.CoroKey pc dst u) c b l = event-alike v c (viewOf (call (Op.CoroKey pc dst u) v .world)) refl (says-alike v (Op.CoroKey pc dst u))
+event-told v (Op.CoroResult pc dst u) c b l = event-alike v c (viewOf (call (Op.CoroResult pc dst u) v .world)) refl (says-alike v (Op.CoroResult pc dst u))
+event-told v (Op.IterNext pc has iter val src) c b l = event-alike v c (viewOf (call (Op.IterNext pc has iter val src) v .world)) refl (says-alike v (Op.IterNext pc has iter val src))
+event-told v (Op.Finish kind x) c b l = ap Y.Returns (finish-event kind x v c (finish kind x v) b l (finish-case kind x v))
+event-told v (Op.Unwind f pc) c b l = event-alike v c (viewOf (call (Op.Unwind f pc) v .world)) refl (says-alike v (Op.Unwind f pc))
+event-told v (Op.SpawnTask x) c b l = event-alike v c (viewOf (call (Op.SpawnTask x) v .world)) refl (says-alike v (Op.SpawnTask x))
+event-told v (Op.HostCall f) c b l = event-alike v c (viewOf (call (Op.HostCall f) v .world)) refl (says-alike v (Op.HostCall f))
+event-told v (Op.HostEntry u x) c b l = event-alike v c (viewOf (call (Op.HostEntry u x) v .world)) refl (says-alike v (Op.HostEntry u x))
+event-told v (Op.FunctionCall pc f cont) c b l = event-alike v c (viewOf (call (Op.FunctionCall pc f cont) v .world)) refl (says-alike v (Op.FunctionCall pc f cont))
+event-told v (Op.PutWord q x) c b l = event-alike v c (viewOf (call (Op.PutWord q x) v .world)) refl (says-alike v (Op.PutWord q x))
+event-told v (Op.MakeIterator x) c b l = event-alike v c (viewOf (call (Op.MakeIterator x) v .world)) refl (says-alike v (Op.MakeIterator x))
+event-told v Op.TakeOutcome c b l = event-alike v c (viewOf (call Op.TakeOutcome v .world)) refl (says-alike v Op.TakeOutcome)
+event-told v (Op.HandOver x) c b l = event-alike v c (viewOf (call (Op.HandOver x) v .world)) refl (says-alike v (Op.HandOver x))
+event-told v (Op.Grant n) c b l = event-alike v c (viewOf (call (Op.Grant n) v .world)) refl (says-alike v (Op.Grant n))
+event-told v Op.StopRun c b l = event-alike v c (viewOf (call Op.StopRun v .world)) refl (says-alike v Op.StopRun)
+event-told v Op.Look c b l = event-alike v c (viewOf (call Op.Look v .world)) refl (says-alike v Op.Look)
+
+event-of : (v : World) (k : Call) (c : ℕ) → Leaves c v k → Y.eventOf (viewOf v) (doing (viewOf v) (opOf k)) c (viewOf (next v k)) ≡ eventTo (eventOf v k c)
+event-of v k c h = go (next v k) (step-case v k) (h .after)
+  where
+    go : {k : Call} (z : World) → StepCase v k z → hasLeft (coreAt z c .state) ≡ true → Y.eventOf (viewOf v) (doing (viewOf v) (opOf k)) c (viewOf z) ≡ eventTo (eventOf v k c)
+    go z (anew s e) a = refl
+    go z (same k e) a = no-both a (run-left (coreAt v c .state) (h .before))
+    go z (Claim.does o e) a = event-told v (o .op) c (h .before) a
+
+-- THE SECOND HALF
+untouched-as : (c : ℕ) (w : World) (y : Call) (v : World) (l : Call) (z : World) → Entering c w y (next w y) → mem (z .stack) (z .frames) ≡ deliverTo (driverOf (entryOf w y)) (eventOf v l c) (mem (w .stack) (calling w y)) → z .chain ≡ w .chain
+    → Y.eventOf (viewOf v) (doing (viewOf v) (opOf l)) c (viewOf z) ≡ eventTo (eventOf v l c) → Left (viewOf w) (opOf y) c (viewOf v) (opOf l) (viewOf z)
+unfolding entry-by
+untouched-as c w (SetUp s) v l z t p q g = no-entry refl (t .by)
+untouched-as c w (Do o) v l z t p q g =
+    record {
+      by = entry-by c w (Do o) (next w (Do o)) t;
+      under = ap memoryOf p ∙ deliver-alike (driverOf (entryOf w (Do o))) (eventOf v l c) (mem (w .stack) (calling w (Do o)))
+          ∙ (λ i. deliver (ap driverOf (t .by) i) (sym g i) (memory (w .stack) (at-top (pcBy (act w (o .op))) (w .frames) i)));
+      chain = q;
+    }
+
+pub untouched : (c : ℕ) (w : World) (y : Call) (going : List Call) (l : Call) → D.Enters steps c w y → D.Goes steps c (next w y) going
+    → let v = run steps (next w y) going in D.Leaves steps c v l → Left (viewOf w) (opOf y) c (viewOf v) (opOf l) (viewOf (next v l))
+untouched c w y going l h q e =
+    let x = Claim.untouched c w y going l (enters-old c w y h) (goes-old c (next w y) going q) left in
+    untouched-as c w y v l (next v l) (entering c w y (enters-old c w y h)) (x .under) (x .chain) (event-of v l c left)
+  where
+    v : World
+    v = M.run (next w y) going
+
+    left : Leaves c v l
+    left = leaves-old c v l e

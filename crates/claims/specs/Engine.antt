@@ -1,0 +1,97 @@
+-- An engine, and what is seen of it. All that is claimed here is claimed of an engine, whatever it is made of: it cites types and
+-- list functions, and no rule of a machine.
+use Prim.Native.Nat.{ℕ}
+use mathlib.Core.Bool.{Bool, false, _||_}
+use mathlib.Core.List.{List, [], _∷_}
+use mathlib.Core.Option.{Option, none, some}
+use lib.Dec.{eqb}
+use Rattle.heap.specs.declared.object.CoroState.{CoroState}
+use Rattle.model.specs.declared.program.Handler.{Handler}
+use Rattle.model.specs.declared.machine.Frame.{Frame}
+use Rattle.model.specs.declared.machine.Active.{Active}
+use Rattle.model.specs.declared.machine.Fuel.{Fuel}
+use Rattle.model.specs.declared.call.Op.{Op}
+
+-- what is seen of a coroutine
+pub record Seen : Type 0 where
+  pub state : CoroState
+  -- how many words and frames it has saved
+  pub words : ℕ
+  pub frames : ℕ
+  -- whether it is being closed, and by which word
+  pub closing : Bool
+  pub signal : ℕ
+  -- what it returned
+  pub result : ℕ
+
+-- what is seen of a machine
+pub record View : Type 0 where
+  -- from the bottom up
+  pub stack : List ℕ
+  -- from the top down; so are the running coroutines
+  pub frames : List Frame
+  pub chain : List Active
+  -- the coroutine that a word names
+  pub coro : ℕ → Option Seen
+  -- whether a word names an iterator that is done
+  pub done : ℕ → Bool
+  -- the coroutines that wait for a cleanup
+  pub queue : List ℕ
+  pub fuel : Fuel
+  -- the most frames, and the most words of the stack
+  pub depth : ℕ
+  pub height : ℕ
+  -- how many functions there are, and the handlers of each
+  pub functions : ℕ
+  pub handlers : ℕ → List Handler
+  -- the word that the next object gets
+  pub fresh : ℕ
+
+pub record Engine : Type 1 where
+  pub State : Type 0
+  pub Call : Type 0
+  -- a call is one of 01's operations, or a set-up
+  pub op : Call → Option Op
+  pub view : State → View
+  pub next : State → Call → State
+  -- 01: the number that it answers
+  pub number : State → Call → ℕ
+
+abbrev pub run : (e : Engine) → e .State → List (e .Call) → e .State
+run e s [] = s
+run e s (k ∷ ks) = run e (e .next s k) ks
+
+-- ---- states
+
+-- 01: "State codes"
+abbrev pub code : CoroState → ℕ
+code CoroState.Created = 0
+code CoroState.Running = 1
+code CoroState.Yielded = 2
+code CoroState.Awaiting = 3
+code CoroState.Returned = 4
+code CoroState.Failed = 5
+
+abbrev pub isNew : CoroState → Bool
+isNew s = eqb (code s) 0
+
+abbrev pub runs : CoroState → Bool
+runs s = eqb (code s) 1
+
+abbrev pub awaits : CoroState → Bool
+awaits s = eqb (code s) 3
+
+-- Yielded or Awaiting
+abbrev pub sleeps : CoroState → Bool
+sleeps s = eqb (code s) 2 || eqb (code s) 3
+
+abbrev pub ended : CoroState → Bool
+ended s = eqb (code s) 4
+
+-- the coroutine is there, and passes a test
+abbrev pub seenIn : (Seen → Bool) → Option Seen → Bool
+seenIn p none = false
+seenIn p (some x) = p x
+
+abbrev pub is : View → (CoroState → Bool) → ℕ → Bool
+is v p c = seenIn (λ x. p (x .state)) (v .coro c)

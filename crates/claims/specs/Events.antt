@@ -1,0 +1,134 @@
+-- The events are exact: who is entered, suspended or returns in a call follows from what is seen before it and from its number, one a
+-- call. So an engine that refuses what 01 accepts, or makes of a return a failure, has not this.
+use Prim.Native.Nat.{ℕ}
+use mathlib.Core.Path.{_≡_}
+use mathlib.Core.Bool.{Bool, true, false, not, _&&_, _||_}
+use mathlib.Core.List.{List, [], _∷_}
+use mathlib.Core.Option.{Option, none, some}
+use lib.Dec.{eqb, ltb, leb}
+use Rattle.lists.specs.Pick.{pick}
+use Rattle.heap.specs.declared.fault.Fault.{Fault}
+use Rattle.heap.specs.declared.heap.ResultKind.{ResultKind}
+use Rattle.model.specs.declared.program.Handler.{Handler}
+use Rattle.model.specs.declared.machine.Cont.{Cont}
+use Rattle.model.specs.declared.machine.Driver.{Driver}
+use Rattle.model.specs.declared.machine.Active.{Active}
+use Rattle.model.specs.declared.machine.Frame.{Frame}
+use Rattle.model.specs.declared.call.OptPc.{OptPc}
+use Rattle.model.specs.declared.call.Op.{Op}
+use Rattle.claims.specs.Engine.{Seen, View, Engine, seenIn}
+use Rattle.claims.specs.Says.{Aim, enter, suspend, neither, Does, instr, hosts, finishes, raises, other, doing}
+use Rattle.claims.specs.Held.{at, By}
+use Rattle.claims.specs.Demand3.{Enters, Suspends, Returns}
+
+-- the machine is not refused: a look answers 0
+abbrev pub Healthy : (e : Engine) → e .State → Type 0
+Healthy e s = (k : e .Call) → e .op k ≡ some Op.Look → e .number s k ≡ 0
+
+-- the innermost running coroutine
+abbrev pub inmost : List Active → Option ℕ
+inmost [] = none
+inmost (a ∷ chain) = some (a .coro)
+
+-- ---- suspensions. 01: "also where 2 or 6 follows"
+
+-- who is suspended: the innermost, by a Yield, YieldKv or Await that is answered 0, 2 or 6
+abbrev pub suspended : View → Does → ℕ → Option ℕ
+suspended v (instr pc ok (enter c d x may)) n = none
+suspended v (instr pc ok (suspend await dst x)) n = pick (eqb n 0 || eqb n 2 || eqb n 6) (inmost (v .chain)) none
+suspended v (instr pc ok neither) n = none
+suspended v (hosts c x) n = none
+suspended v (finishes kind x) n = none
+suspended v (raises f pc) n = none
+suspended v other n = none
+
+-- ---- returns. 01: "a return if `finish` or `unwind` makes it Returned"
+
+abbrev pub isBody : Cont → Bool
+isBody Cont.Entry = false
+isBody (Cont.Write r) = false
+isBody (Cont.Dyn r) = false
+isBody (Cont.Value r) = false
+isBody Cont.Discard = false
+isBody Cont.Coro = true
+
+-- 01: "start ≤ pc < end"
+abbrev pub caught : List Handler → ℕ → Bool
+caught [] pc = false
+caught (h ∷ hs) pc = (leb (h .start) pc && ltb pc (h .end)) || caught hs pc
+
+-- an escape goes on into the frames of a resumer or a loop
+abbrev pub goesOn : Driver → Bool
+goesOn (Driver.Resume r) = true
+goesOn (Driver.Iter has val iter) = true
+goesOn Driver.Host = false
+goesOn Driver.Finalize = false
+
+-- the word x leaves a frame: of a body, it ends one that it closes, else goes on or not
+abbrev pub leaving : Cont → View → ℕ → List Active → (List Active → Option ℕ) → Option ℕ
+leaving Cont.Entry v x chain below = none
+leaving (Cont.Write r) v x chain below = below chain
+leaving (Cont.Dyn r) v x chain below = below chain
+leaving (Cont.Value r) v x chain below = below chain
+leaving Cont.Discard v x chain below = below chain
+leaving Cont.Coro v x [] below = below []
+leaving Cont.Coro v x (a ∷ chain) below = pick (seenIn (λ k. k .closing && eqb x (k .signal)) (v .coro (a .coro))) (some (a .coro)) (pick (goesOn (a .driver)) (below chain) none)
+
+-- who returns where x is raised in these frames: one whose own signal x is, and that does not catch it. 01: "A closing coroutine that
+-- lets its own signal escape is Returned"
+abbrev pub escaped : View → ℕ → List Frame → List Active → Option ℕ
+escaped v x [] chain = none
+escaped v x (f ∷ fs) chain = pick (caught (v .handlers (f .func)) (f .pc)) none (leaving (f .cont) v x chain (escaped v x fs))
+
+-- 1 to 8 are raised as a new object, 17 as its word
+abbrev pub raised : View → Fault → Option ℕ
+raised v Fault.None = none
+raised v Fault.NullReference = some (v .fresh)
+raised v Fault.TypeError = some (v .fresh)
+raised v Fault.InvalidCoroState = some (v .fresh)
+raised v Fault.StackOverflow = some (v .fresh)
+raised v Fault.CannotSuspend = some (v .fresh)
+raised v Fault.CloseIgnored = some (v .fresh)
+raised v Fault.ArithOverflow = some (v .fresh)
+raised v Fault.NoScheduler = some (v .fresh)
+raised v Fault.OutOfMemory = none
+raised v Fault.OutOfFuel = none
+raised v Fault.Unsound = none
+raised v Fault.NoFrame = none
+raised v Fault.BadOperand = none
+raised v Fault.Full = none
+raised v Fault.Busy = none
+raised v Fault.GrantTooLarge = none
+raised v (Fault.Throw x) = some x
+
+abbrev pub raisedAt : View → Option ℕ → OptPc → Option ℕ
+raisedAt v none pc = none
+raisedAt v (some x) OptPc.None = escaped v x (v .frames) (v .chain)
+raisedAt v (some x) (OptPc.Some pc) = escaped v x (at pc (v .frames)) (v .chain)
+
+-- the body of a coroutine is on top
+abbrev pub onBody : List Frame → Bool
+onBody [] = false
+onBody (f ∷ fs) = isBody (f .cont)
+
+-- who returns: the innermost, where its body finishes; or by an unwind
+abbrev pub returned : View → Does → ℕ → Option ℕ
+returned v (instr pc ok a) n = none
+returned v (hosts c x) n = none
+returned v (finishes kind x) n = pick (eqb n 0 && onBody (v .frames)) (inmost (v .chain)) none
+returned v (raises f pc) n = pick (eqb n 0) (raisedAt v (raised v f) pc) none
+returned v other n = none
+
+-- ---- the claim
+
+pub record Events (e : Engine) : Type 0 where
+  pub enters : (c : ℕ) (s : e .State) (k : e .Call) → Enters e c s k → By (e .view s) (e .op k) c
+  pub entered : (c : ℕ) (s : e .State) (k : e .Call) → Healthy e s → By (e .view s) (e .op k) c → Enters e c s k
+  pub suspends : (c : ℕ) (s : e .State) (k : e .Call) → Suspends e c s k → suspended (e .view s) (doing (e .view s) (e .op k)) (e .number s k) ≡ some c
+  pub suspended : (c : ℕ) (s : e .State) (k : e .Call) → suspended (e .view s) (doing (e .view s) (e .op k)) (e .number s k) ≡ some c → Suspends e c s k
+  pub returns : (c : ℕ) (s : e .State) (k : e .Call) → Returns e c s k → returned (e .view s) (doing (e .view s) (e .op k)) (e .number s k) ≡ some c
+  pub returned : (c : ℕ) (s : e .State) (k : e .Call) → Healthy e s → returned (e .view s) (doing (e .view s) (e .op k)) (e .number s k) ≡ some c → Returns e c s k
+  -- one a call
+  pub one-switch : (c u : ℕ) (s : e .State) (k : e .Call) → Enters e c s k → Suspends e u s k → ⊥
+  pub no-return : (c u : ℕ) (s : e .State) (k : e .Call) → Enters e c s k → Returns e u s k → ⊥
+  pub one-leaves : (c u : ℕ) (s : e .State) (k : e .Call) → Suspends e c s k → Returns e u s k → ⊥

@@ -1,0 +1,146 @@
+-- What a call says: read off its operands, and off the registers before it. And so whom it enters, by which driver, with what word.
+use Prim.Native.Nat.{ℕ, _+_}
+use mathlib.Core.Bool.{Bool, true, false, not, _&&_, _||_}
+use mathlib.Core.List.{List, [], _∷_}
+use mathlib.Core.Option.{Option, none, some}
+use lib.ListN.{length, getD}
+use lib.Dec.{eqb, ltb, leb}
+use Rattle.lists.specs.Pick.{pick}
+use Rattle.heap.specs.declared.fault.Fault.{Fault}
+use Rattle.heap.specs.declared.value.Opt.{Opt}
+use Rattle.heap.specs.declared.object.CoroState.{CoroState}
+use Rattle.heap.specs.declared.heap.ResultKind.{ResultKind}
+use Rattle.model.specs.declared.machine.Driver.{Driver}
+use Rattle.model.specs.declared.machine.Frame.{Frame}
+use Rattle.model.specs.declared.machine.Fuel.{Fuel}
+use Rattle.model.specs.declared.call.OptPc.{OptPc}
+use Rattle.model.specs.declared.call.Op.{Op}
+use Rattle.claims.specs.Engine.{Seen, View, isNew, awaits, sleeps, seenIn, is}
+
+-- ---- the top frame's registers
+
+abbrev pub base : List Frame → ℕ
+base [] = 0
+base (f ∷ fs) = f .base
+
+abbrev pub word : View → ℕ → ℕ
+word v r = getD (v .stack) (base (v .frames) + r) 0
+
+-- 01: "Every register operand must lie between the top frame's base and the stack's end", and so the last of a window does
+abbrev pub lie : View → List ℕ → Bool
+lie v [] = true
+lie v (r ∷ rs) = ltb (base (v .frames) + r) (length (v .stack)) && lie v rs
+
+abbrev pub window : View → ℕ → ℕ → Bool
+window v dst argc = leb (base (v .frames) + dst + 1 + argc) (length (v .stack))
+
+-- ---- the calls
+
+pub data Aim : Type 0 where
+  -- to enter the coroutine that a word names: driver, sent word or none, and whether its state allows this
+  enter : ℕ → Driver → Opt → Bool → Aim
+  -- to suspend: an await or not, the register that waits, the payload
+  suspend : Bool → ℕ → ℕ → Aim
+  neither : Aim
+
+pub data Does : Type 0 where
+  -- an instruction: its pc, whether its operands pass, and its aim
+  instr : ℕ → Bool → Aim → Does
+  -- the host enters a coroutine, with a word
+  hosts : ℕ → ℕ → Does
+  finishes : ResultKind → ℕ → Does
+  raises : Fault → OptPc → Does
+  other : Does
+
+abbrev pub does : View → Op → Does
+does v (Op.CoroNew pc dst f argc) = instr pc (lie v (dst ∷ []) && window v dst argc && ltb f (v .functions)) neither
+does v (Op.CoroNewIndirect pc dst callee argc) = instr pc (lie v (dst ∷ callee ∷ []) && window v dst argc) neither
+does v (Op.Spawn pc dst callee argc) = instr pc (lie v (dst ∷ callee ∷ []) && window v dst argc) neither
+does v (Op.Yield pc dst src) = instr pc (lie v (dst ∷ src ∷ [])) (suspend false dst (word v src))
+does v (Op.YieldKv pc dst src key) = instr pc (lie v (dst ∷ src ∷ key ∷ [])) (suspend false dst (word v src))
+does v (Op.Await pc dst src) = instr pc (lie v (dst ∷ src ∷ [])) (suspend true dst (word v src))
+does v (Op.Resume pc dst c src) = instr pc (lie v (dst ∷ c ∷ src ∷ [])) (enter (word v c) (Driver.Resume dst) (Opt.Some (word v src)) true)
+does v (Op.ResumeThrow pc dst c src) = instr pc (lie v (dst ∷ c ∷ src ∷ [])) (enter (word v c) (Driver.Resume dst) Opt.None (is v sleeps (word v c)))
+does v (Op.CoroClose pc dst c src) = instr pc (lie v (dst ∷ c ∷ src ∷ [])) (enter (word v c) (Driver.Resume dst) Opt.None (is v sleeps (word v c)))
+does v (Op.CoroStatus pc dst c) = instr pc (lie v (dst ∷ c ∷ [])) neither
+does v (Op.CoroCurrent pc dst) = instr pc (lie v (dst ∷ [])) neither
+does v (Op.CoroKey pc dst c) = instr pc (lie v (dst ∷ c ∷ [])) neither
+does v (Op.CoroResult pc dst c) = instr pc (lie v (dst ∷ c ∷ [])) neither
+does v (Op.IterNext pc has iter val src) =
+    instr pc (lie v (has ∷ iter ∷ val ∷ src ∷ [])) (enter (word v src) (Driver.Iter has val (word v iter)) (Opt.Some 0) (not (v .done (word v iter)) && not (is v awaits (word v src))))
+does v (Op.Finish kind x) = finishes kind x
+does v (Op.Unwind f pc) = raises f pc
+does v (Op.SpawnTask x) = other
+does v (Op.HostCall f) = other
+does v (Op.HostEntry c x) = hosts c x
+does v (Op.FunctionCall pc f cont) = other
+does v (Op.PutWord r x) = other
+does v (Op.MakeIterator x) = other
+does v Op.TakeOutcome = other
+does v (Op.HandOver x) = other
+does v (Op.Grant n) = other
+does v Op.StopRun = other
+does v Op.Look = other
+
+-- a set-up does none of these
+abbrev pub doing : View → Option Op → Does
+doing v none = other
+doing v (some o) = does v o
+
+-- ---- who is entered
+
+pub record Entry : Type 0 where
+  pub coro : ℕ
+  pub driver : Driver
+  -- the word that it gets in the register that waits, or none
+  pub sent : Opt
+  -- where the caller stands
+  pub pc : ℕ
+
+abbrev pub entry : ℕ → Driver → Opt → ℕ → Entry
+entry c d x pc = record { coro = c; driver = d; sent = x; pc = pc }
+
+-- 01: "not Created, Yielded or Awaiting (3); frames plus saved frames above the depth limit, or stack plus saved registers above the
+-- stack limit (4; equality passes)"
+abbrev pub fits : View → ℕ → Bool
+fits v c = seenIn (λ x. (isNew (x .state) || sleeps (x .state)) && leb (length (v .frames) + x .frames) (v .depth) && leb (length (v .stack) + x .words) (v .height)) (v .coro c)
+
+-- the call's own entry. 01: "A Created one ignores the sent word."
+abbrev pub named : View → ℕ → Aim → Option Entry
+named v pc (enter c d x may) = pick (may && fits v c) (some (entry c d (pick (is v isNew c) Opt.None x) pc)) none
+named v pc (suspend await dst x) = none
+named v pc neither = none
+
+-- a cleanup: the first of the queue that sleeps and fits
+abbrev pub cleaned : View → ℕ → List ℕ → Option Entry
+cleaned v pc [] = none
+cleaned v pc (c ∷ queue) = pick (is v sleeps c && fits v c) (some (entry c Driver.Finalize Opt.None pc)) (cleaned v pc queue)
+
+-- what fuel 0 leaves to spend: the bank
+abbrev pub banked : Opt → ℕ
+banked Opt.None = 0
+banked (Opt.Some n) = n
+
+abbrev pub orElse : Option Entry → Option Entry → Option Entry
+orElse none y = y
+orElse (some x) y = some x
+
+-- with fuel, the call's own; with none, and a bank, first a cleanup if those are ready; with neither, nobody
+abbrev pub charged : View → ℕ → Option Entry → Option Entry
+charged v pc y =
+    pick (eqb (v .fuel .fuel) 0)
+    (pick (eqb (banked (v .fuel .bank)) 0) none (pick (v .fuel .ready) (orElse (cleaned v pc (v .queue)) y) y)) y
+
+abbrev pub isNone : List Frame → Bool
+isNone [] = true
+isNone (f ∷ fs) = false
+
+abbrev pub whomBy : View → Does → Option Entry
+whomBy v (instr pc ok a) = pick (isNone (v .frames)) none (pick ok (charged v pc (named v pc a)) none)
+whomBy v (hosts c x) = pick (isNone (v .frames)) (named v 0 (enter c Driver.Host (Opt.Some x) true)) none
+whomBy v (finishes kind x) = none
+whomBy v (raises f pc) = none
+whomBy v other = none
+
+abbrev pub whom : View → Option Op → Option Entry
+whom v k = whomBy v (doing v k)

@@ -1,0 +1,42 @@
+-- `step` as an engine: the machine that the definitions describe, and what is seen of it.
+use Prim.Native.Nat.{ℕ}
+use mathlib.Core.Option.{Option, none, some}
+use lib.ListN.{length}
+use Rattle.heap.specs.Table.{nextWord}
+use Rattle.model.specs.Program.{func}
+use Rattle.model.specs.Object.{Coroutine, Absent, Is, isDone}
+use Rattle.model.specs.World.{World}
+use Rattle.model.specs.Heap.{object, coro}
+use Rattle.model.specs.Answer.{numberOf}
+use Rattle.model.specs.Call.{Call, SetUp, Do}
+use Rattle.model.specs.Step.{step}
+use Rattle.model.specs.declared.call.Op.{Op}
+use Rattle.claims.specs.Engine.{Seen, View, Engine}
+
+abbrev pub seenOf : Coroutine → Option Seen
+seenOf Absent = none
+seenOf (Is k r) = some (record { state = k .state; words = length (k .regs); frames = length (k .frames); closing = r .closing; signal = r .signal; result = r .result })
+
+abbrev pub viewOf : World → View
+viewOf w =
+    record {
+      stack = w .stack;
+      frames = w .frames;
+      chain = w .chain;
+      coro = λ c. seenOf (coro w c);
+      done = λ x. isDone (object w x);
+      queue = w .finalize;
+      fuel = w .fuel;
+      depth = w .setup .limits .depth;
+      height = w .setup .limits .stack;
+      functions = length (w .setup .functions);
+      handlers = λ f. func (w .setup) f .handlers;
+      fresh = nextWord (w .slots);
+    }
+
+abbrev pub opOf : Call → Option Op
+opOf (SetUp s) = none
+opOf (Do o) = some (o .op)
+
+abbrev pub steps : Engine
+steps = record { State = World; Call = Call; op = opOf; view = viewOf; next = λ w k. step w k .world; number = λ w k. numberOf (step w k .answer) }
