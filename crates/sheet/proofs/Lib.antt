@@ -12,6 +12,10 @@ pub mod Rules
 pub mod Floors
 pub mod Found
 pub mod Lookup
+pub mod Words
+pub mod Moved
+pub mod Asking
+pub mod Charging
 pub mod Charges
 pub mod Unwind
 pub mod Entries

@@ -1,4 +1,9 @@
 -- The fault sheet, PEP 342, coverage and the cheating engines, as statements on the model.
+pub mod Lines
+pub mod Words
+pub mod Moves
+pub mod Charging
+pub mod Instructions
 pub mod Gates
 pub mod Needs
 pub mod Sites
