@@ -139,7 +139,7 @@ unfolding pick
 throw-is s d w true = refl
 throw-is s d w false = refl
 
-two-tests : {A : Type 0} (a a′ : Bool) {x x′ y y′ : A} → a ≡ a′ → x ≡ x′ → y ≡ y′ → pick a x y ≡ pick a′ x′ y′
+pub two-tests : {A : Type 0} (a a′ : Bool) {x x′ y y′ : A} → a ≡ a′ → x ≡ x′ → y ≡ y′ → pick a x y ≡ pick a′ x′ y′
 two-tests a a′ e f g = λ i. pick (e i) (f i) (g i)
 
 -- an entry by an instruction, whose pc is stored first; g is what is done once it is in
@@ -202,7 +202,7 @@ once CoroState.Awaiting x y z = refl
 once CoroState.Returned x y z = refl
 once CoroState.Failed x y z = refl
 
-next-is : (dst v : ℕ) (u u′ : World) → u ≡ u′ → Exec.put dst v u ≡ after (put dst v u′) Step.Next
+pub next-is : (dst v : ℕ) (u u′ : World) → u ≡ u′ → Exec.put dst v u ≡ after (put dst v u′) Step.Next
 next-is dst v u u′ e = ap (λ z. Exec.put dst v z) e ∙ ap (λ z. after z Step.Next) (put-is dst v u′)
 
 pub coro-close-is : (pc dst c src : ℕ) (u : World) → Saved u → Exec.coroClose pc dst c src u ≡ leads (Table.coroClose pc dst c src u)

@@ -35,7 +35,7 @@ use Rattle.sheet.proofs.Asking.{Saved, enter-is}
 
 -- ---- the bank
 
-unbank-is : (w : World) → unbank w ≡ bankBack w
+pub unbank-is : (w : World) → unbank w ≡ bankBack w
 unbank-is w = ap (λ f. withFuel f w) (go (w .fuel .bank) (w .fuel) refl)
   where
     go : (b : Opt) (f : Fuel) → f .bank ≡ b → unbankAt b f ≡ record { fuel = amount b (f .fuel); bank = Opt.None; ready = f .ready }

@@ -16,6 +16,7 @@ pub mod Words
 pub mod Moved
 pub mod Asking
 pub mod Charging
+pub mod Makings
 pub mod Charges
 pub mod Unwind
 pub mod Entries

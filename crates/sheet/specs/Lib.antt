@@ -4,6 +4,7 @@ pub mod Words
 pub mod Moves
 pub mod Charging
 pub mod Instructions
+pub mod Makings
 pub mod Gates
 pub mod Needs
 pub mod Sites

@@ -142,7 +142,7 @@ abbrev pub charged : World → ℕ → ℕ
 charged w bytes = min (w .used + bytes) (2 ^ 64 - 1)
 
 abbrev pub lacksMemory : World → ℕ → Bool
-lacksMemory w bytes = ltb (w .setup .limits .memory) (charged w bytes)
+lacksMemory w bytes = not (leb (charged w bytes) (w .setup .limits .memory))
 
 -- 14: "every slot taken"
 abbrev pub noSlot : World → Bool
