@@ -17,6 +17,7 @@ pub mod Moved
 pub mod Asking
 pub mod Charging
 pub mod Makings
+pub mod Suspending
 pub mod Charges
 pub mod Unwind
 pub mod Entries

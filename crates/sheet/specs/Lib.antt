@@ -5,6 +5,8 @@ pub mod Moves
 pub mod Charging
 pub mod Instructions
 pub mod Makings
+pub mod Suspending
+pub mod Yields
 pub mod Gates
 pub mod Needs
 pub mod Sites
