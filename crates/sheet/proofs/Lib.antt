@@ -18,6 +18,7 @@ pub mod Asking
 pub mod Charging
 pub mod Makings
 pub mod Suspending
+pub mod Yields
 pub mod Charges
 pub mod Unwind
 pub mod Entries

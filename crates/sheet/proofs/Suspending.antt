@@ -36,11 +36,9 @@ use Rattle.sheet.specs.Moves.{atPc, pcStored, sent, put, marked}
 use Rattle.sheet.specs.Suspending.{running, restHere, heldFrames, floorBase, slept, growth, restAsleep, asleep, armed, cleaning, asks, isLoop, delivered}
 use Rattle.sheet.specs.Yields.{yielded, yields, yieldEnds, awaited, awaits, awaitEnds}
 use Rattle.sheet.proofs.Moved.{below, stored, put-is, sent-is, coro-is, marked-is}
-use Rattle.sheet.proofs.Asking.{Saved}
 
--- what a sound machine has: saved frames; the innermost running coroutine, and its body among the frames
+-- what a sound machine has: the innermost running coroutine is found, and its body is among the frames
 pub record Sane (w : World) : Type 0 where
-  pub saved : Saved w
   pub runs : isNil (w .chain) ≡ false → isCoroutine (found w (running (w .chain) .coro)) ≡ true
   pub inside : isNil (w .chain) ≡ false → leb (length (w .frames)) (running (w .chain) .floor) ≡ false
 
@@ -109,7 +107,7 @@ module _ (st : CoroState) (dst payload : ℕ) (keys : Keys) (a : Active) (chain 
   sleeps-as : (k : Core) → Coros.suspendAs (Is k r) a chain (Coros.saved st dst (a .floor) z) payload keys z ≡ body (baseAt (a .floor) (z .frames)) (length (map (lower (baseAt (a .floor) (z .frames))) (above (a .floor) (z .frames))))
   sleeps-as k = refl
 
-coroutine : (o : Object) → isCoroutine o ≡ true → asCoro o ≡ Is (coreOf o) (restOf o)
+pub coroutine : (o : Object) → isCoroutine o ≡ true → asCoro o ≡ Is (coreOf o) (restOf o)
 coroutine Object.Empty h = absurd (false≢true h)
 coroutine (Object.Func n) h = absurd (false≢true h)
 coroutine (Object.Int n) h = absurd (false≢true h)
@@ -149,7 +147,7 @@ length-at pc (f ∷ fs) = refl
 
 pub sane-stored : (pc : ℕ) (w : World) → Sane w → Sane (pcStored pc w)
 sane-stored pc w sane =
-    record { saved = sane .saved; runs = sane .runs; inside = λ h. ap (λ n. leb n (running (w .chain) .floor)) (length-at pc (w .frames)) ∙ sane .inside h }
+    record { runs = sane .runs; inside = λ h. ap (λ n. leb n (running (w .chain) .floor)) (length-at pc (w .frames)) ∙ sane .inside h }
 
 pub yields-is : (cs : List Active) (pc dst payload key largest : ℕ) (k : World) → isNil cs ≡ false → Sane (withChain cs k) →
     Exec.suspend pc CoroState.Yielded dst payload (Keys.Set key largest) (withChain cs k) ≡ leadsFrom (yields pc dst payload key largest (withChain cs k)) (yieldEnds pc dst payload key largest (withChain cs k))

@@ -41,7 +41,7 @@ both-true true b h k = k
 both-true false b h k = h
 
 -- "References are 2^48 up to 2^49 - 1"
-top-one : (v : ℕ) → eqb (topOf v) 1 ≡ isReference v
+pub top-one : (v : ℕ) → eqb (topOf v) 1 ≡ isReference v
 top-one v = same-tests (eqb (topOf v) 1) (isReference v) there back
   where
     there : eqb (topOf v) 1 ≡ true → isReference v ≡ true
@@ -130,7 +130,7 @@ module _ (xs : List (Slot Object)) (v : ℕ) where
   not-by-class false false true z h = ap (λ b. pick b Fault.NullReference Fault.TypeError) (and-false (isNothing Object.Empty))
   not-by-class false false false z h = refl
 
-nil-first : (v : ℕ) → eqb v 0 ≡ true → eqb (topOf v) 1 ≡ false
+pub nil-first : (v : ℕ) → eqb v 0 ≡ true → eqb (topOf v) 1 ≡ false
 nil-first v h = subst (λ x. eqb (topOf x) 1 ≡ false) (sym (same v 0 h)) refl
 
 pub object-found : (w : World) (v : ℕ) → object w v ≡ found w v
