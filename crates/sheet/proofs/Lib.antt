@@ -19,6 +19,7 @@ pub mod Charging
 pub mod Makings
 pub mod Suspending
 pub mod Yields
+pub mod Finishing
 pub mod Charges
 pub mod Unwind
 pub mod Entries

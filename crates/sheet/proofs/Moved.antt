@@ -49,7 +49,7 @@ stored pc w = ap (λ fs. withFrames fs w) (go (w .frames))
     go [] = refl
     go (f ∷ fs) = refl
 
-onward-is : (fs : List Frame) → onTop stepPc fs ≡ onward fs
+pub onward-is : (fs : List Frame) → onTop stepPc fs ≡ onward fs
 onward-is [] = refl
 onward-is (f ∷ fs) = refl
 

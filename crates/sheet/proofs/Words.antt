@@ -21,7 +21,7 @@ use Rattle.sheet.specs.Words.{isReference, found, isNothing, dead}
 use Rattle.sheet.proofs.Choice.{both, by-test}
 use Rattle.sheet.proofs.Among.{same, and-left, and-right, and-false}
 
-same-tests : (a b : Bool) → (a ≡ true → b ≡ true) → (b ≡ true → a ≡ true) → a ≡ b
+pub same-tests : (a b : Bool) → (a ≡ true → b ≡ true) → (b ≡ true → a ≡ true) → a ≡ b
 same-tests true true f g = refl
 same-tests true false f g = sym (f refl)
 same-tests false true f g = g refl

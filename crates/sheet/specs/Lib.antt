@@ -7,6 +7,7 @@ pub mod Instructions
 pub mod Makings
 pub mod Suspending
 pub mod Yields
+pub mod Endings
 pub mod Gates
 pub mod Needs
 pub mod Sites
