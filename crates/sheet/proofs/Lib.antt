@@ -20,6 +20,7 @@ pub mod Makings
 pub mod Suspending
 pub mod Yields
 pub mod Finishing
+pub mod Unwinding
 pub mod Charges
 pub mod Unwind
 pub mod Entries

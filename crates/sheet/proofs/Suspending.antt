@@ -128,7 +128,7 @@ module _ (st : CoroState) (dst payload : ℕ) (keys : Keys) (a : Active) (chain 
       ∙ (sleeps-as st dst payload keys a chain (restHere z₀) z₀ (coreOf (found z₀ (a .coro)))
       ∙ (λ i. body st dst payload keys a chain (restHere z₀) z₀ (base-at (w .frames) (length (w .frames) - suc (a .floor)) i) (length-map (lower (baseAt (a .floor) (w .frames))) (above (a .floor) (w .frames)) i)))))
 
-then-one : {A B : Type 0} (g : World → A → After B) (a : Bool) (x y : After A) → andThen (pick a x y) g ≡ pick a (andThen x g) (andThen y g)
+pub then-one : {A B : Type 0} (g : World → A → After B) (a : Bool) (x y : After A) → andThen (pick a x y) g ≡ pick a (andThen x g) (andThen y g)
 unfolding pick
 then-one g true x y = refl
 then-one g false x y = refl

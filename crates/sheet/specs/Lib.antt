@@ -8,6 +8,7 @@ pub mod Makings
 pub mod Suspending
 pub mod Yields
 pub mod Endings
+pub mod Unwinding
 pub mod Gates
 pub mod Needs
 pub mod Sites
