@@ -36,7 +36,7 @@ use Rattle.sheet.proofs.Moved.{below, below-if, word-is, stored, put-is
 abbrev pub Saved : World → Type 0
 Saved w = (v : ℕ) (k : Core) (r : Rest) → coro w v ≡ Is k r → isResumable (k .state) ≡ true → isNil (k .frames) ≡ false
 
-resumes : (s : CoroState) → isResumable s ≡ resumable s
+pub resumes : (s : CoroState) → isResumable s ≡ resumable s
 resumes CoroState.Created = refl
 resumes CoroState.Running = refl
 resumes CoroState.Yielded = refl

@@ -44,7 +44,7 @@ unbank-is w = ap (λ f. withFuel f w) (go (w .fuel .bank) (w .fuel) refl)
 
 -- ---- the search
 
-suspends : (s : CoroState) → isSuspended s ≡ suspended s
+pub suspends : (s : CoroState) → isSuspended s ≡ suspended s
 suspends CoroState.Created = refl
 suspends CoroState.Running = refl
 suspends CoroState.Yielded = refl

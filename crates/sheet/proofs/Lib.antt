@@ -21,6 +21,7 @@ pub mod Suspending
 pub mod Yields
 pub mod Finishing
 pub mod Unwinding
+pub mod OtherCalls
 pub mod Charges
 pub mod Unwind
 pub mod Entries

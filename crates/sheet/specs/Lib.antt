@@ -9,6 +9,8 @@ pub mod Suspending
 pub mod Yields
 pub mod Endings
 pub mod Unwinding
+pub mod OtherCalls
+pub mod Sheet
 pub mod Gates
 pub mod Needs
 pub mod Sites
