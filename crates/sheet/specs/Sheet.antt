@@ -3,21 +3,22 @@
 use Prim.Native.Nat.{ℕ, _+_}
 use mathlib.Core.Path.{_≡_}
 use mathlib.Core.Bool.{Bool, true, not, _&&_}
-use mathlib.Core.List.{List, [], _∷_}
+use mathlib.Core.List.{List, [], _∷_, map}
 use lib.ListN.{length}
-use lib.Dec.{eqb, leb}
+use lib.Dec.{leb}
 use Rattle.lists.specs.Pick.{pick}
 use Rattle.heap.specs.Fault as Faults
 use Rattle.model.specs.Lists.{each}
 use Rattle.model.specs.Program.{Setup, setupOk}
-use Rattle.model.specs.World.{World, fresh}
+use Rattle.model.specs.World.{World, after, fresh}
 use Rattle.model.specs.Sound.{sound}
 use Rattle.model.specs.Answer.{numberOf}
 use Rattle.model.specs.Call.{Operation, SetUp, Do}
-use Rattle.model.specs.Step.{out, step}
+use Rattle.model.specs.Step.{told, step}
+use Rattle.model.specs.Calls.{Row, Instruction, OnFrame, OnHost, Raise, Add, Seen, Other, table}
 use Rattle.model.specs.declared.call.Op.{Op}
 use Rattle.model.specs.declared.call.Answer.{Answer}
-use Rattle.sheet.specs.Lines.{Line, Lines, lines, leads, says, fault, refuse, accept}
+use Rattle.sheet.specs.Lines.{Lines, lines, leads, says, faults, refuse, accept}
 use Rattle.sheet.specs.Words.{base, lies}
 use Rattle.sheet.specs.Charging.{instruction}
 use Rattle.sheet.specs.Instructions as Instructions
@@ -25,7 +26,7 @@ use Rattle.sheet.specs.Makings as Makings
 use Rattle.sheet.specs.Yields as Yields
 use Rattle.sheet.specs.Endings as Endings
 use Rattle.sheet.specs.Unwinding as Unwinding
-use Rattle.sheet.specs.OtherCalls as Other
+use Rattle.sheet.specs.OtherCalls as Others
 
 -- every register lies in the frame; for creations the argument window too: "The last register passes."
 abbrev pub lie : List ℕ → World → Bool
@@ -51,17 +52,17 @@ tableOf (Op.CoroResult pc dst c) w = instruction pc (lie (dst ∷ c ∷ [])) (In
 tableOf (Op.IterNext pc has iter val src) w = instruction pc (lie (has ∷ iter ∷ val ∷ src ∷ [])) (Instructions.iterNext pc has iter val src) w
 tableOf (Op.Finish kind v) w = Endings.finish kind v w
 tableOf (Op.Unwind f pc) w = Unwinding.unwind f pc w
-tableOf (Op.SpawnTask v) w = Other.spawnTask v w
-tableOf (Op.HostCall f) w = Other.hostCall f w
-tableOf (Op.HostEntry c v) w = Other.hostEntry c v w
-tableOf (Op.FunctionCall pc f cont) w = Other.functionCall pc f cont w
-tableOf (Op.PutWord r v) w = Other.putWord r v w
-tableOf (Op.MakeIterator v) w = Other.makeIterator v w
-tableOf Op.TakeOutcome w = Other.takeOutcome w
-tableOf (Op.HandOver v) w = Other.handOver v w
-tableOf (Op.Grant n) w = Other.grant n w
-tableOf Op.StopRun w = Other.stopRun w
-tableOf Op.Look w = Other.look w
+tableOf (Op.SpawnTask v) w = Others.spawnTask v w
+tableOf (Op.HostCall f) w = Others.hostCall f w
+tableOf (Op.HostEntry c v) w = Others.hostEntry c v w
+tableOf (Op.FunctionCall pc f cont) w = Others.functionCall pc f cont w
+tableOf (Op.PutWord r v) w = Others.putWord r v w
+tableOf (Op.MakeIterator v) w = Others.makeIterator v w
+tableOf Op.TakeOutcome w = Others.takeOutcome w
+tableOf (Op.HandOver v) w = Others.handOver v w
+tableOf (Op.Grant n) w = Others.grant n w
+tableOf Op.StopRun w = Others.stopRun w
+tableOf Op.Look w = Others.look w
 
 -- "Each tests 11 first"
 abbrev pub sheet : Op → World → Lines Answer
@@ -71,5 +72,22 @@ abbrev pub setUp : Setup → World → Lines Answer
 setUp s w = lines (refuse 11 (not (setupOk s)) w ∷ []) (accept true Answer.Accepted (fresh s))
 
 -- only a look sees words
-abbrev pub seenBy : Op → World → List ℕ
-seenBy o w = []
+abbrev pub seenBy : Row → World → List ℕ
+seenBy (Instruction pc operands arm) w = []
+seenBy (OnFrame operands body) w = []
+seenBy (OnHost operands body) w = []
+seenBy (Raise f pc) w = []
+seenBy (Add n) w = []
+seenBy Seen w = Others.registers (w .frames) (w .stack)
+seenBy (Other body) w = []
+
+pub record FaultSheet : Type 0 where
+  -- THE THEOREM: the answer is that of the first test that stops the call, and the world is what stood there; else what is done
+  pub leads-to : (w : World) (o : Operation) → after (step w (Do o) .world) (step w (Do o) .answer) ≡ leads (sheet (o .op) w)
+  pub set-up : (w : World) (s : Setup) → step w (SetUp s) ≡ told (leads (setUp s w))
+  -- "given exactly if": the answer's number is that test's, 0 to 17
+  pub says-number : (w : World) (o : Operation) → numberOf (step w (Do o) .answer) ≡ says (sheet (o .op) w)
+  -- the words that a look sees
+  pub sees : (w : World) (o : Operation) → step w (Do o) .seen ≡ pick (sound w) (seenBy (table (o .op)) w) []
+  -- 01's numbers
+  pub numbers : map Faults.numberOf faults ≡ 0 ∷ 1 ∷ 2 ∷ 3 ∷ 4 ∷ 5 ∷ 6 ∷ 7 ∷ 8 ∷ 9 ∷ 10 ∷ 11 ∷ 12 ∷ 13 ∷ 14 ∷ 15 ∷ 16 ∷ []
