@@ -65,7 +65,7 @@ forbids (Object.Iter s d k) h = refl
 forbids (Object.Error e f p x) h = refl
 forbids (Object.Coro k r) h = refusal (isResumable (k .state)) (isNil (k .frames)) (h k r refl) ∙ ap not (resumes (k .state))
 
-then-two : {A B : Type 0} (g : World → A → After B) (a a′ b : Bool) (x y z : After A) → a ≡ a′ → andThen (pick a x (pick b y z)) g ≡ pick a′ (andThen x g) (pick b (andThen y g) (andThen z g))
+pub then-two : {A B : Type 0} (g : World → A → After B) (a a′ b : Bool) (x y z : After A) → a ≡ a′ → andThen (pick a x (pick b y z)) g ≡ pick a′ (andThen x g) (pick b (andThen y g) (andThen z g))
 unfolding pick
 then-two g a a′ b x y z e = ap (λ t. andThen (pick t x (pick b y z)) g) e ∙ go a′ b
   where

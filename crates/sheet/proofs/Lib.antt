@@ -22,6 +22,7 @@ pub mod Yields
 pub mod Finishing
 pub mod Unwinding
 pub mod OtherCalls
+pub mod Sheet
 pub mod Charges
 pub mod Unwind
 pub mod Entries

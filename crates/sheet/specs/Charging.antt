@@ -81,13 +81,13 @@ lost pc w = pick (searches w) (taken (pcStored pc w) (w .finalize)) 0
 abbrev pub asAnswer : ℕ → Line Step → Line Answer
 asAnswer n l = line (l .number) (l .stops) (pick (eqb (l .number) 10) (Answer.Unpaid n) (Answer.Stepped (l .answer) n)) (l .left)
 
-abbrev pub instruction : ℕ → (World → Bool) → (World → Lines Step) → World → Lines Answer
+abbrev pub instruction : ℕ → Bool → (World → Lines Step) → World → Lines Answer
 instruction pc operands own w =
     let n = lost pc w in
     let o = own (charged pc w) in
     lines
     (refuse 12 (isNil (w .frames)) w
-    ∷ refuse 13 (not (operands w)) w
+    ∷ refuse 13 (not operands) w
     ∷ line 10 (usedUp w) (Answer.Stepped (Step.Fault Fault.OutOfFuel) 0) (bankBack w)
     ∷ line 17 (searches w && not (isNil (from (pcStored pc w) (w .finalize)))) (Answer.Cleanup n) (cleanup pc w)
     ∷ map (asAnswer n) (o .tests))

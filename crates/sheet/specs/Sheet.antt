@@ -36,20 +36,20 @@ abbrev pub windowLies : ℕ → ℕ → World → Bool
 windowLies dst argc w = leb (base (w .frames) + dst + 1 + argc) (length (w .stack))
 
 abbrev pub tableOf : Op → World → Lines Answer
-tableOf (Op.CoroNew pc dst f argc) w = instruction pc (λ w. lies w dst && windowLies dst argc w && Makings.isFunction w f) (Makings.coroNew dst f argc) w
-tableOf (Op.CoroNewIndirect pc dst c argc) w = instruction pc (λ w. lie (dst ∷ c ∷ []) w && windowLies dst argc w) (Makings.coroNewIndirect dst c argc) w
-tableOf (Op.Spawn pc dst c argc) w = instruction pc (λ w. lie (dst ∷ c ∷ []) w && windowLies dst argc w) (Makings.spawn pc dst c argc) w
-tableOf (Op.Yield pc dst src) w = instruction pc (lie (dst ∷ src ∷ [])) (Yields.yield pc dst src) w
-tableOf (Op.YieldKv pc dst src key) w = instruction pc (lie (dst ∷ src ∷ key ∷ [])) (Yields.yieldKv pc dst src key) w
-tableOf (Op.Await pc dst src) w = instruction pc (lie (dst ∷ src ∷ [])) (Yields.await pc dst src) w
-tableOf (Op.Resume pc dst c src) w = instruction pc (lie (dst ∷ c ∷ src ∷ [])) (Instructions.resume pc dst c src) w
-tableOf (Op.ResumeThrow pc dst c src) w = instruction pc (lie (dst ∷ c ∷ src ∷ [])) (Instructions.resumeThrow pc dst c src) w
-tableOf (Op.CoroClose pc dst c src) w = instruction pc (lie (dst ∷ c ∷ src ∷ [])) (Instructions.coroClose pc dst c src) w
-tableOf (Op.CoroStatus pc dst c) w = instruction pc (lie (dst ∷ c ∷ [])) (Instructions.coroStatus dst c) w
-tableOf (Op.CoroCurrent pc dst) w = instruction pc (lie (dst ∷ [])) (Instructions.coroCurrent dst) w
-tableOf (Op.CoroKey pc dst c) w = instruction pc (lie (dst ∷ c ∷ [])) (Instructions.coroKey dst c) w
-tableOf (Op.CoroResult pc dst c) w = instruction pc (lie (dst ∷ c ∷ [])) (Instructions.coroResult dst c) w
-tableOf (Op.IterNext pc has iter val src) w = instruction pc (lie (has ∷ iter ∷ val ∷ src ∷ [])) (Instructions.iterNext pc has iter val src) w
+tableOf (Op.CoroNew pc dst f argc) w = instruction pc (lies w dst && windowLies dst argc w && Makings.isFunction w f) (Makings.coroNew dst f argc) w
+tableOf (Op.CoroNewIndirect pc dst c argc) w = instruction pc (lie (dst ∷ c ∷ []) w && windowLies dst argc w) (Makings.coroNewIndirect dst c argc) w
+tableOf (Op.Spawn pc dst c argc) w = instruction pc (lie (dst ∷ c ∷ []) w && windowLies dst argc w) (Makings.spawn pc dst c argc) w
+tableOf (Op.Yield pc dst src) w = instruction pc (lie (dst ∷ src ∷ []) w) (Yields.yield pc dst src) w
+tableOf (Op.YieldKv pc dst src key) w = instruction pc (lie (dst ∷ src ∷ key ∷ []) w) (Yields.yieldKv pc dst src key) w
+tableOf (Op.Await pc dst src) w = instruction pc (lie (dst ∷ src ∷ []) w) (Yields.await pc dst src) w
+tableOf (Op.Resume pc dst c src) w = instruction pc (lie (dst ∷ c ∷ src ∷ []) w) (Instructions.resume pc dst c src) w
+tableOf (Op.ResumeThrow pc dst c src) w = instruction pc (lie (dst ∷ c ∷ src ∷ []) w) (Instructions.resumeThrow pc dst c src) w
+tableOf (Op.CoroClose pc dst c src) w = instruction pc (lie (dst ∷ c ∷ src ∷ []) w) (Instructions.coroClose pc dst c src) w
+tableOf (Op.CoroStatus pc dst c) w = instruction pc (lie (dst ∷ c ∷ []) w) (Instructions.coroStatus dst c) w
+tableOf (Op.CoroCurrent pc dst) w = instruction pc (lie (dst ∷ []) w) (Instructions.coroCurrent dst) w
+tableOf (Op.CoroKey pc dst c) w = instruction pc (lie (dst ∷ c ∷ []) w) (Instructions.coroKey dst c) w
+tableOf (Op.CoroResult pc dst c) w = instruction pc (lie (dst ∷ c ∷ []) w) (Instructions.coroResult dst c) w
+tableOf (Op.IterNext pc has iter val src) w = instruction pc (lie (has ∷ iter ∷ val ∷ src ∷ []) w) (Instructions.iterNext pc has iter val src) w
 tableOf (Op.Finish kind v) w = Endings.finish kind v w
 tableOf (Op.Unwind f pc) w = Unwinding.unwind f pc w
 tableOf (Op.SpawnTask v) w = Others.spawnTask v w
