@@ -23,6 +23,7 @@ pub mod Finishing
 pub mod Unwinding
 pub mod OtherCalls
 pub mod Sheet
+pub mod SheetNumbers
 pub mod Charges
 pub mod Unwind
 pub mod Entries

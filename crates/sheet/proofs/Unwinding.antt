@@ -190,19 +190,19 @@ lines-at e z w =
     (pick (eqb n 9 || eqb n 10) (after z (Answer.Refused e))
     (pick (leb n 8 && lacksMemory z (z .setup .costs .error)) (after z (Answer.Refused Fault.OutOfMemory))
     (pick (leb n 8 && noSlot z) (after z (Answer.Refused Fault.Full))
-    (leadsFrom (pick (leb n 8) (Table.raised (newWord z) (errorMade n z)) (Table.raised (wordOf e) z)) (line 17 true (Answer.Refused e) z)))))
+    (leadsFrom (pick (leb n 8) (Table.raised (newWord z) (errorMade n z)) (Table.raised (wordOf e) z)) (line n true (Answer.Refused e) z)))))
 
 unwinds : (e : Fault) (z w : World) → at e z w ≡ lines-at e z w
 unfolding pick
 unwinds Fault.None z w = refl
-unwinds Fault.NullReference z w = error-is 1 (line 17 true (Answer.Refused (fault 1)) z) z
-unwinds Fault.TypeError z w = error-is 2 (line 17 true (Answer.Refused (fault 2)) z) z
-unwinds Fault.InvalidCoroState z w = error-is 3 (line 17 true (Answer.Refused (fault 3)) z) z
-unwinds Fault.StackOverflow z w = error-is 4 (line 17 true (Answer.Refused (fault 4)) z) z
-unwinds Fault.CannotSuspend z w = error-is 5 (line 17 true (Answer.Refused (fault 5)) z) z
-unwinds Fault.CloseIgnored z w = error-is 6 (line 17 true (Answer.Refused (fault 6)) z) z
-unwinds Fault.ArithOverflow z w = error-is 7 (line 17 true (Answer.Refused (fault 7)) z) z
-unwinds Fault.NoScheduler z w = error-is 8 (line 17 true (Answer.Refused (fault 8)) z) z
+unwinds Fault.NullReference z w = error-is 1 (line 1 true (Answer.Refused (fault 1)) z) z
+unwinds Fault.TypeError z w = error-is 2 (line 2 true (Answer.Refused (fault 2)) z) z
+unwinds Fault.InvalidCoroState z w = error-is 3 (line 3 true (Answer.Refused (fault 3)) z) z
+unwinds Fault.StackOverflow z w = error-is 4 (line 4 true (Answer.Refused (fault 4)) z) z
+unwinds Fault.CannotSuspend z w = error-is 5 (line 5 true (Answer.Refused (fault 5)) z) z
+unwinds Fault.CloseIgnored z w = error-is 6 (line 6 true (Answer.Refused (fault 6)) z) z
+unwinds Fault.ArithOverflow z w = error-is 7 (line 7 true (Answer.Refused (fault 7)) z) z
+unwinds Fault.NoScheduler z w = error-is 8 (line 8 true (Answer.Refused (fault 8)) z) z
 unwinds Fault.OutOfMemory z w = refl
 unwinds Fault.OutOfFuel z w = refl
 unwinds Fault.Unsound z w = refl

@@ -130,4 +130,4 @@ unwind e pc w =
     ∷ refuse 9 (leb n 8 && lacksMemory z (z .setup .costs .error)) z
     ∷ refuse 14 (leb n 8 && noSlot z) z
     ∷ pick (leb n 8) (raised (newWord z) (errorMade n z)) (raised (wordOf e) z))
-    (line 17 true (Answer.Refused e) z)
+    (line n true (Answer.Refused e) z)
