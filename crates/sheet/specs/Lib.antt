@@ -1,4 +1,16 @@
 -- The fault sheet, PEP 342, coverage and the cheating engines, as statements on the model.
+pub mod Lines
+pub mod Words
+pub mod Moves
+pub mod Charging
+pub mod Instructions
+pub mod Makings
+pub mod Suspending
+pub mod Yields
+pub mod Endings
+pub mod Unwinding
+pub mod OtherCalls
+pub mod Sheet
 pub mod Gates
 pub mod Needs
 pub mod Sites
