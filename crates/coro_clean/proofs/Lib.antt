@@ -4,3 +4,4 @@ pub mod Starting
 pub mod Loss
 pub mod Closes
 pub mod Charged
+pub mod Joins

@@ -1,3 +1,4 @@
 pub mod Charge
 pub mod Start
 pub mod Loss
+pub mod Join

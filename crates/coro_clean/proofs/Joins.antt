@@ -1,0 +1,181 @@
+-- A coroutine joins a queue, or does not, on the world. Assumes nothing.
+use mathlib.Core.Path.{_≡_, refl, sym, ap, ap₂, _∙_, subst}
+use mathlib.Core.Bool.{Bool, true, false, not, _&&_, _||_}
+use mathlib.Core.List.{List, [], _∷_, _++_}
+use Prim.Native.Nat.{ℕ, _+_, _≤_, _<_}
+use native.Mathlib.Omega.{arith}
+use lib.ListN.{length, set, length-append, length-set}
+use Rattle.lists.specs.Chunks.{chunkAt, putChunk}
+use Rattle.heap.specs.Object.{asTask, asFinalized}
+use Rattle.heap.specs.Word.{slotOf, tagOf}
+use Rattle.heap.specs.Slot.{width, taskWords, finalizedWords}
+use Rattle.heap.specs.Heap.{coroIn, slotsOf, placeOf, coroOf, putSlot}
+use Rattle.heap.specs.Table.{Slot, slot}
+use Rattle.heap.specs.declared.fault.Fault.{Fault}
+use Rattle.heap.specs.declared.heap.Coroutine.the-variants as RV
+use Rattle.heap.specs.declared.heap.CoroPlace.the-variants as L
+use Rattle.heap.specs.declared.object.CoroObj.{CoroObj}
+use Rattle.heap.specs.declared.object.Object.the-variants as O
+use Rattle.heap.proofs.Fields as H
+use Rattle.model.specs.State.{isSuspended, isResumable}
+use Rattle.model.specs.Object.{Rest, Object, Is, withTask, withFinalized}
+use Rattle.model.specs.World.{World, after, withReady, withFinalize}
+use Rattle.model.specs.Heap.{setCoro}
+use Rattle.model.specs.Fuel.{setFinalizing}
+use Rattle.model.specs.Cleanup.{spawnAs, spawnTask}
+use Rattle.model.specs.Added.{handOverAs, handOver}
+use Rattle.model.specs.Sound.{sound}
+use Rattle.model.specs.declared.call.Answer.{Answer}
+use Rattle.model.specs.declared.coro.Made.{Made}
+use Rattle.model.specs.declared.machine.Fuel.{Fuel}
+use Rattle.invariant.proofs.Tests.{no-false}
+use Rattle.invariant.proofs.Queue as I
+use Rattle.invariant.proofs.Sound.{Sound, sound→}
+use Rattle.invariant.proofs.Coros.{task-sound, handed-sound}
+use Rattle.tables.specs.Does.{QueueDo}
+use Rattle.memory.specs.Memory.{Lent, Rep, Room, onSlots, onReady, onFinalize}
+use Rattle.memory.specs.Contract.{Does}
+use Rattle.memory.specs.Numbers.{withWaiting, withCleanups}
+use Rattle.memory.specs.declared.machine.Machine.{Machine}
+use Rattle.memory.specs.declared.machine.Sizes.{Sizes}
+use Rattle.memory.proofs.Does.{does}
+use Rattle.memory.proofs.Turn.{turn-ready, turn-finalize}
+use Rattle.memory.proofs.Lookup.{There, lacks}
+use Rattle.memory.proofs.Slotted.{in-slots, coro-absent, rest-rep, placed, placed-words}
+use Rattle.memory.proofs.Few.{queue-few}
+use Rattle.coro_clean.proofs.Paid.{chosen, passed}
+
+-- ---- room for one more
+
+-- a queue that has one word more is still no longer than the table
+joins-room : (mark : Rest → Bool) (xs : List (Slot Object)) (i v : ℕ) (y : Slot Object) (q : List ℕ) (n : ℕ) → I.Queue mark (set xs i y) (q ++ (v ∷ [])) → length xs ≤ n → length q < n
+joins-room mark xs i v y q n h k =
+    let a = queue-few mark (set xs i y) (q ++ (v ∷ [])) h in
+    let b = length-set xs i y in
+    let c = length-append q (v ∷ []) in
+    omega arith
+
+module _ (l : Sizes) (M : Lent) (m : Machine) (f : Fuel) (v : ℕ) (w : World) (rep : Rep l w M m f) where
+  -- ---- no coroutine
+
+  pub task-refused : (g : Fault) → RV.Not g ≡ coroOf (slotsOf (m .count) (M .slots)) v → Does l (spawnTask v w) M m f (Made.Refused Fault.TypeError)
+  unfolding spawnTask
+  task-refused g e = does l M m f (spawnTask v w) w (Made.Refused Fault.TypeError) (ap (λ c. spawnAs c v w) (coro-absent l M m f v w rep g e)) rep
+
+  pub hand-refused : (g : Fault) → RV.Not g ≡ coroOf (slotsOf (m .count) (M .slots)) v → Does l (handOver v w) M m f (Answer.Refused g)
+  unfolding handOver
+  hand-refused g e =
+      let q = lacks (w .slots) v g (in-slots l M m f v w rep (RV.Not g) e) in
+      does l M m f (handOver v w) w (Answer.Refused g) (ap (λ c. handOverAs c v w) (q .coro) ∙ ap (λ x. after w (Answer.Refused x)) (sym (q .fault))) rep
+
+  module _ (i : ℕ) (at : L.At i ≡ placeOf (coroOf (slotsOf (m .count) (M .slots)) v)) where
+    pub t : There (w .slots) v i (coroIn (M .slots) i)
+    t = placed l M m f v w rep i at
+
+    -- what the words of its slot say
+    state-is : coroIn (M .slots) i .state ≡ t .core .state
+    state-is = ap (λ (x : CoroObj). x .state) (t .is)
+
+    task-is : coroIn (M .slots) i .task ≡ t .rest .task
+    task-is = ap (λ (x : CoroObj). x .task) (t .is)
+
+    finalized-is : coroIn (M .slots) i .finalized ≡ t .rest .finalized
+    finalized-is = ap (λ (x : CoroObj). x .finalized) (t .is)
+
+    -- ---- spawn_task
+
+    may-join : Bool
+    may-join = not (t .rest .task) && isResumable (t .core .state)
+
+    as-task : spawnTask v w ≡ spawnAs (Is (t .core) (t .rest)) v w
+    unfolding spawnTask
+    as-task = ap (λ c. spawnAs c v w) (t .coro)
+
+    task-stays : may-join ≡ false → Does l (spawnTask v w) M m f (Made.Word v)
+    unfolding may-join
+    task-stays e = does l M m f (spawnTask v w) w (Made.Word v) (as-task ∙ passed _ (after w (Made.Word v)) may-join e) rep
+
+    pub task-already : coroIn (M .slots) i .task ≡ true → Does l (spawnTask v w) M m f (Made.Word v)
+    unfolding may-join
+    task-already e = task-stays (ap (λ b. not b && isResumable (t .core .state)) (sym task-is ∙ e))
+
+    pub task-late : coroIn (M .slots) i .task ≡ false → isResumable (coroIn (M .slots) i .state) ≡ false → Does l (spawnTask v w) M m f (Made.Word v)
+    unfolding may-join
+    task-late e r = task-stays (ap₂ (λ b c. not b && c) (sym task-is ∙ e) (ap isResumable (sym state-is) ∙ r))
+
+    pub task-room : sound w ≡ true → Room (w .setup) M → coroIn (M .slots) i .task ≡ false → m .ready < length (M .ready)
+    task-room snd room e =
+        let h : Sound false w = sound→ w snd (λ z. no-false z) in
+        let s = task-sound w v (t .core) (t .rest) h (t .coro) (sym task-is ∙ e) in
+        let k = h .heap .count in
+        let a = joins-room (λ r. r .task) (w .slots) (slotOf v) v _ (w .ready) (w .setup .limits .slots) (s .tasks) k in
+        let c = rep .ready .count in
+        let q = room .ready in
+        omega arith
+
+    pub task-joins : coroIn (M .slots) i .task ≡ false → isResumable (coroIn (M .slots) i .state) ≡ true → (slots′ ready′ : List ℕ)
+        → slots′ ≡ putChunk width (M .slots) i (taskWords (chunkAt width (M .slots) i)) → QueueDo (λ xs. xs ++ (v ∷ [])) (M .ready) ready′ (m .ready) (m .ready + 1)
+        → Does l (spawnTask v w) (onSlots slots′ (onReady ready′ M)) (withWaiting (m .ready + 1) m) f (Made.Word v)
+    unfolding may-join
+    task-joins e r slots′ ready′ mark push =
+        let u = withReady (w .ready ++ (v ∷ [])) w in
+        let queued = turn-ready l w M m f rep (w .ready ++ (v ∷ [])) ready′ (m .ready + 1) (push (w .ready) (rep .ready)) in
+        let k = t .core in
+        let r′ = withTask true (t .rest) in
+        does l (onSlots slots′ (onReady ready′ M)) (withWaiting (m .ready + 1) m) f (spawnTask v w) (setCoro v k r′ u) (Made.Word v)
+        (as-task ∙ chosen (after (setCoro v k r′ u) (Made.Word v)) _ may-join (ap₂ (λ b c. not b && c) (sym task-is ∙ e) (ap isResumable (sym state-is) ∙ r)))
+        (rest-rep l (onReady ready′ M) (withWaiting (m .ready + 1) m) f v u queued i (coroIn (M .slots) i) t r′ slots′ refl
+        (H.tasks (M .slots) i (tagOf v) (coroIn (M .slots) i) (placed-words l M m f v w rep i at) slots′ mark
+        ∙ ap (λ (x : CoroObj). putSlot (M .slots) i (slot (tagOf v) (O.Coro (asTask x)))) (t .is)))
+
+    -- ---- hand over
+
+    as-handed : handOver v w ≡ handOverAs (Is (t .core) (t .rest)) v w
+    unfolding handOver
+    as-handed = ap (λ c. handOverAs c v w) (t .coro)
+
+    unfit : Bool
+    unfit = not (isSuspended (t .core .state)) || t .rest .finalized
+
+    pub hand-awake : isSuspended (coroIn (M .slots) i .state) ≡ false → Does l (handOver v w) M m f (Answer.Refused Fault.InvalidCoroState)
+    unfolding unfit
+    hand-awake e =
+        does l M m f (handOver v w) w (Answer.Refused Fault.InvalidCoroState)
+        (as-handed ∙ chosen (after w (Answer.Refused Fault.InvalidCoroState)) _ unfit (ap (λ b. not b || t .rest .finalized) (ap isSuspended (sym state-is) ∙ e))) rep
+
+    pub hand-twice : isSuspended (coroIn (M .slots) i .state) ≡ true → coroIn (M .slots) i .finalized ≡ true → Does l (handOver v w) M m f (Answer.Refused Fault.InvalidCoroState)
+    unfolding unfit
+    hand-twice e d =
+        does l M m f (handOver v w) w (Answer.Refused Fault.InvalidCoroState)
+        (as-handed ∙ chosen (after w (Answer.Refused Fault.InvalidCoroState)) _ unfit (ap₂ (λ b c. not b || c) (ap isSuspended (sym state-is) ∙ e) (sym finalized-is ∙ d))) rep
+
+    pub hand-room : sound w ≡ true → Room (w .setup) M → coroIn (M .slots) i .finalized ≡ false → m .finalize < length (M .finalize)
+    hand-room snd room e =
+        let h : Sound false w = sound→ w snd (λ z. no-false z) in
+        let s = handed-sound w v (t .core) (t .rest) h (t .coro) (sym finalized-is ∙ e) in
+        let k = h .heap .count in
+        let a = joins-room (λ r. r .finalized) (w .slots) (slotOf v) v _ (w .finalize) (w .setup .limits .slots) (s .cleanups) k in
+        let c = rep .finalize .count in
+        let q = room .finalize in
+        omega arith
+
+    -- its mark, and its word in the queue
+    abbrev pub handed : World
+    handed = setCoro v (t .core) (withFinalized true (t .rest)) (withFinalize (w .finalize ++ (v ∷ [])) w)
+
+    pub hand-rep : (slots′ finalize′ : List ℕ) → slots′ ≡ putChunk width (M .slots) i (finalizedWords (chunkAt width (M .slots) i))
+        → QueueDo (λ xs. xs ++ (v ∷ [])) (M .finalize) finalize′ (m .finalize) (m .finalize + 1) → Rep l handed (onSlots slots′ (onFinalize finalize′ M)) (withCleanups (m .finalize + 1) m) f
+    hand-rep slots′ finalize′ mark push =
+        let u = withFinalize (w .finalize ++ (v ∷ [])) w in
+        let queued = turn-finalize l w M m f rep (w .finalize ++ (v ∷ [])) finalize′ (m .finalize + 1) (push (w .finalize) (rep .finalize)) in
+        rest-rep l (onFinalize finalize′ M) (withCleanups (m .finalize + 1) m) f v u queued i (coroIn (M .slots) i) t (withFinalized true (t .rest)) slots′ refl
+        (H.finalizes (M .slots) i (tagOf v) (coroIn (M .slots) i) (placed-words l M m f v w rep i at) slots′ mark
+        ∙ ap (λ (x : CoroObj). putSlot (M .slots) i (slot (tagOf v) (O.Coro (asFinalized x)))) (t .is))
+
+    pub hand-does : isSuspended (coroIn (M .slots) i .state) ≡ true → coroIn (M .slots) i .finalized ≡ false → (M′ : Lent) (n : Machine) (g : Fuel)
+        → Rep l (setFinalizing (m .finalizing) handed) M′ n g → Does l (handOver v w) M′ n g Answer.Accepted
+    unfolding unfit
+    hand-does e d M′ n g r =
+        does l M′ n g (handOver v w) (setFinalizing (w .finalizing) handed) Answer.Accepted
+        (as-handed ∙ passed _ (after (setFinalizing (w .finalizing) handed) Answer.Accepted) unfit (ap₂ (λ b c. not b || c) (ap isSuspended (sym state-is) ∙ e) (sym finalized-is ∙ d)))
+        (subst (λ b. Rep l (setFinalizing b handed) M′ n g) (rep .finalizing) r)

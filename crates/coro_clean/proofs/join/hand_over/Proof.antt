@@ -1,0 +1,151 @@
+-- `hand_over` meets the definition: no coroutine, one that is not suspended, one handed over before, a new one. Assumes nothing.
+use mathlib.Core.Path.{_≡_, sym, _∙_}
+use mathlib.Core.Path.{ap}
+use Prim.Native.Nat.{ℕ, _<_}
+use lib.ListN.{length}
+use native.Mathlib.Omega.{arith}
+use borrow.Author.Tests.{not-true, not-false}
+use Rattle.heap.specs.Heap.{SlotFits, slotsOf, placeOf, coroOf}
+use Rattle.heap.specs.declared.heap.CoroPlace.the-variants as L
+use Rattle.heap.proofs.Place.{none-there, stands-words}
+use Rattle.memory.specs.Memory.{Lent, Beside}
+use Rattle.heap.specs.State.{isSuspended}
+use Rattle.memory.specs.Memory.{onSlots, onFinalize}
+use Rattle.memory.specs.Lendings.{cleanups, plain}
+use Rattle.coro_clean.proofs.Joins.{hand-refused, hand-awake, hand-twice, hand-room, handed, hand-rep, hand-does}
+use borrow.Author.Needs.{needs}
+use Rattle.coro_clean.proofs.join.hand_over.Statement.{statement}
+use Rattle.coro_clean.proofs.join.hand_over.Tie as tie
+
+abbrev mem : tie.Start → Beside → Lent
+mem c b = cleanups (c .args .slots .now) (c .args .finalize .now) plain b
+
+-- where a coroutine was found
+abbrev slot : tie.After-known-told2 → ℕ
+slot c = c .before .i .given .0 .0
+
+stands-at : (c : tie.After-known-told2) → L.At (slot c) ≡ placeOf (coroOf (slotsOf (c .before .before .before .before .before .before .before .args .m .count) (c .before .before .before .before .before .before .before .args .slots .now)) (c .before .before .before .before .before .before .before .args .v .0))
+stands-at c = sym (c .before .i .given .1) ∙ c .before .before .before .coro-place .ensures
+
+fits : (c : tie.After-known-told2) → SlotFits (c .before .before .before .before .before .before .before .args .slots .now) (slot c)
+fits c =
+    let start = (c .before .before .before .before .before .before .before) in
+    stands-words (start .args .m .count) (start .args .slots .now) (start .args .v .0) (slot c) (stands-at c) (start .pre .ok .rep .slots .within)
+
+-- the cleanup queue has room for it
+room : (c : tie.Else2) → c .before .before .before .before .before .before .before .before .before .before .before .before .before .before .args .m .finalize < length (c .before .before .before .before .before .before .before .before .before .before .before .before .before .before .args .finalize .now)
+room c =
+    let place = (c .before .before .before .before .before .before .before) in
+    let start = (c .before .before .before .before .before .before .before .before .before .before .before .before .before .before) in
+    let o = start .pre .ok in
+    hand-room (start .pre .sizes) (mem start (o .beside)) (start .args .m) (o .beside .fuel) (start .args .v .0) (o .world) (o .rep) (slot place) (stands-at place) (o .sound) (o .room) (sym (c .before .finalized-at .ensures) ∙ c .if2 .left)
+
+coro-place-requires : tie.Need-coro-place-requires
+coro-place-requires c κs = c .before .before .before .pre .ok .rep .slots .within
+
+enum-known-f : tie.Need-enum-known-f
+enum-known-f c = search needs
+
+enum-known-i : tie.Need-enum-known-i
+enum-known-i c = search needs
+
+state-at-requires : tie.Need-state-at-requires
+state-at-requires c κs = fits (c .before)
+
+is-suspended-requires : tie.Need-is-suspended-requires
+is-suspended-requires c κs = search needs
+
+same-length : tie.Need-same-length
+same-length c = search needs
+
+returns : tie.Need-returns
+returns c =
+    let place = (c .before .before .before .before) in
+    let start = (c .before .before .before .before .before .before .before .before .before .before .before) in
+    λ l w b rep.
+    hand-awake l (mem start b) (start .args .m) (start .args .fuel) (start .args .v .0) w rep (slot place) (stands-at place)
+    (ap isSuspended (sym (c .before .before .state-at .ensures)) ∙ sym (c .before .is-suspended .ensures) ∙ not-true _ (c .if1 .taken))
+
+finalized-at-requires : tie.Need-finalized-at-requires
+finalized-at-requires c κs = fits (c .before .before .before .before .before)
+
+same-length-2 : tie.Need-same-length-2
+same-length-2 c = search needs
+
+returns-2 : tie.Need-returns-2
+returns-2 c =
+    let place = (c .before .before .before .before .before .before .before) in
+    let start = (c .before .before .before .before .before .before .before .before .before .before .before .before .before .before) in
+    λ l w b rep.
+    hand-twice l (mem start b) (start .args .m) (start .args .fuel) (start .args .v .0) w rep (slot place) (stands-at place)
+    (ap isSuspended (sym (c .before .before .before .before .before .state-at .ensures)) ∙ sym (c .before .before .before .before .is-suspended .ensures) ∙ not-false _ (c .before .before .before .if1 .left)) (sym (c .before .finalized-at .ensures) ∙ c .if2 .taken)
+
+put-finalized-requires : tie.Need-put-finalized-requires
+put-finalized-requires c κs = fits (c .before .before .before .before .before .before .before .before)
+
+push-back-requires : tie.Need-push-back-requires
+push-back-requires c κs = room (c .before .before .before .before .before)
+
+add-n : tie.Need-add-n
+add-n c = let h = room (c .before .before .before .before .before .before .before .before .before) in omega (arith, h, c .before .before .before .before .before .before .before .before .before .before .before .before .before .before .before .before .before .before .before .before .before .before .before .good)
+
+set-finalizing-requires : tie.Need-set-finalizing-requires
+set-finalizing-requires c κs = search needs
+
+same-length-3 : tie.Need-same-length-3
+same-length-3 c = search needs
+
+returns-3 : tie.Need-returns-3
+returns-3 c =
+    let placed = (c .before .before .before) in
+    let start = (c .before .before .before .before .before .before .before) in
+    λ l w b rep.
+    hand-refused l (mem start b) (start .args .m) (start .args .fuel) (start .args .v .0) w rep _
+    (none-there (coroOf (slotsOf (start .args .m .count) (start .args .slots .now)) (start .args .v .0)) _ (sym (c .before .f .given .1) ∙ placed .coro-place .ensures))
+
+same-length-4 : tie.Need-same-length-4
+same-length-4 c = search needs
+
+same-length-5 : tie.Need-same-length-5
+same-length-5 c = search needs
+
+returns-4 : tie.Need-returns-4
+returns-4 c =
+    let marked = (c .before .before) in
+    let joined = (c .before .before .before .before .before .before) in
+    let handed-on = (c .before .before .before .before .before .before .before .before .before .before) in
+    let place = (c .before .before .before .before .before .before .before .before .before .before .before .before .before .before .before .before .before .before .before) in
+    let start = (c .before .before .before .before .before .before .before .before .before .before .before .before .before .before .before .before .before .before .before .before .before .before .before .before .before .before) in
+    λ l w b rep.
+    let M = mem start b in
+    let f = start .args .fuel in
+    let v = start .args .v .0 in
+    hand-does l M (start .args .m) f v w rep (slot place) (stands-at place)
+    (ap isSuspended (sym (c .before .before .before .before .before .before .before .before .before .before .before .before .before .before .before .before .before .state-at .ensures)) ∙ sym (c .before .before .before .before .before .before .before .before .before .before .before .before .before .before .before .before .is-suspended .ensures) ∙ not-false _ (c .before .before .before .before .before .before .before .before .before .before .before .before .before .before .before .if1 .left)) (sym (c .before .before .before .before .before .before .before .before .before .before .before .before .before .finalized-at .ensures) ∙ c .before .before .before .before .before .before .before .before .before .before .before .before .if2 .left) _ _ _
+    (marked .set-finalizing .ensures l (handed l M (start .args .m) f v w rep (slot place) (stands-at place))
+    (record { words = onSlots (handed-on .put-finalized .last .0) (onFinalize (joined .push-back .last .0) M); fuel = f })
+    (hand-rep l M (start .args .m) f v w rep (slot place) (stands-at place) _ _ (handed-on .put-finalized .ensures) (joined .push-back .ensures)))
+
+pub hand-over-spec : {M : Type 1} → statement M
+hand-over-spec =
+    tie.close
+    (tie.spec
+    coro-place-requires
+    enum-known-f
+    enum-known-i
+    state-at-requires
+    is-suspended-requires
+    same-length
+    returns
+    finalized-at-requires
+    same-length-2
+    returns-2
+    put-finalized-requires
+    push-back-requires
+    add-n
+    set-finalizing-requires
+    same-length-3
+    returns-3
+    same-length-4
+    same-length-5
+    returns-4)

@@ -1,0 +1,135 @@
+-- `spawn_task` meets the definition: no coroutine, a task already, one that cannot be resumed, a new task. Assumes nothing.
+use mathlib.Core.Path.{_≡_, sym, _∙_}
+use mathlib.Core.Path.{ap}
+use Prim.Native.Nat.{ℕ, _<_}
+use lib.ListN.{length}
+use native.Mathlib.Omega.{arith}
+use borrow.Author.Tests.{not-true, not-false}
+use Rattle.heap.specs.Heap.{SlotFits, slotsOf, placeOf, coroOf}
+use Rattle.heap.specs.declared.heap.CoroPlace.the-variants as L
+use Rattle.heap.proofs.Place.{none-there, stands-words}
+use Rattle.memory.specs.Memory.{Lent, Beside}
+use Rattle.model.specs.State.{isResumable}
+use Rattle.memory.specs.Lendings.{tasks, plain}
+use Rattle.coro_clean.proofs.Joins.{task-refused, task-already, task-late, task-room, task-joins}
+use borrow.Author.Needs.{needs}
+use Rattle.coro_clean.proofs.join.spawn_task.Statement.{statement}
+use Rattle.coro_clean.proofs.join.spawn_task.Tie as tie
+
+abbrev mem : tie.Start → Beside → Lent
+mem c b = tasks (c .args .slots .now) (c .args .ready .now) plain b
+
+-- where a coroutine was found
+abbrev slot : tie.After-known-told → ℕ
+slot c = c .before .i .given .0 .0
+
+stands-at : (c : tie.After-known-told) → L.At (slot c) ≡ placeOf (coroOf (slotsOf (c .before .before .before .before .before .before .before .args .m .count) (c .before .before .before .before .before .before .before .args .slots .now)) (c .before .before .before .before .before .before .before .args .v .0))
+stands-at c = sym (c .before .i .given .1) ∙ c .before .before .before .coro-place .ensures
+
+fits : (c : tie.After-known-told) → SlotFits (c .before .before .before .before .before .before .before .args .slots .now) (slot c)
+fits c =
+    let start = (c .before .before .before .before .before .before .before) in
+    stands-words (start .args .m .count) (start .args .slots .now) (start .args .v .0) (slot c) (stands-at c) (start .pre .ok .rep .slots .within)
+
+-- the ready queue has room for it
+room : (c : tie.Else2) → c .before .before .before .before .before .before .before .before .before .before .before .before .before .before .args .m .ready < length (c .before .before .before .before .before .before .before .before .before .before .before .before .before .before .args .ready .now)
+room c =
+    let place = (c .before .before .before .before .before .before .before) in
+    let start = (c .before .before .before .before .before .before .before .before .before .before .before .before .before .before) in
+    let o = start .pre .ok in
+    task-room (start .pre .sizes) (mem start (o .beside)) (start .args .m) (o .beside .fuel) (start .args .v .0) (o .world) (o .rep) (slot place) (stands-at place) (o .sound) (o .room) (sym (c .before .before .before .before .before .task-at .ensures) ∙ c .before .before .before .before .if1 .left)
+
+coro-place-requires : tie.Need-coro-place-requires
+coro-place-requires c κs = c .before .before .before .pre .ok .rep .slots .within
+
+enum-told : tie.Need-enum-told
+enum-told c = search needs
+
+enum-known-i : tie.Need-enum-known-i
+enum-known-i c = search needs
+
+task-at-requires : tie.Need-task-at-requires
+task-at-requires c κs = fits (c .before)
+
+same-length : tie.Need-same-length
+same-length c = search needs
+
+returns : tie.Need-returns
+returns c =
+    let place = (c .before .before .before) in
+    let start = (c .before .before .before .before .before .before .before .before .before .before) in
+    λ l w b rep. task-already l (mem start b) (start .args .m) (b .fuel) (start .args .v .0) w rep (slot place) (stands-at place) (sym (c .before .task-at .ensures) ∙ c .if1 .taken)
+
+state-at-requires : tie.Need-state-at-requires
+state-at-requires c κs = fits (c .before .before .before .before)
+
+is-resumable-requires : tie.Need-is-resumable-requires
+is-resumable-requires c κs = search needs
+
+same-length-2 : tie.Need-same-length-2
+same-length-2 c = search needs
+
+returns-2 : tie.Need-returns-2
+returns-2 c =
+    let place = (c .before .before .before .before .before .before .before) in
+    let start = (c .before .before .before .before .before .before .before .before .before .before .before .before .before .before) in
+    λ l w b rep.
+    task-late l (mem start b) (start .args .m) (b .fuel) (start .args .v .0) w rep (slot place) (stands-at place) (sym (c .before .before .before .before .before .task-at .ensures) ∙ c .before .before .before .before .if1 .left)
+    (ap isResumable (sym (c .before .before .state-at .ensures)) ∙ sym (c .before .is-resumable .ensures) ∙ not-true _ (c .if2 .taken))
+
+put-task-requires : tie.Need-put-task-requires
+put-task-requires c κs = fits (c .before .before .before .before .before .before .before .before)
+
+push-back-requires : tie.Need-push-back-requires
+push-back-requires c κs = room (c .before .before .before .before .before)
+
+add-n : tie.Need-add-n
+add-n c = let h = room (c .before .before .before .before .before .before .before .before .before) in omega (arith, h, c .before .before .before .before .before .before .before .before .before .before .before .before .before .before .before .before .before .before .before .before .before .before .before .good)
+
+same-length-3 : tie.Need-same-length-3
+same-length-3 c = search needs
+
+returns-3 : tie.Need-returns-3
+returns-3 c =
+    let placed = (c .before .before) in
+    let start = (c .before .before .before .before .before .before) in
+    λ l w b rep.
+    task-refused l (mem start b) (start .args .m) (b .fuel) (start .args .v .0) w rep _
+    (none-there (coroOf (slotsOf (start .args .m .count) (start .args .slots .now)) (start .args .v .0)) _ (sym (c .enum-told .given .1) ∙ placed .coro-place .ensures))
+
+same-length-4 : tie.Need-same-length-4
+same-length-4 c = search needs
+
+same-length-5 : tie.Need-same-length-5
+same-length-5 c = search needs
+
+returns-4 : tie.Need-returns-4
+returns-4 c =
+    let place = (c .before .before .before .before .before .before .before .before .before .before .before .before .before .before .before .before) in
+    let start = (c .before .before .before .before .before .before .before .before .before .before .before .before .before .before .before .before .before .before .before .before .before .before .before) in
+    λ l w b rep.
+    task-joins l (mem start b) (start .args .m) (b .fuel) (start .args .v .0) w rep (slot place) (stands-at place) (sym (c .before .before .before .before .before .before .before .before .before .before .before .before .before .before .task-at .ensures) ∙ c .before .before .before .before .before .before .before .before .before .before .before .before .before .if1 .left)
+    (ap isResumable (sym (c .before .before .before .before .before .before .before .before .before .before .before .state-at .ensures)) ∙ sym (c .before .before .before .before .before .before .before .before .before .before .is-resumable .ensures) ∙ not-false _ (c .before .before .before .before .before .before .before .before .before .if2 .left)) _ _ (c .before .before .before .before .before .before .before .put-task .ensures) (c .before .before .before .push-back .ensures)
+
+pub spawn-task-spec : {M : Type 1} → statement M
+spawn-task-spec =
+    tie.close
+    (tie.spec
+    coro-place-requires
+    enum-told
+    enum-known-i
+    task-at-requires
+    same-length
+    returns
+    state-at-requires
+    is-resumable-requires
+    same-length-2
+    returns-2
+    put-task-requires
+    push-back-requires
+    add-n
+    same-length-3
+    returns-3
+    same-length-4
+    same-length-5
+    returns-4)
