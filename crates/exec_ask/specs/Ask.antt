@@ -3,6 +3,7 @@ use mathlib.Core.Path.{_≡_}
 use mathlib.Core.List.{List}
 use Prim.Native.Nat.{ℕ, _*_, _≤_}
 use lib.ListN.{length}
+use Rattle.heap.specs.Heap.{TableFits}
 use Rattle.model.specs.Exec.{current}
 use Rattle.model.specs.declared.machine.Active.{Active}
 use Rattle.tables.specs.Parts.{Chain}
@@ -11,7 +12,7 @@ use Rattle.memory.specs.declared.machine.Machine.{Machine}
 
 -- two registers of the top frame, and the slots in the words
 pub record AskFits (stack frames slots : List ℕ) (m : Machine) (dst c : ℕ) : Type 0 where
-  pub table : m .count * 20 ≤ length slots
+  pub table : TableFits slots (m .count)
   pub result : RegFits stack frames (m .height) (m .depth) dst
   pub coro : RegFits stack frames (m .height) (m .depth) c
 

@@ -1,10 +1,11 @@
 // coro.rs: exec, CoroStatus, CoroCurrent, CoroKey and CoroResult. Their operands have been tested. No number changes.
 ghost use Prim.Native.Nat.{_*_, _≤_};
 ghost use lib.ListN.{length};
-ghost use Rattle.model.specs.Exec.{coroStatus, coroCurrent, coroKey};
+ghost use Rattle.model.specs.Exec.{coroStatus, coroCurrent, coroKey, coroResult};
 ghost use Rattle.exec_ask.specs.Ask.{AskFits, CurrentFits, Current};
 ghost use Rattle.memory.specs.Lendings.{topTable, topChain};
 ghost use Rattle.memory.specs.Contract.{Met, any, every, only};
+use heap::fault::Fault;
 use heap::heap::CoroPlace;
 use heap::value::Word;
 use machine::coro::coro_state;
@@ -74,8 +75,35 @@ pub fn coro_key(
     match heap::heap::coro_place(slots, m.count, Word(v)) {
         CoroPlace::Not(f) => Step::Fault(f),
         CoroPlace::At(i) => {
-            let key = heap::slot::coro_at(slots, i).key;
+            let key = heap::field::key_at(slots, i);
             put(stack, frames, m, dst, key);
+            Step::Next
+        }
+    }
+}
+
+// coro.rs: exec, CoroResult.
+pub fn coro_result(
+    stack: &mut [u64],
+    frames: &[u64],
+    slots: &[u64],
+    m: Machine,
+    dst: u64,
+    c: u64,
+) -> Step
+    requires { ⌜ AskFits (now stack) (now frames) (now slots) m dst c ⌝ }
+    ensures { λ r. ⌜ every (λ l. Met any l (coroResult dst c) (topTable stack frames slots) (only m) (only m) r) ⌝ }
+{
+    let v = tables::stack::reg(stack, frames, m.height, m.depth, c as usize);
+    match heap::heap::coro_place(slots, m.count, Word(v)) {
+        CoroPlace::Not(f) => Step::Fault(f),
+        CoroPlace::At(i) => {
+            let state = heap::field::state_at(slots, i);
+            if !state.is_returned() {
+                return Step::Fault(Fault::InvalidCoroState);
+            }
+            let result = heap::field::result_at(slots, i);
+            put(stack, frames, m, dst, result);
             Step::Next
         }
     }

@@ -1,44 +1,31 @@
--- The coroutine that a word names, by the place that the lower crate tells. Assumes nothing.
+-- The coroutine that a word names, or none, by the place that the lower crate tells. Assumes nothing.
 use mathlib.Core.Path.{_≡_, sym, ap, _∙_}
-use mathlib.Core.List.{List}
 use Prim.Native.Nat.{ℕ}
-use Rattle.lists.specs.Chunks.{chunkAt}
-use Rattle.heap.specs.Slot.{coroAt}
-use Rattle.heap.specs.Heap.{slotsOf, placeOf, coroOf}
+use Rattle.heap.specs.Heap.{coroIn, slotsOf, placeOf, coroOf}
 use Rattle.heap.specs.declared.fault.Fault.{Fault}
-use Rattle.heap.specs.declared.heap.Coroutine as R
 use Rattle.heap.specs.declared.heap.Coroutine.the-variants as RV
 use Rattle.heap.specs.declared.heap.CoroPlace.the-variants as L
-use Rattle.heap.specs.declared.object.CoroObj.{CoroObj}
 use Rattle.heap.specs.declared.object.CoroState.{CoroState}
-use Rattle.heap.proofs.Place.{none-there, stands}
+use Rattle.heap.proofs.Place.{none-there}
 use Rattle.model.specs.World.{World}
 use Rattle.model.specs.Coro.{stateAs, coroState}
 use Rattle.model.specs.Heap.{notA}
 use Rattle.model.specs.declared.coro.Stated.{Stated}
-use Rattle.memory.specs.Slots.{toSlots}
-use Rattle.memory.specs.Memory.{Slots}
-use Rattle.memory.proofs.Tables.{slots-are}
-use Rattle.memory.proofs.Lookup.{Lacks, lacks, There, there}
+use Rattle.model.specs.declared.machine.Fuel.{Fuel}
+use Rattle.memory.specs.Memory.{Lent, Rep}
+use Rattle.memory.specs.declared.machine.Machine.{Machine}
+use Rattle.memory.specs.declared.machine.Sizes.{Sizes}
+use Rattle.memory.proofs.Lookup.{Lacks, lacks}
+use Rattle.memory.proofs.Slotted.{in-slots, placed, reads-state}
 
-module _ (w : World) (ws : List ℕ) (n v : ℕ) (s : Slots (toSlots (w .slots)) ws n) where
-  in-world : (x : R.Coroutine) → x ≡ coroOf (slotsOf n ws) v → x ≡ coroOf (toSlots (w .slots)) v
-  in-world x e = e ∙ ap (λ xs. coroOf xs v) (slots-are (toSlots (w .slots)) ws n s)
-
-  -- none
-  pub named-none : (f : Fault) → L.Not f ≡ placeOf (coroOf (slotsOf n ws) v) → Lacks (w .slots) v f
-  named-none f e = lacks (w .slots) v f (in-world (RV.Not f) (none-there (coroOf (slotsOf n ws) v) f e))
-
-  -- the one at place i
-  pub named-at : (i : ℕ) → L.At i ≡ placeOf (coroOf (slotsOf n ws) v) → There (w .slots) v i (coroAt (chunkAt 20 ws i))
-  named-at i e = let c = coroAt (chunkAt 20 ws i) in there (w .slots) v i c (in-world (RV.At i c) (stands n ws v i e .coro))
+module _ (l : Sizes) (M : Lent) (m : Machine) (f : Fuel) (v : ℕ) (w : World) (rep : Rep l w M m f) where
+  pub named-none : (g : Fault) → L.Not g ≡ placeOf (coroOf (slotsOf (m .count) (M .slots)) v) → Lacks (w .slots) v g
+  named-none g e = lacks (w .slots) v g (in-slots l M m f v w rep (RV.Not g) (none-there (coroOf (slotsOf (m .count) (M .slots)) v) g e))
 
   -- ---- its state
 
-  pub state-none : (f : Fault) → L.Not f ≡ placeOf (coroOf (slotsOf n ws) v) → Stated.Refused f ≡ coroState w v
-  state-none f e = let q = named-none f e in ap Stated.Refused (q .fault) ∙ ap (λ k. stateAs k (notA w v)) (sym (q .coro))
+  pub state-none : (g : Fault) → L.Not g ≡ placeOf (coroOf (slotsOf (m .count) (M .slots)) v) → Stated.Refused g ≡ coroState w v
+  state-none g e = let q = named-none g e in ap Stated.Refused (q .fault) ∙ ap (λ k. stateAs k (notA w v)) (sym (q .coro))
 
-  pub state-at : (i : ℕ) (c : CoroObj) → L.At i ≡ placeOf (coroOf (slotsOf n ws) v) → c ≡ coroAt (chunkAt 20 ws i) → Stated.In (c .state) ≡ coroState w v
-  state-at i c e q =
-      let t = named-at i e in
-      ap (λ (x : CoroObj). Stated.In (x .state)) (q ∙ t .is) ∙ ap (λ k. stateAs k (notA w v)) (sym (t .coro))
+  pub state-at : (i : ℕ) (x : CoroState) → L.At i ≡ placeOf (coroOf (slotsOf (m .count) (M .slots)) v) → x ≡ coroIn (M .slots) i .state → Stated.In x ≡ coroState w v
+  state-at i x e q = ap Stated.In (q ∙ reads-state l M m f v w rep i e) ∙ ap (λ k. stateAs k (notA w v)) (sym (placed l M m f v w rep i e .coro))

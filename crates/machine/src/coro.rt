@@ -1,6 +1,5 @@
 // coro.rs: coro_state.
-ghost use Prim.Native.Nat.{_*_, _≤_};
-ghost use lib.ListN.{length};
+ghost use Rattle.heap.specs.Heap.{TableFits};
 ghost use Rattle.model.specs.Coro.{coroState};
 ghost use Rattle.memory.specs.Lendings.{table};
 ghost use Rattle.memory.specs.Contract.{Reads, every, only};
@@ -11,14 +10,13 @@ use model::coro::Stated;
 
 // The state of the coroutine that a word names.
 pub fn coro_state(slots: &[u64], m: Machine, v: Word) -> Stated
-    requires { ⌜ m .count * 20 ≤ length (now slots) ⌝ }
+    requires { ⌜ TableFits (now slots) (m .count) ⌝ }
     ensures { λ r. ⌜ every (λ l. Reads l (λ w. coroState w (v .0)) (table slots) (only m) r) ⌝ }
 {
     match heap::heap::coro_place(slots, m.count, v) {
         CoroPlace::Not(f) => Stated::Refused(f),
         CoroPlace::At(i) => {
-            let c = heap::slot::coro_at(slots, i);
-            let s = c.state;
+            let s = heap::field::state_at(slots, i);
             Stated::In(s)
         }
     }

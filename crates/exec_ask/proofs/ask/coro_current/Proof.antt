@@ -16,7 +16,8 @@ same-length c = search needs
 
 returns : tie.Need-returns
 returns c =
-    let put = c .before .before in let asked = put .before .before in let a = asked .before .before .before .before .args in
+    let put = c .before .before in let asked = put .before .before in let start = asked .before .before .before .before in
+    let a = start .args in
     λ l w b rep. current-told l _ (a .m) (b .fuel) w (a .dst) (asked .current .result) (asked .current .ensures (w .chain) (rep .chain))
     (put .put .ensures l w (record { words = onChain (a .chain .now) (b .words); fuel = b .fuel }) rep)
 

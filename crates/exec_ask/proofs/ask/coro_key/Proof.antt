@@ -2,8 +2,10 @@
 use mathlib.Core.Path.{sym, ap, _∙_}
 use Rattle.heap.specs.declared.object.CoroObj.{CoroObj}
 use Rattle.heap.proofs.Place.{stands-words}
-use Rattle.machine.proofs.Named.{named-none, named-at}
 use Rattle.memory.specs.Memory.{onSlots}
+use Rattle.memory.specs.Lendings.{topTable, plain}
+use Rattle.memory.proofs.Slotted.{placed}
+use Rattle.machine.proofs.Named.{named-none}
 use Rattle.exec_ask.proofs.Asked.{key-refused, key-told}
 use borrow.Author.Needs.{needs}
 use Rattle.exec_ask.proofs.ask.coro_key.Statement.{statement}
@@ -21,10 +23,12 @@ enum-known-f c = search needs
 enum-known-i : tie.Need-enum-known-i
 enum-known-i c = search needs
 
-coro-at-requires : tie.Need-coro-at-requires
-coro-at-requires c κs =
-    let found = c .before in let place = found .before .before in let read = place .before in let start = read .before .before .before .before .before in
-    stands-words (start .args .m .count) (start .args .slots .now) (read .reg .result) (found .i .given .0 .0) (sym (found .i .given .1) ∙ place .coro-place .ensures) (start .pre .table)
+key-at-requires : tie.Need-key-at-requires
+key-at-requires c κs =
+    let at-i = c .before in let at-coro-place = at-i .before .before in let at-reg = at-coro-place .before in
+    let start = at-reg .before .before .before .before .before in
+    stands-words (start .args .m .count) (start .args .slots .now) (at-reg .reg .result) (at-i .i .given .0 .0)
+    (sym (at-i .i .given .1) ∙ at-coro-place .coro-place .ensures) (start .pre .table)
 
 put-requires : tie.Need-put-requires
 put-requires c κs = search needs
@@ -34,21 +38,26 @@ same-length c = search needs
 
 returns : tie.Need-returns
 returns c =
-    let found = c .before in let place = found .before .before in let read = place .before in let a = read .before .before .before .before .before .args in
-    λ l w b rep. key-refused l _ (a .m) (b .fuel) w (a .dst) (a .c) (read .reg .result) (read .reg .ensures (w .stack) (w .frames) (rep .stack) (rep .frames) .is) _
-    (named-none w (a .slots .now) (a .m .count) (read .reg .result) (rep .slots) _ (sym (found .f .given .1) ∙ place .coro-place .ensures)) rep
+    let at-f = c .before in let at-coro-place = at-f .before .before in let at-reg = at-coro-place .before in
+    let start = at-reg .before .before .before .before .before in
+    λ l w b rep. let M = topTable (start .args .stack .now) (start .args .frames .now) (start .args .slots .now) plain b in
+    key-refused l M (start .args .m) (b .fuel) w (start .args .dst) (start .args .c) (at-reg .reg .result) (at-reg .reg .ensures (w .stack) (w .frames) (rep .stack) (rep .frames) .is) _
+    (named-none l M (start .args .m) (b .fuel) (at-reg .reg .result) w rep _ (sym (at-f .f .given .1) ∙ at-coro-place .coro-place .ensures)) rep
 
 same-length-2 : tie.Need-same-length-2
 same-length-2 c = search needs
 
 returns-2 : tie.Need-returns-2
 returns-2 c =
-    let put = c .before .before in let at = put .before .before in let found = at .before .before in let place = found .before .before in let read = place .before in
-    let a = read .before .before .before .before .before .args in
-    λ l w b rep. let t = named-at w (a .slots .now) (a .m .count) (read .reg .result) (rep .slots) _ (sym (found .i .given .1) ∙ place .coro-place .ensures) in
-    key-told l _ (a .m) (b .fuel) w (a .dst) (a .c) (read .reg .result) (read .reg .ensures (w .stack) (w .frames) (rep .stack) (rep .frames) .is) (t .core) (t .rest) (t .coro)
-    (at .coro-at .result .key) (ap (λ (x : CoroObj). x .key) (at .coro-at .ensures ∙ t .is))
-    (put .put .ensures l w (record { words = onSlots (a .slots .now) (b .words); fuel = b .fuel }) rep)
+    let at-put = c .before .before in let at-key-at = at-put .before .before in let at-i = at-key-at .before .before in
+    let at-coro-place = at-i .before .before in let at-reg = at-coro-place .before in
+    let start = at-reg .before .before .before .before .before in
+    λ l w b rep. let M = topTable (start .args .stack .now) (start .args .frames .now) (start .args .slots .now) plain b in
+    let t = placed l M (start .args .m) (b .fuel) (at-reg .reg .result) w rep _ (sym (at-i .i .given .1) ∙ at-coro-place .coro-place .ensures) in
+    key-told l _ (start .args .m) (b .fuel) w (start .args .dst) (start .args .c) (at-reg .reg .result)
+    (at-reg .reg .ensures (w .stack) (w .frames) (rep .stack) (rep .frames) .is) (t .core) (t .rest) (t .coro)
+    (at-key-at .key-at .result) (at-key-at .key-at .ensures ∙ ap (λ (x : CoroObj). x .key) (t .is))
+    (at-put .put .ensures l w (record { words = onSlots (start .args .slots .now) (b .words); fuel = b .fuel }) rep)
 
 pub coro-key-spec : {M : Type 1} → statement M
 coro-key-spec =
@@ -58,7 +67,7 @@ coro-key-spec =
     coro-place-requires
     enum-known-f
     enum-known-i
-    coro-at-requires
+    key-at-requires
     put-requires
     same-length
     returns

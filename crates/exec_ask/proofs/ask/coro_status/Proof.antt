@@ -30,7 +30,9 @@ same-length c = search needs
 
 returns : tie.Need-returns
 returns c =
-    let found = c .before in let state = found .before .before in let read = state .before in let a = read .before .before .before .before .before .args in
+    let found = c .before in let state = found .before .before in let read = state .before in
+    let start = read .before .before .before .before .before in
+    let a = start .args in
     λ l w b rep. status-refused l _ (a .m) (b .fuel) w (a .dst) (a .c) (read .reg .result) (read .reg .ensures (w .stack) (w .frames) (rep .stack) (rep .frames) .is) _
     (sym (found .f .given .1) ∙ state .coro-state .ensures l w (record { words = topTable (a .stack .now) (a .frames .now) (a .slots .now) plain b; fuel = b .fuel }) rep) rep
 
@@ -39,10 +41,12 @@ same-length-2 c = search needs
 
 returns-2 : tie.Need-returns-2
 returns-2 c =
-    let put = c .before .before in let code = put .before .before in let found = code .before .before in let state = found .before .before in let read = state .before in
-    let a = read .before .before .before .before .before .args in
+    let put = c .before .before in let code = put .before .before in let found = code .before .before in
+    let state = found .before .before in let read = state .before in let start = read .before .before .before .before .before in
+    let a = start .args in
     λ l w b rep. status-told l _ (a .m) (b .fuel) w (a .dst) (a .c) (read .reg .result) (read .reg .ensures (w .stack) (w .frames) (rep .stack) (rep .frames) .is) _ (code .code .result)
-    (sym (found .s .given .1) ∙ state .coro-state .ensures l w (record { words = topTable (a .stack .now) (a .frames .now) (a .slots .now) plain b; fuel = b .fuel }) rep) (code .code .ensures)
+    (sym (found .s .given .1) ∙ state .coro-state .ensures l w
+    (record { words = topTable (a .stack .now) (a .frames .now) (a .slots .now) plain b; fuel = b .fuel }) rep) (code .code .ensures)
     (put .put .ensures l w (record { words = onSlots (a .slots .now) (b .words); fuel = b .fuel }) rep)
 
 pub coro-status-spec : {M : Type 1} → statement M

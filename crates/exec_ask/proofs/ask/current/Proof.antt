@@ -16,7 +16,8 @@ active-at-requires c κs = search needs
 
 returns-2 : tie.Need-returns-2
 returns-2 c =
-    let test = c .before .before in let a = test .before .before .before .args in
+    let test = c .before .before in let start = test .before .before .before in
+    let a = start .args in
     current-top (a .chain .now) (a .m .active) (c .active-at .result) (omega (arith, test .if1 .left)) (c .active-at .ensures)
 
 pub current-spec : {M : Type 1} → statement M

@@ -2,6 +2,7 @@
 use mathlib.Core.Path.{sym, _∙_}
 use borrow.Author.Needs.{needs}
 use Rattle.heap.proofs.Place.{stands-words}
+use Rattle.memory.specs.Lendings.{table, plain}
 use Rattle.machine.proofs.Named.{state-none, state-at}
 use Rattle.machine.proofs.coro.coro_state.Statement.{statement}
 use Rattle.machine.proofs.coro.coro_state.Tie as tie
@@ -15,25 +16,22 @@ enum-known-f c = search needs
 enum-known-i : tie.Need-enum-known-i
 enum-known-i c = search needs
 
-coro-at-requires : tie.Need-coro-at-requires
-coro-at-requires c κs =
-    let at-i = c .before in let place = at-i .before .before in let start = place .before .before in
-    stands-words (start .args .m .count) (start .args .slots .now) (start .args .v .0) (at-i .i .given .0 .0) (sym (at-i .i .given .1) ∙ place .coro-place .ensures) (start .pre)
+state-at-requires : tie.Need-state-at-requires
+state-at-requires c κs =
+    let place = c .before .before .before in let start = place .before .before in
+    stands-words (start .args .m .count) (start .args .slots .now) (start .args .v .0) (c .before .i .given .0 .0) (sym (c .before .i .given .1) ∙ place .coro-place .ensures) (start .pre)
 
 returns : tie.Need-returns
 returns c =
-    let at-f = c .before in let place = at-f .before .before in let start = place .before .before in
-    let a = start .args in
-    λ l w b rep. state-none w (a .slots .now) (a .m .count) (a .v .0) (rep .slots) _ (sym (at-f .f .given .1) ∙ place .coro-place .ensures)
+    let place = c .before .before .before in let a = place .before .before .args in
+    λ l w b rep. state-none l (table (a .slots .now) plain b) (a .m) (b .fuel) (a .v .0) w rep _ (sym (c .before .f .given .1) ∙ place .coro-place .ensures)
 
 returns-2 : tie.Need-returns-2
 returns-2 c =
-    let at = c .before .before in let place = at .before .before in let start = place .before .before in
-    let a = start .args in
-    λ l w b rep. state-at w (a .slots .now) (a .m .count) (a .v .0) (rep .slots) (at .i .given .0 .0) (c .coro-at .result)
-    (sym (at .i .given .1) ∙ place .coro-place .ensures) (c .coro-at .ensures)
+    let at = c .before .before in let place = at .before .before in let a = place .before .before .args in
+    λ l w b rep. state-at l (table (a .slots .now) plain b) (a .m) (b .fuel) (a .v .0) w rep (at .i .given .0 .0) _ (sym (at .i .given .1) ∙ place .coro-place .ensures) (c .state-at .ensures)
 
 pub coro-state-spec : {M : Type 1} → statement M
 coro-state-spec =
     tie.close
-    (tie.spec coro-place-requires enum-known-f enum-known-i coro-at-requires returns returns-2)
+    (tie.spec coro-place-requires enum-known-f enum-known-i state-at-requires returns returns-2)
