@@ -1,2 +1,3 @@
 pub mod Newly
 pub mod Callee
+pub mod Hooked

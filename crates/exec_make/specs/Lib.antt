@@ -1,2 +1,3 @@
 pub mod New
 pub mod Indirect
+pub mod Spawn

@@ -1,0 +1,168 @@
+-- `spawn` meets the model, by the hook and by what indirect answers. Assumes nothing.
+use mathlib.Core.Path.{refl, sym, _∙_}
+use Rattle.model.specs.Exec.{indirect}
+use Rattle.invariant.proofs.Sound.{→sound}
+use Rattle.memory.specs.Memory.{Lent, Beside}
+use Rattle.memory.specs.Lendings.{topMaking, plain}
+use Rattle.memory.proofs.Does.{room-same}
+use Rattle.exec_make.proofs.Newly.{still-fits}
+use Rattle.exec_make.proofs.Callee.{indirect-good}
+use Rattle.exec_make.proofs.Hooked.{hook-there, no-hook, spawn-refused, spawn-called}
+use borrow.Author.Needs.{needs}
+use Rattle.exec_make.proofs.spawn.spawn.Statement.{statement}
+use Rattle.exec_make.proofs.spawn.spawn.Tie as tie
+
+abbrev mem : tie.Start → Beside → Lent
+mem s b = topMaking (s .args .stack .now) (s .args .frames .now) (s .args .slots .now) (s .args .saved-stack .now) (s .args .saved-frames .now) (s .args .setup .now) plain b
+
+-- the words that the creation leaves
+abbrev start-of : tie.After-indirect → tie.Start
+start-of c = c .before .before .before .before .before .before .before .before .before .before .before .before .before .before .before .before
+
+abbrev left : tie.After-indirect → Beside → Lent
+left c b =
+    let s = start-of c in
+    topMaking (s .args .stack .now) (s .args .frames .now) (c .indirect .last .1 .1 .0) (c .indirect .last .1 .1 .1 .0) (c .indirect .last .1 .1 .1 .1 .0) (s .args .setup .now) plain b
+
+hook-requires : tie.Need-hook-requires
+hook-requires c κs = search needs
+
+enum-known-hook : tie.Need-enum-known-hook
+enum-known-hook c = search needs
+
+enum-told : tie.Need-enum-told
+enum-told c = search needs
+
+returns : tie.Need-returns
+returns c =
+    let asked = c .before .before in let start = asked .before .before .before .before .before .before .before in
+    λ w b rep snd.
+    no-hook (start .args .l) w (mem start b) (start .args .m) (start .args .fuel) rep (start .args .pc) (start .args .dst) (start .args .callee) (start .args .argc)
+    (sym (c .enum-told .given .1) ∙ asked .hook .ensures)
+
+indirect-requires : tie.Need-indirect-requires
+indirect-requires c κs = let start = c .before .before .before .before .before .before .before .before .before .before .before .before .before .before .before in start .pre .indirect
+
+enum-known-answer : tie.Need-enum-known-answer
+enum-known-answer c = search needs
+
+enum-known-answer-2 : tie.Need-enum-known-answer-2
+enum-known-answer-2 c = search needs
+
+call-hook-requires : tie.Need-call-hook-requires
+call-hook-requires c κs =
+    let creating = c .before .before .before .before .before .before .before .before .before .before .before .before in let named = creating .before .before .before .before .before .before .before in let asked = named .before .before in let start = asked .before .before .before .before .before .before .before in
+    let o = start .pre .indirect .ok in
+    let u = indirect (start .args .dst) (start .args .callee) (start .args .argc) (o .world) .world in
+    let made = indirect-good (o .world) (start .args .dst) (start .args .callee) (start .args .argc) (o .sound) in
+    let did = creating .indirect .ensures (o .world) (o .beside) (o .rep) (o .sound) in
+    let hook = hook-there (start .args .l) (o .world) (mem start (o .beside)) (start .args .m) (o .beside .fuel) (o .rep) (o .sound) (named .hook2 .given .0 .0)
+    (sym (named .hook2 .given .1) ∙ asked .hook .ensures) in
+    let fits = still-fits (start .args .l) (o .world) u (mem start (o .beside)) _ (start .args .m) _ (o .beside .fuel) (o .beside .fuel) (start .args .dst)
+    (made .fact) (o .rep) (did .world) (start .pre .indirect .reg) in
+    record {
+      call =
+          record {
+            push =
+                record {
+                  ok =
+                      record {
+                        world = u;
+                        beside = record { words = left creating (o .beside); fuel = o .beside .fuel };
+                        rep = did .world;
+                        sound = →sound u (made .sound);
+                        room = room-same (o .world .setup) (u .setup) (mem start (o .beside)) (left creating (o .beside)) (made .fact .setup)
+                            (record {
+                              stack = refl;
+                              frames = refl;
+                              chain = refl;
+                              slots = creating .indirect .kept .1 .1 .0;
+                              savedStack = creating .indirect .kept .1 .1 .1 .0;
+                              savedFrames = creating .indirect .kept .1 .1 .1 .1 .0;
+                              ready = refl;
+                              finalize = refl;
+                              setup = refl;
+                            }) (o .room);
+                      };
+                  function = hook .function;
+                };
+            some = fits .some;
+            narrow = start .pre .narrow;
+          };
+      register = hook .register;
+    }
+
+same-length : tie.Need-same-length
+same-length c = search needs
+
+same-length-2 : tie.Need-same-length-2
+same-length-2 c = search needs
+
+same-length-3 : tie.Need-same-length-3
+same-length-3 c = search needs
+
+same-length-4 : tie.Need-same-length-4
+same-length-4 c = search needs
+
+same-length-5 : tie.Need-same-length-5
+same-length-5 c = search needs
+
+returns-2 : tie.Need-returns-2
+returns-2 c =
+    let told = c .before in let creating = told .before .before .before .before .before .before .before .before .before in let named = creating .before .before .before .before .before .before .before in let asked = named .before .before in let start = asked .before .before .before .before .before .before .before in
+    λ w b rep snd.
+    spawn-refused (start .args .l) w (mem start b) (start .args .m) (start .args .fuel) rep (start .args .pc) (start .args .dst) (start .args .callee) (start .args .argc)
+    (named .hook2 .given .0 .0) (sym (named .hook2 .given .1) ∙ asked .hook .ensures) _ _ (start .args .fuel) _ (told .answer .given .0 .0) (told .answer .given .1)
+    (creating .indirect .ensures w (record { words = b .words; fuel = start .args .fuel }) rep snd)
+
+same-length-6 : tie.Need-same-length-6
+same-length-6 c = search needs
+
+same-length-7 : tie.Need-same-length-7
+same-length-7 c = search needs
+
+same-length-8 : tie.Need-same-length-8
+same-length-8 c = search needs
+
+same-length-9 : tie.Need-same-length-9
+same-length-9 c = search needs
+
+same-length-10 : tie.Need-same-length-10
+same-length-10 c = search needs
+
+returns-3 : tie.Need-returns-3
+returns-3 c =
+    let calling = c .before .before .before .before in let told = calling .before .before .before .before in let creating = told .before .before .before .before .before .before .before .before .before in
+    let named = creating .before .before .before .before .before .before .before in let asked = named .before .before in let start = asked .before .before .before .before .before .before .before in
+    λ w b rep snd.
+    let did = creating .indirect .ensures w (record { words = b .words; fuel = start .args .fuel }) rep snd in
+    let made = indirect-good w (start .args .dst) (start .args .callee) (start .args .argc) snd in
+    let u = indirect (start .args .dst) (start .args .callee) (start .args .argc) w .world in
+    spawn-called (start .args .l) w (mem start b) (start .args .m) (start .args .fuel) rep (start .args .pc) (start .args .dst) (start .args .callee) (start .args .argc)
+    (named .hook2 .given .0 .0) (sym (named .hook2 .given .1) ∙ asked .hook .ensures) _ _ _ (told .answer2 .given .0 .0) _ (sym (told .answer2 .given .1) ∙ did .answer)
+    (calling .call-hook .ensures u (record { words = left creating b; fuel = b .fuel }) (did .world) (→sound u (made .sound)))
+
+pub spawn-spec : {M : Type 1} → statement M
+spawn-spec =
+    tie.close
+    (tie.spec
+    hook-requires
+    enum-known-hook
+    enum-told
+    returns
+    indirect-requires
+    enum-known-answer
+    enum-known-answer-2
+    call-hook-requires
+    same-length
+    same-length-2
+    same-length-3
+    same-length-4
+    same-length-5
+    returns-2
+    same-length-6
+    same-length-7
+    same-length-8
+    same-length-9
+    same-length-10
+    returns-3)

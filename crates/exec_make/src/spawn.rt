@@ -1,0 +1,138 @@
+// coro.rs: exec, Spawn. Its operands have been tested, and its first unit is paid.
+ghost use Rattle.model.specs.Exec.{spawn};
+ghost use Rattle.exec_make.specs.Spawn.{hookFrame, hookPaid, HookFits, SpawnFits};
+ghost use Rattle.memory.specs.Lendings.{topMaking, topSetup};
+ghost use Rattle.memory.specs.Contract.{Met, ifSound, only, with};
+use crate::indirect::indirect;
+use coro_clean::charge::charge_plain;
+use heap::fault::Fault;
+use heap::value::Opt;
+use machine::step::StepDid;
+use machine::step::Stepped;
+use memory::machine::Machine;
+use memory::machine::Sizes;
+use model::coro::Made;
+use model::exec::Step;
+use model::machine::Charge;
+use model::machine::Cont;
+use model::machine::Fuel;
+
+// The hook's frame, with the coroutine c in its first register.
+pub(crate) fn push_hook(
+    stack: &mut [u64],
+    frames: &mut [u64],
+    setup: &[u64],
+    m: Machine,
+    l: Sizes,
+    hook: u64,
+    pc: u64,
+    dst: u64,
+    c: u64,
+) -> StepDid
+    requires { ⌜ HookFits l (now stack) (now frames) (now setup) m pc hook ⌝ }
+    ensures { λ r. ⌜ Met ifSound l (hookFrame hook pc dst c) (topSetup stack frames setup) (only m) (only (r .machine)) (r .step) ⌝ }
+{
+    let did = machine::frame::push_at(stack, frames, setup, m, l, pc, hook, 0, Cont::Value(dst));
+    let next = did.machine;
+    let answer = did.answer;
+    match answer {
+        Made::Refused(g) => StepDid {
+            machine: next,
+            step: Step::Fault(g),
+        },
+        Made::Word(_base) => {
+            machine::frame::put(stack, frames, next, 0, c);
+            StepDid {
+                machine: next,
+                step: Step::Frame,
+            }
+        }
+    }
+}
+
+// The hook's call is charged, without a pc, and its frame pushed.
+pub(crate) fn call_hook(
+    stack: &mut [u64],
+    frames: &mut [u64],
+    setup: &[u64],
+    m: Machine,
+    l: Sizes,
+    fuel: Fuel,
+    hook: u64,
+    pc: u64,
+    dst: u64,
+    c: u64,
+) -> Stepped
+    requires { ⌜ HookFits l (now stack) (now frames) (now setup) m pc hook ⌝ }
+    ensures { λ r. ⌜ Met ifSound l (hookPaid hook pc dst c) (topSetup stack frames setup) (with m fuel) (with (r .machine) (r .fuel)) (r .step) ⌝ }
+{
+    let paid = charge_plain(fuel);
+    let left = paid.fuel;
+    let answer = paid.answer;
+    if let Charge::Spent = answer {
+        return Stepped {
+            machine: m,
+            fuel: left,
+            step: Step::Fault(Fault::OutOfFuel),
+        };
+    }
+    let did = push_hook(stack, frames, setup, m, l, hook, pc, dst, c);
+    let next = did.machine;
+    let step = did.step;
+    Stepped {
+        machine: next,
+        fuel: left,
+        step,
+    }
+}
+
+// coro.rs: exec, Spawn: a coroutine as CoroNewIndirect makes it, handed to the hook.
+pub fn spawn(
+    stack: &mut [u64],
+    frames: &mut [u64],
+    slots: &mut [u64],
+    saved_stack: &mut [u64],
+    saved_frames: &mut [u64],
+    setup: &[u64],
+    m: Machine,
+    l: Sizes,
+    fuel: Fuel,
+    pc: u64,
+    dst: u64,
+    callee: u64,
+    argc: u64,
+) -> Stepped
+    requires { ⌜ SpawnFits l (now stack) (now frames) (now slots) (now «saved_stack») (now «saved_frames») (now setup) m pc dst callee argc ⌝ }
+    ensures { λ r. ⌜ Met ifSound l (spawn pc dst callee argc) (topMaking stack frames slots «saved_stack» «saved_frames» setup) (with m fuel) (with (r .machine) (r .fuel)) (r .step) ⌝ }
+{
+    let Opt::Some(hook) = tables::program::hook(setup) else {
+        return Stepped {
+            machine: m,
+            fuel,
+            step: Step::Fault(Fault::NoScheduler),
+        };
+    };
+    let did = indirect(
+        stack,
+        frames,
+        slots,
+        saved_stack,
+        saved_frames,
+        setup,
+        m,
+        l,
+        dst,
+        callee,
+        argc,
+    );
+    let next = did.machine;
+    let answer = did.answer;
+    match answer {
+        Made::Refused(g) => Stepped {
+            machine: next,
+            fuel,
+            step: Step::Fault(g),
+        },
+        Made::Word(c) => call_hook(stack, frames, setup, next, l, fuel, hook, pc, dst, c),
+    }
+}
