@@ -9,9 +9,11 @@ use lib.ListN.{length, take, drop, length-append}
 use lib.Seq.{take-append-seam}
 use Rattle.heap.specs.declared.value.Opt.{Opt}
 use Rattle.model.specs.World.{World, fresh}
-use Rattle.model.specs.Call.{Call, SetUp}
+use Rattle.model.specs.Step as M
+use Rattle.model.specs.Call.{typed, asCall}
 use Rattle.model.specs.Compute.{computed}
 use Rattle.model.specs.declared.machine.Cont.{Cont}
+use Rattle.model.specs.declared.machine.Driver.{Driver}
 use Rattle.model.specs.declared.machine.Active.{Active}
 use Rattle.model.specs.declared.machine.Frame.{Frame}
 use Rattle.model.specs.declared.call.Op.{Op}
@@ -19,14 +21,16 @@ use Rattle.claims.specs.Engine.{View, run}
 use Rattle.claims.specs.Says.{Entry, doing, whom}
 use Rattle.claims.specs.Held.{at, Moved, AllMoved, pcOf, stepped, Restored}
 use Rattle.claims.specs.Demand3.{Demand3}
+use Rattle.claims.specs.Events.{Events}
 use Rattle.claims.specs.Premises.{runsIn, sleepsIn, waits}
 use Rattle.claims.specs.Steps.{viewOf, opOf}
 use Rattle.claims.specs.Story as Story
 use Rattle.claims.specs.Story.{wide, c, held}
-use Rattle.claims.specs.Witness.{nth, between}
-use Rattle.claims.specs.Wrong.{bent, onTop, tail, ofZero, discards, bare, atOne, further, higher, Wrong}
+use Rattle.claims.specs.Witness.{nth, between, frame}
+use Rattle.claims.specs.Wrong.{bent, onTop, tail, ofZero, discards, bare, atOne, further, higher, idle, two, failing, Wrong}
 use Rattle.claims.proofs.Premises.{waits-true}
 use Rattle.claims.proofs.Cores.{no-both}
+use Rattle.claims.proofs.Promise.{sound-healthy}
 
 abbrev first : List ℕ → ℕ
 first [] = 0
@@ -180,3 +184,50 @@ at-pc-1 d = let q : _≡_ {A = ℕ} 1 8 = ap first (on-top (woken (onTop atOne) 
 stepped-twice : Demand3 (bent (onTop further)) → ⊥
 unfolding computed
 stepped-twice d = let q : _≡_ {A = ℕ} 9 8 = ap first (on-top (woken (onTop further) d refl) pcIn pcIn pc-alike) in absurd (omega (arith, q))
+
+-- bases: the top frame's and the body's are 5 words apart, and were 4
+two-moved : {v : View} {x : Option Op} {w : View} {y : Option Op} {c : ℕ} {z : View} (r : Restored v x w y c z) (p : ℕ) (f₁ f₂ : Frame) → at (stepped (sentIn (whom w y)) (pcOf (doing v x))) (found v) ≡ f₁ ∷ f₂ ∷ [] → first (map (λ k. k .base) (z .frames)) + f₂ .base ≡ second (map (λ k. k .base) (z .frames)) + f₁ .base
+two-moved {v} {x} {w} {y} {c} {z} r p f₁ f₂ e =
+    let t = r .entered in
+    let ks = t .over ++ (t .body ∷ []) in
+    let whole : z .frames ≡ ks ++ at (t .by .pc) (w .frames) = t .frames ∙ sym (append-assoc (t .over) (t .body ∷ []) (at (t .by .pc) (w .frames))) in
+    let m : AllMoved (r .held .body .base) (length (w .stack)) (f₁ ∷ f₂ ∷ []) ks = subst (λ fs. AllMoved (r .held .body .base) (length (w .stack)) fs ks) ((λ i. at (stepped (sent-is r i) (pcOf (doing v x))) (sym (found-mine r) i)) ∙ e) (r .moved) in
+    ap (λ fs. first (map (λ k. k .base) fs) + f₂ .base) whole ∙ distances (r .held .body .base) (length (w .stack)) f₁ f₂ ks (at (t .by .pc) (w .frames)) m ∙ ap (λ fs. second (map (λ k. k .base) fs) + f₁ .base) (sym whole)
+
+bases-apart : Demand3 (bent (onTop higher)) → ⊥
+unfolding computed
+bases-apart d = let q : _≡_ {A = ℕ} 21 20 = two-moved (woken (onTop higher) d refl) 0 (frame 1 8 8 0 (Cont.Dyn 2)) (frame 0 5 4 Story.f Cont.Coro) refl in absurd (omega (arith, q))
+
+-- ---- events
+
+at-rest : World
+at-rest = M.run (fresh wide) (take 23 held)
+
+always-refused : Events (idle (λ _. true)) → ⊥
+unfolding computed at-rest
+always-refused v = no-both (v .entered c at-rest (nth held 23) (sound-healthy at-rest refl) (record { driver = Driver.Resume 1; sent = Opt.Some 44; pc = 15; says = refl }) .after) refl
+
+finishing : World
+finishing = M.run (fresh wide) (take 26 held)
+
+return-fails : Events failing → ⊥
+unfolding computed finishing
+return-fails v = no-both (v .returned c finishing (nth held 26) (sound-healthy finishing refl) refl .after) refl
+
+queued-ops : List Op
+queued-ops = Op.Grant 1000 ∷ Op.HostCall 0 ∷ Op.CoroNew 1 0 0 0 ∷ Op.CoroNew 2 1 0 0 ∷ Op.Resume 3 2 0 3 ∷ Op.Yield 8 3 0 ∷ Op.Resume 4 2 1 3 ∷ Op.Yield 8 3 0 ∷ Op.HandOver c ∷ Op.HandOver Story.d ∷ []
+
+queued : World
+queued = M.runOps (fresh wide) queued-ops
+
+current-typed : typed (Op.CoroCurrent 9 1) ≡ true
+unfolding typed
+current-typed = refl
+
+no-cleanup : Events (idle two) → ⊥
+unfolding computed queued-ops queued
+no-cleanup v = no-both (v .entered c queued (asCall (Op.CoroCurrent 9 1) current-typed) (sound-healthy queued refl) (record { driver = Driver.Finalize; sent = Opt.None; pc = 9; says = refl }) .after) refl
+
+-- NONE OF THEM
+pub wrong : Wrong
+wrong = record { other-function = other-function; discarding = discarding; top-dropped = top-dropped; closures-lost = closures-lost; at-pc-1 = at-pc-1; stepped-twice = stepped-twice; bases-apart = bases-apart; always-refused = always-refused; no-cleanup = no-cleanup; return-fails = return-fails }

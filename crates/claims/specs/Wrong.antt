@@ -1,20 +1,24 @@
 -- Machines that are wrong in one thing, each `step` but where a coroutine is woken inside a call that it made. None of them has demand 3:
 -- `proofs/Wrong.antt`.
 use Prim.Native.Nat.{ℕ, _+_}
-use mathlib.Core.Bool.{Bool, false, not, _&&_}
+use mathlib.Core.Bool.{Bool, true, false, not, _&&_}
 use mathlib.Core.List.{List, [], _∷_, map}
-use lib.ListN.{length}
+use lib.ListN.{length, set}
 use lib.Dec.{ltb}
 use Rattle.lists.specs.Pick.{pick}
-use Rattle.model.specs.World.{World, withFrames}
+use Rattle.model.specs.World.{World, withStack, withFrames}
+use Rattle.model.specs.Heap.{changeCoro}
+use Rattle.model.specs.Coro.{inState}
 use Rattle.model.specs.Answer.{numberOf}
 use Rattle.model.specs.Call.{Call}
 use Rattle.model.specs.Step.{step}
+use Rattle.heap.specs.declared.object.CoroState.{CoroState}
 use Rattle.model.specs.declared.machine.Cont.{Cont}
+use Rattle.model.specs.declared.machine.Active.{Active}
 use Rattle.model.specs.declared.machine.Frame.{Frame}
-use Rattle.claims.specs.Engine.{Engine}
+use Rattle.claims.specs.Engine.{Engine, ended, is}
 use Rattle.claims.specs.Demand3.{Demand3}
-use Rattle.claims.specs.Events.{isBody}
+use Rattle.claims.specs.Events.{isBody, Events}
 use Rattle.claims.specs.Steps.{viewOf, opOf}
 
 -- a callee is on top
@@ -57,6 +61,23 @@ further f = record { func = f .func; pc = f .pc + 1; base = f .base; closure = f
 abbrev pub higher : Frame → Frame
 higher f = record { func = f .func; pc = f .pc; base = f .base + 1; closure = f .closure; cont = f .cont }
 
+-- ---- machines whose events are wrong
+
+-- an entry is left undone, where a test says so: always; or while two coroutines wait for a cleanup
+abbrev pub idle : (World → Bool) → Engine
+idle p = record { State = World; Call = Call; op = opOf; view = viewOf; next = λ w k. let z = step w k .world in pick (ltb (length (w .chain)) (length (z .chain)) && p w) w z; number = λ w k. numberOf (step w k .answer) }
+
+abbrev pub two : World → Bool
+two w = ltb 1 (length (w .finalize))
+
+-- who returns is made Failed, and a word below is cleared
+abbrev pub spoiled : List Active → World → World
+spoiled [] z = z
+spoiled (a ∷ chain) z = pick (is (viewOf z) ended (a .coro)) (withStack (set (z .stack) 0 0) (changeCoro (a .coro) (inState CoroState.Failed) (λ r. r) z)) z
+
+abbrev pub failing : Engine
+failing = record { State = World; Call = Call; op = opOf; view = viewOf; next = λ w k. spoiled (w .chain) (step w k .world); number = λ w k. numberOf (step w k .answer) }
+
 pub record Wrong : Type 0 where
   pub other-function : Demand3 (bent (onTop ofZero)) → ⊥
   pub discarding : Demand3 (bent (onTop discards)) → ⊥
@@ -65,3 +86,6 @@ pub record Wrong : Type 0 where
   pub at-pc-1 : Demand3 (bent (onTop atOne)) → ⊥
   pub stepped-twice : Demand3 (bent (onTop further)) → ⊥
   pub bases-apart : Demand3 (bent (onTop higher)) → ⊥
+  pub always-refused : Events (idle (λ _. true)) → ⊥
+  pub no-cleanup : Events (idle two) → ⊥
+  pub return-fails : Events failing → ⊥
