@@ -36,3 +36,4 @@ pub mod Exactly
 pub mod Premises
 pub mod Witness
 pub mod Promise
+pub mod Wrong

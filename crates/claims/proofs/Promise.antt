@@ -64,7 +64,7 @@ look-numbered : (w : World) → numberOf (call Op.Look w .answer) ≡ 0
 unfolding call
 look-numbered w = refl
 
-sound-healthy : (w : World) → sound w ≡ true → Healthy steps w
+pub sound-healthy : (w : World) → sound w ≡ true → Healthy steps w
 sound-healthy w h (SetUp s) e = let z : _≡_ {A = ℕ} 0 1 = cc in absurd (omega arith)
 sound-healthy w h (Do o) e = ap numberOf (number-sound w o h) ∙ ap (λ p. numberOf (call p w .answer)) (some-op e) ∙ look-numbered w
 

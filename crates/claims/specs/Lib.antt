@@ -9,3 +9,4 @@ pub mod Premises
 pub mod Steps
 pub mod Story
 pub mod Witness
+pub mod Wrong

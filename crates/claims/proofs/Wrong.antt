@@ -1,0 +1,233 @@
+-- The machines that are wrong in one thing have not demand 3: at the split that Witness.antt shows as lists, a field of a frame differs.
+use Prim.Native.Nat.{ℕ, suc, _+_, _-_}
+use native.Mathlib.Omega.{arith}
+use mathlib.Core.Path.{_≡_, refl, sym, ap, _∙_, subst}
+use mathlib.Core.Bool.{Bool, true, false, not, _&&_}
+use mathlib.Core.List.{List, [], _∷_, _++_, map, append-assoc}
+use mathlib.Core.Option.{Option, none, some}
+use lib.ListN.{length, take, drop, length-append}
+use lib.Seq.{take-append-seam}
+use Rattle.heap.specs.declared.value.Opt.{Opt}
+use Rattle.model.specs.World.{World, fresh}
+use Rattle.model.specs.Step as M
+use Rattle.model.specs.Call.{typed, asCall}
+use Rattle.model.specs.Compute.{computed}
+use Rattle.model.specs.declared.machine.Cont.{Cont}
+use Rattle.model.specs.declared.machine.Driver.{Driver}
+use Rattle.model.specs.declared.machine.Active.{Active}
+use Rattle.model.specs.declared.machine.Frame.{Frame}
+use Rattle.model.specs.declared.call.Op.{Op}
+use Rattle.claims.specs.Engine.{View, run}
+use Rattle.claims.specs.Says.{Entry, doing, whom}
+use Rattle.claims.specs.Held.{at, Moved, AllMoved, pcOf, stepped, Restored}
+use Rattle.claims.specs.Demand3.{Demand3}
+use Rattle.claims.specs.Events.{Events}
+use Rattle.claims.specs.Premises.{runsIn, sleepsIn, waits}
+use Rattle.claims.specs.Steps.{viewOf, opOf}
+use Rattle.claims.specs.Story as Story
+use Rattle.claims.specs.Story.{wide, c, held}
+use Rattle.claims.specs.Witness.{nth, between, frame}
+use Rattle.claims.specs.Wrong.{bent, onTop, tail, ofZero, discards, bare, atOne, further, higher, idle, two, failing, Wrong}
+use Rattle.claims.proofs.Premises.{waits-true}
+use Rattle.claims.proofs.Cores.{no-both}
+use Rattle.claims.proofs.Promise.{sound-healthy}
+
+abbrev first : List ℕ → ℕ
+first [] = 0
+first (x ∷ xs) = x
+
+abbrev second : List ℕ → ℕ
+second [] = 0
+second (x ∷ xs) = first xs
+
+abbrev codeOf : Cont → ℕ
+codeOf Cont.Entry = 0
+codeOf (Cont.Write r) = 1
+codeOf (Cont.Dyn r) = 2
+codeOf (Cont.Value r) = 3
+codeOf Cont.Discard = 4
+codeOf Cont.Coro = 5
+
+five : (a b c d e : Bool) → (a && b && not c && d && e) ≡ true → (a ≡ true) × (b ≡ true) × (c ≡ false) × (d ≡ true) × (e ≡ true)
+five false b c d e h = no-both h refl
+five true false c d e h = no-both h refl
+five true true true d e h = no-both h refl
+five true true false false e h = no-both h refl
+five true true false true e h = (refl, refl, refl, refl, h)
+
+-- ---- what demand 3 says of a number that is read off each frame
+
+abbrev floorIn : List Active → ℕ
+floorIn [] = 0
+floorIn (a ∷ chain) = a .floor
+
+-- the frames that a suspending call finds of the innermost coroutine
+abbrev found : View → List Frame
+found v = take (length (v .frames) - floorIn (v .chain)) (v .frames)
+
+abbrev sentIn : Option Entry → Opt
+sentIn none = Opt.None
+sentIn (some e) = e .sent
+
+-- g is what a frame and its moved frame have alike
+module _ (g h : Frame → ℕ) {b n : ℕ} (alike : (f k : Frame) → Moved b n f k → h k ≡ g f) where
+  all-alike : (fs ks : List Frame) → AllMoved b n fs ks → map h ks ≡ map g fs
+  all-alike [] [] m = refl
+  all-alike [] (k ∷ ks) m = absurd m
+  all-alike (f ∷ fs) [] m = absurd m
+  all-alike (f ∷ fs) (k ∷ ks) m = λ i. alike f k (m .0) i ∷ all-alike fs ks (m .1) i
+
+map-append : (g : Frame → ℕ) (xs ys : List Frame) → map g (xs ++ ys) ≡ map g xs ++ map g ys
+map-append g [] ys = refl
+map-append g (x ∷ xs) ys = ap (λ (l : List ℕ). g x ∷ l) (map-append g xs ys)
+
+module _ {v : View} {x : Option Op} {w : View} {y : Option Op} {c : ℕ} {z : View} (r : Restored v x w y c z) where
+  abbrev mine : List Frame
+  mine = r .held .over ++ (r .held .body ∷ [])
+
+  pub found-mine : found v ≡ mine
+  found-mine =
+      let whole : v .frames ≡ mine ++ r .held .under = r .held .frames ∙ sym (append-assoc (r .held .over) (r .held .body ∷ []) (r .held .under)) in
+      let n : length (mine ++ r .held .under) - length (r .held .under) ≡ length mine = omega (arith, length-append mine (r .held .under)) in
+      (λ i. take (length (whole i) - floorIn (r .held .chain i)) (whole i)) ∙ ap (λ m. take m (mine ++ r .held .under)) n ∙ take-append-seam mine (r .held .under)
+
+  pub sent-is : r .entered .by .sent ≡ sentIn (whom w y)
+  sent-is = ap sentIn (sym (r .entered .by .says))
+
+  -- the frames that stand on the caller's, as many as were found
+  pub on-top : (g h : Frame → ℕ) → ((b n : ℕ) (f k : Frame) → Moved b n f k → h k ≡ g f) → map h (z .frames) ≡ map g (at (stepped (sentIn (whom w y)) (pcOf (doing v x))) (found v)) ++ map h (at (r .entered .by .pc) (w .frames))
+  on-top g h alike =
+      let t = r .entered in
+      ap (map h) (t .frames ∙ sym (append-assoc (t .over) (t .body ∷ []) (at (t .by .pc) (w .frames)))) ∙ map-append h (t .over ++ (t .body ∷ [])) (at (t .by .pc) (w .frames))
+      ∙ ap (λ l. l ++ map h (at (t .by .pc) (w .frames))) (all-alike g h (alike (r .held .body .base) (length (w .stack))) (at (stepped (t .by .sent) (pcOf (doing v x))) mine) (t .over ++ (t .body ∷ [])) (r .moved))
+      ∙ (λ i. map g (at (stepped (sent-is i) (pcOf (doing v x))) (sym found-mine i)) ++ map h (at (t .by .pc) (w .frames)))
+
+-- one distance for two frames
+distances : (b n : ℕ) (f₁ f₂ : Frame) (ks rest : List Frame) → AllMoved b n (f₁ ∷ f₂ ∷ []) ks → first (map (λ k. k .base) (ks ++ rest)) + f₂ .base ≡ second (map (λ k. k .base) (ks ++ rest)) + f₁ .base
+distances b n f₁ f₂ [] rest m = absurd m
+distances b n f₁ f₂ (k₁ ∷ []) rest m = absurd (m .1)
+distances b n f₁ f₂ (k₁ ∷ k₂ ∷ []) rest m = let p = m .0 .base in let q = m .1 .0 .base in omega (arith, p, q)
+distances b n f₁ f₂ (k₁ ∷ k₂ ∷ k₃ ∷ ks) rest m = absurd (m .1 .1)
+
+-- ---- the split, of a bent machine
+
+module _ (f : List Frame → List Frame) where
+  abbrev s₁ : World
+  s₁ = run (bent f) (fresh wide) (take 13 held)
+
+  abbrev s₂ : World
+  s₂ = bent f .next s₁ (nth held 13)
+
+  abbrev s₃ : World
+  s₃ = run (bent f) s₂ (between held 13 23)
+
+  abbrev s₄ : World
+  s₄ = bent f .next s₃ (nth held 23)
+
+  abbrev Woken : Type 0
+  Woken = Restored (viewOf s₁) (opOf (nth held 13)) (viewOf s₃) (opOf (nth held 23)) c (viewOf s₄)
+
+  abbrev met : Bool
+  met = runsIn (bent f) c s₁ && sleepsIn (bent f) c s₂ && not (runsIn (bent f) c s₃) && runsIn (bent f) c s₄ && waits (bent f) c s₂ (between held 13 23)
+
+  woken : Demand3 (bent f) → met ≡ true → Woken
+  woken d h =
+      let t = five (runsIn (bent f) c s₁) (sleepsIn (bent f) c s₂) (runsIn (bent f) c s₃) (runsIn (bent f) c s₄) (waits (bent f) c s₂ (between held 13 23)) h in
+      d .restored c s₁ (nth held 13) (between held 13 23) (nth held 23) (record { before = t .0; after = t .1 }) (waits-true (bent f) c s₂ (between held 13 23) (t .4)) (record { before = t .2; after = t .3 })
+
+-- ---- each of them
+
+abbrev funcOf : Frame → ℕ
+funcOf k = k .func
+
+abbrev contOf : Frame → ℕ
+contOf k = codeOf (k .cont)
+
+abbrev closureOf : Frame → ℕ
+closureOf k = k .closure
+
+abbrev pcIn : Frame → ℕ
+pcIn k = k .pc
+
+func-alike : (b n : ℕ) (f k : Frame) → Moved b n f k → funcOf k ≡ funcOf f
+func-alike b n f k m = m .func
+
+cont-alike : (b n : ℕ) (f k : Frame) → Moved b n f k → contOf k ≡ contOf f
+cont-alike b n f k m = ap codeOf (m .cont)
+
+closure-alike : (b n : ℕ) (f k : Frame) → Moved b n f k → closureOf k ≡ closureOf f
+closure-alike b n f k m = m .closure
+
+pc-alike : (b n : ℕ) (f k : Frame) → Moved b n f k → pcIn k ≡ pcIn f
+pc-alike b n f k m = m .pc
+
+other-function : Demand3 (bent (onTop ofZero)) → ⊥
+unfolding computed
+other-function d = let q : _≡_ {A = ℕ} 0 1 = ap first (on-top (woken (onTop ofZero) d refl) funcOf funcOf func-alike) in absurd (omega (arith, q))
+
+discarding : Demand3 (bent (onTop discards)) → ⊥
+unfolding computed
+discarding d = let q : _≡_ {A = ℕ} 4 2 = ap first (on-top (woken (onTop discards) d refl) contOf contOf cont-alike) in absurd (omega (arith, q))
+
+top-dropped : Demand3 (bent tail) → ⊥
+unfolding computed
+top-dropped d = let q : _≡_ {A = ℕ} 0 1 = ap first (on-top (woken tail d refl) funcOf funcOf func-alike) in absurd (omega (arith, q))
+
+closures-lost : Demand3 (bent (map bare)) → ⊥
+unfolding computed
+closures-lost d = let q : _≡_ {A = ℕ} 0 Story.f = ap second (on-top (woken (map bare) d refl) closureOf closureOf closure-alike) in absurd (omega (arith, q))
+
+at-pc-1 : Demand3 (bent (onTop atOne)) → ⊥
+unfolding computed
+at-pc-1 d = let q : _≡_ {A = ℕ} 1 8 = ap first (on-top (woken (onTop atOne) d refl) pcIn pcIn pc-alike) in absurd (omega (arith, q))
+
+stepped-twice : Demand3 (bent (onTop further)) → ⊥
+unfolding computed
+stepped-twice d = let q : _≡_ {A = ℕ} 9 8 = ap first (on-top (woken (onTop further) d refl) pcIn pcIn pc-alike) in absurd (omega (arith, q))
+
+-- bases: the top frame's and the body's are 5 words apart, and were 4
+two-moved : {v : View} {x : Option Op} {w : View} {y : Option Op} {c : ℕ} {z : View} (r : Restored v x w y c z) (p : ℕ) (f₁ f₂ : Frame) → at (stepped (sentIn (whom w y)) (pcOf (doing v x))) (found v) ≡ f₁ ∷ f₂ ∷ [] → first (map (λ k. k .base) (z .frames)) + f₂ .base ≡ second (map (λ k. k .base) (z .frames)) + f₁ .base
+two-moved {v} {x} {w} {y} {c} {z} r p f₁ f₂ e =
+    let t = r .entered in
+    let ks = t .over ++ (t .body ∷ []) in
+    let whole : z .frames ≡ ks ++ at (t .by .pc) (w .frames) = t .frames ∙ sym (append-assoc (t .over) (t .body ∷ []) (at (t .by .pc) (w .frames))) in
+    let m : AllMoved (r .held .body .base) (length (w .stack)) (f₁ ∷ f₂ ∷ []) ks = subst (λ fs. AllMoved (r .held .body .base) (length (w .stack)) fs ks) ((λ i. at (stepped (sent-is r i) (pcOf (doing v x))) (sym (found-mine r) i)) ∙ e) (r .moved) in
+    ap (λ fs. first (map (λ k. k .base) fs) + f₂ .base) whole ∙ distances (r .held .body .base) (length (w .stack)) f₁ f₂ ks (at (t .by .pc) (w .frames)) m ∙ ap (λ fs. second (map (λ k. k .base) fs) + f₁ .base) (sym whole)
+
+bases-apart : Demand3 (bent (onTop higher)) → ⊥
+unfolding computed
+bases-apart d = let q : _≡_ {A = ℕ} 21 20 = two-moved (woken (onTop higher) d refl) 0 (frame 1 8 8 0 (Cont.Dyn 2)) (frame 0 5 4 Story.f Cont.Coro) refl in absurd (omega (arith, q))
+
+-- ---- events
+
+at-rest : World
+at-rest = M.run (fresh wide) (take 23 held)
+
+always-refused : Events (idle (λ _. true)) → ⊥
+unfolding computed at-rest
+always-refused v = no-both (v .entered c at-rest (nth held 23) (sound-healthy at-rest refl) (record { driver = Driver.Resume 1; sent = Opt.Some 44; pc = 15; says = refl }) .after) refl
+
+finishing : World
+finishing = M.run (fresh wide) (take 26 held)
+
+return-fails : Events failing → ⊥
+unfolding computed finishing
+return-fails v = no-both (v .returned c finishing (nth held 26) (sound-healthy finishing refl) refl .after) refl
+
+queued-ops : List Op
+queued-ops = Op.Grant 1000 ∷ Op.HostCall 0 ∷ Op.CoroNew 1 0 0 0 ∷ Op.CoroNew 2 1 0 0 ∷ Op.Resume 3 2 0 3 ∷ Op.Yield 8 3 0 ∷ Op.Resume 4 2 1 3 ∷ Op.Yield 8 3 0 ∷ Op.HandOver c ∷ Op.HandOver Story.d ∷ []
+
+queued : World
+queued = M.runOps (fresh wide) queued-ops
+
+current-typed : typed (Op.CoroCurrent 9 1) ≡ true
+unfolding typed
+current-typed = refl
+
+no-cleanup : Events (idle two) → ⊥
+unfolding computed queued-ops queued
+no-cleanup v = no-both (v .entered c queued (asCall (Op.CoroCurrent 9 1) current-typed) (sound-healthy queued refl) (record { driver = Driver.Finalize; sent = Opt.None; pc = 9; says = refl }) .after) refl
+
+-- NONE OF THEM
+pub wrong : Wrong
+wrong = record { other-function = other-function; discarding = discarding; top-dropped = top-dropped; closures-lost = closures-lost; at-pc-1 = at-pc-1; stepped-twice = stepped-twice; bases-apart = bases-apart; always-refused = always-refused; no-cleanup = no-cleanup; return-fails = return-fails }
