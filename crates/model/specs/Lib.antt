@@ -24,3 +24,4 @@ pub mod Example
 pub mod Examples
 pub mod Runs
 pub mod Mistakes
+pub mod Pinned
