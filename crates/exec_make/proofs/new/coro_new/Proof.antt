@@ -10,6 +10,10 @@ use borrow.Author.Needs.{needs}
 use Rattle.exec_make.proofs.new.coro_new.Statement.{statement}
 use Rattle.exec_make.proofs.new.coro_new.Tie as tie
 
+-- the ways back that several clauses take
+abbrev start-of : tie.After-set-aside → tie.Start
+start-of c = c .before .before .before .before .before .before .before .before .before .before
+
 abbrev mem : tie.Start → Beside → Lent
 mem c b = topMaking (c .args .stack .now) (c .args .frames .now) (c .args .slots .now) (c .args .saved-stack .now) (c .args .saved-frames .now) (c .args .setup .now) plain b
 
@@ -38,16 +42,22 @@ set-aside-requires : tie.Need-set-aside-requires
 set-aside-requires c κs = search needs
 
 coro-create-requires : tie.Need-coro-create-requires
-coro-create-requires c κs = let o = (c .before .before .before .before .before .before .before .before .before .before .before .before .before .pre .ok) in record {
-  ok = record { world = o .world; beside = record { words = mem ((c .before .before .before .before .before .before .before .before .before .before .before .before .before)) (o .beside); fuel = o .beside .fuel }; rep = o .rep; sound = o .sound; room = o .room };
-  function = (c .before .before .before .before .before .before .before .before .before .before .before .before .before .pre .function);
-  few = (c .before .before .before .before .before .before .before .before .before .before .before .before .before .pre .few);
-}
+coro-create-requires c κs =
+    let start = start-of (c .before .before .before) in
+    let o = start .pre .ok in record {
+      ok = record { world = o .world; beside = record { words = mem start (o .beside); fuel = o .beside .fuel }; rep = o .rep; sound = o .sound; room = o .room };
+      function = start .pre .function;
+      few = start .pre .few;
+    }
 
 put-made-requires : tie.Need-put-made-requires
-put-made-requires c κs = let o = (c .before .before .before .before .before .before .before .before .before .before .before .before .before .before .before .before .before .before .before .before .before .before .pre .ok) in
-    still-fits (c .before .before .before .before .before .before .before .before .before .before .before .before .before .before .before .before .before .before .before .before .before .before .args .l) (o .world) (mem ((c .before .before .before .before .before .before .before .before .before .before .before .before .before .before .before .before .before .before .before .before .before .before)) (o .beside)) (c .before .before .before .before .before .before .before .before .before .before .before .before .before .before .before .before .before .before .before .before .before .before .args .m) (o .beside .fuel) (o .rep) (o .sound) (c .before .before .before .before .before .before .before .before .before .before .before .before .before .before .before .before .before .before .before .before .before .before .args .f) 0 (take (c .before .before .before .before .before .before .before .before .before .before .before .before .before .before .before .before .before .before .before .before .before .before .args .argc) (c .before .before .before .before .before .before .before .before .before .before .before .before .set-aside .result)) (c .before .before .before .before .before .before .before .before .before .before .before .before .before .before .before .before .before .before .before .before .before .before .pre .function) _ _ _ (c .before .before .before .before .before .before .before .before .before .before .before .before .before .before .before .before .before .before .before .before .before .before .args .dst)
-    ((c .before .before .before .before .before .before .before .before .coro-create .ensures) (o .world) (record { words = mem ((c .before .before .before .before .before .before .before .before .before .before .before .before .before .before .before .before .before .before .before .before .before .before)) (o .beside); fuel = o .beside .fuel }) (o .rep) (o .sound) .world) (c .before .before .before .before .before .before .before .before .before .before .before .before .before .before .before .before .before .before .before .before .before .before .pre .reg)
+put-made-requires c κs =
+    let at-coro-create = c .before .before .before .before .before .before .before .before in
+    let at-set-aside = at-coro-create .before .before .before .before in let start = start-of at-set-aside in
+    let o = start .pre .ok in
+    still-fits (start .args .l) (o .world) (mem start (o .beside)) (start .args .m) (o .beside .fuel) (o .rep) (o .sound) (start .args .f) 0
+    (take (start .args .argc) (at-set-aside .set-aside .result)) (start .pre .function) _ _ _ (start .args .dst)
+    (at-coro-create .coro-create .ensures (o .world) (record { words = mem start (o .beside); fuel = o .beside .fuel }) (o .rep) (o .sound) .world) (start .pre .reg)
 
 same-length : tie.Need-same-length
 same-length c = search needs
@@ -62,13 +72,23 @@ same-length-4 : tie.Need-same-length-4
 same-length-4 c = search needs
 
 returns : tie.Need-returns
-returns c = λ w b rep snd.
-    let d = (c .before .before .before .before .before .before .before .before .before .before .before .coro-create .ensures) w (record { words = mem ((c .before .before .before .before .before .before .before .before .before .before .before .before .before .before .before .before .before .before .before .before .before .before .before .before .before)) b; fuel = b .fuel }) rep snd in
-    let h = (c .before .before .before .before .before .before .before .before .before .before .before .before .before .before .before .before .before .before .before .before .before .before .before .before .before .pre .window) in
-    new-met (c .before .before .before .before .before .before .before .before .before .before .before .before .before .before .before .before .before .before .before .before .before .before .before .before .before .args .l) _ _ (b .fuel) w (c .before .before .before .before .before .before .before .before .before .before .before .before .before .before .before .before .before .before .before .before .before .before .before .before .before .args .dst) (c .before .before .before .before .before .before .before .before .before .before .before .before .before .before .before .before .before .before .before .before .before .before .before .before .before .args .f) (c .before .before .before .before .before .before .before .before .before .before .before .before .before .before .before .before .before .before .before .before .before .before .before .before .before .args .argc) (take (c .before .before .before .before .before .before .before .before .before .before .before .before .before .before .before .before .before .before .before .before .before .before .before .before .before .args .argc) (c .before .before .before .before .before .before .before .before .before .before .before .before .before .before .before .set-aside .result)) _ _
-    (window-is (c .before .before .before .before .before .before .before .before .before .before .before .before .before .before .before .before .before .before .before .before .before .before .before .before .before .args .l) w (mem ((c .before .before .before .before .before .before .before .before .before .before .before .before .before .before .before .before .before .before .before .before .before .before .before .before .before)) b) (c .before .before .before .before .before .before .before .before .before .before .before .before .before .before .before .before .before .before .before .before .before .before .before .before .before .args .m) (b .fuel) rep (c .before .before .before .before .before .before .before .before .before .before .before .before .before .before .before .before .before .before .before .before .before .before .before .before .before .args .dst) (c .before .before .before .before .before .before .before .before .before .before .before .before .before .before .before .before .before .before .before .before .before .before .before .before .before .args .argc) _ (c .before .before .before .before .before .before .before .before .before .before .before .before .before .before .before .set-aside .result) (c .before .before .before .before .before .before .before .before .before .before .before .before .before .before .before .before .before .before .before .before .before .before .before .before .before .pre .reg) (c .before .before .before .before .before .before .before .before .before .before .before .before .before .before .before .before .before .before .before .before .before .before .before .before .before .pre .few) refl (omega arith) (c .before .before .before .before .before .before .before .before .before .before .before .before .before .before .before .set-aside .ensures))
+returns c =
+    let at-put-made = c .before .before in
+    let at-coro-create = at-put-made .before .before .before .before .before .before .before .before .before in
+    let at-set-aside = at-coro-create .before .before .before .before in let start = start-of at-set-aside in
+    λ w b rep snd.
+    let d = at-coro-create .coro-create .ensures w (record { words = mem start b; fuel = b .fuel }) rep snd in
+    let h = start .pre .window in
+    new-met (start .args .l) _ _ (b .fuel) w (start .args .dst) (start .args .f) (start .args .argc) (take (start .args .argc) (at-set-aside .set-aside .result)) _ _
+    (window-is (start .args .l) w (mem start b) (start .args .m) (b .fuel) rep (start .args .dst) (start .args .argc) _ (at-set-aside .set-aside .result)
+    (start .pre .reg) (start .pre .few) refl (omega arith) (at-set-aside .set-aside .ensures))
     (d .answer)
-    ((c .before .before .put-made .ensures) (c .before .before .before .before .before .before .before .before .before .before .before .before .before .before .before .before .before .before .before .before .before .before .before .before .before .args .l) (coroCreate (c .before .before .before .before .before .before .before .before .before .before .before .before .before .before .before .before .before .before .before .before .before .before .before .before .before .args .f) 0 (take (c .before .before .before .before .before .before .before .before .before .before .before .before .before .before .before .before .before .before .before .before .before .before .before .before .before .args .argc) (c .before .before .before .before .before .before .before .before .before .before .before .before .before .before .before .set-aside .result)) w .world) (record { words = topMaking (c .before .before .before .before .before .before .before .before .before .before .before .before .before .before .before .before .before .before .before .before .before .before .before .before .before .args .stack .now) (c .before .before .before .before .before .before .before .before .before .before .before .before .before .before .before .before .before .before .before .before .before .before .before .before .before .args .frames .now) ((c .before .before .before .before .before .before .before .before .before .before .before .coro-create .last .0)) ((c .before .before .before .before .before .before .before .before .before .before .before .coro-create .last .1 .0)) ((c .before .before .before .before .before .before .before .before .before .before .before .coro-create .last .1 .1 .0)) (c .before .before .before .before .before .before .before .before .before .before .before .before .before .before .before .before .before .before .before .before .before .before .before .before .before .args .setup .now) plain b; fuel = b .fuel }) (d .world))
+    (at-put-made .put-made .ensures (start .args .l) (coroCreate (start .args .f) 0 (take (start .args .argc) (at-set-aside .set-aside .result)) w .world)
+    (record {
+      words = topMaking (start .args .stack .now) (start .args .frames .now) (at-coro-create .coro-create .last .0)
+          (at-coro-create .coro-create .last .1 .0) (at-coro-create .coro-create .last .1 .1 .0) (start .args .setup .now) plain b;
+      fuel = b .fuel;
+    }) (d .world))
 
 pub coro-new-spec : {M : Type 1} → statement M
 coro-new-spec =
