@@ -17,7 +17,7 @@ use Rattle.model.specs.Answer.{numberOf}
 use Rattle.model.specs.Gate as Gate
 use Rattle.model.specs.Added.{accepted}
 use Rattle.model.specs.Call.{Operation, SetUp, Do}
-use Rattle.model.specs.Calls.{table, Row, Instruction, OnFrame, OnHost, Raise, Add, Seen, Other}
+use Rattle.model.specs.Calls.{table, Row, Instruction, OnFrame, OnHost, Unwinds, Grants, Looks, Other}
 use Rattle.model.specs.Step.{Out, told, doing, call, tested, step}
 use Rattle.model.specs.declared.machine.Cont.{Cont}
 use Rattle.model.specs.declared.machine.Frame.{Frame}
@@ -141,9 +141,9 @@ row-sees : (r : Row) (w : World) → doing r w .seen ≡ seenBy r w
 row-sees (Instruction pc operands arm) w = refl
 row-sees (OnFrame operands body) w = refl
 row-sees (OnHost operands body) w = refl
-row-sees (Raise f pc) w = refl
-row-sees (Add n) w = refl
-row-sees Seen w = registers-is w
+row-sees (Unwinds f pc) w = refl
+row-sees (Grants n) w = refl
+row-sees Looks w = registers-is w
 row-sees (Other body) w = refl
 
 sees-by : (b : Bool) (x : Out) (w : World) (l : List ℕ) → x .seen ≡ l → pick b x (told (Gate.refused w Fault.Unsound)) .seen ≡ pick b l []

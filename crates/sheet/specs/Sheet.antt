@@ -15,7 +15,7 @@ use Rattle.model.specs.Sound.{sound}
 use Rattle.model.specs.Answer.{numberOf}
 use Rattle.model.specs.Call.{Operation, SetUp, Do}
 use Rattle.model.specs.Step.{told, step}
-use Rattle.model.specs.Calls.{Row, Instruction, OnFrame, OnHost, Raise, Add, Seen, Other, table}
+use Rattle.model.specs.Calls.{Row, Instruction, OnFrame, OnHost, Unwinds, Grants, Looks, Other, table}
 use Rattle.model.specs.declared.call.Op.{Op}
 use Rattle.model.specs.declared.call.Answer.{Answer}
 use Rattle.sheet.specs.Lines.{Lines, lines, leads, says, faults, refuse, accept}
@@ -76,9 +76,9 @@ abbrev pub seenBy : Row → World → List ℕ
 seenBy (Instruction pc operands arm) w = []
 seenBy (OnFrame operands body) w = []
 seenBy (OnHost operands body) w = []
-seenBy (Raise f pc) w = []
-seenBy (Add n) w = []
-seenBy Seen w = Others.registers (w .frames) (w .stack)
+seenBy (Unwinds f pc) w = []
+seenBy (Grants n) w = []
+seenBy Looks w = Others.registers (w .frames) (w .stack)
 seenBy (Other body) w = []
 
 pub record FaultSheet : Type 0 where
