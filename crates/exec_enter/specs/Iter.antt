@@ -1,8 +1,8 @@
 -- coro.rs: iter_next, on the lent words.
 use mathlib.Core.Bool.{Bool, _||_}
 use mathlib.Core.List.{List}
-use Prim.Native.Nat.{ℕ, _*_, _^_, _≤_, _<_}
-use lib.ListN.{length}
+use Prim.Native.Nat.{ℕ, _^_, _<_}
+use Rattle.heap.specs.Heap.{TableFits}
 use Rattle.heap.specs.declared.object.CoroState.{CoroState}
 use Rattle.model.specs.State.{isReturned}
 use Rattle.model.specs.Object.{isDone}
@@ -24,7 +24,7 @@ abbrev pub stopped : ℕ → ℕ → World → World
 stopped has iter w = putReg has 0 (setDone iter w)
 
 pub record StopFits (stack frames slots : List ℕ) (m : Machine) (has : ℕ) : Type 0 where
-  pub table : m .count * 20 ≤ length slots
+  pub table : TableFits slots (m .count)
   pub flag : RegFits stack frames (m .height) (m .depth) has
 
 -- a sound world, and operands that the gate has tested

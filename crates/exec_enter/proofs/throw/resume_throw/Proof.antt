@@ -1,0 +1,90 @@
+-- `resume_throw` meets the definition: the words of two registers, and what the first names. Assumes nothing.
+use mathlib.Core.Path.{sym, _∙_}
+use Rattle.memory.specs.Memory.{Lent, Beside}
+use Rattle.memory.specs.Lendings.{lent}
+use Rattle.exec_enter.proofs.Thrown.{throw-refused, throws}
+use borrow.Author.Needs.{needs}
+use Rattle.exec_enter.proofs.throw.resume_throw.Statement.{statement}
+use Rattle.exec_enter.proofs.throw.resume_throw.Tie as tie
+
+abbrev mem : tie.Start → Beside → Lent
+mem c b = lent (c .args .stack .now) (c .args .frames .now) (c .args .chain .now) (c .args .slots .now) (c .args .saved-stack .now) (c .args .saved-frames .now) b
+
+reg-requires : tie.Need-reg-requires
+reg-requires c κs = search needs
+
+reg-requires-2 : tie.Need-reg-requires-2
+reg-requires-2 c κs = search needs
+
+coro-state-requires : tie.Need-coro-state-requires
+coro-state-requires c κs = search needs
+
+enum-known-f : tie.Need-enum-known-f
+enum-known-f c = search needs
+
+enum-known-s : tie.Need-enum-known-s
+enum-known-s c = search needs
+
+throw-to-requires : tie.Need-throw-to-requires
+throw-to-requires c κs = search needs
+
+same-length : tie.Need-same-length
+same-length c = search needs
+
+same-length-2 : tie.Need-same-length-2
+same-length-2 c = search needs
+
+same-length-3 : tie.Need-same-length-3
+same-length-3 c = search needs
+
+returns : tie.Need-returns
+returns c =
+    λ w b rep snd. throw-refused (c .before .before .before .before .before .before .before .before .before .before .before .before .before .before .before .before .before .args .l) (mem (c .before .before .before .before .before .before .before .before .before .before .before .before .before .before .before .before .before) b) (c .before .before .before .before .before .before .before .before .before .before .before .before .before .before .before .before .before .args .m) (b .fuel) w (c .before .before .before .before .before .before .before .before .before .before .before .before .before .before .before .before .before .args .pc) (c .before .before .before .before .before .before .before .before .before .before .before .before .before .before .before .before .before .args .dst) (c .before .before .before .before .before .before .before .before .reg .result) (c .before .before .before .before .before .reg2 .result) (c .before .before .before .before .before .before .before .before .before .before .before .before .before .before .before .before .before .args .c) (c .before .before .before .before .before .before .before .before .before .before .before .before .before .before .before .before .before .args .src)
+    (c .before .before .before .before .before .before .before .before .reg .ensures (w .stack) (w .frames) (rep .stack) (rep .frames) .is) (c .before .before .before .before .before .reg2 .ensures (w .stack) (w .frames) (rep .stack) (rep .frames) .is) _
+    (sym (c .before .f .given .1) ∙ c .before .before .before .coro-state .ensures (c .before .before .before .before .before .before .before .before .before .before .before .before .before .before .before .before .before .args .l) w (record { words = mem (c .before .before .before .before .before .before .before .before .before .before .before .before .before .before .before .before .before) b; fuel = b .fuel }) rep) rep
+
+same-length-4 : tie.Need-same-length-4
+same-length-4 c = search needs
+
+same-length-5 : tie.Need-same-length-5
+same-length-5 c = search needs
+
+same-length-6 : tie.Need-same-length-6
+same-length-6 c = search needs
+
+same-length-7 : tie.Need-same-length-7
+same-length-7 c = search needs
+
+same-length-8 : tie.Need-same-length-8
+same-length-8 c = search needs
+
+same-length-9 : tie.Need-same-length-9
+same-length-9 c = search needs
+
+returns-2 : tie.Need-returns-2
+returns-2 c =
+    λ w b rep snd. throws (c .before .before .before .before .before .before .before .before .before .before .before .before .before .before .before .before .before .before .before .before .before .before .before .before .before .before .before .before .before .before .before .before .before .before .before .before .args .l) _ _ (b .fuel) w (c .before .before .before .before .before .before .before .before .before .before .before .before .before .before .before .before .before .before .before .before .before .before .before .before .before .before .before .before .before .before .before .before .before .before .before .before .args .pc) (c .before .before .before .before .before .before .before .before .before .before .before .before .before .before .before .before .before .before .before .before .before .before .before .before .before .before .before .before .before .before .before .before .before .before .before .before .args .dst) (c .before .before .before .before .before .before .before .before .before .before .before .before .before .before .before .before .before .before .before .before .before .before .before .before .before .before .before .reg .result) (c .before .before .before .before .before .before .before .before .before .before .before .before .before .before .before .before .before .before .before .before .before .before .before .before .reg2 .result) (c .before .before .before .before .before .before .before .before .before .before .before .before .before .before .before .before .before .before .before .before .before .before .before .before .before .before .before .before .before .before .before .before .before .before .before .before .args .c) (c .before .before .before .before .before .before .before .before .before .before .before .before .before .before .before .before .before .before .before .before .before .before .before .before .before .before .before .before .before .before .before .before .before .before .before .before .args .src)
+    (c .before .before .before .before .before .before .before .before .before .before .before .before .before .before .before .before .before .before .before .before .before .before .before .before .before .before .before .reg .ensures (w .stack) (w .frames) (rep .stack) (rep .frames) .is) (c .before .before .before .before .before .before .before .before .before .before .before .before .before .before .before .before .before .before .before .before .before .before .before .before .reg2 .ensures (w .stack) (w .frames) (rep .stack) (rep .frames) .is) (c .before .before .before .before .before .before .before .before .before .before .before .before .before .before .before .before .before .before .before .before .s .given .0 .0) _
+    (sym (c .before .before .before .before .before .before .before .before .before .before .before .before .before .before .before .before .before .before .before .before .s .given .1) ∙ c .before .before .before .before .before .before .before .before .before .before .before .before .before .before .before .before .before .before .before .before .before .before .coro-state .ensures (c .before .before .before .before .before .before .before .before .before .before .before .before .before .before .before .before .before .before .before .before .before .before .before .before .before .before .before .before .before .before .before .before .before .before .before .before .args .l) w (record { words = mem (c .before .before .before .before .before .before .before .before .before .before .before .before .before .before .before .before .before .before .before .before .before .before .before .before .before .before .before .before .before .before .before .before .before .before .before .before) b; fuel = b .fuel }) rep) (c .before .before .before .before .before .before .before .before .before .before .before .before .throw-to .ensures w b rep snd)
+
+pub resume-throw-spec : {M : Type 1} → statement M
+resume-throw-spec =
+    tie.close
+    (tie.spec
+    reg-requires
+    reg-requires-2
+    coro-state-requires
+    enum-known-f
+    enum-known-s
+    throw-to-requires
+    same-length
+    same-length-2
+    same-length-3
+    returns
+    same-length-4
+    same-length-5
+    same-length-6
+    same-length-7
+    same-length-8
+    same-length-9
+    returns-2)
