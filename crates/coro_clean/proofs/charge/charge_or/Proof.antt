@@ -14,10 +14,8 @@ charge-done-requires c κs = c .before .pre (c .if1 .left)
 returns-2 : tie.Need-returns-2
 returns-2 c =
     let at-charge-done = c .before in let at-if1 = at-charge-done .before in let entry = at-if1 .before in
-    let paid = at-charge-done in
-    let start = entry in
-    λ l w b rep. or-done l (b .words) (start .args .m) (start .args .f) w (start .args .s) (b .words) (start .args .m) _ _ (at-if1 .if1 .left)
-    (paid .charge-done .ensures (start .args .m) l w b rep)
+    λ l w b rep. or-done l (b .words) (entry .args .m) (entry .args .f) w (entry .args .s) (b .words) (entry .args .m) _ _ (at-if1 .if1 .left)
+    (at-charge-done .charge-done .ensures (entry .args .m) l w b rep)
 
 pub charge-or-spec : {M : Type 1} → statement M
 charge-or-spec = tie.close (tie.spec returns charge-done-requires returns-2)

@@ -42,10 +42,8 @@ searched : (c : tie.After-start-finalizer) (w : World) (b : Beside) →
 searched c w b rep snd =
     let at-store-pc = store-pc-of (c .before) in
     let entry = at-store-pc .before .before .before .before .before .before .before .before .before in
-    let stored = at-store-pc in
-    let start = entry in
-    c .start-finalizer .ensures (storePc (start .args .pc) w) b (stored .store-pc .ensures (start .args .l) w (record { words = mem start b; fuel = start .args .fuel }) rep)
-    (store-sounds (start .args .pc) w (start .pre .charge .narrow) snd)
+    c .start-finalizer .ensures (storePc (entry .args .pc) w) b (at-store-pc .store-pc .ensures (entry .args .l) w (record { words = mem entry b; fuel = entry .args .fuel }) rep)
+    (store-sounds (entry .args .pc) w (entry .pre .charge .narrow) snd)
 
 store-pc-requires : tie.Need-store-pc-requires
 store-pc-requires c κs = search needs
@@ -54,13 +52,11 @@ start-finalizer-requires : tie.Need-start-finalizer-requires
 start-finalizer-requires c κs =
     let at-store-pc = store-pc-of c in
     let entry = at-store-pc .before .before .before .before .before .before .before .before .before in
-    let stored = at-store-pc in
-    let start = entry in
-    let o = start .pre .charge .ok in
-    stored-ok (start .args .l) (start .args .m) (start .args .fuel) (start .args .stack .now) (start .args .frames .now) (start .args .chain .now)
-    (start .args .slots .now) (start .args .saved-stack .now) (start .args .saved-frames .now)
-    (start .args .finalize .now) (stored .store-pc .last .0) (start .args .pc) (stored .store-pc .kept .0) (start .pre .charge .narrow) o
-    (stored .store-pc .ensures (start .args .l) (o .world) (record { words = mem start (o .beside); fuel = start .args .fuel }) (o .rep))
+    let o = entry .pre .charge .ok in
+    stored-ok (entry .args .l) (entry .args .m) (entry .args .fuel) (entry .args .stack .now) (entry .args .frames .now) (entry .args .chain .now)
+    (entry .args .slots .now) (entry .args .saved-stack .now) (entry .args .saved-frames .now)
+    (entry .args .finalize .now) (at-store-pc .store-pc .last .0) (entry .args .pc) (at-store-pc .store-pc .kept .0) (entry .pre .charge .narrow) o
+    (at-store-pc .store-pc .ensures (entry .args .l) (o .world) (record { words = mem entry (o .beside); fuel = entry .args .fuel }) (o .rep))
 
 charge-or-requires : tie.Need-charge-or-requires
 charge-or-requires c κs =

@@ -42,12 +42,11 @@ same-length-2 c = search needs
 
 returns-2 : tie.Need-returns-2
 returns-2 c =
-    let written = c .before .before in
-    let at-i = written .before .before .before in
-    let placed = at-i .before .before in
+    let written = c .before .before in let at-i = written .before .before .before in let placed = at-i .before .before in
     let start = placed .before .before .before in
     λ l w b rep.
-    closing-rep l (table (start .args .slots .now) plain b) (start .args .m) (b .fuel) (start .args .v .0) w rep (at-i .i .given .0 .0) (sym (at-i .i .given .1) ∙ placed .coro-place .ensures) (start .args .signal) _
+    closing-rep l (table (start .args .slots .now) plain b) (start .args .m) (b .fuel) (start .args .v .0) w rep (at-i .i .given .0 .0)
+    (sym (at-i .i .given .1) ∙ placed .coro-place .ensures) (start .args .signal) _
     (written .put-closing .ensures)
 
 pub set-closing-spec : {M : Type 1} → statement M
