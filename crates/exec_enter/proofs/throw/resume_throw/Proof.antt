@@ -39,9 +39,13 @@ same-length-3 c = search needs
 
 returns : tie.Need-returns
 returns c =
-    λ w b rep snd. throw-refused (c .before .before .before .before .before .before .before .before .before .before .before .before .before .before .before .before .before .args .l) (mem (c .before .before .before .before .before .before .before .before .before .before .before .before .before .before .before .before .before) b) (c .before .before .before .before .before .before .before .before .before .before .before .before .before .before .before .before .before .args .m) (b .fuel) w (c .before .before .before .before .before .before .before .before .before .before .before .before .before .before .before .before .before .args .pc) (c .before .before .before .before .before .before .before .before .before .before .before .before .before .before .before .before .before .args .dst) (c .before .before .before .before .before .before .before .before .reg .result) (c .before .before .before .before .before .reg2 .result) (c .before .before .before .before .before .before .before .before .before .before .before .before .before .before .before .before .before .args .c) (c .before .before .before .before .before .before .before .before .before .before .before .before .before .before .before .before .before .args .src)
-    (c .before .before .before .before .before .before .before .before .reg .ensures (w .stack) (w .frames) (rep .stack) (rep .frames) .is) (c .before .before .before .before .before .reg2 .ensures (w .stack) (w .frames) (rep .stack) (rep .frames) .is) _
-    (sym (c .before .f .given .1) ∙ c .before .before .before .coro-state .ensures (c .before .before .before .before .before .before .before .before .before .before .before .before .before .before .before .before .before .args .l) w (record { words = mem (c .before .before .before .before .before .before .before .before .before .before .before .before .before .before .before .before .before) b; fuel = b .fuel }) rep) rep
+    let at-f = c .before in let at-coro-state = at-f .before .before in let at-reg2 = at-coro-state .before .before in
+    let at-reg = at-reg2 .before .before .before in
+    let start = at-reg .before .before .before .before .before .before .before .before .before in
+    λ w b rep snd. throw-refused (start .args .l) (mem start b) (start .args .m) (b .fuel) w (start .args .pc) (start .args .dst) (at-reg .reg .result)
+    (at-reg2 .reg2 .result) (start .args .c) (start .args .src)
+    (at-reg .reg .ensures (w .stack) (w .frames) (rep .stack) (rep .frames) .is) (at-reg2 .reg2 .ensures (w .stack) (w .frames) (rep .stack) (rep .frames) .is) _
+    (sym (at-f .f .given .1) ∙ at-coro-state .coro-state .ensures (start .args .l) w (record { words = mem start b; fuel = b .fuel }) rep) rep
 
 same-length-4 : tie.Need-same-length-4
 same-length-4 c = search needs
@@ -63,9 +67,14 @@ same-length-9 c = search needs
 
 returns-2 : tie.Need-returns-2
 returns-2 c =
-    λ w b rep snd. throws (c .before .before .before .before .before .before .before .before .before .before .before .before .before .before .before .before .before .before .before .before .before .before .before .before .before .before .before .before .before .before .before .before .before .before .before .before .args .l) _ _ (b .fuel) w (c .before .before .before .before .before .before .before .before .before .before .before .before .before .before .before .before .before .before .before .before .before .before .before .before .before .before .before .before .before .before .before .before .before .before .before .before .args .pc) (c .before .before .before .before .before .before .before .before .before .before .before .before .before .before .before .before .before .before .before .before .before .before .before .before .before .before .before .before .before .before .before .before .before .before .before .before .args .dst) (c .before .before .before .before .before .before .before .before .before .before .before .before .before .before .before .before .before .before .before .before .before .before .before .before .before .before .before .reg .result) (c .before .before .before .before .before .before .before .before .before .before .before .before .before .before .before .before .before .before .before .before .before .before .before .before .reg2 .result) (c .before .before .before .before .before .before .before .before .before .before .before .before .before .before .before .before .before .before .before .before .before .before .before .before .before .before .before .before .before .before .before .before .before .before .before .before .args .c) (c .before .before .before .before .before .before .before .before .before .before .before .before .before .before .before .before .before .before .before .before .before .before .before .before .before .before .before .before .before .before .before .before .before .before .before .before .args .src)
-    (c .before .before .before .before .before .before .before .before .before .before .before .before .before .before .before .before .before .before .before .before .before .before .before .before .before .before .before .reg .ensures (w .stack) (w .frames) (rep .stack) (rep .frames) .is) (c .before .before .before .before .before .before .before .before .before .before .before .before .before .before .before .before .before .before .before .before .before .before .before .before .reg2 .ensures (w .stack) (w .frames) (rep .stack) (rep .frames) .is) (c .before .before .before .before .before .before .before .before .before .before .before .before .before .before .before .before .before .before .before .before .s .given .0 .0) _
-    (sym (c .before .before .before .before .before .before .before .before .before .before .before .before .before .before .before .before .before .before .before .before .s .given .1) ∙ c .before .before .before .before .before .before .before .before .before .before .before .before .before .before .before .before .before .before .before .before .before .before .coro-state .ensures (c .before .before .before .before .before .before .before .before .before .before .before .before .before .before .before .before .before .before .before .before .before .before .before .before .before .before .before .before .before .before .before .before .before .before .before .before .args .l) w (record { words = mem (c .before .before .before .before .before .before .before .before .before .before .before .before .before .before .before .before .before .before .before .before .before .before .before .before .before .before .before .before .before .before .before .before .before .before .before .before) b; fuel = b .fuel }) rep) (c .before .before .before .before .before .before .before .before .before .before .before .before .throw-to .ensures w b rep snd)
+    let at-throw-to = c .before .before .before .before .before .before .before .before .before .before .before .before in
+    let at-s = at-throw-to .before .before .before .before .before .before .before .before in
+    let at-coro-state = at-s .before .before in let at-reg2 = at-coro-state .before .before in
+    let at-reg = at-reg2 .before .before .before in
+    let start = at-reg .before .before .before .before .before .before .before .before .before in
+    λ w b rep snd. throws (start .args .l) _ _ (b .fuel) w (start .args .pc) (start .args .dst) (at-reg .reg .result) (at-reg2 .reg2 .result) (start .args .c) (start .args .src)
+    (at-reg .reg .ensures (w .stack) (w .frames) (rep .stack) (rep .frames) .is) (at-reg2 .reg2 .ensures (w .stack) (w .frames) (rep .stack) (rep .frames) .is) (at-s .s .given .0 .0) _
+    (sym (at-s .s .given .1) ∙ at-coro-state .coro-state .ensures (start .args .l) w (record { words = mem start b; fuel = b .fuel }) rep) (at-throw-to .throw-to .ensures w b rep snd)
 
 pub resume-throw-spec : {M : Type 1} → statement M
 resume-throw-spec =

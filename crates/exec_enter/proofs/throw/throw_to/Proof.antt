@@ -10,6 +10,10 @@ use borrow.Author.Needs.{needs}
 use Rattle.exec_enter.proofs.throw.throw_to.Statement.{statement}
 use Rattle.exec_enter.proofs.throw.throw_to.Tie as tie
 
+-- the ways back that several clauses take
+abbrev start-of : tie.After-is-created → tie.Start
+start-of c = c .before .before .before .before .before .before .before
+
 abbrev mem : tie.Start → Beside → Lent
 mem c b = lent (c .args .stack .now) (c .args .frames .now) (c .args .chain .now) (c .args .slots .now) (c .args .saved-stack .now) (c .args .saved-frames .now) b
 
@@ -18,9 +22,10 @@ is-created-requires c κs = search needs
 
 finish-coroutine-requires : tie.Need-finish-coroutine-requires
 finish-coroutine-requires c κs =
-    let o = c .before .before .before .before .before .before .before .before .before .before .before .pre .ok in
-    finish-asks (o .world) (o .sound) (c .before .before .before .before .before .before .before .before .before .before .before .args .l) (rows (c .before .before .before .before .before .before .before .before .before .before .before .args .slots .now) (c .before .before .before .before .before .before .before .before .before .before .before .args .saved-stack .now) (c .before .before .before .before .before .before .before .before .before .before .before .args .saved-frames .now) plain) (c .before .before .before .before .before .before .before .before .before .before .before .args .m)
-    (record { words = mem (c .before .before .before .before .before .before .before .before .before .before .before) (o .beside); fuel = o .beside .fuel }) CoroState.Failed refl (o .rep)
+    let start = start-of (c .before .before .before .before) in
+    let o = start .pre .ok in
+    finish-asks (o .world) (o .sound) (start .args .l) (rows (start .args .slots .now) (start .args .saved-stack .now) (start .args .saved-frames .now) plain) (start .args .m)
+    (record { words = mem start (o .beside); fuel = o .beside .fuel }) CoroState.Failed refl (o .rep)
 
 same-length : tie.Need-same-length
 same-length c = search needs
@@ -33,8 +38,12 @@ same-length-3 c = search needs
 
 returns : tie.Need-returns
 returns c =
-    λ w b rep snd. throw-created (c .before .before .before .before .before .before .before .before .before .before .before .before .before .before .before .before .before .before .args .l) _ (c .before .before .before .before .before .before .before .before .before .before .before .before .before .before .before .before .before .before .args .m) (b .fuel) w (c .before .before .before .before .before .before .before .before .before .before .before .before .before .before .before .before .before .before .args .pc) (c .before .before .before .before .before .before .before .before .before .before .before .before .before .before .before .before .before .before .args .dst) (c .before .before .before .before .before .before .before .before .before .before .before .before .before .before .before .before .before .before .args .v) (c .before .before .before .before .before .before .before .before .before .before .before .before .before .before .before .before .before .before .args .err) (c .before .before .before .before .before .before .before .before .before .before .before .before .before .before .before .before .before .before .args .s) (sym (c .before .before .before .before .before .before .before .before .before .before .before .is-created .ensures) ∙ c .before .before .before .before .before .before .before .before .before .before .if1 .taken)
-    (c .before .before .before .before .before .before .finish-coroutine .ensures w (record { words = mem (c .before .before .before .before .before .before .before .before .before .before .before .before .before .before .before .before .before .before) b; fuel = b .fuel }) rep (sound-rowed w snd))
+    let at-finish-coroutine = c .before .before .before .before .before .before in
+    let at-if1 = at-finish-coroutine .before .before .before .before in let at-is-created = at-if1 .before in
+    let start = start-of at-is-created in
+    λ w b rep snd. throw-created (start .args .l) _ (start .args .m) (b .fuel) w (start .args .pc) (start .args .dst) (start .args .v) (start .args .err)
+    (start .args .s) (sym (at-is-created .is-created .ensures) ∙ at-if1 .if1 .taken)
+    (at-finish-coroutine .finish-coroutine .ensures w (record { words = mem start b; fuel = b .fuel }) rep (sound-rowed w snd))
 
 store-enter-requires : tie.Need-store-enter-requires
 store-enter-requires c κs = search needs
@@ -62,8 +71,12 @@ same-length-9 c = search needs
 
 returns-2 : tie.Need-returns-2
 returns-2 c =
-    λ w b rep snd. throw-entered (c .before .before .before .before .before .before .before .before .before .before .before .before .before .before .before .before .before .before .before .before .before .before .before .before .before .before .before .before .before .args .l) _ (c .before .before .before .before .before .before .before .before .before .before .before .before .before .before .store-enter .result .machine) (b .fuel) w (c .before .before .before .before .before .before .before .before .before .before .before .before .before .before .before .before .before .before .before .before .before .before .before .before .before .before .before .before .before .args .pc) (c .before .before .before .before .before .before .before .before .before .before .before .before .before .before .before .before .before .before .before .before .before .before .before .before .before .before .before .before .before .args .dst) (c .before .before .before .before .before .before .before .before .before .before .before .before .before .before .before .before .before .before .before .before .before .before .before .before .before .before .before .before .before .args .v) (c .before .before .before .before .before .before .before .before .before .before .before .before .before .before .before .before .before .before .before .before .before .before .before .before .before .before .before .before .before .args .err) (c .before .before .before .before .before .before .before .before .before .before .before .before .before .before .before .before .before .before .before .before .before .before .before .before .before .before .before .before .before .args .s) (c .before .before .before .before .before .before .before .before .before .before .before .before .before .before .store-enter .result .answer) (c .raised .result)
-    (sym (c .before .before .before .before .before .before .before .before .before .before .before .before .before .before .before .before .before .before .before .before .before .before .is-created .ensures) ∙ c .before .before .before .before .before .before .before .before .before .before .before .before .before .before .before .before .before .before .before .before .before .if1 .left) (c .before .before .before .before .before .before .before .before .before .before .before .before .before .before .store-enter .ensures w b rep snd) (c .raised .ensures)
+    let at-store-enter = c .before .before .before .before .before .before .before .before .before .before .before .before .before .before in
+    let at-if1 = at-store-enter .before .before .before .before .before .before .before in let at-is-created = at-if1 .before in
+    let start = start-of at-is-created in
+    λ w b rep snd. throw-entered (start .args .l) _ (at-store-enter .store-enter .result .machine) (b .fuel) w (start .args .pc) (start .args .dst)
+    (start .args .v) (start .args .err) (start .args .s) (at-store-enter .store-enter .result .answer) (c .raised .result)
+    (sym (at-is-created .is-created .ensures) ∙ at-if1 .if1 .left) (at-store-enter .store-enter .ensures w b rep snd) (c .raised .ensures)
 
 pub throw-to-spec : {M : Type 1} → statement M
 throw-to-spec =
