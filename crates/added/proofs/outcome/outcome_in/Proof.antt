@@ -14,19 +14,25 @@ returns-2 c =
 
 returns-3 : tie.Need-returns-3
 returns-3 c =
-    simp (ne-eqb _ _ (c .before .before .before .before .if1 .left), ne-eqb _ _ (c .before .before .if2 .left), eq-eqb _ _ (c .if3 .taken), pick-true, pick-false)
+    let at-if2 = c .before .before in let at-if1 = at-if2 .before .before in
+    simp (ne-eqb _ _ (at-if1 .if1 .left), ne-eqb _ _ (at-if2 .if2 .left), eq-eqb _ _ (c .if3 .taken), pick-true, pick-false)
 
 returns-4 : tie.Need-returns-4
 returns-4 c =
-    simp (ne-eqb _ _ (c .before .before .before .before .before .before .if1 .left), ne-eqb _ _ (c .before .before .before .before .if2 .left), ne-eqb _ _ (c .before .before .if3 .left), eq-eqb _ _ (c .if4 .taken), pick-true, pick-false)
+    let at-if3 = c .before .before in let at-if2 = at-if3 .before .before in let at-if1 = at-if2 .before .before in
+    simp (ne-eqb _ _ (at-if1 .if1 .left), ne-eqb _ _ (at-if2 .if2 .left), ne-eqb _ _ (at-if3 .if3 .left), eq-eqb _ _ (c .if4 .taken), pick-true, pick-false)
 
 returns-5 : tie.Need-returns-5
 returns-5 c =
-    simp (ne-eqb _ _ (c .before .before .before .before .before .before .before .before .if1 .left), ne-eqb _ _ (c .before .before .before .before .before .before .if2 .left), ne-eqb _ _ (c .before .before .before .before .if3 .left), ne-eqb _ _ (c .before .before .if4 .left), eq-eqb _ _ (c .if5 .taken), pick-true, pick-false)
+    let at-if4 = c .before .before in let at-if3 = at-if4 .before .before in let at-if2 = at-if3 .before .before in
+    let at-if1 = at-if2 .before .before in
+    simp (ne-eqb _ _ (at-if1 .if1 .left), ne-eqb _ _ (at-if2 .if2 .left), ne-eqb _ _ (at-if3 .if3 .left), ne-eqb _ _ (at-if4 .if4 .left), eq-eqb _ _ (c .if5 .taken), pick-true, pick-false)
 
 returns-6 : tie.Need-returns-6
 returns-6 c =
-    simp (ne-eqb _ _ (c .before .before .before .before .before .before .before .before .if1 .left), ne-eqb _ _ (c .before .before .before .before .before .before .if2 .left), ne-eqb _ _ (c .before .before .before .before .if3 .left), ne-eqb _ _ (c .before .before .if4 .left), ne-eqb _ _ (c .if5 .left), pick-false)
+    let at-if4 = c .before .before in let at-if3 = at-if4 .before .before in let at-if2 = at-if3 .before .before in
+    let at-if1 = at-if2 .before .before in
+    simp (ne-eqb _ _ (at-if1 .if1 .left), ne-eqb _ _ (at-if2 .if2 .left), ne-eqb _ _ (at-if3 .if3 .left), ne-eqb _ _ (at-if4 .if4 .left), ne-eqb _ _ (c .if5 .left), pick-false)
 
 pub outcome-in-spec : {M : Type 1} → statement M
 outcome-in-spec = tie.close (tie.spec returns returns-2 returns-3 returns-4 returns-5 returns-6)
