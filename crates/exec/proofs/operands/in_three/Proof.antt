@@ -1,0 +1,19 @@
+-- `in_three` meets its contract. Assumes nothing.
+use borrow.Author.Needs.{needs}
+use Rattle.exec.proofs.operands.in_three.Statement.{statement}
+use Rattle.exec.proofs.operands.in_three.Tie as tie
+
+in-frame-requires : tie.Need-in-frame-requires
+in-frame-requires c κs = search needs
+
+in-two-requires : tie.Need-in-two-requires
+in-two-requires c κs = search needs
+
+both-requires : tie.Need-both-requires
+both-requires c κs = search needs
+
+returns : tie.Need-returns
+returns c = cc
+
+pub in-three-spec : {M : Type 1} → statement M
+in-three-spec = tie.close (tie.spec in-frame-requires in-two-requires both-requires returns)

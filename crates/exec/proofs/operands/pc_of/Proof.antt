@@ -1,0 +1,186 @@
+-- `pc_of` meets its contract, by the operation. Assumes nothing.
+use mathlib.Core.Path.{sym, ap}
+use native.Mathlib.Omega.{arith}
+use Rattle.model.specs.Calls.{table}
+use Rattle.exec.specs.Instruction.{pcOf}
+use Rattle.exec.proofs.Tags.{no-instruction, pc-else}
+use borrow.Author.Needs.{needs}
+use Rattle.exec.proofs.operands.pc_of.Statement.{statement}
+use Rattle.exec.proofs.operands.pc_of.Tie as tie
+
+enum-known-op : tie.Need-enum-known-op
+enum-known-op c = search needs
+
+cast-result : tie.Need-cast-result
+cast-result c = search needs
+
+enum-known-op-2 : tie.Need-enum-known-op-2
+enum-known-op-2 c = search needs
+
+cast-result-2 : tie.Need-cast-result-2
+cast-result-2 c = search needs
+
+enum-known-op-3 : tie.Need-enum-known-op-3
+enum-known-op-3 c = search needs
+
+cast-result-3 : tie.Need-cast-result-3
+cast-result-3 c = search needs
+
+enum-known-op-4 : tie.Need-enum-known-op-4
+enum-known-op-4 c = search needs
+
+cast-result-4 : tie.Need-cast-result-4
+cast-result-4 c = search needs
+
+enum-known-op-5 : tie.Need-enum-known-op-5
+enum-known-op-5 c = search needs
+
+cast-result-5 : tie.Need-cast-result-5
+cast-result-5 c = search needs
+
+enum-known-op-6 : tie.Need-enum-known-op-6
+enum-known-op-6 c = search needs
+
+cast-result-6 : tie.Need-cast-result-6
+cast-result-6 c = search needs
+
+enum-known-op-7 : tie.Need-enum-known-op-7
+enum-known-op-7 c = search needs
+
+cast-result-7 : tie.Need-cast-result-7
+cast-result-7 c = search needs
+
+enum-known-op-8 : tie.Need-enum-known-op-8
+enum-known-op-8 c = search needs
+
+cast-result-8 : tie.Need-cast-result-8
+cast-result-8 c = search needs
+
+enum-known-op-9 : tie.Need-enum-known-op-9
+enum-known-op-9 c = search needs
+
+cast-result-9 : tie.Need-cast-result-9
+cast-result-9 c = search needs
+
+enum-known-op-10 : tie.Need-enum-known-op-10
+enum-known-op-10 c = search needs
+
+cast-result-10 : tie.Need-cast-result-10
+cast-result-10 c = search needs
+
+enum-known-op-11 : tie.Need-enum-known-op-11
+enum-known-op-11 c = search needs
+
+cast-result-11 : tie.Need-cast-result-11
+cast-result-11 c = search needs
+
+enum-known-op-12 : tie.Need-enum-known-op-12
+enum-known-op-12 c = search needs
+
+cast-result-12 : tie.Need-cast-result-12
+cast-result-12 c = search needs
+
+enum-known-op-13 : tie.Need-enum-known-op-13
+enum-known-op-13 c = search needs
+
+cast-result-13 : tie.Need-cast-result-13
+cast-result-13 c = search needs
+
+enum-known-op-14 : tie.Need-enum-known-op-14
+enum-known-op-14 c = search needs
+
+cast-result-14 : tie.Need-cast-result-14
+cast-result-14 c = search needs
+
+returns : tie.Need-returns
+returns c = record { is = sym (ap (λ o. pcOf (table o)) (c .before .op .given .1)); narrow = search needs }
+
+returns-2 : tie.Need-returns-2
+returns-2 c = record { is = sym (ap (λ o. pcOf (table o)) (c .before .op2 .given .1)); narrow = search needs }
+
+returns-3 : tie.Need-returns-3
+returns-3 c = record { is = sym (ap (λ o. pcOf (table o)) (c .before .op3 .given .1)); narrow = search needs }
+
+returns-4 : tie.Need-returns-4
+returns-4 c = record { is = sym (ap (λ o. pcOf (table o)) (c .before .op4 .given .1)); narrow = search needs }
+
+returns-5 : tie.Need-returns-5
+returns-5 c = record { is = sym (ap (λ o. pcOf (table o)) (c .before .op5 .given .1)); narrow = search needs }
+
+returns-6 : tie.Need-returns-6
+returns-6 c = record { is = sym (ap (λ o. pcOf (table o)) (c .before .op6 .given .1)); narrow = search needs }
+
+returns-7 : tie.Need-returns-7
+returns-7 c = record { is = sym (ap (λ o. pcOf (table o)) (c .before .op7 .given .1)); narrow = search needs }
+
+returns-8 : tie.Need-returns-8
+returns-8 c = record { is = sym (ap (λ o. pcOf (table o)) (c .before .op8 .given .1)); narrow = search needs }
+
+returns-9 : tie.Need-returns-9
+returns-9 c = record { is = sym (ap (λ o. pcOf (table o)) (c .before .op9 .given .1)); narrow = search needs }
+
+returns-10 : tie.Need-returns-10
+returns-10 c = record { is = sym (ap (λ o. pcOf (table o)) (c .before .op10 .given .1)); narrow = search needs }
+
+returns-11 : tie.Need-returns-11
+returns-11 c = record { is = sym (ap (λ o. pcOf (table o)) (c .before .op11 .given .1)); narrow = search needs }
+
+returns-12 : tie.Need-returns-12
+returns-12 c = record { is = sym (ap (λ o. pcOf (table o)) (c .before .op12 .given .1)); narrow = search needs }
+
+returns-13 : tie.Need-returns-13
+returns-13 c = record { is = sym (ap (λ o. pcOf (table o)) (c .before .op13 .given .1)); narrow = search needs }
+
+returns-14 : tie.Need-returns-14
+returns-14 c = record { is = sym (ap (λ o. pcOf (table o)) (c .before .op14 .given .1)); narrow = search needs }
+
+returns-15 : tie.Need-returns-15
+returns-15 c = record { is = pc-else (table (c .before .args .op)) (no-instruction (c .before .args .op) (c .match .keys15)); narrow = omega arith }
+
+pub pc-of-spec : {M : Type 1} → statement M
+pc-of-spec =
+    tie.close
+    (tie.spec
+    enum-known-op
+    cast-result
+    enum-known-op-2
+    cast-result-2
+    enum-known-op-3
+    cast-result-3
+    enum-known-op-4
+    cast-result-4
+    enum-known-op-5
+    cast-result-5
+    enum-known-op-6
+    cast-result-6
+    enum-known-op-7
+    cast-result-7
+    enum-known-op-8
+    cast-result-8
+    enum-known-op-9
+    cast-result-9
+    enum-known-op-10
+    cast-result-10
+    enum-known-op-11
+    cast-result-11
+    enum-known-op-12
+    cast-result-12
+    enum-known-op-13
+    cast-result-13
+    enum-known-op-14
+    cast-result-14
+    returns
+    returns-2
+    returns-3
+    returns-4
+    returns-5
+    returns-6
+    returns-7
+    returns-8
+    returns-9
+    returns-10
+    returns-11
+    returns-12
+    returns-13
+    returns-14
+    returns-15)
