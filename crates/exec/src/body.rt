@@ -22,8 +22,8 @@ use model::call::Op;
 use model::exec::Step;
 use model::machine::Fuel;
 
-// The instructions that move no frame to or from a row; Spawn pushes one.
-fn body_still(
+// The arm of an instruction.
+pub fn body(
     stack: &mut [u64],
     frames: &mut [u64],
     chain: &mut [u64],
@@ -40,6 +40,95 @@ fn body_still(
     ensures { λ r. ⌜ Met ifSound l (armOf (table op)) (sixSetup stack frames chain slots «saved_stack» «saved_frames» setup) (with m fuel) (with (r .machine) (r .fuel)) (r .step) ⌝ }
 {
     match op {
+        Op::Yield { pc, dst, src } => coro_yield(
+            stack,
+            frames,
+            chain,
+            slots,
+            saved_stack,
+            saved_frames,
+            m,
+            l,
+            fuel,
+            pc as u64,
+            dst as u64,
+            src as u64,
+        ),
+        Op::YieldKv { pc, dst, src, key } => yield_kv(
+            stack,
+            frames,
+            chain,
+            slots,
+            saved_stack,
+            saved_frames,
+            m,
+            l,
+            fuel,
+            pc as u64,
+            dst as u64,
+            src as u64,
+            key as u64,
+        ),
+        Op::Await { pc, dst, src } => coro_await(
+            stack,
+            frames,
+            chain,
+            slots,
+            saved_stack,
+            saved_frames,
+            m,
+            l,
+            fuel,
+            pc as u64,
+            dst as u64,
+            src as u64,
+        ),
+        Op::Resume { pc, dst, coro, src } => {
+            let did = resume(
+                stack,
+                frames,
+                chain,
+                slots,
+                saved_stack,
+                saved_frames,
+                m,
+                l,
+                pc as u64,
+                dst as u64,
+                coro as u64,
+                src as u64,
+            );
+            let machine = did.machine;
+            let step = did.step;
+            Stepped {
+                machine,
+                fuel,
+                step,
+            }
+        }
+        Op::ResumeThrow { pc, dst, coro, src } => {
+            let did = resume_throw(
+                stack,
+                frames,
+                chain,
+                slots,
+                saved_stack,
+                saved_frames,
+                m,
+                l,
+                pc as u64,
+                dst as u64,
+                coro as u64,
+                src as u64,
+            );
+            let machine = did.machine;
+            let step = did.step;
+            Stepped {
+                machine,
+                fuel,
+                step,
+            }
+        }
         Op::CoroNew {
             pc: _,
             dst,
@@ -151,128 +240,5 @@ fn body_still(
             fuel,
             step: Step::Next,
         },
-    }
-}
-
-// The arm of an instruction.
-pub fn body(
-    stack: &mut [u64],
-    frames: &mut [u64],
-    chain: &mut [u64],
-    slots: &mut [u64],
-    saved_stack: &mut [u64],
-    saved_frames: &mut [u64],
-    setup: &[u64],
-    m: Machine,
-    l: Sizes,
-    fuel: Fuel,
-    op: Op,
-) -> Stepped
-    requires { ⌜ Past l (sixSetup stack frames chain slots «saved_stack» «saved_frames» setup now) m fuel op ⌝ }
-    ensures { λ r. ⌜ Met ifSound l (armOf (table op)) (sixSetup stack frames chain slots «saved_stack» «saved_frames» setup) (with m fuel) (with (r .machine) (r .fuel)) (r .step) ⌝ }
-{
-    match op {
-        Op::Yield { pc, dst, src } => coro_yield(
-            stack,
-            frames,
-            chain,
-            slots,
-            saved_stack,
-            saved_frames,
-            m,
-            l,
-            fuel,
-            pc as u64,
-            dst as u64,
-            src as u64,
-        ),
-        Op::YieldKv { pc, dst, src, key } => yield_kv(
-            stack,
-            frames,
-            chain,
-            slots,
-            saved_stack,
-            saved_frames,
-            m,
-            l,
-            fuel,
-            pc as u64,
-            dst as u64,
-            src as u64,
-            key as u64,
-        ),
-        Op::Await { pc, dst, src } => coro_await(
-            stack,
-            frames,
-            chain,
-            slots,
-            saved_stack,
-            saved_frames,
-            m,
-            l,
-            fuel,
-            pc as u64,
-            dst as u64,
-            src as u64,
-        ),
-        Op::Resume { pc, dst, coro, src } => {
-            let did = resume(
-                stack,
-                frames,
-                chain,
-                slots,
-                saved_stack,
-                saved_frames,
-                m,
-                l,
-                pc as u64,
-                dst as u64,
-                coro as u64,
-                src as u64,
-            );
-            let machine = did.machine;
-            let step = did.step;
-            Stepped {
-                machine,
-                fuel,
-                step,
-            }
-        }
-        Op::ResumeThrow { pc, dst, coro, src } => {
-            let did = resume_throw(
-                stack,
-                frames,
-                chain,
-                slots,
-                saved_stack,
-                saved_frames,
-                m,
-                l,
-                pc as u64,
-                dst as u64,
-                coro as u64,
-                src as u64,
-            );
-            let machine = did.machine;
-            let step = did.step;
-            Stepped {
-                machine,
-                fuel,
-                step,
-            }
-        }
-        _ => body_still(
-            stack,
-            frames,
-            chain,
-            slots,
-            saved_stack,
-            saved_frames,
-            setup,
-            m,
-            l,
-            fuel,
-            op,
-        ),
     }
 }
