@@ -4,6 +4,8 @@ use mathlib.Core.Bool.{Bool, true, false, _||_}
 use Prim.Native.Nat.{ℕ}
 use Rattle.lists.specs.Pick.{pick, pick-true, pick-false}
 use Rattle.heap.specs.Word.{nil}
+use Rattle.heap.specs.Heap.{slotsOf}
+use Rattle.heap.specs.Kind.{doneOf}
 use Rattle.heap.specs.declared.fault.Fault.{Fault}
 use Rattle.heap.specs.declared.object.CoroState.{CoroState}
 use Rattle.model.specs.State.{isAwaiting, isReturned}
@@ -17,12 +19,19 @@ use Rattle.model.specs.declared.coro.Stated.{Stated}
 use Rattle.model.specs.declared.exec.Step.{Step}
 use Rattle.model.specs.declared.machine.Driver.{Driver}
 use Rattle.model.specs.declared.machine.Fuel.{Fuel}
+use Rattle.memory.specs.Slots.{toSlots}
 use Rattle.memory.specs.Memory.{Lent, Rep}
 use Rattle.memory.specs.Contract.{Does}
 use Rattle.memory.specs.declared.machine.Machine.{Machine}
 use Rattle.memory.specs.declared.machine.Sizes.{Sizes}
 use Rattle.memory.proofs.Does.{does}
+use Rattle.memory.proofs.Named.{done-same}
+use Rattle.memory.proofs.Tables.{slots-are}
 use Rattle.exec_enter.specs.Iter.{exhausted, stopped}
+
+-- what the words tell of an iterator is what the world does
+pub done-in : (l : Sizes) (M : Lent) (m : Machine) (f : Fuel) (w : World) → Rep l w M m f → (iter : ℕ) (r : Bool) → r ≡ doneOf (slotsOf (m .count) (M .slots)) iter → isDone (object w iter) ≡ r
+done-in l M m f w rep iter r e = sym (e ∙ ap (λ xs. doneOf xs iter) (slots-are (toSlots (w .slots)) (M .slots) (m .count) (rep .slots)) ∙ done-same (w .slots) iter)
 
 -- either is the end
 pub end-done : (iter : ℕ) (s : CoroState) (w : World) → isDone (object w iter) ≡ true → true ≡ exhausted iter s w
