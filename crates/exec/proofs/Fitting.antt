@@ -31,6 +31,8 @@ use Rattle.exec_make.specs.New.{NewFits}
 use Rattle.exec_make.specs.Indirect.{IndirectFits}
 use Rattle.exec_make.specs.Spawn.{SpawnFits}
 use Rattle.exec_enter.specs.Resume.{ResumeFits}
+use Rattle.exec_enter.specs.Close.{CloseFits}
+use Rattle.exec_enter.specs.Iter.{NextFits}
 use Rattle.exec_ask.specs.Ask.{AskFits, CurrentFits}
 use Rattle.exec_yield.specs.Yielding.{YieldFits, YieldKvFits}
 use Rattle.exec.specs.Operands.{operandsOf}
@@ -99,6 +101,20 @@ module _ (l : Sizes) (s f c o r q u : List ℕ) (m : Machine) (fuel : Fuel) (op 
 
   pub throw-fits : (pc dst k src : ℕ) → op ≡ Op.ResumeThrow pc dst k src → ResumeFits l s f c o r q m pc k src
   throw-fits pc dst k src e = resuming pc dst k src (passed _ e) (narrow _ e)
+
+  pub close-fits : (pc dst k src : ℕ) → op ≡ Op.CoroClose pc dst k src → CloseFits l s f c o r q m pc dst k src
+  close-fits pc dst k src e = record { given = resuming pc dst k src (passed _ e) (narrow _ e); result = regs-in (dst ∷ k ∷ src ∷ []) 0 (passed _ e) (omega arith) }
+
+  pub next-fits : (pc has iter val src : ℕ) → op ≡ Op.IterNext pc has iter val src → NextFits l s f c o r q m pc has iter src
+  next-fits pc has iter val src e =
+      let ks = has ∷ iter ∷ val ∷ src ∷ [] in
+      record {
+        ok = six-ok;
+        narrow = narrow _ e;
+        flag = regs-in ks 0 (passed _ e) (omega arith);
+        iterator = regs-in ks 1 (passed _ e) (omega arith);
+        source = regs-in ks 3 (passed _ e) (omega arith);
+      }
 
   yielding : (pc dst src : ℕ) (ks : List ℕ) → allIn (dst ∷ src ∷ ks) w ≡ true → pc < 2 ^ 32 → YieldFits l s f c o r q m pc src
   yielding pc dst src ks t n = record { ok = six-ok; narrow = n; sent = regs-in (dst ∷ src ∷ ks) 1 t (omega arith) }

@@ -7,6 +7,8 @@ use exec_ask::ask::coro_current;
 use exec_ask::ask::coro_key;
 use exec_ask::ask::coro_result;
 use exec_ask::ask::coro_status;
+use exec_enter::close::coro_close;
+use exec_enter::iter::iter_next;
 use exec_enter::resume::resume;
 use exec_enter::throw::resume_throw;
 use exec_make::indirect::coro_new_indirect;
@@ -119,6 +121,59 @@ pub fn body(
                 pc as u64,
                 dst as u64,
                 coro as u64,
+                src as u64,
+            );
+            let machine = did.machine;
+            let step = did.step;
+            Stepped {
+                machine,
+                fuel,
+                step,
+            }
+        }
+        Op::CoroClose { pc, dst, coro, src } => {
+            let did = coro_close(
+                stack,
+                frames,
+                chain,
+                slots,
+                saved_stack,
+                saved_frames,
+                m,
+                l,
+                pc as u64,
+                dst as u64,
+                coro as u64,
+                src as u64,
+            );
+            let machine = did.machine;
+            let step = did.step;
+            Stepped {
+                machine,
+                fuel,
+                step,
+            }
+        }
+        Op::IterNext {
+            pc,
+            has,
+            iter,
+            val,
+            src,
+        } => {
+            let did = iter_next(
+                stack,
+                frames,
+                chain,
+                slots,
+                saved_stack,
+                saved_frames,
+                m,
+                l,
+                pc as u64,
+                has as u64,
+                iter as u64,
+                val as u64,
                 src as u64,
             );
             let machine = did.machine;
