@@ -1,3 +1,4 @@
 pub mod Tags
 pub mod Passing
 pub mod Fitting
+pub mod Gated

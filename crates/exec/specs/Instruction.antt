@@ -1,6 +1,7 @@
 -- 01: Gate, and an instruction behind it, on the lent words.
 use mathlib.Core.Path.{_≡_}
 use mathlib.Core.Bool.{Bool, true, false}
+use mathlib.Core.List.{List}
 use Prim.Native.Nat.{ℕ, _^_, _<_}
 use Rattle.model.specs.Lists.{isNil}
 use Rattle.model.specs.World.{World, After, after}
@@ -10,7 +11,8 @@ use Rattle.model.specs.declared.call.Op.{Op}
 use Rattle.model.specs.declared.call.Answer.{Answer}
 use Rattle.model.specs.declared.exec.Step.{Step}
 use Rattle.model.specs.declared.machine.Fuel.{Fuel}
-use Rattle.memory.specs.Memory.{Lent, Beside}
+use Rattle.memory.specs.Memory.{Lent, Beside, onFinalize, onSetup}
+use Rattle.memory.specs.Lendings.{six}
 use Rattle.memory.specs.Contract.{Ok, with}
 use Rattle.memory.specs.declared.machine.Machine.{Machine}
 use Rattle.memory.specs.declared.machine.Sizes.{Sizes}
@@ -51,6 +53,11 @@ gated x w = instruction (pcOf x) (operandsOf x w) (armOf x) w
 pub record PcIs (x : Row) (pc : ℕ) : Type 0 where
   pub is : pc ≡ pcOf x
   pub narrow : pc < 2 ^ 32
+
+-- all but the ready queue are lent
+module _ {X : Type 0} where
+  abbrev pub gating : X → X → X → X → X → X → X → X → (X → List ℕ) → Beside → Lent
+  gating s f c o r q z u t b = six s f c o r q t (record { words = onFinalize (t z) (onSetup (t u) (b .words)); fuel = b .fuel })
 
 -- a sound world with a frame, in which an operation's operands pass
 pub record Past (l : Sizes) (M : Beside → Lent) (m : Machine) (fuel : Fuel) (o : Op) : Type 0 where

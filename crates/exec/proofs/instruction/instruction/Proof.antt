@@ -1,0 +1,303 @@
+-- `instruction` meets the definition: its gate, its charge, its arm. Assumes nothing.
+use mathlib.Core.Path.{refl, sym, _∙_}
+use Prim.Native.Nat.{_≤_}
+use native.Mathlib.Omega.{arith}
+use lib.ListN.{getD}
+use borrow.Author.Tests.{not-true, not-false}
+use Rattle.model.specs.Cleanup.{charge}
+use Rattle.model.specs.Calls.{table}
+use Rattle.model.specs.declared.call.OptPc.{OptPc}
+use Rattle.memory.specs.Memory.{Lent, Beside, onFinalize, onSetup}
+use Rattle.memory.specs.Lendings.{plain}
+use Rattle.coro_clean.proofs.Charged.{charged-sound, narrow-pc}
+use Rattle.exec.specs.Instruction.{gating}
+use Rattle.exec.proofs.Gated.{no-frames, some-frames, numbered, answered, no-frame, bad-operand, spent, closed, done, charge-ok, arm-fits}
+use borrow.Author.Needs.{needs}
+use Rattle.exec.proofs.instruction.instruction.Statement.{statement}
+use Rattle.exec.proofs.instruction.instruction.Tie as tie
+
+abbrev mem : tie.Start → Beside → Lent
+mem c b = gating (c .args .stack .now) (c .args .frames .now) (c .args .chain .now) (c .args .slots .now) (c .args .saved-stack .now)
+    (c .args .saved-frames .now) (c .args .finalize .now) (c .args .setup .now) plain b
+
+returns : tie.Need-returns
+returns c =
+    let start = c .before .before .before .before .before .before .before .before .before .before in
+    let a = start .args in
+    λ w b rep snd. no-frame (a .l) (mem start b) (a .m) (a .fuel) w (table (a .op)) (no-frames (w .frames) (a .frames .now) (a .m .depth) (rep .frames) (c .if1 .taken)) rep
+
+sub-base-at : tie.Need-sub-base-at
+sub-base-at c =
+    let at-if1 = c .before .before in
+    let h = at-if1 .if1 .left in omega arith
+
+base-at-requires : tie.Need-base-at-requires
+base-at-requires c κs =
+    let at-if1 = c .before .before in let start = at-if1 .before .before .before .before .before .before .before .before .before .before in
+    let h = at-if1 .if1 .left in let k = start .pre .rep .frames .within in omega arith
+
+shared-slice-read-passes : tie.Need-shared-slice-read-passes
+shared-slice-read-passes c =
+    let start = c .before .before .before .before .before .before .before .before .before .before .before .before .before .before in
+    let k = start .pre .room .setup in omega arith
+
+passes-requires : tie.Need-passes-requires
+passes-requires c κs = search needs
+
+same-length : tie.Need-same-length
+same-length c =
+    refl
+
+returns-2 : tie.Need-returns-2
+returns-2 c =
+    let at-passes = c .before in let at-base-at = at-passes .before .before in let at-if1 = at-base-at .before .before .before in
+    let start = at-if1 .before .before .before .before .before .before .before .before .before .before in
+    let a = start .args in
+    λ w b rep snd.
+    let some : 1 ≤ a .m .depth = (let h = at-if1 .if1 .left in omega arith) in
+    let N = numbered (a .l) w (mem start b) (a .m) (a .fuel) (getD (a .setup .now) 13 0) (at-base-at .base-at .result) rep some refl (at-base-at .base-at .ensures) in
+    bad-operand (a .l) (mem start b) (a .m) (a .fuel) w (table (a .op)) (some-frames (w .frames) (a .frames .now) (a .m .depth) (rep .frames) some)
+    (sym (at-passes .passes .ensures w N) ∙ not-true _ (c .if2 .taken)) rep
+
+pc-of-requires : tie.Need-pc-of-requires
+pc-of-requires c κs = search needs
+
+charge-requires : tie.Need-charge-requires
+charge-requires c κs =
+    let at-if1 = c .before .before .before .before .before .before .before .before .before .before .before .before .before .before in
+    let start = at-if1 .before .before .before .before .before .before .before .before .before .before in
+    let a = start .args in
+    record { ok = charge-ok (a .l) (a .stack .now) (a .frames .now) (a .chain .now) (a .slots .now) (a .saved-stack .now) (a .saved-frames .now) (a .finalize .now) (a .setup .now)
+    (a .m) (a .fuel) (start .pre); narrow = c .pc-of .ensures .narrow; some = (let h = at-if1 .if1 .left in omega arith) }
+
+enum-told : tie.Need-enum-told
+enum-told c = search needs
+
+enum-known-a : tie.Need-enum-known-a
+enum-known-a c = search needs
+
+enum-known-a-2 : tie.Need-enum-known-a-2
+enum-known-a-2 c = search needs
+
+body-requires : tie.Need-body-requires
+body-requires c κs =
+    let at-a2 = c .before .before .before .before .before .before .before in
+    let at-charge = at-a2 .before .before .before .before .before .before .before .before .before .before .before .before .before .before .before .before .before .before in
+    let at-pc-of = at-charge .before in let at-if2 = at-pc-of .before .before .before .before .before .before .before .before in
+    let at-passes = at-if2 .before in let at-base-at = at-passes .before .before in let at-if1 = at-base-at .before .before .before in
+    let start = at-if1 .before .before .before .before .before .before .before .before .before .before in
+    let a = start .args in let ok = start .pre in
+    let b = charge-ok (a .l) (a .stack .now) (a .frames .now) (a .chain .now) (a .slots .now) (a .saved-stack .now) (a .saved-frames .now) (a .finalize .now) (a .setup .now)
+    (a .m) (a .fuel) (start .pre) .beside in
+    arm-fits (a .l) (a .stack .now) (a .frames .now) (a .chain .now) (a .slots .now) (a .saved-stack .now) (a .saved-frames .now) (a .finalize .now) (a .setup .now)
+    (a .m) (a .fuel) (start .pre)
+    (at-charge .charge .last .0) (at-charge .charge .last .1 .0) (at-charge .charge .last .1 .1 .0) (at-charge .charge .last .1 .1 .1 .0) (at-charge .charge .last .1 .1 .1 .1 .0) (at-charge .charge .last .1 .1 .1 .1 .1 .0) (at-charge .charge .last .1 .1 .1 .1 .1 .1 .0)
+    (at-charge .charge .result .machine) (at-charge .charge .result .fuel) (a .op) (at-pc-of .pc-of .result) (getD (a .setup .now) 13 0) (at-base-at .base-at .result) (at-a2 .a2 .given .0 .0)
+    (let h = at-if1 .if1 .left in omega arith) refl (at-base-at .base-at .ensures)
+    (λ w N. sym (not-false _ (at-if2 .if2 .left)) ∙ at-passes .passes .ensures w N) (at-pc-of .pc-of .ensures)
+    (record { stack = at-charge .charge .kept .0; frames = at-charge .charge .kept .1 .0; chain = at-charge .charge .kept .1 .1 .0; slots = at-charge .charge .kept .1 .1 .1 .0; savedStack = at-charge .charge .kept .1 .1 .1 .1 .0;
+    savedFrames = at-charge .charge .kept .1 .1 .1 .1 .1 .0; ready = refl; finalize = at-charge .charge .kept .1 .1 .1 .1 .1 .1 .0; setup = refl })
+    (answered (a .l) _ _ _ (charge (OptPc.Some (at-pc-of .pc-of .result)) (ok .world)) (at-charge .charge .result .answer) _ (at-a2 .a2 .given .1) (at-charge .charge .ensures (ok .world) b (ok .rep) (ok .sound)))
+
+answer-of-requires : tie.Need-answer-of-requires
+answer-of-requires c κs = search needs
+
+same-length-2 : tie.Need-same-length-2
+same-length-2 c =
+    let at-charge = c .before .before .before .before .before .before .before .before .before .before .before .before .before .before .before .before .before .before in
+    at-charge .charge .kept .0
+
+same-length-3 : tie.Need-same-length-3
+same-length-3 c =
+    let at-charge = c .before .before .before .before .before .before .before .before .before .before .before .before .before .before .before .before .before .before in
+    at-charge .charge .kept .1 .0
+
+same-length-4 : tie.Need-same-length-4
+same-length-4 c =
+    let at-charge = c .before .before .before .before .before .before .before .before .before .before .before .before .before .before .before .before .before .before in
+    at-charge .charge .kept .1 .1 .0
+
+same-length-5 : tie.Need-same-length-5
+same-length-5 c =
+    let at-charge = c .before .before .before .before .before .before .before .before .before .before .before .before .before .before .before .before .before .before in
+    at-charge .charge .kept .1 .1 .1 .0
+
+same-length-6 : tie.Need-same-length-6
+same-length-6 c =
+    let at-charge = c .before .before .before .before .before .before .before .before .before .before .before .before .before .before .before .before .before .before in
+    at-charge .charge .kept .1 .1 .1 .1 .0
+
+same-length-7 : tie.Need-same-length-7
+same-length-7 c =
+    let at-charge = c .before .before .before .before .before .before .before .before .before .before .before .before .before .before .before .before .before .before in
+    at-charge .charge .kept .1 .1 .1 .1 .1 .0
+
+same-length-8 : tie.Need-same-length-8
+same-length-8 c =
+    let at-charge = c .before .before .before .before .before .before .before .before .before .before .before .before .before .before .before .before .before .before in
+    at-charge .charge .kept .1 .1 .1 .1 .1 .1 .0
+
+returns-3 : tie.Need-returns-3
+returns-3 c =
+    let at-charge = c .before .before .before .before .before .before .before .before .before .before .before .before .before .before .before .before .before .before in
+    let at-pc-of = at-charge .before in let at-if2 = at-pc-of .before .before .before .before .before .before .before .before in
+    let at-passes = at-if2 .before in let at-base-at = at-passes .before .before in let at-if1 = at-base-at .before .before .before in
+    let start = at-if1 .before .before .before .before .before .before .before .before .before .before in
+    let a = start .args in
+    λ w b rep snd.
+    let some : 1 ≤ a .m .depth = (let h = at-if1 .if1 .left in omega arith) in
+    let N = numbered (a .l) w (mem start b) (a .m) (a .fuel) (getD (a .setup .now) 13 0) (at-base-at .base-at .result) rep some refl (at-base-at .base-at .ensures) in
+    spent (a .l) _ _ _ w (table (a .op)) (some-frames (w .frames) (a .frames .now) (a .m .depth) (rep .frames) some) (sym (at-passes .passes .ensures w N) ∙ not-false _ (at-if2 .if2 .left)) (at-pc-of .pc-of .result) (at-pc-of .pc-of .ensures .is)
+    (answered (a .l) _ _ _ (charge (OptPc.Some (at-pc-of .pc-of .result)) w) (at-charge .charge .result .answer) _ (c .enum-told .given .1)
+    (at-charge .charge .ensures w (record { words = onSetup (a .setup .now) (b .words); fuel = b .fuel }) rep snd))
+
+same-length-9 : tie.Need-same-length-9
+same-length-9 c =
+    let at-charge = c .before .before .before .before .before .before .before .before .before .before .before .before .before .before .before .before .before .before .before in
+    at-charge .charge .kept .0
+
+same-length-10 : tie.Need-same-length-10
+same-length-10 c =
+    let at-charge = c .before .before .before .before .before .before .before .before .before .before .before .before .before .before .before .before .before .before .before in
+    at-charge .charge .kept .1 .0
+
+same-length-11 : tie.Need-same-length-11
+same-length-11 c =
+    let at-charge = c .before .before .before .before .before .before .before .before .before .before .before .before .before .before .before .before .before .before .before in
+    at-charge .charge .kept .1 .1 .0
+
+same-length-12 : tie.Need-same-length-12
+same-length-12 c =
+    let at-charge = c .before .before .before .before .before .before .before .before .before .before .before .before .before .before .before .before .before .before .before in
+    at-charge .charge .kept .1 .1 .1 .0
+
+same-length-13 : tie.Need-same-length-13
+same-length-13 c =
+    let at-charge = c .before .before .before .before .before .before .before .before .before .before .before .before .before .before .before .before .before .before .before in
+    at-charge .charge .kept .1 .1 .1 .1 .0
+
+same-length-14 : tie.Need-same-length-14
+same-length-14 c =
+    let at-charge = c .before .before .before .before .before .before .before .before .before .before .before .before .before .before .before .before .before .before .before in
+    at-charge .charge .kept .1 .1 .1 .1 .1 .0
+
+same-length-15 : tie.Need-same-length-15
+same-length-15 c =
+    let at-charge = c .before .before .before .before .before .before .before .before .before .before .before .before .before .before .before .before .before .before .before in
+    at-charge .charge .kept .1 .1 .1 .1 .1 .1 .0
+
+returns-4 : tie.Need-returns-4
+returns-4 c =
+    let at-a = c .before in
+    let at-charge = at-a .before .before .before .before .before .before .before .before .before .before .before .before .before .before .before .before .before .before in
+    let at-pc-of = at-charge .before in let at-if2 = at-pc-of .before .before .before .before .before .before .before .before in
+    let at-passes = at-if2 .before in let at-base-at = at-passes .before .before in let at-if1 = at-base-at .before .before .before in
+    let start = at-if1 .before .before .before .before .before .before .before .before .before .before in
+    let a = start .args in
+    λ w b rep snd.
+    let some : 1 ≤ a .m .depth = (let h = at-if1 .if1 .left in omega arith) in
+    let N = numbered (a .l) w (mem start b) (a .m) (a .fuel) (getD (a .setup .now) 13 0) (at-base-at .base-at .result) rep some refl (at-base-at .base-at .ensures) in
+    closed (a .l) _ _ _ w (table (a .op)) (some-frames (w .frames) (a .frames .now) (a .m .depth) (rep .frames) some) (sym (at-passes .passes .ensures w N) ∙ not-false _ (at-if2 .if2 .left)) (at-pc-of .pc-of .result) (at-pc-of .pc-of .ensures .is) (at-a .a .given .0 .0)
+    (answered (a .l) _ _ _ (charge (OptPc.Some (at-pc-of .pc-of .result)) w) (at-charge .charge .result .answer) _ (at-a .a .given .1)
+    (at-charge .charge .ensures w (record { words = onSetup (a .setup .now) (b .words); fuel = b .fuel }) rep snd))
+
+same-length-16 : tie.Need-same-length-16
+same-length-16 c =
+    let at-body = c .before .before .before .before .before .before .before .before .before .before .before .before .before .before .before in
+    let at-charge = at-body .before .before .before .before .before .before .before .before .before .before .before .before .before .before .before .before .before .before .before .before .before .before .before .before .before .before in
+    at-body .body .kept .0 ∙ at-charge .charge .kept .0
+
+same-length-17 : tie.Need-same-length-17
+same-length-17 c =
+    let at-body = c .before .before .before .before .before .before .before .before .before .before .before .before .before .before .before in
+    let at-charge = at-body .before .before .before .before .before .before .before .before .before .before .before .before .before .before .before .before .before .before .before .before .before .before .before .before .before .before in
+    at-body .body .kept .1 .0 ∙ at-charge .charge .kept .1 .0
+
+same-length-18 : tie.Need-same-length-18
+same-length-18 c =
+    let at-body = c .before .before .before .before .before .before .before .before .before .before .before .before .before .before .before in
+    let at-charge = at-body .before .before .before .before .before .before .before .before .before .before .before .before .before .before .before .before .before .before .before .before .before .before .before .before .before .before in
+    at-body .body .kept .1 .1 .0 ∙ at-charge .charge .kept .1 .1 .0
+
+same-length-19 : tie.Need-same-length-19
+same-length-19 c =
+    let at-body = c .before .before .before .before .before .before .before .before .before .before .before .before .before .before .before in
+    let at-charge = at-body .before .before .before .before .before .before .before .before .before .before .before .before .before .before .before .before .before .before .before .before .before .before .before .before .before .before in
+    at-body .body .kept .1 .1 .1 .0 ∙ at-charge .charge .kept .1 .1 .1 .0
+
+same-length-20 : tie.Need-same-length-20
+same-length-20 c =
+    let at-body = c .before .before .before .before .before .before .before .before .before .before .before .before .before .before .before in
+    let at-charge = at-body .before .before .before .before .before .before .before .before .before .before .before .before .before .before .before .before .before .before .before .before .before .before .before .before .before .before in
+    at-body .body .kept .1 .1 .1 .1 .0 ∙ at-charge .charge .kept .1 .1 .1 .1 .0
+
+same-length-21 : tie.Need-same-length-21
+same-length-21 c =
+    let at-body = c .before .before .before .before .before .before .before .before .before .before .before .before .before .before .before in
+    let at-charge = at-body .before .before .before .before .before .before .before .before .before .before .before .before .before .before .before .before .before .before .before .before .before .before .before .before .before .before in
+    at-body .body .kept .1 .1 .1 .1 .1 .0 ∙ at-charge .charge .kept .1 .1 .1 .1 .1 .0
+
+same-length-22 : tie.Need-same-length-22
+same-length-22 c =
+    let at-charge = c .before .before .before .before .before .before .before .before .before .before .before .before .before .before .before .before .before .before .before .before .before .before .before .before .before .before .before .before .before .before .before .before .before .before .before .before .before .before .before .before .before in
+    at-charge .charge .kept .1 .1 .1 .1 .1 .1 .0
+
+returns-5 : tie.Need-returns-5
+returns-5 c =
+    let at-body = c .before .before .before .before .before .before .before .before .before .before .before .before .before .before .before in
+    let at-a2 = at-body .before .before .before .before .before .before .before .before in
+    let at-charge = at-a2 .before .before .before .before .before .before .before .before .before .before .before .before .before .before .before .before .before .before in
+    let at-pc-of = at-charge .before in let at-if2 = at-pc-of .before .before .before .before .before .before .before .before in
+    let at-passes = at-if2 .before in let at-base-at = at-passes .before .before in let at-if1 = at-base-at .before .before .before in
+    let start = at-if1 .before .before .before .before .before .before .before .before .before .before in
+    let a = start .args in
+    λ w b rep snd.
+    let some : 1 ≤ a .m .depth = (let h = at-if1 .if1 .left in omega arith) in
+    let N = numbered (a .l) w (mem start b) (a .m) (a .fuel) (getD (a .setup .now) 13 0) (at-base-at .base-at .result) rep some refl (at-base-at .base-at .ensures) in
+    let paid = at-charge .charge .ensures w (record { words = onSetup (a .setup .now) (b .words); fuel = b .fuel }) rep snd in
+    done (a .l) _ _ _ w (table (a .op)) (some-frames (w .frames) (a .frames .now) (a .m .depth) (rep .frames) some) (sym (at-passes .passes .ensures w N) ∙ not-false _ (at-if2 .if2 .left)) (at-pc-of .pc-of .result) (at-pc-of .pc-of .ensures .is) (at-a2 .a2 .given .0 .0) (at-body .body .result .step) (c .answer-of .result) (sym (at-a2 .a2 .given .1) ∙ paid .answer)
+    (at-body .body .ensures (charge (OptPc.Some (at-pc-of .pc-of .result)) w .world) (record { words = onFinalize (at-charge .charge .last .1 .1 .1 .1 .1 .1 .0) (b .words); fuel = b .fuel }) (paid .world)
+    (charged-sound (OptPc.Some (at-pc-of .pc-of .result)) w (narrow-pc _ (at-pc-of .pc-of .ensures .narrow)) snd)) (c .answer-of .ensures)
+
+pub instruction-spec : {M : Type 1} → statement M
+instruction-spec =
+    tie.close
+    (tie.spec
+    returns
+    sub-base-at
+    base-at-requires
+    shared-slice-read-passes
+    passes-requires
+    same-length
+    returns-2
+    pc-of-requires
+    charge-requires
+    enum-told
+    enum-known-a
+    enum-known-a-2
+    body-requires
+    answer-of-requires
+    same-length-2
+    same-length-3
+    same-length-4
+    same-length-5
+    same-length-6
+    same-length-7
+    same-length-8
+    returns-3
+    same-length-9
+    same-length-10
+    same-length-11
+    same-length-12
+    same-length-13
+    same-length-14
+    same-length-15
+    returns-4
+    same-length-16
+    same-length-17
+    same-length-18
+    same-length-19
+    same-length-20
+    same-length-21
+    same-length-22
+    returns-5)
