@@ -33,43 +33,42 @@ use Rattle.machine_finish.specs.Finish.{ContFits}
 
 -- ---- what it leaves
 
-module _ (l : Sizes) (M : Lent) (m : Machine) (f : Fuel) (w : World) (kind : ResultKind) (v : ℕ) where
-  -- a continuation whose result is known
-  pub by-cont : (c x : Cont) (a : Fault) → c ≡ x → Does l (applyCont x kind v w) M m f a → Does l (applyCont c kind v w) M m f a
-  by-cont c x a e did = subst (λ y. Does l (applyCont y kind v w) M m f a) (sym e) did
-
-  pub to-entry : Rep l w M m f → Does l (applyCont Cont.Entry kind v w) M m f Fault.None
+module _ (kind : ResultKind) (v : ℕ) (w : World) where
+  pub entry-is : applyCont Cont.Entry kind v w ≡ after w Fault.None
   unfolding applyCont
-  to-entry rep = record { world = rep; answer = refl }
+  entry-is = refl
 
-  pub to-nobody : Rep l w M m f → Does l (applyCont Cont.Discard kind v w) M m f Fault.None
+  pub discard-is : applyCont Cont.Discard kind v w ≡ after w Fault.None
   unfolding applyCont
-  to-nobody rep = record { world = rep; answer = refl }
+  discard-is = refl
 
-  pub to-driver : Rep l w M m f → Does l (applyCont Cont.Coro kind v w) M m f Fault.None
+  pub coro-is : applyCont Cont.Coro kind v w ≡ after w Fault.None
   unfolding applyCont
-  to-driver rep = record { world = rep; answer = refl }
+  coro-is = refl
 
-  pub write-none : (dst : ℕ) → Opt.None ≡ resultOf kind v → Rep l w M m f → Does l (applyCont (Cont.Write dst) kind v w) M m f Fault.None
+  pub write-none : (dst : ℕ) → Opt.None ≡ resultOf kind v → applyCont (Cont.Write dst) kind v w ≡ after w Fault.None
   unfolding applyCont
-  write-none dst e rep = does l M m f (applyCont (Cont.Write dst) kind v w) w Fault.None (ap (λ o. after (writeResult dst o w) Fault.None) (sym e)) rep
+  write-none dst e = ap (λ o. after (writeResult dst o w) Fault.None) (sym e)
 
-  pub write-some : (dst x : ℕ) → Opt.Some x ≡ resultOf kind v → Rep l (putReg dst x w) M m f → Does l (applyCont (Cont.Write dst) kind v w) M m f Fault.None
+  pub write-some : (dst x : ℕ) → Opt.Some x ≡ resultOf kind v → applyCont (Cont.Write dst) kind v w ≡ after (putReg dst x w) Fault.None
   unfolding applyCont
-  write-some dst x e rep = does l M m f (applyCont (Cont.Write dst) kind v w) (putReg dst x w) Fault.None (ap (λ o. after (writeResult dst o w) Fault.None) (sym e)) rep
+  write-some dst x e = ap (λ o. after (writeResult dst o w) Fault.None) (sym e)
 
-  pub value-put : (dst x : ℕ) → x ≡ orNil (resultOf kind v) → Rep l (putReg dst x w) M m f → Does l (applyCont (Cont.Value dst) kind v w) M m f Fault.None
+  pub value-is : (dst x : ℕ) → x ≡ orNil (resultOf kind v) → applyCont (Cont.Value dst) kind v w ≡ after (putReg dst x w) Fault.None
   unfolding applyCont
-  value-put dst x e rep = does l M m f (applyCont (Cont.Value dst) kind v w) (putReg dst x w) Fault.None (ap (λ y. after (putReg dst y w) Fault.None) (sym e)) rep
+  value-is dst x e = ap (λ y. after (putReg dst y w) Fault.None) (sym e)
 
-  pub dyn-put : (dst x : ℕ) → Made.Word x ≡ toDyn kind v w .answer → Rep l (putReg dst x (toDyn kind v w .world)) M m f → Does l (applyCont (Cont.Dyn dst) kind v w) M m f Fault.None
+  pub dyn-put : (dst x : ℕ) → Made.Word x ≡ toDyn kind v w .answer → applyCont (Cont.Dyn dst) kind v w ≡ after (putReg dst x (toDyn kind v w .world)) Fault.None
   unfolding applyCont
-  dyn-put dst x e rep =
-      does l M m f (applyCont (Cont.Dyn dst) kind v w) (putReg dst x (toDyn kind v w .world)) Fault.None (ap (writeMade dst (toDyn kind v w .world)) (sym e)) rep
+  dyn-put dst x e = ap (writeMade dst (toDyn kind v w .world)) (sym e)
 
-  pub dyn-not : (dst : ℕ) (g : Fault) → Made.Refused g ≡ toDyn kind v w .answer → Rep l (toDyn kind v w .world) M m f → Does l (applyCont (Cont.Dyn dst) kind v w) M m f g
+  pub dyn-not : (dst : ℕ) (g : Fault) → Made.Refused g ≡ toDyn kind v w .answer → applyCont (Cont.Dyn dst) kind v w ≡ after (toDyn kind v w .world) g
   unfolding applyCont
-  dyn-not dst g e rep = does l M m f (applyCont (Cont.Dyn dst) kind v w) (toDyn kind v w .world) g (ap (writeMade dst (toDyn kind v w .world)) (sym e)) rep
+  dyn-not dst g e = ap (writeMade dst (toDyn kind v w .world)) (sym e)
+
+  -- of a continuation that is known
+  pub applies : (l : Sizes) (M : Lent) (m : Machine) (f : Fuel) (c x : Cont) (u : World) → c ≡ x → applyCont x kind v w ≡ after u Fault.None → Rep l u M m f → Does l (applyCont c kind v w) M m f Fault.None
+  applies l M m f c x u e q rep = does l M m f (applyCont c kind v w) u Fault.None (ap (λ y. applyCont y kind v w) e ∙ q) rep
 
 -- ---- what stays
 

@@ -76,7 +76,7 @@ fn write_dyn(
 }
 
 // machine.rs: apply_cont, a result into the top frame.
-pub fn apply_cont(
+pub(crate) fn apply_cont(
     stack: &mut [u64],
     frames: &[u64],
     slots: &mut [u64],

@@ -13,7 +13,7 @@ use memory::machine::Sizes;
 use model::coro::Made;
 
 // A result of a kind as a dynamic word; nil for none.
-pub fn to_dyn(slots: &mut [u64], m: Machine, l: Sizes, kind: ResultKind, v: u64) -> MadeDid
+pub(crate) fn to_dyn(slots: &mut [u64], m: Machine, l: Sizes, kind: ResultKind, v: u64) -> MadeDid
     requires { ⌜ Room (now slots) (heapOf m l) ⌝ }
     ensures { λ r. ⌜ Met any l (toDyn kind v) (table slots) (only m) (only (r .machine)) (r .answer) ⌝ }
 {

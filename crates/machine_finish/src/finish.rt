@@ -1,7 +1,8 @@
 // machine.rs: finish, of the top frame.
 ghost use Rattle.model.specs.Machine.{resumeIn, finish};
+ghost use Rattle.model.specs.declared.machine.Cont.the-variants.{Coro};
 ghost use Rattle.machine.specs.Frame.{StepFits};
-ghost use Rattle.machine_finish.specs.Finish.{EndFits, BodyFits, endCall, endBody};
+ghost use Rattle.machine_finish.specs.Finish.{TopFits, EndFits};
 ghost use Rattle.memory.specs.Lendings.{frame, six, topTable};
 ghost use Rattle.memory.specs.Contract.{Met, Ok, any, every, ifSound, only, with};
 use crate::cont::apply_cont;
@@ -47,7 +48,7 @@ fn resume_in(frames: &mut [u64], m: Machine, f: Fault) -> Answer
 }
 
 // A call ends: its frame goes, and the result to its caller.
-pub(crate) fn end_call(
+fn end_call(
     stack: &mut [u64],
     frames: &mut [u64],
     slots: &mut [u64],
@@ -57,8 +58,8 @@ pub(crate) fn end_call(
     kind: ResultKind,
     v: u64,
 ) -> CallDid
-    requires { ⌜ EndFits l (now stack) (now frames) (now slots) m cont ⌝ }
-    ensures { λ r. ⌜ Met any l (endCall cont kind v) (topTable stack frames slots) (only m) (only (r .machine)) (r .answer) ⌝ }
+    requires { ⌜ EndFits l (topTable stack frames slots now) m cont ⌝ }
+    ensures { λ r. ⌜ Met any l (finish kind v) (topTable stack frames slots) (only m) (only (r .machine)) (r .answer) ⌝ }
 {
     let n = pop(stack, frames, m);
     let did = apply_cont(stack, frames, slots, n, l, cont, kind, v);
@@ -68,8 +69,8 @@ pub(crate) fn end_call(
     CallDid { machine: k, answer }
 }
 
-// machine.rs: finish_coro. A result that does not convert leaves the body's frame.
-pub(crate) fn end_body(
+// machine.rs: finish_coro. A body ends, and its result goes to whoever drove it; one that does not convert leaves the frame.
+fn finish_coro(
     stack: &mut [u64],
     frames: &mut [u64],
     chain: &mut [u64],
@@ -82,8 +83,8 @@ pub(crate) fn end_body(
     kind: ResultKind,
     v: u64,
 ) -> Finished
-    requires { ⌜ BodyFits l (now stack) (now frames) (now chain) (now slots) (now «saved_stack») (now «saved_frames») m ⌝ }
-    ensures { λ r. ⌜ Met ifSound l (endBody kind v) (six stack frames chain slots «saved_stack» «saved_frames») (with m fuel) (with (r .machine) (r .fuel)) (r .answer) ⌝ }
+    requires { ⌜ TopFits l (six stack frames chain slots «saved_stack» «saved_frames» now) m Coro ⌝ }
+    ensures { λ r. ⌜ Met ifSound l (finish kind v) (six stack frames chain slots «saved_stack» «saved_frames») (with m fuel) (with (r .machine) (r .fuel)) (r .answer) ⌝ }
 {
     let did = to_dyn(slots, m, l, kind, v);
     let n = did.machine;
@@ -119,7 +120,7 @@ pub(crate) fn end_body(
     }
 }
 
-// machine.rs: finish.
+// machine.rs: finish. Without a frame, or from the frame of an entry, the result leaves the machine.
 pub fn finish(
     stack: &mut [u64],
     frames: &mut [u64],
@@ -137,11 +138,11 @@ pub fn finish(
     ensures { λ r. ⌜ Met ifSound l (finish kind v) (six stack frames chain slots «saved_stack» «saved_frames») (with m fuel) (with (r .machine) (r .fuel)) (r .answer) ⌝ }
 {
     if m.depth == 0 {
-        let none = result_of(kind, v);
+        let answer = Answer::Exit(result_of(kind, v));
         return Finished {
             machine: m,
             fuel,
-            answer: Answer::Exit(none),
+            answer,
         };
     }
     let f = tables::frame::frame_at(frames, m.depth - 1);
@@ -166,7 +167,7 @@ pub fn finish(
                 answer,
             }
         }
-        Way::Driver => end_body(
+        Way::Driver => finish_coro(
             stack,
             frames,
             chain,

@@ -2,13 +2,14 @@
 use mathlib.Core.Path.{_≡_, sym, ap, _∙_, subst}
 use mathlib.Core.Bool.{true}
 use lib.ListN.{length}
-use Rattle.heap.specs.declared.fault.Fault.{Fault}
-use Rattle.model.specs.Machine.{orNil}
+use Rattle.model.specs.Frames.{putReg}
+use Rattle.model.specs.Machine.{orNil, applyCont}
 use Rattle.model.specs.Sound.{contLies}
 use Rattle.model.specs.declared.machine.Cont.{Cont}
 use Rattle.memory.specs.Memory.{onSlots}
 use Rattle.memory.specs.Lendings.{topTable, plain}
-use Rattle.machine_finish.proofs.Results.{by-cont, to-entry, to-nobody, to-driver, write-none, write-some, value-put, put-fits}
+use Rattle.memory.specs.Contract.{Does}
+use Rattle.machine_finish.proofs.Results.{entry-is, discard-is, coro-is, write-none, write-some, value-is, applies, put-fits}
 use borrow.Author.Needs.{needs}
 use Rattle.machine_finish.proofs.cont.apply_cont.Statement.{statement}
 use Rattle.machine_finish.proofs.cont.apply_cont.Tie as tie
@@ -58,8 +59,8 @@ returns c =
     let a = start .args in
     let f = did .write-dyn in
     λ w b rep.
-    by-cont (a .l) (topTable (f .last .0) (a .frames .now) (f .last .1 .1 .0) plain b) (f .result .machine) (b .fuel) w (a .kind) (a .v) (a .cont) (Cont.Dyn (arm .cont2 .given .0 .0)) (f .result .answer)
-    (arm .cont2 .given .1) (f .ensures w b rep)
+    subst (λ y. Does (a .l) (applyCont y (a .kind) (a .v) w) (topTable (f .last .0) (a .frames .now) (f .last .1 .1 .0) plain b) (f .result .machine) (b .fuel) (f .result .answer))
+    (sym (arm .cont2 .given .1)) (f .ensures w b rep)
 
 enum-known-cont-3 : tie.Need-enum-known-cont-3
 enum-known-cont-3 c = search needs
@@ -89,8 +90,8 @@ returns-2 c =
     let start = c .before .before .before .before .before in
     let a = start .args in
     λ w b rep.
-    let M = topTable (a .stack .now) (a .frames .now) (a .slots .now) plain b in
-    by-cont (a .l) M (a .m) (b .fuel) w (a .kind) (a .v) (a .cont) Cont.Entry Fault.None (c .enum-told .given .1) (to-entry (a .l) M (a .m) (b .fuel) w (a .kind) (a .v) rep)
+    applies (a .kind) (a .v) w (a .l) (topTable (a .stack .now) (a .frames .now) (a .slots .now) plain b) (a .m) (b .fuel) (a .cont) Cont.Entry w (c .enum-told .given .1)
+    (entry-is (a .kind) (a .v) w) rep
 
 returns-3 : tie.Need-returns-3
 returns-3 c =
@@ -99,9 +100,8 @@ returns-3 c =
     let a = start .args in
     let dst = arm .cont .given .0 .0 in
     λ w b rep.
-    let M = topTable (a .stack .now) (a .frames .now) (a .slots .now) plain b in
-    by-cont (a .l) M (a .m) (b .fuel) w (a .kind) (a .v) (a .cont) (Cont.Write dst) Fault.None (arm .cont .given .1)
-    (write-none (a .l) M (a .m) (b .fuel) w (a .kind) (a .v) dst (sym (none .enum-told2 .given .1) ∙ result .result-of .ensures) rep)
+    applies (a .kind) (a .v) w (a .l) (topTable (a .stack .now) (a .frames .now) (a .slots .now) plain b) (a .m) (b .fuel) (a .cont) (Cont.Write dst) w (arm .cont .given .1)
+    (write-none (a .kind) (a .v) w dst (sym (none .enum-told2 .given .1) ∙ result .result-of .ensures)) rep
 
 same-length-3 : tie.Need-same-length-3
 same-length-3 c = search needs
@@ -114,10 +114,10 @@ returns-4 c =
     let dst = arm .cont .given .0 .0 in
     let p = written .put in
     λ w b rep.
-    let M = topTable (p .last .0) (a .frames .now) (a .slots .now) plain b in
-    by-cont (a .l) M (a .m) (b .fuel) w (a .kind) (a .v) (a .cont) (Cont.Write dst) Fault.None (arm .cont .given .1)
-    (write-some (a .l) M (a .m) (b .fuel) w (a .kind) (a .v) dst (some .result .given .0 .0) (sym (some .result .given .1) ∙ result .result-of .ensures)
-    (p .ensures (a .l) w (record { words = onSlots (a .slots .now) (b .words); fuel = b .fuel }) rep))
+    let x = some .result .given .0 .0 in
+    applies (a .kind) (a .v) w (a .l) (topTable (p .last .0) (a .frames .now) (a .slots .now) plain b) (a .m) (b .fuel) (a .cont) (Cont.Write dst) (putReg dst x w) (arm .cont .given .1)
+    (write-some (a .kind) (a .v) w dst x (sym (some .result .given .1) ∙ result .result-of .ensures))
+    (p .ensures (a .l) w (record { words = onSlots (a .slots .now) (b .words); fuel = b .fuel }) rep)
 
 same-length-4 : tie.Need-same-length-4
 same-length-4 c = search needs
@@ -130,26 +130,26 @@ returns-5 c =
     let dst = arm .cont3 .given .0 .0 in
     let p = written .put2 in
     λ w b rep.
-    let M = topTable (p .last .0) (a .frames .now) (a .slots .now) plain b in
-    by-cont (a .l) M (a .m) (b .fuel) w (a .kind) (a .v) (a .cont) (Cont.Value dst) Fault.None (arm .cont3 .given .1)
-    (value-put (a .l) M (a .m) (b .fuel) w (a .kind) (a .v) dst (word .or-nil .result) (word .or-nil .ensures ∙ ap orNil (result .result-of2 .ensures))
-    (p .ensures (a .l) w (record { words = onSlots (a .slots .now) (b .words); fuel = b .fuel }) rep))
+    let x = word .or-nil .result in
+    applies (a .kind) (a .v) w (a .l) (topTable (p .last .0) (a .frames .now) (a .slots .now) plain b) (a .m) (b .fuel) (a .cont) (Cont.Value dst) (putReg dst x w) (arm .cont3 .given .1)
+    (value-is (a .kind) (a .v) w dst x (word .or-nil .ensures ∙ ap orNil (result .result-of2 .ensures)))
+    (p .ensures (a .l) w (record { words = onSlots (a .slots .now) (b .words); fuel = b .fuel }) rep)
 
 returns-6 : tie.Need-returns-6
 returns-6 c =
     let start = c .before .before .before .before .before in
     let a = start .args in
     λ w b rep.
-    let M = topTable (a .stack .now) (a .frames .now) (a .slots .now) plain b in
-    by-cont (a .l) M (a .m) (b .fuel) w (a .kind) (a .v) (a .cont) Cont.Discard Fault.None (c .enum-told3 .given .1) (to-nobody (a .l) M (a .m) (b .fuel) w (a .kind) (a .v) rep)
+    applies (a .kind) (a .v) w (a .l) (topTable (a .stack .now) (a .frames .now) (a .slots .now) plain b) (a .m) (b .fuel) (a .cont) Cont.Discard w (c .enum-told3 .given .1)
+    (discard-is (a .kind) (a .v) w) rep
 
 returns-7 : tie.Need-returns-7
 returns-7 c =
     let start = c .before .before .before .before .before in
     let a = start .args in
     λ w b rep.
-    let M = topTable (a .stack .now) (a .frames .now) (a .slots .now) plain b in
-    by-cont (a .l) M (a .m) (b .fuel) w (a .kind) (a .v) (a .cont) Cont.Coro Fault.None (c .enum-told4 .given .1) (to-driver (a .l) M (a .m) (b .fuel) w (a .kind) (a .v) rep)
+    applies (a .kind) (a .v) w (a .l) (topTable (a .stack .now) (a .frames .now) (a .slots .now) plain b) (a .m) (b .fuel) (a .cont) Cont.Coro w (c .enum-told4 .given .1)
+    (coro-is (a .kind) (a .v) w) rep
 
 pub apply-cont-spec : {M : Type 1} → statement M
 apply-cont-spec =

@@ -1,9 +1,13 @@
 -- `write_dyn` meets the definition: the word is written, or was refused. Assumes nothing.
 use mathlib.Core.Path.{refl, sym, _∙_}
+use Rattle.heap.specs.declared.fault.Fault.{Fault}
+use Rattle.model.specs.Frames.{putReg}
 use Rattle.model.specs.Heap.{toDyn}
+use Rattle.model.specs.Machine.{applyCont}
 use Rattle.model.specs.declared.machine.Cont.{Cont}
 use Rattle.memory.specs.Memory.{onStack, onFrames, onSlots}
 use Rattle.memory.specs.Lendings.{topTable, plain}
+use Rattle.memory.proofs.Does.{does}
 use Rattle.machine_finish.proofs.Results.{dyn-put, dyn-not, dyn-room, put-fits-dyn}
 use borrow.Author.Needs.{needs}
 use Rattle.machine_finish.proofs.cont.write_dyn.Statement.{statement}
@@ -46,8 +50,11 @@ returns c =
     let p = written .put in
     λ w b rep.
     let d = f .ensures w (record { words = onStack (a .stack .now) (onFrames (a .frames .now) (b .words)); fuel = b .fuel }) rep in
-    dyn-put (a .l) (topTable (p .last .0) (a .frames .now) (f .last .0) plain b) (f .result .machine) (b .fuel) w (a .kind) (a .v) (a .dst) (arm .made .given .0 .0) (sym (arm .made .given .1) ∙ d .answer)
-    (p .ensures (a .l) (toDyn (a .kind) (a .v) w .world) (record { words = onSlots (f .last .0) (b .words); fuel = b .fuel }) (d .world))
+    let x = arm .made .given .0 .0 in
+    let u = toDyn (a .kind) (a .v) w .world in
+    does (a .l) (topTable (p .last .0) (a .frames .now) (f .last .0) plain b) (f .result .machine) (b .fuel) (applyCont (Cont.Dyn (a .dst)) (a .kind) (a .v) w) (putReg (a .dst) x u) Fault.None
+    (dyn-put (a .kind) (a .v) w (a .dst) x (sym (arm .made .given .1) ∙ d .answer))
+    (p .ensures (a .l) u (record { words = onSlots (f .last .0) (b .words); fuel = b .fuel }) (d .world))
 
 same-length-3 : tie.Need-same-length-3
 same-length-3 c = search needs
@@ -59,8 +66,9 @@ returns-2 c =
     let f = did .to-dyn in
     λ w b rep.
     let d = f .ensures w (record { words = onStack (a .stack .now) (onFrames (a .frames .now) (b .words)); fuel = b .fuel }) rep in
-    dyn-not (a .l) (topTable (a .stack .now) (a .frames .now) (f .last .0) plain b) (f .result .machine) (b .fuel) w (a .kind) (a .v) (a .dst) (arm .made2 .given .0 .0)
-    (sym (arm .made2 .given .1) ∙ d .answer) (d .world)
+    let g = arm .made2 .given .0 .0 in
+    does (a .l) (topTable (a .stack .now) (a .frames .now) (f .last .0) plain b) (f .result .machine) (b .fuel) (applyCont (Cont.Dyn (a .dst)) (a .kind) (a .v) w) (toDyn (a .kind) (a .v) w .world) g
+    (dyn-not (a .kind) (a .v) w (a .dst) g (sym (arm .made2 .given .1) ∙ d .answer)) (d .world)
 
 pub write-dyn-spec : {M : Type 1} → statement M
 write-dyn-spec =

@@ -1,18 +1,23 @@
--- `end_body` meets its definition: the result converts and goes to the driver, or the frame stays. Assumes nothing.
+-- `finish_coro` meets the definition of a body's frame: the result converts and goes to the driver, or the frame stays. Assumes nothing.
 use mathlib.Core.Path.{sym, _∙_}
 use mathlib.Core.List.{List}
 use Prim.Native.Nat.{ℕ}
+use Rattle.model.specs.World.{World}
 use Rattle.model.specs.Frames.{popTo}
 use Rattle.model.specs.Heap.{toDyn}
-use Rattle.memory.specs.Memory.{Beside, onStack, onFrames, onChain, onSlots, onSaved}
+use Rattle.model.specs.declared.machine.Cont.{Cont}
+use Rattle.memory.specs.Memory.{Lent, Beside, Rep, onStack, onFrames, onChain, onSlots, onSaved}
 use Rattle.memory.specs.Lendings.{lent}
 use Rattle.machine.proofs.Allocation.{heap-room}
-use Rattle.machine.proofs.Tops.{some-top}
 use Rattle.coro_end.proofs.Ending.{sound-rowed}
-use Rattle.machine_finish.proofs.Ends.{body-refused, body-returns, popped-to, dyn-sounds, dyn-top, body-pops, body-asks}
+use Rattle.machine_finish.proofs.Ends.{On, on-top, dyn-sounds, dyn-top, popped-to, body-pops, body-asks, body-refused, body-returns}
 use borrow.Author.Needs.{needs}
-use Rattle.machine_finish.proofs.finish.end_body.Statement.{statement}
-use Rattle.machine_finish.proofs.finish.end_body.Tie as tie
+use Rattle.machine_finish.proofs.finish.finish_coro.Statement.{statement}
+use Rattle.machine_finish.proofs.finish.finish_coro.Tie as tie
+
+-- the words, with other slots
+abbrev mem : tie.Start → List ℕ → Beside → Lent
+mem s slots = let a = s .args in lent (a .stack .now) (a .frames .now) (a .chain .now) slots (a .saved-stack .now) (a .saved-frames .now)
 
 -- what the conversion is not lent, and what the pop is not
 abbrev around : tie.Start → Beside → Beside
@@ -22,6 +27,9 @@ around s b =
 
 abbrev under : tie.Start → List ℕ → Beside → Beside
 under s slots b = record { words = onChain (s .args .chain .now) (onSlots slots (onSaved (s .args .saved-stack .now) (s .args .saved-frames .now) (b .words))); fuel = b .fuel }
+
+top : (s : tie.Start) (w : World) (b : Beside) → Rep (s .args .l) w (mem s (s .args .slots .now) b) (s .args .m) (s .args .fuel) → On (w .frames) Cont.Coro
+top s w b rep = on-top (s .args .l) (mem s (s .args .slots .now) b) (s .args .m) (s .args .fuel) w rep (s .pre .some) Cont.Coro (s .pre .top)
 
 to-dyn-requires : tie.Need-to-dyn-requires
 to-dyn-requires c κs =
@@ -42,9 +50,8 @@ pop-requires c κs =
     let a = start .args in
     let o = start .pre .ok in
     let f = did .to-dyn in
-    let beside = around start (o .beside) in
-    body-pops (a .l) (a .m) (a .stack .now) (a .frames .now) (a .chain .now) (a .slots .now) (a .saved-stack .now) (a .saved-frames .now) (start .pre) (a .kind) (a .v) (f .last .0) (f .result .machine)
-    (f .ensures (o .world) beside (o .rep) .world)
+    body-pops (a .l) (mem start (a .slots .now)) (a .m) (start .pre) (a .kind) (a .v) (mem start (f .last .0) (o .beside)) (f .result .machine)
+    (f .ensures (o .world) (around start (o .beside)) (o .rep) .world)
 
 coro-returned-requires : tie.Need-coro-returned-requires
 coro-returned-requires c κs =
@@ -55,10 +62,9 @@ coro-returned-requires c κs =
     let o = start .pre .ok in
     let f = did .to-dyn in
     let p = gone .pop in
-    let beside = around start (o .beside) in
-    let below = under start (f .last .0) (o .beside) in
-    body-asks (a .l) (a .m) (a .stack .now) (a .frames .now) (a .chain .now) (a .slots .now) (a .saved-stack .now) (a .saved-frames .now) (start .pre) (a .kind) (a .v) (p .last .0) (p .last .1 .0) (f .last .0) (p .result)
-    (p .ensures (a .l) (toDyn (a .kind) (a .v) (o .world) .world) below (f .ensures (o .world) beside (o .rep) .world))
+    body-asks (a .l) (mem start (a .slots .now)) (a .m) (start .pre) (a .kind) (a .v)
+    (lent (p .last .0) (p .last .1 .0) (a .chain .now) (f .last .0) (a .saved-stack .now) (a .saved-frames .now)) (p .result)
+    (p .ensures (a .l) (toDyn (a .kind) (a .v) (o .world) .world) (under start (f .last .0) (o .beside)) (f .ensures (o .world) (around start (o .beside)) (o .rep) .world))
 
 same-length : tie.Need-same-length
 same-length c = search needs
@@ -70,11 +76,8 @@ returns c =
     let a = start .args in
     let f = did .to-dyn in
     λ w b rep snd.
-    let t = some-top (w .frames) (a .frames .now) (a .m .depth) (rep .frames) (start .pre .some) in
-    let beside = around start (record { words = b .words; fuel = a .fuel }) in
-    let d = f .ensures w beside rep in
-    body-refused (a .l) (lent (a .stack .now) (a .frames .now) (a .chain .now) (f .last .0) (a .saved-stack .now) (a .saved-frames .now) b) (f .result .machine) (a .fuel) w (a .kind) (a .v) (t .top) (t .rest) (t .are)
-    (arm .made .given .0 .0) (sym (arm .made .given .1) ∙ d .answer) (d .world)
+    let d = f .ensures w (around start (record { words = b .words; fuel = a .fuel })) rep in
+    body-refused (a .l) (mem start (f .last .0) b) (f .result .machine) (a .fuel) w (a .kind) (a .v) (top start w b rep) (arm .made .given .0 .0) (sym (arm .made .given .1) ∙ d .answer) (d .world)
 
 same-length-2 : tie.Need-same-length-2
 same-length-2 c = search needs
@@ -109,20 +112,18 @@ returns-2 c =
     let g = told .coro-returned in
     λ w b rep snd.
     let u = toDyn (a .kind) (a .v) w .world in
-    let t = some-top (w .frames) (a .frames .now) (a .m .depth) (rep .frames) (start .pre .some) in
-    let are = dyn-top (a .kind) (a .v) w snd (t .top) (t .rest) (t .are) in
-    let beside = around start (record { words = b .words; fuel = a .fuel }) in
-    let below = under start (f .last .0) (record { words = b .words; fuel = a .fuel }) in
-    let d = f .ensures w beside rep in
-    let r = p .ensures (a .l) u below (d .world) in
+    let t = top start w b rep in
+    let fed : Beside = record { words = b .words; fuel = a .fuel } in
+    let d = f .ensures w (around start fed) rep in
+    let r = p .ensures (a .l) u (under start (f .last .0) fed) (d .world) in
     let N = lent (p .last .0) (p .last .1 .0) (a .chain .now) (f .last .0) (a .saved-stack .now) (a .saved-frames .now) b in
-    let q = popped-to (a .l) N (p .result) (a .fuel) u (t .top) (t .rest) are r in
+    let q = popped-to (a .l) N (p .result) (a .fuel) u (t .top) (t .rest) (dyn-top (a .kind) (a .v) w snd t) r in
     let L = g .last in
-    body-returns (a .l) (lent (L .0) (L .1 .0) (L .1 .1 .0) (L .1 .1 .1 .0) (L .1 .1 .1 .1 .0) (L .1 .1 .1 .1 .1 .0) b) (g .result .machine) (g .result .fuel) w (a .kind) (a .v) (t .top) (t .rest) (t .are)
+    body-returns (a .l) (lent (L .0) (L .1 .0) (L .1 .1 .0) (L .1 .1 .1 .0) (L .1 .1 .1 .1 .0) (L .1 .1 .1 .1 .1 .0) b) (g .result .machine) (g .result .fuel) w (a .kind) (a .v) t
     (arm .made2 .given .0 .0) (sym (arm .made2 .given .1) ∙ d .answer) (g .ensures (popTo (t .top) (t .rest) u) b q (sound-rowed u (dyn-sounds (a .kind) (a .v) w snd)))
 
-pub end-body-spec : {M : Type 1} → statement M
-end-body-spec =
+pub finish-coro-spec : {M : Type 1} → statement M
+finish-coro-spec =
     tie.close
     (tie.spec
     to-dyn-requires
