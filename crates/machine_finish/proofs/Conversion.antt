@@ -49,7 +49,8 @@ module _ (l : Sizes) (M : Lent) (m : Machine) (fu : Fuel) (w : World) (rep : Rep
 
   -- ---- by the kind; a word that is given is as one that stands inline
 
-  refused-by : (kind : ResultKind) (n : ℕ) (g : Fault) → out (H.Refused g) slots′ ≡ Heaped.toDyn kind (M .slots) (heapOf m l) cost n → Does l (toDyn kind n w) (onSlots slots′ M) m fu (Made.Refused g)
+  refused-by : (kind : ResultKind) (n : ℕ) (g : Fault) → out (H.Refused g) slots′ ≡ Heaped.toDyn kind (M .slots) (heapOf m l) cost n
+      → Does l (toDyn kind n w) (onSlots slots′ M) m fu (Made.Refused g)
   unfolding toDyn
   refused-by ResultKind.None n g e = int-refused l M m fu w rep 0 slots′ (Inline.At (record { 0 = nil })) g e
   refused-by ResultKind.Dyn n g e = int-refused l M m fu w rep 0 slots′ (Inline.At (record { 0 = n })) g e
@@ -71,6 +72,7 @@ module _ (l : Sizes) (M : Lent) (m : Machine) (fu : Fuel) (w : World) (rep : Rep
     pub dyn-refused : (g : Fault) → r ≡ H.Refused g → Does l (toDyn kind n w) (onSlots slots′ M) m fu (Made.Refused g)
     dyn-refused g e = refused-by kind n g (answered (H.Refused g) e)
 
-    pub dyn-made : l .slots * 20 ≤ length (M .slots) → (v : Word) (h′ : Heap) (m′ : Machine) → r ≡ H.Done v h′ → m′ ≡ allocated m h′ → Does l (toDyn kind n w) (onSlots slots′ M) m′ fu (Made.Word (v .0))
+    pub dyn-made : l .slots * 20 ≤ length (M .slots) → (v : Word) (h′ : Heap) (m′ : Machine) → r ≡ H.Done v h′ → m′ ≡ allocated m h′
+        → Does l (toDyn kind n w) (onSlots slots′ M) m′ fu (Made.Word (v .0))
     dyn-made room v h′ m′ e em =
         subst (λ y. Does l (toDyn kind n w) (onSlots slots′ M) y fu (Made.Word (v .0))) (sym em) (made-by kind n v h′ room (answered (H.Done v h′) e))
