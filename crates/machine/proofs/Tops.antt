@@ -28,7 +28,7 @@ use Rattle.memory.specs.Memory.{Lent, Beside, Rep}
 use Rattle.memory.specs.Contract.{Numbers, Ok}
 use Rattle.memory.specs.declared.machine.Machine.{Machine}
 use Rattle.memory.specs.declared.machine.Sizes.{Sizes}
-use Rattle.memory.proofs.Does.{SameLengths, ok-next}
+use Rattle.memory.proofs.Does.{SameLengths, room-same}
 use Rattle.machine.specs.Frame.{StepFits, PopFits, popOn, popTop}
 use Rattle.machine.proofs.Frames.{top-base}
 use Rattle.machine.proofs.Lands.{lies-land, lands-fits}
@@ -94,12 +94,18 @@ pop-fits l M m f w rep snd h =
     let e = rep .stack .count in
     record { depth = record { some = h; within = rep .frames .within }; base = omega arith; height = rep .stack .within }
 
-popped-setup : (fs : List Frame) (w : World) → popOn fs w .setup ≡ w .setup
+pub popped-setup : (fs : List Frame) (w : World) → popOn fs w .setup ≡ w .setup
 popped-setup [] w = refl
 popped-setup (f ∷ fs) w = refl
 
 -- the next function may be called after a call's frame is gone
-pub pop-ok : (l : Sizes) (M M′ : Beside → Lent) (n n′ : Numbers) (o : Ok l M n) (x : Frame) (xs : List Frame) → o .world .frames ≡ x ∷ xs → isCoro (x .cont) ≡ false
+abbrev pub pop-ok : (l : Sizes) (M M′ : Beside → Lent) (n n′ : Numbers) (o : Ok l M n) (x : Frame) (xs : List Frame) → o .world .frames ≡ x ∷ xs → isCoro (x .cont) ≡ false
     → SameLengths (M (o .beside)) (M′ (o .beside)) → Rep l (popTop (o .world)) (M′ (o .beside)) (n′ .machine) (n′ .fuel (o .beside)) → Ok l M′ n′
 pop-ok l M M′ n n′ o x xs are c same rep =
-    ok-next l M M′ n n′ o (popTop (o .world)) (popped-setup (o .world .frames) (o .world)) (pop-sounds (o .world) (o .sound) x xs are c) same rep
+    record {
+      world = popTop (o .world);
+      beside = o .beside;
+      rep = rep;
+      sound = pop-sounds (o .world) (o .sound) x xs are c;
+      room = room-same (o .world .setup) (popTop (o .world) .setup) (M (o .beside)) (M′ (o .beside)) (popped-setup (o .world .frames) (o .world)) same (o .room);
+    }

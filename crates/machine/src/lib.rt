@@ -7,3 +7,4 @@ pub mod object;
 pub mod send;
 pub mod setup;
 pub mod step;
+pub mod way;

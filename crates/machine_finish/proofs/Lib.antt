@@ -1,0 +1,3 @@
+pub mod Conversion
+pub mod Results
+pub mod Ends

@@ -1,0 +1,34 @@
+-- machine.rs: apply_cont, finish, on the lent words.
+use mathlib.Core.Path.{_≡_}
+use mathlib.Core.Bool.{true}
+use Prim.Native.Nat.{_-_, _≤_}
+use lib.ListN.{length}
+use Rattle.model.specs.Sound.{contLies}
+use Rattle.model.specs.declared.machine.Cont.{Cont}
+use Rattle.tables.specs.Layout.{frameIn}
+use Rattle.memory.specs.Memory.{Lent, Beside}
+use Rattle.memory.specs.Contract.{Ok, only}
+use Rattle.memory.specs.declared.machine.Machine.{Machine}
+use Rattle.memory.specs.declared.machine.Sizes.{Sizes}
+use Rattle.machine.specs.Way.{wayOf}
+use Rattle.machine.specs.declared.way.Way.{Way}
+
+-- ---- apply_cont
+
+-- a sound world, and a continuation whose register lies in its top frame
+pub record ContFits (l : Sizes) (M : Beside → Lent) (m : Machine) (c : Cont) : Type 0 where
+  pub ok : Ok l M (only m)
+  pub lies : contLies c (length (ok .world .stack)) (ok .world .frames) ≡ true
+
+-- ---- finish
+
+-- a sound world with a top frame, and the continuation of that frame
+pub record TopFits (l : Sizes) (M : Beside → Lent) (m : Machine) (c : Cont) : Type 0 where
+  pub ok : Ok l M (only m)
+  pub some : 1 ≤ m .depth
+  pub top : frameIn (M (ok .beside) .frames) (m .depth - 1) .cont ≡ c
+
+-- .. which is a call's
+pub record EndFits (l : Sizes) (M : Beside → Lent) (m : Machine) (c : Cont) : Type 0 where
+  pub on : TopFits l M m c
+  pub call : wayOf c ≡ Way.Caller

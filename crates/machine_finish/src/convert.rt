@@ -1,0 +1,31 @@
+// conv.rs: to_dyn.
+ghost use Rattle.heap.specs.Heap.{Room};
+ghost use Rattle.model.specs.Heap.{toDyn};
+ghost use Rattle.machine.specs.Numbers.{heapOf};
+ghost use Rattle.memory.specs.Lendings.{table};
+ghost use Rattle.memory.specs.Contract.{Met, any, only};
+use heap::heap::ResultKind;
+use machine::numbers::allocated;
+use machine::numbers::heap_of;
+use machine::object::MadeDid;
+use memory::machine::Machine;
+use memory::machine::Sizes;
+use model::coro::Made;
+
+// A result of a kind as a dynamic word; nil for none.
+pub(crate) fn to_dyn(slots: &mut [u64], m: Machine, l: Sizes, kind: ResultKind, v: u64) -> MadeDid
+    requires { ⌜ Room (now slots) (heapOf m l) ⌝ }
+    ensures { λ r. ⌜ Met any l (toDyn kind v) (table slots) (only m) (only (r .machine)) (r .answer) ⌝ }
+{
+    let costs = l.costs;
+    match heap::heap::to_dyn(slots, heap_of(m, l), costs.int, kind, v) {
+        heap::heap::Made::Refused(g) => MadeDid {
+            machine: m,
+            answer: Made::Refused(g),
+        },
+        heap::heap::Made::Done(x, h) => MadeDid {
+            machine: allocated(m, h),
+            answer: Made::Word(x.0),
+        },
+    }
+}

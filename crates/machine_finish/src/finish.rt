@@ -1,0 +1,184 @@
+// machine.rs: finish, of the top frame.
+ghost use Rattle.model.specs.Machine.{resumeIn, finish};
+ghost use Rattle.model.specs.declared.machine.Cont.the-variants.{Coro};
+ghost use Rattle.machine.specs.Frame.{StepFits};
+ghost use Rattle.machine_finish.specs.Finish.{TopFits, EndFits};
+ghost use Rattle.memory.specs.Lendings.{frame, six, topTable};
+ghost use Rattle.memory.specs.Contract.{Met, Ok, any, every, ifSound, only, with};
+use crate::cont::apply_cont;
+use crate::cont::result_of;
+use crate::convert::to_dyn;
+use coro_end::returned::coro_returned;
+use heap::fault::Fault;
+use heap::heap::ResultKind;
+use machine::frame::next_pc;
+use machine::frame::pop;
+use machine::way::Way;
+use machine::way::way_of;
+use memory::machine::Machine;
+use memory::machine::Sizes;
+use model::call::Answer;
+use model::coro::Made;
+use model::machine::Cont;
+use model::machine::Fuel;
+
+// What the end of a call leaves of the numbers, and answers.
+pub struct CallDid {
+    pub machine: Machine,
+    pub answer: Answer,
+}
+
+// .. and of the fuel.
+pub struct Finished {
+    pub machine: Machine,
+    pub fuel: Fuel,
+    pub answer: Answer,
+}
+
+// The caller goes on, unless its result was refused.
+fn resume_in(frames: &mut [u64], m: Machine, f: Fault) -> Answer
+    requires { ⌜ StepFits (now frames) (m .depth) ⌝ }
+    ensures { λ r. ⌜ every (λ l. Met any l (λ w. resumeIn w f) (frame frames) (only m) (only m) r) ⌝ }
+{
+    if f.number() == 0 {
+        next_pc(frames, m);
+        return Answer::Resume;
+    }
+    Answer::Refused(f)
+}
+
+// A call ends: its frame goes, and the result to its caller.
+fn end_call(
+    stack: &mut [u64],
+    frames: &mut [u64],
+    slots: &mut [u64],
+    m: Machine,
+    l: Sizes,
+    cont: Cont,
+    kind: ResultKind,
+    v: u64,
+) -> CallDid
+    requires { ⌜ EndFits l (topTable stack frames slots now) m cont ⌝ }
+    ensures { λ r. ⌜ Met any l (finish kind v) (topTable stack frames slots) (only m) (only (r .machine)) (r .answer) ⌝ }
+{
+    let n = pop(stack, frames, m);
+    let did = apply_cont(stack, frames, slots, n, l, cont, kind, v);
+    let k = did.machine;
+    let fault = did.answer;
+    let answer = resume_in(frames, k, fault);
+    CallDid { machine: k, answer }
+}
+
+// machine.rs: finish_coro. A body ends, and its result goes to whoever drove it; one that does not convert leaves the frame.
+fn finish_coro(
+    stack: &mut [u64],
+    frames: &mut [u64],
+    chain: &mut [u64],
+    slots: &mut [u64],
+    saved_stack: &mut [u64],
+    saved_frames: &mut [u64],
+    m: Machine,
+    l: Sizes,
+    fuel: Fuel,
+    kind: ResultKind,
+    v: u64,
+) -> Finished
+    requires { ⌜ TopFits l (six stack frames chain slots «saved_stack» «saved_frames» now) m Coro ⌝ }
+    ensures { λ r. ⌜ Met ifSound l (finish kind v) (six stack frames chain slots «saved_stack» «saved_frames») (with m fuel) (with (r .machine) (r .fuel)) (r .answer) ⌝ }
+{
+    let did = to_dyn(slots, m, l, kind, v);
+    let n = did.machine;
+    let made = did.answer;
+    match made {
+        Made::Refused(e) => Finished {
+            machine: n,
+            fuel,
+            answer: Answer::Refused(e),
+        },
+        Made::Word(x) => {
+            let k = pop(stack, frames, n);
+            let told = coro_returned(
+                stack,
+                frames,
+                chain,
+                slots,
+                saved_stack,
+                saved_frames,
+                k,
+                l,
+                fuel,
+                x,
+            );
+            let after = told.machine;
+            let left = told.fuel;
+            Finished {
+                machine: after,
+                fuel: left,
+                answer: Answer::Resume,
+            }
+        }
+    }
+}
+
+// machine.rs: finish. Without a frame, or from the frame of an entry, the result leaves the machine.
+pub fn finish(
+    stack: &mut [u64],
+    frames: &mut [u64],
+    chain: &mut [u64],
+    slots: &mut [u64],
+    saved_stack: &mut [u64],
+    saved_frames: &mut [u64],
+    m: Machine,
+    l: Sizes,
+    fuel: Fuel,
+    kind: ResultKind,
+    v: u64,
+) -> Finished
+    requires { ⌜ Ok l (six stack frames chain slots «saved_stack» «saved_frames» now) (only m) ⌝ }
+    ensures { λ r. ⌜ Met ifSound l (finish kind v) (six stack frames chain slots «saved_stack» «saved_frames») (with m fuel) (with (r .machine) (r .fuel)) (r .answer) ⌝ }
+{
+    if m.depth == 0 {
+        let answer = Answer::Exit(result_of(kind, v));
+        return Finished {
+            machine: m,
+            fuel,
+            answer,
+        };
+    }
+    let f = tables::frame::frame_at(frames, m.depth - 1);
+    let cont = f.cont;
+    match way_of(cont) {
+        Way::Out => {
+            let n = pop(stack, frames, m);
+            let result = result_of(kind, v);
+            Finished {
+                machine: n,
+                fuel,
+                answer: Answer::Exit(result),
+            }
+        }
+        Way::Caller => {
+            let did = end_call(stack, frames, slots, m, l, cont, kind, v);
+            let n = did.machine;
+            let answer = did.answer;
+            Finished {
+                machine: n,
+                fuel,
+                answer,
+            }
+        }
+        Way::Driver => finish_coro(
+            stack,
+            frames,
+            chain,
+            slots,
+            saved_stack,
+            saved_frames,
+            m,
+            l,
+            fuel,
+            kind,
+            v,
+        ),
+    }
+}
