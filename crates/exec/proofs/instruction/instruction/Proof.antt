@@ -67,8 +67,12 @@ charge-requires c κs =
     let at-if1 = c .before .before .before .before .before .before .before .before .before .before .before .before .before .before in
     let start = at-if1 .before .before .before .before .before .before .before .before .before .before in
     let a = start .args in
-    record { ok = charge-ok (a .l) (a .stack .now) (a .frames .now) (a .chain .now) (a .slots .now) (a .saved-stack .now) (a .saved-frames .now) (a .finalize .now) (a .setup .now)
-    (a .m) (a .fuel) (start .pre); narrow = c .pc-of .ensures .narrow; some = (let h = at-if1 .if1 .left in omega arith) }
+    record {
+      ok = charge-ok (a .l) (a .stack .now) (a .frames .now) (a .chain .now) (a .slots .now) (a .saved-stack .now) (a .saved-frames .now) (a .finalize .now) (a .setup .now)
+          (a .m) (a .fuel) (start .pre);
+      narrow = c .pc-of .ensures .narrow;
+      some = (let h = at-if1 .if1 .left in omega arith);
+    }
 
 enum-told : tie.Need-enum-told
 enum-told c = search needs
@@ -95,8 +99,17 @@ body-requires c κs =
     (at-charge .charge .result .machine) (at-charge .charge .result .fuel) (a .op) (at-pc-of .pc-of .result) (getD (a .setup .now) 13 0) (at-base-at .base-at .result) (at-a2 .a2 .given .0 .0)
     (let h = at-if1 .if1 .left in omega arith) refl (at-base-at .base-at .ensures)
     (λ w N. sym (not-false _ (at-if2 .if2 .left)) ∙ at-passes .passes .ensures w N) (at-pc-of .pc-of .ensures)
-    (record { stack = at-charge .charge .kept .0; frames = at-charge .charge .kept .1 .0; chain = at-charge .charge .kept .1 .1 .0; slots = at-charge .charge .kept .1 .1 .1 .0; savedStack = at-charge .charge .kept .1 .1 .1 .1 .0;
-    savedFrames = at-charge .charge .kept .1 .1 .1 .1 .1 .0; ready = refl; finalize = at-charge .charge .kept .1 .1 .1 .1 .1 .1 .0; setup = refl })
+    (record {
+      stack = at-charge .charge .kept .0;
+      frames = at-charge .charge .kept .1 .0;
+      chain = at-charge .charge .kept .1 .1 .0;
+      slots = at-charge .charge .kept .1 .1 .1 .0;
+      savedStack = at-charge .charge .kept .1 .1 .1 .1 .0;
+      savedFrames = at-charge .charge .kept .1 .1 .1 .1 .1 .0;
+      ready = refl;
+      finalize = at-charge .charge .kept .1 .1 .1 .1 .1 .1 .0;
+      setup = refl;
+    })
     (answered (a .l) _ _ _ (charge (OptPc.Some (at-pc-of .pc-of .result)) (ok .world)) (at-charge .charge .result .answer) _ (at-a2 .a2 .given .1) (at-charge .charge .ensures (ok .world) b (ok .rep) (ok .sound)))
 
 answer-of-requires : tie.Need-answer-of-requires

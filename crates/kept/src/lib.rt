@@ -1,0 +1,2 @@
+// Every call on sound words.
+pub mod operation;
