@@ -44,7 +44,8 @@ same-length-6 c = search needs
 
 returns : tie.Need-returns
 returns c =
-    let at-close-in = c .before .before .before .before .before .before .before .before .before .before .before .before in let at-if1 = at-close-in .before .before .before .before .before .before .before in let at-is-suspended = at-if1 .before in let start = start-of at-is-suspended in
+    let at-close-in = c .before .before .before .before .before .before .before .before .before .before .before .before in
+    let at-if1 = at-close-in .before .before .before .before .before .before .before in let at-is-suspended = at-if1 .before in let start = start-of at-is-suspended in
     λ w b rep snd. close-woken (start .args .l) _ (at-close-in .close-in .result .machine) (b .fuel) w (start .args .pc) (start .args .dst) (start .args .v) (start .args .signal)
     (start .args .s) (at-close-in .close-in .result .step) (sym (at-is-suspended .is-suspended .ensures) ∙ at-if1 .if1 .taken) (at-close-in .close-in .ensures w b rep snd)
 
@@ -83,7 +84,8 @@ same-length-11 c = search needs
 
 returns-3 : tie.Need-returns-3
 returns-3 c =
-    let at-put = c .before .before in let at-end-created = at-put .before .before .before .before .before .before .before .before .before in let at-if2 = at-end-created .before .before .before .before in let at-is-running = at-if2 .before in
+    let at-put = c .before .before in let at-end-created = at-put .before .before .before .before .before .before .before .before .before in
+    let at-if2 = at-end-created .before .before .before .before in let at-is-running = at-if2 .before in
     let at-if1 = at-is-running .before in let at-is-suspended = at-if1 .before in let start = start-of at-is-suspended in
     let L = at-end-created .end-created .last in
     λ w b rep snd. close-idle (start .args .l) _ (start .args .m) (b .fuel) w (start .args .pc) (start .args .dst) (start .args .v) (start .args .signal) (start .args .s)

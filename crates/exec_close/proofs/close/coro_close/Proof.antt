@@ -72,7 +72,8 @@ same-length-9 c = search needs
 
 returns-2 : tie.Need-returns-2
 returns-2 c =
-    let at-close-to = c .before .before .before .before .before .before .before .before .before .before .before .before in let at-s = at-close-to .before .before .before .before .before .before .before .before in let at-coro-state = at-s .before .before in
+    let at-close-to = c .before .before .before .before .before .before .before .before .before .before .before .before in
+    let at-s = at-close-to .before .before .before .before .before .before .before .before in let at-coro-state = at-s .before .before in
     let at-reg2 = at-coro-state .before .before in let at-reg = at-reg2 .before .before .before in let start = start-of at-reg in
     λ w b rep snd. closes (start .args .l) _ _ (b .fuel) w (start .args .pc) (start .args .dst) (at-reg .reg .result) (at-reg2 .reg2 .result) (start .args .c) (start .args .src)
     (at-reg .reg .ensures (w .stack) (w .frames) (rep .stack) (rep .frames) .is) (at-reg2 .reg2 .ensures (w .stack) (w .frames) (rep .stack) (rep .frames) .is) (at-s .s .given .0 .0) _

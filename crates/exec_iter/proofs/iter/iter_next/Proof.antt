@@ -72,7 +72,8 @@ same-length-9 c = search needs
 
 returns-2 : tie.Need-returns-2
 returns-2 c =
-    let at-iter-on = c .before .before .before .before .before .before .before .before .before .before .before .before in let at-s = at-iter-on .before .before .before .before .before .before .before .before in let at-coro-state = at-s .before .before in
+    let at-iter-on = c .before .before .before .before .before .before .before .before .before .before .before .before in
+    let at-s = at-iter-on .before .before .before .before .before .before .before .before in let at-coro-state = at-s .before .before in
     let at-reg2 = at-coro-state .before .before in let at-reg = at-reg2 .before .before .before in let start = start-of at-reg in
     λ w b rep snd. iterates (start .args .l) _ _ (b .fuel) w (start .args .pc) (start .args .has) (at-reg .reg .result) (start .args .val) (at-reg2 .reg2 .result)
     (start .args .iter) (start .args .src)

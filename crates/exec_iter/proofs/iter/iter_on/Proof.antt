@@ -71,7 +71,8 @@ same-length-10 c = search needs
 
 returns-3 : tie.Need-returns-3
 returns-3 c =
-    let at-enter-send = c .before .before .before .before .before .before .before .before .before .before .before .before in let at-if2 = at-enter-send .before .before .before .before .before .before .before in let at-is-awaiting = at-if2 .before in
+    let at-enter-send = c .before .before .before .before .before .before .before .before .before .before .before .before in
+    let at-if2 = at-enter-send .before .before .before .before .before .before .before in let at-is-awaiting = at-if2 .before in
     let at-if1 = at-is-awaiting .before in let at-exhausted = at-if1 .before in let start = start-of at-exhausted in
     λ w b rep snd. next-entered (start .args .l) _ (at-enter-send .enter-send .result .machine) (b .fuel) w
     (start .args .pc) (start .args .has) (start .args .iter) (start .args .val) (start .args .src) (start .args .s)
