@@ -1,4 +1,5 @@
 pub mod Pushing
+pub mod Entering
 pub mod Granting
 pub mod Looking
 pub mod Iterators

@@ -1,5 +1,6 @@
 // 01: "Added calls", behind their gates.
 pub mod call;
+pub mod entry;
 pub mod fuel;
 pub mod iterator;
 pub mod look;

@@ -3,3 +3,4 @@ pub mod Entry
 pub mod Accepts
 pub mod Closing
 pub mod Lands
+pub mod Entries

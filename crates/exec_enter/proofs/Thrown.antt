@@ -20,7 +20,7 @@ use Rattle.memory.specs.Contract.{Does}
 use Rattle.memory.specs.declared.machine.Machine.{Machine}
 use Rattle.memory.specs.declared.machine.Sizes.{Sizes}
 use Rattle.memory.proofs.Does.{does}
-use Rattle.exec_enter.specs.Entry.{raised}
+use Rattle.exec_enter.specs.Throw.{raised}
 
 -- the entered coroutine's world stays
 raises : (v : ℕ) (w : World) (a : Entered) → throwEntered v w a ≡ after w (raised v a)

@@ -1,4 +1,2 @@
-pub mod Entry
 pub mod Resume
-pub mod Close
-pub mod Iter
+pub mod Throw

@@ -1,6 +1,3 @@
-// coro.rs: exec, its arms that enter coroutines, after their gate and charge; iter_next.
-pub mod close;
-pub mod entry;
-pub mod iter;
+// coro.rs: exec, Resume and ResumeThrow, after their gate and charge.
 pub mod resume;
 pub mod throw;

@@ -3,7 +3,7 @@ ghost use Rattle.model.specs.Exec.{resume};
 ghost use Rattle.exec_enter.specs.Resume.{ResumeFits};
 ghost use Rattle.memory.specs.Lendings.{six};
 ghost use Rattle.memory.specs.Contract.{Met, ifSound, only};
-use crate::entry::enter_send;
+use coro_enter::arrival::enter_send;
 use machine::step::StepDid;
 use memory::machine::Machine;
 use memory::machine::Sizes;

@@ -1,13 +1,14 @@
 // coro.rs: exec, ResumeThrow. Its operands have been tested.
+ghost use mathlib.Core.Path.{_≡_};
 ghost use Rattle.model.specs.Exec.{throwTo, resumeThrow};
 ghost use Rattle.model.specs.declared.coro.Stated.the-variants.{In};
-ghost use Rattle.exec_enter.specs.Entry.{EntryFits};
+ghost use Rattle.coro_enter.specs.Entry.{EntryFits};
 ghost use Rattle.exec_enter.specs.Resume.{ResumeFits};
+ghost use Rattle.exec_enter.specs.Throw.{raised};
 ghost use Rattle.memory.specs.Lendings.{six};
 ghost use Rattle.memory.specs.Contract.{Met, ifSound, only};
-use crate::entry::raised;
-use crate::entry::store_enter;
 use coro_end::finish::finish_coroutine;
+use coro_enter::arrival::store_enter;
 use heap::fault::Fault;
 use heap::object::CoroState;
 use heap::value::Word;
@@ -15,9 +16,21 @@ use machine::coro::coro_state;
 use machine::step::StepDid;
 use memory::machine::Machine;
 use memory::machine::Sizes;
+use model::coro::Entered;
 use model::coro::Stated;
 use model::exec::Step;
 use model::machine::Driver;
+
+// A word raised where the entered coroutine was suspended.
+pub fn raised(a: Entered, v: u64) -> Step
+    ensures { λ r. ⌜ r ≡ raised v a ⌝ }
+{
+    match a {
+        Entered::Fresh => Step::Unwind(Fault::Throw(v)),
+        Entered::Suspended(_) => Step::Unwind(Fault::Throw(v)),
+        Entered::Refused(f) => Step::Fault(f),
+    }
+}
 
 // A word thrown into a coroutine in state s: a Created one fails, another is entered, and the word raised there.
 pub(crate) fn throw_to(

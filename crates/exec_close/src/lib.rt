@@ -1,0 +1,2 @@
+// coro.rs: exec, CoroClose, after its gate and charge.
+pub mod close;

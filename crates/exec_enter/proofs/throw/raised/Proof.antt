@@ -1,0 +1,27 @@
+-- `raised` meets its contract, by what the entry answered. Assumes nothing.
+use mathlib.Core.Path.{sym, ap}
+use Rattle.exec_enter.specs.Throw.{raised}
+use borrow.Author.Needs.{needs}
+use Rattle.exec_enter.proofs.throw.raised.Statement.{statement}
+use Rattle.exec_enter.proofs.throw.raised.Tie as tie
+
+enum-told : tie.Need-enum-told
+enum-told c = search needs
+
+enum-told-2 : tie.Need-enum-told-2
+enum-told-2 c = search needs
+
+enum-known-a : tie.Need-enum-known-a
+enum-known-a c = search needs
+
+returns : tie.Need-returns
+returns c = sym (ap (raised (c .before .before .args .v)) (c .enum-told .given .1))
+
+returns-2 : tie.Need-returns-2
+returns-2 c = sym (ap (raised (c .before .before .args .v)) (c .enum-told2 .given .1))
+
+returns-3 : tie.Need-returns-3
+returns-3 c = sym (ap (raised (c .before .before .before .args .v)) (c .before .a .given .1))
+
+pub raised-spec : {M : Type 1} → statement M
+raised-spec = tie.close (tie.spec enum-told enum-told-2 enum-known-a returns returns-2 returns-3)

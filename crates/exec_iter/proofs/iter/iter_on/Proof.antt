@@ -1,0 +1,102 @@
+-- `iter_on` meets the definition: the end of a loop, a source that awaits, or an entry that sends nil. Assumes nothing.
+use mathlib.Core.Path.{sym, _∙_}
+use Rattle.memory.specs.Memory.{Beside}
+use Rattle.memory.specs.Lendings.{lent}
+use Rattle.exec_iter.proofs.Looped.{next-ended, next-awaiting, next-entered}
+use borrow.Author.Needs.{needs}
+use Rattle.exec_iter.proofs.iter.iter_on.Statement.{statement}
+use Rattle.exec_iter.proofs.iter.iter_on.Tie as tie
+
+-- the ways back that several clauses take
+abbrev start-of : tie.After-exhausted → tie.Start
+start-of c = c .before .before .before .before .before .before .before .before
+
+-- the words that are lent
+abbrev around : tie.Start → Beside → Beside
+around c b = record { words = lent (c .args .stack .now) (c .args .frames .now) (c .args .chain .now) (c .args .slots .now) (c .args .saved-stack .now) (c .args .saved-frames .now) b; fuel = b .fuel }
+
+exhausted-requires : tie.Need-exhausted-requires
+exhausted-requires c κs = search needs
+
+stop-requires : tie.Need-stop-requires
+stop-requires c κs = search needs
+
+same-length : tie.Need-same-length
+same-length c = search needs
+
+same-length-2 : tie.Need-same-length-2
+same-length-2 c = search needs
+
+same-length-3 : tie.Need-same-length-3
+same-length-3 c = search needs
+
+returns : tie.Need-returns
+returns c =
+    let at-stop = c .before .before .before .before in let at-if1 = at-stop .before .before .before .before in let at-exhausted = at-if1 .before in let start = start-of at-exhausted in
+    λ w b rep snd. next-ended (start .args .l) _ (start .args .m) (b .fuel) w (start .args .pc) (start .args .has) (start .args .iter) (start .args .val) (start .args .src) (start .args .s)
+    (sym (at-exhausted .exhausted .ensures (start .args .l) w (around start b) rep) ∙ at-if1 .if1 .taken) (at-stop .stop .ensures (start .args .l) w (around start b) rep)
+
+is-awaiting-requires : tie.Need-is-awaiting-requires
+is-awaiting-requires c κs = search needs
+
+same-length-4 : tie.Need-same-length-4
+same-length-4 c = search needs
+
+returns-2 : tie.Need-returns-2
+returns-2 c =
+    let at-is-awaiting = c .before in let at-if1 = at-is-awaiting .before in let at-exhausted = at-if1 .before in let start = start-of at-exhausted in
+    λ w b rep snd. next-awaiting (start .args .l) _ (start .args .m) (b .fuel) w (start .args .pc) (start .args .has) (start .args .iter) (start .args .val) (start .args .src) (start .args .s)
+    (sym (at-exhausted .exhausted .ensures (start .args .l) w (around start b) rep) ∙ at-if1 .if1 .left) (sym (at-is-awaiting .is-awaiting .ensures) ∙ c .if2 .taken) rep
+
+enter-send-requires : tie.Need-enter-send-requires
+enter-send-requires c κs = search needs
+
+same-length-5 : tie.Need-same-length-5
+same-length-5 c = search needs
+
+same-length-6 : tie.Need-same-length-6
+same-length-6 c = search needs
+
+same-length-7 : tie.Need-same-length-7
+same-length-7 c = search needs
+
+same-length-8 : tie.Need-same-length-8
+same-length-8 c = search needs
+
+same-length-9 : tie.Need-same-length-9
+same-length-9 c = search needs
+
+same-length-10 : tie.Need-same-length-10
+same-length-10 c = search needs
+
+returns-3 : tie.Need-returns-3
+returns-3 c =
+    let at-enter-send = c .before .before .before .before .before .before .before .before .before .before .before .before in
+    let at-if2 = at-enter-send .before .before .before .before .before .before .before in let at-is-awaiting = at-if2 .before in
+    let at-if1 = at-is-awaiting .before in let at-exhausted = at-if1 .before in let start = start-of at-exhausted in
+    λ w b rep snd. next-entered (start .args .l) _ (at-enter-send .enter-send .result .machine) (b .fuel) w
+    (start .args .pc) (start .args .has) (start .args .iter) (start .args .val) (start .args .src) (start .args .s)
+    (sym (at-exhausted .exhausted .ensures (start .args .l) w (around start b) rep) ∙ at-if1 .if1 .left) (at-enter-send .enter-send .result .step)
+    (sym (at-is-awaiting .is-awaiting .ensures) ∙ at-if2 .if2 .left) (at-enter-send .enter-send .ensures w b rep snd)
+
+pub iter-on-spec : {M : Type 1} → statement M
+iter-on-spec =
+    tie.close
+    (tie.spec
+    exhausted-requires
+    stop-requires
+    same-length
+    same-length-2
+    same-length-3
+    returns
+    is-awaiting-requires
+    same-length-4
+    returns-2
+    enter-send-requires
+    same-length-5
+    same-length-6
+    same-length-7
+    same-length-8
+    same-length-9
+    same-length-10
+    returns-3)

@@ -1,0 +1,28 @@
+-- `stop` meets its contract: an iterator marked as done, and a flag put. Assumes nothing.
+use Rattle.model.specs.Heap.{setDone}
+use Rattle.memory.specs.Memory.{onSlots}
+use Rattle.memory.specs.Lendings.{top, plain}
+use borrow.Author.Needs.{needs}
+use Rattle.exec_iter.proofs.iter.stop.Statement.{statement}
+use Rattle.exec_iter.proofs.iter.stop.Tie as tie
+
+set-done-requires : tie.Need-set-done-requires
+set-done-requires c κs = search needs
+
+put-requires : tie.Need-put-requires
+put-requires c κs = search needs
+
+same-length : tie.Need-same-length
+same-length c = search needs
+
+same-length-2 : tie.Need-same-length-2
+same-length-2 c = search needs
+
+returns : tie.Need-returns
+returns c =
+    let at-put = c .before .before in let at-set-done = at-put .before .before .before .before in let start = at-set-done .before .before .before .before .before in
+    λ l w b rep. at-put .put .ensures l (setDone (start .args .iter) w) (record { words = onSlots (at-set-done .set-done .last .0) (b .words); fuel = b .fuel })
+    (at-set-done .set-done .ensures l w (record { words = top (start .args .stack .now) (start .args .frames .now) plain b; fuel = b .fuel }) rep)
+
+pub stop-spec : {M : Type 1} → statement M
+stop-spec = tie.close (tie.spec set-done-requires put-requires same-length same-length-2 returns)
