@@ -31,8 +31,8 @@ use Rattle.exec_make.specs.New.{NewFits}
 use Rattle.exec_make.specs.Indirect.{IndirectFits}
 use Rattle.exec_make.specs.Spawn.{SpawnFits}
 use Rattle.exec_enter.specs.Resume.{ResumeFits}
-use Rattle.exec_enter.specs.Close.{CloseFits}
-use Rattle.exec_enter.specs.Iter.{NextFits}
+use Rattle.exec_close.specs.Close.{CloseFits}
+use Rattle.exec_iter.specs.Iter.{NextFits}
 use Rattle.exec_ask.specs.Ask.{AskFits, CurrentFits}
 use Rattle.exec_yield.specs.Yielding.{YieldFits, YieldKvFits}
 use Rattle.exec.specs.Operands.{operandsOf}

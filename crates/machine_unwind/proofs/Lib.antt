@@ -1,0 +1,5 @@
+pub mod Turning
+pub mod Below
+pub mod Handlers
+pub mod Along
+pub mod Raising

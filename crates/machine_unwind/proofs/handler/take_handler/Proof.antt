@@ -1,0 +1,65 @@
+-- `take_handler` meets its contract: a unit, a word and a pc. Assumes nothing.
+use mathlib.Core.Path.{sym, _∙_}
+use Rattle.memory.specs.Lendings.{top, plain}
+use Rattle.machine_unwind.proofs.Turning.{handler-unpaid, handler-taken}
+use borrow.Author.Needs.{needs}
+use Rattle.machine_unwind.proofs.handler.take_handler.Statement.{statement}
+use Rattle.machine_unwind.proofs.handler.take_handler.Tie as tie
+
+charge-plain-requires : tie.Need-charge-plain-requires
+charge-plain-requires c κs = search needs
+
+is-spent-requires : tie.Need-is-spent-requires
+is-spent-requires c κs = search needs
+
+returns : tie.Need-returns
+returns c =
+    let asked = c .before in
+    let paid = asked .before .before in
+    let a = paid .before .before .before .args in
+    let r = paid .charge-plain in
+    λ l w b rep.
+    let M = top (a .stack .now) (a .frames .now) plain b in
+    handler-unpaid l M (a .m) (r .result .fuel) w (a .h) (a .value) (r .result .answer) (sym (asked .is-spent .ensures) ∙ c .if1 .taken)
+    (r .ensures (a .m) l w (record { words = M; fuel = b .fuel }) rep)
+
+put-requires : tie.Need-put-requires
+put-requires c κs = search needs
+
+store-pc-requires : tie.Need-store-pc-requires
+store-pc-requires c κs = search needs
+
+same-length : tie.Need-same-length
+same-length c = search needs
+
+same-length-2 : tie.Need-same-length-2
+same-length-2 c = search needs
+
+returns-2 : tie.Need-returns-2
+returns-2 c =
+    let stored = c .before .before in
+    let put = stored .before .before .before .before in
+    let test = put .before .before .before in
+    let asked = test .before in
+    let paid = asked .before .before in
+    let a = paid .before .before .before .args in
+    let r = paid .charge-plain in
+    λ l w b rep.
+    let M = top (a .stack .now) (a .frames .now) plain b in
+    let d = r .ensures (a .m) l w (record { words = M; fuel = b .fuel }) rep in
+    handler-taken l M (a .m) (r .result .fuel) w (a .h) (a .value) (r .result .answer) _ (sym (asked .is-spent .ensures) ∙ test .if1 .left) (d .answer)
+    (stored .store-pc .ensures l _ (record { words = top (put .put .last .0) (a .frames .now) plain b; fuel = r .result .fuel })
+    (put .put .ensures l _ (record { words = M; fuel = r .result .fuel }) (d .world)))
+
+pub take-handler-spec : {M : Type 1} → statement M
+take-handler-spec =
+    tie.close
+    (tie.spec
+    charge-plain-requires
+    is-spent-requires
+    returns
+    put-requires
+    store-pc-requires
+    same-length
+    same-length-2
+    returns-2)

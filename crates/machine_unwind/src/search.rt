@@ -1,0 +1,111 @@
+// machine.rs: unwind's loop, from the top frame down.
+ghost use Rattle.memory.specs.Lendings.{sixSetup};
+ghost use Rattle.memory.specs.Contract.{Met, ifSound, with};
+ghost use Rattle.machine_unwind.specs.Turns.{turn, searchFrom};
+ghost use Rattle.machine_unwind.specs.Fits.{FrameFits, SearchFits};
+use crate::handler::handler_in;
+use crate::handler::take_handler;
+use crate::leave::leave;
+use crate::turn::Turned;
+use crate::turn::Unwound;
+use crate::turn::answered;
+use crate::turn::goes_on;
+use heap::fault::Fault;
+use memory::machine::Machine;
+use memory::machine::Sizes;
+use model::call::Answer;
+use model::machine::Fuel;
+use model::program::Caught;
+
+// The top frame takes the word, or is left.
+pub(crate) fn turn(
+    stack: &mut [u64],
+    frames: &mut [u64],
+    chain: &mut [u64],
+    slots: &mut [u64],
+    saved_stack: &mut [u64],
+    saved_frames: &mut [u64],
+    setup: &[u64],
+    m: Machine,
+    l: Sizes,
+    fuel: Fuel,
+    value: u64,
+    func: u64,
+    pc: u64,
+) -> Turned
+    requires { ⌜ FrameFits l (sixSetup stack frames chain slots «saved_stack» «saved_frames» setup now) m fuel ⌝ }
+    ensures { λ r. ⌜ Met ifSound l (turn value func pc) (sixSetup stack frames chain slots «saved_stack» «saved_frames» setup) (with m fuel) (with (r .machine) (r .fuel)) (r .answer) ⌝ }
+{
+    match handler_in(frames, setup, m) {
+        Caught::By(h) => take_handler(stack, frames, m, fuel, h, value),
+        Caught::Nothing => leave(
+            stack,
+            frames,
+            chain,
+            slots,
+            saved_stack,
+            saved_frames,
+            m,
+            l,
+            fuel,
+            value,
+            func,
+            pc,
+        ),
+    }
+}
+
+// A word, raised at pc of function func, goes from frame to frame until one takes it.
+pub(crate) fn search(
+    stack: &mut [u64],
+    frames: &mut [u64],
+    chain: &mut [u64],
+    slots: &mut [u64],
+    saved_stack: &mut [u64],
+    saved_frames: &mut [u64],
+    setup: &[u64],
+    m: Machine,
+    l: Sizes,
+    fuel: Fuel,
+    value: u64,
+    func: u64,
+    pc: u64,
+) -> Unwound
+    requires { ⌜ SearchFits l (sixSetup stack frames chain slots «saved_stack» «saved_frames» setup now) m fuel func pc ⌝ }
+    ensures { λ r. ⌜ Met ifSound l (searchFrom value func pc) (sixSetup stack frames chain slots «saved_stack» «saved_frames» setup) (with m fuel) (with (r .machine) (r .fuel)) (r .answer) ⌝ }
+{
+    let mut n = m;
+    let mut f = fuel;
+    while n.depth != 0 {
+        let did = turn(
+            stack,
+            frames,
+            chain,
+            slots,
+            saved_stack,
+            saved_frames,
+            setup,
+            n,
+            l,
+            f,
+            value,
+            func,
+            pc,
+        );
+        n = did.machine;
+        f = did.fuel;
+        let t = did.answer;
+        if !goes_on(t) {
+            return Unwound {
+                machine: n,
+                fuel: f,
+                answer: answered(t, value),
+            };
+        }
+    }
+    Unwound {
+        machine: n,
+        fuel: f,
+        answer: Answer::Refused(Fault::Throw(value)),
+    }
+}

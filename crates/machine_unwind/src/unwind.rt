@@ -1,0 +1,182 @@
+// machine.rs: unwind.
+ghost use mathlib.Core.Path.{_≡_};
+ghost use Prim.Native.Nat.{_*_, _≤_};
+ghost use lib.ListN.{length};
+ghost use Rattle.heap.specs.Heap.{Room};
+ghost use Rattle.model.specs.Machine.{unwindFault, storeSome, raisable, unwind};
+ghost use Rattle.machine.specs.Numbers.{heapOf};
+ghost use Rattle.memory.specs.Lendings.{frame, table, sixSetup};
+ghost use Rattle.memory.specs.Contract.{Leaves, Met, Reads, any, every, ifSound, only, with};
+ghost use Rattle.machine_unwind.specs.Turns.{originOf, thrown};
+ghost use Rattle.machine_unwind.specs.Fits.{RaiseFits, UnwindFits};
+use crate::search::search;
+use crate::turn::Origin;
+use crate::turn::Unwound;
+use heap::fault::Fault;
+use heap::object::Object;
+use heap::value::Word;
+use machine::object::MadeDid;
+use machine::object::alloc_plain;
+use memory::machine::Machine;
+use memory::machine::Sizes;
+use model::call::Answer;
+use model::call::OptPc;
+use model::coro::Made;
+use model::machine::Fuel;
+
+// Function and pc of the top frame; 0 and 0 without one.
+pub(crate) fn origin(frames: &[u64], m: Machine) -> Origin
+    requires { ⌜ m .depth * 6 ≤ length (now frames) ⌝ }
+    ensures { λ r. ⌜ every (λ l. Reads l originOf (frame frames) (only m) r) ⌝ }
+{
+    if m.depth == 0 {
+        return Origin { func: 0, pc: 0 };
+    }
+    let i = m.depth - 1;
+    Origin {
+        func: tables::frame::func_at(frames, i),
+        pc: tables::frame::pc_at(frames, i),
+    }
+}
+
+// The word that a fault is raised as: its own, or that of an error object. 9 and 10 pass.
+pub(crate) fn thrown(slots: &mut [u64], m: Machine, l: Sizes, fault: Fault, at: Origin) -> MadeDid
+    requires { ⌜ Room (now slots) (heapOf m l) ⌝ }
+    ensures { λ r. ⌜ Met any l (thrown fault at) (table slots) (only m) (only (r .machine)) (r .answer) ⌝ }
+{
+    let kind = fault.number();
+    if kind == 17 {
+        return MadeDid {
+            machine: m,
+            answer: Made::Word(fault.word()),
+        };
+    }
+    if kind <= 8 {
+        let costs = l.costs;
+        let o = Object::Error {
+            kind,
+            func: at.func,
+            pc: at.pc,
+            payload: Word::NIL,
+        };
+        return alloc_plain(slots, m, l, costs.error, o);
+    }
+    MadeDid {
+        machine: m,
+        answer: Made::Refused(fault),
+    }
+}
+
+// A fault from 1 to 10, or 17, in the top frame.
+pub(crate) fn raise(
+    stack: &mut [u64],
+    frames: &mut [u64],
+    chain: &mut [u64],
+    slots: &mut [u64],
+    saved_stack: &mut [u64],
+    saved_frames: &mut [u64],
+    setup: &[u64],
+    m: Machine,
+    l: Sizes,
+    fuel: Fuel,
+    fault: Fault,
+) -> Unwound
+    requires { ⌜ RaiseFits l (sixSetup stack frames chain slots «saved_stack» «saved_frames» setup now) m fuel fault ⌝ }
+    ensures { λ r. ⌜ Met ifSound l (unwindFault fault) (sixSetup stack frames chain slots «saved_stack» «saved_frames» setup) (with m fuel) (with (r .machine) (r .fuel)) (r .answer) ⌝ }
+{
+    let at = origin(frames, m);
+    let did = thrown(slots, m, l, fault, at);
+    let n = did.machine;
+    let made = did.answer;
+    match made {
+        Made::Refused(f) => Unwound {
+            machine: n,
+            fuel,
+            answer: Answer::Refused(f),
+        },
+        Made::Word(v) => search(
+            stack,
+            frames,
+            chain,
+            slots,
+            saved_stack,
+            saved_frames,
+            setup,
+            n,
+            l,
+            fuel,
+            v,
+            at.func,
+            at.pc,
+        ),
+    }
+}
+
+// 01: "a fault 1 to 10, or 17 with its word (else 11)"
+fn is_raisable(fault: Fault) -> bool
+    ensures { λ r. ⌜ r ≡ raisable fault ⌝ }
+{
+    let n = fault.number();
+    if n == 17 {
+        return true;
+    }
+    if n == 0 {
+        return false;
+    }
+    n <= 10
+}
+
+// A pc that is given goes to the top frame, if there is one.
+fn store_some(frames: &mut [u64], m: Machine, pc: OptPc)
+    requires { ⌜ m .depth * 6 ≤ length (now frames) ⌝ }
+    ensures { λ _. ⌜ every (λ l. Leaves any l (storeSome pc) (frame frames) (only m) (only m)) ⌝ }
+{
+    if m.depth == 0 {
+        return;
+    }
+    match pc {
+        OptPc::None => {}
+        OptPc::Some(p) => machine::frame::store_pc(frames, m, p as u64),
+    }
+}
+
+// machine.rs: unwind.
+pub fn unwind(
+    stack: &mut [u64],
+    frames: &mut [u64],
+    chain: &mut [u64],
+    slots: &mut [u64],
+    saved_stack: &mut [u64],
+    saved_frames: &mut [u64],
+    setup: &[u64],
+    m: Machine,
+    l: Sizes,
+    fuel: Fuel,
+    fault: Fault,
+    pc: OptPc,
+) -> Unwound
+    requires { ⌜ UnwindFits l (sixSetup stack frames chain slots «saved_stack» «saved_frames» setup now) m fuel pc ⌝ }
+    ensures { λ r. ⌜ Met ifSound l (unwind fault pc) (sixSetup stack frames chain slots «saved_stack» «saved_frames» setup) (with m fuel) (with (r .machine) (r .fuel)) (r .answer) ⌝ }
+{
+    if !is_raisable(fault) {
+        return Unwound {
+            machine: m,
+            fuel,
+            answer: Answer::Refused(Fault::Unsound),
+        };
+    }
+    store_some(frames, m, pc);
+    raise(
+        stack,
+        frames,
+        chain,
+        slots,
+        saved_stack,
+        saved_frames,
+        setup,
+        m,
+        l,
+        fuel,
+        fault,
+    )
+}
