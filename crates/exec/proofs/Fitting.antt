@@ -103,7 +103,15 @@ module _ (l : Sizes) (s f c o r q u : List ℕ) (m : Machine) (fuel : Fuel) (op 
   throw-fits pc dst k src e = resuming pc dst k src (passed _ e) (narrow _ e)
 
   pub close-fits : (pc dst k src : ℕ) → op ≡ Op.CoroClose pc dst k src → CloseFits l s f c o r q m pc dst k src
-  close-fits pc dst k src e = record { given = resuming pc dst k src (passed _ e) (narrow _ e); result = regs-in (dst ∷ k ∷ src ∷ []) 0 (passed _ e) (omega arith) }
+  close-fits pc dst k src e =
+      let ks = dst ∷ k ∷ src ∷ [] in
+      record {
+        ok = six-ok;
+        narrow = narrow _ e;
+        result = regs-in ks 0 (passed _ e) (omega arith);
+        coro = regs-in ks 1 (passed _ e) (omega arith);
+        signal = regs-in ks 2 (passed _ e) (omega arith);
+      }
 
   pub next-fits : (pc has iter val src : ℕ) → op ≡ Op.IterNext pc has iter val src → NextFits l s f c o r q m pc has iter src
   next-fits pc has iter val src e =
