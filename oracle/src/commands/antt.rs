@@ -1,21 +1,23 @@
 //! Runs of the original as antt: for each call a theorem, by computation, that the model's `step` gives the answer and the
 //! whole state that the original gave; and for damaged states that `sound` tells them apart.
 
-use std::collections::BTreeMap;
+use std::collections::{BTreeMap, BTreeSet};
 use std::fmt::Write as _;
 use std::fs;
 use std::path::Path;
 
+use oracle::broken::{changed, BROKEN, KEPT};
 use oracle::call::{Answer, Call, Case, Kind, Step};
 use oracle::engine::Engine;
 use oracle::generate::{sequence, Rng, Sequence};
+use oracle::recorded::replay;
 use oracle::sound::sound;
 use oracle::world::{Active, Cont, Coro, Costs, Driver, Frame, Func, Object, Setup, Slot, State, Stop, World};
 
 use super::fuzz::{rng, LENGTH};
 use super::trace::damage;
 
-/// Sequences in one file, and damaged states.
+/// Sequences in one file, and states.
 const EACH: usize = 10;
 const STATES: usize = 50;
 
@@ -292,7 +294,7 @@ fn answer(k: &Call, a: &Answer) -> String {
     }
 }
 
-/// The calls of one sequence on the original, as theorems; how many there are.
+/// The calls of sequence `i` on the original, as theorems `tI-J` from states `sI-J`; how many there are.
 fn theorems(text: &mut String, original: &mut dyn Engine, i: usize, s: &Sequence) -> usize {
     original.load(&s.start);
     let mut was = s.start.clone();
@@ -313,13 +315,13 @@ fn theorems(text: &mut String, original: &mut dyn Engine, i: usize, s: &Sequence
     s.calls.len()
 }
 
-/// Sequences as files of a crate's specs, a line of `root` for each file.
-fn traces(original: &mut dyn Engine, all: &[Sequence], dir: &Path, root: &mut String) -> Result<(), String> {
+/// Sequences, the first of number `first`, as files of a crate's specs, a line of `root` for each file.
+fn traces(original: &mut dyn Engine, all: &[Sequence], first: usize, dir: &Path, root: &mut String) -> Result<(), String> {
     let mut calls = 0;
     for (file, part) in all.chunks(EACH).enumerate() {
         let mut text = String::from(HEAD);
         for (i, s) in part.iter().enumerate() {
-            calls += theorems(&mut text, original, i, s);
+            calls += theorems(&mut text, original, first + EACH * file + i, s);
         }
         save(dir, &format!("Trace{file}"), &text, root)?;
     }
@@ -332,7 +334,7 @@ fn save(dir: &Path, name: &str, text: &str, root: &mut String) -> Result<(), Str
     fs::write(dir.join(format!("{name}.antt")), text).map_err(|e| e.to_string())
 }
 
-/// Damaged states of which no rule, and no good one, is met more than `most` times among `tries`.
+/// Random damaged states of which no rule, and no good one, is met more than `most` times among `tries`.
 fn choose(costs: Costs, seed: u64, tries: u64, most: usize) -> Vec<(World, bool)> {
     let mut rng = Rng::new(seed);
     let mut met: BTreeMap<&str, usize> = BTreeMap::new();
@@ -349,15 +351,25 @@ fn choose(costs: Costs, seed: u64, tries: u64, most: usize) -> Vec<(World, bool)
     all
 }
 
-/// Damaged states, and whether each is sound.
-fn states(all: &[(World, bool)], dir: &Path, root: &mut String) -> Result<(), String> {
+/// The states at the edge of each rule, by hand.
+fn edges() -> Vec<(World, bool)> {
+    let broken = BROKEN.iter().map(|&c| (changed(c), false));
+    let all: Vec<(World, bool)> = broken.chain(KEPT.iter().map(|&c| (changed(c), true))).collect();
+    let rules: BTreeSet<&str> = BROKEN.iter().map(|&(rule, _)| rule).collect();
+    println!("antt: {} states at edges, {} of them sound, {} rules broken", all.len(), KEPT.len(), rules.len());
+    all
+}
+
+/// States, and whether each is sound, in files of a name: theorem `dI` of state `wI`.
+fn states(all: &[(World, bool)], name: &str, dir: &Path, root: &mut String) -> Result<(), String> {
     for (file, part) in all.chunks(STATES).enumerate() {
         let mut text = String::from(HEAD);
         for (i, (w, good)) in part.iter().enumerate() {
+            let i = STATES * file + i;
             let _ = writeln!(text, "\nabbrev w{i} : World\nw{i} = {}", world(w, None));
             let _ = writeln!(text, "d{i} : sound w{i} ≡ {good}\nunfolding computed\nd{i} = refl");
         }
-        save(dir, &format!("Damaged{file}"), &text, root)?;
+        save(dir, &format!("{name}{file}"), &text, root)?;
     }
     Ok(())
 }
@@ -366,10 +378,13 @@ fn finish(dir: &Path, root: &str) -> Result<(), String> {
     fs::write(dir.join("Lib.antt"), root).map_err(|e| e.to_string())
 }
 
-/// Damaged states of `seed`, with each rule broken up to `n` times.
+/// The states at the edges, and damaged ones of `seed`, each rule broken up to `n` times.
 pub(crate) fn damaged(costs: Costs, seed: u64, n: u64, dir: &Path) -> Result<(), String> {
     let mut root = String::new();
-    states(&choose(costs, seed, 200_000, n as usize), dir, &mut root)?;
+    states(&edges(), "Edge", dir, &mut root)?;
+    if n > 0 {
+        states(&choose(costs, seed, 200_000, n as usize), "Damaged", dir, &mut root)?;
+    }
     finish(dir, &root)
 }
 
@@ -377,17 +392,20 @@ pub(crate) fn damaged(costs: Costs, seed: u64, n: u64, dir: &Path) -> Result<(),
 pub(crate) fn random(original: &mut dyn Engine, costs: Costs, seed: u64, n: u64, dir: &Path) -> Result<(), String> {
     let mut root = String::new();
     let all: Vec<Sequence> = (0..n).map(|i| sequence(&mut rng(seed, i), costs, LENGTH)).collect();
-    traces(original, &all, dir, &mut root)?;
+    traces(original, &all, 0, dir, &mut root)?;
     finish(dir, &root)
 }
 
-/// The recorded sequences `from` up to `to`.
-pub(crate) fn recorded(original: &mut dyn Engine, from: usize, to: usize, dir: &Path) -> Result<(), String> {
+/// The recorded sequences `from` up to `to`; the engine must give what is recorded.
+pub(crate) fn recorded(engine: &mut dyn Engine, from: usize, to: usize, dir: &Path) -> Result<(), String> {
     let mut root = String::new();
-    let all: Vec<Sequence> = super::recorded::load()?
-        .into_iter()
-        .map(|r| Sequence { start: r.start, calls: r.lines.into_iter().map(|l| l.call).collect() })
-        .collect();
-    traces(original, &all[from.min(all.len())..to.min(all.len())], dir, &mut root)?;
+    let all = super::recorded::load()?;
+    let (from, to) = (from.min(all.len()), to.min(all.len()));
+    let mut part = Vec::new();
+    for (i, r) in all.into_iter().enumerate().take(to).skip(from) {
+        replay(engine, &r).map_err(|j| format!("sequence {i} differs at its call {j}"))?;
+        part.push(Sequence { start: r.start, calls: r.lines.into_iter().map(|l| l.call).collect() });
+    }
+    traces(engine, &part, from, dir, &mut root)?;
     finish(dir, &root)
 }

@@ -28,7 +28,7 @@ const USAGE: &str = "usage: oracle COMMAND
   mutants           wrong engines against recorded/answers.txt
   antt SEED N DIR   N random sequences as theorems about the definitions
   antt-recorded FROM TO DIR   recorded sequences as theorems
-  antt-damaged SEED N DIR     damaged states as theorems, each rule broken up to N times
+  antt-damaged SEED N DIR     states at each rule's edge as theorems, and damaged ones, each rule broken up to N times
   bench             the original's speed, the proved functions' beside it, and others'";
 
 #[cfg(not(original))]

@@ -34,6 +34,9 @@ impl Engine for Original {
         if let Some(number) = gate(&self.world, call) {
             return Answer::plain(number);
         }
+        if !matches!(call, Call::SetUp(_)) {
+            assert_eq!(self.world.setup.costs, bridge::costs(), "costs of another build");
+        }
         let answer = match call {
             Call::SetUp(s) => {
                 *self = Original::new(&World::fresh((**s).clone()));
@@ -66,9 +69,9 @@ impl Original {
         Original::new(&World::fresh(setup))
     }
 
-    /// Takes over a sound state whose costs are this build's.
+    /// Takes over a sound state. No call but a set-up follows one whose costs
+    /// are not this build's.
     pub(crate) fn new(w: &World) -> Original {
-        assert_eq!(w.setup.costs, bridge::costs(), "costs of another build");
         let prog = bridge::program(&w.setup);
         let m = bridge::machine(&prog, w);
         Original { prog, m, stack: w.stack.clone(), world: w.clone() }
