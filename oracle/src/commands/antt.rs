@@ -9,7 +9,9 @@ use std::path::Path;
 use oracle::broken::{changed, BROKEN, KEPT};
 use oracle::call::{Answer, Call, Case, Kind, Step};
 use oracle::engine::Engine;
+use oracle::examples::sizes_below;
 use oracle::generate::{sequence, Rng, Sequence};
+use oracle::plain::Plain;
 use oracle::recorded::replay;
 use oracle::sound::sound;
 use oracle::world::{Active, Cont, Coro, Costs, Driver, Frame, Func, Object, Setup, Slot, State, Stop, World};
@@ -33,6 +35,7 @@ const HEAD: &str = "use Prim.Native.Nat.{ℕ}
 use mathlib.Core.Path.{_≡_, refl}
 use mathlib.Core.Bool.{true, false}
 use mathlib.Core.List.{[], _∷_, _++_}
+use mathlib.Core.Option.{none, some}
 use lib.ListN.{set}
 use Rattle.heap.specs.Table.{slot}
 use Rattle.heap.specs.declared.fault.Fault.{Fault}
@@ -42,6 +45,7 @@ use Rattle.model.specs.Program.{Setup}
 use Rattle.model.specs.Object.{Object}
 use Rattle.model.specs.World.{World}
 use Rattle.model.specs.Sound.{sound}
+use Rattle.model.specs.Answer.{numberOf, wordOf, stepOf, takenOff}
 use Rattle.model.specs.Call.{SetUp, typed}
 use Rattle.model.specs.Step.{tested, step}
 use Rattle.model.specs.Compute.{computed}
@@ -294,11 +298,29 @@ fn answer(k: &Call, a: &Answer) -> String {
     }
 }
 
-/// The calls of sequence `i` on the original, as theorems `tI-J` from states `sI-J`; how many there are.
+/// What is claimed of an answer: its number and word, its Step, and the queue words that it took off.
+fn reading(text: &str, a: &Answer) -> String {
+    let refusal = fault(a.number, a.word);
+    let step = match a.step {
+        Step::None => "none".into(),
+        Step::Next => "some Step.Next".into(),
+        Step::Frame => "some Step.Frame".into(),
+        Step::Fault => format!("some (Step.Fault {refusal})"),
+        Step::Unwind => format!("some (Step.Unwind {refusal})"),
+    };
+    format!(
+        "(numberOf ({text}) ≡ {}) × (wordOf ({text}) ≡ {}) × (stepOf ({text}) ≡ {step}) × (takenOff ({text}) ≡ {})",
+        a.number, a.word, a.taken
+    )
+}
+
+/// The calls of sequence `i` on the original, as theorems `tI-J` from states `sI-J`, with a theorem `aI-J` for each new
+/// answer; how many calls there are.
 fn theorems(text: &mut String, original: &mut dyn Engine, i: usize, s: &Sequence) -> usize {
     original.load(&s.start);
     let mut was = s.start.clone();
     let mut name = format!("s{i}-0");
+    let mut answers = BTreeSet::new();
     let _ = writeln!(text, "\nabbrev {name} : World\n{name} = {}", world(&was, None));
     for (j, k) in s.calls.iter().enumerate() {
         let a = original.call(k);
@@ -307,9 +329,14 @@ fn theorems(text: &mut String, original: &mut dyn Engine, i: usize, s: &Sequence
         let next = format!("s{i}-{}", j + 1);
         let old = (!matches!(k, Call::SetUp(_))).then_some((&name[..], &was));
         let _ = writeln!(text, "\nabbrev {next} : World\n{next} = {}", world(&now, old));
-        let out = format!("record {{ world = {next}; answer = {}; seen = {seen} }}", answer(k, &a));
+        let told = answer(k, &a);
+        let out = format!("record {{ world = {next}; answer = {told}; seen = {seen} }}");
         let (statement, proof) = claim(k, &name, &out);
         let _ = writeln!(text, "t{i}-{j} : {statement}\nunfolding computed\nt{i}-{j} = {proof}");
+        let reading = reading(&told, &a);
+        if answers.insert(told) {
+            let _ = writeln!(text, "a{i}-{j} : {reading}\na{i}-{j} = (refl, refl, refl, refl)");
+        }
         (was, name) = (now, next);
     }
     s.calls.len()
@@ -360,14 +387,14 @@ fn edges() -> Vec<(World, bool)> {
     all
 }
 
-/// States, and whether each is sound, in files of a name: theorem `dI` of state `wI`.
-fn states(all: &[(World, bool)], name: &str, dir: &Path, root: &mut String) -> Result<(), String> {
+/// States, and whether each is sound, in files of a name: theorem I of state `wI`, with the letter before it.
+fn states(all: &[(World, bool)], name: &str, letter: char, dir: &Path, root: &mut String) -> Result<(), String> {
     for (file, part) in all.chunks(STATES).enumerate() {
         let mut text = String::from(HEAD);
         for (i, (w, good)) in part.iter().enumerate() {
             let i = STATES * file + i;
             let _ = writeln!(text, "\nabbrev w{i} : World\nw{i} = {}", world(w, None));
-            let _ = writeln!(text, "d{i} : sound w{i} ≡ {good}\nunfolding computed\nd{i} = refl");
+            let _ = writeln!(text, "{letter}{i} : sound w{i} ≡ {good}\nunfolding computed\n{letter}{i} = refl");
         }
         save(dir, &format!("{name}{file}"), &text, root)?;
     }
@@ -381,10 +408,15 @@ fn finish(dir: &Path, root: &str) -> Result<(), String> {
 /// The states at the edges, and damaged ones of `seed`, each rule broken up to `n` times.
 pub(crate) fn damaged(costs: Costs, seed: u64, n: u64, dir: &Path) -> Result<(), String> {
     let mut root = String::new();
-    states(&edges(), "Edge", dir, &mut root)?;
+    states(&edges(), "Edge", 'e', dir, &mut root)?;
     if n > 0 {
-        states(&choose(costs, seed, 200_000, n as usize), "Damaged", dir, &mut root)?;
+        states(&choose(costs, seed, 200_000, n as usize), "Damaged", 'd', dir, &mut root)?;
     }
+    // Not what the original answers: docs/DIFFERENCES.md, "Largest saved sizes below what is saved".
+    let (start, calls) = sizes_below(costs);
+    let mut text = String::from(HEAD);
+    theorems(&mut text, &mut Plain::default(), 0, &Sequence { start, calls: calls.into() });
+    save(dir, "Sizes", &text, &mut root)?;
     finish(dir, &root)
 }
 

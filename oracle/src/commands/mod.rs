@@ -22,6 +22,7 @@ const USAGE: &str = "usage: oracle COMMAND
   trace SEED N      N random sequences as text
   damaged SEED N    N states with one number changed, and whether each is sound
   examples          the paper's P1 to P8
+  sizes             largest sizes below the saved ones, on the original as it is
   record SEED N     writes recorded/answers.txt: N sequences or more
   verify            replays recorded/answers.txt
   show I            recorded sequence I as text
@@ -50,6 +51,7 @@ pub(crate) fn run(args: &[&str]) -> Result<(), String> {
             Ok(())
         }
         ["examples"] => examples(),
+        ["sizes"] => examples::sizes(COSTS),
         ["record", seed, n] => seeded(seed, n, recorded::record),
         ["verify"] => verify(),
         ["show", i] => recorded::show(number(i)?),

@@ -1,5 +1,7 @@
 //! Sequences written by hand, where random ones are silent.
 
+mod arms;
+
 use crate::call::{Call, Kind};
 use crate::generate::Sequence;
 use crate::word::{from_ref, NIL, REF_BASE};
@@ -273,5 +275,6 @@ pub fn all(costs: Costs) -> Vec<Sequence> {
     all.extend(no_function(costs));
     all.push(calls_of_none(costs));
     all.extend(set_ups(costs));
+    all.extend(arms::all(costs));
     all
 }
