@@ -576,11 +576,82 @@ fn refusals(costs: Costs) -> Vec<Sequence> {
     all.into_iter().map(Run::done).collect()
 }
 
+/// Each call that may enter, on a coroutine in each state.
+fn entries(costs: Costs) -> Vec<Sequence> {
+    let mut all = Vec::new();
+    for slot in 6..11 {
+        let c = from_ref(slot, 0);
+        for call in entering(c) {
+            let run = all_states(costs).change(|_| ()).with([put(1, c), put(4, 33)]);
+            let host = matches!(call, Call::HostEntry { .. });
+            let run = if host { run.with([Call::StopRun]) } else { run };
+            all.push(run.with([call]).settle().done());
+        }
+    }
+    all
+}
+
+/// One register for `has` and `val`; queue words taken off by an instruction
+/// of each Step.
+fn steps(costs: Costs) -> Vec<Sequence> {
+    let same = [new(0, 0), Call::MakeIterator { src: C }, put(1, D), next(2, 1, 2, 0), put(1, 7)];
+    let same = Run::host(costs, 3).with(same).with([YIELD, next(2, 1, 2, 0), VOID, Call::Look]);
+    // A queue of one Returned, and a bank.
+    let queued = |run: Run, slot| {
+        run.change(|w| {
+            let word = from_ref(slot, 0);
+            w.coro_mut(word).expect("made").finalized = true;
+            w.cleanup = vec![word];
+            (w.bank, w.fuel, w.close_ready) = (Some(5), 0, true);
+            w.setup.hook = Some(0);
+        })
+    };
+    let mut all = vec![same];
+    let asleep = [1, 2].map(|coro| {
+        [
+            Call::Resume { pc: 20, dst: 5, coro, src: 5 },
+            Call::ResumeThrow { pc: 21, dst: 5, coro, src: 5 },
+            Call::CoroClose { pc: 22, dst: 5, coro, src: 5 },
+            Call::Resume { pc: 23, dst: 5, coro: 3, src: 5 },
+            Call::CoroStatus { pc: 24, dst: 5, coro },
+        ]
+    });
+    for call in asleep.into_iter().flatten() {
+        all.push(queued(all_states(costs), 9).with([call, CURRENT]).settle());
+    }
+    // Spawn's own unit is the second; its coroutine is made.
+    for bank in [1, 2] {
+        let run = queued(all_states(costs), 9).change(|w| w.bank = Some(bank));
+        let spawn = Call::Spawn { pc: 15, dst: 4, callee: 5, argc: 0 };
+        let run = run.change(|w| w.stack[5] = from_ref(0, 0));
+        all.push(run.with([spawn, Call::Grant { fuel: 2 }, CURRENT]));
+    }
+    // Yields of a closing one, and in a loop, with words taken off.
+    let inside = |closing| {
+        let run = all_states(costs).with([next(5, 4, 3, 0)]);
+        queued(run, 9).change(move |w| w.coro_mut(C).expect("runs").closing = closing)
+    };
+    all.extend([
+        inside(true).with([YIELD]),
+        inside(false).with([YIELD]),
+        inside(false).with([AWAIT]),
+    ]);
+    all.into_iter().map(Run::done).collect()
+}
+
+/// Queues keep their order, and each its own marks.
+fn queues(costs: Costs) -> Vec<Sequence> {
+    let task = |slot| Call::SpawnTask { word: from_ref(slot, 0) };
+    let hand = |slot| Call::HandOver { coro: from_ref(slot, 0) };
+    let both = [task(8), task(6), task(7), task(8), task(9), hand(8), hand(7), hand(8)];
+    vec![all_states(costs).change(|_| ()).with(both).with([CURRENT, YIELD, CURRENT]).done()]
+}
+
 /// All of them.
 pub(super) fn all(costs: Costs) -> Vec<Sequence> {
     let parts = [
         operands, results, escapes, closes, cleanups, grants, registers, memory, keys, limits,
-        stops, refusals,
+        stops, refusals, entries, steps, queues,
     ];
     parts.iter().flat_map(|part| part(costs)).collect()
 }
