@@ -639,12 +639,17 @@ fn steps(costs: Costs) -> Vec<Sequence> {
     all.into_iter().map(Run::done).collect()
 }
 
-/// Queues keep their order, and each its own marks.
+/// Queues keep their order, and each its own marks; stop run clears an
+/// outcome.
 fn queues(costs: Costs) -> Vec<Sequence> {
     let task = |slot| Call::SpawnTask { word: from_ref(slot, 0) };
     let hand = |slot| Call::HandOver { coro: from_ref(slot, 0) };
     let both = [task(8), task(6), task(7), task(8), task(9), hand(8), hand(7), hand(8)];
-    vec![all_states(costs).change(|_| ()).with(both).with([CURRENT, YIELD, CURRENT]).done()]
+    let both = all_states(costs).change(|_| ()).with(both).with([CURRENT, YIELD, CURRENT]);
+    let entry = Call::HostEntry { coro: C, word: 6 };
+    let stopped = Run::host(costs, 3).with([new(0, 0), Call::StopRun, entry.clone(), YIELD]);
+    let stopped = stopped.with([Call::StopRun, Call::TakeOutcome, entry, AWAIT, Call::StopRun]);
+    [both, stopped].map(Run::done).into()
 }
 
 /// All of them.
