@@ -228,6 +228,15 @@ pub const BROKEN: &[Change] = &[
         w.slots[0].object = Object::Empty;
         w.slots[0].tag = 1;
     }),
+    // one more is active than there are Coro frames, below the others
+    ("each floor at a Coro frame", |w| {
+        let cont = w.frames[2].cont;
+        second(w);
+        w.frames[2].cont = cont;
+        let mut a = w.chain.pop().expect("just pushed");
+        (a.floor, a.driver) = (0, Driver::Host);
+        w.chain.insert(0, a);
+    }),
 ];
 
 /// Each keeps every rule: at the edge of one, or where there is none.

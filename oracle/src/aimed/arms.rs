@@ -640,7 +640,7 @@ fn steps(costs: Costs) -> Vec<Sequence> {
 }
 
 /// Queues keep their order, and each its own marks; stop run clears an
-/// outcome.
+/// outcome; Spawn without a hook makes nothing.
 fn queues(costs: Costs) -> Vec<Sequence> {
     let task = |slot| Call::SpawnTask { word: from_ref(slot, 0) };
     let hand = |slot| Call::HandOver { coro: from_ref(slot, 0) };
@@ -649,7 +649,9 @@ fn queues(costs: Costs) -> Vec<Sequence> {
     let entry = Call::HostEntry { coro: C, word: 6 };
     let stopped = Run::host(costs, 3).with([new(0, 0), Call::StopRun, entry.clone(), YIELD]);
     let stopped = stopped.with([Call::StopRun, Call::TakeOutcome, entry, AWAIT, Call::StopRun]);
-    [both, stopped].map(Run::done).into()
+    let spawn = Call::Spawn { pc: 15, dst: 0, callee: 2, argc: 0 };
+    let hookless = Run::host(costs, 1).with([put(2, from_ref(0, 0)), spawn]);
+    [both, stopped, hookless].map(Run::done).into()
 }
 
 /// All of them.
