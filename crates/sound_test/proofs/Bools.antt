@@ -1,0 +1,37 @@
+-- Tests that hold together. Assumes nothing.
+use mathlib.Core.Path.{_≡_, refl, sym, ap, _∙_}
+use mathlib.Core.Bool.{Bool, true, false, _&&_}
+use Prim.Native.Nat.{ℕ}
+use borrow.Author.Tests.{eqb-true, eq-eqb}
+use lib.Dec.{eqb}
+use Rattle.invariant.proofs.Tests.{no-true}
+
+-- two tests are equal where each follows from the other
+pub iff : (a b : Bool) → (a ≡ true → b ≡ true) → (b ≡ true → a ≡ true) → a ≡ b
+iff true true f g = refl
+iff true false f g = sym (f refl)
+iff false true f g = g refl
+iff false false f g = refl
+
+-- a test from which one that fails would follow fails
+pub fails : (a b : Bool) → (a ≡ true → b ≡ true) → b ≡ false → a ≡ false
+fails true b f e = no-true (sym (f refl) ∙ e)
+fails false b f e = refl
+
+pub and-true : (b : Bool) → (b && true) ≡ b
+and-true true = refl
+and-true false = refl
+
+pub and-assoc : (a b c : Bool) → ((a && b) && c) ≡ (a && (b && c))
+and-assoc true b c = refl
+and-assoc false b c = refl
+
+pub eqb-flip : (a b : ℕ) → eqb a b ≡ eqb b a
+eqb-flip a b = iff (eqb a b) (eqb b a) (λ e. eq-eqb b a (sym (eqb-true a b e))) (λ e. eq-eqb a b (sym (eqb-true b a e)))
+
+-- two tests, one after the other
+pub first-fails : (t z w b : Bool) → (t && z) ≡ w → b ≡ t → b ≡ false → false ≡ w
+first-fails t z w b e p q = sym (ap (λ x. x && z) (sym p ∙ q)) ∙ e
+
+pub second-decides : (t z w b c : Bool) → (t && z) ≡ w → b ≡ t → b ≡ true → c ≡ z → c ≡ w
+second-decides t z w b c e p q r = r ∙ sym (ap (λ x. x && z) (sym p ∙ q)) ∙ e

@@ -1,0 +1,5 @@
+pub mod Bools
+pub mod Joined
+pub mod Conts
+pub mod OneFrame
+pub mod Tower
