@@ -145,18 +145,22 @@ held-slots xs ws n s =
 pub row-exact : (w : ℕ) (c xs : List ℕ) → length c ≡ w → length xs ≤ w → c ≡ pad (length c) xs → inRow w xs ≡ c
 row-exact w c xs l h e = inRow-pad w xs h ∙ ap (λ n. pad n xs) (sym l) ∙ sym e
 
+-- records that are read from their places, in order
 module _ {A : Type 0} (enc : A → List ℕ) (w : ℕ) (f : ℕ → A) (ws : List ℕ) where
-  tabled-words : (i n : ℕ) → ((j : ℕ) → j < i + n → inRow w (enc (f j)) ≡ chunkAt w ws j) → words (λ x. inRow w (enc x)) (tabled f i n) ≡ part (i * w) (n * w) ws
+  pub tabled-words : (i n : ℕ) → ((j : ℕ) → j < i + n → enc (f j) ≡ chunkAt w ws j) → words enc (tabled f i n) ≡ part (i * w) (n * w) ws
   tabled-words i zero h = rw zero-mul
   tabled-words i (suc n) h =
       ap₂ (λ (a b : List ℕ). a ++ b) (h i (omega arith)) (tabled-words (suc i) n (λ j g. h j (omega arith)))
       ∙ ap (λ (z : List ℕ). chunkAt w ws i ++ take (n * w) z) (ap (λ k. drop k ws) (suc-mul i w) ∙ sym (drop-drop w (i * w) ws))
       ∙ sym (take-add w (n * w) (drop (i * w) ws)) ∙ ap (λ k. take k (drop (i * w) ws)) (let e : w + n * w ≡ suc n * w = omega (arith, suc-mul n w) in e)
 
+  pub tabled-all : (n : ℕ) → ((j : ℕ) → j < n → enc (f j) ≡ chunkAt w ws j) → words enc (tabled f 0 n) ≡ take (n * w) ws
+  tabled-all n h = tabled-words 0 n (λ j g. h j (omega arith)) ∙ ap (λ k. part k (n * w) ws) (zero-mul w)
+
+module _ {A : Type 0} (enc : A → List ℕ) (w : ℕ) (f : ℕ → A) (ws : List ℕ) where
   pub rows-held : (n : ℕ) → n * w ≤ length ws → ((j : ℕ) → j < n → inRow w (enc (f j)) ≡ chunkAt w ws j) → restOk ws (n * w) ≡ true → Rows enc w (tabled f 0 n) ws
   rows-held n h row e =
-      let all : words (λ x. inRow w (enc x)) (tabled f 0 n) ≡ take (n * w) ws =
-      tabled-words 0 n (λ j g. row j (omega arith)) ∙ ap (λ k. part k (n * w) ws) (zero-mul w) in
+      let all : words (λ x. inRow w (enc x)) (tabled f 0 n) ≡ take (n * w) ws = tabled-all (λ x. inRow w (enc x)) w f ws n row in
       rows-of enc w (length ws) (tabled f 0 n) ws (f 0) (rest-padded ws (n * w) h e ∙ ap (pad (length ws)) (sym all))
       (subst (λ k. k * w ≤ length ws) (sym (length-tabled f 0 n)) h)
 

@@ -35,3 +35,29 @@ first-fails t z w b e p q = sym (ap (λ x. x && z) (sym p ∙ q)) ∙ e
 
 pub second-decides : (t z w b c : Bool) → (t && z) ≡ w → b ≡ t → b ≡ true → c ≡ z → c ≡ w
 second-decides t z w b c e p q r = r ∙ sym (ap (λ x. x && z) (sym p ∙ q)) ∙ e
+
+-- seven tests, one after the other: the first that fails decides, or the last
+module _ (a b c d e f g w : Bool) where
+  abbrev pub Seven : Type 0
+  Seven = (a && b && c && d && e && f && g) ≡ w
+
+  pub stop-1 : Seven → a ≡ false → false ≡ w
+  stop-1 q h = sym (rw h) ∙ q
+
+  pub stop-2 : Seven → a ≡ true → b ≡ false → false ≡ w
+  stop-2 q p h = sym (rw (p, h)) ∙ q
+
+  pub stop-3 : Seven → a ≡ true → b ≡ true → c ≡ false → false ≡ w
+  stop-3 q p₁ p₂ h = sym (rw (p₁, p₂, h)) ∙ q
+
+  pub stop-4 : Seven → a ≡ true → b ≡ true → c ≡ true → d ≡ false → false ≡ w
+  stop-4 q p₁ p₂ p₃ h = sym (rw (p₁, p₂, p₃, h)) ∙ q
+
+  pub stop-5 : Seven → a ≡ true → b ≡ true → c ≡ true → d ≡ true → e ≡ false → false ≡ w
+  stop-5 q p₁ p₂ p₃ p₄ h = sym (rw (p₁, p₂, p₃, p₄, h)) ∙ q
+
+  pub stop-6 : Seven → a ≡ true → b ≡ true → c ≡ true → d ≡ true → e ≡ true → f ≡ false → false ≡ w
+  stop-6 q p₁ p₂ p₃ p₄ p₅ h = sym (rw (p₁, p₂, p₃, p₄, p₅, h)) ∙ q
+
+  pub decides : (r : Bool) → Seven → a ≡ true → b ≡ true → c ≡ true → d ≡ true → e ≡ true → f ≡ true → r ≡ g → r ≡ w
+  decides r q p₁ p₂ p₃ p₄ p₅ p₆ h = h ∙ sym (rw (p₁, p₂, p₃, p₄, p₅, p₆)) ∙ q

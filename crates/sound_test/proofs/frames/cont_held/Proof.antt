@@ -5,25 +5,40 @@ use Rattle.sound_test.proofs.frames.cont_held.Statement.{statement}
 use Rattle.sound_test.proofs.frames.cont_held.Tie as tie
 
 returns : tie.Need-returns
-returns c = held-0 (c .before .args .code) (c .before .args .r) (c .match .keys1)
+returns c =
+    let start = c .before in
+    held-0 (start .args .code) (start .args .r) (c .match .keys1)
 
 returns-2 : tie.Need-returns-2
-returns-2 c = held-1 (c .before .args .code) (c .before .args .r) (c .match .keys2)
+returns-2 c =
+    let start = c .before in
+    held-1 (start .args .code) (start .args .r) (c .match .keys2)
 
 returns-3 : tie.Need-returns-3
-returns-3 c = held-2 (c .before .args .code) (c .before .args .r) (c .match .keys3)
+returns-3 c =
+    let start = c .before in
+    held-2 (start .args .code) (start .args .r) (c .match .keys3)
 
 returns-4 : tie.Need-returns-4
-returns-4 c = held-3 (c .before .args .code) (c .before .args .r) (c .match .keys4)
+returns-4 c =
+    let start = c .before in
+    held-3 (start .args .code) (start .args .r) (c .match .keys4)
 
 returns-5 : tie.Need-returns-5
-returns-5 c = held-4 (c .before .args .code) (c .before .args .r) (c .match .keys5)
+returns-5 c =
+    let start = c .before in
+    held-4 (start .args .code) (start .args .r) (c .match .keys5)
 
 returns-6 : tie.Need-returns-6
-returns-6 c = held-5 (c .before .args .code) (c .before .args .r) (c .match .keys6)
+returns-6 c =
+    let start = c .before in
+    held-5 (start .args .code) (start .args .r) (c .match .keys6)
 
 returns-7 : tie.Need-returns-7
-returns-7 c = let r = c .match .rest in sym (none-held (c .before .args .code) (c .before .args .r) (r .0 .0 .0 .0 .0 .1) (r .0 .0 .0 .0 .1) (r .0 .0 .0 .1) (r .0 .0 .1) (r .0 .1) (r .1))
+returns-7 c =
+    let start = c .before in
+    let r = c .match .rest in
+    sym (none-held (start .args .code) (start .args .r) (r .0 .0 .0 .0 .0 .1) (r .0 .0 .0 .0 .1) (r .0 .0 .0 .1) (r .0 .0 .1) (r .0 .1) (r .1))
 
 pub cont-held-spec : {M : Type 1} → statement M
 cont-held-spec =

@@ -15,16 +15,24 @@ lies-under-requires-3 : tie.Need-lies-under-requires-3
 lies-under-requires-3 c κs = search needs
 
 returns : tie.Need-returns
-returns c = let a = c .before .before .before .args in lies-one (a .code) (a .r) (a .end) _ (c .lies-under .result) (c .before .match .keys1) (c .lies-under .ensures)
+returns c =
+    let at-match = c .before in let start = at-match .before .before in
+    let a = start .args in lies-one (a .code) (a .r) (a .end) _ (c .lies-under .result) (at-match .match .keys1) (c .lies-under .ensures)
 
 returns-2 : tie.Need-returns-2
-returns-2 c = let a = c .before .before .before .args in lies-two (a .code) (a .r) (a .end) _ (c .lies-under2 .result) (c .before .match .keys2) (c .lies-under2 .ensures)
+returns-2 c =
+    let at-match = c .before in let start = at-match .before .before in
+    let a = start .args in lies-two (a .code) (a .r) (a .end) _ (c .lies-under2 .result) (at-match .match .keys2) (c .lies-under2 .ensures)
 
 returns-3 : tie.Need-returns-3
-returns-3 c = let a = c .before .before .before .args in lies-three (a .code) (a .r) (a .end) _ (c .lies-under3 .result) (c .before .match .keys3) (c .lies-under3 .ensures)
+returns-3 c =
+    let at-match = c .before in let start = at-match .before .before in
+    let a = start .args in lies-three (a .code) (a .r) (a .end) _ (c .lies-under3 .result) (at-match .match .keys3) (c .lies-under3 .ensures)
 
 returns-4 : tie.Need-returns-4
-returns-4 c = let a = c .before .before .args in let r = c .match .rest in sym (lies-none (a .code) (a .r) (a .end) _ (r .0 .0 .1) (r .0 .1) (r .1))
+returns-4 c =
+    let start = c .before .before in
+    let a = start .args in let r = c .match .rest in sym (lies-none (a .code) (a .r) (a .end) _ (r .0 .0 .1) (r .0 .1) (r .1))
 
 pub cont-lies-spec : {M : Type 1} → statement M
 cont-lies-spec =

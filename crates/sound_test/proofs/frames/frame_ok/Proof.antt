@@ -44,13 +44,17 @@ shared-slice-read-r : tie.Need-shared-slice-read-r
 shared-slice-read-r c = search needs
 
 returns : tie.Need-returns
-returns c = let a = c .before .before .before .before .before .before .before .args in stop-base (a .saved) (a .setup .now) (a .ws .now) (a .i) (a .end) (c .if1 .taken)
+returns c =
+    let start = c .before .before .before .before .before .before .before in
+    let a = start .args in stop-base (a .saved) (a .setup .now) (a .ws .now) (a .i) (a .end) (c .if1 .taken)
 
 shared-slice-read-if2 : tie.Need-shared-slice-read-if2
 shared-slice-read-if2 c = search needs
 
 returns-2 : tie.Need-returns-2
-returns-2 c = let a = c .before .before .before .before .before .before .before .before .before .args in stop-func (a .saved) (a .setup .now) (a .ws .now) (a .i) (a .end) (c .before .before .if1 .left) (c .if2 .taken)
+returns-2 c =
+    let at-if1 = c .before .before in let start = at-if1 .before .before .before .before .before .before .before in
+    let a = start .args in stop-func (a .saved) (a .setup .now) (a .ws .now) (a .i) (a .end) (at-if1 .if1 .left) (c .if2 .taken)
 
 add-if3 : tie.Need-add-if3
 add-if3 c = search needs
@@ -62,36 +66,52 @@ shared-slice-read-if3 : tie.Need-shared-slice-read-if3
 shared-slice-read-if3 c = search needs
 
 returns-3 : tie.Need-returns-3
-returns-3 c = let a = c .before .before .before .before .before .before .before .before .before .before .before .args in stop-pc (a .saved) (a .setup .now) (a .ws .now) (a .i) (a .end) (c .before .before .before .before .if1 .left) (c .before .before .if2 .left) (c .if3 .taken)
+returns-3 c =
+    let at-if2 = c .before .before in let at-if1 = at-if2 .before .before in let start = at-if1 .before .before .before .before .before .before .before in
+    let a = start .args in stop-pc (a .saved) (a .setup .now) (a .ws .now) (a .i) (a .end) (at-if1 .if1 .left) (at-if2 .if2 .left) (c .if3 .taken)
 
 mul-if4 : tie.Need-mul-if4
-mul-if4 c = omega (arith, functions-long (c .before .before .before .before .before .before .before .before .before .before .before .args .setup .now), c .before .before .before .before .before .before .before .before .before .before .before .pre .catches .few)
+mul-if4 c =
+    let start = c .before .before .before .before .before .before .before .before .before .before .before in
+    omega (arith, functions-long (start .args .setup .now), start .pre .catches .few)
 
 element-copy-out-if4 : tie.Need-element-copy-out-if4
-element-copy-out-if4 c = omega (arith, functions-long (c .before .before .before .before .before .before .before .before .before .before .before .args .setup .now), c .before .before .before .before .before .before .before .before .before .before .before .pre .catches .few)
+element-copy-out-if4 c =
+    let start = c .before .before .before .before .before .before .before .before .before .before .before in
+    omega (arith, functions-long (start .args .setup .now), start .pre .catches .few)
 
 returns-4 : tie.Need-returns-4
-returns-4 c = let a = c .before .before .before .before .before .before .before .before .before .before .before .before .before .args in stop-catch (a .saved) (a .setup .now) (a .ws .now) (a .i) (a .end) (c .before .before .before .before .before .before .if1 .left) (c .before .before .before .before .if2 .left) (c .before .before .if3 .left) (a .need .now) (c .before .before .before .before .before .before .before .before .before .before .before .before .before .pre .catches) (c .if4 .taken)
+returns-4 c =
+    let at-if3 = c .before .before in let at-if2 = at-if3 .before .before in let at-if1 = at-if2 .before .before in let start = at-if1 .before .before .before .before .before .before .before in
+    let a = start .args in stop-catch (a .saved) (a .setup .now) (a .ws .now) (a .i) (a .end) (at-if1 .if1 .left) (at-if2 .if2 .left) (at-if3 .if3 .left) (a .need .now) (start .pre .catches) (c .if4 .taken)
 
 cont-held-requires : tie.Need-cont-held-requires
 cont-held-requires c κs = search needs
 
 returns-5 : tie.Need-returns-5
-returns-5 c = let a = c .before .before .before .before .before .before .before .before .before .before .before .before .before .before .before .args in stop-cont (a .saved) (a .setup .now) (a .ws .now) (a .i) (a .end) (c .before .before .before .before .before .before .before .before .if1 .left) (c .before .before .before .before .before .before .if2 .left) (c .before .before .before .before .if3 .left) (a .need .now) (c .before .before .before .before .before .before .before .before .before .before .before .before .before .before .before .pre .catches) (c .before .before .if4 .left) (c .before .cont-held .result) (c .before .cont-held .ensures) (not-true _ (c .if5 .taken))
+returns-5 c =
+    let at-cont-held = c .before in let at-if4 = at-cont-held .before in let at-if3 = at-if4 .before .before in let at-if2 = at-if3 .before .before in let at-if1 = at-if2 .before .before in let start = at-if1 .before .before .before .before .before .before .before in
+    let a = start .args in stop-cont (a .saved) (a .setup .now) (a .ws .now) (a .i) (a .end) (at-if1 .if1 .left) (at-if2 .if2 .left) (at-if3 .if3 .left) (a .need .now) (start .pre .catches)
+    (at-if4 .if4 .left) (at-cont-held .cont-held .result) (at-cont-held .cont-held .ensures) (not-true _ (c .if5 .taken))
 
 place-ok-requires : tie.Need-place-ok-requires
 place-ok-requires c κs = search needs
 
 returns-6 : tie.Need-returns-6
-returns-6 c = let a = c .before .before .before .before .before .before .before .before .before .before .before .before .before .before .before .before .before .args in stop-place (a .saved) (a .setup .now) (a .ws .now) (a .i) (a .end) (c .before .before .before .before .before .before .before .before .before .before .if1 .left) (c .before .before .before .before .before .before .before .before .if2 .left) (c .before .before .before .before .before .before .if3 .left) (a .need .now) (c .before .before .before .before .before .before .before .before .before .before .before .before .before .before .before .before .before .pre .catches) (c .before .before .before .before .if4 .left) (sym (c .before .before .before .cont-held .ensures) ∙ not-false _ (c .before .before .if5 .left))
-    (c .before .place-ok .result) (c .before .place-ok .ensures) (not-true _ (c .if6 .taken))
+returns-6 c =
+    let at-place-ok = c .before in let at-if5 = at-place-ok .before in let at-cont-held = at-if5 .before in let at-if4 = at-cont-held .before in let at-if3 = at-if4 .before .before in let at-if2 = at-if3 .before .before in let at-if1 = at-if2 .before .before in let start = at-if1 .before .before .before .before .before .before .before in
+    let a = start .args in stop-place (a .saved) (a .setup .now) (a .ws .now) (a .i) (a .end) (at-if1 .if1 .left) (at-if2 .if2 .left) (at-if3 .if3 .left) (a .need .now) (start .pre .catches)
+    (at-if4 .if4 .left) (sym (at-cont-held .cont-held .ensures) ∙ not-false _ (at-if5 .if5 .left)) (at-place-ok .place-ok .result) (at-place-ok .place-ok .ensures) (not-true _ (c .if6 .taken))
 
 cont-lies-requires : tie.Need-cont-lies-requires
 cont-lies-requires c κs = search needs
 
 returns-7 : tie.Need-returns-7
-returns-7 c = let a = c .before .before .before .before .before .before .before .before .before .before .before .before .before .before .before .before .before .before .args in last (a .saved) (a .setup .now) (a .ws .now) (a .i) (a .end) (c .before .before .before .before .before .before .before .before .before .before .before .if1 .left) (c .before .before .before .before .before .before .before .before .before .if2 .left) (c .before .before .before .before .before .before .before .if3 .left) (a .need .now) (c .before .before .before .before .before .before .before .before .before .before .before .before .before .before .before .before .before .before .pre .catches) (c .before .before .before .before .before .if4 .left) (sym (c .before .before .before .before .cont-held .ensures) ∙ not-false _ (c .before .before .before .if5 .left))
-    (c .before .before .place-ok .result) (c .cont-lies .result) (c .before .before .place-ok .ensures) (not-false _ (c .before .if6 .left)) (c .cont-lies .ensures)
+returns-7 c =
+    let at-if6 = c .before in let at-place-ok = at-if6 .before in let at-if5 = at-place-ok .before in let at-cont-held = at-if5 .before in let at-if4 = at-cont-held .before in let at-if3 = at-if4 .before .before in let at-if2 = at-if3 .before .before in let at-if1 = at-if2 .before .before in let start = at-if1 .before .before .before .before .before .before .before in
+    let a = start .args in last (a .saved) (a .setup .now) (a .ws .now) (a .i) (a .end) (at-if1 .if1 .left) (at-if2 .if2 .left) (at-if3 .if3 .left) (a .need .now) (start .pre .catches)
+    (at-if4 .if4 .left) (sym (at-cont-held .cont-held .ensures) ∙ not-false _ (at-if5 .if5 .left)) (at-place-ok .place-ok .result) (c .cont-lies .result) (at-place-ok .place-ok .ensures)
+    (not-false _ (at-if6 .if6 .left)) (c .cont-lies .ensures)
 
 pub frame-ok-spec : {M : Type 1} → statement M
 frame-ok-spec =

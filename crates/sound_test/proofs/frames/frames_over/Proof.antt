@@ -22,31 +22,47 @@ sub-i : tie.Need-sub-i Inv-loop μ-loop
 sub-i c = omega arith
 
 frame-ok-requires : tie.Need-frame-ok-requires Inv-loop μ-loop
-frame-ok-requires c κs = record { inside = omega (arith, c .before .before .before .before .pre .inside); catches = c .before .before .before .before .pre .catches; numbers = c .before .before .before .before .pre .numbers }
+frame-ok-requires c κs =
+    let start = c .before .before .before .before in
+    record { inside = omega (arith, start .pre .inside); catches = start .pre .catches; numbers = start .pre .numbers }
 
 returns : tie.Need-returns Inv-loop μ-loop
-returns c = let a = c .before .before .before .before .before .before .args in frames-stop (a .saved) (setupOf (a .setup .now)) (a .ws .now) (c .before .before .before .loop .i) (c .before .before .before .loop .e) _ (c .before .before .before .loop .inv .1) (c .before .frame-ok .result) (c .before .before .loop-test .taken) (c .before .frame-ok .ensures) (not-true _ (c .if1 .taken))
+returns c =
+    let at-frame-ok = c .before in let at-loop-test = at-frame-ok .before in let at-loop = at-loop-test .before in let start = at-loop .before .before .before in
+    let a = start .args in frames-stop (a .saved) (setupOf (a .setup .now)) (a .ws .now) (at-loop .loop .i) (at-loop .loop .e) _ (at-loop .loop .inv .1) (at-frame-ok .frame-ok .result) (at-loop-test .loop-test .taken) (at-frame-ok .frame-ok .ensures) (not-true _ (c .if1 .taken))
 
 mul-e : tie.Need-mul-e Inv-loop μ-loop
-mul-e c = omega (arith, c .before .before .before .before .before .before .pre .inside)
+mul-e c =
+    let start = c .before .before .before .before .before .before in
+    omega (arith, start .pre .inside)
 
 add-e : tie.Need-add-e Inv-loop μ-loop
-add-e c = omega (arith, c .before .before .before .before .before .before .pre .inside)
+add-e c =
+    let start = c .before .before .before .before .before .before in
+    omega (arith, start .pre .inside)
 
 mul-e-2 : tie.Need-mul-e-2 Inv-loop μ-loop
-mul-e-2 c = omega (arith, c .before .before .before .before .before .before .pre .inside)
+mul-e-2 c =
+    let start = c .before .before .before .before .before .before in
+    omega (arith, start .pre .inside)
 
 shared-slice-read-e : tie.Need-shared-slice-read-e Inv-loop μ-loop
-shared-slice-read-e c = omega (arith, c .before .before .before .before .before .before .before .pre .inside)
+shared-slice-read-e c =
+    let start = c .before .before .before .before .before .before .before in
+    omega (arith, start .pre .inside)
 
 loop-less : tie.Need-loop-less Inv-loop μ-loop
 loop-less c = omega arith
 
 loop-again : tie.Need-loop-again Inv-loop μ-loop
-loop-again c = let a = c .before .before .before .before .before .before .before .args in (omega arith, frames-more (a .saved) (setupOf (a .setup .now)) (a .ws .now) (c .before .before .before .before .loop .i) (c .before .before .before .before .loop .e) _ (c .before .before .before .before .loop .inv .1) (c .before .before .frame-ok .result) (c .before .before .before .loop-test .taken) (c .before .before .frame-ok .ensures) (not-false _ (c .before .if1 .left)))
+loop-again c =
+    let at-if1 = c .before in let at-frame-ok = at-if1 .before in let at-loop-test = at-frame-ok .before in let at-loop = at-loop-test .before in let start = at-loop .before .before .before in
+    let a = start .args in (omega arith, frames-more (a .saved) (setupOf (a .setup .now)) (a .ws .now) (at-loop .loop .i) (at-loop .loop .e) _ (at-loop .loop .inv .1) (at-frame-ok .frame-ok .result) (at-loop-test .loop-test .taken) (at-frame-ok .frame-ok .ensures) (not-false _ (at-if1 .if1 .left)))
 
 returns-2 : tie.Need-returns-2 Inv-loop μ-loop
-returns-2 c = let a = c .before .before .before .before .args in frames-end (a .saved) (setupOf (a .setup .now)) (a .ws .now) (c .before .loop .i) (c .before .loop .e) _ (c .before .loop .inv .1) (c .loop-test .left)
+returns-2 c =
+    let at-loop = c .before in let start = at-loop .before .before .before in
+    let a = start .args in frames-end (a .saved) (setupOf (a .setup .now)) (a .ws .now) (at-loop .loop .i) (at-loop .loop .e) _ (at-loop .loop .inv .1) (c .loop-test .left)
 
 pub frames-over-spec : {M : Type 1} → statement M
 frames-over-spec =

@@ -28,10 +28,14 @@ sub-result : tie.Need-sub-result
 sub-result c = search needs
 
 returns-2 : tie.Need-returns-2
-returns-2 c = let a = c .before .before .before .args in under-near (a .ws .now) (a .i) (a .r) (a .end) (omega arith) (c .if2 .taken)
+returns-2 c =
+    let start = c .before .before .before in
+    let a = start .args in under-near (a .ws .now) (a .i) (a .r) (a .end) (omega arith) (c .if2 .taken)
 
 returns-3 : tie.Need-returns-3
-returns-3 c = let a = c .before .before .before .args in sym (under-far (a .ws .now) (a .i) (a .r) (a .end) (omega arith) (c .if2 .left))
+returns-3 c =
+    let start = c .before .before .before in
+    let a = start .args in sym (under-far (a .ws .now) (a .i) (a .r) (a .end) (omega arith) (c .if2 .left))
 
 pub lies-under-spec : {M : Type 1} → statement M
 lies-under-spec =

@@ -1,7 +1,7 @@
 -- `saved_frames_ok` meets its contract. Assumes nothing.
-use native.Mathlib.Omega.{arith}
 use borrow.Author.Tests.{not-true, not-false}
 use Rattle.words.specs.Decode.{setupOf}
+use native.Mathlib.Omega.{arith}
 use Rattle.sound_test.proofs.Bools.{first-fails, second-decides}
 use Rattle.sound_test.proofs.Tower.{saved-frames, no-frames}
 use borrow.Author.Needs.{needs}
@@ -9,13 +9,18 @@ use Rattle.sound_test.proofs.frames.saved_frames_ok.Statement.{statemen
 use Rattle.sound_test.proofs.frames.saved_frames_ok.Tie as tie
 
 returns : tie.Need-returns
-returns c = let a = c .before .before .before .args in no-frames (setupOf (a .setup .now)) (a .ws .now) (a .n) (a .regs) (c .if1 .taken)
+returns c =
+    let start = c .before .before .before in
+    let a = start .args in no-frames (setupOf (a .setup .now)) (a .ws .now) (a .n) (a .regs) (c .if1 .taken)
 
 frames-over-requires : tie.Need-frames-over-requires
 frames-over-requires c κs = search needs
 
 returns-2 : tie.Need-returns-2
-returns-2 c = let a = c .before .before .before .before .before .args in first-fails _ _ _ (c .before .frames-over .result) (saved-frames (setupOf (a .setup .now)) (a .ws .now) (a .n) (a .regs) (c .before .before .before .before .before .pre .inside) (omega arith)) (c .before .frames-over .ensures) (not-true _ (c .if2 .taken))
+returns-2 c =
+    let at-frames-over = c .before in let start = at-frames-over .before .before .before .before in
+    let a = start .args in
+    first-fails _ _ _ (at-frames-over .frames-over .result) (saved-frames (setupOf (a .setup .now)) (a .ws .now) (a .n) (a .regs) (start .pre .inside) (omega arith)) (at-frames-over .frames-over .ensures) (not-true _ (c .if2 .taken))
 
 mul-rest-ok : tie.Need-mul-rest-ok
 mul-rest-ok c = search needs
@@ -24,7 +29,10 @@ rest-ok-requires : tie.Need-rest-ok-requires
 rest-ok-requires c κs = search needs
 
 returns-3 : tie.Need-returns-3
-returns-3 c = let a = c .before .before .before .before .before .before .args in second-decides _ _ _ (c .before .before .frames-over .result) (c .rest-ok .result) (saved-frames (setupOf (a .setup .now)) (a .ws .now) (a .n) (a .regs) (c .before .before .before .before .before .before .pre .inside) (omega arith)) (c .before .before .frames-over .ensures) (not-false _ (c .before .if2 .left)) (c .rest-ok .ensures)
+returns-3 c =
+    let at-if2 = c .before in let at-frames-over = at-if2 .before in let start = at-frames-over .before .before .before .before in
+    let a = start .args in
+    second-decides _ _ _ (at-frames-over .frames-over .result) (c .rest-ok .result) (saved-frames (setupOf (a .setup .now)) (a .ws .now) (a .n) (a .regs) (start .pre .inside) (omega arith)) (at-frames-over .frames-over .ensures) (not-false _ (at-if2 .if2 .left)) (c .rest-ok .ensures)
 
 pub saved-frames-ok-spec : {M : Type 1} → statement M
 saved-frames-ok-spec =

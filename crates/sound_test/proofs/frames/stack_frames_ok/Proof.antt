@@ -1,5 +1,4 @@
 -- `stack_frames_ok` meets its contract. Assumes nothing.
-use native.Mathlib.Omega.{arith}
 use borrow.Author.Tests.{not-true, not-false}
 use Rattle.words.specs.Decode.{setupOf}
 use Rattle.sound_test.proofs.Bools.{first-fails, second-decides}
@@ -12,7 +11,10 @@ frames-over-requires : tie.Need-frames-over-requires
 frames-over-requires c κs = search needs
 
 returns : tie.Need-returns
-returns c = let a = c .before .before .before .before .args in first-fails _ _ _ (c .before .frames-over .result) (stack-frames (setupOf (a .setup .now)) (a .ws .now) (a .n) (a .height) (c .before .before .before .before .pre .inside)) (c .before .frames-over .ensures) (not-true _ (c .if1 .taken))
+returns c =
+    let at-frames-over = c .before in let start = at-frames-over .before .before .before in
+    let a = start .args in
+    first-fails _ _ _ (at-frames-over .frames-over .result) (stack-frames (setupOf (a .setup .now)) (a .ws .now) (a .n) (a .height) (start .pre .inside)) (at-frames-over .frames-over .ensures) (not-true _ (c .if1 .taken))
 
 mul-rest-ok : tie.Need-mul-rest-ok
 mul-rest-ok c = search needs
@@ -21,7 +23,10 @@ rest-ok-requires : tie.Need-rest-ok-requires
 rest-ok-requires c κs = search needs
 
 returns-2 : tie.Need-returns-2
-returns-2 c = let a = c .before .before .before .before .before .args in second-decides _ _ _ (c .before .before .frames-over .result) (c .rest-ok .result) (stack-frames (setupOf (a .setup .now)) (a .ws .now) (a .n) (a .height) (c .before .before .before .before .before .pre .inside)) (c .before .before .frames-over .ensures) (not-false _ (c .before .if1 .left)) (c .rest-ok .ensures)
+returns-2 c =
+    let at-if1 = c .before in let at-frames-over = at-if1 .before in let start = at-frames-over .before .before .before in
+    let a = start .args in
+    second-decides _ _ _ (at-frames-over .frames-over .result) (c .rest-ok .result) (stack-frames (setupOf (a .setup .now)) (a .ws .now) (a .n) (a .height) (start .pre .inside)) (at-frames-over .frames-over .ensures) (not-false _ (at-if1 .if1 .left)) (c .rest-ok .ensures)
 
 pub stack-frames-ok-spec : {M : Type 1} → statement M
 stack-frames-ok-spec =
