@@ -45,7 +45,7 @@ use Rattle.words.specs.Decode.{setupOf, worldOf}
 use Rattle.words.proofs.Encoded.{every-world, length-setup}
 use Rattle.words.proofs.Decoded.{one-world, sound-words}
 use Rattle.sound.specs.Words.{restOk, framesHeld, outcomeHeld, fitsRow, soundWords}
-use Rattle.sound.specs.Exactly.{Stands, Exactly, SoundWords}
+use Rattle.sound.specs.Exactly.{Stands, Exactly, Tested}
 use Rattle.sound.proofs.Held.{same-true, true-same, rest-padded, padded-rest, run-held, held-run, piled-held, held-piled, slots-held, held-slots, row-exact, rows-held, row-chunk, rows-rest}
 use Rattle.sound.proofs.Rowed.{RowOk, row-ok, objects-same}
 use Rattle.sound.proofs.Passed.{Counts, Passed, room-of, of-room, counts-of, of-counts, passed, passes}
@@ -307,8 +307,8 @@ exactly M m f =
         let k = sound-words (h .sound) (h .rep) in
         passes M m f (all-pass M m f (k .rep) (k .sound) (subst (λ (x : World). Room (x .setup) M) q (h .room)))
 
-pub sound-words-exactly : SoundWords
-sound-words-exactly =
+pub tested : Tested
+tested =
     record {
       exactly = exactly;
       own = λ w e. let k = every-world .encoded w e in exactly (wordsOf w) (numbersOf w) (w .fuel) .passes w (record { rep = k .rep; sound = e; room = k .room });

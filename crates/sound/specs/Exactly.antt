@@ -25,7 +25,7 @@ module _ (M : Lent) (m : Machine) (f : Fuel) where
     -- and that world is what they decode to
     pub one : (w : World) → Stands M m f w → worldOf M m f ≡ w
 
-pub record SoundWords : Type 0 where
+pub record Tested : Type 0 where
   pub exactly : (M : Lent) (m : Machine) (f : Fuel) → Exactly M m f
   -- the words of every sound world pass
   pub own : (w : World) → sound w ≡ true → soundWords (wordsOf w) (numbersOf w) (w .fuel) ≡ true

@@ -61,3 +61,14 @@ module _ (a b c d e f g w : Bool) where
 
   pub decides : (r : Bool) → Seven → a ≡ true → b ≡ true → c ≡ true → d ≡ true → e ≡ true → f ≡ true → r ≡ g → r ≡ w
   decides r q p₁ p₂ p₃ p₄ p₅ p₆ h = h ∙ sym (rw (p₁, p₂, p₃, p₄, p₅, p₆)) ∙ q
+
+-- three
+module _ (a b c w : Bool) where
+  pub three-1 : (a && b && c) ≡ w → a ≡ false → false ≡ w
+  three-1 q h = sym (rw h) ∙ q
+
+  pub three-2 : (a && b && c) ≡ w → a ≡ true → b ≡ false → false ≡ w
+  three-2 q p h = sym (rw (p, h)) ∙ q
+
+  pub three-3 : (r : Bool) → (a && b && c) ≡ w → a ≡ true → b ≡ true → r ≡ c → r ≡ w
+  three-3 r q p₁ p₂ h = h ∙ sym (rw (p₁, p₂)) ∙ q

@@ -4,7 +4,7 @@ use mathlib.Core.Bool.{Bool, true, false, _&&_, _||_}
 use mathlib.Core.List.{List, [], _∷_, _++_}
 use Prim.Native.Nat.{ℕ, _+_, _-_, _*_, _≤_, _<_}
 use native.Mathlib.Omega.{arith}
-use borrow.Author.Tests.{eqb-true, eqb-false, eq-eqb, ne-eqb, leb-true, le-leb}
+use borrow.Author.Tests.{eqb-true, eq-eqb, ne-eqb, leb-true, le-leb}
 use lib.Dec.{eqb, leb}
 use lib.ListN.{length, getD, take, drop, replicate, length-take}
 use lib.Seq.{drop-drop, take-add}
@@ -17,7 +17,7 @@ use Rattle.lists.proofs.Tables.{words-at}
 use Rattle.heap.specs.declared.value.Opt.{Opt}
 use Rattle.model.specs.Lists.{each}
 use Rattle.model.specs.Program.{Func, Setup, funcOf, noFunc, between, limitsOk, costsOk, handlerOk, functionOk, hookOk, setupOk}
-use Rattle.invariant.proofs.Tests.{no-false, and-left, and-right, both, each-at, at-each}
+use Rattle.invariant.proofs.Tests.{and-left, and-right, both, each-at, at-each}
 use Rattle.tables.specs.Layout.{functionIn, functionWords, handlersFrom}
 use Rattle.tables.specs.Sizes.{hookWords, numbersWords, setupWords, limitsOf, costsOf, hookOf}
 use Rattle.tables.proofs.Codes.{length-function}

@@ -1,14 +1,14 @@
 -- A function's words: what they decode to has them exactly if the words of handlers that it has not are 0. Assumes nothing.
-use mathlib.Core.Path.{_≡_, refl, sym, ap, ap₂, _∙_, subst}
-use mathlib.Core.Bool.{Bool, true, false, _&&_}
+use mathlib.Core.Path.{_≡_, refl, sym, ap, ap₂, _∙_}
+use mathlib.Core.Bool.{true}
 use mathlib.Core.List.{List, [], _∷_, _++_}
 use Prim.Native.Nat.{ℕ, zero, suc, _+_, _-_, _*_, _≤_, _<_}
 use native.Mathlib.Omega.{arith}
-use native.Mathlib.Nat.{add-zero, le-of-suc-le-suc}
-use lib.ListN.{length, getD, take, drop, replicate, length-append, length-drop, length-replicate, length-take, take-append-drop, replicate-append-replicate}
-use lib.Seq.{length-take-le, drop-cons, drop-drop, take-add, take-nil, getD-take}
+use native.Mathlib.Nat.{le-of-suc-le-suc}
+use lib.ListN.{length, getD, take, drop, replicate, length-take, replicate-append-replicate}
+use lib.Seq.{length-take-le, drop-cons, drop-drop, take-nil, getD-take}
 use Rattle.lists.specs.Parts.{part}
-use Rattle.lists.specs.Tests.{allBelow, zeros}
+use Rattle.lists.specs.Tests.{zeros}
 use Rattle.lists.proofs.Tests.{zeros-are, are-zeros, holds-at, holds-all}
 use Rattle.model.specs.Lists.{each}
 use Rattle.model.specs.Program.{Func, handlerOk, funcOf}
@@ -16,7 +16,6 @@ use Rattle.model.specs.declared.program.Handler.{Handler}
 use Rattle.invariant.proofs.Tests.{each-at, at-each}
 use Rattle.tables.specs.Layout.{handlerWords, handlerFrom, handlersFrom, handlersWords, functionWords, functionFrom}
 use Rattle.tables.proofs.Padded.{length-part}
-use Rattle.tables.proofs.Codes.{length-handlers}
 use Rattle.sound_test.specs.Setup.{handlersTest}
 use Rattle.sound_test.proofs.Bools.{iff}
 

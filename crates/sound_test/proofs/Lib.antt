@@ -6,3 +6,8 @@ pub mod Tower
 pub mod Handlers
 pub mod Closing
 pub mod Hooks
+pub mod Bits
+pub mod Seen
+pub mod Named
+pub mod Beside
+pub mod Marks

@@ -16,8 +16,8 @@ use Rattle.model.specs.Program.{Setup, func}
 use Rattle.model.specs.Frames.{isEntry, isCoro}
 use Rattle.model.specs.Sound.{basesOk, frameNames, contLies, contsLie, catchesLie, framesOver, entryLast, bodyLast}
 use Rattle.model.specs.declared.machine.Frame.{Frame}
-use Rattle.invariant.proofs.Tests.{no-false, and-left, and-right, both}
-use Rattle.tables.specs.Layout.{contCode, contReg, contOf, frameWords, frameOf, frameIn}
+use Rattle.invariant.proofs.Tests.{and-left, and-right, both}
+use Rattle.tables.specs.Layout.{contReg, contOf, frameWords, frameOf, frameIn}
 use Rattle.tables.specs.Parts.{piled}
 use Rattle.sound.specs.Words.{same, coded, restOk, framesHeld}
 use Rattle.sound_test.specs.Frames.{contHeld, placeOk, frameTest, framesTest, stackFramesOk, savedFramesOk}

@@ -11,7 +11,6 @@ use Rattle.model.specs.Program.{Setup, func}
 use Rattle.model.specs.Frames.{isEntry, isCoro}
 use Rattle.model.specs.Sound.{frameNames, contLies, bodyLast, entryLast, framesOver}
 use Rattle.model.specs.declared.machine.Cont.{Cont}
-use Rattle.model.specs.declared.machine.Frame.{Frame}
 use Rattle.model.specs.declared.program.Handler.{Handler}
 use Rattle.tables.specs.Layout.{contCode, contReg, contOf, frameOf, frameIn}
 use Rattle.tables.specs.Parts.{piled}

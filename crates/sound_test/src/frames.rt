@@ -26,7 +26,7 @@ fn cont_held(code: u64, r: u64) -> bool
 }
 
 // Whether a register lies in the frame below the one at place i, which begins at `end`.
-fn lies_under(ws: &[u64], i: usize, r: u64, end: u64) -> bool
+pub(crate) fn lies_under(ws: &[u64], i: usize, r: u64, end: u64) -> bool
     requires { ⌜ i * 6 ≤ length (now ws) ⌝ }
     ensures { λ b. ⌜ b ≡ liesUnder r end (piled 6 frameOf i (now (ws .entry))) ⌝ }
 {

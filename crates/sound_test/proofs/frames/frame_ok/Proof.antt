@@ -82,7 +82,8 @@ element-copy-out-if4 c =
 
 returns-4 : tie.Need-returns-4
 returns-4 c =
-    let at-if3 = c .before .before in let at-if2 = at-if3 .before .before in let at-if1 = at-if2 .before .before in let start = at-if1 .before .before .before .before .before .before .before in
+    let at-if3 = c .before .before in let at-if2 = at-if3 .before .before in let at-if1 = at-if2 .before .before in
+    let start = at-if1 .before .before .before .before .before .before .before in
     let a = start .args in stop-catch (a .saved) (a .setup .now) (a .ws .now) (a .i) (a .end) (at-if1 .if1 .left) (at-if2 .if2 .left) (at-if3 .if3 .left) (a .need .now) (start .pre .catches) (c .if4 .taken)
 
 cont-held-requires : tie.Need-cont-held-requires
@@ -90,7 +91,8 @@ cont-held-requires c κs = search needs
 
 returns-5 : tie.Need-returns-5
 returns-5 c =
-    let at-cont-held = c .before in let at-if4 = at-cont-held .before in let at-if3 = at-if4 .before .before in let at-if2 = at-if3 .before .before in let at-if1 = at-if2 .before .before in let start = at-if1 .before .before .before .before .before .before .before in
+    let at-cont-held = c .before in let at-if4 = at-cont-held .before in let at-if3 = at-if4 .before .before in let at-if2 = at-if3 .before .before in
+    let at-if1 = at-if2 .before .before in let start = at-if1 .before .before .before .before .before .before .before in
     let a = start .args in stop-cont (a .saved) (a .setup .now) (a .ws .now) (a .i) (a .end) (at-if1 .if1 .left) (at-if2 .if2 .left) (at-if3 .if3 .left) (a .need .now) (start .pre .catches)
     (at-if4 .if4 .left) (at-cont-held .cont-held .result) (at-cont-held .cont-held .ensures) (not-true _ (c .if5 .taken))
 
@@ -99,7 +101,9 @@ place-ok-requires c κs = search needs
 
 returns-6 : tie.Need-returns-6
 returns-6 c =
-    let at-place-ok = c .before in let at-if5 = at-place-ok .before in let at-cont-held = at-if5 .before in let at-if4 = at-cont-held .before in let at-if3 = at-if4 .before .before in let at-if2 = at-if3 .before .before in let at-if1 = at-if2 .before .before in let start = at-if1 .before .before .before .before .before .before .before in
+    let at-place-ok = c .before in let at-if5 = at-place-ok .before in let at-cont-held = at-if5 .before in let at-if4 = at-cont-held .before in
+    let at-if3 = at-if4 .before .before in let at-if2 = at-if3 .before .before in let at-if1 = at-if2 .before .before in
+    let start = at-if1 .before .before .before .before .before .before .before in
     let a = start .args in stop-place (a .saved) (a .setup .now) (a .ws .now) (a .i) (a .end) (at-if1 .if1 .left) (at-if2 .if2 .left) (at-if3 .if3 .left) (a .need .now) (start .pre .catches)
     (at-if4 .if4 .left) (sym (at-cont-held .cont-held .ensures) ∙ not-false _ (at-if5 .if5 .left)) (at-place-ok .place-ok .result) (at-place-ok .place-ok .ensures) (not-true _ (c .if6 .taken))
 
@@ -108,7 +112,9 @@ cont-lies-requires c κs = search needs
 
 returns-7 : tie.Need-returns-7
 returns-7 c =
-    let at-if6 = c .before in let at-place-ok = at-if6 .before in let at-if5 = at-place-ok .before in let at-cont-held = at-if5 .before in let at-if4 = at-cont-held .before in let at-if3 = at-if4 .before .before in let at-if2 = at-if3 .before .before in let at-if1 = at-if2 .before .before in let start = at-if1 .before .before .before .before .before .before .before in
+    let at-if6 = c .before in let at-place-ok = at-if6 .before in let at-if5 = at-place-ok .before in let at-cont-held = at-if5 .before in
+    let at-if4 = at-cont-held .before in let at-if3 = at-if4 .before .before in let at-if2 = at-if3 .before .before in let at-if1 = at-if2 .before .before in
+    let start = at-if1 .before .before .before .before .before .before .before in
     let a = start .args in last (a .saved) (a .setup .now) (a .ws .now) (a .i) (a .end) (at-if1 .if1 .left) (at-if2 .if2 .left) (at-if3 .if3 .left) (a .need .now) (start .pre .catches)
     (at-if4 .if4 .left) (sym (at-cont-held .cont-held .ensures) ∙ not-false _ (at-if5 .if5 .left)) (at-place-ok .place-ok .result) (c .cont-lies .result) (at-place-ok .place-ok .ensures)
     (not-false _ (at-if6 .if6 .left)) (c .cont-lies .ensures)

@@ -56,7 +56,8 @@ loop-less c = omega arith
 
 loop-again : tie.Need-loop-again Inv-loop μ-loop
 loop-again c =
-    let at-if1 = c .before in let at-frame-ok = at-if1 .before in let at-loop-test = at-frame-ok .before in let at-loop = at-loop-test .before in let start = at-loop .before .before .before in
+    let at-if1 = c .before in let at-frame-ok = at-if1 .before in let at-loop-test = at-frame-ok .before in let at-loop = at-loop-test .before in
+    let start = at-loop .before .before .before in
     let a = start .args in (omega arith, frames-more (a .saved) (setupOf (a .setup .now)) (a .ws .now) (at-loop .loop .i) (at-loop .loop .e) _ (at-loop .loop .inv .1) (at-frame-ok .frame-ok .result) (at-loop-test .loop-test .taken) (at-frame-ok .frame-ok .ensures) (not-false _ (at-if1 .if1 .left)))
 
 returns-2 : tie.Need-returns-2 Inv-loop μ-loop

@@ -30,7 +30,8 @@ shared-slice-read-if2 c = search needs
 returns-2 : tie.Need-returns-2
 returns-2 c =
     let at-if1 = c .before .before in let start = at-if1 .before .before in
-    let ws = start .args .setup .now in let at = start .args .at in sym (rw (lt-ltb (getD ws (at + 3) 0) (start .args .regs) (at-if1 .if1 .left), le-ltb (getD ws at 0) (2 ^ 32) (c .if2 .taken)))
+    let ws = start .args .setup .now in
+    let at = start .args .at in sym (rw (lt-ltb (getD ws (at + 3) 0) (start .args .regs) (at-if1 .if1 .left), le-ltb (getD ws at 0) (2 ^ 32) (c .if2 .taken)))
 
 add-if3 : tie.Need-add-if3
 add-if3 c = search needs
@@ -44,7 +45,8 @@ shared-slice-read-if3 c = search needs
 returns-3 : tie.Need-returns-3
 returns-3 c =
     let at-if2 = c .before .before in let at-if1 = at-if2 .before .before in let start = at-if1 .before .before in
-    let ws = start .args .setup .now in let at = start .args .at in sym (rw (lt-ltb (getD ws (at + 3) 0) (start .args .regs) (at-if1 .if1 .left), lt-ltb (getD ws at 0) (2 ^ 32) (at-if2 .if2 .left), le-ltb (getD ws (at + 1) 0) (2 ^ 32) (c .if3 .taken)))
+    let ws = start .args .setup .now in
+    let at = start .args .at in sym (rw (lt-ltb (getD ws (at + 3) 0) (start .args .regs) (at-if1 .if1 .left), lt-ltb (getD ws at 0) (2 ^ 32) (at-if2 .if2 .left), le-ltb (getD ws (at + 1) 0) (2 ^ 32) (c .if3 .taken)))
 
 add-result : tie.Need-add-result
 add-result c = search needs
@@ -58,7 +60,8 @@ shared-slice-read-result c = search needs
 returns-4 : tie.Need-returns-4
 returns-4 c =
     let at-if3 = c .before in let at-if2 = at-if3 .before .before in let at-if1 = at-if2 .before .before in let start = at-if1 .before .before in
-    let ws = start .args .setup .now in let at = start .args .at in sym (rw (lt-ltb (getD ws (at + 3) 0) (start .args .regs) (at-if1 .if1 .left), lt-ltb (getD ws at 0) (2 ^ 32) (at-if2 .if2 .left), lt-ltb (getD ws (at + 1) 0) (2 ^ 32) (at-if3 .if3 .left)))
+    let ws = start .args .setup .now in
+    let at = start .args .at in sym (rw (lt-ltb (getD ws (at + 3) 0) (start .args .regs) (at-if1 .if1 .left), lt-ltb (getD ws at 0) (2 ^ 32) (at-if2 .if2 .left), lt-ltb (getD ws (at + 1) 0) (2 ^ 32) (at-if3 .if3 .left)))
 
 pub handler-ok-spec : {M : Type 1} → statement M
 handler-ok-spec =

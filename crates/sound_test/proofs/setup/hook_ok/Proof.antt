@@ -1,6 +1,4 @@
 -- `hook_ok` meets its contract. Assumes nothing.
-use mathlib.Core.Path.{sym, _∙_}
-use native.Mathlib.Omega.{arith}
 use Rattle.sound_test.proofs.Hooks.{none-held, bad-code, no-function, has-register}
 use borrow.Author.Needs.{needs}
 use Rattle.sound_test.proofs.setup.hook_ok.Statement.{statement}

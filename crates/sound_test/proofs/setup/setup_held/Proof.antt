@@ -39,7 +39,8 @@ limits-ok-requires c κs = search needs
 
 returns-2 : tie.Need-returns-2
 returns-2 c =
-    let at-limits-ok = c .before in let at-limits = at-limits-ok .before in let at-if1 = at-limits .before .before in let at-long-ok = at-if1 .before in let start = at-long-ok .before .before in
+    let at-limits-ok = c .before in let at-limits = at-limits-ok .before in let at-if1 = at-limits .before .before in let at-long-ok = at-if1 .before in
+    let start = at-long-ok .before .before in
     let ws = start .args .setup .now in
     stop-2 _ _ _ _ _ _ _ _ (setup-test ws)
     (sym (at-long-ok .long-ok .ensures) ∙ not-false _ (at-if1 .if1 .left))
@@ -57,7 +58,8 @@ costs-ok-requires c κs = search needs
 
 returns-3 : tie.Need-returns-3
 returns-3 c =
-    let at-costs-ok = c .before in let at-costs = at-costs-ok .before in let at-if2 = at-costs .before in let at-limits-ok = at-if2 .before in let at-limits = at-limits-ok .before in let at-if1 = at-limits .before .before in let at-long-ok = at-if1 .before in let start = at-long-ok .before .before in
+    let at-costs-ok = c .before in let at-costs = at-costs-ok .before in let at-if2 = at-costs .before in let at-limits-ok = at-if2 .before in
+    let at-limits = at-limits-ok .before in let at-if1 = at-limits .before .before in let at-long-ok = at-if1 .before in let start = at-long-ok .before .before in
     let ws = start .args .setup .now in
     stop-3 _ _ _ _ _ _ _ _ (setup-test ws)
     (sym (at-long-ok .long-ok .ensures) ∙ not-false _ (at-if1 .if1 .left))
@@ -80,7 +82,9 @@ shared-slice-read-if4-2 c =
 
 returns-4 : tie.Need-returns-4
 returns-4 c =
-    let at-if3 = c .before .before .before in let at-costs-ok = at-if3 .before in let at-costs = at-costs-ok .before in let at-if2 = at-costs .before in let at-limits-ok = at-if2 .before in let at-limits = at-limits-ok .before in let at-if1 = at-limits .before .before in let at-long-ok = at-if1 .before in let start = at-long-ok .before .before in
+    let at-if3 = c .before .before .before in let at-costs-ok = at-if3 .before in let at-costs = at-costs-ok .before in let at-if2 = at-costs .before in
+    let at-limits-ok = at-if2 .before in let at-limits = at-limits-ok .before in let at-if1 = at-limits .before .before in let at-long-ok = at-if1 .before in
+    let start = at-long-ok .before .before in
     let ws = start .args .setup .now in
     stop-4 _ _ _ _ _ _ _ _ (setup-test ws)
     (sym (at-long-ok .long-ok .ensures) ∙ not-false _ (at-if1 .if1 .left))
@@ -97,7 +101,9 @@ functions-ok-requires c κs =
 
 returns-5 : tie.Need-returns-5
 returns-5 c =
-    let at-functions-ok = c .before in let at-if4 = at-functions-ok .before in let at-if3 = at-if4 .before .before .before in let at-costs-ok = at-if3 .before in let at-costs = at-costs-ok .before in let at-if2 = at-costs .before in let at-limits-ok = at-if2 .before in let at-limits = at-limits-ok .before in let at-if1 = at-limits .before .before in let at-long-ok = at-if1 .before in let start = at-long-ok .before .before in
+    let at-functions-ok = c .before in let at-if4 = at-functions-ok .before in let at-if3 = at-if4 .before .before .before in let at-costs-ok = at-if3 .before in
+    let at-costs = at-costs-ok .before in let at-if2 = at-costs .before in let at-limits-ok = at-if2 .before in let at-limits = at-limits-ok .before in
+    let at-if1 = at-limits .before .before in let at-long-ok = at-if1 .before in let start = at-long-ok .before .before in
     let ws = start .args .setup .now in
     stop-5 _ _ _ _ _ _ _ _ (setup-test ws)
     (sym (at-long-ok .long-ok .ensures) ∙ not-false _ (at-if1 .if1 .left))
@@ -108,14 +114,18 @@ returns-5 c =
 
 hook-ok-requires : tie.Need-hook-ok-requires
 hook-ok-requires c κs =
-    let at-if1 = c .before .before .before .before .before .before .before .before .before .before .before .before in let at-long-ok = at-if1 .before in let start = at-long-ok .before .before in
+    let at-if1 = c .before .before .before .before .before .before .before .before .before .before .before .before in let at-long-ok = at-if1 .before in
+    let start = at-long-ok .before .before in
     let ws = start .args .setup .now in
     let l = long-of ws (sym (at-long-ok .long-ok .ensures) ∙ not-false _ (at-if1 .if1 .left)) in
     record { numbers = l .0; functions = l .1 }
 
 returns-6 : tie.Need-returns-6
 returns-6 c =
-    let at-hook-ok = c .before in let at-if5 = at-hook-ok .before in let at-functions-ok = at-if5 .before in let at-if4 = at-functions-ok .before in let at-if3 = at-if4 .before .before .before in let at-costs-ok = at-if3 .before in let at-costs = at-costs-ok .before in let at-if2 = at-costs .before in let at-limits-ok = at-if2 .before in let at-limits = at-limits-ok .before in let at-if1 = at-limits .before .before in let at-long-ok = at-if1 .before in let start = at-long-ok .before .before in
+    let at-hook-ok = c .before in let at-if5 = at-hook-ok .before in let at-functions-ok = at-if5 .before in let at-if4 = at-functions-ok .before in
+    let at-if3 = at-if4 .before .before .before in let at-costs-ok = at-if3 .before in let at-costs = at-costs-ok .before in let at-if2 = at-costs .before in
+    let at-limits-ok = at-if2 .before in let at-limits = at-limits-ok .before in let at-if1 = at-limits .before .before in let at-long-ok = at-if1 .before in
+    let start = at-long-ok .before .before in
     let ws = start .args .setup .now in
     stop-6 _ _ _ _ _ _ _ _ (setup-test ws)
     (sym (at-long-ok .long-ok .ensures) ∙ not-false _ (at-if1 .if1 .left))
@@ -127,14 +137,16 @@ returns-6 c =
 
 mul-rest-ok : tie.Need-mul-rest-ok
 mul-rest-ok c =
-    let at-if1 = c .before .before .before .before .before .before .before .before .before .before .before .before .before .before in let at-long-ok = at-if1 .before in let start = at-long-ok .before .before in
+    let at-if1 = c .before .before .before .before .before .before .before .before .before .before .before .before .before .before in let at-long-ok = at-if1 .before in
+    let start = at-long-ok .before .before in
     let ws = start .args .setup .now in
     let l = long-of ws (sym (at-long-ok .long-ok .ensures) ∙ not-false _ (at-if1 .if1 .left)) in
     omega (arith, l)
 
 add-rest-ok : tie.Need-add-rest-ok
 add-rest-ok c =
-    let at-if1 = c .before .before .before .before .before .before .before .before .before .before .before .before .before .before in let at-long-ok = at-if1 .before in let start = at-long-ok .before .before in
+    let at-if1 = c .before .before .before .before .before .before .before .before .before .before .before .before .before .before in let at-long-ok = at-if1 .before in
+    let start = at-long-ok .before .before in
     let ws = start .args .setup .now in
     let l = long-of ws (sym (at-long-ok .long-ok .ensures) ∙ not-false _ (at-if1 .if1 .left)) in
     omega (arith, l)
@@ -144,7 +156,10 @@ rest-ok-requires c κs = search needs
 
 returns-7 : tie.Need-returns-7
 returns-7 c =
-    let at-if6 = c .before in let at-hook-ok = at-if6 .before in let at-if5 = at-hook-ok .before in let at-functions-ok = at-if5 .before in let at-if4 = at-functions-ok .before in let at-if3 = at-if4 .before .before .before in let at-costs-ok = at-if3 .before in let at-costs = at-costs-ok .before in let at-if2 = at-costs .before in let at-limits-ok = at-if2 .before in let at-limits = at-limits-ok .before in let at-if1 = at-limits .before .before in let at-long-ok = at-if1 .before in let start = at-long-ok .before .before in
+    let at-if6 = c .before in let at-hook-ok = at-if6 .before in let at-if5 = at-hook-ok .before in let at-functions-ok = at-if5 .before in
+    let at-if4 = at-functions-ok .before in let at-if3 = at-if4 .before .before .before in let at-costs-ok = at-if3 .before in let at-costs = at-costs-ok .before in
+    let at-if2 = at-costs .before in let at-limits-ok = at-if2 .before in let at-limits = at-limits-ok .before in let at-if1 = at-limits .before .before in
+    let at-long-ok = at-if1 .before in let start = at-long-ok .before .before in
     let ws = start .args .setup .now in
     decides _ _ _ _ _ _ _ _ (c .rest-ok .result) (setup-test ws)
     (sym (at-long-ok .long-ok .ensures) ∙ not-false _ (at-if1 .if1 .left))
