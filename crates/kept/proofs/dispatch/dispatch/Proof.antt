@@ -43,7 +43,11 @@ unwind-requires c κs =
     let start = at-op2 .before .before .before .before .before .before .before .before .before .before .before in
     let a = start .args in let ok = start .pre .ok in let b = ok .beside in
     let g = at-op2 .op2 .given .0 in
-    record { ok = record { world = ok .world; beside = (record { words = behind start b; fuel = b .fuel }); rep = ok .rep; sound = ok .sound; room = ok .room }; narrow = unwind-narrow (a .op) (g .0) (g .1 .0) (at-op2 .op2 .given .1) (start .pre .within) }
+    record {
+      ok = record { world = ok .world; beside = (record { words = behind start b; fuel = b .fuel }); rep = ok .rep; sound = ok .sound; room = ok .room };
+      narrow = unwind-narrow (a
+          .op) (g .0) (g .1 .0) (at-op2 .op2 .given .1) (start .pre .within);
+    }
 
 enum-known-op-3 : tie.Need-enum-known-op-3
 enum-known-op-3 c = search needs
@@ -52,7 +56,16 @@ spawn-task-requires : tie.Need-spawn-task-requires
 spawn-task-requires c κs =
     let start = c .before .before .before .before .before .before .before .before .before .before .before .before .before .before in
     let a = start .args in let ok = start .pre .ok in let b = ok .beside in
-    record { sizes = a .l; ok = record { world = ok .world; beside = (record { words = under start (onFinalize (a .finalize .now) (onSetup (a .setup .now) (b .words))); fuel = a .fuel }); rep = ok .rep; sound = ok .sound; room = ok .room } }
+    record {
+      sizes = a .l;
+      ok = record {
+        world = ok .world;
+        beside = (record { words = under start (onFinalize (a .finalize .now) (onSetup (a .setup .now) (b .words))); fuel = a .fuel });
+        rep = ok .rep;
+        sound = ok .sound;
+        room = ok .room;
+      };
+    }
 
 made-as-requires : tie.Need-made-as-requires
 made-as-requires c κs = search needs
@@ -115,7 +128,17 @@ hand-over-requires : tie.Need-hand-over-requires
 hand-over-requires c κs =
     let start = c .before .before .before .before .before .before .before .before .before .before .before .before .before .before in
     let a = start .args in let ok = start .pre .ok in let b = ok .beside in
-    record { sizes = a .l; ok = record { world = ok .world; beside = (record { words = under start (onReady (a .ready .now) (onSetup (a .setup .now) (b .words))); fuel = a .fuel }); rep = ok .rep; sound = ok .sound; room = ok .room } }
+    record {
+      sizes = a .l;
+      ok = record {
+        world = ok .world;
+        beside = (record { words = under start (onReady (a .ready .now) (onSetup (a .setup .now) (b .words))); fuel = a .fuel });
+        rep = ok
+            .rep;
+        sound = ok .sound;
+        room = ok .room;
+      };
+    }
 
 enum-known-op-10 : tie.Need-enum-known-op-10
 enum-known-op-10 c = search needs
@@ -460,7 +483,8 @@ returns-14 c =
     let at-match = at-instruction .before .before .before .before .before .before .before .before in
     let start = at-match .before .before .before .before .before .before .before .before .before .before in
     let a = start .args in
-    λ w b rep snd. as-instruction (a .l) _ (at-instruction .instruction .result .machine) (at-instruction .instruction .result .fuel) w (a .op) (at-instruction .instruction .result .answer) (are-instructions (a .op) (at-match .match .keys14))
+    λ w b rep snd. as-instruction (a .l) _ (at-instruction .instruction .result .machine) (at-instruction .instruction .result .fuel) w (a .op) (at-instruction .instruction .result .answer)
+    (are-instructions (a .op) (at-match .match .keys14))
     (at-instruction .instruction .ensures w (record { words = onReady (a .ready .now) (b .words); fuel = b .fuel }) rep snd)
 
 pub dispatch-spec : {M : Type 1} → statement M

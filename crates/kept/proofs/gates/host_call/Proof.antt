@@ -28,7 +28,9 @@ returns-2 c =
     let at-is-function = c .before in let at-if1 = at-is-function .before in let start = at-if1 .before .before .before .before .before in
     let a = start .args in
     λ w b rep snd. as-host (a .l) _ (a .m) (b .fuel) w (Op.HostCall (a .f)) _ _ _ _ refl refl
-    (host-bad (a .l) (topSetup (a .stack .now) (a .frames .now) (a .setup .now) plain b) (a .m) (b .fuel) w _ _ (no-frames (w .frames) (a .frames .now) (a .m .depth) (rep .frames) (let h = at-if1 .if1 .left in omega arith)) (function-told (a .l) (topSetup (a .stack .now) (a .frames .now) (a .setup .now) plain b) (a .m) (b .fuel) w (a .f) _ rep (at-is-function .is-function .ensures) ∙ not-true _ (c .if2 .taken)) rep)
+    (host-bad (a .l) (topSetup (a .stack .now) (a .frames .now) (a .setup .now) plain b) (a .m) (b .fuel) w _ _ (no-frames (w .frames) (a .frames .now) (a .m .depth) (rep .frames) (let h =
+    at-if1 .if1 .left in omega arith)) (function-told (a .l) (topSetup (a .stack .now) (a .frames .now) (a .setup .now) plain b) (a .m) (b .fuel) w (a .f) _ rep (at-is-function
+    .is-function .ensures) ∙ not-true _ (c .if2 .taken)) rep)
 
 host-call-requires : tie.Need-host-call-requires
 host-call-requires c κs =
@@ -45,7 +47,8 @@ returns-3 c =
     let at-if1 = at-is-function .before in let start = at-if1 .before .before .before .before .before in
     let a = start .args in
     λ w b rep snd. as-host (a .l) _ _ (b .fuel) w (Op.HostCall (a .f)) _ _ _ _ refl refl
-    (host-past (a .l) _ _ (b .fuel) w _ _ _ (no-frames (w .frames) (a .frames .now) (a .m .depth) (rep .frames) (let h = at-if1 .if1 .left in omega arith)) (function-told (a .l) (topSetup (a .stack .now) (a .frames .now) (a .setup .now) plain b) (a .m) (b .fuel) w (a .f) _ rep (at-is-function .is-function .ensures) ∙ not-false _ (at-if2 .if2 .left))
+    (host-past (a .l) _ _ (b .fuel) w _ _ _ (no-frames (w .frames) (a .frames .now) (a .m .depth) (rep .frames) (let h = at-if1 .if1 .left in omega arith)) (function-told (a .l) (topSetup (a
+    .stack .now) (a .frames .now) (a .setup .now) plain b) (a .m) (b .fuel) w (a .f) _ rep (at-is-function .is-function .ensures) ∙ not-false _ (at-if2 .if2 .left))
     (at-host-call .host-call .ensures w b rep snd))
 
 pub host-call-spec : {M : Type 1} → statement M

@@ -14,7 +14,8 @@ returns c =
     let start = c .before .before .before .before .before .before .before .before in
     let a = start .args in
     λ w b rep snd. as-host (a .l) _ (a .m) (b .fuel) w (Op.HostEntry (a .c) (a .v)) _ _ _ _ refl refl
-    (busy (a .l) (six (a .stack .now) (a .frames .now) (a .chain .now) (a .slots .now) (a .saved-stack .now) (a .saved-frames .now) plain b) (a .m) (b .fuel) w _ _ (some-frames (w .frames) (a .frames .now) (a .m .depth) (rep .frames) (let h = c .if1 .taken in omega arith)) rep)
+    (busy (a .l) (six (a .stack .now) (a .frames .now) (a .chain .now) (a .slots .now) (a .saved-stack .now) (a .saved-frames .now) plain b) (a .m) (b .fuel) w _ _ (some-frames (w .frames)
+    (a .frames .now) (a .m .depth) (rep .frames) (let h = c .if1 .taken in omega arith)) rep)
 
 host-entry-requires : tie.Need-host-entry-requires
 host-entry-requires c κs = search needs

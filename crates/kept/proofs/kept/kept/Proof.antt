@@ -65,7 +65,9 @@ returns c =
     let did = at-dispatch .dispatch .ensures in
     record {
       met = did;
-      again = next-ok (a .l) (mem start) (all (at-dispatch .dispatch .last .0) (at-dispatch .dispatch .last .1 .0) (at-dispatch .dispatch .last .1 .1 .0) (at-dispatch .dispatch .last .1 .1 .1 .0) (at-dispatch .dispatch .last .1 .1 .1 .1 .0) (at-dispatch .dispatch .last .1 .1 .1 .1 .1 .0) (at-dispatch .dispatch .last .1 .1 .1 .1 .1 .1 .0) (at-dispatch .dispatch .last .1 .1 .1 .1 .1 .1 .1 .0) (a .setup .now) plain)
+      again = next-ok (a .l) (mem start) (all (at-dispatch .dispatch .last .0) (at-dispatch .dispatch .last .1 .0) (at-dispatch .dispatch .last .1 .1 .0) (at-dispatch .dispatch .last .1 .1
+          .1 .0) (at-dispatch .dispatch .last .1 .1 .1 .1 .0) (at-dispatch .dispatch .last .1 .1 .1 .1 .1 .0) (at-dispatch .dispatch .last .1 .1 .1 .1 .1 .1 .0) (at-dispatch .dispatch .last
+          .1 .1 .1 .1 .1 .1 .1 .0) (a .setup .now) plain)
           (with (a .m) (a .fuel)) (with (at-dispatch .dispatch .result .machine) (at-dispatch .dispatch .result .fuel)) (a .op) (at-dispatch .dispatch .result .answer) (start .pre .within) ok
           (record {
             stack = at-dispatch .dispatch .kept .0;
