@@ -67,8 +67,12 @@ loop-again : tie.Need-loop-again Inv-loop μ-loop
 loop-again c =
     let at-active-ok = c .before in let at-if1 = at-active-ok .before .before in let at-loop-test = at-if1 .before .before in let at-loop = at-loop-test .before in
     let start = at-loop .before .before .before in
-    let a = start .args in
-    (omega arith, omega arith, active-more (a .chain .now) (a .frames .now) (at-loop .loop .i) (at-loop .loop .k) _ (at-loop .loop .inv .2) (at-loop-test .loop-test .taken) (at-if1 .if1 .taken) (omega arith) (at-active-ok .active-ok .result) (at-active-ok .active-ok .ensures) (not-false _ (c .if3 .left)))
+    let a = start .args in (
+      omega arith,
+      omega arith,
+      active-more (a .chain .now) (a .frames .now) (at-loop .loop .i) (at-loop .loop .k) _ (at-loop .loop .inv .2) (at-loop-test .loop-test .taken)
+          (at-if1 .if1 .taken) (omega arith) (at-active-ok .active-ok .result) (at-active-ok .active-ok .ensures) (not-false _ (c .if3 .left)),
+    )
 
 loop-less-2 : tie.Need-loop-less-2 Inv-loop μ-loop
 loop-less-2 c = omega arith

@@ -95,7 +95,13 @@ returns-5 c =
     let at-if1 = at-if2 .before .before in let start = at-if1 .before .before .before in
     let ws = start .args .setup .now in let at = start .args .at in let k = getD ws (at + 2) 0 in
     let e : at + 35 - (at + 3 + k * 4) ≡ 32 - k * 4 = omega arith in
-    c .all-zero .ensures ∙ ap (λ n. zeros (part (at + 3 + k * 4) n ws)) e ∙ sym (rw (le-leb (getD ws at 0) 256 (at-if1 .if1 .left), le-leb (getD ws (at + 1) 0) (getD ws at 0) (at-if2 .if2 .left), le-leb k 8 (at-if3 .if3 .left), sym (at-handlers-ok .handlers-ok .ensures) ∙ not-false _ (at-if4 .if4 .left)))
+    c .all-zero .ensures ∙ ap (λ n. zeros (part (at + 3 + k * 4) n ws)) e ∙ sym (rw (
+      le-leb (getD ws at 0) 256 (at-if1 .if1 .left),
+      le-leb (getD ws (at + 1) 0)
+          (getD ws at 0) (at-if2 .if2 .left),
+      le-leb k 8 (at-if3 .if3 .left),
+      sym (at-handlers-ok .handlers-ok .ensures) ∙ not-false _ (at-if4 .if4 .left),
+    ))
 
 pub function-ok-spec : {M : Type 1} → statement M
 function-ok-spec =
