@@ -76,14 +76,10 @@ hook-worked hook pc dst c w = go (pushFrame hook nil (Cont.Value dst) (storePc p
     u : World
     u = storePc pc w
 
-    first : (n : ℕ) → Worked (pushV (frame hook (length (u .stack)) nil (Cont.Value dst)) (replicate n 0) (view u))
-    (view (withStack (set (u .stack ++ replicate n 0) (length (u .stack)) c)
-    (withFrames (frame hook (length (u .stack)) nil (Cont.Value dst) ∷ u .frames) (withStack (u .stack ++ replicate n 0) u))))
+    first : (n : ℕ) → Worked (pushV (frame hook (length (u .stack)) nil (Cont.Value dst)) (replicate n 0) (view u)) (view (withStack (set (u .stack ++ replicate n 0) (length (u .stack)) c) (withFrames (frame hook (length (u .stack)) nil (Cont.Value dst) ∷ u .frames) (withStack (u .stack ++ replicate n 0) u))))
     first n =
         let e : length (u .stack) + 0 ≡ length (u .stack) = omega arith in
-        puts 0 c (subst (λ i. Worked (record { stack = set (u .stack ++ replicate n 0) i c; frames = frame hook (length (u .stack)) nil (Cont.Value dst)
-        ∷ u .frames; chain = u .chain; cores = view u .cores }) (view (withStack (set (u .stack ++ replicate n 0) (length (u .stack)) c)
-        (withFrames (frame hook (length (u .stack)) nil (Cont.Value dst) ∷ u .frames) (withStack (u .stack ++ replicate n 0) u))))) (sym e) done)
+        puts 0 c (subst (λ i. Worked (record { stack = set (u .stack ++ replicate n 0) i c; frames = frame hook (length (u .stack)) nil (Cont.Value dst) ∷ u .frames; chain = u .chain; cores = view u .cores }) (view (withStack (set (u .stack ++ replicate n 0) (length (u .stack)) c) (withFrames (frame hook (length (u .stack)) nil (Cont.Value dst) ∷ u .frames) (withStack (u .stack ++ replicate n 0) u))))) (sym e) done)
 
     go : (o : After Made) → PushCase hook nil (Cont.Value dst) u o → Worked (view w) (view (hooked w c (o .world) (o .answer) .world))
     go o (p-in n) = tops (setPc pc) (keeps-pc pc) (pushes (frame hook (length (u .stack)) nil (Cont.Value dst)) (replicate n 0) refl refl (first n))

@@ -140,13 +140,9 @@ suspend-arm p s h dst x keys v u g = go (coroSuspend s dst x keys t) (suspend-ca
             record {
               inmost = sym (g .chain) ∙ e;
               asleep = h;
-              mine = d .cores (a .coro) ∙ ap coreIn
-                  (set-mine (t .slots) (a .coro) c (saved s dst (a .floor) t) (unclose s (setKeys keys (withPayload x (sized (saved s dst (a .floor) t) r)))))
-                  ∙ (λ i. heldAs s dst (a .floor) (baseAt (a .floor) (onTop (setPc p) (g .frames i))) (onTop (setPc p) (g .frames i)) (g .stack i));
+              mine = d .cores (a .coro) ∙ ap coreIn (set-mine (t .slots) (a .coro) c (saved s dst (a .floor) t) (unclose s (setKeys keys (withPayload x (sized (saved s dst (a .floor) t) r))))) ∙ (λ i. heldAs s dst (a .floor) (baseAt (a .floor) (onTop (setPc p) (g .frames i))) (onTop (setPc p) (g .frames i)) (g .stack i));
               others = λ n q. kept (d .cores n ∙ set-other (t .slots) (a .coro) c (saved s dst (a .floor) t) (unclose s (setKeys keys (withPayload x (sized (saved s dst (a .floor) t) r)))) n q ∙ ap coreIn (g .coros n));
-              under = d .under
-                  ∙ (λ i. deliverTo (a .driver) ((told-event s x keys r ∙ ap (λ b. eventAs (marked (λ r. r .closing) b) s x) (sym c ∙ g .coros (a .coro))) i)
-                  (mem (take (baseAt (a .floor) (onTop (setPc p) (g .frames i))) (g .stack i)) (below (a .floor) (onTop (setPc p) (g .frames i)))));
+              under = d .under ∙ (λ i. deliverTo (a .driver) ((told-event s x keys r ∙ ap (λ b. eventAs (marked (λ r. r .closing) b) s x) (sym c ∙ g .coros (a .coro))) i) (mem (take (baseAt (a .floor) (onTop (setPc p) (g .frames i))) (g .stack i)) (below (a .floor) (onTop (setPc p) (g .frames i)))));
               outer = d .chain;
             }
 

@@ -185,12 +185,8 @@ start-case p w u s n (c ∷ q) = go (coroEnter c Driver.Finalize (withFinalize q
     later a (s-none n v e t) h = s-none n v (h ∙ e) t
 
     choose : (a b : Bool) (x y : After Started) → (suspendedAs (coro u c) && a) ≡ b → accepts u c ≡ a → (b ≡ true → cleaned (c ∷ q) u ≡ entry c Driver.Finalize Opt.None → StartCase p w u (c ∷ q) x) → StartCase p w u q y → StartCase p w u (c ∷ q) (pick b x y)
-    choose a true x y e h f g = subst (StartCase p w u (c ∷ q)) (sym (pick-true x y))
-    (f refl (ap (λ b. pick (suspendedAs (coro u c) && b) (entry c Driver.Finalize Opt.None) (cleaned q u)) h
-    ∙ ap (λ b. pick b (entry c Driver.Finalize Opt.None) (cleaned q u)) e ∙ pick-true (entry c Driver.Finalize Opt.None) (cleaned q u)))
-    choose a false x y e h f g = subst (StartCase p w u (c ∷ q)) (sym (pick-false x y))
-    (later y g (ap (λ b. pick (suspendedAs (coro u c) && b) (entry c Driver.Finalize Opt.None) (cleaned q u)) h
-    ∙ ap (λ b. pick b (entry c Driver.Finalize Opt.None) (cleaned q u)) e ∙ pick-false (entry c Driver.Finalize Opt.None) (cleaned q u)))
+    choose a true x y e h f g = subst (StartCase p w u (c ∷ q)) (sym (pick-true x y)) (f refl (ap (λ b. pick (suspendedAs (coro u c) && b) (entry c Driver.Finalize Opt.None) (cleaned q u)) h ∙ ap (λ b. pick b (entry c Driver.Finalize Opt.None) (cleaned q u)) e ∙ pick-true (entry c Driver.Finalize Opt.None) (cleaned q u)))
+    choose a false x y e h f g = subst (StartCase p w u (c ∷ q)) (sym (pick-false x y)) (later y g (ap (λ b. pick (suspendedAs (coro u c) && b) (entry c Driver.Finalize Opt.None) (cleaned q u)) h ∙ ap (λ b. pick b (entry c Driver.Finalize Opt.None) (cleaned q u)) e ∙ pick-false (entry c Driver.Finalize Opt.None) (cleaned q u)))
 
     go : (e : After Entered) → EnterCase c Driver.Finalize v e → StartCase p w u q (startFrom (suc n) q u)
         → StartCase p w u (c ∷ q) (pick (suspendedAs (coro u c) && isEntered (e .answer)) (after (setFinalizing true (changeCoro c (λ k. k) (close nil) (e .world))) (started true (suc n))) (startFrom (suc n) q u))
