@@ -35,5 +35,6 @@ pub mod Returned
 pub mod Exactly
 pub mod Premises
 pub mod Witness
+pub mod Roomy
 pub mod Promise
 pub mod Wrong

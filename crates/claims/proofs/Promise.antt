@@ -53,6 +53,7 @@ use Rattle.claims.proofs.Exact.{healthy-sound, number-sound, no-some}
 use Rattle.claims.proofs.Returned.{on-body}
 use Rattle.claims.proofs.Premises.{Premises, premises-met}
 use Rattle.claims.proofs.Exactly.{events, demand3}
+use Rattle.claims.proofs.Roomy.{await-takes, kv-takes}
 
 -- ---- soundness
 
@@ -236,4 +237,4 @@ not-empty =
 
 -- THE PROMISE
 pub promise : Promise steps
-promise = record { demand3 = demand3; events = events; accepts = record { finish = accepts-finish; escape = accepts-escape }; soundness = soundness; not-empty = not-empty }
+promise = record { demand3 = demand3; events = events; accepts = record { await = λ c w k pc dst src m e l. await-takes w c m k pc dst src e l; yield-kv = λ c w k pc dst src key m e l. kv-takes w c m k pc dst src key e l; finish = accepts-finish; escape = accepts-escape }; soundness = soundness; not-empty = not-empty }

@@ -18,6 +18,9 @@ pub record Seen : Type 0 where
   -- how many words and frames it has saved
   pub words : ℕ
   pub frames : ℕ
+  -- the most that it has saved so far
+  pub mostWords : ℕ
+  pub mostFrames : ℕ
   -- whether it is being closed, and by which word
   pub closing : Bool
   pub signal : ℕ

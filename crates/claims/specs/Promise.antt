@@ -1,15 +1,19 @@
 -- ALL THAT IS PROMISED of an engine, in one record: demand 3, events that are exact, what is accepted, soundness that is kept, and that
 -- none of it is empty. `step` has it (`promise` in proofs/Promise.antt).
-use Prim.Native.Nat.{ℕ}
+use Prim.Native.Nat.{ℕ, _≤_}
 use mathlib.Core.Path.{_≡_}
-use mathlib.Core.Bool.{Bool, true, false}
-use mathlib.Core.List.{List}
+use mathlib.Core.Bool.{Bool, true, false, _||_}
+use mathlib.Core.List.{List, [], _∷_, _++_}
 use mathlib.Core.Option.{Option, none, some}
+use lib.ListN.{length, drop}
+use lib.Dec.{eqb}
 use Rattle.heap.specs.declared.fault.Fault.{Fault}
 use Rattle.heap.specs.declared.heap.ResultKind.{ResultKind}
 use Rattle.model.specs.declared.call.OptPc.{OptPc}
 use Rattle.model.specs.declared.call.Op.{Op}
-use Rattle.claims.specs.Engine.{View, Engine, run}
+use Rattle.claims.specs.Engine.{Seen, View, Engine, run}
+use Rattle.claims.specs.Says.{lie}
+use Rattle.claims.specs.Held.{Held}
 use Rattle.claims.specs.Demand3.{Enters, Suspends, Leaves, Restarts, Waits, Goes, Demand3}
 use Rattle.claims.specs.Events.{Healthy, onBody, raised, raisedAt, Events}
 
@@ -22,7 +26,24 @@ plain ResultKind.Dyn = true
 plain ResultKind.I64 = false
 plain ResultKind.U64 = false
 
+-- 01: "also where 2 or 6 follows"
+abbrev pub suspends : ℕ → Bool
+suspends n = eqb n 0 || eqb n 2 || eqb n 6
+
+-- c runs on top, with fuel, and would save no more than it has saved before: so its suspension needs no memory
+pub record Roomy (e : Engine) (c : ℕ) (s : e .State) : Type 0 where
+  pub healthy : Healthy e s
+  pub fuel : eqb (e .view s .fuel .fuel) 0 ≡ false
+  pub held : Held (e .view s) c
+  pub seen : Seen
+  pub there : e .view s .coro c ≡ some seen
+  pub words : length (drop (held .body .base) (e .view s .stack)) ≤ seen .mostWords
+  pub frames : length (held .over ++ (held .body ∷ [])) ≤ seen .mostFrames
+
 pub record Accepts (e : Engine) : Type 0 where
+  -- an Await or a YieldKv is then answered 0, 2 or 6, and so suspends c (Events.suspended). A Yield may lack a key.
+  pub await : (c : ℕ) (s : e .State) (k : e .Call) (pc dst src : ℕ) → Roomy e c s → e .op k ≡ some (Op.Await pc dst src) → lie (e .view s) (dst ∷ src ∷ []) ≡ true → suspends (e .number s k) ≡ true
+  pub yield-kv : (c : ℕ) (s : e .State) (k : e .Call) (pc dst src key : ℕ) → Roomy e c s → e .op k ≡ some (Op.YieldKv pc dst src key) → lie (e .view s) (dst ∷ src ∷ key ∷ []) ≡ true → suspends (e .number s k) ≡ true
   pub finish : (s : e .State) (k : e .Call) (kind : ResultKind) (x : ℕ) → Healthy e s → e .op k ≡ some (Op.Finish kind x) → plain kind ≡ true → onBody (e .view s .frames) ≡ true → e .number s k ≡ 0
   pub escape : (s : e .State) (k : e .Call) (x : ℕ) (pc : OptPc) (c : ℕ) → Healthy e s → e .op k ≡ some (Op.Unwind (Fault.Throw x) pc) → raisedAt (e .view s) (some x) pc ≡ some c → e .number s k ≡ 0
 
