@@ -73,11 +73,11 @@ rest-words (suc n) (x ∷ hs) h =
     let e : suc (length hs) * 4 ≡ suc (suc (suc (suc (length hs * 4)))) = omega arith in
     ap (λ k. zeros (drop k (handlersWords (suc n) (x ∷ hs)))) e ∙ rest-words n hs (le-of-suc-le-suc h)
 
-handlers-long : (n : ℕ) (ws : List ℕ) (at : ℕ) → length (handlersFrom n ws at) ≡ n
+pub handlers-long : (n : ℕ) (ws : List ℕ) (at : ℕ) → length (handlersFrom n ws at) ≡ n
 handlers-long zero ws at = refl
 handlers-long (suc n) ws at = ap suc (handlers-long n ws (at + 4))
 
-handlers-at : (n j at : ℕ) (ws : List ℕ) (d : Handler) → j < n → getD (handlersFrom n ws at) j d ≡ handlerFrom ws (at + j * 4)
+pub handlers-at : (n j at : ℕ) (ws : List ℕ) (d : Handler) → j < n → getD (handlersFrom n ws at) j d ≡ handlerFrom ws (at + j * 4)
 handlers-at zero j at ws d h = absurd (omega arith)
 handlers-at (suc n) zero at ws d h = ap (handlerFrom ws) (let e : at ≡ at + 0 * 4 = omega arith in e)
 handlers-at (suc n) (suc j) at ws d h = handlers-at n j (at + 4) ws d (le-of-suc-le-suc h) ∙ ap (handlerFrom ws) (let e : at + 4 + j * 4 ≡ at + suc j * 4 = omega arith in e)

@@ -11,3 +11,5 @@ pub mod Seen
 pub mod Named
 pub mod Beside
 pub mod Marks
+pub mod Widths
+pub mod Deciding
