@@ -38,13 +38,35 @@ returns-6 : tie.Need-returns-6
 returns-6 c =
     let at-if5 = c .before .before .before in let at-if4 = at-if5 .before .before .before in let at-if3 = at-if4 .before .before .before in let at-if2 = at-if3 .before .before .before in let at-if1 = at-if2 .before .before .before in let start = at-if1 .before .before .before in
     let m = start .args .m in let l = start .args .l in
-    sym (rw (le-leb (m .height) (l .stack) (at-if1 .if1 .left), le-leb (m .depth) (l .depth) (at-if2 .if2 .left), le-leb (m .active) (l .depth) (at-if3 .if3 .left), le-leb (m .count) (l .slots) (at-if4 .if4 .left), le-leb (m .ready) (l .slots) (at-if5 .if5 .left), lt-leb (m .finalize) (l .slots) (c .if6 .taken)))
+    sym
+    (rw (
+      le-leb (m .height) (l .stack) (at-if1 .if1 .left),
+      le-leb (m .depth) (l .depth) (at-if2 .if2 .left),
+      le-leb (m .active) (l .depth) (at-if3 .if3 .left),
+      le-leb (m .count) (l .slots) (at-if4 .if4 .left),
+      le-leb (m .ready) (l .slots) (at-if5 .if5 .left),
+      lt-leb (m .finalize) (l .slots) (c .if6 .taken),
+    ))
 
 returns-7 : tie.Need-returns-7
 returns-7 c =
-    let at-if6 = c .before .before in let at-if5 = at-if6 .before .before .before in let at-if4 = at-if5 .before .before .before in let at-if3 = at-if4 .before .before .before in let at-if2 = at-if3 .before .before .before in let at-if1 = at-if2 .before .before .before in let start = at-if1 .before .before .before in
+    let at-if6 = c .before .before in
+    let at-if5 = at-if6 .before .before .before in
+    let at-if4 = at-if5 .before .before .before in
+    let at-if3 = at-if4 .before .before .before in
+    let at-if2 = at-if3 .before .before .before in
+    let at-if1 = at-if2 .before .before .before in
+    let start = at-if1 .before .before .before in
     let m = start .args .m in let l = start .args .l in
-    sym (rw (le-leb (m .height) (l .stack) (at-if1 .if1 .left), le-leb (m .depth) (l .depth) (at-if2 .if2 .left), le-leb (m .active) (l .depth) (at-if3 .if3 .left), le-leb (m .count) (l .slots) (at-if4 .if4 .left), le-leb (m .ready) (l .slots) (at-if5 .if5 .left), le-leb (m .finalize) (l .slots) (at-if6 .if6 .left)))
+    sym
+    (rw (
+      le-leb (m .height) (l .stack) (at-if1 .if1 .left),
+      le-leb (m .depth) (l .depth) (at-if2 .if2 .left),
+      le-leb (m .active) (l .depth) (at-if3 .if3 .left),
+      le-leb (m .count) (l .slots) (at-if4 .if4 .left),
+      le-leb (m .ready) (l .slots) (at-if5 .if5 .left),
+      le-leb (m .finalize) (l .slots) (at-if6 .if6 .left),
+    ))
 
 pub counts-ok-spec : {M : Type 1} → statement M
 counts-ok-spec =

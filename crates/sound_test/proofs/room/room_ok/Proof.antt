@@ -65,19 +65,44 @@ returns-6 : tie.Need-returns-6
 returns-6 c =
     let at-if5 = c .before .before in let at-if4 = at-if5 .before .before in let at-if3 = at-if4 .before .before in let at-if2 = at-if3 .before in let at-if1 = at-if2 .before in let start = at-if1 .before .before .before in
     let a = start .args in let l = a .l in
-    sym (rw (le-leb (l .stack) (a .stack) (at-if1 .if1 .left), le-leb (l .depth * 6) (a .frames) (at-if2 .if2 .left), le-leb (l .depth * 6) (a .chain) (at-if3 .if3 .left), le-leb (l .slots * 20) (a .slots) (at-if4 .if4 .left), le-leb (l .rows * l .width) (a .saved) (at-if5 .if5 .left), lt-leb (l .rows * (l .depth * 6)) (a .asleep) (c .if6 .taken)))
+    sym (rw (
+      le-leb (l .stack) (a .stack) (at-if1 .if1 .left),
+      le-leb (l .depth * 6) (a .frames) (at-if2 .if2 .left),
+      le-leb (l .depth * 6) (a .chain) (at-if3 .if3 .left),
+      le-leb (l .slots * 20) (a .slots) (at-if4 .if4 .left),
+      le-leb (l .rows * l .width) (a .saved) (at-if5 .if5 .left),
+      lt-leb (l .rows * (l .depth * 6)) (a .asleep) (c .if6 .taken),
+    ))
 
 returns-7 : tie.Need-returns-7
 returns-7 c =
     let at-if6 = c .before .before in let at-if5 = at-if6 .before .before in let at-if4 = at-if5 .before .before in let at-if3 = at-if4 .before .before in let at-if2 = at-if3 .before in let at-if1 = at-if2 .before in let start = at-if1 .before .before .before in
     let a = start .args in let l = a .l in
-    sym (rw (le-leb (l .stack) (a .stack) (at-if1 .if1 .left), le-leb (l .depth * 6) (a .frames) (at-if2 .if2 .left), le-leb (l .depth * 6) (a .chain) (at-if3 .if3 .left), le-leb (l .slots * 20) (a .slots) (at-if4 .if4 .left), le-leb (l .rows * l .width) (a .saved) (at-if5 .if5 .left), le-leb (l .rows * (l .depth * 6)) (a .asleep) (at-if6 .if6 .left), lt-leb (l .slots) (a .ready) (c .if7 .taken)))
+    sym (rw (
+      le-leb (l .stack) (a .stack) (at-if1 .if1 .left),
+      le-leb (l .depth * 6) (a .frames) (at-if2 .if2 .left),
+      le-leb (l .depth * 6)
+          (a .chain) (at-if3 .if3 .left),
+      le-leb (l .slots * 20) (a .slots) (at-if4 .if4 .left),
+      le-leb (l .rows * l .width) (a .saved) (at-if5 .if5 .left),
+      le-leb (l .rows * (l .depth * 6)) (a .asleep) (at-if6 .if6 .left),
+      lt-leb (l .slots) (a .ready) (c .if7 .taken),
+    ))
 
 returns-8 : tie.Need-returns-8
 returns-8 c =
     let at-if7 = c .before in let at-if6 = at-if7 .before .before in let at-if5 = at-if6 .before .before in let at-if4 = at-if5 .before .before in let at-if3 = at-if4 .before .before in let at-if2 = at-if3 .before in let at-if1 = at-if2 .before in let start = at-if1 .before .before .before in
     let a = start .args in let l = a .l in
-    sym (rw (le-leb (l .stack) (a .stack) (at-if1 .if1 .left), le-leb (l .depth * 6) (a .frames) (at-if2 .if2 .left), le-leb (l .depth * 6) (a .chain) (at-if3 .if3 .left), le-leb (l .slots * 20) (a .slots) (at-if4 .if4 .left), le-leb (l .rows * l .width) (a .saved) (at-if5 .if5 .left), le-leb (l .rows * (l .depth * 6)) (a .asleep) (at-if6 .if6 .left), le-leb (l .slots) (a .ready) (at-if7 .if7 .left)))
+    sym (rw (
+      le-leb (l .stack) (a .stack) (at-if1 .if1 .left),
+      le-leb (l .depth * 6) (a .frames) (at-if2 .if2 .left),
+      le-leb (l .depth * 6)
+          (a .chain) (at-if3 .if3 .left),
+      le-leb (l .slots * 20) (a .slots) (at-if4 .if4 .left),
+      le-leb (l .rows * l .width) (a .saved) (at-if5 .if5 .left),
+      le-leb (l .rows * (l .depth * 6)) (a .asleep) (at-if6 .if6 .left),
+      le-leb (l .slots) (a .ready) (at-if7 .if7 .left),
+    ))
 
 pub room-ok-spec : {M : Type 1} → statement M
 room-ok-spec =
