@@ -174,6 +174,23 @@ pub fn all(costs: Costs) -> Vec<Example> {
     ]
 }
 
+/// A sound state that no run leaves, and a resume and a yield from it: a
+/// Yielded coroutine with two saved words whose largest sizes are 0, and
+/// memory at its limit.
+#[must_use]
+pub fn sizes_below(costs: Costs) -> (World, [Call; 2]) {
+    let mut engine = crate::plain::Plain::default();
+    engine.load(&fresh(costs));
+    for c in begin().iter().chain([&RESUME, &YIELD]) {
+        engine.call(c);
+    }
+    let mut w = engine.world();
+    w.setup.memory = w.used;
+    let c = w.coro_mut(word::from_ref(2, 0)).expect("just made");
+    (c.max_regs, c.max_frames) = (0, 0);
+    (w, [RESUME, YIELD])
+}
+
 /// Fuel 0, bank 3, ready, and a queue of one Returned.
 fn banked(costs: Costs) -> World {
     let mut engine = crate::plain::Plain::default();

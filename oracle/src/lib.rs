@@ -3,6 +3,8 @@
 //! recorded answers. Nothing here needs the original. `proved` is the static
 //! library, where it is linked.
 
+pub mod aimed;
+pub mod broken;
 pub mod call;
 pub mod codec;
 pub mod compare;

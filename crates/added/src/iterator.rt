@@ -17,7 +17,7 @@ use model::coro::Made;
 use model::coro::Stated;
 
 // The word made is the answer.
-fn made_as(a: Made) -> Answer
+pub fn made_as(a: Made) -> Answer
     ensures { λ r. ⌜ r ≡ madeAs a ⌝ }
 {
     match a {

@@ -16,6 +16,7 @@ use Rattle.model.specs.Lists.{isNil, each}
 use Rattle.model.specs.Program.{Setup, func, isFunction, covers, firstOf, between, handlerOk}
 use Rattle.model.specs.World.{World, After, andThen}
 use Rattle.model.specs.Frames.{isEntry, isCoro, frame, topFunc, topPc, popTo}
+use Rattle.model.specs.Heap.{alloc}
 use Rattle.model.specs.Machine.{pushFrame, resultOf, orNil, writeResult, writeMade, applyCont, isOk, resumeIn, returnMade, finishAs, finishOn, finish, caught, stopOr, escape, searchAs, search, searchFrames, searchMade, errorOf, unwindFault, storeSome, raisable, unwind}
 use Rattle.model.specs.Call.{optPc}
 use Rattle.model.specs.Sound.{contLies, frameNames}
@@ -33,7 +34,7 @@ use Rattle.invariant.proofs.Tests.{no-true, and-left, and-right, both, 
 use Rattle.invariant.proofs.Stand.{names-of}
 use Rattle.invariant.proofs.Sound.{Sound, Facts, facts}
 use Rattle.invariant.proofs.Tower.{tower-move, tower-push, store-sound, next-sound, put-sound, pop-sound, handlers-ok}
-use Rattle.invariant.proofs.Make.{alloc-plain, dyn-good}
+use Rattle.invariant.proofs.Make.{Making, alloc-plain, dyn-good}
 use Rattle.invariant.proofs.End.{returned-sound, escaped-good}
 use Rattle.invariant.proofs.Charge.{charge-good}
 use Rattle.invariant.proofs.Good.{Good, good, then-good, fine, madeFine, answerFine}
@@ -109,7 +110,7 @@ finish-good kind v w h = finish-on kind v w h (w .frames) refl
 -- ---- unwind
 
 -- the handler found is one of the function's
-first-in : (p : Handler → Bool) (pc : ℕ) (hs : List Handler) (h : Handler) → each p hs ≡ true → firstOf pc hs ≡ Caught.By h → p h ≡ true
+pub first-in : (p : Handler → Bool) (pc : ℕ) (hs : List Handler) (h : Handler) → each p hs ≡ true → firstOf pc hs ≡ Caught.By h → p h ≡ true
 first-in p pc [] h e q = never cc
 first-in p pc (x ∷ hs) h e q = go (covers pc x) q (λ z. first-in p pc hs h (and-right (p x) _ e) z)
   where
@@ -170,10 +171,10 @@ top-pc-small s [] e = refl
 top-pc-small s (f ∷ fs) e = and-right (isFunction s (f .func)) (ltb (f .pc) (2 ^ 32)) (and-left (frameNames s f) _ e)
 
 module _ {ex : Bool} (w : World) (h : Sound ex w) where
-  func-small : ltb (topFunc (w .frames)) (2 ^ 32) ≡ true
+  pub func-small : ltb (topFunc (w .frames)) (2 ^ 32) ≡ true
   func-small = top-func-small (w .setup) (w .frames) (facts (w .setup) (h .setup)) (names-of (w .setup) (h .tower .stands))
 
-  pc-small : ltb (topPc (w .frames)) (2 ^ 32) ≡ true
+  pub pc-small : ltb (topPc (w .frames)) (2 ^ 32) ≡ true
   pc-small = top-pc-small (w .setup) (w .frames) (names-of (w .setup) (h .tower .stands))
 
   frames-good : (value : ℕ) → Good ex Fine (searchFrames value w)
@@ -182,6 +183,12 @@ module _ {ex : Bool} (w : World) (h : Sound ex w) where
 made-good : {ex : Bool} (u : World) (m : Made) → Sound ex u → madeFine m ≡ true → Good ex Fine (searchMade u m)
 made-good u (Made.Word v) h e = frames-good u h v
 made-good u (Made.Refused f) h e = good h e
+
+-- an error object that tells where it was raised
+pub error-good : {ex : Bool} (f : Fault) (w : World) → Sound ex w → between 1 8 (Faults.numberOf f) ≡ true → Good ex (Making w) (alloc (w .setup .costs .error) (errorOf f w) w)
+error-good f w h from =
+    alloc-plain (w .setup .costs .error) (errorOf f w) w h
+    (record { sizes = refl; saved = refl; rowless = refl; range = both (both from (func-small w h)) (pc-small w h); wide = λ _. refl }) refl refl
 
 fault-good : {ex : Bool} (f : Fault) (w : World) → Sound ex w → (between 1 10 (Faults.numberOf f) || eqb (Faults.numberOf f) 17) ≡ true → Good ex Fine (unwindFault f w)
 fault-good {ex} f w h range =
@@ -192,11 +199,10 @@ fault-good {ex} f w h range =
     picked (Good ex Fine) (leb n 8)
     (λ small.
     let from : between 1 8 n ≡ true = both (and-left (leb 1 n) _ low) small in
-    then-good searchMade (alloc-plain (w .setup .costs .error) (errorOf f w) w h (record { sizes = refl; saved = refl; rowless = refl; range = both (both from (func-small w h)) (pc-small w h); wide = λ _. refl }) refl refl)
-    (λ u m k p. made-good u m k (p .fine)))
+    then-good searchMade (error-good f w h from) (λ u m k p. made-good u m k (p .fine)))
     (λ _. good h (negate (ne-eqb n 11 (λ z. let t = leb-true n 10 (and-right (leb 1 n) (leb n 10) low) in omega arith)))))
 
-some-sound : {ex : Bool} (pc : OptPc) (w : World) → optPc pc ≡ true → Sound ex w → Sound ex (storeSome pc w)
+pub some-sound : {ex : Bool} (pc : OptPc) (w : World) → optPc pc ≡ true → Sound ex w → Sound ex (storeSome pc w)
 some-sound OptPc.None w e h = h
 some-sound (OptPc.Some pc) w e h = store-sound pc w e h
 

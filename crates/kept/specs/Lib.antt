@@ -1,1 +1,1 @@
-pub mod Operation
+pub mod Kept

@@ -1,2 +1,4 @@
 // Every call on sound words.
-pub mod operation;
+pub mod dispatch;
+pub mod gates;
+pub mod kept;

@@ -1,19 +1,18 @@
 -- The search on the words, turn after turn: what is left of it, done to the present world, is the whole done to the start.
 -- Assumes nothing.
-use mathlib.Core.Path.{_≡_, refl, sym, ap, _∙_, subst}
+use mathlib.Core.Path.{_≡_, refl, sym, ap, _∙_}
 use mathlib.Core.Bool.{true, false}
-use mathlib.Core.List.{List, [], _∷_}
+use mathlib.Core.List.{[]}
 use Prim.Native.Nat.{ℕ, _^_, _≤_, _<_}
 use native.Mathlib.Omega.{arith}
-use lib.ListN.{length}
 use Rattle.heap.specs.declared.fault.Fault.{Fault}
-use Rattle.model.specs.World.{World, After, after}
+use Rattle.model.specs.World.{World, after}
 use Rattle.model.specs.Machine.{search}
 use Rattle.model.specs.Sound.{sound}
 use Rattle.model.specs.declared.call.Answer.{Answer}
 use Rattle.model.specs.declared.machine.Fuel.{Fuel}
 use Rattle.memory.specs.Memory.{Lent, Beside, Rep}
-use Rattle.memory.specs.Contract.{Numbers, Ok, Does, Gives, ifSound}
+use Rattle.memory.specs.Contract.{Numbers, Ok, Gives, ifSound}
 use Rattle.memory.specs.declared.machine.Machine.{Machine}
 use Rattle.memory.specs.declared.machine.Sizes.{Sizes}
 use Rattle.memory.proofs.Does.{does, SameLengths, ok-next}

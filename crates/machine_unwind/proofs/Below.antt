@@ -10,7 +10,7 @@ use borrow.Author.Tests.{lt-ltb}
 use Rattle.lists.specs.Pick.{pick}
 use Rattle.heap.specs.declared.object.CoroState.{CoroState}
 use Rattle.model.specs.Program.{Setup, func, firstOf}
-use Rattle.model.specs.World.{World, After, after, andThen, withChain}
+use Rattle.model.specs.World.{World, After, after, withChain}
 use Rattle.model.specs.Frames.{isCoro, popTo}
 use Rattle.model.specs.Heap.{coro}
 use Rattle.model.specs.Coro.{inState, ended, finishCoroutine, closedBy, failTo, escapedOn, coroEscaped}
@@ -34,7 +34,7 @@ use Rattle.invariant.proofs.Coros.{changed}
 use Rattle.invariant.proofs.End.{escaped-good}
 use Rattle.machine.specs.Frame.{popOn}
 use Rattle.machine.proofs.Tops.{known}
-use Rattle.machine_unwind.specs.Turns.{isSpent, goesOn, answered, handlerOn, takenAs, takeHandler, haltedIn, leaveAs, leave, turnAs, turn, searchFrom}
+use Rattle.machine_unwind.specs.Turns.{goesOn, answered, handlerOn, takenAs, takeHandler, haltedIn, leaveAs, turnAs, turn, searchFrom}
 use Rattle.machine_unwind.specs.declared.turn.Turn.{Turn}
 use Rattle.machine_unwind.proofs.Turning.{leave-is}
 

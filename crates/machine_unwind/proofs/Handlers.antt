@@ -1,24 +1,22 @@
 -- The handler of the top frame, in the words: it is read there, and its catch register lies there. Assumes nothing.
-use mathlib.Core.Path.{_≡_, refl, sym, ap, ap₂, _∙_, subst}
-use mathlib.Core.Bool.{Bool, true, false, _&&_}
-use mathlib.Core.List.{List, [], _∷_}
-use Prim.Native.Nat.{ℕ, _+_, _-_, _*_, _≤_, _<_}
+use mathlib.Core.Path.{_≡_, sym, ap, ap₂, _∙_, subst}
+use mathlib.Core.Bool.{true, _&&_}
+use mathlib.Core.List.{List, _∷_}
+use Prim.Native.Nat.{ℕ, _+_, _-_, _≤_, _<_}
 use native.Mathlib.Omega.{arith}
 use lib.ListN.{length, getD}
 use lib.Dec.{ltb, leb}
 use borrow.Author.Tests.{ltb-true, leb-true}
-use Rattle.lists.specs.Pick.{pick}
-use Rattle.lists.proofs.Tests.{never}
-use Rattle.model.specs.Lists.{each}
-use Rattle.model.specs.Program.{Setup, Func, func, funcOf, noFunc, isFunction, covers, firstOf, handlerOk, functionOk}
+use Rattle.model.specs.Program.{Setup, Func, func, funcOf, noFunc, isFunction, firstOf, functionOk}
 use Rattle.model.specs.World.{World}
-use Rattle.model.specs.Sound.{frameNames, liesUnder, sound}
+use Rattle.model.specs.Sound.{liesUnder, sound}
 use Rattle.model.specs.declared.machine.Frame.{Frame}
 use Rattle.model.specs.declared.machine.Fuel.{Fuel}
 use Rattle.model.specs.declared.program.Caught.{Caught}
 use Rattle.model.specs.declared.program.Handler.{Handler}
-use Rattle.invariant.proofs.Tests.{and-left, and-right, picked, each-at}
+use Rattle.invariant.proofs.Tests.{and-left, and-right, each-at}
 use Rattle.invariant.proofs.Sound.{facts}
+use Rattle.invariant.proofs.Unwind.{first-in}
 use Rattle.tables.specs.Parts.{Frames}
 use Rattle.tables.proofs.Tops.{top-func, top-pc, top-cont}
 use Rattle.tables.specs.Layout.{funcIn, pcIn, contIn, functionIn}
@@ -63,16 +61,6 @@ module _ (l : Sizes) (M : Lent) (m : Machine) (f : Fuel) (w : World) (rep : Rep 
 
 -- ---- of a sound world
 
--- the handler found is one of the function's
-first-one : (p : Handler → Bool) (pc : ℕ) (hs : List Handler) (h : Handler) → each p hs ≡ true → Caught.By h ≡ firstOf pc hs → p h ≡ true
-first-one p pc [] h e q = never cc
-first-one p pc (x ∷ hs) h e q =
-    picked (λ (c : Caught). Caught.By h ≡ c → p h ≡ true) (covers pc x) (λ _ z. subst (λ y. p y ≡ true) (same z) (and-left (p x) _ e))
-    (λ _ z. first-one p pc hs h (and-right (p x) _ e) z) q
-  where
-    same : Caught.By h ≡ Caught.By x → x ≡ h
-    same z = cc
-
 module _ (l : Sizes) (M : Lent) (m : Machine) (f : Fuel) (w : World) (rep : Rep l w M m f) (snd : sound w ≡ true) (some : 1 ≤ m .depth) where
   abbrev s : Setup
   s = w .setup
@@ -104,6 +92,6 @@ module _ (l : Sizes) (M : Lent) (m : Machine) (f : Fuel) (w : World) (rep : Rep 
   pub catch-fits : (h : Handler) → Caught.By h ≡ handlerIn w → RegFits (M .stack) (M .frames) (m .height) (m .depth) (h .catch)
   catch-fits h e =
       let x = top .top in
-      let q : Caught.By h ≡ firstOf (x .pc) (func s (x .func) .handlers) = e ∙ ap (λ fs. handlerOn fs w) (top .are) in
-      let lies = first-one (λ g. ltb (x .base + g .catch) (length (w .stack))) (x .pc) (func s (x .func) .handlers) h (top-fits w snd x (top .rest) (top .are) .catch) q in
+      let q : firstOf (x .pc) (func s (x .func) .handlers) ≡ Caught.By h = sym (e ∙ ap (λ fs. handlerOn fs w) (top .are)) in
+      let lies = first-in (λ g. ltb (x .base + g .catch) (length (w .stack))) (x .pc) (func s (x .func) .handlers) h (top-fits w snd x (top .rest) (top .are) .catch) q in
       reg-in l M m f w rep s (names-in w snd) (h .catch) (subst (λ fs. liesUnder (h .catch) (length (w .stack)) fs ≡ true) (sym (top .are)) lies)

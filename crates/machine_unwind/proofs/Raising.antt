@@ -1,42 +1,39 @@
 -- What is raised and where, a pc stored, and an unwinding, on the world. Assumes nothing.
 use mathlib.Core.Path.{_≡_, refl, sym, ap, ap₂, _∙_, subst}
-use mathlib.Core.Bool.{Bool, true, false, _&&_, _||_}
-use mathlib.Core.List.{List, [], _∷_}
+use mathlib.Core.Bool.{Bool, true, false, _||_}
+use mathlib.Core.List.{List, []}
 use Prim.Native.Nat.{ℕ, _-_, _^_, _≤_, _<_}
 use native.Mathlib.Omega.{arith}
-use lib.ListN.{length}
-use lib.Dec.{eqb, ltb, leb}
-use borrow.Author.Tests.{ltb-true, lt-ltb, le-leb, lt-leb, leb-true, eq-eqb, ne-eqb}
+use lib.Dec.{eqb, leb}
+use borrow.Author.Tests.{ltb-true, le-leb, lt-leb, eq-eqb, ne-eqb}
 use Rattle.lists.specs.Pick.{pick, pick-true, pick-false}
 use Rattle.heap.specs.Word.{nil}
 use Rattle.heap.specs.Fault.{numberOf, wordOf}
 use Rattle.heap.specs.declared.fault.Fault.{Fault}
-use Rattle.model.specs.Lists.{each}
 use Rattle.model.specs.Object.{Object}
-use Rattle.model.specs.Program.{Setup, isFunction, between}
+use Rattle.model.specs.Program.{between}
 use Rattle.model.specs.World.{World, After, after, andThen, withFrames}
 use Rattle.model.specs.Frames.{setPc, onTop, topFunc, topPc}
 use Rattle.model.specs.Heap.{alloc}
 use Rattle.model.specs.Call.{optPc}
 use Rattle.model.specs.Machine.{search, searchFrames, searchMade, errorOf, unwindFault, storeSome, raisable, unwind}
-use Rattle.model.specs.Sound.{frameNames, sound}
+use Rattle.model.specs.Sound.{sound}
 use Rattle.model.specs.declared.call.Answer.{Answer}
 use Rattle.model.specs.declared.call.OptPc.{OptPc}
 use Rattle.model.specs.declared.coro.Made.{Made}
 use Rattle.model.specs.declared.machine.Frame.{Frame}
 use Rattle.model.specs.declared.machine.Fuel.{Fuel}
-use Rattle.invariant.proofs.Tests.{no-true, and-left, and-right, both, or-else, picked}
-use Rattle.invariant.proofs.Good.{Good, good, Still, still}
-use Rattle.invariant.proofs.Make.{Making, alloc-plain}
-use Rattle.invariant.proofs.Sound.{Sound, facts, →sound}
+use Rattle.invariant.proofs.Tests.{no-true, and-left, both, or-else, picked}
+use Rattle.invariant.proofs.Good.{Still, still}
+use Rattle.invariant.proofs.Unwind.{func-small, pc-small, error-good, some-sound}
+use Rattle.invariant.proofs.Sound.{→sound}
 use Rattle.tables.specs.Layout.{funcIn, pcIn}
 use Rattle.memory.specs.Memory.{Lent, Beside, Rep}
 use Rattle.memory.specs.Contract.{Ok, Does, with}
 use Rattle.memory.specs.declared.machine.Machine.{Machine}
 use Rattle.memory.specs.declared.machine.Sizes.{Sizes}
 use Rattle.memory.proofs.Does.{does, SameLengths, ok-next}
-use Rattle.machine.proofs.Stored.{store-sounds}
-use Rattle.machine.proofs.Tops.{Top, no-top, some-top, known, names-in}
+use Rattle.machine.proofs.Tops.{no-top, some-top, known}
 use Rattle.machine_unwind.specs.Turns.{searchFrom, originOf, errorAt, thrown}
 use Rattle.machine_unwind.specs.Fits.{SearchFits}
 use Rattle.machine_unwind.specs.declared.turn.Origin.{Origin}
@@ -72,17 +69,8 @@ none-there l M m fuel w rep pc e = subst (λ fs. Rep l (withFrames fs w) M m fue
     go : (fs : List Frame) → fs ≡ [] → fs ≡ onTop (setPc pc) fs
     go fs q = q ∙ ap (onTop (setPc pc)) (sym q)
 
--- the functions and pcs of frames have 32 bits
-module _ (w : World) (snd : sound w ≡ true) where
-  top-small : (s : Setup) (fs : List Frame) → length (s .functions) ≤ 32 → each (frameNames s) fs ≡ true → (topFunc fs < 2 ^ 32) × (topPc fs < 2 ^ 32)
-  top-small s [] few e = (omega arith, omega arith)
-  top-small s (x ∷ xs) few e =
-      let named = and-left (frameNames s x) (each (frameNames s) xs) e in
-      let lt = ltb-true (x .func) (length (s .functions)) (and-left (isFunction s (x .func)) (ltb (x .pc) (2 ^ 32)) named) in
-      (omega arith, ltb-true (x .pc) (2 ^ 32) (and-right (isFunction s (x .func)) (ltb (x .pc) (2 ^ 32)) named))
-
-  pub origin-small : (originOf w .func < 2 ^ 32) × (originOf w .pc < 2 ^ 32)
-  origin-small = top-small (w .setup) (w .frames) (facts (w .setup) (known w snd .setup) .few) (names-in w snd)
+pub origin-small : (w : World) → sound w ≡ true → (originOf w .func < 2 ^ 32) × (originOf w .pc < 2 ^ 32)
+origin-small w snd = (ltb-true _ _ (func-small w (known w snd)), ltb-true _ _ (pc-small w (known w snd)))
 
 module _ (l : Sizes) (M : Lent) (m : Machine) (fuel : Fuel) (w : World) (rep : Rep l w M m fuel) where
   pub origin-none : m .depth ≡ 0 → (at : Origin) → at ≡ record { func = 0; pc = 0 } → at ≡ originOf w
@@ -132,9 +120,7 @@ thrown-good f w snd range =
     picked (λ (o : After Made). Raised w (o .world)) (leb (numberOf f) 8)
     (λ small.
     let from : between 1 8 (numberOf f) ≡ true = both (or-else (between 1 10 (numberOf f)) (eqb (numberOf f) 17) range (λ z. and-left (leb 1 (numberOf f)) (leb (numberOf f) 10) z) (λ z. no-true (sym z ∙ other))) small in
-    let at = origin-small w snd in
-    let made = alloc-plain (w .setup .costs .error) (errorOf f w) w (known w snd)
-    (record { sizes = refl; saved = refl; rowless = refl; range = both (both from (lt-ltb (topFunc (w .frames)) (2 ^ 32) (at .0))) (lt-ltb (topPc (w .frames)) (2 ^ 32) (at .1)); wide = λ _. refl }) refl refl in
+    let made = error-good f w (known w snd) from in
     record { sound = →sound _ (made .sound); still = made .fact .still })
     (λ _. same))
   where
@@ -184,8 +170,7 @@ module _ (f : Fault) (w : World) where
         (ap (λ (y : Origin). search (u .frames) v (y .func) (y .pc) u) is ∙ ap (λ fs. search (u .frames) v (topFunc fs) (topPc fs) u) (sym same) ∙ sym (raise-is ∙ ap (searchMade u) (sym q ∙ e))) d
 
 pub some-sounds : (pc : OptPc) (w : World) → optPc pc ≡ true → sound w ≡ true → sound (storeSome pc w) ≡ true
-some-sounds OptPc.None w e snd = snd
-some-sounds (OptPc.Some pc) w e snd = store-sounds pc w (ltb-true pc (2 ^ 32) e) snd
+some-sounds pc w e snd = →sound (storeSome pc w) (some-sound pc w e (known w snd))
 
 pub some-setup : (pc : OptPc) (w : World) → storeSome pc w .setup ≡ w .setup
 some-setup OptPc.None w = refl

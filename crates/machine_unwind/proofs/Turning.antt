@@ -3,7 +3,7 @@ use mathlib.Core.Path.{_≡_, refl, sym, ap, _∙_, subst}
 use mathlib.Core.Bool.{Bool, true, false}
 use mathlib.Core.List.{List, [], _∷_}
 use Prim.Native.Nat.{ℕ}
-use Rattle.lists.specs.Pick.{pick, pick-true, pick-false}
+use Rattle.lists.specs.Pick.{pick-true, pick-false}
 use Rattle.model.specs.World.{World, After, after, andThen, withStack}
 use Rattle.model.specs.Frames.{isCoro, setPc, onTop, putAt, putReg, storePc}
 use Rattle.model.specs.Coro.{coroEscaped}

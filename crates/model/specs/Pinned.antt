@@ -40,6 +40,18 @@ waiting = begun ++ (Op.Await 8 1 0 ∷ [])
 abbrev pub failed : List Op
 failed = holding 1 1 ++ (Op.ResumeThrow 2 1 0 1 ∷ [])
 
+-- a coroutine with a closure calls, and yields there; it is resumed from one frame and one word higher
+abbrev pub woken : List Op
+woken =
+    Op.Grant 1000 ∷ Op.HostCall 1 ∷ Op.PutWord 0 0x1_0000_0000_0001 ∷ Op.CoroNewIndirect 1 0 0 0 ∷ Op.Resume 2 1 0 1 ∷ Op.FunctionCall 5 1 (Cont.Write 1) ∷ Op.Yield 8 0 0
+    ∷ Op.FunctionCall 6 0 Cont.Discard ∷ Op.PutWord 0 c ∷ Op.Resume 3 0 0 0 ∷ []
+
+-- two sleep, and are handed over; the next instruction starts a cleanup
+abbrev pub queued : List Op
+queued =
+    Op.Grant 1000 ∷ Op.HostCall 2 ∷ Op.CoroNew 1 0 1 0 ∷ Op.CoroNew 2 1 1 0 ∷ Op.Resume 3 2 0 3 ∷ Op.Yield 8 0 0 ∷ Op.Resume 4 2 1 3 ∷ Op.Yield 8 0 0
+    ∷ Op.HandOver c ∷ Op.HandOver d ∷ Op.CoroCurrent 5 2 ∷ []
+
 pub record Pinned : Type 0 where
   -- "start ≤ pc < end"
   pub inside : number catches (Op.Unwind (Fault.Throw 9) (OptPc.Some 99)) ≡ 0
@@ -60,6 +72,16 @@ pub record Pinned : Type 0 where
   pub source-awaits : reached (waiting ++ (Op.IterNext 9 1 1 1 0 ∷ [])) .frames ≡ caller 3 ∷ []
   -- a word that equals the signal of one that is not closing is no signal
   pub no-signal : coroState (reached (begun ++ (Op.Unwind (Fault.Throw 0) OptPc.None ∷ []))) c ≡ Stated.In CoroState.Failed
+  -- what was held wakes as it slept: function, pc one on, closure, continuation, and one distance for both frames
+  pub woken-frames : reached woken .frames
+      ≡ record { func = 1; pc = 9; base = 5; closure = 0; cont = Cont.Write 1 } ∷ record { func = 1; pc = 5; base = 3; closure = 0x1_0000_0000_0001; cont = Cont.Coro }
+      ∷ record { func = 0; pc = 3; base = 2; closure = 0; cont = Cont.Discard } ∷ record { func = 1; pc = 6; base = 0; closure = 0; cont = Cont.Entry } ∷ []
+  pub woken-words : reached woken .stack ≡ c ∷ 0 ∷ c ∷ 0 ∷ 0 ∷ c ∷ 0 ∷ []
+  -- .. and returns: Returned, the words below as they were, the result in its register
+  pub returned-words : reached (woken ++ (Op.Finish ResultKind.None 0 ∷ Op.Finish ResultKind.Dyn 7 ∷ [])) .stack ≡ c ∷ 0 ∷ 7 ∷ []
+  pub returned : coroState (reached (woken ++ (Op.Finish ResultKind.None 0 ∷ Op.Finish ResultKind.Dyn 7 ∷ []))) c ≡ Stated.In CoroState.Returned
+  -- a cleanup starts while two wait
+  pub cleaned : reached queued .finalize ≡ d ∷ []
 
 pub pinned : Pinned
 unfolding computed
@@ -76,6 +98,11 @@ pinned =
       throws-at-nil = refl;
       source-awaits = refl;
       no-signal = refl;
+      woken-frames = refl;
+      woken-words = refl;
+      returned-words = refl;
+      returned = refl;
+      cleaned = refl;
     }
 
 -- ---- 01: "Sound", each rule broken alone

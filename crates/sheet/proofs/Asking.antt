@@ -1,7 +1,7 @@
 -- The sheet's lines for the instructions that ask for a coroutine: entries, CoroStatus, CoroCurrent, CoroKey, CoroResult.
 use Prim.Native.Nat.{ℕ}
-use mathlib.Core.Path.{_≡_, refl, sym, ap, _∙_}
-use mathlib.Core.Bool.{Bool, true, false, not, _&&_, _||_, true≢false, false≢true}
+use mathlib.Core.Path.{_≡_, refl, ap, _∙_}
+use mathlib.Core.Bool.{Bool, true, false, not, _||_, true≢false}
 use mathlib.Core.List.{List, [], _∷_}
 use Rattle.lists.specs.Pick.{pick}
 use Rattle.heap.specs.Word.{nil}
@@ -14,9 +14,8 @@ use Rattle.model.specs.Object as Objects
 use Rattle.model.specs.Object.{Core, Rest, Object, Coroutine, Absent, Is, asCoro}
 use Rattle.model.specs.World.{World, After, after, andThen}
 use Rattle.model.specs.Frames.{reg, storePc}
-use Rattle.model.specs.Heap.{object, coro, notA, setDone}
-use Rattle.model.specs.Coro.{stateAs, coroState, overflows, enterAs, coroEnter, coroSend, finishCoroutine}
-use Rattle.model.specs.Cleanup.{close}
+use Rattle.model.specs.Heap.{object, coro, notA}
+use Rattle.model.specs.Coro.{stateAs, coroState, enterAs, coroEnter, finishCoroutine}
 use Rattle.model.specs.Exec as Exec
 use Rattle.model.specs.declared.machine.Active.{Active}
 use Rattle.model.specs.declared.machine.Driver.{Driver}
@@ -24,8 +23,8 @@ use Rattle.model.specs.declared.coro.Entered.{Entered}
 use Rattle.model.specs.declared.coro.Stated.{Stated}
 use Rattle.model.specs.declared.exec.Step.{Step}
 use Rattle.sheet.specs.Lines.{leads}
-use Rattle.sheet.specs.Words.{word, found, isCoroutine, dead, noCoroutine, isDone, coreOf, restOf, code, isIn, state, resumable, suspended, tooHigh}
-use Rattle.sheet.specs.Moves.{pcStored, put, sent, iteratorDone, entered, given, enteredClosing, ended}
+use Rattle.sheet.specs.Words.{word, found, isCoroutine, dead, noCoroutine, isDone, coreOf, code, isIn, state, resumable, suspended, tooHigh}
+use Rattle.sheet.specs.Moves.{pcStored, put, sent, entered, enteredClosing}
 use Rattle.sheet.specs.Instructions as Table
 use Rattle.sheet.proofs.Words.{object-found}
 use Rattle.sheet.proofs.Moved.{below, below-if, word-is, stored, put-is, sent-is, coro-is, by-kind, ended-is, closing-is, marked-is}

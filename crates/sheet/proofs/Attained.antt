@@ -1,4 +1,4 @@
--- By computation.
+-- Every line of the table is reached, by computation.
 use mathlib.Core.Path.{refl}
 use Rattle.model.specs.Compute.{computed}
 use Rattle.sheet.specs.Attained.{Attained}
@@ -7,7 +7,9 @@ pub attained : Attained
 unfolding computed
 attained =
     record {
+      gate = refl;
       coro-new = refl;
+      rows-taken = refl;
       coro-new-indirect = refl;
       spawn = refl;
       yield = refl;
@@ -17,12 +19,13 @@ attained =
       resume-throw = refl;
       coro-close = refl;
       coro-status = refl;
-      coro-current = refl;
       coro-key = refl;
       coro-result = refl;
       iter-next = refl;
       finish = refl;
+      finish-body = refl;
       unwind = refl;
+      unwind-on = refl;
       spawn-task = refl;
       host-call = refl;
       host-entry = refl;

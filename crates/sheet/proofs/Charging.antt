@@ -1,8 +1,8 @@
 -- The sheet's lines for the gate and the charge of an instruction.
 use Prim.Native.Nat.{ℕ, suc, _+_, _-_}
-use mathlib.Core.Path.{_≡_, refl, sym, ap, _∙_}
+use mathlib.Core.Path.{_≡_, refl, ap, _∙_}
 use mathlib.Core.Bool.{Bool, true, false, not, _&&_, _||_, true≢false, false≢true}
-use mathlib.Core.List.{List, [], _∷_, map}
+use mathlib.Core.List.{List, [], _∷_}
 use native.Mathlib.Omega.{arith}
 use lib.ListN.{getD, drop}
 use lib.Dec.{eqb}
@@ -12,11 +12,11 @@ use Rattle.heap.specs.declared.value.Opt.{Opt}
 use Rattle.heap.specs.declared.object.CoroState.{CoroState}
 use Rattle.model.specs.Lists.{isNil}
 use Rattle.model.specs.State.{isCreated, isSuspended, isResumable}
-use Rattle.model.specs.Object.{Core, Rest, Object, Coroutine, Absent, Is, asCoro}
-use Rattle.model.specs.World.{World, After, after, andThen, withFinalize, withFinalizing, withFuel}
+use Rattle.model.specs.Object.{Core, Rest, Object, Coroutine, Is, asCoro}
+use Rattle.model.specs.World.{World, After, after, withFinalize, withFinalizing, withFuel}
 use Rattle.model.specs.Frames.{storePc}
 use Rattle.model.specs.Heap.{coro, changeCoro}
-use Rattle.model.specs.Fuel.{unbank, unbankAt, armClose, setFinalizing, spend}
+use Rattle.model.specs.Fuel.{unbank, unbankAt, setFinalizing, spend}
 use Rattle.model.specs.Coro as Coros
 use Rattle.model.specs.Coro.{overflows, enterAs, coroEnter}
 use Rattle.model.specs.Cleanup.{suspendedAs, isEntered, close, started, startFrom, startFinalizer, chargeDone, chargeOr, chargeAt, chargeSlow, charge}
@@ -26,12 +26,12 @@ use Rattle.model.specs.declared.machine.Charge.{Charge}
 use Rattle.model.specs.declared.coro.Entered.{Entered}
 use Rattle.model.specs.declared.coro.Started.{Started}
 use Rattle.model.specs.declared.call.OptPc.{OptPc}
-use Rattle.sheet.specs.Words.{found, isCoroutine, coreOf, restOf, state, resumable, suspended, tooHigh, isIn}
+use Rattle.sheet.specs.Words.{found, isCoroutine, coreOf, restOf, state, suspended}
 use Rattle.sheet.specs.Moves.{pcStored, entered, enteredClosing}
 use Rattle.sheet.specs.Charging.{amount, reserve, fuelled, usedUp, bankBack, searches, closable, from, taken, cleanup, charged, lost}
 use Rattle.sheet.proofs.Among.{and-left}
-use Rattle.sheet.proofs.Moved.{below, below-if, stored, coro-is, closing-is}
-use Rattle.sheet.proofs.Asking.{Saved, enter-is}
+use Rattle.sheet.proofs.Moved.{stored, coro-is, closing-is}
+use Rattle.sheet.proofs.Asking.{Saved}
 
 -- ---- the bank
 

@@ -1,24 +1,21 @@
 -- The sheet's lines for `finish`.
-use Prim.Native.Nat.{ℕ, suc, _^_, _<_}
-use mathlib.Core.Path.{_≡_, refl, sym, ap, subst, _∙_}
-use mathlib.Core.Bool.{Bool, true, false, not, _&&_, _||_, true≢false, false≢true}
+use Prim.Native.Nat.{ℕ, _^_, _<_}
+use mathlib.Core.Path.{_≡_, refl, sym, ap, _∙_}
+use mathlib.Core.Bool.{Bool, true, false, not, _&&_}
 use mathlib.Core.List.{List, [], _∷_}
-use lib.IntN.{pos}
 use lib.Dec.{leb, ltb}
 use borrow.Author.Tests.{ltb-true, ltb-false, lt-leb}
 use Rattle.lists.specs.Pick.{pick, pick-true, pick-false}
-use Rattle.heap.specs.Coding.{inRange, bitsOf, ofBits}
-use Rattle.heap.specs.Int.{exactly, valueOf}
+use Rattle.heap.specs.Coding.{inRange, ofBits}
 use Rattle.heap.proofs.Coding.{bits-of, of-range}
 use Rattle.heap.specs.declared.fault.Fault.{Fault}
 use Rattle.heap.specs.declared.value.Opt.{Opt}
 use Rattle.heap.specs.declared.int.Exact.{Exact}
-use Rattle.heap.specs.declared.int.IntTy.{IntTy}
 use Rattle.heap.specs.declared.heap.ResultKind.{ResultKind}
 use Rattle.heap.specs.declared.object.CoroState.{CoroState}
 use Rattle.model.specs.World.{World, After, after, andThen, withChain, withFrames}
-use Rattle.model.specs.Frames.{popTo, nextPc, putReg}
-use Rattle.model.specs.Heap.{refuse, encodeInt, encodeExact, toDyn}
+use Rattle.model.specs.Frames.{nextPc, putReg}
+use Rattle.model.specs.Heap.{encodeInt, encodeExact, toDyn}
 use Rattle.model.specs.Coro as Coros
 use Rattle.model.specs.Machine as Machine
 use Rattle.model.specs.declared.machine.Active.{Active}
@@ -29,10 +26,9 @@ use Rattle.model.specs.declared.coro.Made.{Made}
 use Rattle.model.specs.declared.call.Answer.{Answer}
 use Rattle.sheet.specs.Lines.{leadsFrom, leads, accept}
 use Rattle.sheet.specs.Words.{lacksMemory, noSlot}
-use Rattle.sheet.specs.Moves.{onward, put, sent, iteratorDone, ended}
-use Rattle.sheet.specs.Suspending.{cleaning}
+use Rattle.sheet.specs.Moves.{put, iteratorDone, ended}
 use Rattle.sheet.specs.Endings as Table
-use Rattle.sheet.specs.Endings.{popped, result, tooLarge, isObject, converted, dynamic, conversion, handedBack, overIn, returned, stepped, written, orNil, finishBy, finishOn}
+use Rattle.sheet.specs.Endings.{popped, result, tooLarge, isObject, converted, dynamic, conversion, handedBack, returned, stepped, written, orNil, finishBy, finishOn}
 use Rattle.sheet.proofs.Choice.{both}
 use Rattle.sheet.proofs.Words.{le-true}
 use Rattle.sheet.proofs.Moved.{below, onward-is, put-is, sent-is, marked-is, ended-is}

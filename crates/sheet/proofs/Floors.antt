@@ -13,7 +13,10 @@ use Rattle.model.specs.declared.machine.Active.{Active}
 use Rattle.model.specs.declared.machine.Frame.{Frame}
 use Rattle.sheet.proofs.Rules.{floors}
 use Rattle.sheet.proofs.Among.{same, and-left}
-use Rattle.sheet.proofs.Keep.{stuck}
+
+abbrev pub stuck : List Active → List Frame → Bool
+stuck [] fs = true
+stuck (a ∷ chain) fs = leb (length fs) (a .floor)
 
 under : (fs : List Frame) (a : Active) (chain : List Active) → matches (λ f fs a. eqb (a .floor) (length fs)) fs (a ∷ chain) ≡ true → a .floor < length fs
 under [] a chain h = absurd (false≢true h)

@@ -86,7 +86,7 @@ tag-stays [] i s e = refl
 tag-stays (x ∷ xs) zero s e = e
 tag-stays (x ∷ xs) (suc i) s e = tag-stays xs i s e
 
-put-put : (xs : List (Slot Object)) (i : ℕ) (o p : Object) → putObject Object.Empty (putObject Object.Empty xs i o) i p ≡ putObject Object.Empty xs i p
+pub put-put : (xs : List (Slot Object)) (i : ℕ) (o p : Object) → putObject Object.Empty (putObject Object.Empty xs i o) i p ≡ putObject Object.Empty xs i p
 put-put xs i o p =
     ap (λ t. set (putObject Object.Empty xs i o) i (slot t p)) (tag-stays xs i (slot (getD xs i vacant .tag) o) refl)
     ∙ set-set xs i (slot (getD xs i vacant .tag) o) (slot (getD xs i vacant .tag) p)
@@ -111,12 +111,10 @@ body-stands : (fs : List Frame) → bodyLast fs ≡ true → isNil fs ≡ false
 body-stands [] h = absurd (false≢true h)
 body-stands (f ∷ fs) h = refl
 
-saved-by : (s : Setup) (k : Core) (r : Rest) → savedIn s (Is k r) ≡ true → isResumable (k .state) ≡ true → isNil (k .frames) ≡ false
+saved-by : (s : Setup) (k : Core) (r : Rest) → savedIn s (Is k r) ≡ true → isResumable (k .state) ≡ true → bodyLast (k .frames) && framesOver s (length (k .regs)) (k .frames) ≡ true
 saved-by s k r h e =
-    body-stands (k .frames)
-    (and-left (bodyLast (k .frames)) (framesOver s (length (k .regs)) (k .frames))
-    (and-left (bodyLast (k .frames) && framesOver s (length (k .regs)) (k .frames)) (waits k)
-    (sym (pick-true _ (isNil (k .frames) && isNil (k .regs))) ∙ (sym (ap (λ b. pick b (bodyLast (k .frames) && framesOver s (length (k .regs)) (k .frames) && waits k) (isNil (k .frames) && isNil (k .regs))) e) ∙ h))))
+    and-left (bodyLast (k .frames) && framesOver s (length (k .regs)) (k .frames)) (waits k)
+    (sym (pick-true _ (isNil (k .frames) && isNil (k .regs))) ∙ (sym (ap (λ b. pick b (bodyLast (k .frames) && framesOver s (length (k .regs)) (k .frames) && waits k) (isNil (k .frames) && isNil (k .regs))) e) ∙ h))
 
 saved-at : (w : World) (p : Place) (k : Core) (r : Rest) → each (λ x. savedIn (w .setup) (asCoro (x .object))) (w .slots) ≡ true → asCoro (objectAt (w .slots) p) ≡ Is k r → savedIn (w .setup) (Is k r) ≡ true
 saved-at w Place.Nothing k r h e = absurd (none e)
@@ -125,6 +123,10 @@ saved-at w Place.Nothing k r h e = absurd (none e)
     none e = true≢false (cc)
 saved-at w (Place.At i) k r h e = subst (λ x. savedIn (w .setup) x ≡ true) e (each-at (λ x. savedIn (w .setup) (asCoro (x .object))) (w .slots) i h refl)
 
-pub has-frame : (w : World) (v : ℕ) (k : Core) (r : Rest) → sound w ≡ true → coro w v ≡ Is k r → isResumable (k .state) ≡ true → isNil (k .frames) ≡ false
+-- its frames end in its body, and lie over its words
+pub has-body : (w : World) (v : ℕ) (k : Core) (r : Rest) → sound w ≡ true → coro w v ≡ Is k r → isResumable (k .state) ≡ true → bodyLast (k .frames) && framesOver (w .setup) (length (k .regs)) (k .frames) ≡ true
 unfolding savedOk
-has-frame w v k r h e s = saved-by (w .setup) k r (saved-at w (place w v) k r (saved w h) e) s
+has-body w v k r h e s = saved-by (w .setup) k r (saved-at w (place w v) k r (saved w h) e) s
+
+pub has-frame : (w : World) (v : ℕ) (k : Core) (r : Rest) → sound w ≡ true → coro w v ≡ Is k r → isResumable (k .state) ≡ true → isNil (k .frames) ≡ false
+has-frame w v k r h e s = body-stands (k .frames) (and-left (bodyLast (k .frames)) _ (has-body w v k r h e s))

@@ -1,27 +1,26 @@
 -- The sheet's lines for the instructions that make a coroutine.
 use Prim.Native.Nat.{ℕ, zero, suc, _+_, _-_}
 use mathlib.Core.Path.{_≡_, refl, sym, ap, _∙_}
-use mathlib.Core.Bool.{Bool, true, false, not, _&&_, _||_, true≢false, false≢true}
+use mathlib.Core.Bool.{Bool, true, false, not, _&&_, _||_, false≢true}
 use mathlib.Core.List.{List, [], _∷_}
 use native.Mathlib.Omega.{arith}
 use lib.ListN.{drop}
-use lib.Dec.{eqb, leb, ltb}
+use lib.Dec.{eqb, leb}
 use Rattle.lists.specs.Pick.{pick, pick-true, pick-false}
-use Rattle.heap.specs.Table.{Slot, slot}
+use Rattle.heap.specs.Table.{Slot}
 use Rattle.heap.specs.declared.fault.Fault.{Fault}
 use Rattle.heap.specs.declared.value.Opt.{Opt}
 use Rattle.heap.specs.declared.object.CoroState.{CoroState}
 use Rattle.model.specs.Lists.{among}
 use Rattle.model.specs.State.{isFinished}
-use Rattle.model.specs.Object.{Object, Coroutine, Absent, Is, asCoro}
+use Rattle.model.specs.Object.{Object, asCoro}
 use Rattle.model.specs.World.{World, After, after, andThen, withFuel}
-use Rattle.model.specs.Frames.{reg, storePc}
-use Rattle.model.specs.Heap as Heap
+use Rattle.model.specs.Frames.{storePc}
 use Rattle.model.specs.Heap.{object, notA, refuse, alloc}
 use Rattle.model.specs.Rows.{heldBy, heldRows, lowestFree, rowsFull}
 use Rattle.model.specs.Coro as Coros
 use Rattle.model.specs.Cleanup.{charge, chargeSlow}
-use Rattle.model.specs.Fuel.{unbank, spend, armClose}
+use Rattle.model.specs.Fuel.{spend, armClose}
 use Rattle.model.specs.Machine.{pushFrame}
 use Rattle.model.specs.Exec as Exec
 use Rattle.model.specs.declared.machine.Cont.{Cont}
@@ -30,11 +29,11 @@ use Rattle.model.specs.declared.coro.Made.{Made}
 use Rattle.model.specs.declared.exec.Step.{Step}
 use Rattle.model.specs.declared.call.OptPc.{OptPc}
 use Rattle.sheet.specs.Lines.{leadsFrom, leads}
-use Rattle.sheet.specs.Words.{word, arguments, base, found, kind, isNothing, dead, functionOf, coreOf, restOf, isIn, lacksMemory, noSlot}
-use Rattle.sheet.specs.Moves.{pcStored, put}
+use Rattle.sheet.specs.Words.{word, arguments, found, kind, isNothing, dead, functionOf, isIn, lacksMemory, noSlot}
+use Rattle.sheet.specs.Moves.{pcStored}
 use Rattle.sheet.specs.Charging.{reserve, fuelled, usedUp, bankBack}
 use Rattle.sheet.specs.Makings as Table
-use Rattle.sheet.specs.Makings.{holds, held, heldFrom, lowest, noRow, newWord, numbered, fitBytes, bytes, made, callee, isFunction, function, paid, noRoom, pushed, called}
+use Rattle.sheet.specs.Makings.{holds, held, heldFrom, lowest, noRow, newWord, numbered, fitBytes, bytes, made, callee, isFunction, function, paid, noRoom, called}
 use Rattle.sheet.proofs.Among.{and-left}
 use Rattle.sheet.proofs.Words.{le-true, true-le, object-found, not-a}
 use Rattle.sheet.proofs.Moved.{below, base-is, word-is, stored}

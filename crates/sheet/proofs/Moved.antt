@@ -1,7 +1,7 @@
 -- What the sheet says is done is what the machine does: registers, pcs, ends, entries.
 use Prim.Native.Nat.{ℕ}
-use mathlib.Core.Path.{_≡_, refl, sym, ap, _∙_}
-use mathlib.Core.Bool.{Bool, true, false, not, _&&_, _||_, true≢false, false≢true}
+use mathlib.Core.Path.{_≡_, refl, ap, _∙_}
+use mathlib.Core.Bool.{Bool, true, false, not, false≢true}
 use mathlib.Core.List.{List, [], _∷_}
 use lib.Dec.{eqb}
 use Rattle.lists.specs.Pick.{pick}
@@ -11,7 +11,7 @@ use Rattle.heap.specs.declared.object.CoroState.{CoroState}
 use Rattle.model.specs.Object.{Core, Rest, Object, Coroutine, Absent, Is, asCoro}
 use Rattle.model.specs.World.{World, withStack, withFrames}
 use Rattle.model.specs.Frames.{onTop, setPc, stepPc, topBase, putAt, reg, putReg, storePc}
-use Rattle.model.specs.Heap.{object, coro, notA, setObject, changeAs, changeCoro, changeIterIn}
+use Rattle.model.specs.Heap.{object, coro, notA, changeAs, changeCoro, changeIterIn}
 use Rattle.model.specs.Coro.{coroSend, finishCoroutine}
 use Rattle.model.specs.Cleanup.{close}
 use Rattle.model.specs.declared.machine.Driver.{Driver}

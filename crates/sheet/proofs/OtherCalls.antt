@@ -9,12 +9,9 @@ use Rattle.lists.specs.Pick.{pick, pick-true, pick-false}
 use Rattle.heap.specs.declared.fault.Fault.{Fault}
 use Rattle.heap.specs.declared.value.Opt.{Opt}
 use Rattle.heap.specs.declared.object.CoroState.{CoroState}
-use Rattle.model.specs.Lists.{isNil}
-use Rattle.model.specs.State.{isCreated, isSuspended, isResumable}
 use Rattle.model.specs.Object.{Object, Coroutine, Absent, Is, asCoro, withTask, withFinalized}
 use Rattle.model.specs.World.{World, After, after, andThen, withStack, withFrames, withChain, withReady, withFinalize, withOutcome, withFuel}
-use Rattle.model.specs.Frames.{topBase, putReg, storePc}
-use Rattle.model.specs.Heap.{coro, notA, setCoro, alloc}
+use Rattle.model.specs.Heap.{coro, notA, alloc}
 use Rattle.model.specs.Fuel.{setFinalizing}
 use Rattle.model.specs.Coro as Coros
 use Rattle.model.specs.Cleanup.{spawnAs, spawnTask}
@@ -31,11 +28,10 @@ use Rattle.model.specs.declared.coro.Made.{Made}
 use Rattle.model.specs.declared.coro.Entered.{Entered}
 use Rattle.model.specs.declared.call.Answer.{Answer}
 use Rattle.sheet.specs.Lines.{leads}
-use Rattle.sheet.specs.Words.{base, lies, found, dead, noCoroutine, isCoroutine, coreOf, restOf, state, resumable, suspended, tooHigh, lacksMemory, noSlot, isIn}
-use Rattle.sheet.specs.Moves.{pcStored, put, sent, replaced, entered, ended}
+use Rattle.sheet.specs.Words.{lies, found, isCoroutine, coreOf, restOf, state, resumable, lacksMemory, noSlot}
+use Rattle.sheet.specs.Moves.{pcStored, sent, replaced, entered}
 use Rattle.sheet.specs.Charging.{reserve, amount}
-use Rattle.sheet.specs.Makings.{isFunction, stored, newWord, noRoom, pushed}
-use Rattle.sheet.specs.Suspending.{cleaning}
+use Rattle.sheet.specs.Makings.{isFunction, stored, newWord, noRoom}
 use Rattle.sheet.specs.OtherCalls as Table
 use Rattle.sheet.specs.OtherCalls.{allowed, granted, stopped, registers}
 use Rattle.sheet.proofs.Among.{and-true}

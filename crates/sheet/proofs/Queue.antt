@@ -1,108 +1,172 @@
--- The cleanup queue's loss, and the search's steps.
-use Prim.Native.Nat.{ℕ, _+_}
-use mathlib.Core.Path.{_≡_, refl, sym, ap, _∙_}
-use mathlib.Core.Bool.{Bool, true, false, not, _&&_}
-use mathlib.Core.List.{List}
+-- The queue words that an instruction takes off.
+use Prim.Native.Nat.{ℕ, suc, _+_}
+use mathlib.Core.Path.{_≡_, refl, sym, ap, subst, _∙_}
+use mathlib.Core.Bool.{Bool, true, false, not, _&&_, true≢false, false≢true}
+use mathlib.Core.List.{List, [], _∷_, map}
 use native.Mathlib.Omega.{arith}
-use lib.ListN.{length}
+use lib.ListN.{length, drop}
+use lib.Dec.{eqb}
 use Rattle.lists.specs.Pick.{pick}
-use Rattle.heap.specs.declared.fault.Fault.{Fault}
 use Rattle.model.specs.Lists.{isNil}
-use Rattle.model.specs.World.{World, After}
-use Rattle.model.specs.Frames.{storePc}
-use Rattle.model.specs.Fuel.{unbank}
-use Rattle.model.specs.Cleanup.{charge}
-use Rattle.model.specs.Gate.{refused, charged, instruction}
-use Rattle.model.specs.Answer.{takenOff}
+use Rattle.model.specs.World.{World, After, after}
 use Rattle.model.specs.Sound.{sound}
-use Rattle.model.specs.Step.{Out, told, call, tested}
-use Rattle.model.specs.Calls.{Instruction, table}
-use Rattle.model.specs.declared.machine.Charge.{Charge}
+use Rattle.model.specs.Answer.{takenOff}
+use Rattle.model.specs.Call.{Do, Operation}
+use Rattle.model.specs.Step.{step}
+use Rattle.model.specs.Calls.{table}
 use Rattle.model.specs.declared.exec.Step.{Step}
-use Rattle.model.specs.declared.call.OptPc.{OptPc}
 use Rattle.model.specs.declared.call.Op.{Op}
 use Rattle.model.specs.declared.call.Answer.{Answer}
-use Rattle.sheet.specs.Own.{own}
-use Rattle.sheet.specs.Charges.{passes}
-use Rattle.sheet.specs.Queue.{steps, searches, Queue}
-use Rattle.sheet.proofs.Choice.{both}
-use Rattle.sheet.proofs.Arms.{Fine}
-use Rattle.sheet.proofs.Says.{answer-count}
-use Rattle.sheet.proofs.Charge.{countOf, charge-loss, charge-count}
-use Rattle.sheet.proofs.Runs.{runs}
+use Rattle.sheet.specs.Lines.{Line, Lines, leadsFrom, leads, refuse}
+use Rattle.sheet.specs.Words.{lies}
+use Rattle.sheet.specs.Moves.{pcStored}
+use Rattle.sheet.specs.Charging.{usedUp, searches, starts, closable, from, taken, charged, lost, asAnswer, instruction}
+use Rattle.sheet.specs.Makings as Makings
+use Rattle.sheet.specs.Instructions as Asked
+use Rattle.sheet.specs.Yields as Yields
+use Rattle.sheet.specs.Sheet.{lie, windowLies, tableOf, sheet}
+use Rattle.sheet.specs.Answers.{isInstruction}
+use Rattle.sheet.specs.Queue.{Queue}
+use Rattle.sheet.proofs.Among.{and-left, and-right, not-true}
+use Rattle.sheet.proofs.Choice.{both, by-test}
+use Rattle.sheet.proofs.Sheet.{leads-to}
+use Rattle.sheet.proofs.Led.{here, Every, led}
+use Rattle.sheet.proofs.Walk as Walk
+use Rattle.sheet.proofs.Walk.{EveryLine, Own, Owns}
 
--- an instruction's count is its charge's, and its arm leaves the queue
-module _ (ns : List ℕ) (arm : World → After Step) (fine : (u : World) → Fine ns u (arm u)) (u : World) where
-  charged-count : (c : Charge) → takenOff (charged arm u c .answer) ≡ countOf c
-  charged-count (Charge.Done n) = answer-count n (arm u .answer)
-  charged-count Charge.Spent = refl
-  charged-count (Charge.Close n) = refl
+-- ---- the search
 
-  charged-queue : (c : Charge) → charged arm u c .world .finalize ≡ u .finalize
-  charged-queue (Charge.Done n) = fine u .queue
-  charged-queue Charge.Spent = refl
-  charged-queue (Charge.Close n) = refl
-
--- no word goes and none comes
-abbrev Same : World → After Answer → Type 0
-Same w a = takenOff (a .answer) + length (a .world .finalize) ≡ length (w .finalize)
-
-count-gate : (n : ℕ) (w : World) (none ok s : Bool) (x : After Answer) → takenOff (x .answer) ≡ pick s n 0 →
-    takenOff (pick none (refused w Fault.NoFrame) (pick (not ok) (refused w Fault.BadOperand) x) .answer) ≡ pick (not none && ok && s) n 0
+found-one : (w : World) (q : List ℕ) → isNil (from w q) ≡ false → taken w q + length (drop 1 (from w q)) ≡ length q
 unfolding pick
-count-gate n w true ok s x h = refl
-count-gate n w false true s x h = h
-count-gate n w false false s x h = refl
+found-one w [] h = absurd (true≢false h)
+found-one w (c ∷ q) h = go (closable w c) (found-one w q) h
+  where
+    go : (b : Bool) → (isNil (from w q) ≡ false → taken w q + length (drop 1 (from w q)) ≡ length q) → isNil (pick b (c ∷ q) (from w q)) ≡ false → pick b 1 (suc (taken w q)) + length (drop 1 (pick b (c ∷ q) (from w q))) ≡ suc (length q)
+    go true more h = omega arith
+    go false more h = let e = more h in omega (arith, e)
 
-module _ (w : World) (ns : List ℕ) (pc : ℕ) (operands : World → Bool) (arm : World → After Step) (fine : (u : World) → Fine ns u (arm u)) where
-  instruction-loss : Same w (instruction pc (operands w) arm w)
-  unfolding instruction
-  instruction-loss =
-      both (λ a. Same w a) _ (omega arith) (both (λ a. Same w a) _ (omega arith) lost)
+found-none : (w : World) (q : List ℕ) → isNil (from w q) ≡ true → taken w q ≡ length q
+unfolding pick
+found-none w [] h = refl
+found-none w (c ∷ q) h = go (closable w c) (found-none w q) h
+  where
+    go : (b : Bool) → (isNil (from w q) ≡ true → taken w q ≡ length q) → isNil (pick b (c ∷ q) (from w q)) ≡ true → pick b 1 (suc (taken w q)) ≡ suc (length q)
+    go true more h = absurd (false≢true h)
+    go false more h = ap suc (more h)
+
+module _ (pc : ℕ) (w : World) where
+  abbrev z : World
+  z = pcStored pc w
+
+  abbrev q : List ℕ
+  q = w .finalize
+
+  spent : (f r : Bool) (A B C : World) → A .finalize ≡ q → B .finalize ≡ q → C .finalize ≡ [] → (f && r) && not (isNil (from z q)) ≡ false →
+      pick (f && r) (taken z q) 0 + length (pick (not f) A (pick (not r) B C) .finalize) ≡ length q
+  unfolding pick
+  spent true true A B C a b c h = let e = found-none z q (isnt (isNil (from z q)) h) in let l : length (C .finalize) ≡ 0 = ap (λ x. length x) c in omega (arith, e, l)
     where
-      c : After Charge
-      c = charge (OptPc.Some pc) w
+      isnt : (b : Bool) → not b ≡ false → b ≡ true
+      isnt true h = refl
+      isnt false h = absurd (true≢false h)
+  spent true false A B C a b c h = let l : length (B .finalize) ≡ length q = ap (λ x. length x) b in omega (arith, l)
+  spent false r A B C a b c h = let l : length (A .finalize) ≡ length q = ap (λ x. length x) a in omega (arith, l)
 
-      lost : Same w (charged arm (c .world) (c .answer))
-      lost =
-          ap (λ n. n + length (charged arm (c .world) (c .answer) .world .finalize)) (charged-count ns arm fine (c .world) (c .answer))
-          ∙ (ap (λ (q : List ℕ). countOf (c .answer) + length q) (charged-queue ns arm fine (c .world) (c .answer))
-          ∙ charge-loss pc w)
+  all-lost : starts pc w ≡ false → lost pc w + length (charged pc w .finalize) ≡ length q
+  all-lost h = spent (eqb (w .fuel .fuel) 0) (w .fuel .ready) _ _ _ refl refl refl h
 
-  instruction-count : takenOff (instruction pc (operands w) arm w .answer) ≡ pick (passes w (Instruction pc operands arm) && searches w) (steps (w .finalize) (unbank (storePc pc (unbank w)))) 0
-  unfolding instruction
-  instruction-count =
-      count-gate (steps (w .finalize) (unbank (storePc pc (unbank w)))) w (isNil (w .frames)) (operands w) (searches w) _
-      (charged-count ns arm fine (charge (OptPc.Some pc) w .world) (charge (OptPc.Some pc) w .answer) ∙ charge-count pc w)
+  -- ---- an instruction
 
--- ---- the machine's test first
+  abbrev Loses : After Answer → Type 0
+  Loses a = length q ≡ takenOff (a .answer) + length (a .world .finalize)
 
-step-loss : (w : World) (b : Bool) (x : Out) → takenOff (x .answer) + length (x .world .finalize) ≡ length (w .finalize) →
-    takenOff (pick b x (told (refused w Fault.Unsound)) .answer) + length (pick b x (told (refused w Fault.Unsound)) .world .finalize) ≡ length (w .finalize)
+  own-line : (x : World) (b : Bool) (s : Step) → starts pc w ≡ false → x .finalize ≡ charged pc w .finalize → Loses (after x (pick b (Answer.Unpaid (lost pc w)) (Answer.Stepped s (lost pc w))))
+  own-line x b s h e = both (λ (a : Answer). length q ≡ takenOff a + length (x .finalize)) b same same
+    where
+      same : length q ≡ lost pc w + length (x .finalize)
+      same = sym (all-lost h) ∙ ap (λ l. lost pc w + length l) (sym e)
+
+  own-lines : (ts : List (Line Step)) → starts pc w ≡ false → EveryLine (Own (charged pc w)) ts → Every Loses (map (asAnswer (lost pc w)) ts)
+  own-lines [] h o = tt
+  own-lines (t ∷ ts) h o = (λ e. own-line (t .left) (eqb (t .number) 10) (t .answer) h (o .0 e .kept .queue), own-lines ts h (o .1))
+
+  loses : (ok : Bool) (own : World → Lines Step) → Owns (charged pc w) (own (charged pc w)) → Loses (leadsFrom (refuse 11 (not (sound w)) w ∷ instruction pc ok own w .tests) (instruction pc ok own w .done))
+  loses ok own o =
+      by-test Loses (not (sound w)) (λ _. nothing)
+      (λ _. by-test Loses (isNil (w .frames)) (λ _. nothing)
+      (λ _. by-test Loses (not ok) (λ _. nothing)
+      (λ _. by-test Loses (usedUp w) (λ _. nothing)
+      (λ _. by-test Loses (starts pc w) cleaned
+      (λ h. led Loses (map (asAnswer (lost pc w)) (own u .tests)) (asAnswer (lost pc w) (own u .done)) (own-lines (own u .tests) h (o .0)) (own-line (own u .done .left) (eqb (own u .done .number) 10) (own u .done .answer) h (o .1 .kept .queue)))))))
+    where
+      u : World
+      u = charged pc w
+
+      nothing : length q ≡ 0 + length q
+      nothing = omega arith
+
+      cleaned : starts pc w ≡ true → length q ≡ lost pc w + length (drop 1 (from z q))
+      cleaned h =
+          let e = found-one z q (not-true (isNil (from z q)) (and-right (searches w) _ h)) in
+          let l : lost pc w ≡ taken z q = here (searches w) 0 (and-left (searches w) _ h) in
+          omega (arith, e, l)
+
+-- ---- by instruction
+
+abbrev At : World → Op → Type 0
+At w o = length (w .finalize) ≡ takenOff (leads (sheet o w) .answer) + length (leads (sheet o w) .world .finalize)
+
+loss-by : (o : Op) (w : World) → isInstruction (table o) ≡ true → At w o
+loss-by (Op.CoroNew pc dst f argc) w i = loses pc w (lies w dst && windowLies dst argc w && Makings.isFunction w f) (Makings.coroNew dst f argc) (Walk.new-owns (charged pc w) dst f argc)
+loss-by (Op.CoroNewIndirect pc dst c argc) w i = loses pc w (lie (dst ∷ c ∷ []) w && windowLies dst argc w) (Makings.coroNewIndirect dst c argc) (Walk.new-indirect-owns (charged pc w) dst c argc)
+loss-by (Op.Spawn pc dst c argc) w i = loses pc w (lie (dst ∷ c ∷ []) w && windowLies dst argc w) (Makings.spawn pc dst c argc) (Walk.spawn-owns (charged pc w) pc dst c argc)
+loss-by (Op.Yield pc dst src) w i = loses pc w (lie (dst ∷ src ∷ []) w) (Yields.yield pc dst src) (Walk.yield-owns (charged pc w) pc dst src)
+loss-by (Op.YieldKv pc dst src key) w i = loses pc w (lie (dst ∷ src ∷ key ∷ []) w) (Yields.yieldKv pc dst src key) (Walk.yield-kv-owns (charged pc w) pc dst src key)
+loss-by (Op.Await pc dst src) w i = loses pc w (lie (dst ∷ src ∷ []) w) (Yields.await pc dst src) (Walk.await-owns (charged pc w) pc dst src)
+loss-by (Op.Resume pc dst c src) w i = loses pc w (lie (dst ∷ c ∷ src ∷ []) w) (Asked.resume pc dst c src) (Walk.resume-owns (charged pc w) pc dst c src)
+loss-by (Op.ResumeThrow pc dst c src) w i = loses pc w (lie (dst ∷ c ∷ src ∷ []) w) (Asked.resumeThrow pc dst c src) (Walk.throw-owns (charged pc w) pc dst c src)
+loss-by (Op.CoroClose pc dst c src) w i = loses pc w (lie (dst ∷ c ∷ src ∷ []) w) (Asked.coroClose pc dst c src) (Walk.close-owns (charged pc w) pc dst c src)
+loss-by (Op.CoroStatus pc dst c) w i = loses pc w (lie (dst ∷ c ∷ []) w) (Asked.coroStatus dst c) (Walk.status-owns (charged pc w) dst c)
+loss-by (Op.CoroCurrent pc dst) w i = loses pc w (lie (dst ∷ []) w) (Asked.coroCurrent dst) (Walk.current-owns (charged pc w) dst)
+loss-by (Op.CoroKey pc dst c) w i = loses pc w (lie (dst ∷ c ∷ []) w) (Asked.coroKey dst c) (Walk.key-owns (charged pc w) dst c)
+loss-by (Op.CoroResult pc dst c) w i = loses pc w (lie (dst ∷ c ∷ []) w) (Asked.coroResult dst c) (Walk.result-owns (charged pc w) dst c)
+loss-by (Op.IterNext pc has iter val src) w i = loses pc w (lie (has ∷ iter ∷ val ∷ src ∷ []) w) (Asked.iterNext pc has iter val src) (Walk.next-owns (charged pc w) pc has iter val src)
+loss-by (Op.Finish kind v) w i = absurd (false≢true i)
+loss-by (Op.Unwind f pc) w i = absurd (false≢true i)
+loss-by (Op.SpawnTask v) w i = absurd (false≢true i)
+loss-by (Op.HostCall f) w i = absurd (false≢true i)
+loss-by (Op.HostEntry c v) w i = absurd (false≢true i)
+loss-by (Op.FunctionCall pc f cont) w i = absurd (false≢true i)
+loss-by (Op.PutWord r v) w i = absurd (false≢true i)
+loss-by (Op.MakeIterator v) w i = absurd (false≢true i)
+loss-by Op.TakeOutcome w i = absurd (false≢true i)
+loss-by (Op.HandOver v) w i = absurd (false≢true i)
+loss-by (Op.Grant n) w i = absurd (false≢true i)
+loss-by Op.StopRun w i = absurd (false≢true i)
+loss-by Op.Look w i = absurd (false≢true i)
+
+-- ---- the count
+
+own-count : (n : ℕ) (ts : List (Line Step)) (d : Line Step) → takenOff (leadsFrom (map (asAnswer n) ts) (asAnswer n d) .answer) ≡ n
+own-count n [] d = both (λ (a : Answer). takenOff a ≡ n) _ refl refl
+own-count n (t ∷ ts) d = both (λ (a : After Answer). takenOff (a .answer) ≡ n) (t .stops) (both (λ (a : Answer). takenOff a ≡ n) _ refl refl) (own-count n ts d)
+
+counted : (s f k p r : Bool) (t : ℕ) (a b c d e : After Answer) → takenOff (a .answer) ≡ 0 → takenOff (b .answer) ≡ 0 → takenOff (c .answer) ≡ 0 → takenOff (d .answer) ≡ 0 → takenOff (e .answer) ≡ pick r t 0 →
+    takenOff (pick (not s) a (pick f b (pick (not k) c (pick p d e))) .answer) ≡ pick (s && (not f && (k && (not p && r)))) t 0
 unfolding pick
-step-loss w true x h = h
-step-loss w false x h = omega arith
+counted true true k p r t a b c d e ha hb hc hd he = hb
+counted true false true true r t a b c d e ha hb hc hd he = hd
+counted true false true false r t a b c d e ha hb hc hd he = he
+counted true false false p r t a b c d e ha hb hc hd he = hc
+counted false f k p r t a b c d e ha hb hc hd he = ha
 
-step-count : (w : World) (n : ℕ) (b s : Bool) (x : Out) → takenOff (x .answer) ≡ pick s n 0 → takenOff (pick b x (told (refused w Fault.Unsound)) .answer) ≡ pick (b && s) n 0
-unfolding pick
-step-count w n true s x h = h
-step-count w n false s x h = refl
-
-loss-of : (w : World) (o : Op) (pc : ℕ) (operands : World → Bool) (arm : World → After Step) → table o ≡ Instruction pc operands arm → length (w .finalize) ≡ takenOff (tested w o .answer) + length (tested w o .world .finalize)
-unfolding tested
-loss-of w o pc operands arm e =
-    let r = runs w o pc operands arm e in
-    sym (step-loss w (sound w) (call o w) (ap (λ (x : Out). takenOff (x .answer) + length (x .world .finalize)) (r .does) ∙ instruction-loss w (own o) pc operands arm (r .fine)))
-
-count-of : (w : World) (o : Op) (pc : ℕ) (operands : World → Bool) (arm : World → After Step) → table o ≡ Instruction pc operands arm →
-    takenOff (tested w o .answer) ≡ pick (sound w && (passes w (table o) && searches w)) (steps (w .finalize) (unbank (storePc pc (unbank w)))) 0
-unfolding tested
-count-of w o pc operands arm e =
-    let r = runs w o pc operands arm e in
-    step-count w (steps (w .finalize) (unbank (storePc pc (unbank w)))) (sound w) (passes w (table o) && searches w) (call o w)
-    (ap (λ (x : Out). takenOff (x .answer)) (r .does)
-    ∙ (instruction-count w (own o) pc operands arm (r .fine)
-    ∙ ap (λ k. pick (passes w k && searches w) (steps (w .finalize) (unbank (storePc pc (unbank w)))) 0) (sym e)))
+count-by : (w : World) (o : Operation) (pc : ℕ) (ok : Bool) (own : World → Lines Step) → tableOf (o .op) w ≡ instruction pc ok own w →
+    takenOff (step w (Do o) .answer) ≡ pick (sound w && (not (isNil (w .frames)) && (ok && (not (usedUp w) && searches w)))) (taken (pcStored pc w) (w .finalize)) 0
+count-by w o pc ok own e =
+    ap (λ (a : After Answer). takenOff (a .answer)) (leads-to w o)
+    ∙ (ap (λ (l : Lines Answer). takenOff (leadsFrom (refuse 11 (not (sound w)) w ∷ l .tests) (l .done) .answer)) e
+    ∙ counted (sound w) (isNil (w .frames)) ok (usedUp w) (searches w) (taken (pcStored pc w) (w .finalize)) _ _ _ _ _ refl refl refl refl
+    (both (λ (a : After Answer). takenOff (a .answer) ≡ lost pc w) (starts pc w) refl (own-count (lost pc w) (own (charged pc w) .tests) (own (charged pc w) .done))))
 
 pub queue : Queue
-queue = record { loss = loss-of; count = count-of }
+queue = record { loss = λ w o i. subst (λ (a : After Answer). length (w .finalize) ≡ takenOff (a .answer) + length (a .world .finalize)) (sym (leads-to w o)) (loss-by (o .op) w i); count = count-by }

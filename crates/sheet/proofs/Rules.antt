@@ -1,4 +1,4 @@
--- Three of the rules that a sound machine keeps.
+-- Six of the rules that a sound machine keeps.
 use mathlib.Core.Path.{_≡_}
 use mathlib.Core.Bool.{Bool, true, _&&_}
 use Rattle.model.specs.Program.{setupOk}
@@ -24,6 +24,25 @@ module _ (w : World) (h : sound w ≡ true) where
       (and-left (high w && rowsOk w) (queuesOk w)
       (and-left (high w && rowsOk w && queuesOk w) (fuelOk w)
       (and-left (high w && rowsOk w && queuesOk w && fuelOk w) (unusedOk w) (and-left (high w && rowsOk w && queuesOk w && fuelOk w && unusedOk w) (rangesOk w) h))))
+
+  pub fuel : fuelOk w ≡ true
+  unfolding sound
+  fuel =
+      and-right (high w && rowsOk w && queuesOk w) (fuelOk w)
+      (and-left (high w && rowsOk w && queuesOk w && fuelOk w) (unusedOk w) (and-left (high w && rowsOk w && queuesOk w && fuelOk w && unusedOk w) (rangesOk w) h))
+
+  first : setupOk (w .setup) && sizesOk w ≡ true
+  first =
+      (and-left (setupOk (w .setup) && sizesOk w) (savedSizesOk w)
+      (and-left (setupOk (w .setup) && sizesOk w && savedSizesOk w) (framesOk w)
+      (and-left (setupOk (w .setup) && sizesOk w && savedSizesOk w && framesOk w) (entryOk w)
+      (and-left (low w) (floorsOk w) (and-left (low w && floorsOk w) (driversOk w) (and-left (middle w) (runningOk w) (and-left (middle w && runningOk w) (savedOk w) up-to-saved)))))))
+
+  pub set-up : setupOk (w .setup) ≡ true
+  set-up = and-left (setupOk (w .setup)) (sizesOk w) first
+
+  pub sizes : sizesOk w ≡ true
+  sizes = and-right (setupOk (w .setup)) (sizesOk w) first
 
   up-to-running : middle w && runningOk w ≡ true
   up-to-running = and-left (middle w && runningOk w) (savedOk w) up-to-saved

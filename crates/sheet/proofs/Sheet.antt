@@ -1,12 +1,12 @@
 -- The sheet: every call leads to the first line that stops it.
-use Prim.Native.Nat.{ℕ, _+_, _^_, _<_}
+use Prim.Native.Nat.{ℕ, _+_, _^_}
 use mathlib.Core.Path.{_≡_, refl, sym, ap, subst, _∙_}
-use mathlib.Core.Bool.{Bool, true, false, not, _&&_, _||_, true≢false, false≢true}
+use mathlib.Core.Bool.{Bool, true, false, not, _&&_, true≢false}
 use mathlib.Core.List.{List, [], _∷_, map}
 use lib.ListN.{length}
 use lib.Dec.{eqb, leb, ltb}
 use borrow.Author.Tests.{ltb-true}
-use Rattle.lists.specs.Pick.{pick, pick-true, pick-false}
+use Rattle.lists.specs.Pick.{pick, pick-false}
 use Rattle.heap.specs.Fault as Faults
 use Rattle.heap.specs.declared.fault.Fault.{Fault}
 use Rattle.model.specs.Lists.{isNil, each}
@@ -27,19 +27,18 @@ use Rattle.model.specs.Step.{Out, told, call, tested, step}
 use Rattle.model.specs.declared.call.Op.{Op}
 use Rattle.model.specs.declared.call.Answer.{Answer}
 use Rattle.sheet.specs.Lines.{Line, Lines, leadsFrom, leads}
-use Rattle.sheet.specs.Words.{base, lies, found, isCoroutine}
+use Rattle.sheet.specs.Words.{lies, found, isCoroutine}
 use Rattle.sheet.specs.Suspending.{running}
-use Rattle.sheet.specs.Charging.{usedUp, bankBack, searches, from, cleanup, charged, lost, asAnswer, instruction}
-use Rattle.sheet.specs.Moves.{pcStored}
+use Rattle.sheet.specs.Charging.{usedUp, bankBack, starts, cleanup, charged, lost, asAnswer, instruction}
 use Rattle.sheet.specs.Instructions as Instructions
 use Rattle.sheet.specs.Makings as Makings
 use Rattle.sheet.specs.Yields as Yields
 use Rattle.sheet.specs.Sheet.{lie, windowLies, tableOf, sheet}
 use Rattle.sheet.proofs.Among.{same, and-left, and-right, not-true}
 use Rattle.sheet.proofs.Choice.{both}
-use Rattle.sheet.proofs.Keep.{isAbsent, stuck}
 use Rattle.sheet.proofs.Floors.{not-stuck}
 use Rattle.sheet.proofs.Found as Found
+use Rattle.sheet.proofs.Found.{isAbsent}
 use Rattle.sheet.proofs.Lookup.{has-frame}
 use Rattle.sheet.proofs.Moved.{below, base-is, coro-is}
 use Rattle.sheet.proofs.Asking.{Saved, then-two, resume-is, resume-throw-is, coro-close-is, iter-next-is, coro-status-is, coro-current-is, coro-key-is, coro-result-is}
@@ -132,10 +131,10 @@ instruction-is pc ok operands arm own w h e does wells =
     o = own u
 
     behind : andThen (charge (OptPc.Some pc) w) (Gate.charged arm)
-        ≡ pick (usedUp w) (after (bankBack w) (Answer.Stepped (Step.Fault Fault.OutOfFuel) 0)) (pick (searches w && not (isNil (from (pcStored pc w) (w .finalize)))) (after (cleanup pc w) (Answer.Cleanup n)) (leadsFrom (map (asAnswer n) (o .tests)) (asAnswer n (o .done))))
+        ≡ pick (usedUp w) (after (bankBack w) (Answer.Stepped (Step.Fault Fault.OutOfFuel) 0)) (pick (starts pc w) (after (cleanup pc w) (Answer.Cleanup n)) (leadsFrom (map (asAnswer n) (o .tests)) (asAnswer n (o .done))))
     behind =
         ap (λ (x : After Charge). andThen x (Gate.charged arm)) (charge-is pc w (sound-saved w h))
-        ∙ (then-two (Gate.charged arm) (usedUp w) (usedUp w) (searches w && not (isNil (from (pcStored pc w) (w .finalize)))) (after (bankBack w) Charge.Spent) (after (cleanup pc w) (Charge.Close n)) (after u (Charge.Done n)) refl
+        ∙ (then-two (Gate.charged arm) (usedUp w) (usedUp w) (starts pc w) (after (bankBack w) Charge.Spent) (after (cleanup pc w) (Charge.Close n)) (after u (Charge.Done n)) refl
         ∙ below _ _ (below _ _ (ap (λ (x : After Step). andThen x (stepped n)) (does u (charged-saved pc w (sound-saved w h)) (charged-sane pc w (sound-sane w h)))
         ∙ told-lines n (o .tests) (o .done) (and-left (each well (o .tests)) (well (o .done)) (wells u)) (and-right (each well (o .tests)) (well (o .done)) (wells u)))))
 

@@ -1,11 +1,11 @@
 -- The sheet's numbers: each line's is its answer's.
-use Prim.Native.Nat.{ℕ, _^_}
-use mathlib.Core.Path.{_≡_, refl, sym, ap, _∙_}
-use mathlib.Core.Bool.{Bool, true, false, not, _&&_, _||_}
+use Prim.Native.Nat.{ℕ}
+use mathlib.Core.Path.{_≡_, refl, ap, _∙_}
+use mathlib.Core.Bool.{Bool, true, false, not, _&&_}
 use mathlib.Core.List.{List, [], _∷_}
 use lib.Dec.{eqb, leb}
 use borrow.Author.Tests.{eq-eqb}
-use Rattle.lists.specs.Pick.{pick, pick-true, pick-false}
+use Rattle.lists.specs.Pick.{pick}
 use Rattle.heap.specs.Fault as Faults
 use Rattle.heap.specs.declared.fault.Fault.{Fault}
 use Rattle.heap.specs.declared.heap.ResultKind.{ResultKind}
@@ -120,7 +120,7 @@ tells-table (Op.Grant n) w = refl
 tells-table Op.StopRun w = refl
 tells-table Op.Look w = refl
 
-says-number : (w : World) (o : Operation) → numberOf (step w (Do o) .answer) ≡ says (sheet (o .op) w)
+pub says-number : (w : World) (o : Operation) → numberOf (step w (Do o) .answer) ≡ says (sheet (o .op) w)
 says-number w o =
     let t = tableOf (o .op) w in
     ap (λ (x : After Answer). numberOf (x .answer)) (leads-to w o)
@@ -133,7 +133,7 @@ unfolding pick
 set-up-by true s w = refl
 set-up-by false s w = refl
 
-sets-up : (w : World) (s : Setup) → step w (SetUp s) ≡ told (leads (setUp s w))
+pub sets-up : (w : World) (s : Setup) → step w (SetUp s) ≡ told (leads (setUp s w))
 unfolding step
 sets-up w s = set-up-by (setupOk s) s w
 
@@ -151,7 +151,7 @@ unfolding pick
 sees-by true x w l e = e
 sees-by false x w l e = refl
 
-look-sees : (w : World) (o : Operation) → step w (Do o) .seen ≡ pick (sound w) (seenBy (table (o .op)) w) []
+pub look-sees : (w : World) (o : Operation) → step w (Do o) .seen ≡ pick (sound w) (seenBy (table (o .op)) w) []
 unfolding step tested call
 look-sees w o = sees-by (sound w) (call (o .op) w) w (seenBy (table (o .op)) w) (row-sees (table (o .op)) w)
 

@@ -1,20 +1,19 @@
 -- The sheet's lines for Yield, YieldKv and Await: the suspension and what is delivered.
 use Prim.Native.Nat.{ℕ, zero, suc, _+_, _-_, _*_, max}
-use mathlib.Core.Path.{_≡_, refl, sym, ap, _∙_}
-use mathlib.Core.Bool.{Bool, true, false, not, _&&_, _||_, true≢false, false≢true}
-use mathlib.Core.List.{List, [], _∷_, map, _++_}
+use mathlib.Core.Path.{_≡_, refl, ap, _∙_}
+use mathlib.Core.Bool.{Bool, true, false, not, _&&_, true≢false, false≢true}
+use mathlib.Core.List.{List, [], _∷_, map}
 use lib.ListN.{length, getD, take, drop}
 use lib.Dec.{leb}
-use Rattle.lists.specs.Pick.{pick, pick-true, pick-false}
+use Rattle.lists.specs.Pick.{pick, pick-false}
 use Rattle.heap.specs.Charge.{satAdd}
-use Rattle.heap.specs.Table.{Slot, slot}
 use Rattle.heap.specs.declared.fault.Fault.{Fault}
 use Rattle.heap.specs.declared.value.Opt.{Opt}
 use Rattle.heap.specs.declared.object.CoroState.{CoroState}
 use Rattle.model.specs.Lists.{isNil}
-use Rattle.model.specs.Object.{Core, Rest, Object, Coroutine, Absent, Is, asCoro, withPayload, withMaxregs, withMaxframes}
+use Rattle.model.specs.Object.{Core, Rest, Object, Is, asCoro, withPayload, withMaxregs, withMaxframes}
 use Rattle.model.specs.World.{World, After, after, andThen, withStack, withFrames, withChain, withFinalizing, withUsed, withFuel}
-use Rattle.model.specs.Frames.{frame, lower, above, baseAt, storePc}
+use Rattle.model.specs.Frames.{frame, lower, above, baseAt}
 use Rattle.model.specs.Frames as Frames
 use Rattle.model.specs.Heap as Heaps
 use Rattle.model.specs.Heap.{coro, setCoro, fits}
@@ -30,8 +29,8 @@ use Rattle.model.specs.declared.coro.Event.{Event}
 use Rattle.model.specs.declared.coro.Keys.{Keys}
 use Rattle.model.specs.declared.coro.Suspension.{Suspension}
 use Rattle.model.specs.declared.exec.Step.{Step}
-use Rattle.sheet.specs.Lines.{leadsFrom, leads}
-use Rattle.sheet.specs.Words.{word, found, isCoroutine, coreOf, restOf, lacksMemory}
+use Rattle.sheet.specs.Lines.{leadsFrom}
+use Rattle.sheet.specs.Words.{found, isCoroutine, coreOf, restOf, lacksMemory}
 use Rattle.sheet.specs.Moves.{atPc, pcStored, sent, put, marked}
 use Rattle.sheet.specs.Suspending.{running, restHere, heldFrames, floorBase, slept, growth, restAsleep, asleep, armed, cleaning, asks, isLoop, delivered}
 use Rattle.sheet.specs.Yields.{yielded, yields, yieldEnds, awaited, awaits, awaitEnds}

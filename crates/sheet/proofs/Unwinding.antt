@@ -1,7 +1,7 @@
 -- The sheet's lines for `unwind`.
 use Prim.Native.Nat.{ℕ}
 use mathlib.Core.Path.{_≡_, refl, sym, ap, _∙_}
-use mathlib.Core.Bool.{Bool, true, false, not, _&&_, _||_, true≢false, false≢true}
+use mathlib.Core.Bool.{Bool, true, false, not, _&&_, _||_}
 use mathlib.Core.List.{List, [], _∷_}
 use lib.Dec.{eqb, leb}
 use Rattle.lists.specs.Pick.{pick, pick-true, pick-false}
@@ -13,7 +13,7 @@ use Rattle.model.specs.Program as Program
 use Rattle.model.specs.Object.{Object, asCoro}
 use Rattle.model.specs.World.{World, After, after, andThen, withChain}
 use Rattle.model.specs.Frames as Frames
-use Rattle.model.specs.Frames.{putReg, storePc}
+use Rattle.model.specs.Frames.{putReg}
 use Rattle.model.specs.Heap.{coro, alloc}
 use Rattle.model.specs.Coro as Coros
 use Rattle.model.specs.Cleanup.{charge}
@@ -31,10 +31,10 @@ use Rattle.model.specs.declared.call.OptPc.{OptPc}
 use Rattle.model.specs.declared.call.Answer.{Answer}
 use Rattle.sheet.specs.Lines.{Line, leadsFrom, leads, fault, line}
 use Rattle.sheet.specs.Words.{found, restOf, lacksMemory, noSlot}
-use Rattle.sheet.specs.Moves.{pcStored, put, ended}
+use Rattle.sheet.specs.Moves.{pcStored, put}
 use Rattle.sheet.specs.Charging.{usedUp, bankBack}
 use Rattle.sheet.specs.Makings.{paid, newWord}
-use Rattle.sheet.specs.Suspending.{running, restHere, cleaning, asks}
+use Rattle.sheet.specs.Suspending.{asks}
 use Rattle.sheet.specs.Endings.{popped, overIn, returned}
 use Rattle.sheet.specs.Unwinding as Table
 use Rattle.sheet.specs.Unwinding.{covering, takers, taker, isEntry, isBody, ownSignal, driven, failedTo, failed, left, given, errorMade}

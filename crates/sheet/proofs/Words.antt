@@ -1,24 +1,22 @@
 -- The sheet's words are the machine's: lookups, states, heights, charges.
-use Prim.Native.Nat.{ℕ, zero, suc, _+_, _*_, _/_, _%_, _^_, _≤_, _<_}
+use Prim.Native.Nat.{ℕ, zero, suc, _/_, _^_, _≤_, _<_}
 use mathlib.Core.Path.{_≡_, refl, sym, ap, subst, _∙_}
-use mathlib.Core.Bool.{Bool, true, false, not, _&&_, _||_, true≢false, false≢true}
+use mathlib.Core.Bool.{Bool, true, false, _&&_, _||_, true≢false, false≢true}
 use mathlib.Core.List.{List, [], _∷_}
 use native.Mathlib.Omega.{arith}
-use native.Mathlib.Nat.{div-add-mod'}
 use lib.ListN.{length, getD}
 use lib.Dec.{eqb, ltb, leb, leb→le, le→leb, leb·suc-suc, T}
 use Rattle.lists.specs.Pick.{pick}
 use Rattle.heap.specs.Table as Table
-use Rattle.heap.specs.Table.{Slot, slot, names, getIn}
-use Rattle.heap.specs.Word.{slotOf, tagOf, topOf, classOf}
+use Rattle.heap.specs.Table.{Slot, slot, getIn}
+use Rattle.heap.specs.Word.{slotOf, tagOf, topOf}
 use Rattle.heap.specs.declared.fault.Fault.{Fault}
 use Rattle.heap.specs.declared.value.Class.{Class}
 use Rattle.heap.specs.declared.heap.Place.{Place}
 use Rattle.model.specs.Object.{Object, isFilled}
 use Rattle.model.specs.World.{World}
-use Rattle.model.specs.Heap.{objectAt, object, place, notA}
+use Rattle.model.specs.Heap.{objectAt, object, notA}
 use Rattle.sheet.specs.Words.{isReference, found, isNothing, dead}
-use Rattle.sheet.proofs.Choice.{both, by-test}
 use Rattle.sheet.proofs.Among.{same, and-left, and-right, and-false}
 
 pub same-tests : (a b : Bool) → (a ≡ true → b ≡ true) → (b ≡ true → a ≡ true) → a ≡ b

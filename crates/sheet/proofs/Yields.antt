@@ -1,15 +1,13 @@
 -- The sheet's lines for Yield, YieldKv and Await: their keys, and the tests before the suspension.
 use Prim.Native.Nat.{ℕ, zero, suc, _/_, _%_, _^_}
 use mathlib.Core.Path.{_≡_, refl, sym, ap, subst, _∙_}
-use mathlib.Core.Bool.{Bool, true, false, not, _&&_, _||_, true≢false, false≢true}
+use mathlib.Core.Bool.{Bool, true, false, not, _&&_, true≢false, false≢true}
 use mathlib.Core.List.{List, [], _∷_, _++_}
-use lib.IntN.{ℤ}
 use lib.ListN.{getD, drop}
 use lib.Dec.{eqb}
 use Rattle.lists.specs.Pick.{pick, pick-true, pick-false}
 use Rattle.heap.specs.Coding.{inRange, bitsOf, ofBits}
-use Rattle.heap.specs.Word.{intWord, topOf, classOf}
-use Rattle.heap.specs.Int as Int
+use Rattle.heap.specs.Word.{intWord, topOf}
 use Rattle.heap.specs.Table.{Slot, slot, get, dynIntAt, dynIntBy}
 use Rattle.heap.specs.declared.fault.Fault.{Fault}
 use Rattle.heap.specs.declared.value.Opt.{Opt}
@@ -19,7 +17,7 @@ use Rattle.heap.specs.declared.int.Exact.{Exact}
 use Rattle.heap.specs.declared.int.Inline.{Inline}
 use Rattle.heap.specs.declared.object.CoroState.{CoroState}
 use Rattle.model.specs.Lists.{isNil}
-use Rattle.model.specs.Object.{Object, asCoro, isFilled}
+use Rattle.model.specs.Object.{Object, isFilled}
 use Rattle.model.specs.World.{World, After, after, andThen, withChain}
 use Rattle.model.specs.Frames.{reg}
 use Rattle.model.specs.Heap.{objectAt, object, coro, alloc, encodeAt, encodeInt, intIn, dynInt}
@@ -28,14 +26,13 @@ use Rattle.model.specs.declared.machine.Active.{Active}
 use Rattle.model.specs.declared.coro.Made.{Made}
 use Rattle.model.specs.declared.coro.AutoKey.{AutoKey}
 use Rattle.model.specs.declared.coro.Keys.{Keys}
-use Rattle.model.specs.declared.exec.Step.{Step}
 use Rattle.sheet.specs.Lines.{leadsFrom, leads}
 use Rattle.sheet.specs.Words.{word, isReference, found, isCoroutine, restOf, lacksMemory, noSlot}
 use Rattle.sheet.specs.Makings.{stored, newWord}
 use Rattle.sheet.specs.Suspending.{running, restHere}
 use Rattle.sheet.specs.Yields as Table
 use Rattle.sheet.specs.Yields.{yields, yieldEnds, awaits, awaitEnds, nextKey, keyBits, isLarge, keyed, keyWord, bitsIn, integerOf, raised}
-use Rattle.sheet.proofs.Choice.{both, by-test}
+use Rattle.sheet.proofs.Choice.{both}
 use Rattle.sheet.proofs.Among.{same}
 use Rattle.sheet.proofs.Words.{top-one, nil-first, object-found}
 use Rattle.sheet.proofs.Moved.{below, word-is, coro-is}

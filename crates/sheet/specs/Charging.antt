@@ -1,8 +1,8 @@
 -- THE SHEET of the gate and the charge. 01: "Order: 11, 12, 13, then `exec::charge` (10), then the instruction's own tests".
 use Prim.Native.Nat.{ℕ, suc, _-_}
 use mathlib.Core.Bool.{Bool, true, false, not, _&&_}
-use mathlib.Core.List.{List, [], _∷_, map, _++_}
-use lib.ListN.{length, getD, drop}
+use mathlib.Core.List.{List, [], _∷_, map}
+use lib.ListN.{getD, drop}
 use lib.Dec.{eqb}
 use Rattle.lists.specs.Pick.{pick}
 use Rattle.heap.specs.declared.fault.Fault.{Fault}
@@ -10,7 +10,6 @@ use Rattle.heap.specs.declared.value.Opt.{Opt}
 use Rattle.model.specs.Lists.{isNil}
 use Rattle.model.specs.World.{World, withFinalize, withFinalizing, withFuel}
 use Rattle.model.specs.declared.machine.Driver.{Driver}
-use Rattle.model.specs.declared.machine.Fuel.{Fuel}
 use Rattle.model.specs.declared.exec.Step.{Step}
 use Rattle.model.specs.declared.call.Answer.{Answer}
 use Rattle.sheet.specs.Lines.{Line, Lines, lines, line, refuse}
@@ -64,6 +63,10 @@ cleanup pc w =
     let queue = from z (w .finalize) in
     fuelled (reserve w) Opt.None false (withFinalizing true (enteredClosing 0 (getD queue 0 0) Driver.Finalize (withFinalize (drop 1 queue) z)))
 
+-- the charge starts one
+abbrev pub starts : ℕ → World → Bool
+starts pc w = searches w && not (isNil (from (pcStored pc w) (w .finalize)))
+
 -- ---- the charge is taken: one unit less; a search that found none has emptied the queue
 
 abbrev pub charged : ℕ → World → World
@@ -89,6 +92,6 @@ instruction pc operands own w =
     (refuse 12 (isNil (w .frames)) w
     ∷ refuse 13 (not operands) w
     ∷ line 10 (usedUp w) (Answer.Stepped (Step.Fault Fault.OutOfFuel) 0) (bankBack w)
-    ∷ line 17 (searches w && not (isNil (from (pcStored pc w) (w .finalize)))) (Answer.Cleanup n) (cleanup pc w)
+    ∷ line 17 (starts pc w) (Answer.Cleanup n) (cleanup pc w)
     ∷ map (asAnswer n) (o .tests))
     (asAnswer n (o .done))

@@ -1,20 +1,17 @@
 -- THE SHEET of `finish`, by the top frame's continuation, and of `unwind`, frame by frame.
 use Prim.Native.Nat.{ℕ, _^_}
-use mathlib.Core.Bool.{Bool, true, false, not, _&&_, _||_}
+use mathlib.Core.Bool.{Bool, true, false, _&&_}
 use mathlib.Core.List.{List, [], _∷_}
-use lib.ListN.{getD, take, drop}
-use lib.Dec.{eqb, ltb, leb}
+use lib.ListN.{take}
+use lib.Dec.{leb}
 use Rattle.lists.specs.Pick.{pick}
 use Rattle.heap.specs.Coding.{ofBits}
 use Rattle.heap.specs.Word.{intWord}
-use Rattle.heap.specs.declared.fault.Fault.{Fault}
 use Rattle.heap.specs.declared.value.Opt.{Opt}
 use Rattle.heap.specs.declared.heap.ResultKind.{ResultKind}
 use Rattle.heap.specs.declared.object.CoroState.{CoroState}
-use Rattle.model.specs.Lists.{isNil}
 use Rattle.model.specs.Object.{Object}
 use Rattle.model.specs.World.{World, withStack, withFrames, withChain, withOutcome}
-use Rattle.model.specs.declared.program.Handler.{Handler}
 use Rattle.model.specs.declared.machine.Active.{Active}
 use Rattle.model.specs.declared.machine.Cont.{Cont}
 use Rattle.model.specs.declared.machine.Driver.{Driver}
@@ -22,12 +19,11 @@ use Rattle.model.specs.declared.machine.Frame.{Frame}
 use Rattle.model.specs.declared.machine.Outcome.{Outcome}
 use Rattle.model.specs.declared.machine.Stop.{Stop}
 use Rattle.model.specs.declared.call.Answer.{Answer}
-use Rattle.sheet.specs.Lines.{Line, Lines, lines, line, refuse, accept}
+use Rattle.sheet.specs.Lines.{Line, Lines, lines, refuse, accept}
 use Rattle.sheet.specs.Words.{lacksMemory, noSlot}
-use Rattle.sheet.specs.Moves.{pcStored, onward, put, sent, iteratorDone, ended}
-use Rattle.sheet.specs.Charging.{usedUp, bankBack}
-use Rattle.sheet.specs.Makings.{function, stored, newWord, paid}
-use Rattle.sheet.specs.Suspending.{running, restHere, cleaning, asks}
+use Rattle.sheet.specs.Moves.{onward, put, sent, iteratorDone, ended}
+use Rattle.sheet.specs.Makings.{stored, newWord}
+use Rattle.sheet.specs.Suspending.{cleaning}
 use Rattle.sheet.specs.Yields.{isLarge}
 
 -- the top frame goes, with its words

@@ -1,8 +1,7 @@
 -- THE SHEET of the instructions: each one's own tests, behind its gate and its charge, which left u. Order: as in coro.rs, exec.
 use Prim.Native.Nat.{ℕ}
-use mathlib.Core.Bool.{not, true, _&&_, _||_}
+use mathlib.Core.Bool.{not, true, _||_}
 use mathlib.Core.List.{List, [], _∷_}
-use Rattle.lists.specs.Pick.{pick}
 use Rattle.heap.specs.declared.fault.Fault.{Fault}
 use Rattle.heap.specs.declared.object.CoroState.{CoroState}
 use Rattle.model.specs.World.{World}

@@ -1,5 +1,6 @@
--- The fault sheet, PEP 342, coverage and the cheating engines, as statements on the model.
+-- The fault sheet, PEP 342, the lines reached and the cheating engines, as statements on the model.
 pub mod Lines
+pub mod Does
 pub mod Words
 pub mod Moves
 pub mod Charging
@@ -11,25 +12,16 @@ pub mod Endings
 pub mod Unwinding
 pub mod OtherCalls
 pub mod Sheet
-pub mod Gates
-pub mod Needs
-pub mod Sites
-pub mod Own
-pub mod Number
-pub mod FaultSheet
-pub mod Charges
+pub mod Sentences
+pub mod Answers
 pub mod Queue
-pub mod Places
-pub mod Memory
 pub mod Pep342
 pub mod Pep342Yields
-pub mod Pep342Awaits
 pub mod Pep342Ends
+pub mod Pep342Closes
 pub mod Pep342Deletion
 pub mod Mistakes
 pub mod SmallRuns
-pub mod Coverage
 pub mod Attained
-pub mod Met
 pub mod Premises
 pub mod Cheats

@@ -10,15 +10,15 @@ use Rattle.lists.specs.Pick.{pick}
 use Rattle.heap.specs.Fault as Faults
 use Rattle.model.specs.Lists.{each}
 use Rattle.model.specs.Program.{Setup, setupOk}
-use Rattle.model.specs.World.{World, after, fresh}
+use Rattle.model.specs.World.{World, fresh}
 use Rattle.model.specs.Sound.{sound}
-use Rattle.model.specs.Answer.{numberOf}
 use Rattle.model.specs.Call.{Operation, SetUp, Do}
 use Rattle.model.specs.Step.{told, step}
 use Rattle.model.specs.Calls.{Row, Instruction, OnFrame, OnHost, Unwinds, Grants, Looks, Other, table}
 use Rattle.model.specs.declared.call.Op.{Op}
 use Rattle.model.specs.declared.call.Answer.{Answer}
 use Rattle.sheet.specs.Lines.{Lines, lines, leads, says, faults, refuse, accept}
+use Rattle.sheet.specs.Does.{does, number}
 use Rattle.sheet.specs.Words.{base, lies}
 use Rattle.sheet.specs.Charging.{instruction}
 use Rattle.sheet.specs.Instructions as Instructions
@@ -83,10 +83,10 @@ seenBy (Other body) w = []
 
 pub record FaultSheet : Type 0 where
   -- THE THEOREM: the answer is that of the first test that stops the call, and the world is what stood there; else what is done
-  pub leads-to : (w : World) (o : Operation) → after (step w (Do o) .world) (step w (Do o) .answer) ≡ leads (sheet (o .op) w)
+  pub leads-to : (w : World) (o : Operation) → does w o ≡ leads (sheet (o .op) w)
   pub set-up : (w : World) (s : Setup) → step w (SetUp s) ≡ told (leads (setUp s w))
   -- "given exactly if": the answer's number is that test's, 0 to 17
-  pub says-number : (w : World) (o : Operation) → numberOf (step w (Do o) .answer) ≡ says (sheet (o .op) w)
+  pub says-number : (w : World) (o : Operation) → number w o ≡ says (sheet (o .op) w)
   -- the words that a look sees
   pub sees : (w : World) (o : Operation) → step w (Do o) .seen ≡ pick (sound w) (seenBy (table (o .op)) w) []
   -- 01's numbers

@@ -1,19 +1,20 @@
 -- A small set-up and short lists of calls from it, which the statements by computation begin with.
 use Prim.Native.Nat.{ℕ}
 use mathlib.Core.List.{List, [], _∷_}
+use lib.ListN.{set}
+use Rattle.heap.specs.Table.{slot}
 use Rattle.heap.specs.declared.fault.Fault.{Fault}
 use Rattle.heap.specs.declared.value.Opt.{Opt}
 use Rattle.model.specs.Program.{Setup}
-use Rattle.model.specs.World.{World, fresh}
-use Rattle.model.specs.Answer.{numberOf}
+use Rattle.model.specs.Object.{Object}
+use Rattle.model.specs.World.{World, fresh, withSlots}
 use Rattle.model.specs.Call.{SetUp}
-use Rattle.model.specs.Step.{tested, step, runOps}
+use Rattle.model.specs.Step.{step, runOps}
 use Rattle.model.specs.Example.{plain, catching}
 use Rattle.model.specs.declared.machine.Cont.{Cont}
 use Rattle.heap.specs.declared.heap.ResultKind.{ResultKind}
 use Rattle.model.specs.declared.call.OptPc.{OptPc}
 use Rattle.model.specs.declared.call.Op.{Op}
-use Rattle.model.specs.declared.call.Answer.{Answer}
 
 -- ---- a set-up: three functions of 1, 2 and 6 registers, and one of 2 registers that catches
 
@@ -45,13 +46,6 @@ d = 0x1_0000_0000_0005
 -- the world after them
 abbrev pub reached : Setup → List Op → World
 reached s os = runOps (step (fresh s) (SetUp s) .world) os
-
--- what the next call answers, and its number
-abbrev pub answer : Setup → List Op → Op → Answer
-answer s os o = tested (reached s os) o .answer
-
-abbrev pub gives : Setup → List Op → Op → ℕ
-gives s os o = numberOf (answer s os o)
 
 -- a run of the function of six registers, with n units of fuel
 abbrev pub begun : ℕ → List Op → List Op
@@ -88,3 +82,46 @@ tall = running 1 (Op.FunctionCall 5 1 Cont.Discard ∷ Op.Yield 8 0 0 ∷ Op.Fun
 -- .. it was given n as its key, and goes on
 abbrev pub keyed : ℕ → List Op
 keyed n = running 1 (Op.FunctionCall 5 0 (Cont.Dyn 1) ∷ Op.Finish ResultKind.I64 n ∷ Op.YieldKv 7 0 0 1 ∷ Op.Resume 3 1 0 2 ∷ [])
+
+-- ---- machines: with a hook, with little memory, with few slots, with a function wider than the stack, with a set-up that is refused
+
+abbrev pub hooked : ℕ → List Op → World
+hooked f os = reached (small 2 8 4096 (Opt.Some f)) os
+
+abbrev pub poor : ℕ → List Op → World
+poor memory os = reached (small 2 8 memory Opt.None) os
+
+abbrev pub tight : ℕ → List Op → World
+tight slots os = reached (small 2 slots 4096 Opt.None) os
+
+abbrev pub wide : Setup
+wide =
+    record {
+      limits = record { depth = 4; stack = 10; rows = 2; slots = 8; memory = 4096 };
+      costs = record { frame = 32; coro = 104; object = 160; int = 56; error = 56; iter = 112 };
+      hook = Opt.None;
+      functions = plain 1 ∷ plain 20 ∷ [];
+    }
+
+abbrev pub run : List Op → World
+run os = reached usual os
+
+-- register 0 holds a function; a function object that names none (no run makes one, but the machine is sound)
+abbrev pub function : List Op
+function = begun 100 (Op.PutWord 0 f0 ∷ [])
+
+abbrev pub nameless : World → World
+nameless w = withSlots (set (w .slots) 0 (slot 0 (Object.Func 9))) w
+
+-- a coroutine stands one frame deeper than ever; a call is to come back as a dynamic word; a coroutine sleeps
+abbrev pub deeper : List Op
+deeper = running 1 (Op.FunctionCall 5 0 Cont.Discard ∷ [])
+
+abbrev pub converting : List Op
+converting = begun 100 (Op.FunctionCall 1 0 (Cont.Dyn 0) ∷ [])
+
+abbrev pub closed : List Op
+closed = yielded 1 (Op.CoroClose 3 1 0 2 ∷ [])
+
+abbrev pub thrown : Op
+thrown = Op.Unwind (Fault.Throw 0) OptPc.None

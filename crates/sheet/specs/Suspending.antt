@@ -2,17 +2,12 @@
 use Prim.Native.Nat.{ℕ, suc, _+_, _-_, _*_, max}
 use mathlib.Core.Bool.{Bool, true, false, not, _&&_}
 use mathlib.Core.List.{List, [], _∷_, map}
-use lib.IntN.{ℤ, pos, _+ℤ_}
 use lib.ListN.{length, getD, take, drop}
-use lib.Dec.{eqb}
-use lib.Signed.{ltZ}
 use Rattle.lists.specs.Pick.{pick}
-use Rattle.heap.specs.Coding.{inRange, bitsOf, ofBits}
-use Rattle.heap.specs.Word.{intWord}
 use Rattle.heap.specs.declared.value.Opt.{Opt}
 use Rattle.heap.specs.declared.object.CoroState.{CoroState}
 use Rattle.model.specs.Lists.{isNil}
-use Rattle.model.specs.Object.{Core, Rest, Object, withClosing, withMaxregs, withMaxframes, withPayload, withKey, withLargest, withSignal}
+use Rattle.model.specs.Object.{Core, Rest, Object, withMaxregs, withMaxframes, withPayload}
 use Rattle.model.specs.World.{World, withStack, withFrames, withChain, withFinalizing, withOutcome, withUsed, withFuel}
 use Rattle.model.specs.declared.machine.Active.{Active}
 use Rattle.model.specs.declared.machine.Driver.{Driver}
@@ -20,11 +15,8 @@ use Rattle.model.specs.declared.machine.Frame.{Frame}
 use Rattle.model.specs.declared.machine.Fuel.{Fuel}
 use Rattle.model.specs.declared.machine.Outcome.{Outcome}
 use Rattle.model.specs.declared.machine.Stop.{Stop}
-use Rattle.model.specs.declared.exec.Step.{Step}
-use Rattle.sheet.specs.Lines.{Line, Lines, lines, stop, raise, accept}
-use Rattle.sheet.specs.Words.{word, found, restOf, charged, lacksMemory, noSlot}
-use Rattle.sheet.specs.Moves.{pcStored, put, sent, replaced, marked}
-use Rattle.sheet.specs.Makings.{stored, newWord}
+use Rattle.sheet.specs.Words.{found, restOf, charged}
+use Rattle.sheet.specs.Moves.{put, sent, replaced, marked}
 
 -- ---- the innermost running coroutine
 

@@ -1,8 +1,7 @@
 -- THE SHEET of `unwind`: its tests, then those of each frame, from the top down.
 use Prim.Native.Nat.{ℕ}
 use mathlib.Core.Bool.{Bool, true, false, not, _&&_, _||_}
-use mathlib.Core.List.{List, [], _∷_, _++_}
-use lib.ListN.{getD}
+use mathlib.Core.List.{List, [], _∷_}
 use lib.Dec.{eqb, ltb, leb}
 use Rattle.lists.specs.Pick.{pick}
 use Rattle.heap.specs.Fault.{numberOf, wordOf}
@@ -26,7 +25,7 @@ use Rattle.sheet.specs.Moves.{pcStored, put}
 use Rattle.sheet.specs.Charging.{usedUp, bankBack}
 use Rattle.sheet.specs.Makings.{function, stored, newWord, paid}
 use Rattle.sheet.specs.Suspending.{running, restHere, cleaning, asks}
-use Rattle.sheet.specs.Endings.{popped, handedBack, overIn, returned}
+use Rattle.sheet.specs.Endings.{popped, overIn, returned}
 
 -- ---- handlers: "the first in program order with start ≤ pc < end"
 

@@ -11,7 +11,7 @@ use Rattle.heap.specs.Word.{intWord}
 use Rattle.heap.specs.declared.value.Opt.{Opt}
 use Rattle.heap.specs.declared.object.CoroState.{CoroState}
 use Rattle.model.specs.Lists.{isNil}
-use Rattle.model.specs.Object.{Core, Rest, Object, withClosing, withKey, withLargest, withSignal}
+use Rattle.model.specs.Object.{Rest, Object, withClosing, withKey, withLargest, withSignal}
 use Rattle.model.specs.World.{World}
 use Rattle.model.specs.declared.machine.Stop.{Stop}
 use Rattle.model.specs.declared.exec.Step.{Step}

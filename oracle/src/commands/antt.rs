@@ -1,21 +1,25 @@
 //! Runs of the original as antt: for each call a theorem, by computation, that the model's `step` gives the answer and the
 //! whole state that the original gave; and for damaged states that `sound` tells them apart.
 
-use std::collections::BTreeMap;
+use std::collections::{BTreeMap, BTreeSet};
 use std::fmt::Write as _;
 use std::fs;
 use std::path::Path;
 
+use oracle::broken::{changed, BROKEN, KEPT};
 use oracle::call::{Answer, Call, Case, Kind, Step};
 use oracle::engine::Engine;
+use oracle::examples::sizes_below;
 use oracle::generate::{sequence, Rng, Sequence};
+use oracle::plain::Plain;
+use oracle::recorded::replay;
 use oracle::sound::sound;
 use oracle::world::{Active, Cont, Coro, Costs, Driver, Frame, Func, Object, Setup, Slot, State, Stop, World};
 
 use super::fuzz::{rng, LENGTH};
 use super::trace::damage;
 
-/// Sequences in one file, and damaged states.
+/// Sequences in one file, and states.
 const EACH: usize = 10;
 const STATES: usize = 50;
 
@@ -31,6 +35,7 @@ const HEAD: &str = "use Prim.Native.Nat.{ℕ}
 use mathlib.Core.Path.{_≡_, refl}
 use mathlib.Core.Bool.{true, false}
 use mathlib.Core.List.{[], _∷_, _++_}
+use mathlib.Core.Option.{none, some}
 use lib.ListN.{set}
 use Rattle.heap.specs.Table.{slot}
 use Rattle.heap.specs.declared.fault.Fault.{Fault}
@@ -40,6 +45,7 @@ use Rattle.model.specs.Program.{Setup}
 use Rattle.model.specs.Object.{Object}
 use Rattle.model.specs.World.{World}
 use Rattle.model.specs.Sound.{sound}
+use Rattle.model.specs.Answer.{numberOf, wordOf, stepOf, takenOff}
 use Rattle.model.specs.Call.{SetUp, typed}
 use Rattle.model.specs.Step.{tested, step}
 use Rattle.model.specs.Compute.{computed}
@@ -292,11 +298,29 @@ fn answer(k: &Call, a: &Answer) -> String {
     }
 }
 
-/// The calls of one sequence on the original, as theorems; how many there are.
+/// What is claimed of an answer: its number and word, its Step, and the queue words that it took off.
+fn reading(text: &str, a: &Answer) -> String {
+    let refusal = fault(a.number, a.word);
+    let step = match a.step {
+        Step::None => "none".into(),
+        Step::Next => "some Step.Next".into(),
+        Step::Frame => "some Step.Frame".into(),
+        Step::Fault => format!("some (Step.Fault {refusal})"),
+        Step::Unwind => format!("some (Step.Unwind {refusal})"),
+    };
+    format!(
+        "(numberOf ({text}) ≡ {}) × (wordOf ({text}) ≡ {}) × (stepOf ({text}) ≡ {step}) × (takenOff ({text}) ≡ {})",
+        a.number, a.word, a.taken
+    )
+}
+
+/// The calls of sequence `i` on the original, as theorems `tI-J` from states `sI-J`, with a theorem `aI-J` for each new
+/// answer; how many calls there are.
 fn theorems(text: &mut String, original: &mut dyn Engine, i: usize, s: &Sequence) -> usize {
     original.load(&s.start);
     let mut was = s.start.clone();
     let mut name = format!("s{i}-0");
+    let mut answers = BTreeSet::new();
     let _ = writeln!(text, "\nabbrev {name} : World\n{name} = {}", world(&was, None));
     for (j, k) in s.calls.iter().enumerate() {
         let a = original.call(k);
@@ -305,21 +329,26 @@ fn theorems(text: &mut String, original: &mut dyn Engine, i: usize, s: &Sequence
         let next = format!("s{i}-{}", j + 1);
         let old = (!matches!(k, Call::SetUp(_))).then_some((&name[..], &was));
         let _ = writeln!(text, "\nabbrev {next} : World\n{next} = {}", world(&now, old));
-        let out = format!("record {{ world = {next}; answer = {}; seen = {seen} }}", answer(k, &a));
+        let told = answer(k, &a);
+        let out = format!("record {{ world = {next}; answer = {told}; seen = {seen} }}");
         let (statement, proof) = claim(k, &name, &out);
         let _ = writeln!(text, "t{i}-{j} : {statement}\nunfolding computed\nt{i}-{j} = {proof}");
+        let reading = reading(&told, &a);
+        if answers.insert(told) {
+            let _ = writeln!(text, "a{i}-{j} : {reading}\na{i}-{j} = (refl, refl, refl, refl)");
+        }
         (was, name) = (now, next);
     }
     s.calls.len()
 }
 
-/// Sequences as files of a crate's specs, a line of `root` for each file.
-fn traces(original: &mut dyn Engine, all: &[Sequence], dir: &Path, root: &mut String) -> Result<(), String> {
+/// Sequences, the first of number `first`, as files of a crate's specs, a line of `root` for each file.
+fn traces(original: &mut dyn Engine, all: &[Sequence], first: usize, dir: &Path, root: &mut String) -> Result<(), String> {
     let mut calls = 0;
     for (file, part) in all.chunks(EACH).enumerate() {
         let mut text = String::from(HEAD);
         for (i, s) in part.iter().enumerate() {
-            calls += theorems(&mut text, original, i, s);
+            calls += theorems(&mut text, original, first + EACH * file + i, s);
         }
         save(dir, &format!("Trace{file}"), &text, root)?;
     }
@@ -332,7 +361,7 @@ fn save(dir: &Path, name: &str, text: &str, root: &mut String) -> Result<(), Str
     fs::write(dir.join(format!("{name}.antt")), text).map_err(|e| e.to_string())
 }
 
-/// Damaged states of which no rule, and no good one, is met more than `most` times among `tries`.
+/// Random damaged states of which no rule, and no good one, is met more than `most` times among `tries`.
 fn choose(costs: Costs, seed: u64, tries: u64, most: usize) -> Vec<(World, bool)> {
     let mut rng = Rng::new(seed);
     let mut met: BTreeMap<&str, usize> = BTreeMap::new();
@@ -349,15 +378,25 @@ fn choose(costs: Costs, seed: u64, tries: u64, most: usize) -> Vec<(World, bool)
     all
 }
 
-/// Damaged states, and whether each is sound.
-fn states(all: &[(World, bool)], dir: &Path, root: &mut String) -> Result<(), String> {
+/// The states at the edge of each rule, by hand.
+fn edges() -> Vec<(World, bool)> {
+    let broken = BROKEN.iter().map(|&c| (changed(c), false));
+    let all: Vec<(World, bool)> = broken.chain(KEPT.iter().map(|&c| (changed(c), true))).collect();
+    let rules: BTreeSet<&str> = BROKEN.iter().map(|&(rule, _)| rule).collect();
+    println!("antt: {} states at edges, {} of them sound, {} rules broken", all.len(), KEPT.len(), rules.len());
+    all
+}
+
+/// States, and whether each is sound, in files of a name: theorem I of state `wI`, with the letter before it.
+fn states(all: &[(World, bool)], name: &str, letter: char, dir: &Path, root: &mut String) -> Result<(), String> {
     for (file, part) in all.chunks(STATES).enumerate() {
         let mut text = String::from(HEAD);
         for (i, (w, good)) in part.iter().enumerate() {
+            let i = STATES * file + i;
             let _ = writeln!(text, "\nabbrev w{i} : World\nw{i} = {}", world(w, None));
-            let _ = writeln!(text, "d{i} : sound w{i} ≡ {good}\nunfolding computed\nd{i} = refl");
+            let _ = writeln!(text, "{letter}{i} : sound w{i} ≡ {good}\nunfolding computed\n{letter}{i} = refl");
         }
-        save(dir, &format!("Damaged{file}"), &text, root)?;
+        save(dir, &format!("{name}{file}"), &text, root)?;
     }
     Ok(())
 }
@@ -366,10 +405,18 @@ fn finish(dir: &Path, root: &str) -> Result<(), String> {
     fs::write(dir.join("Lib.antt"), root).map_err(|e| e.to_string())
 }
 
-/// Damaged states of `seed`, with each rule broken up to `n` times.
+/// The states at the edges, and damaged ones of `seed`, each rule broken up to `n` times.
 pub(crate) fn damaged(costs: Costs, seed: u64, n: u64, dir: &Path) -> Result<(), String> {
     let mut root = String::new();
-    states(&choose(costs, seed, 200_000, n as usize), dir, &mut root)?;
+    states(&edges(), "Edge", 'e', dir, &mut root)?;
+    if n > 0 {
+        states(&choose(costs, seed, 200_000, n as usize), "Damaged", 'd', dir, &mut root)?;
+    }
+    // Not what the original answers: docs/DIFFERENCES.md, "Largest saved sizes below what is saved".
+    let (start, calls) = sizes_below(costs);
+    let mut text = String::from(HEAD);
+    theorems(&mut text, &mut Plain::default(), 0, &Sequence { start, calls: calls.into() });
+    save(dir, "Sizes", &text, &mut root)?;
     finish(dir, &root)
 }
 
@@ -377,17 +424,20 @@ pub(crate) fn damaged(costs: Costs, seed: u64, n: u64, dir: &Path) -> Result<(),
 pub(crate) fn random(original: &mut dyn Engine, costs: Costs, seed: u64, n: u64, dir: &Path) -> Result<(), String> {
     let mut root = String::new();
     let all: Vec<Sequence> = (0..n).map(|i| sequence(&mut rng(seed, i), costs, LENGTH)).collect();
-    traces(original, &all, dir, &mut root)?;
+    traces(original, &all, 0, dir, &mut root)?;
     finish(dir, &root)
 }
 
-/// The recorded sequences `from` up to `to`.
-pub(crate) fn recorded(original: &mut dyn Engine, from: usize, to: usize, dir: &Path) -> Result<(), String> {
+/// The recorded sequences `from` up to `to`; the engine must give what is recorded.
+pub(crate) fn recorded(engine: &mut dyn Engine, from: usize, to: usize, dir: &Path) -> Result<(), String> {
     let mut root = String::new();
-    let all: Vec<Sequence> = super::recorded::load()?
-        .into_iter()
-        .map(|r| Sequence { start: r.start, calls: r.lines.into_iter().map(|l| l.call).collect() })
-        .collect();
-    traces(original, &all[from.min(all.len())..to.min(all.len())], dir, &mut root)?;
+    let all = super::recorded::load()?;
+    let (from, to) = (from.min(all.len()), to.min(all.len()));
+    let mut part = Vec::new();
+    for (i, r) in all.into_iter().enumerate().take(to).skip(from) {
+        replay(engine, &r).map_err(|j| format!("sequence {i} differs at its call {j}"))?;
+        part.push(Sequence { start: r.start, calls: r.lines.into_iter().map(|l| l.call).collect() });
+    }
+    traces(engine, &part, from, dir, &mut root)?;
     finish(dir, &root)
 }

@@ -1,7 +1,8 @@
 //! The paper's examples on an engine.
 
 use oracle::engine::Engine;
-use oracle::examples::all;
+use oracle::examples::{all, sizes_below};
+use oracle::layout;
 use oracle::plain::Plain;
 use oracle::world::Costs;
 
@@ -20,4 +21,31 @@ pub(crate) fn second(costs: Costs) -> Result<(), String> {
 
 pub(crate) fn original(original: &mut dyn Engine, costs: Costs) -> Result<(), String> {
     run("original", original, costs)
+}
+
+fn show(name: &str, engine: &mut dyn Engine, costs: Costs) {
+    let (start, calls) = sizes_below(costs);
+    engine.load(&start);
+    for call in &calls {
+        let answer = engine.call(call);
+        let w = engine.world();
+        println!(
+            "{name}: {}: {}, memory {} of {}",
+            layout::text(call, layout::call),
+            layout::text(&answer, layout::answer),
+            w.used,
+            w.setup.memory
+        );
+    }
+}
+
+/// Where the original's buffers tell: largest sizes below what is saved.
+pub(crate) fn sizes(costs: Costs) -> Result<(), String> {
+    show("second engine", &mut Plain::default(), costs);
+    #[cfg(original)]
+    {
+        show("original, buffers shrunk at the entry", &mut crate::driver::Original::blank(), costs);
+        show("original as it is", &mut crate::driver::Original::as_it_is(), costs);
+    }
+    Ok(())
 }

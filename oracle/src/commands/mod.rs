@@ -24,13 +24,14 @@ const USAGE: &str = "usage: oracle COMMAND
   trace SEED N      N random sequences as text
   damaged SEED N    N states with one number changed, and whether each is sound
   examples          the paper's P1 to P8
+  sizes             largest sizes below the saved ones, on the original as it is
   record SEED N     writes recorded/answers.txt: N sequences or more
   verify            replays recorded/answers.txt
   show I            recorded sequence I as text
   mutants           wrong engines against recorded/answers.txt
   antt SEED N DIR   N random sequences as theorems about the definitions
   antt-recorded FROM TO DIR   recorded sequences as theorems
-  antt-damaged SEED N DIR     damaged states as theorems, each rule broken up to N times
+  antt-damaged SEED N DIR     states at each rule's edge as theorems, and damaged ones, each rule broken up to N times
   bench             the original's speed, the proved functions' beside it, and others'";
 
 #[cfg(not(original))]
@@ -53,6 +54,7 @@ pub(crate) fn run(args: &[&str]) -> Result<(), String> {
             Ok(())
         }
         ["examples"] => examples(),
+        ["sizes"] => examples::sizes(COSTS),
         ["record", seed, n] => seeded(seed, n, recorded::record),
         ["verify"] => verify(),
         ["show", i] => recorded::show(number(i)?),

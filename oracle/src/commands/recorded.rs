@@ -4,7 +4,9 @@
 use std::fs;
 use std::path::PathBuf;
 
+use oracle::aimed;
 use oracle::call::Call;
+use oracle::compare::compare;
 use oracle::engine::Engine;
 use oracle::layout;
 use oracle::plain::wrong::Wrong;
@@ -41,12 +43,17 @@ pub(crate) fn record(
     seed: u64,
     n: u64,
 ) -> Result<(), String> {
-    let all = sample(original, costs, seed, n as usize).map_err(|f| f.text())?;
+    let mut all = sample(original, costs, seed, n as usize).map_err(|f| f.text())?;
+    let random = all.len();
+    for s in aimed::all(costs) {
+        compare(original, &mut Plain::default(), &s, |_| ()).map_err(|f| f.text())?;
+        all.push(oracle::recorded::record(original, &s));
+    }
     let text = write(&all);
     fs::write(file(), &text).map_err(|e| format!("{}: {e}", file().display()))?;
     println!(
-        "record: {} sequences, {} calls, {} cells, {} bytes",
-        all.len(),
+        "record: {random} random sequences, {} by hand, {} calls, {} cells, {} bytes",
+        all.len() - random,
         calls(&all),
         cells(&all),
         text.len()

@@ -23,20 +23,26 @@ pub(crate) struct Original {
     stack: Vec<u64>,
     /// The state as values: what the last call left.
     world: World,
+    /// Whether an entered coroutine's buffers are given the largest sizes of
+    /// the state, where these are below what was saved.
+    shrinks: bool,
 }
 
 impl Engine for Original {
     fn load(&mut self, w: &World) {
-        *self = Original::new(w);
+        *self = Original { shrinks: self.shrinks, ..Original::new(w) };
     }
 
     fn call(&mut self, call: &Call) -> Answer {
         if let Some(number) = gate(&self.world, call) {
             return Answer::plain(number);
         }
+        if !matches!(call, Call::SetUp(_)) {
+            assert_eq!(self.world.setup.costs, bridge::costs(), "costs of another build");
+        }
         let answer = match call {
             Call::SetUp(s) => {
-                *self = Original::new(&World::fresh((**s).clone()));
+                self.load(&World::fresh((**s).clone()));
                 return Answer::plain(0);
             }
             c if c.is_instruction() => self.instruction(c),
@@ -66,12 +72,17 @@ impl Original {
         Original::new(&World::fresh(setup))
     }
 
-    /// Takes over a sound state whose costs are this build's.
+    /// Takes over a sound state. No call but a set-up follows one whose costs
+    /// are not this build's.
     pub(crate) fn new(w: &World) -> Original {
-        assert_eq!(w.setup.costs, bridge::costs(), "costs of another build");
         let prog = bridge::program(&w.setup);
         let m = bridge::machine(&prog, w);
-        Original { prog, m, stack: w.stack.clone(), world: w.clone() }
+        Original { prog, m, stack: w.stack.clone(), world: w.clone(), shrinks: true }
+    }
+
+    /// The original with its buffers as they are.
+    pub(crate) fn as_it_is() -> Original {
+        Original { shrinks: false, ..Original::blank() }
     }
 
     /// Reads the state back after a call. A new coroutine takes the lowest
@@ -107,7 +118,7 @@ impl Original {
             } else if !c.state.is_finished() {
                 assert_eq!(c.max_regs, was.max_regs.max(was.regs.len()));
                 assert_eq!(c.max_frames, was.max_frames.max(was.frames.len()));
-                if (c.max_regs, c.max_frames) != (was.max_regs, was.max_frames) {
+                if self.shrinks && (c.max_regs, c.max_frames) != (was.max_regs, was.max_frames) {
                     co.regs = bridge::buffer(&[], was.max_regs);
                     co.frames = bridge::buffer(&[], was.max_frames);
                     (c.max_regs, c.max_frames) = (was.max_regs, was.max_frames);

@@ -284,7 +284,10 @@ fn creation(rng: &mut Rng, w: &World, kind: usize, dst: u16, out: &mut Vec<Call>
         })
         .collect();
     let (callee_word, params) = match rng.any(&found) {
-        Some((c, f)) if rng.chance(88) => (c, w.setup.funcs[f as usize].nparams as usize),
+        // A function object may name no function.
+        Some((c, f)) if rng.chance(88) => {
+            (c, w.setup.funcs.get(f as usize).map_or(0, |f| f.nparams as usize))
+        }
         _ => (Words::of(w).one(rng), 0),
     };
     let params = if rng.chance(90) { params } else { rng.below(4) };

@@ -37,10 +37,27 @@ slice-aggregate-story-9 : tie.Need-slice-aggregate-story-9
 slice-aggregate-story-9 c = refl
 
 slice-aggregate-story-10 : tie.Need-slice-aggregate-story-10
-slice-aggregate-story-10 c = sym (ap length (c .before .before .before .before .before .before .before .before .before .before .furnace .ensures))
+slice-aggregate-story-10 c =
+    let at-furnace = c .before .before .before .before .before .before .before .before .before .before in
+    sym (ap length (at-furnace .furnace .ensures))
 
 story-requires : tie.Need-story-requires
-story-requires c κs = record { room = record { stack = le-refl 32; frames = le-refl 48; chain = le-refl 48; slots = le-refl 160; savedStack = le-refl 64; savedFrames = le-refl 96; ready = le-refl 8; finalize = le-refl 8; setup = le-refl 119 }; numbers = (c .before .before .before .before .before .before .before .before .before .before .furnace .ensures) }
+story-requires c κs =
+    let at-furnace = c .before .before .before .before .before .before .before .before .before .before in
+    record {
+      room = record {
+        stack = le-refl 32;
+        frames = le-refl 48;
+        chain = le-refl 48;
+        slots = le-refl 160;
+        savedStack = le-refl 64;
+        savedFrames = le-refl 96;
+        ready = le-refl 8;
+        finalize = le-refl 8;
+        setup = le-refl 119;
+      };
+      numbers = at-furnace .furnace .ensures;
+    }
 
 returns : tie.Need-returns
 returns c = tt

@@ -95,7 +95,8 @@ body-requires c κs =
     (a .m) (a .fuel) (start .pre) .beside in
     arm-fits (a .l) (a .stack .now) (a .frames .now) (a .chain .now) (a .slots .now) (a .saved-stack .now) (a .saved-frames .now) (a .finalize .now) (a .setup .now)
     (a .m) (a .fuel) (start .pre)
-    (at-charge .charge .last .0) (at-charge .charge .last .1 .0) (at-charge .charge .last .1 .1 .0) (at-charge .charge .last .1 .1 .1 .0) (at-charge .charge .last .1 .1 .1 .1 .0) (at-charge .charge .last .1 .1 .1 .1 .1 .0) (at-charge .charge .last .1 .1 .1 .1 .1 .1 .0)
+    (at-charge .charge .last .0) (at-charge .charge .last .1 .0) (at-charge .charge .last .1 .1 .0) (at-charge .charge .last .1 .1 .1 .0) (at-charge .charge .last .1 .1 .1 .1 .0) (at-charge
+    .charge .last .1 .1 .1 .1 .1 .0) (at-charge .charge .last .1 .1 .1 .1 .1 .1 .0)
     (at-charge .charge .result .machine) (at-charge .charge .result .fuel) (a .op) (at-pc-of .pc-of .result) (getD (a .setup .now) 13 0) (at-base-at .base-at .result) (at-a2 .a2 .given .0 .0)
     (let h = at-if1 .if1 .left in omega arith) refl (at-base-at .base-at .ensures)
     (λ w N. sym (not-false _ (at-if2 .if2 .left)) ∙ at-passes .passes .ensures w N) (at-pc-of .pc-of .ensures)
@@ -160,7 +161,8 @@ returns-3 c =
     λ w b rep snd.
     let some : 1 ≤ a .m .depth = (let h = at-if1 .if1 .left in omega arith) in
     let N = numbered (a .l) w (mem start b) (a .m) (a .fuel) (getD (a .setup .now) 13 0) (at-base-at .base-at .result) rep some refl (at-base-at .base-at .ensures) in
-    spent (a .l) _ _ _ w (table (a .op)) (some-frames (w .frames) (a .frames .now) (a .m .depth) (rep .frames) some) (sym (at-passes .passes .ensures w N) ∙ not-false _ (at-if2 .if2 .left)) (at-pc-of .pc-of .result) (at-pc-of .pc-of .ensures .is)
+    spent (a .l) _ _ _ w (table (a .op)) (some-frames (w .frames) (a .frames .now) (a .m .depth) (rep .frames) some) (sym (at-passes .passes .ensures w N) ∙ not-false _ (at-if2 .if2 .left))
+    (at-pc-of .pc-of .result) (at-pc-of .pc-of .ensures .is)
     (answered (a .l) _ _ _ (charge (OptPc.Some (at-pc-of .pc-of .result)) w) (at-charge .charge .result .answer) _ (c .enum-told .given .1)
     (at-charge .charge .ensures w (record { words = onSetup (a .setup .now) (b .words); fuel = b .fuel }) rep snd))
 
@@ -210,49 +212,57 @@ returns-4 c =
     λ w b rep snd.
     let some : 1 ≤ a .m .depth = (let h = at-if1 .if1 .left in omega arith) in
     let N = numbered (a .l) w (mem start b) (a .m) (a .fuel) (getD (a .setup .now) 13 0) (at-base-at .base-at .result) rep some refl (at-base-at .base-at .ensures) in
-    closed (a .l) _ _ _ w (table (a .op)) (some-frames (w .frames) (a .frames .now) (a .m .depth) (rep .frames) some) (sym (at-passes .passes .ensures w N) ∙ not-false _ (at-if2 .if2 .left)) (at-pc-of .pc-of .result) (at-pc-of .pc-of .ensures .is) (at-a .a .given .0 .0)
+    closed (a .l) _ _ _ w (table (a .op)) (some-frames (w .frames) (a .frames .now) (a .m .depth) (rep .frames) some) (sym (at-passes .passes .ensures w N) ∙ not-false _ (at-if2 .if2 .left))
+    (at-pc-of .pc-of .result) (at-pc-of .pc-of .ensures .is) (at-a .a .given .0 .0)
     (answered (a .l) _ _ _ (charge (OptPc.Some (at-pc-of .pc-of .result)) w) (at-charge .charge .result .answer) _ (at-a .a .given .1)
     (at-charge .charge .ensures w (record { words = onSetup (a .setup .now) (b .words); fuel = b .fuel }) rep snd))
 
 same-length-16 : tie.Need-same-length-16
 same-length-16 c =
     let at-body = c .before .before .before .before .before .before .before .before .before .before .before .before .before .before .before in
-    let at-charge = at-body .before .before .before .before .before .before .before .before .before .before .before .before .before .before .before .before .before .before .before .before .before .before .before .before .before .before in
+    let at-charge = at-body .before .before .before .before .before .before .before .before .before .before .before .before .before .before .before .before .before .before .before .before
+    .before .before .before .before .before .before in
     at-body .body .kept .0 ∙ at-charge .charge .kept .0
 
 same-length-17 : tie.Need-same-length-17
 same-length-17 c =
     let at-body = c .before .before .before .before .before .before .before .before .before .before .before .before .before .before .before in
-    let at-charge = at-body .before .before .before .before .before .before .before .before .before .before .before .before .before .before .before .before .before .before .before .before .before .before .before .before .before .before in
+    let at-charge = at-body .before .before .before .before .before .before .before .before .before .before .before .before .before .before .before .before .before .before .before .before
+    .before .before .before .before .before .before in
     at-body .body .kept .1 .0 ∙ at-charge .charge .kept .1 .0
 
 same-length-18 : tie.Need-same-length-18
 same-length-18 c =
     let at-body = c .before .before .before .before .before .before .before .before .before .before .before .before .before .before .before in
-    let at-charge = at-body .before .before .before .before .before .before .before .before .before .before .before .before .before .before .before .before .before .before .before .before .before .before .before .before .before .before in
+    let at-charge = at-body .before .before .before .before .before .before .before .before .before .before .before .before .before .before .before .before .before .before .before .before
+    .before .before .before .before .before .before in
     at-body .body .kept .1 .1 .0 ∙ at-charge .charge .kept .1 .1 .0
 
 same-length-19 : tie.Need-same-length-19
 same-length-19 c =
     let at-body = c .before .before .before .before .before .before .before .before .before .before .before .before .before .before .before in
-    let at-charge = at-body .before .before .before .before .before .before .before .before .before .before .before .before .before .before .before .before .before .before .before .before .before .before .before .before .before .before in
+    let at-charge = at-body .before .before .before .before .before .before .before .before .before .before .before .before .before .before .before .before .before .before .before .before
+    .before .before .before .before .before .before in
     at-body .body .kept .1 .1 .1 .0 ∙ at-charge .charge .kept .1 .1 .1 .0
 
 same-length-20 : tie.Need-same-length-20
 same-length-20 c =
     let at-body = c .before .before .before .before .before .before .before .before .before .before .before .before .before .before .before in
-    let at-charge = at-body .before .before .before .before .before .before .before .before .before .before .before .before .before .before .before .before .before .before .before .before .before .before .before .before .before .before in
+    let at-charge = at-body .before .before .before .before .before .before .before .before .before .before .before .before .before .before .before .before .before .before .before .before
+    .before .before .before .before .before .before in
     at-body .body .kept .1 .1 .1 .1 .0 ∙ at-charge .charge .kept .1 .1 .1 .1 .0
 
 same-length-21 : tie.Need-same-length-21
 same-length-21 c =
     let at-body = c .before .before .before .before .before .before .before .before .before .before .before .before .before .before .before in
-    let at-charge = at-body .before .before .before .before .before .before .before .before .before .before .before .before .before .before .before .before .before .before .before .before .before .before .before .before .before .before in
+    let at-charge = at-body .before .before .before .before .before .before .before .before .before .before .before .before .before .before .before .before .before .before .before .before
+    .before .before .before .before .before .before in
     at-body .body .kept .1 .1 .1 .1 .1 .0 ∙ at-charge .charge .kept .1 .1 .1 .1 .1 .0
 
 same-length-22 : tie.Need-same-length-22
 same-length-22 c =
-    let at-charge = c .before .before .before .before .before .before .before .before .before .before .before .before .before .before .before .before .before .before .before .before .before .before .before .before .before .before .before .before .before .before .before .before .before .before .before .before .before .before .before .before .before in
+    let at-charge = c .before .before .before .before .before .before .before .before .before .before .before .before .before .before .before .before .before .before .before .before .before
+    .before .before .before .before .before .before .before .before .before .before .before .before .before .before .before .before .before .before .before .before in
     at-charge .charge .kept .1 .1 .1 .1 .1 .1 .0
 
 returns-5 : tie.Need-returns-5
@@ -268,7 +278,8 @@ returns-5 c =
     let some : 1 ≤ a .m .depth = (let h = at-if1 .if1 .left in omega arith) in
     let N = numbered (a .l) w (mem start b) (a .m) (a .fuel) (getD (a .setup .now) 13 0) (at-base-at .base-at .result) rep some refl (at-base-at .base-at .ensures) in
     let paid = at-charge .charge .ensures w (record { words = onSetup (a .setup .now) (b .words); fuel = b .fuel }) rep snd in
-    done (a .l) _ _ _ w (table (a .op)) (some-frames (w .frames) (a .frames .now) (a .m .depth) (rep .frames) some) (sym (at-passes .passes .ensures w N) ∙ not-false _ (at-if2 .if2 .left)) (at-pc-of .pc-of .result) (at-pc-of .pc-of .ensures .is) (at-a2 .a2 .given .0 .0) (at-body .body .result .step) (c .answer-of .result) (sym (at-a2 .a2 .given .1) ∙ paid .answer)
+    done (a .l) _ _ _ w (table (a .op)) (some-frames (w .frames) (a .frames .now) (a .m .depth) (rep .frames) some) (sym (at-passes .passes .ensures w N) ∙ not-false _ (at-if2 .if2 .left))
+    (at-pc-of .pc-of .result) (at-pc-of .pc-of .ensures .is) (at-a2 .a2 .given .0 .0) (at-body .body .result .step) (c .answer-of .result) (sym (at-a2 .a2 .given .1) ∙ paid .answer)
     (at-body .body .ensures (charge (OptPc.Some (at-pc-of .pc-of .result)) w .world) (record { words = onFinalize (at-charge .charge .last .1 .1 .1 .1 .1 .1 .0) (b .words); fuel = b .fuel }) (paid .world)
     (charged-sound (OptPc.Some (at-pc-of .pc-of .result)) w (narrow-pc _ (at-pc-of .pc-of .ensures .narrow)) snd)) (c .answer-of .ensures)
 

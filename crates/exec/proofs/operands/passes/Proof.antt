@@ -158,19 +158,23 @@ both-requires-7 c κs = search needs
 returns : tie.Need-returns
 returns c =
     let start = c .before .before .before .before .before .before .before .before in let arm = c .before .before .before .before .before .before in let a = start .args in let g = arm .op .given .0 in
-    λ w k. and-at (c .both2 .ensures) (and-at (c .before .before .both .ensures) (c .before .before .before .before .in-frame .ensures ∙ frame-at w (a .functions) (a .base) (a .height) k (g .1 .0)) (c .before .before .before .window-in .ensures ∙ window-at w (a .functions) (a .base) (a .height) k (g .1 .0) (g .1 .1 .1 .0))) (c .before .is-function .ensures ∙ function-at w (a .functions) (a .base) (a .height) k (g .1 .1 .0))
+    λ w k. and-at (c .both2 .ensures) (and-at (c .before .before .both .ensures) (c .before .before .before .before .in-frame .ensures ∙ frame-at w (a .functions) (a .base) (a .height) k (g
+    .1 .0)) (c .before .before .before .window-in .ensures ∙ window-at w (a .functions) (a .base) (a .height) k (g .1 .0) (g .1 .1 .1 .0))) (c .before .is-function .ensures ∙ function-at
+    w (a .functions) (a .base) (a .height) k (g .1 .1 .0))
     ∙ sym (ap (λ o. operandsOf (table o) w) (arm .op .given .1))
 
 returns-2 : tie.Need-returns-2
 returns-2 c =
     let start = c .before .before .before .before .before .before in let arm = c .before .before .before .before in let a = start .args in let g = arm .op2 .given .0 in
-    λ w k. and-at (c .both3 .ensures) (c .before .before .in-two .ensures ∙ frames-at w (a .functions) (a .base) (a .height) k (g .1 .0 ∷ g .1 .1 .0 ∷ [])) (c .before .window-in2 .ensures ∙ window-at w (a .functions) (a .base) (a .height) k (g .1 .0) (g .1 .1 .1 .0))
+    λ w k. and-at (c .both3 .ensures) (c .before .before .in-two .ensures ∙ frames-at w (a .functions) (a .base) (a .height) k (g .1 .0 ∷ g .1 .1 .0 ∷ [])) (c .before .window-in2 .ensures ∙
+    window-at w (a .functions) (a .base) (a .height) k (g .1 .0) (g .1 .1 .1 .0))
     ∙ sym (ap (λ o. operandsOf (table o) w) (arm .op2 .given .1))
 
 returns-3 : tie.Need-returns-3
 returns-3 c =
     let start = c .before .before .before .before .before .before in let arm = c .before .before .before .before in let a = start .args in let g = arm .op3 .given .0 in
-    λ w k. and-at (c .both4 .ensures) (c .before .before .in-two2 .ensures ∙ frames-at w (a .functions) (a .base) (a .height) k (g .1 .0 ∷ g .1 .1 .0 ∷ [])) (c .before .window-in3 .ensures ∙ window-at w (a .functions) (a .base) (a .height) k (g .1 .0) (g .1 .1 .1 .0))
+    λ w k. and-at (c .both4 .ensures) (c .before .before .in-two2 .ensures ∙ frames-at w (a .functions) (a .base) (a .height) k (g .1 .0 ∷ g .1 .1 .0 ∷ [])) (c .before .window-in3 .ensures ∙
+    window-at w (a .functions) (a .base) (a .height) k (g .1 .0) (g .1 .1 .1 .0))
     ∙ sym (ap (λ o. operandsOf (table o) w) (arm .op3 .given .1))
 
 returns-4 : tie.Need-returns-4
@@ -248,7 +252,8 @@ returns-15 c =
 returns-16 : tie.Need-returns-16
 returns-16 c =
     let start = c .before .before .before .before .before .before in let arm = c .before .before .before .before in let a = start .args in let g = arm .op16 .given .0 in
-    λ w k. and-at (c .both6 .ensures) (c .before .before .is-function3 .ensures ∙ function-at w (a .functions) (a .base) (a .height) k (g .1 .0)) (c .before .cont-in .ensures ∙ cont-at w (a .functions) (a .base) (a .height) k (g .1 .1 .0))
+    λ w k. and-at (c .both6 .ensures) (c .before .before .is-function3 .ensures ∙ function-at w (a .functions) (a .base) (a .height) k (g .1 .0)) (c .before .cont-in .ensures ∙ cont-at w (a
+    .functions) (a .base) (a .height) k (g .1 .1 .0))
     ∙ sym (ap (λ o. operandsOf (table o) w) (arm .op16 .given .1))
 
 returns-17 : tie.Need-returns-17

@@ -51,7 +51,10 @@ enum-known-answer-2 c = search needs
 
 call-hook-requires : tie.Need-call-hook-requires
 call-hook-requires c κs =
-    let creating = c .before .before .before .before .before .before .before .before .before .before .before .before in let named = creating .before .before .before .before .before .before .before in let asked = named .before .before in let start = asked .before .before .before .before .before .before .before in
+    let creating = c .before .before .before .before .before .before .before .before .before .before .before .before in
+    let named = creating .before .before .before .before .before .before .before in
+    let asked = named .before .before in
+    let start = asked .before .before .before .before .before .before .before in
     let o = start .pre .indirect .ok in
     let u = indirect (start .args .dst) (start .args .callee) (start .args .argc) (o .world) .world in
     let made = indirect-good (o .world) (start .args .dst) (start .args .callee) (start .args .argc) (o .sound) in
@@ -109,7 +112,11 @@ same-length-5 c = search needs
 
 returns-2 : tie.Need-returns-2
 returns-2 c =
-    let told = c .before in let creating = told .before .before .before .before .before .before .before .before .before in let named = creating .before .before .before .before .before .before .before in let asked = named .before .before in let start = asked .before .before .before .before .before .before .before in
+    let told = c .before in
+    let creating = told .before .before .before .before .before .before .before .before .before in
+    let named = creating .before .before .before .before .before .before .before in
+    let asked = named .before .before in
+    let start = asked .before .before .before .before .before .before .before in
     λ w b rep snd.
     spawn-refused (start .args .l) w (mem start b) (start .args .m) (start .args .fuel) rep (start .args .pc) (start .args .dst) (start .args .callee) (start .args .argc)
     (named .hook2 .given .0 .0) (sym (named .hook2 .given .1) ∙ asked .hook .ensures) _ _ (start .args .fuel) _ (told .answer .given .0 .0) (told .answer .given .1)

@@ -1,5 +1,5 @@
 -- `store_some` meets its contract: no frame, no pc, or a pc stored. Assumes nothing.
-use mathlib.Core.Path.{sym, ap, subst}
+use mathlib.Core.Path.{sym, subst}
 use Rattle.model.specs.Machine.{storeSome}
 use Rattle.memory.specs.Memory.{Rep}
 use Rattle.memory.specs.Lendings.{frame, plain}

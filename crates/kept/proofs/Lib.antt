@@ -1,0 +1,4 @@
+pub mod Calls
+pub mod Gating
+pub mod Keeping
+pub mod Ranges

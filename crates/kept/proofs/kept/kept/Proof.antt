@@ -1,0 +1,99 @@
+-- `kept` meets its contract: what `dispatch` left may be lent again. Assumes nothing.
+use mathlib.Core.Path.{refl}
+use Rattle.memory.specs.Memory.{Lent, Beside}
+use Rattle.memory.specs.Lendings.{all, plain}
+use Rattle.memory.specs.Contract.{with}
+use Rattle.kept.proofs.Keeping.{next-ok}
+use borrow.Author.Needs.{needs}
+use Rattle.kept.proofs.kept.kept.Statement.{statement}
+use Rattle.kept.proofs.kept.kept.Tie as tie
+
+abbrev mem : tie.Start → Beside → Lent
+mem c = all (c .args .stack .now) (c .args .frames .now) (c .args .chain .now) (c .args .slots .now) (c .args .saved-stack .now) (c .args .saved-frames .now)
+    (c .args .ready .now) (c .args .finalize .now) (c .args .setup .now) plain
+
+dispatch-requires : tie.Need-dispatch-requires
+dispatch-requires c κs =
+    let start = c .before .before .before .before .before .before .before .before .before .before .before .before .before .before .before .before .before in
+    start .pre
+
+same-length : tie.Need-same-length
+same-length c =
+    let at-dispatch = c .before .before .before .before .before .before .before .before .before .before .before .before .before .before .before .before in
+    at-dispatch .dispatch .kept .0
+
+same-length-2 : tie.Need-same-length-2
+same-length-2 c =
+    let at-dispatch = c .before .before .before .before .before .before .before .before .before .before .before .before .before .before .before .before in
+    at-dispatch .dispatch .kept .1 .0
+
+same-length-3 : tie.Need-same-length-3
+same-length-3 c =
+    let at-dispatch = c .before .before .before .before .before .before .before .before .before .before .before .before .before .before .before .before in
+    at-dispatch .dispatch .kept .1 .1 .0
+
+same-length-4 : tie.Need-same-length-4
+same-length-4 c =
+    let at-dispatch = c .before .before .before .before .before .before .before .before .before .before .before .before .before .before .before .before in
+    at-dispatch .dispatch .kept .1 .1 .1 .0
+
+same-length-5 : tie.Need-same-length-5
+same-length-5 c =
+    let at-dispatch = c .before .before .before .before .before .before .before .before .before .before .before .before .before .before .before .before in
+    at-dispatch .dispatch .kept .1 .1 .1 .1 .0
+
+same-length-6 : tie.Need-same-length-6
+same-length-6 c =
+    let at-dispatch = c .before .before .before .before .before .before .before .before .before .before .before .before .before .before .before .before in
+    at-dispatch .dispatch .kept .1 .1 .1 .1 .1 .0
+
+same-length-7 : tie.Need-same-length-7
+same-length-7 c =
+    let at-dispatch = c .before .before .before .before .before .before .before .before .before .before .before .before .before .before .before .before in
+    at-dispatch .dispatch .kept .1 .1 .1 .1 .1 .1 .0
+
+same-length-8 : tie.Need-same-length-8
+same-length-8 c =
+    let at-dispatch = c .before .before .before .before .before .before .before .before .before .before .before .before .before .before .before .before in
+    at-dispatch .dispatch .kept .1 .1 .1 .1 .1 .1 .1 .0
+
+returns : tie.Need-returns
+returns c =
+    let at-dispatch = c .before .before .before .before .before .before .before .before .before .before .before .before .before .before .before .before in
+    let start = at-dispatch .before .before .before .before .before .before .before .before .before .before .before .before .before .before .before .before .before .before in
+    let a = start .args in let ok = start .pre .ok in
+    let did = at-dispatch .dispatch .ensures in
+    record {
+      met = did;
+      again = next-ok (a .l) (mem start) (all (at-dispatch .dispatch .last .0) (at-dispatch .dispatch .last .1 .0) (at-dispatch .dispatch .last .1 .1 .0) (at-dispatch .dispatch .last .1 .1
+          .1 .0) (at-dispatch .dispatch .last .1 .1 .1 .1 .0) (at-dispatch .dispatch .last .1 .1 .1 .1 .1 .0) (at-dispatch .dispatch .last .1 .1 .1 .1 .1 .1 .0) (at-dispatch .dispatch .last
+          .1 .1 .1 .1 .1 .1 .1 .0) (a .setup .now) plain)
+          (with (a .m) (a .fuel)) (with (at-dispatch .dispatch .result .machine) (at-dispatch .dispatch .result .fuel)) (a .op) (at-dispatch .dispatch .result .answer) (start .pre .within) ok
+          (record {
+            stack = at-dispatch .dispatch .kept .0;
+            frames = at-dispatch .dispatch .kept .1 .0;
+            chain = at-dispatch .dispatch .kept .1 .1 .0;
+            slots = at-dispatch .dispatch .kept .1 .1 .1 .0;
+            savedStack = at-dispatch .dispatch .kept .1 .1 .1 .1 .0;
+            savedFrames = at-dispatch .dispatch .kept .1 .1 .1 .1 .1 .0;
+            ready = at-dispatch .dispatch .kept .1 .1 .1 .1 .1 .1 .0;
+            finalize = at-dispatch .dispatch .kept .1 .1 .1 .1 .1 .1 .1 .0;
+            setup = refl;
+          })
+          refl (did (ok .world) (ok .beside) (ok .rep) (ok .sound));
+    }
+
+pub kept-spec : {M : Type 1} → statement M
+kept-spec =
+    tie.close
+    (tie.spec
+    dispatch-requires
+    same-length
+    same-length-2
+    same-length-3
+    same-length-4
+    same-length-5
+    same-length-6
+    same-length-7
+    same-length-8
+    returns)

@@ -1,0 +1,28 @@
+-- A call on sound words, which are not tested: what it leaves and answers, and that its words may be lent to the next call.
+use mathlib.Core.Path.{_≡_}
+use mathlib.Core.Bool.{true}
+use Rattle.model.specs.World.{World, After, after}
+use Rattle.model.specs.Call.{typed}
+use Rattle.model.specs.Step.{call}
+use Rattle.model.specs.declared.call.Op.{Op}
+use Rattle.model.specs.declared.call.Answer.{Answer}
+use Rattle.model.specs.declared.machine.Fuel.{Fuel}
+use Rattle.memory.specs.Memory.{Lent, Beside}
+use Rattle.memory.specs.Contract.{Lending, Numbers, Met, Ok, ifSound, with, atExit}
+use Rattle.memory.specs.declared.machine.Machine.{Machine}
+use Rattle.memory.specs.declared.machine.Sizes.{Sizes}
+
+-- what an operation leaves, and answers
+abbrev pub did : Op → World → After Answer
+did o w = after (call o w .world) (call o w .answer)
+
+-- a sound world, and operands that their types hold
+pub record KeptFits (l : Sizes) (M : Beside → Lent) (m : Machine) (fuel : Fuel) (o : Op) : Type 0 where
+  pub ok : Ok l M (with m fuel)
+  pub within : typed o ≡ true
+
+pub record Keeps (l : Sizes) (o : Op) (L : Lending) (n n′ : Numbers) (a : Answer) : Type 0 where
+  -- of every sound world that the words stood for, they stand for what the call leaves, and the answer is the call's
+  pub met : Met ifSound l (did o) L n n′ a
+  -- they stand for a sound world again, with words enough: the next call may be made
+  pub again : Ok l (L atExit) n′

@@ -1,0 +1,45 @@
+// Any call of document 01 but the set-up, on words that stand for a sound machine. Nothing is tested that soundness gives.
+ghost use Rattle.kept.specs.Kept.{Keeps, KeptFits};
+ghost use Rattle.memory.specs.Lendings.{all};
+ghost use Rattle.memory.specs.Contract.{with};
+use crate::dispatch::dispatch;
+use exec::instruction::Called;
+use memory::machine::Machine;
+use memory::machine::Sizes;
+use model::call::Op;
+use model::machine::Fuel;
+
+pub fn kept(
+    stack: &mut [u64],
+    frames: &mut [u64],
+    chain: &mut [u64],
+    slots: &mut [u64],
+    saved_stack: &mut [u64],
+    saved_frames: &mut [u64],
+    ready: &mut [u64],
+    finalize: &mut [u64],
+    setup: &[u64],
+    m: Machine,
+    l: Sizes,
+    fuel: Fuel,
+    op: Op,
+) -> Called
+    requires { ⌜ KeptFits l (all stack frames chain slots «saved_stack» «saved_frames» ready finalize setup now) m fuel op ⌝ }
+    ensures { λ r. ⌜ Keeps l op (all stack frames chain slots «saved_stack» «saved_frames» ready finalize setup) (with m fuel) (with (r .machine) (r .fuel)) (r .answer) ⌝ }
+{
+    dispatch(
+        stack,
+        frames,
+        chain,
+        slots,
+        saved_stack,
+        saved_frames,
+        ready,
+        finalize,
+        setup,
+        m,
+        l,
+        fuel,
+        op,
+    )
+}

@@ -1,0 +1,273 @@
+-- 01's sentences about all answers, from the table.
+use Prim.Native.Nat.{ℕ, suc, _≤_}
+use mathlib.Core.Path.{_≡_, refl, sym, ap, subst, _∙_}
+use mathlib.Core.Bool.{Bool, true, false, not, _&&_, _||_, true≢false, false≢true}
+use mathlib.Core.List.{List, [], _∷_}
+use native.Mathlib.Omega.{arith}
+use lib.ListN.{length}
+use lib.Dec.{eqb, leb}
+use borrow.Author.Tests.{leb-true, leb-false, eq-eqb}
+use Rattle.lists.specs.Pick.{pick}
+use Rattle.heap.specs.Fault as Faults
+use Rattle.heap.specs.Table.{Slot}
+use Rattle.heap.specs.declared.fault.Fault.{Fault}
+use Rattle.heap.specs.declared.heap.ResultKind.{ResultKind}
+use Rattle.model.specs.Lists.{among}
+use Rattle.model.specs.Program.{Func, Setup, setupOk}
+use Rattle.model.specs.Object.{Object}
+use Rattle.model.specs.World.{World, After, after, functionObjects, fresh}
+use Rattle.model.specs.Sound.{sizesOk, sound}
+use Rattle.model.specs.Answer.{numberOf, wordOf}
+use Rattle.model.specs.Call.{Call, SetUp, Do, Operation}
+use Rattle.model.specs.Step.{Out, step, run}
+use Rattle.model.specs.declared.machine.Cont.{Cont}
+use Rattle.model.specs.declared.machine.Frame.{Frame}
+use Rattle.model.specs.declared.exec.Step.{Step}
+use Rattle.model.specs.declared.call.Op.{Op}
+use Rattle.model.specs.declared.call.Answer.{Answer}
+use Rattle.sheet.specs.Lines.{Line, leads, saysFrom, refuse}
+use Rattle.sheet.specs.Does.{number}
+use Rattle.sheet.specs.Words.{isNothing, noSlot}
+use Rattle.sheet.specs.Makings.{noRow, newWord}
+use Rattle.sheet.specs.Endings.{finishBy, finishOn}
+use Rattle.sheet.specs.Unwinding as Unwinding
+use Rattle.sheet.specs.Sheet.{tableOf, sheet}
+use Rattle.sheet.specs.Sentences.{givesFrom, gives, Behind9, FullAfter9, takenOf, everySlot, unchanging, Sentences}
+use Rattle.sheet.proofs.Among.{and-left, and-right, same}
+use Rattle.sheet.proofs.Choice.{both}
+use Rattle.sheet.proofs.Rules.{sizes}
+use Rattle.sheet.proofs.Sheet.{leads-to}
+use Rattle.sheet.proofs.SheetNumbers.{says-number, sets-up}
+use Rattle.sheet.proofs.Led.{here}
+use Rattle.sheet.proofs.Kept.{filled}
+use Rattle.sheet.proofs.WalkCalls.{fact}
+
+-- ---- "given exactly if"
+
+gives-one : (b : Bool) (m n k : ℕ) (r : Bool) → eqb k n ≡ r → eqb (pick b m k) n ≡ b && eqb m n || not b && r
+unfolding pick
+gives-one true m n k r e = sym (or-none (eqb m n))
+  where
+    or-none : (x : Bool) → x || false ≡ x
+    or-none true = refl
+    or-none false = refl
+gives-one false m n k r e = e
+
+gives-from : (n : ℕ) (ts : List (Line Answer)) (d : Line Answer) → eqb (saysFrom ts d) n ≡ givesFrom n ts d
+gives-from n [] d = refl
+gives-from n (t ∷ ts) d = gives-one (t .stops) (t .number) n (saysFrom ts d) (givesFrom n ts d) (gives-from n ts d)
+
+-- ---- what changes nothing; slots
+
+done-is : (w : World) (o : Operation) → step w (Do o) .world ≡ leads (sheet (o .op) w) .world
+done-is w o = ap (λ (a : After Answer). a .world) (leads-to w o)
+
+set-up-by : (b : Bool) (s : Setup) (w : World) (P : ℕ → World → Type 0) → P 11 w → P 0 (fresh s) →
+    P (numberOf (pick (not b) (after w (Answer.Refused Fault.Unsound)) (after (fresh s) Answer.Accepted) .answer)) (pick (not b) (after w (Answer.Refused Fault.Unsound)) (after (fresh s) Answer.Accepted) .world)
+unfolding pick
+set-up-by true s w P x y = y
+set-up-by false s w P x y = x
+
+set-up-has : (s : Setup) (w : World) (P : ℕ → World → Type 0) → P 11 w → P 0 (fresh s) → P (numberOf (step w (SetUp s) .answer)) (step w (SetUp s) .world)
+set-up-has s w P x y = subst (λ (o : Out). P (numberOf (o .answer)) (o .world)) (sym (sets-up w s)) (set-up-by (setupOk s) s w P x y)
+
+stays : (w : World) (c : Call) → among (numberOf (step w c .answer)) unchanging ≡ true → step w c .world ≡ w
+stays w (SetUp s) = set-up-has s w (λ m x. among m unchanging ≡ true → x ≡ w) (λ _. refl) (λ h. absurd (false≢true h))
+stays w (Do o) = λ h. done-is w o ∙ fact w (o .op) .calm (ap (λ n. among n unchanging) (sym (says-number w o)) ∙ h)
+
+new-filled : (i : ℕ) (fs : List Func) → filled (functionObjects i fs) ≡ true
+new-filled i [] = refl
+new-filled i (f ∷ fs) = new-filled (suc i) fs
+
+steps-filled : (w : World) (c : Call) → filled (w .slots) ≡ true → filled (step w c .world .slots) ≡ true
+steps-filled w (SetUp s) h = set-up-has s w (λ m x. filled (x .slots) ≡ true) h (new-filled 0 (s .functions))
+steps-filled w (Do o) h = ap (λ (x : World). filled (x .slots)) (done-is w o) ∙ fact w (o .op) .full h
+
+run-filled : (w : World) (cs : List Call) → filled (w .slots) ≡ true → filled (run w cs .slots) ≡ true
+run-filled w [] h = h
+run-filled w (c ∷ cs) h = run-filled (step w c .world) cs (steps-filled w c h)
+
+accepted-filled : (w : World) (s : Setup) → setupOk s ≡ true → filled (step w (SetUp s) .world .slots) ≡ true
+unfolding pick
+accepted-filled w s h = ap (λ (o : Out). filled (o .world .slots)) (sets-up w s) ∙ (ap (λ b. filled (pick (not b) (after w (Answer.Refused Fault.Unsound)) (after (fresh s) Answer.Accepted) .world .slots)) h ∙ new-filled 0 (s .functions))
+
+reached-filled : (w : World) (s : Setup) (cs : List Call) → setupOk s ≡ true → filled (run w (SetUp s ∷ cs) .slots) ≡ true
+reached-filled w s cs h = run-filled (step w (SetUp s) .world) cs (accepted-filled w s h)
+
+all-taken : (xs : List (Slot Object)) → filled xs ≡ true → takenOf xs ≡ length xs
+unfolding pick
+all-taken [] h = refl
+all-taken (x ∷ xs) h = go (isNothing (x .object)) (and-left (not (isNothing (x .object))) (filled xs) h) (all-taken xs (and-right (not (isNothing (x .object))) (filled xs) h))
+  where
+    go : (b : Bool) → not b ≡ true → takenOf xs ≡ length xs → pick b (takenOf xs) (suc (takenOf xs)) ≡ suc (length xs)
+    go true e k = absurd (false≢true e)
+    go false e k = ap suc k
+
+at-most : (n m : ℕ) → n ≤ m → leb m n ≡ eqb n m
+at-most n m l = go (leb m n) refl
+  where
+    go : (b : Bool) → leb m n ≡ b → b ≡ eqb n m
+    go true e =
+        let k = leb-true m n e in
+        sym (eq-eqb n m (omega (arith, l, k)))
+    go false e = sym (other (eqb n m) refl)
+      where
+        other : (c : Bool) → eqb n m ≡ c → c ≡ false
+        other true f =
+            let k = leb-false m n e in
+            let j = same n m f in
+            absurd (omega (arith, k, j))
+        other false f = refl
+
+slots-exact : (v : World) → filled (v .slots) ≡ true → sound v ≡ true → noSlot v ≡ everySlot v
+unfolding sizesOk
+slots-exact v h s =
+    at-most (length (v .slots)) (v .setup .limits .slots)
+    (leb-true (length (v .slots)) (v .setup .limits .slots)
+    (and-right (leb (length (v .frames)) (v .setup .limits .depth) && leb (length (v .stack)) (v .setup .limits .stack)) (leb (length (v .slots)) (v .setup .limits .slots))
+    (and-left (leb (length (v .frames)) (v .setup .limits .depth) && leb (length (v .stack)) (v .setup .limits .stack) && leb (length (v .slots)) (v .setup .limits .slots)) (leb (v .used) (v .setup .limits .memory)) (sizes v s))))
+    ∙ ap (λ n. eqb n (v .setup .limits .slots)) (sym (all-taken (v .slots) h))
+
+-- an answer but 11 is a sound machine's
+sound-by : (v : World) (o : Operation) → number v o ≡ 14 → sound v ≡ true
+sound-by v o h = go (sound v) refl
+  where
+    go : (b : Bool) → sound v ≡ b → b ≡ true
+    go true e = refl
+    go false e = absurd (false≢true (sym (ap (λ b. eqb (pick (not b) 11 (saysFrom (tableOf (o .op) v .tests) (tableOf (o .op) v .done))) 14) e ∙ eleven) ∙ (ap (λ n. eqb n 14) (sym (says-number v o)) ∙ ap (λ n. eqb n 14) h)))
+      where
+        eleven : eqb (pick true 11 (saysFrom (tableOf (o .op) v .tests) (tableOf (o .op) v .done))) 14 ≡ false
+        eleven = ap (λ n. eqb n 14) (here true (saysFrom (tableOf (o .op) v .tests) (tableOf (o .op) v .done)) refl)
+
+full-by : (v : World) (o : Operation) → filled (v .slots) ≡ true → number v o ≡ 14 → everySlot v || noRow v ≡ true
+full-by v o f h =
+    ap (λ b. b || noRow v) (sym (slots-exact v f (sound-by v o h)))
+    ∙ fact v (o .op) .lack (ap (λ n. eqb n 14) (sym (says-number v o) ∙ h))
+
+-- ---- 14 behind 9
+
+no : {A : Type 0} → false ≡ true → A
+no h = absurd (false≢true h)
+
+nine-ten : {A : Type 0} (n : ℕ) → eqb n 14 && (eqb n 9 || eqb n 10) ≡ true → A
+nine-ten n h = no (subst (λ m. eqb m 9 || eqb m 10 ≡ true) (same n 14 (and-left (eqb n 14) _ h)) (and-right (eqb n 14) _ h))
+
+search-14 : (l : Line Answer) (fs : List Frame) (value f pc : ℕ) (w : World) → Behind9 l (Unwinding.search fs value f pc w)
+search-14 l [] value f pc w = (no, tt)
+search-14 l (x ∷ xs) value f pc w = (no, (no, (no, (no, (no, search-14 _ xs value f pc (Unwinding.left x xs value w))))))
+
+finish-14 : (c : Cont) (f : Frame) (fs : List Frame) (k : ResultKind) (v : ℕ) (w : World) (l : Line Answer) → Behind9 l (finishBy c f fs k v w .tests)
+finish-14 Cont.Entry f fs k v w l = tt
+finish-14 (Cont.Write r) f fs k v w l = tt
+finish-14 (Cont.Dyn r) f fs k v w l = (no, (no, (λ _. (refl, refl), tt)))
+finish-14 (Cont.Value r) f fs k v w l = tt
+finish-14 Cont.Discard f fs k v w l = tt
+finish-14 Cont.Coro f fs k v w l = (no, (no, (λ _. (refl, refl), tt)))
+
+finish-on-14 : (fs : List Frame) (k : ResultKind) (v : ℕ) (w : World) (l : Line Answer) → Behind9 l (finishOn fs k v w .tests)
+finish-on-14 [] k v w l = tt
+finish-on-14 (f ∷ fs) k v w l = finish-14 (f .cont) f fs k v w l
+
+behind-9 : (o : Op) (w : World) → FullAfter9 (sheet o w .tests)
+behind-9 (Op.CoroNew pc dst f argc) w = (refl, (no, (no, (no, (no, (no, (λ _. (refl, refl), (no, tt))))))))
+behind-9 (Op.CoroNewIndirect pc dst c argc) w = (refl, (no, (no, (no, (no, (no, (no, (no, (no, (no, (λ _. (refl, refl), (no, tt))))))))))))
+behind-9 (Op.Spawn pc dst c argc) w = (refl, (no, (no, (no, (no, (no, (no, (no, (no, (no, (no, (λ _. (refl, refl), (no, (no, (no, tt)))))))))))))))
+behind-9 (Op.Yield pc dst src) w = (refl, (no, (no, (no, (no, (no, (no, (no, (λ _. (refl, refl), (no, (no, tt)))))))))))
+behind-9 (Op.YieldKv pc dst src key) w = (refl, (no, (no, (no, (no, (no, (no, (no, tt))))))))
+behind-9 (Op.Await pc dst src) w = (refl, (no, (no, (no, (no, (no, (no, (no, tt))))))))
+behind-9 (Op.Resume pc dst c src) w = (refl, (no, (no, (no, (no, (no, (no, (no, (no, tt)))))))))
+behind-9 (Op.ResumeThrow pc dst c src) w = (refl, (no, (no, (no, (no, (no, (no, (no, (no, (no, tt))))))))))
+behind-9 (Op.CoroClose pc dst c src) w = (refl, (no, (no, (no, (no, (no, (no, (no, (no, (no, (no, tt)))))))))))
+behind-9 (Op.CoroStatus pc dst c) w = (refl, (no, (no, (no, (no, (no, (no, tt)))))))
+behind-9 (Op.CoroCurrent pc dst) w = (refl, (no, (no, (no, (no, tt)))))
+behind-9 (Op.CoroKey pc dst c) w = (refl, (no, (no, (no, (no, (no, (no, tt)))))))
+behind-9 (Op.CoroResult pc dst c) w = (refl, (no, (no, (no, (no, (no, (no, (no, tt))))))))
+behind-9 (Op.IterNext pc has iter val src) w = (refl, (no, (no, (no, (no, (no, (no, (no, (no, (no, (no, tt)))))))))))
+behind-9 (Op.Finish kind v) w = (refl, finish-on-14 (w .frames) kind v w _)
+behind-9 (Op.Unwind f pc) w =
+    let n = Faults.numberOf f in
+    let z = Unwinding.given pc w in (
+      refl,
+      (
+        no,
+        (
+          nine-ten n,
+          (
+            no,
+            (
+              λ _. (refl, refl),
+              both (λ (ts : List (Line Answer)). Behind9 (refuse 14 (leb n 8 && noSlot z) z) ts) (leb n 8) (search-14 _ (z .frames) (newWord z) _ _ (Unwinding.errorMade n z)) (search-14 _ (z .frames) (Faults.wordOf f) _ _ z),
+            ),
+          ),
+        ),
+      ),
+    )
+behind-9 (Op.SpawnTask v) w = (refl, (no, tt))
+behind-9 (Op.HostCall f) w = (refl, (no, (no, (no, tt))))
+behind-9 (Op.HostEntry c v) w = (refl, (no, (no, (no, (no, (no, tt))))))
+behind-9 (Op.FunctionCall pc f cont) w = (refl, (no, (no, (no, tt))))
+behind-9 (Op.PutWord r v) w = (refl, (no, (no, tt)))
+behind-9 (Op.MakeIterator v) w = (refl, (no, (no, (no, (λ _. (refl, refl), tt)))))
+behind-9 Op.TakeOutcome w = (refl, tt)
+behind-9 (Op.HandOver v) w = (refl, (no, (no, (no, tt))))
+behind-9 (Op.Grant n) w = (refl, (no, tt))
+behind-9 Op.StopRun w = (refl, tt)
+behind-9 Op.Look w = (refl, tt)
+
+-- ---- words of refusals
+
+fault-word : (f : Fault) → among (Faults.numberOf f) (0 ∷ 17 ∷ []) ≡ false → Faults.wordOf f ≡ 0
+fault-word Fault.None h = refl
+fault-word Fault.NullReference h = refl
+fault-word Fault.TypeError h = refl
+fault-word Fault.InvalidCoroState h = refl
+fault-word Fault.StackOverflow h = refl
+fault-word Fault.CannotSuspend h = refl
+fault-word Fault.CloseIgnored h = refl
+fault-word Fault.ArithOverflow h = refl
+fault-word Fault.NoScheduler h = refl
+fault-word Fault.OutOfMemory h = refl
+fault-word Fault.OutOfFuel h = refl
+fault-word Fault.Unsound h = refl
+fault-word Fault.NoFrame h = refl
+fault-word Fault.BadOperand h = refl
+fault-word Fault.Full h = refl
+fault-word Fault.Busy h = refl
+fault-word Fault.GrantTooLarge h = refl
+fault-word (Fault.Throw v) h = absurd (true≢false h)
+
+zero-word : (a : Answer) → among (numberOf a) (0 ∷ 17 ∷ []) ≡ false → wordOf a ≡ 0
+zero-word Answer.Accepted h = refl
+zero-word (Answer.Word v) h = absurd (true≢false h)
+zero-word (Answer.Refused f) h = fault-word f h
+zero-word (Answer.Stepped Step.Next n) h = refl
+zero-word (Answer.Stepped Step.Frame n) h = refl
+zero-word (Answer.Stepped (Step.Fault f) n) h = fault-word f h
+zero-word (Answer.Stepped (Step.Unwind f) n) h = fault-word f h
+zero-word (Answer.Cleanup n) h = refl
+zero-word (Answer.Unpaid n) h = refl
+zero-word (Answer.Exit v) h = absurd (true≢false h)
+zero-word Answer.Resume h = refl
+zero-word Answer.Caught h = refl
+zero-word Answer.Stopped h = refl
+zero-word (Answer.Took o) h = absurd (true≢false h)
+
+set-up-says : (b : Bool) (s : Setup) (w : World) → numberOf (pick (not b) (after w (Answer.Refused Fault.Unsound)) (after (fresh s) Answer.Accepted) .answer) ≡ pick (not b) 11 0
+unfolding pick
+set-up-says true s w = refl
+set-up-says false s w = refl
+
+pub given-by : (n : ℕ) (w : World) (o : Operation) → eqb (number w o) n ≡ gives n (sheet (o .op) w)
+given-by n w o = ap (λ m. eqb m n) (says-number w o) ∙ gives-from n (sheet (o .op) w .tests) (sheet (o .op) w .done)
+
+pub sentences : Sentences
+sentences =
+    record {
+      given = given-by;
+      given-set-up = λ w s. ap (λ (o : Out). numberOf (o .answer)) (sets-up w s) ∙ set-up-says (setupOk s) s w;
+      unchanged = stays;
+      full-after-9 = λ w o. behind-9 (o .op) w;
+      slots-taken = λ w s cs h k. slots-exact (run w (SetUp s ∷ cs)) (reached-filled w s cs h) k;
+      full = λ w s cs o h k. full-by (run w (SetUp s ∷ cs)) o (reached-filled w s cs h) k;
+      refused-word = λ w c h. zero-word (step w c .answer) h;
+    }

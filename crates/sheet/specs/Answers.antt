@@ -1,0 +1,132 @@
+-- 01: "Answers": the word and the Step of every answer, and the part that a look hands back.
+use Prim.Native.Nat.{ℕ}
+use mathlib.Core.Path.{_≡_}
+use mathlib.Core.Bool.{Bool, true, false}
+use mathlib.Core.Option.{Option, none, some}
+use mathlib.Core.List.{List, [], _∷_}
+use lib.ListN.{drop}
+use Rattle.heap.specs.declared.object.CoroState.{CoroState}
+use Rattle.heap.specs.declared.value.Opt.{Opt}
+use Rattle.model.specs.Lists.{among}
+use Rattle.model.specs.Program.{Setup}
+use Rattle.model.specs.Object.{Object}
+use Rattle.model.specs.World.{World}
+use Rattle.model.specs.Sound.{sound}
+use Rattle.model.specs.Answer.{stepNumber, numberOf, wordOf, stepOf, outcomeWord}
+use Rattle.model.specs.Call.{Call, SetUp, Do, Operation, typed, asCall}
+use Rattle.model.specs.Step.{step}
+use Rattle.model.specs.Calls.{Row, Instruction, OnFrame, OnHost, Unwinds, Grants, Looks, Other, table}
+use Rattle.model.specs.declared.machine.Cont.{Cont}
+use Rattle.model.specs.declared.machine.Frame.{Frame}
+use Rattle.model.specs.declared.exec.Step.{Step}
+use Rattle.model.specs.declared.call.Op.{Op}
+use Rattle.sheet.specs.Does.{number, operation}
+use Rattle.sheet.specs.Words.{word, found, state, isIn}
+use Rattle.sheet.specs.Charging.{charged}
+use Rattle.sheet.specs.Makings.{newWord}
+use Rattle.sheet.specs.Endings.{result, orNil}
+
+-- ---- words
+
+-- finish exits with its word where an Entry frame is on top, or none
+abbrev pub exitBy : Cont → Opt → ℕ
+exitBy Cont.Entry v = orNil v
+exitBy (Cont.Write r) v = 0
+exitBy (Cont.Dyn r) v = 0
+exitBy (Cont.Value r) v = 0
+exitBy Cont.Discard v = 0
+exitBy Cont.Coro v = 0
+
+abbrev pub exitWord : List Frame → Opt → ℕ
+exitWord [] v = orNil v
+exitWord (f ∷ fs) v = exitBy (f .cont) v
+
+-- "an accepted call with no word of its own answers 0"; "make iterator and `spawn_task` answer their object's word"
+abbrev pub wordFor : Op → World → ℕ
+wordFor (Op.CoroNew pc dst f argc) w = 0
+wordFor (Op.CoroNewIndirect pc dst c argc) w = 0
+wordFor (Op.Spawn pc dst c argc) w = 0
+wordFor (Op.Yield pc dst src) w = 0
+wordFor (Op.YieldKv pc dst src key) w = 0
+wordFor (Op.Await pc dst src) w = 0
+wordFor (Op.Resume pc dst c src) w = 0
+wordFor (Op.ResumeThrow pc dst c src) w = 0
+wordFor (Op.CoroClose pc dst c src) w = 0
+wordFor (Op.CoroStatus pc dst c) w = 0
+wordFor (Op.CoroCurrent pc dst) w = 0
+wordFor (Op.CoroKey pc dst c) w = 0
+wordFor (Op.CoroResult pc dst c) w = 0
+wordFor (Op.IterNext pc has iter val src) w = 0
+wordFor (Op.Finish kind v) w = exitWord (w .frames) (result kind v)
+wordFor (Op.Unwind f pc) w = 0
+wordFor (Op.SpawnTask v) w = v
+wordFor (Op.HostCall f) w = 0
+wordFor (Op.HostEntry c v) w = 0
+wordFor (Op.FunctionCall pc f cont) w = 0
+wordFor (Op.PutWord r v) w = 0
+wordFor (Op.MakeIterator v) w = newWord w
+wordFor Op.TakeOutcome w = outcomeWord (w .outcome)
+wordFor (Op.HandOver v) w = 0
+wordFor (Op.Grant n) w = 0
+wordFor Op.StopRun w = 0
+wordFor Op.Look w = 0
+
+-- ---- Steps
+
+abbrev pub isInstruction : Row → Bool
+isInstruction (Instruction pc operands arm) = true
+isInstruction (OnFrame operands body) = false
+isInstruction (OnHost operands body) = false
+isInstruction (Unwinds f pc) = false
+isInstruction (Grants n) = false
+isInstruction Looks = false
+isInstruction (Other body) = false
+
+abbrev pub isLook : Row → Bool
+isLook (Instruction pc operands arm) = false
+isLook (OnFrame operands body) = false
+isLook (OnHost operands body) = false
+isLook (Unwinds f pc) = false
+isLook (Grants n) = false
+isLook Looks = true
+isLook (Other body) = false
+
+-- a Step's number
+abbrev pub says : Option Step → Option ℕ
+says none = none
+says (some s) = some (stepNumber s)
+
+abbrev pub isFault : Option Step → Bool
+isFault none = false
+isFault (some Step.Next) = false
+isFault (some Step.Frame) = false
+isFault (some (Step.Fault f)) = true
+isFault (some (Step.Unwind f)) = false
+
+-- a word is thrown into a coroutine that is new
+pub record ThrownAtNew (w : World) (o : Op) : Type 0 where
+  pub pc : ℕ
+  pub dst : ℕ
+  pub c : ℕ
+  pub src : ℕ
+  pub is : o ≡ Op.ResumeThrow pc dst c src
+  pub new : isIn (CoroState.Created ∷ []) (state (charged pc w) (word (charged pc w) c)) ≡ true
+
+pub record Answers : Type 0 where
+  pub word : (w : World) (o : Operation) → number w o ≡ 0 → wordOf (step w (Do o) .answer) ≡ wordFor (o .op) w
+  pub set-up-word : (w : World) (s : Setup) → wordOf (step w (SetUp s) .answer) ≡ 0
+  -- the word that make iterator answers finds its iterator: "over a coroutine, not done, no key"
+  pub iterator : (w : World) (v : ℕ) (t : typed (Op.MakeIterator v) ≡ true) → let o = operation (Op.MakeIterator v) t in
+      number w o ≡ 0 → found (step w (Do o) .world) (wordOf (step w (Do o) .answer)) ≡ Object.Iter v false Opt.None
+  -- 11 to 13, 15 and 16 have no Step, nor has a call that is no instruction; any other answer of an instruction has one, of its number
+  pub no-step : (w : World) (c : Call) → among (numberOf (step w c .answer)) (11 ∷ 12 ∷ 13 ∷ 15 ∷ 16 ∷ []) ≡ true → stepOf (step w c .answer) ≡ none
+  pub no-instruction : (w : World) (o : Operation) → isInstruction (table (o .op)) ≡ false → stepOf (step w (Do o) .answer) ≡ none
+  pub has-step : (w : World) (o : Operation) → isInstruction (table (o .op)) ≡ true → among (number w o) (11 ∷ 12 ∷ 13 ∷ []) ≡ false → says (stepOf (step w (Do o) .answer)) ≡ some (number w o)
+  -- 14 has 9's: both are faults, and no unwinding
+  pub full : (w : World) (o : Operation) → isInstruction (table (o .op)) ≡ true → among (number w o) (9 ∷ 14 ∷ []) ≡ true → isFault (stepOf (step w (Do o) .answer)) ≡ true
+  -- 17's two: a fault where a word is thrown into a new coroutine, else an unwinding
+  pub thrown : (w : World) (o : Operation) → isInstruction (table (o .op)) ≡ true → number w o ≡ 17 → isFault (stepOf (step w (Do o) .answer)) ≡ true → ThrownAtNew w (o .op)
+  -- a look hands back the words from the top base to the stack's end, without a frame an empty part; no other call hands back any
+  pub look : (w : World) (t : typed Op.Look ≡ true) (f : Frame) (fs : List Frame) → sound w ≡ true → w .frames ≡ f ∷ fs → step w (asCall Op.Look t) .seen ≡ drop (f .base) (w .stack)
+  pub look-empty : (w : World) (t : typed Op.Look ≡ true) → w .frames ≡ [] → step w (asCall Op.Look t) .seen ≡ []
+  pub no-look : (w : World) (o : Operation) → isLook (table (o .op)) ≡ false → step w (Do o) .seen ≡ []

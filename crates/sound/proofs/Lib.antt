@@ -1,0 +1,4 @@
+pub mod Held
+pub mod Rowed
+pub mod Passed
+pub mod Exactly

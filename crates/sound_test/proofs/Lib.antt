@@ -1,0 +1,13 @@
+pub mod Bools
+pub mod Joined
+pub mod Conts
+pub mod OneFrame
+pub mod Tower
+pub mod Handlers
+pub mod Closing
+pub mod Hooks
+pub mod Bits
+pub mod Seen
+pub mod Named
+pub mod Beside
+pub mod Marks
