@@ -47,6 +47,7 @@ fn main() {
 fn proved() {
     println!("cargo::rerun-if-env-changed=BVM_LIB");
     println!("cargo::rustc-check-cfg=cfg(proved)");
+    println!("cargo::rustc-check-cfg=cfg(kept)");
     let Some(lib) = env::var_os("BVM_LIB").filter(|s| !s.is_empty()) else {
         return;
     };
@@ -56,6 +57,9 @@ fn proved() {
     println!("cargo::rustc-link-search=native={}", lib.display());
     println!("cargo::rustc-link-lib=static=exports");
     println!("cargo::rustc-cfg=proved");
+    if fs::read(&file).is_ok_and(|text| text.windows(8).any(|w| w == b"bvm_kept")) {
+        println!("cargo::rustc-cfg=kept");
+    }
 }
 
 /// A module of the crate root, read from `file`. The original declares far

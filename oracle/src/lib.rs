@@ -12,6 +12,8 @@ pub mod coverage;
 pub mod engine;
 pub mod examples;
 pub mod generate;
+#[cfg(proved)]
+pub mod kept;
 pub mod layout;
 pub mod plain;
 #[cfg(proved)]

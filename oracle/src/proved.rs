@@ -135,7 +135,7 @@ impl Proved {
 
 /// Five limits, six costs, the hook, the number of functions, then 35 words
 /// each.
-fn setup_words(s: &Setup) -> Vec<u64> {
+pub(crate) fn setup_words(s: &Setup) -> Vec<u64> {
     let k = &s.costs;
     let mut words = vec![s.depth, s.stack, s.rows, s.slots, s.memory];
     words.extend([k.frame, k.coro, k.coro_object, k.int, k.error, k.iter]);
@@ -155,7 +155,7 @@ fn function_words(f: &Func) -> [u64; 35] {
     words
 }
 
-fn cont_words(k: Cont) -> (u64, u64) {
+pub(crate) fn cont_words(k: Cont) -> (u64, u64) {
     match k {
         Cont::Entry => (0, 0),
         Cont::Write(r) => (1, u64::from(r)),

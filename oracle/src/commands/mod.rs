@@ -4,6 +4,7 @@ mod antt;
 mod bench;
 mod examples;
 mod fuzz;
+mod kept;
 mod recorded;
 mod run;
 mod trace;
@@ -19,6 +20,7 @@ const USAGE: &str = "usage: oracle COMMAND
   run               calls from the standard input: answers and states
   fuzz SEED N       N random sequences on the original and the second engine
   coverage SEED N   the same, with a table of calls by answers
+  kept SEED N       N random sequences on the original and the proved `bvm_kept`
   trace SEED N      N random sequences as text
   damaged SEED N    N states with one number changed, and whether each is sound
   examples          the paper's P1 to P8
@@ -45,6 +47,7 @@ pub(crate) fn run(args: &[&str]) -> Result<(), String> {
         ["run"] => with_original(run::run),
         ["fuzz", seed, n] => seeded(seed, n, fuzz::fuzz),
         ["coverage", seed, n] => seeded(seed, n, fuzz::coverage),
+        ["kept", seed, n] => seeded(seed, n, kept::kept),
         ["trace", seed, n] => seeded(seed, n, trace::trace),
         ["damaged", seed, n] => {
             trace::damaged(COSTS, number(seed)?, number(n)?);

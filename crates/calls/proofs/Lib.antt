@@ -1,0 +1,5 @@
+pub mod Back
+pub mod Typed
+pub mod Past
+pub mod Reading
+pub mod Answers

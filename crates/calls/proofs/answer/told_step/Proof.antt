@@ -1,0 +1,67 @@
+-- `told_step` meets its contract, by the step. Assumes nothing.
+use mathlib.Core.Path.{sym, ap}
+use mathlib.Core.List.{List, [], _∷_}
+use mathlib.Core.Option.{some}
+use Prim.Native.Nat.{ℕ}
+use Rattle.model.specs.Answer.{stepNumber, stepWord}
+use Rattle.model.specs.declared.exec.Step.{Step}
+use Rattle.calls.specs.Answer.{stepCode}
+use borrow.Author.Needs.{needs}
+use Rattle.calls.proofs.answer.told_step.Statement.{statement}
+use Rattle.calls.proofs.answer.told_step.Tie as tie
+
+abbrev three : Step → List ℕ
+three s = stepNumber s ∷ stepWord s ∷ stepCode (some s) ∷ []
+
+enum-told : tie.Need-enum-told
+enum-told c = search needs
+
+enum-told-2 : tie.Need-enum-told-2
+enum-told-2 c = search needs
+
+enum-known-s : tie.Need-enum-known-s
+enum-known-s c = search needs
+
+number-requires : tie.Need-number-requires
+number-requires c κs = search needs
+
+word-requires : tie.Need-word-requires
+word-requires c κs = search needs
+
+enum-known-s-2 : tie.Need-enum-known-s-2
+enum-known-s-2 c = search needs
+
+number-requires-2 : tie.Need-number-requires-2
+number-requires-2 c κs = search needs
+
+word-requires-2 : tie.Need-word-requires-2
+word-requires-2 c κs = search needs
+
+returns : tie.Need-returns
+returns c = sym (ap three (c .enum-told .given .1))
+
+returns-2 : tie.Need-returns-2
+returns-2 c = sym (ap three (c .enum-told2 .given .1))
+
+returns-3 : tie.Need-returns-3
+returns-3 c = rw (c .before .number .ensures, c .word .ensures) (sym (ap three (c .before .before .before .s .given .1)))
+
+returns-4 : tie.Need-returns-4
+returns-4 c = rw (c .before .number2 .ensures, c .word2 .ensures) (sym (ap three (c .before .before .before .s2 .given .1)))
+
+pub told-step-spec : {M : Type 1} → statement M
+told-step-spec =
+    tie.close
+    (tie.spec
+    enum-told
+    enum-told-2
+    enum-known-s
+    number-requires
+    word-requires
+    enum-known-s-2
+    number-requires-2
+    word-requires-2
+    returns
+    returns-2
+    returns-3
+    returns-4)

@@ -1,0 +1,51 @@
+-- `told_stop` meets its contract, by what the coroutine did. Assumes nothing.
+use mathlib.Core.Path.{sym, ap}
+use Rattle.calls.specs.Answer.{toldStop}
+use borrow.Author.Needs.{needs}
+use Rattle.calls.proofs.answer.told_stop.Statement.{statement}
+use Rattle.calls.proofs.answer.told_stop.Tie as tie
+
+enum-known-s : tie.Need-enum-known-s
+enum-known-s c = search needs
+
+enum-known-s-2 : tie.Need-enum-known-s-2
+enum-known-s-2 c = search needs
+
+enum-known-s-3 : tie.Need-enum-known-s-3
+enum-known-s-3 c = search needs
+
+enum-known-s-4 : tie.Need-enum-known-s-4
+enum-known-s-4 c = search needs
+
+enum-told : tie.Need-enum-told
+enum-told c = search needs
+
+returns : tie.Need-returns
+returns c = sym (ap toldStop (c .before .s .given .1))
+
+returns-2 : tie.Need-returns-2
+returns-2 c = sym (ap toldStop (c .before .s2 .given .1))
+
+returns-3 : tie.Need-returns-3
+returns-3 c = sym (ap toldStop (c .before .s3 .given .1))
+
+returns-4 : tie.Need-returns-4
+returns-4 c = sym (ap toldStop (c .before .s4 .given .1))
+
+returns-5 : tie.Need-returns-5
+returns-5 c = sym (ap toldStop (c .enum-told .given .1))
+
+pub told-stop-spec : {M : Type 1} → statement M
+told-stop-spec =
+    tie.close
+    (tie.spec
+    enum-known-s
+    enum-known-s-2
+    enum-known-s-3
+    enum-known-s-4
+    enum-told
+    returns
+    returns-2
+    returns-3
+    returns-4
+    returns-5)

@@ -1,0 +1,125 @@
+-- `words_of` meets its contract, by the answer. Assumes nothing.
+use mathlib.Core.Path.{sym, ap, _∙_}
+use Rattle.calls.specs.Answer.{answerWords}
+use Rattle.calls.proofs.Answers.{stepped, took}
+use borrow.Author.Needs.{needs}
+use Rattle.calls.proofs.answer.words_of.Statement.{statement}
+use Rattle.calls.proofs.answer.words_of.Tie as tie
+
+enum-told : tie.Need-enum-told
+enum-told c = search needs
+
+enum-known-a : tie.Need-enum-known-a
+enum-known-a c = search needs
+
+enum-known-a-2 : tie.Need-enum-known-a-2
+enum-known-a-2 c = search needs
+
+number-requires : tie.Need-number-requires
+number-requires c κs = search needs
+
+word-requires : tie.Need-word-requires
+word-requires c κs = search needs
+
+enum-known-a-3 : tie.Need-enum-known-a-3
+enum-known-a-3 c = search needs
+
+told-step-requires : tie.Need-told-step-requires
+told-step-requires c κs = search needs
+
+enum-known-a-4 : tie.Need-enum-known-a-4
+enum-known-a-4 c = search needs
+
+enum-known-a-5 : tie.Need-enum-known-a-5
+enum-known-a-5 c = search needs
+
+enum-known-a-6 : tie.Need-enum-known-a-6
+enum-known-a-6 c = search needs
+
+exit-words-requires : tie.Need-exit-words-requires
+exit-words-requires c κs = search needs
+
+enum-told-2 : tie.Need-enum-told-2
+enum-told-2 c = search needs
+
+enum-told-3 : tie.Need-enum-told-3
+enum-told-3 c = search needs
+
+enum-told-4 : tie.Need-enum-told-4
+enum-told-4 c = search needs
+
+enum-known-a-7 : tie.Need-enum-known-a-7
+enum-known-a-7 c = search needs
+
+told-outcome-requires : tie.Need-told-outcome-requires
+told-outcome-requires c κs = search needs
+
+returns : tie.Need-returns
+returns c = sym (ap answerWords (c .enum-told .given .1))
+
+returns-2 : tie.Need-returns-2
+returns-2 c = sym (ap answerWords (c .before .a .given .1))
+
+returns-3 : tie.Need-returns-3
+returns-3 c = rw (c .before .number .ensures, c .word .ensures) (sym (ap answerWords (c .before .before .before .a2 .given .1)))
+
+returns-4 : tie.Need-returns-4
+returns-4 c =
+    let t = c .told-step .result in
+    let arm = c .before .before .a3 .given in
+    stepped (t .0) (t .1) (t .2) (arm .0 .0) (arm .0 .1 .0) (c .told-step .ensures) ∙ sym (ap answerWords (arm .1))
+
+returns-5 : tie.Need-returns-5
+returns-5 c = sym (ap answerWords (c .before .a4 .given .1))
+
+returns-6 : tie.Need-returns-6
+returns-6 c = sym (ap answerWords (c .before .a5 .given .1))
+
+returns-7 : tie.Need-returns-7
+returns-7 c = c .exit-words .ensures ∙ sym (ap answerWords (c .before .before .a6 .given .1))
+
+returns-8 : tie.Need-returns-8
+returns-8 c = sym (ap answerWords (c .enum-told2 .given .1))
+
+returns-9 : tie.Need-returns-9
+returns-9 c = sym (ap answerWords (c .enum-told3 .given .1))
+
+returns-10 : tie.Need-returns-10
+returns-10 c = sym (ap answerWords (c .enum-told4 .given .1))
+
+returns-11 : tie.Need-returns-11
+returns-11 c =
+    let arm = c .before .before .a7 .given in
+    took (c .told-outcome .result) (arm .0 .0) (c .told-outcome .ensures) ∙ sym (ap answerWords (arm .1))
+
+pub words-of-spec : {M : Type 1} → statement M
+words-of-spec =
+    tie.close
+    (tie.spec
+    enum-told
+    enum-known-a
+    enum-known-a-2
+    number-requires
+    word-requires
+    enum-known-a-3
+    told-step-requires
+    enum-known-a-4
+    enum-known-a-5
+    enum-known-a-6
+    exit-words-requires
+    enum-told-2
+    enum-told-3
+    enum-told-4
+    enum-known-a-7
+    told-outcome-requires
+    returns
+    returns-2
+    returns-3
+    returns-4
+    returns-5
+    returns-6
+    returns-7
+    returns-8
+    returns-9
+    returns-10
+    returns-11)

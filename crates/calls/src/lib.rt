@@ -1,0 +1,5 @@
+// A call in six words, and its answer in eight (docs/CALLS.md).
+pub mod answer;
+pub mod call;
+pub mod codes;
+pub mod written;
