@@ -3,3 +3,4 @@ pub mod Back
 pub mod Called
 pub mod Keeps
 pub mod Kept
+pub mod AnyCall

@@ -3,3 +3,4 @@ pub mod Calls
 pub mod Begin
 pub mod Registers
 pub mod Switch
+pub mod Whole

@@ -7,3 +7,4 @@ pub mod registers;
 pub mod sizes;
 pub mod suspending;
 pub mod switch;
+pub mod whole;
