@@ -11,6 +11,7 @@ use native.Mathlib.Nat.{le-of-suc-le-suc}
 use lib.Seq.{drop-append-le, take-at}
 use Rattle.lists.specs.Parts.{pad}
 use Rattle.model.specs.World.{World}
+use Rattle.model.specs.Frames.{topBase}
 use Rattle.model.specs.Added.{registersOn, registers}
 use Rattle.model.specs.declared.machine.Frame.{Frame}
 use Rattle.model.specs.declared.machine.Fuel.{Fuel}
@@ -19,6 +20,7 @@ use Rattle.memory.specs.Memory.{Lent, Rep}
 use Rattle.memory.specs.declared.machine.Machine.{Machine}
 use Rattle.memory.specs.declared.machine.Sizes.{Sizes}
 use Rattle.machine.proofs.Frames.{top-base}
+use Rattle.added.specs.Look.{endOn}
 
 past : (b : ℕ) (xs : List ℕ) → length xs ≤ b → drop b xs ≡ []
 past zero [] h = refl
@@ -62,3 +64,32 @@ module _ (l : Sizes) (w : World) (M : Lent) (m : Machine) (f : Fuel) (rep : Rep 
           → take (m .height - getD (M .frames) ((m .depth - 1) * 6 + 2) 0) (drop (getD (M .frames) ((m .depth - 1) * 6 + 2) 0) (M .stack)) ≡ registersOn fs (w .stack)
       go [] p = let c = p .count in absurd (omega arith)
       go (x ∷ fs) p = span (w .stack) (M .stack) (m .height) _ (rep .stack) ∙ ap (λ k. drop k (w .stack)) (top-base x fs (M .frames) (m .depth) p)
+
+  -- where it begins and ends
+  pub none-base : m .depth ≡ 0 → 0 ≡ topBase (w .frames)
+  none-base e = go (w .frames) (sym (rep .frames .count) ∙ e)
+    where
+      go : (fs : List Frame) → length fs ≡ 0 → 0 ≡ topBase fs
+      go [] q = refl
+      go (x ∷ fs) q = absurd (omega arith)
+
+  pub none-end : m .depth ≡ 0 → 0 ≡ endOn (w .frames) (w .stack)
+  none-end e = go (w .frames) (sym (rep .frames .count) ∙ e)
+    where
+      go : (fs : List Frame) → length fs ≡ 0 → 0 ≡ endOn fs (w .stack)
+      go [] q = refl
+      go (x ∷ fs) q = absurd (omega arith)
+
+  pub some-base : 1 ≤ m .depth → getD (M .frames) ((m .depth - 1) * 6 + 2) 0 ≡ topBase (w .frames)
+  some-base h = go (w .frames) (rep .frames)
+    where
+      go : (fs : List Frame) → Frames fs (M .frames) (m .depth) → getD (M .frames) ((m .depth - 1) * 6 + 2) 0 ≡ topBase fs
+      go [] p = let c = p .count in absurd (omega arith)
+      go (x ∷ fs) p = top-base x fs (M .frames) (m .depth) p
+
+  pub some-end : 1 ≤ m .depth → m .height ≡ endOn (w .frames) (w .stack)
+  some-end h = go (w .frames) (rep .frames)
+    where
+      go : (fs : List Frame) → Frames fs (M .frames) (m .depth) → m .height ≡ endOn fs (w .stack)
+      go [] p = let c = p .count in absurd (omega arith)
+      go (x ∷ fs) p = rep .stack .count

@@ -22,6 +22,10 @@ use Rattle.memory.specs.declared.machine.Sizes.{Sizes}
 use Rattle.memory.proofs.Does.{SameLengths, room-same}
 use Rattle.kept.specs.Kept.{did}
 
+-- a call leaves a sound world sound
+pub sound-again : (o : Op) → typed o ≡ true → (w : World) → sound w ≡ true → sound (call o w .world) ≡ true
+sound-again o t w s = →sound (call o w .world) (call-keeps o w t (sound→ w s (λ z. no-false z)) .sound)
+
 -- set-ups of the same sizes ask for the same room
 resized : (s s′ : Setup) (l : Sizes) (M : Lent) → Sized s l → Sized s′ l → length (s .functions) ≡ length (s′ .functions) → Room s M → Room s′ M
 resized s s′ l M a b n r =
@@ -56,7 +60,7 @@ next-ok l M M′ n n′ o a t k e s d =
       world = u;
       beside = b;
       rep = d .world;
-      sound = →sound u (call-keeps o w t (sound→ w (k .sound) (λ z. no-false z)) .sound);
+      sound = sound-again o t w (k .sound);
       room = resized (w .setup) (u .setup) l (M′ b) (k .rep .sizes) (d .world .sizes) (same-functions l w u (M b) (M′ b) (n .machine) (n′ .machine) (n .fuel b) (n′ .fuel b) (k .rep) (d .world) s)
           (room-same (w .setup) (w .setup) (M b) (M′ b) refl e (k .room));
     }

@@ -2,6 +2,7 @@
 use mathlib.Core.Path.{_≡_}
 use mathlib.Core.Bool.{true}
 use Rattle.model.specs.World.{World, After, after}
+use Rattle.model.specs.Sound.{sound}
 use Rattle.model.specs.Call.{typed}
 use Rattle.model.specs.Step.{call}
 use Rattle.model.specs.declared.call.Op.{Op}
@@ -24,5 +25,7 @@ pub record KeptFits (l : Sizes) (M : Beside → Lent) (m : Machine) (fuel : Fuel
 pub record Keeps (l : Sizes) (o : Op) (L : Lending) (n n′ : Numbers) (a : Answer) : Type 0 where
   -- of every sound world that the words stood for, they stand for what the call leaves, and the answer is the call's
   pub met : Met ifSound l (did o) L n n′ a
-  -- they stand for a sound world again, with words enough: the next call may be made
+  -- which is sound again
+  pub sound : (w : World) → sound w ≡ true → sound (did o w .world) ≡ true
+  -- so they stand for a sound world, with words enough: the next call may be made
   pub again : Ok l (L atExit) n′

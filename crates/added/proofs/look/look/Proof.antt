@@ -1,6 +1,7 @@
 -- `look` meets its contract: nothing without a frame, else from its base to the end. Assumes nothing.
 use Rattle.memory.specs.Memory.{onFrames}
-use Rattle.added.proofs.Looking.{none-seen, seen}
+use Rattle.added.proofs.Looking.{none-base, none-end, none-seen, some-base, some-end, seen}
+use Prim.Native.Nat.{_≤_}
 use native.Mathlib.Omega.{arith}
 use borrow.Author.Needs.{needs}
 use Rattle.added.proofs.look.look.Statement.{statement}
@@ -9,7 +10,12 @@ use Rattle.added.proofs.look.look.Tie as tie
 returns : tie.Need-returns
 returns c =
     let start = c .before .before in
-    λ l w b rep. none-seen l w (onFrames (start .args .frames .now) (b .words)) (start .args .m) (b .fuel) rep (c .if1 .taken)
+    λ l w b rep. let M = onFrames (start .args .frames .now) (b .words) in
+    record {
+      start = none-base l w M (start .args .m) (b .fuel) rep (c .if1 .taken);
+      end = none-end l w M (start .args .m) (b .fuel) rep (c .if1 .taken);
+      part = none-seen l w M (start .args .m) (b .fuel) rep (c .if1 .taken);
+    }
 
 sub-start : tie.Need-sub-start
 sub-start c = search needs
@@ -29,7 +35,13 @@ shared-slice-read-start c = search needs
 returns-2 : tie.Need-returns-2
 returns-2 c =
     let at-if1 = c .before .before in let start = at-if1 .before .before in let h = at-if1 .if1 .left in
-    λ l w b rep. seen l w (onFrames (start .args .frames .now) (b .words)) (start .args .m) (b .fuel) rep (omega arith)
+    let some : 1 ≤ start .args .m .depth = omega arith in
+    λ l w b rep. let M = onFrames (start .args .frames .now) (b .words) in
+    record {
+      start = some-base l w M (start .args .m) (b .fuel) rep some;
+      end = some-end l w M (start .args .m) (b .fuel) rep some;
+      part = seen l w M (start .args .m) (b .fuel) rep some;
+    }
 
 pub look-spec : {M : Type 1} → statement M
 look-spec =

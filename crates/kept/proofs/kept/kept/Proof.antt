@@ -3,7 +3,7 @@ use mathlib.Core.Path.{refl}
 use Rattle.memory.specs.Memory.{Lent, Beside}
 use Rattle.memory.specs.Lendings.{all, plain}
 use Rattle.memory.specs.Contract.{with}
-use Rattle.kept.proofs.Keeping.{next-ok}
+use Rattle.kept.proofs.Keeping.{sound-again, next-ok}
 use borrow.Author.Needs.{needs}
 use Rattle.kept.proofs.kept.kept.Statement.{statement}
 use Rattle.kept.proofs.kept.kept.Tie as tie
@@ -65,6 +65,7 @@ returns c =
     let did = at-dispatch .dispatch .ensures in
     record {
       met = did;
+      sound = sound-again (a .op) (start .pre .within);
       again = next-ok (a .l) (mem start) (all (at-dispatch .dispatch .last .0) (at-dispatch .dispatch .last .1 .0) (at-dispatch .dispatch .last .1 .1 .0) (at-dispatch .dispatch .last .1 .1
           .1 .0) (at-dispatch .dispatch .last .1 .1 .1 .1 .0) (at-dispatch .dispatch .last .1 .1 .1 .1 .1 .0) (at-dispatch .dispatch .last .1 .1 .1 .1 .1 .1 .0) (at-dispatch .dispatch .last
           .1 .1 .1 .1 .1 .1 .1 .0) (a .setup .now) plain)
