@@ -172,12 +172,13 @@ words-given (Opt.Some x) s xs ys dst gs fs n r q e = go (s .frames) n ∙ ap (λ
     go [] n = no-both refl n
     go (f ∷ hs) n = (λ i. xs ++ set (r i) (f .base + q i) x) ∙ sym (set-append-at xs ys (f .base + length xs + dst) (f .base + dst) x (omega arith))
 
-restored-as : (c : ℕ) (v : World) (x : Call) (w : World) (y : Call) (z : World) (s : Core) → Found v x c s → coreAt w c ≡ s → Entering c w y z → Restored (viewOf v) (opOf x) (viewOf w) (opOf y) c (viewOf z)
+restored-as : (c : ℕ) (v : World) (x : Call) (w : World) (y : Call) (z : World) (s : Core) → Found v x c s → isSuspended (s .state) ≡ true → coreAt w c ≡ s → Entering c w y z → Restored (viewOf v) (opOf x) (viewOf w) (opOf y) c (viewOf z)
 unfolding entry-by entered-at
-restored-as c v x w (SetUp n) z s f e t = no-entry refl (t .by)
-restored-as c v x w (Do o) z s f e t =
+restored-as c v x w (SetUp n) z s f a e t = no-entry refl (t .by)
+restored-as c v x w (Do o) z s f a e t =
     record {
       held = f .held;
+      asleep = is-sleeps w c ∙ ap (λ k. isSuspended (k .state)) e ∙ a;
       entered = entered-at c w (Do o) z t;
       moved = subst (AllMoved (f .held .body .base) (length (w .stack)) (at (stepped (t .sent) (pcOf (doing (viewOf v) (opOf x)))) (f .held .over ++ (f .held .body ∷ [])))) (ap (λ k. map (raise (length (w .stack))) (framesWith (t .sent) k)) (sym e) ∙ back c w (Do o) z t .frames)
           (moved (f .held .body .base) (length (w .stack)) (pcOf (doing (viewOf v) (opOf x))) (t .sent) (f .held .over ++ (f .held .body ∷ [])) s (f .low) (f .frames));
@@ -190,7 +191,7 @@ entered c w y h = entered-at c w y (next w y) (entering c w y (enters-old c w y 
 
 pub restored : (c : ℕ) (v : World) (x : Call) (waiting : List Call) (y : Call) → D.Suspends steps c v x → D.Waits steps c (next v x) waiting
     → let w = run steps (next v x) waiting in D.Enters steps c w y → Restored (viewOf v) (opOf x) (viewOf w) (opOf y) c (viewOf (next w y))
-restored c v x waiting y h q e = restored-as c v x w y (next w y) (coreAt (next v x) c) (found c v x s) asleep (entering c w y (enters-old c w y e))
+restored c v x waiting y h q e = restored-as c v x w y (next w y) (coreAt (next v x) c) (found c v x s) (s .after) asleep (entering c w y (enters-old c w y e))
   where
     w : World
     w = run steps (next v x) waiting

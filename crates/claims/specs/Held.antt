@@ -1,5 +1,6 @@
 -- What a suspending call finds of a coroutine, and what an entry makes of it: frame by frame, and field by field.
 use Prim.Native.Nat.{ℕ, _+_, _%_, _^_}
+use mathlib.Core.Bool.{true}
 use mathlib.Core.Path.{_≡_}
 use mathlib.Core.List.{List, [], _∷_, _++_}
 use mathlib.Core.Option.{Option, some}
@@ -10,7 +11,7 @@ use Rattle.model.specs.declared.machine.Driver.{Driver}
 use Rattle.model.specs.declared.machine.Active.{Active}
 use Rattle.model.specs.declared.machine.Frame.{Frame}
 use Rattle.model.specs.declared.call.Op.{Op}
-use Rattle.claims.specs.Engine.{View}
+use Rattle.claims.specs.Engine.{View, is, sleeps}
 use Rattle.claims.specs.Says.{Aim, enter, suspend, neither, Does, instr, hosts, finishes, raises, other, doing, entry, whom}
 
 -- ---- frames, field by field
@@ -105,6 +106,8 @@ given (Opt.Some x) fs r xs = into fs r x xs
 -- x at v suspended c, and y at w enters it and leaves z: what x found, moved from its Coro frame's base to the caller's height
 pub record Restored (v : View) (x : Option Op) (w : View) (y : Option Op) (c : ℕ) (z : View) : Type 0 where
   pub held : Held v c
+  -- it sleeps when it is entered, so that what is sent to it arrives
+  pub asleep : is w sleeps c ≡ true
   pub entered : Entered w y c z
   pub moved : AllMoved (held .body .base) (length (w .stack)) (at (stepped (entered .by .sent) (pcOf (doing v x))) (held .over ++ (held .body ∷ []))) (entered .over ++ (entered .body ∷ []))
   pub words : z .stack ≡ given (entered .by .sent) (z .frames) (waitsIn (doing v x)) (w .stack ++ drop (held .body .base) (v .stack))
