@@ -1,0 +1,1 @@
+// What an outer call does to lent words: definitions and theorems only.
