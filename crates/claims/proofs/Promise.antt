@@ -32,7 +32,7 @@ use Rattle.model.specs.declared.call.OptPc.{OptPc}
 use Rattle.model.specs.declared.call.Op.{Op}
 use Rattle.model.specs.declared.call.Answer.{Answer}
 use Rattle.invariant.specs.Kept.{raises}
-use Rattle.invariant.proofs.Sound.{sound→}
+use Rattle.soundness.proofs.Sound.{sound→}
 use Rattle.invariant.proofs.Call.{call-keeps}
 use Rattle.claims.specs.Engine as Engine
 use Rattle.claims.specs.Demand3.{Restarts}

@@ -34,7 +34,7 @@ use Rattle.model.specs.declared.coro.Keys.{Keys}
 use Rattle.model.specs.declared.coro.Suspension.{Suspension}
 use Rattle.model.specs.declared.call.OptPc.{OptPc}
 use Rattle.model.specs.declared.call.Op.{Op}
-use Rattle.invariant.proofs.Sound.{sound→}
+use Rattle.soundness.proofs.Sound.{sound→}
 use Rattle.claims.specs.Engine.{Seen}
 use Rattle.claims.specs.Says.{lie}
 use Rattle.claims.specs.Held.{at}

@@ -16,7 +16,7 @@ use Rattle.model.specs.declared.call.Op.{Op}
 use Rattle.model.specs.declared.exec.Step.{Step}
 use Rattle.model.specs.declared.machine.Frame.{Frame}
 use Rattle.model.specs.declared.machine.Fuel.{Fuel}
-use Rattle.invariant.proofs.Tests.{no-true, and-left, and-right, each-at}
+use Rattle.soundness.proofs.Tests.{no-true, and-left, and-right, each-at}
 use Rattle.tables.specs.Parts.{Frames}
 use Rattle.tables.specs.Does.{RegFits}
 use Rattle.tables.proofs.Doing.{reg-fits}

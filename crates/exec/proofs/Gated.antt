@@ -23,8 +23,8 @@ use Rattle.model.specs.declared.exec.Step.{Step}
 use Rattle.model.specs.declared.machine.Charge.{Charge}
 use Rattle.model.specs.declared.machine.Frame.{Frame}
 use Rattle.model.specs.declared.machine.Fuel.{Fuel}
-use Rattle.invariant.proofs.Tests.{no-true}
-use Rattle.invariant.proofs.Good.{Calm}
+use Rattle.soundness.proofs.Tests.{no-true}
+use Rattle.soundness.proofs.Good.{Calm}
 use Rattle.tables.specs.Parts.{Frames}
 use Rattle.tables.proofs.Setups.{functions-in}
 use Rattle.memory.specs.Memory.{Lent, Beside, Rep, onFinalize, onSetup}

@@ -10,7 +10,7 @@ use Rattle.model.specs.Calls.{Row, Instruction, OnFrame, OnHost, Unwinds, Grant
 use Rattle.model.specs.declared.call.Op.{Op}
 use Rattle.model.specs.declared.exec.Step.{Step}
 use Rattle.model.proofs.call.Op as Op′
-use Rattle.invariant.proofs.Tests.{no-true}
+use Rattle.soundness.proofs.Tests.{no-true}
 use Rattle.exec.specs.Instruction.{isInstruction, pcOf, armOf}
 
 -- the tags of the other calls

@@ -9,6 +9,7 @@ use crate::operands::passes;
 use crate::operands::pc_of;
 use coro_clean::charge::charge;
 use heap::fault::Fault;
+use machine::called::Called;
 use memory::machine::Machine;
 use memory::machine::Sizes;
 use model::call::Answer;
@@ -16,13 +17,6 @@ use model::call::Op;
 use model::exec::Step;
 use model::machine::Charge;
 use model::machine::Fuel;
-
-// What a call leaves of the numbers and of the fuel, and answers.
-pub struct Called {
-    pub machine: Machine,
-    pub fuel: Fuel,
-    pub answer: Answer,
-}
 
 // The answer to an instruction, whose charge took so many words off the cleanup queue.
 fn answer_of(taken: u64, step: Step) -> Answer

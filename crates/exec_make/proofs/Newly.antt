@@ -20,8 +20,8 @@ use Rattle.model.specs.declared.exec.Step.{Step}
 use Rattle.model.specs.declared.machine.Cont.{Cont}
 use Rattle.model.specs.declared.machine.Frame.{Frame}
 use Rattle.model.specs.declared.machine.Fuel.{Fuel}
-use Rattle.invariant.proofs.Good.{Still}
-use Rattle.invariant.proofs.Make.{create-good}
+use Rattle.soundness.proofs.Good.{Still}
+use Rattle.soundness.proofs.Make.{create-good}
 use Rattle.tables.specs.Does.{RegFits}
 use Rattle.tables.proofs.Padded.{length-part, take-pad}
 use Rattle.tables.proofs.Decode.{base-at}

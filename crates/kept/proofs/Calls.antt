@@ -21,7 +21,7 @@ use Rattle.memory.specs.Memory.{Lent, Rep}
 use Rattle.memory.specs.Contract.{Does}
 use Rattle.memory.specs.declared.machine.Machine.{Machine}
 use Rattle.memory.specs.declared.machine.Sizes.{Sizes}
-use Rattle.invariant.proofs.Tests.{no-false}
+use Rattle.soundness.proofs.Tests.{no-false}
 use Rattle.memory.proofs.Does.{does}
 use Rattle.added.specs.Call.{madeAs}
 use Rattle.exec.specs.Instruction.{isInstruction, gated}

@@ -3,7 +3,7 @@ ghost use Rattle.kept.specs.Kept.{Keeps, KeptFits};
 ghost use Rattle.memory.specs.Lendings.{all};
 ghost use Rattle.memory.specs.Contract.{with};
 use crate::dispatch::dispatch;
-use exec::instruction::Called;
+use machine::called::Called;
 use memory::machine::Machine;
 use memory::machine::Sizes;
 use model::call::Op;

@@ -28,15 +28,15 @@ use Rattle.model.specs.Sound.{runs, widest, rowWords}
 use Rattle.model.specs.declared.machine.Cont.{Cont}
 use Rattle.model.specs.declared.coro.Made.{Made}
 use Rattle.heap.specs.declared.heap.ResultKind.{ResultKind}
-use Rattle.invariant.proofs.Tests.{both, or-second, picked}
-use Rattle.invariant.proofs.Stand.{Fits, Lifts, l-body, last-of, over-of, widths-saved}
-use Rattle.invariant.proofs.Held.{Rows, rows-push, row-of, lowest-free}
-use Rattle.invariant.proofs.Slots.{ObjectOk, push-heap, plain-rows}
-use Rattle.invariant.proofs.Queue.{queue-push}
-use Rattle.invariant.proofs.Sound.{Sound, Facts, facts}
-use Rattle.invariant.proofs.Tower.{fits-new}
-use Rattle.invariant.proofs.Coros.{seq-sound}
-use Rattle.invariant.proofs.Good.{Good, good, madeFine, Still, still}
+use Rattle.soundness.proofs.Tests.{both, or-second, picked}
+use Rattle.soundness.proofs.Stand.{Fits, Lifts, l-body, last-of, over-of, widths-saved}
+use Rattle.soundness.proofs.Held.{Rows, rows-push, row-of, lowest-free}
+use Rattle.soundness.proofs.Slots.{ObjectOk, push-heap, plain-rows}
+use Rattle.soundness.proofs.Queue.{queue-push}
+use Rattle.soundness.proofs.Sound.{Sound, Facts, facts}
+use Rattle.soundness.proofs.Tower.{fits-new}
+use Rattle.soundness.proofs.Coros.{seq-sound}
+use Rattle.soundness.proofs.Good.{Good, good, madeFine, Still, still}
 
 -- what was made: the stack and frames stand, and no refusal is 11
 pub record Making (w u : World) (m : Made) : Type 0 where

@@ -24,12 +24,12 @@ use Rattle.model.specs.declared.machine.Active.{Active}
 use Rattle.model.specs.declared.machine.Frame.{Frame}
 use Rattle.model.specs.declared.machine.Fuel.{Fuel}
 use Rattle.model.specs.declared.machine.Outcome.{Outcome}
-use Rattle.invariant.proofs.Tests.{no-false, and-left, and-right, both, or-right, picked, negate, or-left}
-use Rattle.invariant.proofs.Point.{coroIn, Points, points, finds, put}
-use Rattle.invariant.proofs.Held.{Rows}
-use Rattle.invariant.proofs.Slots.{ObjectOk, Heap, putCoro, change-heap, enter-heap, leave-heap, same-rows, freed-rows, plain-heap}
-use Rattle.invariant.proofs.Queue.{Queue, queue-put, queue-plain, queue-join}
-use Rattle.invariant.proofs.Sound.{Tower, Sound}
+use Rattle.soundness.proofs.Tests.{no-false, and-left, and-right, both, or-right, picked, negate, or-left}
+use Rattle.soundness.proofs.Point.{coroIn, Points, points, finds, put}
+use Rattle.soundness.proofs.Held.{Rows}
+use Rattle.soundness.proofs.Slots.{ObjectOk, Heap, putCoro, change-heap, enter-heap, leave-heap, same-rows, freed-rows, plain-heap}
+use Rattle.soundness.proofs.Queue.{Queue, queue-put, queue-plain, queue-join}
+use Rattle.soundness.proofs.Sound.{Tower, Sound}
 
 -- the rules of the object that a word names
 pub object-ok : {ex : Bool} {s : Setup} {vs : List ℕ} {xs : List (Slot Object)} {v : ℕ} {o : Object} → Heap ex s vs xs → Points xs v o → ObjectOk ex s o

@@ -14,9 +14,9 @@ use Rattle.model.specs.declared.machine.Cont.{Cont}
 use Rattle.model.specs.declared.machine.Frame.{Frame}
 use Rattle.model.specs.declared.machine.Active.{Active}
 use Rattle.model.specs.declared.program.Handler.{Handler}
-use Rattle.invariant.specs.Reachable.{rooted}
-use Rattle.invariant.proofs.Tests.{no-false, each-imp, or-left, negate, or-right}
-use Rattle.invariant.proofs.Stand.{Fits, Stands, plain, body, Lifts, l-body, l-plain, catches}
+use Rattle.soundness.specs.Exact.{rooted}
+use Rattle.soundness.proofs.Tests.{no-false, each-imp, or-left, negate, or-right}
+use Rattle.soundness.proofs.Stand.{Fits, Stands, plain, body, Lifts, l-body, l-plain, catches}
 
 pub coro-lies : (c : Cont) (e : ℕ) (fs : List Frame) → isCoro c ≡ true → contLies c e fs ≡ true
 coro-lies Cont.Entry e fs q = no-false q

@@ -17,10 +17,10 @@ use Rattle.model.specs.declared.machine.Cont.{Cont}
 use Rattle.model.specs.declared.machine.Frame.{Frame}
 use Rattle.model.specs.declared.machine.Active.{Active}
 use Rattle.model.specs.declared.program.Handler.{Handler}
-use Rattle.invariant.specs.Reachable.{rooted}
-use Rattle.invariant.proofs.Tests.{no-true, and-left, and-right, both, each-imp, each-at}
-use Rattle.invariant.proofs.Stand.{Fits, Stands, ground, plain, body}
-use Rattle.invariant.proofs.Sound.{Tower, Sound, Facts}
+use Rattle.soundness.specs.Exact.{rooted}
+use Rattle.soundness.proofs.Tests.{no-true, and-left, and-right, both, each-imp, each-at}
+use Rattle.soundness.proofs.Stand.{Fits, Stands, ground, plain, body}
+use Rattle.soundness.proofs.Sound.{Tower, Sound, Facts}
 
 -- ---- the top frame's pc
 

@@ -9,9 +9,9 @@ use Rattle.heap.specs.Table.{Slot, pushObject}
 use Rattle.model.specs.Lists.{each, among, distinct}
 use Rattle.model.specs.Object.{Core, Rest, Object, Absent, asCoro}
 use Rattle.model.specs.Sound.{marked}
-use Rattle.invariant.proofs.Tests.{and-right, each-imp, each-snoc, distinct-snoc, among-not}
-use Rattle.invariant.proofs.Point.{coroIn, Points, found, put, put-here}
-use Rattle.invariant.proofs.Slots.{test-other, test-push, test-plain, putCoro}
+use Rattle.soundness.proofs.Tests.{and-right, each-imp, each-snoc, distinct-snoc, among-not}
+use Rattle.soundness.proofs.Point.{coroIn, Points, found, put, put-here}
+use Rattle.soundness.proofs.Slots.{test-other, test-push, test-plain, putCoro}
 
 pub record Queue (mark : Rest → Bool) (xs : List (Slot Object)) (q : List ℕ) : Type 0 where
   pub marks : each (λ v. marked mark (coroIn xs v)) q ≡ true

@@ -25,8 +25,8 @@ use Rattle.model.specs.declared.coro.Suspension.{Suspension}
 use Rattle.model.specs.declared.coro.AutoKey.{AutoKey}
 use Rattle.model.specs.declared.exec.Step.{Step}
 use Rattle.model.specs.declared.call.Answer.{Answer}
-use Rattle.invariant.proofs.Tests.{no-true}
-use Rattle.invariant.proofs.Sound.{Sound}
+use Rattle.soundness.proofs.Tests.{no-true}
+use Rattle.soundness.proofs.Sound.{Sound}
 
 pub record Good (ex : Bool) {A : Type 0} (P : World → A → Type 0) (o : After A) : Type 0 where
   pub sound : Sound ex (o .world)

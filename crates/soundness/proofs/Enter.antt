@@ -1,6 +1,6 @@
 -- coro_enter keeps a sound world sound.
 use mathlib.Core.Path.{_≡_, refl, sym, ap, _∙_, subst}
-use mathlib.Core.Bool.{Bool, true, false, not, _&&_, _||_}
+use mathlib.Core.Bool.{Bool, true, not, _&&_, _||_}
 use mathlib.Core.List.{List, _∷_, _++_, map}
 use Prim.Native.Nat.{ℕ, _+_, _≤_}
 use native.Mathlib.Omega.{arith}
@@ -8,9 +8,8 @@ use lib.ListN.{length, length-append, length-map}
 use lib.Dec.{ltb, eqb}
 use borrow.Author.Tests.{ltb-false, not-false}
 use Rattle.lists.specs.Pick.{pick, pick-true}
-use Rattle.heap.specs.declared.object.CoroState.{CoroState}
 use Rattle.model.specs.Lists.{isNil, each}
-use Rattle.model.specs.State.{isCreated, isRunning, isResumable, isFinished}
+use Rattle.model.specs.State.{isCreated, isResumable}
 use Rattle.model.specs.Program.{Setup}
 use Rattle.model.specs.Object.{Core, Rest, Coroutine, Absent, Is}
 use Rattle.model.specs.World.{World}
@@ -22,31 +21,16 @@ use Rattle.model.specs.declared.machine.Driver.{Driver}
 use Rattle.model.specs.declared.machine.Active.{Active}
 use Rattle.model.specs.declared.machine.Frame.{Frame}
 use Rattle.model.specs.declared.coro.Entered.{Entered}
-use Rattle.invariant.specs.Reachable.{exactIn, exact}
-use Rattle.invariant.proofs.Tests.{no-false, and-left, and-right, or-first, or-second, picked}
-use Rattle.invariant.proofs.Stand.{Stands, Lifts, lifts}
-use Rattle.invariant.proofs.Raise.{enters}
-use Rattle.invariant.proofs.Point.{finds}
-use Rattle.invariant.proofs.Sound.{Tower, Sound}
-use Rattle.invariant.proofs.Tower.{put-sound, next-sound}
-use Rattle.invariant.proofs.Coros.{object-ok, enter-sound}
-use Rattle.invariant.proofs.Good.{Good, good, enteredFine, fine-notA}
-
-resumable-idle : (st : CoroState) → isResumable st ≡ true → isRunning st ≡ false
-resumable-idle CoroState.Created e = refl
-resumable-idle CoroState.Running e = no-false e
-resumable-idle CoroState.Yielded e = refl
-resumable-idle CoroState.Awaiting e = refl
-resumable-idle CoroState.Returned e = refl
-resumable-idle CoroState.Failed e = refl
-
-pub resumable-held : (st : CoroState) → isResumable st ≡ true → isFinished st ≡ false
-resumable-held CoroState.Created e = refl
-resumable-held CoroState.Running e = no-false e
-resumable-held CoroState.Yielded e = refl
-resumable-held CoroState.Awaiting e = refl
-resumable-held CoroState.Returned e = no-false e
-resumable-held CoroState.Failed e = no-false e
+use Rattle.soundness.specs.Exact.{exactIn, exact}
+use Rattle.soundness.proofs.Tests.{and-left, and-right, or-first, or-second, picked}
+use Rattle.soundness.proofs.Stand.{Stands, Lifts, lifts}
+use Rattle.soundness.proofs.States.{resumable-idle, resumable-held}
+use Rattle.soundness.proofs.Raise.{enters}
+use Rattle.soundness.proofs.Point.{finds}
+use Rattle.soundness.proofs.Sound.{Tower, Sound}
+use Rattle.soundness.proofs.Tower.{put-sound, next-sound}
+use Rattle.soundness.proofs.Coros.{object-ok, enter-sound}
+use Rattle.soundness.proofs.Good.{Good, good, enteredFine, fine-notA}
 
 -- what a resumable coroutine has saved
 saved-lifts : {ex : Bool} (s : Setup) (k : Core) (r : Rest) → savedIn s (Is k r) ≡ true → isResumable (k .state) ≡ true → (ex ≡ true → exactIn s (Is k r) ≡ true) → Lifts ex s (length (k .regs)) (k .frames)

@@ -17,10 +17,10 @@ use Rattle.model.specs.Object.{Core, Rest, Object, isFilled, Coroutine, Absent,
 use Rattle.model.specs.Rows.{heldBy}
 use Rattle.model.specs.Program.{Setup}
 use Rattle.model.specs.Sound.{savedSizes, savedIn, runs, unusedIn, rowless, objectRange}
-use Rattle.invariant.specs.Reachable.{exactIn}
-use Rattle.invariant.proofs.Tests.{no-true, and-left, and-right, both, or-left, or-right, or-else, negate, unnegate, among-all, among-each}
-use Rattle.invariant.proofs.Point.{at, coroIn, Points, finds, found, word-of, put, put-here, put-other, push-other}
-use Rattle.invariant.proofs.Held.{Rows, rows-as, rows-gone, held-same, held-push-none, free-of, row-of}
+use Rattle.soundness.specs.Exact.{exactIn}
+use Rattle.soundness.proofs.Tests.{no-true, and-left, and-right, both, or-left, or-right, or-else, negate, unnegate, among-all, among-each}
+use Rattle.soundness.proofs.Point.{at, coroIn, Points, finds, found, word-of, put, put-here, put-other, push-other}
+use Rattle.soundness.proofs.Held.{Rows, rows-as, rows-gone, held-same, held-push-none, free-of, row-of}
 
 -- the rules of one object; if `ex`, its saved frames are exactly as wide as their functions
 pub record ObjectOk (ex : Bool) (s : Setup) (o : Object) : Type 0 where

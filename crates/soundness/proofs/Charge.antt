@@ -21,13 +21,13 @@ use Rattle.model.specs.declared.machine.Frame.{Frame}
 use Rattle.model.specs.declared.machine.Charge.{Charge}
 use Rattle.model.specs.declared.coro.Started.{Started}
 use Rattle.model.specs.declared.call.OptPc.{OptPc}
-use Rattle.invariant.proofs.Tests.{no-true, and-left, picked}
-use Rattle.invariant.proofs.Queue.{Queue, queue-tail}
-use Rattle.invariant.proofs.Sound.{Sound}
-use Rattle.invariant.proofs.Tower.{store-sound}
-use Rattle.invariant.proofs.Coros.{changed, rest-sound, task-sound, unbank-sound, arm-sound, finalizing-sound, spend-sound, cleanups-sound}
-use Rattle.invariant.proofs.Enter.{enter-good}
-use Rattle.invariant.proofs.Good.{Good, good, madeFine, Calm, calm-then}
+use Rattle.soundness.proofs.Tests.{no-true, and-left, picked}
+use Rattle.soundness.proofs.Queue.{Queue, queue-tail}
+use Rattle.soundness.proofs.Sound.{Sound}
+use Rattle.soundness.proofs.Tower.{store-sound}
+use Rattle.soundness.proofs.Coros.{changed, rest-sound, task-sound, unbank-sound, arm-sound, finalizing-sound, spend-sound, cleanups-sound}
+use Rattle.soundness.proofs.Enter.{enter-good}
+use Rattle.soundness.proofs.Good.{Good, good, madeFine, Calm, calm-then}
 
 -- ---- spawn_task
 

@@ -22,16 +22,16 @@ use Rattle.model.specs.declared.machine.Frame.{Frame}
 use Rattle.model.specs.declared.machine.Outcome.{Outcome}
 use Rattle.model.specs.declared.machine.Stop.{Stop}
 use Rattle.model.specs.declared.coro.Event.{Event}
-use Rattle.invariant.proofs.Tests.{no-true, and-left, both, picked}
-use Rattle.invariant.proofs.Stand.{Stands, ground, plain, body}
-use Rattle.invariant.proofs.Point.{finds}
-use Rattle.invariant.proofs.Slots.{Heap, leave-heap, freed-rows}
-use Rattle.invariant.proofs.Queue.{Queue, queue-put}
-use Rattle.invariant.proofs.Sound.{Tower, Sound}
-use Rattle.invariant.proofs.Tower.{put-sound, stands-within, tower-take}
-use Rattle.invariant.proofs.Coros.{object-ok, ended-ok, done-still, last-runs, left-sound, changed, done-sound, key-sound, finalizing-sound, outcome-sound, bankOk}
-use Rattle.invariant.proofs.Enter.{send-sound}
-use Rattle.invariant.proofs.Good.{Good, good, fine}
+use Rattle.soundness.proofs.Tests.{no-true, and-left, both, picked}
+use Rattle.soundness.proofs.Stand.{Stands, ground, plain, body}
+use Rattle.soundness.proofs.Point.{finds}
+use Rattle.soundness.proofs.Slots.{Heap, leave-heap, freed-rows}
+use Rattle.soundness.proofs.Queue.{Queue, queue-put}
+use Rattle.soundness.proofs.Sound.{Tower, Sound}
+use Rattle.soundness.proofs.Tower.{put-sound, stands-within, tower-take}
+use Rattle.soundness.proofs.Coros.{object-ok, ended-ok, done-still, last-runs, left-sound, changed, done-sound, key-sound, finalizing-sound, outcome-sound, bankOk}
+use Rattle.soundness.proofs.Enter.{send-sound}
+use Rattle.soundness.proofs.Good.{Good, good, fine}
 
 -- ---- deliver
 

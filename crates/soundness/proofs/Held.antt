@@ -13,8 +13,8 @@ use Rattle.model.specs.State.{isFinished}
 use Rattle.model.specs.Object.{Core, Rest, Object, Coroutine, Absent, Is, asCoro}
 use Rattle.model.specs.Rows.{heldBy, heldRows, lowestFree}
 use Rattle.model.specs.Program.{Setup}
-use Rattle.invariant.proofs.Tests.{and-left, and-right, both, or-second, negate, unnegate, each-snoc, distinct-snoc}
-use Rattle.invariant.proofs.Point.{at}
+use Rattle.soundness.proofs.Tests.{and-left, and-right, both, or-second, negate, unnegate, each-snoc, distinct-snoc}
+use Rattle.soundness.proofs.Point.{at}
 
 -- a coroutine holds no row, or the row n
 pub data Holds (c : Coroutine) : Type 0 where

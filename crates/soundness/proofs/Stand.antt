@@ -15,8 +15,8 @@ use Rattle.model.specs.Sound.{basesOk, frameNames, contLies, contsLie, catchesL
 use Rattle.model.specs.declared.machine.Cont.{Cont}
 use Rattle.model.specs.declared.machine.Frame.{Frame}
 use Rattle.model.specs.declared.machine.Active.{Active}
-use Rattle.invariant.specs.Reachable.{rooted, exact}
-use Rattle.invariant.proofs.Tests.{no-false, and-left, and-right, both, unnegate, negate}
+use Rattle.soundness.specs.Exact.{rooted, exact}
+use Rattle.soundness.proofs.Tests.{no-false, and-left, and-right, both, unnegate, negate}
 
 -- the catch registers of a frame's function lie below n
 abbrev pub catches : Setup → ℕ → Frame → Bool

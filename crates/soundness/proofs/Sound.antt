@@ -19,12 +19,12 @@ use Rattle.model.specs.Rows.{heldRows}
 use Rattle.model.specs.Sound.{sizesOk, savedSizes, savedSizesOk, basesOk, frameNames, contsLie, catchesLie, framesOk, entryOk, floorsOk, driversOk, runs, coros, runsAmong, runningOk, marked, savedIn, savedOk, rowsOk, queueOk, queuesOk, isNone, fuelOk, unusedIn, rowless, unusedOk, objectRange, outcomeRange, rangesOk, sound}
 use Rattle.model.specs.declared.machine.Active.{Active}
 use Rattle.model.specs.declared.machine.Frame.{Frame}
-use Rattle.invariant.specs.Reachable.{exact, exactIn, exactOk}
-use Rattle.invariant.proofs.Tests.{and-left, and-right, both, each-at, at-each}
-use Rattle.invariant.proofs.Stand.{Stands, stands, bases-of, names-of, conts-of, catches-of, entry-of, floors-of, drivers-of, widths-of}
-use Rattle.invariant.proofs.Point.{at, coroIn}
-use Rattle.invariant.proofs.Slots.{Heap}
-use Rattle.invariant.proofs.Queue.{Queue}
+use Rattle.soundness.specs.Exact.{exact, exactIn, exactOk}
+use Rattle.soundness.proofs.Tests.{and-left, and-right, both, each-at, at-each}
+use Rattle.soundness.proofs.Stand.{Stands, stands, bases-of, names-of, conts-of, catches-of, entry-of, floors-of, drivers-of, widths-of}
+use Rattle.soundness.proofs.Point.{at, coroIn}
+use Rattle.soundness.proofs.Slots.{Heap}
+use Rattle.soundness.proofs.Queue.{Queue}
 
 pub record Tower (ex : Bool) (s : Setup) (stack : List ℕ) (frames : List Frame) (chain : List Active) : Type 0 where
   pub depth : length frames ≤ s .limits .depth

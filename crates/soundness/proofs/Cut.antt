@@ -18,10 +18,10 @@ use Rattle.model.specs.declared.machine.Cont.{Cont}
 use Rattle.model.specs.declared.machine.Frame.{Frame}
 use Rattle.model.specs.declared.machine.Active.{Active}
 use Rattle.model.specs.declared.program.Handler.{Handler}
-use Rattle.invariant.specs.Reachable.{rooted}
-use Rattle.invariant.proofs.Tests.{no-false, each-imp, or-else, unnegate, or-right}
-use Rattle.invariant.proofs.Stand.{Fits, Stands, plain, body, Lifts, l-body, l-plain, catches}
-use Rattle.invariant.proofs.Raise.{coro-lies, coro-rooted}
+use Rattle.soundness.specs.Exact.{rooted}
+use Rattle.soundness.proofs.Tests.{no-false, each-imp, or-else, unnegate, or-right}
+use Rattle.soundness.proofs.Stand.{Fits, Stands, plain, body, Lifts, l-body, l-plain, catches}
+use Rattle.soundness.proofs.Raise.{coro-lies, coro-rooted}
 
 lowered-under : (r seam e : ℕ) (up : List Frame) (b : Frame) (low : List Frame) → liesUnder r e (up ++ (b ∷ low)) ≡ true → seam ≤ topBase (up ++ (b ∷ low))
     → liesUnder r (e - seam) (map (lower seam) (up ++ (b ∷ []))) ≡ true

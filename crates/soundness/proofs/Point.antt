@@ -18,7 +18,7 @@ use Rattle.heap.specs.declared.value.Class.{Class}
 use Rattle.heap.specs.declared.heap.Place.{Place}
 use Rattle.model.specs.Object.{Core, Rest, Object, isFilled, Coroutine, Is, asCoro}
 use Rattle.model.specs.Heap.{objectAt}
-use Rattle.invariant.proofs.Tests.{no-false, no-true, and-left, and-right, both}
+use Rattle.soundness.proofs.Tests.{no-false, no-true, and-left, and-right, both}
 
 -- the slot at i
 abbrev pub at : List (Slot Object) → ℕ → Slot Object
