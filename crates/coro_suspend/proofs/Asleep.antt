@@ -27,7 +27,7 @@ use Rattle.model.specs.State.{isSuspended, isFinished}
 use Rattle.model.specs.Program.{Setup}
 use Rattle.model.specs.Object.{Core, Rest, Object, withPayload}
 use Rattle.model.specs.World.{World, After, after}
-use Rattle.model.specs.Frames.{lower, above, baseAt}
+use Rattle.model.specs.Frames.{lower, above, below, baseAt}
 use Rattle.model.specs.Heap.{coro, fits}
 use Rattle.model.specs.Coro.{saved, sized, growth, setKeys, unclose, eventOf, suspended, suspendAs, suspendOn, coroSuspend}
 use Rattle.model.specs.Sound.{rowWords, sound}
