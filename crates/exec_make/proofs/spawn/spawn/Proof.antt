@@ -75,7 +75,7 @@ call-hook-requires c κs =
                         beside = record { words = left creating (o .beside); fuel = o .beside .fuel };
                         rep = did .world;
                         sound = →sound u (made .sound);
-                        room = room-same (o .world .setup) (u .setup) (mem start (o .beside)) (left creating (o .beside)) (made .fact .setup)
+                        room = room-same (o .world .setup) (u .setup) (mem start (o .beside)) (left creating (o .beside)) (made .fact .still .setup)
                             (record {
                               stack = refl;
                               frames = refl;

@@ -1,6 +1,5 @@
 // coro.rs: exec, its arms. The operands have been tested, and the charge is taken.
-ghost use Rattle.model.specs.Calls.{table};
-ghost use Rattle.exec.specs.Instruction.{armOf, Past};
+ghost use Rattle.exec_arm.specs.Arm.{Past, OfInstruction};
 ghost use Rattle.memory.specs.Lendings.{sixSetup};
 ghost use Rattle.memory.specs.Contract.{Met, ifSound, with};
 use exec_ask::ask::coro_current;
@@ -24,7 +23,7 @@ use model::call::Op;
 use model::exec::Step;
 use model::machine::Fuel;
 
-// The arm of an instruction.
+// The arm of an instruction; nothing is said of another call.
 pub fn body(
     stack: &mut [u64],
     frames: &mut [u64],
@@ -39,7 +38,7 @@ pub fn body(
     op: Op,
 ) -> Stepped
     requires { ⌜ Past l (sixSetup stack frames chain slots «saved_stack» «saved_frames» setup now) m fuel op ⌝ }
-    ensures { λ r. ⌜ Met ifSound l (armOf (table op)) (sixSetup stack frames chain slots «saved_stack» «saved_frames» setup) (with m fuel) (with (r .machine) (r .fuel)) (r .step) ⌝ }
+    ensures { λ r. ⌜ OfInstruction op (λ pc operands arm. Met ifSound l arm (sixSetup stack frames chain slots «saved_stack» «saved_frames» setup) (with m fuel) (with (r .machine) (r .fuel)) (r .step)) ⌝ }
 {
     match op {
         Op::Yield { pc, dst, src } => coro_yield(

@@ -1,5 +1,5 @@
--- Which operations are instructions, by the tags that a match leaves. Assumes nothing.
-use mathlib.Core.Path.{_≡_, refl, sym, _∙_}
+-- Which operations are instructions, and by the tags that a match leaves, which are not. Assumes nothing.
+use mathlib.Core.Path.{_≡_, refl, sym, ap, _∙_}
 use mathlib.Core.Bool.{Bool, true, false}
 use mathlib.Core.List.{List, [], _∷_}
 use Prim.Native.Nat.{ℕ}
@@ -11,7 +11,16 @@ use Rattle.model.specs.declared.call.Op.{Op}
 use Rattle.model.specs.declared.exec.Step.{Step}
 use Rattle.model.proofs.call.Op as Op′
 use Rattle.soundness.proofs.Tests.{no-true}
-use Rattle.exec.specs.Instruction.{isInstruction, pcOf, armOf}
+use Rattle.exec_arm.specs.Arm.{OfInstruction}
+
+abbrev pub isInstruction : Row → Bool
+isInstruction (Instruction pc operands arm) = true
+isInstruction (OnFrame operands body) = false
+isInstruction (OnHost operands body) = false
+isInstruction (Unwinds f pc) = false
+isInstruction (Grants n) = false
+isInstruction Looks = false
+isInstruction (Other body) = false
 
 -- the tags of the other calls
 abbrev pub others : List ℕ
@@ -46,21 +55,25 @@ no-instruction (Op.Grant a) h = refl
 no-instruction Op.StopRun h = refl
 no-instruction Op.Look h = refl
 
--- .. which have no pc, and do nothing as instructions
-pub pc-else : (x : Row) → isInstruction x ≡ false → 0 ≡ pcOf x
-pc-else (Instruction pc operands arm) e = no-true e
-pc-else (OnFrame operands body) e = refl
-pc-else (OnHost operands body) e = refl
-pc-else (Unwinds f pc) e = refl
-pc-else (Grants n) e = refl
-pc-else Looks e = refl
-pc-else (Other body) e = refl
+-- .. of which anything can be said as of an instruction
+pub no-arm : (o : Op) (said : ℕ → (World → Bool) → (World → After Step) → Type 0) → OneOf others (tagOf Op′.the-type o) → OfInstruction o said
+no-arm o said h pc operands arm q = no-true (sym (ap isInstruction q) ∙ no-instruction o h)
 
-pub arm-else : (x : Row) (w : World) → isInstruction x ≡ false → armOf x w ≡ after w Step.Next
-arm-else (Instruction pc operands arm) w e = no-true e
-arm-else (OnFrame operands body) w e = refl
-arm-else (OnHost operands body) w e = refl
-arm-else (Unwinds f pc) w e = refl
-arm-else (Grants n) w e = refl
-arm-else Looks w e = refl
-arm-else (Other body) w e = refl
+-- the pc, and the arm, of a row
+abbrev pub pcOf : Row → ℕ
+pcOf (Instruction pc operands arm) = pc
+pcOf (OnFrame operands body) = 0
+pcOf (OnHost operands body) = 0
+pcOf (Unwinds f pc) = 0
+pcOf (Grants n) = 0
+pcOf Looks = 0
+pcOf (Other body) = 0
+
+abbrev pub armOf : Row → World → After Step
+armOf (Instruction pc operands arm) w = arm w
+armOf (OnFrame operands body) w = after w Step.Next
+armOf (OnHost operands body) w = after w Step.Next
+armOf (Unwinds f pc) w = after w Step.Next
+armOf (Grants n) w = after w Step.Next
+armOf Looks w = after w Step.Next
+armOf (Other body) w = after w Step.Next

@@ -4,12 +4,11 @@ use native.Mathlib.Omega.{arith}
 use Rattle.memory.specs.Memory.{onChain, onSlots, onSaved, onSetup}
 use Rattle.memory.proofs.Does.{does}
 use Rattle.model.specs.Calls.{table}
-use Rattle.exec.specs.Instruction.{armOf}
-use Rattle.exec.proofs.Tags.{no-instruction, arm-else}
-use Rattle.exec.proofs.Fitting.{as-arm, new-fits, indirect-fits, spawn-fits, yield-fits, kv-fits, await-fits, resume-fits, throw-fits, close-fits, next-fits, status-fits, current-fits, key-fits, result-fits}
+use Rattle.exec_arm.proofs.Tags.{no-arm}
+use Rattle.exec_arm.proofs.Fitting.{as-arm, new-fits, indirect-fits, spawn-fits, yield-fits, kv-fits, await-fits, resume-fits, throw-fits, close-fits, next-fits, status-fits, current-fits, key-fits, result-fits}
 use borrow.Author.Needs.{needs}
-use Rattle.exec.proofs.body.body.Statement.{statement}
-use Rattle.exec.proofs.body.body.Tie as tie
+use Rattle.exec_arm.proofs.body.body.Statement.{statement}
+use Rattle.exec_arm.proofs.body.body.Tie as tie
 
 enum-known-op : tie.Need-enum-known-op
 enum-known-op c = search needs
@@ -329,7 +328,7 @@ returns c =
     let at-op = at-coro-yield .before .before .before .before .before .before .before .before in
     let start = at-op .before .before .before .before .before .before .before .before .before in
     let a = start .args in
-    λ w b rep snd. as-arm (a .l) _ (at-coro-yield .coro-yield .result .machine) (at-coro-yield .coro-yield .result .fuel) w (a .op) _ (at-coro-yield .coro-yield .result .step) (at-op .op .given .1)
+    λ pc t arm q w b rep snd. as-arm (a .l) _ (at-coro-yield .coro-yield .result .machine) (at-coro-yield .coro-yield .result .fuel) w (a .op) _ (at-coro-yield .coro-yield .result .step) pc t arm q (at-op .op .given .1)
     (at-coro-yield .coro-yield .ensures w (record { words = onSetup (a .setup .now) (b .words); fuel = b .fuel }) rep snd)
 
 same-length-7 : tie.Need-same-length-7
@@ -368,7 +367,7 @@ returns-2 c =
     let at-op2 = at-yield-kv .before .before .before .before .before .before .before .before in
     let start = at-op2 .before .before .before .before .before .before .before .before .before in
     let a = start .args in
-    λ w b rep snd. as-arm (a .l) _ (at-yield-kv .yield-kv .result .machine) (at-yield-kv .yield-kv .result .fuel) w (a .op) _ (at-yield-kv .yield-kv .result .step) (at-op2 .op2 .given .1)
+    λ pc t arm q w b rep snd. as-arm (a .l) _ (at-yield-kv .yield-kv .result .machine) (at-yield-kv .yield-kv .result .fuel) w (a .op) _ (at-yield-kv .yield-kv .result .step) pc t arm q (at-op2 .op2 .given .1)
     (at-yield-kv .yield-kv .ensures w (record { words = onSetup (a .setup .now) (b .words); fuel = b .fuel }) rep snd)
 
 same-length-13 : tie.Need-same-length-13
@@ -407,7 +406,7 @@ returns-3 c =
     let at-op3 = at-coro-await .before .before .before .before .before .before .before .before in
     let start = at-op3 .before .before .before .before .before .before .before .before .before in
     let a = start .args in
-    λ w b rep snd. as-arm (a .l) _ (at-coro-await .coro-await .result .machine) (at-coro-await .coro-await .result .fuel) w (a .op) _ (at-coro-await .coro-await .result .step) (at-op3 .op3 .given .1)
+    λ pc t arm q w b rep snd. as-arm (a .l) _ (at-coro-await .coro-await .result .machine) (at-coro-await .coro-await .result .fuel) w (a .op) _ (at-coro-await .coro-await .result .step) pc t arm q (at-op3 .op3 .given .1)
     (at-coro-await .coro-await .ensures w (record { words = onSetup (a .setup .now) (b .words); fuel = b .fuel }) rep snd)
 
 same-length-19 : tie.Need-same-length-19
@@ -446,7 +445,7 @@ returns-4 c =
     let at-op4 = at-resume .before .before .before .before .before .before .before .before in
     let start = at-op4 .before .before .before .before .before .before .before .before .before in
     let a = start .args in
-    λ w b rep snd. as-arm (a .l) _ (at-resume .resume .result .machine) (a .fuel) w (a .op) _ (at-resume .resume .result .step) (at-op4 .op4 .given .1)
+    λ pc t arm q w b rep snd. as-arm (a .l) _ (at-resume .resume .result .machine) (a .fuel) w (a .op) _ (at-resume .resume .result .step) pc t arm q (at-op4 .op4 .given .1)
     (at-resume .resume .ensures w (record { words = onSetup (a .setup .now) (b .words); fuel = a .fuel }) rep snd)
 
 same-length-25 : tie.Need-same-length-25
@@ -485,7 +484,7 @@ returns-5 c =
     let at-op5 = at-resume-throw .before .before .before .before .before .before .before .before in
     let start = at-op5 .before .before .before .before .before .before .before .before .before in
     let a = start .args in
-    λ w b rep snd. as-arm (a .l) _ (at-resume-throw .resume-throw .result .machine) (a .fuel) w (a .op) _ (at-resume-throw .resume-throw .result .step) (at-op5 .op5 .given .1)
+    λ pc t arm q w b rep snd. as-arm (a .l) _ (at-resume-throw .resume-throw .result .machine) (a .fuel) w (a .op) _ (at-resume-throw .resume-throw .result .step) pc t arm q (at-op5 .op5 .given .1)
     (at-resume-throw .resume-throw .ensures w (record { words = onSetup (a .setup .now) (b .words); fuel = a .fuel }) rep snd)
 
 same-length-31 : tie.Need-same-length-31
@@ -524,7 +523,7 @@ returns-6 c =
     let at-op6 = at-coro-close .before .before .before .before .before .before .before .before in
     let start = at-op6 .before .before .before .before .before .before .before .before .before in
     let a = start .args in
-    λ w b rep snd. as-arm (a .l) _ (at-coro-close .coro-close .result .machine) (a .fuel) w (a .op) _ (at-coro-close .coro-close .result .step) (at-op6 .op6 .given .1)
+    λ pc t arm q w b rep snd. as-arm (a .l) _ (at-coro-close .coro-close .result .machine) (a .fuel) w (a .op) _ (at-coro-close .coro-close .result .step) pc t arm q (at-op6 .op6 .given .1)
     (at-coro-close .coro-close .ensures w (record { words = onSetup (a .setup .now) (b .words); fuel = a .fuel }) rep snd)
 
 same-length-37 : tie.Need-same-length-37
@@ -563,7 +562,7 @@ returns-7 c =
     let at-op7 = at-iter-next .before .before .before .before .before .before .before .before in
     let start = at-op7 .before .before .before .before .before .before .before .before .before in
     let a = start .args in
-    λ w b rep snd. as-arm (a .l) _ (at-iter-next .iter-next .result .machine) (a .fuel) w (a .op) _ (at-iter-next .iter-next .result .step) (at-op7 .op7 .given .1)
+    λ pc t arm q w b rep snd. as-arm (a .l) _ (at-iter-next .iter-next .result .machine) (a .fuel) w (a .op) _ (at-iter-next .iter-next .result .step) pc t arm q (at-op7 .op7 .given .1)
     (at-iter-next .iter-next .ensures w (record { words = onSetup (a .setup .now) (b .words); fuel = a .fuel }) rep snd)
 
 same-length-43 : tie.Need-same-length-43
@@ -596,7 +595,7 @@ returns-8 c =
     let at-op8 = at-coro-new .before .before .before .before .before .before .before in
     let start = at-op8 .before .before .before .before .before .before .before .before .before in
     let a = start .args in
-    λ w b rep snd. as-arm (a .l) _ (at-coro-new .coro-new .result .machine) (a .fuel) w (a .op) _ (at-coro-new .coro-new .result .step) (at-op8 .op8 .given .1)
+    λ pc t arm q w b rep snd. as-arm (a .l) _ (at-coro-new .coro-new .result .machine) (a .fuel) w (a .op) _ (at-coro-new .coro-new .result .step) pc t arm q (at-op8 .op8 .given .1)
     (at-coro-new .coro-new .ensures w (record { words = onChain (a .chain .now) (b .words); fuel = a .fuel }) rep snd)
 
 same-length-48 : tie.Need-same-length-48
@@ -629,7 +628,7 @@ returns-9 c =
     let at-op9 = at-coro-new-indirect .before .before .before .before .before .before .before in
     let start = at-op9 .before .before .before .before .before .before .before .before .before in
     let a = start .args in
-    λ w b rep snd. as-arm (a .l) _ (at-coro-new-indirect .coro-new-indirect .result .machine) (a .fuel) w (a .op) _ (at-coro-new-indirect .coro-new-indirect .result .step) (at-op9 .op9 .given .1)
+    λ pc t arm q w b rep snd. as-arm (a .l) _ (at-coro-new-indirect .coro-new-indirect .result .machine) (a .fuel) w (a .op) _ (at-coro-new-indirect .coro-new-indirect .result .step) pc t arm q (at-op9 .op9 .given .1)
     (at-coro-new-indirect .coro-new-indirect .ensures w (record { words = onChain (a .chain .now) (b .words); fuel = a .fuel }) rep snd)
 
 same-length-53 : tie.Need-same-length-53
@@ -663,7 +662,7 @@ returns-10 c =
     let at-op10 = at-spawn .before .before .before .before .before .before .before in
     let start = at-op10 .before .before .before .before .before .before .before .before .before in
     let a = start .args in
-    λ w b rep snd. as-arm (a .l) _ (at-spawn .spawn .result .machine) (at-spawn .spawn .result .fuel) w (a .op) _ (at-spawn .spawn .result .step) (at-op10 .op10 .given .1)
+    λ pc t arm q w b rep snd. as-arm (a .l) _ (at-spawn .spawn .result .machine) (at-spawn .spawn .result .fuel) w (a .op) _ (at-spawn .spawn .result .step) pc t arm q (at-op10 .op10 .given .1)
     (at-spawn .spawn .ensures w (record { words = onChain (a .chain .now) (b .words); fuel = b .fuel }) rep snd)
 
 same-length-58 : tie.Need-same-length-58
@@ -684,7 +683,7 @@ returns-11 c =
     let at-coro-status = c .before .before in let at-op11 = at-coro-status .before .before .before .before .before in
     let start = at-op11 .before .before .before .before .before .before .before .before .before in
     let a = start .args in
-    λ w b rep snd. as-arm (a .l) _ (a .m) (a .fuel) w (a .op) _ (at-coro-status .coro-status .result) (at-op11 .op11 .given .1)
+    λ pc t arm q w b rep snd. as-arm (a .l) _ (a .m) (a .fuel) w (a .op) _ (at-coro-status .coro-status .result) pc t arm q (at-op11 .op11 .given .1)
     (at-coro-status .coro-status .ensures (a .l) w (record { words = onChain (a .chain .now) (onSaved (a .saved-stack .now) (a .saved-frames .now) (onSetup (a .setup .now) (b .words))); fuel = a .fuel }) rep)
 
 same-length-61 : tie.Need-same-length-61
@@ -705,7 +704,7 @@ returns-12 c =
     let at-coro-current = c .before .before in let at-op12 = at-coro-current .before .before .before .before .before in
     let start = at-op12 .before .before .before .before .before .before .before .before .before in
     let a = start .args in
-    λ w b rep snd. as-arm (a .l) _ (a .m) (a .fuel) w (a .op) _ (at-coro-current .coro-current .result) (at-op12 .op12 .given .1)
+    λ pc t arm q w b rep snd. as-arm (a .l) _ (a .m) (a .fuel) w (a .op) _ (at-coro-current .coro-current .result) pc t arm q (at-op12 .op12 .given .1)
     (at-coro-current .coro-current .ensures (a .l) w (record { words = onSlots (a .slots .now) (onSaved (a .saved-stack .now) (a .saved-frames .now) (onSetup (a .setup .now) (b .words))); fuel = a .fuel }) rep)
 
 same-length-64 : tie.Need-same-length-64
@@ -726,7 +725,7 @@ returns-13 c =
     let at-coro-key = c .before .before in let at-op13 = at-coro-key .before .before .before .before .before in
     let start = at-op13 .before .before .before .before .before .before .before .before .before in
     let a = start .args in
-    λ w b rep snd. as-arm (a .l) _ (a .m) (a .fuel) w (a .op) _ (at-coro-key .coro-key .result) (at-op13 .op13 .given .1)
+    λ pc t arm q w b rep snd. as-arm (a .l) _ (a .m) (a .fuel) w (a .op) _ (at-coro-key .coro-key .result) pc t arm q (at-op13 .op13 .given .1)
     (at-coro-key .coro-key .ensures (a .l) w (record { words = onChain (a .chain .now) (onSaved (a .saved-stack .now) (a .saved-frames .now) (onSetup (a .setup .now) (b .words))); fuel = a .fuel }) rep)
 
 same-length-67 : tie.Need-same-length-67
@@ -747,14 +746,14 @@ returns-14 c =
     let at-coro-result = c .before .before in let at-op14 = at-coro-result .before .before .before .before .before in
     let start = at-op14 .before .before .before .before .before .before .before .before .before in
     let a = start .args in
-    λ w b rep snd. as-arm (a .l) _ (a .m) (a .fuel) w (a .op) _ (at-coro-result .coro-result .result) (at-op14 .op14 .given .1)
+    λ pc t arm q w b rep snd. as-arm (a .l) _ (a .m) (a .fuel) w (a .op) _ (at-coro-result .coro-result .result) pc t arm q (at-op14 .op14 .given .1)
     (at-coro-result .coro-result .ensures (a .l) w (record { words = onChain (a .chain .now) (onSaved (a .saved-stack .now) (a .saved-frames .now) (onSetup (a .setup .now) (b .words))); fuel = a .fuel }) rep)
 
 returns-15 : tie.Need-returns-15
 returns-15 c =
     let start = c .before .before .before .before .before .before .before .before in
     let a = start .args in
-    λ w b rep snd. does (a .l) _ (a .m) (a .fuel) (armOf (table (a .op)) w) w _ (arm-else (table (a .op)) w (no-instruction (a .op) (c .match .keys15))) rep
+    no-arm (a .op) _ (c .match .keys15)
 
 pub body-spec : {M : Type 1} → statement M
 body-spec =
