@@ -103,18 +103,18 @@ module _ (l : Sizes) (M : Lent) (m : Machine) (f : Fuel) (w : World) (pc : ℕ) 
   past-frame e = ap (λ b. pick b (refused w Fault.NoFrame) (pick (not t) (refused w Fault.BadOperand) (andThen paid (charged arm)))) e ∙ pick-false _ _
 
   pub bad-operand : isNil (w .frames) ≡ false → t ≡ false → Rep l w M m f → Does l gated M m f (Answer.Refused Fault.BadOperand)
-  bad-operand e no rep =
+  bad-operand e fails rep =
       does l M m f gated w (Answer.Refused Fault.BadOperand)
-      (past-frame e ∙ ap (λ b. pick (not b) (refused w Fault.BadOperand) (andThen paid (charged arm))) no ∙ pick-true _ _) rep
+      (past-frame e ∙ ap (λ b. pick (not b) (refused w Fault.BadOperand) (andThen paid (charged arm))) fails ∙ pick-true _ _) rep
 
   -- past the gate, with the pc that was charged
-  module _ (e : isNil (w .frames) ≡ false) (yes : t ≡ true) (n : ℕ) (is : n ≡ pc) where
+  module _ (e : isNil (w .frames) ≡ false) (holds : t ≡ true) (n : ℕ) (is : n ≡ pc) where
     abbrev given : After Charge
     given = charge (OptPc.Some n) w
 
     at-charge : gated ≡ andThen given (charged arm)
     at-charge =
-        past-frame e ∙ ap (λ b. pick (not b) (refused w Fault.BadOperand) (andThen paid (charged arm))) yes ∙ pick-false _ _
+        past-frame e ∙ ap (λ b. pick (not b) (refused w Fault.BadOperand) (andThen paid (charged arm))) holds ∙ pick-false _ _
         ∙ ap (λ p. andThen (charge (OptPc.Some p) w) (charged arm)) (sym is)
 
     pub spent : Does l given M m f Charge.Spent → Does l gated M m f (Answer.Stepped (Step.Fault Fault.OutOfFuel) 0)
