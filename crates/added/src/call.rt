@@ -22,7 +22,7 @@ pub struct CallDid {
 
 // A frame was pushed, or refused.
 fn pushed_as(a: Made) -> Answer
-    ensures { λ r. ⌜ (w u : World) → r ≡ pushedOr w u a .answer ⌝ }
+    ensures { λ r. ⌜ ((w u : World) → r ≡ pushedOr w u a .answer) ⌝ }
 {
     match a {
         Made::Word(_) => Answer::Accepted,

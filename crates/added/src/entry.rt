@@ -17,7 +17,7 @@ use model::machine::Driver;
 
 // A coroutine was entered, or refused.
 fn entered_as(a: Entered) -> Answer
-    ensures { λ r. ⌜ (v : ℕ) (w : World) → r ≡ hostArrive v w a .answer ⌝ }
+    ensures { λ r. ⌜ ((v : ℕ) (w : World) → r ≡ hostArrive v w a .answer) ⌝ }
 {
     match a {
         Entered::Fresh => Answer::Accepted,

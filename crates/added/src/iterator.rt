@@ -18,7 +18,7 @@ use model::coro::Stated;
 
 // The word made is the answer.
 pub fn made_as(a: Made) -> Answer
-    ensures { λ r. ⌜ (w : World) → r ≡ answerMade w a .answer ⌝ }
+    ensures { λ r. ⌜ ((w : World) → r ≡ answerMade w a .answer) ⌝ }
 {
     match a {
         Made::Word(v) => Answer::Word(v),

@@ -10,7 +10,7 @@ use Rattle.added.proofs.look.look.Tie as tie
 
 returns : tie.Need-returns
 returns c =
-    let start = c .before .before in
+    let start = c .before .before .before in
     λ l w b rep. let M = onFrames (start .args .frames .now) (b .words) in
     record {
       start = none-base l w M (start .args .m) (b .fuel) rep (c .if1 .taken);
@@ -26,13 +26,13 @@ base-at-requires c κs = search needs
 
 returns-2 : tie.Need-returns-2
 returns-2 c =
-    let based = c .before in let at-if1 = based .before .before in let start = at-if1 .before .before in let h = at-if1 .if1 .left in
+    let at-if1 = c .before .before in let start = at-if1 .before .before .before in let h = at-if1 .if1 .left in
     let some : 1 ≤ start .args .m .depth = omega arith in
     λ l w b rep. let M = onFrames (start .args .frames .now) (b .words) in
     record {
-      start = based .base-at .ensures ∙ some-base l w M (start .args .m) (b .fuel) rep some;
+      start = c .base-at .ensures ∙ some-base l w M (start .args .m) (b .fuel) rep some;
       end = some-end l w M (start .args .m) (b .fuel) rep some;
-      part = seen l w M (start .args .m) (b .fuel) rep _ (based .base-at .ensures) some;
+      part = seen l w M (start .args .m) (b .fuel) rep _ (c .base-at .ensures) some;
     }
 
 pub look-spec : {M : Type 1} → statement M
