@@ -154,8 +154,8 @@ frame-asks src left from n j old new f h l kept =
     let inside = f .inside in
     let word : (i : ℕ) → i < 1 → getD left (from + j * 6 + i * 6 + 2) 0 ≡ getD src (from + j * 6 + 2) 0 =
     λ i k.
-        let o : from + j * 6 + i * 6 + 2 ≡ from + j * 6 + 2 = omega arith in
-        ap (λ x. getD left x 0) o ∙ sym (getD-drop (from + j * 6) left 2 0) ∙ ap (λ (z : List ℕ). getD z 2 0) kept ∙ getD-drop (from + j * 6) src 2 0 in
+    let o : from + j * 6 + i * 6 + 2 ≡ from + j * 6 + 2 = omega arith in
+    ap (λ x. getD left x 0) o ∙ sym (getD-drop (from + j * 6) left 2 0) ∙ ap (λ (z : List ℕ). getD z 2 0) kept ∙ getD-drop (from + j * 6) src 2 0 in
     record {
       inside = omega arith;
       above = λ i k. rw (word i k) (f .above j h);

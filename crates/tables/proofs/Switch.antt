@@ -84,14 +84,16 @@ enters-stack stack saved stack′ saved′ height at n h m w xs ys rs r s q i e 
 -- what the move asks
 pub enter-asks : (frames saved : List ℕ) (depth at n by : ℕ) → EnterFits frames saved depth at n by → (depth * 6 + n * 6 ≤ length frames) × RebaseFits saved at n 0 by
 enter-asks frames saved depth at n by f =
-    let inside = f .on-frames in
-    (omega arith, record {
-      inside = f .in-saved;
-      above = λ j k. zero-le;
-      fits = λ j k.
-          let o : at + (j * 6 + 2) ≡ at + j * 6 + 2 = omega arith in
-          subst (λ x. x + by < 2 ^ 64) (ap (λ x. getD saved x 0) o ∙ sym (sub-zero (getD saved (at + j * 6 + 2) 0))) (f .fits j k);
-    })
+    let inside = f .on-frames in (
+      omega arith,
+      record {
+        inside = f .in-saved;
+        above = λ j k. zero-le;
+        fits = λ j k.
+            let o : at + (j * 6 + 2) ≡ at + j * 6 + 2 = omega arith in
+            subst (λ x. x + by < 2 ^ 64) (ap (λ x. getD saved x 0) o ∙ sym (sub-zero (getD saved (at + j * 6 + 2) 0))) (f .fits j k);
+      },
+    )
 
 pub enters-frames : (frames saved mid saved′ frames′ : List ℕ) (depth at n by : ℕ) → EnterFits frames saved depth at n by
     → Moved frames saved mid saved′ (depth * 6) at (n * 6) → frames′ ≡ rebase (between 0 by) n (depth * 6) mid
@@ -133,12 +135,14 @@ pub leave-asks : (frames saved : List ℕ) (depth floor by at : ℕ) → LeaveFi
     → (at + (depth - floor) * 6 ≤ length saved) × RebaseFits frames (floor * 6) (depth - floor) by 0
 leave-asks frames saved depth floor by at f small =
     let u = f .under in
-    let on = f .on-frames in
-    (f .in-saved, record {
-      inside = omega arith;
-      above = f .above;
-      fits = λ j k. let s = small (floor * 6 + j * 6 + 2) in omega arith;
-    })
+    let on = f .on-frames in (
+      f .in-saved,
+      record {
+        inside = omega arith;
+        above = f .above;
+        fits = λ j k. let s = small (floor * 6 + j * 6 + 2) in omega arith;
+      },
+    )
 
 pub leaves-frames : (frames saved mid saved′ frames′ : List ℕ) (depth floor by at : ℕ) → LeaveFits frames saved depth floor by at
     → Moved saved frames mid frames′ at (floor * 6) ((depth - floor) * 6) → saved′ ≡ rebase (between by 0) (depth - floor) at mid

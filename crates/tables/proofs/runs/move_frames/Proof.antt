@@ -65,10 +65,13 @@ loop-again c =
     let a = start .args in
     let l = at-loop .loop in
     let m = at-move .move-frame in
-    let inside = start .pre .1 .inside in
-    (search needs, m .kept .0 ∙ l .inv .1, m .kept .1 .1 .0 ∙ l .inv .2,
-    m .ensures .0 ∙ frames-more (between (a .old) (a .new)) (a .at) (a .dst .now) (a .src .now) (a .from) (l .j) (omega arith) (omega arith) (l .dst) (l .src) (l .inv .3) (ahead at-test),
-    m .ensures .1 ∙ ap (λ z. splice z (a .from + l .j * 6) (replicate 6 0)) (l .inv .4) ∙ zeros-more (a .src .now) (a .from) (l .j) (omega arith))
+    let inside = start .pre .1 .inside in (
+      search needs,
+      m .kept .0 ∙ l .inv .1,
+      m .kept .1 .1 .0 ∙ l .inv .2,
+      m .ensures .0 ∙ frames-more (between (a .old) (a .new)) (a .at) (a .dst .now) (a .src .now) (a .from) (l .j) (omega arith) (omega arith) (l .dst) (l .src) (l .inv .3) (ahead at-test),
+      m .ensures .1 ∙ ap (λ z. splice z (a .from + l .j * 6) (replicate 6 0)) (l .inv .4) ∙ zeros-more (a .src .now) (a .from) (l .j) (omega arith),
+    )
 
 same-length : tie.Need-same-length Inv-loop μ-loop
 same-length c = c .before .loop .inv .1
@@ -81,9 +84,10 @@ returns c =
     let start = c .before .before .before .before in
     let a = start .args in
     let l = c .before .loop in
-    let e : l .j ≡ a .n = omega arith in
-    (l .inv .3 ∙ ap (λ n. rebase (between (a .old) (a .new)) n (a .at) (splice (a .dst .now) (a .at) (part (a .from) (n * 6) (a .src .now)))) e,
-    l .inv .4 ∙ ap (λ n. splice (a .src .now) (a .from) (replicate (n * 6) 0)) e)
+    let e : l .j ≡ a .n = omega arith in (
+      l .inv .3 ∙ ap (λ n. rebase (between (a .old) (a .new)) n (a .at) (splice (a .dst .now) (a .at) (part (a .from) (n * 6) (a .src .now)))) e,
+      l .inv .4 ∙ ap (λ n. splice (a .src .now) (a .from) (replicate (n * 6) 0)) e,
+    )
 
 pub move-frames-spec : {M : Type 1} → statement M
 move-frames-spec =
