@@ -146,5 +146,9 @@ acceptance w n k r =
       close = λ pc dst c src s f h. starts-enters w (Op.CoroClose pc dst c src) n pc _ (reg w c) (Driver.Resume dst) (closes (reg w src)) (suspendedAs (coro w (reg w c))) refl s (susp-at w (reg w c) k r f h) (accepts-fits w (reg w c) k r (s .healthy) f);
       loop = λ pc has iter val src s f h g. starts-enters w (Op.IterNext pc has iter val src) n pc _ (reg w src) (Driver.Iter has val (reg w iter)) (gets nil) (not (isDone (object w (reg w iter))) && not (awaits (coro w (reg w src)))) refl s
           (ap (λ b. not b && not (awaits (coro w (reg w src)))) h ∙ ap (λ x. not (awaits x)) (f .there) ∙ ap not g) (accepts-fits w (reg w src) k r (s .healthy) f);
-      host = λ c v t h e f. named-enters w (asCall (Op.HostEntry c v) t) c Driver.Host (sentTo (coro w c) (gets v)) (entry-sound w (record { op = Op.HostEntry c v; within = t }) h ∙ (λ i. pick (not (e i)) nobody (pick (accepts-fits w c k r h f i) (entry c Driver.Host (sentTo (coro w c) (gets v))) nobody)) ∙ pick-false nobody (pick true (entry c Driver.Host (sentTo (coro w c) (gets v))) nobody) ∙ pick-true (entry c Driver.Host (sentTo (coro w c) (gets v))) nobody);
+      host = λ c v t h e f.
+          let it = entry c Driver.Host (sentTo (coro w c) (gets v)) in
+          named-enters w (asCall (Op.HostEntry c v) t) c Driver.Host (sentTo (coro w c) (gets v))
+          (entry-sound w (record { op = Op.HostEntry c v; within = t }) h ∙ (λ i. pick (not (e i)) nobody (pick (accepts-fits w c k r h f i) it nobody))
+          ∙ pick-false nobody (pick true it nobody) ∙ pick-true it nobody);
     }

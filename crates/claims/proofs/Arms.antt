@@ -23,6 +23,7 @@ use Rattle.model.specs.Machine.{pushFrame}
 use Rattle.model.specs.Exec as Exec
 use Rattle.model.specs.Exec.{fault, putMade, window, coroNew, indirect, coroNewIndirect, hooked, callHook, spawnMade, spawnBy, spawn, statusOf, coroStatus, coroCurrent, keyOf, coroKey, resultIn, coroResult}
 use Rattle.model.specs.declared.machine.Cont.{Cont}
+use Rattle.model.specs.declared.machine.Frame.{Frame}
 use Rattle.model.specs.declared.machine.Charge.{Charge}
 use Rattle.model.specs.declared.coro.Made.{Made}
 use Rattle.model.specs.declared.coro.Stated.{Stated}
@@ -76,13 +77,21 @@ hook-worked hook pc dst c w = go (pushFrame hook nil (Cont.Value dst) (storePc p
     u : World
     u = storePc pc w
 
-    first : (n : ℕ) → Worked false (pushV (frame hook (length (u .stack)) nil (Cont.Value dst)) (replicate n 0) (view u)) (view (withStack (set (u .stack ++ replicate n 0) (length (u .stack)) c) (withFrames (frame hook (length (u .stack)) nil (Cont.Value dst) ∷ u .frames) (withStack (u .stack ++ replicate n 0) u))))
+    top : Frame
+    top = frame hook (length (u .stack)) nil (Cont.Value dst)
+
+    left : ℕ → World
+    left n = withStack (set (u .stack ++ replicate n 0) (length (u .stack)) c) (withFrames (top ∷ u .frames) (withStack (u .stack ++ replicate n 0) u))
+
+    -- the hook's frame stands, and c is put into its first register
+    first : (n : ℕ) → Worked false (pushV top (replicate n 0) (view u)) (view (left n))
     first n =
         let e : length (u .stack) + 0 ≡ length (u .stack) = omega arith in
-        puts 0 c (subst (λ i. Worked false (record { setup = u .setup; stack = set (u .stack ++ replicate n 0) i c; frames = frame hook (length (u .stack)) nil (Cont.Value dst) ∷ u .frames; chain = u .chain; cores = view u .cores }) (view (withStack (set (u .stack ++ replicate n 0) (length (u .stack)) c) (withFrames (frame hook (length (u .stack)) nil (Cont.Value dst) ∷ u .frames) (withStack (u .stack ++ replicate n 0) u))))) (sym e) done)
+        let at : ℕ → View = λ i. record { setup = u .setup; stack = set (u .stack ++ replicate n 0) i c; frames = top ∷ u .frames; chain = u .chain; cores = view u .cores } in
+        puts 0 c (subst (λ i. Worked false (at i) (view (left n))) (sym e) done)
 
     go : (o : After Made) → PushCase hook nil (Cont.Value dst) u o → Worked false (view w) (view (hooked w c (o .world) (o .answer) .world))
-    go o (p-in n) = tops (setPc pc) (keeps-pc pc) (pushes (frame hook (length (u .stack)) nil (Cont.Value dst)) (replicate n 0) refl refl (first n))
+    go o (p-in n) = tops (setPc pc) (keeps-pc pc) (pushes top (replicate n 0) refl refl (first n))
     go o (p-out e) = done
 
 pub spawn-arm : (p dst callee argc : ℕ) (v : World) → Arm v p neither false (spawn p dst callee argc v .world)

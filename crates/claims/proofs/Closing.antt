@@ -180,7 +180,8 @@ module _ (c : ℕ) {w z : World} (healthy : (a : Active) (chain : List Active) �
       go (inr (inr x)) = ap (λ y. y .closing) (x .1)
 
 pub closing : (c : ℕ) (w : World) (k : Call) → (D.Restarts steps w k → ⊥) → (D.Enters steps c w k → ⊥) → (D.Suspends steps c w k → ⊥) → is (viewOf (next w k)) lives c ≡ true → closer (viewOf (next w k) .coro c) ≡ closer (viewOf w .coro c)
-closing c w k r i s h = closer-at (next w k) c ∙ go (next w k) (step-case w k) (restarts-old w k r) (λ a b. i (record { before = is-runs w c ∙ a; after = is-runs (next w k) c ∙ b })) (λ a b. s (record { before = is-runs w c ∙ a; after = is-sleeps (next w k) c ∙ b })) (seen-alive (next w k) c h) ∙ sym (closer-at w c)
+closing c w k r i s h = closer-at (next w k) c ∙ go (next w k) (step-case w k) (restarts-old w k r) (λ a b. i (record { before = is-runs w c ∙ a; after = is-runs (next w k) c ∙ b }))
+    (λ a b. s (record { before = is-runs w c ∙ a; after = is-sleeps (next w k) c ∙ b })) (seen-alive (next w k) c h) ∙ sym (closer-at w c)
   where
     go : {k : Call} (z : World) → StepCase w k z → restarts k ≡ false → (isRunning (coreAt w c .state) ≡ false → isRunning (coreAt z c .state) ≡ true → ⊥) → (isRunning (coreAt w c .state) ≡ true → isSuspended (coreAt z c .state) ≡ true → ⊥)
         → alive (coreAt z c .state) ≡ true → coreAt z c .closing ≡ coreAt w c .closing

@@ -149,15 +149,29 @@ suspend-arm p s h dst x keys v u g = go (coroSuspend s dst x keys t) (suspend-ca
         d : Delivered (a .driver) (told m) y (deliver (a .driver) m y .world)
         d = deliver-told (a .driver) m y
 
+        k₁ : Core
+        k₁ = saved s dst (a .floor) t
+
+        r₁ : Rest
+        r₁ = unclose s (setKeys keys (withPayload x (sized (saved s dst (a .floor) t) r)))
+
+        ends : closingOf (unclose s (setKeys keys (withPayload x (sized (saved s dst (a .floor) t) r)))) ≡ pick (isAwaiting s) (coreAt v (a .coro) .closing) none
+        ends = unclosed s keys (withPayload x (sized (saved s dst (a .floor) t) r)) ∙ ap (λ y. pick (isAwaiting s) (coreIn y .closing) none) (sym c ∙ g .coros (a .coro))
+
+        event : told (Coro.eventOf s x (setKeys keys r)) ≡ eventAs (marked (λ r. r .closing) (coro v (a .coro))) s x
+        event = told-event s x keys r ∙ ap (λ b. eventAs (marked (λ r. r .closing) b) s x) (sym c ∙ g .coros (a .coro))
+
         it : Suspend v p s dst x a chain (deliver (a .driver) m y .world)
         it =
             record {
               setup = d .setup ∙ g .setup;
               inmost = sym (g .chain) ∙ e;
               asleep = h;
-              mine = d .cores (a .coro) ∙ ap coreIn (set-mine (t .slots) (a .coro) c (saved s dst (a .floor) t) (unclose s (setKeys keys (withPayload x (sized (saved s dst (a .floor) t) r))))) ∙ (λ i. record { state = s; regs = drop (baseAt (a .floor) (t .frames)) (t .stack); frames = map (lower (baseAt (a .floor) (t .frames))) (above (a .floor) (t .frames)); waiting = dst; closing = (unclosed s keys (withPayload x (sized (saved s dst (a .floor) t) r)) ∙ ap (λ y. pick (isAwaiting s) (coreIn y .closing) none) (sym c ∙ g .coros (a .coro))) i }) ∙ (λ i. heldAs (coreAt v (a .coro) .closing) s dst (a .floor) (baseAt (a .floor) (onTop (setPc p) (g .frames i))) (onTop (setPc p) (g .frames i)) (g .stack i));
-              others = λ n q. kept (d .cores n ∙ set-other (t .slots) (a .coro) c (saved s dst (a .floor) t) (unclose s (setKeys keys (withPayload x (sized (saved s dst (a .floor) t) r)))) n q ∙ ap coreIn (g .coros n));
-              under = d .under ∙ (λ i. deliverTo (a .driver) ((told-event s x keys r ∙ ap (λ b. eventAs (marked (λ r. r .closing) b) s x) (sym c ∙ g .coros (a .coro))) i) (mem (take (baseAt (a .floor) (onTop (setPc p) (g .frames i))) (g .stack i)) (below (a .floor) (onTop (setPc p) (g .frames i)))));
+              mine = d .cores (a .coro) ∙ ap coreIn (set-mine (t .slots) (a .coro) c k₁ r₁)
+              ∙ (λ i. record { state = s; regs = k₁ .regs; frames = k₁ .frames; waiting = dst; closing = ends i })
+              ∙ (λ i. heldAs (coreAt v (a .coro) .closing) s dst (a .floor) (baseAt (a .floor) (onTop (setPc p) (g .frames i))) (onTop (setPc p) (g .frames i)) (g .stack i));
+              others = λ n q. kept (d .cores n ∙ set-other (t .slots) (a .coro) c k₁ r₁ n q ∙ ap coreIn (g .coros n));
+              under = d .under ∙ (λ i. deliverTo (a .driver) (event i) (mem (take (baseAt (a .floor) (onTop (setPc p) (g .frames i))) (g .stack i)) (below (a .floor) (onTop (setPc p) (g .frames i)))));
               outer = d .chain;
             }
 

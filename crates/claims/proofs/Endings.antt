@@ -78,7 +78,8 @@ return-done x f fs w a chain p q r =
     d : Delivered (a .driver) (Returns x) y (deliverReturn (a .driver) x y)
     d = return-told (a .driver) x y
 
-    mine : (coreAt y (a .coro) ≡ over CoroState.Returned (coreAt w (a .coro))) ⊎ ((isCreated (coreAt w (a .coro) .state) ≡ true) × (coreAt y (a .coro) ≡ coreAt w (a .coro))) → (coreAt (deliverReturn (a .driver) x y) (a .coro) ≡ over CoroState.Returned (coreAt w (a .coro))) ⊎ ((isCreated (coreAt w (a .coro) .state) ≡ true) × (coreAt (deliverReturn (a .driver) x y) (a .coro) ≡ coreAt w (a .coro)))
+    mine : (coreAt y (a .coro) ≡ over CoroState.Returned (coreAt w (a .coro))) ⊎ ((isCreated (coreAt w (a .coro) .state) ≡ true) × (coreAt y (a .coro) ≡ coreAt w (a .coro)))
+        → (coreAt (deliverReturn (a .driver) x y) (a .coro) ≡ over CoroState.Returned (coreAt w (a .coro))) ⊎ ((isCreated (coreAt w (a .coro) .state) ≡ true) × (coreAt (deliverReturn (a .driver) x y) (a .coro) ≡ coreAt w (a .coro)))
     mine (inl e) = inl (d .cores (a .coro) ∙ e)
     mine (inr e) = inr (e .0, d .cores (a .coro) ∙ e .1)
 
@@ -244,7 +245,8 @@ end-failed v w c h = go (ℕ-discrete c v)
     e : Ends CoroState.Failed v (coreAt w) (coreAt (finishCoroutine v CoroState.Failed nil w))
     e = finish-ends v CoroState.Failed nil w
 
-    mine : (coreAt (finishCoroutine v CoroState.Failed nil w) v ≡ over CoroState.Failed (coreAt w v)) ⊎ ((isCreated (coreAt w v .state) ≡ true) × (coreAt (finishCoroutine v CoroState.Failed nil w) v ≡ coreAt w v)) → c ≡ v → coreAt (finishCoroutine v CoroState.Failed nil w) v .state ≡ CoroState.Failed
+    mine : (coreAt (finishCoroutine v CoroState.Failed nil w) v ≡ over CoroState.Failed (coreAt w v)) ⊎ ((isCreated (coreAt w v .state) ≡ true) × (coreAt (finishCoroutine v CoroState.Failed nil w) v ≡ coreAt w v))
+        → c ≡ v → coreAt (finishCoroutine v CoroState.Failed nil w) v .state ≡ CoroState.Failed
     mine (inl x) q = ap (λ k. k .state) x
     mine (inr x) q = ap (λ k. k .state) (x .1) ∙ ap (λ u. coreAt w u .state) (sym q) ∙ h
 

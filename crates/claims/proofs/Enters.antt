@@ -159,7 +159,8 @@ enter-raw {p} {w} {u} {z} {v} {d} {sent} k r s e a b t =
       ready = ap (λ x. isResumable (x .state)) mine ∙ a;
       solid = ap (λ x. isNil (x .frames)) mine ∙ b;
       stack = t .stack ∙ ap (λ x. x ++ wordsWith sent (seat k r)) (s .stack) ∙ ap (λ x. w .stack ++ wordsWith sent x) (sym mine);
-      frames = t .frames ∙ ap (λ x. map (raise (length x)) (framesWith sent (seat k r)) ++ u .frames) (s .stack) ∙ ap (λ x. map (raise (length (w .stack))) (framesWith sent (seat k r)) ++ x) (s .frames) ∙ ap (λ x. map (raise (length (w .stack))) (framesWith sent x) ++ onTop (setPc p) (w .frames)) (sym mine);
+      frames = t .frames ∙ ap (λ x. map (raise (length x)) (framesWith sent (seat k r)) ++ u .frames) (s .stack) ∙ ap (λ x. map (raise (length (w .stack))) (framesWith sent (seat k r)) ++ x)
+          (s .frames) ∙ ap (λ x. map (raise (length (w .stack))) (framesWith sent x) ++ onTop (setPc p) (w .frames)) (sym mine);
       chain = t .chain ∙ ap (λ x. active v x d ∷ u .chain) (ap length (s .frames) ∙ length-top (setPc p) (w .frames)) ∙ ap (λ x. active v (length (w .frames)) d ∷ x) (s .chain);
       mine = t .mine;
       closing = t .closing ∙ ap (λ x. closedBy sent (x .closing)) (sym mine);
@@ -217,8 +218,11 @@ start-case p w u s n (c ∷ q) = go (coroEnter c Driver.Finalize (withFinalize q
     later a (s-none n v e t) h = s-none n v (h ∙ e) t
 
     choose : (a b : Bool) (x y : After Started) → (suspendedAs (coro u c) && a) ≡ b → accepts u c ≡ a → (b ≡ true → cleaned (c ∷ q) u ≡ entry c Driver.Finalize (closes nil) → StartCase p w u (c ∷ q) x) → StartCase p w u q y → StartCase p w u (c ∷ q) (pick b x y)
-    choose a true x y e h f g = subst (StartCase p w u (c ∷ q)) (sym (pick-true x y)) (f refl (ap (λ b. pick (suspendedAs (coro u c) && b) (entry c Driver.Finalize (closes nil)) (cleaned q u)) h ∙ ap (λ b. pick b (entry c Driver.Finalize (closes nil)) (cleaned q u)) e ∙ pick-true (entry c Driver.Finalize (closes nil)) (cleaned q u)))
-    choose a false x y e h f g = subst (StartCase p w u (c ∷ q)) (sym (pick-false x y)) (later y g (ap (λ b. pick (suspendedAs (coro u c) && b) (entry c Driver.Finalize (closes nil)) (cleaned q u)) h ∙ ap (λ b. pick b (entry c Driver.Finalize (closes nil)) (cleaned q u)) e ∙ pick-false (entry c Driver.Finalize (closes nil)) (cleaned q u)))
+    choose a true x y e h f g = subst (StartCase p w u (c ∷ q)) (sym (pick-true x y)) (f refl (ap
+        (λ b. pick (suspendedAs (coro u c) && b) (entry c Driver.Finalize (closes nil)) (cleaned q u)) h ∙ ap (λ b. pick b (entry c Driver.Finalize (closes nil)) (cleaned q u)) e ∙ pick-true
+        (entry c Driver.Finalize (closes nil)) (cleaned q u)))
+    choose a false x y e h f g = subst (StartCase p w u (c ∷ q)) (sym (pick-false x y)) (later y g
+        (ap (λ b. pick (suspendedAs (coro u c) && b) (entry c Driver.Finalize (closes nil)) (cleaned q u)) h ∙ ap (λ b. pick b (entry c Driver.Finalize (closes nil)) (cleaned q u)) e ∙ pick-false (entry c Driver.Finalize (closes nil)) (cleaned q u)))
 
     go : (e : After Entered) → EnterCase c Driver.Finalize v e → StartCase p w u q (startFrom (suc n) q u)
         → StartCase p w u (c ∷ q) (pick (suspendedAs (coro u c) && isEntered (e .answer)) (after (setFinalizing true (changeCoro c (λ k. k) (close nil) (e .world))) (started true (suc n))) (startFrom (suc n) q u))

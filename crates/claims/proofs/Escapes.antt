@@ -126,10 +126,12 @@ module _ (v : Engine.View) (value f pc : ℕ) where
   failed-to xs next Driver.Host s w p h = e-works done
   failed-to xs next Driver.Finalize s w p h = e-works done
 
-  body-left : (x : Frame) (xs : List Frame) → Next xs → (w : World) → w .frames ≡ x ∷ xs → isCoro (x .cont) ≡ true → Sees v w → (cs : List Active) → w .chain ≡ cs → Ended (view w) (andThen (escapedOn cs value f pc (popTo x xs w)) (stopOr (search xs value f pc))) (Events.leaving Cont.Coro v value cs (escaped v value xs))
+  body-left : (x : Frame) (xs : List Frame) → Next xs → (w : World) → w .frames ≡ x ∷ xs → isCoro (x .cont) ≡ true → Sees v w → (cs : List Active) → w .chain ≡ cs
+      → Ended (view w) (andThen (escapedOn cs value f pc (popTo x xs w)) (stopOr (search xs value f pc))) (Events.leaving Cont.Coro v value cs (escaped v value xs))
   unfolding pick
   body-left x xs next w p q h [] r = subst (λ cs. Ended (view w) (search xs value f pc (popTo x xs w)) (escaped v value xs cs)) r (then-ended (λ y t. pops x xs p (inr r) t) (next (popTo x xs w) refl (record { handlers = h .handlers; coros = h .coros })))
-  body-left x xs next w p q h (a ∷ chain) r = subst (λ b. Ended (view w) (andThen (pick b (after (deliverReturn (a .driver) nil (finishCoroutine (a .coro) CoroState.Returned nil (withChain chain u))) true) (failTo (a .driver) (Stop.Failed value f pc) y)) (stopOr (search xs value f pc))) (pick (seenIn (λ k. k .closing && eqb value (k .signal)) (v .coro (a .coro))) (some (a .coro)) (pick (goesOn (a .driver)) (escaped v value xs chain) none)))
+  body-left x xs next w p q h (a ∷ chain) r =
+      subst (λ b. Ended (view w) (left b) (pick (seenIn (λ k. k .closing && eqb value (k .signal)) (v .coro (a .coro))) (some (a .coro)) (pick (goesOn (a .driver)) (escaped v value xs chain) none)))
       (closed-seen v (coro w (a .coro)) (a .coro) value (all .0)) (test (seenIn (λ k. k .closing && eqb value (k .signal)) (v .coro (a .coro))))
     where
       u : World
@@ -147,7 +149,11 @@ module _ (v : Engine.View) (value f pc : ℕ) where
       sees : Sees v y
       sees = fail-sees v x xs value w a chain h all
 
-      test : (b : Bool) → Ended (view w) (andThen (pick b (after (deliverReturn (a .driver) nil (finishCoroutine (a .coro) CoroState.Returned nil (withChain chain u))) true) (failTo (a .driver) (Stop.Failed value f pc) y)) (stopOr (search xs value f pc))) (pick b (some (a .coro)) (pick (goesOn (a .driver)) (escaped v value xs chain) none))
+      -- it ends there, b: because its own signal closed it
+      left : Bool → After Answer
+      left b = andThen (pick b (after (deliverReturn (a .driver) nil (finishCoroutine (a .coro) CoroState.Returned nil (withChain chain u))) true) (failTo (a .driver) (Stop.Failed value f pc) y)) (stopOr (search xs value f pc))
+
+      test : (b : Bool) → Ended (view w) (left b) (pick b (some (a .coro)) (pick (goesOn (a .driver)) (escaped v value xs chain) none))
       test true = e-returns (view w) x xs a chain done (return-done nil x xs w a chain p q r) refl
       test false =
           subst (λ cs. Ended (view w) (stopOr (search xs value f pc) (failTo (a .driver) (Stop.Failed value f pc) y .world) (failTo (a .driver) (Stop.Failed value f pc) y .answer)) (pick (goesOn (a .driver)) (escaped v value xs cs) none)) still
@@ -162,11 +168,14 @@ module _ (v : Engine.View) (value f pc : ℕ) where
   leaving x xs next w p h Cont.Discard q = then-ended (λ y t. pops x xs p (inl (ap isCoro q)) t) (next (popTo x xs w) refl (record { handlers = h .handlers; coros = h .coros }))
   leaving x xs next w p h Cont.Coro q = body-left x xs next w p (ap isCoro q) h (w .chain) refl
 
-  looked : (x : Frame) (xs : List Frame) → Next xs → (w : World) → w .frames ≡ x ∷ xs → Sees v w → {c : Caught} {b : Bool} → Looks (func (w .setup) (x .func) .handlers) (x .pc) c b → Ended (view w) (searchAs c x xs value f pc (search xs value f pc) w) (pick b none (Events.leaving (x .cont) v value (w .chain) (escaped v value xs)))
+  looked : (x : Frame) (xs : List Frame) → Next xs → (w : World) → w .frames ≡ x ∷ xs → Sees v w → {c : Caught} {b : Bool} → Looks (func (w .setup) (x .func) .handlers) (x .pc) c b
+      → Ended (view w) (searchAs c x xs value f pc (search xs value f pc) w) (pick b none (Events.leaving (x .cont) v value (w .chain) (escaped v value xs)))
   unfolding pick
   looked x xs next w p h nothing = leaving x xs next w p h (x .cont) refl
   looked x xs next w p h (found n) = e-works (same-worked (charge-none w) (handled value f pc n (charge OptPc.None w .world) (charge OptPc.None w .answer)))
 
   pub search-ended : (fs : List Frame) → Next fs
   search-ended [] w p h = e-works done
-  search-ended (x ∷ xs) w p h = subst (λ hs. Ended (view w) (search (x ∷ xs) value f pc w) (pick (Events.caught hs (x .pc)) none (Events.leaving (x .cont) v value (w .chain) (escaped v value xs)))) (sym (h .handlers (x .func))) (looked x xs (search-ended xs) w p h (looks (func (w .setup) (x .func) .handlers) (x .pc)))
+  search-ended (x ∷ xs) w p h = subst
+      (λ hs. Ended (view w) (search (x ∷ xs) value f pc w) (pick (Events.caught hs (x .pc)) none (Events.leaving (x .cont) v value (w .chain) (escaped v value xs)))) (sym (h .handlers (x .func)))
+      (looked x xs (search-ended xs) w p h (looks (func (w .setup) (x .func) .handlers) (x .pc)))

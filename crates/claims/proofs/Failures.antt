@@ -174,7 +174,7 @@ module _ (v : Engine.View) (value f pc : ℕ) where
   unfolding pick
   body-left x xs next w p q h rs [] r = subst (λ cs. Loses w (search xs value f pc (popTo x xs w)) (lost v value xs cs)) r (popped x xs next w h rs)
   body-left x xs next w p q h rs (a ∷ chain) r =
-      subst (λ b. Loses w (andThen (pick b (after (deliverReturn (a .driver) nil (finishCoroutine (a .coro) CoroState.Returned nil (withChain chain u))) true) (failTo (a .driver) (Stop.Failed value f pc) y)) (stopOr (search xs value f pc))) (pick (seenIn (λ k. k .closing && eqb value (k .signal)) (v .coro (a .coro))) [] (a .coro ∷ pick (goesOn (a .driver)) (lost v value xs chain) [])))
+      subst (λ b. Loses w (left b) (pick (seenIn (λ k. k .closing && eqb value (k .signal)) (v .coro (a .coro))) [] (a .coro ∷ pick (goesOn (a .driver)) (lost v value xs chain) [])))
       (closed-seen v (coro w (a .coro)) (a .coro) value (all .0)) (test (seenIn (λ k. k .closing && eqb value (k .signal)) (v .coro (a .coro))))
     where
       u : World
@@ -202,7 +202,11 @@ module _ (v : Engine.View) (value f pc : ℕ) where
       then = subst (λ cs. Loses y rest (pick (goesOn (a .driver)) (lost v value xs cs) [])) still
           (failed-to xs next (a .driver) (Stop.Failed value f pc) y (change-still (withChain chain u) (a .coro) (inState CoroState.Failed) (ended value) .frames) (fail-sees v x xs value w a chain h all) (subst (AllRun v) (sym still) (runs .1)))
 
-      test : (b : Bool) → Loses w (andThen (pick b (after (deliverReturn (a .driver) nil (finishCoroutine (a .coro) CoroState.Returned nil (withChain chain u))) true) (failTo (a .driver) (Stop.Failed value f pc) y)) (stopOr (search xs value f pc))) (pick b [] (a .coro ∷ pick (goesOn (a .driver)) (lost v value xs chain) []))
+      -- it ends there, b: because its own signal closed it
+      left : Bool → After Answer
+      left b = andThen (pick b (after (deliverReturn (a .driver) nil (finishCoroutine (a .coro) CoroState.Returned nil (withChain chain u))) true) (failTo (a .driver) (Stop.Failed value f pc) y)) (stopOr (search xs value f pc))
+
+      test : (b : Bool) → Loses w (left b) (pick b [] (a .coro ∷ pick (goesOn (a .driver)) (lost v value xs chain) []))
       test true = loses-return w _ (a .coro) (return-done nil x xs w a chain p q r .ends) ran refl
       test false = loses-more w y rest (a .coro) (pick (goesOn (a .driver)) (lost v value xs chain) []) (let e = finish-ends (a .coro) CoroState.Failed value (withChain chain u) in record { mine = e .mine; others = e .others }) ran then
 
@@ -215,7 +219,8 @@ module _ (v : Engine.View) (value f pc : ℕ) where
   leaving x xs next w p h rs Cont.Discard q = popped x xs next w h rs
   leaving x xs next w p h rs Cont.Coro q = body-left x xs next w p (ap isCoro q) h rs (w .chain) refl
 
-  looked : (x : Frame) (xs : List Frame) → Next xs → (w : World) → w .frames ≡ x ∷ xs → Sees v w → AllRun v (w .chain) → {c : Caught} {b : Bool} → Looks (func (w .setup) (x .func) .handlers) (x .pc) c b → Loses w (searchAs c x xs value f pc (search xs value f pc) w) (pick b [] (losing (x .cont) v value (w .chain) (lost v value xs)))
+  looked : (x : Frame) (xs : List Frame) → Next xs → (w : World) → w .frames ≡ x ∷ xs → Sees v w → AllRun v (w .chain) → {c : Caught} {b : Bool}
+      → Looks (func (w .setup) (x .func) .handlers) (x .pc) c b → Loses w (searchAs c x xs value f pc (search xs value f pc) w) (pick b [] (losing (x .cont) v value (w .chain) (lost v value xs)))
   unfolding pick
   looked x xs next w p h rs nothing = leaving x xs next w p h rs (x .cont) refl
   looked x xs next w p h rs (found n) = handled (charge OptPc.None w .answer)

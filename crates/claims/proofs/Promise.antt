@@ -244,4 +244,18 @@ not-empty =
 
 -- THE PROMISE
 pub promise : Promise steps
-promise = record { demand3 = demand3; events = events; accepts = record { await = λ c w k pc dst src m e l. await-takes w 0 c m k pc dst src e l; yield-kv = λ c w k pc dst src key m e l. kv-takes w 0 c m k pc dst src key e l; yield = λ c w k pc dst src m s e l. yield-takes w (w .setup .costs .int) c m refl s k pc dst src e l; integer = accepts-integer; finish = accepts-finish; escape = accepts-escape }; soundness = soundness; not-empty = not-empty }
+promise =
+    record {
+      demand3 = demand3;
+      events = events;
+      accepts = record {
+        await = λ c w k pc dst src m e l. await-takes w 0 c m k pc dst src e l;
+        yield-kv = λ c w k pc dst src key m e l. kv-takes w 0 c m k pc dst src key e l;
+        yield = λ c w k pc dst src m s e l. yield-takes w (w .setup .costs .int) c m refl s k pc dst src e l;
+        integer = accepts-integer;
+        finish = accepts-finish;
+        escape = accepts-escape;
+      };
+      soundness = soundness;
+      not-empty = not-empty;
+    }

@@ -182,7 +182,8 @@ restored-as c v x w (Do o) z s f a e t =
       entered = entered-at c w (Do o) z t;
       moved = subst (AllMoved (f .held .body .base) (length (w .stack)) (at (stepped (t .sent) (pcOf (doing (viewOf v) (opOf x)))) (f .held .over ++ (f .held .body ∷ [])))) (ap (λ k. map (raise (length (w .stack))) (framesWith (t .sent) k)) (sym e) ∙ back c w (Do o) z t .frames)
           (moved (f .held .body .base) (length (w .stack)) (pcOf (doing (viewOf v) (opOf x))) (t .sent) (f .held .over ++ (f .held .body ∷ [])) s (f .low) (f .frames));
-      words = t .enter .stack ∙ words-given (t .sent) (coreAt w c) (w .stack) (drop (f .held .body .base) (v .stack)) (waitsIn (doing (viewOf v) (opOf x))) (z .frames) (onTop (setPc (pcBy (act w (o .op)))) (w .frames)) (t .enter .solid) (ap (λ k. k .regs) e ∙ f .regs) (ap (λ k. k .waiting) e ∙ f .waiting) (t .enter .frames);
+      words = t .enter .stack ∙ words-given (t .sent) (coreAt w c) (w .stack) (drop (f .held .body .base) (v .stack)) (waitsIn (doing (viewOf v) (opOf x))) (z .frames)
+          (onTop (setPc (pcBy (act w (o .op)))) (w .frames)) (t .enter .solid) (ap (λ k. k .regs) e ∙ f .regs) (ap (λ k. k .waiting) e ∙ f .waiting) (t .enter .frames);
     }
 
 -- THE FIRST HALF

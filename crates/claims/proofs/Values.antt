@@ -153,7 +153,8 @@ module _ (w : World) (h : sound w ≡ true) where
 
 -- ---- the result of a finish
 
-finish-int : (kind : ResultKind) (x : ℕ) (w : World) → sound w ≡ true → x < 2 ^ 64 → isInteger kind ≡ true → (c : ℕ) (o : After Answer) → isRunning (coreAt w c .state) ≡ true → isReturned (coreAt (o .world) c .state) ≡ true → FinishCase kind x w o → dynInt (o .world) (recorded (seenOf (coro (o .world) c))) ≡ Opt.Some x
+finish-int : (kind : ResultKind) (x : ℕ) (w : World) → sound w ≡ true → x < 2 ^ 64 → isInteger kind ≡ true → (c : ℕ) (o : After Answer) → isRunning (coreAt w c .state) ≡ true
+    → isReturned (coreAt (o .world) c .state) ≡ true → FinishCase kind x w o → dynInt (o .world) (recorded (seenOf (coro (o .world) c))) ≡ Opt.Some x
 finish-int kind x w h l k c o b r (f-other e n) = no-both r (ap (λ y. isReturned (coreIn y .state)) (e c) ∙ run-returned (coreAt w c .state) b)
 finish-int kind x w h l k c o b r (f-returns f fs a chain y p q i m n ends tells ints) = go (ℕ-discrete c (a .coro))
   where

@@ -185,7 +185,8 @@ unfolding computed
 stepped-twice d = let q : _≡_ {A = ℕ} 9 8 = ap first (on-top (woken (onTop further) d refl) pcIn pcIn pc-alike) in absurd (omega (arith, q))
 
 -- bases: the top frame's and the body's are 5 words apart, and were 4
-two-moved : {v : View} {x : Option Op} {w : View} {y : Option Op} {c : ℕ} {z : View} (r : Restored v x w y c z) (p : ℕ) (f₁ f₂ : Frame) → at (stepped (sentIn (whom w y)) (pcOf (doing v x))) (found v) ≡ f₁ ∷ f₂ ∷ [] → first (map (λ k. k .base) (z .frames)) + f₂ .base ≡ second (map (λ k. k .base) (z .frames)) + f₁ .base
+two-moved : {v : View} {x : Option Op} {w : View} {y : Option Op} {c : ℕ} {z : View} (r : Restored v x w y c z) (p : ℕ) (f₁ f₂ : Frame)
+    → at (stepped (sentIn (whom w y)) (pcOf (doing v x))) (found v) ≡ f₁ ∷ f₂ ∷ [] → first (map (λ k. k .base) (z .frames)) + f₂ .base ≡ second (map (λ k. k .base) (z .frames)) + f₁ .base
 two-moved {v} {x} {w} {y} {c} {z} r p f₁ f₂ e =
     let t = r .entered in
     let ks = t .over ++ (t .body ∷ []) in
