@@ -168,8 +168,8 @@ suspend-arm p s h dst x keys v u g = go (coroSuspend s dst x keys t) (suspend-ca
               inmost = sym (g .chain) ∙ e;
               asleep = h;
               mine = d .cores (a .coro) ∙ ap coreIn (set-mine (t .slots) (a .coro) c k₁ r₁)
-              ∙ (λ i. record { state = s; regs = k₁ .regs; frames = k₁ .frames; waiting = dst; closing = ends i })
-              ∙ (λ i. heldAs (coreAt v (a .coro) .closing) s dst (a .floor) (baseAt (a .floor) (onTop (setPc p) (g .frames i))) (onTop (setPc p) (g .frames i)) (g .stack i));
+                  ∙ (λ i. record { state = s; regs = k₁ .regs; frames = k₁ .frames; waiting = dst; closing = ends i })
+                  ∙ (λ i. heldAs (coreAt v (a .coro) .closing) s dst (a .floor) (baseAt (a .floor) (onTop (setPc p) (g .frames i))) (onTop (setPc p) (g .frames i)) (g .stack i));
               others = λ n q. kept (d .cores n ∙ set-other (t .slots) (a .coro) c k₁ r₁ n q ∙ ap coreIn (g .coros n));
               under = d .under ∙ (λ i. deliverTo (a .driver) (event i) (mem (take (baseAt (a .floor) (onTop (setPc p) (g .frames i))) (g .stack i)) (below (a .floor) (onTop (setPc p) (g .frames i)))));
               outer = d .chain;

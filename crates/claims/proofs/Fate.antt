@@ -264,9 +264,12 @@ module _ (c : ℕ) (d : Driver) (bs : List ℕ) (bf : List Frame) (bc : List Act
 pub landed : (w : World) (p c : ℕ) (d : Driver) (sent : Sent) (z : World) → Lift (coreAt w c .frames) → Enter w p c d sent z → Under c d (w .stack) (onTop (setPc p) (w .frames)) (w .chain) (view z)
 landed w p c d sent z l t =
     record {
-      over = record { ext = subst (λ x. E x (z .chain)) (sym (t .frames))
-          (subst (λ x. E (map (raise (length (w .stack))) (framesWith sent (coreAt w c)) ++ fs) x) (sym (t .chain ∙ ap (λ n. active c n d ∷ w .chain) (count (w .frames)))) (join (lift-with sent (coreAt w c) l))); words = ap
-          (take (length (w .stack))) (t .stack) ∙ take-append-seam (w .stack) (wordsWith sent (coreAt w c)) };
+      over = record {
+        ext = subst (λ x. E x (z .chain)) (sym (t .frames))
+            (subst (λ x. E (map (raise (length (w .stack))) (framesWith sent (coreAt w c)) ++ fs) x) (sym (t .chain ∙ ap (λ n. active c n d ∷ w .chain) (count (w .frames)))) (join (lift-with sent (coreAt w c) l)));
+        words = ap
+            (take (length (w .stack))) (t .stack) ∙ take-append-seam (w .stack) (wordsWith sent (coreAt w c));
+      };
       runs = t .mine;
     }
   where

@@ -173,10 +173,16 @@ instr-shape w o p ok F arm e owes = gate (isNil (w .frames)) ok refl refl
     paid ch q h (c-close n c z x t) = entering (record { entry = q ∙ x; takes = h }) t
 
     gate : (a b : Bool) → isNil (w .frames) ≡ a → ok ≡ b → Shape w o (pick a (refused w Fault.NoFrame) (pick (not b) (refused w Fault.BadOperand) (andThen (charge (OptPc.Some p) w) (Gate.charged arm))) .world)
-    gate true b x y = S.works (record { entry = by ∙ ap (λ t. pick t nobody (pick (not ok) nobody (charged (charge (OptPc.Some p) w .answer) w (aimed (aim w) w)))) x; takes = held ∙ ap
-        (λ t. pick t false (pick (not ok) false (paidBy (suspendsIn o) (charge (OptPc.Some p) w .world) (charge (OptPc.Some p) w .answer)))) x }) false ending done
-    gate false false x y = S.works (record { entry = by ∙ (λ i. pick (x i) nobody (pick (not (y i)) nobody (charged (charge (OptPc.Some p) w .answer) w (aimed (aim w) w)))); takes = held ∙
-        (λ i. pick (x i) false (pick (not (y i)) false (paidBy (suspendsIn o) (charge (OptPc.Some p) w .world) (charge (OptPc.Some p) w .answer)))) }) false ending done
+    gate true b x y = S.works (record {
+      entry = by ∙ ap (λ t. pick t nobody (pick (not ok) nobody (charged (charge (OptPc.Some p) w .answer) w (aimed (aim w) w)))) x;
+      takes = held ∙ ap
+          (λ t. pick t false (pick (not ok) false (paidBy (suspendsIn o) (charge (OptPc.Some p) w .world) (charge (OptPc.Some p) w .answer)))) x;
+    }) false ending done
+    gate false false x y = S.works (record {
+      entry = by ∙ (λ i. pick (x i) nobody (pick (not (y i)) nobody (charged (charge (OptPc.Some p) w .answer) w (aimed (aim w) w))));
+      takes = held ∙
+          (λ i. pick (x i) false (pick (not (y i)) false (paidBy (suspendsIn o) (charge (OptPc.Some p) w .world) (charge (OptPc.Some p) w .answer))));
+    }) false ending done
     gate false true x y =
         paid (charge (OptPc.Some p) w) (by ∙ (λ i. pick (x i) nobody (pick (not (y i)) nobody (charged (charge (OptPc.Some p) w .answer) w (aimed (aim w) w)))))
-            (held ∙ (λ i. pick (x i) false (pick (not (y i)) false (paidBy (suspendsIn o) (charge (OptPc.Some p) w .world) (charge (OptPc.Some p) w .answer))))) (charge-case p w)
+        (held ∙ (λ i. pick (x i) false (pick (not (y i)) false (paidBy (suspendsIn o) (charge (OptPc.Some p) w .world) (charge (OptPc.Some p) w .answer))))) (charge-case p w)

@@ -210,9 +210,12 @@ finish-ends v s result w = go (coro w v) refl
   where
     go : (x : Coroutine) → coro w v ≡ x → Ends s v (coreAt w) (coreAt (changeAs x v (inState s) (ended result) w))
     go Absent e = record { mine = inr (ap (λ x. isCreated (coreIn x .state)) e, refl); others = λ u n. refl }
-    go (Is k r) e = record { mine = inl
-        (ap coreIn (set-mine (w .slots) v e (inState s k) (ended result r)) ∙ (λ i. record { state = s; regs = []; frames = []; waiting = k .waiting; closing = pick-false {A = Option ℕ} (some nil) none i }) ∙ ap (over s) (sym (ap coreIn e))); others = set-other
-        (w .slots) v e (inState s k) (ended result r) }
+    go (Is k r) e = record {
+      mine = inl
+          (ap coreIn (set-mine (w .slots) v e (inState s k) (ended result r)) ∙ (λ i. record { state = s; regs = []; frames = []; waiting = k .waiting; closing = pick-false {A = Option ℕ} (some nil) none i }) ∙ ap (over s) (sym (ap coreIn e)));
+      others = set-other
+          (w .slots) v e (inState s k) (ended result r);
+    }
 
 -- one that has not begun ends without a run
 pub unborn-ends : (v : ℕ) (s : CoroState) (k l : ℕ → Seat) → busy s ≡ false → isCreated s ≡ false → isCreated (k v .state) ≡ true → Ends s v k l → (c : ℕ) → Kept (k c) (l c)

@@ -169,8 +169,8 @@ module _ (w : World) (n c : ℕ) (m : Roomy steps n c w) where
       ∙ (ap (λ q. suspends (numberOf (call q w .answer))) (some-op e)
       ∙ (call-number w well (Op.Await pc dst src) refl
       ∙ takes pc (allIn (dst ∷ src ∷ []) w) _ (rw (← base-top (w .frames)) l) (ap
-          (λ (cs : List Active). inBody cs (λ _. tries pc CoroState.Awaiting dst (reg (spend w) src) (spend w) Keys.Keep)) (m .held .chain) ∙ accepted (spend w) spent still pc dst
-          (reg (spend w) src) CoroState.Awaiting Keys.Keep)))
+      (λ (cs : List Active). inBody cs (λ _. tries pc CoroState.Awaiting dst (reg (spend w) src) (spend w) Keys.Keep)) (m .held .chain) ∙ accepted (spend w) spent still pc dst
+      (reg (spend w) src) CoroState.Awaiting Keys.Keep)))
 
   pub kv-takes : (k : Call) (pc dst src key : ℕ) → opOf k ≡ some (Op.YieldKv pc dst src key) → lie (viewOf w) (dst ∷ src ∷ key ∷ []) ≡ true → suspends (numberOf (step w k .answer)) ≡ true
   kv-takes (SetUp s) pc dst src key e l = let z : _≡_ {A = ℕ} 0 1 = cc in absurd (omega arith)
@@ -180,8 +180,8 @@ module _ (w : World) (n c : ℕ) (m : Roomy steps n c w) where
       ∙ (ap (λ q. suspends (numberOf (call q w .answer))) (some-op e)
       ∙ (call-number w well (Op.YieldKv pc dst src key) refl
       ∙ takes pc (allIn (dst ∷ src ∷ key ∷ []) w) _ (rw (← base-top (w .frames)) l) (ap
-          (λ (cs : List Active). inBody cs (λ b. tries pc CoroState.Yielded dst (reg (spend w) src) (spend w) (keys b))) (m .held .chain) ∙ accepted (spend w) spent still pc dst
-          (reg (spend w) src) CoroState.Yielded (keys a))))
+      (λ (cs : List Active). inBody cs (λ b. tries pc CoroState.Yielded dst (reg (spend w) src) (spend w) (keys b))) (m .held .chain) ∙ accepted (spend w) spent still pc dst
+      (reg (spend w) src) CoroState.Yielded (keys a))))
 
   -- ---- a Yield: its key is made, or there is none (7)
 
@@ -249,7 +249,7 @@ module _ (w : World) (n c : ℕ) (m : Roomy steps n c w) where
             first (suspends (numberOf (call (Op.Yield pc dst src) w .answer))) _
             (call-number w well (Op.Yield pc dst src) refl
             ∙ takes pc (allIn (dst ∷ src ∷ []) w) _ ok (ap
-                (λ (cs : List Active). inBody cs (λ b. keyed (tries pc CoroState.Yielded dst (reg (spend w) src)) (autoKey (largestIn (coro (spend w) (b .coro))) (spend w) .world) (autoKey (largestIn (coro (spend w) (b .coro))) (spend w) .answer)))
-                (m .held .chain) ∙ key-made pc dst (reg (spend w) src) k q))
+            (λ (cs : List Active). inBody cs (λ b. keyed (tries pc CoroState.Yielded dst (reg (spend w) src)) (autoKey (largestIn (coro (spend w) (b .coro))) (spend w) .world) (autoKey (largestIn (coro (spend w) (b .coro))) (spend w) .answer)))
+            (m .held .chain) ∙ key-made pc dst (reg (spend w) src) k q))
         go Exact.Over q =
             ap (λ x. suspends (numberOf x) || eqb (numberOf x) 7) (number-paid pc (allIn (dst ∷ src ∷ []) w) (yield pc dst src) ok ∙ ap (answerOf 0) (seven pc dst src q)) ∙ numbered
