@@ -124,7 +124,7 @@ module _ (s : State) (given : List ℕ) (e : setUpOk given (s .words) ≡ true) 
   abbrev begun-as : Setup
   begun-as = setupOf given
 
-  given-ok : setupOk begun-as ≡ true
+  pub given-ok : setupOk begun-as ≡ true
   given-ok =
       let a = setupHeld given in
       let b = roomOk begun-as (s .words) in
