@@ -118,3 +118,52 @@ module _ (e d : Engine) (f : Follows e d) where
         kept = λ s k h. down-healthy e d f (e .next s k) (subst (Healthy d) (f .next s k) (p .kept (f .to s) (f .by s k) (up-healthy e d f s h)));
         eleven = λ s k h n. down (λ v. Eleven (v .before) (v .op)) s k (p .eleven (f .to s) (f .by s k) (up-healthy e d f s h) (f .number s k ∙ n));
       }
+
+  -- ---- not empty
+
+  -- calls of e that follow such a split of d's
+  module _ (start : e .State) (first : e .Call) (before : List (e .Call)) (x : e .Call) (waiting : List (e .Call)) (y : e .Call) (going : List (e .Call)) (z : e .Call) (c : ℕ) where
+    abbrev s₁ : e .State
+    s₁ = run e (e .next start first) before
+
+    abbrev s₂ : e .State
+    s₂ = e .next s₁ x
+
+    abbrev s₃ : e .State
+    s₃ = run e s₂ waiting
+
+    abbrev s₄ : e .State
+    s₄ = e .next s₃ y
+
+    abbrev s₅ : e .State
+    s₅ = run e s₄ going
+
+    abbrev ws : List (d .Call)
+    ws = along e d f s₂ waiting
+
+    abbrev gs : List (d .Call)
+    gs = along e d f s₄ going
+
+    pub not-empty : Restarts e start first → Premises d c (f .to s₁) (f .by s₁ x) ws (f .by s₃ y) gs (f .by s₅ z) → NotEmpty e
+    not-empty r p =
+        let at₂ = f .next s₁ x in
+        let at₃ : run d (d .next (f .to s₁) (f .by s₁ x)) ws ≡ f .to s₃ = ap (λ u. run d u ws) at₂ ∙ ran e d f s₂ waiting in
+        let at₄ : d .next (run d (d .next (f .to s₁) (f .by s₁ x)) ws) (f .by s₃ y) ≡ f .to s₄ = ap (λ u. d .next u (f .by s₃ y)) at₃ ∙ f .next s₃ y in
+        let at₅ : run d (d .next (run d (d .next (f .to s₁) (f .by s₁ x)) ws) (f .by s₃ y)) gs ≡ f .to s₅ = ap (λ u. run d u gs) at₄ ∙ ran e d f s₄ going in
+        record {
+          start = start;
+          first = first;
+          accepted = r;
+          before = before;
+          x = x;
+          waiting = waiting;
+          y = y;
+          going = going;
+          z = z;
+          c = c;
+          suspends = down-suspends e d f s₁ x c (p .suspends);
+          waits = down-waits e d f c s₂ waiting (subst (λ u. Waits d c u ws) at₂ (p .waits));
+          enters = down-enters e d f s₃ y c (subst (λ u. Enters d c u (f .by s₃ y)) at₃ (p .enters));
+          goes = down-goes e d f c s₄ going (subst (λ u. Goes d c u gs) at₄ (p .goes));
+          leaves = down-leaves e d f s₅ z c (subst (λ u. Leaves d c u (f .by s₅ z)) at₅ (p .leaves));
+        }

@@ -106,35 +106,30 @@ module _ (e d : Engine) (f : Follows e d) where
 
   -- ---- lists of calls
 
-  pub along : e .State → List (e .Call) → List (d .Call)
+  abbrev pub along : e .State → List (e .Call) → List (d .Call)
   along s [] = []
   along s (k ∷ ks) = f .by s k ∷ along (e .next s k) ks
 
   pub ran : (s : e .State) (ks : List (e .Call)) → run d (f .to s) (along s ks) ≡ f .to (run e s ks)
-  unfolding along
   ran s [] = refl
   ran s (k ∷ ks) = ap (λ x. run d x (along (e .next s k) ks)) (f .next s k) ∙ ran (e .next s k) ks
 
   pub up-waits : (c : ℕ) (s : e .State) (ks : List (e .Call)) → Waits e c s ks → Waits d c (f .to s) (along s ks)
-  unfolding along
   up-waits c s [] h = tt
   up-waits c s (k ∷ ks) (a, b, h) =
       (λ x. a (down-restarts s k x), λ x. b (down-enters s k c x), subst (λ x. Waits d c x (along (e .next s k) ks)) (sym (f .next s k)) (up-waits c (e .next s k) ks h))
 
   pub down-waits : (c : ℕ) (s : e .State) (ks : List (e .Call)) → Waits d c (f .to s) (along s ks) → Waits e c s ks
-  unfolding along
   down-waits c s [] h = tt
   down-waits c s (k ∷ ks) (a, b, h) =
       (λ x. a (up-restarts s k x), λ x. b (up-enters s k c x), down-waits c (e .next s k) ks (subst (λ x. Waits d c x (along (e .next s k) ks)) (f .next s k) h))
 
   pub up-goes : (c : ℕ) (s : e .State) (ks : List (e .Call)) → Goes e c s ks → Goes d c (f .to s) (along s ks)
-  unfolding along
   up-goes c s [] h = tt
   up-goes c s (k ∷ ks) (a, b, h) =
       (λ x. a (down-restarts s k x), λ x. b (down-leaves s k c x), subst (λ x. Goes d c x (along (e .next s k) ks)) (sym (f .next s k)) (up-goes c (e .next s k) ks h))
 
   pub down-goes : (c : ℕ) (s : e .State) (ks : List (e .Call)) → Goes d c (f .to s) (along s ks) → Goes e c s ks
-  unfolding along
   down-goes c s [] h = tt
   down-goes c s (k ∷ ks) (a, b, h) =
       (λ x. a (up-restarts s k x), λ x. b (up-leaves s k c x), down-goes c (e .next s k) ks (subst (λ x. Goes d c x (along (e .next s k) ks)) (f .next s k) h))

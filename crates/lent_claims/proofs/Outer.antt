@@ -52,7 +52,7 @@ sound-to s e = ap (λ b. pick b (decoded s) (spoiled (decoded s))) e ∙ pick-tr
 unsound-to : (s : State) → isSound s ≡ false → sound (to s) ≡ false
 unsound-to s e = ap (λ b. sound (pick b (decoded s) (spoiled (decoded s)))) e ∙ ap sound (pick-false (decoded s) (spoiled (decoded s))) ∙ spoiled-unsound (decoded s)
 
-view : (s : State) → viewOf (to s) ≡ viewOf (decoded s)
+pub view : (s : State) → viewOf (to s) ≡ viewOf (decoded s)
 view s = picked (λ (w : World). viewOf w ≡ viewOf (decoded s)) (isSound s) (λ _. refl) (λ _. refl)
 
 -- ---- operations
@@ -114,21 +114,21 @@ abbrev pub by : State → Call → Model.Call
 by s (SetUp given) = setting (setUpOk given (s .words)) given
 by s (Do o) = Model.Do o
 
-op : (s : State) (k : Call) → Steps.opOf (by s k) ≡ opOf k
+pub op : (s : State) (k : Call) → Steps.opOf (by s k) ≡ opOf k
 op s (SetUp given) = picked (λ (c : Model.Call). Steps.opOf c ≡ none) (setUpOk given (s .words)) (λ _. refl) (λ _. refl)
 op s (Do o) = refl
 
-next : (s : State) (k : Call) → step (to s) (by s k) .world ≡ to (outer .next s k)
+pub next : (s : State) (k : Call) → step (to s) (by s k) .world ≡ to (outer .next s k)
 next s (SetUp given) = next-set-up s given (setUpOk given (s .words)) refl
 next s (Do o) = next-do s o (isSound s) refl
 
-number : (s : State) (k : Call) → numberOf (step (to s) (by s k) .answer) ≡ outer .number s k
+pub number : (s : State) (k : Call) → numberOf (step (to s) (by s k) .answer) ≡ outer .number s k
 number s (SetUp given) = number-set-up s given (setUpOk given (s .words)) refl
 number s (Do o) = number-do s o (isSound s) refl
 
-some-call : (s : State) (k : Model.Call) (o : Op) → Steps.opOf k ≡ some o → (j : Call) × (by s j ≡ k)
+pub some-call : (s : State) (k : Model.Call) (o : Op) → Steps.opOf k ≡ some o → (j : Call) × (by s j ≡ k)
 some-call s (Model.SetUp u) o q = let z : _≡_ {A = ℕ} 0 1 = cc in absurd (omega arith)
 some-call s (Model.Do p) o q = (Do p, refl)
 
-pub follows : Follows outer steps
+abbrev pub follows : Follows outer steps
 follows = record { to = to; by = by; view = view; op = op; next = next; number = number; some-call = some-call }
