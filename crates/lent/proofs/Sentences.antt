@@ -165,7 +165,7 @@ tested s o h = go (isSound s) refl
 
 -- ---- zeros
 
-clear : (s : State) → isSound s ≡ true → Clear s
+pub clear : (s : State) → isSound s ≡ true → Clear s
 clear s e =
     let M = s .words in
     let m = s .machine in

@@ -2,3 +2,5 @@ pub mod Follows
 pub mod Carried
 pub mod Outer
 pub mod NotEmpty
+pub mod Stack
+pub mod Claim
