@@ -32,7 +32,7 @@ use Rattle.sound.specs.Exactly.{Stands}
 use Rattle.sound.proofs.Passed.{room-of}
 use Rattle.sound.proofs.Exactly as Words
 use Rattle.lent.specs.Step as Outer
-use Rattle.lent.specs.Step.{State, Left, left, refuses, stateIn, isSound, decoded, stepWords, setUpOk, setUpWords, Call, SetUp, Do}
+use Rattle.lent.specs.Step.{State, Left, refuses, stateIn, isSound, decoded, does, stepWords, setUpOk, begins, setUpWords, Call, SetUp, Do}
 use Rattle.lent.specs.Kept.{Kept}
 use Rattle.lent.proofs.Lengths.{same-lengths}
 
@@ -98,15 +98,15 @@ module _ (s : State) (o : Operation) (e : isSound s ≡ true) where
       let p = ap (λ (x : World). x .setup) (sym after-is) ∙ sentences .set-up-stays (decoded s) o in
       subst (λ (u : Setup). Room u (s .words)) (sym p) (stood s e .room)
 
-  pub stepped : stepWords s (o .op) ≡ left (stateIn (lengthsOf (s .words)) after) (call (o .op) (decoded s) .answer)
+  pub stepped : stepWords s (o .op) ≡ does s (o .op)
   unfolding stepWords
-  stepped = ap (λ b. pick b (left (stateIn (lengthsOf (s .words)) after) (call (o .op) (decoded s) .answer)) (refuses s Fault.Unsound)) e ∙ pick-true _ _
+  stepped = ap (λ b. pick b (does s (o .op)) (refuses s Fault.Unsound)) e ∙ pick-true _ _
 
   kept : isSound (stepWords s (o .op) .state) ≡ true
   kept = ap (λ (x : Left). isSound (x .state)) stepped ∙ passes after (s .words) after-sound after-room
 
-  does : decoded (stepWords s (o .op) .state) ≡ after
-  does = ap (λ (x : Left). decoded (x .state)) stepped ∙ back after (s .words) after-sound after-room
+  leaves : decoded (stepWords s (o .op) .state) ≡ after
+  leaves = ap (λ (x : Left). decoded (x .state)) stepped ∙ back after (s .words) after-sound after-room
 
   kept-lengths : lengthsOf (stepWords s (o .op) .state .words) ≡ lengthsOf (s .words)
   kept-lengths = ap (λ (x : Left). lengthsOf (x .state .words)) stepped ∙ same-lengths after (s .words) after-sound after-room
@@ -114,9 +114,7 @@ module _ (s : State) (o : Operation) (e : isSound s ≡ true) where
 -- words that are not sound stay
 pub refused-words : (s : State) (o : Operation) → isSound s ≡ false → stepWords s (o .op) ≡ refuses s Fault.Unsound
 unfolding stepWords
-refused-words s o e =
-    let did = call (o .op) (decoded s) in
-    ap (λ b. pick b (left (stateIn (lengthsOf (s .words)) (did .world)) (did .answer)) (refuses s Fault.Unsound)) e ∙ pick-false _ _
+refused-words s o e = ap (λ b. pick b (does s (o .op)) (refuses s Fault.Unsound)) e ∙ pick-false _ _
 
 -- ---- a set-up
 
@@ -141,22 +139,22 @@ module _ (s : State) (given : List ℕ) (e : setUpOk given (s .words) ≡ true) 
   given-sound : sound (fresh begun-as) ≡ true
   given-sound = soundness-kept .begun begun-as given-ok
 
-  pub set-up : setUpWords s given ≡ left (stateIn (lengthsOf (s .words)) (fresh begun-as)) Answer.Accepted
+  pub set-up : setUpWords s given ≡ begins s given
   unfolding setUpWords
-  set-up = ap (λ b. pick b (left (stateIn (lengthsOf (s .words)) (fresh begun-as)) Answer.Accepted) (refuses s Fault.Unsound)) e ∙ pick-true _ _
+  set-up = ap (λ b. pick b (begins s given) (refuses s Fault.Unsound)) e ∙ pick-true _ _
 
   begun : isSound (setUpWords s given .state) ≡ true
   begun = ap (λ (x : Left). isSound (x .state)) set-up ∙ passes (fresh begun-as) (s .words) given-sound given-room
 
-  begins : decoded (setUpWords s given .state) ≡ fresh begun-as
-  begins = ap (λ (x : Left). decoded (x .state)) set-up ∙ back (fresh begun-as) (s .words) given-sound given-room
+  anew : decoded (setUpWords s given .state) ≡ fresh begun-as
+  anew = ap (λ (x : Left). decoded (x .state)) set-up ∙ back (fresh begun-as) (s .words) given-sound given-room
 
   begun-lengths : lengthsOf (setUpWords s given .state .words) ≡ lengthsOf (s .words)
   begun-lengths = ap (λ (x : Left). lengthsOf (x .state .words)) set-up ∙ same-lengths (fresh begun-as) (s .words) given-sound given-room
 
 pub refused-set-up : (s : State) (given : List ℕ) → setUpOk given (s .words) ≡ false → setUpWords s given ≡ refuses s Fault.Unsound
 unfolding setUpWords
-refused-set-up s given e = ap (λ b. pick b (left (stateIn (lengthsOf (s .words)) (fresh (setupOf given))) Answer.Accepted) (refuses s Fault.Unsound)) e ∙ pick-false _ _
+refused-set-up s given e = ap (λ b. pick b (begins s given) (refuses s Fault.Unsound)) e ∙ pick-false _ _
 
 -- ---- both
 
@@ -182,8 +180,9 @@ words-kept =
       room = λ s e. stood s e .room;
       own = own;
       kept = kept;
-      does = does;
+      leaves = leaves;
+      once = stepped;
       begun = begun;
-      begins = begins;
+      anew = anew;
       lengths = lengths;
     }

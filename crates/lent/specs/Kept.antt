@@ -11,7 +11,7 @@ use Rattle.model.specs.Step.{call}
 use Rattle.memory.specs.Memory.{Lent, Room}
 use Rattle.words.specs.Words.{lengthsOf}
 use Rattle.words.specs.Decode.{setupOf}
-use Rattle.lent.specs.Step.{State, stateIn, isSound, decoded, stepWords, setUpOk, setUpWords, Call, step}
+use Rattle.lent.specs.Step.{State, stateIn, isSound, decoded, does, stepWords, setUpOk, setUpWords, Call, step}
 
 pub record Kept : Type 0 where
   -- a sound world in slices with room: it comes back, its words pass the test, and the slices are as long as said
@@ -24,9 +24,11 @@ pub record Kept : Type 0 where
   pub own : (s : State) → isSound s ≡ true → stateIn (lengthsOf (s .words)) (decoded s) ≡ s
   -- a call on sound words leaves sound words, of what the call leaves
   pub kept : (s : State) (o : Operation) → isSound s ≡ true → isSound (stepWords s (o .op) .state) ≡ true
-  pub does : (s : State) (o : Operation) → isSound s ≡ true → decoded (stepWords s (o .op) .state) ≡ call (o .op) (decoded s) .world
+  pub leaves : (s : State) (o : Operation) → isSound s ≡ true → decoded (stepWords s (o .op) .state) ≡ call (o .op) (decoded s) .world
+  -- and so one test is enough for many calls: it does the same without it
+  pub once : (s : State) (o : Operation) → isSound s ≡ true → stepWords s (o .op) ≡ does s (o .op)
   -- an accepted set-up leaves sound words, whatever stood there
   pub begun : (s : State) (given : List ℕ) → setUpOk given (s .words) ≡ true → isSound (setUpWords s given .state) ≡ true
-  pub begins : (s : State) (given : List ℕ) → setUpOk given (s .words) ≡ true → decoded (setUpWords s given .state) ≡ fresh (setupOf given)
+  pub anew : (s : State) (given : List ℕ) → setUpOk given (s .words) ≡ true → decoded (setUpWords s given .state) ≡ fresh (setupOf given)
   -- every slice keeps its length
   pub lengths : (s : State) (k : Call) → lengthsOf (step s k .state .words) ≡ lengthsOf (s .words)

@@ -70,7 +70,7 @@ unfolding pick
 read = refl
 
 begins : to (outer .next start first) ≡ fresh wide
-begins = sound-to (setUpWords start (setupWords wide) .state) (words-kept .begun start (setupWords wide) taken) ∙ words-kept .begins start (setupWords wide) taken ∙ ap fresh read
+begins = sound-to (setUpWords start (setupWords wide) .state) (words-kept .begun start (setupWords wide) taken) ∙ words-kept .anew start (setupWords wide) taken ∙ ap fresh read
 
 split-met : premises steps c (run steps (fresh wide) before) (nth held 13) (between held 13 23) (nth held 23) (between held 23 26) (nth held 26) ≡ true
 unfolding computed before

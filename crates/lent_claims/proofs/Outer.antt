@@ -67,7 +67,7 @@ module _ (s : State) (o : Operation) where
   next-do true e =
       ap (λ (w : World). step w (Model.Do o) .world) (sound-to s e)
       ∙ ap (λ (x : Out). x .world) (untested (decoded s) o (words-kept .stands s e))
-      ∙ sym (words-kept .does s o e)
+      ∙ sym (words-kept .leaves s o e)
       ∙ sym (sound-to (stepWords s (o .op) .state) (words-kept .kept s o e))
   next-do false e = ap (λ (x : Out). x .world) (stays (to s) o (unsound-to s e)) ∙ ap (λ (x : Left). to (x .state)) (sym (refused-words s o e))
 
@@ -100,7 +100,7 @@ module _ (s : State) (given : List ℕ) where
 
   next-set-up : (b : Bool) → setUpOk given (s .words) ≡ b → step (to s) (setting (setUpOk given (s .words)) given) .world ≡ to (setUpWords s given .state)
   unfolding pick
-  next-set-up true e = ap (λ (x : Out). x .world) (did true e) ∙ sym (words-kept .begins s given e) ∙ sym (sound-to (setUpWords s given .state) (words-kept .begun s given e))
+  next-set-up true e = ap (λ (x : Out). x .world) (did true e) ∙ sym (words-kept .anew s given e) ∙ sym (sound-to (setUpWords s given .state) (words-kept .begun s given e))
   next-set-up false e = ap (λ (x : Out). x .world) (did false e) ∙ ap (λ (x : Left). to (x .state)) (sym (refused-set-up s given e))
 
   number-set-up : (b : Bool) → setUpOk given (s .words) ≡ b → numberOf (step (to s) (setting (setUpOk given (s .words)) given) .answer) ≡ numberOf (setUpWords s given .answer)
