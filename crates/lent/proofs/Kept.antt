@@ -16,8 +16,7 @@ use Rattle.model.specs.Gate.{refused}
 use Rattle.model.specs.Call.{Operation}
 use Rattle.model.specs.Call as Model
 use Rattle.model.specs.Step.{Out, told, call, tested, step}
-use Rattle.model.specs.declared.call.Answer.{Answer}
-use Rattle.invariant.proofs.Tests.{and-left, and-right, picked}
+use Rattle.invariant.proofs.Tests.{and-left, and-right}
 use Rattle.invariant.proofs.Kept.{soundness-kept}
 use Rattle.sheet.proofs.Sentences.{sentences}
 use Rattle.tables.specs.Sizes.{setupWords, stackSize, framesSize, chainSize, savedStackSize, savedFramesSize, slotsSize, queueSize, setupSize}
@@ -27,7 +26,6 @@ use Rattle.words.specs.Decode.{setupOf}
 use Rattle.words.proofs.Encoded.{every-world}
 use Rattle.words.proofs.Decoded.{one-world}
 use Rattle.sound.specs.Words.{same, setupHeld, roomOk}
-use Rattle.sound.specs.Exactly as Exactly
 use Rattle.sound.specs.Exactly.{Stands}
 use Rattle.sound.proofs.Passed.{room-of}
 use Rattle.sound.proofs.Exactly as Words

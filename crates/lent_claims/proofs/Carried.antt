@@ -6,7 +6,6 @@ use mathlib.Core.List.{List, [], _∷_, _++_}
 use mathlib.Core.Option.{some}
 use lib.ListN.{length, drop}
 use lib.Dec.{eqb}
-use Rattle.model.specs.declared.call.Op.{Op}
 use Rattle.claims.specs.Engine.{Seen, View, Engine, run}
 use Rattle.claims.specs.Says.{doing, lie}
 use Rattle.claims.specs.Held.{Held, By, Entered, Restored}
@@ -15,7 +14,7 @@ use Rattle.claims.specs.Demand3.{Enters, Suspends, Leaves, Restarts, Waits, Goe
 use Rattle.claims.specs.Events.{Healthy, onBody, raisedAt, suspended, returned, Events}
 use Rattle.claims.specs.Promise.{suspends, Roomy, Accepts, Eleven, Soundness, NotEmpty}
 use Rattle.claims.proofs.Premises.{Premises}
-use Rattle.lent_claims.proofs.Follows.{Follows, Sight, sight, same, up-enters, down-enters, up-suspends, down-suspends, up-returns, down-returns, up-leaves, down-leaves, up-restarts, down-restarts, up-healthy, down-healthy, along, ran, up-waits, down-waits, up-goes, down-goes}
+use Rattle.lent_claims.proofs.Follows.{Follows, Sight, sight, same, up-enters, down-enters, up-suspends, down-suspends, up-returns, down-returns, up-leaves, down-leaves, up-restarts, up-healthy, down-healthy, along, ran, up-waits, down-waits, up-goes, down-goes}
 
 module _ (e d : Engine) (f : Follows e d) where
   -- what holds of all that d shows of a call holds of what e shows, and back

@@ -9,12 +9,11 @@ use Rattle.model.specs.Call.{typed, Operation}
 use Rattle.model.specs.declared.call.Op.{Op}
 use Rattle.invariant.proofs.Tests.{no-true}
 use Rattle.claims.specs.Engine.{run}
-use Rattle.claims.specs.Demand3.{Enters}
 use Rattle.claims.specs.Events.{Healthy}
 use Rattle.claims.specs.Promise.{Promise}
 use Rattle.claims.specs.Steps.{steps}
 use Rattle.claims.proofs.Promise as Steps
-use Rattle.lent.specs.Step.{State, Left, isSound, decoded, stepWords, setUpOk, setUpWords, Call, SetUp, Do, step}
+use Rattle.lent.specs.Step.{State, Left, isSound, decoded, setUpOk, setUpWords, Call, SetUp, Do, step}
 use Rattle.lent.specs.Sentences.{number, NoSuchFault}
 use Rattle.lent.proofs.Kept.{words-kept, refused-set-up}
 use Rattle.lent.proofs.Sentences.{sentences}

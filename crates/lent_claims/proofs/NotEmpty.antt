@@ -5,7 +5,7 @@ use mathlib.Core.Bool.{true, false}
 use mathlib.Core.List.{List, map}
 use lib.ListN.{take, drop, replicate}
 use Rattle.lists.specs.Pick.{pick}
-use Rattle.model.specs.World.{World, fresh}
+use Rattle.model.specs.World.{fresh}
 use Rattle.model.specs.Call as Model
 use Rattle.model.specs.Compute.{computed}
 use Rattle.heap.specs.declared.value.Opt.{Opt}
@@ -20,7 +20,7 @@ use Rattle.claims.specs.Steps.{steps}
 use Rattle.claims.specs.Story.{wide, c, held}
 use Rattle.claims.specs.Witness.{nth, between}
 use Rattle.claims.proofs.Premises.{Premises, premises-met}
-use Rattle.lent.specs.Step.{State, isSound, setUpOk, setUpWords, Call, SetUp, Do}
+use Rattle.lent.specs.Step.{State, setUpOk, setUpWords, Call, SetUp, Do}
 use Rattle.lent.proofs.Kept.{words-kept}
 use Rattle.lent.proofs.Sentences as Sentences
 use Rattle.lent_claims.specs.Engine.{outer}

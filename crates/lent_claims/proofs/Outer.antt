@@ -5,7 +5,7 @@ use native.Mathlib.Omega.{arith}
 use mathlib.Core.Path.{_≡_, refl, sym, ap, _∙_}
 use mathlib.Core.Bool.{Bool, true, false}
 use mathlib.Core.List.{List}
-use mathlib.Core.Option.{Option, none, some}
+use mathlib.Core.Option.{none, some}
 use Rattle.lists.specs.Pick.{pick, pick-true, pick-false}
 use Rattle.heap.specs.declared.fault.Fault.{Fault}
 use Rattle.model.specs.Program.{Setup, setupOk}
@@ -52,8 +52,8 @@ sound-to s e = ap (λ b. pick b (decoded s) (spoiled (decoded s))) e ∙ pick-tr
 unsound-to : (s : State) → isSound s ≡ false → sound (to s) ≡ false
 unsound-to s e = ap (λ b. sound (pick b (decoded s) (spoiled (decoded s)))) e ∙ ap sound (pick-false (decoded s) (spoiled (decoded s))) ∙ spoiled-unsound (decoded s)
 
-pub view : (s : State) → viewOf (to s) ≡ viewOf (decoded s)
-view s = picked (λ (w : World). viewOf w ≡ viewOf (decoded s)) (isSound s) (λ _. refl) (λ _. refl)
+pub view : (s : State) → viewOf (to s) ≡ outer .view s
+view s = picked (λ (w : World). viewOf w ≡ outer .view s) (isSound s) (λ _. refl) (λ _. refl)
 
 -- ---- operations
 
