@@ -1,6 +1,6 @@
 -- Outer calls on lent words follow `step` on worlds. Words that are not sound follow a world that is not sound either and is seen alike;
 -- a set-up that is refused, for its words or for lack of room, follows one that is refused. Assumes nothing.
-use Prim.Native.Nat.{ℕ, suc}
+use Prim.Native.Nat.{ℕ, _^_}
 use native.Mathlib.Omega.{arith}
 use mathlib.Core.Path.{_≡_, refl, sym, ap, _∙_}
 use mathlib.Core.Bool.{Bool, true, false}
@@ -9,7 +9,7 @@ use mathlib.Core.Option.{none, some}
 use Rattle.lists.specs.Pick.{pick, pick-true, pick-false}
 use Rattle.heap.specs.declared.fault.Fault.{Fault}
 use Rattle.model.specs.Program.{Setup, setupOk}
-use Rattle.model.specs.World.{World, withUsed, fresh}
+use Rattle.model.specs.World.{World, withOutcome, fresh}
 use Rattle.model.specs.Sound.{sound}
 use Rattle.model.specs.Gate.{refused}
 use Rattle.model.specs.Added.{accepted}
@@ -18,6 +18,8 @@ use Rattle.model.specs.Call.{Operation}
 use Rattle.model.specs.Call as Model
 use Rattle.model.specs.Step.{Out, told, call, tested, step}
 use Rattle.model.specs.Compute.{computed}
+use Rattle.model.specs.declared.machine.Stop.{Stop}
+use Rattle.model.specs.declared.machine.Outcome.{Outcome}
 use Rattle.model.specs.declared.call.Op.{Op}
 use Rattle.invariant.proofs.Tests.{no-false, picked}
 use Rattle.invariant.proofs.Sound.{sound→}
@@ -32,15 +34,15 @@ use Rattle.lent_claims.proofs.Follows.{Follows}
 
 -- ---- states
 
--- more memory is used than there is, which no view shows
+-- an outcome that no machine has, and no view shows
 abbrev spoiled : World → World
-spoiled w = withUsed (suc (w .setup .limits .memory)) w
+spoiled w = withOutcome (Outcome.Some (Stop.Failed 0 (2 ^ 32) 0)) w
 
 spoiled-unsound : (w : World) → sound (spoiled w) ≡ false
 spoiled-unsound w = go (sound (spoiled w)) refl
   where
     go : (b : Bool) → sound (spoiled w) ≡ b → b ≡ false
-    go true e = let h = sound→ {ex = false} (spoiled w) e (λ z. no-false z) .room in absurd (omega (arith, h))
+    go true e = no-false (sound→ {ex = false} (spoiled w) e (λ z. no-false z) .outcome)
     go false e = refl
 
 abbrev pub to : State → World
