@@ -1,20 +1,22 @@
 -- An engine that follows another keeps what the other promises, field by field. Assumes nothing.
-use Prim.Native.Nat.{ℕ, _≤_}
+use Prim.Native.Nat.{ℕ, _+_, _-_, _*_}
 use mathlib.Core.Path.{_≡_, sym, ap, _∙_, subst}
-use mathlib.Core.Bool.{false}
+use mathlib.Core.Bool.{true, false, _||_}
 use mathlib.Core.List.{List, [], _∷_, _++_}
-use mathlib.Core.Option.{some}
+use mathlib.Core.Option.{none, some}
 use lib.ListN.{length, drop}
 use lib.Dec.{eqb}
-use Rattle.claims.specs.Engine.{Seen, View, Engine, run}
+use Rattle.lists.specs.Pick.{pick}
+use Rattle.heap.specs.declared.value.Opt.{Opt}
+use Rattle.claims.specs.Engine.{Seen, View, Engine, run, runs, awaits, is}
 use Rattle.claims.specs.Says.{doing, lie}
-use Rattle.claims.specs.Held.{Held, By, Entered, Restored}
-use Rattle.claims.specs.Delivery.{Left}
+use Rattle.claims.specs.Held.{Held, closer, By, Entered, Restored}
+use Rattle.claims.specs.Delivery.{recorded, Left}
 use Rattle.claims.specs.Demand3.{Enters, Suspends, Leaves, Restarts, Waits, Goes, Demand3}
-use Rattle.claims.specs.Events.{Healthy, onBody, raisedAt, suspended, returned, Events}
-use Rattle.claims.specs.Promise.{suspends, Roomy, Accepts, Eleven, Soundness, NotEmpty}
+use Rattle.claims.specs.Events.{Healthy, onBody, raisedAt, suspended, returned, Lost, lives, Fixed, Events}
+use Rattle.claims.specs.Promise.{suspends, room, Roomy, Makes, Accepts, Eleven, Soundness, NotEmpty}
 use Rattle.claims.proofs.Premises.{Premises}
-use Rattle.lent_claims.proofs.Follows.{Follows, Sight, sight, same, up-enters, down-enters, up-suspends, down-suspends, up-returns, down-returns, up-leaves, down-leaves, up-restarts, up-healthy, down-healthy, along, ran, up-waits, down-waits, up-goes, down-goes}
+use Rattle.lent_claims.proofs.Follows.{Follows, Sight, sight, same, up-enters, down-enters, up-suspends, down-suspends, up-returns, down-returns, up-fails, down-fails, up-leaves, down-leaves, up-restarts, down-restarts, up-healthy, down-healthy, along, ran, up-waits, down-waits, up-goes, down-goes}
 
 module _ (e d : Engine) (f : Follows e d) where
   -- what holds of all that d shows of a call holds of what e shows, and back
@@ -70,6 +72,9 @@ module _ (e d : Engine) (f : Follows e d) where
   abbrev returned-is : ℕ → Sight → Type 0
   returned-is c v = returned (v .before) (doing (v .before) (v .op)) (v .number) ≡ some c
 
+  abbrev lost-in : ℕ → Sight → Type 0
+  lost-in c v = Lost (v .before) (v .number) c (v .op)
+
   pub events : Events d → Events e
   events p =
       record {
@@ -79,6 +84,16 @@ module _ (e d : Engine) (f : Follows e d) where
         suspended = λ c s k h. down-suspends e d f s k c (p .suspended c (f .to s) (f .by s k) (up (suspended-is c) s k h));
         returns = λ c s k h. down (returned-is c) s k (p .returns c (f .to s) (f .by s k) (up-returns e d f s k c h));
         returned = λ c s k ok h. down-returns e d f s k c (p .returned c (f .to s) (f .by s k) (up-healthy e d f s ok) (up (returned-is c) s k h));
+        fails = λ c s k h. down (lost-in c) s k (p .fails c (f .to s) (f .by s k) (up-fails e d f s k c h));
+        failed = λ c s k ok r h. down-fails e d f s k c (p .failed c (f .to s) (f .by s k) (up-healthy e d f s ok) (ap (λ v. is v runs c) (f .view s) ∙ r) (up (lost-in c) s k h));
+        integer = λ c s k kind x h o i.
+            down (λ v. v .after .integer (recorded (v .after .coro c)) ≡ Opt.Some x) s k (p .integer c (f .to s) (f .by s k) kind x (up-returns e d f s k c h) (f .op s k ∙ o) i);
+        yielded = λ c s k h.
+            down (λ v. closer (v .after .coro c) ≡ pick (is (v .after) awaits c) (closer (v .before .coro c)) none) s k (p .yielded c (f .to s) (f .by s k) (up-suspends e d f s k c h));
+        closing = λ c s k r h g l.
+            down (λ v. closer (v .after .coro c) ≡ closer (v .before .coro c)) s k
+            (p .closing c (f .to s) (f .by s k) (λ x. r (down-restarts e d f s k x)) (λ x. h (down-enters e d f s k c x)) (λ x. g (down-suspends e d f s k c x)) (up (λ v. is (v .after) lives c ≡ true) s k l));
+        fixed = λ s k r. down (λ v. Fixed (v .before) (v .after)) s k (p .fixed (f .to s) (f .by s k) (λ x. r (down-restarts e d f s k x)));
         one-switch = λ c u s k h g. p .one-switch c u (f .to s) (f .by s k) (up-enters e d f s k c h) (up-suspends e d f s k u g);
         no-return = λ c u s k h g. p .no-return c u (f .to s) (f .by s k) (up-enters e d f s k c h) (up-returns e d f s k u g);
         one-leaves = λ c u s k h g. p .one-leaves c u (f .to s) (f .by s k) (up-suspends e d f s k c h) (up-returns e d f s k u g);
@@ -86,24 +101,32 @@ module _ (e d : Engine) (f : Follows e d) where
 
   -- ---- acceptance
 
-  -- what is seen of a state in which c has room to suspend
-  Roomily : ℕ → View → Type 0
-  Roomily c v =
-      (eqb (v .fuel .fuel) 0 ≡ false) × (held : Held v c) × (seen : Seen) × (v .coro c ≡ some seen) × (length (drop (held .body .base) (v .stack)) ≤ seen .mostWords) × (length (held .over ++ (held .body ∷ [])) ≤ seen .mostFrames)
+  -- what is seen of a state in which c has room to suspend, and n bytes more
+  Roomily : ℕ → ℕ → View → Type 0
+  Roomily n c v =
+      (eqb (v .fuel .fuel) 0 ≡ false) × (held : Held v c) × (seen : Seen) × (v .coro c ≡ some seen)
+      × (room v (n + ((length (drop (held .body .base) (v .stack)) - seen .mostWords) * 8 + (length (held .over ++ (held .body ∷ [])) - seen .mostFrames) * v .frameCost)) ≡ true)
 
-  roomy : (c : ℕ) (s : e .State) → Roomy e c s → Roomy d c (f .to s)
+  roomy : (n c : ℕ) (s : e .State) → Roomy e n c s → Roomy d n c (f .to s)
   unfolding Roomily
-  roomy c s r =
-      let (fuel, held, seen, there, words, frames) = subst (Roomily c) (sym (f .view s)) (r .fuel, r .held, r .seen, r .there, r .words, r .frames) in
-      record { healthy = up-healthy e d f s (r .healthy); fuel = fuel; held = held; seen = seen; there = there; words = words; frames = frames }
+  roomy n c s r =
+      let (fuel, held, seen, there, grows) = subst (Roomily n c) (sym (f .view s)) (r .fuel, r .held, r .seen, r .there, r .grows) in
+      record { healthy = up-healthy e d f s (r .healthy); fuel = fuel; held = held; seen = seen; there = there; grows = grows }
+
+  -- the operands lie in the frame
+  lying : (s : e .State) (rs : List ℕ) → lie (e .view s) rs ≡ true → lie (d .view (f .to s)) rs ≡ true
+  lying s rs l = ap (λ v. lie v rs) (f .view s) ∙ l
 
   pub accepts : Accepts d → Accepts e
   accepts p =
       record {
-        await = λ c s k pc dst src r o l.
-            ap suspends (sym (f .number s k)) ∙ p .await c (f .to s) (f .by s k) pc dst src (roomy c s r) (f .op s k ∙ o) (ap (λ v. lie v (dst ∷ src ∷ [])) (f .view s) ∙ l);
-        yield-kv = λ c s k pc dst src key r o l.
-            ap suspends (sym (f .number s k)) ∙ p .yield-kv c (f .to s) (f .by s k) pc dst src key (roomy c s r) (f .op s k ∙ o) (ap (λ v. lie v (dst ∷ src ∷ key ∷ [])) (f .view s) ∙ l);
+        await = λ c s k pc dst src r o l. ap suspends (sym (f .number s k)) ∙ p .await c (f .to s) (f .by s k) pc dst src (roomy 0 c s r) (f .op s k ∙ o) (lying s (dst ∷ src ∷ []) l);
+        yield-kv = λ c s k pc dst src key r o l. ap suspends (sym (f .number s k)) ∙ p .yield-kv c (f .to s) (f .by s k) pc dst src key (roomy 0 c s r) (f .op s k ∙ o) (lying s (dst ∷ src ∷ key ∷ []) l);
+        yield = λ c s k pc dst src r full o l.
+            let r′ = subst (λ n. Roomy d n c (f .to s)) (ap (λ v. v .intCost) (sym (f .view s))) (roomy (e .view s .intCost) c s r) in
+            ap (λ n. suspends n || eqb n 7) (sym (f .number s k)) ∙ p .yield c (f .to s) (f .by s k) pc dst src r′ (ap (λ v. v .full) (f .view s) ∙ full) (f .op s k ∙ o) (lying s (dst ∷ src ∷ []) l);
+        integer = λ s k kind x ok o m converts b.
+            sym (f .number s k) ∙ p .integer (f .to s) (f .by s k) kind x (up-healthy e d f s ok) (f .op s k ∙ o) (subst Makes (sym (f .view s)) m) converts (ap (λ v. onBody (v .frames)) (f .view s) ∙ b);
         finish = λ s k kind x ok o plain b. sym (f .number s k) ∙ p .finish (f .to s) (f .by s k) kind x (up-healthy e d f s ok) (f .op s k ∙ o) plain (ap (λ v. onBody (v .frames)) (f .view s) ∙ b);
         escape = λ s k x pc c ok o r. sym (f .number s k) ∙ p .escape (f .to s) (f .by s k) x pc c (up-healthy e d f s ok) (f .op s k ∙ o) (ap (λ v. raisedAt v (some x) pc) (f .view s) ∙ r);
       }

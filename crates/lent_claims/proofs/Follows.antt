@@ -8,8 +8,8 @@ use mathlib.Core.Option.{Option, some}
 use Rattle.heap.specs.declared.object.CoroState.{CoroState}
 use Rattle.model.specs.declared.call.Op.{Op}
 use Rattle.claims.specs.Engine.{View, Engine, run, runs, sleeps, ended, is}
-use Rattle.claims.specs.Demand3.{Enters, Suspends, Returns, Leaves, Restarts, Waits, Goes}
-use Rattle.claims.specs.Events.{Healthy}
+use Rattle.claims.specs.Demand3.{Enters, Suspends, Leaves, Restarts, Waits, Goes}
+use Rattle.claims.specs.Events.{Healthy, Returns, failed, Fails}
 
 pub record Follows (e d : Engine) : Type 0 where
   -- the state and the call of d that are followed
@@ -51,6 +51,9 @@ module _ (a b : Engine) (s : a .State) (k : a .Call) (t : b .State) (j : b .Call
   pub returns-as : (c : ℕ) → Returns a c s k → Returns b c t j
   returns-as c h = record { before = runs-before c ∙ h .before; after = after-is ended c ∙ h .after }
 
+  pub fails-as : (c : ℕ) → Fails a c s k → Fails b c t j
+  fails-as c h = record { before = runs-before c ∙ h .before; after = after-is failed c ∙ h .after }
+
   pub leaves-as : (c : ℕ) → Leaves a c s k → Leaves b c t j
   leaves-as c h = record { before = runs-before c ∙ h .before; after = after-is (λ x. sleeps x || ended x) c ∙ h .after }
 
@@ -83,6 +86,12 @@ module _ (e d : Engine) (f : Follows e d) where
 
     pub down-returns : (c : ℕ) → Returns d c (f .to s) (f .by s k) → Returns e c s k
     down-returns = returns-as d e (f .to s) (f .by s k) s k (same s k)
+
+    pub up-fails : (c : ℕ) → Fails e c s k → Fails d c (f .to s) (f .by s k)
+    up-fails = fails-as e d s k (f .to s) (f .by s k) (sym (same s k))
+
+    pub down-fails : (c : ℕ) → Fails d c (f .to s) (f .by s k) → Fails e c s k
+    down-fails = fails-as d e (f .to s) (f .by s k) s k (same s k)
 
     pub up-leaves : (c : ℕ) → Leaves e c s k → Leaves d c (f .to s) (f .by s k)
     up-leaves = leaves-as e d s k (f .to s) (f .by s k) (sym (same s k))

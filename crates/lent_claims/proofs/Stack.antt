@@ -9,7 +9,6 @@ use lib.ListN.{length, take, drop, set, length-append}
 use lib.Seq.{take-append-seam, drop-append-seam, take-take}
 use lib.Dec.{leb}
 use borrow.Author.Tests.{leb-true}
-use Rattle.heap.specs.declared.value.Opt.{Opt}
 use Rattle.model.specs.Lists.{each}
 use Rattle.model.specs.Sound.{basesOk, frameNames, contsLie, catchesLie, framesOk}
 use Rattle.model.specs.declared.machine.Frame.{Frame}
@@ -18,7 +17,7 @@ use Rattle.invariant.proofs.Sound.{rules}
 use Rattle.tables.proofs.Padded.{set-append-add}
 use Rattle.sound.proofs.Exactly.{tested}
 use Rattle.claims.specs.Engine.{runs, is}
-use Rattle.claims.specs.Says.{base, doing}
+use Rattle.claims.specs.Says.{base, Sent, nothing, gets, closes, doing}
 use Rattle.claims.specs.Held.{at, into, AllMoved, waitsIn, Held, By, Entered, given, Restored}
 use Rattle.claims.specs.Demand3.{Enters}
 use Rattle.claims.specs.Steps.{viewOf}
@@ -145,9 +144,10 @@ module _ (c : ℕ) (s : State) (x : Call) (t : State) (y : Call) (h : Enters out
       let a = top-over c t y h E in
       omega (arith, m, a, b)
 
-  sent : (o : Opt) → drop (length (inUse t)) (given o (outer .view (step t y .state) .frames) reg (inUse t ++ words)) ≡ sentTo o (base (outer .view s .frames) - H .body .base + reg) words
-  sent Opt.None = drop-append-seam (inUse t) words
-  sent (Opt.Some v) =
+  sent : (o : Sent) → drop (length (inUse t)) (given o (outer .view (step t y .state) .frames) reg (inUse t ++ words)) ≡ sentTo o (base (outer .view s .frames) - H .body .base + reg) words
+  sent nothing = drop-append-seam (inUse t) words
+  sent (closes v) = drop-append-seam (inUse t) words
+  sent (gets v) =
       let a = top-over c t y h E in
       ap (λ (fs : List Frame). drop (length (inUse t)) (into fs reg v (inUse t ++ words))) (E .frames)
       ∙ ap (drop (length (inUse t))) (into-top (E .over) (E .body) (at (E .by .pc) (outer .view t .frames)) reg v (inUse t ++ words))

@@ -6,11 +6,10 @@ use mathlib.Core.Bool.{true, false}
 use mathlib.Core.List.{List}
 use lib.ListN.{take, drop, set}
 use Rattle.lists.specs.Tests.{zeros}
-use Rattle.heap.specs.declared.value.Opt.{Opt}
 use Rattle.model.specs.Call.{Operation}
 use Rattle.memory.specs.Memory.{Lent}
 use Rattle.claims.specs.Engine.{run}
-use Rattle.claims.specs.Says.{base, doing}
+use Rattle.claims.specs.Says.{base, Sent, nothing, gets, closes, doing}
 use Rattle.claims.specs.Held.{waitsIn, Held, By}
 use Rattle.claims.specs.Demand3.{Enters, Suspends, Waits}
 use Rattle.claims.specs.Events.{Healthy}
@@ -31,9 +30,10 @@ pub record Stacked (s z : State) : Type 0 where
   pub beyond : zeros (drop (z .machine .height) (z .words .stack)) ≡ true
 
 -- the words with the one sent, if any, at place i
-abbrev pub sentTo : Opt → ℕ → List ℕ → List ℕ
-sentTo Opt.None i xs = xs
-sentTo (Opt.Some x) i xs = set xs i x
+abbrev pub sentTo : Sent → ℕ → List ℕ → List ℕ
+sentTo nothing i xs = xs
+sentTo (gets x) i xs = set xs i x
+sentTo (closes x) i xs = xs
 
 -- x at s suspends c, and y at t is its next entry, which leaves z
 pub record Woken (s : State) (x : Call) (t : State) (y : Call) (c : ℕ) (z : State) : Type 0 where
