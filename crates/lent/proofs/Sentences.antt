@@ -30,7 +30,6 @@ use Rattle.invariant.specs.Kept.{raises}
 use Rattle.invariant.proofs.Tests.{no-false, no-true, and-left, and-right}
 use Rattle.invariant.proofs.Sound.{sound→}
 use Rattle.invariant.proofs.Call.{call-keeps}
-use Rattle.sheet.specs.Sentences.{unchanging}
 use Rattle.sheet.proofs.Sentences as Sheet
 use Rattle.tables.specs.Layout.{frameWords, frameOf, activeWords, activeOf}
 use Rattle.tables.specs.Sizes.{framesSize, savedStackSize, savedFramesSize}
@@ -39,7 +38,7 @@ use Rattle.words.specs.Words.{lengthsOf}
 use Rattle.sound.specs.Words.{restOk, coded, framesHeld}
 use Rattle.sound.proofs.Passed.{passed}
 use Rattle.lent.specs.Step.{State, Left, stateIn, isSound, decoded, stepWords, setUpOk, setUpWords, Call, SetUp, Do, step}
-use Rattle.lent.specs.Sentences.{number, faults, NoSuchFault, no-such, Clear, Sentences}
+use Rattle.lent.specs.Sentences.{number, unchanging, faults, NoSuchFault, no-such, Clear, Sentences}
 use Rattle.lent.proofs.Kept.{words-kept, own, untested, stepped, refused-words, set-up, refused-set-up}
 
 -- ---- numbers

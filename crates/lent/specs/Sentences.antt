@@ -16,7 +16,6 @@ use Rattle.model.specs.Answer.{numberOf}
 use Rattle.model.specs.Call.{Operation}
 use Rattle.model.specs.declared.call.Op.{Op}
 use Rattle.model.specs.declared.call.OptPc.{OptPc}
-use Rattle.sheet.specs.Sentences.{unchanging}
 use Rattle.tables.specs.Sizes.{savedStackSize, savedFramesSize}
 use Rattle.memory.specs.Memory.{Room}
 use Rattle.words.specs.Words.{lengthsOf}
@@ -25,6 +24,10 @@ use Rattle.lent.specs.Step.{State, isSound, decoded, setUpOk, Call, SetU
 -- the number that a call answers
 abbrev pub number : State → Call → ℕ
 number s k = numberOf (step s k .answer)
+
+-- 01: "11, 12, 13, 15, 16 change no word."
+abbrev pub unchanging : List ℕ
+unchanging = 11 ∷ 12 ∷ 13 ∷ 15 ∷ 16 ∷ []
 
 -- 01: "`unwind` takes a fault 1 to 10, or 17 with its word (else 11)"
 abbrev pub faults : List ℕ
@@ -45,7 +48,7 @@ pub record Clear (s : State) : Type 0 where
   pub finalize : zeros (drop (s .machine .finalize) (s .words .finalize)) ≡ true
 
 pub record Sentences : Type 0 where
-  -- 01: "11, 12, 13, 15, 16 change no word.": every slice, the machine and the fuel are as found
+  -- every slice, the machine and the fuel are as found
   pub unchanged : (s : State) (k : Call) → among (number s k) unchanging ≡ true → step s k .state ≡ s
   -- 11 exactly if the words are not sound, or an unwind gets no such fault ..
   pub unsound : (s : State) (o : Operation) → isSound s ≡ false → number s (Do o) ≡ 11

@@ -24,6 +24,7 @@ use Rattle.lent_claims.proofs.Carried as Carried
 use Rattle.lent_claims.proofs.Outer.{sound-to, follows}
 use Rattle.lent_claims.proofs.NotEmpty.{not-empty}
 use Rattle.lent_claims.proofs.Stack.{stacked, woken}
+use Rattle.lent_claims.proofs.Back.{back}
 
 pub promise : Promise outer
 promise =
@@ -92,6 +93,7 @@ claim =
       healthy = healthy-sound;
       entered = λ c s y h. stacked c s y h (d .entered c s y h);
       woken = λ c s x waiting y h w g. woken c s x (run outer (step s x .state) waiting) y g (d .restored c s x waiting y h w g);
+      back = λ c s y going z h w g. back c s y (run outer (step s y .state) going) z h g (d .untouched c s y going z h w g);
       lasts = λ s given ks e. runs-on (step s (SetUp given) .state) ks (words-kept .begun s given e);
       eleven = λ s given ks k e n. own-fault (run outer (step s (SetUp given) .state) ks) k (runs-on (step s (SetUp given) .state) ks (words-kept .begun s given e)) n;
     }

@@ -3,4 +3,5 @@ pub mod Carried
 pub mod Outer
 pub mod NotEmpty
 pub mod Stack
+pub mod Back
 pub mod Claim

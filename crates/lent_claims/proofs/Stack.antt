@@ -64,7 +64,7 @@ into-top (f ∷ over) g gs r x xs = refl
 -- ---- states
 
 -- the height of sound words counts the words in use
-height : (s : State) → isSound s ≡ true → s .machine .height ≡ length (inUse s)
+pub height : (s : State) → isSound s ≡ true → s .machine .height ≡ length (inUse s)
 height s e = tested .exactly (s .words) (s .machine) (s .fuel) .stands e .rep .stack .count
 
 bases : (s : State) → isSound s ≡ true → basesOk (length (inUse s)) (outer .view s .frames) ≡ true
@@ -78,11 +78,11 @@ bases s e =
     and-left a (each (frameNames (w .setup)) (w .frames)) (and-left b (contsLie (w .frames)) (and-left c (catchesLie (w .setup) n (w .frames)) (rules w (words-kept .stands s e) .frames)))
 
 -- a call that enters someone finds sound words and leaves sound words
-record Sounds (s z : State) : Type 0 where
-  found : isSound s ≡ true
-  left : isSound z ≡ true
+pub record Sounds (s z : State) : Type 0 where
+  pub found : isSound s ≡ true
+  pub left : isSound z ≡ true
 
-sounds : (c : ℕ) (s : State) (y : Call) → By (outer .view s) (opOf y) c → Enters outer c s y → Sounds s (step s y .state)
+pub sounds : (c : ℕ) (s : State) (y : Call) → By (outer .view s) (opOf y) c → Enters outer c s y → Sounds s (step s y .state)
 sounds c s (SetUp given) b h = let q = b .says in let z : _≡_ {A = ℕ} 0 1 = cc in absurd (omega arith)
 sounds c s (Do o) b h = go (isSound s) refl
   where
