@@ -16,7 +16,8 @@ use Rattle.claims.specs.Demand3.{Enters, Suspends, Leaves, Restarts, Waits, Goe
 use Rattle.claims.specs.Events.{Healthy, onBody, raisedAt, suspended, returned, Lost, lives, Fixed, Events}
 use Rattle.claims.specs.Promise.{suspends, room, Roomy, Makes, Accepts, Eleven, Soundness, NotEmpty}
 use Rattle.claims.proofs.Premises.{Premises}
-use Rattle.lent_claims.proofs.Follows.{Follows, Sight, sight, same, up-enters, down-enters, up-suspends, down-suspends, up-returns, down-returns, up-fails, down-fails, up-leaves, down-leaves, up-restarts, down-restarts, up-healthy, down-healthy, along, ran, up-waits, down-waits, up-goes, down-goes}
+use Rattle.lent_claims.proofs.Follows.{Follows, Sight, sight, same, along, ran}
+use Rattle.lent_claims.proofs.Follows.{up-enters, down-enters, up-suspends, down-suspends, up-returns, down-returns, up-fails, down-fails, up-leaves, down-leaves, up-restarts, down-restarts, up-healthy, down-healthy, up-waits, down-waits, up-goes, down-goes}
 
 module _ (e d : Engine) (f : Follows e d) where
   -- what holds of all that d shows of a call holds of what e shows, and back
