@@ -1,0 +1,5 @@
+pub mod Numbers
+pub mod Table
+pub mod Running
+pub mod Saved
+pub mod Rows
