@@ -16,7 +16,6 @@ use Rattle.model.specs.Program.{Setup}
 use Rattle.memory.specs.declared.machine.Sizes.{Sizes}
 use Rattle.invariant.proofs.Tests.{and-left, and-right}
 use Rattle.sound.specs.Words.{restOk}
-use Rattle.sound_test.specs.Queue.{inSet}
 use Rattle.sound_words.specs.Saved.{sizesIn, framesIn, coroTest}
 use Rattle.sound_words.specs.Rows.{coroFine, coroRow}
 
@@ -63,28 +62,28 @@ module _ (l : Sizes) (s : Setup) (stack frames : List ℕ) (c : CoroObj) where
 
   -- ---- the row
 
-  module _ (set : List ℕ) (i : ℕ) where
-    pub refused : coroFine l s stack frames set i c ≡ false → 65 ≡ coroRow l s stack frames set i c
+  module _ (chained : ℕ → Bool) (i : ℕ) where
+    pub refused : coroFine l s stack frames chained i c ≡ false → 65 ≡ coroRow l s stack frames chained i c
     refused e = sym (ap (λ t. pick t (pick (isFinished (c .state)) 64 (c .row)) 65) e ∙ pick-false _ _)
 
-    pub passed : coroFine l s stack frames set i c ≡ true → coroRow l s stack frames set i c ≡ pick (isFinished (c .state)) 64 (c .row)
+    pub passed : coroFine l s stack frames chained i c ≡ true → coroRow l s stack frames chained i c ≡ pick (isFinished (c .state)) 64 (c .row)
     passed e = ap (λ t. pick t (pick (isFinished (c .state)) 64 (c .row)) 65) e ∙ pick-true _ _
 
-    pub bad-coro : coroTest l s stack frames c ≡ false → 65 ≡ coroRow l s stack frames set i c
-    bad-coro e = refused (ap (λ t. t && (not (isRunning (c .state)) || inSet set i)) e)
+    pub bad-coro : coroTest l s stack frames c ≡ false → 65 ≡ coroRow l s stack frames chained i c
+    bad-coro e = refused (ap (λ t. t && (not (isRunning (c .state)) || chained i)) e)
 
     module _ (ok : coroTest l s stack frames c ≡ true) where
-      by-run : (r b : Bool) → isRunning (c .state) ≡ r → inSet set i ≡ b → coroFine l s stack frames set i c ≡ (not r || b)
+      by-run : (r b : Bool) → isRunning (c .state) ≡ r → chained i ≡ b → coroFine l s stack frames chained i c ≡ (not r || b)
       by-run r b e f = rw (ok, e, f)
 
-      pub no-row : isFinished (c .state) ≡ true → 64 ≡ coroRow l s stack frames set i c
-      no-row f = sym (passed (by-run false (inSet set i) (ended-rests (c .state) f) refl) ∙ ap (λ t. pick t 64 (c .row)) f ∙ pick-true _ _)
+      pub no-row : isFinished (c .state) ≡ true → 64 ≡ coroRow l s stack frames chained i c
+      no-row f = sym (passed (by-run false (chained i) (ended-rests (c .state) f) refl) ∙ ap (λ t. pick t 64 (c .row)) f ∙ pick-true _ _)
 
-      pub not-chained : isRunning (c .state) ≡ true → inSet set i ≡ false → 65 ≡ coroRow l s stack frames set i c
+      pub not-chained : isRunning (c .state) ≡ true → chained i ≡ false → 65 ≡ coroRow l s stack frames chained i c
       not-chained e f = refused (by-run true false e f)
 
-      pub chained-row : isFinished (c .state) ≡ false → isRunning (c .state) ≡ true → inSet set i ≡ true → c .row ≡ coroRow l s stack frames set i c
+      pub chained-row : isFinished (c .state) ≡ false → isRunning (c .state) ≡ true → chained i ≡ true → c .row ≡ coroRow l s stack frames chained i c
       chained-row g e f = sym (passed (by-run true true e f) ∙ ap (λ t. pick t 64 (c .row)) g ∙ pick-false _ _)
 
-      pub asleep-row : isFinished (c .state) ≡ false → isRunning (c .state) ≡ false → c .row ≡ coroRow l s stack frames set i c
-      asleep-row g e = sym (passed (by-run false (inSet set i) e refl) ∙ ap (λ t. pick t 64 (c .row)) g ∙ pick-false _ _)
+      pub asleep-row : isFinished (c .state) ≡ false → isRunning (c .state) ≡ false → c .row ≡ coroRow l s stack frames chained i c
+      asleep-row g e = sym (passed (by-run false (chained i) e refl) ∙ ap (λ t. pick t 64 (c .row)) g ∙ pick-false _ _)

@@ -26,7 +26,7 @@ use Rattle.model.specs.Program.{Setup}
 use Rattle.memory.specs.declared.machine.Sizes.{Sizes}
 use Rattle.invariant.proofs.Tests.{no-false, no-true, and-left, and-right, both, picked}
 use Rattle.sound.specs.Words.{restOk}
-use Rattle.sound_test.specs.Queue.{bitAt, inSet}
+use Rattle.sound_test.specs.Queue.{bitAt}
 use Rattle.sound_test.proofs.Bits.{no-bit}
 use Rattle.sound_words.specs.Saved.{sizesIn, coroTest}
 use Rattle.sound_words.specs.Rows.{coroFine, objectFine, coroRow, objectRow, slotRow, rowFree, freeTest, rowsOf, rowsHeld, rowsTest, heldBit}
@@ -52,9 +52,9 @@ of-drop zero xs e = e
 of-drop (suc k) [] e = e
 of-drop (suc k) (x ∷ xs) e = more-rows (x .object) (rowsHeld xs) (of-drop k xs e)
 
-module _ (l : Sizes) (s : Setup) (stack frames set : List ℕ) where
+module _ (l : Sizes) (s : Setup) (stack frames : List ℕ) (chained : ℕ → Bool) where
   abbrev fine : ℕ → H.Object → Bool
-  fine i o = objectFine l s stack frames set i o
+  fine i o = objectFine l s stack frames chained i o
 
   -- ---- the row of one slot
 
@@ -67,13 +67,13 @@ module _ (l : Sizes) (s : Setup) (stack frames set : List ℕ) where
 
   module _ (few : l .rows ≤ 64) (i : ℕ) (c : CoroObj) where
     abbrev ok : Bool
-    ok = coroFine l s stack frames set i c
+    ok = coroFine l s stack frames chained i c
 
     -- an unfinished one's row is in range
     row-small : ok ≡ true → isFinished (c .state) ≡ false → c .row < 64
     row-small e f =
         let t = coroTest l s stack frames c in
-        let p = and-left t (not (isRunning (c .state)) || inSet set i) e in
+        let p = and-left t (not (isRunning (c .state)) || chained i) e in
         let z = and-left (sizesIn l c) (pick (isFinished (c .state)) (nothing l s stack frames c) (in-row l s stack frames c)) p in
         let q = live l s stack frames c z f ∙ p in
         let a = ltb (c .row) (l .rows) in
@@ -82,11 +82,11 @@ module _ (l : Sizes) (s : Setup) (stack frames set : List ℕ) where
         let h = ltb-true (c .row) (l .rows) r in
         omega arith
 
-    row-is : (row : ℕ) → row ≡ coroRow l s stack frames set i c → ok ≡ true → (b : Bool) → isFinished (c .state) ≡ b → row ≡ pick b 64 (c .row)
-    row-is row e g b f = e ∙ passed l s stack frames c set i g ∙ ap (λ t. pick t 64 (c .row)) f
+    row-is : (row : ℕ) → row ≡ coroRow l s stack frames chained i c → ok ≡ true → (b : Bool) → isFinished (c .state) ≡ b → row ≡ pick b 64 (c .row)
+    row-is row e g b f = e ∙ passed l s stack frames c chained i g ∙ ap (λ t. pick t 64 (c .row)) f
 
-    coro-step : (row : ℕ) → row ≡ coroRow l s stack frames set i c → (b : Bool) → ok ≡ b → (row ≡ 65 → ⊥) → Stepped i (O.Coro c) row
-    coro-step row e false g h = absurd (h (e ∙ sym (refused l s stack frames c set i g)))
+    coro-step : (row : ℕ) → row ≡ coroRow l s stack frames chained i c → (b : Bool) → ok ≡ b → (row ≡ 65 → ⊥) → Stepped i (O.Coro c) row
+    coro-step row e false g h = absurd (h (e ∙ sym (refused l s stack frames c chained i g)))
     coro-step row e true g h = go (isFinished (c .state)) refl
       where
         go : (b : Bool) → isFinished (c .state) ≡ b → Stepped i (O.Coro c) row
@@ -103,7 +103,7 @@ module _ (l : Sizes) (s : Setup) (stack frames set : List ℕ) where
               rows = λ rs. ap (λ t. pick t rs (c .row ∷ rs)) f ∙ pick-false _ _ ∙ ap (λ (n : ℕ). n ∷ rs) (sym q) ∙ sym (ap (λ b. pick b (row ∷ rs) rs) (lt-ltb row 64 (omega arith)) ∙ pick-true _ _);
             }
 
-    coro-bad : (row : ℕ) → row ≡ coroRow l s stack frames set i c → (b : Bool) → ok ≡ b → row ≡ 65 → ok ≡ false
+    coro-bad : (row : ℕ) → row ≡ coroRow l s stack frames chained i c → (b : Bool) → ok ≡ b → row ≡ 65 → ok ≡ false
     coro-bad row e false g h = g
     coro-bad row e true g h = go (isFinished (c .state)) refl
       where
@@ -111,21 +111,21 @@ module _ (l : Sizes) (s : Setup) (stack frames set : List ℕ) where
         go true f = let q : row ≡ 64 = row-is row e g true f ∙ pick-true _ _ in absurd (omega arith)
         go false f = let q : row ≡ c .row = row-is row e g false f ∙ pick-false _ _ in let k = row-small g f in absurd (omega arith)
 
-  step-of : l .rows ≤ 64 → (i : ℕ) (o : H.Object) (row : ℕ) → row ≡ objectRow l s stack frames set i o → (row ≡ 65 → ⊥) → Stepped i o row
+  step-of : l .rows ≤ 64 → (i : ℕ) (o : H.Object) (row : ℕ) → row ≡ objectRow l s stack frames chained i o → (row ≡ 65 → ⊥) → Stepped i o row
   step-of few i O.Empty row e h = record { good = refl; rows = λ rs. none row rs e }
   step-of few i (O.Func f) row e h = record { good = refl; rows = λ rs. none row rs e }
   step-of few i (O.Int n) row e h = record { good = refl; rows = λ rs. none row rs e }
   step-of few i (O.Iter c d k) row e h = record { good = refl; rows = λ rs. none row rs e }
   step-of few i (O.Error x f p v) row e h = record { good = refl; rows = λ rs. none row rs e }
-  step-of few i (O.Coro c) row e h = coro-step few i c row e (coroFine l s stack frames set i c) refl h
+  step-of few i (O.Coro c) row e h = coro-step few i c row e (coroFine l s stack frames chained i c) refl h
 
-  bad-of : l .rows ≤ 64 → (i : ℕ) (o : H.Object) (row : ℕ) → row ≡ objectRow l s stack frames set i o → row ≡ 65 → fine i o ≡ false
+  bad-of : l .rows ≤ 64 → (i : ℕ) (o : H.Object) (row : ℕ) → row ≡ objectRow l s stack frames chained i o → row ≡ 65 → fine i o ≡ false
   bad-of few i O.Empty row e h = absurd (omega arith)
   bad-of few i (O.Func f) row e h = absurd (omega arith)
   bad-of few i (O.Int n) row e h = absurd (omega arith)
   bad-of few i (O.Iter c d k) row e h = absurd (omega arith)
   bad-of few i (O.Error x f p v) row e h = absurd (omega arith)
-  bad-of few i (O.Coro c) row e h = coro-bad few i c row e (coroFine l s stack frames set i c) refl h
+  bad-of few i (O.Coro c) row e h = coro-bad few i c row e (coroFine l s stack frames chained i c) refl h
 
   -- ---- the slots
 
@@ -156,7 +156,7 @@ module _ (l : Sizes) (s : Setup) (stack frames set : List ℕ) where
         }
 
     -- the next slot
-    module _ (few : l .rows ≤ 64) (mask i row : ℕ) (p : Held mask i) (more : 0 < i) (is : row ≡ slotRow l s stack frames set slots (i - 1)) where
+    module _ (few : l .rows ≤ 64) (mask i row : ℕ) (p : Held mask i) (more : 0 < i) (is : row ≡ slotRow l s stack frames chained slots (i - 1)) where
       abbrev rs : List ℕ
       rs = rowsHeld (drop i xs)
 
@@ -169,7 +169,7 @@ module _ (l : Sizes) (s : Setup) (stack frames set : List ℕ) where
           drop-cons xs (i - 1) (slot 0 O.Empty) h
           ∙ ap₂ (λ (y : Slot H.Object) (n : ℕ). y ∷ drop n xs) (chunks-at 20 slotOfWords count (i - 1) slots (slot 0 O.Empty) k) e
 
-      pub refuses : row ≡ 65 → false ≡ rowsTest l s stack frames set slots count
+      pub refuses : row ≡ 65 → false ≡ rowsTest l s stack frames chained slots count
       refuses e =
           let w = p .within in
           let held = rowsHeld xs in
@@ -183,7 +183,7 @@ module _ (l : Sizes) (s : Setup) (stack frames set : List ℕ) where
         bit-of : (b : Bool) → heldBit mask row ≡ b → ltb row 64 ≡ true → among row rs ≡ b
         bit-of b e f = sym (p .holds row (ltb-true row 64 f)) ∙ sym (ap (λ t. t && bitAt mask row) f) ∙ e
 
-        pub twice : heldBit mask row ≡ true → false ≡ rowsTest l s stack frames set slots count
+        pub twice : heldBit mask row ≡ true → false ≡ rowsTest l s stack frames chained slots count
         twice e =
             let held = rowsHeld xs in
             let all = allBelow count (λ j. fine j (object j)) in
@@ -222,7 +222,7 @@ module _ (l : Sizes) (s : Setup) (stack frames set : List ℕ) where
                 }
 
     -- all passed
-    pub end : l .rows ≤ 64 → (mask i : ℕ) (b : Bool) → Held mask i → i ≤ 0 → b ≡ freeTest l stack frames (λ n. bitAt mask n) → b ≡ rowsTest l s stack frames set slots count
+    pub end : l .rows ≤ 64 → (mask i : ℕ) (b : Bool) → Held mask i → i ≤ 0 → b ≡ freeTest l stack frames (λ n. bitAt mask n) → b ≡ rowsTest l s stack frames chained slots count
     end few mask zero b p h e =
         let held = rowsHeld xs in
         e

@@ -4,3 +4,9 @@ pub mod Coros
 pub mod Chained
 pub mod Slotted
 pub mod Holding
+pub mod Ordered
+pub mod Keeping
+pub mod Rowing
+pub mod Fitting
+pub mod Slots
+pub mod Wholly

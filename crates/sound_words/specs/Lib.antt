@@ -3,3 +3,4 @@ pub mod Table
 pub mod Running
 pub mod Saved
 pub mod Rows
+pub mod Whole

@@ -18,36 +18,36 @@ use Rattle.model.specs.Lists.{among, distinct}
 use Rattle.model.specs.Program.{Setup}
 use Rattle.memory.specs.declared.machine.Sizes.{Sizes}
 use Rattle.sound.specs.Words.{restOk}
-use Rattle.sound_test.specs.Queue.{bitAt, inSet}
+use Rattle.sound_test.specs.Queue.{bitAt}
 use Rattle.sound_words.specs.Saved.{coroTest, SavedFits}
 
 module _ (l : Sizes) (s : Setup) (stack frames : List ℕ) where
-  -- a coroutine at slot i: what it has saved, and "no other coroutine Running" than those in the set
-  abbrev pub coroFine : List ℕ → ℕ → CoroObj → Bool
-  coroFine set i c = coroTest l s stack frames c && (not (isRunning (c .state)) || inSet set i)
+  -- a coroutine at slot i: what it has saved, and "no other coroutine Running" than the chain's
+  abbrev pub coroFine : (ℕ → Bool) → ℕ → CoroObj → Bool
+  coroFine chained i c = coroTest l s stack frames c && (not (isRunning (c .state)) || chained i)
 
-  abbrev pub objectFine : List ℕ → ℕ → H.Object → Bool
-  objectFine set i O.Empty = true
-  objectFine set i (O.Func f) = true
-  objectFine set i (O.Int n) = true
-  objectFine set i (O.Iter c d k) = true
-  objectFine set i (O.Error e f p v) = true
-  objectFine set i (O.Coro c) = coroFine set i c
+  abbrev pub objectFine : (ℕ → Bool) → ℕ → H.Object → Bool
+  objectFine chained i O.Empty = true
+  objectFine chained i (O.Func f) = true
+  objectFine chained i (O.Int n) = true
+  objectFine chained i (O.Iter c d k) = true
+  objectFine chained i (O.Error e f p v) = true
+  objectFine chained i (O.Coro c) = coroFine chained i c
 
   -- the row that it holds, 64 for none, 65 if it is refused
-  abbrev pub coroRow : List ℕ → ℕ → CoroObj → ℕ
-  coroRow set i c = pick (coroFine set i c) (pick (isFinished (c .state)) 64 (c .row)) 65
+  abbrev pub coroRow : (ℕ → Bool) → ℕ → CoroObj → ℕ
+  coroRow chained i c = pick (coroFine chained i c) (pick (isFinished (c .state)) 64 (c .row)) 65
 
-  abbrev pub objectRow : List ℕ → ℕ → H.Object → ℕ
-  objectRow set i O.Empty = 64
-  objectRow set i (O.Func f) = 64
-  objectRow set i (O.Int n) = 64
-  objectRow set i (O.Iter c d k) = 64
-  objectRow set i (O.Error e f p v) = 64
-  objectRow set i (O.Coro c) = coroRow set i c
+  abbrev pub objectRow : (ℕ → Bool) → ℕ → H.Object → ℕ
+  objectRow chained i O.Empty = 64
+  objectRow chained i (O.Func f) = 64
+  objectRow chained i (O.Int n) = 64
+  objectRow chained i (O.Iter c d k) = 64
+  objectRow chained i (O.Error e f p v) = 64
+  objectRow chained i (O.Coro c) = coroRow chained i c
 
-  abbrev pub slotRow : List ℕ → List ℕ → ℕ → ℕ
-  slotRow set slots i = objectRow set i (slotIn slots i .object)
+  abbrev pub slotRow : (ℕ → Bool) → List ℕ → ℕ → ℕ
+  slotRow chained slots i = objectRow chained i (slotIn slots i .object)
 
 -- a row that nobody holds has only zeros
 abbrev pub rowFree : Sizes → List ℕ → List ℕ → ℕ → Bool
@@ -70,10 +70,10 @@ rowsHeld [] = []
 rowsHeld (x ∷ xs) = rowsOf (x .object) (rowsHeld xs)
 
 -- each slot, each row held by one, and the rows that nobody holds
-abbrev pub rowsTest : Sizes → Setup → List ℕ → List ℕ → List ℕ → List ℕ → ℕ → Bool
-rowsTest l s stack frames set slots count =
+abbrev pub rowsTest : Sizes → Setup → List ℕ → List ℕ → (ℕ → Bool) → List ℕ → ℕ → Bool
+rowsTest l s stack frames chained slots count =
     let held = rowsHeld (slotsOf count slots) in
-    allBelow count (λ i. objectFine l s stack frames set i (slotIn slots i .object)) && distinct held && freeTest l stack frames (λ n. among n held)
+    allBelow count (λ i. objectFine l s stack frames chained i (slotIn slots i .object)) && distinct held && freeTest l stack frames (λ n. among n held)
 
 -- a row that is in a set of rows in one word
 abbrev pub heldBit : ℕ → ℕ → Bool

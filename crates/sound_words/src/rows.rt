@@ -5,7 +5,7 @@ ghost use Prim.Native.Nat.{ℕ, _<_};
 ghost use lib.Dec.{eqb};
 ghost use Rattle.heap.specs.Heap.{SlotFits};
 ghost use Rattle.words.specs.Decode.{setupOf};
-ghost use Rattle.sound_test.specs.Queue.{bitAt};
+ghost use Rattle.sound_test.specs.Queue.{bitAt, inSet};
 ghost use Rattle.sound_words.specs.Rows.{coroRow, slotRow, heldBit, rowFree, freeTest, rowsTest, RowsFit, SlotsFit, FreeFits};
 use crate::running::in_set;
 use crate::saved::coro_ok;
@@ -33,7 +33,7 @@ fn coro_row(
     c: CoroObj,
 ) -> u64
     requires { ⌜ RowsFit (now saved) (now asleep) (now need) (now setup) (now set) l × (i < 4096) ⌝ }
-    ensures { λ r. ⌜ r ≡ coroRow l (setupOf (now (setup .entry))) (now (saved .entry)) (now (asleep .entry)) (now (set .entry)) i c ⌝ }
+    ensures { λ r. ⌜ r ≡ coroRow l (setupOf (now (setup .entry))) (now (saved .entry)) (now (asleep .entry)) (inSet (now (set .entry))) i c ⌝ }
 {
     if !coro_ok(saved, asleep, setup, need, l, c) {
         return REFUSED;
@@ -62,7 +62,7 @@ fn slot_row(
     i: usize,
 ) -> u64
     requires { ⌜ RowsFit (now saved) (now asleep) (now need) (now setup) (now set) l × (SlotFits (now slots) i × (i < 4096)) ⌝ }
-    ensures { λ r. ⌜ r ≡ slotRow l (setupOf (now (setup .entry))) (now (saved .entry)) (now (asleep .entry)) (now (set .entry)) (now (slots .entry)) i ⌝ }
+    ensures { λ r. ⌜ r ≡ slotRow l (setupOf (now (setup .entry))) (now (saved .entry)) (now (asleep .entry)) (inSet (now (set .entry))) (now (slots .entry)) i ⌝ }
 {
     match heap::slot::object_at(slots, i) {
         Object::Empty => NONE,
@@ -150,7 +150,7 @@ pub fn rows_ok(
     l: Sizes,
 ) -> bool
     requires { ⌜ SlotsFit (now saved) (now asleep) (now need) (now setup) (now set) (now slots) l count ⌝ }
-    ensures { λ r. ⌜ r ≡ rowsTest l (setupOf (now (setup .entry))) (now (saved .entry)) (now (asleep .entry)) (now (set .entry)) (now (slots .entry)) count ⌝ }
+    ensures { λ r. ⌜ r ≡ rowsTest l (setupOf (now (setup .entry))) (now (saved .entry)) (now (asleep .entry)) (inSet (now (set .entry))) (now (slots .entry)) count ⌝ }
 {
     let mut mask: u64 = 0;
     let mut i = count;
