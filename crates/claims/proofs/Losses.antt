@@ -34,9 +34,9 @@ use Rattle.heap.specs.declared.heap.ResultKind.{ResultKind}
 use Rattle.model.specs.declared.call.OptPc.{OptPc}
 use Rattle.model.specs.declared.call.Op.{Op}
 use Rattle.model.specs.declared.call.Answer.{Answer}
-use Rattle.invariant.proofs.Sound.{sound→}
-use Rattle.invariant.proofs.Point.{finds}
-use Rattle.invariant.proofs.Slots.{runs-among}
+use Rattle.soundness.proofs.Sound.{sound→}
+use Rattle.soundness.proofs.Point.{finds}
+use Rattle.soundness.proofs.Slots.{runs-among}
 use Rattle.claims.specs.Engine.{is}
 use Rattle.claims.specs.Engine as Engine
 use Rattle.claims.specs.Held.{at}

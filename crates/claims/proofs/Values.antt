@@ -40,7 +40,7 @@ use Rattle.model.specs.declared.machine.Active.{Active}
 use Rattle.model.specs.declared.coro.Made.{Made}
 use Rattle.model.specs.declared.call.Op.{Op}
 use Rattle.model.specs.declared.call.Answer.{Answer}
-use Rattle.invariant.proofs.Sound.{sound→}
+use Rattle.soundness.proofs.Sound.{sound→}
 use Rattle.claims.specs.Delivery.{recorded}
 use Rattle.claims.specs.Events as Said
 use Rattle.claims.specs.Events.{isInteger}

@@ -16,7 +16,7 @@ use Rattle.model.specs.Gate.{refused}
 use Rattle.model.specs.Call.{Operation}
 use Rattle.model.specs.Call as Model
 use Rattle.model.specs.Step.{Out, told, call, tested, step}
-use Rattle.invariant.proofs.Tests.{and-left, and-right}
+use Rattle.soundness.proofs.Tests.{and-left, and-right}
 use Rattle.invariant.proofs.Kept.{soundness-kept}
 use Rattle.sheet.proofs.Sentences.{sentences}
 use Rattle.tables.specs.Sizes.{setupWords, stackSize, framesSize, chainSize, savedStackSize, savedFramesSize, slotsSize, queueSize, setupSize}

@@ -11,9 +11,9 @@ use Rattle.heap.specs.Slot.{slotWords, slotOfWords}
 use Rattle.heap.proofs.Slots.{length-slot}
 use Rattle.model.specs.World.{World}
 use Rattle.model.specs.Sound.{rowWords, sound}
-use Rattle.invariant.proofs.Tests.{no-false}
-use Rattle.invariant.proofs.Stand.{chained}
-use Rattle.invariant.proofs.Sound.{sound→}
+use Rattle.soundness.proofs.Tests.{no-false}
+use Rattle.soundness.proofs.Stand.{chained}
+use Rattle.soundness.proofs.Sound.{sound→}
 use Rattle.tables.specs.Layout.{frameWords, activeWords}
 use Rattle.tables.specs.Parts.{upward, inRow}
 use Rattle.tables.specs.Sizes.{setupWords, framesSize}

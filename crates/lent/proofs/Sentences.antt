@@ -27,8 +27,8 @@ use Rattle.model.specs.declared.call.Op.{Op}
 use Rattle.model.specs.declared.call.OptPc.{OptPc}
 use Rattle.model.specs.declared.call.Answer.{Answer}
 use Rattle.invariant.specs.Kept.{raises}
-use Rattle.invariant.proofs.Tests.{no-false, no-true, and-left, and-right}
-use Rattle.invariant.proofs.Sound.{sound→}
+use Rattle.soundness.proofs.Tests.{no-false, no-true, and-left, and-right}
+use Rattle.soundness.proofs.Sound.{sound→}
 use Rattle.invariant.proofs.Call.{call-keeps}
 use Rattle.sheet.proofs.Sentences as Sheet
 use Rattle.tables.specs.Layout.{frameWords, frameOf, activeWords, activeOf}

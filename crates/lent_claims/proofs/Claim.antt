@@ -7,7 +7,7 @@ use mathlib.Core.Bool.{Bool, true, false}
 use mathlib.Core.List.{List, [], _∷_}
 use Rattle.model.specs.Call.{typed, Operation}
 use Rattle.model.specs.declared.call.Op.{Op}
-use Rattle.invariant.proofs.Tests.{no-true}
+use Rattle.soundness.proofs.Tests.{no-true}
 use Rattle.claims.specs.Engine.{run}
 use Rattle.claims.specs.Events.{Healthy}
 use Rattle.claims.specs.Promise.{Promise}

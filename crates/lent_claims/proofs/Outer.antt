@@ -21,8 +21,8 @@ use Rattle.model.specs.Compute.{computed}
 use Rattle.model.specs.declared.machine.Stop.{Stop}
 use Rattle.model.specs.declared.machine.Outcome.{Outcome}
 use Rattle.model.specs.declared.call.Op.{Op}
-use Rattle.invariant.proofs.Tests.{no-false, picked}
-use Rattle.invariant.proofs.Sound.{sound→}
+use Rattle.soundness.proofs.Tests.{no-false, picked}
+use Rattle.soundness.proofs.Sound.{sound→}
 use Rattle.words.specs.Decode.{setupOf}
 use Rattle.claims.specs.Steps as Steps
 use Rattle.claims.specs.Steps.{viewOf, steps}

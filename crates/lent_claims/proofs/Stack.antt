@@ -12,8 +12,8 @@ use borrow.Author.Tests.{leb-true}
 use Rattle.model.specs.Lists.{each}
 use Rattle.model.specs.Sound.{basesOk, frameNames, contsLie, catchesLie, framesOk}
 use Rattle.model.specs.declared.machine.Frame.{Frame}
-use Rattle.invariant.proofs.Tests.{and-left, and-right}
-use Rattle.invariant.proofs.Sound.{rules}
+use Rattle.soundness.proofs.Tests.{and-left, and-right}
+use Rattle.soundness.proofs.Sound.{rules}
 use Rattle.tables.proofs.Padded.{set-append-add}
 use Rattle.sound.proofs.Exactly.{tested}
 use Rattle.claims.specs.Engine.{runs, is}

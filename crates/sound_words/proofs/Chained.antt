@@ -18,7 +18,7 @@ use Rattle.heap.specs.Heap.{slotsOf, coroOf}
 use Rattle.heap.specs.declared.object.Object as H
 use Rattle.heap.specs.declared.object.Object.the-variants as O
 use Rattle.model.specs.Lists.{each, among, distinct}
-use Rattle.invariant.proofs.Tests.{no-true, and-left, and-right, both, each-at}
+use Rattle.soundness.proofs.Tests.{no-true, and-left, and-right, both, each-at}
 use Rattle.sound_test.specs.Queue.{byCoro, inSet}
 use Rattle.sound_test.proofs.Bits.{empty-set}
 use Rattle.sound_test.proofs.Seen.{Told, among-slots}

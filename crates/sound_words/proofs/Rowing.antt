@@ -21,7 +21,7 @@ use Rattle.model.specs.Program.{Setup}
 use Rattle.model.specs.Object.{Object, Coroutine, Absent, Is, asCoro}
 use Rattle.model.specs.Rows.{heldBy, heldRows}
 use Rattle.model.specs.Sound.{rowWords, savedSizes, savedIn, rowless, runs}
-use Rattle.invariant.proofs.Tests.{no-false, no-true, and-left, and-right, both, picked, each-at, at-each, among-all, among-each, or-left, or-right}
+use Rattle.soundness.proofs.Tests.{no-false, no-true, and-left, and-right, both, picked, each-at, at-each, among-all, among-each, or-left, or-right}
 use Rattle.tables.specs.Sizes.{framesSize, savedStackSize, savedFramesSize}
 use Rattle.memory.specs.Rows.{Row, noRow, owns, savedBy, rowAt}
 use Rattle.memory.specs.Memory.{Lent}

@@ -7,7 +7,7 @@ use lib.ListN.{length}
 use lib.Dec.{leb}
 use borrow.Author.Tests.{not-true, not-false, ne-eqb, eq-eqb, lt-ltb, le-ltb, leb-true}
 use Rattle.words.specs.Decode.{setupOf}
-use Rattle.invariant.proofs.Tests.{and-left, and-right}
+use Rattle.soundness.proofs.Tests.{and-left, and-right}
 use Rattle.sound_test.proofs.Bools.{three-1, three-2, three-3}
 use Rattle.sound_words.proofs.Coros.{row-inside, sizes-stop, ended, live, frames-few}
 use borrow.Author.Needs.{needs}
