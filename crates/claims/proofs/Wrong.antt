@@ -7,7 +7,6 @@ use mathlib.Core.List.{List, [], _∷_, _++_, map, append-assoc}
 use mathlib.Core.Option.{Option, none, some}
 use lib.ListN.{length, take, drop, length-append}
 use lib.Seq.{take-append-seam}
-use Rattle.heap.specs.declared.value.Opt.{Opt}
 use Rattle.model.specs.World.{World, fresh}
 use Rattle.model.specs.Step as M
 use Rattle.model.specs.Call.{typed, asCall}
@@ -18,7 +17,7 @@ use Rattle.model.specs.declared.machine.Active.{Active}
 use Rattle.model.specs.declared.machine.Frame.{Frame}
 use Rattle.model.specs.declared.call.Op.{Op}
 use Rattle.claims.specs.Engine.{View, run}
-use Rattle.claims.specs.Says.{Entry, doing, whom}
+use Rattle.claims.specs.Says.{Sent, nothing, gets, closes, Entry, doing, whom}
 use Rattle.claims.specs.Held.{at, Moved, AllMoved, pcOf, stepped, Restored}
 use Rattle.claims.specs.Demand3.{Demand3}
 use Rattle.claims.specs.Events.{Events}
@@ -65,8 +64,8 @@ floorIn (a ∷ chain) = a .floor
 abbrev found : View → List Frame
 found v = take (length (v .frames) - floorIn (v .chain)) (v .frames)
 
-abbrev sentIn : Option Entry → Opt
-sentIn none = Opt.None
+abbrev sentIn : Option Entry → Sent
+sentIn none = nothing
 sentIn (some e) = e .sent
 
 -- g is what a frame and its moved frame have alike
@@ -186,7 +185,8 @@ unfolding computed
 stepped-twice d = let q : _≡_ {A = ℕ} 9 8 = ap first (on-top (woken (onTop further) d refl) pcIn pcIn pc-alike) in absurd (omega (arith, q))
 
 -- bases: the top frame's and the body's are 5 words apart, and were 4
-two-moved : {v : View} {x : Option Op} {w : View} {y : Option Op} {c : ℕ} {z : View} (r : Restored v x w y c z) (p : ℕ) (f₁ f₂ : Frame) → at (stepped (sentIn (whom w y)) (pcOf (doing v x))) (found v) ≡ f₁ ∷ f₂ ∷ [] → first (map (λ k. k .base) (z .frames)) + f₂ .base ≡ second (map (λ k. k .base) (z .frames)) + f₁ .base
+two-moved : {v : View} {x : Option Op} {w : View} {y : Option Op} {c : ℕ} {z : View} (r : Restored v x w y c z) (p : ℕ) (f₁ f₂ : Frame)
+    → at (stepped (sentIn (whom w y)) (pcOf (doing v x))) (found v) ≡ f₁ ∷ f₂ ∷ [] → first (map (λ k. k .base) (z .frames)) + f₂ .base ≡ second (map (λ k. k .base) (z .frames)) + f₁ .base
 two-moved {v} {x} {w} {y} {c} {z} r p f₁ f₂ e =
     let t = r .entered in
     let ks = t .over ++ (t .body ∷ []) in
@@ -205,7 +205,7 @@ at-rest = M.run (fresh wide) (take 23 held)
 
 always-refused : Events (idle (λ _. true)) → ⊥
 unfolding computed at-rest
-always-refused v = no-both (v .entered c at-rest (nth held 23) (sound-healthy at-rest refl) (record { driver = Driver.Resume 1; sent = Opt.Some 44; pc = 15; says = refl }) .after) refl
+always-refused v = no-both (v .entered c at-rest (nth held 23) (sound-healthy at-rest refl) (record { driver = Driver.Resume 1; sent = gets 44; pc = 15; says = refl }) .after) refl
 
 finishing : World
 finishing = M.run (fresh wide) (take 26 held)
@@ -226,7 +226,7 @@ current-typed = refl
 
 no-cleanup : Events (idle two) → ⊥
 unfolding computed queued-ops queued
-no-cleanup v = no-both (v .entered c queued (asCall (Op.CoroCurrent 9 1) current-typed) (sound-healthy queued refl) (record { driver = Driver.Finalize; sent = Opt.None; pc = 9; says = refl }) .after) refl
+no-cleanup v = no-both (v .entered c queued (asCall (Op.CoroCurrent 9 1) current-typed) (sound-healthy queued refl) (record { driver = Driver.Finalize; sent = closes 0; pc = 9; says = refl }) .after) refl
 
 -- NONE OF THEM
 pub wrong : Wrong

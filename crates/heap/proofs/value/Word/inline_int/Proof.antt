@@ -1,4 +1,4 @@
--- `inline_int` meets its contract: 48 bits, or a large integer between. Assumes nothing.
+-- `Word::inline_int` meets its contract: 48 bits, or a large integer between. Assumes nothing.
 use mathlib.Core.Path.{_≡_, refl, ap}
 use mathlib.Core.Bool.{Bool, true, false}
 use Prim.Native.Nat.{ℕ, suc, _-_, _≤_, _<_, _^_}
@@ -11,8 +11,8 @@ use Rattle.heap.specs.Coding.{ofBits}
 use Rattle.heap.specs.Int.{inlineOf}
 use Rattle.heap.specs.declared.int.Inline.the-variants as I
 use Rattle.heap.proofs.Coding.{low, high}
-use Rattle.heap.proofs.int.inline_int.Statement.{statement}
-use Rattle.heap.proofs.int.inline_int.Tie as tie
+use Rattle.heap.proofs.value.Word.inline_int.Statement.{statement}
+use Rattle.heap.proofs.value.Word.inline_int.Tie as tie
 
 add-t4 : tie.Need-add-t4
 add-t4 c = search needs
