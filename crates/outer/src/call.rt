@@ -48,7 +48,7 @@ pub fn sound_call(
 }
 
 // Everything as found, and 11.
-pub(crate) fn unsound(m: Machine, fuel: Fuel) -> Called
+pub fn unsound(m: Machine, fuel: Fuel) -> Called
     ensures { λ r. ⌜ r ≡ record { machine = m; fuel = fuel; answer = Answer.Refused Fault.Unsound } ⌝ }
 {
     Called {
