@@ -16,6 +16,7 @@ use memory::machine::Machine;
 use memory::machine::Sizes;
 use model::call::Answer;
 use model::machine::Fuel;
+use sound_words::whole::sound_words;
 
 // The numbers and the fuel that a run leaves; 0, or why it was not made.
 pub struct Ran {
@@ -184,4 +185,53 @@ pub fn run_known(
         fuel: left,
         number: number_of(ok),
     }
+}
+
+// The calls in `calls`, six words each; their answers to `answers`, eight words each.
+pub fn run(
+    stack: &mut [u64],
+    frames: &mut [u64],
+    chain: &mut [u64],
+    slots: &mut [u64],
+    saved_stack: &mut [u64],
+    saved_frames: &mut [u64],
+    ready: &mut [u64],
+    finalize: &mut [u64],
+    setup: &[u64],
+    m: Machine,
+    fuel: Fuel,
+    calls: &[u64],
+    answers: &mut [u64],
+) -> Ran
+    ensures { λ r. ⌜ record { state = state (nine stack frames chain slots «saved_stack» «saved_frames» ready finalize setup atExit) (r .machine) (r .fuel); answers = now (answers .exit); number = r .number } ≡ runIn (state (nine stack frames chain slots «saved_stack» «saved_frames» ready finalize setup atEntry) m fuel) (now (calls .entry)) (now (answers .entry)) ⌝ }
+{
+    let ok = sound_words(
+        stack,
+        frames,
+        chain,
+        slots,
+        saved_stack,
+        saved_frames,
+        ready,
+        finalize,
+        setup,
+        m,
+        fuel,
+    );
+    run_known(
+        ok,
+        stack,
+        frames,
+        chain,
+        slots,
+        saved_stack,
+        saved_frames,
+        ready,
+        finalize,
+        setup,
+        m,
+        fuel,
+        calls,
+        answers,
+    )
 }
