@@ -10,6 +10,7 @@ use memory::machine::Sizes;
 use model::call::Answer;
 use model::call::Op;
 use model::machine::Fuel;
+use sound_words::whole::sound_words;
 
 // On words that are sound, of a set-up of these sizes: nothing is tested but the call.
 pub fn sound_call(
@@ -48,7 +49,7 @@ pub fn sound_call(
 }
 
 // Everything as found, and 11.
-pub(crate) fn unsound(m: Machine, fuel: Fuel) -> Called
+pub fn unsound(m: Machine, fuel: Fuel) -> Called
     ensures { λ r. ⌜ r ≡ record { machine = m; fuel = fuel; answer = Answer.Refused Fault.Unsound } ⌝ }
 {
     Called {
@@ -93,6 +94,53 @@ pub fn called(
         setup,
         m,
         l,
+        fuel,
+        op,
+    )
+}
+
+// Any call but the set-up.
+pub fn call(
+    stack: &mut [u64],
+    frames: &mut [u64],
+    chain: &mut [u64],
+    slots: &mut [u64],
+    saved_stack: &mut [u64],
+    saved_frames: &mut [u64],
+    ready: &mut [u64],
+    finalize: &mut [u64],
+    setup: &[u64],
+    m: Machine,
+    fuel: Fuel,
+    op: Op,
+) -> Called
+    ensures { λ r. ⌜ gives (nine stack frames chain slots «saved_stack» «saved_frames» ready finalize setup atExit) r ≡ stepWords (state (nine stack frames chain slots «saved_stack» «saved_frames» ready finalize setup atEntry) m fuel) op ⌝ }
+{
+    let ok = sound_words(
+        stack,
+        frames,
+        chain,
+        slots,
+        saved_stack,
+        saved_frames,
+        ready,
+        finalize,
+        setup,
+        m,
+        fuel,
+    );
+    called(
+        ok,
+        stack,
+        frames,
+        chain,
+        slots,
+        saved_stack,
+        saved_frames,
+        ready,
+        finalize,
+        setup,
+        m,
         fuel,
         op,
     )

@@ -9,6 +9,7 @@ ghost use Rattle.outer.specs.Look.{Placed};
 use added::look::Span;
 use memory::machine::Machine;
 use model::machine::Fuel;
+use sound_words::whole::sound_words;
 
 // Where that part begins and ends.
 pub fn place(ok: bool, frames: &[u64], m: Machine) -> Span
@@ -43,4 +44,49 @@ pub fn seen<'a>(
     let start = s.start;
     let end = s.end;
     &stack[start..end]
+}
+
+// The part of the caller's stack from the top frame's base to the stack's end.
+pub fn look<'a>(
+    stack: &'a [u64],
+    frames: &[u64],
+    chain: &[u64],
+    slots: &[u64],
+    saved_stack: &[u64],
+    saved_frames: &[u64],
+    ready: &[u64],
+    finalize: &[u64],
+    setup: &[u64],
+    m: Machine,
+    fuel: Fuel,
+) -> &'a [u64]
+    ensures { λ r. ⌜ now r ≡ looked (state (nine stack frames chain slots «saved_stack» «saved_frames» ready finalize setup atEntry) m fuel) ⌝ }
+{
+    let ok = sound_words(
+        stack,
+        frames,
+        chain,
+        slots,
+        saved_stack,
+        saved_frames,
+        ready,
+        finalize,
+        setup,
+        m,
+        fuel,
+    );
+    seen(
+        ok,
+        stack,
+        frames,
+        chain,
+        slots,
+        saved_stack,
+        saved_frames,
+        ready,
+        finalize,
+        setup,
+        m,
+        fuel,
+    )
 }
