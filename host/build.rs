@@ -18,6 +18,8 @@ fn main() {
     println!("cargo::rerun-if-changed={}", file.display());
     println!("cargo::rustc-link-search=native={}", lib.display());
     println!("cargo::rustc-link-lib=static=exports");
+    // for the tests, which link a C program with it
+    println!("cargo::rustc-env=HUMDELZI_LIB_FOUND={}", lib.display());
 }
 
 /// The folder that `HUMDELZI_LIB` names.
