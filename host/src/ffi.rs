@@ -98,12 +98,12 @@ impl Sound {
     }
 
     /// Words from elsewhere, with their fuel, tested.
-    pub(crate) fn test(mut words: Words) -> Result<(Sound, Record), Words> {
+    pub(crate) fn test(mut words: Words) -> Result<(Sound, Record), Box<Words>> {
         let fuel = std::mem::take(&mut words.fuel);
         let sound = lend!(bvm_sound(&words, fuel) as_ptr) == 1;
         match <[u64; 4]>::try_from(&fuel[..]) {
             Ok(record) if sound => Ok((Sound(words), Record(record))),
-            _ => Err(Words { fuel, ..words }),
+            _ => Err(Box::new(Words { fuel, ..words })),
         }
     }
 

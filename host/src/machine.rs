@@ -121,7 +121,7 @@ impl Machine {
     /// let mut words = m.clone().into_words(&fuel);
     /// words.machine[6] = 2; // a flag that is neither 0 nor 1
     /// let Err(refused) = Machine::from_words(words) else { panic!("accepted") };
-    /// words = refused.0; // nothing is lost
+    /// words = *refused.0; // nothing is lost
     /// words.machine[6] = 0;
     /// assert_eq!(Machine::from_words(words).unwrap(), (m, fuel));
     /// # Ok::<(), humdelzi::Refused>(())
@@ -130,10 +130,10 @@ impl Machine {
     /// # Errors
     ///
     /// The words as they were, if they are no sound machine's (11).
-    pub fn from_words(words: Words) -> Result<(Machine, Fuel), Box<Unsound>> {
+    pub fn from_words(words: Words) -> Result<(Machine, Fuel), Unsound> {
         match Sound::test(words) {
             Ok((sound, record)) => Ok((Machine(sound), Fuel(record))),
-            Err(words) => Err(Box::new(Unsound(words))),
+            Err(words) => Err(Unsound(words)),
         }
     }
 

@@ -25,7 +25,7 @@ pub struct Words {
 
 /// Words that are no sound machine's: 11. Nothing of them is lost.
 #[derive(Clone, PartialEq, Eq, Debug)]
-pub struct Unsound(pub Words);
+pub struct Unsound(pub Box<Words>);
 
 impl fmt::Display for Unsound {
     fn fmt(&self, f: &mut fmt::Formatter<'_>) -> fmt::Result {

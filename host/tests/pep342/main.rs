@@ -32,6 +32,7 @@ struct Ran {
     program: Program,
     text: String,
     events: Vec<String>,
+    steps: u32,
     end: End,
 }
 
@@ -44,7 +45,8 @@ fn on_library(program: Program) -> Ran {
     machine.host_call(&mut fuel, humdelzi::FunctionId(0));
     let mut run = Run::new(machine, fuel, &codes);
     let end = run.go(u32::MAX).expect("it ends");
-    Ran { program, text, events: run.events, end }
+    let steps = run.steps();
+    Ran { program, text, events: run.events, steps, end }
 }
 
 /// What python3 says of these programs: events, departures, end.
@@ -112,7 +114,8 @@ fn generators_in_cpython_and_here() {
     let (programs, seed, start) = (number("PROGRAMS", 500), number("SEED", 1), Instant::now());
     let mut seen: BTreeMap<u32, u64> = BTreeMap::new();
     let mut kinds: BTreeMap<String, u64> = BTreeMap::new();
-    let (mut compared, mut events, mut large, mut next) = (0_u64, 0_u64, 0_u64, seed << 32);
+    let (mut compared, mut events, mut steps) = (0_u64, 0_u64, 0_u64);
+    let (mut large, mut next) = (0_u64, seed << 32);
     while compared < programs {
         let mut batch = Vec::new();
         while batch.len() < BATCH.min((programs - compared) as usize) {
@@ -144,6 +147,7 @@ fn generators_in_cpython_and_here() {
                 *seen.entry(2).or_default() += 1;
             }
             events += ran.events.len() as u64;
+            steps += u64::from(ran.steps);
             for e in &ran.events {
                 let kind = match e.split_once(' ') {
                     Some(("raised", what)) => format!("raised {what}"),
@@ -156,7 +160,7 @@ fn generators_in_cpython_and_here() {
         }
     }
     println!(
-        "pep342: {compared} programs in {} and here, {events} events equal, {:.1} s ({large} too large, not compared)",
+        "pep342: {compared} programs in {} and here, {steps} instructions here, {events} events equal, {:.1} s ({large} too large, not compared)",
         String::from_utf8_lossy(&version.stdout).trim(),
         start.elapsed().as_secs_f64()
     );

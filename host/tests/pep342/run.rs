@@ -181,6 +181,11 @@ impl<'a> Run<'a> {
         next
     }
 
+    /// How many instructions were run.
+    pub fn steps(&self) -> u32 {
+        self.steps
+    }
+
     /// Runs to the end, or so many steps.
     pub fn go(&mut self, steps: u32) -> Option<End> {
         let mut pc = self.paused.take();
