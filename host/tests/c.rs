@@ -31,4 +31,5 @@ fn compiles_and_runs(name: &str, flags: &[&str]) {
 #[test]
 fn a_script_sleeps_and_wakes_through_c() {
     compiles_and_runs("tested", &[]);
+    compiles_and_runs("kept", &["-DHUMDELZI_KEPT"]);
 }

@@ -127,9 +127,11 @@ fn refuses(rng: &mut Rng, words: &Words, lent: &mut Lent, tried: &mut Tried) -> 
             ("bvm_call", 11)
         }
         5..=6 => {
-            let calls: Vec<u64> = (0..rng.range(1, 3)).flat_map(|_| [26, 0, 0, 0, 0, 0]).collect();
-            let n = calls.len() / 6;
-            expect("run", lent.run(&calls, n * 8), (11, [refused(11)].concat().repeat(n)))?;
+            let mut calls = [26, 0, 0, 0, 0, 0].repeat(rng.range(1, 3));
+            calls.truncate(calls.len() - rng.below(6));
+            let n = calls.len().div_ceil(6);
+            let found = lent.run(&calls, n * 8, rng.below(9));
+            expect("run", found, (11, refused(11).repeat(n)))?;
             ("bvm_run", 11)
         }
         7 => {
@@ -141,12 +143,21 @@ fn refuses(rng: &mut Rng, words: &Words, lent: &mut Lent, tried: &mut Tried) -> 
             ("bvm_grant", 11)
         }
         _ => {
-            expect("call, short", lent.call_short(&any_call(rng), rng.below(8)), 14)?;
-            ("bvm_call", 14)
+            short(rng, lent, tried)?;
+            return same(lent, words);
         }
     };
     tried.see(function.0, function.1);
     same(lent, words)
+}
+
+/// Too few words for an answer: 14, before anything else.
+fn short(rng: &mut Rng, lent: &mut Lent, tried: &mut Tried) -> Result<(), String> {
+    for (function, number) in lent.short(rng.below(8)) {
+        expect(function, number, 14)?;
+        tried.see(function, 14);
+    }
+    Ok(())
 }
 
 /// A call that the state invites, but no set-up.
@@ -184,7 +195,12 @@ fn accepted(
                 wanted.extend(answer_words(&call, &engine.call(&call)));
                 calls.extend(call_words(&call).expect("no set-up"));
             }
-            expect("run", lent.run(&calls, wanted.len()), (0, wanted))?;
+            // a last part that is no call
+            if rng.chance(20) {
+                calls.extend([26, 0, 0, 0, 0, 0].iter().take(rng.range(1, 5)));
+                wanted.extend(refused(13));
+            }
+            expect("run", lent.run(&calls, wanted.len(), rng.below(9)), (0, wanted))?;
             ("bvm_run", 0)
         }
         7 => {
@@ -200,8 +216,8 @@ fn accepted(
             ("bvm_grant", wanted[0])
         }
         _ => {
-            expect("call, short", lent.call_short(&[26, 0, 0, 0, 0, 0], rng.below(8)), 14)?;
-            ("bvm_call", 14)
+            short(rng, lent, tried)?;
+            return same(lent, words);
         }
     };
     tried.see(function.0, function.1);

@@ -141,12 +141,16 @@ impl Lent {
         (number, answer.words().try_into().expect("eight words"))
     }
 
-    /// Calls in words, one after the other; the answers have so many words.
-    pub fn run(&mut self, calls: &[u64], answers: usize) -> (u64, Vec<u64>) {
-        let (mut calls, mut all) = (Guarded::new(calls), Guarded::new(&vec![GUARD; answers]));
+    /// Calls in words, one after the other; the answers have so many words,
+    /// and as many more as are not to be written.
+    pub fn run(&mut self, calls: &[u64], answers: usize, more: usize) -> (u64, Vec<u64>) {
+        let mut calls = Guarded::new(calls);
+        let mut all = Guarded::new(&vec![GUARD; answers + more]);
         let (c, a) = (lent(calls.slice()), lent(all.slice()));
         let number = lend!(bvm_run(self.all(), c, a));
-        (number, all.words().to_vec())
+        let (told, beyond) = all.words().split_at(answers);
+        assert!(beyond.iter().all(|&w| w == GUARD), "beyond the last answer nothing is written");
+        (number, told.to_vec())
     }
 
     pub fn look(&mut self) -> (u64, [u64; 2]) {
@@ -163,13 +167,22 @@ impl Lent {
         (number, answer.words().try_into().expect("eight words"))
     }
 
-    /// A call with too few words for its answer, which must stay as they are.
-    pub fn call_short(&mut self, call: &[u64], room: usize) -> u64 {
-        let (mut call, mut answer) = (Guarded::new(call), Guarded::new(&vec![GUARD; room]));
+    /// Too few words for the answer of each function, which must stay as they
+    /// are: what each returns.
+    pub fn short(&mut self, room: usize) -> [(&'static str, u64); 5] {
+        let mut call = Guarded::new(&[26, 0, 0, 0, 0, 0]);
+        let mut answer = Guarded::new(&vec![GUARD; room]);
         let (c, a) = (lent(call.slice()), lent(answer.slice()));
-        let number = lend!(bvm_call(self.all(), c, a));
+        let span = (a.0, a.1.min(1));
+        let told = [
+            ("bvm_call", lend!(bvm_call(self.all(), c, a))),
+            ("bvm_run", lend!(bvm_run(self.all(), c, a))),
+            ("bvm_look", lend!(bvm_look(self.all(), span))),
+            ("bvm_grant", lend!(bvm_grant(self.all(), a; 1))),
+            ("bvm_set_up", lend!(bvm_set_up(self.all(), c, a))),
+        ];
         assert!(answer.words().iter().all(|&w| w == GUARD), "nothing is written");
-        number
+        told
     }
 
     pub fn sound(&mut self) -> bool {

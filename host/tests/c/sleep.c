@@ -86,11 +86,13 @@ int main(void)
     CHECK(humdelzi_unwind_at(&m, &f, &a, HUMDELZI_INVALID_CORO_STATE, 0, 10) == HUMDELZI_THROW);
     CHECK(m.machine[1] == 0 && humdelzi_sound(&m, &f));
 
+#ifndef HUMDELZI_KEPT
     /* one word damaged: 11, nothing changed; put right, it goes on */
     stack[STACK - 1] = 1;
     CHECK(!humdelzi_sound(&m, &f));
     CHECK(humdelzi_call(&m, &f, &a, 17, 0, 0, 0, 0, 0) == HUMDELZI_UNSOUND);
     stack[STACK - 1] = 0;
+#endif
     CHECK(humdelzi_host_call(&m, &f, &a, 0) == 0);
 
     printf("c: %d checks, %d failed\n", checks, failures);
