@@ -49,6 +49,7 @@ w = World()
 def begin():
     w.events, w.departures, w.handles, w.running = [], set(), [], []
     w.await_now = False
+    w.operations = {}
 
 
 def limits(depth, stack, registers, real_close):
@@ -126,6 +127,12 @@ def seen(n):
     w.departures.add(n)
 
 
+def tried(operation, state):
+    """An operation on a generator in this state."""
+    key = f"{operation}{state}"
+    w.operations[key] = w.operations.get(key, 0) + 1
+
+
 def observe(kind, f, *args):
     """CPython raises such an exception here."""
     try:
@@ -196,6 +203,7 @@ def told(h, what, value):
 
 def send(h, value):
     s = status(h)
+    tried("send", s)
     if s == RUNNING:
         busy(h, lambda: h.generator.send(value))
     if s in (RETURNED, FAILED):
@@ -212,6 +220,7 @@ def send(h, value):
 
 def throw(h, e):
     s = status(h)
+    tried("throw", s)
     if e is None:
         if h.generator is not None:
             observe(TypeError, h.generator.throw, None)
@@ -236,6 +245,7 @@ def throw(h, e):
 
 def close(h, e):
     s = status(h)
+    tried("close", s)
     if s == RUNNING:
         seen(10)
         busy(h, lambda: h.generator.close())
@@ -302,6 +312,7 @@ class Each:
     def __next__(self):
         h = self.h
         s = status(h)
+        tried("next", s)
         if s == RUNNING:
             busy(h, lambda: next(h.generator))
         if s in (RETURNED, FAILED):
@@ -323,6 +334,7 @@ def each(h):
 
 def drop(h):
     """The last reference goes: CPython closes it now, and prints what escapes."""
+    tried("drop", status(h))
     lost = []
     sys.unraisablehook = lambda u: lost.append(u.exc_value)
     h.closing = "exit"
@@ -349,7 +361,7 @@ def run(text):
         end = f"wrong {e!r}"
     # nothing is collected: what still sleeps runs no more
     kept.append(w.handles)
-    return w.events, w.departures, end
+    return end
 
 
 kept = []
@@ -362,10 +374,11 @@ def main():
         if line != "#end\n":
             lines.append(line)
             continue
-        events, departures, end = run("".join(lines))
+        end = run("".join(lines))
         lines = []
-        out += events
-        out.append("# " + " ".join(map(str, sorted(departures))))
+        out += w.events
+        out.append("#departures " + " ".join(map(str, sorted(w.departures))))
+        out.append("#operations " + " ".join(f"{k} {n}" for k, n in w.operations.items()))
         out.append(f"#end {end}")
     print("\n".join(out), flush=True)
     os._exit(0)

@@ -49,8 +49,17 @@ fn on_library(program: Program) -> Ran {
     Ran { program, text, events: run.events, steps, end }
 }
 
-/// What python3 says of these programs: events, departures, end.
-fn on_python(batch: &[Ran]) -> Vec<(Vec<String>, Vec<u32>, String)> {
+/// What python3 says of a program.
+#[derive(Default)]
+struct Theirs {
+    events: Vec<String>,
+    departures: Vec<u32>,
+    /// Operations by the state of the generator, and how many.
+    operations: Vec<(String, u64)>,
+    end: String,
+}
+
+fn on_python(batch: &[Ran]) -> Vec<Theirs> {
     let judge = concat!(env!("CARGO_MANIFEST_DIR"), "/tests/pep342/judge.py");
     let mut child = Command::new("python3")
         .arg(judge)
@@ -63,15 +72,19 @@ fn on_python(batch: &[Ran]) -> Vec<(Vec<String>, Vec<u32>, String)> {
     let writer = thread::spawn(move || input.write_all(text.as_bytes()));
     let output = child.wait_with_output().expect("python3 runs");
     writer.join().expect("no panic").expect("python3 reads");
-    let mut all = Vec::new();
-    let (mut events, mut departures) = (Vec::new(), Vec::new());
+    let (mut all, mut one) = (Vec::new(), Theirs::default());
+    let number = |n: &str| n.parse::<u64>().expect("a number");
     for line in String::from_utf8(output.stdout).expect("text").lines() {
-        if let Some(end) = line.strip_prefix("#end ") {
-            all.push((std::mem::take(&mut events), std::mem::take(&mut departures), end.into()));
-        } else if let Some(seen) = line.strip_prefix('#') {
-            departures = seen.split_whitespace().map(|n| n.parse().expect("a number")).collect();
+        if let Some(seen) = line.strip_prefix("#departures ") {
+            one.departures = seen.split_whitespace().map(|n| number(n) as u32).collect();
+        } else if let Some(tried) = line.strip_prefix("#operations ") {
+            let words: Vec<&str> = tried.split_whitespace().collect();
+            one.operations = words.chunks(2).map(|w| (w[0].into(), number(w[1]))).collect();
+        } else if let Some(end) = line.strip_prefix("#end ") {
+            one.end = end.into();
+            all.push(std::mem::take(&mut one));
         } else {
-            events.push(line.to_string());
+            one.events.push(line.into());
         }
     }
     assert_eq!(all.len(), batch.len(), "python3 answered for every program");
@@ -114,6 +127,7 @@ fn generators_in_cpython_and_here() {
     let (programs, seed, start) = (number("PROGRAMS", 500), number("SEED", 1), Instant::now());
     let mut seen: BTreeMap<u32, u64> = BTreeMap::new();
     let mut kinds: BTreeMap<String, u64> = BTreeMap::new();
+    let mut tried: BTreeMap<String, u64> = BTreeMap::new();
     let (mut compared, mut events, mut steps) = (0_u64, 0_u64, 0_u64);
     let (mut large, mut next) = (0_u64, seed << 32);
     while compared < programs {
@@ -127,7 +141,8 @@ fn generators_in_cpython_and_here() {
                 _ => batch.push(ran),
             }
         }
-        for (ran, (theirs, departures, end)) in batch.iter().zip(on_python(&batch)) {
+        for (ran, told) in batch.iter().zip(on_python(&batch)) {
+            let Theirs { events: theirs, departures, operations, end } = told;
             let mut dropped = false;
             let same = match ran.end {
                 // fuel was used up: what came before is the same
@@ -145,6 +160,9 @@ fn generators_in_cpython_and_here() {
             }
             if dropped && !departures.contains(&2) {
                 *seen.entry(2).or_default() += 1;
+            }
+            for (operation, n) in operations {
+                *tried.entry(operation).or_default() += n;
             }
             events += ran.events.len() as u64;
             steps += u64::from(ran.steps);
@@ -165,7 +183,25 @@ fn generators_in_cpython_and_here() {
         start.elapsed().as_secs_f64()
     );
     println!("pep342: events: {kinds:?}");
+    println!("pep342: operations by state: {tried:?}");
     println!("pep342: programs by departure: {seen:?}");
+    // created, running, yielded, awaiting, returned, failed; programs with awaits have no loops
+    let states = [
+        ("send", 0..6),
+        ("throw", 0..6),
+        ("close", 0..6),
+        ("drop", 2..4),
+        ("next", 0..3),
+        ("next", 4..6),
+    ];
+    for (operation, states) in states {
+        for state in states {
+            assert!(
+                tried.contains_key(&format!("{operation}{state}")),
+                "{operation} in state {state}"
+            );
+        }
+    }
     let missing: Vec<u32> = (1..=13).filter(|d| !seen.contains_key(d)).collect();
     assert!(missing.is_empty(), "departures not seen: {missing:?}");
 }
