@@ -116,7 +116,7 @@ fn carry_on(rng: &mut Rng, mut m: Machine, mut fuel: Fuel) {
 #[test]
 fn one_word_changed() {
     let (mut refused, mut sound, mut runs) = (0, 0, 0);
-    for seed in 0..300 {
+    for seed in 0..200 {
         let program = Program::random(seed);
         let codes = compile(&program);
         let mut whole = started(&program, &codes);

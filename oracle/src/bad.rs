@@ -9,7 +9,7 @@ use crate::generate::{bad_setup, machine, next_calls, sequence, setup, Profile, 
 use crate::layout;
 use crate::lent::{
     answer_words, call_words, damaged, random, read, read_setup, refused, setup_words, Damage,
-    Words, FUEL, MACHINE, SETUP,
+    Words, SETUP,
 };
 use crate::library::{Lent, Through};
 use crate::plain::Plain;
@@ -270,14 +270,7 @@ pub fn set_ups(rng: &mut Rng, costs: Costs, n: u64, tried: &mut Tried) -> Result
         expect("set-up", (number, answer), (wanted[0], wanted))
             .map_err(|e| format!("{e}; {}", why()))?;
         let expected = match &told {
-            Ok(s) if enough => {
-                let mut fresh = Words::of(&World::fresh(s.clone())).within(&before);
-                // what is lent beyond the machine's and the fuel's words stays
-                for (slice, n) in [(MACHINE, 25), (FUEL, 4)] {
-                    fresh.0[slice][n..].copy_from_slice(&before.0[slice][n..]);
-                }
-                fresh
-            }
+            Ok(s) if enough => Words::of(&World::fresh(s.clone())).within(&before),
             _ => before,
         };
         same(&lent, &expected).map_err(|e| format!("{e}; {}", why()))?;

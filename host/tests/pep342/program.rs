@@ -333,8 +333,8 @@ impl Program {
             functions,
             actions,
             real_close: rng.chance(50),
-            depth: if tight { 2 + rng.below(3) as u64 } else { 64 },
-            stack: if rng.chance(5) { 60 + rng.below(80) as u64 } else { 1024 },
+            depth: if tight { 2 + rng.below(3) as u64 } else { 16 },
+            stack: if rng.chance(5) { 60 + rng.below(80) as u64 } else { 400 },
             fuel: if rng.chance(6) { 5 + rng.below(60) as u64 } else { 1_000_000 },
         }
     }

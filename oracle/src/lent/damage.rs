@@ -102,6 +102,8 @@ pub fn change(rng: &mut Rng, words: &mut Words) {
         SAVED_STACK | SAVED_FRAMES => {
             words.0[slice].iter().rposition(|&w| w != 0).map_or(0, |i| i + 1)
         }
+        // the numbers rather than the set-up's sizes
+        MACHINE => 13,
         _ => words.0[slice].len(),
     };
     let len = words.0[slice].len();

@@ -67,11 +67,15 @@ impl Words {
         })
     }
 
-    /// The same words in slices as long as those of another, with 0 after.
+    /// The same words in slices as long as those of another, with 0 after;
+    /// beyond the machine's numbers and the fuel stands what stood there.
     #[must_use]
     pub fn within(mut self, other: &Words) -> Words {
-        for (ws, like) in self.0.iter_mut().zip(&other.0) {
-            ws.resize(ws.len().max(like.len()), 0);
+        for (i, (ws, like)) in self.0.iter_mut().zip(&other.0).enumerate() {
+            match like.get(ws.len()..) {
+                Some(more) if i >= MACHINE => ws.extend(more),
+                _ => ws.resize(ws.len().max(like.len()), 0),
+            }
         }
         self
     }
