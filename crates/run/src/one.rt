@@ -8,7 +8,7 @@ ghost use Rattle.words.specs.Sizes.{SetupFits};
 ghost use Rattle.outer.specs.State.{nine, state, gives};
 ghost use Rattle.run.specs.Run.{ReadFits, Reads};
 use calls::call::Read;
-use exec::instruction::Called;
+use machine::called::Called;
 use memory::machine::Machine;
 use memory::machine::Sizes;
 use model::call::Answer;

@@ -1,6 +1,6 @@
 -- `sizes_if` meets its contract. Assumes nothing.
 use mathlib.Core.Path.{sym, _∙_}
-use Rattle.invariant.proofs.Tests.{no-false}
+use Rattle.soundness.proofs.Tests.{no-false}
 use borrow.Author.Needs.{needs}
 use Rattle.run.proofs.one.sizes_if.Statement.{statement}
 use Rattle.run.proofs.one.sizes_if.Tie as tie
