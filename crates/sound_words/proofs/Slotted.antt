@@ -96,8 +96,25 @@ fits-in t (O.Error e f p v) b h =
     let y₃ = ltb-true f (2 ^ 32) (and-right r (ltb f (2 ^ 32)) o₂) in
     let y₄ = ltb-true p (2 ^ 32) (and-right (r && ltb f (2 ^ 32)) (ltb p (2 ^ 32)) o) in
     let z = b 5 in
-    of-facts (getD kinds 5 []) (slotWords (slot t (O.Error e f p v)))
-    ((omega arith, omega arith), ((omega arith, omega arith), ((omega arith, omega arith), ((omega arith, omega arith), ((omega arith, omega arith), ((omega arith, omega arith), unused-in 14))))))
+    of-facts (getD kinds 5 []) (slotWords (slot t (O.Error e f p v))) (
+      (omega arith, omega arith),
+      (
+        (omega arith, omega arith),
+        (
+          (omega arith, omega arith),
+          (
+            (omega arith, omega arith),
+            (
+              (omega arith, omega arith),
+              (
+                (omega arith, omega arith),
+                unused-in 14,
+              ),
+            ),
+          ),
+        ),
+      ),
+    )
 fits-in t (O.Coro c) b h =
     let p = and-left (ltb t (2 ^ 16) && ltb (c .waiting) (2 ^ 16)) true h in
     let x = ltb-true t (2 ^ 16) (and-left (ltb t (2 ^ 16)) (ltb (c .waiting) (2 ^ 16)) p) in
@@ -117,8 +134,55 @@ fits-in t (O.Coro c) b h =
     let b₉ = b 15 in
     let c₁ = b 16 in
     let c₂ = b 17 in
-    of-facts (getD kinds 6 []) (slotWords (slot t (O.Coro c)))
-    ((omega arith, omega arith), ((omega arith, omega arith), ((omega arith, omega arith), ((omega arith, omega arith), ((omega arith, omega arith), ((omega arith, omega arith), ((omega arith, omega arith), ((omega arith, omega arith), ((omega arith, omega arith), ((omega arith, omega arith), ((omega arith, omega arith), ((omega arith, omega arith), ((omega arith, omega arith), ((omega arith, omega arith), ((omega arith, omega arith), ((omega arith, omega arith), ((omega arith, omega arith), ((omega arith, omega arith), unused-in 2))))))))))))))))))
+    of-facts (getD kinds 6 []) (slotWords (slot t (O.Coro c))) (
+      (omega arith, omega arith),
+      (
+        (omega arith, omega arith),
+        (
+          (omega arith, omega arith),
+          (
+            (omega arith, omega arith),
+            (
+              (omega arith, omega arith),
+              (
+                (omega arith, omega arith),
+                (
+                  (omega arith, omega arith),
+                  (
+                    (omega arith, omega arith),
+                    (
+                      (omega arith, omega arith),
+                      (
+                        (omega arith, omega arith),
+                        (
+                          (omega arith, omega arith),
+                          (
+                            (omega arith, omega arith),
+                            (
+                              (omega arith, omega arith),
+                              (
+                                (omega arith, omega arith),
+                                (
+                                  (omega arith, omega arith),
+                                  (
+                                    (omega arith, omega arith),
+                                    ((omega arith, omega arith), ((omega arith, omega arith), unused-in 2)),
+                                  ),
+                                ),
+                              ),
+                            ),
+                          ),
+                        ),
+                      ),
+                    ),
+                  ),
+                ),
+              ),
+            ),
+          ),
+        ),
+      ),
+    )
 
 in-fits : (t : ℕ) (o : H.Object) → slotOk (slotWords (slot t o)) ≡ true → slotFits (slot t o) ≡ true
 in-fits t O.Empty h =
