@@ -3,7 +3,6 @@ use mathlib.Core.Path.{sym, ap, _∙_}
 use mathlib.Core.Bool.{_||_}
 use native.Mathlib.Omega.{arith}
 use Rattle.sound_words.specs.Rows.{rowFree}
-use borrow.Author.Needs.{needs}
 use Rattle.sound_words.proofs.rows.free_at.Statement.{statement}
 use Rattle.sound_words.proofs.rows.free_at.Tie as tie
 

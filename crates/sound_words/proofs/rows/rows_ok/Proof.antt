@@ -1,5 +1,5 @@
 -- `rows_ok` meets its contract: the slots from i on passed, and the set has their rows. Assumes nothing.
-use mathlib.Core.Path.{_≡_, refl, sym, _∙_}
+use mathlib.Core.Path.{sym, _∙_}
 use native.Mathlib.Omega.{arith}
 use Rattle.words.specs.Decode.{setupOf}
 use Rattle.sound_test.specs.Queue.{inSet}

@@ -4,12 +4,11 @@ use mathlib.Core.Bool.{true, false≢true}
 use Prim.Native.Nat.{_*_, _-_, _<_}
 use native.Mathlib.Omega.{arith}
 use borrow.Author.Tests.{not-true, not-false}
-use lib.ListN.{length, length-set, getD, replicate}
+use lib.ListN.{length-set, getD}
 use Rattle.lists.proofs.Tables.{length-chunks}
 use Rattle.heap.specs.Word.{slotOf}
 use Rattle.heap.specs.Slot.{slotOfWords}
 use Rattle.heap.specs.Heap.{slotsOf}
-use Rattle.sound_test.specs.Queue.{inSet}
 use Rattle.sound_test.proofs.Bits.{empty-set, put-set}
 use Rattle.sound_words.proofs.Chained.{Passed, runs, stops, twice, passes, all-run, set-of, word-inside}
 use Rattle.sound_words.proofs.running.running.Statement.{statement}
@@ -35,7 +34,7 @@ small c e =
     omega arith
 
 loop-holds : tie.Need-loop-holds Inv-loop μ-loop
-loop-holds c = record { within = omega arith; each = refl; own = refl; holds = empty-set; long = refl }
+loop-holds c = record { within = omega arith; fine = refl; own = refl; holds = empty-set; long = refl }
 
 mul-w : tie.Need-mul-w Inv-loop μ-loop
 mul-w c =

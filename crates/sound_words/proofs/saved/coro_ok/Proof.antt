@@ -1,13 +1,10 @@
 -- `coro_ok` meets its contract: each test fails the whole, and the last decides it. Assumes nothing.
-use mathlib.Core.Path.{_≡_, refl, sym, _∙_}
-use mathlib.Core.Bool.{true}
+use mathlib.Core.Path.{refl, sym, _∙_}
 use native.Mathlib.Omega.{arith}
-use Prim.Native.Nat.{_≤_, _*_}
+use Prim.Native.Nat.{_*_}
 use lib.ListN.{length}
-use lib.Dec.{leb}
-use borrow.Author.Tests.{not-true, not-false, ne-eqb, eq-eqb, lt-ltb, le-ltb, leb-true}
+use borrow.Author.Tests.{not-true, not-false, ne-eqb, eq-eqb, lt-ltb, le-ltb}
 use Rattle.words.specs.Decode.{setupOf}
-use Rattle.invariant.proofs.Tests.{and-left, and-right}
 use Rattle.sound_test.proofs.Bools.{three-1, three-2, three-3}
 use Rattle.sound_words.proofs.Coros.{row-inside, sizes-stop, ended, live, frames-few}
 use borrow.Author.Needs.{needs}

@@ -1,8 +1,7 @@
 -- `queues_ok` meets its contract: the first test fails the whole, the second decides it. Assumes nothing.
-use mathlib.Core.Path.{refl, sym, _∙_}
+use mathlib.Core.Path.{refl}
 use borrow.Author.Tests.{not-true, not-false}
 use Rattle.sound_test.proofs.Bools.{first-fails, second-decides}
-use borrow.Author.Needs.{needs}
 use Rattle.sound_words.proofs.whole.queues_ok.Statement.{statement}
 use Rattle.sound_words.proofs.whole.queues_ok.Tie as tie
 
