@@ -1,7 +1,7 @@
 -- The words of the chain from the bottom up, with the set of their slots. Assumes nothing.
 use mathlib.Core.Path.{_≡_, refl, sym, ap, ap₂, _∙_, subst}
 use mathlib.Core.Bool.{Bool, true, false, not, _&&_, _||_}
-use mathlib.Core.List.{List, [], _∷_, map}
+use mathlib.Core.List.{List, _∷_, map}
 use Prim.Native.Nat.{ℕ, zero, suc, _+_, _*_, _-_, _≤_, _<_}
 use native.Mathlib.Omega.{arith}
 use native.Mathlib.Numerals.{add-one}
@@ -10,19 +10,17 @@ use lib.Dec.{eqb}
 use borrow.Author.Tests.{eqb-true, eqb-false}
 use lib.ListN.{length, getD}
 use Rattle.lists.proofs.Tests.{and-false}
-use Rattle.lists.proofs.Tables.{chunk-get, length-chunks}
+use Rattle.lists.proofs.Tables.{chunk-get}
 use Rattle.heap.specs.Word.{slotOf, reference}
 use Rattle.heap.specs.Table.{Slot, slot}
-use Rattle.heap.specs.Slot.{slotOfWords}
-use Rattle.heap.specs.Heap.{slotsOf, coroOf}
+use Rattle.heap.specs.Heap.{coroOf}
 use Rattle.heap.specs.declared.object.Object as H
 use Rattle.heap.specs.declared.object.Object.the-variants as O
 use Rattle.model.specs.Lists.{each, among, distinct}
-use Rattle.soundness.proofs.Tests.{no-true, and-left, and-right, both, each-at}
+use Rattle.soundness.proofs.Tests.{both, each-at}
 use Rattle.sound_test.specs.Queue.{byCoro, inSet}
-use Rattle.sound_test.proofs.Bits.{empty-set}
 use Rattle.sound_test.proofs.Seen.{Told, among-slots}
-use Rattle.sound_test.proofs.Named.{Word, word-named}
+use Rattle.sound_test.proofs.Named.{word-named}
 use Rattle.sound_words.specs.Running.{running, activeWords, runningTest}
 
 module _ (chain : List ℕ) where
@@ -61,7 +59,7 @@ module _ (xs : List (Slot H.Object)) where
     -- k of them passed
     pub record Passed (n k : ℕ) (set : List ℕ) : Type 0 where
       pub within : k ≤ n
-      pub each : each runs (activeWords chain k) ≡ true
+      pub fine : each runs (activeWords chain k) ≡ true
       pub own : distinct (activeWords chain k) ≡ true
       pub holds : (x : ℕ) → inSet set x ≡ among x (map slotOf (activeWords chain k))
       pub long : length set ≡ 64
@@ -69,7 +67,7 @@ module _ (xs : List (Slot H.Object)) where
     abbrev v : ℕ → ℕ
     v k = getD chain (k * 6) 0
 
-    each-up : (x : ℕ) (ys : List ℕ) → Rattle.model.specs.Lists.each runs ys ≡ false → Rattle.model.specs.Lists.each runs (x ∷ ys) ≡ false
+    each-up : (x : ℕ) (ys : List ℕ) → each runs ys ≡ false → each runs (x ∷ ys) ≡ false
     each-up x ys e = ap (λ b. runs x && b) e ∙ and-false (runs x)
 
     own-up : (x : ℕ) (ys : List ℕ) → distinct ys ≡ false → distinct (x ∷ ys) ≡ false
@@ -79,27 +77,27 @@ module _ (xs : List (Slot H.Object)) where
     pub stops : (n k : ℕ) → k < n → runs (v k) ≡ false → false ≡ runningTest chain n xs
     stops n k h e =
         sym (ap (λ b. b && distinct (activeWords chain n))
-        (of-lower chain (Rattle.model.specs.Lists.each runs) each-up (suc k) n h
-        (ap (Rattle.model.specs.Lists.each runs) (next-word chain k) ∙ ap (λ b. b && Rattle.model.specs.Lists.each runs (activeWords chain k)) e)))
+        (of-lower chain (each runs) each-up (suc k) n h
+        (ap (each runs) (next-word chain k) ∙ ap (λ b. b && each runs (activeWords chain k)) e)))
 
     module _ (n k : ℕ) (set : List ℕ) (p : Passed n k set) (more : k < n) (here : runs (v k) ≡ true) where
       seen-word : among (slotOf (v k)) (map slotOf (activeWords chain k)) ≡ among (v k) (activeWords chain k)
-      seen-word = among-slots wordOf (v k) (activeWords chain k) (word-slot (v k) here) (named (activeWords chain k) (p .each))
+      seen-word = among-slots wordOf (v k) (activeWords chain k) (word-slot (v k) here) (named (activeWords chain k) (p .fine))
 
       -- one that stands there already
       pub twice : inSet set (slotOf (v k)) ≡ true → false ≡ runningTest chain n xs
       twice e =
-          sym (ap (λ b. Rattle.model.specs.Lists.each runs (activeWords chain n) && b)
+          sym (ap (λ b. each runs (activeWords chain n) && b)
           (of-lower chain distinct own-up (suc k) n more
           (ap distinct (next-word chain k) ∙ ap (λ b. not b && distinct (activeWords chain k)) (sym seen-word ∙ sym (p .holds (slotOf (v k))) ∙ e)))
-          ∙ and-false (Rattle.model.specs.Lists.each runs (activeWords chain n)))
+          ∙ and-false (each runs (activeWords chain n)))
 
       pub passes : (set′ : List ℕ) → inSet set (slotOf (v k)) ≡ false → ((y : ℕ) → inSet set′ y ≡ eqb y (slotOf (v k)) || inSet set y) → length set′ ≡ 64 → Passed n (k + 1) set′
       passes set′ e f g =
           rw add-one
           (record {
             within = omega arith;
-            each = ap (Rattle.model.specs.Lists.each runs) (next-word chain k) ∙ both here (p .each);
+            fine = ap (each runs) (next-word chain k) ∙ both here (p .fine);
             own =
                 ap distinct (next-word chain k)
                 ∙ ap₂ (λ a b. not a && b) (sym seen-word ∙ sym (p .holds (slotOf (v k))) ∙ e) (p .own);
@@ -111,7 +109,7 @@ module _ (xs : List (Slot H.Object)) where
     pub all-run : (n k : ℕ) (set : List ℕ) → Passed n k set → n ≤ k → true ≡ runningTest chain n xs
     all-run n k set p h =
         let q : k ≡ n = let w = p .within in omega arith in
-        sym (subst (λ m. runningTest chain m xs ≡ true) q (both (p .each) (p .own)))
+        sym (subst (λ m. runningTest chain m xs ≡ true) q (both (p .fine) (p .own)))
 
     pub set-of : (n k : ℕ) (set : List ℕ) → Passed n k set → n ≤ k → (x : ℕ) → inSet set x ≡ among x (map slotOf (activeWords chain n))
     set-of n k set p h x = let q : k ≡ n = let w = p .within in omega arith in p .holds x ∙ ap (λ m. among x (map slotOf (activeWords chain m))) q

@@ -1,24 +1,23 @@
 -- An accepted set-up with room: its sizes are small, and the tables lie in their slices. Assumes nothing.
-use mathlib.Core.Path.{_≡_, refl, sym, ap, _∙_, subst}
+use mathlib.Core.Path.{_≡_}
 use mathlib.Core.Bool.{Bool, true, _&&_}
 use mathlib.Core.List.{List, [], _∷_}
-use Prim.Native.Nat.{ℕ, _+_, _*_, _≤_}
+use Prim.Native.Nat.{ℕ, _≤_}
 use native.Mathlib.Omega.{arith}
 use native.Mathlib.Nat.{max-le}
 use lib.Dec.{leb}
-use lib.ListN.{length, getD}
+use lib.ListN.{length}
 use borrow.Author.Tests.{leb-true}
 use Rattle.lists.specs.Parts.{pad}
 use Rattle.model.specs.Lists.{each}
 use Rattle.model.specs.Program.{Func, Setup, functionOk, handlerOk, setupOk}
-use Rattle.model.specs.Sound.{widest, rowWords}
+use Rattle.model.specs.Sound.{widest}
 use Rattle.model.specs.declared.machine.Fuel.{Fuel}
 use Rattle.soundness.proofs.Tests.{and-left, and-right}
-use Rattle.soundness.proofs.Sound.{Facts, facts}
+use Rattle.soundness.proofs.Sound.{facts}
 use Rattle.tables.specs.Sizes.{setupWords, setupSize}
 use Rattle.memory.specs.Memory.{Lent, Room}
 use Rattle.memory.specs.declared.machine.Machine.{Machine}
-use Rattle.memory.specs.declared.machine.Sizes.{Sizes}
 use Rattle.words.specs.Sizes.{SetupFits}
 use Rattle.words.specs.Words.{sizesOf}
 use Rattle.words.specs.Decode.{setupOf}
@@ -27,7 +26,7 @@ use Rattle.sound.specs.Words.{same, setupHeld, roomOk, countsOk}
 use Rattle.sound.proofs.Held.{same-true}
 use Rattle.sound.proofs.Passed.{Counts, room-of, counts-of}
 use Rattle.sound_test.specs.Frames.{Catches}
-use Rattle.sound_test.specs.Room.{roomTest, countsTest, SizesFit}
+use Rattle.sound_test.specs.Room.{countsTest, SizesFit}
 use Rattle.sound_test.proofs.OneFrame.{functions-long}
 use Rattle.sound_words.specs.Numbers.{outcomeTest, fuelTest}
 use Rattle.sound_words.specs.Whole.{numbersTest, TowerFits, ObjectsFit, QueuesFit}

@@ -2,11 +2,10 @@
 use mathlib.Core.Path.{_≡_, refl, sym, ap, ap₂, _∙_, subst}
 use mathlib.Core.Bool.{Bool, true, false, not, _&&_, _||_}
 use mathlib.Core.List.{List, [], _∷_}
-use mathlib.Core.Logic.{_⊎_, inl, inr, ⊎-elim}
-use Prim.Native.Nat.{ℕ, zero, suc, _+_, _*_, _-_, _≤_, _<_}
+use Prim.Native.Nat.{ℕ, zero, suc, _-_, _≤_, _<_}
 use native.Mathlib.Omega.{arith}
 use lib.Dec.{eqb, ltb}
-use lib.ListN.{length, getD, drop, drop-of-length-le}
+use lib.ListN.{length, drop, drop-of-length-le}
 use lib.Seq.{drop-cons}
 use borrow.Author.Tests.{ltb-true, ltb-false, lt-ltb, le-ltb, ne-eqb, eqb-true, eqb-false}
 use Rattle.lists.specs.Pick.{pick, pick-true, pick-false}
@@ -24,7 +23,7 @@ use Rattle.heap.specs.declared.object.Object.the-variants as O
 use Rattle.model.specs.Lists.{among, distinct}
 use Rattle.model.specs.Program.{Setup}
 use Rattle.memory.specs.declared.machine.Sizes.{Sizes}
-use Rattle.soundness.proofs.Tests.{no-false, no-true, and-left, and-right, both, picked}
+use Rattle.soundness.proofs.Tests.{and-left, both, picked}
 use Rattle.sound.specs.Words.{restOk}
 use Rattle.sound_test.specs.Queue.{bitAt}
 use Rattle.sound_test.proofs.Bits.{no-bit}

@@ -1,5 +1,5 @@
 -- A coroutine's test on words is what the rules ask of the coroutine that its slot and its row decode to. Assumes nothing.
-use mathlib.Core.Path.{_≡_, refl, sym, ap, ap₂, _∙_, subst}
+use mathlib.Core.Path.{_≡_, refl, sym, ap, _∙_, subst}
 use mathlib.Core.Bool.{Bool, true, false, not, _&&_, _||_}
 use mathlib.Core.List.{List, [], _∷_}
 use Prim.Native.Nat.{ℕ, suc, _+_, _*_, _≤_, _<_}
@@ -17,11 +17,11 @@ use Rattle.heap.specs.declared.object.Object as H
 use Rattle.heap.specs.declared.object.Object.the-variants as O
 use Rattle.model.specs.Lists.{isNil}
 use Rattle.model.specs.Program.{Setup}
-use Rattle.model.specs.Object.{Core, Rest, Is, asCoro}
+use Rattle.model.specs.Object.{Core, Is, asCoro}
 use Rattle.model.specs.Frames.{topBase}
 use Rattle.model.specs.Sound.{rowWords, savedSizes, savedIn, rowless, bodyLast, framesOver}
 use Rattle.model.specs.declared.machine.Frame.{Frame}
-use Rattle.soundness.proofs.Tests.{no-false, and-left, and-right, both, or-left, or-right, or-else, negate}
+use Rattle.soundness.proofs.Tests.{no-false, and-left, and-right, both, or-left, or-right, negate}
 use Rattle.tables.specs.Layout.{frameWords, frameOf}
 use Rattle.tables.specs.Parts.{piled}
 use Rattle.tables.specs.Sizes.{framesSize}
@@ -33,7 +33,6 @@ use Rattle.words.specs.Decode.{coreOf, restOf, objectOf}
 use Rattle.sound.specs.Words.{restOk, framesHeld, fitsRow}
 use Rattle.sound.proofs.Held.{length-piled, piled-take}
 use Rattle.sound.proofs.Rowed.{regs-long}
-use Rattle.sound_test.specs.Frames.{savedFramesOk}
 use Rattle.sound_words.specs.Saved.{sizesIn, waitsIn, framesIn, coroTest}
 use Rattle.sound_words.proofs.Waiting.{resumable-frames, running-frames}
 use Rattle.sound_words.proofs.Coros.{row-inside, nothing, in-row, ended, live}

@@ -1,29 +1,28 @@
 -- The slots' test and the rows': what the rules ask of the slots that the words decode to. Assumes nothing.
-use mathlib.Core.Path.{_≡_, refl, sym, ap, ap₂, _∙_, subst}
+use mathlib.Core.Path.{_≡_, refl, sym, ap, _∙_, subst}
 use mathlib.Core.Bool.{Bool, true, false, not, _&&_, _||_}
 use mathlib.Core.List.{List, [], _∷_}
-use Prim.Native.Nat.{ℕ, zero, suc, _*_, _≤_, _<_}
+use Prim.Native.Nat.{ℕ, suc, _<_}
 use native.Mathlib.Omega.{arith}
 use lib.Dec.{eqb, ltb}
 use lib.ListN.{length, getD, length-map}
 use borrow.Author.Tests.{ltb-true, lt-ltb, ne-eqb, eqb-false}
-use Rattle.lists.specs.Pick.{pick, pick-true, pick-false}
+use Rattle.lists.specs.Pick.{pick}
 use Rattle.lists.specs.Chunks.{chunkAt}
 use Rattle.lists.specs.Tests.{allBelow}
 use Rattle.lists.proofs.Tests.{holds-at, holds-all}
-use Rattle.heap.specs.State.{isRunning, isFinished}
+use Rattle.heap.specs.State.{isFinished}
 use Rattle.heap.specs.Table.{Slot, slot}
-use Rattle.heap.specs.declared.object.CoroObj.{CoroObj}
 use Rattle.heap.specs.declared.object.Object as H
 use Rattle.heap.specs.declared.object.Object.the-variants as O
 use Rattle.model.specs.Lists.{each, among, distinct}
 use Rattle.model.specs.Program.{Setup}
 use Rattle.model.specs.Object.{Object, Coroutine, Absent, Is, asCoro}
 use Rattle.model.specs.Rows.{heldBy, heldRows}
-use Rattle.model.specs.Sound.{rowWords, savedSizes, savedIn, rowless, runs}
-use Rattle.soundness.proofs.Tests.{no-false, no-true, and-left, and-right, both, picked, each-at, at-each, among-all, among-each, or-left, or-right}
+use Rattle.model.specs.Sound.{rowWords}
+use Rattle.soundness.proofs.Tests.{no-false, no-true, and-left, and-right, both, picked, at-each, among-all, among-each, or-left, or-right}
 use Rattle.tables.specs.Sizes.{framesSize, savedStackSize, savedFramesSize}
-use Rattle.memory.specs.Rows.{Row, noRow, owns, savedBy, rowAt}
+use Rattle.memory.specs.Rows.{owns, savedBy, rowAt}
 use Rattle.memory.specs.Memory.{Lent}
 use Rattle.memory.specs.declared.machine.Sizes.{Sizes}
 use Rattle.memory.proofs.Rows.{nobody, held-at, row-is}
@@ -32,9 +31,8 @@ use Rattle.words.specs.Decode.{objectOf, objectsOf}
 use Rattle.sound.specs.Words.{restOk, framesHeld, fitsRow, savedStackHeld, savedFramesHeld}
 use Rattle.sound_test.proofs.Named.{at-mapped}
 use Rattle.sound_test.proofs.Deciding.{filled}
-use Rattle.sound_words.specs.Saved.{coroTest}
-use Rattle.sound_words.specs.Rows.{objectFine, rowFree, freeTest, rowsOf, rowsHeld}
-use Rattle.sound_words.proofs.Keeping.{RowIn, Kept, kept, tested}
+use Rattle.sound_words.specs.Rows.{rowFree, freeTest, rowsOf, rowsHeld}
+use Rattle.sound_words.proofs.Keeping.{RowIn, Kept}
 
 -- an owner after the first
 tail-among : (c : Coroutine) (rows : List ℕ) (n : ℕ) → among n (heldBy c rows) ≡ true → owns n c ≡ false → among n rows ≡ true

@@ -1,8 +1,8 @@
 -- Slots that pass are those that the rules ask for, and the other way round. Assumes nothing.
-use mathlib.Core.Path.{_≡_, refl, sym, ap, _∙_, subst}
+use mathlib.Core.Path.{_≡_, refl, sym, ap, _∙_}
 use mathlib.Core.Bool.{Bool, true, false, not, _&&_, _||_}
-use mathlib.Core.List.{List, [], _∷_, map}
-use Prim.Native.Nat.{ℕ, _+_, _*_, _%_, _^_, _≤_, _<_}
+use mathlib.Core.List.{List, map}
+use Prim.Native.Nat.{ℕ, _*_, _^_, _≤_, _<_}
 use native.Mathlib.Omega.{arith}
 use lib.Dec.{eqb, ltb}
 use lib.ListN.{length, getD}
@@ -11,22 +11,20 @@ use Rattle.heap.specs.State.{isRunning}
 use Rattle.heap.specs.Word.{reference, slotOf}
 use Rattle.heap.specs.Table.{Slot, slot}
 use Rattle.heap.specs.Heap.{coroOf, asCoro}
-use Rattle.heap.specs.declared.object.CoroObj.{CoroObj}
 use Rattle.heap.specs.declared.object.Object as H
 use Rattle.heap.specs.declared.object.Object.the-variants as O
-use Rattle.model.specs.Lists.{each, among, distinct}
+use Rattle.model.specs.Lists.{each, among}
 use Rattle.model.specs.Program.{Setup}
-use Rattle.model.specs.Object.{Object, Absent, isFilled}
+use Rattle.model.specs.Object.{Object, isFilled}
 use Rattle.model.specs.Object as MO
-use Rattle.model.specs.Sound.{rowWords, runs, unusedIn, objectRange, savedSizes, savedIn, rowless}
+use Rattle.model.specs.Sound.{rowWords, runs, objectRange, rowless}
 use Rattle.soundness.proofs.Tests.{no-false, and-left, and-right, both}
 use Rattle.soundness.proofs.Point.{coroIn}
-use Rattle.soundness.proofs.Slots.{ObjectOk, SlotOk}
+use Rattle.soundness.proofs.Slots.{SlotOk}
 use Rattle.tables.specs.Sizes.{framesSize}
 use Rattle.memory.specs.Memory.{Lent}
 use Rattle.words.specs.Words.{sizesOf}
 use Rattle.words.specs.Decode.{objectOf, objectsOf}
-use Rattle.sound.specs.Words.{fitsRow}
 use Rattle.sound_test.specs.Queue.{byCoro}
 use Rattle.sound_test.proofs.Named.{test-same}
 use Rattle.sound_test.proofs.Deciding.{filled, each-same}
@@ -36,8 +34,7 @@ use Rattle.sound_words.specs.Running.{running}
 use Rattle.sound_words.specs.Saved.{coroTest}
 use Rattle.sound_words.specs.Rows.{objectFine}
 use Rattle.sound_words.proofs.Chained.{wordOf, named}
-use Rattle.sound_words.proofs.Chained as C
-use Rattle.sound_words.proofs.Keeping.{RowIn, Kept, kept, tested}
+use Rattle.sound_words.proofs.Keeping.{Kept, kept, tested}
 
 module _ (s : Setup) (M : Lent) where
   -- ---- running

@@ -1,6 +1,6 @@
 -- The table of ranges says of a slot's words what codes, flags and fields must hold. Assumes nothing.
-use mathlib.Core.Path.{_≡_, refl, sym, ap, ap₂, _∙_, subst}
-use mathlib.Core.Bool.{Bool, true, false, not, _&&_, _||_}
+use mathlib.Core.Path.{_≡_, refl, sym, ap, _∙_, subst}
+use mathlib.Core.Bool.{Bool, true, false, _&&_}
 use mathlib.Core.List.{List, [], _∷_}
 use Prim.Native.Nat.{ℕ, zero, suc, _+_, _*_, _-_, _^_, _≤_, _<_}
 use native.Mathlib.Omega.{arith}
@@ -11,8 +11,8 @@ use Rattle.lists.specs.Chunks.{chunkAt}
 use Rattle.lists.specs.Tests.{allBelow, zeros}
 use Rattle.lists.proofs.Tests.{holds-at, holds-all}
 use Rattle.lists.proofs.Tables.{length-chunk, length-chunks, chunks-at, chunk-get}
-use Rattle.heap.specs.Object.{isFilled, codeOf}
-use Rattle.heap.specs.Table.{Slot, slot}
+use Rattle.heap.specs.Object.{codeOf}
+use Rattle.heap.specs.Table.{slot}
 use Rattle.heap.specs.Slot.{flag, slotWords, slotOfWords}
 use Rattle.heap.specs.Heap.{slotsOf}
 use Rattle.heap.specs.Ranges.{Range, unused, kinds, within, slotOk, tableOk}
@@ -23,10 +23,10 @@ use Rattle.heap.specs.declared.object.Object.the-variants as O
 use Rattle.heap.proofs.Valid.{In, facts, slot-same}
 use Rattle.model.specs.Lists.{each}
 use Rattle.soundness.proofs.Tests.{and-left, and-right, both, each-at, at-each}
-use Rattle.sound.specs.Words.{same, coded, restOk, slotsHeld}
+use Rattle.sound.specs.Words.{same}
 use Rattle.sound.proofs.Held.{same-true, true-same}
 use Rattle.sound_test.proofs.Bools.{iff}
-use Rattle.sound_words.specs.Table.{objectFits, slotFits, tableTest}
+use Rattle.sound_words.specs.Table.{slotFits, tableTest}
 
 pub of-facts : (rs : List Range) (ws : List ℕ) → In rs ws → within rs ws ≡ true
 of-facts [] [] h = refl
@@ -96,8 +96,25 @@ fits-in t (O.Error e f p v) b h =
     let y₃ = ltb-true f (2 ^ 32) (and-right r (ltb f (2 ^ 32)) o₂) in
     let y₄ = ltb-true p (2 ^ 32) (and-right (r && ltb f (2 ^ 32)) (ltb p (2 ^ 32)) o) in
     let z = b 5 in
-    of-facts (getD kinds 5 []) (slotWords (slot t (O.Error e f p v)))
-    ((omega arith, omega arith), ((omega arith, omega arith), ((omega arith, omega arith), ((omega arith, omega arith), ((omega arith, omega arith), ((omega arith, omega arith), unused-in 14))))))
+    of-facts (getD kinds 5 []) (slotWords (slot t (O.Error e f p v))) (
+      (omega arith, omega arith),
+      (
+        (omega arith, omega arith),
+        (
+          (omega arith, omega arith),
+          (
+            (omega arith, omega arith),
+            (
+              (omega arith, omega arith),
+              (
+                (omega arith, omega arith),
+                unused-in 14,
+              ),
+            ),
+          ),
+        ),
+      ),
+    )
 fits-in t (O.Coro c) b h =
     let p = and-left (ltb t (2 ^ 16) && ltb (c .waiting) (2 ^ 16)) true h in
     let x = ltb-true t (2 ^ 16) (and-left (ltb t (2 ^ 16)) (ltb (c .waiting) (2 ^ 16)) p) in
@@ -117,8 +134,55 @@ fits-in t (O.Coro c) b h =
     let b₉ = b 15 in
     let c₁ = b 16 in
     let c₂ = b 17 in
-    of-facts (getD kinds 6 []) (slotWords (slot t (O.Coro c)))
-    ((omega arith, omega arith), ((omega arith, omega arith), ((omega arith, omega arith), ((omega arith, omega arith), ((omega arith, omega arith), ((omega arith, omega arith), ((omega arith, omega arith), ((omega arith, omega arith), ((omega arith, omega arith), ((omega arith, omega arith), ((omega arith, omega arith), ((omega arith, omega arith), ((omega arith, omega arith), ((omega arith, omega arith), ((omega arith, omega arith), ((omega arith, omega arith), ((omega arith, omega arith), ((omega arith, omega arith), unused-in 2))))))))))))))))))
+    of-facts (getD kinds 6 []) (slotWords (slot t (O.Coro c))) (
+      (omega arith, omega arith),
+      (
+        (omega arith, omega arith),
+        (
+          (omega arith, omega arith),
+          (
+            (omega arith, omega arith),
+            (
+              (omega arith, omega arith),
+              (
+                (omega arith, omega arith),
+                (
+                  (omega arith, omega arith),
+                  (
+                    (omega arith, omega arith),
+                    (
+                      (omega arith, omega arith),
+                      (
+                        (omega arith, omega arith),
+                        (
+                          (omega arith, omega arith),
+                          (
+                            (omega arith, omega arith),
+                            (
+                              (omega arith, omega arith),
+                              (
+                                (omega arith, omega arith),
+                                (
+                                  (omega arith, omega arith),
+                                  (
+                                    (omega arith, omega arith),
+                                    ((omega arith, omega arith), ((omega arith, omega arith), unused-in 2)),
+                                  ),
+                                ),
+                              ),
+                            ),
+                          ),
+                        ),
+                      ),
+                    ),
+                  ),
+                ),
+              ),
+            ),
+          ),
+        ),
+      ),
+    )
 
 in-fits : (t : ℕ) (o : H.Object) → slotOk (slotWords (slot t o)) ≡ true → slotFits (slot t o) ≡ true
 in-fits t O.Empty h =

@@ -1,18 +1,16 @@
 -- The whole test in code is `soundWords`. Assumes nothing.
 use mathlib.Core.Path.{_≡_, refl, sym, ap, _∙_, subst}
 use mathlib.Core.Bool.{Bool, true, false, not, _&&_, _||_}
-use mathlib.Core.List.{List, map}
-use Prim.Native.Nat.{ℕ, _+_, _*_, _^_, _≤_, _<_}
+use mathlib.Core.List.{List}
+use Prim.Native.Nat.{ℕ, _^_, _≤_, _<_}
 use native.Mathlib.Omega.{arith}
-use lib.Dec.{leb}
-use lib.ListN.{length, getD, take}
+use lib.ListN.{length, getD}
 use lib.Seq.{length-take-le}
 use borrow.Author.Tests.{le-leb}
 use Rattle.lists.specs.Parts.{pad}
 use Rattle.lists.specs.Tests.{allBelow}
 use Rattle.lists.proofs.Tests.{holds-at, holds-all}
 use Rattle.lists.proofs.Tables.{length-chunks, chunks-at}
-use Rattle.heap.specs.Word.{reference, slotOf}
 use Rattle.heap.specs.Table.{Slot, slot}
 use Rattle.heap.specs.Slot.{slotOfWords}
 use Rattle.heap.specs.Heap.{slotIn, slotsOf, coroOf}
@@ -23,38 +21,35 @@ use Rattle.model.specs.Program.{Setup, setupOk}
 use Rattle.model.specs.Object.{Object}
 use Rattle.model.specs.Object as MO
 use Rattle.model.specs.World.{World}
-use Rattle.model.specs.Rows.{heldRows}
-use Rattle.model.specs.Sound.{rowWords, basesOk, frameNames, contsLie, catchesLie, framesOk, entryOk, floorsOk, driversOk, runs, marked, queueOk, outcomeRange, sound}
+use Rattle.model.specs.Sound.{rowWords, basesOk, frameNames, contsLie, catchesLie, framesOk, entryOk, floorsOk, driversOk, runs, marked, queueOk, fuelOk, outcomeRange, sound}
 use Rattle.model.specs.declared.machine.Fuel.{Fuel}
 use Rattle.soundness.proofs.Tests.{no-false, and-left, and-right, both, each-at, at-each}
 use Rattle.soundness.proofs.Point.{at, coroIn}
-use Rattle.soundness.proofs.Slots.{SlotOk, Heap}
+use Rattle.soundness.proofs.Slots.{SlotOk}
 use Rattle.soundness.proofs.Stand.{stands}
-use Rattle.soundness.proofs.Queue.{Queue}
 use Rattle.soundness.proofs.Sound.{Tower, Sound, Rules, rules, facts, sound→, →sound}
 use Rattle.tables.specs.Layout.{frameWords, frameOf}
 use Rattle.tables.specs.Sizes.{setupWords, savedStackSize, savedFramesSize}
 use Rattle.memory.specs.Told.{outcomeIn}
 use Rattle.memory.specs.Memory.{Lent, Room}
 use Rattle.memory.specs.declared.machine.Machine.{Machine}
-use Rattle.memory.specs.declared.machine.Sizes.{Sizes}
 use Rattle.words.specs.Words.{sizesOf}
 use Rattle.words.specs.Decode.{setupOf, objectOf, objectsOf, worldOf}
-use Rattle.sound.specs.Words.{same, restOk, setupHeld, countsOk, outcomeHeld, runsHeld, framesHeld, chainHeld, slotsHeld, fitsRow, soundWords}
+use Rattle.sound.specs.Words.{same, restOk, setupHeld, outcomeHeld, framesHeld, chainHeld, slotsHeld, fitsRow, soundWords}
 use Rattle.sound.proofs.Held.{length-piled}
 use Rattle.sound.proofs.Passed.{Counts, Passed, room-of, counts-of, passed, passes}
 use Rattle.sound.proofs.Exactly.{some-row}
 use Rattle.sound_test.specs.Frames.{stackFramesOk}
 use Rattle.sound_test.specs.Chain.{chainOk}
 use Rattle.sound_test.specs.Queue.{byCoro, queueHeld}
-use Rattle.sound_test.specs.Rules.{Decided}
 use Rattle.sound_test.proofs.Bools.{iff}
 use Rattle.sound_test.proofs.Deciding.{decided}
-use Rattle.sound_words.specs.Numbers.{outcomeTest, fuelTest}
+use Rattle.sound_words.specs.Numbers.{fuelTest}
 use Rattle.sound_words.specs.Table.{slotFits, tableTest}
 use Rattle.sound_words.specs.Running.{running, activeWords, runningTest}
-use Rattle.sound_words.specs.Rows.{objectFine, freeTest, rowsHeld, rowsTest}
-use Rattle.sound_words.specs.Whole.{towerTest, chainedAt, objectsTest, queuesTest, wholeTest}
+use Rattle.sound_words.specs.Rows.{objectFine, freeTest, rowsHeld}
+use Rattle.sound_words.specs.Whole.{chainedAt, wholeTest}
+use Rattle.sound_words.specs.Rules.{Decided}
 use Rattle.sound_words.proofs.Fitting.{counted, Numbers, numbers-of, setup-room, sizes-fit}
 use Rattle.sound_words.proofs.Keeping.{Kept}
 use Rattle.sound_words.proofs.Rowing.{at-object, long, held-same, All, each-fits, rows-inside, stack-held, frames-held, rest-stack, rest-frames, owned, all-free}
@@ -360,3 +355,10 @@ module _ (M : Lent) (m : Machine) (f : Fuel) where
 
   pub whole-same : wholeTest M m f ≡ soundWords M m f
   whole-same = iff (wholeTest M m f) (soundWords M m f) (λ h. passes M m f (all-passed (parts h))) (λ h. whole (all-parts (passed M m f h)))
+
+  fuel-rule : fuelTest f ≡ fuelOk w
+  unfolding fuelOk
+  fuel-rule = refl
+
+  pub tied : Decided M m f
+  tied = record { outcome = refl; fuel = fuel-rule; whole = whole-same }

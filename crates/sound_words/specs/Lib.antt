@@ -4,3 +4,4 @@ pub mod Running
 pub mod Saved
 pub mod Rows
 pub mod Whole
+pub mod Rules

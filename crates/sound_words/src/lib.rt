@@ -1,4 +1,4 @@
-// Whether lent words are a sound machine's: what the slots hold, and the whole.
+// Whether lent words are a sound machine's: the numbers, the slots with their rows, and the whole.
 pub mod numbers;
 pub mod rows;
 pub mod running;

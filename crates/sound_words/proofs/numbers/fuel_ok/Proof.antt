@@ -15,7 +15,9 @@ returns : tie.Need-returns
 returns c = search needs
 
 returns-2 : tie.Need-returns-2
-returns-2 c = a-bank (c .before .before .before .args .f .bank) _ (eqb (c .before .before .before .args .f .fuel) 0) (c .before .enum-told2 .given .1)
+returns-2 c =
+    let at-enum-told2 = c .before in let start = at-enum-told2 .before .before in
+    a-bank (start .args .f .bank) _ (eqb (start .args .f .fuel) 0) (at-enum-told2 .enum-told2 .given .1)
 
 pub fuel-ok-spec : {M : Type 1} → statement M
 fuel-ok-spec = tie.close (tie.spec enum-told enum-told-2 returns returns-2)

@@ -26,29 +26,39 @@ loop-holds : tie.Need-loop-holds Inv-loop μ-loop
 loop-holds c = (omega arith, refl)
 
 free-at-requires : tie.Need-free-at-requires Inv-loop μ-loop
-free-at-requires c κs = (c .before .before .before .before .pre, c .loop-test .taken)
+free-at-requires c κs =
+    let start = c .before .before .before .before in
+    (start .pre, c .loop-test .taken)
 
 returns : tie.Need-returns Inv-loop μ-loop
 returns c =
-    let a = c .before .before .before .before .before .before .args in
-    sym (fails-at (a .l .rows) (c .before .before .before .loop .n) (free (a .l) (a .saved .now) (a .asleep .now) (a .mask)) (c .before .before .loop-test .taken) (sym (c .before .free-at .ensures) ∙ not-true _ (c .if1 .taken)))
+    let at-free-at = c .before in let at-loop-test = at-free-at .before in let at-loop = at-loop-test .before in let start = at-loop .before .before .before in
+    let a = start .args in
+    sym
+    (fails-at (a .l .rows) (at-loop .loop .n) (free (a .l) (a .saved .now) (a .asleep .now) (a .mask)) (at-loop-test .loop-test .taken) (sym (at-free-at .free-at .ensures) ∙ not-true _ (c .if1 .taken)))
 
 add-n : tie.Need-add-n Inv-loop μ-loop
-add-n c = omega (arith, c .before .before .before .before .before .before .pre .few, c .before .before .loop-test .taken)
+add-n c =
+    let at-loop-test = c .before .before in let start = at-loop-test .before .before .before .before in
+    omega (arith, start .pre .few, at-loop-test .loop-test .taken)
 
 loop-less : tie.Need-loop-less Inv-loop μ-loop
-loop-less c = omega (arith, c .before .before .loop-test .taken)
+loop-less c =
+    let at-loop-test = c .before .before in
+    omega (arith, at-loop-test .loop-test .taken)
 
 loop-again : tie.Need-loop-again Inv-loop μ-loop
 loop-again c =
-    let a = c .before .before .before .before .before .before .args in
-    (omega (arith, c .before .before .loop-test .taken), holds-next (c .before .before .before .loop .n) (free (a .l) (a .saved .now) (a .asleep .now) (a .mask)) (c .before .before .before .loop .inv .1) (sym (c .before .free-at .ensures) ∙ not-false _ (c .if1 .left)))
+    let at-free-at = c .before in let at-loop-test = at-free-at .before in let at-loop = at-loop-test .before in let start = at-loop .before .before .before in
+    let a = start .args in
+    (omega (arith, at-loop-test .loop-test .taken), holds-next (at-loop .loop .n) (free (a .l) (a .saved .now) (a .asleep .now) (a .mask)) (at-loop .loop .inv .1) (sym (at-free-at .free-at .ensures) ∙ not-false _ (c .if1 .left)))
 
 returns-2 : tie.Need-returns-2 Inv-loop μ-loop
 returns-2 c =
-    let a = c .before .before .before .before .args in
-    let e : c .before .loop .n ≡ a .l .rows = omega (arith, c .before .loop .inv .0, c .loop-test .left) in
-    sym (subst (λ k. allBelow k (free (a .l) (a .saved .now) (a .asleep .now) (a .mask)) ≡ true) e (c .before .loop .inv .1))
+    let at-loop = c .before in let start = at-loop .before .before .before in
+    let a = start .args in
+    let e : at-loop .loop .n ≡ a .l .rows = omega (arith, at-loop .loop .inv .0, c .loop-test .left) in
+    sym (subst (λ k. allBelow k (free (a .l) (a .saved .now) (a .asleep .now) (a .mask)) ≡ true) e (at-loop .loop .inv .1))
 
 pub free-ok-spec : {M : Type 1} → statement M
 free-ok-spec =

@@ -15,7 +15,9 @@ returns : tie.Need-returns
 returns c = λ j h. c .with-bit .ensures j
 
 returns-2 : tie.Need-returns-2
-returns-2 c = λ j h. sym (ap (λ b. b || bitAt (c .before .args .mask) j) (ne-eqb j (c .before .args .row) (λ e. omega (arith, c .if1 .left))))
+returns-2 c =
+    let start = c .before in
+    λ j h. sym (ap (λ b. b || bitAt (start .args .mask) j) (ne-eqb j (start .args .row) (λ e. omega (arith, c .if1 .left))))
 
 pub hold-spec : {M : Type 1} → statement M
 hold-spec = tie.close (tie.spec with-bit-requires returns returns-2)

@@ -11,10 +11,14 @@ bit-requires : tie.Need-bit-requires
 bit-requires c κs = search needs
 
 returns : tie.Need-returns
-returns c = c .bit .ensures ∙ sym (ap (λ b. b && bitAt (c .before .before .args .mask) (c .before .before .args .row)) (lt-ltb (c .before .before .args .row) 64 (c .before .if1 .taken)))
+returns c =
+    let at-if1 = c .before in let start = at-if1 .before in
+    c .bit .ensures ∙ sym (ap (λ b. b && bitAt (start .args .mask) (start .args .row)) (lt-ltb (start .args .row) 64 (at-if1 .if1 .taken)))
 
 returns-2 : tie.Need-returns-2
-returns-2 c = sym (ap (λ b. b && bitAt (c .before .args .mask) (c .before .args .row)) (le-ltb (c .before .args .row) 64 (c .if1 .left)))
+returns-2 c =
+    let start = c .before in
+    sym (ap (λ b. b && bitAt (start .args .mask) (start .args .row)) (le-ltb (start .args .row) 64 (c .if1 .left)))
 
 pub is-held-spec : {M : Type 1} → statement M
 is-held-spec = tie.close (tie.spec bit-requires returns returns-2)

@@ -8,7 +8,9 @@ use Rattle.sound_words.proofs.rows.slot_row.Statement.{statement}
 use Rattle.sound_words.proofs.rows.slot_row.Tie as tie
 
 object-at-requires : tie.Need-object-at-requires
-object-at-requires c κs = c .before .before .before .before .pre .1 .0
+object-at-requires c κs =
+    let start = c .before .before .before .before in
+    start .pre .1 .0
 
 enum-told : tie.Need-enum-told
 enum-told c = search needs
@@ -29,37 +31,51 @@ enum-known-c : tie.Need-enum-known-c
 enum-known-c c = search needs
 
 coro-row-requires : tie.Need-coro-row-requires
-coro-row-requires c κs = (c .before .before .before .before .before .before .before .before .pre .0, c .before .before .before .before .before .before .before .before .pre .1 .1)
+coro-row-requires c κs =
+    let start = c .before .before .before .before .before .before .before .before in
+    (start .pre .0, start .pre .1 .1)
 
 returns : tie.Need-returns
 returns c =
-    let a = c .before .before .before .before .before .before .before .args in
-    sym (ap (objectRow (a .l) (setupOf (a .setup .now)) (a .saved .now) (a .asleep .now) (inSet (a .set .now)) (a .i)) (sym (c .before .before .object-at .ensures) ∙ c .enum-told .given .1))
+    let at-object-at = c .before .before in let start = at-object-at .before .before .before .before .before in
+    let a = start .args in
+    sym
+    (ap (objectRow (a .l) (setupOf (a .setup .now)) (a .saved .now) (a .asleep .now) (inSet (a .set .now)) (a .i)) (sym (at-object-at .object-at .ensures) ∙ c .enum-told .given .1))
 
 returns-2 : tie.Need-returns-2
 returns-2 c =
-    let a = c .before .before .before .before .before .before .before .args in
-    sym (ap (objectRow (a .l) (setupOf (a .setup .now)) (a .saved .now) (a .asleep .now) (inSet (a .set .now)) (a .i)) (sym (c .before .before .object-at .ensures) ∙ c .enum-told2 .given .1))
+    let at-object-at = c .before .before in let start = at-object-at .before .before .before .before .before in
+    let a = start .args in
+    sym
+    (ap (objectRow (a .l) (setupOf (a .setup .now)) (a .saved .now) (a .asleep .now) (inSet (a .set .now)) (a .i)) (sym (at-object-at .object-at .ensures) ∙ c .enum-told2 .given .1))
 
 returns-3 : tie.Need-returns-3
 returns-3 c =
-    let a = c .before .before .before .before .before .before .before .args in
-    sym (ap (objectRow (a .l) (setupOf (a .setup .now)) (a .saved .now) (a .asleep .now) (inSet (a .set .now)) (a .i)) (sym (c .before .before .object-at .ensures) ∙ c .enum-told3 .given .1))
+    let at-object-at = c .before .before in let start = at-object-at .before .before .before .before .before in
+    let a = start .args in
+    sym
+    (ap (objectRow (a .l) (setupOf (a .setup .now)) (a .saved .now) (a .asleep .now) (inSet (a .set .now)) (a .i)) (sym (at-object-at .object-at .ensures) ∙ c .enum-told3 .given .1))
 
 returns-4 : tie.Need-returns-4
 returns-4 c =
-    let a = c .before .before .before .before .before .before .before .args in
-    sym (ap (objectRow (a .l) (setupOf (a .setup .now)) (a .saved .now) (a .asleep .now) (inSet (a .set .now)) (a .i)) (sym (c .before .before .object-at .ensures) ∙ c .enum-told4 .given .1))
+    let at-object-at = c .before .before in let start = at-object-at .before .before .before .before .before in
+    let a = start .args in
+    sym
+    (ap (objectRow (a .l) (setupOf (a .setup .now)) (a .saved .now) (a .asleep .now) (inSet (a .set .now)) (a .i)) (sym (at-object-at .object-at .ensures) ∙ c .enum-told4 .given .1))
 
 returns-5 : tie.Need-returns-5
 returns-5 c =
-    let a = c .before .before .before .before .before .before .before .args in
-    sym (ap (objectRow (a .l) (setupOf (a .setup .now)) (a .saved .now) (a .asleep .now) (inSet (a .set .now)) (a .i)) (sym (c .before .before .object-at .ensures) ∙ c .enum-told5 .given .1))
+    let at-object-at = c .before .before in let start = at-object-at .before .before .before .before .before in
+    let a = start .args in
+    sym
+    (ap (objectRow (a .l) (setupOf (a .setup .now)) (a .saved .now) (a .asleep .now) (inSet (a .set .now)) (a .i)) (sym (at-object-at .object-at .ensures) ∙ c .enum-told5 .given .1))
 
 returns-6 : tie.Need-returns-6
 returns-6 c =
-    let a = c .before .before .before .before .before .before .before .before .before .args in
-    c .coro-row .ensures ∙ sym (ap (objectRow (a .l) (setupOf (a .setup .now)) (a .saved .now) (a .asleep .now) (inSet (a .set .now)) (a .i)) (sym (c .before .before .before .before .object-at .ensures) ∙ c .before .before .c .given .1))
+    let at-c = c .before .before in let at-object-at = at-c .before .before in let start = at-object-at .before .before .before .before .before in
+    let a = start .args in
+    c .coro-row .ensures ∙ sym
+    (ap (objectRow (a .l) (setupOf (a .setup .now)) (a .saved .now) (a .asleep .now) (inSet (a .set .now)) (a .i)) (sym (at-object-at .object-at .ensures) ∙ at-c .c .given .1))
 
 pub slot-row-spec : {M : Type 1} → statement M
 slot-row-spec =

@@ -19,10 +19,14 @@ is-running-requires : tie.Need-is-running-requires
 is-running-requires c κs = search needs
 
 returns : tie.Need-returns
-returns c = sym (ap (byCoro running) (sym (c .before .before .coro .ensures) ∙ c .enum-told .given .1))
+returns c =
+    let at-coro = c .before .before in
+    sym (ap (byCoro running) (sym (at-coro .coro .ensures) ∙ c .enum-told .given .1))
 
 returns-2 : tie.Need-returns-2
-returns-2 c = c .is-running .ensures ∙ sym (ap (byCoro running) (sym (c .before .before .before .before .coro .ensures) ∙ c .before .before .c .given .1))
+returns-2 c =
+    let at-c = c .before .before in let at-coro = at-c .before .before in
+    c .is-running .ensures ∙ sym (ap (byCoro running) (sym (at-coro .coro .ensures) ∙ at-c .c .given .1))
 
 pub is-running-spec : {M : Type 1} → statement M
 is-running-spec =

@@ -1,14 +1,14 @@
 -- `running` meets its contract: the active ones passed so far run, and the set has their slots. Assumes nothing.
 use mathlib.Core.Path.{_≡_, refl, sym, _∙_}
+use mathlib.Core.Bool.{true, false≢true}
 use Prim.Native.Nat.{_*_, _-_, _<_}
 use native.Mathlib.Omega.{arith}
 use borrow.Author.Tests.{not-true, not-false}
-use lib.ListN.{length, length-set, getD, replicate}
+use lib.ListN.{length-set, getD}
 use Rattle.lists.proofs.Tables.{length-chunks}
 use Rattle.heap.specs.Word.{slotOf}
 use Rattle.heap.specs.Slot.{slotOfWords}
 use Rattle.heap.specs.Heap.{slotsOf}
-use Rattle.sound_test.specs.Queue.{inSet}
 use Rattle.sound_test.proofs.Bits.{empty-set, put-set}
 use Rattle.sound_words.proofs.Chained.{Passed, runs, stops, twice, passes, all-run, set-of, word-inside}
 use Rattle.sound_words.proofs.running.running.Statement.{statement}
@@ -21,85 +21,124 @@ abbrev μ-loop : tie.MeasureT-loop
 μ-loop chain n slots count seen₀ k₀ seen k = n - k
 
 -- the next one's slot is in range
-small : (c : tie.After-is-running Inv-loop μ-loop) → runs (slotsOf (c .before .before .before .before .before .before .args .count) (c .before .before .before .before .before .before .args .slots .now)) (getD (c .before .before .before .before .before .before .args .chain .now) (c .before .before .before .loop .k * 6) 0) ≡ mathlib.Core.Bool.true → slotOf (getD (c .before .before .before .before .before .before .args .chain .now) (c .before .before .before .loop .k * 6) 0) < 4096
+small : (c : tie.After-is-running Inv-loop μ-loop)
+    → let at-loop = c .before .before .before in let start = at-loop .before .before .before in
+    runs (slotsOf (start .args .count) (start .args .slots .now)) (getD (start .args .chain .now) (at-loop .loop .k * 6) 0) ≡ true
+    → slotOf (getD (start .args .chain .now) (at-loop .loop .k * 6) 0) < 4096
 small c e =
-    let a = c .before .before .before .before .before .before .args in
-    let i = word-inside (slotsOf (a .count) (a .slots .now)) (getD (a .chain .now) (c .before .before .before .loop .k * 6) 0) e in
+    let at-loop = c .before .before .before in let start = at-loop .before .before .before in
+    let a = start .args in
+    let i = word-inside (slotsOf (a .count) (a .slots .now)) (getD (a .chain .now) (at-loop .loop .k * 6) 0) e in
     let l = length-chunks 20 slotOfWords (a .count) (a .slots .now) in
-    let f = c .before .before .before .before .before .before .pre .few in
+    let f = start .pre .few in
     omega arith
 
 loop-holds : tie.Need-loop-holds Inv-loop μ-loop
-loop-holds c = record { within = omega arith; each = refl; own = refl; holds = empty-set; long = refl }
+loop-holds c = record { within = omega arith; fine = refl; own = refl; holds = empty-set; long = refl }
 
 mul-w : tie.Need-mul-w Inv-loop μ-loop
-mul-w c = omega (arith, c .before .before .before .before .pre .on-chain, c .before .loop .inv .within)
+mul-w c =
+    let at-loop = c .before in let start = at-loop .before .before .before in
+    omega (arith, start .pre .on-chain, at-loop .loop .inv .within)
 
 mul-w-2 : tie.Need-mul-w-2 Inv-loop μ-loop
-mul-w-2 c = omega (arith, c .before .before .before .before .pre .on-chain, c .before .loop .inv .within)
+mul-w-2 c =
+    let at-loop = c .before in let start = at-loop .before .before .before in
+    omega (arith, start .pre .on-chain, at-loop .loop .inv .within)
 
 shared-slice-read-w : tie.Need-shared-slice-read-w Inv-loop μ-loop
-shared-slice-read-w c = omega (arith, c .before .before .before .before .before .pre .on-chain, c .before .before .loop .inv .within)
+shared-slice-read-w c =
+    let at-loop = c .before .before in let start = at-loop .before .before .before in
+    omega (arith, start .pre .on-chain, at-loop .loop .inv .within)
 
 is-running-requires : tie.Need-is-running-requires Inv-loop μ-loop
-is-running-requires c κs = c .before .before .before .before .before .pre .table
+is-running-requires c κs =
+    let start = c .before .before .before .before .before in
+    start .pre .table
 
 returns : tie.Need-returns Inv-loop μ-loop
 returns c =
-    let a = c .before .before .before .before .before .before .before .args in
+    let at-is-running = c .before in let at-loop-test = at-is-running .before .before in let at-loop = at-loop-test .before in
+    let start = at-loop .before .before .before in
+    let a = start .args in
     record {
-      good = stops (slotsOf (a .count) (a .slots .now)) (a .chain .now) (a .n) (c .before .before .before .before .loop .k) (c .before .before .before .loop-test .taken) (sym (c .before .is-running .ensures) ∙ not-true _ (c .if1 .taken));
-      long = c .before .before .before .before .loop .inv .long;
-      set = λ e. absurd (mathlib.Core.Bool.false≢true e);
+      good = stops (slotsOf (a .count) (a .slots .now)) (a .chain .now) (a .n) (at-loop .loop .k) (at-loop-test .loop-test .taken)
+          (sym (at-is-running .is-running .ensures) ∙ not-true _ (c .if1 .taken));
+      long = at-loop .loop .inv .long;
+      set = λ e. absurd (false≢true e);
     }
 
 mul-v : tie.Need-mul-v Inv-loop μ-loop
-mul-v c = omega (arith, small ((c .before)) (sym (c .before .is-running .ensures) ∙ not-false _ (c .if1 .left)))
+mul-v c =
+    let at-is-running = c .before in
+    omega (arith, small at-is-running (sym (at-is-running .is-running .ensures) ∙ not-false _ (c .if1 .left)))
 
 array-read-v : tie.Need-array-read-v Inv-loop μ-loop
-array-read-v c = omega (arith, small ((c .before)) (sym (c .before .is-running .ensures) ∙ not-false _ (c .if1 .left)))
+array-read-v c =
+    let at-is-running = c .before in
+    omega (arith, small at-is-running (sym (at-is-running .is-running .ensures) ∙ not-false _ (c .if1 .left)))
 
 bit-requires : tie.Need-bit-requires Inv-loop μ-loop
 bit-requires c κs = omega arith
 
 returns-2 : tie.Need-returns-2 Inv-loop μ-loop
 returns-2 c =
-    let a = c .before .before .before .before .before .before .before .before .before .args in
+    let at-bit = c .before in let at-if1 = at-bit .before in let at-is-running = at-if1 .before in let at-loop-test = at-is-running .before .before in
+    let at-loop = at-loop-test .before in let start = at-loop .before .before .before in
+    let a = start .args in
     record {
-      good = twice (slotsOf (a .count) (a .slots .now)) (a .chain .now) (a .n) (c .before .before .before .before .before .before .loop .k) (c .before .before .before .before .before .before .loop .seen) (c .before .before .before .before .before .before .loop .inv) (c .before .before .before .before .before .loop-test .taken) (sym (c .before .before .before .is-running .ensures) ∙ not-false _ (c .before .before .if1 .left)) (sym (c .before .bit .ensures) ∙ c .if2 .taken);
-      long = c .before .before .before .before .before .before .loop .inv .long;
-      set = λ e. absurd (mathlib.Core.Bool.false≢true e);
+      good = twice (slotsOf (a .count) (a .slots .now)) (a .chain .now) (a .n) (at-loop .loop .k) (at-loop .loop .seen) (at-loop .loop .inv)
+          (at-loop-test .loop-test .taken) (sym (at-is-running .is-running .ensures) ∙ not-false _ (at-if1 .if1 .left))
+          (sym (at-bit .bit .ensures) ∙ c .if2 .taken);
+      long = at-loop .loop .inv .long;
+      set = λ e. absurd (false≢true e);
     }
 
 with-bit-requires : tie.Need-with-bit-requires Inv-loop μ-loop
 with-bit-requires c κs = omega arith
 
 mul-seen : tie.Need-mul-seen Inv-loop μ-loop
-mul-seen c = omega (arith, small ((c .before .before .before .before)) (sym (c .before .before .before .before .is-running .ensures) ∙ not-false _ (c .before .before .before .if1 .left)))
+mul-seen c =
+    let at-if1 = c .before .before .before in let at-is-running = at-if1 .before in
+    omega (arith, small at-is-running (sym (at-is-running .is-running .ensures) ∙ not-false _ (at-if1 .if1 .left)))
 
 array-write-seen : tie.Need-array-write-seen Inv-loop μ-loop
-array-write-seen c = omega (arith, small ((c .before .before .before .before)) (sym (c .before .before .before .before .is-running .ensures) ∙ not-false _ (c .before .before .before .if1 .left)))
+array-write-seen c =
+    let at-if1 = c .before .before .before in let at-is-running = at-if1 .before in
+    omega (arith, small at-is-running (sym (at-is-running .is-running .ensures) ∙ not-false _ (at-if1 .if1 .left)))
 
 add-k : tie.Need-add-k Inv-loop μ-loop
-add-k c = omega (arith, c .before .before .before .before .before .before .loop-test .taken)
+add-k c =
+    let at-loop-test = c .before .before .before .before .before .before in
+    omega (arith, at-loop-test .loop-test .taken)
 
 loop-less : tie.Need-loop-less Inv-loop μ-loop
-loop-less c = omega (arith, c .before .before .before .before .before .before .loop-test .taken)
+loop-less c =
+    let at-loop-test = c .before .before .before .before .before .before in
+    omega (arith, at-loop-test .loop-test .taken)
 
 loop-again : tie.Need-loop-again Inv-loop μ-loop
 loop-again c =
-    let a = c .before .before .before .before .before .before .before .before .before .before .args in
-    let h = small ((c .before .before .before .before)) (sym (c .before .before .before .before .is-running .ensures) ∙ not-false _ (c .before .before .before .if1 .left)) in
-    passes (slotsOf (a .count) (a .slots .now)) (a .chain .now) (a .n) (c .before .before .before .before .before .before .before .loop .k) (c .before .before .before .before .before .before .before .loop .seen) (c .before .before .before .before .before .before .before .loop .inv) (c .before .before .before .before .before .before .loop-test .taken) (sym (c .before .before .before .before .is-running .ensures) ∙ not-false _ (c .before .before .before .if1 .left)) _
-    (sym (c .before .before .bit .ensures) ∙ c .before .if2 .left) (λ y. put-set (c .before .before .before .before .before .before .before .loop .seen) _ _ y (let q = c .before .before .before .before .before .before .before .loop .inv .long in omega arith) (c .with-bit .ensures)) (simp length-set (c .before .before .before .before .before .before .before .loop .inv .long))
+    let at-if2 = c .before in let at-bit = at-if2 .before in let at-if1 = at-bit .before in let at-is-running = at-if1 .before in
+    let at-loop-test = at-is-running .before .before in let at-loop = at-loop-test .before in let start = at-loop .before .before .before in
+    let a = start .args in
+    let h = small at-is-running (sym (at-is-running .is-running .ensures) ∙ not-false _ (at-if1 .if1 .left)) in
+    passes (slotsOf (a .count) (a .slots .now)) (a .chain .now) (a .n) (at-loop .loop .k) (at-loop .loop .seen) (at-loop .loop .inv)
+    (at-loop-test .loop-test .taken) (sym (at-is-running .is-running .ensures) ∙ not-false _ (at-if1 .if1 .left)) _
+    (sym (at-bit .bit .ensures) ∙ at-if2 .if2 .left)
+    (λ y. put-set (at-loop .loop .seen) _ _ y (let q = at-loop .loop .inv .long in omega arith) (c .with-bit .ensures))
+    (simp length-set (at-loop .loop .inv .long))
 
 returns-3 : tie.Need-returns-3 Inv-loop μ-loop
 returns-3 c =
-    let a = c .before .before .before .before .args in
+    let at-loop = c .before in let start = at-loop .before .before .before in
+    let a = start .args in
     record {
-      good = all-run (slotsOf (a .count) (a .slots .now)) (a .chain .now) (a .n) (c .before .loop .k) (c .before .loop .seen) (c .before .loop .inv) (c .loop-test .left);
-      long = c .before .loop .inv .long;
-      set = λ e. set-of (slotsOf (a .count) (a .slots .now)) (a .chain .now) (a .n) (c .before .loop .k) (c .before .loop .seen) (c .before .loop .inv) (c .loop-test .left);
+      good = all-run (slotsOf (a .count) (a .slots .now)) (a .chain .now) (a .n) (at-loop .loop .k) (at-loop .loop .seen) (at-loop .loop .inv)
+          (c .loop-test .left);
+      long = at-loop .loop .inv .long;
+      set = λ e. set-of (slotsOf (a .count) (a .slots .now)) (a .chain .now) (a .n) (at-loop .loop .k) (at-loop .loop .seen) (at-loop .loop .inv)
+          (c .loop-test .left);
     }
 
 pub running-spec : {M : Type 1} → statement M

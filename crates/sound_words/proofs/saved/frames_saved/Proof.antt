@@ -12,15 +12,21 @@ saved-frames-ok-requires : tie.Need-saved-frames-ok-requires
 saved-frames-ok-requires c κs = search needs
 
 returns : tie.Need-returns
-returns c = first-fails _ _ _ (c .before .saved-frames-ok .result) refl (c .before .saved-frames-ok .ensures) (not-true _ (c .if1 .taken))
+returns c =
+    let at-saved-frames-ok = c .before in
+    first-fails _ _ _ (at-saved-frames-ok .saved-frames-ok .result) refl (at-saved-frames-ok .saved-frames-ok .ensures) (not-true _ (c .if1 .taken))
 
 waits-ok-requires : tie.Need-waits-ok-requires
 waits-ok-requires c κs =
-    let a = c .before .before .before .before .args in
-    (some-frame (setupOf (a .setup .now)) (a .ws .now) (a .c .frames) (a .c .regs) (sym (c .before .saved-frames-ok .ensures) ∙ not-false _ (c .if1 .left)), c .before .before .before .before .pre .inside)
+    let at-saved-frames-ok = c .before in let start = at-saved-frames-ok .before .before .before in
+    let a = start .args in
+    (some-frame (setupOf (a .setup .now)) (a .ws .now) (a .c .frames) (a .c .regs) (sym (at-saved-frames-ok .saved-frames-ok .ensures) ∙ not-false _ (c .if1 .left)), start .pre .inside)
 
 returns-2 : tie.Need-returns-2
-returns-2 c = second-decides _ _ _ (c .before .before .saved-frames-ok .result) (c .waits-ok .result) refl (c .before .before .saved-frames-ok .ensures) (not-false _ (c .before .if1 .left)) (c .waits-ok .ensures)
+returns-2 c =
+    let at-if1 = c .before in let at-saved-frames-ok = at-if1 .before in
+    second-decides _ _ _ (at-saved-frames-ok .saved-frames-ok .result) (c .waits-ok .result) refl (at-saved-frames-ok .saved-frames-ok .ensures)
+    (not-false _ (at-if1 .if1 .left)) (c .waits-ok .ensures)
 
 pub frames-saved-spec : {M : Type 1} → statement M
 frames-saved-spec =

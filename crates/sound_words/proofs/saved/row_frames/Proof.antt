@@ -32,7 +32,8 @@ frames-in-requires c κs = search needs
 
 returns : tie.Need-returns
 returns c =
-    let a = c .before .before .before .before .args in
+    let start = c .before .before .before .before in
+    let a = start .args in
     let b = a .i * a .w in
     let e : (b + a .w) - b ≡ a .w = omega arith in
     c .frames-in .ensures ∙ ap (λ (n : ℕ). framesIn (setupOf (a .setup .now)) (take n (drop b (a .ws .now))) (a .c)) e

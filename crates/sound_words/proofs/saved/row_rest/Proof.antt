@@ -31,7 +31,8 @@ rest-ok-requires c κs = search needs
 
 returns : tie.Need-returns
 returns c =
-    let a = c .before .before .before .args in
+    let start = c .before .before .before in
+    let a = start .args in
     let b = a .i * a .w in
     let e : (b + a .w) - b ≡ a .w = omega arith in
     c .rest-ok .ensures ∙ ap (λ (n : ℕ). restOk (take n (drop b (a .ws .now))) (a .n)) e

@@ -11,8 +11,9 @@ is-suspended-requires c κs = search needs
 
 returns : tie.Need-returns
 returns c =
-    let a = c .before .before .before .args in
-    not-waiting (a .ws .now) (a .c) (sym (c .before .is-suspended .ensures) ∙ not-true _ (c .if1 .taken))
+    let at-is-suspended = c .before in let start = at-is-suspended .before .before in
+    let a = start .args in
+    not-waiting (a .ws .now) (a .c) (sym (at-is-suspended .is-suspended .ensures) ∙ not-true _ (c .if1 .taken))
 
 sub-top : tie.Need-sub-top
 sub-top c = search needs
@@ -31,16 +32,20 @@ shared-slice-read-base c = search needs
 
 returns-2 : tie.Need-returns-2
 returns-2 c =
-    let a = c .before .before .before .before .before .before .args in
-    waits-far (a .ws .now) (a .c) (sym (c .before .before .before .before .is-suspended .ensures) ∙ not-false _ (c .before .before .before .if1 .left)) (c .before .before .before .before .before .before .pre .0) (c .if2 .taken)
+    let at-if1 = c .before .before .before in let at-is-suspended = at-if1 .before in let start = at-is-suspended .before .before in
+    let a = start .args in
+    waits-far (a .ws .now) (a .c) (sym (at-is-suspended .is-suspended .ensures) ∙ not-false _ (at-if1 .if1 .left)) (start .pre .0) (c .if2 .taken)
 
 sub-result : tie.Need-sub-result
 sub-result c = search needs
 
 returns-3 : tie.Need-returns-3
 returns-3 c =
-    let a = c .before .before .before .before .before .before .before .before .args in
-    waits-near (a .ws .now) (a .c) (sym (c .before .before .before .before .before .before .is-suspended .ensures) ∙ not-false _ (c .before .before .before .before .before .if1 .left)) (c .before .before .before .before .before .before .before .before .pre .0) (c .before .before .if2 .left)
+    let at-if2 = c .before .before in let at-if1 = at-if2 .before .before .before in let at-is-suspended = at-if1 .before in
+    let start = at-is-suspended .before .before in
+    let a = start .args in
+    waits-near (a .ws .now) (a .c) (sym (at-is-suspended .is-suspended .ensures) ∙ not-false _ (at-if1 .if1 .left)) (start .pre .0)
+    (at-if2 .if2 .left)
 
 pub waits-ok-spec : {M : Type 1} → statement M
 waits-ok-spec =

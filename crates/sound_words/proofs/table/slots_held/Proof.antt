@@ -9,7 +9,10 @@ table-ok-requires : tie.Need-table-ok-requires
 table-ok-requires c κs = search needs
 
 returns : tie.Need-returns
-returns c = c .table-ok .ensures ∙ table-same (c .before .before .args .slots .now) (c .before .before .args .count) (c .before .before .pre) (λ i. c .before .shared-slice-known .given i .fits)
+returns c =
+    let at-shared-slice-known = c .before in let start = at-shared-slice-known .before in
+    c .table-ok .ensures ∙ table-same (start .args .slots .now) (start .args .count) (start .pre)
+    (λ i. at-shared-slice-known .shared-slice-known .given i .fits)
 
 pub slots-held-spec : {M : Type 1} → statement M
 slots-held-spec = tie.close (tie.spec table-ok-requires returns)

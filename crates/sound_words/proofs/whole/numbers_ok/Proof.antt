@@ -10,25 +10,39 @@ room-ok-requires : tie.Need-room-ok-requires
 room-ok-requires c κs = c .pre
 
 returns : tie.Need-returns
-returns c = four-1 _ _ _ _ _ refl (sym (c .before .room-ok .ensures) ∙ not-true _ (c .if1 .taken))
+returns c =
+    let at-room-ok = c .before in
+    four-1 _ _ _ _ _ refl (sym (at-room-ok .room-ok .ensures) ∙ not-true _ (c .if1 .taken))
 
 counts-ok-requires : tie.Need-counts-ok-requires
 counts-ok-requires c κs = search needs
 
 returns-2 : tie.Need-returns-2
-returns-2 c = four-2 _ _ _ _ _ refl (sym (c .before .before .before .room-ok .ensures) ∙ not-false _ (c .before .before .if1 .left)) (sym (c .before .counts-ok .ensures) ∙ not-true _ (c .if2 .taken))
+returns-2 c =
+    let at-counts-ok = c .before in let at-if1 = at-counts-ok .before in let at-room-ok = at-if1 .before in
+    four-2 _ _ _ _ _ refl (sym (at-room-ok .room-ok .ensures) ∙ not-false _ (at-if1 .if1 .left))
+    (sym (at-counts-ok .counts-ok .ensures) ∙ not-true _ (c .if2 .taken))
 
 outcome-ok-requires : tie.Need-outcome-ok-requires
 outcome-ok-requires c κs = search needs
 
 returns-3 : tie.Need-returns-3
-returns-3 c = four-3 _ _ _ _ _ refl (sym (c .before .before .before .before .before .before .room-ok .ensures) ∙ not-false _ (c .before .before .before .before .before .if1 .left)) (sym (c .before .before .before .before .counts-ok .ensures) ∙ not-false _ (c .before .before .before .if2 .left)) (sym (c .before .outcome-ok .ensures) ∙ not-true _ (c .if3 .taken))
+returns-3 c =
+    let at-outcome-ok = c .before in let at-if2 = at-outcome-ok .before .before in let at-counts-ok = at-if2 .before in let at-if1 = at-counts-ok .before in
+    let at-room-ok = at-if1 .before in
+    four-3 _ _ _ _ _ refl (sym (at-room-ok .room-ok .ensures) ∙ not-false _ (at-if1 .if1 .left))
+    (sym (at-counts-ok .counts-ok .ensures) ∙ not-false _ (at-if2 .if2 .left)) (sym (at-outcome-ok .outcome-ok .ensures) ∙ not-true _ (c .if3 .taken))
 
 fuel-ok-requires : tie.Need-fuel-ok-requires
 fuel-ok-requires c κs = search needs
 
 returns-4 : tie.Need-returns-4
-returns-4 c = four-4 _ _ _ _ _ refl (c .fuel-ok .result) (sym (c .before .before .before .before .before .before .before .room-ok .ensures) ∙ not-false _ (c .before .before .before .before .before .before .if1 .left)) (sym (c .before .before .before .before .before .counts-ok .ensures) ∙ not-false _ (c .before .before .before .before .if2 .left)) (sym (c .before .before .outcome-ok .ensures) ∙ not-false _ (c .before .if3 .left)) (c .fuel-ok .ensures)
+returns-4 c =
+    let at-if3 = c .before in let at-outcome-ok = at-if3 .before in let at-if2 = at-outcome-ok .before .before in let at-counts-ok = at-if2 .before in
+    let at-if1 = at-counts-ok .before in let at-room-ok = at-if1 .before in
+    four-4 _ _ _ _ _ refl (c .fuel-ok .result) (sym (at-room-ok .room-ok .ensures) ∙ not-false _ (at-if1 .if1 .left))
+    (sym (at-counts-ok .counts-ok .ensures) ∙ not-false _ (at-if2 .if2 .left))
+    (sym (at-outcome-ok .outcome-ok .ensures) ∙ not-false _ (at-if3 .if3 .left)) (c .fuel-ok .ensures)
 
 pub numbers-ok-spec : {M : Type 1} → statement M
 numbers-ok-spec =

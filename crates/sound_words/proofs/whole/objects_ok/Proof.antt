@@ -14,32 +14,50 @@ use Rattle.sound_words.proofs.whole.objects_ok.Statement.{statement}
 use Rattle.sound_words.proofs.whole.objects_ok.Tie as tie
 
 -- the set has the chain's slots
-rows-are : (c : tie.After-rows-ok) → c .before .before .before .before .before .running .result .good ≡ true → (b : Bool) → c .rows-ok .result ≡ b → rowsTest (c .before .before .before .before .before .before .before .before .before .before .before .before .before .args .l) (setupOf (c .before .before .before .before .before .before .before .before .before .before .before .before .before .args .setup .now)) (c .before .before .before .before .before .before .before .before .before .before .before .before .before .args .saved .now) (c .before .before .before .before .before .before .before .before .before .before .before .before .before .args .asleep .now) (chainedAt (c .before .before .before .before .before .before .before .before .before .before .before .before .before .args .chain .now) (c .before .before .before .before .before .before .before .before .before .before .before .before .before .args .m .active)) (c .before .before .before .before .before .before .before .before .before .before .before .before .before .args .slots .now) (c .before .before .before .before .before .before .before .before .before .before .before .before .before .args .m .count) ≡ b
+rows-are : (c : tie.After-rows-ok)
+    → let at-running = c .before .before .before .before .before in let start = at-running .before .before .before .before .before .before .before .before in
+    at-running .running .result .good ≡ true
+    → (b : Bool) → c .rows-ok .result ≡ b
+    → let a = start .args in
+    rowsTest (a .l) (setupOf (a .setup .now)) (a .saved .now) (a .asleep .now) (chainedAt (a .chain .now) (a .m .active)) (a .slots .now) (a .m .count) ≡ b
 rows-are c g b e =
-    let a = c .before .before .before .before .before .before .before .before .before .before .before .before .before .args in
-    let same : inSet (c .before .before .before .before .before .running .result .set) ≡ chainedAt (a .chain .now) (a .m .active) = λ j x. c .before .before .before .before .before .running .ensures .set g x j in
-    sym (ap (λ (f : ℕ → Bool). rowsTest (a .l) (setupOf (a .setup .now)) (a .saved .now) (a .asleep .now) f (a .slots .now) (a .m .count)) same) ∙ sym (c .rows-ok .ensures) ∙ e
+    let at-running = c .before .before .before .before .before in let start = at-running .before .before .before .before .before .before .before .before in
+    let a = start .args in
+    let same : inSet (at-running .running .result .set) ≡ chainedAt (a .chain .now) (a .m .active) = λ j x. at-running .running .ensures .set g x j in
+    sym (ap (λ (f : ℕ → Bool). rowsTest (a .l) (setupOf (a .setup .now)) (a .saved .now) (a .asleep .now) f (a .slots .now) (a .m .count)) same)
+    ∙ sym (c .rows-ok .ensures) ∙ e
 
 slots-held-requires : tie.Need-slots-held-requires
-slots-held-requires c κs = c .before .before .before .before .before .pre .table
+slots-held-requires c κs =
+    let start = c .before .before .before .before .before in
+    start .pre .table
 
 returns : tie.Need-returns
-returns c = five-1 _ _ _ _ _ _ refl (sym (c .before .slots-held .ensures) ∙ not-true _ (c .if1 .taken))
+returns c =
+    let at-slots-held = c .before in
+    five-1 _ _ _ _ _ _ refl (sym (at-slots-held .slots-held .ensures) ∙ not-true _ (c .if1 .taken))
 
 running-requires : tie.Need-running-requires
-running-requires c κs = record { on-chain = c .before .before .before .before .before .before .before .pre .on-chain; table = c .before .before .before .before .before .before .before .pre .table; few = c .before .before .before .before .before .before .before .pre .few }
+running-requires c κs =
+    let start = c .before .before .before .before .before .before .before in
+    record { on-chain = start .pre .on-chain; table = start .pre .table; few = start .pre .few }
 
 returns-2 : tie.Need-returns-2
-returns-2 c = five-2 _ _ _ _ _ _ refl (sym (c .before .before .before .before .slots-held .ensures) ∙ not-false _ (c .before .before .before .if1 .left)) (sym (c .before .before .running .ensures .good) ∙ not-true _ (c .if2 .taken))
+returns-2 c =
+    let at-running = c .before .before in let at-if1 = at-running .before in let at-slots-held = at-if1 .before in
+    five-2 _ _ _ _ _ _ refl (sym (at-slots-held .slots-held .ensures) ∙ not-false _ (at-if1 .if1 .left))
+    (sym (at-running .running .ensures .good) ∙ not-true _ (c .if2 .taken))
 
 rows-ok-requires : tie.Need-rows-ok-requires
 rows-ok-requires c κs =
-    let p = c .before .before .before .before .before .before .before .before .before .before .before .before .pre in
+    let at-running = c .before .before .before .before in let start = at-running .before .before .before .before .before .before .before .before in
+    let p = start .pre in
     record {
       rows =
           record {
-            saved = record { on-stack = p .on-stack; on-frames = p .on-frames; few = p .rows; deep = p .deep; wide = p .wide; catches = p .catches; numbers = p .numbers };
-            long = c .before .before .before .before .running .ensures .long;
+            saved = record
+                { on-stack = p .on-stack; on-frames = p .on-frames; few = p .rows; deep = p .deep; wide = p .wide; catches = p .catches; numbers = p .numbers };
+            long = at-running .running .ensures .long;
           };
       table = p .table;
       few = p .few;
@@ -47,33 +65,50 @@ rows-ok-requires c κs =
 
 returns-3 : tie.Need-returns-3
 returns-3 c =
-    let g = not-false _ (c .before .before .before .before .if2 .left) in
-    five-3 _ _ _ _ _ _ refl (sym (c .before .before .before .before .before .before .before .before .slots-held .ensures) ∙ not-false _ (c .before .before .before .before .before .before .before .if1 .left)) (sym (c .before .before .before .before .before .before .running .ensures .good) ∙ g) (rows-are ((c .before)) g false (not-true _ (c .if3 .taken)))
+    let at-rows-ok = c .before in let at-if2 = at-rows-ok .before .before .before in let at-running = at-if2 .before .before in let at-if1 = at-running .before in
+    let at-slots-held = at-if1 .before in
+    let g = not-false _ (at-if2 .if2 .left) in
+    five-3 _ _ _ _ _ _ refl (sym (at-slots-held .slots-held .ensures) ∙ not-false _ (at-if1 .if1 .left))
+    (sym (at-running .running .ensures .good) ∙ g) (rows-are at-rows-ok g false (not-true _ (c .if3 .taken)))
 
 mul-rest-ok : tie.Need-mul-rest-ok
-mul-rest-ok c = omega (arith, c .before .before .before .before .before .before .before .before .before .before .before .before .before .before .before .pre .on-stack, c .before .before .before .before .before .before .before .before .before .before .before .before .before .before .before .good)
+mul-rest-ok c =
+    let start = c .before .before .before .before .before .before .before .before .before .before .before .before .before .before .before in
+    omega (arith, start .pre .on-stack, start .good)
 
 rest-ok-requires : tie.Need-rest-ok-requires
 rest-ok-requires c κs = search needs
 
 returns-4 : tie.Need-returns-4
 returns-4 c =
-    let g = not-false _ (c .before .before .before .before .before .before .before .if2 .left) in
-    five-4 _ _ _ _ _ _ refl (sym (c .before .before .before .before .before .before .before .before .before .before .before .slots-held .ensures) ∙ not-false _ (c .before .before .before .before .before .before .before .before .before .before .if1 .left)) (sym (c .before .before .before .before .before .before .before .before .before .running .ensures .good) ∙ g) (rows-are ((c .before .before .before .before)) g true (not-false _ (c .before .before .before .if3 .left))) (sym (c .before .rest-ok .ensures) ∙ not-true _ (c .if4 .taken))
+    let at-rest-ok = c .before in let at-if3 = at-rest-ok .before .before in let at-rows-ok = at-if3 .before in let at-if2 = at-rows-ok .before .before .before in
+    let at-running = at-if2 .before .before in let at-if1 = at-running .before in let at-slots-held = at-if1 .before in
+    let g = not-false _ (at-if2 .if2 .left) in
+    five-4 _ _ _ _ _ _ refl (sym (at-slots-held .slots-held .ensures) ∙ not-false _ (at-if1 .if1 .left))
+    (sym (at-running .running .ensures .good) ∙ g) (rows-are at-rows-ok g true (not-false _ (at-if3 .if3 .left)))
+    (sym (at-rest-ok .rest-ok .ensures) ∙ not-true _ (c .if4 .taken))
 
 mul-rest-ok-2 : tie.Need-mul-rest-ok-2
-mul-rest-ok-2 c = omega (arith, c .before .before .before .before .before .before .before .before .before .before .before .before .before .before .before .before .before .before .pre .deep)
+mul-rest-ok-2 c =
+    let start = c .before .before .before .before .before .before .before .before .before .before .before .before .before .before .before .before .before .before in
+    omega (arith, start .pre .deep)
 
 mul-rest-ok-3 : tie.Need-mul-rest-ok-3
-mul-rest-ok-3 c = omega (arith, c .before .before .before .before .before .before .before .before .before .before .before .before .before .before .before .before .before .before .before .pre .on-frames, c .before .before .before .before .before .before .before .before .before .before .before .before .before .before .before .before .before .before .before .good)
+mul-rest-ok-3 c =
+    let start = c .before .before .before .before .before .before .before .before .before .before .before .before .before .before .before .before .before .before .before in
+    omega (arith, start .pre .on-frames, start .good)
 
 rest-ok-requires-2 : tie.Need-rest-ok-requires-2
 rest-ok-requires-2 c κs = search needs
 
 returns-5 : tie.Need-returns-5
 returns-5 c =
-    let g = not-false _ (c .before .before .before .before .before .before .before .before .before .before .if2 .left) in
-    five-5 _ _ _ _ _ _ refl (c .rest-ok2 .result) (sym (c .before .before .before .before .before .before .before .before .before .before .before .before .before .before .slots-held .ensures) ∙ not-false _ (c .before .before .before .before .before .before .before .before .before .before .before .before .before .if1 .left)) (sym (c .before .before .before .before .before .before .before .before .before .before .before .before .running .ensures .good) ∙ g) (rows-are ((c .before .before .before .before .before .before .before)) g true (not-false _ (c .before .before .before .before .before .before .if3 .left))) (sym (c .before .before .before .before .rest-ok .ensures) ∙ not-false _ (c .before .before .before .if4 .left)) (c .rest-ok2 .ensures)
+    let at-if4 = c .before .before .before in let at-rest-ok = at-if4 .before in let at-if3 = at-rest-ok .before .before in let at-rows-ok = at-if3 .before in
+    let at-if2 = at-rows-ok .before .before .before in let at-running = at-if2 .before .before in let at-if1 = at-running .before in let at-slots-held = at-if1 .before in
+    let g = not-false _ (at-if2 .if2 .left) in
+    five-5 _ _ _ _ _ _ refl (c .rest-ok2 .result) (sym (at-slots-held .slots-held .ensures) ∙ not-false _ (at-if1 .if1 .left))
+    (sym (at-running .running .ensures .good) ∙ g) (rows-are at-rows-ok g true (not-false _ (at-if3 .if3 .left)))
+    (sym (at-rest-ok .rest-ok .ensures) ∙ not-false _ (at-if4 .if4 .left)) (c .rest-ok2 .ensures)
 
 pub objects-ok-spec : {M : Type 1} → statement M
 objects-ok-spec =

@@ -7,22 +7,34 @@ use Rattle.sound_words.proofs.whole.tower_ok.Statement.{statement}
 use Rattle.sound_words.proofs.whole.tower_ok.Tie as tie
 
 stack-frames-ok-requires : tie.Need-stack-frames-ok-requires
-stack-frames-ok-requires c κs = record { inside = c .before .before .before .before .pre .on-frames; catches = c .before .before .before .before .pre .catches; numbers = c .before .before .before .before .pre .numbers }
+stack-frames-ok-requires c κs =
+    let start = c .before .before .before .before in
+    record { inside = start .pre .on-frames; catches = start .pre .catches; numbers = start .pre .numbers }
 
 returns : tie.Need-returns
-returns c = three-1 _ _ _ _ refl (sym (c .before .stack-frames-ok .ensures) ∙ not-true _ (c .if1 .taken))
+returns c =
+    let at-stack-frames-ok = c .before in
+    three-1 _ _ _ _ refl (sym (at-stack-frames-ok .stack-frames-ok .ensures) ∙ not-true _ (c .if1 .taken))
 
 chain-ok-requires : tie.Need-chain-ok-requires
-chain-ok-requires c κs = record { on-chain = c .before .before .before .before .before .before .pre .on-chain; on-frames = c .before .before .before .before .before .before .pre .on-frames }
+chain-ok-requires c κs =
+    let start = c .before .before .before .before .before .before in
+    record { on-chain = start .pre .on-chain; on-frames = start .pre .on-frames }
 
 returns-2 : tie.Need-returns-2
-returns-2 c = three-2 _ _ _ _ refl (sym (c .before .before .before .stack-frames-ok .ensures) ∙ not-false _ (c .before .before .if1 .left)) (sym (c .before .chain-ok .ensures) ∙ not-true _ (c .if2 .taken))
+returns-2 c =
+    let at-chain-ok = c .before in let at-if1 = at-chain-ok .before in let at-stack-frames-ok = at-if1 .before in
+    three-2 _ _ _ _ refl (sym (at-stack-frames-ok .stack-frames-ok .ensures) ∙ not-false _ (at-if1 .if1 .left))
+    (sym (at-chain-ok .chain-ok .ensures) ∙ not-true _ (c .if2 .taken))
 
 rest-ok-requires : tie.Need-rest-ok-requires
 rest-ok-requires c κs = search needs
 
 returns-3 : tie.Need-returns-3
-returns-3 c = three-3 _ _ _ _ (c .rest-ok .result) refl (sym (c .before .before .before .before .stack-frames-ok .ensures) ∙ not-false _ (c .before .before .before .if1 .left)) (sym (c .before .before .chain-ok .ensures) ∙ not-false _ (c .before .if2 .left)) (c .rest-ok .ensures)
+returns-3 c =
+    let at-if2 = c .before in let at-chain-ok = at-if2 .before in let at-if1 = at-chain-ok .before in let at-stack-frames-ok = at-if1 .before in
+    three-3 _ _ _ _ (c .rest-ok .result) refl (sym (at-stack-frames-ok .stack-frames-ok .ensures) ∙ not-false _ (at-if1 .if1 .left))
+    (sym (at-chain-ok .chain-ok .ensures) ∙ not-false _ (at-if2 .if2 .left)) (c .rest-ok .ensures)
 
 pub tower-ok-spec : {M : Type 1} → statement M
 tower-ok-spec =
