@@ -5,6 +5,7 @@ import gc
 import inspect
 import os
 import sys
+import warnings
 
 
 class E101(Exception):
@@ -369,6 +370,8 @@ kept = []
 
 def main():
     gc.disable()
+    # a later CPython warns of a return in a finally block
+    warnings.simplefilter("ignore")
     out, lines = [], []
     for line in sys.stdin:
         if line != "#end\n":
