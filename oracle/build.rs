@@ -16,7 +16,7 @@ fn main() {
     println!("cargo::rerun-if-env-changed=BVM_SRC");
     println!("cargo::rerun-if-changed=build.rs");
     println!("cargo::rustc-check-cfg=cfg(original)");
-    proved();
+    library();
     let Some(src) = env::var_os("BVM_SRC").filter(|s| !s.is_empty()) else {
         return;
     };
@@ -44,10 +44,9 @@ fn main() {
 }
 
 /// Links the static library.
-fn proved() {
+fn library() {
     println!("cargo::rerun-if-env-changed=BVM_LIB");
-    println!("cargo::rustc-check-cfg=cfg(proved)");
-    println!("cargo::rustc-check-cfg=cfg(kept)");
+    println!("cargo::rustc-check-cfg=cfg(library)");
     let Some(lib) = env::var_os("BVM_LIB").filter(|s| !s.is_empty()) else {
         return;
     };
@@ -56,10 +55,7 @@ fn proved() {
     println!("cargo::rerun-if-changed={}", file.display());
     println!("cargo::rustc-link-search=native={}", lib.display());
     println!("cargo::rustc-link-lib=static=exports");
-    println!("cargo::rustc-cfg=proved");
-    if fs::read(&file).is_ok_and(|text| text.windows(8).any(|w| w == b"bvm_kept")) {
-        println!("cargo::rustc-cfg=kept");
-    }
+    println!("cargo::rustc-cfg=library");
 }
 
 /// A module of the crate root, read from `file`. The original declares far

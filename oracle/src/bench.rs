@@ -4,10 +4,10 @@
 use std::hint::black_box;
 use std::time::Instant;
 
-#[cfg(proved)]
-use oracle::world::Cont;
+#[cfg(library)]
+use oracle::library::Bare;
 use oracle::world::Costs;
-#[cfg(any(original, proved))]
+#[cfg(any(original, library))]
 use oracle::world::{Func, Handler, Setup};
 
 const SAMPLES: usize = 1001;
@@ -33,7 +33,7 @@ pub(crate) trait Switch {
 
 /// Function 0 has four registers, function 1 sixteen; function 0 has a handler
 /// over every pc.
-#[cfg(any(original, proved))]
+#[cfg(any(original, library))]
 pub(crate) fn setup(costs: Costs) -> Setup {
     let handler = Handler { start: 0, end: u64::from(u32::MAX), target: 0, catch: 3 };
     let func = |nregs, handlers| Func { nregs, nparams: 0, handlers };
@@ -55,8 +55,8 @@ fn engines(costs: Costs) -> Vec<(&'static str, Box<dyn Switch>)> {
     vec![
         #[cfg(original)]
         ("original", Box::new(crate::driver::bench::Bench::new(costs))),
-        #[cfg(proved)]
-        ("proved", Box::new(Ours::new(costs))),
+        #[cfg(library)]
+        ("bvm_kept", Box::new(Ours::new(costs))),
     ]
 }
 
@@ -132,33 +132,40 @@ pub(crate) fn timed(mut f: impl FnMut()) -> u128 {
     start.elapsed().as_nanos()
 }
 
-#[cfg(proved)]
-pub(crate) struct Ours(pub(crate) oracle::proved::Proved);
+/// The library's `bvm_kept`: calls in words, without the test of soundness.
+#[cfg(library)]
+pub(crate) struct Ours(pub(crate) Bare);
 
-#[cfg(proved)]
+#[cfg(library)]
 impl Ours {
     pub(crate) fn new(costs: Costs) -> Ours {
-        let mut e = Ours(oracle::proved::Proved::new(&setup(costs)));
-        assert_eq!(e.0.push(0, 0, Cont::Entry), [0, 0], "room for a frame");
+        let mut e = Ours(Bare::new(&setup(costs)));
+        assert_eq!(e.0.kept([24, 1 << 60, 0, 0, 0, 0])[0], 0, "fuel");
+        assert_eq!(e.0.kept([17, 0, 0, 0, 0, 0])[0], 0, "room for a frame");
         e
+    }
+
+    #[cfg(all(test, original))]
+    pub(crate) fn put(&mut self, reg: u64, word: u64) {
+        assert_eq!(self.0.kept([20, reg, word, 0, 0, 0])[0], 0, "a register");
     }
 }
 
-#[cfg(proved)]
+#[cfg(library)]
 impl Switch for Ours {
     fn push(&mut self, func: u32) {
-        assert_eq!(self.0.push(func, 0, Cont::Discard)[0], 0, "room for a frame");
+        assert_eq!(self.0.kept([19, 0, func.into(), 4, 0, 0])[0], 0, "room for a frame");
     }
 
     fn create(&mut self, func: u32) {
-        assert_eq!(self.0.coro_new(0, func, 0), oracle::proved::NEXT, "created");
+        assert_eq!(self.0.kept([0, 0, 0, func.into(), 0, 0])[2], 1, "created");
     }
 
     fn resume(&mut self) {
-        assert_eq!(self.0.resume(0, 1, 0, 2), oracle::proved::FRAME, "entered");
+        assert_eq!(self.0.kept([6, 0, 1, 0, 2, 0])[2], 2, "entered");
     }
 
     fn suspend(&mut self) {
-        assert_eq!(self.0.suspend(0, 0, 1), oracle::proved::FRAME, "suspended");
+        assert_eq!(self.0.kept([3, 0, 0, 1, 0, 0])[2], 2, "suspended");
     }
 }

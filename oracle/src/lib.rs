@@ -1,9 +1,13 @@
 //! States, calls and answers of the coroutine switch as plain values, with a
 //! soundness test, generators, a second engine written from the paper, and
-//! recorded answers. Nothing here needs the original. `proved` is the static
+//! recorded answers. Nothing here needs the original. `library` is the static
 //! library, where it is linked.
 
 pub mod aimed;
+#[cfg(library)]
+pub mod bad;
+#[cfg(library)]
+pub mod beside;
 pub mod broken;
 pub mod call;
 pub mod codec;
@@ -12,12 +16,11 @@ pub mod coverage;
 pub mod engine;
 pub mod examples;
 pub mod generate;
-#[cfg(proved)]
-pub mod kept;
 pub mod layout;
+pub mod lent;
+#[cfg(library)]
+pub mod library;
 pub mod plain;
-#[cfg(proved)]
-pub mod proved;
 pub mod recorded;
 pub mod sample;
 pub mod situations;

@@ -21,7 +21,15 @@ use Rattle.memory.specs.Contract.{Does}
 use Rattle.memory.specs.declared.machine.Machine.{Machine}
 use Rattle.memory.specs.declared.machine.Sizes.{Sizes}
 use Rattle.memory.proofs.Does.{does}
-use Rattle.added.specs.Call.{madeAs}
+
+-- what was made, as an answer
+abbrev pub madeAs : Made → Answer
+madeAs (Made.Word v) = Answer.Word v
+madeAs (Made.Refused f) = Answer.Refused f
+
+pub made-any : (w : World) (a : Made) → answerMade w a .answer ≡ madeAs a
+made-any w (Made.Word v) = refl
+made-any w (Made.Refused f) = refl
 
 module _ (l : Sizes) (M : Lent) (m : Machine) (f : Fuel) (w : World) (v : ℕ) where
   pub not-over : (g : Fault) → Stated.Refused g ≡ coroState w v → Rep l w M m f → Does l (makeIterator v w) M m f (Answer.Refused g)
@@ -40,12 +48,12 @@ module _ (l : Sizes) (M : Lent) (m : Machine) (f : Fuel) (w : World) (v : ℕ) w
   told u (Made.Word x) = refl
   told u (Made.Refused g) = refl
 
-  pub over : (s : CoroState) (a : Made) (x : Answer) (bytes : ℕ) → Stated.In s ≡ coroState w v → bytes ≡ w .setup .costs .iter → x ≡ madeAs a → Does l (iterator bytes) M m f a → Does l (makeIterator v w) M m f x
+  pub over : (s : CoroState) (a : Made) (x : Answer) (bytes : ℕ) → Stated.In s ≡ coroState w v → bytes ≡ w .setup .costs .iter → ((u : World) → x ≡ answerMade u a .answer) → Does l (iterator bytes) M m f a → Does l (makeIterator v w) M m f x
   unfolding makeIterator
   over s a x bytes e k q d =
       subst (λ (o : After Answer). Does l o M m f x)
       (sym (go (coro w v) e ∙ ap (λ n. andThen (iterator n) answerMade) (sym k) ∙ told (iterator bytes .world) (iterator bytes .answer)))
-      (record { world = d .world; answer = q ∙ ap madeAs (d .answer) })
+      (record { world = d .world; answer = q w ∙ made-any w a ∙ ap madeAs (d .answer) })
     where
       go : (c : Coroutine) → Stated.In s ≡ stateAs c (notA w v) → iteratorOver c v w ≡ andThen (iterator (w .setup .costs .iter)) answerMade
       go Absent q = never cc

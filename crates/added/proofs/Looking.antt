@@ -15,6 +15,7 @@ use Rattle.model.specs.Frames.{topBase}
 use Rattle.model.specs.Added.{registersOn, registers}
 use Rattle.model.specs.declared.machine.Frame.{Frame}
 use Rattle.model.specs.declared.machine.Fuel.{Fuel}
+use Rattle.tables.specs.Layout.{baseIn}
 use Rattle.tables.specs.Parts.{Frames, Stack}
 use Rattle.memory.specs.Memory.{Lent, Rep}
 use Rattle.memory.specs.declared.machine.Machine.{Machine}
@@ -56,12 +57,12 @@ module _ (l : Sizes) (w : World) (M : Lent) (m : Machine) (f : Fuel) (rep : Rep 
       go [] q = refl
       go (x ∷ fs) q = absurd (omega arith)
 
-  pub seen : 1 ≤ m .depth → take (m .height - getD (M .frames) ((m .depth - 1) * 6 + 2) 0) (drop (getD (M .frames) ((m .depth - 1) * 6 + 2) 0) (M .stack)) ≡ registers w
+  pub seen : (start : ℕ) → start ≡ baseIn (M .frames) (m .depth - 1) → 1 ≤ m .depth → take (m .height - start) (drop start (M .stack)) ≡ registers w
   unfolding registers
-  seen h = go (w .frames) (rep .frames)
+  seen start e h = ap (λ b. take (m .height - b) (drop b (M .stack))) e ∙ go (w .frames) (rep .frames)
     where
       go : (fs : List Frame) → Frames fs (M .frames) (m .depth)
-          → take (m .height - getD (M .frames) ((m .depth - 1) * 6 + 2) 0) (drop (getD (M .frames) ((m .depth - 1) * 6 + 2) 0) (M .stack)) ≡ registersOn fs (w .stack)
+          → take (m .height - baseIn (M .frames) (m .depth - 1)) (drop (baseIn (M .frames) (m .depth - 1)) (M .stack)) ≡ registersOn fs (w .stack)
       go [] p = let c = p .count in absurd (omega arith)
       go (x ∷ fs) p = span (w .stack) (M .stack) (m .height) _ (rep .stack) ∙ ap (λ k. drop k (w .stack)) (top-base x fs (M .frames) (m .depth) p)
 
@@ -80,10 +81,10 @@ module _ (l : Sizes) (w : World) (M : Lent) (m : Machine) (f : Fuel) (rep : Rep 
       go [] q = refl
       go (x ∷ fs) q = absurd (omega arith)
 
-  pub some-base : 1 ≤ m .depth → getD (M .frames) ((m .depth - 1) * 6 + 2) 0 ≡ topBase (w .frames)
+  pub some-base : 1 ≤ m .depth → baseIn (M .frames) (m .depth - 1) ≡ topBase (w .frames)
   some-base h = go (w .frames) (rep .frames)
     where
-      go : (fs : List Frame) → Frames fs (M .frames) (m .depth) → getD (M .frames) ((m .depth - 1) * 6 + 2) 0 ≡ topBase fs
+      go : (fs : List Frame) → Frames fs (M .frames) (m .depth) → baseIn (M .frames) (m .depth - 1) ≡ topBase fs
       go [] p = let c = p .count in absurd (omega arith)
       go (x ∷ fs) p = top-base x fs (M .frames) (m .depth) p
 

@@ -11,15 +11,22 @@ use Rattle.model.specs.declared.coro.Made.{Made}
 use Rattle.model.specs.declared.call.Answer.{Answer}
 use Rattle.model.specs.declared.machine.Cont.{Cont}
 use Rattle.model.specs.declared.machine.Fuel.{Fuel}
-use Rattle.invariant.proofs.Tests.{picked}
+use Rattle.soundness.proofs.Tests.{picked}
 use Rattle.memory.specs.Memory.{Lent, Rep}
 use Rattle.memory.specs.Contract.{Does}
 use Rattle.memory.specs.declared.machine.Machine.{Machine}
 use Rattle.memory.specs.declared.machine.Sizes.{Sizes}
 use Rattle.machine.specs.Frame.{pushedOr, pushAt}
-use Rattle.added.specs.Call.{pushedAs}
 
 -- what was pushed, as an answer
+abbrev pushedAs : Made → Answer
+pushedAs (Made.Word base) = Answer.Accepted
+pushedAs (Made.Refused f) = Answer.Refused f
+
+in-any : (w : World) (a : Made) → Added.pushedOr w w a .answer ≡ pushedAs a
+in-any w (Made.Word b) = refl
+in-any w (Made.Refused f) = refl
+
 abbrev told : After Made → After Answer
 told o = after (o .world) (pushedAs (o .answer))
 
@@ -33,14 +40,14 @@ unfolding pushFrame
 pushes-back f closure cont w = picked (λ (o : After Made). o ≡ andThen o (pushedOr w)) _ (λ _. refl) (λ _. refl)
 
 module _ (l : Sizes) (M : Lent) (m : Machine) (fuel : Fuel) (w : World) (a : Made) (x : Answer) where
-  answered : (o : After Made) (p : After Answer) → told o ≡ p → x ≡ pushedAs a → Does l o M m fuel a → Does l p M m fuel x
-  answered o p e q d = subst (λ (z : After Answer). Does l z M m fuel x) e (record { world = d .world; answer = q ∙ ap pushedAs (d .answer) })
+  answered : (o : After Made) (p : After Answer) → told o ≡ p → ((v u : World) → x ≡ Added.pushedOr v u a .answer) → Does l o M m fuel a → Does l p M m fuel x
+  answered o p e q d = subst (λ (z : After Answer). Does l z M m fuel x) e (record { world = d .world; answer = q w w ∙ in-any w a ∙ ap pushedAs (d .answer) })
 
-  pub host-called : (f : ℕ) → x ≡ pushedAs a → Does l (pushFrame f nil Cont.Entry w) M m fuel a → Does l (hostCall f w) M m fuel x
+  pub host-called : (f : ℕ) → ((v u : World) → x ≡ Added.pushedOr v u a .answer) → Does l (pushFrame f nil Cont.Entry w) M m fuel a → Does l (hostCall f w) M m fuel x
   unfolding hostCall
   host-called f = answered (pushFrame f nil Cont.Entry w) (hostCall f w) (ap told (pushes-back f nil Cont.Entry w) ∙ back w (pushFrame f nil Cont.Entry w .world) (pushFrame f nil Cont.Entry w .answer))
 
-  pub function-called : (pc f : ℕ) (cont : Cont) → x ≡ pushedAs a → Does l (pushAt pc f nil cont w) M m fuel a → Does l (functionCall pc f cont w) M m fuel x
+  pub function-called : (pc f : ℕ) (cont : Cont) → ((v u : World) → x ≡ Added.pushedOr v u a .answer) → Does l (pushAt pc f nil cont w) M m fuel a → Does l (functionCall pc f cont w) M m fuel x
   unfolding functionCall pushAt
   function-called pc f cont = answered (pushAt pc f nil cont w) (functionCall pc f cont w) (back w (pushFrame f nil cont (storePc pc w) .world) (pushFrame f nil cont (storePc pc w) .answer))
 

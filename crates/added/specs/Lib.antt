@@ -1,4 +1,3 @@
-pub mod Call
 pub mod Outcome
 pub mod Look
 pub mod Stop

@@ -1,11 +1,11 @@
 // 01: host call, function call, put word.
 ghost use mathlib.Core.Path.{_≡_};
-ghost use Rattle.model.specs.Added.{hostCall, functionCall, putWord};
+ghost use Rattle.model.specs.World.{World};
+ghost use Rattle.model.specs.Added.{pushedOr, hostCall, functionCall, putWord};
 ghost use Rattle.tables.specs.Does.{RegFits};
 ghost use Rattle.memory.specs.Lendings.{top, topSetup};
 ghost use Rattle.memory.specs.Contract.{Met, any, every, ifSound, only};
 ghost use Rattle.machine.specs.Frame.{PushFits, CallFits};
-ghost use Rattle.added.specs.Call.{pushedAs};
 use machine::frame::push_at;
 use machine::frame::push_frame;
 use memory::machine::Machine;
@@ -22,7 +22,7 @@ pub struct CallDid {
 
 // A frame was pushed, or refused.
 fn pushed_as(a: Made) -> Answer
-    ensures { λ r. ⌜ r ≡ pushedAs a ⌝ }
+    ensures { λ r. ⌜ ((w u : World) → r ≡ pushedOr w u a .answer) ⌝ }
 {
     match a {
         Made::Word(_) => Answer::Accepted,

@@ -1,9 +1,10 @@
 // 01: "Host entry: `coro_enter` with the host driver, then the word delivered if suspended."
 ghost use mathlib.Core.Path.{_≡_};
-ghost use Rattle.model.specs.Added.{hostEntry};
+ghost use Prim.Native.Nat.{ℕ};
+ghost use Rattle.model.specs.World.{World};
+ghost use Rattle.model.specs.Added.{hostArrive, hostEntry};
 ghost use Rattle.memory.specs.Lendings.{six};
 ghost use Rattle.memory.specs.Contract.{Ok, Met, ifSound, only};
-ghost use Rattle.added.specs.Call.{enteredAs};
 use crate::call::CallDid;
 use coro_enter::arrival::arrive;
 use coro_enter::enter::coro_enter;
@@ -16,7 +17,7 @@ use model::machine::Driver;
 
 // A coroutine was entered, or refused.
 fn entered_as(a: Entered) -> Answer
-    ensures { λ r. ⌜ r ≡ enteredAs a ⌝ }
+    ensures { λ r. ⌜ ((v : ℕ) (w : World) → r ≡ hostArrive v w a .answer) ⌝ }
 {
     match a {
         Entered::Fresh => Answer::Accepted,

@@ -1,9 +1,9 @@
 // 01: "Make iterator: over a coroutine (else 1 or 2), not done, no key."
 ghost use mathlib.Core.Path.{_≡_};
-ghost use Rattle.model.specs.Added.{makeIterator};
+ghost use Rattle.model.specs.World.{World};
+ghost use Rattle.model.specs.Added.{answerMade, makeIterator};
 ghost use Rattle.memory.specs.Lendings.{table};
 ghost use Rattle.memory.specs.Contract.{Ok, Met, ifSound, only};
-ghost use Rattle.added.specs.Call.{madeAs};
 use crate::call::CallDid;
 use heap::object::Object;
 use heap::value::Opt;
@@ -18,7 +18,7 @@ use model::coro::Stated;
 
 // The word made is the answer.
 pub fn made_as(a: Made) -> Answer
-    ensures { λ r. ⌜ r ≡ madeAs a ⌝ }
+    ensures { λ r. ⌜ ((w : World) → r ≡ answerMade w a .answer) ⌝ }
 {
     match a {
         Made::Word(v) => Answer::Word(v),

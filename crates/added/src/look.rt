@@ -15,7 +15,7 @@ pub fn look(frames: &[u64], m: Machine) -> Span
     if m.depth == 0 {
         return Span { start: 0, end: 0 };
     }
-    let start = frames[(m.depth - 1) * 6 + 2] as usize;
+    let start = tables::frame::base_at(frames, m.depth - 1);
     Span {
         start,
         end: m.height,

@@ -5,17 +5,11 @@ ghost use Rattle.memory.specs.Lendings.{six};
 ghost use Rattle.memory.specs.Contract.{Ok, Met, ifSound, with};
 ghost use Rattle.added.specs.Stop.{emptied};
 use coro_end::abort::abort_coros;
+use machine::called::Called;
 use memory::machine::Machine;
 use memory::machine::Sizes;
 use model::call::Answer;
 use model::machine::Fuel;
-
-// What it leaves of the numbers and of the fuel, and answers.
-pub struct StopDid {
-    pub machine: Machine,
-    pub fuel: Fuel,
-    pub answer: Answer,
-}
 
 fn emptied(m: Machine) -> Machine
     ensures { λ r. ⌜ r ≡ emptied m ⌝ }
@@ -36,7 +30,7 @@ pub fn stop_run(
     m: Machine,
     l: Sizes,
     fuel: Fuel,
-) -> StopDid
+) -> Called
     requires { ⌜ Ok l (six stack frames chain slots «saved_stack» «saved_frames» now) (with m fuel) ⌝ }
     ensures { λ r. ⌜ Met ifSound l stopRun (six stack frames chain slots «saved_stack» «saved_frames») (with m fuel) (with (r .machine) (r .fuel)) (r .answer) ⌝ }
 {
@@ -45,7 +39,7 @@ pub fn stop_run(
     let f = did.fuel;
     tables::frames::clear_frames(frames, n.depth);
     tables::stack::cut(stack, n.height, 0);
-    StopDid {
+    Called {
         machine: emptied(n),
         fuel: f,
         answer: Answer::Accepted,

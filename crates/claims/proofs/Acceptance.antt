@@ -7,7 +7,6 @@ use lib.ListN.{length}
 use borrow.Author.Tests.{le-ltb}
 use Rattle.lists.specs.Pick.{pick, pick-true, pick-false}
 use Rattle.heap.specs.Word.{nil}
-use Rattle.heap.specs.declared.value.Opt.{Opt}
 use Rattle.model.specs.State.{isCreated, isRunning, isSuspended}
 use Rattle.model.specs.Object.{Core, Rest, isDone}
 use Rattle.model.specs.World.{World, After}
@@ -23,6 +22,7 @@ use Rattle.model.specs.declared.machine.Charge.{Charge}
 use Rattle.model.specs.declared.coro.Entered as E
 use Rattle.model.specs.declared.call.OptPc.{OptPc}
 use Rattle.model.specs.declared.call.Op.{Op}
+use Rattle.claims.specs.Says.{Sent, nothing, gets, closes}
 use Rattle.claims.proofs.Entry.{enters, at, awaits, act, nobody, entry, acceptsAs, accepts, sentTo, charged, entryBy, entryOf, driverOf, sentOf, pcBy}
 use Rattle.claims.proofs.Suspension.{suspendsIn, takesBy, suspendsOf}
 use Rattle.claims.proofs.Held.{coreIn, coreAt}
@@ -47,7 +47,7 @@ accepts-exactly w c d = go (coroEnter c d w) (enter-case c d w)
 entered-exactly : (w : World) (k : Call) (c : ℕ) → Enters c w k → entryOf w k ≡ entry c (driverOf (entryOf w k)) (sentOf (entryOf w k))
 entered-exactly w k c h = let t = entering c w k h in t .by ∙ (λ i. entry c (ap driverOf (sym (t .by)) i) (ap sentOf (sym (t .by)) i))
 
-pub named-enters : (w : World) (k : Call) (c : ℕ) (d : Driver) (v : Opt) → entryOf w k ≡ entry c d v → Enters c w k
+pub named-enters : (w : World) (k : Call) (c : ℕ) (d : Driver) (v : Sent) → entryOf w k ≡ entry c d v → Enters c w k
 named-enters w k c d v h = let x = go (next w k) (step-case w k) h in record { before = x .0; after = x .1 }
   where
     go : {k : Call} (z : World) → StepCase w k z → entryOf w k ≡ entry c d v → (isRunning (coreAt w c .state) ≡ false) × (isRunning (coreAt z c .state) ≡ true)
@@ -120,7 +120,7 @@ accepts-fits w c k r h f =
     ∙ rw (f .resumable, solid w h c k r (f .there) (f .resumable), le-ltb (w .setup .limits .depth) (length (w .frames) + length (k .frames)) (f .depth), le-ltb (w .setup .limits .stack) (length (w .stack) + length (k .regs)) (f .stack))
 
 -- an instruction whose test passes enters whom it names
-starts-enters : (w : World) (o : Op) (n : ℕ) (p : ℕ) (ok : Bool) (c : ℕ) (d : Driver) (v : Opt) (may : Bool) → act w o ≡ at p ok (enters c d v may) → (s : Starts w o n) → may ≡ true → accepts w c ≡ true → Enters c w (asCall o (s .fits))
+starts-enters : (w : World) (o : Op) (n : ℕ) (p : ℕ) (ok : Bool) (c : ℕ) (d : Driver) (v : Sent) (may : Bool) → act w o ≡ at p ok (enters c d v may) → (s : Starts w o n) → may ≡ true → accepts w c ≡ true → Enters c w (asCall o (s .fits))
 starts-enters w o n p ok c d v may e s m a = named-enters w (asCall o (s .fits)) c d (sentTo (coro w c) v) (entry-sound w (record { op = o; within = s .fits }) (s .healthy) ∙ ap (λ x. entryBy x w) e ∙ opened)
   where
     gate : ok ≡ true
@@ -141,10 +141,14 @@ susp-at w c k r f h = ap suspendedAs (f .there) ∙ h
 pub acceptance : (w : World) (n : ℕ) (k : Core) (r : Rest) → Acceptance w n k r
 acceptance w n k r =
     record {
-      resume = λ pc dst c src s f. starts-enters w (Op.Resume pc dst c src) n pc _ (reg w c) (Driver.Resume dst) (Opt.Some (reg w src)) true refl s refl (accepts-fits w (reg w c) k r (s .healthy) f);
-      throw = λ pc dst c src s f h. starts-enters w (Op.ResumeThrow pc dst c src) n pc _ (reg w c) (Driver.Resume dst) Opt.None (suspendedAs (coro w (reg w c))) refl s (susp-at w (reg w c) k r f h) (accepts-fits w (reg w c) k r (s .healthy) f);
-      close = λ pc dst c src s f h. starts-enters w (Op.CoroClose pc dst c src) n pc _ (reg w c) (Driver.Resume dst) Opt.None (suspendedAs (coro w (reg w c))) refl s (susp-at w (reg w c) k r f h) (accepts-fits w (reg w c) k r (s .healthy) f);
-      loop = λ pc has iter val src s f h g. starts-enters w (Op.IterNext pc has iter val src) n pc _ (reg w src) (Driver.Iter has val (reg w iter)) (Opt.Some nil) (not (isDone (object w (reg w iter))) && not (awaits (coro w (reg w src)))) refl s
+      resume = λ pc dst c src s f. starts-enters w (Op.Resume pc dst c src) n pc _ (reg w c) (Driver.Resume dst) (gets (reg w src)) true refl s refl (accepts-fits w (reg w c) k r (s .healthy) f);
+      throw = λ pc dst c src s f h. starts-enters w (Op.ResumeThrow pc dst c src) n pc _ (reg w c) (Driver.Resume dst) nothing (suspendedAs (coro w (reg w c))) refl s (susp-at w (reg w c) k r f h) (accepts-fits w (reg w c) k r (s .healthy) f);
+      close = λ pc dst c src s f h. starts-enters w (Op.CoroClose pc dst c src) n pc _ (reg w c) (Driver.Resume dst) (closes (reg w src)) (suspendedAs (coro w (reg w c))) refl s (susp-at w (reg w c) k r f h) (accepts-fits w (reg w c) k r (s .healthy) f);
+      loop = λ pc has iter val src s f h g. starts-enters w (Op.IterNext pc has iter val src) n pc _ (reg w src) (Driver.Iter has val (reg w iter)) (gets nil) (not (isDone (object w (reg w iter))) && not (awaits (coro w (reg w src)))) refl s
           (ap (λ b. not b && not (awaits (coro w (reg w src)))) h ∙ ap (λ x. not (awaits x)) (f .there) ∙ ap not g) (accepts-fits w (reg w src) k r (s .healthy) f);
-      host = λ c v t h e f. named-enters w (asCall (Op.HostEntry c v) t) c Driver.Host (sentTo (coro w c) (Opt.Some v)) (entry-sound w (record { op = Op.HostEntry c v; within = t }) h ∙ (λ i. pick (not (e i)) nobody (pick (accepts-fits w c k r h f i) (entry c Driver.Host (sentTo (coro w c) (Opt.Some v))) nobody)) ∙ pick-false nobody (pick true (entry c Driver.Host (sentTo (coro w c) (Opt.Some v))) nobody) ∙ pick-true (entry c Driver.Host (sentTo (coro w c) (Opt.Some v))) nobody);
+      host = λ c v t h e f.
+          let it = entry c Driver.Host (sentTo (coro w c) (gets v)) in
+          named-enters w (asCall (Op.HostEntry c v) t) c Driver.Host (sentTo (coro w c) (gets v))
+          (entry-sound w (record { op = Op.HostEntry c v; within = t }) h ∙ (λ i. pick (not (e i)) nobody (pick (accepts-fits w c k r h f i) it nobody))
+          ∙ pick-false nobody (pick true it nobody) ∙ pick-true it nobody);
     }

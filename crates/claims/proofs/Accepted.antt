@@ -6,7 +6,6 @@ use mathlib.Core.Bool.{Bool, true, false}
 use mathlib.Core.List.{List, [], _∷_}
 use mathlib.Core.Option.{Option, none, some}
 use lib.ListN.{length}
-use Rattle.heap.specs.declared.value.Opt.{Opt}
 use Rattle.model.specs.Lists.{isNil}
 use Rattle.model.specs.State.{isAwaiting, isSuspended, isResumable}
 use Rattle.model.specs.Object.{Core, Rest, Is, isDone}
@@ -22,6 +21,7 @@ use Rattle.model.specs.declared.machine.Driver.{Driver}
 use Rattle.model.specs.declared.machine.Charge.{Charge}
 use Rattle.model.specs.declared.call.OptPc.{OptPc}
 use Rattle.model.specs.declared.call.Op.{Op}
+use Rattle.claims.specs.Says.{Sent, nothing, gets, closes}
 use Rattle.claims.proofs.Entry.{Act, at, byHost, finishes, unwinds, other, act, entry, accepts, entryOf, driverOf, sentOf, pcBy}
 use Rattle.claims.proofs.Suspension.{suspendsOf}
 use Rattle.claims.proofs.Split.{Suspends, Enters}
@@ -35,7 +35,7 @@ pub record Exactly (w : World) (k : Call) (c : ℕ) : Type 0 where
   -- `accepts`, by which entryOf is defined, is what coro_enter answers
   pub accepted : (d : Driver) → isEntered (coroEnter c d w .answer) ≡ accepts w c
   pub entered : Enters c w k → entryOf w k ≡ entry c (driverOf (entryOf w k)) (sentOf (entryOf w k))
-  pub enters : (d : Driver) (v : Opt) → entryOf w k ≡ entry c d v → Enters c w k
+  pub enters : (d : Driver) (v : Sent) → entryOf w k ≡ entry c d v → Enters c w k
   pub suspended : Suspends c w k → (suspendsOf w k ≡ true) × (inmost (w .chain) ≡ some c)
   pub suspends : suspendsOf w k ≡ true → inmost (w .chain) ≡ some c → Suspends c w k
   pub one-entry : (u : ℕ) → Enters c w k → Enters u w k → c ≡ u

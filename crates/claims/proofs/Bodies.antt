@@ -8,18 +8,17 @@ use lib.ListN.{length, take, length-append}
 use lib.Seq.{take-append-seam}
 use lib.Dec.{eqb, leb}
 use borrow.Author.Tests.{eqb-true, leb-true}
-use Rattle.heap.specs.declared.value.Opt.{Opt}
 use Rattle.model.specs.Lists.{each}
 use Rattle.model.specs.Program.{setupOk}
-use Rattle.model.specs.Object.{Core}
 use Rattle.model.specs.World.{World}
 use Rattle.model.specs.Frames.{isCoro, onTop, setPc, stepPc, raise, lower, above, baseAt}
 use Rattle.model.specs.Sound.{sizesOk, savedSizesOk, framesOk, entryOk, floorsOk, driversOk, runningOk, savedOk, rowsOk, queuesOk, fuelOk, unusedOk, rangesOk, sound, beside, matches, basesOk, frameNames, contsLie, catchesLie}
 use Rattle.model.specs.declared.machine.Cont.{Cont}
 use Rattle.model.specs.declared.machine.Active.{Active}
 use Rattle.model.specs.declared.machine.Frame.{Frame}
+use Rattle.claims.specs.Says.{Sent, nothing, gets, closes}
 use Rattle.claims.specs.Held.{at, after, Moved, AllMoved, stepped}
-use Rattle.claims.proofs.Held.{framesWith}
+use Rattle.claims.proofs.Held.{Seat, framesWith}
 use Rattle.claims.proofs.Cores.{no-both, and-left, and-right}
 use Rattle.claims.proofs.Under.{Lift, l-body, l-plain, base-cons, base-here}
 use Rattle.claims.proofs.Sounds.{Floors, floors}
@@ -143,13 +142,14 @@ all-moved : (b h : ℕ) (fs : List Frame) → Low b fs → AllMoved b h fs (map 
 all-moved b h [] l = tt
 all-moved b h (f ∷ fs) l = let l0 = l .0 in (record { func = refl; pc = refl; base = omega (arith, l0); closure = refl; cont = refl }, all-moved b h fs (l .1))
 
-pub moved : (b h p : ℕ) (sent : Opt) (fs : List Frame) (s : Core) → Low b fs → s .frames ≡ map (lower b) (at p fs) → AllMoved b h (at (stepped sent p) fs) (map (raise h) (framesWith sent s))
-moved b h p Opt.None fs s l e = subst (λ gs. AllMoved b h (at p fs) (map (raise h) gs)) (sym e) (go fs l)
-  where
-    go : (fs : List Frame) → Low b fs → AllMoved b h (at p fs) (map (raise h) (map (lower b) (at p fs)))
-    go [] l = tt
-    go (f ∷ fs) l = all-moved b h (setPc p f ∷ fs) l
-moved b h p (Opt.Some x) fs s l e = subst (λ gs. AllMoved b h (at (after p) fs) (map (raise h) (onTop stepPc gs))) (sym e) (go fs l)
+stays : (b h p : ℕ) (fs : List Frame) → Low b fs → AllMoved b h (at p fs) (map (raise h) (map (lower b) (at p fs)))
+stays b h p [] l = tt
+stays b h p (f ∷ fs) l = all-moved b h (setPc p f ∷ fs) l
+
+pub moved : (b h p : ℕ) (sent : Sent) (fs : List Frame) (s : Seat) → Low b fs → s .frames ≡ map (lower b) (at p fs) → AllMoved b h (at (stepped sent p) fs) (map (raise h) (framesWith sent s))
+moved b h p nothing fs s l e = subst (λ gs. AllMoved b h (at p fs) (map (raise h) gs)) (sym e) (stays b h p fs l)
+moved b h p (closes x) fs s l e = subst (λ gs. AllMoved b h (at p fs) (map (raise h) gs)) (sym e) (stays b h p fs l)
+moved b h p (gets x) fs s l e = subst (λ gs. AllMoved b h (at (after p) fs) (map (raise h) (onTop stepPc gs))) (sym e) (go fs l)
   where
     go : (fs : List Frame) → Low b fs → AllMoved b h (at (after p) fs) (map (raise h) (onTop stepPc (map (lower b) (at p fs))))
     go [] l = tt

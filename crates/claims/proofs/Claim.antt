@@ -9,11 +9,10 @@ use Rattle.lists.specs.Pick.{pick, pick-true}
 use Rattle.heap.specs.Table.{slot}
 use Rattle.heap.specs.declared.heap.Place.{Place}
 use Rattle.heap.specs.declared.fault.Fault.{Fault}
-use Rattle.heap.specs.declared.value.Opt.{Opt}
 use Rattle.heap.specs.declared.object.CoroState.{CoroState}
 use Rattle.model.specs.State.{isCreated, isRunning, isSuspended, isResumable}
 use Rattle.model.specs.Program.{Func, Setup, setupOk}
-use Rattle.model.specs.Object.{Core, Object, Absent, asCoro}
+use Rattle.model.specs.Object.{Object, Absent, asCoro}
 use Rattle.model.specs.World.{World, fresh, functionObjects}
 use Rattle.model.specs.Frames.{onTop, setPc, baseAt, raise}
 use Rattle.model.specs.Heap.{place, objectAt, coro}
@@ -26,8 +25,9 @@ use Rattle.model.specs.Step.{told, call, step, run, tested}
 use Rattle.model.specs.declared.machine.Active.{Active}
 use Rattle.model.specs.declared.machine.Frame.{Frame}
 use Rattle.model.specs.declared.machine.Driver.{Driver}
+use Rattle.claims.specs.Says.{Sent, nothing, gets, closes}
 use Rattle.claims.proofs.Entry.{nobody, entry, act, entryBy, entryOf, driverOf, sentOf, pcOf}
-use Rattle.claims.proofs.Held.{coreIn, coreAt, floorOf, heldAs, sleptBy, slept, isBody, wordsWith, framesWith, calling, eventOf, mem, deliverTo}
+use Rattle.claims.proofs.Held.{Seat, coreIn, coreAt, floorOf, heldAs, sleptBy, slept, isBody, wordsWith, framesWith, calling, eventOf, mem, deliverTo}
 use Rattle.claims.proofs.Split.{next, hasLeft, Suspends, Enters, Leaves, restarts, Waits, Goes, Sleeps, Entered, Left, Split}
 use Rattle.claims.proofs.Cores.{no-both}
 use Rattle.claims.proofs.Shape.{view, Enter, Apart}
@@ -87,7 +87,8 @@ suspends-as c w o z s =
     let t = s .suspend in
     let k : coreAt z c ≡ slept w (Do o) c =
     ap (coreAt z) (s .its-own) ∙ t .mine
-    ∙ ap (λ n. heldAs (s .state) (s .dst) n (baseAt n (onTop (setPc (s .pc)) (w .frames))) (onTop (setPc (s .pc)) (w .frames)) (w .stack)) (sym (floor-here (w .chain) (s .chain) (s .body) c (t .inmost) (s .its-own)))
+    ∙ ap (λ u. heldAs (coreAt w u .closing) (s .state) (s .dst) (s .body .floor) (baseAt (s .body .floor) (onTop (setPc (s .pc)) (w .frames))) (onTop (setPc (s .pc)) (w .frames)) (w .stack)) (sym (s .its-own))
+    ∙ ap (λ n. heldAs (coreAt w c .closing) (s .state) (s .dst) n (baseAt n (onTop (setPc (s .pc)) (w .frames))) (onTop (setPc (s .pc)) (w .frames)) (w .stack)) (sym (floor-here (w .chain) (s .chain) (s .body) c (t .inmost) (s .its-own)))
     ∙ ap (λ a. sleptBy a w c) (sym (s .by)) in
     record { asleep = ap (λ x. isSuspended (x .state)) (sym k ∙ ap (coreAt z) (s .its-own) ∙ t .mine) ∙ t .asleep; holds = k }
 
@@ -111,7 +112,7 @@ its-body c w k h = go (next w k) (step-case w k) (h .after)
 
 -- ---- (2)
 
-stays : (c : ℕ) (w : World) (k : Call) (s : Core) → isCreated (s .state) ≡ false → isRunning (s .state) ≡ false → restarts k ≡ false → isRunning (coreAt (next w k) c .state) ≡ false → coreAt w c ≡ s → coreAt (next w k) c ≡ s
+stays : (c : ℕ) (w : World) (k : Call) (s : Seat) → isCreated (s .state) ≡ false → isRunning (s .state) ≡ false → restarts k ≡ false → isRunning (coreAt (next w k) c .state) ≡ false → coreAt w c ≡ s → coreAt (next w k) c ≡ s
 stays c w k s b r n a h = go (next w k) (step-case w k) n a
   where
     go : {k : Call} (z : World) → StepCase w k z → restarts k ≡ false → isRunning (coreAt z c .state) ≡ false → coreAt z c ≡ s
@@ -119,7 +120,7 @@ stays c w k s b r n a h = go (next w k) (step-case w k) n a
     go z (same k e) n a = h
     go z (does o e) n a = sleeps-on c s b (shape w (o .op)) (apart w e c (ap (λ x. isRunning (x .state)) h ∙ r)) h a
 
-pub sleep : (c : ℕ) (s : Core) (w : World) (ks : List Call) → Sleeps w c s → Waits c w ks → Sleeps (run w ks) c s
+pub sleep : (c : ℕ) (s : Seat) (w : World) (ks : List Call) → Sleeps w c s → Waits c w ks → Sleeps (run w ks) c s
 sleep c s w [] h q = h
 sleep c s w (k ∷ ks) h q = go (isRunning (coreAt (next w k) c .state)) refl (sleep c s (next w k) ks)
   where
@@ -136,7 +137,7 @@ sleep c s w (k ∷ ks) h q = go (isRunning (coreAt (next w k) c .state)) refl (s
 pub record Entering (c : ℕ) (w : World) (k : Call) (z : World) : Type 0 where
   pub healthy : sound w ≡ true
   pub driver : Driver
-  pub sent : Opt
+  pub sent : Sent
   pub by : entryOf w k ≡ entry c driver sent
   pub enter : Enter w (pcOf w k) c driver sent z
 
@@ -150,7 +151,7 @@ entering c w k h = go (next w k) (step-case w k) (h .after)
         let t = entered-one c (shape w (o .op)) (h .before) a in
         record { healthy = e; driver = t .driver; sent = t .sent; by = entry-sound w o e ∙ t .by; enter = t .enter }
 
-pub restored : (c : ℕ) (w : World) (k : Call) (s : Core) → Enters c w k → coreAt w c ≡ s → Entered w k c s (next w k)
+pub restored : (c : ℕ) (w : World) (k : Call) (s : Seat) → Enters c w k → coreAt w c ≡ s → Entered w k c s (next w k)
 restored c w k s h q =
     let e = entering c w k h in
     let d : driverOf (entryOf w k) ≡ e .driver = ap driverOf (e .by) in
@@ -173,7 +174,7 @@ run-left CoroState.Returned e = sym e
 run-left CoroState.Failed e = refl
 
 -- what has failed stays so
-lost-on : (c : ℕ) (s : Core) → s .state ≡ CoroState.Failed → (w : World) (ks : List Call) → coreAt w c ≡ s → Goes c w ks → coreAt (run w ks) c ≡ s
+lost-on : (c : ℕ) (s : Seat) → s .state ≡ CoroState.Failed → (w : World) (ks : List Call) → coreAt w c ≡ s → Goes c w ks → coreAt (run w ks) c ≡ s
 lost-on c s f w [] h q = h
 lost-on c s f w (k ∷ ks) h q = lost-on c s f (next w k) ks (stays c w k s (ap isCreated f) (ap isRunning f) (q .0) (out (isRunning (coreAt (next w k) c .state)) refl) h) (q .2)
   where

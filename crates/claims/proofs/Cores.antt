@@ -8,6 +8,7 @@ use mathlib.Core.Path.{_≡_, refl, sym, ap, _∙_}
 use mathlib.Core.Logic.{_≢_, _⊎_, inl, inr}
 use mathlib.Core.Bool.{Bool, true, false, _&&_, _||_}
 use mathlib.Core.List.{List, [], _∷_, _++_}
+use mathlib.Core.Option.{Option, none, some}
 use lib.ListN.{length, getD, set, length-set, length-append, List·getD-append}
 use lib.Seq.{getD-set-same, getD-set-other, getD-at}
 use lib.Dec.{eqb, ltb}
@@ -21,7 +22,7 @@ use Rattle.heap.specs.declared.object.CoroState.{CoroState}
 use Rattle.model.specs.State.{isCreated, isRunning, isSuspended}
 use Rattle.model.specs.Object.{Core, Rest, Object, isFilled, Coroutine, Is, asCoro}
 use Rattle.model.specs.Heap.{objectAt}
-use Rattle.claims.proofs.Held.{coreIn}
+use Rattle.claims.proofs.Held.{Seat, seat, closingOf, coreIn}
 pub use Rattle.lists.proofs.Tests.{and-left, and-right}
 
 -- false and true are not one
@@ -188,16 +189,16 @@ push-cases xs o v = go (lookup v)
 abbrev pub coroIn : List (Slot Object) → ℕ → Coroutine
 coroIn xs v = asCoro (objectIn xs v)
 
-abbrev pub cores : List (Slot Object) → ℕ → Core
+abbrev pub cores : List (Slot Object) → ℕ → Seat
 cores xs v = coreIn (coroIn xs v)
 
 abbrev pub busy : CoroState → Bool
 busy s = isRunning s || isSuspended s
 
 -- a core before and after: the same, or it has not begun and does not run or sleep now
-pub data Kept (k l : Core) : Type 0 where
+pub data Kept (k l : Seat) : Type 0 where
   kept : l ≡ k → Kept k l
-  unborn : isCreated (k .state) ≡ true → busy (l .state) ≡ false → Kept k l
+  unborn : isCreated (k .state) ≡ true → busy (l .state) ≡ false → (isCreated (l .state) ≡ true → l .closing ≡ k .closing) → Kept k l
 
 filled : (o : Object) {k : Core} {r : Rest} → asCoro o ≡ Is k r → isFilled o ≡ true
 filled Object.Empty e = let z : _≡_ {A = ℕ} 0 1 = cc in absurd (omega arith)
@@ -219,11 +220,11 @@ module _ (xs : List (Slot Object)) (v : ℕ) {k : Core} {r : Rest} (e : coroIn x
   set-other k' r' u n = ap (λ o. coreIn (asCoro o)) (put-away xs v (Object.Coro k' r') u (named-coro xs v e) n)
 
   -- the rest of a coroutine replaced: no core changes
-  pub set-rest : (r' : Rest) (u : ℕ) → cores (putObject Object.Empty xs (slotOf v) (Object.Coro k r')) u ≡ cores xs u
-  set-rest r' u = go (ℕ-discrete u v)
+  pub set-rest : (r' : Rest) → closingOf r' ≡ closingOf r → (u : ℕ) → cores (putObject Object.Empty xs (slotOf v) (Object.Coro k r')) u ≡ cores xs u
+  set-rest r' m u = go (ℕ-discrete u v)
     where
       go : Dec (u ≡ v) → cores (putObject Object.Empty xs (slotOf v) (Object.Coro k r')) u ≡ cores xs u
-      go (yes q) = ap (cores (putObject Object.Empty xs (slotOf v) (Object.Coro k r'))) q ∙ ap coreIn (set-mine k r') ∙ sym (ap coreIn e) ∙ ap (cores xs) (sym q)
+      go (yes q) = ap (cores (putObject Object.Empty xs (slotOf v) (Object.Coro k r'))) q ∙ ap coreIn (set-mine k r') ∙ (λ i. record { state = k .state; regs = k .regs; frames = k .frames; waiting = k .waiting; closing = m i }) ∙ sym (ap coreIn e) ∙ ap (cores xs) (sym q)
       go (no q) = set-other k r' u q
 
 -- an iterator replaced
@@ -238,9 +239,9 @@ set-iter xs v s d d' o o' e u = go (ℕ-discrete u v)
     go (no q) = ap (λ x. coreIn (asCoro x)) (put-away xs v (Object.Iter s d' o') u n q)
 
 -- a new object that does not run or sleep
-pub push-kept : (xs : List (Slot Object)) (o : Object) → busy (coreIn (asCoro o) .state) ≡ false → (v : ℕ) → Kept (cores xs v) (cores (pushObject xs o) v)
-push-kept xs o b v = go (push-cases xs o v)
+pub push-kept : (xs : List (Slot Object)) (o : Object) → busy (coreIn (asCoro o) .state) ≡ false → coreIn (asCoro o) .closing ≡ none → (v : ℕ) → Kept (cores xs v) (cores (pushObject xs o) v)
+push-kept xs o b m v = go (push-cases xs o v)
   where
     go : (objectIn (pushObject xs o) v ≡ objectIn xs v) ⊎ ((objectIn xs v ≡ Object.Empty) × (objectIn (pushObject xs o) v ≡ o)) → Kept (cores xs v) (cores (pushObject xs o) v)
     go (inl e) = kept (ap (λ x. coreIn (asCoro x)) e)
-    go (inr (p, q)) = unborn (ap (λ x. isCreated (coreIn (asCoro x) .state)) p) (ap (λ x. busy (coreIn (asCoro x) .state)) q ∙ b)
+    go (inr (p, q)) = unborn (ap (λ x. isCreated (coreIn (asCoro x) .state)) p) (ap (λ x. busy (coreIn (asCoro x) .state)) q ∙ b) (λ _. ap (λ x. coreIn (asCoro x) .closing) q ∙ m ∙ sym (ap (λ x. coreIn (asCoro x) .closing) p))

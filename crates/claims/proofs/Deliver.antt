@@ -1,17 +1,19 @@
 -- deliver and deliver_return write what deliverTo says, and touch no core; coro_suspend's outcome; Yield, YieldKv, Await.
 use Prim.Native.Nat.{ℕ}
 use mathlib.Core.Path.{_≡_, refl, sym, ap, _∙_, subst}
-use mathlib.Core.Bool.{Bool, true, false, not}
-use mathlib.Core.List.{List, [], _∷_}
-use lib.ListN.{length, take}
+use mathlib.Core.Bool.{Bool, true, false, not, _&&_}
+use mathlib.Core.List.{List, [], _∷_, map}
+use mathlib.Core.Option.{Option, none, some}
+use lib.ListN.{length, take, drop}
 use lib.Dec.{leb}
 use Rattle.lists.specs.Pick.{pick, pick-true, pick-false}
+use Rattle.heap.specs.Word.{nil}
 use Rattle.heap.specs.declared.fault.Fault.{Fault}
 use Rattle.heap.specs.declared.object.CoroState.{CoroState}
 use Rattle.model.specs.State.{isAwaiting, isSuspended}
-use Rattle.model.specs.Object.{Core, Rest, Coroutine, Absent, Is, withPayload}
+use Rattle.model.specs.Object.{Core, Rest, Coroutine, Absent, Is, withClosing, withSignal, withPayload}
 use Rattle.model.specs.World.{World, After, after}
-use Rattle.model.specs.Frames.{onTop, setPc, below, baseAt, reg, storePc}
+use Rattle.model.specs.Frames.{onTop, setPc, lower, above, below, baseAt, reg, storePc}
 use Rattle.model.specs.Heap.{coro, dynInt, fits}
 use Rattle.model.specs.Coro as Coro
 use Rattle.model.specs.Coro.{saved, sized, growth, setKeys, unclose, suspendAs, suspendOn, coroSuspend, deliver, deliverReturn}
@@ -29,7 +31,7 @@ use Rattle.model.specs.declared.call.Op.{Op}
 use Rattle.claims.proofs.Entry.{suspends}
 use Rattle.claims.proofs.Tries.{taken, tries, keyed, inBody}
 use Rattle.claims.proofs.Suspension.{suspendsIn}
-use Rattle.claims.proofs.Held.{coreIn, coreAt, heldAs, Event, Yields, Awaits, Ignores, Returns, eventAs, mem, put, send, deliverTo}
+use Rattle.claims.proofs.Held.{closingOf, coreIn, coreAt, heldAs, Event, Yields, Awaits, Ignores, Returns, eventAs, mem, put, send, deliverTo}
 use Rattle.claims.proofs.Cores.{kept, set-mine, set-other}
 use Rattle.claims.proofs.Shape.{done, tops, Suspend}
 use Rattle.claims.proofs.Under.{keeps-pc}
@@ -37,6 +39,7 @@ use Rattle.claims.proofs.Instr.{Arm, a-works, a-suspends}
 use Rattle.claims.proofs.Quiet.{Same, same-none, same-worked, key-same, key-calm, done-calm}
 
 pub record Delivered (d : Driver) (e : Event) (w z : World) : Type 0 where
+  pub setup : z .setup ≡ w .setup
   pub under : mem (z .stack) (z .frames) ≡ deliverTo d e (mem (w .stack) (w .frames))
   pub chain : z .chain ≡ w .chain
   pub cores : (c : ℕ) → coreAt z c ≡ coreAt w c
@@ -48,24 +51,24 @@ told M.Event.CloseIgnored = Ignores
 
 pub deliver-told : (d : Driver) (e : M.Event) (w : World) → Delivered d (told e) w (deliver d e w .world)
 unfolding deliver
-deliver-told (Driver.Resume dst) (M.Event.Yielded payload key) w = record { under = refl; chain = refl; cores = λ c. refl }
-deliver-told (Driver.Resume dst) (M.Event.Awaiting payload) w = record { under = refl; chain = refl; cores = λ c. refl }
-deliver-told (Driver.Resume dst) M.Event.CloseIgnored w = record { under = refl; chain = refl; cores = λ c. refl }
+deliver-told (Driver.Resume dst) (M.Event.Yielded payload key) w = record { setup = refl; under = refl; chain = refl; cores = λ c. refl }
+deliver-told (Driver.Resume dst) (M.Event.Awaiting payload) w = record { setup = refl; under = refl; chain = refl; cores = λ c. refl }
+deliver-told (Driver.Resume dst) M.Event.CloseIgnored w = record { setup = refl; under = refl; chain = refl; cores = λ c. refl }
 deliver-told (Driver.Iter has val iter) (M.Event.Yielded payload key) w =
     let g = key-calm iter key w in
-    record { under = λ i. send has 1 (put val payload (mem (g .stack i) (g .frames i))); chain = g .chain; cores = g .cores }
-deliver-told (Driver.Iter has val iter) (M.Event.Awaiting payload) w = record { under = refl; chain = refl; cores = λ c. refl }
-deliver-told (Driver.Iter has val iter) M.Event.CloseIgnored w = record { under = refl; chain = refl; cores = λ c. refl }
-deliver-told Driver.Host e w = record { under = refl; chain = refl; cores = λ c. refl }
-deliver-told Driver.Finalize e w = record { under = refl; chain = refl; cores = λ c. refl }
+    record { setup = g .setup; under = λ i. send has 1 (put val payload (mem (g .stack i) (g .frames i))); chain = g .chain; cores = g .cores }
+deliver-told (Driver.Iter has val iter) (M.Event.Awaiting payload) w = record { setup = refl; under = refl; chain = refl; cores = λ c. refl }
+deliver-told (Driver.Iter has val iter) M.Event.CloseIgnored w = record { setup = refl; under = refl; chain = refl; cores = λ c. refl }
+deliver-told Driver.Host e w = record { setup = refl; under = refl; chain = refl; cores = λ c. refl }
+deliver-told Driver.Finalize e w = record { setup = refl; under = refl; chain = refl; cores = λ c. refl }
 
 pub return-told : (d : Driver) (x : ℕ) (w : World) → Delivered d (Returns x) w (deliverReturn d x w)
-return-told (Driver.Resume dst) x w = record { under = refl; chain = refl; cores = λ c. refl }
+return-told (Driver.Resume dst) x w = record { setup = refl; under = refl; chain = refl; cores = λ c. refl }
 return-told (Driver.Iter has val iter) x w =
     let g = done-calm iter w in
-    record { under = λ i. send has 0 (mem (g .stack i) (g .frames i)); chain = g .chain; cores = g .cores }
-return-told Driver.Host x w = record { under = refl; chain = refl; cores = λ c. refl }
-return-told Driver.Finalize x w = record { under = refl; chain = refl; cores = λ c. refl }
+    record { setup = g .setup; under = λ i. send has 0 (mem (g .stack i) (g .frames i)); chain = g .chain; cores = g .cores }
+return-told Driver.Host x w = record { setup = refl; under = refl; chain = refl; cores = λ c. refl }
+return-told Driver.Finalize x w = record { setup = refl; under = refl; chain = refl; cores = λ c. refl }
 
 -- ---- coro_suspend
 
@@ -98,6 +101,17 @@ suspend-case s dst x keys t = go (t .chain) refl
 keys-closing : (keys : Keys) (r : Rest) → setKeys keys r .closing ≡ r .closing
 keys-closing Keys.Keep r = refl
 keys-closing (Keys.Set key largest) r = refl
+
+-- a yield ends a closing
+unclosed-by : (await closing : Bool) (r : Rest) → r .closing ≡ closing → closingOf (pick (not await && closing) (withClosing false (withSignal nil r)) r) ≡ pick await (closingOf r) none
+unfolding pick
+unclosed-by true b r e = refl
+unclosed-by false true r e = refl
+unclosed-by false false r e = ap (λ b. pick b (some (r .signal)) none) e
+
+unclosed : (s : CoroState) (keys : Keys) (r : Rest) → closingOf (unclose s (setKeys keys r)) ≡ pick (isAwaiting s) (closingOf r) none
+unclosed s Keys.Keep r = unclosed-by (isAwaiting s) (r .closing) r refl
+unclosed s (Keys.Set key largest) r = unclosed-by (isAwaiting s) (r .closing) (setKeys (Keys.Set key largest) r) refl
 
 pick-told : (a b : Bool) (x key : ℕ) → told (pick a (M.Event.Awaiting x) (pick b M.Event.CloseIgnored (M.Event.Yielded x key))) ≡ pick a (Awaits x) (pick b Ignores (Yields x))
 unfolding pick
@@ -135,14 +149,29 @@ suspend-arm p s h dst x keys v u g = go (coroSuspend s dst x keys t) (suspend-ca
         d : Delivered (a .driver) (told m) y (deliver (a .driver) m y .world)
         d = deliver-told (a .driver) m y
 
+        k₁ : Core
+        k₁ = saved s dst (a .floor) t
+
+        r₁ : Rest
+        r₁ = unclose s (setKeys keys (withPayload x (sized (saved s dst (a .floor) t) r)))
+
+        ends : closingOf (unclose s (setKeys keys (withPayload x (sized (saved s dst (a .floor) t) r)))) ≡ pick (isAwaiting s) (coreAt v (a .coro) .closing) none
+        ends = unclosed s keys (withPayload x (sized (saved s dst (a .floor) t) r)) ∙ ap (λ y. pick (isAwaiting s) (coreIn y .closing) none) (sym c ∙ g .coros (a .coro))
+
+        event : told (Coro.eventOf s x (setKeys keys r)) ≡ eventAs (marked (λ r. r .closing) (coro v (a .coro))) s x
+        event = told-event s x keys r ∙ ap (λ b. eventAs (marked (λ r. r .closing) b) s x) (sym c ∙ g .coros (a .coro))
+
         it : Suspend v p s dst x a chain (deliver (a .driver) m y .world)
         it =
             record {
+              setup = d .setup ∙ g .setup;
               inmost = sym (g .chain) ∙ e;
               asleep = h;
-              mine = d .cores (a .coro) ∙ ap coreIn (set-mine (t .slots) (a .coro) c (saved s dst (a .floor) t) (unclose s (setKeys keys (withPayload x (sized (saved s dst (a .floor) t) r))))) ∙ (λ i. heldAs s dst (a .floor) (baseAt (a .floor) (onTop (setPc p) (g .frames i))) (onTop (setPc p) (g .frames i)) (g .stack i));
-              others = λ n q. kept (d .cores n ∙ set-other (t .slots) (a .coro) c (saved s dst (a .floor) t) (unclose s (setKeys keys (withPayload x (sized (saved s dst (a .floor) t) r)))) n q ∙ ap coreIn (g .coros n));
-              under = d .under ∙ (λ i. deliverTo (a .driver) ((told-event s x keys r ∙ ap (λ b. eventAs (marked (λ r. r .closing) b) s x) (sym c ∙ g .coros (a .coro))) i) (mem (take (baseAt (a .floor) (onTop (setPc p) (g .frames i))) (g .stack i)) (below (a .floor) (onTop (setPc p) (g .frames i)))));
+              mine = d .cores (a .coro) ∙ ap coreIn (set-mine (t .slots) (a .coro) c k₁ r₁)
+                  ∙ (λ i. record { state = s; regs = k₁ .regs; frames = k₁ .frames; waiting = dst; closing = ends i })
+                  ∙ (λ i. heldAs (coreAt v (a .coro) .closing) s dst (a .floor) (baseAt (a .floor) (onTop (setPc p) (g .frames i))) (onTop (setPc p) (g .frames i)) (g .stack i));
+              others = λ n q. kept (d .cores n ∙ set-other (t .slots) (a .coro) c k₁ r₁ n q ∙ ap coreIn (g .coros n));
+              under = d .under ∙ (λ i. deliverTo (a .driver) (event i) (mem (take (baseAt (a .floor) (onTop (setPc p) (g .frames i))) (g .stack i)) (below (a .floor) (onTop (setPc p) (g .frames i)))));
               outer = d .chain;
             }
 

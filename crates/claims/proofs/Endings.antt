@@ -14,7 +14,6 @@ use Rattle.heap.specs.declared.value.Opt.{Opt}
 use Rattle.heap.specs.declared.object.CoroState.{CoroState}
 use Rattle.model.specs.State.{isCreated}
 use Rattle.model.specs.Program.{func, firstOf}
-use Rattle.model.specs.Object.{Core}
 use Rattle.model.specs.World.{World, After, after, andThen, withChain}
 use Rattle.model.specs.Frames.{isCoro, stepPc, setPc, topFunc, topPc, putReg, storePc, nextPc, popTo}
 use Rattle.model.specs.Heap.{coro, alloc, toDyn}
@@ -34,9 +33,9 @@ use Rattle.model.specs.declared.coro.Made.{Made}
 use Rattle.heap.specs.declared.heap.ResultKind.{ResultKind}
 use Rattle.model.specs.declared.call.OptPc.{OptPc}
 use Rattle.model.specs.declared.call.Answer.{Answer}
-use Rattle.claims.proofs.Held.{coreAt, Returns, mem, deliverTo, madeWord}
+use Rattle.claims.proofs.Held.{Seat, coreAt, Returns, mem, deliverTo, madeWord}
 use Rattle.claims.proofs.Shape as S
-use Rattle.claims.proofs.Shape.{View, view, Ends, Worked, done, tops, puts, pops, fails, Return, Apart}
+use Rattle.claims.proofs.Shape.{View, view, over, Ends, Worked, done, tops, puts, pops, fails, Return, Apart}
 use Rattle.claims.proofs.Under.{keeps-pc, keeps-step}
 use Rattle.claims.proofs.Enters.{charge-none}
 use Rattle.claims.proofs.Quiet.{same-worked, alloc-same, dyn-same, finish-ends, Still, change-still}
@@ -44,11 +43,11 @@ use Rattle.claims.proofs.Deliver.{Delivered, return-told}
 
 -- moves, and then perhaps a return of x
 pub data Done (x : ℕ) (v : View) (z : World) : Type 0 where
-  d-works : Worked v (view z) → Done x v z
-  d-returns : (u : View) (f : Frame) (fs : List Frame) (a : Active) (chain : List Active) → Worked v u → Return u x f fs a chain z → Done x v z
+  d-works : Worked true v (view z) → Done x v z
+  d-returns : (u : View) (f : Frame) (fs : List Frame) (a : Active) (chain : List Active) → Worked true v u → Return u x f fs a chain z → Done x v z
 
 -- after more moves
-pub then-done : {x : ℕ} {v u : View} {z : World} → ((y : View) → Worked u y → Worked v y) → Done x u z → Done x v z
+pub then-done : {x : ℕ} {v u : View} {z : World} → ((y : View) → Worked true u y → Worked true v y) → Done x u z → Done x v z
 then-done {z = z} g (d-works t) = d-works (g (view z) t)
 then-done g (d-returns u f fs a chain t r) = d-returns u f fs a chain (g u t) r
 
@@ -58,6 +57,7 @@ pub return-done : (x : ℕ) (f : Frame) (fs : List Frame) (w : World) (a : Activ
     → Return (view w) x f fs a chain (deliverReturn (a .driver) x (finishCoroutine (a .coro) CoroState.Returned x (withChain chain (popTo f fs w))))
 return-done x f fs w a chain p q r =
     record {
+      setup = d .setup ∙ g .setup;
       body = p;
       its-own = q;
       inmost = r;
@@ -78,17 +78,18 @@ return-done x f fs w a chain p q r =
     d : Delivered (a .driver) (Returns x) y (deliverReturn (a .driver) x y)
     d = return-told (a .driver) x y
 
-    mine : (coreAt y (a .coro) ≡ inState CoroState.Returned (coreAt w (a .coro))) ⊎ ((isCreated (coreAt w (a .coro) .state) ≡ true) × (coreAt y (a .coro) ≡ coreAt w (a .coro))) → (coreAt (deliverReturn (a .driver) x y) (a .coro) ≡ inState CoroState.Returned (coreAt w (a .coro))) ⊎ ((isCreated (coreAt w (a .coro) .state) ≡ true) × (coreAt (deliverReturn (a .driver) x y) (a .coro) ≡ coreAt w (a .coro)))
+    mine : (coreAt y (a .coro) ≡ over CoroState.Returned (coreAt w (a .coro))) ⊎ ((isCreated (coreAt w (a .coro) .state) ≡ true) × (coreAt y (a .coro) ≡ coreAt w (a .coro)))
+        → (coreAt (deliverReturn (a .driver) x y) (a .coro) ≡ over CoroState.Returned (coreAt w (a .coro))) ⊎ ((isCreated (coreAt w (a .coro) .state) ≡ true) × (coreAt (deliverReturn (a .driver) x y) (a .coro) ≡ coreAt w (a .coro)))
     mine (inl e) = inl (d .cores (a .coro) ∙ e)
     mine (inr e) = inr (e .0, d .cores (a .coro) ∙ e .1)
 
 -- ---- finish
 
-resume-worked : (w : World) (f : Fault) → Worked (view w) (view (resumeIn w f .world))
+resume-worked : (w : World) (f : Fault) → Worked true (view w) (view (resumeIn w f .world))
 unfolding pick
 resume-worked w f = go (isOk f)
   where
-    go : (b : Bool) → Worked (view w) (view (pick b (after (nextPc w) Answer.Resume) (after w (Answer.Refused f)) .world))
+    go : (b : Bool) → Worked true (view w) (view (pick b (after (nextPc w) Answer.Resume) (after w (Answer.Refused f)) .world))
     go true = tops stepPc keeps-step done
     go false = done
 
@@ -108,15 +109,15 @@ finish-done kind v w = go (w .frames) refl
     made : After Made
     made = toDyn kind v w
 
-    written : (dst : ℕ) (u : World) (r : Opt) → Worked (view u) (view (writeResult dst r u))
+    written : (dst : ℕ) (u : World) (r : Opt) → Worked true (view u) (view (writeResult dst r u))
     written dst u Opt.None = done
     written dst u (Opt.Some x) = puts dst x done
 
-    writing : (dst : ℕ) (u : World) (r : Opt) {z : View} → Worked (view (writeResult dst r u)) z → Worked (view u) z
+    writing : (dst : ℕ) (u : World) (r : Opt) {z : View} → Worked true (view (writeResult dst r u)) z → Worked true (view u) z
     writing dst u Opt.None t = t
     writing dst u (Opt.Some x) t = puts dst x t
 
-    dyn : (dst : ℕ) (u : World) (m : Made) → Worked (view u) (view (resumeIn (writeMade dst u m .world) (writeMade dst u m .answer) .world))
+    dyn : (dst : ℕ) (u : World) (m : Made) → Worked true (view u) (view (resumeIn (writeMade dst u m .world) (writeMade dst u m .answer) .world))
     dyn dst u (Made.Word x) = puts dst x (resume-worked (putReg dst x u) Fault.None)
     dyn dst u (Made.Refused f) = resume-worked u f
 
@@ -142,13 +143,13 @@ finish-done kind v w = go (w .frames) refl
 
 -- the body x fails, and then more
 pub failing : (x : Frame) (xs : List Frame) (value : ℕ) (w : World) (a : Active) (chain : List Active) → w .frames ≡ x ∷ xs → isCoro (x .cont) ≡ true → w .chain ≡ a ∷ chain
-    → {z : View} → Worked (view (finishCoroutine (a .coro) CoroState.Failed value (withChain chain (popTo x xs w)))) z → Worked (view w) z
+    → {z : View} → Worked true (view (finishCoroutine (a .coro) CoroState.Failed value (withChain chain (popTo x xs w)))) z → Worked true (view w) z
 failing x xs value w a chain p q r {z} t =
     let v = withChain chain (popTo x xs w) in
     let y = finishCoroutine (a .coro) CoroState.Failed value v in
     let g = change-still v (a .coro) (inState CoroState.Failed) (ended value) in
-    fails x xs a chain (coreAt y) p q r (finish-ends (a .coro) CoroState.Failed value v)
-    (subst (λ n. Worked n z) (λ i. record { stack = g .stack i; frames = g .frames i; chain = g .chain i; cores = coreAt y }) t)
+    fails x xs a chain (coreAt y) refl p q r (finish-ends (a .coro) CoroState.Failed value v)
+    (subst (λ n. Worked true n z) (λ i. record { setup = g .setup i; stack = g .stack i; frames = g .frames i; chain = g .chain i; cores = coreAt y }) t)
 
 module _ (value f pc : ℕ) where
   -- what the search goes on with, where the frames are xs
@@ -188,7 +189,7 @@ module _ (value f pc : ℕ) where
   leaving x xs next w p Cont.Discard q = then-done (λ y t. pops x xs p (inl (ap isCoro q)) t) (next (popTo x xs w) refl)
   leaving x xs next w p Cont.Coro q = escaped x xs next w p (ap isCoro q)
 
-  pub handled : (h : Handler) (w : World) (ch : Charge) → Worked (view w) (view (caught h value w ch .world))
+  pub handled : (h : Handler) (w : World) (ch : Charge) → Worked true (view w) (view (caught h value w ch .world))
   handled h w (Charge.Done n) = tops (setPc (h .target)) (keeps-pc (h .target)) (puts (h .catch) value done)
   handled h w Charge.Spent = done
   handled h w (Charge.Close n) = tops (setPc (h .target)) (keeps-pc (h .target)) (puts (h .catch) value done)
@@ -231,7 +232,11 @@ fail-apart : (chain : List Active) (w : World) (c : ℕ) → Apart c chain → c
 fail-apart [] w c n = refl
 fail-apart (a ∷ chain) w c n = fail-apart chain (finishCoroutine (a .coro) CoroState.Failed nil w) c (n .1) ∙ finish-ends (a .coro) CoroState.Failed nil w .others c (n .0)
 
-abbrev Stopped : List Active → World → ℕ → Core → Type 0
+fail-setup : (chain : List Active) (w : World) → failAll chain w .setup ≡ w .setup
+fail-setup [] w = refl
+fail-setup (a ∷ chain) w = fail-setup chain (finishCoroutine (a .coro) CoroState.Failed nil w) ∙ change-still w (a .coro) (inState CoroState.Failed) (ended nil) .setup
+
+abbrev Stopped : List Active → World → ℕ → Seat → Type 0
 Stopped chain w c k = (Apart c chain × (k ≡ coreAt w c)) ⊎ ((k .state ≡ CoroState.Failed) ⊎ ((isCreated (coreAt w c .state) ≡ true) × (k ≡ coreAt w c)))
 
 end-failed : (v : ℕ) (w : World) (c : ℕ) → coreAt w c .state ≡ CoroState.Failed → coreAt (finishCoroutine v CoroState.Failed nil w) c .state ≡ CoroState.Failed
@@ -240,7 +245,8 @@ end-failed v w c h = go (ℕ-discrete c v)
     e : Ends CoroState.Failed v (coreAt w) (coreAt (finishCoroutine v CoroState.Failed nil w))
     e = finish-ends v CoroState.Failed nil w
 
-    mine : (coreAt (finishCoroutine v CoroState.Failed nil w) v ≡ inState CoroState.Failed (coreAt w v)) ⊎ ((isCreated (coreAt w v .state) ≡ true) × (coreAt (finishCoroutine v CoroState.Failed nil w) v ≡ coreAt w v)) → c ≡ v → coreAt (finishCoroutine v CoroState.Failed nil w) v .state ≡ CoroState.Failed
+    mine : (coreAt (finishCoroutine v CoroState.Failed nil w) v ≡ over CoroState.Failed (coreAt w v)) ⊎ ((isCreated (coreAt w v .state) ≡ true) × (coreAt (finishCoroutine v CoroState.Failed nil w) v ≡ coreAt w v))
+        → c ≡ v → coreAt (finishCoroutine v CoroState.Failed nil w) v .state ≡ CoroState.Failed
     mine (inl x) q = ap (λ k. k .state) x
     mine (inr x) q = ap (λ k. k .state) (x .1) ∙ ap (λ u. coreAt w u .state) (sym q) ∙ h
 
@@ -270,7 +276,7 @@ fail-each (a ∷ chain) w c = go (ℕ-discrete c (a .coro)) (fail-each chain y c
     same q b (inr (inl x)) = inr (inl x)
     same q b (inr (inr x)) = inr (inr (b, x .1 ∙ q))
 
-    mine : (coreAt y (a .coro) ≡ inState CoroState.Failed (coreAt w (a .coro))) ⊎ ((isCreated (coreAt w (a .coro) .state) ≡ true) × (coreAt y (a .coro) ≡ coreAt w (a .coro))) → c ≡ a .coro → Stopped chain y c (coreAt z c) → Stopped (a ∷ chain) w c (coreAt z c)
+    mine : (coreAt y (a .coro) ≡ over CoroState.Failed (coreAt w (a .coro))) ⊎ ((isCreated (coreAt w (a .coro) .state) ≡ true) × (coreAt y (a .coro) ≡ coreAt w (a .coro))) → c ≡ a .coro → Stopped chain y c (coreAt z c) → Stopped (a ∷ chain) w c (coreAt z c)
     mine (inl x) q s = inr (inl (fail-failed chain y c (ap (λ u. coreAt y u .state) q ∙ ap (λ k. k .state) x)))
     mine (inr x) q s = same (ap (coreAt y) q ∙ x .1 ∙ ap (coreAt w) (sym q)) (ap (λ u. isCreated (coreAt w u .state)) q ∙ x .0) s
 
@@ -282,4 +288,4 @@ fail-each (a ∷ chain) w c = go (ℕ-discrete c (a .coro)) (fail-each chain y c
 
 pub stop-stops : (w : World) → S.Stop w (stopRun w .world)
 unfolding stopRun abortCoros
-stop-stops w = record { apart = fail-apart (w .chain) w; each = fail-each (w .chain) w; outer = refl }
+stop-stops w = record { setup = fail-setup (w .chain) w; apart = fail-apart (w .chain) w; each = fail-each (w .chain) w; outer = refl }

@@ -5,19 +5,19 @@ use mathlib.Core.Path.{_≡_, refl, sym, ap, _∙_, subst}
 use mathlib.Core.Logic.{_≢_}
 use mathlib.Core.Bool.{Bool, true, false, not, _&&_, _||_}
 use mathlib.Core.List.{List, [], _∷_, _++_, map}
+use mathlib.Core.Option.{Option, none, some}
 use lib.ListN.{length, set}
 use lib.Dec.{eqb, ltb}
 use Rattle.lists.specs.Pick.{pick, pick-true, pick-false}
 use Rattle.heap.specs.Word.{nil}
 use Rattle.heap.specs.declared.fault.Fault.{Fault}
-use Rattle.heap.specs.declared.value.Opt.{Opt}
 use Rattle.heap.specs.declared.object.CoroState.{CoroState}
 use Rattle.model.specs.Lists.{isNil}
 use Rattle.model.specs.State.{isCreated, isRunning, isResumable}
 use Rattle.model.specs.Object.{Core, Rest, Coroutine, Absent, Is}
 use Rattle.model.specs.World.{World, After, after, withFinalize}
 use Rattle.model.specs.Frames.{onTop, setPc, stepPc, raise, topBase, putAt, storePc}
-use Rattle.model.specs.Heap.{coro, notA, changeCoro}
+use Rattle.model.specs.Heap.{coro, notA, setCoro, changeAs, changeCoro}
 use Rattle.model.specs.Fuel.{setFinalizing, unbank, armClose, spend}
 use Rattle.model.specs.Coro.{active, inState, entered, overflows, enterAs, coroEnter, coroSend}
 use Rattle.model.specs.Cleanup.{suspendedAs, isEntered, close, started, startFrom, startFinalizer, chargeDone, chargeOr, chargeAt, chargeSlow, charge}
@@ -27,11 +27,13 @@ use Rattle.model.specs.declared.machine.Charge.{Charge}
 use Rattle.model.specs.declared.coro.Entered.{Entered}
 use Rattle.model.specs.declared.coro.Started.{Started}
 use Rattle.model.specs.declared.call.OptPc.{OptPc}
+use Rattle.claims.specs.Says.{Sent, nothing, gets, closes}
+use Rattle.claims.specs.Held.{closedBy}
 use Rattle.claims.proofs.Entry.{nobody, entry, acceptsAs, accepts, cleaned}
-use Rattle.claims.proofs.Held.{coreIn, coreAt, wordsWith, framesWith}
+use Rattle.claims.proofs.Held.{Seat, closingOf, seat, coreIn, coreAt, wordsWith, framesWith}
 use Rattle.claims.proofs.Cores.{no-both, coroIn, and-right, set-mine, set-other}
 use Rattle.claims.proofs.Shape.{Enter}
-use Rattle.claims.proofs.Quiet.{Same, Calm, change-calm}
+use Rattle.claims.proofs.Quiet.{Same, Calm}
 
 -- ---- coro_enter accepts, or leaves all as it was
 
@@ -57,11 +59,13 @@ enter-case v d u = go (coro u v) refl
 
 -- ---- an entry of v, which holds s, at u, whose frames have the caller's pc already
 
-pub record Raw (u : World) (v : ℕ) (s : Core) (d : Driver) (sent : Opt) (z : World) : Type 0 where
+pub record Raw (u : World) (v : ℕ) (s : Seat) (d : Driver) (sent : Sent) (z : World) : Type 0 where
+  pub setup : z .setup ≡ u .setup
   pub stack : z .stack ≡ u .stack ++ wordsWith sent s
   pub frames : z .frames ≡ map (raise (length (u .stack))) (framesWith sent s) ++ u .frames
   pub chain : z .chain ≡ active v (length (u .frames)) d ∷ u .chain
   pub mine : isRunning (coreAt z v .state) ≡ true
+  pub closing : coreAt z v .closing ≡ closedBy sent (s .closing)
   pub others : (x : ℕ) → x ≢ v → coreAt z x ≡ coreAt u x
 
 pub set-append-at : (xs ys : List ℕ) (n i a : ℕ) → n ≡ length xs + i → set (xs ++ ys) n a ≡ xs ++ set ys i a
@@ -76,11 +80,14 @@ module _ (v : ℕ) (d : Driver) (u : World) (k : Core) (r : Rest) (e : coro u v 
   raw-others : (x : ℕ) → x ≢ v → coreAt (entered v d k r u) x ≡ coreAt u x
   raw-others x n = set-other (u .slots) v e (inState CoroState.Running k) r x n
 
-  pub raw-none : Raw u v k d Opt.None (entered v d k r u)
-  raw-none = record { stack = refl; frames = refl; chain = refl; mine = raw-mine; others = raw-others }
+  raw-closing : coreAt (entered v d k r u) v .closing ≡ closingOf r
+  raw-closing = ap (λ x. coreIn x .closing) (set-mine (u .slots) v e (inState CoroState.Running k) r)
 
-  pub raw-some : (x : ℕ) → isNil (k .frames) ≡ false → Raw u v k d (Opt.Some x) (coroSend (k .waiting) x (entered v d k r u))
-  raw-some x n = record { stack = words (k .frames) n; frames = tops (k .frames) n; chain = refl; mine = raw-mine; others = raw-others }
+  pub raw-none : Raw u v (seat k r) d nothing (entered v d k r u)
+  raw-none = record { setup = refl; stack = refl; frames = refl; chain = refl; mine = raw-mine; closing = raw-closing; others = raw-others }
+
+  pub raw-some : (x : ℕ) → isNil (k .frames) ≡ false → Raw u v (seat k r) d (gets x) (coroSend (k .waiting) x (entered v d k r u))
+  raw-some x n = record { setup = refl; stack = words (k .frames) n; frames = tops (k .frames) n; chain = refl; mine = raw-mine; closing = raw-closing; others = raw-others }
     where
       words : (fs : List Frame) → isNil fs ≡ false → putAt (map (raise (length (u .stack))) fs ++ u .frames) (k .waiting) x (u .stack ++ k .regs) ≡ u .stack ++ set (k .regs) (topBase fs + k .waiting) x
       words [] n = no-both refl n
@@ -90,20 +97,43 @@ module _ (v : ℕ) (d : Driver) (u : World) (k : Core) (r : Rest) (e : coro u v 
       tops [] n = no-both refl n
       tops (f ∷ fs) n = refl
 
+  -- and is closed by x
+  pub raw-closed : (x : ℕ) → Raw u v (seat k r) d (closes x) (changeCoro v (λ k. k) (close x) (entered v d k r u))
+  raw-closed x = subst (λ y. Raw u v (seat k r) d (closes x) (changeAs y v (λ k. k) (close x) i)) (sym here) (record {
+    setup = refl;
+    stack = refl;
+    frames = refl;
+    chain = refl;
+    mine = ap (λ y. isRunning (coreIn y .state)) mine;
+    closing = ap (λ y. coreIn y .closing) mine ∙ pick-true (some x) none;
+    others = λ y n. set-other (i .slots) v here (inState CoroState.Running k) (close x r) y n ∙ raw-others y n;
+  })
+    where
+      i : World
+      i = entered v d k r u
+
+      here : coro i v ≡ Is (inState CoroState.Running k) r
+      here = set-mine (u .slots) v e (inState CoroState.Running k) r
+
+      mine : coro (setCoro v (inState CoroState.Running k) (close x r) i) v ≡ Is (inState CoroState.Running k) (close x r)
+      mine = set-mine (i .slots) v here (inState CoroState.Running k) (close x r)
+
   -- where the sent word depends on the state
-  pub raw-sent : (x : ℕ) → isNil (k .frames) ≡ false → (b : Bool) → Raw u v k d (pick b Opt.None (Opt.Some x)) (pick b (entered v d k r u) (coroSend (k .waiting) x (entered v d k r u)))
+  pub raw-sent : (x : ℕ) → isNil (k .frames) ≡ false → (b : Bool) → Raw u v (seat k r) d (pick b nothing (gets x)) (pick b (entered v d k r u) (coroSend (k .waiting) x (entered v d k r u)))
   unfolding pick
   raw-sent x n true = raw-none
   raw-sent x n false = raw-some x n
 
 -- then, what touches no core
-pub raw-calm : {u z y : World} {v : ℕ} {s : Core} {d : Driver} {sent : Opt} → Calm z y → Raw u v s d sent z → Raw u v s d sent y
+pub raw-calm : {u z y : World} {v : ℕ} {s : Seat} {d : Driver} {sent : Sent} → Calm z y → Raw u v s d sent z → Raw u v s d sent y
 raw-calm {v = v} q t =
     record {
+      setup = q .setup ∙ t .setup;
       stack = q .stack ∙ t .stack;
       frames = q .frames ∙ t .frames;
       chain = q .chain ∙ t .chain;
       mine = ap (λ k. isRunning (k .state)) (q .cores v) ∙ t .mine;
+      closing = ap (λ k. k .closing) (q .cores v) ∙ t .closing;
       others = λ x n. q .cores x ∙ t .others x n;
     }
 
@@ -122,19 +152,22 @@ length-top g (f ∷ fs) = refl
 pub coro-slots : (u w : World) → u .slots ≡ w .slots → (v : ℕ) → coro u v ≡ coro w v
 coro-slots u w e v = ap (λ xs. coroIn xs v) e
 
-pub enter-raw : {p : ℕ} {w u z : World} {v : ℕ} {d : Driver} {sent : Opt} (k : Core) (r : Rest) → Stored p w u → coro u v ≡ Is k r → isResumable (k .state) ≡ true → isNil (k .frames) ≡ false → Raw u v k d sent z → Enter w p v d sent z
+pub enter-raw : {p : ℕ} {w u z : World} {v : ℕ} {d : Driver} {sent : Sent} (k : Core) (r : Rest) → Stored p w u → coro u v ≡ Is k r → isResumable (k .state) ≡ true → isNil (k .frames) ≡ false → Raw u v (seat k r) d sent z → Enter w p v d sent z
 enter-raw {p} {w} {u} {z} {v} {d} {sent} k r s e a b t =
     record {
+      setup = t .setup ∙ s .setup;
       ready = ap (λ x. isResumable (x .state)) mine ∙ a;
       solid = ap (λ x. isNil (x .frames)) mine ∙ b;
-      stack = t .stack ∙ ap (λ x. x ++ wordsWith sent k) (s .stack) ∙ ap (λ x. w .stack ++ wordsWith sent x) (sym mine);
-      frames = t .frames ∙ ap (λ x. map (raise (length x)) (framesWith sent k) ++ u .frames) (s .stack) ∙ ap (λ x. map (raise (length (w .stack))) (framesWith sent k) ++ x) (s .frames) ∙ ap (λ x. map (raise (length (w .stack))) (framesWith sent x) ++ onTop (setPc p) (w .frames)) (sym mine);
+      stack = t .stack ∙ ap (λ x. x ++ wordsWith sent (seat k r)) (s .stack) ∙ ap (λ x. w .stack ++ wordsWith sent x) (sym mine);
+      frames = t .frames ∙ ap (λ x. map (raise (length x)) (framesWith sent (seat k r)) ++ u .frames) (s .stack) ∙ ap (λ x. map (raise (length (w .stack))) (framesWith sent (seat k r)) ++ x)
+          (s .frames) ∙ ap (λ x. map (raise (length (w .stack))) (framesWith sent x) ++ onTop (setPc p) (w .frames)) (sym mine);
       chain = t .chain ∙ ap (λ x. active v x d ∷ u .chain) (ap length (s .frames) ∙ length-top (setPc p) (w .frames)) ∙ ap (λ x. active v (length (w .frames)) d ∷ x) (s .chain);
       mine = t .mine;
+      closing = t .closing ∙ ap (λ x. closedBy sent (x .closing)) (sym mine);
       others = λ x n. t .others x n ∙ ap coreIn (coro-slots u w (s .slots) x);
     }
   where
-    mine : coreAt w v ≡ k
+    mine : coreAt w v ≡ seat k r
     mine = ap coreIn (sym (coro-slots u w (s .slots) v) ∙ e)
 
 -- coro_enter's tests read the limits, the heights and the coroutine
@@ -153,12 +186,12 @@ accepts-stored {p} {w} {u} s v = accepts-reads w u (s .setup) (ap length (s .fra
 
 pub cleaned-stored : {p : ℕ} {w u : World} → Stored p w u → (q : List ℕ) → cleaned q u ≡ cleaned q w
 cleaned-stored s [] = refl
-cleaned-stored {p} {w} {u} s (c ∷ q) = λ i. pick (suspendedAs (coro-slots u w (s .slots) c i) && accepts-stored s c i) (entry c Driver.Finalize Opt.None) (cleaned-stored s q i)
+cleaned-stored {p} {w} {u} s (c ∷ q) = λ i. pick (suspendedAs (coro-slots u w (s .slots) c i) && accepts-stored s c i) (entry c Driver.Finalize (closes nil)) (cleaned-stored s q i)
 
 -- ---- start_finalizer, at u, which is w with the caller's pc
 
 pub data StartCase (p : ℕ) (w u : World) (q : List ℕ) : After Started → Type 0 where
-  s-some : (c n : ℕ) (z : World) → cleaned q u ≡ entry c Driver.Finalize Opt.None → Enter w p c Driver.Finalize Opt.None z → StartCase p w u q (after z (started true n))
+  s-some : (c n : ℕ) (z : World) → cleaned q u ≡ entry c Driver.Finalize (closes nil) → Enter w p c Driver.Finalize (closes nil) z → StartCase p w u q (after z (started true n))
   s-none : (n : ℕ) (v : World) → cleaned q u ≡ nobody → Stored p w v → StartCase p w u q (after v (started false n))
 
 pub is-in : (b : Bool) (x : ℕ) → isEntered (pick b Entered.Fresh (Entered.Suspended x)) ≡ true
@@ -184,9 +217,12 @@ start-case p w u s n (c ∷ q) = go (coroEnter c Driver.Finalize (withFinalize q
     later a (s-some c n z e t) h = s-some c n z (h ∙ e) t
     later a (s-none n v e t) h = s-none n v (h ∙ e) t
 
-    choose : (a b : Bool) (x y : After Started) → (suspendedAs (coro u c) && a) ≡ b → accepts u c ≡ a → (b ≡ true → cleaned (c ∷ q) u ≡ entry c Driver.Finalize Opt.None → StartCase p w u (c ∷ q) x) → StartCase p w u q y → StartCase p w u (c ∷ q) (pick b x y)
-    choose a true x y e h f g = subst (StartCase p w u (c ∷ q)) (sym (pick-true x y)) (f refl (ap (λ b. pick (suspendedAs (coro u c) && b) (entry c Driver.Finalize Opt.None) (cleaned q u)) h ∙ ap (λ b. pick b (entry c Driver.Finalize Opt.None) (cleaned q u)) e ∙ pick-true (entry c Driver.Finalize Opt.None) (cleaned q u)))
-    choose a false x y e h f g = subst (StartCase p w u (c ∷ q)) (sym (pick-false x y)) (later y g (ap (λ b. pick (suspendedAs (coro u c) && b) (entry c Driver.Finalize Opt.None) (cleaned q u)) h ∙ ap (λ b. pick b (entry c Driver.Finalize Opt.None) (cleaned q u)) e ∙ pick-false (entry c Driver.Finalize Opt.None) (cleaned q u)))
+    choose : (a b : Bool) (x y : After Started) → (suspendedAs (coro u c) && a) ≡ b → accepts u c ≡ a → (b ≡ true → cleaned (c ∷ q) u ≡ entry c Driver.Finalize (closes nil) → StartCase p w u (c ∷ q) x) → StartCase p w u q y → StartCase p w u (c ∷ q) (pick b x y)
+    choose a true x y e h f g = subst (StartCase p w u (c ∷ q)) (sym (pick-true x y)) (f refl (ap
+        (λ b. pick (suspendedAs (coro u c) && b) (entry c Driver.Finalize (closes nil)) (cleaned q u)) h ∙ ap (λ b. pick b (entry c Driver.Finalize (closes nil)) (cleaned q u)) e ∙ pick-true
+        (entry c Driver.Finalize (closes nil)) (cleaned q u)))
+    choose a false x y e h f g = subst (StartCase p w u (c ∷ q)) (sym (pick-false x y)) (later y g
+        (ap (λ b. pick (suspendedAs (coro u c) && b) (entry c Driver.Finalize (closes nil)) (cleaned q u)) h ∙ ap (λ b. pick b (entry c Driver.Finalize (closes nil)) (cleaned q u)) e ∙ pick-false (entry c Driver.Finalize (closes nil)) (cleaned q u)))
 
     go : (e : After Entered) → EnterCase c Driver.Finalize v e → StartCase p w u q (startFrom (suc n) q u)
         → StartCase p w u (c ∷ q) (pick (suspendedAs (coro u c) && isEntered (e .answer)) (after (setFinalizing true (changeCoro c (λ k. k) (close nil) (e .world))) (started true (suc n))) (startFrom (suc n) q u))
@@ -198,8 +234,8 @@ start-case p w u s n (c ∷ q) = go (coroEnter c Driver.Finalize (withFinalize q
         i : World
         i = entered c Driver.Finalize k r v
 
-        calm : Raw v c k Driver.Finalize Opt.None (setFinalizing true (changeCoro c (λ k. k) (close nil) i))
-        calm = let o = change-calm c (close nil) i in raw-calm (record { setup = o .setup; stack = o .stack; frames = o .frames; chain = o .chain; cores = o .cores }) (raw-none c Driver.Finalize v k r h)
+        calm : Raw v c (seat k r) Driver.Finalize (closes nil) (setFinalizing true (changeCoro c (λ k. k) (close nil) i))
+        calm = let t = raw-closed c Driver.Finalize v k r h nil in record { setup = t .setup; stack = t .stack; frames = t .frames; chain = t .chain; mine = t .mine; closing = t .closing; others = t .others }
 
 -- ---- the charge
 
@@ -211,7 +247,7 @@ pub data Ready (p : ℕ) (w v : World) : Type 0 where
 pub data ChargeCase (p : ℕ) (w : World) : After Charge → Type 0 where
   c-done : (n : ℕ) (v : World) → Ready p w v → ChargeCase p w (after v (Charge.Done n))
   c-spent : (v : World) → Ready p w v → ChargeCase p w (after v Charge.Spent)
-  c-close : (n c : ℕ) (z : World) → cleaned (w .finalize) w ≡ entry c Driver.Finalize Opt.None → Enter w p c Driver.Finalize Opt.None z → ChargeCase p w (after z (Charge.Close n))
+  c-close : (n c : ℕ) (z : World) → cleaned (w .finalize) w ≡ entry c Driver.Finalize (closes nil) → Enter w p c Driver.Finalize (closes nil) z → ChargeCase p w (after z (Charge.Close n))
 
 pub charge-case : (p : ℕ) (w : World) → ChargeCase p w (charge (OptPc.Some p) w)
 unfolding charge chargeSlow startFinalizer pick

@@ -5,7 +5,6 @@ use mathlib.Core.Bool.{Bool, true, false, not, _&&_}
 use mathlib.Core.List.{List, [], _∷_}
 use Rattle.lists.specs.Pick.{pick}
 use Rattle.heap.specs.Word.{nil}
-use Rattle.heap.specs.declared.value.Opt.{Opt}
 use Rattle.heap.specs.declared.object.CoroState.{CoroState}
 use Rattle.model.specs.Lists.{isNil}
 use Rattle.model.specs.State.{isCreated, isAwaiting, isResumable}
@@ -20,6 +19,7 @@ use Rattle.model.specs.Call.{Call, SetUp, Do}
 use Rattle.model.specs.Calls.{Row, Instruction, OnFrame, OnHost, Unwinds, Grants, Looks, Other, table}
 use Rattle.model.specs.Exec.{largestIn, largerOf, autoKey}
 use Rattle.model.specs.declared.coro.Keys.{Keys}
+use Rattle.claims.specs.Says.{Sent, nothing, gets, closes}
 use Rattle.claims.proofs.Tries.{tries, keyed, inBody}
 use Rattle.model.specs.declared.machine.Driver.{Driver}
 use Rattle.model.specs.declared.machine.Charge.{Charge}
@@ -31,7 +31,7 @@ use Rattle.model.specs.declared.call.Op.{Op}
 
 pub data Aim : Type 0 where
   -- to enter the coroutine that a word names, if a further test passes: driver, sent word or none
-  enters : ℕ → Driver → Opt → Bool → Aim
+  enters : ℕ → Driver → Sent → Bool → Aim
   -- to suspend: the new state, the waiting register, the payload
   suspends : CoroState → ℕ → ℕ → Aim
   neither : Aim
@@ -67,14 +67,14 @@ plan (Op.Spawn pc dst callee argc) = idle
 plan (Op.Yield pc dst src) = suspending (λ w. suspends CoroState.Yielded dst (reg w src)) (λ w. inBody (w .chain) (λ a. keyed (tries pc CoroState.Yielded dst (reg w src)) (autoKey (largestIn (coro w (a .coro))) w .world) (autoKey (largestIn (coro w (a .coro))) w .answer)))
 plan (Op.YieldKv pc dst src key) = suspending (λ w. suspends CoroState.Yielded dst (reg w src)) (λ w. inBody (w .chain) (λ a. tries pc CoroState.Yielded dst (reg w src) w (Keys.Set (reg w key) (largerOf (largestIn (coro w (a .coro))) (dynInt w (reg w key))))))
 plan (Op.Await pc dst src) = suspending (λ w. suspends CoroState.Awaiting dst (reg w src)) (λ w. inBody (w .chain) (λ a. tries pc CoroState.Awaiting dst (reg w src) w Keys.Keep))
-plan (Op.Resume pc dst c src) = entering (λ w. enters (reg w c) (Driver.Resume dst) (Opt.Some (reg w src)) true)
-plan (Op.ResumeThrow pc dst c src) = entering (λ w. enters (reg w c) (Driver.Resume dst) Opt.None (suspendedAs (coro w (reg w c))))
-plan (Op.CoroClose pc dst c src) = entering (λ w. enters (reg w c) (Driver.Resume dst) Opt.None (suspendedAs (coro w (reg w c))))
+plan (Op.Resume pc dst c src) = entering (λ w. enters (reg w c) (Driver.Resume dst) (gets (reg w src)) true)
+plan (Op.ResumeThrow pc dst c src) = entering (λ w. enters (reg w c) (Driver.Resume dst) nothing (suspendedAs (coro w (reg w c))))
+plan (Op.CoroClose pc dst c src) = entering (λ w. enters (reg w c) (Driver.Resume dst) (closes (reg w src)) (suspendedAs (coro w (reg w c))))
 plan (Op.CoroStatus pc dst c) = idle
 plan (Op.CoroCurrent pc dst) = idle
 plan (Op.CoroKey pc dst c) = idle
 plan (Op.CoroResult pc dst c) = idle
-plan (Op.IterNext pc has iter val src) = entering (λ w. enters (reg w src) (Driver.Iter has val (reg w iter)) (Opt.Some nil) (not (isDone (object w (reg w iter))) && not (awaits (coro w (reg w src)))))
+plan (Op.IterNext pc has iter val src) = entering (λ w. enters (reg w src) (Driver.Iter has val (reg w iter)) (gets nil) (not (isDone (object w (reg w iter))) && not (awaits (coro w (reg w src)))))
 plan (Op.Finish kind v) = finishing kind v
 plan (Op.Unwind f pc) = idle
 plan (Op.SpawnTask v) = idle
@@ -122,7 +122,7 @@ act w o = actBy w (table o) (plan o)
 pub data Entry : Type 0 where
   nobody : Entry
   -- a coroutine, its driver, and the word that it gets in its waiting register, or none
-  entry : ℕ → Driver → Opt → Entry
+  entry : ℕ → Driver → Sent → Entry
 
 -- coro_enter accepts. 01: "not a coroutine (1 or 2); not Created, Yielded or Awaiting (3); frames plus saved frames above the
 -- depth limit, or stack plus saved registers above the stack limit (4; equality passes)"
@@ -134,9 +134,9 @@ abbrev pub accepts : World → ℕ → Bool
 accepts w c = acceptsAs (coro w c) w
 
 -- 01: "A Created one ignores the sent word."
-abbrev pub sentTo : Coroutine → Opt → Opt
-sentTo Absent v = Opt.None
-sentTo (Is k r) v = pick (isCreated (k .state)) Opt.None v
+abbrev pub sentTo : Coroutine → Sent → Sent
+sentTo Absent v = nothing
+sentTo (Is k r) v = pick (isCreated (k .state)) nothing v
 
 abbrev pub aimed : Aim → World → Entry
 aimed (enters c d v may) w = pick (may && accepts w c) (entry c d (sentTo (coro w c) v)) nobody
@@ -146,7 +146,7 @@ aimed neither w = nobody
 -- a cleanup: the first of the queue that is suspended and fits
 abbrev pub cleaned : List ℕ → World → Entry
 cleaned [] w = nobody
-cleaned (c ∷ queue) w = pick (suspendedAs (coro w c) && accepts w c) (entry c Driver.Finalize Opt.None) (cleaned queue w)
+cleaned (c ∷ queue) w = pick (suspendedAs (coro w c) && accepts w c) (entry c Driver.Finalize (closes nil)) (cleaned queue w)
 
 -- a charge that starts a cleanup enters that coroutine, whatever the instruction is after
 abbrev pub charged : Charge → World → Entry → Entry
@@ -156,7 +156,7 @@ charged (Charge.Close n) w e = cleaned (w .finalize) w
 
 abbrev pub entryBy : Act → World → Entry
 entryBy (at pc ok a) w = pick (isNil (w .frames)) nobody (pick (not ok) nobody (charged (charge (OptPc.Some pc) w .answer) w (aimed a w)))
-entryBy (byHost c v) w = pick (not (isNil (w .frames))) nobody (aimed (enters c Driver.Host (Opt.Some v) true) w)
+entryBy (byHost c v) w = pick (not (isNil (w .frames))) nobody (aimed (enters c Driver.Host (gets v) true) w)
 entryBy (finishes kind v) w = nobody
 entryBy unwinds w = nobody
 entryBy other w = nobody
@@ -171,8 +171,8 @@ abbrev pub driverOf : Entry → Driver
 driverOf nobody = Driver.Host
 driverOf (entry c d v) = d
 
-abbrev pub sentOf : Entry → Opt
-sentOf nobody = Opt.None
+abbrev pub sentOf : Entry → Sent
+sentOf nobody = nothing
 sentOf (entry c d v) = v
 
 -- the pc that a call stores in the frame that it was made from

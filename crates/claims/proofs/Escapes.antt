@@ -46,10 +46,10 @@ use Rattle.claims.proofs.Endings.{return-done, failing, handled}
 -- ---- moves, and then perhaps a return
 
 pub data Ended (v : View) (o : After Answer) : Option ℕ → Type 0 where
-  e-works : Worked v (view (o .world)) → Ended v o none
-  e-returns : (u : View) (f : Frame) (fs : List Frame) (a : Active) (chain : List Active) → Worked v u → Return u nil f fs a chain (o .world) → numberOf (o .answer) ≡ 0 → Ended v o (some (a .coro))
+  e-works : Worked true v (view (o .world)) → Ended v o none
+  e-returns : (u : View) (f : Frame) (fs : List Frame) (a : Active) (chain : List Active) → Worked true v u → Return u nil f fs a chain (o .world) → numberOf (o .answer) ≡ 0 → Ended v o (some (a .coro))
 
-pub then-ended : {v u : View} {o : After Answer} {who : Option ℕ} → ((y : View) → Worked u y → Worked v y) → Ended u o who → Ended v o who
+pub then-ended : {v u : View} {o : After Answer} {who : Option ℕ} → ((y : View) → Worked true u y → Worked true v y) → Ended u o who → Ended v o who
 then-ended {o = o} g (e-works t) = e-works (g (view (o .world)) t)
 then-ended g (e-returns u f fs a chain t r n) = e-returns u f fs a chain (g u t) r n
 
@@ -59,7 +59,7 @@ pub data Looks (hs : List Handler) (pc : ℕ) : Caught → Bool → Type 0 where
   nothing : Looks hs pc Caught.Nothing false
   found : (h : Handler) → Looks hs pc (Caught.By h) true
 
-looks : (hs : List Handler) (pc : ℕ) → Looks hs pc (firstOf pc hs) (Events.caught hs pc)
+pub looks : (hs : List Handler) (pc : ℕ) → Looks hs pc (firstOf pc hs) (Events.caught hs pc)
 unfolding pick
 looks [] pc = nothing
 looks (h ∷ hs) pc = go (covers pc h) (looks hs pc)
@@ -94,12 +94,24 @@ all-apart : (v : Engine.View) (w u : World) (c : ℕ) → ((x : ℕ) → x ≢ c
 all-apart v w u c e [] n h = tt
 all-apart v w u c e (a ∷ chain) n h = (ap seenOf (e (a .coro) (λ q. n .0 (sym q))) ∙ h .0, h .1, all-apart v w u c e chain (n .1) (h .2))
 
-closed-seen : (v : Engine.View) (k : Coroutine) (c x : ℕ) → seenOf k ≡ v .coro c → seenIn (λ k. k .closing && eqb x (k .signal)) (v .coro c) ≡ closedBy k x
+pub closed-seen : (v : Engine.View) (k : Coroutine) (c x : ℕ) → seenOf k ≡ v .coro c → seenIn (λ k. k .closing && eqb x (k .signal)) (v .coro c) ≡ closedBy k x
 closed-seen v k c x e = ap (seenIn (λ k. k .closing && eqb x (k .signal))) (sym e) ∙ go k
   where
     go : (k : Coroutine) → seenIn (λ k. k .closing && eqb x (k .signal)) (seenOf k) ≡ closedBy k x
     go Absent = refl
     go (Is k r) = refl
+
+-- one of the chain fails: the others are seen as before
+pub fail-sees : (v : Engine.View) (x : Frame) (xs : List Frame) (value : ℕ) (w : World) (a : Active) (chain : List Active) → Sees v w → AllSeen v (w .slots) (a ∷ chain)
+    → Sees v (finishCoroutine (a .coro) CoroState.Failed value (withChain chain (popTo x xs w)))
+fail-sees v x xs value w a chain h all =
+    let u = withChain chain (popTo x xs w) in
+    let y = finishCoroutine (a .coro) CoroState.Failed value u in
+    let g = change-still u (a .coro) (inState CoroState.Failed) (ended value) in
+    record {
+      handlers = λ n. h .handlers n ∙ ap (λ s. func s n .handlers) (sym (g .setup));
+      coros = subst (AllSeen v (y .slots)) (sym (g .chain)) (all-apart v w y (a .coro) (apart-coro (a .coro) (inState CoroState.Failed) (ended value) u) chain (all .1) (all .2));
+    }
 
 -- ---- the search
 
@@ -114,10 +126,12 @@ module _ (v : Engine.View) (value f pc : ℕ) where
   failed-to xs next Driver.Host s w p h = e-works done
   failed-to xs next Driver.Finalize s w p h = e-works done
 
-  body-left : (x : Frame) (xs : List Frame) → Next xs → (w : World) → w .frames ≡ x ∷ xs → isCoro (x .cont) ≡ true → Sees v w → (cs : List Active) → w .chain ≡ cs → Ended (view w) (andThen (escapedOn cs value f pc (popTo x xs w)) (stopOr (search xs value f pc))) (Events.leaving Cont.Coro v value cs (escaped v value xs))
+  body-left : (x : Frame) (xs : List Frame) → Next xs → (w : World) → w .frames ≡ x ∷ xs → isCoro (x .cont) ≡ true → Sees v w → (cs : List Active) → w .chain ≡ cs
+      → Ended (view w) (andThen (escapedOn cs value f pc (popTo x xs w)) (stopOr (search xs value f pc))) (Events.leaving Cont.Coro v value cs (escaped v value xs))
   unfolding pick
   body-left x xs next w p q h [] r = subst (λ cs. Ended (view w) (search xs value f pc (popTo x xs w)) (escaped v value xs cs)) r (then-ended (λ y t. pops x xs p (inr r) t) (next (popTo x xs w) refl (record { handlers = h .handlers; coros = h .coros })))
-  body-left x xs next w p q h (a ∷ chain) r = subst (λ b. Ended (view w) (andThen (pick b (after (deliverReturn (a .driver) nil (finishCoroutine (a .coro) CoroState.Returned nil (withChain chain u))) true) (failTo (a .driver) (Stop.Failed value f pc) y)) (stopOr (search xs value f pc))) (pick (seenIn (λ k. k .closing && eqb value (k .signal)) (v .coro (a .coro))) (some (a .coro)) (pick (goesOn (a .driver)) (escaped v value xs chain) none)))
+  body-left x xs next w p q h (a ∷ chain) r =
+      subst (λ b. Ended (view w) (left b) (pick (seenIn (λ k. k .closing && eqb value (k .signal)) (v .coro (a .coro))) (some (a .coro)) (pick (goesOn (a .driver)) (escaped v value xs chain) none)))
       (closed-seen v (coro w (a .coro)) (a .coro) value (all .0)) (test (seenIn (λ k. k .closing && eqb value (k .signal)) (v .coro (a .coro))))
     where
       u : World
@@ -133,12 +147,13 @@ module _ (v : Engine.View) (value f pc : ℕ) where
       still = change-still (withChain chain u) (a .coro) (inState CoroState.Failed) (ended value) .chain
 
       sees : Sees v y
-      sees = record {
-        handlers = λ n. h .handlers n ∙ ap (λ s. func s n .handlers) (sym (change-still (withChain chain u) (a .coro) (inState CoroState.Failed) (ended value) .setup));
-        coros = subst (AllSeen v (y .slots)) (sym still) (all-apart v w y (a .coro) (apart-coro (a .coro) (inState CoroState.Failed) (ended value) (withChain chain u)) chain (all .1) (all .2));
-      }
+      sees = fail-sees v x xs value w a chain h all
 
-      test : (b : Bool) → Ended (view w) (andThen (pick b (after (deliverReturn (a .driver) nil (finishCoroutine (a .coro) CoroState.Returned nil (withChain chain u))) true) (failTo (a .driver) (Stop.Failed value f pc) y)) (stopOr (search xs value f pc))) (pick b (some (a .coro)) (pick (goesOn (a .driver)) (escaped v value xs chain) none))
+      -- it ends there, b: because its own signal closed it
+      left : Bool → After Answer
+      left b = andThen (pick b (after (deliverReturn (a .driver) nil (finishCoroutine (a .coro) CoroState.Returned nil (withChain chain u))) true) (failTo (a .driver) (Stop.Failed value f pc) y)) (stopOr (search xs value f pc))
+
+      test : (b : Bool) → Ended (view w) (left b) (pick b (some (a .coro)) (pick (goesOn (a .driver)) (escaped v value xs chain) none))
       test true = e-returns (view w) x xs a chain done (return-done nil x xs w a chain p q r) refl
       test false =
           subst (λ cs. Ended (view w) (stopOr (search xs value f pc) (failTo (a .driver) (Stop.Failed value f pc) y .world) (failTo (a .driver) (Stop.Failed value f pc) y .answer)) (pick (goesOn (a .driver)) (escaped v value xs cs) none)) still
@@ -153,11 +168,14 @@ module _ (v : Engine.View) (value f pc : ℕ) where
   leaving x xs next w p h Cont.Discard q = then-ended (λ y t. pops x xs p (inl (ap isCoro q)) t) (next (popTo x xs w) refl (record { handlers = h .handlers; coros = h .coros }))
   leaving x xs next w p h Cont.Coro q = body-left x xs next w p (ap isCoro q) h (w .chain) refl
 
-  looked : (x : Frame) (xs : List Frame) → Next xs → (w : World) → w .frames ≡ x ∷ xs → Sees v w → {c : Caught} {b : Bool} → Looks (func (w .setup) (x .func) .handlers) (x .pc) c b → Ended (view w) (searchAs c x xs value f pc (search xs value f pc) w) (pick b none (Events.leaving (x .cont) v value (w .chain) (escaped v value xs)))
+  looked : (x : Frame) (xs : List Frame) → Next xs → (w : World) → w .frames ≡ x ∷ xs → Sees v w → {c : Caught} {b : Bool} → Looks (func (w .setup) (x .func) .handlers) (x .pc) c b
+      → Ended (view w) (searchAs c x xs value f pc (search xs value f pc) w) (pick b none (Events.leaving (x .cont) v value (w .chain) (escaped v value xs)))
   unfolding pick
   looked x xs next w p h nothing = leaving x xs next w p h (x .cont) refl
   looked x xs next w p h (found n) = e-works (same-worked (charge-none w) (handled value f pc n (charge OptPc.None w .world) (charge OptPc.None w .answer)))
 
   pub search-ended : (fs : List Frame) → Next fs
   search-ended [] w p h = e-works done
-  search-ended (x ∷ xs) w p h = subst (λ hs. Ended (view w) (search (x ∷ xs) value f pc w) (pick (Events.caught hs (x .pc)) none (Events.leaving (x .cont) v value (w .chain) (escaped v value xs)))) (sym (h .handlers (x .func))) (looked x xs (search-ended xs) w p h (looks (func (w .setup) (x .func) .handlers) (x .pc)))
+  search-ended (x ∷ xs) w p h = subst
+      (λ hs. Ended (view w) (search (x ∷ xs) value f pc w) (pick (Events.caught hs (x .pc)) none (Events.leaving (x .cont) v value (w .chain) (escaped v value xs)))) (sym (h .handlers (x .func)))
+      (looked x xs (search-ended xs) w p h (looks (func (w .setup) (x .func) .handlers) (x .pc)))

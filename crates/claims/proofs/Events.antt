@@ -6,20 +6,19 @@ use mathlib.Core.Path.{_≡_, refl, sym, ap, _∙_, subst}
 use mathlib.Core.Logic.{_⊎_, inl, inr}
 use mathlib.Core.Bool.{Bool, true, false, _||_}
 use mathlib.Core.List.{List, [], _∷_}
-use Rattle.heap.specs.declared.value.Opt.{Opt}
 use Rattle.heap.specs.declared.object.CoroState.{CoroState}
 use Rattle.model.specs.State.{isCreated, isRunning, isSuspended, isResumable}
-use Rattle.model.specs.Object.{Core}
 use Rattle.model.specs.World.{World}
 use Rattle.model.specs.declared.machine.Driver.{Driver}
 use Rattle.model.specs.declared.machine.Active.{Active}
 use Rattle.model.specs.declared.machine.Frame.{Frame}
 use Rattle.model.specs.declared.call.Op.{Op}
+use Rattle.claims.specs.Says.{Sent, nothing, gets, closes}
 use Rattle.claims.proofs.Entry.{suspends, at, Entry, entry, nobody, act, entryBy, pcBy}
 use Rattle.claims.proofs.Suspension.{suspendsIn, takesBy}
-use Rattle.claims.proofs.Held.{coreAt}
+use Rattle.claims.proofs.Held.{Seat, coreAt}
 use Rattle.claims.proofs.Cores.{no-both, busy, Kept, kept, unborn}
-use Rattle.claims.proofs.Shape.{View, Ends, Worked, done, quiet, tops, puts, pushes, pops, fails, Enter, Suspend, Return, Apart, Stop, Says, Shape, works, enters, suspended, returns, stops}
+use Rattle.claims.proofs.Shape.{View, over, Ends, Worked, done, quiet, tops, puts, pushes, pops, fails, Enter, Suspend, Return, Apart, Stop, Says, Shape, works, enters, suspended, returns, stops}
 
 -- ---- states
 
@@ -73,14 +72,14 @@ ready-run CoroState.Failed e = refl
 
 -- ---- a state that only a switch can give: P is isRunning or isSuspended
 module _ (P : CoroState → Bool) (idle : (s : CoroState) → busy s ≡ false → P s ≡ false) where
-  pub not-kept : {k l : Core} → Kept k l → P (k .state) ≡ false → P (l .state) ≡ false
+  pub not-kept : {k l : Seat} → Kept k l → P (k .state) ≡ false → P (l .state) ≡ false
   not-kept (kept e) h = ap (λ x. P (x .state)) e ∙ h
-  not-kept {l = l} (unborn a b) h = idle (l .state) b
+  not-kept {l = l} (unborn a b m) h = idle (l .state) b
 
-  pub not-ends : {s : CoroState} {v : ℕ} {k l : ℕ → Core} → Ends s v k l → busy s ≡ false → (u : ℕ) → P (k u .state) ≡ false → P (l u .state) ≡ false
+  pub not-ends : {s : CoroState} {v : ℕ} {k l : ℕ → Seat} → Ends s v k l → busy s ≡ false → (u : ℕ) → P (k u .state) ≡ false → P (l u .state) ≡ false
   not-ends {s} {v} {k} {l} e b u h = go (ℕ-discrete u v)
     where
-      mine : (l v ≡ record { state = s; regs = []; frames = []; waiting = k v .waiting }) ⊎ ((isCreated (k v .state) ≡ true) × (l v ≡ k v)) → P (k v .state) ≡ false → P (l v .state) ≡ false
+      mine : (l v ≡ over s (k v)) ⊎ ((isCreated (k v .state) ≡ true) × (l v ≡ k v)) → P (k v .state) ≡ false → P (l v .state) ≡ false
       mine (inl x) n = ap (λ y. P (y .state)) x ∙ idle s b
       mine (inr x) n = ap (λ y. P (y .state)) (x .1) ∙ n
 
@@ -88,14 +87,14 @@ module _ (P : CoroState → Bool) (idle : (s : CoroState) → busy s ≡ false �
       go (yes q) = ap (λ y. P (l y .state)) q ∙ mine (e .mine) (ap (λ y. P (k y .state)) (sym q) ∙ h)
       go (no q) = ap (λ y. P (y .state)) (e .others u q) ∙ h
 
-  pub not-worked : (c : ℕ) {v z : View} → Worked v z → P (v .cores c .state) ≡ false → P (z .cores c .state) ≡ false
+  pub not-worked : (c : ℕ) {b : Bool} {v z : View} → Worked b v z → P (v .cores c .state) ≡ false → P (z .cores c .state) ≡ false
   not-worked c done h = h
   not-worked c (quiet k q t) h = not-worked c t (not-kept (q c) h)
   not-worked c (tops g e t) h = not-worked c t h
   not-worked c (puts r x t) h = not-worked c t h
   not-worked c (pushes f xs p q t) h = not-worked c t h
   not-worked c (pops f fs p q t) h = not-worked c t h
-  not-worked c (fails f fs a chain k p q r e t) h = not-worked c t (not-ends e refl c h)
+  not-worked c (fails f fs a chain k y p q r e t) h = not-worked c t (not-ends e refl c h)
 
   -- of a call that is no entry of c and no suspension of it
   pub not-return : {v : View} {x : ℕ} {f : Frame} {fs : List Frame} {a : Active} {chain : List Active} {z : World} (c : ℕ) → Return v x f fs a chain z → P (v .cores c .state) ≡ false → P (coreAt z c .state) ≡ false
@@ -118,12 +117,12 @@ idle-susp s e = or-right (isRunning s) (isSuspended s) e
 -- ---- an entry: the call enters the coroutine that entryBy names, and nobody else
 pub record EnteredBy (w : World) (o : Op) (c : ℕ) (z : World) : Type 0 where
   pub driver : Driver
-  pub sent : Opt
+  pub sent : Sent
   pub by : entryBy (act w o) w ≡ entry c driver sent
   pub enter : Enter w (pcBy (act w o)) c driver sent z
 
 pub entered-one : {w z : World} {o : Op} (c : ℕ) → Shape w o z → isRunning (coreAt w c .state) ≡ false → isRunning (coreAt z c .state) ≡ true → EnteredBy w o c z
-entered-one c (works e t) h r = no-both r (not-worked isRunning idle-run c t h)
+entered-one c (works e b n t) h r = no-both r (not-worked isRunning idle-run c t h)
 entered-one {w} {z} {o} c (enters u d sent e t) h r = go (ℕ-discrete c u)
   where
     go : Dec (c ≡ u) → EnteredBy w o c z
@@ -135,22 +134,22 @@ entered-one {w} {z} {o} c (suspended p ok s dst x a chain e q t) h r = go (ℕ-d
     go (yes y) = no-both r (ap (λ u. isRunning (coreAt z u .state)) y ∙ ap (λ k. isRunning (k .state)) (t .mine) ∙ susp-run s (t .asleep))
     go (no y) = no-both r (not-kept isRunning idle-run (t .others c y) h)
 entered-one c (returns v x f fs a chain e en g t u) h r = no-both r (not-return isRunning idle-run c u (not-worked isRunning idle-run c t h))
-entered-one c (stops e t) h r = no-both r (not-stop isRunning idle-run c t h)
+entered-one c (stops e i t) h r = no-both r (not-stop isRunning idle-run c t h)
 
-pub no-entry : {A : Type 0} {x : Entry} {c : ℕ} {d : Driver} {sent : Opt} → x ≡ nobody → x ≡ entry c d sent → A
+pub no-entry : {A : Type 0} {x : Entry} {c : ℕ} {d : Driver} {sent : Sent} → x ≡ nobody → x ≡ entry c d sent → A
 no-entry p q = let z : _≡_ {A = ℕ} 0 1 = cc in absurd (omega arith)
 
-pub who : {c u : ℕ} {d e : Driver} {s t : Opt} {x : Entry} → x ≡ entry c d s → x ≡ entry u e t → c ≡ u
+pub who : {c u : ℕ} {d e : Driver} {s t : Sent} {x : Entry} → x ≡ entry c d s → x ≡ entry u e t → c ≡ u
 who p q = cc
 
 -- and the other way round: whom entryBy names is entered
-pub entry-enters : {w z : World} {o : Op} (c : ℕ) (d : Driver) (sent : Opt) → Shape w o z → entryBy (act w o) w ≡ entry c d sent → (isRunning (coreAt w c .state) ≡ false) × (isRunning (coreAt z c .state) ≡ true)
-entry-enters c d sent (works e t) h = no-entry (e .entry) h
+pub entry-enters : {w z : World} {o : Op} (c : ℕ) (d : Driver) (sent : Sent) → Shape w o z → entryBy (act w o) w ≡ entry c d sent → (isRunning (coreAt w c .state) ≡ false) × (isRunning (coreAt z c .state) ≡ true)
+entry-enters c d sent (works e b n t) h = no-entry (e .entry) h
 entry-enters {w} {z} c d sent (enters u b s e t) h =
     (ap (λ x. isRunning (coreAt w x .state)) (who h (e .entry)) ∙ ready-run (coreAt w u .state) (t .ready), ap (λ x. isRunning (coreAt z x .state)) (who h (e .entry)) ∙ t .mine)
 entry-enters c d sent (suspended p ok s dst x a chain e q t) h = no-entry (e .entry) h
 entry-enters c d sent (returns v x f fs a chain e en g t u) h = no-entry (e .entry) h
-entry-enters c d sent (stops e t) h = no-entry (e .entry) h
+entry-enters c d sent (stops e i t) h = no-entry (e .entry) h
 
 -- ---- a suspension: the innermost coroutine, by a yield or await
 pub record SuspendedBy (w : World) (o : Op) (c : ℕ) (z : World) : Type 0 where
@@ -167,7 +166,7 @@ pub record SuspendedBy (w : World) (o : Op) (c : ℕ) (z : World) : Type 0 where
   pub suspend : Suspend w pc state dst payload body chain z
 
 pub suspended-one : {w z : World} {o : Op} (c : ℕ) → Shape w o z → isSuspended (coreAt w c .state) ≡ false → isSuspended (coreAt z c .state) ≡ true → SuspendedBy w o c z
-suspended-one c (works e t) h r = no-both r (not-worked isSuspended idle-susp c t h)
+suspended-one c (works e b n t) h r = no-both r (not-worked isSuspended idle-susp c t h)
 suspended-one {w} {z} {o} c (enters u d sent e t) h r = go (ℕ-discrete c u)
   where
     go : Dec (c ≡ u) → SuspendedBy w o c z
@@ -179,27 +178,27 @@ suspended-one {w} {z} {o} c (suspended p ok s dst x a chain e q t) h r = go (ℕ
     go (yes y) = record { pc = p; ok = ok; state = s; dst = dst; payload = x; body = a; chain = chain; says = e; by = q; its-own = y; suspend = t }
     go (no y) = no-both r (not-kept isSuspended idle-susp (t .others c y) h)
 suspended-one c (returns v x f fs a chain e en g t u) h r = no-both r (not-return isSuspended idle-susp c u (not-worked isSuspended idle-susp c t h))
-suspended-one c (stops e t) h r = no-both r (not-stop isSuspended idle-susp c t h)
+suspended-one c (stops e i t) h r = no-both r (not-stop isSuspended idle-susp c t h)
 
 -- ---- one that has begun, does not run and is not entered stays as it is
-module _ (c : ℕ) (k : Core) (begun : isCreated (k .state) ≡ false) where
-  stays : {l m : Core} → Kept l m → l ≡ k → m ≡ k
+module _ (c : ℕ) (k : Seat) (begun : isCreated (k .state) ≡ false) where
+  stays : {l m : Seat} → Kept l m → l ≡ k → m ≡ k
   stays (kept e) h = e ∙ h
-  stays {l} (unborn a b) h = no-both a (ap (λ x. isCreated (x .state)) h ∙ begun)
+  stays {l} (unborn a b m) h = no-both a (ap (λ x. isCreated (x .state)) h ∙ begun)
 
-  keep-worked : {v z : View} → Worked v z → Apart c (v .chain) → v .cores c ≡ k → Apart c (z .chain) × (z .cores c ≡ k)
+  keep-worked : {b : Bool} {v z : View} → Worked b v z → Apart c (v .chain) → v .cores c ≡ k → Apart c (z .chain) × (z .cores c ≡ k)
   keep-worked done n h = (n, h)
   keep-worked (quiet l q t) n h = keep-worked t n (stays (q c) h)
   keep-worked (tops g e t) n h = keep-worked t n h
   keep-worked (puts r x t) n h = keep-worked t n h
   keep-worked (pushes f xs p q t) n h = keep-worked t n h
   keep-worked (pops f fs p q t) n h = keep-worked t n h
-  keep-worked (fails f fs a chain l p q r e t) n h =
+  keep-worked (fails f fs a chain l y p q r e t) n h =
       let m : Apart c (a ∷ chain) = subst (Apart c) r n in
       keep-worked t (m .1) (e .others c (m .0) ∙ h)
 
   pub sleeps-on : {w z : World} {o : Op} → Shape w o z → Apart c (w .chain) → coreAt w c ≡ k → isRunning (coreAt z c .state) ≡ false → coreAt z c ≡ k
-  sleeps-on (works e t) n h r = keep-worked t n h .1
+  sleeps-on (works e b m t) n h r = keep-worked t n h .1
   sleeps-on {w} {z} (enters u d sent e t) n h r = go (ℕ-discrete c u)
     where
       go : Dec (c ≡ u) → coreAt z c ≡ k
@@ -209,12 +208,12 @@ module _ (c : ℕ) (k : Core) (begun : isCreated (k .state) ≡ false) where
   sleeps-on (returns v x f fs a chain e en g t u) n h r =
       let m = keep-worked t n h in
       u .ends .others c (subst (Apart c) (u .inmost) (m .0) .0) ∙ m .1
-  sleeps-on (stops e t) n h r = t .apart c n ∙ h
+  sleeps-on (stops e i t) n h r = t .apart c n ∙ h
 
 -- where coro_suspend accepts, the innermost coroutine is suspended
 pub takes-suspends : {w z : World} {o : Op} → Shape w o z → takesBy (act w o) (suspendsIn o) w ≡ true → (a : Active) × (chain : List Active) × (w .chain ≡ a ∷ chain) × (isSuspended (coreAt z (a .coro) .state) ≡ true)
-takes-suspends (works e t) h = no-both h (e .takes)
+takes-suspends (works e b n t) h = no-both h (e .takes)
 takes-suspends (enters u d sent e t) h = no-both h (e .takes)
 takes-suspends (suspended p ok s dst x a chain e q t) h = (a, chain, t .inmost, ap (λ k. isSuspended (k .state)) (t .mine) ∙ t .asleep)
 takes-suspends (returns v x f fs a chain e en g t u) h = no-both h (e .takes)
-takes-suspends (stops e t) h = no-both h (e .takes)
+takes-suspends (stops e i t) h = no-both h (e .takes)

@@ -20,6 +20,9 @@ use Rattle.claims.proofs.Restores.{enters-old, suspends-old}
 use Rattle.claims.proofs.Untouched.{untouched}
 use Rattle.claims.proofs.Exact.{healthy-sound, no-some, entered, suspends, suspended-by}
 use Rattle.claims.proofs.Returned.{returns, returned-by}
+use Rattle.claims.proofs.Losses.{fails-by, failed-by}
+use Rattle.claims.proofs.Values.{integer}
+use Rattle.claims.proofs.Closing.{closing, yielded, fixed}
 
 -- a call that lets one return enters nobody, and suspends nobody
 not-whom : (v : View) (d : Does) (n u : ℕ) → returned v d n ≡ some u → whomBy v d ≡ none
@@ -48,6 +51,12 @@ events =
       suspended = suspended-by;
       returns = returns;
       returned = λ c w k h e. returned-by c w k (healthy-sound w h) e;
+      fails = fails-by;
+      failed = λ c w k h r l. failed-by c w k (healthy-sound w h) r l;
+      integer = integer;
+      yielded = yielded;
+      closing = closing;
+      fixed = fixed;
       one-switch = λ c u w k h g. exactly w k c .one-switch u (enters-old c w k h) (suspends-old u w k g);
       no-return = λ c u w k h g. no-entry (not-whom (viewOf w) (doing (viewOf w) (opOf k)) (numberOf (step w k .answer)) u (returns u w k g)) (Restores.entered c w k h .by .says);
       one-leaves = λ c u w k h g. not-suspended (viewOf w) (doing (viewOf w) (opOf k)) (numberOf (step w k .answer)) c u (suspends c w k h) (returns u w k g);

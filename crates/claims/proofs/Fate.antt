@@ -8,23 +8,23 @@ use mathlib.Core.Bool.{Bool, true, false, _||_}
 use mathlib.Core.List.{List, [], _∷_, _++_, map}
 use lib.ListN.{length, take}
 use lib.Seq.{take-append-le, take-append-seam, take-take}
-use Rattle.heap.specs.declared.value.Opt.{Opt}
 use Rattle.heap.specs.declared.object.CoroState.{CoroState}
 use Rattle.model.specs.Lists.{isNil}
 use Rattle.model.specs.State.{isCreated, isRunning, isSuspended, isReturned, isResumable}
-use Rattle.model.specs.Object.{Core}
 use Rattle.model.specs.World.{World}
 use Rattle.model.specs.Frames.{isCoro, onTop, setPc, stepPc, raise, below, baseAt}
 use Rattle.model.specs.Heap.{coro}
-use Rattle.model.specs.Coro.{active, inState}
+use Rattle.model.specs.Coro.{active}
 use Rattle.model.specs.Sound.{marked}
 use Rattle.model.specs.declared.machine.Driver.{Driver}
 use Rattle.model.specs.declared.machine.Active.{Active}
 use Rattle.model.specs.declared.machine.Frame.{Frame}
 use Rattle.model.specs.declared.call.Op.{Op}
+use Rattle.claims.specs.Says.{Sent, nothing, gets, closes}
 use Rattle.claims.proofs.Entry.{at, suspends, act, pcBy}
-use Rattle.claims.proofs.Held.{coreAt, wordsWith, framesWith, Event, Yields, Awaits, Ignores, Returns, eventAs, eventBy, Mem, mem, put, send, deliverTo}
+use Rattle.claims.proofs.Held.{Seat, coreAt, wordsWith, framesWith, Event, Yields, Awaits, Ignores, Returns, eventAs, eventBy, Mem, mem, put, send, deliverTo}
 use Rattle.claims.proofs.Cores.{no-both, Kept, kept, unborn}
+use Rattle.claims.proofs.Shape as S
 use Rattle.claims.proofs.Shape.{View, view, Ends, Keeps, Worked, done, quiet, tops, puts, pushes, pops, fails, Enter, Suspend, Return, Apart, Shape, works, enters, suspended, returns, stops}
 use Rattle.claims.proofs.Events.{run-born, ready-run}
 use Rattle.claims.proofs.Under.{Lift, lift-with, l-body, l-plain, keeps-pc, keeps-step, Ext, x-here, x-plain, x-coro, ext-top, ext-put, ext-join, ext-in, CutFate, c-left, c-stays, ext-cut, words-le}
@@ -32,7 +32,7 @@ use Rattle.claims.proofs.Under.{Lift, lift-with, l-body, l-plain, keeps
 or-true : (a b : Bool) → a ≡ true → (a || b) ≡ true
 or-true a b e = ap (λ x. x || b) e
 
-failed-born : (k : Core) → k .state ≡ CoroState.Failed → isCreated (k .state) ≡ false
+failed-born : (k : Seat) → k .state ≡ CoroState.Failed → isCreated (k .state) ≡ false
 failed-born k e = ap isCreated e
 
 module _ (c : ℕ) (d : Driver) (bs : List ℕ) (bf : List Frame) (bc : List Active) where
@@ -98,29 +98,29 @@ module _ (c : ℕ) (d : Driver) (bs : List ℕ) (bf : List Frame) (bc : List Act
   body-ext f fs a rs (x-coro e b q m x) p = b-stays m x b
 
   -- ---- moves
-  kept-runs : {k l : Core} → Kept k l → isRunning (k .state) ≡ true → isRunning (l .state) ≡ true
+  kept-runs : {k l : Seat} → Kept k l → isRunning (k .state) ≡ true → isRunning (l .state) ≡ true
   kept-runs (kept e) h = ap (λ x. isRunning (x .state)) e ∙ h
-  kept-runs {k} (unborn a b) h = no-both a (run-born (k .state) h)
+  kept-runs {k} (unborn a b m) h = no-both a (run-born (k .state) h)
 
-  kept-failed : {k l : Core} → Kept k l → k .state ≡ CoroState.Failed → l .state ≡ CoroState.Failed
+  kept-failed : {k l : Seat} → Kept k l → k .state ≡ CoroState.Failed → l .state ≡ CoroState.Failed
   kept-failed (kept e) h = ap (λ x. x .state) e ∙ h
-  kept-failed {k} (unborn a b) h = no-both a (failed-born k h)
+  kept-failed {k} (unborn a b m) h = no-both a (failed-born k h)
 
-  ended : {s : CoroState} {v : ℕ} {k l : ℕ → Core} → Ends s v k l → v ≡ c → isRunning (k c .state) ≡ true → l c .state ≡ s
+  ended : {s : CoroState} {v : ℕ} {k l : ℕ → Seat} → Ends s v k l → v ≡ c → isRunning (k c .state) ≡ true → l c .state ≡ s
   ended {s} {v} {k} {l} e q r = go (e .mine)
     where
-      go : (l v ≡ inState s (k v)) ⊎ ((isCreated (k v .state) ≡ true) × (l v ≡ k v)) → l c .state ≡ s
+      go : (l v ≡ S.over s (k v)) ⊎ ((isCreated (k v .state) ≡ true) × (l v ≡ k v)) → l c .state ≡ s
       go (inl x) = ap (λ y. l y .state) (sym q) ∙ ap (λ y. y .state) x
       go (inr x) = no-both (x .0) (run-born (k v .state) (ap (λ y. isRunning (k y .state)) q ∙ r))
 
-  lost-worked : {v z : View} → Worked v z → Lost v → Lost z
+  lost-worked : {b : Bool} {v z : View} → Worked b v z → Lost v → Lost z
   lost-worked done h = h
   lost-worked (quiet k q t) h = lost-worked t (record { failed = kept-failed (q c) (h .failed); gone = h .gone })
   lost-worked (tops g e t) h = lost-worked t (record { failed = h .failed; gone = h .gone })
   lost-worked (puts r x t) h = lost-worked t (record { failed = h .failed; gone = h .gone })
   lost-worked (pushes f xs p q t) h = lost-worked t (record { failed = h .failed; gone = h .gone })
   lost-worked (pops f fs p q t) h = lost-worked t (record { failed = h .failed; gone = h .gone })
-  lost-worked (fails f fs a chain k p q r e t) h =
+  lost-worked (fails f fs a chain k y p q r e t) h =
       let m : Apart c (a ∷ chain) = subst (Apart c) r (h .gone) in
       lost-worked t (record { failed = ap (λ x. x .state) (e .others c (m .0)) ∙ h .failed; gone = m .1 })
 
@@ -135,12 +135,12 @@ module _ (c : ℕ) (d : Driver) (bs : List ℕ) (bf : List Frame) (bc : List Act
   L v = Lost c d bs bf bc v
 
   -- a body fails: it is c's, or c goes on
-  fail-cases : (v : View) (f : Frame) (fs : List Frame) (a : Active) (rs : List Active) (k : ℕ → Core) → v .frames ≡ f ∷ fs → isCoro (f .cont) ≡ true → v .chain ≡ a ∷ rs → Ends CoroState.Failed (a .coro) (v .cores) k → U v
-      → U (record { stack = take (f .base) (v .stack); frames = fs; chain = rs; cores = k }) ⊎ L (record { stack = take (f .base) (v .stack); frames = fs; chain = rs; cores = k })
+  fail-cases : (v : View) (f : Frame) (fs : List Frame) (a : Active) (rs : List Active) (k : ℕ → Seat) → v .frames ≡ f ∷ fs → isCoro (f .cont) ≡ true → v .chain ≡ a ∷ rs → Ends CoroState.Failed (a .coro) (v .cores) k → U v
+      → U (record { setup = v .setup; stack = take (f .base) (v .stack); frames = fs; chain = rs; cores = k }) ⊎ L (record { setup = v .setup; stack = take (f .base) (v .stack); frames = fs; chain = rs; cores = k })
   fail-cases v f fs a rs k p q r e u = go (body-ext c d bs bf bc f fs a rs (subst (λ x. Ext c d bf bc (length bs) x (a ∷ rs)) p (subst (λ x. Ext c d bf bc (length bs) (v .frames) x) r (u .over .ext))) q)
     where
       z : View
-      z = record { stack = take (f .base) (v .stack); frames = fs; chain = rs; cores = k }
+      z = record { setup = v .setup; stack = take (f .base) (v .stack); frames = fs; chain = rs; cores = k }
 
       go : BodyFate c d bs bf bc f fs a rs → U z ⊎ L z
       go (b-left x y s t b) = inr (record { failed = ended c d bs bf bc e x (u .runs); gone = subst (Apart c) (sym s) away })
@@ -150,7 +150,7 @@ module _ (c : ℕ) (d : Driver) (bs : List ℕ) (bf : List Frame) (bc : List Act
             runs = ap (λ y. isRunning (y .state)) (e .others c (λ y. m (sym y))) ∙ u .runs;
           })
 
-  pub worked-under : {v z : View} → Worked v z → U v → U z ⊎ L z
+  pub worked-under : {b : Bool} {v z : View} → Worked b v z → U v → U z ⊎ L z
   worked-under done u = inl u
   worked-under (quiet k q t) u = worked-under t (record { over = u .over; runs = kept-runs c d bs bf bc (q c) (u .runs) })
   worked-under (tops {v} g e t) u = worked-under t (record { over = over-top c d bs bf bc g e (mem (v .stack) (v .frames)) (u .over); runs = u .runs })
@@ -159,10 +159,10 @@ module _ (c : ℕ) (d : Driver) (bs : List ℕ) (bf : List Frame) (bc : List Act
   worked-under (pops {v} f fs p q t) u =
       let x = pop-ext c d bs bf bc f fs (v .chain) (subst (λ x. Ext c d bf bc (length bs) x (v .chain)) p (u .over .ext)) q in
       worked-under t (record { over = record { ext = x .1; words = cut-words c d bs bf bc (f .base) (v .stack) (x .0) (u .over .words) }; runs = u .runs })
-  worked-under {z = z} (fails {v} f fs a rs k p q r e t) u = go (worked-under t) (fail-cases v f fs a rs k p q r e u)
+  worked-under {z = z} (fails {v} f fs a rs k y p q r e t) u = go (worked-under t) (fail-cases v f fs a rs k p q r e u)
     where
       n : View
-      n = record { stack = take (f .base) (v .stack); frames = fs; chain = rs; cores = k }
+      n = record { setup = v .setup; stack = take (f .base) (v .stack); frames = fs; chain = rs; cores = k }
 
       go : (U n → U z ⊎ L z) → U n ⊎ L n → U z ⊎ L z
       go g (inl x) = g x
@@ -181,7 +181,7 @@ module _ (c : ℕ) (d : Driver) (bs : List ℕ) (bf : List Frame) (bc : List Act
   mem-path : {s t : List ℕ} {fs gs : List Frame} → s ≡ t → fs ≡ gs → mem s fs ≡ mem t gs
   mem-path p q = λ i. mem (p i) (q i)
 
-  fate-enter : (w : World) (o : Op) (p u : ℕ) (e : Driver) (sent : Opt) (z : World) → Lift (coreAt w u .frames) → Enter w p u e sent z → U (view w) → U (view z)
+  fate-enter : (w : World) (o : Op) (p u : ℕ) (e : Driver) (sent : Sent) (z : World) → Lift (coreAt w u .frames) → Enter w p u e sent z → U (view w) → U (view z)
   fate-enter w o p u e sent z l t h = go (ℕ-discrete c u)
     where
       fs : List Frame
@@ -245,7 +245,7 @@ module _ (c : ℕ) (d : Driver) (bs : List ℕ) (bf : List Frame) (bc : List Act
   fate-return w o v x f fs a rs z y t (inr h) = lost (ap (λ k. k .state) (t .ends .others c (subst (Apart c) (t .inmost) (h .gone) .0)) ∙ h .failed)
 
   pub fate : {w z : World} {o : Op} → Shape w o z → ((u : ℕ) → isResumable (coreAt w u .state) ≡ true → isNil (coreAt w u .frames) ≡ false → Lift (coreAt w u .frames)) → U (view w) → Fate w o z
-  fate {w} {z} {o} (works e t) l h = go (worked-under t h)
+  fate {w} {z} {o} (works e b n t) l h = go (worked-under t h)
     where
       go : U (view z) ⊎ L (view z) → Fate w o z
       go (inl x) = goes x
@@ -253,7 +253,7 @@ module _ (c : ℕ) (d : Driver) (bs : List ℕ) (bf : List Frame) (bc : List Act
   fate {w} {z} {o} (enters u e sent q t) l h = goes (fate-enter w o (pcBy (act w o)) u e sent z (l u (t .ready) (t .solid)) t h)
   fate {w} {z} {o} (suspended p ok s dst x a rs e q t) l h = fate-suspend w o p ok s dst x a rs z q t h
   fate {w} {z} {o} (returns v x f fs a rs e en q t u) l h = fate-return w o v x f fs a rs z q u (worked-under t h)
-  fate {w} {z} {o} (stops e t) l h = go (t .each c)
+  fate {w} {z} {o} (stops e i t) l h = go (t .each c)
     where
       go : (Apart c (w .chain) × (coreAt z c ≡ coreAt w c)) ⊎ ((coreAt z c .state ≡ CoroState.Failed) ⊎ ((isCreated (coreAt w c .state) ≡ true) × (coreAt z c ≡ coreAt w c))) → Fate w o z
       go (inl x) = ext-in (h .over .ext) (x .0)
@@ -261,10 +261,15 @@ module _ (c : ℕ) (d : Driver) (bs : List ℕ) (bf : List Frame) (bc : List Act
       go (inr (inr x)) = no-both (x .0) (run-born (coreAt w c .state) (h .runs))
 
 -- an entry puts c over what the call found
-pub landed : (w : World) (p c : ℕ) (d : Driver) (sent : Opt) (z : World) → Lift (coreAt w c .frames) → Enter w p c d sent z → Under c d (w .stack) (onTop (setPc p) (w .frames)) (w .chain) (view z)
+pub landed : (w : World) (p c : ℕ) (d : Driver) (sent : Sent) (z : World) → Lift (coreAt w c .frames) → Enter w p c d sent z → Under c d (w .stack) (onTop (setPc p) (w .frames)) (w .chain) (view z)
 landed w p c d sent z l t =
     record {
-      over = record { ext = subst (λ x. E x (z .chain)) (sym (t .frames)) (subst (λ x. E (map (raise (length (w .stack))) (framesWith sent (coreAt w c)) ++ fs) x) (sym (t .chain ∙ ap (λ n. active c n d ∷ w .chain) (count (w .frames)))) (join (lift-with sent (coreAt w c) l))); words = ap (take (length (w .stack))) (t .stack) ∙ take-append-seam (w .stack) (wordsWith sent (coreAt w c)) };
+      over = record {
+        ext = subst (λ x. E x (z .chain)) (sym (t .frames))
+            (subst (λ x. E (map (raise (length (w .stack))) (framesWith sent (coreAt w c)) ++ fs) x) (sym (t .chain ∙ ap (λ n. active c n d ∷ w .chain) (count (w .frames)))) (join (lift-with sent (coreAt w c) l)));
+        words = ap
+            (take (length (w .stack))) (t .stack) ∙ take-append-seam (w .stack) (wordsWith sent (coreAt w c));
+      };
       runs = t .mine;
     }
   where

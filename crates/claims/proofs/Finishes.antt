@@ -1,5 +1,5 @@
 -- finish: who returns by it, what is recorded as its result, and the number that it answers.
-use Prim.Native.Nat.{ℕ}
+use Prim.Native.Nat.{ℕ, _%_, _^_}
 use native.Mathlib.Omega.{arith}
 use native.Mathlib.Decide.{ℕ-discrete}
 use mathlib.Core.Path.{_≡_, refl, sym, ap, _∙_, subst}
@@ -8,12 +8,15 @@ use mathlib.Core.Bool.{Bool, true, false, not}
 use mathlib.Core.List.{List, [], _∷_}
 use mathlib.Core.Option.{Option, none, some}
 use lib.Dec.{eqb}
+use borrow.Author.Tests.{eqb-true, eq-eqb}
 use Rattle.lists.specs.Pick.{pick}
-use Rattle.heap.specs.Word.{slotOf}
-use Rattle.heap.specs.Coding.{ofBits}
+use Rattle.heap.specs.Word.{nil, slotOf, topOf}
+use Rattle.heap.specs.Coding.{bitsOf, ofBits}
 use Rattle.heap.specs.Fault as Faults
 use Rattle.heap.specs.Int.{inlineOf, exactly, valueOf}
-use Rattle.heap.specs.Table.{Slot, putObject, pushObject, nextWord}
+use Rattle.heap.specs.Table.{Slot, get, dynIntAt, dynIntBy, dynIntOf, putObject, pushObject, nextWord}
+use Rattle.heap.specs.declared.value.Class.{Class}
+use Rattle.heap.specs.declared.heap.Place.{Place}
 use Rattle.heap.specs.Charge.{satAdd}
 use Rattle.heap.specs.declared.fault.Fault.{Fault}
 use Rattle.heap.specs.declared.value.Opt.{Opt}
@@ -26,7 +29,7 @@ use Rattle.model.specs.State.{isRunning}
 use Rattle.model.specs.Object.{Core, Rest, Object, Coroutine, Absent, Is, isFilled, asCoro}
 use Rattle.model.specs.World.{World, After, after, withChain, withUsed, withSlots}
 use Rattle.model.specs.Frames.{isCoro, nextPc, popTo, putReg}
-use Rattle.model.specs.Heap.{object, coro, changeAs, changeIterIn, fits, slotsFull, refuse, alloc, encodeAt, encodeInt, encodeExact, toDyn}
+use Rattle.model.specs.Heap.{objectAt, object, coro, intIn, dynInt, changeAs, changeCoro, changeIterIn, fits, slotsFull, refuse, alloc, encodeAt, encodeInt, encodeExact, toDyn}
 use Rattle.model.specs.Coro.{inState, ended, finishCoroutine, deliverReturn, returnedOn, coroReturned}
 use Rattle.model.specs.Machine.{resultOf, orNil, writeResult, writeMade, applyCont, isOk, resumeIn, returnMade, finishAs, finishOn, finish}
 use Rattle.model.specs.Answer.{numberOf}
@@ -39,7 +42,7 @@ use Rattle.model.specs.declared.call.Answer.{Answer}
 use Rattle.claims.specs.Delivery.{recorded}
 use Rattle.claims.specs.Steps.{seenOf}
 use Rattle.claims.proofs.Held.{coreIn, coreAt}
-use Rattle.claims.proofs.Cores.{no-both, coroIn, objectIn, Named, named, put-here, put-away, set-mine}
+use Rattle.claims.proofs.Cores.{no-both, coroIn, objectIn, Named, named, named-coro, put-here, put-away, set-mine}
 use Rattle.claims.proofs.Shape.{view, Ends, Return}
 use Rattle.claims.proofs.Quiet.{dyn-same}
 use Rattle.claims.proofs.Endings.{return-done}
@@ -74,6 +77,77 @@ return-records d x c w h = ap (λ y. recorded (seenOf y)) (return-coros d x (fin
     go : (y : Coroutine) → coro w c ≡ y → recorded (seenOf (coro (changeAs y c (inState CoroState.Returned) (ended x) w) c)) ≡ x
     go Absent e = no-both h (ap (λ y. isRunning (coreIn y .state)) e)
     go (Is k r) e = ap (λ y. recorded (seenOf y)) (set-mine (w .slots) c e (inState CoroState.Returned k) (ended x r))
+
+-- ---- integers stay what they are: only coroutines and iterators change
+
+at-object : (xs : List (Slot Object)) (p : Place) → dynIntAt Object.Empty isFilled intIn xs p ≡ intIn (objectAt xs p)
+at-object xs Place.Nothing = refl
+at-object xs (Place.At i) = refl
+
+abbrev pub dynIn : List (Slot Object) → ℕ → Opt
+dynIn xs v = dynIntOf Object.Empty isFilled intIn xs v
+
+abbrev byTests : List (Slot Object) → ℕ → Bool → Bool → Bool → Opt
+byTests xs v a b c = dynIntBy Object.Empty isFilled intIn xs (pick a Class.Nil (pick b (Class.Ref (record { 0 = v })) (pick c (Class.Int (bitsOf 63 (ofBits 47 (v % 2 ^ 48)))) Class.Opaque)))
+
+dyn-alike : (xs ys : List (Slot Object)) (v : ℕ) → objectIn ys v ≡ objectIn xs v → dynIn ys v ≡ dynIn xs v
+unfolding pick
+dyn-alike xs ys v h = go (eqb v nil) (eqb (topOf v) 1) (eqb (topOf v) 0xFFFE)
+  where
+    go : (a b c : Bool) → byTests ys v a b c ≡ byTests xs v a b c
+    go true b c = refl
+    go false true c = at-object ys (get Object.Empty isFilled ys v) ∙ ap intIn h ∙ sym (at-object xs (get Object.Empty isFilled xs v))
+    go false false true = refl
+    go false false false = refl
+
+-- a reference stands for what its object holds
+pub dyn-object : (xs : List (Slot Object)) (v : ℕ) → topOf v ≡ 1 → dynIn xs v ≡ intIn (objectIn xs v)
+unfolding pick
+dyn-object xs v t = go (eqb v nil) (eqb (topOf v) 1) (eqb (topOf v) 0xFFFE) refl (eq-eqb (topOf v) 1 t)
+  where
+    go : (a b c : Bool) → eqb v nil ≡ a → b ≡ true → byTests xs v a b c ≡ intIn (objectIn xs v)
+    go true b c e f = let q : v ≡ 0 = eqb-true v nil e in absurd (omega (arith, q, t))
+    go false true c e f = at-object xs (get Object.Empty isFilled xs v)
+    go false false c e f = no-both f refl
+
+put-ints : (xs : List (Slot Object)) (c : ℕ) (o : Object) → Named xs c → intIn (objectIn xs c) ≡ Opt.None → (v n : ℕ) → dynIn xs v ≡ Opt.Some n → dynIn (putObject Object.Empty xs (slotOf c) o) v ≡ Opt.Some n
+put-ints xs c o m k v n h = go (ℕ-discrete v c)
+  where
+    clash : {A : Type 0} → dynIn xs c ≡ Opt.Some n → dynIn xs c ≡ Opt.None → A
+    clash p q = let z : _≡_ {A = ℕ} 0 1 = cc in absurd (omega arith)
+
+    go : Dec (v ≡ c) → dynIn (putObject Object.Empty xs (slotOf c) o) v ≡ Opt.Some n
+    go (yes q) = clash (ap (dynIn xs) (sym q) ∙ h) (dyn-object xs c (m .top) ∙ k)
+    go (no q) = dyn-alike xs (putObject Object.Empty xs (slotOf c) o) v (put-away xs c o v m q) ∙ h
+
+coro-int : (o : Object) {k : Core} {r : Rest} → asCoro o ≡ Is k r → intIn o ≡ Opt.None
+coro-int Object.Empty e = refl
+coro-int (Object.Func f) e = refl
+coro-int (Object.Int n) e = let z : _≡_ {A = ℕ} 0 1 = cc in absurd (omega arith)
+coro-int (Object.Iter s d k) e = refl
+coro-int (Object.Error n f p v) e = refl
+coro-int (Object.Coro k r) e = refl
+
+change-ints : (w : World) (c : ℕ) (f : Core → Core) (g : Rest → Rest) (v n : ℕ) → dynInt w v ≡ Opt.Some n → dynInt (changeCoro c f g w) v ≡ Opt.Some n
+change-ints w c f g v n h = go (coro w c) refl
+  where
+    go : (y : Coroutine) → coro w c ≡ y → dynInt (changeAs y c f g w) v ≡ Opt.Some n
+    go Absent e = h
+    go (Is k r) e = put-ints (w .slots) c (Object.Coro (f k) (g r)) (named-coro (w .slots) c e) (coro-int (object w c) e) v n h
+
+return-ints : (d : Driver) (x : ℕ) (w : World) (v n : ℕ) → dynInt w v ≡ Opt.Some n → dynInt (deliverReturn d x w) v ≡ Opt.Some n
+return-ints (Driver.Resume dst) x w v n h = h
+return-ints (Driver.Iter has val iter) x w v n h = go (object w iter) refl
+  where
+    go : (o : Object) → object w iter ≡ o → dynInt (changeIterIn o iter (λ _. true) (λ k. k) w) v ≡ Opt.Some n
+    go Object.Empty e = h
+    go (Object.Func i) e = h
+    go (Object.Int i) e = h
+    go (Object.Iter s d k) e = put-ints (w .slots) iter (Object.Iter s true k) (named (w .slots) iter (ap isFilled e)) (ap intIn e) v n h
+    go (Object.Error i f p y) e = h
+    go (Object.Coro k r) e = h
+return-ints Driver.Host x w v n h = h
+return-ints Driver.Finalize x w v n h = h
 
 -- ---- what does not convert is refused with 7, 9 or 14: by a test that fails there
 
@@ -132,7 +206,8 @@ pub data FinishCase (kind : ResultKind) (x : ℕ) (w : World) (o : After Answer)
   -- nobody returns: no body is on top, or none is active, or it is refused
   f-other : ((c : ℕ) → coro (o .world) c ≡ coro w c) → (bodyOn (w .frames) ≡ false) ⊎ ((w .chain ≡ []) ⊎ Unmade kind x w o) → FinishCase kind x w o
   f-returns : (f : Frame) (fs : List Frame) (a : Active) (chain : List Active) (y : ℕ) → w .frames ≡ f ∷ fs → isCoro (f .cont) ≡ true → w .chain ≡ a ∷ chain → toDyn kind x w .answer ≡ Made.Word y → numberOf (o .answer) ≡ 0
-      → Ends CoroState.Returned (a .coro) (coreAt w) (coreAt (o .world)) → (isRunning (coreAt w (a .coro) .state) ≡ true → recorded (seenOf (coro (o .world) (a .coro))) ≡ y) → FinishCase kind x w o
+      → Ends CoroState.Returned (a .coro) (coreAt w) (coreAt (o .world)) → (isRunning (coreAt w (a .coro) .state) ≡ true → recorded (seenOf (coro (o .world) (a .coro))) ≡ y)
+      → ((v n : ℕ) → dynInt (toDyn kind x w .world) v ≡ Opt.Some n → dynInt (o .world) v ≡ Opt.Some n) → FinishCase kind x w o
 
 pub finish-case : (kind : ResultKind) (x : ℕ) (w : World) → FinishCase kind x w (finish kind x w)
 unfolding finish applyCont coroReturned pick
@@ -165,7 +240,7 @@ finish-case kind x w = go (w .frames) refl
 
         chained : (cs : List Active) → u .chain ≡ cs → FinishCase kind x w (after (coroReturned y (popTo f fs u)) Answer.Resume)
         chained [] r = f-other (λ c. ap (λ cs. coro (returnedOn cs y (popTo f fs u)) c) r ∙ dyn-same kind x w .coros c) (inr (inl (sym (dyn-same kind x w .chain) ∙ r)))
-        chained (a ∷ chain) r = f-returns f fs a chain y p q (sym (dyn-same kind x w .chain) ∙ r) e refl ends tells
+        chained (a ∷ chain) r = f-returns f fs a chain y p q (sym (dyn-same kind x w .chain) ∙ r) e refl ends tells ints
           where
             z : World
             z = deliverReturn (a .driver) y (finishCoroutine (a .coro) CoroState.Returned y (withChain chain (popTo f fs u)))
@@ -175,6 +250,9 @@ finish-case kind x w = go (w .frames) refl
 
             ends : Ends CoroState.Returned (a .coro) (coreAt w) (coreAt (returnedOn (u .chain) y (popTo f fs u)))
             ends = subst (λ t. Ends CoroState.Returned (a .coro) (coreAt w) (coreAt t)) (sym same) (subst (λ k. Ends CoroState.Returned (a .coro) k (coreAt z)) (λ i c. coreIn (dyn-same kind x w .coros c i)) (return-done y f fs u a chain (dyn-same kind x w .frames ∙ p) q r .ends))
+
+            ints : (v n : ℕ) → dynInt u v ≡ Opt.Some n → dynInt (returnedOn (u .chain) y (popTo f fs u)) v ≡ Opt.Some n
+            ints v n h = ap (λ t. dynInt t v) same ∙ return-ints (a .driver) y (finishCoroutine (a .coro) CoroState.Returned y (withChain chain (popTo f fs u))) v n (change-ints (withChain chain (popTo f fs u)) (a .coro) (inState CoroState.Returned) (ended y) v n h)
 
             tells : isRunning (coreAt w (a .coro) .state) ≡ true → recorded (seenOf (coro (returnedOn (u .chain) y (popTo f fs u)) (a .coro))) ≡ y
             tells h = ap (λ t. recorded (seenOf (coro t (a .coro)))) same ∙ return-records (a .driver) y (a .coro) (withChain chain (popTo f fs u)) (ap (λ k. isRunning (coreIn k .state)) (dyn-same kind x w .coros (a .coro)) ∙ h)

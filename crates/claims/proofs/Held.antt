@@ -2,15 +2,15 @@
 use Prim.Native.Nat.{ℕ, _+_}
 use mathlib.Core.Bool.{Bool, false, not, _&&_}
 use mathlib.Core.List.{List, [], _∷_, map}
+use mathlib.Core.Option.{Option, none, some}
 use lib.ListN.{drop, set}
 use lib.Dec.{eqb}
 use Rattle.lists.specs.Pick.{pick}
 use Rattle.heap.specs.Word.{nil}
-use Rattle.heap.specs.declared.value.Opt.{Opt}
 use Rattle.heap.specs.declared.object.CoroState.{CoroState}
 use Rattle.model.specs.Lists.{isNil}
 use Rattle.model.specs.State.{isAwaiting}
-use Rattle.model.specs.Object.{Core, Coroutine, Absent, Is}
+use Rattle.model.specs.Object.{Core, Rest, Coroutine, Absent, Is}
 use Rattle.model.specs.World.{World}
 use Rattle.model.specs.Frames.{isCoro, onTop, setPc, stepPc, lower, above, baseAt, topBase, putAt}
 use Rattle.model.specs.Heap.{coro, toDyn}
@@ -20,14 +20,29 @@ use Rattle.model.specs.declared.machine.Driver.{Driver}
 use Rattle.model.specs.declared.machine.Active.{Active}
 use Rattle.model.specs.declared.machine.Frame.{Frame}
 use Rattle.model.specs.declared.coro.Made.{Made}
+use Rattle.claims.specs.Says.{Sent, nothing, gets, closes}
 use Rattle.claims.proofs.Entry.{enters, suspends, neither, Act, at, byHost, finishes, unwinds, other, act, pcOf}
 
--- the core of the coroutine that a word names; a word that names none counts as one not begun
-abbrev pub coreIn : Coroutine → Core
-coreIn Absent = record { state = CoroState.Created; regs = []; frames = []; waiting = 0 }
-coreIn (Is k r) = k
+-- the core of the coroutine that a word names, and by which word it is being closed; a word that names none counts as one not begun
+pub record Seat : Type 0 where
+  pub state : CoroState
+  pub regs : List ℕ
+  pub frames : List Frame
+  pub waiting : ℕ
+  -- the word by which it is being closed, if it is
+  pub closing : Option ℕ
 
-abbrev pub coreAt : World → ℕ → Core
+abbrev pub closingOf : Rest → Option ℕ
+closingOf r = pick (r .closing) (some (r .signal)) none
+
+abbrev pub seat : Core → Rest → Seat
+seat k r = record { state = k .state; regs = k .regs; frames = k .frames; waiting = k .waiting; closing = closingOf r }
+
+abbrev pub coreIn : Coroutine → Seat
+coreIn Absent = record { state = CoroState.Created; regs = []; frames = []; waiting = 0; closing = none }
+coreIn (Is k r) = seat k r
+
+abbrev pub coreAt : World → ℕ → Seat
 coreAt w c = coreIn (coro w c)
 
 -- ---- asleep
@@ -37,14 +52,15 @@ abbrev pub floorOf : List Active → ℕ → ℕ
 floorOf [] c = 0
 floorOf (a ∷ chain) c = pick (eqb (a .coro) c) (a .floor) (floorOf chain c)
 
-abbrev pub heldAs : CoroState → ℕ → ℕ → ℕ → List Frame → List ℕ → Core
-heldAs state dst floor base frames stack = record { state = state; regs = drop base stack; frames = map (lower base) (above floor frames); waiting = dst }
+-- m closes it, before; a yield ends that
+abbrev pub heldAs : Option ℕ → CoroState → ℕ → ℕ → ℕ → List Frame → List ℕ → Seat
+heldAs m state dst floor base frames stack = record { state = state; regs = drop base stack; frames = map (lower base) (above floor frames); waiting = dst; closing = pick (isAwaiting state) m none }
 
-abbrev pub sleptBy : Act → World → ℕ → Core
+abbrev pub sleptBy : Act → World → ℕ → Seat
 sleptBy (at pc ok (suspends state dst v)) w c =
     let floor = floorOf (w .chain) c in
     let frames = onTop (setPc pc) (w .frames) in
-    heldAs state dst floor (baseAt floor frames) frames (w .stack)
+    heldAs (coreAt w c .closing) state dst floor (baseAt floor frames) frames (w .stack)
 sleptBy (at pc ok (enters v d x may)) w c = coreAt w c
 sleptBy (at pc ok neither) w c = coreAt w c
 sleptBy (byHost v x) w c = coreAt w c
@@ -53,7 +69,7 @@ sleptBy unwinds w c = coreAt w c
 sleptBy other w c = coreAt w c
 
 -- what the suspending call k found of c: its frames with bases from 0, the top one at k's pc, its words, and k's register
-abbrev pub slept : World → Call → ℕ → Core
+abbrev pub slept : World → Call → ℕ → Seat
 slept w (SetUp s) c = coreAt w c
 slept w (Do o) c = sleptBy (act w (o .op)) w c
 
@@ -65,13 +81,15 @@ isBody (f ∷ fs) = pick (isNil fs) (isCoro (f .cont) && eqb (f .base) 0) (not (
 -- ---- awake
 
 -- 01: "A suspended coroutine then gets the sent word in its waiting register, and its pc steps by 1, wrapping at 2^32"
-abbrev pub wordsWith : Opt → Core → List ℕ
-wordsWith Opt.None s = s .regs
-wordsWith (Opt.Some v) s = set (s .regs) (topBase (s .frames) + s .waiting) v
+abbrev pub wordsWith : Sent → Seat → List ℕ
+wordsWith nothing s = s .regs
+wordsWith (gets v) s = set (s .regs) (topBase (s .frames) + s .waiting) v
+wordsWith (closes v) s = s .regs
 
-abbrev pub framesWith : Opt → Core → List Frame
-framesWith Opt.None s = s .frames
-framesWith (Opt.Some v) s = onTop stepPc (s .frames)
+abbrev pub framesWith : Sent → Seat → List Frame
+framesWith nothing s = s .frames
+framesWith (gets v) s = onTop stepPc (s .frames)
+framesWith (closes v) s = s .frames
 
 -- the frames of the world w from which the call k is made, with k's pc
 abbrev pub calling : World → Call → List Frame

@@ -7,7 +7,6 @@ use lib.ListN.{length, take}
 use Rattle.lists.specs.Pick.{pick}
 use Rattle.heap.specs.Table.{Slot}
 use Rattle.heap.specs.declared.fault.Fault.{Fault}
-use Rattle.heap.specs.declared.value.Opt.{Opt}
 use Rattle.heap.specs.declared.object.CoroState.{CoroState}
 use Rattle.model.specs.Lists.{isNil}
 use Rattle.model.specs.State.{isResumable}
@@ -27,6 +26,8 @@ use Rattle.model.specs.declared.machine.Charge.{Charge}
 use Rattle.model.specs.declared.exec.Step.{Step}
 use Rattle.model.specs.declared.call.OptPc.{OptPc}
 use Rattle.model.specs.declared.call.Op.{Op}
+use Rattle.claims.specs.Says.{Sent}
+use Rattle.claims.specs.Held.{closedBy}
 use Rattle.claims.proofs.Entry.{Aim, enters, suspends, neither, at, act, Entry, nobody, entry, accepts, sentTo, aimed, charged, entryBy, pcBy}
 use Rattle.claims.proofs.Suspension.{suspendsIn, paidBy, takesBy}
 use Rattle.claims.proofs.Held.{coreIn, coreAt, wordsWith, framesWith, heldAs, eventAs, mem, deliverTo}
@@ -46,7 +47,7 @@ pub record Alike (p : ℕ) (w v : World) : Type 0 where
   pub base : topBase (v .frames) ≡ topBase (w .frames)
   pub chain : v .chain ≡ w .chain
   pub slots : v .slots ≡ w .slots
-  pub works : (z : View) → Worked (view v) z → Worked (view w) z
+  pub works : (z : View) → Worked false (view v) z → Worked false (view w) z
 
 base-top : (p : ℕ) (fs : List Frame) → topBase (onTop (setPc p) fs) ≡ topBase fs
 base-top p [] = refl
@@ -66,7 +67,7 @@ alike {p} {w} {v} (r-same a b c d e) =
       base = ap topBase c;
       chain = d;
       slots = e;
-      works = λ z t. subst (λ x. Worked x z) (λ i. record { stack = b i; frames = c i; chain = d i; cores = λ x. coreIn (coroIn (e i) x) }) t;
+      works = λ z t. subst (λ x. Worked false x z) (λ i. record { setup = a i; stack = b i; frames = c i; chain = d i; cores = λ x. coreIn (coroIn (e i) x) }) t;
     }
 alike {p} {w} {v} (r-stored s) =
     record {
@@ -77,7 +78,7 @@ alike {p} {w} {v} (r-stored s) =
       base = ap topBase (s .frames) ∙ base-top p (w .frames);
       chain = s .chain;
       slots = s .slots;
-      works = λ z t. tops (setPc p) (keeps-pc p) (subst (λ x. Worked x z) (λ i. record { stack = s .stack i; frames = s .frames i; chain = s .chain i; cores = λ x. coreIn (coroIn (s .slots i) x) }) t);
+      works = λ z t. tops (setPc p) (keeps-pc p) (subst (λ x. Worked false x z) (λ i. record { setup = s .setup i; stack = s .stack i; frames = s .frames i; chain = s .chain i; cores = λ x. coreIn (coroIn (s .slots i) x) }) t);
     }
 
 module _ {p : ℕ} {w v : World} (a : Alike p w v) where
@@ -95,24 +96,27 @@ module _ {p : ℕ} {w v : World} (a : Alike p w v) where
   aimed-alike (suspends s dst x) = refl
   aimed-alike neither = refl
 
-  pub enter-alike : {c : ℕ} {d : Driver} {sent : Opt} {z : World} → Enter v p c d sent z → Enter w p c d sent z
+  pub enter-alike : {c : ℕ} {d : Driver} {sent : Sent} {z : World} → Enter v p c d sent z → Enter w p c d sent z
   enter-alike {c} {d} {sent} {z} t =
       record {
+        setup = t .setup ∙ a .setup;
         ready = ap (λ x. isResumable (x .state)) (sym (core-alike c)) ∙ t .ready;
         solid = ap (λ x. isNil (x .frames)) (sym (core-alike c)) ∙ t .solid;
         stack = t .stack ∙ (λ i. a .stack i ++ wordsWith sent (core-alike c i));
         frames = t .frames ∙ (λ i. map (raise (length (a .stack i))) (framesWith sent (core-alike c i)) ++ a .tops i);
         chain = t .chain ∙ (λ i. active c (a .count i) d ∷ a .chain i);
         mine = t .mine;
+        closing = t .closing ∙ ap (λ x. closedBy sent (x .closing)) (core-alike c);
         others = λ u n. t .others u n ∙ core-alike u;
       }
 
   pub suspend-alike : {s : CoroState} {dst x : ℕ} {b : Active} {rs : List Active} {z : World} → Suspend v p s dst x b rs z → Suspend w p s dst x b rs z
   suspend-alike {s} {dst} {x} {b} {rs} {z} t =
       record {
+        setup = t .setup ∙ a .setup;
         inmost = sym (a .chain) ∙ t .inmost;
         asleep = t .asleep;
-        mine = t .mine ∙ (λ i. heldAs s dst (b .floor) (baseAt (b .floor) (a .tops i)) (a .tops i) (a .stack i));
+        mine = t .mine ∙ (λ i. heldAs (core-alike (b .coro) i .closing) s dst (b .floor) (baseAt (b .floor) (a .tops i)) (a .tops i) (a .stack i));
         others = λ u n. subst (λ k. Kept k (coreAt z u)) (core-alike u) (t .others u n);
         under = t .under ∙ (λ i. deliverTo (b .driver) (eventAs (marked (λ r. r .closing) (coro-alike (b .coro) i)) s x) (mem (take (baseAt (b .floor) (a .tops i)) (a .stack i)) (below (b .floor) (a .tops i))));
         outer = t .outer;
@@ -122,8 +126,8 @@ module _ {p : ℕ} {w v : World} (a : Alike p w v) where
 
 -- t: whether coro_suspend accepts in it
 pub data Arm (v : World) (p : ℕ) (x : Aim) (t : Bool) (z : World) : Type 0 where
-  a-works : t ≡ false → aimed x v ≡ nobody → Worked (view v) (view z) → Arm v p x t z
-  a-enters : t ≡ false → (c : ℕ) (d : Driver) (sent : Opt) → aimed x v ≡ entry c d sent → Enter v p c d sent z → Arm v p x t z
+  a-works : t ≡ false → aimed x v ≡ nobody → Worked false (view v) (view z) → Arm v p x t z
+  a-enters : t ≡ false → (c : ℕ) (d : Driver) (sent : Sent) → aimed x v ≡ entry c d sent → Enter v p c d sent z → Arm v p x t z
   a-suspends : t ≡ true → (s : CoroState) (dst y : ℕ) (a : Active) (chain : List Active) → x ≡ suspends s dst y → Suspend v p s dst y a chain z → Arm v p x t z
 
 -- F: what the instruction is after, read off the top base, the stack and the slots
@@ -147,14 +151,17 @@ instr-shape w o p ok F arm e owes = gate (isNil (w .frames)) ok refl refl
     at-pc : pcBy (act w o) ≡ p
     at-pc = ap pcBy e
 
-    entering : {c : ℕ} {d : Driver} {sent : Opt} {z : World} → S.Says w o (entry c d sent) false → Enter w p c d sent z → Shape w o z
+    ending : S.isEnding (act w o) ≡ false
+    ending = ap S.isEnding e
+
+    entering : {c : ℕ} {d : Driver} {sent : Sent} {z : World} → S.Says w o (entry c d sent) false → Enter w p c d sent z → Shape w o z
     entering {c} {d} {sent} {z} q t = S.enters c d sent q (subst (λ x. Enter w x c d sent z) (sym at-pc) t)
 
     aims : {v : World} → Alike p w v → entryBy (act w o) w ≡ aimed (aim w) w → {y : Entry} → aimed (aim v) v ≡ y → entryBy (act w o) w ≡ y
     aims {v} a q x = q ∙ sym (aimed-alike a (aim w)) ∙ ap (λ y. aimed y v) (sym (aim-same a)) ∙ x
 
     armed : {v : World} (z : World) → Alike p w v → entryBy (act w o) w ≡ aimed (aim w) w → takesBy (act w o) (suspendsIn o) w ≡ suspendsIn o v → Arm v p (aim v) (suspendsIn o v) z → Shape w o z
-    armed {v} z a q h (a-works b x t) = S.works (record { entry = aims a q x; takes = h ∙ b }) (a .works (view z) t)
+    armed {v} z a q h (a-works b x t) = S.works (record { entry = aims a q x; takes = h ∙ b }) false ending (a .works (view z) t)
     armed {v} z a q h (a-enters b c d sent x t) = entering (record { entry = aims a q x; takes = h ∙ b }) (enter-alike a t)
     armed {v} z a q h (a-suspends b s dst y n chain x t) =
         let k : aim w ≡ suspends s dst y = sym (aim-same a) ∙ x in
@@ -162,11 +169,20 @@ instr-shape w o p ok F arm e owes = gate (isNil (w .frames)) ok refl refl
 
     paid : (ch : After Charge) → entryBy (act w o) w ≡ charged (ch .answer) w (aimed (aim w) w) → takesBy (act w o) (suspendsIn o) w ≡ paidBy (suspendsIn o) (ch .world) (ch .answer) → ChargeCase p w ch → Shape w o (Gate.charged arm (ch .world) (ch .answer) .world)
     paid ch q h (c-done n v r) = armed (arm v .world) (alike r) q h (owes v)
-    paid ch q h (c-spent v r) = S.works (record { entry = q; takes = h }) (alike r .works (view v) done)
+    paid ch q h (c-spent v r) = S.works (record { entry = q; takes = h }) false ending (alike r .works (view v) done)
     paid ch q h (c-close n c z x t) = entering (record { entry = q ∙ x; takes = h }) t
 
     gate : (a b : Bool) → isNil (w .frames) ≡ a → ok ≡ b → Shape w o (pick a (refused w Fault.NoFrame) (pick (not b) (refused w Fault.BadOperand) (andThen (charge (OptPc.Some p) w) (Gate.charged arm))) .world)
-    gate true b x y = S.works (record { entry = by ∙ ap (λ t. pick t nobody (pick (not ok) nobody (charged (charge (OptPc.Some p) w .answer) w (aimed (aim w) w)))) x; takes = held ∙ ap (λ t. pick t false (pick (not ok) false (paidBy (suspendsIn o) (charge (OptPc.Some p) w .world) (charge (OptPc.Some p) w .answer)))) x }) done
-    gate false false x y = S.works (record { entry = by ∙ (λ i. pick (x i) nobody (pick (not (y i)) nobody (charged (charge (OptPc.Some p) w .answer) w (aimed (aim w) w)))); takes = held ∙ (λ i. pick (x i) false (pick (not (y i)) false (paidBy (suspendsIn o) (charge (OptPc.Some p) w .world) (charge (OptPc.Some p) w .answer)))) }) done
+    gate true b x y = S.works (record {
+      entry = by ∙ ap (λ t. pick t nobody (pick (not ok) nobody (charged (charge (OptPc.Some p) w .answer) w (aimed (aim w) w)))) x;
+      takes = held ∙ ap
+          (λ t. pick t false (pick (not ok) false (paidBy (suspendsIn o) (charge (OptPc.Some p) w .world) (charge (OptPc.Some p) w .answer)))) x;
+    }) false ending done
+    gate false false x y = S.works (record {
+      entry = by ∙ (λ i. pick (x i) nobody (pick (not (y i)) nobody (charged (charge (OptPc.Some p) w .answer) w (aimed (aim w) w))));
+      takes = held ∙
+          (λ i. pick (x i) false (pick (not (y i)) false (paidBy (suspendsIn o) (charge (OptPc.Some p) w .world) (charge (OptPc.Some p) w .answer))));
+    }) false ending done
     gate false true x y =
-        paid (charge (OptPc.Some p) w) (by ∙ (λ i. pick (x i) nobody (pick (not (y i)) nobody (charged (charge (OptPc.Some p) w .answer) w (aimed (aim w) w))))) (held ∙ (λ i. pick (x i) false (pick (not (y i)) false (paidBy (suspendsIn o) (charge (OptPc.Some p) w .world) (charge (OptPc.Some p) w .answer))))) (charge-case p w)
+        paid (charge (OptPc.Some p) w) (by ∙ (λ i. pick (x i) nobody (pick (not (y i)) nobody (charged (charge (OptPc.Some p) w .answer) w (aimed (aim w) w)))))
+        (held ∙ (λ i. pick (x i) false (pick (not (y i)) false (paidBy (suspendsIn o) (charge (OptPc.Some p) w .world) (charge (OptPc.Some p) w .answer))))) (charge-case p w)

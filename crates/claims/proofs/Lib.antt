@@ -28,10 +28,14 @@ pub mod Restores
 pub mod Finishes
 pub mod Untouched
 pub mod Escapes
+pub mod Failures
 pub mod Unwinds
 pub mod Numbers
 pub mod Exact
+pub mod Losses
 pub mod Returned
+pub mod Values
+pub mod Closing
 pub mod Exactly
 pub mod Premises
 pub mod Witness

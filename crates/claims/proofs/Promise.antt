@@ -1,5 +1,5 @@
 -- THE PROMISE, of `step`. Assumes nothing.
-use Prim.Native.Nat.{ℕ}
+use Prim.Native.Nat.{ℕ, _^_, _<_}
 use native.Mathlib.Omega.{arith}
 use mathlib.Core.Path.{_≡_, refl, sym, ap, _∙_, subst}
 use mathlib.Core.Logic.{_⊎_, inl, inr}
@@ -32,12 +32,12 @@ use Rattle.model.specs.declared.call.OptPc.{OptPc}
 use Rattle.model.specs.declared.call.Op.{Op}
 use Rattle.model.specs.declared.call.Answer.{Answer}
 use Rattle.invariant.specs.Kept.{raises}
-use Rattle.invariant.proofs.Sound.{sound→}
+use Rattle.soundness.proofs.Sound.{sound→}
 use Rattle.invariant.proofs.Call.{call-keeps}
 use Rattle.claims.specs.Engine as Engine
 use Rattle.claims.specs.Demand3.{Restarts}
 use Rattle.claims.specs.Events.{Healthy, onBody, raised, raisedAt}
-use Rattle.claims.specs.Promise.{plain, Accepts, Eleven, sets-up, no-fault, Soundness, NotEmpty, Promise}
+use Rattle.claims.specs.Promise.{plain, Makes, converts, Accepts, Eleven, sets-up, no-fault, Soundness, NotEmpty, Promise}
 use Rattle.claims.specs.Steps.{viewOf, opOf, steps}
 use Rattle.claims.specs.Story.{wide, c, held}
 use Rattle.claims.specs.Premises.{premises}
@@ -53,7 +53,8 @@ use Rattle.claims.proofs.Exact.{healthy-sound, number-sound, no-some}
 use Rattle.claims.proofs.Returned.{on-body}
 use Rattle.claims.proofs.Premises.{Premises, premises-met}
 use Rattle.claims.proofs.Exactly.{events, demand3}
-use Rattle.claims.proofs.Roomy.{await-takes, kv-takes}
+use Rattle.claims.proofs.Values.{can-make, word-in}
+use Rattle.claims.proofs.Roomy.{await-takes, kv-takes, yield-takes}
 
 -- ---- soundness
 
@@ -124,7 +125,7 @@ unput v (Op.CoroKey pc dst u) h = no-both refl h
 unput v (Op.CoroResult pc dst u) h = no-both refl h
 unput v (Op.IterNext pc has iter val src) h = no-both refl h
 unput v (Op.Finish kind x) h = no-both refl h
-unput v (Op.Unwind f pc) h = no-fault f pc (unraised v f h)
+unput v (Op.Unwind f pc) h = no-fault f pc (unraised v f h) (λ e. no-both (ap raisable e) h) (λ e. no-both (ap raisable e) h)
 unput v (Op.SpawnTask x) h = no-both refl h
 unput v (Op.HostCall f) h = no-both refl h
 unput v (Op.HostEntry u x) h = no-both refl h
@@ -171,17 +172,17 @@ plain-made ResultKind.Dyn x w g p e = let z : _≡_ {A = ℕ} 0 1 = cc in absurd
 plain-made ResultKind.I64 x w g p e = no-both p refl
 plain-made ResultKind.U64 x w g p e = no-both p refl
 
-finish-zero : (kind : ResultKind) (x : ℕ) (w : World) (o : After Answer) → sound w ≡ true → plain kind ≡ true → onBody (w .frames) ≡ true → FinishCase kind x w o → numberOf (o .answer) ≡ 0
+finish-zero : (kind : ResultKind) (x : ℕ) (w : World) (o : After Answer) → sound w ≡ true → ((f : Fault) → toDyn kind x w .answer ≡ Made.Refused f → ⊥) → onBody (w .frames) ≡ true → FinishCase kind x w o → numberOf (o .answer) ≡ 0
 unfolding floorsOk
-finish-zero kind x w o h p b (f-returns f fs a chain y q r t m n ends tells) = n
+finish-zero kind x w o h p b (f-returns f fs a chain y q r t m n ends tells ints) = n
 finish-zero kind x w o h p b (f-other same why) = go why
   where
     go : (bodyOn (w .frames) ≡ false) ⊎ ((w .chain ≡ []) ⊎ Unmade kind x w o) → numberOf (o .answer) ≡ 0
     go (inl q) = no-both b (on-body (w .frames) ∙ q)
     go (inr (inl q)) = no-both b (on-body (w .frames) ∙ bodiless (w .frames) (ap (matches (λ f fs a. eqb (a .floor) (length fs)) (w .frames)) (sym q) ∙ floors w h))
-    go (inr (inr u)) = plain-made kind x w (u .fault) p (u .refused)
+    go (inr (inr u)) = absurd (p (u .fault) (u .refused))
 
-finish-call : (kind : ResultKind) (x : ℕ) (w : World) → sound w ≡ true → plain kind ≡ true → onBody (w .frames) ≡ true → numberOf (call (Op.Finish kind x) w .answer) ≡ 0
+finish-call : (kind : ResultKind) (x : ℕ) (w : World) → sound w ≡ true → ((f : Fault) → toDyn kind x w .answer ≡ Made.Refused f → ⊥) → onBody (w .frames) ≡ true → numberOf (call (Op.Finish kind x) w .answer) ≡ 0
 unfolding call
 finish-call kind x w h p b = finish-zero kind x w (finish kind x w) h p b (finish-case kind x w)
 
@@ -193,9 +194,15 @@ escape-call : (x : ℕ) (pc : OptPc) (w : World) (c : ℕ) → sound w ≡ true 
 unfolding call unwind pick
 escape-call x pc w c h e = escape-zero (word-ended w h x pc) e
 
+finish-step : (w : World) (k : Call) (kind : ResultKind) (x : ℕ) → Healthy steps w → opOf k ≡ some (Op.Finish kind x) → (x < 2 ^ 64 → (f : Fault) → toDyn kind x w .answer ≡ Made.Refused f → ⊥) → onBody (w .frames) ≡ true → numberOf (step w k .answer) ≡ 0
+finish-step w (SetUp s) kind x h e p b = let z : _≡_ {A = ℕ} 0 1 = cc in absurd (omega arith)
+finish-step w (Do o) kind x h e p b = ap numberOf (number-sound w o (healthy-sound w h)) ∙ ap (λ q. numberOf (call q w .answer)) (some-op e) ∙ finish-call kind x w (healthy-sound w h) (p (word-in (o .op) kind x (some-op e) (o .within))) b
+
 accepts-finish : (w : World) (k : Call) (kind : ResultKind) (x : ℕ) → Healthy steps w → opOf k ≡ some (Op.Finish kind x) → plain kind ≡ true → onBody (w .frames) ≡ true → numberOf (step w k .answer) ≡ 0
-accepts-finish w (SetUp s) kind x h e p b = let z : _≡_ {A = ℕ} 0 1 = cc in absurd (omega arith)
-accepts-finish w (Do o) kind x h e p b = ap numberOf (number-sound w o (healthy-sound w h)) ∙ ap (λ q. numberOf (call q w .answer)) (some-op e) ∙ finish-call kind x w (healthy-sound w h) p b
+accepts-finish w k kind x h e p b = finish-step w k kind x h e (λ l f q. plain-made kind x w f p q) b
+
+accepts-integer : (w : World) (k : Call) (kind : ResultKind) (x : ℕ) → Healthy steps w → opOf k ≡ some (Op.Finish kind x) → Makes (viewOf w) → converts kind x ≡ true → onBody (w .frames) ≡ true → numberOf (step w k .answer) ≡ 0
+accepts-integer w k kind x h e m p b = finish-step w k kind x h e (λ l. can-make w (healthy-sound w h) kind x l p (m .bytes) (m .slot)) b
 
 accepts-escape : (w : World) (k : Call) (x : ℕ) (pc : OptPc) (c : ℕ) → Healthy steps w → opOf k ≡ some (Op.Unwind (Fault.Throw x) pc) → raisedAt (viewOf w) (some x) pc ≡ some c → numberOf (step w k .answer) ≡ 0
 accepts-escape w (SetUp s) x pc c h e q = let z : _≡_ {A = ℕ} 0 1 = cc in absurd (omega arith)
@@ -237,4 +244,18 @@ not-empty =
 
 -- THE PROMISE
 pub promise : Promise steps
-promise = record { demand3 = demand3; events = events; accepts = record { await = λ c w k pc dst src m e l. await-takes w c m k pc dst src e l; yield-kv = λ c w k pc dst src key m e l. kv-takes w c m k pc dst src key e l; finish = accepts-finish; escape = accepts-escape }; soundness = soundness; not-empty = not-empty }
+promise =
+    record {
+      demand3 = demand3;
+      events = events;
+      accepts = record {
+        await = λ c w k pc dst src m e l. await-takes w 0 c m k pc dst src e l;
+        yield-kv = λ c w k pc dst src key m e l. kv-takes w 0 c m k pc dst src key e l;
+        yield = λ c w k pc dst src m s e l. yield-takes w (w .setup .costs .int) c m refl s k pc dst src e l;
+        integer = accepts-integer;
+        finish = accepts-finish;
+        escape = accepts-escape;
+      };
+      soundness = soundness;
+      not-empty = not-empty;
+    }

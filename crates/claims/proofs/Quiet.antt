@@ -4,9 +4,11 @@ use native.Mathlib.Decide.{ℕ-discrete}
 use mathlib.Core.Path.{_≡_, refl, sym, ap, _∙_, subst}
 use mathlib.Core.Logic.{_⊎_, inl, inr}
 use mathlib.Core.Bool.{Bool, true, false, not, _||_}
-use mathlib.Core.List.{List}
+use mathlib.Core.List.{List, []}
+use mathlib.Core.Option.{Option, none, some}
 use lib.Dec.{eqb}
-use Rattle.lists.specs.Pick.{pick}
+use Rattle.lists.specs.Pick.{pick, pick-false}
+use Rattle.heap.specs.Word.{nil}
 use Rattle.heap.specs.Charge.{satAdd}
 use Rattle.heap.specs.Coding.{ofBits}
 use Rattle.heap.specs.Int.{inlineOf, exactly, valueOf, nextKey}
@@ -28,9 +30,9 @@ use Rattle.model.specs.Coro.{newRegs, newCore, newRest, coroCreate, inState, en
 use Rattle.model.specs.Exec.{keyExact, keyAt, autoKey, indirectTo, indirect, window}
 use Rattle.model.specs.declared.coro.Made.{Made}
 use Rattle.heap.specs.declared.heap.ResultKind.{ResultKind}
-use Rattle.claims.proofs.Held.{coreIn, coreAt}
-use Rattle.claims.proofs.Cores.{busy, Kept, kept, unborn, objectIn, push-cases, set-mine, set-other, set-rest, set-iter}
-use Rattle.claims.proofs.Shape.{View, view, Ends, Worked, quiet}
+use Rattle.claims.proofs.Held.{Seat, closingOf, coreIn, coreAt}
+use Rattle.claims.proofs.Cores.{no-both, busy, Kept, kept, unborn, objectIn, push-cases, set-mine, set-other, set-rest, set-iter}
+use Rattle.claims.proofs.Shape.{View, view, over, Ends, Worked, quiet}
 
 -- v is w with objects added, none of which runs or sleeps
 pub record Grown (w v : World) : Type 0 where
@@ -38,7 +40,7 @@ pub record Grown (w v : World) : Type 0 where
   pub stack : v .stack ≡ w .stack
   pub frames : v .frames ≡ w .frames
   pub chain : v .chain ≡ w .chain
-  pub finds : (c : ℕ) → (coro v c ≡ coro w c) ⊎ ((coro w c ≡ Absent) × (busy (coreAt v c .state) ≡ false))
+  pub finds : (c : ℕ) → (coro v c ≡ coro w c) ⊎ ((coro w c ≡ Absent) × (busy (coreAt v c .state) ≡ false) × (coreAt v c .closing ≡ none))
 
 pub grown-none : {w : World} → Grown w w
 grown-none = record { setup = refl; stack = refl; frames = refl; chain = refl; finds = λ c. inl refl }
@@ -46,23 +48,23 @@ grown-none = record { setup = refl; stack = refl; frames = refl; chain = refl; f
 pub grown-kept : {w v : World} → Grown w v → (c : ℕ) → Kept (coreAt w c) (coreAt v c)
 grown-kept {w} {v} g c = go (g .finds c)
   where
-    go : (coro v c ≡ coro w c) ⊎ ((coro w c ≡ Absent) × (busy (coreAt v c .state) ≡ false)) → Kept (coreAt w c) (coreAt v c)
+    go : (coro v c ≡ coro w c) ⊎ ((coro w c ≡ Absent) × (busy (coreAt v c .state) ≡ false) × (coreAt v c .closing ≡ none)) → Kept (coreAt w c) (coreAt v c)
     go (inl e) = kept (ap coreIn e)
-    go (inr e) = unborn (ap (λ x. isCreated (coreIn x .state)) (e .0)) (e .1)
+    go (inr e) = unborn (ap (λ x. isCreated (coreIn x .state)) (e .0)) (e .1) (λ _. e .2 ∙ sym (ap (λ x. coreIn x .closing) (e .0)))
 
-pub grown-worked : {w v : World} → Grown w v → {z : View} → Worked (view v) z → Worked (view w) z
-grown-worked {w} {v} g {z} t = quiet (coreAt v) (grown-kept g) (subst (λ x. Worked x z) (λ i. record { stack = g .stack i; frames = g .frames i; chain = g .chain i; cores = coreAt v }) t)
+pub grown-worked : {b : Bool} {w v : World} → Grown w v → {z : View} → Worked b (view v) z → Worked b (view w) z
+grown-worked {b} {w} {v} g {z} t = quiet (coreAt v) (grown-kept g) (subst (λ x. Worked b x z) (λ i. record { setup = g .setup i; stack = g .stack i; frames = g .frames i; chain = g .chain i; cores = coreAt v }) t)
 
 -- ---- alloc and what calls it
 
-pub alloc-grown : (bytes : ℕ) (o : Object) (w : World) → busy (coreIn (asCoro o) .state) ≡ false → Grown w (alloc bytes o w .world)
+pub alloc-grown : (bytes : ℕ) (o : Object) (w : World) → busy (coreIn (asCoro o) .state) ≡ false → coreIn (asCoro o) .closing ≡ none → Grown w (alloc bytes o w .world)
 unfolding alloc pick
-alloc-grown bytes o w b = go (not (fits w bytes)) (slotsFull w)
+alloc-grown bytes o w b m = go (not (fits w bytes)) (slotsFull w)
   where
     found : (c : ℕ) → (objectIn (pushObject (w .slots) o) c ≡ objectIn (w .slots) c) ⊎ ((objectIn (w .slots) c ≡ Object.Empty) × (objectIn (pushObject (w .slots) o) c ≡ o))
-        → (asCoro (objectIn (pushObject (w .slots) o) c) ≡ coro w c) ⊎ ((coro w c ≡ Absent) × (busy (coreIn (asCoro (objectIn (pushObject (w .slots) o) c)) .state) ≡ false))
+        → (asCoro (objectIn (pushObject (w .slots) o) c) ≡ coro w c) ⊎ ((coro w c ≡ Absent) × (busy (coreIn (asCoro (objectIn (pushObject (w .slots) o) c)) .state) ≡ false) × (coreIn (asCoro (objectIn (pushObject (w .slots) o) c)) .closing ≡ none))
     found c (inl e) = inl (ap asCoro e)
-    found c (inr e) = inr (ap asCoro (e .0), ap (λ x. busy (coreIn (asCoro x) .state)) (e .1) ∙ b)
+    found c (inr e) = inr (ap asCoro (e .0), ap (λ x. busy (coreIn (asCoro x) .state)) (e .1) ∙ b, ap (λ x. coreIn (asCoro x) .closing) (e .1) ∙ m)
 
     go : (x y : Bool) → Grown w (pick x (refuse w Fault.OutOfMemory) (pick y (refuse w Fault.Full) (after (withUsed (satAdd (w .used) bytes) (withSlots (pushObject (w .slots) o) w)) (Made.Word (nextWord (w .slots))))) .world)
     go true y = grown-none
@@ -81,7 +83,7 @@ create-grown f closure args w = go (not (fits w (8 * n + w .setup .costs .coro +
 
     inner : Grown w (made .world)
     inner =
-        let g = alloc-grown (8 * n + w .setup .costs .object + w .setup .costs .frame) (Object.Coro (newCore f closure (newRegs n args)) (newRest (w .seq) (freeRow w) n)) (withSeq ((w .seq + 1) % 2 ^ 64) w) refl in
+        let g = alloc-grown (8 * n + w .setup .costs .object + w .setup .costs .frame) (Object.Coro (newCore f closure (newRegs n args)) (newRest (w .seq) (freeRow w) n)) (withSeq ((w .seq + 1) % 2 ^ 64) w) refl (pick-false (some nil) none) in
         record { setup = g .setup; stack = g .stack; frames = g .frames; chain = g .chain; finds = g .finds }
 
     go : (x y : Bool) → Grown w (pick x (refuse w Fault.OutOfMemory) (pick y (refuse w Fault.Full) made) .world)
@@ -100,8 +102,8 @@ pub record Same (w v : World) : Type 0 where
 pub same-none : {w : World} → Same w w
 same-none = record { setup = refl; stack = refl; frames = refl; chain = refl; coros = λ c. refl }
 
-pub same-worked : {w v : World} → Same w v → {z : View} → Worked (view v) z → Worked (view w) z
-same-worked {w} {v} g {z} t = subst (λ x. Worked x z) (λ i. record { stack = g .stack i; frames = g .frames i; chain = g .chain i; cores = λ c. coreIn (g .coros c i) }) t
+pub same-worked : {b : Bool} {w v : World} → Same w v → {z : View} → Worked b (view v) z → Worked b (view w) z
+same-worked {b} {w} {v} g {z} t = subst (λ x. Worked b x z) (λ i. record { setup = g .setup i; stack = g .stack i; frames = g .frames i; chain = g .chain i; cores = λ c. coreIn (g .coros c i) }) t
 
 pub alloc-same : (bytes : ℕ) (o : Object) (w : World) → asCoro o ≡ Absent → Same w (alloc bytes o w .world)
 unfolding alloc pick
@@ -178,8 +180,8 @@ pub record Calm (w v : World) : Type 0 where
   pub chain : v .chain ≡ w .chain
   pub cores : (c : ℕ) → coreAt v c ≡ coreAt w c
 
-pub calm-worked : {w v : World} → Calm w v → {z : View} → Worked (view v) z → Worked (view w) z
-calm-worked {w} {v} g {z} t = subst (λ x. Worked x z) (λ i. record { stack = g .stack i; frames = g .frames i; chain = g .chain i; cores = λ c. g .cores c i }) t
+pub calm-worked : {b : Bool} {w v : World} → Calm w v → {z : View} → Worked b (view v) z → Worked b (view w) z
+calm-worked {b} {w} {v} g {z} t = subst (λ x. Worked b x z) (λ i. record { setup = g .setup i; stack = g .stack i; frames = g .frames i; chain = g .chain i; cores = λ c. g .cores c i }) t
 
 iter-calm : (v : ℕ) (f : Bool → Bool) (g : Opt → Opt) (w : World) → Calm w (changeIterIn (object w v) v f g w)
 iter-calm v f g w = go (object w v) refl
@@ -208,14 +210,19 @@ finish-ends v s result w = go (coro w v) refl
   where
     go : (x : Coroutine) → coro w v ≡ x → Ends s v (coreAt w) (coreAt (changeAs x v (inState s) (ended result) w))
     go Absent e = record { mine = inr (ap (λ x. isCreated (coreIn x .state)) e, refl); others = λ u n. refl }
-    go (Is k r) e = record { mine = inl (ap coreIn (set-mine (w .slots) v e (inState s k) (ended result r)) ∙ ap (inState s) (sym (ap coreIn e))); others = set-other (w .slots) v e (inState s k) (ended result r) }
+    go (Is k r) e = record {
+      mine = inl
+          (ap coreIn (set-mine (w .slots) v e (inState s k) (ended result r)) ∙ (λ i. record { state = s; regs = []; frames = []; waiting = k .waiting; closing = pick-false {A = Option ℕ} (some nil) none i }) ∙ ap (over s) (sym (ap coreIn e)));
+      others = set-other
+          (w .slots) v e (inState s k) (ended result r);
+    }
 
 -- one that has not begun ends without a run
-pub unborn-ends : (v : ℕ) (s : CoroState) (k l : ℕ → Core) → busy s ≡ false → isCreated (k v .state) ≡ true → Ends s v k l → (c : ℕ) → Kept (k c) (l c)
-unborn-ends v s k l b h e c = go (ℕ-discrete c v)
+pub unborn-ends : (v : ℕ) (s : CoroState) (k l : ℕ → Seat) → busy s ≡ false → isCreated s ≡ false → isCreated (k v .state) ≡ true → Ends s v k l → (c : ℕ) → Kept (k c) (l c)
+unborn-ends v s k l b n h e c = go (ℕ-discrete c v)
   where
-    mine : (l v ≡ inState s (k v)) ⊎ ((isCreated (k v .state) ≡ true) × (l v ≡ k v)) → Kept (k v) (l v)
-    mine (inl x) = unborn h (ap (λ y. busy (y .state)) x ∙ b)
+    mine : (l v ≡ over s (k v)) ⊎ ((isCreated (k v .state) ≡ true) × (l v ≡ k v)) → Kept (k v) (l v)
+    mine (inl x) = unborn h (ap (λ y. busy (y .state)) x ∙ b) (λ q. no-both q (ap (λ y. isCreated (y .state)) x ∙ n))
     mine (inr x) = kept (x .1)
 
     go : Dec (c ≡ v) → Kept (k c) (l c)
@@ -238,9 +245,9 @@ change-still w c f g = go (coro w c)
     go (Is k r) = record { setup = refl; stack = refl; frames = refl; chain = refl }
 
 -- in its rest alone
-pub change-calm : (c : ℕ) (g : Rest → Rest) (w : World) → Calm w (changeCoro c (λ k. k) g w)
-change-calm c g w = go (coro w c) refl
+pub change-calm : (c : ℕ) (g : Rest → Rest) (w : World) → ((r : Rest) → closingOf (g r) ≡ closingOf r) → Calm w (changeCoro c (λ k. k) g w)
+change-calm c g w m = go (coro w c) refl
   where
     go : (y : Coroutine) → coro w c ≡ y → Calm w (changeAs y c (λ k. k) g w)
     go Absent e = record { setup = refl; stack = refl; frames = refl; chain = refl; cores = λ x. refl }
-    go (Is k r) e = record { setup = refl; stack = refl; frames = refl; chain = refl; cores = set-rest (w .slots) c e (g r) }
+    go (Is k r) e = record { setup = refl; stack = refl; frames = refl; chain = refl; cores = set-rest (w .slots) c e (g r) (m r) }

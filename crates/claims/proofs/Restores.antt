@@ -7,13 +7,11 @@ use mathlib.Core.List.{List, [], _∷_, _++_, map, append-assoc}
 use mathlib.Core.Option.{Option, none, some}
 use lib.ListN.{length, drop, set}
 use Rattle.lists.specs.Pick.{pick}
-use Rattle.heap.specs.declared.value.Opt.{Opt}
 use Rattle.heap.specs.declared.object.CoroState.{CoroState}
 use Rattle.heap.specs.declared.fault.Fault.{Fault}
 use Rattle.model.specs.Lists.{isNil}
 use Rattle.model.specs.State.{isSuspended}
 use Rattle.model.specs.Program.{Setup, setupOk}
-use Rattle.model.specs.Object.{Core}
 use Rattle.model.specs.World.{World, fresh}
 use Rattle.model.specs.Frames.{onTop, setPc, stepPc, raise, lower, topBase}
 use Rattle.model.specs.Gate.{refused}
@@ -26,14 +24,14 @@ use Rattle.model.specs.declared.machine.Driver.{Driver}
 use Rattle.model.specs.declared.machine.Active.{Active}
 use Rattle.model.specs.declared.machine.Frame.{Frame}
 use Rattle.claims.specs.Engine.{run}
-use Rattle.claims.specs.Says.{Does, doing, entry, whom}
+use Rattle.claims.specs.Says.{Does, doing, entry, whom, Sent, nothing, gets, closes}
 use Rattle.claims.specs.Held as H
-use Rattle.claims.specs.Held.{at, AllMoved, pcOf, waitsIn, stepped, into, given, By, Entered, Restored}
+use Rattle.claims.specs.Held.{at, AllMoved, pcOf, waitsIn, stepped, into, given, closedBy, By, Entered, Restored}
 use Rattle.claims.specs.Demand3 as D
 use Rattle.claims.specs.Steps.{viewOf, opOf, steps}
 use Rattle.claims.proofs.Entry as E
 use Rattle.claims.proofs.Entry.{act, pcBy}
-use Rattle.claims.proofs.Held.{coreIn, coreAt, wordsWith, framesWith}
+use Rattle.claims.proofs.Held.{Seat, coreIn, coreAt, wordsWith, framesWith}
 use Rattle.claims.proofs.Split.{next, Suspends, Enters, restarts, Waits, Sleeps}
 use Rattle.claims.proofs.Cores.{no-both}
 use Rattle.claims.proofs.Events.{run-susp, suspended-one, no-entry}
@@ -42,7 +40,7 @@ use Rattle.claims.proofs.Enters.{set-append-at}
 use Rattle.claims.proofs.Sounds.{lifts}
 use Rattle.claims.proofs.Calls.{shape}
 use Rattle.claims.proofs.Claim.{StepCase, anew, same, does, step-case, fresh-absent, entry-sound, Entering, entering, sleep}
-use Rattle.claims.proofs.Views.{is-runs, is-sleeps, Alike, l-at, l-host, l-finish, l-raise, l-other, says-alike}
+use Rattle.claims.proofs.Views.{is-runs, is-sleeps, closer-at, Alike, l-at, l-host, l-finish, l-raise, l-other, says-alike}
 use Rattle.claims.proofs.Whom as Whom
 use Rattle.claims.proofs.Whom.{whom-told}
 use Rattle.claims.proofs.Bodies.{at-top, Body, raised, Cut, cut-sound, cut-above, cut-base, Low, cut-low, moved}
@@ -95,6 +93,7 @@ entered-at c w (Do o) z t =
       its-own = b .its-own;
       floor = b .floor;
       chain = t .enter .chain;
+      closing = closer-at z c ∙ t .enter .closing ∙ ap (closedBy (t .sent)) (sym (closer-at w c));
     }
 
 -- ---- what a suspending call finds
@@ -125,7 +124,7 @@ alike-waits (l-raise f pc) = refl
 alike-waits l-other = refl
 
 -- c sleeps with s, which is what k found at v
-pub record Found (v : World) (k : Call) (c : ℕ) (s : Core) : Type 0 where
+pub record Found (v : World) (k : Call) (c : ℕ) (s : Seat) : Type 0 where
   pub held : H.Held (viewOf v) c
   pub frames : s .frames ≡ map (lower (held .body .base)) (at (pcOf (doing (viewOf v) (opOf k))) (held .over ++ (held .body ∷ [])))
   pub regs : s .regs ≡ drop (held .body .base) (v .stack)
@@ -164,15 +163,16 @@ found c v k h = go (next v k) (step-case v k) (h .after)
 -- ---- and what the entry makes of it
 
 -- the sent word, in the waiting register of the frame that is now on top
-words-given : (sent : Opt) (s : Core) (xs ys : List ℕ) (dst : ℕ) (gs fs : List Frame) → isNil (s .frames) ≡ false → s .regs ≡ ys → s .waiting ≡ dst → gs ≡ map (raise (length xs)) (framesWith sent s) ++ fs → xs ++ wordsWith sent s ≡ given sent gs dst (xs ++ ys)
-words-given Opt.None s xs ys dst gs fs n r q e = ap (λ (l : List ℕ). xs ++ l) r
-words-given (Opt.Some x) s xs ys dst gs fs n r q e = go (s .frames) n ∙ ap (λ hs. into hs dst x (xs ++ ys)) (sym e)
+words-given : (sent : Sent) (s : Seat) (xs ys : List ℕ) (dst : ℕ) (gs fs : List Frame) → isNil (s .frames) ≡ false → s .regs ≡ ys → s .waiting ≡ dst → gs ≡ map (raise (length xs)) (framesWith sent s) ++ fs → xs ++ wordsWith sent s ≡ given sent gs dst (xs ++ ys)
+words-given nothing s xs ys dst gs fs n r q e = ap (λ (l : List ℕ). xs ++ l) r
+words-given (closes x) s xs ys dst gs fs n r q e = ap (λ (l : List ℕ). xs ++ l) r
+words-given (gets x) s xs ys dst gs fs n r q e = go (s .frames) n ∙ ap (λ hs. into hs dst x (xs ++ ys)) (sym e)
   where
     go : (hs : List Frame) → isNil hs ≡ false → xs ++ set (s .regs) (topBase hs + s .waiting) x ≡ into (map (raise (length xs)) (onTop stepPc hs) ++ fs) dst x (xs ++ ys)
     go [] n = no-both refl n
     go (f ∷ hs) n = (λ i. xs ++ set (r i) (f .base + q i) x) ∙ sym (set-append-at xs ys (f .base + length xs + dst) (f .base + dst) x (omega arith))
 
-restored-as : (c : ℕ) (v : World) (x : Call) (w : World) (y : Call) (z : World) (s : Core) → Found v x c s → isSuspended (s .state) ≡ true → coreAt w c ≡ s → Entering c w y z → Restored (viewOf v) (opOf x) (viewOf w) (opOf y) c (viewOf z)
+restored-as : (c : ℕ) (v : World) (x : Call) (w : World) (y : Call) (z : World) (s : Seat) → Found v x c s → isSuspended (s .state) ≡ true → coreAt w c ≡ s → Entering c w y z → Restored (viewOf v) (opOf x) (viewOf w) (opOf y) c (viewOf z)
 unfolding entry-by entered-at
 restored-as c v x w (SetUp n) z s f a e t = no-entry refl (t .by)
 restored-as c v x w (Do o) z s f a e t =
@@ -182,7 +182,8 @@ restored-as c v x w (Do o) z s f a e t =
       entered = entered-at c w (Do o) z t;
       moved = subst (AllMoved (f .held .body .base) (length (w .stack)) (at (stepped (t .sent) (pcOf (doing (viewOf v) (opOf x)))) (f .held .over ++ (f .held .body ∷ [])))) (ap (λ k. map (raise (length (w .stack))) (framesWith (t .sent) k)) (sym e) ∙ back c w (Do o) z t .frames)
           (moved (f .held .body .base) (length (w .stack)) (pcOf (doing (viewOf v) (opOf x))) (t .sent) (f .held .over ++ (f .held .body ∷ [])) s (f .low) (f .frames));
-      words = t .enter .stack ∙ words-given (t .sent) (coreAt w c) (w .stack) (drop (f .held .body .base) (v .stack)) (waitsIn (doing (viewOf v) (opOf x))) (z .frames) (onTop (setPc (pcBy (act w (o .op)))) (w .frames)) (t .enter .solid) (ap (λ k. k .regs) e ∙ f .regs) (ap (λ k. k .waiting) e ∙ f .waiting) (t .enter .frames);
+      words = t .enter .stack ∙ words-given (t .sent) (coreAt w c) (w .stack) (drop (f .held .body .base) (v .stack)) (waitsIn (doing (viewOf v) (opOf x))) (z .frames)
+          (onTop (setPc (pcBy (act w (o .op)))) (w .frames)) (t .enter .solid) (ap (λ k. k .regs) e ∙ f .regs) (ap (λ k. k .waiting) e ∙ f .waiting) (t .enter .frames);
     }
 
 -- THE FIRST HALF

@@ -13,7 +13,6 @@ use Rattle.heap.specs.declared.fault.Fault.{Fault}
 use Rattle.heap.specs.declared.heap.ResultKind.{ResultKind}
 use Rattle.heap.specs.declared.object.CoroState.{CoroState}
 use Rattle.model.specs.State.{isCreated, isRunning, isSuspended, isReturned}
-use Rattle.model.specs.Object.{Core}
 use Rattle.model.specs.World.{World, After}
 use Rattle.model.specs.Frames.{isCoro}
 use Rattle.model.specs.Heap.{coro}
@@ -41,7 +40,7 @@ use Rattle.claims.specs.Steps.{viewOf, opOf, steps}
 use Rattle.claims.proofs.Entry as E
 use Rattle.claims.proofs.Entry.{act, pcBy, entryBy}
 use Rattle.claims.proofs.Suspension.{suspendsIn, takesBy}
-use Rattle.claims.proofs.Held.{coreIn, coreAt}
+use Rattle.claims.proofs.Held.{Seat, coreIn, coreAt}
 use Rattle.claims.proofs.Split.{next, Suspends, Enters}
 use Rattle.claims.proofs.Accepted as A
 use Rattle.claims.proofs.Cores.{no-both, and-left, and-right, Kept, kept, unborn}
@@ -69,7 +68,7 @@ pub data Going (s : CoroState) : Type 0 where
   runs : isRunning s ≡ true → Going s
   failed : s ≡ CoroState.Failed → Going s
 
-run-returned : (s : CoroState) → isRunning s ≡ true → isReturned s ≡ false
+pub run-returned : (s : CoroState) → isRunning s ≡ true → isReturned s ≡ false
 run-returned CoroState.Created e = refl
 run-returned CoroState.Running e = refl
 run-returned CoroState.Yielded e = refl
@@ -85,14 +84,14 @@ going-born : {s : CoroState} → Going s → isCreated s ≡ false
 going-born {s} (runs e) = run-born s e
 going-born (failed e) = ap isCreated e
 
-going-kept : {k l : Core} → Kept k l → Going (k .state) → Going (l .state)
+going-kept : {k l : Seat} → Kept k l → Going (k .state) → Going (l .state)
 going-kept {k} {l} (kept e) g = subst (λ y. Going (y .state)) (sym e) g
-going-kept (unborn a b) g = no-both a (going-born g)
+going-kept (unborn a b m) g = no-both a (going-born g)
 
-going-ends : {v c : ℕ} {k l : ℕ → Core} → Ends CoroState.Failed v k l → Going (k c .state) → Going (l c .state)
+going-ends : {v c : ℕ} {k l : ℕ → Seat} → Ends CoroState.Failed v k l → Going (k c .state) → Going (l c .state)
 going-ends {v} {c} {k} {l} e g = go (ℕ-discrete c v)
   where
-    mine : (l v ≡ inState CoroState.Failed (k v)) ⊎ ((isCreated (k v .state) ≡ true) × (l v ≡ k v)) → c ≡ v → Going (l c .state)
+    mine : (l v ≡ S.over CoroState.Failed (k v)) ⊎ ((isCreated (k v .state) ≡ true) × (l v ≡ k v)) → c ≡ v → Going (l c .state)
     mine (inl x) q = failed (ap (λ y. l y .state) q ∙ ap (λ y. y .state) x)
     mine (inr x) q = subst (λ y. Going (y .state)) (sym (ap l q ∙ x .1 ∙ ap k (sym q))) g
 
@@ -100,28 +99,28 @@ going-ends {v} {c} {k} {l} e g = go (ℕ-discrete c v)
     go (yes q) = mine (e .mine) q
     go (no q) = subst (λ y. Going (y .state)) (sym (e .others c q)) g
 
-going-worked : (c : ℕ) {v z : View} → Worked v z → Going (v .cores c .state) → Going (z .cores c .state)
+going-worked : (c : ℕ) {b : Bool} {v z : View} → Worked b v z → Going (v .cores c .state) → Going (z .cores c .state)
 going-worked c done g = g
 going-worked c (quiet k q t) g = going-worked c t (going-kept (q c) g)
 going-worked c (tops f e t) g = going-worked c t g
 going-worked c (puts r x t) g = going-worked c t g
 going-worked c (pushes f xs p q t) g = going-worked c t g
 going-worked c (pops f fs p q t) g = going-worked c t g
-going-worked c (fails f fs a chain k p q r e t) g = going-worked c t (going-ends e g)
+going-worked c (fails f fs a chain k y p q r e t) g = going-worked c t (going-ends e g)
 
-apart-worked : (c : ℕ) {v z : View} → Worked v z → Apart c (v .chain) → Apart c (z .chain)
+apart-worked : (c : ℕ) {b : Bool} {v z : View} → Worked b v z → Apart c (v .chain) → Apart c (z .chain)
 apart-worked c done g = g
 apart-worked c (quiet k q t) g = apart-worked c t g
 apart-worked c (tops f e t) g = apart-worked c t g
 apart-worked c (puts r x t) g = apart-worked c t g
 apart-worked c (pushes f xs p q t) g = apart-worked c t g
 apart-worked c (pops f fs p q t) g = apart-worked c t g
-apart-worked c (fails f fs a chain k p q r e t) g = apart-worked c t (subst (Apart c) r g .1)
+apart-worked c (fails f fs a chain k y p q r e t) g = apart-worked c t (subst (Apart c) r g .1)
 
 -- ---- a call that is no finish and no unwind lets nobody return
 
 no-return : {A : Type 0} {w z : World} {o : Op} (c : ℕ) → Shape w o z → S.isEnding (act w o) ≡ false → isRunning (coreAt w c .state) ≡ true → isReturned (coreAt z c .state) ≡ true → A
-no-return c (S.works e t) n b l = no-both l (going-not (going-worked c t (runs b)))
+no-return c (S.works e m i t) n b l = no-both l (going-not (going-worked c t (runs b)))
 no-return {A} {w} {z} c (S.enters u d sent e t) n b l = go (ℕ-discrete c u)
   where
     go : Dec (c ≡ u) → A
@@ -141,7 +140,7 @@ no-return {A} {w} {z} c (S.suspended p ok s dst x a chain e q t) n b l = go (ℕ
     go (yes y) = no-both l (ap (λ u. isReturned (coreAt z u .state)) y ∙ ap (λ k. isReturned (k .state)) (t .mine) ∙ slept s (t .asleep))
     go (no y) = no-both l (going-not (going-kept (t .others c y) (runs b)))
 no-return c (S.returns v x f fs a chain e en g t u) n b l = no-both en n
-no-return {A} {w} {z} c (S.stops e t) n b l = go (t .each c)
+no-return {A} {w} {z} c (S.stops e i t) n b l = go (t .each c)
   where
     go : (Apart c (w .chain) × (coreAt z c ≡ coreAt w c)) ⊎ ((coreAt z c .state ≡ CoroState.Failed) ⊎ ((isCreated (coreAt w c .state) ≡ true) × (coreAt z c ≡ coreAt w c))) → A
     go (inl x) = no-both l (ap (λ y. isReturned (y .state)) (x .1) ∙ run-returned (coreAt w c .state) b)
@@ -173,7 +172,7 @@ ended-has w h c {o} (e-returns u f fs a chain t r n) q = go (isRunning (coreAt w
     its : a .coro ≡ c
     its = some-one q
 
-    ends : Going (u .cores (a .coro) .state) → (coreAt (o .world) (a .coro) ≡ inState CoroState.Returned (u .cores (a .coro))) ⊎ ((isCreated (u .cores (a .coro) .state) ≡ true) × (coreAt (o .world) (a .coro) ≡ u .cores (a .coro))) → isReturned (coreAt (o .world) c .state) ≡ true
+    ends : Going (u .cores (a .coro) .state) → (coreAt (o .world) (a .coro) ≡ S.over CoroState.Returned (u .cores (a .coro))) ⊎ ((isCreated (u .cores (a .coro) .state) ≡ true) × (coreAt (o .world) (a .coro) ≡ u .cores (a .coro))) → isReturned (coreAt (o .world) c .state) ≡ true
     ends g (inl x) = ap (λ y. isReturned (coreAt (o .world) y .state)) (sym its) ∙ ap (λ y. isReturned (y .state)) x
     ends g (inr x) = no-both (x .0) (going-born g)
 
@@ -200,7 +199,7 @@ both-true p q = λ i. p i && q i
 
 finish-who : (kind : ResultKind) (x : ℕ) (w : World) (c : ℕ) (o : After Answer) → isRunning (coreAt w c .state) ≡ true → isReturned (coreAt (o .world) c .state) ≡ true → FinishCase kind x w o → returned (viewOf w) (finishes kind x) (numberOf (o .answer)) ≡ some c
 finish-who kind x w c o b l (f-other e n) = no-both l (ap (λ k. isReturned (coreIn k .state)) (e c) ∙ run-returned (coreAt w c .state) b)
-finish-who kind x w c o b l (f-returns f fs a chain y p q r m n ends tells) = go (ℕ-discrete c (a .coro))
+finish-who kind x w c o b l (f-returns f fs a chain y p q r m n ends tells ints) = go (ℕ-discrete c (a .coro))
   where
     go : Dec (c ≡ a .coro) → returned (viewOf w) (finishes kind x) (numberOf (o .answer)) ≡ some c
     go (yes h) = (λ i. pick (both-true (ap (λ t. eqb t 0) n) (ap onBody p ∙ body-coro (f .cont) ∙ q) i) (inmost (r i)) none) ∙ pick-true (some (a .coro)) none ∙ ap {B = Option ℕ} some (sym h)
@@ -216,7 +215,7 @@ finish-has kind x w h c o e (f-other all why) = go why
     go (inl q) = no-both (and-right (eqb (numberOf (o .answer)) 0) (onBody (w .frames)) (t .0)) (on-body (w .frames) ∙ q)
     go (inr (inl q)) = no-some (ap inmost q) (t .1)
     go (inr (inr q)) = no-both (and-left (eqb (numberOf (o .answer)) 0) (onBody (w .frames)) (t .0)) (q .numbered)
-finish-has kind x w h c o e (f-returns f fs a chain y p q r m n ends tells) = record { before = ap (λ u. isRunning (coreAt w u .state)) (sym its) ∙ ran; after = ap (λ u. isReturned (coreAt (o .world) u .state)) (sym its) ∙ go (ends .mine) }
+finish-has kind x w h c o e (f-returns f fs a chain y p q r m n ends tells ints) = record { before = ap (λ u. isRunning (coreAt w u .state)) (sym its) ∙ ran; after = ap (λ u. isReturned (coreAt (o .world) u .state)) (sym its) ∙ go (ends .mine) }
   where
     its : a .coro ≡ c
     its = some-one (sym (ap inmost r) ∙ pick-some (eqb (numberOf (o .answer)) 0 && onBody (w .frames)) (inmost (w .chain)) c e .1)
@@ -224,7 +223,7 @@ finish-has kind x w h c o e (f-returns f fs a chain y p q r m n ends tells) = re
     ran : isRunning (coreAt w (a .coro) .state) ≡ true
     ran = first-runs w h a chain r
 
-    go : (coreAt (o .world) (a .coro) ≡ inState CoroState.Returned (coreAt w (a .coro))) ⊎ ((isCreated (coreAt w (a .coro) .state) ≡ true) × (coreAt (o .world) (a .coro) ≡ coreAt w (a .coro))) → isReturned (coreAt (o .world) (a .coro) .state) ≡ true
+    go : (coreAt (o .world) (a .coro) ≡ S.over CoroState.Returned (coreAt w (a .coro))) ⊎ ((isCreated (coreAt w (a .coro) .state) ≡ true) × (coreAt (o .world) (a .coro) ≡ coreAt w (a .coro))) → isReturned (coreAt (o .world) (a .coro) .state) ≡ true
     go (inl k) = ap (λ y. isReturned (y .state)) k
     go (inr k) = no-both (k .0) (run-born (coreAt w (a .coro) .state) ran)
 
@@ -290,7 +289,7 @@ call-has w h (Op.Grant n) c e = no-some refl e
 call-has w h Op.StopRun c e = no-some refl e
 call-has w h Op.Look c e = no-some refl e
 
-pub returns : (c : ℕ) (w : World) (k : Call) → D.Returns steps c w k → returned (viewOf w) (doing (viewOf w) (opOf k)) (numberOf (step w k .answer)) ≡ some c
+pub returns : (c : ℕ) (w : World) (k : Call) → Said.Returns steps c w k → returned (viewOf w) (doing (viewOf w) (opOf k)) (numberOf (step w k .answer)) ≡ some c
 returns c w k g = go (next w k) (step-case w k) (sym (is-ended (next w k) c) ∙ g .after)
   where
     ran : isRunning (coreAt w c .state) ≡ true
@@ -301,7 +300,7 @@ returns c w k g = go (next w k) (step-case w k) (sym (is-ended (next w k) c) ∙
     go z (same k e) a = no-both a (run-returned (coreAt w c .state) ran)
     go z (Claim.does o e) a = ap (λ y. returned (viewOf w) (does (viewOf w) (o .op)) (numberOf y)) (number-sound w o e) ∙ call-who w e (o .op) c ran a
 
-pub returned-by : (c : ℕ) (w : World) (k : Call) → sound w ≡ true → returned (viewOf w) (doing (viewOf w) (opOf k)) (numberOf (step w k .answer)) ≡ some c → D.Returns steps c w k
+pub returned-by : (c : ℕ) (w : World) (k : Call) → sound w ≡ true → returned (viewOf w) (doing (viewOf w) (opOf k)) (numberOf (step w k .answer)) ≡ some c → Said.Returns steps c w k
 returned-by c w (SetUp s) h e = no-some refl e
 returned-by c w (Do o) h e =
     let t = call-has w h (o .op) c (ap (λ y. returned (viewOf w) (does (viewOf w) (o .op)) (numberOf y)) (sym (number-sound w o h)) ∙ e) in

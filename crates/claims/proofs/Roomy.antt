@@ -1,28 +1,33 @@
--- A suspension that asks for no more than was saved before is accepted.
-use Prim.Native.Nat.{ℕ, suc, _+_, _-_, _*_, _≤_, _<_}
+-- A suspension for which there is room is accepted, and so is a result.
+use Prim.Native.Nat.{ℕ, suc, _+_, _-_, _*_, _^_, _≤_, _<_, min}
 use mathlib.Core.Path.{_≡_, refl, sym, ap, subst, _∙_}
-use mathlib.Core.Bool.{Bool, true, false, not, false≢true}
+use mathlib.Core.Bool.{Bool, true, false, not, _||_}
 use mathlib.Core.List.{List, [], _∷_, _++_, map}
 use mathlib.Core.Option.{Option, none, some}
-use native.Mathlib.Nat.{zero-mul}
 use native.Mathlib.Omega.{arith}
 use lib.ListN.{length, drop, length-append, length-map}
 use lib.Dec.{eqb, leb}
-use borrow.Author.Tests.{le-leb, lt-leb}
+use borrow.Author.Tests.{leb-true, le-leb, lt-leb}
 use Rattle.lists.specs.Pick.{pick, pick-true, pick-false}
+use Rattle.heap.specs.Charge.{satAdd}
+use Rattle.heap.specs.Coding.{ofBits}
+use Rattle.heap.specs.Int.{inlineOf, nextKey}
+use Rattle.heap.specs.Table.{pushObject, nextWord}
 use Rattle.heap.specs.declared.fault.Fault.{Fault}
+use Rattle.heap.specs.declared.int.Exact.{Exact}
+use Rattle.heap.specs.declared.int.Inline.{Inline}
 use Rattle.heap.specs.declared.object.CoroState.{CoroState}
 use Rattle.model.specs.Lists.{isNil}
-use Rattle.model.specs.Object.{Core, Rest, Coroutine, Absent, Is}
-use Rattle.model.specs.World.{World, After, after}
+use Rattle.model.specs.Object.{Core, Rest, Object, Coroutine, Absent, Is}
+use Rattle.model.specs.World.{World, After, after, andThen, withUsed, withSlots}
 use Rattle.model.specs.Frames.{lower, above, baseAt, onTop, setPc, reg, storePc}
-use Rattle.model.specs.Heap.{coro, dynInt, fits}
+use Rattle.model.specs.Heap.{coro, dynInt, fits, slotsFull, refuse, alloc, encodeAt}
 use Rattle.model.specs.Fuel.{spend}
 use Rattle.model.specs.Coro as Coro
 use Rattle.model.specs.Coro.{saved, growth, suspendAs, suspendOn, coroSuspend}
 use Rattle.model.specs.Cleanup.{chargeSlow, charge}
-use Rattle.model.specs.Exec.{largestIn, largerOf}
-use Rattle.model.specs.Gate.{allIn}
+use Rattle.model.specs.Exec.{largestIn, largerOf, keyAt, keyExact, autoKey, yieldKey, yieldOn, yield}
+use Rattle.model.specs.Gate.{refused, allIn, answerOf, charged, instruction}
 use Rattle.model.specs.Sound.{sound}
 use Rattle.model.specs.Answer.{numberOf}
 use Rattle.model.specs.Call.{Call, SetUp, Do, Operation}
@@ -30,18 +35,23 @@ use Rattle.model.specs.Step.{call, step}
 use Rattle.model.specs.declared.machine.Active.{Active}
 use Rattle.model.specs.declared.machine.Charge.{Charge}
 use Rattle.model.specs.declared.machine.Frame.{Frame}
+use Rattle.model.specs.declared.coro.Made.{Made}
 use Rattle.model.specs.declared.coro.Keys.{Keys}
 use Rattle.model.specs.declared.coro.Suspension.{Suspension}
+use Rattle.model.specs.declared.exec.Step.{Step}
 use Rattle.model.specs.declared.call.OptPc.{OptPc}
 use Rattle.model.specs.declared.call.Op.{Op}
-use Rattle.invariant.proofs.Sound.{sound→}
+use Rattle.model.specs.declared.call.Answer.{Answer}
+use Rattle.soundness.proofs.Sound.{sound→}
 use Rattle.claims.specs.Engine.{Seen}
 use Rattle.claims.specs.Says.{lie}
 use Rattle.claims.specs.Held.{at}
 use Rattle.claims.specs.Promise.{suspends, Roomy}
 use Rattle.claims.specs.Steps.{seenOf, viewOf, opOf, steps}
-use Rattle.claims.proofs.Tries.{taken, tries, inBody}
+use Rattle.claims.proofs.Tries.{taken, tries, keyed, inBody}
 use Rattle.claims.proofs.Suspension.{paidBy}
+use Rattle.claims.proofs.Cores.{no-both}
+use Rattle.claims.proofs.Quiet.{Same, alloc-same}
 use Rattle.claims.proofs.Enters.{length-top}
 use Rattle.claims.proofs.Views.{base-top}
 use Rattle.claims.proofs.Bodies.{Cut, cut-above, cut-base}
@@ -68,13 +78,17 @@ mostFrames : Option Seen → ℕ
 mostFrames none = 0
 mostFrames (some x) = x .mostFrames
 
-no-growth : (a b m n c : ℕ) → a ≤ m → b ≤ n → (a - m) * 8 + (b - n) * c ≡ 0
-no-growth a b m n c p q =
-    let x : a - m ≡ 0 = omega (arith, p) in
-    let y : b - n ≡ 0 = omega (arith, q) in
-    ap (λ k. k * 8 + (b - n) * c) x ∙ (ap (λ k. 0 * 8 + k * c) y ∙ ap (λ k. 0 * 8 + k) (zero-mul c))
+-- what it would save beyond the most
+abbrev grown : (w : World) (n c : ℕ) → Roomy steps n c w → ℕ
+grown w n c m = (length (drop (m .held .body .base) (w .stack)) - m .seen .mostWords) * 8 + (length (m .held .over ++ (m .held .body ∷ [])) - m .seen .mostFrames) * w .setup .costs .frame
 
-module _ (w : World) (c : ℕ) (m : Roomy steps c w) where
+-- fewer bytes are within the limit too
+room-less : (a b c d l k : ℕ) → a + b ≤ c + d → l ≡ k → leb (min (c + d) (2 ^ 64 - 1)) l ≡ true → leb (min (a + b) (2 ^ 64 - 1)) k ≡ true
+room-less a b c d l k p e h =
+    let q : min (c + d) (2 ^ 64 - 1) ≤ l = leb-true (min (c + d) (2 ^ 64 - 1)) l h in
+    le-leb (min (a + b) (2 ^ 64 - 1)) k (omega (arith, p, e, q))
+
+module _ (w : World) (n c : ℕ) (m : Roomy steps n c w) where
   well : sound w ≡ true
   well = healthy-sound w (m .healthy)
 
@@ -89,52 +103,55 @@ module _ (w : World) (c : ℕ) (m : Roomy steps c w) where
   unfolding charge
   charges pc = ap (λ b. pick b (chargeSlow (OptPc.Some pc) w) (after (spend w) (Charge.Done 0))) (m .fuel) ∙ pick-false (chargeSlow (OptPc.Some pc) w) (after (spend w) (Charge.Done 0))
 
-  module _ (pc dst x : ℕ) (st : CoroState) (keys : Keys) where
+  -- at u, which is w but for n bytes at most and an object; its own words are as they were
+  module _ (u : World) (same : Same w u) (paid : u .used ≤ w .used + n) (pc dst x : ℕ) (st : CoroState) (keys : Keys) where
     abbrev v : World
-    v = storePc pc (spend w)
+    v = storePc pc u
 
     abbrev K : Core
     K = saved st dst (a .floor) v
 
-    inside : leb (length (onTop (setPc pc) (w .frames))) (length (m .held .under)) ≡ false
+    inside : leb (length (onTop (setPc pc) (u .frames))) (length (m .held .under)) ≡ false
     inside =
-        let e : length (onTop (setPc pc) (w .frames)) ≡ length (w .frames) = length-top (setPc pc) (w .frames) in
+        let e : length (onTop (setPc pc) (u .frames)) ≡ length (w .frames) = length-top (setPc pc) (u .frames) ∙ ap (λ (fs : List Frame). length fs) (same .frames) in
         let f : length (w .frames) ≡ length (m .held .over) + suc (length (m .held .under)) = ap (λ (fs : List Frame). length fs) (m .held .frames) ∙ length-append (m .held .over) (m .held .body ∷ m .held .under) in
-        lt-leb (length (onTop (setPc pc) (w .frames))) (length (m .held .under)) (omega (arith, e, f))
+        lt-leb (length (onTop (setPc pc) (u .frames))) (length (m .held .under)) (omega (arith, e, f))
 
-    words-fit : (n : ℕ) → m .seen .mostWords ≡ n → length (K .regs) ≤ n
-    words-fit n e =
-        let q : length (K .regs) ≡ length (drop (m .held .body .base) (w .stack)) = ap (λ b. length (drop b (w .stack))) (cut-base pc (w .frames) a t) in
-        let p = m .words in
-        omega (arith, e, q, p)
+    words : length (K .regs) ≡ length (drop (m .held .body .base) (w .stack))
+    words = (λ i. length (drop (baseAt (a .floor) (onTop (setPc pc) (same .frames i))) (same .stack i))) ∙ ap (λ b. length (drop b (w .stack))) (cut-base pc (w .frames) a t)
 
-    frames-fit : (n : ℕ) → m .seen .mostFrames ≡ n → length (K .frames) ≤ n
-    frames-fit n e =
-        let q : length (K .frames) ≡ length (m .held .over ++ (m .held .body ∷ [])) = length-map (above (a .floor) (onTop (setPc pc) (w .frames))) (lower (baseAt (a .floor) (onTop (setPc pc) (w .frames))))
-        ∙ (ap (λ (fs : List Frame). length fs) (cut-above pc (w .frames) a t) ∙ at-length pc (m .held .over ++ (m .held .body ∷ []))) in
-        let p = m .frames in
-        omega (arith, e, q, p)
+    frames : length (K .frames) ≡ length (m .held .over ++ (m .held .body ∷ []))
+    frames =
+        length-map (above (a .floor) (onTop (setPc pc) (u .frames))) (lower (baseAt (a .floor) (onTop (setPc pc) (u .frames))))
+        ∙ (ap (λ (fs : List Frame). length (above (a .floor) (onTop (setPc pc) fs))) (same .frames)
+        ∙ (ap (λ (fs : List Frame). length fs) (cut-above pc (w .frames) a t) ∙ at-length pc (m .held .over ++ (m .held .body ∷ []))))
 
     fits-still : (r : Rest) → m .seen .mostWords ≡ r .maxregs → m .seen .mostFrames ≡ r .maxframes → fits v (growth v K r) ≡ true
     fits-still r e f =
-        let g : growth v K r ≡ 0 = no-growth (length (K .regs)) (length (K .frames)) (r .maxregs) (r .maxframes) (w .setup .costs .frame) (words-fit (r .maxregs) e) (frames-fit (r .maxframes) f) in
-        let room = sound→ {ex = false} w well (λ z. absurd (false≢true z)) .room in
-        le-leb _ (w .setup .limits .memory) (omega (arith, g, room))
+        let g : growth v K r ≡ grown w n c m = λ i. (words i - sym e i) * 8 + (frames i - sym f i) * same .setup i .costs .frame in
+        let l : w .setup .limits .memory ≡ u .setup .limits .memory = ap (λ s. s .limits .memory) (sym (same .setup)) in
+        room-less (u .used) (growth v K r) (w .used) (n + grown w n c m) (w .setup .limits .memory) (u .setup .limits .memory) (omega (arith, paid, g)) l (m .grows)
 
-    found : (y : Coroutine) → coro w c ≡ y → seenOf y ≡ some (m .seen) → taken (suspendAs y a (m .held .outer) K x keys v .answer) ≡ true
+    found : (y : Coroutine) → seenOf y ≡ some (m .seen) → taken (suspendAs y a (m .held .outer) K x keys v .answer) ≡ true
     unfolding mostWords mostFrames
-    found Absent e q = let z : _≡_ {A = ℕ} 0 1 = cc in absurd (omega arith)
-    found (Is k r) e q =
+    found Absent q = let z : _≡_ {A = ℕ} 0 1 = cc in absurd (omega arith)
+    found (Is k r) q =
         ap (λ b. taken (pick (not b) (after v (Suspension.Refused Fault.OutOfMemory)) (after (Coro.suspended a (m .held .outer) K x keys r v) (Suspension.Done (a .driver) (Coro.eventOf st x (Coro.setKeys keys r)))) .answer)) (fits-still r (sym (ap mostWords q)) (sym (ap mostFrames q)))
         ∙ ap (λ (y : After Suspension). taken (y .answer)) (pick-false (after v (Suspension.Refused Fault.OutOfMemory)) (after (Coro.suspended a (m .held .outer) K x keys r v) (Suspension.Done (a .driver) (Coro.eventOf st x (Coro.setKeys keys r)))))
 
-    pub accepted : tries pc st dst x (spend w) keys ≡ true
+    pub accepted : tries pc st dst x u keys ≡ true
     unfolding coroSuspend
     accepted =
-        ap (λ (cs : List Active). taken (suspendOn cs st dst x keys v .answer)) (m .held .chain)
-        ∙ (ap (λ b. taken (pick b (after v (Suspension.Refused Fault.CannotSuspend)) (suspendAs (coro w c) a (m .held .outer) K x keys v) .answer)) inside
-        ∙ (ap (λ (y : After Suspension). taken (y .answer)) (pick-false (after v (Suspension.Refused Fault.CannotSuspend)) (suspendAs (coro w c) a (m .held .outer) K x keys v))
-        ∙ found (coro w c) refl (m .there)))
+        ap (λ (cs : List Active). taken (suspendOn cs st dst x keys v .answer)) (same .chain ∙ m .held .chain)
+        ∙ (ap (λ b. taken (pick b (after v (Suspension.Refused Fault.CannotSuspend)) (suspendAs (coro u c) a (m .held .outer) K x keys v) .answer)) inside
+        ∙ (ap (λ (y : After Suspension). taken (y .answer)) (pick-false (after v (Suspension.Refused Fault.CannotSuspend)) (suspendAs (coro u c) a (m .held .outer) K x keys v))
+        ∙ found (coro u c) (ap seenOf (same .coros c) ∙ m .there)))
+
+  spent : Same w (spend w)
+  spent = record { setup = refl; stack = refl; frames = refl; chain = refl; coros = λ x. refl }
+
+  still : spend w .used ≤ w .used + n
+  still = omega arith
 
   -- an instruction whose operands lie takes it
   takes : (pc : ℕ) (ok : Bool) (f : World → Bool) → ok ≡ true → f (spend w) ≡ true →
@@ -152,7 +169,9 @@ module _ (w : World) (c : ℕ) (m : Roomy steps c w) where
       ap (λ x. suspends (numberOf x)) (number-sound w o well)
       ∙ (ap (λ q. suspends (numberOf (call q w .answer))) (some-op e)
       ∙ (call-number w well (Op.Await pc dst src) refl
-      ∙ takes pc (allIn (dst ∷ src ∷ []) w) _ (rw (← base-top (w .frames)) l) (ap (λ (cs : List Active). inBody cs (λ _. tries pc CoroState.Awaiting dst (reg (spend w) src) (spend w) Keys.Keep)) (m .held .chain) ∙ accepted pc dst (reg (spend w) src) CoroState.Awaiting Keys.Keep)))
+      ∙ takes pc (allIn (dst ∷ src ∷ []) w) _ (rw (← base-top (w .frames)) l) (ap
+      (λ (cs : List Active). inBody cs (λ _. tries pc CoroState.Awaiting dst (reg (spend w) src) (spend w) Keys.Keep)) (m .held .chain) ∙ accepted (spend w) spent still pc dst
+      (reg (spend w) src) CoroState.Awaiting Keys.Keep)))
 
   pub kv-takes : (k : Call) (pc dst src key : ℕ) → opOf k ≡ some (Op.YieldKv pc dst src key) → lie (viewOf w) (dst ∷ src ∷ key ∷ []) ≡ true → suspends (numberOf (step w k .answer)) ≡ true
   kv-takes (SetUp s) pc dst src key e l = let z : _≡_ {A = ℕ} 0 1 = cc in absurd (omega arith)
@@ -161,4 +180,77 @@ module _ (w : World) (c : ℕ) (m : Roomy steps c w) where
       ap (λ x. suspends (numberOf x)) (number-sound w o well)
       ∙ (ap (λ q. suspends (numberOf (call q w .answer))) (some-op e)
       ∙ (call-number w well (Op.YieldKv pc dst src key) refl
-      ∙ takes pc (allIn (dst ∷ src ∷ key ∷ []) w) _ (rw (← base-top (w .frames)) l) (ap (λ (cs : List Active). inBody cs (λ b. tries pc CoroState.Yielded dst (reg (spend w) src) (spend w) (keys b))) (m .held .chain) ∙ accepted pc dst (reg (spend w) src) CoroState.Yielded (keys a))))
+      ∙ takes pc (allIn (dst ∷ src ∷ key ∷ []) w) _ (rw (← base-top (w .frames)) l) (ap
+      (λ (cs : List Active). inBody cs (λ b. tries pc CoroState.Yielded dst (reg (spend w) src) (spend w) (keys b))) (m .held .chain) ∙ accepted (spend w) spent still pc dst
+      (reg (spend w) src) CoroState.Yielded (keys a))))
+
+  -- ---- a Yield: its key is made, or there is none (7)
+
+  module _ (cost : n ≡ w .setup .costs .int) (slot : slotsFull w ≡ false) where
+    abbrev largest : ℕ
+    largest = largestIn (coro (spend w) c)
+
+    affords : fits (spend w) (w .setup .costs .int) ≡ true
+    affords =
+        room-less (w .used) (w .setup .costs .int) (w .used) (n + grown w n c m) (w .setup .limits .memory) (w .setup .limits .memory) (omega (arith, cost)) refl (m .grows)
+
+    key-made : (pc dst x : ℕ) (k : ℕ) → nextKey largest ≡ Exact.Fits k
+        → keyed (tries pc CoroState.Yielded dst x) (autoKey largest (spend w) .world) (autoKey largest (spend w) .answer) ≡ true
+    unfolding autoKey alloc pick
+    key-made pc dst x k e = ap (λ y. keyed (tries pc CoroState.Yielded dst x) (keyExact y (spend w) .world) (keyExact y (spend w) .answer)) e ∙ go (inlineOf (ofBits 63 k))
+      where
+        made : World
+        made = withUsed (satAdd (w .used) (w .setup .costs .int)) (withSlots (pushObject (w .slots) (Object.Int k)) (spend w))
+
+        object : (b d : Bool) → b ≡ false → d ≡ false
+            → let o = pick b (refuse (spend w) Fault.OutOfMemory) (pick d (refuse (spend w) Fault.Full) (after made (Made.Word (nextWord (w .slots))))) in Same w (o .world)
+            → keyed (tries pc CoroState.Yielded dst x) (andThen o (keyAt k) .world) (andThen o (keyAt k) .answer) ≡ true
+        object true d p q g = no-both refl p
+        object false true p q g = no-both refl q
+        object false false p q g = accepted made g (omega (arith, cost)) pc dst x CoroState.Yielded (Keys.Set (nextWord (w .slots)) k)
+
+        go : (i : Inline) → keyed (tries pc CoroState.Yielded dst x) (andThen (encodeAt i k (spend w)) (keyAt k) .world) (andThen (encodeAt i k (spend w)) (keyAt k) .answer) ≡ true
+        go (Inline.At y) = accepted (spend w) spent still pc dst x CoroState.Yielded (Keys.Set (y .0) k)
+        go Inline.Large = object (not (fits (spend w) (w .setup .costs .int))) (slotsFull w) (ap not affords) slot (let g = alloc-same (w .setup .costs .int) (Object.Int k) (spend w) refl in record { setup = g .setup; stack = g .stack; frames = g .frames; chain = g .chain; coros = g .coros })
+
+    seven : (pc dst src : ℕ) → nextKey largest ≡ Exact.Over → yield pc dst src (spend w) .answer ≡ Step.Fault Fault.ArithOverflow
+    unfolding yield autoKey
+    seven pc dst src e =
+        ap (λ (cs : List Active). yieldOn cs pc dst src (spend w) .answer) (m .held .chain)
+        ∙ ap (λ y. andThen (keyExact y (spend w)) (yieldKey pc dst (reg (spend w) src)) .answer) e
+
+    -- the number of an instruction that is paid for
+    number-paid : (pc : ℕ) (ok : Bool) (arm : World → After Step) → ok ≡ true → instruction pc ok arm w .answer ≡ answerOf 0 (arm (spend w) .answer)
+    unfolding instruction
+    number-paid pc ok arm o =
+        let tail = andThen (charge (OptPc.Some pc) w) (charged arm) in
+        ap (λ b. pick b (refused w Fault.NoFrame) (pick (not ok) (refused w Fault.BadOperand) tail) .answer) (ap (λ (fs : List Frame). isNil fs) (m .held .frames) ∙ stands (m .held .over) (m .held .body) (m .held .under))
+        ∙ (ap (λ (x : After Answer). x .answer) (pick-false (refused w Fault.NoFrame) (pick (not ok) (refused w Fault.BadOperand) tail))
+        ∙ (ap (λ b. pick (not b) (refused w Fault.BadOperand) tail .answer) o
+        ∙ (ap (λ (x : After Answer). x .answer) (pick-false (refused w Fault.BadOperand) tail)
+        ∙ ap (λ (x : After Charge). andThen x (charged arm) .answer) (charges pc))))
+
+    numbered : (suspends (numberOf (answerOf 0 (Step.Fault Fault.ArithOverflow))) || eqb (numberOf (answerOf 0 (Step.Fault Fault.ArithOverflow))) 7) ≡ true
+    unfolding pick
+    numbered = refl
+
+    pub yield-takes : (k : Call) (pc dst src : ℕ) → opOf k ≡ some (Op.Yield pc dst src) → lie (viewOf w) (dst ∷ src ∷ []) ≡ true → (suspends (numberOf (step w k .answer)) || eqb (numberOf (step w k .answer)) 7) ≡ true
+    unfolding call
+    yield-takes (SetUp s) pc dst src e l = let z : _≡_ {A = ℕ} 0 1 = cc in absurd (omega arith)
+    yield-takes (Do o) pc dst src e l = ap (λ x. suspends (numberOf x) || eqb (numberOf x) 7) (number-sound w o well ∙ ap (λ q. call q w .answer) (some-op e)) ∙ go (nextKey largest) refl
+      where
+        ok : allIn (dst ∷ src ∷ []) w ≡ true
+        ok = rw (← base-top (w .frames)) l
+
+        first : (b d : Bool) → b ≡ true → (b || d) ≡ true
+        first b d h = ap (λ x. x || d) h
+
+        go : (y : Exact) → nextKey largest ≡ y → (suspends (numberOf (call (Op.Yield pc dst src) w .answer)) || eqb (numberOf (call (Op.Yield pc dst src) w .answer)) 7) ≡ true
+        go (Exact.Fits k) q =
+            first (suspends (numberOf (call (Op.Yield pc dst src) w .answer))) _
+            (call-number w well (Op.Yield pc dst src) refl
+            ∙ takes pc (allIn (dst ∷ src ∷ []) w) _ ok (ap
+            (λ (cs : List Active). inBody cs (λ b. keyed (tries pc CoroState.Yielded dst (reg (spend w) src)) (autoKey (largestIn (coro (spend w) (b .coro))) (spend w) .world) (autoKey (largestIn (coro (spend w) (b .coro))) (spend w) .answer)))
+            (m .held .chain) ∙ key-made pc dst (reg (spend w) src) k q))
+        go Exact.Over q =
+            ap (λ x. suspends (numberOf x) || eqb (numberOf x) 7) (number-paid pc (allIn (dst ∷ src ∷ []) w) (yield pc dst src) ok ∙ ap (answerOf 0) (seven pc dst src q)) ∙ numbered

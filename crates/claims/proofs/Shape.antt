@@ -5,39 +5,46 @@ use mathlib.Core.Path.{_≡_}
 use mathlib.Core.Logic.{_≢_, _⊎_}
 use mathlib.Core.Bool.{Bool, true, false}
 use mathlib.Core.List.{List, [], _∷_, _++_, map}
+use mathlib.Core.Option.{none}
 use lib.ListN.{length, take}
-use Rattle.heap.specs.declared.value.Opt.{Opt}
 use Rattle.heap.specs.declared.object.CoroState.{CoroState}
 use Rattle.model.specs.Lists.{isNil}
 use Rattle.model.specs.State.{isCreated, isRunning, isSuspended, isResumable}
-use Rattle.model.specs.Object.{Core}
+use Rattle.model.specs.Program.{Setup}
 use Rattle.model.specs.World.{World}
-use Rattle.model.specs.Frames.{isCoro, onTop, setPc, raise, below, baseAt, putAt, storePc}
+use Rattle.model.specs.Frames.{isCoro, onTop, setPc, raise, below, baseAt, putAt}
 use Rattle.model.specs.Heap.{coro}
-use Rattle.model.specs.Coro.{active, inState, saved}
+use Rattle.model.specs.Coro.{active}
 use Rattle.model.specs.Sound.{marked}
 use Rattle.model.specs.declared.machine.Driver.{Driver}
 use Rattle.model.specs.declared.machine.Active.{Active}
 use Rattle.model.specs.declared.machine.Frame.{Frame}
 use Rattle.model.specs.declared.call.Op.{Op}
+use Rattle.claims.specs.Says.{Sent}
+use Rattle.claims.specs.Held.{closedBy}
 use Rattle.claims.proofs.Entry.{suspends, Act, at, byHost, finishes, unwinds, other, act, Entry, nobody, entry, entryBy, pcBy}
 use Rattle.claims.proofs.Suspension.{suspendsIn, takesBy}
-use Rattle.claims.proofs.Held.{coreAt, wordsWith, framesWith, Returns, eventAs, eventBy, mem, deliverTo}
+use Rattle.claims.proofs.Held.{Seat, coreAt, heldAs, wordsWith, framesWith, Returns, eventAs, eventBy, mem, deliverTo}
 use Rattle.claims.proofs.Cores.{Kept}
 
 -- what a switch moves
 pub record View : Type 0 where
+  pub setup : Setup
   pub stack : List ℕ
   pub frames : List Frame
   pub chain : List Active
-  pub cores : ℕ → Core
+  pub cores : ℕ → Seat
 
 abbrev pub view : World → View
-view w = record { stack = w .stack; frames = w .frames; chain = w .chain; cores = coreAt w }
+view w = record { setup = w .setup; stack = w .stack; frames = w .frames; chain = w .chain; cores = coreAt w }
 
 -- the core of a coroutine that ends in a state, and all others as they were
-pub record Ends (s : CoroState) (v : ℕ) (k l : ℕ → Core) : Type 0 where
-  pub mine : (l v ≡ inState s (k v)) ⊎ ((isCreated (k v .state) ≡ true) × (l v ≡ k v))
+-- nothing is saved any more, and nothing closes it
+abbrev pub over : CoroState → Seat → Seat
+over s k = record { state = s; regs = []; frames = []; waiting = k .waiting; closing = none }
+
+pub record Ends (s : CoroState) (v : ℕ) (k l : ℕ → Seat) : Type 0 where
+  pub mine : (l v ≡ over s (k v)) ⊎ ((isCreated (k v .state) ≡ true) × (l v ≡ k v))
   pub others : (u : ℕ) → u ≢ v → l u ≡ k u
 
 -- a frame keeps its base and its continuation
@@ -46,57 +53,61 @@ pub record Keeps (g : Frame → Frame) : Type 0 where
   pub cont : (f : Frame) → g f .cont ≡ f .cont
 
 abbrev pub topV : (Frame → Frame) → View → View
-topV g v = record { stack = v .stack; frames = onTop g (v .frames); chain = v .chain; cores = v .cores }
+topV g v = record { setup = v .setup; stack = v .stack; frames = onTop g (v .frames); chain = v .chain; cores = v .cores }
 
 abbrev pub putV : ℕ → ℕ → View → View
-putV r x v = record { stack = putAt (v .frames) r x (v .stack); frames = v .frames; chain = v .chain; cores = v .cores }
+putV r x v = record { setup = v .setup; stack = putAt (v .frames) r x (v .stack); frames = v .frames; chain = v .chain; cores = v .cores }
 
 abbrev pub pushV : Frame → List ℕ → View → View
-pushV f xs v = record { stack = v .stack ++ xs; frames = f ∷ v .frames; chain = v .chain; cores = v .cores }
+pushV f xs v = record { setup = v .setup; stack = v .stack ++ xs; frames = f ∷ v .frames; chain = v .chain; cores = v .cores }
 
 abbrev pub popV : Frame → List Frame → View → View
-popV f fs v = record { stack = take (f .base) (v .stack); frames = fs; chain = v .chain; cores = v .cores }
+popV f fs v = record { setup = v .setup; stack = take (f .base) (v .stack); frames = fs; chain = v .chain; cores = v .cores }
 
-abbrev pub coresV : (ℕ → Core) → View → View
-coresV k v = record { stack = v .stack; frames = v .frames; chain = v .chain; cores = k }
+abbrev pub coresV : (ℕ → Seat) → View → View
+coresV k v = record { setup = v .setup; stack = v .stack; frames = v .frames; chain = v .chain; cores = k }
 
-abbrev pub endV : Frame → List Frame → List Active → (ℕ → Core) → View → View
-endV f fs chain k v = record { stack = take (f .base) (v .stack); frames = fs; chain = chain; cores = k }
+abbrev pub endV : Frame → List Frame → List Active → (ℕ → Seat) → View → View
+endV f fs chain k v = record { setup = v .setup; stack = take (f .base) (v .stack); frames = fs; chain = chain; cores = k }
 
 -- moves, from the first to the last
-pub data Worked : View → View → Type 0 where
-  done : {v : View} → Worked v v
+pub data Worked (b : Bool) : View → View → Type 0 where
+  done : {v : View} → Worked b v v
   -- cores that have not begun
-  quiet : {v z : View} (k : ℕ → Core) → ((c : ℕ) → Kept (v .cores c) (k c)) → Worked (coresV k v) z → Worked v z
+  quiet : {v z : View} (k : ℕ → Seat) → ((c : ℕ) → Kept (v .cores c) (k c)) → Worked b (coresV k v) z → Worked b v z
   -- the top frame's pc
-  tops : {v z : View} (g : Frame → Frame) → Keeps g → Worked (topV g v) z → Worked v z
-  puts : {v z : View} (r x : ℕ) → Worked (putV r x v) z → Worked v z
-  pushes : {v z : View} (f : Frame) (xs : List ℕ) → isCoro (f .cont) ≡ false → f .base ≡ length (v .stack) → Worked (pushV f xs v) z → Worked v z
-  pops : {v z : View} (f : Frame) (fs : List Frame) → v .frames ≡ f ∷ fs → (isCoro (f .cont) ≡ false) ⊎ (v .chain ≡ []) → Worked (popV f fs v) z → Worked v z
-  -- a body goes, and its coroutine fails
-  fails : {v z : View} (f : Frame) (fs : List Frame) (a : Active) (chain : List Active) (k : ℕ → Core) → v .frames ≡ f ∷ fs → isCoro (f .cont) ≡ true → v .chain ≡ a ∷ chain → Ends CoroState.Failed (a .coro) (v .cores) k → Worked (endV f fs chain k v) z → Worked v z
+  tops : {v z : View} (g : Frame → Frame) → Keeps g → Worked b (topV g v) z → Worked b v z
+  puts : {v z : View} (r x : ℕ) → Worked b (putV r x v) z → Worked b v z
+  pushes : {v z : View} (f : Frame) (xs : List ℕ) → isCoro (f .cont) ≡ false → f .base ≡ length (v .stack) → Worked b (pushV f xs v) z → Worked b v z
+  pops : {v z : View} (f : Frame) (fs : List Frame) → v .frames ≡ f ∷ fs → (isCoro (f .cont) ≡ false) ⊎ (v .chain ≡ []) → Worked b (popV f fs v) z → Worked b v z
+  -- a body goes, and its coroutine fails; b: whether one may
+  fails : {v z : View} (f : Frame) (fs : List Frame) (a : Active) (chain : List Active) (k : ℕ → Seat) → b ≡ true → v .frames ≡ f ∷ fs → isCoro (f .cont) ≡ true → v .chain ≡ a ∷ chain → Ends CoroState.Failed (a .coro) (v .cores) k → Worked b (endV f fs chain k v) z → Worked b v z
 
 -- c is entered at w, and z is left; p is the caller's pc
-pub record Enter (w : World) (p c : ℕ) (d : Driver) (sent : Opt) (z : World) : Type 0 where
+pub record Enter (w : World) (p c : ℕ) (d : Driver) (sent : Sent) (z : World) : Type 0 where
+  pub setup : z .setup ≡ w .setup
   pub ready : isResumable (coreAt w c .state) ≡ true
   pub solid : isNil (coreAt w c .frames) ≡ false
   pub stack : z .stack ≡ w .stack ++ wordsWith sent (coreAt w c)
   pub frames : z .frames ≡ map (raise (length (w .stack))) (framesWith sent (coreAt w c)) ++ onTop (setPc p) (w .frames)
   pub chain : z .chain ≡ active c (length (w .frames)) d ∷ w .chain
   pub mine : isRunning (coreAt z c .state) ≡ true
+  pub closing : coreAt z c .closing ≡ closedBy sent (coreAt w c .closing)
   pub others : (u : ℕ) → u ≢ c → coreAt z u ≡ coreAt w u
 
 -- the innermost coroutine a is suspended at w, and z is left
 pub record Suspend (w : World) (p : ℕ) (s : CoroState) (dst x : ℕ) (a : Active) (chain : List Active) (z : World) : Type 0 where
+  pub setup : z .setup ≡ w .setup
   pub inmost : w .chain ≡ a ∷ chain
   pub asleep : isSuspended s ≡ true
-  pub mine : coreAt z (a .coro) ≡ saved s dst (a .floor) (storePc p w)
+  pub mine : coreAt z (a .coro) ≡ heldAs (coreAt w (a .coro) .closing) s dst (a .floor) (baseAt (a .floor) (onTop (setPc p) (w .frames))) (onTop (setPc p) (w .frames)) (w .stack)
   pub others : (u : ℕ) → u ≢ a .coro → Kept (coreAt w u) (coreAt z u)
   pub under : mem (z .stack) (z .frames) ≡ deliverTo (a .driver) (eventAs (marked (λ r. r .closing) (coro w (a .coro))) s x) (mem (take (baseAt (a .floor) (onTop (setPc p) (w .frames))) (w .stack)) (below (a .floor) (onTop (setPc p) (w .frames))))
   pub outer : z .chain ≡ chain
 
 -- the body f of the innermost coroutine a returns x at v, and z is left
 pub record Return (v : View) (x : ℕ) (f : Frame) (fs : List Frame) (a : Active) (chain : List Active) (z : World) : Type 0 where
+  pub setup : z .setup ≡ v .setup
   pub body : v .frames ≡ f ∷ fs
   pub its-own : isCoro (f .cont) ≡ true
   pub inmost : v .chain ≡ a ∷ chain
@@ -110,6 +121,7 @@ Apart c (a ∷ chain) = (c ≢ a .coro) × Apart c chain
 
 -- every coroutine of the chain fails, and all others are as they were
 pub record Stop (w z : World) : Type 0 where
+  pub setup : z .setup ≡ w .setup
   pub apart : (c : ℕ) → Apart c (w .chain) → coreAt z c ≡ coreAt w c
   pub each : (c : ℕ) → (Apart c (w .chain) × (coreAt z c ≡ coreAt w c)) ⊎ ((coreAt z c .state ≡ CoroState.Failed) ⊎ ((isCreated (coreAt w c .state) ≡ true) × (coreAt z c ≡ coreAt w c)))
   pub outer : z .chain ≡ []
@@ -128,8 +140,8 @@ isEnding unwinds = true
 isEnding other = false
 
 pub data Shape (w : World) (o : Op) (z : World) : Type 0 where
-  works : Says w o nobody false → Worked (view w) (view z) → Shape w o z
-  enters : (c : ℕ) (d : Driver) (sent : Opt) → Says w o (entry c d sent) false → Enter w (pcBy (act w o)) c d sent z → Shape w o z
+  works : Says w o nobody false → (b : Bool) → isEnding (act w o) ≡ b → Worked b (view w) (view z) → Shape w o z
+  enters : (c : ℕ) (d : Driver) (sent : Sent) → Says w o (entry c d sent) false → Enter w (pcBy (act w o)) c d sent z → Shape w o z
   suspended : (p : ℕ) (ok : Bool) (s : CoroState) (dst x : ℕ) (a : Active) (chain : List Active) → Says w o nobody true → act w o ≡ at p ok (suspends s dst x) → Suspend w p s dst x a chain z → Shape w o z
-  returns : (v : View) (x : ℕ) (f : Frame) (fs : List Frame) (a : Active) (chain : List Active) → Says w o nobody false → isEnding (act w o) ≡ true → ((c : ℕ) → eventBy (act w o) w c ≡ Returns x) → Worked (view w) v → Return v x f fs a chain z → Shape w o z
-  stops : Says w o nobody false → Stop w z → Shape w o z
+  returns : (v : View) (x : ℕ) (f : Frame) (fs : List Frame) (a : Active) (chain : List Active) → Says w o nobody false → isEnding (act w o) ≡ true → ((c : ℕ) → eventBy (act w o) w c ≡ Returns x) → Worked true (view w) v → Return v x f fs a chain z → Shape w o z
+  stops : Says w o nobody false → o ≡ Op.StopRun → Stop w z → Shape w o z

@@ -130,7 +130,8 @@ lift-of [] n h b = no-both h refl
 lift-of (f ∷ []) n h b = l-body (sym (pick-true (isCoro (f .cont)) (not (isCoro (f .cont)) && not (isEntry (f .cont)) && bodyLast [])) ∙ h) (eqb-true (f .base) 0 (and-right (leb (f .base) n) (eqb (f .base) 0) b))
 lift-of (f ∷ g ∷ gs) n h b =
     let p : (not (isCoro (f .cont)) && not (isEntry (f .cont)) && bodyLast (g ∷ gs)) ≡ true = sym (pick-false (isCoro (f .cont)) (not (isCoro (f .cont)) && not (isEntry (f .cont)) && bodyLast (g ∷ gs))) ∙ h in
-    l-plain (not-true (isCoro (f .cont)) (and-left (not (isCoro (f .cont))) (not (isEntry (f .cont))) (and-left (not (isCoro (f .cont)) && not (isEntry (f .cont))) (bodyLast (g ∷ gs)) p))) (lift-of (g ∷ gs) (f .base) (and-right (not (isCoro (f .cont)) && not (isEntry (f .cont))) (bodyLast (g ∷ gs)) p) (and-right (leb (f .base) n) (basesOk (f .base) (g ∷ gs)) b))
+    l-plain (not-true (isCoro (f .cont)) (and-left (not (isCoro (f .cont))) (not (isEntry (f .cont))) (and-left (not (isCoro (f .cont)) && not (isEntry (f .cont))) (bodyLast (g ∷ gs)) p)))
+    (lift-of (g ∷ gs) (f .base) (and-right (not (isCoro (f .cont)) && not (isEntry (f .cont))) (bodyLast (g ∷ gs)) p) (and-right (leb (f .base) n) (basesOk (f .base) (g ∷ gs)) b))
 
 each-at : {A : Type 0} (p : A → Bool) (xs : List A) (i : ℕ) (x : A) → p x ≡ true → each p xs ≡ true → p (getD xs i x) ≡ true
 each-at p [] i x h e = h
@@ -140,7 +141,9 @@ each-at p (y ∷ xs) (suc i) x h e = each-at p xs i x h (and-right (p y) (each p
 saved-in : (s : Setup) (x : Coroutine) → savedIn s x ≡ true → isResumable (coreIn x .state) ≡ true → isNil (coreIn x .frames) ≡ false → Lift (coreIn x .frames)
 saved-in s Absent h r n = no-both refl n
 saved-in s (Is k r) h e n =
-    let p : (bodyLast (k .frames) && framesOver s (length (k .regs)) (k .frames) && waits k) ≡ true = sym (ap (λ b. pick b (bodyLast (k .frames) && framesOver s (length (k .regs)) (k .frames) && waits k) (isNil (k .frames) && isNil (k .regs))) e ∙ pick-true (bodyLast (k .frames) && framesOver s (length (k .regs)) (k .frames) && waits k) (isNil (k .frames) && isNil (k .regs))) ∙ h in
+    let p : (bodyLast (k .frames) && framesOver s (length (k .regs)) (k .frames) && waits k) ≡ true = sym
+    (ap (λ b. pick b (bodyLast (k .frames) && framesOver s (length (k .regs)) (k .frames) && waits k) (isNil (k .frames) && isNil (k .regs))) e ∙ pick-true (bodyLast (k .frames) && framesOver s (length (k .regs)) (k .frames) && waits k) (isNil (k .frames) && isNil (k .regs)))
+    ∙ h in
     let q : (bodyLast (k .frames) && framesOver s (length (k .regs)) (k .frames)) ≡ true = and-left (bodyLast (k .frames) && framesOver s (length (k .regs)) (k .frames)) (waits k) p in
     lift-of (k .frames) (length (k .regs)) (and-left (bodyLast (k .frames)) (framesOver s (length (k .regs)) (k .frames)) q) (bases (k .frames) (length (k .regs)) (and-right (bodyLast (k .frames)) (framesOver s (length (k .regs)) (k .frames)) q))
   where
@@ -159,7 +162,8 @@ lifts w h c = go (place w c)
 pub first-runs : (w : World) → sound w ≡ true → (a : Active) (chain : List Active) → w .chain ≡ a ∷ chain → isRunning (coreAt w (a .coro) .state) ≡ true
 unfolding runningOk
 first-runs w h a chain e =
-    let all : each (λ a. runs (coro w (a .coro))) (a ∷ chain) ≡ true = ap (each (λ a. runs (coro w (a .coro)))) (sym e) ∙ and-left (each (λ a. runs (coro w (a .coro))) (w .chain)) (distinct (coros (w .chain))) (and-left (each (λ a. runs (coro w (a .coro))) (w .chain) && distinct (coros (w .chain))) (runsAmong (coros (w .chain)) 0 (w .slots)) (two w h .0)) in
+    let all : each (λ a. runs (coro w (a .coro))) (a ∷ chain) ≡ true = ap (each (λ a. runs (coro w (a .coro)))) (sym e) ∙ and-left (each (λ a. runs (coro w (a .coro))) (w .chain))
+    (distinct (coros (w .chain))) (and-left (each (λ a. runs (coro w (a .coro))) (w .chain) && distinct (coros (w .chain))) (runsAmong (coros (w .chain)) 0 (w .slots)) (two w h .0)) in
     sym (runs-core (coro w (a .coro))) ∙ and-left (runs (coro w (a .coro))) (each (λ a. runs (coro w (a .coro))) chain) all
 
 -- one that can be resumed has a frame

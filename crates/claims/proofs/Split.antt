@@ -9,14 +9,13 @@ use lib.ListN.{length}
 use Rattle.heap.specs.declared.object.CoroState.{CoroState}
 use Rattle.model.specs.State.{isRunning, isSuspended, isReturned}
 use Rattle.model.specs.Program.{setupOk}
-use Rattle.model.specs.Object.{Core}
 use Rattle.model.specs.World.{World}
 use Rattle.model.specs.Frames.{raise}
 use Rattle.model.specs.Coro.{active}
 use Rattle.model.specs.Call.{Call, SetUp, Do}
 use Rattle.model.specs.Step.{step, run}
 use Rattle.claims.proofs.Entry.{entry, entryOf, driverOf, sentOf}
-use Rattle.claims.proofs.Held.{coreAt, slept, isBody, wordsWith, framesWith, calling, eventOf, mem, deliverTo}
+use Rattle.claims.proofs.Held.{Seat, coreAt, slept, isBody, wordsWith, framesWith, calling, eventOf, mem, deliverTo}
 
 -- ---- events, read off the worlds before and after a call
 
@@ -57,14 +56,14 @@ Goes c w (k ∷ ks) = (restarts k ≡ false) × (Leaves c w k → ⊥) × Goes c
 -- ---- asleep. 01: "held are its Coro frame with all frames above it, and the words from that frame's base up"
 
 -- c is Yielded or Awaiting, and s is its state, saved words, saved frames and waiting register
-pub record Sleeps (w : World) (c : ℕ) (s : Core) : Type 0 where
+pub record Sleeps (w : World) (c : ℕ) (s : Seat) : Type 0 where
   pub asleep : isSuspended (s .state) ≡ true
   pub holds : coreAt w c ≡ s
 
 -- ---- the claim, in parts
 
 -- k, at w, enters c, which holds s, and leaves z: the caller's words, and s's; s's frames, raised, on the caller's
-pub record Entered (w : World) (k : Call) (c : ℕ) (s : Core) (z : World) : Type 0 where
+pub record Entered (w : World) (k : Call) (c : ℕ) (s : Seat) (z : World) : Type 0 where
   pub who : entryOf w k ≡ entry c (driverOf (entryOf w k)) (sentOf (entryOf w k))
   pub stack : z .stack ≡ w .stack ++ wordsWith (sentOf (entryOf w k)) s
   pub frames : z .frames ≡ map (raise (length (w .stack))) (framesWith (sentOf (entryOf w k)) s) ++ calling w k
@@ -82,7 +81,7 @@ pub record Split (w₁ : World) (x : Call) (waiting : List Call) (y : Call) (goi
   pub suspension : Suspends c w₁ x → Sleeps (next w₁ x) c (slept w₁ x c)
   pub its-body : Suspends c w₁ x → isBody (slept w₁ x c .frames) ≡ true
   -- it sleeps on, whatever is called, until it is entered
-  pub sleep : (s : Core) → Sleeps (next w₁ x) c s → Waits c (next w₁ x) waiting → Sleeps (run (next w₁ x) waiting) c s
+  pub sleep : (s : Seat) → Sleeps (next w₁ x) c s → Waits c (next w₁ x) waiting → Sleeps (run (next w₁ x) waiting) c s
   -- y enters c, be it the first time: what it holds is put on the caller
   pub entry : let w₃ = run (next w₁ x) waiting in Enters c w₃ y → Entered w₃ y c (coreAt w₃ c) (next w₃ y)
   -- y is its next entry after x: what x found is put back

@@ -5,7 +5,6 @@ use mathlib.Core.Bool.{Bool, true, false, not, _&&_, _||_}
 use Rattle.lists.specs.Pick.{pick, pick-true, pick-false}
 use Rattle.heap.specs.Word.{nil}
 use Rattle.heap.specs.declared.fault.Fault.{Fault}
-use Rattle.heap.specs.declared.value.Opt.{Opt}
 use Rattle.heap.specs.declared.object.CoroState.{CoroState}
 use Rattle.model.specs.Lists.{isNil}
 use Rattle.model.specs.State.{isCreated, isAwaiting, isReturned, isSuspended, isResumable}
@@ -20,14 +19,15 @@ use Rattle.model.specs.Exec.{fault, arrive, resume, throwEntered, throwTo, resu
 use Rattle.model.specs.declared.machine.Driver.{Driver}
 use Rattle.model.specs.declared.coro.Entered.{Entered}
 use Rattle.model.specs.declared.coro.Stated.{Stated}
+use Rattle.claims.specs.Says.{Sent, nothing, gets, closes}
 use Rattle.claims.proofs.Entry.{enters, awaits, nobody, entry, acceptsAs, accepts, sentTo}
 use Rattle.claims.proofs.Held.{coreIn, coreAt}
 use Rattle.claims.proofs.Cores.{no-both, busy}
 use Rattle.claims.proofs.Shape.{View, view, Worked, done, quiet, tops, puts, Enter}
 use Rattle.claims.proofs.Under.{keeps-pc}
-use Rattle.claims.proofs.Enters.{EnterCase, e-in, e-out, enter-case, raw-none, raw-sent, raw-calm, enter-raw, Stored, coro-slots, accepts-stored}
+use Rattle.claims.proofs.Enters.{EnterCase, e-in, e-out, enter-case, raw-none, raw-sent, raw-calm, raw-closed, enter-raw, Stored, coro-slots, accepts-stored}
 use Rattle.claims.proofs.Instr.{Arm, a-works, a-enters}
-use Rattle.claims.proofs.Quiet.{Calm, calm-worked, done-calm, finish-ends, unborn-ends, change-still, change-calm}
+use Rattle.claims.proofs.Quiet.{Calm, calm-worked, done-calm, finish-ends, unborn-ends, change-still}
 
 -- ---- coro_enter with the caller's pc, and then a tail
 
@@ -46,9 +46,9 @@ tailW g w (Entered.Suspended d) = g w
 tailW g w (Entered.Refused f) = w
 
 -- an entry was accepted and leaves z, or was refused
-pub data Tried (v : World) (p c : ℕ) (d : Driver) (s : Opt) (z : World) : Type 0 where
+pub data Tried (v : World) (p c : ℕ) (d : Driver) (s : Sent) (z : World) : Type 0 where
   t-in : accepts v c ≡ true → isResumable (coreAt v c .state) ≡ true → Enter v p c d (sentTo (coro v c) s) z → Tried v p c d s z
-  t-out : accepts v c ≡ false → Worked (view v) (view z) → Tried v p c d s z
+  t-out : accepts v c ≡ false → Worked false (view v) (view z) → Tried v p c d s z
 
 sent-pick : (b : Bool) (x y : ℕ) (w : World) → pick b w (coroSend y x w) ≡ sentW x w (pick b Entered.Fresh (Entered.Suspended y))
 unfolding pick
@@ -60,52 +60,70 @@ unfolding pick
 tail-pick true y g w = refl
 tail-pick false y g w = refl
 
-pick-none : (b : Bool) → pick b Opt.None Opt.None ≡ Opt.None
+pick-none : (b : Bool) → pick b nothing nothing ≡ nothing
 unfolding pick
 pick-none true = refl
 pick-none false = refl
 
 -- u is v with the caller's pc
-pub try-at : (v : World) (p c : ℕ) (d : Driver) (x : ℕ) (u : World) → Stored p v u → Worked (view v) (view u) → let e = coroEnter c d u in Tried v p c d (Opt.Some x) (sentW x (e .world) (e .answer))
+pub try-at : (v : World) (p c : ℕ) (d : Driver) (x : ℕ) (u : World) → Stored p v u → Worked false (view v) (view u) → let e = coroEnter c d u in Tried v p c d (gets x) (sentW x (e .world) (e .answer))
 try-at v p c d x u s w = go (coroEnter c d u) (enter-case c d u)
   where
     same : coro v c ≡ coro u c
     same = sym (coro-slots u v (s .slots) c)
 
-    go : (e : After Entered) → EnterCase c d u e → Tried v p c d (Opt.Some x) (sentW x (e .world) (e .answer))
+    go : (e : After Entered) → EnterCase c d u e → Tried v p c d (gets x) (sentW x (e .world) (e .answer))
     go e (e-out f h) = t-out (sym (accepts-stored s c) ∙ h) w
     go e (e-in k r h a b m) =
         t-in (sym (accepts-stored s c) ∙ a) (ap (λ y. isResumable (coreIn y .state)) (same ∙ h) ∙ b)
-        (subst (λ t. Enter v p c d t (sentW x (entered c d k r u) (pick (isCreated (k .state)) Entered.Fresh (Entered.Suspended (k .waiting))))) (sym (ap (λ y. sentTo y (Opt.Some x)) (same ∙ h)))
-        (subst (Enter v p c d (pick (isCreated (k .state)) Opt.None (Opt.Some x))) (sent-pick (isCreated (k .state)) x (k .waiting) (entered c d k r u))
+        (subst (λ t. Enter v p c d t (sentW x (entered c d k r u) (pick (isCreated (k .state)) Entered.Fresh (Entered.Suspended (k .waiting))))) (sym (ap (λ y. sentTo y (gets x)) (same ∙ h)))
+        (subst (Enter v p c d (pick (isCreated (k .state)) nothing (gets x))) (sent-pick (isCreated (k .state)) x (k .waiting) (entered c d k r u))
         (enter-raw k r s h b m (raw-sent c d u k r h x m (isCreated (k .state))))))
 
-pub try-sent : (v : World) (p c : ℕ) (d : Driver) (x : ℕ) → let e = coroEnter c d (storePc p v) in Tried v p c d (Opt.Some x) (sentW x (e .world) (e .answer))
+pub try-sent : (v : World) (p c : ℕ) (d : Driver) (x : ℕ) → let e = coroEnter c d (storePc p v) in Tried v p c d (gets x) (sentW x (e .world) (e .answer))
 try-sent v p c d x = try-at v p c d x (storePc p v) (stored p v) (tops (setPc p) (keeps-pc p) done)
 
-pub try-silent : (v : World) (p c : ℕ) (d : Driver) (g : World → World) → ((w : World) → Calm w (g w)) → let e = coroEnter c d (storePc p v) in Tried v p c d Opt.None (tailW g (e .world) (e .answer))
+pub try-silent : (v : World) (p c : ℕ) (d : Driver) (g : World → World) → ((w : World) → Calm w (g w)) → let e = coroEnter c d (storePc p v) in Tried v p c d nothing (tailW g (e .world) (e .answer))
 try-silent v p c d g calm = go (coroEnter c d u) (enter-case c d u)
   where
     u : World
     u = storePc p v
 
-    go : (e : After Entered) → EnterCase c d u e → Tried v p c d Opt.None (tailW g (e .world) (e .answer))
+    go : (e : After Entered) → EnterCase c d u e → Tried v p c d nothing (tailW g (e .world) (e .answer))
     go e (e-out f h) = t-out (sym (accepts-stored (stored p v) c) ∙ h) (tops (setPc p) (keeps-pc p) done)
     go e (e-in k r h a b m) =
         t-in (sym (accepts-stored (stored p v) c) ∙ a) (ap (λ y. isResumable (coreIn y .state)) h ∙ b)
-        (subst (λ s. Enter v p c d s (tailW g i (pick (isCreated (k .state)) Entered.Fresh (Entered.Suspended (k .waiting))))) (sym (ap (λ y. sentTo y Opt.None) h ∙ pick-none (isCreated (k .state))))
-        (subst (Enter v p c d Opt.None) (tail-pick (isCreated (k .state)) (k .waiting) g i)
+        (subst (λ s. Enter v p c d s (tailW g i (pick (isCreated (k .state)) Entered.Fresh (Entered.Suspended (k .waiting))))) (sym (ap (λ y. sentTo y nothing) h ∙ pick-none (isCreated (k .state))))
+        (subst (Enter v p c d nothing) (tail-pick (isCreated (k .state)) (k .waiting) g i)
         (enter-raw k r (stored p v) h b m (raw-calm (calm i) (raw-none c d u k r h)))))
       where
         i : World
         i = entered c d k r u
 
+-- one that has begun is closed by x
+pub try-closed : (v : World) (p c : ℕ) (d : Driver) (x : ℕ) (k : Core) (r : Rest) → coro v c ≡ Is k r → isCreated (k .state) ≡ false → let e = coroEnter c d (storePc p v) in Tried v p c d (closes x) (tailW (changeCoro c (λ k. k) (close x)) (e .world) (e .answer))
+try-closed v p c d x k₀ r₀ here begun = go (coroEnter c d u) (enter-case c d u)
+  where
+    u : World
+    u = storePc p v
+
+    go : (e : After Entered) → EnterCase c d u e → Tried v p c d (closes x) (tailW (changeCoro c (λ k. k) (close x)) (e .world) (e .answer))
+    go e (e-out f h) = t-out (sym (accepts-stored (stored p v) c) ∙ h) (tops (setPc p) (keeps-pc p) done)
+    go e (e-in k r h a b m) =
+        t-in (sym (accepts-stored (stored p v) c) ∙ a) (ap (λ y. isResumable (coreIn y .state)) h ∙ b)
+        (subst (λ s. Enter v p c d s (tailW (changeCoro c (λ k. k) (close x)) i (pick (isCreated (k .state)) Entered.Fresh (Entered.Suspended (k .waiting))))) (sym (ap (λ y. sentTo y (closes x)) here ∙ ap (λ t. pick t nothing (closes x)) begun ∙ pick-false nothing (closes x)))
+        (subst (Enter v p c d (closes x)) (tail-pick (isCreated (k .state)) (k .waiting) (changeCoro c (λ k. k) (close x)) i)
+        (enter-raw k r (stored p v) h b m (raw-closed c d u k r h x))))
+      where
+        i : World
+        i = entered c d k r u
+
 -- what an arm owes whose test `may` passes exactly if it tries
-pub tried-arm : {v z : World} {p c : ℕ} {d : Driver} {s : Opt} (may : Bool) → may ≡ true → Tried v p c d s z → Arm v p (enters c d s may) false z
+pub tried-arm : {v z : World} {p c : ℕ} {d : Driver} {s : Sent} (may : Bool) → may ≡ true → Tried v p c d s z → Arm v p (enters c d s may) false z
 tried-arm {v} {z} {p} {c} {d} {s} may e (t-in a r t) = a-enters refl c d (sentTo (coro v c) s) (λ i. (ap (λ b. pick (b && accepts v c) (entry c d (sentTo (coro v c) s)) nobody) e ∙ ap (λ b. pick b (entry c d (sentTo (coro v c) s)) nobody) a ∙ pick-true (entry c d (sentTo (coro v c) s)) nobody) i) t
 tried-arm {v} {z} {p} {c} {d} {s} may e (t-out a t) = a-works refl (ap (λ b. pick (b && accepts v c) (entry c d (sentTo (coro v c) s)) nobody) e ∙ ap (λ b. pick b (entry c d (sentTo (coro v c) s)) nobody) a ∙ pick-false (entry c d (sentTo (coro v c) s)) nobody) t
 
-pub may-not : {v z : World} {p c : ℕ} {d : Driver} {s : Opt} (may : Bool) → may ≡ false → Worked (view v) (view z) → Arm v p (enters c d s may) false z
+pub may-not : {v z : World} {p c : ℕ} {d : Driver} {s : Sent} (may : Bool) → may ≡ false → Worked false (view v) (view z) → Arm v p (enters c d s may) false z
 may-not {v} {c = c} {d = d} {s = s} may e t = a-works refl (ap (λ b. pick (b && accepts v c) (entry c d (sentTo (coro v c) s)) nobody) e ∙ pick-false (entry c d (sentTo (coro v c) s)) nobody) t
 
 -- ---- Resume
@@ -115,11 +133,11 @@ arrive-world x w Entered.Fresh = refl
 arrive-world x w (Entered.Suspended d) = refl
 arrive-world x w (Entered.Refused f) = refl
 
-pub resume-arm : (p dst c src : ℕ) (v : World) → Arm v p (enters (reg v c) (Driver.Resume dst) (Opt.Some (reg v src)) true) false (resume p dst c src v .world)
+pub resume-arm : (p dst c src : ℕ) (v : World) → Arm v p (enters (reg v c) (Driver.Resume dst) (gets (reg v src)) true) false (resume p dst c src v .world)
 unfolding resume
 resume-arm p dst c src v =
     let e = coroEnter (reg v c) (Driver.Resume dst) (storePc p v) in
-    tried-arm true refl (subst (Tried v p (reg v c) (Driver.Resume dst) (Opt.Some (reg v src))) (arrive-world (reg v src) (e .world) (e .answer)) (try-sent v p (reg v c) (Driver.Resume dst) (reg v src)))
+    tried-arm true refl (subst (Tried v p (reg v c) (Driver.Resume dst) (gets (reg v src))) (arrive-world (reg v src) (e .world) (e .answer)) (try-sent v p (reg v c) (Driver.Resume dst) (reg v src)))
 
 -- ---- ResumeThrow
 
@@ -148,19 +166,19 @@ thrown-world x w (Entered.Suspended d) = refl
 thrown-world x w (Entered.Refused f) = refl
 
 -- a coroutine that has not begun ends
-kill-worked : (c : ℕ) (s : CoroState) (x : ℕ) (v : World) → busy s ≡ false → isCreated (coreAt v c .state) ≡ true → {z : View} → Worked (view (finishCoroutine c s x v)) z → Worked (view v) z
-kill-worked c s x v b h {z} t =
+kill-worked : (c : ℕ) (s : CoroState) (x : ℕ) (v : World) → busy s ≡ false → isCreated s ≡ false → isCreated (coreAt v c .state) ≡ true → {z : View} → Worked false (view (finishCoroutine c s x v)) z → Worked false (view v) z
+kill-worked c s x v b n h {z} t =
     let g = change-still v c (inState s) (ended x) in
-    quiet (coreAt (finishCoroutine c s x v)) (unborn-ends c s (coreAt v) (coreAt (finishCoroutine c s x v)) b h (finish-ends c s x v))
-    (subst (λ y. Worked y z) (λ i. record { stack = g .stack i; frames = g .frames i; chain = g .chain i; cores = coreAt (finishCoroutine c s x v) }) t)
+    quiet (coreAt (finishCoroutine c s x v)) (unborn-ends c s (coreAt v) (coreAt (finishCoroutine c s x v)) b n h (finish-ends c s x v))
+    (subst (λ y. Worked false y z) (λ i. record { setup = g .setup i; stack = g .stack i; frames = g .frames i; chain = g .chain i; cores = coreAt (finishCoroutine c s x v) }) t)
 
 -- an arm that tries where the coroutine is suspended; b: whether it is
-tried-susp : {v z : World} {p c : ℕ} {d : Driver} {s : Opt} (b : Bool) → suspendedAs (coro v c) ≡ b → (isResumable (coreAt v c .state) ≡ true → b ≡ true) → Tried v p c d s z → Arm v p (enters c d s (suspendedAs (coro v c))) false z
+tried-susp : {v z : World} {p c : ℕ} {d : Driver} {s : Sent} (b : Bool) → suspendedAs (coro v c) ≡ b → (isResumable (coreAt v c .state) ≡ true → b ≡ true) → Tried v p c d s z → Arm v p (enters c d s (suspendedAs (coro v c))) false z
 tried-susp {v} {c = c} true e h t = tried-arm (suspendedAs (coro v c)) e t
 tried-susp {v} {c = c} false e h (t-in a r t) = no-both (h r) refl
 tried-susp {v} {c = c} false e h (t-out a t) = may-not (suspendedAs (coro v c)) e t
 
-pub throw-arm : (p dst c src : ℕ) (v : World) → Arm v p (enters (reg v c) (Driver.Resume dst) Opt.None (suspendedAs (coro v (reg v c)))) false (resumeThrow p dst c src v .world)
+pub throw-arm : (p dst c src : ℕ) (v : World) → Arm v p (enters (reg v c) (Driver.Resume dst) nothing (suspendedAs (coro v (reg v c)))) false (resumeThrow p dst c src v .world)
 unfolding resumeThrow pick
 throw-arm p dst c src v = go (coro v n) refl
   where
@@ -173,14 +191,14 @@ throw-arm p dst c src v = go (coro v n) refl
     d : Driver
     d = Driver.Resume dst
 
-    tried : Tried v p n d Opt.None (andThen (coroEnter n d (storePc p v)) (throwEntered x) .world)
-    tried = let e = coroEnter n d (storePc p v) in subst (Tried v p n d Opt.None) (thrown-world x (e .world) (e .answer)) (try-silent v p n d (λ y. y) calm-none)
+    tried : Tried v p n d nothing (andThen (coroEnter n d (storePc p v)) (throwEntered x) .world)
+    tried = let e = coroEnter n d (storePc p v) in subst (Tried v p n d nothing) (thrown-world x (e .world) (e .answer)) (try-silent v p n d (λ y. y) calm-none)
 
-    test : (k : Core) (r : Rest) → coro v n ≡ Is k r → (b : Bool) → isCreated (k .state) ≡ b → Arm v p (enters n d Opt.None (suspendedAs (coro v n))) false (pick b (fault (finishCoroutine n CoroState.Failed x v) (Fault.Throw x)) (andThen (coroEnter n d (storePc p v)) (throwEntered x)) .world)
-    test k r e true h = may-not (suspendedAs (coro v n)) (ap suspendedAs e ∙ created-susp (k .state) h) (kill-worked n CoroState.Failed x v refl (ap (λ y. isCreated (coreIn y .state)) e ∙ h) done)
+    test : (k : Core) (r : Rest) → coro v n ≡ Is k r → (b : Bool) → isCreated (k .state) ≡ b → Arm v p (enters n d nothing (suspendedAs (coro v n))) false (pick b (fault (finishCoroutine n CoroState.Failed x v) (Fault.Throw x)) (andThen (coroEnter n d (storePc p v)) (throwEntered x)) .world)
+    test k r e true h = may-not (suspendedAs (coro v n)) (ap suspendedAs e ∙ created-susp (k .state) h) (kill-worked n CoroState.Failed x v refl refl (ap (λ y. isCreated (coreIn y .state)) e ∙ h) done)
     test k r e false h = tried-susp (isSuspended (k .state)) (ap suspendedAs e) (λ q. sym (susp-of (k .state) h) ∙ sym (ap (λ y. isResumable (coreIn y .state)) e) ∙ q) tried
 
-    go : (y : Coroutine) → coro v n ≡ y → Arm v p (enters n d Opt.None (suspendedAs (coro v n))) false (throwTo (stateAs y (notA v n)) p dst n x v .world)
+    go : (y : Coroutine) → coro v n ≡ y → Arm v p (enters n d nothing (suspendedAs (coro v n))) false (throwTo (stateAs y (notA v n)) p dst n x v .world)
     go Absent e = may-not (suspendedAs (coro v n)) (ap suspendedAs e) done
     go (Is k r) e = test k r e (isCreated (k .state)) refl
 
@@ -191,7 +209,7 @@ closing-world c x w Entered.Fresh = refl
 closing-world c x w (Entered.Suspended d) = refl
 closing-world c x w (Entered.Refused f) = refl
 
-pub close-arm : (p dst c src : ℕ) (v : World) → Arm v p (enters (reg v c) (Driver.Resume dst) Opt.None (suspendedAs (coro v (reg v c)))) false (coroClose p dst c src v .world)
+pub close-arm : (p dst c src : ℕ) (v : World) → Arm v p (enters (reg v c) (Driver.Resume dst) (closes (reg v src)) (suspendedAs (coro v (reg v c)))) false (coroClose p dst c src v .world)
 unfolding coroClose
 close-arm p dst c src v = go (coro v n) refl
   where
@@ -204,24 +222,24 @@ close-arm p dst c src v = go (coro v n) refl
     d : Driver
     d = Driver.Resume dst
 
-    tried : Tried v p n d Opt.None (closeIn p dst n x v .world)
-    tried = let e = coroEnter n d (storePc p v) in subst (Tried v p n d Opt.None) (closing-world n x (e .world) (e .answer)) (try-silent v p n d (changeCoro n (λ k. k) (close x)) (change-calm n (close x)))
+    tried : (k : Core) (r : Rest) → coro v n ≡ Is k r → isCreated (k .state) ≡ false → Tried v p n d (closes x) (closeIn p dst n x v .world)
+    tried k r h b = let e = coroEnter n d (storePc p v) in subst (Tried v p n d (closes x)) (closing-world n x (e .world) (e .answer)) (try-closed v p n d x k r h b)
 
-    states : (k : Core) (r : Rest) → coro v n ≡ Is k r → (s : CoroState) → k .state ≡ s → Arm v p (enters n d Opt.None (suspendedAs (coro v n))) false (closeTo (Stated.In s) p dst n x v .world)
-    states k r e CoroState.Created h = may-not (suspendedAs (coro v n)) (ap suspendedAs e ∙ ap isSuspended h) (kill-worked n CoroState.Returned nil v refl (ap (λ y. isCreated (coreIn y .state)) e ∙ ap isCreated h) (puts dst nil done))
+    states : (k : Core) (r : Rest) → coro v n ≡ Is k r → (s : CoroState) → k .state ≡ s → Arm v p (enters n d (closes x) (suspendedAs (coro v n))) false (closeTo (Stated.In s) p dst n x v .world)
+    states k r e CoroState.Created h = may-not (suspendedAs (coro v n)) (ap suspendedAs e ∙ ap isSuspended h) (kill-worked n CoroState.Returned nil v refl refl (ap (λ y. isCreated (coreIn y .state)) e ∙ ap isCreated h) (puts dst nil done))
     states k r e CoroState.Running h = may-not (suspendedAs (coro v n)) (ap suspendedAs e ∙ ap isSuspended h) done
-    states k r e CoroState.Yielded h = tried-arm (suspendedAs (coro v n)) (ap suspendedAs e ∙ ap isSuspended h) tried
-    states k r e CoroState.Awaiting h = tried-arm (suspendedAs (coro v n)) (ap suspendedAs e ∙ ap isSuspended h) tried
+    states k r e CoroState.Yielded h = tried-arm (suspendedAs (coro v n)) (ap suspendedAs e ∙ ap isSuspended h) (tried k r e (ap isCreated h))
+    states k r e CoroState.Awaiting h = tried-arm (suspendedAs (coro v n)) (ap suspendedAs e ∙ ap isSuspended h) (tried k r e (ap isCreated h))
     states k r e CoroState.Returned h = may-not (suspendedAs (coro v n)) (ap suspendedAs e ∙ ap isSuspended h) (puts dst nil done)
     states k r e CoroState.Failed h = may-not (suspendedAs (coro v n)) (ap suspendedAs e ∙ ap isSuspended h) (puts dst nil done)
 
-    go : (y : Coroutine) → coro v n ≡ y → Arm v p (enters n d Opt.None (suspendedAs (coro v n))) false (closeTo (stateAs y (notA v n)) p dst n x v .world)
+    go : (y : Coroutine) → coro v n ≡ y → Arm v p (enters n d (closes x) (suspendedAs (coro v n))) false (closeTo (stateAs y (notA v n)) p dst n x v .world)
     go Absent e = may-not (suspendedAs (coro v n)) (ap suspendedAs e) done
     go (Is k r) e = states k r e (k .state) refl
 
 -- ---- iter_next
 
-refused-arm : {v z : World} {p c : ℕ} {d : Driver} {s : Opt} (may : Bool) → accepts v c ≡ false → Worked (view v) (view z) → Arm v p (enters c d s may) false z
+refused-arm : {v z : World} {p c : ℕ} {d : Driver} {s : Sent} (may : Bool) → accepts v c ≡ false → Worked false (view v) (view z) → Arm v p (enters c d s may) false z
 refused-arm {v} {c = c} {d = d} {s = s} true a t = a-works refl (ap (λ b. pick b (entry c d (sentTo (coro v c) s)) nobody) a ∙ pick-false (entry c d (sentTo (coro v c) s)) nobody) t
 refused-arm {v} {c = c} {d = d} {s = s} false a t = a-works refl (pick-false (entry c d (sentTo (coro v c) s)) nobody) t
 
@@ -234,7 +252,7 @@ returned-not CoroState.Returned e = refl
 returned-not CoroState.Failed e = refl
 
 pub iter-arm : (p has iter val src : ℕ) (v : World)
-    → Arm v p (enters (reg v src) (Driver.Iter has val (reg v iter)) (Opt.Some nil) (not (isDone (object v (reg v iter))) && not (awaits (coro v (reg v src))))) false (iterNext p has iter val src v .world)
+    → Arm v p (enters (reg v src) (Driver.Iter has val (reg v iter)) (gets nil) (not (isDone (object v (reg v iter))) && not (awaits (coro v (reg v src))))) false (iterNext p has iter val src v .world)
 unfolding iterNext pick
 iter-arm p has iter val src v = go (coro v n) refl
   where
@@ -250,19 +268,19 @@ iter-arm p has iter val src v = go (coro v n) refl
     may : Bool
     may = not (isDone (object v x)) && not (awaits (coro v n))
 
-    tried : Tried v p n d (Opt.Some nil) (andThen (coroEnter n d (storePc p v)) (arrive nil) .world)
-    tried = let e = coroEnter n d (storePc p v) in subst (Tried v p n d (Opt.Some nil)) (arrive-world nil (e .world) (e .answer)) (try-sent v p n d nil)
+    tried : Tried v p n d (gets nil) (andThen (coroEnter n d (storePc p v)) (arrive nil) .world)
+    tried = let e = coroEnter n d (storePc p v) in subst (Tried v p n d (gets nil)) (arrive-world nil (e .world) (e .answer)) (try-sent v p n d nil)
 
-    over : Worked (view v) (view (Exec.put has 0 (setDone x v) .world))
+    over : Worked false (view v) (view (Exec.put has 0 (setDone x v) .world))
     over = calm-worked (done-calm x v) (puts has 0 done)
 
     tests : (k : Core) (r : Rest) → coro v n ≡ Is k r → (a b c : Bool) → isDone (object v x) ≡ a → isReturned (k .state) ≡ b → isAwaiting (k .state) ≡ c
-        → Arm v p (enters n d (Opt.Some nil) may) false (pick (a || b) (Exec.put has 0 (setDone x v)) (pick c (fault v Fault.TypeError) (andThen (coroEnter n d (storePc p v)) (arrive nil))) .world)
+        → Arm v p (enters n d (gets nil) may) false (pick (a || b) (Exec.put has 0 (setDone x v)) (pick c (fault v Fault.TypeError) (andThen (coroEnter n d (storePc p v)) (arrive nil))) .world)
     tests k r e true b c q s t = may-not may (ap (λ y. not y && not (awaits (coro v n))) q) over
     tests k r e false true c q s t = refused-arm may (ap (λ y. acceptsAs y v) e ∙ ap (λ y. y && not (isNil (k .frames)) && not (overflows k v)) (returned-not (k .state) s)) over
     tests k r e false false true q s t = may-not may (ap (λ y. not y && not (awaits (coro v n))) q ∙ ap (λ y. not (awaits y)) e ∙ ap not t) done
     tests k r e false false false q s t = tried-arm may (ap (λ y. not y && not (awaits (coro v n))) q ∙ ap (λ y. not (awaits y)) e ∙ ap not t) tried
 
-    go : (y : Coroutine) → coro v n ≡ y → Arm v p (enters n d (Opt.Some nil) may) false (iterOn (stateAs y (notA v n)) p has x val n v .world)
+    go : (y : Coroutine) → coro v n ≡ y → Arm v p (enters n d (gets nil) may) false (iterOn (stateAs y (notA v n)) p has x val n v .world)
     go Absent e = refused-arm may (ap (λ y. acceptsAs y v) e) done
     go (Is k r) e = tests k r e (isDone (object v x)) (isReturned (k .state)) (isAwaiting (k .state)) refl refl refl

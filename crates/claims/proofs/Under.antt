@@ -9,15 +9,14 @@ use mathlib.Core.List.{List, [], _∷_, _++_, map}
 use lib.ListN.{length, getD, take, drop, length-take}
 use lib.Seq.{take-set-le}
 use Rattle.heap.specs.Word.{nil}
-use Rattle.heap.specs.declared.value.Opt.{Opt}
-use Rattle.model.specs.Object.{Core}
 use Rattle.model.specs.Frames.{isCoro, frame, onTop, setPc, stepPc, raise, below, baseAt, putAt}
 use Rattle.model.specs.Coro.{active}
 use Rattle.model.specs.declared.machine.Cont.{Cont}
 use Rattle.model.specs.declared.machine.Driver.{Driver}
 use Rattle.model.specs.declared.machine.Active.{Active}
 use Rattle.model.specs.declared.machine.Frame.{Frame}
-use Rattle.claims.proofs.Held.{framesWith}
+use Rattle.claims.specs.Says.{Sent, nothing, gets, closes}
+use Rattle.claims.proofs.Held.{Seat, framesWith}
 use Rattle.claims.proofs.Shape.{Keeps, Apart}
 
 -- saved frames: plain ones over one Coro frame at base 0
@@ -29,9 +28,10 @@ lift-step : {fs : List Frame} → Lift fs → Lift (onTop stepPc fs)
 lift-step (l-body e z) = l-body e z
 lift-step (l-plain e l) = l-plain e l
 
-pub lift-with : (sent : Opt) (s : Core) → Lift (s .frames) → Lift (framesWith sent s)
-lift-with Opt.None s l = l
-lift-with (Opt.Some v) s l = lift-step l
+pub lift-with : (sent : Sent) (s : Seat) → Lift (s .frames) → Lift (framesWith sent s)
+lift-with nothing s l = l
+lift-with (gets v) s l = lift-step l
+lift-with (closes v) s l = l
 
 pub keeps-pc : (p : ℕ) → Keeps (setPc p)
 keeps-pc p = record { base = λ f. refl; cont = λ f. refl }

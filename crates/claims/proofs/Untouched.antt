@@ -129,7 +129,7 @@ one-made p q = ap madeWord (sym p ∙ q)
 
 finish-event : (kind : ResultKind) (x : ℕ) (v : World) (c : ℕ) (o : After Answer) → isRunning (coreAt v c .state) ≡ true → hasLeft (coreAt (o .world) c .state) ≡ true → FinishCase kind x v o → resultOf kind x (recorded (seenOf (coro (o .world) c))) ≡ madeWord (toDyn kind x v .answer)
 finish-event kind x v c o b l (f-other e n) = no-both l (run-left (coreAt (o .world) c .state) (ap (λ k. isRunning (coreIn k .state)) (e c) ∙ b))
-finish-event kind x v c o b l (f-returns f fs a chain y p q r m n ends tells) = go (ℕ-discrete c (a .coro))
+finish-event kind x v c o b l (f-returns f fs a chain y p q r m n ends tells ints) = go (ℕ-discrete c (a .coro))
   where
     go : Dec (c ≡ a .coro) → resultOf kind x (recorded (seenOf (coro (o .world) c))) ≡ madeWord (toDyn kind x v .answer)
     go (yes h) = result-alike kind x v (recorded (seenOf (coro (o .world) c))) (λ t g. ap (λ u. recorded (seenOf (coro (o .world) u))) h ∙ tells (ap (λ u. isRunning (coreAt v u .state)) (sym h) ∙ b) ∙ one-made m g) y m

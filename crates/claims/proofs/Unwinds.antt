@@ -63,12 +63,12 @@ sees w h = record {
   coros = all-seen w (w .chain) (and-right (each (λ a. runs (coro w (a .coro))) (w .chain)) (distinct (coros (w .chain))) (and-left (each (λ a. runs (coro w (a .coro))) (w .chain) && distinct (coros (w .chain))) (runsAmong (coros (w .chain)) 0 (w .slots)) (two w h .0)));
 }
 
-all-same : (v : Engine.View) (xs ys : List (Slot Object)) → ((c : ℕ) → coroIn ys c ≡ coroIn xs c) → (chain : List Active) → AllSeen v xs chain → AllSeen v ys chain
+pub all-same : (v : Engine.View) (xs ys : List (Slot Object)) → ((c : ℕ) → coroIn ys c ≡ coroIn xs c) → (chain : List Active) → AllSeen v xs chain → AllSeen v ys chain
 all-same v xs ys e [] h = tt
 all-same v xs ys e (a ∷ chain) h = (ap seenOf (e (a .coro)) ∙ h .0, h .1, all-same v xs ys e chain (h .2))
 
 -- a new object that is no coroutine
-push-coros : (xs : List (Slot Object)) (o : Object) → asCoro o ≡ Absent → (c : ℕ) → coroIn (pushObject xs o) c ≡ coroIn xs c
+pub push-coros : (xs : List (Slot Object)) (o : Object) → asCoro o ≡ Absent → (c : ℕ) → coroIn (pushObject xs o) c ≡ coroIn xs c
 push-coros xs o n c = go (push-cases xs o c)
   where
     go : (objectIn (pushObject xs o) c ≡ objectIn xs c) ⊎ ((objectIn xs c ≡ Object.Empty) × (objectIn (pushObject xs o) c ≡ o)) → coroIn (pushObject xs o) c ≡ coroIn xs c
@@ -91,7 +91,7 @@ unfolding pick
 ended-counted {v} {o} (e-works t) = subst (Ended v o) (sym (nobody (eqb (numberOf (o .answer)) 0))) (e-works t)
 ended-counted {v} {o} (e-returns u f fs a chain t r n) = subst (λ m. Ended v o (pick (eqb m 0) (some (a .coro)) none)) (sym n) (e-returns u f fs a chain t r n)
 
-ended-none : {v : View} {o : After Answer} → Worked v (view (o .world)) → (b : Bool) → Ended v o (pick b none none)
+ended-none : {v : View} {o : After Answer} → Worked true v (view (o .world)) → (b : Bool) → Ended v o (pick b none none)
 unfolding pick
 ended-none t true = e-works t
 ended-none t false = e-works t
@@ -101,11 +101,11 @@ module _ (w : World) (h : sound w ≡ true) where
   frames-ended : (x : ℕ) (fs : List Frame) (u : World) → Sees (viewOf w) u → u .frames ≡ fs → u .chain ≡ w .chain → Ended (view u) (searchFrames x u) (escaped (viewOf w) x fs (w .chain))
   frames-ended x fs u s p q = subst (λ cs. Ended (view u) (searchFrames x u) (escaped (viewOf w) x fs cs)) q (subst (λ gs. Ended (view u) (searchFrames x u) (escaped (viewOf w) x gs (u .chain))) p (search-ended (viewOf w) x (topFunc (u .frames)) (topPc (u .frames)) (u .frames) u refl s))
 
-  stored-works : (pc : OptPc) {z : View} → Worked (view (storeSome pc w)) z → Worked (view w) z
+  stored-works : (pc : OptPc) {z : View} → Worked true (view (storeSome pc w)) z → Worked true (view w) z
   stored-works OptPc.None t = t
   stored-works (OptPc.Some p) t = tops (setPc p) (keeps-pc p) t
 
-  stored-sees : (pc : OptPc) → Sees (viewOf w) (storeSome pc w)
+  pub stored-sees : (pc : OptPc) → Sees (viewOf w) (storeSome pc w)
   stored-sees OptPc.None = sees w h
   stored-sees (OptPc.Some p) = let s = sees w h in record { handlers = s .handlers; coros = s .coros }
 

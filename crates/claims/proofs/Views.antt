@@ -9,7 +9,6 @@ use lib.ListN.{length, getD}
 use lib.Dec.{eqb, ltb, leb}
 use Rattle.lists.specs.Pick.{pick, pick-true, pick-false}
 use Rattle.heap.specs.declared.fault.Fault.{Fault}
-use Rattle.heap.specs.declared.value.Opt.{Opt}
 use Rattle.heap.specs.declared.object.CoroState.{CoroState}
 use Rattle.heap.specs.declared.heap.ResultKind.{ResultKind}
 use Rattle.model.specs.State.{isCreated, isRunning, isAwaiting, isSuspended, isReturned, isResumable}
@@ -26,7 +25,8 @@ use Rattle.model.specs.declared.call.OptPc.{OptPc}
 use Rattle.model.specs.declared.call.Op.{Op}
 use Rattle.claims.specs.Engine.{Seen, isNew, runs, awaits, sleeps, ended, seenIn, is}
 use Rattle.claims.specs.Says as Says
-use Rattle.claims.specs.Says.{base, word, lie, window, Aim, enter, suspend, neither, Does, instr, hosts, finishes, raises, other, does}
+use Rattle.claims.specs.Says.{base, word, lie, window, Aim, enter, suspend, neither, Does, instr, hosts, finishes, raises, other, does, Sent, nothing, gets, closes}
+use Rattle.claims.specs.Held.{closer}
 use Rattle.claims.specs.Steps.{seenOf, viewOf}
 use Rattle.claims.proofs.Entry as E
 use Rattle.claims.proofs.Entry.{act}
@@ -125,6 +125,13 @@ is-awaits w c = go (coro w c)
     go Absent = refl
     go (Is k r) = awaits-state (k .state)
 
+pub closer-at : (w : World) (c : ℕ) → closer (viewOf w .coro c) ≡ coreAt w c .closing
+closer-at w c = go (coro w c)
+  where
+    go : (x : Coroutine) → closer (seenOf x) ≡ coreIn x .closing
+    go Absent = refl
+    go (Is k r) = refl
+
 -- ---- what a call says
 
 pub base-top : (fs : List Frame) → base fs ≡ topBase fs
@@ -158,16 +165,16 @@ says-alike w (Op.Spawn pc dst callee argc) = alike-at pc E.neither (rw (base-top
 says-alike w (Op.Yield pc dst src) = alike-at pc (E.suspends CoroState.Yielded dst (reg w src)) (rw (base-top (w .frames))) (rw (base-top (w .frames)))
 says-alike w (Op.YieldKv pc dst src key) = alike-at pc (E.suspends CoroState.Yielded dst (reg w src)) (rw (base-top (w .frames))) (rw (base-top (w .frames)))
 says-alike w (Op.Await pc dst src) = alike-at pc (E.suspends CoroState.Awaiting dst (reg w src)) (rw (base-top (w .frames))) (rw (base-top (w .frames)))
-says-alike w (Op.Resume pc dst c src) = alike-at pc (E.enters (reg w c) (Driver.Resume dst) (Opt.Some (reg w src)) true) (rw (base-top (w .frames))) (rw (base-top (w .frames)))
-says-alike w (Op.ResumeThrow pc dst c src) = alike-at pc (E.enters (reg w c) (Driver.Resume dst) Opt.None (suspendedAs (coro w (reg w c)))) (rw (base-top (w .frames))) (rw (base-top (w .frames)) (ap (enter (reg w c) (Driver.Resume dst) Opt.None) (is-asleep w (reg w c))))
-says-alike w (Op.CoroClose pc dst c src) = alike-at pc (E.enters (reg w c) (Driver.Resume dst) Opt.None (suspendedAs (coro w (reg w c)))) (rw (base-top (w .frames))) (rw (base-top (w .frames)) (ap (enter (reg w c) (Driver.Resume dst) Opt.None) (is-asleep w (reg w c))))
+says-alike w (Op.Resume pc dst c src) = alike-at pc (E.enters (reg w c) (Driver.Resume dst) (gets (reg w src)) true) (rw (base-top (w .frames))) (rw (base-top (w .frames)))
+says-alike w (Op.ResumeThrow pc dst c src) = alike-at pc (E.enters (reg w c) (Driver.Resume dst) nothing (suspendedAs (coro w (reg w c)))) (rw (base-top (w .frames))) (rw (base-top (w .frames)) (ap (enter (reg w c) (Driver.Resume dst) nothing) (is-asleep w (reg w c))))
+says-alike w (Op.CoroClose pc dst c src) = alike-at pc (E.enters (reg w c) (Driver.Resume dst) (closes (reg w src)) (suspendedAs (coro w (reg w c)))) (rw (base-top (w .frames))) (rw (base-top (w .frames)) (ap (enter (reg w c) (Driver.Resume dst) (closes (reg w src))) (is-asleep w (reg w c))))
 says-alike w (Op.CoroStatus pc dst c) = alike-at pc E.neither (rw (base-top (w .frames))) refl
 says-alike w (Op.CoroCurrent pc dst) = alike-at pc E.neither (rw (base-top (w .frames))) refl
 says-alike w (Op.CoroKey pc dst c) = alike-at pc E.neither (rw (base-top (w .frames))) refl
 says-alike w (Op.CoroResult pc dst c) = alike-at pc E.neither (rw (base-top (w .frames))) refl
 says-alike w (Op.IterNext pc has iter val src) =
-    alike-at pc (E.enters (reg w src) (Driver.Iter has val (reg w iter)) (Opt.Some 0) (not (isDone (object w (reg w iter))) && not (E.awaits (coro w (reg w src))))) (rw (base-top (w .frames)))
-    (rw (base-top (w .frames)) (ap (λ b. enter (reg w src) (Driver.Iter has val (reg w iter)) (Opt.Some 0) (not (isDone (object w (reg w iter))) && not b)) (is-awaits w (reg w src))))
+    alike-at pc (E.enters (reg w src) (Driver.Iter has val (reg w iter)) (gets 0) (not (isDone (object w (reg w iter))) && not (E.awaits (coro w (reg w src))))) (rw (base-top (w .frames)))
+    (rw (base-top (w .frames)) (ap (λ b. enter (reg w src) (Driver.Iter has val (reg w iter)) (gets 0) (not (isDone (object w (reg w iter))) && not b)) (is-awaits w (reg w src))))
 says-alike w (Op.Finish kind x) = l-finish kind x
 says-alike w (Op.Unwind f pc) = l-raise f pc
 says-alike w (Op.SpawnTask x) = l-other

@@ -29,7 +29,7 @@ use Rattle.model.specs.declared.call.OptPc.{OptPc}
 use Rattle.model.specs.declared.call.Op.{Op}
 use Rattle.claims.specs.Engine.{Seen, View, isNew, sleeps, seenIn, is}
 use Rattle.claims.specs.Says as Says
-use Rattle.claims.specs.Says.{Does, Entry, entry, fits, named, cleaned, banked, orElse, charged, isNone, whomBy, whom}
+use Rattle.claims.specs.Says.{Does, Entry, entry, fits, named, cleaned, banked, orElse, charged, isNone, whomBy, whom, Sent, nothing, gets, closes}
 use Rattle.claims.specs.Steps.{seenOf, viewOf, opOf}
 use Rattle.claims.proofs.Entry as E
 use Rattle.claims.proofs.Entry.{accepts, acceptsAs, sentTo, aimed, pcBy, entryBy, act}
@@ -91,18 +91,18 @@ module _ (w : World) (h : sound w ≡ true) where
   named-aimed pc (E.suspends s dst x) = refl
   named-aimed pc E.neither = refl
   named-aimed pc (E.enters c d x may) =
-      ap (λ b. pick (may && b) (some (entry c d (pick (is (viewOf w) isNew c) Opt.None x) pc)) none) (fits-accepts c)
+      ap (λ b. pick (may && b) (some (entry c d (pick (is (viewOf w) isNew c) nothing x) pc)) none) (fits-accepts c)
       ∙ go (coro w c) ∙ told-pick pc (may && accepts w c) (E.entry c d (sentTo (coro w c) x)) E.nobody
     where
-      go : (y : Coroutine) → pick (may && acceptsAs y w) (some (entry c d (pick (seenIn (λ x. isNew (x .state)) (seenOf y)) Opt.None x) pc)) none ≡ pick (may && acceptsAs y w) (told pc (E.entry c d (sentTo y x))) (told pc E.nobody)
-      go Absent = none-of may (some (entry c d (pick false Opt.None x) pc)) none ∙ sym (none-of may (some (entry c d Opt.None pc)) none)
-      go (Is k r) = ap (λ b. pick (may && acceptsAs (Is k r) w) (some (entry c d (pick b Opt.None x) pc)) none) (new-state (k .state))
+      go : (y : Coroutine) → pick (may && acceptsAs y w) (some (entry c d (pick (seenIn (λ x. isNew (x .state)) (seenOf y)) nothing x) pc)) none ≡ pick (may && acceptsAs y w) (told pc (E.entry c d (sentTo y x))) (told pc E.nobody)
+      go Absent = none-of may (some (entry c d (pick false nothing x) pc)) none ∙ sym (none-of may (some (entry c d nothing pc)) none)
+      go (Is k r) = ap (λ b. pick (may && acceptsAs (Is k r) w) (some (entry c d (pick b nothing x) pc)) none) (new-state (k .state))
 
   cleaned-told : (pc : ℕ) (q : List ℕ) → cleaned (viewOf w) pc q ≡ told pc (E.cleaned q w)
   cleaned-told pc [] = refl
   cleaned-told pc (c ∷ q) =
-      (λ i. pick (is-asleep w c i && fits-accepts c i) (some (entry c Driver.Finalize Opt.None pc)) (cleaned-told pc q i))
-      ∙ told-pick pc (suspendedAs (coro w c) && accepts w c) (E.entry c Driver.Finalize Opt.None) (E.cleaned q w)
+      (λ i. pick (is-asleep w c i && fits-accepts c i) (some (entry c Driver.Finalize (closes 0) pc)) (cleaned-told pc q i))
+      ∙ told-pick pc (suspendedAs (coro w c) && accepts w c) (E.entry c Driver.Finalize (closes 0)) (E.cleaned q w)
 
 -- ---- the charge
 
@@ -183,8 +183,8 @@ module _ (w : World) (h : sound w ≡ true) where
       ∙ ap (pick (isNil (w .frames)) none) (not-pick ok (told pc x) none ∙ told-pick pc (not ok) E.nobody x)
       ∙ told-pick pc (isNil (w .frames)) E.nobody (pick (not ok) E.nobody x)
   whom-alike (l-host c x) =
-      let y = aimed (E.enters c Driver.Host (Opt.Some x) true) w in
-      (λ i. pick (is-none (w .frames) i) (named-aimed w h 0 (E.enters c Driver.Host (Opt.Some x) true) i) none)
+      let y = aimed (E.enters c Driver.Host (gets x) true) w in
+      (λ i. pick (is-none (w .frames) i) (named-aimed w h 0 (E.enters c Driver.Host (gets x) true) i) none)
       ∙ not-pick (isNil (w .frames)) (told 0 y) none ∙ told-pick 0 (not (isNil (w .frames))) E.nobody y
   whom-alike (l-finish kind x) = refl
   whom-alike (l-raise f pc) = refl

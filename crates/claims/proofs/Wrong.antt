@@ -7,7 +7,7 @@ use mathlib.Core.List.{List, [], _∷_, _++_, map, append-assoc}
 use mathlib.Core.Option.{Option, none, some}
 use lib.ListN.{length, take, drop, length-append}
 use lib.Seq.{take-append-seam}
-use Rattle.heap.specs.declared.value.Opt.{Opt}
+use Rattle.heap.specs.declared.fault.Fault.{Fault}
 use Rattle.model.specs.World.{World, fresh}
 use Rattle.model.specs.Step as M
 use Rattle.model.specs.Call.{typed, asCall}
@@ -16,18 +16,19 @@ use Rattle.model.specs.declared.machine.Cont.{Cont}
 use Rattle.model.specs.declared.machine.Driver.{Driver}
 use Rattle.model.specs.declared.machine.Active.{Active}
 use Rattle.model.specs.declared.machine.Frame.{Frame}
+use Rattle.model.specs.declared.call.OptPc.{OptPc}
 use Rattle.model.specs.declared.call.Op.{Op}
 use Rattle.claims.specs.Engine.{View, run}
-use Rattle.claims.specs.Says.{Entry, doing, whom}
+use Rattle.claims.specs.Says.{Sent, nothing, gets, closes, Entry, doing, whom}
 use Rattle.claims.specs.Held.{at, Moved, AllMoved, pcOf, stepped, Restored}
 use Rattle.claims.specs.Demand3.{Demand3}
-use Rattle.claims.specs.Events.{Events}
+use Rattle.claims.specs.Events.{escapes, Events}
 use Rattle.claims.specs.Premises.{runsIn, sleepsIn, waits}
 use Rattle.claims.specs.Steps.{viewOf, opOf}
 use Rattle.claims.specs.Story as Story
 use Rattle.claims.specs.Story.{wide, c, held}
 use Rattle.claims.specs.Witness.{nth, between, frame}
-use Rattle.claims.specs.Wrong.{bent, onTop, tail, ofZero, discards, bare, atOne, further, higher, idle, two, failing, Wrong}
+use Rattle.claims.specs.Wrong.{bent, onTop, tail, ofZero, discards, bare, atOne, further, higher, idle, two, failing, forgetting, sparing, Wrong}
 use Rattle.claims.proofs.Premises.{waits-true}
 use Rattle.claims.proofs.Cores.{no-both}
 use Rattle.claims.proofs.Promise.{sound-healthy}
@@ -65,8 +66,8 @@ floorIn (a ∷ chain) = a .floor
 abbrev found : View → List Frame
 found v = take (length (v .frames) - floorIn (v .chain)) (v .frames)
 
-abbrev sentIn : Option Entry → Opt
-sentIn none = Opt.None
+abbrev sentIn : Option Entry → Sent
+sentIn none = nothing
 sentIn (some e) = e .sent
 
 -- g is what a frame and its moved frame have alike
@@ -186,7 +187,8 @@ unfolding computed
 stepped-twice d = let q : _≡_ {A = ℕ} 9 8 = ap first (on-top (woken (onTop further) d refl) pcIn pcIn pc-alike) in absurd (omega (arith, q))
 
 -- bases: the top frame's and the body's are 5 words apart, and were 4
-two-moved : {v : View} {x : Option Op} {w : View} {y : Option Op} {c : ℕ} {z : View} (r : Restored v x w y c z) (p : ℕ) (f₁ f₂ : Frame) → at (stepped (sentIn (whom w y)) (pcOf (doing v x))) (found v) ≡ f₁ ∷ f₂ ∷ [] → first (map (λ k. k .base) (z .frames)) + f₂ .base ≡ second (map (λ k. k .base) (z .frames)) + f₁ .base
+two-moved : {v : View} {x : Option Op} {w : View} {y : Option Op} {c : ℕ} {z : View} (r : Restored v x w y c z) (p : ℕ) (f₁ f₂ : Frame)
+    → at (stepped (sentIn (whom w y)) (pcOf (doing v x))) (found v) ≡ f₁ ∷ f₂ ∷ [] → first (map (λ k. k .base) (z .frames)) + f₂ .base ≡ second (map (λ k. k .base) (z .frames)) + f₁ .base
 two-moved {v} {x} {w} {y} {c} {z} r p f₁ f₂ e =
     let t = r .entered in
     let ks = t .over ++ (t .body ∷ []) in
@@ -205,7 +207,7 @@ at-rest = M.run (fresh wide) (take 23 held)
 
 always-refused : Events (idle (λ _. true)) → ⊥
 unfolding computed at-rest
-always-refused v = no-both (v .entered c at-rest (nth held 23) (sound-healthy at-rest refl) (record { driver = Driver.Resume 1; sent = Opt.Some 44; pc = 15; says = refl }) .after) refl
+always-refused v = no-both (v .entered c at-rest (nth held 23) (sound-healthy at-rest refl) (record { driver = Driver.Resume 1; sent = gets 44; pc = 15; says = refl }) .after) refl
 
 finishing : World
 finishing = M.run (fresh wide) (take 26 held)
@@ -226,8 +228,51 @@ current-typed = refl
 
 no-cleanup : Events (idle two) → ⊥
 unfolding computed queued-ops queued
-no-cleanup v = no-both (v .entered c queued (asCall (Op.CoroCurrent 9 1) current-typed) (sound-healthy queued refl) (record { driver = Driver.Finalize; sent = Opt.None; pc = 9; says = refl }) .after) refl
+no-cleanup v = no-both (v .entered c queued (asCall (Op.CoroCurrent 9 1) current-typed) (sound-healthy queued refl) (record { driver = Driver.Finalize; sent = closes 0; pc = 9; says = refl }) .after) refl
+
+-- c runs while it is being closed, and asks who runs
+closed-ops : List Op
+closed-ops = Story.closed
+
+closed : World
+closed = M.runOps (fresh wide) closed-ops
+
+closing-forgotten : Events forgetting → ⊥
+unfolding computed closed-ops closed
+closing-forgotten v = no-closer (v .closing c closed (asCall (Op.CoroCurrent 9 1) current-typed) (λ r. no-set-up (r .sets-up)) (λ h. no-both refl (h .before)) (λ h. no-both (h .after) refl) refl)
+  where
+    no-closer : _≡_ {A = Option ℕ} none (some 9) → ⊥
+    no-closer e = let z : _≡_ {A = ℕ} 0 1 = cc in absurd (omega arith)
+
+    no-set-up : _≡_ {A = Option Op} (some (Op.CoroCurrent 9 1)) none → ⊥
+    no-set-up e = let z : _≡_ {A = ℕ} 0 1 = cc in absurd (omega arith)
+
+-- c runs, and a word that nobody catches is raised
+throw-typed : typed (Op.Unwind (Fault.Throw 7) OptPc.None) ≡ true
+unfolding typed
+throw-typed = refl
+
+begun : World
+begun = M.runOps (fresh wide) (Story.begin 0)
+
+failure-returns : Events sparing → ⊥
+unfolding computed begun
+failure-returns v = no-both (v .failed c begun (asCall (Op.Unwind (Fault.Throw 7) OptPc.None) throw-typed) (sound-healthy begun refl) refl (escapes (Fault.Throw 7) OptPc.None refl refl) .after) refl
 
 -- NONE OF THEM
 pub wrong : Wrong
-wrong = record { other-function = other-function; discarding = discarding; top-dropped = top-dropped; closures-lost = closures-lost; at-pc-1 = at-pc-1; stepped-twice = stepped-twice; bases-apart = bases-apart; always-refused = always-refused; no-cleanup = no-cleanup; return-fails = return-fails }
+wrong =
+    record {
+      other-function = other-function;
+      discarding = discarding;
+      top-dropped = top-dropped;
+      closures-lost = closures-lost;
+      at-pc-1 = at-pc-1;
+      stepped-twice = stepped-twice;
+      bases-apart = bases-apart;
+      always-refused = always-refused;
+      no-cleanup = no-cleanup;
+      return-fails = return-fails;
+      closing-forgotten = closing-forgotten;
+      failure-returns = failure-returns;
+    }

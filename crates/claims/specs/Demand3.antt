@@ -19,10 +19,6 @@ pub record Suspends (e : Engine) (c : ℕ) (s : e .State) (k : e .Call) : Type 0
   pub before : is (e .view s) runs c ≡ true
   pub after : is (e .view (e .next s k)) sleeps c ≡ true
 
-pub record Returns (e : Engine) (c : ℕ) (s : e .State) (k : e .Call) : Type 0 where
-  pub before : is (e .view s) runs c ≡ true
-  pub after : is (e .view (e .next s k)) ended c ≡ true
-
 -- it yields, awaits or returns
 pub record Leaves (e : Engine) (c : ℕ) (s : e .State) (k : e .Call) : Type 0 where
   pub before : is (e .view s) runs c ≡ true

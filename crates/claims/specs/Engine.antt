@@ -5,6 +5,7 @@ use mathlib.Core.Bool.{Bool, false, _||_}
 use mathlib.Core.List.{List, [], _∷_}
 use mathlib.Core.Option.{Option, none, some}
 use lib.Dec.{eqb}
+use Rattle.heap.specs.declared.value.Opt.{Opt}
 use Rattle.heap.specs.declared.object.CoroState.{CoroState}
 use Rattle.model.specs.declared.program.Handler.{Handler}
 use Rattle.model.specs.declared.machine.Frame.{Frame}
@@ -47,8 +48,16 @@ pub record View : Type 0 where
   -- how many functions there are, and the handlers of each
   pub functions : ℕ
   pub handlers : ℕ → List Handler
-  -- the word that the next object gets
+  -- the word that the next object gets, and whether there is no slot for it
   pub fresh : ℕ
+  pub full : Bool
+  -- the integer that a word stands for, as 64 bits
+  pub integer : ℕ → Opt
+  -- the bytes in use, the most, and what a frame and an integer object cost
+  pub used : ℕ
+  pub memory : ℕ
+  pub frameCost : ℕ
+  pub intCost : ℕ
 
 pub record Engine : Type 1 where
   pub State : Type 0

@@ -8,6 +8,8 @@ use mathlib.Core.Option.{Option, none, some}
 use lib.Dec.{eqb, ltb, leb}
 use Rattle.lists.specs.Pick.{pick}
 use Rattle.heap.specs.declared.fault.Fault.{Fault}
+use Rattle.heap.specs.declared.value.Opt.{Opt}
+use Rattle.heap.specs.declared.object.CoroState.{CoroState}
 use Rattle.heap.specs.declared.heap.ResultKind.{ResultKind}
 use Rattle.model.specs.declared.program.Handler.{Handler}
 use Rattle.model.specs.declared.machine.Cont.{Cont}
@@ -16,10 +18,11 @@ use Rattle.model.specs.declared.machine.Active.{Active}
 use Rattle.model.specs.declared.machine.Frame.{Frame}
 use Rattle.model.specs.declared.call.OptPc.{OptPc}
 use Rattle.model.specs.declared.call.Op.{Op}
-use Rattle.claims.specs.Engine.{Seen, View, Engine, seenIn}
+use Rattle.claims.specs.Engine.{Seen, View, Engine, code, runs, awaits, ended, seenIn, is}
 use Rattle.claims.specs.Says.{Aim, enter, suspend, neither, Does, instr, hosts, finishes, raises, other, doing}
-use Rattle.claims.specs.Held.{at, By}
-use Rattle.claims.specs.Demand3.{Enters, Suspends, Returns}
+use Rattle.claims.specs.Held.{at, closer, By}
+use Rattle.claims.specs.Delivery.{recorded}
+use Rattle.claims.specs.Demand3.{Enters, Suspends, Restarts}
 
 -- the machine is not refused: a look answers 0
 abbrev pub Healthy : (e : Engine) → e .State → Type 0
@@ -43,6 +46,10 @@ suspended v (raises f pc) n = none
 suspended v other n = none
 
 -- ---- returns. 01: "a return if `finish` or `unwind` makes it Returned"
+
+pub record Returns (e : Engine) (c : ℕ) (s : e .State) (k : e .Call) : Type 0 where
+  pub before : is (e .view s) runs c ≡ true
+  pub after : is (e .view (e .next s k)) ended c ≡ true
 
 abbrev pub isBody : Cont → Bool
 isBody Cont.Entry = false
@@ -119,6 +126,67 @@ returned v (finishes kind x) n = pick (eqb n 0 && onBody (v .frames)) (inmost (v
 returned v (raises f pc) n = pick (eqb n 0) (raisedAt v (raised v f) pc) none
 returned v other n = none
 
+-- ---- failures. 01: "any other escape makes it Failed"
+
+abbrev pub failed : CoroState → Bool
+failed s = eqb (code s) 5
+
+abbrev pub among : ℕ → List ℕ → Bool
+among c [] = false
+among c (x ∷ xs) = eqb c x || among c xs
+
+pub record Fails (e : Engine) (c : ℕ) (s : e .State) (k : e .Call) : Type 0 where
+  pub before : is (e .view s) runs c ≡ true
+  pub after : is (e .view (e .next s k)) failed c ≡ true
+
+-- the word x leaves a frame: of a body, one that it closes ends it; any other fails, and so may those below
+abbrev pub losing : Cont → View → ℕ → List Active → (List Active → List ℕ) → List ℕ
+losing Cont.Entry v x chain below = []
+losing (Cont.Write r) v x chain below = below chain
+losing (Cont.Dyn r) v x chain below = below chain
+losing (Cont.Value r) v x chain below = below chain
+losing Cont.Discard v x chain below = below chain
+losing Cont.Coro v x [] below = below []
+losing Cont.Coro v x (a ∷ chain) below = pick (seenIn (λ k. k .closing && eqb x (k .signal)) (v .coro (a .coro))) [] (a .coro ∷ pick (goesOn (a .driver)) (below chain) [])
+
+-- who fails where x is raised in these frames: all that it leaves, up to who catches it, is closed by it, or has it stop at the host
+abbrev pub lost : View → ℕ → List Frame → List Active → List ℕ
+lost v x [] chain = []
+lost v x (f ∷ fs) chain = pick (caught (v .handlers (f .func)) (f .pc)) [] (losing (f .cont) v x chain (lost v x fs))
+
+abbrev pub lostAt : View → Option ℕ → OptPc → List ℕ
+lostAt v none pc = []
+lostAt v (some x) OptPc.None = lost v x (v .frames) (v .chain)
+lostAt v (some x) (OptPc.Some pc) = lost v x (at pc (v .frames)) (v .chain)
+
+-- who fails: by an unwind, but where its error object could not be made (9, 14); all, where the run is stopped
+pub data Lost (v : View) (n c : ℕ) : Option Op → Type 0 where
+  escapes : (f : Fault) (pc : OptPc) → (eqb n 9 || eqb n 14) ≡ false → among c (lostAt v (raised v f) pc) ≡ true → Lost v n c (some (Op.Unwind f pc))
+  stops : Lost v n c (some Op.StopRun)
+
+-- ---- what else is seen and is not a word, a frame or a state
+
+-- not Returned, not Failed
+abbrev pub lives : CoroState → Bool
+lives s = ltb (code s) 4
+
+-- what only a set-up changes
+pub record Fixed (v z : View) : Type 0 where
+  pub depth : z .depth ≡ v .depth
+  pub height : z .height ≡ v .height
+  pub functions : z .functions ≡ v .functions
+  pub handlers : (f : ℕ) → z .handlers f ≡ v .handlers f
+  pub memory : z .memory ≡ v .memory
+  pub frame-cost : z .frameCost ≡ v .frameCost
+  pub int-cost : z .intCost ≡ v .intCost
+
+-- a result that is an integer, of 64 bits
+abbrev pub isInteger : ResultKind → Bool
+isInteger ResultKind.None = false
+isInteger ResultKind.Dyn = false
+isInteger ResultKind.I64 = true
+isInteger ResultKind.U64 = true
+
 -- ---- the claim
 
 pub record Events (e : Engine) : Type 0 where
@@ -128,6 +196,16 @@ pub record Events (e : Engine) : Type 0 where
   pub suspended : (c : ℕ) (s : e .State) (k : e .Call) → suspended (e .view s) (doing (e .view s) (e .op k)) (e .number s k) ≡ some c → Suspends e c s k
   pub returns : (c : ℕ) (s : e .State) (k : e .Call) → Returns e c s k → returned (e .view s) (doing (e .view s) (e .op k)) (e .number s k) ≡ some c
   pub returned : (c : ℕ) (s : e .State) (k : e .Call) → Healthy e s → returned (e .view s) (doing (e .view s) (e .op k)) (e .number s k) ≡ some c → Returns e c s k
+  pub fails : (c : ℕ) (s : e .State) (k : e .Call) → Fails e c s k → Lost (e .view s) (e .number s k) c (e .op k)
+  pub failed : (c : ℕ) (s : e .State) (k : e .Call) → Healthy e s → is (e .view s) runs c ≡ true → Lost (e .view s) (e .number s k) c (e .op k) → Fails e c s k
+  -- an integer that is returned is recorded as a word that stands for it
+  pub integer : (c : ℕ) (s : e .State) (k : e .Call) (kind : ResultKind) (x : ℕ) → Returns e c s k → e .op k ≡ some (Op.Finish kind x) → isInteger kind ≡ true
+      → let z = e .view (e .next s k) in z .integer (recorded (z .coro c)) ≡ Opt.Some x
+  -- a yield ends a closing; else it lasts as long as the coroutine lives (who is entered: `Entered.closing`)
+  pub yielded : (c : ℕ) (s : e .State) (k : e .Call) → Suspends e c s k → let z = e .view (e .next s k) in closer (z .coro c) ≡ pick (is z awaits c) (closer (e .view s .coro c)) none
+  pub closing : (c : ℕ) (s : e .State) (k : e .Call) → (Restarts e s k → ⊥) → (Enters e c s k → ⊥) → (Suspends e c s k → ⊥)
+      → let z = e .view (e .next s k) in is z lives c ≡ true → closer (z .coro c) ≡ closer (e .view s .coro c)
+  pub fixed : (s : e .State) (k : e .Call) → (Restarts e s k → ⊥) → Fixed (e .view s) (e .view (e .next s k))
   -- one a call
   pub one-switch : (c u : ℕ) (s : e .State) (k : e .Call) → Enters e c s k → Suspends e u s k → ⊥
   pub no-return : (c u : ℕ) (s : e .State) (k : e .Call) → Enters e c s k → Returns e u s k → ⊥

@@ -3,16 +3,16 @@ use Prim.Native.Nat.{ℕ, _+_, _%_, _^_}
 use mathlib.Core.Bool.{true}
 use mathlib.Core.Path.{_≡_}
 use mathlib.Core.List.{List, [], _∷_, _++_}
-use mathlib.Core.Option.{Option, some}
+use mathlib.Core.Option.{Option, none, some}
 use lib.ListN.{length, drop, set}
-use Rattle.heap.specs.declared.value.Opt.{Opt}
+use Rattle.lists.specs.Pick.{pick}
 use Rattle.model.specs.declared.machine.Cont.{Cont}
 use Rattle.model.specs.declared.machine.Driver.{Driver}
 use Rattle.model.specs.declared.machine.Active.{Active}
 use Rattle.model.specs.declared.machine.Frame.{Frame}
 use Rattle.model.specs.declared.call.Op.{Op}
-use Rattle.claims.specs.Engine.{View, is, sleeps}
-use Rattle.claims.specs.Says.{Aim, enter, suspend, neither, Does, instr, hosts, finishes, raises, other, doing, entry, whom}
+use Rattle.claims.specs.Engine.{Seen, View, is, sleeps}
+use Rattle.claims.specs.Says.{Sent, nothing, gets, closes, Aim, enter, suspend, neither, Does, instr, hosts, finishes, raises, other, doing, entry, whom}
 
 -- ---- frames, field by field
 
@@ -79,9 +79,19 @@ pub record Held (v : View) (c : ℕ) : Type 0 where
 -- the call k at w enters c: so it says itself, or a cleanup is due
 pub record By (w : View) (k : Option Op) (c : ℕ) : Type 0 where
   pub driver : Driver
-  pub sent : Opt
+  pub sent : Sent
   pub pc : ℕ
   pub says : whom w k ≡ some (entry c driver sent pc)
+
+-- the word by which a coroutine is being closed; an entry may close it
+abbrev pub closer : Option Seen → Option ℕ
+closer none = none
+closer (some x) = pick (x .closing) (some (x .signal)) none
+
+abbrev pub closedBy : Sent → Option ℕ → Option ℕ
+closedBy nothing m = m
+closedBy (gets x) m = m
+closedBy (closes x) m = some x
 
 -- k at w enters c and leaves z: c's frames and words on those of the caller, whose pc is k's
 pub record Entered (w : View) (k : Option Op) (c : ℕ) (z : View) : Type 0 where
@@ -94,14 +104,17 @@ pub record Entered (w : View) (k : Option Op) (c : ℕ) (z : View) : Type 0 wher
   pub its-own : body .cont ≡ Cont.Coro
   pub floor : body .base ≡ length (w .stack)
   pub chain : z .chain ≡ record { coro = c; floor = length (w .frames); driver = by .driver } ∷ w .chain
+  pub closing : closer (z .coro c) ≡ closedBy (by .sent) (closer (w .coro c))
 
-abbrev pub stepped : Opt → ℕ → ℕ
-stepped Opt.None p = p
-stepped (Opt.Some x) p = after p
+abbrev pub stepped : Sent → ℕ → ℕ
+stepped nothing p = p
+stepped (gets x) p = after p
+stepped (closes x) p = p
 
-abbrev pub given : Opt → List Frame → ℕ → List ℕ → List ℕ
-given Opt.None fs r xs = xs
-given (Opt.Some x) fs r xs = into fs r x xs
+abbrev pub given : Sent → List Frame → ℕ → List ℕ → List ℕ
+given nothing fs r xs = xs
+given (gets x) fs r xs = into fs r x xs
+given (closes x) fs r xs = xs
 
 -- x at v suspended c, and y at w enters it and leaves z: what x found, moved from its Coro frame's base to the caller's height
 pub record Restored (v : View) (x : Option Op) (w : View) (y : Option Op) (c : ℕ) (z : View) : Type 0 where

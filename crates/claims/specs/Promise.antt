@@ -1,12 +1,12 @@
 -- ALL THAT IS PROMISED of an engine, in one record: demand 3, events that are exact, what is accepted, soundness that is kept, and that
 -- none of it is empty. `step` has it (`promise` in proofs/Promise.antt).
-use Prim.Native.Nat.{ℕ, _≤_}
+use Prim.Native.Nat.{ℕ, _+_, _-_, _*_, _^_, min}
 use mathlib.Core.Path.{_≡_}
 use mathlib.Core.Bool.{Bool, true, false, _||_}
 use mathlib.Core.List.{List, [], _∷_, _++_}
 use mathlib.Core.Option.{Option, none, some}
 use lib.ListN.{length, drop}
-use lib.Dec.{eqb}
+use lib.Dec.{eqb, ltb, leb}
 use Rattle.heap.specs.declared.fault.Fault.{Fault}
 use Rattle.heap.specs.declared.heap.ResultKind.{ResultKind}
 use Rattle.model.specs.declared.call.OptPc.{OptPc}
@@ -30,20 +30,40 @@ plain ResultKind.U64 = false
 abbrev pub suspends : ℕ → Bool
 suspends n = eqb n 0 || eqb n 2 || eqb n 6
 
--- c runs on top, with fuel, and would save no more than it has saved before: so its suspension needs no memory
-pub record Roomy (e : Engine) (c : ℕ) (s : e .State) : Type 0 where
+-- so many bytes more are within the limit; sums stop at 2^64 - 1
+abbrev pub room : View → ℕ → Bool
+room v n = leb (min (v .used + n) (2 ^ 64 - 1)) (v .memory)
+
+-- c runs on top, with fuel, and there is room for n bytes and for what it would save beyond the most that it has saved. 01: "8 bytes
+-- per register and F per frame beyond the coroutine's largest saved sizes so far"
+pub record Roomy (e : Engine) (n c : ℕ) (s : e .State) : Type 0 where
   pub healthy : Healthy e s
   pub fuel : eqb (e .view s .fuel .fuel) 0 ≡ false
   pub held : Held (e .view s) c
   pub seen : Seen
   pub there : e .view s .coro c ≡ some seen
-  pub words : length (drop (held .body .base) (e .view s .stack)) ≤ seen .mostWords
-  pub frames : length (held .over ++ (held .body ∷ [])) ≤ seen .mostFrames
+  pub grows : let words = length (drop (held .body .base) (e .view s .stack)) - seen .mostWords in let frames = length (held .over ++ (held .body ∷ [])) - seen .mostFrames in
+      room (e .view s) (n + (words * 8 + frames * e .view s .frameCost)) ≡ true
+
+-- a new integer object can be made
+pub record Makes (v : View) : Type 0 where
+  pub slot : v .full ≡ false
+  pub bytes : room v (v .intCost) ≡ true
+
+-- a result that converts: an i64, or a u64 below 2^63. 01: "A u64 above 2^63 - 1 gives 7."
+abbrev pub converts : ResultKind → ℕ → Bool
+converts ResultKind.None x = true
+converts ResultKind.Dyn x = true
+converts ResultKind.I64 x = true
+converts ResultKind.U64 x = ltb x (2 ^ 63)
 
 pub record Accepts (e : Engine) : Type 0 where
-  -- an Await or a YieldKv is then answered 0, 2 or 6, and so suspends c (Events.suspended). A Yield may lack a key.
-  pub await : (c : ℕ) (s : e .State) (k : e .Call) (pc dst src : ℕ) → Roomy e c s → e .op k ≡ some (Op.Await pc dst src) → lie (e .view s) (dst ∷ src ∷ []) ≡ true → suspends (e .number s k) ≡ true
-  pub yield-kv : (c : ℕ) (s : e .State) (k : e .Call) (pc dst src key : ℕ) → Roomy e c s → e .op k ≡ some (Op.YieldKv pc dst src key) → lie (e .view s) (dst ∷ src ∷ key ∷ []) ≡ true → suspends (e .number s k) ≡ true
+  -- an Await or a YieldKv is then answered 0, 2 or 6, and so suspends c (Events.suspended); a Yield that can make a key too, but for 7
+  pub await : (c : ℕ) (s : e .State) (k : e .Call) (pc dst src : ℕ) → Roomy e 0 c s → e .op k ≡ some (Op.Await pc dst src) → lie (e .view s) (dst ∷ src ∷ []) ≡ true → suspends (e .number s k) ≡ true
+  pub yield-kv : (c : ℕ) (s : e .State) (k : e .Call) (pc dst src key : ℕ) → Roomy e 0 c s → e .op k ≡ some (Op.YieldKv pc dst src key) → lie (e .view s) (dst ∷ src ∷ key ∷ []) ≡ true → suspends (e .number s k) ≡ true
+  pub yield : (c : ℕ) (s : e .State) (k : e .Call) (pc dst src : ℕ) → Roomy e (e .view s .intCost) c s → e .view s .full ≡ false → e .op k ≡ some (Op.Yield pc dst src) → lie (e .view s) (dst ∷ src ∷ []) ≡ true
+      → (suspends (e .number s k) || eqb (e .number s k) 7) ≡ true
+  pub integer : (s : e .State) (k : e .Call) (kind : ResultKind) (x : ℕ) → Healthy e s → e .op k ≡ some (Op.Finish kind x) → Makes (e .view s) → converts kind x ≡ true → onBody (e .view s .frames) ≡ true → e .number s k ≡ 0
   pub finish : (s : e .State) (k : e .Call) (kind : ResultKind) (x : ℕ) → Healthy e s → e .op k ≡ some (Op.Finish kind x) → plain kind ≡ true → onBody (e .view s .frames) ≡ true → e .number s k ≡ 0
   pub escape : (s : e .State) (k : e .Call) (x : ℕ) (pc : OptPc) (c : ℕ) → Healthy e s → e .op k ≡ some (Op.Unwind (Fault.Throw x) pc) → raisedAt (e .view s) (some x) pc ≡ some c → e .number s k ≡ 0
 
@@ -52,7 +72,7 @@ pub record Accepts (e : Engine) : Type 0 where
 -- 01: 11, "set-up .. breaks the rules below, or `unwind` gets no such fault"
 pub data Eleven (v : View) : Option Op → Type 0 where
   sets-up : Eleven v none
-  no-fault : (f : Fault) (pc : OptPc) → raised v f ≡ none → Eleven v (some (Op.Unwind f pc))
+  no-fault : (f : Fault) (pc : OptPc) → raised v f ≡ none → (f ≡ Fault.OutOfMemory → ⊥) → (f ≡ Fault.OutOfFuel → ⊥) → Eleven v (some (Op.Unwind f pc))
 
 pub record Soundness (e : Engine) : Type 0 where
   pub begun : (s : e .State) (k : e .Call) → Restarts e s k → Healthy e (e .next s k)

@@ -36,9 +36,15 @@ window v dst argc = leb (base (v .frames) + dst + 1 + argc) (length (v .stack))
 
 -- ---- the calls
 
+-- what a coroutine is entered with: a word for the register that waits, a word that closes it, or neither
+pub data Sent : Type 0 where
+  nothing : Sent
+  gets : ℕ → Sent
+  closes : ℕ → Sent
+
 pub data Aim : Type 0 where
-  -- to enter the coroutine that a word names: driver, sent word or none, and whether its state allows this
-  enter : ℕ → Driver → Opt → Bool → Aim
+  -- to enter the coroutine that a word names: driver, what it is entered with, and whether its state allows this
+  enter : ℕ → Driver → Sent → Bool → Aim
   -- to suspend: an await or not, the register that waits, the payload
   suspend : Bool → ℕ → ℕ → Aim
   neither : Aim
@@ -59,15 +65,15 @@ does v (Op.Spawn pc dst callee argc) = instr pc (lie v (dst ∷ callee ∷ []) &
 does v (Op.Yield pc dst src) = instr pc (lie v (dst ∷ src ∷ [])) (suspend false dst (word v src))
 does v (Op.YieldKv pc dst src key) = instr pc (lie v (dst ∷ src ∷ key ∷ [])) (suspend false dst (word v src))
 does v (Op.Await pc dst src) = instr pc (lie v (dst ∷ src ∷ [])) (suspend true dst (word v src))
-does v (Op.Resume pc dst c src) = instr pc (lie v (dst ∷ c ∷ src ∷ [])) (enter (word v c) (Driver.Resume dst) (Opt.Some (word v src)) true)
-does v (Op.ResumeThrow pc dst c src) = instr pc (lie v (dst ∷ c ∷ src ∷ [])) (enter (word v c) (Driver.Resume dst) Opt.None (is v sleeps (word v c)))
-does v (Op.CoroClose pc dst c src) = instr pc (lie v (dst ∷ c ∷ src ∷ [])) (enter (word v c) (Driver.Resume dst) Opt.None (is v sleeps (word v c)))
+does v (Op.Resume pc dst c src) = instr pc (lie v (dst ∷ c ∷ src ∷ [])) (enter (word v c) (Driver.Resume dst) (gets (word v src)) true)
+does v (Op.ResumeThrow pc dst c src) = instr pc (lie v (dst ∷ c ∷ src ∷ [])) (enter (word v c) (Driver.Resume dst) nothing (is v sleeps (word v c)))
+does v (Op.CoroClose pc dst c src) = instr pc (lie v (dst ∷ c ∷ src ∷ [])) (enter (word v c) (Driver.Resume dst) (closes (word v src)) (is v sleeps (word v c)))
 does v (Op.CoroStatus pc dst c) = instr pc (lie v (dst ∷ c ∷ [])) neither
 does v (Op.CoroCurrent pc dst) = instr pc (lie v (dst ∷ [])) neither
 does v (Op.CoroKey pc dst c) = instr pc (lie v (dst ∷ c ∷ [])) neither
 does v (Op.CoroResult pc dst c) = instr pc (lie v (dst ∷ c ∷ [])) neither
 does v (Op.IterNext pc has iter val src) =
-    instr pc (lie v (has ∷ iter ∷ val ∷ src ∷ [])) (enter (word v src) (Driver.Iter has val (word v iter)) (Opt.Some 0) (not (v .done (word v iter)) && not (is v awaits (word v src))))
+    instr pc (lie v (has ∷ iter ∷ val ∷ src ∷ [])) (enter (word v src) (Driver.Iter has val (word v iter)) (gets 0) (not (v .done (word v iter)) && not (is v awaits (word v src))))
 does v (Op.Finish kind x) = finishes kind x
 does v (Op.Unwind f pc) = raises f pc
 does v (Op.SpawnTask x) = other
@@ -92,12 +98,11 @@ doing v (some o) = does v o
 pub record Entry : Type 0 where
   pub coro : ℕ
   pub driver : Driver
-  -- the word that it gets in the register that waits, or none
-  pub sent : Opt
+  pub sent : Sent
   -- where the caller stands
   pub pc : ℕ
 
-abbrev pub entry : ℕ → Driver → Opt → ℕ → Entry
+abbrev pub entry : ℕ → Driver → Sent → ℕ → Entry
 entry c d x pc = record { coro = c; driver = d; sent = x; pc = pc }
 
 -- 01: "not Created, Yielded or Awaiting (3); frames plus saved frames above the depth limit, or stack plus saved registers above the
@@ -107,14 +112,14 @@ fits v c = seenIn (λ x. (isNew (x .state) || sleeps (x .state)) && leb (length 
 
 -- the call's own entry. 01: "A Created one ignores the sent word."
 abbrev pub named : View → ℕ → Aim → Option Entry
-named v pc (enter c d x may) = pick (may && fits v c) (some (entry c d (pick (is v isNew c) Opt.None x) pc)) none
+named v pc (enter c d x may) = pick (may && fits v c) (some (entry c d (pick (is v isNew c) nothing x) pc)) none
 named v pc (suspend await dst x) = none
 named v pc neither = none
 
--- a cleanup: the first of the queue that sleeps and fits
+-- a cleanup: the first of the queue that sleeps and fits is closed, by nil
 abbrev pub cleaned : View → ℕ → List ℕ → Option Entry
 cleaned v pc [] = none
-cleaned v pc (c ∷ queue) = pick (is v sleeps c && fits v c) (some (entry c Driver.Finalize Opt.None pc)) (cleaned v pc queue)
+cleaned v pc (c ∷ queue) = pick (is v sleeps c && fits v c) (some (entry c Driver.Finalize (closes 0) pc)) (cleaned v pc queue)
 
 -- what fuel 0 leaves to spend: the bank
 abbrev pub banked : Opt → ℕ
@@ -137,7 +142,7 @@ isNone (f ∷ fs) = false
 
 abbrev pub whomBy : View → Does → Option Entry
 whomBy v (instr pc ok a) = pick (isNone (v .frames)) none (pick ok (charged v pc (named v pc a)) none)
-whomBy v (hosts c x) = pick (isNone (v .frames)) (named v 0 (enter c Driver.Host (Opt.Some x) true)) none
+whomBy v (hosts c x) = pick (isNone (v .frames)) (named v 0 (enter c Driver.Host (gets x) true)) none
 whomBy v (finishes kind x) = none
 whomBy v (raises f pc) = none
 whomBy v other = none

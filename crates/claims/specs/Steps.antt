@@ -6,7 +6,7 @@ use Rattle.heap.specs.Table.{nextWord}
 use Rattle.model.specs.Program.{func}
 use Rattle.model.specs.Object.{Coroutine, Absent, Is, isDone}
 use Rattle.model.specs.World.{World}
-use Rattle.model.specs.Heap.{object, coro}
+use Rattle.model.specs.Heap.{object, coro, slotsFull, dynInt}
 use Rattle.model.specs.Answer.{numberOf}
 use Rattle.model.specs.Call.{Call, SetUp, Do}
 use Rattle.model.specs.Step.{step}
@@ -32,6 +32,12 @@ viewOf w =
       functions = length (w .setup .functions);
       handlers = λ f. func (w .setup) f .handlers;
       fresh = nextWord (w .slots);
+      full = slotsFull w;
+      integer = dynInt w;
+      used = w .used;
+      memory = w .setup .limits .memory;
+      frameCost = w .setup .costs .frame;
+      intCost = w .setup .costs .int;
     }
 
 abbrev pub opOf : Call → Option Op

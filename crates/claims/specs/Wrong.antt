@@ -6,6 +6,7 @@ use mathlib.Core.List.{List, [], _∷_, map}
 use lib.ListN.{length, set}
 use lib.Dec.{ltb}
 use Rattle.lists.specs.Pick.{pick}
+use Rattle.model.specs.Object.{withClosing}
 use Rattle.model.specs.World.{World, withStack, withFrames}
 use Rattle.model.specs.Heap.{changeCoro}
 use Rattle.model.specs.Coro.{inState}
@@ -18,7 +19,7 @@ use Rattle.model.specs.declared.machine.Active.{Active}
 use Rattle.model.specs.declared.machine.Frame.{Frame}
 use Rattle.claims.specs.Engine.{Engine, ended, is}
 use Rattle.claims.specs.Demand3.{Demand3}
-use Rattle.claims.specs.Events.{isBody, Events}
+use Rattle.claims.specs.Events.{isBody, failed, Events}
 use Rattle.claims.specs.Steps.{viewOf, opOf}
 
 -- a callee is on top
@@ -78,6 +79,22 @@ spoiled (a ∷ chain) z = pick (is (viewOf z) ended (a .coro)) (withStack (set (
 abbrev pub failing : Engine
 failing = record { State = World; Call = Call; op = opOf; view = viewOf; next = λ w k. spoiled (w .chain) (step w k .world); number = λ w k. numberOf (step w k .answer) }
 
+-- every call ends the closing of the coroutine that runs
+abbrev pub unmarked : List Active → World → World
+unmarked [] z = z
+unmarked (a ∷ chain) z = changeCoro (a .coro) (λ k. k) (withClosing false) z
+
+abbrev pub forgetting : Engine
+forgetting = record { State = World; Call = Call; op = opOf; view = viewOf; next = λ w k. let z = step w k .world in unmarked (z .chain) z; number = λ w k. numberOf (step w k .answer) }
+
+-- who fails is made Returned
+abbrev pub spared : List Active → World → World
+spared [] z = z
+spared (a ∷ chain) z = pick (is (viewOf z) failed (a .coro)) (changeCoro (a .coro) (inState CoroState.Returned) (λ r. r) z) z
+
+abbrev pub sparing : Engine
+sparing = record { State = World; Call = Call; op = opOf; view = viewOf; next = λ w k. spared (w .chain) (step w k .world); number = λ w k. numberOf (step w k .answer) }
+
 pub record Wrong : Type 0 where
   pub other-function : Demand3 (bent (onTop ofZero)) → ⊥
   pub discarding : Demand3 (bent (onTop discards)) → ⊥
@@ -89,3 +106,5 @@ pub record Wrong : Type 0 where
   pub always-refused : Events (idle (λ _. true)) → ⊥
   pub no-cleanup : Events (idle two) → ⊥
   pub return-fails : Events failing → ⊥
+  pub closing-forgotten : Events forgetting → ⊥
+  pub failure-returns : Events sparing → ⊥

@@ -16,10 +16,10 @@ use Rattle.model.specs.declared.call.OptPc.{OptPc}
 use Rattle.model.specs.declared.machine.Charge.{Charge}
 use Rattle.model.specs.declared.machine.Frame.{Frame}
 use Rattle.model.specs.declared.machine.Fuel.{Fuel}
-use Rattle.invariant.proofs.Tests.{no-false, no-true}
-use Rattle.invariant.proofs.Sound.{sound→, →sound}
-use Rattle.invariant.proofs.Good.{Good, Calm}
-use Rattle.invariant.proofs.Charge.{Charging, charge-good}
+use Rattle.soundness.proofs.Tests.{no-false, no-true}
+use Rattle.soundness.proofs.Sound.{sound→, →sound}
+use Rattle.soundness.proofs.Good.{Good, Calm}
+use Rattle.soundness.proofs.Charge.{Charging, charge-good}
 use Rattle.tables.specs.Parts.{Frames}
 use Rattle.tables.specs.Does.{RegFits}
 use Rattle.tables.proofs.Doing.{reg-fits}

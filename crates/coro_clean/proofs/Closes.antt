@@ -16,7 +16,7 @@ use Rattle.model.specs.declared.call.OptPc.{OptPc}
 use Rattle.model.specs.declared.coro.Started.{Started}
 use Rattle.model.specs.declared.machine.Charge.{Charge}
 use Rattle.model.specs.declared.machine.Fuel.{Fuel}
-use Rattle.invariant.proofs.Tests.{no-true, picked}
+use Rattle.soundness.proofs.Tests.{no-true, picked}
 use Rattle.memory.specs.Memory.{Lent, Beside, Rep}
 use Rattle.memory.specs.Lendings.{plain, cleaning}
 use Rattle.memory.specs.Contract.{Ok, Does, with}

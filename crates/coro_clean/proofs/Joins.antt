@@ -28,10 +28,10 @@ use Rattle.model.specs.Sound.{sound}
 use Rattle.model.specs.declared.call.Answer.{Answer}
 use Rattle.model.specs.declared.coro.Made.{Made}
 use Rattle.model.specs.declared.machine.Fuel.{Fuel}
-use Rattle.invariant.proofs.Tests.{no-false}
-use Rattle.invariant.proofs.Queue as I
-use Rattle.invariant.proofs.Sound.{Sound, sound→}
-use Rattle.invariant.proofs.Coros.{task-sound, handed-sound}
+use Rattle.soundness.proofs.Tests.{no-false}
+use Rattle.soundness.proofs.Queue as I
+use Rattle.soundness.proofs.Sound.{Sound, sound→}
+use Rattle.soundness.proofs.Coros.{task-sound, handed-sound}
 use Rattle.tables.specs.Does.{QueueDo}
 use Rattle.memory.specs.Memory.{Lent, Rep, Room, onSlots, onReady, onFinalize}
 use Rattle.memory.specs.Contract.{Does}

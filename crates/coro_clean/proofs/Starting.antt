@@ -25,10 +25,10 @@ use Rattle.model.specs.Sound.{sound}
 use Rattle.model.specs.declared.coro.Started.{Started}
 use Rattle.model.specs.declared.machine.Driver.{Driver}
 use Rattle.model.specs.declared.machine.Fuel.{Fuel}
-use Rattle.invariant.proofs.Tests.{no-false}
-use Rattle.invariant.proofs.Queue as I
-use Rattle.invariant.proofs.Sound.{Sound, sound→, →sound}
-use Rattle.invariant.proofs.Coros.{cleanups-sound, unbank-sound}
+use Rattle.soundness.proofs.Tests.{no-false}
+use Rattle.soundness.proofs.Queue as I
+use Rattle.soundness.proofs.Sound.{Sound, sound→, →sound}
+use Rattle.soundness.proofs.Coros.{cleanups-sound, unbank-sound}
 use Rattle.tables.specs.Parts.{Queue, Run}
 use Rattle.tables.specs.Does.{QueueDo}
 use Rattle.tables.proofs.Parts.{run-of}

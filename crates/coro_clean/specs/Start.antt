@@ -8,7 +8,7 @@ use lib.Dec.{eqb}
 use Rattle.lists.specs.Pick.{pick}
 use Rattle.heap.specs.Fault.{numberOf}
 use Rattle.heap.specs.Word.{nil}
-use Rattle.heap.specs.Heap.{coroOf, slotsOf}
+use Rattle.heap.specs.Heap.{coroOf, slotsOf, TableFits}
 use Rattle.heap.specs.declared.heap.Coroutine.{Coroutine}
 use Rattle.heap.specs.declared.heap.Coroutine.the-variants as R
 use Rattle.model.specs.State.{isSuspended}
@@ -44,7 +44,7 @@ starts slots m l v = startsAs m l (coroOf (slotsOf (m .count) slots) v)
 
 -- the slots lie in the words, the frames and the stack within their limits
 pub record MayFits (slots : List ℕ) (m : Machine) (l : Sizes) : Type 0 where
-  pub table : m .count * 20 ≤ length slots
+  pub table : TableFits slots (m .count)
   pub depth : m .depth ≤ l .depth
   pub height : m .height ≤ l .stack
 

@@ -7,6 +7,7 @@ ghost use Rattle.coro_clean.specs.Join.{JoinFits};
 use heap::fault::Fault;
 use heap::heap::CoroPlace;
 use heap::value::Word;
+use machine::called::Called;
 use machine::fuel::set_finalizing;
 use memory::machine::Machine;
 use model::call::Answer;
@@ -17,13 +18,6 @@ use model::machine::Fuel;
 pub struct TaskDid {
     pub machine: Machine,
     pub answer: Made,
-}
-
-// What a hand over leaves of the numbers and of the fuel, and answers.
-pub struct HandDid {
-    pub machine: Machine,
-    pub fuel: Fuel,
-    pub answer: Answer,
 }
 
 // coro.rs: spawn_task.
@@ -63,18 +57,12 @@ pub fn spawn_task(slots: &mut [u64], ready: &mut [u64], m: Machine, v: Word) -> 
 }
 
 // 01: "Hand over".
-pub fn hand_over(
-    slots: &mut [u64],
-    finalize: &mut [u64],
-    m: Machine,
-    fuel: Fuel,
-    v: Word,
-) -> HandDid
+pub fn hand_over(slots: &mut [u64], finalize: &mut [u64], m: Machine, fuel: Fuel, v: Word) -> Called
     requires { ⌜ JoinFits (cleanups slots finalize now) m ⌝ }
     ensures { λ r. ⌜ every (λ l. Met any l (handOver (v .0)) (cleanups slots finalize) (with m fuel) (with (r .machine) (r .fuel)) (r .answer)) ⌝ }
 {
     match heap::heap::coro_place(slots, m.count, v) {
-        CoroPlace::Not(f) => HandDid {
+        CoroPlace::Not(f) => Called {
             machine: m,
             fuel,
             answer: Answer::Refused(f),
@@ -82,14 +70,14 @@ pub fn hand_over(
         CoroPlace::At(i) => {
             let s = heap::field::state_at(slots, i);
             if !s.is_suspended() {
-                return HandDid {
+                return Called {
                     machine: m,
                     fuel,
                     answer: Answer::Refused(Fault::InvalidCoroState),
                 };
             }
             if heap::field::finalized_at(slots, i) {
-                return HandDid {
+                return Called {
                     machine: m,
                     fuel,
                     answer: Answer::Refused(Fault::InvalidCoroState),
@@ -102,7 +90,7 @@ pub fn hand_over(
             let did = set_finalizing(n, fuel, m.finalizing);
             let k = did.machine;
             let f = did.fuel;
-            HandDid {
+            Called {
                 machine: k,
                 fuel: f,
                 answer: Answer::Accepted,

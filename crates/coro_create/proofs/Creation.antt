@@ -14,7 +14,7 @@ use Rattle.lists.proofs.Tests.{never}
 use Rattle.heap.specs.Fault.{isNone}
 use Rattle.heap.specs.Charge as Charge
 use Rattle.heap.specs.Table.{Slot}
-use Rattle.heap.specs.Heap.{slotsOf, out, allocOf}
+use Rattle.heap.specs.Heap.{slotsOf, out, allocOf, TableFits}
 use Rattle.heap.specs.declared.fault.Fault.{Fault}
 use Rattle.heap.specs.declared.heap.Heap.{Heap}
 use Rattle.heap.specs.declared.heap.Made as HM
@@ -36,9 +36,9 @@ use Rattle.model.specs.declared.coro.Made.{Made}
 use Rattle.model.specs.declared.machine.Cont.{Cont}
 use Rattle.model.specs.declared.machine.Frame.{Frame}
 use Rattle.model.specs.declared.machine.Fuel.{Fuel}
-use Rattle.invariant.proofs.Sound.{facts}
-use Rattle.invariant.proofs.Make.{length-newRegs, regs-widest}
-use Rattle.invariant.proofs.Held.{lowest-free}
+use Rattle.soundness.proofs.Sound.{facts}
+use Rattle.soundness.proofs.Make.{length-newRegs, regs-widest}
+use Rattle.soundness.proofs.Held.{lowest-free}
 use Rattle.tables.specs.Layout.{functionIn, frameWords}
 use Rattle.tables.specs.Parts.{SavedStack, SavedFrames, RowIs, upward}
 use Rattle.tables.specs.Sizes.{framesSize}
@@ -51,6 +51,7 @@ use Rattle.memory.specs.Contract.{Does}
 use Rattle.memory.specs.declared.machine.Machine.{Machine}
 use Rattle.memory.specs.declared.machine.Sizes.{Sizes}
 use Rattle.memory.proofs.Rows.{nobody}
+use Rattle.memory.proofs.Turn.{turn-seq}
 use Rattle.memory.proofs.Tables.{slots-are, rows-at, length-tabled}
 use Rattle.memory.proofs.Does.{does}
 use Rattle.machine.specs.Numbers.{heapOf, allocated}
@@ -223,24 +224,7 @@ module _ (l : Sizes) (M : Lent) (m : Machine) (fu : Fuel) (w : World) (rep : Rep
     bytes-are = sym (ap₂ (λ r c. bytesOf r (c .object) (c .frame)) regs-in (sym (rep .sizes .costs)))
 
     next-rep : Rep l next M (sequenced m) fu
-    next-rep =
-        record {
-          sizes = rep .sizes;
-          setup = rep .setup;
-          stack = rep .stack;
-          frames = rep .frames;
-          chain = rep .chain;
-          slots = rep .slots;
-          savedStack = rep .savedStack;
-          savedFrames = rep .savedFrames;
-          ready = rep .ready;
-          finalize = rep .finalize;
-          finalizing = rep .finalizing;
-          outcome = rep .outcome;
-          used = rep .used;
-          seq = ap (λ k. (k + 1) % 2 ^ 64) (rep .seq);
-          fuel = rep .fuel;
-        }
+    next-rep = turn-seq l w M m fu rep ((m .seq + 1) % 2 ^ 64) ((w .seq + 1) % 2 ^ 64) (ap (λ k. (k + 1) % 2 ^ 64) (rep .seq))
 
     module _ (slots′ : List ℕ) where
       abbrev Allocated : HM.Made → Type 0
@@ -255,7 +239,7 @@ module _ (l : Sizes) (M : Lent) (m : Machine) (fu : Fuel) (w : World) (rep : Rep
           subst₂ (λ z y. Does l z (onSlots slots′ M) y fu (Made.Refused g)) (sym (opened .0)) (sym eq)
           (alloc-refused l M (sequenced m) fu next next-rep bytes core slots′ g (alloc-lacks (M .slots) (heapOf m l) bytes (toObject core) slots′ g (as-model (H.Refused g) e)))
 
-      pub was-created : l .slots * 20 ≤ length (M .slots) → (q r : Machine) (v : Word) (h′ : Heap) (savedStack′ savedFrames′ : List ℕ) → q ≡ sequenced m → r ≡ allocated q h′ → Allocated (H.Done v h′)
+      pub was-created : TableFits (M .slots) (l .slots) → (q r : Machine) (v : Word) (h′ : Heap) (savedStack′ savedFrames′ : List ℕ) → q ≡ sequenced m → r ≡ allocated q h′ → Allocated (H.Done v h′)
           → Writes (M .savedStack) (M .savedFrames) savedStack′ savedFrames′ l i regs f closure array n
           → Does l (coroCreate f closure args w) (onSlots slots′ (onSaved savedStack′ savedFrames′ M)) r fu (Made.Word (v .0))
       was-created room q r v h′ savedStack′ savedFrames′ eq er e k =

@@ -5,7 +5,7 @@ use Prim.Native.Nat.{ℕ, _*_, _≤_}
 use lib.ListN.{length}
 use Rattle.heap.specs.Coding.{ofBits}
 use Rattle.heap.specs.Int.{inlineOf, nextKey}
-use Rattle.heap.specs.Heap.{out, encodeBy, encodeOf}
+use Rattle.heap.specs.Heap.{out, encodeBy, encodeOf, TableFits}
 use Rattle.heap.specs.declared.fault.Fault.{Fault}
 use Rattle.heap.specs.declared.heap.Heap.{Heap}
 use Rattle.heap.specs.declared.heap.Made as HM
@@ -51,7 +51,7 @@ module _ (l : Sizes) (M : Lent) (m : Machine) (fu : Fuel) (w : World) (rep : Rep
         pub key-refused : (g : Fault) → r ≡ H.Refused g → Does l (autoKey largest w) (onSlots slots′ M) m fu (AutoKey.Refused g)
         key-refused g e = keys (onSlots slots′ M) m (Made.Refused g) (AutoKey.Refused g) (λ u. refl) (int-refused l M m fu w rep n slots′ (inlineOf (ofBits 63 n)) g (encoded (H.Refused g) e))
 
-        pub key-made : l .slots * 20 ≤ length (M .slots) → (v : Word) (h′ : Heap) (m′ : Machine) → r ≡ H.Done v h′ → m′ ≡ allocated m h′ → Does l (autoKey largest w) (onSlots slots′ M) m′ fu (AutoKey.Key (v .0) n)
+        pub key-made : TableFits (M .slots) (l .slots) → (v : Word) (h′ : Heap) (m′ : Machine) → r ≡ H.Done v h′ → m′ ≡ allocated m h′ → Does l (autoKey largest w) (onSlots slots′ M) m′ fu (AutoKey.Key (v .0) n)
         key-made room v h′ m′ e em =
             subst (λ y. Does l (autoKey largest w) (onSlots slots′ M) y fu (AutoKey.Key (v .0) n)) (sym em)
             (keys (onSlots slots′ M) (allocated m h′) (Made.Word (v .0)) (AutoKey.Key (v .0) n) (λ u. refl) (int-made l M m fu w rep n slots′ (inlineOf (ofBits 63 n)) v h′ room (encoded (H.Done v h′) e)))

@@ -11,8 +11,8 @@ use Rattle.model.specs.Program.{Func, Setup, func, noFunc, isFunction, function
 use Rattle.model.specs.World.{World}
 use Rattle.model.specs.Sound.{sound}
 use Rattle.model.specs.declared.machine.Fuel.{Fuel}
-use Rattle.invariant.proofs.Tests.{and-left, no-false, each-at}
-use Rattle.invariant.proofs.Sound.{Sound, sound→, facts}
+use Rattle.soundness.proofs.Tests.{and-left, no-false, each-at}
+use Rattle.soundness.proofs.Sound.{Sound, sound→, facts}
 use Rattle.tables.specs.Layout.{functionIn}
 use Rattle.tables.proofs.Setups.{functions-in, regs-in}
 use Rattle.memory.specs.Memory.{Lent, Rep, Room}

@@ -11,7 +11,7 @@ use Rattle.lists.specs.Parts.{splice, pad}
 use Rattle.heap.specs.Coding.{bitsOf}
 use Rattle.heap.specs.Word.{nil}
 use Rattle.heap.specs.Fault.{isNone}
-use Rattle.heap.specs.Heap.{lacksOf}
+use Rattle.heap.specs.Heap.{lacksOf, TableFits}
 use Rattle.heap.specs.Table.{Slot}
 use Rattle.heap.specs.declared.fault.Fault.{Fault}
 use Rattle.heap.specs.declared.object.CoroObj.{CoroObj}
@@ -45,7 +45,7 @@ spotOf xs m l regs =
     pick (isNone fault) (rowOr (l .rows) (lowestFree (l .rows) 0 (heldIn xs))) (Spot.Lacks fault)
 
 pub record SpotFits (slots : List ℕ) (m : Machine) (l : Sizes) (regs : ℕ) : Type 0 where
-  pub words : m .count * 20 ≤ length slots
+  pub words : TableFits slots (m .count)
   pub rows : l .rows ≤ 64
   pub bytes : bytesOf regs (l .costs .coro) (l .costs .frame) < 2 ^ 64
 

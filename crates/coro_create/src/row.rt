@@ -3,7 +3,7 @@ ghost use mathlib.Core.Path.{_≡_};
 ghost use mathlib.Core.Bool.{Bool, false};
 ghost use Prim.Native.Nat.{_*_, _≤_};
 ghost use lib.ListN.{length, getD, replicate};
-ghost use Rattle.heap.specs.Heap.{slotsOf};
+ghost use Rattle.heap.specs.Heap.{slotsOf, TableFits};
 ghost use Rattle.model.specs.Rows.{lowestFree};
 ghost use Rattle.coro_create.specs.Row.{rowOf, heldIn, marked, lowestBy};
 use heap::object::CoroState;
@@ -40,7 +40,7 @@ fn row_of(o: Object) -> u64
 
 // A mark for each row that is held.
 fn held_rows(slots: &[u64], count: usize) -> [bool; 64]
-    requires { ⌜ count * 20 ≤ length (now slots) ⌝ }
+    requires { ⌜ TableFits (now slots) count ⌝ }
     ensures { λ r. ⌜ r ≡ marked (slotsOf count (now (slots .entry))) (replicate {A = Bool} 64 false) ⌝ }
 {
     let mut held = [false; 64];
@@ -68,7 +68,7 @@ fn lowest(held: [bool; 64], rows: usize) -> usize
 
 // The lowest of so many rows that no object holds, or their number.
 pub(crate) fn free_row(slots: &[u64], count: usize, rows: usize) -> usize
-    requires { ⌜ (count * 20 ≤ length (now slots)) × (rows ≤ 64) ⌝ }
+    requires { ⌜ TableFits (now slots) count × (rows ≤ 64) ⌝ }
     ensures { λ r. ⌜ r ≡ lowestFree rows 0 (heldIn (slotsOf count (now (slots .entry)))) ⌝ }
 {
     lowest(held_rows(slots, count), rows)

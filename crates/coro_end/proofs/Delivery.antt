@@ -22,7 +22,7 @@ use Rattle.memory.specs.declared.machine.Machine.{Machine}
 use Rattle.memory.specs.declared.machine.Sizes.{Sizes}
 use Rattle.memory.specs.Lendings.{top, plain}
 use Rattle.memory.specs.Contract.{any, only, every, Turns}
-use Rattle.memory.proofs.Turn.{turn-stack}
+use Rattle.memory.proofs.Turn.{turn-stack, turn-outcome}
 use Rattle.machine.specs.Send.{SendFits}
 use Rattle.memory.proofs.Does.{does}
 use Rattle.coro_end.specs.Deliver.{iterYielded, stopped}
@@ -49,23 +49,7 @@ module _ (l : Sizes) (M : Lent) (m : Machine) (f : Fuel) (w : World) (rep : Rep 
   pub told-host : (s : Stop) (n : Machine) → n ≡ stopped s m → Rep l (withOutcome (Outcome.Some s) w) M n f
   told-host s n e =
       subst (λ k. Rep l (withOutcome (Outcome.Some s) w) M k f) (sym e)
-      (record {
-        sizes = rep .sizes;
-        setup = rep .setup;
-        stack = rep .stack;
-        frames = rep .frames;
-        chain = rep .chain;
-        slots = rep .slots;
-        savedStack = rep .savedStack;
-        savedFrames = rep .savedFrames;
-        ready = rep .ready;
-        finalize = rep .finalize;
-        finalizing = rep .finalizing;
-        outcome = refl;
-        used = rep .used;
-        seq = rep .seq;
-        fuel = rep .fuel;
-      })
+      (turn-outcome l w M m f rep (Outcome.Some s))
 
 -- ---- by the event
 

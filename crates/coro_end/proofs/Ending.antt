@@ -10,7 +10,7 @@ use borrow.Author.Tests.{leb-true}
 use Rattle.lists.specs.Parts.{splice}
 use Rattle.heap.specs.Word.{slotOf, tagOf}
 use Rattle.heap.specs.Table.{Slot, slot}
-use Rattle.heap.specs.Heap.{slotsOf, coroOf, putSlot}
+use Rattle.heap.specs.Heap.{slotsOf, coroOf, putSlot, SlotFits}
 use Rattle.heap.specs.declared.fault.Fault.{Fault}
 use Rattle.heap.specs.declared.heap.Coroutine as R
 use Rattle.heap.specs.declared.heap.Coroutine.the-variants as RV
@@ -25,9 +25,9 @@ use Rattle.model.specs.Heap.{changeAs, setCoro}
 use Rattle.model.specs.Coro.{inState, ended, finishCoroutine}
 use Rattle.model.specs.Sound.{rowWords, savedSizes, sound}
 use Rattle.model.specs.declared.machine.Fuel.{Fuel}
-use Rattle.invariant.proofs.Tests.{no-false, no-true, and-left, and-right, each-at, at-each}
-use Rattle.invariant.proofs.Point.{Points, finds}
-use Rattle.invariant.proofs.Sound.{sound→}
+use Rattle.soundness.proofs.Tests.{no-false, no-true, and-left, and-right, each-at, at-each}
+use Rattle.soundness.proofs.Point.{Points, finds}
+use Rattle.soundness.proofs.Sound.{sound→}
 use Rattle.tables.specs.Layout.{frameWords}
 use Rattle.tables.specs.Parts.{SavedStack, SavedFrames, RowIs, upward}
 use Rattle.tables.specs.Sizes.{framesSize}
@@ -41,6 +41,7 @@ use Rattle.memory.specs.Memory.{Lent, Rep, onSlots, onSaved, regsRows, framesRo
 use Rattle.memory.specs.declared.machine.Machine.{Machine}
 use Rattle.memory.specs.declared.machine.Sizes.{Sizes}
 use Rattle.memory.proofs.Tables.{slots-are, length-tabled}
+use Rattle.memory.proofs.Turn.{turn-slots}
 use Rattle.memory.proofs.Lookup.{There, there, lacks, regs-row, frames-row, row-below}
 use Rattle.memory.proofs.Slotted.{slot-inside, put-slots, object-rep}
 use Rattle.coro_end.specs.Finish.{endedAs, FreeFits, Freed}
@@ -85,7 +86,7 @@ module _ (l : Sizes) (M : Lent) (m : Machine) (f : Fuel) (v : ℕ) (w : World) (
     points = finds (w .slots) v k r (in-world .coro)
 
     -- its slot lies in the words
-    pub slot-fits : i * 20 + 20 ≤ length (M .slots)
+    pub slot-fits : SlotFits (M .slots) i
     slot-fits =
         let a = slot-inside (w .slots) (M .slots) (m .count) v i (Object.Coro k r) (rep .slots) points (in-world .slot) in
         let b = rep .slots .within in
@@ -187,31 +188,16 @@ module _ (l : Sizes) (M : Lent) (m : Machine) (f : Fuel) (v : ℕ) (w : World) (
           let now = ap (λ (x : CoroObj). isFinished (x .state)) (in-world .is) ∙ e in
           let up = upward frameWords in
           let wide : c .frames * 6 ≡ length (up (k .frames)) = ap (λ j. j * 6) frames-count ∙ sym (long e) in
-          record {
-            sizes = rep .sizes;
-            setup = rep .setup;
-            stack = rep .stack;
-            frames = rep .frames;
-            chain = rep .chain;
-            slots = put-slots (w .slots) (M .slots) slots′ (m .count) v i (Object.Coro k r) (Object.Coro k′ r′) (rep .slots) points (in-world .slot) marked;
-            savedStack =
-                subst (λ z. SavedStack (rowWords u) z savedStack′) (regs-left (w .slots) v k r points (rowed .own) e k′ r′ fin n)
-                (subst (λ z. SavedStack (rowWords u) (set (regsRows n (w .slots)) (r .row) []) z)
-                (sym (free .row now .regs ∙ ap (λ j. splice (M .savedStack) (c .row * l .width) (replicate j 0)) regs-count))
-                (rows-empty (λ xs. xs) (rowWords u) (regsRows n (w .slots)) (M .savedStack) (r .row) (c .row * l .width) (k .regs) [] (rep .savedStack) (regs-is e) [] refl));
-            savedFrames =
-                subst (λ z. SavedFrames (framesSize u) z savedFrames′) (frames-left (w .slots) v k r points (rowed .own) e k′ r′ fin n)
-                (subst (λ z. SavedFrames (framesSize u) (set (framesRows n (w .slots)) (r .row) []) z)
-                (sym (free .row now .frames ∙ ap (λ j. splice (M .savedFrames) (c .row * (l .depth * 6)) (replicate j 0)) wide))
-                (rows-empty up (framesSize u) (framesRows n (w .slots)) (M .savedFrames) (r .row) (c .row * (l .depth * 6)) (k .frames) [] (rep .savedFrames) (frames-is e) [] refl));
-            ready = rep .ready;
-            finalize = rep .finalize;
-            finalizing = rep .finalizing;
-            outcome = rep .outcome;
-            used = rep .used;
-            seq = rep .seq;
-            fuel = rep .fuel;
-          }
+          turn-slots l w M m f rep (setCoro v k′ r′ w .slots) slots′ savedStack′ savedFrames′ (m .count)
+          (put-slots (w .slots) (M .slots) slots′ (m .count) v i (Object.Coro k r) (Object.Coro k′ r′) (rep .slots) points (in-world .slot) marked)
+          (subst (λ z. SavedStack (rowWords u) z savedStack′) (regs-left (w .slots) v k r points (rowed .own) e k′ r′ fin n)
+          (subst (λ z. SavedStack (rowWords u) (set (regsRows n (w .slots)) (r .row) []) z)
+          (sym (free .row now .regs ∙ ap (λ j. splice (M .savedStack) (c .row * l .width) (replicate j 0)) regs-count))
+          (rows-empty (λ xs. xs) (rowWords u) (regsRows n (w .slots)) (M .savedStack) (r .row) (c .row * l .width) (k .regs) [] (rep .savedStack) (regs-is e) [] refl)))
+          (subst (λ z. SavedFrames (framesSize u) z savedFrames′) (frames-left (w .slots) v k r points (rowed .own) e k′ r′ fin n)
+          (subst (λ z. SavedFrames (framesSize u) (set (framesRows n (w .slots)) (r .row) []) z)
+          (sym (free .row now .frames ∙ ap (λ j. splice (M .savedFrames) (c .row * (l .depth * 6)) (replicate j 0)) wide))
+          (rows-empty up (framesSize u) (framesRows n (w .slots)) (M .savedFrames) (r .row) (c .row * (l .depth * 6)) (k .frames) [] (rep .savedFrames) (frames-is e) [] refl)))
 
       pub ends : Rep l (finishCoroutine v s result w) M′ m f
       ends = subst (λ x. Rep l (changeAs x v (inState s) (ended result) w) M′ m f) (sym (in-world .coro)) (go (isFinished (k .state)) refl)

@@ -17,7 +17,7 @@ use Rattle.model.specs.declared.machine.Driver.{Driver}
 use Rattle.model.specs.declared.machine.Frame.{Frame}
 use Rattle.model.specs.declared.machine.Fuel.{Fuel}
 use Rattle.model.specs.declared.machine.Stop.{Stop}
-use Rattle.invariant.proofs.Good.{Still}
+use Rattle.soundness.proofs.Good.{Still}
 use Rattle.tables.specs.Layout.{activeIn}
 use Rattle.memory.specs.Memory.{Lent, Beside, onStack, onFrames, Rep}
 use Rattle.memory.specs.Lendings.{lent, plain}

@@ -11,8 +11,8 @@ use Rattle.model.specs.World.{World, withChain}
 use Rattle.model.specs.Coro.{inState, ended, finishCoroutine}
 use Rattle.model.specs.declared.machine.Active.{Active}
 use Rattle.model.specs.declared.machine.Fuel.{Fuel}
-use Rattle.invariant.proofs.Coros.{changed}
-use Rattle.invariant.proofs.Good.{Still, still}
+use Rattle.soundness.proofs.Coros.{changed}
+use Rattle.soundness.proofs.Good.{Still, still}
 use Rattle.tables.specs.Layout.{activeIn}
 use Rattle.tables.specs.Parts.{Chain}
 use Rattle.tables.specs.Does.{ChainDo}

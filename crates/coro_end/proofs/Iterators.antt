@@ -9,7 +9,7 @@ use lib.ListN.{length}
 use Rattle.lists.proofs.Tests.{never}
 use Rattle.heap.specs.Word.{slotOf, tagOf}
 use Rattle.heap.specs.Table.{Slot, slot, slotAt, get}
-use Rattle.heap.specs.Heap.{slotIn, slotsOf, putSlot}
+use Rattle.heap.specs.Heap.{slotIn, slotsOf, putSlot, TableFits, SlotFits}
 use Rattle.heap.specs.Object as HO
 use Rattle.heap.specs.declared.value.Opt.{Opt}
 use Rattle.heap.specs.declared.heap.Place.{Place}
@@ -20,7 +20,7 @@ use Rattle.model.specs.Object.{Object, isFilled}
 use Rattle.model.specs.World.{World}
 use Rattle.model.specs.Heap.{objectAt, object, changeIterIn}
 use Rattle.model.specs.declared.machine.Fuel.{Fuel}
-use Rattle.invariant.proofs.Point.{at, objectIn, Points, points, pointed}
+use Rattle.soundness.proofs.Point.{at, objectIn, Points, points, pointed}
 use Rattle.memory.specs.Slots.{toObject, toSlots}
 use Rattle.memory.specs.Memory.{Lent, Rep, onSlots}
 use Rattle.memory.specs.declared.machine.Machine.{Machine}
@@ -39,7 +39,7 @@ pub iter-here : (n : ℕ) (ws : List ℕ) (w i : ℕ) (o r : H.Object) → Place
 iter-here n ws w i o r found p q = ap (asIter i) (sym p ∙ q ∙ found-object n ws w i found) ∙ ap (iterBy (slotsOf n ws)) found
 
 -- its slot lies in the words
-pub iter-words : (n : ℕ) (ws : List ℕ) (v i s : ℕ) (d : Bool) (k : Opt) → I.At i s d k ≡ iterOf (slotsOf n ws) v → n * 20 ≤ length ws → i * 20 + 20 ≤ length ws
+pub iter-words : (n : ℕ) (ws : List ℕ) (v i s : ℕ) (d : Bool) (k : Opt) → I.At i s d k ≡ iterOf (slotsOf n ws) v → TableFits ws n → SlotFits ws i
 iter-words n ws v i s d k e h = go (get O.Empty HO.isFilled (slotsOf n ws) v) refl e
   where
     slot-is : (o : H.Object) (j : ℕ) → I.At i s d k ≡ asIter j o → i ≡ j
@@ -50,7 +50,7 @@ iter-words n ws v i s d k e h = go (get O.Empty HO.isFilled (slotsOf n ws) v) re
     slot-is (O.Error a b p x) j e = never cc
     slot-is (O.Coro a) j e = never cc
 
-    go : (p : Place) → get O.Empty HO.isFilled (slotsOf n ws) v ≡ p → I.At i s d k ≡ iterBy (slotsOf n ws) p → i * 20 + 20 ≤ length ws
+    go : (p : Place) → get O.Empty HO.isFilled (slotsOf n ws) v ≡ p → I.At i s d k ≡ iterBy (slotsOf n ws) p → SlotFits ws i
     go Place.Nothing q e = never cc
     go (Place.At j) q e = let z = slot-is (slotAt O.Empty HO.isFilled (slotsOf n ws) j .object) j e in let y = found-words n ws v j (sym q) h in omega arith
 

@@ -21,14 +21,14 @@ use Rattle.model.specs.Coro.{inState, ended, finishCoroutine}
 use Rattle.model.specs.Sound.{rowWords, savedSizes, frameNames, sound}
 use Rattle.model.specs.declared.machine.Active.{Active}
 use Rattle.model.specs.declared.machine.Frame.{Frame}
-use Rattle.invariant.proofs.Tests.{no-false, no-true, and-left, and-right, both}
-use Rattle.invariant.proofs.Point.{at, Points, finds}
-use Rattle.invariant.proofs.Held.{Rows}
-use Rattle.invariant.proofs.Slots.{freed-rows}
-use Rattle.invariant.proofs.Stand.{Stands, plain, body, names-of}
-use Rattle.invariant.proofs.Tower.{stands-within}
-use Rattle.invariant.proofs.Sound.{Sound, sound→}
-use Rattle.invariant.proofs.Coros.{changed}
+use Rattle.soundness.proofs.Tests.{no-false, no-true, and-left, and-right, both}
+use Rattle.soundness.proofs.Point.{at, Points, finds}
+use Rattle.soundness.proofs.Held.{Rows}
+use Rattle.soundness.proofs.Slots.{freed-rows}
+use Rattle.soundness.proofs.Stand.{Stands, plain, body, names-of}
+use Rattle.soundness.proofs.Tower.{stands-within}
+use Rattle.soundness.proofs.Sound.{Sound, sound→}
+use Rattle.soundness.proofs.Coros.{changed}
 use Rattle.memory.specs.Memory.{Lent, Beside, Rep}
 use Rattle.memory.specs.declared.machine.Machine.{Machine}
 use Rattle.memory.specs.declared.machine.Sizes.{Sizes}

@@ -6,11 +6,12 @@ use Prim.Native.Nat.{ℕ, _*_, _^_, _≤_, _<_}
 use native.Mathlib.Omega.{arith}
 use lib.ListN.{length}
 use borrow.Author.Tests.{ltb-true}
+use Rattle.heap.specs.Heap.{TableFits}
 use Rattle.model.specs.Frames.{topPc}
 use Rattle.model.specs.Sound.{liesUnder, driverLies}
 use Rattle.model.specs.declared.machine.Driver.{Driver}
 use Rattle.model.specs.declared.machine.Frame.{Frame}
-use Rattle.invariant.proofs.Tests.{no-false, and-left, and-right}
+use Rattle.soundness.proofs.Tests.{no-false, and-left, and-right}
 use Rattle.tables.specs.Layout.{frameWords}
 use Rattle.tables.specs.Parts.{Stack, Frames}
 use Rattle.tables.specs.Does.{RegFits}
@@ -33,7 +34,7 @@ module _ (xs stack frames : List ℕ) (height depth r : ℕ) (s : Stack xs stack
 
 -- what a delivery asks, from a world whose top frame is the driver's
 pub driver-fits : (xs : List ℕ) (fs : List Frame) (stack frames slots : List ℕ) (m : Machine) (d : Driver) → Stack xs stack (m .height) → Frames fs frames (m .depth)
-    → m .count * 20 ≤ length slots → driverLies d (length xs) fs ≡ true → topPc fs < 2 ^ 32 → DriverFits stack frames slots m d
+    → TableFits slots (m .count) → driverLies d (length xs) fs ≡ true → topPc fs < 2 ^ 32 → DriverFits stack frames slots m d
 driver-fits xs fs stack frames slots m d s p n e h =
     record {
       resumes = λ dst q. lies-send xs stack frames (m .height) (m .depth) dst s fs p (ap (λ x. driverLies x (length xs) fs) (sym q) ∙ e) h;

@@ -14,7 +14,7 @@ use Rattle.model.specs.Lists.{distinct}
 use Rattle.model.specs.State.{isFinished}
 use Rattle.model.specs.Object.{Core, Rest, Object, Is, asCoro}
 use Rattle.model.specs.Rows.{heldRows}
-use Rattle.invariant.proofs.Point.{at, Points}
+use Rattle.soundness.proofs.Point.{at, Points}
 use Rattle.memory.specs.Rows.{noRow, owns, rowAt}
 use Rattle.memory.specs.Memory.{regsRows, framesRows}
 use Rattle.memory.proofs.Rows.{row-left, row-other}

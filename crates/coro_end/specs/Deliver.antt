@@ -3,6 +3,7 @@ use mathlib.Core.Path.{_≡_}
 use mathlib.Core.List.{List}
 use Prim.Native.Nat.{ℕ, _*_, _≤_}
 use lib.ListN.{length}
+use Rattle.heap.specs.Heap.{TableFits}
 use Rattle.model.specs.World.{World}
 use Rattle.model.specs.Frames.{putReg}
 use Rattle.model.specs.Heap.{setKey, setDone}
@@ -17,7 +18,7 @@ use Rattle.machine.specs.Send.{SendFits}
 
 -- iter_next's two registers lie in the top frame, and the slots in the words
 pub record IterFits (stack frames slots : List ℕ) (m : Machine) (has val : ℕ) : Type 0 where
-  pub table : m .count * 20 ≤ length slots
+  pub table : TableFits slots (m .count)
   pub flag : SendFits stack frames (m .height) (m .depth) has
   pub word : RegFits stack frames (m .height) (m .depth) val
 

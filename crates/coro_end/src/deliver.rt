@@ -2,6 +2,7 @@
 ghost use mathlib.Core.Path.{_≡_};
 ghost use Prim.Native.Nat.{_*_, _≤_};
 ghost use lib.ListN.{length};
+ghost use Rattle.heap.specs.Heap.{TableFits};
 ghost use Rattle.model.specs.Coro.{outcomeOf, deliver, deliverReturn};
 ghost use Rattle.model.specs.declared.machine.Driver.the-variants.{Resume, Iter};
 ghost use Rattle.model.specs.declared.machine.Outcome.the-variants.{Some};
@@ -127,7 +128,7 @@ pub(crate) fn iter_returned(
     has: u64,
     iter: u64,
 )
-    requires { ⌜ (m .count * 20 ≤ length (now slots)) × SendFits (now stack) (now frames) (m .height) (m .depth) has ⌝ }
+    requires { ⌜ TableFits (now slots) (m .count) × SendFits (now stack) (now frames) (m .height) (m .depth) has ⌝ }
     ensures { λ _. ⌜ every (λ l. Leaves any l (iterReturned has iter) (topTable stack frames slots) (only m) (only m)) ⌝ }
 {
     set_done(slots, m, Word(iter));

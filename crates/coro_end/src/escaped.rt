@@ -1,6 +1,7 @@
 // coro.rs: coro_escaped. The body's frame has been popped.
 ghost use Prim.Native.Nat.{_*_, _≤_};
 ghost use lib.ListN.{length};
+ghost use Rattle.heap.specs.Heap.{TableFits};
 ghost use Rattle.model.specs.Heap.{coro};
 ghost use Rattle.model.specs.Coro.{closedBy, failTo, coroEscaped};
 ghost use Rattle.coro_end.specs.Returned.{ReturnFits};
@@ -28,7 +29,7 @@ pub struct Escaped {
 
 // Whether the coroutine that a word names is being closed by this signal.
 fn closed_by(slots: &[u64], m: Machine, v: Word, value: u64) -> bool
-    requires { ⌜ m .count * 20 ≤ length (now slots) ⌝ }
+    requires { ⌜ TableFits (now slots) (m .count) ⌝ }
     ensures { λ r. ⌜ every (λ l. Reads l (λ w. closedBy (coro w (v .0)) value) (table slots) (only m) r) ⌝ }
 {
     match heap::heap::coro(slots, m.count, v) {

@@ -2,7 +2,7 @@
 ghost use mathlib.Core.Path.{_≡_};
 ghost use Prim.Native.Nat.{_+_, _*_, _≤_};
 ghost use lib.ListN.{length};
-ghost use Rattle.heap.specs.Heap.{putSlot};
+ghost use Rattle.heap.specs.Heap.{putSlot, SlotFits};
 ghost use Rattle.heap.specs.Table.{slot};
 ghost use Rattle.heap.specs.Word.{tagOf};
 ghost use Rattle.heap.specs.declared.object.Object.the-variants.{Coro};
@@ -71,7 +71,7 @@ fn ended(c: CoroObj, s: CoroState, result: u64) -> CoroObj
 
 // Its slot says how it ended.
 pub(crate) fn mark_ended(slots: &mut [u64], i: usize, v: u64, c: CoroObj, s: CoroState, result: u64)
-    requires { ⌜ i * 20 + 20 ≤ length (now slots) ⌝ }
+    requires { ⌜ SlotFits (now slots) i ⌝ }
     ensures { λ _. ⌜ now (slots .exit) ≡ putSlot (now (slots .entry)) i (slot (tagOf v) (Coro (endedAs s result c))) ⌝ }
 {
     let tag = Obj(v).tag();

@@ -2,7 +2,7 @@
 ghost use mathlib.Core.Path.{_≡_};
 ghost use Prim.Native.Nat.{_+_, _*_, _≤_};
 ghost use lib.ListN.{length};
-ghost use Rattle.heap.specs.Heap.{slotsOf, putSlot};
+ghost use Rattle.heap.specs.Heap.{slotsOf, putSlot, TableFits, SlotFits};
 ghost use Rattle.heap.specs.Table.{slot};
 ghost use Rattle.heap.specs.Word.{tagOf};
 ghost use Rattle.heap.specs.declared.object.Object.the-variants.{Iter};
@@ -30,7 +30,7 @@ pub enum Iterator {
 
 // heap.rs: get, of an iterator.
 pub(crate) fn iter_at(slots: &[u64], count: usize, v: Word) -> Iterator
-    requires { ⌜ count * 20 ≤ length (now slots) ⌝ }
+    requires { ⌜ TableFits (now slots) count ⌝ }
     ensures { λ r. ⌜ r ≡ iterOf (slotsOf count (now (slots .entry))) (v .0) ⌝ }
 {
     match heap::heap::get(slots, count, v) {
@@ -58,7 +58,7 @@ pub(crate) fn iter_at(slots: &[u64], count: usize, v: Word) -> Iterator
 
 // An iterator into the slot that its word names.
 pub(crate) fn put_iter(slots: &mut [u64], i: usize, v: u64, src: u64, done: bool, key: Opt)
-    requires { ⌜ i * 20 + 20 ≤ length (now slots) ⌝ }
+    requires { ⌜ SlotFits (now slots) i ⌝ }
     ensures { λ _. ⌜ now (slots .exit) ≡ putSlot (now (slots .entry)) i (slot (tagOf v) (Iter src done key)) ⌝ }
 {
     let tag = Obj(v).tag();
@@ -67,7 +67,7 @@ pub(crate) fn put_iter(slots: &mut [u64], i: usize, v: u64, src: u64, done: bool
 
 // An iterator's key replaced, where the word names one.
 pub fn set_key(slots: &mut [u64], m: Machine, v: Word, key: u64)
-    requires { ⌜ m .count * 20 ≤ length (now slots) ⌝ }
+    requires { ⌜ TableFits (now slots) (m .count) ⌝ }
     ensures { λ _. ⌜ every (λ l. Leaves any l (setKey (v .0) key) (table slots) (only m) (only m)) ⌝ }
 {
     match iter_at(slots, m.count, v) {
@@ -83,7 +83,7 @@ pub fn set_key(slots: &mut [u64], m: Machine, v: Word, key: u64)
 
 // An iterator marked as done, where the word names one.
 pub fn set_done(slots: &mut [u64], m: Machine, v: Word)
-    requires { ⌜ m .count * 20 ≤ length (now slots) ⌝ }
+    requires { ⌜ TableFits (now slots) (m .count) ⌝ }
     ensures { λ _. ⌜ every (λ l. Leaves any l (setDone (v .0)) (table slots) (only m) (only m)) ⌝ }
 {
     match iter_at(slots, m.count, v) {

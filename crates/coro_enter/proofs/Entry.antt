@@ -12,10 +12,10 @@ use Rattle.lists.specs.Pick.{pick, pick-true}
 use Rattle.lists.specs.Chunks.{chunkAt, putChunk}
 use Rattle.heap.specs.Fault.{numberOf}
 use Rattle.heap.specs.Object.{codeOf}
-use Rattle.heap.specs.Slot.{stateWords}
+use Rattle.heap.specs.Slot.{stateWords, width}
 use Rattle.heap.specs.Word.{slotOf, tagOf}
 use Rattle.heap.specs.Table.{Slot, slot, putObject}
-use Rattle.heap.specs.Heap.{slotsOf, coroOf, putSlot}
+use Rattle.heap.specs.Heap.{slotsOf, coroOf, putSlot, SlotFits}
 use Rattle.heap.specs.declared.fault.Fault.{Fault}
 use Rattle.heap.specs.declared.heap.Coroutine.the-variants as RV
 use Rattle.heap.specs.declared.object.CoroObj.{CoroObj}
@@ -36,12 +36,12 @@ use Rattle.model.specs.declared.machine.Cont.{Cont}
 use Rattle.model.specs.declared.machine.Driver.{Driver}
 use Rattle.model.specs.declared.machine.Frame.{Frame}
 use Rattle.model.specs.declared.machine.Fuel.{Fuel}
-use Rattle.invariant.proofs.Tests.{no-false, no-true, and-left, and-right, or-first, or-second}
-use Rattle.invariant.proofs.Point.{Points, finds}
-use Rattle.invariant.proofs.Stand.{chained}
-use Rattle.invariant.proofs.Sound.{Sound, sound→}
-use Rattle.invariant.proofs.Coros.{object-ok}
-use Rattle.invariant.proofs.Enter.{resumable-held}
+use Rattle.soundness.proofs.Tests.{no-false, no-true, and-left, and-right, or-first, or-second}
+use Rattle.soundness.proofs.Point.{Points, finds}
+use Rattle.soundness.proofs.Stand.{chained}
+use Rattle.soundness.proofs.Sound.{Sound, sound→}
+use Rattle.soundness.proofs.Coros.{object-ok}
+use Rattle.soundness.proofs.States.{resumable-held}
 use Rattle.tables.specs.Layout.{frameWords}
 use Rattle.tables.specs.Parts.{Frames, Chain, SavedStack, SavedFrames, RowIs, upward}
 use Rattle.tables.specs.Does.{ChainDo, StackEntered, FramesEntered}
@@ -61,6 +61,7 @@ use Rattle.memory.proofs.Lookup.{There, there, there-words, lacks, regs-row, fr
 use Rattle.coro_enter.specs.Enter.{refusalOf, enteredAs, grown, MoveFits, Moves}
 use Rattle.machine.proofs.Bases.{bases-under}
 use Rattle.memory.proofs.Does.{does}
+use Rattle.memory.proofs.Turn.{turn-stack, turn-frames, turn-chain, turn-slots}
 
 -- its record when it runs: nothing is saved any more
 abbrev running : CoroObj → CoroObj
@@ -293,7 +294,7 @@ module _ (l : Sizes) (M : Lent) (m : Machine) (f : Fuel) (v : ℕ) (w : World) (
 
         pub record Sums : Type 0 where
           pub chain : m .active * 6 + 6 ≤ length (M .chain)
-          pub slot : i * 20 + 20 ≤ length (M .slots)
+          pub slot : SlotFits (M .slots) i
           pub height : m .height + c .regs ≤ l .stack
           pub depth : m .depth + c .frames ≤ l .depth
           pub active : m .active + 1 ≤ l .depth
@@ -352,32 +353,24 @@ module _ (l : Sizes) (M : Lent) (m : Machine) (f : Fuel) (v : ℕ) (w : World) (
               (model-enter d
               ∙ accepts unfit (overflows k w) w (after (entered v d k r w) (pick (isCreated (k .state)) Entered.Fresh (Entered.Suspended (k .waiting)))) (clear .0) (clear .1)
               ∙ ap (after (entered v d k r w)) (sym answer))
-              (record {
-                sizes = rep .sizes;
-                setup = rep .setup;
-                stack = on .stack;
-                frames = subst (λ n. Frames (map (raise n) (k .frames) ++ w .frames) frames′ (m .depth + c .frames)) (rep .stack .count) (up .frames);
-                chain = subst (λ n. Chain (active v n d ∷ w .chain) chain′ (m .active + 1)) (rep .frames .count) (push (w .chain) (rep .chain));
-                slots = slots-after mark;
-                savedStack = subst (λ z. SavedStack (rowWords s) z savedStack′) (regs-set (w .slots) v k r points own live k′ r refl refl (s .limits .rows)) (on .saved);
-                savedFrames = subst (λ z. SavedFrames (framesSize s) z savedFrames′) (frames-set (w .slots) v k r points own live k′ r refl refl (s .limits .rows)) (up .saved);
-                ready = rep .ready;
-                finalize = rep .finalize;
-                finalizing = rep .finalizing;
-                outcome = rep .outcome;
-                used = rep .used;
-                seq = rep .seq;
-                fuel = rep .fuel;
-              })
+              (turn-slots l _ _ _ f
+              (turn-chain l _ _ _ f
+              (turn-frames l _ _ _ f
+              (turn-stack l w M m f rep (w .stack ++ k .regs) stack′ (m .height + c .regs) (on .stack))
+              (map (raise (length (w .stack))) (k .frames) ++ w .frames) frames′ (m .depth + c .frames) (subst (λ n. Frames (map (raise n) (k .frames) ++ w .frames) frames′ (m .depth + c .frames)) (rep .stack .count) (up .frames)))
+              (active v (length (w .frames)) d ∷ w .chain) chain′ (m .active + 1) (subst (λ n. Chain (active v n d ∷ w .chain) chain′ (m .active + 1)) (rep .frames .count) (push (w .chain) (rep .chain))))
+              (entered v d k r w .slots) slots′ savedStack′ savedFrames′ (m .count) (slots-after mark)
+              (subst (λ z. SavedStack (rowWords s) z savedStack′) (regs-set (w .slots) v k r points own live k′ r refl refl (s .limits .rows)) (on .saved))
+              (subst (λ z. SavedFrames (framesSize s) z savedFrames′) (frames-set (w .slots) v k r points own live k′ r refl refl (s .limits .rows)) (up .saved)))
 
           pub accepted : (n : Machine) (a : Entered)
               → Moves (M .stack) (M .frames) (M .savedStack) (M .savedFrames) stack′ frames′ savedStack′ savedFrames′ (m .height) (m .depth) l c
               → ChainDo (λ cs. active v (m .depth) d ∷ cs) (M .chain) chain′ (m .active) (m .active + 1)
-              → slots′ ≡ putChunk 20 (M .slots) i (stateWords (codeOf CoroState.Running) 0 0 (chunkAt 20 (M .slots) i))
+              → slots′ ≡ putChunk width (M .slots) i (stateWords (codeOf CoroState.Running) 0 0 (chunkAt width (M .slots) i))
               → a ≡ enteredAs c
               → n ≡ grown m c
               → Does l (coroEnter v d w) M′ n f a
           accepted n a moves push mark ea en =
               let here = there-words (w .slots) v i c in-world (M .slots) (m .count) (rep .slots) in
               subst (λ z. Does l (coroEnter v d w) M′ z f a) (sym en)
-              (done a moves push (mark ∙ ap (λ z. putChunk 20 (M .slots) i (stateWords (codeOf CoroState.Running) 0 0 z)) here) ea)
+              (done a moves push (mark ∙ ap (λ z. putChunk width (M .slots) i (stateWords (codeOf CoroState.Running) 0 0 z)) here) ea)

@@ -11,7 +11,7 @@ use Rattle.heap.specs.declared.object.CoroObj.{CoroObj}
 use Rattle.heap.specs.declared.object.CoroState.{CoroState}
 use Rattle.model.specs.State.{isCreated, isResumable}
 use Rattle.model.specs.declared.coro.Entered.{Entered}
-use Rattle.invariant.proofs.Tests.{no-false, no-true}
+use Rattle.soundness.proofs.Tests.{no-false, no-true}
 use Rattle.memory.specs.declared.machine.Sizes.{Sizes}
 use Rattle.coro_enter.specs.Enter.{refusalOf, enteredAs}
 

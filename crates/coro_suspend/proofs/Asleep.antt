@@ -9,12 +9,12 @@ use lib.Dec.{leb}
 use borrow.Author.Tests.{le-leb, lt-leb}
 use Rattle.lists.specs.Pick.{pick, pick-true, pick-false}
 use Rattle.lists.specs.Chunks.{chunkAt, putChunk}
-use Rattle.heap.specs.Slot.{sleepWords}
+use Rattle.heap.specs.Slot.{sleepWords, width}
 use Rattle.heap.specs.Word.{slotOf, tagOf}
 use Rattle.heap.specs.Charge as Charge
 use Rattle.heap.specs.Charge.{satAdd, chargeOf}
 use Rattle.heap.specs.Table.{Slot, slot, putObject}
-use Rattle.heap.specs.Heap.{slotsOf, coroOf, putSlot}
+use Rattle.heap.specs.Heap.{slotsOf, coroOf, putSlot, SlotFits}
 use Rattle.heap.specs.declared.fault.Fault.{Fault}
 use Rattle.heap.specs.declared.heap.Heap.{Heap}
 use Rattle.heap.specs.declared.heap.Charged.the-variants as C
@@ -27,7 +27,7 @@ use Rattle.model.specs.State.{isSuspended, isFinished}
 use Rattle.model.specs.Program.{Setup}
 use Rattle.model.specs.Object.{Core, Rest, Object, withPayload}
 use Rattle.model.specs.World.{World, After, after}
-use Rattle.model.specs.Frames.{lower, above, baseAt}
+use Rattle.model.specs.Frames.{lower, above, below, baseAt}
 use Rattle.model.specs.Heap.{coro, fits}
 use Rattle.model.specs.Coro.{saved, sized, growth, setKeys, unclose, eventOf, suspended, suspendAs, suspendOn, coroSuspend}
 use Rattle.model.specs.Sound.{rowWords, sound}
@@ -36,7 +36,7 @@ use Rattle.model.specs.declared.coro.Keys.{Keys}
 use Rattle.model.specs.declared.coro.Suspension.{Suspension}
 use Rattle.model.specs.declared.machine.Active.{Active}
 use Rattle.model.specs.declared.machine.Fuel.{Fuel}
-use Rattle.invariant.proofs.Leave.{suspended-held}
+use Rattle.soundness.proofs.States.{suspended-held}
 use Rattle.tables.specs.Layout.{frameWords, activeIn}
 use Rattle.tables.specs.Parts.{Chain, Stack, SavedStack, SavedFrames, RowIs, upward}
 use Rattle.tables.specs.Does.{ChainDo, StackLeft, FramesLeft}
@@ -53,6 +53,7 @@ use Rattle.memory.proofs.Slots.{at-map, put-same}
 use Rattle.memory.proofs.Tables.{slots-are, slots-set, length-tabled}
 use Rattle.memory.proofs.Lookup.{There, there, there-words, lacks, regs-row, frames-row, regs-set, frames-set}
 use Rattle.memory.proofs.Does.{does}
+use Rattle.memory.proofs.Turn.{turn-used, turn-stack, turn-frames, turn-chain, turn-slots}
 use Rattle.coro_suspend.specs.Suspend.{growthOf, keyOf, asleep, eventAs, shrunk, LeaveFit, Leaves}
 use Rattle.coro_suspend.proofs.Parts.{heapOf, spends, pays, asleep-is, event-is}
 use Rattle.coro_suspend.proofs.Innermost.{Innermost, innermost, other}
@@ -189,7 +190,7 @@ module _ (l : Sizes) (M : Lent) (m : Machine) (f : Fuel) (st : CoroState) (dst p
             pub frames : m .depth - a .floor ≤ 128
             pub cost : l .costs .frame ≤ 65536
             pub chain : m .active * 6 ≤ length (M .chain)
-            pub slot : i * 20 + 20 ≤ length (M .slots)
+            pub slot : SlotFits (M .slots) i
 
           pub below-count : i < m .count
           below-count =
@@ -313,33 +314,24 @@ module _ (l : Sizes) (M : Lent) (m : Machine) (f : Fuel) (st : CoroState) (dst p
                 does l M′ (shrunk m base (a .floor) (g .used)) f goal (suspended a rest k′ payload keys r w) answer
                 (model-found ∙ ap (λ t. pick (not t) lacking left) (sym fits-is ∙ pay .0) ∙ pick-false _ _
                 ∙ ap (λ t. after (suspended a rest k′ payload keys r w) (Suspension.Done (a .driver) t)) event-same)
-                (record {
-                  sizes = rep .sizes;
-                  setup = rep .setup;
-                  stack = subst (λ n. Stack (take n (w .stack)) stack′ base) base-is (on .stack);
-                  frames = up .frames;
-                  chain = pop (w .chain) (rep .chain);
-                  slots = slots-after mark;
-                  savedStack =
-                      subst (λ z. SavedStack (rowWords s) z savedStack′)
-                      (ap (λ n. set rs (r .row) (drop n (w .stack))) base-is ∙ regs-set (w .slots) (a .coro) k r (known .points) (known .own) (known .live) k′ r′ row-same held (s .limits .rows)) (on .saved);
-                  savedFrames =
-                      subst (λ z. SavedFrames (framesSize s) z savedFrames′)
-                      (ap (λ n. set gs (r .row) (map (lower n) (above (a .floor) (w .frames)))) base-is ∙ frames-set (w .slots) (a .coro) k r (known .points) (known .own) (known .live) k′ r′ row-same held (s .limits .rows)) (up .saved);
-                  ready = rep .ready;
-                  finalize = rep .finalize;
-                  finalizing = rep .finalizing;
-                  outcome = rep .outcome;
-                  used = pay .1 ∙ ap₂ (λ x y. satAdd x y) (rep .used) grow-is;
-                  seq = rep .seq;
-                  fuel = rep .fuel;
-                })
+                (turn-slots l _ _ _ f
+                (turn-chain l _ _ _ f
+                (turn-frames l _ _ _ f
+                (turn-stack l _ _ _ f (turn-used l w M m f rep (g .used) (satAdd (w .used) (growth w k′ r)) (pay .1 ∙ ap₂ (λ x y. satAdd x y) (rep .used) grow-is))
+                (take b (w .stack)) stack′ base (subst (λ n. Stack (take n (w .stack)) stack′ base) base-is (on .stack)))
+                (below (a .floor) (w .frames)) frames′ (a .floor) (up .frames))
+                rest chain′ (m .active - 1) (pop (w .chain) (rep .chain)))
+                (suspended a rest k′ payload keys r w .slots) slots′ savedStack′ savedFrames′ (m .count) (slots-after mark)
+                (subst (λ z. SavedStack (rowWords s) z savedStack′)
+                (ap (λ n. set rs (r .row) (drop n (w .stack))) base-is ∙ regs-set (w .slots) (a .coro) k r (known .points) (known .own) (known .live) k′ r′ row-same held (s .limits .rows)) (on .saved))
+                (subst (λ z. SavedFrames (framesSize s) z savedFrames′)
+                (ap (λ n. set gs (r .row) (map (lower n) (above (a .floor) (w .frames)))) base-is ∙ frames-set (w .slots) (a .coro) k r (known .points) (known .own) (known .live) k′ r′ row-same held (s .limits .rows)) (up .saved)))
 
             pub accepted : (g : Heap) (x : CoroObj) (n : Machine) (event : Event) → isSuspended st ≡ true → C.Done g ≡ chargeOf (heapOf m l) grow
                 → Leaves (M .stack) (M .frames) (M .savedStack) (M .savedFrames) stack′ frames′ savedStack′ savedFrames′ m l (c .row) (a .floor) base
                 → ChainDo (drop 1) (M .chain) chain′ (m .active) (m .active - 1)
                 → x ≡ d
-                → slots′ ≡ putChunk 20 (M .slots) i (sleepWords x (chunkAt 20 (M .slots) i))
+                → slots′ ≡ putChunk width (M .slots) i (sleepWords x (chunkAt width (M .slots) i))
                 → event ≡ eventAs st payload (c .closing) (x .key)
                 → n ≡ shrunk m base (a .floor) (g .used)
                 → Does l goal M′ n f (Suspension.Done (a .driver) event)
@@ -347,4 +339,4 @@ module _ (l : Sizes) (M : Lent) (m : Machine) (f : Fuel) (st : CoroState) (dst p
                 subst (λ z. Does l goal M′ z f (Suspension.Done (a .driver) event)) (sym en)
                 (subst (λ z. Does l goal M′ (shrunk m base (a .floor) (g .used)) f (Suspension.Done (a .driver) z))
                 (sym (ee ∙ ap (λ (y : CoroObj). eventAs st payload (c .closing) (y .key)) ex))
-                (done g is paid moves pop (mark ∙ ap₂ (λ y z. putChunk 20 (M .slots) i (sleepWords y z)) ex (there-words (w .slots) (a .coro) i c in-world (M .slots) (m .count) (rep .slots)))))
+                (done g is paid moves pop (mark ∙ ap₂ (λ y z. putChunk width (M .slots) i (sleepWords y z)) ex (there-words (w .slots) (a .coro) i c in-world (M .slots) (m .count) (rep .slots)))))

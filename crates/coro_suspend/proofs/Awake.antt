@@ -25,10 +25,10 @@ use Rattle.model.specs.declared.machine.Active.{Active}
 use Rattle.model.specs.declared.machine.Driver.{Driver}
 use Rattle.model.specs.declared.machine.Frame.{Frame}
 use Rattle.model.specs.declared.machine.Fuel.{Fuel}
-use Rattle.invariant.proofs.Tests.{no-false, and-left, and-right, picked}
-use Rattle.invariant.proofs.Stand.{Stands, names-of}
-use Rattle.invariant.proofs.Cut.{Cut, cut, base-cut, below-cut}
-use Rattle.invariant.proofs.Sound.{Sound, sound→}
+use Rattle.soundness.proofs.Tests.{no-false, and-left, and-right, picked}
+use Rattle.soundness.proofs.Stand.{Stands, names-of}
+use Rattle.soundness.proofs.Cut.{Cut, cut, base-cut, below-cut}
+use Rattle.soundness.proofs.Sound.{Sound, sound→}
 use Rattle.tables.specs.Parts.{Frames}
 use Rattle.tables.proofs.Decode.{top-frame}
 use Rattle.tables.proofs.Doing.{reg-fits}

@@ -21,13 +21,13 @@ use Rattle.model.specs.Sound.{sound, basesOk, bodyLast, framesOver, waits, save
 use Rattle.model.specs.declared.machine.Active.{Active}
 use Rattle.model.specs.declared.machine.Cont.{Cont}
 use Rattle.model.specs.declared.machine.Frame.{Frame}
-use Rattle.invariant.proofs.Tests.{no-false, and-left, and-right}
-use Rattle.invariant.proofs.Stand.{Stands, bases-of}
-use Rattle.invariant.proofs.Cut.{Cut, cut, base-cut, floor-below}
-use Rattle.invariant.proofs.Point.{Points, finds}
-use Rattle.invariant.proofs.Sound.{Sound, sound→, Facts, facts}
-use Rattle.invariant.proofs.Coros.{object-ok, last-runs}
-use Rattle.invariant.proofs.Leave.{running-held}
+use Rattle.soundness.proofs.Tests.{no-false, and-left, and-right}
+use Rattle.soundness.proofs.Stand.{Stands, bases-of}
+use Rattle.soundness.proofs.Cut.{Cut, cut, base-cut, floor-below}
+use Rattle.soundness.proofs.Point.{Points, finds}
+use Rattle.soundness.proofs.Sound.{Sound, sound→, Facts, facts}
+use Rattle.soundness.proofs.Coros.{object-ok, last-runs}
+use Rattle.soundness.proofs.States.{running-held}
 use Rattle.memory.proofs.Lookup.{row-below}
 use Rattle.machine.proofs.Bases.{bases-under}
 

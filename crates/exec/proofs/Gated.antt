@@ -14,7 +14,7 @@ use Rattle.model.specs.World.{World, After, after, andThen}
 use Rattle.model.specs.Frames.{topBase}
 use Rattle.model.specs.Cleanup.{charge}
 use Rattle.model.specs.Gate.{refused, answerOf, charged, instruction}
-use Rattle.model.specs.Calls.{Row, table}
+use Rattle.model.specs.Calls.{table}
 use Rattle.model.specs.Sound.{sound}
 use Rattle.model.specs.declared.call.OptPc.{OptPc}
 use Rattle.model.specs.declared.call.Op.{Op}
@@ -23,8 +23,9 @@ use Rattle.model.specs.declared.exec.Step.{Step}
 use Rattle.model.specs.declared.machine.Charge.{Charge}
 use Rattle.model.specs.declared.machine.Frame.{Frame}
 use Rattle.model.specs.declared.machine.Fuel.{Fuel}
-use Rattle.invariant.proofs.Tests.{no-true}
-use Rattle.invariant.proofs.Good.{Calm}
+use Rattle.soundness.proofs.Tests.{no-true}
+use Rattle.soundness.proofs.Good.{Calm}
+use Rattle.tables.specs.Layout.{baseIn}
 use Rattle.tables.specs.Parts.{Frames}
 use Rattle.tables.proofs.Setups.{functions-in}
 use Rattle.memory.specs.Memory.{Lent, Beside, Rep, onFinalize, onSetup}
@@ -35,8 +36,9 @@ use Rattle.memory.specs.declared.machine.Sizes.{Sizes}
 use Rattle.memory.proofs.Does.{SameLengths, room-same, does}
 use Rattle.machine.proofs.Frames.{top-base}
 use Rattle.coro_clean.proofs.Charged.{charged-sound, charged-calm, narrow-pc}
+use Rattle.exec_arm.specs.Arm.{Past}
 use Rattle.exec.specs.Operands.{Numbered, operandsOf, Passes}
-use Rattle.exec.specs.Instruction.{pcOf, armOf, gated, gating, PcIs, Past}
+use Rattle.exec.specs.Instruction.{gating, PcIs}
 
 -- ---- the numbers of the world that the words stand for
 
@@ -48,24 +50,22 @@ pub some-frames : (fs : List Frame) (ws : List ℕ) (n : ℕ) → Frames fs ws n
 some-frames [] ws n p h = let c = p .count in absurd (omega arith)
 some-frames (f ∷ fs) ws n p h = refl
 
-base-in : (fs : List Frame) (ws : List ℕ) (n : ℕ) → Frames fs ws n → 1 ≤ n → getD ws ((n - 1) * 6 + 2) 0 ≡ topBase fs
+base-in : (fs : List Frame) (ws : List ℕ) (n : ℕ) → Frames fs ws n → 1 ≤ n → baseIn ws (n - 1) ≡ topBase fs
 base-in [] ws n p h = let c = p .count in absurd (omega arith)
 base-in (f ∷ fs) ws n p h = top-base f fs ws n p
 
 pub numbered : (l : Sizes) (w : World) (M : Lent) (m : Machine) (f : Fuel) (functions base : ℕ) → Rep l w M m f → 1 ≤ m .depth → functions ≡ getD (M .setup) 13 0
-    → base ≡ getD (M .frames) ((m .depth - 1) * 6 + 2) 0 → Numbered w functions base (m .height)
+    → base ≡ baseIn (M .frames) (m .depth - 1) → Numbered w functions base (m .height)
 numbered l w M m f functions base rep some e b = record {
   functions = e ∙ functions-in (w .setup) (M .setup) (rep .setup);
-  base = b ∙ base-in (w .frames) (M .frames) (m .depth) (rep .frames) some;
-  height = rep .stack .count;
+  based = record { base = b ∙ base-in (w .frames) (M .frames) (m .depth) (rep .frames) some; height = rep .stack .count };
 }
 
 -- they stay where the world is calm
 calmed : (w u : World) (n b h : ℕ) → Calm w u → Numbered w n b h → Numbered u n b h
 calmed w u n b h c k = record {
   functions = k .functions ∙ ap (λ s. length (s .functions)) (sym (c .setup));
-  base = k .base ∙ sym (c .base);
-  height = k .height ∙ sym (c .height);
+  based = record { base = k .based .base ∙ sym (c .base); height = k .based .height ∙ sym (c .height) };
 }
 
 -- ---- answers
@@ -85,54 +85,60 @@ stepped-as n s x e k = subst (λ z. Answer.Stepped z n ≡ answerOf n z) (sym e)
 
 -- ---- outcome by outcome
 
-module _ (l : Sizes) (M : Lent) (m : Machine) (f : Fuel) (w : World) (x : Row) where
-  pub no-frame : isNil (w .frames) ≡ true → Rep l w M m f → Does l (gated x w) M m f (Answer.Refused Fault.NoFrame)
+module _ (l : Sizes) (M : Lent) (m : Machine) (f : Fuel) (w : World) (pc : ℕ) (t : Bool) (arm : World → After Step) where
+  abbrev paid : After Charge
+  paid = charge (OptPc.Some pc) w
+
+  abbrev gated : After Answer
+  gated = instruction pc t arm w
+
+  pub no-frame : isNil (w .frames) ≡ true → Rep l w M m f → Does l gated M m f (Answer.Refused Fault.NoFrame)
   unfolding instruction
   no-frame e rep =
-      does l M m f (gated x w) w (Answer.Refused Fault.NoFrame)
-      (ap (λ t. pick t (refused w Fault.NoFrame) (pick (not (operandsOf x w)) (refused w Fault.BadOperand) (andThen (charge (OptPc.Some (pcOf x)) w) (charged (armOf x))))) e ∙ pick-true _ _) rep
+      does l M m f gated w (Answer.Refused Fault.NoFrame)
+      (ap (λ b. pick b (refused w Fault.NoFrame) (pick (not t) (refused w Fault.BadOperand) (andThen paid (charged arm)))) e ∙ pick-true _ _) rep
 
-  past-frame : isNil (w .frames) ≡ false
-      → gated x w ≡ pick (not (operandsOf x w)) (refused w Fault.BadOperand) (andThen (charge (OptPc.Some (pcOf x)) w) (charged (armOf x)))
+  past-frame : isNil (w .frames) ≡ false → gated ≡ pick (not t) (refused w Fault.BadOperand) (andThen paid (charged arm))
   unfolding instruction
-  past-frame e = ap (λ t. pick t (refused w Fault.NoFrame) (pick (not (operandsOf x w)) (refused w Fault.BadOperand) (andThen (charge (OptPc.Some (pcOf x)) w) (charged (armOf x))))) e ∙ pick-false _ _
+  past-frame e = ap (λ b. pick b (refused w Fault.NoFrame) (pick (not t) (refused w Fault.BadOperand) (andThen paid (charged arm)))) e ∙ pick-false _ _
 
-  pub bad-operand : isNil (w .frames) ≡ false → operandsOf x w ≡ false → Rep l w M m f → Does l (gated x w) M m f (Answer.Refused Fault.BadOperand)
-  bad-operand e t rep =
-      does l M m f (gated x w) w (Answer.Refused Fault.BadOperand)
-      (past-frame e ∙ ap (λ b. pick (not b) (refused w Fault.BadOperand) (andThen (charge (OptPc.Some (pcOf x)) w) (charged (armOf x)))) t ∙ pick-true _ _) rep
+  pub bad-operand : isNil (w .frames) ≡ false → t ≡ false → Rep l w M m f → Does l gated M m f (Answer.Refused Fault.BadOperand)
+  bad-operand e fails rep =
+      does l M m f gated w (Answer.Refused Fault.BadOperand)
+      (past-frame e ∙ ap (λ b. pick (not b) (refused w Fault.BadOperand) (andThen paid (charged arm))) fails ∙ pick-true _ _) rep
 
-  module _ (e : isNil (w .frames) ≡ false) (t : operandsOf x w ≡ true) (pc : ℕ) (is : pc ≡ pcOf x) where
-    abbrev paid : After Charge
-    paid = charge (OptPc.Some pc) w
+  -- past the gate, with the pc that was charged
+  module _ (e : isNil (w .frames) ≡ false) (holds : t ≡ true) (n : ℕ) (is : n ≡ pc) where
+    abbrev given : After Charge
+    given = charge (OptPc.Some n) w
 
-    at-charge : gated x w ≡ andThen paid (charged (armOf x))
+    at-charge : gated ≡ andThen given (charged arm)
     at-charge =
-        past-frame e ∙ ap (λ b. pick (not b) (refused w Fault.BadOperand) (andThen (charge (OptPc.Some (pcOf x)) w) (charged (armOf x)))) t ∙ pick-false _ _
-        ∙ ap (λ p. andThen (charge (OptPc.Some p) w) (charged (armOf x))) (sym is)
+        past-frame e ∙ ap (λ b. pick (not b) (refused w Fault.BadOperand) (andThen paid (charged arm))) holds ∙ pick-false _ _
+        ∙ ap (λ p. andThen (charge (OptPc.Some p) w) (charged arm)) (sym is)
 
-    pub spent : Does l paid M m f Charge.Spent → Does l (gated x w) M m f (Answer.Stepped (Step.Fault Fault.OutOfFuel) 0)
-    spent d = does l M m f (gated x w) (paid .world) _ (at-charge ∙ ap (charged (armOf x) (paid .world)) (sym (d .answer))) (d .world)
+    pub spent : Does l given M m f Charge.Spent → Does l gated M m f (Answer.Stepped (Step.Fault Fault.OutOfFuel) 0)
+    spent d = does l M m f gated (given .world) _ (at-charge ∙ ap (charged arm (given .world)) (sym (d .answer))) (d .world)
 
-    pub closed : (n : ℕ) → Does l paid M m f (Charge.Close n) → Does l (gated x w) M m f (Answer.Cleanup n)
-    closed n d = does l M m f (gated x w) (paid .world) _ (at-charge ∙ ap (charged (armOf x) (paid .world)) (sym (d .answer))) (d .world)
+    pub closed : (k : ℕ) → Does l given M m f (Charge.Close k) → Does l gated M m f (Answer.Cleanup k)
+    closed k d = does l M m f gated (given .world) _ (at-charge ∙ ap (charged arm (given .world)) (sym (d .answer))) (d .world)
 
-    pub done : (n : ℕ) (s : Step) (a : Answer) → Charge.Done n ≡ paid .answer → Does l (armOf x (paid .world)) M m f s → a ≡ answerOf n s → Does l (gated x w) M m f a
-    done n s a q d z =
-        let o = armOf x (paid .world) in
-        does l M m f (gated x w) (o .world) a
-        (at-charge ∙ ap (charged (armOf x) (paid .world)) (sym q) ∙ ap (λ y. after (o .world) (answerOf n y)) (sym (d .answer)) ∙ ap (after (o .world)) (sym z)) (d .world)
+    pub done : (k : ℕ) (s : Step) (a : Answer) → Charge.Done k ≡ given .answer → Does l (arm (given .world)) M m f s → a ≡ answerOf k s → Does l gated M m f a
+    done k s a q d z =
+        let o = arm (given .world) in
+        does l M m f gated (o .world) a
+        (at-charge ∙ ap (charged arm (given .world)) (sym q) ∙ ap (λ y. after (o .world) (answerOf k y)) (sym (d .answer)) ∙ ap (after (o .world)) (sym z)) (d .world)
 
 -- ---- what is asked
 
-module _ (l : Sizes) (s f c o r q z u : List ℕ) (m : Machine) (fuel : Fuel) (ok : Ok l (gating s f c o r q z u plain) (with m fuel)) where
-  abbrev pub charge-ok : Ok l (cleaning s f c o r q z plain) (with m fuel)
+module _ (l : Sizes) (s f c o r q₀ z u : List ℕ) (m : Machine) (fuel : Fuel) (ok : Ok l (gating s f c o r q₀ z u plain) (with m fuel)) where
+  abbrev pub charge-ok : Ok l (cleaning s f c o r q₀ z plain) (with m fuel)
   charge-ok = record { world = ok .world; beside = record { words = onSetup u (ok .beside .words); fuel = ok .beside .fuel }; rep = ok .rep; sound = ok .sound; room = ok .room }
 
   -- the arm, after a charge
-  pub arm-fits : (s′ f′ c′ o′ r′ q′ z′ : List ℕ) (m′ : Machine) (fuel′ : Fuel) (op : Op) (pc functions base n : ℕ) → 1 ≤ m .depth → functions ≡ getD u 13 0 → base ≡ getD f ((m .depth - 1) * 6 + 2) 0
-      → Passes (table op) functions base (m .height) true → PcIs (table op) pc
-      → SameLengths (cleaning s f c o r q z plain (charge-ok .beside)) (cleaning s′ f′ c′ o′ r′ q′ z′ plain (charge-ok .beside))
+  pub arm-fits : (s′ f′ c′ o′ r′ q′ z′ : List ℕ) (m′ : Machine) (fuel′ : Fuel) (op : Op) (pc functions base n : ℕ) → 1 ≤ m .depth → functions ≡ getD u 13 0 → base ≡ baseIn f (m .depth - 1)
+      → Passes (table op) functions base (m .height) true → PcIs op pc
+      → SameLengths (cleaning s f c o r q₀ z plain (charge-ok .beside)) (cleaning s′ f′ c′ o′ r′ q′ z′ plain (charge-ok .beside))
       → Does l (charge (OptPc.Some pc) (ok .world)) (cleaning s′ f′ c′ o′ r′ q′ z′ plain (charge-ok .beside)) m′ fuel′ (Charge.Done n)
       → Past l (sixSetup s′ f′ c′ o′ r′ q′ u plain) m′ fuel′ op
   arm-fits s′ f′ c′ o′ r′ q′ z′ m′ fuel′ op pc functions base n some e b pass is k d =
@@ -140,7 +146,7 @@ module _ (l : Sizes) (s f c o r q z u : List ℕ) (m : Machine) (fuel : Fuel) (o
       let narrow = narrow-pc pc (is .narrow) in
       let calm = charged-calm (OptPc.Some pc) w narrow (ok .sound) n (sym (d .answer)) in
       let after-charge = charge (OptPc.Some pc) w .world in
-      let M = cleaning s f c o r q z plain (charge-ok .beside) in
+      let M = cleaning s f c o r q₀ z plain (charge-ok .beside) in
       let M′ = cleaning s′ f′ c′ o′ r′ q′ z′ plain (charge-ok .beside) in
       record {
         ok = record {
@@ -151,6 +157,7 @@ module _ (l : Sizes) (s f c o r q z u : List ℕ) (m : Machine) (fuel : Fuel) (o
           room = room-same (w .setup) (after-charge .setup) M M′ (calm .setup) k (ok .room);
         };
         some = calm .some ∙ some-frames (w .frames) f (m .depth) (ok .rep .frames) some;
-        passed = sym (pass after-charge (calmed w after-charge functions base (m .height) calm (numbered l w (gating s f c o r q z u plain (ok .beside)) m fuel functions base (ok .rep) some e b)));
-        narrow = subst (λ p. p < 2 ^ 32) (is .is) (is .narrow);
+        passed = λ n t arm q. ap (λ x. operandsOf x after-charge) (sym q)
+            ∙ sym (pass after-charge (calmed w after-charge functions base (m .height) calm (numbered l w (gating s f c o r q₀ z u plain (ok .beside)) m fuel functions base (ok .rep) some e b)));
+        narrow = λ n t arm q. subst (λ p. p < 2 ^ 32) (is .is n t arm q) (is .narrow);
       }

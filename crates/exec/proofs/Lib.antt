@@ -1,4 +1,2 @@
-pub mod Tags
 pub mod Passing
-pub mod Fitting
 pub mod Gated

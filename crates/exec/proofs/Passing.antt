@@ -19,56 +19,50 @@ use Rattle.model.specs.Calls.{table}
 use Rattle.model.specs.declared.call.Op.{Op}
 use Rattle.model.specs.declared.machine.Cont.{Cont}
 use Rattle.model.proofs.call.Op as Op′
-use Rattle.exec.specs.Operands.{inAt, contAt, Numbered, operandsOf}
+use Rattle.exec.specs.Operands.{Based, Numbered, operandsOf}
 
 -- ---- by numbers
 
-pub in-below : (base height r : ℕ) → base < height → ltb r (height - base) ≡ inAt base height r
+in-below : (base height r : ℕ) → base < height → ltb r (height - base) ≡ ltb (base + r) height
 in-below base height r h = go (ltb r (height - base)) refl
   where
-    go : (t : Bool) → ltb r (height - base) ≡ t → t ≡ inAt base height r
+    go : (t : Bool) → ltb r (height - base) ≡ t → t ≡ ltb (base + r) height
     go true e = let k = ltb-true r (height - base) e in sym (lt-ltb (base + r) height (omega arith))
     go false e = let k = ltb-false r (height - base) e in sym (le-ltb (base + r) height (omega arith))
 
-pub in-above : (base height r : ℕ) → height ≤ base → false ≡ inAt base height r
-in-above base height r h = sym (le-ltb (base + r) height (omega arith))
-
-pub window-below : (base height dst argc : ℕ) → base < height → leb (dst + 1 + argc) (height - base) ≡ leb (base + dst + 1 + argc) height
+window-below : (base height dst argc : ℕ) → base < height → leb (dst + 1 + argc) (height - base) ≡ leb (base + dst + 1 + argc) height
 window-below base height dst argc h = go (leb (dst + 1 + argc) (height - base)) refl
   where
     go : (t : Bool) → leb (dst + 1 + argc) (height - base) ≡ t → t ≡ leb (base + dst + 1 + argc) height
     go true e = let k = leb-true (dst + 1 + argc) (height - base) e in sym (le-leb (base + dst + 1 + argc) height (omega arith))
     go false e = let k = leb-false (dst + 1 + argc) (height - base) e in sym (lt-leb (base + dst + 1 + argc) height (omega arith))
 
-pub window-above : (base height dst argc : ℕ) → height ≤ base → false ≡ leb (base + dst + 1 + argc) height
-window-above base height dst argc h = sym (lt-leb (base + dst + 1 + argc) height (omega arith))
-
 -- ---- on a world with these numbers
 
 pub and-at : {r a b x y : Bool} → r ≡ (a && b) → a ≡ x → b ≡ y → r ≡ (x && y)
 and-at e p q = e ∙ ap₂ (λ s t. s && t) p q
 
-module _ (w : World) (functions base height : ℕ) (k : Numbered w functions base height) where
-  pub frame-at : (r : ℕ) → inAt base height r ≡ inFrame w r
+module _ (w : World) (base height : ℕ) (k : Based w base height) where
+  frame-at : (r : ℕ) → ltb (base + r) height ≡ inFrame w r
   frame-at r = ap₂ (λ x y. ltb (x + r) y) (k .base) (k .height)
 
-  pub frames-at : (rs : List ℕ) → each (inAt base height) rs ≡ allIn rs w
-  frames-at [] = refl
-  frames-at (r ∷ rs) = ap₂ (λ x y. x && y) (frame-at r) (frames-at rs)
-
-  pub window-at : (dst argc : ℕ) → leb (base + dst + 1 + argc) height ≡ windowIn w dst argc
+  window-at : (dst argc : ℕ) → leb (base + dst + 1 + argc) height ≡ windowIn w dst argc
   window-at dst argc = ap₂ (λ x y. leb (x + dst + 1 + argc) y) (k .base) (k .height)
 
-  pub function-at : (f : ℕ) → ltb f functions ≡ isFunction (w .setup) f
-  function-at f = ap (ltb f) (k .functions)
+  pub frame-below : (r : ℕ) → base < height → ltb r (height - base) ≡ inFrame w r
+  frame-below r h = in-below base height r h ∙ frame-at r
 
-  pub cont-at : (c : Cont) → contAt base height c ≡ contAllowed w c
-  cont-at Cont.Entry = refl
-  cont-at (Cont.Write r) = frame-at r
-  cont-at (Cont.Dyn r) = frame-at r
-  cont-at (Cont.Value r) = frame-at r
-  cont-at Cont.Discard = refl
-  cont-at Cont.Coro = refl
+  pub frame-above : (r : ℕ) → height ≤ base → false ≡ inFrame w r
+  frame-above r h = sym (le-ltb (base + r) height (omega arith)) ∙ frame-at r
+
+  pub under-below : (dst argc : ℕ) → base < height → leb (dst + 1 + argc) (height - base) ≡ windowIn w dst argc
+  under-below dst argc h = window-below base height dst argc h ∙ window-at dst argc
+
+  pub under-above : (dst argc : ℕ) → height ≤ base → false ≡ windowIn w dst argc
+  under-above dst argc h = sym (lt-leb (base + dst + 1 + argc) height (omega arith)) ∙ window-at dst argc
+
+pub function-at : (w : World) (functions base height : ℕ) → Numbered w functions base height → (f : ℕ) → ltb f functions ≡ isFunction (w .setup) f
+function-at w functions base height k f = ap (ltb f) (k .functions)
 
 -- ---- calls that name neither a register nor a function
 

@@ -1,14 +1,15 @@
 // 01: "Gate. Order: 11, 12, 13, then `exec::charge` (10), then the instruction's own tests as the Rust orders them." 11 is the caller's.
 ghost use mathlib.Core.Path.{_≡_};
-ghost use Rattle.model.specs.Gate.{answerOf};
-ghost use Rattle.model.specs.Calls.{table};
-ghost use Rattle.exec.specs.Instruction.{gated, gating};
+ghost use Rattle.model.specs.Gate.{answerOf, instruction};
+ghost use Rattle.exec_arm.specs.Arm.{OfInstruction};
+ghost use Rattle.exec.specs.Instruction.{gating};
 ghost use Rattle.memory.specs.Contract.{Met, Ok, ifSound, with};
-use crate::body::body;
 use crate::operands::passes;
 use crate::operands::pc_of;
 use coro_clean::charge::charge;
+use exec_arm::body::body;
 use heap::fault::Fault;
+use machine::called::Called;
 use memory::machine::Machine;
 use memory::machine::Sizes;
 use model::call::Answer;
@@ -16,13 +17,6 @@ use model::call::Op;
 use model::exec::Step;
 use model::machine::Charge;
 use model::machine::Fuel;
-
-// What a call leaves of the numbers and of the fuel, and answers.
-pub struct Called {
-    pub machine: Machine,
-    pub fuel: Fuel,
-    pub answer: Answer,
-}
 
 // The answer to an instruction, whose charge took so many words off the cleanup queue.
 fn answer_of(taken: u64, step: Step) -> Answer
@@ -41,7 +35,7 @@ fn answer_of(taken: u64, step: Step) -> Answer
     }
 }
 
-// An instruction.
+// An instruction; nothing is said of another call.
 pub fn instruction(
     stack: &mut [u64],
     frames: &mut [u64],
@@ -57,7 +51,7 @@ pub fn instruction(
     op: Op,
 ) -> Called
     requires { ⌜ Ok l (gating stack frames chain slots «saved_stack» «saved_frames» finalize setup now) (with m fuel) ⌝ }
-    ensures { λ r. ⌜ Met ifSound l (gated (table op)) (gating stack frames chain slots «saved_stack» «saved_frames» finalize setup) (with m fuel) (with (r .machine) (r .fuel)) (r .answer) ⌝ }
+    ensures { λ r. ⌜ OfInstruction op (λ pc operands arm. Met ifSound l (λ w. instruction pc (operands w) arm w) (gating stack frames chain slots «saved_stack» «saved_frames» finalize setup) (with m fuel) (with (r .machine) (r .fuel)) (r .answer)) ⌝ }
 {
     if m.depth == 0 {
         return Called {

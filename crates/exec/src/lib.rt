@@ -1,4 +1,3 @@
 // coro.rs: exec, an instruction with its gate and its charge.
-pub mod body;
 pub mod instruction;
 pub mod operands;

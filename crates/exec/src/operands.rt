@@ -3,11 +3,11 @@
 ghost use mathlib.Core.Path.{_≡_};
 ghost use mathlib.Core.Bool.{_&&_};
 ghost use mathlib.Core.List.{[], _∷_};
-ghost use Prim.Native.Nat.{_+_};
-ghost use lib.Dec.{ltb, leb};
-ghost use Rattle.model.specs.Lists.{each};
+ghost use lib.Dec.{ltb};
+ghost use Rattle.model.specs.Gate.{inFrame, allIn, windowIn};
+ghost use Rattle.model.specs.Added.{contAllowed};
 ghost use Rattle.model.specs.Calls.{table};
-ghost use Rattle.exec.specs.Operands.{inAt, contAt, Passes};
+ghost use Rattle.exec.specs.Operands.{Tested, Passes};
 ghost use Rattle.exec.specs.Instruction.{PcIs};
 use model::call::Op;
 use model::machine::Cont;
@@ -22,7 +22,7 @@ fn both(a: bool, b: bool) -> bool
 }
 
 fn in_frame(base: u64, height: u64, r: u64) -> bool
-    ensures { λ b. ⌜ b ≡ inAt base height r ⌝ }
+    ensures { λ b. ⌜ Tested base height (λ w. inFrame w r) b ⌝ }
 {
     if base < height {
         return r < height - base;
@@ -31,7 +31,7 @@ fn in_frame(base: u64, height: u64, r: u64) -> bool
 }
 
 fn in_two(base: u64, height: u64, a: u16, b: u16) -> bool
-    ensures { λ r. ⌜ r ≡ each (inAt base height) (a ∷ b ∷ []) ⌝ }
+    ensures { λ r. ⌜ Tested base height (allIn (a ∷ b ∷ [])) r ⌝ }
 {
     both(
         in_frame(base, height, a as u64),
@@ -40,13 +40,13 @@ fn in_two(base: u64, height: u64, a: u16, b: u16) -> bool
 }
 
 fn in_three(base: u64, height: u64, a: u16, b: u16, c: u16) -> bool
-    ensures { λ r. ⌜ r ≡ each (inAt base height) (a ∷ b ∷ c ∷ []) ⌝ }
+    ensures { λ r. ⌜ Tested base height (allIn (a ∷ b ∷ c ∷ [])) r ⌝ }
 {
     both(in_frame(base, height, a as u64), in_two(base, height, b, c))
 }
 
 fn in_four(base: u64, height: u64, a: u16, b: u16, c: u16, d: u16) -> bool
-    ensures { λ r. ⌜ r ≡ each (inAt base height) (a ∷ b ∷ c ∷ d ∷ []) ⌝ }
+    ensures { λ r. ⌜ Tested base height (allIn (a ∷ b ∷ c ∷ d ∷ [])) r ⌝ }
 {
     both(
         in_frame(base, height, a as u64),
@@ -56,7 +56,7 @@ fn in_four(base: u64, height: u64, a: u16, b: u16, c: u16, d: u16) -> bool
 
 // "the argument window too. The last register passes."
 fn window_in(base: u64, height: u64, dst: u16, argc: u8) -> bool
-    ensures { λ r. ⌜ r ≡ leb (base + dst + 1 + argc) height ⌝ }
+    ensures { λ r. ⌜ Tested base height (λ w. windowIn w dst argc) r ⌝ }
 {
     if base < height {
         return (dst as u64) + 1 + (argc as u64) <= height - base;
@@ -66,7 +66,7 @@ fn window_in(base: u64, height: u64, dst: u16, argc: u8) -> bool
 
 // "with Write, Dyn, Value or Discard (another continuation, or its register outside the frame, is 13)"
 fn cont_in(base: u64, height: u64, k: Cont) -> bool
-    ensures { λ r. ⌜ r ≡ contAt base height k ⌝ }
+    ensures { λ r. ⌜ Tested base height (λ w. contAllowed w k) r ⌝ }
 {
     match k {
         Cont::Entry => false,
@@ -167,7 +167,7 @@ pub fn passes(functions: u64, base: u64, height: u64, op: Op) -> bool
 
 // The pc of an instruction.
 pub fn pc_of(op: Op) -> u64
-    ensures { λ r. ⌜ PcIs (table op) r ⌝ }
+    ensures { λ r. ⌜ PcIs op r ⌝ }
 {
     match op {
         Op::CoroNew {

@@ -21,7 +21,7 @@ use Rattle.model.specs.declared.coro.Stated.{Stated}
 use Rattle.model.proofs.coro.Entered as Entered′
 use Rattle.model.specs.declared.exec.Step.{Step}
 use Rattle.model.specs.declared.machine.Fuel.{Fuel}
-use Rattle.invariant.proofs.Tests.{no-false, no-true}
+use Rattle.soundness.proofs.Tests.{no-false, no-true}
 use Rattle.memory.specs.Memory.{Lent, Rep}
 use Rattle.memory.specs.Contract.{Does}
 use Rattle.memory.specs.declared.machine.Machine.{Machine}

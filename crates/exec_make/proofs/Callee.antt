@@ -28,9 +28,6 @@ use Rattle.model.specs.Exec.{window, indirectTo, indirect, coroNewIndirect, put
 use Rattle.model.specs.declared.coro.Made.{Made}
 use Rattle.model.specs.declared.exec.Step.{Step}
 use Rattle.model.specs.declared.machine.Fuel.{Fuel}
-use Rattle.model.specs.Sound.{sound}
-use Rattle.invariant.proofs.Good.{Good, good, Still, still}
-use Rattle.invariant.proofs.Make.{create-good}
 use Rattle.tables.specs.Layout.{functionIn}
 use Rattle.tables.specs.Sizes.{functionsOf}
 use Rattle.tables.proofs.Setups.{functions-in, params-in, is-function-in}
@@ -44,7 +41,7 @@ use Rattle.memory.proofs.Slots.{at-map, get-same}
 use Rattle.memory.proofs.Tables.{slots-are}
 use Rattle.memory.proofs.Lookup.{found-fault}
 use Rattle.machine.proofs.Frames.{chosen, passed}
-use Rattle.coro_create.proofs.Setting.{known, named-in}
+use Rattle.coro_create.proofs.Setting.{named-in}
 use Rattle.exec_make.specs.Indirect.{calleeIn, taking, called, CalledFits}
 use Rattle.exec_make.proofs.Newly.{made-put}
 
@@ -145,16 +142,6 @@ module _ (w : World) (dst callee argc : ℕ) where
   indirect-is : (v : ℕ) → v ≡ reg w callee → (c : Callable) → c ≡ called v argc w → indirect dst callee argc w ≡ createAs c v dst argc w
   unfolding indirect
   indirect-is v ev c ec = ap (λ x. indirectTo (object w x) x dst argc w) (sym ev) ∙ to-create v dst argc w (object w v) ∙ ap (λ t. createAs t v dst argc w) (sym ec)
-
-  -- the stack, the frames and the set-up are as they were, in a sound world
-  pub indirect-good : sound w ≡ true → Good false (λ u _. Still w u) (indirect dst callee argc w)
-  indirect-good snd = go (called (reg w callee) argc w) refl
-    where
-      go : (c : Callable) → c ≡ called (reg w callee) argc w → Good false (λ u _. Still w u) (indirect dst callee argc w)
-      go (Callable.Not g) e = subst (Good false (λ u _. Still w u)) (sym (indirect-is (reg w callee) refl (Callable.Not g) e)) (good (known w snd) (still w))
-      go (Callable.Func f) e =
-          let made = create-good f (reg w callee) (window dst argc w) w (known w snd) (taken-function (w .setup) argc f (calleeIn (object w (reg w callee)) (notA w (reg w callee))) e) in
-          subst (Good false (λ u _. Still w u)) (sym (indirect-is (reg w callee) refl (Callable.Func f) e)) (record { sound = made .sound; fact = made .fact .still })
 
   module _ (l : Sizes) (M : Lent) (m : Machine) (fuel : Fuel) (v : ℕ) (ev : v ≡ reg w callee) where
     pub indirect-refused : (g : Fault) → Callable.Not g ≡ called v argc w → Rep l w M m fuel → Does l (indirect dst callee argc w) M m fuel (Made.Refused g)

@@ -31,9 +31,9 @@ use Rattle.model.proofs.machine.Charge as Charge′
 use Rattle.model.specs.declared.machine.Cont.{Cont}
 use Rattle.model.specs.declared.machine.Frame.{Frame}
 use Rattle.model.specs.declared.machine.Fuel.{Fuel}
-use Rattle.invariant.proofs.Tests.{and-left, and-right}
-use Rattle.invariant.proofs.Sound.{→sound, facts}
-use Rattle.invariant.proofs.Charge.{charge-good}
+use Rattle.soundness.proofs.Tests.{and-left, and-right}
+use Rattle.soundness.proofs.Sound.{→sound, facts}
+use Rattle.soundness.proofs.Charge.{charge-good}
 use Rattle.tables.specs.Does.{RegFits}
 use Rattle.tables.specs.Layout.{functionIn}
 use Rattle.tables.specs.Sizes.{hookOf}

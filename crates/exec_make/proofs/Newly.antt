@@ -20,8 +20,9 @@ use Rattle.model.specs.declared.exec.Step.{Step}
 use Rattle.model.specs.declared.machine.Cont.{Cont}
 use Rattle.model.specs.declared.machine.Frame.{Frame}
 use Rattle.model.specs.declared.machine.Fuel.{Fuel}
-use Rattle.invariant.proofs.Good.{Still}
-use Rattle.invariant.proofs.Make.{create-good}
+use Rattle.soundness.proofs.Good.{Still}
+use Rattle.soundness.proofs.Make.{create-good}
+use Rattle.tables.specs.Layout.{baseIn}
 use Rattle.tables.specs.Does.{RegFits}
 use Rattle.tables.proofs.Padded.{length-part, take-pad}
 use Rattle.tables.proofs.Decode.{base-at}
@@ -56,7 +57,7 @@ aside-is at n ws args few h e = ap (take n) e ∙ take-pad 255 n (part at n ws) 
 
 module _ (l : Sizes) (w : World) (M : Lent) (m : Machine) (fuel : Fuel) (rep : Rep l w M m fuel) where
   -- the window starts after register dst of the top frame
-  pub window-is : (dst argc at : ℕ) (args : List ℕ) → RegFits (M .stack) (M .frames) (m .height) (m .depth) dst → argc ≤ 255 → at ≡ getD (M .frames) ((m .depth - 1) * 6 + 2) 0 + dst + 1
+  pub window-is : (dst argc at : ℕ) (args : List ℕ) → RegFits (M .stack) (M .frames) (m .height) (m .depth) dst → argc ≤ 255 → at ≡ baseIn (M .frames) (m .depth - 1) + dst + 1
       → at + argc ≤ m .height → args ≡ pad 255 (part at argc (M .stack)) → take argc args ≡ window dst argc w
   window-is dst argc at args fits few ea h e =
       let d : Frame = record { func = 0; pc = 0; base = 0; closure = 0; cont = Cont.Entry } in
@@ -64,7 +65,7 @@ module _ (l : Sizes) (w : World) (M : Lent) (m : Machine) (fuel : Fuel) (rep : R
       let c₁ = rep .frames .count in
       let c₂ = rep .stack .count in
       let n = rep .stack .within in
-      let base : getD (M .frames) ((m .depth - 1) * 6 + 2) 0 ≡ topBase (w .frames) = base-at (w .frames) (M .frames) (m .depth) (m .depth - 1) d (rep .frames) (omega arith) ∙ top-is (w .frames) (m .depth) d c₁ s in
+      let base : baseIn (M .frames) (m .depth - 1) ≡ topBase (w .frames) = base-at (w .frames) (M .frames) (m .depth) (m .depth - 1) d (rep .frames) (omega arith) ∙ top-is (w .frames) (m .depth) d c₁ s in
       aside-is at argc (M .stack) args few (omega arith) e
       ∙ part-pad at argc (w .stack) (M .stack) (rep .stack .are) (omega arith)
       ∙ ap (λ k. part k argc (w .stack)) (ea ∙ ap (λ b. b + dst + 1) base)

@@ -12,6 +12,7 @@ use Rattle.model.specs.Program.{Setup, func, isFunction}
 use Rattle.model.specs.Object.{Object}
 use Rattle.model.specs.World.{World}
 use Rattle.model.specs.Heap.{object, notA}
+use Rattle.tables.specs.Layout.{baseIn}
 use Rattle.tables.specs.Does.{RegFits}
 use Rattle.memory.specs.Memory.{Lent, Beside, onSlots, onSetup}
 use Rattle.memory.specs.Lendings.{topMaking, plain}
@@ -59,4 +60,4 @@ pub record IndirectFits (l : Sizes) (stack frames slots savedStack savedFrames s
   pub few : argc ≤ 255
   pub reg : RegFits stack frames (m .height) (m .depth) dst
   pub holder : RegFits stack frames (m .height) (m .depth) callee
-  pub window : getD frames ((m .depth - 1) * 6 + 2) 0 + dst + 1 + argc ≤ m .height
+  pub window : baseIn frames (m .depth - 1) + dst + 1 + argc ≤ m .height

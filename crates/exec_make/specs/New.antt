@@ -2,6 +2,7 @@
 use mathlib.Core.List.{List}
 use Prim.Native.Nat.{ℕ, _+_, _-_, _*_, _≤_, _<_}
 use lib.ListN.{getD}
+use Rattle.tables.specs.Layout.{baseIn}
 use Rattle.tables.specs.Does.{RegFits}
 use Rattle.memory.specs.Lendings.{topMaking, plain}
 use Rattle.memory.specs.Contract.{Ok, only}
@@ -14,4 +15,4 @@ pub record NewFits (l : Sizes) (stack frames slots savedStack savedFrames setup 
   pub function : f < getD setup 13 0
   pub few : argc ≤ 255
   pub reg : RegFits stack frames (m .height) (m .depth) dst
-  pub window : getD frames ((m .depth - 1) * 6 + 2) 0 + dst + 1 + argc ≤ m .height
+  pub window : baseIn frames (m .depth - 1) + dst + 1 + argc ≤ m .height

@@ -31,7 +31,7 @@ pub(crate) fn create(
     requires { ⌜ NewFits l (now stack) (now frames) (now slots) (now «saved_stack») (now «saved_frames») (now setup) m dst f argc ⌝ }
     ensures { λ r. ⌜ Met ifSound l (λ w. coroCreate f closure (window dst argc w) w) (topMaking stack frames slots «saved_stack» «saved_frames» setup) (only m) (only (r .machine)) (r .answer) ⌝ }
 {
-    let base = frames[(m.depth - 1) * 6 + 2] as usize;
+    let base = tables::frame::base_at(frames, m.depth - 1);
     let at = base + (dst as usize) + 1;
     let n = argc as usize;
     let args = tables::runs::set_aside(stack, at, n);

@@ -20,9 +20,9 @@ use Rattle.model.specs.declared.coro.Suspension.{Suspension}
 use Rattle.model.specs.declared.exec.Step.{Step}
 use Rattle.model.specs.declared.machine.Driver.{Driver}
 use Rattle.model.specs.declared.machine.Fuel.{Fuel}
-use Rattle.invariant.proofs.Tests.{no-false}
-use Rattle.invariant.proofs.Stand.{chained}
-use Rattle.invariant.proofs.Sound.{Sound, sound→}
+use Rattle.soundness.proofs.Tests.{no-false}
+use Rattle.soundness.proofs.Stand.{chained}
+use Rattle.soundness.proofs.Sound.{Sound, sound→}
 use Rattle.memory.specs.Memory.{Lent, Rep}
 use Rattle.memory.specs.Contract.{Does}
 use Rattle.memory.specs.declared.machine.Machine.{Machine}

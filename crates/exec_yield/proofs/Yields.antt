@@ -23,9 +23,9 @@ use Rattle.model.specs.declared.coro.Keys.{Keys}
 use Rattle.model.specs.declared.exec.Step.{Step}
 use Rattle.model.specs.declared.machine.Active.{Active}
 use Rattle.model.specs.declared.machine.Fuel.{Fuel}
-use Rattle.invariant.proofs.Tests.{no-false, picked}
-use Rattle.invariant.proofs.Sound.{sound→, →sound}
-use Rattle.invariant.proofs.Exec.{auto-good}
+use Rattle.soundness.proofs.Tests.{no-false, picked}
+use Rattle.soundness.proofs.Sound.{sound→, →sound}
+use Rattle.soundness.proofs.Made.{auto-good}
 use Rattle.tables.specs.Layout.{activeIn}
 use Rattle.tables.specs.Parts.{Chain}
 use Rattle.tables.proofs.Decode.{top-active}

@@ -2,6 +2,7 @@
 ghost use mathlib.Core.Path.{_≡_};
 ghost use Prim.Native.Nat.{_*_, _≤_};
 ghost use lib.ListN.{length};
+ghost use Rattle.heap.specs.Heap.{TableFits};
 ghost use Rattle.model.specs.Exec.{largestIn, largerOf, yield, yieldKey, yieldKv, await};
 ghost use Rattle.model.specs.Heap.{coro, dynInt};
 ghost use Rattle.exec_yield.specs.Suspend.{RunFits};
@@ -25,7 +26,7 @@ use model::machine::Fuel;
 
 // The largest integer key so far of the coroutine that a word names.
 fn largest_in(slots: &[u64], m: Machine, v: u64) -> u64
-    requires { ⌜ m .count * 20 ≤ length (now slots) ⌝ }
+    requires { ⌜ TableFits (now slots) (m .count) ⌝ }
     ensures { λ r. ⌜ every (λ l. Reads l (λ w. largestIn (coro w v)) (table slots) (only m) r) ⌝ }
 {
     match heap::heap::coro_place(slots, m.count, Word(v)) {
@@ -54,7 +55,7 @@ fn larger_of(largest: u64, n: Opt) -> u64
 
 // conv.rs: dyn_int, the integer that a word is or names.
 fn dyn_int(slots: &[u64], m: Machine, v: u64) -> Opt
-    requires { ⌜ m .count * 20 ≤ length (now slots) ⌝ }
+    requires { ⌜ TableFits (now slots) (m .count) ⌝ }
     ensures { λ r. ⌜ every (λ l. Reads l (λ w. dynInt w v) (table slots) (only m) r) ⌝ }
 {
     heap::heap::dyn_int(slots, m.count, Word(v))
@@ -107,7 +108,7 @@ pub fn coro_await(
 
 // The key and the largest key that a YieldKv leaves.
 fn keyed(slots: &[u64], m: Machine, v: u64, key: u64) -> Keys
-    requires { ⌜ m .count * 20 ≤ length (now slots) ⌝ }
+    requires { ⌜ TableFits (now slots) (m .count) ⌝ }
     ensures { λ r. ⌜ every (λ l. Reads l (keysFor v key) (table slots) (only m) r) ⌝ }
 {
     let n = dyn_int(slots, m, key);

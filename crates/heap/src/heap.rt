@@ -248,7 +248,7 @@ pub fn encode_int(slots: &mut [u64], h: Heap, bytes: u64, n: u64) -> Made
     requires { ⌜ Room (now slots) h ⌝ }
     ensures { λ r. ⌜ out r (now (slots .exit)) ≡ encodeOf (now (slots .entry)) h bytes n ⌝ }
 {
-    match crate::int::inline_int(n) {
+    match Word::inline_int(n) {
         Inline::At(w) => Made::Done(w, h),
         Inline::Large => alloc(slots, h, bytes, Object::Int(n)),
     }

@@ -1,7 +1,7 @@
 // int.rs: value, at its two types, and the words of integers. An i64 is kept as its 64 bits of two's complement.
 ghost use mathlib.Core.Path.{_≡_};
 ghost use Rattle.heap.specs.Coding.{ofBits};
-ghost use Rattle.heap.specs.Int.{valueOf, exactly, inlineOf, nextKey, lessBits};
+ghost use Rattle.heap.specs.Int.{valueOf, exactly, nextKey, lessBits};
 use crate::value::Word;
 
 // The types that a result is read at.
@@ -35,19 +35,6 @@ pub fn value(ty: IntTy, bits: u64) -> Exact
                 Exact::Over
             }
         }
-    }
-}
-
-// dynv: inline_int.
-pub fn inline_int(bits: u64) -> Inline
-    ensures { λ r. ⌜ r ≡ inlineOf (ofBits 63 bits) ⌝ }
-{
-    if bits < 0x8000_0000_0000 {
-        Inline::At(Word(Word::INT + bits))
-    } else if bits < 0xFFFF_8000_0000_0000 {
-        Inline::Large
-    } else {
-        Inline::At(Word(bits - Word::REF))
     }
 }
 

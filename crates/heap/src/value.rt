@@ -1,6 +1,9 @@
 // value.rs: Obj, and the word that every register holds. 01: Leaves the listed files lack.
 ghost use mathlib.Core.Path.{_≡_};
+ghost use Rattle.heap.specs.Coding.{ofBits};
+ghost use Rattle.heap.specs.Int.{inlineOf};
 ghost use Rattle.heap.specs.Word.{nil, reference, classOf, slotOf, tagOf};
+use crate::int::Inline;
 
 // A word of the machine.
 pub struct Word(pub u64);
@@ -42,6 +45,19 @@ impl Word {
         ensures { λ r. ⌜ r .0 ≡ reference slot tag ⌝ }
     {
         Word(Word::REF + (tag as u64) * 0x1_0000_0000 + (slot as u64))
+    }
+
+    // dynv: inline_int. The word of an integer, given as its 64 bits of two's complement, where it has one.
+    pub fn inline_int(bits: u64) -> Inline
+        ensures { λ r. ⌜ r ≡ inlineOf (ofBits 63 bits) ⌝ }
+    {
+        if bits < 0x8000_0000_0000 {
+            Inline::At(Word(Word::INT + bits))
+        } else if bits < 0xFFFF_8000_0000_0000 {
+            Inline::Large
+        } else {
+            Inline::At(Word(bits - Word::REF))
+        }
     }
 
     pub fn class(self) -> Class

@@ -22,16 +22,16 @@ use Rattle.model.specs.declared.machine.Fuel.{Fuel}
 use Rattle.model.specs.declared.machine.Outcome.{Outcome}
 use Rattle.model.specs.declared.coro.Made.{Made}
 use Rattle.model.specs.declared.coro.Entered.{Entered}
-use Rattle.invariant.proofs.Tests.{no-false, and-left, and-right, or-second, picked, or-right, negate}
-use Rattle.invariant.proofs.Sound.{Sound}
-use Rattle.invariant.proofs.Tower.{put-sound, store-sound}
-use Rattle.invariant.proofs.Coros.{handed-sound, finalizing-sound, outcome-sound, fuel-move, bankOk}
-use Rattle.invariant.proofs.Make.{alloc-plain}
-use Rattle.invariant.proofs.Enter.{enter-good, send-sound}
-use Rattle.invariant.proofs.End.{abort-sound}
-use Rattle.invariant.proofs.Charge.{task-good, calm-store}
+use Rattle.soundness.proofs.Tests.{no-false, and-left, and-right, or-second, picked, or-right, negate}
+use Rattle.soundness.proofs.Sound.{Sound}
+use Rattle.soundness.proofs.Tower.{put-sound, store-sound}
+use Rattle.soundness.proofs.Coros.{handed-sound, finalizing-sound, outcome-sound, fuel-move, bankOk}
+use Rattle.soundness.proofs.Make.{alloc-plain}
+use Rattle.soundness.proofs.Enter.{enter-good, send-sound}
+use Rattle.soundness.proofs.End.{abort-sound}
+use Rattle.soundness.proofs.Charge.{task-good, calm-store}
 use Rattle.invariant.proofs.Unwind.{Fine, push-good}
-use Rattle.invariant.proofs.Good.{Good, good, then-good, madeFine, enteredFine, fine-notA, calm-top, top-under}
+use Rattle.soundness.proofs.Good.{Good, good, then-good, madeFine, enteredFine, fine-notA, calm-top, top-under}
 
 pushed-or : {ex : Bool} (w u : World) (m : Made) → Sound ex w → Sound ex u → madeFine m ≡ true → Good ex Fine (pushedOr w u m)
 pushed-or w u (Made.Word base) h k e = good k refl

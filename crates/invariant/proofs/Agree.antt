@@ -38,8 +38,8 @@ use Rattle.model.specs.declared.coro.Started.{Started}
 use Rattle.model.specs.declared.call.OptPc.{OptPc}
 use Rattle.heap.specs.declared.heap.ResultKind.{ResultKind}
 use Rattle.invariant.specs.Reachable.{finalOf, finals, oneIf, AgreeOf, Owing, Agree, hostLow, hostsLow}
-use Rattle.invariant.proofs.Tests.{no-false, no-true, or-left, or-right, or-else, and-right, picked, both}
-use Rattle.invariant.proofs.Coros.{changed}
+use Rattle.soundness.proofs.Tests.{no-false, no-true, or-left, or-right, or-else, and-right, picked, both}
+use Rattle.soundness.proofs.Coros.{changed}
 
 -- what a function leaves agrees
 abbrev pub Ag : {A : Type 0} → After A → Type 0

@@ -32,7 +32,7 @@ use Rattle.model.specs.declared.coro.AutoKey.{AutoKey}
 use Rattle.model.specs.declared.coro.Suspension.{Suspension}
 use Rattle.model.specs.declared.call.OptPc.{OptPc}
 use Rattle.invariant.specs.Reachable.{Agree}
-use Rattle.invariant.proofs.Tests.{picked}
+use Rattle.soundness.proofs.Tests.{picked}
 use Rattle.invariant.proofs.Agree.{Ag, Suspended, change-owing, done-agree, int-agree, create-agree, enter-agree, suspend-agree, deliver-agree, charge-agree}
 use Rattle.invariant.proofs.AgreeMachine.{then-ag, push-agree}
 

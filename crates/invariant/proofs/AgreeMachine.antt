@@ -24,7 +24,7 @@ use Rattle.heap.specs.declared.heap.ResultKind.{ResultKind}
 use Rattle.model.specs.declared.call.OptPc.{OptPc}
 use Rattle.model.specs.declared.call.Answer.{Answer}
 use Rattle.invariant.specs.Reachable.{Agree}
-use Rattle.invariant.proofs.Tests.{picked}
+use Rattle.soundness.proofs.Tests.{picked}
 use Rattle.invariant.proofs.Agree.{Ag, alloc-agree, dyn-agree, returned-agree, escaped-agree, charge-agree}
 
 pub then-ag : {A B : Type 0} (o : After A) (g : World → A → After B) → Ag o → ((u : World) (a : A) → Agree u → Ag (g u a)) → Ag (andThen o g)

@@ -36,7 +36,7 @@ use borrow.Author.Tests.{not-false}
 use lib.ListN.{length}
 use Rattle.model.specs.declared.machine.Frame.{Frame}
 use Rattle.invariant.specs.Reachable.{Agree}
-use Rattle.invariant.proofs.Tests.{no-true, or-left, or-right, or-else, picked, no-false}
+use Rattle.soundness.proofs.Tests.{no-true, or-left, or-right, or-else, picked, no-false}
 use Rattle.invariant.proofs.Agree.{Ag, Suspended, alloc-agree, task-agree, set-agree, enter-agree, abort-agree, charge-agree}
 use Rattle.invariant.proofs.AgreeMachine.{then-ag, push-agree, finish-agree, unwind-agree}
 use Rattle.invariant.proofs.AgreeExec.{answer-made, new-agree, new-indirect-agree, spawn-agree, yield-agree, yieldKv-agree, await-agree, resume-agree, throw-agree, close-agree, status-agree, current-agree, key-agree, result-agree, iter-agree}

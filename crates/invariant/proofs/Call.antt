@@ -20,13 +20,13 @@ use Rattle.model.specs.declared.call.OptPc.{OptPc}
 use Rattle.model.specs.declared.call.Op.{Op}
 use Rattle.model.specs.declared.call.Answer.{Answer}
 use Rattle.invariant.specs.Kept.{raises}
-use Rattle.invariant.proofs.Tests.{and-left, and-right, picked}
-use Rattle.invariant.proofs.Sound.{Sound}
-use Rattle.invariant.proofs.Charge.{Charging, charge-good}
+use Rattle.soundness.proofs.Tests.{and-left, and-right, picked}
+use Rattle.soundness.proofs.Sound.{Sound}
+use Rattle.soundness.proofs.Charge.{Charging, charge-good}
 use Rattle.invariant.proofs.Unwind.{Fine, finish-good, unwind-good}
 use Rattle.invariant.proofs.Exec.{Stepping, new-good, new-indirect-good, spawn-good, yield-good, yieldKv-good, await-good, resume-good, throw-good, close-good, status-good, current-good, key-good, result-good, iter-good}
 use Rattle.invariant.proofs.Added.{host-call-good, host-entry-good, function-call-good, put-word-good, make-iterator-good, take-outcome-good, hand-over-good, grant-good, stop-run-good, spawn-task-good}
-use Rattle.invariant.proofs.Good.{Good, good, then-good, stepFine, answerFine, Calm, InTop, calm-top}
+use Rattle.soundness.proofs.Good.{Good, good, then-good, stepFine, answerFine, Calm, InTop, calm-top}
 
 -- ---- the gate
 

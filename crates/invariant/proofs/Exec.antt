@@ -1,27 +1,24 @@
 -- The fourteen instructions, after their charge, keep a sound world sound.
 use mathlib.Core.Path.{_≡_, refl, sym, ap, _∙_, subst}
-use mathlib.Core.Bool.{Bool, true, false, not, _||_}
+use mathlib.Core.Bool.{Bool, true, false, _||_}
 use mathlib.Core.List.{List, [], _∷_}
 use Prim.Native.Nat.{ℕ, _^_}
 use lib.ListN.{set, length-set}
-use lib.Dec.{eqb, ltb}
-use borrow.Author.Tests.{not-false}
+use lib.Dec.{ltb}
 use Rattle.heap.specs.Word.{nil}
-use Rattle.heap.specs.Int.{nextKey}
 use Rattle.heap.specs.Object.{codeOf}
 use Rattle.heap.specs.declared.fault.Fault.{Fault}
 use Rattle.heap.specs.declared.value.Opt.{Opt}
-use Rattle.heap.specs.declared.int.Exact.{Exact}
 use Rattle.heap.specs.declared.object.CoroState.{CoroState}
 use Rattle.model.specs.State.{isCreated, isAwaiting, isReturned, isRunning, isSuspended, isFinished}
-use Rattle.model.specs.Program.{func, isFunction, hookOk}
-use Rattle.model.specs.Object.{Core, Rest, Object, Coroutine, Absent, Is, isDone}
+use Rattle.model.specs.Program.{isFunction, hookOk}
+use Rattle.model.specs.Object.{Core, Rest, Coroutine, Absent, Is, isDone}
 use Rattle.model.specs.World.{World, andThen}
 use Rattle.model.specs.Frames.{reg, storePc}
 use Rattle.model.specs.Heap.{object, coro, notA, dynInt}
 use Rattle.model.specs.Coro.{stateAs, coroEnter, finishCoroutine, inState, ended}
 use Rattle.model.specs.Machine.{pushFrame, isOk}
-use Rattle.model.specs.Exec.{put, putMade, window, coroNew, indirectTo, indirect, coroNewIndirect, hooked, callHook, spawnMade, spawnBy, spawn, delivered, deliverAll, suspend, largestIn, keyAt, keyExact, autoKey, yieldKey, yieldOn, yield, largerOf, yieldKvOn, yieldKv, awaitOn, await, arrive, resume, throwEntered, throwTo, resumeThrow, closeEntered, closeIn, closeTo, coroClose, statusOf, coroStatus, current, coroCurrent, keyOf, coroKey, resultIn, coroResult, iterOn, iterNext}
+use Rattle.model.specs.Exec.{put, putMade, window, coroNew, coroNewIndirect, hooked, callHook, spawnMade, spawnBy, spawn, delivered, deliverAll, suspend, largestIn, yieldKey, yieldOn, yield, largerOf, yieldKvOn, yieldKv, awaitOn, await, arrive, resume, throwEntered, throwTo, resumeThrow, closeEntered, closeIn, closeTo, coroClose, statusOf, coroStatus, current, coroCurrent, keyOf, coroKey, resultIn, coroResult, iterOn, iterNext}
 use Rattle.model.specs.Sound.{runs}
 use Rattle.model.specs.declared.machine.Cont.{Cont}
 use Rattle.model.specs.declared.machine.Driver.{Driver}
@@ -35,17 +32,18 @@ use Rattle.model.specs.declared.coro.AutoKey.{AutoKey}
 use Rattle.model.specs.declared.coro.Suspension.{Suspension}
 use Rattle.model.specs.declared.exec.Step.{Step}
 use Rattle.model.specs.declared.call.OptPc.{OptPc}
-use Rattle.invariant.proofs.Tests.{no-false, and-left, both, picked, negate}
-use Rattle.invariant.proofs.Sound.{Sound, facts}
-use Rattle.invariant.proofs.Tower.{tower-move, tower-stack, put-sound, store-sound}
-use Rattle.invariant.proofs.Coros.{changed, idle-sound, done-sound}
-use Rattle.invariant.proofs.Make.{Making, refusing, int-good, create-good}
-use Rattle.invariant.proofs.Enter.{enter-good, send-sound}
+use Rattle.soundness.proofs.Tests.{no-false, and-left, both, picked, negate}
+use Rattle.soundness.proofs.Sound.{Sound, facts}
+use Rattle.soundness.proofs.Tower.{tower-move, tower-stack, put-sound, store-sound}
+use Rattle.soundness.proofs.Coros.{changed, idle-sound, done-sound}
+use Rattle.soundness.proofs.Make.{create-good}
+use Rattle.soundness.proofs.Made.{indirect-good, Keyed, auto-good}
+use Rattle.soundness.proofs.Enter.{enter-good, send-sound}
 use Rattle.invariant.proofs.Leave.{suspend-good}
-use Rattle.invariant.proofs.End.{deliver-good}
-use Rattle.invariant.proofs.Charge.{Charging, charge-good, close-sound, calm-store}
+use Rattle.soundness.proofs.End.{deliver-good}
+use Rattle.soundness.proofs.Charge.{Charging, charge-good, close-sound, calm-store}
 use Rattle.invariant.proofs.Unwind.{push-good}
-use Rattle.invariant.proofs.Good.{Good, good, then-good, fine, madeFine, enteredFine, suspensionFine, keyFine, stepFine, fine-notA, Still, still, Calm, still-calm, InTop, calm-top, top-under}
+use Rattle.soundness.proofs.Good.{Good, good, then-good, fine, madeFine, enteredFine, suspensionFine, stepFine, fine-notA, still, Calm, still-calm, InTop, calm-top, top-under}
 
 abbrev pub Stepping : World → Step → Type 0
 Stepping w s = stepFine s ≡ true
@@ -62,22 +60,6 @@ made-good dst u (Made.Refused f) h e = good h e
 pub new-good : {ex : Bool} (dst f argc : ℕ) (w : World) → Sound ex w → isFunction (w .setup) f ≡ true → Good ex Stepping (coroNew dst f argc w)
 unfolding coroNew
 new-good dst f argc w h e = then-good (putMade dst) (create-good f nil (window dst argc w) w h e) (λ u m k p. made-good dst u m k (p .fine))
-
-indirect-to : {ex : Bool} (v dst argc : ℕ) (w : World) → Sound ex w → (o : Object) → Good ex (Making w) (indirectTo o v dst argc w)
-indirect-to v dst argc w h Object.Empty = refusing w (notA w v) h (fine-notA w v)
-indirect-to {ex} v dst argc w h (Object.Func f) =
-    picked (Good ex (Making w)) (not (isFunction (w .setup) f)) (λ _. refusing w Fault.TypeError h refl)
-    (λ e.
-    picked (Good ex (Making w)) (not (eqb (func (w .setup) f .params) argc)) (λ _. refusing w Fault.TypeError h refl)
-    (λ _. create-good f v (window dst argc w) w h (not-false (isFunction (w .setup) f) e)))
-indirect-to v dst argc w h (Object.Int n) = refusing w (notA w v) h (fine-notA w v)
-indirect-to v dst argc w h (Object.Iter s d k) = refusing w (notA w v) h (fine-notA w v)
-indirect-to v dst argc w h (Object.Error e f p x) = refusing w (notA w v) h (fine-notA w v)
-indirect-to v dst argc w h (Object.Coro k r) = refusing w (notA w v) h (fine-notA w v)
-
-indirect-good : {ex : Bool} (dst callee argc : ℕ) (w : World) → Sound ex w → Good ex (Making w) (indirect dst callee argc w)
-unfolding indirect
-indirect-good dst callee argc w h = indirect-to (reg w callee) dst argc w h (object w (reg w callee))
 
 pub new-indirect-good : {ex : Bool} (dst callee argc : ℕ) (w : World) → Sound ex w → Good ex Stepping (coroNewIndirect dst callee argc w)
 unfolding coroNewIndirect
@@ -136,22 +118,6 @@ suspend-step : {ex : Bool} (pc : ℕ) (st : CoroState) (dst payload : ℕ) (keys
     → Good ex Stepping (suspend pc st dst payload keys w)
 suspend-step pc st dst payload keys w h p is small t =
     then-good deliverAll (suspend-good st dst payload keys (storePc pc w) (store-sound pc w p h) is small (calm-top dst (calm-store pc w) t .inside)) (λ u s k f. deliver-all u s k f)
-
-pub record Keyed (w u : World) (k : AutoKey) : Type 0 where
-  pub still : Still w u
-  pub fine : keyFine k ≡ true
-
-key-at : {ex : Bool} (n : ℕ) (w u : World) (m : Made) → Sound ex u → Making w u m → Good ex (Keyed w) (keyAt n u m)
-key-at n w u (Made.Word k) h p = good h (record { still = p .still; fine = refl })
-key-at n w u (Made.Refused f) h p = good h (record { still = p .still; fine = p .fine })
-
-pub auto-good : {ex : Bool} (largest : ℕ) (w : World) → Sound ex w → Good ex (Keyed w) (autoKey largest w)
-unfolding autoKey
-auto-good {ex} largest w h = go (nextKey largest)
-  where
-    go : (x : Exact) → Good ex (Keyed w) (keyExact x w)
-    go (Exact.Fits n) = then-good (keyAt n) (int-good n w h) (λ u m k p. key-at n w u m k p)
-    go Exact.Over = good h (record { still = still w; fine = refl })
 
 module _ {ex : Bool} (pc dst : ℕ) (w : World) (h : Sound ex w) (p : ltb pc (2 ^ 32) ≡ true) (small : ltb dst (2 ^ 16) ≡ true) (t : InTop w dst) where
   yield-key : (payload : ℕ) (u : World) (k : AutoKey) → Sound ex u → Keyed w u k → Good ex Stepping (yieldKey pc dst payload u k)

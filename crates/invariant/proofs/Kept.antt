@@ -2,20 +2,11 @@
 use mathlib.Core.Path.{_≡_, refl, sym, ap, _∙_, subst}
 use mathlib.Core.Bool.{Bool, true, false}
 use mathlib.Core.List.{List, [], _∷_, map}
-use Prim.Native.Nat.{ℕ, zero, suc, _+_, _^_, _≤_, _<_}
-use native.Mathlib.Nat.{not-suc-le-zero, le-of-suc-le-suc}
-use native.Mathlib.Omega.{arith}
-use lib.ListN.{length}
-use lib.Dec.{eqb, ltb}
-use borrow.Author.Tests.{lt-ltb}
+use lib.Dec.{eqb}
 use Rattle.lists.specs.Pick.{pick, pick-true, pick-false}
-use Rattle.heap.specs.Table.{slot}
 use Rattle.heap.specs.declared.fault.Fault.{Fault}
-use Rattle.model.specs.Lists.{each}
-use Rattle.model.specs.Program.{Func, Setup, setupOk}
-use Rattle.model.specs.Object.{Object}
-use Rattle.model.specs.World.{World, After, functionObjects, fresh}
-use Rattle.model.specs.Rows.{heldRows}
+use Rattle.model.specs.Program.{Setup, setupOk}
+use Rattle.model.specs.World.{World, After, fresh}
 use Rattle.model.specs.Machine.{raisable, unwind, unwindFault, storeSome}
 use Rattle.model.specs.Gate.{refused}
 use Rattle.model.specs.Added.{accepted}
@@ -29,64 +20,11 @@ use Rattle.model.specs.declared.call.Op.{Op}
 use Rattle.model.specs.declared.call.Answer.{Answer}
 use Rattle.invariant.specs.Kept.{raises, wellPut, runUntested, SoundnessKept}
 use Rattle.invariant.specs.Reachable.{Reachable}
-use Rattle.invariant.proofs.Tests.{no-true, no-false, unnegate, picked}
-use Rattle.invariant.proofs.Stand.{ground}
-use Rattle.invariant.proofs.Point.{at}
-use Rattle.invariant.proofs.Slots.{SlotOk}
-use Rattle.invariant.proofs.Queue.{queue-none}
-use Rattle.invariant.proofs.Sound.{Sound, sound→, →sound, →wide, facts}
+use Rattle.soundness.proofs.Tests.{no-true, no-false, unnegate, picked}
+use Rattle.soundness.proofs.Sound.{Sound, sound→, →sound, →wide}
+use Rattle.soundness.proofs.Fresh.{fresh-sound}
 use Rattle.invariant.proofs.Call.{call-keeps}
 use Rattle.invariant.proofs.Agreed.{step-agree, run-agree}
-
--- ---- an accepted set-up
-
-length-functions : (i : ℕ) (fs : List Func) → length (functionObjects i fs) ≡ length fs
-length-functions i [] = refl
-length-functions i (f ∷ fs) = ap suc (length-functions (suc i) fs)
-
-no-rows : (i : ℕ) (fs : List Func) → heldRows (functionObjects i fs) ≡ []
-no-rows i [] = refl
-no-rows i (f ∷ fs) = no-rows (suc i) fs
-
-function-at : {ex : Bool} (s : Setup) (j : ℕ) (fs : List Func) → j + length fs ≤ 32 → (i : ℕ) → i < length (functionObjects j fs) → SlotOk ex s [] i (at (functionObjects j fs) i)
-function-at {ex} s j fs few i l = subst (SlotOk ex s [] i) (sym (is j fs i l)) (ok (j + i) (let e = length-functions j fs in omega arith))
-  where
-    is : (j : ℕ) (fs : List Func) (i : ℕ) → i < length (functionObjects j fs) → at (functionObjects j fs) i ≡ slot 0 (Object.Func (j + i))
-    is j [] i l = absurd (not-suc-le-zero l)
-    is j (f ∷ fs) zero l = ap (λ n. slot 0 (Object.Func n)) (let z : j ≡ j + 0 = omega arith in z)
-    is j (f ∷ fs) (suc i) l = is (suc j) fs i (le-of-suc-le-suc l) ∙ ap (λ n. slot 0 (Object.Func n)) (let z : suc j + i ≡ j + suc i = omega arith in z)
-
-    ok : (n : ℕ) → n < 32 → SlotOk ex s [] i (slot 0 (Object.Func n))
-    ok n m = record { object = record { sizes = refl; saved = refl; rowless = refl; range = lt-ltb n (2 ^ 32) (omega arith); wide = λ _. refl }; unused = refl; tag = refl; running = refl }
-
-pub fresh-sound : {ex : Bool} (s : Setup) → setupOk s ≡ true → Sound ex (fresh s)
-fresh-sound s e =
-    let k = facts s e in
-    let k₀ = k .fit in
-    let k₁ = k .few in
-    let len = length-functions 0 (s .functions) in
-    record {
-      setup = e;
-      tower = record { depth = omega arith; height = omega arith; stands = ground refl };
-      heap =
-          record {
-            small = k .slots;
-            count = omega arith;
-            slots = function-at s 0 (s .functions) (omega arith);
-            running = refl;
-            apart = refl;
-            rows =
-                record {
-                  inside = ap (each (λ row. ltb row (s .limits .rows))) (no-rows 0 (s .functions));
-                  own = ap Rattle.model.specs.Lists.distinct (no-rows 0 (s .functions));
-                };
-          };
-      tasks = queue-none (λ r. r .task);
-      cleanups = queue-none (λ r. r .finalized);
-      room = omega arith;
-      banked = refl;
-      outcome = refl;
-    }
 
 -- ---- one call
 

@@ -1,6 +1,6 @@
 -- A coroutine suspends or ends: coro_suspend, deliver, coro_returned, coro_escaped keep a sound world sound.
 use mathlib.Core.Path.{_≡_, refl, sym, ap, _∙_, subst}
-use mathlib.Core.Bool.{Bool, true, false, not, _&&_}
+use mathlib.Core.Bool.{Bool, true, not, _&&_}
 use mathlib.Core.List.{List, [], _∷_, _++_, map}
 use Prim.Native.Nat.{ℕ, _+_, _-_, _^_, _≤_, _<_, max}
 use native.Mathlib.Omega.{arith}
@@ -11,7 +11,7 @@ use Rattle.lists.specs.Pick.{pick, pick-true}
 use Rattle.heap.specs.Charge.{satAdd}
 use Rattle.heap.specs.declared.object.CoroState.{CoroState}
 use Rattle.model.specs.Lists.{isNil}
-use Rattle.model.specs.State.{isAwaiting, isRunning, isResumable, isSuspended, isFinished, isCreated}
+use Rattle.model.specs.State.{isAwaiting, isRunning, isSuspended, isFinished, isCreated}
 use Rattle.model.specs.Program.{Setup}
 use Rattle.model.specs.Object.{Core, Rest, Object, Coroutine, Absent, Is, withPayload}
 use Rattle.model.specs.World.{World}
@@ -22,15 +22,16 @@ use Rattle.model.specs.Gate.{inFrame}
 use Rattle.model.specs.Sound.{rowWords, bodyLast, framesOver, waits, runs}
 use Rattle.model.specs.declared.machine.Active.{Active}
 use Rattle.model.specs.declared.coro.Keys.{Keys}
-use Rattle.invariant.proofs.Tests.{no-false, and-left, and-right, both, or-left, or-right, picked, negate}
-use Rattle.invariant.proofs.Stand.{Stands, Lifts, last-of, over-of, widths-saved}
-use Rattle.invariant.proofs.Cut.{Cut, cut, above-cut, below-cut, base-cut, top-cut}
-use Rattle.invariant.proofs.Point.{finds}
-use Rattle.invariant.proofs.Slots.{ObjectOk, same-rows}
-use Rattle.invariant.proofs.Sound.{Tower, Sound}
-use Rattle.invariant.proofs.Tower.{tower-take}
-use Rattle.invariant.proofs.Coros.{object-ok, SameRest, same-ok, last-runs, left-sound}
-use Rattle.invariant.proofs.Good.{Good, good, suspensionFine}
+use Rattle.soundness.proofs.Tests.{and-left, and-right, both, or-left, or-right, picked, negate}
+use Rattle.soundness.proofs.Stand.{Stands, Lifts, last-of, over-of, widths-saved}
+use Rattle.soundness.proofs.States.{suspended-idle, suspended-held, suspended-old, suspended-resumable, running-held}
+use Rattle.soundness.proofs.Cut.{Cut, cut, above-cut, below-cut, base-cut, top-cut}
+use Rattle.soundness.proofs.Point.{finds}
+use Rattle.soundness.proofs.Slots.{ObjectOk, same-rows}
+use Rattle.soundness.proofs.Sound.{Tower, Sound}
+use Rattle.soundness.proofs.Tower.{tower-take}
+use Rattle.soundness.proofs.Coros.{object-ok, SameRest, same-ok, last-runs, left-sound}
+use Rattle.soundness.proofs.Good.{Good, good, suspensionFine}
 
 -- ---- coro_suspend
 
@@ -49,46 +50,6 @@ suspended-rest k payload key r =
     let q = keys-same key (withPayload payload (sized k r)) in
     unclose-same (k .state) (sized k r) (setKeys key (withPayload payload (sized k r)))
     (record { row = q .row; maxregs = q .maxregs; maxframes = q .maxframes; task = q .task; finalized = q .finalized })
-
-suspended-idle : (st : CoroState) → isSuspended st ≡ true → isRunning st ≡ false
-suspended-idle CoroState.Created e = no-false e
-suspended-idle CoroState.Running e = no-false e
-suspended-idle CoroState.Yielded e = refl
-suspended-idle CoroState.Awaiting e = refl
-suspended-idle CoroState.Returned e = no-false e
-suspended-idle CoroState.Failed e = no-false e
-
-pub suspended-held : (st : CoroState) → isSuspended st ≡ true → isFinished st ≡ false
-suspended-held CoroState.Created e = no-false e
-suspended-held CoroState.Running e = no-false e
-suspended-held CoroState.Yielded e = refl
-suspended-held CoroState.Awaiting e = refl
-suspended-held CoroState.Returned e = no-false e
-suspended-held CoroState.Failed e = no-false e
-
-suspended-old : (st : CoroState) → isSuspended st ≡ true → isCreated st ≡ false
-suspended-old CoroState.Created e = no-false e
-suspended-old CoroState.Running e = no-false e
-suspended-old CoroState.Yielded e = refl
-suspended-old CoroState.Awaiting e = refl
-suspended-old CoroState.Returned e = no-false e
-suspended-old CoroState.Failed e = no-false e
-
-suspended-resumable : (st : CoroState) → isSuspended st ≡ true → isResumable st ≡ true
-suspended-resumable CoroState.Created e = no-false e
-suspended-resumable CoroState.Running e = no-false e
-suspended-resumable CoroState.Yielded e = refl
-suspended-resumable CoroState.Awaiting e = refl
-suspended-resumable CoroState.Returned e = no-false e
-suspended-resumable CoroState.Failed e = no-false e
-
-pub running-held : (st : CoroState) → isRunning st ≡ true → isFinished st ≡ false
-running-held CoroState.Created e = no-false e
-running-held CoroState.Running e = refl
-running-held CoroState.Yielded e = no-false e
-running-held CoroState.Awaiting e = no-false e
-running-held CoroState.Returned e = no-false e
-running-held CoroState.Failed e = no-false e
 
 -- what is saved, with its sizes
 sized-ok : {ex : Bool} (s : Setup) (k₀ : Core) (r : Rest) (k : Core) → ObjectOk ex s (Object.Coro k₀ r) → length (k .regs) ≤ rowWords s → length (k .frames) ≤ s .limits .depth → isSuspended (k .state) ≡ true → Lifts ex s (length (k .regs)) (k .frames)

@@ -6,18 +6,15 @@ use Prim.Native.Nat.{ℕ, _+_, _^_}
 use native.Mathlib.Omega.{arith}
 use lib.ListN.{length, replicate}
 use lib.Dec.{eqb, ltb, leb}
-use borrow.Author.Tests.{ltb-true, ltb-false, lt-ltb, leb-true, leb-false, ne-eqb}
-use Rattle.lists.specs.Pick.{pick}
-use Rattle.lists.proofs.Tests.{never}
+use borrow.Author.Tests.{ltb-false, leb-true, leb-false, ne-eqb}
 use Rattle.heap.specs.Fault as Faults
 use Rattle.heap.specs.declared.fault.Fault.{Fault}
 use Rattle.heap.specs.declared.value.Opt.{Opt}
 use Rattle.model.specs.Lists.{isNil, each}
-use Rattle.model.specs.Program.{Setup, func, isFunction, covers, firstOf, between, handlerOk}
+use Rattle.model.specs.Program.{func, isFunction, firstOf, between, handlerOk}
 use Rattle.model.specs.World.{World, After, andThen}
 use Rattle.model.specs.Frames.{isEntry, isCoro, frame, topFunc, topPc, popTo}
-use Rattle.model.specs.Heap.{alloc}
-use Rattle.model.specs.Machine.{pushFrame, resultOf, orNil, writeResult, writeMade, applyCont, isOk, resumeIn, returnMade, finishAs, finishOn, finish, caught, stopOr, escape, searchAs, search, searchFrames, searchMade, errorOf, unwindFault, storeSome, raisable, unwind}
+use Rattle.model.specs.Machine.{pushFrame, resultOf, orNil, writeResult, writeMade, applyCont, isOk, resumeIn, returnMade, finishAs, finishOn, finish, caught, stopOr, escape, searchAs, search, searchFrames, searchMade, unwindFault, storeSome, raisable, unwind}
 use Rattle.model.specs.Call.{optPc}
 use Rattle.model.specs.Sound.{contLies, frameNames}
 use Rattle.model.specs.declared.program.Handler.{Handler}
@@ -29,15 +26,16 @@ use Rattle.model.specs.declared.coro.Made.{Made}
 use Rattle.heap.specs.declared.heap.ResultKind.{ResultKind}
 use Rattle.model.specs.declared.call.OptPc.{OptPc}
 use Rattle.model.specs.declared.call.Answer.{Answer}
-use Rattle.invariant.specs.Reachable.{rooted}
-use Rattle.invariant.proofs.Tests.{no-true, and-left, and-right, both, negate, or-first, or-second, or-else, picked}
-use Rattle.invariant.proofs.Stand.{names-of}
-use Rattle.invariant.proofs.Sound.{Sound, Facts, facts}
-use Rattle.invariant.proofs.Tower.{tower-move, tower-push, store-sound, next-sound, put-sound, pop-sound, handlers-ok}
-use Rattle.invariant.proofs.Make.{Making, alloc-plain, dyn-good}
-use Rattle.invariant.proofs.End.{returned-sound, escaped-good}
-use Rattle.invariant.proofs.Charge.{charge-good}
-use Rattle.invariant.proofs.Good.{Good, good, then-good, fine, madeFine, answerFine}
+use Rattle.soundness.specs.Exact.{rooted}
+use Rattle.soundness.proofs.Tests.{no-true, and-left, and-right, both, negate, or-first, or-second, or-else, picked}
+use Rattle.soundness.proofs.Stand.{names-of}
+use Rattle.soundness.proofs.Sound.{Sound, facts}
+use Rattle.soundness.proofs.Tower.{tower-move, tower-push, store-sound, next-sound, put-sound, pop-sound, handlers-ok}
+use Rattle.soundness.proofs.Make.{dyn-good}
+use Rattle.soundness.proofs.End.{returned-sound, escaped-good}
+use Rattle.soundness.proofs.Charge.{charge-good}
+use Rattle.soundness.proofs.Raised.{first-in, func-small, pc-small, error-good, some-sound}
+use Rattle.soundness.proofs.Good.{Good, good, then-good, fine, madeFine, answerFine}
 
 -- ---- push_frame
 
@@ -109,28 +107,10 @@ finish-good kind v w h = finish-on kind v w h (w .frames) refl
 
 -- ---- unwind
 
--- the handler found is one of the function's
-pub first-in : (p : Handler → Bool) (pc : ℕ) (hs : List Handler) (h : Handler) → each p hs ≡ true → firstOf pc hs ≡ Caught.By h → p h ≡ true
-first-in p pc [] h e q = never cc
-first-in p pc (x ∷ hs) h e q = go (covers pc x) q (λ z. first-in p pc hs h (and-right (p x) _ e) z)
-  where
-    same : Caught.By x ≡ Caught.By h → x ≡ h
-    same z = cc
-
-    go : (b : Bool) → pick b (Caught.By x) (firstOf pc hs) ≡ Caught.By h → (firstOf pc hs ≡ Caught.By h → p h ≡ true) → p h ≡ true
-    go b z next = picked (λ (c : Caught). c ≡ Caught.By h → p h ≡ true) b (λ _ z. subst (λ y. p y ≡ true) (same z) (and-left (p x) _ e)) (λ _ z. next z) z
-
 caught-good : {ex : Bool} (h : Handler) (value : ℕ) (u : World) (c : Charge) → ltb (h .target) (2 ^ 32) ≡ true → Sound ex u → Good ex Fine (caught h value u c)
 caught-good h value u (Charge.Done n) t k = good (put-sound (h .catch) value _ (store-sound (h .target) u t k)) refl
 caught-good h value u Charge.Spent t k = good k refl
 caught-good h value u (Charge.Close n) t k = good (put-sound (h .catch) value _ (store-sound (h .target) u t k)) refl
-
--- the functions and pcs of frames have 32 bits
-named-small : {s : Setup} (f : Frame) → Facts s → frameNames s f ≡ true → ltb (f .func) (2 ^ 32) ≡ true
-named-small {s} f k e =
-    let a = ltb-true (f .func) (length (s .functions)) (and-left (isFunction s (f .func)) _ e) in
-    let b = k .few in
-    lt-ltb (f .func) (2 ^ 32) (omega arith)
 
 stop-or : {ex : Bool} (next : World → After Answer) (xs : List Frame) → ((u : World) → Sound ex u → u .frames ≡ xs → Good ex Fine (next u)) → (u : World) (b : Bool) → Sound ex u → (b ≡ false → u .frames ≡ xs) → Good ex Fine (stopOr next u b)
 stop-or {ex} next xs ih u b k f = picked (Good ex Fine) b (λ _. good k refl) (λ e. ih u k (f e))
@@ -162,33 +142,13 @@ module _ (value fn pc : ℕ) (a : ltb fn (2 ^ 32) ≡ true) (b : ltb pc (2 ^ 32)
           let t : ltb (y .target) (2 ^ 32) ≡ true = and-right (ltb (y .catch) (func s (x .func) .regs) && ltb (y .start) (2 ^ 32) && ltb (y .end) (2 ^ 32)) (ltb (y .target) (2 ^ 32)) ok in
           then-good (caught y value) (charge-good OptPc.None w refl h) (λ u c k p. caught-good y value u c t k)
 
-top-func-small : (s : Setup) (fs : List Frame) → Facts s → each (frameNames s) fs ≡ true → ltb (topFunc fs) (2 ^ 32) ≡ true
-top-func-small s [] k e = refl
-top-func-small s (f ∷ fs) k e = named-small f k (and-left (frameNames s f) _ e)
-
-top-pc-small : (s : Setup) (fs : List Frame) → each (frameNames s) fs ≡ true → ltb (topPc fs) (2 ^ 32) ≡ true
-top-pc-small s [] e = refl
-top-pc-small s (f ∷ fs) e = and-right (isFunction s (f .func)) (ltb (f .pc) (2 ^ 32)) (and-left (frameNames s f) _ e)
-
 module _ {ex : Bool} (w : World) (h : Sound ex w) where
-  pub func-small : ltb (topFunc (w .frames)) (2 ^ 32) ≡ true
-  func-small = top-func-small (w .setup) (w .frames) (facts (w .setup) (h .setup)) (names-of (w .setup) (h .tower .stands))
-
-  pub pc-small : ltb (topPc (w .frames)) (2 ^ 32) ≡ true
-  pc-small = top-pc-small (w .setup) (w .frames) (names-of (w .setup) (h .tower .stands))
-
   frames-good : (value : ℕ) → Good ex Fine (searchFrames value w)
-  frames-good value = search-good value (topFunc (w .frames)) (topPc (w .frames)) func-small pc-small (w .frames) w h refl
+  frames-good value = search-good value (topFunc (w .frames)) (topPc (w .frames)) (func-small w h) (pc-small w h) (w .frames) w h refl
 
 made-good : {ex : Bool} (u : World) (m : Made) → Sound ex u → madeFine m ≡ true → Good ex Fine (searchMade u m)
 made-good u (Made.Word v) h e = frames-good u h v
 made-good u (Made.Refused f) h e = good h e
-
--- an error object that tells where it was raised
-pub error-good : {ex : Bool} (f : Fault) (w : World) → Sound ex w → between 1 8 (Faults.numberOf f) ≡ true → Good ex (Making w) (alloc (w .setup .costs .error) (errorOf f w) w)
-error-good f w h from =
-    alloc-plain (w .setup .costs .error) (errorOf f w) w h
-    (record { sizes = refl; saved = refl; rowless = refl; range = both (both from (func-small w h)) (pc-small w h); wide = λ _. refl }) refl refl
 
 fault-good : {ex : Bool} (f : Fault) (w : World) → Sound ex w → (between 1 10 (Faults.numberOf f) || eqb (Faults.numberOf f) 17) ≡ true → Good ex Fine (unwindFault f w)
 fault-good {ex} f w h range =
@@ -201,10 +161,6 @@ fault-good {ex} f w h range =
     let from : between 1 8 n ≡ true = both (and-left (leb 1 n) _ low) small in
     then-good searchMade (error-good f w h from) (λ u m k p. made-good u m k (p .fine)))
     (λ _. good h (negate (ne-eqb n 11 (λ z. let t = leb-true n 10 (and-right (leb 1 n) (leb n 10) low) in omega arith)))))
-
-pub some-sound : {ex : Bool} (pc : OptPc) (w : World) → optPc pc ≡ true → Sound ex w → Sound ex (storeSome pc w)
-some-sound OptPc.None w e h = h
-some-sound (OptPc.Some pc) w e h = store-sound pc w e h
 
 pub unwind-good : {ex : Bool} (f : Fault) (pc : OptPc) (w : World) → optPc pc ≡ true → Sound ex w → Good ex (λ _ a. raisable f ≡ true → answerFine a ≡ true) (unwind f pc w)
 unfolding unwind

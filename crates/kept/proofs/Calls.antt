@@ -6,7 +6,7 @@ use Rattle.lists.specs.Pick.{pick, pick-true, pick-false}
 use Rattle.heap.specs.declared.fault.Fault.{Fault}
 use Rattle.model.specs.Lists.{isNil}
 use Rattle.model.specs.World.{World, After, after, andThen}
-use Rattle.model.specs.Gate.{refused, onFrame, onHost}
+use Rattle.model.specs.Gate.{refused, onFrame, onHost, instruction}
 use Rattle.model.specs.Added.{answerMade, accepted, grant}
 use Rattle.model.specs.Cleanup.{spawnTask}
 use Rattle.model.specs.Machine.{unwind}
@@ -21,10 +21,11 @@ use Rattle.memory.specs.Memory.{Lent, Rep}
 use Rattle.memory.specs.Contract.{Does}
 use Rattle.memory.specs.declared.machine.Machine.{Machine}
 use Rattle.memory.specs.declared.machine.Sizes.{Sizes}
-use Rattle.invariant.proofs.Tests.{no-false}
+use Rattle.soundness.proofs.Tests.{no-false}
 use Rattle.memory.proofs.Does.{does}
-use Rattle.added.specs.Call.{madeAs}
-use Rattle.exec.specs.Instruction.{isInstruction, gated}
+use Rattle.added.proofs.Iterators.{madeAs, made-any}
+use Rattle.exec_arm.specs.Arm.{OfInstruction}
+use Rattle.exec_arm.proofs.Tags.{isInstruction}
 use Rattle.kept.specs.Kept.{did}
 
 -- what a row leaves, and answers
@@ -60,24 +61,24 @@ module _ (l : Sizes) (M : Lent) (m : Machine) (f : Fuel) (w : World) (o : Op) (a
   as-same x e d = subst (λ z. Does l (did z w) M m f a) (sym e) d
 
   -- an instruction
-  pub as-instruction : isInstruction (table o) ≡ true → Does l (gated (table o) w) M m f a → Does l (did o w) M m f a
-  as-instruction t d = by-row (table o) refl (go (table o) t d)
+  pub as-instruction : isInstruction (table o) ≡ true → OfInstruction o (λ pc operands arm. Does l (instruction pc (operands w) arm w) M m f a) → Does l (did o w) M m f a
+  as-instruction t d = go (table o) refl t
     where
-      go : (x : Row) → isInstruction x ≡ true → Does l (gated x w) M m f a → Does l (rowDid x w) M m f a
-      go (Instruction pc operands arm) e k = k
-      go (OnFrame operands body) e k = no-false e
-      go (OnHost operands body) e k = no-false e
-      go (Unwinds g pc) e k = no-false e
-      go (Grants n) e k = no-false e
-      go Looks e k = no-false e
-      go (Other body) e k = no-false e
+      go : (x : Row) → table o ≡ x → isInstruction x ≡ true → Does l (did o w) M m f a
+      go (Instruction pc operands arm) q e = by-row (Instruction pc operands arm) q (d pc operands arm q)
+      go (OnFrame operands body) q e = no-false e
+      go (OnHost operands body) q e = no-false e
+      go (Unwinds g pc) q e = no-false e
+      go (Grants n) q e = no-false e
+      go Looks q e = no-false e
+      go (Other body) q e = no-false e
 
   -- spawn_task, whose answer is the word made
-  pub as-task : (x : Op) (v : ℕ) (b : Made) → o ≡ x → table x ≡ Other (λ z. andThen (spawnTask v z) answerMade) → Does l (spawnTask v w) M m f b → a ≡ madeAs b → Does l (did o w) M m f a
+  pub as-task : (x : Op) (v : ℕ) (b : Made) → o ≡ x → table x ≡ Other (λ z. andThen (spawnTask v z) answerMade) → Does l (spawnTask v w) M m f b → ((z : World) → a ≡ answerMade z b .answer) → Does l (did o w) M m f a
   as-task x v b e r d q =
       let t = spawnTask v w in
       as-other x (λ z. andThen (spawnTask v z) answerMade) e r
-      (does l M m f (andThen t answerMade) (t .world) a (made (t .world) (t .answer) ∙ ap (λ y. after (t .world) (madeAs y)) (sym (d .answer)) ∙ ap (after (t .world)) (sym q)) (d .world))
+      (does l M m f (andThen t answerMade) (t .world) a (made (t .world) (t .answer) ∙ ap (λ y. after (t .world) (madeAs y)) (sym (d .answer)) ∙ ap (after (t .world)) (sym (q w ∙ made-any w b))) (d .world))
     where
       made : (u : World) (y : Made) → answerMade u y ≡ after u (madeAs y)
       made u (Made.Word k) = refl

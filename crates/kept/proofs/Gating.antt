@@ -16,7 +16,7 @@ use Rattle.model.specs.Calls.{table}
 use Rattle.model.specs.declared.call.Op.{Op}
 use Rattle.model.specs.declared.machine.Cont.{Cont}
 use Rattle.model.specs.declared.machine.Fuel.{Fuel}
-use Rattle.invariant.proofs.Tests.{and-left}
+use Rattle.soundness.proofs.Tests.{and-left}
 use Rattle.tables.specs.Sizes.{functionsOf}
 use Rattle.tables.specs.Does.{RegFits}
 use Rattle.tables.proofs.Doing.{reg-fits}

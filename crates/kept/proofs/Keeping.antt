@@ -11,8 +11,8 @@ use Rattle.model.specs.Step.{call}
 use Rattle.model.specs.declared.call.Op.{Op}
 use Rattle.model.specs.declared.call.Answer.{Answer}
 use Rattle.model.specs.declared.machine.Fuel.{Fuel}
-use Rattle.invariant.proofs.Tests.{no-false}
-use Rattle.invariant.proofs.Sound.{sound→, →sound}
+use Rattle.soundness.proofs.Tests.{no-false}
+use Rattle.soundness.proofs.Sound.{sound→, →sound}
 use Rattle.invariant.proofs.Call.{call-keeps}
 use Rattle.tables.proofs.Setups.{functions-in}
 use Rattle.memory.specs.Memory.{Lent, Beside, Sized, Rep, Room}

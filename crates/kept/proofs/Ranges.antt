@@ -12,8 +12,8 @@ use Rattle.model.specs.Calls.{table}
 use Rattle.model.specs.declared.call.OptPc.{OptPc}
 use Rattle.model.specs.declared.call.Op.{Op}
 use Rattle.model.proofs.call.Op as Op′
-use Rattle.invariant.proofs.Tests.{and-right}
-use Rattle.exec.specs.Instruction.{isInstruction}
+use Rattle.soundness.proofs.Tests.{and-right}
+use Rattle.exec_arm.proofs.Tags.{isInstruction}
 
 -- the tags that the other arms leave
 abbrev pub instructions : List ℕ

@@ -51,10 +51,12 @@ decoded s = worldOf (s .words) (s .machine) (s .fuel)
 
 -- ---- any call but the set-up
 
+-- on sound words: what the call leaves and answers, in the same slices
+abbrev pub does : State → Op → Left
+does s o = let did = call o (decoded s) in left (stateIn (lengthsOf (s .words)) (did .world)) (did .answer)
+
 unfoldable pub stepWords : State → Op → Left
-stepWords s o =
-    let did = call o (decoded s) in
-    pick (isSound s) (left (stateIn (lengthsOf (s .words)) (did .world)) (did .answer)) (refuses s Fault.Unsound)
+stepWords s o = pick (isSound s) (does s o) (refuses s Fault.Unsound)
 
 -- 01: "a look at the top frame hands back its registers as part of the lent words; without a frame, or on 11, an empty part"
 abbrev pub looked : State → List ℕ
@@ -66,9 +68,12 @@ looked s = pick (isSound s) (registers (decoded s)) []
 abbrev pub setUpOk : List ℕ → Lent → Bool
 setUpOk given M = setupHeld given && roomOk (setupOf given) M && leb (setupSize (setupOf given)) (length (M .setup))
 
+-- a fresh machine, in the same slices, whatever stood there
+abbrev pub begins : State → List ℕ → Left
+begins s given = left (stateIn (lengthsOf (s .words)) (fresh (setupOf given))) Answer.Accepted
+
 unfoldable pub setUpWords : State → List ℕ → Left
-setUpWords s given =
-    pick (setUpOk given (s .words)) (left (stateIn (lengthsOf (s .words)) (fresh (setupOf given))) Answer.Accepted) (refuses s Fault.Unsound)
+setUpWords s given = pick (setUpOk given (s .words)) (begins s given) (refuses s Fault.Unsound)
 
 -- ---- a call of 01
 

@@ -14,7 +14,7 @@ use Rattle.heap.specs.Charge as Charge
 use Rattle.heap.specs.Charge.{satAdd}
 use Rattle.heap.specs.Table.{Slot, slot, pushObject, nextWord}
 use Rattle.heap.specs.Heap as Heaped
-use Rattle.heap.specs.Heap.{out, allocOf, putSlot}
+use Rattle.heap.specs.Heap.{out, allocOf, putSlot, TableFits}
 use Rattle.heap.specs.declared.fault.Fault.{Fault}
 use Rattle.heap.specs.declared.heap.Heap.{Heap}
 use Rattle.heap.specs.declared.heap.Made as HM
@@ -24,8 +24,8 @@ use Rattle.model.specs.Object.{Object, Absent, asCoro}
 use Rattle.model.specs.World.{World, After, after, withSlots, withUsed}
 use Rattle.model.specs.Heap.{fits, slotsFull, refuse, alloc}
 use Rattle.model.specs.Sound.{rowWords, sound}
-use Rattle.invariant.proofs.Tests.{no-false}
-use Rattle.invariant.proofs.Sound.{sound→, facts}
+use Rattle.soundness.proofs.Tests.{no-false}
+use Rattle.soundness.proofs.Sound.{sound→, facts}
 use Rattle.model.specs.declared.coro.Made.{Made}
 use Rattle.model.specs.declared.machine.Fuel.{Fuel}
 use Rattle.tables.specs.Parts.{SavedStack, SavedFrames}
@@ -109,7 +109,7 @@ module _ (l : Sizes) (M : Lent) (m : Machine) (f : Fuel) (w : World) (rep : Rep 
         subst (λ z. Does l (alloc bytes o w) (onSlots z M) m f (Made.Refused g)) (sym (k .words))
         (does l M m f (alloc bytes o w) w (Made.Refused g) (model ∙ refuses a b w g _ (k .fault) (k .some)) rep)
 
-    module _ (ws′ savedStack′ savedFrames′ : List ℕ) (h′ : Heap) (v : Word) (k : Done (M .slots) ws′ (heapOf m l) h′ bytes (toObject o) v) (room : l .slots * 20 ≤ length (M .slots)) where
+    module _ (ws′ savedStack′ savedFrames′ : List ℕ) (h′ : Heap) (v : Word) (k : Done (M .slots) ws′ (heapOf m l) h′ bytes (toObject o) v) (room : TableFits (M .slots) (l .slots)) where
       slots-after : Slots (toSlots (pushObject (w .slots) o)) ws′ (h′ .count)
       slots-after =
           let left = ltb-true (m .count) (l .slots) (k .left) in
@@ -125,9 +125,9 @@ module _ (l : Sizes) (M : Lent) (m : Machine) (f : Fuel) (w : World) (rep : Rep 
       alloc-made on up =
           does l (onSlots ws′ (onSaved savedStack′ savedFrames′ M)) (allocated m h′) f (alloc bytes o w) pushed (Made.Word (v .0))
           (model ∙ passes a b w _ (k .fit) (k .left) ∙ ap (λ n. after pushed (Made.Word n)) (sym (k .word ∙ ap (λ n. reference n 0) count-is)))
-          (subst (λ n. Rep l pushed (onSlots ws′ (onSaved savedStack′ savedFrames′ M)) (withCount (h′ .count) (withCharged n m)) f) (sym (k .used ∙ ap (λ n. satAdd n bytes) (rep .used)))
           (turn-used l (withSlots (pushObject (w .slots) o) w) (onSlots ws′ (onSaved savedStack′ savedFrames′ M)) (withCount (h′ .count) m) f
-          (turn-slots l w M m f rep (pushObject (w .slots) o) ws′ savedStack′ savedFrames′ (h′ .count) slots-after on up) (satAdd (w .used) bytes)))
+          (turn-slots l w M m f rep (pushObject (w .slots) o) ws′ savedStack′ savedFrames′ (h′ .count) slots-after on up)
+          (h′ .used) (satAdd (w .used) bytes) (k .used ∙ ap (λ n. satAdd n bytes) (rep .used)))
 
     -- an object that owns no row
     module _ (unowned : asCoro o ≡ Absent) (ws′ : List ℕ) (h : Heap) (r : HM.Made) (told : out r ws′ ≡ allocOf (M .slots) h bytes (toObject o)) (is-heap : h ≡ heapOf m l) where
@@ -137,7 +137,7 @@ module _ (l : Sizes) (M : Lent) (m : Machine) (f : Fuel) (w : World) (rep : Rep 
       pub plain-refused : (g : Fault) → r ≡ H.Refused g → Does l (alloc bytes o w) (onSlots ws′ M) m f (Made.Refused g)
       plain-refused g e = alloc-refused ws′ g (alloc-lacks (M .slots) (heapOf m l) bytes (toObject o) ws′ g (answered (H.Refused g) e))
 
-      pub plain-made : l .slots * 20 ≤ length (M .slots) → (v : Word) (h′ : Heap) (m′ : Machine) → r ≡ H.Done v h′ → m′ ≡ allocated m h′ → Does l (alloc bytes o w) (onSlots ws′ M) m′ f (Made.Word (v .0))
+      pub plain-made : TableFits (M .slots) (l .slots) → (v : Word) (h′ : Heap) (m′ : Machine) → r ≡ H.Done v h′ → m′ ≡ allocated m h′ → Does l (alloc bytes o w) (onSlots ws′ M) m′ f (Made.Word (v .0))
       plain-made room v h′ m′ e em =
           let s = w .setup in
           subst (λ z. Does l (alloc bytes o w) (onSlots ws′ M) z f (Made.Word (v .0))) (sym em)

@@ -10,7 +10,7 @@ use lib.Dec.{leb}
 use borrow.Author.Tests.{leb-true}
 use Rattle.model.specs.Sound.{basesOk}
 use Rattle.model.specs.declared.machine.Frame.{Frame}
-use Rattle.invariant.proofs.Tests.{and-left, and-right}
+use Rattle.soundness.proofs.Tests.{and-left, and-right}
 
 pub bases-under : (n : ℕ) (fs : List Frame) (d : Frame) → basesOk n fs ≡ true → (i : ℕ) → i < length fs → getD fs i d .base ≤ n
 bases-under n [] d h i k = absurd (not-suc-le-zero k)

@@ -14,8 +14,10 @@ use Rattle.model.specs.World.{World, withFuel, withFinalizing}
 use Rattle.model.specs.Fuel.{unbankAt, unbank, armAt, armClose, fuelOf, setReady, setFinalizing}
 use Rattle.model.specs.declared.machine.Fuel.{Fuel}
 use Rattle.memory.specs.Memory.{Lent, Rep}
+use Rattle.memory.specs.Numbers.{withRunning}
 use Rattle.memory.specs.declared.machine.Machine.{Machine}
 use Rattle.memory.specs.declared.machine.Sizes.{Sizes}
+use Rattle.memory.proofs.Turn.{turn-fuel, turn-finalizing}
 
 -- ---- the fuel set aside, and taken back
 
@@ -32,66 +34,14 @@ left-alone f e r = sym (ap (λ b. armAt b f) e ∙ ap (λ t. pick t (fuelOf 0 (O
 
 -- the numbers, with the mark of a running cleanup
 abbrev pub marked : Bool → Machine → Machine
-marked running m =
-    record {
-      height = m .height;
-      depth = m .depth;
-      active = m .active;
-      count = m .count;
-      ready = m .ready;
-      finalize = m .finalize;
-      finalizing = running;
-      outcome = m .outcome;
-      used = m .used;
-      seq = m .seq;
-    }
+marked running m = withRunning running m
 
 module _ (l : Sizes) (M : Lent) (m : Machine) (f : Fuel) (w : World) (rep : Rep l w M m f) where
-  fuel-rep : (g h : Fuel) → g ≡ h → Rep l (withFuel h w) M m g
-  fuel-rep g h e =
-      record {
-        sizes = rep .sizes;
-        setup = rep .setup;
-        stack = rep .stack;
-        frames = rep .frames;
-        chain = rep .chain;
-        slots = rep .slots;
-        savedStack = rep .savedStack;
-        savedFrames = rep .savedFrames;
-        ready = rep .ready;
-        finalize = rep .finalize;
-        finalizing = rep .finalizing;
-        outcome = rep .outcome;
-        used = rep .used;
-        seq = rep .seq;
-        fuel = e;
-      }
-
   pub unbank-rep : (g : Fuel) → g ≡ unbankAt (f .bank) f → Rep l (unbank w) M m g
-  unbank-rep g e = fuel-rep g (unbankAt (w .fuel .bank) (w .fuel)) (e ∙ ap (λ h. unbankAt (h .bank) h) (rep .fuel))
+  unbank-rep g e = turn-fuel l w M m f rep g (unbankAt (w .fuel .bank) (w .fuel)) (e ∙ ap (λ h. unbankAt (h .bank) h) (rep .fuel))
 
   pub arm-rep : (g : Fuel) → g ≡ armAt (f .bank) f → Rep l (armClose w) M m g
-  arm-rep g e = fuel-rep g (armAt (w .fuel .bank) (w .fuel)) (e ∙ ap (λ h. armAt (h .bank) h) (rep .fuel))
-
-  mark-rep : (running : Bool) → Rep l (withFinalizing running w) M (marked running m) f
-  mark-rep running =
-      record {
-        sizes = rep .sizes;
-        setup = rep .setup;
-        stack = rep .stack;
-        frames = rep .frames;
-        chain = rep .chain;
-        slots = rep .slots;
-        savedStack = rep .savedStack;
-        savedFrames = rep .savedFrames;
-        ready = rep .ready;
-        finalize = rep .finalize;
-        finalizing = refl;
-        outcome = rep .outcome;
-        used = rep .used;
-        seq = rep .seq;
-        fuel = rep .fuel;
-      }
+  arm-rep g e = turn-fuel l w M m f rep g (armAt (w .fuel .bank) (w .fuel)) (e ∙ ap (λ h. armAt (h .bank) h) (rep .fuel))
 
 -- a queue is empty exactly if its number is 0
 nil-count : (n : ℕ) (xs : List ℕ) → n ≡ length xs → eqb n 0 ≡ isNil xs
@@ -107,5 +57,5 @@ finalizes l M m f w running ready n g rep er en eg =
     let told : h ≡ fuelOf (w .fuel .fuel) (w .fuel .bank) (not running && not (isNil (w .finalize))) = ap₂ (λ (x : Fuel) (b : Bool). fuelOf (x .fuel) (x .bank) b) (rep .fuel) same in
     subst (λ k. Rep l (setFinalizing running w) M k g) (sym en)
     (arm-rep l M (marked running m) h (setReady (not running && not (isNil (w .finalize))) (withFinalizing running w))
-    (fuel-rep l M (marked running m) f (withFinalizing running w) (mark-rep l M m f w rep running) h
+    (turn-fuel l (withFinalizing running w) M (marked running m) f (turn-finalizing l w M m f rep running) h
     (fuelOf (w .fuel .fuel) (w .fuel .bank) (not running && not (isNil (w .finalize)))) told) g eg)

@@ -18,9 +18,9 @@ use Rattle.model.specs.declared.coro.Made.{Made}
 use Rattle.model.specs.declared.machine.Cont.{Cont}
 use Rattle.model.specs.declared.machine.Frame.{Frame}
 use Rattle.model.specs.declared.machine.Fuel.{Fuel}
-use Rattle.invariant.proofs.Tests.{no-false, no-true, or-first, or-second}
-use Rattle.invariant.proofs.Sound.{Sound, sound→, facts}
-use Rattle.tables.specs.Layout.{functionIn}
+use Rattle.soundness.proofs.Tests.{no-false, no-true, or-first, or-second}
+use Rattle.soundness.proofs.Sound.{Sound, sound→, facts}
+use Rattle.tables.specs.Layout.{functionIn, baseIn}
 use Rattle.tables.specs.Does.{FramesDo, StackDo}
 use Rattle.tables.specs.Parts.{Frames}
 use Rattle.tables.proofs.Parts.{run-grow}
@@ -57,14 +57,14 @@ module _ (m : Machine) (l : Sizes) (n : ℕ) where
   pub room-left : m .depth < l .depth → m .height ≤ l .stack → n ≤ l .stack - m .height → false ≡ overflowing m l n
   room-left h k g = sym (ap₂ (λ a b. a || b) (lt-leb (l .depth) (m .depth) h) (le-ltb (l .stack) (m .height + n) (omega arith)))
 
-pub top-base : (f : Frame) (fs : List Frame) (ws : List ℕ) (n : ℕ) → Frames (f ∷ fs) ws n → getD ws ((n - 1) * 6 + 2) 0 ≡ f .base
+pub top-base : (f : Frame) (fs : List Frame) (ws : List ℕ) (n : ℕ) → Frames (f ∷ fs) ws n → baseIn ws (n - 1) ≡ f .base
 top-base f fs ws n p = sym (chunk-get 6 (n - 1) 2 ws (omega arith)) ∙ ap (λ g. g .base) (top-frame f fs ws n p)
 
 -- ---- one world that the words stand for
 
 module _ (l : Sizes) (w : World) (M : Lent) (m : Machine) (fuel : Fuel) (rep : Rep l w M m fuel) where
   -- the top frame gone
-  pub pop-rep : 1 ≤ m .depth → (stack′ frames′ : List ℕ) (base : ℕ) → base ≡ getD (M .frames) ((m .depth - 1) * 6 + 2) 0 → StackDo (take base) (M .stack) stack′ (m .height) base
+  pub pop-rep : 1 ≤ m .depth → (stack′ frames′ : List ℕ) (base : ℕ) → base ≡ baseIn (M .frames) (m .depth - 1) → StackDo (take base) (M .stack) stack′ (m .height) base
       → FramesDo (drop 1) (M .frames) frames′ (m .depth) (m .depth - 1)
       → Rep l (popTop w) (onStack stack′ (onFrames frames′ M)) (withHeight base (withDepth (m .depth - 1) m)) fuel
   pop-rep some stack′ frames′ base eb cut gone = go (w .frames) (rep .frames) b

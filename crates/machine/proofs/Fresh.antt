@@ -11,7 +11,7 @@ use Rattle.lists.specs.Pick.{pick-false}
 use Rattle.lists.specs.Chunks.{words}
 use Rattle.lists.specs.Parts.{pad, splice}
 use Rattle.heap.specs.Table.{Slot, slot}
-use Rattle.heap.specs.Heap.{putSlot}
+use Rattle.heap.specs.Heap.{putSlot, SlotFits}
 use Rattle.heap.specs.declared.object.Object as H
 use Rattle.heap.specs.declared.object.Object.the-variants as O
 use Rattle.model.specs.Program.{Func, Setup}
@@ -96,7 +96,7 @@ slots-none ws n e =
     let l : length ws ≡ n = ap length e ∙ length-replicate n 0 in
     record { are = e ∙ ap (λ (k : ℕ). replicate {A = ℕ} k 0) (sym l ∙ sym (sub-zero (length ws))); count = refl; within = omega arith }
 
-pub next-slot : (ws ws′ : List ℕ) (i : ℕ) → ws′ ≡ putSlot ws i (slot 0 (O.Func i)) → Slots (functionSlots i) ws i → i * 20 + 20 ≤ length ws → Slots (functionSlots (i + 1)) ws′ (i + 1)
+pub next-slot : (ws ws′ : List ℕ) (i : ℕ) → ws′ ≡ putSlot ws i (slot 0 (O.Func i)) → Slots (functionSlots i) ws i → SlotFits ws i → Slots (functionSlots (i + 1)) ws′ (i + 1)
 next-slot ws ws′ i e s h =
     let z : 0 + i ≡ i = omega arith in
     let one : functionSlots (i + 1) ≡ functionSlots i ++ (slot 0 (O.Func i) ∷ []) =

@@ -4,7 +4,7 @@ use mathlib.Core.List.{List}
 use Prim.Native.Nat.{ℕ, _*_, _≤_}
 use lib.ListN.{length}
 use Rattle.lists.proofs.Tests.{never}
-use Rattle.heap.specs.Heap.{Out, out, encodeBy}
+use Rattle.heap.specs.Heap.{Out, out, encodeBy, TableFits}
 use Rattle.heap.specs.declared.fault.Fault.{Fault}
 use Rattle.heap.specs.declared.heap.Heap.{Heap}
 use Rattle.heap.specs.declared.heap.Made.the-variants as H
@@ -32,7 +32,7 @@ module _ (l : Sizes) (M : Lent) (m : Machine) (fu : Fuel) (w : World) (rep : Rep
     int-refused (Inline.At x) g e = let made = ap (λ (y : Out). y .made) e in never cc
     int-refused Inline.Large g e = plain-refused l M m fu w rep (w .setup .costs .int) (Object.Int n) refl slots′ (heapOf m l) (H.Refused g) e refl g refl
 
-    pub int-made : (i : Inline) (v : Word) (h′ : Heap) → l .slots * 20 ≤ length (M .slots) → out (H.Done v h′) slots′ ≡ encodeBy i (M .slots) (heapOf m l) (w .setup .costs .int) n
+    pub int-made : (i : Inline) (v : Word) (h′ : Heap) → TableFits (M .slots) (l .slots) → out (H.Done v h′) slots′ ≡ encodeBy i (M .slots) (heapOf m l) (w .setup .costs .int) n
         → Does l (encodeAt i n w) (onSlots slots′ M) (allocated m h′) fu (Made.Word (v .0))
     int-made (Inline.At x) v h′ room e =
         let made = ap (λ (y : Out). y .made) e in

@@ -15,7 +15,7 @@ use Rattle.model.specs.Sound.{frameNames, liesUnder, driverLies}
 use Rattle.model.specs.declared.machine.Driver.{Driver}
 use Rattle.model.specs.declared.machine.Frame.{Frame}
 use Rattle.model.specs.declared.machine.Fuel.{Fuel}
-use Rattle.invariant.proofs.Tests.{no-false, and-left, and-right}
+use Rattle.soundness.proofs.Tests.{no-false, and-left, and-right}
 use Rattle.tables.specs.Parts.{Frames}
 use Rattle.tables.proofs.Decode.{top-frame}
 use Rattle.tables.proofs.Doing.{reg-fits}

@@ -8,9 +8,9 @@ use borrow.Author.Tests.{lt-ltb}
 use Rattle.model.specs.World.{World}
 use Rattle.model.specs.Frames.{storePc}
 use Rattle.model.specs.Sound.{sound}
-use Rattle.invariant.proofs.Tests.{no-false}
-use Rattle.invariant.proofs.Sound.{sound→, →sound}
-use Rattle.invariant.proofs.Tower.{store-sound}
+use Rattle.soundness.proofs.Tests.{no-false}
+use Rattle.soundness.proofs.Sound.{sound→, →sound}
+use Rattle.soundness.proofs.Tower.{store-sound}
 use Rattle.memory.specs.Memory.{Rep}
 use Rattle.memory.specs.Lendings.{lent}
 use Rattle.memory.specs.Contract.{Numbers, Ok}

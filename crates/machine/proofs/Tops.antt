@@ -16,10 +16,10 @@ use Rattle.model.specs.Frames.{isCoro, popTo}
 use Rattle.model.specs.Sound.{frameNames, liesUnder, contLies, sound}
 use Rattle.model.specs.declared.machine.Frame.{Frame}
 use Rattle.model.specs.declared.machine.Fuel.{Fuel}
-use Rattle.invariant.proofs.Tests.{no-false, and-left, and-right}
-use Rattle.invariant.proofs.Stand.{Fits, Stands, names-of}
-use Rattle.invariant.proofs.Sound.{Sound, sound→, →sound}
-use Rattle.invariant.proofs.Tower.{stands-within, pop-sound}
+use Rattle.soundness.proofs.Tests.{no-false, and-left, and-right}
+use Rattle.soundness.proofs.Stand.{Fits, Stands, names-of}
+use Rattle.soundness.proofs.Sound.{Sound, sound→, →sound}
+use Rattle.soundness.proofs.Tower.{stands-within, pop-sound}
 use Rattle.tables.specs.Layout.{frameIn}
 use Rattle.tables.specs.Parts.{Frames}
 use Rattle.tables.specs.Does.{RegFits}

@@ -10,6 +10,7 @@ use Rattle.model.specs.Machine.{pushFrame}
 use Rattle.model.specs.declared.coro.Made.{Made}
 use Rattle.model.specs.declared.machine.Cont.{Cont}
 use Rattle.model.specs.declared.machine.Frame.{Frame}
+use Rattle.tables.specs.Layout.{baseIn}
 use Rattle.memory.specs.Contract.{Ok, only}
 use Rattle.memory.specs.Numbers.{withHeight, withDepth}
 use Rattle.memory.specs.declared.machine.Machine.{Machine}
@@ -60,7 +61,7 @@ pub record CallFits (l : Sizes) (stack frames setup : List ℕ) (m : Machine) (p
 -- there is a frame, whose registers lie on the stack
 pub record PopFits (stack frames : List ℕ) (m : Machine) : Type 0 where
   pub depth : DepthFits frames (m .depth)
-  pub base : getD frames ((m .depth - 1) * 6 + 2) 0 ≤ m .height
+  pub base : baseIn frames (m .depth - 1) ≤ m .height
   pub height : m .height ≤ length stack
 
 -- the top frame is gone, if there was one

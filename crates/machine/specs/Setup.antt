@@ -7,6 +7,7 @@ use lib.ListN.{length, getD, replicate}
 use Rattle.heap.specs.Table.{Slot, slot}
 use Rattle.heap.specs.declared.object.Object as H
 use Rattle.heap.specs.declared.object.Object.the-variants as O
+use Rattle.heap.specs.Heap.{TableFits}
 use Rattle.model.specs.Program.{Setup}
 use Rattle.model.specs.World.{fresh}
 use Rattle.model.specs.declared.machine.Outcome.{Outcome}
@@ -35,7 +36,7 @@ words s f c o r q a z u =
 pub record SetUpFits (slots setup given : List ℕ) : Type 0 where
   pub numbers : 14 ≤ length given
   pub within : length given ≤ length setup
-  pub objects : getD given 13 0 * 20 ≤ length slots
+  pub objects : TableFits slots (getD given 13 0)
 
 -- if the words given are a set-up's, and there is room, the words stand for its fresh world
 abbrev pub SetsUp : List ℕ → Lent → Machine → Type 0

@@ -130,7 +130,7 @@ pub fn pop(stack: &mut [u64], frames: &mut [u64], m: Machine) -> Machine
     requires { ⌜ PopFits (now stack) (now frames) m ⌝ }
     ensures { λ r. ⌜ every (λ l. Leaves any l popTop (top stack frames) (only m) (only r)) ⌝ }
 {
-    let base = frames[(m.depth - 1) * 6 + 2] as usize;
+    let base = tables::frame::base_at(frames, m.depth - 1);
     tables::stack::cut(stack, m.height, base);
     tables::frames::pop_frame(frames, m.depth);
     let mut next = m;

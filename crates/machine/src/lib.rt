@@ -1,4 +1,5 @@
 // machine.rs: impl Machine, on the lent words.
+pub mod called;
 pub mod coro;
 pub mod frame;
 pub mod fuel;

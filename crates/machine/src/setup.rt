@@ -3,6 +3,7 @@ ghost use mathlib.Core.Path.{_≡_};
 ghost use Prim.Native.Nat.{_*_, _≤_, _<_};
 ghost use lib.ListN.{length};
 ghost use Rattle.lists.specs.Parts.{pad};
+ghost use Rattle.heap.specs.Heap.{TableFits};
 ghost use Rattle.memory.specs.Memory.{Slots};
 ghost use Rattle.machine.specs.Setup.{functionSlots, Cleared, start, words, SetUpFits, SetsUp};
 use heap::object::Object;
@@ -11,7 +12,7 @@ use memory::machine::Told;
 
 // A function object for each of n functions, and nothing after them.
 fn function_objects(slots: &mut [u64], n: usize)
-    requires { ⌜ n * 20 ≤ length (now slots) ⌝ }
+    requires { ⌜ TableFits (now slots) n ⌝ }
     ensures { λ _. ⌜ Slots (functionSlots n) (now (slots .exit)) n ⌝ }
 {
     lists::clear_words(slots);

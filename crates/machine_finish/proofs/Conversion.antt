@@ -8,7 +8,7 @@ use Rattle.heap.specs.Word.{nil}
 use Rattle.heap.specs.Coding.{ofBits}
 use Rattle.heap.specs.Int.{inlineOf, exactly, valueOf}
 use Rattle.heap.specs.Heap as Heaped
-use Rattle.heap.specs.Heap.{Out, out, intBy}
+use Rattle.heap.specs.Heap.{Out, out, intBy, TableFits}
 use Rattle.heap.specs.declared.fault.Fault.{Fault}
 use Rattle.heap.specs.declared.heap.Heap.{Heap}
 use Rattle.heap.specs.declared.heap.Made as HM
@@ -42,7 +42,7 @@ module _ (l : Sizes) (M : Lent) (m : Machine) (fu : Fuel) (w : World) (rep : Rep
       let eg : Fault.ArithOverflow ≡ g = cc in
       subst₂ (λ z y. Does l (refuse w Fault.ArithOverflow) (onSlots z M) m fu (Made.Refused y)) (sym (ap (λ (y : Out). y .words) e)) eg (record { world = rep; answer = refl })
 
-  exact-made : (x : Exact) (v : Word) (h′ : Heap) → l .slots * 20 ≤ length (M .slots) → out (H.Done v h′) slots′ ≡ intBy x (M .slots) (heapOf m l) cost
+  exact-made : (x : Exact) (v : Word) (h′ : Heap) → TableFits (M .slots) (l .slots) → out (H.Done v h′) slots′ ≡ intBy x (M .slots) (heapOf m l) cost
       → Does l (encodeExact x w) (onSlots slots′ M) (allocated m h′) fu (Made.Word (v .0))
   exact-made (Exact.Fits n) v h′ room e = int-made l M m fu w rep n slots′ (inlineOf (ofBits 63 n)) v h′ room e
   exact-made Exact.Over v h′ room e = let made = ap (λ (y : Out). y .made) e in never cc
@@ -57,7 +57,7 @@ module _ (l : Sizes) (M : Lent) (m : Machine) (fu : Fuel) (w : World) (rep : Rep
   refused-by ResultKind.I64 n g e = exact-refused (exactly (valueOf IntTy.I64 n)) g e
   refused-by ResultKind.U64 n g e = exact-refused (exactly (valueOf IntTy.U64 n)) g e
 
-  made-by : (kind : ResultKind) (n : ℕ) (v : Word) (h′ : Heap) → l .slots * 20 ≤ length (M .slots) → out (H.Done v h′) slots′ ≡ Heaped.toDyn kind (M .slots) (heapOf m l) cost n
+  made-by : (kind : ResultKind) (n : ℕ) (v : Word) (h′ : Heap) → TableFits (M .slots) (l .slots) → out (H.Done v h′) slots′ ≡ Heaped.toDyn kind (M .slots) (heapOf m l) cost n
       → Does l (toDyn kind n w) (onSlots slots′ M) (allocated m h′) fu (Made.Word (v .0))
   unfolding toDyn
   made-by ResultKind.None n v h′ room e = int-made l M m fu w rep 0 slots′ (Inline.At (record { 0 = nil })) v h′ room e
@@ -72,7 +72,7 @@ module _ (l : Sizes) (M : Lent) (m : Machine) (fu : Fuel) (w : World) (rep : Rep
     pub dyn-refused : (g : Fault) → r ≡ H.Refused g → Does l (toDyn kind n w) (onSlots slots′ M) m fu (Made.Refused g)
     dyn-refused g e = refused-by kind n g (answered (H.Refused g) e)
 
-    pub dyn-made : l .slots * 20 ≤ length (M .slots) → (v : Word) (h′ : Heap) (m′ : Machine) → r ≡ H.Done v h′ → m′ ≡ allocated m h′
+    pub dyn-made : TableFits (M .slots) (l .slots) → (v : Word) (h′ : Heap) (m′ : Machine) → r ≡ H.Done v h′ → m′ ≡ allocated m h′
         → Does l (toDyn kind n w) (onSlots slots′ M) m′ fu (Made.Word (v .0))
     dyn-made room v h′ m′ e em =
         subst (λ y. Does l (toDyn kind n w) (onSlots slots′ M) y fu (Made.Word (v .0))) (sym em) (made-by kind n v h′ room (answered (H.Done v h′) e))

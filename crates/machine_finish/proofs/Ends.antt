@@ -23,8 +23,8 @@ use Rattle.model.specs.declared.coro.Made.{Made}
 use Rattle.model.specs.declared.machine.Cont.{Cont}
 use Rattle.model.specs.declared.machine.Frame.{Frame}
 use Rattle.model.specs.declared.machine.Fuel.{Fuel}
-use Rattle.invariant.proofs.Sound.{→sound}
-use Rattle.invariant.proofs.Make.{dyn-good}
+use Rattle.soundness.proofs.Sound.{→sound}
+use Rattle.soundness.proofs.Make.{dyn-good}
 use Rattle.tables.specs.Layout.{frameIn}
 use Rattle.memory.specs.Memory.{Lent, Beside, Rep}
 use Rattle.memory.specs.Contract.{Does, Ok, only}

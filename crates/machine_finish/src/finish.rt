@@ -11,6 +11,7 @@ use crate::convert::to_dyn;
 use coro_end::returned::coro_returned;
 use heap::fault::Fault;
 use heap::heap::ResultKind;
+use machine::called::Called;
 use machine::frame::next_pc;
 use machine::frame::pop;
 use machine::way::Way;
@@ -25,13 +26,6 @@ use model::machine::Fuel;
 // What the end of a call leaves of the numbers, and answers.
 pub struct CallDid {
     pub machine: Machine,
-    pub answer: Answer,
-}
-
-// .. and of the fuel.
-pub struct Finished {
-    pub machine: Machine,
-    pub fuel: Fuel,
     pub answer: Answer,
 }
 
@@ -82,7 +76,7 @@ fn finish_coro(
     fuel: Fuel,
     kind: ResultKind,
     v: u64,
-) -> Finished
+) -> Called
     requires { ⌜ TopFits l (six stack frames chain slots «saved_stack» «saved_frames» now) m Coro ⌝ }
     ensures { λ r. ⌜ Met ifSound l (finish kind v) (six stack frames chain slots «saved_stack» «saved_frames») (with m fuel) (with (r .machine) (r .fuel)) (r .answer) ⌝ }
 {
@@ -90,7 +84,7 @@ fn finish_coro(
     let n = did.machine;
     let made = did.answer;
     match made {
-        Made::Refused(e) => Finished {
+        Made::Refused(e) => Called {
             machine: n,
             fuel,
             answer: Answer::Refused(e),
@@ -111,7 +105,7 @@ fn finish_coro(
             );
             let after = told.machine;
             let left = told.fuel;
-            Finished {
+            Called {
                 machine: after,
                 fuel: left,
                 answer: Answer::Resume,
@@ -133,13 +127,13 @@ pub fn finish(
     fuel: Fuel,
     kind: ResultKind,
     v: u64,
-) -> Finished
+) -> Called
     requires { ⌜ Ok l (six stack frames chain slots «saved_stack» «saved_frames» now) (only m) ⌝ }
     ensures { λ r. ⌜ Met ifSound l (finish kind v) (six stack frames chain slots «saved_stack» «saved_frames») (with m fuel) (with (r .machine) (r .fuel)) (r .answer) ⌝ }
 {
     if m.depth == 0 {
         let answer = Answer::Exit(result_of(kind, v));
-        return Finished {
+        return Called {
             machine: m,
             fuel,
             answer,
@@ -151,7 +145,7 @@ pub fn finish(
         Way::Out => {
             let n = pop(stack, frames, m);
             let result = result_of(kind, v);
-            Finished {
+            Called {
                 machine: n,
                 fuel,
                 answer: Answer::Exit(result),
@@ -161,7 +155,7 @@ pub fn finish(
             let did = end_call(stack, frames, slots, m, l, cont, kind, v);
             let n = did.machine;
             let answer = did.answer;
-            Finished {
+            Called {
                 machine: n,
                 fuel,
                 answer,

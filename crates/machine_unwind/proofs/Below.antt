@@ -27,11 +27,11 @@ use Rattle.model.specs.declared.machine.Frame.{Frame}
 use Rattle.model.specs.declared.machine.Stop.{Stop}
 use Rattle.model.specs.declared.program.Caught.{Caught}
 use Rattle.model.specs.declared.program.Handler.{Handler}
-use Rattle.invariant.proofs.Tests.{no-false, no-true, picked}
-use Rattle.invariant.proofs.Sound.{→sound}
-use Rattle.invariant.proofs.Tower.{pop-sound}
-use Rattle.invariant.proofs.Coros.{changed}
-use Rattle.invariant.proofs.End.{escaped-good}
+use Rattle.soundness.proofs.Tests.{no-false, no-true, picked}
+use Rattle.soundness.proofs.Sound.{→sound}
+use Rattle.soundness.proofs.Tower.{pop-sound}
+use Rattle.soundness.proofs.Coros.{changed}
+use Rattle.soundness.proofs.End.{escaped-good}
 use Rattle.machine.specs.Frame.{popOn}
 use Rattle.machine.proofs.Tops.{known}
 use Rattle.machine_unwind.specs.Turns.{goesOn, answered, handlerOn, takenAs, takeHandler, haltedIn, leaveAs, turnAs, turn, searchFrom}

@@ -14,9 +14,9 @@ use Rattle.model.specs.declared.machine.Frame.{Frame}
 use Rattle.model.specs.declared.machine.Fuel.{Fuel}
 use Rattle.model.specs.declared.program.Caught.{Caught}
 use Rattle.model.specs.declared.program.Handler.{Handler}
-use Rattle.invariant.proofs.Tests.{and-left, and-right, each-at}
-use Rattle.invariant.proofs.Sound.{facts}
-use Rattle.invariant.proofs.Unwind.{first-in}
+use Rattle.soundness.proofs.Tests.{and-left, and-right, each-at}
+use Rattle.soundness.proofs.Sound.{facts}
+use Rattle.soundness.proofs.Raised.{first-in}
 use Rattle.tables.specs.Parts.{Frames}
 use Rattle.tables.proofs.Tops.{top-func, top-pc, top-cont}
 use Rattle.tables.specs.Layout.{funcIn, pcIn, contIn, functionIn}

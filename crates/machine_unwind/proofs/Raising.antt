@@ -23,10 +23,10 @@ use Rattle.model.specs.declared.call.OptPc.{OptPc}
 use Rattle.model.specs.declared.coro.Made.{Made}
 use Rattle.model.specs.declared.machine.Frame.{Frame}
 use Rattle.model.specs.declared.machine.Fuel.{Fuel}
-use Rattle.invariant.proofs.Tests.{no-true, and-left, both, or-else, picked}
-use Rattle.invariant.proofs.Good.{Still, still}
-use Rattle.invariant.proofs.Unwind.{func-small, pc-small, error-good, some-sound}
-use Rattle.invariant.proofs.Sound.{→sound}
+use Rattle.soundness.proofs.Tests.{no-true, and-left, both, or-else, picked}
+use Rattle.soundness.proofs.Good.{Still, still}
+use Rattle.soundness.proofs.Raised.{func-small, pc-small, error-good, some-sound}
+use Rattle.soundness.proofs.Sound.{→sound}
 use Rattle.tables.specs.Layout.{funcIn, pcIn}
 use Rattle.memory.specs.Memory.{Lent, Beside, Rep}
 use Rattle.memory.specs.Contract.{Ok, Does, with}

@@ -15,7 +15,7 @@ use Rattle.model.specs.declared.machine.Frame.{Frame}
 use Rattle.model.specs.declared.machine.Fuel.{Fuel}
 use Rattle.model.specs.declared.program.Caught.{Caught}
 use Rattle.model.specs.declared.program.Handler.{Handler}
-use Rattle.invariant.proofs.Tests.{no-false, no-true}
+use Rattle.soundness.proofs.Tests.{no-false, no-true}
 use Rattle.memory.specs.Memory.{Lent, Rep}
 use Rattle.memory.specs.Rows.{Rowed}
 use Rattle.memory.specs.Contract.{Does}

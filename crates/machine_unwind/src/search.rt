@@ -7,10 +7,10 @@ use crate::handler::handler_in;
 use crate::handler::take_handler;
 use crate::leave::leave;
 use crate::turn::Turned;
-use crate::turn::Unwound;
 use crate::turn::answered;
 use crate::turn::goes_on;
 use heap::fault::Fault;
+use machine::called::Called;
 use memory::machine::Machine;
 use memory::machine::Sizes;
 use model::call::Answer;
@@ -70,7 +70,7 @@ pub(crate) fn search(
     value: u64,
     func: u64,
     pc: u64,
-) -> Unwound
+) -> Called
     requires { ⌜ SearchFits l (sixSetup stack frames chain slots «saved_stack» «saved_frames» setup now) m fuel func pc ⌝ }
     ensures { λ r. ⌜ Met ifSound l (searchFrom value func pc) (sixSetup stack frames chain slots «saved_stack» «saved_frames» setup) (with m fuel) (with (r .machine) (r .fuel)) (r .answer) ⌝ }
 {
@@ -96,14 +96,14 @@ pub(crate) fn search(
         f = did.fuel;
         let t = did.answer;
         if !goes_on(t) {
-            return Unwound {
+            return Called {
                 machine: n,
                 fuel: f,
                 answer: answered(t, value),
             };
         }
     }
-    Unwound {
+    Called {
         machine: n,
         fuel: f,
         answer: Answer::Refused(Fault::Throw(value)),

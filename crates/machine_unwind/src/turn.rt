@@ -35,13 +35,6 @@ pub struct Turned {
     pub answer: Turn,
 }
 
-// What an unwinding leaves of the numbers and of the fuel, and answers.
-pub struct Unwound {
-    pub machine: Machine,
-    pub fuel: Fuel,
-    pub answer: Answer,
-}
-
 pub(crate) fn is_spent(c: Charge) -> bool
     ensures { λ r. ⌜ r ≡ isSpent c ⌝ }
 {

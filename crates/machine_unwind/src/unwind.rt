@@ -11,10 +11,10 @@ ghost use Rattle.machine_unwind.specs.Turns.{originOf, thrown};
 ghost use Rattle.machine_unwind.specs.Fits.{RaiseFits, UnwindFits};
 use crate::search::search;
 use crate::turn::Origin;
-use crate::turn::Unwound;
 use heap::fault::Fault;
 use heap::object::Object;
 use heap::value::Word;
+use machine::called::Called;
 use machine::object::MadeDid;
 use machine::object::alloc_plain;
 use memory::machine::Machine;
@@ -80,7 +80,7 @@ pub(crate) fn raise(
     l: Sizes,
     fuel: Fuel,
     fault: Fault,
-) -> Unwound
+) -> Called
     requires { ⌜ RaiseFits l (sixSetup stack frames chain slots «saved_stack» «saved_frames» setup now) m fuel fault ⌝ }
     ensures { λ r. ⌜ Met ifSound l (unwindFault fault) (sixSetup stack frames chain slots «saved_stack» «saved_frames» setup) (with m fuel) (with (r .machine) (r .fuel)) (r .answer) ⌝ }
 {
@@ -89,7 +89,7 @@ pub(crate) fn raise(
     let n = did.machine;
     let made = did.answer;
     match made {
-        Made::Refused(f) => Unwound {
+        Made::Refused(f) => Called {
             machine: n,
             fuel,
             answer: Answer::Refused(f),
@@ -154,12 +154,12 @@ pub fn unwind(
     fuel: Fuel,
     fault: Fault,
     pc: OptPc,
-) -> Unwound
+) -> Called
     requires { ⌜ UnwindFits l (sixSetup stack frames chain slots «saved_stack» «saved_frames» setup now) m fuel pc ⌝ }
     ensures { λ r. ⌜ Met ifSound l (unwind fault pc) (sixSetup stack frames chain slots «saved_stack» «saved_frames» setup) (with m fuel) (with (r .machine) (r .fuel)) (r .answer) ⌝ }
 {
     if !is_raisable(fault) {
-        return Unwound {
+        return Called {
             machine: m,
             fuel,
             answer: Answer::Refused(Fault::Unsound),

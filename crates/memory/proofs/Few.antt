@@ -12,9 +12,9 @@ use Rattle.heap.specs.Table.{Slot}
 use Rattle.model.specs.Lists.{each, among, distinct}
 use Rattle.model.specs.Object.{Core, Rest, Object, Coroutine, Absent, Is}
 use Rattle.model.specs.Sound.{marked}
-use Rattle.invariant.proofs.Tests.{no-false, and-left, and-right, both, negate, unnegate, neither, or-first, or-second}
-use Rattle.invariant.proofs.Point.{coroIn, Points, finds, same-word}
-use Rattle.invariant.proofs.Queue.{Queue}
+use Rattle.soundness.proofs.Tests.{no-false, and-left, and-right, both, negate, unnegate, neither, or-first, or-second}
+use Rattle.soundness.proofs.Point.{coroIn, Points, finds, same-word}
+use Rattle.soundness.proofs.Queue.{Queue}
 
 -- ---- numbers below n in a list
 

@@ -21,7 +21,7 @@ use Rattle.model.specs.State.{isFinished}
 use Rattle.model.specs.Object.{Core, Rest, Object, withTask, withFinalized}
 use Rattle.model.specs.Rows.{heldRows}
 use Rattle.model.specs.Cleanup.{close}
-use Rattle.invariant.proofs.Point.{Points, finds}
+use Rattle.soundness.proofs.Point.{Points, finds}
 use Rattle.memory.specs.Slots.{toCoro, toSlot, toSlots}
 use Rattle.memory.specs.Memory.{Slots, regsRows, framesRows}
 use Rattle.memory.proofs.Slots.{at-map, put-same}

@@ -12,7 +12,7 @@ use Rattle.lists.specs.Pick.{pick}
 use Rattle.lists.proofs.Tests.{never, and-false}
 use Rattle.lists.specs.Chunks.{chunkAt}
 use Rattle.heap.specs.Word.{nil, slotOf, tagOf, topOf, classOf}
-use Rattle.heap.specs.Slot.{slotWords}
+use Rattle.heap.specs.Slot.{slotWords, width}
 use Rattle.heap.specs.Coding.{bitsOf, ofBits}
 use Rattle.heap.specs.Table.{Slot, slot, names, get, getIn, notA, putObject}
 use Rattle.heap.specs.Heap.{asCoro, coroBy, coroOf}
@@ -30,8 +30,8 @@ use Rattle.model.specs.Object.{Core, Rest, Object, isFilled, Coroutine, Absent,
 use Rattle.model.specs.Object as M
 use Rattle.model.specs.Heap.{objectAt}
 use Rattle.model.specs.Rows.{heldRows}
-use Rattle.invariant.proofs.Point.{at, coroIn, Points, finds}
-use Rattle.invariant.proofs.Tests.{among-each}
+use Rattle.soundness.proofs.Point.{at, coroIn, Points, finds}
+use Rattle.soundness.proofs.Tests.{among-each}
 use Rattle.memory.specs.Slots.{toCoro, toObject, toSlot, toSlots}
 use Rattle.memory.specs.Rows.{owns, savedBy, rowAt}
 use Rattle.memory.specs.Memory.{Slots, regsRows, framesRows}
@@ -125,7 +125,7 @@ module _ (xs : List (Slot Object)) (v : ℕ) where
             record { core = z .core; rest = z .rest; coro = ap (λ p. M.asCoro (objectAt xs p)) q ∙ z .object; is = z .is; slot = z .slot ∙ place-slot j q }
 
 -- the words of its slot
-pub there-words : (xs : List (Slot Object)) (v i : ℕ) (c : CoroObj) → There xs v i c → (ws : List ℕ) (n : ℕ) → Slots (toSlots xs) ws n → chunkAt 20 ws i ≡ slotWords (slot (tagOf v) (O.Coro c))
+pub there-words : (xs : List (Slot Object)) (v i : ℕ) (c : CoroObj) → There xs v i c → (ws : List ℕ) (n : ℕ) → Slots (toSlots xs) ws n → chunkAt width ws i ≡ slotWords (slot (tagOf v) (O.Coro c))
 there-words xs v i c t ws n s =
     let p : Points xs v (Object.Coro (t .core) (t .rest)) = finds xs v (t .core) (t .rest) (t .coro) in
     let q = p .inside in

@@ -14,7 +14,7 @@ use Rattle.heap.specs.declared.fault.Fault.{Fault}
 use Rattle.heap.specs.declared.object.Object as H
 use Rattle.model.specs.Object.{Object, isFilled, isDone}
 use Rattle.model.specs.Heap.{objectAt}
-use Rattle.invariant.proofs.Point.{at, objectIn}
+use Rattle.soundness.proofs.Point.{at, objectIn}
 use Rattle.memory.specs.Slots.{toObject, toSlots}
 use Rattle.memory.proofs.Slots.{at-map, get-same}
 use Rattle.memory.proofs.Lookup.{found-fault}

@@ -15,7 +15,7 @@ use Rattle.model.specs.Lists.{among, distinct}
 use Rattle.model.specs.State.{isFinished}
 use Rattle.model.specs.Object.{Object, Coroutine, Absent, Is, asCoro}
 use Rattle.model.specs.Rows.{heldBy, heldRows}
-use Rattle.invariant.proofs.Tests.{no-false, no-true}
+use Rattle.soundness.proofs.Tests.{no-false, no-true}
 use Rattle.memory.specs.Rows.{noRow, owns, savedBy, rowAt}
 
 -- ---- who owns a row that is not among those held

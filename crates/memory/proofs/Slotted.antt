@@ -27,7 +27,7 @@ use Rattle.model.specs.World.{World}
 use Rattle.model.specs.Heap.{coro, setObject, setCoro, changeAs}
 use Rattle.model.specs.Sound.{rowWords}
 use Rattle.model.specs.declared.machine.Fuel.{Fuel}
-use Rattle.invariant.proofs.Point.{at, Points, finds}
+use Rattle.soundness.proofs.Point.{at, Points, finds}
 use Rattle.tables.specs.Parts.{SavedStack, SavedFrames}
 use Rattle.tables.specs.Sizes.{framesSize}
 use Rattle.memory.specs.Slots.{toCoro, toObject, toSlot, toSlots}

@@ -12,7 +12,7 @@ use Rattle.lists.specs.Parts.{pad}
 use Rattle.lists.proofs.Tables.{words-chunks, words-at, length-words}
 use Rattle.heap.specs.Table.{Slot, slot}
 use Rattle.heap.specs.Slot.{width, slotWords, slotOfWords}
-use Rattle.heap.specs.Heap.{slotsOf, putSlot}
+use Rattle.heap.specs.Heap.{slotsOf, putSlot, SlotFits}
 use Rattle.heap.specs.declared.object.Object as H
 use Rattle.heap.proofs.Slots.{slot-back, length-slot}
 use Rattle.tables.proofs.Padded.{length-pad, pad-push}
@@ -27,34 +27,34 @@ slots-are xs ws n s =
     ∙ words-chunks width slotWords slotOfWords length-slot slot-back xs (replicate (length ws - length (words slotWords xs)) 0)
 
 -- the words of slot i
-pub slot-words : (xs : List (Slot H.Object)) (ws : List ℕ) (n i : ℕ) → Slots xs ws n → i < n → chunkAt 20 ws i ≡ slotWords (getD xs i (slot 0 H.Object.Empty))
+pub slot-words : (xs : List (Slot H.Object)) (ws : List ℕ) (n i : ℕ) → Slots xs ws n → i < n → chunkAt width ws i ≡ slotWords (getD xs i (slot 0 H.Object.Empty))
 slot-words xs ws n i s h =
     let e = s .count in
-    ap (λ (z : List ℕ). chunkAt 20 z i) (s .are)
+    ap (λ (z : List ℕ). chunkAt width z i) (s .are)
     ∙ words-at width slotWords slotOfWords length-slot xs (replicate (length ws - length (words slotWords xs)) 0) i (slot 0 H.Object.Empty) (omega arith)
 
-turn : (i : ℕ) → suc i * 20 ≡ 20 + i * 20
+turn : (i : ℕ) → suc i * width ≡ width + i * width
 turn i = omega arith
 
-drop-step : (i : ℕ) (ws : List ℕ) → drop (suc i * 20) ws ≡ drop (i * 20) (drop 20 ws)
+drop-step : (i : ℕ) (ws : List ℕ) → drop (suc i * width) ws ≡ drop (i * width) (drop width ws)
 drop-step i ws = rw (turn, drop-drop)
 
-put-step : (i : ℕ) (ws vs : List ℕ) → putChunk 20 ws (suc i) vs ≡ take 20 ws ++ putChunk 20 (drop 20 ws) i vs
+put-step : (i : ℕ) (ws vs : List ℕ) → putChunk width ws (suc i) vs ≡ take width ws ++ putChunk width (drop width ws) i vs
 put-step i ws vs = rw (drop-step, turn, take-add, append-assoc)
 
 words-put : (xs : List (Slot H.Object)) (i : ℕ) (y : Slot H.Object) (rest : List ℕ) → i < length xs
-    → putChunk 20 (words slotWords xs ++ rest) i (slotWords y) ≡ words slotWords (set xs i y) ++ rest
+    → putChunk width (words slotWords xs ++ rest) i (slotWords y) ≡ words slotWords (set xs i y) ++ rest
 words-put [] i y rest h = absurd (omega arith)
 words-put (x ∷ xs) zero y rest h =
     let W : List ℕ = words slotWords xs in
-    ap (λ (z : List ℕ). slotWords y ++ drop 20 z) (append-assoc (slotWords x) W rest)
-    ∙ ap (λ (z : List ℕ). slotWords y ++ z) (drop-at (slotWords x) (W ++ rest) 20 (length-slot x))
+    ap (λ (z : List ℕ). slotWords y ++ drop width z) (append-assoc (slotWords x) W rest)
+    ∙ ap (λ (z : List ℕ). slotWords y ++ z) (drop-at (slotWords x) (W ++ rest) width (length-slot x))
     ∙ sym (append-assoc (slotWords y) W rest)
 words-put (x ∷ xs) (suc i) y rest h =
     let W : List ℕ = words slotWords xs in
-    ap (λ (z : List ℕ). putChunk 20 z (suc i) (slotWords y)) (append-assoc (slotWords x) W rest)
+    ap (λ (z : List ℕ). putChunk width z (suc i) (slotWords y)) (append-assoc (slotWords x) W rest)
     ∙ put-step i (slotWords x ++ (W ++ rest)) (slotWords y)
-    ∙ ap₂ (λ (a b : List ℕ). a ++ putChunk 20 b i (slotWords y)) (take-at (slotWords x) (W ++ rest) 20 (length-slot x)) (drop-at (slotWords x) (W ++ rest) 20 (length-slot x))
+    ∙ ap₂ (λ (a b : List ℕ). a ++ putChunk width b i (slotWords y)) (take-at (slotWords x) (W ++ rest) width (length-slot x)) (drop-at (slotWords x) (W ++ rest) width (length-slot x))
     ∙ ap (λ (z : List ℕ). slotWords x ++ z) (words-put xs i y rest (le-of-suc-le-suc h))
     ∙ sym (append-assoc (slotWords x) (words slotWords (set xs i y)) rest)
 
@@ -64,8 +64,8 @@ slots-set xs ws n i y s h =
     let Z : List ℕ = replicate (length ws - length (words slotWords xs)) 0 in
     let e = s .count in
     let same : length (set xs i y) ≡ length xs = length-set xs i y in
-    let long : (ys : List (Slot H.Object)) → length (words slotWords ys) ≡ length ys * 20 = length-words width slotWords slotOfWords length-slot in
-    let words-same : length (words slotWords (set xs i y)) ≡ length (words slotWords xs) = long (set xs i y) ∙ ap (λ k. k * 20) same ∙ sym (long xs) in
+    let long : (ys : List (Slot H.Object)) → length (words slotWords ys) ≡ length ys * width = length-words width slotWords slotOfWords length-slot in
+    let words-same : length (words slotWords (set xs i y)) ≡ length (words slotWords xs) = long (set xs i y) ∙ ap (λ k. k * width) same ∙ sym (long xs) in
     let whole : putSlot ws i y ≡ words slotWords (set xs i y) ++ Z =
     ap (λ (z : List ℕ). putSlot z i y) (s .are) ∙ words-put xs i y Z (omega arith) in
     let k = s .within in
@@ -76,7 +76,7 @@ slots-set xs ws n i y s h =
     record {
       are = whole ∙ ap₂ (λ a b. words slotWords (set xs i y) ++ replicate (a - b) 0) (sym le) (sym words-same);
       count = e ∙ sym same;
-      within = subst (λ a. n * 20 ≤ a) (sym le) k;
+      within = subst (λ a. n * width ≤ a) (sym le) k;
     }
 
 words-append : (xs : List (Slot H.Object)) (y : Slot H.Object) → words slotWords (xs ++ (y ∷ [])) ≡ words slotWords xs ++ slotWords y
@@ -84,19 +84,19 @@ words-append [] y = append-nil (slotWords y)
 words-append (x ∷ xs) y = ap (λ (z : List ℕ). slotWords x ++ z) (words-append xs y) ∙ sym (append-assoc (slotWords x) (words slotWords xs) (slotWords y))
 
 -- one slot more
-pub slots-push : (xs : List (Slot H.Object)) (ws : List ℕ) (n : ℕ) (y : Slot H.Object) → Slots xs ws n → n * 20 + 20 ≤ length ws → Slots (xs ++ (y ∷ [])) (putSlot ws n y) (n + 1)
+pub slots-push : (xs : List (Slot H.Object)) (ws : List ℕ) (n : ℕ) (y : Slot H.Object) → Slots xs ws n → SlotFits ws n → Slots (xs ++ (y ∷ [])) (putSlot ws n y) (n + 1)
 slots-push xs ws n y s h =
     let W : List ℕ = words slotWords xs in
     let U : List ℕ = slotWords y in
     let L : ℕ = length ws in
-    let lv : length U ≡ 20 = length-slot y in
-    let lw : length W ≡ length xs * 20 = length-words width slotWords slotOfWords length-slot xs in
+    let lv : length U ≡ width = length-slot y in
+    let lw : length W ≡ length xs * width = length-words width slotWords slotOfWords length-slot xs in
     let c = s .count in
-    let at : n * 20 ≡ length W = omega arith in
+    let at : n * width ≡ length W = omega arith in
     let la : length (xs ++ (y ∷ [])) ≡ length xs + 1 = length-append xs (y ∷ []) in
     let room : length W + length U ≤ L = omega arith in
     let whole : putSlot ws n y ≡ pad L (words slotWords (xs ++ (y ∷ []))) =
-    ap₂ (λ k (z : List ℕ). take k z ++ (U ++ drop 20 (drop k z))) at (s .are)
+    ap₂ (λ k (z : List ℕ). take k z ++ (U ++ drop width (drop k z))) at (s .are)
     ∙ ap (λ k. take (length W) (pad L W) ++ (U ++ drop k (drop (length W) (pad L W)))) (sym lv)
     ∙ pad-push L W U room
     ∙ ap (pad L) (sym (words-append xs y)) in

@@ -82,13 +82,13 @@ module _ (l : Sizes) (w : World) (M : Lent) (m : Machine) (f : Fuel) (rep : Rep 
   turn-outcome o =
       rep-of (rep .sizes) (rep .setup) (rep .stack) (rep .frames) (rep .chain) (rep .slots) (rep .savedStack) (rep .savedFrames) (rep .ready) (rep .finalize) (rep .finalizing) refl (rep .used) (rep .seq) (rep .fuel)
 
-  pub turn-used : (n : ℕ) → Rep l (withUsed n w) M (withCharged n m) f
-  turn-used n =
-      rep-of (rep .sizes) (rep .setup) (rep .stack) (rep .frames) (rep .chain) (rep .slots) (rep .savedStack) (rep .savedFrames) (rep .ready) (rep .finalize) (rep .finalizing) (rep .outcome) refl (rep .seq) (rep .fuel)
+  pub turn-used : (n k : ℕ) → n ≡ k → Rep l (withUsed k w) M (withCharged n m) f
+  turn-used n k e =
+      rep-of (rep .sizes) (rep .setup) (rep .stack) (rep .frames) (rep .chain) (rep .slots) (rep .savedStack) (rep .savedFrames) (rep .ready) (rep .finalize) (rep .finalizing) (rep .outcome) e (rep .seq) (rep .fuel)
 
-  pub turn-seq : (n : ℕ) → Rep l (withSeq n w) M (withNumber n m) f
-  turn-seq n =
-      rep-of (rep .sizes) (rep .setup) (rep .stack) (rep .frames) (rep .chain) (rep .slots) (rep .savedStack) (rep .savedFrames) (rep .ready) (rep .finalize) (rep .finalizing) (rep .outcome) (rep .used) refl (rep .fuel)
+  pub turn-seq : (n k : ℕ) → n ≡ k → Rep l (withSeq k w) M (withNumber n m) f
+  turn-seq n k e =
+      rep-of (rep .sizes) (rep .setup) (rep .stack) (rep .frames) (rep .chain) (rep .slots) (rep .savedStack) (rep .savedFrames) (rep .ready) (rep .finalize) (rep .finalizing) (rep .outcome) (rep .used) e (rep .fuel)
 
   pub turn-fuel : (g h : Fuel) → g ≡ h → Rep l (withFuel h w) M m g
   turn-fuel g h e =

@@ -8,6 +8,7 @@ use Rattle.lists.specs.Parts.{pad}
 use Rattle.heap.specs.Table.{Slot}
 use Rattle.heap.specs.Slot.{slotWords}
 use Rattle.heap.specs.declared.object.Object as H
+use Rattle.heap.specs.Heap.{TableFits}
 use Rattle.model.specs.Program.{Setup}
 use Rattle.model.specs.Object.{Object}
 use Rattle.model.specs.World.{World}
@@ -71,7 +72,7 @@ pub record Beside : Type 0 where
 pub record Slots (xs : List (Slot H.Object)) (ws : List ℕ) (n : ℕ) : Type 0 where
   pub are : ws ≡ pad (length ws) (words slotWords xs)
   pub count : n ≡ length xs
-  pub within : n * 20 ≤ length ws
+  pub within : TableFits ws n
 
 -- f of i, i + 1, .. : n of them
 abbrev pub tabled : {A : Type 0} → (ℕ → A) → ℕ → ℕ → List A

@@ -117,12 +117,18 @@ module _ {B : Type 0} (g : World → Made → After B) where
       (pick (lacksMemory u (bytes u f)) (g (numbered u) (Made.Refused Fault.OutOfMemory)) (g (made f closure args u) (Made.Word (newWord u)))))
   unfolding Coros.coroCreate alloc
   create-is f closure args u =
-      ap (λ row. andThen (pick (lacksMemory u (fitBytes u f)) (refuse u Fault.OutOfMemory) (pick (noSlot u || rowsFull u) (refuse u Fault.Full) (alloc (bytes u f) (Object.Coro (Table.newCore f closure (Table.filled n args)) (Table.newRest (u .seq) row n)) (numbered u)))) g) (lowest-is (u .setup .limits .rows) 0 (u .slots))
-      ∙ (ap (λ b. andThen (pick (lacksMemory u (fitBytes u f)) (refuse u Fault.OutOfMemory) (pick (noSlot u || b) (refuse u Fault.Full) (alloc (bytes u f) (Object.Coro (Table.newCore f closure (Table.filled n args)) (Table.newRest (u .seq) (lowest (u .setup .limits .rows) 0 (u .slots)) n)) (numbered u)))) g) (no-row u)
+      ap (λ row. tried (noSlot u || rowsFull u) (object row)) (lowest-is (u .setup .limits .rows) 0 (u .slots))
+      ∙ (ap (λ b. tried (noSlot u || b) (object (lowest (u .setup .limits .rows) 0 (u .slots)))) (no-row u)
       ∙ created-by (lacksMemory u (fitBytes u f)) (noSlot u) (noRow u) (lacksMemory u (bytes u f)) u (numbered u) (made f closure args u) (newWord u))
     where
       n : ℕ
       n = function u f .regs
+
+      object : ℕ → Object
+      object row = Object.Coro (Table.newCore f closure (Table.filled n args)) (Table.newRest (u .seq) row n)
+
+      tried : Bool → Object → After B
+      tried full o = andThen (pick (lacksMemory u (fitBytes u f)) (refuse u Fault.OutOfMemory) (pick full (refuse u Fault.Full) (alloc (bytes u f) o (numbered u)))) g
 
 arguments-is : (dst argc : ℕ) (u : World) → Exec.window dst argc u ≡ arguments u dst argc
 arguments-is dst argc u = rw (base-is (u .frames))

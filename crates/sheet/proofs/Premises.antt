@@ -35,6 +35,8 @@ premises =
       hand-over = refl;
       hand-over-refused = refl;
       cleanup-starts = refl;
+      sizes = refl;
+      val-first = refl;
       yield-5 = refl;
       yield-7 = refl;
     }

@@ -4,7 +4,8 @@ use Prim.Native.Nat.{ℕ, _-_, _^_}
 use mathlib.Core.Path.{_≡_}
 use mathlib.Core.Bool.{Bool, true, false, not, _&&_}
 use mathlib.Core.List.{List, [], _∷_}
-use lib.ListN.{take, drop}
+use lib.ListN.{length, take, drop}
+use lib.Dec.{eqb, leb}
 use Rattle.heap.specs.Coding.{inRange}
 use Rattle.heap.specs.declared.fault.Fault.{Fault}
 use Rattle.heap.specs.declared.heap.ResultKind.{ResultKind}
@@ -66,6 +67,12 @@ isHost (Driver.Resume dst) = false
 isHost (Driver.Iter has val iter) = false
 isHost Driver.Host = true
 isHost Driver.Finalize = false
+
+abbrev pub oneRegister : Driver → Bool
+oneRegister (Driver.Resume dst) = false
+oneRegister (Driver.Iter has val iter) = eqb has val
+oneRegister Driver.Host = false
+oneRegister Driver.Finalize = false
 
 -- the host goes on with it; it is handed over, and a charge starts its cleanup
 abbrev pub hosted : List Op → List Op
@@ -142,6 +149,9 @@ pub record Premises : Type 0 where
   pub hand-over : let w = run (yielded 1 []) in isCoroutine (found w c) && (suspended (state w c) && not (restOf (found w c) .finalized)) ≡ true
   pub hand-over-refused : let w = run (yielded 1 (Op.HandOver c ∷ [])) in let x = run (holding 1 []) in (suspended (state w c) && restOf (found w c) .finalized) && not (suspended (state x c)) ≡ true
   pub cleanup-starts : let w = run (yielded 1 (Op.HandOver c ∷ [])) in (not (isNil (w .frames)) && not (usedUp w)) && (searches w && closable (pcStored 4 w) c) ≡ true
-  -- Mistakes
+  -- Mistakes: a body that has its creation's registers; a loop with one register for both
+  pub sizes : let w = run (running 1 []) in let r = restOf (found w c) in (pays 8 (lie (0 ∷ 0 ∷ []) w) w && suspends (at 8 w))
+      && (isBody (topOf (w .frames) .cont) && (leb (length (drop (topOf (w .frames) .base) (w .stack))) (r .maxregs) && leb 1 (r .maxframes))) ≡ true
+  pub val-first : yieldsKv (holding 1 (Op.MakeIterator c ∷ Op.PutWord 1 d ∷ Op.IterNext 2 2 1 2 0 ∷ [])) 8 (λ z. not (closing z) && oneRegister (driver z)) ≡ true
   pub yield-5 : let w = run (begun 9 []) in pays 1 (lie (0 ∷ 0 ∷ 0 ∷ []) w) w && isNil (charged 1 w .chain) ≡ true
   pub yield-7 : let w = run (Runs.keyed (2 ^ 63 - 1)) in (pays 8 (lie (0 ∷ 0 ∷ []) w) w && not (isNil (charged 8 w .chain))) && not (inRange 63 (nextKey (charged 8 w))) ≡ true

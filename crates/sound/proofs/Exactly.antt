@@ -23,9 +23,9 @@ use Rattle.model.specs.World.{World}
 use Rattle.model.specs.Sound.{rowWords, savedSizes, savedSizesOk, unusedOk, sound}
 use Rattle.model.specs.declared.machine.Frame.{Frame}
 use Rattle.model.specs.declared.machine.Fuel.{Fuel}
-use Rattle.invariant.proofs.Tests.{no-false, and-left, and-right, both, picked}
-use Rattle.invariant.proofs.Stand.{chained}
-use Rattle.invariant.proofs.Sound.{sound→, Rules, rules}
+use Rattle.soundness.proofs.Tests.{no-false, and-left, and-right, both, picked}
+use Rattle.soundness.proofs.Stand.{chained}
+use Rattle.soundness.proofs.Sound.{sound→, Rules, rules}
 use Rattle.tables.specs.Layout.{frameWords, frameOf, activeWords, activeOf}
 use Rattle.tables.specs.Parts.{upward}
 use Rattle.tables.specs.Sizes.{setupWords, framesSize, savedStackSize, savedFramesSize}

@@ -19,7 +19,7 @@ use Rattle.heap.specs.Slot.{slotWords, slotOfWords}
 use Rattle.heap.specs.Heap.{slotsOf}
 use Rattle.heap.specs.declared.object.Object as H
 use Rattle.heap.proofs.Slots.{slot-back, length-slot}
-use Rattle.invariant.proofs.Tests.{no-false, both}
+use Rattle.soundness.proofs.Tests.{no-false, both}
 use Rattle.tables.specs.Parts.{Run, Piled, upward, piled, inRow, Rows}
 use Rattle.tables.proofs.Parts.{length-upward}
 use Rattle.tables.proofs.Decode.{piled-chunk}

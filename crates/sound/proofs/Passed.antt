@@ -10,7 +10,7 @@ use Rattle.heap.specs.Heap.{slotsOf}
 use Rattle.model.specs.Program.{Setup, setupOk}
 use Rattle.model.specs.Sound.{sound}
 use Rattle.model.specs.declared.machine.Fuel.{Fuel}
-use Rattle.invariant.proofs.Tests.{and-left, and-right, both}
+use Rattle.soundness.proofs.Tests.{and-left, and-right, both}
 use Rattle.tables.specs.Sizes.{setupWords, stackSize, framesSize, chainSize, savedStackSize, savedFramesSize, slotsSize, queueSize, setupSize}
 use Rattle.memory.specs.Memory.{Lent, Room}
 use Rattle.memory.specs.declared.machine.Machine.{Machine}

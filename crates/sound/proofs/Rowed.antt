@@ -22,7 +22,7 @@ use Rattle.model.specs.Program.{Setup}
 use Rattle.model.specs.Object.{Core, Rest, Object, Coroutine, Absent, Is, asCoro}
 use Rattle.model.specs.Rows.{heldBy, heldRows}
 use Rattle.model.specs.Sound.{rowWords, savedSizes, unusedIn, rowless}
-use Rattle.invariant.proofs.Tests.{no-false, and-left, and-right, picked}
+use Rattle.soundness.proofs.Tests.{no-false, and-left, and-right, picked}
 use Rattle.tables.specs.Layout.{frameWords, frameOf}
 use Rattle.tables.specs.Parts.{piled}
 use Rattle.tables.specs.Sizes.{framesSize}

@@ -15,7 +15,7 @@ use Rattle.model.specs.Sound.{liesUnder, driverLies, beside, matches}
 use Rattle.model.specs.declared.machine.Driver.{Driver}
 use Rattle.model.specs.declared.machine.Frame.{Frame}
 use Rattle.model.specs.declared.machine.Active.{Active}
-use Rattle.invariant.proofs.Tests.{no-false, and-left, and-right, both}
+use Rattle.soundness.proofs.Tests.{no-false, and-left, and-right, both}
 use Rattle.tables.specs.Layout.{driverCode, driverFirst, driverSecond, driverThird, driverOf, frameWords, frameOf, frameIn, activeWords, activeOf, activeIn}
 use Rattle.tables.specs.Parts.{piled}
 use Rattle.tables.proofs.Codes.{active-read}

@@ -17,7 +17,7 @@ use Rattle.lists.proofs.Tables.{words-at}
 use Rattle.heap.specs.declared.value.Opt.{Opt}
 use Rattle.model.specs.Lists.{each}
 use Rattle.model.specs.Program.{Func, Setup, funcOf, noFunc, between, limitsOk, costsOk, handlerOk, functionOk, hookOk, setupOk}
-use Rattle.invariant.proofs.Tests.{and-left, and-right, both, each-at, at-each}
+use Rattle.soundness.proofs.Tests.{and-left, and-right, both, each-at, at-each}
 use Rattle.tables.specs.Layout.{functionIn, functionWords, handlersFrom}
 use Rattle.tables.specs.Sizes.{hookWords, numbersWords, setupWords, limitsOf, costsOf, hookOf}
 use Rattle.tables.proofs.Codes.{length-function}

@@ -17,7 +17,7 @@ use Rattle.model.specs.Object.{Rest, Object, isFilled, Coroutine, Absent}
 use Rattle.model.specs.Object as MO
 use Rattle.model.specs.Sound.{framesOver, entryLast, framesOk, entryOk, floorsOk, driversOk, marked}
 use Rattle.model.specs.declared.machine.Fuel.{Fuel}
-use Rattle.invariant.proofs.Point.{coroIn}
+use Rattle.soundness.proofs.Point.{coroIn}
 use Rattle.tables.specs.Layout.{frameOf}
 use Rattle.tables.specs.Parts.{piled}
 use Rattle.memory.specs.Memory.{Lent}

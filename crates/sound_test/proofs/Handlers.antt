@@ -13,7 +13,7 @@ use Rattle.lists.proofs.Tests.{zeros-are, are-zeros, holds-at, holds-all}
 use Rattle.model.specs.Lists.{each}
 use Rattle.model.specs.Program.{Func, handlerOk, funcOf}
 use Rattle.model.specs.declared.program.Handler.{Handler}
-use Rattle.invariant.proofs.Tests.{each-at, at-each}
+use Rattle.soundness.proofs.Tests.{each-at, at-each}
 use Rattle.tables.specs.Layout.{handlerWords, handlerFrom, handlersFrom, handlersWords, functionWords, functionFrom}
 use Rattle.tables.proofs.Padded.{length-part}
 use Rattle.sound_test.specs.Setup.{handlersTest}

@@ -25,8 +25,8 @@ use Rattle.heap.specs.declared.object.Object.the-variants as O
 use Rattle.model.specs.Object.{Object, isFilled, Coroutine, Absent, Is}
 use Rattle.model.specs.Object as M
 use Rattle.model.specs.Heap.{objectAt}
-use Rattle.invariant.proofs.Tests.{no-false, each-at, at-each}
-use Rattle.invariant.proofs.Point.{coroIn, finds, word-of}
+use Rattle.soundness.proofs.Tests.{no-false, each-at, at-each}
+use Rattle.soundness.proofs.Point.{coroIn, finds, word-of}
 use Rattle.words.specs.Decode.{restOf}
 use Rattle.sound_test.specs.Queue.{byCoro, markOf, marksOk, QueueAsks, QueueFits}
 use Rattle.sound_test.proofs.Bools.{iff}

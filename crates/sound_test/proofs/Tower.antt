@@ -16,7 +16,7 @@ use Rattle.model.specs.Program.{Setup, func}
 use Rattle.model.specs.Frames.{isEntry, isCoro}
 use Rattle.model.specs.Sound.{basesOk, frameNames, contLies, contsLie, catchesLie, framesOver, entryLast, bodyLast}
 use Rattle.model.specs.declared.machine.Frame.{Frame}
-use Rattle.invariant.proofs.Tests.{and-left, and-right, both}
+use Rattle.soundness.proofs.Tests.{and-left, and-right, both}
 use Rattle.tables.specs.Layout.{contReg, contOf, frameWords, frameOf, frameIn}
 use Rattle.tables.specs.Parts.{piled}
 use Rattle.sound.specs.Words.{same, coded, restOk, framesHeld}

@@ -13,7 +13,7 @@ use Rattle.lists.specs.Tests.{allBelow, zeros}
 use Rattle.lists.proofs.Tests.{holds-at}
 use Rattle.model.specs.Program.{between, limitsOk, costsOk, handlerOk, func, funcOf, noFunc}
 use Rattle.model.specs.declared.program.Handler.{Handler}
-use Rattle.invariant.proofs.Tests.{and-left, and-right}
+use Rattle.soundness.proofs.Tests.{and-left, and-right}
 use Rattle.tables.specs.Layout.{handlerFrom, handlersFrom, functionIn}
 use Rattle.tables.specs.Sizes.{limitsOf, costsOf}
 use Rattle.memory.proofs.Tables.{rows-at}

@@ -17,7 +17,7 @@ use Rattle.heap.specs.Heap.{coroOf}
 use Rattle.heap.specs.declared.object.Object as H
 use Rattle.heap.specs.declared.object.Object.the-variants as O
 use Rattle.model.specs.Lists.{each, among, distinct}
-use Rattle.invariant.proofs.Tests.{both, each-at}
+use Rattle.soundness.proofs.Tests.{both, each-at}
 use Rattle.sound_test.specs.Queue.{byCoro, inSet}
 use Rattle.sound_test.proofs.Seen.{Told, among-slots}
 use Rattle.sound_test.proofs.Named.{word-named}

@@ -14,7 +14,7 @@ use Rattle.heap.specs.declared.object.CoroState.{CoroState}
 use Rattle.heap.specs.declared.object.CoroObj.{CoroObj}
 use Rattle.model.specs.Program.{Setup}
 use Rattle.memory.specs.declared.machine.Sizes.{Sizes}
-use Rattle.invariant.proofs.Tests.{and-left, and-right}
+use Rattle.soundness.proofs.Tests.{and-left, and-right}
 use Rattle.sound.specs.Words.{restOk}
 use Rattle.sound_words.specs.Saved.{sizesIn, framesIn, coroTest}
 use Rattle.sound_words.specs.Rows.{coroFine, coroRow}

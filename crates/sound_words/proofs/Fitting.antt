@@ -13,8 +13,8 @@ use Rattle.model.specs.Lists.{each}
 use Rattle.model.specs.Program.{Func, Setup, functionOk, handlerOk, setupOk}
 use Rattle.model.specs.Sound.{widest}
 use Rattle.model.specs.declared.machine.Fuel.{Fuel}
-use Rattle.invariant.proofs.Tests.{and-left, and-right}
-use Rattle.invariant.proofs.Sound.{facts}
+use Rattle.soundness.proofs.Tests.{and-left, and-right}
+use Rattle.soundness.proofs.Sound.{facts}
 use Rattle.tables.specs.Sizes.{setupWords, setupSize}
 use Rattle.memory.specs.Memory.{Lent, Room}
 use Rattle.memory.specs.declared.machine.Machine.{Machine}

@@ -23,7 +23,7 @@ use Rattle.heap.specs.declared.object.Object.the-variants as O
 use Rattle.model.specs.Lists.{among, distinct}
 use Rattle.model.specs.Program.{Setup}
 use Rattle.memory.specs.declared.machine.Sizes.{Sizes}
-use Rattle.invariant.proofs.Tests.{and-left, both, picked}
+use Rattle.soundness.proofs.Tests.{and-left, both, picked}
 use Rattle.sound.specs.Words.{restOk}
 use Rattle.sound_test.specs.Queue.{bitAt}
 use Rattle.sound_test.proofs.Bits.{no-bit}

@@ -21,7 +21,7 @@ use Rattle.model.specs.Object.{Core, Is, asCoro}
 use Rattle.model.specs.Frames.{topBase}
 use Rattle.model.specs.Sound.{rowWords, savedSizes, savedIn, rowless, bodyLast, framesOver}
 use Rattle.model.specs.declared.machine.Frame.{Frame}
-use Rattle.invariant.proofs.Tests.{no-false, and-left, and-right, both, or-left, or-right, negate}
+use Rattle.soundness.proofs.Tests.{no-false, and-left, and-right, both, or-left, or-right, negate}
 use Rattle.tables.specs.Layout.{frameWords, frameOf}
 use Rattle.tables.specs.Parts.{piled}
 use Rattle.tables.specs.Sizes.{framesSize}

@@ -13,7 +13,7 @@ use Rattle.model.specs.declared.machine.Stop.{Stop}
 use Rattle.memory.specs.Told.{told, outcomeIn}
 use Rattle.memory.specs.declared.machine.Told.{Told}
 use Rattle.sound.specs.Words.{outcomeHeld}
-use Rattle.invariant.proofs.Tests.{no-true, and-left, and-right}
+use Rattle.soundness.proofs.Tests.{no-true, and-left, and-right}
 use Rattle.sound_test.proofs.Bools.{fails, eqb-flip}
 use Rattle.sound_words.specs.Numbers.{outcomeTest}
 

@@ -20,7 +20,7 @@ use Rattle.model.specs.Program.{Setup}
 use Rattle.model.specs.Object.{Object, Coroutine, Absent, Is, asCoro}
 use Rattle.model.specs.Rows.{heldBy, heldRows}
 use Rattle.model.specs.Sound.{rowWords}
-use Rattle.invariant.proofs.Tests.{no-false, no-true, and-left, and-right, both, picked, at-each, among-all, among-each, or-left, or-right}
+use Rattle.soundness.proofs.Tests.{no-false, no-true, and-left, and-right, both, picked, at-each, among-all, among-each, or-left, or-right}
 use Rattle.tables.specs.Sizes.{framesSize, savedStackSize, savedFramesSize}
 use Rattle.memory.specs.Rows.{owns, savedBy, rowAt}
 use Rattle.memory.specs.Memory.{Lent}

@@ -18,9 +18,9 @@ use Rattle.model.specs.Program.{Setup}
 use Rattle.model.specs.Object.{Object, isFilled}
 use Rattle.model.specs.Object as MO
 use Rattle.model.specs.Sound.{rowWords, runs, objectRange, rowless}
-use Rattle.invariant.proofs.Tests.{no-false, and-left, and-right, both}
-use Rattle.invariant.proofs.Point.{coroIn}
-use Rattle.invariant.proofs.Slots.{SlotOk}
+use Rattle.soundness.proofs.Tests.{no-false, and-left, and-right, both}
+use Rattle.soundness.proofs.Point.{coroIn}
+use Rattle.soundness.proofs.Slots.{SlotOk}
 use Rattle.tables.specs.Sizes.{framesSize}
 use Rattle.memory.specs.Memory.{Lent}
 use Rattle.words.specs.Words.{sizesOf}

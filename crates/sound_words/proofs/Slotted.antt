@@ -22,7 +22,7 @@ use Rattle.heap.specs.declared.object.Object as H
 use Rattle.heap.specs.declared.object.Object.the-variants as O
 use Rattle.heap.proofs.Valid.{In, facts, slot-same}
 use Rattle.model.specs.Lists.{each}
-use Rattle.invariant.proofs.Tests.{and-left, and-right, both, each-at, at-each}
+use Rattle.soundness.proofs.Tests.{and-left, and-right, both, each-at, at-each}
 use Rattle.sound.specs.Words.{same}
 use Rattle.sound.proofs.Held.{same-true, true-same}
 use Rattle.sound_test.proofs.Bools.{iff}

@@ -15,7 +15,7 @@ use Rattle.model.specs.Frames.{topBase}
 use Rattle.model.specs.Sound.{liesUnder, framesOver}
 use Rattle.tables.specs.Layout.{frameOf}
 use Rattle.tables.specs.Parts.{piled}
-use Rattle.invariant.proofs.Tests.{no-false, and-right}
+use Rattle.soundness.proofs.Tests.{no-false, and-right}
 use Rattle.sound.specs.Words.{restOk, framesHeld}
 use Rattle.sound_test.specs.Frames.{savedFramesOk}
 use Rattle.sound_test.proofs.Conts.{under-near, under-far}

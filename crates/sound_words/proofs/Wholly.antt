@@ -23,11 +23,11 @@ use Rattle.model.specs.Object as MO
 use Rattle.model.specs.World.{World}
 use Rattle.model.specs.Sound.{rowWords, basesOk, frameNames, contsLie, catchesLie, framesOk, entryOk, floorsOk, driversOk, runs, marked, queueOk, fuelOk, outcomeRange, sound}
 use Rattle.model.specs.declared.machine.Fuel.{Fuel}
-use Rattle.invariant.proofs.Tests.{no-false, and-left, and-right, both, each-at, at-each}
-use Rattle.invariant.proofs.Point.{at, coroIn}
-use Rattle.invariant.proofs.Slots.{SlotOk}
-use Rattle.invariant.proofs.Stand.{stands}
-use Rattle.invariant.proofs.Sound.{Tower, Sound, Rules, rules, facts, sound→, →sound}
+use Rattle.soundness.proofs.Tests.{no-false, and-left, and-right, both, each-at, at-each}
+use Rattle.soundness.proofs.Point.{at, coroIn}
+use Rattle.soundness.proofs.Slots.{SlotOk}
+use Rattle.soundness.proofs.Stand.{stands}
+use Rattle.soundness.proofs.Sound.{Tower, Sound, Rules, rules, facts, sound→, →sound}
 use Rattle.tables.specs.Layout.{frameWords, frameOf}
 use Rattle.tables.specs.Sizes.{setupWords, savedStackSize, savedFramesSize}
 use Rattle.memory.specs.Told.{outcomeIn}

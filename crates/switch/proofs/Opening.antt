@@ -5,6 +5,7 @@ use Prim.Native.Nat.{ℕ, _*_, _≤_}
 use native.Mathlib.Omega.{arith}
 use lib.ListN.{length, getD}
 use Rattle.lists.specs.Parts.{pad}
+use Rattle.heap.specs.Heap.{TableFits}
 use Rattle.model.specs.World.{fresh}
 use Rattle.tables.specs.Sizes.{setupWords}
 use Rattle.memory.specs.Memory.{Lent, Room}
@@ -22,7 +23,7 @@ pub set-up-fits : (slots setup given : List ℕ) → 160 ≤ length slots → 11
 set-up-fits slots setup given h k e =
     let n : length given ≡ 119 = ap length e in
     let c : getD given 13 0 ≡ 3 = ap (λ (z : List ℕ). getD z 13 0) e in
-    record { numbers = omega arith; within = omega arith; objects = subst (λ z. z * 20 ≤ length slots) (sym c) (omega arith) }
+    record { numbers = omega arith; within = omega arith; objects = subst (λ z. TableFits slots z) (sym c) (omega arith) }
 
 -- slices of the same lengths have room
 pub room-same : (M M′ : Lent) → length (M′ .stack) ≡ length (M .stack) → length (M′ .frames) ≡ length (M .frames) → length (M′ .chain) ≡ length (M .chain)

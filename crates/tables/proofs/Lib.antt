@@ -11,4 +11,5 @@ pub mod Tops
 pub mod Switch
 pub mod Fits
 pub mod Setups
+pub mod Shifts
 pub mod Sounds

@@ -19,6 +19,9 @@ drop-zeros n m h = ap (drop n) (zeros-split n m h) ∙ drop-at (replicate n 0) (
 pub aside : (m n : ℕ) (ys zs : List ℕ) → n ≤ m → length zs ≡ n → ys ≡ zs → ys ++ drop n (replicate m 0) ≡ pad m zs
 aside m n ys zs h l e = rw (e, drop-zeros n m h, l)
 
+pub aside-part : (m n : ℕ) (ys zs : List ℕ) → length zs ≡ n → ys ≡ zs → take n (ys ++ drop n (replicate m 0)) ≡ zs
+aside-part m n ys zs l e = take-at ys (drop n (replicate m 0)) n (ap length e ∙ l) ∙ e
+
 -- ---- two runs, one after the other
 
 pub splice-splice : (xs ys zs : List ℕ) (at : ℕ) → at ≤ length xs
@@ -62,15 +65,3 @@ module _ (g : ℕ → ℕ) (at : ℕ) where
   pub length-rebase : (n : ℕ) (ws : List ℕ) → length (rebase g n at ws) ≡ length ws
   length-rebase zero ws = refl
   length-rebase (suc n) ws = length-set (rebase g n at ws) (at + n * 6 + 2) (g (getD ws (at + n * 6 + 2) 0)) ∙ length-rebase n ws
-
-  -- a base ahead is as it was
-  pub rebase-ahead : (n k : ℕ) (ws : List ℕ) → n ≤ k → getD (rebase g n at ws) (at + k * 6 + 2) 0 ≡ getD ws (at + k * 6 + 2) 0
-  rebase-ahead zero k ws h = refl
-  rebase-ahead (suc n) k ws h =
-      let other : at + k * 6 + 2 ≢ at + n * 6 + 2 = omega arith in
-      getD-set-other (rebase g n at ws) (at + n * 6 + 2) (at + k * 6 + 2) (g (getD ws (at + n * 6 + 2) 0)) 0 other ∙ rebase-ahead n k ws (omega arith)
-
-  pub rebase-more : (n : ℕ) (ws ws₀ : List ℕ) → ws ≡ rebase g n at ws₀ → set ws (at + n * 6 + 2) (g (getD ws (at + n * 6 + 2) 0)) ≡ rebase g (n + 1) at ws₀
-  rebase-more n ws ws₀ e =
-      ap₂ (λ (l : List ℕ) (v : ℕ). set l (at + n * 6 + 2) (g v)) e (ap (λ (l : List ℕ). getD l (at + n * 6 + 2) 0) e ∙ rebase-ahead n n ws₀ (omega arith))
-      ∙ ap (λ m. rebase g m at ws₀) (sym (add-one n))

@@ -26,18 +26,6 @@ getD-splice xs ys at i h k =
     ap (λ n. getD (splice xs at ys) (n + i) 0) (sym (length-take-le at xs h))
     ∙ getD-append-add (take at xs) (ys ++ D) i 0 ∙ List·getD-append ys D 0 i k
 
--- the base of the frame at place j of those that were moved
-moved-base : (dst src mid : List ℕ) (at from n j : ℕ) → at ≤ length dst → from + n * 6 ≤ length src → mid ≡ splice dst at (part from (n * 6) src) → j < n
-    → getD mid (at + j * 6 + 2) 0 ≡ getD src (from + j * 6 + 2) 0
-moved-base dst src mid at from n j h k e g =
-    let l : length (part from (n * 6) src) ≡ n * 6 = length-part from (n * 6) src k in
-    let i : at + j * 6 + 2 ≡ at + (j * 6 + 2) = omega arith in
-    let o : from + (j * 6 + 2) ≡ from + j * 6 + 2 = omega arith in
-    ap₂ (λ (z : List ℕ) (x : ℕ). getD z x 0) e i
-    ∙ getD-splice dst (part from (n * 6) src) at (j * 6 + 2) h (omega arith)
-    ∙ getD-part from (n * 6) src (j * 6 + 2) (omega arith)
-    ∙ ap (λ x. getD src x 0) o
-
 -- the frames gs above fs, with their bases changed
 pub rebased : (g : ℕ → ℕ) (fs gs : List Frame) (ws : List ℕ) (n m : ℕ) → Frames (gs ++ fs) ws (n + m) → n ≡ length fs → m ≡ length gs
     → Frames (map (moveBase g) gs ++ fs) (rebase g m (n * 6) ws) (n + m)
@@ -93,19 +81,19 @@ enters-stack stack saved stack′ saved′ height at n h m w xs ys rs r s q i e 
           (rows-empty id w rs saved r at ys [] q i [] refl);
     }
 
--- what the change of bases asks after the move
-pub enter-asks : (frames saved mid : List ℕ) (depth at n by : ℕ) → EnterFits frames saved depth at n by → length mid ≡ length frames
-    → mid ≡ splice frames (depth * 6) (part at (n * 6) saved) → RebaseFits mid (depth * 6) n 0 by
-enter-asks frames saved mid depth at n by f l e =
-    let inside = f .on-frames in
-    record {
-      inside = omega arith;
-      above = λ j k. zero-le;
-      fits = λ j k.
-          let o : at + j * 6 + 2 ≡ at + (j * 6 + 2) = omega arith in
-          let word = moved-base frames saved mid (depth * 6) at n j (omega arith) (f .in-saved) e k in
-          subst (λ x. x + by < 2 ^ 64) (sym (sub-zero (getD mid (depth * 6 + j * 6 + 2) 0) ∙ word ∙ ap (λ x. getD saved x 0) o)) (f .fits j k);
-    }
+-- what the move asks
+pub enter-asks : (frames saved : List ℕ) (depth at n by : ℕ) → EnterFits frames saved depth at n by → (depth * 6 + n * 6 ≤ length frames) × RebaseFits saved at n 0 by
+enter-asks frames saved depth at n by f =
+    let inside = f .on-frames in (
+      omega arith,
+      record {
+        inside = f .in-saved;
+        above = λ j k. zero-le;
+        fits = λ j k.
+            let o : at + (j * 6 + 2) ≡ at + j * 6 + 2 = omega arith in
+            subst (λ x. x + by < 2 ^ 64) (ap (λ x. getD saved x 0) o ∙ sym (sub-zero (getD saved (at + j * 6 + 2) 0))) (f .fits j k);
+      },
+    )
 
 pub enters-frames : (frames saved mid saved′ frames′ : List ℕ) (depth at n by : ℕ) → EnterFits frames saved depth at n by
     → Moved frames saved mid saved′ (depth * 6) at (n * 6) → frames′ ≡ rebase (between 0 by) n (depth * 6) mid
@@ -143,17 +131,18 @@ leaves-stack stack saved stack′ saved′ height base at h m w xs rs r s q i k 
           (rows-fill id w rs saved r at [] [] q i (drop base xs) refl (omega arith));
     }
 
-pub leave-asks : (frames saved mid : List ℕ) (depth floor by at : ℕ) → LeaveFits frames saved depth floor by at → ((i : ℕ) → getD mid i 0 < 2 ^ 64)
-    → length mid ≡ length saved → mid ≡ splice saved at (part (floor * 6) ((depth - floor) * 6) frames) → RebaseFits mid at (depth - floor) by 0
-leave-asks frames saved mid depth floor by at f small l e =
+pub leave-asks : (frames saved : List ℕ) (depth floor by at : ℕ) → LeaveFits frames saved depth floor by at → ((i : ℕ) → getD frames i 0 < 2 ^ 64)
+    → (at + (depth - floor) * 6 ≤ length saved) × RebaseFits frames (floor * 6) (depth - floor) by 0
+leave-asks frames saved depth floor by at f small =
     let u = f .under in
-    let on = f .on-frames in
-    let inside = f .in-saved in
-    record {
-      inside = omega arith;
-      above = λ j k. subst (λ x. by ≤ x) (sym (moved-base saved frames mid at (floor * 6) (depth - floor) j (omega arith) (omega arith) e k)) (f .above j k);
-      fits = λ j k. let s = small (at + j * 6 + 2) in omega arith;
-    }
+    let on = f .on-frames in (
+      f .in-saved,
+      record {
+        inside = omega arith;
+        above = f .above;
+        fits = λ j k. let s = small (floor * 6 + j * 6 + 2) in omega arith;
+      },
+    )
 
 pub leaves-frames : (frames saved mid saved′ frames′ : List ℕ) (depth floor by at : ℕ) → LeaveFits frames saved depth floor by at
     → Moved saved frames mid frames′ at (floor * 6) ((depth - floor) * 6) → saved′ ≡ rebase (between by 0) (depth - floor) at mid

@@ -2,8 +2,8 @@
 ghost use Prim.Native.Nat.{_+_, _-_, _*_, _≤_};
 ghost use lib.ListN.{length};
 ghost use Rattle.tables.specs.Does.{EntersStack, EntersFrames, EnterFits, LeavesStack, LeavesFrames, LeaveFits};
+use crate::runs::move_frames;
 use crate::runs::move_words;
-use crate::runs::rebase;
 
 // The n words of a row go on top of the stack.
 pub fn enter_stack(stack: &mut [u64], height: usize, saved: &mut [u64], at: usize, n: usize)
@@ -25,9 +25,7 @@ pub fn enter_frames(
     requires { ⌜ EnterFits (now frames) (now saved) depth at n by ⌝ }
     ensures { λ _. ⌜ EntersFrames (now (frames .entry)) (now (saved .entry)) (now (frames .exit)) (now (saved .exit)) depth at n by ⌝ }
 {
-    let top = depth * 6;
-    move_words(frames, top, saved, at, n * 6);
-    rebase(frames, top, n, 0, by);
+    move_frames(frames, depth * 6, saved, at, n, 0, by);
 }
 
 // The words from `base` up go to an empty row.
@@ -50,7 +48,5 @@ pub fn leave_frames(
     requires { ⌜ LeaveFits (now frames) (now saved) depth floor by at ⌝ }
     ensures { λ _. ⌜ LeavesFrames (now (frames .entry)) (now (saved .entry)) (now (frames .exit)) (now (saved .exit)) depth floor by at ⌝ }
 {
-    let n = depth - floor;
-    move_words(saved, at, frames, floor * 6, n * 6);
-    rebase(saved, at, n, by, 0);
+    move_frames(saved, at, frames, floor * 6, depth - floor, by, 0);
 }

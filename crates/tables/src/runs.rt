@@ -5,11 +5,28 @@ ghost use lib.ListN.{length, take, replicate};
 ghost use Rattle.lists.specs.Parts.{part, splice, pad};
 ghost use Rattle.tables.specs.Runs.{Moved, lowered, rebase, between, RebaseFits};
 
+// As `move_words`, by way of an array: compiled to one move and one clearing of memory, which pays from some eight words on.
+fn move_block(dst: &mut [u64], at: usize, src: &mut [u64], from: usize, n: usize)
+    requires { ⌜ (n ≤ 1024) × (at + n ≤ length (now dst)) × (from + n ≤ length (now src)) ⌝ }
+    ensures { λ _. ⌜ Moved (now (dst .entry)) (now (src .entry)) (now (dst .exit)) (now (src .exit)) at from n ⌝ }
+{
+    let mut room = [0u64; 1024];
+    lists::copy_words(&mut room[..n], &src[from..from + n]);
+    lists::copy_words(&mut dst[at..at + n], &room[..n]);
+    lists::clear_words(&mut src[from..from + n]);
+}
+
 // The n words of `src` from index `from` go to `dst` from index `at`, and become 0 in `src`.
 pub fn move_words(dst: &mut [u64], at: usize, src: &mut [u64], from: usize, n: usize)
     requires { ⌜ (at + n ≤ length (now dst)) × (from + n ≤ length (now src)) ⌝ }
     ensures { λ _. ⌜ Moved (now (dst .entry)) (now (src .entry)) (now (dst .exit)) (now (src .exit)) at from n ⌝ }
 {
+    if 8 < n {
+        if n <= 1024 {
+            move_block(dst, at, src, from, n);
+            return;
+        }
+    }
     lists::take_words(&mut dst[at..at + n], &mut src[from..from + n]);
 }
 
@@ -55,15 +72,48 @@ pub fn move_down(s: &mut [u64], from: usize, n: usize)
     }
 }
 
-// The bases of the n frames from word `at` on: less by `old`, and more by `new`.
-pub fn rebase(ws: &mut [u64], at: usize, n: usize, old: u64, new: u64)
-    requires { ⌜ RebaseFits (now ws) at n old new ⌝ }
-    ensures { λ _. ⌜ now (ws .exit) ≡ rebase (between old new) n at (now (ws .entry)) ⌝ }
+// The frame at word k of `src` goes to word i of `dst`, its base less by `old` and more by `new`; its words become 0 in `src`.
+fn move_frame(dst: &mut [u64], i: usize, src: &mut [u64], k: usize, old: u64, new: u64)
+    requires { ⌜ (i + 6 ≤ length (now dst)) × RebaseFits (now src) k 1 old new ⌝ }
+    ensures { λ _. ⌜ (now (dst .exit) ≡ rebase (between old new) 1 i (splice (now (dst .entry)) i (part k 6 (now (src .entry))))) × (now (src .exit) ≡ splice (now (src .entry)) k (replicate 6 0)) ⌝ }
 {
-    let mut i = 0;
-    while i < n {
-        let k = at + i * 6 + 2;
-        ws[k] = ws[k] - old + new;
-        i += 1;
+    let func = src[k];
+    let pc = src[k + 1];
+    let base = src[k + 2];
+    let closure = src[k + 3];
+    let cont = src[k + 4];
+    let reg = src[k + 5];
+    src[k] = 0;
+    src[k + 1] = 0;
+    src[k + 2] = 0;
+    src[k + 3] = 0;
+    src[k + 4] = 0;
+    src[k + 5] = 0;
+    dst[i] = func;
+    dst[i + 1] = pc;
+    dst[i + 2] = base - old + new;
+    dst[i + 3] = closure;
+    dst[i + 4] = cont;
+    dst[i + 5] = reg;
+}
+
+// The n frames from word `from` of `src` go to `dst` from word `at`, their bases less by `old` and more by `new`; their words become 0
+// in `src`.
+pub fn move_frames(
+    dst: &mut [u64],
+    at: usize,
+    src: &mut [u64],
+    from: usize,
+    n: usize,
+    old: u64,
+    new: u64,
+)
+    requires { ⌜ (at + n * 6 ≤ length (now dst)) × RebaseFits (now src) from n old new ⌝ }
+    ensures { λ _. ⌜ (now (dst .exit) ≡ rebase (between old new) n at (splice (now (dst .entry)) at (part from (n * 6) (now (src .entry))))) × (now (src .exit) ≡ splice (now (src .entry)) from (replicate (n * 6) 0)) ⌝ }
+{
+    let mut j = 0;
+    while j < n {
+        move_frame(dst, at + j * 6, src, from + j * 6, old, new);
+        j += 1;
     }
 }

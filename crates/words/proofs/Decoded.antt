@@ -17,8 +17,8 @@ use Rattle.model.specs.Program.{Setup, func, funcOf, noFunc, functionOk, handle
 use Rattle.model.specs.World.{World}
 use Rattle.model.specs.Sound.{sound}
 use Rattle.model.specs.declared.machine.Fuel.{Fuel}
-use Rattle.invariant.proofs.Tests.{and-left, and-right, each-at, no-false}
-use Rattle.invariant.proofs.Sound.{Sound, sound→, facts}
+use Rattle.soundness.proofs.Tests.{and-left, and-right, each-at, no-false}
+use Rattle.soundness.proofs.Sound.{Sound, sound→, facts}
 use Rattle.tables.specs.Layout.{functionIn}
 use Rattle.tables.specs.Parts.{Run}
 use Rattle.tables.specs.Sizes.{setupWords}

@@ -10,7 +10,7 @@ use Rattle.lists.specs.Chunks.{words}
 use Rattle.lists.specs.Parts.{pad}
 use Rattle.lists.proofs.Tables.{length-words}
 use Rattle.heap.specs.Table.{Slot}
-use Rattle.heap.specs.Slot.{slotWords, slotOfWords}
+use Rattle.heap.specs.Slot.{slotWords, slotOfWords, width}
 use Rattle.heap.specs.declared.value.Opt.{Opt}
 use Rattle.heap.specs.declared.object.Object as H
 use Rattle.heap.proofs.Slots.{length-slot}
@@ -18,10 +18,10 @@ use Rattle.model.specs.Program.{Setup, noFunc, setupOk}
 use Rattle.model.specs.World.{World, fresh}
 use Rattle.model.specs.Sound.{rowWords, sound}
 use Rattle.model.specs.Example.{example}
-use Rattle.invariant.proofs.Tests.{no-false}
-use Rattle.invariant.proofs.Stand.{chained}
-use Rattle.invariant.proofs.Sound.{Sound, sound→, →sound}
-use Rattle.invariant.proofs.Kept.{fresh-sound}
+use Rattle.soundness.proofs.Tests.{no-false}
+use Rattle.soundness.proofs.Stand.{chained}
+use Rattle.soundness.proofs.Sound.{Sound, sound→, →sound}
+use Rattle.soundness.proofs.Fresh.{fresh-sound}
 use Rattle.tables.specs.Layout.{frameWords, activeWords, functionWords}
 use Rattle.tables.specs.Parts.{upward, inRow}
 use Rattle.tables.specs.Sizes.{setupWords, stackSize, framesSize, chainSize, savedStackSize, savedFramesSize, slotsSize, queueSize, setupSize}
@@ -54,9 +54,9 @@ pub length-setup : (s : Setup) → length (setupWords s) ≡ setupSize s
 length-setup s = numbers-long s (s .hook) refl ∙ ap (λ n. 14 + n) (length-words 35 functionWords (λ ws. noFunc) length-function (s .functions))
 
 -- slots in words
-slots-of : (cap : ℕ) (xs : List (Slot H.Object)) (ws : List ℕ) (n : ℕ) → ws ≡ pad cap (words slotWords xs) → n ≡ length xs → n * 20 ≤ cap → Slots xs ws n
+slots-of : (cap : ℕ) (xs : List (Slot H.Object)) (ws : List ℕ) (n : ℕ) → ws ≡ pad cap (words slotWords xs) → n ≡ length xs → n * width ≤ cap → Slots xs ws n
 slots-of cap xs ws n e c h =
-    let u : length (words slotWords xs) ≡ length xs * 20 = length-words 20 slotWords slotOfWords length-slot xs in
+    let u : length (words slotWords xs) ≡ length xs * width = length-words width slotWords slotOfWords length-slot xs in
     let l : length ws ≡ cap = ap length e ∙ length-pad cap (words slotWords xs) (omega arith) in
     record { are = e ∙ ap (λ k. pad k (words slotWords xs)) (sym l); count = c; within = omega arith }
 

@@ -18,9 +18,9 @@ use Rattle.model.specs.Object.{Core, Rest, Object, Is, asCoro}
 use Rattle.model.specs.Rows.{heldRows}
 use Rattle.model.specs.Sound.{rowWords, bodyLast, framesOver, waits, savedIn}
 use Rattle.model.specs.declared.machine.Frame.{Frame}
-use Rattle.invariant.proofs.Tests.{no-false, no-true, and-left, and-right, among-each}
-use Rattle.invariant.proofs.Point.{at}
-use Rattle.invariant.proofs.Slots.{ObjectOk}
+use Rattle.soundness.proofs.Tests.{no-false, no-true, and-left, and-right, among-each}
+use Rattle.soundness.proofs.Point.{at}
+use Rattle.soundness.proofs.Slots.{ObjectOk}
 use Rattle.tables.specs.Layout.{frameWords, frameOf}
 use Rattle.tables.specs.Parts.{SavedStack, SavedFrames, piled}
 use Rattle.tables.specs.Sizes.{framesSize}

@@ -14,7 +14,9 @@ use oracle::generate::{sequence, Rng, Sequence};
 use oracle::plain::Plain;
 use oracle::recorded::replay;
 use oracle::sound::sound;
-use oracle::world::{Active, Cont, Coro, Costs, Driver, Frame, Func, Object, Setup, Slot, State, Stop, World};
+use oracle::world::{
+    Active, Cont, Coro, Costs, Driver, Frame, Func, Object, Setup, Slot, State, Stop, World,
+};
 
 use super::fuzz::{rng, LENGTH};
 use super::trace::damage;
@@ -24,8 +26,22 @@ const EACH: usize = 10;
 const STATES: usize = 50;
 
 const FAULTS: [&str; 17] = [
-    "None", "NullReference", "TypeError", "InvalidCoroState", "StackOverflow", "CannotSuspend", "CloseIgnored",
-    "ArithOverflow", "NoScheduler", "OutOfMemory", "OutOfFuel", "Unsound", "NoFrame", "BadOperand", "Full", "Busy",
+    "None",
+    "NullReference",
+    "TypeError",
+    "InvalidCoroState",
+    "StackOverflow",
+    "CannotSuspend",
+    "CloseIgnored",
+    "ArithOverflow",
+    "NoScheduler",
+    "OutOfMemory",
+    "OutOfFuel",
+    "Unsound",
+    "NoFrame",
+    "BadOperand",
+    "Full",
+    "Busy",
     "GrantTooLarge",
 ];
 
@@ -102,7 +118,11 @@ fn cont(k: Cont) -> String {
 fn frame(f: &Frame) -> String {
     format!(
         "record {{ func = {}; pc = {}; base = {}; closure = {}; cont = {} }}",
-        f.func, f.pc, f.base, f.closure, cont(f.cont)
+        f.func,
+        f.pc,
+        f.base,
+        f.closure,
+        cont(f.cont)
     )
 }
 
@@ -141,7 +161,9 @@ fn slot(s: &Slot) -> String {
         Object::Func(f) => format!("(Object.Func {f})"),
         Object::Int(n) => format!("(Object.Int {})", *n as u64),
         Object::Iter { src, done, key } => format!("(Object.Iter {src} {done} {})", option(*key)),
-        Object::Error { number, func, pc, payload } => format!("(Object.Error {number} {func} {pc} {payload})"),
+        Object::Error { number, func, pc, payload } => {
+            format!("(Object.Error {number} {func} {pc} {payload})")
+        }
         Object::Coro(c) => coro(c),
     };
     format!("(slot {} {object})", s.tag)
@@ -163,7 +185,10 @@ fn outcome(o: Option<Stop>) -> String {
 
 fn func(f: &Func) -> String {
     let handlers = list(&f.handlers, |h| {
-        format!("record {{ start = {}; end = {}; target = {}; catch = {} }}", h.start, h.end, h.target, h.catch)
+        format!(
+            "record {{ start = {}; end = {}; target = {}; catch = {} }}",
+            h.start, h.end, h.target, h.catch
+        )
     });
     format!("record {{ regs = {}; params = {}; handlers = {handlers} }}", f.nregs, f.nparams)
 }
@@ -228,19 +253,25 @@ fn world(w: &World, old: Option<(&str, &World)>) -> String {
 fn claim(k: &Call, name: &str, out: &str) -> (String, &'static str) {
     let op = match k {
         Call::CoroNew { pc, dst, func, argc } => format!("Op.CoroNew {pc} {dst} {func} {argc}"),
-        Call::CoroNewIndirect { pc, dst, callee, argc } => format!("Op.CoroNewIndirect {pc} {dst} {callee} {argc}"),
+        Call::CoroNewIndirect { pc, dst, callee, argc } => {
+            format!("Op.CoroNewIndirect {pc} {dst} {callee} {argc}")
+        }
         Call::Spawn { pc, dst, callee, argc } => format!("Op.Spawn {pc} {dst} {callee} {argc}"),
         Call::Yield { pc, dst, src } => format!("Op.Yield {pc} {dst} {src}"),
         Call::YieldKv { pc, dst, src, key } => format!("Op.YieldKv {pc} {dst} {src} {key}"),
         Call::Await { pc, dst, src } => format!("Op.Await {pc} {dst} {src}"),
         Call::Resume { pc, dst, coro, src } => format!("Op.Resume {pc} {dst} {coro} {src}"),
-        Call::ResumeThrow { pc, dst, coro, src } => format!("Op.ResumeThrow {pc} {dst} {coro} {src}"),
+        Call::ResumeThrow { pc, dst, coro, src } => {
+            format!("Op.ResumeThrow {pc} {dst} {coro} {src}")
+        }
         Call::CoroClose { pc, dst, coro, src } => format!("Op.CoroClose {pc} {dst} {coro} {src}"),
         Call::CoroStatus { pc, dst, coro } => format!("Op.CoroStatus {pc} {dst} {coro}"),
         Call::CoroCurrent { pc, dst } => format!("Op.CoroCurrent {pc} {dst}"),
         Call::CoroKey { pc, dst, coro } => format!("Op.CoroKey {pc} {dst} {coro}"),
         Call::CoroResult { pc, dst, coro } => format!("Op.CoroResult {pc} {dst} {coro}"),
-        Call::IterNext { pc, has, iter, val, src } => format!("Op.IterNext {pc} {has} {iter} {val} {src}"),
+        Call::IterNext { pc, has, iter, val, src } => {
+            format!("Op.IterNext {pc} {has} {iter} {val} {src}")
+        }
         Call::Finish { kind, word } => {
             let kind = match kind {
                 Kind::None => "None",
@@ -250,12 +281,16 @@ fn claim(k: &Call, name: &str, out: &str) -> (String, &'static str) {
             };
             format!("Op.Finish ResultKind.{kind} {word}")
         }
-        Call::Unwind { fault: n, word, pc } => format!("Op.Unwind {} {}", fault(*n, *word), option_pc(*pc)),
+        Call::Unwind { fault: n, word, pc } => {
+            format!("Op.Unwind {} {}", fault(*n, *word), option_pc(*pc))
+        }
         Call::SpawnTask { word } => format!("Op.SpawnTask {word}"),
         Call::SetUp(s) => return (format!("step {name} (SetUp ({})) ≡ {out}", setup(s)), "refl"),
         Call::HostCall { func } => format!("Op.HostCall {func}"),
         Call::HostEntry { coro, word } => format!("Op.HostEntry {coro} {word}"),
-        Call::FunctionCall { pc, func, cont: k } => format!("Op.FunctionCall {pc} {func} {}", cont(*k)),
+        Call::FunctionCall { pc, func, cont: k } => {
+            format!("Op.FunctionCall {pc} {func} {}", cont(*k))
+        }
         Call::PutWord { reg, word } => format!("Op.PutWord {reg} {word}"),
         Call::MakeIterator { src } => format!("Op.MakeIterator {src}"),
         Call::TakeOutcome => "Op.TakeOutcome".into(),
@@ -343,7 +378,13 @@ fn theorems(text: &mut String, original: &mut dyn Engine, i: usize, s: &Sequence
 }
 
 /// Sequences, the first of number `first`, as files of a crate's specs, a line of `root` for each file.
-fn traces(original: &mut dyn Engine, all: &[Sequence], first: usize, dir: &Path, root: &mut String) -> Result<(), String> {
+fn traces(
+    original: &mut dyn Engine,
+    all: &[Sequence],
+    first: usize,
+    dir: &Path,
+    root: &mut String,
+) -> Result<(), String> {
     let mut calls = 0;
     for (file, part) in all.chunks(EACH).enumerate() {
         let mut text = String::from(HEAD);
@@ -374,7 +415,12 @@ fn choose(costs: Costs, seed: u64, tries: u64, most: usize) -> Vec<(World, bool)
             all.push((w, verdict.is_ok()));
         }
     }
-    println!("antt: {} damaged states, {} of them sound, {} rules broken", all.len(), most.min(met["sound"]), met.len() - 1);
+    println!(
+        "antt: {} damaged states, {} of them sound, {} rules broken",
+        all.len(),
+        most.min(met["sound"]),
+        met.len() - 1
+    );
     all
 }
 
@@ -383,18 +429,32 @@ fn edges() -> Vec<(World, bool)> {
     let broken = BROKEN.iter().map(|&c| (changed(c), false));
     let all: Vec<(World, bool)> = broken.chain(KEPT.iter().map(|&c| (changed(c), true))).collect();
     let rules: BTreeSet<&str> = BROKEN.iter().map(|&(rule, _)| rule).collect();
-    println!("antt: {} states at edges, {} of them sound, {} rules broken", all.len(), KEPT.len(), rules.len());
+    println!(
+        "antt: {} states at edges, {} of them sound, {} rules broken",
+        all.len(),
+        KEPT.len(),
+        rules.len()
+    );
     all
 }
 
 /// States, and whether each is sound, in files of a name: theorem I of state `wI`, with the letter before it.
-fn states(all: &[(World, bool)], name: &str, letter: char, dir: &Path, root: &mut String) -> Result<(), String> {
+fn states(
+    all: &[(World, bool)],
+    name: &str,
+    letter: char,
+    dir: &Path,
+    root: &mut String,
+) -> Result<(), String> {
     for (file, part) in all.chunks(STATES).enumerate() {
         let mut text = String::from(HEAD);
         for (i, (w, good)) in part.iter().enumerate() {
             let i = STATES * file + i;
             let _ = writeln!(text, "\nabbrev w{i} : World\nw{i} = {}", world(w, None));
-            let _ = writeln!(text, "{letter}{i} : sound w{i} ≡ {good}\nunfolding computed\n{letter}{i} = refl");
+            let _ = writeln!(
+                text,
+                "{letter}{i} : sound w{i} ≡ {good}\nunfolding computed\n{letter}{i} = refl"
+            );
         }
         save(dir, &format!("{name}{file}"), &text, root)?;
     }
@@ -421,7 +481,13 @@ pub(crate) fn damaged(costs: Costs, seed: u64, n: u64, dir: &Path) -> Result<(),
 }
 
 /// `n` random sequences of `seed`.
-pub(crate) fn random(original: &mut dyn Engine, costs: Costs, seed: u64, n: u64, dir: &Path) -> Result<(), String> {
+pub(crate) fn random(
+    original: &mut dyn Engine,
+    costs: Costs,
+    seed: u64,
+    n: u64,
+    dir: &Path,
+) -> Result<(), String> {
     let mut root = String::new();
     let all: Vec<Sequence> = (0..n).map(|i| sequence(&mut rng(seed, i), costs, LENGTH)).collect();
     traces(original, &all, 0, dir, &mut root)?;
@@ -429,14 +495,22 @@ pub(crate) fn random(original: &mut dyn Engine, costs: Costs, seed: u64, n: u64,
 }
 
 /// The recorded sequences `from` up to `to`; the engine must give what is recorded.
-pub(crate) fn recorded(engine: &mut dyn Engine, from: usize, to: usize, dir: &Path) -> Result<(), String> {
+pub(crate) fn recorded(
+    engine: &mut dyn Engine,
+    from: usize,
+    to: usize,
+    dir: &Path,
+) -> Result<(), String> {
     let mut root = String::new();
     let all = super::recorded::load()?;
     let (from, to) = (from.min(all.len()), to.min(all.len()));
     let mut part = Vec::new();
     for (i, r) in all.into_iter().enumerate().take(to).skip(from) {
         replay(engine, &r).map_err(|j| format!("sequence {i} differs at its call {j}"))?;
-        part.push(Sequence { start: r.start, calls: r.lines.into_iter().map(|l| l.call).collect() });
+        part.push(Sequence {
+            start: r.start,
+            calls: r.lines.into_iter().map(|l| l.call).collect(),
+        });
     }
     traces(engine, &part, from, dir, &mut root)?;
     finish(dir, &root)

@@ -1,4 +1,4 @@
-//! The original's speed and that of the proved functions, where they are
+//! The original's speed and the library's, where they are
 //! linked, and that of other coroutines where they are installed.
 
 use std::path::PathBuf;
@@ -26,8 +26,8 @@ pub(crate) fn bench() -> Result<(), String> {
         println!("\noriginal\n\n{HEAD}");
         crate::driver::bench::alone(costs);
     }
-    #[cfg(not(proved))]
-    println!("\nskipped: the proved functions are not linked (BVM_LIB is unset)");
+    #[cfg(not(library))]
+    println!("\nskipped: the library is not linked (BVM_LIB is unset)");
     for (binary, program) in OTHERS {
         let version = ["-V", "-v", "--version"].iter().find_map(|flag| {
             let out = Command::new(binary).arg(flag).output().ok()?;

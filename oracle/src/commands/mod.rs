@@ -4,7 +4,7 @@ mod antt;
 mod bench;
 mod examples;
 mod fuzz;
-mod kept;
+mod library;
 mod recorded;
 mod run;
 mod trace;
@@ -20,7 +20,11 @@ const USAGE: &str = "usage: oracle COMMAND
   run               calls from the standard input: answers and states
   fuzz SEED N       N random sequences on the original and the second engine
   coverage SEED N   the same, with a table of calls by answers
-  kept SEED N       N random sequences on the original and the proved `bvm_kept`
+  library SEED N    N random sequences on the original and through the library's three ways
+  wild SEED N       the same, with operands at and beyond every limit
+  carried SEED N    the same through `bvm_kept`, with one word changed on the way
+  bad SEED N        N lent memories that hold anything, through the library
+  set-ups SEED N    N set-ups, good and bad, through the library
   trace SEED N      N random sequences as text
   damaged SEED N    N states with one number changed, and whether each is sound
   examples          the paper's P1 to P8
@@ -32,7 +36,7 @@ const USAGE: &str = "usage: oracle COMMAND
   antt SEED N DIR   N random sequences as theorems about the definitions
   antt-recorded FROM TO DIR   recorded sequences as theorems
   antt-damaged SEED N DIR     states at each rule's edge as theorems, and damaged ones, each rule broken up to N times
-  bench             the original's speed, the proved functions' beside it, and others'";
+  bench             the original's speed, the library's beside it, and others'";
 
 #[cfg(not(original))]
 const SKIPPED: &str = "skipped: the original's sources are not here (BVM_SRC is unset)";
@@ -47,7 +51,11 @@ pub(crate) fn run(args: &[&str]) -> Result<(), String> {
         ["run"] => with_original(run::run),
         ["fuzz", seed, n] => seeded(seed, n, fuzz::fuzz),
         ["coverage", seed, n] => seeded(seed, n, fuzz::coverage),
-        ["kept", seed, n] => seeded(seed, n, kept::kept),
+        ["library", seed, n] => seeded(seed, n, library::library),
+        ["wild", seed, n] => seeded(seed, n, library::wild),
+        ["carried", seed, n] => seeded(seed, n, library::carried),
+        ["bad", seed, n] => library::bad(COSTS, number(seed)?, number(n)?),
+        ["set-ups", seed, n] => library::set_ups(COSTS, number(seed)?, number(n)?),
         ["trace", seed, n] => seeded(seed, n, trace::trace),
         ["damaged", seed, n] => {
             trace::damaged(COSTS, number(seed)?, number(n)?);

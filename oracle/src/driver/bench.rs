@@ -109,9 +109,9 @@ fn calls(b: &mut Bench) {
     }
 }
 
-/// The proved functions beside the original: the same answers, stacks and
+/// The library beside the original: the same answers, stacks and
 /// numbers of frames in the round trips that are measured.
-#[cfg(all(test, proved))]
+#[cfg(all(test, library))]
 mod tests {
     use super::*;
     use crate::bench::Ours;
@@ -142,12 +142,12 @@ mod tests {
                 for r in 0..4 {
                     let word = 1000 * sent + r;
                     a.stack[base + r as usize] = word;
-                    b.0.put(r as u16, word);
+                    b.put(r, word);
                 }
                 agree(&a, &b);
                 both(|e| e.suspend(), &mut a, &mut b);
                 a.stack[2] = 7 + sent;
-                b.0.put(2, 7 + sent);
+                b.put(2, 7 + sent);
                 both(|e| e.resume(), &mut a, &mut b);
             }
         }

@@ -5,12 +5,14 @@ mod limits;
 mod machines;
 mod rng;
 mod setups;
+mod wild;
 mod words;
 
 pub use calls::next_calls;
 pub use machines::machine;
 pub use rng::Rng;
 pub use setups::{bad_setup, setup, Profile};
+pub use wild::{wild, wild_call};
 
 use crate::call::Call;
 use crate::engine::Engine;

@@ -1,6 +1,6 @@
 -- `entered_as` meets its contract. Assumes nothing.
 use mathlib.Core.Path.{sym, ap}
-use Rattle.added.specs.Call.{enteredAs}
+use Rattle.model.specs.Added.{hostArrive}
 use borrow.Author.Needs.{needs}
 use Rattle.added.proofs.entry.entered_as.Statement.{statement}
 use Rattle.added.proofs.entry.entered_as.Tie as tie
@@ -15,16 +15,13 @@ enum-known-a : tie.Need-enum-known-a
 enum-known-a c = search needs
 
 returns : tie.Need-returns
-returns c =
-    sym (ap enteredAs (c .enum-told .given .1))
+returns c = λ v w. sym (ap (λ x. hostArrive v w x .answer) (c .enum-told .given .1))
 
 returns-2 : tie.Need-returns-2
-returns-2 c =
-    sym (ap enteredAs (c .enum-told2 .given .1))
+returns-2 c = λ v w. sym (ap (λ x. hostArrive v w x .answer) (c .enum-told2 .given .1))
 
 returns-3 : tie.Need-returns-3
-returns-3 c =
-    sym (ap enteredAs (c .before .a .given .1))
+returns-3 c = λ v w. sym (ap (λ x. hostArrive v w x .answer) (c .before .a .given .1))
 
 pub entered-as-spec : {M : Type 1} → statement M
 entered-as-spec =

@@ -1,6 +1,6 @@
 -- `made_as` meets its contract. Assumes nothing.
 use mathlib.Core.Path.{sym, ap}
-use Rattle.added.specs.Call.{madeAs}
+use Rattle.model.specs.Added.{answerMade}
 use borrow.Author.Needs.{needs}
 use Rattle.added.proofs.iterator.made_as.Statement.{statement}
 use Rattle.added.proofs.iterator.made_as.Tie as tie
@@ -12,12 +12,10 @@ enum-known-a-2 : tie.Need-enum-known-a-2
 enum-known-a-2 c = search needs
 
 returns : tie.Need-returns
-returns c =
-    sym (ap madeAs (c .before .a .given .1))
+returns c = λ w. sym (ap (λ x. answerMade w x .answer) (c .before .a .given .1))
 
 returns-2 : tie.Need-returns-2
-returns-2 c =
-    sym (ap madeAs (c .before .a2 .given .1))
+returns-2 c = λ w. sym (ap (λ x. answerMade w x .answer) (c .before .a2 .given .1))
 
 pub made-as-spec : {M : Type 1} → statement M
 made-as-spec = tie.close (tie.spec enum-known-a enum-known-a-2 returns returns-2)

@@ -1,4 +1,5 @@
 -- `look` meets its contract: nothing without a frame, else from its base to the end. Assumes nothing.
+use mathlib.Core.Path.{_∙_}
 use Rattle.memory.specs.Memory.{onFrames}
 use Rattle.added.proofs.Looking.{none-base, none-end, none-seen, some-base, some-end, seen}
 use Prim.Native.Nat.{_≤_}
@@ -9,7 +10,7 @@ use Rattle.added.proofs.look.look.Tie as tie
 
 returns : tie.Need-returns
 returns c =
-    let start = c .before .before in
+    let start = c .before .before .before in
     λ l w b rep. let M = onFrames (start .args .frames .now) (b .words) in
     record {
       start = none-base l w M (start .args .m) (b .fuel) rep (c .if1 .taken);
@@ -17,33 +18,24 @@ returns c =
       part = none-seen l w M (start .args .m) (b .fuel) rep (c .if1 .taken);
     }
 
-sub-start : tie.Need-sub-start
-sub-start c = search needs
+sub-base-at : tie.Need-sub-base-at
+sub-base-at c = search needs
 
-mul-start : tie.Need-mul-start
-mul-start c = search needs
-
-add-start : tie.Need-add-start
-add-start c = search needs
-
-mul-start-2 : tie.Need-mul-start-2
-mul-start-2 c = search needs
-
-shared-slice-read-start : tie.Need-shared-slice-read-start
-shared-slice-read-start c = search needs
+base-at-requires : tie.Need-base-at-requires
+base-at-requires c κs = search needs
 
 returns-2 : tie.Need-returns-2
 returns-2 c =
-    let at-if1 = c .before .before in let start = at-if1 .before .before in let h = at-if1 .if1 .left in
+    let at-if1 = c .before .before in let start = at-if1 .before .before .before in let h = at-if1 .if1 .left in
     let some : 1 ≤ start .args .m .depth = omega arith in
     λ l w b rep. let M = onFrames (start .args .frames .now) (b .words) in
     record {
-      start = some-base l w M (start .args .m) (b .fuel) rep some;
+      start = c .base-at .ensures ∙ some-base l w M (start .args .m) (b .fuel) rep some;
       end = some-end l w M (start .args .m) (b .fuel) rep some;
-      part = seen l w M (start .args .m) (b .fuel) rep some;
+      part = seen l w M (start .args .m) (b .fuel) rep _ (c .base-at .ensures) some;
     }
 
 pub look-spec : {M : Type 1} → statement M
 look-spec =
     tie.close
-    (tie.spec returns sub-start mul-start add-start mul-start-2 shared-slice-read-start returns-2)
+    (tie.spec returns sub-base-at base-at-requires returns-2)

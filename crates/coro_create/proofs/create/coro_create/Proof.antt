@@ -3,7 +3,7 @@ use mathlib.Core.Path.{_≡_, sym, ap, _∙_}
 use Prim.Native.Nat.{ℕ, _*_, _≤_}
 use native.Mathlib.Omega.{arith}
 use lib.ListN.{length}
-use Rattle.heap.specs.Heap.{slotsOf}
+use Rattle.heap.specs.Heap.{slotsOf, TableFits}
 use Rattle.memory.specs.Memory.{Lent, Beside}
 use Rattle.machine.specs.Numbers.{heapOf}
 use Rattle.memory.specs.Lendings.{making, plain}
@@ -28,7 +28,7 @@ mem c b = making (c .args .slots .now) (c .args .saved-stack .now) (c .args .sav
 few : (c : tie.Start) → c .args .n ≤ length (c .args .args)
 few c = let l : length (c .args .args) ≡ 255 = search needs in let k = c .pre .few in omega arith
 
-room : (c : tie.Start) → c .args .l .slots * 20 ≤ length (c .args .slots .now)
+room : (c : tie.Start) → TableFits (c .args .slots .now) (c .args .l .slots)
 room c = let z = c .pre .ok .rep .sizes .slots in let r = c .pre .ok .room .slots in omega arith
 
 -- the row that was found

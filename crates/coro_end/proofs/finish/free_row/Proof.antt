@@ -1,6 +1,6 @@
 -- `free_row` meets its contract, whether the coroutine is finished or not. Assumes nothing.
 use mathlib.Core.Path.{refl, sym, _∙_}
-use Rattle.invariant.proofs.Tests.{no-true}
+use Rattle.soundness.proofs.Tests.{no-true}
 use borrow.Author.Needs.{needs}
 use Rattle.coro_end.proofs.finish.free_row.Statement.{statement}
 use Rattle.coro_end.proofs.finish.free_row.Tie as tie

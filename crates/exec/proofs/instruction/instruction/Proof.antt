@@ -1,15 +1,15 @@
 -- `instruction` meets the definition: its gate, its charge, its arm. Assumes nothing.
-use mathlib.Core.Path.{refl, sym, _∙_}
+use mathlib.Core.Path.{refl, sym, ap, _∙_}
 use Prim.Native.Nat.{_≤_}
 use native.Mathlib.Omega.{arith}
 use lib.ListN.{getD}
 use borrow.Author.Tests.{not-true, not-false}
 use Rattle.model.specs.Cleanup.{charge}
-use Rattle.model.specs.Calls.{table}
 use Rattle.model.specs.declared.call.OptPc.{OptPc}
 use Rattle.memory.specs.Memory.{Lent, Beside, onFinalize, onSetup}
 use Rattle.memory.specs.Lendings.{plain}
 use Rattle.coro_clean.proofs.Charged.{charged-sound, narrow-pc}
+use Rattle.exec.specs.Operands.{operandsOf}
 use Rattle.exec.specs.Instruction.{gating}
 use Rattle.exec.proofs.Gated.{no-frames, some-frames, numbered, answered, no-frame, bad-operand, spent, closed, done, charge-ok, arm-fits}
 use borrow.Author.Needs.{needs}
@@ -24,7 +24,7 @@ returns : tie.Need-returns
 returns c =
     let start = c .before .before .before .before .before .before .before .before .before .before in
     let a = start .args in
-    λ w b rep snd. no-frame (a .l) (mem start b) (a .m) (a .fuel) w (table (a .op)) (no-frames (w .frames) (a .frames .now) (a .m .depth) (rep .frames) (c .if1 .taken)) rep
+    λ pc t arm q w b rep snd. no-frame (a .l) (mem start b) (a .m) (a .fuel) w pc (t w) arm (no-frames (w .frames) (a .frames .now) (a .m .depth) (rep .frames) (c .if1 .taken)) rep
 
 sub-base-at : tie.Need-sub-base-at
 sub-base-at c =
@@ -53,11 +53,11 @@ returns-2 c =
     let at-passes = c .before in let at-base-at = at-passes .before .before in let at-if1 = at-base-at .before .before .before in
     let start = at-if1 .before .before .before .before .before .before .before .before .before .before in
     let a = start .args in
-    λ w b rep snd.
+    λ pc t arm q w b rep snd.
     let some : 1 ≤ a .m .depth = (let h = at-if1 .if1 .left in omega arith) in
     let N = numbered (a .l) w (mem start b) (a .m) (a .fuel) (getD (a .setup .now) 13 0) (at-base-at .base-at .result) rep some refl (at-base-at .base-at .ensures) in
-    bad-operand (a .l) (mem start b) (a .m) (a .fuel) w (table (a .op)) (some-frames (w .frames) (a .frames .now) (a .m .depth) (rep .frames) some)
-    (sym (at-passes .passes .ensures w N) ∙ not-true _ (c .if2 .taken)) rep
+    bad-operand (a .l) (mem start b) (a .m) (a .fuel) w pc (t w) arm (some-frames (w .frames) (a .frames .now) (a .m .depth) (rep .frames) some)
+    (ap (λ x. operandsOf x w) (sym q) ∙ sym (at-passes .passes .ensures w N) ∙ not-true _ (c .if2 .taken)) rep
 
 pc-of-requires : tie.Need-pc-of-requires
 pc-of-requires c κs = search needs
@@ -158,11 +158,11 @@ returns-3 c =
     let at-passes = at-if2 .before in let at-base-at = at-passes .before .before in let at-if1 = at-base-at .before .before .before in
     let start = at-if1 .before .before .before .before .before .before .before .before .before .before in
     let a = start .args in
-    λ w b rep snd.
+    λ pc t arm q w b rep snd.
     let some : 1 ≤ a .m .depth = (let h = at-if1 .if1 .left in omega arith) in
     let N = numbered (a .l) w (mem start b) (a .m) (a .fuel) (getD (a .setup .now) 13 0) (at-base-at .base-at .result) rep some refl (at-base-at .base-at .ensures) in
-    spent (a .l) _ _ _ w (table (a .op)) (some-frames (w .frames) (a .frames .now) (a .m .depth) (rep .frames) some) (sym (at-passes .passes .ensures w N) ∙ not-false _ (at-if2 .if2 .left))
-    (at-pc-of .pc-of .result) (at-pc-of .pc-of .ensures .is)
+    spent (a .l) _ _ _ w pc (t w) arm (some-frames (w .frames) (a .frames .now) (a .m .depth) (rep .frames) some) (ap (λ x. operandsOf x w) (sym q) ∙ sym (at-passes .passes .ensures w N) ∙ not-false _ (at-if2 .if2 .left))
+    (at-pc-of .pc-of .result) (at-pc-of .pc-of .ensures .is pc t arm q)
     (answered (a .l) _ _ _ (charge (OptPc.Some (at-pc-of .pc-of .result)) w) (at-charge .charge .result .answer) _ (c .enum-told .given .1)
     (at-charge .charge .ensures w (record { words = onSetup (a .setup .now) (b .words); fuel = b .fuel }) rep snd))
 
@@ -209,11 +209,11 @@ returns-4 c =
     let at-passes = at-if2 .before in let at-base-at = at-passes .before .before in let at-if1 = at-base-at .before .before .before in
     let start = at-if1 .before .before .before .before .before .before .before .before .before .before in
     let a = start .args in
-    λ w b rep snd.
+    λ pc t arm q w b rep snd.
     let some : 1 ≤ a .m .depth = (let h = at-if1 .if1 .left in omega arith) in
     let N = numbered (a .l) w (mem start b) (a .m) (a .fuel) (getD (a .setup .now) 13 0) (at-base-at .base-at .result) rep some refl (at-base-at .base-at .ensures) in
-    closed (a .l) _ _ _ w (table (a .op)) (some-frames (w .frames) (a .frames .now) (a .m .depth) (rep .frames) some) (sym (at-passes .passes .ensures w N) ∙ not-false _ (at-if2 .if2 .left))
-    (at-pc-of .pc-of .result) (at-pc-of .pc-of .ensures .is) (at-a .a .given .0 .0)
+    closed (a .l) _ _ _ w pc (t w) arm (some-frames (w .frames) (a .frames .now) (a .m .depth) (rep .frames) some) (ap (λ x. operandsOf x w) (sym q) ∙ sym (at-passes .passes .ensures w N) ∙ not-false _ (at-if2 .if2 .left))
+    (at-pc-of .pc-of .result) (at-pc-of .pc-of .ensures .is pc t arm q) (at-a .a .given .0 .0)
     (answered (a .l) _ _ _ (charge (OptPc.Some (at-pc-of .pc-of .result)) w) (at-charge .charge .result .answer) _ (at-a .a .given .1)
     (at-charge .charge .ensures w (record { words = onSetup (a .setup .now) (b .words); fuel = b .fuel }) rep snd))
 
@@ -274,13 +274,13 @@ returns-5 c =
     let at-passes = at-if2 .before in let at-base-at = at-passes .before .before in let at-if1 = at-base-at .before .before .before in
     let start = at-if1 .before .before .before .before .before .before .before .before .before .before in
     let a = start .args in
-    λ w b rep snd.
+    λ pc t arm q w b rep snd.
     let some : 1 ≤ a .m .depth = (let h = at-if1 .if1 .left in omega arith) in
     let N = numbered (a .l) w (mem start b) (a .m) (a .fuel) (getD (a .setup .now) 13 0) (at-base-at .base-at .result) rep some refl (at-base-at .base-at .ensures) in
     let paid = at-charge .charge .ensures w (record { words = onSetup (a .setup .now) (b .words); fuel = b .fuel }) rep snd in
-    done (a .l) _ _ _ w (table (a .op)) (some-frames (w .frames) (a .frames .now) (a .m .depth) (rep .frames) some) (sym (at-passes .passes .ensures w N) ∙ not-false _ (at-if2 .if2 .left))
-    (at-pc-of .pc-of .result) (at-pc-of .pc-of .ensures .is) (at-a2 .a2 .given .0 .0) (at-body .body .result .step) (c .answer-of .result) (sym (at-a2 .a2 .given .1) ∙ paid .answer)
-    (at-body .body .ensures (charge (OptPc.Some (at-pc-of .pc-of .result)) w .world) (record { words = onFinalize (at-charge .charge .last .1 .1 .1 .1 .1 .1 .0) (b .words); fuel = b .fuel }) (paid .world)
+    done (a .l) _ _ _ w pc (t w) arm (some-frames (w .frames) (a .frames .now) (a .m .depth) (rep .frames) some) (ap (λ x. operandsOf x w) (sym q) ∙ sym (at-passes .passes .ensures w N) ∙ not-false _ (at-if2 .if2 .left))
+    (at-pc-of .pc-of .result) (at-pc-of .pc-of .ensures .is pc t arm q) (at-a2 .a2 .given .0 .0) (at-body .body .result .step) (c .answer-of .result) (sym (at-a2 .a2 .given .1) ∙ paid .answer)
+    (at-body .body .ensures pc t arm q (charge (OptPc.Some (at-pc-of .pc-of .result)) w .world) (record { words = onFinalize (at-charge .charge .last .1 .1 .1 .1 .1 .1 .0) (b .words); fuel = b .fuel }) (paid .world)
     (charged-sound (OptPc.Some (at-pc-of .pc-of .result)) w (narrow-pc _ (at-pc-of .pc-of .ensures .narrow)) snd)) (c .answer-of .ensures)
 
 pub instruction-spec : {M : Type 1} → statement M

@@ -1,6 +1,6 @@
 -- `cont_in` meets its contract, by the continuation. Assumes nothing.
 use mathlib.Core.Path.{sym, ap, _∙_}
-use Rattle.exec.specs.Operands.{contAt}
+use Rattle.model.specs.Added.{contAllowed}
 use borrow.Author.Needs.{needs}
 use Rattle.exec.proofs.operands.cont_in.Statement.{statement}
 use Rattle.exec.proofs.operands.cont_in.Tie as tie
@@ -33,22 +33,22 @@ enum-told-3 : tie.Need-enum-told-3
 enum-told-3 c = search needs
 
 returns : tie.Need-returns
-returns c = search needs
+returns c = λ w b. sym (ap (contAllowed w) (c .enum-told .given .1))
 
 returns-2 : tie.Need-returns-2
-returns-2 c = let start = c .before .before .before .before in c .in-frame .ensures ∙ sym (ap (contAt (start .args .base) (start .args .height)) (c .before .before .k .given .1))
+returns-2 c = λ w b. c .in-frame .ensures w b ∙ sym (ap (contAllowed w) (c .before .before .k .given .1))
 
 returns-3 : tie.Need-returns-3
-returns-3 c = let start = c .before .before .before .before in c .in-frame2 .ensures ∙ sym (ap (contAt (start .args .base) (start .args .height)) (c .before .before .k2 .given .1))
+returns-3 c = λ w b. c .in-frame2 .ensures w b ∙ sym (ap (contAllowed w) (c .before .before .k2 .given .1))
 
 returns-4 : tie.Need-returns-4
-returns-4 c = let start = c .before .before .before .before in c .in-frame3 .ensures ∙ sym (ap (contAt (start .args .base) (start .args .height)) (c .before .before .k3 .given .1))
+returns-4 c = λ w b. c .in-frame3 .ensures w b ∙ sym (ap (contAllowed w) (c .before .before .k3 .given .1))
 
 returns-5 : tie.Need-returns-5
-returns-5 c = search needs
+returns-5 c = λ w b. sym (ap (contAllowed w) (c .enum-told2 .given .1))
 
 returns-6 : tie.Need-returns-6
-returns-6 c = search needs
+returns-6 c = λ w b. sym (ap (contAllowed w) (c .enum-told3 .given .1))
 
 pub cont-in-spec : {M : Type 1} → statement M
 cont-in-spec =

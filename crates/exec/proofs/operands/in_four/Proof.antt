@@ -1,4 +1,5 @@
 -- `in_four` meets its contract. Assumes nothing.
+use Rattle.exec.proofs.Passing.{and-at}
 use borrow.Author.Needs.{needs}
 use Rattle.exec.proofs.operands.in_four.Statement.{statement}
 use Rattle.exec.proofs.operands.in_four.Tie as tie
@@ -13,7 +14,7 @@ both-requires : tie.Need-both-requires
 both-requires c κs = search needs
 
 returns : tie.Need-returns
-returns c = cc
+returns c = λ w k. and-at (c .both .ensures) (c .before .before .in-frame .ensures w k) (c .before .in-three .ensures w k)
 
 pub in-four-spec : {M : Type 1} → statement M
 in-four-spec = tie.close (tie.spec in-frame-requires in-three-requires both-requires returns)

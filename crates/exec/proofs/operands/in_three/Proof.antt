@@ -1,4 +1,5 @@
 -- `in_three` meets its contract. Assumes nothing.
+use Rattle.exec.proofs.Passing.{and-at}
 use borrow.Author.Needs.{needs}
 use Rattle.exec.proofs.operands.in_three.Statement.{statement}
 use Rattle.exec.proofs.operands.in_three.Tie as tie
@@ -13,7 +14,7 @@ both-requires : tie.Need-both-requires
 both-requires c κs = search needs
 
 returns : tie.Need-returns
-returns c = cc
+returns c = λ w k. and-at (c .both .ensures) (c .before .before .in-frame .ensures w k) (c .before .in-two .ensures w k)
 
 pub in-three-spec : {M : Type 1} → statement M
 in-three-spec = tie.close (tie.spec in-frame-requires in-two-requires both-requires returns)

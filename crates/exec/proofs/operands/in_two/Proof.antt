@@ -1,4 +1,6 @@
 -- `in_two` meets its contract. Assumes nothing.
+use mathlib.Core.Path.{refl}
+use Rattle.exec.proofs.Passing.{and-at}
 use borrow.Author.Needs.{needs}
 use Rattle.exec.proofs.operands.in_two.Statement.{statement}
 use Rattle.exec.proofs.operands.in_two.Tie as tie
@@ -16,7 +18,7 @@ both-requires-2 : tie.Need-both-requires-2
 both-requires-2 c κs = search needs
 
 returns : tie.Need-returns
-returns c = cc
+returns c = λ w k. and-at (c .both2 .ensures) (c .before .before .before .in-frame .ensures w k) (and-at (c .before .both .ensures) (c .before .before .in-frame2 .ensures w k) refl)
 
 pub in-two-spec : {M : Type 1} → statement M
 in-two-spec =

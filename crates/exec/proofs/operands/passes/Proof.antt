@@ -3,7 +3,7 @@ use mathlib.Core.Path.{refl, sym, ap, _∙_}
 use mathlib.Core.List.{[], _∷_}
 use Rattle.model.specs.Calls.{table}
 use Rattle.exec.specs.Operands.{operandsOf}
-use Rattle.exec.proofs.Passing.{and-at, frame-at, frames-at, window-at, function-at, cont-at, no-operands}
+use Rattle.exec.proofs.Passing.{and-at, function-at, no-operands}
 use borrow.Author.Needs.{needs}
 use Rattle.exec.proofs.operands.passes.Statement.{statement}
 use Rattle.exec.proofs.operands.passes.Tie as tie
@@ -158,89 +158,86 @@ both-requires-7 c κs = search needs
 returns : tie.Need-returns
 returns c =
     let start = c .before .before .before .before .before .before .before .before in let arm = c .before .before .before .before .before .before in let a = start .args in let g = arm .op .given .0 in
-    λ w k. and-at (c .both2 .ensures) (and-at (c .before .before .both .ensures) (c .before .before .before .before .in-frame .ensures ∙ frame-at w (a .functions) (a .base) (a .height) k (g
-    .1 .0)) (c .before .before .before .window-in .ensures ∙ window-at w (a .functions) (a .base) (a .height) k (g .1 .0) (g .1 .1 .1 .0))) (c .before .is-function .ensures ∙ function-at
-    w (a .functions) (a .base) (a .height) k (g .1 .1 .0))
+    λ w k. and-at (c .both2 .ensures) (and-at (c .before .before .both .ensures) (c .before .before .before .before .in-frame .ensures w (k .based)) (c .before .before .before .window-in .ensures w (k .based)))
+    (c .before .is-function .ensures ∙ function-at w (a .functions) (a .base) (a .height) k (g .1 .1 .0))
     ∙ sym (ap (λ o. operandsOf (table o) w) (arm .op .given .1))
 
 returns-2 : tie.Need-returns-2
 returns-2 c =
-    let start = c .before .before .before .before .before .before in let arm = c .before .before .before .before in let a = start .args in let g = arm .op2 .given .0 in
-    λ w k. and-at (c .both3 .ensures) (c .before .before .in-two .ensures ∙ frames-at w (a .functions) (a .base) (a .height) k (g .1 .0 ∷ g .1 .1 .0 ∷ [])) (c .before .window-in2 .ensures ∙
-    window-at w (a .functions) (a .base) (a .height) k (g .1 .0) (g .1 .1 .1 .0))
+    let arm = c .before .before .before .before in
+    λ w k. and-at (c .both3 .ensures) (c .before .before .in-two .ensures w (k .based)) (c .before .window-in2 .ensures w (k .based))
     ∙ sym (ap (λ o. operandsOf (table o) w) (arm .op2 .given .1))
 
 returns-3 : tie.Need-returns-3
 returns-3 c =
-    let start = c .before .before .before .before .before .before in let arm = c .before .before .before .before in let a = start .args in let g = arm .op3 .given .0 in
-    λ w k. and-at (c .both4 .ensures) (c .before .before .in-two2 .ensures ∙ frames-at w (a .functions) (a .base) (a .height) k (g .1 .0 ∷ g .1 .1 .0 ∷ [])) (c .before .window-in3 .ensures ∙
-    window-at w (a .functions) (a .base) (a .height) k (g .1 .0) (g .1 .1 .1 .0))
+    let arm = c .before .before .before .before in
+    λ w k. and-at (c .both4 .ensures) (c .before .before .in-two2 .ensures w (k .based)) (c .before .window-in3 .ensures w (k .based))
     ∙ sym (ap (λ o. operandsOf (table o) w) (arm .op3 .given .1))
 
 returns-4 : tie.Need-returns-4
 returns-4 c =
-    let start = c .before .before .before .before in let arm = c .before .before in let a = start .args in let g = arm .op4 .given .0 in
-    λ w k. c .in-two3 .ensures ∙ frames-at w (a .functions) (a .base) (a .height) k (g .1 .0 ∷ g .1 .1 .0 ∷ [])
+    let arm = c .before .before in
+    λ w k. c .in-two3 .ensures w (k .based)
     ∙ sym (ap (λ o. operandsOf (table o) w) (arm .op4 .given .1))
 
 returns-5 : tie.Need-returns-5
 returns-5 c =
-    let start = c .before .before .before .before in let arm = c .before .before in let a = start .args in let g = arm .op5 .given .0 in
-    λ w k. c .in-three .ensures ∙ frames-at w (a .functions) (a .base) (a .height) k (g .1 .0 ∷ g .1 .1 .0 ∷ g .1 .1 .1 .0 ∷ [])
+    let arm = c .before .before in
+    λ w k. c .in-three .ensures w (k .based)
     ∙ sym (ap (λ o. operandsOf (table o) w) (arm .op5 .given .1))
 
 returns-6 : tie.Need-returns-6
 returns-6 c =
-    let start = c .before .before .before .before in let arm = c .before .before in let a = start .args in let g = arm .op6 .given .0 in
-    λ w k. c .in-two4 .ensures ∙ frames-at w (a .functions) (a .base) (a .height) k (g .1 .0 ∷ g .1 .1 .0 ∷ [])
+    let arm = c .before .before in
+    λ w k. c .in-two4 .ensures w (k .based)
     ∙ sym (ap (λ o. operandsOf (table o) w) (arm .op6 .given .1))
 
 returns-7 : tie.Need-returns-7
 returns-7 c =
-    let start = c .before .before .before .before in let arm = c .before .before in let a = start .args in let g = arm .op7 .given .0 in
-    λ w k. c .in-three2 .ensures ∙ frames-at w (a .functions) (a .base) (a .height) k (g .1 .0 ∷ g .1 .1 .0 ∷ g .1 .1 .1 .0 ∷ [])
+    let arm = c .before .before in
+    λ w k. c .in-three2 .ensures w (k .based)
     ∙ sym (ap (λ o. operandsOf (table o) w) (arm .op7 .given .1))
 
 returns-8 : tie.Need-returns-8
 returns-8 c =
-    let start = c .before .before .before .before in let arm = c .before .before in let a = start .args in let g = arm .op8 .given .0 in
-    λ w k. c .in-three3 .ensures ∙ frames-at w (a .functions) (a .base) (a .height) k (g .1 .0 ∷ g .1 .1 .0 ∷ g .1 .1 .1 .0 ∷ [])
+    let arm = c .before .before in
+    λ w k. c .in-three3 .ensures w (k .based)
     ∙ sym (ap (λ o. operandsOf (table o) w) (arm .op8 .given .1))
 
 returns-9 : tie.Need-returns-9
 returns-9 c =
-    let start = c .before .before .before .before in let arm = c .before .before in let a = start .args in let g = arm .op9 .given .0 in
-    λ w k. c .in-three4 .ensures ∙ frames-at w (a .functions) (a .base) (a .height) k (g .1 .0 ∷ g .1 .1 .0 ∷ g .1 .1 .1 .0 ∷ [])
+    let arm = c .before .before in
+    λ w k. c .in-three4 .ensures w (k .based)
     ∙ sym (ap (λ o. operandsOf (table o) w) (arm .op9 .given .1))
 
 returns-10 : tie.Need-returns-10
 returns-10 c =
-    let start = c .before .before .before .before in let arm = c .before .before in let a = start .args in let g = arm .op10 .given .0 in
-    λ w k. c .in-two5 .ensures ∙ frames-at w (a .functions) (a .base) (a .height) k (g .1 .0 ∷ g .1 .1 .0 ∷ [])
+    let arm = c .before .before in
+    λ w k. c .in-two5 .ensures w (k .based)
     ∙ sym (ap (λ o. operandsOf (table o) w) (arm .op10 .given .1))
 
 returns-11 : tie.Need-returns-11
 returns-11 c =
-    let start = c .before .before .before .before .before in let arm = c .before .before .before in let a = start .args in let g = arm .op11 .given .0 in
-    λ w k. and-at (c .both5 .ensures) (c .before .in-frame2 .ensures ∙ frame-at w (a .functions) (a .base) (a .height) k (g .1 .0)) refl
+    let arm = c .before .before .before in
+    λ w k. and-at (c .both5 .ensures) (c .before .in-frame2 .ensures w (k .based)) refl
     ∙ sym (ap (λ o. operandsOf (table o) w) (arm .op11 .given .1))
 
 returns-12 : tie.Need-returns-12
 returns-12 c =
-    let start = c .before .before .before .before in let arm = c .before .before in let a = start .args in let g = arm .op12 .given .0 in
-    λ w k. c .in-two6 .ensures ∙ frames-at w (a .functions) (a .base) (a .height) k (g .1 .0 ∷ g .1 .1 .0 ∷ [])
+    let arm = c .before .before in
+    λ w k. c .in-two6 .ensures w (k .based)
     ∙ sym (ap (λ o. operandsOf (table o) w) (arm .op12 .given .1))
 
 returns-13 : tie.Need-returns-13
 returns-13 c =
-    let start = c .before .before .before .before in let arm = c .before .before in let a = start .args in let g = arm .op13 .given .0 in
-    λ w k. c .in-two7 .ensures ∙ frames-at w (a .functions) (a .base) (a .height) k (g .1 .0 ∷ g .1 .1 .0 ∷ [])
+    let arm = c .before .before in
+    λ w k. c .in-two7 .ensures w (k .based)
     ∙ sym (ap (λ o. operandsOf (table o) w) (arm .op13 .given .1))
 
 returns-14 : tie.Need-returns-14
 returns-14 c =
-    let start = c .before .before .before .before in let arm = c .before .before in let a = start .args in let g = arm .op14 .given .0 in
-    λ w k. c .in-four .ensures ∙ frames-at w (a .functions) (a .base) (a .height) k (g .1 .0 ∷ g .1 .1 .0 ∷ g .1 .1 .1 .0 ∷ g .1 .1 .1 .1 .0 ∷ [])
+    let arm = c .before .before in
+    λ w k. c .in-four .ensures w (k .based)
     ∙ sym (ap (λ o. operandsOf (table o) w) (arm .op14 .given .1))
 
 returns-15 : tie.Need-returns-15
@@ -252,14 +249,14 @@ returns-15 c =
 returns-16 : tie.Need-returns-16
 returns-16 c =
     let start = c .before .before .before .before .before .before in let arm = c .before .before .before .before in let a = start .args in let g = arm .op16 .given .0 in
-    λ w k. and-at (c .both6 .ensures) (c .before .before .is-function3 .ensures ∙ function-at w (a .functions) (a .base) (a .height) k (g .1 .0)) (c .before .cont-in .ensures ∙ cont-at w (a
-    .functions) (a .base) (a .height) k (g .1 .1 .0))
+    λ w k. and-at (c .both6 .ensures) (c .before .before .is-function3 .ensures ∙ function-at w (a .functions) (a .base) (a .height) k (g .1 .0))
+    (c .before .cont-in .ensures w (k .based))
     ∙ sym (ap (λ o. operandsOf (table o) w) (arm .op16 .given .1))
 
 returns-17 : tie.Need-returns-17
 returns-17 c =
-    let start = c .before .before .before .before .before in let arm = c .before .before .before in let a = start .args in let g = arm .op17 .given .0 in
-    λ w k. and-at (c .both7 .ensures) (c .before .in-frame3 .ensures ∙ frame-at w (a .functions) (a .base) (a .height) k (g .0)) refl
+    let arm = c .before .before .before in
+    λ w k. and-at (c .both7 .ensures) (c .before .in-frame3 .ensures w (k .based)) refl
     ∙ sym (ap (λ o. operandsOf (table o) w) (arm .op17 .given .1))
 
 returns-18 : tie.Need-returns-18

@@ -1,5 +1,5 @@
 -- `window_in` meets its contract. Assumes nothing.
-use Rattle.exec.proofs.Passing.{window-below, window-above}
+use Rattle.exec.proofs.Passing.{under-below, under-above}
 use borrow.Author.Needs.{needs}
 use Rattle.exec.proofs.operands.window_in.Statement.{statement}
 use Rattle.exec.proofs.operands.window_in.Tie as tie
@@ -14,10 +14,10 @@ sub-result : tie.Need-sub-result
 sub-result c = search needs
 
 returns : tie.Need-returns
-returns c = let a = c .before .args in window-below (a .base) (a .height) (a .dst) (a .argc) (c .if1 .taken)
+returns c = let a = c .before .args in λ w k. under-below w (a .base) (a .height) k (a .dst) (a .argc) (c .if1 .taken)
 
 returns-2 : tie.Need-returns-2
-returns-2 c = window-above (c .before .args .base) (c .before .args .height) (c .before .args .dst) (c .before .args .argc) (c .if1 .left)
+returns-2 c = let a = c .before .args in λ w k. under-above w (a .base) (a .height) k (a .dst) (a .argc) (c .if1 .left)
 
 pub window-in-spec : {M : Type 1} → statement M
 window-in-spec = tie.close (tie.spec add-result add-result-2 sub-result returns returns-2)

@@ -3,7 +3,9 @@ use Rattle.model.specs.Exec.{indirect}
 use Rattle.memory.specs.Memory.{Lent, Beside}
 use Rattle.memory.specs.Lendings.{topMaking, plain}
 use Rattle.exec_make.proofs.Newly.{still-fits}
-use Rattle.exec_make.proofs.Callee.{indirect-good, indirect-met}
+use Rattle.soundness.proofs.Made.{indirect-good}
+use Rattle.coro_create.proofs.Setting.{known}
+use Rattle.exec_make.proofs.Callee.{indirect-met}
 use borrow.Author.Needs.{needs}
 use Rattle.exec_make.proofs.indirect.coro_new_indirect.Statement.{statement}
 use Rattle.exec_make.proofs.indirect.coro_new_indirect.Tie as tie
@@ -18,7 +20,7 @@ put-made-requires : tie.Need-put-made-requires
 put-made-requires c κs =
     let creating = c .before .before .before .before .before .before .before .before in let start = creating .before .before .before .before .before .before .before .before .before .before .before in let o = start .pre .ok in
     still-fits (start .args .l) (o .world) _ (mem start (o .beside)) _ (start .args .m) _ (o .beside .fuel) (o .beside .fuel) (start .args .dst)
-    (indirect-good (o .world) (start .args .dst) (start .args .callee) (start .args .argc) (o .sound) .fact)
+    (indirect-good (start .args .dst) (start .args .callee) (start .args .argc) (o .world) (known (o .world) (o .sound)) .fact .still)
     (o .rep) (creating .indirect .ensures (o .world) (o .beside) (o .rep) (o .sound) .world) (start .pre .reg)
 
 same-length : tie.Need-same-length

@@ -1,5 +1,6 @@
 -- `create` meets the model: its arguments set aside are the window, and then a creation. Assumes nothing.
-use mathlib.Core.Path.{refl}
+use mathlib.Core.Path.{ap}
+use Prim.Native.Nat.{_+_}
 use native.Mathlib.Omega.{arith}
 use Rattle.memory.specs.Memory.{Lent, Beside}
 use Rattle.memory.specs.Lendings.{topMaking, plain}
@@ -14,20 +15,11 @@ mem s b = topMaking (s .args .stack .now) (s .args .frames .now) (s .args .slots
 abbrev around : tie.Start → Beside → Beside
 around s b = record { words = mem s b; fuel = b .fuel }
 
-sub-base : tie.Need-sub-base
-sub-base c = search needs
+sub-base-at : tie.Need-sub-base-at
+sub-base-at c = search needs
 
-mul-base : tie.Need-mul-base
-mul-base c = search needs
-
-add-base : tie.Need-add-base
-add-base c = search needs
-
-mul-base-2 : tie.Need-mul-base-2
-mul-base-2 c = search needs
-
-shared-slice-read-base : tie.Need-shared-slice-read-base
-shared-slice-read-base c = search needs
+base-at-requires : tie.Need-base-at-requires
+base-at-requires c κs = search needs
 
 add-at : tie.Need-add-at
 add-at c = search needs
@@ -61,20 +53,18 @@ returns c =
     let at-create = c .before .before .before .before .before .before in let aside = at-create .before .before .before .before in let start = aside .before .before .before .before .before .before .before .before .before in
     λ w b rep snd.
     let h = start .pre .window in
+    let at = aside .before .base-at .ensures in
     with-window (start .args .l) w _ _ _ _ (start .args .f) (start .args .closure) _ _
     (window-is (start .args .l) w (mem start b) (start .args .m) (b .fuel) rep (start .args .dst) (start .args .argc) _ (aside .set-aside .result)
-    (start .pre .reg) (start .pre .few) refl (omega arith) (aside .set-aside .ensures))
+    (start .pre .reg) (start .pre .few) (ap (λ x. x + start .args .dst + 1) at) (omega arith) (aside .set-aside .ensures))
     (at-create .coro-create .ensures w (around start b) rep snd)
 
 pub create-spec : {M : Type 1} → statement M
 create-spec =
     tie.close
     (tie.spec
-    sub-base
-    mul-base
-    add-base
-    mul-base-2
-    shared-slice-read-base
+    sub-base-at
+    base-at-requires
     add-at
     add-at-2
     set-aside-requires

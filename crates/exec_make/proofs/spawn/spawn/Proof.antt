@@ -1,12 +1,13 @@
 -- `spawn` meets the model, by the hook and by what indirect answers. Assumes nothing.
 use mathlib.Core.Path.{refl, sym, _∙_}
 use Rattle.model.specs.Exec.{indirect}
-use Rattle.invariant.proofs.Sound.{→sound}
+use Rattle.soundness.proofs.Sound.{→sound}
 use Rattle.memory.specs.Memory.{Lent, Beside}
 use Rattle.memory.specs.Lendings.{topMaking, plain}
 use Rattle.memory.proofs.Does.{room-same}
 use Rattle.exec_make.proofs.Newly.{still-fits}
-use Rattle.exec_make.proofs.Callee.{indirect-good}
+use Rattle.soundness.proofs.Made.{indirect-good}
+use Rattle.coro_create.proofs.Setting.{known}
 use Rattle.exec_make.proofs.Hooked.{hook-there, no-hook, spawn-refused, spawn-called}
 use borrow.Author.Needs.{needs}
 use Rattle.exec_make.proofs.spawn.spawn.Statement.{statement}
@@ -57,12 +58,12 @@ call-hook-requires c κs =
     let start = asked .before .before .before .before .before .before .before in
     let o = start .pre .indirect .ok in
     let u = indirect (start .args .dst) (start .args .callee) (start .args .argc) (o .world) .world in
-    let made = indirect-good (o .world) (start .args .dst) (start .args .callee) (start .args .argc) (o .sound) in
+    let made = indirect-good (start .args .dst) (start .args .callee) (start .args .argc) (o .world) (known (o .world) (o .sound)) in
     let did = creating .indirect .ensures (o .world) (o .beside) (o .rep) (o .sound) in
     let hook = hook-there (start .args .l) (o .world) (mem start (o .beside)) (start .args .m) (o .beside .fuel) (o .rep) (o .sound) (named .hook2 .given .0 .0)
     (sym (named .hook2 .given .1) ∙ asked .hook .ensures) in
     let fits = still-fits (start .args .l) (o .world) u (mem start (o .beside)) _ (start .args .m) _ (o .beside .fuel) (o .beside .fuel) (start .args .dst)
-    (made .fact) (o .rep) (did .world) (start .pre .indirect .reg) in
+    (made .fact .still) (o .rep) (did .world) (start .pre .indirect .reg) in
     record {
       call =
           record {
@@ -74,7 +75,7 @@ call-hook-requires c κs =
                         beside = record { words = left creating (o .beside); fuel = o .beside .fuel };
                         rep = did .world;
                         sound = →sound u (made .sound);
-                        room = room-same (o .world .setup) (u .setup) (mem start (o .beside)) (left creating (o .beside)) (made .fact .setup)
+                        room = room-same (o .world .setup) (u .setup) (mem start (o .beside)) (left creating (o .beside)) (made .fact .still .setup)
                             (record {
                               stack = refl;
                               frames = refl;
@@ -143,7 +144,7 @@ returns-3 c =
     let named = creating .before .before .before .before .before .before .before in let asked = named .before .before in let start = asked .before .before .before .before .before .before .before in
     λ w b rep snd.
     let did = creating .indirect .ensures w (record { words = b .words; fuel = start .args .fuel }) rep snd in
-    let made = indirect-good w (start .args .dst) (start .args .callee) (start .args .argc) snd in
+    let made = indirect-good (start .args .dst) (start .args .callee) (start .args .argc) w (known w snd) in
     let u = indirect (start .args .dst) (start .args .callee) (start .args .argc) w .world in
     spawn-called (start .args .l) w (mem start b) (start .args .m) (start .args .fuel) rep (start .args .pc) (start .args .dst) (start .args .callee) (start .args .argc)
     (named .hook2 .given .0 .0) (sym (named .hook2 .given .1) ∙ asked .hook .ensures) _ _ _ (told .answer2 .given .0 .0) _ (sym (told .answer2 .given .1) ∙ did .answer)

@@ -3,7 +3,7 @@ use mathlib.Core.Path.{_≡_, refl, sym, _∙_}
 use mathlib.Core.List.{List}
 use Prim.Native.Nat.{ℕ}
 use Rattle.lists.specs.Parts.{splice}
-use Rattle.invariant.proofs.Tests.{picked}
+use Rattle.soundness.proofs.Tests.{picked}
 use Rattle.exports.specs.Words.{machineWords, fuelIn, fuelWords}
 use Rattle.exports.specs.Switch.{YieldHolds}
 use Rattle.exports.proofs.Called.{given, called-fuel}

@@ -485,7 +485,7 @@ returns-14 c =
     let a = start .args in
     λ w b rep snd. as-instruction (a .l) _ (at-instruction .instruction .result .machine) (at-instruction .instruction .result .fuel) w (a .op) (at-instruction .instruction .result .answer)
     (are-instructions (a .op) (at-match .match .keys14))
-    (at-instruction .instruction .ensures w (record { words = onReady (a .ready .now) (b .words); fuel = b .fuel }) rep snd)
+    (λ pc t arm q. at-instruction .instruction .ensures pc t arm q w (record { words = onReady (a .ready .now) (b .words); fuel = b .fuel }) rep snd)
 
 pub dispatch-spec : {M : Type 1} → statement M
 dispatch-spec =

@@ -1,25 +1,15 @@
 -- `pop` meets its contract. Assumes nothing.
-use mathlib.Core.Path.{refl}
 use Rattle.memory.specs.Lendings.{top, plain}
 use Rattle.machine.proofs.Frames.{pop-rep}
 use borrow.Author.Needs.{needs}
 use Rattle.machine.proofs.frame.pop.Statement.{statement}
 use Rattle.machine.proofs.frame.pop.Tie as tie
 
-sub-base : tie.Need-sub-base
-sub-base c = search needs
+sub-base-at : tie.Need-sub-base-at
+sub-base-at c = search needs
 
-mul-base : tie.Need-mul-base
-mul-base c = search needs
-
-add-base : tie.Need-add-base
-add-base c = search needs
-
-mul-base-2 : tie.Need-mul-base-2
-mul-base-2 c = search needs
-
-slice-read-base : tie.Need-slice-read-base
-slice-read-base c = search needs
+base-at-requires : tie.Need-base-at-requires
+base-at-requires c κs = search needs
 
 cut-requires : tie.Need-cut-requires
 cut-requires c κs = search needs
@@ -39,21 +29,18 @@ same-length-2 c = search needs
 returns : tie.Need-returns
 returns c =
     let gone = c .before .before .before in let short = gone .before .before .before .before in
-    let start = short .before .before .before .before .before .before in
+    let based = short .before .before in let start = based .before .before .before .before .before in
     let a = start .args in
     λ l w b rep.
     pop-rep l w (top (a .stack .now) (a .frames .now) plain b) (a .m) (b .fuel) rep (start .pre .depth .some) (short .cut .last .0) (gone .pop-frame .last .0) _
-    refl (short .cut .ensures) (gone .pop-frame .ensures)
+    (based .base-at .ensures) (short .cut .ensures) (gone .pop-frame .ensures)
 
 pub pop-spec : {M : Type 1} → statement M
 pop-spec =
     tie.close
     (tie.spec
-    sub-base
-    mul-base
-    add-base
-    mul-base-2
-    slice-read-base
+    sub-base-at
+    base-at-requires
     cut-requires
     pop-frame-requires
     sub-next

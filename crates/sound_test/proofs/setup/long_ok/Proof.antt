@@ -4,7 +4,7 @@ use native.Mathlib.Omega.{arith}
 use borrow.Author.Tests.{not-true, not-false, le-leb, lt-leb, leb-true}
 use lib.Dec.{leb}
 use lib.ListN.{length, getD}
-use Rattle.invariant.proofs.Tests.{and-right}
+use Rattle.soundness.proofs.Tests.{and-right}
 use borrow.Author.Needs.{needs}
 use Rattle.sound_test.proofs.setup.long_ok.Statement.{statement}
 use Rattle.sound_test.proofs.setup.long_ok.Tie as tie

@@ -1,25 +1,18 @@
--- `enter_frames` meets its contract: a move, and the bases raised. Assumes nothing.
+-- `enter_frames` meets its contract: one move, the bases raised. Assumes nothing.
+use mathlib.Core.Path.{refl}
 use Rattle.tables.proofs.Switch.{enter-asks, enters-frames}
 use borrow.Author.Needs.{needs}
 use Rattle.tables.proofs.rows.enter_frames.Statement.{statement}
 use Rattle.tables.proofs.rows.enter_frames.Tie as tie
 
-mul-top : tie.Need-mul-top
-mul-top c = search needs
+mul-move-frames : tie.Need-mul-move-frames
+mul-move-frames c = search needs
 
-mul-move-words : tie.Need-mul-move-words
-mul-move-words c = search needs
-
-move-words-requires : tie.Need-move-words-requires
-move-words-requires c κs = search needs
-
-rebase-requires : tie.Need-rebase-requires
-rebase-requires c κs =
-    let at-move-words = c .before .before .before .before .before in
-    let start = at-move-words .before .before .before .before .before in
+move-frames-requires : tie.Need-move-frames-requires
+move-frames-requires c κs =
+    let start = c .before .before .before .before in
     let a = start .args in
-    let m = at-move-words .move-words in
-    enter-asks (a .frames .now) (a .saved .now) (m .last .0) (a .depth) (a .at) (a .n) (a .by) (start .pre) (m .kept .0) (m .ensures .there)
+    enter-asks (a .frames .now) (a .saved .now) (a .depth) (a .at) (a .n) (a .by) (start .pre)
 
 same-length : tie.Need-same-length
 same-length c = search needs
@@ -29,21 +22,12 @@ same-length-2 c = search needs
 
 returns : tie.Need-returns
 returns c =
-    let at-rebase = c .before .before in let at-move-words = at-rebase .before .before .before .before .before .before in
-    let start = at-move-words .before .before .before .before .before in
+    let at-move-frames = c .before .before .before .before in let start = at-move-frames .before .before .before .before .before in
     let a = start .args in
-    let m = at-move-words .move-words in
-    enters-frames (a .frames .now) (a .saved .now) (m .last .0) (m .last .1 .1 .0) (at-rebase .rebase .last .0) (a .depth) (a .at) (a .n) (a .by) (start .pre)
-    (m .ensures) (at-rebase .rebase .ensures)
+    let m = at-move-frames .move-frames in
+    enters-frames (a .frames .now) (a .saved .now) _ (m .last .1 .1 .0) (m .last .0) (a .depth) (a .at) (a .n) (a .by) (start .pre)
+    (record { there = refl; here = m .ensures .1 }) (m .ensures .0)
 
 pub enter-frames-spec : {M : Type 1} → statement M
 enter-frames-spec =
-    tie.close
-    (tie.spec
-    mul-top
-    mul-move-words
-    move-words-requires
-    rebase-requires
-    same-length
-    same-length-2
-    returns)
+    tie.close (tie.spec mul-move-frames move-frames-requires same-length same-length-2 returns)

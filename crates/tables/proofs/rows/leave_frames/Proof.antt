@@ -1,29 +1,21 @@
--- `leave_frames` meets its contract: a move, and the bases lowered. Assumes nothing.
+-- `leave_frames` meets its contract: one move, the bases lowered. Assumes nothing.
+use mathlib.Core.Path.{refl}
 use Rattle.tables.proofs.Switch.{leave-asks, leaves-frames}
 use borrow.Author.Needs.{needs}
 use Rattle.tables.proofs.rows.leave_frames.Statement.{statement}
 use Rattle.tables.proofs.rows.leave_frames.Tie as tie
 
-sub-n : tie.Need-sub-n
-sub-n c = search needs
+mul-move-frames : tie.Need-mul-move-frames
+mul-move-frames c = search needs
 
-mul-move-words : tie.Need-mul-move-words
-mul-move-words c = search needs
+sub-move-frames : tie.Need-sub-move-frames
+sub-move-frames c = search needs
 
-mul-move-words-2 : tie.Need-mul-move-words-2
-mul-move-words-2 c = search needs
-
-move-words-requires : tie.Need-move-words-requires
-move-words-requires c κs = search needs
-
-rebase-requires : tie.Need-rebase-requires
-rebase-requires c κs =
-    let at-slice-known3 = c .before .before .before in let at-move-words = at-slice-known3 .before .before in
-    let start = at-move-words .before .before .before .before .before in
+move-frames-requires : tie.Need-move-frames-requires
+move-frames-requires c κs =
+    let start = c .before .before .before .before in
     let a = start .args in
-    let m = at-move-words .move-words in
-    leave-asks (a .frames .now) (a .saved .now) (m .last .0) (a .depth) (a .floor) (a .by) (a .at) (start .pre)
-    (λ i. at-slice-known3 .slice-known3 .given i .fits) (m .kept .0) (m .ensures .there)
+    leave-asks (a .frames .now) (a .saved .now) (a .depth) (a .floor) (a .by) (a .at) (start .pre) (λ i. c .before .before .before .slice-known .given i .fits)
 
 same-length : tie.Need-same-length
 same-length c = search needs
@@ -33,22 +25,13 @@ same-length-2 c = search needs
 
 returns : tie.Need-returns
 returns c =
-    let at-rebase = c .before .before in let at-move-words = at-rebase .before .before .before .before .before .before in
-    let start = at-move-words .before .before .before .before .before in
+    let at-move-frames = c .before .before .before .before in let start = at-move-frames .before .before .before .before .before in
     let a = start .args in
-    let m = at-move-words .move-words in
-    let r = at-rebase .rebase in
-    leaves-frames (a .frames .now) (a .saved .now) (m .last .0) (r .last .0) (m .last .1 .1 .0) (a .depth) (a .floor) (a .by) (a .at) (start .pre) (m .ensures) (r .ensures)
+    let m = at-move-frames .move-frames in
+    leaves-frames (a .frames .now) (a .saved .now) _ (m .last .0) (m .last .1 .1 .0) (a .depth) (a .floor) (a .by) (a .at) (start .pre)
+    (record { there = refl; here = m .ensures .1 }) (m .ensures .0)
 
 pub leave-frames-spec : {M : Type 1} → statement M
 leave-frames-spec =
     tie.close
-    (tie.spec
-    sub-n
-    mul-move-words
-    mul-move-words-2
-    move-words-requires
-    rebase-requires
-    same-length
-    same-length-2
-    returns)
+    (tie.spec mul-move-frames sub-move-frames move-frames-requires same-length same-length-2 returns)

@@ -1,0 +1,337 @@
+-- Who fails in a call: by an unwind, whom the claim names; where the run is stopped, all; in any other call nobody.
+use Prim.Native.Nat.{ℕ}
+use native.Mathlib.Omega.{arith}
+use native.Mathlib.Decide.{ℕ-discrete}
+use mathlib.Core.Path.{_≡_, refl, sym, ap, _∙_, subst}
+use mathlib.Core.Logic.{_≢_, _⊎_, inl, inr}
+use mathlib.Core.Bool.{Bool, true, false, not, _&&_, _||_}
+use mathlib.Core.List.{List, [], _∷_}
+use mathlib.Core.Option.{Option, none, some}
+use lib.Dec.{eqb}
+use borrow.Author.Tests.{eqb-true}
+use Rattle.lists.specs.Pick.{pick}
+use Rattle.heap.specs.Table.{nextWord, pushObject}
+use Rattle.heap.specs.Charge.{satAdd}
+use Rattle.heap.specs.declared.fault.Fault.{Fault}
+use Rattle.heap.specs.declared.object.CoroState.{CoroState}
+use Rattle.model.specs.State.{isCreated, isRunning, isSuspended}
+use Rattle.model.specs.Lists as L
+use Rattle.model.specs.Lists.{each, distinct}
+use Rattle.model.specs.Object.{Core, Rest, Object, Coroutine, Absent, Is, asCoro}
+use Rattle.model.specs.World.{World, After, after, andThen, withUsed, withSlots}
+use Rattle.model.specs.Frames.{storePc, topFunc, topPc}
+use Rattle.model.specs.Heap.{coro, alloc, fits, slotsFull, refuse}
+use Rattle.model.specs.Program.{func}
+use Rattle.model.specs.Machine.{errorOf, searchFrames, searchMade, storeSome, unwind, finish}
+use Rattle.model.specs.Sound.{sound, runningOk, runs, coros, runsAmong}
+use Rattle.model.specs.Answer.{numberOf}
+use Rattle.model.specs.Call.{Call, SetUp, Do}
+use Rattle.model.specs.Step.{call, step}
+use Rattle.model.specs.declared.machine.Active.{Active}
+use Rattle.model.specs.declared.machine.Frame.{Frame}
+use Rattle.model.specs.declared.coro.Made.{Made}
+use Rattle.heap.specs.declared.heap.ResultKind.{ResultKind}
+use Rattle.model.specs.declared.call.OptPc.{OptPc}
+use Rattle.model.specs.declared.call.Op.{Op}
+use Rattle.model.specs.declared.call.Answer.{Answer}
+use Rattle.soundness.proofs.Sound.{sound→}
+use Rattle.soundness.proofs.Point.{finds}
+use Rattle.soundness.proofs.Slots.{runs-among}
+use Rattle.claims.specs.Engine.{is}
+use Rattle.claims.specs.Engine as Engine
+use Rattle.claims.specs.Held.{at}
+use Rattle.claims.specs.Events as Said
+use Rattle.claims.specs.Events.{among, lost, lostAt, raised, Lost, escapes}
+use Rattle.claims.specs.Steps.{seenOf, viewOf, opOf, steps}
+use Rattle.claims.proofs.Entry.{act}
+use Rattle.claims.proofs.Held.{coreIn, coreAt}
+use Rattle.claims.proofs.Split.{next}
+use Rattle.claims.proofs.Cores.{no-both, and-left, and-right, coroIn, Kept, kept, unborn}
+use Rattle.claims.proofs.Shape as S
+use Rattle.claims.proofs.Shape.{View, view, Ends, Worked, done, quiet, tops, puts, pushes, pops, fails, Apart, Shape}
+use Rattle.claims.proofs.Events.{run-born, run-susp, susp-run, ready-run}
+use Rattle.claims.proofs.Sounds.{two}
+use Rattle.claims.proofs.Endings.{stop-stops}
+use Rattle.claims.proofs.Calls.{shape}
+use Rattle.claims.proofs.Claim as Claim
+use Rattle.claims.proofs.Claim.{StepCase, anew, same, step-case, fresh-absent, next-sound}
+use Rattle.claims.proofs.Views.{is-runs}
+use Rattle.claims.proofs.Finishes.{FinishCase, f-other, f-returns, finish-case}
+use Rattle.claims.proofs.Bodies.{at-top}
+use Rattle.claims.proofs.Escapes.{AllSeen, Sees}
+use Rattle.claims.proofs.Failures.{unmade, isFailed, Loses, run-fails, AllRun, search-loses}
+use Rattle.claims.proofs.Unwinds.{sees, all-same, push-coros, stored-sees}
+use Rattle.claims.proofs.Exact.{number-sound}
+
+-- ---- an unwind
+
+pub record Unwound (w : World) (o : After Answer) (xs : List ℕ) : Type 0 where
+  pub gone : (c : ℕ) → unmade (o .answer) ≡ false → among c xs ≡ true → coreAt (o .world) c .state ≡ CoroState.Failed
+  pub lost : (c : ℕ) → isRunning (coreAt w c .state) ≡ true → isFailed (coreAt (o .world) c .state) ≡ true → (unmade (o .answer) ≡ false) × (among c xs ≡ true)
+
+by-loses : {w : World} {o : After Answer} {xs : List ℕ} → Loses w o xs → Unwound w o xs
+by-loses {w} {o} {xs} l = record { gone = λ c m h. l .gone c h .1; lost = λ c r f. (l .made, go c r f (among c xs) refl) }
+  where
+    go : (c : ℕ) → isRunning (coreAt w c .state) ≡ true → isFailed (coreAt (o .world) c .state) ≡ true → (b : Bool) → among c xs ≡ b → among c xs ≡ true
+    go c r f true e = e
+    go c r f false e = no-both f (l .stays c e r)
+
+by-same : {w : World} {o : After Answer} {xs : List ℕ} → ((c : ℕ) → coreAt (o .world) c ≡ coreAt w c) → (unmade (o .answer) ≡ true) ⊎ (xs ≡ []) → Unwound w o xs
+by-same {w} {o} {xs} e u = record { gone = λ c m h. no u c m h; lost = λ c r f. no-both f (ap (λ k. isFailed (k .state)) (e c) ∙ run-fails (coreAt w c .state) r) }
+  where
+    no : {A : Type 0} → (unmade (o .answer) ≡ true) ⊎ (xs ≡ []) → (c : ℕ) → unmade (o .answer) ≡ false → among c xs ≡ true → A
+    no (inl q) c m h = no-both q m
+    no (inr q) c m h = no-both h (ap (among c) q)
+
+loses-same : {w u : World} {o : After Answer} {xs : List ℕ} → ((c : ℕ) → coreAt u c ≡ coreAt w c) → Loses u o xs → Loses w o xs
+loses-same e l = record {
+  gone = λ c h. (ap (λ k. isRunning (k .state)) (sym (e c)) ∙ l .gone c h .0, l .gone c h .1);
+  stays = λ c h r. l .stays c h (ap (λ k. isRunning (k .state)) (e c) ∙ r);
+  failed = λ c h. l .failed c (ap (λ k. k .state) (e c) ∙ h);
+  made = l .made;
+}
+
+all-run : (w : World) (chain : List Active) → each (λ a. runs (coro w (a .coro))) chain ≡ true → AllRun (viewOf w) chain
+all-run w [] h = tt
+all-run w (a ∷ chain) h = (is-runs w (a .coro) ∙ core (coro w (a .coro)) (and-left (runs (coro w (a .coro))) (each (λ a. runs (coro w (a .coro))) chain) h), all-run w chain (and-right (runs (coro w (a .coro))) (each (λ a. runs (coro w (a .coro))) chain) h))
+  where
+    core : (x : Coroutine) → runs x ≡ true → isRunning (coreIn x .state) ≡ true
+    core Absent q = q
+    core (Is k r) q = q
+
+chain-runs : (w : World) → sound w ≡ true → AllRun (viewOf w) (w .chain)
+unfolding runningOk
+chain-runs w h = all-run w (w .chain) (and-left (each (λ a. runs (coro w (a .coro))) (w .chain)) (distinct (coros (w .chain))) (and-left (each (λ a. runs (coro w (a .coro))) (w .chain) && distinct (coros (w .chain))) (runsAmong (coros (w .chain)) 0 (w .slots)) (two w h .0)))
+
+module _ (w : World) (h : sound w ≡ true) where
+  -- a word is raised at u, which is w but for objects and the top pc
+  frames-lose : (x : ℕ) (fs : List Frame) (u : World) → Sees (viewOf w) u → u .frames ≡ fs → u .chain ≡ w .chain → Loses u (searchFrames x u) (lost (viewOf w) x fs (w .chain))
+  frames-lose x fs u s p q =
+      subst (λ cs. Loses u (searchFrames x u) (lost (viewOf w) x fs cs)) q
+      (subst (λ gs. Loses u (searchFrames x u) (lost (viewOf w) x gs (u .chain))) p
+      (search-loses (viewOf w) x (topFunc (u .frames)) (topPc (u .frames)) (u .frames) u refl s (subst (AllRun (viewOf w)) (sym q) (chain-runs w h))))
+
+  word-loses : (x : ℕ) (pc : OptPc) → Loses w (searchFrames x (storeSome pc w)) (lostAt (viewOf w) (some x) pc)
+  word-loses x OptPc.None = frames-lose x (w .frames) w (sees w h) refl refl
+  word-loses x (OptPc.Some p) = loses-same (λ c. refl) (frames-lose x (at p (w .frames)) (storePc p w) (stored-sees w h (OptPc.Some p)) (at-top p (w .frames)) refl)
+
+  object-at : (f : Fault) (u : World) (fs : List Frame) → u .slots ≡ w .slots → u .setup ≡ w .setup → u .frames ≡ fs → u .chain ≡ w .chain
+      → Unwound w (andThen (alloc (u .setup .costs .error) (errorOf f u) u) searchMade) (lost (viewOf w) (nextWord (w .slots)) fs (w .chain))
+  unfolding alloc pick
+  object-at f u fs es e p q = go (not (fits u (u .setup .costs .error))) (slotsFull u)
+    where
+      y : World
+      y = withUsed (satAdd (u .used) (u .setup .costs .error)) (withSlots (pushObject (u .slots) (errorOf f u)) u)
+
+      made : (a b : Bool) → After Made
+      made a b = pick a (refuse u Fault.OutOfMemory) (pick b (refuse u Fault.Full) (after y (Made.Word (nextWord (u .slots)))))
+
+      here : (c : ℕ) → coro y c ≡ coro w c
+      here c = push-coros (u .slots) (errorOf f u) refl c ∙ ap (λ xs. coroIn xs c) es
+
+      known : Sees (viewOf w) y
+      known = record {
+        handlers = λ n. ap (λ s. func s n .handlers) (sym e);
+        coros = subst (AllSeen (viewOf w) (y .slots)) (sym q) (all-same (viewOf w) (w .slots) (y .slots) here (w .chain) (sees w h .coros));
+      }
+
+      go : (a b : Bool) → Unwound w (andThen (made a b) searchMade) (lost (viewOf w) (nextWord (w .slots)) fs (w .chain))
+      go true b = by-same (λ c. ap (λ xs. coreIn (coroIn xs c)) es) (inl refl)
+      go false true = by-same (λ c. ap (λ xs. coreIn (coroIn xs c)) es) (inl refl)
+      go false false = by-loses (loses-same (λ c. ap coreIn (here c)) (subst (λ xs. Loses y (searchFrames (nextWord (u .slots)) y) (lost (viewOf w) (nextWord xs) fs (w .chain))) es (frames-lose (nextWord (u .slots)) fs y known p q)))
+
+  object-unwound : (f : Fault) (pc : OptPc) → let u = storeSome pc w in Unwound w (andThen (alloc (u .setup .costs .error) (errorOf f u) u) searchMade) (lostAt (viewOf w) (some (nextWord (w .slots))) pc)
+  object-unwound f OptPc.None = object-at f w (w .frames) refl refl refl refl
+  object-unwound f (OptPc.Some p) = object-at f (storePc p w) (at p (w .frames)) refl refl (at-top p (w .frames)) refl
+
+  passed : (pc : OptPc) (f : Fault) → Unwound w (after (storeSome pc w) (Answer.Refused f)) []
+  passed OptPc.None f = by-same (λ c. refl) (inr refl)
+  passed (OptPc.Some p) f = by-same (λ c. refl) (inr refl)
+
+  refused : (f : Fault) → Unwound w (after w (Answer.Refused f)) []
+  refused f = by-same (λ c. refl) (inr refl)
+
+  pub unwound : (f : Fault) (pc : OptPc) → Unwound w (unwind f pc w) (lostAt (viewOf w) (raised (viewOf w) f) pc)
+  unfolding unwind pick
+  unwound Fault.None pc = refused Fault.Unsound
+  unwound Fault.NullReference pc = object-unwound Fault.NullReference pc
+  unwound Fault.TypeError pc = object-unwound Fault.TypeError pc
+  unwound Fault.InvalidCoroState pc = object-unwound Fault.InvalidCoroState pc
+  unwound Fault.StackOverflow pc = object-unwound Fault.StackOverflow pc
+  unwound Fault.CannotSuspend pc = object-unwound Fault.CannotSuspend pc
+  unwound Fault.CloseIgnored pc = object-unwound Fault.CloseIgnored pc
+  unwound Fault.ArithOverflow pc = object-unwound Fault.ArithOverflow pc
+  unwound Fault.NoScheduler pc = object-unwound Fault.NoScheduler pc
+  unwound Fault.OutOfMemory pc = passed pc Fault.OutOfMemory
+  unwound Fault.OutOfFuel pc = passed pc Fault.OutOfFuel
+  unwound Fault.Unsound pc = refused Fault.Unsound
+  unwound Fault.NoFrame pc = refused Fault.Unsound
+  unwound Fault.BadOperand pc = refused Fault.Unsound
+  unwound Fault.Full pc = refused Fault.Unsound
+  unwound Fault.Busy pc = refused Fault.Unsound
+  unwound Fault.GrantTooLarge pc = refused Fault.Unsound
+  unwound (Fault.Throw x) pc = by-loses (word-loses x pc)
+
+-- ---- other calls
+
+run-worked : (c : ℕ) {v z : View} → Worked false v z → isRunning (v .cores c .state) ≡ true → isRunning (z .cores c .state) ≡ true
+run-worked c done h = h
+run-worked c (quiet k q t) h = run-worked c t (on (q c) h)
+  where
+    on : {k l : _} → Kept k l → isRunning (k .state) ≡ true → isRunning (l .state) ≡ true
+    on (kept e) h = ap (λ x. isRunning (x .state)) e ∙ h
+    on {k} (unborn a b m) h = no-both a (run-born (k .state) h)
+run-worked c (tops g e t) h = run-worked c t h
+run-worked c (puts r x t) h = run-worked c t h
+run-worked c (pushes f xs p q t) h = run-worked c t h
+run-worked c (pops f fs p q t) h = run-worked c t h
+run-worked c (fails f fs a chain k y p q r e t) h = no-both y refl
+
+susp-fails : (s : CoroState) → isSuspended s ≡ true → isFailed s ≡ false
+susp-fails CoroState.Created h = refl
+susp-fails CoroState.Running h = refl
+susp-fails CoroState.Yielded h = refl
+susp-fails CoroState.Awaiting h = refl
+susp-fails CoroState.Returned h = refl
+susp-fails CoroState.Failed h = sym h
+
+-- what is no finish and no unwind lets somebody fail only if it stops the run
+stopped : {w z : World} {o : Op} (c : ℕ) → Shape w o z → S.isEnding (act w o) ≡ false → isRunning (coreAt w c .state) ≡ true → isFailed (coreAt z c .state) ≡ true → o ≡ Op.StopRun
+stopped {w} {z} {o} c (S.works e b i t) n r l = go b i t
+  where
+    go : (b : Bool) → S.isEnding (act w o) ≡ b → Worked b (view w) (view z) → o ≡ Op.StopRun
+    go true i t = no-both i n
+    go false i t = no-both l (run-fails (coreAt z c .state) (run-worked c t r))
+stopped {w} {z} {o} c (S.enters u d sent e t) n r l = go (ℕ-discrete c u)
+  where
+    go : Dec (c ≡ u) → o ≡ Op.StopRun
+    go (yes q) = no-both r (ap (λ x. isRunning (coreAt w x .state)) q ∙ ready-run (coreAt w u .state) (t .ready))
+    go (no q) = no-both l (ap (λ x. isFailed (x .state)) (t .others c q) ∙ run-fails (coreAt w c .state) r)
+stopped {w} {z} {o} c (S.suspended p ok s dst x a chain e q t) n r l = go (ℕ-discrete c (a .coro))
+  where
+    on : Kept (coreAt w c) (coreAt z c) → isFailed (coreAt z c .state) ≡ false
+    on (kept e) = ap (λ x. isFailed (x .state)) e ∙ run-fails (coreAt w c .state) r
+    on (unborn a b m) = no-both a (run-born (coreAt w c .state) r)
+
+    go : Dec (c ≡ a .coro) → o ≡ Op.StopRun
+    go (yes y) = no-both l (ap (λ u. isFailed (coreAt z u .state)) y ∙ ap (λ k. isFailed (k .state)) (t .mine) ∙ susp-fails s (t .asleep))
+    go (no y) = no-both l (on (t .others c y))
+stopped c (S.returns v x f fs a chain e en g t u) n r l = no-both en n
+stopped c (S.stops e i t) n r l = i
+
+finish-fails : (kind : ResultKind) (x : ℕ) (w : World) (c : ℕ) (o : After Answer) → isRunning (coreAt w c .state) ≡ true → FinishCase kind x w o → isFailed (coreAt (o .world) c .state) ≡ false
+finish-fails kind x w c o r (f-other e n) = ap (λ k. isFailed (coreIn k .state)) (e c) ∙ run-fails (coreAt w c .state) r
+finish-fails kind x w c o r (f-returns f fs a chain y p q i m n ends tells ints) = go (ℕ-discrete c (a .coro))
+  where
+    mine : (coreAt (o .world) (a .coro) ≡ S.over CoroState.Returned (coreAt w (a .coro))) ⊎ ((isCreated (coreAt w (a .coro) .state) ≡ true) × (coreAt (o .world) (a .coro) ≡ coreAt w (a .coro))) → c ≡ a .coro → isFailed (coreAt (o .world) (a .coro) .state) ≡ false
+    mine (inl k) q = ap (λ y. isFailed (y .state)) k
+    mine (inr k) q = no-both (k .0) (ap (λ u. isCreated (coreAt w u .state)) (sym q) ∙ run-born (coreAt w c .state) r)
+
+    go : Dec (c ≡ a .coro) → isFailed (coreAt (o .world) c .state) ≡ false
+    go (yes h) = ap (λ u. isFailed (coreAt (o .world) u .state)) h ∙ mine (ends .mine) h
+    go (no h) = ap (λ k. isFailed (k .state)) (ends .others c h) ∙ run-fails (coreAt w c .state) r
+
+-- ---- every call
+
+away : {A : Type 0} (c : ℕ) (chain : List Active) → Apart c chain → L.among c (coros chain) ≡ true → A
+away c [] n q = no-both q refl
+away {A} c (a ∷ chain) n q = first (eqb c (a .coro)) refl (away c chain (n .1)) q
+  where
+    first : (b : Bool) → eqb c (a .coro) ≡ b → (L.among c (coros chain) ≡ true → A) → (b || L.among c (coros chain)) ≡ true → A
+    first true e more q = absurd (n .0 (eqb-true c (a .coro) e))
+    first false e more q = more q
+
+-- a set-up lets nobody fail
+named : Option Op → Bool
+named none = false
+named (some o) = true
+
+lost-named : {v : Engine.View} {n c : ℕ} {p : Option Op} → Lost v n c p → named p ≡ true
+unfolding named
+lost-named (escapes f pc m a) = refl
+lost-named Said.stops = refl
+
+module _ (w : World) (h : sound w ≡ true) (c : ℕ) (r : isRunning (coreAt w c .state) ≡ true) where
+  by-stop : (o : Op) → S.isEnding (act w o) ≡ false → isFailed (coreAt (call o w .world) c .state) ≡ true → Lost (viewOf w) (numberOf (call o w .answer)) c (some o)
+  by-stop o n l = go o (stopped c (shape w o) n r l)
+    where
+      go : (p : Op) → p ≡ Op.StopRun → {n : ℕ} → Lost (viewOf w) n c (some p)
+      go p e {n} = subst (λ q. Lost (viewOf w) n c (some q)) (sym e) Said.stops
+
+  call-lost : (o : Op) → isFailed (coreAt (call o w .world) c .state) ≡ true → Lost (viewOf w) (numberOf (call o w .answer)) c (some o)
+  unfolding call
+  call-lost (Op.CoroNew pc dst f argc) l = by-stop (Op.CoroNew pc dst f argc) refl l
+  call-lost (Op.CoroNewIndirect pc dst callee argc) l = by-stop (Op.CoroNewIndirect pc dst callee argc) refl l
+  call-lost (Op.Spawn pc dst callee argc) l = by-stop (Op.Spawn pc dst callee argc) refl l
+  call-lost (Op.Yield pc dst src) l = by-stop (Op.Yield pc dst src) refl l
+  call-lost (Op.YieldKv pc dst src key) l = by-stop (Op.YieldKv pc dst src key) refl l
+  call-lost (Op.Await pc dst src) l = by-stop (Op.Await pc dst src) refl l
+  call-lost (Op.Resume pc dst u src) l = by-stop (Op.Resume pc dst u src) refl l
+  call-lost (Op.ResumeThrow pc dst u src) l = by-stop (Op.ResumeThrow pc dst u src) refl l
+  call-lost (Op.CoroClose pc dst u src) l = by-stop (Op.CoroClose pc dst u src) refl l
+  call-lost (Op.CoroStatus pc dst u) l = by-stop (Op.CoroStatus pc dst u) refl l
+  call-lost (Op.CoroCurrent pc dst) l = by-stop (Op.CoroCurrent pc dst) refl l
+  call-lost (Op.CoroKey pc dst u) l = by-stop (Op.CoroKey pc dst u) refl l
+  call-lost (Op.CoroResult pc dst u) l = by-stop (Op.CoroResult pc dst u) refl l
+  call-lost (Op.IterNext pc has iter val src) l = by-stop (Op.IterNext pc has iter val src) refl l
+  call-lost (Op.Finish kind x) l = no-both l (finish-fails kind x w c (finish kind x w) r (finish-case kind x w))
+  call-lost (Op.Unwind f pc) l = let t = unwound w h f pc .lost c r l in escapes f pc (t .0) (t .1)
+  call-lost (Op.SpawnTask x) l = by-stop (Op.SpawnTask x) refl l
+  call-lost (Op.HostCall f) l = by-stop (Op.HostCall f) refl l
+  call-lost (Op.HostEntry u x) l = by-stop (Op.HostEntry u x) refl l
+  call-lost (Op.FunctionCall pc f cont) l = by-stop (Op.FunctionCall pc f cont) refl l
+  call-lost (Op.PutWord i x) l = by-stop (Op.PutWord i x) refl l
+  call-lost (Op.MakeIterator x) l = by-stop (Op.MakeIterator x) refl l
+  call-lost Op.TakeOutcome l = by-stop Op.TakeOutcome refl l
+  call-lost (Op.HandOver x) l = by-stop (Op.HandOver x) refl l
+  call-lost (Op.Grant n) l = by-stop (Op.Grant n) refl l
+  call-lost Op.StopRun l = by-stop Op.StopRun refl l
+  call-lost Op.Look l = by-stop Op.Look refl l
+
+  -- what runs is one of the chain
+  not-apart : {A : Type 0} → Apart c (w .chain) → A
+  not-apart n = go (coro w c) refl
+    where
+      go : {A : Type 0} (x : Coroutine) → coro w c ≡ x → A
+      go Absent e = no-both r (ap (λ y. isRunning (coreIn y .state)) e)
+      go (Is k s) e = away c (w .chain) n (runs-among (sound→ {ex = false} w h (λ z. no-both z refl) .heap) (finds (w .slots) c k s e) (Object.Coro k s) (ap (λ y. isRunning (coreIn y .state)) (sym e) ∙ r))
+
+  has-lost : (o : Op) → Lost (viewOf w) (numberOf (call o w .answer)) c (some o) → coreAt (call o w .world) c .state ≡ CoroState.Failed
+  unfolding call
+  has-lost o (escapes f pc m a) = unwound w h f pc .gone c m a
+  has-lost o Said.stops = go (stop-stops w .each c)
+    where
+      z : World
+      z = call Op.StopRun w .world
+
+      go : (Apart c (w .chain) × (coreAt z c ≡ coreAt w c)) ⊎ ((coreAt z c .state ≡ CoroState.Failed) ⊎ ((isCreated (coreAt w c .state) ≡ true) × (coreAt z c ≡ coreAt w c))) → coreAt z c .state ≡ CoroState.Failed
+      go (inl x) = not-apart (x .0)
+      go (inr (inl x)) = x
+      go (inr (inr x)) = no-both (x .0) (run-born (coreAt w c .state) r)
+
+is-failed : (w : World) (c : ℕ) → is (viewOf w) Said.failed c ≡ isFailed (coreAt w c .state)
+is-failed w c = go (coro w c)
+  where
+    go : (x : Coroutine) → Engine.seenIn (λ y. Said.failed (y .state)) (seenOf x) ≡ isFailed (coreIn x .state)
+    go Absent = refl
+    go (Is k r) = refl
+
+pub fails-by : (c : ℕ) (w : World) (k : Call) → Said.Fails steps c w k → Lost (viewOf w) (numberOf (step w k .answer)) c (opOf k)
+fails-by c w k g = go (next w k) (step-case w k) (sym (is-failed (next w k) c) ∙ g .after)
+  where
+    ran : isRunning (coreAt w c .state) ≡ true
+    ran = sym (is-runs w c) ∙ g .before
+
+    go : {k : Call} (z : World) → StepCase w k z → isFailed (coreAt z c .state) ≡ true → Lost (viewOf w) (numberOf (step w k .answer)) c (opOf k)
+    go z (anew s e) a = no-both a (ap (λ x. isFailed (coreIn x .state)) (fresh-absent s c))
+    go z (same k e) a = no-both a (run-fails (coreAt w c .state) ran)
+    go z (Claim.does o e) a = subst (λ y. Lost (viewOf w) (numberOf y) c (some (o .op))) (sym (number-sound w o e)) (call-lost w e c ran (o .op) a)
+
+pub failed-by : (c : ℕ) (w : World) (k : Call) → sound w ≡ true → is (viewOf w) Engine.runs c ≡ true → Lost (viewOf w) (numberOf (step w k .answer)) c (opOf k) → Said.Fails steps c w k
+unfolding named
+failed-by c w (SetUp s) h b l = no-both (lost-named l) refl
+failed-by c w (Do o) h b l =
+    record {
+      before = b;
+      after = is-failed (next w (Do o)) c ∙ ap (λ y. isFailed (coreAt y c .state)) (next-sound w o h) ∙ ap isFailed (has-lost w h c (sym (is-runs w c) ∙ b) (o .op) (subst (λ y. Lost (viewOf w) (numberOf y) c (some (o .op))) (number-sound w o h) l));
+    }

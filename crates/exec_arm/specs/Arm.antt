@@ -1,0 +1,25 @@
+-- coro.rs: exec. An instruction by its row of the calls: its pc, the test of its operands, its arm.
+use mathlib.Core.Path.{_≡_}
+use mathlib.Core.Bool.{Bool, true, false}
+use Prim.Native.Nat.{ℕ, _^_, _<_}
+use Rattle.model.specs.Lists.{isNil}
+use Rattle.model.specs.World.{World, After}
+use Rattle.model.specs.Calls.{Instruction, table}
+use Rattle.model.specs.declared.call.Op.{Op}
+use Rattle.model.specs.declared.exec.Step.{Step}
+use Rattle.model.specs.declared.machine.Fuel.{Fuel}
+use Rattle.memory.specs.Memory.{Lent, Beside}
+use Rattle.memory.specs.Contract.{Ok, with}
+use Rattle.memory.specs.declared.machine.Machine.{Machine}
+use Rattle.memory.specs.declared.machine.Sizes.{Sizes}
+
+-- said of an operation that is an instruction, and of no other
+abbrev pub OfInstruction : Op → (ℕ → (World → Bool) → (World → After Step) → Type 0) → Type 0
+OfInstruction o said = (pc : ℕ) (operands : World → Bool) (arm : World → After Step) → table o ≡ Instruction pc operands arm → said pc operands arm
+
+-- a sound world with a frame, in which an instruction's operands pass
+pub record Past (l : Sizes) (M : Beside → Lent) (m : Machine) (fuel : Fuel) (o : Op) : Type 0 where
+  pub ok : Ok l M (with m fuel)
+  pub some : isNil (ok .world .frames) ≡ false
+  pub passed : OfInstruction o (λ pc operands arm. operands (ok .world) ≡ true)
+  pub narrow : OfInstruction o (λ pc operands arm. pc < 2 ^ 32)

@@ -1,0 +1,2 @@
+// coro.rs: exec, the arm of an instruction.
+pub mod body;

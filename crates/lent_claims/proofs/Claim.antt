@@ -1,0 +1,99 @@
+-- THE CLAIM OVER LENT WORDS. Assumes nothing.
+use Prim.Native.Nat.{ℕ}
+use native.Mathlib.Omega.{arith}
+use mathlib.Core.Path.{_≡_, refl, sym, ap, _∙_, subst}
+use mathlib.Core.Logic.{_⊎_, inl, inr}
+use mathlib.Core.Bool.{Bool, true, false}
+use mathlib.Core.List.{List, [], _∷_}
+use Rattle.model.specs.Call.{typed, Operation}
+use Rattle.model.specs.declared.call.Op.{Op}
+use Rattle.soundness.proofs.Tests.{no-true}
+use Rattle.claims.specs.Engine.{run}
+use Rattle.claims.specs.Events.{Healthy}
+use Rattle.claims.specs.Promise.{Promise}
+use Rattle.claims.specs.Steps.{steps}
+use Rattle.claims.proofs.Promise as Steps
+use Rattle.lent.specs.Step.{State, Left, isSound, decoded, setUpOk, setUpWords, Call, SetUp, Do, step}
+use Rattle.lent.specs.Sentences.{number, NoSuchFault}
+use Rattle.lent.proofs.Kept.{words-kept, refused-set-up}
+use Rattle.lent.proofs.Sentences.{sentences}
+use Rattle.lent_claims.specs.Engine.{outer}
+use Rattle.lent_claims.specs.Claim.{OwnFault, bad-set-up, no-fault, Claim}
+use Rattle.lent_claims.proofs.Follows.{down-healthy}
+use Rattle.lent_claims.proofs.Carried as Carried
+use Rattle.lent_claims.proofs.Outer.{sound-to, follows}
+use Rattle.lent_claims.proofs.NotEmpty.{not-empty}
+use Rattle.lent_claims.proofs.Stack.{stacked, woken}
+use Rattle.lent_claims.proofs.Back.{back}
+
+pub promise : Promise outer
+promise =
+    let p = Steps.promise in
+    record {
+      demand3 = Carried.demand3 outer steps follows (p .demand3);
+      events = Carried.events outer steps follows (p .events);
+      accepts = Carried.accepts outer steps follows (p .accepts);
+      soundness = Carried.soundness outer steps follows (p .soundness);
+      not-empty = not-empty;
+    }
+
+-- ---- sound words are not refused, and no others
+
+sound-healthy : (s : State) → isSound s ≡ true → Healthy outer s
+sound-healthy s e = down-healthy outer steps follows s (subst (Healthy steps) (sym (sound-to s e)) (Steps.sound-healthy (decoded s) (words-kept .stands s e)))
+
+a-look : Operation
+unfolding typed
+a-look = record { op = Op.Look; within = refl }
+
+healthy-sound : (s : State) → Healthy outer s → isSound s ≡ true
+unfolding a-look
+healthy-sound s h = go (isSound s) refl
+  where
+    go : (b : Bool) → isSound s ≡ b → isSound s ≡ true
+    go true e = e
+    go false e =
+        let z : _≡_ {A = ℕ} 11 0 = sym (sentences .unsound s a-look e) ∙ h (Do a-look) refl in
+        absurd (omega (arith, z))
+
+-- ---- lists of calls
+
+keeps : (s : State) (k : Call) → isSound s ≡ true → isSound (step s k .state) ≡ true
+keeps s (Do o) e = words-kept .kept s o e
+keeps s (SetUp given) e = go (setUpOk given (s .words)) refl
+  where
+    go : (b : Bool) → setUpOk given (s .words) ≡ b → isSound (setUpWords s given .state) ≡ true
+    go true q = words-kept .begun s given q
+    go false q = ap (λ (x : Left). isSound (x .state)) (refused-set-up s given q) ∙ e
+
+runs-on : (s : State) (ks : List Call) → isSound s ≡ true → isSound (run outer s ks) ≡ true
+runs-on s [] e = e
+runs-on s (k ∷ ks) e = runs-on (step s k .state) ks (keeps s k e)
+
+own-fault : (t : State) (k : Call) → isSound t ≡ true → number t k ≡ 11 → OwnFault (t .words) k
+own-fault t (SetUp given) e n = go (setUpOk given (t .words)) refl
+  where
+    go : (b : Bool) → setUpOk given (t .words) ≡ b → OwnFault (t .words) (SetUp given)
+    go true q =
+        let z : _≡_ {A = ℕ} 0 11 = sym (sentences .set-up t given q) ∙ n in
+        absurd (omega (arith, z))
+    go false q = bad-set-up given q
+own-fault t (Do o) e n = go (sentences .eleven t o n)
+  where
+    go : (isSound t ≡ false) ⊎ NoSuchFault (o .op) → OwnFault (t .words) (Do o)
+    go (inl q) = no-true (sym e ∙ q)
+    go (inr q) = no-fault o q
+
+pub claim : Claim
+claim =
+    let d = promise .demand3 in
+    record {
+      promise = promise;
+      sound = sound-healthy;
+      healthy = healthy-sound;
+      entered = λ c s y h. stacked c s y h (d .entered c s y h);
+      woken = λ c s x waiting y h w g. woken c s x (run outer (step s x .state) waiting) y g (d .restored c s x waiting y h w g);
+      back = λ c s y going z h w g. back c s y (run outer (step s y .state) going) z h g (d .untouched c s y going z h w g);
+      lasts = λ s given ks e. runs-on (step s (SetUp given) .state) ks (words-kept .begun s given e);
+      eleven = λ s given ks k e n. own-fault (run outer (step s (SetUp given) .state) ks) k (runs-on (step s (SetUp given) .state) ks (words-kept .begun s given e)) n;
+    }

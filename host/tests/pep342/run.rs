@@ -1,0 +1,216 @@
+//! A compiled program on the library.
+
+use humdelzi::{Answer, Fault, Fuel, Kind, Machine, Object, Pc, Reg, Step, Word};
+
+use crate::compile::{int, Code, Inst, Tag, R};
+use crate::program::Pattern;
+
+/// How a run ended.
+#[derive(Clone, PartialEq, Eq, Debug)]
+pub enum End {
+    /// All actions are done.
+    Done,
+    /// Fuel was used up (10).
+    Fuel,
+    /// Too many steps, or no slot or row left: the program is not compared.
+    TooLarge,
+    /// What no run should do.
+    Wrong(String),
+}
+
+/// A run: the machine, and what was logged so far.
+pub struct Run<'a> {
+    pub machine: Machine,
+    pub fuel: Fuel,
+    pub events: Vec<String>,
+    codes: &'a [Code],
+    steps: u32,
+    /// The host's own pc, where it is not the top frame's.
+    paused: Option<u32>,
+}
+
+const MOST: u32 = 20_000;
+
+impl<'a> Run<'a> {
+    pub fn new(machine: Machine, fuel: Fuel, codes: &'a [Code]) -> Run<'a> {
+        Run { machine, fuel, events: Vec::new(), codes, steps: 0, paused: None }
+    }
+
+    fn get(&self, r: R) -> Word {
+        self.machine.register(Reg(r)).expect("a register of the frame")
+    }
+
+    fn put(&mut self, r: R, w: Word) {
+        let a = self.machine.put_word(&mut self.fuel, Reg(r), w);
+        assert_eq!(a, Answer::Accepted);
+    }
+
+    fn number(&self, w: Word) -> i64 {
+        w.as_int().unwrap_or(0)
+    }
+
+    fn value(&self, w: Word) -> String {
+        w.as_int().map_or("None".into(), |n| n.to_string())
+    }
+
+    /// What a raised word is called.
+    fn exception(&self, w: Word) -> String {
+        match (w.as_int(), self.machine.object(w)) {
+            (Some(n), _) => format!("E{n}"),
+            (_, Some(Object::Error { number, .. })) => number.to_string(),
+            _ if w.is_nil() => "exit".into(),
+            _ => format!("{w:?}"),
+        }
+    }
+
+    fn matches(&self, w: Word, p: Pattern) -> bool {
+        match p {
+            Pattern::Own(n) => w.as_int() == Some(n),
+            Pattern::Two => matches!(w.as_int(), Some(101 | 102)),
+            Pattern::Exit => w.is_nil(),
+            Pattern::Fault(n) => {
+                matches!(self.machine.object(w), Some(Object::Error { number, .. }) if number == n)
+            }
+            Pattern::Ordinary => !w.is_nil(),
+            Pattern::Any => true,
+        }
+    }
+
+    fn log(&mut self, tag: Tag, w: Word) {
+        let text = match tag {
+            Tag::Log => format!("log {}", self.value(w)),
+            Tag::Status => format!("status {}", w.0),
+            Tag::Item => format!("item {}", self.value(w)),
+            Tag::For => format!("for {}", self.value(w)),
+            Tag::Close => format!("close {}", self.value(w)),
+            Tag::Raised => format!("raised {}", self.exception(w)),
+        };
+        self.events.push(text);
+    }
+
+    fn unwind(&mut self, fault: Fault, pc: Option<Pc>) -> Result<(), End> {
+        match self.machine.unwind(&mut self.fuel, fault, pc) {
+            Answer::Caught | Answer::Stopped => Ok(()),
+            a => Err(ended(a)),
+        }
+    }
+
+    /// One instruction; the program goes on where the top frame stands, or at
+    /// the pc given back.
+    fn step(&mut self, pc: u32, inst: Inst) -> Result<Option<u32>, End> {
+        let at = Pc(pc);
+        let (m, fuel) = (&mut self.machine, &mut self.fuel);
+        let answer = match inst {
+            Inst::New(dst, f, n) => m.coro_new(fuel, at, Reg(dst), humdelzi::FunctionId(f), n),
+            Inst::Resume(d, c, s) => m.resume(fuel, at, Reg(d), Reg(c), Reg(s)),
+            Inst::Throw(d, c, s) => m.resume_throw(fuel, at, Reg(d), Reg(c), Reg(s)),
+            Inst::Close(d, c, s) => m.coro_close(fuel, at, Reg(d), Reg(c), Reg(s)),
+            Inst::Yield(d, s) => m.yield_(fuel, at, Reg(d), Reg(s)),
+            Inst::Await(d, s) => m.await_(fuel, at, Reg(d), Reg(s)),
+            Inst::Status(d, c) => m.coro_status(fuel, at, Reg(d), Reg(c)),
+            Inst::Current(d) => m.coro_current(fuel, at, Reg(d)),
+            Inst::IterNext { has, iter, val, src } => {
+                m.iter_next(fuel, at, Reg(has), Reg(iter), Reg(val), Reg(src))
+            }
+            _ => return self.own(pc, inst),
+        };
+        match answer.step() {
+            Some(Step::Next) => Ok(Some(pc + 1)),
+            Some(Step::Frame) => Ok(None),
+            Some(Step::Fault(f)) => self.unwind(f, Some(at)).map(|()| None),
+            Some(Step::Unwind(f)) => self.unwind(f, None).map(|()| None),
+            None => Err(ended(answer)),
+        }
+    }
+
+    /// One that is not the machine's.
+    fn own(&mut self, pc: u32, inst: Inst) -> Result<Option<u32>, End> {
+        let next = Ok(Some(pc + 1));
+        let jump = |to: u32, yes: bool| Ok(Some(if yes { to } else { pc + 1 }));
+        match inst {
+            Inst::Const(r, w) => self.put(r, w),
+            Inst::Move(to, from) => self.put(to, self.get(from)),
+            Inst::Add(to, from, n) => {
+                let sum = (self.number(self.get(from)) + n).rem_euclid(1000);
+                self.put(to, int(sum));
+            }
+            Inst::Jump(to) => return Ok(Some(to)),
+            Inst::JumpIs(r, w, to) => return jump(to, self.get(r) == w),
+            Inst::JumpOdd(r, to) => return jump(to, self.number(self.get(r)) % 2 == 1),
+            Inst::JumpMatch(r, p, to) => return jump(to, self.matches(self.get(r), p)),
+            Inst::JumpReg(r) => return Ok(Some(self.get(r).0 as u32)),
+            Inst::Log(tag, r) => self.log(tag, self.get(r)),
+            Inst::LogResult(r, s) => {
+                let kind = match self.get(s).0 {
+                    2 => "yield",
+                    3 => "await",
+                    4 => "stop",
+                    _ => "?",
+                };
+                let text = format!("{kind} {}", self.value(self.get(r)));
+                self.events.push(text);
+            }
+            Inst::Raise(r) => {
+                let word = self.get(r);
+                return self.unwind(Fault::Throw(word), Some(Pc(pc))).map(|()| None);
+            }
+            Inst::Return(r) => {
+                let word = self.get(r);
+                return match self.machine.finish(&mut self.fuel, Kind::Dyn, word) {
+                    Answer::Resume => Ok(None),
+                    a => Err(ended(a)),
+                };
+            }
+            Inst::Iterator(to, from) => {
+                let source = self.get(from);
+                match self.machine.make_iterator(&mut self.fuel, source) {
+                    Answer::Word(w) => self.put(to, w),
+                    a => return Err(ended(a)),
+                }
+            }
+            Inst::HandOver(r) => {
+                let coro = self.get(r);
+                match self.machine.hand_over(&mut self.fuel, coro) {
+                    Answer::Accepted => {}
+                    a => return Err(ended(a)),
+                }
+            }
+            Inst::Stop => return Err(End::Done),
+            _ => unreachable!("the machine's"),
+        }
+        next
+    }
+
+    /// How many instructions were run.
+    pub fn steps(&self) -> u32 {
+        self.steps
+    }
+
+    /// Runs to the end, or so many steps.
+    pub fn go(&mut self, steps: u32) -> Option<End> {
+        let mut pc = self.paused.take();
+        for _ in 0..steps {
+            self.steps += 1;
+            if self.steps > MOST {
+                return Some(End::TooLarge);
+            }
+            let top = self.machine.top().expect("the main program's frame");
+            let at = pc.unwrap_or(top.pc.0);
+            let inst = self.codes[top.function.0 as usize].insts[at as usize];
+            match self.step(at, inst) {
+                Ok(next) => pc = next,
+                Err(end) => return Some(end),
+            }
+        }
+        self.paused = pc;
+        None
+    }
+}
+
+fn ended(a: Answer) -> End {
+    match a.number() {
+        10 => End::Fuel,
+        9 | 14 => End::TooLarge,
+        _ => End::Wrong(format!("{a:?}")),
+    }
+}

@@ -1,0 +1,241 @@
+//! The compiled library, on words with a guard around each slice.
+
+use crate::lent::{setup_words, AnswerWords, CallWords, Words, MACHINE, STACK};
+use crate::world::{Setup, World};
+
+macro_rules! functions {
+    ($($name:ident($($slice:ident)* $(; $word:ident)?);)*) => {
+        extern "C" {
+            $(fn $name(
+                stack: *mut u64, _: usize,
+                frames: *mut u64, _: usize,
+                chain: *mut u64, _: usize,
+                slots: *mut u64, _: usize,
+                saved_stack: *mut u64, _: usize,
+                saved_frames: *mut u64, _: usize,
+                ready: *mut u64, _: usize,
+                finalize: *mut u64, _: usize,
+                setup: *mut u64, _: usize,
+                machine: *mut u64, _: usize,
+                fuel: *mut u64, _: usize,
+                $($slice: *mut u64, _: usize,)*
+                $($word: u64)?
+            ) -> u64;)*
+        }
+    };
+}
+
+functions! {
+    bvm_set_up(given answer);
+    bvm_call(call answer);
+    bvm_kept(call answer);
+    bvm_run(calls answers);
+    bvm_look(span);
+    bvm_grant(answer; amount);
+    bvm_sound();
+}
+
+const GUARD: u64 = 0x5AFE_5AFE_5AFE_5AFE;
+/// Guard words on each side.
+const AROUND: usize = 4;
+
+/// A slice with guard words on both sides.
+#[derive(Clone, Debug)]
+struct Guarded(Vec<u64>);
+
+impl Guarded {
+    fn new(words: &[u64]) -> Guarded {
+        let mut all = Vec::with_capacity(words.len() + 2 * AROUND);
+        all.extend([GUARD; AROUND]);
+        all.extend(words);
+        all.extend([GUARD; AROUND]);
+        Guarded(all)
+    }
+
+    fn slice(&mut self) -> &mut [u64] {
+        let end = self.0.len() - AROUND;
+        &mut self.0[AROUND..end]
+    }
+
+    /// The words, if the guards stand.
+    fn words(&self) -> &[u64] {
+        let end = self.0.len() - AROUND;
+        let whole = self.0[..AROUND].iter().chain(&self.0[end..]).all(|&w| w == GUARD);
+        assert!(whole, "a word outside the slice was written");
+        &self.0[AROUND..end]
+    }
+}
+
+/// A lent memory.
+#[derive(Clone, Debug)]
+pub struct Lent([Guarded; 11]);
+
+/// A slice as the library takes it.
+type Slice = (*mut u64, usize);
+
+fn lent(words: &mut [u64]) -> Slice {
+    (words.as_mut_ptr(), words.len())
+}
+
+/// Lends the eleven slices, then others, then a word.
+macro_rules! lend {
+    ($name:ident($all:expr, $($slice:expr),* $(; $word:expr)?)) => {{
+        let a: [Slice; 11] = $all;
+        // SAFETY: each slice is lent whole and none twice. `bvm_kept` is lent
+        // a sound machine's words only; the others take any.
+        unsafe {
+            $name(
+                a[0].0, a[0].1, a[1].0, a[1].1, a[2].0, a[2].1, a[3].0, a[3].1, a[4].0, a[4].1,
+                a[5].0, a[5].1, a[6].0, a[6].1, a[7].0, a[7].1, a[8].0, a[8].1, a[9].0, a[9].1,
+                a[10].0, a[10].1,
+                $($slice.0, $slice.1,)*
+                $($word)?
+            )
+        }
+    }};
+}
+
+/// A call in words through one of the library's functions.
+#[derive(Clone, Copy, PartialEq, Eq, PartialOrd, Ord, Debug)]
+pub enum Through {
+    Call,
+    Kept,
+}
+
+impl Lent {
+    #[must_use]
+    pub fn new(words: &Words) -> Lent {
+        Lent(std::array::from_fn(|i| Guarded::new(&words.0[i])))
+    }
+
+    #[must_use]
+    pub fn words(&self) -> Words {
+        Words(std::array::from_fn(|i| self.0[i].words().to_vec()))
+    }
+
+    /// Whether the words are those.
+    #[must_use]
+    pub fn is(&self, words: &Words) -> bool {
+        self.0.iter().zip(&words.0).all(|(a, b)| a.words() == b)
+    }
+
+    fn all(&mut self) -> [Slice; 11] {
+        self.0.each_mut().map(|s| lent(s.slice()))
+    }
+
+    pub fn set_up(&mut self, given: &[u64]) -> (u64, AnswerWords) {
+        let (mut given, mut answer) = (Guarded::new(given), Guarded::new(&[GUARD; 8]));
+        let (g, a) = (lent(given.slice()), lent(answer.slice()));
+        let number = lend!(bvm_set_up(self.all(), g, a));
+        (number, answer.words().try_into().expect("eight words"))
+    }
+
+    /// One call, with its words as they are.
+    pub fn call(&mut self, through: Through, call: &[u64]) -> (u64, AnswerWords) {
+        let (mut call, mut answer) = (Guarded::new(call), Guarded::new(&[GUARD; 8]));
+        let (c, a) = (lent(call.slice()), lent(answer.slice()));
+        let number = match through {
+            Through::Call => lend!(bvm_call(self.all(), c, a)),
+            Through::Kept => lend!(bvm_kept(self.all(), c, a)),
+        };
+        (number, answer.words().try_into().expect("eight words"))
+    }
+
+    /// Calls in words, one after the other; the answers have so many words,
+    /// and as many more as are not to be written.
+    pub fn run(&mut self, calls: &[u64], answers: usize, more: usize) -> (u64, Vec<u64>) {
+        let mut calls = Guarded::new(calls);
+        let mut all = Guarded::new(&vec![GUARD; answers + more]);
+        let (c, a) = (lent(calls.slice()), lent(all.slice()));
+        let number = lend!(bvm_run(self.all(), c, a));
+        let (told, beyond) = all.words().split_at(answers);
+        assert!(beyond.iter().all(|&w| w == GUARD), "beyond the last answer nothing is written");
+        (number, told.to_vec())
+    }
+
+    pub fn look(&mut self) -> (u64, [u64; 2]) {
+        let mut span = Guarded::new(&[GUARD; 2]);
+        let s = lent(span.slice());
+        let number = lend!(bvm_look(self.all(), s));
+        (number, span.words().try_into().expect("two words"))
+    }
+
+    pub fn grant(&mut self, amount: u64) -> (u64, AnswerWords) {
+        let mut answer = Guarded::new(&[GUARD; 8]);
+        let a = lent(answer.slice());
+        let number = lend!(bvm_grant(self.all(), a; amount));
+        (number, answer.words().try_into().expect("eight words"))
+    }
+
+    /// Too few words for the answer of each function, which must stay as they
+    /// are: what each returns.
+    pub fn short(&mut self, room: usize) -> [(&'static str, u64); 5] {
+        let mut call = Guarded::new(&[26, 0, 0, 0, 0, 0]);
+        let mut answer = Guarded::new(&vec![GUARD; room]);
+        let (c, a) = (lent(call.slice()), lent(answer.slice()));
+        let span = (a.0, a.1.min(1));
+        let told = [
+            ("bvm_call", lend!(bvm_call(self.all(), c, a))),
+            ("bvm_run", lend!(bvm_run(self.all(), c, a))),
+            ("bvm_look", lend!(bvm_look(self.all(), span))),
+            ("bvm_grant", lend!(bvm_grant(self.all(), a; 1))),
+            ("bvm_set_up", lend!(bvm_set_up(self.all(), c, a))),
+        ];
+        assert!(answer.words().iter().all(|&w| w == GUARD), "nothing is written");
+        told
+    }
+
+    pub fn sound(&mut self) -> bool {
+        match lend!(bvm_sound(self.all(),)) {
+            0 => false,
+            1 => true,
+            n => panic!("bvm_sound answers {n}"),
+        }
+    }
+}
+
+/// A sound machine's words without guards, for the benchmark.
+pub struct Bare {
+    words: Words,
+    answer: AnswerWords,
+}
+
+impl Bare {
+    /// A fresh machine. The set-up must be a good one.
+    #[must_use]
+    pub fn new(s: &Setup) -> Bare {
+        let mut bare = Bare { words: Words::of(&World::fresh(s.clone())), answer: [0; 8] };
+        let mut given = setup_words(s);
+        let (g, a) = (lent(&mut given), lent(&mut bare.answer));
+        assert_eq!(lend!(bvm_set_up(bare.words.0.each_mut().map(|w| lent(w)), g, a)), 0);
+        bare
+    }
+
+    /// A call, without the test of soundness.
+    #[inline]
+    pub fn kept(&mut self, mut call: CallWords) -> &AnswerWords {
+        let (c, a) = (lent(&mut call), lent(&mut self.answer));
+        lend!(bvm_kept(self.words.0.each_mut().map(|w| lent(w)), c, a));
+        &self.answer
+    }
+
+    /// A call with it.
+    #[inline]
+    pub fn call(&mut self, mut call: CallWords) -> &AnswerWords {
+        let (c, a) = (lent(&mut call), lent(&mut self.answer));
+        lend!(bvm_call(self.words.0.each_mut().map(|w| lent(w)), c, a));
+        &self.answer
+    }
+
+    /// The words on the stack.
+    #[must_use]
+    pub fn stack(&self) -> &[u64] {
+        &self.words.0[STACK][..self.words.0[MACHINE][0] as usize]
+    }
+
+    /// How many frames there are.
+    #[must_use]
+    pub fn depth(&self) -> usize {
+        self.words.0[MACHINE][1] as usize
+    }
+}

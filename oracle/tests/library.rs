@@ -1,0 +1,109 @@
+//! The compiled library beside the recorded answers and the second engine, and
+//! bad input on it, where it is linked.
+
+#[cfg(not(library))]
+#[test]
+fn the_library_is_compared() {
+    println!("skipped: the library is not linked (BVM_LIB is unset)");
+}
+
+#[cfg(library)]
+mod linked {
+    use std::time::Instant;
+
+    use oracle::bad::{carried, memories, set_ups, Carried, Tried};
+    use oracle::beside::{Count, Library};
+    use oracle::generate::{sequence, wild, Rng, Sequence};
+    use oracle::plain::Plain;
+    use oracle::recorded::{digest, read};
+    use oracle::world::Costs;
+
+    const COSTS: Costs =
+        Costs { frame: 32, coro: 104, coro_object: 160, int: 56, error: 56, iter: 112 };
+
+    fn tell(name: &str, count: &Count, start: Instant) {
+        println!(
+            "{name}: {} sequences, {} calls three ways, {} words that are no call, {} words of state, {:.1} s, no difference",
+            count.sequences,
+            count.calls,
+            count.none,
+            count.words,
+            start.elapsed().as_secs_f64()
+        );
+    }
+
+    #[test]
+    fn recorded_answers() {
+        let all = read(include_str!("../recorded/answers.txt")).expect("the recorded answers");
+        let (start, mut count) = (Instant::now(), Count::default());
+        for (i, r) in all.iter().enumerate() {
+            let calls = r.lines.iter().map(|l| l.call.clone()).collect();
+            let mut lines = r.lines.iter();
+            let sequence = Sequence { start: r.start.clone(), calls };
+            Library::beside(&mut Plain::default(), &sequence, &mut count, |_, answer, after| {
+                let line = lines.next().expect("a line for each call");
+                (line.answer == *answer && line.digest == digest(after))
+                    .then_some(())
+                    .ok_or("not what was recorded".into())
+            })
+            .unwrap_or_else(|why| panic!("sequence {i}: {why}"));
+        }
+        assert_eq!(count.sequences, all.len() as u64);
+        tell("recorded", &count, start);
+    }
+
+    fn beside(name: &str, n: u64, next: impl Fn(&mut Rng) -> Sequence) {
+        let (start, mut count) = (Instant::now(), Count::default());
+        for i in 0..n {
+            let s = next(&mut Rng::new(0x1_0000_0001 + i));
+            Library::beside(&mut Plain::default(), &s, &mut count, |_, _, _| Ok(()))
+                .unwrap_or_else(|why| panic!("sequence {i}: {why}"));
+        }
+        tell(name, &count, start);
+    }
+
+    #[test]
+    fn random_sequences() {
+        beside("random", 2_000, |rng| sequence(rng, COSTS, 20));
+    }
+
+    #[test]
+    fn operands_beyond_the_limits() {
+        beside("wild", 1_000, |rng| wild(rng, COSTS, 20));
+    }
+
+    #[test]
+    fn memories_that_hold_anything() {
+        let (start, mut tried) = (Instant::now(), Tried::default());
+        let done = memories(&mut Rng::new(3), COSTS, 20_000, &mut tried);
+        done.unwrap_or_else(|why| panic!("{why}"));
+        let [sound, unsound] = tried.totals();
+        println!(
+            "bad: {} memories, {sound} sound, {unsound} not, {:.1} s",
+            tried.count(),
+            start.elapsed().as_secs_f64()
+        );
+        assert!(sound > 1_000 && unsound > 10_000);
+    }
+
+    #[test]
+    fn set_ups_good_and_bad() {
+        let mut tried = Tried::default();
+        let done = set_ups(&mut Rng::new(5), COSTS, 3_000, &mut tried);
+        done.unwrap_or_else(|why| panic!("{why}"));
+        println!("set-ups: by answer {:?}", tried.answers);
+    }
+
+    #[test]
+    fn damaged_on_the_way() {
+        let mut count = Carried::default();
+        for i in 0..1_000 {
+            let mut rng = Rng::new(0x7_0000_0001 + i);
+            let s = sequence(&mut rng, COSTS, 20);
+            carried(&mut rng, &s, &mut Plain::default(), &mut count)
+                .unwrap_or_else(|why| panic!("run {i}: {why}"));
+        }
+        println!("carried: {count:?}");
+        assert!(count.refused > 100 && count.sound > 100);
+    }
+}
