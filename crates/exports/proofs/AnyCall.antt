@@ -1,11 +1,9 @@
 -- Any call between words: what is read from them is what the call is given, and what it leaves is written back. Assumes nothing.
 use mathlib.Core.Path.{_≡_, refl, sym, _∙_, subst}
-use mathlib.Core.Bool.{true}
 use mathlib.Core.List.{List}
 use Prim.Native.Nat.{ℕ}
 use Rattle.lists.specs.Parts.{splice}
 use Rattle.heap.specs.declared.fault.Fault.{Fault}
-use Rattle.model.specs.Call.{typed}
 use Rattle.model.specs.declared.call.Op.{Op}
 use Rattle.model.specs.declared.call.Answer.{Answer}
 use Rattle.model.specs.declared.machine.Fuel.{Fuel}
@@ -16,19 +14,16 @@ use Rattle.memory.specs.declared.machine.Sizes.{Sizes}
 use Rattle.calls.specs.Call.{opOf}
 use Rattle.calls.specs.Answer.{answerWords}
 use Rattle.calls.specs.declared.call.Read.{Read}
-use Rattle.kept.specs.Kept.{did, KeptFits}
+use Rattle.kept.specs.Kept.{did}
 use Rattle.exports.specs.Words.{machineIn, machineWords, sizesIn, fuelIn, fuelWords}
 use Rattle.exports.specs.Whole.{Does, KeptCalled, KeptDone}
 use Rattle.exports.proofs.Called.{back, numbers, fuel-told, fuelled}
 
 -- what is required of the words is required of what was read
-pub kept-given : (ls ms fs : List ℕ) (l : Sizes) (m : Machine) (f : Fuel) (M : Beside → Lent) (o : Op) → l ≡ sizesIn ls → m ≡ machineIn ms → f ≡ fuelIn fs
-    → Ok (sizesIn ls) M (with (machineIn ms) (fuelIn fs)) → typed o ≡ true → KeptFits l M m f o
-kept-given ls ms fs l m f M o a b c ok h =
-    record {
-      ok = subst (λ k. Ok k M (with m f)) (sym a) (subst (λ k. Ok (sizesIn ls) M (with k f)) (sym b) (subst (λ k. Ok (sizesIn ls) M (with (machineIn ms) k)) (sym c) ok));
-      within = h;
-    }
+pub kept-given : (ls ms fs : List ℕ) (l : Sizes) (m : Machine) (f : Fuel) (M : Beside → Lent) → l ≡ sizesIn ls → m ≡ machineIn ms → f ≡ fuelIn fs
+    → Ok (sizesIn ls) M (with (machineIn ms) (fuelIn fs)) → Ok l M (with m f)
+kept-given ls ms fs l m f M a b c ok =
+    subst (λ k. Ok k M (with m f)) (sym a) (subst (λ k. Ok (sizesIn ls) M (with k f)) (sym b) (subst (λ k. Ok (sizesIn ls) M (with (machineIn ms) k)) (sym c) ok))
 
 module _ (ls ms fs ms′ fs′ xs xs′ : List ℕ) (M M′ : Beside → Lent) where
   module _ (l : Sizes) (m : Machine) (f : Fuel) (told : l ≡ sizesIn ls) (is : m ≡ machineIn ms) (held : f ≡ fuelIn fs) where

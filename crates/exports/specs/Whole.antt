@@ -1,12 +1,10 @@
 -- Any call in words: what it requires of them, and what it leaves.
 use mathlib.Core.Path.{_≡_}
-use mathlib.Core.Bool.{true}
 use mathlib.Core.List.{List}
 use Prim.Native.Nat.{ℕ, _≤_}
 use lib.ListN.{length}
 use Rattle.lists.specs.Parts.{splice}
 use Rattle.heap.specs.declared.fault.Fault.{Fault}
-use Rattle.model.specs.Call.{typed}
 use Rattle.model.specs.declared.call.Op.{Op}
 use Rattle.model.specs.declared.call.Answer.{Answer}
 use Rattle.memory.specs.Memory.{Lent, Beside}
@@ -24,11 +22,6 @@ pub record KeptCallFits (stack frames chain slots savedStack savedFrames ready f
   pub passed : Passed sizes machine answer 8
   pub tank : 4 ≤ length fuel
   pub ok : Ok (sizesIn sizes) (all stack frames chain slots savedStack savedFrames ready finalize setup (λ s. s)) (with (machineIn machine) (fuelIn fuel))
-
--- .. and operands that their types hold
-pub record DoneFits (stack frames chain slots savedStack savedFrames ready finalize setup sizes machine fuel answer : List ℕ) (o : Op) : Type 0 where
-  pub fits : KeptCallFits stack frames chain slots savedStack savedFrames ready finalize setup sizes machine fuel answer
-  pub within : typed o ≡ true
 
 -- a call: what it leaves and answers; and its words may be lent to the next
 pub record Done (ls : List ℕ) (o : Op) (M M′ : Beside → Lent) (ms fs ms′ fs′ : List ℕ) (a : Answer) : Type 0 where

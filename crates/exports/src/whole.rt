@@ -1,7 +1,7 @@
 // Any call of document 01 but the set-up, in words (docs/CALLS.md), on words that stand for a sound machine.
 ghost use Rattle.memory.specs.Lendings.{all};
 ghost use Rattle.memory.specs.Contract.{atEntry, atExit};
-ghost use Rattle.exports.specs.Whole.{KeptCallFits, DoneFits, KeptCalled, KeptDone};
+ghost use Rattle.exports.specs.Whole.{KeptCallFits, KeptCalled, KeptDone};
 use crate::answers::fuel_of;
 use crate::answers::put_fuel;
 use crate::numbers::machine_of;
@@ -29,7 +29,7 @@ fn do_call(
     op: Op,
     answer: &mut [u64],
 )
-    requires { ⌜ DoneFits (now stack) (now frames) (now chain) (now slots) (now «saved_stack») (now «saved_frames») (now ready) (now finalize) (now setup) (now sizes) (now machine) (now fuel) (now answer) op ⌝ }
+    requires { ⌜ KeptCallFits (now stack) (now frames) (now chain) (now slots) (now «saved_stack») (now «saved_frames») (now ready) (now finalize) (now setup) (now sizes) (now machine) (now fuel) (now answer) ⌝ }
     ensures { λ _. ⌜ KeptDone (now (sizes .entry)) op (all stack frames chain slots «saved_stack» «saved_frames» ready finalize setup atEntry) (all stack frames chain slots «saved_stack» «saved_frames» ready finalize setup atExit) (now (machine .entry)) (now (fuel .entry)) (now (machine .exit)) (now (fuel .exit)) (now (answer .entry)) (now (answer .exit)) ⌝ }
 {
     let m = machine_of(machine);

@@ -2,3 +2,4 @@ pub mod Calls
 pub mod Gating
 pub mod Keeping
 pub mod Ranges
+pub mod InRange

@@ -17,8 +17,8 @@ use Rattle.memory.specs.declared.machine.Sizes.{Sizes}
 abbrev pub did : Op → World → After Answer
 did o w = after (call o w .world) (call o w .answer)
 
--- a sound world, and operands that their types hold
-pub record KeptFits (l : Sizes) (M : Beside → Lent) (m : Machine) (fuel : Fuel) (o : Op) : Type 0 where
+-- a sound world, and operands that their types hold, as those of any `Op` do (`widths`)
+pub record DispatchFits (l : Sizes) (M : Beside → Lent) (m : Machine) (fuel : Fuel) (o : Op) : Type 0 where
   pub ok : Ok l M (with m fuel)
   pub within : typed o ≡ true
 

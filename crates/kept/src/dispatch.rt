@@ -1,5 +1,5 @@
 // A call on sound words, by the operation.
-ghost use Rattle.kept.specs.Kept.{did, KeptFits};
+ghost use Rattle.kept.specs.Kept.{did, DispatchFits};
 ghost use Rattle.memory.specs.Lendings.{all};
 ghost use Rattle.memory.specs.Contract.{Met, ifSound, with};
 use crate::gates::function_call;
@@ -39,7 +39,7 @@ pub(crate) fn dispatch(
     fuel: Fuel,
     op: Op,
 ) -> Called
-    requires { ⌜ KeptFits l (all stack frames chain slots «saved_stack» «saved_frames» ready finalize setup now) m fuel op ⌝ }
+    requires { ⌜ DispatchFits l (all stack frames chain slots «saved_stack» «saved_frames» ready finalize setup now) m fuel op ⌝ }
     ensures { λ r. ⌜ Met ifSound l (did op) (all stack frames chain slots «saved_stack» «saved_frames» ready finalize setup) (with m fuel) (with (r .machine) (r .fuel)) (r .answer) ⌝ }
 {
     match op {

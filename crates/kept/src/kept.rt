@@ -1,8 +1,9 @@
 // Any call of document 01 but the set-up, on words that stand for a sound machine. Nothing is tested that soundness gives.
-ghost use Rattle.kept.specs.Kept.{Keeps, KeptFits};
+ghost use Rattle.kept.specs.Kept.{Keeps};
 ghost use Rattle.memory.specs.Lendings.{all};
-ghost use Rattle.memory.specs.Contract.{with};
+ghost use Rattle.memory.specs.Contract.{Ok, with};
 use crate::dispatch::dispatch;
+use crate::widths::widths;
 use exec::instruction::Called;
 use memory::machine::Machine;
 use memory::machine::Sizes;
@@ -24,9 +25,10 @@ pub fn kept(
     fuel: Fuel,
     op: Op,
 ) -> Called
-    requires { ⌜ KeptFits l (all stack frames chain slots «saved_stack» «saved_frames» ready finalize setup now) m fuel op ⌝ }
+    requires { ⌜ Ok l (all stack frames chain slots «saved_stack» «saved_frames» ready finalize setup now) (with m fuel) ⌝ }
     ensures { λ r. ⌜ Keeps l op (all stack frames chain slots «saved_stack» «saved_frames» ready finalize setup) (with m fuel) (with (r .machine) (r .fuel)) (r .answer) ⌝ }
 {
+    widths(op);
     dispatch(
         stack,
         frames,

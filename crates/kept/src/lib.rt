@@ -2,3 +2,4 @@
 pub mod dispatch;
 pub mod gates;
 pub mod kept;
+pub mod widths;

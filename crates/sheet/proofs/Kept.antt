@@ -1,4 +1,4 @@
--- What the table's moves keep: the cleanup queue, and that no slot is empty.
+-- What the table's moves keep: the set-up, the cleanup queue, and that no slot is empty.
 use Prim.Native.Nat.{ℕ, zero, suc}
 use mathlib.Core.Path.{_≡_, refl, ap}
 use mathlib.Core.Bool.{Bool, true, false, not, _&&_, false≢true}
@@ -10,6 +10,7 @@ use Rattle.heap.specs.declared.value.Opt.{Opt}
 use Rattle.heap.specs.declared.heap.ResultKind.{ResultKind}
 use Rattle.heap.specs.declared.object.CoroState.{CoroState}
 use Rattle.model.specs.Lists.{each}
+use Rattle.model.specs.Program.{Setup}
 use Rattle.model.specs.Object.{Rest, Object}
 use Rattle.model.specs.World.{World, withChain}
 use Rattle.model.specs.declared.machine.Active.{Active}
@@ -28,16 +29,27 @@ use Rattle.sheet.proofs.Choice.{both, by-test}
 abbrev pub filled : List (Slot Object) → Bool
 filled xs = each (λ x. not (isNothing (x .object))) xs
 
-pub record KeptIn (q : List ℕ) (xs : List (Slot Object)) (q′ : List ℕ) (ys : List (Slot Object)) : Type 0 where
-  pub queue : q′ ≡ q
+pub record StaysIn (s : Setup) (xs : List (Slot Object)) (t : Setup) (ys : List (Slot Object)) : Type 0 where
+  pub setup : t ≡ s
   pub full : filled xs ≡ true → filled ys ≡ true
 
--- the world x has the queue of u, and no empty slot if u has none
+-- the world x has the set-up of u, and no empty slot if u has none
+abbrev pub Stays : World → World → Type 0
+Stays u x = StaysIn (u .setup) (u .slots) (x .setup) (x .slots)
+
+pub stays : (u : World) → Stays u u
+stays u = record { setup = refl; full = λ h. h }
+
+pub record KeptIn (q : List ℕ) (s : Setup) (xs : List (Slot Object)) (q′ : List ℕ) (t : Setup) (ys : List (Slot Object)) : Type 0 where
+  pub queue : q′ ≡ q
+  pub stays : StaysIn s xs t ys
+
+-- and the queue of u
 abbrev pub Kept : World → World → Type 0
-Kept u x = KeptIn (u .finalize) (u .slots) (x .finalize) (x .slots)
+Kept u x = KeptIn (u .finalize) (u .setup) (u .slots) (x .finalize) (x .setup) (x .slots)
 
 pub same-world : (u : World) → Kept u u
-same-world u = record { queue = refl; full = λ h. h }
+same-world u = record { queue = refl; stays = stays u }
 
 joins : (a b : Bool) → a ≡ true → b ≡ true → a && b ≡ true
 joins true b h k = k
@@ -62,22 +74,22 @@ iterates (Object.Coro k r) f g h = refl
 
 module _ (u : World) where
   pub puts : (v : ℕ) (o : Object) (x : World) → isNothing o ≡ false → Kept u x → Kept u (replaced v o x)
-  puts v o x e k = record { queue = k .queue; full = λ h. set-filled (x .slots) _ _ e (k .full h) }
+  puts v o x e k = record { queue = k .queue; stays = record { setup = k .stays .setup; full = λ h. set-filled (x .slots) _ _ e (k .stays .full h) } }
 
   pub adds : (o : Object) (bytes : ℕ) (x : World) → isNothing o ≡ false → Kept u x → Kept u (stored o bytes x)
-  adds o bytes x e k = record { queue = k .queue; full = λ h. push-filled (x .slots) (slot 0 o) e (k .full h) }
+  adds o bytes x e k = record { queue = k .queue; stays = record { setup = k .stays .setup; full = λ h. push-filled (x .slots) (slot 0 o) e (k .stays .full h) } }
 
   pub marks : (v : ℕ) (f : Bool → Bool) (g : Opt → Opt) (x : World) → Kept u x → Kept u (marked v f g x)
   marks v f g x k = by-test (λ y. Kept u y) (eqb (kind (found x v)) 3) (λ e. puts v (iterator f g (found x v)) x (iterates (found x v) f g e) k) (λ _. k)
 
   pub enters-kept : (r : Rest) (v : ℕ) (d : Driver) (x : World) → Kept u x → Kept u (enteredAs r v d x)
-  enters-kept r v d x k = record { queue = k .queue; full = λ h. set-filled (x .slots) _ _ refl (k .full h) }
+  enters-kept r v d x k = record { queue = k .queue; stays = record { setup = k .stays .setup; full = λ h. set-filled (x .slots) _ _ refl (k .stays .full h) } }
 
   pub gives-kept : (s : CoroState) (r v : ℕ) (x : World) → Kept u x → Kept u (given s r v x)
   gives-kept s r v x k = both (λ y. Kept u y) _ k k
 
   pub ends-kept : (v : ℕ) (s : CoroState) (result : ℕ) (x : World) → Kept u x → Kept u (ended v s result x)
-  ends-kept v s result x k = both (λ y. Kept u y) _ (record { queue = k .queue; full = λ h. set-filled (x .slots) _ _ refl (k .full h) }) k
+  ends-kept v s result x k = both (λ y. Kept u y) _ (record { queue = k .queue; stays = record { setup = k .stays .setup; full = λ h. set-filled (x .slots) _ _ refl (k .stays .full h) } }) k
 
   pub delivers-kept : (d : Driver) (payload key : ℕ) (s : Stop) (x : World) → Kept u x → Kept u (delivered d payload key s x)
   delivers-kept (Driver.Resume dst) payload key s x k = k

@@ -81,7 +81,7 @@ new-filled i (f ∷ fs) = new-filled (suc i) fs
 
 steps-filled : (w : World) (c : Call) → filled (w .slots) ≡ true → filled (step w c .world .slots) ≡ true
 steps-filled w (SetUp s) h = set-up-has s w (λ m x. filled (x .slots) ≡ true) h (new-filled 0 (s .functions))
-steps-filled w (Do o) h = ap (λ (x : World). filled (x .slots)) (done-is w o) ∙ fact w (o .op) .full h
+steps-filled w (Do o) h = ap (λ (x : World). filled (x .slots)) (done-is w o) ∙ fact w (o .op) .stays .full h
 
 run-filled : (w : World) (cs : List Call) → filled (w .slots) ≡ true → filled (run w cs .slots) ≡ true
 run-filled w [] h = h
@@ -266,6 +266,7 @@ sentences =
       given = given-by;
       given-set-up = λ w s. ap (λ (o : Out). numberOf (o .answer)) (sets-up w s) ∙ set-up-says (setupOk s) s w;
       unchanged = stays;
+      set-up-stays = λ w o. ap (λ (x : World). x .setup) (done-is w o) ∙ fact w (o .op) .stays .setup;
       full-after-9 = λ w o. behind-9 (o .op) w;
       slots-taken = λ w s cs h k. slots-exact (run w (SetUp s ∷ cs)) (reached-filled w s cs h) k;
       full = λ w s cs o h k. full-by (run w (SetUp s ∷ cs)) o (reached-filled w s cs h) k;

@@ -146,10 +146,10 @@ module _ (u : World) where
     spawn-owns = ((λ _. ok k refl, indirect-owns (word u c) argc last last-owns), ok paid-owns refl)
 
   yielded-kept : (pc dst payload key largest : ℕ) (v : World) → Kept u v → Kept u (Yields.yielded dst payload key largest (pcStored pc v))
-  yielded-kept pc dst payload key largest v h = record { queue = h .queue; full = λ f. set-filled (v .slots) _ _ refl (h .full f) }
+  yielded-kept pc dst payload key largest v h = record { queue = h .queue; stays = record { setup = h .stays .setup; full = λ f. set-filled (v .slots) _ _ refl (h .stays .full f) } }
 
   awaited-kept : (pc dst payload : ℕ) → Kept u (Yields.awaited dst payload (pcStored pc u))
-  awaited-kept pc dst payload = record { queue = refl; full = λ f. set-filled (u .slots) _ _ refl f }
+  awaited-kept pc dst payload = record { queue = refl; stays = record { setup = refl; full = λ f. set-filled (u .slots) _ _ refl f } }
 
   yields-owns : (pc dst payload key largest : ℕ) (v : World) → Kept u v → EveryLine (Own u) (Yields.yields pc dst payload key largest v)
   yields-owns pc dst payload key largest v h = (λ _. ok h refl, (λ _. ok (yielded-kept pc dst payload key largest v h) refl, tt))

@@ -39,13 +39,13 @@ use Rattle.sheet.specs.Sheet.{lie, windowLies, tableOf, sheet}
 use Rattle.sheet.specs.Sentences.{unchanging}
 use Rattle.sheet.proofs.Among.{and-right}
 use Rattle.sheet.proofs.Choice.{both}
-use Rattle.sheet.proofs.Kept.{filled, Kept, same-world, set-filled, adds, enters-kept, gives-kept, over-kept, returns-kept, converts-kept, stops-kept}
+use Rattle.sheet.proofs.Kept.{Stays, stays, Kept, same-world, set-filled, adds, enters-kept, gives-kept, over-kept, returns-kept, converts-kept, stops-kept}
 use Rattle.sheet.proofs.Walk as Walk
 use Rattle.sheet.proofs.Walk.{EveryLine, by-stop, led-line, map-lines, lacking, Own, Owns, none}
 
 -- a line of a call on w that stops it with the number m, and leaves x
 pub record Fact (w : World) (m : ℕ) (x : World) : Type 0 where
-  pub full : filled (w .slots) ≡ true → filled (x .slots) ≡ true
+  pub stays : Stays w x
   pub lack : eqb m 14 ≡ true → lacking w ≡ true
   pub calm : among m unchanging ≡ true → x ≡ w
 
@@ -55,21 +55,21 @@ module _ (pc : ℕ) (ok : Bool) (own : World → Lines Step) (w : World) (owns :
   abbrev u : World
   u = charged pc w
 
-  charged-filled : filled (w .slots) ≡ true → filled (u .slots) ≡ true
-  charged-filled h = both (λ (x : World). filled (x .slots) ≡ true) _ h (both (λ (x : World). filled (x .slots) ≡ true) _ h h)
+  charged-stays : Stays w u
+  charged-stays = both (λ (x : World). Stays w x) _ (stays w) (both (λ (x : World). Stays w x) _ (stays w) (stays w))
 
   charged-lacking : lacking u ≡ lacking w
   charged-lacking = both (λ x. lacking x ≡ lacking w) _ refl (both (λ x. lacking x ≡ lacking w) _ refl refl)
 
   own-fact : (m : ℕ) (x : World) → Own u m x → Fact w m x
-  own-fact m x o = record { full = λ h. o .kept .full (charged-filled h); lack = λ e. sym charged-lacking ∙ o .lack e; calm = λ e. absurd (true≢false (sym e ∙ o .calm)) }
+  own-fact m x o = record { stays = record { setup = o .kept .stays .setup ∙ charged-stays .setup; full = λ h. o .kept .stays .full (charged-stays .full h) }; lack = λ e. sym charged-lacking ∙ o .lack e; calm = λ e. absurd (true≢false (sym e ∙ o .calm)) }
 
   own-facts : {A : Type 0} (ts : List (Line A)) → EveryLine (Own u) ts → EveryLine (Fact w) ts
   own-facts [] h = tt
   own-facts (t ∷ ts) h = (λ e. own-fact (t .number) (t .left) (h .0 e), own-facts ts (h .1))
 
   still : (m : ℕ) → eqb m 14 ≡ false → Fact w m w
-  still m e = record { full = λ h. h; lack = λ k. absurd (true≢false (sym k ∙ e)); calm = λ _. refl }
+  still m e = record { stays = stays w; lack = λ k. absurd (true≢false (sym k ∙ e)); calm = λ _. refl }
 
   pub instruction-facts : EveryLine (Fact w) (instruction pc ok own w .tests) × Fact w (instruction pc ok own w .done .number) (instruction pc ok own w .done .left)
   instruction-facts = (
@@ -78,9 +78,9 @@ module _ (pc : ℕ) (ok : Bool) (own : World → Lines Step) (w : World) (owns :
       (
         λ _. still 13 refl,
         (
-          λ _. record { full = λ h. h; lack = λ e. absurd (false≢true e); calm = λ e. absurd (false≢true e) },
+          λ _. record { stays = stays w; lack = λ e. absurd (false≢true e); calm = λ e. absurd (false≢true e) },
           (
-            λ _. record { full = λ h. enters-kept w _ _ Driver.Finalize (withFinalize _ (pcStored pc w)) (record { queue = refl; full = λ f. f }) .full h; lack = λ e. absurd (false≢true e); calm = λ e. absurd (false≢true e) },
+            λ _. record { stays = enters-kept w _ _ Driver.Finalize (withFinalize _ (pcStored pc w)) (record { queue = refl; stays = stays w }) .stays; lack = λ e. absurd (false≢true e); calm = λ e. absurd (false≢true e) },
             own-facts (map (asAnswer (lost pc w)) (own u .tests)) (map-lines (Own u) (lost pc w) (own u .tests) (owns .0)),
           ),
         ),
@@ -97,40 +97,40 @@ Facts w s = EveryLine (Fact w) (s .tests) × Fact w (s .done .number) (s .done .
 module _ (w : World) where
   -- a refusal that leaves the machine as it was
   no : {m : ℕ} → eqb m 14 ≡ false → Fact w m w
-  no e = record { full = λ h. h; lack = λ k. absurd (true≢false (sym k ∙ e)); calm = λ _. refl }
+  no e = record { stays = stays w; lack = λ k. absurd (true≢false (sym k ∙ e)); calm = λ _. refl }
 
   -- a number that is neither 14 nor one that changes nothing
-  to : {m : ℕ} (x : World) → (filled (w .slots) ≡ true → filled (x .slots) ≡ true) → eqb m 14 || among m unchanging ≡ false → Fact w m x
-  to {m} x f h = record { full = f; lack = λ e. absurd (true≢false (sym e ∙ none (eqb m 14) (among m unchanging) h .0)); calm = λ e. absurd (true≢false (sym e ∙ none (eqb m 14) (among m unchanging) h .1)) }
+  to : {m : ℕ} (x : World) → Stays w x → eqb m 14 || among m unchanging ≡ false → Fact w m x
+  to {m} x f h = record { stays = f; lack = λ e. absurd (true≢false (sym e ∙ none (eqb m 14) (among m unchanging) h .0)); calm = λ e. absurd (true≢false (sym e ∙ none (eqb m 14) (among m unchanging) h .1)) }
 
   -- 14
-  is14 : (x : World) → (filled (w .slots) ≡ true → filled (x .slots) ≡ true) → noSlot w ≡ true → Fact w 14 x
-  is14 x f e = record { full = f; lack = λ _. ap (λ t. t || noRow w) e; calm = λ k. absurd (false≢true k) }
+  is14 : (x : World) → Stays w x → noSlot w ≡ true → Fact w 14 x
+  is14 x f e = record { stays = f; lack = λ _. ap (λ t. t || noRow w) e; calm = λ k. absurd (false≢true k) }
 
   -- finish
-  converts : (c : ResultKind) (v : ℕ) (x : World) → (filled (w .slots) ≡ true → filled (x .slots) ≡ true) → noSlot x ≡ noSlot w → EveryLine (Fact w) (conversion c v x)
+  converts : (c : ResultKind) (v : ℕ) (x : World) → Stays w x → noSlot x ≡ noSlot w → EveryLine (Fact w) (conversion c v x)
   converts c v x f e = (λ _. to x f refl, (λ _. to x f refl, (λ h. is14 x f (sym e ∙ and-right (isObject c v) (noSlot x) h), tt)))
 
   finish-by : (c : Cont) (f : Frame) (fs : List Frame) (r : ResultKind) (v : ℕ) → Facts w (finishBy c f fs r v w)
-  finish-by Cont.Entry f fs r v = (tt, to (popped f fs w) (λ h. h) refl)
+  finish-by Cont.Entry f fs r v = (tt, to (popped f fs w) (stays w) refl)
   finish-by (Cont.Write dst) f fs r v = (tt, written r)
     where
       written : (r : ResultKind) → Fact w 0 (finishBy (Cont.Write dst) f fs r v w .done .left)
-      written ResultKind.None = to _ (λ h. h) refl
-      written ResultKind.Dyn = to _ (λ h. h) refl
-      written ResultKind.I64 = to _ (λ h. h) refl
-      written ResultKind.U64 = to _ (λ h. h) refl
+      written ResultKind.None = to _ (stays w) refl
+      written ResultKind.Dyn = to _ (stays w) refl
+      written ResultKind.I64 = to _ (stays w) refl
+      written ResultKind.U64 = to _ (stays w) refl
   finish-by (Cont.Dyn dst) f fs r v =
-      (converts r v (popped f fs w) (λ h. h) refl, to (finishBy (Cont.Dyn dst) f fs r v w .done .left) (λ h. converts-kept w r v (popped f fs w) (record { queue = refl; full = λ g. g }) .full h) refl)
-  finish-by (Cont.Value dst) f fs r v = (tt, to (finishBy (Cont.Value dst) f fs r v w .done .left) (λ h. h) refl)
-  finish-by Cont.Discard f fs r v = (tt, to (finishBy Cont.Discard f fs r v w .done .left) (λ h. h) refl)
+      (converts r v (popped f fs w) (stays w) refl, to (finishBy (Cont.Dyn dst) f fs r v w .done .left) (converts-kept w r v (popped f fs w) (record { queue = refl; stays = stays w }) .stays) refl)
+  finish-by (Cont.Value dst) f fs r v = (tt, to (finishBy (Cont.Value dst) f fs r v w .done .left) (stays w) refl)
+  finish-by Cont.Discard f fs r v = (tt, to (finishBy Cont.Discard f fs r v w .done .left) (stays w) refl)
   finish-by Cont.Coro f fs r v = (
-    converts r v w (λ h. h) refl,
-    to (finishBy Cont.Coro f fs r v w .done .left) (λ h. returns-kept w (w .chain) (dynamic r v w) (popped f fs (converted r v w)) (converts-kept w r v w (same-world w)) .full h) refl,
+    converts r v w (stays w) refl,
+    to (finishBy Cont.Coro f fs r v w .done .left) (returns-kept w (w .chain) (dynamic r v w) (popped f fs (converted r v w)) (converts-kept w r v w (same-world w)) .stays) refl,
   )
 
   finish-on : (fs : List Frame) (r : ResultKind) (v : ℕ) → Facts w (finishOn fs r v w)
-  finish-on [] r v = (tt, to w (λ h. h) refl)
+  finish-on [] r v = (tt, to w (stays w) refl)
   finish-on (f ∷ fs) r v = finish-by (f .cont) f fs r v
 
   -- unwind: from x, which keeps what w keeps
@@ -141,17 +141,17 @@ module _ (w : World) where
   fails Driver.Finalize s x k = k
 
   searches : (fs : List Frame) (value f pc : ℕ) (x : World) → Kept w x → EveryLine (Fact w) (search fs value f pc x)
-  searches [] value f pc x k = (λ _. to x (k .full) refl, tt)
+  searches [] value f pc x k = (λ _. to x (k .stays) refl, tt)
   searches (y ∷ ys) value f pc x k = (
-    λ _. to (bankBack x) (k .full) refl,
+    λ _. to (bankBack x) (k .stays) refl,
     (
-      λ _. to (put (Unwinding.taker (Unwinding.takers y x) .catch) value (pcStored (Unwinding.taker (Unwinding.takers y x) .target) (paid x))) (λ h. both (λ (z : World). filled (z .slots) ≡ true) _ (k .full h) (both (λ (z : World). filled (z .slots) ≡ true) _ (k .full h) (k .full h))) refl,
+      λ _. to (put (Unwinding.taker (Unwinding.takers y x) .catch) value (pcStored (Unwinding.taker (Unwinding.takers y x) .target) (paid x))) (both (λ (z : World). Stays w z) _ (k .stays) (both (λ (z : World). Stays w z) _ (k .stays) (k .stays))) refl,
       (
-        λ _. to (popped y ys x) (k .full) refl,
+        λ _. to (popped y ys x) (k .stays) refl,
         (
-          λ _. to (returned (x .chain) 0 (popped y ys x)) (returns-kept w (x .chain) 0 (popped y ys x) k .full) refl,
+          λ _. to (returned (x .chain) 0 (popped y ys x)) (returns-kept w (x .chain) 0 (popped y ys x) k .stays) refl,
           (
-            λ _. to (Unwinding.failed (x .chain) value f pc (popped y ys x)) (fails (running (x .chain) .driver) (Stop.Failed value f pc) (overIn (x .chain) CoroState.Failed value (popped y ys x)) (over-kept w (x .chain) CoroState.Failed value (popped y ys x) k) .full) refl,
+            λ _. to (Unwinding.failed (x .chain) value f pc (popped y ys x)) (fails (running (x .chain) .driver) (Stop.Failed value f pc) (overIn (x .chain) CoroState.Failed value (popped y ys x)) (over-kept w (x .chain) CoroState.Failed value (popped y ys x) k) .stays) refl,
             searches ys value f pc (left y ys value x) (both (λ z. Kept w z) _ (over-kept w (x .chain) CoroState.Failed value (popped y ys x) k) k),
           ),
         ),
@@ -214,8 +214,8 @@ module _ (e : Fault) (pc : OptPc) (w : World) where
       (λ h.
       led-line (λ m x. Fact w m x)
       (line (numberOf e) (eqb (numberOf e) 9 || eqb (numberOf e) 10) (Answer.Refused e) z ∷ refuse 9 _ z ∷ refuse 14 (leb (numberOf e) 8 && noSlot z) z ∷ raised) (line (numberOf e) true (Answer.Refused e) z)
-      (λ _. to w z (given-kept .full) (raisable e h), (λ _. to w z (given-kept .full) refl, (λ k. is14 w z (given-kept .full) (sym given-slots ∙ and-right (leb (numberOf e) 8) (noSlot z) k), raised-facts)))
-      (to w z (given-kept .full) (raisable e h)))
+      (λ _. to w z (given-kept .stays) (raisable e h), (λ _. to w z (given-kept .stays) refl, (λ k. is14 w z (given-kept .stays) (sym given-slots ∙ and-right (leb (numberOf e) 8) (noSlot z) k), raised-facts)))
+      (to w z (given-kept .stays) (raisable e h)))
 
 -- ---- every call
 
@@ -230,8 +230,8 @@ module _ (w : World) where
   behind pc ok own h = by (instruction pc ok own w) (instruction-facts pc ok own w h)
 
   granted-facts : (b : Opt) (n : ℕ) → Fact w 0 (Others.granted b n w)
-  granted-facts Opt.None n = to w (Others.granted Opt.None n w) (λ h. h) refl
-  granted-facts (Opt.Some m) n = to w (Others.granted (Opt.Some m) n w) (λ h. h) refl
+  granted-facts Opt.None n = to w (Others.granted Opt.None n w) (stays w) refl
+  granted-facts (Opt.Some m) n = to w (Others.granted (Opt.Some m) n w) (stays w) refl
 
   pub facts : (o : Op) → At o
   facts (Op.CoroNew pc dst f argc) = behind pc (lies w dst && windowLies dst argc w && Makings.isFunction w f) (Makings.coroNew dst f argc) (Walk.new-owns (charged pc w) dst f argc)
@@ -251,23 +251,23 @@ module _ (w : World) where
   facts (Op.Finish kind v) = by (finishOn (w .frames) kind v w) (finish-on w (w .frames) kind v)
   facts (Op.Unwind f pc) = unwind-fact f pc w
   facts (Op.SpawnTask v) =
-      by (Others.spawnTask v w) ((λ _. no w refl, tt), to w (Others.spawnTask v w .done .left) (λ h. both (λ (x : World). filled (x .slots) ≡ true) _ (set-filled (w .slots) _ _ refl h) h) refl)
-  facts (Op.HostCall f) = by (Others.hostCall f w) ((λ _. no w refl, (λ _. no w refl, (λ _. no w refl, tt))), to w (Others.hostCall f w .done .left) (λ h. h) refl)
+      by (Others.spawnTask v w) ((λ _. no w refl, tt), to w (Others.spawnTask v w .done .left) (both (λ (x : World). Stays w x) _ (record { setup = refl; full = λ h. set-filled (w .slots) _ _ refl h }) (stays w)) refl)
+  facts (Op.HostCall f) = by (Others.hostCall f w) ((λ _. no w refl, (λ _. no w refl, (λ _. no w refl, tt))), to w (Others.hostCall f w .done .left) (stays w) refl)
   facts (Op.HostEntry c v) =
       by (Others.hostEntry c v w) (
         (λ _. no w refl, (λ _. no w refl, (λ _. no w refl, (λ _. no w refl, (λ _. no w refl, tt))))),
-        to w (Others.hostEntry c v w .done .left) (gives-kept w (state w c) (coreOf (found w c) .waiting) v _ (enters-kept w (restOf (found w c)) c Driver.Host w (same-world w)) .full) refl,
+        to w (Others.hostEntry c v w .done .left) (gives-kept w (state w c) (coreOf (found w c) .waiting) v _ (enters-kept w (restOf (found w c)) c Driver.Host w (same-world w)) .stays) refl,
       )
-  facts (Op.FunctionCall pc f cont) = by (Others.functionCall pc f cont w) ((λ _. no w refl, (λ _. no w refl, (λ _. no w refl, tt))), to w (Others.functionCall pc f cont w .done .left) (λ h. h) refl)
-  facts (Op.PutWord r v) = by (Others.putWord r v w) ((λ _. no w refl, (λ _. no w refl, tt)), to w (Others.putWord r v w .done .left) (λ h. h) refl)
+  facts (Op.FunctionCall pc f cont) = by (Others.functionCall pc f cont w) ((λ _. no w refl, (λ _. no w refl, (λ _. no w refl, tt))), to w (Others.functionCall pc f cont w .done .left) (stays w) refl)
+  facts (Op.PutWord r v) = by (Others.putWord r v w) ((λ _. no w refl, (λ _. no w refl, tt)), to w (Others.putWord r v w .done .left) (stays w) refl)
   facts (Op.MakeIterator v) =
       by (Others.makeIterator v w)
-      ((λ _. no w refl, (λ _. no w refl, (λ _. no w refl, (λ e. is14 w w (λ h. h) e, tt)))), to w (Others.makeIterator v w .done .left) (adds w (Object.Iter v false Opt.None) (w .setup .costs .iter) w refl (same-world w) .full) refl)
-  facts Op.TakeOutcome = by (Others.takeOutcome w) (tt, to w (Others.takeOutcome w .done .left) (λ h. h) refl)
-  facts (Op.HandOver v) = by (Others.handOver v w) ((λ _. no w refl, (λ _. no w refl, (λ _. no w refl, tt))), to w (Others.handOver v w .done .left) (λ h. set-filled (w .slots) _ _ refl h) refl)
+      ((λ _. no w refl, (λ _. no w refl, (λ _. no w refl, (λ e. is14 w w (stays w) e, tt)))), to w (Others.makeIterator v w .done .left) (adds w (Object.Iter v false Opt.None) (w .setup .costs .iter) w refl (same-world w) .stays) refl)
+  facts Op.TakeOutcome = by (Others.takeOutcome w) (tt, to w (Others.takeOutcome w .done .left) (stays w) refl)
+  facts (Op.HandOver v) = by (Others.handOver v w) ((λ _. no w refl, (λ _. no w refl, (λ _. no w refl, tt))), to w (Others.handOver v w .done .left) (record { setup = refl; full = λ h. set-filled (w .slots) _ _ refl h }) refl)
   facts (Op.Grant n) = by (Others.grant n w) ((λ _. no w refl, tt), granted-facts (w .fuel .bank) _)
-  facts Op.StopRun = by (Others.stopRun w) (tt, to w (Others.stopRun w .done .left) (stops-kept w (w .chain) w (same-world w) .full) refl)
-  facts Op.Look = by (Others.look w) (tt, to w w (λ h. h) refl)
+  facts Op.StopRun = by (Others.stopRun w) (tt, to w (Others.stopRun w .done .left) (stops-kept w (w .chain) w (same-world w) .stays) refl)
+  facts Op.Look = by (Others.look w) (tt, to w w (stays w) refl)
 
   -- 11 first
   pub fact : (o : Op) → Fact w (saysFrom (sheet o w .tests) (sheet o w .done)) (leadsFrom (sheet o w .tests) (sheet o w .done) .world)

@@ -12,7 +12,7 @@ use Rattle.model.specs.Object.{Object}
 use Rattle.model.specs.World.{World}
 use Rattle.model.specs.Sound.{sound}
 use Rattle.model.specs.Answer.{numberOf, wordOf}
-use Rattle.model.specs.Call.{Call, SetUp, Operation}
+use Rattle.model.specs.Call.{Call, SetUp, Do, Operation}
 use Rattle.model.specs.Step.{step, run}
 use Rattle.model.specs.declared.call.Answer.{Answer}
 use Rattle.sheet.specs.Lines.{Line, Lines, says}
@@ -60,6 +60,8 @@ pub record Sentences : Type 0 where
   pub given : (n : ℕ) (w : World) (o : Operation) → eqb (number w o) n ≡ gives n (sheet (o .op) w)
   pub given-set-up : (w : World) (s : Setup) → numberOf (step w (SetUp s) .answer) ≡ says (setUp s w)
   pub unchanged : (w : World) (c : Call) → among (numberOf (step w c .answer)) unchanging ≡ true → step w c .world ≡ w
+  -- no call but a set-up changes the set-up
+  pub set-up-stays : (w : World) (o : Operation) → step w (Do o) .world .setup ≡ w .setup
   pub full-after-9 : (w : World) (o : Operation) → FullAfter9 (sheet (o .op) w .tests)
   -- 14's "every slot taken": no slot of a machine that calls reach is empty, so its test says what 01 says
   pub slots-taken : (w : World) (s : Setup) (cs : List Call) → setupOk s ≡ true → let v = run w (SetUp s ∷ cs) in sound v ≡ true → noSlot v ≡ everySlot v

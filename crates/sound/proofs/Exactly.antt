@@ -53,7 +53,7 @@ use Rattle.sound.proofs.Passed.{Counts, Passed, room-of, of-room, count
 -- ---- numbers
 
 -- at least one row
-some-row : (s : Setup) → setupOk s ≡ true → 1 ≤ s .limits .rows
+pub some-row : (s : Setup) → setupOk s ≡ true → 1 ≤ s .limits .rows
 unfolding setupOk
 some-row s h =
     let l = s .limits in

@@ -69,7 +69,7 @@ pub record RowOk (s : Setup) (M : Lent) (i : ℕ) (r : Row) : Type 0 where
 
 module _ (s : Setup) (M : Lent) (stack : s .limits .rows * rowWords s ≤ length (M .savedStack)) (frames : s .limits .rows * framesSize s ≤ length (M .savedFrames)) where
   -- as many saved registers as the slot says
-  regs-long : (c : CoroObj) → c .row < s .limits .rows → c .regs ≤ rowWords s → length (part (c .row * rowWords s) (c .regs) (M .savedStack)) ≡ c .regs
+  pub regs-long : (c : CoroObj) → c .row < s .limits .rows → c .regs ≤ rowWords s → length (part (c .row * rowWords s) (c .regs) (M .savedStack)) ≡ c .regs
   regs-long c h g = let k = row-inside (s .limits .rows) (rowWords s) (c .row) (M .savedStack) h stack in length-part (c .row * rowWords s) (c .regs) (M .savedStack) (omega arith)
 
   -- ---- a slot's object comes back

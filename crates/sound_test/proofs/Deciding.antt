@@ -30,12 +30,12 @@ use Rattle.sound_test.specs.Queue.{byCoro, markOf, queueHeld}
 use Rattle.sound_test.specs.Rules.{Decided}
 use Rattle.sound_test.proofs.Named.{test-same}
 
-each-same : (p q : ℕ → Bool) → ((v : ℕ) → p v ≡ q v) → (xs : List ℕ) → each p xs ≡ each q xs
+pub each-same : (p q : ℕ → Bool) → ((v : ℕ) → p v ≡ q v) → (xs : List ℕ) → each p xs ≡ each q xs
 each-same p q h [] = refl
 each-same p q h (x ∷ xs) = ap₂ (λ a b. a && b) (h x) (each-same p q h xs)
 
 module _ (s : Setup) (M : Lent) where
-  filled : (o : H.Object) → isFilled (objectOf s M o) ≡ HO.isFilled o
+  pub filled : (o : H.Object) → isFilled (objectOf s M o) ≡ HO.isFilled o
   filled O.Empty = refl
   filled (O.Func f) = refl
   filled (O.Int n) = refl

@@ -37,7 +37,7 @@ module _ (f : H.Object → Object) (filled : (o : H.Object) → isFilled (f o) �
   abbrev pub mapped : List (Slot H.Object) → List (Slot Object)
   mapped ys = map (λ y. slot (y .tag) (f (y .object))) ys
 
-  at-mapped : (ys : List (Slot H.Object)) (i : ℕ) → getD (mapped ys) i (slot 0 Object.Empty) ≡ slot (getD ys i (slot 0 O.Empty) .tag) (f (getD ys i (slot 0 O.Empty) .object))
+  pub at-mapped : (ys : List (Slot H.Object)) (i : ℕ) → getD (mapped ys) i (slot 0 Object.Empty) ≡ slot (getD ys i (slot 0 O.Empty) .tag) (f (getD ys i (slot 0 O.Empty) .object))
   at-mapped [] i = ap (slot 0) (sym empty)
   at-mapped (y ∷ ys) zero = refl
   at-mapped (y ∷ ys) (suc i) = at-mapped ys i

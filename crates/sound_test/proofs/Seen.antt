@@ -63,7 +63,7 @@ slots-at q n i h = List·getD-map slotOf (take n q) i 0 ∙ ap slotOf (getD-take
 
 -- words that their slots tell apart are distinct where the slots are
 module _ (wordOf : ℕ → ℕ) where
-  abbrev Told : List ℕ → Type 0
+  abbrev pub Told : List ℕ → Type 0
   Told xs = (k : ℕ) → k < length xs → getD xs k 0 ≡ wordOf (slotOf (getD xs k 0))
 
   same-slot : (x y : ℕ) → x ≡ wordOf (slotOf x) → y ≡ wordOf (slotOf y) → eqb (slotOf x) (slotOf y) ≡ eqb x y
@@ -75,7 +75,7 @@ module _ (wordOf : ℕ → ℕ) where
   tail : (x : ℕ) (xs : List ℕ) → Told (x ∷ xs) → Told xs
   tail x xs t k h = t (suc k) (omega arith)
 
-  among-slots : (x : ℕ) (xs : List ℕ) → x ≡ wordOf (slotOf x) → Told xs → among (slotOf x) (map slotOf xs) ≡ among x xs
+  pub among-slots : (x : ℕ) (xs : List ℕ) → x ≡ wordOf (slotOf x) → Told xs → among (slotOf x) (map slotOf xs) ≡ among x xs
   among-slots x [] p t = refl
   among-slots x (y ∷ xs) p t = rw (same-slot x y p (t 0 (omega arith)), among-slots x xs p (tail y xs t))
 

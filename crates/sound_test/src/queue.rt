@@ -40,7 +40,7 @@ fn marks_ok(q: &[u64], n: usize, slots: &[u64], count: usize, task: bool) -> boo
 }
 
 // Whether bit i of w is set.
-fn bit(w: u64, i: u64) -> bool
+pub fn bit(w: u64, i: u64) -> bool
     requires { ⌜ i < 64 ⌝ }
     ensures { λ r. ⌜ r ≡ bitAt w i ⌝ }
 {
@@ -48,7 +48,7 @@ fn bit(w: u64, i: u64) -> bool
 }
 
 // w with bit i set.
-fn with_bit(w: u64, i: u64) -> u64
+pub fn with_bit(w: u64, i: u64) -> u64
     requires { ⌜ i < 64 ⌝ }
     ensures { λ r. ⌜ ((j : ℕ) → bitAt r j ≡ eqb j i || bitAt w j) ⌝ }
 {

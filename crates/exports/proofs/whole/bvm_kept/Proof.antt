@@ -1,7 +1,5 @@
 -- `bvm_kept` meets its contract, by what the call's words are. Assumes nothing.
-use mathlib.Core.Path.{refl, subst}
-use Rattle.calls.specs.Call.{Within}
-use Rattle.calls.specs.declared.call.Read.{Read}
+use mathlib.Core.Path.{refl}
 use Rattle.exports.proofs.AnyCall.{is-call, no-call}
 use borrow.Author.Needs.{needs}
 use Rattle.exports.proofs.whole.bvm_kept.Statement.{statement}
@@ -17,10 +15,7 @@ enum-known-read : tie.Need-enum-known-read
 enum-known-read c = search needs
 
 do-call-requires : tie.Need-do-call-requires
-do-call-requires c κs =
-    let arm = c .before .before .before .before .before .before .before .before .before .before .before .before in
-    let at-op-of = arm .before .before in
-    record { fits = start-of at-op-of .pre; within = subst (λ (r : Read). Within r) (arm .read .given .1) (at-op-of .op-of .ensures .within) }
+do-call-requires c κs = start-of (c .before .before .before .before .before .before .before .before .before .before .before .before .before .before) .pre
 
 enum-known-read-2 : tie.Need-enum-known-read-2
 enum-known-read-2 c = search needs

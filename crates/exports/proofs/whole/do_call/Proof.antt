@@ -24,7 +24,7 @@ sizes-of-requires : tie.Need-sizes-of-requires
 sizes-of-requires c κs = search needs
 
 fuel-of-requires : tie.Need-fuel-of-requires
-fuel-of-requires c κs = start-of (c .before .before) .pre .fits .tank
+fuel-of-requires c κs = start-of (c .before .before) .pre .tank
 
 kept-requires : tie.Need-kept-requires
 kept-requires c κs =
@@ -33,18 +33,18 @@ kept-requires c κs =
     let at-machine-of = at-sizes-of .before in
     let start = start-of at-machine-of in
     kept-given (start .args .sizes .now) (start .args .machine .now) (start .args .fuel .now) (at-sizes-of .sizes-of .result) (at-machine-of .machine-of .result) (at-fuel-of .fuel-of .result)
-    _ (start .args .op) (at-sizes-of .sizes-of .ensures) (at-machine-of .machine-of .ensures) (at-fuel-of .fuel-of .ensures) (start .pre .fits .ok) (start .pre .within)
+    _ (at-sizes-of .sizes-of .ensures) (at-machine-of .machine-of .ensures) (at-fuel-of .fuel-of .ensures) (start .pre .ok)
 
 put-machine-requires : tie.Need-put-machine-requires
-put-machine-requires c κs = let at-kept = c .before .before .before .before .before .before .before .before .before .before .before .before .before .before .before .before .before .before .before in begin-of at-kept .pre .fits .passed .machine
+put-machine-requires c κs = let at-kept = c .before .before .before .before .before .before .before .before .before .before .before .before .before .before .before .before .before .before .before in begin-of at-kept .pre .passed .machine
 
 put-fuel-requires : tie.Need-put-fuel-requires
-put-fuel-requires c κs = let at-put-machine = c .before .before .before in begin-of (kept-of at-put-machine) .pre .fits .tank
+put-fuel-requires c κs = let at-put-machine = c .before .before .before in begin-of (kept-of at-put-machine) .pre .tank
 
 put-answer-requires : tie.Need-put-answer-requires
 put-answer-requires c κs =
     let at-put-machine = c .before .before .before .before .before .before .before in
-    begin-of (kept-of at-put-machine) .pre .fits .passed .answer
+    begin-of (kept-of at-put-machine) .pre .passed .answer
 
 same-length : tie.Need-same-length
 same-length c = search needs

@@ -12,10 +12,11 @@ abbrev mem : tie.Start → Beside → Lent
 mem c = all (c .args .stack .now) (c .args .frames .now) (c .args .chain .now) (c .args .slots .now) (c .args .saved-stack .now) (c .args .saved-frames .now)
     (c .args .ready .now) (c .args .finalize .now) (c .args .setup .now) plain
 
+widths-requires : tie.Need-widths-requires
+widths-requires c κs = search needs
+
 dispatch-requires : tie.Need-dispatch-requires
-dispatch-requires c κs =
-    let start = c .before .before .before .before .before .before .before .before .before .before .before .before .before .before .before .before .before in
-    start .pre
+dispatch-requires c κs = let at-widths = c .before .before .before .before .before .before .before .before in record { ok = at-widths .before .before .before .before .before .before .before .before .before .before .pre; within = at-widths .widths .ensures }
 
 same-length : tie.Need-same-length
 same-length c =
@@ -60,16 +61,18 @@ same-length-8 c =
 returns : tie.Need-returns
 returns c =
     let at-dispatch = c .before .before .before .before .before .before .before .before .before .before .before .before .before .before .before .before in
-    let start = at-dispatch .before .before .before .before .before .before .before .before .before .before .before .before .before .before .before .before .before .before in
-    let a = start .args in let ok = start .pre .ok in
+    let at-widths = at-dispatch .before .before .before .before .before .before .before .before .before in
+    let start = at-widths .before .before .before .before .before .before .before .before .before .before in
+    let a = start .args in let ok = start .pre in
+    let within = at-widths .widths .ensures in
     let did = at-dispatch .dispatch .ensures in
     record {
       met = did;
-      sound = sound-again (a .op) (start .pre .within);
+      sound = sound-again (a .op) within;
       again = next-ok (a .l) (mem start) (all (at-dispatch .dispatch .last .0) (at-dispatch .dispatch .last .1 .0) (at-dispatch .dispatch .last .1 .1 .0) (at-dispatch .dispatch .last .1 .1
           .1 .0) (at-dispatch .dispatch .last .1 .1 .1 .1 .0) (at-dispatch .dispatch .last .1 .1 .1 .1 .1 .0) (at-dispatch .dispatch .last .1 .1 .1 .1 .1 .1 .0) (at-dispatch .dispatch .last
           .1 .1 .1 .1 .1 .1 .1 .0) (a .setup .now) plain)
-          (with (a .m) (a .fuel)) (with (at-dispatch .dispatch .result .machine) (at-dispatch .dispatch .result .fuel)) (a .op) (at-dispatch .dispatch .result .answer) (start .pre .within) ok
+          (with (a .m) (a .fuel)) (with (at-dispatch .dispatch .result .machine) (at-dispatch .dispatch .result .fuel)) (a .op) (at-dispatch .dispatch .result .answer) within ok
           (record {
             stack = at-dispatch .dispatch .kept .0;
             frames = at-dispatch .dispatch .kept .1 .0;
@@ -88,6 +91,7 @@ pub kept-spec : {M : Type 1} → statement M
 kept-spec =
     tie.close
     (tie.spec
+    widths-requires
     dispatch-requires
     same-length
     same-length-2

@@ -1,0 +1,169 @@
+-- An engine that follows another keeps what the other promises, field by field. Assumes nothing.
+use Prim.Native.Nat.{ℕ, _≤_}
+use mathlib.Core.Path.{_≡_, sym, ap, _∙_, subst}
+use mathlib.Core.Bool.{false}
+use mathlib.Core.List.{List, [], _∷_, _++_}
+use mathlib.Core.Option.{some}
+use lib.ListN.{length, drop}
+use lib.Dec.{eqb}
+use Rattle.model.specs.declared.call.Op.{Op}
+use Rattle.claims.specs.Engine.{Seen, View, Engine, run}
+use Rattle.claims.specs.Says.{doing, lie}
+use Rattle.claims.specs.Held.{Held, By, Entered, Restored}
+use Rattle.claims.specs.Delivery.{Left}
+use Rattle.claims.specs.Demand3.{Enters, Suspends, Leaves, Restarts, Waits, Goes, Demand3}
+use Rattle.claims.specs.Events.{Healthy, onBody, raisedAt, suspended, returned, Events}
+use Rattle.claims.specs.Promise.{suspends, Roomy, Accepts, Eleven, Soundness, NotEmpty}
+use Rattle.claims.proofs.Premises.{Premises}
+use Rattle.lent_claims.proofs.Follows.{Follows, Sight, sight, same, up-enters, down-enters, up-suspends, down-suspends, up-returns, down-returns, up-leaves, down-leaves, up-restarts, down-restarts, up-healthy, down-healthy, along, ran, up-waits, down-waits, up-goes, down-goes}
+
+module _ (e d : Engine) (f : Follows e d) where
+  -- what holds of all that d shows of a call holds of what e shows, and back
+  down : (P : Sight → Type 0) (s : e .State) (k : e .Call) → P (sight d (f .to s) (f .by s k)) → P (sight e s k)
+  down P s k = subst P (same e d f s k)
+
+  up : (P : Sight → Type 0) (s : e .State) (k : e .Call) → P (sight e s k) → P (sight d (f .to s) (f .by s k))
+  up P s k = subst P (sym (same e d f s k))
+
+  -- ---- demand 3
+
+  restored : Demand3 d → (c : ℕ) (s : e .State) (x : e .Call) (waiting : List (e .Call)) (y : e .Call) → Suspends e c s x → Waits e c (e .next s x) waiting
+      → let t = run e (e .next s x) waiting in Enters e c t y → Restored (e .view s) (e .op x) (e .view t) (e .op y) c (e .view (e .next t y))
+  restored p c s x waiting y h w g =
+      let s₁ = e .next s x in
+      let t = run e s₁ waiting in
+      let x′ = f .by s x in
+      let y′ = f .by t y in
+      let ws = along e d f s₁ waiting in
+      let at = ap (λ z. run d z ws) (f .next s x) ∙ ran e d f s₁ waiting in
+      let w′ = subst (λ z. Waits d c z ws) (sym (f .next s x)) (up-waits e d f c s₁ waiting w) in
+      let there = subst (λ z. Enters d c z y′ → Restored (d .view (f .to s)) (d .op x′) (d .view z) (d .op y′) c (d .view (d .next z y′))) at (p .restored c (f .to s) x′ ws y′ (up-suspends e d f s x c h) w′) in
+      down (λ v. Restored (e .view s) (e .op x) (v .before) (v .op) c (v .after)) t y
+      (down (λ v. Restored (v .before) (v .op) (d .view (f .to t)) (d .op y′) c (d .view (d .next (f .to t) y′))) s x (there (up-enters e d f t y c g)))
+
+  untouched : Demand3 d → (c : ℕ) (s : e .State) (y : e .Call) (going : List (e .Call)) (z : e .Call) → Enters e c s y → Goes e c (e .next s y) going
+      → let t = run e (e .next s y) going in Leaves e c t z → Left (e .view s) (e .op y) c (e .view t) (e .op z) (e .view (e .next t z))
+  untouched p c s y going z h w g =
+      let s₁ = e .next s y in
+      let t = run e s₁ going in
+      let y′ = f .by s y in
+      let z′ = f .by t z in
+      let gs = along e d f s₁ going in
+      let at = ap (λ u. run d u gs) (f .next s y) ∙ ran e d f s₁ going in
+      let w′ = subst (λ u. Goes d c u gs) (sym (f .next s y)) (up-goes e d f c s₁ going w) in
+      let there = subst (λ u. Leaves d c u z′ → Left (d .view (f .to s)) (d .op y′) c (d .view u) (d .op z′) (d .view (d .next u z′))) at (p .untouched c (f .to s) y′ gs z′ (up-enters e d f s y c h) w′) in
+      down (λ v. Left (e .view s) (e .op y) c (v .before) (v .op) (v .after)) t z
+      (down (λ v. Left (v .before) (v .op) c (d .view (f .to t)) (d .op z′) (d .view (d .next (f .to t) z′))) s y (there (up-leaves e d f t z c g)))
+
+  pub demand3 : Demand3 d → Demand3 e
+  demand3 p =
+      record {
+        entered = λ c s y h. down (λ v. Entered (v .before) (v .op) c (v .after)) s y (p .entered c (f .to s) (f .by s y) (up-enters e d f s y c h));
+        restored = restored p;
+        untouched = untouched p;
+      }
+
+  -- ---- events
+
+  abbrev suspended-is : ℕ → Sight → Type 0
+  suspended-is c v = suspended (v .before) (doing (v .before) (v .op)) (v .number) ≡ some c
+
+  abbrev returned-is : ℕ → Sight → Type 0
+  returned-is c v = returned (v .before) (doing (v .before) (v .op)) (v .number) ≡ some c
+
+  pub events : Events d → Events e
+  events p =
+      record {
+        enters = λ c s k h. down (λ v. By (v .before) (v .op) c) s k (p .enters c (f .to s) (f .by s k) (up-enters e d f s k c h));
+        entered = λ c s k ok h. down-enters e d f s k c (p .entered c (f .to s) (f .by s k) (up-healthy e d f s ok) (up (λ v. By (v .before) (v .op) c) s k h));
+        suspends = λ c s k h. down (suspended-is c) s k (p .suspends c (f .to s) (f .by s k) (up-suspends e d f s k c h));
+        suspended = λ c s k h. down-suspends e d f s k c (p .suspended c (f .to s) (f .by s k) (up (suspended-is c) s k h));
+        returns = λ c s k h. down (returned-is c) s k (p .returns c (f .to s) (f .by s k) (up-returns e d f s k c h));
+        returned = λ c s k ok h. down-returns e d f s k c (p .returned c (f .to s) (f .by s k) (up-healthy e d f s ok) (up (returned-is c) s k h));
+        one-switch = λ c u s k h g. p .one-switch c u (f .to s) (f .by s k) (up-enters e d f s k c h) (up-suspends e d f s k u g);
+        no-return = λ c u s k h g. p .no-return c u (f .to s) (f .by s k) (up-enters e d f s k c h) (up-returns e d f s k u g);
+        one-leaves = λ c u s k h g. p .one-leaves c u (f .to s) (f .by s k) (up-suspends e d f s k c h) (up-returns e d f s k u g);
+      }
+
+  -- ---- acceptance
+
+  -- what is seen of a state in which c has room to suspend
+  Roomily : ℕ → View → Type 0
+  Roomily c v =
+      (eqb (v .fuel .fuel) 0 ≡ false) × (held : Held v c) × (seen : Seen) × (v .coro c ≡ some seen) × (length (drop (held .body .base) (v .stack)) ≤ seen .mostWords) × (length (held .over ++ (held .body ∷ [])) ≤ seen .mostFrames)
+
+  roomy : (c : ℕ) (s : e .State) → Roomy e c s → Roomy d c (f .to s)
+  unfolding Roomily
+  roomy c s r =
+      let (fuel, held, seen, there, words, frames) = subst (Roomily c) (sym (f .view s)) (r .fuel, r .held, r .seen, r .there, r .words, r .frames) in
+      record { healthy = up-healthy e d f s (r .healthy); fuel = fuel; held = held; seen = seen; there = there; words = words; frames = frames }
+
+  pub accepts : Accepts d → Accepts e
+  accepts p =
+      record {
+        await = λ c s k pc dst src r o l.
+            ap suspends (sym (f .number s k)) ∙ p .await c (f .to s) (f .by s k) pc dst src (roomy c s r) (f .op s k ∙ o) (ap (λ v. lie v (dst ∷ src ∷ [])) (f .view s) ∙ l);
+        yield-kv = λ c s k pc dst src key r o l.
+            ap suspends (sym (f .number s k)) ∙ p .yield-kv c (f .to s) (f .by s k) pc dst src key (roomy c s r) (f .op s k ∙ o) (ap (λ v. lie v (dst ∷ src ∷ key ∷ [])) (f .view s) ∙ l);
+        finish = λ s k kind x ok o plain b. sym (f .number s k) ∙ p .finish (f .to s) (f .by s k) kind x (up-healthy e d f s ok) (f .op s k ∙ o) plain (ap (λ v. onBody (v .frames)) (f .view s) ∙ b);
+        escape = λ s k x pc c ok o r. sym (f .number s k) ∙ p .escape (f .to s) (f .by s k) x pc c (up-healthy e d f s ok) (f .op s k ∙ o) (ap (λ v. raisedAt v (some x) pc) (f .view s) ∙ r);
+      }
+
+  -- ---- soundness
+
+  pub soundness : Soundness d → Soundness e
+  soundness p =
+      record {
+        begun = λ s k h. down-healthy e d f (e .next s k) (subst (Healthy d) (f .next s k) (p .begun (f .to s) (f .by s k) (up-restarts e d f s k h)));
+        kept = λ s k h. down-healthy e d f (e .next s k) (subst (Healthy d) (f .next s k) (p .kept (f .to s) (f .by s k) (up-healthy e d f s h)));
+        eleven = λ s k h n. down (λ v. Eleven (v .before) (v .op)) s k (p .eleven (f .to s) (f .by s k) (up-healthy e d f s h) (f .number s k ∙ n));
+      }
+
+  -- ---- not empty
+
+  -- calls of e that follow such a split of d's
+  module _ (start : e .State) (first : e .Call) (before : List (e .Call)) (x : e .Call) (waiting : List (e .Call)) (y : e .Call) (going : List (e .Call)) (z : e .Call) (c : ℕ) where
+    abbrev s₁ : e .State
+    s₁ = run e (e .next start first) before
+
+    abbrev s₂ : e .State
+    s₂ = e .next s₁ x
+
+    abbrev s₃ : e .State
+    s₃ = run e s₂ waiting
+
+    abbrev s₄ : e .State
+    s₄ = e .next s₃ y
+
+    abbrev s₅ : e .State
+    s₅ = run e s₄ going
+
+    abbrev ws : List (d .Call)
+    ws = along e d f s₂ waiting
+
+    abbrev gs : List (d .Call)
+    gs = along e d f s₄ going
+
+    pub not-empty : Restarts e start first → Premises d c (f .to s₁) (f .by s₁ x) ws (f .by s₃ y) gs (f .by s₅ z) → NotEmpty e
+    not-empty r p =
+        let at₂ = f .next s₁ x in
+        let at₃ : run d (d .next (f .to s₁) (f .by s₁ x)) ws ≡ f .to s₃ = ap (λ u. run d u ws) at₂ ∙ ran e d f s₂ waiting in
+        let at₄ : d .next (run d (d .next (f .to s₁) (f .by s₁ x)) ws) (f .by s₃ y) ≡ f .to s₄ = ap (λ u. d .next u (f .by s₃ y)) at₃ ∙ f .next s₃ y in
+        let at₅ : run d (d .next (run d (d .next (f .to s₁) (f .by s₁ x)) ws) (f .by s₃ y)) gs ≡ f .to s₅ = ap (λ u. run d u gs) at₄ ∙ ran e d f s₄ going in
+        record {
+          start = start;
+          first = first;
+          accepted = r;
+          before = before;
+          x = x;
+          waiting = waiting;
+          y = y;
+          going = going;
+          z = z;
+          c = c;
+          suspends = down-suspends e d f s₁ x c (p .suspends);
+          waits = down-waits e d f c s₂ waiting (subst (λ u. Waits d c u ws) at₂ (p .waits));
+          enters = down-enters e d f s₃ y c (subst (λ u. Enters d c u (f .by s₃ y)) at₃ (p .enters));
+          goes = down-goes e d f c s₄ going (subst (λ u. Goes d c u gs) at₄ (p .goes));
+          leaves = down-leaves e d f s₅ z c (subst (λ u. Leaves d c u (f .by s₅ z)) at₅ (p .leaves));
+        }

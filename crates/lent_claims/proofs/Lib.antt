@@ -1,0 +1,4 @@
+pub mod Follows
+pub mod Carried
+pub mod Outer
+pub mod NotEmpty

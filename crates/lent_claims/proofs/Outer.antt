@@ -1,0 +1,134 @@
+-- Outer calls on lent words follow `step` on worlds. Words that are not sound follow a world that is not sound either and is seen alike;
+-- a set-up that is refused, for its words or for lack of room, follows one that is refused. Assumes nothing.
+use Prim.Native.Nat.{ℕ, suc}
+use native.Mathlib.Omega.{arith}
+use mathlib.Core.Path.{_≡_, refl, sym, ap, _∙_}
+use mathlib.Core.Bool.{Bool, true, false}
+use mathlib.Core.List.{List}
+use mathlib.Core.Option.{Option, none, some}
+use Rattle.lists.specs.Pick.{pick, pick-true, pick-false}
+use Rattle.heap.specs.declared.fault.Fault.{Fault}
+use Rattle.model.specs.Program.{Setup, setupOk}
+use Rattle.model.specs.World.{World, withUsed, fresh}
+use Rattle.model.specs.Sound.{sound}
+use Rattle.model.specs.Gate.{refused}
+use Rattle.model.specs.Added.{accepted}
+use Rattle.model.specs.Answer.{numberOf}
+use Rattle.model.specs.Call.{Operation}
+use Rattle.model.specs.Call as Model
+use Rattle.model.specs.Step.{Out, told, call, tested, step}
+use Rattle.model.specs.Compute.{computed}
+use Rattle.model.specs.declared.call.Op.{Op}
+use Rattle.invariant.proofs.Tests.{no-false, picked}
+use Rattle.invariant.proofs.Sound.{sound→}
+use Rattle.words.specs.Decode.{setupOf}
+use Rattle.claims.specs.Steps as Steps
+use Rattle.claims.specs.Steps.{viewOf, steps}
+use Rattle.claims.specs.Story.{bad}
+use Rattle.lent.specs.Step.{State, Left, isSound, decoded, stepWords, setUpOk, setUpWords, Call, SetUp, Do}
+use Rattle.lent.proofs.Kept.{words-kept, untested, stepped, refused-words, set-up, given-ok, refused-set-up}
+use Rattle.lent_claims.specs.Engine.{opOf, outer}
+use Rattle.lent_claims.proofs.Follows.{Follows}
+
+-- ---- states
+
+-- more memory is used than there is, which no view shows
+abbrev spoiled : World → World
+spoiled w = withUsed (suc (w .setup .limits .memory)) w
+
+spoiled-unsound : (w : World) → sound (spoiled w) ≡ false
+spoiled-unsound w = go (sound (spoiled w)) refl
+  where
+    go : (b : Bool) → sound (spoiled w) ≡ b → b ≡ false
+    go true e = let h = sound→ {ex = false} (spoiled w) e (λ z. no-false z) .room in absurd (omega (arith, h))
+    go false e = refl
+
+abbrev pub to : State → World
+to s = pick (isSound s) (decoded s) (spoiled (decoded s))
+
+pub sound-to : (s : State) → isSound s ≡ true → to s ≡ decoded s
+sound-to s e = ap (λ b. pick b (decoded s) (spoiled (decoded s))) e ∙ pick-true _ _
+
+unsound-to : (s : State) → isSound s ≡ false → sound (to s) ≡ false
+unsound-to s e = ap (λ b. sound (pick b (decoded s) (spoiled (decoded s)))) e ∙ ap sound (pick-false (decoded s) (spoiled (decoded s))) ∙ spoiled-unsound (decoded s)
+
+pub view : (s : State) → viewOf (to s) ≡ viewOf (decoded s)
+view s = picked (λ (w : World). viewOf w ≡ viewOf (decoded s)) (isSound s) (λ _. refl) (λ _. refl)
+
+-- ---- operations
+
+-- worlds that are not sound stay
+stays : (w : World) (o : Operation) → sound w ≡ false → step w (Model.Do o) ≡ told (refused w Fault.Unsound)
+unfolding step tested
+stays w o e = ap (λ b. pick b (call (o .op) w) (told (refused w Fault.Unsound))) e ∙ pick-false _ _
+
+module _ (s : State) (o : Operation) where
+  next-do : (b : Bool) → isSound s ≡ b → step (to s) (Model.Do o) .world ≡ to (stepWords s (o .op) .state)
+  next-do true e =
+      ap (λ (w : World). step w (Model.Do o) .world) (sound-to s e)
+      ∙ ap (λ (x : Out). x .world) (untested (decoded s) o (words-kept .stands s e))
+      ∙ sym (words-kept .does s o e)
+      ∙ sym (sound-to (stepWords s (o .op) .state) (words-kept .kept s o e))
+  next-do false e = ap (λ (x : Out). x .world) (stays (to s) o (unsound-to s e)) ∙ ap (λ (x : Left). to (x .state)) (sym (refused-words s o e))
+
+  number-do : (b : Bool) → isSound s ≡ b → numberOf (step (to s) (Model.Do o) .answer) ≡ numberOf (stepWords s (o .op) .answer)
+  number-do true e =
+      ap (λ (w : World). numberOf (step w (Model.Do o) .answer)) (sound-to s e)
+      ∙ ap (λ (x : Out). numberOf (x .answer)) (untested (decoded s) o (words-kept .stands s e))
+      ∙ ap (λ (x : Left). numberOf (x .answer)) (sym (stepped s o e))
+  number-do false e = ap (λ (x : Out). numberOf (x .answer)) (stays (to s) o (unsound-to s e)) ∙ ap (λ (x : Left). numberOf (x .answer)) (sym (refused-words s o e))
+
+-- ---- set-ups
+
+taken : (w : World) (u : Setup) → setupOk u ≡ true → step w (Model.SetUp u) ≡ told (accepted (fresh u))
+unfolding step
+taken w u e = ap (λ b. told (pick b (accepted (fresh u)) (refused w Fault.Unsound))) e ∙ ap told (pick-true _ _)
+
+bad-refused : (w : World) → step w (Model.SetUp bad) ≡ told (refused w Fault.Unsound)
+unfolding computed
+bad-refused w = refl
+
+abbrev setting : Bool → List ℕ → Model.Call
+setting b given = pick b (Model.SetUp (setupOf given)) (Model.SetUp bad)
+
+module _ (s : State) (given : List ℕ) where
+  -- what the set-up that is followed does
+  did : (b : Bool) → setUpOk given (s .words) ≡ b → step (to s) (setting (setUpOk given (s .words)) given) ≡ told (pick b (accepted (fresh (setupOf given))) (refused (to s) Fault.Unsound))
+  did true e =
+      ap (λ b. step (to s) (setting b given)) e ∙ ap (step (to s)) (pick-true _ _) ∙ taken (to s) (setupOf given) (given-ok s given e) ∙ ap told (sym (pick-true _ _))
+  did false e = ap (λ b. step (to s) (setting b given)) e ∙ ap (step (to s)) (pick-false _ _) ∙ bad-refused (to s) ∙ ap told (sym (pick-false _ _))
+
+  next-set-up : (b : Bool) → setUpOk given (s .words) ≡ b → step (to s) (setting (setUpOk given (s .words)) given) .world ≡ to (setUpWords s given .state)
+  unfolding pick
+  next-set-up true e = ap (λ (x : Out). x .world) (did true e) ∙ sym (words-kept .begins s given e) ∙ sym (sound-to (setUpWords s given .state) (words-kept .begun s given e))
+  next-set-up false e = ap (λ (x : Out). x .world) (did false e) ∙ ap (λ (x : Left). to (x .state)) (sym (refused-set-up s given e))
+
+  number-set-up : (b : Bool) → setUpOk given (s .words) ≡ b → numberOf (step (to s) (setting (setUpOk given (s .words)) given) .answer) ≡ numberOf (setUpWords s given .answer)
+  unfolding pick
+  number-set-up true e = ap (λ (x : Out). numberOf (x .answer)) (did true e) ∙ ap (λ (x : Left). numberOf (x .answer)) (sym (set-up s given e))
+  number-set-up false e = ap (λ (x : Out). numberOf (x .answer)) (did false e) ∙ ap (λ (x : Left). numberOf (x .answer)) (sym (refused-set-up s given e))
+
+-- ---- calls
+
+abbrev pub by : State → Call → Model.Call
+by s (SetUp given) = setting (setUpOk given (s .words)) given
+by s (Do o) = Model.Do o
+
+pub op : (s : State) (k : Call) → Steps.opOf (by s k) ≡ opOf k
+op s (SetUp given) = picked (λ (c : Model.Call). Steps.opOf c ≡ none) (setUpOk given (s .words)) (λ _. refl) (λ _. refl)
+op s (Do o) = refl
+
+pub next : (s : State) (k : Call) → step (to s) (by s k) .world ≡ to (outer .next s k)
+next s (SetUp given) = next-set-up s given (setUpOk given (s .words)) refl
+next s (Do o) = next-do s o (isSound s) refl
+
+pub number : (s : State) (k : Call) → numberOf (step (to s) (by s k) .answer) ≡ outer .number s k
+number s (SetUp given) = number-set-up s given (setUpOk given (s .words)) refl
+number s (Do o) = number-do s o (isSound s) refl
+
+pub some-call : (s : State) (k : Model.Call) (o : Op) → Steps.opOf k ≡ some o → (j : Call) × (by s j ≡ k)
+some-call s (Model.SetUp u) o q = let z : _≡_ {A = ℕ} 0 1 = cc in absurd (omega arith)
+some-call s (Model.Do p) o q = (Do p, refl)
+
+abbrev pub follows : Follows outer steps
+follows = record { to = to; by = by; view = view; op = op; next = next; number = number; some-call = some-call }

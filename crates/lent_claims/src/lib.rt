@@ -1,0 +1,1 @@
+// The claims over lent words: definitions and theorems only.

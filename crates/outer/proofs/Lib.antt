@@ -1,0 +1,4 @@
+pub mod Stepping
+pub mod Begun
+pub mod Seen
+pub mod Granted

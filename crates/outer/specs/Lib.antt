@@ -1,0 +1,4 @@
+pub mod State
+pub mod SetUp
+pub mod Look
+pub mod Grant

@@ -1,0 +1,12 @@
+pub mod Outcomes
+pub mod Waiting
+pub mod Coros
+pub mod Chained
+pub mod Slotted
+pub mod Holding
+pub mod Ordered
+pub mod Keeping
+pub mod Rowing
+pub mod Fitting
+pub mod Slots
+pub mod Wholly

@@ -1,0 +1,60 @@
+-- `coro_row` meets its contract, by what the coroutine's test and its state say. Assumes nothing.
+use mathlib.Core.Path.{sym, _∙_}
+use borrow.Author.Tests.{not-true, not-false}
+use Rattle.words.specs.Decode.{setupOf}
+use Rattle.sound_test.specs.Queue.{inSet}
+use Rattle.sound_words.proofs.Coros.{bad-coro, no-row, not-chained, chained-row, asleep-row}
+use borrow.Author.Needs.{needs}
+use Rattle.sound_words.proofs.rows.coro_row.Statement.{statement}
+use Rattle.sound_words.proofs.rows.coro_row.Tie as tie
+
+coro-ok-requires : tie.Need-coro-ok-requires
+coro-ok-requires c κs = c .before .before .before .pre .0 .saved
+
+returns : tie.Need-returns
+returns c =
+    let a = c .before .before .before .before .before .args in
+    bad-coro (a .l) (setupOf (a .setup .now)) (a .saved .now) (a .asleep .now) (a .c) (inSet (a .set .now)) (a .i) (sym (c .before .coro-ok .ensures) ∙ not-true _ (c .if1 .taken))
+
+is-finished-requires : tie.Need-is-finished-requires
+is-finished-requires c κs = search needs
+
+returns-2 : tie.Need-returns-2
+returns-2 c =
+    let a = c .before .before .before .before .before .before .before .args in
+    no-row (a .l) (setupOf (a .setup .now)) (a .saved .now) (a .asleep .now) (a .c) (inSet (a .set .now)) (a .i) (sym (c .before .before .before .coro-ok .ensures) ∙ not-false _ (c .before .before .if1 .left)) (sym (c .before .is-finished .ensures) ∙ c .if2 .taken)
+
+is-running-requires : tie.Need-is-running-requires
+is-running-requires c κs = search needs
+
+in-set-requires : tie.Need-in-set-requires
+in-set-requires c κs = (c .before .before .before .before .before .before .before .before .before .pre .1, c .before .before .before .before .before .before .before .before .before .pre .0 .long)
+
+returns-3 : tie.Need-returns-3
+returns-3 c =
+    let a = c .before .before .before .before .before .before .before .before .before .before .before .args in
+    not-chained (a .l) (setupOf (a .setup .now)) (a .saved .now) (a .asleep .now) (a .c) (inSet (a .set .now)) (a .i) (sym (c .before .before .before .before .before .before .before .coro-ok .ensures) ∙ not-false _ (c .before .before .before .before .before .before .if1 .left)) (sym (c .before .before .before .is-running .ensures) ∙ c .before .before .if3 .taken) (sym (c .before .in-set .ensures) ∙ not-true _ (c .if4 .taken))
+
+returns-4 : tie.Need-returns-4
+returns-4 c =
+    let a = c .before .before .before .before .before .before .before .before .before .before .before .args in
+    chained-row (a .l) (setupOf (a .setup .now)) (a .saved .now) (a .asleep .now) (a .c) (inSet (a .set .now)) (a .i) (sym (c .before .before .before .before .before .before .before .coro-ok .ensures) ∙ not-false _ (c .before .before .before .before .before .before .if1 .left)) (sym (c .before .before .before .before .before .is-finished .ensures) ∙ c .before .before .before .before .if2 .left) (sym (c .before .before .before .is-running .ensures) ∙ c .before .before .if3 .taken) (sym (c .before .in-set .ensures) ∙ not-false _ (c .if4 .left))
+
+returns-5 : tie.Need-returns-5
+returns-5 c =
+    let a = c .before .before .before .before .before .before .before .before .before .args in
+    asleep-row (a .l) (setupOf (a .setup .now)) (a .saved .now) (a .asleep .now) (a .c) (inSet (a .set .now)) (a .i) (sym (c .before .before .before .before .before .coro-ok .ensures) ∙ not-false _ (c .before .before .before .before .if1 .left)) (sym (c .before .before .before .is-finished .ensures) ∙ c .before .before .if2 .left) (sym (c .before .is-running .ensures) ∙ c .if3 .left)
+
+pub coro-row-spec : {M : Type 1} → statement M
+coro-row-spec =
+    tie.close
+    (tie.spec
+    coro-ok-requires
+    returns
+    is-finished-requires
+    returns-2
+    is-running-requires
+    in-set-requires
+    returns-3
+    returns-4
+    returns-5)

@@ -1,0 +1,91 @@
+-- `coro_ok` meets its contract: each test fails the whole, and the last decides it. Assumes nothing.
+use mathlib.Core.Path.{_≡_, sym, _∙_}
+use mathlib.Core.Bool.{true}
+use native.Mathlib.Omega.{arith}
+use Prim.Native.Nat.{_≤_, _*_}
+use lib.ListN.{length}
+use lib.Dec.{leb}
+use borrow.Author.Tests.{not-true, not-false, ne-eqb, eq-eqb, lt-ltb, le-ltb, leb-true}
+use Rattle.words.specs.Decode.{setupOf}
+use Rattle.invariant.proofs.Tests.{and-left, and-right}
+use Rattle.sound_test.proofs.Bools.{three-1, three-2, three-3}
+use Rattle.sound_words.proofs.Coros.{row-inside, sizes-stop, ended, live, frames-few}
+use borrow.Author.Needs.{needs}
+use Rattle.sound_words.proofs.saved.coro_ok.Statement.{statement}
+use Rattle.sound_words.proofs.saved.coro_ok.Tie as tie
+
+sizes-ok-requires : tie.Need-sizes-ok-requires
+sizes-ok-requires c κs = search needs
+
+returns : tie.Need-returns
+returns c =
+    let a = c .before .before .before .before .before .args in
+    sizes-stop (a .l) (setupOf (a .setup .now)) (a .saved .now) (a .asleep .now) (a .c) (sym (c .before .sizes-ok .ensures) ∙ not-true _ (c .if1 .taken))
+
+is-finished-requires : tie.Need-is-finished-requires
+is-finished-requires c κs = search needs
+
+returns-2 : tie.Need-returns-2
+returns-2 c =
+    let a = c .before .before .before .before .before .before .before .before .before .args in
+    three-1 _ _ _ _ (ended (a .l) (setupOf (a .setup .now)) (a .saved .now) (a .asleep .now) (a .c) (sym (c .before .before .before .before .before .sizes-ok .ensures) ∙ not-false _ (c .before .before .before .before .if1 .left)) (sym (c .before .before .before .is-finished .ensures) ∙ c .before .before .if2 .taken)) (ne-eqb (a .c .row) 0 (c .if3 .taken))
+
+returns-3 : tie.Need-returns-3
+returns-3 c =
+    let a = c .before .before .before .before .before .before .before .before .before .before .before .args in
+    three-2 _ _ _ _ (ended (a .l) (setupOf (a .setup .now)) (a .saved .now) (a .asleep .now) (a .c) (sym (c .before .before .before .before .before .before .before .sizes-ok .ensures) ∙ not-false _ (c .before .before .before .before .before .before .if1 .left)) (sym (c .before .before .before .before .before .is-finished .ensures) ∙ c .before .before .before .before .if2 .taken)) (eq-eqb (a .c .row) 0 (c .before .before .if3 .left)) (ne-eqb (a .c .frames) 0 (c .if4 .taken))
+
+returns-4 : tie.Need-returns-4
+returns-4 c =
+    let a = c .before .before .before .before .before .before .before .before .before .before .before .before .args in
+    three-3 _ _ _ _ _ (ended (a .l) (setupOf (a .setup .now)) (a .saved .now) (a .asleep .now) (a .c) (sym (c .before .before .before .before .before .before .before .before .sizes-ok .ensures) ∙ not-false _ (c .before .before .before .before .before .before .before .if1 .left)) (sym (c .before .before .before .before .before .before .is-finished .ensures) ∙ c .before .before .before .before .before .if2 .taken)) (eq-eqb (a .c .row) 0 (c .before .before .before .if3 .left)) (eq-eqb (a .c .frames) 0 (c .before .if4 .left)) mathlib.Core.Path.refl
+
+returns-5 : tie.Need-returns-5
+returns-5 c =
+    let a = c .before .before .before .before .before .before .before .before .before .args in
+    three-1 _ _ _ _ (live (a .l) (setupOf (a .setup .now)) (a .saved .now) (a .asleep .now) (a .c) (sym (c .before .before .before .before .before .sizes-ok .ensures) ∙ not-false _ (c .before .before .before .before .if1 .left)) (sym (c .before .before .before .is-finished .ensures) ∙ c .before .before .if2 .left)) (le-ltb (a .c .row) (a .l .rows) (c .if5 .taken))
+
+row-rest-requires : tie.Need-row-rest-requires
+row-rest-requires c κs =
+    let a = c .before .before .before .before .before .before .before .before .before .args in
+    row-inside (a .l .rows) (a .l .width) (a .c .row) (length (a .saved .now)) (c .if5 .left) (c .before .before .before .before .before .before .before .before .before .pre .on-stack)
+
+returns-6 : tie.Need-returns-6
+returns-6 c =
+    let a = c .before .before .before .before .before .before .before .before .before .before .before .args in
+    three-2 _ _ _ _ (live (a .l) (setupOf (a .setup .now)) (a .saved .now) (a .asleep .now) (a .c) (sym (c .before .before .before .before .before .before .before .sizes-ok .ensures) ∙ not-false _ (c .before .before .before .before .before .before .if1 .left)) (sym (c .before .before .before .before .before .is-finished .ensures) ∙ c .before .before .before .before .if2 .left)) (lt-ltb (a .c .row) (a .l .rows) (c .before .before .if5 .left)) (sym (c .before .row-rest .ensures) ∙ not-true _ (c .if6 .taken))
+
+mul-row-frames : tie.Need-mul-row-frames
+mul-row-frames c = omega (arith, c .before .before .before .before .before .before .before .before .before .before .before .before .pre .deep)
+
+row-frames-requires : tie.Need-row-frames-requires
+row-frames-requires c κs =
+    let a = c .before .before .before .before .before .before .before .before .before .before .before .before .args in
+    record {
+      row = row-inside (a .l .rows) (a .l .depth * 6) (a .c .row) (length (a .asleep .now)) (c .before .before .before .if5 .left) (c .before .before .before .before .before .before .before .before .before .before .before .before .pre .on-frames);
+      inside = frames-few (a .l) (a .c) (sym (c .before .before .before .before .before .before .before .before .sizes-ok .ensures) ∙ not-false _ (c .before .before .before .before .before .before .before .if1 .left));
+      catches = c .before .before .before .before .before .before .before .before .before .before .before .before .pre .catches;
+      numbers = c .before .before .before .before .before .before .before .before .before .before .before .before .pre .numbers;
+    }
+
+returns-7 : tie.Need-returns-7
+returns-7 c =
+    let a = c .before .before .before .before .before .before .before .before .before .before .before .before .before .args in
+    three-3 _ _ _ _ _ (live (a .l) (setupOf (a .setup .now)) (a .saved .now) (a .asleep .now) (a .c) (sym (c .before .before .before .before .before .before .before .before .before .sizes-ok .ensures) ∙ not-false _ (c .before .before .before .before .before .before .before .before .if1 .left)) (sym (c .before .before .before .before .before .before .before .is-finished .ensures) ∙ c .before .before .before .before .before .before .if2 .left)) (lt-ltb (a .c .row) (a .l .rows) (c .before .before .before .before .if5 .left)) (sym (c .before .before .before .row-rest .ensures) ∙ not-false _ (c .before .before .if6 .left)) (c .row-frames .ensures)
+
+pub coro-ok-spec : {M : Type 1} → statement M
+coro-ok-spec =
+    tie.close
+    (tie.spec
+    sizes-ok-requires
+    returns
+    is-finished-requires
+    returns-2
+    returns-3
+    returns-4
+    returns-5
+    row-rest-requires
+    returns-6
+    mul-row-frames
+    row-frames-requires
+    returns-7)

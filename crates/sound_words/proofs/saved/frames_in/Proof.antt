@@ -1,0 +1,48 @@
+-- `frames_in` meets its contract, by the coroutine's state. Assumes nothing.
+use mathlib.Core.Path.{sym, _∙_}
+use borrow.Author.Needs.{needs}
+use Rattle.words.specs.Decode.{setupOf}
+use Rattle.sound_words.proofs.Waiting.{resumable-frames, has-frames, has-regs, has-none}
+use Rattle.sound_words.proofs.saved.frames_in.Statement.{statement}
+use Rattle.sound_words.proofs.saved.frames_in.Tie as tie
+
+is-resumable-requires : tie.Need-is-resumable-requires
+is-resumable-requires c κs = search needs
+
+frames-saved-requires : tie.Need-frames-saved-requires
+frames-saved-requires c κs = search needs
+
+returns : tie.Need-returns
+returns c =
+    let a = c .before .before .before .before .before .args in
+    c .frames-saved .ensures ∙ sym (resumable-frames (setupOf (a .setup .now)) (a .ws .now) (a .c) (sym (c .before .before .is-resumable .ensures) ∙ c .before .if1 .taken))
+
+returns-2 : tie.Need-returns-2
+returns-2 c =
+    let a = c .before .before .before .before .before .before .args in
+    has-frames (setupOf (a .setup .now)) (a .ws .now) (a .c) (sym (c .before .before .before .is-resumable .ensures) ∙ c .before .before .if1 .left) (c .if2 .taken)
+
+returns-3 : tie.Need-returns-3
+returns-3 c =
+    let a = c .before .before .before .before .before .before .before .before .args in
+    has-regs (setupOf (a .setup .now)) (a .ws .now) (a .c) (sym (c .before .before .before .before .before .is-resumable .ensures) ∙ c .before .before .before .before .if1 .left) (c .before .before .if2 .left) (c .if3 .taken)
+
+rest-ok-requires : tie.Need-rest-ok-requires
+rest-ok-requires c κs = search needs
+
+returns-4 : tie.Need-returns-4
+returns-4 c =
+    let a = c .before .before .before .before .before .before .before .before .before .args in
+    has-none (setupOf (a .setup .now)) (a .ws .now) (a .c) (sym (c .before .before .before .before .before .before .is-resumable .ensures) ∙ c .before .before .before .before .before .if1 .left) (c .before .before .before .if2 .left) (c .before .if3 .left) (c .rest-ok .result) (c .rest-ok .ensures)
+
+pub frames-in-spec : {M : Type 1} → statement M
+frames-in-spec =
+    tie.close
+    (tie.spec
+    is-resumable-requires
+    frames-saved-requires
+    returns
+    returns-2
+    returns-3
+    rest-ok-requires
+    returns-4)

@@ -1,0 +1,51 @@
+-- `row_frames` meets its contract: the part that is lent is the row's words. Assumes nothing.
+use mathlib.Core.Path.{_≡_, ap, _∙_}
+use Prim.Native.Nat.{ℕ, _+_, _*_, _-_}
+use native.Mathlib.Omega.{arith}
+use lib.ListN.{take, drop}
+use Rattle.words.specs.Decode.{setupOf}
+use Rattle.sound_words.specs.Saved.{framesIn}
+use borrow.Author.Needs.{needs}
+use Rattle.sound_words.proofs.saved.row_frames.Statement.{statement}
+use Rattle.sound_words.proofs.saved.row_frames.Tie as tie
+
+mul-b : tie.Need-mul-b
+mul-b c = search needs
+
+add-e : tie.Need-add-e
+add-e c = search needs
+
+mul-frames-in : tie.Need-mul-frames-in
+mul-frames-in c = search needs
+
+sub-frames-in : tie.Need-sub-frames-in
+sub-frames-in c = search needs
+
+part-frames-in-start : tie.Need-part-frames-in-start
+part-frames-in-start c = search needs
+
+part-frames-in-end : tie.Need-part-frames-in-end
+part-frames-in-end c = search needs
+
+frames-in-requires : tie.Need-frames-in-requires
+frames-in-requires c κs = search needs
+
+returns : tie.Need-returns
+returns c =
+    let a = c .before .before .before .before .args in
+    let b = a .i * a .w in
+    let e : (b + a .w) - b ≡ a .w = omega arith in
+    c .frames-in .ensures ∙ ap (λ (n : ℕ). framesIn (setupOf (a .setup .now)) (take n (drop b (a .ws .now))) (a .c)) e
+
+pub row-frames-spec : {M : Type 1} → statement M
+row-frames-spec =
+    tie.close
+    (tie.spec
+    mul-b
+    add-e
+    mul-frames-in
+    sub-frames-in
+    part-frames-in-start
+    part-frames-in-end
+    frames-in-requires
+    returns)

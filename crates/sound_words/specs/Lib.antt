@@ -1,0 +1,6 @@
+pub mod Numbers
+pub mod Table
+pub mod Running
+pub mod Saved
+pub mod Rows
+pub mod Whole
