@@ -12,11 +12,11 @@ use Rattle.heap.specs.declared.fault.Fault.{Fault}
 use Rattle.model.specs.Answer.{numberOf}
 use Rattle.model.specs.declared.call.Answer.{Answer}
 use Rattle.model.specs.declared.machine.Fuel.{Fuel}
-use Rattle.invariant.proofs.Tests.{and-left, and-right}
+use Rattle.soundness.proofs.Tests.{and-left, and-right}
 use Rattle.memory.specs.Memory.{Lent}
 use Rattle.memory.specs.declared.machine.Machine.{Machine}
 use Rattle.memory.specs.declared.machine.Sizes.{Sizes}
-use Rattle.exec.specs.declared.instruction.Called.{Called}
+use Rattle.machine.specs.declared.called.Called.{Called}
 use Rattle.words.specs.Words.{sizesOf}
 use Rattle.words.specs.Decode.{setupOf}
 use Rattle.calls.specs.Answer.{answerWords}
