@@ -1,13 +1,13 @@
 -- Demand 1 of lent words, from the fault sheet and from "soundness is kept". Assumes nothing.
-use Prim.Native.Nat.{ℕ, _*_}
+use Prim.Native.Nat.{ℕ, suc, _*_}
 use mathlib.Core.Path.{_≡_, refl, sym, ap, _∙_}
 use mathlib.Core.Bool.{Bool, true, false, not, _&&_, false≢true}
 use mathlib.Core.Logic.{_⊎_, inl, inr}
-use mathlib.Core.List.{List}
-use lib.ListN.{length}
+use mathlib.Core.List.{List, []}
+use lib.ListN.{length, getD, take, drop}
 use lib.Dec.{eqb}
 use borrow.Author.Tests.{eq-eqb, not-true}
-use Rattle.lists.specs.Pick.{pick, pick-false}
+use Rattle.lists.specs.Pick.{pick, pick-true, pick-false}
 use Rattle.lists.specs.Chunks.{chunkAt}
 use Rattle.lists.specs.Tests.{allBelow}
 use Rattle.heap.specs.Slot.{slotWords, slotOfWords}
@@ -17,6 +17,7 @@ use Rattle.model.specs.Lists.{among}
 use Rattle.model.specs.World.{World, After, after}
 use Rattle.model.specs.Machine.{raisable, storeSome, unwindFault, unwind}
 use Rattle.model.specs.Sound.{rowWords}
+use Rattle.model.specs.Added.{registersOn, registers}
 use Rattle.model.specs.Answer.{numberOf}
 use Rattle.model.specs.Call.{Operation}
 use Rattle.model.specs.Call as Model
@@ -32,12 +33,13 @@ use Rattle.soundness.proofs.Sound.{sound→}
 use Rattle.invariant.proofs.Call.{call-keeps}
 use Rattle.sheet.proofs.Sentences as Sheet
 use Rattle.tables.specs.Layout.{frameWords, frameOf, activeWords, activeOf}
+use Rattle.tables.specs.Parts.{piled}
 use Rattle.tables.specs.Sizes.{framesSize, savedStackSize, savedFramesSize}
 use Rattle.memory.specs.Rows.{rowAt}
 use Rattle.words.specs.Words.{lengthsOf}
 use Rattle.sound.specs.Words.{restOk, coded, framesHeld}
 use Rattle.sound.proofs.Passed.{passed}
-use Rattle.lent.specs.Step.{State, Left, stateIn, isSound, decoded, stepWords, setUpOk, setUpWords, Call, SetUp, Do, step}
+use Rattle.lent.specs.Step.{State, Left, stateIn, isSound, decoded, looked, stepWords, setUpOk, setUpWords, Call, SetUp, Do, step}
 use Rattle.lent.specs.Sentences.{number, unchanging, faults, NoSuchFault, no-such, Clear, Sentences}
 use Rattle.lent.proofs.Kept.{words-kept, own, untested, stepped, refused-words, set-up, refused-set-up}
 
@@ -188,6 +190,28 @@ clear s e =
       finalize = and-right (a && b) c (p .runs);
     }
 
+-- ---- a look
+
+unseen : (s : State) → isSound s ≡ false → looked s ≡ []
+unseen s e = ap (λ b. pick b (registers (decoded s)) []) e ∙ pick-false _ _
+
+-- the registers of the top one of n frames
+abbrev registers-of : ℕ → State → List ℕ
+registers-of n s = registersOn (piled 6 frameOf n (s .words .frames)) (take (s .machine .height) (s .words .stack))
+
+pick-nothing : (b : Bool) → pick {A = List ℕ} b [] [] ≡ []
+pick-nothing true = pick-true _ _
+pick-nothing false = pick-false _ _
+
+frameless : (s : State) → s .machine .depth ≡ 0 → looked s ≡ []
+unfolding registers
+frameless s e = ap (λ n. pick (isSound s) (registers-of n s) []) e ∙ pick-nothing (isSound s)
+
+seen : (s : State) (i : ℕ) → isSound s ≡ true → s .machine .depth ≡ suc i
+    → looked s ≡ drop (getD (chunkAt 6 (s .words .frames) i) 2 0) (take (s .machine .height) (s .words .stack))
+unfolding registers
+seen s i h e = ap (λ b. pick b (registers (decoded s)) []) h ∙ pick-true _ _ ∙ ap (λ n. registers-of n s) e
+
 pub sentences : Sentences
 sentences =
     record {
@@ -199,6 +223,9 @@ sentences =
       bad-set-up = bad-number;
       enough = λ s o h. words-kept .room s (tested s o h);
       closing = λ s o h. passed (s .words) (s .machine) (s .fuel) (tested s o h) .setup;
+      unseen = unseen;
+      frameless = frameless;
+      seen = seen;
       lengths = words-kept .lengths;
       clear = λ s o e. clear (stepWords s (o .op) .state) (words-kept .kept s o e);
       cleared = λ s given e. clear (setUpWords s given .state) (words-kept .begun s given e);

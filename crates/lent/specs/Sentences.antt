@@ -1,12 +1,14 @@
 -- Demand 1 of lent words, in sentences: of every state, whatever its words hold, and of every call.
--- Every call has an answer: `step` is a function of the state and the call, and none is left out. So the sentences say what it is.
-use Prim.Native.Nat.{ℕ, _*_}
+-- Every call has an answer: `step` is a function of the state and the call, and none is left out. So the sentences say what it is: its
+-- number and what is left. Its word, its Step and its count are `stepWords`'s, and the fault sheet's (`sheet`).
+use Prim.Native.Nat.{ℕ, suc, _*_}
 use mathlib.Core.Path.{_≡_}
 use mathlib.Core.Bool.{true, false}
 use mathlib.Core.Logic.{_⊎_}
 use mathlib.Core.List.{List, [], _∷_}
-use lib.ListN.{drop}
+use lib.ListN.{getD, take, drop}
 use lib.Dec.{eqb}
+use Rattle.lists.specs.Chunks.{chunkAt}
 use Rattle.lists.specs.Tests.{zeros}
 use Rattle.heap.specs.Fault as Fault
 use Rattle.heap.specs.declared.fault.Fault.{Fault}
@@ -19,7 +21,7 @@ use Rattle.model.specs.declared.call.OptPc.{OptPc}
 use Rattle.tables.specs.Sizes.{savedStackSize, savedFramesSize}
 use Rattle.memory.specs.Memory.{Room}
 use Rattle.words.specs.Words.{lengthsOf}
-use Rattle.lent.specs.Step.{State, isSound, decoded, setUpOk, Call, SetUp, Do, step}
+use Rattle.lent.specs.Step.{State, isSound, decoded, looked, setUpOk, Call, SetUp, Do, step}
 
 -- the number that a call answers
 abbrev pub number : State → Call → ℕ
@@ -60,6 +62,11 @@ pub record Sentences : Type 0 where
   -- so there are words enough, and the numbers are in the closing list, wherever a call is accepted
   pub enough : (s : State) (o : Operation) → eqb (number s (Do o)) 11 ≡ false → Room (decoded s .setup) (s .words)
   pub closing : (s : State) (o : Operation) → eqb (number s (Do o)) 11 ≡ false → setupOk (decoded s .setup) ≡ true
+  -- a look: nothing on 11 or without a frame; else the stack's words in use, from the base of the top frame, the third of its six words
+  pub unseen : (s : State) → isSound s ≡ false → looked s ≡ []
+  pub frameless : (s : State) → s .machine .depth ≡ 0 → looked s ≡ []
+  pub seen : (s : State) (i : ℕ) → isSound s ≡ true → s .machine .depth ≡ suc i
+      → looked s ≡ drop (getD (chunkAt 6 (s .words .frames) i) 2 0) (take (s .machine .height) (s .words .stack))
   -- slices keep their lengths, and words longer than needed their zeros: after every call on sound words, and after an accepted set-up
   pub lengths : (s : State) (k : Call) → lengthsOf (step s k .state .words) ≡ lengthsOf (s .words)
   pub clear : (s : State) (o : Operation) → isSound s ≡ true → Clear (step s (Do o) .state)
