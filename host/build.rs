@@ -1,14 +1,14 @@
 //! Finds the static library, or makes it.
 //!
-//! `HUMDELZI_LIB` names the folder that holds `libexports.a`. Without it the
+//! `HUMDELZI_LIB` names the folder that holds `libboundary.a`. Without it the
 //! library is taken from `../target/staticlib`; if it is not there,
-//! `rt staticlib exports` proves and writes it.
+//! `rt staticlib boundary` proves and writes it.
 
 use std::path::{Path, PathBuf};
 use std::process::{self, Command};
 use std::{env, fs};
 
-const NAME: &str = "libexports.a";
+const NAME: &str = "libboundary.a";
 
 fn main() {
     println!("cargo::rerun-if-changed=build.rs");
@@ -17,7 +17,7 @@ fn main() {
     let file = lib.join(NAME);
     println!("cargo::rerun-if-changed={}", file.display());
     println!("cargo::rustc-link-search=native={}", lib.display());
-    println!("cargo::rustc-link-lib=static=exports");
+    println!("cargo::rustc-link-lib=static=boundary");
     // for the tests, which link a C program with it
     println!("cargo::rustc-env=HUMDELZI_LIB_FOUND={}", lib.display());
 }
@@ -43,10 +43,10 @@ fn beside() -> PathBuf {
 }
 
 fn make(root: &Path, lib: &Path) {
-    let why = match Command::new("rt").args(["staticlib", "exports"]).current_dir(root).output() {
+    let why = match Command::new("rt").args(["staticlib", "boundary"]).current_dir(root).output() {
         Ok(done) if done.status.success() && lib.join(NAME).is_file() => return,
         Ok(done) => format!(
-            "`rt staticlib exports` failed:\n{}{}",
+            "`rt staticlib boundary` failed:\n{}{}",
             String::from_utf8_lossy(&done.stdout),
             String::from_utf8_lossy(&done.stderr)
         ),
@@ -55,7 +55,7 @@ fn make(root: &Path, lib: &Path) {
     fail(&format!(
         "{why}\n\
          The proved library {NAME} is not in {}. Either\n\
-         - install the Rattle toolchain, so that `rt` is found, and run `rt staticlib exports` in {}\n\
+         - install the Rattle toolchain, so that `rt` is found, and run `rt staticlib boundary` in {}\n\
          - or set HUMDELZI_LIB to a folder that holds {NAME}",
         lib.display(),
         root.display()

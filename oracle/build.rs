@@ -5,7 +5,7 @@
 //! exec.rs and program.rs are cut down to the parts the coroutine code needs.
 //! Every edit is listed in docs/DIFFERENCES.md.
 //!
-//! `BVM_LIB` names the folder that holds libexports.a, the proved functions;
+//! `BVM_LIB` names the folder that holds libboundary.a, the proved functions;
 //! without it the crate builds without them.
 
 use std::fs;
@@ -51,10 +51,10 @@ fn library() {
         return;
     };
     let lib = fs::canonicalize(&lib).unwrap_or_else(|e| fail(&format!("BVM_LIB: {e}")));
-    let file = lib.join("libexports.a");
+    let file = lib.join("libboundary.a");
     println!("cargo::rerun-if-changed={}", file.display());
     println!("cargo::rustc-link-search=native={}", lib.display());
-    println!("cargo::rustc-link-lib=static=exports");
+    println!("cargo::rustc-link-lib=static=boundary");
     println!("cargo::rustc-cfg=library");
 }
 

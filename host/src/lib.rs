@@ -2,7 +2,7 @@
 //!
 //! A [`Machine`] owns the words of one machine; each of the paper's 28 calls
 //! is a method with typed operands, and answers an [`Answer`]. The functions
-//! behind it are compiled from proved code (`crates/exports`): answers and
+//! behind it are compiled from proved code (`crates/boundary`): answers and
 //! words are those of the definitions, for every call.
 //!
 //! The words are private. A set-up leaves a sound machine, every call leaves

@@ -194,7 +194,13 @@ Suspended u (Suspension.Done d e) = Owing (finalOf d) u
 Suspended u (Suspension.Refused f) = Agree u
 
 popped : {b : Bool} {q : List ℕ} {f : Fuel} {c chain : List Active} (a : Active) → c ≡ a ∷ chain → AgreeOf 0 b q f c → AgreeOf (finalOf (a .driver)) b q f chain
-popped {c = c} {chain} a e h = record { ready = h .ready; bank = h .bank; active = let z = h .active in let y = ap finals e in let x : finalOf (a .driver) + finals chain ≡ 0 + finals c = omega arith in x ∙ z; hosts = and-right (hostLow (a .driver) (a .floor)) _ (subst (λ y. hostsLow y ≡ true) e (h .hosts)) }
+popped {c = c} {chain} a e h =
+    record {
+      ready = h .ready;
+      bank = h .bank;
+      active = let z = h .active in let y = ap finals e in let x : finalOf (a .driver) + finals chain ≡ 0 + finals c = omega arith in x ∙ z;
+      hosts = and-right (hostLow (a .driver) (a .floor)) _ (subst (λ y. hostsLow y ≡ true) e (h .hosts));
+    }
 
 module _ (st : CoroState) (dst payload : ℕ) (key : Keys) (w : World) (h : Agree w) where
   suspend-on : (chain : List Active) → w .chain ≡ chain → Suspended (suspendOn chain st dst payload key w .world) (suspendOn chain st dst payload key w .answer)

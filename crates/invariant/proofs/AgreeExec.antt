@@ -18,7 +18,8 @@ use Rattle.model.specs.Heap.{object, coro, notA, encodeInt, dynInt}
 use Rattle.model.specs.Coro.{coroCreate, coroState, coroEnter, coroSuspend, deliver, inState, ended}
 use Rattle.model.specs.Cleanup.{close, charge}
 use Rattle.model.specs.Machine.{pushFrame, isOk}
-use Rattle.model.specs.Exec.{putMade, window, coroNew, indirectTo, indirect, coroNewIndirect, hooked, callHook, spawnMade, spawnBy, spawn, delivered, deliverAll, suspend, largestIn, keyAt, keyExact, autoKey, yieldKey, yieldOn, yield, largerOf, yieldKvOn, yieldKv, awaitOn, await, arrive, resume, throwEntered, throwTo, resumeThrow, closeEntered, closeIn, closeTo, coroClose, statusOf, coroStatus, coroCurrent, keyOf, coroKey, resultIn, coroResult, iterOn, iterNext}
+use Rattle.model.specs.Exec.{putMade, window, coroNew, indirectTo, indirect, coroNewIndirect, hooked, callHook, spawnMade, spawnBy, spawn, delivered, deliverAll, suspend, largestIn, keyAt, keyExact, autoKey, yieldKey, yieldOn, yield, largerOf}
+use Rattle.model.specs.Exec.{yieldKvOn, yieldKv, awaitOn, await, arrive, resume, throwEntered, throwTo, resumeThrow, closeEntered, closeIn, closeTo, coroClose, statusOf, coroStatus, coroCurrent, keyOf, coroKey, resultIn, coroResult, iterOn, iterNext}
 use Rattle.model.specs.Added.{answerMade}
 use Rattle.model.specs.declared.machine.Cont.{Cont}
 use Rattle.model.specs.declared.machine.Driver.{Driver}

@@ -18,7 +18,8 @@ use Rattle.model.specs.Frames.{reg, storePc}
 use Rattle.model.specs.Heap.{object, coro, notA, dynInt}
 use Rattle.model.specs.Coro.{stateAs, coroEnter, finishCoroutine, inState, ended}
 use Rattle.model.specs.Machine.{pushFrame, isOk}
-use Rattle.model.specs.Exec.{put, putMade, window, coroNew, coroNewIndirect, hooked, callHook, spawnMade, spawnBy, spawn, delivered, deliverAll, suspend, largestIn, yieldKey, yieldOn, yield, largerOf, yieldKvOn, yieldKv, awaitOn, await, arrive, resume, throwEntered, throwTo, resumeThrow, closeEntered, closeIn, closeTo, coroClose, statusOf, coroStatus, current, coroCurrent, keyOf, coroKey, resultIn, coroResult, iterOn, iterNext}
+use Rattle.model.specs.Exec.{put, putMade, window, coroNew, coroNewIndirect, hooked, callHook, spawnMade, spawnBy, spawn, delivered, deliverAll, suspend, largestIn, yieldKey, yieldOn, yield, largerOf, yieldKvOn, yieldKv, awaitOn}
+use Rattle.model.specs.Exec.{await, arrive, resume, throwEntered, throwTo, resumeThrow, closeEntered, closeIn, closeTo, coroClose, statusOf, coroStatus, current, coroCurrent, keyOf, coroKey, resultIn, coroResult, iterOn, iterNext}
 use Rattle.model.specs.Sound.{runs}
 use Rattle.model.specs.declared.machine.Cont.{Cont}
 use Rattle.model.specs.declared.machine.Driver.{Driver}

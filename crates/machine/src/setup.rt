@@ -31,7 +31,8 @@ fn clear_tables(
     saved_stack: &mut [u64],
     saved_frames: &mut [u64],
 )
-    ensures { λ _. ⌜ Cleared (now (stack .entry)) (now (stack .exit)) × Cleared (now (frames .entry)) (now (frames .exit)) × Cleared (now (chain .entry)) (now (chain .exit)) × Cleared (now («saved_stack» .entry)) (now («saved_stack» .exit)) × Cleared (now («saved_frames» .entry)) (now («saved_frames» .exit)) ⌝ }
+    ensures { λ _. ⌜ Cleared (now (stack .entry)) (now (stack .exit)) × Cleared (now (frames .entry)) (now (frames .exit)) × Cleared (now (chain .entry)) (now (chain .exit))
+        × Cleared (now («saved_stack» .entry)) (now («saved_stack» .exit)) × Cleared (now («saved_frames» .entry)) (now («saved_frames» .exit)) ⌝ }
 {
     lists::clear_words(stack);
     lists::clear_words(frames);

@@ -13,5 +13,9 @@ use Rattle.model.specs.Call.{typed}
 use Rattle.model.specs.Step.{call, tested, step}
 
 unfoldable pub computed : {A : Type 0} → A → A
-unfolding pick setupOk alloc toDyn coroCreate coroEnter coroSuspend deliver coroReturned coroEscaped abortCoros spawnTask startFinalizer chargeSlow charge pushFrame applyCont finish unwind coroNew indirect coroNewIndirect spawn autoKey yield yieldKv await resume resumeThrow coroClose coroStatus coroCurrent coroKey coroResult iterNext instruction onFrame onHost hostCall hostEntry functionCall putWord makeIterator takeOutcome handOver grant stopRun registers sizesOk savedSizesOk framesOk entryOk floorsOk driversOk runningOk savedOk rowsOk queuesOk fuelOk unusedOk rangesOk sound typed call tested step
+unfolding pick setupOk alloc toDyn coroCreate coroEnter coroSuspend deliver coroReturned coroEscaped abortCoros spawnTask startFinalizer chargeSlow
+    charge pushFrame applyCont finish unwind coroNew indirect coroNewIndirect spawn autoKey yield yieldKv await resume resumeThrow coroClose
+    coroStatus coroCurrent coroKey coroResult iterNext instruction onFrame onHost hostCall hostEntry functionCall putWord makeIterator
+    takeOutcome handOver grant stopRun registers sizesOk savedSizesOk framesOk entryOk floorsOk driversOk runningOk savedOk rowsOk queuesOk
+    fuelOk unusedOk rangesOk sound typed call tested step
 computed x = x

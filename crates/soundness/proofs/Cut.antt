@@ -98,7 +98,10 @@ module _ (s : Setup) where
             driver = c .driver;
             lows = c .lows;
             lifted =
-                l-cons {n = n - c .b .base} {f = lower (c .b .base) f} q i (lowered-fits (c .b .base) n f gs (map (lower (c .b .base)) (c .up ++ (c .b ∷ []))) c₀ t (lowered-lies (f .cont) (c .b .base) (f .base) (c .up) (c .b) (c .low) l h) (or-right (isEntry (f .cont) || isCoro (f .cont)) _ (some-lower (c .b .base) (c .up) (c .b))))
+                l-cons {n = n - c .b .base} {f = lower (c .b .base) f} q i
+                (lowered-fits (c .b .base) n f gs (map (lower (c .b .base)) (c .up ++ (c .b ∷ []))) c₀ t
+                (lowered-lies (f .cont) (c .b .base) (f .base) (c .up) (c .b) (c .low) l h)
+                (or-right (isEntry (f .cont) || isCoro (f .cont)) _ (some-lower (c .b .base) (c .up) (c .b))))
                 (c .lifted);
           }
   cut {n} {fs} {a} {chain} (body {f} {fs = gs} q t k d r) =

@@ -16,7 +16,8 @@ use Rattle.model.specs.Object.{Rest, Object, asCoro}
 use Rattle.model.specs.World.{World}
 use Rattle.model.specs.Heap.{coro}
 use Rattle.model.specs.Rows.{heldRows}
-use Rattle.model.specs.Sound.{sizesOk, savedSizes, savedSizesOk, basesOk, frameNames, contsLie, catchesLie, framesOk, entryOk, floorsOk, driversOk, runs, coros, runsAmong, runningOk, marked, savedIn, savedOk, rowsOk, queueOk, queuesOk, isNone, fuelOk, unusedIn, rowless, unusedOk, objectRange, outcomeRange, rangesOk, sound}
+use Rattle.model.specs.Sound.{sizesOk, savedSizes, savedSizesOk, basesOk, frameNames, contsLie, catchesLie, framesOk, entryOk, floorsOk, driversOk, runs, coros, runsAmong, runningOk}
+use Rattle.model.specs.Sound.{marked, savedIn, savedOk, rowsOk, queueOk, queuesOk, isNone, fuelOk, unusedIn, rowless, unusedOk, objectRange, outcomeRange, rangesOk, sound}
 use Rattle.model.specs.declared.machine.Active.{Active}
 use Rattle.model.specs.declared.machine.Frame.{Frame}
 use Rattle.soundness.specs.Exact.{exact, exactIn, exactOk}

@@ -103,21 +103,27 @@ unfolding typed
 returns c =
     let at-op = c .before in let g = at-op .op .given .0 in let k = c .known-told .given in
     as-op (at-op .before .before .args .op) (Op.CoroNew (g .0) (g .1 .0) (g .1 .1 .0) (g .1 .1 .1 .0)) (at-op .op .given .1)
-    (both (isPc (g .0) && isReg (g .1 .0) && isPc (g .1 .1 .0)) (isArgc (g .1 .1 .1 .0)) (both (isPc (g .0) && isReg (g .1 .0)) (isPc (g .1 .1 .0)) (both (isPc (g .0)) (isReg (g .1 .0)) (pc (g .0) (omega arith)) (reg (g .1 .0) (omega arith))) (pc (g .1 .1 .0) (omega arith))) (argc (g .1 .1 .1 .0) (omega arith)))
+    (both (isPc (g .0) && isReg (g .1 .0) && isPc (g .1 .1 .0)) (isArgc (g .1 .1 .1 .0))
+    (both (isPc (g .0) && isReg (g .1 .0)) (isPc (g .1 .1 .0)) (both (isPc (g .0)) (isReg (g .1 .0)) (pc (g .0) (omega arith))
+    (reg (g .1 .0) (omega arith))) (pc (g .1 .1 .0) (omega arith))) (argc (g .1 .1 .1 .0) (omega arith)))
 
 returns-2 : tie.Need-returns-2
 unfolding typed
 returns-2 c =
     let at-op = c .before in let g = at-op .op2 .given .0 in let k = c .known-told2 .given in
     as-op (at-op .before .before .args .op) (Op.CoroNewIndirect (g .0) (g .1 .0) (g .1 .1 .0) (g .1 .1 .1 .0)) (at-op .op2 .given .1)
-    (both (isPc (g .0) && areRegs (g .1 .0 ∷ g .1 .1 .0 ∷ [])) (isArgc (g .1 .1 .1 .0)) (both (isPc (g .0)) (areRegs (g .1 .0 ∷ g .1 .1 .0 ∷ [])) (pc (g .0) (omega arith)) (and-regs (g .1 .0) (g .1 .1 .0 ∷ []) (omega arith) (and-regs (g .1 .1 .0) ([]) (omega arith) refl))) (argc (g .1 .1 .1 .0) (omega arith)))
+    (both (isPc (g .0) && areRegs (g .1 .0 ∷ g .1 .1 .0 ∷ [])) (isArgc (g .1 .1 .1 .0))
+    (both (isPc (g .0)) (areRegs (g .1 .0 ∷ g .1 .1 .0 ∷ [])) (pc (g .0) (omega arith))
+    (and-regs (g .1 .0) (g .1 .1 .0 ∷ []) (omega arith) (and-regs (g .1 .1 .0) ([]) (omega arith) refl))) (argc (g .1 .1 .1 .0) (omega arith)))
 
 returns-3 : tie.Need-returns-3
 unfolding typed
 returns-3 c =
     let at-op = c .before in let g = at-op .op3 .given .0 in let k = c .known-told3 .given in
     as-op (at-op .before .before .args .op) (Op.Spawn (g .0) (g .1 .0) (g .1 .1 .0) (g .1 .1 .1 .0)) (at-op .op3 .given .1)
-    (both (isPc (g .0) && areRegs (g .1 .0 ∷ g .1 .1 .0 ∷ [])) (isArgc (g .1 .1 .1 .0)) (both (isPc (g .0)) (areRegs (g .1 .0 ∷ g .1 .1 .0 ∷ [])) (pc (g .0) (omega arith)) (and-regs (g .1 .0) (g .1 .1 .0 ∷ []) (omega arith) (and-regs (g .1 .1 .0) ([]) (omega arith) refl))) (argc (g .1 .1 .1 .0) (omega arith)))
+    (both (isPc (g .0) && areRegs (g .1 .0 ∷ g .1 .1 .0 ∷ [])) (isArgc (g .1 .1 .1 .0))
+    (both (isPc (g .0)) (areRegs (g .1 .0 ∷ g .1 .1 .0 ∷ [])) (pc (g .0) (omega arith))
+    (and-regs (g .1 .0) (g .1 .1 .0 ∷ []) (omega arith) (and-regs (g .1 .1 .0) ([]) (omega arith) refl))) (argc (g .1 .1 .1 .0) (omega arith)))
 
 returns-4 : tie.Need-returns-4
 unfolding typed
@@ -194,7 +200,10 @@ unfolding typed
 returns-14 c =
     let at-op = c .before in let g = at-op .op14 .given .0 in let k = c .known-told14 .given in
     as-op (at-op .before .before .args .op) (Op.IterNext (g .0) (g .1 .0) (g .1 .1 .0) (g .1 .1 .1 .0) (g .1 .1 .1 .1 .0)) (at-op .op14 .given .1)
-    (both (isPc (g .0)) (areRegs (g .1 .0 ∷ g .1 .1 .0 ∷ g .1 .1 .1 .0 ∷ g .1 .1 .1 .1 .0 ∷ [])) (pc (g .0) (omega arith)) (and-regs (g .1 .0) (g .1 .1 .0 ∷ g .1 .1 .1 .0 ∷ g .1 .1 .1 .1 .0 ∷ []) (omega arith) (and-regs (g .1 .1 .0) (g .1 .1 .1 .0 ∷ g .1 .1 .1 .1 .0 ∷ []) (omega arith) (and-regs (g .1 .1 .1 .0) (g .1 .1 .1 .1 .0 ∷ []) (omega arith) (and-regs (g .1 .1 .1 .1 .0) ([]) (omega arith) refl)))))
+    (both (isPc (g .0)) (areRegs (g .1 .0 ∷ g .1 .1 .0 ∷ g .1 .1 .1 .0 ∷ g .1 .1 .1 .1 .0 ∷ [])) (pc (g .0) (omega arith))
+    (and-regs (g .1 .0) (g .1 .1 .0 ∷ g .1 .1 .1 .0 ∷ g .1 .1 .1 .1 .0 ∷ []) (omega arith)
+    (and-regs (g .1 .1 .0) (g .1 .1 .1 .0 ∷ g .1 .1 .1 .1 .0 ∷ []) (omega arith)
+    (and-regs (g .1 .1 .1 .0) (g .1 .1 .1 .1 .0 ∷ []) (omega arith) (and-regs (g .1 .1 .1 .1 .0) ([]) (omega arith) refl)))))
 
 returns-15 : tie.Need-returns-15
 unfolding typed

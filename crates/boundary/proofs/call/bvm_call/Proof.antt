@@ -1,0 +1,80 @@
+-- `bvm_call` meets its contract: 14, or by the test. Assumes nothing.
+use mathlib.Core.Path.{refl}
+use Rattle.memory.specs.Memory.{Lent}
+use Rattle.memory.specs.Lendings.{plain}
+use Rattle.outer.specs.State.{nine}
+use Rattle.calls.specs.Call.{opOf}
+use Rattle.boundary.specs.Host.{Host, host, gave}
+use Rattle.boundary.proofs.Hosts.{called, too-short}
+use borrow.Author.Needs.{needs}
+use Rattle.boundary.proofs.call.bvm_call.Statement.{statement}
+use Rattle.boundary.proofs.call.bvm_call.Tie as tie
+
+abbrev mem : tie.Start → Lent
+mem c = nine (c .args .stack .now) (c .args .frames .now) (c .args .chain .now) (c .args .slots .now) (c .args .saved-stack .now) (c .args .saved-frames .now) (c .args .ready .now) (c .args .finalize .now) (c .args .setup .now) plain
+
+abbrev of : tie.Start → Host
+of c = host (mem c) (c .args .machine .now) (c .args .fuel .now)
+
+returns : tie.Need-returns
+returns c =
+    let start = c .before .before .before .before .before .before .before .before .before .before .before .before .before .before in
+    let a = start .args in
+    too-short (of start) (opOf (a .call .now)) (a .answer .now) (gave (of start) (a .answer .now) 14) (c .if1 .taken) refl
+
+tested-requires : tie.Need-tested-requires
+tested-requires c κs = search needs
+
+do-call-requires : tie.Need-do-call-requires
+do-call-requires c κs =
+    let test = c .before .before .before .before .before .before .before .before .before .before .before in
+    let at-if = test .before .before .before .before .before .before .before .before .before .before .before in
+    record { known = test .tested .ensures; room = at-if .if1 .left }
+
+abbrev do-call-of : tie.After-slice-known22 → tie.After-do-call
+do-call-of c = c .before .before .before .before .before .before .before .before .before .before .before .before .before .before .before .before .before .before .before .before .before .before
+
+same-length : tie.Need-same-length
+same-length c = do-call-of c .do-call .kept .1 .0
+
+same-length-2 : tie.Need-same-length-2
+same-length-2 c = do-call-of c .do-call .kept .1 .1 .0
+
+same-length-3 : tie.Need-same-length-3
+same-length-3 c = do-call-of c .do-call .kept .1 .1 .1 .0
+
+same-length-4 : tie.Need-same-length-4
+same-length-4 c = do-call-of c .do-call .kept .1 .1 .1 .1 .0
+
+same-length-5 : tie.Need-same-length-5
+same-length-5 c = do-call-of c .do-call .kept .1 .1 .1 .1 .1 .0
+
+same-length-6 : tie.Need-same-length-6
+same-length-6 c = do-call-of c .do-call .kept .1 .1 .1 .1 .1 .1 .0
+
+same-length-7 : tie.Need-same-length-7
+same-length-7 c = do-call-of c .do-call .kept .1 .1 .1 .1 .1 .1 .1 .0
+
+same-length-8 : tie.Need-same-length-8
+same-length-8 c = do-call-of c .do-call .kept .1 .1 .1 .1 .1 .1 .1 .1 .0
+
+same-length-9 : tie.Need-same-length-9
+same-length-9 c = do-call-of c .do-call .kept .1 .1 .1 .1 .1 .1 .1 .1 .1 .1 .0
+
+same-length-10 : tie.Need-same-length-10
+same-length-10 c = do-call-of c .do-call .kept .1 .1 .1 .1 .1 .1 .1 .1 .1 .1 .1 .0
+
+same-length-11 : tie.Need-same-length-11
+same-length-11 c = do-call-of c .do-call .kept .1 .1 .1 .1 .1 .1 .1 .1 .1 .1 .1 .1 .1 .0
+
+returns-2 : tie.Need-returns-2
+returns-2 c =
+    let did = do-call-of c in
+    let test = did .before .before .before .before .before .before .before .before .before .before .before .before in
+    let at-if = test .before .before .before .before .before .before .before .before .before .before .before in
+    let start = at-if .before .before .before .before .before .before .before .before .before .before .before .before .before .before in
+    let a = start .args in
+    called (of start) (opOf (a .call .now)) (a .answer .now) _ (at-if .if1 .left) (test .tested .result) (test .tested .ensures) (did .do-call .ensures)
+
+pub bvm-call-spec : {M : Type 1} → statement M
+bvm-call-spec = tie.close (tie.spec returns tested-requires do-call-requires same-length same-length-2 same-length-3 same-length-4 same-length-5 same-length-6 same-length-7 same-length-8 same-length-9 same-length-10 same-length-11 returns-2)

@@ -1,0 +1,74 @@
+-- `numbers_ok` meets its contract: each test fails the whole, and the last decides it. Assumes nothing.
+use mathlib.Core.Path.{sym}
+use lib.ListN.{length, getD}
+use borrow.Author.Tests.{le-leb, lt-leb, eq-eqb, ne-eqb}
+use borrow.Author.Needs.{needs}
+use Rattle.boundary.proofs.tested.numbers_ok.Statement.{statement}
+use Rattle.boundary.proofs.tested.numbers_ok.Tie as tie
+
+returns : tie.Need-returns
+returns c =
+    let a = c .before .args in
+    let ms = a .machine .now in
+    let fs = a .fuel .now in
+    sym (rw (lt-leb 25 (length ms) (c .if1 .taken)))
+
+returns-2 : tie.Need-returns-2
+returns-2 c =
+    let a = c .before .before .args in
+    let ms = a .machine .now in
+    let fs = a .fuel .now in
+    sym (rw (le-leb 25 (length ms) (c .before .if1 .left), lt-leb 4 (length fs) (c .if2 .taken)))
+
+shared-slice-read-if3 : tie.Need-shared-slice-read-if3
+shared-slice-read-if3 c = search needs
+
+returns-3 : tie.Need-returns-3
+returns-3 c =
+    let a = c .before .before .before .before .args in
+    let ms = a .machine .now in
+    let fs = a .fuel .now in
+    sym (rw (le-leb 25 (length ms) (c .before .before .before .if1 .left), le-leb 4 (length fs) (c .before .before .if2 .left), lt-leb (getD ms 6 0) 1 (c .if3 .taken)))
+
+shared-slice-read-if4 : tie.Need-shared-slice-read-if4
+shared-slice-read-if4 c = search needs
+
+returns-4 : tie.Need-returns-4
+returns-4 c =
+    let a = c .before .before .before .before .before .before .args in
+    let ms = a .machine .now in
+    let fs = a .fuel .now in
+    sym (rw (le-leb 25 (length ms) (c .before .before .before .before .before .if1 .left), le-leb 4 (length fs) (c .before .before .before .before .if2 .left), le-leb (getD ms 6 0) 1 (c .before .before .if3 .left), lt-leb (getD fs 3 0) 1 (c .if4 .taken)))
+
+shared-slice-read-if5 : tie.Need-shared-slice-read-if5
+shared-slice-read-if5 c = search needs
+
+returns-5 : tie.Need-returns-5
+returns-5 c =
+    let a = c .before .before .before .before .before .before .before .before .args in
+    let ms = a .machine .now in
+    let fs = a .fuel .now in
+    sym (rw (le-leb 25 (length ms) (c .before .before .before .before .before .before .before .if1 .left), le-leb 4 (length fs) (c .before .before .before .before .before .before .if2 .left), le-leb (getD ms 6 0) 1 (c .before .before .before .before .if3 .left), le-leb (getD fs 3 0) 1 (c .before .before .if4 .left), eq-eqb (getD fs 1 0) 1 (c .if5 .taken)))
+
+shared-slice-read-if6 : tie.Need-shared-slice-read-if6
+shared-slice-read-if6 c = search needs
+
+returns-6 : tie.Need-returns-6
+returns-6 c =
+    let a = c .before .before .before .before .before .before .before .before .before .before .args in
+    let ms = a .machine .now in
+    let fs = a .fuel .now in
+    sym (rw (le-leb 25 (length ms) (c .before .before .before .before .before .before .before .before .before .if1 .left), le-leb 4 (length fs) (c .before .before .before .before .before .before .before .before .if2 .left), le-leb (getD ms 6 0) 1 (c .before .before .before .before .before .before .if3 .left), le-leb (getD fs 3 0) 1 (c .before .before .before .before .if4 .left), ne-eqb (getD fs 1 0) 1 (c .before .before .if5 .left), ne-eqb (getD fs 1 0) 0 (c .if6 .taken)))
+
+shared-slice-read-result : tie.Need-shared-slice-read-result
+shared-slice-read-result c = search needs
+
+returns-7 : tie.Need-returns-7
+returns-7 c =
+    let a = c .before .before .before .before .before .before .before .before .before .before .before .args in
+    let ms = a .machine .now in
+    let fs = a .fuel .now in
+    sym (rw (le-leb 25 (length ms) (c .before .before .before .before .before .before .before .before .before .before .if1 .left), le-leb 4 (length fs) (c .before .before .before .before .before .before .before .before .before .if2 .left), le-leb (getD ms 6 0) 1 (c .before .before .before .before .before .before .before .if3 .left), le-leb (getD fs 3 0) 1 (c .before .before .before .before .before .if4 .left), ne-eqb (getD fs 1 0) 1 (c .before .before .before .if5 .left), eq-eqb (getD fs 1 0) 0 (c .before .if6 .left)))
+
+pub numbers-ok-spec : {M : Type 1} → statement M
+numbers-ok-spec = tie.close (tie.spec returns returns-2 shared-slice-read-if3 returns-3 shared-slice-read-if4 returns-4 shared-slice-read-if5 returns-5 shared-slice-read-if6 returns-6 shared-slice-read-result returns-7)

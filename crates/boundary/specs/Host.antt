@@ -1,0 +1,102 @@
+-- A machine whose numbers and fuel are in words too: when it is sound, and what a call leaves of it.
+use mathlib.Core.Path.{_≡_}
+use mathlib.Core.Bool.{Bool, true, _&&_, _||_}
+use mathlib.Core.List.{List}
+use Prim.Native.Nat.{ℕ, _≤_}
+use lib.ListN.{length, getD}
+use lib.Dec.{eqb, leb}
+use Rattle.lists.specs.Pick.{pick}
+use Rattle.lists.specs.Parts.{splice}
+use Rattle.heap.specs.declared.fault.Fault.{Fault}
+use Rattle.model.specs.Answer.{numberOf}
+use Rattle.model.specs.declared.call.Answer.{Answer}
+use Rattle.memory.specs.Memory.{Lent}
+use Rattle.memory.specs.declared.machine.Sizes.{Sizes}
+use Rattle.words.specs.Words.{sizesOf}
+use Rattle.words.specs.Decode.{setupOf}
+use Rattle.words.specs.Sizes.{SetupFits}
+use Rattle.calls.specs.Answer.{answerWords}
+use Rattle.calls.specs.declared.call.Read.{Read}
+use Rattle.lent.specs.Step.{State, isSound}
+use Rattle.outer.specs.State.{state}
+use Rattle.run.specs.Run.{doWords}
+use Rattle.boundary.specs.Words.{machineIn, machineWords, sizesIn, fuelIn, fuelWords}
+
+pub record Host : Type 0 where
+  pub words : Lent
+  pub machine : List ℕ
+  pub fuel : List ℕ
+
+abbrev pub host : Lent → List ℕ → List ℕ → Host
+host M ms fs = record { words = M; machine = ms; fuel = fs }
+
+-- what the words tell
+abbrev pub stateOf : Host → State
+stateOf h = state (h .words) (machineIn (h .machine)) (fuelIn (h .fuel))
+
+-- ---- sound: words enough; a flag is 0 or 1, and an amount is set aside only where there is a bank
+
+abbrev pub numbersOk : List ℕ → List ℕ → Bool
+numbersOk ms fs =
+    leb 25 (length ms) && leb 4 (length fs) && leb (getD ms 6 0) 1 && leb (getD fs 3 0) 1
+    && (eqb (getD fs 1 0) 1 || eqb (getD fs 1 0) 0 && eqb (getD fs 2 0) 0)
+
+abbrev pub sameSizes : Sizes → Sizes → Bool
+sameSizes a b =
+    eqb (a .depth) (b .depth) && eqb (a .stack) (b .stack) && eqb (a .rows) (b .rows) && eqb (a .slots) (b .slots) && eqb (a .memory) (b .memory)
+    && eqb (a .width) (b .width) && eqb (a .costs .frame) (b .costs .frame) && eqb (a .costs .coro) (b .costs .coro)
+    && eqb (a .costs .object) (b .costs .object) && eqb (a .costs .int) (b .costs .int) && eqb (a .costs .error) (b .costs .error)
+    && eqb (a .costs .iter) (b .costs .iter)
+
+-- the sizes beside the numbers are the set-up's
+abbrev pub sizesHeld : List ℕ → List ℕ → Bool
+sizesHeld ms us = sameSizes (sizesIn ms) (sizesOf (setupOf us))
+
+unfoldable pub tested : Host → Bool
+tested h = numbersOk (h .machine) (h .fuel) && isSound (stateOf h) && sizesHeld (h .machine) (h .words .setup)
+
+abbrev pub oneOr : Bool → ℕ
+oneOr b = pick b 1 0
+
+-- ---- what a function leaves: the machine, the words of the answer, and what it returns
+
+pub record Gave : Type 0 where
+  pub host : Host
+  pub answer : List ℕ
+  pub number : ℕ
+
+abbrev pub gave : Host → List ℕ → ℕ → Gave
+gave h xs n = record { host = h; answer = xs; number = n }
+
+abbrev pub tells : Host → Answer → List ℕ → Gave
+tells h a xs = gave h (splice xs 0 (answerWords a)) (numberOf a)
+
+-- numbers and fuel are written over their words
+abbrev pub over : Host → State → Host
+over h s = host (s .words) (splice (h .machine) 0 (machineWords (s .machine))) (splice (h .fuel) 0 (fuelWords (s .fuel)))
+
+-- a call in words, on a sound machine
+abbrev pub keptIn : Host → Read → List ℕ → Gave
+keptIn h r xs = let d = doWords (stateOf h) r in tells (over h (d .state)) (d .answer) xs
+
+-- everything as found, and 11
+abbrev pub doIn : Bool → Host → Read → List ℕ → Gave
+doIn ok h r xs = pick ok (keptIn h r xs) (tells h (Answer.Refused Fault.Unsound) xs)
+
+-- an answer that does not fit is 14, before anything else
+unfoldable pub callIn : Host → Read → List ℕ → Gave
+callIn h r xs = pick (leb 8 (length xs)) (doIn (tested h) h r xs) (gave h xs 14)
+
+-- ---- what the functions ask
+
+pub record HoldFits (ms us : List ℕ) : Type 0 where
+  pub numbers : 25 ≤ length ms
+  pub setup : SetupFits us
+
+pub record DoFits (ok : Bool) (h : Host) (xs : List ℕ) : Type 0 where
+  pub known : ok ≡ tested h
+  pub room : 8 ≤ length xs
+
+pub record KeptFits (h : Host) (xs : List ℕ) : Type 0 where
+  pub sound : tested h ≡ true
+  pub room : 8 ≤ length xs
