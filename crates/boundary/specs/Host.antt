@@ -1,14 +1,16 @@
 -- A machine whose numbers and fuel are in words too: when it is sound, and what a call leaves of it.
 use mathlib.Core.Path.{_≡_}
 use mathlib.Core.Bool.{Bool, true, _&&_, _||_}
-use mathlib.Core.List.{List}
-use Prim.Native.Nat.{ℕ, _≤_}
+use mathlib.Core.List.{List, [], _∷_}
+use Prim.Native.Nat.{ℕ, _*_, _≤_}
 use lib.ListN.{length, getD}
 use lib.Dec.{eqb, leb}
 use Rattle.lists.specs.Pick.{pick}
 use Rattle.lists.specs.Parts.{splice}
 use Rattle.heap.specs.declared.fault.Fault.{Fault}
 use Rattle.model.specs.Answer.{numberOf}
+use Rattle.model.specs.Frames.{topBase}
+use Rattle.model.specs.declared.call.Op.{Op}
 use Rattle.model.specs.declared.call.Answer.{Answer}
 use Rattle.memory.specs.Memory.{Lent}
 use Rattle.memory.specs.declared.machine.Sizes.{Sizes}
@@ -17,10 +19,11 @@ use Rattle.words.specs.Decode.{setupOf}
 use Rattle.words.specs.Sizes.{SetupFits}
 use Rattle.calls.specs.Answer.{answerWords}
 use Rattle.calls.specs.declared.call.Read.{Read}
-use Rattle.lent.specs.Step.{State, isSound}
+use Rattle.added.specs.Look.{LookFits, endOn}
+use Rattle.lent.specs.Step.{State, isSound, decoded, setUpOk, setUpWords}
 use Rattle.outer.specs.State.{state}
-use Rattle.run.specs.Run.{doWords}
-use Rattle.boundary.specs.Words.{machineIn, machineWords, sizesIn, fuelIn, fuelWords}
+use Rattle.run.specs.Run.{doWords, countOf, written, refusals, runIn}
+use Rattle.boundary.specs.Words.{machineIn, machineWords, sizesIn, sizesWords, fuelIn, fuelWords}
 
 pub record Host : Type 0 where
   pub words : Lent
@@ -87,6 +90,54 @@ doIn ok h r xs = pick ok (keptIn h r xs) (tells h (Answer.Refused Fault.Unsound)
 unfoldable pub callIn : Host → Read → List ℕ → Gave
 callIn h r xs = pick (leb 8 (length xs)) (doIn (tested h) h r xs) (gave h xs 14)
 
+-- ---- a grant: the call, of which the fuel's words and the answer are written
+
+pub record Granted (h : Host) (n : ℕ) (xs fs′ xs′ : List ℕ) (r : ℕ) : Type 0 where
+  pub fuel : fs′ ≡ callIn h (Read.Is (Op.Grant n)) xs .host .fuel
+  pub answer : xs′ ≡ callIn h (Read.Is (Op.Grant n)) xs .answer
+  pub number : r ≡ callIn h (Read.Is (Op.Grant n)) xs .number
+
+-- ---- a look: where the top frame's registers begin and end on the stack, 0 and 0 without a frame
+
+pub record Looked : Type 0 where
+  pub span : List ℕ
+  pub number : ℕ
+
+abbrev pub saw : List ℕ → ℕ → Looked
+saw zs n = record { span = zs; number = n }
+
+unfoldable pub lookIn : Host → List ℕ → Looked
+lookIn h zs =
+    let w = decoded (stateOf h) in
+    pick (leb 2 (length zs))
+    (pick (tested h) (saw (splice zs 0 (topBase (w .frames) ∷ endOn (w .frames) (w .stack) ∷ [])) 0) (saw (splice zs 0 (0 ∷ 0 ∷ [])) 11))
+    (saw zs 14)
+
+-- ---- a set-up, which does not test what was there
+
+-- the fresh machine, and the sizes of its set-up after its numbers
+abbrev pub freshIn : Host → List ℕ → Host
+freshIn h given =
+    let s = setUpWords (stateOf h) given .state in
+    host (s .words) (splice (splice (h .machine) 0 (machineWords (s .machine))) 13 (sizesWords (sizesOf (setupOf given)))) (splice (h .fuel) 0 (fuelWords (s .fuel)))
+
+abbrev pub beginIn : Host → List ℕ → List ℕ → Gave
+beginIn h given xs = pick (setUpOk given (h .words)) (tells (freshIn h given) Answer.Accepted xs) (tells h (Answer.Refused Fault.Unsound) xs)
+
+unfoldable pub setUpIn : Host → List ℕ → List ℕ → Gave
+setUpIn h given xs =
+    pick (leb 8 (length xs))
+    (pick (leb 25 (length (h .machine)) && leb 4 (length (h .fuel))) (beginIn h given xs) (tells h (Answer.Refused Fault.Unsound) xs))
+    (gave h xs 14)
+
+-- ---- a run: too few words for the answers is 14, and on a machine that is not sound each answer is 11
+
+unfoldable pub runHost : Host → List ℕ → List ℕ → Gave
+runHost h cs xs =
+    let n = countOf (length cs) in
+    let t = runIn (stateOf h) cs xs in
+    pick (leb (n * 8) (length xs)) (pick (tested h) (gave (over h (t .state)) (t .answers) (t .number)) (gave h (written xs 0 (refusals n)) 11)) (gave h xs 14)
+
 -- ---- what the functions ask
 
 pub record HoldFits (ms us : List ℕ) : Type 0 where
@@ -100,3 +151,12 @@ pub record DoFits (ok : Bool) (h : Host) (xs : List ℕ) : Type 0 where
 pub record KeptFits (h : Host) (xs : List ℕ) : Type 0 where
   pub sound : tested h ≡ true
   pub room : 8 ≤ length xs
+
+pub record PlaceFits (ok : Bool) (ws ms : List ℕ) : Type 0 where
+  pub numbers : ok ≡ true → 25 ≤ length ms
+  pub frames : ok ≡ true → LookFits ws (machineIn ms)
+
+pub record BeginFits (ms fs xs : List ℕ) : Type 0 where
+  pub machine : 25 ≤ length ms
+  pub fuel : 4 ≤ length fs
+  pub answer : 8 ≤ length xs

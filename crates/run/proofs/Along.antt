@@ -8,6 +8,7 @@ use lib.ListN.{length, take, drop, take-append-drop}
 use lib.Seq.{drop-drop}
 use Rattle.lists.specs.Chunks.{putChunk, words}
 use Rattle.lists.specs.Parts.{splice}
+use Rattle.heap.specs.declared.fault.Fault.{Fault}
 use Rattle.model.specs.declared.call.Answer.{Answer}
 use Rattle.memory.specs.Memory.{Lent}
 use Rattle.memory.specs.declared.machine.Sizes.{Sizes}
@@ -17,7 +18,7 @@ use Rattle.words.specs.Decode.{setupOf}
 use Rattle.calls.specs.Answer.{answerWords}
 use Rattle.calls.specs.declared.call.Read.{Read}
 use Rattle.lent.specs.Step.{State, Left, isSound}
-use Rattle.run.specs.Run.{doWords, Ran, runWords, countOf, readIn, callsIn, written, ReadFits, Reads, ListFits, Listed}
+use Rattle.run.specs.Run.{doWords, Ran, runWords, countOf, readIn, callsIn, written, refusals, ReadFits, Reads, ListFits, Listed}
 use Rattle.run.proofs.Written.{splice-next}
 
 same-next : (M N P : Lent) → SameLengths M N → SameLengths N P → SameLengths M P
@@ -104,3 +105,38 @@ module _ (ok : Bool) (l : Sizes) (cs xs₀ : List ℕ) (n : ℕ) (s₀ : State) 
               ∙ sym (ap (λ (z : List Read). written xs (i * 8) (runWords s z .answers)) step)
               ∙ a .answers;
         }
+
+-- ---- refused, one after the other
+
+module _ (xs₀ : List ℕ) (n : ℕ) where
+  pub record Refused (xs : List ℕ) (i : ℕ) : Type 0 where
+    pub within : i ≤ n
+    pub long : length xs ≡ length xs₀
+    pub same : written xs (i * 8) (refusals (n - i)) ≡ written xs₀ 0 (refusals n)
+
+  pub refused-start : Refused xs₀ 0
+  refused-start = let e : n - 0 ≡ n = omega arith in record { within = omega arith; long = refl; same = ap (λ k. written xs₀ 0 (refusals k)) e }
+
+  pub refused-end : (xs : List ℕ) (i : ℕ) → n ≤ i → Refused xs i → xs ≡ written xs₀ 0 (refusals n)
+  refused-end xs i h a =
+      let w = a .within in
+      let e : n - i ≡ 0 = omega arith in
+      sym (take-append-drop (i * 8) xs) ∙ sym (ap (λ k. written xs (i * 8) (refusals k)) e) ∙ a .same
+
+  pub refused-more : (xs xs′ : List ℕ) (i : ℕ) → n * 8 ≤ length xs₀ → i < n → Refused xs i → xs′ ≡ putChunk 8 xs i (answerWords (Answer.Refused Fault.Unsound)) → length xs′ ≡ length xs
+      → Refused xs′ (i + 1)
+  refused-more xs xs′ i room h a e g =
+      let A = answerWords (Answer.Refused Fault.Unsound) in
+      let W = words answerWords (refusals (n - (i + 1))) in
+      let k : n - i ≡ suc (n - (i + 1)) = omega arith in
+      let p : i * 8 + 8 ≡ (i + 1) * 8 = omega arith in
+      let big : i * 8 + 8 ≤ length xs = let z = a .long in omega arith in
+      record {
+        within = omega arith;
+        long = g ∙ a .long;
+        same =
+            ap₂ (λ (ys : List ℕ) j. splice ys j W) e (sym p)
+            ∙ splice-next xs A W (i * 8) big
+            ∙ sym (ap (λ j. written xs (i * 8) (refusals j)) k)
+            ∙ a .same;
+      }

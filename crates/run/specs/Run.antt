@@ -3,7 +3,7 @@ use mathlib.Core.Path.{_≡_}
 use mathlib.Core.Bool.{Bool, true}
 use mathlib.Core.List.{List, [], _∷_}
 use Prim.Native.Nat.{ℕ, _+_, _*_, _/_, _%_, _≤_}
-use lib.ListN.{length}
+use lib.ListN.{length, replicate}
 use lib.Dec.{eqb, leb}
 use Rattle.lists.specs.Pick.{pick}
 use Rattle.lists.specs.Chunks.{chunkAt, chunks, words}
@@ -51,6 +51,10 @@ callsIn n cs = chunks 6 opOf n cs
 
 abbrev pub written : List ℕ → ℕ → List Answer → List ℕ
 written xs at answers = splice xs at (words answerWords answers)
+
+-- each of n calls answered 11
+abbrev pub refusals : ℕ → List Answer
+refusals n = replicate n (Answer.Refused Fault.Unsound)
 
 -- what a run leaves: 0, or why it was not made
 pub record RunLeft : Type 0 where

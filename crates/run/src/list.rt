@@ -8,10 +8,11 @@ ghost use Rattle.calls.specs.Call.{opOf};
 ghost use Rattle.calls.specs.Answer.{answerWords};
 ghost use Rattle.lent.specs.Step.{isSound};
 ghost use Rattle.outer.specs.State.{nine, state};
-ghost use Rattle.run.specs.Run.{countOf, readIn, ListFits, Listed, runIn, ends};
+ghost use Rattle.run.specs.Run.{countOf, readIn, written, refusals, ListFits, Listed, runIn, ends};
 use crate::one::do_read;
 use crate::one::sizes_if;
 use calls::call::Read;
+use heap::fault::Fault;
 use memory::machine::Machine;
 use memory::machine::Sizes;
 use model::call::Answer;
@@ -26,7 +27,7 @@ pub struct Ran {
 }
 
 // How many calls are in n words: a last part of fewer than six is one more.
-fn count(n: usize) -> usize
+pub fn count(n: usize) -> usize
     ensures { λ r. ⌜ r ≡ countOf n ⌝ }
 {
     let q = n / 6;
@@ -51,13 +52,25 @@ fn read_at(calls: &[u64], i: usize) -> Read
 }
 
 // Its answer.
-fn put_at(answers: &mut [u64], i: usize, a: Answer)
+pub fn put_at(answers: &mut [u64], i: usize, a: Answer)
     requires { ⌜ i * 8 + 8 ≤ length (now answers) ⌝ }
     ensures { λ _. ⌜ now (answers .exit) ≡ putChunk 8 (now (answers .entry)) i (answerWords a) ⌝ }
 {
     let at = i * 8;
     let e = at + 8;
     calls::answer::put_answer(&mut answers[at..e], a);
+}
+
+// Each of n calls answered 11.
+pub fn refuse_list(answers: &mut [u64], n: usize)
+    requires { ⌜ n * 8 ≤ length (now answers) ⌝ }
+    ensures { λ _. ⌜ now (answers .exit) ≡ written (now (answers .entry)) 0 (refusals n) ⌝ }
+{
+    let mut i = 0;
+    while i < n {
+        put_at(answers, i, Answer::Refused(Fault::Unsound));
+        i += 1;
+    }
 }
 
 // .. without that number.
