@@ -53,7 +53,9 @@ fn begin(
     answer: &mut [u64],
 ) -> u64
     requires { ⌜ BeginFits (now machine) (now fuel) (now answer) ⌝ }
-    ensures { λ r. ⌜ gave (host (nine stack frames chain slots «saved_stack» «saved_frames» ready finalize setup atExit) (atExit machine) (atExit fuel)) (atExit answer) r ≡ beginIn (host (nine stack frames chain slots «saved_stack» «saved_frames» ready finalize setup atEntry) (atEntry machine) (atEntry fuel)) (now (given .entry)) (atEntry answer) ⌝ }
+    ensures { λ r. ⌜ gave (host (nine stack frames chain slots «saved_stack» «saved_frames» ready finalize setup atExit) (atExit machine)
+        (atExit fuel)) (atExit answer) r ≡ beginIn (host (nine stack frames chain slots «saved_stack» «saved_frames» ready finalize setup atEntry)
+        (atEntry machine) (atEntry fuel)) (now (given .entry)) (atEntry answer) ⌝ }
 {
     let m = machine_of(machine);
     let f = fuel_of(fuel);
@@ -101,7 +103,9 @@ pub extern "C" fn bvm_set_up(
     given: &[u64],
     answer: &mut [u64],
 ) -> u64
-    ensures { λ r. ⌜ gave (host (nine stack frames chain slots «saved_stack» «saved_frames» ready finalize setup atExit) (atExit machine) (atExit fuel)) (atExit answer) r ≡ setUpIn (host (nine stack frames chain slots «saved_stack» «saved_frames» ready finalize setup atEntry) (atEntry machine) (atEntry fuel)) (now (given .entry)) (atEntry answer) ⌝ }
+    ensures { λ r. ⌜ gave (host (nine stack frames chain slots «saved_stack» «saved_frames» ready finalize setup atExit) (atExit machine)
+        (atExit fuel)) (atExit answer) r ≡ setUpIn (host (nine stack frames chain slots «saved_stack» «saved_frames» ready finalize setup atEntry)
+        (atEntry machine) (atEntry fuel)) (now (given .entry)) (atEntry answer) ⌝ }
 {
     if answer.len() < 8 {
         return 14;

@@ -47,7 +47,9 @@ fn do_call(
     answer: &mut [u64],
 ) -> u64
     requires { ⌜ DoFits ok (host (nine stack frames chain slots «saved_stack» «saved_frames» ready finalize setup now) (now machine) (now fuel)) (now answer) ⌝ }
-    ensures { λ r. ⌜ gave (host (nine stack frames chain slots «saved_stack» «saved_frames» ready finalize setup atExit) (atExit machine) (atExit fuel)) (atExit answer) r ≡ doIn ok (host (nine stack frames chain slots «saved_stack» «saved_frames» ready finalize setup atEntry) (atEntry machine) (atEntry fuel)) (opOf (now (call .entry))) (atEntry answer) ⌝ }
+    ensures { λ r. ⌜ gave (host (nine stack frames chain slots «saved_stack» «saved_frames» ready finalize setup atExit) (atExit machine)
+        (atExit fuel)) (atExit answer) r ≡ doIn ok (host (nine stack frames chain slots «saved_stack» «saved_frames» ready finalize setup atEntry)
+        (atEntry machine) (atEntry fuel)) (opOf (now (call .entry))) (atEntry answer) ⌝ }
 {
     if !ok {
         return tell(answer, Answer::Refused(Fault::Unsound));
@@ -97,7 +99,9 @@ pub extern "C" fn bvm_call(
     call: &[u64],
     answer: &mut [u64],
 ) -> u64
-    ensures { λ r. ⌜ gave (host (nine stack frames chain slots «saved_stack» «saved_frames» ready finalize setup atExit) (atExit machine) (atExit fuel)) (atExit answer) r ≡ callIn (host (nine stack frames chain slots «saved_stack» «saved_frames» ready finalize setup atEntry) (atEntry machine) (atEntry fuel)) (opOf (now (call .entry))) (atEntry answer) ⌝ }
+    ensures { λ r. ⌜ gave (host (nine stack frames chain slots «saved_stack» «saved_frames» ready finalize setup atExit) (atExit machine)
+        (atExit fuel)) (atExit answer) r ≡ callIn (host (nine stack frames chain slots «saved_stack» «saved_frames» ready finalize setup atEntry)
+        (atEntry machine) (atEntry fuel)) (opOf (now (call .entry))) (atEntry answer) ⌝ }
 {
     if answer.len() < 8 {
         return 14;
@@ -151,7 +155,9 @@ pub extern "C" fn bvm_kept(
     answer: &mut [u64],
 ) -> u64
     requires { ⌜ KeptFits (host (nine stack frames chain slots «saved_stack» «saved_frames» ready finalize setup now) (now machine) (now fuel)) (now answer) ⌝ }
-    ensures { λ r. ⌜ gave (host (nine stack frames chain slots «saved_stack» «saved_frames» ready finalize setup atExit) (atExit machine) (atExit fuel)) (atExit answer) r ≡ keptIn (host (nine stack frames chain slots «saved_stack» «saved_frames» ready finalize setup atEntry) (atEntry machine) (atEntry fuel)) (opOf (now (call .entry))) (atEntry answer) ⌝ }
+    ensures { λ r. ⌜ gave (host (nine stack frames chain slots «saved_stack» «saved_frames» ready finalize setup atExit) (atExit machine)
+        (atExit fuel)) (atExit answer) r ≡ keptIn (host (nine stack frames chain slots «saved_stack» «saved_frames» ready finalize setup atEntry)
+        (atEntry machine) (atEntry fuel)) (opOf (now (call .entry))) (atEntry answer) ⌝ }
 {
     do_call(
         true,

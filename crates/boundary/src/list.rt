@@ -30,7 +30,9 @@ fn do_run(
     answers: &mut [u64],
 ) -> u64
     requires { ⌜ ok ≡ tested (host (nine stack frames chain slots «saved_stack» «saved_frames» ready finalize setup now) (now machine) (now fuel)) ⌝ }
-    ensures { λ r. ⌜ gave (host (nine stack frames chain slots «saved_stack» «saved_frames» ready finalize setup atExit) (atExit machine) (atExit fuel)) (atExit answers) r ≡ runHost (host (nine stack frames chain slots «saved_stack» «saved_frames» ready finalize setup atEntry) (atEntry machine) (atEntry fuel)) (now (calls .entry)) (atEntry answers) ⌝ }
+    ensures { λ r. ⌜ gave (host (nine stack frames chain slots «saved_stack» «saved_frames» ready finalize setup atExit) (atExit machine)
+        (atExit fuel)) (atExit answers) r ≡ runHost (host (nine stack frames chain slots «saved_stack» «saved_frames» ready finalize setup atEntry)
+        (atEntry machine) (atEntry fuel)) (now (calls .entry)) (atEntry answers) ⌝ }
 {
     let n = count(calls.len());
     if answers.len() / 8 < n {
@@ -81,7 +83,9 @@ pub extern "C" fn bvm_run(
     calls: &[u64],
     answers: &mut [u64],
 ) -> u64
-    ensures { λ r. ⌜ gave (host (nine stack frames chain slots «saved_stack» «saved_frames» ready finalize setup atExit) (atExit machine) (atExit fuel)) (atExit answers) r ≡ runHost (host (nine stack frames chain slots «saved_stack» «saved_frames» ready finalize setup atEntry) (atEntry machine) (atEntry fuel)) (now (calls .entry)) (atEntry answers) ⌝ }
+    ensures { λ r. ⌜ gave (host (nine stack frames chain slots «saved_stack» «saved_frames» ready finalize setup atExit) (atExit machine)
+        (atExit fuel)) (atExit answers) r ≡ runHost (host (nine stack frames chain slots «saved_stack» «saved_frames» ready finalize setup atEntry)
+        (atEntry machine) (atEntry fuel)) (now (calls .entry)) (atEntry answers) ⌝ }
 {
     let ok = tested(
         stack,

@@ -21,7 +21,10 @@ pub fn grant(
     m: Machine,
     n: u64,
 ) -> Answer
-    ensures { λ r. ⌜ (now (fuel .exit) ≡ grantWords (state (nine stack frames chain slots «saved_stack» «saved_frames» ready finalize setup atEntry) m (now (fuel .entry))) n .fuel) × (r ≡ grantWords (state (nine stack frames chain slots «saved_stack» «saved_frames» ready finalize setup atEntry) m (now (fuel .entry))) n .answer) ⌝ }
+    ensures { λ r. ⌜ (now (fuel .exit) ≡ grantWords
+        (state (nine stack frames chain slots «saved_stack» «saved_frames» ready finalize setup atEntry) m (now (fuel .entry))) n .fuel)
+        × (r ≡ grantWords (state (nine stack frames chain slots «saved_stack» «saved_frames» ready finalize setup atEntry) m
+        (now (fuel .entry))) n .answer) ⌝ }
 {
     let g = outer::grant::granted(
         *fuel,

@@ -99,7 +99,9 @@ fn run_list(
     n: usize,
 ) -> Passed
     requires { ⌜ ListFits ok l (state (nine stack frames chain slots «saved_stack» «saved_frames» ready finalize setup now) m fuel) (now calls) (now answers) n ⌝ }
-    ensures { λ r. ⌜ Listed (state (nine stack frames chain slots «saved_stack» «saved_frames» ready finalize setup atEntry) m fuel) (now (calls .entry)) (now (answers .entry)) n (state (nine stack frames chain slots «saved_stack» «saved_frames» ready finalize setup atExit) (r .machine) (r .fuel)) (now (answers .exit)) ⌝ }
+    ensures { λ r. ⌜ Listed (state (nine stack frames chain slots «saved_stack» «saved_frames» ready finalize setup atEntry) m fuel)
+        (now (calls .entry)) (now (answers .entry)) n (state (nine stack frames chain slots «saved_stack» «saved_frames» ready finalize setup atExit)
+        (r .machine) (r .fuel)) (now (answers .exit)) ⌝ }
 {
     let mut k = m;
     let mut f = fuel;
@@ -162,7 +164,14 @@ pub fn run_known(
     answers: &mut [u64],
 ) -> Ran
     requires { ⌜ ok ≡ isSound (state (nine stack frames chain slots «saved_stack» «saved_frames» ready finalize setup now) m fuel) ⌝ }
-    ensures { λ r. ⌜ record { state = state (nine stack frames chain slots «saved_stack» «saved_frames» ready finalize setup atExit) (r .machine) (r .fuel); answers = now (answers .exit); number = r .number } ≡ runIn (state (nine stack frames chain slots «saved_stack» «saved_frames» ready finalize setup atEntry) m fuel) (now (calls .entry)) (now (answers .entry)) ⌝ }
+    ensures { λ r. ⌜ record {
+      state = state (nine stack frames chain slots «saved_stack» «saved_frames» ready finalize setup atExit) (r .machine)
+          (r .fuel);
+      answers = now (answers .exit);
+      number = r .number;
+    } ≡ runIn
+        (state (nine stack frames chain slots «saved_stack» «saved_frames» ready finalize setup atEntry) m fuel) (now (calls .entry))
+        (now (answers .entry)) ⌝ }
 {
     let n = count(calls.len());
     if answers.len() / 8 < n {
@@ -216,7 +225,14 @@ pub fn run(
     calls: &[u64],
     answers: &mut [u64],
 ) -> Ran
-    ensures { λ r. ⌜ record { state = state (nine stack frames chain slots «saved_stack» «saved_frames» ready finalize setup atExit) (r .machine) (r .fuel); answers = now (answers .exit); number = r .number } ≡ runIn (state (nine stack frames chain slots «saved_stack» «saved_frames» ready finalize setup atEntry) m fuel) (now (calls .entry)) (now (answers .entry)) ⌝ }
+    ensures { λ r. ⌜ record {
+      state = state (nine stack frames chain slots «saved_stack» «saved_frames» ready finalize setup atExit) (r .machine)
+          (r .fuel);
+      answers = now (answers .exit);
+      number = r .number;
+    } ≡ runIn
+        (state (nine stack frames chain slots «saved_stack» «saved_frames» ready finalize setup atEntry) m fuel) (now (calls .entry))
+        (now (answers .entry)) ⌝ }
 {
     let ok = sound_words(
         stack,

@@ -65,7 +65,10 @@ use Rattle.grant.proofs.grant.Code as code
 
 -- the parameters after the fuel: their types, and how their machine values are spelled
 abbrev Ts : Lfts 9 → List RattleType
-Ts ρ = ShrSlice (named 1) (ρ .0) u64 ∷ ShrSlice (named 2) (ρ .1 .0) u64 ∷ ShrSlice (named 3) (ρ .1 .1 .0) u64 ∷ ShrSlice (named 4) (ρ .1 .1 .1 .0) u64 ∷ ShrSlice (named 5) (ρ .1 .1 .1 .1 .0) u64 ∷ ShrSlice (named 6) (ρ .1 .1 .1 .1 .1 .0) u64 ∷ ShrSlice (named 7) (ρ .1 .1 .1 .1 .1 .1 .0) u64 ∷ ShrSlice (named 8) (ρ .1 .1 .1 .1 .1 .1 .1 .0) u64 ∷ ShrSlice (named 9) (ρ .1 .1 .1 .1 .1 .1 .1 .1 .0) u64 ∷ Mc.the-row ∷ u64 ∷ []
+Ts ρ = ShrSlice (named 1) (ρ .0) u64 ∷ ShrSlice (named 2) (ρ .1 .0) u64 ∷ ShrSlice (named 3) (ρ .1 .1 .0) u64 ∷ ShrSlice (named 4)
+    (ρ .1 .1 .1 .0) u64 ∷ ShrSlice (named 5) (ρ .1 .1 .1 .1 .0) u64 ∷ ShrSlice (named 6) (ρ .1 .1 .1 .1 .1 .0) u64 ∷ ShrSlice (named 7)
+    (ρ .1 .1 .1 .1 .1 .1 .0) u64 ∷ ShrSlice (named 8) (ρ .1 .1 .1 .1 .1 .1 .1 .0) u64 ∷ ShrSlice (named 9)
+    (ρ .1 .1 .1 .1 .1 .1 .1 .1 .0) u64 ∷ Mc.the-row ∷ u64 ∷ []
 
 abbrev sp : (ρ : Lfts 9) → Spells (Ts ρ)
 sp ρ = (slice-vals, (slice-vals, (slice-vals, (slice-vals, (slice-vals, (slice-vals, (slice-vals, (slice-vals, (slice-vals, (LL.vals Mc.the-type Mc′.the-laws, (uint-vals w64, tt)))))))))))
@@ -75,7 +78,34 @@ abbrev low : Fuel → Val
 low = LL.val F.the-type F′.the-laws
 
 abbrev stayed : Stays (grant.ended .signature .params) (grant.ended .kept)
-stayed = (stay-ref (0 ∷ []) tt (plain (λ _. F.the-row)), (stay-none-slice (1 ∷ []) tt (plain (λ _. u64)) yes, (stay-none-slice (2 ∷ []) tt (plain (λ _. u64)) yes, (stay-none-slice (3 ∷ []) tt (plain (λ _. u64)) yes, (stay-none-slice (4 ∷ []) tt (plain (λ _. u64)) yes, (stay-none-slice (5 ∷ []) tt (plain (λ _. u64)) yes, (stay-none-slice (6 ∷ []) tt (plain (λ _. u64)) yes, (stay-none-slice (7 ∷ []) tt (plain (λ _. u64)) yes, (stay-none-slice (8 ∷ []) tt (plain (λ _. u64)) yes, (stay-none-slice (9 ∷ []) tt (plain (λ _. u64)) yes, (stay-none (λ _. Mc.the-row) yes, (stay-none (λ _. u64) yes, tt))))))))))))
+stayed = (
+  stay-ref (0 ∷ []) tt (plain (λ _. F.the-row)),
+  (
+    stay-none-slice (1 ∷ []) tt (plain (λ _. u64)) yes,
+    (
+      stay-none-slice (2 ∷ []) tt (plain (λ _. u64)) yes,
+      (
+        stay-none-slice (3 ∷ []) tt (plain (λ _. u64)) yes,
+        (
+          stay-none-slice (4 ∷ []) tt (plain (λ _. u64)) yes,
+          (
+            stay-none-slice (5 ∷ []) tt (plain (λ _. u64)) yes,
+            (
+              stay-none-slice (6 ∷ []) tt (plain (λ _. u64)) yes,
+              (
+                stay-none-slice (7 ∷ []) tt (plain (λ _. u64)) yes,
+                (
+                  stay-none-slice (8 ∷ []) tt (plain (λ _. u64)) yes,
+                  (stay-none-slice (9 ∷ []) tt (plain (λ _. u64)) yes, (stay-none (λ _. Mc.the-row) yes, (stay-none (λ _. u64) yes, tt))),
+                ),
+              ),
+            ),
+          ),
+        ),
+      ),
+    ),
+  ),
+)
 
 module _ {M : Type 1} (𝓤 : URA M) (H : Heap 𝓤) (A : Atoms 𝓤) (mem : Memory → SProp 𝓤) (run : Routine → Fun 𝓤) where
   -- the contract that the proof cites
@@ -94,7 +124,9 @@ module _ {M : Type 1} (𝓤 : URA M) (H : Heap 𝓤) (A : Atoms 𝓤) (W : Given
 
   -- what the definition says
   abbrev did : GrantDid
-  did = grantWords (state (nine (a .0 .now) (a .1 .0 .now) (a .1 .1 .0 .now) (a .1 .1 .1 .0 .now) (a .1 .1 .1 .1 .0 .now) (a .1 .1 .1 .1 .1 .0 .now) (a .1 .1 .1 .1 .1 .1 .0 .now) (a .1 .1 .1 .1 .1 .1 .1 .0 .now) (a .1 .1 .1 .1 .1 .1 .1 .1 .0 .now) (λ ws. ws)) (a .1 .1 .1 .1 .1 .1 .1 .1 .1 .0) h) (a .1 .1 .1 .1 .1 .1 .1 .1 .1 .1 .0)
+  did = grantWords (state (nine (a .0 .now) (a .1 .0 .now) (a .1 .1 .0 .now) (a .1 .1 .1 .0 .now) (a .1 .1 .1 .1 .0 .now) (a .1 .1 .1 .1 .1 .0 .now)
+      (a .1 .1 .1 .1 .1 .1 .0 .now) (a .1 .1 .1 .1 .1 .1 .1 .0 .now) (a .1 .1 .1 .1 .1 .1 .1 .1 .0 .now) (λ ws. ws))
+      (a .1 .1 .1 .1 .1 .1 .1 .1 .1 .0) h) (a .1 .1 .1 .1 .1 .1 .1 .1 .1 .1 .0)
 
   -- what the other parameters own, and their lifetimes' tokens
   abbrev Rest : Fml
@@ -127,25 +159,102 @@ module _ {M : Type 1} (𝓤 : URA M) (H : Heap 𝓤) (A : Atoms 𝓤) (W : Given
     exits : ent 𝓤 (⋆ 𝓤 H A (‵ (fobs γ (F.the-row .coded .code (r .fuel))) ∷ ‵ (fbor κ (Body (mem F.the-row) b o γ)) ∷ ‵ (flft κ q) ∷ Tokens ∷ ‵ Rest ∷ [])) (Post (EL.val An.the-type An′.the-laws (r .answer)))
     exits =
         qed W (‵ (fobs γ (F.the-row .coded .code (r .fuel))) ∷ ‵ (fbor κ (Body (mem F.the-row) b o γ)) ∷ ‵ (flft κ q) ∷ Tokens ∷ ‵ Rest ∷ []) ∵
-        suffices ! _ (ends-at 𝓤 H A grant.ended stayed (grant.clauses 𝓤 H A at-mem run) W (((κ, ρ), (q, σ), tt, x, at), tt) (EL.val An.the-type An′.the-laws (r .answer)) (r .answer) (r .fuel, (tt, (tt, (tt, (tt, (tt, (tt, (tt, (tt, (tt, (tt, (tt, tt)))))))))))) (tt, (tt, (tt, (tt, (tt, (tt, (tt, (tt, (tt, (tt, (tt, (tt, tt))))))))))))) $ says ! (ap (λ (g : GrantDid). g .fuel) e, ap (λ (g : GrantDid). g .answer) e) $
+        suffices ! _ (ends-at 𝓤 H A grant.ended stayed (grant.clauses 𝓤 H A at-mem run) W (((κ, ρ), (q, σ), tt, x, at), tt)
+        (EL.val An.the-type An′.the-laws (r .answer)) (r .answer) (r .fuel, (tt, (tt, (tt, (tt, (tt, (tt, (tt, (tt, (tt, (tt, (tt, tt))))))))))))
+        (tt, (tt, (tt, (tt, (tt, (tt, (tt, (tt, (tt, (tt, (tt, (tt, tt))))))))))))) $ says !
+        (ap (λ (g : GrantDid). g .fuel) e, ap (λ (g : GrantDid). g .answer) e) $
         move ! (2 ∷ 3 ∷ []) $ join ! $ frame ! $ feqI ! (List Val) (vptr b o ∷ []) (vptr b o ∷ []) refl $ fjoin3 ! $ fjoin ! $
         owned ! An.the-row (Is An.the-row) (EL.makes An.the-type An′.the-plain 𝓤 H A) (r .answer) _ answer-is $ move ! (1 ∷ 0 ∷ []) $ done !
 
   module _ (C : Calls 𝓤 H) (Λ : Loops 𝓤 H) (fm : FmC 𝓤 H (W .laws) C) (known : Triple 𝓤 (C #outer·grant·granted) (Of 𝓤 H A at-mem run)) where
     walk : Are (Ts ρ) (Ises (Ts ρ)) a vs → ent 𝓤 (onEntry 𝓤 H A grant.signature (κ, ρ) (q, σ) x at) (WpFn 𝓤 H C Λ code.function (vptr b o ∷ flat (Ts ρ) vs) Post)
     walk are =
-        let typed = all-typed 𝓤 H A (Ts ρ) (shr-slice-lawful 𝓤 H A W (named 1) (ρ .0) u64, (shr-slice-lawful 𝓤 H A W (named 2) (ρ .1 .0) u64, (shr-slice-lawful 𝓤 H A W (named 3) (ρ .1 .1 .0) u64, (shr-slice-lawful 𝓤 H A W (named 4) (ρ .1 .1 .1 .0) u64, (shr-slice-lawful 𝓤 H A W (named 5) (ρ .1 .1 .1 .1 .0) u64, (shr-slice-lawful 𝓤 H A W (named 6) (ρ .1 .1 .1 .1 .1 .0) u64, (shr-slice-lawful 𝓤 H A W (named 7) (ρ .1 .1 .1 .1 .1 .1 .0) u64, (shr-slice-lawful 𝓤 H A W (named 8) (ρ .1 .1 .1 .1 .1 .1 .1 .0) u64, (shr-slice-lawful 𝓤 H A W (named 9) (ρ .1 .1 .1 .1 .1 .1 .1 .1 .0) u64, (LL.lawful Mc.the-type Mc′.the-laws 𝓤 H A W, (uint-lawful 𝓤 H A W w64, tt))))))))))) a vs are in
+        let typed = all-typed 𝓤 H A (Ts ρ) (
+          shr-slice-lawful 𝓤 H A W (named 1) (ρ .0) u64,
+          (
+            shr-slice-lawful 𝓤 H A W (named 2) (ρ .1 .0) u64,
+            (
+              shr-slice-lawful 𝓤 H A W (named 3) (ρ .1 .1 .0) u64,
+              (
+                shr-slice-lawful 𝓤 H A W (named 4) (ρ .1 .1 .1 .0) u64,
+                (
+                  shr-slice-lawful 𝓤 H A W (named 5) (ρ .1 .1 .1 .1 .0) u64,
+                  (
+                    shr-slice-lawful 𝓤 H A W (named 6) (ρ .1 .1 .1 .1 .1 .0) u64,
+                    (
+                      shr-slice-lawful 𝓤 H A W (named 7) (ρ .1 .1 .1 .1 .1 .1 .0) u64,
+                      (
+                        shr-slice-lawful 𝓤 H A W (named 8) (ρ .1 .1 .1 .1 .1 .1 .1 .0) u64,
+                        (
+                          shr-slice-lawful 𝓤 H A W (named 9) (ρ .1 .1 .1 .1 .1 .1 .1 .1 .0) u64,
+                          (LL.lawful Mc.the-type Mc′.the-laws 𝓤 H A W, (uint-lawful 𝓤 H A W w64, tt)),
+                        ),
+                      ),
+                    ),
+                  ),
+                ),
+              ),
+            ),
+          ),
+        ) a vs are in
         qed W ((‵ (flft κ q) ⊛ Tokens) ∷ ‵ (owns (MutRef (named 0) κ F.the-row ∷ Ts ρ) x at) ∷ []) ∵ split ! $ move ! (2 ∷ []) $ fsplit ! $ fsplit3 ! $ drop ! $ move ! (2 ∷ []) $
-        use1 W (‵ Rest ⊛ ‵ Rest) (twices 𝓤 H A W (Ts ρ) (shr-slice-copy 𝓤 H A W (named 1) (ρ .0) u64, (shr-slice-copy 𝓤 H A W (named 2) (ρ .1 .0) u64, (shr-slice-copy 𝓤 H A W (named 3) (ρ .1 .1 .0) u64, (shr-slice-copy 𝓤 H A W (named 4) (ρ .1 .1 .1 .0) u64, (shr-slice-copy 𝓤 H A W (named 5) (ρ .1 .1 .1 .1 .0) u64, (shr-slice-copy 𝓤 H A W (named 6) (ρ .1 .1 .1 .1 .1 .0) u64, (shr-slice-copy 𝓤 H A W (named 7) (ρ .1 .1 .1 .1 .1 .1 .0) u64, (shr-slice-copy 𝓤 H A W (named 8) (ρ .1 .1 .1 .1 .1 .1 .1 .0) u64, (shr-slice-copy 𝓤 H A W (named 9) (ρ .1 .1 .1 .1 .1 .1 .1 .1 .0) u64, (LL.copy Mc.the-type Mc′.the-copy 𝓤 H A W, (uint-copy 𝓤 H A W w64, tt))))))))))) a vs) $ split ! $
+        use1 W (‵ Rest ⊛ ‵ Rest) (twices 𝓤 H A W (Ts ρ) (
+          shr-slice-copy 𝓤 H A W (named 1) (ρ .0) u64,
+          (
+            shr-slice-copy 𝓤 H A W (named 2) (ρ .1 .0) u64,
+            (
+              shr-slice-copy 𝓤 H A W (named 3) (ρ .1 .1 .0) u64,
+              (
+                shr-slice-copy 𝓤 H A W (named 4) (ρ .1 .1 .1 .0) u64,
+                (
+                  shr-slice-copy 𝓤 H A W (named 5) (ρ .1 .1 .1 .1 .0) u64,
+                  (
+                    shr-slice-copy 𝓤 H A W (named 6) (ρ .1 .1 .1 .1 .1 .0) u64,
+                    (
+                      shr-slice-copy 𝓤 H A W (named 7) (ρ .1 .1 .1 .1 .1 .1 .0) u64,
+                      (
+                        shr-slice-copy 𝓤 H A W (named 8) (ρ .1 .1 .1 .1 .1 .1 .1 .0) u64,
+                        (
+                          shr-slice-copy 𝓤 H A W (named 9) (ρ .1 .1 .1 .1 .1 .1 .1 .1 .0) u64,
+                          (LL.copy Mc.the-type Mc′.the-copy 𝓤 H A W, (uint-copy 𝓤 H A W w64, tt)),
+                        ),
+                      ),
+                    ),
+                  ),
+                ),
+              ),
+            ),
+          ),
+        ) a vs) $ split ! $
         -- [Rest; Rest; obs; the borrow; the token; the others' tokens]
         enter ! C Λ code.function (vptr b o ∷ flat (Ts ρ) vs) _ $
-        alloc1 ! (λ l0. alloc1 ! (λ l1. alloc1 ! (λ l2. alloc1 ! (λ l3. alloc1 ! (λ l4. alloc1 ! (λ l5. alloc1 ! (λ l6. alloc1 ! (λ l7. alloc1 ! (λ l8. alloc1 ! (λ l9. alloc1 ! (λ l10. alloc1 ! (λ l11. alloc1 ! (λ l12. alloc1 ! (λ l13. alloc1 ! (λ l14. alloc0 ! $ params1 ! $ pass1 ! (init ! 26 refl (tt, tt)) $ pass1 ! (init ! 24 refl (typed .0)) $ pass1 ! (init ! 22 refl (typed .1 .0)) $ pass1 ! (init ! 20 refl (typed .1 .1 .0)) $ pass1 ! (init ! 18 refl (typed .1 .1 .1 .0)) $ pass1 ! (init ! 16 refl (typed .1 .1 .1 .1 .0)) $ pass1 ! (init ! 14 refl (typed .1 .1 .1 .1 .1 .0)) $ pass1 ! (init ! 12 refl (typed .1 .1 .1 .1 .1 .1 .0)) $ pass1 ! (init ! 10 refl (typed .1 .1 .1 .1 .1 .1 .1 .0)) $ pass1 ! (init ! 8 refl (typed .1 .1 .1 .1 .1 .1 .1 .1 .0)) $ pass1 ! (init ! 6 refl (typed .1 .1 .1 .1 .1 .1 .1 .1 .1 .0)) $ pass1 ! (init ! 4 refl (typed .1 .1 .1 .1 .1 .1 .1 .1 .1 .1 .0)) $ pass0 ! $
+        alloc1 ! (λ l0. alloc1 ! (λ l1. alloc1 ! (λ l2. alloc1 !
+        (λ l3. alloc1 ! (λ l4. alloc1 ! (λ l5. alloc1 !
+        (λ l6. alloc1 ! (λ l7. alloc1 ! (λ l8. alloc1 !
+        (λ l9. alloc1 ! (λ l10. alloc1 ! (λ l11. alloc1 !
+        (λ l12. alloc1 ! (λ l13. alloc1 ! (λ l14. alloc0 ! $ params1 ! $ pass1 ! (init ! 26 refl (tt, tt)) $ pass1 !
+        (init ! 24 refl (typed .0)) $ pass1 ! (init ! 22 refl (typed .1 .0)) $ pass1 ! (init ! 20 refl (typed .1 .1 .0)) $ pass1 !
+        (init ! 18 refl (typed .1 .1 .1 .0)) $ pass1 ! (init ! 16 refl (typed .1 .1 .1 .1 .0)) $ pass1 !
+        (init ! 14 refl (typed .1 .1 .1 .1 .1 .0)) $ pass1 ! (init ! 12 refl (typed .1 .1 .1 .1 .1 .1 .0)) $ pass1 !
+        (init ! 10 refl (typed .1 .1 .1 .1 .1 .1 .1 .0)) $ pass1 ! (init ! 8 refl (typed .1 .1 .1 .1 .1 .1 .1 .1 .0)) $ pass1 !
+        (init ! 6 refl (typed .1 .1 .1 .1 .1 .1 .1 .1 .1 .0)) $ pass1 ! (init ! 4 refl (typed .1 .1 .1 .1 .1 .1 .1 .1 .1 .1 .0)) $ pass0 ! $
         move ! (32 ∷ 33 ∷ 34 ∷ []) $ opens ! tt F.the-row {h = h} b o (λ us. spelt ! F.the-row (Is F.the-row) (shows 𝓤 H A F.the-row) (LL.vals F.the-type F′.the-laws) (LL.tells F.the-type F′.the-laws) fullShare h us b o $
         move ! (1 ∷ []) $ peeks ! F.the-row (Is F.the-row) (shows 𝓤 H A F.the-row) h (low h ∷ []) (λ was. move ! (1 ∷ 0 ∷ []) $
         -- [the fuel's cell; what it owns; the open borrow; obs; auth; the last local; ..; room for _0; ..; Rest; Rest; the others' tokens]
         assigns ! (of-opd ! (load ! (from ! (hop ! (look ! 31 refl) (stop !))) (look-raw ! 0 refl))) (from ! (stop !)) (init ! 5 refl (LL.lawful F.the-type F′.the-laws 𝓤 H A W .typed h _ was .0)) $
         move ! (37 ∷ 1 ∷ 35 ∷ []) $ use3 W (raw (Of 𝓤 H A at-mem run .pre to)) asked $
-        calls-at ! fm (Of 𝓤 H A at-mem run) known to (and-then ! (load ! (from ! (stop !)) (look ! 5 refl)) (and-then ! (load ! (from ! (stop !)) (look ! 29 refl)) (and-then ! (load ! (from ! (stop !)) (look ! 27 refl)) (and-then ! (load ! (from ! (stop !)) (look ! 25 refl)) (and-then ! (load ! (from ! (stop !)) (look ! 23 refl)) (and-then ! (load ! (from ! (stop !)) (look ! 21 refl)) (and-then ! (load ! (from ! (stop !)) (look ! 19 refl)) (and-then ! (load ! (from ! (stop !)) (look ! 17 refl)) (and-then ! (load ! (from ! (stop !)) (look ! 15 refl)) (and-then ! (load ! (from ! (stop !)) (look ! 13 refl)) (and-then ! (load ! (from ! (stop !)) (look ! 11 refl)) (and-then ! (load ! (from ! (stop !)) (look ! 9 refl)) (no-more !))))))))))))) (λ v.
+        calls-at ! fm (Of 𝓤 H A at-mem run) known to
+        (and-then ! (load ! (from ! (stop !)) (look ! 5 refl))
+        (and-then ! (load ! (from ! (stop !)) (look ! 29 refl))
+        (and-then ! (load ! (from ! (stop !)) (look ! 27 refl))
+        (and-then ! (load ! (from ! (stop !)) (look ! 25 refl))
+        (and-then ! (load ! (from ! (stop !)) (look ! 23 refl))
+        (and-then ! (load ! (from ! (stop !)) (look ! 21 refl))
+        (and-then ! (load ! (from ! (stop !)) (look ! 19 refl))
+        (and-then ! (load ! (from ! (stop !)) (look ! 17 refl))
+        (and-then ! (load ! (from ! (stop !)) (look ! 15 refl))
+        (and-then ! (load ! (from ! (stop !)) (look ! 13 refl))
+        (and-then ! (load ! (from ! (stop !)) (look ! 11 refl)) (and-then ! (load ! (from ! (stop !)) (look ! 9 refl)) (no-more !))))))))))))) (λ v.
         use1 W (later (some (λ (r : GrantDid). (Tokens ⊛ ‵ (G.the-row .own r (v ∷ []))) ⊛ raw (ensured 𝓤 H A callee.ended (callee.clauses 𝓤 H A at-mem run) ρ (h, a) tt r)))) (id⊢ 𝓤 _) $ await ! tt $ pick ! (λ r.
         split ! $ move ! (1 ∷ []) $ use1 W (raw (fact 𝓤 (r ≡ did))) (said r) $ heard ! (r ≡ did) (λ e. split ! $ move ! (1 ∷ []) $
         peeks ! G.the-row (Is G.the-row) (shows 𝓤 H A G.the-row) r (v ∷ []) (λ is. drop ! $
@@ -157,17 +266,77 @@ module _ {M : Type 1} (𝓤 : URA M) (H : Heap 𝓤) (A : Atoms 𝓤) (W : Given
         owned ! F.the-row (Is F.the-row) (LL.makes F.the-type F′.the-plain 𝓤 H A) (r .fuel) _ (fuel-is r v is e) $ move ! (2 ∷ 0 ∷ 3 ∷ 4 ∷ 5 ∷ []) $ closes ! tt F.the-row (r .fuel) (low (r .fuel) ∷ []) b o $
         -- [obs; the borrow; the token; the others' tokens; the last local; ..; _0; ..; Rest]
         returns ! (look ! 32 refl) $ forget ! 4 refl $ forget ! 6 refl $ forget ! 8 refl $ forget ! 10 refl $ forget ! 12 refl $ forget ! 14 refl $ forget ! 16 refl $ forget ! 18 refl $ forget ! 20 refl $ forget ! 22 refl $ forget ! 24 refl $ forget ! 26 refl $ forget ! 28 refl $ forget ! 30 refl $ forget ! 32 refl $
-        move ! (32 ∷ 33 ∷ []) $ free1 ! $ move ! (30 ∷ 31 ∷ []) $ free1 ! $ move ! (28 ∷ 29 ∷ []) $ free1 ! $ move ! (26 ∷ 27 ∷ []) $ free1 ! $ move ! (24 ∷ 25 ∷ []) $ free1 ! $ move ! (22 ∷ 23 ∷ []) $ free1 ! $ move ! (20 ∷ 21 ∷ []) $ free1 ! $ move ! (18 ∷ 19 ∷ []) $ free1 ! $ move ! (16 ∷ 17 ∷ []) $ free1 ! $ move ! (14 ∷ 15 ∷ []) $ free1 ! $ move ! (12 ∷ 13 ∷ []) $ free1 ! $ move ! (10 ∷ 11 ∷ []) $ free1 ! $ move ! (8 ∷ 9 ∷ []) $ free1 ! $ move ! (6 ∷ 7 ∷ []) $ free1 ! $ move ! (4 ∷ 5 ∷ []) $ free1 ! $ free0 ! $ by ! (exits r v is e))))))))))))))))))))))
+        move ! (32 ∷ 33 ∷ []) $ free1 ! $ move ! (30 ∷ 31 ∷ []) $ free1 ! $ move ! (28 ∷ 29 ∷ []) $ free1 ! $ move ! (26 ∷ 27 ∷ []) $ free1 ! $ move !
+        (24 ∷ 25 ∷ []) $ free1 ! $ move ! (22 ∷ 23 ∷ []) $ free1 ! $ move ! (20 ∷ 21 ∷ []) $ free1 ! $ move ! (18 ∷ 19 ∷ []) $ free1 ! $ move !
+        (16 ∷ 17 ∷ []) $ free1 ! $ move ! (14 ∷ 15 ∷ []) $ free1 ! $ move ! (12 ∷ 13 ∷ []) $ free1 ! $ move ! (10 ∷ 11 ∷ []) $ free1 ! $ move !
+        (8 ∷ 9 ∷ []) $ free1 ! $ move ! (6 ∷ 7 ∷ []) $ free1 ! $ move ! (4 ∷ 5 ∷ []) $ free1 ! $ free0 ! $ by ! (exits r v is e))))))))))))))))))))))
 
 module _ {M : Type 1} (𝓤 : URA M) (H : Heap 𝓤) (A : Atoms 𝓤) (W : Given 𝓤 H A) (mem : Memory → SProp 𝓤) (run : Routine → Fun 𝓤) where
   grant-walks : (C : Calls 𝓤 H) (Λ : Loops 𝓤 H) → FmC 𝓤 H (W .laws) C → Triple 𝓤 (C #outer·grant·granted) (Of 𝓤 H A mem run) → Walks 𝓤 H A grant.ended stayed (WpFn 𝓤 H C Λ code.function) (grant.clauses 𝓤 H A mem run)
   grant-walks C Λ fm known = walked 𝓤 H A grant.ended stayed (grant.clauses 𝓤 H A mem run) (WpFn 𝓤 H C Λ code.function) (λ κs. (ptr-vals, sp (κs .1)))
-      (λ κs. let ρ = κs .1 in (mut-tells (named 0) (κs .0) F.the-row, (shr-slice-tells (named 1) (ρ .0) u64, (shr-slice-tells (named 2) (ρ .1 .0) u64, (shr-slice-tells (named 3) (ρ .1 .1 .0) u64, (shr-slice-tells (named 4) (ρ .1 .1 .1 .0) u64, (shr-slice-tells (named 5) (ρ .1 .1 .1 .1 .0) u64, (shr-slice-tells (named 6) (ρ .1 .1 .1 .1 .1 .0) u64, (shr-slice-tells (named 7) (ρ .1 .1 .1 .1 .1 .1 .0) u64, (shr-slice-tells (named 8) (ρ .1 .1 .1 .1 .1 .1 .1 .0) u64, (shr-slice-tells (named 9) (ρ .1 .1 .1 .1 .1 .1 .1 .1 .0) u64, (LL.tells Mc.the-type Mc′.the-laws, (uint-tells w64, tt)))))))))))))
+      (λ κs. let ρ = κs .1 in (
+        mut-tells (named 0) (κs .0) F.the-row,
+        (
+          shr-slice-tells (named 1) (ρ .0) u64,
+          (
+            shr-slice-tells (named 2) (ρ .1 .0) u64,
+            (
+              shr-slice-tells (named 3) (ρ .1 .1 .0) u64,
+              (
+                shr-slice-tells (named 4) (ρ .1 .1 .1 .0) u64,
+                (
+                  shr-slice-tells (named 5) (ρ .1 .1 .1 .1 .0) u64,
+                  (
+                    shr-slice-tells (named 6) (ρ .1 .1 .1 .1 .1 .0) u64,
+                    (
+                      shr-slice-tells (named 7) (ρ .1 .1 .1 .1 .1 .1 .0) u64,
+                      (
+                        shr-slice-tells (named 8) (ρ .1 .1 .1 .1 .1 .1 .1 .0) u64,
+                        (shr-slice-tells (named 9) (ρ .1 .1 .1 .1 .1 .1 .1 .1 .0) u64, (LL.tells Mc.the-type Mc′.the-laws, (uint-tells w64, tt))),
+                      ),
+                    ),
+                  ),
+                ),
+              ),
+            ),
+          ),
+        ),
+      ))
       (λ κs qs bounds a _ are. via 𝓤 _ (fst∗ 𝓤 _ (emp 𝓤)) (walk 𝓤 H A W mem run (κs .0) (κs .1) (qs .0) (qs .1) (a .0 .ptr .0) (a .0 .ptr .1) (a .0 .name) (a .0 .now) (a .1) C Λ fm known (are .1)))
 
 grant-meets : {M : Type 1} (𝓤 : URA M) (H : Heap 𝓤) (A : Atoms 𝓤) (W : Given 𝓤 H A) (mem : Memory → SProp 𝓤) (run : Routine → Fun 𝓤) (𝓣 : Tables 𝓤 H)
     → Triple 𝓤 (𝓣 .C #outer·grant·granted) (Of 𝓤 H A mem run) → Meets 𝓤 H A grant.signature (WpFn 𝓤 H (𝓣 .C) (𝓣 .Λ) code.function) (grant.spec 𝓤 H A mem run)
-grant-meets 𝓤 H A W mem run 𝓣 known = walk-meets 𝓤 H A grant.ended stayed W (goes-ref 𝓤 H A W 10 0 tt (plain (λ _. F.the-row)), (goes-none-slice 𝓤 H A W 10 (1 ∷ []) tt (plain (λ _. u64)) yes, (goes-none-slice 𝓤 H A W 10 (2 ∷ []) tt (plain (λ _. u64)) yes, (goes-none-slice 𝓤 H A W 10 (3 ∷ []) tt (plain (λ _. u64)) yes, (goes-none-slice 𝓤 H A W 10 (4 ∷ []) tt (plain (λ _. u64)) yes, (goes-none-slice 𝓤 H A W 10 (5 ∷ []) tt (plain (λ _. u64)) yes, (goes-none-slice 𝓤 H A W 10 (6 ∷ []) tt (plain (λ _. u64)) yes, (goes-none-slice 𝓤 H A W 10 (7 ∷ []) tt (plain (λ _. u64)) yes, (goes-none-slice 𝓤 H A W 10 (8 ∷ []) tt (plain (λ _. u64)) yes, (goes-none-slice 𝓤 H A W 10 (9 ∷ []) tt (plain (λ _. u64)) yes, (goes-none 𝓤 H A W 10 (λ _. Mc.the-row) yes (λ κs x f. refl), (goes-none 𝓤 H A W 10 (λ _. u64) yes (λ κs x f. refl), tt))))))))))))
+grant-meets 𝓤 H A W mem run 𝓣 known = walk-meets 𝓤 H A grant.ended stayed W (
+  goes-ref 𝓤 H A W 10 0 tt (plain (λ _. F.the-row)),
+  (
+    goes-none-slice 𝓤 H A W 10 (1 ∷ []) tt (plain (λ _. u64)) yes,
+    (
+      goes-none-slice 𝓤 H A W 10 (2 ∷ []) tt (plain (λ _. u64)) yes,
+      (
+        goes-none-slice 𝓤 H A W 10 (3 ∷ []) tt (plain (λ _. u64)) yes,
+        (
+          goes-none-slice 𝓤 H A W 10 (4 ∷ []) tt (plain (λ _. u64)) yes,
+          (
+            goes-none-slice 𝓤 H A W 10 (5 ∷ []) tt (plain (λ _. u64)) yes,
+            (
+              goes-none-slice 𝓤 H A W 10 (6 ∷ []) tt (plain (λ _. u64)) yes,
+              (
+                goes-none-slice 𝓤 H A W 10 (7 ∷ []) tt (plain (λ _. u64)) yes,
+                (
+                  goes-none-slice 𝓤 H A W 10 (8 ∷ []) tt (plain (λ _. u64)) yes,
+                  (
+                    goes-none-slice 𝓤 H A W 10 (9 ∷ []) tt (plain (λ _. u64)) yes,
+                    (goes-none 𝓤 H A W 10 (λ _. Mc.the-row) yes (λ κs x f. refl), (goes-none 𝓤 H A W 10 (λ _. u64) yes (λ κs x f. refl), tt)),
+                  ),
+                ),
+              ),
+            ),
+          ),
+        ),
+      ),
+    ),
+  ),
+)
     (grant.clauses 𝓤 H A mem run) (WpFn 𝓤 H (𝓣 .C) (𝓣 .Λ) code.function) (WpFn-mono 𝓤 H (W .laws) 𝓣 code.function) (grant-walks 𝓤 H A W mem run (𝓣 .C) (𝓣 .Λ) (fmOf 𝓤 H (W .laws) 𝓣) known)
 
 pub grant-spec : {M : Type 1} → stated.statement M

@@ -20,7 +20,9 @@ abbrev start-of : tie.After-set-up → tie.Start
 start-of c = c .before .before .before .before .before .before .before .before .before .before .before .before .before .before .before .before .before .before .before .before .before .before .before .before .before .before .before
 
 abbrev left-by : tie.After-set-up → Lent
-left-by c = nine (c .set-up .last .0) (c .set-up .last .1 .0) (c .set-up .last .1 .1 .0) (c .set-up .last .1 .1 .1 .0) (c .set-up .last .1 .1 .1 .1 .0) (c .set-up .last .1 .1 .1 .1 .1 .0) (c .set-up .last .1 .1 .1 .1 .1 .1 .0) (c .set-up .last .1 .1 .1 .1 .1 .1 .1 .0) (c .set-up .last .1 .1 .1 .1 .1 .1 .1 .1 .0) plain
+left-by c = nine (c .set-up .last .0) (c .set-up .last .1 .0) (c .set-up .last .1 .1 .0) (c .set-up .last .1 .1 .1 .0)
+    (c .set-up .last .1 .1 .1 .1 .0) (c .set-up .last .1 .1 .1 .1 .1 .0) (c .set-up .last .1 .1 .1 .1 .1 .1 .0)
+    (c .set-up .last .1 .1 .1 .1 .1 .1 .1 .0) (c .set-up .last .1 .1 .1 .1 .1 .1 .1 .1 .0) plain
 
 machine-of-requires : tie.Need-machine-of-requires
 machine-of-requires c κs = c .before .before .before .before .before .before .before .before .before .before .before .before .before .before .pre .machine
@@ -97,7 +99,8 @@ put-machine-requires : tie.Need-put-machine-requires
 put-machine-requires c κs = c .before .before .before .before .before .before .before .before .before .before .before .before .before .before .before .before .before .before .before .before .before .before .before .before .before .before .before .before .before .before .before .before .before .before .before .before .before .before .before .before .before .before .before .before .before .before .before .before .before .before .before .before .before .before .pre .machine
 
 put-sizes-requires : tie.Need-put-sizes-requires
-put-sizes-requires c κs = let start = c .before .before .before .before .before .before .before .before .before .before .before .before .before .before .before .before .before .before .before .before .before .before .before .before .before .before .before .before .before .before .before .before .before .before .before .before .before .before .before .before .before .before .before .before .before .before .before .before .before .before .before .before .before .before .before .before .before .before in let k = c .before .before .before .put-machine .kept .0 in let h = start .pre .machine in omega arith
+put-sizes-requires c κs = let start = c .before .before .before .before .before .before .before .before .before .before .before .before .before .before .before .before .before .before .before .before .before .before .before .before .before .before .before .before .before .before .before .before .before .before .before .before .before .before .before .before .before .before .before .before .before .before .before .before .before .before .before .before .before .before .before .before .before .before in
+    let k = c .before .before .before .put-machine .kept .0 in let h = start .pre .machine in omega arith
 
 put-fuel-requires : tie.Need-put-fuel-requires
 put-fuel-requires c κs = c .before .before .before .before .before .before .before .before .before .before .before .before .before .before .before .before .before .before .before .before .before .before .before .before .before .before .before .before .before .before .before .before .before .before .before .before .before .before .before .before .before .before .before .before .before .before .before .before .before .before .before .before .before .before .before .before .before .before .before .before .before .before .pre .fuel
@@ -149,7 +152,9 @@ returns-2 c =
     let sized = c .before .before .before .before .before .before .before .before .before .before .before .before in
     begin-done (of start) (a .given .now) (a .answer .now) (at-machine .machine-of .result) (at-fuel .fuel-of .result) (at-machine .machine-of .ensures) (at-fuel .fuel-of .ensures) (left-by set)
     (set .set-up .result) (set .set-up .ensures) (told .tell .result) (told .tell .ensures .1) (c .before .before .before .before .before .before .before .before .before .before .before .before .before .if1 .left)
-    (sized .sizes .result) (sized .sizes .ensures .words) _ _ _ _ (c .before .before .before .before .before .before .before .before .before .before .put-machine .ensures) (c .before .before .before .before .before .before .put-sizes .ensures) (c .before .before .put-fuel .ensures) (told .tell .ensures .0)
+    (sized .sizes .result) (sized .sizes .ensures .words) _ _ _ _
+    (c .before .before .before .before .before .before .before .before .before .before .put-machine .ensures)
+    (c .before .before .before .before .before .before .put-sizes .ensures) (c .before .before .put-fuel .ensures) (told .tell .ensures .0)
 
 pub begin-spec : {M : Type 1} → statement M
 begin-spec = tie.close (tie.spec machine-of-requires fuel-of-requires set-up-requires tell-requires same-length same-length-2 same-length-3 same-length-4 same-length-5 same-length-6 same-length-7 same-length-8 same-length-9 same-length-10 same-length-11 same-length-12 returns sizes-requires put-machine-requires put-sizes-requires put-fuel-requires same-length-13 same-length-14 same-length-15 same-length-16 same-length-17 same-length-18 same-length-19 same-length-20 same-length-21 same-length-22 same-length-23 same-length-24 returns-2)

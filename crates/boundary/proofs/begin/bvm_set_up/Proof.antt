@@ -39,7 +39,9 @@ returns-3 : tie.Need-returns-3
 returns-3 c =
     let told = c .before .before in
     let start = c .before .before .before .before .before .before .before .before .before .before .before .before .before .before .before .before .before .before .before .before in
-    short-fuel (of start) (start .args .given .now) (start .args .answer .now) (c .before .before .before .before .before .before .if1 .left) (c .before .before .before .before .before .if2 .left) (c .before .before .before .before .if3 .taken) _ (told .tell2 .result) (told .tell2 .ensures .0) (told .tell2 .ensures .1)
+    short-fuel (of start) (start .args .given .now) (start .args .answer .now) (c .before .before .before .before .before .before .if1 .left)
+    (c .before .before .before .before .before .if2 .left) (c .before .before .before .before .if3 .taken) _ (told .tell2 .result)
+    (told .tell2 .ensures .0) (told .tell2 .ensures .1)
 
 begin-requires : tie.Need-begin-requires
 begin-requires c κs = record { machine = c .before .before .before .before .before .before .before .before .before .before .before .before .before .if2 .left; fuel = c .before .before .before .before .before .before .before .before .before .before .before .before .if3 .left; answer = c .before .before .before .before .before .before .before .before .before .before .before .before .before .before .if1 .left }
@@ -83,7 +85,11 @@ same-length-14 c = c .before .before .before .before .before .before .before .be
 returns-4 : tie.Need-returns-4
 returns-4 c =
     let start = c .before .before .before .before .before .before .before .before .before .before .before .before .before .before .before .before .before .before .before .before .before .before .before .before .before .before .before .before .before .before .before .before .before .before .before .before .before .before .before .before .before .before .before .before .before .before .before .before .before .before .before .before .before in
-    set-up-made (of start) (start .args .given .now) (start .args .answer .now) (c .before .before .before .before .before .before .before .before .before .before .before .before .before .before .before .before .before .before .before .before .before .before .before .before .before .before .before .before .before .before .before .before .before .before .before .before .before .before .before .if1 .left) (c .before .before .before .before .before .before .before .before .before .before .before .before .before .before .before .before .before .before .before .before .before .before .before .before .before .before .before .before .before .before .before .before .before .before .before .before .before .before .if2 .left) (c .before .before .before .before .before .before .before .before .before .before .before .before .before .before .before .before .before .before .before .before .before .before .before .before .before .before .before .before .before .before .before .before .before .before .before .before .before .if3 .left) _ (c .before .before .before .before .before .before .before .before .before .before .before .before .before .before .before .before .before .before .before .before .before .before .before .before .begin .ensures)
+    set-up-made (of start) (start .args .given .now) (start .args .answer .now)
+    (c .before .before .before .before .before .before .before .before .before .before .before .before .before .before .before .before .before .before .before .before .before .before .before .before .before .before .before .before .before .before .before .before .before .before .before .before .before .before .before .if1 .left)
+    (c .before .before .before .before .before .before .before .before .before .before .before .before .before .before .before .before .before .before .before .before .before .before .before .before .before .before .before .before .before .before .before .before .before .before .before .before .before .before .if2 .left)
+    (c .before .before .before .before .before .before .before .before .before .before .before .before .before .before .before .before .before .before .before .before .before .before .before .before .before .before .before .before .before .before .before .before .before .before .before .before .before .if3 .left) _
+    (c .before .before .before .before .before .before .before .before .before .before .before .before .before .before .before .before .before .before .before .before .before .before .before .before .begin .ensures)
 
 pub bvm-set-up-spec : {M : Type 1} → statement M
 bvm-set-up-spec = tie.close (tie.spec returns tell-requires same-length returns-2 tell-requires-2 same-length-2 returns-3 begin-requires same-length-3 same-length-4 same-length-5 same-length-6 same-length-7 same-length-8 same-length-9 same-length-10 same-length-11 same-length-12 same-length-13 same-length-14 returns-4)

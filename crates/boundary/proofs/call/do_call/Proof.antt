@@ -34,7 +34,9 @@ abbrev begin-of : tie.After-do-read → tie.Start
 begin-of c = start-of (else-of (machine-at c))
 
 abbrev left-by : tie.After-do-read → Lent
-left-by c = nine (c .do-read .last .1 .0) (c .do-read .last .1 .1 .0) (c .do-read .last .1 .1 .1 .0) (c .do-read .last .1 .1 .1 .1 .0) (c .do-read .last .1 .1 .1 .1 .1 .0) (c .do-read .last .1 .1 .1 .1 .1 .1 .0) (c .do-read .last .1 .1 .1 .1 .1 .1 .1 .0) (c .do-read .last .1 .1 .1 .1 .1 .1 .1 .1 .0) (begin-of c .args .setup .now) plain
+left-by c = nine (c .do-read .last .1 .0) (c .do-read .last .1 .1 .0) (c .do-read .last .1 .1 .1 .0) (c .do-read .last .1 .1 .1 .1 .0)
+    (c .do-read .last .1 .1 .1 .1 .1 .0) (c .do-read .last .1 .1 .1 .1 .1 .1 .0) (c .do-read .last .1 .1 .1 .1 .1 .1 .1 .0)
+    (c .do-read .last .1 .1 .1 .1 .1 .1 .1 .1 .0) (begin-of c .args .setup .now) plain
 
 sound : (c : tie.Else1) → tested (of (start-of c)) ≡ true
 sound c = sym (start-of c .pre .known) ∙ not-false _ (c .if1 .left)

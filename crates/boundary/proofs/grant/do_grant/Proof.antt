@@ -72,7 +72,9 @@ returns-2 c =
     let at-machine = c .before .before .before .before .before .before .before .before .before .before .before .before in
     let start = c .before .before .before .before .before .before .before .before .before .before .before .before .before .before .before .before .before .before .before .before .before .before .before .before .before .before in
     let a = start .args in
-    grant-done (of start) (a .amount) (a .answer .now) (start .pre .room) (a .ok) (start .pre .known) (not-false _ (c .before .before .before .before .before .before .before .before .before .before .before .before .before .if1 .left)) (at-machine .machine-of .result) (at-fuel .fuel-of .result) (did .grant .result) (at-machine .machine-of .ensures) (at-fuel .fuel-of .ensures)
+    grant-done (of start) (a .amount) (a .answer .now) (start .pre .room) (a .ok) (start .pre .known)
+    (not-false _ (c .before .before .before .before .before .before .before .before .before .before .before .before .before .if1 .left))
+    (at-machine .machine-of .result) (at-fuel .fuel-of .result) (did .grant .result) (at-machine .machine-of .ensures) (at-fuel .fuel-of .ensures)
     (did .grant .ensures) _ _ (told .tell2 .result) (c .before .before .before .before .before .before .put-fuel .ensures) (told .tell2 .ensures .0) (told .tell2 .ensures .1)
 
 pub do-grant-spec : {M : Type 1} → statement M

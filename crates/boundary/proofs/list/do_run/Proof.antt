@@ -42,7 +42,10 @@ room c =
     enough (length xs) (c .before .count .result) (let z : c .before .count .result ≤ length xs / 8 = omega arith in z)
 
 abbrev left-by : tie.After-run-known → Lent
-left-by c = nine (c .run-known .last .1 .0) (c .run-known .last .1 .1 .0) (c .run-known .last .1 .1 .1 .0) (c .run-known .last .1 .1 .1 .1 .0) (c .run-known .last .1 .1 .1 .1 .1 .0) (c .run-known .last .1 .1 .1 .1 .1 .1 .0) (c .run-known .last .1 .1 .1 .1 .1 .1 .1 .0) (c .run-known .last .1 .1 .1 .1 .1 .1 .1 .1 .0) (start-of (c .before .before .before .before .before .before .before .before .before .before .before .before .before .before) .args .setup .now) plain
+left-by c = nine (c .run-known .last .1 .0) (c .run-known .last .1 .1 .0) (c .run-known .last .1 .1 .1 .0) (c .run-known .last .1 .1 .1 .1 .0)
+    (c .run-known .last .1 .1 .1 .1 .1 .0) (c .run-known .last .1 .1 .1 .1 .1 .1 .0) (c .run-known .last .1 .1 .1 .1 .1 .1 .1 .0)
+    (c .run-known .last .1 .1 .1 .1 .1 .1 .1 .1 .0)
+    (start-of (c .before .before .before .before .before .before .before .before .before .before .before .before .before .before) .args .setup .now) plain
 
 count-requires : tie.Need-count-requires
 count-requires c κs = search needs
@@ -83,10 +86,12 @@ run-known-requires c κs =
     may-read (of start) (sound at-if) (at-machine .machine-of .result) (at-fuel .fuel-of .result) (sizesIn (start .args .machine .now)) (at-machine .machine-of .ensures) (at-fuel .fuel-of .ensures) refl .known
 
 put-machine-requires : tie.Need-put-machine-requires
-put-machine-requires c κs = long (c .before .before .before .before .before .before .before .before .before .before .before .before .before .before .before .before .before .before .before .before .before .before .before .before .before .before .before .before .before .before .before .before .before .before .before) .0
+put-machine-requires c κs = long
+    (c .before .before .before .before .before .before .before .before .before .before .before .before .before .before .before .before .before .before .before .before .before .before .before .before .before .before .before .before .before .before .before .before .before .before .before) .0
 
 put-fuel-requires : tie.Need-put-fuel-requires
-put-fuel-requires c κs = long (c .before .before .before .before .before .before .before .before .before .before .before .before .before .before .before .before .before .before .before .before .before .before .before .before .before .before .before .before .before .before .before .before .before .before .before .before .before .before .before) .1
+put-fuel-requires c κs = long
+    (c .before .before .before .before .before .before .before .before .before .before .before .before .before .before .before .before .before .before .before .before .before .before .before .before .before .before .before .before .before .before .before .before .before .before .before .before .before .before .before) .1
 
 same-length-2 : tie.Need-same-length-2
 same-length-2 c = c .before .before .before .before .before .before .before .before .before .before .before .before .before .before .before .before .before .before .before .before .before .before .before .before .before .before .before .before .run-known .kept .1 .0
@@ -131,8 +136,12 @@ returns-3 c =
     let start = start-of at-if in
     let a = start .args in
     let r = did .run-known .result in
-    run-done (of start) (a .calls .now) (a .answers .now) (at-count .count .result) (at-count .count .ensures) (room (c .before .before .before .before .before .before .before .before .before .before .before .before .before .before .before .before .before .before .before .before .before .before .before .before .before .before .before .before .before .before .before .before .before .before .before .before .before .before .before .before .before .before .before)) (a .ok) (start .pre) (not-false _ (at-if .if2 .left)) (at-machine .machine-of .result) (at-fuel .fuel-of .result)
-    (at-machine .machine-of .ensures) (at-fuel .fuel-of .ensures) (left-by did) (r .machine) (r .fuel) _ _ (did .run-known .last .1 .1 .1 .1 .1 .1 .1 .1 .1 .1 .1 .1 .1 .0) (r .number) (did .run-known .ensures) (c .before .before .before .before .before .before .put-machine .ensures) (c .before .before .put-fuel .ensures)
+    run-done (of start) (a .calls .now) (a .answers .now) (at-count .count .result) (at-count .count .ensures)
+    (room (c .before .before .before .before .before .before .before .before .before .before .before .before .before .before .before .before .before .before .before .before .before .before .before .before .before .before .before .before .before .before .before .before .before .before .before .before .before .before .before .before .before .before .before))
+    (a .ok) (start .pre) (not-false _ (at-if .if2 .left)) (at-machine .machine-of .result) (at-fuel .fuel-of .result)
+    (at-machine .machine-of .ensures) (at-fuel .fuel-of .ensures) (left-by did) (r .machine) (r .fuel) _ _
+    (did .run-known .last .1 .1 .1 .1 .1 .1 .1 .1 .1 .1 .1 .1 .1 .0) (r .number) (did .run-known .ensures)
+    (c .before .before .before .before .before .before .put-machine .ensures) (c .before .before .put-fuel .ensures)
 
 pub do-run-spec : {M : Type 1} → statement M
 do-run-spec = tie.close (tie.spec count-requires returns refuse-list-requires same-length returns-2 machine-of-requires fuel-of-requires run-known-requires put-machine-requires put-fuel-requires same-length-2 same-length-3 same-length-4 same-length-5 same-length-6 same-length-7 same-length-8 same-length-9 same-length-10 same-length-11 same-length-12 returns-3)

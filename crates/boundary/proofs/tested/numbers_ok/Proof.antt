@@ -48,7 +48,15 @@ returns-5 c =
     let a = c .before .before .before .before .before .before .before .before .args in
     let ms = a .machine .now in
     let fs = a .fuel .now in
-    sym (rw (le-leb 25 (length ms) (c .before .before .before .before .before .before .before .if1 .left), le-leb 4 (length fs) (c .before .before .before .before .before .before .if2 .left), le-leb (getD ms 6 0) 1 (c .before .before .before .before .if3 .left), le-leb (getD fs 3 0) 1 (c .before .before .if4 .left), eq-eqb (getD fs 1 0) 1 (c .if5 .taken)))
+    sym (rw (
+      le-leb 25 (length ms) (c .before .before .before .before .before .before .before .if1 .left),
+      le-leb 4 (length fs)
+          (c .before .before .before .before .before .before .if2 .left),
+      le-leb (getD ms 6 0) 1 (c .before .before .before .before .if3 .left),
+      le-leb
+          (getD fs 3 0) 1 (c .before .before .if4 .left),
+      eq-eqb (getD fs 1 0) 1 (c .if5 .taken),
+    ))
 
 shared-slice-read-if6 : tie.Need-shared-slice-read-if6
 shared-slice-read-if6 c = search needs
@@ -58,7 +66,17 @@ returns-6 c =
     let a = c .before .before .before .before .before .before .before .before .before .before .args in
     let ms = a .machine .now in
     let fs = a .fuel .now in
-    sym (rw (le-leb 25 (length ms) (c .before .before .before .before .before .before .before .before .before .if1 .left), le-leb 4 (length fs) (c .before .before .before .before .before .before .before .before .if2 .left), le-leb (getD ms 6 0) 1 (c .before .before .before .before .before .before .if3 .left), le-leb (getD fs 3 0) 1 (c .before .before .before .before .if4 .left), ne-eqb (getD fs 1 0) 1 (c .before .before .if5 .left), ne-eqb (getD fs 1 0) 0 (c .if6 .taken)))
+    sym (rw (
+      le-leb 25 (length ms) (c .before .before .before .before .before .before .before .before .before .if1 .left),
+      le-leb 4 (length fs)
+          (c .before .before .before .before .before .before .before .before .if2 .left),
+      le-leb (getD ms 6 0) 1
+          (c .before .before .before .before .before .before .if3 .left),
+      le-leb (getD fs 3 0) 1 (c .before .before .before .before .if4 .left),
+      ne-eqb
+          (getD fs 1 0) 1 (c .before .before .if5 .left),
+      ne-eqb (getD fs 1 0) 0 (c .if6 .taken),
+    ))
 
 shared-slice-read-result : tie.Need-shared-slice-read-result
 shared-slice-read-result c = search needs
@@ -68,7 +86,18 @@ returns-7 c =
     let a = c .before .before .before .before .before .before .before .before .before .before .before .args in
     let ms = a .machine .now in
     let fs = a .fuel .now in
-    sym (rw (le-leb 25 (length ms) (c .before .before .before .before .before .before .before .before .before .before .if1 .left), le-leb 4 (length fs) (c .before .before .before .before .before .before .before .before .before .if2 .left), le-leb (getD ms 6 0) 1 (c .before .before .before .before .before .before .before .if3 .left), le-leb (getD fs 3 0) 1 (c .before .before .before .before .before .if4 .left), ne-eqb (getD fs 1 0) 1 (c .before .before .before .if5 .left), eq-eqb (getD fs 1 0) 0 (c .before .if6 .left)))
+    sym (rw (
+      le-leb 25 (length ms) (c .before .before .before .before .before .before .before .before .before .before .if1 .left),
+      le-leb 4
+          (length fs) (c .before .before .before .before .before .before .before .before .before .if2 .left),
+      le-leb (getD ms 6 0) 1
+          (c .before .before .before .before .before .before .before .if3 .left),
+      le-leb (getD fs 3 0) 1
+          (c .before .before .before .before .before .if4 .left),
+      ne-eqb (getD fs 1 0) 1 (c .before .before .before .if5 .left),
+      eq-eqb (getD fs 1 0) 0
+          (c .before .if6 .left),
+    ))
 
 pub numbers-ok-spec : {M : Type 1} → statement M
 numbers-ok-spec = tie.close (tie.spec returns returns-2 shared-slice-read-if3 returns-3 shared-slice-read-if4 returns-4 shared-slice-read-if5 returns-5 shared-slice-read-if6 returns-6 shared-slice-read-result returns-7)

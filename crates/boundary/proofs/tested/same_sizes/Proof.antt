@@ -31,63 +31,207 @@ returns-4 c =
     let start = c .before .before .before .before .before .before .before .before .before .before .before .before .before .before in
     let x = start .args .a in
     let y = start .args .b in
-    sym (rw (eq-eqb (x .depth) (y .depth) (c .before .before .before .before .before .before .before .before .before .if1 .left), eq-eqb (x .stack) (y .stack) (c .before .before .before .before .before .before .if2 .left), eq-eqb (x .rows) (y .rows) (c .before .before .before .if3 .left), ne-eqb (x .slots) (y .slots) (c .if4 .taken)))
+    sym (rw (
+      eq-eqb (x .depth) (y .depth) (c .before .before .before .before .before .before .before .before .before .if1 .left),
+      eq-eqb (x .stack)
+          (y .stack) (c .before .before .before .before .before .before .if2 .left),
+      eq-eqb (x .rows) (y .rows)
+          (c .before .before .before .if3 .left),
+      ne-eqb (x .slots) (y .slots) (c .if4 .taken),
+    ))
 
 returns-5 : tie.Need-returns-5
 returns-5 c =
     let start = c .before .before .before .before .before .before .before .before .before .before .before .before .before .before .before .before .before in
     let x = start .args .a in
     let y = start .args .b in
-    sym (rw (eq-eqb (x .depth) (y .depth) (c .before .before .before .before .before .before .before .before .before .before .before .before .if1 .left), eq-eqb (x .stack) (y .stack) (c .before .before .before .before .before .before .before .before .before .if2 .left), eq-eqb (x .rows) (y .rows) (c .before .before .before .before .before .before .if3 .left), eq-eqb (x .slots) (y .slots) (c .before .before .before .if4 .left), ne-eqb (x .memory) (y .memory) (c .if5 .taken)))
+    sym (rw (
+      eq-eqb (x .depth) (y .depth)
+          (c .before .before .before .before .before .before .before .before .before .before .before .before .if1 .left),
+      eq-eqb (x .stack) (y .stack)
+          (c .before .before .before .before .before .before .before .before .before .if2 .left),
+      eq-eqb (x .rows) (y .rows)
+          (c .before .before .before .before .before .before .if3 .left),
+      eq-eqb (x .slots) (y .slots) (c .before .before .before .if4 .left),
+      ne-eqb
+          (x .memory) (y .memory) (c .if5 .taken),
+    ))
 
 returns-6 : tie.Need-returns-6
 returns-6 c =
     let start = c .before .before .before .before .before .before .before .before .before .before .before .before .before .before .before .before .before .before .before .before in
     let x = start .args .a in
     let y = start .args .b in
-    sym (rw (eq-eqb (x .depth) (y .depth) (c .before .before .before .before .before .before .before .before .before .before .before .before .before .before .before .if1 .left), eq-eqb (x .stack) (y .stack) (c .before .before .before .before .before .before .before .before .before .before .before .before .if2 .left), eq-eqb (x .rows) (y .rows) (c .before .before .before .before .before .before .before .before .before .if3 .left), eq-eqb (x .slots) (y .slots) (c .before .before .before .before .before .before .if4 .left), eq-eqb (x .memory) (y .memory) (c .before .before .before .if5 .left), ne-eqb (x .width) (y .width) (c .if6 .taken)))
+    sym (rw (
+      eq-eqb (x .depth) (y .depth)
+          (c .before .before .before .before .before .before .before .before .before .before .before .before .before .before .before .if1 .left),
+      eq-eqb
+          (x .stack) (y .stack) (c .before .before .before .before .before .before .before .before .before .before .before .before .if2 .left),
+      eq-eqb
+          (x .rows) (y .rows) (c .before .before .before .before .before .before .before .before .before .if3 .left),
+      eq-eqb (x .slots) (y .slots)
+          (c .before .before .before .before .before .before .if4 .left),
+      eq-eqb (x .memory) (y .memory) (c .before .before .before .if5 .left),
+      ne-eqb
+          (x .width) (y .width) (c .if6 .taken),
+    ))
 
 returns-7 : tie.Need-returns-7
 returns-7 c =
     let start = c .before .before .before .before .before .before .before .before .before .before .before .before .before .before .before .before .before .before .before .before .before .before .before in
     let x = start .args .a in
     let y = start .args .b in
-    sym (rw (eq-eqb (x .depth) (y .depth) (c .before .before .before .before .before .before .before .before .before .before .before .before .before .before .before .before .before .before .if1 .left), eq-eqb (x .stack) (y .stack) (c .before .before .before .before .before .before .before .before .before .before .before .before .before .before .before .if2 .left), eq-eqb (x .rows) (y .rows) (c .before .before .before .before .before .before .before .before .before .before .before .before .if3 .left), eq-eqb (x .slots) (y .slots) (c .before .before .before .before .before .before .before .before .before .if4 .left), eq-eqb (x .memory) (y .memory) (c .before .before .before .before .before .before .if5 .left), eq-eqb (x .width) (y .width) (c .before .before .before .if6 .left), ne-eqb (x .costs .frame) (y .costs .frame) (c .if7 .taken)))
+    sym (rw (
+      eq-eqb (x .depth) (y .depth)
+          (c .before .before .before .before .before .before .before .before .before .before .before .before .before .before .before .before .before .before .if1 .left),
+      eq-eqb
+          (x .stack) (y .stack) (c .before .before .before .before .before .before .before .before .before .before .before .before .before .before .before .if2 .left),
+      eq-eqb
+          (x .rows) (y .rows) (c .before .before .before .before .before .before .before .before .before .before .before .before .if3 .left),
+      eq-eqb
+          (x .slots) (y .slots) (c .before .before .before .before .before .before .before .before .before .if4 .left),
+      eq-eqb (x .memory) (y .memory)
+          (c .before .before .before .before .before .before .if5 .left),
+      eq-eqb (x .width) (y .width) (c .before .before .before .if6 .left),
+      ne-eqb
+          (x .costs .frame) (y .costs .frame) (c .if7 .taken),
+    ))
 
 returns-8 : tie.Need-returns-8
 returns-8 c =
     let start = c .before .before .before .before .before .before .before .before .before .before .before .before .before .before .before .before .before .before .before .before .before .before .before .before .before .before in
     let x = start .args .a in
     let y = start .args .b in
-    sym (rw (eq-eqb (x .depth) (y .depth) (c .before .before .before .before .before .before .before .before .before .before .before .before .before .before .before .before .before .before .before .before .before .if1 .left), eq-eqb (x .stack) (y .stack) (c .before .before .before .before .before .before .before .before .before .before .before .before .before .before .before .before .before .before .if2 .left), eq-eqb (x .rows) (y .rows) (c .before .before .before .before .before .before .before .before .before .before .before .before .before .before .before .if3 .left), eq-eqb (x .slots) (y .slots) (c .before .before .before .before .before .before .before .before .before .before .before .before .if4 .left), eq-eqb (x .memory) (y .memory) (c .before .before .before .before .before .before .before .before .before .if5 .left), eq-eqb (x .width) (y .width) (c .before .before .before .before .before .before .if6 .left), eq-eqb (x .costs .frame) (y .costs .frame) (c .before .before .before .if7 .left), ne-eqb (x .costs .coro) (y .costs .coro) (c .if8 .taken)))
+    sym (rw (
+      eq-eqb (x .depth) (y .depth)
+          (c .before .before .before .before .before .before .before .before .before .before .before .before .before .before .before .before .before .before .before .before .before .if1 .left),
+      eq-eqb
+          (x .stack) (y .stack) (c .before .before .before .before .before .before .before .before .before .before .before .before .before .before .before .before .before .before .if2 .left),
+      eq-eqb
+          (x .rows) (y .rows) (c .before .before .before .before .before .before .before .before .before .before .before .before .before .before .before .if3 .left),
+      eq-eqb
+          (x .slots) (y .slots) (c .before .before .before .before .before .before .before .before .before .before .before .before .if4 .left),
+      eq-eqb
+          (x .memory) (y .memory) (c .before .before .before .before .before .before .before .before .before .if5 .left),
+      eq-eqb (x .width) (y .width)
+          (c .before .before .before .before .before .before .if6 .left),
+      eq-eqb (x .costs .frame) (y .costs .frame)
+          (c .before .before .before .if7 .left),
+      ne-eqb (x .costs .coro) (y .costs .coro) (c .if8 .taken),
+    ))
 
 returns-9 : tie.Need-returns-9
 returns-9 c =
     let start = c .before .before .before .before .before .before .before .before .before .before .before .before .before .before .before .before .before .before .before .before .before .before .before .before .before .before .before .before .before in
     let x = start .args .a in
     let y = start .args .b in
-    sym (rw (eq-eqb (x .depth) (y .depth) (c .before .before .before .before .before .before .before .before .before .before .before .before .before .before .before .before .before .before .before .before .before .before .before .before .if1 .left), eq-eqb (x .stack) (y .stack) (c .before .before .before .before .before .before .before .before .before .before .before .before .before .before .before .before .before .before .before .before .before .if2 .left), eq-eqb (x .rows) (y .rows) (c .before .before .before .before .before .before .before .before .before .before .before .before .before .before .before .before .before .before .if3 .left), eq-eqb (x .slots) (y .slots) (c .before .before .before .before .before .before .before .before .before .before .before .before .before .before .before .if4 .left), eq-eqb (x .memory) (y .memory) (c .before .before .before .before .before .before .before .before .before .before .before .before .if5 .left), eq-eqb (x .width) (y .width) (c .before .before .before .before .before .before .before .before .before .if6 .left), eq-eqb (x .costs .frame) (y .costs .frame) (c .before .before .before .before .before .before .if7 .left), eq-eqb (x .costs .coro) (y .costs .coro) (c .before .before .before .if8 .left), ne-eqb (x .costs .object) (y .costs .object) (c .if9 .taken)))
+    sym (rw (
+      eq-eqb (x .depth) (y .depth)
+          (c .before .before .before .before .before .before .before .before .before .before .before .before .before .before .before .before .before .before .before .before .before .before .before .before .if1 .left),
+      eq-eqb
+          (x .stack) (y .stack) (c .before .before .before .before .before .before .before .before .before .before .before .before .before .before .before .before .before .before .before .before .before .if2 .left),
+      eq-eqb
+          (x .rows) (y .rows) (c .before .before .before .before .before .before .before .before .before .before .before .before .before .before .before .before .before .before .if3 .left),
+      eq-eqb
+          (x .slots) (y .slots) (c .before .before .before .before .before .before .before .before .before .before .before .before .before .before .before .if4 .left),
+      eq-eqb
+          (x .memory) (y .memory) (c .before .before .before .before .before .before .before .before .before .before .before .before .if5 .left),
+      eq-eqb
+          (x .width) (y .width) (c .before .before .before .before .before .before .before .before .before .if6 .left),
+      eq-eqb (x .costs .frame)
+          (y .costs .frame) (c .before .before .before .before .before .before .if7 .left),
+      eq-eqb (x .costs .coro) (y .costs .coro)
+          (c .before .before .before .if8 .left),
+      ne-eqb (x .costs .object) (y .costs .object) (c .if9 .taken),
+    ))
 
 returns-10 : tie.Need-returns-10
 returns-10 c =
     let start = c .before .before .before .before .before .before .before .before .before .before .before .before .before .before .before .before .before .before .before .before .before .before .before .before .before .before .before .before .before .before .before .before in
     let x = start .args .a in
     let y = start .args .b in
-    sym (rw (eq-eqb (x .depth) (y .depth) (c .before .before .before .before .before .before .before .before .before .before .before .before .before .before .before .before .before .before .before .before .before .before .before .before .before .before .before .if1 .left), eq-eqb (x .stack) (y .stack) (c .before .before .before .before .before .before .before .before .before .before .before .before .before .before .before .before .before .before .before .before .before .before .before .before .if2 .left), eq-eqb (x .rows) (y .rows) (c .before .before .before .before .before .before .before .before .before .before .before .before .before .before .before .before .before .before .before .before .before .if3 .left), eq-eqb (x .slots) (y .slots) (c .before .before .before .before .before .before .before .before .before .before .before .before .before .before .before .before .before .before .if4 .left), eq-eqb (x .memory) (y .memory) (c .before .before .before .before .before .before .before .before .before .before .before .before .before .before .before .if5 .left), eq-eqb (x .width) (y .width) (c .before .before .before .before .before .before .before .before .before .before .before .before .if6 .left), eq-eqb (x .costs .frame) (y .costs .frame) (c .before .before .before .before .before .before .before .before .before .if7 .left), eq-eqb (x .costs .coro) (y .costs .coro) (c .before .before .before .before .before .before .if8 .left), eq-eqb (x .costs .object) (y .costs .object) (c .before .before .before .if9 .left), ne-eqb (x .costs .int) (y .costs .int) (c .if10 .taken)))
+    sym (rw (
+      eq-eqb (x .depth) (y .depth)
+          (c .before .before .before .before .before .before .before .before .before .before .before .before .before .before .before .before .before .before .before .before .before .before .before .before .before .before .before .if1 .left),
+      eq-eqb
+          (x .stack) (y .stack) (c .before .before .before .before .before .before .before .before .before .before .before .before .before .before .before .before .before .before .before .before .before .before .before .before .if2 .left),
+      eq-eqb
+          (x .rows) (y .rows) (c .before .before .before .before .before .before .before .before .before .before .before .before .before .before .before .before .before .before .before .before .before .if3 .left),
+      eq-eqb
+          (x .slots) (y .slots) (c .before .before .before .before .before .before .before .before .before .before .before .before .before .before .before .before .before .before .if4 .left),
+      eq-eqb
+          (x .memory) (y .memory) (c .before .before .before .before .before .before .before .before .before .before .before .before .before .before .before .if5 .left),
+      eq-eqb
+          (x .width) (y .width) (c .before .before .before .before .before .before .before .before .before .before .before .before .if6 .left),
+      eq-eqb
+          (x .costs .frame) (y .costs .frame) (c .before .before .before .before .before .before .before .before .before .if7 .left),
+      eq-eqb
+          (x .costs .coro) (y .costs .coro) (c .before .before .before .before .before .before .if8 .left),
+      eq-eqb (x .costs .object) (y .costs .object)
+          (c .before .before .before .if9 .left),
+      ne-eqb (x .costs .int) (y .costs .int) (c .if10 .taken),
+    ))
 
 returns-11 : tie.Need-returns-11
 returns-11 c =
     let start = c .before .before .before .before .before .before .before .before .before .before .before .before .before .before .before .before .before .before .before .before .before .before .before .before .before .before .before .before .before .before .before .before .before .before .before in
     let x = start .args .a in
     let y = start .args .b in
-    sym (rw (eq-eqb (x .depth) (y .depth) (c .before .before .before .before .before .before .before .before .before .before .before .before .before .before .before .before .before .before .before .before .before .before .before .before .before .before .before .before .before .before .if1 .left), eq-eqb (x .stack) (y .stack) (c .before .before .before .before .before .before .before .before .before .before .before .before .before .before .before .before .before .before .before .before .before .before .before .before .before .before .before .if2 .left), eq-eqb (x .rows) (y .rows) (c .before .before .before .before .before .before .before .before .before .before .before .before .before .before .before .before .before .before .before .before .before .before .before .before .if3 .left), eq-eqb (x .slots) (y .slots) (c .before .before .before .before .before .before .before .before .before .before .before .before .before .before .before .before .before .before .before .before .before .if4 .left), eq-eqb (x .memory) (y .memory) (c .before .before .before .before .before .before .before .before .before .before .before .before .before .before .before .before .before .before .if5 .left), eq-eqb (x .width) (y .width) (c .before .before .before .before .before .before .before .before .before .before .before .before .before .before .before .if6 .left), eq-eqb (x .costs .frame) (y .costs .frame) (c .before .before .before .before .before .before .before .before .before .before .before .before .if7 .left), eq-eqb (x .costs .coro) (y .costs .coro) (c .before .before .before .before .before .before .before .before .before .if8 .left), eq-eqb (x .costs .object) (y .costs .object) (c .before .before .before .before .before .before .if9 .left), eq-eqb (x .costs .int) (y .costs .int) (c .before .before .before .if10 .left), ne-eqb (x .costs .error) (y .costs .error) (c .if11 .taken)))
+    sym (rw (
+      eq-eqb (x .depth) (y .depth)
+          (c .before .before .before .before .before .before .before .before .before .before .before .before .before .before .before .before .before .before .before .before .before .before .before .before .before .before .before .before .before .before .if1 .left),
+      eq-eqb
+          (x .stack) (y .stack) (c .before .before .before .before .before .before .before .before .before .before .before .before .before .before .before .before .before .before .before .before .before .before .before .before .before .before .before .if2 .left),
+      eq-eqb
+          (x .rows) (y .rows) (c .before .before .before .before .before .before .before .before .before .before .before .before .before .before .before .before .before .before .before .before .before .before .before .before .if3 .left),
+      eq-eqb
+          (x .slots) (y .slots) (c .before .before .before .before .before .before .before .before .before .before .before .before .before .before .before .before .before .before .before .before .before .if4 .left),
+      eq-eqb
+          (x .memory) (y .memory) (c .before .before .before .before .before .before .before .before .before .before .before .before .before .before .before .before .before .before .if5 .left),
+      eq-eqb
+          (x .width) (y .width) (c .before .before .before .before .before .before .before .before .before .before .before .before .before .before .before .if6 .left),
+      eq-eqb
+          (x .costs .frame) (y .costs .frame)
+          (c .before .before .before .before .before .before .before .before .before .before .before .before .if7 .left),
+      eq-eqb (x .costs .coro)
+          (y .costs .coro) (c .before .before .before .before .before .before .before .before .before .if8 .left),
+      eq-eqb (x .costs .object)
+          (y .costs .object) (c .before .before .before .before .before .before .if9 .left),
+      eq-eqb (x .costs .int) (y .costs .int)
+          (c .before .before .before .if10 .left),
+      ne-eqb (x .costs .error) (y .costs .error) (c .if11 .taken),
+    ))
 
 returns-12 : tie.Need-returns-12
 returns-12 c =
     let start = c .before .before .before .before .before .before .before .before .before .before .before .before .before .before .before .before .before .before .before .before .before .before .before .before .before .before .before .before .before .before .before .before .before .before .before .before .before in
     let x = start .args .a in
     let y = start .args .b in
-    sym (rw (eq-eqb (x .depth) (y .depth) (c .before .before .before .before .before .before .before .before .before .before .before .before .before .before .before .before .before .before .before .before .before .before .before .before .before .before .before .before .before .before .before .before .if1 .left), eq-eqb (x .stack) (y .stack) (c .before .before .before .before .before .before .before .before .before .before .before .before .before .before .before .before .before .before .before .before .before .before .before .before .before .before .before .before .before .if2 .left), eq-eqb (x .rows) (y .rows) (c .before .before .before .before .before .before .before .before .before .before .before .before .before .before .before .before .before .before .before .before .before .before .before .before .before .before .if3 .left), eq-eqb (x .slots) (y .slots) (c .before .before .before .before .before .before .before .before .before .before .before .before .before .before .before .before .before .before .before .before .before .before .before .if4 .left), eq-eqb (x .memory) (y .memory) (c .before .before .before .before .before .before .before .before .before .before .before .before .before .before .before .before .before .before .before .before .if5 .left), eq-eqb (x .width) (y .width) (c .before .before .before .before .before .before .before .before .before .before .before .before .before .before .before .before .before .if6 .left), eq-eqb (x .costs .frame) (y .costs .frame) (c .before .before .before .before .before .before .before .before .before .before .before .before .before .before .if7 .left), eq-eqb (x .costs .coro) (y .costs .coro) (c .before .before .before .before .before .before .before .before .before .before .before .if8 .left), eq-eqb (x .costs .object) (y .costs .object) (c .before .before .before .before .before .before .before .before .if9 .left), eq-eqb (x .costs .int) (y .costs .int) (c .before .before .before .before .before .if10 .left), eq-eqb (x .costs .error) (y .costs .error) (c .before .before .if11 .left)))
+    sym (rw (
+      eq-eqb (x .depth) (y .depth)
+          (c .before .before .before .before .before .before .before .before .before .before .before .before .before .before .before .before .before .before .before .before .before .before .before .before .before .before .before .before .before .before .before .before .if1 .left),
+      eq-eqb
+          (x .stack) (y .stack) (c .before .before .before .before .before .before .before .before .before .before .before .before .before .before .before .before .before .before .before .before .before .before .before .before .before .before .before .before .before .if2 .left),
+      eq-eqb
+          (x .rows) (y .rows) (c .before .before .before .before .before .before .before .before .before .before .before .before .before .before .before .before .before .before .before .before .before .before .before .before .before .before .if3 .left),
+      eq-eqb
+          (x .slots) (y .slots) (c .before .before .before .before .before .before .before .before .before .before .before .before .before .before .before .before .before .before .before .before .before .before .before .if4 .left),
+      eq-eqb
+          (x .memory) (y .memory) (c .before .before .before .before .before .before .before .before .before .before .before .before .before .before .before .before .before .before .before .before .if5 .left),
+      eq-eqb
+          (x .width) (y .width) (c .before .before .before .before .before .before .before .before .before .before .before .before .before .before .before .before .before .if6 .left),
+      eq-eqb
+          (x .costs .frame) (y .costs .frame)
+          (c .before .before .before .before .before .before .before .before .before .before .before .before .before .before .if7 .left),
+      eq-eqb
+          (x .costs .coro) (y .costs .coro) (c .before .before .before .before .before .before .before .before .before .before .before .if8 .left),
+      eq-eqb
+          (x .costs .object) (y .costs .object) (c .before .before .before .before .before .before .before .before .if9 .left),
+      eq-eqb (x .costs .int)
+          (y .costs .int) (c .before .before .before .before .before .if10 .left),
+      eq-eqb (x .costs .error) (y .costs .error)
+          (c .before .before .if11 .left),
+    ))
 
 pub same-sizes-spec : {M : Type 1} → statement M
 same-sizes-spec = tie.close (tie.spec returns returns-2 returns-3 returns-4 returns-5 returns-6 returns-7 returns-8 returns-9 returns-10 returns-11 returns-12)

@@ -40,7 +40,9 @@ returns-2 c =
     let at-sizes = at-room .before in
     let at-if1 = at-sizes .before in
     let a = at-if1 .before .before .before .args in
-    λ M e. no-room (a .given .now) M (lengths (a .stack) (a .frames) (a .chain) (a .slots) (a .saved-stack) (a .saved-frames) (a .ready) (a .finalize) (a .setup)) e (held at-if1) (at-sizes .sizes .result) (at-sizes .sizes .ensures .words) (sym (at-room .room-ok .ensures) ∙ not-true _ (c .if2 .taken))
+    λ M e. no-room (a .given .now) M (lengths (a .stack) (a .frames) (a .chain) (a .slots) (a .saved-stack) (a .saved-frames) (a .ready) (a .finalize)
+    (a .setup)) e (held at-if1) (at-sizes .sizes .result) (at-sizes .sizes .ensures .words)
+    (sym (at-room .room-ok .ensures) ∙ not-true _ (c .if2 .taken))
 
 shared-slice-read-n : tie.Need-shared-slice-read-n
 shared-slice-read-n c =
@@ -66,7 +68,9 @@ returns-3 c =
     let at-sizes = at-room .before in
     let at-if1 = at-sizes .before in
     let a = at-if1 .before .before .before .args in
-    λ M e. all-told (a .given .now) M (lengths (a .stack) (a .frames) (a .chain) (a .slots) (a .saved-stack) (a .saved-frames) (a .ready) (a .finalize) (a .setup)) e (held at-if1) (at-sizes .sizes .result) (at-sizes .sizes .ensures .words) (sym (at-room .room-ok .ensures) ∙ not-false _ (at-if2 .if2 .left))
+    λ M e. all-told (a .given .now) M (lengths (a .stack) (a .frames) (a .chain) (a .slots) (a .saved-stack) (a .saved-frames) (a .ready)
+    (a .finalize) (a .setup)) e (held at-if1) (at-sizes .sizes .result) (at-sizes .sizes .ensures .words)
+    (sym (at-room .room-ok .ensures) ∙ not-false _ (at-if2 .if2 .left))
 
 pub allowed-spec : {M : Type 1} → statement M
 allowed-spec = tie.close (tie.spec setup-held-requires returns sizes-requires room-ok-requires returns-2 shared-slice-read-n mul-result add-result returns-3)

@@ -21,7 +21,9 @@ abbrev set-up-of : tie.After-slice-known18 → tie.After-set-up
 set-up-of c = c .before .before .before .before .before .before .before .before .before .before .before .before .before .before .before .before .before .before
 
 abbrev left-by : tie.After-set-up → Lent
-left-by c = nine (c .set-up .last .0) (c .set-up .last .1 .0) (c .set-up .last .1 .1 .0) (c .set-up .last .1 .1 .1 .0) (c .set-up .last .1 .1 .1 .1 .0) (c .set-up .last .1 .1 .1 .1 .1 .0) (c .set-up .last .1 .1 .1 .1 .1 .1 .0) (c .set-up .last .1 .1 .1 .1 .1 .1 .1 .0) (c .set-up .last .1 .1 .1 .1 .1 .1 .1 .1 .0) plain
+left-by c = nine (c .set-up .last .0) (c .set-up .last .1 .0) (c .set-up .last .1 .1 .0) (c .set-up .last .1 .1 .1 .0)
+    (c .set-up .last .1 .1 .1 .1 .0) (c .set-up .last .1 .1 .1 .1 .1 .0) (c .set-up .last .1 .1 .1 .1 .1 .1 .0)
+    (c .set-up .last .1 .1 .1 .1 .1 .1 .1 .0) (c .set-up .last .1 .1 .1 .1 .1 .1 .1 .1 .0) plain
 
 long : (c : tie.Start) → SetupFits (c .args .given .now)
 long c = given-fits (c .args .given .now) (is-held (c .args .given .now) (mem c) (c .pre))

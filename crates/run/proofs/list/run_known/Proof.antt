@@ -30,7 +30,10 @@ abbrev at-start : tie.Start → State
 at-start c = state (mem c) (c .args .m) (c .args .fuel)
 
 abbrev left-by : tie.After-run-list → State
-left-by c = state (nine (c .run-list .last .1 .0) (c .run-list .last .1 .1 .0) (c .run-list .last .1 .1 .1 .0) (c .run-list .last .1 .1 .1 .1 .0) (c .run-list .last .1 .1 .1 .1 .1 .0) (c .run-list .last .1 .1 .1 .1 .1 .1 .0) (c .run-list .last .1 .1 .1 .1 .1 .1 .1 .0) (c .run-list .last .1 .1 .1 .1 .1 .1 .1 .1 .0) (start-of (else-of c .before) .args .setup .now) plain) (c .run-list .result .machine) (c .run-list .result .fuel)
+left-by c = state (nine (c .run-list .last .1 .0) (c .run-list .last .1 .1 .0) (c .run-list .last .1 .1 .1 .0) (c .run-list .last .1 .1 .1 .1 .0)
+    (c .run-list .last .1 .1 .1 .1 .1 .0) (c .run-list .last .1 .1 .1 .1 .1 .1 .0) (c .run-list .last .1 .1 .1 .1 .1 .1 .1 .0)
+    (c .run-list .last .1 .1 .1 .1 .1 .1 .1 .1 .0) (start-of (else-of c .before) .args .setup .now) plain) (c .run-list .result .machine)
+    (c .run-list .result .fuel)
 
 count-requires : tie.Need-count-requires
 count-requires c κs = search needs

@@ -40,7 +40,9 @@ at-loop c =
     state (nine (a .stack) (a .frames) (a .chain) (a .slots) (a .saved-stack) (a .saved-frames) (a .ready) (a .finalize) (start-of c .args .setup .now) plain) (a .k) (a .f)
 
 abbrev left-by : tie.After-do-read Inv-loop μ-loop → Lent
-left-by c = nine (c .do-read .last .1 .0) (c .do-read .last .1 .1 .0) (c .do-read .last .1 .1 .1 .0) (c .do-read .last .1 .1 .1 .1 .0) (c .do-read .last .1 .1 .1 .1 .1 .0) (c .do-read .last .1 .1 .1 .1 .1 .1 .0) (c .do-read .last .1 .1 .1 .1 .1 .1 .1 .0) (c .do-read .last .1 .1 .1 .1 .1 .1 .1 .1 .0) (start-of (test-of c .before) .args .setup .now) plain
+left-by c = nine (c .do-read .last .1 .0) (c .do-read .last .1 .1 .0) (c .do-read .last .1 .1 .1 .0) (c .do-read .last .1 .1 .1 .1 .0)
+    (c .do-read .last .1 .1 .1 .1 .1 .0) (c .do-read .last .1 .1 .1 .1 .1 .1 .0) (c .do-read .last .1 .1 .1 .1 .1 .1 .1 .0)
+    (c .do-read .last .1 .1 .1 .1 .1 .1 .1 .1 .0) (start-of (test-of c .before) .args .setup .now) plain
 
 loop-holds : tie.Need-loop-holds Inv-loop μ-loop
 loop-holds c =
@@ -90,7 +92,9 @@ loop-again c =
     along-more (a .ok) (a .l) (a .calls .now) (a .answers .now) (a .n) (at-start start) (at-loop loop) (loop .loop .answers) (loop .loop .i) (loop .loop .inv) (test .loop-test .taken)
     (start .pre .room) (gives (left-by did) (did .do-read .result)) _
     (subst (λ r. Reads (a .ok) (at-loop loop) r (gives (left-by did) (did .do-read .result))) (at-read .read-at .ensures) (did .do-read .ensures))
-    (at-put .put-at .ensures) (record { stack = did .do-read .kept .1 .0; frames = did .do-read .kept .1 .1 .0; chain = did .do-read .kept .1 .1 .1 .0; slots = did .do-read .kept .1 .1 .1 .1 .0; savedStack = did .do-read .kept .1 .1 .1 .1 .1 .0; savedFrames = did .do-read .kept .1 .1 .1 .1 .1 .1 .0; ready = did .do-read .kept .1 .1 .1 .1 .1 .1 .1 .0; finalize = did .do-read .kept .1 .1 .1 .1 .1 .1 .1 .1 .0; setup = refl }) refl (at-put .put-at .kept .0)
+    (at-put .put-at .ensures)
+    (record { stack = did .do-read .kept .1 .0; frames = did .do-read .kept .1 .1 .0; chain = did .do-read .kept .1 .1 .1 .0; slots = did .do-read .kept .1 .1 .1 .1 .0; savedStack = did .do-read .kept .1 .1 .1 .1 .1 .0; savedFrames = did .do-read .kept .1 .1 .1 .1 .1 .1 .0; ready = did .do-read .kept .1 .1 .1 .1 .1 .1 .1 .0; finalize = did .do-read .kept .1 .1 .1 .1 .1 .1 .1 .1 .0; setup = refl }) refl
+    (at-put .put-at .kept .0)
 
 same-length : tie.Need-same-length Inv-loop μ-loop
 same-length c = c .before .loop .inv .lengths .stack
