@@ -24,7 +24,7 @@ use Rattle.memory.specs.declared.machine.Sizes.{Sizes}
 use Rattle.words.specs.Words.{sizesOf}
 use Rattle.words.specs.Decode.{setupOf, worldOf}
 use Rattle.words.specs.Sizes.{SetupFits}
-use Rattle.exec.specs.declared.instruction.Called.{Called}
+use Rattle.machine.specs.declared.called.Called.{Called}
 use Rattle.added.specs.Look.{LookFits, endOn}
 use Rattle.added.specs.declared.look.Span.{Span}
 use Rattle.added.specs.declared.fuel.GrantDid.{GrantDid}

@@ -2,7 +2,7 @@
 use mathlib.Core.Path.{_≡_, refl, sym, _∙_, subst}
 use mathlib.Core.Bool.{true}
 use borrow.Author.Tests.{not-true, not-false}
-use Rattle.invariant.proofs.Tests.{no-false}
+use Rattle.soundness.proofs.Tests.{no-false}
 use Rattle.added.specs.Look.{LookFits}
 use Rattle.outer.specs.Look.{Placed}
 use Rattle.boundary.specs.Words.{machineIn}
