@@ -36,6 +36,7 @@ pub mod Losses
 pub mod Returned
 pub mod Values
 pub mod Closing
+pub mod Asleep
 pub mod Exactly
 pub mod Premises
 pub mod Witness

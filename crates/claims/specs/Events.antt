@@ -18,7 +18,7 @@ use Rattle.model.specs.declared.machine.Active.{Active}
 use Rattle.model.specs.declared.machine.Frame.{Frame}
 use Rattle.model.specs.declared.call.OptPc.{OptPc}
 use Rattle.model.specs.declared.call.Op.{Op}
-use Rattle.claims.specs.Engine.{Seen, View, Engine, code, runs, awaits, ended, seenIn, is}
+use Rattle.claims.specs.Engine.{Seen, View, Engine, code, runs, awaits, sleeps, ended, seenIn, is}
 use Rattle.claims.specs.Says.{Aim, enter, suspend, neither, Does, instr, hosts, finishes, raises, other, doing}
 use Rattle.claims.specs.Held.{at, closer, By}
 use Rattle.claims.specs.Delivery.{recorded}
@@ -205,6 +205,8 @@ pub record Events (e : Engine) : Type 0 where
   pub yielded : (c : ℕ) (s : e .State) (k : e .Call) → Suspends e c s k → let z = e .view (e .next s k) in closer (z .coro c) ≡ pick (is z awaits c) (closer (e .view s .coro c)) none
   pub closing : (c : ℕ) (s : e .State) (k : e .Call) → (Restarts e s k → ⊥) → (Enters e c s k → ⊥) → (Suspends e c s k → ⊥)
       → let z = e .view (e .next s k) in is z lives c ≡ true → closer (z .coro c) ≡ closer (e .view s .coro c)
+  -- who sleeps stays asleep until it is entered, or the machine is set up anew
+  pub asleep : (c : ℕ) (s : e .State) (k : e .Call) → (Restarts e s k → ⊥) → (Enters e c s k → ⊥) → is (e .view s) sleeps c ≡ true → is (e .view (e .next s k)) sleeps c ≡ true
   pub fixed : (s : e .State) (k : e .Call) → (Restarts e s k → ⊥) → Fixed (e .view s) (e .view (e .next s k))
   -- one a call
   pub one-switch : (c u : ℕ) (s : e .State) (k : e .Call) → Enters e c s k → Suspends e u s k → ⊥

@@ -8,7 +8,7 @@ use lib.ListN.{length, drop}
 use lib.Dec.{eqb}
 use Rattle.lists.specs.Pick.{pick}
 use Rattle.heap.specs.declared.value.Opt.{Opt}
-use Rattle.claims.specs.Engine.{Seen, View, Engine, run, runs, awaits, is}
+use Rattle.claims.specs.Engine.{Seen, View, Engine, run, runs, awaits, sleeps, is}
 use Rattle.claims.specs.Says.{doing, lie}
 use Rattle.claims.specs.Held.{Held, closer, By, Entered, Restored}
 use Rattle.claims.specs.Delivery.{recorded, Left}
@@ -94,6 +94,7 @@ module _ (e d : Engine) (f : Follows e d) where
         closing = λ c s k r h g l.
             down (λ v. closer (v .after .coro c) ≡ closer (v .before .coro c)) s k
             (p .closing c (f .to s) (f .by s k) (λ x. r (down-restarts e d f s k x)) (λ x. h (down-enters e d f s k c x)) (λ x. g (down-suspends e d f s k c x)) (up (λ v. is (v .after) lives c ≡ true) s k l));
+        asleep = λ c s k r h l. down (λ v. is (v .after) sleeps c ≡ true) s k (p .asleep c (f .to s) (f .by s k) (λ x. r (down-restarts e d f s k x)) (λ x. h (down-enters e d f s k c x)) (up (λ v. is (v .before) sleeps c ≡ true) s k l));
         fixed = λ s k r. down (λ v. Fixed (v .before) (v .after)) s k (p .fixed (f .to s) (f .by s k) (λ x. r (down-restarts e d f s k x)));
         one-switch = λ c u s k h g. p .one-switch c u (f .to s) (f .by s k) (up-enters e d f s k c h) (up-suspends e d f s k u g);
         no-return = λ c u s k h g. p .no-return c u (f .to s) (f .by s k) (up-enters e d f s k c h) (up-returns e d f s k u g);
