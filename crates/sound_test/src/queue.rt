@@ -7,7 +7,7 @@ ghost use lib.ListN.{take};
 ghost use Rattle.heap.specs.Heap.{TableFits, slotsOf, coroOf};
 ghost use Rattle.model.specs.Lists.{distinct};
 ghost use Rattle.sound_test.specs.Queue.{byCoro, markOf, marksOk, queueHeld, bitAt, QueueAsks, QueueFits};
-use heap::heap::Coroutine;
+use heap::heap::CoroPlace;
 use heap::value::Word;
 
 // Whether a word names a coroutine that is a task, or one that was handed over for a cleanup.
@@ -15,13 +15,13 @@ fn is_marked(slots: &[u64], count: usize, task: bool, w: u64) -> bool
     requires { ⌜ TableFits (now slots) count ⌝ }
     ensures { λ r. ⌜ r ≡ byCoro (markOf task) (coroOf (slotsOf count (now (slots .entry))) w) ⌝ }
 {
-    match heap::heap::coro(slots, count, Word(w)) {
-        Coroutine::Not(_) => false,
-        Coroutine::At(_, c) => {
+    match heap::heap::coro_place(slots, count, Word(w)) {
+        CoroPlace::Not(_) => false,
+        CoroPlace::At(i) => {
             if task {
-                return c.task;
+                return heap::field::task_at(slots, i);
             }
-            c.finalized
+            heap::field::finalized_at(slots, i)
         }
     }
 }
