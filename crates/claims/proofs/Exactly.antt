@@ -21,7 +21,7 @@ use Rattle.claims.proofs.Untouched.{untouched}
 use Rattle.claims.proofs.Exact.{healthy-sound, no-some, entered, suspends, suspended-by}
 use Rattle.claims.proofs.Returned.{returns, returned-by}
 use Rattle.claims.proofs.Losses.{fails-by, failed-by}
-use Rattle.claims.proofs.Values.{integer}
+use Rattle.claims.proofs.Values.{integer, word}
 use Rattle.claims.proofs.Closing.{closing, yielded, fixed}
 use Rattle.claims.proofs.Asleep.{asleep}
 
@@ -55,6 +55,7 @@ events =
       fails = fails-by;
       failed = λ c w k h r l. failed-by c w k (healthy-sound w h) r l;
       integer = integer;
+      word = word;
       yielded = yielded;
       closing = closing;
       asleep = asleep;

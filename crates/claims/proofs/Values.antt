@@ -41,7 +41,7 @@ use Rattle.model.specs.declared.coro.Made.{Made}
 use Rattle.model.specs.declared.call.Op.{Op}
 use Rattle.model.specs.declared.call.Answer.{Answer}
 use Rattle.soundness.proofs.Sound.{sound→}
-use Rattle.claims.specs.Delivery.{recorded}
+use Rattle.claims.specs.Delivery.{recorded, resultOf}
 use Rattle.claims.specs.Events as Said
 use Rattle.claims.specs.Events.{isInteger}
 use Rattle.claims.specs.Promise.{converts}
@@ -188,3 +188,44 @@ integer c w k kind x g e i = go (next w k) (step-case w k) (sym (is-ended (next 
     go z (anew s e) a q = no-both a (ap (λ x. isReturned (coreIn x .state)) (fresh-absent s c))
     go z (same k e) a q = no-both a (run-returned (coreAt w c .state) ran)
     go z (does o e) a q = finished (o .op) (some-op q) (word-in (o .op) kind x (some-op q) (o .within)) e a
+
+-- ---- a word, or none, is recorded as it is returned
+
+word-made : {a b : ℕ} → _≡_ {A = Made} (Made.Word a) (Made.Word b) → a ≡ b
+word-made e = cc
+
+plain-made : (kind : ResultKind) (x y : ℕ) (w : World) → isInteger kind ≡ false → toDyn kind x w .answer ≡ Made.Word y → y ≡ resultOf kind x 0
+unfolding toDyn
+plain-made ResultKind.None x y w p e = sym (word-made e)
+plain-made ResultKind.Dyn x y w p e = sym (word-made e)
+plain-made ResultKind.I64 x y w p e = no-both refl p
+plain-made ResultKind.U64 x y w p e = no-both refl p
+
+finish-word : (kind : ResultKind) (x : ℕ) (w : World) → isInteger kind ≡ false → (c : ℕ) (o : After Answer) → isRunning (coreAt w c .state) ≡ true
+    → isReturned (coreAt (o .world) c .state) ≡ true → FinishCase kind x w o → recorded (seenOf (coro (o .world) c)) ≡ resultOf kind x 0
+finish-word kind x w k c o b r (f-other e n) = no-both r (ap (λ y. isReturned (coreIn y .state)) (e c) ∙ run-returned (coreAt w c .state) b)
+finish-word kind x w k c o b r (f-returns f fs a chain y p q i m n ends tells ints) = go (ℕ-discrete c (a .coro))
+  where
+    go : Dec (c ≡ a .coro) → recorded (seenOf (coro (o .world) c)) ≡ resultOf kind x 0
+    go (yes u) = ap (λ v. recorded (seenOf (coro (o .world) v))) u ∙ (tells (ap (λ v. isRunning (coreAt w v .state)) (sym u) ∙ b) ∙ plain-made kind x y w k m)
+    go (no u) = no-both r (ap (λ y. isReturned (y .state)) (ends .others c u) ∙ run-returned (coreAt w c .state) b)
+
+word-at : (w : World) (c : ℕ) (kind : ResultKind) (x : ℕ) → isInteger kind ≡ false → isRunning (coreAt w c .state) ≡ true
+    → let z = call (Op.Finish kind x) w .world in isReturned (coreAt z c .state) ≡ true → recorded (seenOf (coro z c)) ≡ resultOf kind x 0
+unfolding call
+word-at w c kind x i b r = finish-word kind x w i c (finish kind x w) b r (finish-case kind x w)
+
+pub word : (c : ℕ) (w : World) (k : Call) (kind : ResultKind) (x : ℕ) → Said.Returns steps c w k → opOf k ≡ some (Op.Finish kind x) → isInteger kind ≡ false
+    → recorded (seenOf (coro (next w k) c)) ≡ resultOf kind x 0
+word c w k kind x g e i = go (next w k) (step-case w k) (sym (is-ended (next w k) c) ∙ g .after) e
+  where
+    ran : isRunning (coreAt w c .state) ≡ true
+    ran = sym (is-runs w c) ∙ g .before
+
+    finished : (o : Op) → o ≡ Op.Finish kind x → isReturned (coreAt (call o w .world) c .state) ≡ true → recorded (seenOf (coro (call o w .world) c)) ≡ resultOf kind x 0
+    finished o q a = ap (λ p. recorded (seenOf (coro (call p w .world) c))) q ∙ word-at w c kind x i ran (ap (λ p. isReturned (coreAt (call p w .world) c .state)) (sym q) ∙ a)
+
+    go : {k : Call} (z : World) → StepCase w k z → isReturned (coreAt z c .state) ≡ true → opOf k ≡ some (Op.Finish kind x) → recorded (seenOf (coro z c)) ≡ resultOf kind x 0
+    go z (anew s e) a q = no-both a (ap (λ x. isReturned (coreIn x .state)) (fresh-absent s c))
+    go z (same k e) a q = no-both a (run-returned (coreAt w c .state) ran)
+    go z (does o e) a q = finished (o .op) (some-op q) a

@@ -21,7 +21,7 @@ use Rattle.model.specs.declared.call.Op.{Op}
 use Rattle.claims.specs.Engine.{Seen, View, Engine, code, runs, awaits, sleeps, ended, seenIn, is}
 use Rattle.claims.specs.Says.{Aim, enter, suspend, neither, Does, instr, hosts, finishes, raises, other, doing}
 use Rattle.claims.specs.Held.{at, closer, By}
-use Rattle.claims.specs.Delivery.{recorded}
+use Rattle.claims.specs.Delivery.{recorded, resultOf}
 use Rattle.claims.specs.Demand3.{Enters, Suspends, Restarts}
 
 -- the machine is not refused: a look answers 0
@@ -201,6 +201,9 @@ pub record Events (e : Engine) : Type 0 where
   -- an integer that is returned is recorded as a word that stands for it
   pub integer : (c : ℕ) (s : e .State) (k : e .Call) (kind : ResultKind) (x : ℕ) → Returns e c s k → e .op k ≡ some (Op.Finish kind x) → isInteger kind ≡ true
       → let z = e .view (e .next s k) in z .integer (recorded (z .coro c)) ≡ Opt.Some x
+  -- a word, or none, is recorded as it is returned
+  pub word : (c : ℕ) (s : e .State) (k : e .Call) (kind : ResultKind) (x : ℕ) → Returns e c s k → e .op k ≡ some (Op.Finish kind x) → isInteger kind ≡ false
+      → recorded (e .view (e .next s k) .coro c) ≡ resultOf kind x 0
   -- a yield ends a closing; else it lasts as long as the coroutine lives (who is entered: `Entered.closing`)
   pub yielded : (c : ℕ) (s : e .State) (k : e .Call) → Suspends e c s k → let z = e .view (e .next s k) in closer (z .coro c) ≡ pick (is z awaits c) (closer (e .view s .coro c)) none
   pub closing : (c : ℕ) (s : e .State) (k : e .Call) → (Restarts e s k → ⊥) → (Enters e c s k → ⊥) → (Suspends e c s k → ⊥)

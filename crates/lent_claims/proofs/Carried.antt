@@ -11,7 +11,7 @@ use Rattle.heap.specs.declared.value.Opt.{Opt}
 use Rattle.claims.specs.Engine.{Seen, View, Engine, run, runs, awaits, sleeps, is}
 use Rattle.claims.specs.Says.{doing, lie}
 use Rattle.claims.specs.Held.{Held, closer, By, Entered, Restored}
-use Rattle.claims.specs.Delivery.{recorded, Left}
+use Rattle.claims.specs.Delivery.{recorded, Left, resultOf}
 use Rattle.claims.specs.Demand3.{Enters, Suspends, Leaves, Restarts, Waits, Goes, Demand3}
 use Rattle.claims.specs.Events.{Healthy, onBody, raisedAt, suspended, returned, Lost, lives, Fixed, Events}
 use Rattle.claims.specs.Promise.{suspends, room, Roomy, Makes, Accepts, Eleven, Soundness, NotEmpty}
@@ -89,6 +89,8 @@ module _ (e d : Engine) (f : Follows e d) where
         failed = λ c s k ok r h. down-fails e d f s k c (p .failed c (f .to s) (f .by s k) (up-healthy e d f s ok) (ap (λ v. is v runs c) (f .view s) ∙ r) (up (lost-in c) s k h));
         integer = λ c s k kind x h o i.
             down (λ v. v .after .integer (recorded (v .after .coro c)) ≡ Opt.Some x) s k (p .integer c (f .to s) (f .by s k) kind x (up-returns e d f s k c h) (f .op s k ∙ o) i);
+        word = λ c s k kind x h o i.
+            down (λ v. recorded (v .after .coro c) ≡ resultOf kind x 0) s k (p .word c (f .to s) (f .by s k) kind x (up-returns e d f s k c h) (f .op s k ∙ o) i);
         yielded = λ c s k h.
             down (λ v. closer (v .after .coro c) ≡ pick (is (v .after) awaits c) (closer (v .before .coro c)) none) s k (p .yielded c (f .to s) (f .by s k) (up-suspends e d f s k c h));
         closing = λ c s k r h g l.
