@@ -1,4 +1,4 @@
--- The sheet's own words: what is done to a world. None of them is the machine's.
+-- The sheet's own words: what is done to a world. None of them is the machine's but the setters of single fields (`withStack` and its kin).
 use Prim.Native.Nat.{ℕ, _+_, _%_, _^_}
 use mathlib.Core.Bool.{Bool, true, false}
 use mathlib.Core.List.{List, [], _∷_, _++_, map}
