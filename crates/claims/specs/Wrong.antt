@@ -20,7 +20,7 @@ use Rattle.model.specs.declared.machine.Frame.{Frame}
 use Rattle.claims.specs.Engine.{Engine, ended, is}
 use Rattle.claims.specs.Demand3.{Demand3}
 use Rattle.claims.specs.Events.{isBody, failed, Events}
-use Rattle.claims.specs.Steps.{viewOf, opOf}
+use Rattle.claims.specs.Steps.{viewOf, opOf, looks}
 
 -- a callee is on top
 abbrev pub called : List Frame → Bool
@@ -32,7 +32,7 @@ abbrev pub bentTo : (List Frame → List Frame) → World → World → World
 bentTo f w z = pick (ltb (length (w .chain)) (length (z .chain)) && called (z .frames)) (withFrames (f (z .frames)) z) z
 
 abbrev pub bent : (List Frame → List Frame) → Engine
-bent f = record { State = World; Call = Call; op = opOf; view = viewOf; next = λ w k. bentTo f w (step w k .world); number = λ w k. numberOf (step w k .answer) }
+bent f = record { State = World; Call = Call; op = opOf; view = viewOf; next = λ w k. bentTo f w (step w k .world); number = λ w k. numberOf (step w k .answer); look = looks }
 
 abbrev pub onTop : (Frame → Frame) → List Frame → List Frame
 onTop g [] = []
@@ -66,7 +66,7 @@ higher f = record { func = f .func; pc = f .pc; base = f .base + 1; closure = f 
 
 -- an entry is left undone, where a test says so: always; or while two coroutines wait for a cleanup
 abbrev pub idle : (World → Bool) → Engine
-idle p = record { State = World; Call = Call; op = opOf; view = viewOf; next = λ w k. let z = step w k .world in pick (ltb (length (w .chain)) (length (z .chain)) && p w) w z; number = λ w k. numberOf (step w k .answer) }
+idle p = record { State = World; Call = Call; op = opOf; view = viewOf; next = λ w k. let z = step w k .world in pick (ltb (length (w .chain)) (length (z .chain)) && p w) w z; number = λ w k. numberOf (step w k .answer); look = looks }
 
 abbrev pub two : World → Bool
 two w = ltb 1 (length (w .finalize))
@@ -77,7 +77,7 @@ spoiled [] z = z
 spoiled (a ∷ chain) z = pick (is (viewOf z) ended (a .coro)) (withStack (set (z .stack) 0 0) (changeCoro (a .coro) (inState CoroState.Failed) (λ r. r) z)) z
 
 abbrev pub failing : Engine
-failing = record { State = World; Call = Call; op = opOf; view = viewOf; next = λ w k. spoiled (w .chain) (step w k .world); number = λ w k. numberOf (step w k .answer) }
+failing = record { State = World; Call = Call; op = opOf; view = viewOf; next = λ w k. spoiled (w .chain) (step w k .world); number = λ w k. numberOf (step w k .answer); look = looks }
 
 -- every call ends the closing of the coroutine that runs
 abbrev pub unmarked : List Active → World → World
@@ -85,7 +85,7 @@ unmarked [] z = z
 unmarked (a ∷ chain) z = changeCoro (a .coro) (λ k. k) (withClosing false) z
 
 abbrev pub forgetting : Engine
-forgetting = record { State = World; Call = Call; op = opOf; view = viewOf; next = λ w k. let z = step w k .world in unmarked (z .chain) z; number = λ w k. numberOf (step w k .answer) }
+forgetting = record { State = World; Call = Call; op = opOf; view = viewOf; next = λ w k. let z = step w k .world in unmarked (z .chain) z; number = λ w k. numberOf (step w k .answer); look = looks }
 
 -- who fails is made Returned
 abbrev pub spared : List Active → World → World
@@ -93,7 +93,7 @@ spared [] z = z
 spared (a ∷ chain) z = pick (is (viewOf z) failed (a .coro)) (changeCoro (a .coro) (inState CoroState.Returned) (λ r. r) z) z
 
 abbrev pub sparing : Engine
-sparing = record { State = World; Call = Call; op = opOf; view = viewOf; next = λ w k. spared (w .chain) (step w k .world); number = λ w k. numberOf (step w k .answer) }
+sparing = record { State = World; Call = Call; op = opOf; view = viewOf; next = λ w k. spared (w .chain) (step w k .world); number = λ w k. numberOf (step w k .answer); look = looks }
 
 pub record Wrong : Type 0 where
   pub other-function : Demand3 (bent (onTop ofZero)) → ⊥
