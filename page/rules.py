@@ -1,0 +1,148 @@
+#!/usr/bin/env python3
+"""Checks docs/RULES.md and docs/ASSURANCE.md against the sources, so that neither can rot:
+each file and name that a row of RULES names is there; a sentence that is marked as quoted is quoted in a comment of its definition's file;
+every quotation in a comment of crates/ is 01's, or is listed as another's; the places and counts of ASSURANCE are those of today."""
+import re
+import sys
+from pathlib import Path
+
+sys.path.insert(0, str(Path(__file__).resolve().parent))
+import closure
+
+ROOT = closure.ROOT
+RULES = ROOT / "docs/RULES.md"
+ASSURANCE = ROOT / "docs/ASSURANCE.md"
+failed = []
+
+
+def say(text):
+    failed.append(text)
+    print("rules: " + text)
+
+
+def plain(text):
+    """The words of a text, without marks."""
+    return re.findall(r"[^\s`\"()\[\]{},;:.*?!]+", text.lower().replace("\\_", "_"))
+
+
+def rows_of(page):
+    """The rows of RULES: section, number, sentence, quoted or not, the two cells with names; a heading within a section has number 0."""
+    section = ""
+    for row in page.read_text().splitlines():
+        if row.startswith("## "):
+            section = row[3:]
+        if row.startswith("### "):
+            yield section, 0, row[4:], False, ""
+        cells = [one.strip() for one in row.strip("|").split(" | ")]
+        if row.startswith("| ") and cells[0].strip().isdigit():
+            yield section, int(cells[0]), cells[1], cells[2] == "”", " ".join(cells[3:])
+
+
+def path_of(name):
+    return Path("crates", name) if "/" in name else Path("crates/model/specs", name)
+
+
+def has(path, name):
+    text = (ROOT / path).read_text()
+    if path.suffix == ".rt":
+        return re.search(rf"pub (?:fn|struct|enum) {re.escape(name)}\b", text)
+    return re.search(rf"^\s*(?:(?:unfoldable|abbrev|pub)\s+)*(?:record |data )?{re.escape(name)} ", text, re.M)
+
+
+def comments_of(path):
+    """The comments of a file, lines that stand together as one: line and text."""
+    mark = "--" if path.suffix == ".antt" else "//"
+    found, start = [], 0
+    for number, row in enumerate(path.read_text().splitlines() + [""], 1):
+        row = row.strip()
+        if row.startswith(mark):
+            start = start or number
+            found.append(row[len(mark):].strip())
+        elif found:
+            yield start, " ".join(found)
+            found, start = [], 0
+
+
+def in_order(words, text):
+    """Whether the words stand in the text in this order, each at most six words after the last."""
+    for start in [at for at, one in enumerate(text) if one == words[0]]:
+        at = start
+        for word in words[1:]:
+            after = text[at + 1:at + 8]
+            if word not in after:
+                break
+            at += 1 + after.index(word)
+        else:
+            return True
+    return False
+
+
+def shares(quotation, sentence):
+    """Whether a quotation has four words in a row of a sentence, or all of a shorter one."""
+    few = min(4, len(sentence), len(quotation))
+    runs = {tuple(sentence[at:at + few]) for at in range(len(sentence) - few + 1)}
+    return any(tuple(quotation[at:at + few]) in runs for at in range(len(quotation) - few + 1))
+
+
+def check_rules():
+    names = quoted = 0
+    sections, quotations = {}, {}
+    for path in sorted((ROOT / "crates").rglob("*")):
+        if path.suffix in (".antt", ".rt"):
+            for line, text in comments_of(path):
+                for one in re.findall(r'"([^"]+)"', text):
+                    quotations.setdefault(path.relative_to(ROOT), []).append((line, one))
+    expected = 1
+    for section, number, sentence, marked, cells in rows_of(RULES):
+        sections.setdefault(section, plain(section)).extend(plain(sentence))
+        if number == 0:
+            continue
+        if number != expected:
+            say(f"docs/RULES.md: {number} stands where {expected} should")
+        expected = number + 1
+        places = re.findall(r"`([A-Za-z0-9_/]+\.(?:antt|rt)): ([A-Za-z0-9_-]+)`", cells)
+        for file, name in places:
+            names += 1
+            path = path_of(file)
+            if not (ROOT / path).exists() or not has(path, name):
+                say(f"docs/RULES.md, {number}: no {name} in {path}")
+        if marked:
+            quoted += 1
+            files = [path_of(file) for file, _ in places]
+            if not any(shares(plain(one), plain(sentence)) for file in files for _, one in quotations.get(file, [])):
+                say(f"docs/RULES.md, {number}: is quoted no more in {', '.join(map(str, files))}")
+    others = [plain(one) for one in re.findall(r'^- "([^"]+)"', RULES.read_text(), re.M)]
+    count = 0
+    for path, found in quotations.items():
+        for line, one in found:
+            count += 1
+            parts = [words for words in map(plain, re.split(r"\.\.|\[[^\]]*\]", one)) if words]
+            if plain(one) not in others and not any(all(in_order(words, text) for words in parts) for text in sections.values()):
+                say(f"{path}:{line}: not 01's: \"{one}\"")
+    print(f"rules: {expected - 1} sentences, {names} names, {quoted} quoted at their definition; {count} quotations in crates/")
+    return expected > 150 and names > 250
+
+
+def check_assurance():
+    """`crates/FILE:LINE` followed by `NAME` stands there; `N lines in M declarations` after `closure STATEMENT` is counted again."""
+    text = ASSURANCE.read_text() if ASSURANCE.exists() else ""
+    places = re.findall(r"`([A-Za-z0-9_-]+)`, `(crates/[A-Za-z0-9_/]+\.(?:antt|rt)):(\d+)`", text)
+    for name, file, line in places:
+        rows = (ROOT / file).read_text().splitlines() if (ROOT / file).exists() else []
+        here = [at for at, row in enumerate(rows, 1) if re.match(rf"\s*(?:(?:unfoldable|abbrev|pub|extern \"C\")\s+)*(?:record |data |fn |struct |enum )?{re.escape(name)}\b", row)]
+        if int(line) not in here:
+            say(f"docs/ASSURANCE.md: {name} stands at {file}:{', '.join(map(str, here)) or 'no line'}, not at {line}")
+    sums = re.findall(r"`([a-z_]+/(?:specs|src)/[A-Za-z_]+\.(?:antt|rt):[A-Za-z0-9_-]+)` \| ([0-9,]+) \| ([0-9,]+) \|", text)
+    for place, lines, count in sums:
+        found, _ = closure.closure(closure.find(place))
+        if (closure.lines(found), len(found)) != (int(lines.replace(",", "")), int(count.replace(",", ""))):
+            say(f"docs/ASSURANCE.md: {place} rests on {closure.lines(found):,} lines in {len(found):,} declarations")
+    print(f"rules: {len(places)} places and {len(sums)} sums of ASSURANCE")
+
+
+enough = check_rules()
+if ASSURANCE.exists():
+    check_assurance()
+if not enough:
+    say("docs/RULES.md has lost its rows")
+sys.exit(1 if failed else 0)
