@@ -77,7 +77,8 @@ class File:
                 for one in (names or "").split(","):
                     if one.strip():
                         parts = one.strip().split(" as ")
-                        (self.uses if not public else self.passed)[parts[-1].strip()] = (module, parts[0].strip())
+                        names = self.passed if public else self.uses
+                        names[parts[-1].strip().strip("_")] = (module, parts[0].strip())
                 if alias:
                     self.aliases[alias] = module
                 continue
@@ -175,34 +176,43 @@ def from_module(module, name, here):
     return None
 
 
+def resolve(file, word):
+    """What a word of a file names: a declaration, or (None, the name) of the toolchain's libraries, or nothing."""
+    head, _, tail = word.partition(".")
+    if head in file.aliases and tail:
+        return from_module(file.aliases[head], tail.split(".")[0], file), None
+    if head in file.declared:
+        return file.declared[head], None
+    if head in file.inner:
+        return file.inner[head], None
+    use = file.uses.get(head) or file.passed.get(head)
+    if use:
+        one = from_module(*use, file)
+        return one, None if one else use[0] + "." + use[1]
+    return None, None
+
+
+def words_of(file, row):
+    """The words of a row of code, each with where it begins."""
+    for token in WORD.finditer(re.sub(r"--.*$|//.*$", "", row)):
+        if file.path.suffix == ".rt":
+            for part in re.finditer(r"[^:<>&|'\"`⌜⌝«»]+", token.group()):
+                yield token.start() + part.start(), part.group().strip(".")
+        elif not token.group().startswith("."):
+            yield token.start(), token.group()
+
+
 def rests_on(declaration):
     """The declarations that this one names, and the names that it takes from the toolchain's libraries."""
     file = file_of(declaration.file)
     found, outside = {}, set()
     for row in declaration.code():
-        row = re.sub(r"--.*$|//.*$", "", row)
-        for token in WORD.findall(row):
-            for word in re.split(r"[:<>&|'\"`⌜⌝]+", token) if file.path.suffix == ".rt" else [token]:
-                word = word.strip(".«»")
-                if not word or word == declaration.name:
-                    continue
-                head, _, tail = word.partition(".")
-                one = None
-                if head in file.aliases and tail:
-                    module = file.aliases[head]
-                    one = from_module(module, tail.split(".")[0], file)
-                elif head in file.declared:
-                    one = file.declared[head]
-                elif head in file.inner:
-                    one = file.inner[head]
-                elif head in file.uses:
-                    one = from_module(*file.uses[head], file)
-                    if one is None:
-                        outside.add(file.uses[head][0] + "." + head)
-                elif head in file.passed:
-                    one = from_module(*file.passed[head], file)
-                if one is not None and one is not declaration:
-                    found[one.key] = one
+        for _, word in words_of(file, row):
+            one, name = resolve(file, word)
+            if name:
+                outside.add(name)
+            elif one is not None and one is not declaration:
+                found[one.key] = one
     return found, outside
 
 
