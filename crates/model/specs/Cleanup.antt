@@ -68,6 +68,7 @@ startFinalizer w = startFrom 0 (w .finalize) (unbank w)
 abbrev pub chargeDone : ℕ → World → After Charge
 chargeDone taken w = after (armClose (spend w)) (Charge.Done taken)
 
+-- 01: "A charge that starts a cleanup takes no unit and answers 17 with nil, as an unwinding." (Close; Answer.antt gives the 17)
 abbrev pub chargeOr : After Started → After Charge
 chargeOr s = pick (s .answer .entered) (after (s .world) (Charge.Close (s .answer .taken))) (chargeDone (s .answer .taken) (s .world))
 

@@ -158,7 +158,9 @@ outcomeOf (Event.Yielded payload key) = Stop.Yielded payload
 outcomeOf (Event.Awaiting payload) = Stop.Awaiting payload
 outcomeOf Event.CloseIgnored = Stop.CloseIgnored
 
--- coro.rs: deliver. None is the Rust's Ok(()).
+-- coro.rs: deliver. None is the Rust's Ok(()). 01: "Iterator driver: iterator key, val register, then has = 1 and pc step; an Await
+-- there is 2, after suspending. Host driver: the outcome. Cleanup driver: finalizing ends. A yield while closing .. answers 6 to a
+-- Resume or iterator driver"
 unfoldable pub deliver : Driver → Event → World → After Fault
 deliver (Driver.Resume dst) (Event.Yielded payload key) w = after (coroSend dst payload w) Fault.None
 deliver (Driver.Resume dst) (Event.Awaiting payload) w = after (coroSend dst payload w) Fault.None

@@ -79,7 +79,7 @@ coroNewIndirect dst callee argc w = andThen (indirect dst callee argc w) (putMad
 
 -- ---- Spawn
 
--- the hook's frame stands over w, with the coroutine c in its first register; refused, w is as it was
+-- the hook's frame stands over w, with the coroutine c in its first register; refused, w is as it was: pc is not stored either
 abbrev pub hooked : World → ℕ → World → Made → After Step
 hooked w c u (Made.Word base) = after (withStack (set (u .stack) base c) u) Step.Frame
 hooked w c u (Made.Refused f) = fault w f
@@ -110,6 +110,7 @@ abbrev pub deliverAll : World → Suspension → After Step
 deliverAll w (Suspension.Done d e) = andThen (deliver d e w) delivered
 deliverAll w (Suspension.Refused f) = fault w f
 
+-- pc is stored, then coro_suspend. 01: "A key object made before that 9 stays."
 abbrev pub suspend : ℕ → CoroState → ℕ → ℕ → Keys → World → After Step
 suspend pc state dst payload keys w = andThen (coroSuspend state dst payload keys (storePc pc w)) deliverAll
 
@@ -122,6 +123,7 @@ abbrev pub keyAt : ℕ → World → Made → After AutoKey
 keyAt n w (Made.Word k) = after w (AutoKey.Key k n)
 keyAt n w (Made.Refused f) = after w (AutoKey.Refused f)
 
+-- 01: "at 2^63 - 1 it answers 7 and does not suspend"; pc is not stored
 abbrev pub keyExact : Exact → World → After AutoKey
 keyExact (Exact.Fits n) w = andThen (encodeInt n w) (keyAt n)
 keyExact Exact.Over w = after w (AutoKey.Refused Fault.ArithOverflow)
@@ -134,6 +136,7 @@ abbrev pub yieldKey : ℕ → ℕ → ℕ → World → AutoKey → After Step
 yieldKey pc dst payload w (AutoKey.Key key largest) = suspend pc CoroState.Yielded dst payload (Keys.Set key largest) w
 yieldKey pc dst payload w (AutoKey.Refused f) = fault w f
 
+-- 01: "No active coroutine: 5, pc not stored by the instruction."
 abbrev pub yieldOn : List Active → ℕ → ℕ → ℕ → World → After Step
 yieldOn [] pc dst src w = fault w Fault.CannotSuspend
 yieldOn (a ∷ chain) pc dst src w = andThen (autoKey (largestIn (coro w (a .coro))) w) (yieldKey pc dst (reg w src))
@@ -147,6 +150,7 @@ abbrev pub largerOf : ℕ → Opt → ℕ
 largerOf largest Opt.None = largest
 largerOf largest (Opt.Some n) = pick (lessBits largest n) n largest
 
+-- 01: "YieldKv keeps its own key"
 abbrev pub yieldKvOn : List Active → ℕ → ℕ → ℕ → ℕ → World → After Step
 yieldKvOn [] pc dst src key w = fault w Fault.CannotSuspend
 yieldKvOn (a ∷ chain) pc dst src key w =
@@ -156,6 +160,7 @@ yieldKvOn (a ∷ chain) pc dst src key w =
 unfoldable pub yieldKv : ℕ → ℕ → ℕ → ℕ → World → After Step
 yieldKv pc dst src key w = yieldKvOn (w .chain) pc dst src key w
 
+-- 01: "Await leaves key and largest."
 abbrev pub awaitOn : List Active → ℕ → ℕ → ℕ → World → After Step
 awaitOn [] pc dst src w = fault w Fault.CannotSuspend
 awaitOn (a ∷ chain) pc dst src w = suspend pc CoroState.Awaiting dst (reg w src) Keys.Keep w
@@ -172,7 +177,7 @@ arrive sent w Entered.Fresh = after w Step.Frame
 arrive sent w (Entered.Suspended d) = after (coroSend d sent w) Step.Frame
 arrive sent w (Entered.Refused f) = fault w f
 
--- coro.rs: exec, Resume
+-- coro.rs: exec, Resume. 01: "stores pc in the top frame, then coro_enter"
 unfoldable pub resume : ℕ → ℕ → ℕ → ℕ → World → After Step
 resume pc dst c src w = andThen (coroEnter (reg w c) (Driver.Resume dst) (storePc pc w)) (arrive (reg w src))
 
@@ -182,6 +187,7 @@ throwEntered v w Entered.Fresh = after w (Step.Unwind (Fault.Throw v))
 throwEntered v w (Entered.Suspended d) = after w (Step.Unwind (Fault.Throw v))
 throwEntered v w (Entered.Refused f) = fault w f
 
+-- c is the coroutine's word, err the thrown word
 abbrev pub throwTo : Stated → ℕ → ℕ → ℕ → ℕ → World → After Step
 throwTo (Stated.Refused f) pc dst c err w = fault w f
 throwTo (Stated.In s) pc dst c err w =
@@ -197,6 +203,7 @@ closeEntered c signal w Entered.Fresh = after (changeCoro c (λ k. k) (close sig
 closeEntered c signal w (Entered.Suspended d) = after (changeCoro c (λ k. k) (close signal) w) (Step.Unwind (Fault.Throw signal))
 closeEntered c signal w (Entered.Refused f) = fault w f
 
+-- c is the coroutine's word, signal the word that it is closed by
 abbrev pub closeIn : ℕ → ℕ → ℕ → ℕ → World → After Step
 closeIn pc dst c signal w = andThen (coroEnter c (Driver.Resume dst) (storePc pc w)) (closeEntered c signal)
 
@@ -249,6 +256,7 @@ coroResult dst c w = resultIn (coro w (reg w c)) (notA w (reg w c)) dst w
 
 -- ---- iter_next
 
+-- has and val are registers, iter and src the words found in theirs
 abbrev pub iterOn : Stated → ℕ → ℕ → ℕ → ℕ → ℕ → World → After Step
 iterOn (Stated.Refused f) pc has iter val src w = fault w f
 iterOn (Stated.In s) pc has iter val src w =

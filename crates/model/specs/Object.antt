@@ -1,4 +1,5 @@
--- heap.rs: Object and CoroObj, as values. A coroutine is its core, which a switch moves, and the rest, which it does not.
+-- heap.rs: Object and CoroObj, as values. A coroutine is its core, which an entry empties and a suspension fills, and the rest, which
+-- stays with it while it runs.
 use Prim.Native.Nat.{ℕ}
 use mathlib.Core.Bool.{Bool, true, false}
 use mathlib.Core.List.{List}
