@@ -1,7 +1,8 @@
 #!/usr/bin/env python3
 """Checks docs/RULES.md and docs/ASSURANCE.md against the sources, so that neither can rot:
 each file and name that a row of RULES names is there; a sentence that is marked as quoted is quoted in a comment of its definition's file;
-every quotation in a comment of crates/ is 01's, or is listed as another's; the places and counts of ASSURANCE are those of today."""
+every quotation in a comment of crates/ is 01's, or is listed as another's; the places and counts of ASSURANCE are those of today.
+`page/rules.py mend` writes these into ASSURANCE."""
 import re
 import sys
 from pathlib import Path
@@ -123,26 +124,34 @@ def check_rules():
     return expected > 150 and names > 250
 
 
-def check_assurance():
-    """`crates/FILE:LINE` followed by `NAME` stands there; `N lines in M declarations` after `closure STATEMENT` is counted again."""
-    text = ASSURANCE.read_text() if ASSURANCE.exists() else ""
-    places = re.findall(r"`([A-Za-z0-9_-]+)`, `(crates/[A-Za-z0-9_/]+\.(?:antt|rt)):(\d+)`", text)
+def check_assurance(mend):
+    """A place is `NAME`, `crates/FILE:LINE`; a sum is a row of a table: statements, lines, declarations. `mend` writes what is so today."""
+    text = now = ASSURANCE.read_text()
+    places = set(re.findall(r"`([A-Za-z0-9_-]+)`, `(crates/[A-Za-z0-9_/]+\.(?:antt|rt)):(\d+)`", text))
     for name, file, line in places:
         rows = (ROOT / file).read_text().splitlines() if (ROOT / file).exists() else []
-        here = [at for at, row in enumerate(rows, 1) if re.match(rf"\s*(?:(?:unfoldable|abbrev|pub|extern \"C\")\s+)*(?:record |data |fn |struct |enum )?{re.escape(name)}\b", row)]
-        if int(line) not in here:
-            say(f"docs/ASSURANCE.md: {name} stands at {file}:{', '.join(map(str, here)) or 'no line'}, not at {line}")
-    sums = re.findall(r"`([a-z_]+/(?:specs|src)/[A-Za-z_]+\.(?:antt|rt):[A-Za-z0-9_-]+)` \| ([0-9,]+) \| ([0-9,]+) \|", text)
-    for place, lines, count in sums:
-        found, _ = closure.closure(closure.find(place))
-        if (closure.lines(found), len(found)) != (int(lines.replace(",", "")), int(count.replace(",", ""))):
-            say(f"docs/ASSURANCE.md: {place} rests on {closure.lines(found):,} lines in {len(found):,} declarations")
+        head = re.compile(rf"(?:(?:unfoldable|abbrev|pub|extern \"C\")\s+)*(?:record |data |fn |struct |enum )?{re.escape(name)}[ (:]")
+        here = [at for at, row in enumerate(rows, 1) if head.match(row)][:1]
+        if mend and here:
+            now = now.replace(f"`{name}`, `{file}:{line}`", f"`{name}`, `{file}:{here[0]}`")
+        elif here != [int(line)]:
+            say(f"docs/ASSURANCE.md: {name} stands at {file}:{here[0] if here else '(nowhere)'}, not at {line}")
+    sums = re.findall(r"^(\|[^|]*\| (`[^|]+`) \|) ([0-9,]+) \| ([0-9,]+) \|$", text, re.M)
+    for row, statements, lines, count in sums:
+        found, _ = closure.closure(*map(closure.find, re.findall(r"`([^`]+)`", statements)))
+        today = f"{closure.lines(found):,} | {len(found):,}"
+        if mend:
+            now = now.replace(f"{row} {lines} | {count} |", f"{row} {today} |")
+        elif today != f"{lines} | {count}":
+            say(f"docs/ASSURANCE.md: {statements}: {today}, not {lines} | {count}")
+    if now != text:
+        ASSURANCE.write_text(now)
     print(f"rules: {len(places)} places and {len(sums)} sums of ASSURANCE")
+    return len(places) > 8 and len(sums) > 3
 
 
-enough = check_rules()
-if ASSURANCE.exists():
-    check_assurance()
-if not enough:
+if not check_rules():
     say("docs/RULES.md has lost its rows")
+if not check_assurance(sys.argv[1:] == ["mend"]):
+    say("docs/ASSURANCE.md has lost its places or its sums")
 sys.exit(1 if failed else 0)
