@@ -2,7 +2,7 @@
 """Checks docs/RULES.md and docs/ASSURANCE.md against the sources, so that neither can rot:
 each file and name that a row of RULES names is there; a sentence that is marked as quoted is quoted in a comment of its definition's file;
 every quotation in a comment of crates/ is 01's, or is listed as another's; the places and counts of ASSURANCE are those of today.
-`page/rules.py mend` writes these into ASSURANCE."""
+README's layout is crates.txt's. `page/rules.py mend` writes places and counts into ASSURANCE."""
 import re
 import sys
 from pathlib import Path
@@ -151,6 +151,35 @@ def check_assurance(mend):
     return len(places) > 8 and len(sums) > 3
 
 
+def check_layout():
+    """README's drawing of who may use whom is crates.txt's, and its table has every crate."""
+    text = (ROOT / "README.md").read_text()
+    text = text[text.index("## Layout"):]
+    uses = {}
+    for row in (ROOT / "crates.txt").read_text().splitlines():
+        if ":" in row and not row.startswith("#"):
+            uses[row.split(":")[0]] = set(row.split(":")[1].split())
+    drawn = {}
+    for row in text.split("```")[1].splitlines():
+        for chain in re.split(r"\s{2,}", row[15:].strip()):
+            links = [one.split(", ") for one in chain.strip().split(" → ")]
+            for above, below in zip(links, links[1:]):
+                for one in above:
+                    drawn.setdefault(one, set()).update(below)
+
+    def all_of(one):
+        return set().union(*({below} | all_of(below) for below in drawn.get(one, ())))
+
+    for crate, wanted in uses.items():
+        found, wanted = all_of(crate), wanted & uses.keys()
+        if found != wanted:
+            say(f"README.md, Layout: {crate} may use {', '.join(sorted(wanted ^ found))}: drawn otherwise than crates.txt says")
+        if f"| `{crate}` |" not in text:
+            say(f"README.md, Layout: no row for {crate}")
+    print(f"rules: {len(uses)} crates of the layout")
+
+
+check_layout()
 if not check_rules():
     say("docs/RULES.md has lost its rows")
 if not check_assurance(sys.argv[1:] == ["mend"]):
