@@ -47,7 +47,7 @@ def path_of(name):
 def has(path, name):
     text = (ROOT / path).read_text()
     if path.suffix == ".rt":
-        return re.search(rf"pub (?:fn|struct|enum) {re.escape(name)}\b", text)
+        return re.search(rf"pub(?:\(crate\))? (?:fn|struct|enum) {re.escape(name)}\b", text)
     return re.search(rf"^\s*(?:(?:unfoldable|abbrev|pub)\s+)*(?:record |data )?{re.escape(name)} ", text, re.M)
 
 
@@ -179,7 +179,17 @@ def check_layout():
     print(f"rules: {len(uses)} crates of the layout")
 
 
+def check_names(page):
+    """Every `FILE: name` of a page is there."""
+    places = re.findall(r"`([A-Za-z0-9_/]+\.(?:antt|rt)): ([A-Za-z0-9_-]+)`", (ROOT / page).read_text())
+    for file, name in places:
+        if not (ROOT / path_of(file)).exists() or not has(path_of(file), name):
+            say(f"{page}: no {name} in {path_of(file)}")
+    print(f"rules: {len(places)} names of {page}")
+
+
 check_layout()
+check_names("docs/PROVING.md")
 if not check_rules():
     say("docs/RULES.md has lost its rows")
 if not check_assurance(sys.argv[1:] == ["mend"]):
