@@ -1,7 +1,7 @@
 """The picture of a wake, as SVG, from the words that page/wake.c prints: the stack at each moment, a box for each frame."""
 from html import escape
 
-CELL, WIDE, GAP = 24, 132, 46
+CELL, WIDE, GAP = 24, 118, 82
 REFERENCE, INTEGER = 1 << 48, 0xFFFE << 48
 
 
@@ -34,6 +34,15 @@ def frames_of(words):
     return [dict(zip(("function", "pc", "base", "closure", "cont", "register"), rows[at:at + 6])) for at in range(0, len(rows), 6)]
 
 
+def earlier(last, at, base):
+    """The word that stood here at the moment before: for a script that is woken, the word of its row."""
+    if last is None:
+        return None
+    if base is not None and not last["chain"] and any(last["saved"]):
+        return last["saved"][at - base]
+    return last["stack"][at] if at < len(last["stack"]) else None
+
+
 def picture(text):
     names, found = moments(text)
     most = max(len(words["stack"]) for _, words in found)
@@ -54,7 +63,7 @@ def picture(text):
             kind = "coroutine" if inside else "frame"
             for at in range(frame["base"], end):
                 y = floor - (at + 1) * CELL
-                before = last["stack"][at] if last and at < len(last["stack"]) else None
+                before = earlier(last, at, frame["base"] if inside else None)
                 changed = " changed" if before is not None and before != stack[at] else ""
                 out.append(f'<rect x="{x}" y="{y}" width="{WIDE}" height="{CELL}" class="{kind}{changed}"/>')
                 out.append(f'<text x="{x + WIDE / 2}" y="{y + 16}" class="word">{shown(stack[at])}</text>')

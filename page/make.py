@@ -229,7 +229,7 @@ def main():
     if words:
         parts.append(f"<figure class=scroll>{drawing.picture(words)}<figcaption>The stack, from the bottom up, as a C program over the compiled library found it; "
                      "a box is a frame, its number the index of its first register. Blue is the script; its words go to its row and come back, all moved by one distance. "
-                     "A word that differs from the moment before has another colour.</figcaption></figure>")
+                     "A word that differs from the moment before, or from its row when it is woken, has another colour.</figcaption></figure>")
     else:
         parts.append(absent("the picture, " + why))
 
@@ -270,7 +270,7 @@ def main():
             for _, name, told, facts, there in found:
                 cells = "".join(f"<tr><td><code>{escape(fact)}</code></td><td>" + (f"<code>{escape(hit[1])}</code>{f', line {hit[0]}' if hit[0] else ''}: <span class=faint>{escape(hit[2][:180])}</span>" if hit else
                                 "<span class=bad>not shown by the log</span>" if there else "<span class=faint>no log</span>") + "</td></tr>" for fact, hit in facts)
-                body.append(f"<h3>{escape(name)}</h3><p>{inline(told)}</p><table><thead><tr><th>proof</th><th>fact that refused it</th></tr></thead><tbody>{cells}</tbody></table>")
+                body.append(f"<h3>{escape(name)}</h3><p>{inline(told)}</p><table class=facts><thead><tr><th>proof</th><th>fact that refused it</th></tr></thead><tbody>{cells}</tbody></table>")
             parts.append(f"<details><summary><code>{crate}</code>: {len(found)} edits</summary><div>{''.join(body)}</div></details>")
     else:
         parts.append(absent(f"what refused the {len(wrong)} wrong edits, as target/must-fail is not there"))
