@@ -1,0 +1,325 @@
+#!/usr/bin/env python3
+"""Makes target/evidence.html from the sources, the papers and what the last `./test` left in target/. Every statement, count and time on
+the page is read from there; what the run did not produce is absent, and the page says so."""
+import re
+import subprocess
+import sys
+import tempfile
+from datetime import datetime, timezone
+from html import escape
+from pathlib import Path
+
+sys.dont_write_bytecode = True
+sys.path.insert(0, str(Path(__file__).resolve().parent))
+import closure
+import drawing
+
+ROOT = closure.ROOT
+TARGET = ROOT / "target"
+HERE = Path(__file__).resolve().parent
+
+
+# ---- the papers
+
+def inline(text):
+    """Markdown within a line."""
+    text = escape(text, quote=False)
+    text = re.sub(r"`([^`]+)`", r"<code>\1</code>", text)
+    text = re.sub(r"\[([^\]]+)\]\([^)]+\)", r"\1", text)
+    return re.sub(r"\*\*([^*]+)\*\*", r"<b>\1</b>", text)
+
+
+def table_after(page, heading):
+    """The cells of the first table after a heading of a paper."""
+    text = (ROOT / page).read_text()
+    rows = []
+    for row in text[text.index(heading):].splitlines()[1:]:
+        if row.startswith("|"):
+            rows.append([one.strip() for one in row.strip().strip("|").split("|")])
+        elif rows:
+            break
+    return rows[:1] + rows[2:]
+
+
+def html_table(rows, numbers=()):
+    head = "".join(f"<th{' class=n' if at in numbers else ''}>{inline(one)}</th>" for at, one in enumerate(rows[0]))
+    body = "".join("<tr>" + "".join(f"<td{' class=n' if at in numbers else ''}>{inline(one)}</td>" for at, one in enumerate(row)) + "</tr>\n" for row in rows[1:])
+    return f"<div class=scroll><table><thead><tr>{head}</tr></thead><tbody>{body}</tbody></table></div>"
+
+
+# ---- statements and definitions
+
+def anchor(declaration):
+    return "d-" + re.sub(r"[^A-Za-z0-9]+", "-", f"{declaration.file}-{declaration.name}".removeprefix("crates/"))
+
+
+def line(row, body):
+    """A line of code that keeps its indentation where it is wrapped."""
+    return f'<span class=row style="--i:{len(row) - len(row.lstrip())}">{body}</span>'
+
+
+def linked(declaration, known):
+    """The text of a declaration, each name that is shown on the page a link to it."""
+    file = closure.file_of(declaration.file)
+    mark = "--" if file.path.suffix == ".antt" else "//"
+    out = []
+    for row in declaration.text.splitlines():
+        if row.strip().startswith(mark):
+            out.append(line(row, f"<i>{escape(row.strip())}</i>"))
+            continue
+        at, made = 0, []
+        for start, word in closure.words_of(file, row):
+            one, _ = closure.resolve(file, word)
+            if one is None or one is declaration or one.key not in known:
+                continue
+            start = row.index(word, max(at, start))
+            made.append(escape(row[at:start]) + f'<a href="#{anchor(one)}">{escape(word)}</a>')
+            at = start + len(word)
+        out.append(line(row, ("".join(made) + escape(row[at:])).strip()))
+    return "".join(out)
+
+
+def sums(declarations):
+    rows = [["crate", "definitions", "lines"]]
+    for crate, (count, lines) in sorted(closure.by_crate(declarations).items(), key=lambda one: -one[1][1]):
+        rows.append([f"`{crate}`", f"{count:,}", f"{lines:,}"])
+    return html_table(rows + [["all", f"{len(declarations):,}", f"{closure.lines(declarations):,}"]], (1, 2))
+
+
+def statements():
+    """The demands: what each claims, its statement, and the name of its proof, from docs/ASSURANCE.md."""
+    for claim, statement, proof in table_after("docs/ASSURANCE.md", "## Which theorem says it")[1:]:
+        name, file = re.search(r"`([^`]+)`, `(crates/[^:`]+)", statement).groups()
+        yield claim, closure.find(f"{file}:{name}"), proof
+
+
+# ---- the run
+
+def crates():
+    """The crates in the order of crates.txt, each with what the prover's log says of it."""
+    found = []
+    for row in (ROOT / "crates.txt").read_text().splitlines():
+        if row.startswith("#") or ":" not in row:
+            continue
+        name = row.split(":")[0]
+        log = TARGET / "log" / f"{name}.out"
+        text = log.read_text(errors="replace") if log.exists() else ""
+        verdict = re.search(r"^logic=proved .*$", text, re.M)
+        seconds = re.search(rf"^rt: {name} proved \((\d+) s\)", text, re.M)
+        functions = re.search(r" functions=(\d+)", verdict.group()) if verdict else None
+        axioms = re.findall(r"^axioms .*$", text, re.M)
+        found.append((name, verdict and verdict.group(), functions and int(functions.group(1)), seconds and int(seconds.group(1)), axioms))
+    return found
+
+
+def edits():
+    """Every must-fail edit: crate, name, what is wrong, and for each fact that it must break what the log says there."""
+    for path in sorted(ROOT.glob("crates/*/must-fail/*.edit")):
+        crate, name = path.parts[-3], path.stem
+        text = path.read_text()
+        told = " ".join(text[:text.index("refutes:")].split())
+        log = TARGET / "must-fail" / crate / name / ".log"
+        rows = log.read_text(errors="replace").splitlines() if log.exists() else None
+        facts = []
+        for fact in " ".join(re.findall(r"^refutes: (.*)$", text, re.M)).split():
+            facts.append((fact, refused_at(fact, rows)))
+        yield crate, name, told, facts, rows is not None
+
+
+def refused_at(fact, rows):
+    """The first error in the fact's own file, or at its own theorem, that is not only the want of another."""
+    for row in rows or []:
+        if "was not admitted" in row or "has no `Need-" in row:
+            continue
+        file, _, name = fact.partition(":")
+        found = re.search(rf"({re.escape(file)}(?:/Proof)?\.antt):(\d+):\d+: error: `([^`]+)`: (.*)$", row)
+        if found and (not name or found.group(3) == name):
+            return found.group(2), found.group(3), found.group(4)
+        if not name and re.search(rf"^fn \S*{re.escape(fact.replace('/', '::'))}: no proof: ", row):
+            return None, "no proof", row.partition("no proof: ")[2]
+    return None
+
+
+def said():
+    """What `./test` printed: for each test of its own its lines; the commit; the last line."""
+    log = TARGET / "test.log"
+    if not log.exists():
+        return None
+    tests, current, commit = [], None, None
+    rows = log.read_text(errors="replace").splitlines()
+    for row in rows:
+        if found := re.match(r"test: commit (\S+)(.*)", row):
+            commit = found.groups()
+        elif found := re.match(r"test: begins: (.*)", row):
+            current = [found.group(1), [], None]
+            tests.append(current)
+        elif found := re.match(r"test: (passed|FAILED)(?:, (\d+) s)?: (.*)", row):
+            if current:
+                current[2] = (found.group(1), found.group(2))
+            current = None
+        elif current:
+            current[1].append(row)
+    return commit, tests, rows[-1] if rows else ""
+
+
+def wake():
+    """The words of a wake, from a program over the compiled library; or why there are none."""
+    library = TARGET / "staticlib" / "libboundary.a"
+    if not library.exists():
+        return None, "target/staticlib/libboundary.a is not there"
+    with tempfile.TemporaryDirectory() as folder:
+        program = Path(folder, "wake")
+        built = subprocess.run(["cc", "-std=c99", "-O1", "-I", ROOT / "host/include", HERE / "wake.c", library, "-o", program], capture_output=True, text=True)
+        if built.returncode:
+            return None, "page/wake.c was not built: " + built.stderr.strip()[:200]
+        run = subprocess.run([program], capture_output=True, text=True)
+        return (run.stdout, None) if run.returncode == 0 else (None, run.stderr.strip())
+
+
+def git(*words):
+    run = subprocess.run(["git", *words], cwd=ROOT, capture_output=True, text=True)
+    return run.stdout.strip() if run.returncode == 0 else ""
+
+
+# ---- the page
+
+def tile(number, text, kind=""):
+    return f"<div class=tile><b class='{kind}'>{number}</b><span>{text}</span></div>"
+
+
+def absent(text):
+    return f"<p class=faint>Not on this page: {escape(text)}.</p>"
+
+
+def main():
+    proved, wrong, run = crates(), list(edits()), said()
+    demands = list(statements())
+    every, outside = closure.closure(*[one for _, one, _ in demands])
+    known = {one.key for one in every}
+    commit, changed = git("rev-parse", "--short=12", "HEAD"), git("status", "--porcelain", "--untracked-files=no")
+    parts, sections = [], []
+
+    def section(key, title):
+        sections.append((key, title))
+        parts.append(f"<h2 id={key}>{title}</h2>")
+
+    # what was run
+    done = [one for one in proved if one[1]]
+    refused = sum(1 for _, _, _, facts, there in wrong if there and facts and all(found for _, found in facts))
+    logs = sum(1 for one in wrong if one[4])
+    assumed = sorted({axiom for one in done for axiom in one[4]})
+    tiles = [tile(f"{len(done)} of {len(proved)}", "crates proved", "good" if len(done) == len(proved) else "bad")]
+    if done:
+        tiles.append(tile(f"{sum(one[2] or 0 for one in done):,}", "functions proved equal to their contracts"))
+    if logs:
+        tiles.append(tile(f"{refused} of {len(wrong)}", "wrong edits refused at the fact that they break", "good" if refused == len(wrong) else "bad"))
+    if run:
+        tiles.append(tile(escape(run[2]), "the last line of <code>./test</code>", "good" if run[2].endswith(" 0 failed") else "bad"))
+    head = f"<p class=faint>Made from the sources at commit <code>{commit}</code>{' with files changed since' if changed else ''}"
+    if run and run[0]:
+        head += f"; the run is of commit <code>{escape(run[0][0][:12])}</code>{escape(run[0][1])}"
+    head += f". {datetime.now(timezone.utc):%d %B %Y, %H:%M} UTC.</p>"
+
+    section("promise", "What is promised")
+    promised = table_after("README.md", "## What is promised")
+    parts.append(html_table([row[:3] for row in promised]))
+
+    section("wake", "A script sleeps, and is woken at another height")
+    words, why = wake()
+    if words:
+        parts.append(f"<figure class=scroll>{drawing.picture(words)}<figcaption>The stack, from the bottom up, as a C program over the compiled library found it; "
+                     "a box is a frame, its number the index of its first register. Blue is the script; its words go to its row and come back, all moved by one distance. "
+                     "A word that differs from the moment before, or from its row when it is woken, has another colour.</figcaption></figure>")
+    else:
+        parts.append(absent("the picture, " + why))
+
+    section("demands", "The demands, as they stand in the files")
+    for number, (claim, one, proof) in enumerate(demands, 1):
+        own, names = closure.closure(one)
+        comment = " ".join(row.lstrip("- /") for row in one.comment.splitlines())
+        parts.append(f"<h3 id=s{number}>{inline(claim)}</h3><p class=place>{one.place}; proved as {inline(proof)}</p>")
+        if comment:
+            parts.append(f"<p>{inline(comment)}</p>")
+        parts.append(f"<pre>{linked(one, known)}</pre>")
+        parts.append(f"<details><summary>It rests on {len(own) - 1:,} definitions, {closure.lines(own):,} lines with its own</summary><div>{sums(own)}<p>"
+                     + ", ".join(f'<a href="#{anchor(d)}">{escape(d.name)}</a>' for d in own[1:])
+                     + f"</p><p class=faint>And on the toolchain's libraries: {', '.join(f'<code>{escape(name)}</code>' for name in sorted(names))}.</p></div></details>")
+
+    section("axioms", "What is assumed")
+    if done:
+        rows = [["crate", "assumed"]] + [[f"`{name}`", "; ".join(axioms)] for name, _, _, _, axioms in proved if axioms]
+        none = [name for name, verdict, _, _, axioms in proved if verdict and not axioms]
+        parts.append(f"<p>The prover's log names the axioms that a program or a library reaches. {len(none)} crates of {len(done)} reach none.</p>")
+        if len(rows) > 1:
+            parts.append(html_table(rows))
+        parts.append("<p class=faint>The verdict's line, as the log has it:</p><pre>" + "\n".join(sorted({escape(re.sub(r"functions=\d+ (axioms=\d+ )?", "", one[1])) for one in done})) + "</pre>")
+    else:
+        parts.append(absent("the axioms, as target/log is not there"))
+
+    section("calls", "The calls")
+    parts.append(html_table(table_after("docs/THEOREMS.md", "# Each call")))
+
+    section("wrong", "Wrong edits, and what refused them")
+    if logs:
+        parts.append(f"<p>{len(wrong)} edits of code, definitions and statements; each names the proofs that it must break. The fact is the one in the named proof that does not hold any more.</p>")
+        by = {}
+        for one in wrong:
+            by.setdefault(one[0], []).append(one)
+        for crate, found in by.items():
+            body = []
+            for _, name, told, facts, there in found:
+                cells = "".join(f"<tr><td><code>{escape(fact)}</code></td><td>" + (f"<code>{escape(hit[1])}</code>{f', line {hit[0]}' if hit[0] else ''}: <span class=faint>{escape(hit[2][:180])}</span>" if hit else
+                                "<span class=bad>not shown by the log</span>" if there else "<span class=faint>no log</span>") + "</td></tr>" for fact, hit in facts)
+                body.append(f"<h3>{escape(name)}</h3><p>{inline(told)}</p><table class=facts><thead><tr><th>proof</th><th>fact that refused it</th></tr></thead><tbody>{cells}</tbody></table>")
+            parts.append(f"<details><summary><code>{crate}</code>: {len(found)} edits</summary><div>{''.join(body)}</div></details>")
+    else:
+        parts.append(absent(f"what refused the {len(wrong)} wrong edits, as target/must-fail is not there"))
+
+    section("judges", "What the judges counted")
+    if run and run[1]:
+        for name, rows, verdict in run[1]:
+            state = f"<span class={'good' if verdict and verdict[0] == 'passed' else 'bad'}>{verdict[0] if verdict else 'not ended'}</span>{f', {verdict[1]} s' if verdict and verdict[1] else ''}"
+            shown = rows if len(rows) <= 60 else rows[:20] + [f".. {len(rows) - 50} lines .."] + rows[-30:]
+            parts.append(f"<details><summary><code>{escape(name)}</code>: {state}</summary><div><pre>{escape(chr(10).join(shown))}</pre></div></details>")
+    else:
+        parts.append(absent("what the judges counted, as target/test.log is not there: ./test leaves it"))
+
+    section("times", "Times")
+    timed = [one for one in proved if one[3] is not None]
+    if timed:
+        most = max(one[3] for one in timed)
+        rows = "".join(f"<tr><td><code>{name}</code></td><td class=n>{functions or ''}</td><td class=n>{seconds} s</td><td style='width:50%'><span class=bar style='width:{100 * seconds / most:.1f}%'></span></td></tr>"
+                       for name, _, functions, seconds, _ in timed)
+        parts.append(f"<table><thead><tr><th>crate</th><th class=n>functions</th><th class=n>proved in</th><th></th></tr></thead><tbody>{rows}"
+                     f"<tr><td>all</td><td class=n>{sum(one[2] or 0 for one in timed):,}</td><td class=n>{sum(one[3] for one in timed):,} s</td><td></td></tr></tbody></table>")
+    else:
+        parts.append(absent("the times, as target/log is not there"))
+
+    section("definitions", "The definitions")
+    parts.append(f"<p>All {len(every):,} that the demands rest on, {closure.lines(every):,} lines, by file. Each name is a link.</p>")
+    by = {}
+    for one in sorted(every, key=lambda d: (str(d.file), d.line)):
+        by.setdefault(one.file, []).append(one)
+    for file, found in by.items():
+        body = "".join(f"<div class=definition id={anchor(one)}><span class=place>{one.place}</span><pre>"
+                       + "".join(line(row, f"<i>{escape(row)}</i>") for row in one.comment.splitlines()) + f"{linked(one, known)}</pre></div>" for one in found)
+        parts.append(f"<details class=file><summary><code>{file}</code>, {len(found)} definitions, {closure.lines(found)} lines</summary><div>{body}</div></details>")
+
+    bar = "".join(f'<a href="#{key}">{title}</a>' for key, title in sections)
+    page = f"""<!DOCTYPE html>
+<html lang=en><head><meta charset=utf-8><meta name=viewport content="width=device-width, initial-scale=1"><title>Humdelzi: evidence</title>
+<style>{(HERE / 'style.css').read_text()}</style></head>
+<body><header><h1>How it is known that a woken script gets its own registers</h1>{head}<div class=tiles>{''.join(tiles)}</div></header>
+<nav><div>{bar}</div></nav><main>{chr(10).join(parts)}<p class=faint style="margin:3rem 0">Made by <code>./evidence</code>.</p></main>
+<script>
+function show() {{ const it = location.hash && document.getElementById(location.hash.slice(1)); for (let d = it && it.closest('details'); d; d = d.parentElement.closest('details')) d.open = true; if (it) it.scrollIntoView(); }}
+addEventListener('hashchange', show); show();
+</script></body></html>
+"""
+    TARGET.mkdir(exist_ok=True)
+    (TARGET / "evidence.html").write_text(page)
+    print(f"evidence: target/evidence.html, {len(page) // 1024} kB: {len(done)} of {len(proved)} crates proved, {refused} of {len(wrong)} wrong edits refused in the logs that are there ({logs}),"
+          f" {len(every)} definitions, {'a run' if run else 'no run'} of ./test")
+
+
+main()

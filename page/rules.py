@@ -1,0 +1,197 @@
+#!/usr/bin/env python3
+"""Checks docs/RULES.md and docs/ASSURANCE.md against the sources, so that neither can rot:
+each file and name that a row of RULES names is there; a sentence that is marked as quoted is quoted in a comment of its definition's file;
+every quotation in a comment of crates/ is 01's, or is listed as another's; the places and counts of ASSURANCE are those of today.
+README's layout is crates.txt's. `page/rules.py mend` writes places and counts into ASSURANCE."""
+import re
+import sys
+from pathlib import Path
+
+sys.dont_write_bytecode = True
+sys.path.insert(0, str(Path(__file__).resolve().parent))
+import closure
+
+ROOT = closure.ROOT
+RULES = ROOT / "docs/RULES.md"
+ASSURANCE = ROOT / "docs/ASSURANCE.md"
+failed = []
+
+
+def say(text):
+    failed.append(text)
+    print("rules: " + text)
+
+
+def plain(text):
+    """The words of a text, without marks."""
+    return re.findall(r"[^\s`\"()\[\]{},;:.*?!]+", text.lower().replace("\\_", "_"))
+
+
+def rows_of(page):
+    """The rows of RULES: section, number, sentence, quoted or not, the two cells with names; a heading within a section has number 0."""
+    section = ""
+    for row in page.read_text().splitlines():
+        if row.startswith("## "):
+            section = row[3:]
+        if row.startswith("### "):
+            yield section, 0, row[4:], False, ""
+        cells = [one.strip() for one in row.strip("|").split(" | ")]
+        if row.startswith("| ") and cells[0].strip().isdigit():
+            yield section, int(cells[0]), cells[1], cells[2] == "”", " ".join(cells[3:])
+
+
+def path_of(name):
+    return Path("crates", name) if "/" in name else Path("crates/model/specs", name)
+
+
+def has(path, name):
+    text = (ROOT / path).read_text()
+    if path.suffix == ".rt":
+        return re.search(rf"pub(?:\(crate\))? (?:fn|struct|enum) {re.escape(name)}\b", text)
+    return re.search(rf"^\s*(?:(?:unfoldable|abbrev|pub)\s+)*(?:record |data )?{re.escape(name)} ", text, re.M)
+
+
+def comments_of(path):
+    """The comments of a file, lines that stand together as one: line and text."""
+    mark = "--" if path.suffix == ".antt" else "//"
+    found, start = [], 0
+    for number, row in enumerate(path.read_text().splitlines() + [""], 1):
+        row = row.strip()
+        if row.startswith(mark):
+            start = start or number
+            found.append(row[len(mark):].strip())
+        elif found:
+            yield start, " ".join(found)
+            found, start = [], 0
+
+
+def in_order(words, text):
+    """Whether the words stand in the text in this order, each at most six words after the last."""
+    for start in [at for at, one in enumerate(text) if one == words[0]]:
+        at = start
+        for word in words[1:]:
+            after = text[at + 1:at + 8]
+            if word not in after:
+                break
+            at += 1 + after.index(word)
+        else:
+            return True
+    return False
+
+
+def shares(quotation, sentence):
+    """Whether a quotation has four words in a row of a sentence, or all of a shorter one."""
+    few = min(4, len(sentence), len(quotation))
+    runs = {tuple(sentence[at:at + few]) for at in range(len(sentence) - few + 1)}
+    return any(tuple(quotation[at:at + few]) in runs for at in range(len(quotation) - few + 1))
+
+
+def check_rules():
+    names = quoted = 0
+    sections, quotations = {}, {}
+    for path in sorted((ROOT / "crates").rglob("*")):
+        if path.suffix in (".antt", ".rt"):
+            for line, text in comments_of(path):
+                for one in re.findall(r'"([^"]+)"', text):
+                    quotations.setdefault(path.relative_to(ROOT), []).append((line, one))
+    expected = 1
+    for section, number, sentence, marked, cells in rows_of(RULES):
+        sections.setdefault(section, plain(section)).extend(plain(sentence))
+        if number == 0:
+            continue
+        if number != expected:
+            say(f"docs/RULES.md: {number} stands where {expected} should")
+        expected = number + 1
+        places = re.findall(r"`([A-Za-z0-9_/]+\.(?:antt|rt)): ([A-Za-z0-9_-]+)`", cells)
+        for file, name in places:
+            names += 1
+            path = path_of(file)
+            if not (ROOT / path).exists() or not has(path, name):
+                say(f"docs/RULES.md, {number}: no {name} in {path}")
+        if marked:
+            quoted += 1
+            files = [path_of(file) for file, _ in places]
+            if not any(shares(plain(one), plain(sentence)) for file in files for _, one in quotations.get(file, [])):
+                say(f"docs/RULES.md, {number}: is quoted no more in {', '.join(map(str, files))}")
+    others = [plain(one) for one in re.findall(r'^- "([^"]+)"', RULES.read_text(), re.M)]
+    count = 0
+    for path, found in quotations.items():
+        for line, one in found:
+            count += 1
+            parts = [words for words in map(plain, re.split(r"\.\.|\[[^\]]*\]", one)) if words]
+            if plain(one) not in others and not any(all(in_order(words, text) for words in parts) for text in sections.values()):
+                say(f"{path}:{line}: not 01's: \"{one}\"")
+    print(f"rules: {expected - 1} sentences, {names} names, {quoted} quoted at their definition; {count} quotations in crates/")
+    return expected > 150 and names > 250
+
+
+def check_assurance(mend):
+    """A place is `NAME`, `crates/FILE:LINE`; a sum is a row of a table: statements, lines, declarations. `mend` writes what is so today."""
+    text = now = ASSURANCE.read_text()
+    places = set(re.findall(r"`([A-Za-z0-9_-]+)`, `(crates/[A-Za-z0-9_/]+\.(?:antt|rt)):(\d+)`", text))
+    for name, file, line in places:
+        rows = (ROOT / file).read_text().splitlines() if (ROOT / file).exists() else []
+        head = re.compile(rf"(?:(?:unfoldable|abbrev|pub|extern \"C\")\s+)*(?:record |data |fn |struct |enum )?{re.escape(name)}[ (:]")
+        here = [at for at, row in enumerate(rows, 1) if head.match(row)][:1]
+        if mend and here:
+            now = now.replace(f"`{name}`, `{file}:{line}`", f"`{name}`, `{file}:{here[0]}`")
+        elif here != [int(line)]:
+            say(f"docs/ASSURANCE.md: {name} stands at {file}:{here[0] if here else '(nowhere)'}, not at {line}")
+    sums = re.findall(r"^(\|[^|]*\| (`[^|]+`) \|) ([0-9,]+) \| ([0-9,]+) \|$", text, re.M)
+    for row, statements, lines, count in sums:
+        found, _ = closure.closure(*map(closure.find, re.findall(r"`([^`]+)`", statements)))
+        today = f"{closure.lines(found):,} | {len(found):,}"
+        if mend:
+            now = now.replace(f"{row} {lines} | {count} |", f"{row} {today} |")
+        elif today != f"{lines} | {count}":
+            say(f"docs/ASSURANCE.md: {statements}: {today}, not {lines} | {count}")
+    if now != text:
+        ASSURANCE.write_text(now)
+    print(f"rules: {len(places)} places and {len(sums)} sums of ASSURANCE")
+    return len(places) > 8 and len(sums) > 3
+
+
+def check_layout():
+    """README's drawing of who may use whom is crates.txt's, and its table has every crate."""
+    text = (ROOT / "README.md").read_text()
+    text = text[text.index("## Layout"):]
+    uses = {}
+    for row in (ROOT / "crates.txt").read_text().splitlines():
+        if ":" in row and not row.startswith("#"):
+            uses[row.split(":")[0]] = set(row.split(":")[1].split())
+    drawn = {}
+    for row in text.split("```")[1].splitlines():
+        for chain in re.split(r"\s{2,}", row[15:].strip()):
+            links = [one.split(", ") for one in chain.strip().split(" → ")]
+            for above, below in zip(links, links[1:]):
+                for one in above:
+                    drawn.setdefault(one, set()).update(below)
+
+    def all_of(one):
+        return set().union(*({below} | all_of(below) for below in drawn.get(one, ())))
+
+    for crate, wanted in uses.items():
+        found, wanted = all_of(crate), wanted & uses.keys()
+        if found != wanted:
+            say(f"README.md, Layout: {crate} may use {', '.join(sorted(wanted ^ found))}: drawn otherwise than crates.txt says")
+        if f"| `{crate}` |" not in text:
+            say(f"README.md, Layout: no row for {crate}")
+    print(f"rules: {len(uses)} crates of the layout")
+
+
+def check_names(page):
+    """Every `FILE: name` of a page is there."""
+    places = re.findall(r"`([A-Za-z0-9_/]+\.(?:antt|rt)): ([A-Za-z0-9_-]+)`", (ROOT / page).read_text())
+    for file, name in places:
+        if not (ROOT / path_of(file)).exists() or not has(path_of(file), name):
+            say(f"{page}: no {name} in {path_of(file)}")
+    print(f"rules: {len(places)} names of {page}")
+
+
+check_layout()
+check_names("docs/PROVING.md")
+if not check_rules():
+    say("docs/RULES.md has lost its rows")
+if not check_assurance(sys.argv[1:] == ["mend"]):
+    say("docs/ASSURANCE.md has lost its places or its sums")
+sys.exit(1 if failed else 0)
