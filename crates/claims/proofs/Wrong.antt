@@ -1,12 +1,12 @@
 -- The machines that are wrong in one thing have not what is promised: at the split that Witness.antt shows as lists a field of a frame differs,
 -- or a call tells it.
-use Prim.Native.Nat.{ℕ, suc, _+_, _-_}
+use Prim.Native.Nat.{ℕ, _+_, _-_}
 use native.Mathlib.Omega.{arith}
 use mathlib.Core.Path.{_≡_, refl, sym, ap, _∙_, subst}
 use mathlib.Core.Bool.{Bool, true, false, not, _&&_}
 use mathlib.Core.List.{List, [], _∷_, _++_, map, append-assoc}
 use mathlib.Core.Option.{Option, none, some}
-use lib.ListN.{length, take, drop, length-append}
+use lib.ListN.{length, take, length-append}
 use lib.Seq.{take-append-seam}
 use Rattle.lists.specs.Pick.{pick}
 use Rattle.heap.specs.declared.fault.Fault.{Fault}
@@ -22,7 +22,7 @@ use Rattle.model.specs.declared.machine.Frame.{Frame}
 use Rattle.model.specs.declared.machine.Fuel.{Fuel}
 use Rattle.model.specs.declared.call.OptPc.{OptPc}
 use Rattle.model.specs.declared.call.Op.{Op}
-use Rattle.claims.specs.Engine.{View, run}
+use Rattle.claims.specs.Engine.{Seen, View, run, code}
 use Rattle.claims.specs.Says.{Sent, nothing, gets, closes, Entry, doing, whom}
 use Rattle.claims.specs.Held.{at, Moved, AllMoved, pcOf, stepped, Restored}
 use Rattle.claims.specs.Delivery.{recorded}
@@ -34,7 +34,7 @@ use Rattle.claims.specs.Steps.{viewOf, opOf}
 use Rattle.claims.specs.Story as Story
 use Rattle.claims.specs.Story.{wide, c, held}
 use Rattle.claims.specs.Witness.{nth, between, frame}
-use Rattle.claims.specs.Wrong.{bent, onTop, tail, ofZero, discards, bare, atOne, further, higher, idle, two, failing, forgetting, sparing, once, yielding, lostIn, excusing, closing, rewriting, fuelled, showing, Wrong}
+use Rattle.claims.specs.Wrong.{bent, onTop, tail, ofZero, discards, bare, atOne, further, higher, idle, two, failing, forgetting, sparing, once, yielding, lostIn, excusing, closing, rewriting, aborting, fuelled, showing, Wrong}
 use Rattle.claims.proofs.Premises.{waits-true}
 use Rattle.claims.proofs.Cores.{no-both}
 use Rattle.claims.proofs.Promise.{sound-healthy}
@@ -333,6 +333,23 @@ result-changes v =
     let q : _≡_ {A = ℕ} 5 0 = ap recorded (v .still c died (asCall (Op.CoroCurrent 9 1) current-typed) (λ r. no-set-up (r .sets-up)) (λ h. no-both (h .after) refl) refl) in
     absurd (omega (arith, q))
 
+-- c is there, and has not begun
+waiting : World
+waiting = M.runOps (fresh wide) (Op.Grant 1000 ∷ Op.HostCall 0 ∷ Op.CoroNew 1 0 0 0 ∷ [])
+
+stateIn : Option Seen → ℕ
+stateIn none = 9
+stateIn (some x) = code (x .state)
+
+aborted : Events (aborting c) → ⊥
+unfolding computed waiting stateIn
+aborted v =
+    let q : _≡_ {A = ℕ} 5 0 = ap stateIn (v .unbegun c waiting (asCall (Op.CoroCurrent 9 1) current-typed) (λ r. no-set-up (r .sets-up)) (λ h. no-both (h .after) refl) refl (λ e. no-one e)) in
+    absurd (omega (arith, q))
+  where
+    no-one : _≡_ {A = Option ℕ} none (some c) → ⊥
+    no-one e = let z : _≡_ {A = ℕ} 0 1 = cc in absurd (omega arith)
+
 -- ---- set-ups and looks
 
 fuel-stays : SetUps fuelled → ⊥
@@ -364,6 +381,7 @@ wrong =
       excused = excused;
       close-pays = close-pays;
       result-changes = result-changes;
+      aborted = aborted;
       fuel-stays = fuel-stays;
       all-shown = all-shown;
     }
