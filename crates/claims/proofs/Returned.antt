@@ -164,7 +164,10 @@ ended-has w h c {o} (e-returns u f fs a chain t r n) q = go (isRunning (coreAt w
     its : a .coro ≡ c
     its = some-one q
 
-    ends : Going (u .cores (a .coro) .state) → (coreAt (o .world) (a .coro) ≡ S.over CoroState.Returned (coreAt (o .world) (a .coro) .seen) (u .cores (a .coro))) ⊎ ((isCreated (u .cores (a .coro) .state) ≡ true) × (coreAt (o .world) (a .coro) ≡ u .cores (a .coro))) → isReturned (coreAt (o .world) c .state) ≡ true
+    left : Seat
+    left = coreAt (o .world) (a .coro)
+
+    ends : Going (u .cores (a .coro) .state) → (left ≡ S.over CoroState.Returned (left .seen) (u .cores (a .coro))) ⊎ ((isCreated (u .cores (a .coro) .state) ≡ true) × (left ≡ u .cores (a .coro))) → isReturned (coreAt (o .world) c .state) ≡ true
     ends g (inl x) = ap (λ y. isReturned (coreAt (o .world) y .state)) (sym its) ∙ ap (λ y. isReturned (y .state)) x
     ends g (inr x) = no-both (x .0) (going-born g)
 
