@@ -190,7 +190,11 @@ Firm c k b = isCreated (k .state) ≡ true → (k .seen ≡ none) ⊎ (b ≡ m-u
 module _ (c : ℕ) (k : Seat) where
   stays : {b : Mode} {l m : Seat} → Firm c k b → Kept b c l m → l ≡ k → m ≡ k
   stays f (kept e) h = e ∙ h
-  stays {b} {l} f (unborn a i m n) h = absurd (f (ap (λ x. isCreated (x .state)) (sym h) ∙ a) (subst (λ (x : Seat). (x .seen ≡ none) ⊎ (b ≡ m-undoing c)) h n))
+  stays {b} {l} {m = j} f (unborn a i m n) h = absurd (f (ap (λ x. isCreated (x .state)) (sym h) ∙ a) (of n))
+    where
+      of : ((l .seen ≡ none) × (isCreated (j .state) ≡ true)) ⊎ (b ≡ m-undoing c) → (k .seen ≡ none) ⊎ (b ≡ m-undoing c)
+      of (inl x) = inl (ap (λ (y : Seat). y .seen) (sym h) ∙ x .0)
+      of (inr x) = inr x
 
   keep-worked : {b : Mode} {v z : View} → Firm c k b → Worked b v z → Apart c (v .chain) → v .cores c ≡ k → Apart c (z .chain) × (z .cores c ≡ k)
   keep-worked f done n h = (n, h)

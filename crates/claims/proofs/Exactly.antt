@@ -22,6 +22,7 @@ use Rattle.claims.proofs.Losses.{fails-by, failed-by}
 use Rattle.claims.proofs.Values.{integer, word}
 use Rattle.claims.proofs.Closing.{closing, yielded, awaited, fixed}
 use Rattle.claims.proofs.Still.{still, unbegun}
+use Rattle.claims.proofs.States.{runs-on, comes}
 
 -- a call that lets one return enters nobody, and suspends nobody
 not-whom : (v : View) (d : Does) (n u : ℕ) → returned v d n ≡ some u → whomBy v d ≡ none
@@ -60,6 +61,8 @@ events =
       awaited = awaited;
       still = still;
       unbegun = unbegun;
+      runs-on = runs-on;
+      comes = comes;
       fixed = fixed;
       one-switch = λ c u w k h g. exactly w k c .one-switch u (enters-old c w k h) (suspends-old u w k g);
       no-return = λ c u w k h g. no-entry (not-whom (viewOf w) (doing (viewOf w) (opOf k)) (numberOf (step w k .answer)) u (returns u w k g)) (Restores.entered c w k h .by .says);

@@ -37,6 +37,7 @@ pub mod Returned
 pub mod Values
 pub mod Closing
 pub mod Still
+pub mod States
 pub mod Exactly
 pub mod Premises
 pub mod Witness

@@ -36,13 +36,21 @@ use Rattle.claims.proofs.Held.{Seat, coreIn, coreAt}
 use Rattle.claims.proofs.Cores.{no-both, busy, Mode, m-undoing, Kept, kept, unborn, objectIn, push-cases, set-mine, set-other, set-iter}
 use Rattle.claims.proofs.Shape.{View, view, over, Ends, Worked, quiet}
 
--- v is w with objects added, none of which runs or sleeps
+new-idle : (s : CoroState) → isCreated s ≡ true → busy s ≡ false
+new-idle CoroState.Created e = refl
+new-idle CoroState.Running e = no-both e refl
+new-idle CoroState.Yielded e = no-both e refl
+new-idle CoroState.Awaiting e = no-both e refl
+new-idle CoroState.Returned e = refl
+new-idle CoroState.Failed e = refl
+
+-- v is w with objects added, of coroutines new ones only
 pub record Grown (w v : World) : Type 0 where
   pub setup : v .setup ≡ w .setup
   pub stack : v .stack ≡ w .stack
   pub frames : v .frames ≡ w .frames
   pub chain : v .chain ≡ w .chain
-  pub finds : (c : ℕ) → (coro v c ≡ coro w c) ⊎ ((coro w c ≡ Absent) × (busy (coreAt v c .state) ≡ false) × (coreAt v c .closing ≡ none))
+  pub finds : (c : ℕ) → (coro v c ≡ coro w c) ⊎ ((coro w c ≡ Absent) × (isCreated (coreAt v c .state) ≡ true) × (coreAt v c .closing ≡ none))
 
 pub grown-none : {w : World} → Grown w w
 grown-none = record { setup = refl; stack = refl; frames = refl; chain = refl; finds = λ c. inl refl }
@@ -50,23 +58,23 @@ grown-none = record { setup = refl; stack = refl; frames = refl; chain = refl; f
 pub grown-kept : {b : Mode} {w v : World} → Grown w v → (c : ℕ) → Kept b c (coreAt w c) (coreAt v c)
 grown-kept {b} {w} {v} g c = go (g .finds c)
   where
-    go : (coro v c ≡ coro w c) ⊎ ((coro w c ≡ Absent) × (busy (coreAt v c .state) ≡ false) × (coreAt v c .closing ≡ none)) → Kept b c (coreAt w c) (coreAt v c)
+    go : (coro v c ≡ coro w c) ⊎ ((coro w c ≡ Absent) × (isCreated (coreAt v c .state) ≡ true) × (coreAt v c .closing ≡ none)) → Kept b c (coreAt w c) (coreAt v c)
     go (inl e) = kept (ap coreIn e)
-    go (inr e) = unborn (ap (λ x. isCreated (coreIn x .state)) (e .0)) (e .1) (λ _. e .2 ∙ sym (ap (λ x. coreIn x .closing) (e .0))) (inl (ap (λ x. coreIn x .seen) (e .0)))
+    go (inr e) = unborn (ap (λ x. isCreated (coreIn x .state)) (e .0)) (new-idle (coreAt v c .state) (e .1)) (λ _. e .2 ∙ sym (ap (λ x. coreIn x .closing) (e .0))) (inl (ap (λ x. coreIn x .seen) (e .0), e .1))
 
 pub grown-worked : {b : Mode} {w v : World} → Grown w v → {z : View} → Worked b (view v) z → Worked b (view w) z
 grown-worked {b} {w} {v} g {z} t = quiet (coreAt v) (grown-kept g) (subst (λ x. Worked b x z) (λ i. record { setup = g .setup i; stack = g .stack i; frames = g .frames i; chain = g .chain i; cores = coreAt v }) t)
 
 -- ---- alloc and what calls it
 
-pub alloc-grown : (bytes : ℕ) (o : Object) (w : World) → busy (coreIn (asCoro o) .state) ≡ false → coreIn (asCoro o) .closing ≡ none → Grown w (alloc bytes o w .world)
+pub alloc-grown : (bytes : ℕ) (o : Object) (w : World) → isCreated (coreIn (asCoro o) .state) ≡ true → coreIn (asCoro o) .closing ≡ none → Grown w (alloc bytes o w .world)
 unfolding alloc pick
 alloc-grown bytes o w b m = go (not (fits w bytes)) (slotsFull w)
   where
     found : (c : ℕ) → (objectIn (pushObject (w .slots) o) c ≡ objectIn (w .slots) c) ⊎ ((objectIn (w .slots) c ≡ Object.Empty) × (objectIn (pushObject (w .slots) o) c ≡ o))
-        → (asCoro (objectIn (pushObject (w .slots) o) c) ≡ coro w c) ⊎ ((coro w c ≡ Absent) × (busy (coreIn (asCoro (objectIn (pushObject (w .slots) o) c)) .state) ≡ false) × (coreIn (asCoro (objectIn (pushObject (w .slots) o) c)) .closing ≡ none))
+        → (asCoro (objectIn (pushObject (w .slots) o) c) ≡ coro w c) ⊎ ((coro w c ≡ Absent) × (isCreated (coreIn (asCoro (objectIn (pushObject (w .slots) o) c)) .state) ≡ true) × (coreIn (asCoro (objectIn (pushObject (w .slots) o) c)) .closing ≡ none))
     found c (inl e) = inl (ap asCoro e)
-    found c (inr e) = inr (ap asCoro (e .0), ap (λ x. busy (coreIn (asCoro x) .state)) (e .1) ∙ b, ap (λ x. coreIn (asCoro x) .closing) (e .1) ∙ m)
+    found c (inr e) = inr (ap asCoro (e .0), ap (λ x. isCreated (coreIn (asCoro x) .state)) (e .1) ∙ b, ap (λ x. coreIn (asCoro x) .closing) (e .1) ∙ m)
 
     go : (x y : Bool) → Grown w (pick x (refuse w Fault.OutOfMemory) (pick y (refuse w Fault.Full) (after (withUsed (satAdd (w .used) bytes) (withSlots (pushObject (w .slots) o) w)) (Made.Word (nextWord (w .slots))))) .world)
     go true y = grown-none

@@ -80,12 +80,12 @@ is-new w c h = go (coro w c) h
     go (Is k r) q = new-run (k .state) q
 
 -- whom a mode ends, in the claim's words
-abbrev undoneBy : Mode → Option ℕ
+abbrev pub undoneBy : Mode → Option ℕ
 undoneBy m-plain = none
 undoneBy m-ending = none
 undoneBy (m-undoing c) = some c
 
-alike-undone : {a : E.Act} {d : Does} → Alike a d → undone d ≡ undoneBy (modeOf a)
+pub alike-undone : {a : E.Act} {d : Does} → Alike a d → undone d ≡ undoneBy (modeOf a)
 alike-undone (l-at pc ok (E.enters c d nothing may)) = refl
 alike-undone (l-at pc ok (E.enters c d (gets x) may)) = refl
 alike-undone (l-at pc ok (E.enters c d (closes x) may)) = refl

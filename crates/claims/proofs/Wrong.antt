@@ -3,6 +3,7 @@
 use Prim.Native.Nat.{ℕ, _+_, _-_}
 use native.Mathlib.Omega.{arith}
 use mathlib.Core.Path.{_≡_, refl, sym, ap, _∙_, subst}
+use mathlib.Core.Logic.{_⊎_, inl, inr}
 use mathlib.Core.Bool.{Bool, true, false, not, _&&_}
 use mathlib.Core.List.{List, [], _∷_, _++_, map, append-assoc}
 use mathlib.Core.Option.{Option, none, some}
@@ -22,7 +23,7 @@ use Rattle.model.specs.declared.machine.Frame.{Frame}
 use Rattle.model.specs.declared.machine.Fuel.{Fuel}
 use Rattle.model.specs.declared.call.OptPc.{OptPc}
 use Rattle.model.specs.declared.call.Op.{Op}
-use Rattle.claims.specs.Engine.{Seen, View, run, code}
+use Rattle.claims.specs.Engine.{Seen, View, run, code, isNew, is}
 use Rattle.claims.specs.Says.{Sent, nothing, gets, closes, Entry, doing, whom}
 use Rattle.claims.specs.Held.{at, Moved, AllMoved, pcOf, stepped, Restored}
 use Rattle.claims.specs.Delivery.{recorded}
@@ -34,7 +35,7 @@ use Rattle.claims.specs.Steps.{viewOf, opOf}
 use Rattle.claims.specs.Story as Story
 use Rattle.claims.specs.Story.{wide, c, held}
 use Rattle.claims.specs.Witness.{nth, between, frame}
-use Rattle.claims.specs.Wrong.{bent, onTop, tail, ofZero, discards, bare, atOne, further, higher, idle, two, failing, forgetting, sparing, once, yielding, lostIn, excusing, closing, rewriting, aborting, fuelled, showing, Wrong}
+use Rattle.claims.specs.Wrong.{bent, onTop, tail, ofZero, discards, bare, atOne, further, higher, idle, two, failing, forgetting, sparing, once, yielding, lostIn, excusing, closing, rewriting, aborting, renewing, stillborn, fuelled, showing, Wrong}
 use Rattle.claims.proofs.Premises.{waits-true}
 use Rattle.claims.proofs.Cores.{no-both}
 use Rattle.claims.proofs.Promise.{sound-healthy}
@@ -350,6 +351,32 @@ aborted v =
     no-one : _≡_ {A = Option ℕ} none (some c) → ⊥
     no-one e = let z : _≡_ {A = ℕ} 0 1 = cc in absurd (omega arith)
 
+renewed : Events (renewing c) → ⊥
+unfolding computed begun
+renewed v = no-both (v .runs-on c begun (asCall (Op.CoroCurrent 9 1) current-typed) (λ r. no-set-up (r .sets-up)) refl (λ h. no-both (h .after) refl) (λ h. no-both (h .after) refl) (λ h. no-both (h .after) refl)) refl
+
+-- c is not there yet
+called : World
+called = M.runOps (fresh wide) (Op.Grant 1000 ∷ Op.HostCall 0 ∷ [])
+
+new-typed : typed (Op.CoroNew 1 0 0 0) ≡ true
+unfolding typed
+new-typed = refl
+
+comes-failed : Events (stillborn c) → ⊥
+unfolding computed called stateIn
+comes-failed v = go (v .comes c called (asCall (Op.CoroNew 1 0 0 0) new-typed) (λ e. no-one e) refl)
+  where
+    no-one : _≡_ {A = Option ℕ} none (some c) → ⊥
+    no-one e = let z : _≡_ {A = ℕ} 0 1 = cc in absurd (omega arith)
+
+    z : World
+    z = stillborn c .next called (asCall (Op.CoroNew 1 0 0 0) new-typed)
+
+    go : (viewOf z .coro c ≡ none) ⊎ (is (viewOf z) isNew c ≡ true) → ⊥
+    go (inl e) = let q : _≡_ {A = ℕ} 5 9 = ap stateIn e in absurd (omega (arith, q))
+    go (inr e) = no-both e refl
+
 -- ---- set-ups and looks
 
 fuel-stays : SetUps fuelled → ⊥
@@ -382,6 +409,8 @@ wrong =
       close-pays = close-pays;
       result-changes = result-changes;
       aborted = aborted;
+      renewed = renewed;
+      comes-failed = comes-failed;
       fuel-stays = fuel-stays;
       all-shown = all-shown;
     }

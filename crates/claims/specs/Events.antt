@@ -2,6 +2,7 @@
 -- call. So an engine that refuses what 01 accepts, or makes of a return a failure, has not this.
 use Prim.Native.Nat.{ℕ}
 use mathlib.Core.Path.{_≡_}
+use mathlib.Core.Logic.{_⊎_}
 use mathlib.Core.Bool.{Bool, true, false, not, _&&_, _||_}
 use mathlib.Core.List.{List, [], _∷_}
 use mathlib.Core.Option.{Option, none, some}
@@ -245,6 +246,10 @@ pub record Events (e : Engine) : Type 0 where
   -- and so is one that has not begun, unless it is closed or a word is thrown into it
   pub unbegun : (c : ℕ) (s : e .State) (k : e .Call) → (Restarts e s k → ⊥) → (Enters e c s k → ⊥) → is (e .view s) isNew c ≡ true → (undone (doing (e .view s) (e .op k)) ≡ some c → ⊥)
       → e .view (e .next s k) .coro c ≡ e .view s .coro c
+  -- who runs runs on, unless it is suspended, returns or fails; and who comes has not begun
+  pub runs-on : (c : ℕ) (s : e .State) (k : e .Call) → (Restarts e s k → ⊥) → is (e .view s) runs c ≡ true → (Suspends e c s k → ⊥) → (Returns e c s k → ⊥) → (Fails e c s k → ⊥) → is (e .view (e .next s k)) runs c ≡ true
+  pub comes : (c : ℕ) (s : e .State) (k : e .Call) → (undone (doing (e .view s) (e .op k)) ≡ some c → ⊥) → e .view s .coro c ≡ none
+      → let z = e .view (e .next s k) in (z .coro c ≡ none) ⊎ (is z isNew c ≡ true)
   pub fixed : (s : e .State) (k : e .Call) → (Restarts e s k → ⊥) → Fixed (e .view s) (e .view (e .next s k))
   -- one a call
   pub one-switch : (c u : ℕ) (s : e .State) (k : e .Call) → Enters e c s k → Suspends e u s k → ⊥
