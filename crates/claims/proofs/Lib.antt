@@ -43,4 +43,5 @@ pub mod Premises
 pub mod Witness
 pub mod Roomy
 pub mod Promise
+pub mod WrongEvents
 pub mod Wrong
