@@ -247,14 +247,19 @@ def main():
 
     section("axioms", "What is assumed")
     if done:
-        rows = [["crate", "assumed"]] + [[f"`{name}`", "; ".join(axioms)] for name, _, _, _, axioms in proved if axioms]
-        none = [name for name, verdict, _, _, axioms in proved if verdict and not axioms]
-        parts.append(f"<p>The prover's log names the axioms that a program or a library reaches. {len(none)} crates of {len(done)} reach none.</p>")
+        rows = [["", "assumed"]] + [[f"`{name}`", "; ".join(axioms)] for name, _, _, _, axioms in proved if axioms]
+        report = TARGET / "staticlib" / "report"
+        library = report.read_text() if report.exists() else ""
+        if verdict := re.search(r"^logic=proved .*$", library, re.M):
+            rows.append(["the static library", "; ".join(re.findall(r"^axioms .*$", library, re.M)) or "nothing: `" + verdict.group() + "`"])
+        none = [name for name, verdict, _, _, axioms in proved if verdict and not axioms and "foreign=" not in verdict]
+        parts.append("<p>The prover assumes nothing but the contracts of functions that are not Rattle's. A crate's log names those that it declares (<code>foreign=</code>), a program's and a static "
+                     f"library's those that it reaches (<code>axioms</code>). {len(none)} crates of {len(done)} have none.</p>")
         if len(rows) > 1:
             parts.append(html_table(rows))
-        parts.append("<p class=faint>The verdict's line, as the log has it:</p><pre>" + "\n".join(sorted({escape(re.sub(r"functions=\d+ (axioms=\d+ )?", "", one[1])) for one in done})) + "</pre>")
+        parts.append("<p class=faint>The line of the verdict, as the logs have it, without counts:</p><pre>" + "\n".join(sorted({escape(re.sub(r"functions=\d+ (axioms=\d+ )?", "", one[1])) for one in done})) + "</pre>")
     else:
-        parts.append(absent("the axioms, as target/log is not there"))
+        parts.append(absent("what is assumed, as target/log is not there"))
 
     section("calls", "The calls")
     parts.append(html_table(table_after("docs/THEOREMS.md", "# Each call")))
