@@ -1,14 +1,13 @@
 -- What is read from 64-bit words has operands that their types hold. Assumes nothing.
-use mathlib.Core.Path.{_≡_, refl, sym, subst}
-use mathlib.Core.Bool.{Bool, true, false, _&&_}
+use mathlib.Core.Path.{_≡_, refl, subst}
+use mathlib.Core.Bool.{Bool, true, false}
 use mathlib.Core.List.{List, [], _∷_}
-use Prim.Native.Nat.{ℕ, zero, suc, _^_, _%_, _<_}
+use Prim.Native.Nat.{ℕ, zero, suc, _^_, _%_}
 use native.Mathlib.Omega.{arith}
 use borrow.Author.Tests.{lt-ltb}
 use lib.Dec.{eqb, ltb}
 use lib.ListN.{getD}
 use Rattle.lists.specs.Pick.{pick}
-use Rattle.lists.proofs.Tests.{and-left, and-right}
 use Rattle.heap.specs.Fault.{wordOf}
 use Rattle.heap.specs.declared.fault.Fault.{Fault}
 use Rattle.model.specs.Lists.{each, each-first, each-rest}
@@ -16,7 +15,7 @@ use Rattle.model.specs.Call.{isReg, isArgc, isPc, isWord, optPc, typed}
 use Rattle.model.specs.declared.call.OptPc.{OptPc}
 use Rattle.model.specs.declared.call.Op.{Op}
 use Rattle.calls.specs.Codes.{asPc, asReg, asArgc, faults, faultOf, optOf}
-use Rattle.calls.specs.Call.{table, opBy, opOf, Within}
+use Rattle.calls.specs.Call.{table, opBy, opOf}
 use Rattle.calls.specs.declared.call.Read.{Read}
 use Rattle.calls.proofs.Back.{read-in}
 
@@ -58,14 +57,7 @@ by-is n a b c d e ha hb = each-get typed (table a b c d e) n Op.Look (table-is a
 word-at : (ws : List ℕ) (i : ℕ) → each isWord ws ≡ true → isWord (getD ws i 0) ≡ true
 word-at ws i h = each-get isWord ws i 0 h refl
 
-typed-at : (ws : List ℕ) (o : Op) → isWord (getD ws 1 0) ≡ true → isWord (getD ws 2 0) ≡ true → opOf ws ≡ Read.Is o → typed o ≡ true
-typed-at ws o ha hb e =
-    subst (λ (x : Op). typed x ≡ true) (read-in ws o e .0) (by-is (getD ws 0 0) (getD ws 1 0) (getD ws 2 0) (getD ws 3 0) (getD ws 4 0) (getD ws 5 0) ha hb)
-
 pub read-typed : (ws : List ℕ) (o : Op) → each isWord ws ≡ true → opOf ws ≡ Read.Is o → typed o ≡ true
-read-typed ws o h e = typed-at ws o (word-at ws 1 h) (word-at ws 2 h) e
-
--- so what is read lies within its types
-pub within : (ws : List ℕ) (r : Read) → getD ws 1 0 < 2 ^ 64 → getD ws 2 0 < 2 ^ 64 → r ≡ opOf ws → Within r
-within ws (Read.Is o) ha hb e = typed-at ws o (lt-ltb (getD ws 1 0) (2 ^ 64) ha) (lt-ltb (getD ws 2 0) (2 ^ 64) hb) (sym e)
-within ws (Read.Not f) ha hb e = tt
+read-typed ws o h e =
+    subst (λ (x : Op). typed x ≡ true) (read-in ws o e .0)
+    (by-is (getD ws 0 0) (getD ws 1 0) (getD ws 2 0) (getD ws 3 0) (getD ws 4 0) (getD ws 5 0) (word-at ws 1 h) (word-at ws 2 h))

@@ -1,7 +1,6 @@
 -- A call in six words: its code, its operands in the order of `Op`, then 0. One table says which call a code is; words are a call if they
 -- are those that the call is written in.
-use mathlib.Core.Path.{_≡_}
-use mathlib.Core.Bool.{Bool, true, _&&_}
+use mathlib.Core.Bool.{Bool, _&&_}
 use mathlib.Core.List.{List, [], _∷_}
 use Prim.Native.Nat.{ℕ}
 use lib.ListN.{length, getD}
@@ -9,7 +8,6 @@ use lib.Dec.{eqb, ltb}
 use Rattle.lists.specs.Pick.{pick}
 use Rattle.heap.specs.Fault.{numberOf, wordOf}
 use Rattle.heap.specs.declared.fault.Fault.{Fault}
-use Rattle.model.specs.Call.{typed}
 use Rattle.model.specs.declared.call.Op.{Op}
 use Rattle.tables.specs.Layout.{contCode, contReg, contOf}
 use Rattle.calls.specs.Codes.{asPc, asReg, asArgc, faultOf, kindCode, kindOf, optCode, optWord, optOf, same}
@@ -98,12 +96,3 @@ why ws = pick (eqb (length ws) 6) (whyBy (getD ws 0 0) (getD ws 1 0)) Fault.BadO
 -- the call that the words are, or why they are none
 abbrev pub opOf : List ℕ → Read
 opOf ws = pick (same (opWords (opIn ws)) ws) (Read.Is (opIn ws)) (Read.Not (why ws))
-
--- a call that is read has operands that their types hold
-abbrev pub Within : Read → Type 0
-Within (Read.Is o) = typed o ≡ true
-Within (Read.Not f) = Unit
-
-pub record Reads (ws : List ℕ) (r : Read) : Type 0 where
-  pub is : r ≡ opOf ws
-  pub within : Within r

@@ -1,7 +1,7 @@
 // A call from its words.
 ghost use mathlib.Core.Path.{_≡_};
 ghost use Rattle.calls.specs.Codes.{same};
-ghost use Rattle.calls.specs.Call.{six, whyBy, opOf, Reads};
+ghost use Rattle.calls.specs.Call.{six, whyBy, opOf};
 use crate::written::Six;
 use crate::written::op_by;
 use crate::written::words_of;
@@ -63,7 +63,7 @@ fn read_six(n: u64, a: u64, b: u64, c: u64, d: u64, e: u64) -> Read
 
 // The call that the words are, or why they are none.
 pub fn op_of(words: &[u64]) -> Read
-    ensures { λ r. ⌜ Reads (now (words .entry)) r ⌝ }
+    ensures { λ r. ⌜ r ≡ opOf (now (words .entry)) ⌝ }
 {
     if words.len() != 6 {
         return Read::Not(Fault::BadOperand);

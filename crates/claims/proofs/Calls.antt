@@ -33,9 +33,10 @@ use Rattle.model.specs.declared.machine.Frame.{Frame}
 use Rattle.model.specs.declared.coro.Made.{Made}
 use Rattle.model.specs.declared.coro.Entered.{Entered}
 use Rattle.model.specs.declared.call.Op.{Op}
-use Rattle.claims.specs.Says.{Sent, nothing, gets, closes}
+use Rattle.claims.specs.Says.{nothing, gets, closes}
+use Rattle.claims.specs.Steps.{seenOf}
 use Rattle.claims.proofs.Entry.{Aim, enters, suspends, neither, awaits, act, nobody, entry, accepts, sentTo, entryBy}
-use Rattle.claims.proofs.Held.{closingOf, Returns, eventBy}
+use Rattle.claims.proofs.Held.{Returns, eventBy}
 use Rattle.claims.proofs.Cores.{no-both, cores, coroIn, objectIn, set-rest}
 use Rattle.claims.proofs.Shape as S
 use Rattle.claims.proofs.Shape.{view, Worked, done, tops, puts, Shape}
@@ -49,7 +50,7 @@ use Rattle.claims.proofs.Endings.{Done, d-works, d-returns, finish-done
 
 -- ---- calls that are no instructions
 
-rest-calm : (v : ℕ) (k : Core) (r s : Rest) (w u : World) → coro w v ≡ Is k r → closingOf s ≡ closingOf r → u .setup ≡ w .setup → u .stack ≡ w .stack → u .frames ≡ w .frames → u .chain ≡ w .chain → u .slots ≡ setCoro v k s w .slots → Calm w u
+rest-calm : (v : ℕ) (k : Core) (r s : Rest) (w u : World) → coro w v ≡ Is k r → seenOf (Is k s) ≡ seenOf (Is k r) → u .setup ≡ w .setup → u .stack ≡ w .stack → u .frames ≡ w .frames → u .chain ≡ w .chain → u .slots ≡ setCoro v k s w .slots → Calm w u
 rest-calm v k r s w u e m a b c d f = record { setup = a; stack = b; frames = c; chain = d; cores = λ x. ap (λ xs. cores xs x) f ∙ set-rest (w .slots) v e s m x }
 
 made-world : (w : World) (m : Made) → answerMade w m .world ≡ w

@@ -1,22 +1,19 @@
--- Demand 3: the proof, from the calls' shapes.
+-- Lists of calls, from the calls' shapes: a sleeper sleeps on; what lies below an entry.
 use Prim.Native.Nat.{ℕ, zero, suc}
 use mathlib.Core.Path.{_≡_, refl, sym, ap, _∙_}
 use mathlib.Core.Bool.{Bool, true, false}
-use mathlib.Core.List.{List, [], _∷_, _++_, map}
-use lib.ListN.{length, getD}
-use borrow.Author.Tests.{eq-eqb}
+use mathlib.Core.List.{List, [], _∷_}
+use lib.ListN.{getD}
 use Rattle.lists.specs.Pick.{pick, pick-true}
 use Rattle.heap.specs.Table.{slot}
 use Rattle.heap.specs.declared.heap.Place.{Place}
 use Rattle.heap.specs.declared.fault.Fault.{Fault}
 use Rattle.heap.specs.declared.object.CoroState.{CoroState}
-use Rattle.model.specs.State.{isCreated, isRunning, isSuspended, isResumable}
+use Rattle.model.specs.State.{isCreated, isRunning, isResumable}
 use Rattle.model.specs.Program.{Func, Setup, setupOk}
 use Rattle.model.specs.Object.{Object, Absent, asCoro}
 use Rattle.model.specs.World.{World, fresh, functionObjects}
-use Rattle.model.specs.Frames.{onTop, setPc, baseAt, raise}
 use Rattle.model.specs.Heap.{place, objectAt, coro}
-use Rattle.model.specs.Coro.{active}
 use Rattle.model.specs.Gate.{refused}
 use Rattle.model.specs.Added.{accepted}
 use Rattle.model.specs.Sound.{sound}
@@ -25,16 +22,16 @@ use Rattle.model.specs.Step.{told, call, step, run, tested}
 use Rattle.model.specs.declared.machine.Active.{Active}
 use Rattle.model.specs.declared.machine.Frame.{Frame}
 use Rattle.model.specs.declared.machine.Driver.{Driver}
-use Rattle.claims.specs.Says.{Sent, nothing, gets, closes}
-use Rattle.claims.proofs.Entry.{nobody, entry, act, entryBy, entryOf, driverOf, sentOf, pcOf}
-use Rattle.claims.proofs.Held.{Seat, coreIn, coreAt, floorOf, heldAs, sleptBy, slept, isBody, wordsWith, framesWith, calling, eventOf, mem, deliverTo}
-use Rattle.claims.proofs.Split.{next, hasLeft, Suspends, Enters, Leaves, restarts, Waits, Goes, Sleeps, Entered, Left, Split}
+use Rattle.claims.specs.Says.{Sent}
+use Rattle.claims.proofs.Entry.{nobody, entry, act, entryBy, entryOf, driverOf, pcOf}
+use Rattle.claims.proofs.Held.{Seat, coreIn, coreAt, calling, eventOf, mem, deliverTo}
+use Rattle.claims.proofs.Split.{next, hasLeft, Enters, Leaves, restarts, Waits, Goes, Sleeps, Left}
 use Rattle.claims.proofs.Cores.{no-both}
 use Rattle.claims.proofs.Shape.{view, Enter, Apart}
-use Rattle.claims.proofs.Events.{susp-run, run-susp, susp-born, entered-one, SuspendedBy, suspended-one, sleeps-on}
+use Rattle.claims.proofs.Events.{susp-run, susp-born, entered-one, sleeps-on}
 use Rattle.claims.proofs.Fate as F
 use Rattle.claims.proofs.Fate.{Under, landed}
-use Rattle.claims.proofs.Sounds.{apart, lifts, body-saved}
+use Rattle.claims.proofs.Sounds.{apart, lifts}
 use Rattle.claims.proofs.Calls.{shape}
 
 -- ---- one call: a set-up that is accepted, one that does nothing, or one on a sound machine
@@ -77,42 +74,9 @@ fresh-absent s c = go (place (fresh s) c)
 pub entry-sound : (w : World) (o : Operation) → sound w ≡ true → entryOf w (Do o) ≡ entryBy (act w (o .op)) w
 entry-sound w o h = ap (λ b. pick b (entryBy (act w (o .op)) w) nobody) h ∙ pick-true (entryBy (act w (o .op)) w) nobody
 
--- ---- (1)
+-- ---- a sleeper sleeps on, and one that has ended stays so
 
-floor-here : (chain rest : List Active) (a : Active) (c : ℕ) → chain ≡ a ∷ rest → c ≡ a .coro → floorOf chain c ≡ a .floor
-floor-here chain rest a c e q = ap (λ x. floorOf x c) e ∙ ap (λ b. pick b (a .floor) (floorOf rest c)) (eq-eqb (a .coro) c (sym q)) ∙ pick-true (a .floor) (floorOf rest c)
-
-suspends-as : (c : ℕ) (w : World) (o : Operation) (z : World) → SuspendedBy w (o .op) c z → Sleeps z c (slept w (Do o) c)
-suspends-as c w o z s =
-    let t = s .suspend in
-    let k : coreAt z c ≡ slept w (Do o) c =
-    ap (coreAt z) (s .its-own) ∙ t .mine
-    ∙ ap (λ u. heldAs (coreAt w u .closing) (s .state) (s .dst) (s .body .floor) (baseAt (s .body .floor) (onTop (setPc (s .pc)) (w .frames))) (onTop (setPc (s .pc)) (w .frames)) (w .stack)) (sym (s .its-own))
-    ∙ ap (λ n. heldAs (coreAt w c .closing) (s .state) (s .dst) n (baseAt n (onTop (setPc (s .pc)) (w .frames))) (onTop (setPc (s .pc)) (w .frames)) (w .stack)) (sym (floor-here (w .chain) (s .chain) (s .body) c (t .inmost) (s .its-own)))
-    ∙ ap (λ a. sleptBy a w c) (sym (s .by)) in
-    record { asleep = ap (λ x. isSuspended (x .state)) (sym k ∙ ap (coreAt z) (s .its-own) ∙ t .mine) ∙ t .asleep; holds = k }
-
-pub suspension : (c : ℕ) (w : World) (k : Call) → Suspends c w k → Sleeps (next w k) c (slept w k c)
-suspension c w k h = go (next w k) (step-case w k) (h .after)
-  where
-    go : {k : Call} (z : World) → StepCase w k z → isSuspended (coreAt z c .state) ≡ true → Sleeps z c (slept w k c)
-    go z (anew s e) a = no-both a (ap (λ x. isSuspended (coreIn x .state)) (fresh-absent s c))
-    go z (same k e) a = no-both a (run-susp (coreAt w c .state) (h .before))
-    go z (does o e) a = suspends-as c w o z (suspended-one c (shape w (o .op)) (run-susp (coreAt w c .state) (h .before)) a)
-
-pub its-body : (c : ℕ) (w : World) (k : Call) → Suspends c w k → isBody (slept w k c .frames) ≡ true
-its-body c w k h = go (next w k) (step-case w k) (h .after)
-  where
-    go : {k : Call} (z : World) → StepCase w k z → isSuspended (coreAt z c .state) ≡ true → isBody (slept w k c .frames) ≡ true
-    go z (anew s e) a = no-both a (ap (λ x. isSuspended (coreIn x .state)) (fresh-absent s c))
-    go z (same k e) a = no-both a (run-susp (coreAt w c .state) (h .before))
-    go z (does o e) a =
-        let s = suspended-one c (shape w (o .op)) (run-susp (coreAt w c .state) (h .before)) a in
-        ap (λ x. isBody (x .frames)) (sym (suspends-as c w o z s .holds) ∙ ap (coreAt z) (s .its-own) ∙ s .suspend .mine) ∙ body-saved w e (s .pc) (s .body) (s .chain) (s .suspend .inmost)
-
--- ---- (2)
-
-stays : (c : ℕ) (w : World) (k : Call) (s : Seat) → isCreated (s .state) ≡ false → isRunning (s .state) ≡ false → restarts k ≡ false → isRunning (coreAt (next w k) c .state) ≡ false → coreAt w c ≡ s → coreAt (next w k) c ≡ s
+pub stays : (c : ℕ) (w : World) (k : Call) (s : Seat) → isCreated (s .state) ≡ false → isRunning (s .state) ≡ false → restarts k ≡ false → isRunning (coreAt (next w k) c .state) ≡ false → coreAt w c ≡ s → coreAt (next w k) c ≡ s
 stays c w k s b r n a h = go (next w k) (step-case w k) n a
   where
     go : {k : Call} (z : World) → StepCase w k z → restarts k ≡ false → isRunning (coreAt z c .state) ≡ false → coreAt z c ≡ s
@@ -131,7 +95,7 @@ sleep c s w (k ∷ ks) h q = go (isRunning (coreAt (next w k) c .state)) refl (s
     go true e rest = absurd (q .1 (record { before = ap (λ x. isRunning (x .state)) (h .holds) ∙ still; after = e }))
     go false e rest = rest (record { asleep = h .asleep; holds = stays c w k s (susp-born (s .state) (h .asleep)) still (q .0) e (h .holds) }) (q .2)
 
--- ---- (3)
+-- ---- entries
 
 -- the entry of a call, with the sound world's shape
 pub record Entering (c : ℕ) (w : World) (k : Call) (z : World) : Type 0 where
@@ -151,19 +115,7 @@ entering c w k h = go (next w k) (step-case w k) (h .after)
         let t = entered-one c (shape w (o .op)) (h .before) a in
         record { healthy = e; driver = t .driver; sent = t .sent; by = entry-sound w o e ∙ t .by; enter = t .enter }
 
-pub restored : (c : ℕ) (w : World) (k : Call) (s : Seat) → Enters c w k → coreAt w c ≡ s → Entered w k c s (next w k)
-restored c w k s h q =
-    let e = entering c w k h in
-    let d : driverOf (entryOf w k) ≡ e .driver = ap driverOf (e .by) in
-    let x : sentOf (entryOf w k) ≡ e .sent = ap sentOf (e .by) in
-    record {
-      who = e .by ∙ (λ i. entry c (sym d i) (sym x i));
-      stack = e .enter .stack ∙ (λ i. w .stack ++ wordsWith (sym x i) (q i));
-      frames = e .enter .frames ∙ (λ i. map (raise (length (w .stack))) (framesWith (sym x i) (q i)) ++ calling w k);
-      chain = e .enter .chain ∙ (λ i. active c (length (w .frames)) (sym d i) ∷ w .chain);
-    }
-
--- ---- (4)
+-- ---- what lies below an entry
 
 pub run-left : (s : CoroState) → isRunning s ≡ true → hasLeft s ≡ false
 run-left CoroState.Created e = refl
@@ -232,20 +184,3 @@ untouched c w k ks l h q e =
     let u = landed w (pcOf w k) c (t .driver) (t .sent) (next w k) (lifts w (t .healthy) c (t .enter .ready) (t .enter .solid)) (t .enter) in
     let x = leaving c (t .driver) (w .stack) (calling w k) (w .chain) (apart w (t .healthy) c (h .before)) (next w k) ks l u q e in
     record { under = x .0 ∙ ap (λ d. deliverTo d (eventOf (run (next w k) ks) l c) (mem (w .stack) (calling w k))) (sym (ap driverOf (t .by))); chain = x .1 }
-
--- ---- the claim
-
-pub demand3-at : (w₁ : World) (x : Call) (waiting : List Call) (y : Call) (going : List Call) (z : Call) (c : ℕ) → Split w₁ x waiting y going z c
-demand3-at w₁ x waiting y going z c =
-    record {
-      suspension = suspension c w₁ x;
-      its-body = its-body c w₁ x;
-      sleep = λ s h q. sleep c s (next w₁ x) waiting h q;
-      entry = λ e. restored c (run (next w₁ x) waiting) y (coreAt (run (next w₁ x) waiting) c) e refl;
-      restored = λ h q e. restored c (run (next w₁ x) waiting) y (slept w₁ x c) e (sleep c (slept w₁ x c) (next w₁ x) waiting (suspension c w₁ x h) q .holds);
-      untouched = untouched c (run (next w₁ x) waiting) y going z;
-    }
-
--- DEMAND 3, of every list of calls that begins with an accepted set-up, wherever it is split
-pub demand3 : (w : World) (s : Setup) → setupOk s ≡ true → (before : List Call) (x : Call) (waiting : List Call) (y : Call) (going : List Call) (z : Call) (c : ℕ) → Split (run w (SetUp s ∷ before)) x waiting y going z c
-demand3 w s ok before = demand3-at (run w (SetUp s ∷ before))

@@ -2,26 +2,27 @@
 use Prim.Native.Nat.{ℕ}
 use native.Mathlib.Decide.{ℕ-discrete}
 use mathlib.Core.Path.{_≡_, refl, sym, ap, _∙_}
-use mathlib.Core.Logic.{_≢_, _⊎_, inl, inr}
+use mathlib.Core.Logic.{_⊎_, inl, inr}
 use mathlib.Core.Bool.{Bool, true, false, _||_}
 use mathlib.Core.List.{List, _∷_}
-use mathlib.Core.Option.{Option, none, some}
+use mathlib.Core.Option.{none}
 use lib.ListN.{length}
 use Rattle.lists.specs.Pick.{pick}
 use Rattle.heap.specs.declared.object.CoroState.{CoroState}
 use Rattle.model.specs.State.{isCreated, isRunning, isAwaiting, isSuspended}
-use Rattle.model.specs.Program.{Setup, func}
+use Rattle.model.specs.Program.{func}
 use Rattle.model.specs.Object.{Coroutine, Absent, Is}
 use Rattle.model.specs.World.{World}
 use Rattle.model.specs.Heap.{coro}
-use Rattle.model.specs.Call.{Call, SetUp, Do}
+use Rattle.model.specs.Call.{Call}
 use Rattle.model.specs.declared.machine.Active.{Active}
 use Rattle.model.specs.declared.call.Op.{Op}
 use Rattle.claims.specs.Engine.{seenIn, is, awaits}
+use Rattle.claims.specs.Says.{Does, doing}
 use Rattle.claims.specs.Held.{closer}
 use Rattle.claims.specs.Demand3 as D
-use Rattle.claims.specs.Events.{lives, Fixed}
-use Rattle.claims.specs.Steps.{seenOf, viewOf, steps}
+use Rattle.claims.specs.Events.{isAwait, lives, Fixed}
+use Rattle.claims.specs.Steps.{seenOf, viewOf, opOf, steps}
 use Rattle.claims.proofs.Entry as E
 use Rattle.claims.proofs.Held.{Seat, coreIn, coreAt}
 use Rattle.claims.proofs.Split.{next, Suspends, restarts}
@@ -31,7 +32,7 @@ use Rattle.claims.proofs.Events.{ready-run, run-susp, suspended-one}
 use Rattle.claims.proofs.Sounds.{first-runs}
 use Rattle.claims.proofs.Calls.{shape}
 use Rattle.claims.proofs.Claim.{StepCase, anew, same, does, step-case, fresh-absent}
-use Rattle.claims.proofs.Views.{is-runs, is-sleeps, is-awaits, closer-at}
+use Rattle.claims.proofs.Views.{is-runs, is-sleeps, is-awaits, closer-at, Alike, l-at, l-host, l-finish, l-raise, l-other, says-alike}
 use Rattle.claims.proofs.Restores.{suspends-old, restarts-old}
 
 -- ---- the set-up stays
@@ -103,7 +104,7 @@ dead-kept {k} (unborn a b m) h = no-both (ap (λ x. x || busy (k .state)) a) h
 dead-ends : {s : CoroState} {v : ℕ} {k l : ℕ → Seat} → Ends s v k l → alive s ≡ false → (c : ℕ) → alive (k c .state) ≡ false → alive (l c .state) ≡ false
 dead-ends {s} {v} {k} {l} e n c h = go (ℕ-discrete c v)
   where
-    mine : (l v ≡ over s (k v)) ⊎ ((isCreated (k v .state) ≡ true) × (l v ≡ k v)) → alive (k v .state) ≡ false → alive (l v .state) ≡ false
+    mine : (l v ≡ over s (l v .seen) (k v)) ⊎ ((isCreated (k v .state) ≡ true) × (l v ≡ k v)) → alive (k v .state) ≡ false → alive (l v .state) ≡ false
     mine (inl x) q = ap (λ y. alive (y .state)) x ∙ n
     mine (inr x) q = ap (λ y. alive (y .state)) (x .1) ∙ q
 
@@ -136,7 +137,7 @@ kept-closing {l = l} (unborn a b m) h = m (or-right (isCreated (l .state)) (busy
 ends-closing : {s : CoroState} {v : ℕ} {k l : ℕ → Seat} → Ends s v k l → alive s ≡ false → (c : ℕ) → alive (l c .state) ≡ true → l c .closing ≡ k c .closing
 ends-closing {s} {v} {k} {l} e n c h = go (ℕ-discrete c v)
   where
-    mine : (l v ≡ over s (k v)) ⊎ ((isCreated (k v .state) ≡ true) × (l v ≡ k v)) → alive (l v .state) ≡ true → l v .closing ≡ k v .closing
+    mine : (l v ≡ over s (l v .seen) (k v)) ⊎ ((isCreated (k v .state) ≡ true) × (l v ≡ k v)) → alive (l v .state) ≡ true → l v .closing ≡ k v .closing
     mine (inl x) q = no-both q (ap (λ y. alive (y .state)) x ∙ n)
     mine (inr x) q = ap (λ y. y .closing) (x .1)
 
@@ -209,3 +210,36 @@ yielded c w k g = closer-at (next w k) c ∙ go (next w k) (step-case w k) (h .a
         let mine = ap (coreAt z) (s .its-own) ∙ s .suspend .mine in
         ap (λ x. x .closing) mine ∙ (λ i. pick (isAwaiting (s .state)) (coreAt w (sym (s .its-own) i) .closing) none)
         ∙ ap (λ b. pick b (coreAt w c .closing) none) (sym (awaits-core (coro z c) ∙ ap (λ x. isAwaiting (x .state)) mine))
+
+-- ---- an Await leaves it Awaiting
+
+abbrev awaitsBy : E.Act → Bool
+awaitsBy (E.at pc ok (E.enters c d x may)) = false
+awaitsBy (E.at pc ok (E.suspends s dst x)) = isAwaiting s
+awaitsBy (E.at pc ok E.neither) = false
+awaitsBy (E.byHost c x) = false
+awaitsBy (E.finishes kind x) = false
+awaitsBy E.unwinds = false
+awaitsBy E.other = false
+
+alike-await : {a : E.Act} {d : Does} → Alike a d → isAwait d ≡ awaitsBy a
+alike-await (l-at pc ok (E.enters c d x may)) = refl
+alike-await (l-at pc ok (E.suspends s dst x)) = refl
+alike-await (l-at pc ok E.neither) = refl
+alike-await (l-host c x) = refl
+alike-await (l-finish kind x) = refl
+alike-await (l-raise f pc) = refl
+alike-await l-other = refl
+
+pub awaited : (c : ℕ) (w : World) (k : Call) → D.Suspends steps c w k → is (viewOf (next w k)) awaits c ≡ isAwait (doing (viewOf w) (opOf k))
+awaited c w k g = is-awaits (next w k) c ∙ go (next w k) (step-case w k) (h .after)
+  where
+    h : Suspends c w k
+    h = suspends-old c w k g
+
+    go : {k : Call} (z : World) → StepCase w k z → isSuspended (coreAt z c .state) ≡ true → E.awaits (coro z c) ≡ isAwait (doing (viewOf w) (opOf k))
+    go z (anew s e) a = no-both a (ap (λ x. isSuspended (coreIn x .state)) (fresh-absent s c))
+    go z (same k e) a = no-both a (run-susp (coreAt w c .state) (h .before))
+    go z (does o e) a =
+        let s = suspended-one c (shape w (o .op)) (run-susp (coreAt w c .state) (h .before)) a in
+        awaits-core (coro z c) ∙ ap (λ x. isAwaiting (x .state)) (ap (coreAt z) (s .its-own) ∙ s .suspend .mine) ∙ sym (alike-await (says-alike w (o .op)) ∙ ap awaitsBy (s .by))

@@ -8,7 +8,7 @@ use mathlib.Core.Path.{_≡_, refl, sym, ap, _∙_}
 use mathlib.Core.Logic.{_≢_, _⊎_, inl, inr}
 use mathlib.Core.Bool.{Bool, true, false, _&&_, _||_}
 use mathlib.Core.List.{List, [], _∷_, _++_}
-use mathlib.Core.Option.{Option, none, some}
+use mathlib.Core.Option.{none}
 use lib.ListN.{length, getD, set, length-set, length-append, List·getD-append}
 use lib.Seq.{getD-set-same, getD-set-other, getD-at}
 use lib.Dec.{eqb, ltb}
@@ -22,7 +22,9 @@ use Rattle.heap.specs.declared.object.CoroState.{CoroState}
 use Rattle.model.specs.State.{isCreated, isRunning, isSuspended}
 use Rattle.model.specs.Object.{Core, Rest, Object, isFilled, Coroutine, Is, asCoro}
 use Rattle.model.specs.Heap.{objectAt}
-use Rattle.claims.proofs.Held.{Seat, seat, closingOf, coreIn}
+use Rattle.claims.specs.Held.{closer}
+use Rattle.claims.specs.Steps.{seenOf}
+use Rattle.claims.proofs.Held.{Seat, coreIn}
 pub use Rattle.lists.proofs.Tests.{and-left, and-right}
 
 -- false and true are not one
@@ -219,12 +221,12 @@ module _ (xs : List (Slot Object)) (v : ℕ) {k : Core} {r : Rest} (e : coroIn x
   pub set-other : (k' : Core) (r' : Rest) (u : ℕ) → u ≢ v → cores (putObject Object.Empty xs (slotOf v) (Object.Coro k' r')) u ≡ cores xs u
   set-other k' r' u n = ap (λ o. coreIn (asCoro o)) (put-away xs v (Object.Coro k' r') u (named-coro xs v e) n)
 
-  -- the rest of a coroutine replaced: no core changes
-  pub set-rest : (r' : Rest) → closingOf r' ≡ closingOf r → (u : ℕ) → cores (putObject Object.Empty xs (slotOf v) (Object.Coro k r')) u ≡ cores xs u
+  -- the rest of a coroutine replaced, in what is not seen: no core changes
+  pub set-rest : (r' : Rest) → seenOf (Is k r') ≡ seenOf (Is k r) → (u : ℕ) → cores (putObject Object.Empty xs (slotOf v) (Object.Coro k r')) u ≡ cores xs u
   set-rest r' m u = go (ℕ-discrete u v)
     where
       go : Dec (u ≡ v) → cores (putObject Object.Empty xs (slotOf v) (Object.Coro k r')) u ≡ cores xs u
-      go (yes q) = ap (cores (putObject Object.Empty xs (slotOf v) (Object.Coro k r'))) q ∙ ap coreIn (set-mine k r') ∙ (λ i. record { state = k .state; regs = k .regs; frames = k .frames; waiting = k .waiting; closing = m i }) ∙ sym (ap coreIn e) ∙ ap (cores xs) (sym q)
+      go (yes q) = ap (cores (putObject Object.Empty xs (slotOf v) (Object.Coro k r'))) q ∙ ap coreIn (set-mine k r') ∙ (λ i. record { state = k .state; regs = k .regs; frames = k .frames; waiting = k .waiting; closing = closer (m i); seen = m i }) ∙ sym (ap coreIn e) ∙ ap (cores xs) (sym q)
       go (no q) = set-other k r' u q
 
 -- an iterator replaced

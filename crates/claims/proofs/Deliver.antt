@@ -2,9 +2,9 @@
 use Prim.Native.Nat.{ℕ}
 use mathlib.Core.Path.{_≡_, refl, sym, ap, _∙_, subst}
 use mathlib.Core.Bool.{Bool, true, false, not, _&&_}
-use mathlib.Core.List.{List, [], _∷_, map}
-use mathlib.Core.Option.{Option, none, some}
-use lib.ListN.{length, take, drop}
+use mathlib.Core.List.{List, [], _∷_}
+use mathlib.Core.Option.{none, some}
+use lib.ListN.{length, take}
 use lib.Dec.{leb}
 use Rattle.lists.specs.Pick.{pick, pick-true, pick-false}
 use Rattle.heap.specs.Word.{nil}
@@ -13,7 +13,7 @@ use Rattle.heap.specs.declared.object.CoroState.{CoroState}
 use Rattle.model.specs.State.{isAwaiting, isSuspended}
 use Rattle.model.specs.Object.{Core, Rest, Coroutine, Absent, Is, withClosing, withSignal, withPayload}
 use Rattle.model.specs.World.{World, After, after}
-use Rattle.model.specs.Frames.{onTop, setPc, lower, above, below, baseAt, reg, storePc}
+use Rattle.model.specs.Frames.{onTop, setPc, below, baseAt, reg, storePc}
 use Rattle.model.specs.Heap.{coro, dynInt, fits}
 use Rattle.model.specs.Coro as Coro
 use Rattle.model.specs.Coro.{saved, sized, growth, setKeys, unclose, suspendAs, suspendOn, coroSuspend, deliver, deliverReturn}
@@ -28,10 +28,11 @@ use Rattle.model.specs.declared.coro.AutoKey.{AutoKey}
 use Rattle.model.specs.declared.coro.Suspension.{Suspension}
 use Rattle.model.specs.declared.exec.Step.{Step}
 use Rattle.model.specs.declared.call.Op.{Op}
+use Rattle.claims.specs.Steps.{seenOf}
 use Rattle.claims.proofs.Entry.{suspends}
 use Rattle.claims.proofs.Tries.{taken, tries, keyed, inBody}
 use Rattle.claims.proofs.Suspension.{suspendsIn}
-use Rattle.claims.proofs.Held.{closingOf, coreIn, coreAt, heldAs, Event, Yields, Awaits, Ignores, Returns, eventAs, mem, put, send, deliverTo}
+use Rattle.claims.proofs.Held.{Seat, closingOf, coreIn, coreAt, heldAs, Event, Yields, Awaits, Ignores, Returns, eventAs, mem, put, send, deliverTo}
 use Rattle.claims.proofs.Cores.{kept, set-mine, set-other}
 use Rattle.claims.proofs.Shape.{done, tops, Suspend}
 use Rattle.claims.proofs.Under.{keeps-pc}
@@ -161,15 +162,18 @@ suspend-arm p s h dst x keys v u g = go (coroSuspend s dst x keys t) (suspend-ca
         event : told (Coro.eventOf s x (setKeys keys r)) ≡ eventAs (marked (λ r. r .closing) (coro v (a .coro))) s x
         event = told-event s x keys r ∙ ap (λ b. eventAs (marked (λ r. r .closing) b) s x) (sym c ∙ g .coros (a .coro))
 
+        mine : coreAt (deliver (a .driver) m y .world) (a .coro) ≡ heldAs (seenOf (Is k₁ r₁)) (coreAt v (a .coro) .closing) s dst (a .floor) (baseAt (a .floor) (onTop (setPc p) (v .frames))) (onTop (setPc p) (v .frames)) (v .stack)
+        mine = d .cores (a .coro) ∙ ap coreIn (set-mine (t .slots) (a .coro) c k₁ r₁)
+            ∙ (λ i. record { state = s; regs = k₁ .regs; frames = k₁ .frames; waiting = dst; closing = ends i; seen = seenOf (Is k₁ r₁) })
+            ∙ (λ i. heldAs (seenOf (Is k₁ r₁)) (coreAt v (a .coro) .closing) s dst (a .floor) (baseAt (a .floor) (onTop (setPc p) (g .frames i))) (onTop (setPc p) (g .frames i)) (g .stack i))
+
         it : Suspend v p s dst x a chain (deliver (a .driver) m y .world)
         it =
             record {
               setup = d .setup ∙ g .setup;
               inmost = sym (g .chain) ∙ e;
               asleep = h;
-              mine = d .cores (a .coro) ∙ ap coreIn (set-mine (t .slots) (a .coro) c k₁ r₁)
-                  ∙ (λ i. record { state = s; regs = k₁ .regs; frames = k₁ .frames; waiting = dst; closing = ends i })
-                  ∙ (λ i. heldAs (coreAt v (a .coro) .closing) s dst (a .floor) (baseAt (a .floor) (onTop (setPc p) (g .frames i))) (onTop (setPc p) (g .frames i)) (g .stack i));
+              mine = mine ∙ ap (λ x. heldAs x (coreAt v (a .coro) .closing) s dst (a .floor) (baseAt (a .floor) (onTop (setPc p) (v .frames))) (onTop (setPc p) (v .frames)) (v .stack)) (sym (ap (λ (y : Seat). y .seen) mine));
               others = λ n q. kept (d .cores n ∙ set-other (t .slots) (a .coro) c k₁ r₁ n q ∙ ap coreIn (g .coros n));
               under = d .under ∙ (λ i. deliverTo (a .driver) (event i) (mem (take (baseAt (a .floor) (onTop (setPc p) (g .frames i))) (g .stack i)) (below (a .floor) (onTop (setPc p) (g .frames i)))));
               outer = d .chain;

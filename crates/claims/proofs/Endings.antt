@@ -12,7 +12,7 @@ use Rattle.heap.specs.Fault.{numberOf, wordOf}
 use Rattle.heap.specs.declared.fault.Fault.{Fault}
 use Rattle.heap.specs.declared.value.Opt.{Opt}
 use Rattle.heap.specs.declared.object.CoroState.{CoroState}
-use Rattle.model.specs.State.{isCreated}
+use Rattle.model.specs.State.{isCreated, isReturned}
 use Rattle.model.specs.Program.{func, firstOf}
 use Rattle.model.specs.World.{World, After, after, andThen, withChain}
 use Rattle.model.specs.Frames.{isCoro, stepPc, setPc, topFunc, topPc, putReg, storePc, nextPc, popTo}
@@ -33,12 +33,13 @@ use Rattle.model.specs.declared.coro.Made.{Made}
 use Rattle.heap.specs.declared.heap.ResultKind.{ResultKind}
 use Rattle.model.specs.declared.call.OptPc.{OptPc}
 use Rattle.model.specs.declared.call.Answer.{Answer}
+use Rattle.claims.specs.Delivery.{recorded}
 use Rattle.claims.proofs.Held.{Seat, coreAt, Returns, mem, deliverTo, madeWord}
 use Rattle.claims.proofs.Shape as S
 use Rattle.claims.proofs.Shape.{View, view, over, Ends, Worked, done, tops, puts, pops, fails, Return, Apart}
 use Rattle.claims.proofs.Under.{keeps-pc, keeps-step}
 use Rattle.claims.proofs.Enters.{charge-none}
-use Rattle.claims.proofs.Quiet.{same-worked, alloc-same, dyn-same, finish-ends, Still, change-still}
+use Rattle.claims.proofs.Quiet.{same-worked, alloc-same, dyn-same, finish-ends, finish-told, Still, change-still}
 use Rattle.claims.proofs.Deliver.{Delivered, return-told}
 
 -- moves, and then perhaps a return of x
@@ -53,6 +54,14 @@ then-done g (d-returns u f fs a chain t r) = d-returns u f fs a chain (g u t) r
 
 -- ---- the innermost body f goes, and its coroutine returns x
 
+ended-born : (s : CoroState) → isReturned s ≡ true → isCreated s ≡ false
+ended-born CoroState.Created e = sym e
+ended-born CoroState.Running e = refl
+ended-born CoroState.Yielded e = refl
+ended-born CoroState.Awaiting e = refl
+ended-born CoroState.Returned e = refl
+ended-born CoroState.Failed e = refl
+
 pub return-done : (x : ℕ) (f : Frame) (fs : List Frame) (w : World) (a : Active) (chain : List Active) → w .frames ≡ f ∷ fs → isCoro (f .cont) ≡ true → w .chain ≡ a ∷ chain
     → Return (view w) x f fs a chain (deliverReturn (a .driver) x (finishCoroutine (a .coro) CoroState.Returned x (withChain chain (popTo f fs w))))
 return-done x f fs w a chain p q r =
@@ -62,6 +71,7 @@ return-done x f fs w a chain p q r =
       its-own = q;
       inmost = r;
       ends = let e = finish-ends (a .coro) CoroState.Returned x v in record { mine = mine (e .mine); others = λ u n. d .cores u ∙ e .others u n };
+      told = λ h. ap (λ (k : Seat). recorded (k .seen)) (d .cores (a .coro)) ∙ finish-told (a .coro) CoroState.Returned x v refl (ended-born (coreAt y (a .coro) .state) (ap (λ (k : Seat). isReturned (k .state)) (sym (d .cores (a .coro))) ∙ h));
       under = d .under ∙ (λ i. deliverTo (a .driver) (Returns x) (mem (g .stack i) (g .frames i)));
       outer = d .chain ∙ g .chain;
     }
@@ -78,9 +88,9 @@ return-done x f fs w a chain p q r =
     d : Delivered (a .driver) (Returns x) y (deliverReturn (a .driver) x y)
     d = return-told (a .driver) x y
 
-    mine : (coreAt y (a .coro) ≡ over CoroState.Returned (coreAt w (a .coro))) ⊎ ((isCreated (coreAt w (a .coro) .state) ≡ true) × (coreAt y (a .coro) ≡ coreAt w (a .coro)))
-        → (coreAt (deliverReturn (a .driver) x y) (a .coro) ≡ over CoroState.Returned (coreAt w (a .coro))) ⊎ ((isCreated (coreAt w (a .coro) .state) ≡ true) × (coreAt (deliverReturn (a .driver) x y) (a .coro) ≡ coreAt w (a .coro)))
-    mine (inl e) = inl (d .cores (a .coro) ∙ e)
+    mine : (coreAt y (a .coro) ≡ over CoroState.Returned (coreAt y (a .coro) .seen) (coreAt w (a .coro))) ⊎ ((isCreated (coreAt w (a .coro) .state) ≡ true) × (coreAt y (a .coro) ≡ coreAt w (a .coro)))
+        → (coreAt (deliverReturn (a .driver) x y) (a .coro) ≡ over CoroState.Returned (coreAt (deliverReturn (a .driver) x y) (a .coro) .seen) (coreAt w (a .coro))) ⊎ ((isCreated (coreAt w (a .coro) .state) ≡ true) × (coreAt (deliverReturn (a .driver) x y) (a .coro) ≡ coreAt w (a .coro)))
+    mine (inl e) = inl (d .cores (a .coro) ∙ e ∙ ap (λ (k : Seat). over CoroState.Returned (k .seen) (coreAt w (a .coro))) (sym (d .cores (a .coro))))
     mine (inr e) = inr (e .0, d .cores (a .coro) ∙ e .1)
 
 -- ---- finish
@@ -245,7 +255,7 @@ end-failed v w c h = go (ℕ-discrete c v)
     e : Ends CoroState.Failed v (coreAt w) (coreAt (finishCoroutine v CoroState.Failed nil w))
     e = finish-ends v CoroState.Failed nil w
 
-    mine : (coreAt (finishCoroutine v CoroState.Failed nil w) v ≡ over CoroState.Failed (coreAt w v)) ⊎ ((isCreated (coreAt w v .state) ≡ true) × (coreAt (finishCoroutine v CoroState.Failed nil w) v ≡ coreAt w v))
+    mine : (coreAt (finishCoroutine v CoroState.Failed nil w) v ≡ over CoroState.Failed (coreAt (finishCoroutine v CoroState.Failed nil w) v .seen) (coreAt w v)) ⊎ ((isCreated (coreAt w v .state) ≡ true) × (coreAt (finishCoroutine v CoroState.Failed nil w) v ≡ coreAt w v))
         → c ≡ v → coreAt (finishCoroutine v CoroState.Failed nil w) v .state ≡ CoroState.Failed
     mine (inl x) q = ap (λ k. k .state) x
     mine (inr x) q = ap (λ k. k .state) (x .1) ∙ ap (λ u. coreAt w u .state) (sym q) ∙ h
@@ -276,7 +286,7 @@ fail-each (a ∷ chain) w c = go (ℕ-discrete c (a .coro)) (fail-each chain y c
     same q b (inr (inl x)) = inr (inl x)
     same q b (inr (inr x)) = inr (inr (b, x .1 ∙ q))
 
-    mine : (coreAt y (a .coro) ≡ over CoroState.Failed (coreAt w (a .coro))) ⊎ ((isCreated (coreAt w (a .coro) .state) ≡ true) × (coreAt y (a .coro) ≡ coreAt w (a .coro))) → c ≡ a .coro → Stopped chain y c (coreAt z c) → Stopped (a ∷ chain) w c (coreAt z c)
+    mine : (coreAt y (a .coro) ≡ over CoroState.Failed (coreAt y (a .coro) .seen) (coreAt w (a .coro))) ⊎ ((isCreated (coreAt w (a .coro) .state) ≡ true) × (coreAt y (a .coro) ≡ coreAt w (a .coro))) → c ≡ a .coro → Stopped chain y c (coreAt z c) → Stopped (a ∷ chain) w c (coreAt z c)
     mine (inl x) q s = inr (inl (fail-failed chain y c (ap (λ u. coreAt y u .state) q ∙ ap (λ k. k .state) x)))
     mine (inr x) q s = same (ap (coreAt y) q ∙ x .1 ∙ ap (coreAt w) (sym q)) (ap (λ u. isCreated (coreAt w u .state)) q ∙ x .0) s
 

@@ -79,7 +79,7 @@ module _ (P : CoroState → Bool) (idle : (s : CoroState) → busy s ≡ false �
   pub not-ends : {s : CoroState} {v : ℕ} {k l : ℕ → Seat} → Ends s v k l → busy s ≡ false → (u : ℕ) → P (k u .state) ≡ false → P (l u .state) ≡ false
   not-ends {s} {v} {k} {l} e b u h = go (ℕ-discrete u v)
     where
-      mine : (l v ≡ over s (k v)) ⊎ ((isCreated (k v .state) ≡ true) × (l v ≡ k v)) → P (k v .state) ≡ false → P (l v .state) ≡ false
+      mine : (l v ≡ over s (l v .seen) (k v)) ⊎ ((isCreated (k v .state) ≡ true) × (l v ≡ k v)) → P (k v .state) ≡ false → P (l v .state) ≡ false
       mine (inl x) n = ap (λ y. P (y .state)) x ∙ idle s b
       mine (inr x) n = ap (λ y. P (y .state)) (x .1) ∙ n
 

@@ -19,11 +19,11 @@ use Rattle.claims.proofs.Restores as Restores
 use Rattle.claims.proofs.Restores.{enters-old, suspends-old}
 use Rattle.claims.proofs.Untouched.{untouched}
 use Rattle.claims.proofs.Exact.{healthy-sound, no-some, entered, suspends, suspended-by}
-use Rattle.claims.proofs.Returned.{returns, returned-by}
+use Rattle.claims.proofs.Returned.{returns, returned-by, closed}
 use Rattle.claims.proofs.Losses.{fails-by, failed-by}
 use Rattle.claims.proofs.Values.{integer, word}
-use Rattle.claims.proofs.Closing.{closing, yielded, fixed}
-use Rattle.claims.proofs.Asleep.{asleep}
+use Rattle.claims.proofs.Closing.{closing, yielded, awaited, fixed}
+use Rattle.claims.proofs.Still.{still}
 
 -- a call that lets one return enters nobody, and suspends nobody
 not-whom : (v : View) (d : Does) (n u : ℕ) → returned v d n ≡ some u → whomBy v d ≡ none
@@ -56,9 +56,11 @@ events =
       failed = λ c w k h r l. failed-by c w k (healthy-sound w h) r l;
       integer = integer;
       word = word;
+      closed = closed;
       yielded = yielded;
       closing = closing;
-      asleep = asleep;
+      awaited = awaited;
+      still = still;
       fixed = fixed;
       one-switch = λ c u w k h g. exactly w k c .one-switch u (enters-old c w k h) (suspends-old u w k g);
       no-return = λ c u w k h g. no-entry (not-whom (viewOf w) (doing (viewOf w) (opOf k)) (numberOf (step w k .answer)) u (returns u w k g)) (Restores.entered c w k h .by .says);

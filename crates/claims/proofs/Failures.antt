@@ -85,7 +85,7 @@ loses-return w o v e b m = record {
   made = m;
 }
   where
-    mine : (coreAt (o .world) v ≡ over CoroState.Returned (coreAt w v)) ⊎ ((isCreated (coreAt w v .state) ≡ true) × (coreAt (o .world) v ≡ coreAt w v)) → isFailed (coreAt (o .world) v .state) ≡ false
+    mine : (coreAt (o .world) v ≡ over CoroState.Returned (coreAt (o .world) v .seen) (coreAt w v)) ⊎ ((isCreated (coreAt w v .state) ≡ true) × (coreAt (o .world) v ≡ coreAt w v)) → isFailed (coreAt (o .world) v .state) ≡ false
     mine (inl x) = ap (λ k. isFailed (k .state)) x
     mine (inr x) = no-both (x .0) (run-born (coreAt w v .state) b)
 
@@ -114,7 +114,7 @@ loses-more w y o v xs e b l = record {
   made = l .made;
 }
   where
-    mine : (coreAt y v ≡ over CoroState.Failed (coreAt w v)) ⊎ ((isCreated (coreAt w v .state) ≡ true) × (coreAt y v ≡ coreAt w v)) → coreAt y v .state ≡ CoroState.Failed
+    mine : (coreAt y v ≡ over CoroState.Failed (coreAt y v .seen) (coreAt w v)) ⊎ ((isCreated (coreAt w v .state) ≡ true) × (coreAt y v ≡ coreAt w v)) → coreAt y v .state ≡ CoroState.Failed
     mine (inl x) = ap (λ k. k .state) x
     mine (inr x) = no-both (x .0) (run-born (coreAt w v .state) b)
 

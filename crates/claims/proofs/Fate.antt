@@ -109,7 +109,7 @@ module _ (c : ℕ) (d : Driver) (bs : List ℕ) (bf : List Frame) (bc : List Act
   ended : {s : CoroState} {v : ℕ} {k l : ℕ → Seat} → Ends s v k l → v ≡ c → isRunning (k c .state) ≡ true → l c .state ≡ s
   ended {s} {v} {k} {l} e q r = go (e .mine)
     where
-      go : (l v ≡ S.over s (k v)) ⊎ ((isCreated (k v .state) ≡ true) × (l v ≡ k v)) → l c .state ≡ s
+      go : (l v ≡ S.over s (l v .seen) (k v)) ⊎ ((isCreated (k v .state) ≡ true) × (l v ≡ k v)) → l c .state ≡ s
       go (inl x) = ap (λ y. l y .state) (sym q) ∙ ap (λ y. y .state) x
       go (inr x) = no-both (x .0) (run-born (k v .state) (ap (λ y. isRunning (k y .state)) q ∙ r))
 

@@ -1,26 +1,25 @@
 -- What a suspending call finds of a coroutine, what an entry adds to it, and what a coroutine gives its driver.
 use Prim.Native.Nat.{ℕ, _+_}
-use mathlib.Core.Bool.{Bool, false, not, _&&_}
-use mathlib.Core.List.{List, [], _∷_, map}
+use mathlib.Core.Bool.{Bool}
+use mathlib.Core.List.{List, [], map}
 use mathlib.Core.Option.{Option, none, some}
 use lib.ListN.{drop, set}
-use lib.Dec.{eqb}
 use Rattle.lists.specs.Pick.{pick}
 use Rattle.heap.specs.Word.{nil}
 use Rattle.heap.specs.declared.object.CoroState.{CoroState}
-use Rattle.model.specs.Lists.{isNil}
 use Rattle.model.specs.State.{isAwaiting}
 use Rattle.model.specs.Object.{Core, Rest, Coroutine, Absent, Is}
 use Rattle.model.specs.World.{World}
-use Rattle.model.specs.Frames.{isCoro, onTop, setPc, stepPc, lower, above, baseAt, topBase, putAt}
+use Rattle.model.specs.Frames.{onTop, setPc, stepPc, lower, above, topBase, putAt}
 use Rattle.model.specs.Heap.{coro, toDyn}
 use Rattle.model.specs.Sound.{marked}
 use Rattle.model.specs.Call.{Call, SetUp, Do}
 use Rattle.model.specs.declared.machine.Driver.{Driver}
-use Rattle.model.specs.declared.machine.Active.{Active}
 use Rattle.model.specs.declared.machine.Frame.{Frame}
 use Rattle.model.specs.declared.coro.Made.{Made}
+use Rattle.claims.specs.Engine.{Seen}
 use Rattle.claims.specs.Says.{Sent, nothing, gets, closes}
+use Rattle.claims.specs.Steps.{seenOf}
 use Rattle.claims.proofs.Entry.{enters, suspends, neither, Act, at, byHost, finishes, unwinds, other, act, pcOf}
 
 -- the core of the coroutine that a word names, and by which word it is being closed; a word that names none counts as one not begun
@@ -31,15 +30,17 @@ pub record Seat : Type 0 where
   pub waiting : ℕ
   -- the word by which it is being closed, if it is
   pub closing : Option ℕ
+  -- what is seen of it
+  pub seen : Option Seen
 
 abbrev pub closingOf : Rest → Option ℕ
 closingOf r = pick (r .closing) (some (r .signal)) none
 
 abbrev pub seat : Core → Rest → Seat
-seat k r = record { state = k .state; regs = k .regs; frames = k .frames; waiting = k .waiting; closing = closingOf r }
+seat k r = record { state = k .state; regs = k .regs; frames = k .frames; waiting = k .waiting; closing = closingOf r; seen = seenOf (Is k r) }
 
 abbrev pub coreIn : Coroutine → Seat
-coreIn Absent = record { state = CoroState.Created; regs = []; frames = []; waiting = 0; closing = none }
+coreIn Absent = record { state = CoroState.Created; regs = []; frames = []; waiting = 0; closing = none; seen = none }
 coreIn (Is k r) = seat k r
 
 abbrev pub coreAt : World → ℕ → Seat
@@ -47,36 +48,9 @@ coreAt w c = coreIn (coro w c)
 
 -- ---- asleep
 
--- the index of c's Coro frame
-abbrev pub floorOf : List Active → ℕ → ℕ
-floorOf [] c = 0
-floorOf (a ∷ chain) c = pick (eqb (a .coro) c) (a .floor) (floorOf chain c)
-
--- m closes it, before; a yield ends that
-abbrev pub heldAs : Option ℕ → CoroState → ℕ → ℕ → ℕ → List Frame → List ℕ → Seat
-heldAs m state dst floor base frames stack = record { state = state; regs = drop base stack; frames = map (lower base) (above floor frames); waiting = dst; closing = pick (isAwaiting state) m none }
-
-abbrev pub sleptBy : Act → World → ℕ → Seat
-sleptBy (at pc ok (suspends state dst v)) w c =
-    let floor = floorOf (w .chain) c in
-    let frames = onTop (setPc pc) (w .frames) in
-    heldAs (coreAt w c .closing) state dst floor (baseAt floor frames) frames (w .stack)
-sleptBy (at pc ok (enters v d x may)) w c = coreAt w c
-sleptBy (at pc ok neither) w c = coreAt w c
-sleptBy (byHost v x) w c = coreAt w c
-sleptBy (finishes kind v) w c = coreAt w c
-sleptBy unwinds w c = coreAt w c
-sleptBy other w c = coreAt w c
-
--- what the suspending call k found of c: its frames with bases from 0, the top one at k's pc, its words, and k's register
-abbrev pub slept : World → Call → ℕ → Seat
-slept w (SetUp s) c = coreAt w c
-slept w (Do o) c = sleptBy (act w (o .op)) w c
-
--- plain frames over one Coro frame, which is at base 0
-abbrev pub isBody : List Frame → Bool
-isBody [] = false
-isBody (f ∷ fs) = pick (isNil fs) (isCoro (f .cont) && eqb (f .base) 0) (not (isCoro (f .cont)) && isBody fs)
+-- seen as x; m closes it, before, and a yield ends that
+abbrev pub heldAs : Option Seen → Option ℕ → CoroState → ℕ → ℕ → ℕ → List Frame → List ℕ → Seat
+heldAs x m state dst floor base frames stack = record { state = state; regs = drop base stack; frames = map (lower base) (above floor frames); waiting = dst; closing = pick (isAwaiting state) m none; seen = x }
 
 -- ---- awake
 

@@ -36,7 +36,7 @@ pub mod Losses
 pub mod Returned
 pub mod Values
 pub mod Closing
-pub mod Asleep
+pub mod Still
 pub mod Exactly
 pub mod Premises
 pub mod Witness

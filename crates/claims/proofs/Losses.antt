@@ -41,7 +41,7 @@ use Rattle.claims.specs.Engine.{is}
 use Rattle.claims.specs.Engine as Engine
 use Rattle.claims.specs.Held.{at}
 use Rattle.claims.specs.Events as Said
-use Rattle.claims.specs.Events.{among, lost, lostAt, raised, Lost, escapes}
+use Rattle.claims.specs.Events.{among, lost, lostAt, raised, Lost, thrown, escapes}
 use Rattle.claims.specs.Steps.{seenOf, viewOf, opOf, steps}
 use Rattle.claims.proofs.Entry.{act}
 use Rattle.claims.proofs.Held.{coreIn, coreAt}
@@ -172,6 +172,10 @@ module _ (w : World) (h : sound w ≡ true) where
   unwound Fault.GrantTooLarge pc = refused Fault.Unsound
   unwound (Fault.Throw x) pc = by-loses (word-loses x pc)
 
+  pub thrown-gone : (x : ℕ) (pc : OptPc) (c : ℕ) → among c (lostAt (viewOf w) (some x) pc) ≡ true → coreAt (unwind (Fault.Throw x) pc w .world) c .state ≡ CoroState.Failed
+  unfolding unwind pick
+  thrown-gone x pc c a = word-loses x pc .gone c a .1
+
 -- ---- other calls
 
 run-worked : (c : ℕ) {v z : View} → Worked false v z → isRunning (v .cores c .state) ≡ true → isRunning (z .cores c .state) ≡ true
@@ -223,7 +227,7 @@ finish-fails : (kind : ResultKind) (x : ℕ) (w : World) (c : ℕ) (o : After An
 finish-fails kind x w c o r (f-other e n) = ap (λ k. isFailed (coreIn k .state)) (e c) ∙ run-fails (coreAt w c .state) r
 finish-fails kind x w c o r (f-returns f fs a chain y p q i m n ends tells ints) = go (ℕ-discrete c (a .coro))
   where
-    mine : (coreAt (o .world) (a .coro) ≡ S.over CoroState.Returned (coreAt w (a .coro))) ⊎ ((isCreated (coreAt w (a .coro) .state) ≡ true) × (coreAt (o .world) (a .coro) ≡ coreAt w (a .coro))) → c ≡ a .coro → isFailed (coreAt (o .world) (a .coro) .state) ≡ false
+    mine : (coreAt (o .world) (a .coro) ≡ S.over CoroState.Returned (coreAt (o .world) (a .coro) .seen) (coreAt w (a .coro))) ⊎ ((isCreated (coreAt w (a .coro) .state) ≡ true) × (coreAt (o .world) (a .coro) ≡ coreAt w (a .coro))) → c ≡ a .coro → isFailed (coreAt (o .world) (a .coro) .state) ≡ false
     mine (inl k) q = ap (λ y. isFailed (y .state)) k
     mine (inr k) q = no-both (k .0) (ap (λ u. isCreated (coreAt w u .state)) (sym q) ∙ run-born (coreAt w c .state) r)
 
@@ -248,6 +252,7 @@ named (some o) = true
 
 lost-named : {v : Engine.View} {n c : ℕ} {p : Option Op} → Lost v n c p → named p ≡ true
 unfolding named
+lost-named (thrown x pc a) = refl
 lost-named (escapes f pc m a) = refl
 lost-named Said.stops = refl
 
@@ -298,6 +303,7 @@ module _ (w : World) (h : sound w ≡ true) (c : ℕ) (r : isRunning (coreAt w c
 
   has-lost : (o : Op) → Lost (viewOf w) (numberOf (call o w .answer)) c (some o) → coreAt (call o w .world) c .state ≡ CoroState.Failed
   unfolding call
+  has-lost o (thrown x pc a) = thrown-gone w h x pc c a
   has-lost o (escapes f pc m a) = unwound w h f pc .gone c m a
   has-lost o Said.stops = go (stop-stops w .each c)
     where

@@ -1,31 +1,37 @@
 -- THE PROMISE, of `step`. Assumes nothing.
-use Prim.Native.Nat.{ℕ, _^_, _<_}
+use Prim.Native.Nat.{ℕ, zero, suc, _^_, _<_}
 use native.Mathlib.Omega.{arith}
 use mathlib.Core.Path.{_≡_, refl, sym, ap, _∙_, subst}
 use mathlib.Core.Logic.{_⊎_, inl, inr}
-use mathlib.Core.Bool.{Bool, true, false, not}
+use mathlib.Core.Bool.{Bool, true, false}
 use mathlib.Core.List.{List, [], _∷_}
 use mathlib.Core.Option.{Option, none, some}
-use lib.ListN.{length, take, drop}
+use lib.ListN.{length, getD, take, drop}
 use lib.Dec.{eqb}
 use borrow.Author.Tests.{eq-eqb, not-true}
 use Rattle.lists.specs.Pick.{pick}
+use Rattle.heap.specs.Table.{slot}
+use Rattle.heap.specs.declared.heap.Place.{Place}
 use Rattle.heap.specs.declared.fault.Fault.{Fault}
+use Rattle.heap.specs.declared.object.CoroState.{CoroState}
 use Rattle.heap.specs.declared.heap.ResultKind.{ResultKind}
-use Rattle.model.specs.Program.{Setup, setupOk}
-use Rattle.model.specs.World.{World, After, after, fresh}
+use Rattle.model.specs.Program.{Func, Setup, setupOk}
+use Rattle.model.specs.Object.{Object, isDone}
+use Rattle.model.specs.World.{World, After, fresh, functionObjects}
 use Rattle.model.specs.Frames.{isCoro}
-use Rattle.model.specs.Heap.{toDyn}
-use Rattle.model.specs.Machine.{searchFrames, storeSome, finish, unwind, raisable}
+use Rattle.model.specs.Heap.{place, objectAt, toDyn}
+use Rattle.model.specs.Machine.{finish, unwind, raisable}
 use Rattle.model.specs.Gate.{refused}
-use Rattle.model.specs.Added.{accepted}
+use Rattle.model.specs.Added as Added
+use Rattle.model.specs.Added.{accepted, registersOn}
 use Rattle.model.specs.Sound.{sound, floorsOk, beside, matches}
 use Rattle.model.specs.Answer.{numberOf}
-use Rattle.model.specs.Call.{Call, SetUp, Do, Operation}
+use Rattle.model.specs.Call.{Call, SetUp, Do}
 use Rattle.model.specs.Calls.{table}
 use Rattle.model.specs.Step.{call, tested, step, told}
 use Rattle.model.specs.Compute.{computed}
-use Rattle.model.specs.declared.machine.Active.{Active}
+use Rattle.model.specs.declared.machine.Cont.{Cont}
+use Rattle.model.specs.declared.machine.Driver.{Driver}
 use Rattle.model.specs.declared.machine.Frame.{Frame}
 use Rattle.model.specs.declared.coro.Made.{Made}
 use Rattle.model.specs.declared.call.OptPc.{OptPc}
@@ -37,21 +43,22 @@ use Rattle.invariant.proofs.Call.{call-keeps}
 use Rattle.claims.specs.Engine as Engine
 use Rattle.claims.specs.Demand3.{Restarts}
 use Rattle.claims.specs.Events.{Healthy, onBody, raised, raisedAt}
-use Rattle.claims.specs.Promise.{plain, Makes, converts, Accepts, Eleven, sets-up, no-fault, Soundness, NotEmpty, Promise}
-use Rattle.claims.specs.Steps.{viewOf, opOf, steps}
-use Rattle.claims.specs.Story.{wide, c, held}
+use Rattle.claims.specs.Promise.{plain, Roomy, Makes, converts, Eleven, sets-up, no-fault, Soundness, Fresh, registers, NotEmpty, Promise}
+use Rattle.claims.specs.Steps.{seenOf, viewOf, opOf, looks, steps}
+use Rattle.claims.specs.Story.{wide, f, c, held}
 use Rattle.claims.specs.Premises.{premises}
-use Rattle.claims.specs.Witness.{nth, between}
+use Rattle.claims.specs.Witness.{nth, between, frame}
 use Rattle.claims.proofs.Cores.{no-both}
-use Rattle.claims.proofs.Shape.{View, view}
+use Rattle.claims.proofs.Shape.{View}
 use Rattle.claims.proofs.Sounds.{Floors, floors}
+use Rattle.claims.proofs.Claim.{fresh-absent}
 use Rattle.claims.proofs.Soundness.{soundness-kept}
 use Rattle.claims.proofs.Finishes.{bodyOn, Unmade, FinishCase, f-other, f-returns, finish-case}
 use Rattle.claims.proofs.Escapes.{Ended, e-works, e-returns}
 use Rattle.claims.proofs.Unwinds.{word-ended}
 use Rattle.claims.proofs.Exact.{healthy-sound, number-sound, no-some}
 use Rattle.claims.proofs.Returned.{on-body}
-use Rattle.claims.proofs.Premises.{Premises, premises-met}
+use Rattle.claims.proofs.Premises.{premises-met}
 use Rattle.claims.proofs.Exactly.{events, demand3}
 use Rattle.claims.proofs.Values.{can-make, word-in}
 use Rattle.claims.proofs.Roomy.{await-takes, kv-takes, yield-takes}
@@ -208,18 +215,113 @@ accepts-escape : (w : World) (k : Call) (x : ℕ) (pc : OptPc) (c : ℕ) → Hea
 accepts-escape w (SetUp s) x pc c h e q = let z : _≡_ {A = ℕ} 0 1 = cc in absurd (omega arith)
 accepts-escape w (Do o) x pc c h e q = ap numberOf (number-sound w o (healthy-sound w h)) ∙ ap (λ p. numberOf (call p w .answer)) (some-op e) ∙ escape-call x pc w c (healthy-sound w h) q
 
+-- ---- set-ups and looks
+
+begins-fresh : (s : Setup) → Fresh (viewOf (fresh s))
+begins-fresh s = record { stack = refl; frames = refl; chain = refl; coros = λ c. ap seenOf (fresh-absent s c); loops = λ x. no-loops (place (fresh s) x); queue = refl; fuel = refl; used = refl }
+  where
+    at : (n : ℕ) (fs : List Func) (i : ℕ) → isDone (getD (functionObjects n fs) i (slot 0 Object.Empty) .object) ≡ false
+    at n [] i = refl
+    at n (f ∷ fs) zero = refl
+    at n (f ∷ fs) (suc i) = at (suc n) fs i
+
+    no-loops : (p : Place) → isDone (objectAt (functionObjects 0 (s .functions)) p) ≡ false
+    no-loops Place.Nothing = refl
+    no-loops (Place.At i) = at 0 (s .functions) i
+
+set-up-begun : (w : World) (k : Call) → Restarts steps w k → Fresh (viewOf (step w k .world))
+unfolding step pick
+set-up-begun w (Do o) r = let q = r .sets-up in let z : _≡_ {A = ℕ} 0 1 = cc in absurd (omega arith)
+set-up-begun w (SetUp s) r = go (setupOk s) (r .accepted)
+  where
+    go : (b : Bool) → numberOf (pick b (accepted (fresh s)) (refused w Fault.Unsound) .answer) ≡ 0 → Fresh (viewOf (pick b (accepted (fresh s)) (refused w Fault.Unsound) .world))
+    go true n = begins-fresh s
+    go false n = absurd (omega (arith, n))
+
+set-up-refused : (w : World) (k : Call) → opOf k ≡ none → (numberOf (step w k .answer) ≡ 0 → ⊥) → (numberOf (step w k .answer) ≡ 11) × (viewOf (step w k .world) ≡ viewOf w)
+unfolding step pick
+set-up-refused w (Do o) e n = let z : _≡_ {A = ℕ} 0 1 = cc in absurd (omega arith)
+set-up-refused w (SetUp s) e n = go (setupOk s) n
+  where
+    go : (b : Bool) → let o = pick b (accepted (fresh s)) (refused w Fault.Unsound) in (numberOf (o .answer) ≡ 0 → ⊥) → (numberOf (o .answer) ≡ 11) × (viewOf (o .world) ≡ viewOf w)
+    go true n = absurd (n refl)
+    go false n = (refl, refl)
+
+the-part : (fs : List Frame) (xs : List ℕ) → registersOn fs xs ≡ registers fs xs
+the-part [] xs = refl
+the-part (f ∷ fs) xs = refl
+
+look-sees : (w : World) → Healthy steps w → looks w ≡ registers (w .frames) (w .stack)
+unfolding step tested call pick Added.registers
+look-sees w h = ap (λ b. pick b (call Op.Look w) (told (refused w Fault.Unsound)) .seen) (healthy-sound w h) ∙ the-part (w .frames) (w .stack)
+
+look-unseen : (w : World) → (Healthy steps w → ⊥) → looks w ≡ []
+unfolding step tested pick
+look-unseen w h = go (sound w) refl
+  where
+    go : (b : Bool) → sound w ≡ b → pick b (call Op.Look w) (told (refused w Fault.Unsound)) .seen ≡ []
+    go true e = absurd (h (sound-healthy w e))
+    go false e = refl
+
+look-unmoved : (w : World) (k : Call) → opOf k ≡ some Op.Look → viewOf (step w k .world) ≡ viewOf w
+unfolding step tested call pick
+look-unmoved w (SetUp s) e = let z : _≡_ {A = ℕ} 0 1 = cc in absurd (omega arith)
+look-unmoved w (Do o) e = go (sound w)
+  where
+    go : (b : Bool) → viewOf (pick b (call (o .op) w) (told (refused w Fault.Unsound)) .world) ≡ viewOf w
+    go true = ap (λ p. viewOf (call p w .world)) (some-op e)
+    go false = refl
+
 -- ---- not empty: the split that Witness.antt shows as lists
 
-before : List Call
+unfoldable pub before : List Call
 before = drop 1 (take 13 held)
 
 begins : step (fresh wide) (SetUp wide) .answer ≡ Answer.Accepted
 unfolding computed
 begins = refl
 
+begins-at : step (fresh wide) (SetUp wide) .world ≡ fresh wide
+unfolding computed
+begins-at = refl
+
 split-met : premises steps c (Engine.run steps (step (fresh wide) (SetUp wide) .world) before) (nth held 13) (between held 13 23) (nth held 23) (between held 23 26) (nth held 26) ≡ true
 unfolding computed before
 split-met = refl
+
+-- where c yields, it has room
+sound-there : sound (Engine.run steps (fresh wide) before) ≡ true
+unfolding computed before
+sound-there = refl
+
+pub roomy-met : Roomy steps (wide .costs .int) c (Engine.run steps (fresh wide) before)
+unfolding computed before
+roomy-met =
+    record {
+      healthy = sound-healthy (Engine.run steps (fresh wide) before) sound-there;
+      fuel = refl;
+      held = record {
+        over = frame 1 0 8 0 (Cont.Dyn 2) ∷ [];
+        body = frame 0 5 4 f Cont.Coro;
+        under = frame 0 2 0 0 Cont.Entry ∷ [];
+        driver = Driver.Resume 1;
+        outer = [];
+        frames = refl;
+        its-own = refl;
+        chain = refl;
+      };
+      seen = record { state = CoroState.Running; words = 0; frames = 0; mostWords = 4; mostFrames = 1; closing = false; signal = 0; result = 0 };
+      there = refl;
+      grows = refl;
+    }
+
+pub makes-met : Makes (viewOf (Engine.run steps (fresh wide) before))
+unfolding computed before
+makes-met = record { slot = refl; bytes = refl }
+
+costs-met : viewOf (Engine.run steps (fresh wide) before) .intCost ≡ wide .costs .int
+unfolding computed before
+costs-met = refl
 
 pub not-empty : NotEmpty steps
 not-empty =
@@ -236,6 +338,8 @@ not-empty =
       z = nth held 26;
       c = c;
       suspends = p .suspends;
+      roomy = subst (λ w. Roomy steps (viewOf (Engine.run steps w before) .intCost) c (Engine.run steps w before)) (sym begins-at) (subst (λ n. Roomy steps n c (Engine.run steps (fresh wide) before)) (sym costs-met) roomy-met);
+      makes = subst (λ w. Makes (viewOf (Engine.run steps w before))) (sym begins-at) makes-met;
       waits = p .waits;
       enters = p .enters;
       goes = p .goes;
@@ -257,5 +361,7 @@ promise =
         escape = accepts-escape;
       };
       soundness = soundness;
+      set-ups = record { begun = set-up-begun; refused = set-up-refused };
+      looks = record { sees = look-sees; unseen = look-unseen; unmoved = look-unmoved };
       not-empty = not-empty;
     }

@@ -30,8 +30,10 @@ use Rattle.model.specs.Coro.{newRegs, newCore, newRest, coroCreate, inState, en
 use Rattle.model.specs.Exec.{keyExact, keyAt, autoKey, indirectTo, indirect, window}
 use Rattle.model.specs.declared.coro.Made.{Made}
 use Rattle.heap.specs.declared.heap.ResultKind.{ResultKind}
-use Rattle.claims.proofs.Held.{Seat, closingOf, coreIn, coreAt}
-use Rattle.claims.proofs.Cores.{no-both, busy, Kept, kept, unborn, objectIn, push-cases, set-mine, set-other, set-rest, set-iter}
+use Rattle.claims.specs.Delivery.{recorded}
+use Rattle.claims.specs.Steps.{seenOf}
+use Rattle.claims.proofs.Held.{Seat, coreIn, coreAt}
+use Rattle.claims.proofs.Cores.{no-both, busy, Kept, kept, unborn, objectIn, push-cases, set-mine, set-other, set-iter}
 use Rattle.claims.proofs.Shape.{View, view, over, Ends, Worked, quiet}
 
 -- v is w with objects added, none of which runs or sleeps
@@ -210,18 +212,27 @@ finish-ends v s result w = go (coro w v) refl
   where
     go : (x : Coroutine) → coro w v ≡ x → Ends s v (coreAt w) (coreAt (changeAs x v (inState s) (ended result) w))
     go Absent e = record { mine = inr (ap (λ x. isCreated (coreIn x .state)) e, refl); others = λ u n. refl }
-    go (Is k r) e = record {
-      mine = inl
-          (ap coreIn (set-mine (w .slots) v e (inState s k) (ended result r)) ∙ (λ i. record { state = s; regs = []; frames = []; waiting = k .waiting; closing = pick-false {A = Option ℕ} (some nil) none i }) ∙ ap (over s) (sym (ap coreIn e)));
-      others = set-other
-          (w .slots) v e (inState s k) (ended result r);
-    }
+    go (Is k r) e = record { mine = inl (all ∙ ap (λ x. over s x (coreAt w v)) (sym (ap (λ (y : Seat). y .seen) all))); others = set-other (w .slots) v e (inState s k) (ended result r) }
+      where
+        all : coreAt (changeAs (Is k r) v (inState s) (ended result) w) v ≡ over s (seenOf (Is (inState s k) (ended result r))) (coreAt w v)
+        all =
+            ap coreIn (set-mine (w .slots) v e (inState s k) (ended result r))
+            ∙ (λ i. record { state = s; regs = []; frames = []; waiting = k .waiting; closing = pick-false {A = Option ℕ} (some nil) none i; seen = seenOf (Is (inState s k) (ended result r)) })
+            ∙ ap (over s (seenOf (Is (inState s k) (ended result r)))) (sym (ap coreIn e))
+
+-- .. and its result is told
+pub finish-told : (v : ℕ) (s : CoroState) (result : ℕ) (w : World) → isCreated s ≡ false → isCreated (coreAt (finishCoroutine v s result w) v .state) ≡ false → recorded (coreAt (finishCoroutine v s result w) v .seen) ≡ result
+finish-told v s result w n = go (coro w v) refl
+  where
+    go : (x : Coroutine) → coro w v ≡ x → isCreated (coreAt (changeAs x v (inState s) (ended result) w) v .state) ≡ false → recorded (coreAt (changeAs x v (inState s) (ended result) w) v .seen) ≡ result
+    go Absent e h = no-both (ap (λ x. isCreated (coreIn x .state)) e) h
+    go (Is k r) e h = ap (λ x. recorded (coreIn x .seen)) (set-mine (w .slots) v e (inState s k) (ended result r))
 
 -- one that has not begun ends without a run
 pub unborn-ends : (v : ℕ) (s : CoroState) (k l : ℕ → Seat) → busy s ≡ false → isCreated s ≡ false → isCreated (k v .state) ≡ true → Ends s v k l → (c : ℕ) → Kept (k c) (l c)
 unborn-ends v s k l b n h e c = go (ℕ-discrete c v)
   where
-    mine : (l v ≡ over s (k v)) ⊎ ((isCreated (k v .state) ≡ true) × (l v ≡ k v)) → Kept (k v) (l v)
+    mine : (l v ≡ over s (l v .seen) (k v)) ⊎ ((isCreated (k v .state) ≡ true) × (l v ≡ k v)) → Kept (k v) (l v)
     mine (inl x) = unborn h (ap (λ y. busy (y .state)) x ∙ b) (λ q. no-both q (ap (λ y. isCreated (y .state)) x ∙ n))
     mine (inr x) = kept (x .1)
 
@@ -243,11 +254,3 @@ change-still w c f g = go (coro w c)
     go : (x : Coroutine) → Still w (changeAs x c f g w)
     go Absent = record { setup = refl; stack = refl; frames = refl; chain = refl }
     go (Is k r) = record { setup = refl; stack = refl; frames = refl; chain = refl }
-
--- in its rest alone
-pub change-calm : (c : ℕ) (g : Rest → Rest) (w : World) → ((r : Rest) → closingOf (g r) ≡ closingOf r) → Calm w (changeCoro c (λ k. k) g w)
-change-calm c g w m = go (coro w c) refl
-  where
-    go : (y : Coroutine) → coro w c ≡ y → Calm w (changeAs y c (λ k. k) g w)
-    go Absent e = record { setup = refl; stack = refl; frames = refl; chain = refl; cores = λ x. refl }
-    go (Is k r) e = record { setup = refl; stack = refl; frames = refl; chain = refl; cores = set-rest (w .slots) c e (g r) (m r) }

@@ -1,9 +1,8 @@
 -- Returns are exact: the proof.
 use Prim.Native.Nat.{ℕ}
-use native.Mathlib.Omega.{arith}
 use native.Mathlib.Decide.{ℕ-discrete}
 use mathlib.Core.Path.{_≡_, refl, sym, ap, _∙_, subst}
-use mathlib.Core.Logic.{_≢_, _⊎_, inl, inr}
+use mathlib.Core.Logic.{_⊎_, inl, inr}
 use mathlib.Core.Bool.{Bool, true, false, _&&_}
 use mathlib.Core.List.{List, [], _∷_}
 use mathlib.Core.Option.{Option, none, some}
@@ -16,47 +15,40 @@ use Rattle.model.specs.State.{isCreated, isRunning, isSuspended, isReturned}
 use Rattle.model.specs.World.{World, After}
 use Rattle.model.specs.Frames.{isCoro}
 use Rattle.model.specs.Heap.{coro}
-use Rattle.model.specs.Coro.{inState}
-use Rattle.model.specs.Machine.{finish, unwind}
-use Rattle.model.specs.Gate.{refused}
+use Rattle.model.specs.Machine.{finish}
 use Rattle.model.specs.Sound.{sound}
 use Rattle.model.specs.Answer.{numberOf}
-use Rattle.model.specs.Call.{Call, SetUp, Do, Operation, typed, asCall}
+use Rattle.model.specs.Call.{Call, SetUp, Do}
 use Rattle.model.specs.Step as M
-use Rattle.model.specs.Step.{call, tested, step, told}
+use Rattle.model.specs.Step.{call, step, told}
 use Rattle.model.specs.declared.machine.Cont.{Cont}
-use Rattle.model.specs.declared.machine.Active.{Active}
 use Rattle.model.specs.declared.machine.Frame.{Frame}
 use Rattle.model.specs.declared.call.OptPc.{OptPc}
 use Rattle.model.specs.declared.call.Op.{Op}
 use Rattle.model.specs.declared.call.Answer.{Answer}
 use Rattle.claims.specs.Engine as Engine
-use Rattle.claims.specs.Says.{Aim, enter, suspend, neither, Does, instr, hosts, finishes, raises, other, does, doing, Entry, entry, whomBy, whom}
-use Rattle.claims.specs.Held.{By}
+use Rattle.claims.specs.Says.{finishes, does, doing, Entry}
+use Rattle.claims.specs.Delivery.{recorded}
 use Rattle.claims.specs.Demand3 as D
 use Rattle.claims.specs.Events as Said
-use Rattle.claims.specs.Events.{Healthy, inmost, isBody, onBody, suspended, returned}
+use Rattle.claims.specs.Events.{inmost, isBody, onBody, suspended, returned}
 use Rattle.claims.specs.Steps.{viewOf, opOf, steps}
 use Rattle.claims.proofs.Entry as E
-use Rattle.claims.proofs.Entry.{act, pcBy, entryBy}
-use Rattle.claims.proofs.Suspension.{suspendsIn, takesBy}
+use Rattle.claims.proofs.Entry.{act}
 use Rattle.claims.proofs.Held.{Seat, coreIn, coreAt}
-use Rattle.claims.proofs.Split.{next, Suspends, Enters}
+use Rattle.claims.proofs.Split.{next}
 use Rattle.claims.proofs.Accepted as A
 use Rattle.claims.proofs.Cores.{no-both, and-left, and-right, Kept, kept, unborn}
 use Rattle.claims.proofs.Shape as S
 use Rattle.claims.proofs.Shape.{View, view, Ends, Worked, done, quiet, tops, puts, pushes, pops, fails, Apart, Shape}
-use Rattle.claims.proofs.Events.{run-born, run-susp, ready-run, suspended-one, no-entry}
+use Rattle.claims.proofs.Events.{run-born, ready-run}
 use Rattle.claims.proofs.Sounds.{apart, first-runs}
 use Rattle.claims.proofs.Calls.{shape}
 use Rattle.claims.proofs.Claim as Claim
 use Rattle.claims.proofs.Claim.{StepCase, anew, same, step-case, fresh-absent, next-sound}
-use Rattle.claims.proofs.Acceptance.{exactly, named-enters, suspends-exactly, takes-sound}
-use Rattle.claims.proofs.Views.{is-runs, is-sleeps, is-ended, Alike, l-at, l-host, l-finish, l-raise, l-other, says-alike}
+use Rattle.claims.proofs.Views.{is-runs, is-ended, seen-at}
 use Rattle.claims.proofs.Whom as Whom
-use Rattle.claims.proofs.Whom.{whom-told}
 use Rattle.claims.proofs.Restores as Restores
-use Rattle.claims.proofs.Restores.{enters-old, suspends-old}
 use Rattle.claims.proofs.Finishes.{Unmade, FinishCase, f-other, f-returns, finish-case, bodyOn}
 use Rattle.claims.proofs.Escapes.{Ended, e-works, e-returns}
 use Rattle.claims.proofs.Unwinds.{unwind-ended}
@@ -91,7 +83,7 @@ going-kept (unborn a b m) g = no-both a (going-born g)
 going-ends : {v c : ℕ} {k l : ℕ → Seat} → Ends CoroState.Failed v k l → Going (k c .state) → Going (l c .state)
 going-ends {v} {c} {k} {l} e g = go (ℕ-discrete c v)
   where
-    mine : (l v ≡ S.over CoroState.Failed (k v)) ⊎ ((isCreated (k v .state) ≡ true) × (l v ≡ k v)) → c ≡ v → Going (l c .state)
+    mine : (l v ≡ S.over CoroState.Failed (l v .seen) (k v)) ⊎ ((isCreated (k v .state) ≡ true) × (l v ≡ k v)) → c ≡ v → Going (l c .state)
     mine (inl x) q = failed (ap (λ y. l y .state) q ∙ ap (λ y. y .state) x)
     mine (inr x) q = subst (λ y. Going (y .state)) (sym (ap l q ∙ x .1 ∙ ap k (sym q))) g
 
@@ -172,7 +164,7 @@ ended-has w h c {o} (e-returns u f fs a chain t r n) q = go (isRunning (coreAt w
     its : a .coro ≡ c
     its = some-one q
 
-    ends : Going (u .cores (a .coro) .state) → (coreAt (o .world) (a .coro) ≡ S.over CoroState.Returned (u .cores (a .coro))) ⊎ ((isCreated (u .cores (a .coro) .state) ≡ true) × (coreAt (o .world) (a .coro) ≡ u .cores (a .coro))) → isReturned (coreAt (o .world) c .state) ≡ true
+    ends : Going (u .cores (a .coro) .state) → (coreAt (o .world) (a .coro) ≡ S.over CoroState.Returned (coreAt (o .world) (a .coro) .seen) (u .cores (a .coro))) ⊎ ((isCreated (u .cores (a .coro) .state) ≡ true) × (coreAt (o .world) (a .coro) ≡ u .cores (a .coro))) → isReturned (coreAt (o .world) c .state) ≡ true
     ends g (inl x) = ap (λ y. isReturned (coreAt (o .world) y .state)) (sym its) ∙ ap (λ y. isReturned (y .state)) x
     ends g (inr x) = no-both (x .0) (going-born g)
 
@@ -223,7 +215,7 @@ finish-has kind x w h c o e (f-returns f fs a chain y p q r m n ends tells ints)
     ran : isRunning (coreAt w (a .coro) .state) ≡ true
     ran = first-runs w h a chain r
 
-    go : (coreAt (o .world) (a .coro) ≡ S.over CoroState.Returned (coreAt w (a .coro))) ⊎ ((isCreated (coreAt w (a .coro) .state) ≡ true) × (coreAt (o .world) (a .coro) ≡ coreAt w (a .coro))) → isReturned (coreAt (o .world) (a .coro) .state) ≡ true
+    go : (coreAt (o .world) (a .coro) ≡ S.over CoroState.Returned (coreAt (o .world) (a .coro) .seen) (coreAt w (a .coro))) ⊎ ((isCreated (coreAt w (a .coro) .state) ≡ true) × (coreAt (o .world) (a .coro) ≡ coreAt w (a .coro))) → isReturned (coreAt (o .world) (a .coro) .state) ≡ true
     go (inl k) = ap (λ y. isReturned (y .state)) k
     go (inr k) = no-both (k .0) (run-born (coreAt w (a .coro) .state) ran)
 
@@ -305,3 +297,34 @@ returned-by c w (SetUp s) h e = no-some refl e
 returned-by c w (Do o) h e =
     let t = call-has w h (o .op) c (ap (λ y. returned (viewOf w) (does (viewOf w) (o .op)) (numberOf y)) (sym (number-sound w o h)) ∙ e) in
     record { before = is-runs w c ∙ t .before; after = is-ended (next w (Do o)) c ∙ ap (λ y. isReturned (coreAt y c .state)) (next-sound w o h) ∙ t .after }
+
+-- ---- a close that its own signal ends is recorded as nil
+
+ended-told : (w : World) (c : ℕ) {o : After Answer} {who : Option ℕ} → Ended (view w) o who → isRunning (coreAt w c .state) ≡ true → isReturned (coreAt (o .world) c .state) ≡ true → recorded (coreAt (o .world) c .seen) ≡ 0
+ended-told w c (e-works t) b l = no-both l (going-not (going-worked c t (runs b)))
+ended-told w c {o} (e-returns u f fs a chain t r n) b l = go (ℕ-discrete c (a .coro))
+  where
+    go : Dec (c ≡ a .coro) → recorded (coreAt (o .world) c .seen) ≡ 0
+    go (yes q) = ap (λ y. recorded (coreAt (o .world) y .seen)) q ∙ r .told (ap (λ y. isReturned (coreAt (o .world) y .state)) (sym q) ∙ l)
+    go (no q) = no-both l (ap (λ y. isReturned (y .state)) (r .ends .others c q) ∙ going-not (going-worked c t (runs b)))
+
+unwind-told : (f : Fault) (pc : OptPc) (w : World) (c : ℕ) → sound w ≡ true → isRunning (coreAt w c .state) ≡ true → let z = call (Op.Unwind f pc) w .world in isReturned (coreAt z c .state) ≡ true → recorded (coreAt z c .seen) ≡ 0
+unfolding call
+unwind-told f pc w c h b l = ended-told w c (unwind-ended w h f pc) b l
+
+some-op : {a b : Op} → _≡_ {A = Option Op} (some a) (some b) → a ≡ b
+some-op e = cc
+
+pub closed : (c : ℕ) (w : World) (k : Call) (f : Fault) (pc : OptPc) → Said.Returns steps c w k → opOf k ≡ some (Op.Unwind f pc) → recorded (viewOf (next w k) .coro c) ≡ 0
+closed c w k f pc g e = ap recorded (sym (seen-at (next w k) c)) ∙ go (next w k) (step-case w k) (sym (is-ended (next w k) c) ∙ g .after) e
+  where
+    ran : isRunning (coreAt w c .state) ≡ true
+    ran = sym (is-runs w c) ∙ g .before
+
+    told : (o : Op) → o ≡ Op.Unwind f pc → sound w ≡ true → isReturned (coreAt (call o w .world) c .state) ≡ true → recorded (coreAt (call o w .world) c .seen) ≡ 0
+    told o q s a = ap (λ p. recorded (coreAt (call p w .world) c .seen)) q ∙ unwind-told f pc w c s ran (ap (λ p. isReturned (coreAt (call p w .world) c .state)) (sym q) ∙ a)
+
+    go : {k : Call} (z : World) → StepCase w k z → isReturned (coreAt z c .state) ≡ true → opOf k ≡ some (Op.Unwind f pc) → recorded (coreAt z c .seen) ≡ 0
+    go z (anew s e) a q = no-both a (ap (λ x. isReturned (coreIn x .state)) (fresh-absent s c))
+    go z (same k e) a q = no-both a (run-returned (coreAt w c .state) ran)
+    go z (Claim.does o e) a q = told (o .op) (some-op q) e a

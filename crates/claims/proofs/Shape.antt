@@ -5,11 +5,11 @@ use mathlib.Core.Path.{_≡_}
 use mathlib.Core.Logic.{_≢_, _⊎_}
 use mathlib.Core.Bool.{Bool, true, false}
 use mathlib.Core.List.{List, [], _∷_, _++_, map}
-use mathlib.Core.Option.{none}
+use mathlib.Core.Option.{Option, none}
 use lib.ListN.{length, take}
 use Rattle.heap.specs.declared.object.CoroState.{CoroState}
 use Rattle.model.specs.Lists.{isNil}
-use Rattle.model.specs.State.{isCreated, isRunning, isSuspended, isResumable}
+use Rattle.model.specs.State.{isCreated, isRunning, isSuspended, isReturned, isResumable}
 use Rattle.model.specs.Program.{Setup}
 use Rattle.model.specs.World.{World}
 use Rattle.model.specs.Frames.{isCoro, onTop, setPc, raise, below, baseAt, putAt}
@@ -20,8 +20,10 @@ use Rattle.model.specs.declared.machine.Driver.{Driver}
 use Rattle.model.specs.declared.machine.Active.{Active}
 use Rattle.model.specs.declared.machine.Frame.{Frame}
 use Rattle.model.specs.declared.call.Op.{Op}
+use Rattle.claims.specs.Engine.{Seen}
 use Rattle.claims.specs.Says.{Sent}
 use Rattle.claims.specs.Held.{closedBy}
+use Rattle.claims.specs.Delivery.{recorded}
 use Rattle.claims.proofs.Entry.{suspends, Act, at, byHost, finishes, unwinds, other, act, Entry, nobody, entry, entryBy, pcBy}
 use Rattle.claims.proofs.Suspension.{suspendsIn, takesBy}
 use Rattle.claims.proofs.Held.{Seat, coreAt, heldAs, wordsWith, framesWith, Returns, eventAs, eventBy, mem, deliverTo}
@@ -38,13 +40,13 @@ pub record View : Type 0 where
 abbrev pub view : World → View
 view w = record { setup = w .setup; stack = w .stack; frames = w .frames; chain = w .chain; cores = coreAt w }
 
--- the core of a coroutine that ends in a state, and all others as they were
 -- nothing is saved any more, and nothing closes it
-abbrev pub over : CoroState → Seat → Seat
-over s k = record { state = s; regs = []; frames = []; waiting = k .waiting; closing = none }
+abbrev pub over : CoroState → Option Seen → Seat → Seat
+over s x k = record { state = s; regs = []; frames = []; waiting = k .waiting; closing = none; seen = x }
 
+-- v ends in a state, and all others are as they were
 pub record Ends (s : CoroState) (v : ℕ) (k l : ℕ → Seat) : Type 0 where
-  pub mine : (l v ≡ over s (k v)) ⊎ ((isCreated (k v .state) ≡ true) × (l v ≡ k v))
+  pub mine : (l v ≡ over s (l v .seen) (k v)) ⊎ ((isCreated (k v .state) ≡ true) × (l v ≡ k v))
   pub others : (u : ℕ) → u ≢ v → l u ≡ k u
 
 -- a frame keeps its base and its continuation
@@ -100,7 +102,7 @@ pub record Suspend (w : World) (p : ℕ) (s : CoroState) (dst x : ℕ) (a : Acti
   pub setup : z .setup ≡ w .setup
   pub inmost : w .chain ≡ a ∷ chain
   pub asleep : isSuspended s ≡ true
-  pub mine : coreAt z (a .coro) ≡ heldAs (coreAt w (a .coro) .closing) s dst (a .floor) (baseAt (a .floor) (onTop (setPc p) (w .frames))) (onTop (setPc p) (w .frames)) (w .stack)
+  pub mine : coreAt z (a .coro) ≡ heldAs (coreAt z (a .coro) .seen) (coreAt w (a .coro) .closing) s dst (a .floor) (baseAt (a .floor) (onTop (setPc p) (w .frames))) (onTop (setPc p) (w .frames)) (w .stack)
   pub others : (u : ℕ) → u ≢ a .coro → Kept (coreAt w u) (coreAt z u)
   pub under : mem (z .stack) (z .frames) ≡ deliverTo (a .driver) (eventAs (marked (λ r. r .closing) (coro w (a .coro))) s x) (mem (take (baseAt (a .floor) (onTop (setPc p) (w .frames))) (w .stack)) (below (a .floor) (onTop (setPc p) (w .frames))))
   pub outer : z .chain ≡ chain
@@ -112,6 +114,7 @@ pub record Return (v : View) (x : ℕ) (f : Frame) (fs : List Frame) (a : Active
   pub its-own : isCoro (f .cont) ≡ true
   pub inmost : v .chain ≡ a ∷ chain
   pub ends : Ends CoroState.Returned (a .coro) (v .cores) (coreAt z)
+  pub told : isReturned (coreAt z (a .coro) .state) ≡ true → recorded (coreAt z (a .coro) .seen) ≡ x
   pub under : mem (z .stack) (z .frames) ≡ deliverTo (a .driver) (Returns x) (mem (take (f .base) (v .stack)) fs)
   pub outer : z .chain ≡ chain
 

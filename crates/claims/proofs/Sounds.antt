@@ -1,12 +1,11 @@
 -- What a sound world says of its chain and of what is saved.
-use Prim.Native.Nat.{ℕ, zero, suc, _-_, _≤_, _<_}
-use native.Mathlib.Omega.{arith}
+use Prim.Native.Nat.{ℕ, zero, suc}
 use mathlib.Core.Path.{_≡_, refl, sym, ap, _∙_}
 use mathlib.Core.Bool.{Bool, true, false, not, _&&_}
-use mathlib.Core.List.{List, [], _∷_, map}
-use lib.ListN.{length, getD, take}
+use mathlib.Core.List.{List, [], _∷_}
+use lib.ListN.{length, getD}
 use lib.Dec.{eqb, leb}
-use borrow.Author.Tests.{eqb-true, eq-eqb, not-true}
+use borrow.Author.Tests.{eqb-true, not-true}
 use Rattle.lists.specs.Pick.{pick, pick-true, pick-false}
 use Rattle.heap.specs.Table.{slot}
 use Rattle.heap.specs.declared.heap.Place.{Place}
@@ -15,16 +14,16 @@ use Rattle.model.specs.State.{isRunning, isResumable}
 use Rattle.model.specs.Program.{Setup, setupOk}
 use Rattle.model.specs.Object.{Core, Rest, Object, Coroutine, Absent, Is, asCoro}
 use Rattle.model.specs.World.{World}
-use Rattle.model.specs.Frames.{isCoro, isEntry, onTop, setPc, lower, above, baseAt}
+use Rattle.model.specs.Frames.{isCoro, isEntry}
 use Rattle.model.specs.Heap.{place, objectAt, coro}
-use Rattle.model.specs.Sound.{sizesOk, savedSizesOk, framesOk, entryOk, floorsOk, driversOk, runningOk, savedOk, rowsOk, queuesOk, fuelOk, unusedOk, rangesOk, sound, beside, matches, runs, coros, runsAmong, bodyLast, basesOk, frameNames, contsLie, catchesLie, framesOver, waits, savedIn}
+use Rattle.model.specs.Sound.{sizesOk, savedSizesOk, framesOk, entryOk, floorsOk, driversOk, runningOk, savedOk, rowsOk, queuesOk, fuelOk, unusedOk, rangesOk, sound, matches, runs, coros, runsAmong, bodyLast, basesOk, frameNames, contsLie, catchesLie, framesOver, waits, savedIn}
 use Rattle.model.specs.Lists.{distinct}
 use Rattle.model.specs.declared.machine.Active.{Active}
 use Rattle.model.specs.declared.machine.Frame.{Frame}
-use Rattle.claims.proofs.Held.{coreIn, coreAt, isBody}
+use Rattle.claims.proofs.Held.{coreIn, coreAt}
 use Rattle.claims.proofs.Cores.{no-both, and-left, and-right}
 use Rattle.claims.proofs.Shape.{Apart}
-use Rattle.claims.proofs.Under.{Lift, l-body, l-plain, base-cons, base-here}
+use Rattle.claims.proofs.Under.{Lift, l-body, l-plain}
 
 parts : (p a b c d e f g : Bool) → (p && a && b && c && d && e && f && g) ≡ true → (a ≡ true) × (b ≡ true)
 parts false a b c d e f g h = no-both h refl
@@ -45,66 +44,10 @@ pub floors : (w : World) → sound w ≡ true → floorsOk w ≡ true
 unfolding sound
 floors w h = floors-part (setupOk (w .setup) && sizesOk w && savedSizesOk w && framesOk w && entryOk w) (floorsOk w) (driversOk w) (runningOk w) (savedOk w) (rowsOk w) (queuesOk w) (fuelOk w) (unusedOk w) (rangesOk w) h
 
--- ---- the frames from the innermost floor up are plain, over one Coro frame
+-- ---- floors
 
 abbrev pub Floors : List Frame → List Active → Type 0
 Floors fs chain = matches (λ f fs a. eqb (a .floor) (length fs)) fs chain ≡ true
-
-body-some : (fs : List Frame) → isBody fs ≡ true → isNil fs ≡ false
-body-some [] h = no-both h refl
-body-some (f ∷ fs) h = refl
-
-above-here : (f : Frame) (fs : List Frame) → above (length fs) (f ∷ fs) ≡ f ∷ []
-above-here f fs = ap (λ n. take n (f ∷ fs)) go
-  where
-    go : suc (length fs) - length fs ≡ 1
-    go = omega arith
-
-above-cons : (floor : ℕ) (f : Frame) (fs : List Frame) → floor ≤ length fs → above floor (f ∷ fs) ≡ f ∷ above floor fs
-above-cons floor f fs h = ap (λ n. take n (f ∷ fs)) go
-  where
-    go : suc (length fs) - floor ≡ suc (length fs - floor)
-    go = omega arith
-
-body-above : (fs : List Frame) (a : Active) (chain : List Active) → Floors fs (a ∷ chain) → (a .floor < length fs) × (isBody (map (lower (baseAt (a .floor) fs)) (above (a .floor) fs)) ≡ true)
-body-above [] a chain h = no-both h refl
-body-above (f ∷ fs) a chain h = go (isCoro (f .cont)) refl (body-above fs a chain) h
-  where
-    alone : isCoro (f .cont) ≡ true → isBody (lower (f .base) f ∷ []) ≡ true
-    alone c = pick-true (isCoro (f .cont) && eqb (f .base - f .base) 0) (not (isCoro (f .cont)) && false) ∙ rw (c, eq-eqb (f .base - f .base) 0 (omega arith))
-
-    more : (n : ℕ) (gs : List Frame) → isCoro (f .cont) ≡ false → isBody gs ≡ true → isBody (lower n f ∷ gs) ≡ true
-    more n gs c b = ap (λ t. pick t (isCoro (f .cont) && eqb (f .base - n) 0) (not (isCoro (f .cont)) && isBody gs)) (body-some gs b) ∙ pick-false (isCoro (f .cont) && eqb (f .base - n) 0) (not (isCoro (f .cont)) && isBody gs) ∙ rw (c, b)
-
-    go : (b : Bool) → isCoro (f .cont) ≡ b → (Floors fs (a ∷ chain) → (a .floor < length fs) × (isBody (map (lower (baseAt (a .floor) fs)) (above (a .floor) fs)) ≡ true))
-        → beside b (λ f fs a. eqb (a .floor) (length fs)) f fs (a ∷ chain) (matches (λ f fs a. eqb (a .floor) (length fs)) fs) ≡ true → (a .floor < suc (length fs)) × (isBody (map (lower (baseAt (a .floor) (f ∷ fs))) (above (a .floor) (f ∷ fs))) ≡ true)
-    go true c rest m =
-        let e : a .floor ≡ length fs = eqb-true (a .floor) (length fs) (and-left (eqb (a .floor) (length fs)) (matches (λ f fs a. eqb (a .floor) (length fs)) fs chain) m) in (
-          omega (arith, e),
-          (λ i. isBody (map (lower (baseAt (e i) (f ∷ fs))) (above (e i) (f ∷ fs)))) ∙ (λ i. isBody (map (lower (base-here f fs i)) (above-here f fs i))) ∙ alone c,
-        )
-    go false c rest m =
-        let r = rest m in
-        let lt : a .floor < length fs = r .0 in (
-          omega (arith, lt),
-          (λ i. isBody (map (lower (base-cons (a .floor) f fs lt i)) (above-cons (a .floor) f fs (omega (arith, lt)) i))) ∙ more (baseAt (a .floor) fs) (map (lower (baseAt (a .floor) fs)) (above (a .floor) fs)) c (r .1),
-        )
-
-pub body-saved : (w : World) → sound w ≡ true → (p : ℕ) (a : Active) (chain : List Active) → w .chain ≡ a ∷ chain → isBody (map (lower (baseAt (a .floor) (onTop (setPc p) (w .frames)))) (above (a .floor) (onTop (setPc p) (w .frames)))) ≡ true
-unfolding floorsOk
-body-saved w h p a chain e = body-above (onTop (setPc p) (w .frames)) a chain (top (w .frames) (a ∷ chain) (ap (matches (λ f fs a. eqb (a .floor) (length fs)) (w .frames)) (sym e) ∙ floors w h)) .1
-  where
-    test : Frame → List Frame → Active → Bool
-    test f fs a = eqb (a .floor) (length fs)
-
-    side : (b : Bool) (f : Frame) (fs : List Frame) (cs : List Active) → beside b test f fs cs (matches test fs) ≡ true → beside b test (setPc p f) fs cs (matches test fs) ≡ true
-    side false f fs cs q = q
-    side true f fs [] q = q
-    side true f fs (b ∷ cs) q = q
-
-    top : (fs : List Frame) (cs : List Active) → Floors fs cs → Floors (onTop (setPc p) fs) cs
-    top [] cs q = q
-    top (f ∷ fs) cs q = side (isCoro (f .cont)) f fs cs q
 
 -- ---- the chain runs, so a coroutine that does not run stands apart from it
 

@@ -83,6 +83,13 @@ ready-state CoroState.Awaiting = refl
 ready-state CoroState.Returned = refl
 ready-state CoroState.Failed = refl
 
+pub seen-at : (w : World) (c : ℕ) → coreAt w c .seen ≡ viewOf w .coro c
+seen-at w c = go (coro w c)
+  where
+    go : (x : Coroutine) → coreIn x .seen ≡ seenOf x
+    go Absent = refl
+    go (Is k r) = refl
+
 pub is-runs : (w : World) (c : ℕ) → is (viewOf w) runs c ≡ isRunning (coreAt w c .state)
 is-runs w c = go (coro w c)
   where

@@ -7,7 +7,7 @@ use mathlib.Core.List.{List, [], _∷_}
 use mathlib.Core.Option.{Option, none, some}
 use lib.ListN.{length}
 use lib.Dec.{eqb, ltb, leb}
-use borrow.Author.Tests.{leb-true, leb-false, le-ltb, lt-ltb, eqb-true}
+use borrow.Author.Tests.{leb-true, leb-false, le-ltb, lt-ltb, eqb-true, ne-eqb}
 use Rattle.lists.specs.Pick.{pick, pick-true, pick-false}
 use Rattle.heap.specs.declared.value.Opt.{Opt}
 use Rattle.model.specs.Lists.{isNil}
@@ -29,7 +29,7 @@ use Rattle.model.specs.declared.call.OptPc.{OptPc}
 use Rattle.model.specs.declared.call.Op.{Op}
 use Rattle.claims.specs.Engine.{Seen, View, isNew, sleeps, seenIn, is}
 use Rattle.claims.specs.Says as Says
-use Rattle.claims.specs.Says.{Does, Entry, entry, fits, named, cleaned, banked, orElse, charged, isNone, whomBy, whom, Sent, nothing, gets, closes}
+use Rattle.claims.specs.Says.{Does, Entry, entry, fits, named, cleaned, banked, orElse, charged, whomBy, whom, Sent, nothing, gets, closes}
 use Rattle.claims.specs.Steps.{seenOf, viewOf, opOf}
 use Rattle.claims.proofs.Entry as E
 use Rattle.claims.proofs.Entry.{accepts, acceptsAs, sentTo, aimed, pcBy, entryBy, act}
@@ -151,9 +151,9 @@ charge-says p w e = fast (eqb (w .fuel .fuel) 0) refl
 
 -- ---- whom
 
-is-none : (fs : List Frame) → isNone fs ≡ isNil fs
+is-none : (fs : List Frame) → eqb (length fs) 0 ≡ isNil fs
 is-none [] = refl
-is-none (f ∷ fs) = refl
+is-none (f ∷ fs) = ne-eqb (length (f ∷ fs)) 0 (λ e. omega (arith, e))
 
 not-pick : (b : Bool) {A : Type 0} (x y : A) → pick b x y ≡ pick (not b) y x
 unfolding pick

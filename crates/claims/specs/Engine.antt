@@ -68,6 +68,8 @@ pub record Engine : Type 1 where
   pub next : State → Call → State
   -- 01: the number that it answers
   pub number : State → Call → ℕ
+  -- the words that a look hands back
+  pub look : State → List ℕ
 
 abbrev pub run : (e : Engine) → e .State → List (e .Call) → e .State
 run e s [] = s

@@ -45,6 +45,16 @@ suspended v (finishes kind x) n = none
 suspended v (raises f pc) n = none
 suspended v other n = none
 
+-- whether it is an Await
+abbrev pub isAwait : Does → Bool
+isAwait (instr pc ok (enter c d x may)) = false
+isAwait (instr pc ok (suspend await dst x)) = await
+isAwait (instr pc ok neither) = false
+isAwait (hosts c x) = false
+isAwait (finishes kind x) = false
+isAwait (raises f pc) = false
+isAwait other = false
+
 -- ---- returns. 01: "a return if `finish` or `unwind` makes it Returned"
 
 pub record Returns (e : Engine) (c : ℕ) (s : e .State) (k : e .Call) : Type 0 where
@@ -159,8 +169,10 @@ lostAt v none pc = []
 lostAt v (some x) OptPc.None = lost v x (v .frames) (v .chain)
 lostAt v (some x) (OptPc.Some pc) = lost v x (at pc (v .frames)) (v .chain)
 
--- who fails: by an unwind, but where its error object could not be made (9, 14); all, where the run is stopped
+-- who fails: by an unwind of a word, whatever it answers; of a fault, but where its error object could not be made (9, 14); all, where
+-- the run is stopped
 pub data Lost (v : View) (n c : ℕ) : Option Op → Type 0 where
+  thrown : (x : ℕ) (pc : OptPc) → among c (lostAt v (some x) pc) ≡ true → Lost v n c (some (Op.Unwind (Fault.Throw x) pc))
   escapes : (f : Fault) (pc : OptPc) → (eqb n 9 || eqb n 14) ≡ false → among c (lostAt v (raised v f) pc) ≡ true → Lost v n c (some (Op.Unwind f pc))
   stops : Lost v n c (some Op.StopRun)
 
@@ -169,6 +181,10 @@ pub data Lost (v : View) (n c : ℕ) : Option Op → Type 0 where
 -- not Returned, not Failed
 abbrev pub lives : CoroState → Bool
 lives s = ltb (code s) 4
+
+-- has begun, and does not run
+abbrev pub rests : CoroState → Bool
+rests s = ltb 1 (code s)
 
 -- what only a set-up changes
 pub record Fixed (v z : View) : Type 0 where
@@ -204,12 +220,16 @@ pub record Events (e : Engine) : Type 0 where
   -- a word, or none, is recorded as it is returned
   pub word : (c : ℕ) (s : e .State) (k : e .Call) (kind : ResultKind) (x : ℕ) → Returns e c s k → e .op k ≡ some (Op.Finish kind x) → isInteger kind ≡ false
       → recorded (e .view (e .next s k) .coro c) ≡ resultOf kind x 0
+  -- a close that its own signal ends is recorded as nil
+  pub closed : (c : ℕ) (s : e .State) (k : e .Call) (f : Fault) (pc : OptPc) → Returns e c s k → e .op k ≡ some (Op.Unwind f pc) → recorded (e .view (e .next s k) .coro c) ≡ 0
   -- a yield ends a closing; else it lasts as long as the coroutine lives (who is entered: `Entered.closing`)
   pub yielded : (c : ℕ) (s : e .State) (k : e .Call) → Suspends e c s k → let z = e .view (e .next s k) in closer (z .coro c) ≡ pick (is z awaits c) (closer (e .view s .coro c)) none
   pub closing : (c : ℕ) (s : e .State) (k : e .Call) → (Restarts e s k → ⊥) → (Enters e c s k → ⊥) → (Suspends e c s k → ⊥)
       → let z = e .view (e .next s k) in is z lives c ≡ true → closer (z .coro c) ≡ closer (e .view s .coro c)
-  -- who sleeps stays asleep until it is entered, or the machine is set up anew
-  pub asleep : (c : ℕ) (s : e .State) (k : e .Call) → (Restarts e s k → ⊥) → (Enters e c s k → ⊥) → is (e .view s) sleeps c ≡ true → is (e .view (e .next s k)) sleeps c ≡ true
+  -- an Await leaves it Awaiting, a Yield or YieldKv Yielded
+  pub awaited : (c : ℕ) (s : e .State) (k : e .Call) → Suspends e c s k → is (e .view (e .next s k)) awaits c ≡ isAwait (doing (e .view s) (e .op k))
+  -- who sleeps, has returned or has failed is seen as before until it is entered, or the machine is set up anew
+  pub still : (c : ℕ) (s : e .State) (k : e .Call) → (Restarts e s k → ⊥) → (Enters e c s k → ⊥) → is (e .view s) rests c ≡ true → e .view (e .next s k) .coro c ≡ e .view s .coro c
   pub fixed : (s : e .State) (k : e .Call) → (Restarts e s k → ⊥) → Fixed (e .view s) (e .view (e .next s k))
   -- one a call
   pub one-switch : (c u : ℕ) (s : e .State) (k : e .Call) → Enters e c s k → Suspends e u s k → ⊥

@@ -1,5 +1,5 @@
--- ALL THAT IS PROMISED of an engine, in one record: demand 3, events that are exact, what is accepted, soundness that is kept, and that
--- none of it is empty. `step` has it (`promise` in proofs/Promise.antt).
+-- ALL THAT IS PROMISED of an engine, in one record: demand 3, events that are exact, what is accepted, soundness that is kept, set-ups and
+-- looks, and that none of it is empty. `step` has it (`promise` in proofs/Promise.antt).
 use Prim.Native.Nat.{ℕ, _+_, _-_, _*_, _^_, min}
 use mathlib.Core.Path.{_≡_}
 use mathlib.Core.Bool.{Bool, true, false, _||_}
@@ -8,7 +8,9 @@ use mathlib.Core.Option.{Option, none, some}
 use lib.ListN.{length, drop}
 use lib.Dec.{eqb, ltb, leb}
 use Rattle.heap.specs.declared.fault.Fault.{Fault}
+use Rattle.heap.specs.declared.value.Opt.{Opt}
 use Rattle.heap.specs.declared.heap.ResultKind.{ResultKind}
+use Rattle.model.specs.declared.machine.Frame.{Frame}
 use Rattle.model.specs.declared.call.OptPc.{OptPc}
 use Rattle.model.specs.declared.call.Op.{Op}
 use Rattle.claims.specs.Engine.{Seen, View, Engine, run}
@@ -34,8 +36,8 @@ suspends n = eqb n 0 || eqb n 2 || eqb n 6
 abbrev pub room : View → ℕ → Bool
 room v n = leb (min (v .used + n) (2 ^ 64 - 1)) (v .memory)
 
--- c runs on top, with fuel, and there is room for n bytes and for what it would save beyond the most that it has saved. 01: "8 bytes
--- per register and F per frame beyond the coroutine's largest saved sizes so far"
+-- c runs on top, fuel is not 0 (else a cleanup may come first, or the answer may be 10), and there is room for n bytes and for what it
+-- would save beyond the most that it has saved. 01: "8 bytes per register and F per frame beyond the coroutine's largest saved sizes so far"
 pub record Roomy (e : Engine) (n c : ℕ) (s : e .State) : Type 0 where
   pub healthy : Healthy e s
   pub fuel : eqb (e .view s .fuel .fuel) 0 ≡ false
@@ -79,7 +81,37 @@ pub record Soundness (e : Engine) : Type 0 where
   pub kept : (s : e .State) (k : e .Call) → Healthy e s → Healthy e (e .next s k)
   pub eleven : (s : e .State) (k : e .Call) → Healthy e s → e .number s k ≡ 11 → Eleven (e .view s) (e .op k)
 
--- ---- one list of calls in which every premise of demand 3 holds
+-- ---- set-ups and looks
+
+-- nothing has happened yet. 01: "Set-up (fuel 0)"
+pub record Fresh (v : View) : Type 0 where
+  pub stack : v .stack ≡ []
+  pub frames : v .frames ≡ []
+  pub chain : v .chain ≡ []
+  pub coros : (c : ℕ) → v .coro c ≡ none
+  pub loops : (x : ℕ) → v .done x ≡ false
+  pub queue : v .queue ≡ []
+  pub fuel : v .fuel ≡ record { fuel = 0; bank = Opt.None; ready = false }
+  pub used : v .used ≡ 0
+
+-- which set-ups are accepted is the table's (sheet/specs/SetUps.antt)
+pub record SetUps (e : Engine) : Type 0 where
+  pub begun : (s : e .State) (k : e .Call) → Restarts e s k → Fresh (e .view (e .next s k))
+  -- one that is not accepted answers 11, and changes nothing
+  pub refused : (s : e .State) (k : e .Call) → e .op k ≡ none → (e .number s k ≡ 0 → ⊥) → (e .number s k ≡ 11) × (e .view (e .next s k) ≡ e .view s)
+
+-- from the base of the top frame to the stack's end
+abbrev pub registers : List Frame → List ℕ → List ℕ
+registers [] xs = []
+registers (f ∷ fs) xs = drop (f .base) xs
+
+-- 01: "a look at the top frame hands back its registers as part of the lent words; without a frame, or on 11, an empty part"
+pub record Looks (e : Engine) : Type 0 where
+  pub sees : (s : e .State) → Healthy e s → e .look s ≡ registers (e .view s .frames) (e .view s .stack)
+  pub unseen : (s : e .State) → (Healthy e s → ⊥) → e .look s ≡ []
+  pub unmoved : (s : e .State) (k : e .Call) → e .op k ≡ some Op.Look → e .view (e .next s k) ≡ e .view s
+
+-- ---- one list of calls in which every premise of demand 3 holds, and those of acceptance where its first call is made
 
 pub record NotEmpty (e : Engine) : Type 0 where
   pub start : e .State
@@ -93,6 +125,8 @@ pub record NotEmpty (e : Engine) : Type 0 where
   pub z : e .Call
   pub c : ℕ
   pub suspends : Suspends e c (run e (e .next start first) before) x
+  pub roomy : Roomy e (e .view (run e (e .next start first) before) .intCost) c (run e (e .next start first) before)
+  pub makes : Makes (e .view (run e (e .next start first) before))
   pub waits : Waits e c (e .next (run e (e .next start first) before) x) waiting
   pub enters : Enters e c (run e (e .next (run e (e .next start first) before) x) waiting) y
   pub goes : Goes e c (e .next (run e (e .next (run e (e .next start first) before) x) waiting) y) going
@@ -103,4 +137,6 @@ pub record Promise (e : Engine) : Type 0 where
   pub events : Events e
   pub accepts : Accepts e
   pub soundness : Soundness e
+  pub set-ups : SetUps e
+  pub looks : Looks e
   pub not-empty : NotEmpty e

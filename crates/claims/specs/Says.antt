@@ -136,13 +136,9 @@ charged v pc y =
     pick (eqb (v .fuel .fuel) 0)
     (pick (eqb (banked (v .fuel .bank)) 0) none (pick (v .fuel .ready) (orElse (cleaned v pc (v .queue)) y) y)) y
 
-abbrev pub isNone : List Frame → Bool
-isNone [] = true
-isNone (f ∷ fs) = false
-
 abbrev pub whomBy : View → Does → Option Entry
-whomBy v (instr pc ok a) = pick (isNone (v .frames)) none (pick ok (charged v pc (named v pc a)) none)
-whomBy v (hosts c x) = pick (isNone (v .frames)) (named v 0 (enter c Driver.Host (gets x) true)) none
+whomBy v (instr pc ok a) = pick (eqb (length (v .frames)) 0) none (pick ok (charged v pc (named v pc a)) none)
+whomBy v (hosts c x) = pick (eqb (length (v .frames)) 0) (named v 0 (enter c Driver.Host (gets x) true)) none
 whomBy v (finishes kind x) = none
 whomBy v (raises f pc) = none
 whomBy v other = none

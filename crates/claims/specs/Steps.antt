@@ -1,5 +1,8 @@
 -- `step` as an engine: the machine that the definitions describe, and what is seen of it.
 use Prim.Native.Nat.{ℕ}
+use mathlib.Core.Path.{_≡_, refl}
+use mathlib.Core.Bool.{true}
+use mathlib.Core.List.{List}
 use mathlib.Core.Option.{Option, none, some}
 use lib.ListN.{length}
 use Rattle.heap.specs.Table.{nextWord}
@@ -8,7 +11,7 @@ use Rattle.model.specs.Object.{Coroutine, Absent, Is, isDone}
 use Rattle.model.specs.World.{World}
 use Rattle.model.specs.Heap.{object, coro, slotsFull, dynInt}
 use Rattle.model.specs.Answer.{numberOf}
-use Rattle.model.specs.Call.{Call, SetUp, Do}
+use Rattle.model.specs.Call.{Call, SetUp, Do, typed, asCall}
 use Rattle.model.specs.Step.{step}
 use Rattle.model.specs.declared.call.Op.{Op}
 use Rattle.claims.specs.Engine.{Seen, View, Engine}
@@ -44,5 +47,12 @@ abbrev pub opOf : Call → Option Op
 opOf (SetUp s) = none
 opOf (Do o) = some (o .op)
 
+pub look-typed : typed Op.Look ≡ true
+unfolding typed
+look-typed = refl
+
+abbrev pub looks : World → List ℕ
+looks w = step w (asCall Op.Look look-typed) .seen
+
 abbrev pub steps : Engine
-steps = record { State = World; Call = Call; op = opOf; view = viewOf; next = λ w k. step w k .world; number = λ w k. numberOf (step w k .answer) }
+steps = record { State = World; Call = Call; op = opOf; view = viewOf; next = λ w k. step w k .world; number = λ w k. numberOf (step w k .answer); look = looks }

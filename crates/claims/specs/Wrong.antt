@@ -1,13 +1,13 @@
--- Machines that are wrong in one thing, each `step` but where a coroutine is woken inside a call that it made. None of them has demand 3:
--- `proofs/Wrong.antt`.
+-- Machines that are wrong in one thing, and else `step`. None of them has what is promised: `proofs/Wrong.antt`.
 use Prim.Native.Nat.{ℕ, _+_}
 use mathlib.Core.Bool.{Bool, true, false, not, _&&_}
 use mathlib.Core.List.{List, [], _∷_, map}
+use mathlib.Core.Option.{Option, none, some}
 use lib.ListN.{length, set}
 use lib.Dec.{ltb}
 use Rattle.lists.specs.Pick.{pick}
-use Rattle.model.specs.Object.{withClosing}
-use Rattle.model.specs.World.{World, withStack, withFrames}
+use Rattle.model.specs.Object.{withClosing, withResult}
+use Rattle.model.specs.World.{World, withStack, withFrames, withFuel}
 use Rattle.model.specs.Heap.{changeCoro}
 use Rattle.model.specs.Coro.{inState}
 use Rattle.model.specs.Answer.{numberOf}
@@ -17,10 +17,20 @@ use Rattle.heap.specs.declared.object.CoroState.{CoroState}
 use Rattle.model.specs.declared.machine.Cont.{Cont}
 use Rattle.model.specs.declared.machine.Active.{Active}
 use Rattle.model.specs.declared.machine.Frame.{Frame}
-use Rattle.claims.specs.Engine.{Engine, ended, is}
+use Rattle.model.specs.declared.machine.Fuel.{Fuel}
+use Rattle.model.specs.declared.call.Op.{Op}
+use Rattle.claims.specs.Engine.{Engine, awaits, sleeps, ended, seenIn, is}
 use Rattle.claims.specs.Demand3.{Demand3}
 use Rattle.claims.specs.Events.{isBody, failed, Events}
-use Rattle.claims.specs.Steps.{viewOf, opOf}
+use Rattle.claims.specs.Promise.{SetUps, Looks}
+use Rattle.claims.specs.Steps.{viewOf, opOf, looks}
+use Rattle.claims.specs.Story.{c}
+
+-- it leaves another world than `step` does
+abbrev pub leaving : (World → Call → World) → Engine
+leaving f = record { State = World; Call = Call; op = opOf; view = viewOf; next = f; number = λ w k. numberOf (step w k .answer); look = looks }
+
+-- ---- machines that wake otherwise, where a coroutine is woken inside a call that it made
 
 -- a callee is on top
 abbrev pub called : List Frame → Bool
@@ -32,7 +42,7 @@ abbrev pub bentTo : (List Frame → List Frame) → World → World → World
 bentTo f w z = pick (ltb (length (w .chain)) (length (z .chain)) && called (z .frames)) (withFrames (f (z .frames)) z) z
 
 abbrev pub bent : (List Frame → List Frame) → Engine
-bent f = record { State = World; Call = Call; op = opOf; view = viewOf; next = λ w k. bentTo f w (step w k .world); number = λ w k. numberOf (step w k .answer) }
+bent f = leaving (λ w k. bentTo f w (step w k .world))
 
 abbrev pub onTop : (Frame → Frame) → List Frame → List Frame
 onTop g [] = []
@@ -62,11 +72,19 @@ further f = record { func = f .func; pc = f .pc + 1; base = f .base; closure = f
 abbrev pub higher : Frame → Frame
 higher f = record { func = f .func; pc = f .pc; base = f .base + 1; closure = f .closure; cont = f .cont }
 
+-- 01: "moving rows at the first entry and later only changing states": the entry of one that slept leaves stack and frames
+abbrev pub slept : World → List Active → Bool
+slept w [] = false
+slept w (a ∷ chain) = is (viewOf w) sleeps (a .coro)
+
+abbrev pub once : Engine
+once = leaving (λ w k. let z = step w k .world in pick (ltb (length (w .chain)) (length (z .chain)) && slept w (z .chain)) (withStack (w .stack) (withFrames (w .frames) z)) z)
+
 -- ---- machines whose events are wrong
 
 -- an entry is left undone, where a test says so: always; or while two coroutines wait for a cleanup
 abbrev pub idle : (World → Bool) → Engine
-idle p = record { State = World; Call = Call; op = opOf; view = viewOf; next = λ w k. let z = step w k .world in pick (ltb (length (w .chain)) (length (z .chain)) && p w) w z; number = λ w k. numberOf (step w k .answer) }
+idle p = leaving (λ w k. let z = step w k .world in pick (ltb (length (w .chain)) (length (z .chain)) && p w) w z)
 
 abbrev pub two : World → Bool
 two w = ltb 1 (length (w .finalize))
@@ -77,7 +95,7 @@ spoiled [] z = z
 spoiled (a ∷ chain) z = pick (is (viewOf z) ended (a .coro)) (withStack (set (z .stack) 0 0) (changeCoro (a .coro) (inState CoroState.Failed) (λ r. r) z)) z
 
 abbrev pub failing : Engine
-failing = record { State = World; Call = Call; op = opOf; view = viewOf; next = λ w k. spoiled (w .chain) (step w k .world); number = λ w k. numberOf (step w k .answer) }
+failing = leaving (λ w k. spoiled (w .chain) (step w k .world))
 
 -- every call ends the closing of the coroutine that runs
 abbrev pub unmarked : List Active → World → World
@@ -85,7 +103,7 @@ unmarked [] z = z
 unmarked (a ∷ chain) z = changeCoro (a .coro) (λ k. k) (withClosing false) z
 
 abbrev pub forgetting : Engine
-forgetting = record { State = World; Call = Call; op = opOf; view = viewOf; next = λ w k. let z = step w k .world in unmarked (z .chain) z; number = λ w k. numberOf (step w k .answer) }
+forgetting = leaving (λ w k. let z = step w k .world in unmarked (z .chain) z)
 
 -- who fails is made Returned
 abbrev pub spared : List Active → World → World
@@ -93,7 +111,58 @@ spared [] z = z
 spared (a ∷ chain) z = pick (is (viewOf z) failed (a .coro)) (changeCoro (a .coro) (inState CoroState.Returned) (λ r. r) z) z
 
 abbrev pub sparing : Engine
-sparing = record { State = World; Call = Call; op = opOf; view = viewOf; next = λ w k. spared (w .chain) (step w k .world); number = λ w k. numberOf (step w k .answer) }
+sparing = leaving (λ w k. spared (w .chain) (step w k .world))
+
+-- an Await leaves it Yielded
+abbrev pub dozing : List Active → World → World
+dozing [] z = z
+dozing (a ∷ chain) z = pick (is (viewOf z) awaits (a .coro)) (changeCoro (a .coro) (λ k. record { state = CoroState.Yielded; regs = k .regs; frames = k .frames; waiting = k .waiting }) (λ r. r) z) z
+
+abbrev pub yielding : Engine
+yielding = leaving (λ w k. dozing (w .chain) (step w k .world))
+
+-- where the innermost would fail it answers 9, as if an error object could not be made, and does nothing
+abbrev pub lostIn : List Active → World → Bool
+lostIn [] z = false
+lostIn (a ∷ chain) z = is (viewOf z) failed (a .coro)
+
+abbrev pub excusing : Engine
+excusing =
+    record {
+      State = World;
+      Call = Call;
+      op = opOf;
+      view = viewOf;
+      next = λ w k. let z = step w k .world in pick (lostIn (w .chain) z) w z;
+      number = λ w k. pick (lostIn (w .chain) (step w k .world)) 9 (numberOf (step w k .answer));
+      look = looks;
+    }
+
+-- who returns while it is being closed has the result 5
+abbrev pub paying : List Active → World → World → World
+paying [] w z = z
+paying (a ∷ chain) w z = pick (is (viewOf z) ended (a .coro) && seenIn (λ x. x .closing) (viewOf w .coro (a .coro))) (changeCoro (a .coro) (λ k. k) (withResult 5) z) z
+
+abbrev pub closing : Engine
+closing = leaving (λ w k. paying (w .chain) w (step w k .world))
+
+-- the result of c becomes 5, once it has returned
+abbrev pub rewriting : ℕ → Engine
+rewriting c = leaving (λ w k. let z = step w k .world in pick (is (viewOf w) ended c) (changeCoro c (λ k. k) (withResult 5) z) z)
+
+-- ---- machines whose set-ups or looks are wrong
+
+-- a set-up leaves the fuel
+abbrev pub refuelled : Option Op → Fuel → World → World
+refuelled none f z = withFuel f z
+refuelled (some o) f z = z
+
+abbrev pub fuelled : Engine
+fuelled = leaving (λ w k. refuelled (opOf k) (w .fuel) (step w k .world))
+
+-- a look hands back the whole stack
+abbrev pub showing : Engine
+showing = record { State = World; Call = Call; op = opOf; view = viewOf; next = λ w k. step w k .world; number = λ w k. numberOf (step w k .answer); look = λ w. w .stack }
 
 pub record Wrong : Type 0 where
   pub other-function : Demand3 (bent (onTop ofZero)) → ⊥
@@ -108,3 +177,10 @@ pub record Wrong : Type 0 where
   pub return-fails : Events failing → ⊥
   pub closing-forgotten : Events forgetting → ⊥
   pub failure-returns : Events sparing → ⊥
+  pub rows-once : Demand3 once → ⊥
+  pub await-yields : Events yielding → ⊥
+  pub excused : Events excusing → ⊥
+  pub close-pays : Events closing → ⊥
+  pub result-changes : Events (rewriting c) → ⊥
+  pub fuel-stays : SetUps fuelled → ⊥
+  pub all-shown : Looks showing → ⊥

@@ -20,6 +20,7 @@ use Rattle.soundness.proofs.Tests.{no-false, no-true}
 use Rattle.soundness.proofs.Sound.{sound→, →sound}
 use Rattle.soundness.proofs.Good.{Good, Calm}
 use Rattle.soundness.proofs.Charge.{Charging, charge-good}
+use Rattle.tables.specs.Layout.{baseIn}
 use Rattle.tables.specs.Parts.{Frames}
 use Rattle.tables.specs.Does.{RegFits}
 use Rattle.tables.proofs.Doing.{reg-fits}
@@ -64,7 +65,7 @@ some-frame [] e = no-true e
 some-frame (f ∷ fs) e = omega arith
 
 -- the base of the top frame
-base-in : (fs : List Frame) (ws : List ℕ) (n : ℕ) → Frames fs ws n → 1 ≤ n → getD ws ((n - 1) * 6 + 2) 0 ≡ topBase fs
+base-in : (fs : List Frame) (ws : List ℕ) (n : ℕ) → Frames fs ws n → 1 ≤ n → baseIn ws (n - 1) ≡ topBase fs
 base-in [] ws n p h = absurd (let c = p .count in omega arith)
 base-in (f ∷ fs) ws n p h = top-base f fs ws n p
 

@@ -37,7 +37,7 @@ use Rattle.model.specs.declared.coro.Suspension.{Suspension}
 use Rattle.model.specs.declared.machine.Active.{Active}
 use Rattle.model.specs.declared.machine.Fuel.{Fuel}
 use Rattle.soundness.proofs.States.{suspended-held}
-use Rattle.tables.specs.Layout.{frameWords, activeIn}
+use Rattle.tables.specs.Layout.{frameWords, activeIn, baseIn}
 use Rattle.tables.specs.Parts.{Chain, Stack, SavedStack, SavedFrames, RowIs, upward}
 use Rattle.tables.specs.Does.{ChainDo, StackLeft, FramesLeft}
 use Rattle.tables.specs.Sizes.{framesSize}
@@ -121,7 +121,8 @@ module _ (l : Sizes) (M : Lent) (m : Machine) (f : Fuel) (st : CoroState) (dst p
           let q = lacks (w .slots) (a .coro) g (e ∙ ap (λ xs. coroOf xs (a .coro)) (slots-are (toSlots (w .slots)) (M .slots) (m .count) (rep .slots))) in
           does l M m f goal w (Suspension.Refused Fault.TypeError) (model-deep ∙ ap (λ c. suspendAs c a rest k′ payload keys w) (q .coro)) rep
 
-      module _ (i : ℕ) (c : CoroObj) (found : RV.At i c ≡ coroOf (slotsOf (m .count) (M .slots)) (a .coro)) where
+      -- it is in slot i, and the base of its body is read
+      module _ (i : ℕ) (c : CoroObj) (found : RV.At i c ≡ coroOf (slotsOf (m .count) (M .slots)) (a .coro)) (base : ℕ) (read : base ≡ baseIn (M .frames) (a .floor)) where
         pub in-world : There (w .slots) (a .coro) i c
         in-world = there (w .slots) (a .coro) i c (found ∙ ap (λ xs. coroOf xs (a .coro)) (slots-are (toSlots (w .slots)) (M .slots) (m .count) (rep .slots)))
 
@@ -131,12 +132,9 @@ module _ (l : Sizes) (M : Lent) (m : Machine) (f : Fuel) (st : CoroState) (dst p
         abbrev r : Rest
         r = in-world .rest
 
-        -- the base of its body, and what is saved, by the words
-        abbrev base : ℕ
-        base = getD (M .frames) (a .floor * 6 + 2) 0
-
+        -- that base, and what is saved, by the words
         base-is : base ≡ baseAt (a .floor) (w .frames)
-        base-is = base-at (w .frames) (M .frames) (m .depth) (a .floor) other (rep .frames) deep ∙ ap (λ n. getD (w .frames) (n - suc (a .floor)) other .base) (rep .frames .count)
+        base-is = read ∙ base-at (w .frames) (M .frames) (m .depth) (a .floor) other (rep .frames) deep ∙ ap (λ n. getD (w .frames) (n - suc (a .floor)) other .base) (rep .frames .count)
 
         regs-count : m .height - base ≡ length (k′ .regs)
         regs-count = ap₂ (λ h b. h - b) (rep .stack .count) base-is ∙ sym (length-drop (baseAt (a .floor) (w .frames)) (w .stack))

@@ -190,7 +190,7 @@ pub(crate) fn suspend_found(
     ensures { λ r. ⌜ Met ifSound l (coroSuspend state dst payload keys) (six stack frames chain slots «saved_stack» «saved_frames») (only m) (only (r .machine)) (r .answer) ⌝ }
 {
     let floor = a.floor as usize;
-    let base = frames[floor * 6 + 2] as usize;
+    let base = tables::frame::base_at(frames, floor);
     let regs = (m.height - base) as u64;
     let deep = (m.depth - floor) as u64;
     let grow = growth(l, c, regs, deep);

@@ -1,11 +1,13 @@
 // Whether lent words are a table of slots: each word within the range of its place.
 ghost use mathlib.Core.Path.{_≡_};
 ghost use lib.ListN.{length};
+ghost use mathlib.Core.Bool.{_&&_};
+ghost use lib.Dec.{leb};
 ghost use Rattle.lists.specs.Chunks.{chunkAt};
+ghost use Rattle.heap.specs.Slot.{zero, fieldsOf};
 ghost use Rattle.heap.specs.Heap.{TableFits, SlotFits};
 ghost use Rattle.heap.specs.Ranges.{rangesOf, within, slotOk, tableOk};
 use crate::slot::WIDTH;
-use crate::slot::fields;
 
 // The largest value of a word, and of one of 32 and of 16 bits.
 const WORD: u64 = 0xFFFF_FFFF_FFFF_FFFF;
@@ -38,21 +40,52 @@ const CORO: [u64; 20] = [
     0,
 ];
 
-// Each word is at least `least` and at most `most`.
-fn in_ranges(s: &[u64], least: [u64; 20], most: [u64; 20]) -> bool
+// Each word is at most `most`.
+fn at_most(s: &[u64], most: [u64; 20]) -> bool
     requires { ⌜ length (now s) ≡ 20 ⌝ }
-    ensures { λ r. ⌜ r ≡ within (rangesOf least most) (now (s .entry)) ⌝ }
+    ensures { λ r. ⌜ r ≡ within (rangesOf (zero 20) most) (now (s .entry)) ⌝ }
 {
     for k in 0..20 {
-        let w = s[k];
-        if w < least[k] {
-            return false;
-        }
-        if most[k] < w {
+        if most[k] < s[k] {
             return false;
         }
     }
     true
+}
+
+fn between(w: u64, least: u64, most: u64) -> bool
+    ensures { λ r. ⌜ r ≡ (leb least w && leb w most) ⌝ }
+{
+    if w < least {
+        return false;
+    }
+    w <= most
+}
+
+// Tag, kind and up to four fields are at most these, the first field at least `least`; zeros after them.
+fn fields_ok(s: &[u64], least: u64, tag: u64, kind: u64, a: u64, b: u64, c: u64, d: u64) -> bool
+    requires { ⌜ length (now s) ≡ 20 ⌝ }
+    ensures { λ r. ⌜ r ≡ within (rangesOf (fieldsOf 0 0 least 0 0 0) (fieldsOf tag kind a b c d)) (now (s .entry)) ⌝ }
+{
+    if tag < s[0] {
+        return false;
+    }
+    if kind < s[1] {
+        return false;
+    }
+    if !between(s[2], least, a) {
+        return false;
+    }
+    if b < s[3] {
+        return false;
+    }
+    if c < s[4] {
+        return false;
+    }
+    if d < s[5] {
+        return false;
+    }
+    lists::all_zero(&s[6..])
 }
 
 // The words of a slot lie in the ranges of its kind.
@@ -61,19 +94,14 @@ fn slot_ok(s: &[u64]) -> bool
     ensures { λ r. ⌜ r ≡ slotOk (now (s .entry)) ⌝ }
 {
     let kind = s[1];
-    let none = fields(0, 0, 0, 0, 0, 0);
     match kind {
-        0 => in_ranges(s, none, none),
-        1 => in_ranges(s, none, fields(BITS16, 1, BITS32, 0, 0, 0)),
-        2 => in_ranges(s, none, fields(BITS16, 2, WORD, 0, 0, 0)),
-        3 => in_ranges(s, none, fields(BITS16, 3, WORD, 1, 0, 0)),
-        4 => in_ranges(s, none, fields(BITS16, 4, WORD, 1, WORD, 0)),
-        5 => in_ranges(
-            s,
-            fields(0, 0, 1, 0, 0, 0),
-            fields(BITS16, 5, 8, BITS32, BITS32, WORD),
-        ),
-        6 => in_ranges(s, none, CORO),
+        0 => fields_ok(s, 0, 0, 0, 0, 0, 0, 0),
+        1 => fields_ok(s, 0, BITS16, 1, BITS32, 0, 0, 0),
+        2 => fields_ok(s, 0, BITS16, 2, WORD, 0, 0, 0),
+        3 => fields_ok(s, 0, BITS16, 3, WORD, 1, 0, 0),
+        4 => fields_ok(s, 0, BITS16, 4, WORD, 1, WORD, 0),
+        5 => fields_ok(s, 1, BITS16, 5, 8, BITS32, BITS32, WORD),
+        6 => at_most(s, CORO),
         _ => false,
     }
 }

@@ -100,7 +100,7 @@ fn coro_words(tag: u64, c: CoroObj) -> [u64; 20]
 }
 
 // Tag, kind and up to four fields.
-pub(crate) fn fields(tag: u64, kind: u64, a: u64, b: u64, c: u64, d: u64) -> [u64; 20]
+fn fields(tag: u64, kind: u64, a: u64, b: u64, c: u64, d: u64) -> [u64; 20]
     ensures { λ r. ⌜ r ≡ fieldsOf tag kind a b c d ⌝ }
 {
     [

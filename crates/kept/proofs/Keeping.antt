@@ -3,6 +3,7 @@ use mathlib.Core.Path.{_≡_, refl, sym, ap, ap₂, _∙_, subst}
 use mathlib.Core.Bool.{true}
 use Prim.Native.Nat.{ℕ, _+_, _*_, _≤_}
 use lib.ListN.{length, getD}
+use Rattle.heap.specs.Slot as Slot
 use Rattle.model.specs.Program.{Setup}
 use Rattle.model.specs.World.{World}
 use Rattle.model.specs.Call.{typed}
@@ -38,7 +39,7 @@ resized s s′ l M a b n r =
       stack = subst (λ k. k ≤ length (M .stack)) stack (r .stack);
       frames = subst (λ k. k * 6 ≤ length (M .frames)) depth (r .frames);
       chain = subst (λ k. k * 6 ≤ length (M .chain)) depth (r .chain);
-      slots = subst (λ k. k * 20 ≤ length (M .slots)) slots (r .slots);
+      slots = subst (λ k. k * Slot.width ≤ length (M .slots)) slots (r .slots);
       savedStack = subst (λ k. k ≤ length (M .savedStack)) (ap₂ (λ x y. x * y) rows width) (r .savedStack);
       savedFrames = subst (λ k. k ≤ length (M .savedFrames)) (ap₂ (λ x y. x * (y * 6)) rows depth) (r .savedFrames);
       ready = subst (λ k. k ≤ length (M .ready)) slots (r .ready);

@@ -8,13 +8,13 @@ use lib.ListN.{length, drop}
 use lib.Dec.{eqb}
 use Rattle.lists.specs.Pick.{pick}
 use Rattle.heap.specs.declared.value.Opt.{Opt}
-use Rattle.claims.specs.Engine.{Seen, View, Engine, run, runs, awaits, sleeps, is}
+use Rattle.claims.specs.Engine.{Seen, View, Engine, run, runs, awaits, is}
 use Rattle.claims.specs.Says.{doing, lie}
 use Rattle.claims.specs.Held.{Held, closer, By, Entered, Restored}
 use Rattle.claims.specs.Delivery.{recorded, Left, resultOf}
 use Rattle.claims.specs.Demand3.{Enters, Suspends, Leaves, Restarts, Waits, Goes, Demand3}
-use Rattle.claims.specs.Events.{Healthy, onBody, raisedAt, suspended, returned, Lost, lives, Fixed, Events}
-use Rattle.claims.specs.Promise.{suspends, room, Roomy, Makes, Accepts, Eleven, Soundness, NotEmpty}
+use Rattle.claims.specs.Events.{Healthy, onBody, raisedAt, suspended, isAwait, returned, Lost, lives, rests, Fixed, Events}
+use Rattle.claims.specs.Promise.{suspends, room, Roomy, Makes, Accepts, Eleven, Soundness, Fresh, SetUps, registers, Looks, NotEmpty}
 use Rattle.claims.proofs.Premises.{Premises}
 use Rattle.lent_claims.proofs.Follows.{Follows, Sight, sight, same, along, ran}
 use Rattle.lent_claims.proofs.Follows.{up-enters, down-enters, up-suspends, down-suspends, up-returns, down-returns, up-fails, down-fails, up-leaves, down-leaves, up-restarts, down-restarts, up-healthy, down-healthy, up-waits, down-waits, up-goes, down-goes}
@@ -91,12 +91,14 @@ module _ (e d : Engine) (f : Follows e d) where
             down (λ v. v .after .integer (recorded (v .after .coro c)) ≡ Opt.Some x) s k (p .integer c (f .to s) (f .by s k) kind x (up-returns e d f s k c h) (f .op s k ∙ o) i);
         word = λ c s k kind x h o i.
             down (λ v. recorded (v .after .coro c) ≡ resultOf kind x 0) s k (p .word c (f .to s) (f .by s k) kind x (up-returns e d f s k c h) (f .op s k ∙ o) i);
+        closed = λ c s k g pc h o. down (λ v. recorded (v .after .coro c) ≡ 0) s k (p .closed c (f .to s) (f .by s k) g pc (up-returns e d f s k c h) (f .op s k ∙ o));
         yielded = λ c s k h.
             down (λ v. closer (v .after .coro c) ≡ pick (is (v .after) awaits c) (closer (v .before .coro c)) none) s k (p .yielded c (f .to s) (f .by s k) (up-suspends e d f s k c h));
         closing = λ c s k r h g l.
             down (λ v. closer (v .after .coro c) ≡ closer (v .before .coro c)) s k
             (p .closing c (f .to s) (f .by s k) (λ x. r (down-restarts e d f s k x)) (λ x. h (down-enters e d f s k c x)) (λ x. g (down-suspends e d f s k c x)) (up (λ v. is (v .after) lives c ≡ true) s k l));
-        asleep = λ c s k r h l. down (λ v. is (v .after) sleeps c ≡ true) s k (p .asleep c (f .to s) (f .by s k) (λ x. r (down-restarts e d f s k x)) (λ x. h (down-enters e d f s k c x)) (up (λ v. is (v .before) sleeps c ≡ true) s k l));
+        awaited = λ c s k h. down (λ v. is (v .after) awaits c ≡ isAwait (doing (v .before) (v .op))) s k (p .awaited c (f .to s) (f .by s k) (up-suspends e d f s k c h));
+        still = λ c s k r h l. down (λ v. v .after .coro c ≡ v .before .coro c) s k (p .still c (f .to s) (f .by s k) (λ x. r (down-restarts e d f s k x)) (λ x. h (down-enters e d f s k c x)) (up (λ v. is (v .before) rests c ≡ true) s k l));
         fixed = λ s k r. down (λ v. Fixed (v .before) (v .after)) s k (p .fixed (f .to s) (f .by s k) (λ x. r (down-restarts e d f s k x)));
         one-switch = λ c u s k h g. p .one-switch c u (f .to s) (f .by s k) (up-enters e d f s k c h) (up-suspends e d f s k u g);
         no-return = λ c u s k h g. p .no-return c u (f .to s) (f .by s k) (up-enters e d f s k c h) (up-returns e d f s k u g);
@@ -116,6 +118,12 @@ module _ (e d : Engine) (f : Follows e d) where
   roomy n c s r =
       let (fuel, held, seen, there, grows) = subst (Roomily n c) (sym (f .view s)) (r .fuel, r .held, r .seen, r .there, r .grows) in
       record { healthy = up-healthy e d f s (r .healthy); fuel = fuel; held = held; seen = seen; there = there; grows = grows }
+
+  roomy-down : (n c : ℕ) (s : e .State) → Roomy d n c (f .to s) → Roomy e n c s
+  unfolding Roomily
+  roomy-down n c s r =
+      let (fuel, held, seen, there, grows) = subst (Roomily n c) (f .view s) (r .fuel, r .held, r .seen, r .there, r .grows) in
+      record { healthy = down-healthy e d f s (r .healthy); fuel = fuel; held = held; seen = seen; there = there; grows = grows }
 
   -- the operands lie in the frame
   lying : (s : e .State) (rs : List ℕ) → lie (e .view s) rs ≡ true → lie (d .view (f .to s)) rs ≡ true
@@ -145,6 +153,23 @@ module _ (e d : Engine) (f : Follows e d) where
         eleven = λ s k h n. down (λ v. Eleven (v .before) (v .op)) s k (p .eleven (f .to s) (f .by s k) (up-healthy e d f s h) (f .number s k ∙ n));
       }
 
+  -- ---- set-ups and looks
+
+  pub set-ups : SetUps d → SetUps e
+  set-ups p =
+      record {
+        begun = λ s k h. down (λ v. Fresh (v .after)) s k (p .begun (f .to s) (f .by s k) (up-restarts e d f s k h));
+        refused = λ s k o n. down (λ v. (v .number ≡ 11) × (v .after ≡ v .before)) s k (p .refused (f .to s) (f .by s k) (f .op s k ∙ o) (λ x. n (sym (f .number s k) ∙ x)));
+      }
+
+  pub looks : Looks d → Looks e
+  looks p =
+      record {
+        sees = λ s h. sym (f .look s) ∙ p .sees (f .to s) (up-healthy e d f s h) ∙ ap (λ v. registers (v .frames) (v .stack)) (f .view s);
+        unseen = λ s h. sym (f .look s) ∙ p .unseen (f .to s) (λ x. h (down-healthy e d f s x));
+        unmoved = λ s k o. down (λ v. v .after ≡ v .before) s k (p .unmoved (f .to s) (f .by s k) (f .op s k ∙ o));
+      }
+
   -- ---- not empty
 
   -- calls of e that follow such a split of d's
@@ -170,8 +195,8 @@ module _ (e d : Engine) (f : Follows e d) where
     abbrev gs : List (d .Call)
     gs = along e d f s₄ going
 
-    pub not-empty : Restarts e start first → Premises d c (f .to s₁) (f .by s₁ x) ws (f .by s₃ y) gs (f .by s₅ z) → NotEmpty e
-    not-empty r p =
+    pub not-empty : Restarts e start first → Roomy d (d .view (f .to s₁) .intCost) c (f .to s₁) → Makes (d .view (f .to s₁)) → Premises d c (f .to s₁) (f .by s₁ x) ws (f .by s₃ y) gs (f .by s₅ z) → NotEmpty e
+    not-empty r has makes p =
         let at₂ = f .next s₁ x in
         let at₃ : run d (d .next (f .to s₁) (f .by s₁ x)) ws ≡ f .to s₃ = ap (λ u. run d u ws) at₂ ∙ ran e d f s₂ waiting in
         let at₄ : d .next (run d (d .next (f .to s₁) (f .by s₁ x)) ws) (f .by s₃ y) ≡ f .to s₄ = ap (λ u. d .next u (f .by s₃ y)) at₃ ∙ f .next s₃ y in
@@ -188,6 +213,8 @@ module _ (e d : Engine) (f : Follows e d) where
           z = z;
           c = c;
           suspends = down-suspends e d f s₁ x c (p .suspends);
+          roomy = subst (λ v. Roomy e (v .intCost) c s₁) (f .view s₁) (roomy-down (d .view (f .to s₁) .intCost) c s₁ has);
+          makes = subst Makes (f .view s₁) makes;
           waits = down-waits e d f c s₂ waiting (subst (λ u. Waits d c u ws) at₂ (p .waits));
           enters = down-enters e d f s₃ y c (subst (λ u. Enters d c u (f .by s₃ y)) at₃ (p .enters));
           goes = down-goes e d f c s₄ going (subst (λ u. Goes d c u gs) at₄ (p .goes));

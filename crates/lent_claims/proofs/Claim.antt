@@ -34,6 +34,8 @@ promise =
       events = Carried.events outer steps follows (p .events);
       accepts = Carried.accepts outer steps follows (p .accepts);
       soundness = Carried.soundness outer steps follows (p .soundness);
+      set-ups = Carried.set-ups outer steps follows (p .set-ups);
+      looks = Carried.looks outer steps follows (p .looks);
       not-empty = not-empty;
     }
 

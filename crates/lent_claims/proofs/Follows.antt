@@ -19,6 +19,7 @@ pub record Follows (e d : Engine) : Type 0 where
   pub op : (s : e .State) (k : e .Call) → d .op (by s k) ≡ e .op k
   pub next : (s : e .State) (k : e .Call) → d .next (to s) (by s k) ≡ to (e .next s k)
   pub number : (s : e .State) (k : e .Call) → d .number (to s) (by s k) ≡ e .number s k
+  pub look : (s : e .State) → d .look (to s) ≡ e .look s
   -- every operation of d is followed by some call
   pub some-call : (s : e .State) (k : d .Call) (o : Op) → d .op k ≡ some o → (j : e .Call) × (by s j ≡ k)
 

@@ -5,3 +5,4 @@ pub mod NotEmpty
 pub mod Stack
 pub mod Back
 pub mod Claim
+pub mod Fuel

@@ -3,7 +3,7 @@ use Prim.Native.Nat.{ℕ}
 use mathlib.Core.Path.{_≡_, refl, sym, ap, _∙_, subst}
 use mathlib.Core.Bool.{true, false}
 use mathlib.Core.List.{List, map}
-use lib.ListN.{take, drop, replicate}
+use lib.ListN.{replicate}
 use Rattle.lists.specs.Pick.{pick}
 use Rattle.model.specs.World.{fresh}
 use Rattle.model.specs.Call as Model
@@ -14,12 +14,13 @@ use Rattle.memory.specs.Memory.{Lent}
 use Rattle.words.specs.Words.{numbersOf}
 use Rattle.words.specs.Decode.{setupOf}
 use Rattle.claims.specs.Engine.{run}
-use Rattle.claims.specs.Promise.{NotEmpty}
+use Rattle.claims.specs.Promise.{Roomy, Makes, NotEmpty}
 use Rattle.claims.specs.Premises.{premises}
 use Rattle.claims.specs.Steps.{steps}
 use Rattle.claims.specs.Story.{wide, c, held}
 use Rattle.claims.specs.Witness.{nth, between}
 use Rattle.claims.proofs.Premises.{Premises, premises-met}
+use Rattle.claims.proofs.Promise.{before, roomy-met, makes-met}
 use Rattle.lent.specs.Step.{State, setUpOk, setUpWords, Call, SetUp, Do}
 use Rattle.lent.proofs.Kept.{words-kept}
 use Rattle.lent.proofs.Sentences as Sentences
@@ -57,10 +58,6 @@ start = record { words = slices; machine = numbersOf (fresh wide); fuel = record
 abbrev first : Call
 first = SetUp (setupWords wide)
 
--- the calls of the split
-before : List Model.Call
-before = drop 1 (take 13 held)
-
 taken : setUpOk (setupWords wide) slices ≡ true
 unfolding computed
 taken = refl
@@ -75,6 +72,10 @@ begins = sound-to (setUpWords start (setupWords wide) .state) (words-kept .begun
 split-met : premises steps c (run steps (fresh wide) before) (nth held 13) (between held 13 23) (nth held 23) (between held 23 26) (nth held 26) ≡ true
 unfolding computed before
 split-met = refl
+
+has-room : let w = run steps (fresh wide) before in Roomy steps (steps .view w .intCost) c w × Makes (steps .view w)
+unfolding computed before
+has-room = (roomy-met, makes-met)
 
 -- on words they follow these, whatever the state
 module _ (s : State) where
@@ -109,4 +110,4 @@ not-empty =
     let q = subst (λ ws. Premises steps c (to s₁) (nth held 13) ws (nth held 23) (between held 23 26) (nth held 26)) (sym (follow-waiting s₂)) p in
     let r = subst (λ gs. Premises steps c (to s₁) (nth held 13) (along outer steps follows s₂ waiting) (nth held 23) gs (nth held 26)) (sym (follow-going s₄)) q in
     Carried.not-empty outer steps follows start first (map own before) (own (nth held 13)) waiting (own (nth held 23)) going (own (nth held 26)) c
-    (record { sets-up = refl; accepted = Sentences.sentences .set-up start (setupWords wide) taken }) r
+    (record { sets-up = refl; accepted = Sentences.sentences .set-up start (setupWords wide) taken }) (subst (λ w. Roomy steps (steps .view w .intCost) c w) reached (has-room .0)) (subst (λ w. Makes (steps .view w)) reached (has-room .1)) r

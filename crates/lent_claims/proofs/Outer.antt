@@ -4,7 +4,7 @@ use Prim.Native.Nat.{ℕ, _^_}
 use native.Mathlib.Omega.{arith}
 use mathlib.Core.Path.{_≡_, refl, sym, ap, _∙_}
 use mathlib.Core.Bool.{Bool, true, false}
-use mathlib.Core.List.{List}
+use mathlib.Core.List.{List, []}
 use mathlib.Core.Option.{none, some}
 use Rattle.lists.specs.Pick.{pick, pick-true, pick-false}
 use Rattle.heap.specs.declared.fault.Fault.{Fault}
@@ -12,7 +12,7 @@ use Rattle.model.specs.Program.{Setup, setupOk}
 use Rattle.model.specs.World.{World, withOutcome, fresh}
 use Rattle.model.specs.Sound.{sound}
 use Rattle.model.specs.Gate.{refused}
-use Rattle.model.specs.Added.{accepted}
+use Rattle.model.specs.Added.{accepted, registers}
 use Rattle.model.specs.Answer.{numberOf}
 use Rattle.model.specs.Call.{Operation}
 use Rattle.model.specs.Call as Model
@@ -27,7 +27,7 @@ use Rattle.words.specs.Decode.{setupOf}
 use Rattle.claims.specs.Steps as Steps
 use Rattle.claims.specs.Steps.{viewOf, steps}
 use Rattle.claims.specs.Story.{bad}
-use Rattle.lent.specs.Step.{State, Left, isSound, decoded, stepWords, setUpOk, setUpWords, Call, SetUp, Do}
+use Rattle.lent.specs.Step.{State, Left, isSound, decoded, stepWords, looked, setUpOk, setUpWords, Call, SetUp, Do}
 use Rattle.lent.proofs.Kept.{words-kept, untested, stepped, refused-words, set-up, given-ok, refused-set-up}
 use Rattle.lent_claims.specs.Engine.{opOf, outer}
 use Rattle.lent_claims.proofs.Follows.{Follows}
@@ -132,5 +132,21 @@ pub some-call : (s : State) (k : Model.Call) (o : Op) → Steps.opOf k ≡ some 
 some-call s (Model.SetUp u) o q = let z : _≡_ {A = ℕ} 0 1 = cc in absurd (omega arith)
 some-call s (Model.Do p) o q = (Do p, refl)
 
+-- ---- looks
+
+look-call : (w : World) → call Op.Look w .seen ≡ registers w
+unfolding call
+look-call w = refl
+
+pub look : (s : State) → Steps.looks (to s) ≡ looked s
+look s = go (isSound s) refl
+  where
+    go : (b : Bool) → isSound s ≡ b → Steps.looks (to s) ≡ pick (isSound s) (registers (decoded s)) []
+    go true e =
+        ap (λ (w : World). Steps.looks w) (sound-to s e) ∙ ap (λ (x : Out). x .seen) (untested (decoded s) (record { op = Op.Look; within = Steps.look-typed }) (words-kept .stands s e))
+        ∙ look-call (decoded s) ∙ sym (ap (λ b. pick b (registers (decoded s)) []) e ∙ pick-true _ _)
+    go false e =
+        ap (λ (x : Out). x .seen) (stays (to s) (record { op = Op.Look; within = Steps.look-typed }) (unsound-to s e)) ∙ sym (ap (λ b. pick b (registers (decoded s)) []) e ∙ pick-false _ _)
+
 abbrev pub follows : Follows outer steps
-follows = record { to = to; by = by; view = view; op = op; next = next; number = number; some-call = some-call }
+follows = record { to = to; by = by; view = view; op = op; next = next; number = number; look = look; some-call = some-call }

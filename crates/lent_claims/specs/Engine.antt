@@ -5,11 +5,11 @@ use Rattle.model.specs.Answer.{numberOf}
 use Rattle.model.specs.declared.call.Op.{Op}
 use Rattle.claims.specs.Engine.{Engine}
 use Rattle.claims.specs.Steps.{viewOf}
-use Rattle.lent.specs.Step.{State, decoded, Call, SetUp, Do, step}
+use Rattle.lent.specs.Step.{State, decoded, looked, Call, SetUp, Do, step}
 
 abbrev pub opOf : Call → Option Op
 opOf (SetUp given) = none
 opOf (Do o) = some (o .op)
 
 abbrev pub outer : Engine
-outer = record { State = State; Call = Call; op = opOf; view = λ s. viewOf (decoded s); next = λ s k. step s k .state; number = λ s k. numberOf (step s k .answer) }
+outer = record { State = State; Call = Call; op = opOf; view = λ s. viewOf (decoded s); next = λ s k. step s k .state; number = λ s k. numberOf (step s k .answer); look = looked }

@@ -40,16 +40,15 @@ pub fn take_words(dst: &mut [u64], src: &mut [u64])
     }
 }
 
-// Whether all words are 0.
+// Whether all words are 0: all of them joined, and one test.
 pub fn all_zero(s: &[u64]) -> bool
     ensures { λ r. ⌜ r ≡ zeros (now (s .entry)) ⌝ }
 {
+    let mut any: u64 = 0;
     let mut i = 0;
     while i < s.len() {
-        if s[i] != 0 {
-            return false;
-        }
+        any = any | s[i];
         i += 1;
     }
-    true
+    any == 0
 }

@@ -17,8 +17,7 @@ use Rattle.memory.specs.declared.machine.Machine.{Machine}
 use Rattle.memory.specs.declared.machine.Sizes.{Sizes}
 use Rattle.memory.proofs.Does.{does, SameLengths, ok-next}
 use Rattle.machine.proofs.Tops.{no-top, some-top}
-use Rattle.machine_unwind.specs.Turns.{goesOn, answered, turn, searchFrom}
-use Rattle.machine_unwind.specs.declared.turn.Turn.{Turn}
+use Rattle.machine_unwind.specs.Turns.{goesOn, turn, searchFrom}
 use Rattle.machine_unwind.proofs.Below.{Below, Steps, turn-steps}
 
 pub alike : (M : Lent) → SameLengths M M
@@ -67,19 +66,19 @@ module _ (l : Sizes) (value fn pc : ℕ) where
         (r .same ∙ none-left (r .world) (no-top (r .world .frames) (M b .frames) (n .machine .depth) (r .rep .frames) e)) (r .rep)
 
     -- one turn more
-    module _ (some : 1 ≤ n .machine .depth) (a : fn < 2 ^ 32) (z : pc < 2 ^ 32) (M′ : Beside → Lent) (n′ : Numbers) (t : Turn) (did : Gives ifSound l (turn value fn pc) M n M′ n′ t) where
+    module _ (some : 1 ≤ n .machine .depth) (a : fn < 2 ^ 32) (z : pc < 2 ^ 32) (M′ : Beside → Lent) (n′ : Numbers) (t : Answer) (did : Gives ifSound l (turn value fn pc) M n M′ n′ t) where
       steps : (w : World) (b : Beside) → Rep l w (M b) (n .machine) (n .fuel b) → sound w ≡ true → Steps value fn pc w (turn value fn pc w)
       steps w b rep snd =
           let x = some-top (w .frames) (M b .frames) (n .machine .depth) (rep .frames) some in
           turn-steps value fn pc w snd (x .top) (x .rest) (x .are) a z
 
-      pub along-ends : goesOn t ≡ false → Gives ifSound l (searchFrom value fn pc) M₀ n₀ M′ n′ (answered value t)
+      pub along-ends : goesOn t ≡ false → Gives ifSound l (searchFrom value fn pc) M₀ n₀ M′ n′ t
       along-ends e w b rep snd =
           let r = at .rest w b rep snd in
           let d = did (r .world) b (r .rep) (r .sound) in
           let o = turn value fn pc (r .world) in
-          does l (M′ b) (n′ .machine) (n′ .fuel b) (searchFrom value fn pc w) (o .world) (answered value t)
-          (r .same ∙ steps (r .world) b (r .rep) (r .sound) .ends (ap goesOn (sym (d .answer)) ∙ e) ∙ ap (λ y. after (o .world) (answered value y)) (sym (d .answer))) (d .world)
+          does l (M′ b) (n′ .machine) (n′ .fuel b) (searchFrom value fn pc w) (o .world) t
+          (r .same ∙ steps (r .world) b (r .rep) (r .sound) .ends (ap goesOn (sym (d .answer)) ∙ e) ∙ ap (after (o .world)) (sym (d .answer))) (d .world)
 
       module _ (same : (b : Beside) → SameLengths (M b) (M′ b)) (e : goesOn t ≡ true) where
         below : (w : World) (b : Beside) → Rep l w (M b) (n .machine) (n .fuel b) → sound w ≡ true → Below value fn pc w (turn value fn pc w .world)

@@ -9,13 +9,13 @@ use lib.Dec.{ltb}
 use borrow.Author.Tests.{lt-ltb}
 use Rattle.lists.specs.Pick.{pick}
 use Rattle.heap.specs.declared.object.CoroState.{CoroState}
-use Rattle.model.specs.Program.{Setup, func, firstOf}
-use Rattle.model.specs.World.{World, After, after, withChain}
+use Rattle.model.specs.Program.{Setup}
+use Rattle.model.specs.World.{World, After, withChain}
 use Rattle.model.specs.Frames.{isCoro, popTo}
 use Rattle.model.specs.Heap.{coro}
 use Rattle.model.specs.Coro.{inState, ended, finishCoroutine, closedBy, failTo, escapedOn, coroEscaped}
 use Rattle.model.specs.Cleanup.{charge}
-use Rattle.model.specs.Machine.{caught, stopOr, escape, searchAs, search}
+use Rattle.model.specs.Machine.{caught, stopOr, escape, searchAs, handlerOf, search}
 use Rattle.model.specs.Sound.{sound}
 use Rattle.model.specs.declared.call.Answer.{Answer}
 use Rattle.model.specs.declared.call.OptPc.{OptPc}
@@ -32,11 +32,8 @@ use Rattle.soundness.proofs.Sound.{→sound}
 use Rattle.soundness.proofs.Tower.{pop-sound}
 use Rattle.soundness.proofs.Coros.{changed}
 use Rattle.soundness.proofs.End.{escaped-good}
-use Rattle.machine.specs.Frame.{popOn}
 use Rattle.machine.proofs.Tops.{known}
-use Rattle.machine_unwind.specs.Turns.{goesOn, answered, handlerOn, takenAs, takeHandler, haltedIn, leaveAs, turnAs, turn, searchFrom}
-use Rattle.machine_unwind.specs.declared.turn.Turn.{Turn}
-use Rattle.machine_unwind.proofs.Turning.{leave-is}
+use Rattle.machine_unwind.specs.Turns.{on, goesOn, turnOn, turn, searchFrom}
 
 -- ---- an escape that goes on leaves the set-up
 
@@ -70,20 +67,19 @@ module _ (value fn pc : ℕ) where
     pub fewer : length (u .frames) < length (w .frames)
     pub same : searchFrom value fn pc w ≡ searchFrom value fn pc u
 
-  pub record Steps (w : World) (o : After Turn) : Type 0 where
+  pub record Steps (w : World) (o : After Answer) : Type 0 where
     pub on : goesOn (o .answer) ≡ true → Below w (o .world)
-    pub ends : goesOn (o .answer) ≡ false → searchFrom value fn pc w ≡ after (o .world) (answered value (o .answer))
+    pub ends : goesOn (o .answer) ≡ false → searchFrom value fn pc w ≡ o
 
   -- a handler ends it
-  taken-ends : (h : Handler) (u : World) (c : Charge) → (goesOn (takenAs h value u c .answer) ≡ false) × (caught h value u c ≡ after (takenAs h value u c .world) (answered value (takenAs h value u c .answer)))
-  unfolding pick
-  taken-ends h u (Charge.Done n) = (refl, refl)
-  taken-ends h u Charge.Spent = (refl, refl)
-  taken-ends h u (Charge.Close n) = (refl, refl)
+  taken-ends : (h : Handler) (u : World) (c : Charge) → goesOn (caught h value u c .answer) ≡ false
+  taken-ends h u (Charge.Done n) = refl
+  taken-ends h u Charge.Spent = refl
+  taken-ends h u (Charge.Close n) = refl
 
   module _ (w : World) (snd : sound w ≡ true) (x : Frame) (xs : List Frame) (are : w .frames ≡ x ∷ xs) where
     abbrev found : Caught
-    found = firstOf (x .pc) (func (w .setup) (x .func) .handlers)
+    found = handlerOf x w
 
     abbrev next : World → After Answer
     next = search xs value fn pc
@@ -92,9 +88,9 @@ module _ (value fn pc : ℕ) where
     unfolding searchFrom
     search-is = ap (λ fs. search fs value fn pc w) are
 
-    turn-is : turn value fn pc w ≡ turnAs found value fn pc w
+    turn-is : turn value fn pc w ≡ searchAs found x xs value fn pc on w
     unfolding turn
-    turn-is = ap (λ fs. turnAs (handlerOn fs w) value fn pc w) are
+    turn-is = ap (λ fs. turnOn fs value fn pc w) are
 
     -- below the frame that is gone
     below : (u : World) → sound u ≡ true → u .setup ≡ w .setup → u .frames ≡ xs → searchFrom value fn pc w ≡ next u → Below w u
@@ -110,17 +106,17 @@ module _ (value fn pc : ℕ) where
     abbrev escaped : After Bool
     escaped = coroEscaped value fn pc (popTo x xs w)
 
-    body : ltb fn (2 ^ 32) ≡ true → ltb pc (2 ^ 32) ≡ true → isCoro (x .cont) ≡ true → searchFrom value fn pc w ≡ stopOr next (escaped .world) (escaped .answer) → Steps w (haltedIn (escaped .world) (escaped .answer))
+    body : ltb fn (2 ^ 32) ≡ true → ltb pc (2 ^ 32) ≡ true → isCoro (x .cont) ≡ true → searchFrom value fn pc w ≡ stopOr next (escaped .world) (escaped .answer) → Steps w (stopOr on (escaped .world) (escaped .answer))
     unfolding pick
     body a b c q = go (escaped .answer) refl q
       where
-        go : (stops : Bool) → escaped .answer ≡ stops → searchFrom value fn pc w ≡ stopOr next (escaped .world) stops → Steps w (haltedIn (escaped .world) stops)
+        go : (stops : Bool) → escaped .answer ≡ stops → searchFrom value fn pc w ≡ stopOr next (escaped .world) stops → Steps w (stopOr on (escaped .world) stops)
         go true e q = record { on = λ z. no-false z; ends = λ _. q }
         go false e q =
             let good = escaped-good w x xs (known w snd) are c value fn pc a b in
             record { on = λ _. below (escaped .world) (→sound (escaped .world) (good .sound)) (escaped-stays value fn pc (popTo x xs w) e) (good .fact e) q; ends = λ z. no-true z }
 
-    leaves : ltb fn (2 ^ 32) ≡ true → ltb pc (2 ^ 32) ≡ true → (k : Cont) → x .cont ≡ k → searchFrom value fn pc w ≡ escape k value fn pc next (popTo x xs w) → Steps w (leaveAs k value fn pc (popTo x xs w))
+    leaves : ltb fn (2 ^ 32) ≡ true → ltb pc (2 ^ 32) ≡ true → (k : Cont) → x .cont ≡ k → searchFrom value fn pc w ≡ escape k value fn pc next (popTo x xs w) → Steps w (escape k value fn pc on (popTo x xs w))
     leaves a b Cont.Entry e q = record { on = λ z. no-false z; ends = λ _. q }
     leaves a b (Cont.Write r) e q = record { on = λ _. popped (ap isCoro e) q; ends = λ z. no-true z }
     leaves a b (Cont.Dyn r) e q = record { on = λ _. popped (ap isCoro e) q; ends = λ z. no-true z }
@@ -129,13 +125,8 @@ module _ (value fn pc : ℕ) where
     leaves a b Cont.Coro e q = body a b (ap isCoro e) q
 
     pub turn-steps : fn < 2 ^ 32 → pc < 2 ^ 32 → Steps w (turn value fn pc w)
-    unfolding takeHandler
     turn-steps a b = subst (Steps w) (sym turn-is) (go found search-is)
       where
-        go : (c : Caught) → searchFrom value fn pc w ≡ searchAs c x xs value fn pc next w → Steps w (turnAs c value fn pc w)
-        go Caught.Nothing q =
-            subst (Steps w) (sym (leave-is value fn pc w x xs are ∙ ap (λ fs. leaveAs (x .cont) value fn pc (popOn fs w)) are)) (leaves (lt-ltb fn (2 ^ 32) a) (lt-ltb pc (2 ^ 32) b) (x .cont) refl q)
-        go (Caught.By h) q =
-            let p = charge OptPc.None w in
-            let t = taken-ends h (p .world) (p .answer) in
-            record { on = λ z. no-true (sym z ∙ t .0); ends = λ _. q ∙ t .1 }
+        go : (c : Caught) → searchFrom value fn pc w ≡ searchAs c x xs value fn pc next w → Steps w (searchAs c x xs value fn pc on w)
+        go Caught.Nothing q = leaves (lt-ltb fn (2 ^ 32) a) (lt-ltb pc (2 ^ 32) b) (x .cont) refl q
+        go (Caught.By h) q = let p = charge OptPc.None w in record { on = λ z. no-true (sym z ∙ taken-ends h (p .world) (p .answer)); ends = λ _. q }

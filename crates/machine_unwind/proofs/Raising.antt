@@ -34,7 +34,7 @@ use Rattle.memory.specs.declared.machine.Machine.{Machine}
 use Rattle.memory.specs.declared.machine.Sizes.{Sizes}
 use Rattle.memory.proofs.Does.{does, SameLengths, ok-next}
 use Rattle.machine.proofs.Tops.{no-top, some-top, known}
-use Rattle.machine_unwind.specs.Turns.{searchFrom, originOf, errorAt, thrown}
+use Rattle.machine_unwind.specs.Turns.{searchFrom, originOf, thrown}
 use Rattle.machine_unwind.specs.Fits.{SearchFits}
 use Rattle.machine_unwind.specs.declared.turn.Origin.{Origin}
 use Rattle.machine_unwind.proofs.Handlers.{its-func, its-pc}
@@ -90,29 +90,31 @@ module _ (l : Sizes) (M : Lent) (m : Machine) (fuel : Fuel) (w : World) (rep : R
 
 -- ---- what
 
-module _ (l : Sizes) (M : Lent) (m : Machine) (fuel : Fuel) (w : World) (f : Fault) (at : Origin) (n : ℕ) (is : n ≡ numberOf f) where
+module _ (l : Sizes) (M : Lent) (m : Machine) (fuel : Fuel) (w : World) (f : Fault) (at : Origin) (there : at ≡ originOf w) (n : ℕ) (is : n ≡ numberOf f) where
   by-number : (b c : Bool) → eqb n 17 ≡ b → leb n 8 ≡ c
-      → thrown f at w ≡ pick b (after w (Made.Word (wordOf f))) (pick c (alloc (w .setup .costs .error) (errorAt f at) w) (after w (Made.Refused f)))
+      → thrown f w ≡ pick b (after w (Made.Word (wordOf f))) (pick c (alloc (w .setup .costs .error) (errorOf f w) w) (after w (Made.Refused f)))
   unfolding thrown
-  by-number b c p q = ap₂ (λ x y. pick x (after w (Made.Word (wordOf f))) (pick y (alloc (w .setup .costs .error) (errorAt f at) w) (after w (Made.Refused f)))) (ap (λ k. eqb k 17) (sym is) ∙ p) (ap (λ k. leb k 8) (sym is) ∙ q)
+  by-number b c p q = ap₂ (λ x y. pick x (after w (Made.Word (wordOf f))) (pick y (alloc (w .setup .costs .error) (errorOf f w) w) (after w (Made.Refused f)))) (ap (λ k. eqb k 17) (sym is) ∙ p) (ap (λ k. leb k 8) (sym is) ∙ q)
 
-  pub thrown-word : n ≡ 17 → (v : ℕ) → v ≡ wordOf f → Rep l w M m fuel → Does l (thrown f at w) M m fuel (Made.Word v)
-  thrown-word e v q rep = does l M m fuel (thrown f at w) w (Made.Word v) (by-number true (leb n 8) (eq-eqb n 17 e) refl ∙ pick-true _ _ ∙ ap (λ x. after w (Made.Word x)) (sym q)) rep
+  pub thrown-word : n ≡ 17 → (v : ℕ) → v ≡ wordOf f → Rep l w M m fuel → Does l (thrown f w) M m fuel (Made.Word v)
+  thrown-word e v q rep = does l M m fuel (thrown f w) w (Made.Word v) (by-number true (leb n 8) (eq-eqb n 17 e) refl ∙ pick-true _ _ ∙ ap (λ x. after w (Made.Word x)) (sym q)) rep
 
-  pub thrown-object : (n ≡ 17 → ⊥) → n ≤ 8 → (bytes : ℕ) (a : Made) → bytes ≡ w .setup .costs .error → Does l (alloc bytes (Object.Error n (at .func) (at .pc) nil) w) M m fuel a → Does l (thrown f at w) M m fuel a
+  error-there : Object.Error n (at .func) (at .pc) nil ≡ errorOf f w
+  error-there = ap₂ (λ k (x : Origin). Object.Error k (x .func) (x .pc) nil) is there
+
+  pub thrown-object : (n ≡ 17 → ⊥) → n ≤ 8 → (bytes : ℕ) (a : Made) → bytes ≡ w .setup .costs .error → Does l (alloc bytes (Object.Error n (at .func) (at .pc) nil) w) M m fuel a → Does l (thrown f w) M m fuel a
   thrown-object e h bytes a q d =
-      subst (λ o. Does l o M m fuel a)
-      (ap₂ (λ x y. alloc x (Object.Error y (at .func) (at .pc) nil) w) q is ∙ sym (by-number false true (ne-eqb n 17 e) (le-leb n 8 h) ∙ pick-false _ _ ∙ pick-true _ _)) d
+      subst (λ o. Does l o M m fuel a) (ap₂ (λ x y. alloc x y w) q error-there ∙ sym (by-number false true (ne-eqb n 17 e) (le-leb n 8 h) ∙ pick-false _ _ ∙ pick-true _ _)) d
 
-  pub thrown-passes : (n ≡ 17 → ⊥) → 8 < n → Rep l w M m fuel → Does l (thrown f at w) M m fuel (Made.Refused f)
-  thrown-passes e h rep = does l M m fuel (thrown f at w) w (Made.Refused f) (by-number false false (ne-eqb n 17 e) (lt-leb n 8 h) ∙ pick-false _ _ ∙ pick-false _ _) rep
+  pub thrown-passes : (n ≡ 17 → ⊥) → 8 < n → Rep l w M m fuel → Does l (thrown f w) M m fuel (Made.Refused f)
+  thrown-passes e h rep = does l M m fuel (thrown f w) w (Made.Refused f) (by-number false false (ne-eqb n 17 e) (lt-leb n 8 h) ∙ pick-false _ _ ∙ pick-false _ _) rep
 
 -- an error object leaves a sound world, with the same frames
 pub record Raised (w u : World) : Type 0 where
   pub sound : sound u ≡ true
   pub still : Still w u
 
-pub thrown-good : (f : Fault) (w : World) → sound w ≡ true → raisable f ≡ true → Raised w (thrown f (originOf w) w .world)
+pub thrown-good : (f : Fault) (w : World) → sound w ≡ true → raisable f ≡ true → Raised w (thrown f w .world)
 unfolding thrown
 thrown-good f w snd range =
     picked (λ (o : After Made). Raised w (o .world)) (eqb (numberOf f) 17) (λ _. same)
@@ -129,12 +131,12 @@ thrown-good f w snd range =
 
 -- what it asks then of the words
 pub raised-fits : (l : Sizes) (M M′ : Beside → Lent) (m m′ : Machine) (fuel : Fuel) (o : Ok l M (with m fuel)) (f : Fault) → raisable f ≡ true → (at : Origin) → at ≡ originOf (o .world)
-    → SameLengths (M (o .beside)) (M′ (o .beside)) → Rep l (thrown f (originOf (o .world)) (o .world) .world) (M′ (o .beside)) m′ fuel → SearchFits l M′ m′ fuel (at .func) (at .pc)
+    → SameLengths (M (o .beside)) (M′ (o .beside)) → Rep l (thrown f (o .world) .world) (M′ (o .beside)) m′ fuel → SearchFits l M′ m′ fuel (at .func) (at .pc)
 raised-fits l M M′ m m′ fuel o f e at is same rep =
     let g = thrown-good f (o .world) (o .sound) e in
     let k = origin-small (o .world) (o .sound) in
     record {
-      ok = ok-next l M M′ (with m fuel) (with m′ fuel) o (thrown f (originOf (o .world)) (o .world) .world) (g .still .setup) (g .sound) same rep;
+      ok = ok-next l M M′ (with m fuel) (with m′ fuel) o (thrown f (o .world) .world) (g .still .setup) (g .sound) same rep;
       func = subst (λ (x : Origin). x .func < 2 ^ 32) (sym is) (k .0);
       pc = subst (λ (x : Origin). x .pc < 2 ^ 32) (sym is) (k .1);
     }
@@ -142,7 +144,7 @@ raised-fits l M M′ m m′ fuel o f e at is same rep =
 -- ---- and what follows
 
 module _ (f : Fault) (w : World) where
-  raise-is : unwindFault f w ≡ andThen (thrown f (originOf w) w) searchMade
+  raise-is : unwindFault f w ≡ andThen (thrown f w) searchMade
   unfolding thrown pick
   raise-is = go (eqb (numberOf f) 17) (leb (numberOf f) 8)
     where
@@ -156,7 +158,7 @@ module _ (f : Fault) (w : World) where
 
   module _ (l : Sizes) (M : Lent) (m : Machine) (fuel : Fuel) where
     abbrev what : After Made
-    what = thrown f (originOf w) w
+    what = thrown f w
 
     pub raise-refused : (g : Fault) (a : Made) → a ≡ Made.Refused g → Does l what M m fuel a → Does l (unwindFault f w) M m fuel (Answer.Refused g)
     raise-refused g a e d = does l M m fuel (unwindFault f w) (what .world) (Answer.Refused g) (raise-is ∙ ap (searchMade (what .world)) (sym (d .answer) ∙ e)) (d .world)

@@ -1,16 +1,18 @@
 // machine.rs: unwind, the handler of a frame. program.rs: FuncInfo.
 ghost use Rattle.memory.specs.Lendings.{top};
 ghost use Rattle.memory.specs.Contract.{Met, Reads, any, every, only, with};
+ghost use Rattle.model.specs.Machine.{takeHandler};
 ghost use Rattle.tables.specs.Does.{RegFits};
-ghost use Rattle.machine_unwind.specs.Turns.{handlerIn, takeHandler};
+ghost use Rattle.machine_unwind.specs.Turns.{handlerIn};
 ghost use Rattle.machine_unwind.specs.Fits.{frameSetup, HandlerFits};
-use crate::turn::Turn;
-use crate::turn::Turned;
 use crate::turn::is_spent;
 use coro_clean::charge::charge_plain;
+use heap::fault::Fault;
+use machine::called::Called;
 use machine::frame::put;
 use machine::frame::store_pc;
 use memory::machine::Machine;
+use model::call::Answer;
 use model::machine::Fuel;
 use model::program::Caught;
 use model::program::Handler;
@@ -34,7 +36,7 @@ pub(crate) fn take_handler(
     fuel: Fuel,
     h: Handler,
     value: u64,
-) -> Turned
+) -> Called
     requires { ⌜ RegFits (now stack) (now frames) (m .height) (m .depth) (h .catch) ⌝ }
     ensures { λ r. ⌜ every (λ l. Met any l (takeHandler h value) (top stack frames) (with m fuel) (with (r .machine) (r .fuel)) (r .answer)) ⌝ }
 {
@@ -42,17 +44,17 @@ pub(crate) fn take_handler(
     let f = did.fuel;
     let c = did.answer;
     if is_spent(c) {
-        return Turned {
+        return Called {
             machine: m,
             fuel: f,
-            answer: Turn::Spent,
+            answer: Answer::Refused(Fault::OutOfFuel),
         };
     }
     put(stack, frames, m, h.catch, value);
     store_pc(frames, m, h.target);
-    Turned {
+    Called {
         machine: m,
         fuel: f,
-        answer: Turn::Caught,
+        answer: Answer::Caught,
     }
 }

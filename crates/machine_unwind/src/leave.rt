@@ -3,11 +3,11 @@ ghost use Rattle.memory.specs.Lendings.{six};
 ghost use Rattle.memory.specs.Contract.{Met, ifSound, with};
 ghost use Rattle.machine_unwind.specs.Turns.{leave};
 ghost use Rattle.machine_unwind.specs.Fits.{FrameFits};
-use crate::turn::Turned;
 use crate::turn::halted;
 use crate::turn::is_coro;
 use crate::turn::passed;
 use coro_end::escaped::coro_escaped;
+use machine::called::Called;
 use machine::frame::pop;
 use memory::machine::Machine;
 use memory::machine::Sizes;
@@ -27,17 +27,17 @@ pub(crate) fn leave(
     value: u64,
     func: u64,
     pc: u64,
-) -> Turned
+) -> Called
     requires { ⌜ FrameFits l (six stack frames chain slots «saved_stack» «saved_frames» now) m fuel ⌝ }
     ensures { λ r. ⌜ Met ifSound l (leave value func pc) (six stack frames chain slots «saved_stack» «saved_frames») (with m fuel) (with (r .machine) (r .fuel)) (r .answer) ⌝ }
 {
     let k = tables::frame::cont_at(frames, m.depth - 1);
     let n = pop(stack, frames, m);
     if !is_coro(k) {
-        return Turned {
+        return Called {
             machine: n,
             fuel,
-            answer: passed(k),
+            answer: passed(k, value),
         };
     }
     let did = coro_escaped(
@@ -57,7 +57,7 @@ pub(crate) fn leave(
     let machine = did.machine;
     let f = did.fuel;
     let stops = did.answer;
-    Turned {
+    Called {
         machine,
         fuel: f,
         answer: halted(stops),

@@ -6,8 +6,6 @@ ghost use Rattle.machine_unwind.specs.Fits.{FrameFits, SearchFits};
 use crate::handler::handler_in;
 use crate::handler::take_handler;
 use crate::leave::leave;
-use crate::turn::Turned;
-use crate::turn::answered;
 use crate::turn::goes_on;
 use heap::fault::Fault;
 use machine::called::Called;
@@ -32,7 +30,7 @@ pub(crate) fn turn(
     value: u64,
     func: u64,
     pc: u64,
-) -> Turned
+) -> Called
     requires { ⌜ FrameFits l (sixSetup stack frames chain slots «saved_stack» «saved_frames» setup now) m fuel ⌝ }
     ensures { λ r. ⌜ Met ifSound l (turn value func pc) (sixSetup stack frames chain slots «saved_stack» «saved_frames» setup) (with m fuel) (with (r .machine) (r .fuel)) (r .answer) ⌝ }
 {
@@ -94,12 +92,12 @@ pub(crate) fn search(
         );
         n = did.machine;
         f = did.fuel;
-        let t = did.answer;
-        if !goes_on(t) {
+        let answer = did.answer;
+        if !goes_on(answer) {
             return Called {
                 machine: n,
                 fuel: f,
-                answer: answered(t, value),
+                answer,
             };
         }
     }

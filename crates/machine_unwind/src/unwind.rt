@@ -7,7 +7,7 @@ ghost use Rattle.model.specs.Machine.{unwindFault, storeSome, raisable, unwind}
 ghost use Rattle.machine.specs.Numbers.{heapOf};
 ghost use Rattle.memory.specs.Lendings.{frame, table, sixSetup};
 ghost use Rattle.memory.specs.Contract.{Leaves, Met, Reads, any, every, ifSound, only, with};
-ghost use Rattle.machine_unwind.specs.Turns.{originOf, thrown};
+ghost use Rattle.machine_unwind.specs.Turns.{originOf, ifAt, thrown};
 ghost use Rattle.machine_unwind.specs.Fits.{RaiseFits, UnwindFits};
 use crate::search::search;
 use crate::turn::Origin;
@@ -42,7 +42,7 @@ pub(crate) fn origin(frames: &[u64], m: Machine) -> Origin
 // The word that a fault is raised as: its own, or that of an error object. 9 and 10 pass.
 pub(crate) fn thrown(slots: &mut [u64], m: Machine, l: Sizes, fault: Fault, at: Origin) -> MadeDid
     requires { ⌜ Room (now slots) (heapOf m l) ⌝ }
-    ensures { λ r. ⌜ Met any l (thrown fault at) (table slots) (only m) (only (r .machine)) (r .answer) ⌝ }
+    ensures { λ r. ⌜ Met (ifAt at) l (thrown fault) (table slots) (only m) (only (r .machine)) (r .answer) ⌝ }
 {
     let kind = fault.number();
     if kind == 17 {

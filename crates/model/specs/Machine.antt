@@ -117,14 +117,22 @@ escape (Cont.Value r) value f pc next w = next w
 escape Cont.Discard value f pc next w = next w
 escape Cont.Coro value f pc next w = andThen (coroEscaped value f pc w) (stopOr next)
 
+-- a handler costs a unit
+abbrev pub takeHandler : Handler → ℕ → World → After Answer
+takeHandler h value w = andThen (charge OptPc.None w) (caught h value)
+
 abbrev pub searchAs : Caught → Frame → List Frame → ℕ → ℕ → ℕ → (World → After Answer) → World → After Answer
 searchAs Caught.Nothing x xs value f pc next w = escape (x .cont) value f pc next (popTo x xs w)
-searchAs (Caught.By h) x xs value f pc next w = andThen (charge OptPc.None w) (caught h value)
+searchAs (Caught.By h) x xs value f pc next w = takeHandler h value w
+
+-- program.rs: the first handler of a frame's function that covers its pc
+abbrev pub handlerOf : Frame → World → Caught
+handlerOf x w = firstOf (x .pc) (func (w .setup) (x .func) .handlers)
 
 -- machine.rs: unwind's loop, from the top frame down
 abbrev pub search : List Frame → ℕ → ℕ → ℕ → World → After Answer
 search [] value f pc w = uncaught value w
-search (x ∷ xs) value f pc w = searchAs (firstOf (x .pc) (func (w .setup) (x .func) .handlers)) x xs value f pc (search xs value f pc) w
+search (x ∷ xs) value f pc w = searchAs (handlerOf x w) x xs value f pc (search xs value f pc) w
 
 abbrev pub searchFrames : ℕ → World → After Answer
 searchFrames value w = search (w .frames) value (topFunc (w .frames)) (topPc (w .frames)) w
@@ -136,12 +144,15 @@ searchMade w (Made.Refused f) = after w (Answer.Refused f)
 abbrev pub errorOf : Fault → World → Object
 errorOf f w = Object.Error (numberOf f) (topFunc (w .frames)) (topPc (w .frames)) nil
 
--- 1 to 8 are raised as an error object, 17 as its word; 9 and 10 pass
+-- 1 to 8 are raised as an error object, 17 as its word; 9 and 10 pass. `next` is told which
+abbrev pub raisedTo : {A : Type 0} → (World → Made → After A) → Fault → World → After A
+raisedTo next f w =
+    pick (eqb (numberOf f) 17) (next w (Made.Word (wordOf f)))
+    (pick (leb (numberOf f) 8) (andThen (alloc (w .setup .costs .error) (errorOf f w) w) next)
+    (next w (Made.Refused f)))
+
 abbrev pub unwindFault : Fault → World → After Answer
-unwindFault f w =
-    pick (eqb (numberOf f) 17) (searchFrames (wordOf f) w)
-    (pick (leb (numberOf f) 8) (andThen (alloc (w .setup .costs .error) (errorOf f w) w) searchMade)
-    (after w (Answer.Refused f)))
+unwindFault f w = raisedTo searchMade f w
 
 abbrev pub storeSome : OptPc → World → World
 storeSome OptPc.None w = w

@@ -23,7 +23,6 @@ use Rattle.model.specs.Answer.{stepNumber, numberOf, wordOf, stepOf}
 use Rattle.model.specs.Machine as Machine
 use Rattle.model.specs.Call.{Call, SetUp, Do, Operation, typed}
 use Rattle.model.specs.Step.{Out, step}
-use Rattle.model.specs.Calls.{Row, Instruction, OnFrame, OnHost, Unwinds, Grants, Looks, Other, table}
 use Rattle.model.specs.declared.machine.Cont.{Cont}
 use Rattle.model.specs.declared.machine.Frame.{Frame}
 use Rattle.model.specs.declared.exec.Step.{Step}
@@ -37,13 +36,13 @@ use Rattle.sheet.specs.Makings.{newWord, stored}
 use Rattle.sheet.specs.Endings.{finishBy, finishOn, result, orNil}
 use Rattle.sheet.specs.Unwinding as Unwinding
 use Rattle.sheet.specs.OtherCalls as Others
-use Rattle.sheet.specs.Sheet.{tableOf, sheet, seenBy}
-use Rattle.sheet.specs.Answers.{exitBy, exitWord, wordFor, isInstruction, says, isFault, isLook, ThrownAtNew, Answers}
+use Rattle.sheet.specs.Sheet.{tableOf, sheet}
+use Rattle.sheet.specs.Answers.{exitBy, exitWord, wordFor, isInstruction, says, isFault, ThrownAtNew, Answers}
 use Rattle.sheet.proofs.Among.{and-left, and-right, same, not-true}
 use Rattle.sheet.proofs.Choice.{both, by-test}
 use Rattle.sheet.proofs.Rules.{set-up, sizes}
 use Rattle.sheet.proofs.Sheet.{leads-to}
-use Rattle.sheet.proofs.SheetNumbers.{sets-up, look-sees}
+use Rattle.sheet.proofs.SheetNumbers.{sets-up, look-sees, sees-nothing}
 use Rattle.sheet.proofs.Led.{here, Every, led, all, led-answer}
 
 -- ---- Steps
@@ -102,7 +101,7 @@ abbrev fit : Bool → Answer → Bool
 fit true a = steps a
 fit false a = bare a
 
-fits : (o : Op) (w : World) → all (fit (isInstruction (table o))) (sheet o w .tests) (sheet o w .done) ≡ true
+fits : (o : Op) (w : World) → all (fit (isInstruction o)) (sheet o w .tests) (sheet o w .done) ≡ true
 unfolding pick isNone agrees
 fits (Op.CoroNew pc dst f argc) w = refl
 fits (Op.CoroNewIndirect pc dst c argc) w = refl
@@ -135,8 +134,8 @@ fits Op.Look w = refl
 answer-is : (w : World) (o : Operation) → step w (Do o) .answer ≡ leads (sheet (o .op) w) .answer
 answer-is w o = ap (λ (a : After Answer). a .answer) (leads-to w o)
 
-fitting : (w : World) (o : Operation) → fit (isInstruction (table (o .op))) (step w (Do o) .answer) ≡ true
-fitting w o = ap (λ a. fit (isInstruction (table (o .op))) a) (answer-is w o) ∙ led-answer (fit (isInstruction (table (o .op)))) (sheet (o .op) w .tests) (sheet (o .op) w .done) (fits (o .op) w)
+fitting : (w : World) (o : Operation) → fit (isInstruction (o .op)) (step w (Do o) .answer) ≡ true
+fitting w o = ap (λ a. fit (isInstruction (o .op)) a) (answer-is w o) ∙ led-answer (fit (isInstruction (o .op))) (sheet (o .op) w .tests) (sheet (o .op) w .done) (fits (o .op) w)
 
 none-is : (s : Option Step) → isNone s ≡ true → s ≡ none
 unfolding isNone
@@ -191,7 +190,7 @@ set-up-bare false s w = refl
 
 no-step-of : (w : World) (c : Call) → among (numberOf (step w c .answer)) (11 ∷ 12 ∷ 13 ∷ 15 ∷ 16 ∷ []) ≡ true → stepOf (step w c .answer) ≡ none
 no-step-of w (SetUp s) h = ap (λ (o : Out). stepOf (o .answer)) (sets-up w s) ∙ set-up-bare (setupOk s) s w
-no-step-of w (Do o) h = no-step-by (step w (Do o) .answer) (isInstruction (table (o .op))) (fitting w o) h
+no-step-of w (Do o) h = no-step-by (step w (Do o) .answer) (isInstruction (o .op)) (fitting w o) h
 
 -- ---- 17's two
 
@@ -199,7 +198,7 @@ module _ (o : Op) (w : World) where
   calm : all (λ a. not (throws a)) (sheet o w .tests) (sheet o w .done) ≡ true → throws (leads (sheet o w) .answer) ≡ true → ThrownAtNew w o
   calm h k = absurd (true≢false (sym k ∙ not-true (throws (leads (sheet o w) .answer)) (led-answer (λ a. not (throws a)) (sheet o w .tests) (sheet o w .done) h)))
 
-thrown-by : (o : Op) (w : World) → isInstruction (table o) ≡ true → throws (leads (sheet o w) .answer) ≡ true → ThrownAtNew w o
+thrown-by : (o : Op) (w : World) → isInstruction o ≡ true → throws (leads (sheet o w) .answer) ≡ true → ThrownAtNew w o
 unfolding pick
 thrown-by (Op.CoroNew pc dst f argc) w i = calm (Op.CoroNew pc dst f argc) w refl
 thrown-by (Op.CoroNewIndirect pc dst c argc) w i = calm (Op.CoroNewIndirect pc dst c argc) w refl
@@ -234,7 +233,7 @@ thrown-by (Op.Grant n) w i = absurd (false≢true i)
 thrown-by Op.StopRun w i = absurd (false≢true i)
 thrown-by Op.Look w i = absurd (false≢true i)
 
-thrown-at : (w : World) (o : Operation) → isInstruction (table (o .op)) ≡ true → number w o ≡ 17 → isFault (stepOf (step w (Do o) .answer)) ≡ true → ThrownAtNew w (o .op)
+thrown-at : (w : World) (o : Operation) → isInstruction (o .op) ≡ true → number w o ≡ 17 → isFault (stepOf (step w (Do o) .answer)) ≡ true → ThrownAtNew w (o .op)
 thrown-at w o i n h =
     thrown-by (o .op) w i
     (ap (λ a. throws a) (sym (answer-is w o)) ∙ (ap (λ b. b && isFault (stepOf (step w (Do o) .answer))) (ap (λ m. eqb m 17) n) ∙ h))
@@ -422,16 +421,7 @@ iterator-made w v t h =
     ∙ by-test (λ (a : After Answer). eqb (numberOf (a .answer)) 0 ≡ true → found (a .world) (wordOf (a .answer)) ≡ Object.Iter v false Opt.None) (not (sound w)) (λ _ e. absurd (false≢true e)) (λ s. made-is w v (not-not (sound w) s))
     (ap (λ a. eqb (numberOf a) 0) (sym (answer-is w (operation (Op.MakeIterator v) t))) ∙ ap (λ n. eqb n 0) h)
 
--- ---- look
-
-unseen : (r : Row) (w : World) → isLook r ≡ false → seenBy r w ≡ []
-unseen (Instruction pc operands arm) w h = refl
-unseen (OnFrame operands body) w h = refl
-unseen (OnHost operands body) w h = refl
-unseen (Unwinds f pc) w h = refl
-unseen (Grants n) w h = refl
-unseen Looks w h = absurd (true≢false h)
-unseen (Other body) w h = refl
+-- ---- set-up
 
 set-up-zero : (b : Bool) (s : Setup) (w : World) → wordOf (pick (not b) (after w (Answer.Refused Fault.Unsound)) (after (fresh s) Answer.Accepted) .answer) ≡ 0
 unfolding pick
@@ -445,11 +435,11 @@ answers =
       set-up-word = λ w s. ap (λ (o : Out). wordOf (o .answer)) (sets-up w s) ∙ set-up-zero (setupOk s) s w;
       iterator = iterator-made;
       no-step = no-step-of;
-      no-instruction = λ w o h. bare-by (step w (Do o) .answer) (isInstruction (table (o .op))) (fitting w o) h;
-      has-step = λ w o h k. has-by (step w (Do o) .answer) (isInstruction (table (o .op))) (fitting w o) h k;
-      full = λ w o h k. fault-by (step w (Do o) .answer) (isInstruction (table (o .op))) (fitting w o) h k;
+      no-instruction = λ w o h. bare-by (step w (Do o) .answer) (isInstruction (o .op)) (fitting w o) h;
+      has-step = λ w o h k. has-by (step w (Do o) .answer) (isInstruction (o .op)) (fitting w o) h k;
+      full = λ w o h k. fault-by (step w (Do o) .answer) (isInstruction (o .op)) (fitting w o) h k;
       thrown = thrown-at;
-      look = λ w t f fs s e. look-sees w (operation Op.Look t) ∙ (here (sound w) [] s ∙ ap (λ (g : List Frame). Others.registers g (w .stack)) e);
-      look-empty = λ w t e. look-sees w (operation Op.Look t) ∙ (ap (λ (g : List Frame). pick (sound w) (Others.registers g (w .stack)) []) e ∙ both (λ (l : List ℕ). l ≡ []) (sound w) refl refl);
-      no-look = λ w o h. look-sees w o ∙ (ap (λ (l : List ℕ). pick (sound w) l []) (unseen (table (o .op)) w h) ∙ both (λ (l : List ℕ). l ≡ []) (sound w) refl refl);
+      look = λ w t f fs s e. look-sees w (operation Op.Look t) refl ∙ (here (sound w) [] s ∙ ap (λ (g : List Frame). Others.registers g (w .stack)) e);
+      look-empty = λ w t e. look-sees w (operation Op.Look t) refl ∙ (ap (λ (g : List Frame). pick (sound w) (Others.registers g (w .stack)) []) e ∙ both (λ (l : List ℕ). l ≡ []) (sound w) refl refl);
+      no-look = sees-nothing;
     }

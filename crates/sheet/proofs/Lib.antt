@@ -17,6 +17,7 @@ pub mod Unwinding
 pub mod OtherCalls
 pub mod Sheet
 pub mod SheetNumbers
+pub mod SetUps
 pub mod Led
 pub mod Pep342
 pub mod Pep342Yields

@@ -13,7 +13,6 @@ use Rattle.model.specs.Sound.{sound}
 use Rattle.model.specs.Answer.{takenOff}
 use Rattle.model.specs.Call.{Do, Operation}
 use Rattle.model.specs.Step.{step}
-use Rattle.model.specs.Calls.{table}
 use Rattle.model.specs.declared.exec.Step.{Step}
 use Rattle.model.specs.declared.call.Op.{Op}
 use Rattle.model.specs.declared.call.Answer.{Answer}
@@ -116,7 +115,7 @@ module _ (pc : ℕ) (w : World) where
 abbrev At : World → Op → Type 0
 At w o = length (w .finalize) ≡ takenOff (leads (sheet o w) .answer) + length (leads (sheet o w) .world .finalize)
 
-loss-by : (o : Op) (w : World) → isInstruction (table o) ≡ true → At w o
+loss-by : (o : Op) (w : World) → isInstruction o ≡ true → At w o
 loss-by (Op.CoroNew pc dst f argc) w i = loses pc w (lies w dst && windowLies dst argc w && Makings.isFunction w f) (Makings.coroNew dst f argc) (Walk.new-owns (charged pc w) dst f argc)
 loss-by (Op.CoroNewIndirect pc dst c argc) w i = loses pc w (lie (dst ∷ c ∷ []) w && windowLies dst argc w) (Makings.coroNewIndirect dst c argc) (Walk.new-indirect-owns (charged pc w) dst c argc)
 loss-by (Op.Spawn pc dst c argc) w i = loses pc w (lie (dst ∷ c ∷ []) w && windowLies dst argc w) (Makings.spawn pc dst c argc) (Walk.spawn-owns (charged pc w) pc dst c argc)

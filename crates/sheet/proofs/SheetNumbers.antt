@@ -17,8 +17,7 @@ use Rattle.model.specs.Answer.{numberOf}
 use Rattle.model.specs.Gate as Gate
 use Rattle.model.specs.Added.{accepted}
 use Rattle.model.specs.Call.{Operation, SetUp, Do}
-use Rattle.model.specs.Calls.{table, Row, Instruction, OnFrame, OnHost, Unwinds, Grants, Looks, Other}
-use Rattle.model.specs.Step.{Out, told, doing, call, tested, step}
+use Rattle.model.specs.Step.{Out, told, call, tested, step}
 use Rattle.model.specs.declared.machine.Cont.{Cont}
 use Rattle.model.specs.declared.machine.Frame.{Frame}
 use Rattle.model.specs.declared.call.OptPc.{OptPc}
@@ -29,7 +28,8 @@ use Rattle.sheet.specs.Makings.{newWord}
 use Rattle.sheet.specs.Endings.{finishBy, finishOn}
 use Rattle.sheet.specs.Unwinding as Unwinding
 use Rattle.sheet.specs.Unwinding.{search, left, given, errorMade}
-use Rattle.sheet.specs.Sheet.{tableOf, sheet, setUp, seenBy, FaultSheet}
+use Rattle.sheet.specs.OtherCalls as Others
+use Rattle.sheet.specs.Sheet.{tableOf, sheet, setUp, FaultSheet}
 use Rattle.sheet.proofs.Among.{same, and-left, and-right}
 use Rattle.sheet.proofs.Choice.{both}
 use Rattle.sheet.proofs.OtherCalls.{registers-is}
@@ -137,23 +137,52 @@ pub sets-up : (w : World) (s : Setup) → step w (SetUp s) ≡ told (leads (setU
 unfolding step
 sets-up w s = set-up-by (setupOk s) s w
 
-row-sees : (r : Row) (w : World) → doing r w .seen ≡ seenBy r w
-row-sees (Instruction pc operands arm) w = refl
-row-sees (OnFrame operands body) w = refl
-row-sees (OnHost operands body) w = refl
-row-sees (Unwinds f pc) w = refl
-row-sees (Grants n) w = refl
-row-sees Looks w = registers-is w
-row-sees (Other body) w = refl
-
 sees-by : (b : Bool) (x : Out) (w : World) (l : List ℕ) → x .seen ≡ l → pick b x (told (Gate.refused w Fault.Unsound)) .seen ≡ pick b l []
 unfolding pick
 sees-by true x w l e = e
 sees-by false x w l e = refl
 
-pub look-sees : (w : World) (o : Operation) → step w (Do o) .seen ≡ pick (sound w) (seenBy (table (o .op)) w) []
-unfolding step tested call
-look-sees w o = sees-by (sound w) (call (o .op) w) w (seenBy (table (o .op)) w) (row-sees (table (o .op)) w)
+look-call : (o : Op) (w : World) → o ≡ Op.Look → call o w .seen ≡ Others.registers (w .frames) (w .stack)
+unfolding call
+look-call o w e = ap (λ p. call p w .seen) e ∙ registers-is w
+
+call-blind : (o : Op) (w : World) → (o ≡ Op.Look → ⊥) → call o w .seen ≡ []
+unfolding call
+call-blind (Op.CoroNew pc dst f argc) w h = refl
+call-blind (Op.CoroNewIndirect pc dst c argc) w h = refl
+call-blind (Op.Spawn pc dst c argc) w h = refl
+call-blind (Op.Yield pc dst src) w h = refl
+call-blind (Op.YieldKv pc dst src key) w h = refl
+call-blind (Op.Await pc dst src) w h = refl
+call-blind (Op.Resume pc dst c src) w h = refl
+call-blind (Op.ResumeThrow pc dst c src) w h = refl
+call-blind (Op.CoroClose pc dst c src) w h = refl
+call-blind (Op.CoroStatus pc dst c) w h = refl
+call-blind (Op.CoroCurrent pc dst) w h = refl
+call-blind (Op.CoroKey pc dst c) w h = refl
+call-blind (Op.CoroResult pc dst c) w h = refl
+call-blind (Op.IterNext pc has iter val src) w h = refl
+call-blind (Op.Finish kind v) w h = refl
+call-blind (Op.Unwind f pc) w h = refl
+call-blind (Op.SpawnTask v) w h = refl
+call-blind (Op.HostCall f) w h = refl
+call-blind (Op.HostEntry c v) w h = refl
+call-blind (Op.FunctionCall pc f cont) w h = refl
+call-blind (Op.PutWord r v) w h = refl
+call-blind (Op.MakeIterator v) w h = refl
+call-blind Op.TakeOutcome w h = refl
+call-blind (Op.HandOver v) w h = refl
+call-blind (Op.Grant n) w h = refl
+call-blind Op.StopRun w h = refl
+call-blind Op.Look w h = absurd (h refl)
+
+pub look-sees : (w : World) (o : Operation) → o .op ≡ Op.Look → step w (Do o) .seen ≡ pick (sound w) (Others.registers (w .frames) (w .stack)) []
+unfolding step tested
+look-sees w o e = sees-by (sound w) (call (o .op) w) w (Others.registers (w .frames) (w .stack)) (look-call (o .op) w e)
+
+pub sees-nothing : (w : World) (o : Operation) → (o .op ≡ Op.Look → ⊥) → step w (Do o) .seen ≡ []
+unfolding step tested
+sees-nothing w o h = sees-by (sound w) (call (o .op) w) w [] (call-blind (o .op) w h) ∙ both (λ (l : List ℕ). l ≡ []) (sound w) refl refl
 
 pub fault-sheet : FaultSheet
-fault-sheet = record { leads-to = leads-to; set-up = sets-up; says-number = says-number; sees = look-sees; numbers = refl }
+fault-sheet = record { leads-to = leads-to; set-up = sets-up; says-number = says-number; sees = look-sees; sees-nothing = sees-nothing; numbers = refl }

@@ -12,12 +12,13 @@ use Rattle.model.specs.Program.{Setup}
 use Rattle.model.specs.Object.{Object}
 use Rattle.model.specs.World.{World}
 use Rattle.model.specs.Sound.{sound}
-use Rattle.model.specs.Answer.{stepNumber, numberOf, wordOf, stepOf, outcomeWord}
+use Rattle.model.specs.Answer.{stepNumber, numberOf, wordOf, stepOf}
 use Rattle.model.specs.Call.{Call, SetUp, Do, Operation, typed, asCall}
 use Rattle.model.specs.Step.{step}
-use Rattle.model.specs.Calls.{Row, Instruction, OnFrame, OnHost, Unwinds, Grants, Looks, Other, table}
 use Rattle.model.specs.declared.machine.Cont.{Cont}
 use Rattle.model.specs.declared.machine.Frame.{Frame}
+use Rattle.model.specs.declared.machine.Outcome.{Outcome}
+use Rattle.model.specs.declared.machine.Stop.{Stop}
 use Rattle.model.specs.declared.exec.Step.{Step}
 use Rattle.model.specs.declared.call.Op.{Op}
 use Rattle.sheet.specs.Does.{number, operation}
@@ -40,6 +41,15 @@ exitBy Cont.Coro v = 0
 abbrev pub exitWord : List Frame → Opt → ℕ
 exitWord [] v = orNil v
 exitWord (f ∷ fs) v = exitBy (f .cont) v
+
+-- an outcome's word: a failure's is what was thrown, or the error object
+abbrev pub outcomeWord : Outcome → ℕ
+outcomeWord Outcome.None = 0
+outcomeWord (Outcome.Some (Stop.Yielded v)) = v
+outcomeWord (Outcome.Some (Stop.Awaiting v)) = v
+outcomeWord (Outcome.Some (Stop.Returned v)) = v
+outcomeWord (Outcome.Some (Stop.Failed v f pc)) = v
+outcomeWord (Outcome.Some Stop.CloseIgnored) = 0
 
 -- "an accepted call with no word of its own answers 0"; "make iterator and `spawn_task` answer their object's word"
 abbrev pub wordFor : Op → World → ℕ
@@ -73,23 +83,35 @@ wordFor Op.Look w = 0
 
 -- ---- Steps
 
-abbrev pub isInstruction : Row → Bool
-isInstruction (Instruction pc operands arm) = true
-isInstruction (OnFrame operands body) = false
-isInstruction (OnHost operands body) = false
-isInstruction (Unwinds f pc) = false
-isInstruction (Grants n) = false
-isInstruction Looks = false
-isInstruction (Other body) = false
-
-abbrev pub isLook : Row → Bool
-isLook (Instruction pc operands arm) = false
-isLook (OnFrame operands body) = false
-isLook (OnHost operands body) = false
-isLook (Unwinds f pc) = false
-isLook (Grants n) = false
-isLook Looks = true
-isLook (Other body) = false
+-- 01: "The fourteen instruction calls"
+abbrev pub isInstruction : Op → Bool
+isInstruction (Op.CoroNew pc dst f argc) = true
+isInstruction (Op.CoroNewIndirect pc dst c argc) = true
+isInstruction (Op.Spawn pc dst c argc) = true
+isInstruction (Op.Yield pc dst src) = true
+isInstruction (Op.YieldKv pc dst src key) = true
+isInstruction (Op.Await pc dst src) = true
+isInstruction (Op.Resume pc dst c src) = true
+isInstruction (Op.ResumeThrow pc dst c src) = true
+isInstruction (Op.CoroClose pc dst c src) = true
+isInstruction (Op.CoroStatus pc dst c) = true
+isInstruction (Op.CoroCurrent pc dst) = true
+isInstruction (Op.CoroKey pc dst c) = true
+isInstruction (Op.CoroResult pc dst c) = true
+isInstruction (Op.IterNext pc has iter val src) = true
+isInstruction (Op.Finish kind v) = false
+isInstruction (Op.Unwind f pc) = false
+isInstruction (Op.SpawnTask v) = false
+isInstruction (Op.HostCall f) = false
+isInstruction (Op.HostEntry c v) = false
+isInstruction (Op.FunctionCall pc f cont) = false
+isInstruction (Op.PutWord r v) = false
+isInstruction (Op.MakeIterator v) = false
+isInstruction Op.TakeOutcome = false
+isInstruction (Op.HandOver v) = false
+isInstruction (Op.Grant n) = false
+isInstruction Op.StopRun = false
+isInstruction Op.Look = false
 
 -- a Step's number
 abbrev pub says : Option Step → Option ℕ
@@ -120,13 +142,13 @@ pub record Answers : Type 0 where
       number w o ≡ 0 → found (step w (Do o) .world) (wordOf (step w (Do o) .answer)) ≡ Object.Iter v false Opt.None
   -- 11 to 13, 15 and 16 have no Step, nor has a call that is no instruction; any other answer of an instruction has one, of its number
   pub no-step : (w : World) (c : Call) → among (numberOf (step w c .answer)) (11 ∷ 12 ∷ 13 ∷ 15 ∷ 16 ∷ []) ≡ true → stepOf (step w c .answer) ≡ none
-  pub no-instruction : (w : World) (o : Operation) → isInstruction (table (o .op)) ≡ false → stepOf (step w (Do o) .answer) ≡ none
-  pub has-step : (w : World) (o : Operation) → isInstruction (table (o .op)) ≡ true → among (number w o) (11 ∷ 12 ∷ 13 ∷ []) ≡ false → says (stepOf (step w (Do o) .answer)) ≡ some (number w o)
+  pub no-instruction : (w : World) (o : Operation) → isInstruction (o .op) ≡ false → stepOf (step w (Do o) .answer) ≡ none
+  pub has-step : (w : World) (o : Operation) → isInstruction (o .op) ≡ true → among (number w o) (11 ∷ 12 ∷ 13 ∷ []) ≡ false → says (stepOf (step w (Do o) .answer)) ≡ some (number w o)
   -- 14 has 9's: both are faults, and no unwinding
-  pub full : (w : World) (o : Operation) → isInstruction (table (o .op)) ≡ true → among (number w o) (9 ∷ 14 ∷ []) ≡ true → isFault (stepOf (step w (Do o) .answer)) ≡ true
+  pub full : (w : World) (o : Operation) → isInstruction (o .op) ≡ true → among (number w o) (9 ∷ 14 ∷ []) ≡ true → isFault (stepOf (step w (Do o) .answer)) ≡ true
   -- 17's two: a fault where a word is thrown into a new coroutine, else an unwinding
-  pub thrown : (w : World) (o : Operation) → isInstruction (table (o .op)) ≡ true → number w o ≡ 17 → isFault (stepOf (step w (Do o) .answer)) ≡ true → ThrownAtNew w (o .op)
+  pub thrown : (w : World) (o : Operation) → isInstruction (o .op) ≡ true → number w o ≡ 17 → isFault (stepOf (step w (Do o) .answer)) ≡ true → ThrownAtNew w (o .op)
   -- a look hands back the words from the top base to the stack's end, without a frame an empty part; no other call hands back any
   pub look : (w : World) (t : typed Op.Look ≡ true) (f : Frame) (fs : List Frame) → sound w ≡ true → w .frames ≡ f ∷ fs → step w (asCall Op.Look t) .seen ≡ drop (f .base) (w .stack)
   pub look-empty : (w : World) (t : typed Op.Look ≡ true) → w .frames ≡ [] → step w (asCall Op.Look t) .seen ≡ []
-  pub no-look : (w : World) (o : Operation) → isLook (table (o .op)) ≡ false → step w (Do o) .seen ≡ []
+  pub no-look : (w : World) (o : Operation) → (o .op ≡ Op.Look → ⊥) → step w (Do o) .seen ≡ []

@@ -8,10 +8,11 @@ use Rattle.lists.specs.Pick.{pick}
 use Rattle.heap.specs.declared.fault.Fault.{Fault}
 use Rattle.heap.specs.declared.value.Opt.{Opt}
 use Rattle.model.specs.Lists.{isNil}
-use Rattle.model.specs.World.{World, withFinalize, withFinalizing, withFuel}
+use Rattle.model.specs.World.{World}
 use Rattle.model.specs.declared.machine.Driver.{Driver}
 use Rattle.model.specs.declared.exec.Step.{Step}
 use Rattle.model.specs.declared.call.Answer.{Answer}
+use Rattle.sheet.specs.Setters.{withFinalize, withFinalizing, withFuel}
 use Rattle.sheet.specs.Lines.{Line, Lines, lines, line, refuse}
 use Rattle.sheet.specs.Words.{found, isCoroutine, state, suspended, tooHigh}
 use Rattle.sheet.specs.Moves.{pcStored, enteredClosing}

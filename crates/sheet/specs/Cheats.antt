@@ -1,23 +1,30 @@
--- 01: "Which engine would sneak past?" What is asked of an engine is the table, at every world and call: so one that differs at ONE
--- place does not keep it, wherever that is.
+-- 01: "Which engine would sneak past?" What is asked of an engine is the table, at every world and call, set-ups and looks too: so one that
+-- differs at ONE place does not keep it, wherever that is.
 use Prim.Native.Nat.{ℕ, _+_}
 use mathlib.Core.Path.{_≡_}
-use mathlib.Core.Bool.{true, false}
-use mathlib.Core.List.{[], _++_}
+use mathlib.Core.Bool.{Bool, true, false, _&&_}
+use mathlib.Core.List.{List, [], _∷_, _++_}
 use lib.ListN.{length, set}
-use lib.Dec.{eqb}
+use lib.Dec.{eqb, ltb}
+use Rattle.lists.specs.Pick.{pick}
 use Rattle.heap.specs.declared.fault.Fault.{Fault}
+use Rattle.model.specs.Program.{Setup}
 use Rattle.model.specs.Object.{Core}
-use Rattle.model.specs.World.{World, after, withStack, withFrames}
+use Rattle.model.specs.World.{World, after, fresh}
+use Rattle.model.specs.Sound.{sound}
 use Rattle.model.specs.Answer.{numberOf, takenOff}
-use Rattle.model.specs.Call.{Operation, Call, Do, typed}
+use Rattle.model.specs.Call.{Operation, Call, SetUp, Do, typed}
 use Rattle.model.specs.Gate.{refused}
 use Rattle.model.specs.Step.{Out, out, told, step}
-use Rattle.model.specs.Calls.{table}
+use Rattle.model.specs.declared.machine.Active.{Active}
 use Rattle.model.specs.declared.call.Op.{Op}
+use Rattle.model.specs.declared.call.Answer.{Answer}
+use Rattle.sheet.specs.Setters.{withStack, withFrames, withFuel}
+use Rattle.sheet.specs.SetUps.{ClosingList, Fresh}
 use Rattle.sheet.specs.Lines.{leads, says}
 use Rattle.sheet.specs.Does.{operation}
-use Rattle.sheet.specs.Words.{found, coreOf}
+use Rattle.sheet.specs.Words.{found, coreOf, state, suspended}
+use Rattle.sheet.specs.OtherCalls.{registers}
 use Rattle.sheet.specs.Sheet.{sheet}
 use Rattle.sheet.specs.Sentences.{gives}
 use Rattle.sheet.specs.Answers.{isInstruction}
@@ -27,8 +34,15 @@ abbrev pub Engine : Type 0
 Engine = World → Call → Out
 
 -- it keeps the table
-abbrev pub Keeps : Engine → Type 0
-Keeps e = (w : World) (o : Operation) → after (e w (Do o) .world) (e w (Do o) .answer) ≡ leads (sheet (o .op) w)
+pub record Keeps (e : Engine) : Type 0 where
+  pub does : (w : World) (o : Operation) → after (e w (Do o) .world) (e w (Do o) .answer) ≡ leads (sheet (o .op) w)
+  -- a set-up that breaks the closing list changes nothing; any other leaves a fresh machine
+  pub refuses : (w : World) (s : Setup) → (ClosingList s → ⊥) → e w (SetUp s) ≡ told (refused w Fault.Unsound)
+  pub begins : (w : World) (s : Setup) → ClosingList s → Fresh s (e w (SetUp s) .world)
+  pub accepts : (w : World) (s : Setup) → ClosingList s → e w (SetUp s) .answer ≡ Answer.Accepted
+  -- a look sees the words from the top base to the stack's end; without a frame, or on 11, none; and no other call sees any
+  pub sees : (w : World) (o : Operation) → o .op ≡ Op.Look → e w (Do o) .seen ≡ pick (sound w) (registers (w .frames) (w .stack)) []
+  pub sees-nothing : (w : World) (o : Operation) → (o .op ≡ Op.Look → ⊥) → e w (Do o) .seen ≡ []
 
 -- "answering 10 or 9 before trying": at one place it gives n, and no test of that number is the first to stop the call
 pub record Gives-up (n : ℕ) (e : Engine) : Type 0 where
@@ -61,7 +75,7 @@ pub record Moves-once (e : Engine) : Type 0 where
 pub record Invents (e : Engine) : Type 0 where
   pub w : World
   pub o : Operation
-  pub instruction : isInstruction (table (o .op)) ≡ true
+  pub instruction : isInstruction (o .op) ≡ true
   pub untrue : length (w .finalize) ≡ takenOff (e w (Do o) .answer) + length (e w (Do o) .world .finalize) → ⊥
 
 -- "doing nothing": at some call that changes the machine
@@ -86,12 +100,33 @@ pub record Refuses (e : Engine) : Type 0 where
   pub refusal : eqb (numberOf (e w (Do o) .answer)) 0 ≡ false
   pub accepted : says (sheet (o .op) w) ≡ 0
 
--- such engines there are: one that always gives up, and one that does `step` but moves nothing on the stack
+-- ---- such engines there are
+
+-- it always gives up
 abbrev pub always : Fault → Engine
 always f w c = told (refused w f)
 
-abbrev pub unmoving : Engine
-unmoving w c = out (after (withStack (w .stack) (withFrames (w .frames) (step w c .world))) (step w c .answer)) []
+-- it moves rows at the first entry, and later only changes states: where a coroutine that slept is entered, stack and frames stay
+abbrev pub woken : World → List Active → Bool
+woken w [] = false
+woken w (a ∷ chain) = suspended (state w (a .coro))
+
+abbrev pub once : Engine
+once w c =
+    let z = step w c .world in
+    out (after (pick (ltb (length (w .chain)) (length (z .chain)) && woken w (z .chain)) (withStack (w .stack) (withFrames (w .frames) z)) z) (step w c .answer)) (step w c .seen)
+
+-- set-ups: any is accepted; the fuel stays. Looks: they see the whole stack
+abbrev pub accepting : Engine
+accepting w (SetUp s) = told (after (fresh s) Answer.Accepted)
+accepting w (Do o) = step w (Do o)
+
+abbrev pub refuelling : Engine
+refuelling w (SetUp s) = told (after (withFuel (w .fuel) (step w (SetUp s) .world)) (step w (SetUp s) .answer))
+refuelling w (Do o) = step w (Do o)
+
+abbrev pub showing : Engine
+showing w c = out (after (step w c .world) (step w c .answer)) (w .stack)
 
 pub record Cheats : Type 0 where
   pub keeps : Keeps step
@@ -103,4 +138,9 @@ pub record Cheats : Type 0 where
   pub no-refuser : (e : Engine) → Keeps e → Refuses e → ⊥
   pub gives-up-10 : Gives-up 10 (always Fault.OutOfFuel)
   pub gives-up-9 : Gives-up 9 (always Fault.OutOfMemory)
-  pub moves-once : Moves-once unmoving
+  pub moves-once : Moves-once once
+  -- and at a first entry it does what `step` does
+  pub moves-first : (w : World) (o : Operation) → woken w (step w (Do o) .world .chain) ≡ false → once w (Do o) ≡ step w (Do o)
+  pub no-accepting : Keeps accepting → ⊥
+  pub no-refuelling : Keeps refuelling → ⊥
+  pub no-showing : Keeps showing → ⊥

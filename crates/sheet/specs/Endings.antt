@@ -11,7 +11,7 @@ use Rattle.heap.specs.declared.value.Opt.{Opt}
 use Rattle.heap.specs.declared.heap.ResultKind.{ResultKind}
 use Rattle.heap.specs.declared.object.CoroState.{CoroState}
 use Rattle.model.specs.Object.{Object}
-use Rattle.model.specs.World.{World, withStack, withFrames, withChain, withOutcome}
+use Rattle.model.specs.World.{World}
 use Rattle.model.specs.declared.machine.Active.{Active}
 use Rattle.model.specs.declared.machine.Cont.{Cont}
 use Rattle.model.specs.declared.machine.Driver.{Driver}
@@ -19,6 +19,7 @@ use Rattle.model.specs.declared.machine.Frame.{Frame}
 use Rattle.model.specs.declared.machine.Outcome.{Outcome}
 use Rattle.model.specs.declared.machine.Stop.{Stop}
 use Rattle.model.specs.declared.call.Answer.{Answer}
+use Rattle.sheet.specs.Setters.{withStack, withFrames, withChain, withOutcome}
 use Rattle.sheet.specs.Lines.{Line, Lines, lines, refuse, accept}
 use Rattle.sheet.specs.Words.{lacksMemory, noSlot}
 use Rattle.sheet.specs.Moves.{onward, put, sent, iteratorDone, ended}

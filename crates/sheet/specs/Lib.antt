@@ -1,5 +1,7 @@
 -- The fault sheet, PEP 342, the lines reached and the cheating engines, as statements on the model.
 pub mod Lines
+pub mod Setters
+pub mod SetUps
 pub mod Does
 pub mod Words
 pub mod Moves

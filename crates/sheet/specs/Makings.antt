@@ -10,9 +10,10 @@ use Rattle.heap.specs.declared.value.Opt.{Opt}
 use Rattle.heap.specs.declared.object.CoroState.{CoroState}
 use Rattle.model.specs.Program.{Func, noFunc}
 use Rattle.model.specs.Object.{Core, Rest, Object}
-use Rattle.model.specs.World.{World, withStack, withFrames, withSlots, withUsed, withSeq}
+use Rattle.model.specs.World.{World}
 use Rattle.model.specs.declared.machine.Cont.{Cont}
 use Rattle.model.specs.declared.exec.Step.{Step}
+use Rattle.sheet.specs.Setters.{withStack, withFrames, withSlots, withUsed, withSeq}
 use Rattle.sheet.specs.Lines.{Line, Lines, lines, stop, accept}
 use Rattle.sheet.specs.Words.{word, arguments, found, kind, isCoroutine, dead, functionOf, coreOf, restOf, isIn, charged, lacksMemory, noSlot}
 use Rattle.sheet.specs.Moves.{pcStored, put}

@@ -1,4 +1,4 @@
--- The sheet's own words: what is done to a world. None of them is the machine's but the setters of single fields (`withStack` and its kin).
+-- The sheet's own words: what is done to a world. None of them is the machine's.
 use Prim.Native.Nat.{ℕ, _+_, _%_, _^_}
 use mathlib.Core.Bool.{Bool, true, false}
 use mathlib.Core.List.{List, [], _∷_, _++_, map}
@@ -8,10 +8,11 @@ use Rattle.lists.specs.Pick.{pick}
 use Rattle.heap.specs.Table.{slot}
 use Rattle.heap.specs.declared.value.Opt.{Opt}
 use Rattle.heap.specs.declared.object.CoroState.{CoroState}
-use Rattle.model.specs.Object.{Core, Rest, Object, withClosing, withSignal, withResult, withRow, withMaxregs, withMaxframes}
-use Rattle.model.specs.World.{World, withStack, withFrames, withChain, withSlots}
+use Rattle.model.specs.Object.{Core, Rest, Object}
+use Rattle.model.specs.World.{World}
 use Rattle.model.specs.declared.machine.Driver.{Driver}
 use Rattle.model.specs.declared.machine.Frame.{Frame}
+use Rattle.sheet.specs.Setters.{withClosing, withSignal, withResult, withRow, withMaxregs, withMaxframes, withStack, withFrames, withChain, withSlots}
 use Rattle.sheet.specs.Words.{found, kind, isCoroutine, coreOf, restOf, isIn}
 
 -- ---- the top frame, if there is one

@@ -9,14 +9,15 @@ use Rattle.lists.specs.Pick.{pick}
 use Rattle.heap.specs.declared.value.Opt.{Opt}
 use Rattle.heap.specs.declared.object.CoroState.{CoroState}
 use Rattle.model.specs.Lists.{isNil}
-use Rattle.model.specs.Object.{Object, withTask, withFinalized}
-use Rattle.model.specs.World.{World, withStack, withFrames, withChain, withReady, withFinalize, withOutcome}
+use Rattle.model.specs.Object.{Object}
+use Rattle.model.specs.World.{World}
 use Rattle.model.specs.declared.machine.Active.{Active}
 use Rattle.model.specs.declared.machine.Cont.{Cont}
 use Rattle.model.specs.declared.machine.Driver.{Driver}
 use Rattle.model.specs.declared.machine.Frame.{Frame}
 use Rattle.model.specs.declared.machine.Outcome.{Outcome}
 use Rattle.model.specs.declared.call.Answer.{Answer}
+use Rattle.sheet.specs.Setters.{withTask, withFinalized, withStack, withFrames, withChain, withReady, withFinalize, withOutcome}
 use Rattle.sheet.specs.Lines.{Lines, lines, refuse, accept}
 use Rattle.sheet.specs.Words.{lies, found, dead, noCoroutine, coreOf, restOf, state, resumable, suspended, tooHigh, lacksMemory, noSlot}
 use Rattle.sheet.specs.Moves.{pcStored, put, replaced, entered, given, ended}

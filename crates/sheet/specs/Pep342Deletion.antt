@@ -6,14 +6,15 @@ use mathlib.Core.List.{List, [], _∷_, _++_}
 use Rattle.heap.specs.declared.fault.Fault.{Fault}
 use Rattle.heap.specs.declared.value.Opt.{Opt}
 use Rattle.model.specs.Lists.{isNil}
-use Rattle.model.specs.Object.{Object, withFinalized}
-use Rattle.model.specs.World.{World, after, withFinalize, withFinalizing}
+use Rattle.model.specs.Object.{Object}
+use Rattle.model.specs.World.{World, after}
 use Rattle.model.specs.Sound.{sound}
 use Rattle.model.specs.Call.{Operation, typed}
 use Rattle.model.specs.declared.machine.Driver.{Driver}
 use Rattle.model.specs.declared.exec.Step.{Step}
 use Rattle.model.specs.declared.call.Op.{Op}
 use Rattle.model.specs.declared.call.Answer.{Answer}
+use Rattle.sheet.specs.Setters.{withFinalized, withFinalize, withFinalizing}
 use Rattle.sheet.specs.Lines.{Lines}
 use Rattle.sheet.specs.Does.{does, operation}
 use Rattle.sheet.specs.Words.{found, isCoroutine, coreOf, restOf, state, suspended}

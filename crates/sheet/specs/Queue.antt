@@ -11,7 +11,6 @@ use Rattle.model.specs.Sound.{sound}
 use Rattle.model.specs.Answer.{takenOff}
 use Rattle.model.specs.Call.{Do, Operation}
 use Rattle.model.specs.Step.{step}
-use Rattle.model.specs.Calls.{table}
 use Rattle.model.specs.declared.exec.Step.{Step}
 use Rattle.sheet.specs.Lines.{Lines}
 use Rattle.sheet.specs.Moves.{pcStored}
@@ -21,7 +20,7 @@ use Rattle.sheet.specs.Answers.{isInstruction}
 
 pub record Queue : Type 0 where
   -- the queue's loss; no instruction puts a word on that queue
-  pub loss : (w : World) (o : Operation) → isInstruction (table (o .op)) ≡ true → length (w .finalize) ≡ takenOff (step w (Do o) .answer) + length (step w (Do o) .world .finalize)
+  pub loss : (w : World) (o : Operation) → isInstruction (o .op) ≡ true → length (w .finalize) ≡ takenOff (step w (Do o) .answer) + length (step w (Do o) .world .finalize)
   -- one word after another, up to the first that can be closed
   pub count : (w : World) (o : Operation) (pc : ℕ) (ok : Bool) (own : World → Lines Step) → tableOf (o .op) w ≡ instruction pc ok own w →
       takenOff (step w (Do o) .answer) ≡ pick (sound w && (not (isNil (w .frames)) && (ok && (not (usedUp w) && searches w)))) (taken (pcStored pc w) (w .finalize)) 0

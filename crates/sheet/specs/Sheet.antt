@@ -14,7 +14,6 @@ use Rattle.model.specs.World.{World, fresh}
 use Rattle.model.specs.Sound.{sound}
 use Rattle.model.specs.Call.{Operation, SetUp, Do}
 use Rattle.model.specs.Step.{told, step}
-use Rattle.model.specs.Calls.{Row, Instruction, OnFrame, OnHost, Unwinds, Grants, Looks, Other, table}
 use Rattle.model.specs.declared.call.Op.{Op}
 use Rattle.model.specs.declared.call.Answer.{Answer}
 use Rattle.sheet.specs.Lines.{Lines, lines, leads, says, faults, refuse, accept}
@@ -71,23 +70,14 @@ sheet o w = lines (refuse 11 (not (sound w)) w ∷ tableOf o w .tests) (tableOf 
 abbrev pub setUp : Setup → World → Lines Answer
 setUp s w = lines (refuse 11 (not (setupOk s)) w ∷ []) (accept true Answer.Accepted (fresh s))
 
--- only a look sees words
-abbrev pub seenBy : Row → World → List ℕ
-seenBy (Instruction pc operands arm) w = []
-seenBy (OnFrame operands body) w = []
-seenBy (OnHost operands body) w = []
-seenBy (Unwinds f pc) w = []
-seenBy (Grants n) w = []
-seenBy Looks w = Others.registers (w .frames) (w .stack)
-seenBy (Other body) w = []
-
 pub record FaultSheet : Type 0 where
   -- THE THEOREM: the answer is that of the first test that stops the call, and the world is what stood there; else what is done
   pub leads-to : (w : World) (o : Operation) → does w o ≡ leads (sheet (o .op) w)
   pub set-up : (w : World) (s : Setup) → step w (SetUp s) ≡ told (leads (setUp s w))
   -- "given exactly if": the answer's number is that test's, 0 to 17
   pub says-number : (w : World) (o : Operation) → number w o ≡ says (sheet (o .op) w)
-  -- the words that a look sees
-  pub sees : (w : World) (o : Operation) → step w (Do o) .seen ≡ pick (sound w) (seenBy (table (o .op)) w) []
+  -- the words that a look sees; no other call sees any
+  pub sees : (w : World) (o : Operation) → o .op ≡ Op.Look → step w (Do o) .seen ≡ pick (sound w) (Others.registers (w .frames) (w .stack)) []
+  pub sees-nothing : (w : World) (o : Operation) → (o .op ≡ Op.Look → ⊥) → step w (Do o) .seen ≡ []
   -- 01's numbers
   pub numbers : map Faults.numberOf faults ≡ 0 ∷ 1 ∷ 2 ∷ 3 ∷ 4 ∷ 5 ∷ 6 ∷ 7 ∷ 8 ∷ 9 ∷ 10 ∷ 11 ∷ 12 ∷ 13 ∷ 14 ∷ 15 ∷ 16 ∷ []

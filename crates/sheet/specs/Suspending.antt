@@ -7,14 +7,15 @@ use Rattle.lists.specs.Pick.{pick}
 use Rattle.heap.specs.declared.value.Opt.{Opt}
 use Rattle.heap.specs.declared.object.CoroState.{CoroState}
 use Rattle.model.specs.Lists.{isNil}
-use Rattle.model.specs.Object.{Core, Rest, Object, withMaxregs, withMaxframes, withPayload}
-use Rattle.model.specs.World.{World, withStack, withFrames, withChain, withFinalizing, withOutcome, withUsed, withFuel}
+use Rattle.model.specs.Object.{Core, Rest, Object}
+use Rattle.model.specs.World.{World}
 use Rattle.model.specs.declared.machine.Active.{Active}
 use Rattle.model.specs.declared.machine.Driver.{Driver}
 use Rattle.model.specs.declared.machine.Frame.{Frame}
 use Rattle.model.specs.declared.machine.Fuel.{Fuel}
 use Rattle.model.specs.declared.machine.Outcome.{Outcome}
 use Rattle.model.specs.declared.machine.Stop.{Stop}
+use Rattle.sheet.specs.Setters.{withMaxregs, withMaxframes, withPayload, withStack, withFrames, withChain, withFinalizing, withOutcome, withUsed, withFuel}
 use Rattle.sheet.specs.Words.{found, restOf, charged}
 use Rattle.sheet.specs.Moves.{put, sent, replaced, marked}
 

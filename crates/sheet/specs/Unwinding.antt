@@ -9,7 +9,7 @@ use Rattle.heap.specs.declared.fault.Fault.{Fault}
 use Rattle.heap.specs.declared.object.CoroState.{CoroState}
 use Rattle.model.specs.Lists.{isNil}
 use Rattle.model.specs.Object.{Object}
-use Rattle.model.specs.World.{World, withOutcome}
+use Rattle.model.specs.World.{World}
 use Rattle.model.specs.declared.program.Handler.{Handler}
 use Rattle.model.specs.declared.machine.Active.{Active}
 use Rattle.model.specs.declared.machine.Cont.{Cont}
@@ -19,6 +19,7 @@ use Rattle.model.specs.declared.machine.Outcome.{Outcome}
 use Rattle.model.specs.declared.machine.Stop.{Stop}
 use Rattle.model.specs.declared.call.OptPc.{OptPc}
 use Rattle.model.specs.declared.call.Answer.{Answer}
+use Rattle.sheet.specs.Setters.{withOutcome}
 use Rattle.sheet.specs.Lines.{Line, Lines, lines, line, refuse, accept}
 use Rattle.sheet.specs.Words.{lacksMemory, noSlot}
 use Rattle.sheet.specs.Moves.{pcStored, put}

@@ -11,10 +11,11 @@ use Rattle.heap.specs.Word.{intWord}
 use Rattle.heap.specs.declared.value.Opt.{Opt}
 use Rattle.heap.specs.declared.object.CoroState.{CoroState}
 use Rattle.model.specs.Lists.{isNil}
-use Rattle.model.specs.Object.{Rest, Object, withClosing, withKey, withLargest, withSignal}
+use Rattle.model.specs.Object.{Rest, Object}
 use Rattle.model.specs.World.{World}
 use Rattle.model.specs.declared.machine.Stop.{Stop}
 use Rattle.model.specs.declared.exec.Step.{Step}
+use Rattle.sheet.specs.Setters.{withClosing, withKey, withLargest, withSignal}
 use Rattle.sheet.specs.Lines.{Line, Lines, lines, stop, raise, accept}
 use Rattle.sheet.specs.Words.{word, found, lacksMemory, noSlot}
 use Rattle.sheet.specs.Moves.{pcStored}

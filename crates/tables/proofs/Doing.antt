@@ -7,7 +7,7 @@ use lib.ListN.{length, getD, take, drop, set, replicate, length-replicate}
 use Rattle.lists.specs.Parts.{splice}
 use Rattle.model.specs.Frames.{onTop, setPc, stepPc, topBase}
 use Rattle.model.specs.declared.machine.Frame.{Frame}
-use Rattle.tables.specs.Layout.{frameWords}
+use Rattle.tables.specs.Layout.{frameWords, baseIn}
 use Rattle.tables.specs.Parts.{Stack, Queue, Piled, Frames}
 use Rattle.tables.specs.Does.{FramesDo, StackDo, QueueDo, RegFits, Puts, Gets}
 use Rattle.tables.proofs.Codes.{length-frame}
@@ -50,28 +50,29 @@ pops-cleared enc wide ws ys n h k e xs p =
 
 -- ---- the stack
 
-pub puts : (stack frames : List ℕ) (height depth r v : ℕ) → RegFits stack frames height depth r
-    → Puts stack frames (set stack (getD frames ((depth - 1) * 6 + 2) 0 + r) v) height depth r v
-puts stack frames height depth r v fits xs [] s p = absurd (let e = p .count in omega arith)
-puts stack frames height depth r v fits xs (f ∷ fs) s p =
-    let b : getD frames ((depth - 1) * 6 + 2) 0 ≡ f .base = top-get frameWords 6 length-frame f fs frames depth p 2 (omega arith) in
+-- the base is read first
+pub puts : (stack frames : List ℕ) (height depth r v : ℕ) → RegFits stack frames height depth r → (base : ℕ) → base ≡ baseIn frames (depth - 1)
+    → Puts stack frames (set stack (base + r) v) height depth r v
+puts stack frames height depth r v fits base read xs [] s p = absurd (let e = p .count in omega arith)
+puts stack frames height depth r v fits base read xs (f ∷ fs) s p =
+    let b : baseIn frames (depth - 1) ≡ f .base = top-get frameWords 6 length-frame f fs frames depth p 2 (omega arith) in
     let low = fits .below in
-    subst (λ k. Stack (set xs (f .base + r) v) (set stack (k + r) v) height) (sym b) (run-set xs stack height (f .base + r) v s (omega arith))
+    subst (λ k. Stack (set xs (f .base + r) v) (set stack (k + r) v) height) (sym (read ∙ b)) (run-set xs stack height (f .base + r) v s (omega arith))
 
-pub gets : (stack frames : List ℕ) (height depth r : ℕ) → RegFits stack frames height depth r
-    → Gets stack frames height depth r (getD stack (getD frames ((depth - 1) * 6 + 2) 0 + r) 0)
-gets stack frames height depth r fits xs [] s p = absurd (let e = p .count in omega arith)
-gets stack frames height depth r fits xs (f ∷ fs) s p =
-    let b : getD frames ((depth - 1) * 6 + 2) 0 ≡ f .base = top-get frameWords 6 length-frame f fs frames depth p 2 (omega arith) in
+pub gets : (stack frames : List ℕ) (height depth r : ℕ) → RegFits stack frames height depth r → (base : ℕ) → base ≡ baseIn frames (depth - 1)
+    → Gets stack frames height depth r (getD stack (base + r) 0)
+gets stack frames height depth r fits base read xs [] s p = absurd (let e = p .count in omega arith)
+gets stack frames height depth r fits base read xs (f ∷ fs) s p =
+    let b : baseIn frames (depth - 1) ≡ f .base = top-get frameWords 6 length-frame f fs frames depth p 2 (omega arith) in
     let low = fits .below in
-    record { is = ap (λ k. getD stack (k + r) 0) b ∙ run-get xs stack height (f .base + r) s (omega arith) }
+    record { is = ap (λ k. getD stack (k + r) 0) (read ∙ b) ∙ run-get xs stack height (f .base + r) s (omega arith) }
 
 -- what a register of a world's top frame asks of the words
 pub reg-fits : (xs : List ℕ) (fs : List Frame) (stack frames : List ℕ) (height depth r : ℕ) → Stack xs stack height → Frames fs frames depth
     → 1 ≤ length fs → topBase fs + r < length xs → RegFits stack frames height depth r
 reg-fits xs [] stack frames height depth r s p h k = absurd (omega arith)
 reg-fits xs (f ∷ fs) stack frames height depth r s p h k =
-    let b : getD frames ((depth - 1) * 6 + 2) 0 ≡ f .base = top-get frameWords 6 length-frame f fs frames depth p 2 (omega arith) in
+    let b : baseIn frames (depth - 1) ≡ f .base = top-get frameWords 6 length-frame f fs frames depth p 2 (omega arith) in
     let c = s .count in
     let d = p .count in
     record { some = omega arith; on-frames = p .within; below = omega arith; on-stack = s .within }

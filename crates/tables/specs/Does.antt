@@ -6,7 +6,7 @@ use lib.ListN.{length, getD, take, drop, set}
 use Rattle.model.specs.Frames.{topBase, putAt, raise, lower, above, below}
 use Rattle.model.specs.declared.machine.Frame.{Frame}
 use Rattle.model.specs.declared.machine.Active.{Active}
-use Rattle.tables.specs.Layout.{frameWords}
+use Rattle.tables.specs.Layout.{frameWords, baseIn}
 use Rattle.tables.specs.Parts.{Stack, Queue, Frames, Chain, SavedStack, SavedFrames, RowIs, upward}
 
 abbrev pub FramesDo : (List Frame → List Frame) → List ℕ → List ℕ → ℕ → ℕ → Type 0
@@ -26,7 +26,7 @@ QueueDo f ws ws′ n n′ = (xs : List ℕ) → Queue xs ws n → Queue (f xs) w
 pub record RegFits (stack frames : List ℕ) (height depth r : ℕ) : Type 0 where
   pub some : 1 ≤ depth
   pub on-frames : depth * 6 ≤ length frames
-  pub below : getD frames ((depth - 1) * 6 + 2) 0 + r < height
+  pub below : baseIn frames (depth - 1) + r < height
   pub on-stack : height ≤ length stack
 
 abbrev pub Puts : List ℕ → List ℕ → List ℕ → ℕ → ℕ → ℕ → ℕ → Type 0

@@ -2,13 +2,14 @@
 ghost use Prim.Native.Nat.{_+_, _-_, _*_, _≤_};
 ghost use lib.ListN.{length, take};
 ghost use Rattle.tables.specs.Does.{StackDo, RegFits, Puts, Gets};
+use crate::frame::base_at;
 
 // A word into a register of the top frame.
 pub fn put_reg(stack: &mut [u64], frames: &[u64], height: usize, depth: usize, r: usize, v: u64)
     requires { ⌜ RegFits (now stack) (now frames) height depth r ⌝ }
     ensures { λ _. ⌜ Puts (now (stack .entry)) (now (frames .entry)) (now (stack .exit)) height depth r v ⌝ }
 {
-    let base = frames[(depth - 1) * 6 + 2] as usize;
+    let base = base_at(frames, depth - 1);
     let at = base + r;
     stack[at] = v;
 }
@@ -18,7 +19,7 @@ pub fn reg(stack: &[u64], frames: &[u64], height: usize, depth: usize, r: usize)
     requires { ⌜ RegFits (now stack) (now frames) height depth r ⌝ }
     ensures { λ v. ⌜ Gets (now (stack .entry)) (now (frames .entry)) height depth r v ⌝ }
 {
-    let low = frames[(depth - 1) * 6 + 2] as usize;
+    let low = base_at(frames, depth - 1);
     let i = low + r;
     stack[i]
 }

@@ -1,55 +1,43 @@
--- `all_zero` meets its contract: what is left decides the whole. Assumes nothing.
-use mathlib.Core.Path.{_≡_, refl, sym, ap, _∙_}
-use mathlib.Core.Bool.{false}
-use mathlib.Core.List.{List}
-use Prim.Native.Nat.{ℕ, _+_, _-_, _≤_, _<_}
+-- `all_zero` meets its contract: what was joined and what is left decide the whole. Assumes nothing.
+use mathlib.Core.Path.{_≡_, refl, sym, _∙_}
+use Prim.Native.Nat.{_-_}
 use native.Mathlib.Omega.{arith}
-use native.Mathlib.Numerals.{add-one}
-use borrow.Author.Needs.{needs}
-use borrow.Author.Tests.{eq-eqb, ne-eqb}
-use lib.ListN.{length, getD, drop, drop-of-length-le}
-use lib.Seq.{drop-cons}
+use lib.ListN.{length}
 use Rattle.lists.specs.Tests.{zeros}
+use Rattle.lists.proofs.Joined.{left, more, end}
 use Rattle.lists.proofs.all_zero.Statement.{statement}
 use Rattle.lists.proofs.all_zero.Tie as tie
 
-stop : (s : List ℕ) (i : ℕ) → i < length s → zeros s ≡ zeros (drop i s) → (getD s i 0 ≡ 0 → ⊥) → false ≡ zeros s
-stop s i h e n = sym (e ∙ ap zeros (drop-cons s i 0 h) ∙ (rw (ne-eqb (getD s i 0) 0 n)))
-
-more : (s : List ℕ) (i : ℕ) → i < length s → zeros s ≡ zeros (drop i s) → getD s i 0 ≡ 0 → zeros s ≡ zeros (drop (i + 1) s)
-more s i h e z = rw add-one (e ∙ ap zeros (drop-cons s i 0 h) ∙ (rw (eq-eqb (getD s i 0) 0 z)))
-
 abbrev Inv-loop : tie.InvT-loop
-Inv-loop s i₀ i = (i ≤ length s) × (zeros s ≡ zeros (drop i s))
+Inv-loop s any₀ i₀ any i = zeros s ≡ left s any i
 
 abbrev μ-loop : tie.MeasureT-loop
-μ-loop s i₀ i = length s - i
+μ-loop s any₀ i₀ any i = length s - i
 
 loop-holds : tie.Need-loop-holds Inv-loop μ-loop
-loop-holds c = (omega arith, refl)
+loop-holds c = refl
 
-mul-if1 : tie.Need-mul-if1 Inv-loop μ-loop
-mul-if1 c = search needs
+mul-any : tie.Need-mul-any Inv-loop μ-loop
+mul-any c = omega arith
 
-shared-slice-read-if1 : tie.Need-shared-slice-read-if1 Inv-loop μ-loop
-shared-slice-read-if1 c = search needs
-
-returns : tie.Need-returns Inv-loop μ-loop
-returns c = stop (c .before .before .before .before .args .s .now) (c .before .before .before .loop .i) (c .before .before .loop-test .taken) (c .before .before .before .loop .inv .1) (c .if1 .taken)
+shared-slice-read-any : tie.Need-shared-slice-read-any Inv-loop μ-loop
+shared-slice-read-any c = omega arith
 
 add-i : tie.Need-add-i Inv-loop μ-loop
-add-i c = search needs
+add-i c = omega arith
 
 loop-less : tie.Need-loop-less Inv-loop μ-loop
-loop-less c = search needs
+loop-less c = omega arith
 
 loop-again : tie.Need-loop-again Inv-loop μ-loop
-loop-again c = (omega arith, more (c .before .before .before .before .args .s .now) (c .before .before .before .loop .i) (c .before .before .loop-test .taken) (c .before .before .before .loop .inv .1) (c .if1 .left))
+loop-again c =
+    let at-loop = c .before .before in let s = at-loop .before .args .s .now in
+    at-loop .loop .inv ∙ more s (at-loop .loop .any) (at-loop .loop .i) (c .before .loop-test .taken)
 
-returns-2 : tie.Need-returns-2 Inv-loop μ-loop
-returns-2 c =
-    let h : length (c .before .before .args .s .now) ≤ c .before .loop .i = c .loop-test .left in
-    sym (c .before .loop .inv .1 ∙ ap zeros (drop-of-length-le (c .before .before .args .s .now) h))
+returns : tie.Need-returns Inv-loop μ-loop
+returns c =
+    let at-loop = c .before in let s = at-loop .before .args .s .now in
+    sym (at-loop .loop .inv ∙ end s (at-loop .loop .any) (at-loop .loop .i) (c .loop-test .left))
 
 pub all-zero-spec : {M : Type 1} → statement M
 all-zero-spec =
@@ -58,10 +46,9 @@ all-zero-spec =
     Inv-loop
     μ-loop
     loop-holds
-    mul-if1
-    shared-slice-read-if1
-    returns
+    mul-any
+    shared-slice-read-any
     add-i
     loop-less
     loop-again
-    returns-2)
+    returns)

@@ -140,7 +140,7 @@ returns-2 c =
     let r = opOf (a .call .now) in
     done (of start) r (a .answer .now) _ (a .ok) (not-false _ (at-if .if1 .left))
     (left-in (of start) r (a .answer .now) (at-machine .machine-of .result) (at-fuel .fuel-of .result) (at-op .op-of .result) (left-by did) (did .do-read .result) _ _ _ (told .tell2 .result)
-    (at-machine .machine-of .ensures) (at-fuel .fuel-of .ensures) (at-op .op-of .ensures .is) (did .do-read .ensures)
+    (at-machine .machine-of .ensures) (at-fuel .fuel-of .ensures) (at-op .op-of .ensures) (did .do-read .ensures)
     (at-put-machine .put-machine .ensures) (at-put-fuel .put-fuel .ensures) (told .tell2 .ensures .0) (told .tell2 .ensures .1))
 
 pub do-call-spec : {M : Type 1} → statement M

@@ -1,15 +1,13 @@
 -- `op_of` meets its contract: other than six words, or six. Assumes nothing.
 use mathlib.Core.Path.{ap, _∙_}
-use native.Mathlib.Omega.{arith}
 use Rattle.calls.specs.Call.{opOf}
-use Rattle.calls.proofs.Typed.{within}
 use Rattle.calls.proofs.Reading.{as-six, other-length}
 use borrow.Author.Needs.{needs}
 use Rattle.calls.proofs.call.op_of.Statement.{statement}
 use Rattle.calls.proofs.call.op_of.Tie as tie
 
 returns : tie.Need-returns
-returns c = record { is = other-length (c .before .before .args .words .now) (c .if1 .taken); within = tt }
+returns c = other-length (c .before .before .args .words .now) (c .if1 .taken)
 
 shared-slice-read-read-six : tie.Need-shared-slice-read-read-six
 shared-slice-read-read-six c = search needs
@@ -36,9 +34,7 @@ returns-2 : tie.Need-returns-2
 returns-2 c =
     let left = c .before .before .before .before .before .before .before in
     let ws = left .before .before .args .words .now in
-    let is = c .read-six .ensures ∙ ap opOf (as-six ws (left .if1 .left)) in
-    let word = left .before .shared-slice-known .given in
-    record { is = is; within = within ws (c .read-six .result) (omega (arith, word 1)) (omega (arith, word 2)) is }
+    c .read-six .ensures ∙ ap opOf (as-six ws (left .if1 .left))
 
 pub op-of-spec : {M : Type 1} → statement M
 op-of-spec =

@@ -163,43 +163,7 @@ pub op-by-spec : {M : Type 1} → statement M
 op-by-spec =
     tie.close
     (tie.spec
-    as-pc-requires
-    as-pc-requires-2
-    as-pc-requires-3
-    as-reg-requires
-    as-reg-requires-2
-    as-reg-requires-3
-    as-reg-requires-4
-    as-reg-requires-5
-    as-argc-requires
-    kind-of-requires
-    fault-of-requires
-    opt-of-requires
-    cont-of-requires
-    returns
-    returns-2
-    returns-3
-    returns-4
-    returns-5
-    returns-6
-    returns-7
-    returns-8
-    returns-9
-    returns-10
-    returns-11
-    returns-12
-    returns-13
-    returns-14
-    returns-15
-    returns-16
-    returns-17
-    returns-18
-    returns-19
-    returns-20
-    returns-21
-    returns-22
-    returns-23
-    returns-24
-    returns-25
-    returns-26
-    returns-27)
+    as-pc-requires as-pc-requires-2 as-pc-requires-3 as-reg-requires as-reg-requires-2 as-reg-requires-3 as-reg-requires-4 as-reg-requires-5
+    as-argc-requires kind-of-requires fault-of-requires opt-of-requires cont-of-requires returns returns-2 returns-3 returns-4 returns-5 returns-6
+    returns-7 returns-8 returns-9 returns-10 returns-11 returns-12 returns-13 returns-14 returns-15 returns-16 returns-17 returns-18 returns-19
+    returns-20 returns-21 returns-22 returns-23 returns-24 returns-25 returns-26 returns-27)

@@ -354,118 +354,13 @@ pub words-of-spec : {M : Type 1} → statement M
 words-of-spec =
     tie.close
     (tie.spec
-    enum-known-op
-    cast-t69
-    cast-t70
-    cast-t71
-    cast-t72
-    enum-known-op-2
-    cast-t73
-    cast-t74
-    cast-t75
-    cast-t76
-    enum-known-op-3
-    cast-t77
-    cast-t78
-    cast-t79
-    cast-t80
-    enum-known-op-4
-    cast-t81
-    cast-t82
-    cast-t83
-    enum-known-op-5
-    cast-t84
-    cast-t85
-    cast-t86
-    cast-t87
-    enum-known-op-6
-    cast-t88
-    cast-t89
-    cast-t90
-    enum-known-op-7
-    cast-t91
-    cast-t92
-    cast-t93
-    cast-t94
-    enum-known-op-8
-    cast-t95
-    cast-t96
-    cast-t97
-    cast-t98
-    enum-known-op-9
-    cast-t99
-    cast-t100
-    cast-t101
-    cast-t102
-    enum-known-op-10
-    cast-t103
-    cast-t104
-    cast-t105
-    enum-known-op-11
-    cast-t106
-    cast-t107
-    enum-known-op-12
-    cast-t108
-    cast-t109
-    cast-t110
-    enum-known-op-13
-    cast-t111
-    cast-t112
-    cast-t113
-    enum-known-op-14
-    cast-t114
-    cast-t115
-    cast-t116
-    cast-t117
-    cast-t118
-    enum-known-op-15
-    kind-code-requires
-    enum-known-op-16
-    number-requires
-    word-requires
-    opt-code-requires
-    opt-word-requires
-    enum-known-op-17
-    enum-known-op-18
-    cast-t124
-    enum-known-op-19
-    enum-known-op-20
-    cast-t125
-    cast-t126
-    cont-code-requires
-    cont-reg-requires
-    enum-known-op-21
-    cast-t129
-    enum-known-op-22
-    enum-told
-    enum-known-op-23
-    enum-known-op-24
-    enum-told-2
-    enum-told-3
-    returns
-    returns-2
-    returns-3
-    returns-4
-    returns-5
-    returns-6
-    returns-7
-    returns-8
-    returns-9
-    returns-10
-    returns-11
-    returns-12
-    returns-13
-    returns-14
-    returns-15
-    returns-16
-    returns-17
-    returns-18
-    returns-19
-    returns-20
-    returns-21
-    returns-22
-    returns-23
-    returns-24
-    returns-25
-    returns-26
-    returns-27)
+    enum-known-op cast-t69 cast-t70 cast-t71 cast-t72 enum-known-op-2 cast-t73 cast-t74 cast-t75 cast-t76 enum-known-op-3 cast-t77 cast-t78 cast-t79
+    cast-t80 enum-known-op-4 cast-t81 cast-t82 cast-t83 enum-known-op-5 cast-t84 cast-t85 cast-t86 cast-t87 enum-known-op-6 cast-t88 cast-t89 cast-t90
+    enum-known-op-7 cast-t91 cast-t92 cast-t93 cast-t94 enum-known-op-8 cast-t95 cast-t96 cast-t97 cast-t98 enum-known-op-9 cast-t99 cast-t100
+    cast-t101 cast-t102 enum-known-op-10 cast-t103 cast-t104 cast-t105 enum-known-op-11 cast-t106 cast-t107 enum-known-op-12 cast-t108 cast-t109
+    cast-t110 enum-known-op-13 cast-t111 cast-t112 cast-t113 enum-known-op-14 cast-t114 cast-t115 cast-t116 cast-t117 cast-t118 enum-known-op-15
+    kind-code-requires enum-known-op-16 number-requires word-requires opt-code-requires opt-word-requires enum-known-op-17 enum-known-op-18 cast-t124
+    enum-known-op-19 enum-known-op-20 cast-t125 cast-t126 cont-code-requires cont-reg-requires enum-known-op-21 cast-t129 enum-known-op-22 enum-told
+    enum-known-op-23 enum-known-op-24 enum-told-2 enum-told-3 returns returns-2 returns-3 returns-4 returns-5 returns-6 returns-7 returns-8 returns-9
+    returns-10 returns-11 returns-12 returns-13 returns-14 returns-15 returns-16 returns-17 returns-18 returns-19 returns-20 returns-21 returns-22
+    returns-23 returns-24 returns-25 returns-26 returns-27)

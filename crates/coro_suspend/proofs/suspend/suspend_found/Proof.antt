@@ -13,45 +13,41 @@ use Rattle.coro_suspend.proofs.suspend.suspend_found.Tie as tie
 abbrev move-out-of : tie.After-event-of → tie.After-move-out
 move-out-of c = c .before .before .before .before .before .before .before .before .before .before .before .before .before .before .before .before .before .before
 
-abbrev start-of : tie.After-move-out-arg4 → tie.Start
-start-of c = c .before .before .before .before .before .before .before .before .before .before .before .before .before .before .before .before .before .before
+abbrev read-of : tie.After-move-out-arg4 → tie.After-base-at
+read-of c = c .before .before .before .before .before .before .before .before .before .before .before
 
-abbrev start-of-struct-known : tie.After-struct-known → tie.Start
-start-of-struct-known c = c .before .before .before .before .before .before .before .before
+abbrev start-of-read : tie.After-base-at → tie.Start
+start-of-read c = c .before .before .before .before .before .before .before .before
+
+abbrev start-of : tie.After-move-out-arg4 → tie.Start
+start-of c = start-of-read (read-of c)
 
 abbrev mem : tie.Start → Beside → Lent
 mem c b = lent (c .args .stack .now) (c .args .frames .now) (c .args .chain .now) (c .args .slots .now) (c .args .saved-stack .now) (c .args .saved-frames .now) b
 
-known : (c : tie.Start) →
-    Before (c .args .l) (mem c (c .pre .ok .beside)) (c .args .m) (c .pre .ok .beside .fuel) (c .args .state) (c .args .dst) (c .args .payload) (c .args .keys)
-    (c .pre .ok .world) (c .pre .ok .rep) (c .args .a) (c .pre .some) (c .pre .top) (c .pre .floor) (c .args .i) (c .args .c) (c .pre .coro) (c .pre .ok .sound)
-known c = before (c .args .l) (mem c (c .pre .ok .beside)) (c .args .m) (c .pre .ok .beside .fuel) (c .args .state) (c .args .dst) (c .args .payload)
-    (c .args .keys) (c .pre .ok .world) (c .pre .ok .rep) (c .args .a) (c .pre .some) (c .pre .top) (c .pre .floor) (c .args .i) (c .args .c) (c .pre .coro)
-    (c .pre .ok .sound)
+known : (c : tie.After-base-at) →
+    let start = start-of-read c in
+    Before (start .args .l) (mem start (start .pre .ok .beside)) (start .args .m) (start .pre .ok .beside .fuel) (start .args .state) (start .args .dst) (start .args .payload) (start .args .keys)
+    (start .pre .ok .world) (start .pre .ok .rep) (start .args .a) (start .pre .some) (start .pre .top) (start .pre .floor) (start .args .i) (start .args .c) (start .pre .coro)
+    (c .base-at .result) (c .base-at .ensures) (start .pre .ok .sound)
+known c =
+    let start = start-of-read c in
+    before (start .args .l) (mem start (start .pre .ok .beside)) (start .args .m) (start .pre .ok .beside .fuel) (start .args .state) (start .args .dst) (start .args .payload) (start .args .keys)
+    (start .pre .ok .world) (start .pre .ok .rep) (start .args .a) (start .pre .some) (start .pre .top) (start .pre .floor) (start .args .i) (start .args .c) (start .pre .coro)
+    (c .base-at .result) (c .base-at .ensures) (start .pre .ok .sound)
 
-mul-base : tie.Need-mul-base
-mul-base c = search needs
-
-add-base : tie.Need-add-base
-add-base c = search needs
-
-mul-base-2 : tie.Need-mul-base-2
-mul-base-2 c = search needs
-
-slice-read-base : tie.Need-slice-read-base
-slice-read-base c = search needs
+base-at-requires : tie.Need-base-at-requires
+base-at-requires c κs = search needs
 
 sub-regs : tie.Need-sub-regs
-sub-regs c =
-    let start = start-of-struct-known c in
-    known start .under
+sub-regs c = known (c .before) .under
 
 sub-deep : tie.Need-sub-deep
 sub-deep c = search needs
 
 growth-requires : tie.Need-growth-requires
 growth-requires c κs =
-    let k = known (start-of-struct-known (c .before)) in (k .regs, k .frames, k .cost)
+    let k = known (c .before .before) in (k .regs, k .frames, k .cost)
 
 charge-requires : tie.Need-charge-requires
 charge-requires c κs = search needs
@@ -64,23 +60,22 @@ enum-known-g c = search needs
 
 move-out-requires : tie.Need-move-out-requires
 move-out-requires c κs =
-    let start = start-of c in
+    let read = read-of c in let start = start-of-read read in
     leave-fit (start .args .l) (mem start (start .pre .ok .beside)) (start .args .m) (start .pre .ok .beside .fuel) (start .args .state) (start .args .dst)
     (start .args .payload) (start .args .keys) (start .pre .ok .world) (start .pre .ok .rep) (start .args .a) (start .pre .some) (start .pre .top)
-    (start .pre .floor) (start .args .i) (start .args .c) (start .pre .coro) (start .pre .ok .sound) (start .pre .ok .room)
+    (start .pre .floor) (start .args .i) (start .args .c) (start .pre .coro) (read .base-at .result) (read .base-at .ensures)
+    (start .pre .ok .sound) (start .pre .ok .room)
 
 pop-active-requires : tie.Need-pop-active-requires
 pop-active-requires c κs =
-    let start = start-of (c .before .before .before .before .before .before .before .before .before .before) in
-    (start .pre .some, known start .chain)
+    let read = read-of (c .before .before .before .before .before .before .before .before .before .before) in (start-of-read read .pre .some, known read .chain)
 
 asleep-requires : tie.Need-asleep-requires
 asleep-requires c κs = search needs
 
 put-sleep-requires : tie.Need-put-sleep-requires
 put-sleep-requires c κs =
-    let start = start-of (c .before .before .before .before .before .before .before .before .before .before .before .before .before .before .before) in
-    known start .slot
+    known (read-of (c .before .before .before .before .before .before .before .before .before .before .before .before .before .before .before)) .slot
 
 event-of-requires : tie.Need-event-of-requires
 event-of-requires c κs = search needs
@@ -90,36 +85,39 @@ shrunk-requires c κs =
     let at-move-out = move-out-of c in let start = start-of (at-move-out .before) in
     start .pre .some
 
+same-length : tie.Need-same-length
+same-length c = search needs
+
 returns : tie.Need-returns
 returns c =
     let at-charge = c .before .before in let at-growth = at-charge .before in
-    let start = start-of-struct-known (at-growth .before .before) in
+    let read = at-growth .before .before .before in let start = start-of-read read in
     λ w b rep snd. spent (start .args .l) (mem start b) (start .args .m) (b .fuel) (start .args .state) (start .args .dst) (start .args .payload)
     (start .args .keys) w rep (start .args .a) (start .pre .some) (start .pre .top) (start .pre .floor) (start .args .i) (start .args .c) (start .pre .coro)
-    (sym (c .enum-told .given .1) ∙ at-charge .charge .ensures ∙ ap (chargeOf (heapOf (start .args .m) (start .args .l))) (at-growth .growth .ensures))
-
-same-length : tie.Need-same-length
-same-length c =
-    move-out-of (c .before) .move-out .kept .0
+    (read .base-at .result) (read .base-at .ensures) (sym (c .enum-told .given .1) ∙ at-charge .charge .ensures ∙ ap (chargeOf (heapOf (start .args .m) (start .args .l))) (at-growth .growth .ensures))
 
 same-length-2 : tie.Need-same-length-2
 same-length-2 c =
-    move-out-of (c .before) .move-out .kept .1 .0
+    move-out-of (c .before) .move-out .kept .0
 
 same-length-3 : tie.Need-same-length-3
 same-length-3 c =
+    move-out-of (c .before) .move-out .kept .1 .0
+
+same-length-4 : tie.Need-same-length-4
+same-length-4 c =
     let at-pop-active = c .before .before .before .before .before .before .before .before .before in
     at-pop-active .pop-active .kept .0
 
-same-length-4 : tie.Need-same-length-4
-same-length-4 c = c .before .before .before .before .put-sleep .kept .0
-
 same-length-5 : tie.Need-same-length-5
-same-length-5 c =
-    move-out-of (c .before) .move-out .kept .1 .1 .0
+same-length-5 c = c .before .before .before .before .put-sleep .kept .0
 
 same-length-6 : tie.Need-same-length-6
 same-length-6 c =
+    move-out-of (c .before) .move-out .kept .1 .1 .0
+
+same-length-7 : tie.Need-same-length-7
+same-length-7 c =
     move-out-of (c .before) .move-out .kept .1 .1 .1 .0
 
 returns-2 : tie.Need-returns-2
@@ -128,10 +126,10 @@ returns-2 c =
     let at-asleep = at-put-sleep .before .before in let at-pop-active = at-asleep .before .before .before in
     let at-move-out = at-pop-active .before .before .before .before .before .before .before .before .before .before in
     let at-g = at-move-out .before .before .before .before .before .before in let at-charge = at-g .before .before in
-    let at-growth = at-charge .before in let start = start-of-struct-known (at-growth .before .before) in
+    let at-growth = at-charge .before in let read = at-growth .before .before .before in let start = start-of-read read in
     λ w b rep snd. accepted (start .args .l) (mem start b) (start .args .m) (b .fuel) (start .args .state) (start .args .dst) (start .args .payload)
     (start .args .keys) w rep (start .args .a) (start .pre .some) (start .pre .top) (start .pre .floor) (start .args .i) (start .args .c) (start .pre .coro)
-    snd _ _ _ _ _ _ (at-g .g .given .0 .0) (at-asleep .asleep .result) (c .shrunk .result) (at-event-of .event-of .result) (start .pre .state)
+    (read .base-at .result) (read .base-at .ensures) snd _ _ _ _ _ _ (at-g .g .given .0 .0) (at-asleep .asleep .result) (c .shrunk .result) (at-event-of .event-of .result) (start .pre .state)
     (sym (at-g .g .given .1) ∙ at-charge .charge .ensures ∙ ap (chargeOf (heapOf (start .args .m) (start .args .l))) (at-growth .growth .ensures))
     (at-move-out .move-out .ensures) (at-pop-active .pop-active .ensures) (at-asleep .asleep .ensures) (at-put-sleep .put-sleep .ensures)
     (at-event-of .event-of .ensures) (c .shrunk .ensures)
@@ -140,10 +138,7 @@ pub suspend-found-spec : {M : Type 1} → statement M
 suspend-found-spec =
     tie.close
     (tie.spec
-    mul-base
-    add-base
-    mul-base-2
-    slice-read-base
+    base-at-requires
     sub-regs
     sub-deep
     growth-requires
@@ -156,11 +151,12 @@ suspend-found-spec =
     put-sleep-requires
     event-of-requires
     shrunk-requires
-    returns
     same-length
+    returns
     same-length-2
     same-length-3
     same-length-4
     same-length-5
     same-length-6
+    same-length-7
     returns-2)

@@ -44,7 +44,8 @@ is-coro-requires : tie.Need-is-coro-requires
 is-coro-requires c κs = search needs
 
 passed-requires : tie.Need-passed-requires
-passed-requires c κs = search needs
+passed-requires c κs =
+    let test = c in let asked = test .before in sym (asked .is-coro .ensures) ∙ not-true _ (test .if1 .taken)
 
 same-length : tie.Need-same-length
 same-length c = gone-of (c .before .before) .pop .kept .0
@@ -65,7 +66,7 @@ returns c =
     let e = gone .pop .last in
     left-plain (a .value) (a .func) (a .pc) (a .l) (lent (e .0) (e .1 .0) (a .chain .now) (a .slots .now) (a .saved-stack .now) (a .saved-frames .now) b) (gone .pop .result) (a .fuel)
     w (t .top) (t .rest) (t .are) (read .cont-at .result) (read .cont-at .ensures ∙ its-cont (w .frames) (a .frames .now) (a .m .depth) (rep .frames) t) (c .passed .result)
-    (sym (asked .is-coro .ensures) ∙ not-true _ (test .if1 .taken)) (c .passed .ensures) (gone .pop .ensures (a .l) w (record { words = mem start b; fuel = a .fuel }) rep)
+    (c .passed .ensures) (gone .pop .ensures (a .l) w (record { words = mem start b; fuel = a .fuel }) rep)
 
 coro-escaped-requires : tie.Need-coro-escaped-requires
 coro-escaped-requires c κs =

@@ -1,14 +1,13 @@
 -- `search` meets its contract: what is left of it, done to the present, is the whole done to the start. The measure is the number of
 -- frames. Assumes nothing.
-use mathlib.Core.Path.{sym, _∙_, subst, refl}
+use mathlib.Core.Path.{sym, _∙_, refl}
 use Prim.Native.Nat.{_≤_}
 use native.Mathlib.Omega.{arith}
 use borrow.Author.Tests.{not-true, not-false}
 use Rattle.memory.specs.Memory.{Lent, Beside}
 use Rattle.memory.specs.Lendings.{sixSetup, plain}
-use Rattle.memory.specs.Contract.{Does, with}
+use Rattle.memory.specs.Contract.{with}
 use Rattle.memory.proofs.Does.{SameLengths}
-use Rattle.machine_unwind.specs.Turns.{searchFrom}
 use borrow.Author.Needs.{needs}
 use Rattle.machine_unwind.proofs.Along.{Along, along-start, along-none, along-ends, along-fewer, along-more}
 use Rattle.machine_unwind.proofs.search.search.Statement.{statement}
@@ -67,41 +66,36 @@ turn-requires c κs =
 goes-on-requires : tie.Need-goes-on-requires Inv-loop μ-loop
 goes-on-requires c κs = search needs
 
-answered-requires : tie.Need-answered-requires Inv-loop μ-loop
-answered-requires c κs = search needs
-
 same-length : tie.Need-same-length Inv-loop μ-loop
 same-length c =
-    let did = turn-of (c .before .before) in did .turn .kept .0 ∙ so-far (loop-of did) .stack
+    let did = turn-of (c .before) in did .turn .kept .0 ∙ so-far (loop-of did) .stack
 
 same-length-2 : tie.Need-same-length-2 Inv-loop μ-loop
 same-length-2 c =
-    let did = turn-of (c .before .before) in did .turn .kept .1 .0 ∙ so-far (loop-of did) .frames
+    let did = turn-of (c .before) in did .turn .kept .1 .0 ∙ so-far (loop-of did) .frames
 
 same-length-3 : tie.Need-same-length-3 Inv-loop μ-loop
 same-length-3 c =
-    let did = turn-of (c .before .before) in did .turn .kept .1 .1 .0 ∙ so-far (loop-of did) .chain
+    let did = turn-of (c .before) in did .turn .kept .1 .1 .0 ∙ so-far (loop-of did) .chain
 
 same-length-4 : tie.Need-same-length-4 Inv-loop μ-loop
 same-length-4 c =
-    let did = turn-of (c .before .before) in did .turn .kept .1 .1 .1 .0 ∙ so-far (loop-of did) .slots
+    let did = turn-of (c .before) in did .turn .kept .1 .1 .1 .0 ∙ so-far (loop-of did) .slots
 
 same-length-5 : tie.Need-same-length-5 Inv-loop μ-loop
 same-length-5 c =
-    let did = turn-of (c .before .before) in did .turn .kept .1 .1 .1 .1 .0 ∙ so-far (loop-of did) .savedStack
+    let did = turn-of (c .before) in did .turn .kept .1 .1 .1 .1 .0 ∙ so-far (loop-of did) .savedStack
 
 same-length-6 : tie.Need-same-length-6 Inv-loop μ-loop
 same-length-6 c =
-    let did = turn-of (c .before .before) in did .turn .kept .1 .1 .1 .1 .1 .0 ∙ so-far (loop-of did) .savedFrames
+    let did = turn-of (c .before) in did .turn .kept .1 .1 .1 .1 .1 .0 ∙ so-far (loop-of did) .savedFrames
 
 returns : tie.Need-returns Inv-loop μ-loop
 returns c =
-    let asked = c .before .before in let did = turn-of asked in let loop = loop-of did in let start = start-of loop in let a = start .args in
-    λ w b rep snd.
-    subst (Does (a .l) (searchFrom (a .value) (a .func) (a .pc) w) (at-turn did b) (did .turn .result .machine) (did .turn .result .fuel)) (sym (c .answered .ensures))
-    (along-ends (a .l) (a .value) (a .func) (a .pc) (at-start start) (with (a .m) (a .fuel)) (at-loop loop) (with (loop .loop .n) (loop .loop .f)) (loop .loop .inv)
+    let asked = c .before in let did = turn-of asked in let loop = loop-of did in let start = start-of loop in let a = start .args in
+    along-ends (a .l) (a .value) (a .func) (a .pc) (at-start start) (with (a .m) (a .fuel)) (at-loop loop) (with (loop .loop .n) (loop .loop .f)) (loop .loop .inv)
     (some-left (did .before .before .before .before .before .before .before)) (start .pre .func) (start .pre .pc) (at-turn did) (with (did .turn .result .machine) (did .turn .result .fuel)) (did .turn .result .answer) (did .turn .ensures)
-    (sym (asked .goes-on .ensures) ∙ not-true _ (c .before .if2 .taken)) w b rep snd)
+    (sym (asked .goes-on .ensures) ∙ not-true _ (c .if2 .taken))
 
 loop-less : tie.Need-loop-less Inv-loop μ-loop
 loop-less c =
@@ -149,7 +143,6 @@ search-spec =
     loop-holds
     turn-requires
     goes-on-requires
-    answered-requires
     same-length
     same-length-2
     same-length-3

@@ -1,12 +1,11 @@
 -- `raise` meets its contract: where and what is raised, and the search. Assumes nothing.
-use mathlib.Core.Path.{refl, _∙_, subst}
+use mathlib.Core.Path.{refl, _∙_}
 use Rattle.model.specs.World.{World}
 use Rattle.memory.specs.Memory.{Lent, Beside, Rep}
 use Rattle.memory.specs.Lendings.{sixSetup, plain}
 use Rattle.memory.specs.Contract.{Does}
 use Rattle.machine.proofs.Allocation.{heap-room}
-use Rattle.machine_unwind.specs.Turns.{originOf, thrown}
-use Rattle.machine_unwind.specs.declared.turn.Origin.{Origin}
+use Rattle.machine_unwind.specs.Turns.{thrown}
 use Rattle.machine_unwind.proofs.Raising.{thrown-good, raised-fits, raise-refused, raise-searched}
 use borrow.Author.Needs.{needs}
 use Rattle.machine_unwind.proofs.unwind.raise.Statement.{statement}
@@ -27,13 +26,12 @@ after-made c b =
     sixSetup (a .stack .now) (a .frames .now) (a .chain .now) (c .thrown .last .0) (a .saved-stack .now) (a .saved-frames .now) (a .setup .now) plain b
 
 told : (c : tie.After-thrown) (w : World) (b : Beside) → Rep (start-of c .args .l) w (mem (start-of c) b) (start-of c .args .m) (start-of c .args .fuel)
-    → Does (start-of c .args .l) (thrown (start-of c .args .fault) (originOf w) w) (after-made c b) (c .thrown .result .machine) (start-of c .args .fuel) (c .thrown .result .answer)
+    → Does (start-of c .args .l) (thrown (start-of c .args .fault) w) (after-made c b) (c .thrown .result .machine) (start-of c .args .fuel) (c .thrown .result .answer)
 told c w b rep =
     let asked = c .before .before in
     let a = start-of c .args in
     let beside : Beside = record { words = mem (start-of c) b; fuel = a .fuel } in
-    subst (λ (at : Origin). Does (a .l) (thrown (a .fault) at w) (after-made c b) (c .thrown .result .machine) (a .fuel) (c .thrown .result .answer)) (asked .origin .ensures (a .l) w beside rep)
-    (c .thrown .ensures w beside rep)
+    c .thrown .ensures w beside rep (asked .origin .ensures (a .l) w beside rep)
 
 origin-requires : tie.Need-origin-requires
 origin-requires c κs = search needs
@@ -105,7 +103,7 @@ returns-2 c =
     let r = found .search in
     let e = r .last in
     λ w b rep snd.
-    let u = thrown (a .fault) (originOf w) w .world in
+    let u = thrown (a .fault) w .world in
     let g = thrown-good (a .fault) w snd (start .pre .raises) in
     let d = told made w b rep in
     raise-searched (a .fault) w (a .l) (sixSetup (e .0) (e .1 .0) (e .1 .1 .0) (e .1 .1 .1 .0) (e .1 .1 .1 .1 .0) (e .1 .1 .1 .1 .1 .0) (a .setup .now) plain b)

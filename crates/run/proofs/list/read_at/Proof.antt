@@ -36,7 +36,7 @@ returns c =
     let start = c .before .before .before .before in
     let ws = start .args .calls .now in
     let a = start .args .i * 6 in
-    c .op-of .ensures .is ∙ ap opOf (short ws a 6 (c .before .before .if1 .taken))
+    c .op-of .ensures ∙ ap opOf (short ws a 6 (c .before .before .if1 .taken))
 
 add-e : tie.Need-add-e
 add-e c = search needs
@@ -61,7 +61,7 @@ returns-2 c =
     let start = c .before .before .before .before in
     let a = start .args .i * 6 in
     let e : a + 6 - a ≡ 6 = omega arith in
-    c .op-of2 .ensures .is ∙ ap (λ k. opOf (take k (drop a (start .args .calls .now)))) e
+    c .op-of2 .ensures ∙ ap (λ k. opOf (take k (drop a (start .args .calls .now)))) e
 
 pub read-at-spec : {M : Type 1} → statement M
 read-at-spec = tie.close (tie.spec mul-a sub-left mul-op-of sub-op-of part-op-of-start part-op-of-end op-of-requires returns add-e mul-op-of-2 sub-op-of-2 part-op-of-start-2 part-op-of-end-2 op-of-requires-2 returns-2)

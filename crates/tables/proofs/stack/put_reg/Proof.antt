@@ -4,20 +4,11 @@ use borrow.Author.Needs.{needs}
 use Rattle.tables.proofs.stack.put_reg.Statement.{statement}
 use Rattle.tables.proofs.stack.put_reg.Tie as tie
 
-sub-base : tie.Need-sub-base
-sub-base c = search needs
+sub-base-at : tie.Need-sub-base-at
+sub-base-at c = search needs
 
-mul-base : tie.Need-mul-base
-mul-base c = search needs
-
-add-base : tie.Need-add-base
-add-base c = search needs
-
-mul-base-2 : tie.Need-mul-base-2
-mul-base-2 c = search needs
-
-shared-slice-read-base : tie.Need-shared-slice-read-base
-shared-slice-read-base c = search needs
+base-at-requires : tie.Need-base-at-requires
+base-at-requires c κs = search needs
 
 add-at : tie.Need-add-at
 add-at c = search needs
@@ -32,19 +23,9 @@ same-length : tie.Need-same-length
 same-length c = search needs
 
 returns : tie.Need-returns
-returns c = let a = c .before .args in puts (a .stack .now) (a .frames .now) (a .height) (a .depth) (a .r) (a .v) (c .before .pre)
+returns c =
+    let start = c .before .before .before in let a = start .args in
+    puts (a .stack .now) (a .frames .now) (a .height) (a .depth) (a .r) (a .v) (start .pre) (c .base-at .result) (c .base-at .ensures)
 
 pub put-reg-spec : {M : Type 1} → statement M
-put-reg-spec =
-    tie.close
-    (tie.spec
-    sub-base
-    mul-base
-    add-base
-    mul-base-2
-    shared-slice-read-base
-    add-at
-    mul-stack
-    slice-write-stack
-    same-length
-    returns)
+put-reg-spec = tie.close (tie.spec sub-base-at base-at-requires add-at mul-stack slice-write-stack same-length returns)
