@@ -1,6 +1,6 @@
 //! A proved coroutine switch, for Rust programs.
 //!
-//! A [`Machine`] owns the words of one machine; each of the paper's 28 calls
+//! A [`Machine`] owns the words of one machine; each of 01's 28 calls
 //! is a method with typed operands, and answers an [`Answer`]. The functions
 //! behind it are compiled from proved code (`crates/boundary`): answers and
 //! words are those of the definitions, for every call.

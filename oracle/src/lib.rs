@@ -1,5 +1,5 @@
 //! States, calls and answers of the coroutine switch as plain values, with a
-//! soundness test, generators, a second engine written from the paper, and
+//! soundness test, generators, a second engine written from 01, and
 //! recorded answers. Nothing here needs the original. `library` is the static
 //! library, where it is linked.
 
