@@ -216,8 +216,12 @@ def main():
     if run:
         tiles.append(tile(escape(run[2]), "the last line of <code>./test</code>", "good" if run[2].endswith(" 0 failed") else "bad"))
     head = f"<p class=faint>Made from the sources at commit <code>{commit}</code>{' with files changed since' if changed else ''}"
-    if run and run[0]:
-        head += f"; the run is of commit <code>{escape(run[0][0][:12])}</code>{escape(run[0][1])}"
+    if run and run[0] and run[0][0].startswith(commit) and not changed and not run[0][1]:
+        head += ", which is the commit of the run"
+    elif run and run[0]:
+        head += f"; <span class=bad>the run is of commit <code>{escape(run[0][0][:12])}</code>{escape(run[0][1])}</span>"
+    else:
+        head += "; <span class=bad>what is in target/ is no whole run of <code>./test</code></span>"
     head += f". {datetime.now(timezone.utc):%d %B %Y, %H:%M} UTC.</p>"
 
     section("promise", "What is promised")
