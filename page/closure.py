@@ -12,7 +12,6 @@ import sys
 from pathlib import Path
 
 ROOT = Path(__file__).resolve().parent.parent
-CRATES = ROOT / "crates"
 MARKS = r"(?:(?:unfoldable|abbrev|axiom|pub)\s+)*"
 WORD = re.compile(r"[^\s(){}\[\];,λ→]+")
 

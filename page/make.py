@@ -194,7 +194,7 @@ def absent(text):
 def main():
     proved, wrong, run = crates(), list(edits()), said()
     demands = list(statements())
-    every, outside = closure.closure(*[one for _, one, _ in demands])
+    every, _ = closure.closure(*[one for _, one, _ in demands])
     known = {one.key for one in every}
     commit, changed = git("rev-parse", "--short=12", "HEAD"), git("status", "--porcelain", "--untracked-files=no")
     parts, sections = [], []
@@ -207,7 +207,6 @@ def main():
     done = [one for one in proved if one[1]]
     refused = sum(1 for _, _, _, facts, there in wrong if there and facts and all(found for _, found in facts))
     logs = sum(1 for one in wrong if one[4])
-    assumed = sorted({axiom for one in done for axiom in one[4]})
     tiles = [tile(f"{len(done)} of {len(proved)}", "crates proved", "good" if len(done) == len(proved) else "bad")]
     if done:
         tiles.append(tile(f"{sum(one[2] or 0 for one in done):,}", "functions proved equal to their contracts"))
