@@ -6,7 +6,7 @@
 
 From the statement's own text on, each name is followed to where it is declared: a definition, a record or a data type of some crate's
 specs/, a struct or an enum of its src/. Names of the toolchain's libraries are not followed; they are listed. A name counts although a
-variable may hide it, so the sum is never too small. Lines are those of the declarations, without comments and imports."""
+variable may hide it, so the sum is rather too large than too small. Lines are those of the declarations, without comments and imports."""
 import re
 import sys
 from pathlib import Path
