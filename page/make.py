@@ -157,7 +157,7 @@ def said():
             if current:
                 current[2] = (found.group(1), found.group(2))
             current = None
-        elif current:
+        elif current and row.strip(" .") and not re.match(r"running \d+ tests?$|test result: ok\. 0 passed", row):
             current[1].append(row)
     return commit, tests, rows[-1] if rows else ""
 
