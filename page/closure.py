@@ -6,13 +6,12 @@
 
 From the statement's own text on, each name is followed to where it is declared: a definition, a record or a data type of some crate's
 specs/, a struct or an enum of its src/. Names of the toolchain's libraries are not followed; they are listed. A name counts although a
-variable may hide it, so the sum is never too small. Lines are those of the declarations, without comments and imports."""
+variable may hide it, so the sum is rather too large than too small. Lines are those of the declarations, without comments and imports."""
 import re
 import sys
 from pathlib import Path
 
 ROOT = Path(__file__).resolve().parent.parent
-CRATES = ROOT / "crates"
 MARKS = r"(?:(?:unfoldable|abbrev|axiom|pub)\s+)*"
 WORD = re.compile(r"[^\s(){}\[\];,λ→]+")
 
@@ -44,66 +43,47 @@ class File:
         (self.read_antt if path.suffix == ".antt" else self.read_rt)(text.splitlines())
 
     def add(self, line, name, kind, rows, comment):
-        made = Declaration(self.path, line, name, kind, "\n".join(rows), "\n".join(comment))
-        self.declared[name] = made
-        return made
+        made = self.declared[name] = Declaration(self.path, line, name, kind, "\n".join(rows), "\n".join(comment))
+        if kind == "data":
+            for row in rows[1:]:
+                if found := re.match(r"\s+(\S+) :", row):
+                    self.inner[found.group(1)] = made
+
+    def read_use(self, row):
+        found = re.match(r"(pub )?use (\S+?)(?:\.\{(.*)\}| as (\S+))?$", row)
+        if not found:
+            return False
+        public, module, names, alias = found.groups()
+        if alias:
+            self.aliases[alias] = module
+        for one in filter(None, (names or "").split(",")):
+            name, _, other = one.strip().partition(" as ")
+            (self.passed if public else self.uses)[(other or name).strip("_")] = (module, name)
+        return True
 
     def read_antt(self, rows):
-        comment, section, indent = [], "", ""
-        current, start, body, kind, name = None, 0, [], "", ""
-
-        def close():
-            nonlocal name
-            if name:
-                made = self.add(start, name, kind, body, comment_of)
-                if kind == "data":
-                    for row in body[1:]:
-                        if found := re.match(r"\s+(\S+) :", row):
-                            self.inner[found.group(1)] = made
-            name = ""
-
-        comment_of = []
-        for number, row in enumerate(rows, 1):
-            if found := re.match(r"module _ (.*) where$", row):
-                close()
-                section, indent, comment = row, "  ", []
-                continue
-            if row and not row.startswith(" ") and not row.startswith("--"):
-                if indent and not row.startswith(indent):
-                    section, indent = "", ""
-            line = row[len(indent):] if row.startswith(indent) else row
-            if found := re.match(r"(pub )?use (\S+?)(?:\.\{(.*)\}| as (\S+))?$", line):
-                public, module, names, alias = found.groups()
-                for one in (names or "").split(","):
-                    if one.strip():
-                        parts = one.strip().split(" as ")
-                        names = self.passed if public else self.uses
-                        names[parts[-1].strip().strip("_")] = (module, parts[0].strip())
-                if alias:
-                    self.aliases[alias] = module
-                continue
-            if line.startswith("--"):
-                if line.startswith("-- ----"):
-                    comment = []
-                else:
-                    comment = comment + [line]
-                continue
-            if not line.strip():
-                comment = [] if not line.strip() else comment
-                continue
-            if not line.startswith(" "):
-                if found := re.match(MARKS + r"(record|data)\s+(\S+)", line):
-                    close()
-                    kind, name, start, body, comment_of, comment = found.group(1), found.group(2), number, ([section] if section else []) + [line], comment, []
-                    continue
-                found = re.match(MARKS + r"([^\s:]+(?: [^\s:=]+)*?) : ", line)
-                if found and " " not in found.group(1):
-                    close()
-                    kind, name, start, body, comment_of, comment = "definition", found.group(1), number, ([section] if section else []) + [line], comment, []
-                    continue
-            if name:
-                body.append(line)
-        close()
+        """A declaration begins at the margin, of the file or of a section (`module _ .. where`), and goes on to the next; its comment stands right above it."""
+        comment, section, margin, open_ = [], [], "", None
+        for number, row in enumerate(rows + ["end : "], 1):
+            if row.strip() and not row.startswith(margin):
+                section, margin = [], ""
+            row = row[len(margin):]
+            if re.match(r"module _ .* where$", row):
+                section, margin, comment = [row], "  ", []
+            elif not row.strip() or row.startswith("-- ----"):
+                comment = []
+            elif row.startswith("--"):
+                comment.append(row)
+            elif self.read_use(row):
+                comment = []
+            elif found := re.match(MARKS + r"(?:(record|data) (\S+)|([^\s:]+) : )", row):
+                if open_:
+                    self.add(*open_)
+                kind, name, other = found.groups()
+                open_ = (number, name or other, kind or "definition", section + [row], comment)
+                comment = []
+            elif open_:
+                open_[3].append(row)
 
     def read_rt(self, rows):
         at = 0
@@ -132,8 +112,7 @@ class File:
                 else:
                     while rows[end] != "{":
                         end += 1
-                    contract = [one for one in rows[at:end]]
-                    self.add(at + 1, function.group(1), "contract", contract, comment)
+                    self.add(at + 1, function.group(1), "contract", rows[at:end], comment)
                 at = end
             comment = []
             at += 1

@@ -157,7 +157,7 @@ def said():
             if current:
                 current[2] = (found.group(1), found.group(2))
             current = None
-        elif current:
+        elif current and row.strip(" .") and not re.match(r"running \d+ tests?$|test result: ok\. 0 passed", row):
             current[1].append(row)
     return commit, tests, rows[-1] if rows else ""
 
@@ -194,7 +194,7 @@ def absent(text):
 def main():
     proved, wrong, run = crates(), list(edits()), said()
     demands = list(statements())
-    every, outside = closure.closure(*[one for _, one, _ in demands])
+    every, _ = closure.closure(*[one for _, one, _ in demands])
     known = {one.key for one in every}
     commit, changed = git("rev-parse", "--short=12", "HEAD"), git("status", "--porcelain", "--untracked-files=no")
     parts, sections = [], []
@@ -207,7 +207,6 @@ def main():
     done = [one for one in proved if one[1]]
     refused = sum(1 for _, _, _, facts, there in wrong if there and facts and all(found for _, found in facts))
     logs = sum(1 for one in wrong if one[4])
-    assumed = sorted({axiom for one in done for axiom in one[4]})
     tiles = [tile(f"{len(done)} of {len(proved)}", "crates proved", "good" if len(done) == len(proved) else "bad")]
     if done:
         tiles.append(tile(f"{sum(one[2] or 0 for one in done):,}", "functions proved equal to their contracts"))
@@ -216,8 +215,12 @@ def main():
     if run:
         tiles.append(tile(escape(run[2]), "the last line of <code>./test</code>", "good" if run[2].endswith(" 0 failed") else "bad"))
     head = f"<p class=faint>Made from the sources at commit <code>{commit}</code>{' with files changed since' if changed else ''}"
-    if run and run[0]:
-        head += f"; the run is of commit <code>{escape(run[0][0][:12])}</code>{escape(run[0][1])}"
+    if run and run[0] and run[0][0].startswith(commit) and not changed and not run[0][1]:
+        head += ", which is the commit of the run"
+    elif run and run[0]:
+        head += f"; <span class=bad>the run is of commit <code>{escape(run[0][0][:12])}</code>{escape(run[0][1])}</span>"
+    else:
+        head += "; <span class=bad>what is in target/ is no whole run of <code>./test</code></span>"
     head += f". {datetime.now(timezone.utc):%d %B %Y, %H:%M} UTC.</p>"
 
     section("promise", "What is promised")
@@ -247,14 +250,19 @@ def main():
 
     section("axioms", "What is assumed")
     if done:
-        rows = [["crate", "assumed"]] + [[f"`{name}`", "; ".join(axioms)] for name, _, _, _, axioms in proved if axioms]
-        none = [name for name, verdict, _, _, axioms in proved if verdict and not axioms]
-        parts.append(f"<p>The prover's log names the axioms that a program or a library reaches. {len(none)} crates of {len(done)} reach none.</p>")
+        rows = [["", "assumed"]] + [[f"`{name}`", "; ".join(axioms)] for name, _, _, _, axioms in proved if axioms]
+        report = TARGET / "staticlib" / "report"
+        library = report.read_text() if report.exists() else ""
+        if verdict := re.search(r"^logic=proved .*$", library, re.M):
+            rows.append(["the static library", "; ".join(re.findall(r"^axioms .*$", library, re.M)) or "nothing: `" + verdict.group() + "`"])
+        none = [name for name, verdict, _, _, axioms in proved if verdict and not axioms and "foreign=" not in verdict]
+        parts.append("<p>The prover assumes nothing but the contracts of functions that are not Rattle's. A crate's log names those that it declares (<code>foreign=</code>), a program's and a static "
+                     f"library's those that it reaches (<code>axioms</code>). {len(none)} crates of {len(done)} have none.</p>")
         if len(rows) > 1:
             parts.append(html_table(rows))
-        parts.append("<p class=faint>The verdict's line, as the log has it:</p><pre>" + "\n".join(sorted({escape(re.sub(r"functions=\d+ (axioms=\d+ )?", "", one[1])) for one in done})) + "</pre>")
+        parts.append("<p class=faint>The line of the verdict, as the logs have it, without counts:</p><pre>" + "\n".join(sorted({escape(re.sub(r"functions=\d+ (axioms=\d+ )?", "", one[1])) for one in done})) + "</pre>")
     else:
-        parts.append(absent("the axioms, as target/log is not there"))
+        parts.append(absent("what is assumed, as target/log is not there"))
 
     section("calls", "The calls")
     parts.append(html_table(table_after("docs/THEOREMS.md", "# Each call")))

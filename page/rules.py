@@ -34,10 +34,10 @@ def rows_of(page):
         if row.startswith("## "):
             section = row[3:]
         if row.startswith("### "):
-            yield section, 0, row[4:], False, ""
+            yield section, 0, row[4:], False, []
         cells = [one.strip() for one in row.strip("|").split(" | ")]
         if row.startswith("| ") and cells[0].strip().isdigit():
-            yield section, int(cells[0]), cells[1], cells[2] == "”", " ".join(cells[3:])
+            yield section, int(cells[0]), cells[1], cells[2] == "”", cells[3:]
 
 
 def path_of(name):
@@ -102,7 +102,7 @@ def check_rules():
         if number != expected:
             say(f"docs/RULES.md: {number} stands where {expected} should")
         expected = number + 1
-        places = re.findall(r"`([A-Za-z0-9_/]+\.(?:antt|rt)): ([A-Za-z0-9_-]+)`", cells)
+        places = re.findall(r"`([A-Za-z0-9_/]+\.(?:antt|rt)): ([A-Za-z0-9_-]+)`", " ".join(cells))
         for file, name in places:
             names += 1
             path = path_of(file)
@@ -110,7 +110,7 @@ def check_rules():
                 say(f"docs/RULES.md, {number}: no {name} in {path}")
         if marked:
             quoted += 1
-            files = [path_of(file) for file, _ in places]
+            files = [path_of(file) for file in re.findall(r"`([A-Za-z0-9_/]+\.(?:antt|rt)): ", cells[0])]
             if not any(shares(plain(one), plain(sentence)) for file in files for _, one in quotations.get(file, [])):
                 say(f"docs/RULES.md, {number}: is quoted no more in {', '.join(map(str, files))}")
     others = [plain(one) for one in re.findall(r'^- "([^"]+)"', RULES.read_text(), re.M)]

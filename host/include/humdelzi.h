@@ -1,4 +1,4 @@
-/* A proved coroutine switch, for C programs: one inline function for each of 01's calls.
+/* A proved coroutine switch, for C programs: one inline function for each call of 01 (the build description, docs/RULES.md).
  *
  * The functions of the static library (target/staticlib/libboundary.a) and all words are described in docs/CALLS.md. A machine is nine
  * slices of words that the host lends, its numbers in 25 words, and a fuel record of four, which is the host's. Each function here

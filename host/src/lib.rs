@@ -1,8 +1,8 @@
 //! A proved coroutine switch, for Rust programs.
 //!
-//! A [`Machine`] owns the words of one machine; each of the paper's 28 calls
-//! is a method with typed operands, and answers an [`Answer`]. The functions
-//! behind it are compiled from proved code (`crates/boundary`): answers and
+//! A [`Machine`] owns the words of one machine; each of the 28 calls of "01",
+//! the build description with the exact rules (`docs/RULES.md`), is a method
+//! with typed operands, and answers an [`Answer`]. The functions behind it are compiled from proved code (`crates/boundary`): answers and
 //! words are those of the definitions, for every call.
 //!
 //! The words are private. A set-up leaves a sound machine, every call leaves

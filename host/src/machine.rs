@@ -1,4 +1,4 @@
-//! A machine, and each of the paper's calls as a method.
+//! A machine, and each of 01's calls as a method.
 
 use std::{error, fmt};
 

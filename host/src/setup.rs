@@ -82,7 +82,7 @@ impl Default for Costs {
 }
 
 /// A set-up, built piece by piece. [`Setup::machine`] tests it: 11 if it
-/// breaks a rule of the paper's closing list.
+/// breaks a rule of 01's closing list.
 ///
 /// ```
 /// use humdelzi::{Fault, Function, Setup};

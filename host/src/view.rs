@@ -19,7 +19,7 @@ pub struct Frame {
     pub cont: Cont,
 }
 
-/// A coroutine's state; the number is the paper's code.
+/// A coroutine's state; the number is 01's code.
 #[derive(Clone, Copy, PartialEq, Eq, Debug)]
 #[allow(missing_docs)]
 pub enum State {
@@ -41,7 +41,7 @@ impl State {
         State::Failed,
     ];
 
-    /// The paper's code, which CoroStatus writes.
+    /// 01's code, which CoroStatus writes.
     #[must_use]
     pub fn code(self) -> u64 {
         self as u64

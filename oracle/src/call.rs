@@ -1,4 +1,4 @@
-//! The calls of the paper, and their answers.
+//! The calls of 01, and their answers.
 
 use crate::world::{Cont, Setup, Stop};
 
@@ -46,7 +46,7 @@ pub enum Call {
 }
 
 impl Call {
-    /// The calls' names, in the paper's order; the index is the call's number.
+    /// The calls' names, in 01's order; the index is the call's number.
     pub const NAMES: [&'static str; 28] = [
         "CoroNew",
         "CoroNewIndirect",

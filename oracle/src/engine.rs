@@ -15,7 +15,7 @@ pub trait Engine {
     fn world(&self) -> World;
 }
 
-/// The paper's gate, short of soundness: 11 for a bad set-up or no fault of
+/// 01's gate, short of soundness: 11 for a bad set-up or no fault of
 /// `unwind`'s, then 12 or 15, then 13 or 16. It is the same for every engine.
 #[must_use]
 pub fn gate(w: &World, call: &Call) -> Option<u8> {

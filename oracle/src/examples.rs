@@ -1,5 +1,5 @@
-//! The paper's P1 to P8 (depth limit 4, stack limit 10), as calls from a
-//! set-up or, where the paper names a state, from that state.
+//! 01's P1 to P8 (depth limit 4, stack limit 10), as calls from a
+//! set-up or, where 01 names a state, from that state.
 
 use crate::call::{Answer, Call, Case, Kind};
 use crate::engine::Engine;
@@ -7,7 +7,7 @@ use crate::sound::sound;
 use crate::word;
 use crate::world::{Costs, Func, Object, Setup, State, World};
 
-/// Calls, and whether the answers and the state after are the paper's.
+/// Calls, and whether the answers and the state after are 01's.
 pub struct Example {
     pub name: &'static str,
     start: World,

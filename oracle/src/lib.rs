@@ -1,7 +1,8 @@
 //! States, calls and answers of the coroutine switch as plain values, with a
-//! soundness test, generators, a second engine written from the paper, and
-//! recorded answers. Nothing here needs the original. `library` is the static
-//! library, where it is linked.
+//! soundness test, generators, a second engine written from 01 (the build
+//! description with the exact rules, docs/RULES.md), and recorded answers.
+//! Nothing here needs the original. `library` is the static library, where it
+//! is linked.
 
 pub mod aimed;
 #[cfg(library)]

@@ -1,4 +1,4 @@
-//! The paper's rules: which set-ups are good, and which machines are sound.
+//! 01's rules: which set-ups are good, and which machines are sound.
 //! Each rule is one function with its words. `sound` names the first rule
 //! that a state breaks.
 //!

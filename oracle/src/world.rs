@@ -18,7 +18,7 @@ pub struct Func {
     pub handlers: Vec<Handler>,
 }
 
-/// The set-up's costs in bytes: the paper's F, C, A, I, E, T.
+/// The set-up's costs in bytes: 01's F, C, A, I, E, T.
 #[derive(Clone, Copy, PartialEq, Eq, Debug, Default)]
 pub struct Costs {
     pub frame: u64,
@@ -79,7 +79,7 @@ pub struct Active {
     pub driver: Driver,
 }
 
-/// A coroutine's state; the number is the paper's code.
+/// A coroutine's state; the number is 01's code.
 #[derive(Clone, Copy, PartialEq, Eq, Debug)]
 pub enum State {
     Created,
@@ -142,6 +142,30 @@ pub struct Coro {
     pub max_frames: usize,
     pub regs: Vec<u64>,
     pub frames: Vec<Frame>,
+}
+
+impl Coro {
+    /// One that has nothing yet; the largest key's start is -1.
+    pub fn blank(state: State) -> Self {
+        Coro {
+            state,
+            closing: false,
+            finalized: false,
+            task: false,
+            seq: 0,
+            row: 0,
+            resume_dst: 0,
+            payload: 0,
+            key: 0,
+            max_key: -1,
+            result: 0,
+            signal: 0,
+            max_regs: 0,
+            max_frames: 0,
+            regs: Vec::new(),
+            frames: Vec::new(),
+        }
+    }
 }
 
 #[derive(Clone, PartialEq, Eq, Debug)]

@@ -82,7 +82,7 @@ pub enum Kind {
     Reference,
 }
 
-/// A coroutine's state, with the paper's code.
+/// A coroutine's state, with 01's code.
 #[derive(Clone, Copy, PartialEq, Eq, Debug)]
 pub enum CoroState {
     Created = 0,

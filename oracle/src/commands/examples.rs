@@ -1,4 +1,4 @@
-//! The paper's examples on an engine.
+//! 01's examples on an engine.
 
 use oracle::engine::Engine;
 use oracle::examples::{all, sizes_below};

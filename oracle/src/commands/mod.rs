@@ -27,7 +27,7 @@ const USAGE: &str = "usage: oracle COMMAND
   set-ups SEED N    N set-ups, good and bad, through the library
   trace SEED N      N random sequences as text
   damaged SEED N    N states with one number changed, and whether each is sound
-  examples          the paper's P1 to P8
+  examples          01's P1 to P8
   sizes             largest sizes below the saved ones, on the original as it is
   record SEED N     writes recorded/answers.txt: N sequences or more
   verify            replays recorded/answers.txt

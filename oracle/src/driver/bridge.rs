@@ -11,7 +11,7 @@ use crate::machine::{Active, Cont, Driver, Frame, Machine, Stop, Wake};
 use crate::map::Cursor;
 use crate::program::{FuncInfo, Program, HOOKS};
 
-/// The paper's fault numbers 1 to 10, in order.
+/// 01's fault numbers 1 to 10, in order.
 pub(crate) const KINDS: [ErrorKind; 10] = [
     ErrorKind::NullReference,
     ErrorKind::TypeError,
@@ -32,7 +32,7 @@ pub(crate) fn number_of(kind: ErrorKind) -> u8 {
 
 /// The set-up costs of this build, read off the original's own types.
 pub(crate) fn costs() -> Costs {
-    let coro = Object::Coro(Box::new(coro_object(&blank_coro())));
+    let coro = Object::Coro(Box::new(coro_object(&Coro::blank(State::Created))));
     let iter = Object::Iter(Box::new(iter_object(0, false, None)));
     let error = error_object(1, 0, 0, 0);
     Costs {
@@ -221,27 +221,6 @@ const STATES: [CoroState; 6] = [
     CoroState::Returned,
     CoroState::Failed,
 ];
-
-fn blank_coro() -> Coro {
-    Coro {
-        state: State::Created,
-        closing: false,
-        finalized: false,
-        task: false,
-        seq: 0,
-        row: 0,
-        resume_dst: 0,
-        payload: 0,
-        key: 0,
-        max_key: 0,
-        result: 0,
-        signal: 0,
-        max_regs: 0,
-        max_frames: 0,
-        regs: Vec::new(),
-        frames: Vec::new(),
-    }
-}
 
 /// A buffer of exactly the given capacity, or as large as its contents: the
 /// original keeps a coroutine's largest saved sizes as capacities.

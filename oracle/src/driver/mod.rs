@@ -1,4 +1,4 @@
-//! The original behind the paper's calls: the gate, the added calls, rows,
+//! The original behind 01's calls: the gate, the added calls, rows,
 //! and answer 14 are the driver's; everything else is the original's code.
 
 pub(crate) mod bench;

@@ -1,4 +1,4 @@
-//! Random machines that keep the paper's paragraph "Sound", and nothing more.
+//! Random machines that keep 01's paragraph "Sound", and nothing more.
 
 use super::limits::tighten;
 use super::setups::{pc, setup};
@@ -72,7 +72,7 @@ fn objects(rng: &mut Rng, w: &mut World) {
     let mut made: Vec<Slot> = Vec::new();
     for _ in 0..rng.range(0, 6) {
         let state = states(rng);
-        made.push(filled(rng, Object::Coro(Box::new(blank(state)))));
+        made.push(filled(rng, Object::Coro(Box::new(Coro::blank(state)))));
     }
     for _ in 0..rng.below(3) {
         let i = rng.pick(&EDGES);
@@ -100,27 +100,6 @@ fn objects(rng: &mut Rng, w: &mut World) {
 fn filled(rng: &mut Rng, object: Object) -> Slot {
     let tag = if rng.chance(85) { 0 } else { rng.pick(&[1, 0x7FFF, 0x8000, 0xFFFF]) };
     Slot { tag, object }
-}
-
-fn blank(state: State) -> Coro {
-    Coro {
-        state,
-        closing: false,
-        finalized: false,
-        task: false,
-        seq: 0,
-        row: 0,
-        resume_dst: 0,
-        payload: 0,
-        key: 0,
-        max_key: -1,
-        result: 0,
-        signal: 0,
-        max_regs: 0,
-        max_frames: 0,
-        regs: Vec::new(),
-        frames: Vec::new(),
-    }
 }
 
 /// What the words in a frame of `func` must at least number: its catch

@@ -112,27 +112,6 @@ fn coro(c: &mut impl Codec, o: &mut Coro) -> Res {
     frames(c, &mut o.frames)
 }
 
-fn blank_coro() -> Coro {
-    Coro {
-        state: State::Created,
-        closing: false,
-        finalized: false,
-        task: false,
-        seq: 0,
-        row: 0,
-        resume_dst: 0,
-        payload: 0,
-        key: 0,
-        max_key: -1,
-        result: 0,
-        signal: 0,
-        max_regs: 0,
-        max_frames: 0,
-        regs: Vec::new(),
-        frames: Vec::new(),
-    }
-}
-
 fn object(c: &mut impl Codec, o: &mut Object) -> Res {
     let was = match o {
         Object::Empty => 0,
@@ -151,7 +130,7 @@ fn object(c: &mut impl Codec, o: &mut Object) -> Res {
             2 => Object::Int(0),
             3 => Object::Iter { src: 0, done: false, key: None },
             4 => Object::Error { number: 0, func: 0, pc: 0, payload: 0 },
-            _ => Object::Coro(Box::new(blank_coro())),
+            _ => Object::Coro(Box::new(Coro::blank(State::Created))),
         };
     }
     match o {

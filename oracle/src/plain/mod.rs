@@ -1,4 +1,4 @@
-//! A second engine, written from the paper's prose over plain values. It is
+//! A second engine, written from 01's prose over plain values. It is
 //! slow and simple: it checks the driver around the original, and its wrong
 //! forms (see `wrong`) show what the recorded answers can tell apart.
 

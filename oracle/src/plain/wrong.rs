@@ -1,4 +1,4 @@
-//! Wrong engines: each breaks one sentence of the paper.
+//! Wrong engines: each breaks one sentence of 01.
 
 macro_rules! wrongs {
     ($($name:ident: $sentence:literal,)*) => {

@@ -1,4 +1,4 @@
-//! Stand-in: the coding of a dynamic word, after the paper's section "Leaves
+//! Stand-in: the coding of a dynamic word, after 01's section "Leaves
 //! the listed files lack".
 
 use oracle::word;
