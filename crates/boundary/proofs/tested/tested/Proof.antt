@@ -18,20 +18,23 @@ mem c = nine (c .args .stack .now) (c .args .frames .now) (c .args .chain .now) 
 abbrev of : tie.Start → Host
 of c = host (mem c) (c .args .machine .now) (c .args .fuel .now)
 
-passed : (c : tie.Else1) → let start = c .before .before .before .before .before .before .before .before .before .before .before .before .before in numbersOk (start .args .machine .now) (start .args .fuel .now) ≡ true
+abbrev start-of : tie.After-numbers-ok → tie.Start
+start-of c = c .before .before .before .before .before .before .before .before .before .before .before .before
+
+passed : (c : tie.Else1) → let start = start-of (c .before) in numbersOk (start .args .machine .now) (start .args .fuel .now) ≡ true
 passed c = sym (c .before .numbers-ok .ensures) ∙ not-false _ (c .if1 .left)
 
 numbers-ok-requires : tie.Need-numbers-ok-requires
 numbers-ok-requires c κs = search needs
 
 returns : tie.Need-returns
-returns c = fails-numbers (of (c .before .before .before .before .before .before .before .before .before .before .before .before .before)) (sym (c .before .numbers-ok .ensures) ∙ not-true _ (c .if1 .taken))
+returns c = fails-numbers (of (start-of (c .before))) (sym (c .before .numbers-ok .ensures) ∙ not-true _ (c .if1 .taken))
 
 machine-of-requires : tie.Need-machine-of-requires
-machine-of-requires c κs = let a = c .before .before .before .before .before .before .before .before .before .before .before .before .before .args in long-numbers (a .machine .now) (a .fuel .now) (passed c) .0
+machine-of-requires c κs = let a = start-of (c .before) .args in long-numbers (a .machine .now) (a .fuel .now) (passed c) .0
 
 fuel-of-requires : tie.Need-fuel-of-requires
-fuel-of-requires c κs = let a = c .before .before .before .before .before .before .before .before .before .before .before .before .before .before .args in long-numbers (a .machine .now) (a .fuel .now) (passed (c .before)) .1
+fuel-of-requires c κs = let a = start-of (c .before .before) .args in long-numbers (a .machine .now) (a .fuel .now) (passed (c .before)) .1
 
 sound-words-requires : tie.Need-sound-words-requires
 sound-words-requires c κs = search needs
