@@ -12,24 +12,28 @@ use Rattle.lists.specs.Pick.{pick, pick-true}
 use Rattle.lists.specs.Parts.{splice}
 use Rattle.heap.specs.Fault.{numberOf}
 use Rattle.heap.specs.declared.fault.Fault.{Fault}
-use Rattle.model.specs.World.{World}
+use Rattle.model.specs.World.{World, After, withFuel}
+use Rattle.model.specs.Gate.{refused}
+use Rattle.model.specs.Added.{refuel, grantTooLarge, grant}
+use Rattle.model.specs.Added as Added
 use Rattle.model.specs.Lists.{each, among}
 use Rattle.model.specs.Call.{isWord, typed, Operation}
-use Rattle.model.specs.Step.{Out}
+use Rattle.model.specs.Step.{Out, call}
 use Rattle.model.specs.declared.call.Op.{Op}
 use Rattle.model.specs.declared.call.Answer.{Answer}
 use Rattle.soundness.proofs.Tests.{and-left, and-right, both, no-true}
 use Rattle.sheet.proofs.Sentences as Sheet
 use Rattle.tables.proofs.Padded.{length-splice}
+use Rattle.memory.specs.declared.machine.Machine.{Machine}
 use Rattle.memory.specs.declared.machine.Sizes.{Sizes}
-use Rattle.words.specs.Words.{sizesOf}
+use Rattle.words.specs.Words.{sizesOf, lengthsOf}
 use Rattle.words.specs.Decode.{setupOf}
 use Rattle.calls.specs.Call.{opOf, opWords}
 use Rattle.calls.specs.declared.call.Read.{Read}
 use Rattle.calls.proofs.Back.{read-back}
 use Rattle.calls.proofs.Typed.{read-typed}
 use Rattle.claims.specs.Engine.{run}
-use Rattle.lent.specs.Step.{State, isSound, decoded, stepWords, setUpOk, setUpWords, Call, Do, step}
+use Rattle.lent.specs.Step.{State, Left, stateIn, isSound, decoded, stepWords, setUpOk, setUpWords, Call, Do, step}
 use Rattle.lent.specs.Sentences.{unchanging, NoSuchFault}
 use Rattle.lent.proofs.Kept.{words-kept, untested}
 use Rattle.lent.proofs.Sentences.{sentences}
@@ -194,6 +198,54 @@ granted h n xs fs′ xs′ r w e g =
     ap (λ (x : Read). tested (callIn h x xs .host)) (sym (read-back o w)) ∙ called h (opWords o) xs (grant-words n w) e in
     ap (λ (fs : List ℕ). tested (host (h .words) (h .machine) fs)) (g .fuel) ∙ any-fuel h after e k
 
+-- of the world only the fuel changes
+abbrev grant-by : ℕ → World → Bool → After Answer
+grant-by n w b = pick b (refused w Fault.GrantTooLarge) (Added.accepted (withFuel (refuel (w .fuel .bank) (Added.granted n w) (w .fuel)) w))
+
+grant-fuel : (n : ℕ) (w : World) (b : Bool) → grant-by n w b .world ≡ withFuel (grant-by n w b .world .fuel) w
+unfolding pick
+grant-fuel n w true = refl
+grant-fuel n w false = refl
+
+grant-world : (n : ℕ) (w : World) → call (Op.Grant n) w .world ≡ withFuel (call (Op.Grant n) w .world .fuel) w
+unfolding call grant
+grant-world n w = grant-fuel n w (grantTooLarge n w)
+
+module _ (s : State) (n : ℕ) (w : isWord n ≡ true) (e : isSound s ≡ true) where
+  abbrev after-grant : State
+  after-grant = stepWords s (Op.Grant n) .state
+
+  grant-state : after-grant ≡ stateIn (lengthsOf (s .words)) (withFuel (call (Op.Grant n) (decoded s) .world .fuel) (decoded s))
+  unfolding typed
+  grant-state =
+      ap (λ (x : Left). x .state) (words-kept .once s (record { op = Op.Grant n; within = w }) e)
+      ∙ ap (stateIn (lengthsOf (s .words))) (grant-world n (decoded s))
+
+  same-words : after-grant .words ≡ s .words
+  same-words = ap (λ (x : State). x .words) grant-state ∙ ap (λ (x : State). x .words) (words-kept .own s e)
+
+  same-numbers : after-grant .machine ≡ s .machine
+  same-numbers = ap (λ (x : State). x .machine) grant-state ∙ ap (λ (x : State). x .machine) (words-kept .own s e)
+
+grants-by : (h : Host) (n : ℕ) (xs : List ℕ) → isWord n ≡ true → (room ok : Bool) → tested h ≡ ok
+    → let after = by h (Read.Is (Op.Grant n)) xs room ok .host in after ≡ host (h .words) (h .machine) (after .fuel)
+unfolding pick
+grants-by h n xs w false ok e = refl
+grants-by h n xs w true false e = refl
+grants-by h n xs w true true e =
+    let s = stateOf h in
+    let p = same-words s n w (sound h e) in
+    let t = numbers-each (h .machine) (h .fuel) (numbers h e) in
+    let q =
+    ap (λ (m : Machine). splice (h .machine) 0 (machineWords m)) (same-numbers s n w (sound h e))
+    ∙ same-machine (h .machine) (leb-true 25 (length (h .machine)) (t .0)) (t .2) in
+    λ i. host (p i) (q i) (splice (h .fuel) 0 (fuelWords (stepWords s (Op.Grant n) .state .fuel)))
+
+grants : (h : Host) (n : ℕ) (xs : List ℕ) → isWord n ≡ true → let after = callIn h (Read.Is (Op.Grant n)) xs .host in after ≡ host (h .words) (h .machine) (after .fuel)
+grants h n xs w =
+    let p = ap (λ (g : Gave). g .host) (call-is h (Read.Is (Op.Grant n)) xs) in
+    p ∙ grants-by h n xs w (leb 8 (length xs)) (tested h) refl ∙ sym (ap (λ (x : Host). host (h .words) (h .machine) (x .fuel)) p)
+
 -- ---- a set-up
 
 -- by room for the answer, for numbers and fuel, and by the set-up's own test
@@ -309,6 +361,7 @@ library =
       called = called;
       ran = ran;
       granted = granted;
+      grants = grants;
       any-fuel = any-fuel;
       kept = kept;
       no-call = no-call;

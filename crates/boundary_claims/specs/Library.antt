@@ -51,6 +51,8 @@ pub record Library : Type 0 where
   pub called : (h : Host) (ws xs : List ℕ) → each isWord ws ≡ true → tested h ≡ true → tested (callIn h (opOf ws) xs .host) ≡ true
   pub ran : (h : Host) (cs xs : List ℕ) → each isWord cs ≡ true → tested h ≡ true → tested (runHost h cs xs .host) ≡ true
   pub granted : (h : Host) (n : ℕ) (xs fs′ xs′ : List ℕ) (r : ℕ) → isWord n ≡ true → tested h ≡ true → Granted h n xs fs′ xs′ r → tested (host (h .words) (h .machine) fs′) ≡ true
+  -- `bvm_grant`, which writes the fuel and the answer alone, is the call: that leaves all else too
+  pub grants : (h : Host) (n : ℕ) (xs : List ℕ) → isWord n ≡ true → let after = callIn h (Read.Is (Op.Grant n)) xs .host in after ≡ host (h .words) (h .machine) (after .fuel)
   -- with its own fuel, or with that of any other machine that passes
   pub any-fuel : (h g : Host) → tested h ≡ true → tested g ≡ true → tested (host (h .words) (h .machine) (g .fuel)) ≡ true
   -- and there `bvm_kept` is `bvm_call`

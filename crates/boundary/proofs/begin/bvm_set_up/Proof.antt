@@ -24,7 +24,9 @@ abbrev start-of : tie.Else1 → tie.Start
 start-of c = c .before .before .before .before .before .before .before .before .before .before .before .before .before .before
 
 returns : tie.Need-returns
-returns c = let start = c .before .before .before .before .before .before .before .before .before .before .before .before .before .before in set-up-short (of start) (start .args .given .now) (start .args .answer .now) (c .if1 .taken)
+returns c =
+    let start = c .before .before .before .before .before .before .before .before .before .before .before .before .before .before in
+    set-up-short (of start) (start .args .given .now) (start .args .answer .now) (c .if1 .taken)
 
 tell-requires : tie.Need-tell-requires
 tell-requires c κs = c .before .before .if1 .left
@@ -53,7 +55,11 @@ returns-3 c =
     (told .tell2 .ensures .0) (told .tell2 .ensures .1)
 
 begin-requires : tie.Need-begin-requires
-begin-requires c κs = record { machine = c .before .before .before .before .before .before .before .before .before .before .before .before .before .if2 .left; fuel = c .before .before .before .before .before .before .before .before .before .before .before .before .if3 .left; answer = c .before .before .before .before .before .before .before .before .before .before .before .before .before .before .if1 .left }
+begin-requires c κs =
+    let at-if3 = c .before .before .before .before .before .before .before .before .before .before .before .before in
+    let at-if2 = at-if3 .before in
+    let at-if1 = at-if2 .before in
+    record { machine = at-if2 .if2 .left; fuel = at-if3 .if3 .left; answer = at-if1 .if1 .left }
 
 same-length-3 : tie.Need-same-length-3
 same-length-3 c = begin-of c .begin .kept .0

@@ -128,8 +128,8 @@ same-length-12 c = c .before .before .tell2 .kept .0
 returns-2 : tie.Need-returns-2
 returns-2 c =
     let told = c .before .before in
-    let at-put-fuel = c .before .before .before .before .before .before in
-    let at-put-machine = c .before .before .before .before .before .before .before .before .before .before in
+    let at-put-fuel = told .before .before .before .before in
+    let at-put-machine = at-put-fuel .before .before .before .before in
     let did = do-read-of c in
     let at-op = did .before .before .before .before .before .before .before .before .before in
     let at-fuel = at-op .before in

@@ -45,7 +45,7 @@ returns-2 c =
     let at-fuel = test .before in
     let at-machine = at-fuel .before in
     let at-if1 = at-machine .before in
-    let h = of (at-if1 .before .before .before .before .before .before .before .before .before .before .before .before .before) in
+    let h = of (start-of (at-if1 .before)) in
     fails-sound h (passed at-if1)
     (sym (read-sound h (test .sound-words .result) (at-machine .machine-of .result) (at-fuel .fuel-of .result) (at-machine .machine-of .ensures) (at-fuel .fuel-of .ensures) (test .sound-words .ensures))
     ∙ not-true _ (c .if2 .taken))
@@ -56,7 +56,7 @@ sizes-held-requires c κs =
     let at-fuel = test .before in
     let at-machine = at-fuel .before in
     let at-if1 = at-machine .before in
-    let start = at-if1 .before .before .before .before .before .before .before .before .before .before .before .before .before in
+    let start = start-of (at-if1 .before) in
     let a = start .args in
     record {
       numbers = long-numbers (a .machine .now) (a .fuel .now) (passed at-if1) .0;
@@ -70,7 +70,7 @@ returns-3 c =
     let at-fuel = test .before in
     let at-machine = at-fuel .before in
     let at-if1 = at-machine .before in
-    let h = of (at-if1 .before .before .before .before .before .before .before .before .before .before .before .before .before) in
+    let h = of (start-of (at-if1 .before)) in
     c .sizes-held .ensures
     ∙ all-tested h (passed at-if1)
     (sym (read-sound h (test .sound-words .result) (at-machine .machine-of .result) (at-fuel .fuel-of .result) (at-machine .machine-of .ensures) (at-fuel .fuel-of .ensures) (test .sound-words .ensures))
