@@ -41,12 +41,12 @@ pub fn with_bit(w: u64, i: u64) -> u64
     w | (1 << i)
 }
 
-// Whether each of the first n words does, and none stands there twice: a bit for each slot.
+// Whether each of the first n words does, and none stands there twice: a mark for each slot.
 fn entries_ok(q: &[u64], n: usize, slots: &[u64], count: usize, task: bool) -> bool
     requires { ⌜ QueueAsks (now q) (now slots) n count ⌝ }
     ensures { λ r. ⌜ r ≡ entriesOk task (slotsOf count (now (slots .entry))) (take n (now (q .entry))) ⌝ }
 {
-    let mut seen = [0u64; 64];
+    let mut seen = [false; 4096];
     let mut i = n;
     while i > 0 {
         i -= 1;
@@ -54,14 +54,11 @@ fn entries_ok(q: &[u64], n: usize, slots: &[u64], count: usize, task: bool) -> b
         if !is_marked(slots, count, task, w) {
             return false;
         }
-        let x = w % 0x1_0000_0000;
-        let at = (x / 64) as usize;
-        let v = seen[at];
-        if bit(v, x % 64) {
+        let x = (w % 0x1_0000_0000) as usize;
+        if seen[x] {
             return false;
         }
-        let u = with_bit(v, x % 64);
-        seen[at] = u;
+        seen[x] = true;
     }
     true
 }

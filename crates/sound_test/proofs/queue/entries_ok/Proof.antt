@@ -8,8 +8,7 @@ use lib.ListN.{length-set, getD}
 use Rattle.heap.specs.Word.{slotOf}
 use Rattle.heap.specs.Heap.{slotsOf, coroOf}
 use Rattle.sound_test.specs.Queue.{byCoro, markOf}
-use Rattle.sound_test.proofs.Bits.{put-set}
-use Rattle.sound_test.proofs.Entries.{Entries, first, small, unmarked, again, one-more, all}
+use Rattle.sound_test.proofs.Entries.{Entries, put-mark, first, small, unmarked, again, one-more, all}
 use Rattle.sound_test.proofs.queue.entries_ok.Statement.{statement}
 use Rattle.sound_test.proofs.queue.entries_ok.Tie as tie
 
@@ -53,40 +52,26 @@ returns c =
     let at-loop = c .before .before .before .before in let start = at-loop .before .before .before in let a = start .args in
     unmarked (a .task) (a .slots .now) (a .q .now) (a .n) (a .count) (start .pre) (at-loop .loop .i - 1) (omega (arith, at-loop .loop .inv .once .within)) (sym (c .before .is-marked .ensures) ∙ not-true _ (c .if1 .taken))
 
-mul-v : tie.Need-mul-v Inv-loop μ-loop
-mul-v c = omega (arith, in-range c)
-
-array-read-v : tie.Need-array-read-v Inv-loop μ-loop
-array-read-v c = omega (arith, in-range c)
-
-bit-requires : tie.Need-bit-requires Inv-loop μ-loop
-bit-requires c κs = omega arith
+array-read-if2 : tie.Need-array-read-if2 Inv-loop μ-loop
+array-read-if2 c = omega (arith, in-range c)
 
 returns-2 : tie.Need-returns-2 Inv-loop μ-loop
 returns-2 c =
-    let at-bit = c .before in let at-loop-test = at-bit .before .before .before .before in let at-loop = at-loop-test .before in let start = at-loop .before .before .before in let a = start .args in
-    again (a .task) (a .slots .now) (a .q .now) (a .n) (a .count) (start .pre) (at-loop .loop .seen) (at-loop .loop .i) (at-loop .loop .inv) (at-loop-test .loop-test .taken) (sym (at-bit .bit .ensures) ∙ c .if2 .taken)
-
-with-bit-requires : tie.Need-with-bit-requires Inv-loop μ-loop
-with-bit-requires c κs = omega arith
-
-mul-seen : tie.Need-mul-seen Inv-loop μ-loop
-mul-seen c = omega (arith, in-range (c .before .before .before))
+    let at-loop-test = c .before .before .before .before in let at-loop = at-loop-test .before in let start = at-loop .before .before .before in let a = start .args in
+    again (a .task) (a .slots .now) (a .q .now) (a .n) (a .count) (start .pre) (at-loop .loop .seen) (at-loop .loop .i) (at-loop .loop .inv) (at-loop-test .loop-test .taken) (c .if2 .taken)
 
 array-write-seen : tie.Need-array-write-seen Inv-loop μ-loop
-array-write-seen c = omega (arith, in-range (c .before .before .before))
+array-write-seen c = omega (arith, in-range (c .before))
 
 loop-less : tie.Need-loop-less Inv-loop μ-loop
 loop-less c = omega arith
 
 loop-again : tie.Need-loop-again Inv-loop μ-loop
 loop-again c =
-    let at-if2 = c .before in let at-bit = at-if2 .before in let at-if1 = at-bit .before in let at-loop-test = at-if1 .before .before .before in
-    let at-loop = at-loop-test .before in let start = at-loop .before .before .before in let a = start .args in
+    let at-if1 = c .before in let at-loop-test = at-if1 .before .before .before in let at-loop = at-loop-test .before in let start = at-loop .before .before .before in let a = start .args in
     let h = in-range at-if1 in
     one-more (a .task) (a .slots .now) (a .q .now) (a .n) (a .count) (start .pre) (at-loop .loop .seen) (at-loop .loop .i) (at-loop .loop .inv) (at-loop-test .loop-test .taken) _ (marked at-if1)
-    (sym (at-bit .bit .ensures) ∙ at-if2 .if2 .left) (λ y. put-set (at-loop .loop .seen) _ _ y (omega (arith, at-loop .loop .inv .long)) (c .with-bit .ensures))
-    (simp length-set (at-loop .loop .inv .long))
+    (c .if2 .left) (λ y. put-mark (at-loop .loop .seen) _ y (omega (arith, at-loop .loop .inv .long))) (simp length-set (at-loop .loop .inv .long))
 
 returns-3 : tie.Need-returns-3 Inv-loop μ-loop
 returns-3 c =
@@ -105,12 +90,8 @@ entries-ok-spec =
     shared-slice-read-w
     is-marked-requires
     returns
-    mul-v
-    array-read-v
-    bit-requires
+    array-read-if2
     returns-2
-    with-bit-requires
-    mul-seen
     array-write-seen
     loop-less
     loop-again
