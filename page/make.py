@@ -2,6 +2,7 @@
 """Makes target/evidence.html from the sources, the papers and what the last `./test` left in target/. Every statement, count and time on
 the page is read from there; what the run did not produce is absent, and the page says so."""
 import re
+import shutil
 import subprocess
 import sys
 import tempfile
@@ -167,6 +168,8 @@ def wake():
     library = TARGET / "staticlib" / "libboundary.a"
     if not library.exists():
         return None, "target/staticlib/libboundary.a is not there"
+    if not shutil.which("cc"):
+        return None, "there is no C compiler (cc)"
     with tempfile.TemporaryDirectory() as folder:
         program = Path(folder, "wake")
         built = subprocess.run(["cc", "-std=c99", "-O1", "-I", ROOT / "host/include", HERE / "wake.c", library, "-o", program], capture_output=True, text=True)
