@@ -13,11 +13,11 @@
 //!   record. [`Sound`] holds nothing else: it is made where `bvm_set_up`
 //!   answered 0 or where `bvm_sound` said yes, its words are private to this
 //!   module, and only `bvm_kept` and an accepted set-up change them. Both
-//!   leave a sound machine (`crates/invariant/specs/Kept.antt`: `kept`,
-//!   `begun`; of the code `crates/kept/specs/Kept.antt`: `again`). The same
-//!   holds of [`Record`]; and as the rules speak of the fuel by itself
-//!   ("fuel 0 while banked", `fuelOk` of `crates/model/specs/Sound.antt`), a
-//!   sound machine with any sound record is sound.
+//!   leave a sound machine (`crates/boundary_claims/specs/Library.antt`:
+//!   `begun`, `called`, `kept`). The same holds of [`Record`]; and a machine
+//!   that passes the test passes with the record of any other that does
+//!   (`any-fuel` there, from `AnyFuel` of
+//!   `crates/lent_claims/specs/Fuel.antt`).
 
 #![allow(unsafe_code)]
 

@@ -159,8 +159,9 @@ pub extern "C" fn bvm_kept(
         (atExit fuel)) (atExit answer) r ≡ keptIn (host (nine stack frames chain slots «saved_stack» «saved_frames» ready finalize setup atEntry)
         (atEntry machine) (atEntry fuel)) (opOf (now (call .entry))) (atEntry answer) ⌝ }
 {
+    let sound = true;
     do_call(
-        true,
+        sound,
         stack,
         frames,
         chain,

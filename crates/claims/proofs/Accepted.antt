@@ -21,7 +21,7 @@ use Rattle.model.specs.declared.machine.Driver.{Driver}
 use Rattle.model.specs.declared.machine.Charge.{Charge}
 use Rattle.model.specs.declared.call.OptPc.{OptPc}
 use Rattle.model.specs.declared.call.Op.{Op}
-use Rattle.claims.specs.Says.{Sent, nothing, gets, closes}
+use Rattle.claims.specs.Says.{Sent}
 use Rattle.claims.proofs.Entry.{Act, at, byHost, finishes, unwinds, other, act, entry, accepts, entryOf, driverOf, sentOf, pcBy}
 use Rattle.claims.proofs.Suspension.{suspendsOf}
 use Rattle.claims.proofs.Split.{Suspends, Enters}

@@ -29,6 +29,7 @@ use Rattle.model.specs.declared.coro.Made.{Made}
 use Rattle.model.specs.declared.coro.Stated.{Stated}
 use Rattle.model.specs.declared.call.OptPc.{OptPc}
 use Rattle.claims.proofs.Entry.{neither}
+use Rattle.claims.proofs.Cores.{m-plain}
 use Rattle.claims.proofs.Shape.{View, view, Worked, done, tops, puts, pushes, pushV}
 use Rattle.claims.proofs.Under.{keeps-pc}
 use Rattle.claims.proofs.Enters.{charge-none}
@@ -53,12 +54,12 @@ push-case f closure cont w = go (leb (w .setup .limits .depth) (length (w .frame
     go false = p-in n
 
 -- a frame that is no body goes on top
-pub push-worked : (f closure : ℕ) (cont : Cont) (n : ℕ) (w : World) → isCoro cont ≡ false → {z : View} → Worked false (view (withFrames (frame f (length (w .stack)) closure cont ∷ w .frames) (withStack (w .stack ++ replicate n 0) w))) z → Worked false (view w) z
+pub push-worked : (f closure : ℕ) (cont : Cont) (n : ℕ) (w : World) → isCoro cont ≡ false → {z : View} → Worked m-plain (view (withFrames (frame f (length (w .stack)) closure cont ∷ w .frames) (withStack (w .stack ++ replicate n 0) w))) z → Worked m-plain (view w) z
 push-worked f closure cont n w e t = pushes (frame f (length (w .stack)) closure cont) (replicate n 0) e refl t
 
 -- ---- the arms
 
-put-made : (dst : ℕ) (w : World) (m : Made) → Worked false (view w) (view (putMade dst w m .world))
+put-made : (dst : ℕ) (w : World) (m : Made) → Worked m-plain (view w) (view (putMade dst w m .world))
 put-made dst w (Made.Word v) = puts dst v done
 put-made dst w (Made.Refused f) = done
 
@@ -71,7 +72,7 @@ unfolding coroNewIndirect
 indirect-arm p dst callee argc v = let o = indirect dst callee argc v in a-works refl refl (grown-worked (indirect-grown dst callee argc v) (put-made dst (o .world) (o .answer)))
 
 -- the hook's frame, with the coroutine c in its first register
-hook-worked : (hook pc dst c : ℕ) (w : World) → Worked false (view w) (view (andThen (pushFrame hook nil (Cont.Value dst) (storePc pc w)) (hooked w c) .world))
+hook-worked : (hook pc dst c : ℕ) (w : World) → Worked m-plain (view w) (view (andThen (pushFrame hook nil (Cont.Value dst) (storePc pc w)) (hooked w c) .world))
 hook-worked hook pc dst c w = go (pushFrame hook nil (Cont.Value dst) (storePc pc w)) (push-case hook nil (Cont.Value dst) (storePc pc w))
   where
     u : World
@@ -84,13 +85,13 @@ hook-worked hook pc dst c w = go (pushFrame hook nil (Cont.Value dst) (storePc p
     left n = withStack (set (u .stack ++ replicate n 0) (length (u .stack)) c) (withFrames (top ∷ u .frames) (withStack (u .stack ++ replicate n 0) u))
 
     -- the hook's frame stands, and c is put into its first register
-    first : (n : ℕ) → Worked false (pushV top (replicate n 0) (view u)) (view (left n))
+    first : (n : ℕ) → Worked m-plain (pushV top (replicate n 0) (view u)) (view (left n))
     first n =
         let e : length (u .stack) + 0 ≡ length (u .stack) = omega arith in
         let at : ℕ → View = λ i. record { setup = u .setup; stack = set (u .stack ++ replicate n 0) i c; frames = top ∷ u .frames; chain = u .chain; cores = view u .cores } in
-        puts 0 c (subst (λ i. Worked false (at i) (view (left n))) (sym e) done)
+        puts 0 c (subst (λ i. Worked m-plain (at i) (view (left n))) (sym e) done)
 
-    go : (o : After Made) → PushCase hook nil (Cont.Value dst) u o → Worked false (view w) (view (hooked w c (o .world) (o .answer) .world))
+    go : (o : After Made) → PushCase hook nil (Cont.Value dst) u o → Worked m-plain (view w) (view (hooked w c (o .world) (o .answer) .world))
     go o (p-in n) = tops (setPc pc) (keeps-pc pc) (pushes top (replicate n 0) refl refl (first n))
     go o (p-out e) = done
 
@@ -98,16 +99,16 @@ pub spawn-arm : (p dst callee argc : ℕ) (v : World) → Arm v p neither false 
 unfolding spawn
 spawn-arm p dst callee argc v = a-works refl refl (by (v .setup .hook))
   where
-    paid : (hook c : ℕ) (w : World) (x : Charge) → Worked false (view w) (view (callHook hook p dst c w x .world))
+    paid : (hook c : ℕ) (w : World) (x : Charge) → Worked m-plain (view w) (view (callHook hook p dst c w x .world))
     paid hook c w (Charge.Done n) = hook-worked hook p dst c w
     paid hook c w Charge.Spent = done
     paid hook c w (Charge.Close n) = hook-worked hook p dst c w
 
-    made : (hook : ℕ) (w : World) (m : Made) → Worked false (view w) (view (spawnMade hook p dst w m .world))
+    made : (hook : ℕ) (w : World) (m : Made) → Worked m-plain (view w) (view (spawnMade hook p dst w m .world))
     made hook w (Made.Word c) = same-worked (charge-none w) (paid hook c (charge OptPc.None w .world) (charge OptPc.None w .answer))
     made hook w (Made.Refused f) = done
 
-    by : (h : Opt) → Worked false (view v) (view (spawnBy h p dst callee argc v .world))
+    by : (h : Opt) → Worked m-plain (view v) (view (spawnBy h p dst callee argc v .world))
     by Opt.None = done
     by (Opt.Some hook) = let o = indirect dst callee argc v in grown-worked (indirect-grown dst callee argc v) (made hook (o .world) (o .answer))
 
@@ -115,7 +116,7 @@ pub status-arm : (p dst c : ℕ) (v : World) → Arm v p neither false (coroStat
 unfolding coroStatus
 status-arm p dst c v = a-works refl refl (go (coroState v (reg v c)))
   where
-    go : (s : Stated) → Worked false (view v) (view (statusOf s dst v .world))
+    go : (s : Stated) → Worked m-plain (view v) (view (statusOf s dst v .world))
     go (Stated.In s) = puts dst (codeOf s) done
     go (Stated.Refused f) = done
 
@@ -127,7 +128,7 @@ pub key-arm : (p dst c : ℕ) (v : World) → Arm v p neither false (coroKey dst
 unfolding coroKey
 key-arm p dst c v = a-works refl refl (go (coro v (reg v c)))
   where
-    go : (x : Coroutine) → Worked false (view v) (view (keyOf x (notA v (reg v c)) dst v .world))
+    go : (x : Coroutine) → Worked m-plain (view v) (view (keyOf x (notA v (reg v c)) dst v .world))
     go Absent = done
     go (Is k r) = puts dst (r .key) done
 
@@ -135,10 +136,10 @@ pub result-arm : (p dst c : ℕ) (v : World) → Arm v p neither false (coroResu
 unfolding coroResult pick
 result-arm p dst c v = a-works refl refl (go (coro v (reg v c)))
   where
-    test : (r : Rest) (b : Bool) → Worked false (view v) (view (pick b (Exec.put dst (r .result) v) (fault v Fault.InvalidCoroState) .world))
+    test : (r : Rest) (b : Bool) → Worked m-plain (view v) (view (pick b (Exec.put dst (r .result) v) (fault v Fault.InvalidCoroState) .world))
     test r true = puts dst (r .result) done
     test r false = done
 
-    go : (x : Coroutine) → Worked false (view v) (view (resultIn x (notA v (reg v c)) dst v .world))
+    go : (x : Coroutine) → Worked m-plain (view v) (view (resultIn x (notA v (reg v c)) dst v .world))
     go Absent = done
     go (Is k r) = test r (isReturned (k .state))

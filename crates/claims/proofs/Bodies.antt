@@ -1,5 +1,5 @@
 -- The frames of a coroutine, on the stack and saved, in the claim's words: those over its Coro frame, that frame, those under it.
-use Prim.Native.Nat.{ℕ, suc, _+_, _-_, _≤_, _<_}
+use Prim.Native.Nat.{ℕ, _-_, _≤_}
 use native.Mathlib.Omega.{arith}
 use mathlib.Core.Path.{_≡_, refl, sym, ap, _∙_, subst}
 use mathlib.Core.Bool.{Bool, true, false, _&&_}
@@ -17,7 +17,7 @@ use Rattle.model.specs.declared.machine.Cont.{Cont}
 use Rattle.model.specs.declared.machine.Active.{Active}
 use Rattle.model.specs.declared.machine.Frame.{Frame}
 use Rattle.claims.specs.Says.{Sent, nothing, gets, closes}
-use Rattle.claims.specs.Held.{at, after, Moved, AllMoved, stepped}
+use Rattle.claims.specs.Held.{at, after, AllMoved, stepped}
 use Rattle.claims.proofs.Held.{Seat, framesWith}
 use Rattle.claims.proofs.Cores.{no-both, and-left, and-right}
 use Rattle.claims.proofs.Under.{Lift, l-body, l-plain, base-cons, base-here}

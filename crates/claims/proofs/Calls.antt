@@ -37,7 +37,7 @@ use Rattle.claims.specs.Says.{nothing, gets, closes}
 use Rattle.claims.specs.Steps.{seenOf}
 use Rattle.claims.proofs.Entry.{Aim, enters, suspends, neither, awaits, act, nobody, entry, accepts, sentTo, entryBy}
 use Rattle.claims.proofs.Held.{Returns, eventBy}
-use Rattle.claims.proofs.Cores.{no-both, cores, coroIn, objectIn, set-rest}
+use Rattle.claims.proofs.Cores.{no-both, cores, coroIn, objectIn, set-rest, m-plain, m-ending}
 use Rattle.claims.proofs.Shape as S
 use Rattle.claims.proofs.Shape.{view, Worked, done, tops, puts, Shape}
 use Rattle.claims.proofs.Under.{keeps-pc}
@@ -57,42 +57,42 @@ made-world : (w : World) (m : Made) → answerMade w m .world ≡ w
 made-world w (Made.Word v) = refl
 made-world w (Made.Refused f) = refl
 
-task-worked : (v : ℕ) (w : World) → Worked false (view w) (view (andThen (spawnTask v w) answerMade .world))
+task-worked : (v : ℕ) (w : World) → Worked m-plain (view w) (view (andThen (spawnTask v w) answerMade .world))
 unfolding spawnTask pick
 task-worked v w = go (coro w v) refl
   where
-    test : (k : Core) (r : Rest) → coro w v ≡ Is k r → (b : Bool) → Worked false (view w) (view (andThen (pick b (after (setCoro v k (withTask true r) (withReady (w .ready ++ (v ∷ [])) w)) (Made.Word v)) (after w (Made.Word v))) answerMade .world))
+    test : (k : Core) (r : Rest) → coro w v ≡ Is k r → (b : Bool) → Worked m-plain (view w) (view (andThen (pick b (after (setCoro v k (withTask true r) (withReady (w .ready ++ (v ∷ [])) w)) (Made.Word v)) (after w (Made.Word v))) answerMade .world))
     test k r e true = calm-worked (rest-calm v k r (withTask true r) w (setCoro v k (withTask true r) (withReady (w .ready ++ (v ∷ [])) w)) e refl refl refl refl refl refl) done
     test k r e false = done
 
-    go : (y : Coroutine) → coro w v ≡ y → Worked false (view w) (view (andThen (spawnAs y v w) answerMade .world))
+    go : (y : Coroutine) → coro w v ≡ y → Worked m-plain (view w) (view (andThen (spawnAs y v w) answerMade .world))
     go Absent e = done
     go (Is k r) e = test k r e (not (r .task) && isResumable (k .state))
 
 -- behind a gate
-on-host : (ok : Bool) (body : World → After Answer) (w : World) → Worked false (view w) (view (body w .world)) → Worked false (view w) (view (onHost ok body w .world))
+on-host : (ok : Bool) (body : World → After Answer) (w : World) → Worked m-plain (view w) (view (body w .world)) → Worked m-plain (view w) (view (onHost ok body w .world))
 unfolding onHost pick
 on-host ok body w t = go (isNil (w .frames)) ok
   where
-    go : (none ok : Bool) → Worked false (view w) (view (pick (not none) (refused w Fault.Busy) (pick (not ok) (refused w Fault.BadOperand) (body w)) .world))
+    go : (none ok : Bool) → Worked m-plain (view w) (view (pick (not none) (refused w Fault.Busy) (pick (not ok) (refused w Fault.BadOperand) (body w)) .world))
     go false ok = done
     go true false = done
     go true true = t
 
-on-frame : (ok : Bool) (body : World → After Answer) (w : World) → (ok ≡ true → Worked false (view w) (view (body w .world))) → Worked false (view w) (view (onFrame ok body w .world))
+on-frame : (ok : Bool) (body : World → After Answer) (w : World) → (ok ≡ true → Worked m-plain (view w) (view (body w .world))) → Worked m-plain (view w) (view (onFrame ok body w .world))
 unfolding onFrame pick
 on-frame ok body w t = go (isNil (w .frames)) ok refl
   where
-    go : (none b : Bool) → ok ≡ b → Worked false (view w) (view (pick none (refused w Fault.NoFrame) (pick (not b) (refused w Fault.BadOperand) (body w)) .world))
+    go : (none b : Bool) → ok ≡ b → Worked m-plain (view w) (view (pick none (refused w Fault.NoFrame) (pick (not b) (refused w Fault.BadOperand) (body w)) .world))
     go true b e = done
     go false false e = done
     go false true e = t e
 
-host-worked : (f : ℕ) (w : World) → Worked false (view w) (view (hostCall f w .world))
+host-worked : (f : ℕ) (w : World) → Worked m-plain (view w) (view (hostCall f w .world))
 unfolding hostCall
 host-worked f w = pushed (pushFrame f nil Cont.Entry w) (push-case f nil Cont.Entry w)
   where
-    pushed : (o : After Made) → PushCase f nil Cont.Entry w o → Worked false (view w) (view (pushedOr w (o .world) (o .answer) .world))
+    pushed : (o : After Made) → PushCase f nil Cont.Entry w o → Worked m-plain (view w) (view (pushedOr w (o .world) (o .answer) .world))
     pushed o (p-in n) = push-worked f nil Cont.Entry n w refl done
     pushed o (p-out e) = done
 
@@ -108,49 +108,49 @@ second-true : (a b : Bool) → (a && b) ≡ true → b ≡ true
 second-true true b h = h
 second-true false b h = no-both h refl
 
-function-worked : (pc f : ℕ) (cont : Cont) (w : World) → (isFunction (w .setup) f && contAllowed w cont) ≡ true → Worked false (view w) (view (functionCall pc f cont w .world))
+function-worked : (pc f : ℕ) (cont : Cont) (w : World) → (isFunction (w .setup) f && contAllowed w cont) ≡ true → Worked m-plain (view w) (view (functionCall pc f cont w .world))
 unfolding functionCall
 function-worked pc f cont w ok = pushed (allowed-plain w cont (second-true (isFunction (w .setup) f) (contAllowed w cont) ok)) (pushFrame f nil cont u) (push-case f nil cont u)
   where
     u : World
     u = storePc pc w
 
-    pushed : isCoro cont ≡ false → (o : After Made) → PushCase f nil cont u o → Worked false (view w) (view (pushedOr w (o .world) (o .answer) .world))
+    pushed : isCoro cont ≡ false → (o : After Made) → PushCase f nil cont u o → Worked m-plain (view w) (view (pushedOr w (o .world) (o .answer) .world))
     pushed e o (p-in n) = tops (setPc pc) (keeps-pc pc) (push-worked f nil cont n u e done)
     pushed e o (p-out x) = done
 
-put-worked : (r v : ℕ) (w : World) → Worked false (view w) (view (putWord r v w .world))
+put-worked : (r v : ℕ) (w : World) → Worked m-plain (view w) (view (putWord r v w .world))
 unfolding putWord
 put-worked r v w = puts r v done
 
-iterator-worked : (v : ℕ) (w : World) → Worked false (view w) (view (makeIterator v w .world))
+iterator-worked : (v : ℕ) (w : World) → Worked m-plain (view w) (view (makeIterator v w .world))
 unfolding makeIterator
 iterator-worked v w = go (coro w v)
   where
     made : After Made
     made = alloc (w .setup .costs .iter) (Object.Iter v false Opt.None) w
 
-    go : (y : Coroutine) → Worked false (view w) (view (iteratorOver y v w .world))
+    go : (y : Coroutine) → Worked m-plain (view w) (view (iteratorOver y v w .world))
     go Absent = done
-    go (Is k r) = same-worked (alloc-same (w .setup .costs .iter) (Object.Iter v false Opt.None) w refl) (subst (λ z. Worked false (view (made .world)) (view z)) (sym (made-world (made .world) (made .answer))) done)
+    go (Is k r) = same-worked (alloc-same (w .setup .costs .iter) (Object.Iter v false Opt.None) w refl) (subst (λ z. Worked m-plain (view (made .world)) (view z)) (sym (made-world (made .world) (made .answer))) done)
 
-hand-worked : (v : ℕ) (w : World) → Worked false (view w) (view (handOver v w .world))
+hand-worked : (v : ℕ) (w : World) → Worked m-plain (view w) (view (handOver v w .world))
 unfolding handOver pick
 hand-worked v w = go (coro w v) refl
   where
-    test : (k : Core) (r : Rest) → coro w v ≡ Is k r → (b : Bool) → Worked false (view w) (view (pick b (refused w Fault.InvalidCoroState) (accepted (setFinalizing (w .finalizing) (setCoro v k (withFinalized true r) (withFinalize (w .finalize ++ (v ∷ [])) w)))) .world))
+    test : (k : Core) (r : Rest) → coro w v ≡ Is k r → (b : Bool) → Worked m-plain (view w) (view (pick b (refused w Fault.InvalidCoroState) (accepted (setFinalizing (w .finalizing) (setCoro v k (withFinalized true r) (withFinalize (w .finalize ++ (v ∷ [])) w)))) .world))
     test k r e true = done
     test k r e false = calm-worked (rest-calm v k r (withFinalized true r) w (setFinalizing (w .finalizing) (setCoro v k (withFinalized true r) (withFinalize (w .finalize ++ (v ∷ [])) w))) e refl refl refl refl refl refl) done
 
-    go : (y : Coroutine) → coro w v ≡ y → Worked false (view w) (view (handOverAs y v w .world))
+    go : (y : Coroutine) → coro w v ≡ y → Worked m-plain (view w) (view (handOverAs y v w .world))
     go Absent e = done
     go (Is k r) e = test k r e (not (isSuspended (k .state)) || r .finalized)
 
-grant-worked : (n : ℕ) (w : World) → Worked false (view w) (view (grant n w .world))
+grant-worked : (n : ℕ) (w : World) → Worked m-plain (view w) (view (grant n w .world))
 unfolding grant pick
 grant-worked n w = go (grantTooLarge n w)
   where
-    go : (b : Bool) → Worked false (view w) (view (pick b (refused w Fault.GrantTooLarge) (accepted (withFuel (refuel (w .fuel .bank) (granted n w) (w .fuel)) w)) .world))
+    go : (b : Bool) → Worked m-plain (view w) (view (pick b (refused w Fault.GrantTooLarge) (accepted (withFuel (refuel (w .fuel .bank) (granted n w) (w .fuel)) w)) .world))
     go true = done
     go false = done
 
@@ -177,10 +177,10 @@ entry-shape c v w = go (isNil (w .frames)) refl
 
     tried : (z : World) → isNil (w .frames) ≡ true → Tried w 0 c Driver.Host (gets v) z → Shape w (Op.HostEntry c v) z
     tried z h (t-in a r t) = S.enters c Driver.Host (sentTo (coro w c) (gets v)) (record { entry = by true h ∙ ap (λ b. pick b (entry c Driver.Host (sentTo (coro w c) (gets v))) nobody) a; takes = refl }) t
-    tried z h (t-out a t) = S.works (record { entry = by true h ∙ ap (λ b. pick b (entry c Driver.Host (sentTo (coro w c) (gets v))) nobody) a; takes = refl }) false refl t
+    tried z h (t-out a t) = S.works (record { entry = by true h ∙ ap (λ b. pick b (entry c Driver.Host (sentTo (coro w c) (gets v))) nobody) a; takes = refl }) m-plain refl t
 
     go : (b : Bool) → isNil (w .frames) ≡ b → Shape w (Op.HostEntry c v) (pick (not b) (refused w Fault.Busy) (andThen e (hostArrive v)) .world)
-    go false h = S.works (record { entry = by false h; takes = refl }) false refl done
+    go false h = S.works (record { entry = by false h; takes = refl }) m-plain refl done
     go true h =
         tried (hostArrive v (e .world) (e .answer) .world) h
         (subst (Tried w 0 c Driver.Host (gets v)) (hosted-world v (e .world) (e .answer))
@@ -188,9 +188,9 @@ entry-shape c v w = go (isNil (w .frames)) refl
 
 -- ---- finish and unwind
 
-done-shape : (w : World) (o : Op) (x : ℕ) (z : World) → S.Says w o nobody false → S.isEnding (act w o) ≡ true → ((c : ℕ) → eventBy (act w o) w c ≡ Returns x) → Done x (view w) z → Shape w o z
-done-shape w o x z e n g (d-works t) = S.works e true n t
-done-shape w o x z e n g (d-returns u f fs a chain t r) = S.returns u x f fs a chain e n g t r
+done-shape : (w : World) (o : Op) (x : ℕ) (z : World) → S.Says w o nobody false → S.isEnding (act w o) ≡ true → S.modeOf (act w o) ≡ m-ending → ((c : ℕ) → eventBy (act w o) w c ≡ Returns x) → Done x (view w) z → Shape w o z
+done-shape w o x z e n i g (d-works t) = S.works e m-ending i t
+done-shape w o x z e n i g (d-returns u f fs a chain t r) = S.returns u x f fs a chain e n g t r
 
 -- ---- the table
 
@@ -215,16 +215,16 @@ shape w (Op.CoroResult pc dst c) = instr-shape w (Op.CoroResult pc dst c) pc _ p
 shape w (Op.IterNext pc has iter val src) =
     instr-shape w (Op.IterNext pc has iter val src) pc _
     (λ b s xs. enters (getD s (b + src) 0) (Driver.Iter has val (getD s (b + iter) 0)) (gets nil) (not (isDone (objectIn xs (getD s (b + iter) 0))) && not (awaits (coroIn xs (getD s (b + src) 0))))) (iterNext pc has iter val src) refl (iter-arm pc has iter val src)
-shape w (Op.Finish kind v) = done-shape w (Op.Finish kind v) _ (finish kind v w .world) (record { entry = refl; takes = refl }) refl (λ c. refl) (finish-done kind v w)
-shape w (Op.Unwind f pc) = done-shape w (Op.Unwind f pc) nil (unwind f pc w .world) (record { entry = refl; takes = refl }) refl (λ c. refl) (unwind-done f pc w)
-shape w (Op.SpawnTask v) = S.works (record { entry = refl; takes = refl }) false refl (task-worked v w)
-shape w (Op.HostCall f) = S.works (record { entry = refl; takes = refl }) false refl (on-host (isFunction (w .setup) f) (hostCall f) w (host-worked f w))
+shape w (Op.Finish kind v) = done-shape w (Op.Finish kind v) _ (finish kind v w .world) (record { entry = refl; takes = refl }) refl refl (λ c. refl) (finish-done kind v w)
+shape w (Op.Unwind f pc) = done-shape w (Op.Unwind f pc) nil (unwind f pc w .world) (record { entry = refl; takes = refl }) refl refl (λ c. refl) (unwind-done f pc w)
+shape w (Op.SpawnTask v) = S.works (record { entry = refl; takes = refl }) m-plain refl (task-worked v w)
+shape w (Op.HostCall f) = S.works (record { entry = refl; takes = refl }) m-plain refl (on-host (isFunction (w .setup) f) (hostCall f) w (host-worked f w))
 shape w (Op.HostEntry c v) = entry-shape c v w
-shape w (Op.FunctionCall pc f cont) = S.works (record { entry = refl; takes = refl }) false refl (on-frame (isFunction (w .setup) f && contAllowed w cont) (functionCall pc f cont) w (function-worked pc f cont w))
-shape w (Op.PutWord r v) = S.works (record { entry = refl; takes = refl }) false refl (on-frame (allIn (r ∷ []) w) (putWord r v) w (λ _. put-worked r v w))
-shape w (Op.MakeIterator v) = S.works (record { entry = refl; takes = refl }) false refl (iterator-worked v w)
-shape w Op.TakeOutcome = S.works (record { entry = refl; takes = refl }) false refl done
-shape w (Op.HandOver v) = S.works (record { entry = refl; takes = refl }) false refl (hand-worked v w)
-shape w (Op.Grant n) = S.works (record { entry = refl; takes = refl }) false refl (grant-worked n w)
+shape w (Op.FunctionCall pc f cont) = S.works (record { entry = refl; takes = refl }) m-plain refl (on-frame (isFunction (w .setup) f && contAllowed w cont) (functionCall pc f cont) w (function-worked pc f cont w))
+shape w (Op.PutWord r v) = S.works (record { entry = refl; takes = refl }) m-plain refl (on-frame (allIn (r ∷ []) w) (putWord r v) w (λ _. put-worked r v w))
+shape w (Op.MakeIterator v) = S.works (record { entry = refl; takes = refl }) m-plain refl (iterator-worked v w)
+shape w Op.TakeOutcome = S.works (record { entry = refl; takes = refl }) m-plain refl done
+shape w (Op.HandOver v) = S.works (record { entry = refl; takes = refl }) m-plain refl (hand-worked v w)
+shape w (Op.Grant n) = S.works (record { entry = refl; takes = refl }) m-plain refl (grant-worked n w)
 shape w Op.StopRun = S.stops (record { entry = refl; takes = refl }) refl (stop-stops w)
-shape w Op.Look = S.works (record { entry = refl; takes = refl }) false refl done
+shape w Op.Look = S.works (record { entry = refl; takes = refl }) m-plain refl done

@@ -26,9 +26,9 @@ use Rattle.claims.specs.Says.{Sent}
 use Rattle.claims.proofs.Entry.{nobody, entry, act, entryBy, entryOf, driverOf, pcOf}
 use Rattle.claims.proofs.Held.{Seat, coreIn, coreAt, calling, eventOf, mem, deliverTo}
 use Rattle.claims.proofs.Split.{next, hasLeft, Enters, Leaves, restarts, Waits, Goes, Sleeps, Left}
-use Rattle.claims.proofs.Cores.{no-both}
-use Rattle.claims.proofs.Shape.{view, Enter, Apart}
-use Rattle.claims.proofs.Events.{susp-run, susp-born, entered-one, sleeps-on}
+use Rattle.claims.proofs.Cores.{no-both, m-plain, m-ending}
+use Rattle.claims.proofs.Shape.{view, Enter, Apart, modeOf}
+use Rattle.claims.proofs.Events.{susp-run, susp-born, entered-one, Firm, sleeps-on}
 use Rattle.claims.proofs.Fate as F
 use Rattle.claims.proofs.Fate.{Under, landed}
 use Rattle.claims.proofs.Sounds.{apart, lifts}
@@ -76,13 +76,17 @@ entry-sound w o h = ap (λ b. pick b (entryBy (act w (o .op)) w) nobody) h ∙ p
 
 -- ---- a sleeper sleeps on, and one that has ended stays so
 
-pub stays : (c : ℕ) (w : World) (k : Call) (s : Seat) → isCreated (s .state) ≡ false → isRunning (s .state) ≡ false → restarts k ≡ false → isRunning (coreAt (next w k) c .state) ≡ false → coreAt w c ≡ s → coreAt (next w k) c ≡ s
-stays c w k s b r n a h = go (next w k) (step-case w k) n a
+pub stays-firm : (c : ℕ) (w : World) (k : Call) (s : Seat) → Firm c s m-plain → Firm c s m-ending → ((o : Operation) → k ≡ Do o → Firm c s (modeOf (act w (o .op)))) → isRunning (s .state) ≡ false → restarts k ≡ false
+    → isRunning (coreAt (next w k) c .state) ≡ false → coreAt w c ≡ s → coreAt (next w k) c ≡ s
+stays-firm c w k s f g i r n a h = go (next w k) (step-case w k) i n a
   where
-    go : {k : Call} (z : World) → StepCase w k z → restarts k ≡ false → isRunning (coreAt z c .state) ≡ false → coreAt z c ≡ s
-    go z (anew x e) n a = no-both e n
-    go z (same k e) n a = h
-    go z (does o e) n a = sleeps-on c s b (shape w (o .op)) (apart w e c (ap (λ x. isRunning (x .state)) h ∙ r)) h a
+    go : {k : Call} (z : World) → StepCase w k z → ((o : Operation) → k ≡ Do o → Firm c s (modeOf (act w (o .op)))) → restarts k ≡ false → isRunning (coreAt z c .state) ≡ false → coreAt z c ≡ s
+    go z (anew x e) i n a = no-both e n
+    go z (same k e) i n a = h
+    go z (does o e) i n a = sleeps-on c s f g (i o refl) (shape w (o .op)) (apart w e c (ap (λ x. isRunning (x .state)) h ∙ r)) h a
+
+pub stays : (c : ℕ) (w : World) (k : Call) (s : Seat) → isCreated (s .state) ≡ false → isRunning (s .state) ≡ false → restarts k ≡ false → isRunning (coreAt (next w k) c .state) ≡ false → coreAt w c ≡ s → coreAt (next w k) c ≡ s
+stays c w k s b r n a h = stays-firm c w k s (λ x _. no-both x b) (λ x _. no-both x b) (λ o e x _. no-both x b) r n a h
 
 pub sleep : (c : ℕ) (s : Seat) (w : World) (ks : List Call) → Sleeps w c s → Waits c w ks → Sleeps (run w ks) c s
 sleep c s w [] h q = h

@@ -26,7 +26,7 @@ use Rattle.claims.specs.Steps.{seenOf, viewOf, opOf, steps}
 use Rattle.claims.proofs.Entry as E
 use Rattle.claims.proofs.Held.{Seat, coreIn, coreAt}
 use Rattle.claims.proofs.Split.{next, Suspends, restarts}
-use Rattle.claims.proofs.Cores.{no-both, busy, Kept, kept, unborn}
+use Rattle.claims.proofs.Cores.{no-both, busy, Kept, kept, unborn, Mode}
 use Rattle.claims.proofs.Shape.{View, over, Ends, Worked, done, quiet, tops, puts, pushes, pops, fails, Apart, Shape, works, enters, suspended, returns, stops}
 use Rattle.claims.proofs.Events.{ready-run, run-susp, suspended-one}
 use Rattle.claims.proofs.Sounds.{first-runs}
@@ -37,7 +37,7 @@ use Rattle.claims.proofs.Restores.{suspends-old, restarts-old}
 
 -- ---- the set-up stays
 
-setup-worked : {b : Bool} {v z : View} → Worked b v z → z .setup ≡ v .setup
+setup-worked : {b : Mode} {v z : View} → Worked b v z → z .setup ≡ v .setup
 setup-worked done = refl
 setup-worked (quiet k q t) = setup-worked t
 setup-worked (tops g e t) = setup-worked t
@@ -97,9 +97,9 @@ or-right true b h n = refl
 or-right false b h n = no-both h n
 
 -- one that has ended stays so
-dead-kept : {k l : Seat} → Kept k l → alive (k .state) ≡ false → alive (l .state) ≡ false
+dead-kept : {b : Mode} {c : ℕ} {k l : Seat} → Kept b c k l → alive (k .state) ≡ false → alive (l .state) ≡ false
 dead-kept (kept e) h = ap (λ x. alive (x .state)) e ∙ h
-dead-kept {k} (unborn a b m) h = no-both (ap (λ x. x || busy (k .state)) a) h
+dead-kept {k} (unborn a b m n) h = no-both (ap (λ x. x || busy (k .state)) a) h
 
 dead-ends : {s : CoroState} {v : ℕ} {k l : ℕ → Seat} → Ends s v k l → alive s ≡ false → (c : ℕ) → alive (k c .state) ≡ false → alive (l c .state) ≡ false
 dead-ends {s} {v} {k} {l} e n c h = go (ℕ-discrete c v)
@@ -112,7 +112,7 @@ dead-ends {s} {v} {k} {l} e n c h = go (ℕ-discrete c v)
     go (yes q) = ap (λ y. alive (l y .state)) q ∙ mine (e .mine) (ap (λ y. alive (k y .state)) (sym q) ∙ h)
     go (no q) = ap (λ y. alive (y .state)) (e .others c q) ∙ h
 
-dead-worked : (c : ℕ) {b : Bool} {v z : View} → Worked b v z → alive (v .cores c .state) ≡ false → alive (z .cores c .state) ≡ false
+dead-worked : (c : ℕ) {b : Mode} {v z : View} → Worked b v z → alive (v .cores c .state) ≡ false → alive (z .cores c .state) ≡ false
 dead-worked c done h = h
 dead-worked c (quiet k q t) h = dead-worked c t (dead-kept (q c) h)
 dead-worked c (tops g e t) h = dead-worked c t h
@@ -121,7 +121,7 @@ dead-worked c (pushes f xs p q t) h = dead-worked c t h
 dead-worked c (pops f fs p q t) h = dead-worked c t h
 dead-worked c (fails f fs a chain k y p q r e t) h = dead-worked c t (dead-ends e refl c h)
 
-lived : (c : ℕ) {b : Bool} {v z : View} → Worked b v z → alive (z .cores c .state) ≡ true → alive (v .cores c .state) ≡ true
+lived : (c : ℕ) {b : Mode} {v z : View} → Worked b v z → alive (z .cores c .state) ≡ true → alive (v .cores c .state) ≡ true
 lived c {v = v} t h = go (alive (v .cores c .state)) refl
   where
     go : (a : Bool) → alive (v .cores c .state) ≡ a → alive (v .cores c .state) ≡ true
@@ -130,9 +130,9 @@ lived c {v = v} t h = go (alive (v .cores c .state)) refl
 
 -- ---- closings stay
 
-kept-closing : {k l : Seat} → Kept k l → alive (l .state) ≡ true → l .closing ≡ k .closing
+kept-closing : {b : Mode} {c : ℕ} {k l : Seat} → Kept b c k l → alive (l .state) ≡ true → l .closing ≡ k .closing
 kept-closing (kept e) h = ap (λ x. x .closing) e
-kept-closing {l = l} (unborn a b m) h = m (or-right (isCreated (l .state)) (busy (l .state)) h b)
+kept-closing {l = l} (unborn a b m n) h = m (or-right (isCreated (l .state)) (busy (l .state)) h b)
 
 ends-closing : {s : CoroState} {v : ℕ} {k l : ℕ → Seat} → Ends s v k l → alive s ≡ false → (c : ℕ) → alive (l c .state) ≡ true → l c .closing ≡ k c .closing
 ends-closing {s} {v} {k} {l} e n c h = go (ℕ-discrete c v)
@@ -145,7 +145,7 @@ ends-closing {s} {v} {k} {l} e n c h = go (ℕ-discrete c v)
     go (yes q) = ap (λ y. l y .closing) q ∙ mine (e .mine) (ap (λ y. alive (l y .state)) (sym q) ∙ h) ∙ ap (λ y. k y .closing) (sym q)
     go (no q) = ap (λ y. y .closing) (e .others c q)
 
-worked-closing : (c : ℕ) {b : Bool} {v z : View} → Worked b v z → alive (z .cores c .state) ≡ true → z .cores c .closing ≡ v .cores c .closing
+worked-closing : (c : ℕ) {b : Mode} {v z : View} → Worked b v z → alive (z .cores c .state) ≡ true → z .cores c .closing ≡ v .cores c .closing
 worked-closing c done h = refl
 worked-closing c (quiet k q t) h = worked-closing c t h ∙ kept-closing (q c) (lived c t h)
 worked-closing c (tops g e t) h = worked-closing c t h

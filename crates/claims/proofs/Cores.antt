@@ -197,10 +197,16 @@ cores xs v = coreIn (coroIn xs v)
 abbrev pub busy : CoroState → Bool
 busy s = isRunning s || isSuspended s
 
--- a core before and after: the same, or it has not begun and does not run or sleep now
-pub data Kept (k l : Seat) : Type 0 where
-  kept : l ≡ k → Kept k l
-  unborn : isCreated (k .state) ≡ true → busy (l .state) ≡ false → (isCreated (l .state) ≡ true → l .closing ≡ k .closing) → Kept k l
+-- whom a call may end, beside whom it enters or suspends: nobody; those that run; or one that has not begun
+pub data Mode : Type 0 where
+  m-plain : Mode
+  m-ending : Mode
+  m-undoing : ℕ → Mode
+
+-- the core of c before and after: the same, or it has not begun and does not run or sleep now; then nothing was there and it is new, or the call ends it
+pub data Kept (b : Mode) (c : ℕ) (k l : Seat) : Type 0 where
+  kept : l ≡ k → Kept b c k l
+  unborn : isCreated (k .state) ≡ true → busy (l .state) ≡ false → (isCreated (l .state) ≡ true → l .closing ≡ k .closing) → ((k .seen ≡ none) × (isCreated (l .state) ≡ true)) ⊎ (b ≡ m-undoing c) → Kept b c k l
 
 filled : (o : Object) {k : Core} {r : Rest} → asCoro o ≡ Is k r → isFilled o ≡ true
 filled Object.Empty e = let z : _≡_ {A = ℕ} 0 1 = cc in absurd (omega arith)
@@ -239,11 +245,3 @@ set-iter xs v s d d' o o' e u = go (ℕ-discrete u v)
     go : Dec (u ≡ v) → cores (putObject Object.Empty xs (slotOf v) (Object.Iter s d' o')) u ≡ cores xs u
     go (yes q) = ap (cores (putObject Object.Empty xs (slotOf v) (Object.Iter s d' o'))) q ∙ ap (λ x. coreIn (asCoro x)) (put-here xs v (Object.Iter s d' o') n refl) ∙ sym (ap (λ x. coreIn (asCoro x)) e) ∙ ap (cores xs) (sym q)
     go (no q) = ap (λ x. coreIn (asCoro x)) (put-away xs v (Object.Iter s d' o') u n q)
-
--- a new object that does not run or sleep
-pub push-kept : (xs : List (Slot Object)) (o : Object) → busy (coreIn (asCoro o) .state) ≡ false → coreIn (asCoro o) .closing ≡ none → (v : ℕ) → Kept (cores xs v) (cores (pushObject xs o) v)
-push-kept xs o b m v = go (push-cases xs o v)
-  where
-    go : (objectIn (pushObject xs o) v ≡ objectIn xs v) ⊎ ((objectIn xs v ≡ Object.Empty) × (objectIn (pushObject xs o) v ≡ o)) → Kept (cores xs v) (cores (pushObject xs o) v)
-    go (inl e) = kept (ap (λ x. coreIn (asCoro x)) e)
-    go (inr (p, q)) = unborn (ap (λ x. isCreated (coreIn (asCoro x) .state)) p) (ap (λ x. busy (coreIn (asCoro x) .state)) q ∙ b) (λ _. ap (λ x. coreIn (asCoro x) .closing) q ∙ m ∙ sym (ap (λ x. coreIn (asCoro x) .closing) p))

@@ -35,6 +35,7 @@ use Rattle.model.specs.declared.call.OptPc.{OptPc}
 use Rattle.model.specs.declared.call.Answer.{Answer}
 use Rattle.claims.specs.Delivery.{recorded}
 use Rattle.claims.proofs.Held.{Seat, coreAt, Returns, mem, deliverTo, madeWord}
+use Rattle.claims.proofs.Cores.{m-ending}
 use Rattle.claims.proofs.Shape as S
 use Rattle.claims.proofs.Shape.{View, view, over, Ends, Worked, done, tops, puts, pops, fails, Return, Apart}
 use Rattle.claims.proofs.Under.{keeps-pc, keeps-step}
@@ -44,11 +45,11 @@ use Rattle.claims.proofs.Deliver.{Delivered, return-told}
 
 -- moves, and then perhaps a return of x
 pub data Done (x : ℕ) (v : View) (z : World) : Type 0 where
-  d-works : Worked true v (view z) → Done x v z
-  d-returns : (u : View) (f : Frame) (fs : List Frame) (a : Active) (chain : List Active) → Worked true v u → Return u x f fs a chain z → Done x v z
+  d-works : Worked m-ending v (view z) → Done x v z
+  d-returns : (u : View) (f : Frame) (fs : List Frame) (a : Active) (chain : List Active) → Worked m-ending v u → Return u x f fs a chain z → Done x v z
 
 -- after more moves
-pub then-done : {x : ℕ} {v u : View} {z : World} → ((y : View) → Worked true u y → Worked true v y) → Done x u z → Done x v z
+pub then-done : {x : ℕ} {v u : View} {z : World} → ((y : View) → Worked m-ending u y → Worked m-ending v y) → Done x u z → Done x v z
 then-done {z = z} g (d-works t) = d-works (g (view z) t)
 then-done g (d-returns u f fs a chain t r) = d-returns u f fs a chain (g u t) r
 
@@ -95,11 +96,11 @@ return-done x f fs w a chain p q r =
 
 -- ---- finish
 
-resume-worked : (w : World) (f : Fault) → Worked true (view w) (view (resumeIn w f .world))
+resume-worked : (w : World) (f : Fault) → Worked m-ending (view w) (view (resumeIn w f .world))
 unfolding pick
 resume-worked w f = go (isOk f)
   where
-    go : (b : Bool) → Worked true (view w) (view (pick b (after (nextPc w) Answer.Resume) (after w (Answer.Refused f)) .world))
+    go : (b : Bool) → Worked m-ending (view w) (view (pick b (after (nextPc w) Answer.Resume) (after w (Answer.Refused f)) .world))
     go true = tops stepPc keeps-step done
     go false = done
 
@@ -119,15 +120,15 @@ finish-done kind v w = go (w .frames) refl
     made : After Made
     made = toDyn kind v w
 
-    written : (dst : ℕ) (u : World) (r : Opt) → Worked true (view u) (view (writeResult dst r u))
+    written : (dst : ℕ) (u : World) (r : Opt) → Worked m-ending (view u) (view (writeResult dst r u))
     written dst u Opt.None = done
     written dst u (Opt.Some x) = puts dst x done
 
-    writing : (dst : ℕ) (u : World) (r : Opt) {z : View} → Worked true (view (writeResult dst r u)) z → Worked true (view u) z
+    writing : (dst : ℕ) (u : World) (r : Opt) {z : View} → Worked m-ending (view (writeResult dst r u)) z → Worked m-ending (view u) z
     writing dst u Opt.None t = t
     writing dst u (Opt.Some x) t = puts dst x t
 
-    dyn : (dst : ℕ) (u : World) (m : Made) → Worked true (view u) (view (resumeIn (writeMade dst u m .world) (writeMade dst u m .answer) .world))
+    dyn : (dst : ℕ) (u : World) (m : Made) → Worked m-ending (view u) (view (resumeIn (writeMade dst u m .world) (writeMade dst u m .answer) .world))
     dyn dst u (Made.Word x) = puts dst x (resume-worked (putReg dst x u) Fault.None)
     dyn dst u (Made.Refused f) = resume-worked u f
 
@@ -153,13 +154,13 @@ finish-done kind v w = go (w .frames) refl
 
 -- the body x fails, and then more
 pub failing : (x : Frame) (xs : List Frame) (value : ℕ) (w : World) (a : Active) (chain : List Active) → w .frames ≡ x ∷ xs → isCoro (x .cont) ≡ true → w .chain ≡ a ∷ chain
-    → {z : View} → Worked true (view (finishCoroutine (a .coro) CoroState.Failed value (withChain chain (popTo x xs w)))) z → Worked true (view w) z
+    → {z : View} → Worked m-ending (view (finishCoroutine (a .coro) CoroState.Failed value (withChain chain (popTo x xs w)))) z → Worked m-ending (view w) z
 failing x xs value w a chain p q r {z} t =
     let v = withChain chain (popTo x xs w) in
     let y = finishCoroutine (a .coro) CoroState.Failed value v in
     let g = change-still v (a .coro) (inState CoroState.Failed) (ended value) in
     fails x xs a chain (coreAt y) refl p q r (finish-ends (a .coro) CoroState.Failed value v)
-    (subst (λ n. Worked true n z) (λ i. record { setup = g .setup i; stack = g .stack i; frames = g .frames i; chain = g .chain i; cores = coreAt y }) t)
+    (subst (λ n. Worked m-ending n z) (λ i. record { setup = g .setup i; stack = g .stack i; frames = g .frames i; chain = g .chain i; cores = coreAt y }) t)
 
 module _ (value f pc : ℕ) where
   -- what the search goes on with, where the frames are xs
@@ -199,7 +200,7 @@ module _ (value f pc : ℕ) where
   leaving x xs next w p Cont.Discard q = then-done (λ y t. pops x xs p (inl (ap isCoro q)) t) (next (popTo x xs w) refl)
   leaving x xs next w p Cont.Coro q = escaped x xs next w p (ap isCoro q)
 
-  pub handled : (h : Handler) (w : World) (ch : Charge) → Worked true (view w) (view (caught h value w ch .world))
+  pub handled : (h : Handler) (w : World) (ch : Charge) → Worked m-ending (view w) (view (caught h value w ch .world))
   handled h w (Charge.Done n) = tops (setPc (h .target)) (keeps-pc (h .target)) (puts (h .catch) value done)
   handled h w Charge.Spent = done
   handled h w (Charge.Close n) = tops (setPc (h .target)) (keeps-pc (h .target)) (puts (h .catch) value done)

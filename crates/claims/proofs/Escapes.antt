@@ -1,16 +1,14 @@
 -- unwind: who returns by it. The frames are searched as the claim's `escaped` does.
 use Prim.Native.Nat.{ℕ}
-use native.Mathlib.Decide.{ℕ-discrete}
 use mathlib.Core.Path.{_≡_, refl, sym, ap, _∙_, subst}
-use mathlib.Core.Logic.{_≢_, _⊎_, inl, inr}
+use mathlib.Core.Logic.{_≢_, inl, inr}
 use mathlib.Core.Bool.{Bool, true, false, _&&_, _||_}
 use mathlib.Core.List.{List, [], _∷_}
 use mathlib.Core.Option.{Option, none, some}
-use lib.Dec.{eqb, leb, ltb}
+use lib.Dec.{eqb}
 use Rattle.lists.specs.Pick.{pick}
-use Rattle.heap.specs.Word.{nil, slotOf}
+use Rattle.heap.specs.Word.{nil}
 use Rattle.heap.specs.Table.{Slot}
-use Rattle.heap.specs.declared.fault.Fault.{Fault}
 use Rattle.heap.specs.declared.object.CoroState.{CoroState}
 use Rattle.model.specs.Program.{func, firstOf, covers}
 use Rattle.model.specs.Object.{Core, Rest, Object, Coroutine, Absent, Is, asCoro}
@@ -28,17 +26,15 @@ use Rattle.model.specs.declared.machine.Driver.{Driver}
 use Rattle.model.specs.declared.machine.Active.{Active}
 use Rattle.model.specs.declared.machine.Frame.{Frame}
 use Rattle.model.specs.declared.machine.Stop.{Stop}
-use Rattle.model.specs.declared.machine.Charge.{Charge}
 use Rattle.model.specs.declared.call.OptPc.{OptPc}
 use Rattle.model.specs.declared.call.Answer.{Answer}
 use Rattle.claims.specs.Engine as Engine
-use Rattle.claims.specs.Engine.{Seen, seenIn}
+use Rattle.claims.specs.Engine.{seenIn}
 use Rattle.claims.specs.Events as Events
 use Rattle.claims.specs.Events.{goesOn, escaped}
 use Rattle.claims.specs.Steps.{seenOf}
-use Rattle.claims.proofs.Held.{coreAt}
-use Rattle.claims.proofs.Cores.{no-both, coroIn, put-away, named-coro}
-use Rattle.claims.proofs.Shape.{View, view, Worked, done, tops, puts, pops, fails, Return, Apart}
+use Rattle.claims.proofs.Cores.{coroIn, put-away, named-coro, m-ending}
+use Rattle.claims.proofs.Shape.{View, view, Worked, done, pops, Return, Apart}
 use Rattle.claims.proofs.Enters.{charge-none}
 use Rattle.claims.proofs.Quiet.{same-worked, change-still}
 use Rattle.claims.proofs.Endings.{return-done, failing, handled}
@@ -46,10 +42,10 @@ use Rattle.claims.proofs.Endings.{return-done, failing, handled}
 -- ---- moves, and then perhaps a return
 
 pub data Ended (v : View) (o : After Answer) : Option ℕ → Type 0 where
-  e-works : Worked true v (view (o .world)) → Ended v o none
-  e-returns : (u : View) (f : Frame) (fs : List Frame) (a : Active) (chain : List Active) → Worked true v u → Return u nil f fs a chain (o .world) → numberOf (o .answer) ≡ 0 → Ended v o (some (a .coro))
+  e-works : Worked m-ending v (view (o .world)) → Ended v o none
+  e-returns : (u : View) (f : Frame) (fs : List Frame) (a : Active) (chain : List Active) → Worked m-ending v u → Return u nil f fs a chain (o .world) → numberOf (o .answer) ≡ 0 → Ended v o (some (a .coro))
 
-pub then-ended : {v u : View} {o : After Answer} {who : Option ℕ} → ((y : View) → Worked true u y → Worked true v y) → Ended u o who → Ended v o who
+pub then-ended : {v u : View} {o : After Answer} {who : Option ℕ} → ((y : View) → Worked m-ending u y → Worked m-ending v y) → Ended u o who → Ended v o who
 then-ended {o = o} g (e-works t) = e-works (g (view (o .world)) t)
 then-ended g (e-returns u f fs a chain t r n) = e-returns u f fs a chain (g u t) r n
 

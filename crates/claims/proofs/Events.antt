@@ -5,7 +5,8 @@ use native.Mathlib.Decide.{ℕ-discrete}
 use mathlib.Core.Path.{_≡_, refl, sym, ap, _∙_, subst}
 use mathlib.Core.Logic.{_⊎_, inl, inr}
 use mathlib.Core.Bool.{Bool, true, false, _||_}
-use mathlib.Core.List.{List, [], _∷_}
+use mathlib.Core.List.{List, _∷_}
+use mathlib.Core.Option.{none}
 use Rattle.heap.specs.declared.object.CoroState.{CoroState}
 use Rattle.model.specs.State.{isCreated, isRunning, isSuspended, isResumable}
 use Rattle.model.specs.World.{World}
@@ -13,12 +14,12 @@ use Rattle.model.specs.declared.machine.Driver.{Driver}
 use Rattle.model.specs.declared.machine.Active.{Active}
 use Rattle.model.specs.declared.machine.Frame.{Frame}
 use Rattle.model.specs.declared.call.Op.{Op}
-use Rattle.claims.specs.Says.{Sent, nothing, gets, closes}
+use Rattle.claims.specs.Says.{Sent}
 use Rattle.claims.proofs.Entry.{suspends, at, Entry, entry, nobody, act, entryBy, pcBy}
 use Rattle.claims.proofs.Suspension.{suspendsIn, takesBy}
 use Rattle.claims.proofs.Held.{Seat, coreAt}
-use Rattle.claims.proofs.Cores.{no-both, busy, Kept, kept, unborn}
-use Rattle.claims.proofs.Shape.{View, over, Ends, Worked, done, quiet, tops, puts, pushes, pops, fails, Enter, Suspend, Return, Apart, Stop, Says, Shape, works, enters, suspended, returns, stops}
+use Rattle.claims.proofs.Cores.{no-both, busy, Mode, m-plain, m-ending, m-undoing, Kept, kept, unborn}
+use Rattle.claims.proofs.Shape.{View, over, Ends, Worked, done, quiet, tops, puts, pushes, pops, fails, Enter, Suspend, Return, Apart, Stop, Says, modeOf, Shape, works, enters, suspended, returns, stops}
 
 -- ---- states
 
@@ -72,9 +73,9 @@ ready-run CoroState.Failed e = refl
 
 -- ---- a state that only a switch can give: P is isRunning or isSuspended
 module _ (P : CoroState → Bool) (idle : (s : CoroState) → busy s ≡ false → P s ≡ false) where
-  pub not-kept : {k l : Seat} → Kept k l → P (k .state) ≡ false → P (l .state) ≡ false
+  pub not-kept : {b : Mode} {c : ℕ} {k l : Seat} → Kept b c k l → P (k .state) ≡ false → P (l .state) ≡ false
   not-kept (kept e) h = ap (λ x. P (x .state)) e ∙ h
-  not-kept {l = l} (unborn a b m) h = idle (l .state) b
+  not-kept {l = l} (unborn a b m n) h = idle (l .state) b
 
   pub not-ends : {s : CoroState} {v : ℕ} {k l : ℕ → Seat} → Ends s v k l → busy s ≡ false → (u : ℕ) → P (k u .state) ≡ false → P (l u .state) ≡ false
   not-ends {s} {v} {k} {l} e b u h = go (ℕ-discrete u v)
@@ -87,7 +88,7 @@ module _ (P : CoroState → Bool) (idle : (s : CoroState) → busy s ≡ false �
       go (yes q) = ap (λ y. P (l y .state)) q ∙ mine (e .mine) (ap (λ y. P (k y .state)) (sym q) ∙ h)
       go (no q) = ap (λ y. P (y .state)) (e .others u q) ∙ h
 
-  pub not-worked : (c : ℕ) {b : Bool} {v z : View} → Worked b v z → P (v .cores c .state) ≡ false → P (z .cores c .state) ≡ false
+  pub not-worked : (c : ℕ) {b : Mode} {v z : View} → Worked b v z → P (v .cores c .state) ≡ false → P (z .cores c .state) ≡ false
   not-worked c done h = h
   not-worked c (quiet k q t) h = not-worked c t (not-kept (q c) h)
   not-worked c (tops g e t) h = not-worked c t h
@@ -180,35 +181,44 @@ suspended-one {w} {z} {o} c (suspended p ok s dst x a chain e q t) h r = go (ℕ
 suspended-one c (returns v x f fs a chain e en g t u) h r = no-both r (not-return isSuspended idle-susp c u (not-worked isSuspended idle-susp c t h))
 suspended-one c (stops e i t) h r = no-both r (not-stop isSuspended idle-susp c t h)
 
--- ---- one that has begun, does not run and is not entered stays as it is
-module _ (c : ℕ) (k : Seat) (begun : isCreated (k .state) ≡ false) where
-  stays : {l m : Seat} → Kept l m → l ≡ k → m ≡ k
-  stays (kept e) h = e ∙ h
-  stays {l} (unborn a b m) h = no-both a (ap (λ x. isCreated (x .state)) h ∙ begun)
+-- ---- one that does not run and is not entered stays as it is, if it has begun, or is there and is not ended
 
-  keep-worked : {b : Bool} {v z : View} → Worked b v z → Apart c (v .chain) → v .cores c ≡ k → Apart c (z .chain) × (z .cores c ≡ k)
-  keep-worked done n h = (n, h)
-  keep-worked (quiet l q t) n h = keep-worked t n (stays (q c) h)
-  keep-worked (tops g e t) n h = keep-worked t n h
-  keep-worked (puts r x t) n h = keep-worked t n h
-  keep-worked (pushes f xs p q t) n h = keep-worked t n h
-  keep-worked (pops f fs p q t) n h = keep-worked t n h
-  keep-worked (fails f fs a chain l y p q r e t) n h =
+-- a call of mode b does not end c, which is k
+abbrev pub Firm : ℕ → Seat → Mode → Type 0
+Firm c k b = isCreated (k .state) ≡ true → (k .seen ≡ none) ⊎ (b ≡ m-undoing c) → ⊥
+
+module _ (c : ℕ) (k : Seat) where
+  stays : {b : Mode} {l m : Seat} → Firm c k b → Kept b c l m → l ≡ k → m ≡ k
+  stays f (kept e) h = e ∙ h
+  stays {b} {l} {m = j} f (unborn a i m n) h = absurd (f (ap (λ x. isCreated (x .state)) (sym h) ∙ a) (of n))
+    where
+      of : ((l .seen ≡ none) × (isCreated (j .state) ≡ true)) ⊎ (b ≡ m-undoing c) → (k .seen ≡ none) ⊎ (b ≡ m-undoing c)
+      of (inl x) = inl (ap (λ (y : Seat). y .seen) (sym h) ∙ x .0)
+      of (inr x) = inr x
+
+  keep-worked : {b : Mode} {v z : View} → Firm c k b → Worked b v z → Apart c (v .chain) → v .cores c ≡ k → Apart c (z .chain) × (z .cores c ≡ k)
+  keep-worked f done n h = (n, h)
+  keep-worked f (quiet l q t) n h = keep-worked f t n (stays f (q c) h)
+  keep-worked f (tops g e t) n h = keep-worked f t n h
+  keep-worked f (puts r x t) n h = keep-worked f t n h
+  keep-worked f (pushes g xs p q t) n h = keep-worked f t n h
+  keep-worked f (pops g fs p q t) n h = keep-worked f t n h
+  keep-worked f (fails g fs a chain l y p q r e t) n h =
       let m : Apart c (a ∷ chain) = subst (Apart c) r n in
-      keep-worked t (m .1) (e .others c (m .0) ∙ h)
+      keep-worked f t (m .1) (e .others c (m .0) ∙ h)
 
-  pub sleeps-on : {w z : World} {o : Op} → Shape w o z → Apart c (w .chain) → coreAt w c ≡ k → isRunning (coreAt z c .state) ≡ false → coreAt z c ≡ k
-  sleeps-on (works e b m t) n h r = keep-worked t n h .1
-  sleeps-on {w} {z} (enters u d sent e t) n h r = go (ℕ-discrete c u)
+  pub sleeps-on : {w z : World} {o : Op} → Firm c k m-plain → Firm c k m-ending → Firm c k (modeOf (act w o)) → Shape w o z → Apart c (w .chain) → coreAt w c ≡ k → isRunning (coreAt z c .state) ≡ false → coreAt z c ≡ k
+  sleeps-on f g i (works e b m t) n h r = keep-worked (subst (Firm c k) m i) t n h .1
+  sleeps-on {w} {z} f g i (enters u d sent e t) n h r = go (ℕ-discrete c u)
     where
       go : Dec (c ≡ u) → coreAt z c ≡ k
       go (yes q) = no-both (ap (λ x. isRunning (coreAt z x .state)) q ∙ t .mine) r
       go (no q) = t .others c q ∙ h
-  sleeps-on {w} (suspended p ok s dst x a chain e q t) n h r = stays (t .others c (subst (Apart c) (t .inmost) n .0)) h
-  sleeps-on (returns v x f fs a chain e en g t u) n h r =
-      let m = keep-worked t n h in
+  sleeps-on {w} f g i (suspended p ok s dst x a chain e q t) n h r = stays f (t .others c (subst (Apart c) (t .inmost) n .0)) h
+  sleeps-on f g i (returns v x y fs a chain e en ev t u) n h r =
+      let m = keep-worked g t n h in
       u .ends .others c (subst (Apart c) (u .inmost) (m .0) .0) ∙ m .1
-  sleeps-on (stops e i t) n h r = t .apart c n ∙ h
+  sleeps-on f g i (stops e j t) n h r = t .apart c n ∙ h
 
 -- where coro_suspend accepts, the innermost coroutine is suspended
 pub takes-suspends : {w z : World} {o : Op} → Shape w o z → takesBy (act w o) (suspendsIn o) w ≡ true → (a : Active) × (chain : List Active) × (w .chain ≡ a ∷ chain) × (isSuspended (coreAt z (a .coro) .state) ≡ true)

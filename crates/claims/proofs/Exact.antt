@@ -1,42 +1,29 @@
 -- The events are exact: the proof.
 use Prim.Native.Nat.{ℕ}
 use native.Mathlib.Omega.{arith}
-use native.Mathlib.Decide.{ℕ-discrete}
-use mathlib.Core.Path.{_≡_, refl, sym, ap, _∙_, subst}
-use mathlib.Core.Logic.{_≢_, _⊎_, inl, inr}
-use mathlib.Core.Bool.{Bool, true, false, _&&_}
+use mathlib.Core.Path.{_≡_, refl, sym, ap, _∙_}
+use mathlib.Core.Bool.{Bool, true, false}
 use mathlib.Core.List.{List, [], _∷_}
 use mathlib.Core.Option.{Option, none, some}
-use lib.Dec.{eqb}
 use Rattle.lists.specs.Pick.{pick, pick-true}
 use Rattle.heap.specs.declared.fault.Fault.{Fault}
-use Rattle.heap.specs.declared.heap.ResultKind.{ResultKind}
-use Rattle.heap.specs.declared.object.CoroState.{CoroState}
-use Rattle.model.specs.State.{isCreated, isRunning, isSuspended, isReturned}
-use Rattle.model.specs.Object.{Core}
-use Rattle.model.specs.World.{World, After}
-use Rattle.model.specs.Frames.{isCoro}
+use Rattle.model.specs.State.{isSuspended}
+use Rattle.model.specs.World.{World}
 use Rattle.model.specs.Heap.{coro}
-use Rattle.model.specs.Coro.{inState}
-use Rattle.model.specs.Machine.{finish, unwind}
 use Rattle.model.specs.Gate.{refused}
 use Rattle.model.specs.Sound.{sound}
 use Rattle.model.specs.Answer.{numberOf}
 use Rattle.model.specs.Call.{Call, SetUp, Do, Operation, typed, asCall}
 use Rattle.model.specs.Step as M
 use Rattle.model.specs.Step.{call, tested, step, told}
-use Rattle.model.specs.declared.machine.Cont.{Cont}
 use Rattle.model.specs.declared.machine.Active.{Active}
-use Rattle.model.specs.declared.machine.Frame.{Frame}
-use Rattle.model.specs.declared.call.OptPc.{OptPc}
 use Rattle.model.specs.declared.call.Op.{Op}
-use Rattle.model.specs.declared.call.Answer.{Answer}
 use Rattle.claims.specs.Engine as Engine
-use Rattle.claims.specs.Says.{Aim, enter, suspend, neither, Does, instr, hosts, finishes, raises, other, does, doing, Entry, entry, whomBy, whom}
+use Rattle.claims.specs.Says.{suspend, neither, Does, does, doing, Entry, entry}
 use Rattle.claims.specs.Held.{By}
 use Rattle.claims.specs.Demand3 as D
 use Rattle.claims.specs.Events as Said
-use Rattle.claims.specs.Events.{Healthy, inmost, isBody, onBody, suspended, returned}
+use Rattle.claims.specs.Events.{Healthy, inmost, suspended}
 use Rattle.claims.specs.Steps.{viewOf, opOf, steps}
 use Rattle.claims.proofs.Entry as E
 use Rattle.claims.proofs.Entry.{act, pcBy, entryBy}
@@ -44,23 +31,18 @@ use Rattle.claims.proofs.Suspension.{suspendsIn, takesBy}
 use Rattle.claims.proofs.Held.{coreIn, coreAt}
 use Rattle.claims.proofs.Split.{next, Suspends, Enters}
 use Rattle.claims.proofs.Accepted as A
-use Rattle.claims.proofs.Cores.{no-both, and-left, and-right, Kept, kept, unborn}
+use Rattle.claims.proofs.Cores.{no-both}
 use Rattle.claims.proofs.Shape as S
-use Rattle.claims.proofs.Shape.{View, view, Ends, Worked, done, quiet, tops, puts, pushes, pops, fails, Apart, Shape}
-use Rattle.claims.proofs.Events.{run-born, run-susp, ready-run, suspended-one, no-entry}
-use Rattle.claims.proofs.Sounds.{apart, first-runs}
+use Rattle.claims.proofs.Events.{run-susp, suspended-one}
 use Rattle.claims.proofs.Calls.{shape}
 use Rattle.claims.proofs.Claim as Claim
 use Rattle.claims.proofs.Claim.{StepCase, anew, same, step-case, fresh-absent, entry-sound}
-use Rattle.claims.proofs.Acceptance.{exactly, named-enters, suspends-exactly, takes-sound}
-use Rattle.claims.proofs.Views.{is-runs, is-sleeps, is-ended, Alike, l-at, l-host, l-finish, l-raise, l-other, says-alike}
+use Rattle.claims.proofs.Acceptance.{named-enters, suspends-exactly, takes-sound}
+use Rattle.claims.proofs.Views.{is-runs, is-sleeps, Alike, l-at, l-host, l-finish, l-raise, l-other, says-alike}
 use Rattle.claims.proofs.Whom as Whom
 use Rattle.claims.proofs.Whom.{whom-told}
 use Rattle.claims.proofs.Restores as Restores
-use Rattle.claims.proofs.Restores.{enters-old, suspends-old}
-use Rattle.claims.proofs.Finishes.{FinishCase, f-other, f-returns, finish-case, bodyOn}
-use Rattle.claims.proofs.Escapes.{Ended, e-works, e-returns}
-use Rattle.claims.proofs.Unwinds.{unwind-ended}
+use Rattle.claims.proofs.Restores.{suspends-old}
 use Rattle.claims.proofs.Numbers.{okNumber, aimsTo, call-number}
 
 -- ---- a machine that is not refused is sound

@@ -1,14 +1,12 @@
 -- The events are exact: the claim, of `step`.
 use Prim.Native.Nat.{ℕ}
 use native.Mathlib.Omega.{arith}
-use mathlib.Core.Path.{_≡_, refl, sym, _∙_}
+use mathlib.Core.Path.{_≡_, refl}
 use mathlib.Core.Option.{Option, none, some}
-use Rattle.model.specs.World.{World}
 use Rattle.model.specs.Answer.{numberOf}
-use Rattle.model.specs.Call.{Call}
 use Rattle.model.specs.Step.{step}
 use Rattle.claims.specs.Engine.{View}
-use Rattle.claims.specs.Says.{Aim, enter, suspend, neither, Does, instr, hosts, finishes, raises, other, doing, Entry, whomBy}
+use Rattle.claims.specs.Says.{Does, instr, hosts, finishes, raises, other, doing, Entry, whomBy}
 use Rattle.claims.specs.Demand3 as D
 use Rattle.claims.specs.Demand3.{Demand3}
 use Rattle.claims.specs.Events as Said
@@ -23,7 +21,8 @@ use Rattle.claims.proofs.Returned.{returns, returned-by, closed}
 use Rattle.claims.proofs.Losses.{fails-by, failed-by}
 use Rattle.claims.proofs.Values.{integer, word}
 use Rattle.claims.proofs.Closing.{closing, yielded, awaited, fixed}
-use Rattle.claims.proofs.Still.{still}
+use Rattle.claims.proofs.Still.{still, unbegun}
+use Rattle.claims.proofs.States.{runs-on, comes}
 
 -- a call that lets one return enters nobody, and suspends nobody
 not-whom : (v : View) (d : Does) (n u : ℕ) → returned v d n ≡ some u → whomBy v d ≡ none
@@ -61,6 +60,9 @@ events =
       closing = closing;
       awaited = awaited;
       still = still;
+      unbegun = unbegun;
+      runs-on = runs-on;
+      comes = comes;
       fixed = fixed;
       one-switch = λ c u w k h g. exactly w k c .one-switch u (enters-old c w k h) (suspends-old u w k g);
       no-return = λ c u w k h g. no-entry (not-whom (viewOf w) (doing (viewOf w) (opOf k)) (numberOf (step w k .answer)) u (returns u w k g)) (Restores.entered c w k h .by .says);

@@ -2,12 +2,11 @@
 use Prim.Native.Nat.{ℕ}
 use native.Mathlib.Decide.{ℕ-discrete}
 use mathlib.Core.Path.{_≡_, refl, sym, ap, _∙_, subst}
-use mathlib.Core.Logic.{_≢_, _⊎_, inl, inr}
+use mathlib.Core.Logic.{_⊎_, inl, inr}
 use mathlib.Core.Bool.{Bool, true, false, _&&_, _||_}
 use mathlib.Core.List.{List, [], _∷_}
-use mathlib.Core.Option.{Option, none, some}
 use lib.Dec.{eqb}
-use borrow.Author.Tests.{eqb-true, eqb-false, eq-eqb}
+use borrow.Author.Tests.{eqb-true, eqb-false}
 use Rattle.lists.specs.Pick.{pick}
 use Rattle.heap.specs.Word.{nil}
 use Rattle.heap.specs.declared.object.CoroState.{CoroState}
@@ -17,11 +16,10 @@ use Rattle.model.specs.Object.{Coroutine, Absent, Is}
 use Rattle.model.specs.World.{World, After, after, andThen, withChain}
 use Rattle.model.specs.Frames.{isCoro, popTo}
 use Rattle.model.specs.Heap.{coro}
-use Rattle.model.specs.Coro.{inState, ended, finishCoroutine, deliverReturn, closedBy, failTo, escapedOn, coroEscaped}
+use Rattle.model.specs.Coro.{inState, ended, finishCoroutine, deliverReturn, failTo, escapedOn, coroEscaped}
 use Rattle.model.specs.Cleanup.{charge}
 use Rattle.model.specs.Machine.{caught, stopOr, escape, searchAs, search}
 use Rattle.model.specs.Answer.{numberOf}
-use Rattle.model.specs.declared.program.Handler.{Handler}
 use Rattle.model.specs.declared.program.Caught.{Caught}
 use Rattle.model.specs.declared.machine.Cont.{Cont}
 use Rattle.model.specs.declared.machine.Driver.{Driver}
@@ -36,7 +34,7 @@ use Rattle.claims.specs.Engine.{seenIn, is}
 use Rattle.claims.specs.Events as Events
 use Rattle.claims.specs.Events.{among, goesOn, losing, lost}
 use Rattle.claims.specs.Steps.{seenOf}
-use Rattle.claims.proofs.Held.{Seat, coreIn, coreAt}
+use Rattle.claims.proofs.Held.{coreIn, coreAt}
 use Rattle.claims.proofs.Cores.{no-both}
 use Rattle.claims.proofs.Shape.{over, Ends}
 use Rattle.claims.proofs.Events.{run-born}

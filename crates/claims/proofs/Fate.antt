@@ -20,10 +20,10 @@ use Rattle.model.specs.declared.machine.Driver.{Driver}
 use Rattle.model.specs.declared.machine.Active.{Active}
 use Rattle.model.specs.declared.machine.Frame.{Frame}
 use Rattle.model.specs.declared.call.Op.{Op}
-use Rattle.claims.specs.Says.{Sent, nothing, gets, closes}
+use Rattle.claims.specs.Says.{Sent}
 use Rattle.claims.proofs.Entry.{at, suspends, act, pcBy}
 use Rattle.claims.proofs.Held.{Seat, coreAt, wordsWith, framesWith, Event, Yields, Awaits, Ignores, Returns, eventAs, eventBy, Mem, mem, put, send, deliverTo}
-use Rattle.claims.proofs.Cores.{no-both, Kept, kept, unborn}
+use Rattle.claims.proofs.Cores.{no-both, Kept, kept, unborn, Mode}
 use Rattle.claims.proofs.Shape as S
 use Rattle.claims.proofs.Shape.{View, view, Ends, Keeps, Worked, done, quiet, tops, puts, pushes, pops, fails, Enter, Suspend, Return, Apart, Shape, works, enters, suspended, returns, stops}
 use Rattle.claims.proofs.Events.{run-born, ready-run}
@@ -98,13 +98,13 @@ module _ (c : ℕ) (d : Driver) (bs : List ℕ) (bf : List Frame) (bc : List Act
   body-ext f fs a rs (x-coro e b q m x) p = b-stays m x b
 
   -- ---- moves
-  kept-runs : {k l : Seat} → Kept k l → isRunning (k .state) ≡ true → isRunning (l .state) ≡ true
+  kept-runs : {b : Mode} {u : ℕ} {k l : Seat} → Kept b u k l → isRunning (k .state) ≡ true → isRunning (l .state) ≡ true
   kept-runs (kept e) h = ap (λ x. isRunning (x .state)) e ∙ h
-  kept-runs {k} (unborn a b m) h = no-both a (run-born (k .state) h)
+  kept-runs {k} (unborn a b m n) h = no-both a (run-born (k .state) h)
 
-  kept-failed : {k l : Seat} → Kept k l → k .state ≡ CoroState.Failed → l .state ≡ CoroState.Failed
+  kept-failed : {b : Mode} {u : ℕ} {k l : Seat} → Kept b u k l → k .state ≡ CoroState.Failed → l .state ≡ CoroState.Failed
   kept-failed (kept e) h = ap (λ x. x .state) e ∙ h
-  kept-failed {k} (unborn a b m) h = no-both a (failed-born k h)
+  kept-failed {k} (unborn a b m n) h = no-both a (failed-born k h)
 
   ended : {s : CoroState} {v : ℕ} {k l : ℕ → Seat} → Ends s v k l → v ≡ c → isRunning (k c .state) ≡ true → l c .state ≡ s
   ended {s} {v} {k} {l} e q r = go (e .mine)
@@ -113,7 +113,7 @@ module _ (c : ℕ) (d : Driver) (bs : List ℕ) (bf : List Frame) (bc : List Act
       go (inl x) = ap (λ y. l y .state) (sym q) ∙ ap (λ y. y .state) x
       go (inr x) = no-both (x .0) (run-born (k v .state) (ap (λ y. isRunning (k y .state)) q ∙ r))
 
-  lost-worked : {b : Bool} {v z : View} → Worked b v z → Lost v → Lost z
+  lost-worked : {b : Mode} {v z : View} → Worked b v z → Lost v → Lost z
   lost-worked done h = h
   lost-worked (quiet k q t) h = lost-worked t (record { failed = kept-failed (q c) (h .failed); gone = h .gone })
   lost-worked (tops g e t) h = lost-worked t (record { failed = h .failed; gone = h .gone })
@@ -150,7 +150,7 @@ module _ (c : ℕ) (d : Driver) (bs : List ℕ) (bf : List Frame) (bc : List Act
             runs = ap (λ y. isRunning (y .state)) (e .others c (λ y. m (sym y))) ∙ u .runs;
           })
 
-  pub worked-under : {b : Bool} {v z : View} → Worked b v z → U v → U z ⊎ L z
+  pub worked-under : {b : Mode} {v z : View} → Worked b v z → U v → U z ⊎ L z
   worked-under done u = inl u
   worked-under (quiet k q t) u = worked-under t (record { over = u .over; runs = kept-runs c d bs bf bc (q c) (u .runs) })
   worked-under (tops {v} g e t) u = worked-under t (record { over = over-top c d bs bf bc g e (mem (v .stack) (v .frames)) (u .over); runs = u .runs })

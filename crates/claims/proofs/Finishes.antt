@@ -6,7 +6,6 @@ use mathlib.Core.Path.{_≡_, refl, sym, ap, _∙_, subst}
 use mathlib.Core.Logic.{_⊎_, inl, inr}
 use mathlib.Core.Bool.{Bool, true, false, not}
 use mathlib.Core.List.{List, [], _∷_}
-use mathlib.Core.Option.{Option, none, some}
 use lib.Dec.{eqb}
 use borrow.Author.Tests.{eqb-true, eq-eqb}
 use Rattle.lists.specs.Pick.{pick}
@@ -28,10 +27,10 @@ use Rattle.heap.specs.declared.object.CoroState.{CoroState}
 use Rattle.model.specs.State.{isRunning}
 use Rattle.model.specs.Object.{Core, Rest, Object, Coroutine, Absent, Is, isFilled, asCoro}
 use Rattle.model.specs.World.{World, After, after, withChain, withUsed, withSlots}
-use Rattle.model.specs.Frames.{isCoro, nextPc, popTo, putReg}
+use Rattle.model.specs.Frames.{isCoro, nextPc, popTo}
 use Rattle.model.specs.Heap.{objectAt, object, coro, intIn, dynInt, changeAs, changeCoro, changeIterIn, fits, slotsFull, refuse, alloc, encodeAt, encodeInt, encodeExact, toDyn}
 use Rattle.model.specs.Coro.{inState, ended, finishCoroutine, deliverReturn, returnedOn, coroReturned}
-use Rattle.model.specs.Machine.{resultOf, orNil, writeResult, writeMade, applyCont, isOk, resumeIn, returnMade, finishAs, finishOn, finish}
+use Rattle.model.specs.Machine.{resultOf, writeResult, writeMade, applyCont, isOk, resumeIn, returnMade, finishAs, finishOn, finish}
 use Rattle.model.specs.Answer.{numberOf}
 use Rattle.model.specs.declared.machine.Cont.{Cont}
 use Rattle.model.specs.declared.machine.Driver.{Driver}
@@ -43,7 +42,7 @@ use Rattle.claims.specs.Delivery.{recorded}
 use Rattle.claims.specs.Steps.{seenOf}
 use Rattle.claims.proofs.Held.{coreIn, coreAt}
 use Rattle.claims.proofs.Cores.{no-both, coroIn, objectIn, Named, named, named-coro, put-here, put-away, set-mine}
-use Rattle.claims.proofs.Shape.{view, Ends, Return}
+use Rattle.claims.proofs.Shape.{Ends}
 use Rattle.claims.proofs.Quiet.{dyn-same}
 use Rattle.claims.proofs.Endings.{return-done}
 

@@ -31,9 +31,9 @@ use Rattle.claims.specs.Held.{closedBy}
 use Rattle.claims.proofs.Entry.{Aim, enters, suspends, neither, at, act, Entry, nobody, entry, accepts, sentTo, aimed, charged, entryBy, pcBy}
 use Rattle.claims.proofs.Suspension.{suspendsIn, paidBy, takesBy}
 use Rattle.claims.proofs.Held.{coreIn, coreAt, wordsWith, framesWith, heldAs, eventAs, mem, deliverTo}
-use Rattle.claims.proofs.Cores.{coroIn, Kept}
+use Rattle.claims.proofs.Cores.{coroIn, Kept, Mode, m-plain}
 use Rattle.claims.proofs.Shape as S
-use Rattle.claims.proofs.Shape.{View, view, Worked, done, tops, Enter, Suspend, Shape}
+use Rattle.claims.proofs.Shape.{View, view, Worked, done, tops, Enter, Suspend, Shape, modeBy, modeOf}
 use Rattle.claims.proofs.Under.{keeps-pc}
 use Rattle.claims.proofs.Enters.{length-top, coro-slots, accepts-reads, Ready, r-same, r-stored, ChargeCase, c-done, c-spent, c-close, charge-case}
 
@@ -47,7 +47,7 @@ pub record Alike (p : ℕ) (w v : World) : Type 0 where
   pub base : topBase (v .frames) ≡ topBase (w .frames)
   pub chain : v .chain ≡ w .chain
   pub slots : v .slots ≡ w .slots
-  pub works : (z : View) → Worked false (view v) z → Worked false (view w) z
+  pub works : (b : Mode) (z : View) → Worked b (view v) z → Worked b (view w) z
 
 base-top : (p : ℕ) (fs : List Frame) → topBase (onTop (setPc p) fs) ≡ topBase fs
 base-top p [] = refl
@@ -67,7 +67,7 @@ alike {p} {w} {v} (r-same a b c d e) =
       base = ap topBase c;
       chain = d;
       slots = e;
-      works = λ z t. subst (λ x. Worked false x z) (λ i. record { setup = a i; stack = b i; frames = c i; chain = d i; cores = λ x. coreIn (coroIn (e i) x) }) t;
+      works = λ n z t. subst (λ x. Worked n x z) (λ i. record { setup = a i; stack = b i; frames = c i; chain = d i; cores = λ x. coreIn (coroIn (e i) x) }) t;
     }
 alike {p} {w} {v} (r-stored s) =
     record {
@@ -78,7 +78,7 @@ alike {p} {w} {v} (r-stored s) =
       base = ap topBase (s .frames) ∙ base-top p (w .frames);
       chain = s .chain;
       slots = s .slots;
-      works = λ z t. tops (setPc p) (keeps-pc p) (subst (λ x. Worked false x z) (λ i. record { setup = s .setup i; stack = s .stack i; frames = s .frames i; chain = s .chain i; cores = λ x. coreIn (coroIn (s .slots i) x) }) t);
+      works = λ b z t. tops (setPc p) (keeps-pc p) (subst (λ x. Worked b x z) (λ i. record { setup = s .setup i; stack = s .stack i; frames = s .frames i; chain = s .chain i; cores = λ x. coreIn (coroIn (s .slots i) x) }) t);
     }
 
 module _ {p : ℕ} {w v : World} (a : Alike p w v) where
@@ -117,7 +117,7 @@ module _ {p : ℕ} {w v : World} (a : Alike p w v) where
         inmost = sym (a .chain) ∙ t .inmost;
         asleep = t .asleep;
         mine = t .mine ∙ (λ i. heldAs (coreAt z (b .coro) .seen) (core-alike (b .coro) i .closing) s dst (b .floor) (baseAt (b .floor) (a .tops i)) (a .tops i) (a .stack i));
-        others = λ u n. subst (λ k. Kept k (coreAt z u)) (core-alike u) (t .others u n);
+        others = λ u n. subst (λ k. Kept m-plain u k (coreAt z u)) (core-alike u) (t .others u n);
         under = t .under ∙ (λ i. deliverTo (b .driver) (eventAs (marked (λ r. r .closing) (coro-alike (b .coro) i)) s x) (mem (take (baseAt (b .floor) (a .tops i)) (a .stack i)) (below (b .floor) (a .tops i))));
         outer = t .outer;
       }
@@ -126,7 +126,7 @@ module _ {p : ℕ} {w v : World} (a : Alike p w v) where
 
 -- t: whether coro_suspend accepts in it
 pub data Arm (v : World) (p : ℕ) (x : Aim) (t : Bool) (z : World) : Type 0 where
-  a-works : t ≡ false → aimed x v ≡ nobody → Worked false (view v) (view z) → Arm v p x t z
+  a-works : t ≡ false → aimed x v ≡ nobody → Worked (modeBy x) (view v) (view z) → Arm v p x t z
   a-enters : t ≡ false → (c : ℕ) (d : Driver) (sent : Sent) → aimed x v ≡ entry c d sent → Enter v p c d sent z → Arm v p x t z
   a-suspends : t ≡ true → (s : CoroState) (dst y : ℕ) (a : Active) (chain : List Active) → x ≡ suspends s dst y → Suspend v p s dst y a chain z → Arm v p x t z
 
@@ -151,9 +151,6 @@ instr-shape w o p ok F arm e owes = gate (isNil (w .frames)) ok refl refl
     at-pc : pcBy (act w o) ≡ p
     at-pc = ap pcBy e
 
-    ending : S.isEnding (act w o) ≡ false
-    ending = ap S.isEnding e
-
     entering : {c : ℕ} {d : Driver} {sent : Sent} {z : World} → S.Says w o (entry c d sent) false → Enter w p c d sent z → Shape w o z
     entering {c} {d} {sent} {z} q t = S.enters c d sent q (subst (λ x. Enter w x c d sent z) (sym at-pc) t)
 
@@ -161,7 +158,7 @@ instr-shape w o p ok F arm e owes = gate (isNil (w .frames)) ok refl refl
     aims {v} a q x = q ∙ sym (aimed-alike a (aim w)) ∙ ap (λ y. aimed y v) (sym (aim-same a)) ∙ x
 
     armed : {v : World} (z : World) → Alike p w v → entryBy (act w o) w ≡ aimed (aim w) w → takesBy (act w o) (suspendsIn o) w ≡ suspendsIn o v → Arm v p (aim v) (suspendsIn o v) z → Shape w o z
-    armed {v} z a q h (a-works b x t) = S.works (record { entry = aims a q x; takes = h ∙ b }) false ending (a .works (view z) t)
+    armed {v} z a q h (a-works b x t) = S.works (record { entry = aims a q x; takes = h ∙ b }) (modeBy (aim v)) (ap modeOf e ∙ ap modeBy (sym (aim-same a))) (a .works (modeBy (aim v)) (view z) t)
     armed {v} z a q h (a-enters b c d sent x t) = entering (record { entry = aims a q x; takes = h ∙ b }) (enter-alike a t)
     armed {v} z a q h (a-suspends b s dst y n chain x t) =
         let k : aim w ≡ suspends s dst y = sym (aim-same a) ∙ x in
@@ -169,7 +166,7 @@ instr-shape w o p ok F arm e owes = gate (isNil (w .frames)) ok refl refl
 
     paid : (ch : After Charge) → entryBy (act w o) w ≡ charged (ch .answer) w (aimed (aim w) w) → takesBy (act w o) (suspendsIn o) w ≡ paidBy (suspendsIn o) (ch .world) (ch .answer) → ChargeCase p w ch → Shape w o (Gate.charged arm (ch .world) (ch .answer) .world)
     paid ch q h (c-done n v r) = armed (arm v .world) (alike r) q h (owes v)
-    paid ch q h (c-spent v r) = S.works (record { entry = q; takes = h }) false ending (alike r .works (view v) done)
+    paid ch q h (c-spent v r) = S.works (record { entry = q; takes = h }) (modeOf (act w o)) refl (alike r .works (modeOf (act w o)) (view v) done)
     paid ch q h (c-close n c z x t) = entering (record { entry = q ∙ x; takes = h }) t
 
     gate : (a b : Bool) → isNil (w .frames) ≡ a → ok ≡ b → Shape w o (pick a (refused w Fault.NoFrame) (pick (not b) (refused w Fault.BadOperand) (andThen (charge (OptPc.Some p) w) (Gate.charged arm))) .world)
@@ -177,12 +174,12 @@ instr-shape w o p ok F arm e owes = gate (isNil (w .frames)) ok refl refl
       entry = by ∙ ap (λ t. pick t nobody (pick (not ok) nobody (charged (charge (OptPc.Some p) w .answer) w (aimed (aim w) w)))) x;
       takes = held ∙ ap
           (λ t. pick t false (pick (not ok) false (paidBy (suspendsIn o) (charge (OptPc.Some p) w .world) (charge (OptPc.Some p) w .answer)))) x;
-    }) false ending done
+    }) (modeOf (act w o)) refl done
     gate false false x y = S.works (record {
       entry = by ∙ (λ i. pick (x i) nobody (pick (not (y i)) nobody (charged (charge (OptPc.Some p) w .answer) w (aimed (aim w) w))));
       takes = held ∙
           (λ i. pick (x i) false (pick (not (y i)) false (paidBy (suspendsIn o) (charge (OptPc.Some p) w .world) (charge (OptPc.Some p) w .answer))));
-    }) false ending done
+    }) (modeOf (act w o)) refl done
     gate false true x y =
         paid (charge (OptPc.Some p) w) (by ∙ (λ i. pick (x i) nobody (pick (not (y i)) nobody (charged (charge (OptPc.Some p) w .answer) w (aimed (aim w) w)))))
         (held ∙ (λ i. pick (x i) false (pick (not (y i)) false (paidBy (suspendsIn o) (charge (OptPc.Some p) w .world) (charge (OptPc.Some p) w .answer))))) (charge-case p w)

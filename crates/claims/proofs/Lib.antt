@@ -37,9 +37,11 @@ pub mod Returned
 pub mod Values
 pub mod Closing
 pub mod Still
+pub mod States
 pub mod Exactly
 pub mod Premises
 pub mod Witness
 pub mod Roomy
 pub mod Promise
+pub mod WrongEvents
 pub mod Wrong

@@ -3,7 +3,7 @@ use Prim.Native.Nat.{ℕ}
 use native.Mathlib.Omega.{arith}
 use native.Mathlib.Decide.{ℕ-discrete}
 use mathlib.Core.Path.{_≡_, refl, sym, ap, _∙_, subst}
-use mathlib.Core.Logic.{_≢_, _⊎_, inl, inr}
+use mathlib.Core.Logic.{_⊎_, inl, inr}
 use mathlib.Core.Bool.{Bool, true, false, not, _&&_, _||_}
 use mathlib.Core.List.{List, [], _∷_}
 use mathlib.Core.Option.{Option, none, some}
@@ -17,7 +17,7 @@ use Rattle.heap.specs.declared.object.CoroState.{CoroState}
 use Rattle.model.specs.State.{isCreated, isRunning, isSuspended}
 use Rattle.model.specs.Lists as L
 use Rattle.model.specs.Lists.{each, distinct}
-use Rattle.model.specs.Object.{Core, Rest, Object, Coroutine, Absent, Is, asCoro}
+use Rattle.model.specs.Object.{Object, Coroutine, Absent, Is}
 use Rattle.model.specs.World.{World, After, after, andThen, withUsed, withSlots}
 use Rattle.model.specs.Frames.{storePc, topFunc, topPc}
 use Rattle.model.specs.Heap.{coro, alloc, fits, slotsFull, refuse}
@@ -40,16 +40,18 @@ use Rattle.soundness.proofs.Slots.{runs-among}
 use Rattle.claims.specs.Engine.{is}
 use Rattle.claims.specs.Engine as Engine
 use Rattle.claims.specs.Held.{at}
+use Rattle.claims.specs.Says.{nothing, gets, closes}
 use Rattle.claims.specs.Events as Said
 use Rattle.claims.specs.Events.{among, lost, lostAt, raised, Lost, thrown, escapes}
 use Rattle.claims.specs.Steps.{seenOf, viewOf, opOf, steps}
 use Rattle.claims.proofs.Entry.{act}
-use Rattle.claims.proofs.Held.{coreIn, coreAt}
+use Rattle.claims.proofs.Held.{Seat, coreIn, coreAt}
 use Rattle.claims.proofs.Split.{next}
-use Rattle.claims.proofs.Cores.{no-both, and-left, and-right, coroIn, Kept, kept, unborn}
+use Rattle.claims.proofs.Entry as E
+use Rattle.claims.proofs.Cores.{no-both, and-left, and-right, coroIn, Kept, kept, unborn, Mode, m-plain, m-ending}
 use Rattle.claims.proofs.Shape as S
-use Rattle.claims.proofs.Shape.{View, view, Ends, Worked, done, quiet, tops, puts, pushes, pops, fails, Apart, Shape}
-use Rattle.claims.proofs.Events.{run-born, run-susp, susp-run, ready-run}
+use Rattle.claims.proofs.Shape.{View, Worked, done, quiet, tops, puts, pushes, pops, fails, Apart, Shape}
+use Rattle.claims.proofs.Events.{run-born, ready-run}
 use Rattle.claims.proofs.Sounds.{two}
 use Rattle.claims.proofs.Endings.{stop-stops}
 use Rattle.claims.proofs.Calls.{shape}
@@ -178,18 +180,30 @@ module _ (w : World) (h : sound w ≡ true) where
 
 -- ---- other calls
 
-run-worked : (c : ℕ) {v z : View} → Worked false v z → isRunning (v .cores c .state) ≡ true → isRunning (z .cores c .state) ≡ true
-run-worked c done h = h
-run-worked c (quiet k q t) h = run-worked c t (on (q c) h)
+run-worked : (c : ℕ) {b : Mode} {v z : View} → (b ≡ m-ending → ⊥) → Worked b v z → isRunning (v .cores c .state) ≡ true → isRunning (z .cores c .state) ≡ true
+run-worked c e done h = h
+run-worked c e (quiet k q t) h = run-worked c e t (on (q c) h)
   where
-    on : {k l : _} → Kept k l → isRunning (k .state) ≡ true → isRunning (l .state) ≡ true
+    on : {m : Mode} {u : ℕ} {k l : Seat} → Kept m u k l → isRunning (k .state) ≡ true → isRunning (l .state) ≡ true
     on (kept e) h = ap (λ x. isRunning (x .state)) e ∙ h
-    on {k} (unborn a b m) h = no-both a (run-born (k .state) h)
-run-worked c (tops g e t) h = run-worked c t h
-run-worked c (puts r x t) h = run-worked c t h
-run-worked c (pushes f xs p q t) h = run-worked c t h
-run-worked c (pops f fs p q t) h = run-worked c t h
-run-worked c (fails f fs a chain k y p q r e t) h = no-both y refl
+    on {k = k} (unborn a b m n) h = no-both a (run-born (k .state) h)
+run-worked c e (tops g i t) h = run-worked c e t h
+run-worked c e (puts r x t) h = run-worked c e t h
+run-worked c e (pushes f xs p q t) h = run-worked c e t h
+run-worked c e (pops f fs p q t) h = run-worked c e t h
+run-worked c e (fails f fs a chain k y p q r i t) h = absurd (e y)
+
+-- only finish and unwind end those that run
+ending-act : (a : E.Act) → S.modeOf a ≡ m-ending → S.isEnding a ≡ true
+ending-act (E.at pc ok (E.enters c d nothing may)) e = let z : _≡_ {A = ℕ} 0 1 = cc in absurd (omega arith)
+ending-act (E.at pc ok (E.enters c d (gets x) may)) e = let z : _≡_ {A = ℕ} 0 1 = cc in absurd (omega arith)
+ending-act (E.at pc ok (E.enters c d (closes x) may)) e = let z : _≡_ {A = ℕ} 0 1 = cc in absurd (omega arith)
+ending-act (E.at pc ok (E.suspends s dst x)) e = let z : _≡_ {A = ℕ} 0 1 = cc in absurd (omega arith)
+ending-act (E.at pc ok E.neither) e = let z : _≡_ {A = ℕ} 0 1 = cc in absurd (omega arith)
+ending-act (E.byHost c v) e = let z : _≡_ {A = ℕ} 0 1 = cc in absurd (omega arith)
+ending-act (E.finishes kind v) e = refl
+ending-act E.unwinds e = refl
+ending-act E.other e = let z : _≡_ {A = ℕ} 0 1 = cc in absurd (omega arith)
 
 susp-fails : (s : CoroState) → isSuspended s ≡ true → isFailed s ≡ false
 susp-fails CoroState.Created h = refl
@@ -201,11 +215,7 @@ susp-fails CoroState.Failed h = sym h
 
 -- what is no finish and no unwind lets somebody fail only if it stops the run
 stopped : {w z : World} {o : Op} (c : ℕ) → Shape w o z → S.isEnding (act w o) ≡ false → isRunning (coreAt w c .state) ≡ true → isFailed (coreAt z c .state) ≡ true → o ≡ Op.StopRun
-stopped {w} {z} {o} c (S.works e b i t) n r l = go b i t
-  where
-    go : (b : Bool) → S.isEnding (act w o) ≡ b → Worked b (view w) (view z) → o ≡ Op.StopRun
-    go true i t = no-both i n
-    go false i t = no-both l (run-fails (coreAt z c .state) (run-worked c t r))
+stopped {w} {z} {o} c (S.works e b i t) n r l = no-both l (run-fails (coreAt z c .state) (run-worked c (λ q. no-both (ending-act (act w o) (i ∙ q)) n) t r))
 stopped {w} {z} {o} c (S.enters u d sent e t) n r l = go (ℕ-discrete c u)
   where
     go : Dec (c ≡ u) → o ≡ Op.StopRun
@@ -213,9 +223,9 @@ stopped {w} {z} {o} c (S.enters u d sent e t) n r l = go (ℕ-discrete c u)
     go (no q) = no-both l (ap (λ x. isFailed (x .state)) (t .others c q) ∙ run-fails (coreAt w c .state) r)
 stopped {w} {z} {o} c (S.suspended p ok s dst x a chain e q t) n r l = go (ℕ-discrete c (a .coro))
   where
-    on : Kept (coreAt w c) (coreAt z c) → isFailed (coreAt z c .state) ≡ false
+    on : Kept m-plain c (coreAt w c) (coreAt z c) → isFailed (coreAt z c .state) ≡ false
     on (kept e) = ap (λ x. isFailed (x .state)) e ∙ run-fails (coreAt w c .state) r
-    on (unborn a b m) = no-both a (run-born (coreAt w c .state) r)
+    on (unborn a b m n) = no-both a (run-born (coreAt w c .state) r)
 
     go : Dec (c ≡ a .coro) → o ≡ Op.StopRun
     go (yes y) = no-both l (ap (λ u. isFailed (coreAt z u .state)) y ∙ ap (λ k. isFailed (k .state)) (t .mine) ∙ susp-fails s (t .asleep))

@@ -14,7 +14,7 @@ use Rattle.heap.specs.declared.int.Exact.{Exact}
 use Rattle.heap.specs.declared.object.CoroState.{CoroState}
 use Rattle.model.specs.Lists.{isNil}
 use Rattle.model.specs.State.{isRunning}
-use Rattle.model.specs.Object.{Core, Coroutine, Absent, Is}
+use Rattle.model.specs.Object.{Coroutine, Absent, Is}
 use Rattle.model.specs.World.{World, After, after, andThen}
 use Rattle.model.specs.Frames.{reg, storePc}
 use Rattle.model.specs.Heap.{coro, dynInt, fits, encodeInt}

@@ -33,40 +33,48 @@ use Rattle.heap.specs.declared.heap.ResultKind.{ResultKind}
 use Rattle.claims.specs.Delivery.{recorded}
 use Rattle.claims.specs.Steps.{seenOf}
 use Rattle.claims.proofs.Held.{Seat, coreIn, coreAt}
-use Rattle.claims.proofs.Cores.{no-both, busy, Kept, kept, unborn, objectIn, push-cases, set-mine, set-other, set-iter}
+use Rattle.claims.proofs.Cores.{no-both, busy, Mode, m-undoing, Kept, kept, unborn, objectIn, push-cases, set-mine, set-other, set-iter}
 use Rattle.claims.proofs.Shape.{View, view, over, Ends, Worked, quiet}
 
--- v is w with objects added, none of which runs or sleeps
+new-idle : (s : CoroState) → isCreated s ≡ true → busy s ≡ false
+new-idle CoroState.Created e = refl
+new-idle CoroState.Running e = no-both e refl
+new-idle CoroState.Yielded e = no-both e refl
+new-idle CoroState.Awaiting e = no-both e refl
+new-idle CoroState.Returned e = refl
+new-idle CoroState.Failed e = refl
+
+-- v is w with objects added, of coroutines new ones only
 pub record Grown (w v : World) : Type 0 where
   pub setup : v .setup ≡ w .setup
   pub stack : v .stack ≡ w .stack
   pub frames : v .frames ≡ w .frames
   pub chain : v .chain ≡ w .chain
-  pub finds : (c : ℕ) → (coro v c ≡ coro w c) ⊎ ((coro w c ≡ Absent) × (busy (coreAt v c .state) ≡ false) × (coreAt v c .closing ≡ none))
+  pub finds : (c : ℕ) → (coro v c ≡ coro w c) ⊎ ((coro w c ≡ Absent) × (isCreated (coreAt v c .state) ≡ true) × (coreAt v c .closing ≡ none))
 
 pub grown-none : {w : World} → Grown w w
 grown-none = record { setup = refl; stack = refl; frames = refl; chain = refl; finds = λ c. inl refl }
 
-pub grown-kept : {w v : World} → Grown w v → (c : ℕ) → Kept (coreAt w c) (coreAt v c)
-grown-kept {w} {v} g c = go (g .finds c)
+pub grown-kept : {b : Mode} {w v : World} → Grown w v → (c : ℕ) → Kept b c (coreAt w c) (coreAt v c)
+grown-kept {b} {w} {v} g c = go (g .finds c)
   where
-    go : (coro v c ≡ coro w c) ⊎ ((coro w c ≡ Absent) × (busy (coreAt v c .state) ≡ false) × (coreAt v c .closing ≡ none)) → Kept (coreAt w c) (coreAt v c)
+    go : (coro v c ≡ coro w c) ⊎ ((coro w c ≡ Absent) × (isCreated (coreAt v c .state) ≡ true) × (coreAt v c .closing ≡ none)) → Kept b c (coreAt w c) (coreAt v c)
     go (inl e) = kept (ap coreIn e)
-    go (inr e) = unborn (ap (λ x. isCreated (coreIn x .state)) (e .0)) (e .1) (λ _. e .2 ∙ sym (ap (λ x. coreIn x .closing) (e .0)))
+    go (inr e) = unborn (ap (λ x. isCreated (coreIn x .state)) (e .0)) (new-idle (coreAt v c .state) (e .1)) (λ _. e .2 ∙ sym (ap (λ x. coreIn x .closing) (e .0))) (inl (ap (λ x. coreIn x .seen) (e .0), e .1))
 
-pub grown-worked : {b : Bool} {w v : World} → Grown w v → {z : View} → Worked b (view v) z → Worked b (view w) z
+pub grown-worked : {b : Mode} {w v : World} → Grown w v → {z : View} → Worked b (view v) z → Worked b (view w) z
 grown-worked {b} {w} {v} g {z} t = quiet (coreAt v) (grown-kept g) (subst (λ x. Worked b x z) (λ i. record { setup = g .setup i; stack = g .stack i; frames = g .frames i; chain = g .chain i; cores = coreAt v }) t)
 
 -- ---- alloc and what calls it
 
-pub alloc-grown : (bytes : ℕ) (o : Object) (w : World) → busy (coreIn (asCoro o) .state) ≡ false → coreIn (asCoro o) .closing ≡ none → Grown w (alloc bytes o w .world)
+pub alloc-grown : (bytes : ℕ) (o : Object) (w : World) → isCreated (coreIn (asCoro o) .state) ≡ true → coreIn (asCoro o) .closing ≡ none → Grown w (alloc bytes o w .world)
 unfolding alloc pick
 alloc-grown bytes o w b m = go (not (fits w bytes)) (slotsFull w)
   where
     found : (c : ℕ) → (objectIn (pushObject (w .slots) o) c ≡ objectIn (w .slots) c) ⊎ ((objectIn (w .slots) c ≡ Object.Empty) × (objectIn (pushObject (w .slots) o) c ≡ o))
-        → (asCoro (objectIn (pushObject (w .slots) o) c) ≡ coro w c) ⊎ ((coro w c ≡ Absent) × (busy (coreIn (asCoro (objectIn (pushObject (w .slots) o) c)) .state) ≡ false) × (coreIn (asCoro (objectIn (pushObject (w .slots) o) c)) .closing ≡ none))
+        → (asCoro (objectIn (pushObject (w .slots) o) c) ≡ coro w c) ⊎ ((coro w c ≡ Absent) × (isCreated (coreIn (asCoro (objectIn (pushObject (w .slots) o) c)) .state) ≡ true) × (coreIn (asCoro (objectIn (pushObject (w .slots) o) c)) .closing ≡ none))
     found c (inl e) = inl (ap asCoro e)
-    found c (inr e) = inr (ap asCoro (e .0), ap (λ x. busy (coreIn (asCoro x) .state)) (e .1) ∙ b, ap (λ x. coreIn (asCoro x) .closing) (e .1) ∙ m)
+    found c (inr e) = inr (ap asCoro (e .0), ap (λ x. isCreated (coreIn (asCoro x) .state)) (e .1) ∙ b, ap (λ x. coreIn (asCoro x) .closing) (e .1) ∙ m)
 
     go : (x y : Bool) → Grown w (pick x (refuse w Fault.OutOfMemory) (pick y (refuse w Fault.Full) (after (withUsed (satAdd (w .used) bytes) (withSlots (pushObject (w .slots) o) w)) (Made.Word (nextWord (w .slots))))) .world)
     go true y = grown-none
@@ -104,7 +112,7 @@ pub record Same (w v : World) : Type 0 where
 pub same-none : {w : World} → Same w w
 same-none = record { setup = refl; stack = refl; frames = refl; chain = refl; coros = λ c. refl }
 
-pub same-worked : {b : Bool} {w v : World} → Same w v → {z : View} → Worked b (view v) z → Worked b (view w) z
+pub same-worked : {b : Mode} {w v : World} → Same w v → {z : View} → Worked b (view v) z → Worked b (view w) z
 same-worked {b} {w} {v} g {z} t = subst (λ x. Worked b x z) (λ i. record { setup = g .setup i; stack = g .stack i; frames = g .frames i; chain = g .chain i; cores = λ c. coreIn (g .coros c i) }) t
 
 pub alloc-same : (bytes : ℕ) (o : Object) (w : World) → asCoro o ≡ Absent → Same w (alloc bytes o w .world)
@@ -182,7 +190,7 @@ pub record Calm (w v : World) : Type 0 where
   pub chain : v .chain ≡ w .chain
   pub cores : (c : ℕ) → coreAt v c ≡ coreAt w c
 
-pub calm-worked : {b : Bool} {w v : World} → Calm w v → {z : View} → Worked b (view v) z → Worked b (view w) z
+pub calm-worked : {b : Mode} {w v : World} → Calm w v → {z : View} → Worked b (view v) z → Worked b (view w) z
 calm-worked {b} {w} {v} g {z} t = subst (λ x. Worked b x z) (λ i. record { setup = g .setup i; stack = g .stack i; frames = g .frames i; chain = g .chain i; cores = λ c. g .cores c i }) t
 
 iter-calm : (v : ℕ) (f : Bool → Bool) (g : Opt → Opt) (w : World) → Calm w (changeIterIn (object w v) v f g w)
@@ -229,15 +237,15 @@ finish-told v s result w n = go (coro w v) refl
     go (Is k r) e h = ap (λ x. recorded (coreIn x .seen)) (set-mine (w .slots) v e (inState s k) (ended result r))
 
 -- one that has not begun ends without a run
-pub unborn-ends : (v : ℕ) (s : CoroState) (k l : ℕ → Seat) → busy s ≡ false → isCreated s ≡ false → isCreated (k v .state) ≡ true → Ends s v k l → (c : ℕ) → Kept (k c) (l c)
+pub unborn-ends : (v : ℕ) (s : CoroState) (k l : ℕ → Seat) → busy s ≡ false → isCreated s ≡ false → isCreated (k v .state) ≡ true → Ends s v k l → (c : ℕ) → Kept (m-undoing v) c (k c) (l c)
 unborn-ends v s k l b n h e c = go (ℕ-discrete c v)
   where
-    mine : (l v ≡ over s (l v .seen) (k v)) ⊎ ((isCreated (k v .state) ≡ true) × (l v ≡ k v)) → Kept (k v) (l v)
-    mine (inl x) = unborn h (ap (λ y. busy (y .state)) x ∙ b) (λ q. no-both q (ap (λ y. isCreated (y .state)) x ∙ n))
+    mine : (l v ≡ over s (l v .seen) (k v)) ⊎ ((isCreated (k v .state) ≡ true) × (l v ≡ k v)) → Kept (m-undoing v) v (k v) (l v)
+    mine (inl x) = unborn h (ap (λ y. busy (y .state)) x ∙ b) (λ q. no-both q (ap (λ y. isCreated (y .state)) x ∙ n)) (inr refl)
     mine (inr x) = kept (x .1)
 
-    go : Dec (c ≡ v) → Kept (k c) (l c)
-    go (yes q) = subst (λ x. Kept (k x) (l x)) (sym q) (mine (e .mine))
+    go : Dec (c ≡ v) → Kept (m-undoing v) c (k c) (l c)
+    go (yes q) = subst (λ x. Kept (m-undoing v) x (k x) (l x)) (sym q) (mine (e .mine))
     go (no q) = kept (e .others c q)
 
 -- ---- a coroutine changed

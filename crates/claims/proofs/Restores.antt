@@ -4,14 +4,12 @@ use native.Mathlib.Omega.{arith}
 use mathlib.Core.Path.{_≡_, refl, sym, ap, _∙_, subst}
 use mathlib.Core.Bool.{Bool, true, false}
 use mathlib.Core.List.{List, [], _∷_, _++_, map, append-assoc}
-use mathlib.Core.Option.{Option, none, some}
 use lib.ListN.{length, drop, set}
 use Rattle.lists.specs.Pick.{pick}
-use Rattle.heap.specs.declared.object.CoroState.{CoroState}
 use Rattle.heap.specs.declared.fault.Fault.{Fault}
 use Rattle.model.specs.Lists.{isNil}
 use Rattle.model.specs.State.{isSuspended}
-use Rattle.model.specs.Program.{Setup, setupOk}
+use Rattle.model.specs.Program.{setupOk}
 use Rattle.model.specs.World.{World, fresh}
 use Rattle.model.specs.Frames.{onTop, setPc, stepPc, raise, lower, topBase}
 use Rattle.model.specs.Gate.{refused}
@@ -20,11 +18,9 @@ use Rattle.model.specs.Answer.{numberOf}
 use Rattle.model.specs.Call.{Call, SetUp, Do}
 use Rattle.model.specs.Step as M
 use Rattle.model.specs.Step.{step, told}
-use Rattle.model.specs.declared.machine.Driver.{Driver}
-use Rattle.model.specs.declared.machine.Active.{Active}
 use Rattle.model.specs.declared.machine.Frame.{Frame}
 use Rattle.claims.specs.Engine.{run}
-use Rattle.claims.specs.Says.{Does, doing, entry, whom, Sent, nothing, gets, closes}
+use Rattle.claims.specs.Says.{Does, doing, Sent, nothing, gets, closes}
 use Rattle.claims.specs.Held as H
 use Rattle.claims.specs.Held.{at, AllMoved, pcOf, waitsIn, stepped, into, given, closedBy, By, Entered, Restored}
 use Rattle.claims.specs.Demand3 as D
@@ -32,10 +28,10 @@ use Rattle.claims.specs.Steps.{viewOf, opOf, steps}
 use Rattle.claims.proofs.Entry as E
 use Rattle.claims.proofs.Entry.{act, pcBy}
 use Rattle.claims.proofs.Held.{Seat, coreIn, coreAt, wordsWith, framesWith}
-use Rattle.claims.proofs.Split.{next, Suspends, Enters, restarts, Waits, Sleeps}
+use Rattle.claims.proofs.Split.{next, Suspends, Enters, restarts, Waits}
 use Rattle.claims.proofs.Cores.{no-both}
 use Rattle.claims.proofs.Events.{run-susp, suspended-one, no-entry}
-use Rattle.claims.proofs.Under.{Lift, lift-with}
+use Rattle.claims.proofs.Under.{lift-with}
 use Rattle.claims.proofs.Enters.{set-append-at}
 use Rattle.claims.proofs.Sounds.{lifts}
 use Rattle.claims.proofs.Calls.{shape}
@@ -43,7 +39,7 @@ use Rattle.claims.proofs.Claim.{StepCase, anew, same, does, step-case, 
 use Rattle.claims.proofs.Views.{is-runs, is-sleeps, closer-at, Alike, l-at, l-host, l-finish, l-raise, l-other, says-alike}
 use Rattle.claims.proofs.Whom as Whom
 use Rattle.claims.proofs.Whom.{whom-told}
-use Rattle.claims.proofs.Bodies.{at-top, Body, raised, Cut, cut-sound, cut-above, cut-base, Low, cut-low, moved}
+use Rattle.claims.proofs.Bodies.{at-top, Body, raised, cut-sound, cut-above, cut-base, Low, cut-low, moved}
 
 -- ---- events
 

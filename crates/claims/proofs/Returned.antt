@@ -38,7 +38,7 @@ use Rattle.claims.proofs.Entry.{act}
 use Rattle.claims.proofs.Held.{Seat, coreIn, coreAt}
 use Rattle.claims.proofs.Split.{next}
 use Rattle.claims.proofs.Accepted as A
-use Rattle.claims.proofs.Cores.{no-both, and-left, and-right, Kept, kept, unborn}
+use Rattle.claims.proofs.Cores.{no-both, and-left, and-right, Kept, kept, unborn, Mode}
 use Rattle.claims.proofs.Shape as S
 use Rattle.claims.proofs.Shape.{View, view, Ends, Worked, done, quiet, tops, puts, pushes, pops, fails, Apart, Shape}
 use Rattle.claims.proofs.Events.{run-born, ready-run}
@@ -76,9 +76,9 @@ going-born : {s : CoroState} → Going s → isCreated s ≡ false
 going-born {s} (runs e) = run-born s e
 going-born (failed e) = ap isCreated e
 
-going-kept : {k l : Seat} → Kept k l → Going (k .state) → Going (l .state)
+going-kept : {b : Mode} {c : ℕ} {k l : Seat} → Kept b c k l → Going (k .state) → Going (l .state)
 going-kept {k} {l} (kept e) g = subst (λ y. Going (y .state)) (sym e) g
-going-kept (unborn a b m) g = no-both a (going-born g)
+going-kept (unborn a b m n) g = no-both a (going-born g)
 
 going-ends : {v c : ℕ} {k l : ℕ → Seat} → Ends CoroState.Failed v k l → Going (k c .state) → Going (l c .state)
 going-ends {v} {c} {k} {l} e g = go (ℕ-discrete c v)
@@ -91,7 +91,7 @@ going-ends {v} {c} {k} {l} e g = go (ℕ-discrete c v)
     go (yes q) = mine (e .mine) q
     go (no q) = subst (λ y. Going (y .state)) (sym (e .others c q)) g
 
-going-worked : (c : ℕ) {b : Bool} {v z : View} → Worked b v z → Going (v .cores c .state) → Going (z .cores c .state)
+going-worked : (c : ℕ) {b : Mode} {v z : View} → Worked b v z → Going (v .cores c .state) → Going (z .cores c .state)
 going-worked c done g = g
 going-worked c (quiet k q t) g = going-worked c t (going-kept (q c) g)
 going-worked c (tops f e t) g = going-worked c t g
@@ -100,7 +100,7 @@ going-worked c (pushes f xs p q t) g = going-worked c t g
 going-worked c (pops f fs p q t) g = going-worked c t g
 going-worked c (fails f fs a chain k y p q r e t) g = going-worked c t (going-ends e g)
 
-apart-worked : (c : ℕ) {b : Bool} {v z : View} → Worked b v z → Apart c (v .chain) → Apart c (z .chain)
+apart-worked : (c : ℕ) {b : Mode} {v z : View} → Worked b v z → Apart c (v .chain) → Apart c (z .chain)
 apart-worked c done g = g
 apart-worked c (quiet k q t) g = apart-worked c t g
 apart-worked c (tops f e t) g = apart-worked c t g
@@ -164,7 +164,10 @@ ended-has w h c {o} (e-returns u f fs a chain t r n) q = go (isRunning (coreAt w
     its : a .coro ≡ c
     its = some-one q
 
-    ends : Going (u .cores (a .coro) .state) → (coreAt (o .world) (a .coro) ≡ S.over CoroState.Returned (coreAt (o .world) (a .coro) .seen) (u .cores (a .coro))) ⊎ ((isCreated (u .cores (a .coro) .state) ≡ true) × (coreAt (o .world) (a .coro) ≡ u .cores (a .coro))) → isReturned (coreAt (o .world) c .state) ≡ true
+    left : Seat
+    left = coreAt (o .world) (a .coro)
+
+    ends : Going (u .cores (a .coro) .state) → (left ≡ S.over CoroState.Returned (left .seen) (u .cores (a .coro))) ⊎ ((isCreated (u .cores (a .coro) .state) ≡ true) × (left ≡ u .cores (a .coro))) → isReturned (coreAt (o .world) c .state) ≡ true
     ends g (inl x) = ap (λ y. isReturned (coreAt (o .world) y .state)) (sym its) ∙ ap (λ y. isReturned (y .state)) x
     ends g (inr x) = no-both (x .0) (going-born g)
 

@@ -1,14 +1,14 @@
 -- A suspension for which there is room is accepted, and so is a result.
-use Prim.Native.Nat.{ℕ, suc, _+_, _-_, _*_, _^_, _≤_, _<_, min}
-use mathlib.Core.Path.{_≡_, refl, sym, ap, subst, _∙_}
+use Prim.Native.Nat.{ℕ, suc, _+_, _-_, _*_, _^_, _≤_, min}
+use mathlib.Core.Path.{_≡_, refl, sym, ap, _∙_}
 use mathlib.Core.Bool.{Bool, true, false, not, _||_}
-use mathlib.Core.List.{List, [], _∷_, _++_, map}
+use mathlib.Core.List.{List, [], _∷_, _++_}
 use mathlib.Core.Option.{Option, none, some}
 use native.Mathlib.Omega.{arith}
 use lib.ListN.{length, drop, length-append, length-map}
 use lib.Dec.{eqb, leb}
 use borrow.Author.Tests.{leb-true, le-leb, lt-leb}
-use Rattle.lists.specs.Pick.{pick, pick-true, pick-false}
+use Rattle.lists.specs.Pick.{pick, pick-false}
 use Rattle.heap.specs.Charge.{satAdd}
 use Rattle.heap.specs.Coding.{ofBits}
 use Rattle.heap.specs.Int.{inlineOf, nextKey}
@@ -30,7 +30,7 @@ use Rattle.model.specs.Exec.{largestIn, largerOf, keyAt, keyExact, autoKey, yie
 use Rattle.model.specs.Gate.{refused, allIn, answerOf, charged, instruction}
 use Rattle.model.specs.Sound.{sound}
 use Rattle.model.specs.Answer.{numberOf}
-use Rattle.model.specs.Call.{Call, SetUp, Do, Operation}
+use Rattle.model.specs.Call.{Call, SetUp, Do}
 use Rattle.model.specs.Step.{call, step}
 use Rattle.model.specs.declared.machine.Active.{Active}
 use Rattle.model.specs.declared.machine.Charge.{Charge}
@@ -42,7 +42,6 @@ use Rattle.model.specs.declared.exec.Step.{Step}
 use Rattle.model.specs.declared.call.OptPc.{OptPc}
 use Rattle.model.specs.declared.call.Op.{Op}
 use Rattle.model.specs.declared.call.Answer.{Answer}
-use Rattle.soundness.proofs.Sound.{sound→}
 use Rattle.claims.specs.Engine.{Seen}
 use Rattle.claims.specs.Says.{lie}
 use Rattle.claims.specs.Held.{at}

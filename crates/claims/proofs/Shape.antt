@@ -1,8 +1,9 @@
 -- The shape of a call: what it does to stack, frames, chain and cores. Moves at and above the innermost body; or an entry; or a
 -- suspension; or such moves and then a return; or the end of the run.
 use Prim.Native.Nat.{ℕ}
+use native.Mathlib.Omega.{arith}
 use mathlib.Core.Path.{_≡_}
-use mathlib.Core.Logic.{_≢_, _⊎_}
+use mathlib.Core.Logic.{_≢_, _⊎_, inl, inr}
 use mathlib.Core.Bool.{Bool, true, false}
 use mathlib.Core.List.{List, [], _∷_, _++_, map}
 use mathlib.Core.Option.{Option, none}
@@ -21,13 +22,14 @@ use Rattle.model.specs.declared.machine.Active.{Active}
 use Rattle.model.specs.declared.machine.Frame.{Frame}
 use Rattle.model.specs.declared.call.Op.{Op}
 use Rattle.claims.specs.Engine.{Seen}
-use Rattle.claims.specs.Says.{Sent}
+use Rattle.claims.specs.Says.{Sent, nothing, gets, closes}
 use Rattle.claims.specs.Held.{closedBy}
 use Rattle.claims.specs.Delivery.{recorded}
+use Rattle.claims.proofs.Entry as E
 use Rattle.claims.proofs.Entry.{suspends, Act, at, byHost, finishes, unwinds, other, act, Entry, nobody, entry, entryBy, pcBy}
 use Rattle.claims.proofs.Suspension.{suspendsIn, takesBy}
 use Rattle.claims.proofs.Held.{Seat, coreAt, heldAs, wordsWith, framesWith, Returns, eventAs, eventBy, mem, deliverTo}
-use Rattle.claims.proofs.Cores.{Kept}
+use Rattle.claims.proofs.Cores.{Mode, m-plain, m-ending, m-undoing, Kept, kept, unborn}
 
 -- what a switch moves
 pub record View : Type 0 where
@@ -73,17 +75,32 @@ abbrev pub endV : Frame → List Frame → List Active → (ℕ → Seat) → Vi
 endV f fs chain k v = record { setup = v .setup; stack = take (f .base) (v .stack); frames = fs; chain = chain; cores = k }
 
 -- moves, from the first to the last
-pub data Worked (b : Bool) : View → View → Type 0 where
+pub data Worked (b : Mode) : View → View → Type 0 where
   done : {v : View} → Worked b v v
   -- cores that have not begun
-  quiet : {v z : View} (k : ℕ → Seat) → ((c : ℕ) → Kept (v .cores c) (k c)) → Worked b (coresV k v) z → Worked b v z
+  quiet : {v z : View} (k : ℕ → Seat) → ((c : ℕ) → Kept b c (v .cores c) (k c)) → Worked b (coresV k v) z → Worked b v z
   -- the top frame's pc
   tops : {v z : View} (g : Frame → Frame) → Keeps g → Worked b (topV g v) z → Worked b v z
   puts : {v z : View} (r x : ℕ) → Worked b (putV r x v) z → Worked b v z
   pushes : {v z : View} (f : Frame) (xs : List ℕ) → isCoro (f .cont) ≡ false → f .base ≡ length (v .stack) → Worked b (pushV f xs v) z → Worked b v z
   pops : {v z : View} (f : Frame) (fs : List Frame) → v .frames ≡ f ∷ fs → (isCoro (f .cont) ≡ false) ⊎ (v .chain ≡ []) → Worked b (popV f fs v) z → Worked b v z
-  -- a body goes, and its coroutine fails; b: whether one may
-  fails : {v z : View} (f : Frame) (fs : List Frame) (a : Active) (chain : List Active) (k : ℕ → Seat) → b ≡ true → v .frames ≡ f ∷ fs → isCoro (f .cont) ≡ true → v .chain ≡ a ∷ chain → Ends CoroState.Failed (a .coro) (v .cores) k → Worked b (endV f fs chain k v) z → Worked b v z
+  -- a body goes, and its coroutine fails, if b lets it
+  fails : {v z : View} (f : Frame) (fs : List Frame) (a : Active) (chain : List Active) (k : ℕ → Seat) → b ≡ m-ending → v .frames ≡ f ∷ fs → isCoro (f .cont) ≡ true → v .chain ≡ a ∷ chain → Ends CoroState.Failed (a .coro) (v .cores) k → Worked b (endV f fs chain k v) z → Worked b v z
+
+-- what ends nobody is allowed to any call
+kept-anyway : {b : Mode} {c : ℕ} {k l : Seat} → Kept m-plain c k l → Kept b c k l
+kept-anyway (kept e) = kept e
+kept-anyway (unborn a b m (inl n)) = unborn a b m (inl n)
+kept-anyway (unborn a b m (inr n)) = let z : _≡_ {A = ℕ} 0 1 = cc in absurd (omega arith)
+
+pub anyway : {b : Mode} {v z : View} → Worked m-plain v z → Worked b v z
+anyway done = done
+anyway (quiet k q t) = quiet k (λ c. kept-anyway (q c)) (anyway t)
+anyway (tops g e t) = tops g e (anyway t)
+anyway (puts r x t) = puts r x (anyway t)
+anyway (pushes f xs p q t) = pushes f xs p q (anyway t)
+anyway (pops f fs p q t) = pops f fs p q (anyway t)
+anyway (fails f fs a chain k y p q r e t) = let z : _≡_ {A = ℕ} 0 1 = cc in absurd (omega arith)
 
 -- c is entered at w, and z is left; p is the caller's pc
 pub record Enter (w : World) (p c : ℕ) (d : Driver) (sent : Sent) (z : World) : Type 0 where
@@ -103,7 +120,7 @@ pub record Suspend (w : World) (p : ℕ) (s : CoroState) (dst x : ℕ) (a : Acti
   pub inmost : w .chain ≡ a ∷ chain
   pub asleep : isSuspended s ≡ true
   pub mine : coreAt z (a .coro) ≡ heldAs (coreAt z (a .coro) .seen) (coreAt w (a .coro) .closing) s dst (a .floor) (baseAt (a .floor) (onTop (setPc p) (w .frames))) (onTop (setPc p) (w .frames)) (w .stack)
-  pub others : (u : ℕ) → u ≢ a .coro → Kept (coreAt w u) (coreAt z u)
+  pub others : (u : ℕ) → u ≢ a .coro → Kept m-plain u (coreAt w u) (coreAt z u)
   pub under : mem (z .stack) (z .frames) ≡ deliverTo (a .driver) (eventAs (marked (λ r. r .closing) (coro w (a .coro))) s x) (mem (take (baseAt (a .floor) (onTop (setPc p) (w .frames))) (w .stack)) (below (a .floor) (onTop (setPc p) (w .frames))))
   pub outer : z .chain ≡ chain
 
@@ -142,9 +159,24 @@ isEnding (finishes kind v) = true
 isEnding unwinds = true
 isEnding other = false
 
+-- whom a call may end
+abbrev pub modeBy : E.Aim → Mode
+modeBy (E.enters c d nothing may) = m-undoing c
+modeBy (E.enters c d (gets x) may) = m-plain
+modeBy (E.enters c d (closes x) may) = m-undoing c
+modeBy (E.suspends s dst x) = m-plain
+modeBy E.neither = m-plain
+
+abbrev pub modeOf : Act → Mode
+modeOf (at pc ok a) = modeBy a
+modeOf (byHost c v) = m-plain
+modeOf (finishes kind v) = m-ending
+modeOf unwinds = m-ending
+modeOf other = m-plain
+
 pub data Shape (w : World) (o : Op) (z : World) : Type 0 where
-  works : Says w o nobody false → (b : Bool) → isEnding (act w o) ≡ b → Worked b (view w) (view z) → Shape w o z
+  works : Says w o nobody false → (b : Mode) → modeOf (act w o) ≡ b → Worked b (view w) (view z) → Shape w o z
   enters : (c : ℕ) (d : Driver) (sent : Sent) → Says w o (entry c d sent) false → Enter w (pcBy (act w o)) c d sent z → Shape w o z
   suspended : (p : ℕ) (ok : Bool) (s : CoroState) (dst x : ℕ) (a : Active) (chain : List Active) → Says w o nobody true → act w o ≡ at p ok (suspends s dst x) → Suspend w p s dst x a chain z → Shape w o z
-  returns : (v : View) (x : ℕ) (f : Frame) (fs : List Frame) (a : Active) (chain : List Active) → Says w o nobody false → isEnding (act w o) ≡ true → ((c : ℕ) → eventBy (act w o) w c ≡ Returns x) → Worked true (view w) v → Return v x f fs a chain z → Shape w o z
+  returns : (v : View) (x : ℕ) (f : Frame) (fs : List Frame) (a : Active) (chain : List Active) → Says w o nobody false → isEnding (act w o) ≡ true → ((c : ℕ) → eventBy (act w o) w c ≡ Returns x) → Worked m-ending (view w) v → Return v x f fs a chain z → Shape w o z
   stops : Says w o nobody false → o ≡ Op.StopRun → Stop w z → Shape w o z

@@ -1,21 +1,29 @@
--- Who has begun and does not run is seen as before until it is entered.
+-- Who does not run is seen as before until it is entered; one that has not begun, unless it is closed or a word is thrown into it.
 use Prim.Native.Nat.{ℕ}
+use native.Mathlib.Omega.{arith}
 use mathlib.Core.Path.{_≡_, refl, sym, ap, _∙_}
+use mathlib.Core.Logic.{_⊎_, inl, inr}
 use mathlib.Core.Bool.{Bool, true, false}
+use mathlib.Core.Option.{Option, none, some}
 use Rattle.heap.specs.declared.object.CoroState.{CoroState}
 use Rattle.model.specs.State.{isCreated, isRunning}
 use Rattle.model.specs.Object.{Coroutine, Absent, Is}
 use Rattle.model.specs.World.{World}
 use Rattle.model.specs.Heap.{coro}
 use Rattle.model.specs.Call.{Call}
-use Rattle.claims.specs.Engine.{seenIn, is}
+use Rattle.claims.specs.Engine.{isNew, seenIn, is}
+use Rattle.claims.specs.Says.{Does, doing, nothing, gets, closes}
 use Rattle.claims.specs.Demand3 as D
-use Rattle.claims.specs.Events.{rests}
-use Rattle.claims.specs.Steps.{seenOf, viewOf, steps}
+use Rattle.claims.specs.Events.{undone, rests}
+use Rattle.claims.specs.Steps.{seenOf, viewOf, opOf, steps}
+use Rattle.claims.proofs.Entry as E
+use Rattle.claims.proofs.Entry.{act}
 use Rattle.claims.proofs.Held.{Seat, coreIn, coreAt}
 use Rattle.claims.proofs.Split.{next}
-use Rattle.claims.proofs.Claim.{stays}
-use Rattle.claims.proofs.Views.{is-runs, seen-at}
+use Rattle.claims.proofs.Cores.{no-both, Mode, m-plain, m-ending, m-undoing}
+use Rattle.claims.proofs.Shape.{modeOf}
+use Rattle.claims.proofs.Claim.{stays-firm, stays}
+use Rattle.claims.proofs.Views.{is-runs, seen-at, Alike, l-at, l-host, l-finish, l-raise, l-other, says-alike}
 use Rattle.claims.proofs.Restores.{restarts-old}
 
 rest-born : (s : CoroState) → rests s ≡ true → isCreated s ≡ false
@@ -49,6 +57,61 @@ still c w k r i h = sym (seen-at (next w k) c) ∙ ap (λ (x : Seat). x .seen) (
 
     idle : isRunning (coreAt w c .state) ≡ false
     idle = rest-run (coreAt w c .state) q
+
+    out : (b : Bool) → isRunning (coreAt (next w k) c .state) ≡ b → isRunning (coreAt (next w k) c .state) ≡ false
+    out false e = e
+    out true e = absurd (i (record { before = is-runs w c ∙ idle; after = is-runs (next w k) c ∙ e }))
+
+-- ---- one that has not begun
+
+new-run : (s : CoroState) → isNew s ≡ true → isRunning s ≡ false
+new-run CoroState.Created e = refl
+new-run CoroState.Running e = sym e
+new-run CoroState.Yielded e = refl
+new-run CoroState.Awaiting e = refl
+new-run CoroState.Returned e = refl
+new-run CoroState.Failed e = refl
+
+is-new : (w : World) (c : ℕ) → is (viewOf w) isNew c ≡ true → isRunning (coreAt w c .state) ≡ false
+is-new w c h = go (coro w c) h
+  where
+    go : (x : Coroutine) → seenIn (λ y. isNew (y .state)) (seenOf x) ≡ true → isRunning (coreIn x .state) ≡ false
+    go Absent q = refl
+    go (Is k r) q = new-run (k .state) q
+
+-- whom a mode ends, in the claim's words
+abbrev pub undoneBy : Mode → Option ℕ
+undoneBy m-plain = none
+undoneBy m-ending = none
+undoneBy (m-undoing c) = some c
+
+pub alike-undone : {a : E.Act} {d : Does} → Alike a d → undone d ≡ undoneBy (modeOf a)
+alike-undone (l-at pc ok (E.enters c d nothing may)) = refl
+alike-undone (l-at pc ok (E.enters c d (gets x) may)) = refl
+alike-undone (l-at pc ok (E.enters c d (closes x) may)) = refl
+alike-undone (l-at pc ok (E.suspends s dst x)) = refl
+alike-undone (l-at pc ok E.neither) = refl
+alike-undone (l-host c x) = refl
+alike-undone (l-finish kind x) = refl
+alike-undone (l-raise f pc) = refl
+alike-undone l-other = refl
+
+pub unbegun : (c : ℕ) (w : World) (k : Call) → (D.Restarts steps w k → ⊥) → (D.Enters steps c w k → ⊥) → is (viewOf w) isNew c ≡ true → (undone (doing (viewOf w) (opOf k)) ≡ some c → ⊥) → viewOf (next w k) .coro c ≡ viewOf w .coro c
+unbegun c w k r i h u = sym (seen-at (next w k) c) ∙ ap (λ (x : Seat). x .seen)
+    (stays-firm c w k (coreAt w c) (λ _ x. firm m-plain (λ e. no-some (ap undoneBy e)) x) (λ _ x. firm m-ending (λ e. no-some (ap undoneBy e)) x)
+    (λ o q _ x. firm (modeOf (act w (o .op))) (λ e. u (ap (λ (j : Call). undone (doing (viewOf w) (opOf j))) q ∙ alike-undone (says-alike w (o .op)) ∙ ap undoneBy e)) x)
+    idle (restarts-old w k r) (out (isRunning (coreAt (next w k) c .state)) refl) refl)
+    ∙ seen-at w c
+  where
+    idle : isRunning (coreAt w c .state) ≡ false
+    idle = is-new w c h
+
+    no-some : _≡_ {A = Option ℕ} none (some c) → ⊥
+    no-some e = let z : _≡_ {A = ℕ} 0 1 = cc in absurd (omega arith)
+
+    firm : (b : Mode) → (b ≡ m-undoing c → ⊥) → (coreAt w c .seen ≡ none) ⊎ (b ≡ m-undoing c) → ⊥
+    firm b n (inl e) = no-both h (ap (seenIn (λ y. isNew (y .state))) (sym (seen-at w c) ∙ e))
+    firm b n (inr e) = n e
 
     out : (b : Bool) → isRunning (coreAt (next w k) c .state) ≡ b → isRunning (coreAt (next w k) c .state) ≡ false
     out false e = e

@@ -22,8 +22,8 @@ use Rattle.model.specs.declared.coro.Stated.{Stated}
 use Rattle.claims.specs.Says.{Sent, nothing, gets, closes}
 use Rattle.claims.proofs.Entry.{enters, awaits, nobody, entry, acceptsAs, accepts, sentTo}
 use Rattle.claims.proofs.Held.{coreIn, coreAt}
-use Rattle.claims.proofs.Cores.{no-both, busy}
-use Rattle.claims.proofs.Shape.{View, view, Worked, done, quiet, tops, puts, Enter}
+use Rattle.claims.proofs.Cores.{no-both, busy, m-plain, m-undoing}
+use Rattle.claims.proofs.Shape.{View, view, Worked, done, quiet, tops, puts, Enter, modeBy, anyway}
 use Rattle.claims.proofs.Under.{keeps-pc}
 use Rattle.claims.proofs.Enters.{EnterCase, e-in, e-out, enter-case, raw-none, raw-sent, raw-calm, raw-closed, enter-raw, Stored, coro-slots, accepts-stored}
 use Rattle.claims.proofs.Instr.{Arm, a-works, a-enters}
@@ -48,7 +48,7 @@ tailW g w (Entered.Refused f) = w
 -- an entry was accepted and leaves z, or was refused
 pub data Tried (v : World) (p c : ℕ) (d : Driver) (s : Sent) (z : World) : Type 0 where
   t-in : accepts v c ≡ true → isResumable (coreAt v c .state) ≡ true → Enter v p c d (sentTo (coro v c) s) z → Tried v p c d s z
-  t-out : accepts v c ≡ false → Worked false (view v) (view z) → Tried v p c d s z
+  t-out : accepts v c ≡ false → Worked m-plain (view v) (view z) → Tried v p c d s z
 
 sent-pick : (b : Bool) (x y : ℕ) (w : World) → pick b w (coroSend y x w) ≡ sentW x w (pick b Entered.Fresh (Entered.Suspended y))
 unfolding pick
@@ -66,7 +66,7 @@ pick-none true = refl
 pick-none false = refl
 
 -- u is v with the caller's pc
-pub try-at : (v : World) (p c : ℕ) (d : Driver) (x : ℕ) (u : World) → Stored p v u → Worked false (view v) (view u) → let e = coroEnter c d u in Tried v p c d (gets x) (sentW x (e .world) (e .answer))
+pub try-at : (v : World) (p c : ℕ) (d : Driver) (x : ℕ) (u : World) → Stored p v u → Worked m-plain (view v) (view u) → let e = coroEnter c d u in Tried v p c d (gets x) (sentW x (e .world) (e .answer))
 try-at v p c d x u s w = go (coroEnter c d u) (enter-case c d u)
   where
     same : coro v c ≡ coro u c
@@ -121,9 +121,9 @@ try-closed v p c d x k₀ r₀ here begun = go (coroEnter c d u) (enter-case c d
 -- what an arm owes whose test `may` passes exactly if it tries
 pub tried-arm : {v z : World} {p c : ℕ} {d : Driver} {s : Sent} (may : Bool) → may ≡ true → Tried v p c d s z → Arm v p (enters c d s may) false z
 tried-arm {v} {z} {p} {c} {d} {s} may e (t-in a r t) = a-enters refl c d (sentTo (coro v c) s) (λ i. (ap (λ b. pick (b && accepts v c) (entry c d (sentTo (coro v c) s)) nobody) e ∙ ap (λ b. pick b (entry c d (sentTo (coro v c) s)) nobody) a ∙ pick-true (entry c d (sentTo (coro v c) s)) nobody) i) t
-tried-arm {v} {z} {p} {c} {d} {s} may e (t-out a t) = a-works refl (ap (λ b. pick (b && accepts v c) (entry c d (sentTo (coro v c) s)) nobody) e ∙ ap (λ b. pick b (entry c d (sentTo (coro v c) s)) nobody) a ∙ pick-false (entry c d (sentTo (coro v c) s)) nobody) t
+tried-arm {v} {z} {p} {c} {d} {s} may e (t-out a t) = a-works refl (ap (λ b. pick (b && accepts v c) (entry c d (sentTo (coro v c) s)) nobody) e ∙ ap (λ b. pick b (entry c d (sentTo (coro v c) s)) nobody) a ∙ pick-false (entry c d (sentTo (coro v c) s)) nobody) (anyway t)
 
-pub may-not : {v z : World} {p c : ℕ} {d : Driver} {s : Sent} (may : Bool) → may ≡ false → Worked false (view v) (view z) → Arm v p (enters c d s may) false z
+pub may-not : {v z : World} {p c : ℕ} {d : Driver} {s : Sent} (may : Bool) → may ≡ false → Worked (modeBy (enters c d s may)) (view v) (view z) → Arm v p (enters c d s may) false z
 may-not {v} {c = c} {d = d} {s = s} may e t = a-works refl (ap (λ b. pick (b && accepts v c) (entry c d (sentTo (coro v c) s)) nobody) e ∙ pick-false (entry c d (sentTo (coro v c) s)) nobody) t
 
 -- ---- Resume
@@ -166,17 +166,17 @@ thrown-world x w (Entered.Suspended d) = refl
 thrown-world x w (Entered.Refused f) = refl
 
 -- a coroutine that has not begun ends
-kill-worked : (c : ℕ) (s : CoroState) (x : ℕ) (v : World) → busy s ≡ false → isCreated s ≡ false → isCreated (coreAt v c .state) ≡ true → {z : View} → Worked false (view (finishCoroutine c s x v)) z → Worked false (view v) z
+kill-worked : (c : ℕ) (s : CoroState) (x : ℕ) (v : World) → busy s ≡ false → isCreated s ≡ false → isCreated (coreAt v c .state) ≡ true → {z : View} → Worked (m-undoing c) (view (finishCoroutine c s x v)) z → Worked (m-undoing c) (view v) z
 kill-worked c s x v b n h {z} t =
     let g = change-still v c (inState s) (ended x) in
     quiet (coreAt (finishCoroutine c s x v)) (unborn-ends c s (coreAt v) (coreAt (finishCoroutine c s x v)) b n h (finish-ends c s x v))
-    (subst (λ y. Worked false y z) (λ i. record { setup = g .setup i; stack = g .stack i; frames = g .frames i; chain = g .chain i; cores = coreAt (finishCoroutine c s x v) }) t)
+    (subst (λ y. Worked (m-undoing c) y z) (λ i. record { setup = g .setup i; stack = g .stack i; frames = g .frames i; chain = g .chain i; cores = coreAt (finishCoroutine c s x v) }) t)
 
 -- an arm that tries where the coroutine is suspended; b: whether it is
 tried-susp : {v z : World} {p c : ℕ} {d : Driver} {s : Sent} (b : Bool) → suspendedAs (coro v c) ≡ b → (isResumable (coreAt v c .state) ≡ true → b ≡ true) → Tried v p c d s z → Arm v p (enters c d s (suspendedAs (coro v c))) false z
 tried-susp {v} {c = c} true e h t = tried-arm (suspendedAs (coro v c)) e t
 tried-susp {v} {c = c} false e h (t-in a r t) = no-both (h r) refl
-tried-susp {v} {c = c} false e h (t-out a t) = may-not (suspendedAs (coro v c)) e t
+tried-susp {v} {c = c} false e h (t-out a t) = may-not (suspendedAs (coro v c)) e (anyway t)
 
 pub throw-arm : (p dst c src : ℕ) (v : World) → Arm v p (enters (reg v c) (Driver.Resume dst) nothing (suspendedAs (coro v (reg v c)))) false (resumeThrow p dst c src v .world)
 unfolding resumeThrow pick
@@ -239,7 +239,7 @@ close-arm p dst c src v = go (coro v n) refl
 
 -- ---- iter_next
 
-refused-arm : {v z : World} {p c : ℕ} {d : Driver} {s : Sent} (may : Bool) → accepts v c ≡ false → Worked false (view v) (view z) → Arm v p (enters c d s may) false z
+refused-arm : {v z : World} {p c : ℕ} {d : Driver} {s : Sent} (may : Bool) → accepts v c ≡ false → Worked (modeBy (enters c d s may)) (view v) (view z) → Arm v p (enters c d s may) false z
 refused-arm {v} {c = c} {d = d} {s = s} true a t = a-works refl (ap (λ b. pick b (entry c d (sentTo (coro v c) s)) nobody) a ∙ pick-false (entry c d (sentTo (coro v c) s)) nobody) t
 refused-arm {v} {c = c} {d = d} {s = s} false a t = a-works refl (pick-false (entry c d (sentTo (coro v c) s)) nobody) t
 
@@ -271,7 +271,7 @@ iter-arm p has iter val src v = go (coro v n) refl
     tried : Tried v p n d (gets nil) (andThen (coroEnter n d (storePc p v)) (arrive nil) .world)
     tried = let e = coroEnter n d (storePc p v) in subst (Tried v p n d (gets nil)) (arrive-world nil (e .world) (e .answer)) (try-sent v p n d nil)
 
-    over : Worked false (view v) (view (Exec.put has 0 (setDone x v) .world))
+    over : Worked m-plain (view v) (view (Exec.put has 0 (setDone x v) .world))
     over = calm-worked (done-calm x v) (puts has 0 done)
 
     tests : (k : Core) (r : Rest) → coro v n ≡ Is k r → (a b c : Bool) → isDone (object v x) ≡ a → isReturned (k .state) ≡ b → isAwaiting (k .state) ≡ c

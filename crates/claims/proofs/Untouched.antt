@@ -2,19 +2,15 @@
 use Prim.Native.Nat.{ℕ}
 use native.Mathlib.Decide.{ℕ-discrete}
 use mathlib.Core.Path.{_≡_, refl, sym, ap, _∙_}
-use mathlib.Core.Logic.{_⊎_, inl, inr}
 use mathlib.Core.Bool.{Bool, true, false}
 use mathlib.Core.List.{List, [], _∷_}
-use mathlib.Core.Option.{some}
 use Rattle.lists.specs.Pick.{pick}
 use Rattle.heap.specs.declared.heap.ResultKind.{ResultKind}
-use Rattle.heap.specs.declared.object.CoroState.{CoroState}
-use Rattle.model.specs.State.{isCreated, isRunning, isAwaiting}
-use Rattle.model.specs.Object.{Core, Coroutine, Absent, Is}
+use Rattle.model.specs.State.{isRunning, isAwaiting}
+use Rattle.model.specs.Object.{Coroutine, Absent, Is}
 use Rattle.model.specs.World.{World, After}
 use Rattle.model.specs.Frames.{onTop, stepPc, putAt}
 use Rattle.model.specs.Heap.{coro, toDyn}
-use Rattle.model.specs.Coro.{inState}
 use Rattle.model.specs.Sound.{marked}
 use Rattle.model.specs.Machine.{finish}
 use Rattle.model.specs.Call.{Call, SetUp, Do}
@@ -25,23 +21,22 @@ use Rattle.model.specs.declared.machine.Frame.{Frame}
 use Rattle.model.specs.declared.coro.Made.{Made}
 use Rattle.model.specs.declared.call.Op.{Op}
 use Rattle.model.specs.declared.call.Answer.{Answer}
-use Rattle.claims.specs.Engine.{Seen, View, run, seenIn}
+use Rattle.claims.specs.Engine.{View, run, seenIn}
 use Rattle.claims.specs.Says.{Does, does, doing}
-use Rattle.claims.specs.Held.{at, into, By}
+use Rattle.claims.specs.Held.{at, into}
 use Rattle.claims.specs.Delivery as Y
 use Rattle.claims.specs.Delivery.{recorded, resultOf, Memory, memory, onward, deliver, Left}
 use Rattle.claims.specs.Demand3 as D
 use Rattle.claims.specs.Steps.{seenOf, viewOf, opOf, steps}
 use Rattle.claims.proofs.Entry as E
 use Rattle.claims.proofs.Entry.{act, pcBy, driverOf, entryOf}
-use Rattle.claims.proofs.Held.{coreIn, coreAt, Event, Yields, Awaits, Ignores, Returns, madeWord, eventAs, eventBy, eventOf, Mem, mem, deliverTo, calling}
-use Rattle.claims.proofs.Split.{next, hasLeft, Enters, Leaves, restarts, Goes}
+use Rattle.claims.proofs.Held.{coreIn, coreAt, Event, Yields, Awaits, Ignores, Returns, madeWord, eventBy, eventOf, Mem, mem, deliverTo, calling}
+use Rattle.claims.proofs.Split.{next, hasLeft, Enters, Leaves, Goes}
 use Rattle.claims.proofs.Cores.{no-both}
-use Rattle.claims.proofs.Events.{run-born, no-entry}
-use Rattle.claims.proofs.Shape.{Ends}
+use Rattle.claims.proofs.Events.{no-entry}
 use Rattle.claims.proofs.Finishes.{FinishCase, f-other, f-returns, finish-case}
 use Rattle.claims.proofs.Claim as Claim
-use Rattle.claims.proofs.Claim.{StepCase, anew, same, step-case, fresh-absent, run-left, Entering, entering}
+use Rattle.claims.proofs.Claim.{StepCase, anew, same, step-case, run-left, Entering, entering}
 use Rattle.claims.proofs.Views.{is-runs, is-left, Alike, l-at, l-host, l-finish, l-raise, l-other, says-alike}
 use Rattle.claims.proofs.Bodies.{at-top}
 use Rattle.claims.proofs.Restores.{enters-old, restarts-old, entry-by}

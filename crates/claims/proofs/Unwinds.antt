@@ -5,10 +5,9 @@ use mathlib.Core.Logic.{_⊎_, inl, inr}
 use mathlib.Core.Bool.{Bool, true, false, not, _&&_, _||_}
 use mathlib.Core.List.{List, [], _∷_}
 use mathlib.Core.Option.{Option, none, some}
-use lib.Dec.{eqb, leb}
+use lib.Dec.{eqb}
 use borrow.Author.Tests.{eq-eqb, not-true}
 use Rattle.lists.specs.Pick.{pick}
-use Rattle.heap.specs.Word.{nil}
 use Rattle.heap.specs.Table.{Slot, nextWord, pushObject}
 use Rattle.heap.specs.Charge.{satAdd}
 use Rattle.heap.specs.declared.fault.Fault.{Fault}
@@ -16,9 +15,9 @@ use Rattle.model.specs.Program.{func}
 use Rattle.model.specs.Lists.{each, among, distinct}
 use Rattle.model.specs.World.{World, After, after, andThen, withUsed, withSlots}
 use Rattle.model.specs.Object.{Object, Absent, asCoro}
-use Rattle.model.specs.Frames.{onTop, setPc, storePc, topFunc, topPc}
+use Rattle.model.specs.Frames.{setPc, storePc, topFunc, topPc}
 use Rattle.model.specs.Heap.{coro, alloc, fits, slotsFull, refuse}
-use Rattle.model.specs.Machine.{errorOf, searchFrames, searchMade, storeSome, unwindFault, raisable, unwind}
+use Rattle.model.specs.Machine.{errorOf, searchFrames, searchMade, storeSome, unwind}
 use Rattle.model.specs.Sound.{sound, runningOk, runs, coros, runsAmong}
 use Rattle.model.specs.Answer.{numberOf}
 use Rattle.model.specs.declared.machine.Active.{Active}
@@ -30,10 +29,10 @@ use Rattle.claims.specs.Engine as Engine
 use Rattle.claims.specs.Held.{at}
 use Rattle.claims.specs.Events.{escaped, raised, raisedAt}
 use Rattle.claims.specs.Steps.{seenOf, viewOf}
-use Rattle.claims.proofs.Cores.{no-both, and-left, and-right, coroIn, objectIn, push-cases}
+use Rattle.claims.proofs.Cores.{no-both, and-left, and-right, coroIn, objectIn, push-cases, m-ending}
 use Rattle.claims.proofs.Shape.{View, view, Worked, done, tops, Apart}
 use Rattle.claims.proofs.Under.{keeps-pc}
-use Rattle.claims.proofs.Quiet.{Same, same-worked, alloc-same}
+use Rattle.claims.proofs.Quiet.{Same, same-worked}
 use Rattle.claims.proofs.Sounds.{two}
 use Rattle.claims.proofs.Bodies.{at-top}
 use Rattle.claims.proofs.Escapes.{Ended, e-works, e-returns, then-ended, AllSeen, Sees, search-ended}
@@ -91,7 +90,7 @@ unfolding pick
 ended-counted {v} {o} (e-works t) = subst (Ended v o) (sym (nobody (eqb (numberOf (o .answer)) 0))) (e-works t)
 ended-counted {v} {o} (e-returns u f fs a chain t r n) = subst (λ m. Ended v o (pick (eqb m 0) (some (a .coro)) none)) (sym n) (e-returns u f fs a chain t r n)
 
-ended-none : {v : View} {o : After Answer} → Worked true v (view (o .world)) → (b : Bool) → Ended v o (pick b none none)
+ended-none : {v : View} {o : After Answer} → Worked m-ending v (view (o .world)) → (b : Bool) → Ended v o (pick b none none)
 unfolding pick
 ended-none t true = e-works t
 ended-none t false = e-works t
@@ -101,7 +100,7 @@ module _ (w : World) (h : sound w ≡ true) where
   frames-ended : (x : ℕ) (fs : List Frame) (u : World) → Sees (viewOf w) u → u .frames ≡ fs → u .chain ≡ w .chain → Ended (view u) (searchFrames x u) (escaped (viewOf w) x fs (w .chain))
   frames-ended x fs u s p q = subst (λ cs. Ended (view u) (searchFrames x u) (escaped (viewOf w) x fs cs)) q (subst (λ gs. Ended (view u) (searchFrames x u) (escaped (viewOf w) x gs (u .chain))) p (search-ended (viewOf w) x (topFunc (u .frames)) (topPc (u .frames)) (u .frames) u refl s))
 
-  stored-works : (pc : OptPc) {z : View} → Worked true (view (storeSome pc w)) z → Worked true (view w) z
+  stored-works : (pc : OptPc) {z : View} → Worked m-ending (view (storeSome pc w)) z → Worked m-ending (view w) z
   stored-works OptPc.None t = t
   stored-works (OptPc.Some p) t = tops (setPc p) (keeps-pc p) t
 

@@ -1,12 +1,11 @@
 -- A result that is an integer is recorded as a word that stands for it.
-use Prim.Native.Nat.{ℕ, _+_, _*_, _/_, _%_, _^_, _<_, _≤_}
+use Prim.Native.Nat.{ℕ, _^_, _<_}
 use native.Mathlib.Omega.{arith}
 use native.Mathlib.Decide.{ℕ-discrete}
 use mathlib.Core.Path.{_≡_, refl, sym, ap, _∙_, subst}
-use mathlib.Core.Logic.{_⊎_, inl, inr}
 use mathlib.Core.Bool.{Bool, true, false, not, _&&_}
 use mathlib.Core.List.{List, [], _∷_, _++_}
-use mathlib.Core.Option.{Option, none, some}
+use mathlib.Core.Option.{Option, some}
 use lib.IntN.{ℤ, pos}
 use lib.ListN.{length, length-append}
 use lib.Seq.{getD-at}
@@ -14,17 +13,16 @@ use lib.Signed.{mag}
 use lib.Dec.{eqb, ltb}
 use borrow.Author.Tests.{ltb-true, lt-ltb, eq-eqb}
 use Rattle.lists.specs.Pick.{pick, pick-true}
-use Rattle.heap.specs.Word.{slotOf, tagOf, topOf, reference, intWord}
+use Rattle.heap.specs.Word.{slotOf, tagOf, reference, intWord}
 use Rattle.heap.specs.Coding.{inRange, bitsOf, ofBits}
 use Rattle.heap.specs.Charge.{satAdd}
-use Rattle.heap.specs.Int.{valueOf, exactly, inlineOf}
+use Rattle.heap.specs.Int.{exactly, inlineOf}
 use Rattle.heap.specs.Table.{Slot, slot, getIn, dynIntBy, nextWord, pushObject}
 use Rattle.heap.specs.declared.heap.Place.{Place}
 use Rattle.heap.specs.declared.fault.Fault.{Fault}
 use Rattle.heap.specs.declared.value.Opt.{Opt}
 use Rattle.heap.specs.declared.int.Exact.{Exact}
 use Rattle.heap.specs.declared.int.Inline.{Inline}
-use Rattle.heap.specs.declared.int.IntTy.{IntTy}
 use Rattle.heap.specs.declared.heap.ResultKind.{ResultKind}
 use Rattle.heap.proofs.Coding.{bits-of, of-range}
 use Rattle.heap.proofs.Words.{class-ref, class-int}
@@ -34,9 +32,8 @@ use Rattle.model.specs.World.{World, After, after, withUsed, withSlots}
 use Rattle.model.specs.Heap.{objectAt, coro, fits, slotsFull, refuse, alloc, encodeAt, encodeInt, encodeExact, toDyn, intIn, dynInt}
 use Rattle.model.specs.Machine.{finish}
 use Rattle.model.specs.Sound.{sound}
-use Rattle.model.specs.Call.{Call, SetUp, Do, typed}
+use Rattle.model.specs.Call.{Call, typed}
 use Rattle.model.specs.Step.{call}
-use Rattle.model.specs.declared.machine.Active.{Active}
 use Rattle.model.specs.declared.coro.Made.{Made}
 use Rattle.model.specs.declared.call.Op.{Op}
 use Rattle.model.specs.declared.call.Answer.{Answer}
@@ -45,7 +42,7 @@ use Rattle.claims.specs.Delivery.{recorded, resultOf}
 use Rattle.claims.specs.Events as Said
 use Rattle.claims.specs.Events.{isInteger}
 use Rattle.claims.specs.Promise.{converts}
-use Rattle.claims.specs.Steps.{seenOf, viewOf, opOf, steps}
+use Rattle.claims.specs.Steps.{seenOf, opOf, steps}
 use Rattle.claims.proofs.Held.{coreIn, coreAt}
 use Rattle.claims.proofs.Split.{next}
 use Rattle.claims.proofs.Cores.{no-both, objectIn, find}

@@ -1,18 +1,13 @@
 -- What is seen of a world: states, registers, and what a call says of itself, beside the proof's own words for them.
-use Prim.Native.Nat.{ℕ, _+_}
-use native.Mathlib.Omega.{arith}
-use mathlib.Core.Path.{_≡_, refl, sym, ap, _∙_, subst}
+use Prim.Native.Nat.{ℕ}
+use mathlib.Core.Path.{_≡_, refl, sym, ap, subst}
 use mathlib.Core.Bool.{Bool, true, false, not, _&&_, _||_}
 use mathlib.Core.List.{List, [], _∷_}
-use mathlib.Core.Option.{Option, none, some}
-use lib.ListN.{length, getD}
-use lib.Dec.{eqb, ltb, leb}
-use Rattle.lists.specs.Pick.{pick, pick-true, pick-false}
 use Rattle.heap.specs.declared.fault.Fault.{Fault}
 use Rattle.heap.specs.declared.object.CoroState.{CoroState}
 use Rattle.heap.specs.declared.heap.ResultKind.{ResultKind}
 use Rattle.model.specs.State.{isCreated, isRunning, isAwaiting, isSuspended, isReturned, isResumable}
-use Rattle.model.specs.Object.{Core, Rest, Coroutine, Absent, Is, isDone}
+use Rattle.model.specs.Object.{Coroutine, Absent, Is, isDone}
 use Rattle.model.specs.World.{World}
 use Rattle.model.specs.Frames.{topBase, reg}
 use Rattle.model.specs.Heap.{object, coro}
@@ -23,9 +18,9 @@ use Rattle.model.specs.declared.machine.Frame.{Frame}
 use Rattle.model.specs.declared.machine.Driver.{Driver}
 use Rattle.model.specs.declared.call.OptPc.{OptPc}
 use Rattle.model.specs.declared.call.Op.{Op}
-use Rattle.claims.specs.Engine.{Seen, isNew, runs, awaits, sleeps, ended, seenIn, is}
+use Rattle.claims.specs.Engine.{isNew, runs, awaits, sleeps, ended, seenIn, is}
 use Rattle.claims.specs.Says as Says
-use Rattle.claims.specs.Says.{base, word, lie, window, Aim, enter, suspend, neither, Does, instr, hosts, finishes, raises, other, does, Sent, nothing, gets, closes}
+use Rattle.claims.specs.Says.{base, Aim, enter, suspend, neither, Does, instr, hosts, finishes, raises, other, does, nothing, gets, closes}
 use Rattle.claims.specs.Held.{closer}
 use Rattle.claims.specs.Steps.{seenOf, viewOf}
 use Rattle.claims.proofs.Entry as E

@@ -1,5 +1,5 @@
 -- Whom a call enters: what the claim says is what the proof's `entryBy` says, on a sound machine.
-use Prim.Native.Nat.{ℕ, _+_, _≤_}
+use Prim.Native.Nat.{ℕ, _+_}
 use native.Mathlib.Omega.{arith}
 use mathlib.Core.Path.{_≡_, refl, sym, ap, _∙_}
 use mathlib.Core.Bool.{Bool, true, false, not, _&&_, _||_}
@@ -8,18 +8,17 @@ use mathlib.Core.Option.{Option, none, some}
 use lib.ListN.{length}
 use lib.Dec.{eqb, ltb, leb}
 use borrow.Author.Tests.{leb-true, leb-false, le-ltb, lt-ltb, eqb-true, ne-eqb}
-use Rattle.lists.specs.Pick.{pick, pick-true, pick-false}
+use Rattle.lists.specs.Pick.{pick}
 use Rattle.heap.specs.declared.value.Opt.{Opt}
 use Rattle.model.specs.Lists.{isNil}
-use Rattle.model.specs.State.{isCreated, isResumable}
-use Rattle.model.specs.Object.{Core, Rest, Coroutine, Absent, Is}
+use Rattle.model.specs.State.{isResumable}
+use Rattle.model.specs.Object.{Coroutine, Absent, Is}
 use Rattle.model.specs.World.{World, After, after}
 use Rattle.model.specs.Frames.{storePc}
 use Rattle.model.specs.Heap.{coro}
 use Rattle.model.specs.Fuel.{unbank, unbankAt, spend}
 use Rattle.model.specs.Cleanup.{suspendedAs, startFrom, startFinalizer, chargeDone, chargeOr, chargeAt, chargeSlow, charge}
 use Rattle.model.specs.Sound.{sound}
-use Rattle.model.specs.Call.{Call, SetUp, Do}
 use Rattle.model.specs.declared.machine.Driver.{Driver}
 use Rattle.model.specs.declared.machine.Frame.{Frame}
 use Rattle.model.specs.declared.machine.Fuel.{Fuel}
@@ -27,13 +26,12 @@ use Rattle.model.specs.declared.machine.Charge.{Charge}
 use Rattle.model.specs.declared.coro.Started.{Started}
 use Rattle.model.specs.declared.call.OptPc.{OptPc}
 use Rattle.model.specs.declared.call.Op.{Op}
-use Rattle.claims.specs.Engine.{Seen, View, isNew, sleeps, seenIn, is}
+use Rattle.claims.specs.Engine.{isNew, sleeps, seenIn, is}
 use Rattle.claims.specs.Says as Says
-use Rattle.claims.specs.Says.{Does, Entry, entry, fits, named, cleaned, banked, orElse, charged, whomBy, whom, Sent, nothing, gets, closes}
-use Rattle.claims.specs.Steps.{seenOf, viewOf, opOf}
+use Rattle.claims.specs.Says.{Does, Entry, entry, fits, named, cleaned, banked, orElse, charged, whomBy, whom, nothing, gets, closes}
+use Rattle.claims.specs.Steps.{seenOf, viewOf}
 use Rattle.claims.proofs.Entry as E
 use Rattle.claims.proofs.Entry.{accepts, acceptsAs, sentTo, aimed, pcBy, entryBy, act}
-use Rattle.claims.proofs.Cores.{no-both}
 use Rattle.claims.proofs.Enters.{Stored, StartCase, s-some, s-none, start-case, cleaned-stored}
 use Rattle.claims.proofs.Sounds.{solid}
 use Rattle.claims.proofs.Views.{new-state, ready-state, is-asleep, Alike, l-at, l-host, l-finish, l-raise, l-other, aimOf, says-alike}

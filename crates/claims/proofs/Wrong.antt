@@ -1,43 +1,33 @@
--- The machines that are wrong in one thing have not what is promised: at the split that Witness.antt shows as lists a field of a frame differs,
--- or a call tells it.
-use Prim.Native.Nat.{ℕ, suc, _+_, _-_}
+-- The machines that are wrong in one thing have not what is promised. Here those that wake otherwise: at the split that Witness.antt shows as
+-- lists, a field of a frame differs.
+use Prim.Native.Nat.{ℕ, _+_, _-_}
 use native.Mathlib.Omega.{arith}
 use mathlib.Core.Path.{_≡_, refl, sym, ap, _∙_, subst}
 use mathlib.Core.Bool.{Bool, true, false, not, _&&_}
 use mathlib.Core.List.{List, [], _∷_, _++_, map, append-assoc}
 use mathlib.Core.Option.{Option, none, some}
-use lib.ListN.{length, take, drop, length-append}
+use lib.ListN.{length, take, length-append}
 use lib.Seq.{take-append-seam}
-use Rattle.lists.specs.Pick.{pick}
-use Rattle.heap.specs.declared.fault.Fault.{Fault}
 use Rattle.model.specs.World.{World, fresh}
 use Rattle.model.specs.Step as M
-use Rattle.model.specs.Answer.{numberOf}
-use Rattle.model.specs.Call.{SetUp, Do, typed, asCall}
 use Rattle.model.specs.Compute.{computed}
 use Rattle.model.specs.declared.machine.Cont.{Cont}
-use Rattle.model.specs.declared.machine.Driver.{Driver}
 use Rattle.model.specs.declared.machine.Active.{Active}
 use Rattle.model.specs.declared.machine.Frame.{Frame}
-use Rattle.model.specs.declared.machine.Fuel.{Fuel}
-use Rattle.model.specs.declared.call.OptPc.{OptPc}
 use Rattle.model.specs.declared.call.Op.{Op}
 use Rattle.claims.specs.Engine.{View, run}
-use Rattle.claims.specs.Says.{Sent, nothing, gets, closes, Entry, doing, whom}
+use Rattle.claims.specs.Says.{Sent, nothing, Entry, doing, whom}
 use Rattle.claims.specs.Held.{at, Moved, AllMoved, pcOf, stepped, Restored}
-use Rattle.claims.specs.Delivery.{recorded}
 use Rattle.claims.specs.Demand3.{Demand3}
-use Rattle.claims.specs.Events.{Healthy, thrown, escapes, Events}
-use Rattle.claims.specs.Promise.{SetUps, Looks}
 use Rattle.claims.specs.Premises.{runsIn, sleepsIn, waits}
 use Rattle.claims.specs.Steps.{viewOf, opOf}
 use Rattle.claims.specs.Story as Story
 use Rattle.claims.specs.Story.{wide, c, held}
 use Rattle.claims.specs.Witness.{nth, between, frame}
-use Rattle.claims.specs.Wrong.{bent, onTop, tail, ofZero, discards, bare, atOne, further, higher, idle, two, failing, forgetting, sparing, once, yielding, lostIn, excusing, closing, rewriting, fuelled, showing, Wrong}
+use Rattle.claims.specs.Wrong.{bent, onTop, tail, ofZero, discards, bare, atOne, further, higher, once, Wrong}
 use Rattle.claims.proofs.Premises.{waits-true}
 use Rattle.claims.proofs.Cores.{no-both}
-use Rattle.claims.proofs.Promise.{sound-healthy}
+use Rattle.claims.proofs.WrongEvents.{always-refused, return-fails, no-cleanup, closing-forgotten, failure-returns, await-yields, excused, close-pays, result-changes, aborted, renewed, comes-failed, fuel-stays, all-shown}
 
 abbrev first : List ℕ → ℕ
 first [] = 0
@@ -225,124 +215,6 @@ unfolding computed
 rows-once d = more-frames (d .restored c (run once (fresh wide) (take 13 held)) (nth held 13) (between held 13 23) (nth held 23) (record { before = refl; after = refl })
     (waits-true once c (once .next (run once (fresh wide) (take 13 held)) (nth held 13)) (between held 13 23) refl) (record { before = refl; after = refl })) 3 refl refl
 
--- ---- events
-
-at-rest : World
-at-rest = M.run (fresh wide) (take 23 held)
-
-always-refused : Events (idle (λ _. true)) → ⊥
-unfolding computed at-rest
-always-refused v = no-both (v .entered c at-rest (nth held 23) (sound-healthy at-rest refl) (record { driver = Driver.Resume 1; sent = gets 44; pc = 15; says = refl }) .after) refl
-
-finishing : World
-finishing = M.run (fresh wide) (take 26 held)
-
-return-fails : Events failing → ⊥
-unfolding computed finishing
-return-fails v = no-both (v .returned c finishing (nth held 26) (sound-healthy finishing refl) refl .after) refl
-
-queued-ops : List Op
-queued-ops = Op.Grant 1000 ∷ Op.HostCall 0 ∷ Op.CoroNew 1 0 0 0 ∷ Op.CoroNew 2 1 0 0 ∷ Op.Resume 3 2 0 3 ∷ Op.Yield 8 3 0 ∷ Op.Resume 4 2 1 3 ∷ Op.Yield 8 3 0 ∷ Op.HandOver c ∷ Op.HandOver Story.d ∷ []
-
-queued : World
-queued = M.runOps (fresh wide) queued-ops
-
-current-typed : typed (Op.CoroCurrent 9 1) ≡ true
-unfolding typed
-current-typed = refl
-
-no-cleanup : Events (idle two) → ⊥
-unfolding computed queued-ops queued
-no-cleanup v = no-both (v .entered c queued (asCall (Op.CoroCurrent 9 1) current-typed) (sound-healthy queued refl) (record { driver = Driver.Finalize; sent = closes 0; pc = 9; says = refl }) .after) refl
-
--- c runs while it is being closed, and asks who runs
-closed-ops : List Op
-closed-ops = Story.closed
-
-closed : World
-closed = M.runOps (fresh wide) closed-ops
-
-no-set-up : _≡_ {A = Option Op} (some (Op.CoroCurrent 9 1)) none → ⊥
-no-set-up e = let z : _≡_ {A = ℕ} 0 1 = cc in absurd (omega arith)
-
-closing-forgotten : Events forgetting → ⊥
-unfolding computed closed-ops closed
-closing-forgotten v = no-closer (v .closing c closed (asCall (Op.CoroCurrent 9 1) current-typed) (λ r. no-set-up (r .sets-up)) (λ h. no-both refl (h .before)) (λ h. no-both (h .after) refl) refl)
-  where
-    no-closer : _≡_ {A = Option ℕ} none (some 9) → ⊥
-    no-closer e = let z : _≡_ {A = ℕ} 0 1 = cc in absurd (omega arith)
-
--- c runs, and a word that nobody catches is raised
-throw-typed : typed (Op.Unwind (Fault.Throw 7) OptPc.None) ≡ true
-unfolding typed
-throw-typed = refl
-
-begun : World
-begun = M.runOps (fresh wide) (Story.begin 0)
-
-failure-returns : Events sparing → ⊥
-unfolding computed begun
-failure-returns v = no-both (v .failed c begun (asCall (Op.Unwind (Fault.Throw 7) OptPc.None) throw-typed) (sound-healthy begun refl) refl (escapes (Fault.Throw 7) OptPc.None refl refl) .after) refl
-
--- an Await of c
-await-typed : typed (Op.Await 10 3 0) ≡ true
-unfolding typed
-await-typed = refl
-
-await-yields : Events yielding → ⊥
-unfolding computed begun
-await-yields v = no-both (v .awaited c begun (asCall (Op.Await 10 3 0) await-typed) (record { before = refl; after = refl })) refl
-
--- a look at that machine answers 0
-excusing-healthy : Healthy excusing begun
-unfolding computed begun
-excusing-healthy (SetUp s) e = absurd (no-setting e)
-  where
-    no-setting : _≡_ {A = Option Op} none (some Op.Look) → ⊥
-    no-setting e = let z : _≡_ {A = ℕ} 0 1 = cc in absurd (omega arith)
-excusing-healthy (Do o) e = ap (λ p. pick (lostIn (begun .chain) (M.tested begun p .world)) 9 (numberOf (M.tested begun p .answer))) (some-op e)
-  where
-    some-op : {a b : Op} → _≡_ {A = Option Op} (some a) (some b) → a ≡ b
-    some-op e = cc
-
-excused : Events excusing → ⊥
-unfolding computed begun
-excused v = no-both (v .failed c begun (asCall (Op.Unwind (Fault.Throw 7) OptPc.None) throw-typed) excusing-healthy refl (thrown 7 OptPc.None refl) .after) refl
-
--- c is closed with 9, which it does not catch
-dying-ops : List Op
-dying-ops = Story.begin 0 ++ (Op.Yield 8 3 0 ∷ Op.PutWord 2 9 ∷ Op.CoroClose 3 1 0 2 ∷ [])
-
-dying : World
-dying = M.runOps (fresh wide) dying-ops
-
-signal-typed : typed (Op.Unwind (Fault.Throw 9) OptPc.None) ≡ true
-unfolding typed
-signal-typed = refl
-
-close-pays : Events closing → ⊥
-unfolding computed dying-ops dying
-close-pays v = let q : _≡_ {A = ℕ} 5 0 = v .closed c dying (asCall (Op.Unwind (Fault.Throw 9) OptPc.None) signal-typed) (Fault.Throw 9) OptPc.None (record { before = refl; after = refl }) refl in absurd (omega (arith, q))
-
-died : World
-died = M.runOps (fresh wide) (dying-ops ++ (Op.Unwind (Fault.Throw 9) OptPc.None ∷ []))
-
-result-changes : Events (rewriting c) → ⊥
-unfolding computed dying-ops died
-result-changes v =
-    let q : _≡_ {A = ℕ} 5 0 = ap recorded (v .still c died (asCall (Op.CoroCurrent 9 1) current-typed) (λ r. no-set-up (r .sets-up)) (λ h. no-both (h .after) refl) refl) in
-    absurd (omega (arith, q))
-
--- ---- set-ups and looks
-
-fuel-stays : SetUps fuelled → ⊥
-unfolding computed begun
-fuel-stays v = let q : _≡_ {A = ℕ} 998 0 = ap (λ (f : Fuel). f .fuel) (v .begun begun (SetUp wide) (record { sets-up = refl; accepted = refl }) .fuel) in absurd (omega (arith, q))
-
-all-shown : Looks showing → ⊥
-unfolding computed begun
-all-shown v = let q : _≡_ {A = ℕ} 8 4 = ap length (v .sees begun (sound-healthy begun refl)) in absurd (omega (arith, q))
-
 -- NONE OF THEM
 pub wrong : Wrong
 wrong =
@@ -364,6 +236,9 @@ wrong =
       excused = excused;
       close-pays = close-pays;
       result-changes = result-changes;
+      aborted = aborted;
+      renewed = renewed;
+      comes-failed = comes-failed;
       fuel-stays = fuel-stays;
       all-shown = all-shown;
     }

@@ -2,6 +2,7 @@
 -- call. So an engine that refuses what 01 accepts, or makes of a return a failure, has not this.
 use Prim.Native.Nat.{ℕ}
 use mathlib.Core.Path.{_≡_}
+use mathlib.Core.Logic.{_⊎_}
 use mathlib.Core.Bool.{Bool, true, false, not, _&&_, _||_}
 use mathlib.Core.List.{List, [], _∷_}
 use mathlib.Core.Option.{Option, none, some}
@@ -18,8 +19,8 @@ use Rattle.model.specs.declared.machine.Active.{Active}
 use Rattle.model.specs.declared.machine.Frame.{Frame}
 use Rattle.model.specs.declared.call.OptPc.{OptPc}
 use Rattle.model.specs.declared.call.Op.{Op}
-use Rattle.claims.specs.Engine.{Seen, View, Engine, code, runs, awaits, sleeps, ended, seenIn, is}
-use Rattle.claims.specs.Says.{Aim, enter, suspend, neither, Does, instr, hosts, finishes, raises, other, doing}
+use Rattle.claims.specs.Engine.{Seen, View, Engine, code, isNew, runs, awaits, sleeps, ended, seenIn, is}
+use Rattle.claims.specs.Says.{nothing, gets, closes, Aim, enter, suspend, neither, Does, instr, hosts, finishes, raises, other, doing}
 use Rattle.claims.specs.Held.{at, closer, By}
 use Rattle.claims.specs.Delivery.{recorded, resultOf}
 use Rattle.claims.specs.Demand3.{Enters, Suspends, Restarts}
@@ -182,6 +183,18 @@ pub data Lost (v : View) (n c : ℕ) : Option Op → Type 0 where
 abbrev pub lives : CoroState → Bool
 lives s = ltb (code s) 4
 
+-- whom a call may end that has not begun: a word is thrown into it, or it is closed
+abbrev pub undone : Does → Option ℕ
+undone (instr pc ok (enter c d nothing may)) = some c
+undone (instr pc ok (enter c d (gets x) may)) = none
+undone (instr pc ok (enter c d (closes x) may)) = some c
+undone (instr pc ok (suspend await dst x)) = none
+undone (instr pc ok neither) = none
+undone (hosts c x) = none
+undone (finishes kind x) = none
+undone (raises f pc) = none
+undone other = none
+
 -- has begun, and does not run
 abbrev pub rests : CoroState → Bool
 rests s = ltb 1 (code s)
@@ -230,6 +243,13 @@ pub record Events (e : Engine) : Type 0 where
   pub awaited : (c : ℕ) (s : e .State) (k : e .Call) → Suspends e c s k → is (e .view (e .next s k)) awaits c ≡ isAwait (doing (e .view s) (e .op k))
   -- who sleeps, has returned or has failed is seen as before until it is entered, or the machine is set up anew
   pub still : (c : ℕ) (s : e .State) (k : e .Call) → (Restarts e s k → ⊥) → (Enters e c s k → ⊥) → is (e .view s) rests c ≡ true → e .view (e .next s k) .coro c ≡ e .view s .coro c
+  -- and so is one that has not begun, unless it is closed or a word is thrown into it
+  pub unbegun : (c : ℕ) (s : e .State) (k : e .Call) → (Restarts e s k → ⊥) → (Enters e c s k → ⊥) → is (e .view s) isNew c ≡ true → (undone (doing (e .view s) (e .op k)) ≡ some c → ⊥)
+      → e .view (e .next s k) .coro c ≡ e .view s .coro c
+  -- who runs runs on, unless it is suspended, returns or fails; and who comes has not begun
+  pub runs-on : (c : ℕ) (s : e .State) (k : e .Call) → (Restarts e s k → ⊥) → is (e .view s) runs c ≡ true → (Suspends e c s k → ⊥) → (Returns e c s k → ⊥) → (Fails e c s k → ⊥) → is (e .view (e .next s k)) runs c ≡ true
+  pub comes : (c : ℕ) (s : e .State) (k : e .Call) → (undone (doing (e .view s) (e .op k)) ≡ some c → ⊥) → e .view s .coro c ≡ none
+      → let z = e .view (e .next s k) in (z .coro c ≡ none) ⊎ (is z isNew c ≡ true)
   pub fixed : (s : e .State) (k : e .Call) → (Restarts e s k → ⊥) → Fixed (e .view s) (e .view (e .next s k))
   -- one a call
   pub one-switch : (c u : ℕ) (s : e .State) (k : e .Call) → Enters e c s k → Suspends e u s k → ⊥

@@ -19,7 +19,7 @@ use Rattle.model.specs.declared.machine.Active.{Active}
 use Rattle.model.specs.declared.machine.Frame.{Frame}
 use Rattle.model.specs.declared.machine.Fuel.{Fuel}
 use Rattle.model.specs.declared.call.Op.{Op}
-use Rattle.claims.specs.Engine.{Engine, awaits, sleeps, ended, seenIn, is}
+use Rattle.claims.specs.Engine.{Engine, isNew, runs, awaits, sleeps, ended, seenIn, is}
 use Rattle.claims.specs.Demand3.{Demand3}
 use Rattle.claims.specs.Events.{isBody, failed, Events}
 use Rattle.claims.specs.Promise.{SetUps, Looks}
@@ -150,6 +150,17 @@ closing = leaving (λ w k. paying (w .chain) w (step w k .world))
 abbrev pub rewriting : ℕ → Engine
 rewriting c = leaving (λ w k. let z = step w k .world in pick (is (viewOf w) ended c) (changeCoro c (λ k. k) (withResult 5) z) z)
 
+-- c fails before it has begun
+abbrev pub aborting : ℕ → Engine
+aborting c = leaving (λ w k. let z = step w k .world in pick (is (viewOf w) isNew c) (changeCoro c (inState CoroState.Failed) (λ r. r) z) z)
+
+-- c, which runs, is new again; c comes as one that has failed
+abbrev pub renewing : ℕ → Engine
+renewing c = leaving (λ w k. let z = step w k .world in pick (is (viewOf w) runs c) (changeCoro c (inState CoroState.Created) (λ r. r) z) z)
+
+abbrev pub stillborn : ℕ → Engine
+stillborn c = leaving (λ w k. let z = step w k .world in pick (not (is (viewOf w) isNew c) && is (viewOf z) isNew c) (changeCoro c (inState CoroState.Failed) (λ r. r) z) z)
+
 -- ---- machines whose set-ups or looks are wrong
 
 -- a set-up leaves the fuel
@@ -182,5 +193,8 @@ pub record Wrong : Type 0 where
   pub excused : Events excusing → ⊥
   pub close-pays : Events closing → ⊥
   pub result-changes : Events (rewriting c) → ⊥
+  pub aborted : Events (aborting c) → ⊥
+  pub renewed : Events (renewing c) → ⊥
+  pub comes-failed : Events (stillborn c) → ⊥
   pub fuel-stays : SetUps fuelled → ⊥
   pub all-shown : Looks showing → ⊥

@@ -40,6 +40,15 @@ const CORO: [u64; 20] = [
     0,
 ];
 
+// Those of the tag and the fields of kinds 0, 2, 3 and 4: empty, an integer, an iterator without a key and with one.
+const TAG: [u64; 5] = [0, BITS16, BITS16, BITS16, BITS16];
+
+const FIRST: [u64; 5] = [0, 0, WORD, WORD, WORD];
+
+const SECOND: [u64; 5] = [0, 0, 0, 1, 1];
+
+const THIRD: [u64; 5] = [0, 0, 0, 0, WORD];
+
 // Each word is at most `most`.
 fn at_most(s: &[u64], most: [u64; 20]) -> bool
     requires { ⌜ length (now s) ≡ 20 ⌝ }
@@ -88,22 +97,26 @@ fn fields_ok(s: &[u64], least: u64, tag: u64, kind: u64, a: u64, b: u64, c: u64,
     lists::all_zero(&s[6..])
 }
 
-// The words of a slot lie in the ranges of its kind.
+// The words of a slot lie in the ranges of its kind: few branches, since kinds follow one another in no order.
 fn slot_ok(s: &[u64]) -> bool
     requires { ⌜ length (now s) ≡ 20 ⌝ }
     ensures { λ r. ⌜ r ≡ slotOk (now (s .entry)) ⌝ }
 {
     let kind = s[1];
-    match kind {
-        0 => fields_ok(s, 0, 0, 0, 0, 0, 0, 0),
-        1 => fields_ok(s, 0, BITS16, 1, BITS32, 0, 0, 0),
-        2 => fields_ok(s, 0, BITS16, 2, WORD, 0, 0, 0),
-        3 => fields_ok(s, 0, BITS16, 3, WORD, 1, 0, 0),
-        4 => fields_ok(s, 0, BITS16, 4, WORD, 1, WORD, 0),
-        5 => fields_ok(s, 1, BITS16, 5, 8, BITS32, BITS32, WORD),
-        6 => at_most(s, CORO),
-        _ => false,
+    if kind == 6 {
+        return at_most(s, CORO);
     }
+    if kind == 5 {
+        return fields_ok(s, 1, BITS16, 5, 8, BITS32, BITS32, WORD);
+    }
+    if 4 < kind {
+        return false;
+    }
+    if kind == 1 {
+        return fields_ok(s, 0, BITS16, 1, BITS32, 0, 0, 0);
+    }
+    let k = kind as usize;
+    fields_ok(s, 0, TAG[k], kind, FIRST[k], SECOND[k], THIRD[k], 0)
 }
 
 fn slot_ok_at(slots: &[u64], i: usize) -> bool

@@ -7,7 +7,7 @@ use native.Mathlib.Omega.{arith}
 use lib.ListN.{length, length-map}
 use Rattle.lists.specs.Chunks.{words}
 use Rattle.lists.proofs.Tables.{length-words}
-use Rattle.heap.specs.Slot.{slotWords, slotOfWords}
+use Rattle.heap.specs.Slot.{width, slotWords, slotOfWords}
 use Rattle.heap.proofs.Slots.{length-slot}
 use Rattle.model.specs.World.{World}
 use Rattle.model.specs.Sound.{rowWords, sound}
@@ -45,7 +45,7 @@ same-lengths w M e r =
     let few-cleanups = queue-few (λ r. r .finalized) (w .slots) (w .finalize) (h .cleanups) in
     let of-frames = length-upward frameWords 6 length-frame (w .frames) in
     let of-chain = length-upward activeWords 6 length-active (w .chain) in
-    let of-slots : length (words slotWords (toSlots (w .slots))) ≡ length (toSlots (w .slots)) * 20 = length-words 20 slotWords slotOfWords length-slot (toSlots (w .slots)) in
+    let of-slots : length (words slotWords (toSlots (w .slots))) ≡ length (toSlots (w .slots)) * width = length-words width slotWords slotOfWords length-slot (toSlots (w .slots)) in
     let count : length (toSlots (w .slots)) ≡ length (w .slots) = length-map (w .slots) toSlot in
     let of-regs = length-rows (λ (xs : List ℕ). xs) (rowWords s) (λ i. rowAt i (w .slots) .regs) (s .limits .rows) in
     let of-saved = length-rows (upward frameWords) (framesSize s) (λ i. rowAt i (w .slots) .frames) (s .limits .rows) in

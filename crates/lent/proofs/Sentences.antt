@@ -10,7 +10,7 @@ use borrow.Author.Tests.{eq-eqb, not-true}
 use Rattle.lists.specs.Pick.{pick, pick-true, pick-false}
 use Rattle.lists.specs.Chunks.{chunkAt}
 use Rattle.lists.specs.Tests.{allBelow}
-use Rattle.heap.specs.Slot.{slotWords, slotOfWords}
+use Rattle.heap.specs.Slot.{width, slotWords, slotOfWords}
 use Rattle.heap.specs.Fault as Faults
 use Rattle.heap.specs.declared.fault.Fault.{Fault}
 use Rattle.model.specs.Lists.{among}
@@ -183,7 +183,7 @@ clear s e =
       stack = and-left a b (and-left (a && b) c (p .runs));
       frames = and-right (coded 6 frameWords frameOf (m .depth) (M .frames)) (restOk (M .frames) (m .depth * 6)) (p .frames);
       chain = and-right (coded 6 activeWords activeOf (m .active) (M .chain)) (restOk (M .chain) (m .active * 6)) (p .chain);
-      slots = and-right (coded 20 slotWords slotOfWords (m .count) (M .slots)) (restOk (M .slots) (m .count * 20)) (p .slots);
+      slots = and-right (coded width slotWords slotOfWords (m .count) (M .slots)) (restOk (M .slots) (m .count * width)) (p .slots);
       savedStack = and-right regs (restOk (M .savedStack) (savedStackSize u)) (p .savedStack);
       savedFrames = and-right saved (restOk (M .savedFrames) (savedFramesSize u)) (p .savedFrames);
       ready = and-right a b (and-left (a && b) c (p .runs));

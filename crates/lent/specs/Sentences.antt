@@ -11,6 +11,7 @@ use lib.Dec.{eqb}
 use Rattle.lists.specs.Chunks.{chunkAt}
 use Rattle.lists.specs.Tests.{zeros}
 use Rattle.heap.specs.Fault as Fault
+use Rattle.heap.specs.Slot.{width}
 use Rattle.heap.specs.declared.fault.Fault.{Fault}
 use Rattle.model.specs.Lists.{among}
 use Rattle.model.specs.Program.{setupOk}
@@ -43,7 +44,7 @@ pub record Clear (s : State) : Type 0 where
   pub stack : zeros (drop (s .machine .height) (s .words .stack)) ≡ true
   pub frames : zeros (drop (s .machine .depth * 6) (s .words .frames)) ≡ true
   pub chain : zeros (drop (s .machine .active * 6) (s .words .chain)) ≡ true
-  pub slots : zeros (drop (s .machine .count * 20) (s .words .slots)) ≡ true
+  pub slots : zeros (drop (s .machine .count * width) (s .words .slots)) ≡ true
   pub savedStack : zeros (drop (savedStackSize (decoded s .setup)) (s .words .savedStack)) ≡ true
   pub savedFrames : zeros (drop (savedFramesSize (decoded s .setup)) (s .words .savedFrames)) ≡ true
   pub ready : zeros (drop (s .machine .ready) (s .words .ready)) ≡ true

@@ -1,6 +1,7 @@
 -- An engine that follows another keeps what the other promises, field by field. Assumes nothing.
 use Prim.Native.Nat.{ℕ, _+_, _-_, _*_}
 use mathlib.Core.Path.{_≡_, sym, ap, _∙_, subst}
+use mathlib.Core.Logic.{_⊎_}
 use mathlib.Core.Bool.{true, false, _||_}
 use mathlib.Core.List.{List, [], _∷_, _++_}
 use mathlib.Core.Option.{none, some}
@@ -8,12 +9,12 @@ use lib.ListN.{length, drop}
 use lib.Dec.{eqb}
 use Rattle.lists.specs.Pick.{pick}
 use Rattle.heap.specs.declared.value.Opt.{Opt}
-use Rattle.claims.specs.Engine.{Seen, View, Engine, run, runs, awaits, is}
+use Rattle.claims.specs.Engine.{Seen, View, Engine, run, isNew, runs, awaits, is}
 use Rattle.claims.specs.Says.{doing, lie}
 use Rattle.claims.specs.Held.{Held, closer, By, Entered, Restored}
 use Rattle.claims.specs.Delivery.{recorded, Left, resultOf}
 use Rattle.claims.specs.Demand3.{Enters, Suspends, Leaves, Restarts, Waits, Goes, Demand3}
-use Rattle.claims.specs.Events.{Healthy, onBody, raisedAt, suspended, isAwait, returned, Lost, lives, rests, Fixed, Events}
+use Rattle.claims.specs.Events.{Healthy, onBody, raisedAt, suspended, isAwait, returned, Lost, lives, undone, rests, Fixed, Events}
 use Rattle.claims.specs.Promise.{suspends, room, Roomy, Makes, Accepts, Eleven, Soundness, Fresh, SetUps, registers, Looks, NotEmpty}
 use Rattle.claims.proofs.Premises.{Premises}
 use Rattle.lent_claims.proofs.Follows.{Follows, Sight, sight, same, along, ran}
@@ -99,6 +100,15 @@ module _ (e d : Engine) (f : Follows e d) where
             (p .closing c (f .to s) (f .by s k) (λ x. r (down-restarts e d f s k x)) (λ x. h (down-enters e d f s k c x)) (λ x. g (down-suspends e d f s k c x)) (up (λ v. is (v .after) lives c ≡ true) s k l));
         awaited = λ c s k h. down (λ v. is (v .after) awaits c ≡ isAwait (doing (v .before) (v .op))) s k (p .awaited c (f .to s) (f .by s k) (up-suspends e d f s k c h));
         still = λ c s k r h l. down (λ v. v .after .coro c ≡ v .before .coro c) s k (p .still c (f .to s) (f .by s k) (λ x. r (down-restarts e d f s k x)) (λ x. h (down-enters e d f s k c x)) (up (λ v. is (v .before) rests c ≡ true) s k l));
+        unbegun = λ c s k r h l u.
+            down (λ v. v .after .coro c ≡ v .before .coro c) s k
+            (p .unbegun c (f .to s) (f .by s k) (λ x. r (down-restarts e d f s k x)) (λ x. h (down-enters e d f s k c x)) (up (λ v. is (v .before) isNew c ≡ true) s k l) (λ x. u (down (λ v. undone (doing (v .before) (v .op)) ≡ some c) s k x)));
+        runs-on = λ c s k r h a b g.
+            down (λ v. is (v .after) runs c ≡ true) s k
+            (p .runs-on c (f .to s) (f .by s k) (λ x. r (down-restarts e d f s k x)) (up (λ v. is (v .before) runs c ≡ true) s k h) (λ x. a (down-suspends e d f s k c x)) (λ x. b (down-returns e d f s k c x)) (λ x. g (down-fails e d f s k c x)));
+        comes = λ c s k u h.
+            down (λ v. (v .after .coro c ≡ none) ⊎ (is (v .after) isNew c ≡ true)) s k
+            (p .comes c (f .to s) (f .by s k) (λ x. u (down (λ v. undone (doing (v .before) (v .op)) ≡ some c) s k x)) (up (λ v. v .before .coro c ≡ none) s k h));
         fixed = λ s k r. down (λ v. Fixed (v .before) (v .after)) s k (p .fixed (f .to s) (f .by s k) (λ x. r (down-restarts e d f s k x)));
         one-switch = λ c u s k h g. p .one-switch c u (f .to s) (f .by s k) (up-enters e d f s k c h) (up-suspends e d f s k u g);
         no-return = λ c u s k h g. p .no-return c u (f .to s) (f .by s k) (up-enters e d f s k c h) (up-returns e d f s k u g);

@@ -3,7 +3,6 @@ use mathlib.Core.Path.{_≡_, refl}
 use mathlib.Core.Bool.{true, false}
 use Prim.Native.Nat.{ℕ}
 use Rattle.heap.specs.declared.fault.Fault.{Fault}
-use Rattle.model.specs.World.{World}
 use Rattle.model.specs.Added.{grant}
 use Rattle.model.specs.declared.call.Op.{Op}
 use Rattle.model.specs.declared.call.Answer.{Answer}
@@ -12,18 +11,15 @@ use Rattle.memory.specs.Memory.{Lent}
 use Rattle.memory.specs.Contract.{Gives, any, with}
 use Rattle.memory.specs.declared.machine.Machine.{Machine}
 use Rattle.memory.specs.declared.machine.Sizes.{Sizes}
-use Rattle.memory.proofs.Does.{SameLengths}
 use Rattle.words.specs.Words.{sizesOf}
 use Rattle.words.specs.Decode.{setupOf}
 use Rattle.added.specs.declared.fuel.GrantDid.{GrantDid}
+use Rattle.machine_unwind.proofs.Along.{alike}
 use Rattle.kept.proofs.Calls.{as-grant}
 use Rattle.lent.specs.Step.{isSound}
 use Rattle.outer.specs.State.{state}
 use Rattle.outer.specs.Grant.{grantWords}
 use Rattle.outer.proofs.Stepping.{stepped, refused}
-
-same : (M : Lent) → SameLengths M M
-same M = record { stack = refl; frames = refl; chain = refl; slots = refl; savedStack = refl; savedFrames = refl; ready = refl; finalize = refl; setup = refl }
 
 module _ (M : Lent) (m : Machine) (f : Fuel) (n : ℕ) where
   pub granted : isSound (state M m f) ≡ true → (r : GrantDid) → ((l : Sizes) → Gives any l (grant n) (λ b. b .words) (with m f) (λ b. b .words) (with m (r .fuel)) (r .answer))
@@ -31,7 +27,7 @@ module _ (M : Lent) (m : Machine) (f : Fuel) (n : ℕ) where
   granted e r met =
       let l = sizesOf (setupOf (M .setup)) in
       let o = Op.Grant n in
-      let d = stepped M M m m f (r .fuel) l o (r .answer) (record { sound = e; sizes = refl }) (same M)
+      let d = stepped M M m m f (r .fuel) l o (r .answer) (record { sound = e; sizes = refl }) (alike M)
       (λ w b rep s. as-grant l M m (r .fuel) w o (r .answer) o n refl refl (met l w (record { words = M; fuel = b .fuel }) rep)) in
       λ i. record { fuel = d i .state .fuel; answer = d i .answer }
 

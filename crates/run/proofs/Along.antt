@@ -13,6 +13,7 @@ use Rattle.model.specs.declared.call.Answer.{Answer}
 use Rattle.memory.specs.Memory.{Lent}
 use Rattle.memory.specs.declared.machine.Sizes.{Sizes}
 use Rattle.memory.proofs.Does.{SameLengths}
+use Rattle.machine_unwind.proofs.Along.{alike}
 use Rattle.words.specs.Words.{sizesOf}
 use Rattle.words.specs.Decode.{setupOf}
 use Rattle.calls.specs.Answer.{answerWords}
@@ -35,9 +36,6 @@ same-next M N P a b =
       setup = b .setup ∙ a .setup;
     }
 
-pub same-start : (M : Lent) → SameLengths M M
-same-start M = record { stack = refl; frames = refl; chain = refl; slots = refl; savedStack = refl; savedFrames = refl; ready = refl; finalize = refl; setup = refl }
-
 module _ (ok : Bool) (l : Sizes) (cs xs₀ : List ℕ) (n : ℕ) (s₀ : State) where
   -- the calls from place i on
   abbrev pub left-at : ℕ → List Read
@@ -57,7 +55,7 @@ module _ (ok : Bool) (l : Sizes) (cs xs₀ : List ℕ) (n : ℕ) (s₀ : State) 
       record {
         fits = h .fits;
         within = omega arith;
-        lengths = same-start (s₀ .words);
+        lengths = alike (s₀ .words);
         long = refl;
         state = ap (λ k. runWords s₀ (callsIn k cs) .state) e;
         answers = ap (λ k. written xs₀ 0 (runWords s₀ (callsIn k cs) .answers)) e;

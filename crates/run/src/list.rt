@@ -66,10 +66,10 @@ pub fn refuse_list(answers: &mut [u64], n: usize)
     requires { ⌜ n * 8 ≤ length (now answers) ⌝ }
     ensures { λ _. ⌜ now (answers .exit) ≡ written (now (answers .entry)) 0 (refusals n) ⌝ }
 {
-    let mut i = 0;
-    while i < n {
-        put_at(answers, i, Answer::Refused(Fault::Unsound));
-        i += 1;
+    let mut j = 0;
+    while j < n {
+        put_at(answers, j, Answer::Refused(Fault::Unsound));
+        j += 1;
     }
 }
 

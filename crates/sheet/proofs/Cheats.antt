@@ -194,7 +194,10 @@ stays y z true b e = ap (λ t. pick t y z) e
 stays y z false b e = refl
 
 first-moved : (w : World) (o : Operation) → woken w (step w (Do o) .world .chain) ≡ false → once w (Do o) ≡ step w (Do o)
-first-moved w o h = ap (λ (z : World). out (after z (step w (Do o) .answer)) (step w (Do o) .seen)) (stays (withStack (w .stack) (withFrames (w .frames) (step w (Do o) .world))) (step w (Do o) .world) (ltb (length (w .chain)) (length (step w (Do o) .world .chain))) (woken w (step w (Do o) .world .chain)) h)
+first-moved w o h =
+    let z = step w (Do o) .world in
+    let longer = ltb (length (w .chain)) (length (z .chain)) in
+    ap (λ (y : World). out (after y (step w (Do o) .answer)) (step w (Do o) .seen)) (stays (withStack (w .stack) (withFrames (w .frames) z)) z longer (woken w (z .chain)) h)
 
 -- one frame too many
 deep : Setup

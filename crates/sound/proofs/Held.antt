@@ -15,7 +15,7 @@ use Rattle.lists.specs.Tests.{zeros}
 use Rattle.lists.proofs.Tests.{and-left, and-right, holds-at, holds-all, zeros-are, are-zeros}
 use Rattle.lists.proofs.Tables.{length-chunks, length-words, chunks-words, words-at}
 use Rattle.heap.specs.Table.{Slot, slot}
-use Rattle.heap.specs.Slot.{slotWords, slotOfWords}
+use Rattle.heap.specs.Slot.{width, slotWords, slotOfWords}
 use Rattle.heap.specs.Heap.{slotsOf}
 use Rattle.heap.specs.declared.object.Object as H
 use Rattle.heap.proofs.Slots.{slot-back, length-slot}
@@ -114,30 +114,30 @@ module _ {A : Type 0} (w : ℕ) (enc : A → List ℕ) (dec : List ℕ → A) wh
 
 -- ---- slots
 
-pub slots-held : (n : ℕ) (ws : List ℕ) → n * 20 ≤ length ws → (coded 20 slotWords slotOfWords n ws && restOk ws (n * 20)) ≡ true → Slots (slotsOf n ws) ws n
+pub slots-held : (n : ℕ) (ws : List ℕ) → n * width ≤ length ws → (coded width slotWords slotOfWords n ws && restOk ws (n * width)) ≡ true → Slots (slotsOf n ws) ws n
 slots-held n ws h e =
-    let t : ℕ → Bool = λ j. same (slotWords (slotOfWords (chunkAt 20 ws j))) (chunkAt 20 ws j) in
-    let c = and-left (coded 20 slotWords slotOfWords n ws) (restOk ws (n * 20)) e in
-    let z = and-right (coded 20 slotWords slotOfWords n ws) (restOk ws (n * 20)) e in
-    let long : length (words slotWords (slotsOf n ws)) ≡ n * 20 =
-    length-words 20 slotWords slotOfWords length-slot (slotsOf n ws) ∙ ap (λ k. k * 20) (length-chunks 20 slotOfWords n ws) in
+    let t : ℕ → Bool = λ j. same (slotWords (slotOfWords (chunkAt width ws j))) (chunkAt width ws j) in
+    let c = and-left (coded width slotWords slotOfWords n ws) (restOk ws (n * width)) e in
+    let z = and-right (coded width slotWords slotOfWords n ws) (restOk ws (n * width)) e in
+    let long : length (words slotWords (slotsOf n ws)) ≡ n * width =
+    length-words width slotWords slotOfWords length-slot (slotsOf n ws) ∙ ap (λ k. k * width) (length-chunks width slotOfWords n ws) in
     record {
       are =
-          sym (chunks-words 20 slotWords slotOfWords n ws h (λ i g. same-true (slotWords (slotOfWords (chunkAt 20 ws i))) (chunkAt 20 ws i) (holds-at n i t g c)))
+          sym (chunks-words width slotWords slotOfWords n ws h (λ i g. same-true (slotWords (slotOfWords (chunkAt width ws i))) (chunkAt width ws i) (holds-at n i t g c)))
           ∙ ap (λ (l : List ℕ). words slotWords (slotsOf n ws) ++ l)
-          (zeros-are (drop (n * 20) ws) z ∙ ap (λ k. replicate k 0) (length-drop (n * 20) ws) ∙ ap (λ k. replicate (length ws - k) 0) (sym long));
-      count = sym (length-chunks 20 slotOfWords n ws);
+          (zeros-are (drop (n * width) ws) z ∙ ap (λ k. replicate k 0) (length-drop (n * width) ws) ∙ ap (λ k. replicate (length ws - k) 0) (sym long));
+      count = sym (length-chunks width slotOfWords n ws);
       within = h;
     }
 
-pub held-slots : (xs : List (Slot H.Object)) (ws : List ℕ) (n : ℕ) → Slots xs ws n → (coded 20 slotWords slotOfWords n ws && restOk ws (n * 20)) ≡ true
+pub held-slots : (xs : List (Slot H.Object)) (ws : List ℕ) (n : ℕ) → Slots xs ws n → (coded width slotWords slotOfWords n ws && restOk ws (n * width)) ≡ true
 held-slots xs ws n s =
-    let t : ℕ → Bool = λ j. same (slotWords (slotOfWords (chunkAt 20 ws j))) (chunkAt 20 ws j) in
+    let t : ℕ → Bool = λ j. same (slotWords (slotOfWords (chunkAt width ws j))) (chunkAt width ws j) in
     both
     (holds-all n t
-    (λ i h. again 20 slotWords slotOfWords length-slot slot-back (chunkAt 20 ws i) (getD xs i (slot 0 H.Object.Empty)) (slot-words xs ws n i s h)))
-    (ap (λ (z : List ℕ). restOk z (n * 20)) (s .are)
-    ∙ padded-rest (length ws) (n * 20) (words slotWords xs) (length-words 20 slotWords slotOfWords length-slot xs ∙ ap (λ k. k * 20) (sym (s .count))))
+    (λ i h. again width slotWords slotOfWords length-slot slot-back (chunkAt width ws i) (getD xs i (slot 0 H.Object.Empty)) (slot-words xs ws n i s h)))
+    (ap (λ (z : List ℕ). restOk z (n * width)) (s .are)
+    ∙ padded-rest (length ws) (n * width) (words slotWords xs) (length-words width slotWords slotOfWords length-slot xs ∙ ap (λ k. k * width) (sym (s .count))))
 
 -- ---- rows
 

@@ -9,7 +9,7 @@ use Rattle.lists.specs.Chunks.{chunkAt}
 use Rattle.lists.specs.Parts.{pad}
 use Rattle.lists.specs.Tests.{allBelow, zeros}
 use Rattle.heap.specs.Table.{Slot}
-use Rattle.heap.specs.Slot.{slotWords, slotOfWords}
+use Rattle.heap.specs.Slot.{width, slotWords, slotOfWords}
 use Rattle.heap.specs.Heap.{slotsOf}
 use Rattle.heap.specs.declared.object.Object as H
 use Rattle.heap.specs.declared.object.Object.the-variants as O
@@ -81,7 +81,7 @@ abbrev pub chainHeld : List ℕ → ℕ → Bool
 chainHeld ws n = coded 6 activeWords activeOf n ws && restOk ws (n * 6)
 
 abbrev pub slotsHeld : List ℕ → ℕ → Bool
-slotsHeld ws n = coded 20 slotWords slotOfWords n ws && restOk ws (n * 20)
+slotsHeld ws n = coded width slotWords slotOfWords n ws && restOk ws (n * width)
 
 -- the stack and the queues
 abbrev pub runsHeld : Lent → Machine → Bool

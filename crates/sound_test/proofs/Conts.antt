@@ -9,34 +9,21 @@ use lib.Dec.{eqb, ltb}
 use lib.ListN.{getD}
 use Rattle.lists.specs.Pick.{pick}
 use Rattle.lists.proofs.Tables.{chunk-get}
-use Rattle.model.specs.Frames.{isEntry, isCoro}
-use Rattle.model.specs.Sound.{liesUnder, contLies}
+use Rattle.model.specs.Frames.{isCoro}
+use Rattle.model.specs.Sound.{liesUnder}
 use Rattle.model.specs.declared.machine.Cont.{Cont}
 use Rattle.model.specs.declared.machine.Frame.{Frame}
 use Rattle.tables.specs.Layout.{contOf, frameOf}
 use Rattle.tables.specs.Parts.{piled}
-use Rattle.sound_test.specs.Frames.{contHeld, placeOk}
-use Rattle.sound_test.proofs.Bools.{eqb-flip}
+use Rattle.lists.proofs.Tests.{and-false}
+use Rattle.sound_test.specs.Frames.{contTest}
+use Rattle.sound_test.proofs.Bools.{and-true}
 
 -- from the fifth on
 past : (n r : ℕ) → 5 ≤ n → contOf n r ≡ Cont.Coro
 unfolding pick
 past n r h =
     rw (ne-eqb n 0 (λ e. omega arith), ne-eqb n 1 (λ e. omega arith), ne-eqb n 2 (λ e. omega arith), ne-eqb n 3 (λ e. omega arith), ne-eqb n 4 (λ e. omega arith))
-
--- a code past the sixth is none
-pub none-held : (n r : ℕ) → (n ≡ 0 → ⊥) → (n ≡ 1 → ⊥) → (n ≡ 2 → ⊥) → (n ≡ 3 → ⊥) → (n ≡ 4 → ⊥) → (n ≡ 5 → ⊥) → contHeld n r ≡ false
-unfolding pick
-none-held n r a b c d e f = rw (ne-eqb n 0 a, ne-eqb n 1 b, ne-eqb n 2 c, ne-eqb n 3 d, ne-eqb n 4 e, ne-eqb 5 n (λ z. f (sym z)))
-
-pub entry-code : (n r : ℕ) → isEntry (contOf n r) ≡ eqb n 0
-unfolding pick
-entry-code zero r = refl
-entry-code (suc zero) r = refl
-entry-code (suc (suc zero)) r = refl
-entry-code (suc (suc (suc zero))) r = refl
-entry-code (suc (suc (suc (suc zero)))) r = refl
-entry-code (suc (suc (suc (suc (suc n))))) r = let k : ℕ = suc (suc (suc (suc (suc n)))) in rw (past k r (omega arith), ne-eqb k 0 (λ e. omega arith))
 
 pub coro-code : (n r : ℕ) → isCoro (contOf n r) ≡ ltb 4 n
 unfolding pick
@@ -46,28 +33,6 @@ coro-code (suc (suc zero)) r = refl
 coro-code (suc (suc (suc zero))) r = refl
 coro-code (suc (suc (suc (suc zero)))) r = refl
 coro-code (suc (suc (suc (suc (suc n))))) r = let k : ℕ = suc (suc (suc (suc (suc n)))) in rw (past k r (omega arith), lt-ltb 4 k (omega arith))
-
--- a code without a register asks for none below
-pub lies-none : (n r end : ℕ) (fs : List Frame) → (n ≡ 1 → ⊥) → (n ≡ 2 → ⊥) → (n ≡ 3 → ⊥) → contLies (contOf n r) end fs ≡ true
-unfolding pick
-lies-none zero r end fs a b c = refl
-lies-none (suc zero) r end fs a b c = absurd (a refl)
-lies-none (suc (suc zero)) r end fs a b c = absurd (b refl)
-lies-none (suc (suc (suc zero))) r end fs a b c = absurd (c refl)
-lies-none (suc (suc (suc (suc zero)))) r end fs a b c = refl
-lies-none (suc (suc (suc (suc (suc n))))) r end fs a b c = rw (past (suc (suc (suc (suc (suc n))))) r (omega arith))
-
-pub lies-one : (n r end : ℕ) (fs : List Frame) (b : Bool) → n ≡ 1 → b ≡ liesUnder r end fs → b ≡ contLies (contOf n r) end fs
-unfolding pick
-lies-one n r end fs b e h = rw e h
-
-pub lies-two : (n r end : ℕ) (fs : List Frame) (b : Bool) → n ≡ 2 → b ≡ liesUnder r end fs → b ≡ contLies (contOf n r) end fs
-unfolding pick
-lies-two n r end fs b e h = rw e h
-
-pub lies-three : (n r end : ℕ) (fs : List Frame) (b : Bool) → n ≡ 3 → b ≡ liesUnder r end fs → b ≡ contLies (contOf n r) end fs
-unfolding pick
-lies-three n r end fs b e h = rw e h
 
 -- the frame below
 under : (ws : List ℕ) (i r end : ℕ) → liesUnder r end (piled 6 frameOf (suc i) ws) ≡ ltb (getD ws (i * 6 + 2) 0 + r) end
@@ -92,55 +57,93 @@ under-near ws i r end h g = go (ltb r (end - getD ws ((i - 1) * 6 + 2) 0)) refl 
 pub under-far : (ws : List ℕ) (i r end : ℕ) → 0 < i → end ≤ getD ws ((i - 1) * 6 + 2) 0 → liesUnder r end (piled 6 frameOf i ws) ≡ false
 under-far ws i r end h g = below ws i r end h ∙ le-ltb (getD ws ((i - 1) * 6 + 2) 0 + r) end (omega arith)
 
--- ---- a code that has no register, and one that has
+-- ---- a continuation in words: its code, its register, and where it may stand
 
-pub held-0 : (n r : ℕ) → n ≡ 0 → eqb r 0 ≡ contHeld n r
+-- Entry on no saved frame
+no-body : (a b : Bool) → false ≡ ((a && pick b false false) && true)
 unfolding pick
-held-0 n r e = rw e (eqb-flip r 0)
+no-body true true = refl
+no-body true false = refl
+no-body false b = refl
 
-pub held-4 : (n r : ℕ) → n ≡ 4 → eqb r 0 ≡ contHeld n r
+pub entry-saved : (saved : Bool) (ws : List ℕ) (i n r base : ℕ) → n ≡ 0 → saved ≡ true → false ≡ contTest saved ws i n r base
 unfolding pick
-held-4 n r e = rw e (eqb-flip r 0)
+entry-saved saved ws i n r base e s = rw (e, s) (no-body (eqb 0 r) (eqb i 0))
 
-pub held-5 : (n r : ℕ) → n ≡ 5 → eqb r 0 ≡ contHeld n r
+pub entry-reg : (saved : Bool) (ws : List ℕ) (i n r base : ℕ) → n ≡ 0 → (r ≡ 0 → ⊥) → false ≡ contTest saved ws i n r base
 unfolding pick
-held-5 n r e = rw e (eqb-flip r 0)
+entry-reg saved ws i n r base e h = rw (e, ne-eqb 0 r (λ z. h (sym z)))
 
-pub held-1 : (n r : ℕ) → n ≡ 1 → true ≡ contHeld n r
+-- Entry at the bottom only
+pub entry-low : (saved : Bool) (ws : List ℕ) (i n r base : ℕ) → n ≡ 0 → saved ≡ false → r ≡ 0 → eqb i 0 ≡ contTest saved ws i n r base
 unfolding pick
-held-1 n r e = rw (e, eq-eqb r r refl)
+entry-low saved ws i n r base e s z = rw (e, s, z) (sym (and-true (eqb i 0)))
 
-pub held-2 : (n r : ℕ) → n ≡ 2 → true ≡ contHeld n r
+-- a register lies in the frame below: none does under the lowest
+plain-lies : (saved : Bool) (ws : List ℕ) (i r base : ℕ) → (pick saved (pick (eqb i 0) false true) true && liesUnder r base (piled 6 frameOf i ws)) ≡ liesUnder r base (piled 6 frameOf i ws)
 unfolding pick
-held-2 n r e = rw (e, eq-eqb r r refl)
+plain-lies true ws zero r base = refl
+plain-lies true ws (suc i) r base = rw (ne-eqb (suc i) 0 (λ e. omega arith))
+plain-lies false ws i r base = refl
 
-pub held-3 : (n r : ℕ) → n ≡ 3 → true ≡ contHeld n r
+pub with-reg : (saved : Bool) (ws : List ℕ) (i n r base : ℕ) (b : Bool) → (n ≡ 0 → ⊥) → n < 4 → b ≡ liesUnder r base (piled 6 frameOf i ws) → b ≡ contTest saved ws i n r base
 unfolding pick
-held-3 n r e = rw (e, eq-eqb r r refl)
+with-reg saved ws i zero r base b h g e = absurd (h refl)
+with-reg saved ws i (suc zero) r base b h g e = e ∙ sym (rw (eq-eqb r r refl) (plain-lies saved ws i r base))
+with-reg saved ws i (suc (suc zero)) r base b h g e = e ∙ sym (rw (eq-eqb r r refl) (plain-lies saved ws i r base))
+with-reg saved ws i (suc (suc (suc zero))) r base b h g e = e ∙ sym (rw (eq-eqb r r refl) (plain-lies saved ws i r base))
+with-reg saved ws i (suc (suc (suc (suc n)))) r base b h g e = absurd (omega arith)
 
--- ---- where a continuation may stand
+-- a code past the sixth is none
+past-none : (saved : Bool) (ws : List ℕ) (i n r base : ℕ) → 6 ≤ n → contTest saved ws i n r base ≡ false
+unfolding pick
+past-none saved ws i n r base h = rw (past n r (omega arith), ne-eqb 5 n (λ e. omega arith))
 
-module _ (saved lowest : Bool) (n r : ℕ) where
-  pub body : saved ≡ true → lowest ≡ true → ltb 4 n ≡ placeOk saved lowest (contOf n r)
-  unfolding pick
-  body p q = rw (p, q) (sym (coro-code n r))
+-- Discard and Coro have no register
+pub no-reg : (saved : Bool) (ws : List ℕ) (i n r base : ℕ) → 4 ≤ n → (r ≡ 0 → ⊥) → false ≡ contTest saved ws i n r base
+unfolding pick
+no-reg saved ws i zero r base g h = absurd (omega arith)
+no-reg saved ws i (suc zero) r base g h = absurd (omega arith)
+no-reg saved ws i (suc (suc zero)) r base g h = absurd (omega arith)
+no-reg saved ws i (suc (suc (suc zero))) r base g h = absurd (omega arith)
+no-reg saved ws i (suc (suc (suc (suc zero)))) r base g h = rw (ne-eqb 0 r (λ z. h (sym z)))
+no-reg saved ws i (suc (suc (suc (suc (suc n))))) r base g h =
+    let k : ℕ = suc (suc (suc (suc (suc n)))) in
+    sym (rw (past k r (omega arith), ne-eqb 0 r (λ z. h (sym z)), and-false (eqb 5 k)))
 
-  pub over-entry : saved ≡ true → lowest ≡ false → n ≡ 0 → false ≡ placeOk saved lowest (contOf n r)
-  unfolding pick
-  over-entry p q e = rw (p, q, coro-code n r, entry-code n r, e)
+-- Discard and Coro on the stack, at the bottom of a row, and over it
+pub on-stack : (saved : Bool) (ws : List ℕ) (i n r base : ℕ) → 4 ≤ n → r ≡ 0 → saved ≡ false → ltb n 6 ≡ contTest saved ws i n r base
+unfolding pick
+on-stack saved ws i zero r base g z s = absurd (omega arith)
+on-stack saved ws i (suc zero) r base g z s = absurd (omega arith)
+on-stack saved ws i (suc (suc zero)) r base g z s = absurd (omega arith)
+on-stack saved ws i (suc (suc (suc zero))) r base g z s = absurd (omega arith)
+on-stack saved ws i (suc (suc (suc (suc zero)))) r base g z s = rw (z, s)
+on-stack saved ws i (suc (suc (suc (suc (suc zero))))) r base g z s = rw (z, s)
+on-stack saved ws i (suc (suc (suc (suc (suc (suc n)))))) r base g z s =
+    let k : ℕ = suc (suc (suc (suc (suc (suc n))))) in
+    le-ltb k 6 (omega arith) ∙ sym (past-none saved ws i k r base (omega arith))
 
-  pub over-plain : saved ≡ true → lowest ≡ false → (n ≡ 0 → ⊥) → ltb n 5 ≡ placeOk saved lowest (contOf n r)
-  unfolding pick
-  over-plain p q h = rw (p, q, coro-code n r, entry-code n r, ne-eqb n 0 h) (go (ltb 4 n) refl)
-    where
-      go : (t : Bool) → ltb 4 n ≡ t → ltb n 5 ≡ not t && true
-      go true e = let k = ltb-true 4 n e in le-ltb n 5 (omega arith)
-      go false e = let k = ltb-false 4 n e in lt-ltb n 5 (omega arith)
+pub in-row-low : (saved : Bool) (ws : List ℕ) (i n r base : ℕ) → 4 ≤ n → r ≡ 0 → saved ≡ true → i ≡ 0 → eqb n 5 ≡ contTest saved ws i n r base
+unfolding pick
+in-row-low saved ws i zero r base g z s e = absurd (omega arith)
+in-row-low saved ws i (suc zero) r base g z s e = absurd (omega arith)
+in-row-low saved ws i (suc (suc zero)) r base g z s e = absurd (omega arith)
+in-row-low saved ws i (suc (suc (suc zero))) r base g z s e = absurd (omega arith)
+in-row-low saved ws i (suc (suc (suc (suc zero)))) r base g z s e = rw (z, s, e)
+in-row-low saved ws i (suc (suc (suc (suc (suc zero))))) r base g z s e = rw (z, s, e)
+in-row-low saved ws i (suc (suc (suc (suc (suc (suc n)))))) r base g z s e =
+    let k : ℕ = suc (suc (suc (suc (suc (suc n))))) in
+    ne-eqb k 5 (λ q. omega arith) ∙ sym (past-none saved ws i k r base (omega arith))
 
-  pub entry-place : saved ≡ false → n ≡ 0 → lowest ≡ placeOk saved lowest (contOf n r)
-  unfolding pick
-  entry-place p e = rw (p, entry-code n r, e)
-
-  pub plain-place : saved ≡ false → (n ≡ 0 → ⊥) → true ≡ placeOk saved lowest (contOf n r)
-  unfolding pick
-  plain-place p h = rw (p, entry-code n r, ne-eqb n 0 h)
+pub in-row-over : (saved : Bool) (ws : List ℕ) (i n r base : ℕ) → 4 ≤ n → r ≡ 0 → saved ≡ true → (i ≡ 0 → ⊥) → eqb n 4 ≡ contTest saved ws i n r base
+unfolding pick
+in-row-over saved ws i zero r base g z s e = absurd (omega arith)
+in-row-over saved ws i (suc zero) r base g z s e = absurd (omega arith)
+in-row-over saved ws i (suc (suc zero)) r base g z s e = absurd (omega arith)
+in-row-over saved ws i (suc (suc (suc zero))) r base g z s e = absurd (omega arith)
+in-row-over saved ws i (suc (suc (suc (suc zero)))) r base g z s e = rw (z, s, ne-eqb i 0 e)
+in-row-over saved ws i (suc (suc (suc (suc (suc zero))))) r base g z s e = rw (z, s, ne-eqb i 0 e)
+in-row-over saved ws i (suc (suc (suc (suc (suc (suc n)))))) r base g z s e =
+    let k : ℕ = suc (suc (suc (suc (suc (suc n))))) in
+    ne-eqb k 4 (λ q. omega arith) ∙ sym (past-none saved ws i k r base (omega arith))

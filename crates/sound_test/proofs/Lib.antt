@@ -1,5 +1,4 @@
 pub mod Bools
-pub mod Joined
 pub mod Conts
 pub mod OneFrame
 pub mod Tower
@@ -9,6 +8,7 @@ pub mod Hooks
 pub mod Bits
 pub mod Seen
 pub mod Named
+pub mod Entries
 pub mod Beside
 pub mod Marks
 pub mod Widths

@@ -13,7 +13,7 @@ use Rattle.lists.proofs.Tables.{length-chunks}
 use Rattle.heap.specs.Word.{reference, slotOf, classOf}
 use Rattle.heap.specs.Object as HO
 use Rattle.heap.specs.Table.{Slot, slot, names, getIn, get}
-use Rattle.heap.specs.Slot.{slotOfWords}
+use Rattle.heap.specs.Slot.{width, slotOfWords}
 use Rattle.heap.specs.Heap.{slotsOf, asCoro, coroBy, coroOf}
 use Rattle.heap.specs.declared.value.Class.{Class}
 use Rattle.heap.specs.declared.heap.Place.{Place}
@@ -28,7 +28,8 @@ use Rattle.model.specs.Heap.{objectAt}
 use Rattle.soundness.proofs.Tests.{no-false, each-at, at-each}
 use Rattle.soundness.proofs.Point.{coroIn, finds, word-of}
 use Rattle.words.specs.Decode.{restOf}
-use Rattle.sound_test.specs.Queue.{byCoro, markOf, marksOk, QueueAsks, QueueFits}
+use Rattle.sound_test.specs.Queue.{byCoro, markOf, marksOk, QueueAsks}
+use Rattle.sound_test.proofs.Seen.{QueueFits}
 use Rattle.sound_test.proofs.Bools.{iff}
 
 -- ---- objects mapped one by one
@@ -156,7 +157,7 @@ pub queue-fits : (task : Bool) (slots q : List ℕ) (n count : ℕ) → QueueAsk
 queue-fits task slots q n count asks e =
     let ys = slotsOf count slots in
     let few = asks .few in
-    let long = length-chunks 20 slotOfWords count slots in
+    let long = length-chunks width slotOfWords count slots in
     let here : (k : ℕ) → k < n → Word ys (getD q k 0) = λ k h. word-named (markOf task) ys (getD q k 0) (holds-at n k (mark-at task ys q n (asks .within)) h (sym (marks-below task ys q n (asks .within)) ∙ e)) in
     record {
       within = asks .within;

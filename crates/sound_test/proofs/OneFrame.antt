@@ -17,7 +17,7 @@ use Rattle.tables.specs.Parts.{piled}
 use Rattle.tables.proofs.Codes.{frame-read}
 use Rattle.memory.proofs.Tables.{length-tabled}
 use Rattle.words.specs.Decode.{setupOf}
-use Rattle.sound_test.specs.Frames.{contHeld, placeOk, frameTest, catchWidth, Catches}
+use Rattle.sound_test.specs.Frames.{contHeld, placeOk, contTest, frameTest, catchWidth, Catches}
 
 -- ---- catch registers
 
@@ -99,12 +99,5 @@ module _ (saved : Bool) (setup ws : List ℕ) (i end : ℕ) where
         stop-catch q = sym (rw (lt-leb (getD need fn 0) (end - base) q)) ∙ so-far
 
         module _ (q : getD need fn 0 ≤ end - base) where
-          pub stop-cont : (b : Bool) → b ≡ contHeld code reg → b ≡ false → false ≡ frameTest saved s ws i end
-          stop-cont b e z = sym (rw (le-leb (getD need fn 0) (end - base) q, sym e ∙ z)) ∙ so-far
-
-          module _ (held : contHeld code reg ≡ true) where
-            pub stop-place : (b : Bool) → b ≡ placeOk saved (eqb i 0) (contOf code reg) → b ≡ false → false ≡ frameTest saved s ws i end
-            stop-place b e z = sym (rw (le-leb (getD need fn 0) (end - base) q, held, sym e ∙ z)) ∙ so-far
-
-            pub last : (p b : Bool) → p ≡ placeOk saved (eqb i 0) (contOf code reg) → p ≡ true → b ≡ contLies (contOf code reg) base (piled 6 frameOf i ws) → b ≡ frameTest saved s ws i end
-            last p b e z r = r ∙ sym (rw (le-leb (getD need fn 0) (end - base) q, held, sym e ∙ z)) ∙ so-far
+          pub last : (b : Bool) → b ≡ contTest saved ws i code reg base → b ≡ frameTest saved s ws i end
+          last b e = e ∙ sym (rw (le-leb (getD need fn 0) (end - base) q)) ∙ so-far

@@ -9,9 +9,15 @@ use lib.ListN.{length, getD, drop, take, drop-of-length-le, length-map, List·ge
 use lib.Seq.{drop-cons, length-take-le, getD-take}
 use borrow.Author.Tests.{eq-eqb, ne-eqb, eqb-true, eqb-false}
 use Rattle.heap.specs.Word.{slotOf}
-use Rattle.sound_test.specs.Queue.{QueueFits}
 use Rattle.model.specs.Lists.{among, distinct}
 use Rattle.lists.proofs.Tests.{and-false}
+
+-- the first n words of a queue: each word's slot is in range, and a word is known by its slot
+pub record QueueFits (q : List ℕ) (n : ℕ) : Type 0 where
+  pub within : n ≤ length q
+  pub small : (k : ℕ) → k < n → slotOf (getD q k 0) < 4096
+  pub wordOf : ℕ → ℕ
+  pub told : (k : ℕ) → k < n → getD q k 0 ≡ wordOf (slotOf (getD q k 0))
 
 -- t tells what stands from i on, and nothing stands there twice
 pub record Seen (ts : List ℕ) (n : ℕ) (t : ℕ → Bool) (i : ℕ) : Type 0 where

@@ -25,6 +25,10 @@ contHeld code r = eqb (contCode (contOf code r)) code && eqb (contReg (contOf co
 abbrev pub placeOk : Bool → Bool → Cont → Bool
 placeOk saved lowest k = pick saved (pick lowest (isCoro k) (not (isCoro k) && not (isEntry k))) (not (isEntry k) || lowest)
 
+-- a continuation in words, of frame i, which begins at `base`
+abbrev pub contTest : Bool → List ℕ → ℕ → ℕ → ℕ → ℕ → Bool
+contTest saved ws i code r base = contHeld code r && placeOk saved (eqb i 0) (contOf code r) && contLies (contOf code r) base (piled 6 frameOf i ws)
+
 -- frame i, which ends at `end`
 abbrev pub frameTest : Bool → Setup → List ℕ → ℕ → ℕ → Bool
 frameTest saved s ws i end =

@@ -1,12 +1,11 @@
 -- A queue in words: each names a coroutine that is marked, and none stands there twice.
-use mathlib.Core.Path.{_≡_}
 use mathlib.Core.Bool.{Bool, false, _&&_}
 use mathlib.Core.List.{List}
-use Prim.Native.Nat.{ℕ, _*_, _/_, _%_, _^_, _≤_, _<_}
+use Prim.Native.Nat.{ℕ, _*_, _/_, _%_, _^_, _≤_}
 use lib.Dec.{eqb}
 use lib.ListN.{length, getD, take}
 use Rattle.lists.specs.Pick.{pick}
-use Rattle.heap.specs.Word.{slotOf}
+use Rattle.heap.specs.Slot.{width}
 use Rattle.heap.specs.Table.{Slot}
 use Rattle.heap.specs.Heap.{coroOf}
 use Rattle.heap.specs.declared.object.CoroObj.{CoroObj}
@@ -28,10 +27,13 @@ markOf task c = pick task (c .task) (c .finalized)
 abbrev pub marksOk : Bool → List (Slot H.Object) → List ℕ → Bool
 marksOk task xs q = each (λ v. byCoro (markOf task) (coroOf xs v)) q
 
--- "queues hold coroutines, each not twice in one queue, the ready queue only tasks and the cleanup queue only finalized ones";
--- zeros after them
+-- "queues hold coroutines, each not twice in one queue, the ready queue only tasks and the cleanup queue only finalized ones"
+abbrev pub entriesOk : Bool → List (Slot H.Object) → List ℕ → Bool
+entriesOk task xs q = marksOk task xs q && distinct q
+
+-- the first n words, and zeros after them
 abbrev pub queueHeld : Bool → List (Slot H.Object) → List ℕ → ℕ → Bool
-queueHeld task xs q n = marksOk task xs (take n q) && distinct (take n q) && restOk q n
+queueHeld task xs q n = entriesOk task xs (take n q) && restOk q n
 
 -- ---- a set of slots in 64 words
 
@@ -45,12 +47,5 @@ inSet ws x = bitAt (getD ws (x / 64) 0) (x % 64)
 
 pub record QueueAsks (q slots : List ℕ) (n count : ℕ) : Type 0 where
   pub within : n ≤ length q
-  pub table : count * 20 ≤ length slots
+  pub table : count * width ≤ length slots
   pub few : count ≤ 4096
-
--- each word's slot is in range, and a word is known by its slot
-pub record QueueFits (q : List ℕ) (n : ℕ) : Type 0 where
-  pub within : n ≤ length q
-  pub small : (k : ℕ) → k < n → slotOf (getD q k 0) < 4096
-  pub wordOf : ℕ → ℕ
-  pub told : (k : ℕ) → k < n → getD q k 0 ≡ wordOf (slotOf (getD q k 0))

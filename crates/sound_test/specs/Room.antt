@@ -2,13 +2,14 @@
 use Prim.Native.Nat.{ℕ, _*_, _≤_}
 use mathlib.Core.Bool.{Bool, _&&_}
 use lib.Dec.{leb}
+use Rattle.heap.specs.Slot.{width}
 use Rattle.memory.specs.declared.machine.Machine.{Machine}
 use Rattle.memory.specs.declared.machine.Sizes.{Sizes}
 
 -- "lent words enough for them": eight lengths, in the order of the slices
 abbrev pub roomTest : Sizes → ℕ → ℕ → ℕ → ℕ → ℕ → ℕ → ℕ → ℕ → Bool
 roomTest l stack frames chain slots saved asleep ready finalize =
-    leb (l .stack) stack && leb (l .depth * 6) frames && leb (l .depth * 6) chain && leb (l .slots * 20) slots
+    leb (l .stack) stack && leb (l .depth * 6) frames && leb (l .depth * 6) chain && leb (l .slots * width) slots
     && leb (l .rows * l .width) saved && leb (l .rows * (l .depth * 6)) asleep && leb (l .slots) ready && leb (l .slots) finalize
 
 -- "sizes within limits"

@@ -63,7 +63,7 @@ fn active_ok(chain: &[u64], frames: &[u64], k: usize, i: usize) -> bool
     if !driver_held(code, a, b, c) {
         return false;
     }
-    let base = frames[i * 6 + 2];
+    let base = tables::frame::base_at(frames, i) as u64;
     driver_lies(frames, i, code, a, b, c, base)
 }
 

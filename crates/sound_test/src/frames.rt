@@ -2,28 +2,14 @@
 ghost use mathlib.Core.Path.{_≡_};
 ghost use Prim.Native.Nat.{_*_, _≤_};
 ghost use lib.ListN.{length};
-ghost use Rattle.model.specs.Sound.{liesUnder, contLies};
-ghost use Rattle.tables.specs.Layout.{contOf, frameOf};
+ghost use Rattle.model.specs.Sound.{liesUnder};
+ghost use Rattle.tables.specs.Layout.{frameOf};
 ghost use Rattle.tables.specs.Parts.{piled};
 ghost use Rattle.words.specs.Decode.{setupOf};
-ghost use Rattle.sound_test.specs.Frames.{contHeld, placeOk, frameTest, framesTest, stackFramesOk, savedFramesOk, FrameFits, FramesFit};
+ghost use Rattle.sound_test.specs.Frames.{contTest, frameTest, framesTest, stackFramesOk, savedFramesOk, FrameFits, FramesFit};
+use tables::frame::base_at;
 
 const BITS32: u64 = 0x1_0000_0000;
-
-// A continuation's code and register.
-fn cont_held(code: u64, r: u64) -> bool
-    ensures { λ b. ⌜ b ≡ contHeld code r ⌝ }
-{
-    match code {
-        0 => r == 0,
-        1 => true,
-        2 => true,
-        3 => true,
-        4 => r == 0,
-        5 => r == 0,
-        _ => false,
-    }
-}
 
 // Whether a register lies in the frame below the one at place i, which begins at `end`.
 pub(crate) fn lies_under(ws: &[u64], i: usize, r: u64, end: u64) -> bool
@@ -34,42 +20,40 @@ pub(crate) fn lies_under(ws: &[u64], i: usize, r: u64, end: u64) -> bool
         return false;
     }
     let below = i - 1;
-    let base = ws[below * 6 + 2];
+    let base = base_at(ws, below) as u64;
     if base < end {
         return r < end - base;
     }
     false
 }
 
-fn cont_lies(ws: &[u64], i: usize, code: u64, r: u64, end: u64) -> bool
+// The continuation of the frame at place i, which begins at `base`: a code with its register, at a place where it may stand.
+fn cont_ok(ws: &[u64], saved: bool, i: usize, code: u64, r: u64, base: u64) -> bool
     requires { ⌜ i * 6 ≤ length (now ws) ⌝ }
-    ensures { λ b. ⌜ b ≡ contLies (contOf code r) end (piled 6 frameOf i (now (ws .entry))) ⌝ }
+    ensures { λ b. ⌜ b ≡ contTest saved (now (ws .entry)) i code r base ⌝ }
 {
-    match code {
-        1 => lies_under(ws, i, r, end),
-        2 => lies_under(ws, i, r, end),
-        3 => lies_under(ws, i, r, end),
-        _ => true,
-    }
-}
-
-// Where a continuation may stand.
-fn place_ok(saved: bool, lowest: bool, code: u64, r: u64) -> bool
-    ensures { λ b. ⌜ b ≡ placeOk saved lowest (contOf code r) ⌝ }
-{
-    if saved {
-        if lowest {
-            return 4 < code;
-        }
-        if code == 0 {
+    if code == 0 {
+        if saved {
             return false;
         }
-        return code < 5;
+        if r != 0 {
+            return false;
+        }
+        return i == 0;
     }
-    if code == 0 {
-        return lowest;
+    if code < 4 {
+        return lies_under(ws, i, r, base);
     }
-    true
+    if r != 0 {
+        return false;
+    }
+    if !saved {
+        return code < 6;
+    }
+    if i == 0 {
+        return code == 5;
+    }
+    code == 4
 }
 
 // The frame at place i, which ends at `end`.
@@ -95,13 +79,7 @@ fn frame_ok(ws: &[u64], setup: &[u64], need: &[u64; 32], saved: bool, i: usize, 
     if end - base < need[f] {
         return false;
     }
-    if !cont_held(code, r) {
-        return false;
-    }
-    if !place_ok(saved, i == 0, code, r) {
-        return false;
-    }
-    cont_lies(ws, i, code, r, base)
+    cont_ok(ws, saved, i, code, r, base)
 }
 
 // n frames over `end` words.
@@ -116,7 +94,7 @@ fn frames_over(ws: &[u64], setup: &[u64], need: &[u64; 32], saved: bool, n: usiz
         if !frame_ok(ws, setup, need, saved, i, e) {
             return false;
         }
-        e = ws[i * 6 + 2];
+        e = base_at(ws, i) as u64;
     }
     e == 0
 }

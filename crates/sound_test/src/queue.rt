@@ -1,12 +1,11 @@
-// A queue of coroutines: two passes over its words.
+// A queue of coroutines: one pass over its words.
 ghost use mathlib.Core.Path.{_≡_};
 ghost use mathlib.Core.Bool.{_||_};
 ghost use Prim.Native.Nat.{ℕ, _<_};
 ghost use lib.Dec.{eqb};
 ghost use lib.ListN.{take};
 ghost use Rattle.heap.specs.Heap.{TableFits, slotsOf, coroOf};
-ghost use Rattle.model.specs.Lists.{distinct};
-ghost use Rattle.sound_test.specs.Queue.{byCoro, markOf, marksOk, queueHeld, bitAt, QueueAsks, QueueFits};
+ghost use Rattle.sound_test.specs.Queue.{byCoro, markOf, entriesOk, queueHeld, bitAt, QueueAsks};
 use heap::heap::CoroPlace;
 use heap::value::Word;
 
@@ -26,19 +25,6 @@ fn is_marked(slots: &[u64], count: usize, task: bool, w: u64) -> bool
     }
 }
 
-// Whether each of the first n words does.
-fn marks_ok(q: &[u64], n: usize, slots: &[u64], count: usize, task: bool) -> bool
-    requires { ⌜ QueueAsks (now q) (now slots) n count ⌝ }
-    ensures { λ r. ⌜ r ≡ marksOk task (slotsOf count (now (slots .entry))) (take n (now (q .entry))) ⌝ }
-{
-    for i in 0..n {
-        if !is_marked(slots, count, task, q[i]) {
-            return false;
-        }
-    }
-    true
-}
-
 // Whether bit i of w is set.
 pub fn bit(w: u64, i: u64) -> bool
     requires { ⌜ i < 64 ⌝ }
@@ -55,23 +41,24 @@ pub fn with_bit(w: u64, i: u64) -> u64
     w | (1 << i)
 }
 
-// Whether none of the first n words stands there twice: a bit for each slot.
-fn distinct_ok(q: &[u64], n: usize) -> bool
-    requires { ⌜ QueueFits (now q) n ⌝ }
-    ensures { λ r. ⌜ r ≡ distinct (take n (now (q .entry))) ⌝ }
+// Whether each of the first n words does, and none stands there twice: a mark for each slot.
+fn entries_ok(q: &[u64], n: usize, slots: &[u64], count: usize, task: bool) -> bool
+    requires { ⌜ QueueAsks (now q) (now slots) n count ⌝ }
+    ensures { λ r. ⌜ r ≡ entriesOk task (slotsOf count (now (slots .entry))) (take n (now (q .entry))) ⌝ }
 {
-    let mut seen = [0u64; 64];
+    let mut seen = [false; 4096];
     let mut i = n;
     while i > 0 {
         i -= 1;
-        let x = q[i] % 0x1_0000_0000;
-        let at = (x / 64) as usize;
-        let w = seen[at];
-        if bit(w, x % 64) {
+        let w = q[i];
+        if !is_marked(slots, count, task, w) {
             return false;
         }
-        let v = with_bit(w, x % 64);
-        seen[at] = v;
+        let x = (w % 0x1_0000_0000) as usize;
+        if seen[x] {
+            return false;
+        }
+        seen[x] = true;
     }
     true
 }
@@ -81,10 +68,7 @@ pub fn queue_ok(q: &[u64], n: usize, slots: &[u64], count: usize, task: bool) ->
     requires { ⌜ QueueAsks (now q) (now slots) n count ⌝ }
     ensures { λ r. ⌜ r ≡ queueHeld task (slotsOf count (now (slots .entry))) (now (q .entry)) n ⌝ }
 {
-    if !marks_ok(q, n, slots, count, task) {
-        return false;
-    }
-    if !distinct_ok(q, n) {
+    if !entries_ok(q, n, slots, count, task) {
         return false;
     }
     crate::rest::rest_ok(q, n)

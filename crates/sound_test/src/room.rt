@@ -1,6 +1,7 @@
 // Lent words enough, and numbers within limits.
 ghost use mathlib.Core.Path.{_≡_};
 ghost use Rattle.sound_test.specs.Room.{roomTest, countsTest, SizesFit};
+use heap::slot::WIDTH;
 use memory::machine::Machine;
 use memory::machine::Sizes;
 
@@ -29,7 +30,7 @@ pub fn room_ok(
     if chain < records {
         return false;
     }
-    if slots < l.slots * 20 {
+    if slots < l.slots * WIDTH {
         return false;
     }
     if saved < l.rows * l.width {

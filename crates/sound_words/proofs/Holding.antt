@@ -15,7 +15,7 @@ use Rattle.lists.proofs.Tests.{and-false, fails-at, holds-all}
 use Rattle.lists.proofs.Tables.{length-chunks, chunks-at}
 use Rattle.heap.specs.State.{isRunning, isFinished}
 use Rattle.heap.specs.Table.{Slot, slot}
-use Rattle.heap.specs.Slot.{slotOfWords}
+use Rattle.heap.specs.Slot.{width, slotOfWords}
 use Rattle.heap.specs.Heap.{slotIn, slotsOf}
 use Rattle.heap.specs.declared.object.CoroObj.{CoroObj}
 use Rattle.heap.specs.declared.object.Object as H
@@ -143,7 +143,7 @@ module _ (l : Sizes) (s : Setup) (stack frames : List ℕ) (chained : ℕ → Bo
       pub holds : (n : ℕ) → n < 64 → bitAt mask n ≡ among n (rowsHeld (drop i xs))
 
     nothing-left : drop count xs ≡ []
-    nothing-left = drop-of-length-le xs {i = count} (let h = length-chunks 20 slotOfWords count slots in omega arith)
+    nothing-left = drop-of-length-le xs {i = count} (let h = length-chunks width slotOfWords count slots in omega arith)
 
     pub begin : Held 0 count
     begin =
@@ -162,11 +162,11 @@ module _ (l : Sizes) (s : Setup) (stack frames : List ℕ) (chained : ℕ → Bo
       down : drop (i - 1) xs ≡ slotIn slots (i - 1) ∷ drop i xs
       down =
           let w = p .within in
-          let h : i - 1 < length xs = let q = length-chunks 20 slotOfWords count slots in omega arith in
+          let h : i - 1 < length xs = let q = length-chunks width slotOfWords count slots in omega arith in
           let k : i - 1 < count = omega arith in
           let e : suc (i - 1) ≡ i = omega arith in
           drop-cons xs (i - 1) (slot 0 O.Empty) h
-          ∙ ap₂ (λ (y : Slot H.Object) (n : ℕ). y ∷ drop n xs) (chunks-at 20 slotOfWords count (i - 1) slots (slot 0 O.Empty) k) e
+          ∙ ap₂ (λ (y : Slot H.Object) (n : ℕ). y ∷ drop n xs) (chunks-at width slotOfWords count (i - 1) slots (slot 0 O.Empty) k) e
 
       pub refuses : row ≡ 65 → false ≡ rowsTest l s stack frames chained slots count
       refuses e =

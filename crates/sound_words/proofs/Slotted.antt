@@ -13,7 +13,7 @@ use Rattle.lists.proofs.Tests.{holds-at, holds-all}
 use Rattle.lists.proofs.Tables.{length-chunk, length-chunks, chunks-at, chunk-get}
 use Rattle.heap.specs.Object.{codeOf}
 use Rattle.heap.specs.Table.{slot}
-use Rattle.heap.specs.Slot.{flag, slotWords, slotOfWords}
+use Rattle.heap.specs.Slot.{width, flag, slotWords, slotOfWords}
 use Rattle.heap.specs.Heap.{slotsOf}
 use Rattle.heap.specs.Ranges.{Range, unused, kinds, within, slotOk, tableOk}
 use Rattle.heap.specs.declared.value.Opt.{Opt}
@@ -214,7 +214,7 @@ in-fits t (O.Coro c) h =
 abbrev pub slot-held : List ℕ → Bool
 slot-held ws = same (slotWords (slotOfWords ws)) ws
 
-pub slot-test : (ws : List ℕ) → length ws ≡ 20 → Small ws → slotOk ws ≡ (slot-held ws && slotFits (slotOfWords ws))
+pub slot-test : (ws : List ℕ) → length ws ≡ width → Small ws → slotOk ws ≡ (slot-held ws && slotFits (slotOfWords ws))
 slot-test ws n b =
     let x = slotOfWords ws in
     iff (slotOk ws) (slot-held ws && slotFits x)
@@ -227,29 +227,29 @@ slot-test ws n b =
     ∙ fits-in (x .tag) (x .object) (subst Small (sym e) b) (and-right (slot-held ws) (slotFits x) h))
 
 -- all slots, and zeros after them
-module _ (ws : List ℕ) (n : ℕ) (room : n * 20 ≤ length ws) (small : Small ws) where
-  small-chunk : (i : ℕ) → i < n → Small (chunkAt 20 ws i)
-  small-chunk i h k = go (ltb k 20) refl
+module _ (ws : List ℕ) (n : ℕ) (room : n * width ≤ length ws) (small : Small ws) where
+  small-chunk : (i : ℕ) → i < n → Small (chunkAt width ws i)
+  small-chunk i h k = go (ltb k width) refl
     where
-      go : (t : Bool) → ltb k 20 ≡ t → getD (chunkAt 20 ws i) k 0 < 2 ^ 64
-      go true e = subst (λ v. v < 2 ^ 64) (sym (chunk-get 20 i k ws (ltb-true k 20 e))) (small (i * 20 + k))
+      go : (t : Bool) → ltb k width ≡ t → getD (chunkAt width ws i) k 0 < 2 ^ 64
+      go true e = subst (λ v. v < 2 ^ 64) (sym (chunk-get width i k ws (ltb-true k width e))) (small (i * width + k))
       go false e =
-          let l = length-chunk 20 i ws (omega arith) in
-          let past : length (chunkAt 20 ws i) ≤ k = omega (arith, ltb-false k 20 e) in
-          subst (λ v. v < 2 ^ 64) (sym (List·getD-eq-default (chunkAt 20 ws i) 0 past)) (omega arith)
+          let l = length-chunk width i ws (omega arith) in
+          let past : length (chunkAt width ws i) ≤ k = omega (arith, ltb-false k width e) in
+          subst (λ v. v < 2 ^ 64) (sym (List·getD-eq-default (chunkAt width ws i) 0 past)) (omega arith)
 
-  at-slot : (i : ℕ) → i < n → slotOk (chunkAt 20 ws i) ≡ (slot-held (chunkAt 20 ws i) && slotFits (slotOfWords (chunkAt 20 ws i)))
-  at-slot i h = slot-test (chunkAt 20 ws i) (length-chunk 20 i ws (omega arith)) (small-chunk i h)
+  at-slot : (i : ℕ) → i < n → slotOk (chunkAt width ws i) ≡ (slot-held (chunkAt width ws i) && slotFits (slotOfWords (chunkAt width ws i)))
+  at-slot i h = slot-test (chunkAt width ws i) (length-chunk width i ws (omega arith)) (small-chunk i h)
 
   pub table-same : tableOk n ws ≡ tableTest ws n
   table-same =
-      let t : ℕ → Bool = λ i. slotOk (chunkAt 20 ws i) in
-      let u : ℕ → Bool = λ i. slot-held (chunkAt 20 ws i) in
-      let v : ℕ → Bool = λ i. slotFits (slotOfWords (chunkAt 20 ws i)) in
-      let z = zeros (drop (n * 20) ws) in
+      let t : ℕ → Bool = λ i. slotOk (chunkAt width ws i) in
+      let u : ℕ → Bool = λ i. slot-held (chunkAt width ws i) in
+      let v : ℕ → Bool = λ i. slotFits (slotOfWords (chunkAt width ws i)) in
+      let z = zeros (drop (n * width) ws) in
       let fits = each slotFits (slotsOf n ws) in
-      let at : (i : ℕ) → i < n → getD (slotsOf n ws) i (slot 0 O.Empty) ≡ slotOfWords (chunkAt 20 ws i) = λ i h. chunks-at 20 slotOfWords n i ws (slot 0 O.Empty) h in
-      let long = length-chunks 20 slotOfWords n ws in
+      let at : (i : ℕ) → i < n → getD (slotsOf n ws) i (slot 0 O.Empty) ≡ slotOfWords (chunkAt width ws i) = λ i h. chunks-at width slotOfWords n i ws (slot 0 O.Empty) h in
+      let long = length-chunks width slotOfWords n ws in
       iff (tableOk n ws) (tableTest ws n)
       (λ h.
       let a = and-left (allBelow n t) z h in

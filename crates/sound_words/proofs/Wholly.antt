@@ -12,7 +12,7 @@ use Rattle.lists.specs.Tests.{allBelow}
 use Rattle.lists.proofs.Tests.{holds-at, holds-all}
 use Rattle.lists.proofs.Tables.{length-chunks, chunks-at}
 use Rattle.heap.specs.Table.{Slot, slot}
-use Rattle.heap.specs.Slot.{slotOfWords}
+use Rattle.heap.specs.Slot.{width, slotOfWords}
 use Rattle.heap.specs.Heap.{slotIn, slotsOf, coroOf}
 use Rattle.heap.specs.declared.object.Object as H
 use Rattle.heap.specs.declared.object.Object.the-variants as O
@@ -72,10 +72,10 @@ module _ (M : Lent) (m : Machine) (f : Fuel) where
   d = slot 0 O.Empty
 
   count : length ys ≡ m .count
-  count = length-chunks 20 slotOfWords (m .count) (M .slots)
+  count = length-chunks width slotOfWords (m .count) (M .slots)
 
   slot-at : (i : ℕ) → i < m .count → getD ys i d ≡ slotIn (M .slots) i
-  slot-at i h = chunks-at 20 slotOfWords (m .count) i (M .slots) d h
+  slot-at i h = chunks-at width slotOfWords (m .count) i (M .slots) d h
 
   abbrev chained : ℕ → Bool
   chained = chainedAt (M .chain) (m .active)

@@ -8,6 +8,7 @@ use lib.ListN.{length}
 use Rattle.lists.specs.Pick.{pick}
 use Rattle.lists.specs.Chunks.{chunkAt}
 use Rattle.lists.specs.Tests.{allBelow}
+use Rattle.heap.specs.Slot.{width}
 use Rattle.heap.specs.State.{isRunning, isFinished}
 use Rattle.heap.specs.Table.{Slot}
 use Rattle.heap.specs.Heap.{slotIn, slotsOf}
@@ -87,7 +88,7 @@ pub record RowsFit (stack frames need setup set : List ℕ) (l : Sizes) : Type 0
 
 pub record SlotsFit (stack frames need setup set slots : List ℕ) (l : Sizes) (count : ℕ) : Type 0 where
   pub rows : RowsFit stack frames need setup set l
-  pub table : count * 20 ≤ length slots
+  pub table : count * width ≤ length slots
   pub few : count ≤ 4096
 
 pub record FreeFits (stack frames : List ℕ) (l : Sizes) : Type 0 where

@@ -5,6 +5,7 @@ use mathlib.Core.Bool.{Bool, true, _&&_}
 use mathlib.Core.List.{List, map}
 use lib.ListN.{length}
 use Rattle.heap.specs.Word.{slotOf}
+use Rattle.heap.specs.Slot.{width}
 use Rattle.heap.specs.State.{isRunning}
 use Rattle.heap.specs.Table.{Slot}
 use Rattle.heap.specs.Heap.{coroOf}
@@ -30,7 +31,7 @@ runningTest chain n xs = each (λ v. byCoro running (coroOf xs v)) (activeWords 
 
 pub record RunningAsks (chain slots : List ℕ) (n count : ℕ) : Type 0 where
   pub on-chain : n * 6 ≤ length chain
-  pub table : count * 20 ≤ length slots
+  pub table : count * width ≤ length slots
   pub few : count ≤ 4096
 
 pub record RunningTold (chain : List ℕ) (n : ℕ) (xs : List (Slot H.Object)) (r : Runs) : Type 0 where

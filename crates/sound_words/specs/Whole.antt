@@ -4,6 +4,7 @@ use mathlib.Core.Bool.{Bool, true, false, _&&_}
 use mathlib.Core.List.{List, map}
 use lib.ListN.{length}
 use Rattle.heap.specs.Word.{slotOf}
+use Rattle.heap.specs.Slot.{width}
 use Rattle.heap.specs.Heap.{slotsOf}
 use Rattle.model.specs.Lists.{among}
 use Rattle.model.specs.Program.{Setup}
@@ -71,7 +72,7 @@ pub record TowerFits (frames chain need setup : List ℕ) (m : Machine) : Type 0
 
 pub record ObjectsFit (chain slots saved asleep need setup : List ℕ) (l : Sizes) (m : Machine) : Type 0 where
   pub on-chain : m .active * 6 ≤ length chain
-  pub table : m .count * 20 ≤ length slots
+  pub table : m .count * width ≤ length slots
   pub few : m .count ≤ 4096
   pub on-stack : l .rows * l .width ≤ length saved
   pub on-frames : l .rows * (l .depth * 6) ≤ length asleep
@@ -84,5 +85,5 @@ pub record ObjectsFit (chain slots saved asleep need setup : List ℕ) (l : Size
 pub record QueuesFit (ready finalize slots : List ℕ) (m : Machine) : Type 0 where
   pub on-ready : m .ready ≤ length ready
   pub on-finalize : m .finalize ≤ length finalize
-  pub table : m .count * 20 ≤ length slots
+  pub table : m .count * width ≤ length slots
   pub few : m .count ≤ 4096

@@ -12,6 +12,7 @@ use heap::object::CoroObj;
 use memory::machine::Sizes;
 use sound_test::frames::saved_frames_ok;
 use sound_test::rest::rest_ok;
+use tables::frame::base_at;
 
 // Row i of w words each: zeros after the first n.
 pub(crate) fn row_rest(ws: &[u64], i: usize, w: usize, n: usize) -> bool
@@ -52,7 +53,7 @@ fn waits_ok(ws: &[u64], c: CoroObj) -> bool
     }
     let n = c.frames as usize;
     let top = n - 1;
-    let base = ws[top * 6 + 2];
+    let base = base_at(ws, top) as u64;
     if c.regs <= base {
         return false;
     }

@@ -19,6 +19,12 @@ of c = host (mem c) (c .args .machine .now) (c .args .fuel .now)
 abbrev start-of : tie.After-set-up → tie.Start
 start-of c = c .before .before .before .before .before .before .before .before .before .before .before .before .before .before .before .before .before .before .before .before .before .before .before .before .before .before .before
 
+abbrev set-up-of : tie.After-tell → tie.After-set-up
+set-up-of c = c .before .before .before .before .before .before .before .before .before .before .before .before .before .before .before .before .before .before .before .before .before .before
+
+abbrev tell-of : tie.After-slice-known25 → tie.After-tell
+tell-of c = c .before .before .before .before .before .before .before .before .before .before .before .before .before .before .before .before
+
 abbrev left-by : tie.After-set-up → Lent
 left-by c = nine (c .set-up .last .0) (c .set-up .last .1 .0) (c .set-up .last .1 .1 .0) (c .set-up .last .1 .1 .1 .0)
     (c .set-up .last .1 .1 .1 .1 .0) (c .set-up .last .1 .1 .1 .1 .1 .0) (c .set-up .last .1 .1 .1 .1 .1 .1 .0)
@@ -34,34 +40,34 @@ set-up-requires : tie.Need-set-up-requires
 set-up-requires c κs = search needs
 
 tell-requires : tie.Need-tell-requires
-tell-requires c κs = c .before .before .before .before .before .before .before .before .before .before .before .before .before .before .before .before .before .before .before .before .before .before .before .before .before .before .before .before .before .before .before .before .before .before .before .before .before .before .before .before .before .before .before .before .before .before .before .before .pre .answer
+tell-requires c κs = start-of (c .before .before .before .before .before .before .before .before .before .before .before .before .before .before .before .before .before .before .before .before .before) .pre .answer
 
 same-length : tie.Need-same-length
-same-length c = c .before .before .before .before .before .before .before .before .before .before .before .before .before .before .before .before .before .before .before .before .before .before .before .before .before .set-up .kept .0
+same-length c = set-up-of (c .before .before .before) .set-up .kept .0
 
 same-length-2 : tie.Need-same-length-2
-same-length-2 c = c .before .before .before .before .before .before .before .before .before .before .before .before .before .before .before .before .before .before .before .before .before .before .before .before .before .set-up .kept .1 .0
+same-length-2 c = set-up-of (c .before .before .before) .set-up .kept .1 .0
 
 same-length-3 : tie.Need-same-length-3
-same-length-3 c = c .before .before .before .before .before .before .before .before .before .before .before .before .before .before .before .before .before .before .before .before .before .before .before .before .before .set-up .kept .1 .1 .0
+same-length-3 c = set-up-of (c .before .before .before) .set-up .kept .1 .1 .0
 
 same-length-4 : tie.Need-same-length-4
-same-length-4 c = c .before .before .before .before .before .before .before .before .before .before .before .before .before .before .before .before .before .before .before .before .before .before .before .before .before .set-up .kept .1 .1 .1 .0
+same-length-4 c = set-up-of (c .before .before .before) .set-up .kept .1 .1 .1 .0
 
 same-length-5 : tie.Need-same-length-5
-same-length-5 c = c .before .before .before .before .before .before .before .before .before .before .before .before .before .before .before .before .before .before .before .before .before .before .before .before .before .set-up .kept .1 .1 .1 .1 .0
+same-length-5 c = set-up-of (c .before .before .before) .set-up .kept .1 .1 .1 .1 .0
 
 same-length-6 : tie.Need-same-length-6
-same-length-6 c = c .before .before .before .before .before .before .before .before .before .before .before .before .before .before .before .before .before .before .before .before .before .before .before .before .before .set-up .kept .1 .1 .1 .1 .1 .0
+same-length-6 c = set-up-of (c .before .before .before) .set-up .kept .1 .1 .1 .1 .1 .0
 
 same-length-7 : tie.Need-same-length-7
-same-length-7 c = c .before .before .before .before .before .before .before .before .before .before .before .before .before .before .before .before .before .before .before .before .before .before .before .before .before .set-up .kept .1 .1 .1 .1 .1 .1 .0
+same-length-7 c = set-up-of (c .before .before .before) .set-up .kept .1 .1 .1 .1 .1 .1 .0
 
 same-length-8 : tie.Need-same-length-8
-same-length-8 c = c .before .before .before .before .before .before .before .before .before .before .before .before .before .before .before .before .before .before .before .before .before .before .before .before .before .set-up .kept .1 .1 .1 .1 .1 .1 .1 .0
+same-length-8 c = set-up-of (c .before .before .before) .set-up .kept .1 .1 .1 .1 .1 .1 .1 .0
 
 same-length-9 : tie.Need-same-length-9
-same-length-9 c = c .before .before .before .before .before .before .before .before .before .before .before .before .before .before .before .before .before .before .before .before .before .before .before .before .before .set-up .kept .1 .1 .1 .1 .1 .1 .1 .1 .0
+same-length-9 c = set-up-of (c .before .before .before) .set-up .kept .1 .1 .1 .1 .1 .1 .1 .1 .0
 
 same-length-10 : tie.Need-same-length-10
 same-length-10 c = refl
@@ -75,9 +81,9 @@ same-length-12 c = c .before .before .before .tell .kept .0
 returns : tie.Need-returns
 returns c =
     let told = c .before .before .before in
-    let set = c .before .before .before .before .before .before .before .before .before .before .before .before .before .before .before .before .before .before .before .before .before .before .before .before .before in
+    let set = set-up-of told in
     let at-fuel = set .before .before .before .before .before .before .before .before .before .before in
-    let at-machine = set .before .before .before .before .before .before .before .before .before .before .before .before in
+    let at-machine = at-fuel .before .before in
     let start = start-of set in
     let a = start .args in
     begin-refused (of start) (a .given .now) (a .answer .now) (at-machine .machine-of .result) (at-fuel .fuel-of .result) (at-machine .machine-of .ensures) (at-fuel .fuel-of .ensures) (left-by set)
@@ -86,9 +92,9 @@ returns c =
 sizes-requires : tie.Need-sizes-requires
 sizes-requires c κs =
     let told = c .before .before .before in
-    let set = c .before .before .before .before .before .before .before .before .before .before .before .before .before .before .before .before .before .before .before .before .before .before .before .before .before in
+    let set = set-up-of told in
     let at-fuel = set .before .before .before .before .before .before .before .before .before .before in
-    let at-machine = set .before .before .before .before .before .before .before .before .before .before .before .before in
+    let at-machine = at-fuel .before .before in
     let start = start-of set in
     let a = start .args in
     fits-given (of start) (a .given .now) (a .answer .now)
@@ -96,41 +102,41 @@ sizes-requires c κs =
     (set .set-up .result) (set .set-up .ensures) (told .tell .result) (told .tell .ensures .1) (c .if1 .left))
 
 put-machine-requires : tie.Need-put-machine-requires
-put-machine-requires c κs = c .before .before .before .before .before .before .before .before .before .before .before .before .before .before .before .before .before .before .before .before .before .before .before .before .before .before .before .before .before .before .before .before .before .before .before .before .before .before .before .before .before .before .before .before .before .before .before .before .before .before .before .before .before .before .pre .machine
+put-machine-requires c κs = start-of (set-up-of (c .before .before .before .before .before)) .pre .machine
 
 put-sizes-requires : tie.Need-put-sizes-requires
-put-sizes-requires c κs = let start = c .before .before .before .before .before .before .before .before .before .before .before .before .before .before .before .before .before .before .before .before .before .before .before .before .before .before .before .before .before .before .before .before .before .before .before .before .before .before .before .before .before .before .before .before .before .before .before .before .before .before .before .before .before .before .before .before .before .before in
+put-sizes-requires c κs = let start = start-of (set-up-of (c .before .before .before .before .before .before .before .before .before)) in
     let k = c .before .before .before .put-machine .kept .0 in let h = start .pre .machine in omega arith
 
 put-fuel-requires : tie.Need-put-fuel-requires
-put-fuel-requires c κs = c .before .before .before .before .before .before .before .before .before .before .before .before .before .before .before .before .before .before .before .before .before .before .before .before .before .before .before .before .before .before .before .before .before .before .before .before .before .before .before .before .before .before .before .before .before .before .before .before .before .before .before .before .before .before .before .before .before .before .before .before .before .before .pre .fuel
+put-fuel-requires c κs = start-of (set-up-of (c .before .before .before .before .before .before .before .before .before .before .before .before .before)) .pre .fuel
 
 same-length-13 : tie.Need-same-length-13
-same-length-13 c = c .before .before .before .before .before .before .before .before .before .before .before .before .before .before .before .before .before .before .before .before .before .before .before .before .before .before .before .before .before .before .before .before .before .before .before .before .before .before .set-up .kept .0
+same-length-13 c = set-up-of (tell-of c) .set-up .kept .0
 
 same-length-14 : tie.Need-same-length-14
-same-length-14 c = c .before .before .before .before .before .before .before .before .before .before .before .before .before .before .before .before .before .before .before .before .before .before .before .before .before .before .before .before .before .before .before .before .before .before .before .before .before .before .set-up .kept .1 .0
+same-length-14 c = set-up-of (tell-of c) .set-up .kept .1 .0
 
 same-length-15 : tie.Need-same-length-15
-same-length-15 c = c .before .before .before .before .before .before .before .before .before .before .before .before .before .before .before .before .before .before .before .before .before .before .before .before .before .before .before .before .before .before .before .before .before .before .before .before .before .before .set-up .kept .1 .1 .0
+same-length-15 c = set-up-of (tell-of c) .set-up .kept .1 .1 .0
 
 same-length-16 : tie.Need-same-length-16
-same-length-16 c = c .before .before .before .before .before .before .before .before .before .before .before .before .before .before .before .before .before .before .before .before .before .before .before .before .before .before .before .before .before .before .before .before .before .before .before .before .before .before .set-up .kept .1 .1 .1 .0
+same-length-16 c = set-up-of (tell-of c) .set-up .kept .1 .1 .1 .0
 
 same-length-17 : tie.Need-same-length-17
-same-length-17 c = c .before .before .before .before .before .before .before .before .before .before .before .before .before .before .before .before .before .before .before .before .before .before .before .before .before .before .before .before .before .before .before .before .before .before .before .before .before .before .set-up .kept .1 .1 .1 .1 .0
+same-length-17 c = set-up-of (tell-of c) .set-up .kept .1 .1 .1 .1 .0
 
 same-length-18 : tie.Need-same-length-18
-same-length-18 c = c .before .before .before .before .before .before .before .before .before .before .before .before .before .before .before .before .before .before .before .before .before .before .before .before .before .before .before .before .before .before .before .before .before .before .before .before .before .before .set-up .kept .1 .1 .1 .1 .1 .0
+same-length-18 c = set-up-of (tell-of c) .set-up .kept .1 .1 .1 .1 .1 .0
 
 same-length-19 : tie.Need-same-length-19
-same-length-19 c = c .before .before .before .before .before .before .before .before .before .before .before .before .before .before .before .before .before .before .before .before .before .before .before .before .before .before .before .before .before .before .before .before .before .before .before .before .before .before .set-up .kept .1 .1 .1 .1 .1 .1 .0
+same-length-19 c = set-up-of (tell-of c) .set-up .kept .1 .1 .1 .1 .1 .1 .0
 
 same-length-20 : tie.Need-same-length-20
-same-length-20 c = c .before .before .before .before .before .before .before .before .before .before .before .before .before .before .before .before .before .before .before .before .before .before .before .before .before .before .before .before .before .before .before .before .before .before .before .before .before .before .set-up .kept .1 .1 .1 .1 .1 .1 .1 .0
+same-length-20 c = set-up-of (tell-of c) .set-up .kept .1 .1 .1 .1 .1 .1 .1 .0
 
 same-length-21 : tie.Need-same-length-21
-same-length-21 c = c .before .before .before .before .before .before .before .before .before .before .before .before .before .before .before .before .before .before .before .before .before .before .before .before .before .before .before .before .before .before .before .before .before .before .before .before .before .before .set-up .kept .1 .1 .1 .1 .1 .1 .1 .1 .0
+same-length-21 c = set-up-of (tell-of c) .set-up .kept .1 .1 .1 .1 .1 .1 .1 .1 .0
 
 same-length-22 : tie.Need-same-length-22
 same-length-22 c = c .before .before .before .before .before .before .put-sizes .kept .0 ∙ c .before .before .before .before .before .before .before .before .before .before .put-machine .kept .0
@@ -139,22 +145,28 @@ same-length-23 : tie.Need-same-length-23
 same-length-23 c = c .before .before .put-fuel .kept .0
 
 same-length-24 : tie.Need-same-length-24
-same-length-24 c = c .before .before .before .before .before .before .before .before .before .before .before .before .before .before .before .before .tell .kept .0
+same-length-24 c = tell-of c .tell .kept .0
 
 returns-2 : tie.Need-returns-2
 returns-2 c =
-    let told = c .before .before .before .before .before .before .before .before .before .before .before .before .before .before .before .before in
-    let set = c .before .before .before .before .before .before .before .before .before .before .before .before .before .before .before .before .before .before .before .before .before .before .before .before .before .before .before .before .before .before .before .before .before .before .before .before .before .before in
+    let told = tell-of c in
+    let set = set-up-of told in
     let at-fuel = set .before .before .before .before .before .before .before .before .before .before in
-    let at-machine = set .before .before .before .before .before .before .before .before .before .before .before .before in
+    let at-machine = at-fuel .before .before in
     let start = start-of set in
     let a = start .args in
     let sized = c .before .before .before .before .before .before .before .before .before .before .before .before in
     begin-done (of start) (a .given .now) (a .answer .now) (at-machine .machine-of .result) (at-fuel .fuel-of .result) (at-machine .machine-of .ensures) (at-fuel .fuel-of .ensures) (left-by set)
-    (set .set-up .result) (set .set-up .ensures) (told .tell .result) (told .tell .ensures .1) (c .before .before .before .before .before .before .before .before .before .before .before .before .before .if1 .left)
+    (set .set-up .result) (set .set-up .ensures) (told .tell .result) (told .tell .ensures .1) (sized .before .if1 .left)
     (sized .sizes .result) (sized .sizes .ensures .words) _ _ _ _
     (c .before .before .before .before .before .before .before .before .before .before .put-machine .ensures)
     (c .before .before .before .before .before .before .put-sizes .ensures) (c .before .before .put-fuel .ensures) (told .tell .ensures .0)
 
 pub begin-spec : {M : Type 1} → statement M
-begin-spec = tie.close (tie.spec machine-of-requires fuel-of-requires set-up-requires tell-requires same-length same-length-2 same-length-3 same-length-4 same-length-5 same-length-6 same-length-7 same-length-8 same-length-9 same-length-10 same-length-11 same-length-12 returns sizes-requires put-machine-requires put-sizes-requires put-fuel-requires same-length-13 same-length-14 same-length-15 same-length-16 same-length-17 same-length-18 same-length-19 same-length-20 same-length-21 same-length-22 same-length-23 same-length-24 returns-2)
+begin-spec =
+    tie.close
+    (tie.spec
+    machine-of-requires fuel-of-requires set-up-requires tell-requires same-length same-length-2 same-length-3 same-length-4 same-length-5
+    same-length-6 same-length-7 same-length-8 same-length-9 same-length-10 same-length-11 same-length-12 returns sizes-requires put-machine-requires
+    put-sizes-requires put-fuel-requires same-length-13 same-length-14 same-length-15 same-length-16 same-length-17 same-length-18 same-length-19
+    same-length-20 same-length-21 same-length-22 same-length-23 same-length-24 returns-2)

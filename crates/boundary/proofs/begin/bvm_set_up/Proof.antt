@@ -14,8 +14,19 @@ mem c = nine (c .args .stack .now) (c .args .frames .now) (c .args .chain .now) 
 abbrev of : tie.Start → Host
 of c = host (mem c) (c .args .machine .now) (c .args .fuel .now)
 
+abbrev begin-of : tie.After-slice-known26 → tie.After-begin
+begin-of c = c .before .before .before .before .before .before .before .before .before .before .before .before .before .before .before .before .before .before .before .before .before .before .before .before
+
+abbrev else-of : tie.After-begin → tie.Else3
+else-of c = c .before .before .before .before .before .before .before .before .before .before .before .before .before
+
+abbrev start-of : tie.Else1 → tie.Start
+start-of c = c .before .before .before .before .before .before .before .before .before .before .before .before .before .before
+
 returns : tie.Need-returns
-returns c = let start = c .before .before .before .before .before .before .before .before .before .before .before .before .before .before in set-up-short (of start) (start .args .given .now) (start .args .answer .now) (c .if1 .taken)
+returns c =
+    let start = c .before .before .before .before .before .before .before .before .before .before .before .before .before .before in
+    set-up-short (of start) (start .args .given .now) (start .args .answer .now) (c .if1 .taken)
 
 tell-requires : tie.Need-tell-requires
 tell-requires c κs = c .before .before .if1 .left
@@ -26,8 +37,8 @@ same-length c = c .before .before .tell .kept .0
 returns-2 : tie.Need-returns-2
 returns-2 c =
     let told = c .before .before in
-    let start = c .before .before .before .before .before .before .before .before .before .before .before .before .before .before .before .before .before .before .before in
-    short-machine (of start) (start .args .given .now) (start .args .answer .now) (c .before .before .before .before .before .if1 .left) (c .before .before .before .before .if2 .taken) _ (told .tell .result) (told .tell .ensures .0) (told .tell .ensures .1)
+    let start = start-of (told .before .before .before) in
+    short-machine (of start) (start .args .given .now) (start .args .answer .now) (told .before .before .before .if1 .left) (told .before .before .if2 .taken) _ (told .tell .result) (told .tell .ensures .0) (told .tell .ensures .1)
 
 tell-requires-2 : tie.Need-tell-requires-2
 tell-requires-2 c κs = c .before .before .before .if1 .left
@@ -38,58 +49,66 @@ same-length-2 c = c .before .before .tell2 .kept .0
 returns-3 : tie.Need-returns-3
 returns-3 c =
     let told = c .before .before in
-    let start = c .before .before .before .before .before .before .before .before .before .before .before .before .before .before .before .before .before .before .before .before in
-    short-fuel (of start) (start .args .given .now) (start .args .answer .now) (c .before .before .before .before .before .before .if1 .left)
-    (c .before .before .before .before .before .if2 .left) (c .before .before .before .before .if3 .taken) _ (told .tell2 .result)
+    let start = start-of (told .before .before .before .before) in
+    short-fuel (of start) (start .args .given .now) (start .args .answer .now) (told .before .before .before .before .if1 .left)
+    (told .before .before .before .if2 .left) (told .before .before .if3 .taken) _ (told .tell2 .result)
     (told .tell2 .ensures .0) (told .tell2 .ensures .1)
 
 begin-requires : tie.Need-begin-requires
-begin-requires c κs = record { machine = c .before .before .before .before .before .before .before .before .before .before .before .before .before .if2 .left; fuel = c .before .before .before .before .before .before .before .before .before .before .before .before .if3 .left; answer = c .before .before .before .before .before .before .before .before .before .before .before .before .before .before .if1 .left }
+begin-requires c κs =
+    let at-if3 = c .before .before .before .before .before .before .before .before .before .before .before .before in
+    let at-if2 = at-if3 .before in
+    let at-if1 = at-if2 .before in
+    record { machine = at-if2 .if2 .left; fuel = at-if3 .if3 .left; answer = at-if1 .if1 .left }
 
 same-length-3 : tie.Need-same-length-3
-same-length-3 c = c .before .before .before .before .before .before .before .before .before .before .before .before .before .before .before .before .before .before .before .before .before .before .before .before .begin .kept .0
+same-length-3 c = begin-of c .begin .kept .0
 
 same-length-4 : tie.Need-same-length-4
-same-length-4 c = c .before .before .before .before .before .before .before .before .before .before .before .before .before .before .before .before .before .before .before .before .before .before .before .before .begin .kept .1 .0
+same-length-4 c = begin-of c .begin .kept .1 .0
 
 same-length-5 : tie.Need-same-length-5
-same-length-5 c = c .before .before .before .before .before .before .before .before .before .before .before .before .before .before .before .before .before .before .before .before .before .before .before .before .begin .kept .1 .1 .0
+same-length-5 c = begin-of c .begin .kept .1 .1 .0
 
 same-length-6 : tie.Need-same-length-6
-same-length-6 c = c .before .before .before .before .before .before .before .before .before .before .before .before .before .before .before .before .before .before .before .before .before .before .before .before .begin .kept .1 .1 .1 .0
+same-length-6 c = begin-of c .begin .kept .1 .1 .1 .0
 
 same-length-7 : tie.Need-same-length-7
-same-length-7 c = c .before .before .before .before .before .before .before .before .before .before .before .before .before .before .before .before .before .before .before .before .before .before .before .before .begin .kept .1 .1 .1 .1 .0
+same-length-7 c = begin-of c .begin .kept .1 .1 .1 .1 .0
 
 same-length-8 : tie.Need-same-length-8
-same-length-8 c = c .before .before .before .before .before .before .before .before .before .before .before .before .before .before .before .before .before .before .before .before .before .before .before .before .begin .kept .1 .1 .1 .1 .1 .0
+same-length-8 c = begin-of c .begin .kept .1 .1 .1 .1 .1 .0
 
 same-length-9 : tie.Need-same-length-9
-same-length-9 c = c .before .before .before .before .before .before .before .before .before .before .before .before .before .before .before .before .before .before .before .before .before .before .before .before .begin .kept .1 .1 .1 .1 .1 .1 .0
+same-length-9 c = begin-of c .begin .kept .1 .1 .1 .1 .1 .1 .0
 
 same-length-10 : tie.Need-same-length-10
-same-length-10 c = c .before .before .before .before .before .before .before .before .before .before .before .before .before .before .before .before .before .before .before .before .before .before .before .before .begin .kept .1 .1 .1 .1 .1 .1 .1 .0
+same-length-10 c = begin-of c .begin .kept .1 .1 .1 .1 .1 .1 .1 .0
 
 same-length-11 : tie.Need-same-length-11
-same-length-11 c = c .before .before .before .before .before .before .before .before .before .before .before .before .before .before .before .before .before .before .before .before .before .before .before .before .begin .kept .1 .1 .1 .1 .1 .1 .1 .1 .0
+same-length-11 c = begin-of c .begin .kept .1 .1 .1 .1 .1 .1 .1 .1 .0
 
 same-length-12 : tie.Need-same-length-12
-same-length-12 c = c .before .before .before .before .before .before .before .before .before .before .before .before .before .before .before .before .before .before .before .before .before .before .before .before .begin .kept .1 .1 .1 .1 .1 .1 .1 .1 .1 .0
+same-length-12 c = begin-of c .begin .kept .1 .1 .1 .1 .1 .1 .1 .1 .1 .0
 
 same-length-13 : tie.Need-same-length-13
-same-length-13 c = c .before .before .before .before .before .before .before .before .before .before .before .before .before .before .before .before .before .before .before .before .before .before .before .before .begin .kept .1 .1 .1 .1 .1 .1 .1 .1 .1 .1 .0
+same-length-13 c = begin-of c .begin .kept .1 .1 .1 .1 .1 .1 .1 .1 .1 .1 .0
 
 same-length-14 : tie.Need-same-length-14
-same-length-14 c = c .before .before .before .before .before .before .before .before .before .before .before .before .before .before .before .before .before .before .before .before .before .before .before .before .begin .kept .1 .1 .1 .1 .1 .1 .1 .1 .1 .1 .1 .1 .0
+same-length-14 c = begin-of c .begin .kept .1 .1 .1 .1 .1 .1 .1 .1 .1 .1 .1 .1 .0
 
 returns-4 : tie.Need-returns-4
 returns-4 c =
-    let start = c .before .before .before .before .before .before .before .before .before .before .before .before .before .before .before .before .before .before .before .before .before .before .before .before .before .before .before .before .before .before .before .before .before .before .before .before .before .before .before .before .before .before .before .before .before .before .before .before .before .before .before .before .before in
+    let start = start-of (else-of (begin-of c) .before .before) in
     set-up-made (of start) (start .args .given .now) (start .args .answer .now)
-    (c .before .before .before .before .before .before .before .before .before .before .before .before .before .before .before .before .before .before .before .before .before .before .before .before .before .before .before .before .before .before .before .before .before .before .before .before .before .before .before .if1 .left)
-    (c .before .before .before .before .before .before .before .before .before .before .before .before .before .before .before .before .before .before .before .before .before .before .before .before .before .before .before .before .before .before .before .before .before .before .before .before .before .before .if2 .left)
-    (c .before .before .before .before .before .before .before .before .before .before .before .before .before .before .before .before .before .before .before .before .before .before .before .before .before .before .before .before .before .before .before .before .before .before .before .before .before .if3 .left) _
-    (c .before .before .before .before .before .before .before .before .before .before .before .before .before .before .before .before .before .before .before .before .before .before .before .before .begin .ensures)
+    (else-of (begin-of c) .before .before .if1 .left)
+    (else-of (begin-of c) .before .if2 .left)
+    (else-of (begin-of c) .if3 .left) _
+    (begin-of c .begin .ensures)
 
 pub bvm-set-up-spec : {M : Type 1} → statement M
-bvm-set-up-spec = tie.close (tie.spec returns tell-requires same-length returns-2 tell-requires-2 same-length-2 returns-3 begin-requires same-length-3 same-length-4 same-length-5 same-length-6 same-length-7 same-length-8 same-length-9 same-length-10 same-length-11 same-length-12 same-length-13 same-length-14 returns-4)
+bvm-set-up-spec =
+    tie.close
+    (tie.spec
+    returns tell-requires same-length returns-2 tell-requires-2 same-length-2 returns-3 begin-requires same-length-3 same-length-4 same-length-5
+    same-length-6 same-length-7 same-length-8 same-length-9 same-length-10 same-length-11 same-length-12 same-length-13 same-length-14 returns-4)

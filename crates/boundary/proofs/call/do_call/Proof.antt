@@ -128,8 +128,8 @@ same-length-12 c = c .before .before .tell2 .kept .0
 returns-2 : tie.Need-returns-2
 returns-2 c =
     let told = c .before .before in
-    let at-put-fuel = c .before .before .before .before .before .before in
-    let at-put-machine = c .before .before .before .before .before .before .before .before .before .before in
+    let at-put-fuel = told .before .before .before .before in
+    let at-put-machine = at-put-fuel .before .before .before .before in
     let did = do-read-of c in
     let at-op = did .before .before .before .before .before .before .before .before .before in
     let at-fuel = at-op .before in
@@ -144,4 +144,9 @@ returns-2 c =
     (at-put-machine .put-machine .ensures) (at-put-fuel .put-fuel .ensures) (told .tell2 .ensures .0) (told .tell2 .ensures .1))
 
 pub do-call-spec : {M : Type 1} → statement M
-do-call-spec = tie.close (tie.spec tell-requires same-length returns machine-of-requires sizes-of-requires fuel-of-requires op-of-requires do-read-requires put-machine-requires put-fuel-requires tell-requires-2 same-length-2 same-length-3 same-length-4 same-length-5 same-length-6 same-length-7 same-length-8 same-length-9 same-length-10 same-length-11 same-length-12 returns-2)
+do-call-spec =
+    tie.close
+    (tie.spec
+    tell-requires same-length returns machine-of-requires sizes-of-requires fuel-of-requires op-of-requires do-read-requires put-machine-requires
+    put-fuel-requires tell-requires-2 same-length-2 same-length-3 same-length-4 same-length-5 same-length-6 same-length-7 same-length-8 same-length-9
+    same-length-10 same-length-11 same-length-12 returns-2)

@@ -39,9 +39,9 @@ same-length c = c .before .before .tell .kept .0
 returns : tie.Need-returns
 returns c =
     let told = c .before .before in
-    let start = c .before .before .before .before .before .before .before .before .before .before .before .before .before .before .before .before .before in
+    let start = told .before .before .before .before .before .before .before .before .before .before .before .before .before .before .before in
     let a = start .args in
-    grant-refused (of start) (a .amount) (a .answer .now) (start .pre .room) (a .ok) (start .pre .known) (not-true _ (c .before .before .before .before .if1 .taken)) _ (told .tell .result) (told .tell .ensures .0) (told .tell .ensures .1)
+    grant-refused (of start) (a .amount) (a .answer .now) (start .pre .room) (a .ok) (start .pre .known) (not-true _ (told .before .before .if1 .taken)) _ (told .tell .result) (told .tell .ensures .0) (told .tell .ensures .1)
 
 machine-of-requires : tie.Need-machine-of-requires
 machine-of-requires c κs = long c .0
@@ -56,7 +56,7 @@ put-fuel-requires : tie.Need-put-fuel-requires
 put-fuel-requires c κs = long (c .before .before .before .before .before .before) .1
 
 tell-requires-2 : tie.Need-tell-requires-2
-tell-requires-2 c κs = c .before .before .before .before .before .before .before .before .before .before .before .before .before .before .before .before .before .before .before .before .before .before .before .pre .room
+tell-requires-2 c κs = start-of (c .before .before .before .before .before .before .before .before .before .before) .pre .room
 
 same-length-2 : tie.Need-same-length-2
 same-length-2 c = c .before .before .before .before .before .before .put-fuel .kept .0
@@ -67,15 +67,15 @@ same-length-3 c = c .before .before .tell2 .kept .0
 returns-2 : tie.Need-returns-2
 returns-2 c =
     let told = c .before .before in
-    let did = c .before .before .before .before .before .before .before .before .before in
-    let at-fuel = c .before .before .before .before .before .before .before .before .before .before in
-    let at-machine = c .before .before .before .before .before .before .before .before .before .before .before .before in
-    let start = c .before .before .before .before .before .before .before .before .before .before .before .before .before .before .before .before .before .before .before .before .before .before .before .before .before .before in
+    let did = told .before .before .before .before .before .before .before in
+    let at-fuel = did .before in
+    let at-machine = at-fuel .before .before in
+    let start = start-of (at-machine .before) in
     let a = start .args in
     grant-done (of start) (a .amount) (a .answer .now) (start .pre .room) (a .ok) (start .pre .known)
-    (not-false _ (c .before .before .before .before .before .before .before .before .before .before .before .before .before .if1 .left))
+    (not-false _ (at-machine .before .if1 .left))
     (at-machine .machine-of .result) (at-fuel .fuel-of .result) (did .grant .result) (at-machine .machine-of .ensures) (at-fuel .fuel-of .ensures)
-    (did .grant .ensures) _ _ (told .tell2 .result) (c .before .before .before .before .before .before .put-fuel .ensures) (told .tell2 .ensures .0) (told .tell2 .ensures .1)
+    (did .grant .ensures) _ _ (told .tell2 .result) (told .before .before .before .before .put-fuel .ensures) (told .tell2 .ensures .0) (told .tell2 .ensures .1)
 
 pub do-grant-spec : {M : Type 1} → statement M
 do-grant-spec = tie.close (tie.spec tell-requires same-length returns machine-of-requires fuel-of-requires grant-requires put-fuel-requires tell-requires-2 same-length-2 same-length-3 returns-2)

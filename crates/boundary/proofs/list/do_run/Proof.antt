@@ -26,18 +26,24 @@ of c = host (mem c) (c .args .machine .now) (c .args .fuel .now)
 abbrev count-of : tie.Else2 → tie.After-count
 count-of c = c .before .before
 
-abbrev start-of : tie.Else2 → tie.Start
-start-of c = count-of c .before .before .before .before .before .before .before .before .before .before .before .before .before .before
+abbrev start-of : tie.After-count → tie.Start
+start-of c = c .before .before .before .before .before .before .before .before .before .before .before .before .before .before
 
-sound : (c : tie.Else2) → tested (of (start-of c)) ≡ true
-sound c = sym (start-of c .pre) ∙ not-false _ (c .if2 .left)
+abbrev run-known-of : tie.After-slice-known23 → tie.After-run-known
+run-known-of c = c .before .before .before .before .before .before .before .before .before .before .before .before .before .before .before .before .before .before .before .before .before .before .before .before .before .before .before .before
 
-long : (c : tie.Else2) → let a = start-of c .args in (25 ≤ length (a .machine .now)) × (4 ≤ length (a .fuel .now))
-long c = let a = start-of c .args in long-numbers (a .machine .now) (a .fuel .now) (numbers (of (start-of c)) (sound c))
+abbrev else-of : tie.After-run-known → tie.Else2
+else-of c = c .before .before .before .before .before .before .before .before .before .before .before .before .before .before
 
-room : (c : tie.Else1) → c .before .count .result * 8 ≤ length (c .before .before .before .before .before .before .before .before .before .before .before .before .before .before .before .args .answers .now)
+sound : (c : tie.Else2) → tested (of (start-of (count-of c))) ≡ true
+sound c = sym (start-of (count-of c) .pre) ∙ not-false _ (c .if2 .left)
+
+long : (c : tie.Else2) → let a = start-of (count-of c) .args in (25 ≤ length (a .machine .now)) × (4 ≤ length (a .fuel .now))
+long c = let start = start-of (count-of c) in long-numbers (start .args .machine .now) (start .args .fuel .now) (numbers (of start) (sound c))
+
+room : (c : tie.Else1) → c .before .count .result * 8 ≤ length (start-of (c .before) .args .answers .now)
 room c =
-    let xs = c .before .before .before .before .before .before .before .before .before .before .before .before .before .before .before .args .answers .now in
+    let xs = start-of (c .before) .args .answers .now in
     let h = c .if1 .left in
     enough (length xs) (c .before .count .result) (let z : c .before .count .result ≤ length xs / 8 = omega arith in z)
 
@@ -45,7 +51,7 @@ abbrev left-by : tie.After-run-known → Lent
 left-by c = nine (c .run-known .last .1 .0) (c .run-known .last .1 .1 .0) (c .run-known .last .1 .1 .1 .0) (c .run-known .last .1 .1 .1 .1 .0)
     (c .run-known .last .1 .1 .1 .1 .1 .0) (c .run-known .last .1 .1 .1 .1 .1 .1 .0) (c .run-known .last .1 .1 .1 .1 .1 .1 .1 .0)
     (c .run-known .last .1 .1 .1 .1 .1 .1 .1 .1 .0)
-    (start-of (c .before .before .before .before .before .before .before .before .before .before .before .before .before .before) .args .setup .now) plain
+    (start-of (count-of (else-of c)) .args .setup .now) plain
 
 count-requires : tie.Need-count-requires
 count-requires c κs = search needs
@@ -53,7 +59,7 @@ count-requires c κs = search needs
 returns : tie.Need-returns
 returns c =
     let at-count = c .before in
-    let start = c .before .before .before .before .before .before .before .before .before .before .before .before .before .before .before in
+    let start = start-of at-count in
     let a = start .args in
     run-short (of start) (a .calls .now) (a .answers .now) (at-count .count .result) (at-count .count .ensures) (c .if1 .taken)
 
@@ -66,8 +72,8 @@ same-length c = c .before .before .refuse-list .kept .0
 returns-2 : tie.Need-returns-2
 returns-2 c =
     let at-if1 = c .before .before .before .before .before in
-    let at-count = c .before .before .before .before .before .before in
-    let start = c .before .before .before .before .before .before .before .before .before .before .before .before .before .before .before .before .before .before .before .before in
+    let at-count = at-if1 .before in
+    let start = start-of at-count in
     let a = start .args in
     run-refused (of start) (a .calls .now) (a .answers .now) (at-count .count .result) (at-count .count .ensures) (room at-if1) (a .ok) (start .pre) (not-true _ (c .before .before .before .before .if2 .taken)) _ (c .before .before .refuse-list .ensures)
 
@@ -80,42 +86,42 @@ fuel-of-requires c κs = long (c .before .before .before) .1
 run-known-requires : tie.Need-run-known-requires
 run-known-requires c κs =
     let at-fuel = c .before .before .before .before .before .before .before .before .before in
-    let at-machine = c .before .before .before .before .before .before .before .before .before .before .before in
-    let at-if = c .before .before .before .before .before .before .before .before .before .before .before .before .before in
-    let start = start-of at-if in
+    let at-machine = at-fuel .before .before in
+    let at-if = at-machine .before .before in
+    let start = start-of (count-of at-if) in
     may-read (of start) (sound at-if) (at-machine .machine-of .result) (at-fuel .fuel-of .result) (sizesIn (start .args .machine .now)) (at-machine .machine-of .ensures) (at-fuel .fuel-of .ensures) refl .known
 
 put-machine-requires : tie.Need-put-machine-requires
 put-machine-requires c κs = long
-    (c .before .before .before .before .before .before .before .before .before .before .before .before .before .before .before .before .before .before .before .before .before .before .before .before .before .before .before .before .before .before .before .before .before .before .before) .0
+    (else-of (c .before .before .before .before .before .before .before .before .before .before .before .before .before .before .before .before .before .before .before .before .before)) .0
 
 put-fuel-requires : tie.Need-put-fuel-requires
 put-fuel-requires c κs = long
-    (c .before .before .before .before .before .before .before .before .before .before .before .before .before .before .before .before .before .before .before .before .before .before .before .before .before .before .before .before .before .before .before .before .before .before .before .before .before .before .before) .1
+    (else-of (c .before .before .before .before .before .before .before .before .before .before .before .before .before .before .before .before .before .before .before .before .before .before .before .before .before)) .1
 
 same-length-2 : tie.Need-same-length-2
-same-length-2 c = c .before .before .before .before .before .before .before .before .before .before .before .before .before .before .before .before .before .before .before .before .before .before .before .before .before .before .before .before .run-known .kept .1 .0
+same-length-2 c = run-known-of c .run-known .kept .1 .0
 
 same-length-3 : tie.Need-same-length-3
-same-length-3 c = c .before .before .before .before .before .before .before .before .before .before .before .before .before .before .before .before .before .before .before .before .before .before .before .before .before .before .before .before .run-known .kept .1 .1 .0
+same-length-3 c = run-known-of c .run-known .kept .1 .1 .0
 
 same-length-4 : tie.Need-same-length-4
-same-length-4 c = c .before .before .before .before .before .before .before .before .before .before .before .before .before .before .before .before .before .before .before .before .before .before .before .before .before .before .before .before .run-known .kept .1 .1 .1 .0
+same-length-4 c = run-known-of c .run-known .kept .1 .1 .1 .0
 
 same-length-5 : tie.Need-same-length-5
-same-length-5 c = c .before .before .before .before .before .before .before .before .before .before .before .before .before .before .before .before .before .before .before .before .before .before .before .before .before .before .before .before .run-known .kept .1 .1 .1 .1 .0
+same-length-5 c = run-known-of c .run-known .kept .1 .1 .1 .1 .0
 
 same-length-6 : tie.Need-same-length-6
-same-length-6 c = c .before .before .before .before .before .before .before .before .before .before .before .before .before .before .before .before .before .before .before .before .before .before .before .before .before .before .before .before .run-known .kept .1 .1 .1 .1 .1 .0
+same-length-6 c = run-known-of c .run-known .kept .1 .1 .1 .1 .1 .0
 
 same-length-7 : tie.Need-same-length-7
-same-length-7 c = c .before .before .before .before .before .before .before .before .before .before .before .before .before .before .before .before .before .before .before .before .before .before .before .before .before .before .before .before .run-known .kept .1 .1 .1 .1 .1 .1 .0
+same-length-7 c = run-known-of c .run-known .kept .1 .1 .1 .1 .1 .1 .0
 
 same-length-8 : tie.Need-same-length-8
-same-length-8 c = c .before .before .before .before .before .before .before .before .before .before .before .before .before .before .before .before .before .before .before .before .before .before .before .before .before .before .before .before .run-known .kept .1 .1 .1 .1 .1 .1 .1 .0
+same-length-8 c = run-known-of c .run-known .kept .1 .1 .1 .1 .1 .1 .1 .0
 
 same-length-9 : tie.Need-same-length-9
-same-length-9 c = c .before .before .before .before .before .before .before .before .before .before .before .before .before .before .before .before .before .before .before .before .before .before .before .before .before .before .before .before .run-known .kept .1 .1 .1 .1 .1 .1 .1 .1 .0
+same-length-9 c = run-known-of c .run-known .kept .1 .1 .1 .1 .1 .1 .1 .1 .0
 
 same-length-10 : tie.Need-same-length-10
 same-length-10 c = c .before .before .before .before .before .before .put-machine .kept .0
@@ -124,24 +130,29 @@ same-length-11 : tie.Need-same-length-11
 same-length-11 c = c .before .before .put-fuel .kept .0
 
 same-length-12 : tie.Need-same-length-12
-same-length-12 c = c .before .before .before .before .before .before .before .before .before .before .before .before .before .before .before .before .before .before .before .before .before .before .before .before .before .before .before .before .run-known .kept .1 .1 .1 .1 .1 .1 .1 .1 .1 .1 .1 .1 .1 .0
+same-length-12 c = run-known-of c .run-known .kept .1 .1 .1 .1 .1 .1 .1 .1 .1 .1 .1 .1 .1 .0
 
 returns-3 : tie.Need-returns-3
 returns-3 c =
-    let did = c .before .before .before .before .before .before .before .before .before .before .before .before .before .before .before .before .before .before .before .before .before .before .before .before .before .before .before .before in
-    let at-fuel = c .before .before .before .before .before .before .before .before .before .before .before .before .before .before .before .before .before .before .before .before .before .before .before .before .before .before .before .before .before .before .before .before .before .before .before .before .before .before in
-    let at-machine = c .before .before .before .before .before .before .before .before .before .before .before .before .before .before .before .before .before .before .before .before .before .before .before .before .before .before .before .before .before .before .before .before .before .before .before .before .before .before .before .before in
-    let at-if = c .before .before .before .before .before .before .before .before .before .before .before .before .before .before .before .before .before .before .before .before .before .before .before .before .before .before .before .before .before .before .before .before .before .before .before .before .before .before .before .before .before .before in
+    let did = run-known-of c in
+    let at-fuel = did .before .before .before .before .before .before .before .before .before .before in
+    let at-machine = at-fuel .before .before in
+    let at-if = else-of did in
     let at-count = count-of at-if in
-    let start = start-of at-if in
+    let start = start-of at-count in
     let a = start .args in
     let r = did .run-known .result in
     run-done (of start) (a .calls .now) (a .answers .now) (at-count .count .result) (at-count .count .ensures)
-    (room (c .before .before .before .before .before .before .before .before .before .before .before .before .before .before .before .before .before .before .before .before .before .before .before .before .before .before .before .before .before .before .before .before .before .before .before .before .before .before .before .before .before .before .before))
+    (room (at-if .before))
     (a .ok) (start .pre) (not-false _ (at-if .if2 .left)) (at-machine .machine-of .result) (at-fuel .fuel-of .result)
     (at-machine .machine-of .ensures) (at-fuel .fuel-of .ensures) (left-by did) (r .machine) (r .fuel) _ _
     (did .run-known .last .1 .1 .1 .1 .1 .1 .1 .1 .1 .1 .1 .1 .1 .0) (r .number) (did .run-known .ensures)
     (c .before .before .before .before .before .before .put-machine .ensures) (c .before .before .put-fuel .ensures)
 
 pub do-run-spec : {M : Type 1} → statement M
-do-run-spec = tie.close (tie.spec count-requires returns refuse-list-requires same-length returns-2 machine-of-requires fuel-of-requires run-known-requires put-machine-requires put-fuel-requires same-length-2 same-length-3 same-length-4 same-length-5 same-length-6 same-length-7 same-length-8 same-length-9 same-length-10 same-length-11 same-length-12 returns-3)
+do-run-spec =
+    tie.close
+    (tie.spec
+    count-requires returns refuse-list-requires same-length returns-2 machine-of-requires fuel-of-requires run-known-requires put-machine-requires
+    put-fuel-requires same-length-2 same-length-3 same-length-4 same-length-5 same-length-6 same-length-7 same-length-8 same-length-9 same-length-10
+    same-length-11 same-length-12 returns-3)

@@ -24,6 +24,9 @@ mem c = nine (c .args .stack .now) (c .args .frames .now) (c .args .chain .now) 
 abbrev of : tie.Start → Host
 of c = host (mem c) (c .args .machine .now) (c .args .fuel .now)
 
+abbrev start-of : tie.Else1 → tie.Start
+start-of c = c .before .before .before .before .before .before .before .before .before .before .before .before .before
+
 returns : tie.Need-returns
 returns c = let start = c .before .before .before .before .before .before .before .before .before .before .before .before .before in look-short (of start) (start .args .span .now) (c .if1 .taken)
 
@@ -32,7 +35,7 @@ tested-requires c κs = search needs
 
 place-in-requires : tie.Need-place-in-requires
 place-in-requires c κs =
-    let start = c .before .before .before .before .before .before .before .before .before .before .before .before .before .before in
+    let start = start-of (c .before) in
     let a = start .args in
     let is = c .tested .ensures in
     record {
@@ -52,9 +55,9 @@ same-length c = search needs
 returns-2 : tie.Need-returns-2
 returns-2 c =
     let at = c .before in
-    let test = c .before .before in
-    let start = c .before .before .before .before .before .before .before .before .before .before .before .before .before .before .before .before in
-    looked-at (of start) (start .args .span .now) (c .before .before .before .if1 .left) (test .tested .result) (test .tested .ensures) (at .place-in .result) (at .place-in .ensures) (c .if2 .taken)
+    let test = at .before in
+    let start = start-of (test .before) in
+    looked-at (of start) (start .args .span .now) (test .before .if1 .left) (test .tested .result) (test .tested .ensures) (at .place-in .result) (at .place-in .ensures) (c .if2 .taken)
 
 same-length-2 : tie.Need-same-length-2
 same-length-2 c = search needs
@@ -62,9 +65,9 @@ same-length-2 c = search needs
 returns-3 : tie.Need-returns-3
 returns-3 c =
     let at = c .before in
-    let test = c .before .before in
-    let start = c .before .before .before .before .before .before .before .before .before .before .before .before .before .before .before .before in
-    not-looked (of start) (start .args .span .now) (c .before .before .before .if1 .left) (test .tested .result) (test .tested .ensures) (at .place-in .result) (at .place-in .ensures) (c .if2 .left)
+    let test = at .before in
+    let start = start-of (test .before) in
+    not-looked (of start) (start .args .span .now) (test .before .if1 .left) (test .tested .result) (test .tested .ensures) (at .place-in .result) (at .place-in .ensures) (c .if2 .left)
 
 pub bvm-look-spec : {M : Type 1} → statement M
 bvm-look-spec = tie.close (tie.spec returns tested-requires place-in-requires slice-write-span slice-write-span-2 same-length returns-2 same-length-2 returns-3)

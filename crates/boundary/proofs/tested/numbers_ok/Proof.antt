@@ -15,7 +15,8 @@ returns c =
 
 returns-2 : tie.Need-returns-2
 returns-2 c =
-    let a = c .before .before .args in
+    let start = c .before .before in
+    let a = start .args in
     let ms = a .machine .now in
     let fs = a .fuel .now in
     sym (rw (le-leb 25 (length ms) (c .before .if1 .left), lt-leb 4 (length fs) (c .if2 .taken)))
@@ -25,36 +26,47 @@ shared-slice-read-if3 c = search needs
 
 returns-3 : tie.Need-returns-3
 returns-3 c =
-    let a = c .before .before .before .before .args in
+    let at-if2 = c .before .before in
+    let at-if1 = at-if2 .before in
+    let start = at-if1 .before in
+    let a = start .args in
     let ms = a .machine .now in
     let fs = a .fuel .now in
-    sym (rw (le-leb 25 (length ms) (c .before .before .before .if1 .left), le-leb 4 (length fs) (c .before .before .if2 .left), lt-leb (getD ms 6 0) 1 (c .if3 .taken)))
+    sym (rw (le-leb 25 (length ms) (at-if1 .if1 .left), le-leb 4 (length fs) (at-if2 .if2 .left), lt-leb (getD ms 6 0) 1 (c .if3 .taken)))
 
 shared-slice-read-if4 : tie.Need-shared-slice-read-if4
 shared-slice-read-if4 c = search needs
 
 returns-4 : tie.Need-returns-4
 returns-4 c =
-    let a = c .before .before .before .before .before .before .args in
+    let at-if3 = c .before .before in
+    let at-if2 = at-if3 .before .before in
+    let at-if1 = at-if2 .before in
+    let start = at-if1 .before in
+    let a = start .args in
     let ms = a .machine .now in
     let fs = a .fuel .now in
-    sym (rw (le-leb 25 (length ms) (c .before .before .before .before .before .if1 .left), le-leb 4 (length fs) (c .before .before .before .before .if2 .left), le-leb (getD ms 6 0) 1 (c .before .before .if3 .left), lt-leb (getD fs 3 0) 1 (c .if4 .taken)))
+    sym (rw (le-leb 25 (length ms) (at-if1 .if1 .left), le-leb 4 (length fs) (at-if2 .if2 .left), le-leb (getD ms 6 0) 1 (at-if3 .if3 .left), lt-leb (getD fs 3 0) 1 (c .if4 .taken)))
 
 shared-slice-read-if5 : tie.Need-shared-slice-read-if5
 shared-slice-read-if5 c = search needs
 
 returns-5 : tie.Need-returns-5
 returns-5 c =
-    let a = c .before .before .before .before .before .before .before .before .args in
+    let at-if4 = c .before .before in
+    let at-if3 = at-if4 .before .before in
+    let at-if2 = at-if3 .before .before in
+    let at-if1 = at-if2 .before in
+    let start = at-if1 .before in
+    let a = start .args in
     let ms = a .machine .now in
     let fs = a .fuel .now in
     sym (rw (
-      le-leb 25 (length ms) (c .before .before .before .before .before .before .before .if1 .left),
-      le-leb 4 (length fs)
-          (c .before .before .before .before .before .before .if2 .left),
-      le-leb (getD ms 6 0) 1 (c .before .before .before .before .if3 .left),
+      le-leb 25 (length ms) (at-if1 .if1 .left),
+      le-leb 4 (length fs) (at-if2 .if2 .left),
+      le-leb (getD ms 6 0) 1 (at-if3 .if3 .left),
       le-leb
-          (getD fs 3 0) 1 (c .before .before .if4 .left),
+          (getD fs 3 0) 1 (at-if4 .if4 .left),
       eq-eqb (getD fs 1 0) 1 (c .if5 .taken),
     ))
 
@@ -63,18 +75,22 @@ shared-slice-read-if6 c = search needs
 
 returns-6 : tie.Need-returns-6
 returns-6 c =
-    let a = c .before .before .before .before .before .before .before .before .before .before .args in
+    let at-if5 = c .before .before in
+    let at-if4 = at-if5 .before .before in
+    let at-if3 = at-if4 .before .before in
+    let at-if2 = at-if3 .before .before in
+    let at-if1 = at-if2 .before in
+    let start = at-if1 .before in
+    let a = start .args in
     let ms = a .machine .now in
     let fs = a .fuel .now in
     sym (rw (
-      le-leb 25 (length ms) (c .before .before .before .before .before .before .before .before .before .if1 .left),
-      le-leb 4 (length fs)
-          (c .before .before .before .before .before .before .before .before .if2 .left),
-      le-leb (getD ms 6 0) 1
-          (c .before .before .before .before .before .before .if3 .left),
-      le-leb (getD fs 3 0) 1 (c .before .before .before .before .if4 .left),
+      le-leb 25 (length ms) (at-if1 .if1 .left),
+      le-leb 4 (length fs) (at-if2 .if2 .left),
+      le-leb (getD ms 6 0) 1 (at-if3 .if3 .left),
+      le-leb (getD fs 3 0) 1 (at-if4 .if4 .left),
       ne-eqb
-          (getD fs 1 0) 1 (c .before .before .if5 .left),
+          (getD fs 1 0) 1 (at-if5 .if5 .left),
       ne-eqb (getD fs 1 0) 0 (c .if6 .taken),
     ))
 
@@ -83,20 +99,22 @@ shared-slice-read-result c = search needs
 
 returns-7 : tie.Need-returns-7
 returns-7 c =
-    let a = c .before .before .before .before .before .before .before .before .before .before .before .args in
+    let at-if5 = c .before .before .before in
+    let at-if4 = at-if5 .before .before in
+    let at-if3 = at-if4 .before .before in
+    let at-if2 = at-if3 .before .before in
+    let at-if1 = at-if2 .before in
+    let start = at-if1 .before in
+    let a = start .args in
     let ms = a .machine .now in
     let fs = a .fuel .now in
     sym (rw (
-      le-leb 25 (length ms) (c .before .before .before .before .before .before .before .before .before .before .if1 .left),
-      le-leb 4
-          (length fs) (c .before .before .before .before .before .before .before .before .before .if2 .left),
-      le-leb (getD ms 6 0) 1
-          (c .before .before .before .before .before .before .before .if3 .left),
-      le-leb (getD fs 3 0) 1
-          (c .before .before .before .before .before .if4 .left),
-      ne-eqb (getD fs 1 0) 1 (c .before .before .before .if5 .left),
-      eq-eqb (getD fs 1 0) 0
-          (c .before .if6 .left),
+      le-leb 25 (length ms) (at-if1 .if1 .left),
+      le-leb 4 (length fs) (at-if2 .if2 .left),
+      le-leb (getD ms 6 0) 1 (at-if3 .if3 .left),
+      le-leb (getD fs 3 0) 1 (at-if4 .if4 .left),
+      ne-eqb (getD fs 1 0) 1 (at-if5 .if5 .left),
+      eq-eqb (getD fs 1 0) 0 (c .before .if6 .left),
     ))
 
 pub numbers-ok-spec : {M : Type 1} → statement M

@@ -18,20 +18,23 @@ mem c = nine (c .args .stack .now) (c .args .frames .now) (c .args .chain .now) 
 abbrev of : tie.Start → Host
 of c = host (mem c) (c .args .machine .now) (c .args .fuel .now)
 
-passed : (c : tie.Else1) → let start = c .before .before .before .before .before .before .before .before .before .before .before .before .before in numbersOk (start .args .machine .now) (start .args .fuel .now) ≡ true
+abbrev start-of : tie.After-numbers-ok → tie.Start
+start-of c = c .before .before .before .before .before .before .before .before .before .before .before .before
+
+passed : (c : tie.Else1) → let start = start-of (c .before) in numbersOk (start .args .machine .now) (start .args .fuel .now) ≡ true
 passed c = sym (c .before .numbers-ok .ensures) ∙ not-false _ (c .if1 .left)
 
 numbers-ok-requires : tie.Need-numbers-ok-requires
 numbers-ok-requires c κs = search needs
 
 returns : tie.Need-returns
-returns c = fails-numbers (of (c .before .before .before .before .before .before .before .before .before .before .before .before .before)) (sym (c .before .numbers-ok .ensures) ∙ not-true _ (c .if1 .taken))
+returns c = fails-numbers (of (start-of (c .before))) (sym (c .before .numbers-ok .ensures) ∙ not-true _ (c .if1 .taken))
 
 machine-of-requires : tie.Need-machine-of-requires
-machine-of-requires c κs = let a = c .before .before .before .before .before .before .before .before .before .before .before .before .before .args in long-numbers (a .machine .now) (a .fuel .now) (passed c) .0
+machine-of-requires c κs = let a = start-of (c .before) .args in long-numbers (a .machine .now) (a .fuel .now) (passed c) .0
 
 fuel-of-requires : tie.Need-fuel-of-requires
-fuel-of-requires c κs = let a = c .before .before .before .before .before .before .before .before .before .before .before .before .before .before .args in long-numbers (a .machine .now) (a .fuel .now) (passed (c .before)) .1
+fuel-of-requires c κs = let a = start-of (c .before .before) .args in long-numbers (a .machine .now) (a .fuel .now) (passed (c .before)) .1
 
 sound-words-requires : tie.Need-sound-words-requires
 sound-words-requires c κs = search needs
@@ -42,7 +45,7 @@ returns-2 c =
     let at-fuel = test .before in
     let at-machine = at-fuel .before in
     let at-if1 = at-machine .before in
-    let h = of (at-if1 .before .before .before .before .before .before .before .before .before .before .before .before .before) in
+    let h = of (start-of (at-if1 .before)) in
     fails-sound h (passed at-if1)
     (sym (read-sound h (test .sound-words .result) (at-machine .machine-of .result) (at-fuel .fuel-of .result) (at-machine .machine-of .ensures) (at-fuel .fuel-of .ensures) (test .sound-words .ensures))
     ∙ not-true _ (c .if2 .taken))
@@ -53,7 +56,7 @@ sizes-held-requires c κs =
     let at-fuel = test .before in
     let at-machine = at-fuel .before in
     let at-if1 = at-machine .before in
-    let start = at-if1 .before .before .before .before .before .before .before .before .before .before .before .before .before in
+    let start = start-of (at-if1 .before) in
     let a = start .args in
     record {
       numbers = long-numbers (a .machine .now) (a .fuel .now) (passed at-if1) .0;
@@ -67,7 +70,7 @@ returns-3 c =
     let at-fuel = test .before in
     let at-machine = at-fuel .before in
     let at-if1 = at-machine .before in
-    let h = of (at-if1 .before .before .before .before .before .before .before .before .before .before .before .before .before) in
+    let h = of (start-of (at-if1 .before)) in
     c .sizes-held .ensures
     ∙ all-tested h (passed at-if1)
     (sym (read-sound h (test .sound-words .result) (at-machine .machine-of .result) (at-fuel .fuel-of .result) (at-machine .machine-of .ensures) (at-fuel .fuel-of .ensures) (test .sound-words .ensures))

@@ -2,10 +2,11 @@
 use mathlib.Core.Path.{_≡_, refl, sym, ap, _∙_}
 use mathlib.Core.Bool.{Bool, false}
 use mathlib.Core.List.{List, [], _∷_}
-use Prim.Native.Nat.{ℕ, zero, suc, _<_}
+use Prim.Native.Nat.{ℕ, zero, suc, _≤_, _<_}
 use native.Mathlib.Omega.{arith}
 use lib.ListN.{getD, length}
-use Rattle.heap.specs.Ranges.{Range, kinds, within, slotOk}
+use Rattle.heap.specs.Slot.{fieldsOf}
+use Rattle.heap.specs.Ranges.{Range, rangesOf, kinds, within, slotOk}
 use borrow.Author.Needs.{needs}
 use Rattle.heap.proofs.ranges.slot_ok.Statement.{statement}
 use Rattle.heap.proofs.ranges.slot_ok.Tie as tie
@@ -14,16 +15,38 @@ use Rattle.heap.proofs.ranges.slot_ok.Tie as tie
 row : (s : List ℕ) (k : ℕ) (r : Bool) → r ≡ within (getD kinds k []) s → getD s 1 0 ≡ k → r ≡ slotOk s
 row s k r p e = p ∙ ap (λ (n : ℕ). within (getD kinds n []) s) (sym e)
 
+-- the greatest values of tag and fields
+abbrev tag : List ℕ
+tag = 0 ∷ 65535 ∷ 65535 ∷ 65535 ∷ 65535 ∷ []
+
+abbrev first : List ℕ
+first = 0 ∷ 0 ∷ 18446744073709551615 ∷ 18446744073709551615 ∷ 18446744073709551615 ∷ []
+
+abbrev second : List ℕ
+second = 0 ∷ 0 ∷ 0 ∷ 1 ∷ 1 ∷ []
+
+abbrev third : List ℕ
+third = 0 ∷ 0 ∷ 0 ∷ 0 ∷ 18446744073709551615 ∷ []
+
+by-table : (s : List ℕ) (k : ℕ) (r : Bool) → k ≤ 4 → (k ≡ 1 → ⊥)
+    → r ≡ within (rangesOf (fieldsOf 0 0 0 0 0 0) (fieldsOf (getD tag k 0) k (getD first k 0) (getD second k 0) (getD third k 0) 0)) s → r ≡ within (getD kinds k []) s
+by-table s zero r h n p = p
+by-table s (suc zero) r h n p = absurd (n refl)
+by-table s (suc (suc zero)) r h n p = p
+by-table s (suc (suc (suc zero))) r h n p = p
+by-table s (suc (suc (suc (suc zero)))) r h n p = p
+by-table s (suc (suc (suc (suc (suc k))))) r h n p = absurd (omega arith)
+
 -- a number past the kinds has no row
-past : (k : ℕ) → (k ≡ 0 → ⊥) → (k ≡ 1 → ⊥) → (k ≡ 2 → ⊥) → (k ≡ 3 → ⊥) → (k ≡ 4 → ⊥) → (k ≡ 5 → ⊥) → (k ≡ 6 → ⊥) → getD kinds k [] ≡ []
-past zero a b c d e f g = absurd (a refl)
-past (suc zero) a b c d e f g = absurd (b refl)
-past (suc (suc zero)) a b c d e f g = absurd (c refl)
-past (suc (suc (suc zero))) a b c d e f g = absurd (d refl)
-past (suc (suc (suc (suc zero)))) a b c d e f g = absurd (e refl)
-past (suc (suc (suc (suc (suc zero))))) a b c d e f g = absurd (f refl)
-past (suc (suc (suc (suc (suc (suc zero)))))) a b c d e f g = absurd (g refl)
-past (suc (suc (suc (suc (suc (suc (suc k))))))) a b c d e f g = refl
+past : (k : ℕ) → 4 < k → (k ≡ 5 → ⊥) → (k ≡ 6 → ⊥) → getD kinds k [] ≡ []
+past zero h f g = absurd (omega arith)
+past (suc zero) h f g = absurd (omega arith)
+past (suc (suc zero)) h f g = absurd (omega arith)
+past (suc (suc (suc zero))) h f g = absurd (omega arith)
+past (suc (suc (suc (suc zero)))) h f g = absurd (omega arith)
+past (suc (suc (suc (suc (suc zero))))) h f g = absurd (f refl)
+past (suc (suc (suc (suc (suc (suc zero)))))) h f g = absurd (g refl)
+past (suc (suc (suc (suc (suc (suc (suc k))))))) h f g = refl
 
 none : (s : List ℕ) → 0 < length s → false ≡ within [] s
 none [] h = absurd (omega arith)
@@ -32,88 +55,89 @@ none (x ∷ s) h = refl
 shared-slice-read-kind : tie.Need-shared-slice-read-kind
 shared-slice-read-kind c = search needs
 
-fields-ok-requires : tie.Need-fields-ok-requires
-fields-ok-requires c κs = search needs
-
-fields-ok-requires-2 : tie.Need-fields-ok-requires-2
-fields-ok-requires-2 c κs = search needs
-
-fields-ok-requires-3 : tie.Need-fields-ok-requires-3
-fields-ok-requires-3 c κs = search needs
-
-fields-ok-requires-4 : tie.Need-fields-ok-requires-4
-fields-ok-requires-4 c κs = search needs
-
-fields-ok-requires-5 : tie.Need-fields-ok-requires-5
-fields-ok-requires-5 c κs = search needs
-
-fields-ok-requires-6 : tie.Need-fields-ok-requires-6
-fields-ok-requires-6 c κs = search needs
-
 at-most-requires : tie.Need-at-most-requires
 at-most-requires c κs = search needs
 
 returns : tie.Need-returns
 returns c =
-    let at-match = c .before in let start = at-match .before .before .before in
-    row (start .args .s .now) 0 (c .fields-ok .result) (c .fields-ok .ensures) (at-match .match .keys1)
+    let at-if1 = c .before in let start = at-if1 .before .before .before in
+    row (start .args .s .now) 6 (c .at-most .result) (c .at-most .ensures) (at-if1 .if1 .taken)
+
+fields-ok-requires : tie.Need-fields-ok-requires
+fields-ok-requires c κs = search needs
 
 returns-2 : tie.Need-returns-2
 returns-2 c =
-    let at-match = c .before in let start = at-match .before .before .before in
-    row (start .args .s .now) 1 (c .fields-ok2 .result) (c .fields-ok2 .ensures) (at-match .match .keys2)
+    let at-if2 = c .before in let start = at-if2 .before .before .before .before in
+    row (start .args .s .now) 5 (c .fields-ok .result) (c .fields-ok .ensures) (at-if2 .if2 .taken)
 
 returns-3 : tie.Need-returns-3
 returns-3 c =
-    let at-match = c .before in let start = at-match .before .before .before in
-    row (start .args .s .now) 2 (c .fields-ok3 .result) (c .fields-ok3 .ensures) (at-match .match .keys3)
+    let at-if2 = c .before in let at-if1 = at-if2 .before in let start = at-if1 .before .before .before in
+    let s = start .args .s .now in
+    let n : length s ≡ 20 = start .pre in
+    none s (omega arith) ∙ ap (λ (rs : List Range). within rs s) (sym (past (getD s 1 0) (c .if3 .taken) (at-if2 .if2 .left) (at-if1 .if1 .left)))
+
+fields-ok-requires-2 : tie.Need-fields-ok-requires-2
+fields-ok-requires-2 c κs = search needs
 
 returns-4 : tie.Need-returns-4
 returns-4 c =
-    let at-match = c .before in let start = at-match .before .before .before in
-    row (start .args .s .now) 3 (c .fields-ok4 .result) (c .fields-ok4 .ensures) (at-match .match .keys4)
+    let at-if4 = c .before in let start = at-if4 .before .before .before .before .before .before in
+    row (start .args .s .now) 1 (c .fields-ok2 .result) (c .fields-ok2 .ensures) (at-if4 .if4 .taken)
+
+mul-fields-ok : tie.Need-mul-fields-ok
+mul-fields-ok c = search needs
+
+array-read-fields-ok : tie.Need-array-read-fields-ok
+array-read-fields-ok c = search needs
+
+mul-fields-ok-2 : tie.Need-mul-fields-ok-2
+mul-fields-ok-2 c = search needs
+
+array-read-fields-ok-2 : tie.Need-array-read-fields-ok-2
+array-read-fields-ok-2 c = search needs
+
+mul-fields-ok-3 : tie.Need-mul-fields-ok-3
+mul-fields-ok-3 c = search needs
+
+array-read-fields-ok-3 : tie.Need-array-read-fields-ok-3
+array-read-fields-ok-3 c = search needs
+
+mul-fields-ok-4 : tie.Need-mul-fields-ok-4
+mul-fields-ok-4 c = search needs
+
+array-read-fields-ok-4 : tie.Need-array-read-fields-ok-4
+array-read-fields-ok-4 c = search needs
+
+fields-ok-requires-3 : tie.Need-fields-ok-requires-3
+fields-ok-requires-3 c κs = search needs
 
 returns-5 : tie.Need-returns-5
 returns-5 c =
-    let at-match = c .before in let start = at-match .before .before .before in
-    row (start .args .s .now) 4 (c .fields-ok5 .result) (c .fields-ok5 .ensures) (at-match .match .keys5)
-
-returns-6 : tie.Need-returns-6
-returns-6 c =
-    let at-match = c .before in let start = at-match .before .before .before in
-    row (start .args .s .now) 5 (c .fields-ok6 .result) (c .fields-ok6 .ensures) (at-match .match .keys6)
-
-returns-7 : tie.Need-returns-7
-returns-7 c =
-    let at-match = c .before in let start = at-match .before .before .before in
-    row (start .args .s .now) 6 (c .at-most .result) (c .at-most .ensures) (at-match .match .keys7)
-
-returns-8 : tie.Need-returns-8
-returns-8 c =
-    let start = c .before .before .before in
+    let at-if4 = c .before in let at-if3 = at-if4 .before in let start = at-if3 .before .before .before .before .before in
     let s = start .args .s .now in
-    let r = c .match .rest in
-    let n : length s ≡ 20 = start .pre in
-    none s (omega arith)
-    ∙ ap (λ (rs : List Range). within rs s) (sym (past (getD s 1 0) (r .0 .0 .0 .0 .0 .0 .1) (r .0 .0 .0 .0 .0 .1) (r .0 .0 .0 .0 .1) (r .0 .0 .0 .1) (r .0 .0 .1) (r .0 .1) (r .1)))
+    by-table s (getD s 1 0) (c .fields-ok3 .result) (at-if3 .if3 .left) (at-if4 .if4 .left) (c .fields-ok3 .ensures)
 
 pub slot-ok-spec : {M : Type 1} → statement M
 slot-ok-spec =
     tie.close
     (tie.spec
     shared-slice-read-kind
-    fields-ok-requires
-    fields-ok-requires-2
-    fields-ok-requires-3
-    fields-ok-requires-4
-    fields-ok-requires-5
-    fields-ok-requires-6
     at-most-requires
     returns
+    fields-ok-requires
     returns-2
     returns-3
+    fields-ok-requires-2
     returns-4
-    returns-5
-    returns-6
-    returns-7
-    returns-8)
+    mul-fields-ok
+    array-read-fields-ok
+    mul-fields-ok-2
+    array-read-fields-ok-2
+    mul-fields-ok-3
+    array-read-fields-ok-3
+    mul-fields-ok-4
+    array-read-fields-ok-4
+    fields-ok-requires-3
+    returns-5)

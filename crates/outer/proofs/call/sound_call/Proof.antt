@@ -53,10 +53,21 @@ returns c =
     let start = start-of at-kept in
     let a = start .args in
     let r = at-kept .kept .result in
+    let same = at-kept .kept .kept in
     record {
       is =
           stepped (mem start) (left-by at-kept) (a .m) (r .machine) (a .fuel) (r .fuel) (a .l) (a .op) (r .answer) (start .pre)
-          (record { stack = at-kept .kept .kept .0; frames = at-kept .kept .kept .1 .0; chain = at-kept .kept .kept .1 .1 .0; slots = at-kept .kept .kept .1 .1 .1 .0; savedStack = at-kept .kept .kept .1 .1 .1 .1 .0; savedFrames = at-kept .kept .kept .1 .1 .1 .1 .1 .0; ready = at-kept .kept .kept .1 .1 .1 .1 .1 .1 .0; finalize = at-kept .kept .kept .1 .1 .1 .1 .1 .1 .1 .0; setup = refl })
+          (record {
+            stack = same .0;
+            frames = same .1 .0;
+            chain = same .1 .1 .0;
+            slots = same .1 .1 .1 .0;
+            savedStack = same .1 .1 .1 .1 .0;
+            savedFrames = same .1 .1 .1 .1 .1 .0;
+            ready = same .1 .1 .1 .1 .1 .1 .0;
+            finalize = same .1 .1 .1 .1 .1 .1 .1 .0;
+            setup = refl;
+          })
           (at-kept .kept .ensures .met);
       again = sound-again (left-by at-kept) (r .machine) (r .fuel) (a .l) (at-kept .kept .ensures .again);
     }

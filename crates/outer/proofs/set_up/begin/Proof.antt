@@ -84,8 +84,19 @@ returns c =
     let at-set-up = set-up-of c in
     let start = start-of at-set-up in
     let ws = start .args .given .now in
+    let same = at-set-up .set-up .kept in
     begun ws (mem start) (start .pre) (left-by at-set-up) (at-set-up .set-up .result) _ _
-    (record { stack = at-set-up .set-up .kept .0; frames = at-set-up .set-up .kept .1 .0; chain = at-set-up .set-up .kept .1 .1 .0; slots = at-set-up .set-up .kept .1 .1 .1 .0; savedStack = at-set-up .set-up .kept .1 .1 .1 .1 .0; savedFrames = at-set-up .set-up .kept .1 .1 .1 .1 .1 .0; ready = at-set-up .set-up .kept .1 .1 .1 .1 .1 .1 .0; finalize = at-set-up .set-up .kept .1 .1 .1 .1 .1 .1 .1 .0; setup = at-set-up .set-up .kept .1 .1 .1 .1 .1 .1 .1 .1 .0 })
+    (record {
+      stack = same .0;
+      frames = same .1 .0;
+      chain = same .1 .1 .0;
+      slots = same .1 .1 .1 .0;
+      savedStack = same .1 .1 .1 .1 .0;
+      savedFrames = same .1 .1 .1 .1 .1 .0;
+      ready = same .1 .1 .1 .1 .1 .1 .0;
+      finalize = same .1 .1 .1 .1 .1 .1 .1 .0;
+      setup = same .1 .1 .1 .1 .1 .1 .1 .1 .0;
+    })
     (own-part ws (is-held ws (mem start) (start .pre))) refl (at-set-up .set-up .ensures)
 
 pub begin-spec : {M : Type 1} → statement M

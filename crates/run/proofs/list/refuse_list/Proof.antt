@@ -1,4 +1,4 @@
--- `refuse_list` meets its contract: after i turns the first i answers stand there. Assumes nothing.
+-- `refuse_list` meets its contract: after j turns the first j answers stand there. Assumes nothing.
 use mathlib.Core.Path.{_∙_}
 use Prim.Native.Nat.{_-_}
 use native.Mathlib.Omega.{arith}
@@ -8,10 +8,10 @@ use Rattle.run.proofs.list.refuse_list.Statement.{statement}
 use Rattle.run.proofs.list.refuse_list.Tie as tie
 
 abbrev Inv-loop : tie.InvT-loop
-Inv-loop answers₀ n i₀ answers i = Refused answers₀ n answers i
+Inv-loop answers₀ n j₀ answers j = Refused answers₀ n answers j
 
 abbrev μ-loop : tie.MeasureT-loop
-μ-loop answers₀ n i₀ answers i = n - i
+μ-loop answers₀ n j₀ answers j = n - j
 
 loop-holds : tie.Need-loop-holds Inv-loop μ-loop
 loop-holds c = let start = c .before in refused-start (start .args .answers .now) (start .args .n)
@@ -26,8 +26,8 @@ put-at-requires c κs =
     let p = start .pre in
     omega arith
 
-add-i : tie.Need-add-i Inv-loop μ-loop
-add-i c =
+add-j : tie.Need-add-j Inv-loop μ-loop
+add-j c =
     let test = c .before .before .before .before in
     let t = test .loop-test .taken in
     let start = test .before .before .before in
@@ -42,7 +42,7 @@ loop-again c =
     let test = c .before .before .before .before in
     let loop = test .before in
     let start = loop .before .before in
-    refused-more (start .args .answers .now) (start .args .n) (loop .loop .answers) _ (loop .loop .i) (start .pre) (test .loop-test .taken) (loop .loop .inv) (put .put-at .ensures) (put .put-at .kept .0)
+    refused-more (start .args .answers .now) (start .args .n) (loop .loop .answers) _ (loop .loop .j) (start .pre) (test .loop-test .taken) (loop .loop .inv) (put .put-at .ensures) (put .put-at .kept .0)
 
 same-length : tie.Need-same-length Inv-loop μ-loop
 same-length c = c .before .loop .inv .long
@@ -52,7 +52,7 @@ returns c =
     let loop = c .before in
     let start = loop .before .before in
     let t = c .loop-test .left in
-    refused-end (start .args .answers .now) (start .args .n) (loop .loop .answers) (loop .loop .i) (omega arith) (loop .loop .inv)
+    refused-end (start .args .answers .now) (start .args .n) (loop .loop .answers) (loop .loop .j) (omega arith) (loop .loop .inv)
 
 pub refuse-list-spec : {M : Type 1} → statement M
-refuse-list-spec = tie.close (tie.spec Inv-loop μ-loop loop-holds put-at-requires add-i loop-less loop-again same-length returns)
+refuse-list-spec = tie.close (tie.spec Inv-loop μ-loop loop-holds put-at-requires add-j loop-less loop-again same-length returns)

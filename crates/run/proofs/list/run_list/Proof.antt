@@ -89,11 +89,23 @@ loop-again c =
     let start = start-of loop in
     let a = start .args in
     let at-read = did .before .before .before .before .before .before .before .before .before in
+    let same = did .do-read .kept in
     along-more (a .ok) (a .l) (a .calls .now) (a .answers .now) (a .n) (at-start start) (at-loop loop) (loop .loop .answers) (loop .loop .i) (loop .loop .inv) (test .loop-test .taken)
     (start .pre .room) (gives (left-by did) (did .do-read .result)) _
     (subst (λ r. Reads (a .ok) (at-loop loop) r (gives (left-by did) (did .do-read .result))) (at-read .read-at .ensures) (did .do-read .ensures))
     (at-put .put-at .ensures)
-    (record { stack = did .do-read .kept .1 .0; frames = did .do-read .kept .1 .1 .0; chain = did .do-read .kept .1 .1 .1 .0; slots = did .do-read .kept .1 .1 .1 .1 .0; savedStack = did .do-read .kept .1 .1 .1 .1 .1 .0; savedFrames = did .do-read .kept .1 .1 .1 .1 .1 .1 .0; ready = did .do-read .kept .1 .1 .1 .1 .1 .1 .1 .0; finalize = did .do-read .kept .1 .1 .1 .1 .1 .1 .1 .1 .0; setup = refl }) refl
+    (record {
+      stack = same .1 .0;
+      frames = same .1 .1 .0;
+      chain = same .1 .1 .1 .0;
+      slots = same .1 .1 .1 .1 .0;
+      savedStack = same .1 .1 .1 .1 .1 .0;
+      savedFrames = same .1 .1 .1 .1 .1 .1 .0;
+      ready = same .1 .1 .1 .1 .1 .1 .1 .0;
+      finalize = same .1 .1 .1 .1 .1 .1 .1 .1 .0;
+      setup = refl;
+    })
+    refl
     (at-put .put-at .kept .0)
 
 same-length : tie.Need-same-length Inv-loop μ-loop

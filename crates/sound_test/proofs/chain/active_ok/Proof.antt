@@ -1,6 +1,12 @@
 -- `active_ok` meets its contract: each test fails the whole, and the last decides it. Assumes nothing.
+use mathlib.Core.Path.{ap, _∙_}
+use Prim.Native.Nat.{ℕ}
 use native.Mathlib.Omega.{arith}
 use borrow.Author.Tests.{not-true, not-false}
+use Rattle.model.specs.Sound.{driverLies}
+use Rattle.tables.specs.Layout.{frameOf}
+use Rattle.tables.specs.Parts.{piled}
+use Rattle.sound_test.specs.Chain.{driverIn}
 use Rattle.sound_test.proofs.Beside.{other-floor, bad-driver, last-lies}
 use borrow.Author.Needs.{needs}
 use Rattle.sound_test.proofs.chain.active_ok.Statement.{statement}
@@ -67,25 +73,10 @@ returns-2 c =
     let at-driver-held = c .before in let at-if1 = at-driver-held .before .before .before .before .before in let start = at-if1 .before .before .before .before in
     let a = start .args in bad-driver (a .chain .now) (a .frames .now) (a .k) (a .i) (at-if1 .if1 .left) (at-driver-held .driver-held .result) (at-driver-held .driver-held .ensures) (not-true _ (c .if2 .taken))
 
-mul-base : tie.Need-mul-base
-mul-base c =
+base-at-requires : tie.Need-base-at-requires
+base-at-requires c κs =
     let start = c .before .before .before .before .before .before .before .before .before .before in
-    omega (arith, start .pre .1)
-
-add-base : tie.Need-add-base
-add-base c =
-    let start = c .before .before .before .before .before .before .before .before .before .before in
-    omega (arith, start .pre .1)
-
-mul-base-2 : tie.Need-mul-base-2
-mul-base-2 c =
-    let start = c .before .before .before .before .before .before .before .before .before .before in
-    omega (arith, start .pre .1)
-
-shared-slice-read-base : tie.Need-shared-slice-read-base
-shared-slice-read-base c =
-    let start = c .before .before .before .before .before .before .before .before .before .before .before in
-    omega (arith, start .pre .1)
+    start .pre .1
 
 driver-lies-requires : tie.Need-driver-lies-requires
 driver-lies-requires c κs =
@@ -97,7 +88,8 @@ returns-3 c =
     let at-if2 = c .before .before in let at-driver-held = at-if2 .before in let at-if1 = at-driver-held .before .before .before .before .before in
     let start = at-if1 .before .before .before .before in
     let a = start .args in
-    last-lies (a .chain .now) (a .frames .now) (a .k) (a .i) (at-if1 .if1 .left) (at-driver-held .driver-held .result) (c .driver-lies .result) (at-driver-held .driver-held .ensures) (not-false _ (at-if2 .if2 .left)) (c .driver-lies .ensures)
+    last-lies (a .chain .now) (a .frames .now) (a .k) (a .i) (at-if1 .if1 .left) (at-driver-held .driver-held .result) (c .driver-lies .result) (at-driver-held .driver-held .ensures) (not-false _ (at-if2 .if2 .left))
+    (c .driver-lies .ensures ∙ ap (λ (x : ℕ). driverLies (driverIn (a .chain .now) (a .k)) x (piled 6 frameOf (a .i) (a .frames .now))) (c .before .base-at .ensures))
 
 pub active-ok-spec : {M : Type 1} → statement M
 active-ok-spec =
@@ -122,9 +114,6 @@ active-ok-spec =
     shared-slice-read-c
     driver-held-requires
     returns-2
-    mul-base
-    add-base
-    mul-base-2
-    shared-slice-read-base
+    base-at-requires
     driver-lies-requires
     returns-3)

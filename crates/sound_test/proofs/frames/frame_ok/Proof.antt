@@ -1,8 +1,6 @@
 -- `frame_ok` meets its contract: each test fails the whole, and the last decides it. Assumes nothing.
 use native.Mathlib.Omega.{arith}
-use mathlib.Core.Path.{sym, _∙_}
-use borrow.Author.Tests.{not-true, not-false}
-use Rattle.sound_test.proofs.OneFrame.{functions-long, stop-base, stop-func, stop-pc, stop-catch, stop-cont, stop-place, last}
+use Rattle.sound_test.proofs.OneFrame.{functions-long, stop-base, stop-func, stop-pc, stop-catch, last}
 use borrow.Author.Needs.{needs}
 use Rattle.sound_test.proofs.frames.frame_ok.Statement.{statement}
 use Rattle.sound_test.proofs.frames.frame_ok.Tie as tie
@@ -86,38 +84,15 @@ returns-4 c =
     let start = at-if1 .before .before .before .before .before .before .before in
     let a = start .args in stop-catch (a .saved) (a .setup .now) (a .ws .now) (a .i) (a .end) (at-if1 .if1 .left) (at-if2 .if2 .left) (at-if3 .if3 .left) (a .need .now) (start .pre .catches) (c .if4 .taken)
 
-cont-held-requires : tie.Need-cont-held-requires
-cont-held-requires c κs = search needs
+cont-ok-requires : tie.Need-cont-ok-requires
+cont-ok-requires c κs = search needs
 
 returns-5 : tie.Need-returns-5
 returns-5 c =
-    let at-cont-held = c .before in let at-if4 = at-cont-held .before in let at-if3 = at-if4 .before .before in let at-if2 = at-if3 .before .before in
-    let at-if1 = at-if2 .before .before in let start = at-if1 .before .before .before .before .before .before .before in
-    let a = start .args in stop-cont (a .saved) (a .setup .now) (a .ws .now) (a .i) (a .end) (at-if1 .if1 .left) (at-if2 .if2 .left) (at-if3 .if3 .left) (a .need .now) (start .pre .catches)
-    (at-if4 .if4 .left) (at-cont-held .cont-held .result) (at-cont-held .cont-held .ensures) (not-true _ (c .if5 .taken))
-
-place-ok-requires : tie.Need-place-ok-requires
-place-ok-requires c κs = search needs
-
-returns-6 : tie.Need-returns-6
-returns-6 c =
-    let at-place-ok = c .before in let at-if5 = at-place-ok .before in let at-cont-held = at-if5 .before in let at-if4 = at-cont-held .before in
-    let at-if3 = at-if4 .before .before in let at-if2 = at-if3 .before .before in let at-if1 = at-if2 .before .before in
-    let start = at-if1 .before .before .before .before .before .before .before in
-    let a = start .args in stop-place (a .saved) (a .setup .now) (a .ws .now) (a .i) (a .end) (at-if1 .if1 .left) (at-if2 .if2 .left) (at-if3 .if3 .left) (a .need .now) (start .pre .catches)
-    (at-if4 .if4 .left) (sym (at-cont-held .cont-held .ensures) ∙ not-false _ (at-if5 .if5 .left)) (at-place-ok .place-ok .result) (at-place-ok .place-ok .ensures) (not-true _ (c .if6 .taken))
-
-cont-lies-requires : tie.Need-cont-lies-requires
-cont-lies-requires c κs = search needs
-
-returns-7 : tie.Need-returns-7
-returns-7 c =
-    let at-if6 = c .before in let at-place-ok = at-if6 .before in let at-if5 = at-place-ok .before in let at-cont-held = at-if5 .before in
-    let at-if4 = at-cont-held .before in let at-if3 = at-if4 .before .before in let at-if2 = at-if3 .before .before in let at-if1 = at-if2 .before .before in
+    let at-if4 = c .before in let at-if3 = at-if4 .before .before in let at-if2 = at-if3 .before .before in let at-if1 = at-if2 .before .before in
     let start = at-if1 .before .before .before .before .before .before .before in
     let a = start .args in last (a .saved) (a .setup .now) (a .ws .now) (a .i) (a .end) (at-if1 .if1 .left) (at-if2 .if2 .left) (at-if3 .if3 .left) (a .need .now) (start .pre .catches)
-    (at-if4 .if4 .left) (sym (at-cont-held .cont-held .ensures) ∙ not-false _ (at-if5 .if5 .left)) (at-place-ok .place-ok .result) (c .cont-lies .result) (at-place-ok .place-ok .ensures)
-    (not-false _ (at-if6 .if6 .left)) (c .cont-lies .ensures)
+    (at-if4 .if4 .left) (c .cont-ok .result) (c .cont-ok .ensures)
 
 pub frame-ok-spec : {M : Type 1} → statement M
 frame-ok-spec =
@@ -145,9 +120,5 @@ frame-ok-spec =
     mul-if4
     element-copy-out-if4
     returns-4
-    cont-held-requires
-    returns-5
-    place-ok-requires
-    returns-6
-    cont-lies-requires
-    returns-7)
+    cont-ok-requires
+    returns-5)

@@ -1,6 +1,6 @@
 -- `frames_over` meets its contract: the frames below decide the whole. Assumes nothing.
-use mathlib.Core.Path.{_≡_, refl}
-use Prim.Native.Nat.{_≤_}
+use mathlib.Core.Path.{_≡_, refl, sym, ap, _∙_}
+use Prim.Native.Nat.{_-_, _≤_}
 use native.Mathlib.Omega.{arith}
 use borrow.Author.Tests.{not-true, not-false}
 use Rattle.words.specs.Decode.{setupOf}
@@ -31,24 +31,9 @@ returns c =
     let at-frame-ok = c .before in let at-loop-test = at-frame-ok .before in let at-loop = at-loop-test .before in let start = at-loop .before .before .before in
     let a = start .args in frames-stop (a .saved) (setupOf (a .setup .now)) (a .ws .now) (at-loop .loop .i) (at-loop .loop .e) _ (at-loop .loop .inv .1) (at-frame-ok .frame-ok .result) (at-loop-test .loop-test .taken) (at-frame-ok .frame-ok .ensures) (not-true _ (c .if1 .taken))
 
-mul-e : tie.Need-mul-e Inv-loop μ-loop
-mul-e c =
+base-at-requires : tie.Need-base-at-requires Inv-loop μ-loop
+base-at-requires c κs =
     let start = c .before .before .before .before .before .before in
-    omega (arith, start .pre .inside)
-
-add-e : tie.Need-add-e Inv-loop μ-loop
-add-e c =
-    let start = c .before .before .before .before .before .before in
-    omega (arith, start .pre .inside)
-
-mul-e-2 : tie.Need-mul-e-2 Inv-loop μ-loop
-mul-e-2 c =
-    let start = c .before .before .before .before .before .before in
-    omega (arith, start .pre .inside)
-
-shared-slice-read-e : tie.Need-shared-slice-read-e Inv-loop μ-loop
-shared-slice-read-e c =
-    let start = c .before .before .before .before .before .before .before in
     omega (arith, start .pre .inside)
 
 loop-less : tie.Need-loop-less Inv-loop μ-loop
@@ -58,7 +43,11 @@ loop-again : tie.Need-loop-again Inv-loop μ-loop
 loop-again c =
     let at-if1 = c .before in let at-frame-ok = at-if1 .before in let at-loop-test = at-frame-ok .before in let at-loop = at-loop-test .before in
     let start = at-loop .before .before .before in
-    let a = start .args in (omega arith, frames-more (a .saved) (setupOf (a .setup .now)) (a .ws .now) (at-loop .loop .i) (at-loop .loop .e) _ (at-loop .loop .inv .1) (at-frame-ok .frame-ok .result) (at-loop-test .loop-test .taken) (at-frame-ok .frame-ok .ensures) (not-false _ (at-if1 .if1 .left)))
+    let a = start .args in (
+      omega arith,
+      frames-more (a .saved) (setupOf (a .setup .now)) (a .ws .now) (at-loop .loop .i) (at-loop .loop .e) _ (at-loop .loop .inv .1) (at-frame-ok .frame-ok .result) (at-loop-test .loop-test .taken) (at-frame-ok .frame-ok .ensures) (not-false _ (at-if1 .if1 .left))
+          ∙ ap (framesTest (a .saved) (setupOf (a .setup .now)) (a .ws .now) (at-loop .loop .i - 1)) (sym (c .base-at .ensures)),
+    )
 
 returns-2 : tie.Need-returns-2 Inv-loop μ-loop
 returns-2 c =
@@ -75,10 +64,7 @@ frames-over-spec =
     sub-i
     frame-ok-requires
     returns
-    mul-e
-    add-e
-    mul-e-2
-    shared-slice-read-e
+    base-at-requires
     loop-less
     loop-again
     returns-2)

@@ -1,8 +1,10 @@
 -- `lies_under` meets its contract: the register's place is below the end. Assumes nothing.
-use mathlib.Core.Path.{sym}
+use mathlib.Core.Path.{sym, ap, _∙_, subst}
+use Prim.Native.Nat.{ℕ, _-_, _≤_, _<_}
 use native.Mathlib.Omega.{arith}
 use Rattle.sound_test.proofs.Conts.{under-near, under-far}
 use borrow.Author.Needs.{needs}
+use lib.Dec.{ltb}
 use Rattle.sound_test.proofs.frames.lies_under.Statement.{statement}
 use Rattle.sound_test.proofs.frames.lies_under.Tie as tie
 
@@ -12,30 +14,22 @@ returns c = search needs
 sub-below : tie.Need-sub-below
 sub-below c = search needs
 
-mul-base : tie.Need-mul-base
-mul-base c = search needs
-
-add-base : tie.Need-add-base
-add-base c = search needs
-
-mul-base-2 : tie.Need-mul-base-2
-mul-base-2 c = search needs
-
-shared-slice-read-base : tie.Need-shared-slice-read-base
-shared-slice-read-base c = search needs
+base-at-requires : tie.Need-base-at-requires
+base-at-requires c κs = search needs
 
 sub-result : tie.Need-sub-result
 sub-result c = search needs
 
 returns-2 : tie.Need-returns-2
 returns-2 c =
-    let start = c .before .before .before in
-    let a = start .args in under-near (a .ws .now) (a .i) (a .r) (a .end) (omega arith) (c .if2 .taken)
+    let at-base = c .before in let start = at-base .before .before .before in
+    let a = start .args in let e = at-base .base-at .ensures in
+    ap (λ (x : ℕ). ltb (a .r) (a .end - x)) e ∙ under-near (a .ws .now) (a .i) (a .r) (a .end) (omega arith) (subst (λ (x : ℕ). x < a .end) e (c .if2 .taken))
 
 returns-3 : tie.Need-returns-3
 returns-3 c =
-    let start = c .before .before .before in
-    let a = start .args in sym (under-far (a .ws .now) (a .i) (a .r) (a .end) (omega arith) (c .if2 .left))
+    let at-base = c .before in let start = at-base .before .before .before in
+    let a = start .args in sym (under-far (a .ws .now) (a .i) (a .r) (a .end) (omega arith) (subst (λ (x : ℕ). a .end ≤ x) (at-base .base-at .ensures) (c .if2 .left)))
 
 pub lies-under-spec : {M : Type 1} → statement M
 lies-under-spec =
@@ -43,10 +37,7 @@ lies-under-spec =
     (tie.spec
     returns
     sub-below
-    mul-base
-    add-base
-    mul-base-2
-    shared-slice-read-base
+    base-at-requires
     sub-result
     returns-2
     returns-3)

@@ -1,54 +1,39 @@
--- `rest_ok` meets its contract: what was joined and what is left decide the whole. Assumes nothing.
-use mathlib.Core.Path.{_≡_, refl, sym, _∙_}
-use Prim.Native.Nat.{_-_}
+-- `rest_ok` meets its contract: past the end nothing is left. Assumes nothing.
+use mathlib.Core.Path.{_≡_, sym, ap, _∙_}
+use Prim.Native.Nat.{_-_, _≤_}
 use native.Mathlib.Omega.{arith}
-use lib.ListN.{length}
-use Rattle.sound.specs.Words.{restOk}
-use Rattle.sound_test.proofs.Joined.{left, more, end}
+use borrow.Author.Needs.{needs}
+use lib.ListN.{length, drop, drop-of-length-le, length-drop}
+use lib.Seq.{take-all}
+use Rattle.lists.specs.Tests.{zeros}
 use Rattle.sound_test.proofs.rest.rest_ok.Statement.{statement}
 use Rattle.sound_test.proofs.rest.rest_ok.Tie as tie
 
-abbrev Inv-loop : tie.InvT-loop
-Inv-loop ws from any₀ i₀ any i = restOk ws from ≡ left ws any i
+returns : tie.Need-returns
+returns c = let a = c .before .before .args in let h : length (a .ws .now) ≤ a .from = c .if1 .taken in sym (ap zeros (drop-of-length-le (a .ws .now) h))
 
-abbrev μ-loop : tie.MeasureT-loop
-μ-loop ws from any₀ i₀ any i = length ws - i
+mul-all-zero : tie.Need-mul-all-zero
+mul-all-zero c = search needs
 
-loop-holds : tie.Need-loop-holds Inv-loop μ-loop
-loop-holds c = refl
+sub-all-zero : tie.Need-sub-all-zero
+sub-all-zero c = search needs
 
-mul-any : tie.Need-mul-any Inv-loop μ-loop
-mul-any c = omega arith
+part-all-zero-start : tie.Need-part-all-zero-start
+part-all-zero-start c = search needs
 
-shared-slice-read-any : tie.Need-shared-slice-read-any Inv-loop μ-loop
-shared-slice-read-any c = omega arith
+part-all-zero-end : tie.Need-part-all-zero-end
+part-all-zero-end c = search needs
 
-add-i : tie.Need-add-i Inv-loop μ-loop
-add-i c = omega arith
+all-zero-requires : tie.Need-all-zero-requires
+all-zero-requires c κs = search needs
 
-loop-less : tie.Need-loop-less Inv-loop μ-loop
-loop-less c = omega arith
-
-loop-again : tie.Need-loop-again Inv-loop μ-loop
-loop-again c =
-    let at-loop = c .before .before in let ws = at-loop .before .args .ws .now in
-    at-loop .loop .inv ∙ more ws (at-loop .loop .any) (at-loop .loop .i) (c .before .loop-test .taken)
-
-returns : tie.Need-returns Inv-loop μ-loop
-returns c =
-    let at-loop = c .before in let ws = at-loop .before .args .ws .now in
-    sym (at-loop .loop .inv ∙ end ws (at-loop .loop .any) (at-loop .loop .i) (c .loop-test .left))
+returns-2 : tie.Need-returns-2
+returns-2 c =
+    let a = c .before .before .before .before .args in let ws = a .ws .now in
+    let h : length (drop (a .from) ws) ≤ length ws - a .from = simp length-drop (omega arith) in
+    c .all-zero .ensures ∙ ap zeros (take-all (length ws - a .from) (drop (a .from) ws) h)
 
 pub rest-ok-spec : {M : Type 1} → statement M
 rest-ok-spec =
     tie.close
-    (tie.spec
-    Inv-loop
-    μ-loop
-    loop-holds
-    mul-any
-    shared-slice-read-any
-    add-i
-    loop-less
-    loop-again
-    returns)
+    (tie.spec returns mul-all-zero sub-all-zero part-all-zero-start part-all-zero-end all-zero-requires returns-2)

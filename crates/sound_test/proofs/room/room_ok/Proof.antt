@@ -4,6 +4,7 @@ use Prim.Native.Nat.{_*_}
 use native.Mathlib.Omega.{arith}
 use native.Mathlib.Nat.{mul-le-mul-right}
 use borrow.Author.Tests.{le-leb, lt-leb}
+use Rattle.heap.specs.Slot.{width}
 use Rattle.sound_test.proofs.room.room_ok.Statement.{statement}
 use Rattle.sound_test.proofs.room.room_ok.Tie as tie
 
@@ -41,7 +42,7 @@ returns-4 : tie.Need-returns-4
 returns-4 c =
     let at-if3 = c .before .before in let at-if2 = at-if3 .before in let at-if1 = at-if2 .before in let start = at-if1 .before .before .before in
     let a = start .args in let l = a .l in
-    sym (rw (le-leb (l .stack) (a .stack) (at-if1 .if1 .left), le-leb (l .depth * 6) (a .frames) (at-if2 .if2 .left), le-leb (l .depth * 6) (a .chain) (at-if3 .if3 .left), lt-leb (l .slots * 20) (a .slots) (c .if4 .taken)))
+    sym (rw (le-leb (l .stack) (a .stack) (at-if1 .if1 .left), le-leb (l .depth * 6) (a .frames) (at-if2 .if2 .left), le-leb (l .depth * 6) (a .chain) (at-if3 .if3 .left), lt-leb (l .slots * width) (a .slots) (c .if4 .taken)))
 
 mul-if5 : tie.Need-mul-if5
 mul-if5 c =
@@ -53,7 +54,7 @@ returns-5 : tie.Need-returns-5
 returns-5 c =
     let at-if4 = c .before .before in let at-if3 = at-if4 .before .before in let at-if2 = at-if3 .before in let at-if1 = at-if2 .before in let start = at-if1 .before .before .before in
     let a = start .args in let l = a .l in
-    sym (rw (le-leb (l .stack) (a .stack) (at-if1 .if1 .left), le-leb (l .depth * 6) (a .frames) (at-if2 .if2 .left), le-leb (l .depth * 6) (a .chain) (at-if3 .if3 .left), le-leb (l .slots * 20) (a .slots) (at-if4 .if4 .left), lt-leb (l .rows * l .width) (a .saved) (c .if5 .taken)))
+    sym (rw (le-leb (l .stack) (a .stack) (at-if1 .if1 .left), le-leb (l .depth * 6) (a .frames) (at-if2 .if2 .left), le-leb (l .depth * 6) (a .chain) (at-if3 .if3 .left), le-leb (l .slots * width) (a .slots) (at-if4 .if4 .left), lt-leb (l .rows * l .width) (a .saved) (c .if5 .taken)))
 
 mul-if6 : tie.Need-mul-if6
 mul-if6 c =
@@ -69,7 +70,7 @@ returns-6 c =
       le-leb (l .stack) (a .stack) (at-if1 .if1 .left),
       le-leb (l .depth * 6) (a .frames) (at-if2 .if2 .left),
       le-leb (l .depth * 6) (a .chain) (at-if3 .if3 .left),
-      le-leb (l .slots * 20) (a .slots) (at-if4 .if4 .left),
+      le-leb (l .slots * width) (a .slots) (at-if4 .if4 .left),
       le-leb (l .rows * l .width) (a .saved) (at-if5 .if5 .left),
       lt-leb (l .rows * (l .depth * 6)) (a .asleep) (c .if6 .taken),
     ))
@@ -83,7 +84,7 @@ returns-7 c =
       le-leb (l .depth * 6) (a .frames) (at-if2 .if2 .left),
       le-leb (l .depth * 6)
           (a .chain) (at-if3 .if3 .left),
-      le-leb (l .slots * 20) (a .slots) (at-if4 .if4 .left),
+      le-leb (l .slots * width) (a .slots) (at-if4 .if4 .left),
       le-leb (l .rows * l .width) (a .saved) (at-if5 .if5 .left),
       le-leb (l .rows * (l .depth * 6)) (a .asleep) (at-if6 .if6 .left),
       lt-leb (l .slots) (a .ready) (c .if7 .taken),
@@ -98,7 +99,7 @@ returns-8 c =
       le-leb (l .depth * 6) (a .frames) (at-if2 .if2 .left),
       le-leb (l .depth * 6)
           (a .chain) (at-if3 .if3 .left),
-      le-leb (l .slots * 20) (a .slots) (at-if4 .if4 .left),
+      le-leb (l .slots * width) (a .slots) (at-if4 .if4 .left),
       le-leb (l .rows * l .width) (a .saved) (at-if5 .if5 .left),
       le-leb (l .rows * (l .depth * 6)) (a .asleep) (at-if6 .if6 .left),
       le-leb (l .slots) (a .ready) (at-if7 .if7 .left),

@@ -7,7 +7,7 @@ use borrow.Author.Tests.{not-true, not-false}
 use lib.ListN.{length-set, getD}
 use Rattle.lists.proofs.Tables.{length-chunks}
 use Rattle.heap.specs.Word.{slotOf}
-use Rattle.heap.specs.Slot.{slotOfWords}
+use Rattle.heap.specs.Slot.{width, slotOfWords}
 use Rattle.heap.specs.Heap.{slotsOf}
 use Rattle.sound_test.proofs.Bits.{empty-set, put-set}
 use Rattle.sound_words.proofs.Chained.{Passed, runs, stops, twice, passes, all-run, set-of, word-inside}
@@ -29,7 +29,7 @@ small c e =
     let at-loop = c .before .before .before in let start = at-loop .before .before .before in
     let a = start .args in
     let i = word-inside (slotsOf (a .count) (a .slots .now)) (getD (a .chain .now) (at-loop .loop .k * 6) 0) e in
-    let l = length-chunks 20 slotOfWords (a .count) (a .slots .now) in
+    let l = length-chunks width slotOfWords (a .count) (a .slots .now) in
     let f = start .pre .few in
     omega arith
 

@@ -1,7 +1,9 @@
 -- `waits_ok` meets its contract. Assumes nothing.
-use mathlib.Core.Path.{sym, _∙_}
+use mathlib.Core.Path.{sym, ap, _∙_, subst}
+use Prim.Native.Nat.{ℕ, _-_, _≤_, _<_}
 use borrow.Author.Tests.{not-true, not-false}
 use borrow.Author.Needs.{needs}
+use lib.Dec.{ltb}
 use Rattle.sound_words.proofs.Waiting.{not-waiting, waits-far, waits-near}
 use Rattle.sound_words.proofs.saved.waits_ok.Statement.{statement}
 use Rattle.sound_words.proofs.saved.waits_ok.Tie as tie
@@ -18,34 +20,27 @@ returns c =
 sub-top : tie.Need-sub-top
 sub-top c = search needs
 
-mul-base : tie.Need-mul-base
-mul-base c = search needs
-
-add-base : tie.Need-add-base
-add-base c = search needs
-
-mul-base-2 : tie.Need-mul-base-2
-mul-base-2 c = search needs
-
-shared-slice-read-base : tie.Need-shared-slice-read-base
-shared-slice-read-base c = search needs
+base-at-requires : tie.Need-base-at-requires
+base-at-requires c κs = search needs
 
 returns-2 : tie.Need-returns-2
 returns-2 c =
-    let at-if1 = c .before .before .before in let at-is-suspended = at-if1 .before in let start = at-is-suspended .before .before in
+    let at-base = c .before .before in let at-if1 = at-base .before in let at-is-suspended = at-if1 .before in let start = at-is-suspended .before .before in
     let a = start .args in
-    waits-far (a .ws .now) (a .c) (sym (at-is-suspended .is-suspended .ensures) ∙ not-false _ (at-if1 .if1 .left)) (start .pre .0) (c .if2 .taken)
+    waits-far (a .ws .now) (a .c) (sym (at-is-suspended .is-suspended .ensures) ∙ not-false _ (at-if1 .if1 .left)) (start .pre .0)
+    (subst (λ (x : ℕ). a .c .regs ≤ x) (at-base .base-at .ensures) (c .if2 .taken))
 
 sub-result : tie.Need-sub-result
 sub-result c = search needs
 
 returns-3 : tie.Need-returns-3
 returns-3 c =
-    let at-if2 = c .before .before in let at-if1 = at-if2 .before .before .before in let at-is-suspended = at-if1 .before in
+    let at-if2 = c .before .before in let at-base = at-if2 .before .before in let at-if1 = at-base .before in let at-is-suspended = at-if1 .before in
     let start = at-is-suspended .before .before in
-    let a = start .args in
-    waits-near (a .ws .now) (a .c) (sym (at-is-suspended .is-suspended .ensures) ∙ not-false _ (at-if1 .if1 .left)) (start .pre .0)
-    (at-if2 .if2 .left)
+    let a = start .args in let e = at-base .base-at .ensures in
+    ap (λ (x : ℕ). ltb (a .c .waiting) (a .c .regs - x)) e
+    ∙ waits-near (a .ws .now) (a .c) (sym (at-is-suspended .is-suspended .ensures) ∙ not-false _ (at-if1 .if1 .left)) (start .pre .0)
+    (subst (λ (x : ℕ). x < a .c .regs) e (at-if2 .if2 .left))
 
 pub waits-ok-spec : {M : Type 1} → statement M
 waits-ok-spec =
@@ -54,10 +49,7 @@ waits-ok-spec =
     is-suspended-requires
     returns
     sub-top
-    mul-base
-    add-base
-    mul-base-2
-    shared-slice-read-base
+    base-at-requires
     returns-2
     sub-result
     returns-3)

@@ -1,0 +1,5 @@
+pub mod Batch
+pub mod Words
+pub mod Look
+pub mod Passing
+pub mod Library

@@ -1,0 +1,71 @@
+-- What a program that links the library may rely on, from one call to the next. The functions are those of boundary/specs/Host.antt, each
+-- equal to its code; a call's words, as all lent words, have 64 bits.
+use Prim.Native.Nat.{ℕ, _-_, _*_, _≤_}
+use mathlib.Core.Path.{_≡_}
+use mathlib.Core.Bool.{true, false}
+use mathlib.Core.Logic.{_⊎_}
+use mathlib.Core.List.{List}
+use lib.ListN.{length, getD}
+use Rattle.lists.specs.Parts.{part}
+use Rattle.heap.specs.Fault.{numberOf}
+use Rattle.heap.specs.declared.fault.Fault.{Fault}
+use Rattle.model.specs.Lists.{each, among}
+use Rattle.model.specs.Call.{isWord, Operation}
+use Rattle.model.specs.declared.call.Op.{Op}
+use Rattle.model.specs.declared.call.Answer.{Answer}
+use Rattle.words.specs.Words.{sizesOf}
+use Rattle.words.specs.Decode.{setupOf}
+use Rattle.calls.specs.Call.{opOf}
+use Rattle.calls.specs.declared.call.Read.{Read}
+use Rattle.claims.specs.Engine.{run}
+use Rattle.lent.specs.Step.{looked, Call, SetUp, Do, step}
+use Rattle.lent.specs.Sentences.{unchanging, NoSuchFault}
+use Rattle.lent_claims.specs.Engine.{outer}
+use Rattle.run.specs.Run.{countOf, callsIn}
+use Rattle.boundary.specs.Words.{sizesIn}
+use Rattle.boundary.specs.Host.{Host, host, stateOf, tested, tells, keptIn, callIn, Granted, lookIn, setUpIn, runHost}
+use Rattle.boundary_claims.specs.Batch.{Calls}
+
+-- an unwind of a fault that is none of 01's, in words or in its operand
+pub data NoFault : Read → Type 0 where
+  unknown : (f : Fault) → numberOf f ≡ 11 → NoFault (Read.Not f)
+  none-such : (o : Op) → NoSuchFault o → NoFault (Read.Is o)
+
+-- a machine that passes: flags are 0 or 1, an amount is set aside only where there is a bank, the outcome is one of six, the sizes are the
+-- set-up's
+pub record Passes (h : Host) : Type 0 where
+  pub running : getD (h .machine) 6 0 ≤ 1
+  pub ready : getD (h .fuel) 3 0 ≤ 1
+  pub bank : (getD (h .fuel) 1 0 ≡ 1) ⊎ ((getD (h .fuel) 1 0 ≡ 0) × (getD (h .fuel) 2 0 ≡ 0))
+  pub outcome : getD (h .machine) 9 0 ≤ 5
+  pub sizes : sizesIn (h .machine) ≡ sizesOf (setupOf (h .words .setup))
+
+pub record Library : Type 0 where
+  -- each is what the Claim's engine does: the set-up, a call, a batch of them
+  pub sets-up : (h : Host) (given xs : List ℕ) → setUpIn h given xs .number ≡ 0 → stateOf (setUpIn h given xs .host) ≡ step (stateOf h) (SetUp given) .state
+  pub calls : (h : Host) (o : Operation) (xs : List ℕ) → tested h ≡ true → 8 ≤ length xs → stateOf (callIn h (Read.Is (o .op)) xs .host) ≡ step (stateOf h) (Do o) .state
+  pub runs : (h : Host) (cs xs : List ℕ) (ks : List Call) → tested h ≡ true → countOf (length cs) * 8 ≤ length xs → Calls (callsIn (countOf (length cs)) cs) ks
+      → stateOf (runHost h cs xs .host) ≡ run outer (stateOf h) ks
+  -- a machine that an accepted set-up leaves passes the test, and every function leaves one that passes as one that passes
+  pub begun : (h : Host) (given xs : List ℕ) → setUpIn h given xs .number ≡ 0 → tested (setUpIn h given xs .host) ≡ true
+  pub called : (h : Host) (ws xs : List ℕ) → each isWord ws ≡ true → tested h ≡ true → tested (callIn h (opOf ws) xs .host) ≡ true
+  pub ran : (h : Host) (cs xs : List ℕ) → each isWord cs ≡ true → tested h ≡ true → tested (runHost h cs xs .host) ≡ true
+  pub granted : (h : Host) (n : ℕ) (xs fs′ xs′ : List ℕ) (r : ℕ) → isWord n ≡ true → tested h ≡ true → Granted h n xs fs′ xs′ r → tested (host (h .words) (h .machine) fs′) ≡ true
+  -- `bvm_grant`, which writes the fuel and the answer alone, is the call: that leaves all else too
+  pub grants : (h : Host) (n : ℕ) (xs : List ℕ) → isWord n ≡ true → let after = callIn h (Read.Is (Op.Grant n)) xs .host in after ≡ host (h .words) (h .machine) (after .fuel)
+  -- with its own fuel, or with that of any other machine that passes
+  pub any-fuel : (h g : Host) → tested h ≡ true → tested g ≡ true → tested (host (h .words) (h .machine) (g .fuel)) ≡ true
+  -- and there `bvm_kept` is `bvm_call`
+  pub kept : (h : Host) (r : Read) (xs : List ℕ) → tested h ≡ true → 8 ≤ length xs → keptIn h r xs ≡ callIn h r xs
+  -- words that are no call are refused by number, right after 11, and only the answer is written
+  pub no-call : (h : Host) (ws xs : List ℕ) (f : Fault) → tested h ≡ true → 8 ≤ length xs → opOf ws ≡ Read.Not f → callIn h (opOf ws) xs ≡ tells h (Answer.Refused f) xs
+  -- 01: "11, 12, 13, 15, 16 change no word": of the machine's 25 and the fuel's four neither
+  pub unchanged : (h : Host) (ws xs : List ℕ) → each isWord ws ≡ true → among (callIn h (opOf ws) xs .number) unchanging ≡ true → callIn h (opOf ws) xs .host ≡ h
+  -- 11 exactly if the machine does not pass, or an unwind gets no such fault
+  pub untested : (h : Host) (r : Read) (xs : List ℕ) → tested h ≡ false → 8 ≤ length xs → callIn h r xs .number ≡ 11
+  pub eleven : (h : Host) (ws xs : List ℕ) → each isWord ws ≡ true → callIn h (opOf ws) xs .number ≡ 11 → (tested h ≡ false) ⊎ NoFault (opOf ws)
+  pub no-fault : (h : Host) (ws xs : List ℕ) → each isWord ws ≡ true → 8 ≤ length xs → NoFault (opOf ws) → callIn h (opOf ws) xs .number ≡ 11
+  pub passing : (h : Host) → tested h ≡ true → Passes h
+  -- the words of the stack between the two places that a look writes are what a look hands back
+  pub looks : (h : Host) (zs : List ℕ) → tested h ≡ true → 2 ≤ length zs
+      → let span = lookIn h zs .span in part (getD span 0 0) (getD span 1 0 - getD span 0 0) (h .words .stack) ≡ looked (stateOf h)

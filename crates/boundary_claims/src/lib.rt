@@ -1,0 +1,1 @@
+// What a program that links the library may rely on: definitions and theorems only.

@@ -1,0 +1,193 @@
+-- The machines whose events, set-ups or looks are wrong: one call tells each.
+use Prim.Native.Nat.{ℕ}
+use native.Mathlib.Omega.{arith}
+use mathlib.Core.Path.{_≡_, refl, ap}
+use mathlib.Core.Logic.{_⊎_, inl, inr}
+use mathlib.Core.Bool.{true}
+use mathlib.Core.List.{List, [], _∷_, _++_}
+use mathlib.Core.Option.{Option, none, some}
+use lib.ListN.{length, take}
+use Rattle.lists.specs.Pick.{pick}
+use Rattle.heap.specs.declared.fault.Fault.{Fault}
+use Rattle.model.specs.World.{World, fresh}
+use Rattle.model.specs.Step as M
+use Rattle.model.specs.Answer.{numberOf}
+use Rattle.model.specs.Call.{SetUp, Do, typed, asCall}
+use Rattle.model.specs.Compute.{computed}
+use Rattle.model.specs.declared.machine.Driver.{Driver}
+use Rattle.model.specs.declared.machine.Fuel.{Fuel}
+use Rattle.model.specs.declared.call.OptPc.{OptPc}
+use Rattle.model.specs.declared.call.Op.{Op}
+use Rattle.claims.specs.Engine.{Seen, run, code, isNew, is}
+use Rattle.claims.specs.Says.{gets, closes}
+use Rattle.claims.specs.Delivery.{recorded}
+use Rattle.claims.specs.Events.{Healthy, thrown, escapes, Events}
+use Rattle.claims.specs.Promise.{SetUps, Looks}
+use Rattle.claims.specs.Steps.{viewOf}
+use Rattle.claims.specs.Story as Story
+use Rattle.claims.specs.Story.{wide, c, held}
+use Rattle.claims.specs.Witness.{nth}
+use Rattle.claims.specs.Wrong.{idle, two, failing, forgetting, sparing, yielding, lostIn, excusing, closing, rewriting, aborting, renewing, stillborn, fuelled, showing}
+use Rattle.claims.proofs.Cores.{no-both}
+use Rattle.claims.proofs.Promise.{sound-healthy}
+
+-- ---- events
+
+at-rest : World
+at-rest = M.run (fresh wide) (take 23 held)
+
+pub always-refused : Events (idle (λ _. true)) → ⊥
+unfolding computed at-rest
+always-refused v = no-both (v .entered c at-rest (nth held 23) (sound-healthy at-rest refl) (record { driver = Driver.Resume 1; sent = gets 44; pc = 15; says = refl }) .after) refl
+
+finishing : World
+finishing = M.run (fresh wide) (take 26 held)
+
+pub return-fails : Events failing → ⊥
+unfolding computed finishing
+return-fails v = no-both (v .returned c finishing (nth held 26) (sound-healthy finishing refl) refl .after) refl
+
+queued-ops : List Op
+queued-ops = Op.Grant 1000 ∷ Op.HostCall 0 ∷ Op.CoroNew 1 0 0 0 ∷ Op.CoroNew 2 1 0 0 ∷ Op.Resume 3 2 0 3 ∷ Op.Yield 8 3 0 ∷ Op.Resume 4 2 1 3 ∷ Op.Yield 8 3 0 ∷ Op.HandOver c ∷ Op.HandOver Story.d ∷ []
+
+queued : World
+queued = M.runOps (fresh wide) queued-ops
+
+current-typed : typed (Op.CoroCurrent 9 1) ≡ true
+unfolding typed
+current-typed = refl
+
+pub no-cleanup : Events (idle two) → ⊥
+unfolding computed queued-ops queued
+no-cleanup v = no-both (v .entered c queued (asCall (Op.CoroCurrent 9 1) current-typed) (sound-healthy queued refl) (record { driver = Driver.Finalize; sent = closes 0; pc = 9; says = refl }) .after) refl
+
+-- c runs while it is being closed, and asks who runs
+closed-ops : List Op
+closed-ops = Story.closed
+
+closed : World
+closed = M.runOps (fresh wide) closed-ops
+
+no-set-up : _≡_ {A = Option Op} (some (Op.CoroCurrent 9 1)) none → ⊥
+no-set-up e = let z : _≡_ {A = ℕ} 0 1 = cc in absurd (omega arith)
+
+pub closing-forgotten : Events forgetting → ⊥
+unfolding computed closed-ops closed
+closing-forgotten v = no-closer (v .closing c closed (asCall (Op.CoroCurrent 9 1) current-typed) (λ r. no-set-up (r .sets-up)) (λ h. no-both refl (h .before)) (λ h. no-both (h .after) refl) refl)
+  where
+    no-closer : _≡_ {A = Option ℕ} none (some 9) → ⊥
+    no-closer e = let z : _≡_ {A = ℕ} 0 1 = cc in absurd (omega arith)
+
+-- c runs, and a word that nobody catches is raised
+throw-typed : typed (Op.Unwind (Fault.Throw 7) OptPc.None) ≡ true
+unfolding typed
+throw-typed = refl
+
+begun : World
+begun = M.runOps (fresh wide) (Story.begin 0)
+
+pub failure-returns : Events sparing → ⊥
+unfolding computed begun
+failure-returns v = no-both (v .failed c begun (asCall (Op.Unwind (Fault.Throw 7) OptPc.None) throw-typed) (sound-healthy begun refl) refl (escapes (Fault.Throw 7) OptPc.None refl refl) .after) refl
+
+-- an Await of c
+await-typed : typed (Op.Await 10 3 0) ≡ true
+unfolding typed
+await-typed = refl
+
+pub await-yields : Events yielding → ⊥
+unfolding computed begun
+await-yields v = no-both (v .awaited c begun (asCall (Op.Await 10 3 0) await-typed) (record { before = refl; after = refl })) refl
+
+-- a look at that machine answers 0
+excusing-healthy : Healthy excusing begun
+unfolding computed begun
+excusing-healthy (SetUp s) e = absurd (no-setting e)
+  where
+    no-setting : _≡_ {A = Option Op} none (some Op.Look) → ⊥
+    no-setting e = let z : _≡_ {A = ℕ} 0 1 = cc in absurd (omega arith)
+excusing-healthy (Do o) e = ap (λ p. pick (lostIn (begun .chain) (M.tested begun p .world)) 9 (numberOf (M.tested begun p .answer))) (some-op e)
+  where
+    some-op : {a b : Op} → _≡_ {A = Option Op} (some a) (some b) → a ≡ b
+    some-op e = cc
+
+pub excused : Events excusing → ⊥
+unfolding computed begun
+excused v = no-both (v .failed c begun (asCall (Op.Unwind (Fault.Throw 7) OptPc.None) throw-typed) excusing-healthy refl (thrown 7 OptPc.None refl) .after) refl
+
+-- c is closed with 9, which it does not catch
+dying-ops : List Op
+dying-ops = Story.begin 0 ++ (Op.Yield 8 3 0 ∷ Op.PutWord 2 9 ∷ Op.CoroClose 3 1 0 2 ∷ [])
+
+dying : World
+dying = M.runOps (fresh wide) dying-ops
+
+signal-typed : typed (Op.Unwind (Fault.Throw 9) OptPc.None) ≡ true
+unfolding typed
+signal-typed = refl
+
+pub close-pays : Events closing → ⊥
+unfolding computed dying-ops dying
+close-pays v = let q : _≡_ {A = ℕ} 5 0 = v .closed c dying (asCall (Op.Unwind (Fault.Throw 9) OptPc.None) signal-typed) (Fault.Throw 9) OptPc.None (record { before = refl; after = refl }) refl in absurd (omega (arith, q))
+
+died : World
+died = M.runOps (fresh wide) (dying-ops ++ (Op.Unwind (Fault.Throw 9) OptPc.None ∷ []))
+
+pub result-changes : Events (rewriting c) → ⊥
+unfolding computed dying-ops died
+result-changes v =
+    let q : _≡_ {A = ℕ} 5 0 = ap recorded (v .still c died (asCall (Op.CoroCurrent 9 1) current-typed) (λ r. no-set-up (r .sets-up)) (λ h. no-both (h .after) refl) refl) in
+    absurd (omega (arith, q))
+
+-- c is there, and has not begun
+waiting : World
+waiting = M.runOps (fresh wide) (Op.Grant 1000 ∷ Op.HostCall 0 ∷ Op.CoroNew 1 0 0 0 ∷ [])
+
+stateIn : Option Seen → ℕ
+stateIn none = 9
+stateIn (some x) = code (x .state)
+
+pub aborted : Events (aborting c) → ⊥
+unfolding computed waiting stateIn
+aborted v =
+    let q : _≡_ {A = ℕ} 5 0 = ap stateIn (v .unbegun c waiting (asCall (Op.CoroCurrent 9 1) current-typed) (λ r. no-set-up (r .sets-up)) (λ h. no-both (h .after) refl) refl (λ e. no-one e)) in
+    absurd (omega (arith, q))
+  where
+    no-one : _≡_ {A = Option ℕ} none (some c) → ⊥
+    no-one e = let z : _≡_ {A = ℕ} 0 1 = cc in absurd (omega arith)
+
+pub renewed : Events (renewing c) → ⊥
+unfolding computed begun
+renewed v = no-both (v .runs-on c begun (asCall (Op.CoroCurrent 9 1) current-typed) (λ r. no-set-up (r .sets-up)) refl (λ h. no-both (h .after) refl) (λ h. no-both (h .after) refl) (λ h. no-both (h .after) refl)) refl
+
+-- c is not there yet
+called : World
+called = M.runOps (fresh wide) (Op.Grant 1000 ∷ Op.HostCall 0 ∷ [])
+
+new-typed : typed (Op.CoroNew 1 0 0 0) ≡ true
+unfolding typed
+new-typed = refl
+
+pub comes-failed : Events (stillborn c) → ⊥
+unfolding computed called stateIn
+comes-failed v = go (v .comes c called (asCall (Op.CoroNew 1 0 0 0) new-typed) (λ e. no-one e) refl)
+  where
+    no-one : _≡_ {A = Option ℕ} none (some c) → ⊥
+    no-one e = let z : _≡_ {A = ℕ} 0 1 = cc in absurd (omega arith)
+
+    z : World
+    z = stillborn c .next called (asCall (Op.CoroNew 1 0 0 0) new-typed)
+
+    go : (viewOf z .coro c ≡ none) ⊎ (is (viewOf z) isNew c ≡ true) → ⊥
+    go (inl e) = let q : _≡_ {A = ℕ} 5 9 = ap stateIn e in absurd (omega (arith, q))
+    go (inr e) = no-both e refl
+
+-- ---- set-ups and looks
+
+pub fuel-stays : SetUps fuelled → ⊥
+unfolding computed begun
+fuel-stays v = let q : _≡_ {A = ℕ} 998 0 = ap (λ (f : Fuel). f .fuel) (v .begun begun (SetUp wide) (record { sets-up = refl; accepted = refl }) .fuel) in absurd (omega (arith, q))
+
+pub all-shown : Looks showing → ⊥
+unfolding computed begun
+all-shown v = let q : _≡_ {A = ℕ} 8 4 = ap length (v .sees begun (sound-healthy begun refl)) in absurd (omega (arith, q))

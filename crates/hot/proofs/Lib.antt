@@ -1,0 +1,11 @@
+pub mod Peel
+pub mod Numbers
+pub mod Hosts
+pub mod Places
+pub mod Entering
+pub mod Enterable
+pub mod Resuming
+pub mod Napping
+pub mod Leaving
+pub mod Leavable
+pub mod Yields

@@ -1,0 +1,195 @@
+-- `may_enter` meets its contract: each test that is passed tells its part. Assumes nothing.
+use mathlib.Core.Path.{_≡_, sym, _∙_}
+use Prim.Native.Nat.{_+_, _*_, _≤_}
+use native.Mathlib.Omega.{arith}
+use lib.ListN.{length, getD}
+use Rattle.lists.specs.Chunks.{chunkAt}
+use Rattle.heap.proofs.Place.{stands-words}
+use Rattle.coro_enter.proofs.Parts.{by-nothing}
+use Rattle.boundary.specs.Words.{sizesIn}
+use Rattle.hot.specs.Words.{recordAt}
+use Rattle.hot.proofs.Entering.{resumable}
+use Rattle.hot.proofs.Enterable.{nothing, at-slot}
+use borrow.Author.Needs.{needs}
+use Rattle.hot.proofs.enters.may_enter.Statement.{statement}
+use Rattle.hot.proofs.enters.may_enter.Tie as tie
+
+-- the slot lies in its slice
+slot : (c : tie.After-i) → c .i .given .0 .0 * 20 + 20 ≤ length ((c .before .before .before .before .before .before .before .before .before .before .before .before .before .before .before .before .before .before .before .before .before .before) .args .slots .now)
+slot c =
+    let a = (c .before .before .before .before .before .before .before .before .before .before .before .before .before .before .before .before .before .before .before .before .before .before) .args in
+    stands-words (getD (a .machine .now) 3 0) (a .slots .now) (c .before .before .before .before .reg .result) (c .i .given .0 .0) (sym (c .i .given .1) ∙ c .before .before .coro-place .ensures) ((c .before .before .before .before .before .before .before .before .before .before .before .before .before .before .before .before .before .before .before .before .before .before) .pre .in-slots)
+
+shared-slice-read-if1 : tie.Need-shared-slice-read-if1
+shared-slice-read-if1 c = search needs
+
+returns : tie.Need-returns
+returns c = nothing _ _ _ _ _ _ _ _
+
+returns-2 : tie.Need-returns-2
+returns-2 c = nothing _ _ _ _ _ _ _ _
+
+shared-slice-read-base-at : tie.Need-shared-slice-read-base-at
+shared-slice-read-base-at c = search needs
+
+sub-base-at : tie.Need-sub-base-at
+sub-base-at c = search needs
+
+base-at-requires : tie.Need-base-at-requires
+base-at-requires c κs = search needs
+
+shared-slice-read-if3 : tie.Need-shared-slice-read-if3
+shared-slice-read-if3 c = search needs
+
+returns-3 : tie.Need-returns-3
+returns-3 c = nothing _ _ _ _ _ _ _ _
+
+shared-slice-read-wide : tie.Need-shared-slice-read-wide
+shared-slice-read-wide c = search needs
+
+sub-wide : tie.Need-sub-wide
+sub-wide c = search needs
+
+returns-4 : tie.Need-returns-4
+returns-4 c = nothing _ _ _ _ _ _ _ _
+
+returns-5 : tie.Need-returns-5
+returns-5 c = nothing _ _ _ _ _ _ _ _
+
+returns-6 : tie.Need-returns-6
+returns-6 c = nothing _ _ _ _ _ _ _ _
+
+shared-slice-read-reg : tie.Need-shared-slice-read-reg
+shared-slice-read-reg c = search needs
+
+shared-slice-read-reg-2 : tie.Need-shared-slice-read-reg-2
+shared-slice-read-reg-2 c = search needs
+
+reg-requires : tie.Need-reg-requires
+reg-requires c κs = search needs
+
+shared-slice-read-coro-place : tie.Need-shared-slice-read-coro-place
+shared-slice-read-coro-place c = search needs
+
+coro-place-requires : tie.Need-coro-place-requires
+coro-place-requires c κs = search needs
+
+enum-told : tie.Need-enum-told
+enum-told c = search needs
+
+enum-known-i : tie.Need-enum-known-i
+enum-known-i c = search needs
+
+word-requires : tie.Need-word-requires
+word-requires c κs = (slot (c .before), omega arith)
+
+returns-7 : tie.Need-returns-7
+returns-7 c = nothing _ _ _ _ _ _ _ _
+
+returns-8 : tie.Need-returns-8
+returns-8 c = nothing _ _ _ _ _ _ _ _
+
+word-requires-2 : tie.Need-word-requires-2
+word-requires-2 c κs = (slot (c .before .before .before .before), omega arith)
+
+returns-9 : tie.Need-returns-9
+returns-9 c = nothing _ _ _ _ _ _ _ _
+
+shared-slice-read-if10 : tie.Need-shared-slice-read-if10
+shared-slice-read-if10 c = search needs
+
+shared-slice-read-if10-2 : tie.Need-shared-slice-read-if10-2
+shared-slice-read-if10-2 c = search needs
+
+sub-if10 : tie.Need-sub-if10
+sub-if10 c = search needs
+
+returns-10 : tie.Need-returns-10
+returns-10 c = nothing _ _ _ _ _ _ _ _
+
+shared-slice-read-if11 : tie.Need-shared-slice-read-if11
+shared-slice-read-if11 c = search needs
+
+shared-slice-read-if11-2 : tie.Need-shared-slice-read-if11-2
+shared-slice-read-if11-2 c = search needs
+
+sub-if11 : tie.Need-sub-if11
+sub-if11 c = search needs
+
+word-requires-3 : tie.Need-word-requires-3
+word-requires-3 c κs = (slot (c .before .before .before .before .before .before .before .before .before .before .before), omega arith)
+
+returns-11 : tie.Need-returns-11
+returns-11 c = nothing _ _ _ _ _ _ _ _
+
+returns-12 : tie.Need-returns-12
+returns-12 c = nothing _ _ _ _ _ _ _ _
+
+returns-13 : tie.Need-returns-13
+returns-13 c =
+    let start = (c .before .before .before .before .before .before .before .before .before .before .before .before .before .before .before .before .before .before .before .before .before .before .before .before .before .before .before .before .before .before .before .before .before .before .before) in
+    let a = start .args in
+    let s = a .slots .now in let ms = a .machine .now in
+    let i = c .before .before .before .before .before .before .before .before .before .before .before .before .before .i .given .0 .0 in let v = c .before .before .before .before .before .before .before .before .before .before .before .before .before .before .before .before .before .reg .result in
+    let based = c .before .before .before .before .before .before .before .before .before .before .before .before .before .before .before .before .before .before .before .before .before .before .before .before .before .before .base-at .ensures in
+    let above = c .before .before .before .before .before .before .before .before .before .before .before .before .before .before .before .before .before .before .before .before .before .before .before .before .if3 .left in
+    let t₂ = c .before .before .before .before .before .before .before .before .before .before .before .word .ensures in let t₉ = c .before .before .before .before .before .before .before .before .word2 .ensures in let t₈ = c .before .word3 .ensures in
+    let u₁ = c .before .before .before .before .before .before .before .before .before .before .before .before .before .before .before .before .before .before .before .before .before .before .before .before .before .before .before .before .before .if1 .left in let u₂ = c .before .before .before .before .before .before .before .before .before .before .before .before .before .before .before .before .before .before .before .before .before .before .before .before .before .before .before .before .if2 .left in let u₄ = c .before .before .before .before .before .before .before .before .before .before .before .before .before .before .before .before .before .before .before .before .before .before .if4 .left in let u₅ = c .before .before .before .before .before .before .before .before .before .before .before .before .before .before .before .before .before .before .before .before .before .if5 .left in let u₆ = c .before .before .before .before .before .before .before .before .before .before .before .before .before .before .before .before .before .before .before .before .if6 .left in
+    let u₈ = c .before .before .before .before .before .before .before .before .before .if8 .left in let u₁₀ = c .before .before .before .before .if10 .left in let u₁₁ = c .if11 .left in
+    at-slot (a .stack .now) (a .frames .now) s ms (a .fuel) (a .dst) (a .c) (a .src) i v
+    (record {
+      some = omega (arith, u₁);
+      paid = omega (arith, u₂);
+      dst-in = omega (arith, based, above, u₄);
+      coro-in = omega (arith, based, above, u₅);
+      src-in = omega (arith, based, above, u₆);
+      is = c .before .before .before .before .before .before .before .before .before .before .before .before .before .before .before .before .before .reg .ensures;
+      may =
+          record {
+            found = sym (c .before .before .before .before .before .before .before .before .before .before .before .before .before .i .given .1) ∙ c .before .before .before .before .before .before .before .before .before .before .before .before .before .before .before .coro-place .ensures;
+            fits =
+                by-nothing (getD ms 0 0) (getD ms 1 0) (sizesIn ms) (recordAt s i) (resumable (getD (chunkAt 20 s i) 2 0) (λ z. c .before .before .before .before .before .before .before .before .before .before .if7 .left (t₂ ∙ z)) (omega (arith, t₂, u₈))) (λ z. c .before .before .before .before .before .before .before .if9 .left (t₉ ∙ z))
+                (start .pre .deep) (start .pre .high) (omega (arith, t₉, u₁₀)) (omega (arith, t₈, u₁₁));
+          };
+    })
+
+pub may-enter-spec : {M : Type 1} → statement M
+may-enter-spec =
+    tie.close
+    (tie.spec
+    shared-slice-read-if1
+    returns
+    returns-2
+    shared-slice-read-base-at
+    sub-base-at
+    base-at-requires
+    shared-slice-read-if3
+    returns-3
+    shared-slice-read-wide
+    sub-wide
+    returns-4
+    returns-5
+    returns-6
+    shared-slice-read-reg
+    shared-slice-read-reg-2
+    reg-requires
+    shared-slice-read-coro-place
+    coro-place-requires
+    enum-told
+    enum-known-i
+    word-requires
+    returns-7
+    returns-8
+    word-requires-2
+    returns-9
+    shared-slice-read-if10
+    shared-slice-read-if10-2
+    sub-if10
+    returns-10
+    shared-slice-read-if11
+    shared-slice-read-if11-2
+    sub-if11
+    word-requires-3
+    returns-11
+    returns-12
+    returns-13)

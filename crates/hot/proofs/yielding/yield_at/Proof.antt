@@ -1,0 +1,112 @@
+-- `yield_at` meets its contract: a unit of fuel, then the suspension. Assumes nothing.
+use mathlib.Core.Path.{_≡_}
+use native.Mathlib.Omega.{arith}
+use lib.ListN.{getD}
+use Rattle.model.specs.declared.call.Op.{Op}
+use Rattle.memory.specs.Memory.{Lent, Beside}
+use Rattle.memory.specs.Lendings.{lent}
+use Rattle.coro_clean.specs.Charge.{spent}
+use Rattle.kept.specs.Kept.{did}
+use Rattle.boundary.specs.Words.{machineIn, sizesIn, fuelIn}
+use Rattle.hot.specs.Went.{goesOn}
+use Rattle.hot.specs.Leave.{leftIn}
+use Rattle.hot.proofs.Resuming.{spent-in, spent-words, paid, paid-rep, paid-sound, told-as}
+use Rattle.hot.proofs.Yields.{left-in, left-words, yield-done}
+use borrow.Author.Needs.{needs}
+use Rattle.hot.proofs.yielding.yield_at.Statement.{statement}
+use Rattle.hot.proofs.yielding.yield_at.Tie as tie
+
+abbrev mem : tie.Start → Beside → Lent
+mem c b = lent (c .args .stack .now) (c .args .frames .now) (c .args .chain .now) (c .args .slots .now) (c .args .saved-stack .now) (c .args .saved-frames .now) b
+
+slice-read-fuel : tie.Need-slice-read-fuel
+slice-read-fuel c = search needs
+
+sub-fuel : tie.Need-sub-fuel
+sub-fuel c = search needs
+
+slice-write-fuel : tie.Need-slice-write-fuel
+slice-write-fuel c = search needs
+
+leave-requires : tie.Need-leave-requires
+leave-requires c κs =
+    let start = (c .before .before .before .before .before .before .before .before .before .before .before .before .before .before .before .before) in
+    let a = start .args in
+    let e = start .pre .leavable in let ok = start .pre .held .ok in
+    record {
+      words = start .pre .held .words;
+      run =
+          record {
+            ok = record { world = ok .world; beside = record { words = ok .beside .words; fuel = fuelIn (a .fuel .now) }; rep = ok .rep; sound = ok .sound; room = ok .room };
+            running = e .may .running;
+            narrow = start .pre .held .narrow;
+          };
+      sent = record { some = e .some; on-frames = ok .rep .frames .within; below = e .src-in; on-stack = ok .rep .stack .within };
+      may = e .may;
+      keyed = e .keyed;
+      driven = e .driven;
+    }
+
+same-length : tie.Need-same-length
+same-length c = c .before .before .before .before .before .before .before .before .before .before .before .before .before .before .leave .kept .0
+
+same-length-2 : tie.Need-same-length-2
+same-length-2 c = c .before .before .before .before .before .before .before .before .before .before .before .before .before .before .leave .kept .1 .0
+
+same-length-3 : tie.Need-same-length-3
+same-length-3 c = c .before .before .before .before .before .before .before .before .before .before .before .before .before .before .leave .kept .1 .1 .0
+
+same-length-4 : tie.Need-same-length-4
+same-length-4 c = c .before .before .before .before .before .before .before .before .before .before .before .before .before .before .leave .kept .1 .1 .1 .0
+
+same-length-5 : tie.Need-same-length-5
+same-length-5 c = c .before .before .before .before .before .before .before .before .before .before .before .before .before .before .leave .kept .1 .1 .1 .1 .0
+
+same-length-6 : tie.Need-same-length-6
+same-length-6 c = c .before .before .before .before .before .before .before .before .before .before .before .before .before .before .leave .kept .1 .1 .1 .1 .1 .0
+
+same-length-7 : tie.Need-same-length-7
+same-length-7 c = c .before .before .before .before .before .before .before .before .before .before .before .before .before .before .leave .kept .1 .1 .1 .1 .1 .1 .0
+
+same-length-8 : tie.Need-same-length-8
+same-length-8 c = search needs
+
+returns : tie.Need-returns
+returns c =
+    let start = (c .before .before .before .before .before .before .before .before .before .before .before .before .before .before .before .before .before .before .before .before .before .before .before .before .before .before .before .before .before .before .before) in
+    let a = start .args in
+    let ms = a .machine .now in let fs = a .fuel .now in
+    let frames = a .frames .now in let chain = a .chain .now in
+    let held = start .pre .held in let e = start .pre .leavable in
+    let left = c .before .before .before .before .before .before .before .before .before .before .before .before .before .before .leave .ensures in
+    let rich : getD fs 0 0 ≡ 0 → ⊥ = λ z. let h = e .paid in omega (arith, h, z) in
+    record {
+      met = λ w b rep snd.
+          let M = mem start b in
+          let w₁ = paid (sizesIn ms) M (machineIn ms) (fuelIn fs) w rep snd (a .pc) (a .dst) (a .dst) (a .src) (held .narrow) (e .some) rich in
+          let r₁ = paid-rep (sizesIn ms) M (machineIn ms) (fuelIn fs) w rep snd (a .pc) (a .dst) (a .dst) (a .src) (held .narrow) (e .some) rich in
+          let s₁ = paid-sound (sizesIn ms) M (machineIn ms) (fuelIn fs) w rep snd (a .pc) (a .dst) (a .dst) (a .src) (held .narrow) (e .some) rich in
+          told-as (sizesIn ms) _ (did (Op.Yield (a .pc) (a .dst) (a .src)) w) goesOn _ _ _ _ (left-in frames chain ms _ (held .numbers) (left .0)) (spent-in fs (held .tank))
+          (yield-done (sizesIn ms) M (machineIn ms) (fuelIn fs) w rep snd (a .pc) (a .dst) (a .src) (held .narrow) (e .some) rich (e .dst-in) (e .src-in) _ (leftIn frames chain ms)
+          (left .1 w₁ (record { words = b .words; fuel = spent (fuelIn fs) }) r₁ s₁));
+      numbers = left-words frames chain ms _ (held .numbers) (left .0);
+      fuel = spent-words fs (held .tank) (held .fuelled);
+    }
+
+pub yield-at-spec : {M : Type 1} → statement M
+yield-at-spec =
+    tie.close
+    (tie.spec
+    slice-read-fuel
+    sub-fuel
+    slice-write-fuel
+    leave-requires
+    same-length
+    same-length-2
+    same-length-3
+    same-length-4
+    same-length-5
+    same-length-6
+    same-length-7
+    same-length-8
+    returns)

@@ -1,0 +1,76 @@
+// Whether a Yield meets no refusal, and its coroutine is driven by a Resume.
+ghost use Rattle.hot.specs.Leaves.{LeavesFits, Leaving};
+use crate::record::link;
+use crate::record::word;
+use heap::heap::CoroPlace;
+use heap::int::Exact;
+use heap::int::Inline;
+use heap::value::Word;
+
+// The slot of the coroutine that may be suspended, its next key and that key's integer.
+pub enum Leaves {
+    At(usize, u64, u64),
+    Not,
+}
+
+// 01's gate, fuel in hand, the key, and what coro_suspend tests.
+pub(crate) fn may_leave(
+    frames: &[u64],
+    chain: &[u64],
+    slots: &[u64],
+    machine: &[u64],
+    fuel: u64,
+    dst: u64,
+    src: u64,
+) -> Leaves
+    requires { ⌜ LeavesFits (now frames) (now chain) (now slots) (now machine) ⌝ }
+    ensures { λ r. ⌜ Leaving (now (frames .entry)) (now (chain .entry)) (now (slots .entry)) (now (machine .entry)) fuel dst src r ⌝ }
+{
+    if machine[1] == 0 {
+        return Leaves::Not;
+    }
+    if fuel == 0 {
+        return Leaves::Not;
+    }
+    if machine[2] == 0 {
+        return Leaves::Not;
+    }
+    let low = tables::frame::base_at(frames, (machine[1] - 1) as usize) as u64;
+    if machine[0] <= low {
+        return Leaves::Not;
+    }
+    let width = machine[0] - low;
+    if width <= dst {
+        return Leaves::Not;
+    }
+    if width <= src {
+        return Leaves::Not;
+    }
+    let top = (machine[2] - 1) as usize;
+    if link(chain, top, 2) != 0 {
+        return Leaves::Not;
+    }
+    match heap::heap::coro_place(slots, machine[3] as usize, Word(link(chain, top, 0))) {
+        CoroPlace::Not(_) => Leaves::Not,
+        CoroPlace::At(i) => {
+            if word(slots, i, 3) != 0 {
+                return Leaves::Not;
+            }
+            let floor = link(chain, top, 1);
+            let base = tables::frame::base_at(frames, floor as usize) as u64;
+            if word(slots, i, 10) < machine[0] - base {
+                return Leaves::Not;
+            }
+            if word(slots, i, 11) < machine[1] - floor {
+                return Leaves::Not;
+            }
+            match heap::int::next_key(word(slots, i, 15)) {
+                Exact::Over => Leaves::Not,
+                Exact::Fits(n) => match Word::inline_int(n) {
+                    Inline::Large => Leaves::Not,
+                    Inline::At(k) => Leaves::At(i, k.0, n),
+                },
+            }
+        }
+    }
+}

@@ -1,0 +1,129 @@
+// Resume, where nothing refuses it: its gate and its charge are passed, and the coroutine in slot i is entered.
+ghost use mathlib.Core.Path.{_≡_};
+ghost use Rattle.hot.specs.Resume.{ResumeAtFits};
+ghost use Rattle.hot.specs.Went.{Went};
+ghost use Rattle.model.specs.declared.call.Op.the-variants.{Resume};
+ghost use Rattle.memory.specs.Lendings.{six};
+ghost use Rattle.memory.specs.Contract.{atEntry, atExit};
+ghost use Rattle.calls.specs.declared.call.Read.the-variants.{Is};
+ghost use Rattle.outer.specs.State.{nine};
+ghost use Rattle.boundary.specs.Host.{host, gave, KeptFits, keptIn};
+use crate::enter::enter;
+use crate::enters::Enters;
+use crate::enters::may_enter;
+use crate::general::general;
+use crate::general::goes_on;
+
+// One unit of fuel, then the entry.
+pub(crate) fn resume_at(
+    stack: &mut [u64],
+    frames: &mut [u64],
+    chain: &mut [u64],
+    slots: &mut [u64],
+    saved_stack: &mut [u64],
+    saved_frames: &mut [u64],
+    machine: &mut [u64],
+    fuel: &mut [u64],
+    pc: u64,
+    dst: u64,
+    c: u64,
+    src: u64,
+    v: u64,
+    i: usize,
+)
+    requires { ⌜ ResumeAtFits (now stack) (now frames) (now chain) (now slots) (now «saved_stack») (now «saved_frames») (now machine) (now fuel) pc dst c src v i ⌝ }
+    ensures { λ _. ⌜ Went (Resume pc dst c src) (six stack frames chain slots «saved_stack» «saved_frames» atEntry) (six stack frames chain slots «saved_stack» «saved_frames» atExit) (now (machine .entry)) (now (fuel .entry)) (now (machine .exit)) (now (fuel .exit)) ⌝ }
+{
+    fuel[0] = fuel[0] - 1;
+    enter(
+        stack,
+        frames,
+        chain,
+        slots,
+        saved_stack,
+        saved_frames,
+        machine,
+        pc,
+        dst,
+        src,
+        v,
+        i,
+    );
+}
+
+// coro.rs: exec, Resume, with gate and charge, on a machine that is known to be sound.
+#[no_mangle]
+pub extern "C" fn bvm_resume(
+    stack: &mut [u64],
+    frames: &mut [u64],
+    chain: &mut [u64],
+    slots: &mut [u64],
+    saved_stack: &mut [u64],
+    saved_frames: &mut [u64],
+    ready: &mut [u64],
+    finalize: &mut [u64],
+    setup: &[u64],
+    machine: &mut [u64],
+    fuel: &mut [u64],
+    answer: &mut [u64],
+    pc: u32,
+    dst: u16,
+    coro: u16,
+    src: u16,
+) -> u64
+    requires { ⌜ KeptFits (host (nine stack frames chain slots «saved_stack» «saved_frames» ready finalize setup now) (now machine) (now fuel)) (now answer) ⌝ }
+    ensures { λ r. ⌜ gave (host (nine stack frames chain slots «saved_stack» «saved_frames» ready finalize setup atExit) (atExit machine)
+        (atExit fuel)) (atExit answer) r ≡ keptIn (host (nine stack frames chain slots «saved_stack» «saved_frames» ready finalize setup atEntry)
+        (atEntry machine) (atEntry fuel)) (Is (Resume pc dst coro src)) (atEntry answer) ⌝ }
+{
+    match may_enter(
+        stack,
+        frames,
+        slots,
+        machine,
+        fuel[0],
+        dst as u64,
+        coro as u64,
+        src as u64,
+    ) {
+        Enters::At(i, v) => {
+            resume_at(
+                stack,
+                frames,
+                chain,
+                slots,
+                saved_stack,
+                saved_frames,
+                machine,
+                fuel,
+                pc as u64,
+                dst as u64,
+                coro as u64,
+                src as u64,
+                v,
+                i,
+            );
+            goes_on(answer);
+            0
+        }
+        Enters::Not => general(
+            stack,
+            frames,
+            chain,
+            slots,
+            saved_stack,
+            saved_frames,
+            ready,
+            finalize,
+            setup,
+            machine,
+            fuel,
+            answer,
+            6,
+            pc as u64,
+            dst as u64,
+            coro as u64,
+            src as u64,
+        ),
+    }
+}

@@ -1,0 +1,128 @@
+// Yield: its gate and its charge are passed, and the innermost coroutine is suspended.
+ghost use mathlib.Core.Path.{_≡_};
+ghost use Rattle.hot.specs.Yield.{YieldAtFits};
+ghost use Rattle.hot.specs.Went.{Went};
+ghost use Rattle.model.specs.declared.call.Op.the-variants.{Yield};
+ghost use Rattle.memory.specs.Lendings.{six};
+ghost use Rattle.memory.specs.Contract.{atEntry, atExit};
+ghost use Rattle.calls.specs.declared.call.Read.the-variants.{Is};
+ghost use Rattle.outer.specs.State.{nine};
+ghost use Rattle.boundary.specs.Host.{host, gave, KeptFits, keptIn};
+use crate::general::general;
+use crate::general::goes_on;
+use crate::leave::leave;
+use crate::leaves::Leaves;
+use crate::leaves::may_leave;
+
+// One unit of fuel, then the suspension.
+pub(crate) fn yield_at(
+    stack: &mut [u64],
+    frames: &mut [u64],
+    chain: &mut [u64],
+    slots: &mut [u64],
+    saved_stack: &mut [u64],
+    saved_frames: &mut [u64],
+    machine: &mut [u64],
+    fuel: &mut [u64],
+    pc: u64,
+    dst: u64,
+    src: u64,
+    i: usize,
+    key: u64,
+    largest: u64,
+)
+    requires { ⌜ YieldAtFits (now stack) (now frames) (now chain) (now slots) (now «saved_stack») (now «saved_frames») (now machine) (now fuel) pc dst src i key largest ⌝ }
+    ensures { λ _. ⌜ Went (Yield pc dst src) (six stack frames chain slots «saved_stack» «saved_frames» atEntry) (six stack frames chain slots «saved_stack» «saved_frames» atExit) (now (machine .entry)) (now (fuel .entry)) (now (machine .exit)) (now (fuel .exit)) ⌝ }
+{
+    fuel[0] = fuel[0] - 1;
+    leave(
+        stack,
+        frames,
+        chain,
+        slots,
+        saved_stack,
+        saved_frames,
+        machine,
+        pc,
+        dst,
+        src,
+        i,
+        key,
+        largest,
+    );
+}
+
+// coro.rs: exec, Yield, with gate and charge, on a machine that is known to be sound.
+#[no_mangle]
+pub extern "C" fn bvm_yield(
+    stack: &mut [u64],
+    frames: &mut [u64],
+    chain: &mut [u64],
+    slots: &mut [u64],
+    saved_stack: &mut [u64],
+    saved_frames: &mut [u64],
+    ready: &mut [u64],
+    finalize: &mut [u64],
+    setup: &[u64],
+    machine: &mut [u64],
+    fuel: &mut [u64],
+    answer: &mut [u64],
+    pc: u32,
+    dst: u16,
+    src: u16,
+) -> u64
+    requires { ⌜ KeptFits (host (nine stack frames chain slots «saved_stack» «saved_frames» ready finalize setup now) (now machine) (now fuel)) (now answer) ⌝ }
+    ensures { λ r. ⌜ gave (host (nine stack frames chain slots «saved_stack» «saved_frames» ready finalize setup atExit) (atExit machine)
+        (atExit fuel)) (atExit answer) r ≡ keptIn (host (nine stack frames chain slots «saved_stack» «saved_frames» ready finalize setup atEntry)
+        (atEntry machine) (atEntry fuel)) (Is (Yield pc dst src)) (atEntry answer) ⌝ }
+{
+    match may_leave(
+        frames,
+        chain,
+        slots,
+        machine,
+        fuel[0],
+        dst as u64,
+        src as u64,
+    ) {
+        Leaves::At(i, key, largest) => {
+            yield_at(
+                stack,
+                frames,
+                chain,
+                slots,
+                saved_stack,
+                saved_frames,
+                machine,
+                fuel,
+                pc as u64,
+                dst as u64,
+                src as u64,
+                i,
+                key,
+                largest,
+            );
+            goes_on(answer);
+            0
+        }
+        Leaves::Not => general(
+            stack,
+            frames,
+            chain,
+            slots,
+            saved_stack,
+            saved_frames,
+            ready,
+            finalize,
+            setup,
+            machine,
+            fuel,
+            answer,
+            3,
+            pc as u64,
+            dst as u64,
+            src as u64,
+            0,
+        ),
+    }
+}
