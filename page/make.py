@@ -2,6 +2,7 @@
 """Makes target/evidence.html from the sources, the papers and what the last `./test` left in target/. Every statement, count and time on
 the page is read from there; what the run did not produce is absent, and the page says so."""
 import re
+import shutil
 import subprocess
 import sys
 import tempfile
@@ -127,17 +128,23 @@ def edits():
 
 
 def refused_at(fact, rows):
-    """The first error in the fact's own file, or at its own theorem, that is not only the want of another."""
+    """What the log says in the fact's own file, or at its own theorem: the first error that is about a fact, else the first that only says that the proof
+    names a place which is gone; not that something else was refused. Line, name, text, and whether it is about a fact."""
+    unfit = None
     for row in rows or []:
-        if "was not admitted" in row or "has no `Need-" in row:
+        if "was not admitted" in row:
             continue
         file, _, name = fact.partition(":")
         found = re.search(rf"({re.escape(file)}(?:/Proof)?\.antt):(\d+):\d+: error: `([^`]+)`: (.*)$", row)
         if found and (not name or found.group(3) == name):
-            return found.group(2), found.group(3), found.group(4)
-        if not name and re.search(rf"^fn \S*{re.escape(fact.replace('/', '::'))}: no proof: ", row):
-            return None, "no proof", row.partition("no proof: ")[2]
-    return None
+            line, where, text = found.group(2), found.group(3), found.group(4)
+            if "has no `Need-" in text or re.match(r"record `\S+\.Lts\.", text):
+                unfit = unfit or (line, where, text, False)
+            else:
+                return line, where, text, True
+        elif not name and re.search(rf"^fn \S*{re.escape(fact.replace('/', '::'))}: no proof: .* `search` does not close", row):
+            return None, "no proof", row.partition("no proof: ")[2], True
+    return unfit
 
 
 def said():
@@ -167,6 +174,8 @@ def wake():
     library = TARGET / "staticlib" / "libboundary.a"
     if not library.exists():
         return None, "target/staticlib/libboundary.a is not there"
+    if not shutil.which("cc"):
+        return None, "there is no C compiler (cc)"
     with tempfile.TemporaryDirectory() as folder:
         program = Path(folder, "wake")
         built = subprocess.run(["cc", "-std=c99", "-O1", "-I", ROOT / "host/include", HERE / "wake.c", library, "-o", program], capture_output=True, text=True)
@@ -206,12 +215,13 @@ def main():
     # what was run
     done = [one for one in proved if one[1]]
     refused = sum(1 for _, _, _, facts, there in wrong if there and facts and all(found for _, found in facts))
+    exact = sum(1 for _, _, _, facts, there in wrong if there and facts and all(found and found[3] for _, found in facts))
     logs = sum(1 for one in wrong if one[4])
     tiles = [tile(f"{len(done)} of {len(proved)}", "crates proved", "good" if len(done) == len(proved) else "bad")]
     if done:
         tiles.append(tile(f"{sum(one[2] or 0 for one in done):,}", "functions proved equal to their contracts"))
     if logs:
-        tiles.append(tile(f"{refused} of {len(wrong)}", "wrong edits refused at the fact that they break", "good" if refused == len(wrong) else "bad"))
+        tiles.append(tile(f"{refused} of {len(wrong)}", f"wrong edits refused where they say, {exact} of them wholly at facts", "good" if refused == len(wrong) else "bad"))
     if run:
         tiles.append(tile(escape(run[2]), "the last line of <code>./test</code>", "good" if run[2].endswith(" 0 failed") else "bad"))
     head = f"<p class=faint>Made from the sources at commit <code>{commit}</code>{' with files changed since' if changed else ''}"
@@ -269,14 +279,14 @@ def main():
 
     section("wrong", "Wrong edits, and what refused them")
     if logs:
-        parts.append(f"<p>{len(wrong)} edits of code, definitions and statements; each names the proofs that it must break. The fact is the one in the named proof that does not hold any more.</p>")
+        parts.append(f"<p>{len(wrong)} edits of code, definitions and statements; each names the proofs that it must break. Beside each stands the fact in it that does not hold any more. Where the code is another, a proof may only fail to fit: then it is said that it names a place that is gone, which shows less.</p>")
         by = {}
         for one in wrong:
             by.setdefault(one[0], []).append(one)
         for crate, found in by.items():
             body = []
             for _, name, told, facts, there in found:
-                cells = "".join(f"<tr><td><code>{escape(fact)}</code></td><td>" + (f"<code>{escape(hit[1])}</code>{f', line {hit[0]}' if hit[0] else ''}: <span class=faint>{escape(hit[2][:180])}</span>" if hit else
+                cells = "".join(f"<tr><td><code>{escape(fact)}</code></td><td>" + (f"<code>{escape(hit[1])}</code>{f', line {hit[0]}' if hit[0] else ''}: {'' if hit[3] else 'the proof names a place that is gone: '}<span class=faint>{escape(hit[2][:180])}</span>" if hit else
                                 "<span class=bad>not shown by the log</span>" if there else "<span class=faint>no log</span>") + "</td></tr>" for fact, hit in facts)
                 body.append(f"<h3>{escape(name)}</h3><p>{inline(told)}</p><table class=facts><thead><tr><th>proof</th><th>fact that refused it</th></tr></thead><tbody>{cells}</tbody></table>")
             parts.append(f"<details><summary><code>{crate}</code>: {len(found)} edits</summary><div>{''.join(body)}</div></details>")
@@ -326,6 +336,10 @@ addEventListener('hashchange', show); show();
 """
     TARGET.mkdir(exist_ok=True)
     (TARGET / "evidence.html").write_text(page)
+    for crate, name, _, facts, there in wrong:
+        less = [fact for fact, found in facts if not (found and found[3])]
+        if there and less:
+            print(f"evidence: {crate}/{name}: not shown at a fact: {' '.join(less)}")
     print(f"evidence: target/evidence.html, {len(page) // 1024} kB: {len(done)} of {len(proved)} crates proved, {refused} of {len(wrong)} wrong edits refused in the logs that are there ({logs}),"
           f" {len(every)} definitions, {'a run' if run else 'no run'} of ./test")
 

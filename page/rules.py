@@ -188,8 +188,30 @@ def check_names(page):
     print(f"rules: {len(places)} names of {page}")
 
 
+def check_fields():
+    """Every `Name.field` of a paper is a field of a record, a case of a data type, or a name of a file."""
+    known = {}
+    for path in list(ROOT.glob("crates/*/specs/*.antt")) + list(ROOT.glob("crates/*/proofs/*.antt")):
+        record = None
+        for row in path.read_text().splitlines():
+            if found := re.match(r"\s*(?:pub )?(?:record|data) (\S+)", row):
+                record = found.group(1)
+            elif record and (found := re.match(r"\s+(?:pub )?([A-Za-z0-9-]+) :", row)):
+                known.setdefault(record, set()).add(found.group(1))
+            elif found := re.match(r"(?:(?:abbrev|unfoldable|pub) )*([A-Za-z0-9-]+) :", row):
+                known.setdefault(path.stem, set()).add(found.group(1))
+    count = 0
+    for page in [ROOT / "README.md", *sorted(ROOT.glob("docs/*.md"))]:
+        for record, field in set(re.findall(r"`([A-Z][A-Za-z0-9-]*)\.([a-z][A-Za-z0-9-]*)`", page.read_text())) - {(one, "antt") for one in known}:
+            count += 1
+            if field not in known.get(record, ()) and field not in ("antt", "md", "rs"):
+                say(f"{page.relative_to(ROOT)}: no {record}.{field}")
+    print(f"rules: {count} fields named in the papers")
+
+
 check_layout()
 check_names("docs/PROVING.md")
+check_fields()
 if not check_rules():
     say("docs/RULES.md has lost its rows")
 if not check_assurance(sys.argv[1:] == ["mend"]):
