@@ -1,6 +1,6 @@
 -- The code of a continuation, and what it says of it. Assumes nothing.
 use mathlib.Core.Path.{_≡_, refl, sym, ap, _∙_}
-use mathlib.Core.Bool.{Bool, true, false, not, _&&_}
+use mathlib.Core.Bool.{Bool, true, false, _&&_}
 use mathlib.Core.List.{List}
 use Prim.Native.Nat.{ℕ, zero, suc, _+_, _-_, _*_, _≤_, _<_}
 use native.Mathlib.Omega.{arith}
@@ -12,7 +12,6 @@ use Rattle.lists.proofs.Tables.{chunk-get}
 use Rattle.model.specs.Frames.{isCoro}
 use Rattle.model.specs.Sound.{liesUnder}
 use Rattle.model.specs.declared.machine.Cont.{Cont}
-use Rattle.model.specs.declared.machine.Frame.{Frame}
 use Rattle.tables.specs.Layout.{contOf, frameOf}
 use Rattle.tables.specs.Parts.{piled}
 use Rattle.lists.proofs.Tests.{and-false}

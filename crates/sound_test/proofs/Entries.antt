@@ -8,7 +8,6 @@ use borrow.Author.Tests.{eqb-true, eqb-false}
 use lib.Dec.{eqb}
 use lib.ListN.{length, getD, set, take, replicate}
 use lib.Seq.{getD-set-same, getD-set-other}
-use Rattle.lists.specs.Tests.{allBelow}
 use Rattle.lists.proofs.Tests.{fails-at, holds-all}
 use Rattle.lists.proofs.Tables.{length-chunks}
 use Rattle.heap.specs.Word.{slotOf}

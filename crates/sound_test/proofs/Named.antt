@@ -9,11 +9,9 @@ use lib.Seq.{length-take-le, getD-take}
 use Rattle.lists.specs.Pick.{pick}
 use Rattle.lists.specs.Tests.{allBelow}
 use Rattle.lists.proofs.Tests.{holds-at, holds-all}
-use Rattle.lists.proofs.Tables.{length-chunks}
 use Rattle.heap.specs.Word.{reference, slotOf, classOf}
 use Rattle.heap.specs.Object as HO
 use Rattle.heap.specs.Table.{Slot, slot, names, getIn, get}
-use Rattle.heap.specs.Slot.{width, slotOfWords}
 use Rattle.heap.specs.Heap.{slotsOf, asCoro, coroBy, coroOf}
 use Rattle.heap.specs.declared.value.Class.{Class}
 use Rattle.heap.specs.declared.heap.Place.{Place}
@@ -156,12 +154,9 @@ module _ (task : Bool) (ys : List (Slot H.Object)) (q : List ℕ) (n : ℕ) (wit
 pub queue-fits : (task : Bool) (slots q : List ℕ) (n count : ℕ) → QueueAsks q slots n count → marksOk task (slotsOf count slots) (take n q) ≡ true → QueueFits q n
 queue-fits task slots q n count asks e =
     let ys = slotsOf count slots in
-    let few = asks .few in
-    let long = length-chunks width slotOfWords count slots in
     let here : (k : ℕ) → k < n → Word ys (getD q k 0) = λ k h. word-named (markOf task) ys (getD q k 0) (holds-at n k (mark-at task ys q n (asks .within)) h (sym (marks-below task ys q n (asks .within)) ∙ e)) in
     record {
       within = asks .within;
-      small = λ k h. let i = here k h .inside in omega arith;
       wordOf = λ i. reference i (getD ys i (slot 0 O.Empty) .tag);
       told = λ k h. here k h .made;
     }

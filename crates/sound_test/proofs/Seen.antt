@@ -12,10 +12,9 @@ use Rattle.heap.specs.Word.{slotOf}
 use Rattle.model.specs.Lists.{among, distinct}
 use Rattle.lists.proofs.Tests.{and-false}
 
--- the first n words of a queue: each word's slot is in range, and a word is known by its slot
+-- the first n words of a queue, each known by its slot
 pub record QueueFits (q : List ℕ) (n : ℕ) : Type 0 where
   pub within : n ≤ length q
-  pub small : (k : ℕ) → k < n → slotOf (getD q k 0) < 4096
   pub wordOf : ℕ → ℕ
   pub told : (k : ℕ) → k < n → getD q k 0 ≡ wordOf (slotOf (getD q k 0))
 

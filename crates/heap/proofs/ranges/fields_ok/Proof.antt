@@ -1,13 +1,13 @@
 -- `fields_ok` meets its contract: what the tests so far leave decides the whole. Assumes nothing.
 use mathlib.Core.Path.{_≡_, refl, sym, ap, ap₂, _∙_}
-use mathlib.Core.Bool.{Bool, true, false, _&&_}
+use mathlib.Core.Bool.{Bool, _&&_}
 use mathlib.Core.List.{List, [], _∷_}
 use Prim.Native.Nat.{ℕ, zero, suc, _-_, _≤_}
 use native.Mathlib.Omega.{arith}
 use borrow.Author.Needs.{needs}
 use borrow.Author.Tests.{le-leb, lt-leb, ne-eqb, not-true, not-false}
 use lib.Dec.{leb, eqb}
-use lib.ListN.{length, getD, drop, take, length-drop, replicate}
+use lib.ListN.{length, getD, drop, length-drop, replicate}
 use lib.Seq.{take-all}
 use Rattle.lists.specs.Tests.{zeros}
 use Rattle.heap.specs.Slot.{fieldsOf}
