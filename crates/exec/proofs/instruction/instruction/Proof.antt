@@ -20,10 +20,37 @@ abbrev mem : tie.Start → Beside → Lent
 mem c b = gating (c .args .stack .now) (c .args .frames .now) (c .args .chain .now) (c .args .slots .now) (c .args .saved-stack .now)
     (c .args .saved-frames .now) (c .args .finalize .now) (c .args .setup .now) plain b
 
+-- the ways back: to the start, to the test of the frame, to the base, to the test of the operands, to the charge of each outcome, to the arm
+abbrev start-of : tie.Else1 → tie.Start
+start-of c = c .before .before .before .before .before .before .before .before .before .before
+
+abbrev some-of : tie.After-base-at → tie.Else1
+some-of c = c .before .before .before
+
+abbrev base-of : tie.After-passes → tie.After-base-at
+base-of c = c .before .before
+
+abbrev gate-of : tie.After-pc-of → tie.Else2
+gate-of c = c .before .before .before .before .before .before .before .before
+
+abbrev spent-of : tie.After-enum-told → tie.After-charge
+spent-of c = c .before .before .before .before .before .before .before .before .before .before .before .before .before .before .before .before .before .before
+
+abbrev closed-of : tie.After-a → tie.After-charge
+closed-of c = c .before .before .before .before .before .before .before .before .before .before .before .before .before .before .before .before .before .before
+
+abbrev paid-of : tie.After-a2 → tie.After-charge
+paid-of c = c .before .before .before .before .before .before .before .before .before .before .before .before .before .before .before .before .before .before
+
+abbrev arm-of : tie.After-body → tie.After-a2
+arm-of c = c .before .before .before .before .before .before .before .before
+
+abbrev body-of : tie.After-answer-of → tie.After-body
+body-of c = c .before .before .before .before .before .before .before .before .before .before .before .before .before .before .before
+
 returns : tie.Need-returns
 returns c =
-    let start = c .before .before .before .before .before .before .before .before .before .before in
-    let a = start .args in
+    let start = c .before .before .before .before .before .before .before .before .before .before in let a = start .args in
     λ pc t arm q w b rep snd. no-frame (a .l) (mem start b) (a .m) (a .fuel) w pc (t w) arm (no-frames (w .frames) (a .frames .now) (a .m .depth) (rep .frames) (c .if1 .taken)) rep
 
 sub-base-at : tie.Need-sub-base-at
@@ -33,7 +60,7 @@ sub-base-at c =
 
 base-at-requires : tie.Need-base-at-requires
 base-at-requires c κs =
-    let at-if1 = c .before .before in let start = at-if1 .before .before .before .before .before .before .before .before .before .before in
+    let at-if1 = c .before .before in let start = start-of at-if1 in
     let h = at-if1 .if1 .left in let k = start .pre .rep .frames .within in omega arith
 
 shared-slice-read-passes : tie.Need-shared-slice-read-passes
@@ -41,31 +68,18 @@ shared-slice-read-passes c =
     let start = c .before .before .before .before .before .before .before .before .before .before .before .before .before .before in
     let k = start .pre .room .setup in omega arith
 
-passes-requires : tie.Need-passes-requires
-passes-requires c κs = search needs
-
-same-length : tie.Need-same-length
-same-length c =
-    refl
-
 returns-2 : tie.Need-returns-2
 returns-2 c =
-    let at-passes = c .before in let at-base-at = at-passes .before .before in let at-if1 = at-base-at .before .before .before in
-    let start = at-if1 .before .before .before .before .before .before .before .before .before .before in
-    let a = start .args in
+    let at-passes = c .before in let at-base-at = base-of at-passes in let at-if1 = some-of at-base-at in let start = start-of at-if1 in let a = start .args in
     λ pc t arm q w b rep snd.
     let some : 1 ≤ a .m .depth = (let h = at-if1 .if1 .left in omega arith) in
     let N = numbered (a .l) w (mem start b) (a .m) (a .fuel) (getD (a .setup .now) 13 0) (at-base-at .base-at .result) rep some refl (at-base-at .base-at .ensures) in
     bad-operand (a .l) (mem start b) (a .m) (a .fuel) w pc (t w) arm (some-frames (w .frames) (a .frames .now) (a .m .depth) (rep .frames) some)
     (ap (λ x. operandsOf x w) (sym q) ∙ sym (at-passes .passes .ensures w N) ∙ not-true _ (c .if2 .taken)) rep
 
-pc-of-requires : tie.Need-pc-of-requires
-pc-of-requires c κs = search needs
-
 charge-requires : tie.Need-charge-requires
 charge-requires c κs =
-    let at-if1 = c .before .before .before .before .before .before .before .before .before .before .before .before .before .before in
-    let start = at-if1 .before .before .before .before .before .before .before .before .before .before in
+    let at-if1 = c .before .before .before .before .before .before .before .before .before .before .before .before .before .before in let start = start-of at-if1 in
     let a = start .args in
     record {
       ok = charge-ok (a .l) (a .stack .now) (a .frames .now) (a .chain .now) (a .slots .now) (a .saved-stack .now) (a .saved-frames .now) (a .finalize .now) (a .setup .now)
@@ -74,22 +88,10 @@ charge-requires c κs =
       some = (let h = at-if1 .if1 .left in omega arith);
     }
 
-enum-told : tie.Need-enum-told
-enum-told c = search needs
-
-enum-known-a : tie.Need-enum-known-a
-enum-known-a c = search needs
-
-enum-known-a-2 : tie.Need-enum-known-a-2
-enum-known-a-2 c = search needs
-
 body-requires : tie.Need-body-requires
 body-requires c κs =
-    let at-a2 = c .before .before .before .before .before .before .before in
-    let at-charge = at-a2 .before .before .before .before .before .before .before .before .before .before .before .before .before .before .before .before .before .before in
-    let at-pc-of = at-charge .before in let at-if2 = at-pc-of .before .before .before .before .before .before .before .before in
-    let at-passes = at-if2 .before in let at-base-at = at-passes .before .before in let at-if1 = at-base-at .before .before .before in
-    let start = at-if1 .before .before .before .before .before .before .before .before .before .before in
+    let at-a2 = c .before .before .before .before .before .before .before in let at-charge = paid-of at-a2 in let at-pc-of = at-charge .before in let at-if2 = gate-of at-pc-of in
+    let at-passes = at-if2 .before in let at-base-at = base-of at-passes in let at-if1 = some-of at-base-at in let start = start-of at-if1 in
     let a = start .args in let ok = start .pre in
     let b = charge-ok (a .l) (a .stack .now) (a .frames .now) (a .chain .now) (a .slots .now) (a .saved-stack .now) (a .saved-frames .now) (a .finalize .now) (a .setup .now)
     (a .m) (a .fuel) (start .pre) .beside in
@@ -113,51 +115,10 @@ body-requires c κs =
     })
     (answered (a .l) _ _ _ (charge (OptPc.Some (at-pc-of .pc-of .result)) (ok .world)) (at-charge .charge .result .answer) _ (at-a2 .a2 .given .1) (at-charge .charge .ensures (ok .world) b (ok .rep) (ok .sound)))
 
-answer-of-requires : tie.Need-answer-of-requires
-answer-of-requires c κs = search needs
-
-same-length-2 : tie.Need-same-length-2
-same-length-2 c =
-    let at-charge = c .before .before .before .before .before .before .before .before .before .before .before .before .before .before .before .before .before .before in
-    at-charge .charge .kept .0
-
-same-length-3 : tie.Need-same-length-3
-same-length-3 c =
-    let at-charge = c .before .before .before .before .before .before .before .before .before .before .before .before .before .before .before .before .before .before in
-    at-charge .charge .kept .1 .0
-
-same-length-4 : tie.Need-same-length-4
-same-length-4 c =
-    let at-charge = c .before .before .before .before .before .before .before .before .before .before .before .before .before .before .before .before .before .before in
-    at-charge .charge .kept .1 .1 .0
-
-same-length-5 : tie.Need-same-length-5
-same-length-5 c =
-    let at-charge = c .before .before .before .before .before .before .before .before .before .before .before .before .before .before .before .before .before .before in
-    at-charge .charge .kept .1 .1 .1 .0
-
-same-length-6 : tie.Need-same-length-6
-same-length-6 c =
-    let at-charge = c .before .before .before .before .before .before .before .before .before .before .before .before .before .before .before .before .before .before in
-    at-charge .charge .kept .1 .1 .1 .1 .0
-
-same-length-7 : tie.Need-same-length-7
-same-length-7 c =
-    let at-charge = c .before .before .before .before .before .before .before .before .before .before .before .before .before .before .before .before .before .before in
-    at-charge .charge .kept .1 .1 .1 .1 .1 .0
-
-same-length-8 : tie.Need-same-length-8
-same-length-8 c =
-    let at-charge = c .before .before .before .before .before .before .before .before .before .before .before .before .before .before .before .before .before .before in
-    at-charge .charge .kept .1 .1 .1 .1 .1 .1 .0
-
 returns-3 : tie.Need-returns-3
 returns-3 c =
-    let at-charge = c .before .before .before .before .before .before .before .before .before .before .before .before .before .before .before .before .before .before in
-    let at-pc-of = at-charge .before in let at-if2 = at-pc-of .before .before .before .before .before .before .before .before in
-    let at-passes = at-if2 .before in let at-base-at = at-passes .before .before in let at-if1 = at-base-at .before .before .before in
-    let start = at-if1 .before .before .before .before .before .before .before .before .before .before in
-    let a = start .args in
+    let at-charge = spent-of c in let at-pc-of = at-charge .before in let at-if2 = gate-of at-pc-of in
+    let at-passes = at-if2 .before in let at-base-at = base-of at-passes in let at-if1 = some-of at-base-at in let start = start-of at-if1 in let a = start .args in
     λ pc t arm q w b rep snd.
     let some : 1 ≤ a .m .depth = (let h = at-if1 .if1 .left in omega arith) in
     let N = numbered (a .l) w (mem start b) (a .m) (a .fuel) (getD (a .setup .now) 13 0) (at-base-at .base-at .result) rep some refl (at-base-at .base-at .ensures) in
@@ -166,49 +127,10 @@ returns-3 c =
     (answered (a .l) _ _ _ (charge (OptPc.Some (at-pc-of .pc-of .result)) w) (at-charge .charge .result .answer) _ (c .enum-told .given .1)
     (at-charge .charge .ensures w (record { words = onSetup (a .setup .now) (b .words); fuel = b .fuel }) rep snd))
 
-same-length-9 : tie.Need-same-length-9
-same-length-9 c =
-    let at-charge = c .before .before .before .before .before .before .before .before .before .before .before .before .before .before .before .before .before .before .before in
-    at-charge .charge .kept .0
-
-same-length-10 : tie.Need-same-length-10
-same-length-10 c =
-    let at-charge = c .before .before .before .before .before .before .before .before .before .before .before .before .before .before .before .before .before .before .before in
-    at-charge .charge .kept .1 .0
-
-same-length-11 : tie.Need-same-length-11
-same-length-11 c =
-    let at-charge = c .before .before .before .before .before .before .before .before .before .before .before .before .before .before .before .before .before .before .before in
-    at-charge .charge .kept .1 .1 .0
-
-same-length-12 : tie.Need-same-length-12
-same-length-12 c =
-    let at-charge = c .before .before .before .before .before .before .before .before .before .before .before .before .before .before .before .before .before .before .before in
-    at-charge .charge .kept .1 .1 .1 .0
-
-same-length-13 : tie.Need-same-length-13
-same-length-13 c =
-    let at-charge = c .before .before .before .before .before .before .before .before .before .before .before .before .before .before .before .before .before .before .before in
-    at-charge .charge .kept .1 .1 .1 .1 .0
-
-same-length-14 : tie.Need-same-length-14
-same-length-14 c =
-    let at-charge = c .before .before .before .before .before .before .before .before .before .before .before .before .before .before .before .before .before .before .before in
-    at-charge .charge .kept .1 .1 .1 .1 .1 .0
-
-same-length-15 : tie.Need-same-length-15
-same-length-15 c =
-    let at-charge = c .before .before .before .before .before .before .before .before .before .before .before .before .before .before .before .before .before .before .before in
-    at-charge .charge .kept .1 .1 .1 .1 .1 .1 .0
-
 returns-4 : tie.Need-returns-4
 returns-4 c =
-    let at-a = c .before in
-    let at-charge = at-a .before .before .before .before .before .before .before .before .before .before .before .before .before .before .before .before .before .before in
-    let at-pc-of = at-charge .before in let at-if2 = at-pc-of .before .before .before .before .before .before .before .before in
-    let at-passes = at-if2 .before in let at-base-at = at-passes .before .before in let at-if1 = at-base-at .before .before .before in
-    let start = at-if1 .before .before .before .before .before .before .before .before .before .before in
-    let a = start .args in
+    let at-a = c .before in let at-charge = closed-of at-a in let at-pc-of = at-charge .before in let at-if2 = gate-of at-pc-of in
+    let at-passes = at-if2 .before in let at-base-at = base-of at-passes in let at-if1 = some-of at-base-at in let start = start-of at-if1 in let a = start .args in
     λ pc t arm q w b rep snd.
     let some : 1 ≤ a .m .depth = (let h = at-if1 .if1 .left in omega arith) in
     let N = numbered (a .l) w (mem start b) (a .m) (a .fuel) (getD (a .setup .now) 13 0) (at-base-at .base-at .result) rep some refl (at-base-at .base-at .ensures) in
@@ -217,63 +139,10 @@ returns-4 c =
     (answered (a .l) _ _ _ (charge (OptPc.Some (at-pc-of .pc-of .result)) w) (at-charge .charge .result .answer) _ (at-a .a .given .1)
     (at-charge .charge .ensures w (record { words = onSetup (a .setup .now) (b .words); fuel = b .fuel }) rep snd))
 
-same-length-16 : tie.Need-same-length-16
-same-length-16 c =
-    let at-body = c .before .before .before .before .before .before .before .before .before .before .before .before .before .before .before in
-    let at-charge = at-body .before .before .before .before .before .before .before .before .before .before .before .before .before .before .before .before .before .before .before .before
-    .before .before .before .before .before .before in
-    at-body .body .kept .0 ∙ at-charge .charge .kept .0
-
-same-length-17 : tie.Need-same-length-17
-same-length-17 c =
-    let at-body = c .before .before .before .before .before .before .before .before .before .before .before .before .before .before .before in
-    let at-charge = at-body .before .before .before .before .before .before .before .before .before .before .before .before .before .before .before .before .before .before .before .before
-    .before .before .before .before .before .before in
-    at-body .body .kept .1 .0 ∙ at-charge .charge .kept .1 .0
-
-same-length-18 : tie.Need-same-length-18
-same-length-18 c =
-    let at-body = c .before .before .before .before .before .before .before .before .before .before .before .before .before .before .before in
-    let at-charge = at-body .before .before .before .before .before .before .before .before .before .before .before .before .before .before .before .before .before .before .before .before
-    .before .before .before .before .before .before in
-    at-body .body .kept .1 .1 .0 ∙ at-charge .charge .kept .1 .1 .0
-
-same-length-19 : tie.Need-same-length-19
-same-length-19 c =
-    let at-body = c .before .before .before .before .before .before .before .before .before .before .before .before .before .before .before in
-    let at-charge = at-body .before .before .before .before .before .before .before .before .before .before .before .before .before .before .before .before .before .before .before .before
-    .before .before .before .before .before .before in
-    at-body .body .kept .1 .1 .1 .0 ∙ at-charge .charge .kept .1 .1 .1 .0
-
-same-length-20 : tie.Need-same-length-20
-same-length-20 c =
-    let at-body = c .before .before .before .before .before .before .before .before .before .before .before .before .before .before .before in
-    let at-charge = at-body .before .before .before .before .before .before .before .before .before .before .before .before .before .before .before .before .before .before .before .before
-    .before .before .before .before .before .before in
-    at-body .body .kept .1 .1 .1 .1 .0 ∙ at-charge .charge .kept .1 .1 .1 .1 .0
-
-same-length-21 : tie.Need-same-length-21
-same-length-21 c =
-    let at-body = c .before .before .before .before .before .before .before .before .before .before .before .before .before .before .before in
-    let at-charge = at-body .before .before .before .before .before .before .before .before .before .before .before .before .before .before .before .before .before .before .before .before
-    .before .before .before .before .before .before in
-    at-body .body .kept .1 .1 .1 .1 .1 .0 ∙ at-charge .charge .kept .1 .1 .1 .1 .1 .0
-
-same-length-22 : tie.Need-same-length-22
-same-length-22 c =
-    let at-charge = c .before .before .before .before .before .before .before .before .before .before .before .before .before .before .before .before .before .before .before .before .before
-    .before .before .before .before .before .before .before .before .before .before .before .before .before .before .before .before .before .before .before .before in
-    at-charge .charge .kept .1 .1 .1 .1 .1 .1 .0
-
 returns-5 : tie.Need-returns-5
 returns-5 c =
-    let at-body = c .before .before .before .before .before .before .before .before .before .before .before .before .before .before .before in
-    let at-a2 = at-body .before .before .before .before .before .before .before .before in
-    let at-charge = at-a2 .before .before .before .before .before .before .before .before .before .before .before .before .before .before .before .before .before .before in
-    let at-pc-of = at-charge .before in let at-if2 = at-pc-of .before .before .before .before .before .before .before .before in
-    let at-passes = at-if2 .before in let at-base-at = at-passes .before .before in let at-if1 = at-base-at .before .before .before in
-    let start = at-if1 .before .before .before .before .before .before .before .before .before .before in
-    let a = start .args in
+    let at-body = body-of c in let at-a2 = arm-of at-body in let at-charge = paid-of at-a2 in let at-pc-of = at-charge .before in let at-if2 = gate-of at-pc-of in
+    let at-passes = at-if2 .before in let at-base-at = base-of at-passes in let at-if1 = some-of at-base-at in let start = start-of at-if1 in let a = start .args in
     λ pc t arm q w b rep snd.
     let some : 1 ≤ a .m .depth = (let h = at-if1 .if1 .left in omega arith) in
     let N = numbered (a .l) w (mem start b) (a .m) (a .fuel) (getD (a .setup .now) 13 0) (at-base-at .base-at .result) rep some refl (at-base-at .base-at .ensures) in
@@ -291,37 +160,37 @@ instruction-spec =
     sub-base-at
     base-at-requires
     shared-slice-read-passes
-    passes-requires
-    same-length
+    (λ c κs. search needs)
+    (λ c. refl)
     returns-2
-    pc-of-requires
+    (λ c κs. search needs)
     charge-requires
-    enum-told
-    enum-known-a
-    enum-known-a-2
+    (λ c. search needs)
+    (λ c. search needs)
+    (λ c. search needs)
     body-requires
-    answer-of-requires
-    same-length-2
-    same-length-3
-    same-length-4
-    same-length-5
-    same-length-6
-    same-length-7
-    same-length-8
+    (λ c κs. search needs)
+    (λ c. spent-of c .charge .kept .0)
+    (λ c. spent-of c .charge .kept .1 .0)
+    (λ c. spent-of c .charge .kept .1 .1 .0)
+    (λ c. spent-of c .charge .kept .1 .1 .1 .0)
+    (λ c. spent-of c .charge .kept .1 .1 .1 .1 .0)
+    (λ c. spent-of c .charge .kept .1 .1 .1 .1 .1 .0)
+    (λ c. spent-of c .charge .kept .1 .1 .1 .1 .1 .1 .0)
     returns-3
-    same-length-9
-    same-length-10
-    same-length-11
-    same-length-12
-    same-length-13
-    same-length-14
-    same-length-15
+    (λ c. closed-of (c .before) .charge .kept .0)
+    (λ c. closed-of (c .before) .charge .kept .1 .0)
+    (λ c. closed-of (c .before) .charge .kept .1 .1 .0)
+    (λ c. closed-of (c .before) .charge .kept .1 .1 .1 .0)
+    (λ c. closed-of (c .before) .charge .kept .1 .1 .1 .1 .0)
+    (λ c. closed-of (c .before) .charge .kept .1 .1 .1 .1 .1 .0)
+    (λ c. closed-of (c .before) .charge .kept .1 .1 .1 .1 .1 .1 .0)
     returns-4
-    same-length-16
-    same-length-17
-    same-length-18
-    same-length-19
-    same-length-20
-    same-length-21
-    same-length-22
+    (λ c. let at-body = body-of c in at-body .body .kept .0 ∙ paid-of (arm-of at-body) .charge .kept .0)
+    (λ c. let at-body = body-of c in at-body .body .kept .1 .0 ∙ paid-of (arm-of at-body) .charge .kept .1 .0)
+    (λ c. let at-body = body-of c in at-body .body .kept .1 .1 .0 ∙ paid-of (arm-of at-body) .charge .kept .1 .1 .0)
+    (λ c. let at-body = body-of c in at-body .body .kept .1 .1 .1 .0 ∙ paid-of (arm-of at-body) .charge .kept .1 .1 .1 .0)
+    (λ c. let at-body = body-of c in at-body .body .kept .1 .1 .1 .1 .0 ∙ paid-of (arm-of at-body) .charge .kept .1 .1 .1 .1 .0)
+    (λ c. let at-body = body-of c in at-body .body .kept .1 .1 .1 .1 .1 .0 ∙ paid-of (arm-of at-body) .charge .kept .1 .1 .1 .1 .1 .0)
+    (λ c. paid-of (arm-of (body-of c)) .charge .kept .1 .1 .1 .1 .1 .1 .0)
     returns-5)
