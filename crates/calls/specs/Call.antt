@@ -83,7 +83,7 @@ opWords (Op.Grant n) = six 24 n 0 0 0 0
 opWords Op.StopRun = six 25 0 0 0 0 0
 opWords Op.Look = six 26 0 0 0 0 0
 
--- 01: "unwind gets no such fault" (11); all else is 13
+-- 01: "`unwind` gets no such fault" (11); all else is 13
 abbrev pub noFault : ℕ → ℕ → Bool
 noFault n a = eqb n 15 && ltb 17 a
 

@@ -73,6 +73,7 @@ deliver (Driver.Iter has val iter) (Returns x) m = step (put has 0 m)
 deliver Driver.Host e m = m
 deliver Driver.Finalize e m = m
 
+-- 01: "the stack and frames below are meant before any unwinding that follows".
 -- y at w entered c; k at v lets it yield, await or return, and leaves z: the whole stack, all frames and the chain
 pub record Left (w : View) (y : Option Op) (c : ℕ) (v : View) (k : Option Op) (z : View) : Type 0 where
   pub by : By w y c

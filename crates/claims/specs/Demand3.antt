@@ -15,16 +15,17 @@ pub record Enters (e : Engine) (c : ℕ) (s : e .State) (k : e .Call) : Type 0 w
   pub before : is (e .view s) runs c ≡ false
   pub after : is (e .view (e .next s k)) runs c ≡ true
 
+-- 01: "A yield (YieldKv too) or await counts if `coro_suspend` accepts, also where 2 or 6 follows"
 pub record Suspends (e : Engine) (c : ℕ) (s : e .State) (k : e .Call) : Type 0 where
   pub before : is (e .view s) runs c ≡ true
   pub after : is (e .view (e .next s k)) sleeps c ≡ true
 
--- it yields, awaits or returns
+-- it yields, awaits or returns. 01: "a return if `finish` or `unwind` makes it Returned"
 pub record Leaves (e : Engine) (c : ℕ) (s : e .State) (k : e .Call) : Type 0 where
   pub before : is (e .view s) runs c ≡ true
   pub after : is (e .view (e .next s k)) (λ x. sleeps x || ended x) c ≡ true
 
--- an accepted set-up
+-- an accepted set-up. 01: "a coroutine from before an accepted one has no next entry, yield, await or return"
 pub record Restarts (e : Engine) (s : e .State) (k : e .Call) : Type 0 where
   pub sets-up : e .op k ≡ none
   pub accepted : e .number s k ≡ 0

@@ -63,7 +63,8 @@ waitsIn (finishes kind x) = 0
 waitsIn (raises f pc) = 0
 waitsIn other = 0
 
--- c on top: its Coro frame, with frames over it and under it
+-- c on top: its Coro frame, with frames over it and under it. 01: "held are its Coro frame with all frames above it, and the words from
+-- that frame's base up"
 pub record Held (v : View) (c : ℕ) : Type 0 where
   pub over : List Frame
   pub body : Frame

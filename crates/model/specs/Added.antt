@@ -39,7 +39,7 @@ abbrev pub pushedOr : World → World → Made → After Answer
 pushedOr w u (Made.Word base) = accepted u
 pushedOr w u (Made.Refused f) = refused w f
 
--- "Host call: an Entry frame."
+-- "Host call: an Entry frame."; "Frames made by a host call or function call have a nil closure."
 unfoldable pub hostCall : ℕ → World → After Answer
 hostCall f w = andThen (pushFrame f nil Cont.Entry w) (pushedOr w)
 
@@ -69,7 +69,7 @@ functionCall pc f cont w = andThen (pushFrame f nil cont (storePc pc w)) (pushed
 unfoldable pub putWord : ℕ → ℕ → World → After Answer
 putWord r v w = accepted (putReg r v w)
 
--- "Make iterator: over a coroutine (else 1 or 2), not done, no key."
+-- "Make iterator: over a coroutine (else 1 or 2), not done, no key." It costs T.
 abbrev pub iteratorOver : Coroutine → ℕ → World → After Answer
 iteratorOver Absent v w = refused w (notA w v)
 iteratorOver (Is k r) v w = andThen (alloc (w .setup .costs .iter) (Object.Iter v false Opt.None) w) answerMade

@@ -77,7 +77,7 @@ abbrev pub chargeAt : OptPc → World → After Charge
 chargeAt OptPc.None w = chargeDone 0 w
 chargeAt (OptPc.Some pc) w = pick (w .fuel .ready) (chargeOr (startFinalizer (storePc pc w))) (chargeDone 0 w)
 
--- coro.rs: charge_slow; without a pc no cleanup starts
+-- coro.rs: charge_slow; without a pc no cleanup starts. 01, fault 10: "bank and fuel both used up"
 unfoldable pub chargeSlow : OptPc → World → After Charge
 chargeSlow pc w = pick (eqb (unbank w .fuel .fuel) 0) (after (unbank w) Charge.Spent) (chargeAt pc (unbank w))
 

@@ -86,6 +86,7 @@ abbrev pub overflows : Core → World → Bool
 overflows k w =
     ltb (w .setup .limits .depth) (length (w .frames) + length (k .frames)) || ltb (w .setup .limits .stack) (length (w .stack) + length (k .regs))
 
+-- 01: "not a coroutine (1 or 2); not Created, Yielded or Awaiting (3)"
 abbrev pub enterAs : Coroutine → ℕ → Driver → World → After Entered
 enterAs Absent v d w = after w (Entered.Refused (notA w v))
 enterAs (Is k r) v d w =

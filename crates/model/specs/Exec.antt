@@ -84,6 +84,7 @@ abbrev pub hooked : World → ℕ → World → Made → After Step
 hooked w c u (Made.Word base) = after (withStack (set (u .stack) base c) u) Step.Frame
 hooked w c u (Made.Refused f) = fault w f
 
+-- Spawn's second unit, taken for the call of the hook; c is the coroutine's word
 abbrev pub callHook : ℕ → ℕ → ℕ → ℕ → World → Charge → After Step
 callHook hook pc dst c w (Charge.Done n) = andThen (pushFrame hook nil (Cont.Value dst) (storePc pc w)) (hooked w c)
 callHook hook pc dst c w Charge.Spent = fault w Fault.OutOfFuel
@@ -93,6 +94,7 @@ abbrev pub spawnMade : ℕ → ℕ → ℕ → World → Made → After Step
 spawnMade hook pc dst w (Made.Word c) = andThen (charge OptPc.None w) (callHook hook pc dst c)
 spawnMade hook pc dst w (Made.Refused f) = fault w f
 
+-- 01, fault 8: "Spawn without a hook"
 abbrev pub spawnBy : Opt → ℕ → ℕ → ℕ → ℕ → World → After Step
 spawnBy Opt.None pc dst callee argc w = fault w Fault.NoScheduler
 spawnBy (Opt.Some hook) pc dst callee argc w = andThen (indirect dst callee argc w) (spawnMade hook pc dst)

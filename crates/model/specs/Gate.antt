@@ -60,7 +60,7 @@ onFrame operands body w =
     (pick (not operands) (refused w Fault.BadOperand)
     (body w))
 
--- host call or host entry
+-- host call or host entry. 01, fault 15: "host call or entry while a frame stands"
 unfoldable pub onHost : Bool → (World → After Answer) → World → After Answer
 onHost operands body w =
     pick (not (isNil (w .frames))) (refused w Fault.Busy)

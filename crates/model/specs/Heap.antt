@@ -96,7 +96,7 @@ alloc bytes o w =
 
 -- ---- integers
 
--- conv.rs: encode_int, an integer's word: inline, or that of a new object
+-- conv.rs: encode_int, an integer's word: inline, or that of a new object, which costs I
 abbrev pub encodeAt : Inline → ℕ → World → After Made
 encodeAt (Inline.At x) n w = after w (Made.Word (x .0))
 encodeAt Inline.Large n w = alloc (w .setup .costs .int) (Object.Int n) w

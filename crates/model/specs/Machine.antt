@@ -86,6 +86,7 @@ finishAs (Cont.Value dst) f fs kind v w = andThen (applyCont (Cont.Value dst) ki
 finishAs Cont.Discard f fs kind v w = andThen (applyCont Cont.Discard kind v (popTo f fs w)) resumeIn
 finishAs Cont.Coro f fs kind v w = finishCoro f fs kind v w
 
+-- 01: "`finish` answers exit, with its word or none, or resume."
 abbrev pub finishOn : List Frame → ResultKind → ℕ → World → After Answer
 finishOn [] kind v w = after w (Answer.Exit (resultOf kind v))
 finishOn (f ∷ fs) kind v w = finishAs (f .cont) f fs kind v w
@@ -108,7 +109,7 @@ uncaught value w = after w (Answer.Refused (Fault.Throw value))
 abbrev pub stopOr : (World → After Answer) → World → Bool → After Answer
 stopOr next w stops = pick stops (after w Answer.Stopped) (next w)
 
--- the word value, raised at pc of function f, leaves a frame that is gone already
+-- the word `value`, raised at `pc` of function `f`, leaves a frame that is gone already
 abbrev pub escape : Cont → ℕ → ℕ → ℕ → (World → After Answer) → World → After Answer
 escape Cont.Entry value f pc next w = uncaught value w
 escape (Cont.Write r) value f pc next w = next w
@@ -117,7 +118,7 @@ escape (Cont.Value r) value f pc next w = next w
 escape Cont.Discard value f pc next w = next w
 escape Cont.Coro value f pc next w = andThen (coroEscaped value f pc w) (stopOr next)
 
--- a handler costs a unit
+-- 01: "taking one costs one unit"
 abbrev pub takeHandler : Handler → ℕ → World → After Answer
 takeHandler h value w = andThen (charge OptPc.None w) (caught h value)
 
@@ -144,7 +145,8 @@ searchMade w (Made.Refused f) = after w (Answer.Refused f)
 abbrev pub errorOf : Fault → World → Object
 errorOf f w = Object.Error (numberOf f) (topFunc (w .frames)) (topPc (w .frames)) nil
 
--- 1 to 8 are raised as an error object, 17 as its word; 9 and 10 pass. `next` is told which
+-- 1 to 8 are raised as an error object (which costs E), 17 as its word. 01: "Faults 9 and 10 pass through it unchanged." `next` is told
+-- which
 abbrev pub raisedTo : {A : Type 0} → (World → Made → After A) → Fault → World → After A
 raisedTo next f w =
     pick (eqb (numberOf f) 17) (next w (Made.Word (wordOf f)))

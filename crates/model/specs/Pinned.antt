@@ -65,7 +65,7 @@ pub record Pinned : Type 0 where
   pub stopped : reached (hosted ++ (Op.StopRun ∷ [])) .outcome ≡ Outcome.None
   -- an error object has function and pc of the top frame, once the given pc is stored
   pub error : object (reached (holding 1 1 ++ (Op.Unwind Fault.TypeError (OptPc.Some 7) ∷ []))) d ≡ Object.Error 2 1 7 0
-  -- "no result leaves it as it was"
+  -- no result leaves it as it was
   pub nothing-written : look (holding 1 1 ++ (Op.PutWord 1 5 ∷ Op.FunctionCall 4 0 (Cont.Write 1) ∷ Op.Finish ResultKind.None 0 ∷ [])) ≡ c ∷ 5 ∷ []
   -- pc is not stored by ResumeThrow's 1, nor by iter_next's 2 on an Awaiting source
   pub throws-at-nil : reached (holding 1 1 ++ (Op.ResumeThrow 9 1 1 1 ∷ [])) .frames ≡ caller 0 ∷ []

@@ -42,7 +42,7 @@ after w a = record { world = w; answer = a }
 abbrev pub andThen : {A B : Type 0} → After A → (World → A → After B) → After B
 andThen o g = g (o .world) (o .answer)
 
--- 01: "functions (each a function object, slots from 0, uncharged)"
+-- 01: "functions .. (each a function object, slots from 0, uncharged)"
 abbrev pub functionObjects : ℕ → List Func → List (Slot Object)
 functionObjects i [] = []
 functionObjects i (f ∷ fs) = slot 0 (Object.Func i) ∷ functionObjects (suc i) fs

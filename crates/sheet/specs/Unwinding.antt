@@ -116,7 +116,7 @@ topPc (f ∷ fs) = f .pc
 abbrev pub raised : ℕ → World → List (Line Answer)
 raised value w = search (w .frames) value (topFunc (w .frames)) (topPc (w .frames)) w
 
--- "An error object holds number, function and pc of the top frame at the start (0 and 0 without one) and nil"
+-- an error object holds number, function and pc of the top frame at the start (0 and 0 without one) and nil
 abbrev pub errorMade : ℕ → World → World
 errorMade n z = stored (Object.Error n (topFunc (z .frames)) (topPc (z .frames)) 0) (z .setup .costs .error) z
 

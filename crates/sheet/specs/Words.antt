@@ -136,7 +136,7 @@ tooHigh w v =
 
 -- ---- memory
 
--- 9: "Memory sums stop at 2^64 - 1"
+-- 9; memory sums stop at 2^64 - 1 (DECISIONS 13)
 abbrev pub charged : World → ℕ → ℕ
 charged w bytes = min (w .used + bytes) (2 ^ 64 - 1)
 
