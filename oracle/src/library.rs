@@ -268,10 +268,15 @@ impl Lent {
     }
 }
 
+/// Words of a page, and how far the slices of a block begin from one another in
+/// theirs: where two begin at the same place, loads wait for stores to the other.
+const PAGE: usize = 512;
+const APART: usize = 80;
+
 /// A sound machine's words without guards, for the benchmark.
 pub struct Bare {
-    words: Words,
-    /// Where they are: no slice is ever moved or resized.
+    /// All words in one block, which is never moved or resized.
+    block: Vec<u64>,
     slices: [Slice; 11],
     answer: AnswerWords,
 }
@@ -280,9 +285,21 @@ impl Bare {
     /// A fresh machine. The set-up must be a good one.
     #[must_use]
     pub fn new(s: &Setup) -> Bare {
-        let mut words = Words::of(&World::fresh(s.clone()));
-        let slices = words.0.each_mut().map(|w| lent(w));
-        let mut bare = Bare { words, slices, answer: [0; 8] };
+        let words = Words::of(&World::fresh(s.clone()));
+        let mut block = vec![0; words.0.iter().map(|w| w.len() + 2 * PAGE).sum::<usize>() + PAGE];
+        let skip = block.as_ptr().align_offset(8 * PAGE);
+        let mut rest = &mut block[skip..];
+        let mut at = 0;
+        let slices = std::array::from_fn(|i| {
+            let w = &words.0[i];
+            let gap = (i * APART + PAGE - at % PAGE) % PAGE;
+            let (here, after) = std::mem::take(&mut rest)[gap..].split_at_mut(w.len());
+            here.copy_from_slice(w);
+            at += gap + w.len();
+            rest = after;
+            lent(here)
+        });
+        let mut bare = Bare { block, slices, answer: [0; 8] };
         let mut given = setup_words(s);
         let (g, a) = (lent(&mut given), lent(&mut bare.answer));
         assert_eq!(lend!(bvm_set_up(bare.slices, g, a)), 0);
@@ -337,25 +354,31 @@ impl Bare {
     /// All words of the nine slices, the numbers and the fuel, joined.
     #[must_use]
     pub fn joined(&self) -> u64 {
-        self.words.0.iter().fold(0, |all, ws| ws.iter().fold(all, |a, w| a | w))
+        (0..11).fold(0, |all, i| self.slice(i).iter().fold(all, |a, w| a | w))
     }
 
     /// How many words there are.
     #[must_use]
     #[allow(clippy::len_without_is_empty)]
     pub fn len(&self) -> usize {
-        self.words.0.iter().map(Vec::len).sum()
+        self.slices.iter().map(|s| s.1).sum()
+    }
+
+    /// A slice's words.
+    fn slice(&self, i: usize) -> &[u64] {
+        let start = (self.slices[i].0 as usize - self.block.as_ptr() as usize) / 8;
+        &self.block[start..start + self.slices[i].1]
     }
 
     /// The words on the stack.
     #[must_use]
     pub fn stack(&self) -> &[u64] {
-        &self.words.0[STACK][..self.words.0[MACHINE][0] as usize]
+        &self.slice(STACK)[..self.slice(MACHINE)[0] as usize]
     }
 
     /// How many frames there are.
     #[must_use]
     pub fn depth(&self) -> usize {
-        self.words.0[MACHINE][1] as usize
+        self.slice(MACHINE)[1] as usize
     }
 }

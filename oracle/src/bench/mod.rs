@@ -170,7 +170,7 @@ pub(crate) fn setup(costs: Costs) -> Setup {
     }
 }
 
-/// The same functions but the widest on a machine of 1,554 words.
+/// The same functions but the widest on a machine of 1,111 words.
 pub(crate) fn small(costs: Costs) -> Setup {
     let mut s = setup(costs);
     s.funcs.truncate(4);
