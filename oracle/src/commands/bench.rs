@@ -4,6 +4,8 @@
 use std::path::PathBuf;
 use std::process::Command;
 
+use oracle::world::Costs;
+
 const HEAD: &str = "| measure | median ns | least ns |\n|---|---:|---:|";
 
 /// Interpreters that may be here, with the program each runs.
@@ -14,18 +16,18 @@ const OTHERS: [(&str, &str); 4] = [
     ("python3", "generators.py"),
 ];
 
-pub(crate) fn bench() -> Result<(), String> {
+/// The original's costs where it is linked.
+pub(crate) fn costs() -> Result<Costs, String> {
     let mut costs = super::COSTS;
     super::with_original(|_, own| {
         costs = own;
         Ok(())
     })?;
-    crate::bench::round_trips(costs);
-    #[cfg(original)]
-    {
-        println!("\noriginal\n\n{HEAD}");
-        crate::driver::bench::alone(costs);
-    }
+    Ok(costs)
+}
+
+pub(crate) fn bench() -> Result<(), String> {
+    crate::bench::table(costs()?);
     #[cfg(not(library))]
     println!("\nskipped: the library is not linked (BVM_LIB is unset)");
     for (binary, program) in OTHERS {
