@@ -47,6 +47,7 @@ fn main() {
 fn library() {
     println!("cargo::rerun-if-env-changed=BVM_LIB");
     println!("cargo::rustc-check-cfg=cfg(library)");
+    println!("cargo::rustc-check-cfg=cfg(hot)");
     let Some(lib) = env::var_os("BVM_LIB").filter(|s| !s.is_empty()) else {
         return;
     };
@@ -56,6 +57,17 @@ fn library() {
     println!("cargo::rustc-link-search=native={}", lib.display());
     println!("cargo::rustc-link-lib=static=boundary");
     println!("cargo::rustc-cfg=library");
+    hot(&lib);
+}
+
+/// Links the functions of single switches, where they were built.
+fn hot(lib: &Path) {
+    let file = lib.join("libhot.a");
+    println!("cargo::rerun-if-changed={}", file.display());
+    if file.exists() {
+        println!("cargo::rustc-link-lib=static=hot");
+        println!("cargo::rustc-cfg=hot");
+    }
 }
 
 /// A module of the crate root, read from `file`. The original declares far

@@ -37,11 +37,6 @@
 
 #![deny(unsafe_code)]
 
-/// The lines of the crate's README, compiled and run.
-#[cfg(doctest)]
-#[doc = include_str!("../README.md")]
-struct Readme;
-
 mod answer;
 mod call;
 mod ffi;

@@ -1,5 +1,6 @@
 //! The compiled library beside another engine: the answer and every word
-//! after each call, through `bvm_call`, `bvm_kept` and `bvm_run`.
+//! after each call, through `bvm_call`, `bvm_kept`, `bvm_run`, and `bvm_resume`
+//! and `bvm_yield` where they are linked.
 
 use crate::call::{Answer, Call};
 use crate::coverage::ANSWERS;
@@ -75,10 +76,11 @@ fn room(old: &Words, setup: &Setup, more: usize) -> Words {
     words
 }
 
-/// The library's three ways, each with a memory of its own.
+/// The library's four ways, each with a memory of its own.
 pub struct Library {
     call: Lent,
     kept: Lent,
+    switch: Lent,
     run: Lent,
     /// Calls for `bvm_run`, and their answers.
     waiting: Vec<(CallWords, [u64; 8])>,
@@ -89,12 +91,23 @@ impl Library {
     #[must_use]
     pub fn new(start: &World) -> Library {
         let lent = Lent::new(&Words::of(start));
-        Library { call: lent.clone(), kept: lent.clone(), run: lent, waiting: Vec::new(), most: 1 }
+        Library {
+            call: lent.clone(),
+            kept: lent.clone(),
+            switch: lent.clone(),
+            run: lent,
+            waiting: Vec::new(),
+            most: 1,
+        }
     }
 
     /// One call on each; every word must be what the other engine left.
     fn one(&mut self, words: CallWords, wanted: [u64; 8], after: &Words) -> Result<(), String> {
-        for (through, lent) in [(Through::Call, &mut self.call), (Through::Kept, &mut self.kept)] {
+        for (through, lent) in [
+            (Through::Call, &mut self.call),
+            (Through::Kept, &mut self.kept),
+            (Through::Switch, &mut self.switch),
+        ] {
             let (number, answer) = lent.call(through, &words);
             if answer != wanted || number != wanted[0] {
                 return Err(format!("{through:?} answers {number}: {answer:?}, not {wanted:?}"));
@@ -124,7 +137,7 @@ impl Library {
 
     fn set_up(&mut self, s: &Setup, after: &Words, more: usize) -> Result<(), String> {
         let wanted = if good_setup(s).is_ok() { [0; 8] } else { refused(11) };
-        for lent in [&mut self.call, &mut self.kept, &mut self.run] {
+        for lent in [&mut self.call, &mut self.kept, &mut self.switch, &mut self.run] {
             let before = room(&lent.words(), s, more);
             *lent = Lent::new(&before);
             let (number, answer) = lent.set_up(&setup_words(s));
@@ -185,9 +198,11 @@ impl Library {
             count.cells[call.number()][usize::from(told.number)] += 1;
             count.words += expected.count() as u64;
             if let Some((words, number)) = no_call(i) {
-                for (through, lent) in
-                    [(Through::Call, &mut all.call), (Through::Kept, &mut all.kept)]
-                {
+                for (through, lent) in [
+                    (Through::Call, &mut all.call),
+                    (Through::Kept, &mut all.kept),
+                    (Through::Switch, &mut all.switch),
+                ] {
                     let (n, answer) = lent.call(through, &words);
                     if (n, answer) != (number, refused(number)) || !lent.is(&expected) {
                         return Err(at(format!("{words:?} answers {n}: {answer:?}")));

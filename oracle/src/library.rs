@@ -35,6 +35,36 @@ functions! {
     bvm_sound();
 }
 
+#[cfg(hot)]
+macro_rules! switches {
+    ($($name:ident($($reg:ident)*);)*) => {
+        extern "C" {
+            $(fn $name(
+                stack: *mut u64, _: usize,
+                frames: *mut u64, _: usize,
+                chain: *mut u64, _: usize,
+                slots: *mut u64, _: usize,
+                saved_stack: *mut u64, _: usize,
+                saved_frames: *mut u64, _: usize,
+                ready: *mut u64, _: usize,
+                finalize: *mut u64, _: usize,
+                setup: *mut u64, _: usize,
+                machine: *mut u64, _: usize,
+                fuel: *mut u64, _: usize,
+                answer: *mut u64, _: usize,
+                pc: u32,
+                $($reg: u16,)*
+            ) -> u64;)*
+        }
+    };
+}
+
+#[cfg(hot)]
+switches! {
+    bvm_resume(dst coro src);
+    bvm_yield(dst src);
+}
+
 const GUARD: u64 = 0x5AFE_5AFE_5AFE_5AFE;
 /// Guard words on each side.
 const AROUND: usize = 4;
@@ -95,11 +125,32 @@ macro_rules! lend {
     }};
 }
 
+/// Lends the eleven slices and the answer, then operands.
+#[cfg(hot)]
+macro_rules! switch {
+    ($name:ident($all:expr, $answer:expr, $($operand:expr),*)) => {{
+        let a: [Slice; 11] = $all;
+        // SAFETY: each slice is lent whole and none twice, and they are a
+        // sound machine's.
+        unsafe {
+            $name(
+                a[0].0, a[0].1, a[1].0, a[1].1, a[2].0, a[2].1, a[3].0, a[3].1, a[4].0, a[4].1,
+                a[5].0, a[5].1, a[6].0, a[6].1, a[7].0, a[7].1, a[8].0, a[8].1, a[9].0, a[9].1,
+                a[10].0, a[10].1, $answer.0, $answer.1,
+                $($operand),*
+            )
+        }
+    }};
+}
+
 /// A call in words through one of the library's functions.
 #[derive(Clone, Copy, PartialEq, Eq, PartialOrd, Ord, Debug)]
 pub enum Through {
     Call,
     Kept,
+    /// Resume and Yield by the functions of their own, where they are linked;
+    /// all else by `bvm_kept`.
+    Switch,
 }
 
 impl Lent {
@@ -137,8 +188,31 @@ impl Lent {
         let number = match through {
             Through::Call => lend!(bvm_call(self.all(), c, a)),
             Through::Kept => lend!(bvm_kept(self.all(), c, a)),
+            Through::Switch => match self.switched(call.words(), a) {
+                Some(number) => number,
+                None => lend!(bvm_kept(self.all(), c, a)),
+            },
         };
         (number, answer.words().try_into().expect("eight words"))
+    }
+
+    /// Resume or Yield, if the words are such a call.
+    #[cfg(hot)]
+    fn switched(&mut self, call: &[u64], a: Slice) -> Option<u64> {
+        let pc = u32::try_from(*call.get(1)?).ok()?;
+        let reg = |i: usize| u16::try_from(call[i]).ok();
+        match *call {
+            [6, _, _, _, _, 0] => {
+                Some(switch!(bvm_resume(self.all(), a, pc, reg(2)?, reg(3)?, reg(4)?)))
+            }
+            [3, _, _, _, 0, 0] => Some(switch!(bvm_yield(self.all(), a, pc, reg(2)?, reg(3)?))),
+            _ => None,
+        }
+    }
+
+    #[cfg(not(hot))]
+    fn switched(&mut self, _: &[u64], _: Slice) -> Option<u64> {
+        None
     }
 
     /// Calls in words, one after the other; the answers have so many words,
@@ -194,9 +268,16 @@ impl Lent {
     }
 }
 
+/// Words of a page, and how far the slices of a block begin from one another in
+/// theirs: where two begin at the same place, loads wait for stores to the other.
+const PAGE: usize = 512;
+const APART: usize = 80;
+
 /// A sound machine's words without guards, for the benchmark.
 pub struct Bare {
-    words: Words,
+    /// All words in one block, which is never moved or resized.
+    block: Vec<u64>,
+    slices: [Slice; 11],
     answer: AnswerWords,
 }
 
@@ -204,10 +285,24 @@ impl Bare {
     /// A fresh machine. The set-up must be a good one.
     #[must_use]
     pub fn new(s: &Setup) -> Bare {
-        let mut bare = Bare { words: Words::of(&World::fresh(s.clone())), answer: [0; 8] };
+        let words = Words::of(&World::fresh(s.clone()));
+        let mut block = vec![0; words.0.iter().map(|w| w.len() + 2 * PAGE).sum::<usize>() + PAGE];
+        let skip = block.as_ptr().align_offset(8 * PAGE);
+        let mut rest = &mut block[skip..];
+        let mut at = 0;
+        let slices = std::array::from_fn(|i| {
+            let w = &words.0[i];
+            let gap = (i * APART + PAGE - at % PAGE) % PAGE;
+            let (here, after) = std::mem::take(&mut rest)[gap..].split_at_mut(w.len());
+            here.copy_from_slice(w);
+            at += gap + w.len();
+            rest = after;
+            lent(here)
+        });
+        let mut bare = Bare { block, slices, answer: [0; 8] };
         let mut given = setup_words(s);
         let (g, a) = (lent(&mut given), lent(&mut bare.answer));
-        assert_eq!(lend!(bvm_set_up(bare.words.0.each_mut().map(|w| lent(w)), g, a)), 0);
+        assert_eq!(lend!(bvm_set_up(bare.slices, g, a)), 0);
         bare
     }
 
@@ -215,27 +310,75 @@ impl Bare {
     #[inline]
     pub fn kept(&mut self, mut call: CallWords) -> &AnswerWords {
         let (c, a) = (lent(&mut call), lent(&mut self.answer));
-        lend!(bvm_kept(self.words.0.each_mut().map(|w| lent(w)), c, a));
+        lend!(bvm_kept(self.slices, c, a));
         &self.answer
+    }
+
+    /// Calls one after the other, tested once.
+    #[inline]
+    pub fn run(&mut self, calls: &mut [u64], answers: &mut [u64]) -> u64 {
+        let (c, a) = (lent(calls), lent(answers));
+        lend!(bvm_run(self.slices, c, a))
+    }
+
+    /// Resume, without the test of soundness.
+    #[cfg(hot)]
+    #[inline]
+    pub fn resume(&mut self, pc: u32, dst: u16, coro: u16, src: u16) -> u64 {
+        let a = lent(&mut self.answer);
+        switch!(bvm_resume(self.slices, a, pc, dst, coro, src))
+    }
+
+    /// Yield, without it.
+    #[cfg(hot)]
+    #[inline]
+    pub fn suspend(&mut self, pc: u32, dst: u16, src: u16) -> u64 {
+        let a = lent(&mut self.answer);
+        switch!(bvm_yield(self.slices, a, pc, dst, src))
     }
 
     /// A call with it.
     #[inline]
     pub fn call(&mut self, mut call: CallWords) -> &AnswerWords {
         let (c, a) = (lent(&mut call), lent(&mut self.answer));
-        lend!(bvm_call(self.words.0.each_mut().map(|w| lent(w)), c, a));
+        lend!(bvm_call(self.slices, c, a));
         &self.answer
+    }
+
+    /// The test of soundness.
+    #[inline]
+    pub fn sound(&mut self) -> bool {
+        lend!(bvm_sound(self.slices,)) == 1
+    }
+
+    /// All words of the nine slices, the numbers and the fuel, joined.
+    #[must_use]
+    pub fn joined(&self) -> u64 {
+        (0..11).fold(0, |all, i| self.slice(i).iter().fold(all, |a, w| a | w))
+    }
+
+    /// How many words there are.
+    #[must_use]
+    #[allow(clippy::len_without_is_empty)]
+    pub fn len(&self) -> usize {
+        self.slices.iter().map(|s| s.1).sum()
+    }
+
+    /// A slice's words.
+    fn slice(&self, i: usize) -> &[u64] {
+        let start = (self.slices[i].0 as usize - self.block.as_ptr() as usize) / 8;
+        &self.block[start..start + self.slices[i].1]
     }
 
     /// The words on the stack.
     #[must_use]
     pub fn stack(&self) -> &[u64] {
-        &self.words.0[STACK][..self.words.0[MACHINE][0] as usize]
+        &self.slice(STACK)[..self.slice(MACHINE)[0] as usize]
     }
 
     /// How many frames there are.
     #[must_use]
     pub fn depth(&self) -> usize {
-        self.words.0[MACHINE][1] as usize
+        self.slice(MACHINE)[1] as usize
     }
 }

@@ -23,7 +23,7 @@ mod linked {
 
     fn tell(name: &str, count: &Count, start: Instant) {
         println!(
-            "{name}: {} sequences, {} calls three ways, {} words that are no call, {} words of state, {:.1} s, no difference",
+            "{name}: {} sequences, {} calls four ways, {} words that are no call, {} words of state, {:.1} s, no difference",
             count.sequences,
             count.calls,
             count.none,

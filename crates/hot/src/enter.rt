@@ -25,7 +25,9 @@ fn move_in(
     i: usize,
 )
     requires { ⌜ MoveInFits (now stack) (now frames) (now slots) (now «saved_stack») (now «saved_frames») (now machine) i ⌝ }
-    ensures { λ _. ⌜ Moves (now (stack .entry)) (now (frames .entry)) (now («saved_stack» .entry)) (now («saved_frames» .entry)) (now (stack .exit)) (now (frames .exit)) (now («saved_stack» .exit)) (now («saved_frames» .exit)) (machineIn (now (machine .entry)) .height) (machineIn (now (machine .entry)) .depth) (sizesIn (now (machine .entry))) (recordAt (now (slots .entry)) i) ⌝ }
+    ensures { λ _. ⌜ Moves (now (stack .entry)) (now (frames .entry)) (now («saved_stack» .entry)) (now («saved_frames» .entry)) (now (stack .exit))
+        (now (frames .exit)) (now («saved_stack» .exit)) (now («saved_frames» .exit)) (machineIn (now (machine .entry)) .height) (machineIn
+        (now (machine .entry)) .depth) (sizesIn (now (machine .entry))) (recordAt (now (slots .entry)) i) ⌝ }
 {
     let at = (word(slots, i, 7) as usize) * (machine[18] as usize);
     tables::rows::enter_stack(
@@ -60,7 +62,9 @@ fn enter_at(
     i: usize,
 )
     requires { ⌜ EnterAtFits (now stack) (now frames) (now chain) (now slots) (now «saved_stack») (now «saved_frames») (now machine) v i ⌝ }
-    ensures { λ _. ⌜ Met ifSound (sizesIn (now (machine .entry))) (entersBy v dst) (six stack frames chain slots «saved_stack» «saved_frames») (only (machineIn (now (machine .entry)))) (only (grown (machineIn (now (machine .entry))) (recordAt (now (slots .entry)) i))) (enteredAs (recordAt (now (slots .entry)) i)) ⌝ }
+    ensures { λ _. ⌜ Met ifSound (sizesIn (now (machine .entry))) (entersBy v dst) (six stack frames chain slots «saved_stack» «saved_frames»)
+        (only (machineIn (now (machine .entry)))) (only (grown (machineIn (now (machine .entry))) (recordAt
+        (now (slots .entry)) i))) (enteredAs (recordAt (now (slots .entry)) i)) ⌝ }
 {
     move_in(stack, frames, slots, saved_stack, saved_frames, machine, i);
     tables::chain::push_active(
@@ -115,7 +119,10 @@ pub(crate) fn enter(
     i: usize,
 )
     requires { ⌜ EnterFits (now stack) (now frames) (now chain) (now slots) (now «saved_stack») (now «saved_frames») (now machine) pc src v i ⌝ }
-    ensures { λ _. ⌜ (now (machine .exit) ≡ enteredOver (grown (machineIn (now (machine .entry))) (recordAt (now (slots .entry)) i)) (now (machine .entry))) × Met ifSound (sizesIn (now (machine .entry))) (resumesBy pc dst src v) (six stack frames chain slots «saved_stack» «saved_frames») (only (machineIn (now (machine .entry)))) (only (grown (machineIn (now (machine .entry))) (recordAt (now (slots .entry)) i))) Frame ⌝ }
+    ensures { λ _. ⌜ (now (machine .exit) ≡ enteredOver (grown (machineIn (now (machine .entry))) (recordAt (now (slots .entry)) i))
+        (now (machine .entry))) × Met ifSound (sizesIn (now (machine .entry))) (resumesBy pc dst src v)
+        (six stack frames chain slots «saved_stack» «saved_frames») (only (machineIn (now (machine .entry)))) (only (grown (machineIn
+        (now (machine .entry))) (recordAt (now (slots .entry)) i))) Frame ⌝ }
 {
     let sent = tables::stack::reg(
         stack,

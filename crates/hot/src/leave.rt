@@ -28,7 +28,9 @@ fn move_out(
     base: usize,
 )
     requires { ⌜ MoveOutFits (now stack) (now frames) (now «saved_stack») (now «saved_frames») (now machine) row floor base ⌝ }
-    ensures { λ _. ⌜ Leaves (now (stack .entry)) (now (frames .entry)) (now («saved_stack» .entry)) (now («saved_frames» .entry)) (now (stack .exit)) (now (frames .exit)) (now («saved_stack» .exit)) (now («saved_frames» .exit)) (machineIn (now (machine .entry))) (sizesIn (now (machine .entry))) row floor base ⌝ }
+    ensures { λ _. ⌜ Leaves (now (stack .entry)) (now (frames .entry)) (now («saved_stack» .entry)) (now («saved_frames» .entry)) (now (stack .exit))
+        (now (frames .exit)) (now («saved_stack» .exit)) (now («saved_frames» .exit)) (machineIn (now (machine .entry))) (sizesIn
+        (now (machine .entry))) row floor base ⌝ }
 {
     let at = (row as usize) * (machine[18] as usize);
     tables::rows::leave_stack(stack, machine[0] as usize, base, saved_stack, at);
@@ -93,7 +95,9 @@ fn leave_at(
     base: usize,
 )
     requires { ⌜ LeaveAtFits (now stack) (now frames) (now chain) (now slots) (now «saved_stack») (now «saved_frames») (now machine) i floor base ⌝ }
-    ensures { λ _. ⌜ Met ifSound (sizesIn (now (machine .entry))) (suspendsBy dst payload key largest) (six stack frames chain slots «saved_stack» «saved_frames») (only (machineIn (now (machine .entry)))) (only (shrunkTo (now (machine .entry)) base floor)) (toldTo (innermostIn (now (chain .entry)) (machineIn (now (machine .entry))) .driver) payload key) ⌝ }
+    ensures { λ _. ⌜ Met ifSound (sizesIn (now (machine .entry))) (suspendsBy dst payload key largest)
+        (six stack frames chain slots «saved_stack» «saved_frames») (only (machineIn (now (machine .entry)))) (only (shrunkTo
+        (now (machine .entry)) base floor)) (toldTo (innermostIn (now (chain .entry)) (machineIn (now (machine .entry))) .driver) payload key) ⌝ }
 {
     let row = word(slots, i, 7);
     move_out(
@@ -129,7 +133,10 @@ pub(crate) fn leave(
     largest: u64,
 )
     requires { ⌜ LeaveFits (now stack) (now frames) (now chain) (now slots) (now «saved_stack») (now «saved_frames») (now machine) pc src i key largest ⌝ }
-    ensures { λ _. ⌜ (now (machine .exit) ≡ enteredOver (leftIn (now (frames .entry)) (now (chain .entry)) (now (machine .entry))) (now (machine .entry))) × Met ifSound (sizesIn (now (machine .entry))) (yield pc dst src) (six stack frames chain slots «saved_stack» «saved_frames») (only (machineIn (now (machine .entry)))) (only (leftIn (now (frames .entry)) (now (chain .entry)) (now (machine .entry)))) Frame ⌝ }
+    ensures { λ _. ⌜ (now (machine .exit) ≡ enteredOver (leftIn (now (frames .entry)) (now (chain .entry)) (now (machine .entry)))
+        (now (machine .entry))) × Met ifSound (sizesIn (now (machine .entry))) (yield pc dst src)
+        (six stack frames chain slots «saved_stack» «saved_frames») (only (machineIn (now (machine .entry)))) (only (leftIn (now (frames .entry))
+        (now (chain .entry)) (now (machine .entry)))) Frame ⌝ }
 {
     let payload = tables::stack::reg(
         stack,

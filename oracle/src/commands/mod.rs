@@ -20,7 +20,7 @@ const USAGE: &str = "usage: oracle COMMAND
   run               calls from the standard input: answers and states
   fuzz SEED N       N random sequences on the original and the second engine
   coverage SEED N   the same, with a table of calls by answers
-  library SEED N    N random sequences on the original and through the library's three ways
+  library SEED N    N random sequences on the original and through the library's functions
   wild SEED N       the same, with operands at and beyond every limit
   carried SEED N    the same through `bvm_kept`, with one word changed on the way
   bad SEED N        N lent memories that hold anything, through the library
@@ -36,7 +36,10 @@ const USAGE: &str = "usage: oracle COMMAND
   antt SEED N DIR   N random sequences as theorems about the definitions
   antt-recorded FROM TO DIR   recorded sequences as theorems
   antt-damaged SEED N DIR     states at each rule's edge as theorems, and damaged ones, each rule broken up to N times
-  bench             the original's speed, the library's beside it, and others'";
+  bench             the original's speed, the library's beside it, and others'
+  growth FILE       how a round trip grows with frames and registers, as a plot
+  instructions      the library's instructions of each measure, by callgrind
+  count ENGINE I N  N operations of measure I, for callgrind";
 
 #[cfg(not(original))]
 const SKIPPED: &str = "skipped: the original's sources are not here (BVM_SRC is unset)";
@@ -78,6 +81,11 @@ pub(crate) fn run(args: &[&str]) -> Result<(), String> {
             antt::damaged(COSTS, number(seed)?, number(n)?, Path::new(dir))
         }
         ["bench"] => bench::bench(),
+        ["growth", file] => crate::bench::growth(bench::costs()?, file),
+        ["instructions"] => crate::bench::recorded(),
+        ["count", engine, i, n] => {
+            crate::bench::count(bench::costs()?, engine, number(i)? as usize, number(n)? as usize)
+        }
         _ => Err(USAGE.into()),
     }
 }

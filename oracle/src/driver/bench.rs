@@ -2,11 +2,12 @@
 
 use std::hint::black_box;
 
-use bytecode_lang::{FuncId, Inst, Reg};
+use bytecode_lang::{FuncId, Inst, Reg, ValType};
 use oracle::world::{Costs, World};
 
-use super::bridge;
-use crate::bench::{setup, timed, Found, Switch};
+use super::{bridge, outer};
+use crate::bench::{setup, Switch};
+use crate::coll;
 use crate::coro;
 use crate::exec::{Cx, Step};
 use crate::fault::Fault;
@@ -47,6 +48,17 @@ impl Bench {
         };
         coro::exec(&mut self.m, &mut self.stack, &self.prog, &cx, 0, inst)
     }
+
+    fn unwound(&mut self, fault: Fault) {
+        let Bench { prog, m, stack } = self;
+        assert!(m.unwind(stack, prog, fault).is_ok(), "unwound");
+    }
+
+    /// A step that raises a word, and the unwinding of it.
+    fn raised(&mut self, inst: Inst) {
+        let Step::Unwind(fault) = self.step(inst) else { panic!("a word is raised") };
+        self.unwound(fault);
+    }
 }
 
 impl Switch for Bench {
@@ -68,44 +80,47 @@ impl Switch for Bench {
         let step = self.step(Inst::Yield { dst: Reg(0), src: Reg(1) });
         assert!(matches!(step, Step::Frame), "suspended");
     }
-}
 
-/// Prints the median and the least of many batches, per operation.
-fn report(name: &str, batch: impl FnMut() -> u128) {
-    let f = Found::among(batch);
-    println!("| {name} | {:.1} | {:.1} |", f.median, f.least);
-}
+    fn throw(&mut self) {
+        self.raised(Inst::ResumeThrow { dst: Reg(1), coro: Reg(0), src: Reg(2) });
+    }
 
-/// What the original alone is measured on.
-pub(crate) fn alone(costs: Costs) {
-    report("creation, 4 registers", || {
-        let mut b = Bench::new(costs);
-        timed(|| b.create(0))
-    });
+    fn close(&mut self) {
+        self.raised(Inst::CoroClose { dst: Reg(1), coro: Reg(0), src: Reg(2) });
+    }
 
-    let mut deep = Bench::new(costs);
-    report("4 calls + unwinding through them to a handler", || {
-        timed(|| {
-            calls(&mut deep);
-            let Bench { prog, m, stack } = &mut deep;
-            let caught = m.unwind(stack, prog, Fault::Throw(black_box(7)));
-            assert!(caught.is_ok(), "caught");
-        })
-    });
-    report("the 4 calls alone, frames dropped", || {
-        timed(|| {
-            calls(&mut deep);
-            deep.m.frames.truncate(1);
-            deep.stack.truncate(4);
-            black_box(&mut deep.stack);
-        })
-    });
-}
+    fn iterate(&mut self) {
+        let made = coll::new_iter(&mut self.m.heap, self.stack[0], true);
+        self.stack[3] = made.and_then(Result::ok).expect("a coroutine");
+    }
 
-/// Four frames of sixteen registers above the handler's.
-fn calls(b: &mut Bench) {
-    for _ in 0..4 {
-        b.push(1);
+    fn next(&mut self) {
+        let fi = self.m.frames.len() - 1;
+        let top = self.m.frames[fi];
+        let cx = Cx {
+            info: &self.prog.funcs[top.func as usize],
+            base: top.base,
+            closure: top.closure,
+            fi,
+        };
+        let (iter, src) = (self.stack[top.base + 3], self.stack[top.base]);
+        let (m, stack) = (&mut self.m, &mut self.stack);
+        let step = coro::iter_next(m, stack, &self.prog, &cx, 0, (1, iter, 2), src);
+        assert!(matches!(step, Step::Frame), "entered");
+    }
+
+    fn unwind(&mut self) {
+        self.unwound(Fault::Throw(black_box(7)));
+    }
+
+    fn finish(&mut self) {
+        let done = self.m.finish(&mut self.stack, Some(5), Some(ValType::Dyn));
+        assert!(done.is_ok(), "returned");
+    }
+
+    fn clean(&mut self) {
+        assert!(outer::hand_over(&mut self.m, self.stack[0]).is_ok(), "handed over");
+        self.raised(Inst::CoroCurrent { dst: Reg(1) });
     }
 }
 
@@ -114,14 +129,14 @@ fn calls(b: &mut Bench) {
 #[cfg(all(test, library))]
 mod tests {
     use super::*;
-    use crate::bench::Ours;
+    use crate::bench::{Kept, MEASURES};
 
-    fn agree(original: &Bench, ours: &Ours) {
+    fn agree(original: &Bench, ours: &Kept) {
         assert_eq!(ours.0.stack(), original.stack);
         assert_eq!(ours.0.depth(), original.m.frames.len());
     }
 
-    fn both(mut call: impl FnMut(&mut dyn Switch), original: &mut Bench, ours: &mut Ours) {
+    fn both(mut call: impl FnMut(&mut dyn Switch), original: &mut Bench, ours: &mut Kept) {
         call(original);
         call(ours);
         agree(original, ours);
@@ -131,7 +146,7 @@ mod tests {
     fn round_trips_agree() {
         let costs = bridge::costs();
         for (func, frames) in [(0, 0), (1, 3)] {
-            let (mut a, mut b) = (Bench::new(costs), Ours::new(costs));
+            let (mut a, mut b) = (Bench::new(costs), Kept::new(costs));
             both(|e| e.create(func), &mut a, &mut b);
             both(|e| e.resume(), &mut a, &mut b);
             for _ in 0..frames {
@@ -149,6 +164,22 @@ mod tests {
                 a.stack[2] = 7 + sent;
                 b.put(2, 7 + sent);
                 both(|e| e.resume(), &mut a, &mut b);
+            }
+        }
+    }
+
+    /// Every measure leaves the same stack and as many frames.
+    #[test]
+    fn measures_agree() {
+        let costs = bridge::costs();
+        for (_, m) in MEASURES {
+            let (mut a, mut b) = (Bench::new(costs), Kept::new(costs));
+            m.ready(&mut a);
+            m.ready(&mut b);
+            for _ in 0..5 {
+                m.batch(&mut a, 2);
+                m.batch(&mut b, 2);
+                agree(&a, &b);
             }
         }
     }

@@ -120,7 +120,7 @@ impl Original {
 }
 
 /// A Yielded or Awaiting coroutine, not handed over before, joins the queue.
-fn hand_over(m: &mut Machine, coro: u64) -> Result<(), Fault> {
+pub(super) fn hand_over(m: &mut Machine, coro: u64) -> Result<(), Fault> {
     use bytecode_lang::CoroState::{Awaiting, Yielded};
     let state = m.coro_state(coro)?;
     let co = m.heap.coro_mut(coro).expect("it has a state");

@@ -61,21 +61,40 @@ fit c =
 
 -- the world with the pc stored
 stored : (c : tie.After-store-pc) (w : World) (b : Beside) →
-    let a = (c .before .before .before .before .before .before .before .before .before .before .before .before .before .before .before) .args in
-    Rep (sizesIn (a .machine .now)) w (mem ((c .before .before .before .before .before .before .before .before .before .before .before .before .before .before .before)) b) (machineIn (a .machine .now)) (b .fuel)
+    let start = c .before .before .before .before .before .before .before .before .before .before .before .before .before .before .before in
+    let a = start .args in
+    Rep (sizesIn (a .machine .now)) w (mem start b) (machineIn (a .machine .now)) (b .fuel)
     → Rep (sizesIn (a .machine .now)) (storePc (a .pc) w) (lent (a .stack .now) (c .store-pc .last .0) (a .chain .now) (a .slots .now) (a .saved-stack .now) (a .saved-frames .now) b) (machineIn (a .machine .now)) (b .fuel)
-stored c w b rep = let a = (c .before .before .before .before .before .before .before .before .before .before .before .before .before .before .before) .args in stored-rep (sizesIn (a .machine .now)) w (mem (c .before .before .before .before .before .before .before .before .before .before .before .before .before .before .before) b) (machineIn (a .machine .now)) (b .fuel) rep (c .store-pc .last .0) (a .pc) (c .store-pc .ensures)
+stored c w b rep =
+    let start = c .before .before .before .before .before .before .before .before .before .before .before .before .before .before .before in
+    let a = start .args in stored-rep (sizesIn (a .machine .now)) w (mem start b) (machineIn (a .machine .now)) (b .fuel) rep (c .store-pc .last .0) (a .pc) (c .store-pc .ensures)
 
 -- what the numbers' words hold
-told : (c : tie.After-put-numbers) → let a = (c .before .before .before .before .before .before .before .before .before .before .before .before .before .before .before .before .before .before .before .before .before .before .before .before .before .before .before .before .before .before .before .before .before .before .before .before .before .before .before .before .before .before .before .before .before .before .before .before .before .before) .args in
+told : (c : tie.After-put-numbers) →
+    let at-enter-at = c .before .before .before .before .before .before .before .before .before .before .before .before .before .before .before .before .before in
+    let at-reg = at-enter-at .before .before .before .before .before .before .before .before .before .before .before .before .before .before .before .before .before .before .before .before .before in
+    let start = at-reg .before .before .before .before .before .before .before .before .before .before .before .before in
+    let a = start .args in
     c .put-numbers .last .0 ≡ enteredOver (grown (machineIn (a .machine .now)) (recordAt (a .slots .now) (a .i))) (a .machine .now)
 told c =
-    let ms = (c .before .before .before .before .before .before .before .before .before .before .before .before .before .before .before .before .before .before .before .before .before .before .before .before .before .before .before .before .before .before .before .before .before .before .before .before .before .before .before .before .before .before .before .before .before .before .before .before .before .before) .args .machine .now in
-    c .put-numbers .ensures ∙ ap₂ (λ x y. set (set (set ms 0 (getD ms 0 0 + x)) 1 (getD ms 1 0 + y)) 2 (getD ms 2 0 + 1)) (c .before .before .before .before .before .before .before .before .before .before .before .before .before .before .before .before .before .before .before .before .before .before .before .before .before .before .before .before .before .word2 .ensures) (c .before .before .before .before .before .before .before .before .before .before .before .before .before .before .before .before .before .before .before .before .before .before .before .before .before .before .before .word3 .ensures)
+    let at-enter-at = c .before .before .before .before .before .before .before .before .before .before .before .before .before .before .before .before .before in
+    let at-word3 = at-enter-at .before .before .before .before .before .before .before .before .before .before in
+    let at-word2 = at-word3 .before .before in
+    let start = at-word2 .before .before .before .before .before .before .before .before .before .before .before .before .before .before .before .before .before .before .before .before .before in
+    let ms = start .args .machine .now in
+    c .put-numbers .ensures ∙ ap₂ (λ x y. set (set (set ms 0 (getD ms 0 0 + x)) 1 (getD ms 1 0 + y)) 2 (getD ms 2 0 + 1)) (at-word2 .word2 .ensures) (at-word3 .word3 .ensures)
 
 -- it is not new
-asleep : (c : tie.Then1) → let a = (c .before .before .before .before .before .before .before .before .before .before .before .before .before .before .before .before .before .before .before .before .before .before .before .before .before .before .before .before .before .before .before .before .before .before .before .before .before .before .before .before .before .before .before .before .before .before .before .before .before .before .before .before .before) .args in isCreated (recordAt (a .slots .now) (a .i) .state) ≡ false
-asleep c = let a = (c .before .before .before .before .before .before .before .before .before .before .before .before .before .before .before .before .before .before .before .before .before .before .before .before .before .before .before .before .before .before .before .before .before .before .before .before .before .before .before .before .before .before .before .before .before .before .before .before .before .before .before .before .before) .args in waiting (getD (chunkAt 20 (a .slots .now) (a .i)) 2 0) (λ z. c .if1 .taken (c .before .before .before .before .before .before .before .before .before .before .before .before .before .before .before .before .before .before .before .before .before .before .before .before .before .before .before .before .before .before .before .before .before .before .word .ensures ∙ z))
+asleep : (c : tie.Then1) →
+    let at-enter-at = c .before .before .before .before .before .before .before .before .before .before .before .before .before .before .before .before .before .before .before .before in
+    let at-reg = at-enter-at .before .before .before .before .before .before .before .before .before .before .before .before .before .before .before .before .before .before .before .before .before in
+    let start = at-reg .before .before .before .before .before .before .before .before .before .before .before .before in
+    let a = start .args in isCreated (recordAt (a .slots .now) (a .i) .state) ≡ false
+asleep c =
+    let at-enter-at = c .before .before .before .before .before .before .before .before .before .before .before .before .before .before .before .before .before .before .before .before in
+    let at-word = at-enter-at .before .before .before .before .before .before .before .before .before .before .before .before .before .before in
+    let start = at-word .before .before .before .before .before .before .before .before .before .before .before .before .before .before .before .before .before .before .before in
+    let a = start .args in waiting (getD (chunkAt 20 (a .slots .now) (a .i)) 2 0) (λ z. c .if1 .taken (at-word .word .ensures ∙ z))
 
 slice-read-reg : tie.Need-slice-read-reg
 slice-read-reg c = search needs
@@ -93,67 +112,109 @@ store-pc-requires : tie.Need-store-pc-requires
 store-pc-requires c κs = search needs
 
 word-requires : tie.Need-word-requires
-word-requires c κs = (slot (c .before .before .before .before .before .before .before .before .before .before .before .before .before .before .before .before .before .before), omega arith)
+word-requires c κs =
+    let start = c .before .before .before .before .before .before .before .before .before .before .before .before .before .before .before .before .before .before in
+    (slot start, omega arith)
 
 word-requires-2 : tie.Need-word-requires-2
-word-requires-2 c κs = (slot (c .before .before .before .before .before .before .before .before .before .before .before .before .before .before .before .before .before .before .before .before), omega arith)
+word-requires-2 c κs =
+    let start = c .before .before .before .before .before .before .before .before .before .before .before .before .before .before .before .before .before .before .before .before in
+    (slot start, omega arith)
 
 word-requires-3 : tie.Need-word-requires-3
-word-requires-3 c κs = (slot (c .before .before .before .before .before .before .before .before .before .before .before .before .before .before .before .before .before .before .before .before .before .before), omega arith)
+word-requires-3 c κs =
+    let start = c .before .before .before .before .before .before .before .before .before .before .before .before .before .before .before .before .before .before .before .before .before .before in
+    (slot start, omega arith)
 
 word-requires-4 : tie.Need-word-requires-4
-word-requires-4 c κs = (slot (c .before .before .before .before .before .before .before .before .before .before .before .before .before .before .before .before .before .before .before .before .before .before .before .before), omega arith)
+word-requires-4 c κs =
+    let start = c .before .before .before .before .before .before .before .before .before .before .before .before .before .before .before .before .before .before .before .before .before .before .before .before in
+    (slot start, omega arith)
 
 enter-at-requires : tie.Need-enter-at-requires
 enter-at-requires c κs =
-    let start = (c .before .before .before .before .before .before .before .before .before .before .before .before .before .before .before .before .before .before .before .before .before .before .before .before .before .before .before .before .before .before .before .before) in
+    let at-store-pc = c .before .before .before .before .before .before .before .before .before .before .before .before .before .before .before .before .before in
+    let start = at-store-pc .before .before .before .before .before .before .before .before .before .before .before .before .before .before .before in
     let a = start .args in
     let o = start .pre .entry .ok in
     record {
       words = start .pre .words;
       ok = stored-ok (sizesIn (a .machine .now)) (only (machineIn (a .machine .now))) (a .stack .now) (a .frames .now) (a .chain .now) (a .slots .now) (a .saved-stack .now) (a .saved-frames .now)
-          (c .before .before .before .before .before .before .before .before .before .before .before .before .before .before .before .before .before .store-pc .last .0) (a .pc) (c .before .before .before .before .before .before .before .before .before .before .before .before .before .before .before .before .before .store-pc .kept .0) (start .pre .entry .narrow) o (stored (c .before .before .before .before .before .before .before .before .before .before .before .before .before .before .before .before .before) (o .world) (o .beside) (o .rep));
+          (at-store-pc .store-pc .last .0) (a .pc) (at-store-pc .store-pc .kept .0) (start .pre .entry .narrow) o (stored at-store-pc (o .world) (o .beside) (o .rep));
       may = start .pre .may;
     }
 
 slice-read-height : tie.Need-slice-read-height
-slice-read-height c = let h = (c .before .before .before .before .before .before .before .before .before .before .before .before .before .before .before .before .before .before .before .before .before .before .before .before .before .before .before .before .before .before .before .before .before .before .before .before .before .before .before .before .before .before .before .before .before .before) .pre .words in omega (arith, h)
+slice-read-height c =
+    let at-word3 = c .before .before .before .before .before .before .before .before .before .before .before .before .before .before .before .before .before .before .before .before .before .before .before in
+    let start = at-word3 .before .before .before .before .before .before .before .before .before .before .before .before .before .before .before .before .before .before .before .before .before .before .before in
+    let h = start .pre .words in omega (arith, h)
 
 add-height : tie.Need-add-height
-add-height c = let h = fit (c .before .before .before .before .before .before .before .before .before .before .before .before .before .before .before .before .before .before .before .before .before .before .before .before .before .before .before .before .before .before .before .before .before .before .before .before .before .before .before .before .before .before .before .before .before .before) .on-stack in let n = c .before .before .before .before .before .before .before .before .before .before .before .before .before .before .before .before .before .before .before .before .before .before .before .before .before .word2 .ensures in record { fits = omega (arith, h, n, (c .before .before .before .before .before .before .before .before .before .before .before .before .before .before .before .before .before .before .before .before .before .before .before .before .before .before .before .before .before .before .before .before .before .before .before .before .before .before .before .before .before .before .before .before .before .before) .good) }
+add-height c =
+    let at-word3 = c .before .before .before .before .before .before .before .before .before .before .before .before .before .before .before .before .before .before .before .before .before .before .before in
+    let at-word2 = at-word3 .before .before in
+    let start = at-word2 .before .before .before .before .before .before .before .before .before .before .before .before .before .before .before .before .before .before .before .before .before in
+    let h = fit start .on-stack in let n = at-word2 .word2 .ensures in record { fits = omega (arith, h, n, start .good) }
 
 slice-read-depth : tie.Need-slice-read-depth
-slice-read-depth c = let h = (c .before .before .before .before .before .before .before .before .before .before .before .before .before .before .before .before .before .before .before .before .before .before .before .before .before .before .before .before .before .before .before .before .before .before .before .before .before .before .before .before .before .before .before .before .before .before .before) .pre .words in omega (arith, h)
+slice-read-depth c =
+    let at-word3 = c .before .before .before .before .before .before .before .before .before .before .before .before .before .before .before .before .before .before .before .before .before .before .before .before in
+    let start = at-word3 .before .before .before .before .before .before .before .before .before .before .before .before .before .before .before .before .before .before .before .before .before .before .before in
+    let h = start .pre .words in omega (arith, h)
 
 add-depth : tie.Need-add-depth
-add-depth c = let h = fit (c .before .before .before .before .before .before .before .before .before .before .before .before .before .before .before .before .before .before .before .before .before .before .before .before .before .before .before .before .before .before .before .before .before .before .before .before .before .before .before .before .before .before .before .before .before .before .before) .entering .on-frames in let n = c .before .before .before .before .before .before .before .before .before .before .before .before .before .before .before .before .before .before .before .before .before .before .before .before .word3 .ensures in record { fits = omega (arith, h, n, (c .before .before .before .before .before .before .before .before .before .before .before .before .before .before .before .before .before .before .before .before .before .before .before .before .before .before .before .before .before .before .before .before .before .before .before .before .before .before .before .before .before .before .before .before .before .before .before) .good) }
+add-depth c =
+    let at-word3 = c .before .before .before .before .before .before .before .before .before .before .before .before .before .before .before .before .before .before .before .before .before .before .before .before in
+    let start = at-word3 .before .before .before .before .before .before .before .before .before .before .before .before .before .before .before .before .before .before .before .before .before .before .before in
+    let h = fit start .entering .on-frames in let n = at-word3 .word3 .ensures in record { fits = omega (arith, h, n, start .good) }
 
 slice-read-active : tie.Need-slice-read-active
-slice-read-active c = let h = (c .before .before .before .before .before .before .before .before .before .before .before .before .before .before .before .before .before .before .before .before .before .before .before .before .before .before .before .before .before .before .before .before .before .before .before .before .before .before .before .before .before .before .before .before .before .before .before .before) .pre .words in omega (arith, h)
+slice-read-active c =
+    let at-word4 = c .before .before .before .before .before .before .before .before .before .before .before .before .before .before .before .before .before .before .before .before .before .before .before in
+    let at-reg = at-word4 .before .before .before .before .before .before .before .before .before .before .before .before .before in
+    let start = at-reg .before .before .before .before .before .before .before .before .before .before .before .before in
+    let h = start .pre .words in omega (arith, h)
 
 add-active : tie.Need-add-active
-add-active c = let h = sum (c .before .before .before .before .before .before .before .before .before .before .before .before .before .before .before .before .before .before .before .before .before .before .before .before .before .before .before .before .before .before .before .before .before .before .before .before .before .before .before .before .before .before .before .before .before .before .before .before) .chain in record { fits = omega (arith, h, (c .before .before .before .before .before .before .before .before .before .before .before .before .before .before .before .before .before .before .before .before .before .before .before .before .before .before .before .before .before .before .before .before .before .before .before .before .before .before .before .before .before .before .before .before .before .before .before .before) .good) }
+add-active c =
+    let at-word4 = c .before .before .before .before .before .before .before .before .before .before .before .before .before .before .before .before .before .before .before .before .before .before .before in
+    let at-reg = at-word4 .before .before .before .before .before .before .before .before .before .before .before .before .before in
+    let start = at-reg .before .before .before .before .before .before .before .before .before .before .before .before in
+    let h = sum start .chain in record { fits = omega (arith, h, start .good) }
 
 put-numbers-requires : tie.Need-put-numbers-requires
-put-numbers-requires c κs = (c .before .before .before .before .before .before .before .before .before .before .before .before .before .before .before .before .before .before .before .before .before .before .before .before .before .before .before .before .before .before .before .before .before .before .before .before .before .before .before .before .before .before .before .before .before .before .before .before .before) .pre .words
+put-numbers-requires c κs =
+    let at-word4 = c .before .before .before .before .before .before .before .before .before .before .before .before .before .before .before .before .before .before .before .before .before .before .before .before in
+    let at-reg = at-word4 .before .before .before .before .before .before .before .before .before .before .before .before .before in
+    let start = at-reg .before .before .before .before .before .before .before .before .before .before .before .before in
+    start .pre .words
 
 send-requires : tie.Need-send-requires
 send-requires c κs =
-    let start = (c .before .before .before .before .before .before .before .before .before .before .before .before .before .before .before .before .before .before .before .before .before .before .before .before .before .before .before .before .before .before .before .before .before .before .before .before .before .before .before .before .before .before .before .before .before .before .before .before .before .before .before .before .before .before .before) in
+    let at-if1 = c .before .before in
+    let at-enter-at = at-if1 .before .before .before .before .before .before .before .before .before .before .before .before .before .before .before .before .before .before .before .before in
+    let at-word4 = at-enter-at .before .before .before .before .before .before .before .before in let at-word3 = at-word4 .before .before in
+    let at-word2 = at-word3 .before .before in let at-store-pc = at-word2 .before .before .before .before .before .before in
+    let start = at-store-pc .before .before .before .before .before .before .before .before .before .before .before .before .before .before .before in
     let a = start .args in
     let o = start .pre .entry .ok in
     let k = recordAt (a .slots .now) (a .i) in
     let w₁ = storePc (a .pc) (o .world) in
     let snd = store-sounds (a .pc) (o .world) (start .pre .entry .narrow) (o .sound) in
-    let did = c .before .before .before .before .before .before .before .before .before .before .before .before .before .before .before .before .before .before .before .before .before .before .enter-at .ensures w₁ (o .beside) (stored (c .before .before .before .before .before .before .before .before .before .before .before .before .before .before .before .before .before .before .before .before .before .before .before .before .before .before .before .before .before .before .before .before .before .before .before .before .before .before .before .before) (o .world) (o .beside) (o .rep)) snd in
-    send-fits _ _ _ _ _ _ _ (k .waiting) (ap (λ n. getD (a .machine .now) 0 0 + n) (sym (c .before .before .before .before .before .before .before .before .before .before .before .before .before .before .before .before .before .before .before .before .before .before .before .before .before .before .before .before .before .before .before .before .before .before .word2 .ensures))) (ap (λ n. getD (a .machine .now) 1 0 + n) (sym (c .before .before .before .before .before .before .before .before .before .before .before .before .before .before .before .before .before .before .before .before .before .before .before .before .before .before .before .before .before .before .before .before .word3 .ensures))) (sym (c .before .before .before .before .before .before .before .before .before .before .before .before .before .before .before .before .before .before .before .before .before .before .before .before .before .before .before .before .before .before .word4 .ensures))
-    (arrive-fits (sizesIn (a .machine .now)) _ (grown (machineIn (a .machine .now)) k) _ (a .v) (Driver.Resume (a .dst)) w₁ (enteredAs k) snd did .waits (k .waiting) (sym (waits-as k (asleep (c .before .before)))))
+    let did = at-enter-at .enter-at .ensures w₁ (o .beside) (stored at-store-pc (o .world) (o .beside) (o .rep)) snd in
+    send-fits _ _ _ _ _ _ _ (k .waiting) (ap (λ n. getD (a .machine .now) 0 0 + n) (sym (at-word2 .word2 .ensures))) (ap (λ n. getD (a .machine .now) 1 0 + n) (sym (at-word3 .word3 .ensures))) (sym (at-word4 .word4 .ensures))
+    (arrive-fits (sizesIn (a .machine .now)) _ (grown (machineIn (a .machine .now)) k) _ (a .v) (Driver.Resume (a .dst)) w₁ (enteredAs k) snd did .waits (k .waiting) (sym (waits-as k (asleep at-if1))))
 
 same-length : tie.Need-same-length
 same-length c = search needs
 
 same-length-2 : tie.Need-same-length-2
-same-length-2 c = c .before .before .before .before .send .kept .1 .0 ∙ c .before .before .before .before .before .before .before .before .before .before .before .before .before .before .before .before .before .before .before .before .before .before .before .before .before .before .before .enter-at .kept .1 .0 ∙ c .before .before .before .before .before .before .before .before .before .before .before .before .before .before .before .before .before .before .before .before .before .before .before .before .before .before .before .before .before .before .before .before .before .before .before .before .before .before .before .before .before .before .before .before .before .store-pc .kept .0
+same-length-2 c =
+    let at-send = c .before .before .before .before in
+    let at-enter-at = at-send .before .before .before .before .before .before .before .before .before .before .before .before .before .before .before .before .before .before .before .before .before .before .before in
+    let at-store-pc = at-enter-at .before .before .before .before .before .before .before .before .before .before .before .before .before .before .before .before .before .before in
+    at-send .send .kept .1 .0 ∙ at-enter-at .enter-at .kept .1 .0 ∙ at-store-pc .store-pc .kept .0
 
 same-length-3 : tie.Need-same-length-3
 same-length-3 c = search needs
@@ -172,26 +233,35 @@ same-length-7 c = search needs
 
 returns : tie.Need-returns
 returns c =
-    let start = (c .before .before .before .before .before .before .before .before .before .before .before .before .before .before .before .before .before .before .before .before .before .before .before .before .before .before .before .before .before .before .before .before .before .before .before .before .before .before .before .before .before .before .before .before .before .before .before .before .before .before .before .before .before .before .before .before .before .before .before .before) in
+    let at-send = c .before .before .before .before in let at-if1 = at-send .before .before .before in
+    let at-put-numbers = at-if1 .before .before .before in
+    let at-enter-at = at-put-numbers .before .before .before .before .before .before .before .before .before .before .before .before .before .before .before .before .before in
+    let at-word4 = at-enter-at .before .before .before .before .before .before .before .before in let at-word3 = at-word4 .before .before in
+    let at-word2 = at-word3 .before .before in let at-store-pc = at-word2 .before .before .before .before .before .before in
+    let at-reg = at-store-pc .before .before .before in
+    let start = at-reg .before .before .before .before .before .before .before .before .before .before .before .before in
     let a = start .args in
     let k = recordAt (a .slots .now) (a .i) in (
-      told (c .before .before .before .before .before .before .before .before .before .before),
+      told at-put-numbers,
       λ w b rep snd.
           let u = storePc (a .pc) w in
-          let d = c .before .before .before .before .before .before .before .before .before .before .before .before .before .before .before .before .before .before .before .before .before .before .before .before .before .before .before .enter-at .ensures u b (stored (c .before .before .before .before .before .before .before .before .before .before .before .before .before .before .before .before .before .before .before .before .before .before .before .before .before .before .before .before .before .before .before .before .before .before .before .before .before .before .before .before .before .before .before .before .before) w b rep) (store-sounds (a .pc) w (start .pre .entry .narrow) snd) in
+          let d = at-enter-at .enter-at .ensures u b (stored at-store-pc w b rep) (store-sounds (a .pc) w (start .pre .entry .narrow) snd) in
           let e = coroEnter (a .v) (Driver.Resume (a .dst)) u in
           then-does (sizesIn (a .machine .now)) _ (grown (machineIn (a .machine .now)) k) (b .fuel) e (arrive (reg w (a .src))) (enteredAs k) Step.Frame (d .answer)
-          (arrive-sent (sizesIn (a .machine .now)) _ (grown (machineIn (a .machine .now)) k) (b .fuel) (e .world) (enteredAs k) (reg w (a .src)) (k .waiting) (sym (waits-as k (asleep (c .before .before .before .before .before .before .before))))
+          (arrive-sent (sizesIn (a .machine .now)) _ (grown (machineIn (a .machine .now)) k) (b .fuel) (e .world) (enteredAs k) (reg w (a .src)) (k .waiting) (sym (waits-as k (asleep at-if1)))
           (sends-rep (sizesIn (a .machine .now)) (e .world) _ (grown (machineIn (a .machine .now)) k) (b .fuel) (d .world) _ _ _ _ _ _ (k .waiting) (reg w (a .src))
-          (ap (λ n. getD (a .machine .now) 0 0 + n) (c .before .before .before .before .before .before .before .before .before .before .before .before .before .before .before .before .before .before .before .before .before .before .before .before .before .before .before .before .before .before .before .before .before .before .before .before .before .before .before .word2 .ensures)) (ap (λ n. getD (a .machine .now) 1 0 + n) (c .before .before .before .before .before .before .before .before .before .before .before .before .before .before .before .before .before .before .before .before .before .before .before .before .before .before .before .before .before .before .before .before .before .before .before .before .before .word3 .ensures)) (c .before .before .before .before .before .before .before .before .before .before .before .before .before .before .before .before .before .before .before .before .before .before .before .before .before .before .before .before .before .before .before .before .before .before .before .word4 .ensures)
-          (c .before .before .before .before .before .before .before .before .before .before .before .before .before .before .before .before .before .before .before .before .before .before .before .before .before .before .before .before .before .before .before .before .before .before .before .before .before .before .before .before .before .before .before .before .before .before .before .before .reg .ensures (w .stack) (w .frames) (rep .stack) (rep .frames) .is) (c .before .before .before .before .send .ensures))),
+          (ap (λ n. getD (a .machine .now) 0 0 + n) (at-word2 .word2 .ensures)) (ap (λ n. getD (a .machine .now) 1 0 + n) (at-word3 .word3 .ensures)) (at-word4 .word4 .ensures)
+          (at-reg .reg .ensures (w .stack) (w .frames) (rep .stack) (rep .frames) .is) (at-send .send .ensures))),
     )
 
 same-length-8 : tie.Need-same-length-8
 same-length-8 c = search needs
 
 same-length-9 : tie.Need-same-length-9
-same-length-9 c = c .before .before .before .before .before .before .before .before .before .before .before .before .before .before .before .before .before .before .before .before .enter-at .kept .1 .0 ∙ c .before .before .before .before .before .before .before .before .before .before .before .before .before .before .before .before .before .before .before .before .before .before .before .before .before .before .before .before .before .before .before .before .before .before .before .before .before .before .store-pc .kept .0
+same-length-9 c =
+    let at-enter-at = c .before .before .before .before .before .before .before .before .before .before .before .before .before .before .before .before .before .before .before .before in
+    let at-store-pc = at-enter-at .before .before .before .before .before .before .before .before .before .before .before .before .before .before .before .before .before .before in
+    at-enter-at .enter-at .kept .1 .0 ∙ at-store-pc .store-pc .kept .0
 
 same-length-10 : tie.Need-same-length-10
 same-length-10 c = search needs
@@ -210,16 +280,20 @@ same-length-14 c = search needs
 
 returns-2 : tie.Need-returns-2
 returns-2 c =
-    let start = (c .before .before .before .before .before .before .before .before .before .before .before .before .before .before .before .before .before .before .before .before .before .before .before .before .before .before .before .before .before .before .before .before .before .before .before .before .before .before .before .before .before .before .before .before .before .before .before .before .before .before .before .before .before) in
+    let at-put-numbers = c .before .before .before in
+    let at-enter-at = at-put-numbers .before .before .before .before .before .before .before .before .before .before .before .before .before .before .before .before .before in
+    let at-word = at-enter-at .before .before .before .before .before .before .before .before .before .before .before .before .before .before in
+    let at-store-pc = at-word .before .before .before .before in
+    let start = at-store-pc .before .before .before .before .before .before .before .before .before .before .before .before .before .before .before in
     let a = start .args in
     let k = recordAt (a .slots .now) (a .i) in (
-      told (c .before .before .before),
+      told at-put-numbers,
       λ w b rep snd.
           let u = storePc (a .pc) w in
-          let d = c .before .before .before .before .before .before .before .before .before .before .before .before .before .before .before .before .before .before .before .before .enter-at .ensures u b (stored (c .before .before .before .before .before .before .before .before .before .before .before .before .before .before .before .before .before .before .before .before .before .before .before .before .before .before .before .before .before .before .before .before .before .before .before .before .before .before) w b rep) (store-sounds (a .pc) w (start .pre .entry .narrow) snd) in
+          let d = at-enter-at .enter-at .ensures u b (stored at-store-pc w b rep) (store-sounds (a .pc) w (start .pre .entry .narrow) snd) in
           let e = coroEnter (a .v) (Driver.Resume (a .dst)) u in
           then-does (sizesIn (a .machine .now)) _ (grown (machineIn (a .machine .now)) k) (b .fuel) e (arrive (reg w (a .src))) (enteredAs k) Step.Frame (d .answer)
-          (arrive-fresh (sizesIn (a .machine .now)) _ (grown (machineIn (a .machine .now)) k) (b .fuel) (e .world) (enteredAs k) (reg w (a .src)) (sym (fresh-as k (created _ (sym (c .before .before .before .before .before .before .before .before .before .before .before .before .before .before .before .before .before .before .before .before .before .before .before .before .before .before .before .before .before .before .before .before .before .before .word .ensures) ∙ c .if1 .left)))) (d .world)),
+          (arrive-fresh (sizesIn (a .machine .now)) _ (grown (machineIn (a .machine .now)) k) (b .fuel) (e .world) (enteredAs k) (reg w (a .src)) (sym (fresh-as k (created _ (sym (at-word .word .ensures) ∙ c .if1 .left)))) (d .world)),
     )
 
 pub enter-spec : {M : Type 1} → statement M

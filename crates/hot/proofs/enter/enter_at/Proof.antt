@@ -53,10 +53,15 @@ shared-slice-read-push-active-2 : tie.Need-shared-slice-read-push-active-2
 shared-slice-read-push-active-2 c = search needs
 
 push-active-requires : tie.Need-push-active-requires
-push-active-requires c κs = sum (c .before .before .before .before .before .before .before .before .before .before .before .before .before .before .before .before .before .before .before .before .before .before .before .before) .chain
+push-active-requires c κs =
+    let start = c .before .before .before .before .before .before .before .before .before .before .before .before .before .before .before .before .before .before .before .before .before .before .before .before in
+    sum start .chain
 
 put-state-requires : tie.Need-put-state-requires
-put-state-requires c κs = sum (c .before .before .before .before .before .before .before .before .before .before .before .before .before .before .before .before .before .before .before .before .before .before .before .before .before .before .before .before) .slot
+put-state-requires c κs =
+    let at-move-in = c .before .before .before .before .before .before .before .before .before .before .before .before .before .before .before in
+    let start = at-move-in .before .before .before .before .before .before .before .before .before .before .before .before .before in
+    sum start .slot
 
 same-length : tie.Need-same-length
 same-length c = search needs

@@ -15,10 +15,14 @@ use Rattle.hot.proofs.enters.may_enter.Statement.{statement}
 use Rattle.hot.proofs.enters.may_enter.Tie as tie
 
 -- the slot lies in its slice
-slot : (c : tie.After-i) → c .i .given .0 .0 * 20 + 20 ≤ length ((c .before .before .before .before .before .before .before .before .before .before .before .before .before .before .before .before .before .before .before .before .before .before) .args .slots .now)
+slot : (c : tie.After-i) →
+    let start = c .before .before .before .before .before .before .before .before .before .before .before .before .before .before .before .before .before .before .before .before .before .before in
+    c .i .given .0 .0 * 20 + 20 ≤ length (start .args .slots .now)
 slot c =
-    let a = (c .before .before .before .before .before .before .before .before .before .before .before .before .before .before .before .before .before .before .before .before .before .before) .args in
-    stands-words (getD (a .machine .now) 3 0) (a .slots .now) (c .before .before .before .before .reg .result) (c .i .given .0 .0) (sym (c .i .given .1) ∙ c .before .before .coro-place .ensures) ((c .before .before .before .before .before .before .before .before .before .before .before .before .before .before .before .before .before .before .before .before .before .before) .pre .in-slots)
+    let at-coro-place = c .before .before in let at-reg = at-coro-place .before .before in
+    let start = at-reg .before .before .before .before .before .before .before .before .before .before .before .before .before .before .before .before .before .before in
+    let a = start .args in
+    stands-words (getD (a .machine .now) 3 0) (a .slots .now) (at-reg .reg .result) (c .i .given .0 .0) (sym (c .i .given .1) ∙ at-coro-place .coro-place .ensures) (start .pre .in-slots)
 
 shared-slice-read-if1 : tie.Need-shared-slice-read-if1
 shared-slice-read-if1 c = search needs
@@ -81,7 +85,9 @@ enum-known-i : tie.Need-enum-known-i
 enum-known-i c = search needs
 
 word-requires : tie.Need-word-requires
-word-requires c κs = (slot (c .before), omega arith)
+word-requires c κs =
+    let at-i = c .before in
+    (slot at-i, omega arith)
 
 returns-7 : tie.Need-returns-7
 returns-7 c = nothing _ _ _ _ _ _ _ _
@@ -90,7 +96,9 @@ returns-8 : tie.Need-returns-8
 returns-8 c = nothing _ _ _ _ _ _ _ _
 
 word-requires-2 : tie.Need-word-requires-2
-word-requires-2 c κs = (slot (c .before .before .before .before), omega arith)
+word-requires-2 c κs =
+    let at-i = c .before .before .before .before in
+    (slot at-i, omega arith)
 
 returns-9 : tie.Need-returns-9
 returns-9 c = nothing _ _ _ _ _ _ _ _
@@ -117,7 +125,9 @@ sub-if11 : tie.Need-sub-if11
 sub-if11 c = search needs
 
 word-requires-3 : tie.Need-word-requires-3
-word-requires-3 c κs = (slot (c .before .before .before .before .before .before .before .before .before .before .before), omega arith)
+word-requires-3 c κs =
+    let at-i = c .before .before .before .before .before .before .before .before .before .before .before in
+    (slot at-i, omega arith)
 
 returns-11 : tie.Need-returns-11
 returns-11 c = nothing _ _ _ _ _ _ _ _
@@ -127,15 +137,20 @@ returns-12 c = nothing _ _ _ _ _ _ _ _
 
 returns-13 : tie.Need-returns-13
 returns-13 c =
-    let start = (c .before .before .before .before .before .before .before .before .before .before .before .before .before .before .before .before .before .before .before .before .before .before .before .before .before .before .before .before .before .before .before .before .before .before .before) in
+    let at-word3 = c .before in let at-if10 = at-word3 .before .before .before in let at-if9 = at-if10 .before .before .before in
+    let at-word2 = at-if9 .before in let at-if8 = at-word2 .before in let at-if7 = at-if8 .before in let at-word = at-if7 .before in
+    let at-i = at-word .before .before in let at-coro-place = at-i .before .before in let at-reg = at-coro-place .before .before in
+    let at-if6 = at-reg .before .before .before in let at-if5 = at-if6 .before in let at-if4 = at-if5 .before in
+    let at-if3 = at-if4 .before .before in let at-base-at = at-if3 .before .before in let at-if2 = at-base-at .before .before in
+    let at-if1 = at-if2 .before in let start = at-if1 .before .before .before .before .before .before in
     let a = start .args in
     let s = a .slots .now in let ms = a .machine .now in
-    let i = c .before .before .before .before .before .before .before .before .before .before .before .before .before .i .given .0 .0 in let v = c .before .before .before .before .before .before .before .before .before .before .before .before .before .before .before .before .before .reg .result in
-    let based = c .before .before .before .before .before .before .before .before .before .before .before .before .before .before .before .before .before .before .before .before .before .before .before .before .before .before .base-at .ensures in
-    let above = c .before .before .before .before .before .before .before .before .before .before .before .before .before .before .before .before .before .before .before .before .before .before .before .before .if3 .left in
-    let t₂ = c .before .before .before .before .before .before .before .before .before .before .before .word .ensures in let t₉ = c .before .before .before .before .before .before .before .before .word2 .ensures in let t₈ = c .before .word3 .ensures in
-    let u₁ = c .before .before .before .before .before .before .before .before .before .before .before .before .before .before .before .before .before .before .before .before .before .before .before .before .before .before .before .before .before .if1 .left in let u₂ = c .before .before .before .before .before .before .before .before .before .before .before .before .before .before .before .before .before .before .before .before .before .before .before .before .before .before .before .before .if2 .left in let u₄ = c .before .before .before .before .before .before .before .before .before .before .before .before .before .before .before .before .before .before .before .before .before .before .if4 .left in let u₅ = c .before .before .before .before .before .before .before .before .before .before .before .before .before .before .before .before .before .before .before .before .before .if5 .left in let u₆ = c .before .before .before .before .before .before .before .before .before .before .before .before .before .before .before .before .before .before .before .before .if6 .left in
-    let u₈ = c .before .before .before .before .before .before .before .before .before .if8 .left in let u₁₀ = c .before .before .before .before .if10 .left in let u₁₁ = c .if11 .left in
+    let i = at-i .i .given .0 .0 in let v = at-reg .reg .result in
+    let based = at-base-at .base-at .ensures in
+    let above = at-if3 .if3 .left in
+    let t₂ = at-word .word .ensures in let t₉ = at-word2 .word2 .ensures in let t₈ = at-word3 .word3 .ensures in
+    let u₁ = at-if1 .if1 .left in let u₂ = at-if2 .if2 .left in let u₄ = at-if4 .if4 .left in let u₅ = at-if5 .if5 .left in let u₆ = at-if6 .if6 .left in
+    let u₈ = at-if8 .if8 .left in let u₁₀ = at-if10 .if10 .left in let u₁₁ = c .if11 .left in
     at-slot (a .stack .now) (a .frames .now) s ms (a .fuel) (a .dst) (a .c) (a .src) i v
     (record {
       some = omega (arith, u₁);
@@ -143,12 +158,12 @@ returns-13 c =
       dst-in = omega (arith, based, above, u₄);
       coro-in = omega (arith, based, above, u₅);
       src-in = omega (arith, based, above, u₆);
-      is = c .before .before .before .before .before .before .before .before .before .before .before .before .before .before .before .before .before .reg .ensures;
+      is = at-reg .reg .ensures;
       may =
           record {
-            found = sym (c .before .before .before .before .before .before .before .before .before .before .before .before .before .i .given .1) ∙ c .before .before .before .before .before .before .before .before .before .before .before .before .before .before .before .coro-place .ensures;
+            found = sym (at-i .i .given .1) ∙ at-coro-place .coro-place .ensures;
             fits =
-                by-nothing (getD ms 0 0) (getD ms 1 0) (sizesIn ms) (recordAt s i) (resumable (getD (chunkAt 20 s i) 2 0) (λ z. c .before .before .before .before .before .before .before .before .before .before .if7 .left (t₂ ∙ z)) (omega (arith, t₂, u₈))) (λ z. c .before .before .before .before .before .before .before .if9 .left (t₉ ∙ z))
+                by-nothing (getD ms 0 0) (getD ms 1 0) (sizesIn ms) (recordAt s i) (resumable (getD (chunkAt 20 s i) 2 0) (λ z. at-if7 .if7 .left (t₂ ∙ z)) (omega (arith, t₂, u₈))) (λ z. at-if9 .if9 .left (t₉ ∙ z))
                 (start .pre .deep) (start .pre .high) (omega (arith, t₉, u₁₀)) (omega (arith, t₈, u₁₁));
           };
     })

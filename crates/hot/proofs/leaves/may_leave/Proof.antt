@@ -15,21 +15,36 @@ use Rattle.hot.proofs.leaves.may_leave.Statement.{statement}
 use Rattle.hot.proofs.leaves.may_leave.Tie as tie
 
 -- the slot lies in its slice
-slot : (c : tie.After-i) → let start = (c .before .before .before .before .before .before .before .before .before .before .before .before .before .before .before .before .before .before .before .before .before .before .before .before) in c .i .given .0 .0 * 20 + 20 ≤ length (start .args .slots .now)
+slot : (c : tie.After-i) →
+    let start = c .before .before .before .before .before .before .before .before .before .before .before .before .before .before .before .before .before .before .before .before .before .before .before .before in
+    c .i .given .0 .0 * 20 + 20 ≤ length (start .args .slots .now)
 slot c =
-    let start = (c .before .before .before .before .before .before .before .before .before .before .before .before .before .before .before .before .before .before .before .before .before .before .before .before) in let a = start .args in
-    stands-words (getD (a .machine .now) 3 0) (a .slots .now) (c .before .before .before .link2 .result) (c .i .given .0 .0) (sym (c .i .given .1) ∙ c .before .before .coro-place .ensures) (start .pre .in-slots)
+    let at-coro-place = c .before .before in let at-link2 = at-coro-place .before in
+    let start = at-link2 .before .before .before .before .before .before .before .before .before .before .before .before .before .before .before .before .before .before .before .before .before in
+    let a = start .args in
+    stands-words (getD (a .machine .now) 3 0) (a .slots .now) (at-link2 .link2 .result) (c .i .given .0 .0) (sym (c .i .given .1) ∙ at-coro-place .coro-place .ensures) (start .pre .in-slots)
 
 -- a coroutine runs
-runs : (c : tie.Else3) → let start = (c .before .before .before .before .before .before .before .before .before) in 1 ≤ getD (start .args .machine .now) 2 0
+runs : (c : tie.Else3) →
+    let start = c .before .before .before .before .before .before .before .before .before in
+    1 ≤ getD (start .args .machine .now) 2 0
 runs c = let z = c .if3 .left in omega (arith, z)
 
 -- where its body begins
-based : (c : tie.After-base-at2) → let start = (c .before .before .before .before .before .before .before .before .before .before .before .before .before .before .before .before .before .before .before .before .before .before .before .before .before .before .before .before .before) in c .base-at2 .result ≡ baseIn (start .args .frames .now) (innermostIn (start .args .chain .now) (machineIn (start .args .machine .now)) .floor)
-based c = let start = (c .before .before .before .before .before .before .before .before .before .before .before .before .before .before .before .before .before .before .before .before .before .before .before .before .before .before .before .before .before) in c .base-at2 .ensures ∙ ap (baseIn (start .args .frames .now)) (c .before .link3 .ensures)
+based : (c : tie.After-base-at2) →
+    let at-if1 = c .before .before .before .before .before .before .before .before .before .before .before .before .before .before .before .before .before .before .before .before .before .before .before in
+    let start = at-if1 .before .before .before .before .before .before in
+    c .base-at2 .result ≡ baseIn (start .args .frames .now) (innermostIn (start .args .chain .now) (machineIn (start .args .machine .now)) .floor)
+based c =
+    let at-link3 = c .before in
+    let at-if1 = at-link3 .before .before .before .before .before .before .before .before .before .before .before .before .before .before .before .before .before .before .before .before .before .before in
+    let start = at-if1 .before .before .before .before .before .before in
+    c .base-at2 .ensures ∙ ap (baseIn (start .args .frames .now)) (at-link3 .link3 .ensures)
 
 shared-slice-read-if1 : tie.Need-shared-slice-read-if1
-shared-slice-read-if1 c = let h = (c .before .before .before .before .before) .pre .words in omega (arith, h)
+shared-slice-read-if1 c =
+    let start = c .before .before .before .before .before in
+    let h = start .pre .words in omega (arith, h)
 
 returns : tie.Need-returns
 returns c = nothing _ _ _ _ _ _ _
@@ -38,31 +53,45 @@ returns-2 : tie.Need-returns-2
 returns-2 c = nothing _ _ _ _ _ _ _
 
 shared-slice-read-if3 : tie.Need-shared-slice-read-if3
-shared-slice-read-if3 c = let h = (c .before .before .before .before .before .before .before .before) .pre .words in omega (arith, h)
+shared-slice-read-if3 c =
+    let start = c .before .before .before .before .before .before .before .before in
+    let h = start .pre .words in omega (arith, h)
 
 returns-3 : tie.Need-returns-3
 returns-3 c = nothing _ _ _ _ _ _ _
 
 shared-slice-read-base-at : tie.Need-shared-slice-read-base-at
-shared-slice-read-base-at c = let h = (c .before .before .before .before .before .before .before .before .before .before) .pre .words in omega (arith, h)
+shared-slice-read-base-at c =
+    let start = c .before .before .before .before .before .before .before .before .before .before in
+    let h = start .pre .words in omega (arith, h)
 
 sub-base-at : tie.Need-sub-base-at
-sub-base-at c = let z = c .before .before .before .before .if1 .left in omega (arith, z)
+sub-base-at c =
+    let at-if1 = c .before .before .before .before in
+    let z = at-if1 .if1 .left in omega (arith, z)
 
 base-at-requires : tie.Need-base-at-requires
-base-at-requires c κs = let h = (c .before .before .before .before .before .before .before .before .before .before) .pre .on-frames in let z = c .before .before .before .before .if1 .left in omega (arith, h, z)
+base-at-requires c κs =
+    let at-if1 = c .before .before .before .before in let start = at-if1 .before .before .before .before .before .before in
+    let h = start .pre .on-frames in let z = at-if1 .if1 .left in omega (arith, h, z)
 
 shared-slice-read-if4 : tie.Need-shared-slice-read-if4
-shared-slice-read-if4 c = let h = (c .before .before .before .before .before .before .before .before .before .before .before .before) .pre .words in omega (arith, h)
+shared-slice-read-if4 c =
+    let start = c .before .before .before .before .before .before .before .before .before .before .before .before in
+    let h = start .pre .words in omega (arith, h)
 
 returns-4 : tie.Need-returns-4
 returns-4 c = nothing _ _ _ _ _ _ _
 
 shared-slice-read-width : tie.Need-shared-slice-read-width
-shared-slice-read-width c = let h = (c .before .before .before .before .before .before .before .before .before .before .before .before .before .before) .pre .words in omega (arith, h)
+shared-slice-read-width c =
+    let start = c .before .before .before .before .before .before .before .before .before .before .before .before .before .before in
+    let h = start .pre .words in omega (arith, h)
 
 sub-width : tie.Need-sub-width
-sub-width c = let z = c .before .if4 .left in omega (arith, z)
+sub-width c =
+    let at-if4 = c .before in
+    let z = at-if4 .if4 .left in omega (arith, z)
 
 returns-5 : tie.Need-returns-5
 returns-5 c = nothing _ _ _ _ _ _ _
@@ -71,25 +100,39 @@ returns-6 : tie.Need-returns-6
 returns-6 c = nothing _ _ _ _ _ _ _
 
 shared-slice-read-top : tie.Need-shared-slice-read-top
-shared-slice-read-top c = let h = (c .before .before .before .before .before .before .before .before .before .before .before .before .before .before .before .before .before) .pre .words in omega (arith, h)
+shared-slice-read-top c =
+    let start = c .before .before .before .before .before .before .before .before .before .before .before .before .before .before .before .before .before in
+    let h = start .pre .words in omega (arith, h)
 
 sub-top : tie.Need-sub-top
-sub-top c = let z = c .before .before .before .before .before .before .before .before .if3 .left in omega (arith, z)
+sub-top c =
+    let at-if3 = c .before .before .before .before .before .before .before .before in
+    let z = at-if3 .if3 .left in omega (arith, z)
 
 link-requires : tie.Need-link-requires
-link-requires c κs = let h = (c .before .before .before .before .before .before .before .before .before .before .before .before .before .before .before .before .before) .pre .on-chain in let z = c .before .before .before .before .before .before .before .before .if3 .left in (omega (arith, h, z), omega arith)
+link-requires c κs =
+    let at-if3 = c .before .before .before .before .before .before .before .before in
+    let start = at-if3 .before .before .before .before .before .before .before .before .before in
+    let h = start .pre .on-chain in let z = at-if3 .if3 .left in (omega (arith, h, z), omega arith)
 
 returns-7 : tie.Need-returns-7
 returns-7 c = nothing _ _ _ _ _ _ _
 
 shared-slice-read-coro-place : tie.Need-shared-slice-read-coro-place
-shared-slice-read-coro-place c = let h = (c .before .before .before .before .before .before .before .before .before .before .before .before .before .before .before .before .before .before .before .before) .pre .words in omega (arith, h)
+shared-slice-read-coro-place c =
+    let start = c .before .before .before .before .before .before .before .before .before .before .before .before .before .before .before .before .before .before .before .before in
+    let h = start .pre .words in omega (arith, h)
 
 link-requires-2 : tie.Need-link-requires-2
-link-requires-2 c κs = let h = (c .before .before .before .before .before .before .before .before .before .before .before .before .before .before .before .before .before .before .before .before) .pre .on-chain in let z = c .before .before .before .before .before .before .before .before .before .before .before .if3 .left in (omega (arith, h, z), omega arith)
+link-requires-2 c κs =
+    let at-if3 = c .before .before .before .before .before .before .before .before .before .before .before in
+    let start = at-if3 .before .before .before .before .before .before .before .before .before in
+    let h = start .pre .on-chain in let z = at-if3 .if3 .left in (omega (arith, h, z), omega arith)
 
 coro-place-requires : tie.Need-coro-place-requires
-coro-place-requires c κs = (c .before .before .before .before .before .before .before .before .before .before .before .before .before .before .before .before .before .before .before .before .before) .pre .in-slots
+coro-place-requires c κs =
+    let start = c .before .before .before .before .before .before .before .before .before .before .before .before .before .before .before .before .before .before .before .before .before in
+    start .pre .in-slots
 
 enum-told : tie.Need-enum-told
 enum-told c = search needs
@@ -98,43 +141,71 @@ enum-known-i : tie.Need-enum-known-i
 enum-known-i c = search needs
 
 word-requires : tie.Need-word-requires
-word-requires c κs = (slot (c .before), omega arith)
+word-requires c κs =
+    let at-i = c .before in
+    (slot at-i, omega arith)
 
 returns-8 : tie.Need-returns-8
 returns-8 c = nothing _ _ _ _ _ _ _
 
 link-requires-3 : tie.Need-link-requires-3
-link-requires-3 c κs = let h = (c .before .before .before .before .before .before .before .before .before .before .before .before .before .before .before .before .before .before .before .before .before .before .before .before .before .before .before) .pre .on-chain in let z = c .before .before .before .before .before .before .before .before .before .before .before .before .before .before .before .before .before .before .if3 .left in (omega (arith, h, z), omega arith)
+link-requires-3 c κs =
+    let at-if3 = c .before .before .before .before .before .before .before .before .before .before .before .before .before .before .before .before .before .before in
+    let start = at-if3 .before .before .before .before .before .before .before .before .before in
+    let h = start .pre .on-chain in let z = at-if3 .if3 .left in (omega (arith, h, z), omega arith)
 
 base-at-requires-2 : tie.Need-base-at-requires-2
-base-at-requires-2 c κs = let h = (c .before .before .before .before .before .before .before .before .before .before .before .before .before .before .before .before .before .before .before .before .before .before .before .before .before .before .before .before) .pre .on-frames in let f = (c .before .before .before .before .before .before .before .before .before .before .before .before .before .before .before .before .before .before .before .before .before .before .before .before .before .before .before .before) .pre .floor (runs (c .before .before .before .before .before .before .before .before .before .before .before .before .before .before .before .before .before .before .before)) in let e = c .link3 .ensures in omega (arith, h, f, e)
+base-at-requires-2 c κs =
+    let at-if3 = c .before .before .before .before .before .before .before .before .before .before .before .before .before .before .before .before .before .before .before in
+    let start = at-if3 .before .before .before .before .before .before .before .before .before in
+    let h = start .pre .on-frames in let f = start .pre .floor (runs at-if3) in let e = c .link3 .ensures in omega (arith, h, f, e)
 
 word-requires-2 : tie.Need-word-requires-2
-word-requires-2 c κs = (slot (c .before .before .before .before .before), omega arith)
+word-requires-2 c κs =
+    let at-i = c .before .before .before .before .before in
+    (slot at-i, omega arith)
 
 shared-slice-read-if9 : tie.Need-shared-slice-read-if9
-shared-slice-read-if9 c = let h = (c .before .before .before .before .before .before .before .before .before .before .before .before .before .before .before .before .before .before .before .before .before .before .before .before .before .before .before .before .before .before .before) .pre .words in omega (arith, h)
+shared-slice-read-if9 c =
+    let at-if2 = c .before .before .before .before .before .before .before .before .before .before .before .before .before .before .before .before .before .before .before .before .before .before .before .before in
+    let start = at-if2 .before .before .before .before .before .before .before in
+    let h = start .pre .words in omega (arith, h)
 
 sub-if9 : tie.Need-sub-if9
-sub-if9 c = let u = (c .before .before .before .before .before .before .before .before .before .before .before .before .before .before .before .before .before .before .before .before .before .before .before .before .before .before .before .before .before .before .before) .pre .base (runs (c .before .before .before .before .before .before .before .before .before .before .before .before .before .before .before .before .before .before .before .before .before .before)) in let e = based (c .before .before) in omega (arith, u, e)
+sub-if9 c =
+    let at-base-at2 = c .before .before in
+    let at-if3 = at-base-at2 .before .before .before .before .before .before .before .before .before .before .before .before .before .before .before .before .before .before .before .before in
+    let start = at-if3 .before .before .before .before .before .before .before .before .before in
+    let u = start .pre .base (runs at-if3) in let e = based at-base-at2 in omega (arith, u, e)
 
 returns-9 : tie.Need-returns-9
 returns-9 c = nothing _ _ _ _ _ _ _
 
 word-requires-3 : tie.Need-word-requires-3
-word-requires-3 c κs = (slot (c .before .before .before .before .before .before .before .before), omega arith)
+word-requires-3 c κs =
+    let at-i = c .before .before .before .before .before .before .before .before in
+    (slot at-i, omega arith)
 
 shared-slice-read-if10 : tie.Need-shared-slice-read-if10
-shared-slice-read-if10 c = let h = (c .before .before .before .before .before .before .before .before .before .before .before .before .before .before .before .before .before .before .before .before .before .before .before .before .before .before .before .before .before .before .before .before .before .before) .pre .words in omega (arith, h)
+shared-slice-read-if10 c =
+    let at-base-at = c .before .before .before .before .before .before .before .before .before .before .before .before .before .before .before .before .before .before .before .before .before .before .before in
+    let start = at-base-at .before .before .before .before .before .before .before .before .before .before .before in
+    let h = start .pre .words in omega (arith, h)
 
 sub-if10 : tie.Need-sub-if10
-sub-if10 c = let f = (c .before .before .before .before .before .before .before .before .before .before .before .before .before .before .before .before .before .before .before .before .before .before .before .before .before .before .before .before .before .before .before .before .before .before) .pre .floor (runs (c .before .before .before .before .before .before .before .before .before .before .before .before .before .before .before .before .before .before .before .before .before .before .before .before .before)) in let e = c .before .before .before .before .before .before .link3 .ensures in omega (arith, f, e)
+sub-if10 c =
+    let at-link3 = c .before .before .before .before .before .before in
+    let at-if3 = at-link3 .before .before .before .before .before .before .before .before .before .before .before .before .before .before .before .before .before .before .before in
+    let start = at-if3 .before .before .before .before .before .before .before .before .before in
+    let f = start .pre .floor (runs at-if3) in let e = at-link3 .link3 .ensures in omega (arith, f, e)
 
 returns-10 : tie.Need-returns-10
 returns-10 c = nothing _ _ _ _ _ _ _
 
 word-requires-4 : tie.Need-word-requires-4
-word-requires-4 c κs = (slot (c .before .before .before .before .before .before .before .before .before .before .before), omega arith)
+word-requires-4 c κs =
+    let at-i = c .before .before .before .before .before .before .before .before .before .before .before in
+    (slot at-i, omega arith)
 
 next-key-requires : tie.Need-next-key-requires
 next-key-requires c κs = search needs
@@ -165,14 +236,21 @@ returns-13 c = nothing _ _ _ _ _ _ _
 
 returns-14 : tie.Need-returns-14
 returns-14 c =
-    let start = (c .before .before .before .before .before .before .before .before .before .before .before .before .before .before .before .before .before .before .before .before .before .before .before .before .before .before .before .before .before .before .before .before .before .before .before .before .before .before .before .before .before .before .before .before) in
+    let at-k = c .before in let at-inline-int = at-k .before .before in let at-n = at-inline-int .before .before in
+    let at-next-key = at-n .before .before in let at-word4 = at-next-key .before in let at-if10 = at-word4 .before in
+    let at-word3 = at-if10 .before .before in let at-if9 = at-word3 .before in let at-word2 = at-if9 .before .before in
+    let at-base-at2 = at-word2 .before in let at-link3 = at-base-at2 .before in let at-if8 = at-link3 .before in let at-word = at-if8 .before in
+    let at-i = at-word .before .before in let at-coro-place = at-i .before .before in let at-link2 = at-coro-place .before in
+    let at-if7 = at-link2 .before .before in let at-link = at-if7 .before in let at-if6 = at-link .before .before in let at-if5 = at-if6 .before in
+    let at-if4 = at-if5 .before .before in let at-base-at = at-if4 .before .before in let at-if3 = at-base-at .before .before in
+    let at-if2 = at-if3 .before .before in let at-if1 = at-if2 .before in let start = at-if1 .before .before .before .before .before .before in
     let a = start .args in let s = a .slots .now in let ms = a .machine .now in
-    let i = c .before .before .before .before .before .before .before .before .before .before .before .before .before .before .before .before .before .before .before .before .i .given .0 .0 in
-    let low = c .before .before .before .before .before .before .before .before .before .before .before .before .before .before .before .before .before .before .before .before .before .before .before .before .before .before .before .before .before .before .before .before .before .base-at .ensures in let above = c .before .before .before .before .before .before .before .before .before .before .before .before .before .before .before .before .before .before .before .before .before .before .before .before .before .before .before .before .before .before .before .if4 .left in
-    let u₁ = c .before .before .before .before .before .before .before .before .before .before .before .before .before .before .before .before .before .before .before .before .before .before .before .before .before .before .before .before .before .before .before .before .before .before .before .before .before .before .if1 .left in let u₂ = c .before .before .before .before .before .before .before .before .before .before .before .before .before .before .before .before .before .before .before .before .before .before .before .before .before .before .before .before .before .before .before .before .before .before .before .before .before .if2 .left in let u₅ = c .before .before .before .before .before .before .before .before .before .before .before .before .before .before .before .before .before .before .before .before .before .before .before .before .before .before .before .before .before .if5 .left in let u₆ = c .before .before .before .before .before .before .before .before .before .before .before .before .before .before .before .before .before .before .before .before .before .before .before .before .before .before .before .before .if6 .left in let u₉ = c .before .before .before .before .before .before .before .before .before .before .before .before .if9 .left in let u₁₀ = c .before .before .before .before .before .before .before .before .before .if10 .left in
-    let run = runs (c .before .before .before .before .before .before .before .before .before .before .before .before .before .before .before .before .before .before .before .before .before .before .before .before .before .before .before .before .before .before .before .before .before .before .before) in let e = based (c .before .before .before .before .before .before .before .before .before .before .before .before .before .before .before) in let f = c .before .before .before .before .before .before .before .before .before .before .before .before .before .before .before .before .link3 .ensures in
-    let t₁₀ = c .before .before .before .before .before .before .before .before .before .before .before .before .before .before .word2 .ensures in let t₁₁ = c .before .before .before .before .before .before .before .before .before .before .before .word3 .ensures in
-    at-slot (a .frames .now) (a .chain .now) s ms (a .fuel) (a .dst) (a .src) i (c .before .k .given .0 .0 .0) (c .before .before .before .before .before .n .given .0 .0)
+    let i = at-i .i .given .0 .0 in
+    let low = at-base-at .base-at .ensures in let above = at-if4 .if4 .left in
+    let u₁ = at-if1 .if1 .left in let u₂ = at-if2 .if2 .left in let u₅ = at-if5 .if5 .left in let u₆ = at-if6 .if6 .left in let u₉ = at-if9 .if9 .left in let u₁₀ = at-if10 .if10 .left in
+    let run = runs at-if3 in let e = based at-base-at2 in let f = at-link3 .link3 .ensures in
+    let t₁₀ = at-word2 .word2 .ensures in let t₁₁ = at-word3 .word3 .ensures in
+    at-slot (a .frames .now) (a .chain .now) s ms (a .fuel) (a .dst) (a .src) i (at-k .k .given .0 .0 .0) (at-n .n .given .0 .0)
     (record {
       some = omega (arith, u₁);
       paid = omega (arith, u₂);
@@ -182,13 +260,13 @@ returns-14 c =
           record {
             running = run;
             floor = start .pre .floor run;
-            found = sym (c .before .before .before .before .before .before .before .before .before .before .before .before .before .before .before .before .before .before .before .before .i .given .1) ∙ c .before .before .before .before .before .before .before .before .before .before .before .before .before .before .before .before .before .before .before .before .before .before .coro-place .ensures ∙ ap (λ v. placeOf (coroOf (slotsOf (getD ms 3 0) s) v)) (c .before .before .before .before .before .before .before .before .before .before .before .before .before .before .before .before .before .before .before .before .before .before .before .link2 .ensures);
-            unclosed = sym (c .before .before .before .before .before .before .before .before .before .before .before .before .before .before .before .before .before .before .word .ensures) ∙ c .before .before .before .before .before .before .before .before .before .before .before .before .before .before .before .before .before .if8 .left;
+            found = sym (at-i .i .given .1) ∙ at-coro-place .coro-place .ensures ∙ ap (λ v. placeOf (coroOf (slotsOf (getD ms 3 0) s) v)) (at-link2 .link2 .ensures);
+            unclosed = sym (at-word .word .ensures) ∙ at-if8 .if8 .left;
             wide = omega (arith, u₉, t₁₀, e);
             deep = omega (arith, u₁₀, t₁₁, f);
           };
-      keyed = record { next = sym (c .before .before .before .before .before .n .given .1) ∙ c .before .before .before .before .before .before .before .next-key .ensures ∙ ap nextKey (c .before .before .before .before .before .before .before .before .word4 .ensures); inline = sym (c .before .k .given .1) ∙ c .before .before .before .inline-int .ensures };
-      driven = sym (c .before .before .before .before .before .before .before .before .before .before .before .before .before .before .before .before .before .before .before .before .before .before .before .before .before .before .link .ensures) ∙ c .before .before .before .before .before .before .before .before .before .before .before .before .before .before .before .before .before .before .before .before .before .before .before .before .before .if7 .left;
+      keyed = record { next = sym (at-n .n .given .1) ∙ at-next-key .next-key .ensures ∙ ap nextKey (at-word4 .word4 .ensures); inline = sym (at-k .k .given .1) ∙ at-inline-int .inline-int .ensures };
+      driven = sym (at-link .link .ensures) ∙ at-if7 .if7 .left;
     })
 
 pub may-leave-spec : {M : Type 1} → statement M

@@ -30,7 +30,7 @@ slice-write-fuel c = search needs
 
 enter-requires : tie.Need-enter-requires
 enter-requires c κs =
-    let start = (c .before .before .before .before .before .before .before .before .before .before .before .before .before .before .before .before) in
+    let start = c .before .before .before .before .before .before .before .before .before .before .before .before .before .before .before .before in
     let a = start .args in
     let e = start .pre .enterable in
     let ok = start .pre .held .ok in
@@ -72,12 +72,13 @@ same-length-8 c = search needs
 
 returns : tie.Need-returns
 returns c =
-    let start = (c .before .before .before .before .before .before .before .before .before .before .before .before .before .before .before .before .before .before .before .before .before .before .before .before .before .before .before .before .before .before .before) in
+    let at-enter = c .before .before .before .before .before .before .before .before .before .before .before .before .before .before in
+    let start = at-enter .before .before .before .before .before .before .before .before .before .before .before .before .before .before .before .before .before in
     let a = start .args in
     let ms = a .machine .now in let fs = a .fuel .now in
     let k = recordAt (a .slots .now) (a .i) in
     let e = start .pre .enterable in
-    let entered = c .before .before .before .before .before .before .before .before .before .before .before .before .before .before .enter .ensures in
+    let entered = at-enter .enter .ensures in
     let rich : getD fs 0 0 ≡ 0 → ⊥ = λ z. let h = e .paid in omega (arith, h, z) in
     record {
       met = λ w b rep snd.

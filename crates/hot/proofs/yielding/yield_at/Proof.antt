@@ -30,7 +30,7 @@ slice-write-fuel c = search needs
 
 leave-requires : tie.Need-leave-requires
 leave-requires c κs =
-    let start = (c .before .before .before .before .before .before .before .before .before .before .before .before .before .before .before .before) in
+    let start = c .before .before .before .before .before .before .before .before .before .before .before .before .before .before .before .before in
     let a = start .args in
     let e = start .pre .leavable in let ok = start .pre .held .ok in
     record {
@@ -48,37 +48,52 @@ leave-requires c κs =
     }
 
 same-length : tie.Need-same-length
-same-length c = c .before .before .before .before .before .before .before .before .before .before .before .before .before .before .leave .kept .0
+same-length c =
+    let at-leave = c .before .before .before .before .before .before .before .before .before .before .before .before .before .before in
+    at-leave .leave .kept .0
 
 same-length-2 : tie.Need-same-length-2
-same-length-2 c = c .before .before .before .before .before .before .before .before .before .before .before .before .before .before .leave .kept .1 .0
+same-length-2 c =
+    let at-leave = c .before .before .before .before .before .before .before .before .before .before .before .before .before .before in
+    at-leave .leave .kept .1 .0
 
 same-length-3 : tie.Need-same-length-3
-same-length-3 c = c .before .before .before .before .before .before .before .before .before .before .before .before .before .before .leave .kept .1 .1 .0
+same-length-3 c =
+    let at-leave = c .before .before .before .before .before .before .before .before .before .before .before .before .before .before in
+    at-leave .leave .kept .1 .1 .0
 
 same-length-4 : tie.Need-same-length-4
-same-length-4 c = c .before .before .before .before .before .before .before .before .before .before .before .before .before .before .leave .kept .1 .1 .1 .0
+same-length-4 c =
+    let at-leave = c .before .before .before .before .before .before .before .before .before .before .before .before .before .before in
+    at-leave .leave .kept .1 .1 .1 .0
 
 same-length-5 : tie.Need-same-length-5
-same-length-5 c = c .before .before .before .before .before .before .before .before .before .before .before .before .before .before .leave .kept .1 .1 .1 .1 .0
+same-length-5 c =
+    let at-leave = c .before .before .before .before .before .before .before .before .before .before .before .before .before .before in
+    at-leave .leave .kept .1 .1 .1 .1 .0
 
 same-length-6 : tie.Need-same-length-6
-same-length-6 c = c .before .before .before .before .before .before .before .before .before .before .before .before .before .before .leave .kept .1 .1 .1 .1 .1 .0
+same-length-6 c =
+    let at-leave = c .before .before .before .before .before .before .before .before .before .before .before .before .before .before in
+    at-leave .leave .kept .1 .1 .1 .1 .1 .0
 
 same-length-7 : tie.Need-same-length-7
-same-length-7 c = c .before .before .before .before .before .before .before .before .before .before .before .before .before .before .leave .kept .1 .1 .1 .1 .1 .1 .0
+same-length-7 c =
+    let at-leave = c .before .before .before .before .before .before .before .before .before .before .before .before .before .before in
+    at-leave .leave .kept .1 .1 .1 .1 .1 .1 .0
 
 same-length-8 : tie.Need-same-length-8
 same-length-8 c = search needs
 
 returns : tie.Need-returns
 returns c =
-    let start = (c .before .before .before .before .before .before .before .before .before .before .before .before .before .before .before .before .before .before .before .before .before .before .before .before .before .before .before .before .before .before .before) in
+    let at-leave = c .before .before .before .before .before .before .before .before .before .before .before .before .before .before in
+    let start = at-leave .before .before .before .before .before .before .before .before .before .before .before .before .before .before .before .before .before in
     let a = start .args in
     let ms = a .machine .now in let fs = a .fuel .now in
     let frames = a .frames .now in let chain = a .chain .now in
     let held = start .pre .held in let e = start .pre .leavable in
-    let left = c .before .before .before .before .before .before .before .before .before .before .before .before .before .before .leave .ensures in
+    let left = at-leave .leave .ensures in
     let rich : getD fs 0 0 ≡ 0 → ⊥ = λ z. let h = e .paid in omega (arith, h, z) in
     record {
       met = λ w b rep snd.

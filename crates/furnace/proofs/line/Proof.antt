@@ -1,0 +1,64 @@
+-- `line` is safe: the slices keep their lengths. Assumes nothing.
+use Prim.{tt}
+use mathlib.Core.Path.{_∙_}
+use borrow.Author.Needs.{needs}
+use Rattle.furnace.proofs.line.Statement.{statement}
+use Rattle.furnace.proofs.line.Tie as tie
+
+-- where the story, and the set-up before it, have been done
+abbrev played : tie.After-end → tie.After-play
+played c = c .before .before .before .before .before .before .before .before .before .before .before .before .before .before .before .before .before .before .before .before
+
+abbrev set : tie.After-end → tie.After-set-up
+set c = c .before .before .before .before .before .before .before .before .before .before .before .before .before .before .before .before .before .before .before .before .before .before .before .before .before .before .before .before .before .before .before .before .before .before .before .before .before .before .before .before .before .before .before .before .before .before .before .before .before .before .before
+
+blank-requires : tie.Need-blank-requires
+blank-requires c κs = tt
+
+empty-requires : tie.Need-empty-requires
+empty-requires c κs = tt
+
+set-up-requires : tie.Need-set-up-requires
+set-up-requires c κs = tt
+
+play-requires : tie.Need-play-requires
+play-requires c κs = tt
+
+end-requires : tie.Need-end-requires
+end-requires c κs = tt
+
+same-length : tie.Need-same-length
+same-length c = played c .play .kept .0 ∙ set c .set-up .kept .0
+
+same-length-2 : tie.Need-same-length-2
+same-length-2 c = played c .play .kept .1 .0 ∙ set c .set-up .kept .1 .0
+
+same-length-3 : tie.Need-same-length-3
+same-length-3 c = played c .play .kept .1 .1 .0 ∙ set c .set-up .kept .1 .1 .0
+
+same-length-4 : tie.Need-same-length-4
+same-length-4 c = played c .play .kept .1 .1 .1 .0 ∙ set c .set-up .kept .1 .1 .1 .0
+
+same-length-5 : tie.Need-same-length-5
+same-length-5 c = played c .play .kept .1 .1 .1 .1 .0 ∙ set c .set-up .kept .1 .1 .1 .1 .0
+
+same-length-6 : tie.Need-same-length-6
+same-length-6 c = played c .play .kept .1 .1 .1 .1 .1 .0 ∙ set c .set-up .kept .1 .1 .1 .1 .1 .0
+
+same-length-7 : tie.Need-same-length-7
+same-length-7 c = played c .play .kept .1 .1 .1 .1 .1 .1 .0 ∙ set c .set-up .kept .1 .1 .1 .1 .1 .1 .0
+
+same-length-8 : tie.Need-same-length-8
+same-length-8 c = played c .play .kept .1 .1 .1 .1 .1 .1 .1 .0 ∙ set c .set-up .kept .1 .1 .1 .1 .1 .1 .1 .0
+
+same-length-9 : tie.Need-same-length-9
+same-length-9 c = set c .set-up .kept .1 .1 .1 .1 .1 .1 .1 .1 .0
+
+same-length-10 : tie.Need-same-length-10
+same-length-10 c = search needs
+
+returns : tie.Need-returns
+returns c = tt
+
+pub line-spec : {M : Type 1} → statement M
+line-spec = tie.close (tie.spec blank-requires empty-requires set-up-requires play-requires end-requires same-length same-length-2 same-length-3 same-length-4 same-length-5 same-length-6 same-length-7 same-length-8 same-length-9 same-length-10 returns)

@@ -1,0 +1,104 @@
+-- `play` meets its contract: what is left, done to the present, is the whole done to the start. Assumes nothing.
+use Prim.{tt}
+use mathlib.Core.Path.{_≡_, refl}
+use Prim.Native.Nat.{_-_}
+use native.Mathlib.Omega.{arith}
+use Rattle.memory.specs.Memory.{Lent}
+use Rattle.memory.specs.Lendings.{plain}
+use Rattle.lent.specs.Step.{State}
+use Rattle.outer.specs.State.{nine, state, gives}
+use Rattle.furnace.proofs.Playing.{Along, along-start, along-more, along-end}
+use Rattle.furnace.proofs.play.Statement.{statement}
+use Rattle.furnace.proofs.play.Tie as tie
+
+abbrev Inv-loop : tie.InvT-loop
+Inv-loop stack₀ frames₀ chain₀ slots₀ saved-stack₀ saved-frames₀ ready₀ finalize₀ setup notes₀ k₀ f₀ count₀ i₀ stack frames chain slots saved-stack saved-frames ready finalize notes k f count i =
+    Along (state (nine stack₀ frames₀ chain₀ slots₀ saved-stack₀ saved-frames₀ ready₀ finalize₀ setup plain) k₀ f₀) notes₀
+    (state (nine stack frames chain slots saved-stack saved-frames ready finalize setup plain) k f) notes i
+
+abbrev μ-loop : tie.MeasureT-loop
+μ-loop stack₀ frames₀ chain₀ slots₀ saved-stack₀ saved-frames₀ ready₀ finalize₀ setup notes₀ k₀ f₀ count₀ i₀ stack frames chain slots saved-stack saved-frames ready finalize notes k f count i = 56 - i
+
+-- the ways back that several clauses take, and the words there
+abbrev start-of : tie.At-loop Inv-loop μ-loop → tie.Start Inv-loop μ-loop
+start-of c = c .before .before .before .before .before .before .before .before .before .before .before
+
+abbrev test-of : tie.After-turn Inv-loop μ-loop → tie.In-loop Inv-loop μ-loop
+test-of c = c .before .before .before .before .before .before .before .before .before .before .before
+
+abbrev turn-of : tie.After-count Inv-loop μ-loop → tie.After-turn Inv-loop μ-loop
+turn-of c = c .before .before .before .before .before .before .before .before .before .before .before .before .before .before .before .before .before .before .before .before .before .before
+
+abbrev at-start : tie.Start Inv-loop μ-loop → State
+at-start c = let a = c .args in state (nine (a .stack .now) (a .frames .now) (a .chain .now) (a .slots .now) (a .saved-stack .now) (a .saved-frames .now) (a .ready .now) (a .finalize .now) (a .setup .now) plain) (a .m) (a .fuel)
+
+abbrev at-loop : tie.At-loop Inv-loop μ-loop → State
+at-loop c = let a = c .loop in state (nine (a .stack) (a .frames) (a .chain) (a .slots) (a .saved-stack) (a .saved-frames) (a .ready) (a .finalize) (start-of c .args .setup .now) plain) (a .k) (a .f)
+
+abbrev left-by : tie.After-turn Inv-loop μ-loop → Lent
+left-by c = nine (c .turn .last .0) (c .turn .last .1 .0) (c .turn .last .1 .1 .0) (c .turn .last .1 .1 .1 .0) (c .turn .last .1 .1 .1 .1 .0) (c .turn .last .1 .1 .1 .1 .1 .0) (c .turn .last .1 .1 .1 .1 .1 .1 .0) (c .turn .last .1 .1 .1 .1 .1 .1 .1 .0)
+    (start-of (test-of c .before) .args .setup .now) plain
+
+loop-holds : tie.Need-loop-holds Inv-loop μ-loop
+loop-holds c = let start = c .before .before .before .before .before .before .before .before .before .before in along-start (at-start start) (start .args .notes .now)
+
+call-requires : tie.Need-call-requires Inv-loop μ-loop
+call-requires c κs = tt
+
+turn-requires : tie.Need-turn-requires Inv-loop μ-loop
+turn-requires c κs = tt
+
+add-i : tie.Need-add-i Inv-loop μ-loop
+add-i c = let t = test-of (turn-of c) .loop-test .taken in omega arith
+
+loop-less : tie.Need-loop-less Inv-loop μ-loop
+loop-less c = let t = test-of (turn-of c) .loop-test .taken in omega arith
+
+loop-again : tie.Need-loop-again Inv-loop μ-loop
+loop-again c =
+    let did = turn-of c in
+    let test = test-of did in
+    let loop = test .before in
+    let start = start-of loop in
+    let at-call = did .before .before .before .before .before .before .before .before .before .before in
+    along-more (at-start start) (start .args .notes .now) (at-loop loop) (loop .loop .notes) _ (loop .loop .i) (loop .loop .inv) (test .loop-test .taken)
+    (at-call .call .result) (at-call .call .ensures) (gives (left-by did) (did .turn .result .called)) (did .turn .ensures)
+    (record { stack = did .turn .kept .0; frames = did .turn .kept .1 .0; chain = did .turn .kept .1 .1 .0; slots = did .turn .kept .1 .1 .1 .0; savedStack = did .turn .kept .1 .1 .1 .1 .0; savedFrames = did .turn .kept .1 .1 .1 .1 .1 .0; ready = did .turn .kept .1 .1 .1 .1 .1 .1 .0; finalize = did .turn .kept .1 .1 .1 .1 .1 .1 .1 .0; setup = refl })
+    (did .turn .kept .1 .1 .1 .1 .1 .1 .1 .1 .1 .1 .1 .1 .0)
+
+same-length : tie.Need-same-length Inv-loop μ-loop
+same-length c = c .before .loop .inv .lengths .stack
+
+same-length-2 : tie.Need-same-length-2 Inv-loop μ-loop
+same-length-2 c = c .before .loop .inv .lengths .frames
+
+same-length-3 : tie.Need-same-length-3 Inv-loop μ-loop
+same-length-3 c = c .before .loop .inv .lengths .chain
+
+same-length-4 : tie.Need-same-length-4 Inv-loop μ-loop
+same-length-4 c = c .before .loop .inv .lengths .slots
+
+same-length-5 : tie.Need-same-length-5 Inv-loop μ-loop
+same-length-5 c = c .before .loop .inv .lengths .savedStack
+
+same-length-6 : tie.Need-same-length-6 Inv-loop μ-loop
+same-length-6 c = c .before .loop .inv .lengths .savedFrames
+
+same-length-7 : tie.Need-same-length-7 Inv-loop μ-loop
+same-length-7 c = c .before .loop .inv .lengths .ready
+
+same-length-8 : tie.Need-same-length-8 Inv-loop μ-loop
+same-length-8 c = c .before .loop .inv .lengths .finalize
+
+same-length-9 : tie.Need-same-length-9 Inv-loop μ-loop
+same-length-9 c = c .before .loop .inv .long
+
+returns : tie.Need-returns Inv-loop μ-loop
+returns c =
+    let loop = c .before in
+    let start = start-of loop in
+    let t = c .loop-test .left in
+    along-end (at-start start) (start .args .notes .now) (at-loop loop) (loop .loop .notes) (loop .loop .i) (omega arith) (loop .loop .inv)
+
+pub play-spec : {M : Type 1} → statement M
+play-spec = tie.close (tie.spec Inv-loop μ-loop loop-holds call-requires turn-requires add-i loop-less loop-again same-length same-length-2 same-length-3 same-length-4 same-length-5 same-length-6 same-length-7 same-length-8 same-length-9 returns)

@@ -1,0 +1,312 @@
+-- `call` meets its contract, arm by arm. Assumes nothing.
+use mathlib.Core.Path.{sym}
+use lib.ListN.{List·getD-eq-default}
+use borrow.Author.Needs.{needs}
+use Rattle.model.specs.declared.call.Op.{Op}
+use Rattle.calls.proofs.Past.{past}
+use Rattle.furnace.specs.Story.{story}
+use Rattle.furnace.proofs.story.call.Statement.{statement}
+use Rattle.furnace.proofs.story.call.Tie as tie
+
+add-t3 : tie.Need-add-t3
+add-t3 c = search needs
+
+add-t4 : tie.Need-add-t4
+add-t4 c = search needs
+
+add-t5 : tie.Need-add-t5
+add-t5 c = search needs
+
+add-t6 : tie.Need-add-t6
+add-t6 c = search needs
+
+add-t7 : tie.Need-add-t7
+add-t7 c = search needs
+
+add-t9 : tie.Need-add-t9
+add-t9 c = search needs
+
+add-t10 : tie.Need-add-t10
+add-t10 c = search needs
+
+add-t11 : tie.Need-add-t11
+add-t11 c = search needs
+
+add-t13 : tie.Need-add-t13
+add-t13 c = search needs
+
+add-t15 : tie.Need-add-t15
+add-t15 c = search needs
+
+add-t16 : tie.Need-add-t16
+add-t16 c = search needs
+
+add-t17 : tie.Need-add-t17
+add-t17 c = search needs
+
+add-t22 : tie.Need-add-t22
+add-t22 c = search needs
+
+add-t23 : tie.Need-add-t23
+add-t23 c = search needs
+
+add-t25 : tie.Need-add-t25
+add-t25 c = search needs
+
+add-t26 : tie.Need-add-t26
+add-t26 c = search needs
+
+add-t28 : tie.Need-add-t28
+add-t28 c = search needs
+
+returns : tie.Need-returns
+returns c = rw (c .match .keys1)
+
+returns-2 : tie.Need-returns-2
+returns-2 c = rw (c .match .keys2)
+
+returns-3 : tie.Need-returns-3
+returns-3 c = rw (c .match .keys3)
+
+returns-4 : tie.Need-returns-4
+returns-4 c = rw (c .match .keys4)
+
+returns-5 : tie.Need-returns-5
+returns-5 c = rw (c .match .keys5)
+
+returns-6 : tie.Need-returns-6
+returns-6 c = rw (c .match .keys6)
+
+returns-7 : tie.Need-returns-7
+returns-7 c = rw (c .match .keys7)
+
+returns-8 : tie.Need-returns-8
+returns-8 c = rw (c .match .keys8)
+
+returns-9 : tie.Need-returns-9
+returns-9 c = rw (c .match .keys9)
+
+returns-10 : tie.Need-returns-10
+returns-10 c = rw (c .match .keys10)
+
+returns-11 : tie.Need-returns-11
+returns-11 c = rw (c .match .keys11)
+
+returns-12 : tie.Need-returns-12
+returns-12 c = rw (c .match .keys12)
+
+returns-13 : tie.Need-returns-13
+returns-13 c = rw (c .match .keys13)
+
+returns-14 : tie.Need-returns-14
+returns-14 c = rw (c .match .keys14)
+
+returns-15 : tie.Need-returns-15
+returns-15 c = rw (c .match .keys15)
+
+returns-16 : tie.Need-returns-16
+returns-16 c = rw (c .match .keys16)
+
+returns-17 : tie.Need-returns-17
+returns-17 c = rw (c .match .keys17)
+
+returns-18 : tie.Need-returns-18
+returns-18 c = rw (c .match .keys18)
+
+returns-19 : tie.Need-returns-19
+returns-19 c = rw (c .match .keys19)
+
+returns-20 : tie.Need-returns-20
+returns-20 c = rw (c .match .keys20)
+
+returns-21 : tie.Need-returns-21
+returns-21 c = rw (c .match .keys21)
+
+returns-22 : tie.Need-returns-22
+returns-22 c = rw (c .match .keys22)
+
+returns-23 : tie.Need-returns-23
+returns-23 c = rw (c .match .keys23)
+
+returns-24 : tie.Need-returns-24
+returns-24 c = rw (c .match .keys24)
+
+returns-25 : tie.Need-returns-25
+returns-25 c = rw (c .match .keys25)
+
+returns-26 : tie.Need-returns-26
+returns-26 c = rw (c .match .keys26)
+
+returns-27 : tie.Need-returns-27
+returns-27 c = rw (c .match .keys27)
+
+returns-28 : tie.Need-returns-28
+returns-28 c = rw (c .match .keys28)
+
+returns-29 : tie.Need-returns-29
+returns-29 c = rw (c .match .keys29)
+
+returns-30 : tie.Need-returns-30
+returns-30 c = rw (c .match .keys30)
+
+returns-31 : tie.Need-returns-31
+returns-31 c = rw (c .match .keys31)
+
+returns-32 : tie.Need-returns-32
+returns-32 c = rw (c .match .keys32)
+
+returns-33 : tie.Need-returns-33
+returns-33 c = rw (c .match .keys33)
+
+returns-34 : tie.Need-returns-34
+returns-34 c = rw (c .match .keys34)
+
+returns-35 : tie.Need-returns-35
+returns-35 c = rw (c .match .keys35)
+
+returns-36 : tie.Need-returns-36
+returns-36 c = rw (c .match .keys36)
+
+returns-37 : tie.Need-returns-37
+returns-37 c = rw (c .match .keys37)
+
+returns-38 : tie.Need-returns-38
+returns-38 c = rw (c .match .keys38)
+
+returns-39 : tie.Need-returns-39
+returns-39 c = rw (c .match .keys39)
+
+returns-40 : tie.Need-returns-40
+returns-40 c = rw (c .match .keys40)
+
+returns-41 : tie.Need-returns-41
+returns-41 c = rw (c .match .keys41)
+
+returns-42 : tie.Need-returns-42
+returns-42 c = rw (c .match .keys42)
+
+returns-43 : tie.Need-returns-43
+returns-43 c = rw (c .match .keys43)
+
+returns-44 : tie.Need-returns-44
+returns-44 c = rw (c .match .keys44)
+
+returns-45 : tie.Need-returns-45
+returns-45 c = rw (c .match .keys45)
+
+returns-46 : tie.Need-returns-46
+returns-46 c = rw (c .match .keys46)
+
+returns-47 : tie.Need-returns-47
+returns-47 c = rw (c .match .keys47)
+
+returns-48 : tie.Need-returns-48
+returns-48 c = rw (c .match .keys48)
+
+returns-49 : tie.Need-returns-49
+returns-49 c = rw (c .match .keys49)
+
+returns-50 : tie.Need-returns-50
+returns-50 c = rw (c .match .keys50)
+
+returns-51 : tie.Need-returns-51
+returns-51 c = rw (c .match .keys51)
+
+returns-52 : tie.Need-returns-52
+returns-52 c = rw (c .match .keys52)
+
+returns-53 : tie.Need-returns-53
+returns-53 c = rw (c .match .keys53)
+
+returns-54 : tie.Need-returns-54
+returns-54 c = rw (c .match .keys54)
+
+returns-55 : tie.Need-returns-55
+returns-55 c = rw (c .match .keys55)
+
+returns-56 : tie.Need-returns-56
+returns-56 c = rw (c .match .keys56)
+
+returns-57 : tie.Need-returns-57
+returns-57 c =
+    let i = c .before .args .i in
+    sym (List·getD-eq-default story Op.Look {n = i} (past i 56 (c .match .rest)))
+
+pub call-spec : {M : Type 1} → statement M
+call-spec =
+    tie.close
+    (tie.spec
+    add-t3
+    add-t4
+    add-t5
+    add-t6
+    add-t7
+    add-t9
+    add-t10
+    add-t11
+    add-t13
+    add-t15
+    add-t16
+    add-t17
+    add-t22
+    add-t23
+    add-t25
+    add-t26
+    add-t28
+    returns
+    returns-2
+    returns-3
+    returns-4
+    returns-5
+    returns-6
+    returns-7
+    returns-8
+    returns-9
+    returns-10
+    returns-11
+    returns-12
+    returns-13
+    returns-14
+    returns-15
+    returns-16
+    returns-17
+    returns-18
+    returns-19
+    returns-20
+    returns-21
+    returns-22
+    returns-23
+    returns-24
+    returns-25
+    returns-26
+    returns-27
+    returns-28
+    returns-29
+    returns-30
+    returns-31
+    returns-32
+    returns-33
+    returns-34
+    returns-35
+    returns-36
+    returns-37
+    returns-38
+    returns-39
+    returns-40
+    returns-41
+    returns-42
+    returns-43
+    returns-44
+    returns-45
+    returns-46
+    returns-47
+    returns-48
+    returns-49
+    returns-50
+    returns-51
+    returns-52
+    returns-53
+    returns-54
+    returns-55
+    returns-56
+    returns-57)

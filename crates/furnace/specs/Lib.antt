@@ -1,0 +1,2 @@
+pub mod Story
+pub mod Watch

@@ -1,0 +1,172 @@
+// What a person reads.
+use crate::watch::Sent;
+use crate::watch::base;
+use crate::watch::coroutine;
+use crate::watch::field;
+use crate::watch::floor;
+use heap::value::Class;
+use heap::value::Opt;
+use heap::value::Word;
+use libc::STDOUT_FILENO;
+use memory::machine::Machine;
+use model::machine::Fuel;
+
+pub(crate) fn say(text: &[u8]) {
+    io::write_all(STDOUT_FILENO, text);
+}
+
+pub(crate) fn number(text: &[u8], n: u64) {
+    say(text);
+    io::print_decimal(STDOUT_FILENO, n);
+}
+
+// A number at the right of five columns.
+fn right(n: u64) {
+    if n < 10 {
+        say(b"    ");
+    } else if n < 100 {
+        say(b"   ");
+    } else if n < 1000 {
+        say(b"  ");
+    } else {
+        say(b" ");
+    }
+    number(b"", n);
+}
+
+// The functions, by number.
+fn function(f: u64) {
+    match f {
+        0 => say(b"line  "),
+        1 => say(b"heat  "),
+        2 => say(b"sensor"),
+        3 => say(b"trim  "),
+        4 => say(b"survey"),
+        _ => say(b"recipe"),
+    }
+}
+
+// What the story makes, by slot.
+fn made(slot: usize) {
+    match slot {
+        6 => say(b"zone 1"),
+        7 => say(b"zone 2"),
+        8 => say(b"recipe"),
+        9 => say(b"sensor"),
+        10 => say(b"readings"),
+        _ => say(b"function"),
+    }
+}
+
+// The coroutine that a word names.
+pub(crate) fn name(w: u64) {
+    match Word(w).class() {
+        Class::Ref(o) => made(o.slot()),
+        _ => say(b"      "),
+    }
+}
+
+// A word: an integer as its number, a reference by what it names, nil as a dash.
+pub(crate) fn word(w: u64) {
+    match Word(w).class() {
+        Class::Nil => say(b"    -"),
+        Class::Ref(o) => {
+            say(b" @");
+            made(o.slot());
+        }
+        Class::Int(n) => right(n),
+        Class::Opaque => right(w),
+    }
+}
+
+// All words of a slice.
+pub(crate) fn words(s: &[u64]) {
+    let mut i = 0;
+    while i < s.len() {
+        word(s[i]);
+        i += 1;
+    }
+}
+
+// The words of the stack from `start` to `end`.
+fn registers(stack: &[u64], start: usize, end: usize) {
+    if end < start {
+        return;
+    }
+    if stack.len() < end {
+        return;
+    }
+    words(&stack[start..end]);
+}
+
+// The word of the innermost of n running coroutines to which frame i belongs; nil if it is of none.
+fn owner(chain: &[u64], n: usize, i: usize) -> u64 {
+    let mut k = n;
+    while k > 0 {
+        k -= 1;
+        if floor(chain, k) <= i {
+            return coroutine(chain, k);
+        }
+    }
+    Word::NIL
+}
+
+// One frame: the part of the stack that is its own, its function, the coroutine that it belongs to, its words.
+fn frame(stack: &[u64], frames: &[u64], chain: &[u64], active: usize, i: usize, end: usize) {
+    let start = base(frames, i);
+    say(b"     |");
+    right(start as u64);
+    number(b"..", end as u64);
+    if end < 10 {
+        say(b" ");
+    }
+    say(b" | ");
+    function(field(frames, i, 0));
+    say(b" | ");
+    name(owner(chain, active, i));
+    say(b" |");
+    registers(stack, start, end);
+    say(b"\n");
+}
+
+// The stack as it stands, the top frame first.
+pub(crate) fn stack(stack: &[u64], frames: &[u64], chain: &[u64], m: Machine) {
+    let mut i = m.depth;
+    let mut end = m.height;
+    while i > 0 {
+        i -= 1;
+        frame(stack, frames, chain, m.active, i, end);
+        end = base(frames, i);
+    }
+}
+
+// The fuel at hand, and what is set aside.
+pub(crate) fn fuel(f: Fuel) {
+    number(b": fuel ", f.fuel);
+    let bank = f.bank;
+    match bank {
+        Opt::None => say(b"\n"),
+        Opt::Some(n) => {
+            number(b", banked ", n);
+            say(b"\n");
+        }
+    }
+}
+
+pub(crate) fn sent(s: Sent) {
+    if s.is {
+        say(b", sent");
+        word(s.word);
+        say(b"\n");
+    } else {
+        say(b", sent nothing\n");
+    }
+}
+
+pub(crate) fn verdict(equal: bool) {
+    if equal {
+        say(b"   EQUAL\n");
+    } else {
+        say(b"   NOT EQUAL\n");
+    }
+}

@@ -1,4 +1,0 @@
-pub mod Told
-pub mod Steps
-pub mod Stages
-pub mod Opening

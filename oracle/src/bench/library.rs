@@ -1,0 +1,201 @@
+//! The library's functions, on words without guards.
+
+use std::hint::black_box;
+use std::time::Instant;
+
+use oracle::lent::CallWords;
+use oracle::library::Bare;
+use oracle::world::{Costs, Setup};
+
+use super::{setup, small, Switch};
+
+/// A machine with fuel and a bottom frame of function 0.
+fn fresh(s: &Setup) -> Bare {
+    let mut b = Bare::new(s);
+    assert_eq!(b.kept([24, 1 << 60, 0, 0, 0, 0])[0], 0, "fuel");
+    assert_eq!(b.kept([17, 0, 0, 0, 0, 0])[0], 0, "room for a frame");
+    b
+}
+
+const RESUME: CallWords = [6, 0, 1, 0, 2, 0];
+const YIELD: CallWords = [3, 0, 0, 1, 0, 0];
+
+/// The calls other than a round trip's, by `bvm_kept`.
+macro_rules! others {
+    () => {
+        fn push(&mut self, func: u32) {
+            assert_eq!(self.0.kept([19, 0, func.into(), 4, 0, 0])[0], 0, "room for a frame");
+        }
+
+        fn create(&mut self, func: u32) {
+            assert_eq!(self.0.kept([0, 0, 0, func.into(), 0, 0])[2], 1, "created");
+        }
+
+        fn throw(&mut self) {
+            raised(&mut self.0, [7, 0, 1, 0, 2, 0]);
+        }
+
+        fn close(&mut self) {
+            raised(&mut self.0, [8, 0, 1, 0, 2, 0]);
+        }
+
+        fn iterate(&mut self) {
+            let coro = self.0.stack()[0];
+            let word = self.0.kept([21, coro, 0, 0, 0, 0])[1];
+            assert_eq!(self.0.kept([20, 3, word, 0, 0, 0])[0], 0, "a register");
+        }
+
+        fn next(&mut self) {
+            assert_eq!(self.0.kept([13, 0, 1, 3, 2, 0])[2], 2, "entered");
+        }
+
+        fn unwind(&mut self) {
+            assert_eq!(self.0.kept([15, 17, 7, 0, 0, 0])[4], 9, "caught");
+        }
+
+        fn finish(&mut self) {
+            assert_eq!(self.0.kept([14, 1, 5, 0, 0, 0])[0], 0, "returned");
+        }
+
+        fn clean(&mut self) {
+            let coro = self.0.stack()[0];
+            assert_eq!(self.0.kept([23, coro, 0, 0, 0, 0])[0], 0, "handed over");
+            raised(&mut self.0, [10, 0, 1, 0, 0, 0]);
+        }
+    };
+}
+
+/// A call that raises a word, and the unwinding of it.
+fn raised(b: &mut Bare, call: CallWords) {
+    let answer = b.kept(call);
+    assert_eq!(answer[0], 17, "a word is raised");
+    let word = answer[1];
+    assert_eq!(b.kept([15, 17, word, 0, 0, 0])[0], 0, "unwound");
+}
+
+/// `bvm_kept`: calls in words, without the test of soundness.
+pub(crate) struct Kept(pub(crate) Bare);
+
+impl Kept {
+    pub(crate) fn new(costs: Costs) -> Kept {
+        Kept(fresh(&setup(costs)))
+    }
+
+    #[cfg(all(test, original))]
+    pub(crate) fn put(&mut self, reg: u64, word: u64) {
+        assert_eq!(self.0.kept([20, reg, word, 0, 0, 0])[0], 0, "a register");
+    }
+}
+
+impl Switch for Kept {
+    others!();
+
+    fn resume(&mut self) {
+        assert_eq!(self.0.kept(RESUME)[2], 2, "entered");
+    }
+
+    fn suspend(&mut self) {
+        assert_eq!(self.0.kept(YIELD)[2], 2, "suspended");
+    }
+}
+
+/// `bvm_resume` and `bvm_yield`.
+#[cfg(hot)]
+pub(crate) struct Hot(pub(crate) Bare);
+
+#[cfg(hot)]
+impl Hot {
+    pub(crate) fn new(costs: Costs) -> Hot {
+        Hot(fresh(&setup(costs)))
+    }
+}
+
+#[cfg(hot)]
+impl Switch for Hot {
+    others!();
+
+    fn resume(&mut self) {
+        assert_eq!(self.0.resume(0, 1, 0, 2), 0, "entered");
+    }
+
+    fn suspend(&mut self) {
+        assert_eq!(self.0.suspend(0, 0, 1), 0, "suspended");
+    }
+}
+
+/// `bvm_call` on the small machine: each call tests every word.
+pub(crate) struct Outer(Bare);
+
+impl Outer {
+    pub(crate) fn new(costs: Costs) -> Outer {
+        Outer(fresh(&small(costs)))
+    }
+}
+
+impl Switch for Outer {
+    others!();
+
+    fn resume(&mut self) {
+        assert_eq!(self.0.call(RESUME)[2], 2, "entered");
+    }
+
+    fn suspend(&mut self) {
+        assert_eq!(self.0.call(YIELD)[2], 2, "suspended");
+    }
+}
+
+/// `bvm_run` on the small machine: one test for a batch.
+pub(crate) struct Batch(Bare, Vec<u64>, Vec<u64>);
+
+impl Batch {
+    pub(crate) fn new(costs: Costs) -> Batch {
+        Batch(fresh(&small(costs)), Vec::new(), Vec::new())
+    }
+}
+
+impl Switch for Batch {
+    others!();
+
+    fn resume(&mut self) {
+        assert_eq!(self.0.kept(RESUME)[2], 2, "entered");
+    }
+
+    fn suspend(&mut self) {
+        assert_eq!(self.0.kept(YIELD)[2], 2, "suspended");
+    }
+
+    fn trips(&mut self, n: usize) {
+        if self.1.len() != n * 12 {
+            self.1 = [RESUME, YIELD].concat().repeat(n);
+            self.2 = vec![0; n * 16];
+        }
+        assert_eq!(self.0.run(&mut self.1, &mut self.2), 0, "run");
+        assert_eq!(self.2[n * 16 - 6], 2, "suspended");
+    }
+}
+
+/// The test of soundness beside a pass that joins all words by `or`: the least
+/// of many, on a machine with as many sleeping coroutines as it has rows.
+pub(crate) fn tests(costs: Costs) {
+    println!("\n| the test | words | ns | a pass over the words, ns | ratio |");
+    println!("|---|---:|---:|---:|---:|");
+    for (name, s) in [("small set-up", small(costs)), ("largest set-up", setup(costs))] {
+        let mut b = fresh(&s);
+        for _ in 0..s.rows {
+            assert_eq!(b.kept([0, 0, 0, 0, 0, 0])[2], 1, "created");
+        }
+        let test = least(|| assert!(b.sound(), "sound"));
+        let pass = least(|| assert_ne!(black_box(b.joined()), 0, "words"));
+        let words = b.len();
+        println!("| {name} | {words} | {test:.0} | {pass:.0} | {:.2} |", test / pass);
+    }
+}
+
+fn least(mut f: impl FnMut()) -> f64 {
+    let one = |f: &mut dyn FnMut()| {
+        let start = Instant::now();
+        (0..10).for_each(|_| f());
+        start.elapsed().as_nanos() as f64 / 10.0
+    };
+    (0..300).map(|_| one(&mut f)).fold(f64::MAX, f64::min)
+}

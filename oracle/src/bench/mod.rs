@@ -1,0 +1,401 @@
+//! The engines that are linked, measured in one run: a batch of each in turn,
+//! so that a busy machine hits all of them. Instructions are counted by
+//! callgrind, where it is installed: the same batches in a process each.
+
+#[cfg(library)]
+mod library;
+mod plot;
+
+use std::hint::black_box;
+use std::process::Command;
+use std::time::{Duration, Instant};
+
+use oracle::world::{Costs, Func, Handler, Setup};
+
+#[cfg(all(test, original, library))]
+pub(crate) use library::Kept;
+
+/// How often a batch is timed, and how long at most.
+const SAMPLES: usize = 1001;
+const PATIENCE: Duration = Duration::from_millis(1500);
+
+/// A machine with a bottom frame of function 0. Register 0 of the running
+/// frame's caller holds the coroutine, register 3 of function 2 an iterator.
+pub(crate) trait Switch {
+    /// A frame on top. Its continuation takes no result.
+    fn push(&mut self, func: u32);
+    fn create(&mut self, func: u32);
+    fn resume(&mut self);
+    fn suspend(&mut self);
+    /// A word is thrown into the coroutine, and unwound there.
+    fn throw(&mut self);
+    /// The coroutine is closed; its signal is unwound.
+    fn close(&mut self);
+    /// An iterator over the coroutine, in register 3.
+    fn iterate(&mut self);
+    fn next(&mut self);
+    /// A word is thrown where the machine stands, and unwound.
+    fn unwind(&mut self);
+    fn finish(&mut self);
+    /// The coroutine is handed over; the next charge starts its cleanup, whose
+    /// signal is unwound.
+    fn clean(&mut self);
+
+    fn trips(&mut self, n: usize) {
+        for _ in 0..n {
+            self.resume();
+            self.suspend();
+            black_box(&mut *self);
+        }
+    }
+}
+
+/// What is measured: a number of operations on a machine made ready.
+#[derive(Clone, Copy, PartialEq, Eq)]
+pub(crate) enum Measure {
+    /// Resume and yield, of so many frames of a function.
+    Trip(u32, usize),
+    Create,
+    Throw,
+    Close,
+    Step,
+    Clean,
+    /// So many calls, and unwinding through them.
+    Unwind(usize),
+    Finish,
+}
+
+use Measure::{Clean, Close, Create, Finish, Step, Throw, Trip, Unwind};
+
+pub(crate) const MEASURES: [(&str, Measure); 12] = [
+    ("resume + yield, 1 frame of 4 registers", Trip(0, 1)),
+    ("resume + yield, 4 frames of 64 registers in all", Trip(1, 4)),
+    ("creation, 4 registers", Create),
+    ("throw to a handler + yield", Throw),
+    ("creation, entry, yield, close", Close),
+    ("a loop's step: iter_next + yield", Step),
+    ("creation, entry, yield, hand over, cleanup", Clean),
+    ("1 call + unwinding through it", Unwind(1)),
+    ("8 calls + unwinding through them", Unwind(8)),
+    ("64 calls + unwinding through them", Unwind(64)),
+    ("call + finish", Finish),
+    ("resume + yield, 16 frames of 256 registers in all", Trip(1, 16)),
+];
+
+impl Measure {
+    /// How many operations a machine bears.
+    fn most(self) -> usize {
+        match self {
+            Create => 48,
+            Close | Clean => 480,
+            Unwind(64) => 100,
+            _ => 1000,
+        }
+    }
+
+    pub(crate) fn ready<E: Switch + ?Sized>(self, e: &mut E) {
+        match self {
+            Trip(func, frames) => {
+                e.create(func);
+                e.resume();
+                (1..frames).for_each(|_| e.push(func));
+                e.suspend();
+            }
+            Throw => {
+                e.create(0);
+                e.resume();
+                e.suspend();
+            }
+            Step => {
+                e.create(0);
+                e.iterate();
+            }
+            Create | Close | Clean | Unwind(_) | Finish => {}
+        }
+    }
+
+    pub(crate) fn batch<E: Switch + ?Sized>(self, e: &mut E, n: usize) {
+        match self {
+            Trip(..) => e.trips(n),
+            Create => (0..n).for_each(|_| e.create(0)),
+            Throw => (0..n).for_each(|_| {
+                e.throw();
+                e.suspend();
+            }),
+            Close => (0..n).for_each(|_| {
+                e.create(1);
+                e.resume();
+                e.suspend();
+                e.close();
+            }),
+            Step => (0..n).for_each(|_| {
+                e.next();
+                e.suspend();
+            }),
+            Clean => (0..n).for_each(|_| {
+                e.create(1);
+                e.resume();
+                e.suspend();
+                e.clean();
+            }),
+            Unwind(frames) => (0..n).for_each(|_| {
+                (0..frames).for_each(|_| e.push(2));
+                e.unwind();
+            }),
+            Finish => (0..n).for_each(|_| {
+                e.push(2);
+                e.finish();
+            }),
+        }
+    }
+}
+
+/// Function 0 has four registers and a handler over every pc, function 1
+/// sixteen registers, function 2 four, and those after them 64 and 255.
+pub(crate) fn setup(costs: Costs) -> Setup {
+    let handler = Handler { start: 0, end: u64::from(u32::MAX), target: 0, catch: 3 };
+    let func = |nregs, handlers| Func { nregs, nparams: 0, handlers };
+    let plain = [16, 4, 64, 255].map(|n| func(n, vec![]));
+    let mut funcs = vec![func(4, vec![handler])];
+    funcs.extend(plain);
+    Setup {
+        depth: 128,
+        stack: 1024,
+        rows: 64,
+        slots: 4096,
+        memory: u64::MAX,
+        costs,
+        hook: None,
+        funcs,
+    }
+}
+
+/// The same functions but the widest on a machine of 1,111 words.
+pub(crate) fn small(costs: Costs) -> Setup {
+    let mut s = setup(costs);
+    s.funcs.truncate(4);
+    Setup { depth: 8, stack: 128, rows: 2, slots: 16, ..s }
+}
+
+/// An engine: its name, how a fresh one is made, and what it is measured on.
+struct Engine {
+    name: &'static str,
+    fresh: fn(Costs) -> Box<dyn Switch>,
+    only: fn(Measure) -> bool,
+}
+
+fn engines() -> Vec<Engine> {
+    vec![
+        #[cfg(original)]
+        Engine {
+            name: "original",
+            fresh: |c| Box::new(crate::driver::bench::Bench::new(c)),
+            only: |_| true,
+        },
+        #[cfg(hot)]
+        Engine {
+            name: "hot",
+            fresh: |c| Box::new(library::Hot::new(c)),
+            only: |m| matches!(m, Trip(..)),
+        },
+        #[cfg(library)]
+        Engine { name: "kept", fresh: |c| Box::new(library::Kept::new(c)), only: |_| true },
+        #[cfg(library)]
+        Engine { name: "outer", fresh: |c| Box::new(library::Outer::new(c)), only: trips },
+        #[cfg(library)]
+        Engine { name: "batch", fresh: |c| Box::new(library::Batch::new(c)), only: trips },
+    ]
+}
+
+#[cfg(library)]
+fn trips(m: Measure) -> bool {
+    matches!(m, Trip(0, 1) | Trip(1, 4))
+}
+
+/// Nanoseconds and instructions of one operation.
+#[derive(Clone, Copy)]
+struct Found {
+    median: f64,
+    least: f64,
+    instructions: Option<f64>,
+}
+
+/// The table: every measure on every engine.
+pub(crate) fn table(costs: Costs) {
+    let engines = engines();
+    if engines.is_empty() {
+        return;
+    }
+    let counted = callgrind();
+    if !counted {
+        println!("skipped: instructions are not counted (valgrind is not installed)\n");
+    }
+    println!("| measure | engine | median ns | least ns | instructions | ratio of medians | of leasts | of instructions |");
+    println!("|---|---|---:|---:|---:|---:|---:|---:|");
+    for (name, measure) in MEASURES {
+        let these: Vec<_> = engines.iter().filter(|e| (e.only)(measure)).collect();
+        let found = timed(costs, measure, &these, counted);
+        for (e, f) in these.iter().zip(&found) {
+            println!("| {name} | {} |{}", e.name, line(f, &found[0]));
+        }
+    }
+    #[cfg(library)]
+    library::tests(costs);
+}
+
+fn line(f: &Found, first: &Found) -> String {
+    let count = f.instructions.map_or("-".to_owned(), |n| format!("{n:.0}"));
+    let counts = f.instructions.zip(first.instructions);
+    let of_counts = counts.map_or("-".to_owned(), |(a, b)| format!("{:.2}", a / b));
+    let (medians, leasts) = (f.median / first.median, f.least / first.least);
+    format!(
+        " {:.1} | {:.1} | {count} | {medians:.2} | {leasts:.2} | {of_counts} |",
+        f.median, f.least
+    )
+}
+
+/// A batch of each engine in turn, on a fresh machine each time.
+fn timed(costs: Costs, m: Measure, engines: &[&Engine], counted: bool) -> Vec<Found> {
+    let n = m.most();
+    let mut taken = vec![Vec::new(); engines.len()];
+    let start = Instant::now();
+    let keeps = matches!(m, Trip(..) | Throw | Step | Unwind(_) | Finish);
+    let make = |e: &Engine| {
+        let mut s = (e.fresh)(costs);
+        m.ready(&mut *s);
+        s
+    };
+    let mut ready: Vec<_> = engines.iter().map(|e| make(e)).collect();
+    while taken[0].len() < SAMPLES && start.elapsed() < PATIENCE * engines.len() as u32 {
+        for ((all, e), s) in taken.iter_mut().zip(engines).zip(&mut ready) {
+            if !keeps {
+                *s = make(e);
+            }
+            let start = Instant::now();
+            m.batch(&mut **s, n);
+            all.push(start.elapsed().as_nanos() as f64 / n as f64);
+        }
+    }
+    let measure = MEASURES.iter().position(|x| x.1 == m);
+    taken
+        .into_iter()
+        .zip(engines)
+        .map(|(mut each, e)| {
+            each.sort_by(f64::total_cmp);
+            let instructions = measure.filter(|_| counted).and_then(|i| instructions(i, e.name));
+            Found { median: each[each.len() / 2], least: each[0], instructions }
+        })
+        .collect()
+}
+
+// ---- instructions
+
+fn callgrind() -> bool {
+    Command::new("valgrind").arg("--version").output().is_ok_and(|o| o.status.success())
+}
+
+/// Instructions of one operation: the difference between two runs of this
+/// program that differ in nothing but their number.
+fn instructions(measure: usize, engine: &str) -> Option<f64> {
+    let n = MEASURES[measure].1.most().min(100);
+    let (few, many) = (n / 4, n);
+    let (a, b) = (collected(measure, engine, few)?, collected(measure, engine, many)?);
+    Some((b - a) / (many - few) as f64)
+}
+
+fn collected(measure: usize, engine: &str, n: usize) -> Option<f64> {
+    let out = Command::new("valgrind")
+        .args(["--tool=callgrind", "--callgrind-out-file=/dev/null"])
+        .arg(std::env::current_exe().ok()?)
+        .args(["count", engine, &measure.to_string(), &n.to_string()])
+        .output()
+        .ok()?;
+    let text = String::from_utf8_lossy(&out.stderr).into_owned();
+    let told = text.lines().find_map(|l| l.split("Collected :").nth(1)).map(str::trim)?;
+    told.parse().ok()
+}
+
+/// So many operations of a measure on an engine, for callgrind.
+pub(crate) fn count(costs: Costs, engine: &str, measure: usize, n: usize) -> Result<(), String> {
+    let engines = engines();
+    let e = engines.iter().find(|e| e.name == engine).ok_or("no such engine is linked")?;
+    let (_, m) = *MEASURES.get(measure).ok_or("no such measure")?;
+    let mut s = (e.fresh)(costs);
+    m.ready(&mut *s);
+    m.batch(&mut *s, n);
+    Ok(())
+}
+
+/// The hot paths' instructions, a line each: measure, engine, instructions.
+pub(crate) fn recorded() -> Result<(), String> {
+    if !callgrind() {
+        return Err("valgrind is not installed".to_owned());
+    }
+    for (i, (name, m)) in MEASURES.iter().enumerate() {
+        for e in engines().iter().filter(|e| e.name != "original" && (e.only)(*m)) {
+            let n = instructions(i, e.name).ok_or("callgrind told no number")?;
+            println!("{name}\t{}\t{n:.0}", e.name);
+        }
+    }
+    Ok(())
+}
+
+// ---- growth
+
+/// How the round trip grows, as a plot in the file named.
+pub(crate) fn growth(costs: Costs, file: &str) -> Result<(), String> {
+    let engines = engines();
+    let these: Vec<_> =
+        engines.iter().filter(|e| ["original", "hot", "kept"].contains(&e.name)).collect();
+    let over = |shapes: &[(u32, usize)], words: fn(u32, usize) -> usize| -> Vec<plot::Row> {
+        shapes
+            .iter()
+            .map(|&(func, frames)| {
+                let found = timed(costs, Trip(func, frames), &these, false);
+                let mut least: Vec<f64> = found.iter().map(|f| f.least).collect();
+                least.push(copied(words(func, frames)));
+                plot::Row {
+                    at: if func == 2 { frames } else { frames * REGS[func as usize] },
+                    least,
+                }
+            })
+            .collect()
+    };
+    // a frame has six words; a round trip moves all words there and back
+    let frames: Vec<(u32, usize)> = [1, 2, 4, 8, 16, 32, 64].map(|n| (2, n)).to_vec();
+    let regs = [(0, 1), (1, 1), (3, 1), (4, 1), (4, 2), (4, 4)];
+    let moved = |func: u32, n: usize| n * (REGS[func as usize] + 6);
+    let (frames, regs) = (over(&frames, moved), over(&regs, moved));
+    let mut names: Vec<&str> = these.iter().map(|e| e.name).collect();
+    names.push("copy");
+    let text = plot::svg(&names, &frames, &regs);
+    std::fs::write(file, text).map_err(|e| format!("{file}: {e}"))?;
+    for (what, rows) in
+        [("frames of 4 registers", &frames), ("registers, up to 255 in a frame", &regs)]
+    {
+        println!("\n| {what} | {} |\n|---:|{}", names.join(" | "), "---:|".repeat(names.len()));
+        for r in rows {
+            let ns: Vec<String> = r.least.iter().map(|n| format!("{n:.1}")).collect();
+            println!("| {} | {} |", r.at, ns.join(" | "));
+        }
+    }
+    Ok(())
+}
+
+/// The registers of each function of the set-up.
+const REGS: [usize; 5] = [4, 16, 4, 64, 255];
+
+/// Nanoseconds to copy so many words there and back, the least of many.
+fn copied(words: usize) -> f64 {
+    let (mut a, mut b) = (vec![1u64; words], vec![0u64; words]);
+    let mut least = f64::MAX;
+    for _ in 0..SAMPLES {
+        let start = Instant::now();
+        for _ in 0..1000 {
+            black_box(&mut b).copy_from_slice(black_box(&a));
+            black_box(&mut a).copy_from_slice(black_box(&b));
+        }
+        least = least.min(start.elapsed().as_nanos() as f64 / 1000.0);
+    }
+    least
+}
