@@ -1,11 +1,9 @@
 // Operands and their codes.
 ghost use mathlib.Core.Path.{_≡_};
-ghost use Rattle.tables.specs.Layout.{contCode, contReg};
 ghost use Rattle.calls.specs.Codes.{asPc, asReg, asArgc, faultOf, kindCode, kindOf, optCode, optWord, optOf};
 use heap::fault::Fault;
 use heap::heap::ResultKind;
 use model::call::OptPc;
-use model::machine::Cont;
 
 pub(crate) fn as_pc(n: u64) -> u32
     ensures { λ r. ⌜ r ≡ asPc n ⌝ }
@@ -99,31 +97,5 @@ pub(crate) fn opt_word(p: OptPc) -> u64
     match p {
         OptPc::None => 0,
         OptPc::Some(pc) => pc as u64,
-    }
-}
-
-pub(crate) fn cont_code(k: Cont) -> u64
-    ensures { λ r. ⌜ r ≡ contCode k ⌝ }
-{
-    match k {
-        Cont::Entry => 0,
-        Cont::Write(_) => 1,
-        Cont::Dyn(_) => 2,
-        Cont::Value(_) => 3,
-        Cont::Discard => 4,
-        Cont::Coro => 5,
-    }
-}
-
-pub(crate) fn cont_reg(k: Cont) -> u64
-    ensures { λ r. ⌜ r ≡ contReg k ⌝ }
-{
-    match k {
-        Cont::Entry => 0,
-        Cont::Write(r) => r,
-        Cont::Dyn(r) => r,
-        Cont::Value(r) => r,
-        Cont::Discard => 0,
-        Cont::Coro => 0,
     }
 }

@@ -5,8 +5,6 @@ ghost use Rattle.calls.specs.Call.{opBy, opWords};
 use crate::codes::as_argc;
 use crate::codes::as_pc;
 use crate::codes::as_reg;
-use crate::codes::cont_code;
-use crate::codes::cont_reg;
 use crate::codes::fault_of;
 use crate::codes::kind_code;
 use crate::codes::kind_of;
@@ -14,7 +12,9 @@ use crate::codes::opt_code;
 use crate::codes::opt_of;
 use crate::codes::opt_word;
 use model::call::Op;
+use tables::frame::cont_code;
 use tables::frame::cont_of;
+use tables::frame::cont_reg;
 
 // The call of a code and five operands.
 pub(crate) fn op_by(n: u64, a: u64, b: u64, c: u64, d: u64, e: u64) -> Op

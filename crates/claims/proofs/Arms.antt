@@ -21,7 +21,7 @@ use Rattle.model.specs.Coro.{coroCreate, coroState}
 use Rattle.model.specs.Cleanup.{charge}
 use Rattle.model.specs.Machine.{pushFrame}
 use Rattle.model.specs.Exec as Exec
-use Rattle.model.specs.Exec.{fault, putMade, window, coroNew, indirect, coroNewIndirect, hooked, callHook, spawnMade, spawnBy, spawn, statusOf, coroStatus, coroCurrent, keyOf, coroKey, resultIn, coroResult}
+use Rattle.model.specs.Exec.{fault, putMade, window, coroNew, indirect, coroNewIndirect, hooked, callHook, spawnMade, spawnWith, spawn, statusOf, coroStatus, coroCurrent, keyOf, coroKey, resultIn, coroResult}
 use Rattle.model.specs.declared.machine.Cont.{Cont}
 use Rattle.model.specs.declared.machine.Frame.{Frame}
 use Rattle.model.specs.declared.machine.Charge.{Charge}
@@ -108,7 +108,7 @@ spawn-arm p dst callee argc v = a-works refl refl (by (v .setup .hook))
     made hook w (Made.Word c) = same-worked (charge-none w) (paid hook c (charge OptPc.None w .world) (charge OptPc.None w .answer))
     made hook w (Made.Refused f) = done
 
-    by : (h : Opt) → Worked m-plain (view v) (view (spawnBy h p dst callee argc v .world))
+    by : (h : Opt) → Worked m-plain (view v) (view (spawnWith h p dst callee argc v .world))
     by Opt.None = done
     by (Opt.Some hook) = let o = indirect dst callee argc v in grown-worked (indirect-grown dst callee argc v) (made hook (o .world) (o .answer))
 

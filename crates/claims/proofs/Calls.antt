@@ -20,7 +20,7 @@ use Rattle.model.specs.Frames.{isCoro, onTop, setPc, storePc}
 use Rattle.model.specs.Heap.{coro, setCoro, alloc}
 use Rattle.model.specs.Fuel.{setFinalizing}
 use Rattle.model.specs.Coro.{coroEnter}
-use Rattle.model.specs.Cleanup.{suspendedAs, spawnAs, spawnTask}
+use Rattle.model.specs.Cleanup.{isAsleep, joinReady, spawnTask}
 use Rattle.model.specs.Machine.{pushFrame, finish, unwind}
 use Rattle.model.specs.Exec.{coroNew, coroNewIndirect, spawn, yield, yieldKv, await, resume, resumeThrow, coroClose, coroStatus, coroCurrent, coroKey, coroResult, iterNext}
 use Rattle.model.specs.Gate.{refused, allIn, onFrame, onHost}
@@ -65,7 +65,7 @@ task-worked v w = go (coro w v) refl
     test k r e true = calm-worked (rest-calm v k r (withTask true r) w (setCoro v k (withTask true r) (withReady (w .ready ++ (v ∷ [])) w)) e refl refl refl refl refl refl) done
     test k r e false = done
 
-    go : (y : Coroutine) → coro w v ≡ y → Worked m-plain (view w) (view (andThen (spawnAs y v w) answerMade .world))
+    go : (y : Coroutine) → coro w v ≡ y → Worked m-plain (view w) (view (andThen (joinReady y v w) answerMade .world))
     go Absent e = done
     go (Is k r) e = test k r e (not (r .task) && isResumable (k .state))
 
@@ -206,8 +206,8 @@ shape w (Op.Yield pc dst src) = instr-shape w (Op.Yield pc dst src) pc _ (λ b s
 shape w (Op.YieldKv pc dst src key) = instr-shape w (Op.YieldKv pc dst src key) pc _ (λ b s xs. suspends CoroState.Yielded dst (getD s (b + src) 0)) (yieldKv pc dst src key) refl (yieldKv-arm pc dst src key)
 shape w (Op.Await pc dst src) = instr-shape w (Op.Await pc dst src) pc _ (λ b s xs. suspends CoroState.Awaiting dst (getD s (b + src) 0)) (await pc dst src) refl (await-arm pc dst src)
 shape w (Op.Resume pc dst c src) = instr-shape w (Op.Resume pc dst c src) pc _ (λ b s xs. enters (getD s (b + c) 0) (Driver.Resume dst) (gets (getD s (b + src) 0)) true) (resume pc dst c src) refl (resume-arm pc dst c src)
-shape w (Op.ResumeThrow pc dst c src) = instr-shape w (Op.ResumeThrow pc dst c src) pc _ (λ b s xs. enters (getD s (b + c) 0) (Driver.Resume dst) nothing (suspendedAs (coroIn xs (getD s (b + c) 0)))) (resumeThrow pc dst c src) refl (throw-arm pc dst c src)
-shape w (Op.CoroClose pc dst c src) = instr-shape w (Op.CoroClose pc dst c src) pc _ (λ b s xs. enters (getD s (b + c) 0) (Driver.Resume dst) (closes (getD s (b + src) 0)) (suspendedAs (coroIn xs (getD s (b + c) 0)))) (coroClose pc dst c src) refl (close-arm pc dst c src)
+shape w (Op.ResumeThrow pc dst c src) = instr-shape w (Op.ResumeThrow pc dst c src) pc _ (λ b s xs. enters (getD s (b + c) 0) (Driver.Resume dst) nothing (isAsleep (coroIn xs (getD s (b + c) 0)))) (resumeThrow pc dst c src) refl (throw-arm pc dst c src)
+shape w (Op.CoroClose pc dst c src) = instr-shape w (Op.CoroClose pc dst c src) pc _ (λ b s xs. enters (getD s (b + c) 0) (Driver.Resume dst) (closes (getD s (b + src) 0)) (isAsleep (coroIn xs (getD s (b + c) 0)))) (coroClose pc dst c src) refl (close-arm pc dst c src)
 shape w (Op.CoroStatus pc dst c) = instr-shape w (Op.CoroStatus pc dst c) pc _ plain (coroStatus dst c) refl (status-arm pc dst c)
 shape w (Op.CoroCurrent pc dst) = instr-shape w (Op.CoroCurrent pc dst) pc _ plain (coroCurrent dst) refl (current-arm pc dst)
 shape w (Op.CoroKey pc dst c) = instr-shape w (Op.CoroKey pc dst c) pc _ plain (coroKey dst c) refl (key-arm pc dst c)

@@ -25,7 +25,7 @@ use Rattle.model.specs.declared.machine.Driver.{Driver}
 use Rattle.claims.specs.Says.{Sent}
 use Rattle.claims.proofs.Entry.{nobody, entry, act, entryBy, entryOf, driverOf, pcOf}
 use Rattle.claims.proofs.Held.{Seat, coreIn, coreAt, calling, eventOf, mem, deliverTo}
-use Rattle.claims.proofs.Split.{next, hasLeft, Enters, Leaves, restarts, Waits, Goes, Sleeps, Left}
+use Rattle.claims.proofs.Split.{next, hasLeft, Enters, Stops, restarts, Waits, Goes, Sleeps, Left}
 use Rattle.claims.proofs.Cores.{no-both, m-plain, m-ending}
 use Rattle.claims.proofs.Shape.{view, Enter, Apart, modeOf}
 use Rattle.claims.proofs.Events.{susp-run, susp-born, entered-one, Firm, sleeps-on}
@@ -169,7 +169,7 @@ module _ (c : ℕ) (d : Driver) (bs : List ℕ) (bf : List Frame) (bc : List Act
       go (lost x) rest = no-both r (ap (λ n. isRunning (n .state)) (lost-on c (coreAt (next w k) c) x (next w k) ks refl (q .2)) ∙ ap isRunning x)
       go (over x e) rest = no-both x (q .0)
 
-  pub leaving : (w : World) (ks : List Call) (l : Call) → Under c d bs bf bc (view w) → Goes c w ks → Leaves c (run w ks) l
+  pub leaving : (w : World) (ks : List Call) (l : Call) → Under c d bs bf bc (view w) → Goes c w ks → Stops c (run w ks) l
       → (mem (next (run w ks) l .stack) (next (run w ks) l .frames) ≡ deliverTo d (eventOf (run w ks) l c) (mem bs bf)) × (next (run w ks) l .chain ≡ bc)
   leaving w ks l u q h = go (fate-one (run w ks) l (goes-on w ks u q (h .before)))
     where
@@ -182,7 +182,7 @@ module _ (c : ℕ) (d : Driver) (bs : List ℕ) (bf : List Frame) (bc : List Act
       go (lost x) = no-both (h .after) (ap hasLeft x)
       go (over x e) = no-both (h .after) e
 
-pub untouched : (c : ℕ) (w : World) (k : Call) (ks : List Call) (l : Call) → Enters c w k → Goes c (next w k) ks → Leaves c (run (next w k) ks) l → Left w k c (run (next w k) ks) l (next (run (next w k) ks) l)
+pub untouched : (c : ℕ) (w : World) (k : Call) (ks : List Call) (l : Call) → Enters c w k → Goes c (next w k) ks → Stops c (run (next w k) ks) l → Left w k c (run (next w k) ks) l (next (run (next w k) ks) l)
 untouched c w k ks l h q e =
     let t = entering c w k h in
     let u = landed w (pcOf w k) c (t .driver) (t .sent) (next w k) (lifts w (t .healthy) c (t .enter .ready) (t .enter .solid)) (t .enter) in

@@ -16,7 +16,7 @@ use Rattle.model.specs.World.{World, After, after}
 use Rattle.model.specs.Frames.{onTop, setPc, below, baseAt, reg, storePc}
 use Rattle.model.specs.Heap.{coro, dynInt, fits}
 use Rattle.model.specs.Coro as Coro
-use Rattle.model.specs.Coro.{saved, sized, growth, setKeys, unclose, suspendAs, suspendOn, coroSuspend, deliver, deliverReturn}
+use Rattle.model.specs.Coro.{saved, sized, growth, setKeys, unclose, suspendCoroutine, suspendInnermost, coroSuspend, deliver, deliverReturn}
 use Rattle.model.specs.Sound.{marked}
 use Rattle.model.specs.Machine.{isOk}
 use Rattle.model.specs.Exec.{delivered, deliverAll, suspend, largestIn, autoKey, yieldKey, yieldOn, yield, largerOf, yieldKvOn, yieldKv, awaitOn, await}
@@ -87,15 +87,15 @@ suspend-case s dst x keys t = go (t .chain) refl
     fit a chain k r e h true = z-out Fault.OutOfMemory
     fit a chain k r e h false = z-in a chain k r e h
 
-    there : (a : Active) (chain : List Active) → t .chain ≡ a ∷ chain → (y : Coroutine) → coro t (a .coro) ≡ y → SuspendCase s dst x keys t (suspendAs y a chain (saved s dst (a .floor) t) x keys t)
+    there : (a : Active) (chain : List Active) → t .chain ≡ a ∷ chain → (y : Coroutine) → coro t (a .coro) ≡ y → SuspendCase s dst x keys t (suspendCoroutine y a chain (saved s dst (a .floor) t) x keys t)
     there a chain e Absent h = z-out Fault.TypeError
     there a chain e (Is k r) h = fit a chain k r e h (not (fits t (growth t (saved s dst (a .floor) t) r)))
 
-    deep : (a : Active) (chain : List Active) → t .chain ≡ a ∷ chain → (b : Bool) → SuspendCase s dst x keys t (pick b (after t (Suspension.Refused Fault.CannotSuspend)) (suspendAs (coro t (a .coro)) a chain (saved s dst (a .floor) t) x keys t))
+    deep : (a : Active) (chain : List Active) → t .chain ≡ a ∷ chain → (b : Bool) → SuspendCase s dst x keys t (pick b (after t (Suspension.Refused Fault.CannotSuspend)) (suspendCoroutine (coro t (a .coro)) a chain (saved s dst (a .floor) t) x keys t))
     deep a chain e true = z-out Fault.CannotSuspend
     deep a chain e false = there a chain e (coro t (a .coro)) refl
 
-    go : (cs : List Active) → t .chain ≡ cs → SuspendCase s dst x keys t (suspendOn cs s dst x keys t)
+    go : (cs : List Active) → t .chain ≡ cs → SuspendCase s dst x keys t (suspendInnermost cs s dst x keys t)
     go [] e = z-out Fault.CannotSuspend
     go (a ∷ chain) e = deep a chain e (leb (length (t .frames)) (a .floor))
 

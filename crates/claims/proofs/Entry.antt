@@ -13,7 +13,7 @@ use Rattle.model.specs.World.{World}
 use Rattle.model.specs.Frames.{reg}
 use Rattle.model.specs.Heap.{object, coro, dynInt}
 use Rattle.model.specs.Coro.{overflows}
-use Rattle.model.specs.Cleanup.{suspendedAs, charge}
+use Rattle.model.specs.Cleanup.{isAsleep, charge}
 use Rattle.model.specs.Sound.{sound}
 use Rattle.model.specs.Call.{Call, SetUp, Do}
 use Rattle.model.specs.Calls.{Row, Instruction, OnFrame, OnHost, Unwinds, Grants, Looks, Other, table}
@@ -68,8 +68,8 @@ plan (Op.Yield pc dst src) = suspending (λ w. suspends CoroState.Yielded dst (r
 plan (Op.YieldKv pc dst src key) = suspending (λ w. suspends CoroState.Yielded dst (reg w src)) (λ w. inBody (w .chain) (λ a. tries pc CoroState.Yielded dst (reg w src) w (Keys.Set (reg w key) (largerOf (largestIn (coro w (a .coro))) (dynInt w (reg w key))))))
 plan (Op.Await pc dst src) = suspending (λ w. suspends CoroState.Awaiting dst (reg w src)) (λ w. inBody (w .chain) (λ a. tries pc CoroState.Awaiting dst (reg w src) w Keys.Keep))
 plan (Op.Resume pc dst c src) = entering (λ w. enters (reg w c) (Driver.Resume dst) (gets (reg w src)) true)
-plan (Op.ResumeThrow pc dst c src) = entering (λ w. enters (reg w c) (Driver.Resume dst) nothing (suspendedAs (coro w (reg w c))))
-plan (Op.CoroClose pc dst c src) = entering (λ w. enters (reg w c) (Driver.Resume dst) (closes (reg w src)) (suspendedAs (coro w (reg w c))))
+plan (Op.ResumeThrow pc dst c src) = entering (λ w. enters (reg w c) (Driver.Resume dst) nothing (isAsleep (coro w (reg w c))))
+plan (Op.CoroClose pc dst c src) = entering (λ w. enters (reg w c) (Driver.Resume dst) (closes (reg w src)) (isAsleep (coro w (reg w c))))
 plan (Op.CoroStatus pc dst c) = idle
 plan (Op.CoroCurrent pc dst) = idle
 plan (Op.CoroKey pc dst c) = idle
@@ -146,7 +146,7 @@ aimed neither w = nobody
 -- a cleanup: the first of the queue that is suspended and fits
 abbrev pub cleaned : List ℕ → World → Entry
 cleaned [] w = nobody
-cleaned (c ∷ queue) w = pick (suspendedAs (coro w c) && accepts w c) (entry c Driver.Finalize (closes nil)) (cleaned queue w)
+cleaned (c ∷ queue) w = pick (isAsleep (coro w c) && accepts w c) (entry c Driver.Finalize (closes nil)) (cleaned queue w)
 
 -- a charge that starts a cleanup enters that coroutine, whatever the instruction is after
 abbrev pub charged : Charge → World → Entry → Entry

@@ -19,7 +19,7 @@ use Rattle.model.specs.World.{World, After, after, andThen}
 use Rattle.model.specs.Frames.{reg, storePc}
 use Rattle.model.specs.Heap.{coro, dynInt, fits, encodeInt}
 use Rattle.model.specs.Coro as Coro
-use Rattle.model.specs.Coro.{saved, growth, setKeys, suspendAs, suspendOn, coroSuspend, deliver}
+use Rattle.model.specs.Coro.{saved, growth, setKeys, suspendCoroutine, suspendInnermost, coroSuspend, deliver}
 use Rattle.model.specs.Cleanup.{charge}
 use Rattle.model.specs.Gate as Gate
 use Rattle.model.specs.Gate.{instruction, refused, answerOf}
@@ -80,7 +80,7 @@ suspend-number pc s dst x keys v there = go (v .chain) refl
     t : World
     t = storePc pc v
 
-    found : (a : Active) (chain : List Active) → v .chain ≡ a ∷ chain → (y : Coroutine) → coro v (a .coro) ≡ y → Suits (suspendAs y a chain (saved s dst (a .floor) t) x keys t)
+    found : (a : Active) (chain : List Active) → v .chain ≡ a ∷ chain → (y : Coroutine) → coro v (a .coro) ≡ y → Suits (suspendCoroutine y a chain (saved s dst (a .floor) t) x keys t)
     found a chain e Absent q = no-both (there a chain e) (ap (λ y. isRunning (coreIn y .state)) q)
     found a chain e (Is k r) q = test (not (fits t (growth t (saved s dst (a .floor) t) r)))
       where
@@ -88,11 +88,11 @@ suspend-number pc s dst x keys v there = go (v .chain) refl
         test true = refl
         test false = delivered-number (a .driver) (Coro.eventOf s x (setKeys keys r)) (Coro.suspended a chain (saved s dst (a .floor) t) x keys r t)
 
-    above : (a : Active) (chain : List Active) → v .chain ≡ a ∷ chain → (b : Bool) → Suits (pick b (after t (Suspension.Refused Fault.CannotSuspend)) (suspendAs (coro v (a .coro)) a chain (saved s dst (a .floor) t) x keys t))
+    above : (a : Active) (chain : List Active) → v .chain ≡ a ∷ chain → (b : Bool) → Suits (pick b (after t (Suspension.Refused Fault.CannotSuspend)) (suspendCoroutine (coro v (a .coro)) a chain (saved s dst (a .floor) t) x keys t))
     above a chain e true = refl
     above a chain e false = found a chain e (coro v (a .coro)) refl
 
-    go : (cs : List Active) → v .chain ≡ cs → Suits (suspendOn cs s dst x keys t)
+    go : (cs : List Active) → v .chain ≡ cs → Suits (suspendInnermost cs s dst x keys t)
     go [] e = refl
     go (a ∷ chain) e = above a chain e (leb (length (t .frames)) (a .floor))
 

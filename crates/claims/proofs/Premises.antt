@@ -8,7 +8,7 @@ use lib.Dec.{eqb}
 use borrow.Author.Tests.{not-true, eq-eqb}
 use Rattle.model.specs.declared.call.Op.{Op}
 use Rattle.claims.specs.Engine.{Engine, run}
-use Rattle.claims.specs.Demand3.{Suspends, Enters, Leaves, Restarts, Waits, Goes, Demand3}
+use Rattle.claims.specs.Demand3.{Suspends, Enters, Stops, Restarts, Waits, Goes, Demand3}
 use Rattle.claims.specs.Premises.{isSetUp, runsIn, sleepsIn, leftIn, restarts, waits, goes, meets, premises, Holds}
 use Rattle.claims.proofs.Cores.{no-both, and-left, and-right}
 
@@ -56,7 +56,7 @@ pub record Premises (e : Engine) (c : ℕ) (s : e .State) (x : e .Call) (waiting
   pub waits : Waits e c (e .next s x) waiting
   pub enters : Enters e c (run e (e .next s x) waiting) y
   pub goes : Goes e c (e .next (run e (e .next s x) waiting) y) going
-  pub leaves : Leaves e c (run e (e .next (run e (e .next s x) waiting) y) going) z
+  pub leaves : Stops e c (run e (e .next (run e (e .next s x) waiting) y) going) z
 
 pub premises-met : (e : Engine) (c : ℕ) (s : e .State) (x : e .Call) (waiting : List (e .Call)) (y : e .Call) (going : List (e .Call)) (z : e .Call) → premises e c s x waiting y going z ≡ true → Premises e c s x waiting y going z
 premises-met e c s₁ x waiting y going z h =

@@ -24,7 +24,7 @@ use Rattle.model.specs.Frames.{lower, above, baseAt, onTop, setPc, reg, storePc
 use Rattle.model.specs.Heap.{coro, dynInt, fits, slotsFull, refuse, alloc, encodeAt}
 use Rattle.model.specs.Fuel.{spend}
 use Rattle.model.specs.Coro as Coro
-use Rattle.model.specs.Coro.{saved, growth, suspendAs, suspendOn, coroSuspend}
+use Rattle.model.specs.Coro.{saved, growth, suspendCoroutine, suspendInnermost, coroSuspend}
 use Rattle.model.specs.Cleanup.{chargeSlow, charge}
 use Rattle.model.specs.Exec.{largestIn, largerOf, keyAt, keyExact, autoKey, yieldKey, yieldOn, yield}
 use Rattle.model.specs.Gate.{refused, allIn, answerOf, charged, instruction}
@@ -131,7 +131,7 @@ module _ (w : World) (n c : ℕ) (m : Roomy steps n c w) where
         let l : w .setup .limits .memory ≡ u .setup .limits .memory = ap (λ s. s .limits .memory) (sym (same .setup)) in
         room-less (u .used) (growth v K r) (w .used) (n + grown w n c m) (w .setup .limits .memory) (u .setup .limits .memory) (omega (arith, paid, g)) l (m .grows)
 
-    found : (y : Coroutine) → seenOf y ≡ some (m .seen) → taken (suspendAs y a (m .held .outer) K x keys v .answer) ≡ true
+    found : (y : Coroutine) → seenOf y ≡ some (m .seen) → taken (suspendCoroutine y a (m .held .outer) K x keys v .answer) ≡ true
     unfolding mostWords mostFrames
     found Absent q = let z : _≡_ {A = ℕ} 0 1 = cc in absurd (omega arith)
     found (Is k r) q =
@@ -141,9 +141,9 @@ module _ (w : World) (n c : ℕ) (m : Roomy steps n c w) where
     pub accepted : tries pc st dst x u keys ≡ true
     unfolding coroSuspend
     accepted =
-        ap (λ (cs : List Active). taken (suspendOn cs st dst x keys v .answer)) (same .chain ∙ m .held .chain)
-        ∙ (ap (λ b. taken (pick b (after v (Suspension.Refused Fault.CannotSuspend)) (suspendAs (coro u c) a (m .held .outer) K x keys v) .answer)) inside
-        ∙ (ap (λ (y : After Suspension). taken (y .answer)) (pick-false (after v (Suspension.Refused Fault.CannotSuspend)) (suspendAs (coro u c) a (m .held .outer) K x keys v))
+        ap (λ (cs : List Active). taken (suspendInnermost cs st dst x keys v .answer)) (same .chain ∙ m .held .chain)
+        ∙ (ap (λ b. taken (pick b (after v (Suspension.Refused Fault.CannotSuspend)) (suspendCoroutine (coro u c) a (m .held .outer) K x keys v) .answer)) inside
+        ∙ (ap (λ (y : After Suspension). taken (y .answer)) (pick-false (after v (Suspension.Refused Fault.CannotSuspend)) (suspendCoroutine (coro u c) a (m .held .outer) K x keys v))
         ∙ found (coro u c) (ap seenOf (same .coros c) ∙ m .there)))
 
   spent : Same w (spend w)

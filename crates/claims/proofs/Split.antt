@@ -29,7 +29,7 @@ pub record Enters (c : ℕ) (w : World) (k : Call) : Type 0 where
   pub before : isRunning (coreAt w c .state) ≡ false
   pub after : isRunning (coreAt (next w k) c .state) ≡ true
 
-pub record Leaves (c : ℕ) (w : World) (k : Call) : Type 0 where
+pub record Stops (c : ℕ) (w : World) (k : Call) : Type 0 where
   pub before : isRunning (coreAt w c .state) ≡ true
   pub after : hasLeft (coreAt (next w k) c .state) ≡ true
 
@@ -46,7 +46,7 @@ Waits c w (k ∷ ks) = (restarts k ≡ false) × (Enters c w k → ⊥) × Waits
 -- among the calls is no accepted set-up, and in none does c yield, await or return
 abbrev pub Goes : ℕ → World → List Call → Type 0
 Goes c w [] = Unit {0}
-Goes c w (k ∷ ks) = (restarts k ≡ false) × (Leaves c w k → ⊥) × Goes c (next w k) ks
+Goes c w (k ∷ ks) = (restarts k ≡ false) × (Stops c w k → ⊥) × Goes c (next w k) ks
 
 -- ---- asleep. 01: "held are its Coro frame with all frames above it, and the words from that frame's base up"
 

@@ -31,7 +31,7 @@ use Rattle.claims.specs.Steps.{seenOf, viewOf, opOf, steps}
 use Rattle.claims.proofs.Entry as E
 use Rattle.claims.proofs.Entry.{act, pcBy, driverOf, entryOf}
 use Rattle.claims.proofs.Held.{coreIn, coreAt, Event, Yields, Awaits, Ignores, Returns, madeWord, eventBy, eventOf, Mem, mem, deliverTo, calling}
-use Rattle.claims.proofs.Split.{next, hasLeft, Enters, Leaves, Goes}
+use Rattle.claims.proofs.Split.{next, hasLeft, Enters, Stops, Goes}
 use Rattle.claims.proofs.Cores.{no-both}
 use Rattle.claims.proofs.Events.{no-entry}
 use Rattle.claims.proofs.Finishes.{FinishCase, f-other, f-returns, finish-case}
@@ -43,7 +43,7 @@ use Rattle.claims.proofs.Restores.{enters-old, restarts-old, entry-by}
 
 -- ---- events
 
-pub leaves-old : (c : ℕ) (w : World) (k : Call) → D.Leaves steps c w k → Leaves c w k
+pub leaves-old : (c : ℕ) (w : World) (k : Call) → D.Stops steps c w k → Stops c w k
 leaves-old c w k h = record { before = sym (is-runs w c) ∙ h .before; after = sym (is-left (next w k) c) ∙ h .after }
 
 goes-old : (c : ℕ) (w : World) (ks : List Call) → D.Goes steps c w ks → Goes c w ks
@@ -160,7 +160,7 @@ event-told v (Op.Grant n) c b l = event-alike v c (viewOf (call (Op.Grant n) v .
 event-told v Op.StopRun c b l = event-alike v c (viewOf (call Op.StopRun v .world)) refl (says-alike v Op.StopRun)
 event-told v Op.Look c b l = event-alike v c (viewOf (call Op.Look v .world)) refl (says-alike v Op.Look)
 
-event-of : (v : World) (k : Call) (c : ℕ) → Leaves c v k → Y.eventOf (viewOf v) (doing (viewOf v) (opOf k)) c (viewOf (next v k)) ≡ eventTo (eventOf v k c)
+event-of : (v : World) (k : Call) (c : ℕ) → Stops c v k → Y.eventOf (viewOf v) (doing (viewOf v) (opOf k)) c (viewOf (next v k)) ≡ eventTo (eventOf v k c)
 event-of v k c h = go (next v k) (step-case v k) (h .after)
   where
     go : {k : Call} (z : World) → StepCase v k z → hasLeft (coreAt z c .state) ≡ true → Y.eventOf (viewOf v) (doing (viewOf v) (opOf k)) c (viewOf z) ≡ eventTo (eventOf v k c)
@@ -182,7 +182,7 @@ untouched-as c w (Do o) v l z t p q g =
     }
 
 pub untouched : (c : ℕ) (w : World) (y : Call) (going : List Call) (l : Call) → D.Enters steps c w y → D.Goes steps c (next w y) going
-    → let v = run steps (next w y) going in D.Leaves steps c v l → Left (viewOf w) (opOf y) c (viewOf v) (opOf l) (viewOf (next v l))
+    → let v = run steps (next w y) going in D.Stops steps c v l → Left (viewOf w) (opOf y) c (viewOf v) (opOf l) (viewOf (next v l))
 untouched c w y going l h q e =
     let x = Claim.untouched c w y going l (enters-old c w y h) (goes-old c (next w y) going q) left in
     untouched-as c w y v l (next v l) (entering c w y (enters-old c w y h)) (x .under) (x .chain) (event-of v l c left)
@@ -190,5 +190,5 @@ untouched c w y going l h q e =
     v : World
     v = M.run (next w y) going
 
-    left : Leaves c v l
+    left : Stops c v l
     left = leaves-old c v l e

@@ -13,7 +13,7 @@ use Rattle.model.specs.Frames.{topBase, reg}
 use Rattle.model.specs.Heap.{object, coro}
 use Rattle.model.specs.Program.{isFunction}
 use Rattle.model.specs.Gate.{inFrame, windowIn}
-use Rattle.model.specs.Cleanup.{suspendedAs}
+use Rattle.model.specs.Cleanup.{isAsleep}
 use Rattle.model.specs.declared.machine.Frame.{Frame}
 use Rattle.model.specs.declared.machine.Driver.{Driver}
 use Rattle.model.specs.declared.call.OptPc.{OptPc}
@@ -113,10 +113,10 @@ is-left w c = go (coro w c)
     go Absent = refl
     go (Is k r) = λ i. sleeps-state (k .state) i || ended-state (k .state) i
 
-pub is-asleep : (w : World) (c : ℕ) → is (viewOf w) sleeps c ≡ suspendedAs (coro w c)
+pub is-asleep : (w : World) (c : ℕ) → is (viewOf w) sleeps c ≡ isAsleep (coro w c)
 is-asleep w c = go (coro w c)
   where
-    go : (x : Coroutine) → seenIn (λ y. sleeps (y .state)) (seenOf x) ≡ suspendedAs x
+    go : (x : Coroutine) → seenIn (λ y. sleeps (y .state)) (seenOf x) ≡ isAsleep x
     go Absent = refl
     go (Is k r) = sleeps-state (k .state)
 
@@ -168,8 +168,8 @@ says-alike w (Op.Yield pc dst src) = alike-at pc (E.suspends CoroState.Yielded d
 says-alike w (Op.YieldKv pc dst src key) = alike-at pc (E.suspends CoroState.Yielded dst (reg w src)) (rw (base-top (w .frames))) (rw (base-top (w .frames)))
 says-alike w (Op.Await pc dst src) = alike-at pc (E.suspends CoroState.Awaiting dst (reg w src)) (rw (base-top (w .frames))) (rw (base-top (w .frames)))
 says-alike w (Op.Resume pc dst c src) = alike-at pc (E.enters (reg w c) (Driver.Resume dst) (gets (reg w src)) true) (rw (base-top (w .frames))) (rw (base-top (w .frames)))
-says-alike w (Op.ResumeThrow pc dst c src) = alike-at pc (E.enters (reg w c) (Driver.Resume dst) nothing (suspendedAs (coro w (reg w c)))) (rw (base-top (w .frames))) (rw (base-top (w .frames)) (ap (enter (reg w c) (Driver.Resume dst) nothing) (is-asleep w (reg w c))))
-says-alike w (Op.CoroClose pc dst c src) = alike-at pc (E.enters (reg w c) (Driver.Resume dst) (closes (reg w src)) (suspendedAs (coro w (reg w c)))) (rw (base-top (w .frames))) (rw (base-top (w .frames)) (ap (enter (reg w c) (Driver.Resume dst) (closes (reg w src))) (is-asleep w (reg w c))))
+says-alike w (Op.ResumeThrow pc dst c src) = alike-at pc (E.enters (reg w c) (Driver.Resume dst) nothing (isAsleep (coro w (reg w c)))) (rw (base-top (w .frames))) (rw (base-top (w .frames)) (ap (enter (reg w c) (Driver.Resume dst) nothing) (is-asleep w (reg w c))))
+says-alike w (Op.CoroClose pc dst c src) = alike-at pc (E.enters (reg w c) (Driver.Resume dst) (closes (reg w src)) (isAsleep (coro w (reg w c)))) (rw (base-top (w .frames))) (rw (base-top (w .frames)) (ap (enter (reg w c) (Driver.Resume dst) (closes (reg w src))) (is-asleep w (reg w c))))
 says-alike w (Op.CoroStatus pc dst c) = alike-at pc E.neither (rw (base-top (w .frames))) refl
 says-alike w (Op.CoroCurrent pc dst) = alike-at pc E.neither (rw (base-top (w .frames))) refl
 says-alike w (Op.CoroKey pc dst c) = alike-at pc E.neither (rw (base-top (w .frames))) refl

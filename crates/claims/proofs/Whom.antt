@@ -17,7 +17,7 @@ use Rattle.model.specs.World.{World, After, after}
 use Rattle.model.specs.Frames.{storePc}
 use Rattle.model.specs.Heap.{coro}
 use Rattle.model.specs.Fuel.{unbank, unbankAt, spend}
-use Rattle.model.specs.Cleanup.{suspendedAs, startFrom, startFinalizer, chargeDone, chargeOr, chargeAt, chargeSlow, charge}
+use Rattle.model.specs.Cleanup.{isAsleep, startFrom, startFinalizer, chargeDone, chargeOr, chargeAt, chargeSlow, charge}
 use Rattle.model.specs.Sound.{sound}
 use Rattle.model.specs.declared.machine.Driver.{Driver}
 use Rattle.model.specs.declared.machine.Frame.{Frame}
@@ -100,7 +100,7 @@ module _ (w : World) (h : sound w ≡ true) where
   cleaned-told pc [] = refl
   cleaned-told pc (c ∷ q) =
       (λ i. pick (is-asleep w c i && fits-accepts c i) (some (entry c Driver.Finalize (closes 0) pc)) (cleaned-told pc q i))
-      ∙ told-pick pc (suspendedAs (coro w c) && accepts w c) (E.entry c Driver.Finalize (closes 0)) (E.cleaned q w)
+      ∙ told-pick pc (isAsleep (coro w c) && accepts w c) (E.entry c Driver.Finalize (closes 0)) (E.cleaned q w)
 
 -- ---- the charge
 

@@ -21,7 +21,7 @@ pub record Suspends (e : Engine) (c : ℕ) (s : e .State) (k : e .Call) : Type 0
   pub after : is (e .view (e .next s k)) sleeps c ≡ true
 
 -- it yields, awaits or returns. 01: "a return if `finish` or `unwind` makes it Returned"
-pub record Leaves (e : Engine) (c : ℕ) (s : e .State) (k : e .Call) : Type 0 where
+pub record Stops (e : Engine) (c : ℕ) (s : e .State) (k : e .Call) : Type 0 where
   pub before : is (e .view s) runs c ≡ true
   pub after : is (e .view (e .next s k)) (λ x. sleeps x || ended x) c ≡ true
 
@@ -38,7 +38,7 @@ Waits e c s (k ∷ ks) = (Restarts e s k → ⊥) × (Enters e c s k → ⊥) ×
 -- among the calls is no accepted set-up, and in none does c yield, await or return
 abbrev pub Goes : (e : Engine) → ℕ → e .State → List (e .Call) → Type 0
 Goes e c s [] = Unit {0}
-Goes e c s (k ∷ ks) = (Restarts e s k → ⊥) × (Leaves e c s k → ⊥) × Goes e c (e .next s k) ks
+Goes e c s (k ∷ ks) = (Restarts e s k → ⊥) × (Stops e c s k → ⊥) × Goes e c (e .next s k) ks
 
 -- ---- the claim: from every state, of every list of calls, and wherever it is split
 
@@ -50,4 +50,4 @@ pub record Demand3 (e : Engine) : Type 0 where
       → let t = run e (e .next s x) waiting in Enters e c t y → Restored (e .view s) (e .op x) (e .view t) (e .op y) c (e .view (e .next t y))
   -- y enters c, be it the first time, then come the calls `going`, and z is where it next yields, awaits or returns
   pub untouched : (c : ℕ) (s : e .State) (y : e .Call) (going : List (e .Call)) (z : e .Call) → Enters e c s y → Goes e c (e .next s y) going
-      → let t = run e (e .next s y) going in Leaves e c t z → Left (e .view s) (e .op y) c (e .view t) (e .op z) (e .view (e .next t z))
+      → let t = run e (e .next s y) going in Stops e c t z → Left (e .view s) (e .op y) c (e .view t) (e .op z) (e .view (e .next t z))

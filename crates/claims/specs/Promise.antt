@@ -16,7 +16,7 @@ use Rattle.model.specs.declared.call.Op.{Op}
 use Rattle.claims.specs.Engine.{Seen, View, Engine, run}
 use Rattle.claims.specs.Says.{lie}
 use Rattle.claims.specs.Held.{Held}
-use Rattle.claims.specs.Demand3.{Enters, Suspends, Leaves, Restarts, Waits, Goes, Demand3}
+use Rattle.claims.specs.Demand3.{Enters, Suspends, Stops, Restarts, Waits, Goes, Demand3}
 use Rattle.claims.specs.Events.{Healthy, onBody, raised, raisedAt, Events}
 
 -- ---- what is accepted, besides the entries (Events.entered)
@@ -130,7 +130,7 @@ pub record NotEmpty (e : Engine) : Type 0 where
   pub waits : Waits e c (e .next (run e (e .next start first) before) x) waiting
   pub enters : Enters e c (run e (e .next (run e (e .next start first) before) x) waiting) y
   pub goes : Goes e c (e .next (run e (e .next (run e (e .next start first) before) x) waiting) y) going
-  pub leaves : Leaves e c (run e (e .next (run e (e .next (run e (e .next start first) before) x) waiting) y) going) z
+  pub leaves : Stops e c (run e (e .next (run e (e .next (run e (e .next start first) before) x) waiting) y) going) z
 
 pub record Promise (e : Engine) : Type 0 where
   pub demand3 : Demand3 e

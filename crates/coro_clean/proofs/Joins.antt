@@ -22,7 +22,7 @@ use Rattle.model.specs.Object.{Rest, Object, Is, withTask, withFinalized}
 use Rattle.model.specs.World.{World, after, withReady, withFinalize}
 use Rattle.model.specs.Heap.{setCoro}
 use Rattle.model.specs.Fuel.{setFinalizing}
-use Rattle.model.specs.Cleanup.{spawnAs, spawnTask}
+use Rattle.model.specs.Cleanup.{joinReady, spawnTask}
 use Rattle.model.specs.Added.{handOverAs, handOver}
 use Rattle.model.specs.Sound.{sound}
 use Rattle.model.specs.declared.call.Answer.{Answer}
@@ -60,7 +60,7 @@ module _ (l : Sizes) (M : Lent) (m : Machine) (f : Fuel) (v : ℕ) (w : World) (
 
   pub task-refused : (g : Fault) → RV.Not g ≡ coroOf (slotsOf (m .count) (M .slots)) v → Does l (spawnTask v w) M m f (Made.Refused Fault.TypeError)
   unfolding spawnTask
-  task-refused g e = does l M m f (spawnTask v w) w (Made.Refused Fault.TypeError) (ap (λ c. spawnAs c v w) (coro-absent l M m f v w rep g e)) rep
+  task-refused g e = does l M m f (spawnTask v w) w (Made.Refused Fault.TypeError) (ap (λ c. joinReady c v w) (coro-absent l M m f v w rep g e)) rep
 
   pub hand-refused : (g : Fault) → RV.Not g ≡ coroOf (slotsOf (m .count) (M .slots)) v → Does l (handOver v w) M m f (Answer.Refused g)
   unfolding handOver
@@ -87,9 +87,9 @@ module _ (l : Sizes) (M : Lent) (m : Machine) (f : Fuel) (v : ℕ) (w : World) (
     may-join : Bool
     may-join = not (t .rest .task) && isResumable (t .core .state)
 
-    as-task : spawnTask v w ≡ spawnAs (Is (t .core) (t .rest)) v w
+    as-task : spawnTask v w ≡ joinReady (Is (t .core) (t .rest)) v w
     unfolding spawnTask
-    as-task = ap (λ c. spawnAs c v w) (t .coro)
+    as-task = ap (λ c. joinReady c v w) (t .coro)
 
     task-stays : may-join ≡ false → Does l (spawnTask v w) M m f (Made.Word v)
     unfolding may-join

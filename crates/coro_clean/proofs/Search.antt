@@ -21,7 +21,7 @@ use Rattle.model.specs.World.{World, After, after, withFinalize}
 use Rattle.model.specs.Heap.{coro, changeCoro}
 use Rattle.model.specs.Fuel.{unbank, setFinalizing}
 use Rattle.model.specs.Coro.{coroEnter}
-use Rattle.model.specs.Cleanup.{suspendedAs, isEntered, close, started, startFrom, startFinalizer}
+use Rattle.model.specs.Cleanup.{isAsleep, isEntered, close, started, startFrom, startFinalizer}
 use Rattle.model.specs.declared.coro.Started.{Started}
 use Rattle.model.specs.declared.machine.Driver.{Driver}
 use Rattle.memory.specs.declared.machine.Machine.{Machine}
@@ -104,7 +104,7 @@ module _ (slots : List ℕ) (m : Machine) (l : Sizes) (v : ℕ) where
 
 -- its test of a word
 abbrev pub test : World → ℕ → List ℕ → Bool
-test w c queue = suspendedAs (coro w c) && isEntered (coroEnter c Driver.Finalize (withFinalize queue w) .answer)
+test w c queue = isAsleep (coro w c) && isEntered (coroEnter c Driver.Finalize (withFinalize queue w) .answer)
 
 abbrev startedFrom : ℕ → ℕ → List ℕ → World → After Started
 startedFrom n i queue w =

@@ -8,7 +8,7 @@ ghost use Rattle.coro_create.specs.Create.{newObject, bytesOf, SpotFits,
 ghost use Rattle.memory.specs.Contract.{Met, ifSound, only};
 ghost use Rattle.memory.specs.Lendings.{making};
 use crate::numbers::sequenced;
-use crate::row::free_row;
+use crate::row::lowest_free_row;
 use heap::fault::Fault;
 use heap::object::CoroObj;
 use heap::object::CoroState;
@@ -56,7 +56,7 @@ fn find_spot(slots: &[u64], m: Machine, l: Sizes, regs: u64) -> Spot
     if fault.number() != 0 {
         return Spot::Lacks(fault);
     }
-    let row = free_row(slots, m.count, l.rows);
+    let row = lowest_free_row(slots, m.count, l.rows);
     if l.rows <= row {
         return Spot::Lacks(Fault::Full);
     }

@@ -67,7 +67,7 @@ fn lowest(held: [bool; 64], rows: usize) -> usize
 }
 
 // The lowest of so many rows that no object holds, or their number.
-pub(crate) fn free_row(slots: &[u64], count: usize, rows: usize) -> usize
+pub(crate) fn lowest_free_row(slots: &[u64], count: usize, rows: usize) -> usize
     requires { ⌜ TableFits (now slots) count × (rows ≤ 64) ⌝ }
     ensures { λ r. ⌜ r ≡ lowestFree rows 0 (heldIn (slotsOf count (now (slots .entry)))) ⌝ }
 {

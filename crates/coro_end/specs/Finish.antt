@@ -10,13 +10,13 @@ use Rattle.heap.specs.declared.object.CoroState.{CoroState}
 use Rattle.model.specs.State.{isFinished}
 use Rattle.memory.specs.Memory.{Lent, Beside}
 use Rattle.memory.specs.Rows.{Rowed}
-use Rattle.memory.specs.Contract.{Held, only}
+use Rattle.memory.specs.Contract.{SomeWorld, only}
 use Rattle.memory.specs.declared.machine.Machine.{Machine}
 use Rattle.memory.specs.declared.machine.Sizes.{Sizes}
 
 -- a world whose rows are in order is held, and the new state is an end
 pub record FinishFits (l : Sizes) (M : Beside → Lent) (m : Machine) (s : CoroState) : Type 0 where
-  pub held : Held (λ w. Rowed (w .setup) (w .slots)) l M (only m)
+  pub held : SomeWorld (λ w. Rowed (w .setup) (w .slots)) l M (only m)
   pub ends : isFinished s ≡ true
 
 -- ---- parts

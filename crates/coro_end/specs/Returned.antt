@@ -10,7 +10,7 @@ use Rattle.model.specs.declared.machine.Active.{Active}
 use Rattle.model.specs.declared.machine.Frame.{Frame}
 use Rattle.memory.specs.Memory.{Lent, Beside}
 use Rattle.memory.specs.Rows.{Rowed}
-use Rattle.memory.specs.Contract.{Held, only}
+use Rattle.memory.specs.Contract.{SomeWorld, only}
 use Rattle.memory.specs.declared.machine.Machine.{Machine}
 use Rattle.memory.specs.declared.machine.Sizes.{Sizes}
 
@@ -21,6 +21,6 @@ lastLies (a ∷ chain) end fs = driverLies (a .driver) end fs
 
 -- the words stand for such a world, whose rows are in order and whose top pc has 32 bits
 pub record ReturnFits (l : Sizes) (M : Beside → Lent) (m : Machine) : Type 0 where
-  pub held : Held (λ w. Rowed (w .setup) (w .slots)) l M (only m)
+  pub held : SomeWorld (λ w. Rowed (w .setup) (w .slots)) l M (only m)
   pub lies : lastLies (held .world .chain) (length (held .world .stack)) (held .world .frames) ≡ true
   pub pc : topPc (held .world .frames) < 2 ^ 32

@@ -1,6 +1,6 @@
 // coro.rs: abort_coros.
 ghost use Rattle.model.specs.Coro.{abortCoros};
-ghost use Rattle.memory.specs.Contract.{Held, Leaves, ifRowed, only, with};
+ghost use Rattle.memory.specs.Contract.{SomeWorld, Leaves, ifRowed, only, with};
 ghost use Rattle.coro_end.specs.Last.{InRows, ending, failActive};
 use crate::last::end_last;
 use heap::object::CoroState;
@@ -21,7 +21,7 @@ pub(crate) fn fail_all(
     m: Machine,
     l: Sizes,
 ) -> Machine
-    requires { ⌜ Held InRows l (ending chain slots «saved_stack» «saved_frames» now) (only m) ⌝ }
+    requires { ⌜ SomeWorld InRows l (ending chain slots «saved_stack» «saved_frames» now) (only m) ⌝ }
     ensures { λ r. ⌜ Leaves ifRowed l failActive (ending chain slots «saved_stack» «saved_frames») (only m) (only r) ⌝ }
 {
     if m.active == 0 {
@@ -42,7 +42,7 @@ pub fn abort_coros(
     l: Sizes,
     fuel: Fuel,
 ) -> FuelDid
-    requires { ⌜ Held InRows l (ending chain slots «saved_stack» «saved_frames» now) (only m) ⌝ }
+    requires { ⌜ SomeWorld InRows l (ending chain slots «saved_stack» «saved_frames» now) (only m) ⌝ }
     ensures { λ r. ⌜ Leaves ifRowed l abortCoros (ending chain slots «saved_stack» «saved_frames») (with m fuel) (with (r .machine) (r .fuel)) ⌝ }
 {
     let failed = fail_all(chain, slots, saved_stack, saved_frames, m, l);

@@ -29,7 +29,7 @@ use Rattle.model.specs.Object.{Core, Rest, Object, withPayload}
 use Rattle.model.specs.World.{World, After, after}
 use Rattle.model.specs.Frames.{lower, above, below, baseAt}
 use Rattle.model.specs.Heap.{coro, fits}
-use Rattle.model.specs.Coro.{saved, sized, growth, setKeys, unclose, eventOf, suspended, suspendAs, suspendOn, coroSuspend}
+use Rattle.model.specs.Coro.{saved, sized, growth, setKeys, unclose, eventOf, putToSleep, suspendCoroutine, suspendInnermost, coroSuspend}
 use Rattle.model.specs.Sound.{rowWords, sound}
 use Rattle.model.specs.declared.coro.Event.{Event}
 use Rattle.model.specs.declared.coro.Keys.{Keys}
@@ -54,7 +54,7 @@ use Rattle.memory.proofs.Tables.{slots-are, slots-set, length-tabled}
 use Rattle.memory.proofs.Lookup.{There, there, there-words, lacks, regs-row, frames-row, regs-set, frames-set}
 use Rattle.memory.proofs.Does.{does}
 use Rattle.memory.proofs.Turn.{turn-used, turn-stack, turn-frames, turn-chain, turn-slots}
-use Rattle.coro_suspend.specs.Suspend.{growthOf, keyOf, asleep, eventAs, shrunk, LeaveFit, Leaves}
+use Rattle.coro_suspend.specs.Suspend.{growthOf, keyOf, asleep, eventAs, shrunk, LeaveFit, MovedOut}
 use Rattle.coro_suspend.proofs.Parts.{heapOf, spends, pays, asleep-is, event-is}
 use Rattle.coro_suspend.proofs.Innermost.{Innermost, innermost, other}
 
@@ -79,7 +79,7 @@ module _ (l : Sizes) (M : Lent) (m : Machine) (f : Fuel) (st : CoroState) (dst p
   unfolding coroSuspend
   idle e =
       does l M m f goal w (Suspension.Refused Fault.CannotSuspend)
-      (ap (λ c. suspendOn c st dst payload keys w) (no-chain (w .chain) (sym (rep .chain .count) ∙ e))) rep
+      (ap (λ c. suspendInnermost c st dst payload keys w) (no-chain (w .chain) (sym (rep .chain .count) ∙ e))) rep
 
   module _ (a : Active) (some : 1 ≤ m .active) (top : a ≡ activeIn (M .chain) (m .active - 1)) where
     abbrev rest : List Active
@@ -93,14 +93,14 @@ module _ (l : Sizes) (M : Lent) (m : Machine) (f : Fuel) (st : CoroState) (dst p
     k′ = saved st dst (a .floor) w
 
     abbrev found-as : After Suspension
-    found-as = suspendAs (coro w (a .coro)) a rest k′ payload keys w
+    found-as = suspendCoroutine (coro w (a .coro)) a rest k′ payload keys w
 
     abbrev stopped : After Suspension
     stopped = after w (Suspension.Refused Fault.CannotSuspend)
 
     model-top : goal ≡ pick (leb (length (w .frames)) (a .floor)) stopped found-as
     unfolding coroSuspend
-    model-top = ap (λ c. suspendOn c st dst payload keys w) chain-is
+    model-top = ap (λ c. suspendInnermost c st dst payload keys w) chain-is
 
     -- no frame of its own
     pub no-frame : m .depth ≤ a .floor → Does l goal M m f (Suspension.Refused Fault.CannotSuspend)
@@ -119,7 +119,7 @@ module _ (l : Sizes) (M : Lent) (m : Machine) (f : Fuel) (st : CoroState) (dst p
       pub not-found : (g : Fault) → RV.Not g ≡ coroOf (slotsOf (m .count) (M .slots)) (a .coro) → Does l goal M m f (Suspension.Refused Fault.TypeError)
       not-found g e =
           let q = lacks (w .slots) (a .coro) g (e ∙ ap (λ xs. coroOf xs (a .coro)) (slots-are (toSlots (w .slots)) (M .slots) (m .count) (rep .slots))) in
-          does l M m f goal w (Suspension.Refused Fault.TypeError) (model-deep ∙ ap (λ c. suspendAs c a rest k′ payload keys w) (q .coro)) rep
+          does l M m f goal w (Suspension.Refused Fault.TypeError) (model-deep ∙ ap (λ c. suspendCoroutine c a rest k′ payload keys w) (q .coro)) rep
 
       -- it is in slot i, and the base of its body is read
       module _ (i : ℕ) (c : CoroObj) (found : RV.At i c ≡ coroOf (slotsOf (m .count) (M .slots)) (a .coro)) (base : ℕ) (read : base ≡ baseIn (M .frames) (a .floor)) where
@@ -163,10 +163,10 @@ module _ (l : Sizes) (M : Lent) (m : Machine) (f : Fuel) (st : CoroState) (dst p
         lacking = after w (Suspension.Refused Fault.OutOfMemory)
 
         abbrev left : After Suspension
-        left = after (suspended a rest k′ payload keys r w) (Suspension.Done (a .driver) (eventOf st payload (setKeys keys r)))
+        left = after (putToSleep a rest k′ payload keys r w) (Suspension.Done (a .driver) (eventOf st payload (setKeys keys r)))
 
         model-found : goal ≡ pick (not (fits w (growth w k′ r))) lacking left
-        model-found = model-deep ∙ ap (λ x. suspendAs x a rest k′ payload keys w) (in-world .coro)
+        model-found = model-deep ∙ ap (λ x. suspendCoroutine x a rest k′ payload keys w) (in-world .coro)
 
         -- the charge is refused
         pub spent : C.OutOfMemory ≡ chargeOf (heapOf m l) grow → Does l goal M m f (Suspension.Refused Fault.OutOfMemory)
@@ -276,7 +276,7 @@ module _ (l : Sizes) (M : Lent) (m : Machine) (f : Fuel) (st : CoroState) (dst p
             row-same : r′ .row ≡ r .row
             row-same = ap (λ x. x .row) (asleep-is k k′ r payload keys)
 
-            slots-after : slots′ ≡ putSlot (M .slots) i (slot (tagOf (a .coro)) (O.Coro d)) → Slots (toSlots (suspended a rest k′ payload keys r w .slots)) slots′ (m .count)
+            slots-after : slots′ ≡ putSlot (M .slots) i (slot (tagOf (a .coro)) (O.Coro d)) → Slots (toSlots (putToSleep a rest k′ payload keys r w .slots)) slots′ (m .count)
             slots-after e =
                 let v = a .coro in
                 let y : Slot H.Object = slot (tagOf v) (O.Coro d) in
@@ -296,7 +296,7 @@ module _ (l : Sizes) (M : Lent) (m : Machine) (f : Fuel) (st : CoroState) (dst p
             event-same = event-is st payload keys r ∙ ap (λ (x : CoroObj). eventAs st payload (x .closing) (keyOf keys (x .key))) (sym (in-world .is))
 
             done : (g : Heap) → isSuspended st ≡ true → C.Done g ≡ chargeOf (heapOf m l) grow
-                → Leaves (M .stack) (M .frames) (M .savedStack) (M .savedFrames) stack′ frames′ savedStack′ savedFrames′ m l (c .row) (a .floor) base
+                → MovedOut (M .stack) (M .frames) (M .savedStack) (M .savedFrames) stack′ frames′ savedStack′ savedFrames′ m l (c .row) (a .floor) base
                 → ChainDo (drop 1) (M .chain) chain′ (m .active) (m .active - 1)
                 → slots′ ≡ putSlot (M .slots) i (slot (tagOf (a .coro)) (O.Coro d))
                 → Does l goal M′ (shrunk m base (a .floor) (g .used)) f (Suspension.Done (a .driver) (eventAs st payload (c .closing) (keyOf keys (c .key))))
@@ -309,9 +309,9 @@ module _ (l : Sizes) (M : Lent) (m : Machine) (f : Fuel) (st : CoroState) (dst p
                 let on : StackLeft (rowWords s) base (w .stack) rs (r .row) stack′ savedStack′ = moves .on-stack (rowWords s) (w .stack) rs (r .row) (rep .stack) (rep .savedStack) regs-is wide in
                 let up : FramesLeft (framesSize s) (a .floor) base (w .frames) gs (r .row) frames′ savedFrames′ = moves .on-frames (framesSize s) (w .frames) gs (r .row) (rep .frames) (rep .savedFrames) frames-is tall in
                 let answer = Suspension.Done (a .driver) (eventAs st payload (c .closing) (keyOf keys (c .key))) in
-                does l M′ (shrunk m base (a .floor) (g .used)) f goal (suspended a rest k′ payload keys r w) answer
+                does l M′ (shrunk m base (a .floor) (g .used)) f goal (putToSleep a rest k′ payload keys r w) answer
                 (model-found ∙ ap (λ t. pick (not t) lacking left) (sym fits-is ∙ pay .0) ∙ pick-false _ _
-                ∙ ap (λ t. after (suspended a rest k′ payload keys r w) (Suspension.Done (a .driver) t)) event-same)
+                ∙ ap (λ t. after (putToSleep a rest k′ payload keys r w) (Suspension.Done (a .driver) t)) event-same)
                 (turn-slots l _ _ _ f
                 (turn-chain l _ _ _ f
                 (turn-frames l _ _ _ f
@@ -319,14 +319,14 @@ module _ (l : Sizes) (M : Lent) (m : Machine) (f : Fuel) (st : CoroState) (dst p
                 (take b (w .stack)) stack′ base (subst (λ n. Stack (take n (w .stack)) stack′ base) base-is (on .stack)))
                 (below (a .floor) (w .frames)) frames′ (a .floor) (up .frames))
                 rest chain′ (m .active - 1) (pop (w .chain) (rep .chain)))
-                (suspended a rest k′ payload keys r w .slots) slots′ savedStack′ savedFrames′ (m .count) (slots-after mark)
+                (putToSleep a rest k′ payload keys r w .slots) slots′ savedStack′ savedFrames′ (m .count) (slots-after mark)
                 (subst (λ z. SavedStack (rowWords s) z savedStack′)
                 (ap (λ n. set rs (r .row) (drop n (w .stack))) base-is ∙ regs-set (w .slots) (a .coro) k r (known .points) (known .own) (known .live) k′ r′ row-same held (s .limits .rows)) (on .saved))
                 (subst (λ z. SavedFrames (framesSize s) z savedFrames′)
                 (ap (λ n. set gs (r .row) (map (lower n) (above (a .floor) (w .frames)))) base-is ∙ frames-set (w .slots) (a .coro) k r (known .points) (known .own) (known .live) k′ r′ row-same held (s .limits .rows)) (up .saved)))
 
             pub accepted : (g : Heap) (x : CoroObj) (n : Machine) (event : Event) → isSuspended st ≡ true → C.Done g ≡ chargeOf (heapOf m l) grow
-                → Leaves (M .stack) (M .frames) (M .savedStack) (M .savedFrames) stack′ frames′ savedStack′ savedFrames′ m l (c .row) (a .floor) base
+                → MovedOut (M .stack) (M .frames) (M .savedStack) (M .savedFrames) stack′ frames′ savedStack′ savedFrames′ m l (c .row) (a .floor) base
                 → ChainDo (drop 1) (M .chain) chain′ (m .active) (m .active - 1)
                 → x ≡ d
                 → slots′ ≡ putChunk width (M .slots) i (sleepWords x (chunkAt width (M .slots) i))

@@ -16,7 +16,7 @@ use Rattle.model.specs.Object.{Coroutine, Absent, Is}
 use Rattle.model.specs.World.{World, After}
 use Rattle.model.specs.Frames.{baseAt}
 use Rattle.model.specs.Heap.{coro, fits}
-use Rattle.model.specs.Coro.{saved, growth, suspendAs, suspendOn, coroSuspend}
+use Rattle.model.specs.Coro.{saved, growth, suspendCoroutine, suspendInnermost, coroSuspend}
 use Rattle.model.specs.Sound.{sound, frameNames, liesUnder, driverLies}
 use Rattle.model.specs.declared.coro.Event.{Event}
 use Rattle.model.specs.declared.coro.Keys.{Keys}
@@ -50,7 +50,7 @@ module _ (st : CoroState) (dst payload : ℕ) (keys : Keys) (w : World) (snd : s
     c : Cut false (w .setup) (length (w .stack)) (w .frames) a chain
     c = cut (w .setup) (subst (Stands false (w .setup) (length (w .stack)) (w .frames)) q (known .tower .stands))
 
-    lie-as : (k : Coroutine) → Lie (suspendAs k a chain (saved st dst (a .floor) w) payload keys w)
+    lie-as : (k : Coroutine) → Lie (suspendCoroutine k a chain (saved st dst (a .floor) w) payload keys w)
     lie-as Absent = λ z. never cc
     lie-as (Is k r) =
         let s = w .setup in
@@ -63,7 +63,7 @@ module _ (st : CoroState) (dst payload : ℕ) (keys : Keys) (w : World) (snd : s
         let e : a .driver ≡ d = cc in
         subst (Receives _) e (receives s _ (a .driver) (c .b .base) (c .low) (c .driver) (names-of s (c .lows)) (below-cut s c) high))
 
-  lie-on : (chain : List Active) → w .chain ≡ chain → Lie (suspendOn chain st dst payload keys w)
+  lie-on : (chain : List Active) → w .chain ≡ chain → Lie (suspendInnermost chain st dst payload keys w)
   lie-on [] q = λ z. never cc
   lie-on (a ∷ chain) q = picked Lie (leb (length (w .frames)) (a .floor)) (λ _ z. never cc) (λ _. lie-as a chain q (coro w (a .coro)))
 

@@ -91,7 +91,7 @@ pub record LeaveFit (stack frames savedStack savedFrames : List ℕ) (m : Machin
   pub leaving : LeaveFits frames savedFrames (m .depth) floor base (row * (l .depth * 6))
 
 -- registers from `base` up, frames from `floor` up
-pub record Leaves (stack frames savedStack savedFrames stack′ frames′ savedStack′ savedFrames′ : List ℕ) (m : Machine) (l : Sizes) (row floor base : ℕ) : Type 0 where
+pub record MovedOut (stack frames savedStack savedFrames stack′ frames′ savedStack′ savedFrames′ : List ℕ) (m : Machine) (l : Sizes) (row floor base : ℕ) : Type 0 where
   pub on-stack : LeavesStack stack savedStack stack′ savedStack′ (m .height) base (row * l .width)
   pub on-frames : LeavesFrames frames savedFrames frames′ savedFrames′ (m .depth) floor base (row * (l .depth * 6))
 

@@ -5,7 +5,7 @@ ghost use Prim.Native.Nat.{_-_, _≤_, max};
 ghost use Rattle.lists.specs.Pick.{pick};
 ghost use Rattle.heap.specs.Word.{nil};
 ghost use Rattle.model.specs.Coro.{coroSuspend};
-ghost use Rattle.coro_suspend.specs.Suspend.{growthOf, keyOf, largestOf, ignores, asleep, eventAs, shrunk, LeaveFit, Leaves, Found, SuspendFits};
+ghost use Rattle.coro_suspend.specs.Suspend.{growthOf, keyOf, largestOf, ignores, asleep, eventAs, shrunk, LeaveFit, MovedOut, Found, SuspendFits};
 ghost use Rattle.memory.specs.Lendings.{six};
 ghost use Rattle.memory.specs.Contract.{Met, ifSound, only};
 use heap::fault::Fault;
@@ -148,7 +148,7 @@ pub(crate) fn move_out(
     base: usize,
 )
     requires { ⌜ LeaveFit (now stack) (now frames) (now «saved_stack») (now «saved_frames») m l row floor base ⌝ }
-    ensures { λ _. ⌜ Leaves (now (stack .entry)) (now (frames .entry)) (now («saved_stack» .entry)) (now («saved_frames» .entry)) (now (stack .exit)) (now (frames .exit)) (now («saved_stack» .exit)) (now («saved_frames» .exit)) m l row floor base ⌝ }
+    ensures { λ _. ⌜ MovedOut (now (stack .entry)) (now (frames .entry)) (now («saved_stack» .entry)) (now («saved_frames» .entry)) (now (stack .exit)) (now (frames .exit)) (now («saved_stack» .exit)) (now («saved_frames» .exit)) m l row floor base ⌝ }
 {
     let at = (row as usize) * l.width;
     tables::rows::leave_stack(stack, m.height, base, saved_stack, at);

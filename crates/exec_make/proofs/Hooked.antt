@@ -21,7 +21,7 @@ use Rattle.model.specs.Frames.{frame, topBase, putAt, putReg, storePc}
 use Rattle.model.specs.Heap.{refuse}
 use Rattle.model.specs.Cleanup.{charge}
 use Rattle.model.specs.Machine.{pushFrame}
-use Rattle.model.specs.Exec.{indirect, hooked, callHook, spawnMade, spawnBy, spawn}
+use Rattle.model.specs.Exec.{indirect, hooked, callHook, spawnMade, spawnWith, spawn}
 use Rattle.model.specs.Sound.{sound}
 use Rattle.model.specs.declared.call.OptPc.{OptPc}
 use Rattle.model.specs.declared.coro.Made.{Made}
@@ -170,9 +170,9 @@ module _ (hook pc dst c : ℕ) (w : World) (l : Sizes) (M : Lent) (n : Machine) 
 -- ---- Spawn, by the set-up's hook and what indirect answers
 
 module _ (l : Sizes) (w : World) (M : Lent) (m : Machine) (fuel : Fuel) (rep : Rep l w M m fuel) (pc dst callee argc : ℕ) where
-  by-hook : (o : Opt) → o ≡ hookOf (M .setup) → spawn pc dst callee argc w ≡ spawnBy o pc dst callee argc w
+  by-hook : (o : Opt) → o ≡ hookOf (M .setup) → spawn pc dst callee argc w ≡ spawnWith o pc dst callee argc w
   unfolding spawn
-  by-hook o e = ap (λ x. spawnBy x pc dst callee argc w) (sym (e ∙ hook-in (w .setup) (M .setup) (rep .setup)))
+  by-hook o e = ap (λ x. spawnWith x pc dst callee argc w) (sym (e ∙ hook-in (w .setup) (M .setup) (rep .setup)))
 
   pub no-hook : Opt.None ≡ hookOf (M .setup) → Does l (spawn pc dst callee argc w) M m fuel (Step.Fault Fault.NoScheduler)
   no-hook e = does l M m fuel (spawn pc dst callee argc w) w (Step.Fault Fault.NoScheduler) (by-hook Opt.None e) rep

@@ -23,8 +23,8 @@ use Rattle.model.specs.Frames.{storePc}
 use Rattle.model.specs.Heap.{object, coro, setCoro, changeCoro, changeIterIn, setDone, setKey, fits, slotsFull, alloc, encodeAt, encodeInt, encodeExact, toDyn}
 use Rattle.model.specs.Rows.{rowsFull}
 use Rattle.model.specs.Fuel.{unbankAt, unbank, armAt, armClose, setReady, setFinalizing, spend}
-use Rattle.model.specs.Coro.{coroCreate, entered, overflows, enterAs, coroEnter, saved, growth, suspendAs, suspendOn, coroSuspend, deliver, inState, ended, deliverReturn, returnedOn, coroReturned, closedBy, failTo, escapedOn, coroEscaped, failAll, abortCoros}
-use Rattle.model.specs.Cleanup.{spawnAs, spawnTask, suspendedAs, isEntered, close, startFrom, startFinalizer, chargeDone, chargeOr, chargeAt, chargeSlow, charge}
+use Rattle.model.specs.Coro.{coroCreate, entered, overflows, enterAs, coroEnter, saved, growth, suspendCoroutine, suspendInnermost, coroSuspend, deliver, inState, ended, deliverReturn, returnedOn, coroReturned, closedBy, failTo, escapedOn, coroEscaped, failAll, abortCoros}
+use Rattle.model.specs.Cleanup.{joinReady, spawnTask, isAsleep, isEntered, close, startFrom, startFinalizer, chargeDone, chargeOr, chargeAt, chargeSlow, charge}
 use Rattle.model.specs.Sound.{isNone}
 use Rattle.model.specs.declared.machine.Active.{Active}
 use Rattle.model.specs.declared.machine.Driver.{Driver}
@@ -96,7 +96,7 @@ pub task-agree : (v : ℕ) (w : World) → Agree w → Ag (spawnTask v w)
 unfolding spawnTask
 task-agree v w h = go (coro w v)
   where
-    go : (c : Coroutine) → Ag (spawnAs c v w)
+    go : (c : Coroutine) → Ag (joinReady c v w)
     go Absent = h
     go (Is k r) = picked Ag (not (r .task) && isResumable (k .state)) (λ _. h) (λ _. h)
 
@@ -203,11 +203,11 @@ popped {c = c} {chain} a e h =
     }
 
 module _ (st : CoroState) (dst payload : ℕ) (key : Keys) (w : World) (h : Agree w) where
-  suspend-on : (chain : List Active) → w .chain ≡ chain → Suspended (suspendOn chain st dst payload key w .world) (suspendOn chain st dst payload key w .answer)
+  suspend-on : (chain : List Active) → w .chain ≡ chain → Suspended (suspendInnermost chain st dst payload key w .world) (suspendInnermost chain st dst payload key w .answer)
   suspend-on [] q = h
   suspend-on (a ∷ chain) q = picked (λ (o : After Suspension). Suspended (o .world) (o .answer)) (leb (length (w .frames)) (a .floor)) (λ _. h) (λ _. go (coro w (a .coro)))
     where
-      go : (c : Coroutine) → Suspended (suspendAs c a chain (saved st dst (a .floor) w) payload key w .world) (suspendAs c a chain (saved st dst (a .floor) w) payload key w .answer)
+      go : (c : Coroutine) → Suspended (suspendCoroutine c a chain (saved st dst (a .floor) w) payload key w .world) (suspendCoroutine c a chain (saved st dst (a .floor) w) payload key w .answer)
       go Absent = h
       go (Is k r) = picked (λ (o : After Suspension). Suspended (o .world) (o .answer)) (not (fits w (growth w (saved st dst (a .floor) w) r))) (λ _. h) (λ _. popped a q h)
 
@@ -281,10 +281,10 @@ start-agree (c ∷ queue) n w hs z b =
     let u = withFinalize queue w in
     let e = coroEnter c Driver.Finalize u in
     let s = begins c u in
-    picked Ag (suspendedAs (coro w c) && isEntered (e .answer))
+    picked Ag (isAsleep (coro w c) && isEntered (e .answer))
     (λ t.
     let v = e .world in
-    let a : finals (v .chain) ≡ 1 = s .active (and-right (suspendedAs (coro w c)) (isEntered (e .answer)) t) ∙ ap (λ m. 1 + m) z in
+    let a : finals (v .chain) ≡ 1 = s .active (and-right (isAsleep (coro w c)) (isEntered (e .answer)) t) ∙ ap (λ m. 1 + m) z in
     let k : isNone (v .fuel .bank) ≡ true = ap (λ (f : Fuel). isNone (f .bank)) (s .bank) ∙ b in
     changed-set v c (s .hosts hs) a k)
     (λ _. start-agree queue (suc n) w hs z b)

@@ -18,7 +18,7 @@ use Rattle.model.specs.Heap.{object, coro, notA, encodeInt, dynInt}
 use Rattle.model.specs.Coro.{coroCreate, coroState, coroEnter, coroSuspend, deliver, inState, ended}
 use Rattle.model.specs.Cleanup.{close, charge}
 use Rattle.model.specs.Machine.{pushFrame, isOk}
-use Rattle.model.specs.Exec.{putMade, window, coroNew, indirectTo, indirect, coroNewIndirect, hooked, callHook, spawnMade, spawnBy, spawn, delivered, deliverAll, suspend, largestIn, keyAt, keyExact, autoKey, yieldKey, yieldOn, yield, largerOf}
+use Rattle.model.specs.Exec.{putMade, window, coroNew, indirectTo, indirect, coroNewIndirect, hooked, callHook, spawnMade, spawnWith, spawn, delivered, deliverAll, suspend, largestIn, keyAt, keyExact, autoKey, yieldKey, yieldOn, yield, largerOf}
 use Rattle.model.specs.Exec.{yieldKvOn, yieldKv, awaitOn, await, arrive, resume, throwEntered, throwTo, resumeThrow, closeEntered, closeIn, closeTo, coroClose, statusOf, coroStatus, coroCurrent, keyOf, coroKey, resultIn, coroResult, iterOn, iterNext}
 use Rattle.model.specs.Added.{answerMade}
 use Rattle.model.specs.declared.machine.Cont.{Cont}
@@ -124,7 +124,7 @@ module _ (w : World) (h : Agree w) where
   unfolding spawn
   spawn-agree pc dst callee argc = go (w .setup .hook)
     where
-      go : (o : Opt) → Ag (spawnBy o pc dst callee argc w)
+      go : (o : Opt) → Ag (spawnWith o pc dst callee argc w)
       go Opt.None = h
       go (Opt.Some hook) = then-ag (indirect dst callee argc w) (spawnMade hook pc dst) (indirect-agree dst callee argc w h) (spawn-made hook pc dst)
 

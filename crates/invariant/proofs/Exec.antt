@@ -18,7 +18,7 @@ use Rattle.model.specs.Frames.{reg, storePc}
 use Rattle.model.specs.Heap.{object, coro, notA, dynInt}
 use Rattle.model.specs.Coro.{stateAs, coroEnter, finishCoroutine, inState, ended}
 use Rattle.model.specs.Machine.{pushFrame, isOk}
-use Rattle.model.specs.Exec.{put, putMade, window, coroNew, coroNewIndirect, hooked, callHook, spawnMade, spawnBy, spawn, delivered, deliverAll, suspend, largestIn, yieldKey, yieldOn, yield, largerOf, yieldKvOn, yieldKv, awaitOn}
+use Rattle.model.specs.Exec.{put, putMade, window, coroNew, coroNewIndirect, hooked, callHook, spawnMade, spawnWith, spawn, delivered, deliverAll, suspend, largestIn, yieldKey, yieldOn, yield, largerOf, yieldKvOn, yieldKv, awaitOn}
 use Rattle.model.specs.Exec.{await, arrive, resume, throwEntered, throwTo, resumeThrow, closeEntered, closeIn, closeTo, coroClose, statusOf, coroStatus, current, coroCurrent, keyOf, coroKey, resultIn, coroResult, iterOn, iterNext}
 use Rattle.model.specs.Sound.{runs}
 use Rattle.model.specs.declared.machine.Cont.{Cont}
@@ -99,7 +99,7 @@ pub spawn-good : {ex : Bool} (pc dst callee argc : ℕ) (w : World) → Sound ex
 unfolding spawn
 spawn-good {ex} pc dst callee argc w h p t = go (w .setup .hook) refl
   where
-    go : (o : Opt) → w .setup .hook ≡ o → Good ex Stepping (spawnBy o pc dst callee argc w)
+    go : (o : Opt) → w .setup .hook ≡ o → Good ex Stepping (spawnWith o pc dst callee argc w)
     go Opt.None e = good h refl
     go (Opt.Some hook) e =
         let is : isFunction (w .setup) hook ≡ true = and-left (isFunction (w .setup) hook) _ (subst (λ o. hookOk (w .setup) o ≡ true) e (facts (w .setup) (h .setup) .hook)) in

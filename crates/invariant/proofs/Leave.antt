@@ -17,7 +17,7 @@ use Rattle.model.specs.Object.{Core, Rest, Object, Coroutine, Absent, Is, withP
 use Rattle.model.specs.World.{World}
 use Rattle.model.specs.Frames.{topBase, lower, above, below, baseAt}
 use Rattle.model.specs.Heap.{coro, fits}
-use Rattle.model.specs.Coro.{saved, sized, growth, setKeys, unclose, suspendAs, suspendOn, coroSuspend}
+use Rattle.model.specs.Coro.{saved, sized, growth, setKeys, unclose, suspendCoroutine, suspendInnermost, coroSuspend}
 use Rattle.model.specs.Gate.{inFrame}
 use Rattle.model.specs.Sound.{rowWords, bodyLast, framesOver, waits, runs}
 use Rattle.model.specs.declared.machine.Active.{Active}
@@ -116,7 +116,7 @@ module _ {ex : Bool} (st : CoroState) (dst payload : ℕ) (key : Keys) (w : Worl
         tower-take (baseAt (a .floor) (w .frames)) (h .tower) i (below (a .floor) (w .frames)) chain l
         (subst (λ n. Stands ex (w .setup) n (below (a .floor) (w .frames)) chain) (sym seam) (subst (λ fs. Stands ex (w .setup) (sliced .b .base) fs chain) (sym e) (sliced .lows)))
 
-    suspend-as : (c : Coroutine) → coro w (a .coro) ≡ c → Good ex (λ _ x. suspensionFine x ≡ true) (suspendAs c a chain (saved st dst (a .floor) w) payload key w)
+    suspend-as : (c : Coroutine) → coro w (a .coro) ≡ c → Good ex (λ _ x. suspensionFine x ≡ true) (suspendCoroutine c a chain (saved st dst (a .floor) w) payload key w)
     suspend-as Absent e = good h refl
     suspend-as (Is k r) e =
         let s = w .setup in
@@ -134,7 +134,7 @@ module _ {ex : Bool} (st : CoroState) (dst payload : ℕ) (key : Keys) (w : Worl
         (leb-true (satAdd (w .used) (growth w k′ r)) (s .limits .memory) (not-false (fits w (growth w k′ r)) room)))
         refl)
 
-  suspend-on : (chain : List Active) → w .chain ≡ chain → Good ex (λ _ x. suspensionFine x ≡ true) (suspendOn chain st dst payload key w)
+  suspend-on : (chain : List Active) → w .chain ≡ chain → Good ex (λ _ x. suspensionFine x ≡ true) (suspendInnermost chain st dst payload key w)
   suspend-on [] q = good h refl
   suspend-on (a ∷ chain) q =
       picked (Good ex (λ _ x. suspensionFine x ≡ true)) (leb (length (w .frames)) (a .floor)) (λ _. good h refl) (λ _. suspend-as a chain q (coro w (a .coro)) refl)

@@ -12,7 +12,7 @@ use Rattle.claims.specs.Engine.{Seen, runs, sleeps, ended, seenIn, is}
 use Rattle.claims.specs.Held.{into}
 use Rattle.claims.specs.Delivery as Delivery
 use Rattle.claims.specs.Delivery.{Event, Memory, put, deliver}
-use Rattle.claims.specs.Demand3.{Enters, Leaves}
+use Rattle.claims.specs.Demand3.{Enters, Stops}
 use Rattle.lent.specs.Step as Outer
 use Rattle.lent.specs.Step.{State, isSound, stepWords, setUpOk, setUpWords, Call, SetUp, Do, step}
 use Rattle.lent.proofs.Kept.{words-kept, refused-words, refused-set-up}
@@ -58,10 +58,10 @@ apart-in none p q = absurd (false≢true p)
 apart-in (some x) p q = apart (x .state) p q
 
 -- so a call that changes nothing lets nobody leave
-unmoved : {A : Type 0} (c : ℕ) (t : State) (z : Call) → step t z .state ≡ t → Leaves outer c t z → A
+unmoved : {A : Type 0} (c : ℕ) (t : State) (z : Call) → step t z .state ≡ t → Stops outer c t z → A
 unmoved c t z e h = apart-in (outer .view t .coro c) (h .before) (ap (λ (x : State). is (outer .view x) (λ y. sleeps y || ended y) c) (sym e) ∙ h .after)
 
-leaves-sound : (c : ℕ) (t : State) (z : Call) → Leaves outer c t z → isSound (step t z .state) ≡ true
+leaves-sound : (c : ℕ) (t : State) (z : Call) → Stops outer c t z → isSound (step t z .state) ≡ true
 leaves-sound c t (SetUp given) h = go (setUpOk given (t .words)) refl
   where
     go : (b : Bool) → setUpOk given (t .words) ≡ b → isSound (setUpWords t given .state) ≡ true
@@ -73,7 +73,7 @@ leaves-sound c t (Do o) h = go (isSound t) refl
     go true e = words-kept .kept t o e
     go false e = unmoved c t (Do o) (ap (λ (x : Outer.Left). x .state) (refused-words t o e)) h
 
-pub back : (c : ℕ) (s : State) (y : Call) (t : State) (z : Call) → Enters outer c s y → Leaves outer c t z
+pub back : (c : ℕ) (s : State) (y : Call) (t : State) (z : Call) → Enters outer c s y → Stops outer c t z
     → Delivery.Left (outer .view s) (opOf y) c (outer .view t) (opOf z) (outer .view (step t z .state)) → Back s y c t z (step t z .state)
 back c s y t z h g l =
     let u = step t z .state in

@@ -13,7 +13,7 @@ use Rattle.claims.specs.Engine.{Seen, View, Engine, run, isNew, runs, awaits, i
 use Rattle.claims.specs.Says.{doing, lie}
 use Rattle.claims.specs.Held.{Held, closer, By, Entered, Restored}
 use Rattle.claims.specs.Delivery.{recorded, Left, resultOf}
-use Rattle.claims.specs.Demand3.{Enters, Suspends, Leaves, Restarts, Waits, Goes, Demand3}
+use Rattle.claims.specs.Demand3.{Enters, Suspends, Stops, Restarts, Waits, Goes, Demand3}
 use Rattle.claims.specs.Events.{Healthy, onBody, raisedAt, suspended, isAwait, returned, Lost, lives, undone, rests, Fixed, Events}
 use Rattle.claims.specs.Promise.{suspends, room, Roomy, Makes, Accepts, Eleven, Soundness, Fresh, SetUps, registers, Looks, NotEmpty}
 use Rattle.claims.proofs.Premises.{Premises}
@@ -45,7 +45,7 @@ module _ (e d : Engine) (f : Follows e d) where
       (down (λ v. Restored (v .before) (v .op) (d .view (f .to t)) (d .op y′) c (d .view (d .next (f .to t) y′))) s x (there (up-enters e d f t y c g)))
 
   untouched : Demand3 d → (c : ℕ) (s : e .State) (y : e .Call) (going : List (e .Call)) (z : e .Call) → Enters e c s y → Goes e c (e .next s y) going
-      → let t = run e (e .next s y) going in Leaves e c t z → Left (e .view s) (e .op y) c (e .view t) (e .op z) (e .view (e .next t z))
+      → let t = run e (e .next s y) going in Stops e c t z → Left (e .view s) (e .op y) c (e .view t) (e .op z) (e .view (e .next t z))
   untouched p c s y going z h w g =
       let s₁ = e .next s y in
       let t = run e s₁ going in
@@ -54,7 +54,7 @@ module _ (e d : Engine) (f : Follows e d) where
       let gs = along e d f s₁ going in
       let at = ap (λ u. run d u gs) (f .next s y) ∙ ran e d f s₁ going in
       let w′ = subst (λ u. Goes d c u gs) (sym (f .next s y)) (up-goes e d f c s₁ going w) in
-      let there = subst (λ u. Leaves d c u z′ → Left (d .view (f .to s)) (d .op y′) c (d .view u) (d .op z′) (d .view (d .next u z′))) at (p .untouched c (f .to s) y′ gs z′ (up-enters e d f s y c h) w′) in
+      let there = subst (λ u. Stops d c u z′ → Left (d .view (f .to s)) (d .op y′) c (d .view u) (d .op z′) (d .view (d .next u z′))) at (p .untouched c (f .to s) y′ gs z′ (up-enters e d f s y c h) w′) in
       down (λ v. Left (e .view s) (e .op y) c (v .before) (v .op) (v .after)) t z
       (down (λ v. Left (v .before) (v .op) c (d .view (f .to t)) (d .op z′) (d .view (d .next (f .to t) z′))) s y (there (up-leaves e d f t z c g)))
 
@@ -228,5 +228,5 @@ module _ (e d : Engine) (f : Follows e d) where
           waits = down-waits e d f c s₂ waiting (subst (λ u. Waits d c u ws) at₂ (p .waits));
           enters = down-enters e d f s₃ y c (subst (λ u. Enters d c u (f .by s₃ y)) at₃ (p .enters));
           goes = down-goes e d f c s₄ going (subst (λ u. Goes d c u gs) at₄ (p .goes));
-          leaves = down-leaves e d f s₅ z c (subst (λ u. Leaves d c u (f .by s₅ z)) at₅ (p .leaves));
+          leaves = down-leaves e d f s₅ z c (subst (λ u. Stops d c u (f .by s₅ z)) at₅ (p .leaves));
         }

@@ -8,7 +8,7 @@ use mathlib.Core.Option.{Option, some}
 use Rattle.heap.specs.declared.object.CoroState.{CoroState}
 use Rattle.model.specs.declared.call.Op.{Op}
 use Rattle.claims.specs.Engine.{View, Engine, run, runs, sleeps, ended, is}
-use Rattle.claims.specs.Demand3.{Enters, Suspends, Leaves, Restarts, Waits, Goes}
+use Rattle.claims.specs.Demand3.{Enters, Suspends, Stops, Restarts, Waits, Goes}
 use Rattle.claims.specs.Events.{Healthy, Returns, failed, Fails}
 
 pub record Follows (e d : Engine) : Type 0 where
@@ -55,7 +55,7 @@ module _ (a b : Engine) (s : a .State) (k : a .Call) (t : b .State) (j : b .Call
   pub fails-as : (c : ℕ) → Fails a c s k → Fails b c t j
   fails-as c h = record { before = runs-before c ∙ h .before; after = after-is failed c ∙ h .after }
 
-  pub leaves-as : (c : ℕ) → Leaves a c s k → Leaves b c t j
+  pub leaves-as : (c : ℕ) → Stops a c s k → Stops b c t j
   leaves-as c h = record { before = runs-before c ∙ h .before; after = after-is (λ x. sleeps x || ended x) c ∙ h .after }
 
   pub restarts-as : Restarts a s k → Restarts b t j
@@ -94,10 +94,10 @@ module _ (e d : Engine) (f : Follows e d) where
     pub down-fails : (c : ℕ) → Fails d c (f .to s) (f .by s k) → Fails e c s k
     down-fails = fails-as d e (f .to s) (f .by s k) s k (same s k)
 
-    pub up-leaves : (c : ℕ) → Leaves e c s k → Leaves d c (f .to s) (f .by s k)
+    pub up-leaves : (c : ℕ) → Stops e c s k → Stops d c (f .to s) (f .by s k)
     up-leaves = leaves-as e d s k (f .to s) (f .by s k) (sym (same s k))
 
-    pub down-leaves : (c : ℕ) → Leaves d c (f .to s) (f .by s k) → Leaves e c s k
+    pub down-leaves : (c : ℕ) → Stops d c (f .to s) (f .by s k) → Stops e c s k
     down-leaves = leaves-as d e (f .to s) (f .by s k) s k (same s k)
 
     pub up-restarts : Restarts e s k → Restarts d (f .to s) (f .by s k)

@@ -12,7 +12,7 @@ use Rattle.claims.specs.Engine.{run}
 use Rattle.claims.specs.Says.{base, Sent, nothing, gets, closes, doing}
 use Rattle.claims.specs.Held.{at, waitsIn, Held, By}
 use Rattle.claims.specs.Delivery.{eventOf, memory, deliver}
-use Rattle.claims.specs.Demand3.{Enters, Suspends, Leaves, Waits, Goes}
+use Rattle.claims.specs.Demand3.{Enters, Suspends, Stops, Waits, Goes}
 use Rattle.claims.specs.Events.{Healthy}
 use Rattle.claims.specs.Promise.{Promise}
 use Rattle.lent.specs.Step.{State, isSound, setUpOk, Call, SetUp, Do, step}
@@ -69,7 +69,7 @@ pub record Claim : Type 0 where
       → let t = run outer (step s x .state) waiting in Enters outer c t y → Woken s x t y c (step t y .state)
   -- and its next yield, await or return
   pub back : (c : ℕ) (s : State) (y : Call) (going : List Call) (z : Call) → Enters outer c s y → Goes outer c (step s y .state) going
-      → let t = run outer (step s y .state) going in Leaves outer c t z → Back s y c t z (step t z .state)
+      → let t = run outer (step s y .state) going in Stops outer c t z → Back s y c t z (step t z .state)
   -- after an accepted set-up, and any calls, the words are sound, and no call answers 11 but for its own fault
   pub lasts : (s : State) (given : List ℕ) (ks : List Call) → setUpOk given (s .words) ≡ true → isSound (run outer (step s (SetUp given) .state) ks) ≡ true
   pub eleven : (s : State) (given : List ℕ) (ks : List Call) (k : Call) → setUpOk given (s .words) ≡ true

@@ -15,27 +15,10 @@ use Rattle.memory.specs.Memory.{Lent, Beside, Rep}
 use Rattle.memory.specs.Contract.{Numbers, Ok, Gives, ifSound}
 use Rattle.memory.specs.declared.machine.Machine.{Machine}
 use Rattle.memory.specs.declared.machine.Sizes.{Sizes}
-use Rattle.memory.proofs.Does.{does, SameLengths, ok-next}
+use Rattle.memory.proofs.Does.{does, SameLengths, alike, then-alike, ok-next}
 use Rattle.machine.proofs.Tops.{no-top, some-top}
 use Rattle.machine_unwind.specs.Turns.{goesOn, turn, searchFrom}
 use Rattle.machine_unwind.proofs.Below.{Below, Steps, turn-steps}
-
-pub alike : (M : Lent) → SameLengths M M
-alike M = record { stack = refl; frames = refl; chain = refl; slots = refl; savedStack = refl; savedFrames = refl; ready = refl; finalize = refl; setup = refl }
-
-chained : (M M′ M″ : Lent) → SameLengths M M′ → SameLengths M′ M″ → SameLengths M M″
-chained M M′ M″ a b =
-    record {
-      stack = b .stack ∙ a .stack;
-      frames = b .frames ∙ a .frames;
-      chain = b .chain ∙ a .chain;
-      slots = b .slots ∙ a .slots;
-      savedStack = b .savedStack ∙ a .savedStack;
-      savedFrames = b .savedFrames ∙ a .savedFrames;
-      ready = b .ready ∙ a .ready;
-      finalize = b .finalize ∙ a .finalize;
-      setup = b .setup ∙ a .setup;
-    }
 
 module _ (l : Sizes) (value fn pc : ℕ) where
   -- the words stand for a sound world, in which the search from w goes on
@@ -98,7 +81,7 @@ module _ (l : Sizes) (value fn pc : ℕ) where
             let k = below (o .world) (o .beside) (o .rep) (o .sound) in
             record {
               ok = ok-next l M M′ n n′ o (turn value fn pc (o .world) .world) (k .setup) (k .sound) (same (o .beside)) (did (o .world) (o .beside) (o .rep) (o .sound) .world);
-              kept = λ b. chained (M₀ b) (M b) (M′ b) (at .kept b) (same b);
+              kept = λ b. then-alike (M₀ b) (M b) (M′ b) (at .kept b) (same b);
               rest =
                   λ w b rep snd.
                   let r = at .rest w b rep snd in

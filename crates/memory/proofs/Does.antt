@@ -30,6 +30,23 @@ pub record SameLengths (M M′ : Lent) : Type 0 where
 longer : (n a b : ℕ) → b ≡ a → n ≤ a → n ≤ b
 longer n a b e h = subst (λ x. n ≤ x) (sym e) h
 
+pub alike : (M : Lent) → SameLengths M M
+alike M = record { stack = refl; frames = refl; chain = refl; slots = refl; savedStack = refl; savedFrames = refl; ready = refl; finalize = refl; setup = refl }
+
+pub then-alike : (M M′ M″ : Lent) → SameLengths M M′ → SameLengths M′ M″ → SameLengths M M″
+then-alike M M′ M″ a b =
+    record {
+      stack = b .stack ∙ a .stack;
+      frames = b .frames ∙ a .frames;
+      chain = b .chain ∙ a .chain;
+      slots = b .slots ∙ a .slots;
+      savedStack = b .savedStack ∙ a .savedStack;
+      savedFrames = b .savedFrames ∙ a .savedFrames;
+      ready = b .ready ∙ a .ready;
+      finalize = b .finalize ∙ a .finalize;
+      setup = b .setup ∙ a .setup;
+    }
+
 pub room-same : (s s′ : Setup) (M M′ : Lent) → s′ ≡ s → SameLengths M M′ → Room s M → Room s′ M′
 room-same s s′ M M′ e k q =
     subst (λ x. Room x M′) (sym e)

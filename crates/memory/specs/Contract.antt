@@ -29,7 +29,7 @@ with m f = record { machine = m; fuel = λ b. f }
 -- ---- what is asked; M is of what the function is not lent
 
 -- the words stand for some world of the kind P
-pub record Held (P : World → Type 0) (l : Sizes) (M : Beside → Lent) (n : Numbers) : Type 0 where
+pub record SomeWorld (P : World → Type 0) (l : Sizes) (M : Beside → Lent) (n : Numbers) : Type 0 where
   pub world : World
   pub beside : Beside
   pub rep : Rep l world (M beside) (n .machine) (n .fuel beside)

@@ -22,21 +22,21 @@ use Rattle.model.specs.declared.call.OptPc.{OptPc}
 
 -- ---- tasks
 
-abbrev pub spawnAs : Coroutine → ℕ → World → After Made
-spawnAs Absent v w = refuse w Fault.TypeError
-spawnAs (Is k r) v w =
+abbrev pub joinReady : Coroutine → ℕ → World → After Made
+joinReady Absent v w = refuse w Fault.TypeError
+joinReady (Is k r) v w =
     pick (not (r .task) && isResumable (k .state)) (after (setCoro v k (withTask true r) (withReady (w .ready ++ (v ∷ [])) w)) (Made.Word v))
     (after w (Made.Word v))
 
 -- coro.rs: spawn_task. 01: "gives 2 for both"
 unfoldable pub spawnTask : ℕ → World → After Made
-spawnTask v w = spawnAs (coro w v) v w
+spawnTask v w = joinReady (coro w v) v w
 
 -- ---- cleanups
 
-abbrev pub suspendedAs : Coroutine → Bool
-suspendedAs Absent = false
-suspendedAs (Is k r) = isSuspended (k .state)
+abbrev pub isAsleep : Coroutine → Bool
+isAsleep Absent = false
+isAsleep (Is k r) = isSuspended (k .state)
 
 abbrev pub isEntered : Entered → Bool
 isEntered Entered.Fresh = true
@@ -56,7 +56,7 @@ startFrom n [] w = after (setFinalizing false (withFinalize [] w)) (started fals
 startFrom n (c ∷ queue) w =
     let next = startFrom (suc n) queue w in
     let e = coroEnter c Driver.Finalize (withFinalize queue w) in
-    pick (suspendedAs (coro w c) && isEntered (e .answer))
+    pick (isAsleep (coro w c) && isEntered (e .answer))
     (after (setFinalizing true (changeCoro c (λ k. k) (close nil) (e .world))) (started true (suc n)))
     next
 

@@ -128,29 +128,29 @@ unclose s r = pick (not (isAwaiting s) && r .closing) (withClosing false (withSi
 abbrev pub eventOf : CoroState → ℕ → Rest → Event
 eventOf s payload r = pick (isAwaiting s) (Event.Awaiting payload) (pick (r .closing) Event.CloseIgnored (Event.Yielded payload (r .key)))
 
-abbrev pub suspended : Active → List Active → Core → ℕ → Keys → Rest → World → World
-suspended a chain k payload key r w =
+abbrev pub putToSleep : Active → List Active → Core → ℕ → Keys → Rest → World → World
+putToSleep a chain k payload key r w =
     setCoro (a .coro) k (unclose (k .state) (setKeys key (withPayload payload (sized k r))))
     (withChain chain
     (withFrames (below (a .floor) (w .frames))
     (withStack (take (baseAt (a .floor) (w .frames)) (w .stack))
     (withUsed (satAdd (w .used) (growth w k r)) w))))
 
-abbrev pub suspendAs : Coroutine → Active → List Active → Core → ℕ → Keys → World → After Suspension
-suspendAs Absent a chain k payload key w = after w (Suspension.Refused Fault.TypeError)
-suspendAs (Is _ r) a chain k payload key w =
+abbrev pub suspendCoroutine : Coroutine → Active → List Active → Core → ℕ → Keys → World → After Suspension
+suspendCoroutine Absent a chain k payload key w = after w (Suspension.Refused Fault.TypeError)
+suspendCoroutine (Is _ r) a chain k payload key w =
     pick (not (fits w (growth w k r))) (after w (Suspension.Refused Fault.OutOfMemory))
-    (after (suspended a chain k payload key r w) (Suspension.Done (a .driver) (eventOf (k .state) payload (setKeys key r))))
+    (after (putToSleep a chain k payload key r w) (Suspension.Done (a .driver) (eventOf (k .state) payload (setKeys key r))))
 
-abbrev pub suspendOn : List Active → CoroState → ℕ → ℕ → Keys → World → After Suspension
-suspendOn [] state dst payload key w = after w (Suspension.Refused Fault.CannotSuspend)
-suspendOn (a ∷ chain) state dst payload key w =
+abbrev pub suspendInnermost : List Active → CoroState → ℕ → ℕ → Keys → World → After Suspension
+suspendInnermost [] state dst payload key w = after w (Suspension.Refused Fault.CannotSuspend)
+suspendInnermost (a ∷ chain) state dst payload key w =
     pick (leb (length (w .frames)) (a .floor)) (after w (Suspension.Refused Fault.CannotSuspend))
-    (suspendAs (coro w (a .coro)) a chain (saved state dst (a .floor) w) payload key w)
+    (suspendCoroutine (coro w (a .coro)) a chain (saved state dst (a .floor) w) payload key w)
 
 -- coro.rs: coro_suspend. The Rust charges a growth above 0 only; a growth of 0 fits.
 unfoldable pub coroSuspend : CoroState → ℕ → ℕ → Keys → World → After Suspension
-coroSuspend state dst payload key w = suspendOn (w .chain) state dst payload key w
+coroSuspend state dst payload key w = suspendInnermost (w .chain) state dst payload key w
 
 -- ---- deliver
 

@@ -95,13 +95,13 @@ spawnMade hook pc dst w (Made.Word c) = andThen (charge OptPc.None w) (callHook 
 spawnMade hook pc dst w (Made.Refused f) = fault w f
 
 -- 01, fault 8: "Spawn without a hook"
-abbrev pub spawnBy : Opt → ℕ → ℕ → ℕ → ℕ → World → After Step
-spawnBy Opt.None pc dst callee argc w = fault w Fault.NoScheduler
-spawnBy (Opt.Some hook) pc dst callee argc w = andThen (indirect dst callee argc w) (spawnMade hook pc dst)
+abbrev pub spawnWith : Opt → ℕ → ℕ → ℕ → ℕ → World → After Step
+spawnWith Opt.None pc dst callee argc w = fault w Fault.NoScheduler
+spawnWith (Opt.Some hook) pc dst callee argc w = andThen (indirect dst callee argc w) (spawnMade hook pc dst)
 
 -- coro.rs: exec, Spawn
 unfoldable pub spawn : ℕ → ℕ → ℕ → ℕ → World → After Step
-spawn pc dst callee argc w = spawnBy (w .setup .hook) pc dst callee argc w
+spawn pc dst callee argc w = spawnWith (w .setup .hook) pc dst callee argc w
 
 -- ---- Yield, YieldKv, Await
 

@@ -2,6 +2,7 @@
 use mathlib.Core.Path.{_≡_, refl}
 use mathlib.Core.Bool.{true, false}
 use Prim.Native.Nat.{ℕ}
+use Rattle.memory.proofs.Does.{alike}
 use Rattle.heap.specs.declared.fault.Fault.{Fault}
 use Rattle.model.specs.Added.{grant}
 use Rattle.model.specs.declared.call.Op.{Op}
@@ -14,7 +15,6 @@ use Rattle.memory.specs.declared.machine.Sizes.{Sizes}
 use Rattle.words.specs.Words.{sizesOf}
 use Rattle.words.specs.Decode.{setupOf}
 use Rattle.added.specs.declared.fuel.GrantDid.{GrantDid}
-use Rattle.machine_unwind.proofs.Along.{alike}
 use Rattle.kept.proofs.Calls.{as-grant}
 use Rattle.lent.specs.Step.{isSound}
 use Rattle.outer.specs.State.{state}

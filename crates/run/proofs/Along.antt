@@ -12,8 +12,7 @@ use Rattle.heap.specs.declared.fault.Fault.{Fault}
 use Rattle.model.specs.declared.call.Answer.{Answer}
 use Rattle.memory.specs.Memory.{Lent}
 use Rattle.memory.specs.declared.machine.Sizes.{Sizes}
-use Rattle.memory.proofs.Does.{SameLengths}
-use Rattle.machine_unwind.proofs.Along.{alike}
+use Rattle.memory.proofs.Does.{SameLengths, alike, then-alike}
 use Rattle.words.specs.Words.{sizesOf}
 use Rattle.words.specs.Decode.{setupOf}
 use Rattle.calls.specs.Answer.{answerWords}
@@ -21,20 +20,6 @@ use Rattle.calls.specs.declared.call.Read.{Read}
 use Rattle.lent.specs.Step.{State, Left, isSound}
 use Rattle.run.specs.Run.{doWords, Ran, runWords, countOf, readIn, callsIn, written, refusals, ReadFits, Reads, ListFits, Listed}
 use Rattle.run.proofs.Written.{splice-next}
-
-same-next : (M N P : Lent) → SameLengths M N → SameLengths N P → SameLengths M P
-same-next M N P a b =
-    record {
-      stack = b .stack ∙ a .stack;
-      frames = b .frames ∙ a .frames;
-      chain = b .chain ∙ a .chain;
-      slots = b .slots ∙ a .slots;
-      savedStack = b .savedStack ∙ a .savedStack;
-      savedFrames = b .savedFrames ∙ a .savedFrames;
-      ready = b .ready ∙ a .ready;
-      finalize = b .finalize ∙ a .finalize;
-      setup = b .setup ∙ a .setup;
-    }
 
 module _ (ok : Bool) (l : Sizes) (cs xs₀ : List ℕ) (n : ℕ) (s₀ : State) where
   -- the calls from place i on
@@ -93,7 +78,7 @@ module _ (ok : Bool) (l : Sizes) (cs xs₀ : List ℕ) (n : ℕ) (s₀ : State) 
         record {
           fits = record { known = r .again; sizes = λ o. a .fits .sizes o ∙ ap (λ ws. sizesOf (setupOf ws)) (sym u) };
           within = omega arith;
-          lengths = same-next (s₀ .words) (s .words) (d .state .words) (a .lengths) q;
+          lengths = then-alike (s₀ .words) (s .words) (d .state .words) (a .lengths) q;
           long = g ∙ a .long;
           state = ap (λ (x : Left). at (x .state) .state) is ∙ sym (ap (λ (z : List Read). runWords s z .state) step) ∙ a .state;
           answers =

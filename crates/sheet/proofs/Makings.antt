@@ -262,7 +262,7 @@ hooks hook pc dst c m =
     ∙ (then-one (Exec.callHook hook pc dst c) (usedUp m) _ _ ∙ below _ _ (pushes hook pc dst c (paid m)))
 
 spawn-some : (hook pc dst c argc : ℕ) (u : World) →
-    Exec.spawnBy (Opt.Some hook) pc dst c argc u ≡ leadsFrom (drop 1 (Table.spawnAs (Opt.Some hook) pc dst c argc u .tests)) (Table.spawnAs (Opt.Some hook) pc dst c argc u .done)
+    Exec.spawnWith (Opt.Some hook) pc dst c argc u ≡ leadsFrom (drop 1 (Table.spawnWith (Opt.Some hook) pc dst c argc u .tests)) (Table.spawnWith (Opt.Some hook) pc dst c argc u .done)
 unfolding Exec.indirect
 spawn-some hook pc dst c argc u =
     ap (λ v. andThen (Exec.indirectTo (object u v) v dst argc u) (Exec.spawnMade hook pc dst)) (word-is u c)
@@ -272,7 +272,7 @@ spawn-some hook pc dst c argc u =
     m : World
     m = made (callee u (word u c)) (word u c) (arguments u dst argc) u
 
-spawn-by : (hook : Opt) (pc dst c argc : ℕ) (u : World) → Exec.spawnBy hook pc dst c argc u ≡ leads (Table.spawnAs hook pc dst c argc u)
+spawn-by : (hook : Opt) (pc dst c argc : ℕ) (u : World) → Exec.spawnWith hook pc dst c argc u ≡ leads (Table.spawnWith hook pc dst c argc u)
 spawn-by Opt.None pc dst c argc u = sym (pick-true _ _)
 spawn-by (Opt.Some hook) pc dst c argc u = spawn-some hook pc dst c argc u ∙ sym (pick-false _ _)
 

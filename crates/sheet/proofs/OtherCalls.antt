@@ -14,7 +14,7 @@ use Rattle.model.specs.World.{World, After, after, andThen, withStack, withFram
 use Rattle.model.specs.Heap.{coro, notA, alloc}
 use Rattle.model.specs.Fuel.{setFinalizing}
 use Rattle.model.specs.Coro as Coros
-use Rattle.model.specs.Cleanup.{spawnAs, spawnTask}
+use Rattle.model.specs.Cleanup.{joinReady, spawnTask}
 use Rattle.model.specs.Machine.{pushFrame}
 use Rattle.model.specs.Gate.{refused, inFrame, onFrame, onHost}
 use Rattle.model.specs.Added as Added
@@ -54,7 +54,7 @@ task-by b true v x w e = ap (λ t. andThen (pick t (after x (Made.Word v)) (afte
 task-by b false v x w e = ap (λ t. andThen (pick t (after x (Made.Word v)) (after w (Made.Word v))) Added.answerMade) e
 
 spawn-by : (o : Object) (v : ℕ) (w : World) →
-    andThen (spawnAs (asCoro o) v w) Added.answerMade
+    andThen (joinReady (asCoro o) v w) Added.answerMade
     ≡ pick (not (isCoroutine o)) (after w (Answer.Refused Fault.TypeError))
     (after (pick (not (restOf o .task) && resumable (coreOf o .state)) (replaced v (Object.Coro (coreOf o) (withTask true (restOf o))) (withReady (w .ready ++ (v ∷ [])) w)) w) (Answer.Word v))
 spawn-by Object.Empty v w = sym (pick-true _ _)
@@ -66,7 +66,7 @@ spawn-by (Object.Coro k r) v w = task-by _ _ v _ w (ap (λ b. not (r .task) && b
 
 pub spawn-task-is : (v : ℕ) (w : World) → andThen (spawnTask v w) Added.answerMade ≡ leads (Table.spawnTask v w)
 unfolding spawnTask
-spawn-task-is v w = ap (λ x. andThen (spawnAs x v w) Added.answerMade) (coro-is w v) ∙ spawn-by (found w v) v w
+spawn-task-is v w = ap (λ x. andThen (joinReady x v w) Added.answerMade) (coro-is w v) ∙ spawn-by (found w v) v w
 
 -- ---- host call, host entry, function call, put word
 

@@ -103,7 +103,7 @@ module _ (st : CoroState) (dst payload : ℕ) (keys : Keys) (a : Active) (chain 
       (withChain chain (withFrames (Frames.below (a .floor) (z .frames)) (withStack (take s (z .stack)) (withUsed (satAdd (z .used) grown) z)))))
       (Suspension.Done (a .driver) (Coros.eventOf st payload (Coros.setKeys keys r))))
 
-  sleeps-as : (k : Core) → Coros.suspendAs (Is k r) a chain (Coros.saved st dst (a .floor) z) payload keys z ≡ body (baseAt (a .floor) (z .frames)) (length (map (lower (baseAt (a .floor) (z .frames))) (above (a .floor) (z .frames))))
+  sleeps-as : (k : Core) → Coros.suspendCoroutine (Is k r) a chain (Coros.saved st dst (a .floor) z) payload keys z ≡ body (baseAt (a .floor) (z .frames)) (length (map (lower (baseAt (a .floor) (z .frames))) (above (a .floor) (z .frames))))
   sleeps-as k = refl
 
 pub coroutine : (o : Object) → isCoroutine o ≡ true → asCoro o ≡ Is (coreOf o) (restOf o)
@@ -121,9 +121,9 @@ module _ (st : CoroState) (dst payload : ℕ) (keys : Keys) (a : Active) (chain 
   sleeps : Coros.coroSuspend st dst payload keys z₀ ≡ body st dst payload keys a chain (restHere z₀) z₀ (floorBase z₀) (length (heldFrames z₀))
   unfolding Coros.coroSuspend
   sleeps =
-      ap (λ b. pick b (after z₀ (Suspension.Refused Fault.CannotSuspend)) (Coros.suspendAs (coro z₀ (a .coro)) a chain (Coros.saved st dst (a .floor) z₀) payload keys z₀)) (sane .inside refl)
-      ∙ (pick-false _ (Coros.suspendAs (coro z₀ (a .coro)) a chain (Coros.saved st dst (a .floor) z₀) payload keys z₀)
-      ∙ (ap (λ x. Coros.suspendAs x a chain (Coros.saved st dst (a .floor) z₀) payload keys z₀) (coro-is z₀ (a .coro) ∙ coroutine (found z₀ (a .coro)) (sane .runs refl))
+      ap (λ b. pick b (after z₀ (Suspension.Refused Fault.CannotSuspend)) (Coros.suspendCoroutine (coro z₀ (a .coro)) a chain (Coros.saved st dst (a .floor) z₀) payload keys z₀)) (sane .inside refl)
+      ∙ (pick-false _ (Coros.suspendCoroutine (coro z₀ (a .coro)) a chain (Coros.saved st dst (a .floor) z₀) payload keys z₀)
+      ∙ (ap (λ x. Coros.suspendCoroutine x a chain (Coros.saved st dst (a .floor) z₀) payload keys z₀) (coro-is z₀ (a .coro) ∙ coroutine (found z₀ (a .coro)) (sane .runs refl))
       ∙ (sleeps-as st dst payload keys a chain (restHere z₀) z₀ (coreOf (found z₀ (a .coro)))
       ∙ (λ i. body st dst payload keys a chain (restHere z₀) z₀ (base-at (w .frames) (length (w .frames) - suc (a .floor)) i) (length-map (lower (baseAt (a .floor) (w .frames))) (above (a .floor) (w .frames)) i)))))
 

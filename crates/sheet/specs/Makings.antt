@@ -132,8 +132,8 @@ abbrev pub called : ℕ → ℕ → ℕ → World → World
 called hook dst c w = withStack (set (pushed hook (Cont.Value dst) w .stack) (length (w .stack)) c) (pushed hook (Cont.Value dst) w)
 
 -- pc is stored only if accepted
-abbrev pub spawnAs : Opt → ℕ → ℕ → ℕ → ℕ → World → Lines Step
-spawnAs hook pc dst c argc u =
+abbrev pub spawnWith : Opt → ℕ → ℕ → ℕ → ℕ → World → Lines Step
+spawnWith hook pc dst c argc u =
     let v = word u c in
     let h = amount hook 0 in
     let m = made (callee u v) v (arguments u dst argc) u in
@@ -142,4 +142,4 @@ spawnAs hook pc dst c argc u =
     (accept true Step.Frame (called h dst (newWord u) (pcStored pc (paid m))))
 
 abbrev pub spawn : ℕ → ℕ → ℕ → ℕ → World → Lines Step
-spawn pc dst c argc u = spawnAs (u .setup .hook) pc dst c argc u
+spawn pc dst c argc u = spawnWith (u .setup .hook) pc dst c argc u

@@ -14,7 +14,7 @@ use Rattle.model.specs.Frames.{setPc, onTop, topBase, storePc}
 use Rattle.model.specs.Heap.{coro, changeCoro}
 use Rattle.model.specs.Fuel.{unbank}
 use Rattle.model.specs.Coro.{coroEnter}
-use Rattle.model.specs.Cleanup.{spawnAs, spawnTask, suspendedAs, isEntered, close, startFrom, startFinalizer, chargeDone, chargeOr, chargeAt, chargeSlow, charge}
+use Rattle.model.specs.Cleanup.{joinReady, spawnTask, isAsleep, isEntered, close, startFrom, startFinalizer, chargeDone, chargeOr, chargeAt, chargeSlow, charge}
 use Rattle.model.specs.Call.{optPc}
 use Rattle.model.specs.declared.machine.Driver.{Driver}
 use Rattle.model.specs.declared.machine.Frame.{Frame}
@@ -35,7 +35,7 @@ pub task-good : {ex : Bool} (v : ℕ) (w : World) → Sound ex w → Good ex (λ
 unfolding spawnTask
 task-good {ex} v w h = go (coro w v) refl
   where
-    go : (c : Coroutine) → coro w v ≡ c → Good ex (λ _ m. madeFine m ≡ true) (spawnAs c v w)
+    go : (c : Coroutine) → coro w v ≡ c → Good ex (λ _ m. madeFine m ≡ true) (joinReady c v w)
     go Absent e = good h refl
     go (Is k r) e =
         picked (Good ex (λ _ m. madeFine m ≡ true)) (not (r .task) && isResumable (k .state))
@@ -54,7 +54,7 @@ start-good [] n w h q = good (finalizing-sound false _ (cleanups-sound [] w q h)
 start-good {ex} (c ∷ queue) n w h q =
     let q′ = queue-tail (λ r. r .finalized) q in
     let e = enter-good c Driver.Finalize (withFinalize queue w) (cleanups-sound queue w q′ h) refl in
-    picked (Good ex (λ u s. s .entered ≡ false → Calm w u)) (suspendedAs (coro w c) && isEntered (coroEnter c Driver.Finalize (withFinalize queue w) .answer))
+    picked (Good ex (λ u s. s .entered ≡ false → Calm w u)) (isAsleep (coro w c) && isEntered (coroEnter c Driver.Finalize (withFinalize queue w) .answer))
     (λ _. good (finalizing-sound true _ (close-sound nil c _ (e .sound))) (λ z. no-true z)) (λ _. start-good queue (suc n) w h q′)
 
 -- ---- charges

@@ -7,7 +7,8 @@ ghost use Rattle.tables.specs.Layout.{contCode, contReg, contOf, frameIn
 use model::machine::Cont;
 use model::machine::Frame;
 
-fn cont_code(k: Cont) -> u64
+// A continuation's code.
+pub fn cont_code(k: Cont) -> u64
     ensures { λ r. ⌜ r ≡ contCode k ⌝ }
 {
     match k {
@@ -20,7 +21,8 @@ fn cont_code(k: Cont) -> u64
     }
 }
 
-fn cont_reg(k: Cont) -> u64
+// Its register, 0 where it has none.
+pub fn cont_reg(k: Cont) -> u64
     ensures { λ r. ⌜ r ≡ contReg k ⌝ }
 {
     match k {

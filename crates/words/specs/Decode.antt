@@ -105,7 +105,7 @@ pub record SoundWords (M : Lent) (m : Machine) (f : Fuel) : Type 0 where
 -- ---- a sound memory stands for one world, and one world has one memory
 
 -- some sound world is held
-pub record Held (M : Lent) (m : Machine) (f : Fuel) : Type 0 where
+pub record SomeSound (M : Lent) (m : Machine) (f : Fuel) : Type 0 where
   pub world : World
   pub rep : Rep (sizesOf (world .setup)) world M m f
   pub sound : sound world ≡ true
@@ -116,8 +116,8 @@ pub record OneWorld : Type 0 where
   -- so it stands for no other
   pub one : {l l′ : Sizes} {w w′ : World} {M : Lent} {m : Machine} {f : Fuel} → sound w ≡ true → sound w′ ≡ true → Rep l w M m f → Rep l′ w′ M m f → w ≡ w′
   -- words are sound exactly if they stand for some sound world
-  pub held : {M : Lent} {m : Machine} {f : Fuel} → SoundWords M m f → Held M m f
-  pub sounds : {M : Lent} {m : Machine} {f : Fuel} → Held M m f → SoundWords M m f
+  pub held : {M : Lent} {m : Machine} {f : Fuel} → SoundWords M m f → SomeSound M m f
+  pub sounds : {M : Lent} {m : Machine} {f : Fuel} → SomeSound M m f → SoundWords M m f
   -- a world comes back from its words
   pub back : (w : World) → sound w ≡ true → worldOf (wordsOf w) (numbersOf w) (w .fuel) ≡ w
   -- what stands for a world is its words, its numbers and its fuel, to the last word of each slice

@@ -38,22 +38,22 @@ returns c =
     spot-lacks (slotsOf (start .args .m .count) (start .args .slots .now)) (start .args .m) (start .args .l) (start .args .regs) (at-lacks .lacks .result)
     (fault at-number) (λ z. c .if1 .taken (at-number .number .ensures ∙ z))
 
-free-row-requires : tie.Need-free-row-requires
-free-row-requires c κs = search needs
+lowest-free-row-requires : tie.Need-lowest-free-row-requires
+lowest-free-row-requires c κs = search needs
 
 returns-2 : tie.Need-returns-2
 returns-2 c =
-    let at-free-row = c .before .before in let at-if1 = at-free-row .before in let at-number = at-if1 .before in
+    let at-lowest-free-row = c .before .before in let at-if1 = at-lowest-free-row .before in let at-number = at-if1 .before in
     let at-lacks = at-number .before in let start = start-of at-lacks in
     spot-full (slotsOf (start .args .m .count) (start .args .slots .now)) (start .args .m) (start .args .l) (start .args .regs) (at-lacks .lacks .result)
-    (fault at-number) (sym (at-number .number .ensures) ∙ at-if1 .if1 .left) (at-free-row .free-row .result) (at-free-row .free-row .ensures) (c .if2 .taken)
+    (fault at-number) (sym (at-number .number .ensures) ∙ at-if1 .if1 .left) (at-lowest-free-row .lowest-free-row .result) (at-lowest-free-row .lowest-free-row .ensures) (c .if2 .taken)
 
 returns-3 : tie.Need-returns-3
 returns-3 c =
-    let at-free-row = c .before .before in let at-if1 = at-free-row .before in let at-number = at-if1 .before in
+    let at-lowest-free-row = c .before .before in let at-if1 = at-lowest-free-row .before in let at-number = at-if1 .before in
     let at-lacks = at-number .before in let start = start-of at-lacks in
     spot-row (slotsOf (start .args .m .count) (start .args .slots .now)) (start .args .m) (start .args .l) (start .args .regs) (at-lacks .lacks .result)
-    (fault at-number) (sym (at-number .number .ensures) ∙ at-if1 .if1 .left) (at-free-row .free-row .result) (at-free-row .free-row .ensures) (c .if2 .left)
+    (fault at-number) (sym (at-number .number .ensures) ∙ at-if1 .if1 .left) (at-lowest-free-row .lowest-free-row .result) (at-lowest-free-row .lowest-free-row .ensures) (c .if2 .left)
 
 pub find-spot-spec : {M : Type 1} → statement M
 find-spot-spec =
@@ -64,6 +64,6 @@ find-spot-spec =
     lacks-requires
     number-requires
     returns
-    free-row-requires
+    lowest-free-row-requires
     returns-2
     returns-3)

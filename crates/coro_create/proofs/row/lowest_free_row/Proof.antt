@@ -1,4 +1,4 @@
--- `free_row` meets its contract: the marks tell the rows that are held. Assumes nothing.
+-- `lowest_free_row` meets its contract: the marks tell the rows that are held. Assumes nothing.
 use mathlib.Core.Path.{ap, _∙_}
 use mathlib.Core.Bool.{Bool, false}
 use mathlib.Core.List.{List}
@@ -7,8 +7,8 @@ use Rattle.heap.specs.Heap.{slotsOf}
 use Rattle.coro_create.specs.Row.{lowestBy}
 use Rattle.coro_create.proofs.Held.{free-in}
 use borrow.Author.Needs.{needs}
-use Rattle.coro_create.proofs.row.free_row.Statement.{statement}
-use Rattle.coro_create.proofs.row.free_row.Tie as tie
+use Rattle.coro_create.proofs.row.lowest_free_row.Statement.{statement}
+use Rattle.coro_create.proofs.row.lowest_free_row.Tie as tie
 
 held-rows-requires : tie.Need-held-rows-requires
 held-rows-requires c κs = search needs
@@ -22,5 +22,5 @@ returns c =
     c .lowest .ensures ∙ ap (λ (held : List Bool). lowestBy (λ n. getD held n false) (start .args .rows) 0) (at-held-rows .held-rows .ensures)
     ∙ free-in (slotsOf (start .args .count) (start .args .slots .now)) (start .args .rows) (start .pre .1)
 
-pub free-row-spec : {M : Type 1} → statement M
-free-row-spec = tie.close (tie.spec held-rows-requires lowest-requires returns)
+pub lowest-free-row-spec : {M : Type 1} → statement M
+lowest-free-row-spec = tie.close (tie.spec held-rows-requires lowest-requires returns)
