@@ -39,7 +39,7 @@ module _ (s₀ : State) (notes₀ : List ℕ) where
         left = refl;
       }
 
-  pub along-more : (s : State) (notes notes′ : List ℕ) (i : ℕ) → Along s notes i → i < 56 → (o : Op) → o ≡ getD story i Op.Look → (d : Left) → d ≡ stepWords s o
+  pub along-more : (s : State) (notes notes′ : List ℕ) (i : ℕ) → Along s notes i → i < 58 → (o : Op) → o ≡ getD story i Op.Look → (d : Left) → d ≡ stepWords s o
       → SameLengths (s .words) (d .state .words) → length notes′ ≡ length notes → Along (d .state) notes′ (i + 1)
   along-more s notes notes′ i a h o e d q k l =
       let up : suc i ≡ i + 1 = omega arith in
@@ -54,5 +54,5 @@ module _ (s₀ : State) (notes₀ : List ℕ) where
             ∙ a .left;
       }
 
-  pub along-end : (s : State) (notes : List ℕ) (i : ℕ) → 56 ≤ i → Along s notes i → s ≡ plays s₀ story
+  pub along-end : (s : State) (notes : List ℕ) (i : ℕ) → 58 ≤ i → Along s notes i → s ≡ plays s₀ story
   along-end s notes i h a = sym (ap (plays s) (drop-of-length-le story {i = i} h)) ∙ a .left

@@ -11,7 +11,7 @@ use lib.Dec.{eqb}
 use lib.Seq.{drop-cons, getD-set-same, getD-set-other}
 use Rattle.soundness.proofs.Tests.{no-false}
 use Rattle.calls.specs.Codes.{same}
-use Rattle.furnace.specs.Watch.{sentTo}
+use Rattle.furnace.specs.Watch.{sentTo, allEqual}
 
 pub beyond : (xs : List ℕ) (n : ℕ) → length xs ≤ n → 0 ≡ getD xs n 0
 beyond xs n h = sym (List·getD-eq-default xs 0 h)
@@ -58,3 +58,14 @@ go-on xs ys i h k e z = rw add-one (e ∙ at xs ys i h k ∙ (rw (eq-eqb (getD x
 
 pub all-same : (xs ys : List ℕ) (i : ℕ) → length xs ≤ i → length ys ≤ i → same xs ys ≡ same (drop i xs) (drop i ys) → true ≡ same xs ys
 all-same xs ys i h k e = sym (e ∙ ap₂ same (drop-of-length-le xs h) (drop-of-length-le ys k))
+
+-- ---- all wakes equal
+
+pub none-woken : (w e : ℕ) → w ≡ 0 → false ≡ allEqual w e
+none-woken w e h = rw h
+
+pub some-differ : (w e : ℕ) → (w ≡ 0 → ⊥) → (e ≡ w → ⊥) → false ≡ allEqual w e
+some-differ w e h n = rw (ne-eqb w 0 h, ne-eqb e w n)
+
+pub each-equal : (w e : ℕ) → (w ≡ 0 → ⊥) → e ≡ w → true ≡ allEqual w e
+each-equal w e h k = rw (ne-eqb w 0 h, eq-eqb e w k)

@@ -82,9 +82,10 @@ dropping =
 abbrev pub racing : List Op
 racing = Op.Resume 8 3 0 4 ∷ Op.CoroCurrent 3 4 ∷ Op.CoroCurrent 3 4 ∷ Op.CoroCurrent 3 4 ∷ Op.CoroCurrent 3 4 ∷ Op.StopRun ∷ []
 
--- The host wakes those who slept through it, the sensor and zone 2, from an empty stack.
+-- The host wakes those who slept through it, the sensor and zone 2, from an empty stack, and takes the outcome of each.
 abbrev pub waking : List Op
-waking = Op.Grant 10 ∷ Op.HostEntry sensor (int 650) ∷ returns 637 ∷ Op.HostEntry zone2 (int 660) ∷ returns 640 ∷ []
+waking =
+    Op.Grant 10 ∷ Op.HostEntry sensor (int 650) ∷ returns 637 ∷ Op.TakeOutcome ∷ Op.HostEntry zone2 (int 660) ∷ returns 640 ∷ Op.TakeOutcome ∷ []
 
 abbrev pub story : List Op
 story = heating ++ (surveying ++ (dropping ++ (racing ++ waking)))

@@ -217,6 +217,7 @@ fn line(
     notes: &mut [u64],
     given: &[u64],
 ) {
+    tell::heading();
     let began = outer::set_up::set_up(
         stack,
         frames,

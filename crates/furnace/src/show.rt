@@ -66,6 +66,14 @@ pub(crate) fn name(w: u64) {
     }
 }
 
+// Who runs: the innermost running coroutine, or the line where there is none.
+pub(crate) fn runner(w: u64) {
+    match Word(w).class() {
+        Class::Ref(o) => made(o.slot()),
+        _ => say(b"the line"),
+    }
+}
+
 // A word: an integer as its number, a reference by what it names, nil as a dash.
 pub(crate) fn word(w: u64) {
     match Word(w).class() {
@@ -77,6 +85,26 @@ pub(crate) fn word(w: u64) {
         Class::Int(n) => right(n),
         Class::Opaque => right(w),
     }
+}
+
+// The same in a sentence.
+pub(crate) fn value(w: u64) {
+    match Word(w).class() {
+        Class::Nil => say(b" nil"),
+        Class::Ref(o) => {
+            say(b" @");
+            made(o.slot());
+        }
+        Class::Int(n) => number(b" ", n),
+        Class::Opaque => number(b" ", w),
+    }
+}
+
+// A sentence that ends in a word.
+pub(crate) fn line(text: &[u8], w: u64) {
+    say(text);
+    value(w);
+    say(b"\n");
 }
 
 // All words of a slice.
@@ -142,31 +170,33 @@ pub(crate) fn stack(stack: &[u64], frames: &[u64], chain: &[u64], m: Machine) {
 
 // The fuel at hand, and what is set aside.
 pub(crate) fn fuel(f: Fuel) {
-    number(b": fuel ", f.fuel);
+    number(b" (fuel at hand ", f.fuel);
     let bank = f.bank;
     match bank {
-        Opt::None => say(b"\n"),
+        Opt::None => say(b")\n"),
         Opt::Some(n) => {
             number(b", banked ", n);
-            say(b"\n");
+            say(b")\n");
         }
     }
 }
 
+// The word that a wake sends.
 pub(crate) fn sent(s: Sent) {
     if s.is {
-        say(b", sent");
-        word(s.word);
-        say(b"\n");
+        line(b", sent", s.word);
     } else {
         say(b", sent nothing\n");
     }
 }
 
-pub(crate) fn verdict(equal: bool) {
-    if equal {
-        say(b"   EQUAL\n");
-    } else {
+// Whether what came back is what was held, with the word sent, if one was, where the sleeper waited.
+pub(crate) fn verdict(equal: bool, sent: bool) {
+    if !equal {
         say(b"   NOT EQUAL\n");
+    } else if sent {
+        say(b"   EQUAL, with the word sent\n");
+    } else {
+        say(b"   EQUAL\n");
     }
 }

@@ -24,7 +24,7 @@ const READINGS: u64 = 0x1_0000_0000_000A;
 const INT: u64 = 0xFFFE_0000_0000_0000;
 
 // How many there are.
-pub(crate) const CALLS: usize = 56;
+pub(crate) const CALLS: usize = 58;
 
 pub(crate) fn call(i: usize) -> Op
     ensures { λ r. ⌜ r ≡ getD story i Op.Look ⌝ }
@@ -245,7 +245,7 @@ pub(crate) fn call(i: usize) -> Op
         48 => Op::CoroCurrent { pc: 3, dst: 4 },
         49 => Op::CoroCurrent { pc: 3, dst: 4 },
         50 => Op::StopRun,
-        // the host wakes those who slept through it
+        // the host wakes those who slept through it, and takes their outcomes
         51 => Op::Grant { amount: 10 },
         52 => Op::HostEntry {
             coro: SENSOR,
@@ -255,14 +255,16 @@ pub(crate) fn call(i: usize) -> Op
             kind: ResultKind::Dyn,
             word: INT + 637,
         },
-        54 => Op::HostEntry {
+        54 => Op::TakeOutcome,
+        55 => Op::HostEntry {
             coro: ZONE2,
             word: INT + 660,
         },
-        55 => Op::Finish {
+        56 => Op::Finish {
             kind: ResultKind::Dyn,
             word: INT + 640,
         },
+        57 => Op::TakeOutcome,
         _ => Op::Look,
     }
 }

@@ -3,6 +3,7 @@ ghost use Prim.Native.Nat.{_+_, _≤_, _<_};
 ghost use lib.ListN.{length};
 use crate::show;
 use crate::watch::Sent;
+use crate::watch::all_equal;
 use crate::watch::base;
 use crate::watch::coroutine;
 use crate::watch::field;
@@ -11,6 +12,7 @@ use crate::watch::register;
 use crate::watch::suspends;
 use crate::watch::waits_in;
 use crate::watch::woke;
+use calls::answer::Eight;
 use heap::value::Class;
 use heap::value::Word;
 use memory::machine::Machine;
@@ -227,7 +229,7 @@ fn woken(
     show::words(held);
     show::say(b"\n     came back");
     show::words(back);
-    show::verdict(equal);
+    show::verdict(equal, sent.is);
     count.with(equal)
 }
 
@@ -293,8 +295,44 @@ fn asleep(c: u64, notes: &[u64]) {
     show::say(b"\n");
 }
 
-// Of the other calls, those that a person wants to see.
-fn other(frames: &[u64], m: Machine, fuel: Fuel, op: Op) {
+// An answer other than 0, to a call made while `coro` ran.
+fn answered(told: Eight, coro: u64, fuel: Fuel) {
+    let n = told.0;
+    match n {
+        10 => {
+            show::runner(coro);
+            show::number(b" is stopped for want of fuel: its call answers ", n);
+        }
+        17 => {
+            show::number(b"a cleanup starts before the next instruction: its call answers ", n);
+            show::say(b" with");
+            show::value(told.1);
+        }
+        _ => {
+            show::runner(coro);
+            show::number(b" is refused: its call answers ", n);
+        }
+    }
+    show::fuel(fuel);
+}
+
+// What take outcome answers: a number for what the coroutine did, and its word.
+fn outcome(did: u64, word: u64) {
+    match did {
+        0 => show::say(b"the host takes no outcome\n"),
+        1 => show::line(b"the host takes the outcome: it yielded", word),
+        2 => show::line(b"the host takes the outcome: it awaits", word),
+        3 => show::line(b"the host takes the outcome: it returned", word),
+        4 => show::line(b"the host takes the outcome: it failed with", word),
+        _ => show::say(b"the host takes the outcome: it went on though it was closed\n"),
+    }
+}
+
+// The code of an answer that says that a handler took the signal.
+const CAUGHT: u64 = 9;
+
+// Of the other calls that were accepted, those that a person wants to see.
+fn other(frames: &[u64], m: Machine, fuel: Fuel, op: Op, told: Eight) {
     match op {
         Op::Grant { amount } => {
             show::number(b"the host grants ", amount);
@@ -306,6 +344,9 @@ fn other(frames: &[u64], m: Machine, fuel: Fuel, op: Op) {
             show::fuel(fuel);
         }
         Op::Unwind { fault: _, pc: _ } => {
+            if told.4 != CAUGHT {
+                return;
+            }
             if m.depth == 0 {
                 return;
             }
@@ -315,7 +356,11 @@ fn other(frames: &[u64], m: Machine, fuel: Fuel, op: Op) {
             );
             show::say(b"\n");
         }
-        Op::StopRun => show::say(b"the host stops the run: no frame is left\n"),
+        Op::StopRun => {
+            show::number(b"the host stops the run: frames left ", m.depth as u64);
+            show::say(b"\n");
+        }
+        Op::TakeOutcome => outcome(told.5, told.1),
         _ => return,
     }
 }
@@ -347,8 +392,9 @@ pub(crate) fn after(
     let told = calls::answer::words_of(answer);
     let n = told.0;
     if n != 0 {
-        show::number(b"the call answers ", n);
-        show::fuel(fuel);
+        answered(told, was.coro, fuel);
+    } else {
+        other(frames, m, fuel, op, told);
     }
     if was.active < m.active {
         let sent = arrives(was.sent, n);
@@ -362,18 +408,41 @@ pub(crate) fn after(
         }
         show::say(b" ends\n");
     }
-    other(frames, m, fuel, op);
     count
+}
+
+// The first lines.
+pub(crate) fn heading() {
+    show::say(
+        b"A furnace line. Its scripts (zones, a sensor, a recipe) sleep and are woken at other heights.\n",
+    );
+    show::say(
+        b"  registers  of a zone: its setpoint and last reading in degrees, ..; - is nil, @x refers to x\n",
+    );
+    show::say(
+        b"  picture    the stack, top frame first: heights | function | whose frame | registers\n",
+    );
+    show::say(
+        b"  sent       the word that a wake hands over, to the register where the sleeper waits\n\n",
+    );
 }
 
 // The last lines.
 pub(crate) fn end(count: Count) {
     show::number(b"\n", count.wakes);
     show::number(b" wakes, ", count.equal);
-    show::say(
-        b" equal: each sleeper held the same words again, with the sent one where it waited.\n",
+    if all_equal(count.wakes, count.equal) {
+        show::say(
+            b" equal: each sleeper held the same words again, with the sent one where it waited.\n",
+        );
+        show::say(
+            b"No coincidence: `woken` in crates/lent_claims/specs/Claim.antt says it of every list of calls.\n",
+        );
+        return;
+    }
+    show::number(
+        b" equal, NOT EQUAL ",
+        std::num::wrapping_sub_u64(count.wakes, count.equal),
     );
-    show::say(
-        b"No coincidence: `woken` in crates/lent_claims/specs/Claim.antt says it of every list of calls.\n",
-    );
+    show::say(b": not every sleeper came back with what it held.\n");
 }

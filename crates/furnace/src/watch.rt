@@ -4,7 +4,7 @@ ghost use Prim.Native.Nat.{_+_, _*_, _≤_, _<_};
 ghost use lib.ListN.{length, getD};
 ghost use Rattle.calls.specs.Codes.{same};
 ghost use Rattle.tables.specs.Layout.{baseIn};
-ghost use Rattle.furnace.specs.Watch.{floorIn, coroIn, sentTo};
+ghost use Rattle.furnace.specs.Watch.{floorIn, coroIn, sentTo, allEqual};
 use model::call::Op;
 
 // Word k of record i of a table whose records have six words; 0 beyond its end.
@@ -116,6 +116,19 @@ pub(crate) fn woke(held: &[u64], sent: Sent, place: usize, back: &[u64]) -> bool
             return false;
         }
         i += 1;
+    }
+    true
+}
+
+// Whether there was a wake, and each came back as it should.
+pub(crate) fn all_equal(wakes: u64, equal: u64) -> bool
+    ensures { λ r. ⌜ r ≡ allEqual wakes equal ⌝ }
+{
+    if wakes == 0 {
+        return false;
+    }
+    if equal != wakes {
+        return false;
     }
     true
 }

@@ -5,12 +5,15 @@ use borrow.Author.Needs.{needs}
 use Rattle.furnace.proofs.line.Statement.{statement}
 use Rattle.furnace.proofs.line.Tie as tie
 
--- where the story, and the set-up before it, have been done
+-- from the end to the story, and from there to the set-up
 abbrev played : tie.After-end → tie.After-play
 played c = c .before .before .before .before .before .before .before .before .before .before .before .before .before .before .before .before .before .before .before .before
 
-abbrev set : tie.After-end → tie.After-set-up
-set c = c .before .before .before .before .before .before .before .before .before .before .before .before .before .before .before .before .before .before .before .before .before .before .before .before .before .before .before .before .before .before .before .before .before .before .before .before .before .before .before .before .before .before .before .before .before .before .before .before .before .before .before
+abbrev began : tie.After-play → tie.After-set-up
+began c = c .before .before .before .before .before .before .before .before .before .before .before .before .before .before .before .before .before .before .before .before .before .before .before .before .before .before .before .before .before .before .before
+
+heading-requires : tie.Need-heading-requires
+heading-requires c κs = tt
 
 blank-requires : tie.Need-blank-requires
 blank-requires c κs = tt
@@ -28,31 +31,31 @@ end-requires : tie.Need-end-requires
 end-requires c κs = tt
 
 same-length : tie.Need-same-length
-same-length c = played c .play .kept .0 ∙ set c .set-up .kept .0
+same-length c = played c .play .kept .0 ∙ began (played c) .set-up .kept .0
 
 same-length-2 : tie.Need-same-length-2
-same-length-2 c = played c .play .kept .1 .0 ∙ set c .set-up .kept .1 .0
+same-length-2 c = played c .play .kept .1 .0 ∙ began (played c) .set-up .kept .1 .0
 
 same-length-3 : tie.Need-same-length-3
-same-length-3 c = played c .play .kept .1 .1 .0 ∙ set c .set-up .kept .1 .1 .0
+same-length-3 c = played c .play .kept .1 .1 .0 ∙ began (played c) .set-up .kept .1 .1 .0
 
 same-length-4 : tie.Need-same-length-4
-same-length-4 c = played c .play .kept .1 .1 .1 .0 ∙ set c .set-up .kept .1 .1 .1 .0
+same-length-4 c = played c .play .kept .1 .1 .1 .0 ∙ began (played c) .set-up .kept .1 .1 .1 .0
 
 same-length-5 : tie.Need-same-length-5
-same-length-5 c = played c .play .kept .1 .1 .1 .1 .0 ∙ set c .set-up .kept .1 .1 .1 .1 .0
+same-length-5 c = played c .play .kept .1 .1 .1 .1 .0 ∙ began (played c) .set-up .kept .1 .1 .1 .1 .0
 
 same-length-6 : tie.Need-same-length-6
-same-length-6 c = played c .play .kept .1 .1 .1 .1 .1 .0 ∙ set c .set-up .kept .1 .1 .1 .1 .1 .0
+same-length-6 c = played c .play .kept .1 .1 .1 .1 .1 .0 ∙ began (played c) .set-up .kept .1 .1 .1 .1 .1 .0
 
 same-length-7 : tie.Need-same-length-7
-same-length-7 c = played c .play .kept .1 .1 .1 .1 .1 .1 .0 ∙ set c .set-up .kept .1 .1 .1 .1 .1 .1 .0
+same-length-7 c = played c .play .kept .1 .1 .1 .1 .1 .1 .0 ∙ began (played c) .set-up .kept .1 .1 .1 .1 .1 .1 .0
 
 same-length-8 : tie.Need-same-length-8
-same-length-8 c = played c .play .kept .1 .1 .1 .1 .1 .1 .1 .0 ∙ set c .set-up .kept .1 .1 .1 .1 .1 .1 .1 .0
+same-length-8 c = played c .play .kept .1 .1 .1 .1 .1 .1 .1 .0 ∙ began (played c) .set-up .kept .1 .1 .1 .1 .1 .1 .1 .0
 
 same-length-9 : tie.Need-same-length-9
-same-length-9 c = set c .set-up .kept .1 .1 .1 .1 .1 .1 .1 .1 .0
+same-length-9 c = began (played c) .set-up .kept .1 .1 .1 .1 .1 .1 .1 .1 .0
 
 same-length-10 : tie.Need-same-length-10
 same-length-10 c = search needs
@@ -61,4 +64,23 @@ returns : tie.Need-returns
 returns c = tt
 
 pub line-spec : {M : Type 1} → statement M
-line-spec = tie.close (tie.spec blank-requires empty-requires set-up-requires play-requires end-requires same-length same-length-2 same-length-3 same-length-4 same-length-5 same-length-6 same-length-7 same-length-8 same-length-9 same-length-10 returns)
+line-spec =
+    tie.close
+    (tie.spec
+    heading-requires
+    blank-requires
+    empty-requires
+    set-up-requires
+    play-requires
+    end-requires
+    same-length
+    same-length-2
+    same-length-3
+    same-length-4
+    same-length-5
+    same-length-6
+    same-length-7
+    same-length-8
+    same-length-9
+    same-length-10
+    returns)

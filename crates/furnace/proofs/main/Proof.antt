@@ -50,4 +50,20 @@ returns : tie.Need-returns
 returns c = tt
 
 pub main-spec : {M : Type 1} → statement M
-main-spec = tie.close (tie.spec furnace-requires slice-aggregate-line slice-aggregate-line-2 slice-aggregate-line-3 slice-aggregate-line-4 slice-aggregate-line-5 slice-aggregate-line-6 slice-aggregate-line-7 slice-aggregate-line-8 slice-aggregate-line-9 slice-aggregate-line-10 slice-aggregate-line-11 line-requires returns)
+main-spec =
+    tie.close
+    (tie.spec
+    furnace-requires
+    slice-aggregate-line
+    slice-aggregate-line-2
+    slice-aggregate-line-3
+    slice-aggregate-line-4
+    slice-aggregate-line-5
+    slice-aggregate-line-6
+    slice-aggregate-line-7
+    slice-aggregate-line-8
+    slice-aggregate-line-9
+    slice-aggregate-line-10
+    slice-aggregate-line-11
+    line-requires
+    returns)

@@ -17,7 +17,7 @@ Inv-loop stack₀ frames₀ chain₀ slots₀ saved-stack₀ saved-frames₀ rea
     (state (nine stack frames chain slots saved-stack saved-frames ready finalize setup plain) k f) notes i
 
 abbrev μ-loop : tie.MeasureT-loop
-μ-loop stack₀ frames₀ chain₀ slots₀ saved-stack₀ saved-frames₀ ready₀ finalize₀ setup notes₀ k₀ f₀ count₀ i₀ stack frames chain slots saved-stack saved-frames ready finalize notes k f count i = 56 - i
+μ-loop stack₀ frames₀ chain₀ slots₀ saved-stack₀ saved-frames₀ ready₀ finalize₀ setup notes₀ k₀ f₀ count₀ i₀ stack frames chain slots saved-stack saved-frames ready finalize notes k f count i = 58 - i
 
 -- the ways back that several clauses take, and the words there
 abbrev start-of : tie.At-loop Inv-loop μ-loop → tie.Start Inv-loop μ-loop
@@ -60,11 +60,12 @@ loop-again c =
     let test = test-of did in
     let loop = test .before in
     let start = start-of loop in
+    let k = did .turn .kept in
     let at-call = did .before .before .before .before .before .before .before .before .before .before in
     along-more (at-start start) (start .args .notes .now) (at-loop loop) (loop .loop .notes) _ (loop .loop .i) (loop .loop .inv) (test .loop-test .taken)
     (at-call .call .result) (at-call .call .ensures) (gives (left-by did) (did .turn .result .called)) (did .turn .ensures)
-    (record { stack = did .turn .kept .0; frames = did .turn .kept .1 .0; chain = did .turn .kept .1 .1 .0; slots = did .turn .kept .1 .1 .1 .0; savedStack = did .turn .kept .1 .1 .1 .1 .0; savedFrames = did .turn .kept .1 .1 .1 .1 .1 .0; ready = did .turn .kept .1 .1 .1 .1 .1 .1 .0; finalize = did .turn .kept .1 .1 .1 .1 .1 .1 .1 .0; setup = refl })
-    (did .turn .kept .1 .1 .1 .1 .1 .1 .1 .1 .1 .1 .1 .1 .0)
+    (record { stack = k .0; frames = k .1 .0; chain = k .1 .1 .0; slots = k .1 .1 .1 .0; savedStack = k .1 .1 .1 .1 .0; savedFrames = k .1 .1 .1 .1 .1 .0; ready = k .1 .1 .1 .1 .1 .1 .0; finalize = k .1 .1 .1 .1 .1 .1 .1 .0; setup = refl })
+    (k .1 .1 .1 .1 .1 .1 .1 .1 .1 .1 .1 .1 .0)
 
 same-length : tie.Need-same-length Inv-loop μ-loop
 same-length c = c .before .loop .inv .lengths .stack

@@ -4,6 +4,13 @@ use borrow.Author.Needs.{needs}
 use Rattle.furnace.proofs.turn.Statement.{statement}
 use Rattle.furnace.proofs.turn.Tie as tie
 
+-- from the end to the call, and from there to what is noted before it
+abbrev call-of : tie.After-after → tie.After-call
+call-of c = c .before .before .before .before .before .before .before .before .before .before .before .before .before .before .before .before .before .before .before .before .before .before .before
+
+abbrev noted : tie.After-call → tie.After-before2
+noted c = c .before .before .before .before .before .before .before .before .before .before .before
+
 before-requires : tie.Need-before-requires
 before-requires c κs = search needs
 
@@ -38,7 +45,7 @@ same-length-8 : tie.Need-same-length-8
 same-length-8 c = search needs
 
 same-length-9 : tie.Need-same-length-9
-same-length-9 c = c .before .before .before .before .before .before .before .before .before .before .before .before .before .before .before .before .before .before .before .before .before .before .before .before .before .before .before .before .before .before .before .before .before .before .before2 .kept .1 .1 .1 .1 .1 .0
+same-length-9 c = noted (call-of c) .before2 .kept .1 .1 .1 .1 .1 .0
 
 returns : tie.Need-returns
 returns c = search needs

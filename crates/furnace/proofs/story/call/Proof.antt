@@ -228,9 +228,15 @@ returns-56 : tie.Need-returns-56
 returns-56 c = rw (c .match .keys56)
 
 returns-57 : tie.Need-returns-57
-returns-57 c =
+returns-57 c = rw (c .match .keys57)
+
+returns-58 : tie.Need-returns-58
+returns-58 c = rw (c .match .keys58)
+
+returns-59 : tie.Need-returns-59
+returns-59 c =
     let i = c .before .args .i in
-    sym (List·getD-eq-default story Op.Look {n = i} (past i 56 (c .match .rest)))
+    sym (List·getD-eq-default story Op.Look {n = i} (past i 58 (c .match .rest)))
 
 pub call-spec : {M : Type 1} → statement M
 call-spec =
@@ -309,4 +315,6 @@ call-spec =
     returns-54
     returns-55
     returns-56
-    returns-57)
+    returns-57
+    returns-58
+    returns-59)
