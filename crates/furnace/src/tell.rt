@@ -304,7 +304,10 @@ fn answered(told: Eight, coro: u64, fuel: Fuel) {
             show::number(b" is stopped for want of fuel: its call answers ", n);
         }
         17 => {
-            show::number(b"a cleanup starts before the next instruction: its call answers ", n);
+            show::number(
+                b"a cleanup starts before the next instruction: its call answers ",
+                n,
+            );
             show::say(b" with");
             show::value(told.1);
         }

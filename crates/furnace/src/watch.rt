@@ -65,6 +65,12 @@ pub(crate) fn suspends(op: Op) -> bool {
             dst: _,
             src: _,
         } => true,
+        Op::YieldKv {
+            pc: _,
+            dst: _,
+            src: _,
+            key: _,
+        } => true,
         Op::Await {
             pc: _,
             dst: _,
@@ -77,6 +83,12 @@ pub(crate) fn suspends(op: Op) -> bool {
 pub(crate) fn waits_in(op: Op) -> usize {
     match op {
         Op::Yield { pc: _, dst, src: _ } => dst as usize,
+        Op::YieldKv {
+            pc: _,
+            dst,
+            src: _,
+            key: _,
+        } => dst as usize,
         Op::Await { pc: _, dst, src: _ } => dst as usize,
         _ => 0,
     }
