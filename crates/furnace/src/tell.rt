@@ -417,13 +417,13 @@ pub(crate) fn after(
 // The first lines.
 pub(crate) fn heading() {
     show::say(
-        b"A furnace line. Its scripts (zones, a sensor, a recipe) sleep and are woken at other heights.\n",
+        b"A furnace line: its scripts (zones, a sensor, a recipe) sleep, and wake at other stack heights.\n",
     );
     show::say(
-        b"  registers  of a zone: its setpoint and last reading in degrees, ..; - is nil, @x refers to x\n",
+        b"  registers  of a zone: setpoint and last reading in degrees, then others; - is nil, @x refers to x\n",
     );
     show::say(
-        b"  picture    the stack, top frame first: heights | function | whose frame | registers\n",
+        b"  picture    the stack, top frame first: heights | function | script, if it has one | registers\n",
     );
     show::say(
         b"  sent       the word that a wake hands over, to the register where the sleeper waits\n\n",
