@@ -345,25 +345,6 @@ impl Bare {
         &self.answer
     }
 
-    /// The test of soundness.
-    #[inline]
-    pub fn sound(&mut self) -> bool {
-        lend!(bvm_sound(self.slices,)) == 1
-    }
-
-    /// All words of the nine slices, the numbers and the fuel, joined.
-    #[must_use]
-    pub fn joined(&self) -> u64 {
-        (0..11).fold(0, |all, i| self.slice(i).iter().fold(all, |a, w| a | w))
-    }
-
-    /// How many words there are.
-    #[must_use]
-    #[allow(clippy::len_without_is_empty)]
-    pub fn len(&self) -> usize {
-        self.slices.iter().map(|s| s.1).sum()
-    }
-
     /// A slice's words.
     fn slice(&self, i: usize) -> &[u64] {
         let start = (self.slices[i].0 as usize - self.block.as_ptr() as usize) / 8;

@@ -84,9 +84,9 @@ suspend-number pc s dst x keys v there = go (v .chain) refl
     found a chain e Absent q = no-both (there a chain e) (ap (λ y. isRunning (coreIn y .state)) q)
     found a chain e (Is k r) q = test (not (fits t (growth t (saved s dst (a .floor) t) r)))
       where
-        test : (b : Bool) → Suits (pick b (after t (Suspension.Refused Fault.OutOfMemory)) (after (Coro.suspended a chain (saved s dst (a .floor) t) x keys r t) (Suspension.Done (a .driver) (Coro.eventOf s x (setKeys keys r)))))
+        test : (b : Bool) → Suits (pick b (after t (Suspension.Refused Fault.OutOfMemory)) (after (Coro.putToSleep a chain (saved s dst (a .floor) t) x keys r t) (Suspension.Done (a .driver) (Coro.eventOf s x (setKeys keys r)))))
         test true = refl
-        test false = delivered-number (a .driver) (Coro.eventOf s x (setKeys keys r)) (Coro.suspended a chain (saved s dst (a .floor) t) x keys r t)
+        test false = delivered-number (a .driver) (Coro.eventOf s x (setKeys keys r)) (Coro.putToSleep a chain (saved s dst (a .floor) t) x keys r t)
 
     above : (a : Active) (chain : List Active) → v .chain ≡ a ∷ chain → (b : Bool) → Suits (pick b (after t (Suspension.Refused Fault.CannotSuspend)) (suspendCoroutine (coro v (a .coro)) a chain (saved s dst (a .floor) t) x keys t))
     above a chain e true = refl

@@ -1,8 +1,5 @@
 //! The library's functions, on words without guards.
 
-use std::hint::black_box;
-use std::time::Instant;
-
 use oracle::lent::CallWords;
 use oracle::library::Bare;
 use oracle::world::{Costs, Setup};
@@ -172,30 +169,4 @@ impl Switch for Batch {
         assert_eq!(self.0.run(&mut self.1, &mut self.2), 0, "run");
         assert_eq!(self.2[n * 16 - 6], 2, "suspended");
     }
-}
-
-/// The test of soundness beside a pass that joins all words by `or`: the least
-/// of many, on a machine with as many sleeping coroutines as it has rows.
-pub(crate) fn tests(costs: Costs) {
-    println!("\n| the test | words | ns | a pass over the words, ns | ratio |");
-    println!("|---|---:|---:|---:|---:|");
-    for (name, s) in [("small set-up", small(costs)), ("largest set-up", setup(costs))] {
-        let mut b = fresh(&s);
-        for _ in 0..s.rows {
-            assert_eq!(b.kept([0, 0, 0, 0, 0, 0])[2], 1, "created");
-        }
-        let test = least(|| assert!(b.sound(), "sound"));
-        let pass = least(|| assert_ne!(black_box(b.joined()), 0, "words"));
-        let words = b.len();
-        println!("| {name} | {words} | {test:.0} | {pass:.0} | {:.2} |", test / pass);
-    }
-}
-
-fn least(mut f: impl FnMut()) -> f64 {
-    let one = |f: &mut dyn FnMut()| {
-        let start = Instant::now();
-        (0..10).for_each(|_| f());
-        start.elapsed().as_nanos() as f64 / 10.0
-    };
-    (0..300).map(|_| one(&mut f)).fold(f64::MAX, f64::min)
 }

@@ -171,6 +171,7 @@ pub(crate) fn setup(costs: Costs) -> Setup {
 }
 
 /// The same functions but the widest on a machine of 1,111 words.
+#[cfg(library)]
 pub(crate) fn small(costs: Costs) -> Setup {
     let mut s = setup(costs);
     s.funcs.truncate(4);
@@ -239,8 +240,6 @@ pub(crate) fn table(costs: Costs) {
             println!("| {name} | {} |{}", e.name, line(f, &found[0]));
         }
     }
-    #[cfg(library)]
-    library::tests(costs);
 }
 
 fn line(f: &Found, first: &Found) -> String {
