@@ -47,7 +47,7 @@ use Rattle.memory.specs.Contract.{Does}
 use Rattle.memory.specs.declared.machine.Machine.{Machine}
 use Rattle.memory.specs.declared.machine.Sizes.{Sizes}
 use Rattle.machine.specs.Send.{SendFits}
-use Rattle.coro_suspend.specs.Suspend.{LeaveFit, Leaves, asleep, shrunk}
+use Rattle.coro_suspend.specs.Suspend.{LeaveFit, MovedOut, asleep, shrunk}
 use Rattle.coro_suspend.proofs.Parts.{yielded}
 use Rattle.coro_suspend.proofs.Innermost.{other}
 use Rattle.coro_suspend.proofs.Asleep as Asleep
@@ -96,7 +96,7 @@ module _ (l : Sizes) (M : Lent) (m : Machine) (f : Fuel) (w : World) (rep : Rep 
     abbrev M′ : Lent
     M′ = record { stack = stack′; frames = frames′; chain = chain′; slots = slots′; savedStack = savedStack′; savedFrames = savedFrames′; ready = M .ready; finalize = M .finalize; setup = M .setup }
 
-    leaves : Leaves (M .stack) (M .frames) (M .savedStack) (M .savedFrames) stack′ frames′ savedStack′ savedFrames′ m l (c .row) (a .floor) base
+    leaves : MovedOut (M .stack) (M .frames) (M .savedStack) (M .savedFrames) stack′ frames′ savedStack′ savedFrames′ m l (c .row) (a .floor) base
         → ChainDo (drop 1) (M .chain) chain′ (m .active) (m .active - 1)
         → slots′ ≡ putChunk 20 (M .slots) i (napWords (m .height - base) (m .depth - a .floor) dst payload key largest (chunkAt 20 (M .slots) i))
         → Does l (suspendsBy dst payload key largest w) M′ (shrunk m base (a .floor) (m .used)) f (toldTo (a .driver) payload key)
@@ -114,14 +114,14 @@ module _ (l : Sizes) (M : Lent) (m : Machine) (f : Fuel) (w : World) (rep : Rep 
 
     -- by the numbers that the code read
     pub left : (row floor b regs deep : ℕ) → row ≡ c .row → floor ≡ a .floor → b ≡ base → regs ≡ m .height - b → deep ≡ m .depth - floor
-        → Leaves (M .stack) (M .frames) (M .savedStack) (M .savedFrames) stack′ frames′ savedStack′ savedFrames′ m l row floor b
+        → MovedOut (M .stack) (M .frames) (M .savedStack) (M .savedFrames) stack′ frames′ savedStack′ savedFrames′ m l row floor b
         → ChainDo (drop 1) (M .chain) chain′ (m .active) (m .active - 1)
         → slots′ ≡ putChunk 20 (M .slots) i (napWords regs deep dst payload key largest (chunkAt 20 (M .slots) i))
         → Does l (suspendsBy dst payload key largest w) M′ (shrunk m b floor (m .used)) f (toldTo (a .driver) payload key)
     left row floor b regs deep er ef eb en ed moves pop mark =
-        let moved = subst (λ z. Leaves (M .stack) (M .frames) (M .savedStack) (M .savedFrames) stack′ frames′ savedStack′ savedFrames′ m l (c .row) (a .floor) z) eb
-        (subst (λ z. Leaves (M .stack) (M .frames) (M .savedStack) (M .savedFrames) stack′ frames′ savedStack′ savedFrames′ m l (c .row) z b) ef
-        (subst (λ z. Leaves (M .stack) (M .frames) (M .savedStack) (M .savedFrames) stack′ frames′ savedStack′ savedFrames′ m l z floor b) er moves)) in
+        let moved = subst (λ z. MovedOut (M .stack) (M .frames) (M .savedStack) (M .savedFrames) stack′ frames′ savedStack′ savedFrames′ m l (c .row) (a .floor) z) eb
+        (subst (λ z. MovedOut (M .stack) (M .frames) (M .savedStack) (M .savedFrames) stack′ frames′ savedStack′ savedFrames′ m l (c .row) z b) ef
+        (subst (λ z. MovedOut (M .stack) (M .frames) (M .savedStack) (M .savedFrames) stack′ frames′ savedStack′ savedFrames′ m l z floor b) er moves)) in
         let p : regs ≡ m .height - base = en ∙ ap (λ z. m .height - z) eb in
         let q : deep ≡ m .depth - a .floor = ed ∙ ap (λ z. m .depth - z) ef in
         subst (λ z. Does l (suspendsBy dst payload key largest w) M′ (shrunk m b z (m .used)) f (toldTo (a .driver) payload key)) (sym ef)

@@ -7,7 +7,7 @@ ghost use Rattle.model.specs.Exec.{yield};
 ghost use Rattle.model.specs.declared.exec.Step.the-variants.{Frame};
 ghost use Rattle.memory.specs.Lendings.{six};
 ghost use Rattle.memory.specs.Contract.{Met, ifSound, only};
-ghost use Rattle.coro_suspend.specs.Suspend.{Leaves};
+ghost use Rattle.coro_suspend.specs.Suspend.{MovedOut};
 ghost use Rattle.boundary.specs.Words.{machineIn, sizesIn};
 ghost use Rattle.hot.specs.Leave.{innermostIn, napWords, MoveOutFits, LeaveAtFits, suspendsBy, toldTo, shrunkTo, LeaveFits, leftIn};
 ghost use Rattle.hot.specs.Words.{enteredOver};
@@ -28,7 +28,7 @@ fn move_out(
     base: usize,
 )
     requires { ⌜ MoveOutFits (now stack) (now frames) (now «saved_stack») (now «saved_frames») (now machine) row floor base ⌝ }
-    ensures { λ _. ⌜ Leaves (now (stack .entry)) (now (frames .entry)) (now («saved_stack» .entry)) (now («saved_frames» .entry)) (now (stack .exit))
+    ensures { λ _. ⌜ MovedOut (now (stack .entry)) (now (frames .entry)) (now («saved_stack» .entry)) (now («saved_frames» .entry)) (now (stack .exit))
         (now (frames .exit)) (now («saved_stack» .exit)) (now («saved_frames» .exit)) (machineIn (now (machine .entry))) (sizesIn
         (now (machine .entry))) row floor base ⌝ }
 {
