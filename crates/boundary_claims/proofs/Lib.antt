@@ -1,3 +1,4 @@
+pub mod Answered
 pub mod Batch
 pub mod Words
 pub mod Look

@@ -46,6 +46,7 @@ use Rattle.boundary.proofs.Hosts.{numbers, sound, sizes, done}
 use Rattle.boundary.proofs.Hosts as Hosts
 use Rattle.boundary_claims.specs.Batch.{Calls, none, is, not}
 use Rattle.boundary_claims.specs.Library.{NoFault, unknown, none-such, Library}
+use Rattle.boundary_claims.proofs.Answered.{kept, told, no-room, unseen, begun-by, long-in, set-up-is, not-begun, all, ran-by, run-is, answered, not-run}
 use Rattle.boundary_claims.proofs.Batch.{listed, batch}
 use Rattle.boundary_claims.proofs.Look.{looks}
 use Rattle.boundary_claims.proofs.Passing.{passing}
@@ -111,9 +112,6 @@ called-by h ws xs w e false = e
 called : (h : Host) (ws xs : List ℕ) → each isWord ws ≡ true → tested h ≡ true → tested (callIn h (opOf ws) xs .host) ≡ true
 called h ws xs w e =
     ap (λ (g : Gave). tested (g .host)) (call-is h (opOf ws) xs ∙ ap (by h (opOf ws) xs (leb 8 (length xs))) e) ∙ called-by h ws xs w e (leb 8 (length xs))
-
-kept : (h : Host) (r : Read) (xs : List ℕ) → tested h ≡ true → 8 ≤ length xs → keptIn h r xs ≡ callIn h r xs
-kept h r xs e w = Hosts.called h r xs (keptIn h r xs) w true (sym e) (done h r xs (keptIn h r xs) true refl refl)
 
 calls : (h : Host) (o : Operation) (xs : List ℕ) → tested h ≡ true → 8 ≤ length xs → stateOf (callIn h (Read.Is (o .op)) xs .host) ≡ step (stateOf h) (Do o) .state
 calls h o xs e w =
@@ -248,19 +246,6 @@ grants h n xs w =
 
 -- ---- a set-up
 
--- by room for the answer, for numbers and fuel, and by the set-up's own test
-abbrev begun-by : Host → List ℕ → List ℕ → Bool → Bool → Bool → Gave
-begun-by h given xs room long ok =
-    let no = tells h (Answer.Refused Fault.Unsound) xs in
-    pick room (pick long (pick ok (tells (freshIn h given) Answer.Accepted xs) no) no) (gave h xs 14)
-
-abbrev long-in : Host → Bool
-long-in h = leb 25 (length (h .machine)) && leb 4 (length (h .fuel))
-
-set-up-is : (h : Host) (given xs : List ℕ) → setUpIn h given xs ≡ begun-by h given xs (leb 8 (length xs)) (long-in h) (setUpOk given (h .words))
-unfolding setUpIn
-set-up-is h given xs = refl
-
 -- the sizes after the numbers leave these
 fresh-state : (h : Host) (given : List ℕ) → stateOf (freshIn h given) ≡ setUpWords (stateOf h) given .state
 fresh-state h given =
@@ -315,41 +300,22 @@ run-stays s (is o rs ks c) e =
 run-stays s (not f rs ks c) e = run-stays s c e
 
 module _ (h : Host) (cs xs : List ℕ) where
-  abbrev count : ℕ
-  count = countOf (length cs)
-
-  abbrev all : Ran
-  all = runWords (stateOf h) (callsIn count cs)
-
-  abbrev made : Bool → RunLeft
-  made room =
-      pick room (record { state = all .state; answers = written xs 0 (all .answers); number = ends (isSound (stateOf h)) }) (record { state = stateOf h; answers = xs; number = 14 })
-
-  abbrev ran-by : Bool → Bool → Gave
-  ran-by room ok =
-      let t = made room in
-      pick room (pick ok (gave (over h (t .state)) (t .answers) (t .number)) (gave h (written xs 0 (refusals count)) 11)) (gave h xs 14)
-
-  run-is : runHost h cs xs ≡ ran-by (leb (count * 8) (length xs)) (tested h)
-  unfolding runHost runIn
-  run-is = refl
-
-  with-room : ran-by true true .host ≡ over h (all .state)
+  with-room : ran-by h cs xs true true .host ≡ over h (all h cs xs .state)
   unfolding pick
   with-room = refl
 
-  runs : (ks : List Call) → tested h ≡ true → count * 8 ≤ length xs → Calls (callsIn count cs) ks → stateOf (runHost h cs xs .host) ≡ run outer (stateOf h) ks
+  runs : (ks : List Call) → tested h ≡ true → countOf (length cs) * 8 ≤ length xs → Calls (callsIn (countOf (length cs)) cs) ks → stateOf (runHost h cs xs .host) ≡ run outer (stateOf h) ks
   runs ks e w c =
-      let p = run-is ∙ ap₂ ran-by (le-leb (count * 8) (length xs) w) e in
-      ap stateOf (ap (λ (g : Gave). g .host) p ∙ with-room) ∙ over-back h (all .state) ∙ batch .left (stateOf h) (callsIn count cs) ks c
+      let p = run-is h cs xs ∙ ap₂ (ran-by h cs xs) (le-leb (countOf (length cs) * 8) (length xs) w) e in
+      ap stateOf (ap (λ (g : Gave). g .host) p ∙ with-room) ∙ over-back h (all h cs xs .state) ∙ batch .left (stateOf h) (callsIn (countOf (length cs)) cs) ks c
 
-  ran-as : each isWord cs ≡ true → tested h ≡ true → (room : Bool) → tested (ran-by room true .host) ≡ true
+  ran-as : each isWord cs ≡ true → tested h ≡ true → (room : Bool) → tested (ran-by h cs xs room true .host) ≡ true
   unfolding pick
-  ran-as w e true = keeps h (all .state) e (run-stays (stateOf h) (listed count cs w .calls) (sound h e))
+  ran-as w e true = keeps h (all h cs xs .state) e (run-stays (stateOf h) (listed (countOf (length cs)) cs w .calls) (sound h e))
   ran-as w e false = e
 
   ran : each isWord cs ≡ true → tested h ≡ true → tested (runHost h cs xs .host) ≡ true
-  ran w e = ap (λ (g : Gave). tested (g .host)) (run-is ∙ ap (ran-by (leb (count * 8) (length xs))) e) ∙ ran-as w e (leb (count * 8) (length xs))
+  ran w e = ap (λ (g : Gave). tested (g .host)) (run-is h cs xs ∙ ap (ran-by h cs xs (leb (countOf (length cs) * 8) (length xs))) e) ∙ ran-as w e (leb (countOf (length cs) * 8) (length xs))
 
 pub library : Library
 library =
@@ -364,6 +330,11 @@ library =
       grants = grants;
       any-fuel = any-fuel;
       kept = kept;
+      told = told;
+      answered = answered;
+      not-begun = not-begun;
+      not-run = not-run;
+      no-room = no-room;
       no-call = no-call;
       unchanged = unchanged;
       untested = not-passed;
@@ -371,4 +342,5 @@ library =
       no-fault = no-fault;
       passing = passing;
       looks = looks;
+      unseen = unseen;
     }

@@ -1,29 +1,32 @@
 -- What a program that links the library may rely on, from one call to the next. The functions are those of boundary/specs/Host.antt, each
 -- equal to its code; a call's words, as all lent words, have 64 bits.
-use Prim.Native.Nat.{ℕ, _-_, _*_, _≤_}
+use Prim.Native.Nat.{ℕ, _-_, _*_, _≤_, _<_}
 use mathlib.Core.Path.{_≡_}
 use mathlib.Core.Bool.{true, false}
 use mathlib.Core.Logic.{_⊎_}
-use mathlib.Core.List.{List}
+use mathlib.Core.List.{List, [], _∷_}
 use lib.ListN.{length, getD}
-use Rattle.lists.specs.Parts.{part}
+use Rattle.lists.specs.Chunks.{words}
+use Rattle.lists.specs.Parts.{part, splice}
 use Rattle.heap.specs.Fault.{numberOf}
 use Rattle.heap.specs.declared.fault.Fault.{Fault}
 use Rattle.model.specs.Lists.{each, among}
+use Rattle.model.specs.Answer as Said
 use Rattle.model.specs.Call.{isWord, Operation}
 use Rattle.model.specs.declared.call.Op.{Op}
 use Rattle.model.specs.declared.call.Answer.{Answer}
 use Rattle.words.specs.Words.{sizesOf}
 use Rattle.words.specs.Decode.{setupOf}
 use Rattle.calls.specs.Call.{opOf}
+use Rattle.calls.specs.Answer.{answerWords}
 use Rattle.calls.specs.declared.call.Read.{Read}
 use Rattle.claims.specs.Engine.{run}
 use Rattle.lent.specs.Step.{looked, Call, SetUp, Do, step}
 use Rattle.lent.specs.Sentences.{unchanging, NoSuchFault}
 use Rattle.lent_claims.specs.Engine.{outer}
-use Rattle.run.specs.Run.{countOf, callsIn}
+use Rattle.run.specs.Run.{runWords, countOf, callsIn}
 use Rattle.boundary.specs.Words.{sizesIn}
-use Rattle.boundary.specs.Host.{Host, host, stateOf, tested, tells, keptIn, callIn, Granted, lookIn, setUpIn, runHost}
+use Rattle.boundary.specs.Host.{Host, host, stateOf, tested, gave, tells, keptIn, callIn, Granted, saw, lookIn, setUpIn, runHost}
 use Rattle.boundary_claims.specs.Batch.{Calls}
 
 -- an unwind of a fault that is none of 01's, in words or in its operand
@@ -46,6 +49,11 @@ pub record Library : Type 0 where
   pub calls : (h : Host) (o : Operation) (xs : List ℕ) → tested h ≡ true → 8 ≤ length xs → stateOf (callIn h (Read.Is (o .op)) xs .host) ≡ step (stateOf h) (Do o) .state
   pub runs : (h : Host) (cs xs : List ℕ) (ks : List Call) → tested h ≡ true → countOf (length cs) * 8 ≤ length xs → Calls (callsIn (countOf (length cs)) cs) ks
       → stateOf (runHost h cs xs .host) ≡ run outer (stateOf h) ks
+  -- and answers what it answers: eight words each, over those of the caller, and its number; a run's is 0
+  pub told : (h : Host) (o : Operation) (xs : List ℕ) → tested h ≡ true → 8 ≤ length xs
+      → let a = step (stateOf h) (Do o) .answer in (callIn h (Read.Is (o .op)) xs .answer ≡ splice xs 0 (answerWords a)) × (callIn h (Read.Is (o .op)) xs .number ≡ Said.numberOf a)
+  pub answered : (h : Host) (cs xs : List ℕ) → tested h ≡ true → countOf (length cs) * 8 ≤ length xs
+      → let told′ = runWords (stateOf h) (callsIn (countOf (length cs)) cs) .answers in (runHost h cs xs .answer ≡ splice xs 0 (words answerWords told′)) × (runHost h cs xs .number ≡ 0)
   -- a machine that an accepted set-up leaves passes the test, and every function leaves one that passes as one that passes
   pub begun : (h : Host) (given xs : List ℕ) → setUpIn h given xs .number ≡ 0 → tested (setUpIn h given xs .host) ≡ true
   pub called : (h : Host) (ws xs : List ℕ) → each isWord ws ≡ true → tested h ≡ true → tested (callIn h (opOf ws) xs .host) ≡ true
@@ -61,6 +69,10 @@ pub record Library : Type 0 where
   pub no-call : (h : Host) (ws xs : List ℕ) (f : Fault) → tested h ≡ true → 8 ≤ length xs → opOf ws ≡ Read.Not f → callIn h (opOf ws) xs ≡ tells h (Answer.Refused f) xs
   -- 01: "11, 12, 13, 15, 16 change no word": of the machine's 25 and the fuel's four neither
   pub unchanged : (h : Host) (ws xs : List ℕ) → each isWord ws ≡ true → among (callIn h (opOf ws) xs .number) unchanging ≡ true → callIn h (opOf ws) xs .host ≡ h
+  -- nor a set-up or a run that is not made; where the answer does not fit, its words neither
+  pub not-begun : (h : Host) (given xs : List ℕ) → (setUpIn h given xs .number ≡ 0 → ⊥) → setUpIn h given xs .host ≡ h
+  pub not-run : (h : Host) (cs xs : List ℕ) → (runHost h cs xs .number ≡ 0 → ⊥) → runHost h cs xs .host ≡ h
+  pub no-room : (h : Host) (r : Read) (xs : List ℕ) → length xs < 8 → callIn h r xs ≡ gave h xs 14
   -- 11 exactly if the machine does not pass, or an unwind gets no such fault
   pub untested : (h : Host) (r : Read) (xs : List ℕ) → tested h ≡ false → 8 ≤ length xs → callIn h r xs .number ≡ 11
   pub eleven : (h : Host) (ws xs : List ℕ) → each isWord ws ≡ true → callIn h (opOf ws) xs .number ≡ 11 → (tested h ≡ false) ⊎ NoFault (opOf ws)
@@ -69,3 +81,4 @@ pub record Library : Type 0 where
   -- the words of the stack between the two places that a look writes are what a look hands back
   pub looks : (h : Host) (zs : List ℕ) → tested h ≡ true → 2 ≤ length zs
       → let span = lookIn h zs .span in part (getD span 0 0) (getD span 1 0 - getD span 0 0) (h .words .stack) ≡ looked (stateOf h)
+  pub unseen : (h : Host) (zs : List ℕ) → tested h ≡ false → 2 ≤ length zs → lookIn h zs ≡ saw (splice zs 0 (0 ∷ 0 ∷ [])) 11

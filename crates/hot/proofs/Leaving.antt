@@ -79,11 +79,11 @@ module _ (l : Sizes) (M : Lent) (m : Machine) (f : Fuel) (w : World) (rep : Rep 
   pub slot : i * 20 + 20 ≤ length (M .slots)
   slot = stands-words (m .count) (M .slots) (a .coro) i (may .found) (rep .slots .within)
 
-  pub before : Asleep.Before l M m f CoroState.Yielded dst payload keys w rep a (may .running) refl (may .floor) i c found snd
-  before = Asleep.before l M m f CoroState.Yielded dst payload keys w rep a (may .running) refl (may .floor) i c found snd
+  pub before : Asleep.Before l M m f CoroState.Yielded dst payload keys w rep a (may .running) refl (may .floor) i c found base refl snd
+  before = Asleep.before l M m f CoroState.Yielded dst payload keys w rep a (may .running) refl (may .floor) i c found base refl snd
 
   pub leave-fit : Room (w .setup) M → LeaveFit (M .stack) (M .frames) (M .savedStack) (M .savedFrames) m l (c .row) (a .floor) base
-  leave-fit room = Asleep.leave-fit l M m f CoroState.Yielded dst payload keys w rep a (may .running) refl (may .floor) i c found snd room
+  leave-fit room = Asleep.leave-fit l M m f CoroState.Yielded dst payload keys w rep a (may .running) refl (may .floor) i c found base refl snd room
 
   -- by the numbers that the code read
   pub fits-as : (row floor b : ℕ) → row ≡ c .row → floor ≡ a .floor → b ≡ base → Room (w .setup) M → LeaveFit (M .stack) (M .frames) (M .savedStack) (M .savedFrames) m l row floor b
@@ -106,7 +106,7 @@ module _ (l : Sizes) (M : Lent) (m : Machine) (f : Fuel) (w : World) (rep : Rep 
         let ws = chunkAt 20 (M .slots) i in
         let n = length-chunk 20 i (M .slots) slot in
         let same = naps regs deep dst payload key largest ws (omega arith) (may .unclosed) (may .wide) (may .deep) in
-        Asleep.accepted l M m f CoroState.Yielded dst payload keys w rep a (may .running) refl (may .floor) i c found snd stack′ frames′ chain′ slots′ savedStack′ savedFrames′
+        Asleep.accepted l M m f CoroState.Yielded dst payload keys w rep a (may .running) refl (may .floor) i c found base refl snd stack′ frames′ chain′ slots′ savedStack′ savedFrames′
         (charged l M m f w rep snd c regs deep (may .wide) (may .deep)) (asleep CoroState.Yielded regs deep dst payload keys c) (shrunk m base (a .floor) (m .used)) (Event.Yielded payload key) refl
         (paid l M m f w rep snd c regs deep (may .wide) (may .deep)) moves pop refl (mark ∙ ap (λ (y : List ℕ). putChunk 20 (M .slots) i y) same)
         (yielded CoroState.Yielded payload (c .closing) key refl (ap isSet (may .unclosed)))

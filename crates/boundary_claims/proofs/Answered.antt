@@ -1,0 +1,130 @@
+-- What the functions answer, and what they leave where they do not do what was asked.
+use Prim.Native.Nat.{ℕ, _*_, _≤_, _<_}
+use mathlib.Core.Path.{_≡_, refl, sym, ap, ap₂, _∙_}
+use mathlib.Core.Bool.{Bool, true, false, _&&_}
+use mathlib.Core.List.{List, [], _∷_}
+use lib.ListN.{length}
+use lib.Dec.{leb}
+use borrow.Author.Tests.{le-leb, lt-leb}
+use Rattle.lists.specs.Pick.{pick, pick-false}
+use Rattle.lists.specs.Chunks.{words}
+use Rattle.lists.specs.Parts.{splice}
+use Rattle.heap.specs.declared.fault.Fault.{Fault}
+use Rattle.model.specs.Answer.{numberOf}
+use Rattle.model.specs.Frames.{topBase}
+use Rattle.model.specs.Call.{Operation}
+use Rattle.model.specs.declared.call.Answer.{Answer}
+use Rattle.calls.specs.Answer.{answerWords}
+use Rattle.calls.specs.declared.call.Read.{Read}
+use Rattle.added.specs.Look.{endOn}
+use Rattle.lent.specs.Step.{isSound, decoded, setUpOk, Do, step}
+use Rattle.run.specs.Run.{Ran, runWords, countOf, callsIn, written, refusals, RunLeft, ends, runIn}
+use Rattle.boundary.specs.Host.{Host, stateOf, tested, Gave, gave, tells, over, doIn, keptIn, callIn, freshIn, setUpIn, Looked, saw, lookIn, runHost}
+use Rattle.boundary.proofs.Hosts.{sound, done}
+use Rattle.boundary.proofs.Hosts as Hosts
+
+-- ---- a call
+
+pub kept : (h : Host) (r : Read) (xs : List ℕ) → tested h ≡ true → 8 ≤ length xs → keptIn h r xs ≡ callIn h r xs
+kept h r xs e w = Hosts.called h r xs (keptIn h r xs) w true (sym e) (done h r xs (keptIn h r xs) true refl refl)
+
+pub told : (h : Host) (o : Operation) (xs : List ℕ) → tested h ≡ true → 8 ≤ length xs
+    → let a = step (stateOf h) (Do o) .answer in (callIn h (Read.Is (o .op)) xs .answer ≡ splice xs 0 (answerWords a)) × (callIn h (Read.Is (o .op)) xs .number ≡ numberOf a)
+told h o xs e w = let p = sym (kept h (Read.Is (o .op)) xs e w) in (ap (λ (g : Gave). g .answer) p, ap (λ (g : Gave). g .number) p)
+
+pub no-room : (h : Host) (r : Read) (xs : List ℕ) → length xs < 8 → callIn h r xs ≡ gave h xs 14
+unfolding callIn
+no-room h r xs w = ap (λ b. pick b (doIn (tested h) h r xs) (gave h xs 14)) (lt-leb 8 (length xs) w) ∙ pick-false (doIn (tested h) h r xs) (gave h xs 14)
+
+-- ---- a look
+
+-- by room for the two places, and by the test
+abbrev looked-by : Host → List ℕ → Bool → Bool → Looked
+looked-by h zs room ok =
+    let w = decoded (stateOf h) in
+    pick room (pick ok (saw (splice zs 0 (topBase (w .frames) ∷ endOn (w .frames) (w .stack) ∷ [])) 0) (saw (splice zs 0 (0 ∷ 0 ∷ [])) 11)) (saw zs 14)
+
+look-is : (h : Host) (zs : List ℕ) → lookIn h zs ≡ looked-by h zs (leb 2 (length zs)) (tested h)
+unfolding lookIn
+look-is h zs = refl
+
+sees-nothing : (h : Host) (zs : List ℕ) → looked-by h zs true false ≡ saw (splice zs 0 (0 ∷ 0 ∷ [])) 11
+unfolding pick
+sees-nothing h zs = refl
+
+pub unseen : (h : Host) (zs : List ℕ) → tested h ≡ false → 2 ≤ length zs → lookIn h zs ≡ saw (splice zs 0 (0 ∷ 0 ∷ [])) 11
+unseen h zs e w = look-is h zs ∙ ap₂ (looked-by h zs) (le-leb 2 (length zs) w) e ∙ sees-nothing h zs
+
+-- ---- a set-up
+
+-- by room for the answer, for numbers and fuel, and by the set-up's own test
+abbrev pub begun-by : Host → List ℕ → List ℕ → Bool → Bool → Bool → Gave
+begun-by h given xs room long ok =
+    let no = tells h (Answer.Refused Fault.Unsound) xs in
+    pick room (pick long (pick ok (tells (freshIn h given) Answer.Accepted xs) no) no) (gave h xs 14)
+
+abbrev pub long-in : Host → Bool
+long-in h = leb 25 (length (h .machine)) && leb 4 (length (h .fuel))
+
+pub set-up-is : (h : Host) (given xs : List ℕ) → setUpIn h given xs ≡ begun-by h given xs (leb 8 (length xs)) (long-in h) (setUpOk given (h .words))
+unfolding setUpIn
+set-up-is h given xs = refl
+
+not-begun-by : (h : Host) (given xs : List ℕ) (room long ok : Bool) → (begun-by h given xs room long ok .number ≡ 0 → ⊥) → begun-by h given xs room long ok .host ≡ h
+unfolding pick
+not-begun-by h given xs false long ok n = refl
+not-begun-by h given xs true false ok n = refl
+not-begun-by h given xs true true false n = refl
+not-begun-by h given xs true true true n = absurd (n refl)
+
+pub not-begun : (h : Host) (given xs : List ℕ) → (setUpIn h given xs .number ≡ 0 → ⊥) → setUpIn h given xs .host ≡ h
+not-begun h given xs n =
+    let p = set-up-is h given xs in
+    ap (λ (g : Gave). g .host) p
+    ∙ not-begun-by h given xs (leb 8 (length xs)) (long-in h) (setUpOk given (h .words)) (λ z. n (ap (λ (g : Gave). g .number) p ∙ z))
+
+-- ---- a run
+
+module _ (h : Host) (cs xs : List ℕ) where
+  abbrev pub count : ℕ
+  count = countOf (length cs)
+
+  abbrev pub all : Ran
+  all = runWords (stateOf h) (callsIn count cs)
+
+  abbrev pub made : Bool → RunLeft
+  made room =
+      pick room (record { state = all .state; answers = written xs 0 (all .answers); number = ends (isSound (stateOf h)) }) (record { state = stateOf h; answers = xs; number = 14 })
+
+  -- by room for the answers, and by the test
+  abbrev pub ran-by : Bool → Bool → Gave
+  ran-by room ok =
+      let t = made room in
+      pick room (pick ok (gave (over h (t .state)) (t .answers) (t .number)) (gave h (written xs 0 (refusals count)) 11)) (gave h xs 14)
+
+  pub run-is : runHost h cs xs ≡ ran-by (leb (count * 8) (length xs)) (tested h)
+  unfolding runHost runIn
+  run-is = refl
+
+  all-done : ran-by true true ≡ gave (over h (all .state)) (written xs 0 (all .answers)) (ends (isSound (stateOf h)))
+  unfolding pick
+  all-done = refl
+
+  ends-0 : tested h ≡ true → ends (isSound (stateOf h)) ≡ 0
+  unfolding pick
+  ends-0 e = ap ends (sound h e)
+
+  pub answered : tested h ≡ true → count * 8 ≤ length xs → (runHost h cs xs .answer ≡ splice xs 0 (words answerWords (all .answers))) × (runHost h cs xs .number ≡ 0)
+  answered e w =
+      let p = run-is ∙ ap₂ ran-by (le-leb (count * 8) (length xs) w) e ∙ all-done in
+      (ap (λ (g : Gave). g .answer) p, ap (λ (g : Gave). g .number) p ∙ ends-0 e)
+
+  not-run-by : (room ok : Bool) → tested h ≡ ok → (ran-by room ok .number ≡ 0 → ⊥) → ran-by room ok .host ≡ h
+  unfolding pick
+  not-run-by false ok e n = refl
+  not-run-by true false e n = refl
+  not-run-by true true e n = absurd (n (ends-0 e))
+
+  pub not-run : (runHost h cs xs .number ≡ 0 → ⊥) → runHost h cs xs .host ≡ h
+  not-run n =
+      ap (λ (g : Gave). g .host) run-is ∙ not-run-by (leb (count * 8) (length xs)) (tested h) refl (λ z. n (ap (λ (g : Gave). g .number) run-is ∙ z))
