@@ -12,6 +12,7 @@ use Rattle.model.specs.State.{isSuspended}
 use Rattle.model.specs.Program.{setupOk}
 use Rattle.model.specs.World.{World, fresh}
 use Rattle.model.specs.Frames.{onTop, setPc, stepPc, raise, lower, topBase}
+use Rattle.model.specs.Heap.{coro}
 use Rattle.model.specs.Gate.{refused}
 use Rattle.model.specs.Added.{accepted}
 use Rattle.model.specs.Answer.{numberOf}
@@ -19,10 +20,10 @@ use Rattle.model.specs.Call.{Call, SetUp, Do}
 use Rattle.model.specs.Step as M
 use Rattle.model.specs.Step.{step, told}
 use Rattle.model.specs.declared.machine.Frame.{Frame}
-use Rattle.claims.specs.Engine.{run}
+use Rattle.claims.specs.Engine.{run, isNew, is}
 use Rattle.claims.specs.Says.{Does, doing, Sent, nothing, gets, closes}
 use Rattle.claims.specs.Held as H
-use Rattle.claims.specs.Held.{at, AllMoved, pcOf, waitsIn, stepped, into, given, closedBy, By, Entered, Restored}
+use Rattle.claims.specs.Held.{at, AllMoved, savedWords, savedFrames, pcOf, waitsIn, stepped, into, given, closedBy, By, Entered, Restored}
 use Rattle.claims.specs.Demand3 as D
 use Rattle.claims.specs.Steps.{viewOf, opOf, steps}
 use Rattle.claims.proofs.Entry as E
@@ -30,6 +31,7 @@ use Rattle.claims.proofs.Entry.{act, pcBy}
 use Rattle.claims.proofs.Held.{Seat, coreIn, coreAt, wordsWith, framesWith}
 use Rattle.claims.proofs.Split.{next, Suspends, Enters, restarts, Waits}
 use Rattle.claims.proofs.Cores.{no-both}
+use Rattle.claims.proofs.Begins.{new-unsent, regs-saved, frames-saved, all-raised}
 use Rattle.claims.proofs.Events.{run-susp, suspended-one, no-entry}
 use Rattle.claims.proofs.Under.{lift-with}
 use Rattle.claims.proofs.Enters.{set-append-at}
@@ -90,7 +92,15 @@ entered-at c w (Do o) z t =
       floor = b .floor;
       chain = t .enter .chain;
       closing = closer-at z c ∙ t .enter .closing ∙ ap (closedBy (t .sent)) (sym (closer-at w c));
+      new-words = λ n. t .enter .stack ∙ ap (λ x. w .stack ++ wordsWith x (coreAt w c)) (unsent n) ∙ ap (λ (xs : List ℕ). w .stack ++ xs) (regs-saved (coro w c))
+          ∙ ap (λ x. given x (z .frames) 0 (w .stack ++ savedWords (viewOf w .coro c))) (sym (unsent n));
+      new-frames = λ n. subst (AllMoved 0 (length (w .stack)) (savedFrames (viewOf w .coro c)))
+          (ap (map (raise (length (w .stack)))) (sym (frames-saved (coro w c))) ∙ ap (λ x. map (raise (length (w .stack))) (framesWith x (coreAt w c))) (sym (unsent n)) ∙ b .frames)
+          (all-raised (length (w .stack)) (savedFrames (viewOf w .coro c)));
     }
+  where
+    unsent : is (viewOf w) isNew c ≡ true → t .sent ≡ nothing
+    unsent = new-unsent (viewOf w) (opOf (Do o)) c (t .driver) (t .sent) (pcBy (act w (o .op))) (entry-by c w (Do o) z t .says)
 
 -- ---- what a suspending call finds
 
