@@ -27,7 +27,7 @@ whose : Option Entry → ℕ
 whose none = 0
 whose (some e) = e .coro
 
-what : Option Entry → Sent
+unfoldable pub what : Option Entry → Sent
 what none = nothing
 what (some e) = e .sent
 

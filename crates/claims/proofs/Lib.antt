@@ -26,6 +26,7 @@ pub mod Views
 pub mod Whom
 pub mod Bodies
 pub mod Restores
+pub mod EntryNumbers
 pub mod Finishes
 pub mod Untouched
 pub mod Escapes
