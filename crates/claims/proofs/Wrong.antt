@@ -28,7 +28,7 @@ use Rattle.claims.specs.Witness.{nth, between, frame}
 use Rattle.claims.specs.Wrong.{bent, onTop, tail, ofZero, discards, bare, atOne, further, higher, once, begun, greeted, late, Wrong}
 use Rattle.claims.proofs.Premises.{waits-true}
 use Rattle.claims.proofs.Cores.{no-both}
-use Rattle.claims.proofs.WrongEvents.{always-refused, return-fails, no-cleanup, closing-forgotten, failure-returns, await-yields, excused, close-pays, result-changes, aborted, renewed, comes-failed, fuel-stays, all-shown}
+use Rattle.claims.proofs.WrongEvents.{always-refused, return-fails, no-cleanup, closing-forgotten, failure-returns, await-yields, excused, throw-lost, close-pays, result-changes, aborted, renewed, comes-failed, fuel-stays, all-shown}
 
 abbrev first : List ℕ → ℕ
 first [] = 0
@@ -269,6 +269,7 @@ wrong =
       new-at-pc-1 = new-at-pc-1;
       await-yields = await-yields;
       excused = excused;
+      throw-lost = throw-lost;
       close-pays = close-pays;
       result-changes = result-changes;
       aborted = aborted;

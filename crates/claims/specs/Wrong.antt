@@ -152,6 +152,19 @@ excusing =
       look = looks;
     }
 
+-- every entry answers 0: a word that is thrown into a sleeper is lost
+abbrev pub muting : Engine
+muting =
+    record {
+      State = World;
+      Call = Call;
+      op = opOf;
+      view = viewOf;
+      next = λ w k. step w k .world;
+      number = λ w k. pick (ltb (length (w .chain)) (length (step w k .world .chain))) 0 (numberOf (step w k .answer));
+      look = looks;
+    }
+
 -- who returns while it is being closed has the result 5
 abbrev pub paying : List Active → World → World → World
 paying [] w z = z
@@ -207,6 +220,7 @@ pub record Wrong : Type 0 where
   pub new-at-pc-1 : Demand3 (begun late) → ⊥
   pub await-yields : Events yielding → ⊥
   pub excused : Events excusing → ⊥
+  pub throw-lost : Events muting → ⊥
   pub close-pays : Events closing → ⊥
   pub result-changes : Events (rewriting c) → ⊥
   pub aborted : Events (aborting c) → ⊥
