@@ -16,7 +16,7 @@ use Rattle.model.specs.declared.machine.Frame.{Frame}
 use Rattle.model.specs.declared.call.Op.{Op}
 use Rattle.claims.specs.Engine.{Seen, View, isNew, sleeps, seenIn, is}
 use Rattle.claims.specs.Says.{Sent, nothing, gets, closes, Aim, enter, suspend, neither, Does, instr, hosts, finishes, raises, other, doing, Entry, entry, fits, named, cleaned, banked, orElse, charged, whomBy, whom}
-use Rattle.claims.specs.Held.{AllMoved, savedWords, savedFrames}
+use Rattle.claims.specs.Held.{AllMoved}
 use Rattle.claims.specs.Steps.{seenOf}
 use Rattle.claims.proofs.Held.{coreIn}
 use Rattle.claims.proofs.Cores.{and-left}
@@ -94,13 +94,31 @@ module _ (v : View) where
 
 -- ---- what it was made with
 
-pub regs-saved : (x : Coroutine) → coreIn x .regs ≡ savedWords (seenOf x)
+savedWords : Option Seen → List ℕ
+savedWords none = []
+savedWords (some x) = x .words
+
+savedFrames : Option Seen → List Frame
+savedFrames none = []
+savedFrames (some x) = x .frames
+
+regs-saved : (y : Coroutine) → coreIn y .regs ≡ savedWords (seenOf y)
+unfolding savedWords
 regs-saved Absent = refl
 regs-saved (Is k r) = refl
 
-pub frames-saved : (x : Coroutine) → coreIn x .frames ≡ savedFrames (seenOf x)
+pub regs-seen : (y : Coroutine) (x : Seen) → seenOf y ≡ some x → coreIn y .regs ≡ x .words
+unfolding savedWords
+regs-seen y x e = regs-saved y ∙ ap savedWords e
+
+frames-saved : (y : Coroutine) → coreIn y .frames ≡ savedFrames (seenOf y)
+unfolding savedFrames
 frames-saved Absent = refl
 frames-saved (Is k r) = refl
+
+pub frames-seen : (y : Coroutine) (x : Seen) → seenOf y ≡ some x → coreIn y .frames ≡ x .frames
+unfolding savedFrames
+frames-seen y x e = frames-saved y ∙ ap savedFrames e
 
 pub all-raised : (h : ℕ) (fs : List Frame) → AllMoved 0 h fs (map (raise h) fs)
 all-raised h [] = tt

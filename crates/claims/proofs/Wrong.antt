@@ -8,6 +8,7 @@ use mathlib.Core.List.{List, [], _∷_, _++_, map, append-assoc}
 use mathlib.Core.Option.{Option, none, some}
 use lib.ListN.{length, getD, take, length-append}
 use lib.Seq.{take-append-seam}
+use Rattle.heap.specs.declared.object.CoroState.{CoroState}
 use Rattle.model.specs.World.{World, fresh}
 use Rattle.model.specs.Call.{Call, typed, asCall}
 use Rattle.model.specs.Step as M
@@ -16,9 +17,9 @@ use Rattle.model.specs.declared.machine.Cont.{Cont}
 use Rattle.model.specs.declared.machine.Active.{Active}
 use Rattle.model.specs.declared.machine.Frame.{Frame}
 use Rattle.model.specs.declared.call.Op.{Op}
-use Rattle.claims.specs.Engine.{View, run, isNew, is}
+use Rattle.claims.specs.Engine.{Seen, View, run, isNew}
 use Rattle.claims.specs.Says.{Sent, nothing, Entry, doing, whom}
-use Rattle.claims.specs.Held.{at, Moved, AllMoved, pcOf, savedWords, savedFrames, stepped, given, Entered, Restored}
+use Rattle.claims.specs.Held.{at, Moved, AllMoved, pcOf, stepped, given, Entered, Restored}
 use Rattle.claims.specs.Demand3.{Demand3}
 use Rattle.claims.specs.Premises.{runsIn, sleepsIn, waits}
 use Rattle.claims.specs.Steps.{viewOf, opOf}
@@ -229,24 +230,28 @@ resume-typed = refl
 abbrev resume : Call
 resume = asCall (Op.Resume 2 1 0 2) resume-typed
 
--- nothing is sent to it: the word at place i, and the pc
-module _ {w : View} {y : Option Op} {z : View} (t : Entered w y c z) (n : is w isNew c ≡ true) (e : sentIn (whom w y) ≡ nothing) where
-  word-at : (i : ℕ) → getD (z .stack) i 0 ≡ getD (w .stack ++ savedWords (w .coro c)) i 0
-  word-at i = ap (λ xs. getD xs i 0) (t .new-words n) ∙ ap (λ s. getD (given s (z .frames) 0 (w .stack ++ savedWords (w .coro c))) i 0) (ap sentIn (sym (t .by .says)) ∙ e)
+-- what is seen of it
+abbrev fresh-one : Seen
+fresh-one = record { state = CoroState.Created; words = 0 ∷ 0 ∷ 0 ∷ 0 ∷ []; frames = frame 0 0 0 0 Cont.Coro ∷ []; mostWords = 4; mostFrames = 1; closing = false; signal = 0; result = 0 }
 
-  pcs : map pcIn (z .frames) ≡ map pcIn (savedFrames (w .coro c)) ++ map pcIn (at (t .by .pc) (w .frames))
+-- nothing is sent to it: the word at place i, and the pc
+module _ {w : View} {y : Option Op} {z : View} (t : Entered w y c z) (x : Seen) (h : w .coro c ≡ some x) (n : isNew (x .state) ≡ true) (e : sentIn (whom w y) ≡ nothing) where
+  word-at : (i : ℕ) → getD (z .stack) i 0 ≡ getD (w .stack ++ x .words) i 0
+  word-at i = ap (λ xs. getD xs i 0) (t .new-words x h n) ∙ ap (λ s. getD (given s (z .frames) 0 (w .stack ++ x .words)) i 0) (ap sentIn (sym (t .by .says)) ∙ e)
+
+  pcs : map pcIn (z .frames) ≡ map pcIn (x .frames) ++ map pcIn (at (t .by .pc) (w .frames))
   pcs =
       let mine = t .over ++ (t .body ∷ []) in
       ap (map pcIn) (t .frames ∙ sym (append-assoc (t .over) (t .body ∷ []) (at (t .by .pc) (w .frames)))) ∙ map-append pcIn mine (at (t .by .pc) (w .frames))
-      ∙ ap (λ l. l ++ map pcIn (at (t .by .pc) (w .frames))) (all-alike pcIn pcIn (pc-alike 0 (length (w .stack))) (savedFrames (w .coro c)) mine (t .new-frames n))
+      ∙ ap (λ l. l ++ map pcIn (at (t .by .pc) (w .frames))) (all-alike pcIn pcIn (pc-alike 0 (length (w .stack))) (x .frames) mine (t .new-frames x h n))
 
 new-gets-a-word : Demand3 (begun greeted) → ⊥
 unfolding computed waiting
-new-gets-a-word d = let q : _≡_ {A = ℕ} 5 0 = word-at (d .entered c waiting resume (record { before = refl; after = refl })) refl refl 4 in absurd (omega (arith, q))
+new-gets-a-word d = let q : _≡_ {A = ℕ} 5 0 = word-at (d .entered c waiting resume (record { before = refl; after = refl })) fresh-one refl refl refl 4 in absurd (omega (arith, q))
 
 new-at-pc-1 : Demand3 (begun late) → ⊥
 unfolding computed waiting
-new-at-pc-1 d = let q : _≡_ {A = ℕ} 1 0 = ap first (pcs (d .entered c waiting resume (record { before = refl; after = refl })) refl refl) in absurd (omega (arith, q))
+new-at-pc-1 d = let q : _≡_ {A = ℕ} 1 0 = ap first (pcs (d .entered c waiting resume (record { before = refl; after = refl })) fresh-one refl refl refl) in absurd (omega (arith, q))
 
 -- NONE OF THEM
 pub wrong : Wrong

@@ -94,15 +94,6 @@ closedBy nothing m = m
 closedBy (gets x) m = m
 closedBy (closes x) m = some x
 
--- what a coroutine has saved
-abbrev pub savedWords : Option Seen → List ℕ
-savedWords none = []
-savedWords (some x) = x .words
-
-abbrev pub savedFrames : Option Seen → List Frame
-savedFrames none = []
-savedFrames (some x) = x .frames
-
 -- what is sent: a step of the pc, and the word in the register r of the top frame
 abbrev pub stepped : Sent → ℕ → ℕ
 stepped nothing p = p
@@ -128,8 +119,8 @@ pub record Entered (w : View) (k : Option Op) (c : ℕ) (z : View) : Type 0 wher
   pub closing : closer (z .coro c) ≡ closedBy (by .sent) (closer (w .coro c))
   -- 01: "A Created one ignores the sent word.": it begins with the words and frames that it was made with; a word sent would be in its
   -- first register
-  pub new-words : is w isNew c ≡ true → z .stack ≡ given (by .sent) (z .frames) 0 (w .stack ++ savedWords (w .coro c))
-  pub new-frames : is w isNew c ≡ true → AllMoved 0 (length (w .stack)) (savedFrames (w .coro c)) (over ++ (body ∷ []))
+  pub new-words : (x : Seen) → w .coro c ≡ some x → isNew (x .state) ≡ true → z .stack ≡ given (by .sent) (z .frames) 0 (w .stack ++ x .words)
+  pub new-frames : (x : Seen) → w .coro c ≡ some x → isNew (x .state) ≡ true → AllMoved 0 (length (w .stack)) (x .frames) (over ++ (body ∷ []))
 
 -- x at v suspended c, and y at w enters it and leaves z: what x found, moved from its Coro frame's base to the caller's height
 pub record Restored (v : View) (x : Option Op) (w : View) (y : Option Op) (c : ℕ) (z : View) : Type 0 where
