@@ -12,6 +12,7 @@ use Rattle.claims.specs.Demand3.{Demand3}
 use Rattle.claims.specs.Events as Said
 use Rattle.claims.specs.Events.{suspended, returned, Events}
 use Rattle.claims.specs.Steps.{viewOf, opOf, steps}
+use Rattle.claims.proofs.EntryNumbers.{entry-answers}
 use Rattle.claims.proofs.Acceptance.{exactly}
 use Rattle.claims.proofs.Restores as Restores
 use Rattle.claims.proofs.Restores.{enters-old, suspends-old}
@@ -47,6 +48,7 @@ events =
     record {
       enters = λ c w k h. Restores.entered c w k h .by;
       entered = entered;
+      answered = entry-answers;
       suspends = suspends;
       suspended = suspended-by;
       returns = returns;

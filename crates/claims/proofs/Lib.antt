@@ -14,6 +14,7 @@ pub mod Quiet
 pub mod Enters
 pub mod Instr
 pub mod Arms
+pub mod Begins
 pub mod Deliver
 pub mod Switches
 pub mod Endings
@@ -25,6 +26,7 @@ pub mod Views
 pub mod Whom
 pub mod Bodies
 pub mod Restores
+pub mod EntryNumbers
 pub mod Finishes
 pub mod Untouched
 pub mod Escapes

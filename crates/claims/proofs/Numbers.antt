@@ -150,7 +150,7 @@ await-number pc dst src v there = go (v .chain)
 
 -- ---- the instruction
 
-step-number : (n : ℕ) (s : Step) → numberOf (answerOf n s) ≡ stepNumber s
+pub step-number : (n : ℕ) (s : Step) → numberOf (answerOf n s) ≡ stepNumber s
 unfolding pick
 step-number n Step.Next = refl
 step-number n Step.Frame = refl

@@ -310,7 +310,7 @@ roomy-met =
         its-own = refl;
         chain = refl;
       };
-      seen = record { state = CoroState.Running; words = 0; frames = 0; mostWords = 4; mostFrames = 1; closing = false; signal = 0; result = 0 };
+      seen = record { state = CoroState.Running; words = []; frames = []; mostWords = 4; mostFrames = 1; closing = false; signal = 0; result = 0 };
       there = refl;
       grows = refl;
     }

@@ -4,6 +4,7 @@ use native.Mathlib.Omega.{arith}
 use mathlib.Core.Path.{_≡_, refl, sym, ap, _∙_, subst}
 use mathlib.Core.Bool.{Bool, true, false}
 use mathlib.Core.List.{List, [], _∷_, _++_, map, append-assoc}
+use mathlib.Core.Option.{some}
 use lib.ListN.{length, drop, set}
 use Rattle.lists.specs.Pick.{pick}
 use Rattle.heap.specs.declared.fault.Fault.{Fault}
@@ -12,6 +13,7 @@ use Rattle.model.specs.State.{isSuspended}
 use Rattle.model.specs.Program.{setupOk}
 use Rattle.model.specs.World.{World, fresh}
 use Rattle.model.specs.Frames.{onTop, setPc, stepPc, raise, lower, topBase}
+use Rattle.model.specs.Heap.{coro}
 use Rattle.model.specs.Gate.{refused}
 use Rattle.model.specs.Added.{accepted}
 use Rattle.model.specs.Answer.{numberOf}
@@ -19,17 +21,18 @@ use Rattle.model.specs.Call.{Call, SetUp, Do}
 use Rattle.model.specs.Step as M
 use Rattle.model.specs.Step.{step, told}
 use Rattle.model.specs.declared.machine.Frame.{Frame}
-use Rattle.claims.specs.Engine.{run}
+use Rattle.claims.specs.Engine.{Seen, run, isNew, seenIn}
 use Rattle.claims.specs.Says.{Does, doing, Sent, nothing, gets, closes}
 use Rattle.claims.specs.Held as H
 use Rattle.claims.specs.Held.{at, AllMoved, pcOf, waitsIn, stepped, into, given, closedBy, By, Entered, Restored}
 use Rattle.claims.specs.Demand3 as D
-use Rattle.claims.specs.Steps.{viewOf, opOf, steps}
+use Rattle.claims.specs.Steps.{seenOf, viewOf, opOf, steps}
 use Rattle.claims.proofs.Entry as E
 use Rattle.claims.proofs.Entry.{act, pcBy}
 use Rattle.claims.proofs.Held.{Seat, coreIn, coreAt, wordsWith, framesWith}
 use Rattle.claims.proofs.Split.{next, Suspends, Enters, restarts, Waits}
 use Rattle.claims.proofs.Cores.{no-both}
+use Rattle.claims.proofs.Begins.{new-unsent, regs-seen, frames-seen, all-raised}
 use Rattle.claims.proofs.Events.{run-susp, suspended-one, no-entry}
 use Rattle.claims.proofs.Under.{lift-with}
 use Rattle.claims.proofs.Enters.{set-append-at}
@@ -90,7 +93,15 @@ entered-at c w (Do o) z t =
       floor = b .floor;
       chain = t .enter .chain;
       closing = closer-at z c ∙ t .enter .closing ∙ ap (closedBy (t .sent)) (sym (closer-at w c));
+      new-words = λ x e n. t .enter .stack ∙ ap (λ y. w .stack ++ wordsWith y (coreAt w c)) (unsent x e n) ∙ ap (λ (xs : List ℕ). w .stack ++ xs) (regs-seen (coro w c) x e)
+          ∙ ap (λ y. given y (z .frames) 0 (w .stack ++ x .words)) (sym (unsent x e n));
+      new-frames = λ x e n. subst (AllMoved 0 (length (w .stack)) (x .frames))
+          (ap (map (raise (length (w .stack)))) (sym (frames-seen (coro w c) x e)) ∙ ap (λ y. map (raise (length (w .stack))) (framesWith y (coreAt w c))) (sym (unsent x e n)) ∙ b .frames)
+          (all-raised (length (w .stack)) (x .frames));
     }
+  where
+    unsent : (x : Seen) → seenOf (coro w c) ≡ some x → isNew (x .state) ≡ true → t .sent ≡ nothing
+    unsent x e n = new-unsent (viewOf w) (opOf (Do o)) c (t .driver) (t .sent) (pcBy (act w (o .op))) (entry-by c w (Do o) z t .says) (ap (seenIn (λ y. isNew (y .state))) e ∙ n)
 
 -- ---- what a suspending call finds
 

@@ -149,7 +149,7 @@ susp-of CoroState.Awaiting e = refl
 susp-of CoroState.Returned e = refl
 susp-of CoroState.Failed e = refl
 
-created-susp : (s : CoroState) → isCreated s ≡ true → isSuspended s ≡ false
+pub created-susp : (s : CoroState) → isCreated s ≡ true → isSuspended s ≡ false
 created-susp CoroState.Created e = refl
 created-susp CoroState.Running e = refl
 created-susp CoroState.Yielded e = sym e
@@ -243,7 +243,7 @@ refused-arm : {v z : World} {p c : ℕ} {d : Driver} {s : Sent} (may : Bool) →
 refused-arm {v} {c = c} {d = d} {s = s} true a t = a-works refl (ap (λ b. pick b (entry c d (sentTo (coro v c) s)) nobody) a ∙ pick-false (entry c d (sentTo (coro v c) s)) nobody) t
 refused-arm {v} {c = c} {d = d} {s = s} false a t = a-works refl (pick-false (entry c d (sentTo (coro v c) s)) nobody) t
 
-returned-not : (s : CoroState) → isReturned s ≡ true → isResumable s ≡ false
+pub returned-not : (s : CoroState) → isReturned s ≡ true → isResumable s ≡ false
 returned-not CoroState.Created e = sym e
 returned-not CoroState.Running e = refl
 returned-not CoroState.Yielded e = sym e

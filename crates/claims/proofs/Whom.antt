@@ -66,7 +66,7 @@ none-of true y z = refl
 none-of false y z = refl
 
 module _ (w : World) (h : sound w ≡ true) where
-  fits-as : (c : ℕ) (x : Coroutine) → coro w c ≡ x → seenIn (λ x. (isNew (x .state) || sleeps (x .state)) && leb (length (w .frames) + x .frames) (w .setup .limits .depth) && leb (length (w .stack) + x .words) (w .setup .limits .stack)) (seenOf x) ≡ acceptsAs x w
+  fits-as : (c : ℕ) (x : Coroutine) → coro w c ≡ x → seenIn (λ x. (isNew (x .state) || sleeps (x .state)) && leb (length (w .frames) + length (x .frames)) (w .setup .limits .depth) && leb (length (w .stack) + length (x .words)) (w .setup .limits .stack)) (seenOf x) ≡ acceptsAs x w
   fits-as c Absent e = refl
   fits-as c (Is k r) e = ap (λ b. b && leb (length (w .frames) + length (k .frames)) (w .setup .limits .depth) && leb (length (w .stack) + length (k .regs)) (w .setup .limits .stack)) (ready-state (k .state)) ∙ go (isResumable (k .state)) refl
     where

@@ -6,28 +6,30 @@ use mathlib.Core.Path.{_≡_, refl, sym, ap, _∙_, subst}
 use mathlib.Core.Bool.{Bool, true, false, not, _&&_}
 use mathlib.Core.List.{List, [], _∷_, _++_, map, append-assoc}
 use mathlib.Core.Option.{Option, none, some}
-use lib.ListN.{length, take, length-append}
+use lib.ListN.{length, getD, take, length-append}
 use lib.Seq.{take-append-seam}
+use Rattle.heap.specs.declared.object.CoroState.{CoroState}
 use Rattle.model.specs.World.{World, fresh}
+use Rattle.model.specs.Call.{Call, typed, asCall}
 use Rattle.model.specs.Step as M
 use Rattle.model.specs.Compute.{computed}
 use Rattle.model.specs.declared.machine.Cont.{Cont}
 use Rattle.model.specs.declared.machine.Active.{Active}
 use Rattle.model.specs.declared.machine.Frame.{Frame}
 use Rattle.model.specs.declared.call.Op.{Op}
-use Rattle.claims.specs.Engine.{View, run}
+use Rattle.claims.specs.Engine.{Seen, View, run, isNew}
 use Rattle.claims.specs.Says.{Sent, nothing, Entry, doing, whom}
-use Rattle.claims.specs.Held.{at, Moved, AllMoved, pcOf, stepped, Restored}
+use Rattle.claims.specs.Held.{at, Moved, AllMoved, pcOf, stepped, given, Entered, Restored}
 use Rattle.claims.specs.Demand3.{Demand3}
 use Rattle.claims.specs.Premises.{runsIn, sleepsIn, waits}
 use Rattle.claims.specs.Steps.{viewOf, opOf}
 use Rattle.claims.specs.Story as Story
 use Rattle.claims.specs.Story.{wide, c, held}
 use Rattle.claims.specs.Witness.{nth, between, frame}
-use Rattle.claims.specs.Wrong.{bent, onTop, tail, ofZero, discards, bare, atOne, further, higher, once, Wrong}
+use Rattle.claims.specs.Wrong.{bent, onTop, tail, ofZero, discards, bare, atOne, further, higher, once, begun, greeted, late, Wrong}
 use Rattle.claims.proofs.Premises.{waits-true}
 use Rattle.claims.proofs.Cores.{no-both}
-use Rattle.claims.proofs.WrongEvents.{always-refused, return-fails, no-cleanup, closing-forgotten, failure-returns, await-yields, excused, close-pays, result-changes, aborted, renewed, comes-failed, fuel-stays, all-shown}
+use Rattle.claims.proofs.WrongEvents.{always-refused, return-fails, no-cleanup, closing-forgotten, failure-returns, await-yields, excused, throw-lost, close-pays, result-changes, aborted, renewed, comes-failed, fuel-stays, all-shown}
 
 abbrev first : List ℕ → ℕ
 first [] = 0
@@ -215,6 +217,42 @@ unfolding computed
 rows-once d = more-frames (d .restored c (run once (fresh wide) (take 13 held)) (nth held 13) (between held 13 23) (nth held 23) (record { before = refl; after = refl })
     (waits-true once c (once .next (run once (fresh wide) (take 13 held)) (nth held 13)) (between held 13 23) refl) (record { before = refl; after = refl })) 3 refl refl
 
+-- ---- the first entry
+
+-- c is there, and has not begun
+waiting : World
+waiting = M.runOps (fresh wide) (Op.Grant 1000 ∷ Op.HostCall 0 ∷ Op.CoroNew 1 0 0 0 ∷ [])
+
+resume-typed : typed (Op.Resume 2 1 0 2) ≡ true
+unfolding typed
+resume-typed = refl
+
+abbrev resume : Call
+resume = asCall (Op.Resume 2 1 0 2) resume-typed
+
+-- what is seen of it
+abbrev fresh-one : Seen
+fresh-one = record { state = CoroState.Created; words = 0 ∷ 0 ∷ 0 ∷ 0 ∷ []; frames = frame 0 0 0 0 Cont.Coro ∷ []; mostWords = 4; mostFrames = 1; closing = false; signal = 0; result = 0 }
+
+-- nothing is sent to it: the word at place i, and the pc
+module _ {w : View} {y : Option Op} {z : View} (t : Entered w y c z) (x : Seen) (h : w .coro c ≡ some x) (n : isNew (x .state) ≡ true) (e : sentIn (whom w y) ≡ nothing) where
+  word-at : (i : ℕ) → getD (z .stack) i 0 ≡ getD (w .stack ++ x .words) i 0
+  word-at i = ap (λ xs. getD xs i 0) (t .new-words x h n) ∙ ap (λ s. getD (given s (z .frames) 0 (w .stack ++ x .words)) i 0) (ap sentIn (sym (t .by .says)) ∙ e)
+
+  pcs : map pcIn (z .frames) ≡ map pcIn (x .frames) ++ map pcIn (at (t .by .pc) (w .frames))
+  pcs =
+      let mine = t .over ++ (t .body ∷ []) in
+      ap (map pcIn) (t .frames ∙ sym (append-assoc (t .over) (t .body ∷ []) (at (t .by .pc) (w .frames)))) ∙ map-append pcIn mine (at (t .by .pc) (w .frames))
+      ∙ ap (λ l. l ++ map pcIn (at (t .by .pc) (w .frames))) (all-alike pcIn pcIn (pc-alike 0 (length (w .stack))) (x .frames) mine (t .new-frames x h n))
+
+new-gets-a-word : Demand3 (begun greeted) → ⊥
+unfolding computed waiting
+new-gets-a-word d = let q : _≡_ {A = ℕ} 5 0 = word-at (d .entered c waiting resume (record { before = refl; after = refl })) fresh-one refl refl refl 4 in absurd (omega (arith, q))
+
+new-at-pc-1 : Demand3 (begun late) → ⊥
+unfolding computed waiting
+new-at-pc-1 d = let q : _≡_ {A = ℕ} 1 0 = ap first (pcs (d .entered c waiting resume (record { before = refl; after = refl })) fresh-one refl refl refl) in absurd (omega (arith, q))
+
 -- NONE OF THEM
 pub wrong : Wrong
 wrong =
@@ -232,8 +270,11 @@ wrong =
       closing-forgotten = closing-forgotten;
       failure-returns = failure-returns;
       rows-once = rows-once;
+      new-gets-a-word = new-gets-a-word;
+      new-at-pc-1 = new-at-pc-1;
       await-yields = await-yields;
       excused = excused;
+      throw-lost = throw-lost;
       close-pays = close-pays;
       result-changes = result-changes;
       aborted = aborted;

@@ -19,7 +19,7 @@ use Rattle.model.specs.declared.machine.Fuel.{Fuel}
 use Rattle.model.specs.declared.call.OptPc.{OptPc}
 use Rattle.model.specs.declared.call.Op.{Op}
 use Rattle.claims.specs.Engine.{Seen, run, code, isNew, is}
-use Rattle.claims.specs.Says.{gets, closes}
+use Rattle.claims.specs.Says.{nothing, gets, closes}
 use Rattle.claims.specs.Delivery.{recorded}
 use Rattle.claims.specs.Events.{Healthy, thrown, escapes, Events}
 use Rattle.claims.specs.Promise.{SetUps, Looks}
@@ -27,7 +27,7 @@ use Rattle.claims.specs.Steps.{viewOf}
 use Rattle.claims.specs.Story as Story
 use Rattle.claims.specs.Story.{wide, c, held}
 use Rattle.claims.specs.Witness.{nth}
-use Rattle.claims.specs.Wrong.{idle, two, failing, forgetting, sparing, yielding, lostIn, excusing, closing, rewriting, aborting, renewing, stillborn, fuelled, showing}
+use Rattle.claims.specs.Wrong.{idle, two, failing, forgetting, sparing, yielding, lostIn, excusing, muting, closing, rewriting, aborting, renewing, stillborn, fuelled, showing}
 use Rattle.claims.proofs.Cores.{no-both}
 use Rattle.claims.proofs.Promise.{sound-healthy}
 
@@ -114,6 +114,23 @@ excusing-healthy (Do o) e = ap (λ p. pick (lostIn (begun .chain) (M.tested begu
 pub excused : Events excusing → ⊥
 unfolding computed begun
 excused v = no-both (v .failed c begun (asCall (Op.Unwind (Fault.Throw 7) OptPc.None) throw-typed) excusing-healthy refl (thrown 7 OptPc.None refl) .after) refl
+
+-- a word is thrown into c, which sleeps
+sleeping-ops : List Op
+sleeping-ops = Story.begin 0 ++ (Op.Yield 8 3 0 ∷ [])
+
+sleeping : World
+sleeping = M.runOps (fresh wide) sleeping-ops
+
+thrown-typed : typed (Op.ResumeThrow 3 1 0 2) ≡ true
+unfolding typed
+thrown-typed = refl
+
+pub throw-lost : Events muting → ⊥
+unfolding computed sleeping-ops sleeping
+throw-lost v =
+    let q : _≡_ {A = ℕ} 0 17 = v .answered c sleeping (asCall (Op.ResumeThrow 3 1 0 2) thrown-typed) (record { before = refl; after = refl }) (record { driver = Driver.Resume 1; sent = nothing; pc = 3; says = refl }) in
+    absurd (omega (arith, q))
 
 -- c is closed with 9, which it does not catch
 dying-ops : List Op

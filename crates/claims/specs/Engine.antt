@@ -16,9 +16,9 @@ use Rattle.model.specs.declared.call.Op.{Op}
 -- what is seen of a coroutine
 pub record Seen : Type 0 where
   pub state : CoroState
-  -- how many words and frames it has saved
-  pub words : ℕ
-  pub frames : ℕ
+  -- the words and frames that it has saved: of one that has not begun, what it begins with
+  pub words : List ℕ
+  pub frames : List Frame
   -- the most that it has saved so far
   pub mostWords : ℕ
   pub mostFrames : ℕ

@@ -20,7 +20,7 @@ use Rattle.model.specs.declared.machine.Frame.{Frame}
 use Rattle.model.specs.declared.call.OptPc.{OptPc}
 use Rattle.model.specs.declared.call.Op.{Op}
 use Rattle.claims.specs.Engine.{Seen, View, Engine, code, isNew, runs, awaits, sleeps, ended, seenIn, is}
-use Rattle.claims.specs.Says.{nothing, gets, closes, Aim, enter, suspend, neither, Does, instr, hosts, finishes, raises, other, doing}
+use Rattle.claims.specs.Says.{Sent, nothing, gets, closes, Aim, enter, suspend, neither, Does, instr, hosts, finishes, raises, other, doing}
 use Rattle.claims.specs.Held.{at, closer, By}
 use Rattle.claims.specs.Delivery.{recorded, resultOf}
 use Rattle.claims.specs.Demand3.{Enters, Suspends, Restarts}
@@ -33,6 +33,14 @@ Healthy e s = (k : e .Call) → e .op k ≡ some Op.Look → e .number s k ≡ 0
 abbrev pub inmost : List Active → Option ℕ
 inmost [] = none
 inmost (a ∷ chain) = some (a .coro)
+
+-- ---- entries. 01: "also where the call then answers a fault, as 17 at a throw, a close or a cleanup's start"
+
+-- what a call answers that enters a coroutine, new or not: 17 where it is sent no word, for one is raised in it
+abbrev pub answers : Bool → Sent → ℕ
+answers new nothing = pick new 0 17
+answers new (gets x) = 0
+answers new (closes x) = 17
 
 -- ---- suspensions. 01: "also where 2 or 6 follows"
 
@@ -221,6 +229,7 @@ isInteger ResultKind.U64 = true
 pub record Events (e : Engine) : Type 0 where
   pub enters : (c : ℕ) (s : e .State) (k : e .Call) → Enters e c s k → By (e .view s) (e .op k) c
   pub entered : (c : ℕ) (s : e .State) (k : e .Call) → Healthy e s → By (e .view s) (e .op k) c → Enters e c s k
+  pub answered : (c : ℕ) (s : e .State) (k : e .Call) → Enters e c s k → (b : By (e .view s) (e .op k) c) → e .number s k ≡ answers (is (e .view s) isNew c) (b .sent)
   pub suspends : (c : ℕ) (s : e .State) (k : e .Call) → Suspends e c s k → suspended (e .view s) (doing (e .view s) (e .op k)) (e .number s k) ≡ some c
   pub suspended : (c : ℕ) (s : e .State) (k : e .Call) → suspended (e .view s) (doing (e .view s) (e .op k)) (e .number s k) ≡ some c → Suspends e c s k
   pub returns : (c : ℕ) (s : e .State) (k : e .Call) → Returns e c s k → returned (e .view s) (doing (e .view s) (e .op k)) (e .number s k) ≡ some c

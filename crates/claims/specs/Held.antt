@@ -11,7 +11,7 @@ use Rattle.model.specs.declared.machine.Driver.{Driver}
 use Rattle.model.specs.declared.machine.Active.{Active}
 use Rattle.model.specs.declared.machine.Frame.{Frame}
 use Rattle.model.specs.declared.call.Op.{Op}
-use Rattle.claims.specs.Engine.{Seen, View, is, sleeps}
+use Rattle.claims.specs.Engine.{Seen, View, is, isNew, sleeps}
 use Rattle.claims.specs.Says.{Sent, nothing, gets, closes, Aim, enter, suspend, neither, Does, instr, hosts, finishes, raises, other, doing, entry, whom}
 
 -- ---- frames, field by field
@@ -94,6 +94,17 @@ closedBy nothing m = m
 closedBy (gets x) m = m
 closedBy (closes x) m = some x
 
+-- what is sent: a step of the pc, and the word in the register r of the top frame
+abbrev pub stepped : Sent → ℕ → ℕ
+stepped nothing p = p
+stepped (gets x) p = after p
+stepped (closes x) p = p
+
+abbrev pub given : Sent → List Frame → ℕ → List ℕ → List ℕ
+given nothing fs r xs = xs
+given (gets x) fs r xs = into fs r x xs
+given (closes x) fs r xs = xs
+
 -- k at w enters c and leaves z: c's frames and words on those of the caller, whose pc is k's
 pub record Entered (w : View) (k : Option Op) (c : ℕ) (z : View) : Type 0 where
   pub by : By w k c
@@ -106,16 +117,10 @@ pub record Entered (w : View) (k : Option Op) (c : ℕ) (z : View) : Type 0 wher
   pub floor : body .base ≡ length (w .stack)
   pub chain : z .chain ≡ record { coro = c; floor = length (w .frames); driver = by .driver } ∷ w .chain
   pub closing : closer (z .coro c) ≡ closedBy (by .sent) (closer (w .coro c))
-
-abbrev pub stepped : Sent → ℕ → ℕ
-stepped nothing p = p
-stepped (gets x) p = after p
-stepped (closes x) p = p
-
-abbrev pub given : Sent → List Frame → ℕ → List ℕ → List ℕ
-given nothing fs r xs = xs
-given (gets x) fs r xs = into fs r x xs
-given (closes x) fs r xs = xs
+  -- 01: "A Created one ignores the sent word.": it begins with the words and frames that it was made with; a word sent would be in its
+  -- first register
+  pub new-words : (x : Seen) → w .coro c ≡ some x → isNew (x .state) ≡ true → z .stack ≡ given (by .sent) (z .frames) 0 (w .stack ++ x .words)
+  pub new-frames : (x : Seen) → w .coro c ≡ some x → isNew (x .state) ≡ true → AllMoved 0 (length (w .stack)) (x .frames) (over ++ (body ∷ []))
 
 -- x at v suspended c, and y at w enters it and leaves z: what x found, moved from its Coro frame's base to the caller's height
 pub record Restored (v : View) (x : Option Op) (w : View) (y : Option Op) (c : ℕ) (z : View) : Type 0 where

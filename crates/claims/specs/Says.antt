@@ -108,7 +108,7 @@ entry c d x pc = record { coro = c; driver = d; sent = x; pc = pc }
 -- 01: "not Created, Yielded or Awaiting (3); frames plus saved frames above the depth limit, or stack plus saved registers above the
 -- stack limit (4; equality passes)"
 abbrev pub fits : View → ℕ → Bool
-fits v c = seenIn (λ x. (isNew (x .state) || sleeps (x .state)) && leb (length (v .frames) + x .frames) (v .depth) && leb (length (v .stack) + x .words) (v .height)) (v .coro c)
+fits v c = seenIn (λ x. (isNew (x .state) || sleeps (x .state)) && leb (length (v .frames) + length (x .frames)) (v .depth) && leb (length (v .stack) + length (x .words)) (v .height)) (v .coro c)
 
 -- the call's own entry. 01: "A Created one ignores the sent word."
 abbrev pub named : View → ℕ → Aim → Option Entry

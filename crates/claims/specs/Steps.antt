@@ -18,7 +18,7 @@ use Rattle.claims.specs.Engine.{Seen, View, Engine}
 
 abbrev pub seenOf : Coroutine → Option Seen
 seenOf Absent = none
-seenOf (Is k r) = some (record { state = k .state; words = length (k .regs); frames = length (k .frames); mostWords = r .maxregs; mostFrames = r .maxframes; closing = r .closing; signal = r .signal; result = r .result })
+seenOf (Is k r) = some (record { state = k .state; words = k .regs; frames = k .frames; mostWords = r .maxregs; mostFrames = r .maxframes; closing = r .closing; signal = r .signal; result = r .result })
 
 abbrev pub viewOf : World → View
 viewOf w =

@@ -80,6 +80,20 @@ slept w (a ∷ chain) = is (viewOf w) sleeps (a .coro)
 abbrev pub once : Engine
 once = leaving (λ w k. let z = step w k .world in pick (ltb (length (w .chain)) (length (z .chain)) && slept w (z .chain)) (withStack (w .stack) (withFrames (w .frames) z)) z)
 
+-- the first entry is bent: a word is sent, to the first register; the pc has stepped
+abbrev pub unbegun : World → List Active → Bool
+unbegun w [] = false
+unbegun w (a ∷ chain) = is (viewOf w) isNew (a .coro)
+
+abbrev pub begun : (World → World → World) → Engine
+begun f = leaving (λ w k. let z = step w k .world in pick (ltb (length (w .chain)) (length (z .chain)) && unbegun w (z .chain)) (f w z) z)
+
+abbrev pub greeted : World → World → World
+greeted w z = withStack (set (z .stack) (length (w .stack)) 5) z
+
+abbrev pub late : World → World → World
+late w z = withFrames (onTop atOne (z .frames)) z
+
 -- ---- machines whose events are wrong
 
 -- an entry is left undone, where a test says so: always; or while two coroutines wait for a cleanup
@@ -138,6 +152,19 @@ excusing =
       look = looks;
     }
 
+-- every entry answers 0: a word that is thrown into a sleeper is lost
+abbrev pub muting : Engine
+muting =
+    record {
+      State = World;
+      Call = Call;
+      op = opOf;
+      view = viewOf;
+      next = λ w k. step w k .world;
+      number = λ w k. pick (ltb (length (w .chain)) (length (step w k .world .chain))) 0 (numberOf (step w k .answer));
+      look = looks;
+    }
+
 -- who returns while it is being closed has the result 5
 abbrev pub paying : List Active → World → World → World
 paying [] w z = z
@@ -189,8 +216,11 @@ pub record Wrong : Type 0 where
   pub closing-forgotten : Events forgetting → ⊥
   pub failure-returns : Events sparing → ⊥
   pub rows-once : Demand3 once → ⊥
+  pub new-gets-a-word : Demand3 (begun greeted) → ⊥
+  pub new-at-pc-1 : Demand3 (begun late) → ⊥
   pub await-yields : Events yielding → ⊥
   pub excused : Events excusing → ⊥
+  pub throw-lost : Events muting → ⊥
   pub close-pays : Events closing → ⊥
   pub result-changes : Events (rewriting c) → ⊥
   pub aborted : Events (aborting c) → ⊥

@@ -14,7 +14,7 @@ use Rattle.claims.specs.Says.{doing, lie}
 use Rattle.claims.specs.Held.{Held, closer, By, Entered, Restored}
 use Rattle.claims.specs.Delivery.{recorded, Left, resultOf}
 use Rattle.claims.specs.Demand3.{Enters, Suspends, Stops, Restarts, Waits, Goes, Demand3}
-use Rattle.claims.specs.Events.{Healthy, onBody, raisedAt, suspended, isAwait, returned, Lost, lives, undone, rests, Fixed, Events}
+use Rattle.claims.specs.Events.{Healthy, onBody, raisedAt, answers, suspended, isAwait, returned, Lost, lives, undone, rests, Fixed, Events}
 use Rattle.claims.specs.Promise.{suspends, room, Roomy, Makes, Accepts, Eleven, Soundness, Fresh, SetUps, registers, Looks, NotEmpty}
 use Rattle.claims.proofs.Premises.{Premises}
 use Rattle.lent_claims.proofs.Follows.{Follows, Sight, sight, same, along, ran}
@@ -82,6 +82,7 @@ module _ (e d : Engine) (f : Follows e d) where
       record {
         enters = λ c s k h. down (λ v. By (v .before) (v .op) c) s k (p .enters c (f .to s) (f .by s k) (up-enters e d f s k c h));
         entered = λ c s k ok h. down-enters e d f s k c (p .entered c (f .to s) (f .by s k) (up-healthy e d f s ok) (up (λ v. By (v .before) (v .op) c) s k h));
+        answered = λ c s k h. down (λ v. (b : By (v .before) (v .op) c) → v .number ≡ answers (is (v .before) isNew c) (b .sent)) s k (p .answered c (f .to s) (f .by s k) (up-enters e d f s k c h));
         suspends = λ c s k h. down (suspended-is c) s k (p .suspends c (f .to s) (f .by s k) (up-suspends e d f s k c h));
         suspended = λ c s k h. down-suspends e d f s k c (p .suspended c (f .to s) (f .by s k) (up (suspended-is c) s k h));
         returns = λ c s k h. down (returned-is c) s k (p .returns c (f .to s) (f .by s k) (up-returns e d f s k c h));
