@@ -261,7 +261,7 @@ def main():
     section("axioms", "What is assumed")
     if done:
         rows = [["", "assumed"]] + [[f"`{name}`", "; ".join(axioms)] for name, _, _, _, axioms in proved if axioms]
-        report = TARGET / "staticlib" / "report"
+        report = TARGET / "staticlib" / "boundary.report"
         library = report.read_text() if report.exists() else ""
         if verdict := re.search(r"^logic=proved .*$", library, re.M):
             rows.append(["the static library", "; ".join(re.findall(r"^axioms .*$", library, re.M)) or "nothing: `" + verdict.group() + "`"])
