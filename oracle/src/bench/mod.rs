@@ -152,6 +152,7 @@ impl Measure {
 
 /// Function 0 has four registers and a handler over every pc, function 1
 /// sixteen registers, function 2 four, and those after them 64 and 255.
+#[cfg_attr(not(any(original, library)), allow(dead_code))]
 pub(crate) fn setup(costs: Costs) -> Setup {
     let handler = Handler { start: 0, end: u64::from(u32::MAX), target: 0, catch: 3 };
     let func = |nregs, handlers| Func { nregs, nparams: 0, handlers };
