@@ -232,7 +232,8 @@ module _ (xs : List (Slot Object)) (v : ℕ) {k : Core} {r : Rest} (e : coroIn x
   set-rest r' m u = go (ℕ-discrete u v)
     where
       go : Dec (u ≡ v) → cores (putObject Object.Empty xs (slotOf v) (Object.Coro k r')) u ≡ cores xs u
-      go (yes q) = ap (cores (putObject Object.Empty xs (slotOf v) (Object.Coro k r'))) q ∙ ap coreIn (set-mine k r') ∙ (λ i. record { state = k .state; regs = k .regs; frames = k .frames; waiting = k .waiting; closing = closer (m i); seen = m i }) ∙ sym (ap coreIn e) ∙ ap (cores xs) (sym q)
+      go (yes q) = ap (cores (putObject Object.Empty xs (slotOf v) (Object.Coro k r'))) q ∙ ap coreIn (set-mine k r')
+          ∙ (λ i. record { state = k .state; regs = k .regs; frames = k .frames; waiting = k .waiting; closing = closer (m i); seen = m i }) ∙ sym (ap coreIn e) ∙ ap (cores xs) (sym q)
       go (no q) = set-other k r' u q
 
 -- an iterator replaced

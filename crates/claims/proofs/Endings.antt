@@ -287,7 +287,8 @@ fail-each (a ∷ chain) w c = go (ℕ-discrete c (a .coro)) (fail-each chain y c
     same q b (inr (inl x)) = inr (inl x)
     same q b (inr (inr x)) = inr (inr (b, x .1 ∙ q))
 
-    mine : (coreAt y (a .coro) ≡ over CoroState.Failed (coreAt y (a .coro) .seen) (coreAt w (a .coro))) ⊎ ((isCreated (coreAt w (a .coro) .state) ≡ true) × (coreAt y (a .coro) ≡ coreAt w (a .coro))) → c ≡ a .coro → Stopped chain y c (coreAt z c) → Stopped (a ∷ chain) w c (coreAt z c)
+    mine : (coreAt y (a .coro) ≡ over CoroState.Failed (coreAt y (a .coro) .seen) (coreAt w (a .coro))) ⊎ ((isCreated (coreAt w (a .coro) .state) ≡ true) × (coreAt y (a .coro) ≡ coreAt w (a .coro)))
+        → c ≡ a .coro → Stopped chain y c (coreAt z c) → Stopped (a ∷ chain) w c (coreAt z c)
     mine (inl x) q s = inr (inl (fail-failed chain y c (ap (λ u. coreAt y u .state) q ∙ ap (λ k. k .state) x)))
     mine (inr x) q s = same (ap (coreAt y) q ∙ x .1 ∙ ap (coreAt w) (sym q)) (ap (λ u. isCreated (coreAt w u .state)) q ∙ x .0) s
 

@@ -237,7 +237,8 @@ finish-fails : (kind : ResultKind) (x : ℕ) (w : World) (c : ℕ) (o : After An
 finish-fails kind x w c o r (f-other e n) = ap (λ k. isFailed (coreIn k .state)) (e c) ∙ run-fails (coreAt w c .state) r
 finish-fails kind x w c o r (f-returns f fs a chain y p q i m n ends tells ints) = go (ℕ-discrete c (a .coro))
   where
-    mine : (coreAt (o .world) (a .coro) ≡ S.over CoroState.Returned (coreAt (o .world) (a .coro) .seen) (coreAt w (a .coro))) ⊎ ((isCreated (coreAt w (a .coro) .state) ≡ true) × (coreAt (o .world) (a .coro) ≡ coreAt w (a .coro))) → c ≡ a .coro → isFailed (coreAt (o .world) (a .coro) .state) ≡ false
+    mine : (coreAt (o .world) (a .coro) ≡ S.over CoroState.Returned (coreAt (o .world) (a .coro) .seen) (coreAt w (a .coro))) ⊎ ((isCreated (coreAt w (a .coro) .state) ≡ true) × (coreAt (o .world) (a .coro) ≡ coreAt w (a .coro)))
+        → c ≡ a .coro → isFailed (coreAt (o .world) (a .coro) .state) ≡ false
     mine (inl k) q = ap (λ y. isFailed (y .state)) k
     mine (inr k) q = no-both (k .0) (ap (λ u. isCreated (coreAt w u .state)) (sym q) ∙ run-born (coreAt w c .state) r)
 

@@ -98,7 +98,8 @@ suspend-number pc s dst x keys v there = go (v .chain) refl
 
 -- ---- the three arms
 
-key-number : (pc dst x : ℕ) (o : After AutoKey) → ((f : Fault) → o .answer ≡ AutoKey.Refused f → okNumber (Faults.numberOf f) ≡ false) → Stands (o .world) → okNumber (stepNumber (yieldKey pc dst x (o .world) (o .answer) .answer)) ≡ keyed (tries pc CoroState.Yielded dst x) (o .world) (o .answer)
+key-number : (pc dst x : ℕ) (o : After AutoKey) → ((f : Fault) → o .answer ≡ AutoKey.Refused f → okNumber (Faults.numberOf f) ≡ false)
+    → Stands (o .world) → okNumber (stepNumber (yieldKey pc dst x (o .world) (o .answer) .answer)) ≡ keyed (tries pc CoroState.Yielded dst x) (o .world) (o .answer)
 key-number pc dst x o h there = go (o .answer) refl
   where
     go : (a : AutoKey) → o .answer ≡ a → okNumber (stepNumber (yieldKey pc dst x (o .world) a .answer)) ≡ keyed (tries pc CoroState.Yielded dst x) (o .world) a

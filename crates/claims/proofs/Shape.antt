@@ -85,7 +85,8 @@ pub data Worked (b : Mode) : View → View → Type 0 where
   pushes : {v z : View} (f : Frame) (xs : List ℕ) → isCoro (f .cont) ≡ false → f .base ≡ length (v .stack) → Worked b (pushV f xs v) z → Worked b v z
   pops : {v z : View} (f : Frame) (fs : List Frame) → v .frames ≡ f ∷ fs → (isCoro (f .cont) ≡ false) ⊎ (v .chain ≡ []) → Worked b (popV f fs v) z → Worked b v z
   -- a body goes, and its coroutine fails, if b lets it
-  fails : {v z : View} (f : Frame) (fs : List Frame) (a : Active) (chain : List Active) (k : ℕ → Seat) → b ≡ m-ending → v .frames ≡ f ∷ fs → isCoro (f .cont) ≡ true → v .chain ≡ a ∷ chain → Ends CoroState.Failed (a .coro) (v .cores) k → Worked b (endV f fs chain k v) z → Worked b v z
+  fails : {v z : View} (f : Frame) (fs : List Frame) (a : Active) (chain : List Active) (k : ℕ → Seat) → b ≡ m-ending → v .frames ≡ f ∷ fs → isCoro (f .cont) ≡ true → v .chain ≡ a ∷ chain
+      → Ends CoroState.Failed (a .coro) (v .cores) k → Worked b (endV f fs chain k v) z → Worked b v z
 
 -- what ends nobody is allowed to any call
 kept-anyway : {b : Mode} {c : ℕ} {k l : Seat} → Kept m-plain c k l → Kept b c k l

@@ -120,7 +120,8 @@ try-closed v p c d x k₀ r₀ here begun = go (coroEnter c d u) (enter-case c d
 
 -- what an arm owes whose test `may` passes exactly if it tries
 pub tried-arm : {v z : World} {p c : ℕ} {d : Driver} {s : Sent} (may : Bool) → may ≡ true → Tried v p c d s z → Arm v p (enters c d s may) false z
-tried-arm {v} {z} {p} {c} {d} {s} may e (t-in a r t) = a-enters refl c d (sentTo (coro v c) s) (λ i. (ap (λ b. pick (b && accepts v c) (entry c d (sentTo (coro v c) s)) nobody) e ∙ ap (λ b. pick b (entry c d (sentTo (coro v c) s)) nobody) a ∙ pick-true (entry c d (sentTo (coro v c) s)) nobody) i) t
+tried-arm {v} {z} {p} {c} {d} {s} may e (t-in a r t) = a-enters refl c d (sentTo (coro v c) s) (λ i. (ap (λ b. pick (b && accepts v c) (entry c d (sentTo (coro v c) s)) nobody) e
+    ∙ ap (λ b. pick b (entry c d (sentTo (coro v c) s)) nobody) a ∙ pick-true (entry c d (sentTo (coro v c) s)) nobody) i) t
 tried-arm {v} {z} {p} {c} {d} {s} may e (t-out a t) = a-works refl (ap (λ b. pick (b && accepts v c) (entry c d (sentTo (coro v c) s)) nobody) e ∙ ap (λ b. pick b (entry c d (sentTo (coro v c) s)) nobody) a ∙ pick-false (entry c d (sentTo (coro v c) s)) nobody) (anyway t)
 
 pub may-not : {v z : World} {p c : ℕ} {d : Driver} {s : Sent} (may : Bool) → may ≡ false → Worked (modeBy (enters c d s may)) (view v) (view z) → Arm v p (enters c d s may) false z
@@ -194,7 +195,8 @@ throw-arm p dst c src v = go (coro v n) refl
     tried : Tried v p n d nothing (andThen (coroEnter n d (storePc p v)) (throwEntered x) .world)
     tried = let e = coroEnter n d (storePc p v) in subst (Tried v p n d nothing) (thrown-world x (e .world) (e .answer)) (try-silent v p n d (λ y. y) calm-none)
 
-    test : (k : Core) (r : Rest) → coro v n ≡ Is k r → (b : Bool) → isCreated (k .state) ≡ b → Arm v p (enters n d nothing (isAsleep (coro v n))) false (pick b (fault (finishCoroutine n CoroState.Failed x v) (Fault.Throw x)) (andThen (coroEnter n d (storePc p v)) (throwEntered x)) .world)
+    test : (k : Core) (r : Rest) → coro v n ≡ Is k r → (b : Bool) → isCreated (k .state) ≡ b
+        → Arm v p (enters n d nothing (isAsleep (coro v n))) false (pick b (fault (finishCoroutine n CoroState.Failed x v) (Fault.Throw x)) (andThen (coroEnter n d (storePc p v)) (throwEntered x)) .world)
     test k r e true h = may-not (isAsleep (coro v n)) (ap isAsleep e ∙ created-susp (k .state) h) (kill-worked n CoroState.Failed x v refl refl (ap (λ y. isCreated (coreIn y .state)) e ∙ h) done)
     test k r e false h = tried-susp (isSuspended (k .state)) (ap isAsleep e) (λ q. sym (susp-of (k .state) h) ∙ sym (ap (λ y. isResumable (coreIn y .state)) e) ∙ q) tried
 

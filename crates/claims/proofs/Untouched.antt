@@ -122,7 +122,8 @@ result-alike ResultKind.U64 x v r h y e = h y e ∙ ap madeWord (sym e)
 one-made : {m : Made} {x y : ℕ} → m ≡ Made.Word x → m ≡ Made.Word y → x ≡ y
 one-made p q = ap madeWord (sym p ∙ q)
 
-finish-event : (kind : ResultKind) (x : ℕ) (v : World) (c : ℕ) (o : After Answer) → isRunning (coreAt v c .state) ≡ true → hasLeft (coreAt (o .world) c .state) ≡ true → FinishCase kind x v o → resultOf kind x (recorded (seenOf (coro (o .world) c))) ≡ madeWord (toDyn kind x v .answer)
+finish-event : (kind : ResultKind) (x : ℕ) (v : World) (c : ℕ) (o : After Answer) → isRunning (coreAt v c .state) ≡ true → hasLeft (coreAt (o .world) c .state) ≡ true
+    → FinishCase kind x v o → resultOf kind x (recorded (seenOf (coro (o .world) c))) ≡ madeWord (toDyn kind x v .answer)
 finish-event kind x v c o b l (f-other e n) = no-both l (run-left (coreAt (o .world) c .state) (ap (λ k. isRunning (coreIn k .state)) (e c) ∙ b))
 finish-event kind x v c o b l (f-returns f fs a chain y p q r m n ends tells ints) = go (ℕ-discrete c (a .coro))
   where

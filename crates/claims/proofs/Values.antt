@@ -132,7 +132,8 @@ module _ (w : World) (h : sound w ≡ true) where
   unfolding alloc pick
   can-encode n a b f e = go (inlineOf (ofBits 63 n)) e
     where
-      object : (x y : Bool) → x ≡ false → y ≡ false → pick x (refuse w Fault.OutOfMemory) (pick y (refuse w Fault.Full) (after (withUsed (satAdd (w .used) (w .setup .costs .int)) (withSlots (pushObject (w .slots) (Object.Int n)) w)) (Made.Word (nextWord (w .slots))))) .answer ≡ Made.Refused f → ⊥
+      object : (x y : Bool) → x ≡ false → y ≡ false → pick x (refuse w Fault.OutOfMemory)
+          (pick y (refuse w Fault.Full) (after (withUsed (satAdd (w .used) (w .setup .costs .int)) (withSlots (pushObject (w .slots) (Object.Int n)) w)) (Made.Word (nextWord (w .slots))))) .answer ≡ Made.Refused f → ⊥
       object true y p q e = no-both refl p
       object false true p q e = no-both refl q
       object false false p q e = let z : _≡_ {A = ℕ} 0 1 = cc in absurd (omega arith)
@@ -161,7 +162,8 @@ finish-int kind x w h l k c o b r (f-returns f fs a chain y p q i m n ends tells
         ∙ (ap (dynInt (o .world)) (tells (ap (λ v. isRunning (coreAt w v .state)) (sym u) ∙ b)) ∙ ints y x (made-int w h kind x y k l m))
     go (no u) = no-both r (ap (λ y. isReturned (y .state)) (ends .others c u) ∙ run-returned (coreAt w c .state) b)
 
-finish-at : (w : World) (c : ℕ) (kind : ResultKind) (x : ℕ) → sound w ≡ true → x < 2 ^ 64 → isInteger kind ≡ true → isRunning (coreAt w c .state) ≡ true → let z = call (Op.Finish kind x) w .world in isReturned (coreAt z c .state) ≡ true → dynInt z (recorded (seenOf (coro z c))) ≡ Opt.Some x
+finish-at : (w : World) (c : ℕ) (kind : ResultKind) (x : ℕ) → sound w ≡ true → x < 2 ^ 64 → isInteger kind ≡ true → isRunning (coreAt w c .state) ≡ true
+    → let z = call (Op.Finish kind x) w .world in isReturned (coreAt z c .state) ≡ true → dynInt z (recorded (seenOf (coro z c))) ≡ Opt.Some x
 unfolding call
 finish-at w c kind x s l i b r = finish-int kind x w s l i c (finish kind x w) b r (finish-case kind x w)
 
