@@ -4,7 +4,7 @@ use crate::lent::{setup_words, AnswerWords, CallWords, Words, MACHINE, STACK};
 use crate::world::{Setup, World};
 
 macro_rules! functions {
-    ($($name:ident($($slice:ident)* $(; $word:ident)?);)*) => {
+    ($($name:ident($($slice:ident)* $(; $($word:ident: $kind:ty),*)?);)*) => {
         extern "C" {
             $(fn $name(
                 stack: *mut u64, _: usize,
@@ -19,7 +19,7 @@ macro_rules! functions {
                 machine: *mut u64, _: usize,
                 fuel: *mut u64, _: usize,
                 $($slice: *mut u64, _: usize,)*
-                $($word: u64)?
+                $($($word: $kind),*)?
             ) -> u64;)*
         }
     };
@@ -31,38 +31,14 @@ functions! {
     bvm_kept(call answer);
     bvm_run(calls answers);
     bvm_look(span);
-    bvm_grant(answer; amount);
+    bvm_grant(answer; amount: u64);
     bvm_sound();
 }
 
 #[cfg(hot)]
-macro_rules! switches {
-    ($($name:ident($($reg:ident)*);)*) => {
-        extern "C" {
-            $(fn $name(
-                stack: *mut u64, _: usize,
-                frames: *mut u64, _: usize,
-                chain: *mut u64, _: usize,
-                slots: *mut u64, _: usize,
-                saved_stack: *mut u64, _: usize,
-                saved_frames: *mut u64, _: usize,
-                ready: *mut u64, _: usize,
-                finalize: *mut u64, _: usize,
-                setup: *mut u64, _: usize,
-                machine: *mut u64, _: usize,
-                fuel: *mut u64, _: usize,
-                answer: *mut u64, _: usize,
-                pc: u32,
-                $($reg: u16,)*
-            ) -> u64;)*
-        }
-    };
-}
-
-#[cfg(hot)]
-switches! {
-    bvm_resume(dst coro src);
-    bvm_yield(dst src);
+functions! {
+    bvm_resume(answer; pc: u32, dst: u16, coro: u16, src: u16);
+    bvm_yield(answer; pc: u32, dst: u16, src: u16);
 }
 
 const GUARD: u64 = 0x5AFE_5AFE_5AFE_5AFE;
