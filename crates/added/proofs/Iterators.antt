@@ -12,7 +12,7 @@ use Rattle.model.specs.Heap.{coro, notA, alloc}
 use Rattle.model.specs.Coro.{stateAs, coroState}
 use Rattle.model.specs.Gate.{refused}
 use Rattle.model.specs.Added.{answerMade, iteratorOver, makeIterator}
-use Rattle.model.specs.declared.coro.Made.{Made}
+use Rattle.model.specs.declared.coro.WordOr.{WordOr}
 use Rattle.model.specs.declared.coro.Stated.{Stated}
 use Rattle.model.specs.declared.call.Answer.{Answer}
 use Rattle.model.specs.declared.machine.Fuel.{Fuel}
@@ -23,13 +23,13 @@ use Rattle.memory.specs.declared.machine.Sizes.{Sizes}
 use Rattle.memory.proofs.Does.{does}
 
 -- what was made, as an answer
-abbrev pub madeAs : Made → Answer
-madeAs (Made.Word v) = Answer.Word v
-madeAs (Made.Refused f) = Answer.Refused f
+abbrev pub madeAs : WordOr → Answer
+madeAs (WordOr.Word v) = Answer.Word v
+madeAs (WordOr.Refused f) = Answer.Refused f
 
-pub made-any : (w : World) (a : Made) → answerMade w a .answer ≡ madeAs a
-made-any w (Made.Word v) = refl
-made-any w (Made.Refused f) = refl
+pub made-any : (w : World) (a : WordOr) → answerMade w a .answer ≡ madeAs a
+made-any w (WordOr.Word v) = refl
+made-any w (WordOr.Refused f) = refl
 
 module _ (l : Sizes) (M : Lent) (m : Machine) (f : Fuel) (w : World) (v : ℕ) where
   pub not-over : (g : Fault) → Stated.Refused g ≡ coroState w v → Rep l w M m f → Does l (makeIterator v w) M m f (Answer.Refused g)
@@ -41,14 +41,14 @@ module _ (l : Sizes) (M : Lent) (m : Machine) (f : Fuel) (w : World) (v : ℕ) w
       go (Is k r) q = never cc
 
   -- the word made, as an answer
-  abbrev iterator : ℕ → After Made
+  abbrev iterator : ℕ → After WordOr
   iterator bytes = alloc bytes (Object.Iter v false Opt.None) w
 
-  told : (u : World) (a : Made) → answerMade u a ≡ after u (madeAs a)
-  told u (Made.Word x) = refl
-  told u (Made.Refused g) = refl
+  told : (u : World) (a : WordOr) → answerMade u a ≡ after u (madeAs a)
+  told u (WordOr.Word x) = refl
+  told u (WordOr.Refused g) = refl
 
-  pub over : (s : CoroState) (a : Made) (x : Answer) (bytes : ℕ) → Stated.In s ≡ coroState w v → bytes ≡ w .setup .costs .iter → ((u : World) → x ≡ answerMade u a .answer) → Does l (iterator bytes) M m f a → Does l (makeIterator v w) M m f x
+  pub over : (s : CoroState) (a : WordOr) (x : Answer) (bytes : ℕ) → Stated.In s ≡ coroState w v → bytes ≡ w .setup .costs .iter → ((u : World) → x ≡ answerMade u a .answer) → Does l (iterator bytes) M m f a → Does l (makeIterator v w) M m f x
   unfolding makeIterator
   over s a x bytes e k q d =
       subst (λ (o : After Answer). Does l o M m f x)

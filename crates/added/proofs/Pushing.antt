@@ -7,7 +7,7 @@ use Rattle.model.specs.Frames.{putReg, storePc}
 use Rattle.model.specs.Machine.{pushFrame}
 use Rattle.model.specs.Added.{hostCall, functionCall, putWord}
 use Rattle.model.specs.Added as Added
-use Rattle.model.specs.declared.coro.Made.{Made}
+use Rattle.model.specs.declared.coro.WordOr.{WordOr}
 use Rattle.model.specs.declared.call.Answer.{Answer}
 use Rattle.model.specs.declared.machine.Cont.{Cont}
 use Rattle.model.specs.declared.machine.Fuel.{Fuel}
@@ -19,28 +19,28 @@ use Rattle.memory.specs.declared.machine.Sizes.{Sizes}
 use Rattle.machine.specs.Frame.{pushedOr, pushAt}
 
 -- what was pushed, as an answer
-abbrev pushedAs : Made → Answer
-pushedAs (Made.Word base) = Answer.Accepted
-pushedAs (Made.Refused f) = Answer.Refused f
+abbrev pushedAs : WordOr → Answer
+pushedAs (WordOr.Word base) = Answer.Accepted
+pushedAs (WordOr.Refused f) = Answer.Refused f
 
-in-any : (w : World) (a : Made) → Added.pushedOr w w a .answer ≡ pushedAs a
-in-any w (Made.Word b) = refl
-in-any w (Made.Refused f) = refl
+in-any : (w : World) (a : WordOr) → Added.pushedOr w w a .answer ≡ pushedAs a
+in-any w (WordOr.Word b) = refl
+in-any w (WordOr.Refused f) = refl
 
-abbrev told : After Made → After Answer
+abbrev told : After WordOr → After Answer
 told o = after (o .world) (pushedAs (o .answer))
 
-back : (w u : World) (a : Made) → told (pushedOr w u a) ≡ Added.pushedOr w u a
-back w u (Made.Word b) = refl
-back w u (Made.Refused f) = refl
+back : (w u : World) (a : WordOr) → told (pushedOr w u a) ≡ Added.pushedOr w u a
+back w u (WordOr.Word b) = refl
+back w u (WordOr.Refused f) = refl
 
 -- a refused frame leaves the world
 pushes-back : (f closure : ℕ) (cont : Cont) (w : World) → pushFrame f closure cont w ≡ andThen (pushFrame f closure cont w) (pushedOr w)
 unfolding pushFrame
-pushes-back f closure cont w = picked (λ (o : After Made). o ≡ andThen o (pushedOr w)) _ (λ _. refl) (λ _. refl)
+pushes-back f closure cont w = picked (λ (o : After WordOr). o ≡ andThen o (pushedOr w)) _ (λ _. refl) (λ _. refl)
 
-module _ (l : Sizes) (M : Lent) (m : Machine) (fuel : Fuel) (w : World) (a : Made) (x : Answer) where
-  answered : (o : After Made) (p : After Answer) → told o ≡ p → ((v u : World) → x ≡ Added.pushedOr v u a .answer) → Does l o M m fuel a → Does l p M m fuel x
+module _ (l : Sizes) (M : Lent) (m : Machine) (fuel : Fuel) (w : World) (a : WordOr) (x : Answer) where
+  answered : (o : After WordOr) (p : After Answer) → told o ≡ p → ((v u : World) → x ≡ Added.pushedOr v u a .answer) → Does l o M m fuel a → Does l p M m fuel x
   answered o p e q d = subst (λ (z : After Answer). Does l z M m fuel x) e (record { world = d .world; answer = q w w ∙ in-any w a ∙ ap pushedAs (d .answer) })
 
   pub host-called : (f : ℕ) → ((v u : World) → x ≡ Added.pushedOr v u a .answer) → Does l (pushFrame f nil Cont.Entry w) M m fuel a → Does l (hostCall f w) M m fuel x

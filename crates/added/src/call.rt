@@ -11,7 +11,7 @@ use machine::frame::push_frame;
 use memory::machine::Machine;
 use memory::machine::Sizes;
 use model::call::Answer;
-use model::coro::Made;
+use model::coro::WordOr;
 use model::machine::Cont;
 
 // What a call leaves of the numbers, and answers.
@@ -21,12 +21,12 @@ pub struct CallDid {
 }
 
 // A frame was pushed, or refused.
-fn pushed_as(a: Made) -> Answer
+fn pushed_as(a: WordOr) -> Answer
     ensures { λ r. ⌜ ((w u : World) → r ≡ pushedOr w u a .answer) ⌝ }
 {
     match a {
-        Made::Word(_) => Answer::Accepted,
-        Made::Refused(f) => Answer::Refused(f),
+        WordOr::Word(_) => Answer::Accepted,
+        WordOr::Refused(f) => Answer::Refused(f),
     }
 }
 

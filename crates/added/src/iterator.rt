@@ -13,16 +13,16 @@ use machine::object::alloc_plain;
 use memory::machine::Machine;
 use memory::machine::Sizes;
 use model::call::Answer;
-use model::coro::Made;
 use model::coro::Stated;
+use model::coro::WordOr;
 
 // The word made is the answer.
-pub fn made_as(a: Made) -> Answer
+pub fn made_as(a: WordOr) -> Answer
     ensures { λ r. ⌜ ((w : World) → r ≡ answerMade w a .answer) ⌝ }
 {
     match a {
-        Made::Word(v) => Answer::Word(v),
-        Made::Refused(f) => Answer::Refused(f),
+        WordOr::Word(v) => Answer::Word(v),
+        WordOr::Refused(f) => Answer::Refused(f),
     }
 }
 

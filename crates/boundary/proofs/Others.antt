@@ -21,9 +21,9 @@ use Rattle.memory.specs.Memory.{Lent, Beside}
 use Rattle.memory.specs.Contract.{Gives, any, with}
 use Rattle.memory.specs.declared.machine.Machine.{Machine}
 use Rattle.memory.specs.declared.machine.Sizes.{Sizes}
-use Rattle.words.specs.Words.{sizesOf}
-use Rattle.words.specs.Decode.{setupOf, worldOf}
-use Rattle.words.specs.Sizes.{SetupFits}
+use Rattle.memory.specs.Words.{sizesOf}
+use Rattle.memory.specs.Decode.{setupOf, worldOf}
+use Rattle.memory.specs.Sizes.{SetupFits}
 use Rattle.machine.specs.declared.called.Called.{Called}
 use Rattle.added.specs.Look.{LookFits, endOn}
 use Rattle.added.specs.declared.look.Span.{Span}

@@ -14,9 +14,9 @@ use Rattle.model.specs.declared.call.Op.{Op}
 use Rattle.model.specs.declared.call.Answer.{Answer}
 use Rattle.memory.specs.Memory.{Lent}
 use Rattle.memory.specs.declared.machine.Sizes.{Sizes}
-use Rattle.words.specs.Words.{sizesOf}
-use Rattle.words.specs.Decode.{setupOf}
-use Rattle.words.specs.Sizes.{SetupFits}
+use Rattle.memory.specs.Words.{sizesOf}
+use Rattle.memory.specs.Decode.{setupOf}
+use Rattle.memory.specs.Sizes.{SetupFits}
 use Rattle.calls.specs.Answer.{answerWords}
 use Rattle.calls.specs.declared.call.Read.{Read}
 use Rattle.added.specs.Look.{LookFits, endOn}

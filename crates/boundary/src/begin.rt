@@ -80,7 +80,7 @@ fn begin(
     if n != 0 {
         return n;
     }
-    let l = words::sizes::sizes(given);
+    let l = memory::sizes::sizes(given);
     put_machine(machine, k);
     put_sizes(machine, l);
     put_fuel(fuel, left);

@@ -83,7 +83,7 @@ fn sizes_held(machine: &[u64], setup: &[u64]) -> bool
     ensures { λ r. ⌜ r ≡ sizesHeld (now (machine .entry)) (now (setup .entry)) ⌝ }
 {
     let a = sizes_of(machine);
-    let b = words::sizes::sizes(setup);
+    let b = memory::sizes::sizes(setup);
     same_sizes(a, b)
 }
 

@@ -26,8 +26,8 @@ use Rattle.sheet.proofs.Sentences as Sheet
 use Rattle.tables.proofs.Padded.{length-splice}
 use Rattle.memory.specs.declared.machine.Machine.{Machine}
 use Rattle.memory.specs.declared.machine.Sizes.{Sizes}
-use Rattle.words.specs.Words.{sizesOf, lengthsOf}
-use Rattle.words.specs.Decode.{setupOf}
+use Rattle.memory.specs.Words.{sizesOf, lengthsOf}
+use Rattle.memory.specs.Decode.{setupOf}
 use Rattle.calls.specs.Call.{opOf, opWords}
 use Rattle.calls.specs.declared.call.Read.{Read}
 use Rattle.calls.proofs.Back.{read-back}

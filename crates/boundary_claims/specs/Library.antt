@@ -15,8 +15,8 @@ use Rattle.model.specs.Answer as Said
 use Rattle.model.specs.Call.{isWord, Operation}
 use Rattle.model.specs.declared.call.Op.{Op}
 use Rattle.model.specs.declared.call.Answer.{Answer}
-use Rattle.words.specs.Words.{sizesOf}
-use Rattle.words.specs.Decode.{setupOf}
+use Rattle.memory.specs.Words.{sizesOf}
+use Rattle.memory.specs.Decode.{setupOf}
 use Rattle.calls.specs.Call.{opOf}
 use Rattle.calls.specs.Answer.{answerWords}
 use Rattle.calls.specs.declared.call.Read.{Read}

@@ -25,7 +25,7 @@ use Rattle.model.specs.Exec.{fault, putMade, window, coroNew, indirect, coroNew
 use Rattle.model.specs.declared.machine.Cont.{Cont}
 use Rattle.model.specs.declared.machine.Frame.{Frame}
 use Rattle.model.specs.declared.machine.Charge.{Charge}
-use Rattle.model.specs.declared.coro.Made.{Made}
+use Rattle.model.specs.declared.coro.WordOr.{WordOr}
 use Rattle.model.specs.declared.coro.Stated.{Stated}
 use Rattle.model.specs.declared.call.OptPc.{OptPc}
 use Rattle.claims.proofs.Entry.{neither}
@@ -38,9 +38,9 @@ use Rattle.claims.proofs.Quiet.{same-worked, grown-worked, create-grown
 
 -- ---- push_frame
 
-pub data PushCase (f closure : ℕ) (cont : Cont) (w : World) : After Made → Type 0 where
-  p-in : (n : ℕ) → PushCase f closure cont w (after (withFrames (frame f (length (w .stack)) closure cont ∷ w .frames) (withStack (w .stack ++ replicate n 0) w)) (Made.Word (length (w .stack))))
-  p-out : (e : Fault) → PushCase f closure cont w (after w (Made.Refused e))
+pub data PushCase (f closure : ℕ) (cont : Cont) (w : World) : After WordOr → Type 0 where
+  p-in : (n : ℕ) → PushCase f closure cont w (after (withFrames (frame f (length (w .stack)) closure cont ∷ w .frames) (withStack (w .stack ++ replicate n 0) w)) (WordOr.Word (length (w .stack))))
+  p-out : (e : Fault) → PushCase f closure cont w (after w (WordOr.Refused e))
 
 pub push-case : (f closure : ℕ) (cont : Cont) (w : World) → PushCase f closure cont w (pushFrame f closure cont w)
 unfolding pushFrame pick
@@ -49,7 +49,7 @@ push-case f closure cont w = go (leb (w .setup .limits .depth) (length (w .frame
     n : ℕ
     n = func (w .setup) f .regs
 
-    go : (b : Bool) → PushCase f closure cont w (pick b (refuse w Fault.StackOverflow) (after (withFrames (frame f (length (w .stack)) closure cont ∷ w .frames) (withStack (w .stack ++ replicate n 0) w)) (Made.Word (length (w .stack)))))
+    go : (b : Bool) → PushCase f closure cont w (pick b (refuse w Fault.StackOverflow) (after (withFrames (frame f (length (w .stack)) closure cont ∷ w .frames) (withStack (w .stack ++ replicate n 0) w)) (WordOr.Word (length (w .stack)))))
     go true = p-out Fault.StackOverflow
     go false = p-in n
 
@@ -59,9 +59,9 @@ push-worked f closure cont n w e t = pushes (frame f (length (w .stack)) closure
 
 -- ---- the arms
 
-put-made : (dst : ℕ) (w : World) (m : Made) → Worked m-plain (view w) (view (putMade dst w m .world))
-put-made dst w (Made.Word v) = puts dst v done
-put-made dst w (Made.Refused f) = done
+put-made : (dst : ℕ) (w : World) (m : WordOr) → Worked m-plain (view w) (view (putMade dst w m .world))
+put-made dst w (WordOr.Word v) = puts dst v done
+put-made dst w (WordOr.Refused f) = done
 
 pub new-arm : (p dst f argc : ℕ) (v : World) → Arm v p neither false (coroNew dst f argc v .world)
 unfolding coroNew
@@ -91,7 +91,7 @@ hook-worked hook pc dst c w = go (pushFrame hook nil (Cont.Value dst) (storePc p
         let at : ℕ → View = λ i. record { setup = u .setup; stack = set (u .stack ++ replicate n 0) i c; frames = top ∷ u .frames; chain = u .chain; cores = view u .cores } in
         puts 0 c (subst (λ i. Worked m-plain (at i) (view (left n))) (sym e) done)
 
-    go : (o : After Made) → PushCase hook nil (Cont.Value dst) u o → Worked m-plain (view w) (view (hooked w c (o .world) (o .answer) .world))
+    go : (o : After WordOr) → PushCase hook nil (Cont.Value dst) u o → Worked m-plain (view w) (view (hooked w c (o .world) (o .answer) .world))
     go o (p-in n) = tops (setPc pc) (keeps-pc pc) (pushes top (replicate n 0) refl refl (first n))
     go o (p-out e) = done
 
@@ -104,9 +104,9 @@ spawn-arm p dst callee argc v = a-works refl refl (by (v .setup .hook))
     paid hook c w Charge.Spent = done
     paid hook c w (Charge.Close n) = hook-worked hook p dst c w
 
-    made : (hook : ℕ) (w : World) (m : Made) → Worked m-plain (view w) (view (spawnMade hook p dst w m .world))
-    made hook w (Made.Word c) = same-worked (charge-none w) (paid hook c (charge OptPc.None w .world) (charge OptPc.None w .answer))
-    made hook w (Made.Refused f) = done
+    made : (hook : ℕ) (w : World) (m : WordOr) → Worked m-plain (view w) (view (spawnMade hook p dst w m .world))
+    made hook w (WordOr.Word c) = same-worked (charge-none w) (paid hook c (charge OptPc.None w .world) (charge OptPc.None w .answer))
+    made hook w (WordOr.Refused f) = done
 
     by : (h : Opt) → Worked m-plain (view v) (view (spawnWith h p dst callee argc v .world))
     by Opt.None = done

@@ -30,7 +30,7 @@ use Rattle.model.specs.declared.call.Answer.{Answer}
 use Rattle.model.specs.declared.machine.Cont.{Cont}
 use Rattle.model.specs.declared.machine.Driver.{Driver}
 use Rattle.model.specs.declared.machine.Frame.{Frame}
-use Rattle.model.specs.declared.coro.Made.{Made}
+use Rattle.model.specs.declared.coro.WordOr.{WordOr}
 use Rattle.model.specs.declared.coro.Entered.{Entered}
 use Rattle.model.specs.declared.call.Op.{Op}
 use Rattle.claims.specs.Says.{nothing, gets, closes}
@@ -53,15 +53,15 @@ use Rattle.claims.proofs.Endings.{Done, d-works, d-returns, finish-done
 rest-calm : (v : ℕ) (k : Core) (r s : Rest) (w u : World) → coro w v ≡ Is k r → seenOf (Is k s) ≡ seenOf (Is k r) → u .setup ≡ w .setup → u .stack ≡ w .stack → u .frames ≡ w .frames → u .chain ≡ w .chain → u .slots ≡ setCoro v k s w .slots → Calm w u
 rest-calm v k r s w u e m a b c d f = record { setup = a; stack = b; frames = c; chain = d; cores = λ x. ap (λ xs. cores xs x) f ∙ set-rest (w .slots) v e s m x }
 
-made-world : (w : World) (m : Made) → answerMade w m .world ≡ w
-made-world w (Made.Word v) = refl
-made-world w (Made.Refused f) = refl
+made-world : (w : World) (m : WordOr) → answerMade w m .world ≡ w
+made-world w (WordOr.Word v) = refl
+made-world w (WordOr.Refused f) = refl
 
 task-worked : (v : ℕ) (w : World) → Worked m-plain (view w) (view (andThen (spawnTask v w) answerMade .world))
 unfolding spawnTask pick
 task-worked v w = go (coro w v) refl
   where
-    test : (k : Core) (r : Rest) → coro w v ≡ Is k r → (b : Bool) → Worked m-plain (view w) (view (andThen (pick b (after (setCoro v k (withTask true r) (withReady (w .ready ++ (v ∷ [])) w)) (Made.Word v)) (after w (Made.Word v))) answerMade .world))
+    test : (k : Core) (r : Rest) → coro w v ≡ Is k r → (b : Bool) → Worked m-plain (view w) (view (andThen (pick b (after (setCoro v k (withTask true r) (withReady (w .ready ++ (v ∷ [])) w)) (WordOr.Word v)) (after w (WordOr.Word v))) answerMade .world))
     test k r e true = calm-worked (rest-calm v k r (withTask true r) w (setCoro v k (withTask true r) (withReady (w .ready ++ (v ∷ [])) w)) e refl refl refl refl refl refl) done
     test k r e false = done
 
@@ -92,7 +92,7 @@ host-worked : (f : ℕ) (w : World) → Worked m-plain (view w) (view (hostCall 
 unfolding hostCall
 host-worked f w = pushed (pushFrame f nil Cont.Entry w) (push-case f nil Cont.Entry w)
   where
-    pushed : (o : After Made) → PushCase f nil Cont.Entry w o → Worked m-plain (view w) (view (pushedOr w (o .world) (o .answer) .world))
+    pushed : (o : After WordOr) → PushCase f nil Cont.Entry w o → Worked m-plain (view w) (view (pushedOr w (o .world) (o .answer) .world))
     pushed o (p-in n) = push-worked f nil Cont.Entry n w refl done
     pushed o (p-out e) = done
 
@@ -115,7 +115,7 @@ function-worked pc f cont w ok = pushed (allowed-plain w cont (second-true (isFu
     u : World
     u = storePc pc w
 
-    pushed : isCoro cont ≡ false → (o : After Made) → PushCase f nil cont u o → Worked m-plain (view w) (view (pushedOr w (o .world) (o .answer) .world))
+    pushed : isCoro cont ≡ false → (o : After WordOr) → PushCase f nil cont u o → Worked m-plain (view w) (view (pushedOr w (o .world) (o .answer) .world))
     pushed e o (p-in n) = tops (setPc pc) (keeps-pc pc) (push-worked f nil cont n u e done)
     pushed e o (p-out x) = done
 
@@ -127,7 +127,7 @@ iterator-worked : (v : ℕ) (w : World) → Worked m-plain (view w) (view (makeI
 unfolding makeIterator
 iterator-worked v w = go (coro w v)
   where
-    made : After Made
+    made : After WordOr
     made = alloc (w .setup .costs .iter) (Object.Iter v false Opt.None) w
 
     go : (y : Coroutine) → Worked m-plain (view w) (view (iteratorOver y v w .world))

@@ -29,7 +29,7 @@ use Rattle.model.specs.declared.machine.Active.{Active}
 use Rattle.model.specs.declared.machine.Frame.{Frame}
 use Rattle.model.specs.declared.machine.Stop.{Stop}
 use Rattle.model.specs.declared.machine.Charge.{Charge}
-use Rattle.model.specs.declared.coro.Made.{Made}
+use Rattle.model.specs.declared.coro.WordOr.{WordOr}
 use Rattle.heap.specs.declared.heap.ResultKind.{ResultKind}
 use Rattle.model.specs.declared.call.OptPc.{OptPc}
 use Rattle.model.specs.declared.call.Answer.{Answer}
@@ -117,7 +117,7 @@ pub finish-done : (kind : ResultKind) (v : ℕ) (w : World) → Done (madeWord (
 unfolding finish applyCont
 finish-done kind v w = go (w .frames) refl
   where
-    made : After Made
+    made : After WordOr
     made = toDyn kind v w
 
     written : (dst : ℕ) (u : World) (r : Opt) → Worked m-ending (view u) (view (writeResult dst r u))
@@ -128,13 +128,13 @@ finish-done kind v w = go (w .frames) refl
     writing dst u Opt.None t = t
     writing dst u (Opt.Some x) t = puts dst x t
 
-    dyn : (dst : ℕ) (u : World) (m : Made) → Worked m-ending (view u) (view (resumeIn (writeMade dst u m .world) (writeMade dst u m .answer) .world))
-    dyn dst u (Made.Word x) = puts dst x (resume-worked (putReg dst x u) Fault.None)
-    dyn dst u (Made.Refused f) = resume-worked u f
+    dyn : (dst : ℕ) (u : World) (m : WordOr) → Worked m-ending (view u) (view (resumeIn (writeMade dst u m .world) (writeMade dst u m .answer) .world))
+    dyn dst u (WordOr.Word x) = puts dst x (resume-worked (putReg dst x u) Fault.None)
+    dyn dst u (WordOr.Refused f) = resume-worked u f
 
-    body : (f : Frame) (fs : List Frame) → w .frames ≡ f ∷ fs → isCoro (f .cont) ≡ true → (m : Made) → made .answer ≡ m → Done (madeWord (made .answer)) (view (made .world)) (returnMade f fs (made .world) m .world)
-    body f fs p q (Made.Word x) e = subst (λ y. Done y (view (made .world)) (coroReturned x (popTo f fs (made .world)))) (sym (ap madeWord e)) (returned-done x f fs (made .world) (dyn-same kind v w .frames ∙ p) q)
-    body f fs p q (Made.Refused y) e = d-works done
+    body : (f : Frame) (fs : List Frame) → w .frames ≡ f ∷ fs → isCoro (f .cont) ≡ true → (m : WordOr) → made .answer ≡ m → Done (madeWord (made .answer)) (view (made .world)) (returnMade f fs (made .world) m .world)
+    body f fs p q (WordOr.Word x) e = subst (λ y. Done y (view (made .world)) (coroReturned x (popTo f fs (made .world)))) (sym (ap madeWord e)) (returned-done x f fs (made .world) (dyn-same kind v w .frames ∙ p) q)
+    body f fs p q (WordOr.Refused y) e = d-works done
 
     top : (f : Frame) (fs : List Frame) → w .frames ≡ f ∷ fs → (c : Cont) → f .cont ≡ c → Done (madeWord (made .answer)) (view w) (finishAs c f fs kind v w .world)
     top f fs p Cont.Entry q = d-works (pops f fs p (inl (ap isCoro q)) done)
@@ -220,9 +220,9 @@ unwind-done f pc w = valid (raisable f)
     frames : (value : ℕ) (u : World) → Done nil (view u) (searchFrames value u .world)
     frames value u = search-done value (topFunc (u .frames)) (topPc (u .frames)) (u .frames) u refl
 
-    made : (u : World) (m : Made) → Done nil (view u) (searchMade u m .world)
-    made u (Made.Word x) = frames x u
-    made u (Made.Refused e) = d-works done
+    made : (u : World) (m : WordOr) → Done nil (view u) (searchMade u m .world)
+    made u (WordOr.Word x) = frames x u
+    made u (WordOr.Refused e) = d-works done
 
     kinds : (u : World) (a b : Bool) → Done nil (view u) (pick a (searchFrames (wordOf f) u) (pick b (andThen (alloc (u .setup .costs .error) (errorOf f u) u) searchMade) (after u (Answer.Refused f))) .world)
     kinds u true b = frames (wordOf f) u

@@ -36,7 +36,7 @@ use Rattle.model.specs.declared.machine.Cont.{Cont}
 use Rattle.model.specs.declared.machine.Driver.{Driver}
 use Rattle.model.specs.declared.machine.Active.{Active}
 use Rattle.model.specs.declared.machine.Frame.{Frame}
-use Rattle.model.specs.declared.coro.Made.{Made}
+use Rattle.model.specs.declared.coro.WordOr.{WordOr}
 use Rattle.model.specs.declared.call.Answer.{Answer}
 use Rattle.claims.specs.Delivery.{recorded}
 use Rattle.claims.specs.Steps.{seenOf}
@@ -151,15 +151,15 @@ return-ints Driver.Finalize x w v n h = h
 -- ---- what does not convert is refused with 7, 9 or 14: by a test that fails there
 
 module _ (P : ℕ → Bool) (p7 : P 7 ≡ false) (p9 : P 9 ≡ false) (p14 : P 14 ≡ false) where
-  abbrev refusal : Made → Bool
-  refusal (Made.Word v) = false
-  refusal (Made.Refused f) = P (Faults.numberOf f)
+  abbrev refusal : WordOr → Bool
+  refusal (WordOr.Word v) = false
+  refusal (WordOr.Refused f) = P (Faults.numberOf f)
 
   pub refused-alloc : (bytes : ℕ) (o : Object) (w : World) → refusal (alloc bytes o w .answer) ≡ false
   unfolding alloc pick
   refused-alloc bytes o w = go (not (fits w bytes)) (slotsFull w)
     where
-      go : (a b : Bool) → refusal (pick a (refuse w Fault.OutOfMemory) (pick b (refuse w Fault.Full) (after (withUsed (satAdd (w .used) bytes) (withSlots (pushObject (w .slots) o) w)) (Made.Word (nextWord (w .slots))))) .answer) ≡ false
+      go : (a b : Bool) → refusal (pick a (refuse w Fault.OutOfMemory) (pick b (refuse w Fault.Full) (after (withUsed (satAdd (w .used) bytes) (withSlots (pushObject (w .slots) o) w)) (WordOr.Word (nextWord (w .slots))))) .answer) ≡ false
       go true b = p9
       go false true = p14
       go false false = refl
@@ -183,7 +183,7 @@ module _ (P : ℕ → Bool) (p7 : P 7 ≡ false) (p9 : P 9 ≡ false) (p14 : P 1
   refused-dyn ResultKind.U64 x w = refused-exact (exactly (valueOf IntTy.U64 x)) w
 
   -- so it is with a refusal that is at hand
-  pub refused-at : {m : Made} {f : Fault} → refusal m ≡ false → m ≡ Made.Refused f → P (Faults.numberOf f) ≡ false
+  pub refused-at : {m : WordOr} {f : Fault} → refusal m ≡ false → m ≡ WordOr.Refused f → P (Faults.numberOf f) ≡ false
   refused-at h e = ap refusal (sym e) ∙ h
 
 abbrev isZero : ℕ → Bool
@@ -198,13 +198,13 @@ bodyOn (f ∷ fs) = isCoro (f .cont)
 -- the result does not convert
 pub record Unmade (kind : ResultKind) (x : ℕ) (w : World) (o : After Answer) : Type 0 where
   pub fault : Fault
-  pub refused : toDyn kind x w .answer ≡ Made.Refused fault
+  pub refused : toDyn kind x w .answer ≡ WordOr.Refused fault
   pub numbered : eqb (numberOf (o .answer)) 0 ≡ false
 
 pub data FinishCase (kind : ResultKind) (x : ℕ) (w : World) (o : After Answer) : Type 0 where
   -- nobody returns: no body is on top, or none is active, or it is refused
   f-other : ((c : ℕ) → coro (o .world) c ≡ coro w c) → (bodyOn (w .frames) ≡ false) ⊎ ((w .chain ≡ []) ⊎ Unmade kind x w o) → FinishCase kind x w o
-  f-returns : (f : Frame) (fs : List Frame) (a : Active) (chain : List Active) (y : ℕ) → w .frames ≡ f ∷ fs → isCoro (f .cont) ≡ true → w .chain ≡ a ∷ chain → toDyn kind x w .answer ≡ Made.Word y → numberOf (o .answer) ≡ 0
+  f-returns : (f : Frame) (fs : List Frame) (a : Active) (chain : List Active) (y : ℕ) → w .frames ≡ f ∷ fs → isCoro (f .cont) ≡ true → w .chain ≡ a ∷ chain → toDyn kind x w .answer ≡ WordOr.Word y → numberOf (o .answer) ≡ 0
       → Ends CoroState.Returned (a .coro) (coreAt w) (coreAt (o .world)) → (isRunning (coreAt w (a .coro) .state) ≡ true → recorded (seenOf (coro (o .world) (a .coro))) ≡ y)
       → ((v n : ℕ) → dynInt (toDyn kind x w .world) v ≡ Opt.Some n → dynInt (o .world) v ≡ Opt.Some n) → FinishCase kind x w o
 
@@ -212,7 +212,7 @@ pub finish-case : (kind : ResultKind) (x : ℕ) (w : World) → FinishCase kind 
 unfolding finish applyCont coroReturned pick
 finish-case kind x w = go (w .frames) refl
   where
-    made : After Made
+    made : After WordOr
     made = toDyn kind x w
 
     resumed : (u : World) (f : Fault) → ((c : ℕ) → coro u c ≡ coro w c) → (b : Bool) (c : ℕ) → coro (pick b (after (nextPc u) Answer.Resume) (after u (Answer.Refused f)) .world) c ≡ coro w c
@@ -226,13 +226,13 @@ finish-case kind x w = go (w .frames) refl
     written dst u Opt.None c = refl
     written dst u (Opt.Some y) c = refl
 
-    dyn : (dst : ℕ) (u : World) (m : Made) → ((c : ℕ) → coro u c ≡ coro w c) → (c : ℕ) → coro (resumeIn (writeMade dst u m .world) (writeMade dst u m .answer) .world) c ≡ coro w c
-    dyn dst u (Made.Word y) e c = e c
-    dyn dst u (Made.Refused f) e c = resumed u f e (isOk f) c
+    dyn : (dst : ℕ) (u : World) (m : WordOr) → ((c : ℕ) → coro u c ≡ coro w c) → (c : ℕ) → coro (resumeIn (writeMade dst u m .world) (writeMade dst u m .answer) .world) c ≡ coro w c
+    dyn dst u (WordOr.Word y) e c = e c
+    dyn dst u (WordOr.Refused f) e c = resumed u f e (isOk f) c
 
-    body : (f : Frame) (fs : List Frame) → w .frames ≡ f ∷ fs → isCoro (f .cont) ≡ true → (m : Made) → made .answer ≡ m → FinishCase kind x w (returnMade f fs (made .world) m)
-    body f fs p q (Made.Refused y) e = f-other (dyn-same kind x w .coros) (inr (inr (record { fault = y; refused = e; numbered = refused-at isZero refl refl refl (refused-dyn isZero refl refl refl kind x w) e })))
-    body f fs p q (Made.Word y) e = chained (made .world .chain) refl
+    body : (f : Frame) (fs : List Frame) → w .frames ≡ f ∷ fs → isCoro (f .cont) ≡ true → (m : WordOr) → made .answer ≡ m → FinishCase kind x w (returnMade f fs (made .world) m)
+    body f fs p q (WordOr.Refused y) e = f-other (dyn-same kind x w .coros) (inr (inr (record { fault = y; refused = e; numbered = refused-at isZero refl refl refl (refused-dyn isZero refl refl refl kind x w) e })))
+    body f fs p q (WordOr.Word y) e = chained (made .world .chain) refl
       where
         u : World
         u = made .world

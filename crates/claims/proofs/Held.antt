@@ -16,7 +16,7 @@ use Rattle.model.specs.Sound.{marked}
 use Rattle.model.specs.Call.{Call, SetUp, Do}
 use Rattle.model.specs.declared.machine.Driver.{Driver}
 use Rattle.model.specs.declared.machine.Frame.{Frame}
-use Rattle.model.specs.declared.coro.Made.{Made}
+use Rattle.model.specs.declared.coro.WordOr.{WordOr}
 use Rattle.claims.specs.Engine.{Seen}
 use Rattle.claims.specs.Says.{Sent, nothing, gets, closes}
 use Rattle.claims.specs.Steps.{seenOf}
@@ -79,9 +79,9 @@ pub data Event : Type 0 where
   Ignores : Event
   Returns : ℕ → Event
 
-abbrev pub madeWord : Made → ℕ
-madeWord (Made.Word v) = v
-madeWord (Made.Refused f) = nil
+abbrev pub madeWord : WordOr → ℕ
+madeWord (WordOr.Word v) = v
+madeWord (WordOr.Refused f) = nil
 
 -- of a suspension in a state, closing or not, with its payload
 abbrev pub eventAs : Bool → CoroState → ℕ → Event

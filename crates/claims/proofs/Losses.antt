@@ -29,7 +29,7 @@ use Rattle.model.specs.Call.{Call, SetUp, Do}
 use Rattle.model.specs.Step.{call, step}
 use Rattle.model.specs.declared.machine.Active.{Active}
 use Rattle.model.specs.declared.machine.Frame.{Frame}
-use Rattle.model.specs.declared.coro.Made.{Made}
+use Rattle.model.specs.declared.coro.WordOr.{WordOr}
 use Rattle.heap.specs.declared.heap.ResultKind.{ResultKind}
 use Rattle.model.specs.declared.call.OptPc.{OptPc}
 use Rattle.model.specs.declared.call.Op.{Op}
@@ -125,8 +125,8 @@ module _ (w : World) (h : sound w ≡ true) where
       y : World
       y = withUsed (satAdd (u .used) (u .setup .costs .error)) (withSlots (pushObject (u .slots) (errorOf f u)) u)
 
-      made : (a b : Bool) → After Made
-      made a b = pick a (refuse u Fault.OutOfMemory) (pick b (refuse u Fault.Full) (after y (Made.Word (nextWord (u .slots)))))
+      made : (a b : Bool) → After WordOr
+      made a b = pick a (refuse u Fault.OutOfMemory) (pick b (refuse u Fault.Full) (after y (WordOr.Word (nextWord (u .slots)))))
 
       here : (c : ℕ) → coro y c ≡ coro w c
       here c = push-coros (u .slots) (errorOf f u) refl c ∙ ap (λ xs. coroIn xs c) es

@@ -32,7 +32,7 @@ use Rattle.model.specs.declared.machine.Active.{Active}
 use Rattle.model.specs.declared.machine.Charge.{Charge}
 use Rattle.model.specs.declared.coro.Event.{Event}
 use Rattle.model.specs.declared.coro.Keys.{Keys}
-use Rattle.model.specs.declared.coro.Made.{Made}
+use Rattle.model.specs.declared.coro.WordOr.{WordOr}
 use Rattle.model.specs.declared.coro.AutoKey.{AutoKey}
 use Rattle.model.specs.declared.coro.Suspension.{Suspension}
 use Rattle.model.specs.declared.exec.Step.{Step}
@@ -114,9 +114,9 @@ key-refused : (largest : ℕ) (w : World) (f : Fault) → autoKey largest w .ans
 unfolding autoKey
 key-refused largest w f = go (nextKey largest)
   where
-    made : (n : ℕ) (u : World) (m : Made) → encodeInt n w .answer ≡ m → keyAt n u m .answer ≡ AutoKey.Refused f → okNumber (Faults.numberOf f) ≡ false
-    made n u (Made.Word k) q e = sym (ap bad e)
-    made n u (Made.Refused g) q e = ap bad (sym e) ∙ refused-at okNumber refl refl refl (refused-int okNumber refl refl refl n w) q
+    made : (n : ℕ) (u : World) (m : WordOr) → encodeInt n w .answer ≡ m → keyAt n u m .answer ≡ AutoKey.Refused f → okNumber (Faults.numberOf f) ≡ false
+    made n u (WordOr.Word k) q e = sym (ap bad e)
+    made n u (WordOr.Refused g) q e = ap bad (sym e) ∙ refused-at okNumber refl refl refl (refused-int okNumber refl refl refl n w) q
 
     go : (x : Exact) → keyExact x w .answer ≡ AutoKey.Refused f → okNumber (Faults.numberOf f) ≡ false
     go (Exact.Fits n) e = made n (encodeInt n w .world) (encodeInt n w .answer) refl e

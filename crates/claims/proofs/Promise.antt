@@ -33,7 +33,7 @@ use Rattle.model.specs.Compute.{computed}
 use Rattle.model.specs.declared.machine.Cont.{Cont}
 use Rattle.model.specs.declared.machine.Driver.{Driver}
 use Rattle.model.specs.declared.machine.Frame.{Frame}
-use Rattle.model.specs.declared.coro.Made.{Made}
+use Rattle.model.specs.declared.coro.WordOr.{WordOr}
 use Rattle.model.specs.declared.call.OptPc.{OptPc}
 use Rattle.model.specs.declared.call.Op.{Op}
 use Rattle.model.specs.declared.call.Answer.{Answer}
@@ -172,14 +172,14 @@ bodiless (f ∷ fs) h = go (isCoro (f .cont)) refl h
     go false e h = e
     go true e h = no-both h refl
 
-plain-made : {A : Type 0} (kind : ResultKind) (x : ℕ) (w : World) (g : Fault) → plain kind ≡ true → toDyn kind x w .answer ≡ Made.Refused g → A
+plain-made : {A : Type 0} (kind : ResultKind) (x : ℕ) (w : World) (g : Fault) → plain kind ≡ true → toDyn kind x w .answer ≡ WordOr.Refused g → A
 unfolding toDyn
 plain-made ResultKind.None x w g p e = let z : _≡_ {A = ℕ} 0 1 = cc in absurd (omega arith)
 plain-made ResultKind.Dyn x w g p e = let z : _≡_ {A = ℕ} 0 1 = cc in absurd (omega arith)
 plain-made ResultKind.I64 x w g p e = no-both p refl
 plain-made ResultKind.U64 x w g p e = no-both p refl
 
-finish-zero : (kind : ResultKind) (x : ℕ) (w : World) (o : After Answer) → sound w ≡ true → ((f : Fault) → toDyn kind x w .answer ≡ Made.Refused f → ⊥) → onBody (w .frames) ≡ true → FinishCase kind x w o → numberOf (o .answer) ≡ 0
+finish-zero : (kind : ResultKind) (x : ℕ) (w : World) (o : After Answer) → sound w ≡ true → ((f : Fault) → toDyn kind x w .answer ≡ WordOr.Refused f → ⊥) → onBody (w .frames) ≡ true → FinishCase kind x w o → numberOf (o .answer) ≡ 0
 unfolding floorsOk
 finish-zero kind x w o h p b (f-returns f fs a chain y q r t m n ends tells ints) = n
 finish-zero kind x w o h p b (f-other same why) = go why
@@ -189,7 +189,7 @@ finish-zero kind x w o h p b (f-other same why) = go why
     go (inr (inl q)) = no-both b (on-body (w .frames) ∙ bodiless (w .frames) (ap (matches (λ f fs a. eqb (a .floor) (length fs)) (w .frames)) (sym q) ∙ floors w h))
     go (inr (inr u)) = absurd (p (u .fault) (u .refused))
 
-finish-call : (kind : ResultKind) (x : ℕ) (w : World) → sound w ≡ true → ((f : Fault) → toDyn kind x w .answer ≡ Made.Refused f → ⊥) → onBody (w .frames) ≡ true → numberOf (call (Op.Finish kind x) w .answer) ≡ 0
+finish-call : (kind : ResultKind) (x : ℕ) (w : World) → sound w ≡ true → ((f : Fault) → toDyn kind x w .answer ≡ WordOr.Refused f → ⊥) → onBody (w .frames) ≡ true → numberOf (call (Op.Finish kind x) w .answer) ≡ 0
 unfolding call
 finish-call kind x w h p b = finish-zero kind x w (finish kind x w) h p b (finish-case kind x w)
 
@@ -201,7 +201,7 @@ escape-call : (x : ℕ) (pc : OptPc) (w : World) (c : ℕ) → sound w ≡ true 
 unfolding call unwind pick
 escape-call x pc w c h e = escape-zero (word-ended w h x pc) e
 
-finish-step : (w : World) (k : Call) (kind : ResultKind) (x : ℕ) → Healthy steps w → opOf k ≡ some (Op.Finish kind x) → (x < 2 ^ 64 → (f : Fault) → toDyn kind x w .answer ≡ Made.Refused f → ⊥) → onBody (w .frames) ≡ true → numberOf (step w k .answer) ≡ 0
+finish-step : (w : World) (k : Call) (kind : ResultKind) (x : ℕ) → Healthy steps w → opOf k ≡ some (Op.Finish kind x) → (x < 2 ^ 64 → (f : Fault) → toDyn kind x w .answer ≡ WordOr.Refused f → ⊥) → onBody (w .frames) ≡ true → numberOf (step w k .answer) ≡ 0
 finish-step w (SetUp s) kind x h e p b = let z : _≡_ {A = ℕ} 0 1 = cc in absurd (omega arith)
 finish-step w (Do o) kind x h e p b = ap numberOf (number-sound w o (healthy-sound w h)) ∙ ap (λ q. numberOf (call q w .answer)) (some-op e) ∙ finish-call kind x w (healthy-sound w h) (p (word-in (o .op) kind x (some-op e) (o .within))) b
 

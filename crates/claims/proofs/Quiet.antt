@@ -28,7 +28,7 @@ use Rattle.model.specs.Heap.{object, coro, changeAs, changeCoro, changeIterIn, 
 use Rattle.model.specs.Rows.{rowsFull, freeRow}
 use Rattle.model.specs.Coro.{newRegs, newCore, newRest, coroCreate, inState, ended, finishCoroutine}
 use Rattle.model.specs.Exec.{keyExact, keyAt, autoKey, indirectTo, indirect, window}
-use Rattle.model.specs.declared.coro.Made.{Made}
+use Rattle.model.specs.declared.coro.WordOr.{WordOr}
 use Rattle.heap.specs.declared.heap.ResultKind.{ResultKind}
 use Rattle.claims.specs.Delivery.{recorded}
 use Rattle.claims.specs.Steps.{seenOf}
@@ -76,7 +76,7 @@ alloc-grown bytes o w b m = go (not (fits w bytes)) (slotsFull w)
     found c (inl e) = inl (ap asCoro e)
     found c (inr e) = inr (ap asCoro (e .0), ap (λ x. isCreated (coreIn (asCoro x) .state)) (e .1) ∙ b, ap (λ x. coreIn (asCoro x) .closing) (e .1) ∙ m)
 
-    go : (x y : Bool) → Grown w (pick x (refuse w Fault.OutOfMemory) (pick y (refuse w Fault.Full) (after (withUsed (satAdd (w .used) bytes) (withSlots (pushObject (w .slots) o) w)) (Made.Word (nextWord (w .slots))))) .world)
+    go : (x y : Bool) → Grown w (pick x (refuse w Fault.OutOfMemory) (pick y (refuse w Fault.Full) (after (withUsed (satAdd (w .used) bytes) (withSlots (pushObject (w .slots) o) w)) (WordOr.Word (nextWord (w .slots))))) .world)
     go true y = grown-none
     go false true = grown-none
     go false false = record { setup = refl; stack = refl; frames = refl; chain = refl; finds = λ c. found c (push-cases (w .slots) o c) }
@@ -88,7 +88,7 @@ create-grown f closure args w = go (not (fits w (8 * n + w .setup .costs .coro +
     n : ℕ
     n = func (w .setup) f .regs
 
-    made : After Made
+    made : After WordOr
     made = alloc (8 * n + w .setup .costs .object + w .setup .costs .frame) (Object.Coro (newCore f closure (newRegs n args)) (newRest (w .seq) (freeRow w) n)) (withSeq ((w .seq + 1) % 2 ^ 64) w)
 
     inner : Grown w (made .world)
@@ -123,7 +123,7 @@ alloc-same bytes o w b = go (not (fits w bytes)) (slotsFull w)
     found c (inl e) = ap asCoro e
     found c (inr e) = ap asCoro (e .1) ∙ b ∙ sym (ap asCoro (e .0))
 
-    go : (x y : Bool) → Same w (pick x (refuse w Fault.OutOfMemory) (pick y (refuse w Fault.Full) (after (withUsed (satAdd (w .used) bytes) (withSlots (pushObject (w .slots) o) w)) (Made.Word (nextWord (w .slots))))) .world)
+    go : (x y : Bool) → Same w (pick x (refuse w Fault.OutOfMemory) (pick y (refuse w Fault.Full) (after (withUsed (satAdd (w .used) bytes) (withSlots (pushObject (w .slots) o) w)) (WordOr.Word (nextWord (w .slots))))) .world)
     go true y = same-none
     go false true = same-none
     go false false = record { setup = refl; stack = refl; frames = refl; chain = refl; coros = λ c. found c (push-cases (w .slots) o c) }
@@ -150,12 +150,12 @@ pub key-same : (largest : ℕ) (w : World) → Same w (autoKey largest w .world)
 unfolding autoKey
 key-same largest w = go (nextKey largest)
   where
-    made : (n : ℕ) (o : After Made) → Same w (o .world) → Same w (keyAt n (o .world) (o .answer) .world)
+    made : (n : ℕ) (o : After WordOr) → Same w (o .world) → Same w (keyAt n (o .world) (o .answer) .world)
     made n o g = cases (o .answer)
       where
-        cases : (m : Made) → Same w (keyAt n (o .world) m .world)
-        cases (Made.Word k) = g
-        cases (Made.Refused f) = g
+        cases : (m : WordOr) → Same w (keyAt n (o .world) m .world)
+        cases (WordOr.Word k) = g
+        cases (WordOr.Refused f) = g
 
     go : (x : Exact) → Same w (keyExact x w .world)
     go (Exact.Fits n) = made n (encodeInt n w) (encode-same n w)

@@ -35,7 +35,7 @@ use Rattle.model.specs.Step.{call, step}
 use Rattle.model.specs.declared.machine.Active.{Active}
 use Rattle.model.specs.declared.machine.Charge.{Charge}
 use Rattle.model.specs.declared.machine.Frame.{Frame}
-use Rattle.model.specs.declared.coro.Made.{Made}
+use Rattle.model.specs.declared.coro.WordOr.{WordOr}
 use Rattle.model.specs.declared.coro.Keys.{Keys}
 use Rattle.model.specs.declared.coro.Suspension.{Suspension}
 use Rattle.model.specs.declared.exec.Step.{Step}
@@ -202,7 +202,7 @@ module _ (w : World) (n c : ℕ) (m : Roomy steps n c w) where
         made = withUsed (satAdd (w .used) (w .setup .costs .int)) (withSlots (pushObject (w .slots) (Object.Int k)) (spend w))
 
         object : (b d : Bool) → b ≡ false → d ≡ false
-            → let o = pick b (refuse (spend w) Fault.OutOfMemory) (pick d (refuse (spend w) Fault.Full) (after made (Made.Word (nextWord (w .slots))))) in Same w (o .world)
+            → let o = pick b (refuse (spend w) Fault.OutOfMemory) (pick d (refuse (spend w) Fault.Full) (after made (WordOr.Word (nextWord (w .slots))))) in Same w (o .world)
             → keyed (tries pc CoroState.Yielded dst x) (andThen o (keyAt k) .world) (andThen o (keyAt k) .answer) ≡ true
         object true d p q g = no-both refl p
         object false true p q g = no-both refl q

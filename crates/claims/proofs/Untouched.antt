@@ -18,7 +18,7 @@ use Rattle.model.specs.Step as M
 use Rattle.model.specs.Step.{call}
 use Rattle.model.specs.declared.machine.Driver.{Driver}
 use Rattle.model.specs.declared.machine.Frame.{Frame}
-use Rattle.model.specs.declared.coro.Made.{Made}
+use Rattle.model.specs.declared.coro.WordOr.{WordOr}
 use Rattle.model.specs.declared.call.Op.{Op}
 use Rattle.model.specs.declared.call.Answer.{Answer}
 use Rattle.claims.specs.Engine.{View, run, seenIn}
@@ -112,14 +112,14 @@ event-alike v c z n (l-raise f pc) = refl
 event-alike v c z n l-other = refl
 
 -- who leaves by a finish returns, and has recorded its result
-result-alike : (kind : ResultKind) (x : ℕ) (v : World) (r : ℕ) → ((y : ℕ) → toDyn kind x v .answer ≡ Made.Word y → r ≡ y) → (y : ℕ) → toDyn kind x v .answer ≡ Made.Word y → resultOf kind x r ≡ madeWord (toDyn kind x v .answer)
+result-alike : (kind : ResultKind) (x : ℕ) (v : World) (r : ℕ) → ((y : ℕ) → toDyn kind x v .answer ≡ WordOr.Word y → r ≡ y) → (y : ℕ) → toDyn kind x v .answer ≡ WordOr.Word y → resultOf kind x r ≡ madeWord (toDyn kind x v .answer)
 unfolding toDyn
 result-alike ResultKind.None x v r h y e = refl
 result-alike ResultKind.Dyn x v r h y e = refl
 result-alike ResultKind.I64 x v r h y e = h y e ∙ ap madeWord (sym e)
 result-alike ResultKind.U64 x v r h y e = h y e ∙ ap madeWord (sym e)
 
-one-made : {m : Made} {x y : ℕ} → m ≡ Made.Word x → m ≡ Made.Word y → x ≡ y
+one-made : {m : WordOr} {x y : ℕ} → m ≡ WordOr.Word x → m ≡ WordOr.Word y → x ≡ y
 one-made p q = ap madeWord (sym p ∙ q)
 
 finish-event : (kind : ResultKind) (x : ℕ) (v : World) (c : ℕ) (o : After Answer) → isRunning (coreAt v c .state) ≡ true → hasLeft (coreAt (o .world) c .state) ≡ true

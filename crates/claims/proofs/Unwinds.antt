@@ -22,7 +22,7 @@ use Rattle.model.specs.Sound.{sound, runningOk, runs, coros, runsAmong}
 use Rattle.model.specs.Answer.{numberOf}
 use Rattle.model.specs.declared.machine.Active.{Active}
 use Rattle.model.specs.declared.machine.Frame.{Frame}
-use Rattle.model.specs.declared.coro.Made.{Made}
+use Rattle.model.specs.declared.coro.WordOr.{WordOr}
 use Rattle.model.specs.declared.call.OptPc.{OptPc}
 use Rattle.model.specs.declared.call.Answer.{Answer}
 use Rattle.claims.specs.Engine as Engine
@@ -120,8 +120,8 @@ module _ (w : World) (h : sound w ≡ true) where
       y : World
       y = withUsed (satAdd (u .used) (u .setup .costs .error)) (withSlots (pushObject (u .slots) (errorOf f u)) u)
 
-      made : (a b : Bool) → After Made
-      made a b = pick a (refuse u Fault.OutOfMemory) (pick b (refuse u Fault.Full) (after y (Made.Word (nextWord (u .slots)))))
+      made : (a b : Bool) → After WordOr
+      made a b = pick a (refuse u Fault.OutOfMemory) (pick b (refuse u Fault.Full) (after y (WordOr.Word (nextWord (u .slots)))))
 
       same : Same u y
       same = record { setup = refl; stack = refl; frames = refl; chain = refl; coros = push-coros (u .slots) (errorOf f u) refl }

@@ -34,7 +34,7 @@ use Rattle.model.specs.Machine.{finish}
 use Rattle.model.specs.Sound.{sound}
 use Rattle.model.specs.Call.{Call, typed}
 use Rattle.model.specs.Step.{call}
-use Rattle.model.specs.declared.coro.Made.{Made}
+use Rattle.model.specs.declared.coro.WordOr.{WordOr}
 use Rattle.model.specs.declared.call.Op.{Op}
 use Rattle.model.specs.declared.call.Answer.{Answer}
 use Rattle.soundness.proofs.Sound.{sound→}
@@ -83,26 +83,26 @@ new-object xs o l f =
 new-int : (xs : List (Slot Object)) (n : ℕ) → length xs < 2 ^ 32 → dynIn (pushObject xs (Object.Int n)) (nextWord xs) ≡ Opt.Some n
 new-int xs n l = dyn-object (pushObject xs (Object.Int n)) (nextWord xs) (omega (arith, l)) ∙ ap intIn (new-object xs (Object.Int n) l refl)
 
-word-of : Made → ℕ
-word-of (Made.Word y) = y
-word-of (Made.Refused f) = 0
+word-of : WordOr → ℕ
+word-of (WordOr.Word y) = y
+word-of (WordOr.Refused f) = 0
 
 module _ (w : World) (h : sound w ≡ true) where
   few : length (w .slots) < 2 ^ 32
   few = let k = sound→ {ex = false} w h (λ z. no-both z refl) .heap in let a = k .count in let b = k .small in omega (arith, a, b)
 
-  encoded : (n y : ℕ) → n < 2 ^ 64 → encodeInt n w .answer ≡ Made.Word y → dynInt (encodeInt n w .world) y ≡ Opt.Some n
+  encoded : (n y : ℕ) → n < 2 ^ 64 → encodeInt n w .answer ≡ WordOr.Word y → dynInt (encodeInt n w .world) y ≡ Opt.Some n
   unfolding alloc pick word-of
   encoded n y l e = go (inRange 47 (ofBits 63 n)) refl e
     where
       object : (a b : Bool)
-          → let o = pick a (refuse w Fault.OutOfMemory) (pick b (refuse w Fault.Full) (after (withUsed (satAdd (w .used) (w .setup .costs .int)) (withSlots (pushObject (w .slots) (Object.Int n)) w)) (Made.Word (nextWord (w .slots))))) in
-          o .answer ≡ Made.Word y → dynInt (o .world) y ≡ Opt.Some n
+          → let o = pick a (refuse w Fault.OutOfMemory) (pick b (refuse w Fault.Full) (after (withUsed (satAdd (w .used) (w .setup .costs .int)) (withSlots (pushObject (w .slots) (Object.Int n)) w)) (WordOr.Word (nextWord (w .slots))))) in
+          o .answer ≡ WordOr.Word y → dynInt (o .world) y ≡ Opt.Some n
       object true b e = let z : _≡_ {A = ℕ} 0 1 = cc in absurd (omega arith)
       object false true e = let z : _≡_ {A = ℕ} 0 1 = cc in absurd (omega arith)
       object false false e = subst (λ v. dynIn (pushObject (w .slots) (Object.Int n)) v ≡ Opt.Some n) (ap word-of e) (new-int (w .slots) n few)
 
-      go : (b : Bool) → inRange 47 (ofBits 63 n) ≡ b → let i = pick b (Inline.At (record { 0 = intWord (ofBits 63 n) })) Inline.Large in encodeAt i n w .answer ≡ Made.Word y → dynInt (encodeAt i n w .world) y ≡ Opt.Some n
+      go : (b : Bool) → inRange 47 (ofBits 63 n) ≡ b → let i = pick b (Inline.At (record { 0 = intWord (ofBits 63 n) })) Inline.Large in encodeAt i n w .answer ≡ WordOr.Word y → dynInt (encodeAt i n w .world) y ≡ Opt.Some n
       go true q e =
           subst (λ v. dynIn (w .slots) v ≡ Opt.Some n) (ap word-of e)
           (ap (dynIntBy Object.Empty isFilled intIn (w .slots)) (class-int (ofBits 63 n) (ltb-true (mag (ofBits 63 n)) (2 ^ 47) q)) ∙ ap Opt.Some (bits-of 63 n l))
@@ -114,7 +114,7 @@ module _ (w : World) (h : sound w ≡ true) where
   signed-in : (x : ℕ) → x < 2 ^ 64 → exactly (ofBits 63 x) ≡ Exact.Fits x
   signed-in x l = exact-in (ofBits 63 x) (lt-ltb (mag (ofBits 63 x)) (2 ^ 63) (of-range 63 x l)) ∙ ap Exact.Fits (bits-of 63 x l)
 
-  made-int : (kind : ResultKind) (x y : ℕ) → isInteger kind ≡ true → x < 2 ^ 64 → toDyn kind x w .answer ≡ Made.Word y → dynInt (toDyn kind x w .world) y ≡ Opt.Some x
+  made-int : (kind : ResultKind) (x y : ℕ) → isInteger kind ≡ true → x < 2 ^ 64 → toDyn kind x w .answer ≡ WordOr.Word y → dynInt (toDyn kind x w .world) y ≡ Opt.Some x
   unfolding toDyn pick
   made-int ResultKind.None x y k l e = no-both k refl
   made-int ResultKind.Dyn x y k l e = no-both k refl
@@ -123,26 +123,26 @@ module _ (w : World) (h : sound w ≡ true) where
       ap (λ t. dynInt (encodeExact t w .world) y) q ∙ encoded x y l (ap (λ t. encodeExact t w .answer) (sym q) ∙ e)
   made-int ResultKind.U64 x y k l e = go (inRange 63 (pos x)) e
     where
-      go : (b : Bool) → let t = pick b (Exact.Fits x) Exact.Over in encodeExact t w .answer ≡ Made.Word y → dynInt (encodeExact t w .world) y ≡ Opt.Some x
+      go : (b : Bool) → let t = pick b (Exact.Fits x) Exact.Over in encodeExact t w .answer ≡ WordOr.Word y → dynInt (encodeExact t w .world) y ≡ Opt.Some x
       go true e = encoded x y l e
       go false e = let z : _≡_ {A = ℕ} 0 1 = cc in absurd (omega arith)
 
   -- and what converts, where an object can be made, is made
-  can-encode : (n : ℕ) → fits w (w .setup .costs .int) ≡ true → slotsFull w ≡ false → (f : Fault) → encodeInt n w .answer ≡ Made.Refused f → ⊥
+  can-encode : (n : ℕ) → fits w (w .setup .costs .int) ≡ true → slotsFull w ≡ false → (f : Fault) → encodeInt n w .answer ≡ WordOr.Refused f → ⊥
   unfolding alloc pick
   can-encode n a b f e = go (inlineOf (ofBits 63 n)) e
     where
       object : (x y : Bool) → x ≡ false → y ≡ false → pick x (refuse w Fault.OutOfMemory)
-          (pick y (refuse w Fault.Full) (after (withUsed (satAdd (w .used) (w .setup .costs .int)) (withSlots (pushObject (w .slots) (Object.Int n)) w)) (Made.Word (nextWord (w .slots))))) .answer ≡ Made.Refused f → ⊥
+          (pick y (refuse w Fault.Full) (after (withUsed (satAdd (w .used) (w .setup .costs .int)) (withSlots (pushObject (w .slots) (Object.Int n)) w)) (WordOr.Word (nextWord (w .slots))))) .answer ≡ WordOr.Refused f → ⊥
       object true y p q e = no-both refl p
       object false true p q e = no-both refl q
       object false false p q e = let z : _≡_ {A = ℕ} 0 1 = cc in absurd (omega arith)
 
-      go : (i : Inline) → encodeAt i n w .answer ≡ Made.Refused f → ⊥
+      go : (i : Inline) → encodeAt i n w .answer ≡ WordOr.Refused f → ⊥
       go (Inline.At x) e = let z : _≡_ {A = ℕ} 0 1 = cc in absurd (omega arith)
       go Inline.Large e = object (not (fits w (w .setup .costs .int))) (slotsFull w) (ap not a) b e
 
-  pub can-make : (kind : ResultKind) (x : ℕ) → x < 2 ^ 64 → converts kind x ≡ true → fits w (w .setup .costs .int) ≡ true → slotsFull w ≡ false → (f : Fault) → toDyn kind x w .answer ≡ Made.Refused f → ⊥
+  pub can-make : (kind : ResultKind) (x : ℕ) → x < 2 ^ 64 → converts kind x ≡ true → fits w (w .setup .costs .int) ≡ true → slotsFull w ≡ false → (f : Fault) → toDyn kind x w .answer ≡ WordOr.Refused f → ⊥
   unfolding toDyn
   can-make ResultKind.None x l k a b f e = let z : _≡_ {A = ℕ} 0 1 = cc in absurd (omega arith)
   can-make ResultKind.Dyn x l k a b f e = let z : _≡_ {A = ℕ} 0 1 = cc in absurd (omega arith)
@@ -190,10 +190,10 @@ integer c w k kind x g e i = go (next w k) (step-case w k) (sym (is-ended (next 
 
 -- ---- a word, or none, is recorded as it is returned
 
-word-made : {a b : ℕ} → _≡_ {A = Made} (Made.Word a) (Made.Word b) → a ≡ b
+word-made : {a b : ℕ} → _≡_ {A = WordOr} (WordOr.Word a) (WordOr.Word b) → a ≡ b
 word-made e = cc
 
-plain-made : (kind : ResultKind) (x y : ℕ) (w : World) → isInteger kind ≡ false → toDyn kind x w .answer ≡ Made.Word y → y ≡ resultOf kind x 0
+plain-made : (kind : ResultKind) (x y : ℕ) (w : World) → isInteger kind ≡ false → toDyn kind x w .answer ≡ WordOr.Word y → y ≡ resultOf kind x 0
 unfolding toDyn
 plain-made ResultKind.None x y w p e = sym (word-made e)
 plain-made ResultKind.Dyn x y w p e = sym (word-made e)

@@ -26,7 +26,7 @@ use Rattle.model.specs.Cleanup.{joinReady, spawnTask}
 use Rattle.model.specs.Added.{handOverAs, handOver}
 use Rattle.model.specs.Sound.{sound}
 use Rattle.model.specs.declared.call.Answer.{Answer}
-use Rattle.model.specs.declared.coro.Made.{Made}
+use Rattle.model.specs.declared.coro.WordOr.{WordOr}
 use Rattle.model.specs.declared.machine.Fuel.{Fuel}
 use Rattle.soundness.proofs.Tests.{no-false}
 use Rattle.soundness.proofs.Queue as I
@@ -58,9 +58,9 @@ joins-room mark xs i v y q n h k =
 module _ (l : Sizes) (M : Lent) (m : Machine) (f : Fuel) (v : ℕ) (w : World) (rep : Rep l w M m f) where
   -- ---- no coroutine
 
-  pub task-refused : (g : Fault) → RV.Not g ≡ coroOf (slotsOf (m .count) (M .slots)) v → Does l (spawnTask v w) M m f (Made.Refused Fault.TypeError)
+  pub task-refused : (g : Fault) → RV.Not g ≡ coroOf (slotsOf (m .count) (M .slots)) v → Does l (spawnTask v w) M m f (WordOr.Refused Fault.TypeError)
   unfolding spawnTask
-  task-refused g e = does l M m f (spawnTask v w) w (Made.Refused Fault.TypeError) (ap (λ c. joinReady c v w) (coro-absent l M m f v w rep g e)) rep
+  task-refused g e = does l M m f (spawnTask v w) w (WordOr.Refused Fault.TypeError) (ap (λ c. joinReady c v w) (coro-absent l M m f v w rep g e)) rep
 
   pub hand-refused : (g : Fault) → RV.Not g ≡ coroOf (slotsOf (m .count) (M .slots)) v → Does l (handOver v w) M m f (Answer.Refused g)
   unfolding handOver
@@ -91,15 +91,15 @@ module _ (l : Sizes) (M : Lent) (m : Machine) (f : Fuel) (v : ℕ) (w : World) (
     unfolding spawnTask
     as-task = ap (λ c. joinReady c v w) (t .coro)
 
-    task-stays : may-join ≡ false → Does l (spawnTask v w) M m f (Made.Word v)
+    task-stays : may-join ≡ false → Does l (spawnTask v w) M m f (WordOr.Word v)
     unfolding may-join
-    task-stays e = does l M m f (spawnTask v w) w (Made.Word v) (as-task ∙ passed _ (after w (Made.Word v)) may-join e) rep
+    task-stays e = does l M m f (spawnTask v w) w (WordOr.Word v) (as-task ∙ passed _ (after w (WordOr.Word v)) may-join e) rep
 
-    pub task-already : coroIn (M .slots) i .task ≡ true → Does l (spawnTask v w) M m f (Made.Word v)
+    pub task-already : coroIn (M .slots) i .task ≡ true → Does l (spawnTask v w) M m f (WordOr.Word v)
     unfolding may-join
     task-already e = task-stays (ap (λ b. not b && isResumable (t .core .state)) (sym task-is ∙ e))
 
-    pub task-late : coroIn (M .slots) i .task ≡ false → isResumable (coroIn (M .slots) i .state) ≡ false → Does l (spawnTask v w) M m f (Made.Word v)
+    pub task-late : coroIn (M .slots) i .task ≡ false → isResumable (coroIn (M .slots) i .state) ≡ false → Does l (spawnTask v w) M m f (WordOr.Word v)
     unfolding may-join
     task-late e r = task-stays (ap₂ (λ b c. not b && c) (sym task-is ∙ e) (ap isResumable (sym state-is) ∙ r))
 
@@ -115,15 +115,15 @@ module _ (l : Sizes) (M : Lent) (m : Machine) (f : Fuel) (v : ℕ) (w : World) (
 
     pub task-joins : coroIn (M .slots) i .task ≡ false → isResumable (coroIn (M .slots) i .state) ≡ true → (slots′ ready′ : List ℕ)
         → slots′ ≡ putChunk width (M .slots) i (taskWords (chunkAt width (M .slots) i)) → QueueDo (λ xs. xs ++ (v ∷ [])) (M .ready) ready′ (m .ready) (m .ready + 1)
-        → Does l (spawnTask v w) (onSlots slots′ (onReady ready′ M)) (withWaiting (m .ready + 1) m) f (Made.Word v)
+        → Does l (spawnTask v w) (onSlots slots′ (onReady ready′ M)) (withWaiting (m .ready + 1) m) f (WordOr.Word v)
     unfolding may-join
     task-joins e r slots′ ready′ mark push =
         let u = withReady (w .ready ++ (v ∷ [])) w in
         let queued = turn-ready l w M m f rep (w .ready ++ (v ∷ [])) ready′ (m .ready + 1) (push (w .ready) (rep .ready)) in
         let k = t .core in
         let r′ = withTask true (t .rest) in
-        does l (onSlots slots′ (onReady ready′ M)) (withWaiting (m .ready + 1) m) f (spawnTask v w) (setCoro v k r′ u) (Made.Word v)
-        (as-task ∙ chosen (after (setCoro v k r′ u) (Made.Word v)) _ may-join (ap₂ (λ b c. not b && c) (sym task-is ∙ e) (ap isResumable (sym state-is) ∙ r)))
+        does l (onSlots slots′ (onReady ready′ M)) (withWaiting (m .ready + 1) m) f (spawnTask v w) (setCoro v k r′ u) (WordOr.Word v)
+        (as-task ∙ chosen (after (setCoro v k r′ u) (WordOr.Word v)) _ may-join (ap₂ (λ b c. not b && c) (sym task-is ∙ e) (ap isResumable (sym state-is) ∙ r)))
         (rest-rep l (onReady ready′ M) (withWaiting (m .ready + 1) m) f v u queued i (coroIn (M .slots) i) t r′ slots′ refl
         (H.tasks (M .slots) i (tagOf v) (coroIn (M .slots) i) (placed-words l M m f v w rep i at) slots′ mark
         ∙ ap (λ (x : CoroObj). putSlot (M .slots) i (slot (tagOf v) (O.Coro (asTask x)))) (t .is)))

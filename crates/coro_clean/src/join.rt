@@ -11,13 +11,13 @@ use machine::called::Called;
 use machine::fuel::set_finalizing;
 use memory::machine::Machine;
 use model::call::Answer;
-use model::coro::Made;
+use model::coro::WordOr;
 use model::machine::Fuel;
 
 // What spawn_task leaves of the numbers, and answers.
 pub struct TaskDid {
     pub machine: Machine,
-    pub answer: Made,
+    pub answer: WordOr,
 }
 
 // coro.rs: spawn_task.
@@ -28,20 +28,20 @@ pub fn spawn_task(slots: &mut [u64], ready: &mut [u64], m: Machine, v: Word) -> 
     match heap::heap::coro_place(slots, m.count, v) {
         CoroPlace::Not(_) => TaskDid {
             machine: m,
-            answer: Made::Refused(Fault::TypeError),
+            answer: WordOr::Refused(Fault::TypeError),
         },
         CoroPlace::At(i) => {
             if heap::field::task_at(slots, i) {
                 return TaskDid {
                     machine: m,
-                    answer: Made::Word(v.0),
+                    answer: WordOr::Word(v.0),
                 };
             }
             let s = heap::field::state_at(slots, i);
             if !s.is_resumable() {
                 return TaskDid {
                     machine: m,
-                    answer: Made::Word(v.0),
+                    answer: WordOr::Word(v.0),
                 };
             }
             heap::field::put_task(slots, i);
@@ -50,7 +50,7 @@ pub fn spawn_task(slots: &mut [u64], ready: &mut [u64], m: Machine, v: Word) -> 
             n.ready = m.ready + 1;
             TaskDid {
                 machine: n,
-                answer: Made::Word(v.0),
+                answer: WordOr::Word(v.0),
             }
         }
     }

@@ -32,7 +32,7 @@ use Rattle.model.specs.Heap.{fits, slotsFull, refuse, alloc}
 use Rattle.model.specs.Rows.{heldRows, lowestFree, freeRow, rowsFull}
 use Rattle.model.specs.Coro.{newRegs, newCore, newRest, coroCreate}
 use Rattle.model.specs.Sound.{rowWords, sound}
-use Rattle.model.specs.declared.coro.Made.{Made}
+use Rattle.model.specs.declared.coro.WordOr.{WordOr}
 use Rattle.model.specs.declared.machine.Cont.{Cont}
 use Rattle.model.specs.declared.machine.Frame.{Frame}
 use Rattle.model.specs.declared.machine.Fuel.{Fuel}
@@ -72,10 +72,10 @@ spotBy a b c row =
     let fault = pick a (pick b Fault.None Fault.Full) Fault.OutOfMemory in
     pick (isNone fault) (pick c (Spot.Lacks Fault.Full) (Spot.Row row)) (Spot.Lacks fault)
 
-abbrev createBy : Bool → Bool → Bool → World → After Made → After Made
+abbrev createBy : Bool → Bool → Bool → World → After WordOr → After WordOr
 createBy a b c w o = pick (not a) (refuse w Fault.OutOfMemory) (pick (b || c) (refuse w Fault.Full) o)
 
-lacking : (a b c : Bool) (row : ℕ) (w : World) (o : After Made) (g : Fault) → Spot.Lacks g ≡ spotBy a b c row → createBy a (not b) c w o ≡ refuse w g
+lacking : (a b c : Bool) (row : ℕ) (w : World) (o : After WordOr) (g : Fault) → Spot.Lacks g ≡ spotBy a b c row → createBy a (not b) c w o ≡ refuse w g
 unfolding pick
 lacking true true true row w o g e = let z : Fault.Full ≡ g = cc in ap (refuse w) z
 lacking true true false row w o g e = never cc
@@ -86,7 +86,7 @@ record Free (i rows row : ℕ) : Type 0 where
   is : i ≡ row
   below : i < rows
 
-free : (a b : Bool) (i rows row : ℕ) (w : World) (o : After Made) → Spot.Row i ≡ spotBy a b (leb rows row) row → (createBy a (not b) (leb rows row) w o ≡ o) × Free i rows row
+free : (a b : Bool) (i rows row : ℕ) (w : World) (o : After WordOr) → Spot.Row i ≡ spotBy a b (leb rows row) row → (createBy a (not b) (leb rows row) w o ≡ o) × Free i rows row
 unfolding pick
 free a b i rows row w o = go a b (leb rows row) refl
   where
@@ -148,8 +148,8 @@ module _ (l : Sizes) (M : Lent) (m : Machine) (fu : Fuel) (w : World) (rep : Rep
       ∙ ap₂ (λ b c. createBy (Charge.fits (m .used) (l .memory) (bytesOf regs (l .costs .coro) (l .costs .frame))) b c w (alloc bytes core next)) (full-same l M m fu w rep)
       (ap₂ (λ a b. leb a b) (sym (rep .sizes .rows)) row-is)
 
-  pub not-created : (g : Fault) → Spot.Lacks g ≡ spotOf xs m l regs → Does l (coroCreate f closure args w) M m fu (Made.Refused g)
-  not-created g e = does l M m fu (coroCreate f closure args w) w (Made.Refused g) (model ∙ lacking _ _ _ row w _ g e) rep
+  pub not-created : (g : Fault) → Spot.Lacks g ≡ spotOf xs m l regs → Does l (coroCreate f closure args w) M m fu (WordOr.Refused g)
+  not-created g e = does l M m fu (coroCreate f closure args w) w (WordOr.Refused g) (model ∙ lacking _ _ _ row w _ g e) rep
 
   module _ (i : ℕ) (told : Spot.Row i ≡ spotOf xs m l regs) where
     opened : (coroCreate f closure args w ≡ alloc bytes core next) × Free i (l .rows) row
@@ -234,14 +234,14 @@ module _ (l : Sizes) (M : Lent) (m : Machine) (fu : Fuel) (w : World) (rep : Rep
       as-model r e = e ∙ ap₂ (allocOf (M .slots) (heapOf m l)) bytes-are object-is
 
       -- 01: "(9; the number has moved)"
-      pub not-charged : (q : Machine) (g : Fault) → q ≡ sequenced m → Allocated (H.Refused g) → Does l (coroCreate f closure args w) (onSlots slots′ M) q fu (Made.Refused g)
+      pub not-charged : (q : Machine) (g : Fault) → q ≡ sequenced m → Allocated (H.Refused g) → Does l (coroCreate f closure args w) (onSlots slots′ M) q fu (WordOr.Refused g)
       not-charged q g eq e =
-          subst₂ (λ z y. Does l z (onSlots slots′ M) y fu (Made.Refused g)) (sym (opened .0)) (sym eq)
+          subst₂ (λ z y. Does l z (onSlots slots′ M) y fu (WordOr.Refused g)) (sym (opened .0)) (sym eq)
           (alloc-refused l M (sequenced m) fu next next-rep bytes core slots′ g (alloc-lacks (M .slots) (heapOf m l) bytes (toObject core) slots′ g (as-model (H.Refused g) e)))
 
       pub was-created : TableFits (M .slots) (l .slots) → (q r : Machine) (v : Word) (h′ : Heap) (savedStack′ savedFrames′ : List ℕ) → q ≡ sequenced m → r ≡ allocated q h′ → Allocated (H.Done v h′)
           → Writes (M .savedStack) (M .savedFrames) savedStack′ savedFrames′ l i regs f closure array n
-          → Does l (coroCreate f closure args w) (onSlots slots′ (onSaved savedStack′ savedFrames′ M)) r fu (Made.Word (v .0))
+          → Does l (coroCreate f closure args w) (onSlots slots′ (onSaved savedStack′ savedFrames′ M)) r fu (WordOr.Word (v .0))
       was-created room q r v h′ savedStack′ savedFrames′ eq er e k =
           let N = onSlots slots′ (onSaved savedStack′ savedFrames′ M) in
           let R : List ℕ = newRegs (func s f .regs) args in
@@ -258,7 +258,7 @@ module _ (l : Sizes) (M : Lent) (m : Machine) (fu : Fuel) (w : World) (rep : Rep
           let up : SavedFrames (framesSize s) (set gs i B) savedFrames′ =
           subst (λ z. SavedFrames (framesSize s) (set gs i B) z) (sym (k .frames))
           (frames-row (framesSize s) gs (M .savedFrames) i (i * l .depth) (frame f 0 closure Cont.Coro) (rep .savedFrames) frames-at deep) in
-          subst₂ (λ z y. Does l z N y fu (Made.Word (v .0))) (sym (opened .0)) (sym (er ∙ ap (λ x. allocated x h′) eq))
+          subst₂ (λ z y. Does l z N y fu (WordOr.Word (v .0))) (sym (opened .0)) (sym (er ∙ ap (λ x. allocated x h′) eq))
           (alloc-made l M (sequenced m) fu next next-rep bytes core slots′ savedStack′ savedFrames′ h′ v
           (alloc-done (M .slots) (heapOf m l) bytes (toObject core) slots′ v h′ (as-model (H.Done v h′) e)) room
           (subst (λ z. SavedStack (rowWords s) z savedStack′) (ap (λ j. set rs j R) at-free ∙ regs-new (w .slots) f closure (w .seq) (freeRow w) (func s f .regs) R nobodys (s .limits .rows)) on)

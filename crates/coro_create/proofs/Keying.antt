@@ -16,7 +16,7 @@ use Rattle.model.specs.World.{World, after, andThen}
 use Rattle.model.specs.Heap.{encodeInt}
 use Rattle.model.specs.Exec.{keyAt, keyExact, autoKey}
 use Rattle.model.specs.declared.coro.AutoKey.{AutoKey}
-use Rattle.model.specs.declared.coro.Made.{Made}
+use Rattle.model.specs.declared.coro.WordOr.{WordOr}
 use Rattle.model.specs.declared.machine.Fuel.{Fuel}
 use Rattle.memory.specs.Memory.{Lent, onSlots, Rep}
 use Rattle.memory.specs.Contract.{Does}
@@ -40,7 +40,7 @@ module _ (l : Sizes) (M : Lent) (m : Machine) (fu : Fuel) (w : World) (rep : Rep
       unfolding autoKey
       model = ap (λ x. keyExact x w) (sym fits)
 
-      keys : (N : Lent) (m′ : Machine) (a : Made) (k : AutoKey) → ((u : World) → keyAt n u a ≡ after u k) → Does l (encodeInt n w) N m′ fu a → Does l (autoKey largest w) N m′ fu k
+      keys : (N : Lent) (m′ : Machine) (a : WordOr) (k : AutoKey) → ((u : World) → keyAt n u a ≡ after u k) → Does l (encodeInt n w) N m′ fu a → Does l (autoKey largest w) N m′ fu k
       keys N m′ a k e d =
           does l N m′ fu (autoKey largest w) (encodeInt n w .world) k (model ∙ ap (keyAt n (encodeInt n w .world)) (sym (d .answer)) ∙ e (encodeInt n w .world)) (d .world)
 
@@ -49,9 +49,9 @@ module _ (l : Sizes) (M : Lent) (m : Machine) (fu : Fuel) (w : World) (rep : Rep
         encoded r₀ e = ap (λ x. out x slots′) (sym e) ∙ told ∙ ap₂ (λ x c. encodeOf (M .slots) x c n) is-heap (int-cost l M m fu w rep)
 
         pub key-refused : (g : Fault) → r ≡ H.Refused g → Does l (autoKey largest w) (onSlots slots′ M) m fu (AutoKey.Refused g)
-        key-refused g e = keys (onSlots slots′ M) m (Made.Refused g) (AutoKey.Refused g) (λ u. refl) (int-refused l M m fu w rep n slots′ (inlineOf (ofBits 63 n)) g (encoded (H.Refused g) e))
+        key-refused g e = keys (onSlots slots′ M) m (WordOr.Refused g) (AutoKey.Refused g) (λ u. refl) (int-refused l M m fu w rep n slots′ (inlineOf (ofBits 63 n)) g (encoded (H.Refused g) e))
 
         pub key-made : TableFits (M .slots) (l .slots) → (v : Word) (h′ : Heap) (m′ : Machine) → r ≡ H.Done v h′ → m′ ≡ allocated m h′ → Does l (autoKey largest w) (onSlots slots′ M) m′ fu (AutoKey.Key (v .0) n)
         key-made room v h′ m′ e em =
             subst (λ y. Does l (autoKey largest w) (onSlots slots′ M) y fu (AutoKey.Key (v .0) n)) (sym em)
-            (keys (onSlots slots′ M) (allocated m h′) (Made.Word (v .0)) (AutoKey.Key (v .0) n) (λ u. refl) (int-made l M m fu w rep n slots′ (inlineOf (ofBits 63 n)) v h′ room (encoded (H.Done v h′) e)))
+            (keys (onSlots slots′ M) (allocated m h′) (WordOr.Word (v .0)) (AutoKey.Key (v .0) n) (λ u. refl) (int-made l M m fu w rep n slots′ (inlineOf (ofBits 63 n)) v h′ room (encoded (H.Done v h′) e)))

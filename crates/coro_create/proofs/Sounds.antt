@@ -11,7 +11,7 @@ use Rattle.model.specs.Heap.{encodeInt}
 use Rattle.model.specs.Coro.{coroCreate}
 use Rattle.model.specs.Exec.{keyAt, keyExact, autoKey}
 use Rattle.model.specs.Sound.{sound}
-use Rattle.model.specs.declared.coro.Made.{Made}
+use Rattle.model.specs.declared.coro.WordOr.{WordOr}
 use Rattle.soundness.proofs.Sound.{→sound}
 use Rattle.soundness.proofs.Make.{int-good, create-good}
 use Rattle.coro_create.proofs.Setting.{known}
@@ -19,9 +19,9 @@ use Rattle.coro_create.proofs.Setting.{known}
 pub create-sound : (f closure : ℕ) (args : List ℕ) (w : World) → sound w ≡ true → isFunction (w .setup) f ≡ true → sound (coroCreate f closure args w .world) ≡ true
 create-sound f closure args w h e = →sound (coroCreate f closure args w .world) (create-good f closure args w (known w h) e .sound)
 
-key-world : (n : ℕ) (w : World) (a : Made) → keyAt n w a .world ≡ w
-key-world n w (Made.Word k) = refl
-key-world n w (Made.Refused f) = refl
+key-world : (n : ℕ) (w : World) (a : WordOr) → keyAt n w a .world ≡ w
+key-world n w (WordOr.Word k) = refl
+key-world n w (WordOr.Refused f) = refl
 
 pub key-sound : (largest : ℕ) (w : World) → sound w ≡ true → sound (autoKey largest w .world) ≡ true
 unfolding autoKey

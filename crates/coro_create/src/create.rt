@@ -18,7 +18,7 @@ use machine::numbers::allocated;
 use machine::numbers::heap_of;
 use memory::machine::Machine;
 use memory::machine::Sizes;
-use model::coro::Made;
+use model::coro::WordOr;
 use model::machine::Cont;
 use model::machine::Frame;
 
@@ -28,7 +28,7 @@ const MINUS_ONE: u64 = 0xFFFF_FFFF_FFFF_FFFF;
 // What a creation leaves of the numbers, and answers.
 pub struct CreateDid {
     pub machine: Machine,
-    pub answer: Made,
+    pub answer: WordOr,
 }
 
 // The row of a new coroutine, or what is lacking.
@@ -143,7 +143,7 @@ pub fn coro_create(
     match find_spot(slots, m, l, regs) {
         Spot::Lacks(g) => CreateDid {
             machine: m,
-            answer: Made::Refused(g),
+            answer: WordOr::Refused(g),
         },
         Spot::Row(row) => {
             let costs = l.costs;
@@ -153,7 +153,7 @@ pub fn coro_create(
             match heap::heap::alloc(slots, heap_of(q, l), charge, o) {
                 heap::heap::Made::Refused(g) => CreateDid {
                     machine: q,
-                    answer: Made::Refused(g),
+                    answer: WordOr::Refused(g),
                 },
                 heap::heap::Made::Done(v, h) => {
                     write_row(
@@ -169,7 +169,7 @@ pub fn coro_create(
                     );
                     CreateDid {
                         machine: allocated(q, h),
-                        answer: Made::Word(v.0),
+                        answer: WordOr::Word(v.0),
                     }
                 }
             }

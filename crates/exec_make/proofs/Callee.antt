@@ -25,7 +25,7 @@ use Rattle.model.specs.Frames.{reg}
 use Rattle.model.specs.Heap.{objectAt, object, notA, refuse}
 use Rattle.model.specs.Coro.{coroCreate}
 use Rattle.model.specs.Exec.{window, indirectTo, indirect, coroNewIndirect, putMade}
-use Rattle.model.specs.declared.coro.Made.{Made}
+use Rattle.model.specs.declared.coro.WordOr.{WordOr}
 use Rattle.model.specs.declared.exec.Step.{Step}
 use Rattle.model.specs.declared.machine.Fuel.{Fuel}
 use Rattle.tables.specs.Layout.{functionIn}
@@ -119,7 +119,7 @@ called-function l w M m fuel rep v argc f e = named-in l M m fuel w rep f (taken
 
 -- ---- indirect, by the function that is called
 
-abbrev createAs : Callable → ℕ → ℕ → ℕ → World → After Made
+abbrev createAs : Callable → ℕ → ℕ → ℕ → World → After WordOr
 createAs (Callable.Not g) v dst argc w = refuse w g
 createAs (Callable.Func f) v dst argc w = coroCreate f v (window dst argc w) w
 
@@ -144,13 +144,13 @@ module _ (w : World) (dst callee argc : ℕ) where
   indirect-is v ev c ec = ap (λ x. indirectTo (object w x) x dst argc w) (sym ev) ∙ to-create v dst argc w (object w v) ∙ ap (λ t. createAs t v dst argc w) (sym ec)
 
   module _ (l : Sizes) (M : Lent) (m : Machine) (fuel : Fuel) (v : ℕ) (ev : v ≡ reg w callee) where
-    pub indirect-refused : (g : Fault) → Callable.Not g ≡ called v argc w → Rep l w M m fuel → Does l (indirect dst callee argc w) M m fuel (Made.Refused g)
-    indirect-refused g e rep = does l M m fuel (indirect dst callee argc w) w (Made.Refused g) (indirect-is v ev (Callable.Not g) e) rep
+    pub indirect-refused : (g : Fault) → Callable.Not g ≡ called v argc w → Rep l w M m fuel → Does l (indirect dst callee argc w) M m fuel (WordOr.Refused g)
+    indirect-refused g e rep = does l M m fuel (indirect dst callee argc w) w (WordOr.Refused g) (indirect-is v ev (Callable.Not g) e) rep
 
-    pub indirect-made : (f : ℕ) (a : Made) → Callable.Func f ≡ called v argc w → Does l (coroCreate f v (window dst argc w) w) M m fuel a → Does l (indirect dst callee argc w) M m fuel a
+    pub indirect-made : (f : ℕ) (a : WordOr) → Callable.Func f ≡ called v argc w → Does l (coroCreate f v (window dst argc w) w) M m fuel a → Does l (indirect dst callee argc w) M m fuel a
     indirect-made f a e d = subst (λ o. Does l o M m fuel a) (sym (indirect-is v ev (Callable.Func f) e)) d
 
-  pub indirect-met : (l : Sizes) (M : Lent) (m : Machine) (fuel : Fuel) (a : Made) (s : Step) → a ≡ indirect dst callee argc w .answer
+  pub indirect-met : (l : Sizes) (M : Lent) (m : Machine) (fuel : Fuel) (a : WordOr) (s : Step) → a ≡ indirect dst callee argc w .answer
       → Does l (putMade dst (indirect dst callee argc w .world) a) M m fuel s → Does l (coroNewIndirect dst callee argc w) M m fuel s
   unfolding coroNewIndirect
   indirect-met l M m fuel a s e d = made-put l M m fuel (indirect dst callee argc w) dst a s e d

@@ -24,7 +24,7 @@ use Rattle.model.specs.Machine.{pushFrame}
 use Rattle.model.specs.Exec.{indirect, hooked, callHook, spawnMade, spawnWith, spawn}
 use Rattle.model.specs.Sound.{sound}
 use Rattle.model.specs.declared.call.OptPc.{OptPc}
-use Rattle.model.specs.declared.coro.Made.{Made}
+use Rattle.model.specs.declared.coro.WordOr.{WordOr}
 use Rattle.model.specs.declared.exec.Step.{Step}
 use Rattle.model.specs.declared.machine.Charge.{Charge}
 use Rattle.model.proofs.machine.Charge as Charge′
@@ -66,7 +66,7 @@ hook-there l w M m fuel rep snd hook e =
 -- ---- the hook's frame, by the frame that a call pushes
 
 module _ (hook pc dst c : ℕ) (w : World) where
-  abbrev pushing : After Made
+  abbrev pushing : After WordOr
   pushing = pushAt pc hook nil (Cont.Value dst) w
 
   -- refused or not, the hook's frame goes by the answer of the push
@@ -74,9 +74,9 @@ module _ (hook pc dst c : ℕ) (w : World) where
   unfolding pushAt
   hook-by = go (pushFrame hook nil (Cont.Value dst) (storePc pc w) .world) (pushFrame hook nil (Cont.Value dst) (storePc pc w) .answer)
     where
-      go : (u : World) (a : Made) → hooked w c u a ≡ andThen (pushedOr w u a) (hooked w c)
-      go u (Made.Word base) = refl
-      go u (Made.Refused f) = refl
+      go : (u : World) (a : WordOr) → hooked w c u a ≡ andThen (pushedOr w u a) (hooked w c)
+      go u (WordOr.Word base) = refl
+      go u (WordOr.Refused f) = refl
 
   -- ---- what a push leaves
 
@@ -87,15 +87,15 @@ module _ (hook pc dst c : ℕ) (w : World) where
   new = withFrames (frame hook (length (w .stack)) nil (Cont.Value dst) ∷ storePc pc w .frames) (withStack (w .stack ++ replicate wide 0) (storePc pc w))
 
   -- by the test of its room
-  abbrev out : Bool → After Made
-  out t = andThen (pick t (refuse (storePc pc w) Fault.StackOverflow) (after new (Made.Word (length (w .stack))))) (pushedOr w)
+  abbrev out : Bool → After WordOr
+  out t = andThen (pick t (refuse (storePc pc w) Fault.StackOverflow) (after new (WordOr.Word (length (w .stack))))) (pushedOr w)
 
-  record Pushed (o : After Made) (base : ℕ) : Type 0 where
+  record Pushed (o : After WordOr) (base : ℕ) : Type 0 where
     rest : List Frame
     frames : o .world .frames ≡ frame hook base nil (Cont.Value dst) ∷ rest
     stack : length (o .world .stack) ≡ base + wide
 
-  by-test : (t : Bool) (base : ℕ) → Made.Word base ≡ out t .answer → Pushed (out t) base
+  by-test : (t : Bool) (base : ℕ) → WordOr.Word base ≡ out t .answer → Pushed (out t) base
   unfolding pick
   by-test true base e = never cc
   by-test false base e =
@@ -104,26 +104,26 @@ module _ (hook pc dst c : ℕ) (w : World) where
       let r : length (replicate {A = ℕ} wide 0) ≡ wide = length-replicate wide 0 in
       record { rest = storePc pc w .frames; frames = ap (λ k. frame hook k nil (Cont.Value dst) ∷ storePc pc w .frames) (sym z); stack = omega arith }
 
-  pushed : (base : ℕ) → Made.Word base ≡ pushing .answer → Pushed pushing base
+  pushed : (base : ℕ) → WordOr.Word base ≡ pushing .answer → Pushed pushing base
   unfolding pushAt pushFrame
   pushed base e =
       by-test (leb (w .setup .limits .depth) (length (storePc pc w .frames)) || ltb (w .setup .limits .stack) (length (w .stack) + wide)) base e
 
   -- refused, nothing was stored
-  left : (g : Fault) → Made.Refused g ≡ pushing .answer → pushing .world ≡ w
+  left : (g : Fault) → WordOr.Refused g ≡ pushing .answer → pushing .world ≡ w
   unfolding pushAt
   left g e = go (pushFrame hook nil (Cont.Value dst) (storePc pc w) .world) (pushFrame hook nil (Cont.Value dst) (storePc pc w) .answer) e
     where
-      go : (u : World) (a : Made) → Made.Refused g ≡ pushedOr w u a .answer → pushedOr w u a .world ≡ w
-      go u (Made.Word base) e = never cc
-      go u (Made.Refused f) e = refl
+      go : (u : World) (a : WordOr) → WordOr.Refused g ≡ pushedOr w u a .answer → pushedOr w u a .world ≡ w
+      go u (WordOr.Word base) e = never cc
+      go u (WordOr.Refused f) e = refl
 
   module _ (l : Sizes) (M : Lent) (n : Machine) (fuel : Fuel) where
-    pub hook-refused : (g : Fault) → Made.Refused g ≡ pushing .answer → Rep l (pushing .world) M n fuel → Does l (hookFrame hook pc dst c w) M n fuel (Step.Fault g)
+    pub hook-refused : (g : Fault) → WordOr.Refused g ≡ pushing .answer → Rep l (pushing .world) M n fuel → Does l (hookFrame hook pc dst c w) M n fuel (Step.Fault g)
     hook-refused g e rep =
         does l M n fuel (hookFrame hook pc dst c w) w (Step.Fault g) (hook-by ∙ ap (hooked w c (pushing .world)) (sym e)) (subst (λ x. Rep l x M n fuel) (left g e) rep)
 
-    module _ (base : ℕ) (e : Made.Word base ≡ pushing .answer) where
+    module _ (base : ℕ) (e : WordOr.Word base ≡ pushing .answer) where
       -- the first register of the hook's frame
       pub hook-fits : Rep l (pushing .world) M n fuel → 1 ≤ wide → RegFits (M .stack) (M .frames) (n .height) (n .depth) 0
       hook-fits rep h =
@@ -178,12 +178,12 @@ module _ (l : Sizes) (w : World) (M : Lent) (m : Machine) (fuel : Fuel) (rep : R
   no-hook e = does l M m fuel (spawn pc dst callee argc w) w (Step.Fault Fault.NoScheduler) (by-hook Opt.None e) rep
 
   module _ (hook : ℕ) (e : Opt.Some hook ≡ hookOf (M .setup)) (M′ : Lent) (n : Machine) (g : Fuel) where
-    pub spawn-refused : (a : Made) (f : Fault) → a ≡ Made.Refused f → Does l (indirect dst callee argc w) M′ n g a → Does l (spawn pc dst callee argc w) M′ n g (Step.Fault f)
+    pub spawn-refused : (a : WordOr) (f : Fault) → a ≡ WordOr.Refused f → Does l (indirect dst callee argc w) M′ n g a → Does l (spawn pc dst callee argc w) M′ n g (Step.Fault f)
     spawn-refused a f ea d =
         let o = indirect dst callee argc w in
         does l M′ n g (spawn pc dst callee argc w) (o .world) (Step.Fault f) (by-hook (Opt.Some hook) e ∙ ap (spawnMade hook pc dst (o .world)) (sym (d .answer) ∙ ea)) (d .world)
 
-    pub spawn-called : (c : ℕ) (s : Step) → Made.Word c ≡ indirect dst callee argc w .answer → Does l (hookPaid hook pc dst c (indirect dst callee argc w .world)) M′ n g s
+    pub spawn-called : (c : ℕ) (s : Step) → WordOr.Word c ≡ indirect dst callee argc w .answer → Does l (hookPaid hook pc dst c (indirect dst callee argc w .world)) M′ n g s
         → Does l (spawn pc dst callee argc w) M′ n g s
     spawn-called c s ec d =
         let o = indirect dst callee argc w in

@@ -15,7 +15,7 @@ use Rattle.model.specs.Frames.{topBase, putReg}
 use Rattle.model.specs.Coro.{coroCreate}
 use Rattle.model.specs.Exec.{window, putMade, coroNew}
 use Rattle.model.specs.Sound.{sound}
-use Rattle.model.specs.declared.coro.Made.{Made}
+use Rattle.model.specs.declared.coro.WordOr.{WordOr}
 use Rattle.model.specs.declared.exec.Step.{Step}
 use Rattle.model.specs.declared.machine.Cont.{Cont}
 use Rattle.model.specs.declared.machine.Frame.{Frame}
@@ -35,11 +35,11 @@ use Rattle.coro_create.proofs.Setting.{known, one-of}
 
 -- ---- the word of what was made
 
-module _ (l : Sizes) (M : Lent) (m : Machine) (f : Fuel) (w : World) (dst : ℕ) (a : Made) where
-  pub made-word : (v : ℕ) → a ≡ Made.Word v → Rep l (putReg dst v w) M m f → Does l (putMade dst w a) M m f Step.Next
+module _ (l : Sizes) (M : Lent) (m : Machine) (f : Fuel) (w : World) (dst : ℕ) (a : WordOr) where
+  pub made-word : (v : ℕ) → a ≡ WordOr.Word v → Rep l (putReg dst v w) M m f → Does l (putMade dst w a) M m f Step.Next
   made-word v e rep = does l M m f (putMade dst w a) (putReg dst v w) Step.Next (ap (putMade dst w) e) rep
 
-  pub made-refused : (g : Fault) → a ≡ Made.Refused g → Rep l w M m f → Does l (putMade dst w a) M m f (Step.Fault g)
+  pub made-refused : (g : Fault) → a ≡ WordOr.Refused g → Rep l w M m f → Does l (putMade dst w a) M m f (Step.Fault g)
   made-refused g e rep = does l M m f (putMade dst w a) w (Step.Fault g) (ap (putMade dst w) e) rep
 
 -- ---- the argument window, in the words
@@ -75,7 +75,7 @@ module _ (l : Sizes) (w : World) (M : Lent) (m : Machine) (fuel : Fuel) (rep : R
       top-is (f ∷ fs) n d c s = ap (λ k. getD (f ∷ fs) k d .base) (let z : n - suc (n - 1) ≡ 0 = omega arith in z)
 
 -- arguments that are the window
-pub with-window : (l : Sizes) (w : World) (M : Lent) (m : Machine) (fuel : Fuel) (a : Made) (f closure : ℕ) (args window : List ℕ) → args ≡ window → Does l (coroCreate f closure args w) M m fuel a
+pub with-window : (l : Sizes) (w : World) (M : Lent) (m : Machine) (fuel : Fuel) (a : WordOr) (f closure : ℕ) (args window : List ℕ) → args ≡ window → Does l (coroCreate f closure args w) M m fuel a
     → Does l (coroCreate f closure window w) M m fuel a
 with-window l w M m fuel a f closure args window e d = subst (λ x. Does l (coroCreate f closure x w) M m fuel a) e d
 
@@ -97,11 +97,11 @@ create-still l M m fuel w rep snd f closure args named =
 -- ---- the instruction
 
 -- something is made, and then its word is put
-pub made-put : (l : Sizes) (M : Lent) (m : Machine) (fuel : Fuel) (o : After Made) (dst : ℕ) (a : Made) (s : Step) → a ≡ o .answer → Does l (putMade dst (o .world) a) M m fuel s
+pub made-put : (l : Sizes) (M : Lent) (m : Machine) (fuel : Fuel) (o : After WordOr) (dst : ℕ) (a : WordOr) (s : Step) → a ≡ o .answer → Does l (putMade dst (o .world) a) M m fuel s
     → Does l (andThen o (putMade dst)) M m fuel s
 made-put l M m fuel o dst a s e d = subst (λ x. Does l (putMade dst (o .world) x) M m fuel s) e d
 
-pub new-met : (l : Sizes) (M : Lent) (m : Machine) (fuel : Fuel) (w : World) (dst f argc : ℕ) (a : Made) (s : Step) →
+pub new-met : (l : Sizes) (M : Lent) (m : Machine) (fuel : Fuel) (w : World) (dst f argc : ℕ) (a : WordOr) (s : Step) →
     let o = coroCreate f nil (window dst argc w) w in a ≡ o .answer → Does l (putMade dst (o .world) a) M m fuel s → Does l (coroNew dst f argc w) M m fuel s
 unfolding coroNew
 new-met l M m fuel w dst f argc a s e d = made-put l M m fuel (coroCreate f nil (window dst argc w) w) dst a s e d

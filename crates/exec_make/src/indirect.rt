@@ -13,7 +13,7 @@ use heap::value::Word;
 use machine::step::StepDid;
 use memory::machine::Machine;
 use memory::machine::Sizes;
-use model::coro::Made;
+use model::coro::WordOr;
 
 // The function that a word calls with argc arguments, or the fault.
 pub(crate) fn called(slots: &[u64], setup: &[u64], m: Machine, v: Word, argc: u64) -> Callable
@@ -55,7 +55,7 @@ pub(crate) fn indirect(
     match called(slots, setup, m, Word(v), argc) {
         Callable::Not(g) => CreateDid {
             machine: m,
-            answer: Made::Refused(g),
+            answer: WordOr::Refused(g),
         },
         Callable::Func(f) => create(
             stack,

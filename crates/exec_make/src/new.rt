@@ -10,7 +10,7 @@ use coro_create::create::coro_create;
 use machine::step::StepDid;
 use memory::machine::Machine;
 use memory::machine::Sizes;
-use model::coro::Made;
+use model::coro::WordOr;
 use model::exec::Step;
 
 // A coroutine of function f and a closure, with the argc words after register dst, which are set aside.
@@ -50,16 +50,16 @@ pub(crate) fn create(
 }
 
 // r!(dst) = t!(made); Step::Next
-pub(crate) fn put_made(stack: &mut [u64], frames: &[u64], m: Machine, dst: u64, a: Made) -> Step
+pub(crate) fn put_made(stack: &mut [u64], frames: &[u64], m: Machine, dst: u64, a: WordOr) -> Step
     requires { ⌜ RegFits (now stack) (now frames) (m .height) (m .depth) dst ⌝ }
     ensures { λ r. ⌜ every (λ l. Met any l (λ w. putMade dst w a) (top stack frames) (only m) (only m) r) ⌝ }
 {
     match a {
-        Made::Word(v) => {
+        WordOr::Word(v) => {
             machine::frame::put(stack, frames, m, dst, v);
             Step::Next
         }
-        Made::Refused(f) => Step::Fault(f),
+        WordOr::Refused(f) => Step::Fault(f),
     }
 }
 

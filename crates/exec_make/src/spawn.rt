@@ -11,7 +11,7 @@ use machine::step::StepDid;
 use machine::step::Stepped;
 use memory::machine::Machine;
 use memory::machine::Sizes;
-use model::coro::Made;
+use model::coro::WordOr;
 use model::exec::Step;
 use model::machine::Charge;
 use model::machine::Cont;
@@ -36,11 +36,11 @@ pub(crate) fn push_hook(
     let next = did.machine;
     let answer = did.answer;
     match answer {
-        Made::Refused(g) => StepDid {
+        WordOr::Refused(g) => StepDid {
             machine: next,
             step: Step::Fault(g),
         },
-        Made::Word(_base) => {
+        WordOr::Word(_base) => {
             machine::frame::put(stack, frames, next, 0, c);
             StepDid {
                 machine: next,
@@ -128,11 +128,11 @@ pub fn spawn(
     let next = did.machine;
     let answer = did.answer;
     match answer {
-        Made::Refused(g) => Stepped {
+        WordOr::Refused(g) => Stepped {
             machine: next,
             fuel,
             step: Step::Fault(g),
         },
-        Made::Word(c) => call_hook(stack, frames, setup, next, l, fuel, hook, pc, dst, c),
+        WordOr::Word(c) => call_hook(stack, frames, setup, next, l, fuel, hook, pc, dst, c),
     }
 }

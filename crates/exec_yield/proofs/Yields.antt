@@ -15,7 +15,7 @@ use Rattle.heap.specs.declared.int.Exact.{Exact}
 use Rattle.heap.specs.declared.int.Inline.{Inline}
 use Rattle.model.specs.Object.{Object}
 use Rattle.model.specs.Heap.{coro, fits, slotsFull, alloc, encodeAt, encodeInt}
-use Rattle.model.specs.declared.coro.Made.{Made}
+use Rattle.model.specs.declared.coro.WordOr.{WordOr}
 use Rattle.model.specs.Exec.{largestIn, keyAt, keyExact, autoKey, suspend, yieldKey, yieldOn, yield, yieldKvOn, yieldKv, awaitOn, await}
 use Rattle.model.specs.Sound.{sound}
 use Rattle.model.specs.declared.coro.AutoKey.{AutoKey}
@@ -119,16 +119,16 @@ unkeyed-yield l M m f w pc dst p a g e rep = does l M m f (yieldKey pc dst p w a
 alloc-chain : (bytes : ℕ) (o : Object) (w : World) → alloc bytes o w .world .chain ≡ w .chain
 unfolding alloc
 alloc-chain bytes o w =
-    let P : After Made → Type 0 = λ x. x .world .chain ≡ w .chain in
+    let P : After WordOr → Type 0 = λ x. x .world .chain ≡ w .chain in
     picked P (not (fits w bytes)) (λ _. refl) (λ _. picked P (slotsFull w) (λ _. refl) (λ _. refl))
 
 encode-chain : (i : Inline) (n : ℕ) (w : World) → encodeAt i n w .world .chain ≡ w .chain
 encode-chain (Inline.At x) n w = refl
 encode-chain Inline.Large n w = alloc-chain (w .setup .costs .int) (Object.Int n) w
 
-key-at-chain : (n : ℕ) (w : World) (a : Made) → keyAt n w a .world .chain ≡ w .chain
-key-at-chain n w (Made.Word k) = refl
-key-at-chain n w (Made.Refused f) = refl
+key-at-chain : (n : ℕ) (w : World) (a : WordOr) → keyAt n w a .world .chain ≡ w .chain
+key-at-chain n w (WordOr.Word k) = refl
+key-at-chain n w (WordOr.Refused f) = refl
 
 pub key-chain : (largest : ℕ) (w : World) → autoKey largest w .world .chain ≡ w .chain
 unfolding autoKey

@@ -20,7 +20,7 @@ use Rattle.model.specs.declared.machine.Cont.{Cont}
 use Rattle.model.specs.declared.machine.Driver.{Driver}
 use Rattle.model.specs.declared.machine.Fuel.{Fuel}
 use Rattle.model.specs.declared.machine.Outcome.{Outcome}
-use Rattle.model.specs.declared.coro.Made.{Made}
+use Rattle.model.specs.declared.coro.WordOr.{WordOr}
 use Rattle.model.specs.declared.coro.Entered.{Entered}
 use Rattle.soundness.proofs.Tests.{no-false, and-left, and-right, or-second, picked, or-right, negate}
 use Rattle.soundness.proofs.Sound.{Sound}
@@ -33,13 +33,13 @@ use Rattle.soundness.proofs.Charge.{task-good, calm-store}
 use Rattle.invariant.proofs.Unwind.{Fine, push-good}
 use Rattle.soundness.proofs.Good.{Good, good, then-good, madeFine, enteredFine, fine-notA, calm-top, top-under}
 
-pushed-or : {ex : Bool} (w u : World) (m : Made) → Sound ex w → Sound ex u → madeFine m ≡ true → Good ex Fine (pushedOr w u m)
-pushed-or w u (Made.Word base) h k e = good k refl
-pushed-or w u (Made.Refused f) h k e = good h e
+pushed-or : {ex : Bool} (w u : World) (m : WordOr) → Sound ex w → Sound ex u → madeFine m ≡ true → Good ex Fine (pushedOr w u m)
+pushed-or w u (WordOr.Word base) h k e = good k refl
+pushed-or w u (WordOr.Refused f) h k e = good h e
 
-answer-made : {ex : Bool} (u : World) (m : Made) → Sound ex u → madeFine m ≡ true → Good ex Fine (answerMade u m)
-answer-made u (Made.Word v) h e = good h refl
-answer-made u (Made.Refused f) h e = good h e
+answer-made : {ex : Bool} (u : World) (m : WordOr) → Sound ex u → madeFine m ≡ true → Good ex Fine (answerMade u m)
+answer-made u (WordOr.Word v) h e = good h refl
+answer-made u (WordOr.Refused f) h e = good h e
 
 pub host-call-good : {ex : Bool} (f : ℕ) (w : World) → isNil (w .frames) ≡ true → isFunction (w .setup) f ≡ true → Sound ex w → Good ex Fine (hostCall f w)
 unfolding hostCall

@@ -25,7 +25,7 @@ use Rattle.model.specs.declared.machine.Cont.{Cont}
 use Rattle.model.specs.declared.machine.Driver.{Driver}
 use Rattle.model.specs.declared.machine.Active.{Active}
 use Rattle.model.specs.declared.machine.Charge.{Charge}
-use Rattle.model.specs.declared.coro.Made.{Made}
+use Rattle.model.specs.declared.coro.WordOr.{WordOr}
 use Rattle.model.specs.declared.coro.Stated.{Stated}
 use Rattle.model.specs.declared.coro.Entered.{Entered}
 use Rattle.model.specs.declared.coro.Keys.{Keys}
@@ -39,9 +39,9 @@ use Rattle.invariant.proofs.AgreeMachine.{then-ag, push-agree}
 
 -- ---- the instructions
 
-put-made : (dst : ℕ) (u : World) (m : Made) → Agree u → Ag (putMade dst u m)
-put-made dst u (Made.Word v) h = h
-put-made dst u (Made.Refused f) h = h
+put-made : (dst : ℕ) (u : World) (m : WordOr) → Agree u → Ag (putMade dst u m)
+put-made dst u (WordOr.Word v) h = h
+put-made dst u (WordOr.Refused f) h = h
 
 indirect-agree : (dst callee argc : ℕ) (w : World) → Agree w → Ag (indirect dst callee argc w)
 unfolding indirect
@@ -56,18 +56,18 @@ indirect-agree dst callee argc w h = go (object w (reg w callee))
     go (Object.Error e f p x) = h
     go (Object.Coro k r) = h
 
-hooked-agree : (w : World) (c : ℕ) (u : World) (m : Made) → Agree w → Agree u → Ag (hooked w c u m)
-hooked-agree w c u (Made.Word base) h k = k
-hooked-agree w c u (Made.Refused f) h k = h
+hooked-agree : (w : World) (c : ℕ) (u : World) (m : WordOr) → Agree w → Agree u → Ag (hooked w c u m)
+hooked-agree w c u (WordOr.Word base) h k = k
+hooked-agree w c u (WordOr.Refused f) h k = h
 
 hook-agree : (hook pc dst c : ℕ) (w : World) (x : Charge) → Agree w → Ag (callHook hook pc dst c w x)
 hook-agree hook pc dst c w (Charge.Done n) h = then-ag (pushFrame hook nil (Cont.Value dst) (storePc pc w)) (hooked w c) (push-agree hook nil (Cont.Value dst) (storePc pc w) h) (λ u m k. hooked-agree w c u m h k)
 hook-agree hook pc dst c w Charge.Spent h = h
 hook-agree hook pc dst c w (Charge.Close n) h = then-ag (pushFrame hook nil (Cont.Value dst) (storePc pc w)) (hooked w c) (push-agree hook nil (Cont.Value dst) (storePc pc w) h) (λ u m k. hooked-agree w c u m h k)
 
-spawn-made : (hook pc dst : ℕ) (w : World) (m : Made) → Agree w → Ag (spawnMade hook pc dst w m)
-spawn-made hook pc dst w (Made.Word c) h = then-ag (charge OptPc.None w) (callHook hook pc dst c) (charge-agree OptPc.None w h) (hook-agree hook pc dst c)
-spawn-made hook pc dst w (Made.Refused f) h = h
+spawn-made : (hook pc dst : ℕ) (w : World) (m : WordOr) → Agree w → Ag (spawnMade hook pc dst w m)
+spawn-made hook pc dst w (WordOr.Word c) h = then-ag (charge OptPc.None w) (callHook hook pc dst c) (charge-agree OptPc.None w h) (hook-agree hook pc dst c)
+spawn-made hook pc dst w (WordOr.Refused f) h = h
 
 deliver-all : (u : World) (s : Suspension) → Suspended u s → Ag (deliverAll u s)
 deliver-all u (Suspension.Done d e) h = then-ag (deliver d e u) delivered (deliver-agree d e u h) (λ t f k. picked Ag (isOk f) (λ _. k) (λ _. k))
@@ -76,9 +76,9 @@ deliver-all u (Suspension.Refused f) h = h
 suspend-step : (pc : ℕ) (st : CoroState) (dst payload : ℕ) (keys : Keys) (w : World) → Agree w → Ag (suspend pc st dst payload keys w)
 suspend-step pc st dst payload keys w h = let o = coroSuspend st dst payload keys (storePc pc w) in deliver-all (o .world) (o .answer) (suspend-agree st dst payload keys (storePc pc w) h)
 
-key-at : (n : ℕ) (u : World) (m : Made) → Agree u → Ag (keyAt n u m)
-key-at n u (Made.Word k) h = h
-key-at n u (Made.Refused f) h = h
+key-at : (n : ℕ) (u : World) (m : WordOr) → Agree u → Ag (keyAt n u m)
+key-at n u (WordOr.Word k) h = h
+key-at n u (WordOr.Refused f) h = h
 
 auto-agree : (largest : ℕ) (w : World) → Agree w → Ag (autoKey largest w)
 unfolding autoKey
@@ -107,9 +107,9 @@ closing-agree c signal u Entered.Fresh h = change-owing 0 c (λ k. k) (close sig
 closing-agree c signal u (Entered.Suspended d) h = change-owing 0 c (λ k. k) (close signal) u h
 closing-agree c signal u (Entered.Refused f) h = h
 
-pub answer-made : (u : World) (m : Made) → Agree u → Ag (answerMade u m)
-answer-made u (Made.Word v) h = h
-answer-made u (Made.Refused f) h = h
+pub answer-made : (u : World) (m : WordOr) → Agree u → Ag (answerMade u m)
+answer-made u (WordOr.Word v) h = h
+answer-made u (WordOr.Refused f) h = h
 
 module _ (w : World) (h : Agree w) where
   pub new-agree : (dst f argc : ℕ) → Ag (coroNew dst f argc w)

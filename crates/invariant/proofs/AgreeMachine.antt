@@ -19,7 +19,7 @@ use Rattle.model.specs.declared.program.Caught.{Caught}
 use Rattle.model.specs.declared.machine.Cont.{Cont}
 use Rattle.model.specs.declared.machine.Frame.{Frame}
 use Rattle.model.specs.declared.machine.Charge.{Charge}
-use Rattle.model.specs.declared.coro.Made.{Made}
+use Rattle.model.specs.declared.coro.WordOr.{WordOr}
 use Rattle.heap.specs.declared.heap.ResultKind.{ResultKind}
 use Rattle.model.specs.declared.call.OptPc.{OptPc}
 use Rattle.model.specs.declared.call.Answer.{Answer}
@@ -40,9 +40,9 @@ pub write-agree : (dst : ℕ) (v : Opt) (w : World) → Agree w → Agree (write
 write-agree dst Opt.None w h = h
 write-agree dst (Opt.Some v) w h = h
 
-pub write-made : (dst : ℕ) (u : World) (m : Made) → Agree u → Ag (writeMade dst u m)
-write-made dst u (Made.Word v) h = h
-write-made dst u (Made.Refused f) h = h
+pub write-made : (dst : ℕ) (u : World) (m : WordOr) → Agree u → Ag (writeMade dst u m)
+write-made dst u (WordOr.Word v) h = h
+write-made dst u (WordOr.Refused f) h = h
 
 pub apply-agree : (c : Cont) (kind : ResultKind) (v : ℕ) (w : World) → Agree w → Ag (applyCont c kind v w)
 unfolding applyCont
@@ -56,9 +56,9 @@ apply-agree Cont.Coro kind v w h = h
 pub resume-in : (u : World) (f : Fault) → Agree u → Ag (resumeIn u f)
 resume-in u f h = picked Ag (isOk f) (λ _. h) (λ _. h)
 
-pub return-made : (f : Frame) (fs : List Frame) (u : World) (m : Made) → Agree u → Ag (returnMade f fs u m)
-return-made f fs u (Made.Word v) h = returned-agree v (popTo f fs u) h
-return-made f fs u (Made.Refused x) h = h
+pub return-made : (f : Frame) (fs : List Frame) (u : World) (m : WordOr) → Agree u → Ag (returnMade f fs u m)
+return-made f fs u (WordOr.Word v) h = returned-agree v (popTo f fs u) h
+return-made f fs u (WordOr.Refused x) h = h
 
 pub finish-as : (c : Cont) (f : Frame) (fs : List Frame) (kind : ResultKind) (v : ℕ) (w : World) → Agree w → Ag (finishAs c f fs kind v w)
 finish-as Cont.Entry f fs kind v w h = h
@@ -100,9 +100,9 @@ search-agree (x ∷ xs) value fn pc w h = go (firstOf (x .pc) (func (w .setup) (
     go Caught.Nothing next = escape-agree (x .cont) value fn pc (search xs value fn pc) next (popTo x xs w) h
     go (Caught.By y) next = then-ag (charge OptPc.None w) (caught y value) (charge-agree OptPc.None w h) (caught-agree y value)
 
-pub search-made : (u : World) (m : Made) → Agree u → Ag (searchMade u m)
-search-made u (Made.Word v) h = search-agree (u .frames) v (topFunc (u .frames)) (topPc (u .frames)) u h
-search-made u (Made.Refused f) h = h
+pub search-made : (u : World) (m : WordOr) → Agree u → Ag (searchMade u m)
+search-made u (WordOr.Word v) h = search-agree (u .frames) v (topFunc (u .frames)) (topPc (u .frames)) u h
+search-made u (WordOr.Refused f) h = h
 
 pub fault-agree : (f : Fault) (w : World) → Agree w → Ag (unwindFault f w)
 fault-agree f w h =

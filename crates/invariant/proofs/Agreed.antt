@@ -26,7 +26,7 @@ use Rattle.model.specs.Step.{Out, doing, call, tested, step, run}
 use Rattle.model.specs.declared.machine.Cont.{Cont}
 use Rattle.model.specs.declared.machine.Driver.{Driver}
 use Rattle.model.specs.declared.machine.Charge.{Charge}
-use Rattle.model.specs.declared.coro.Made.{Made}
+use Rattle.model.specs.declared.coro.WordOr.{WordOr}
 use Rattle.model.specs.declared.coro.Entered.{Entered}
 use Rattle.model.specs.declared.exec.Step.{Step}
 use Rattle.model.specs.declared.call.OptPc.{OptPc}
@@ -55,9 +55,9 @@ module _ (w : World) (h : Agree w) where
 
   -- ---- the added calls
 
-  pushed-or : (u : World) (m : Made) → Agree u → Ag (pushedOr w u m)
-  pushed-or u (Made.Word base) k = k
-  pushed-or u (Made.Refused f) k = h
+  pushed-or : (u : World) (m : WordOr) → Agree u → Ag (pushedOr w u m)
+  pushed-or u (WordOr.Word base) k = k
+  pushed-or u (WordOr.Refused f) k = h
 
   host-call-agree : (f : ℕ) → Ag (hostCall f w)
   unfolding hostCall

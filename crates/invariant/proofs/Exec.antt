@@ -25,7 +25,7 @@ use Rattle.model.specs.declared.machine.Cont.{Cont}
 use Rattle.model.specs.declared.machine.Driver.{Driver}
 use Rattle.model.specs.declared.machine.Active.{Active}
 use Rattle.model.specs.declared.machine.Charge.{Charge}
-use Rattle.model.specs.declared.coro.Made.{Made}
+use Rattle.model.specs.declared.coro.WordOr.{WordOr}
 use Rattle.model.specs.declared.coro.Stated.{Stated}
 use Rattle.model.specs.declared.coro.Entered.{Entered}
 use Rattle.model.specs.declared.coro.Keys.{Keys}
@@ -52,9 +52,9 @@ Stepping w s = stepFine s ≡ true
 put-good : {ex : Bool} (dst v : ℕ) (w : World) → Sound ex w → Good ex Stepping (put dst v w)
 put-good dst v w h = good (put-sound dst v w h) refl
 
-made-good : {ex : Bool} (dst : ℕ) (u : World) (m : Made) → Sound ex u → madeFine m ≡ true → Good ex Stepping (putMade dst u m)
-made-good dst u (Made.Word v) h e = put-good dst v u h
-made-good dst u (Made.Refused f) h e = good h e
+made-good : {ex : Bool} (dst : ℕ) (u : World) (m : WordOr) → Sound ex u → madeFine m ≡ true → Good ex Stepping (putMade dst u m)
+made-good dst u (WordOr.Word v) h e = put-good dst v u h
+made-good dst u (WordOr.Refused f) h e = good h e
 
 -- ---- CoroNew, CoroNewIndirect
 
@@ -68,9 +68,9 @@ new-indirect-good dst callee argc w h = then-good (putMade dst) (indirect-good d
 
 -- ---- Spawn
 
-hooked-good : {ex : Bool} (w : World) (c : ℕ) (u : World) (m : Made) → Sound ex w → Sound ex u → madeFine m ≡ true → Good ex Stepping (hooked w c u m)
-hooked-good w c u (Made.Word base) h k e = good (tower-move u (set (u .stack) base c) (u .frames) k (tower-stack (length-set (u .stack) base c) (k .tower))) refl
-hooked-good w c u (Made.Refused f) h k e = good h e
+hooked-good : {ex : Bool} (w : World) (c : ℕ) (u : World) (m : WordOr) → Sound ex w → Sound ex u → madeFine m ≡ true → Good ex Stepping (hooked w c u m)
+hooked-good w c u (WordOr.Word base) h k e = good (tower-move u (set (u .stack) base c) (u .frames) k (tower-stack (length-set (u .stack) base c) (k .tower))) refl
+hooked-good w c u (WordOr.Refused f) h k e = good h e
 
 pushed-hook : {ex : Bool} (hook pc dst c : ℕ) (w : World) → Sound ex w → ltb pc (2 ^ 32) ≡ true → isFunction (w .setup) hook ≡ true → InTop w dst
     → Good ex Stepping (andThen (pushFrame hook nil (Cont.Value dst) (storePc pc w)) (hooked w c))
@@ -89,11 +89,11 @@ none-calm w u (Charge.Done n) c = c
 none-calm w u Charge.Spent c = c
 none-calm w u (Charge.Close n) c = c
 
-spawn-made : {ex : Bool} (hook pc dst : ℕ) (w : World) (m : Made) → Sound ex w → madeFine m ≡ true → ltb pc (2 ^ 32) ≡ true → isFunction (w .setup) hook ≡ true → InTop w dst → Good ex Stepping (spawnMade hook pc dst w m)
-spawn-made hook pc dst w (Made.Word c) h f p e t =
+spawn-made : {ex : Bool} (hook pc dst : ℕ) (w : World) (m : WordOr) → Sound ex w → madeFine m ≡ true → ltb pc (2 ^ 32) ≡ true → isFunction (w .setup) hook ≡ true → InTop w dst → Good ex Stepping (spawnMade hook pc dst w m)
+spawn-made hook pc dst w (WordOr.Word c) h f p e t =
     then-good (callHook hook pc dst c) (charge-good OptPc.None w refl h)
     (λ u x k q. let l = none-calm w u x q in hook-good hook pc dst c u x k p (ap (λ s. isFunction s hook) (l .setup) ∙ e) (calm-top dst l t))
-spawn-made hook pc dst w (Made.Refused x) h f p e t = good h f
+spawn-made hook pc dst w (WordOr.Refused x) h f p e t = good h f
 
 pub spawn-good : {ex : Bool} (pc dst callee argc : ℕ) (w : World) → Sound ex w → ltb pc (2 ^ 32) ≡ true → InTop w dst → Good ex Stepping (spawn pc dst callee argc w)
 unfolding spawn

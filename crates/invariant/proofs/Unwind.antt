@@ -22,7 +22,7 @@ use Rattle.model.specs.declared.program.Caught.{Caught}
 use Rattle.model.specs.declared.machine.Cont.{Cont}
 use Rattle.model.specs.declared.machine.Frame.{Frame}
 use Rattle.model.specs.declared.machine.Charge.{Charge}
-use Rattle.model.specs.declared.coro.Made.{Made}
+use Rattle.model.specs.declared.coro.WordOr.{WordOr}
 use Rattle.heap.specs.declared.heap.ResultKind.{ResultKind}
 use Rattle.model.specs.declared.call.OptPc.{OptPc}
 use Rattle.model.specs.declared.call.Answer.{Answer}
@@ -66,9 +66,9 @@ write-sound : {ex : Bool} (dst : ℕ) (v : Opt) (w : World) → Sound ex w → S
 write-sound dst Opt.None w h = h
 write-sound dst (Opt.Some v) w h = put-sound dst v w h
 
-write-good : {ex : Bool} (dst : ℕ) (u : World) (m : Made) → Sound ex u → madeFine m ≡ true → Good ex Ok (writeMade dst u m)
-write-good dst u (Made.Word v) h e = good (put-sound dst v u h) refl
-write-good dst u (Made.Refused f) h e = good h e
+write-good : {ex : Bool} (dst : ℕ) (u : World) (m : WordOr) → Sound ex u → madeFine m ≡ true → Good ex Ok (writeMade dst u m)
+write-good dst u (WordOr.Word v) h e = good (put-sound dst v u h) refl
+write-good dst u (WordOr.Refused f) h e = good h e
 
 apply-good : {ex : Bool} (c : Cont) (kind : ResultKind) (v : ℕ) (w : World) → Sound ex w → Good ex Ok (applyCont c kind v w)
 unfolding applyCont
@@ -82,9 +82,9 @@ apply-good Cont.Coro kind v w h = good h refl
 resume-good : {ex : Bool} (u : World) (f : Fault) → Sound ex u → fine f ≡ true → Good ex Fine (resumeIn u f)
 resume-good {ex} u f h e = picked (Good ex Fine) (isOk f) (λ _. good (next-sound u h) refl) (λ _. good h e)
 
-return-made : {ex : Bool} (f : Frame) (fs : List Frame) (u : World) (m : Made) → Sound ex u → u .frames ≡ f ∷ fs → isCoro (f .cont) ≡ true → madeFine m ≡ true → Good ex Fine (returnMade f fs u m)
-return-made f fs u (Made.Word v) h e c p = good (returned-sound u f fs h e c v) refl
-return-made f fs u (Made.Refused x) h e c p = good h p
+return-made : {ex : Bool} (f : Frame) (fs : List Frame) (u : World) (m : WordOr) → Sound ex u → u .frames ≡ f ∷ fs → isCoro (f .cont) ≡ true → madeFine m ≡ true → Good ex Fine (returnMade f fs u m)
+return-made f fs u (WordOr.Word v) h e c p = good (returned-sound u f fs h e c v) refl
+return-made f fs u (WordOr.Refused x) h e c p = good h p
 
 finish-on : {ex : Bool} (kind : ResultKind) (v : ℕ) (w : World) → Sound ex w → (fs : List Frame) → w .frames ≡ fs → Good ex Fine (finishOn fs kind v w)
 finish-on kind v w h [] e = good h refl
@@ -146,9 +146,9 @@ module _ {ex : Bool} (w : World) (h : Sound ex w) where
   frames-good : (value : ℕ) → Good ex Fine (searchFrames value w)
   frames-good value = search-good value (topFunc (w .frames)) (topPc (w .frames)) (func-small w h) (pc-small w h) (w .frames) w h refl
 
-made-good : {ex : Bool} (u : World) (m : Made) → Sound ex u → madeFine m ≡ true → Good ex Fine (searchMade u m)
-made-good u (Made.Word v) h e = frames-good u h v
-made-good u (Made.Refused f) h e = good h e
+made-good : {ex : Bool} (u : World) (m : WordOr) → Sound ex u → madeFine m ≡ true → Good ex Fine (searchMade u m)
+made-good u (WordOr.Word v) h e = frames-good u h v
+made-good u (WordOr.Refused f) h e = good h e
 
 fault-good : {ex : Bool} (f : Fault) (w : World) → Sound ex w → (between 1 10 (Faults.numberOf f) || eqb (Faults.numberOf f) 17) ≡ true → Good ex Fine (unwindFault f w)
 fault-good {ex} f w h range =

@@ -15,7 +15,7 @@ use Rattle.model.specs.Step.{told, doing, call}
 use Rattle.model.specs.declared.call.OptPc.{OptPc}
 use Rattle.model.specs.declared.call.Op.{Op}
 use Rattle.model.specs.declared.call.Answer.{Answer}
-use Rattle.model.specs.declared.coro.Made.{Made}
+use Rattle.model.specs.declared.coro.WordOr.{WordOr}
 use Rattle.model.specs.declared.machine.Fuel.{Fuel}
 use Rattle.memory.specs.Memory.{Lent, Rep}
 use Rattle.memory.specs.Contract.{Does}
@@ -74,15 +74,15 @@ module _ (l : Sizes) (M : Lent) (m : Machine) (f : Fuel) (w : World) (o : Op) (a
       go (Other body) q e = no-false e
 
   -- spawn_task, whose answer is the word made
-  pub as-task : (x : Op) (v : ℕ) (b : Made) → o ≡ x → table x ≡ Other (λ z. andThen (spawnTask v z) answerMade) → Does l (spawnTask v w) M m f b → ((z : World) → a ≡ answerMade z b .answer) → Does l (did o w) M m f a
+  pub as-task : (x : Op) (v : ℕ) (b : WordOr) → o ≡ x → table x ≡ Other (λ z. andThen (spawnTask v z) answerMade) → Does l (spawnTask v w) M m f b → ((z : World) → a ≡ answerMade z b .answer) → Does l (did o w) M m f a
   as-task x v b e r d q =
       let t = spawnTask v w in
       as-other x (λ z. andThen (spawnTask v z) answerMade) e r
       (does l M m f (andThen t answerMade) (t .world) a (made (t .world) (t .answer) ∙ ap (λ y. after (t .world) (madeAs y)) (sym (d .answer)) ∙ ap (after (t .world)) (sym (q w ∙ made-any w b))) (d .world))
     where
-      made : (u : World) (y : Made) → answerMade u y ≡ after u (madeAs y)
-      made u (Made.Word k) = refl
-      made u (Made.Refused k) = refl
+      made : (u : World) (y : WordOr) → answerMade u y ≡ after u (madeAs y)
+      made u (WordOr.Word k) = refl
+      made u (WordOr.Refused k) = refl
 
 -- ---- the gates
 

@@ -21,10 +21,10 @@ use Rattle.invariant.proofs.Kept.{soundness-kept}
 use Rattle.sheet.proofs.Sentences.{sentences}
 use Rattle.tables.specs.Sizes.{setupWords, stackSize, framesSize, chainSize, savedStackSize, savedFramesSize, slotsSize, queueSize, setupSize}
 use Rattle.memory.specs.Memory.{Lent, Room}
-use Rattle.words.specs.Words.{Lengths, lengthsOf, wordsIn, numbersOf}
-use Rattle.words.specs.Decode.{setupOf}
-use Rattle.words.proofs.Encoded.{every-world}
-use Rattle.words.proofs.Decoded.{one-world}
+use Rattle.memory.specs.Words.{Lengths, lengthsOf, wordsIn, numbersOf}
+use Rattle.memory.specs.Decode.{setupOf}
+use Rattle.memory.proofs.Encoded.{every-world}
+use Rattle.memory.proofs.Decoded.{one-world}
 use Rattle.sound.specs.Words.{same, setupHeld, roomOk}
 use Rattle.sound.specs.Exactly.{Stands}
 use Rattle.sound.proofs.Passed.{room-of}

@@ -26,8 +26,8 @@ use Rattle.memory.specs.Rows.{rowAt}
 use Rattle.memory.specs.Memory.{Lent, tabled, regsRows, framesRows, Room}
 use Rattle.memory.proofs.Tables.{length-tabled}
 use Rattle.memory.proofs.Few.{queue-few}
-use Rattle.words.specs.Words.{lengthsOf, wordsIn}
-use Rattle.words.proofs.Encoded.{length-setup}
+use Rattle.memory.specs.Words.{lengthsOf, wordsIn}
+use Rattle.memory.proofs.Encoded.{length-setup}
 
 -- rows of one width
 length-rows : {A : Type 0} (enc : A → List ℕ) (w : ℕ) (f : ℕ → A) (n : ℕ) → length (words (λ x. inRow w (enc x)) (tabled f 0 n)) ≡ n * w

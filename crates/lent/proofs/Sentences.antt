@@ -36,7 +36,7 @@ use Rattle.tables.specs.Layout.{frameWords, frameOf, activeWords, activeOf}
 use Rattle.tables.specs.Parts.{piled}
 use Rattle.tables.specs.Sizes.{framesSize, savedStackSize, savedFramesSize}
 use Rattle.memory.specs.Rows.{rowAt}
-use Rattle.words.specs.Words.{lengthsOf}
+use Rattle.memory.specs.Words.{lengthsOf}
 use Rattle.sound.specs.Words.{restOk, coded, framesHeld}
 use Rattle.sound.proofs.Passed.{passed}
 use Rattle.lent.specs.Step.{State, Left, stateIn, isSound, decoded, looked, stepWords, setUpOk, setUpWords, Call, SetUp, Do, step}

@@ -9,8 +9,8 @@ use Rattle.model.specs.Sound.{sound}
 use Rattle.model.specs.Call.{Operation}
 use Rattle.model.specs.Step.{call}
 use Rattle.memory.specs.Memory.{Lent, Room}
-use Rattle.words.specs.Words.{lengthsOf}
-use Rattle.words.specs.Decode.{setupOf}
+use Rattle.memory.specs.Words.{lengthsOf}
+use Rattle.memory.specs.Decode.{setupOf}
 use Rattle.lent.specs.Step.{State, stateIn, isSound, decoded, does, stepWords, setUpOk, setUpWords, Call, step}
 
 pub record Kept : Type 0 where

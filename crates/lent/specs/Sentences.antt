@@ -21,7 +21,7 @@ use Rattle.model.specs.declared.call.Op.{Op}
 use Rattle.model.specs.declared.call.OptPc.{OptPc}
 use Rattle.tables.specs.Sizes.{savedStackSize, savedFramesSize}
 use Rattle.memory.specs.Memory.{Room}
-use Rattle.words.specs.Words.{lengthsOf}
+use Rattle.memory.specs.Words.{lengthsOf}
 use Rattle.lent.specs.Step.{State, isSound, decoded, looked, setUpOk, Call, SetUp, Do, step}
 
 -- the number that a call answers

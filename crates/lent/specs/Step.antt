@@ -17,8 +17,8 @@ use Rattle.model.specs.declared.call.Answer.{Answer}
 use Rattle.tables.specs.Sizes.{setupSize}
 use Rattle.memory.specs.Memory.{Lent}
 use Rattle.memory.specs.declared.machine.Machine.{Machine}
-use Rattle.words.specs.Words.{Lengths, lengthsOf, wordsIn, numbersOf}
-use Rattle.words.specs.Decode.{setupOf, worldOf}
+use Rattle.memory.specs.Words.{Lengths, lengthsOf, wordsIn, numbersOf}
+use Rattle.memory.specs.Decode.{setupOf, worldOf}
 use Rattle.sound.specs.Words.{setupHeld, roomOk, soundWords}
 
 -- all that a call is lent: the nine slices, the machine's numbers, the fuel

@@ -7,7 +7,7 @@ use Rattle.model.specs.declared.machine.Fuel.{Fuel}
 use Rattle.soundness.proofs.Tests.{and-left, and-right, both, no-false}
 use Rattle.soundness.proofs.Sound.{Sound, sound→, →sound}
 use Rattle.soundness.proofs.Coros.{fuel-move}
-use Rattle.words.specs.Decode.{setupOf}
+use Rattle.memory.specs.Decode.{setupOf}
 use Rattle.sound.specs.Words.{setupHeld, wordsOk, soundWords}
 use Rattle.lent.specs.Step.{State, isSound, decoded}
 use Rattle.lent.proofs.Kept.{words-kept}

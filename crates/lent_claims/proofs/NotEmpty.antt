@@ -11,8 +11,8 @@ use Rattle.model.specs.Compute.{computed}
 use Rattle.heap.specs.declared.value.Opt.{Opt}
 use Rattle.tables.specs.Sizes.{setupWords, stackSize, framesSize, chainSize, savedStackSize, savedFramesSize, slotsSize, queueSize, setupSize}
 use Rattle.memory.specs.Memory.{Lent}
-use Rattle.words.specs.Words.{numbersOf}
-use Rattle.words.specs.Decode.{setupOf}
+use Rattle.memory.specs.Words.{numbersOf}
+use Rattle.memory.specs.Decode.{setupOf}
 use Rattle.claims.specs.Engine.{run}
 use Rattle.claims.specs.Promise.{Roomy, Makes, NotEmpty}
 use Rattle.claims.specs.Premises.{premises}

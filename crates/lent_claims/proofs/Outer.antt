@@ -23,7 +23,7 @@ use Rattle.model.specs.declared.machine.Outcome.{Outcome}
 use Rattle.model.specs.declared.call.Op.{Op}
 use Rattle.soundness.proofs.Tests.{no-false, picked}
 use Rattle.soundness.proofs.Sound.{sound→}
-use Rattle.words.specs.Decode.{setupOf}
+use Rattle.memory.specs.Decode.{setupOf}
 use Rattle.claims.specs.Steps as Steps
 use Rattle.claims.specs.Steps.{viewOf, steps}
 use Rattle.claims.specs.Story.{bad}

@@ -26,7 +26,7 @@ use Rattle.model.specs.Heap.{fits, slotsFull, refuse, alloc}
 use Rattle.model.specs.Sound.{rowWords, sound}
 use Rattle.soundness.proofs.Tests.{no-false}
 use Rattle.soundness.proofs.Sound.{sound→, facts}
-use Rattle.model.specs.declared.coro.Made.{Made}
+use Rattle.model.specs.declared.coro.WordOr.{WordOr}
 use Rattle.model.specs.declared.machine.Fuel.{Fuel}
 use Rattle.tables.specs.Parts.{SavedStack, SavedFrames}
 use Rattle.tables.specs.Sizes.{framesSize}
@@ -66,14 +66,14 @@ full-not a b = go (ltb a b) refl
     go true e = lt-leb b a (ltb-true a b e)
     go false e = le-leb b a (ltb-false a b e)
 
-refuses : (a b : Bool) (w : World) (g : Fault) (o : After Made) → g ≡ pick a (pick b Fault.None Fault.Full) Fault.OutOfMemory → isNone g ≡ false
+refuses : (a b : Bool) (w : World) (g : Fault) (o : After WordOr) → g ≡ pick a (pick b Fault.None Fault.Full) Fault.OutOfMemory → isNone g ≡ false
     → pick (not a) (refuse w Fault.OutOfMemory) (pick (not b) (refuse w Fault.Full) o) ≡ refuse w g
 unfolding pick
 refuses true true w g o e n = absurd (let z : true ≡ false = sym (ap isNone e) ∙ n in let y : _≡_ {A = ℕ} 0 1 = cc in omega arith)
 refuses true false w g o e n = ap (refuse w) (sym e)
 refuses false b w g o e n = ap (refuse w) (sym e)
 
-passes : (a b : Bool) (w : World) (o : After Made) → a ≡ true → b ≡ true → pick (not a) (refuse w Fault.OutOfMemory) (pick (not b) (refuse w Fault.Full) o) ≡ o
+passes : (a b : Bool) (w : World) (o : After WordOr) → a ≡ true → b ≡ true → pick (not a) (refuse w Fault.OutOfMemory) (pick (not b) (refuse w Fault.Full) o) ≡ o
 unfolding pick
 passes a b w o p q = rw (p, q)
 
@@ -99,15 +99,15 @@ module _ (l : Sizes) (M : Lent) (m : Machine) (f : Fuel) (w : World) (rep : Rep 
     abbrev b : Bool
     b = ltb (m .count) (l .slots)
 
-    model : alloc bytes o w ≡ pick (not a) (refuse w Fault.OutOfMemory) (pick (not b) (refuse w Fault.Full) (after pushed (Made.Word (nextWord (w .slots)))))
+    model : alloc bytes o w ≡ pick (not a) (refuse w Fault.OutOfMemory) (pick (not b) (refuse w Fault.Full) (after pushed (WordOr.Word (nextWord (w .slots)))))
     unfolding alloc
     model =
-        ap₂ (λ x y. pick (not x) (refuse w Fault.OutOfMemory) (pick y (refuse w Fault.Full) (after pushed (Made.Word (nextWord (w .slots)))))) (fits-same bytes) full-same
+        ap₂ (λ x y. pick (not x) (refuse w Fault.OutOfMemory) (pick y (refuse w Fault.Full) (after pushed (WordOr.Word (nextWord (w .slots)))))) (fits-same bytes) full-same
 
-    pub alloc-refused : (ws′ : List ℕ) (g : Fault) → Lacking (M .slots) ws′ (heapOf m l) bytes g → Does l (alloc bytes o w) (onSlots ws′ M) m f (Made.Refused g)
+    pub alloc-refused : (ws′ : List ℕ) (g : Fault) → Lacking (M .slots) ws′ (heapOf m l) bytes g → Does l (alloc bytes o w) (onSlots ws′ M) m f (WordOr.Refused g)
     alloc-refused ws′ g k =
-        subst (λ z. Does l (alloc bytes o w) (onSlots z M) m f (Made.Refused g)) (sym (k .words))
-        (does l M m f (alloc bytes o w) w (Made.Refused g) (model ∙ refuses a b w g _ (k .fault) (k .some)) rep)
+        subst (λ z. Does l (alloc bytes o w) (onSlots z M) m f (WordOr.Refused g)) (sym (k .words))
+        (does l M m f (alloc bytes o w) w (WordOr.Refused g) (model ∙ refuses a b w g _ (k .fault) (k .some)) rep)
 
     module _ (ws′ savedStack′ savedFrames′ : List ℕ) (h′ : Heap) (v : Word) (k : Done (M .slots) ws′ (heapOf m l) h′ bytes (toObject o) v) (room : TableFits (M .slots) (l .slots)) where
       slots-after : Slots (toSlots (pushObject (w .slots) o)) ws′ (h′ .count)
@@ -121,10 +121,10 @@ module _ (l : Sizes) (M : Lent) (m : Machine) (f : Fuel) (w : World) (rep : Rep 
 
       pub alloc-made : SavedStack (rowWords (w .setup)) (regsRows (w .setup .limits .rows) (pushObject (w .slots) o)) savedStack′
           → SavedFrames (framesSize (w .setup)) (framesRows (w .setup .limits .rows) (pushObject (w .slots) o)) savedFrames′
-          → Does l (alloc bytes o w) (onSlots ws′ (onSaved savedStack′ savedFrames′ M)) (allocated m h′) f (Made.Word (v .0))
+          → Does l (alloc bytes o w) (onSlots ws′ (onSaved savedStack′ savedFrames′ M)) (allocated m h′) f (WordOr.Word (v .0))
       alloc-made on up =
-          does l (onSlots ws′ (onSaved savedStack′ savedFrames′ M)) (allocated m h′) f (alloc bytes o w) pushed (Made.Word (v .0))
-          (model ∙ passes a b w _ (k .fit) (k .left) ∙ ap (λ n. after pushed (Made.Word n)) (sym (k .word ∙ ap (λ n. reference n 0) count-is)))
+          does l (onSlots ws′ (onSaved savedStack′ savedFrames′ M)) (allocated m h′) f (alloc bytes o w) pushed (WordOr.Word (v .0))
+          (model ∙ passes a b w _ (k .fit) (k .left) ∙ ap (λ n. after pushed (WordOr.Word n)) (sym (k .word ∙ ap (λ n. reference n 0) count-is)))
           (turn-used l (withSlots (pushObject (w .slots) o) w) (onSlots ws′ (onSaved savedStack′ savedFrames′ M)) (withCount (h′ .count) m) f
           (turn-slots l w M m f rep (pushObject (w .slots) o) ws′ savedStack′ savedFrames′ (h′ .count) slots-after on up)
           (h′ .used) (satAdd (w .used) bytes) (k .used ∙ ap (λ n. satAdd n bytes) (rep .used)))
@@ -134,13 +134,13 @@ module _ (l : Sizes) (M : Lent) (m : Machine) (f : Fuel) (w : World) (rep : Rep 
       answered : (r₀ : HM.Made) → r ≡ r₀ → out r₀ ws′ ≡ allocOf (M .slots) (heapOf m l) bytes (toObject o)
       answered r₀ e = ap (λ x. out x ws′) (sym e) ∙ told ∙ ap (λ x. allocOf (M .slots) x bytes (toObject o)) is-heap
 
-      pub plain-refused : (g : Fault) → r ≡ H.Refused g → Does l (alloc bytes o w) (onSlots ws′ M) m f (Made.Refused g)
+      pub plain-refused : (g : Fault) → r ≡ H.Refused g → Does l (alloc bytes o w) (onSlots ws′ M) m f (WordOr.Refused g)
       plain-refused g e = alloc-refused ws′ g (alloc-lacks (M .slots) (heapOf m l) bytes (toObject o) ws′ g (answered (H.Refused g) e))
 
-      pub plain-made : TableFits (M .slots) (l .slots) → (v : Word) (h′ : Heap) (m′ : Machine) → r ≡ H.Done v h′ → m′ ≡ allocated m h′ → Does l (alloc bytes o w) (onSlots ws′ M) m′ f (Made.Word (v .0))
+      pub plain-made : TableFits (M .slots) (l .slots) → (v : Word) (h′ : Heap) (m′ : Machine) → r ≡ H.Done v h′ → m′ ≡ allocated m h′ → Does l (alloc bytes o w) (onSlots ws′ M) m′ f (WordOr.Word (v .0))
       plain-made room v h′ m′ e em =
           let s = w .setup in
-          subst (λ z. Does l (alloc bytes o w) (onSlots ws′ M) z f (Made.Word (v .0))) (sym em)
+          subst (λ z. Does l (alloc bytes o w) (onSlots ws′ M) z f (WordOr.Word (v .0))) (sym em)
           (alloc-made ws′ (M .savedStack) (M .savedFrames) h′ v (alloc-done (M .slots) (heapOf m l) bytes (toObject o) ws′ v h′ (answered (H.Done v h′) e)) room
           (subst (λ z. SavedStack (rowWords s) z (M .savedStack)) (sym (regs-same (w .slots) o unowned (s .limits .rows))) (rep .savedStack))
           (subst (λ z. SavedFrames (framesSize s) z (M .savedFrames)) (sym (frames-same (w .slots) o unowned (s .limits .rows))) (rep .savedFrames)))

@@ -11,7 +11,7 @@ use Rattle.model.specs.World.{World, After, andThen}
 use Rattle.model.specs.Frames.{onTop, setPc, storePc}
 use Rattle.model.specs.Machine.{pushFrame}
 use Rattle.model.specs.Sound.{sound}
-use Rattle.model.specs.declared.coro.Made.{Made}
+use Rattle.model.specs.declared.coro.WordOr.{WordOr}
 use Rattle.model.specs.declared.machine.Cont.{Cont}
 use Rattle.model.specs.declared.machine.Frame.{Frame}
 use Rattle.model.specs.declared.machine.Fuel.{Fuel}
@@ -37,14 +37,14 @@ module _ (l : Sizes) (w : World) (M : Lent) (m : Machine) (fuel : Fuel) (rep : R
       ap (λ k. leb (w .setup .limits .depth) k || ltb (w .setup .limits .stack) (length (w .stack) + func (w .setup) f .regs)) (same-depth (setPc pc) (w .frames))
       ∙ same-test l w M m fuel rep snd f function closure cont
 
-  pub call-refused : overflowing m l (functionIn (M .setup) f .regs) ≡ true → Does l (pushAt pc f closure cont w) M m fuel (Made.Refused Fault.StackOverflow)
+  pub call-refused : overflowing m l (functionIn (M .setup) f .regs) ≡ true → Does l (pushAt pc f closure cont w) M m fuel (WordOr.Refused Fault.StackOverflow)
   unfolding pushFrame pushAt
   call-refused e =
-      does l M m fuel (pushAt pc f closure cont w) w (Made.Refused Fault.StackOverflow) (ap (λ (o : After Made). andThen o (pushedOr w)) (chosen _ _ _ (tested ∙ e))) rep
+      does l M m fuel (pushAt pc f closure cont w) w (WordOr.Refused Fault.StackOverflow) (ap (λ (o : After WordOr). andThen o (pushedOr w)) (chosen _ _ _ (tested ∙ e))) rep
 
-  pub call-done : (M′ : Lent) (m′ : Machine) (a : Made) → overflowing m l (functionIn (M .setup) f .regs) ≡ false → Does l (pushFrame f closure cont (storePc pc w)) M′ m′ fuel a
+  pub call-done : (M′ : Lent) (m′ : Machine) (a : WordOr) → overflowing m l (functionIn (M .setup) f .regs) ≡ false → Does l (pushFrame f closure cont (storePc pc w)) M′ m′ fuel a
       → Does l (pushAt pc f closure cont w) M′ m′ fuel a
   unfolding pushFrame pushAt
   call-done M′ m′ a e d =
       let p = passed _ _ _ (tested ∙ e) in
-      subst (λ (o : After Made). Does l o M′ m′ fuel a) (p ∙ sym (ap (λ (o : After Made). andThen o (pushedOr w)) p)) d
+      subst (λ (o : After WordOr). Does l o M′ m′ fuel a) (p ∙ sym (ap (λ (o : After WordOr). andThen o (pushedOr w)) p)) d

@@ -14,7 +14,7 @@ use Rattle.model.specs.World.{World, after, withStack, withFrames}
 use Rattle.model.specs.Frames.{frame, stepPc, onTop, nextPc}
 use Rattle.model.specs.Machine.{pushFrame}
 use Rattle.model.specs.Sound.{sound}
-use Rattle.model.specs.declared.coro.Made.{Made}
+use Rattle.model.specs.declared.coro.WordOr.{WordOr}
 use Rattle.model.specs.declared.machine.Cont.{Cont}
 use Rattle.model.specs.declared.machine.Frame.{Frame}
 use Rattle.model.specs.declared.machine.Fuel.{Fuel}
@@ -131,10 +131,10 @@ module _ (l : Sizes) (w : World) (M : Lent) (m : Machine) (fuel : Fuel) (rep : R
           ∙ ap₂ (λ a b. leb (l .depth) a || ltb (l .stack) (b + func s f .regs)) (sym (rep .frames .count)) (sym (rep .stack .count))
           ∙ ap (λ a. leb (l .depth) (m .depth) || ltb (l .stack) (m .height + a)) (sym width-is)
 
-      pub push-refused : overflowing m l n ≡ true → Does l (pushFrame f closure cont w) M m fuel (Made.Refused Fault.StackOverflow)
+      pub push-refused : overflowing m l n ≡ true → Does l (pushFrame f closure cont w) M m fuel (WordOr.Refused Fault.StackOverflow)
       unfolding pushFrame
       push-refused e =
-          subst (λ z. Does l z M m fuel (Made.Refused Fault.StackOverflow)) (sym (chosen _ _ _ (same-test ∙ e)))
+          subst (λ z. Does l z M m fuel (WordOr.Refused Fault.StackOverflow)) (sym (chosen _ _ _ (same-test ∙ e)))
           (record { world = rep; answer = refl })
 
       pub record Fitting : Type 0 where
@@ -155,7 +155,7 @@ module _ (l : Sizes) (w : World) (M : Lent) (m : Machine) (fuel : Fuel) (rep : R
           record { frames = omega arith; height = omega arith; depth = omega arith }
 
       pub push-done : l .stack ≤ length (M .stack) → overflowing m l n ≡ false → (frames′ : List ℕ) → FramesDo (λ fs. frame f (m .height) closure cont ∷ fs) (M .frames) frames′ (m .depth) (m .depth + 1)
-          → Does l (pushFrame f closure cont w) (onFrames frames′ M) (pushed m n) fuel (Made.Word (m .height))
+          → Does l (pushFrame f closure cont w) (onFrames frames′ M) (pushed m n) fuel (WordOr.Word (m .height))
       unfolding pushFrame
       push-done q e frames′ pushes =
           let b = ltb-false (l .stack) (m .height + n) (or-second (leb (l .depth) (m .depth)) (ltb (l .stack) (m .height + n)) e) in
@@ -163,7 +163,7 @@ module _ (l : Sizes) (w : World) (M : Lent) (m : Machine) (fuel : Fuel) (rep : R
           let x : World = withStack (w .stack ++ replicate n 0) w in
           let u = turn-stack l w M m fuel rep (w .stack ++ replicate n 0) (M .stack) (m .height + n) grow in
           let t = turn-frames l x M (withHeight (m .height + n) m) fuel u (frame f (m .height) closure cont ∷ w .frames) frames′ (m .depth + 1) (pushes (w .frames) (rep .frames)) in
-          subst (λ o. Does l o (onFrames frames′ M) (pushed m n) fuel (Made.Word (m .height)))
+          subst (λ o. Does l o (onFrames frames′ M) (pushed m n) fuel (WordOr.Word (m .height)))
           (sym (passed _ _ _ (same-test ∙ e)
-          ∙ ap₂ (λ k base. after (withFrames (frame f base closure cont ∷ w .frames) (withStack (w .stack ++ replicate k 0) w)) (Made.Word base)) (sym width-is) (sym (rep .stack .count))))
+          ∙ ap₂ (λ k base. after (withFrames (frame f base closure cont ∷ w .frames) (withStack (w .stack ++ replicate k 0) w)) (WordOr.Word base)) (sym width-is) (sym (rep .stack .count))))
           (record { world = t; answer = refl })

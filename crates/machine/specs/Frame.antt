@@ -7,7 +7,7 @@ use lib.Dec.{ltb, leb}
 use Rattle.model.specs.World.{World, After, after, andThen}
 use Rattle.model.specs.Frames.{storePc, popTo}
 use Rattle.model.specs.Machine.{pushFrame}
-use Rattle.model.specs.declared.coro.Made.{Made}
+use Rattle.model.specs.declared.coro.WordOr.{WordOr}
 use Rattle.model.specs.declared.machine.Cont.{Cont}
 use Rattle.model.specs.declared.machine.Frame.{Frame}
 use Rattle.tables.specs.Layout.{baseIn}
@@ -43,11 +43,11 @@ pub record PushFits (l : Sizes) (stack frames setup : List ℕ) (m : Machine) (f
   pub function : f < getD setup 13 0
 
 -- a frame pushed by a call at pc: the pc is stored only if the frame fits
-abbrev pub pushedOr : World → World → Made → After Made
-pushedOr w u (Made.Word base) = after u (Made.Word base)
-pushedOr w u (Made.Refused f) = after w (Made.Refused f)
+abbrev pub pushedOr : World → World → WordOr → After WordOr
+pushedOr w u (WordOr.Word base) = after u (WordOr.Word base)
+pushedOr w u (WordOr.Refused f) = after w (WordOr.Refused f)
 
-unfoldable pub pushAt : ℕ → ℕ → ℕ → Cont → World → After Made
+unfoldable pub pushAt : ℕ → ℕ → ℕ → Cont → World → After WordOr
 pushAt pc f closure cont w = andThen (pushFrame f closure cont (storePc pc w)) (pushedOr w)
 
 -- .. and a frame stands there that calls

@@ -4,11 +4,11 @@ use Prim.Native.Nat.{ℕ}
 use Rattle.heap.specs.declared.object.Object as H
 use Rattle.model.specs.Object.{Object, Absent, asCoro}
 use Rattle.model.specs.Heap.{alloc}
-use Rattle.model.specs.declared.coro.Made.{Made}
+use Rattle.model.specs.declared.coro.WordOr.{WordOr}
 use Rattle.memory.specs.Slots.{toObject}
 use Rattle.memory.specs.Contract.{Numbers, Lending, Met, any}
 use Rattle.memory.specs.declared.machine.Sizes.{Sizes}
 
 -- o in the slots is such an object of the world
-abbrev pub Allocates : Sizes → ℕ → H.Object → Lending → Numbers → Numbers → Made → Type 0
+abbrev pub Allocates : Sizes → ℕ → H.Object → Lending → Numbers → Numbers → WordOr → Type 0
 Allocates l bytes o L n n′ a = (x : Object) → toObject x ≡ o → asCoro x ≡ Absent → Met any l (alloc bytes x) L n n′ a

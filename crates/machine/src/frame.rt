@@ -10,13 +10,13 @@ ghost use Rattle.memory.specs.Contract.{Leaves, Met, any, every, ifSound, only}
 use heap::fault::Fault;
 use memory::machine::Machine;
 use memory::machine::Sizes;
-use model::coro::Made;
+use model::coro::WordOr;
 use model::machine::Cont;
 
 // What a push leaves of the numbers, and answers.
 pub struct FrameDid {
     pub machine: Machine,
-    pub answer: Made,
+    pub answer: WordOr,
 }
 
 // The pc of the top frame.
@@ -88,14 +88,14 @@ pub fn push_frame(
     if overflows(m, l, n) {
         return FrameDid {
             machine: m,
-            answer: Made::Refused(Fault::StackOverflow),
+            answer: WordOr::Refused(Fault::StackOverflow),
         };
     }
     let base = m.height as u64;
     tables::frames::push_frame(frames, m.depth, f, base, closure, cont);
     FrameDid {
         machine: grown(m, n),
-        answer: Made::Word(base),
+        answer: WordOr::Word(base),
     }
 }
 
@@ -118,7 +118,7 @@ pub fn push_at(
     if overflows(m, l, n) {
         return FrameDid {
             machine: m,
-            answer: Made::Refused(Fault::StackOverflow),
+            answer: WordOr::Refused(Fault::StackOverflow),
         };
     }
     store_pc(frames, m, pc);

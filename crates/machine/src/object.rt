@@ -9,27 +9,27 @@ use crate::numbers::heap_of;
 use heap::object::Object;
 use memory::machine::Machine;
 use memory::machine::Sizes;
-use model::coro::Made;
+use model::coro::WordOr;
 
 // What an allocation leaves of the numbers, and answers.
-pub struct MadeDid {
+pub struct WordDid {
     pub machine: Machine,
-    pub answer: Made,
+    pub answer: WordOr,
 }
 
 // heap.rs: alloc.
-pub fn alloc_plain(slots: &mut [u64], m: Machine, l: Sizes, bytes: u64, o: Object) -> MadeDid
+pub fn alloc_plain(slots: &mut [u64], m: Machine, l: Sizes, bytes: u64, o: Object) -> WordDid
     requires { ⌜ Room (now slots) (heapOf m l) ⌝ }
     ensures { λ r. ⌜ Allocates l bytes o (table slots) (only m) (only (r .machine)) (r .answer) ⌝ }
 {
     match heap::heap::alloc(slots, heap_of(m, l), bytes, o) {
-        heap::heap::Made::Refused(g) => MadeDid {
+        heap::heap::Made::Refused(g) => WordDid {
             machine: m,
-            answer: Made::Refused(g),
+            answer: WordOr::Refused(g),
         },
-        heap::heap::Made::Done(v, h) => MadeDid {
+        heap::heap::Made::Done(v, h) => WordDid {
             machine: allocated(m, h),
-            answer: Made::Word(v.0),
+            answer: WordOr::Word(v.0),
         },
     }
 }

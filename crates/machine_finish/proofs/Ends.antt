@@ -19,7 +19,7 @@ use Rattle.model.specs.Coro.{coroReturned}
 use Rattle.model.specs.Machine.{resultOf, applyCont, resumeIn, returnMade, finishAs, finishOn, finish}
 use Rattle.model.specs.Sound.{frameNames, contLies, sound}
 use Rattle.model.specs.declared.call.Answer.{Answer}
-use Rattle.model.specs.declared.coro.Made.{Made}
+use Rattle.model.specs.declared.coro.WordOr.{WordOr}
 use Rattle.model.specs.declared.machine.Cont.{Cont}
 use Rattle.model.specs.declared.machine.Frame.{Frame}
 use Rattle.model.specs.declared.machine.Fuel.{Fuel}
@@ -176,9 +176,9 @@ module _ (l : Sizes) (N : Lent) (n : Machine) (f : Fuel) (w : World) (kind : Res
   abbrev u : World
   u = toDyn kind v w .world
 
-  pub body-refused : (g : Fault) → Made.Refused g ≡ toDyn kind v w .answer → Rep l u N n f → Does l (finish kind v w) N n f (Answer.Refused g)
+  pub body-refused : (g : Fault) → WordOr.Refused g ≡ toDyn kind v w .answer → Rep l u N n f → Does l (finish kind v w) N n f (Answer.Refused g)
   body-refused g e rep = does l N n f (finish kind v w) u (Answer.Refused g) (finish-as kind v w Cont.Coro t ∙ ap (returnMade (t .top) (t .rest) u) (sym e)) rep
 
-  pub body-returns : (z : ℕ) → Made.Word z ≡ toDyn kind v w .answer → Rep l (coroReturned z (popTo (t .top) (t .rest) u)) N n f → Does l (finish kind v w) N n f Answer.Resume
+  pub body-returns : (z : ℕ) → WordOr.Word z ≡ toDyn kind v w .answer → Rep l (coroReturned z (popTo (t .top) (t .rest) u)) N n f → Does l (finish kind v w) N n f Answer.Resume
   body-returns z e rep =
       does l N n f (finish kind v w) (coroReturned z (popTo (t .top) (t .rest) u)) Answer.Resume (finish-as kind v w Cont.Coro t ∙ ap (returnMade (t .top) (t .rest) u) (sym e)) rep

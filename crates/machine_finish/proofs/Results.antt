@@ -14,7 +14,7 @@ use Rattle.model.specs.Frames.{putReg}
 use Rattle.model.specs.Heap.{toDyn}
 use Rattle.model.specs.Machine.{resultOf, orNil, writeResult, writeMade, applyCont}
 use Rattle.model.specs.Sound.{frameNames, liesUnder, contLies, sound}
-use Rattle.model.specs.declared.coro.Made.{Made}
+use Rattle.model.specs.declared.coro.WordOr.{WordOr}
 use Rattle.model.specs.declared.machine.Cont.{Cont}
 use Rattle.model.specs.declared.machine.Frame.{Frame}
 use Rattle.model.specs.declared.machine.Fuel.{Fuel}
@@ -58,11 +58,11 @@ module _ (kind : ResultKind) (v : ℕ) (w : World) where
   unfolding applyCont
   value-is dst x e = ap (λ y. after (putReg dst y w) Fault.None) (sym e)
 
-  pub dyn-put : (dst x : ℕ) → Made.Word x ≡ toDyn kind v w .answer → applyCont (Cont.Dyn dst) kind v w ≡ after (putReg dst x (toDyn kind v w .world)) Fault.None
+  pub dyn-put : (dst x : ℕ) → WordOr.Word x ≡ toDyn kind v w .answer → applyCont (Cont.Dyn dst) kind v w ≡ after (putReg dst x (toDyn kind v w .world)) Fault.None
   unfolding applyCont
   dyn-put dst x e = ap (writeMade dst (toDyn kind v w .world)) (sym e)
 
-  pub dyn-not : (dst : ℕ) (g : Fault) → Made.Refused g ≡ toDyn kind v w .answer → applyCont (Cont.Dyn dst) kind v w ≡ after (toDyn kind v w .world) g
+  pub dyn-not : (dst : ℕ) (g : Fault) → WordOr.Refused g ≡ toDyn kind v w .answer → applyCont (Cont.Dyn dst) kind v w ≡ after (toDyn kind v w .world) g
   unfolding applyCont
   dyn-not dst g e = ap (writeMade dst (toDyn kind v w .world)) (sym e)
 
@@ -76,9 +76,9 @@ module _ (kind : ResultKind) (v : ℕ) (w : World) where
 pub dyn-still : (kind : ResultKind) (v : ℕ) (w : World) → sound w ≡ true → Still w (toDyn kind v w .world)
 dyn-still kind v w snd = dyn-good kind v w (known w snd) .fact .still
 
-made-frames : (dst : ℕ) (u : World) (a : Made) → writeMade dst u a .world .frames ≡ u .frames
-made-frames dst u (Made.Word v) = refl
-made-frames dst u (Made.Refused f) = refl
+made-frames : (dst : ℕ) (u : World) (a : WordOr) → writeMade dst u a .world .frames ≡ u .frames
+made-frames dst u (WordOr.Word v) = refl
+made-frames dst u (WordOr.Refused f) = refl
 
 result-frames : (dst : ℕ) (o : Opt) (w : World) → writeResult dst o w .frames ≡ w .frames
 result-frames dst Opt.None w = refl

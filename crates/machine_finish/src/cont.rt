@@ -13,7 +13,7 @@ use heap::value::Word;
 use machine::frame::put;
 use memory::machine::Machine;
 use memory::machine::Sizes;
-use model::coro::Made;
+use model::coro::WordOr;
 use model::machine::Cont;
 
 // What a result leaves of the numbers, and answers.
@@ -61,14 +61,14 @@ fn write_dyn(
     let n = did.machine;
     let made = did.answer;
     match made {
-        Made::Word(x) => {
+        WordOr::Word(x) => {
             put(stack, frames, n, dst, x);
             Applied {
                 machine: n,
                 answer: Fault::None,
             }
         }
-        Made::Refused(f) => Applied {
+        WordOr::Refused(f) => Applied {
             machine: n,
             answer: f,
         },

@@ -7,25 +7,25 @@ ghost use Rattle.memory.specs.Contract.{Met, any, only};
 use heap::heap::ResultKind;
 use machine::numbers::allocated;
 use machine::numbers::heap_of;
-use machine::object::MadeDid;
+use machine::object::WordDid;
 use memory::machine::Machine;
 use memory::machine::Sizes;
-use model::coro::Made;
+use model::coro::WordOr;
 
 // A result of a kind as a dynamic word; nil for none.
-pub(crate) fn to_dyn(slots: &mut [u64], m: Machine, l: Sizes, kind: ResultKind, v: u64) -> MadeDid
+pub(crate) fn to_dyn(slots: &mut [u64], m: Machine, l: Sizes, kind: ResultKind, v: u64) -> WordDid
     requires { ⌜ Room (now slots) (heapOf m l) ⌝ }
     ensures { λ r. ⌜ Met any l (toDyn kind v) (table slots) (only m) (only (r .machine)) (r .answer) ⌝ }
 {
     let costs = l.costs;
     match heap::heap::to_dyn(slots, heap_of(m, l), costs.int, kind, v) {
-        heap::heap::Made::Refused(g) => MadeDid {
+        heap::heap::Made::Refused(g) => WordDid {
             machine: m,
-            answer: Made::Refused(g),
+            answer: WordOr::Refused(g),
         },
-        heap::heap::Made::Done(x, h) => MadeDid {
+        heap::heap::Made::Done(x, h) => WordDid {
             machine: allocated(m, h),
-            answer: Made::Word(x.0),
+            answer: WordOr::Word(x.0),
         },
     }
 }

@@ -19,7 +19,7 @@ use machine::way::way_of;
 use memory::machine::Machine;
 use memory::machine::Sizes;
 use model::call::Answer;
-use model::coro::Made;
+use model::coro::WordOr;
 use model::machine::Cont;
 use model::machine::Fuel;
 
@@ -84,12 +84,12 @@ fn finish_coro(
     let n = did.machine;
     let made = did.answer;
     match made {
-        Made::Refused(e) => Called {
+        WordOr::Refused(e) => Called {
             machine: n,
             fuel,
             answer: Answer::Refused(e),
         },
-        Made::Word(x) => {
+        WordOr::Word(x) => {
             let k = pop(stack, frames, n);
             let told = coro_returned(
                 stack,

@@ -20,7 +20,7 @@ use Rattle.model.specs.Machine.{search, searchFrames, searchMade, errorOf, unwi
 use Rattle.model.specs.Sound.{sound}
 use Rattle.model.specs.declared.call.Answer.{Answer}
 use Rattle.model.specs.declared.call.OptPc.{OptPc}
-use Rattle.model.specs.declared.coro.Made.{Made}
+use Rattle.model.specs.declared.coro.WordOr.{WordOr}
 use Rattle.model.specs.declared.machine.Frame.{Frame}
 use Rattle.model.specs.declared.machine.Fuel.{Fuel}
 use Rattle.soundness.proofs.Tests.{no-true, and-left, both, or-else, picked}
@@ -92,22 +92,22 @@ module _ (l : Sizes) (M : Lent) (m : Machine) (fuel : Fuel) (w : World) (rep : R
 
 module _ (l : Sizes) (M : Lent) (m : Machine) (fuel : Fuel) (w : World) (f : Fault) (at : Origin) (there : at ≡ originOf w) (n : ℕ) (is : n ≡ numberOf f) where
   by-number : (b c : Bool) → eqb n 17 ≡ b → leb n 8 ≡ c
-      → thrown f w ≡ pick b (after w (Made.Word (wordOf f))) (pick c (alloc (w .setup .costs .error) (errorOf f w) w) (after w (Made.Refused f)))
+      → thrown f w ≡ pick b (after w (WordOr.Word (wordOf f))) (pick c (alloc (w .setup .costs .error) (errorOf f w) w) (after w (WordOr.Refused f)))
   unfolding thrown
-  by-number b c p q = ap₂ (λ x y. pick x (after w (Made.Word (wordOf f))) (pick y (alloc (w .setup .costs .error) (errorOf f w) w) (after w (Made.Refused f)))) (ap (λ k. eqb k 17) (sym is) ∙ p) (ap (λ k. leb k 8) (sym is) ∙ q)
+  by-number b c p q = ap₂ (λ x y. pick x (after w (WordOr.Word (wordOf f))) (pick y (alloc (w .setup .costs .error) (errorOf f w) w) (after w (WordOr.Refused f)))) (ap (λ k. eqb k 17) (sym is) ∙ p) (ap (λ k. leb k 8) (sym is) ∙ q)
 
-  pub thrown-word : n ≡ 17 → (v : ℕ) → v ≡ wordOf f → Rep l w M m fuel → Does l (thrown f w) M m fuel (Made.Word v)
-  thrown-word e v q rep = does l M m fuel (thrown f w) w (Made.Word v) (by-number true (leb n 8) (eq-eqb n 17 e) refl ∙ pick-true _ _ ∙ ap (λ x. after w (Made.Word x)) (sym q)) rep
+  pub thrown-word : n ≡ 17 → (v : ℕ) → v ≡ wordOf f → Rep l w M m fuel → Does l (thrown f w) M m fuel (WordOr.Word v)
+  thrown-word e v q rep = does l M m fuel (thrown f w) w (WordOr.Word v) (by-number true (leb n 8) (eq-eqb n 17 e) refl ∙ pick-true _ _ ∙ ap (λ x. after w (WordOr.Word x)) (sym q)) rep
 
   error-there : Object.Error n (at .func) (at .pc) nil ≡ errorOf f w
   error-there = ap₂ (λ k (x : Origin). Object.Error k (x .func) (x .pc) nil) is there
 
-  pub thrown-object : (n ≡ 17 → ⊥) → n ≤ 8 → (bytes : ℕ) (a : Made) → bytes ≡ w .setup .costs .error → Does l (alloc bytes (Object.Error n (at .func) (at .pc) nil) w) M m fuel a → Does l (thrown f w) M m fuel a
+  pub thrown-object : (n ≡ 17 → ⊥) → n ≤ 8 → (bytes : ℕ) (a : WordOr) → bytes ≡ w .setup .costs .error → Does l (alloc bytes (Object.Error n (at .func) (at .pc) nil) w) M m fuel a → Does l (thrown f w) M m fuel a
   thrown-object e h bytes a q d =
       subst (λ o. Does l o M m fuel a) (ap₂ (λ x y. alloc x y w) q error-there ∙ sym (by-number false true (ne-eqb n 17 e) (le-leb n 8 h) ∙ pick-false _ _ ∙ pick-true _ _)) d
 
-  pub thrown-passes : (n ≡ 17 → ⊥) → 8 < n → Rep l w M m fuel → Does l (thrown f w) M m fuel (Made.Refused f)
-  thrown-passes e h rep = does l M m fuel (thrown f w) w (Made.Refused f) (by-number false false (ne-eqb n 17 e) (lt-leb n 8 h) ∙ pick-false _ _ ∙ pick-false _ _) rep
+  pub thrown-passes : (n ≡ 17 → ⊥) → 8 < n → Rep l w M m fuel → Does l (thrown f w) M m fuel (WordOr.Refused f)
+  thrown-passes e h rep = does l M m fuel (thrown f w) w (WordOr.Refused f) (by-number false false (ne-eqb n 17 e) (lt-leb n 8 h) ∙ pick-false _ _ ∙ pick-false _ _) rep
 
 -- an error object leaves a sound world, with the same frames
 pub record Raised (w u : World) : Type 0 where
@@ -117,9 +117,9 @@ pub record Raised (w u : World) : Type 0 where
 pub thrown-good : (f : Fault) (w : World) → sound w ≡ true → raisable f ≡ true → Raised w (thrown f w .world)
 unfolding thrown
 thrown-good f w snd range =
-    picked (λ (o : After Made). Raised w (o .world)) (eqb (numberOf f) 17) (λ _. same)
+    picked (λ (o : After WordOr). Raised w (o .world)) (eqb (numberOf f) 17) (λ _. same)
     (λ other.
-    picked (λ (o : After Made). Raised w (o .world)) (leb (numberOf f) 8)
+    picked (λ (o : After WordOr). Raised w (o .world)) (leb (numberOf f) 8)
     (λ small.
     let from : between 1 8 (numberOf f) ≡ true = both (or-else (between 1 10 (numberOf f)) (eqb (numberOf f) 17) range (λ z. and-left (leb 1 (numberOf f)) (leb (numberOf f) 10) z) (λ z. no-true (sym z ∙ other))) small in
     let made = error-good f w (known w snd) from in
@@ -148,22 +148,22 @@ module _ (f : Fault) (w : World) where
   unfolding thrown pick
   raise-is = go (eqb (numberOf f) 17) (leb (numberOf f) 8)
     where
-      a : After Made
+      a : After WordOr
       a = alloc (w .setup .costs .error) (errorOf f w) w
 
-      go : (b c : Bool) → pick b (searchFrames (wordOf f) w) (pick c (andThen a searchMade) (after w (Answer.Refused f))) ≡ andThen (pick b (after w (Made.Word (wordOf f))) (pick c a (after w (Made.Refused f)))) searchMade
+      go : (b c : Bool) → pick b (searchFrames (wordOf f) w) (pick c (andThen a searchMade) (after w (Answer.Refused f))) ≡ andThen (pick b (after w (WordOr.Word (wordOf f))) (pick c a (after w (WordOr.Refused f)))) searchMade
       go true c = refl
       go false true = refl
       go false false = refl
 
   module _ (l : Sizes) (M : Lent) (m : Machine) (fuel : Fuel) where
-    abbrev what : After Made
+    abbrev what : After WordOr
     what = thrown f w
 
-    pub raise-refused : (g : Fault) (a : Made) → a ≡ Made.Refused g → Does l what M m fuel a → Does l (unwindFault f w) M m fuel (Answer.Refused g)
+    pub raise-refused : (g : Fault) (a : WordOr) → a ≡ WordOr.Refused g → Does l what M m fuel a → Does l (unwindFault f w) M m fuel (Answer.Refused g)
     raise-refused g a e d = does l M m fuel (unwindFault f w) (what .world) (Answer.Refused g) (raise-is ∙ ap (searchMade (what .world)) (sym (d .answer) ∙ e)) (d .world)
 
-    pub raise-searched : (v : ℕ) (a : Made) (at : Origin) → a ≡ Made.Word v → a ≡ what .answer → at ≡ originOf w → what .world .frames ≡ w .frames → (x : Answer)
+    pub raise-searched : (v : ℕ) (a : WordOr) (at : Origin) → a ≡ WordOr.Word v → a ≡ what .answer → at ≡ originOf w → what .world .frames ≡ w .frames → (x : Answer)
         → Does l (searchFrom v (at .func) (at .pc) (what .world)) M m fuel x → Does l (unwindFault f w) M m fuel x
     unfolding searchFrom
     raise-searched v a at e q is same x d =

@@ -9,7 +9,7 @@ use Rattle.model.specs.World.{World, After, after}
 use Rattle.model.specs.Frames.{isCoro, topFunc, topPc, popTo}
 use Rattle.model.specs.Machine.{stopOr, escape, searchAs, handlerOf, search, raisedTo}
 use Rattle.model.specs.declared.call.Answer.{Answer}
-use Rattle.model.specs.declared.coro.Made.{Made}
+use Rattle.model.specs.declared.coro.WordOr.{WordOr}
 use Rattle.model.specs.declared.machine.Charge.{Charge}
 use Rattle.model.specs.declared.machine.Cont.{Cont}
 use Rattle.model.specs.declared.machine.Frame.{Frame}
@@ -84,5 +84,5 @@ originOf w = record { func = topFunc (w .frames); pc = topPc (w .frames) }
 abbrev pub ifAt : Origin → Kind
 ifAt at w X = at ≡ originOf w → X
 
-unfoldable pub thrown : Fault → World → After Made
+unfoldable pub thrown : Fault → World → After WordOr
 thrown f w = raisedTo after f w

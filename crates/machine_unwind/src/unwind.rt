@@ -15,13 +15,13 @@ use heap::fault::Fault;
 use heap::object::Object;
 use heap::value::Word;
 use machine::called::Called;
-use machine::object::MadeDid;
+use machine::object::WordDid;
 use machine::object::alloc_plain;
 use memory::machine::Machine;
 use memory::machine::Sizes;
 use model::call::Answer;
 use model::call::OptPc;
-use model::coro::Made;
+use model::coro::WordOr;
 use model::machine::Fuel;
 
 // Function and pc of the top frame; 0 and 0 without one.
@@ -40,15 +40,15 @@ pub(crate) fn origin(frames: &[u64], m: Machine) -> Origin
 }
 
 // The word that a fault is raised as: its own, or that of an error object. 9 and 10 pass.
-pub(crate) fn thrown(slots: &mut [u64], m: Machine, l: Sizes, fault: Fault, at: Origin) -> MadeDid
+pub(crate) fn thrown(slots: &mut [u64], m: Machine, l: Sizes, fault: Fault, at: Origin) -> WordDid
     requires { ⌜ Room (now slots) (heapOf m l) ⌝ }
     ensures { λ r. ⌜ Met (ifAt at) l (thrown fault) (table slots) (only m) (only (r .machine)) (r .answer) ⌝ }
 {
     let kind = fault.number();
     if kind == 17 {
-        return MadeDid {
+        return WordDid {
             machine: m,
-            answer: Made::Word(fault.word()),
+            answer: WordOr::Word(fault.word()),
         };
     }
     if kind <= 8 {
@@ -61,9 +61,9 @@ pub(crate) fn thrown(slots: &mut [u64], m: Machine, l: Sizes, fault: Fault, at: 
         };
         return alloc_plain(slots, m, l, costs.error, o);
     }
-    MadeDid {
+    WordDid {
         machine: m,
-        answer: Made::Refused(fault),
+        answer: WordOr::Refused(fault),
     }
 }
 
@@ -89,12 +89,12 @@ pub(crate) fn raise(
     let n = did.machine;
     let made = did.answer;
     match made {
-        Made::Refused(f) => Called {
+        WordOr::Refused(f) => Called {
             machine: n,
             fuel,
             answer: Answer::Refused(f),
         },
-        Made::Word(v) => search(
+        WordOr::Word(v) => search(
             stack,
             frames,
             chain,

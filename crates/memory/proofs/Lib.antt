@@ -9,3 +9,7 @@ pub mod Turn
 pub mod Does
 pub mod Slotted
 pub mod Few
+pub mod Encoded
+pub mod Saved
+pub mod Decoded
+pub mod Widest

@@ -5,3 +5,7 @@ pub mod Memory
 pub mod Numbers
 pub mod Lendings
 pub mod Contract
+pub mod Words
+pub mod Decode
+pub mod Sizes
+pub mod Sample

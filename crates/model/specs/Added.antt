@@ -22,7 +22,7 @@ use Rattle.model.specs.declared.machine.Driver.{Driver}
 use Rattle.model.specs.declared.machine.Frame.{Frame}
 use Rattle.model.specs.declared.machine.Fuel.{Fuel}
 use Rattle.model.specs.declared.machine.Outcome.{Outcome}
-use Rattle.model.specs.declared.coro.Made.{Made}
+use Rattle.model.specs.declared.coro.WordOr.{WordOr}
 use Rattle.model.specs.declared.coro.Entered.{Entered}
 use Rattle.model.specs.declared.call.Answer.{Answer}
 
@@ -30,14 +30,14 @@ abbrev pub accepted : World → After Answer
 accepted w = after w Answer.Accepted
 
 -- the word made is the answer
-abbrev pub answerMade : World → Made → After Answer
-answerMade w (Made.Word v) = after w (Answer.Word v)
-answerMade w (Made.Refused f) = refused w f
+abbrev pub answerMade : World → WordOr → After Answer
+answerMade w (WordOr.Word v) = after w (Answer.Word v)
+answerMade w (WordOr.Refused f) = refused w f
 
 -- a frame was pushed; refused, the world is w
-abbrev pub pushedOr : World → World → Made → After Answer
-pushedOr w u (Made.Word base) = accepted u
-pushedOr w u (Made.Refused f) = refused w f
+abbrev pub pushedOr : World → World → WordOr → After Answer
+pushedOr w u (WordOr.Word base) = accepted u
+pushedOr w u (WordOr.Refused f) = refused w f
 
 -- "Host call: an Entry frame."; "Frames made by a host call or function call have a nil closure."
 unfoldable pub hostCall : ℕ → World → After Answer

@@ -15,21 +15,21 @@ use Rattle.model.specs.Fuel.{unbank, armClose, setFinalizing, spend}
 use Rattle.model.specs.Coro.{coroEnter}
 use Rattle.model.specs.declared.machine.Driver.{Driver}
 use Rattle.model.specs.declared.machine.Charge.{Charge}
-use Rattle.model.specs.declared.coro.Made.{Made}
+use Rattle.model.specs.declared.coro.WordOr.{WordOr}
 use Rattle.model.specs.declared.coro.Entered.{Entered}
 use Rattle.model.specs.declared.coro.Started.{Started}
 use Rattle.model.specs.declared.call.OptPc.{OptPc}
 
 -- ---- tasks
 
-abbrev pub joinReady : Coroutine → ℕ → World → After Made
+abbrev pub joinReady : Coroutine → ℕ → World → After WordOr
 joinReady Absent v w = refuse w Fault.TypeError
 joinReady (Is k r) v w =
-    pick (not (r .task) && isResumable (k .state)) (after (setCoro v k (withTask true r) (withReady (w .ready ++ (v ∷ [])) w)) (Made.Word v))
-    (after w (Made.Word v))
+    pick (not (r .task) && isResumable (k .state)) (after (setCoro v k (withTask true r) (withReady (w .ready ++ (v ∷ [])) w)) (WordOr.Word v))
+    (after w (WordOr.Word v))
 
 -- coro.rs: spawn_task. 01: "gives 2 for both"
-unfoldable pub spawnTask : ℕ → World → After Made
+unfoldable pub spawnTask : ℕ → World → After WordOr
 spawnTask v w = joinReady (coro w v) v w
 
 -- ---- cleanups

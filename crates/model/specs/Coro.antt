@@ -23,7 +23,7 @@ use Rattle.model.specs.Fuel.{setFinalizing}
 use Rattle.model.specs.declared.machine.Active.{Active}
 use Rattle.model.specs.declared.machine.Driver.{Driver}
 use Rattle.model.specs.declared.coro.Event.{Event}
-use Rattle.model.specs.declared.coro.Made.{Made}
+use Rattle.model.specs.declared.coro.WordOr.{WordOr}
 use Rattle.model.specs.declared.coro.Stated.{Stated}
 use Rattle.model.specs.declared.coro.Entered.{Entered}
 use Rattle.model.specs.declared.coro.Keys.{Keys}
@@ -47,7 +47,7 @@ newRest seq row n = record { closing = false; finalized = false; task = false; s
 
 -- coro.rs: coro_create. 01: "Creation tests 8 times registers + C + F against the limit (9), then 14, then advances the
 -- 64-bit sequence number, wrapping, then charges 8 times registers + A + F (9; the number has moved)."
-unfoldable pub coroCreate : ℕ → ℕ → List ℕ → World → After Made
+unfoldable pub coroCreate : ℕ → ℕ → List ℕ → World → After WordOr
 coroCreate f closure args w =
     let n = func (w .setup) f .regs in
     pick (not (fits w (8 * n + w .setup .costs .coro + w .setup .costs .frame))) (refuse w Fault.OutOfMemory)

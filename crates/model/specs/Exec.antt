@@ -27,7 +27,7 @@ use Rattle.model.specs.declared.machine.Cont.{Cont}
 use Rattle.model.specs.declared.machine.Driver.{Driver}
 use Rattle.model.specs.declared.machine.Active.{Active}
 use Rattle.model.specs.declared.machine.Charge.{Charge}
-use Rattle.model.specs.declared.coro.Made.{Made}
+use Rattle.model.specs.declared.coro.WordOr.{WordOr}
 use Rattle.model.specs.declared.coro.Stated.{Stated}
 use Rattle.model.specs.declared.coro.Entered.{Entered}
 use Rattle.model.specs.declared.coro.Keys.{Keys}
@@ -44,9 +44,9 @@ abbrev pub put : ℕ → ℕ → World → After Step
 put dst v w = after (putReg dst v w) Step.Next
 
 -- r!(dst) = t!(made); Step::Next
-abbrev pub putMade : ℕ → World → Made → After Step
-putMade dst w (Made.Word v) = put dst v w
-putMade dst w (Made.Refused f) = fault w f
+abbrev pub putMade : ℕ → World → WordOr → After Step
+putMade dst w (WordOr.Word v) = put dst v w
+putMade dst w (WordOr.Refused f) = fault w f
 
 -- ---- CoroNew, CoroNewIndirect
 
@@ -58,7 +58,7 @@ window dst argc w = take argc (drop (topBase (w .frames) + dst + 1) (w .stack))
 unfoldable pub coroNew : ℕ → ℕ → ℕ → World → After Step
 coroNew dst f argc w = andThen (coroCreate f nil (window dst argc w) w) (putMade dst)
 
-abbrev pub indirectTo : Object → ℕ → ℕ → ℕ → World → After Made
+abbrev pub indirectTo : Object → ℕ → ℕ → ℕ → World → After WordOr
 indirectTo Object.Empty v dst argc w = refuse w (notA w v)
 indirectTo (Object.Func f) v dst argc w =
     pick (not (isFunction (w .setup) f)) (refuse w Fault.TypeError)
@@ -70,7 +70,7 @@ indirectTo (Object.Error e f p x) v dst argc w = refuse w (notA w v)
 indirectTo (Object.Coro k r) v dst argc w = refuse w (notA w v)
 
 -- coro.rs: indirect, a coroutine of the function that a register holds
-unfoldable pub indirect : ℕ → ℕ → ℕ → World → After Made
+unfoldable pub indirect : ℕ → ℕ → ℕ → World → After WordOr
 indirect dst callee argc w = indirectTo (object w (reg w callee)) (reg w callee) dst argc w
 
 -- coro.rs: exec, CoroNewIndirect
@@ -80,9 +80,9 @@ coroNewIndirect dst callee argc w = andThen (indirect dst callee argc w) (putMad
 -- ---- Spawn
 
 -- the hook's frame stands over w, with the coroutine c in its first register; refused, w is as it was: pc is not stored either
-abbrev pub hooked : World → ℕ → World → Made → After Step
-hooked w c u (Made.Word base) = after (withStack (set (u .stack) base c) u) Step.Frame
-hooked w c u (Made.Refused f) = fault w f
+abbrev pub hooked : World → ℕ → World → WordOr → After Step
+hooked w c u (WordOr.Word base) = after (withStack (set (u .stack) base c) u) Step.Frame
+hooked w c u (WordOr.Refused f) = fault w f
 
 -- Spawn's second unit, taken for the call of the hook; c is the coroutine's word
 abbrev pub callHook : ℕ → ℕ → ℕ → ℕ → World → Charge → After Step
@@ -90,9 +90,9 @@ callHook hook pc dst c w (Charge.Done n) = andThen (pushFrame hook nil (Cont.Val
 callHook hook pc dst c w Charge.Spent = fault w Fault.OutOfFuel
 callHook hook pc dst c w (Charge.Close n) = andThen (pushFrame hook nil (Cont.Value dst) (storePc pc w)) (hooked w c)
 
-abbrev pub spawnMade : ℕ → ℕ → ℕ → World → Made → After Step
-spawnMade hook pc dst w (Made.Word c) = andThen (charge OptPc.None w) (callHook hook pc dst c)
-spawnMade hook pc dst w (Made.Refused f) = fault w f
+abbrev pub spawnMade : ℕ → ℕ → ℕ → World → WordOr → After Step
+spawnMade hook pc dst w (WordOr.Word c) = andThen (charge OptPc.None w) (callHook hook pc dst c)
+spawnMade hook pc dst w (WordOr.Refused f) = fault w f
 
 -- 01, fault 8: "Spawn without a hook"
 abbrev pub spawnWith : Opt → ℕ → ℕ → ℕ → ℕ → World → After Step
@@ -121,9 +121,9 @@ abbrev pub largestIn : Coroutine → ℕ
 largestIn Absent = bitsOf 63 (negsuc 0)
 largestIn (Is k r) = r .largest
 
-abbrev pub keyAt : ℕ → World → Made → After AutoKey
-keyAt n w (Made.Word k) = after w (AutoKey.Key k n)
-keyAt n w (Made.Refused f) = after w (AutoKey.Refused f)
+abbrev pub keyAt : ℕ → World → WordOr → After AutoKey
+keyAt n w (WordOr.Word k) = after w (AutoKey.Key k n)
+keyAt n w (WordOr.Refused f) = after w (AutoKey.Refused f)
 
 -- 01: "at 2^63 - 1 it answers 7 and does not suspend"; pc is not stored
 abbrev pub keyExact : Exact → World → After AutoKey

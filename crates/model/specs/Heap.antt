@@ -21,7 +21,7 @@ use Rattle.heap.specs.declared.int.IntTy.{IntTy}
 use Rattle.model.specs.Object.{Core, Rest, Object, isFilled, Coroutine, Absent, Is, asCoro}
 use Rattle.model.specs.World.{World, After, after, withSlots, withUsed}
 use Rattle.heap.specs.declared.heap.ResultKind.{ResultKind}
-use Rattle.model.specs.declared.coro.Made.{Made}
+use Rattle.model.specs.declared.coro.WordOr.{WordOr}
 
 -- ---- objects by their words
 
@@ -84,24 +84,24 @@ fits w bytes = Charge.fits (w .used) (w .setup .limits .memory) bytes
 abbrev pub slotsFull : World → Bool
 slotsFull w = leb (w .setup .limits .slots) (length (w .slots))
 
-abbrev pub refuse : World → Fault → After Made
-refuse w f = after w (Made.Refused f)
+abbrev pub refuse : World → Fault → After WordOr
+refuse w f = after w (WordOr.Refused f)
 
 -- heap.rs: alloc. 01: "14 is tested right after memory and leaves what 9 leaves there."
-unfoldable pub alloc : ℕ → Object → World → After Made
+unfoldable pub alloc : ℕ → Object → World → After WordOr
 alloc bytes o w =
     pick (not (fits w bytes)) (refuse w Fault.OutOfMemory)
     (pick (slotsFull w) (refuse w Fault.Full)
-    (after (withUsed (satAdd (w .used) bytes) (withSlots (pushObject (w .slots) o) w)) (Made.Word (nextWord (w .slots)))))
+    (after (withUsed (satAdd (w .used) bytes) (withSlots (pushObject (w .slots) o) w)) (WordOr.Word (nextWord (w .slots)))))
 
 -- ---- integers
 
 -- conv.rs: encode_int, an integer's word: inline, or that of a new object, which costs I
-abbrev pub encodeAt : Inline → ℕ → World → After Made
-encodeAt (Inline.At x) n w = after w (Made.Word (x .0))
+abbrev pub encodeAt : Inline → ℕ → World → After WordOr
+encodeAt (Inline.At x) n w = after w (WordOr.Word (x .0))
 encodeAt Inline.Large n w = alloc (w .setup .costs .int) (Object.Int n) w
 
-abbrev pub encodeInt : ℕ → World → After Made
+abbrev pub encodeInt : ℕ → World → After WordOr
 encodeInt n w = encodeAt (inlineOf (ofBits 63 n)) n w
 
 -- conv.rs: dyn_int, the integer that a word holds
@@ -117,13 +117,13 @@ abbrev pub dynInt : World → ℕ → Opt
 dynInt w v = dynIntOf Object.Empty isFilled intIn (w .slots) v
 
 -- an integer of 64 bits as a word. 01: "A u64 above 2^63 - 1 gives 7."
-abbrev pub encodeExact : Exact → World → After Made
+abbrev pub encodeExact : Exact → World → After WordOr
 encodeExact (Exact.Fits n) w = encodeInt n w
 encodeExact Exact.Over w = refuse w Fault.ArithOverflow
 
 -- conv.rs: to_dyn, a result of a kind as a dynamic word; nil for none
-unfoldable pub toDyn : ResultKind → ℕ → World → After Made
-toDyn ResultKind.None v w = after w (Made.Word nil)
-toDyn ResultKind.Dyn v w = after w (Made.Word v)
+unfoldable pub toDyn : ResultKind → ℕ → World → After WordOr
+toDyn ResultKind.None v w = after w (WordOr.Word nil)
+toDyn ResultKind.Dyn v w = after w (WordOr.Word v)
 toDyn ResultKind.I64 v w = encodeExact (exactly (valueOf IntTy.I64 v)) w
 toDyn ResultKind.U64 v w = encodeExact (exactly (valueOf IntTy.U64 v)) w

@@ -21,18 +21,18 @@ use Rattle.model.specs.declared.program.Caught.{Caught}
 use Rattle.model.specs.declared.machine.Cont.{Cont}
 use Rattle.model.specs.declared.machine.Frame.{Frame}
 use Rattle.model.specs.declared.machine.Charge.{Charge}
-use Rattle.model.specs.declared.coro.Made.{Made}
+use Rattle.model.specs.declared.coro.WordOr.{WordOr}
 use Rattle.heap.specs.declared.heap.ResultKind.{ResultKind}
 use Rattle.model.specs.declared.call.OptPc.{OptPc}
 use Rattle.model.specs.declared.call.Answer.{Answer}
 
 -- machine.rs: push_frame; the answer is the new frame's base
-unfoldable pub pushFrame : ℕ → ℕ → Cont → World → After Made
+unfoldable pub pushFrame : ℕ → ℕ → Cont → World → After WordOr
 pushFrame f closure cont w =
     let n = func (w .setup) f .regs in
     let base = length (w .stack) in
     pick (leb (w .setup .limits .depth) (length (w .frames)) || ltb (w .setup .limits .stack) (base + n)) (refuse w Fault.StackOverflow)
-    (after (withFrames (frame f base closure cont ∷ w .frames) (withStack (w .stack ++ replicate n 0) w)) (Made.Word base))
+    (after (withFrames (frame f base closure cont ∷ w .frames) (withStack (w .stack ++ replicate n 0) w)) (WordOr.Word base))
 
 -- ---- finish
 
@@ -51,9 +51,9 @@ abbrev pub writeResult : ℕ → Opt → World → World
 writeResult dst Opt.None w = w
 writeResult dst (Opt.Some v) w = putReg dst v w
 
-abbrev pub writeMade : ℕ → World → Made → After Fault
-writeMade dst w (Made.Word v) = after (putReg dst v w) Fault.None
-writeMade dst w (Made.Refused f) = after w f
+abbrev pub writeMade : ℕ → World → WordOr → After Fault
+writeMade dst w (WordOr.Word v) = after (putReg dst v w) Fault.None
+writeMade dst w (WordOr.Refused f) = after w f
 
 -- machine.rs: apply_cont, a result into the top frame. None is the Rust's Ok(()).
 unfoldable pub applyCont : Cont → ResultKind → ℕ → World → After Fault
@@ -71,9 +71,9 @@ abbrev pub resumeIn : World → Fault → After Answer
 resumeIn w f = pick (isOk f) (after (nextPc w) Answer.Resume) (after w (Answer.Refused f))
 
 -- machine.rs: finish_coro, of the body frame f over fs; a result that does not convert leaves the frame
-abbrev pub returnMade : Frame → List Frame → World → Made → After Answer
-returnMade f fs w (Made.Word v) = after (coroReturned v (popTo f fs w)) Answer.Resume
-returnMade f fs w (Made.Refused e) = after w (Answer.Refused e)
+abbrev pub returnMade : Frame → List Frame → World → WordOr → After Answer
+returnMade f fs w (WordOr.Word v) = after (coroReturned v (popTo f fs w)) Answer.Resume
+returnMade f fs w (WordOr.Refused e) = after w (Answer.Refused e)
 
 abbrev pub finishCoro : Frame → List Frame → ResultKind → ℕ → World → After Answer
 finishCoro f fs kind v w = andThen (toDyn kind v w) (returnMade f fs)
@@ -138,20 +138,20 @@ search (x ∷ xs) value f pc w = searchAs (handlerOf x w) x xs value f pc (searc
 abbrev pub searchFrames : ℕ → World → After Answer
 searchFrames value w = search (w .frames) value (topFunc (w .frames)) (topPc (w .frames)) w
 
-abbrev pub searchMade : World → Made → After Answer
-searchMade w (Made.Word v) = searchFrames v w
-searchMade w (Made.Refused f) = after w (Answer.Refused f)
+abbrev pub searchMade : World → WordOr → After Answer
+searchMade w (WordOr.Word v) = searchFrames v w
+searchMade w (WordOr.Refused f) = after w (Answer.Refused f)
 
 abbrev pub errorOf : Fault → World → Object
 errorOf f w = Object.Error (numberOf f) (topFunc (w .frames)) (topPc (w .frames)) nil
 
 -- 1 to 8 are raised as an error object (which costs E), 17 as its word. 01: "Faults 9 and 10 pass through it unchanged." `next` is told
 -- which
-abbrev pub raisedTo : {A : Type 0} → (World → Made → After A) → Fault → World → After A
+abbrev pub raisedTo : {A : Type 0} → (World → WordOr → After A) → Fault → World → After A
 raisedTo next f w =
-    pick (eqb (numberOf f) 17) (next w (Made.Word (wordOf f)))
+    pick (eqb (numberOf f) 17) (next w (WordOr.Word (wordOf f)))
     (pick (leb (numberOf f) 8) (andThen (alloc (w .setup .costs .error) (errorOf f w) w) next)
-    (next w (Made.Refused f)))
+    (next w (WordOr.Refused f)))
 
 abbrev pub unwindFault : Fault → World → After Answer
 unwindFault f w = raisedTo searchMade f w

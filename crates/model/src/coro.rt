@@ -13,7 +13,7 @@ pub enum Event {
 }
 
 // coro_create, alloc, encode_int, to_dyn, push_frame: Result<u64, Fault>
-pub enum Made {
+pub enum WordOr {
     Word(u64),
     Refused(Fault),
 }

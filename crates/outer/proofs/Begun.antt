@@ -26,11 +26,11 @@ use Rattle.memory.specs.declared.machine.Machine.{Machine}
 use Rattle.memory.specs.declared.machine.Sizes.{Sizes}
 use Rattle.memory.proofs.Does.{SameLengths, room-same}
 use Rattle.machine.specs.Setup.{SetUpFits, SetsUp}
-use Rattle.words.specs.Words.{Lengths, lengthsOf, sizesOf}
-use Rattle.words.specs.Decode.{setupOf}
-use Rattle.words.specs.Sizes.{SetupFits}
-use Rattle.words.proofs.Encoded.{length-setup}
-use Rattle.words.proofs.Widest.{held-fits, sizes-sized}
+use Rattle.memory.specs.Words.{Lengths, lengthsOf, sizesOf}
+use Rattle.memory.specs.Decode.{setupOf}
+use Rattle.memory.specs.Sizes.{SetupFits}
+use Rattle.memory.proofs.Encoded.{length-setup}
+use Rattle.memory.proofs.Widest.{held-fits, sizes-sized}
 use Rattle.sound.specs.Words.{same, setupHeld, roomOk}
 use Rattle.sound.proofs.Held.{same-true}
 use Rattle.sound.proofs.Passed.{room-of}

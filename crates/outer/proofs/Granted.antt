@@ -12,8 +12,8 @@ use Rattle.memory.specs.Memory.{Lent}
 use Rattle.memory.specs.Contract.{Gives, any, with}
 use Rattle.memory.specs.declared.machine.Machine.{Machine}
 use Rattle.memory.specs.declared.machine.Sizes.{Sizes}
-use Rattle.words.specs.Words.{sizesOf}
-use Rattle.words.specs.Decode.{setupOf}
+use Rattle.memory.specs.Words.{sizesOf}
+use Rattle.memory.specs.Decode.{setupOf}
 use Rattle.added.specs.declared.fuel.GrantDid.{GrantDid}
 use Rattle.kept.proofs.Calls.{as-grant}
 use Rattle.lent.specs.Step.{isSound}

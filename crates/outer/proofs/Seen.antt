@@ -19,8 +19,8 @@ use Rattle.soundness.proofs.Stand.{bases-of}
 use Rattle.soundness.proofs.Sound.{sound→}
 use Rattle.memory.specs.Memory.{Lent, Beside}
 use Rattle.memory.specs.declared.machine.Machine.{Machine}
-use Rattle.words.specs.Words.{sizesOf}
-use Rattle.words.specs.Decode.{worldOf}
+use Rattle.memory.specs.Words.{sizesOf}
+use Rattle.memory.specs.Decode.{worldOf}
 use Rattle.added.specs.Look.{LookFits, Sees, Seen, endOn}
 use Rattle.added.specs.declared.look.Span.{Span}
 use Rattle.lent.specs.Step.{isSound, decoded, looked}

@@ -14,11 +14,11 @@ use Rattle.memory.specs.Contract.{Numbers, Ok, Does, Gives, ifSound, with}
 use Rattle.memory.specs.declared.machine.Machine.{Machine}
 use Rattle.memory.specs.declared.machine.Sizes.{Sizes}
 use Rattle.memory.proofs.Does.{SameLengths}
-use Rattle.words.specs.Words.{Lengths, sizesOf, lengthsOf, wordsIn}
-use Rattle.words.specs.Decode.{setupOf, worldOf}
-use Rattle.words.specs.Sizes.{SetupFits}
-use Rattle.words.proofs.Widest.{held-fits}
-use Rattle.words.proofs.Decoded.{one-world}
+use Rattle.memory.specs.Words.{Lengths, sizesOf, lengthsOf, wordsIn}
+use Rattle.memory.specs.Decode.{setupOf, worldOf}
+use Rattle.memory.specs.Sizes.{SetupFits}
+use Rattle.memory.proofs.Widest.{held-fits}
+use Rattle.memory.proofs.Decoded.{one-world}
 use Rattle.sound.specs.Exactly.{Stands}
 use Rattle.sound.proofs.Exactly.{tested}
 use Rattle.lent.specs.Step.{State, Left, left, refuses, stateIn, isSound, decoded, stepWords}

@@ -4,8 +4,8 @@ use Prim.Native.Nat.{ℕ}
 use Rattle.model.specs.World.{fresh}
 use Rattle.model.specs.declared.call.Answer.{Answer}
 use Rattle.memory.specs.Memory.{Lent}
-use Rattle.words.specs.Words.{Lengths, lengthsOf}
-use Rattle.words.specs.Decode.{setupOf}
+use Rattle.memory.specs.Words.{Lengths, lengthsOf}
+use Rattle.memory.specs.Decode.{setupOf}
 use Rattle.lent.specs.Step.{Left, left, stateIn}
 
 -- nine lengths, in the order of the slices

@@ -9,8 +9,8 @@ use Rattle.memory.specs.Memory.{Lent}
 use Rattle.memory.specs.declared.machine.Machine.{Machine}
 use Rattle.memory.specs.declared.machine.Sizes.{Sizes}
 use Rattle.machine.specs.declared.called.Called.{Called}
-use Rattle.words.specs.Words.{sizesOf}
-use Rattle.words.specs.Decode.{setupOf}
+use Rattle.memory.specs.Words.{sizesOf}
+use Rattle.memory.specs.Decode.{setupOf}
 use Rattle.lent.specs.Step.{State, Left, left, isSound, stepWords}
 
 -- the nine slices, by a way to read one

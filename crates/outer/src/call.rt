@@ -81,7 +81,7 @@ pub fn called(
     if !ok {
         return unsound(m, fuel);
     }
-    let l = words::sizes::sizes(setup);
+    let l = memory::sizes::sizes(setup);
     sound_call(
         stack,
         frames,

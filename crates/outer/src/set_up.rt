@@ -3,7 +3,7 @@ ghost use mathlib.Core.Path.{_≡_};
 ghost use mathlib.Core.Bool.{true};
 ghost use Rattle.memory.specs.Memory.{Lent};
 ghost use Rattle.memory.specs.Contract.{atEntry, atExit};
-ghost use Rattle.words.specs.Words.{lengthsOf};
+ghost use Rattle.memory.specs.Words.{lengthsOf};
 ghost use Rattle.lent.specs.Step.{setUpOk, setUpWords};
 ghost use Rattle.outer.specs.State.{nine, state, gives};
 ghost use Rattle.outer.specs.SetUp.{lengths, begins};
@@ -32,7 +32,7 @@ fn allowed(
     if !sound_test::setup::setup_held(given) {
         return false;
     }
-    let l = words::sizes::sizes(given);
+    let l = memory::sizes::sizes(given);
     if !sound_test::room::room_ok(
         l,
         stack,

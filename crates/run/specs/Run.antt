@@ -11,8 +11,8 @@ use Rattle.lists.specs.Parts.{splice}
 use Rattle.heap.specs.declared.fault.Fault.{Fault}
 use Rattle.model.specs.declared.call.Answer.{Answer}
 use Rattle.memory.specs.declared.machine.Sizes.{Sizes}
-use Rattle.words.specs.Words.{sizesOf}
-use Rattle.words.specs.Decode.{setupOf}
+use Rattle.memory.specs.Words.{sizesOf}
+use Rattle.memory.specs.Decode.{setupOf}
 use Rattle.calls.specs.Call.{opOf}
 use Rattle.calls.specs.Answer.{answerWords}
 use Rattle.calls.specs.declared.call.Read.{Read}

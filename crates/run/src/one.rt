@@ -2,9 +2,9 @@
 ghost use mathlib.Core.Path.{_≡_};
 ghost use mathlib.Core.Bool.{true};
 ghost use Rattle.memory.specs.Contract.{atEntry, atExit};
-ghost use Rattle.words.specs.Words.{sizesOf};
-ghost use Rattle.words.specs.Decode.{setupOf};
-ghost use Rattle.words.specs.Sizes.{SetupFits};
+ghost use Rattle.memory.specs.Words.{sizesOf};
+ghost use Rattle.memory.specs.Decode.{setupOf};
+ghost use Rattle.memory.specs.Sizes.{SetupFits};
 ghost use Rattle.outer.specs.State.{nine, state, gives};
 ghost use Rattle.run.specs.Run.{ReadFits, Reads};
 use calls::call::Read;
@@ -23,7 +23,7 @@ pub fn sizes_if(ok: bool, setup: &[u64]) -> Sizes
     ensures { λ l. ⌜ (ok ≡ true → l ≡ sizesOf (setupOf (now (setup .entry)))) ⌝ }
 {
     if ok {
-        return words::sizes::sizes(setup);
+        return memory::sizes::sizes(setup);
     }
     let costs = Costs {
         frame: 0,

@@ -94,7 +94,7 @@ unwind-bare e pc w =
     let n = Faults.numberOf e in
     let z = Unwinding.given pc w in
     ap (λ b. b && true)
-    (both (λ (ts : List (Line Answer)). each (λ (l : Line Answer). bare (l .answer)) ts ≡ true) (leb n 8) (search-bare (z .frames) (newWord z) _ _ (Unwinding.errorMade n z)) (search-bare (z .frames) (Faults.wordOf e) _ _ z))
+    (both (λ (ts : List (Line Answer)). each (λ (l : Line Answer). bare (l .answer)) ts ≡ true) (leb n 8) (search-bare (z .frames) (newWord z) _ _ (Unwinding.errorStored n z)) (search-bare (z .frames) (Faults.wordOf e) _ _ z))
 
 -- what the lines of a call are: an instruction's Steps, or none
 abbrev fit : Bool → Answer → Bool
@@ -334,7 +334,7 @@ module _ (w : World) where
             no,
             (
               no,
-              both (λ (ts : List (Line Answer)). Every (Worded 0) ts) (leb n 8) (search-words (z .frames) (newWord z) _ _ (Unwinding.errorMade n z)) (search-words (z .frames) (Faults.wordOf f) _ _ z),
+              both (λ (ts : List (Line Answer)). Every (Worded 0) ts) (leb n 8) (search-words (z .frames) (newWord z) _ _ (Unwinding.errorStored n z)) (search-words (z .frames) (Faults.wordOf f) _ _ z),
             ),
           ),
         ),

@@ -22,7 +22,7 @@ use Rattle.model.specs.declared.machine.Active.{Active}
 use Rattle.model.specs.declared.machine.Cont.{Cont}
 use Rattle.model.specs.declared.machine.Driver.{Driver}
 use Rattle.model.specs.declared.machine.Frame.{Frame}
-use Rattle.model.specs.declared.coro.Made.{Made}
+use Rattle.model.specs.declared.coro.WordOr.{WordOr}
 use Rattle.model.specs.declared.call.Answer.{Answer}
 use Rattle.sheet.specs.Lines.{leadsFrom, leads, accept}
 use Rattle.sheet.specs.Words.{lacksMemory, noSlot}
@@ -40,8 +40,8 @@ use Rattle.sheet.proofs.Yields.{encode-is}
 abbrev Converts : ResultKind → ℕ → World → Type 0
 Converts k v x =
     toDyn k v x
-    ≡ pick (tooLarge k v) (after x (Made.Refused Fault.ArithOverflow)) (pick (isObject k v && lacksMemory x (x .setup .costs .int)) (after x (Made.Refused Fault.OutOfMemory))
-    (pick (isObject k v && noSlot x) (after x (Made.Refused Fault.Full)) (after (converted k v x) (Made.Word (dynamic k v x)))))
+    ≡ pick (tooLarge k v) (after x (WordOr.Refused Fault.ArithOverflow)) (pick (isObject k v && lacksMemory x (x .setup .costs .int)) (after x (WordOr.Refused Fault.OutOfMemory))
+    (pick (isObject k v && noSlot x) (after x (WordOr.Refused Fault.Full)) (after (converted k v x) (WordOr.Word (dynamic k v x)))))
 
 not-lt : (m n : ℕ) → not (ltb m n) ≡ leb n m
 not-lt m n = go (ltb m n) refl
@@ -50,7 +50,7 @@ not-lt m n = go (ltb m n) refl
     go true e = sym (lt-leb n m (ltb-true m n e))
     go false e = sym (le-true n m (ltb-false m n e))
 
-convert-by : (v : ℕ) (x : World) (b : Bool) → encodeExact (pick b (Exact.Fits v) Exact.Over) x ≡ pick (not b) (after x (Made.Refused Fault.ArithOverflow)) (encodeInt v x)
+convert-by : (v : ℕ) (x : World) (b : Bool) → encodeExact (pick b (Exact.Fits v) Exact.Over) x ≡ pick (not b) (after x (WordOr.Refused Fault.ArithOverflow)) (encodeInt v x)
 unfolding pick
 convert-by v x true = refl
 convert-by v x false = refl
@@ -64,11 +64,11 @@ converts ResultKind.I64 v x h =
   where
     ranged : inRange 63 (ofBits 63 v) ≡ true
     ranged = le-true _ _ (of-range 63 v h)
-converts ResultKind.U64 v x h = convert-by v x (ltb v (2 ^ 63)) ∙ (λ i. pick (not-lt v (2 ^ 63) i) (after x (Made.Refused Fault.ArithOverflow)) (encode-is v x i))
+converts ResultKind.U64 v x h = convert-by v x (ltb v (2 ^ 63)) ∙ (λ i. pick (not-lt v (2 ^ 63) i) (after x (WordOr.Refused Fault.ArithOverflow)) (encode-is v x i))
 
-module _ {B : Type 0} (g : World → Made → After B) (k : ResultKind) (v : ℕ) (x : World) (h : v < 2 ^ 64) where
-  convert-then : (a b c : Bool) (y : World) (n : ℕ) → andThen (pick a (after x (Made.Refused Fault.ArithOverflow)) (pick b (after x (Made.Refused Fault.OutOfMemory)) (pick c (after x (Made.Refused Fault.Full)) (after y (Made.Word n))))) g
-      ≡ pick a (g x (Made.Refused Fault.ArithOverflow)) (pick b (g x (Made.Refused Fault.OutOfMemory)) (pick c (g x (Made.Refused Fault.Full)) (g y (Made.Word n))))
+module _ {B : Type 0} (g : World → WordOr → After B) (k : ResultKind) (v : ℕ) (x : World) (h : v < 2 ^ 64) where
+  convert-then : (a b c : Bool) (y : World) (n : ℕ) → andThen (pick a (after x (WordOr.Refused Fault.ArithOverflow)) (pick b (after x (WordOr.Refused Fault.OutOfMemory)) (pick c (after x (WordOr.Refused Fault.Full)) (after y (WordOr.Word n))))) g
+      ≡ pick a (g x (WordOr.Refused Fault.ArithOverflow)) (pick b (g x (WordOr.Refused Fault.OutOfMemory)) (pick c (g x (WordOr.Refused Fault.Full)) (g y (WordOr.Word n))))
   unfolding pick
   convert-then true b c y n = refl
   convert-then false true c y n = refl
@@ -76,9 +76,9 @@ module _ {B : Type 0} (g : World → Made → After B) (k : ResultKind) (v : ℕ
   convert-then false false false y n = refl
 
   convert-is : andThen (toDyn k v x) g
-      ≡ pick (tooLarge k v) (g x (Made.Refused Fault.ArithOverflow)) (pick (isObject k v && lacksMemory x (x .setup .costs .int)) (g x (Made.Refused Fault.OutOfMemory))
-      (pick (isObject k v && noSlot x) (g x (Made.Refused Fault.Full)) (g (converted k v x) (Made.Word (dynamic k v x)))))
-  convert-is = ap (λ (e : After Made). andThen e g) (converts k v x h) ∙ convert-then (tooLarge k v) (isObject k v && lacksMemory x (x .setup .costs .int)) (isObject k v && noSlot x) (converted k v x) (dynamic k v x)
+      ≡ pick (tooLarge k v) (g x (WordOr.Refused Fault.ArithOverflow)) (pick (isObject k v && lacksMemory x (x .setup .costs .int)) (g x (WordOr.Refused Fault.OutOfMemory))
+      (pick (isObject k v && noSlot x) (g x (WordOr.Refused Fault.Full)) (g (converted k v x) (WordOr.Word (dynamic k v x)))))
+  convert-is = ap (λ (e : After WordOr). andThen e g) (converts k v x h) ∙ convert-then (tooLarge k v) (isObject k v && lacksMemory x (x .setup .costs .int)) (isObject k v && noSlot x) (converted k v x) (dynamic k v x)
 
 -- ---- returns
 

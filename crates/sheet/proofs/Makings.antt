@@ -25,7 +25,7 @@ use Rattle.model.specs.Machine.{pushFrame}
 use Rattle.model.specs.Exec as Exec
 use Rattle.model.specs.declared.machine.Cont.{Cont}
 use Rattle.model.specs.declared.machine.Charge.{Charge}
-use Rattle.model.specs.declared.coro.Made.{Made}
+use Rattle.model.specs.declared.coro.WordOr.{WordOr}
 use Rattle.model.specs.declared.exec.Step.{Step}
 use Rattle.model.specs.declared.call.OptPc.{OptPc}
 use Rattle.sheet.specs.Lines.{leadsFrom, leads}
@@ -99,10 +99,10 @@ no-row w =
 
 -- ---- creation
 
-module _ {B : Type 0} (g : World → Made → After B) where
+module _ {B : Type 0} (g : World → WordOr → After B) where
   created-by : (a s r b : Bool) (u v m : World) (x : ℕ) →
-      andThen (pick a (refuse u Fault.OutOfMemory) (pick (s || r) (refuse u Fault.Full) (pick b (refuse v Fault.OutOfMemory) (pick s (refuse v Fault.Full) (after m (Made.Word x)))))) g
-      ≡ pick a (g u (Made.Refused Fault.OutOfMemory)) (pick (s || r) (g u (Made.Refused Fault.Full)) (pick b (g v (Made.Refused Fault.OutOfMemory)) (g m (Made.Word x))))
+      andThen (pick a (refuse u Fault.OutOfMemory) (pick (s || r) (refuse u Fault.Full) (pick b (refuse v Fault.OutOfMemory) (pick s (refuse v Fault.Full) (after m (WordOr.Word x)))))) g
+      ≡ pick a (g u (WordOr.Refused Fault.OutOfMemory)) (pick (s || r) (g u (WordOr.Refused Fault.Full)) (pick b (g v (WordOr.Refused Fault.OutOfMemory)) (g m (WordOr.Word x))))
   unfolding pick
   created-by true s r b u v m x = refl
   created-by false true r b u v m x = refl
@@ -113,8 +113,8 @@ module _ {B : Type 0} (g : World → Made → After B) where
   -- the tests of a creation, in order
   pub create-is : (f closure : ℕ) (args : List ℕ) (u : World) →
       andThen (Coros.coroCreate f closure args u) g
-      ≡ pick (lacksMemory u (fitBytes u f)) (g u (Made.Refused Fault.OutOfMemory)) (pick (noSlot u || noRow u) (g u (Made.Refused Fault.Full))
-      (pick (lacksMemory u (bytes u f)) (g (numbered u) (Made.Refused Fault.OutOfMemory)) (g (made f closure args u) (Made.Word (newWord u)))))
+      ≡ pick (lacksMemory u (fitBytes u f)) (g u (WordOr.Refused Fault.OutOfMemory)) (pick (noSlot u || noRow u) (g u (WordOr.Refused Fault.Full))
+      (pick (lacksMemory u (bytes u f)) (g (numbered u) (WordOr.Refused Fault.OutOfMemory)) (g (made f closure args u) (WordOr.Word (newWord u)))))
   unfolding Coros.coroCreate alloc
   create-is f closure args u =
       ap (λ row. tried (noSlot u || rowsFull u) (object row)) (lowest-is (u .setup .limits .rows) 0 (u .slots))
@@ -144,12 +144,12 @@ coro-new-is dst f argc u =
 
 -- ---- of the function that a register holds
 
-module _ {B : Type 0} (g : World → Made → After B) (v argc : ℕ) (args : List ℕ) (u : World) where
-  abbrev found-function : ℕ → After Made
+module _ {B : Type 0} (g : World → WordOr → After B) (v argc : ℕ) (args : List ℕ) (u : World) where
+  abbrev found-function : ℕ → After WordOr
   found-function f =
       pick (not (isFunction u f)) (refuse u Fault.TypeError) (pick (not (eqb (function u f .params) argc)) (refuse u Fault.TypeError) (Coros.coroCreate f v args u))
 
-  called-as : Object → Fault → After Made
+  called-as : Object → Fault → After WordOr
   called-as Object.Empty e = refuse u e
   called-as (Object.Func f) e = found-function f
   called-as (Object.Int n) e = refuse u e
@@ -159,11 +159,11 @@ module _ {B : Type 0} (g : World → Made → After B) (v argc : ℕ) (args : Li
 
   abbrev then-create : ℕ → After B
   then-create f =
-      pick (not (isFunction u f)) (g u (Made.Refused Fault.TypeError)) (pick (not (eqb (function u f .params) argc)) (g u (Made.Refused Fault.TypeError)) (andThen (Coros.coroCreate f v args u) g))
+      pick (not (isFunction u f)) (g u (WordOr.Refused Fault.TypeError)) (pick (not (eqb (function u f .params) argc)) (g u (WordOr.Refused Fault.TypeError)) (andThen (Coros.coroCreate f v args u) g))
 
   then-found : (a b : Bool) (f : ℕ) →
       andThen (pick a (refuse u Fault.TypeError) (pick b (refuse u Fault.TypeError) (Coros.coroCreate f v args u))) g
-      ≡ pick a (g u (Made.Refused Fault.TypeError)) (pick b (g u (Made.Refused Fault.TypeError)) (andThen (Coros.coroCreate f v args u) g))
+      ≡ pick a (g u (WordOr.Refused Fault.TypeError)) (pick b (g u (WordOr.Refused Fault.TypeError)) (andThen (Coros.coroCreate f v args u) g))
   unfolding pick
   then-found true b f = refl
   then-found false true f = refl
@@ -171,7 +171,7 @@ module _ {B : Type 0} (g : World → Made → After B) (v argc : ℕ) (args : Li
 
   by-function : (o : Object) (b : Bool) → (b ≡ true → isNothing o ≡ true) →
       andThen (called-as o (pick b Fault.NullReference Fault.TypeError)) g
-      ≡ pick b (g u (Made.Refused Fault.NullReference)) (pick (not (eqb (kind o) 1)) (g u (Made.Refused Fault.TypeError)) (then-create (functionOf o)))
+      ≡ pick b (g u (WordOr.Refused Fault.NullReference)) (pick (not (eqb (kind o) 1)) (g u (WordOr.Refused Fault.TypeError)) (then-create (functionOf o)))
   unfolding pick called-as
   by-function Object.Empty true h = refl
   by-function Object.Empty false h = refl
@@ -186,7 +186,7 @@ module _ {B : Type 0} (g : World → Made → After B) (v argc : ℕ) (args : Li
   by-function (Object.Coro k r) true h = refl
   by-function (Object.Coro k r) false h = refl
 
-module _ {B : Type 0} (g : World → Made → After B) (dst v argc : ℕ) (u : World) where
+module _ {B : Type 0} (g : World → WordOr → After B) (dst v argc : ℕ) (u : World) where
   indirect-as : (o : Object) → Exec.indirectTo o v dst argc u ≡ called-as g v argc (Exec.window dst argc u) u o (notA u v)
   unfolding called-as
   indirect-as Object.Empty = refl
@@ -200,12 +200,12 @@ module _ {B : Type 0} (g : World → Made → After B) (dst v argc : ℕ) (u : W
   f₀ = callee u v
 
   pub indirect-is : andThen (Exec.indirectTo (object u v) v dst argc u) g
-      ≡ pick (dead u v) (g u (Made.Refused Fault.NullReference)) (pick (not (eqb (kind (found u v)) 1)) (g u (Made.Refused Fault.TypeError))
-      (pick (not (isFunction u f₀)) (g u (Made.Refused Fault.TypeError)) (pick (not (eqb (function u f₀ .params) argc)) (g u (Made.Refused Fault.TypeError))
-      (pick (lacksMemory u (fitBytes u f₀)) (g u (Made.Refused Fault.OutOfMemory)) (pick (noSlot u || noRow u) (g u (Made.Refused Fault.Full))
-      (pick (lacksMemory u (bytes u f₀)) (g (numbered u) (Made.Refused Fault.OutOfMemory)) (g (made f₀ v (arguments u dst argc) u) (Made.Word (newWord u)))))))))
+      ≡ pick (dead u v) (g u (WordOr.Refused Fault.NullReference)) (pick (not (eqb (kind (found u v)) 1)) (g u (WordOr.Refused Fault.TypeError))
+      (pick (not (isFunction u f₀)) (g u (WordOr.Refused Fault.TypeError)) (pick (not (eqb (function u f₀ .params) argc)) (g u (WordOr.Refused Fault.TypeError))
+      (pick (lacksMemory u (fitBytes u f₀)) (g u (WordOr.Refused Fault.OutOfMemory)) (pick (noSlot u || noRow u) (g u (WordOr.Refused Fault.Full))
+      (pick (lacksMemory u (bytes u f₀)) (g (numbered u) (WordOr.Refused Fault.OutOfMemory)) (g (made f₀ v (arguments u dst argc) u) (WordOr.Word (newWord u)))))))))
   indirect-is =
-      ap (λ (x : After Made). andThen x g) (indirect-as (object u v))
+      ap (λ (x : After WordOr). andThen x g) (indirect-as (object u v))
       ∙ (ap (λ o. andThen (called-as g v argc (Exec.window dst argc u) u o (notA u v)) g) (object-found u v)
       ∙ (ap (λ e. andThen (called-as g v argc (Exec.window dst argc u) u (found u v) e) g) (not-a u v)
       ∙ (by-function g v argc (Exec.window dst argc u) u (found u v) (dead u v) (and-left (isNothing (found u v)) _)

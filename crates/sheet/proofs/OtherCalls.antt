@@ -24,7 +24,7 @@ use Rattle.model.specs.declared.machine.Driver.{Driver}
 use Rattle.model.specs.declared.machine.Frame.{Frame}
 use Rattle.model.specs.declared.machine.Fuel.{Fuel}
 use Rattle.model.specs.declared.machine.Outcome.{Outcome}
-use Rattle.model.specs.declared.coro.Made.{Made}
+use Rattle.model.specs.declared.coro.WordOr.{WordOr}
 use Rattle.model.specs.declared.coro.Entered.{Entered}
 use Rattle.model.specs.declared.call.Answer.{Answer}
 use Rattle.sheet.specs.Lines.{leads}
@@ -48,10 +48,10 @@ lies-is w r = ap (λ b. ltb (b + r) (length (w .stack))) (base-is (w .frames))
 
 -- ---- spawn_task
 
-task-by : (b b′ : Bool) (v : ℕ) (x w : World) → b ≡ b′ → andThen (pick b (after x (Made.Word v)) (after w (Made.Word v))) Added.answerMade ≡ after (pick b′ x w) (Answer.Word v)
+task-by : (b b′ : Bool) (v : ℕ) (x w : World) → b ≡ b′ → andThen (pick b (after x (WordOr.Word v)) (after w (WordOr.Word v))) Added.answerMade ≡ after (pick b′ x w) (Answer.Word v)
 unfolding pick
-task-by b true v x w e = ap (λ t. andThen (pick t (after x (Made.Word v)) (after w (Made.Word v))) Added.answerMade) e
-task-by b false v x w e = ap (λ t. andThen (pick t (after x (Made.Word v)) (after w (Made.Word v))) Added.answerMade) e
+task-by b true v x w e = ap (λ t. andThen (pick t (after x (WordOr.Word v)) (after w (WordOr.Word v))) Added.answerMade) e
+task-by b false v x w e = ap (λ t. andThen (pick t (after x (WordOr.Word v)) (after w (WordOr.Word v))) Added.answerMade) e
 
 spawn-by : (o : Object) (v : ℕ) (w : World) →
     andThen (joinReady (asCoro o) v w) Added.answerMade
@@ -112,7 +112,7 @@ put-word-is r v w = below _ _ (λ i. pick (not (passes i)) (refused w Fault.BadO
 -- ---- make iterator, take outcome, hand over
 
 made-by : (a b : Bool) (w y : World) (x : ℕ) →
-    andThen (pick a (after w (Made.Refused Fault.OutOfMemory)) (pick b (after w (Made.Refused Fault.Full)) (after y (Made.Word x)))) Added.answerMade
+    andThen (pick a (after w (WordOr.Refused Fault.OutOfMemory)) (pick b (after w (WordOr.Refused Fault.Full)) (after y (WordOr.Word x)))) Added.answerMade
     ≡ pick a (refused w Fault.OutOfMemory) (pick b (refused w Fault.Full) (after y (Answer.Word x)))
 unfolding pick
 made-by true b w y x = refl

@@ -196,7 +196,7 @@ behind-9 (Op.Unwind f pc) w =
             no,
             (
               λ _. (refl, refl),
-              both (λ (ts : List (Line Answer)). Behind9 (refuse 14 (leb n 8 && noSlot z) z) ts) (leb n 8) (search-14 _ (z .frames) (newWord z) _ _ (Unwinding.errorMade n z)) (search-14 _ (z .frames) (Faults.wordOf f) _ _ z),
+              both (λ (ts : List (Line Answer)). Behind9 (refuse 14 (leb n 8 && noSlot z) z) ts) (leb n 8) (search-14 _ (z .frames) (newWord z) _ _ (Unwinding.errorStored n z)) (search-14 _ (z .frames) (Faults.wordOf f) _ _ z),
             ),
           ),
         ),

@@ -27,7 +27,7 @@ use Rattle.sheet.specs.Lines.{Line, Lines, leadsFrom, leads, saysFrom, s
 use Rattle.sheet.specs.Makings.{newWord}
 use Rattle.sheet.specs.Endings.{finishBy, finishOn}
 use Rattle.sheet.specs.Unwinding as Unwinding
-use Rattle.sheet.specs.Unwinding.{search, left, given, errorMade}
+use Rattle.sheet.specs.Unwinding.{search, left, given, errorStored}
 use Rattle.sheet.specs.OtherCalls as Others
 use Rattle.sheet.specs.Sheet.{tableOf, sheet, setUp, FaultSheet}
 use Rattle.sheet.proofs.Among.{same, and-left, and-right}
@@ -85,8 +85,8 @@ tells-unwind e pc w = λ i. (own i && found i) && own i
     own : eqb n n ≡ true
     own = eq-eqb n n refl
 
-    found : each tells (pick (leb n 8) (Unwinding.raised (newWord z) (errorMade n z)) (Unwinding.raised (Faults.wordOf e) z)) ≡ true
-    found = both (λ (ts : List (Line Answer)). each tells ts ≡ true) (leb n 8) (tells-raised (newWord z) (errorMade n z)) (tells-raised (Faults.wordOf e) z)
+    found : each tells (pick (leb n 8) (Unwinding.raised (newWord z) (errorStored n z)) (Unwinding.raised (Faults.wordOf e) z)) ≡ true
+    found = both (λ (ts : List (Line Answer)). each tells ts ≡ true) (leb n 8) (tells-raised (newWord z) (errorStored n z)) (tells-raised (Faults.wordOf e) z)
 
 -- ---- every call
 

@@ -26,7 +26,7 @@ use Rattle.model.specs.declared.machine.Cont.{Cont}
 use Rattle.model.specs.declared.machine.Driver.{Driver}
 use Rattle.model.specs.declared.machine.Frame.{Frame}
 use Rattle.model.specs.declared.machine.Stop.{Stop}
-use Rattle.model.specs.declared.coro.Made.{Made}
+use Rattle.model.specs.declared.coro.WordOr.{WordOr}
 use Rattle.model.specs.declared.call.OptPc.{OptPc}
 use Rattle.model.specs.declared.call.Answer.{Answer}
 use Rattle.sheet.specs.Lines.{Line, leadsFrom, leads, fault, line}
@@ -37,7 +37,7 @@ use Rattle.sheet.specs.Makings.{paid, newWord}
 use Rattle.sheet.specs.Suspending.{asks}
 use Rattle.sheet.specs.Endings.{popped, overIn, returned}
 use Rattle.sheet.specs.Unwinding as Table
-use Rattle.sheet.specs.Unwinding.{covering, takers, taker, isEntry, isBody, ownSignal, driven, failedTo, failed, left, given, errorMade}
+use Rattle.sheet.specs.Unwinding.{covering, takers, taker, isEntry, isBody, ownSignal, driven, failedTo, failed, left, given, errorStored}
 use Rattle.sheet.proofs.Moved.{stored, put-is, coro-is, ended-is}
 use Rattle.sheet.proofs.Makings.{paid-is}
 use Rattle.sheet.proofs.Suspending.{cleaning-is, then-one}
@@ -164,7 +164,7 @@ raised-is value d w =
     (λ i. Machine.search (w .frames) value (func-is (w .frames) i) (pc-is (w .frames) i) w) ∙ search-is (w .frames) value (Table.topFunc (w .frames)) (Table.topPc (w .frames)) d w
 
 made-by : (a b : Bool) (z y : World) (x : ℕ) →
-    andThen (pick a (after z (Made.Refused Fault.OutOfMemory)) (pick b (after z (Made.Refused Fault.Full)) (after y (Made.Word x)))) Machine.searchMade
+    andThen (pick a (after z (WordOr.Refused Fault.OutOfMemory)) (pick b (after z (WordOr.Refused Fault.Full)) (after y (WordOr.Word x)))) Machine.searchMade
     ≡ pick a (after z (Answer.Refused Fault.OutOfMemory)) (pick b (after z (Answer.Refused Fault.Full)) (Machine.searchFrames x y))
 unfolding pick
 made-by true b z y x = refl
@@ -173,12 +173,12 @@ made-by false false z y x = refl
 
 error-is : (n : ℕ) (d : Line Answer) (z : World) →
     andThen (alloc (z .setup .costs .error) (Object.Error n (Frames.topFunc (z .frames)) (Frames.topPc (z .frames)) 0) z) Machine.searchMade
-    ≡ pick (lacksMemory z (z .setup .costs .error)) (after z (Answer.Refused Fault.OutOfMemory)) (pick (noSlot z) (after z (Answer.Refused Fault.Full)) (leadsFrom (Table.raised (newWord z) (errorMade n z)) d))
+    ≡ pick (lacksMemory z (z .setup .costs .error)) (after z (Answer.Refused Fault.OutOfMemory)) (pick (noSlot z) (after z (Answer.Refused Fault.Full)) (leadsFrom (Table.raised (newWord z) (errorStored n z)) d))
 unfolding alloc
 error-is n d z =
     (λ i. andThen (alloc (z .setup .costs .error) (Object.Error n (func-is (z .frames) i) (pc-is (z .frames) i) 0) z) Machine.searchMade)
-    ∙ (made-by (lacksMemory z (z .setup .costs .error)) (noSlot z) z (errorMade n z) (newWord z)
-    ∙ ap (λ t. pick (lacksMemory z (z .setup .costs .error)) (after z (Answer.Refused Fault.OutOfMemory)) (pick (noSlot z) (after z (Answer.Refused Fault.Full)) t)) (raised-is (newWord z) d (errorMade n z)))
+    ∙ (made-by (lacksMemory z (z .setup .costs .error)) (noSlot z) z (errorStored n z) (newWord z)
+    ∙ ap (λ t. pick (lacksMemory z (z .setup .costs .error)) (after z (Answer.Refused Fault.OutOfMemory)) (pick (noSlot z) (after z (Answer.Refused Fault.Full)) t)) (raised-is (newWord z) d (errorStored n z)))
 
 abbrev at : Fault → World → World → After Answer
 at e z w = pick (Machine.raisable e) (Machine.unwindFault e z) (after w (Answer.Refused Fault.Unsound))
@@ -190,7 +190,7 @@ lines-at e z w =
     (pick (eqb n 9 || eqb n 10) (after z (Answer.Refused e))
     (pick (leb n 8 && lacksMemory z (z .setup .costs .error)) (after z (Answer.Refused Fault.OutOfMemory))
     (pick (leb n 8 && noSlot z) (after z (Answer.Refused Fault.Full))
-    (leadsFrom (pick (leb n 8) (Table.raised (newWord z) (errorMade n z)) (Table.raised (wordOf e) z)) (line n true (Answer.Refused e) z)))))
+    (leadsFrom (pick (leb n 8) (Table.raised (newWord z) (errorStored n z)) (Table.raised (wordOf e) z)) (line n true (Answer.Refused e) z)))))
 
 unwinds : (e : Fault) (z w : World) → at e z w ≡ lines-at e z w
 unfolding pick

@@ -33,7 +33,7 @@ use Rattle.sheet.specs.Makings.{noRow, newWord, paid}
 use Rattle.sheet.specs.Suspending.{running}
 use Rattle.sheet.specs.Endings.{popped, dynamic, converted, isObject, finishBy, finishOn, conversion, overIn, returned}
 use Rattle.sheet.specs.Unwinding as Unwinding
-use Rattle.sheet.specs.Unwinding.{left, search, given, errorMade, failedTo}
+use Rattle.sheet.specs.Unwinding.{left, search, given, errorStored, failedTo}
 use Rattle.sheet.specs.OtherCalls as Others
 use Rattle.sheet.specs.Sheet.{lie, windowLies, tableOf, sheet}
 use Rattle.sheet.specs.Sentences.{unchanging}
@@ -199,12 +199,12 @@ module _ (e : Fault) (pc : OptPc) (w : World) where
       go (OptPc.Some p) = refl
 
   abbrev raised : List (Line Answer)
-  raised = pick (leb (numberOf e) 8) (Unwinding.raised (newWord z) (errorMade (numberOf e) z)) (Unwinding.raised (wordOf e) z)
+  raised = pick (leb (numberOf e) 8) (Unwinding.raised (newWord z) (errorStored (numberOf e) z)) (Unwinding.raised (wordOf e) z)
 
   raised-facts : EveryLine (Fact w) raised
   raised-facts =
       both (λ (ts : List (Line Answer)). EveryLine (Fact w) ts) (leb (numberOf e) 8)
-      (searches w (z .frames) (newWord z) _ _ (errorMade (numberOf e) z) (adds w _ (z .setup .costs .error) z refl given-kept))
+      (searches w (z .frames) (newWord z) _ _ (errorStored (numberOf e) z) (adds w _ (z .setup .costs .error) z refl given-kept))
       (searches w (z .frames) (wordOf e) _ _ z given-kept)
 
   -- the first test stops it, or the others go by their numbers

@@ -23,7 +23,7 @@ use Rattle.model.specs.Frames.{reg}
 use Rattle.model.specs.Heap.{objectAt, object, coro, alloc, encodeAt, encodeInt, intIn, dynInt}
 use Rattle.model.specs.Exec as Exec
 use Rattle.model.specs.declared.machine.Active.{Active}
-use Rattle.model.specs.declared.coro.Made.{Made}
+use Rattle.model.specs.declared.coro.WordOr.{WordOr}
 use Rattle.model.specs.declared.coro.AutoKey.{AutoKey}
 use Rattle.model.specs.declared.coro.Keys.{Keys}
 use Rattle.sheet.specs.Lines.{leadsFrom, leads}
@@ -151,19 +151,19 @@ module _ (n : ℕ) (u : World) where
   withObject = stored (Object.Int n) (u .setup .costs .int) u
 
   encode-by : (b : Bool) (x : ℕ) → encodeAt (pick b (Inline.At (record { 0 = x })) Inline.Large) n u
-      ≡ pick (not b && lacksMemory u (u .setup .costs .int)) (after u (Made.Refused Fault.OutOfMemory)) (pick (not b && noSlot u) (after u (Made.Refused Fault.Full))
-      (after (pick (not b) withObject u) (Made.Word (pick (not b) (newWord u) x))))
+      ≡ pick (not b && lacksMemory u (u .setup .costs .int)) (after u (WordOr.Refused Fault.OutOfMemory)) (pick (not b && noSlot u) (after u (WordOr.Refused Fault.Full))
+      (after (pick (not b) withObject u) (WordOr.Word (pick (not b) (newWord u) x))))
   unfolding pick alloc
   encode-by true x = refl
   encode-by false x = refl
 
   pub encode-is : encodeInt n u
-      ≡ pick (isLarge n && lacksMemory u (u .setup .costs .int)) (after u (Made.Refused Fault.OutOfMemory)) (pick (isLarge n && noSlot u) (after u (Made.Refused Fault.Full))
-      (after (pick (isLarge n) withObject u) (Made.Word (pick (isLarge n) (newWord u) (intWord (ofBits 63 n))))))
+      ≡ pick (isLarge n && lacksMemory u (u .setup .costs .int)) (after u (WordOr.Refused Fault.OutOfMemory)) (pick (isLarge n && noSlot u) (after u (WordOr.Refused Fault.Full))
+      (after (pick (isLarge n) withObject u) (WordOr.Word (pick (isLarge n) (newWord u) (intWord (ofBits 63 n))))))
   encode-is = encode-by (inRange 47 (ofBits 63 n)) (intWord (ofBits 63 n))
 
 module _ {B : Type 0} (g : World → AutoKey → After B) (n : ℕ) (u : World) where
-  key-by : (r a b : Bool) (s : World) (x : ℕ) (e : After Made) → e ≡ pick a (after u (Made.Refused Fault.OutOfMemory)) (pick b (after u (Made.Refused Fault.Full)) (after s (Made.Word x))) →
+  key-by : (r a b : Bool) (s : World) (x : ℕ) (e : After WordOr) → e ≡ pick a (after u (WordOr.Refused Fault.OutOfMemory)) (pick b (after u (WordOr.Refused Fault.Full)) (after s (WordOr.Word x))) →
       andThen (pick r (andThen e (Exec.keyAt n)) (after u (AutoKey.Refused Fault.ArithOverflow))) g
       ≡ pick (not r) (g u (AutoKey.Refused Fault.ArithOverflow)) (pick a (g u (AutoKey.Refused Fault.OutOfMemory)) (pick b (g u (AutoKey.Refused Fault.Full)) (g s (AutoKey.Key x n))))
   unfolding pick

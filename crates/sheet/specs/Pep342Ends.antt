@@ -24,7 +24,7 @@ use Rattle.sheet.specs.Moves.{pcStored, put}
 use Rattle.sheet.specs.Charging.{reserve, usedUp, bankBack}
 use Rattle.sheet.specs.Makings.{newWord, paid}
 use Rattle.sheet.specs.Endings.{popped, returned}
-use Rattle.sheet.specs.Unwinding.{covering, takers, isEntry, isBody, ownSignal, driven, failed, left, given, topFunc, topPc, errorMade}
+use Rattle.sheet.specs.Unwinding.{covering, takers, isEntry, isBody, ownSignal, driven, failed, left, given, topFunc, topPc, errorStored}
 
 -- ---- what is raised: 17's word, or the error object of 1 to 8
 
@@ -38,7 +38,7 @@ abbrev pub thrown : Fault → OptPc → World → ℕ
 thrown e pc w = pick (leb (numberOf e) 8) (newWord (given pc w)) (wordOf e)
 
 abbrev pub risen : Fault → OptPc → World → World
-risen e pc w = pick (leb (numberOf e) 8) (errorMade (numberOf e) (given pc w)) (given pc w)
+risen e pc w = pick (leb (numberOf e) 8) (errorStored (numberOf e) (given pc w)) (given pc w)
 
 -- ---- the frames that it leaves: nothing catches there, and it is neither the host's nor the body of a coroutine that stops it
 

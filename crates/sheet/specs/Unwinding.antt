@@ -117,8 +117,8 @@ abbrev pub raised : ℕ → World → List (Line Answer)
 raised value w = search (w .frames) value (topFunc (w .frames)) (topPc (w .frames)) w
 
 -- an error object holds number, function and pc of the top frame at the start (0 and 0 without one) and nil
-abbrev pub errorMade : ℕ → World → World
-errorMade n z = stored (Object.Error n (topFunc (z .frames)) (topPc (z .frames)) 0) (z .setup .costs .error) z
+abbrev pub errorStored : ℕ → World → World
+errorStored n z = stored (Object.Error n (topFunc (z .frames)) (topPc (z .frames)) 0) (z .setup .costs .error) z
 
 abbrev pub unwind : Fault → OptPc → World → Lines Answer
 unwind e pc w =
@@ -129,5 +129,5 @@ unwind e pc w =
     ∷ line n (eqb n 9 || eqb n 10) (Answer.Refused e) z
     ∷ refuse 9 (leb n 8 && lacksMemory z (z .setup .costs .error)) z
     ∷ refuse 14 (leb n 8 && noSlot z) z
-    ∷ pick (leb n 8) (raised (newWord z) (errorMade n z)) (raised (wordOf e) z))
+    ∷ pick (leb n 8) (raised (newWord z) (errorStored n z)) (raised (wordOf e) z))
     (line n true (Answer.Refused e) z)

@@ -40,10 +40,10 @@ use Rattle.memory.specs.declared.machine.Told.{Told}
 use Rattle.memory.specs.declared.machine.Machine.{Machine}
 use Rattle.memory.proofs.Tables.{slots-are}
 use Rattle.memory.proofs.Few.{queue-few}
-use Rattle.words.specs.Words.{sizesOf, wordsOf, numbersOf}
-use Rattle.words.specs.Decode.{setupOf, worldOf}
-use Rattle.words.proofs.Encoded.{every-world, length-setup}
-use Rattle.words.proofs.Decoded.{one-world, sound-words}
+use Rattle.memory.specs.Words.{sizesOf, wordsOf, numbersOf}
+use Rattle.memory.specs.Decode.{setupOf, worldOf}
+use Rattle.memory.proofs.Encoded.{every-world, length-setup}
+use Rattle.memory.proofs.Decoded.{one-world, sound-words}
 use Rattle.sound.specs.Words.{restOk, framesHeld, outcomeHeld, fitsRow, soundWords}
 use Rattle.sound.specs.Exactly.{Stands, Exactly, Tested}
 use Rattle.sound.proofs.Held.{same-true, true-same, rest-padded, padded-rest, run-held, held-run, piled-held, held-piled, slots-held, held-slots, row-exact, rows-held, row-chunk, rows-rest}

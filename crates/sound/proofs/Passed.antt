@@ -14,7 +14,7 @@ use Rattle.soundness.proofs.Tests.{and-left, and-right, both}
 use Rattle.tables.specs.Sizes.{setupWords, stackSize, framesSize, chainSize, savedStackSize, savedFramesSize, slotsSize, queueSize, setupSize}
 use Rattle.memory.specs.Memory.{Lent, Room}
 use Rattle.memory.specs.declared.machine.Machine.{Machine}
-use Rattle.words.specs.Decode.{setupOf, worldOf}
+use Rattle.memory.specs.Decode.{setupOf, worldOf}
 use Rattle.sound.specs.Words.{same, setupHeld, roomOk, countsOk, outcomeHeld, runsHeld, framesHeld, chainHeld, slotsHeld, fitsRows, savedStackHeld, savedFramesHeld, wordsOk, soundWords}
 
 -- ---- lent words enough

@@ -30,7 +30,7 @@ use Rattle.tables.proofs.Padded.{length-part}
 use Rattle.memory.specs.Slots.{toCoro, toObject, toSlots}
 use Rattle.memory.specs.Rows.{Row, owns, savedBy, rowAt}
 use Rattle.memory.specs.Memory.{Lent}
-use Rattle.words.specs.Decode.{coreOf, restOf, objectOf, objectsOf}
+use Rattle.memory.specs.Decode.{coreOf, restOf, objectOf, objectsOf}
 use Rattle.sound.specs.Words.{fitsRow}
 use Rattle.sound.proofs.Held.{length-piled, piled-take}
 

@@ -6,8 +6,8 @@ use Rattle.model.specs.Sound.{sound}
 use Rattle.model.specs.declared.machine.Fuel.{Fuel}
 use Rattle.memory.specs.Memory.{Lent, Rep, Room}
 use Rattle.memory.specs.declared.machine.Machine.{Machine}
-use Rattle.words.specs.Words.{sizesOf, wordsOf, numbersOf}
-use Rattle.words.specs.Decode.{worldOf}
+use Rattle.memory.specs.Words.{sizesOf, wordsOf, numbersOf}
+use Rattle.memory.specs.Decode.{worldOf}
 use Rattle.sound.specs.Words.{soundWords}
 
 -- the words M, the numbers m and the fuel f stand for the sound world w, and are enough for its set-up

@@ -26,7 +26,7 @@ use Rattle.memory.specs.Told.{told, outcomeIn}
 use Rattle.memory.specs.Memory.{Lent}
 use Rattle.memory.specs.declared.machine.Told.{Told}
 use Rattle.memory.specs.declared.machine.Machine.{Machine}
-use Rattle.words.specs.Decode.{setupOf, worldOf}
+use Rattle.memory.specs.Decode.{setupOf, worldOf}
 
 -- ---- words and records
 

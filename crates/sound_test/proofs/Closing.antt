@@ -22,9 +22,9 @@ use Rattle.tables.specs.Layout.{functionIn, functionWords, handlersFrom}
 use Rattle.tables.specs.Sizes.{hookWords, numbersWords, setupWords, limitsOf, costsOf, hookOf}
 use Rattle.tables.proofs.Codes.{length-function}
 use Rattle.memory.proofs.Tables.{rows-at}
-use Rattle.words.specs.Decode.{functionsOf, setupOf}
-use Rattle.words.proofs.Encoded.{length-setup}
-use Rattle.words.proofs.Widest.{held-fits}
+use Rattle.memory.specs.Decode.{functionsOf, setupOf}
+use Rattle.memory.proofs.Encoded.{length-setup}
+use Rattle.memory.proofs.Widest.{held-fits}
 use Rattle.sound.specs.Words.{same, restOk, setupHeld}
 use Rattle.sound.proofs.Held.{same-true, true-same, rest-padded, padded-rest, tabled-all}
 use Rattle.sound_test.specs.Setup.{handlersTest, functionTest, hookTest, longTest, setupTest}

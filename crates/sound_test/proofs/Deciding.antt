@@ -22,7 +22,7 @@ use Rattle.tables.specs.Layout.{frameOf}
 use Rattle.tables.specs.Parts.{piled}
 use Rattle.memory.specs.Memory.{Lent}
 use Rattle.memory.specs.declared.machine.Machine.{Machine}
-use Rattle.words.specs.Decode.{setupOf, objectOf, objectsOf, worldOf}
+use Rattle.memory.specs.Decode.{setupOf, objectOf, objectsOf, worldOf}
 use Rattle.sound.specs.Words.{restOk, framesHeld, chainHeld}
 use Rattle.sound_test.specs.Frames.{stackFramesOk}
 use Rattle.sound_test.specs.Chain.{chainOk}

@@ -11,7 +11,7 @@ use Rattle.lists.specs.Pick.{pick}
 use Rattle.model.specs.Program.{func, funcOf, noFunc}
 use Rattle.tables.specs.Layout.{functionIn}
 use Rattle.memory.proofs.Tables.{rows-at}
-use Rattle.words.specs.Decode.{setupOf}
+use Rattle.memory.specs.Decode.{setupOf}
 use Rattle.sound_test.specs.Setup.{hookTest}
 use Rattle.sound_test.proofs.Bools.{and-true}
 use Rattle.sound_test.proofs.OneFrame.{functions-long}

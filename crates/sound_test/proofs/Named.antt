@@ -25,7 +25,7 @@ use Rattle.model.specs.Object as M
 use Rattle.model.specs.Heap.{objectAt}
 use Rattle.soundness.proofs.Tests.{no-false, each-at, at-each}
 use Rattle.soundness.proofs.Point.{coroIn, finds, word-of}
-use Rattle.words.specs.Decode.{restOf}
+use Rattle.memory.specs.Decode.{restOf}
 use Rattle.sound_test.specs.Queue.{byCoro, markOf, marksOk, QueueAsks}
 use Rattle.sound_test.proofs.Seen.{QueueFits}
 use Rattle.sound_test.proofs.Bools.{iff}

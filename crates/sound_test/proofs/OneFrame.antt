@@ -16,7 +16,7 @@ use Rattle.tables.specs.Layout.{contOf, frameOf, functionIn}
 use Rattle.tables.specs.Parts.{piled}
 use Rattle.tables.proofs.Codes.{frame-read}
 use Rattle.memory.proofs.Tables.{length-tabled}
-use Rattle.words.specs.Decode.{setupOf}
+use Rattle.memory.specs.Decode.{setupOf}
 use Rattle.sound_test.specs.Frames.{contHeld, placeOk, contTest, frameTest, catchWidth, Catches}
 
 -- ---- catch registers

@@ -17,7 +17,7 @@ use Rattle.soundness.proofs.Tests.{and-left, and-right}
 use Rattle.tables.specs.Layout.{handlerFrom, handlersFrom, functionIn}
 use Rattle.tables.specs.Sizes.{limitsOf, costsOf}
 use Rattle.memory.proofs.Tables.{rows-at}
-use Rattle.words.specs.Decode.{setupOf}
+use Rattle.memory.specs.Decode.{setupOf}
 use Rattle.sound.specs.Words.{restOk, setupHeld}
 use Rattle.sound_test.specs.Setup.{handlersTest, functionTest, hookTest, longTest, setupTest}
 use Rattle.sound_test.specs.Frames.{catchWidth, Catches}

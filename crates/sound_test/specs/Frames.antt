@@ -14,7 +14,7 @@ use Rattle.model.specs.declared.machine.Cont.{Cont}
 use Rattle.model.specs.declared.program.Handler.{Handler}
 use Rattle.tables.specs.Layout.{contCode, contReg, contOf, frameOf, frameIn}
 use Rattle.tables.specs.Parts.{piled}
-use Rattle.words.specs.Decode.{setupOf}
+use Rattle.memory.specs.Decode.{setupOf}
 use Rattle.sound.specs.Words.{framesHeld}
 
 -- a continuation's code is one of six, and a register stands only where it has one

@@ -9,8 +9,8 @@ use Rattle.model.specs.Sound.{framesOk, entryOk, floorsOk, driversOk, queueOk}
 use Rattle.model.specs.declared.machine.Fuel.{Fuel}
 use Rattle.memory.specs.Memory.{Lent}
 use Rattle.memory.specs.declared.machine.Machine.{Machine}
-use Rattle.words.specs.Words.{sizesOf}
-use Rattle.words.specs.Decode.{setupOf, worldOf}
+use Rattle.memory.specs.Words.{sizesOf}
+use Rattle.memory.specs.Decode.{setupOf, worldOf}
 use Rattle.sound.specs.Words.{restOk, roomOk, countsOk, framesHeld, chainHeld}
 use Rattle.sound_test.specs.Frames.{stackFramesOk}
 use Rattle.sound_test.specs.Chain.{chainOk}

@@ -9,7 +9,7 @@ use Rattle.lists.specs.Tests.{allBelow, zeros}
 use Rattle.model.specs.Program.{between, limitsOk, costsOk, handlerOk, hookOk}
 use Rattle.tables.specs.Layout.{handlerFrom}
 use Rattle.tables.specs.Sizes.{limitsOf, costsOf, hookOf}
-use Rattle.words.specs.Decode.{setupOf}
+use Rattle.memory.specs.Decode.{setupOf}
 use Rattle.sound.specs.Words.{restOk}
 
 -- the n handlers from word at on

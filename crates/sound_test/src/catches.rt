@@ -4,7 +4,7 @@ ghost use mathlib.Core.Bool.{true};
 ghost use Prim.Native.Nat.{max};
 ghost use lib.ListN.{take};
 ghost use Rattle.tables.specs.Layout.{handlersFrom};
-ghost use Rattle.words.specs.Decode.{setupOf};
+ghost use Rattle.memory.specs.Decode.{setupOf};
 ghost use Rattle.sound.specs.Words.{setupHeld};
 ghost use Rattle.sound_test.specs.Frames.{catchWidth, Catches};
 ghost use Rattle.sound_test.specs.Catch.{CatchFits};

@@ -5,7 +5,7 @@ ghost use lib.ListN.{length};
 ghost use Rattle.model.specs.Sound.{liesUnder};
 ghost use Rattle.tables.specs.Layout.{frameOf};
 ghost use Rattle.tables.specs.Parts.{piled};
-ghost use Rattle.words.specs.Decode.{setupOf};
+ghost use Rattle.memory.specs.Decode.{setupOf};
 ghost use Rattle.sound_test.specs.Frames.{contTest, frameTest, framesTest, stackFramesOk, savedFramesOk, FrameFits, FramesFit};
 use tables::frame::base_at;
 

@@ -5,7 +5,7 @@ ghost use lib.ListN.{length};
 ghost use Rattle.lists.specs.Tests.{allBelow};
 ghost use Rattle.model.specs.Program.{between, limitsOk, costsOk, handlerOk};
 ghost use Rattle.tables.specs.Layout.{handlerFrom};
-ghost use Rattle.words.specs.Sizes.{SetupFits};
+ghost use Rattle.memory.specs.Sizes.{SetupFits};
 ghost use Rattle.sound.specs.Words.{setupHeld};
 ghost use Rattle.sound_test.specs.Setup.{handlersTest, functionTest, hookTest, longTest};
 use model::program::Costs;

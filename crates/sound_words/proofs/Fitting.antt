@@ -18,10 +18,10 @@ use Rattle.soundness.proofs.Sound.{facts}
 use Rattle.tables.specs.Sizes.{setupWords, setupSize}
 use Rattle.memory.specs.Memory.{Lent, Room}
 use Rattle.memory.specs.declared.machine.Machine.{Machine}
-use Rattle.words.specs.Sizes.{SetupFits}
-use Rattle.words.specs.Words.{sizesOf}
-use Rattle.words.specs.Decode.{setupOf}
-use Rattle.words.proofs.Widest.{held-fits}
+use Rattle.memory.specs.Sizes.{SetupFits}
+use Rattle.memory.specs.Words.{sizesOf}
+use Rattle.memory.specs.Decode.{setupOf}
+use Rattle.memory.proofs.Widest.{held-fits}
 use Rattle.sound.specs.Words.{same, setupHeld, roomOk, countsOk}
 use Rattle.sound.proofs.Held.{same-true}
 use Rattle.sound.proofs.Passed.{Counts, room-of, counts-of}

@@ -28,8 +28,8 @@ use Rattle.tables.specs.Sizes.{framesSize}
 use Rattle.memory.specs.Rows.{Row, owns, savedBy}
 use Rattle.memory.specs.Memory.{Lent}
 use Rattle.memory.specs.declared.machine.Sizes.{Sizes}
-use Rattle.words.specs.Words.{sizesOf}
-use Rattle.words.specs.Decode.{coreOf, restOf, objectOf}
+use Rattle.memory.specs.Words.{sizesOf}
+use Rattle.memory.specs.Decode.{coreOf, restOf, objectOf}
 use Rattle.sound.specs.Words.{restOk, framesHeld, fitsRow}
 use Rattle.sound.proofs.Held.{length-piled, piled-take}
 use Rattle.sound.proofs.Rowed.{regs-long}

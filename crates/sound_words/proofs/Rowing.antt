@@ -26,8 +26,8 @@ use Rattle.memory.specs.Rows.{owns, savedBy, rowAt}
 use Rattle.memory.specs.Memory.{Lent}
 use Rattle.memory.specs.declared.machine.Sizes.{Sizes}
 use Rattle.memory.proofs.Rows.{nobody, held-at, row-is}
-use Rattle.words.specs.Words.{sizesOf}
-use Rattle.words.specs.Decode.{objectOf, objectsOf}
+use Rattle.memory.specs.Words.{sizesOf}
+use Rattle.memory.specs.Decode.{objectOf, objectsOf}
 use Rattle.sound.specs.Words.{restOk, framesHeld, fitsRow, savedStackHeld, savedFramesHeld}
 use Rattle.sound_test.proofs.Named.{at-mapped}
 use Rattle.sound_test.proofs.Deciding.{filled}

@@ -23,8 +23,8 @@ use Rattle.soundness.proofs.Point.{coroIn}
 use Rattle.soundness.proofs.Slots.{SlotOk}
 use Rattle.tables.specs.Sizes.{framesSize}
 use Rattle.memory.specs.Memory.{Lent}
-use Rattle.words.specs.Words.{sizesOf}
-use Rattle.words.specs.Decode.{objectOf, objectsOf}
+use Rattle.memory.specs.Words.{sizesOf}
+use Rattle.memory.specs.Decode.{objectOf, objectsOf}
 use Rattle.sound_test.specs.Queue.{byCoro}
 use Rattle.sound_test.proofs.Named.{test-same}
 use Rattle.sound_test.proofs.Deciding.{filled, each-same}

@@ -33,8 +33,8 @@ use Rattle.tables.specs.Sizes.{setupWords, savedStackSize, savedFramesSize}
 use Rattle.memory.specs.Told.{outcomeIn}
 use Rattle.memory.specs.Memory.{Lent, Room}
 use Rattle.memory.specs.declared.machine.Machine.{Machine}
-use Rattle.words.specs.Words.{sizesOf}
-use Rattle.words.specs.Decode.{setupOf, objectOf, objectsOf, worldOf}
+use Rattle.memory.specs.Words.{sizesOf}
+use Rattle.memory.specs.Decode.{setupOf, objectOf, objectsOf, worldOf}
 use Rattle.sound.specs.Words.{same, restOk, setupHeld, outcomeHeld, framesHeld, chainHeld, slotsHeld, fitsRow, soundWords}
 use Rattle.sound.proofs.Held.{length-piled}
 use Rattle.sound.proofs.Passed.{Counts, Passed, room-of, counts-of, passed, passes}

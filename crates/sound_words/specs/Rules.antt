@@ -18,7 +18,7 @@ use Rattle.model.specs.Sound.{outcomeRange, fuelOk}
 use Rattle.model.specs.declared.machine.Fuel.{Fuel}
 use Rattle.memory.specs.Memory.{Lent}
 use Rattle.memory.specs.declared.machine.Machine.{Machine}
-use Rattle.words.specs.Decode.{worldOf}
+use Rattle.memory.specs.Decode.{worldOf}
 use Rattle.sound.specs.Words.{outcomeHeld, soundWords}
 use Rattle.sound_words.specs.Numbers.{outcomeTest, fuelTest}
 use Rattle.sound_words.specs.Whole.{wholeTest}

@@ -13,7 +13,7 @@ use Rattle.model.specs.Frames.{topBase}
 use Rattle.tables.specs.Layout.{frameOf}
 use Rattle.tables.specs.Parts.{piled}
 use Rattle.memory.specs.declared.machine.Sizes.{Sizes}
-use Rattle.words.specs.Decode.{setupOf}
+use Rattle.memory.specs.Decode.{setupOf}
 use Rattle.sound.specs.Words.{restOk}
 use Rattle.sound_test.specs.Frames.{savedFramesOk, Catches}
 

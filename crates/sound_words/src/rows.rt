@@ -4,7 +4,7 @@ ghost use mathlib.Core.Bool.{_||_};
 ghost use Prim.Native.Nat.{ℕ, _<_};
 ghost use lib.Dec.{eqb};
 ghost use Rattle.heap.specs.Heap.{SlotFits};
-ghost use Rattle.words.specs.Decode.{setupOf};
+ghost use Rattle.memory.specs.Decode.{setupOf};
 ghost use Rattle.sound_test.specs.Queue.{bitAt, inSet};
 ghost use Rattle.sound_words.specs.Rows.{coroRow, slotRow, heldBit, rowFree, freeTest, rowsTest, RowsFit, SlotsFit, FreeFits};
 use crate::running::in_set;

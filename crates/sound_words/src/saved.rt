@@ -4,7 +4,7 @@ ghost use mathlib.Core.Bool.{_&&_};
 ghost use Prim.Native.Nat.{_+_, _*_, _≤_, _<_};
 ghost use lib.ListN.{length};
 ghost use Rattle.lists.specs.Chunks.{chunkAt};
-ghost use Rattle.words.specs.Decode.{setupOf};
+ghost use Rattle.memory.specs.Decode.{setupOf};
 ghost use Rattle.sound.specs.Words.{restOk};
 ghost use Rattle.sound_test.specs.Frames.{savedFramesOk, FramesFit};
 ghost use Rattle.sound_words.specs.Saved.{sizesIn, waitsIn, framesIn, coroTest, RowFits, SavedFits};

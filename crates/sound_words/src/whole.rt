@@ -1,6 +1,6 @@
 // Whether lent words, numbers and fuel are a sound machine's. 01: "Outer calls test this".
 ghost use mathlib.Core.Path.{_≡_};
-ghost use Rattle.words.specs.Decode.{setupOf};
+ghost use Rattle.memory.specs.Decode.{setupOf};
 ghost use Rattle.sound.specs.Words.{soundWords};
 ghost use Rattle.sound_test.specs.Room.{SizesFit};
 ghost use Rattle.sound_words.specs.Whole.{lentOf, numbersTest, towerTest, objectsTest, queuesTest, TowerFits, ObjectsFit, QueuesFit};
@@ -143,7 +143,7 @@ pub fn sound_words(
     if !setup_held(setup) {
         return false;
     }
-    let l = words::sizes::sizes(setup);
+    let l = memory::sizes::sizes(setup);
     if !numbers_ok(
         l,
         stack.len(),

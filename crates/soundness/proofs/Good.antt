@@ -19,7 +19,7 @@ use Rattle.model.specs.Gate.{inFrame}
 use Rattle.model.specs.Answer.{numberOf}
 use Rattle.model.specs.Sound.{liesUnder}
 use Rattle.model.specs.declared.machine.Frame.{Frame}
-use Rattle.model.specs.declared.coro.Made.{Made}
+use Rattle.model.specs.declared.coro.WordOr.{WordOr}
 use Rattle.model.specs.declared.coro.Entered.{Entered}
 use Rattle.model.specs.declared.coro.Suspension.{Suspension}
 use Rattle.model.specs.declared.coro.AutoKey.{AutoKey}
@@ -43,9 +43,9 @@ then-good {o = o} g h f = f (o .world) (o .answer) (h .sound) (h .fact)
 abbrev pub fine : Fault → Bool
 fine f = not (eqb (Faults.numberOf f) 11)
 
-abbrev pub madeFine : Made → Bool
-madeFine (Made.Word v) = true
-madeFine (Made.Refused f) = fine f
+abbrev pub madeFine : WordOr → Bool
+madeFine (WordOr.Word v) = true
+madeFine (WordOr.Refused f) = fine f
 
 abbrev pub enteredFine : Entered → Bool
 enteredFine Entered.Fresh = true

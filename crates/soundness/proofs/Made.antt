@@ -13,7 +13,7 @@ use Rattle.model.specs.World.{World}
 use Rattle.model.specs.Frames.{reg}
 use Rattle.model.specs.Heap.{object, notA}
 use Rattle.model.specs.Exec.{window, indirectTo, indirect, keyAt, keyExact, autoKey}
-use Rattle.model.specs.declared.coro.Made.{Made}
+use Rattle.model.specs.declared.coro.WordOr.{WordOr}
 use Rattle.model.specs.declared.coro.AutoKey.{AutoKey}
 use Rattle.soundness.proofs.Tests.{picked}
 use Rattle.soundness.proofs.Sound.{Sound}
@@ -42,9 +42,9 @@ pub record Keyed (w u : World) (k : AutoKey) : Type 0 where
   pub still : Still w u
   pub fine : keyFine k ≡ true
 
-key-at : {ex : Bool} (n : ℕ) (w u : World) (m : Made) → Sound ex u → Making w u m → Good ex (Keyed w) (keyAt n u m)
-key-at n w u (Made.Word k) h p = good h (record { still = p .still; fine = refl })
-key-at n w u (Made.Refused f) h p = good h (record { still = p .still; fine = p .fine })
+key-at : {ex : Bool} (n : ℕ) (w u : World) (m : WordOr) → Sound ex u → Making w u m → Good ex (Keyed w) (keyAt n u m)
+key-at n w u (WordOr.Word k) h p = good h (record { still = p .still; fine = refl })
+key-at n w u (WordOr.Refused f) h p = good h (record { still = p .still; fine = p .fine })
 
 pub auto-good : {ex : Bool} (largest : ℕ) (w : World) → Sound ex w → Good ex (Keyed w) (autoKey largest w)
 unfolding autoKey

@@ -26,7 +26,7 @@ use Rattle.model.specs.Rows.{heldRows, lowestFree, freeRow, rowsFull}
 use Rattle.model.specs.Coro.{newRegs, newCore, newRest, coroCreate}
 use Rattle.model.specs.Sound.{runs, widest, rowWords}
 use Rattle.model.specs.declared.machine.Cont.{Cont}
-use Rattle.model.specs.declared.coro.Made.{Made}
+use Rattle.model.specs.declared.coro.WordOr.{WordOr}
 use Rattle.heap.specs.declared.heap.ResultKind.{ResultKind}
 use Rattle.soundness.proofs.Tests.{both, or-second, picked}
 use Rattle.soundness.proofs.Stand.{Fits, Lifts, l-body, last-of, over-of, widths-saved}
@@ -39,14 +39,14 @@ use Rattle.soundness.proofs.Coros.{seq-sound}
 use Rattle.soundness.proofs.Good.{Good, good, madeFine, Still, still}
 
 -- what was made: the stack and frames stand, and no refusal is 11
-pub record Making (w u : World) (m : Made) : Type 0 where
+pub record Making (w u : World) (m : WordOr) : Type 0 where
   pub still : Still w u
   pub fine : madeFine m ≡ true
 
-pub refusing : {ex : Bool} (w : World) (f : Fault) → Sound ex w → madeFine (Made.Refused f) ≡ true → Good ex (Making w) (refuse w f)
+pub refusing : {ex : Bool} (w : World) (f : Fault) → Sound ex w → madeFine (WordOr.Refused f) ≡ true → Good ex (Making w) (refuse w f)
 refusing w f h e = good h (record { still = still w; fine = e })
 
-pub making-from : {ex : Bool} {w u : World} {o : After Made} → Still w u → Good ex (Making u) o → Good ex (Making w) o
+pub making-from : {ex : Bool} {w u : World} {o : After WordOr} → Still w u → Good ex (Making u) o → Good ex (Making w) o
 making-from k g =
     let z = g .fact .still in
     record {

@@ -1,6 +1,6 @@
 -- `push_frame` meets its contract, refused or done. Assumes nothing.
 use mathlib.Core.Path.{sym, ap, _∙_, subst}
-use Rattle.model.specs.declared.coro.Made.{Made}
+use Rattle.model.specs.declared.coro.WordOr.{WordOr}
 use Rattle.memory.specs.Memory.{Lent, Beside, onStack, onFrames, onSetup}
 use Rattle.memory.specs.Contract.{Does}
 use Prim.Native.Nat.{_+_, _^_, _<_}
@@ -62,7 +62,7 @@ returns-2 c =
     λ w b rep snd. let q = start .pre .ok .room .stack in
     let z = start .pre .ok .rep .sizes .stack in
     subst (λ z. Does (start .args .l) (pushFrame (start .args .f) (start .args .closure) (start .args .cont) w) (onFrames (at-push-frame .push-frame .last .0)
-    (mem start b)) z (b .fuel) (Made.Word (start .args .m .height))) (sym (c .grown .ensures ∙ ap (pushed (start .args .m)) (at-regs-at .regs-at .ensures)))
+    (mem start b)) z (b .fuel) (WordOr.Word (start .args .m .height))) (sym (c .grown .ensures ∙ ap (pushed (start .args .m)) (at-regs-at .regs-at .ensures)))
     (push-done (start .args .l) w (mem start b) (start .args .m) (b .fuel) rep snd (start .args .f) (start .pre .function) (start .args .closure)
     (start .args .cont) (omega arith) (ap (overflowing (start .args .m) (start .args .l)) (sym (at-regs-at .regs-at .ensures))
     ∙ sym (at-overflows .overflows .ensures) ∙ at-if1 .if1 .left) _ (at-push-frame .push-frame .ensures))

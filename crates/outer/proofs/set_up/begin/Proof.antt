@@ -4,7 +4,7 @@ use mathlib.Core.Bool.{true}
 use native.Mathlib.Omega.{arith}
 use Rattle.memory.specs.Memory.{Lent}
 use Rattle.memory.specs.Lendings.{plain}
-use Rattle.words.specs.Sizes.{SetupFits}
+use Rattle.memory.specs.Sizes.{SetupFits}
 use Rattle.outer.specs.State.{nine}
 use Rattle.outer.proofs.Begun.{given-fits, is-held, own-part, fits, begun}
 use borrow.Author.Needs.{needs}

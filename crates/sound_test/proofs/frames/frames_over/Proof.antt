@@ -3,7 +3,7 @@ use mathlib.Core.Path.{_≡_, refl, sym, ap, _∙_}
 use Prim.Native.Nat.{_-_, _≤_}
 use native.Mathlib.Omega.{arith}
 use borrow.Author.Tests.{not-true, not-false}
-use Rattle.words.specs.Decode.{setupOf}
+use Rattle.memory.specs.Decode.{setupOf}
 use Rattle.sound_test.specs.Frames.{framesTest}
 use Rattle.sound_test.proofs.Tower.{frames-stop, frames-more, frames-end}
 use Rattle.sound_test.proofs.frames.frames_over.Statement.{statement}

@@ -1,6 +1,6 @@
 -- `stack_frames_ok` meets its contract. Assumes nothing.
 use borrow.Author.Tests.{not-true, not-false}
-use Rattle.words.specs.Decode.{setupOf}
+use Rattle.memory.specs.Decode.{setupOf}
 use Rattle.sound_test.proofs.Bools.{first-fails, second-decides}
 use Rattle.sound_test.proofs.Tower.{stack-frames}
 use borrow.Author.Needs.{needs}

@@ -1,7 +1,7 @@
 -- `coro_row` meets its contract, by what the coroutine's test and its state say. Assumes nothing.
 use mathlib.Core.Path.{sym, _∙_}
 use borrow.Author.Tests.{not-true, not-false}
-use Rattle.words.specs.Decode.{setupOf}
+use Rattle.memory.specs.Decode.{setupOf}
 use Rattle.sound_test.specs.Queue.{inSet}
 use Rattle.sound_words.proofs.Coros.{bad-coro, no-row, not-chained, chained-row, asleep-row}
 use borrow.Author.Needs.{needs}

@@ -1,7 +1,7 @@
 -- `rows_ok` meets its contract: the slots from i on passed, and the set has their rows. Assumes nothing.
 use mathlib.Core.Path.{sym, _∙_}
 use native.Mathlib.Omega.{arith}
-use Rattle.words.specs.Decode.{setupOf}
+use Rattle.memory.specs.Decode.{setupOf}
 use Rattle.sound_test.specs.Queue.{inSet}
 use Rattle.sound_words.proofs.Holding.{Held, begin, refuses, twice, next, end}
 use Rattle.sound_words.proofs.rows.rows_ok.Statement.{statement}

@@ -1,6 +1,6 @@
 -- `slot_row` meets its contract, by what the slot holds. Assumes nothing.
 use mathlib.Core.Path.{sym, ap, _∙_}
-use Rattle.words.specs.Decode.{setupOf}
+use Rattle.memory.specs.Decode.{setupOf}
 use Rattle.sound_test.specs.Queue.{inSet}
 use Rattle.sound_words.specs.Rows.{objectRow}
 use borrow.Author.Needs.{needs}

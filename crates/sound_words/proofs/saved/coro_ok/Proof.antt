@@ -4,7 +4,7 @@ use native.Mathlib.Omega.{arith}
 use Prim.Native.Nat.{_*_}
 use lib.ListN.{length}
 use borrow.Author.Tests.{not-true, not-false, ne-eqb, eq-eqb, lt-ltb, le-ltb}
-use Rattle.words.specs.Decode.{setupOf}
+use Rattle.memory.specs.Decode.{setupOf}
 use Rattle.sound_test.proofs.Bools.{three-1, three-2, three-3}
 use Rattle.sound_words.proofs.Coros.{row-inside, sizes-stop, ended, live, frames-few}
 use borrow.Author.Needs.{needs}

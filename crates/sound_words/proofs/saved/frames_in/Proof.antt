@@ -1,7 +1,7 @@
 -- `frames_in` meets its contract, by the coroutine's state. Assumes nothing.
 use mathlib.Core.Path.{sym, _∙_}
 use borrow.Author.Needs.{needs}
-use Rattle.words.specs.Decode.{setupOf}
+use Rattle.memory.specs.Decode.{setupOf}
 use Rattle.sound_words.proofs.Waiting.{resumable-frames, has-frames, has-regs, has-none}
 use Rattle.sound_words.proofs.saved.frames_in.Statement.{statement}
 use Rattle.sound_words.proofs.saved.frames_in.Tie as tie

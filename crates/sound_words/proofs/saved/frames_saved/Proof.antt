@@ -2,7 +2,7 @@
 use mathlib.Core.Path.{refl, sym, _∙_}
 use borrow.Author.Tests.{not-true, not-false}
 use borrow.Author.Needs.{needs}
-use Rattle.words.specs.Decode.{setupOf}
+use Rattle.memory.specs.Decode.{setupOf}
 use Rattle.sound_test.proofs.Bools.{first-fails, second-decides}
 use Rattle.sound_words.proofs.Waiting.{some-frame}
 use Rattle.sound_words.proofs.saved.frames_saved.Statement.{statement}

@@ -5,8 +5,8 @@ use lib.ListN.{length}
 use borrow.Author.Tests.{not-true, not-false}
 use Rattle.memory.specs.Memory.{Lent}
 use Rattle.memory.specs.declared.machine.Sizes.{Sizes}
-use Rattle.words.specs.Words.{sizesOf}
-use Rattle.words.specs.Decode.{setupOf}
+use Rattle.memory.specs.Words.{sizesOf}
+use Rattle.memory.specs.Decode.{setupOf}
 use Rattle.sound.specs.Words.{setupHeld}
 use Rattle.sound_test.specs.Room.{SizesFit}
 use Rattle.sound_words.specs.Whole.{lentOf, numbersTest, objectsTest, ObjectsFit}

@@ -1,8 +1,8 @@
 -- `sizes` meets its contract. Assumes nothing.
 use borrow.Author.Needs.{needs}
-use Rattle.words.proofs.Widest.{told}
-use Rattle.words.proofs.sizes.sizes.Statement.{statement}
-use Rattle.words.proofs.sizes.sizes.Tie as tie
+use Rattle.memory.proofs.Widest.{told}
+use Rattle.memory.proofs.sizes.sizes.Statement.{statement}
+use Rattle.memory.proofs.sizes.sizes.Tie as tie
 
 limits-requires : tie.Need-limits-requires
 limits-requires c κs = search needs

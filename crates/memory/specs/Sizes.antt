@@ -7,9 +7,9 @@ use lib.ListN.{length, getD}
 use Rattle.lists.specs.Parts.{pad}
 use Rattle.model.specs.Program.{Setup, setupOk}
 use Rattle.tables.specs.Sizes.{setupWords}
 use Rattle.memory.specs.declared.machine.Sizes.{Sizes}
-use Rattle.words.specs.Words.{sizesOf}
-use Rattle.words.specs.Decode.{setupOf}
+use Rattle.memory.specs.Words.{sizesOf}
+use Rattle.memory.specs.Decode.{setupOf}
 
 -- words enough for the numbers, and for as many functions as they say
 pub record SetupFits (ws : List ℕ) : Type 0 where

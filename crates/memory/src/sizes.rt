@@ -2,9 +2,9 @@
 ghost use mathlib.Core.Path.{_≡_};
 ghost use Prim.Native.Nat.{max};
 ghost use Rattle.model.specs.Sound.{rowWords};
-ghost use Rattle.words.specs.Decode.{setupOf};
-ghost use Rattle.words.specs.Sizes.{SetupFits, SizesTold};
-use memory::machine::Sizes;
+ghost use Rattle.memory.specs.Decode.{setupOf};
+ghost use Rattle.memory.specs.Sizes.{SetupFits, SizesTold};
+use crate::machine::Sizes;
 
 fn larger(a: usize, b: usize) -> usize
     ensures { λ r. ⌜ r ≡ max a b ⌝ }

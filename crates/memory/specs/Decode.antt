@@ -18,11 +18,11 @@ use Rattle.model.specs.declared.machine.Fuel.{Fuel}
 use Rattle.tables.specs.Layout.{frameOf, activeOf, functionIn}
 use Rattle.tables.specs.Parts.{piled}
 use Rattle.tables.specs.Sizes.{limitsOf, costsOf, hookOf, framesSize}
 use Rattle.memory.specs.Told.{outcomeIn}
 use Rattle.memory.specs.Memory.{Lent, tabled, Rep}
 use Rattle.memory.specs.declared.machine.Machine.{Machine}
 use Rattle.memory.specs.declared.machine.Sizes.{Sizes}
-use Rattle.words.specs.Words.{sizesOf, lengthsOf, wordsIn, wordsOf, numbersOf}
+use Rattle.memory.specs.Words.{sizesOf, lengthsOf, wordsIn, wordsOf, numbersOf}
 
 -- ---- the set-up
 

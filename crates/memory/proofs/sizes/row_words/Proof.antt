@@ -5,10 +5,10 @@ use native.Mathlib.Omega.{arith}
 use borrow.Author.Needs.{needs}
 use lib.ListN.{getD}
 use Rattle.model.specs.Sound.{rowWords}
-use Rattle.words.specs.Decode.{setupOf}
-use Rattle.words.proofs.Widest.{widestIn, start, more, end}
-use Rattle.words.proofs.sizes.row_words.Statement.{statement}
-use Rattle.words.proofs.sizes.row_words.Tie as tie
+use Rattle.memory.specs.Decode.{setupOf}
+use Rattle.memory.proofs.Widest.{widestIn, start, more, end}
+use Rattle.memory.proofs.sizes.row_words.Statement.{statement}
+use Rattle.memory.proofs.sizes.row_words.Tie as tie
 
 abbrev Inv-loop : tie.InvT-loop
 Inv-loop setup n most₀ i₀ most i = (i ≤ n) × (max most (widestIn setup i (n - i)) ≡ rowWords (setupOf setup))

@@ -28,12 +28,12 @@ use Rattle.tables.proofs.Codes.{length-frame}
 use Rattle.tables.proofs.Parts.{length-upward}
 use Rattle.tables.proofs.Rowed.{rows-part}
 use Rattle.tables.proofs.Fits.{saved-back}
 use Rattle.memory.specs.Slots.{toCoro, toObject, toSlots}
 use Rattle.memory.specs.Rows.{owns, savedBy, rowAt}
 use Rattle.memory.specs.Memory.{Lent, regsRows, framesRows}
 use Rattle.memory.proofs.Rows.{held-at, row-is}
 use Rattle.memory.proofs.Tables.{rows-at, length-tabled}
-use Rattle.words.specs.Decode.{coreOf, objectOf, objectsOf}
+use Rattle.memory.specs.Decode.{coreOf, objectOf, objectsOf}
 
 -- ---- nothing is saved for a finished one
 

@@ -8,8 +8,8 @@ use Rattle.model.specs.World.{fresh}
 use Rattle.model.specs.Compute.{computed}
 use Rattle.model.specs.Example.{example, reached}
 use Rattle.model.specs.Examples.{twoFrames}
 use Rattle.memory.specs.Memory.{Lent}
-use Rattle.words.specs.Words.{wordsOf}
+use Rattle.memory.specs.Words.{wordsOf}
 
 -- the words after P1's first calls
 abbrev sample : Lent

@@ -25,17 +25,17 @@ use Rattle.tables.specs.Sizes.{setupWords}
 use Rattle.tables.proofs.Padded.{take-pad}
 use Rattle.tables.proofs.Setups.{limits-back, costs-back, hook-back, functions-count, function-at}
 use Rattle.tables.proofs.Decode.{frames-back, chain-back}
 use Rattle.memory.specs.Slots.{toSlot, toSlots}
 use Rattle.memory.specs.Told.{outcomeIn}
 use Rattle.memory.specs.Memory.{Lent, Rep}
 use Rattle.memory.specs.declared.machine.Machine.{Machine}
 use Rattle.memory.specs.declared.machine.Sizes.{Sizes}
 use Rattle.memory.proofs.Told.{told-back}
 use Rattle.memory.proofs.Tables.{slots-are, rows-at, length-tabled}
-use Rattle.words.specs.Words.{sizesOf, lengthsOf, wordsIn, numbersOf}
-use Rattle.words.specs.Decode.{functionsOf, setupOf, objectsOf, worldOf, SoundWords, OneWorld}
-use Rattle.words.proofs.Encoded.{every-world}
-use Rattle.words.proofs.Saved.{objects-back}
+use Rattle.memory.specs.Words.{sizesOf, lengthsOf, wordsIn, numbersOf}
+use Rattle.memory.specs.Decode.{functionsOf, setupOf, objectsOf, worldOf, SoundWords, OneWorld}
+use Rattle.memory.proofs.Encoded.{every-world}
+use Rattle.memory.proofs.Saved.{objects-back}
 
 -- ---- the set-up
 

@@ -29,14 +29,14 @@ use Rattle.tables.proofs.Codes.{length-frame, length-active, length-function}
 use Rattle.tables.proofs.Padded.{length-pad}
 use Rattle.tables.proofs.Parts.{run-of, piled-of}
 use Rattle.tables.proofs.Rowed.{rows-of}
 use Rattle.memory.specs.Slots.{toSlot, toSlots}
 use Rattle.memory.specs.Rows.{rowAt}
 use Rattle.memory.specs.Memory.{Lent, Beside, Slots, regsRows, framesRows, Rep, Room}
 use Rattle.memory.specs.Lendings.{lent}
 use Rattle.memory.specs.Contract.{Ok, only}
 use Rattle.memory.proofs.Tables.{length-tabled}
 use Rattle.memory.proofs.Few.{queue-few}
-use Rattle.words.specs.Words.{sizesOf, Lengths, lengthsOf, needed, wordsIn, wordsOf, numbersOf, besideOf, Encoded, EveryWorld}
+use Rattle.memory.specs.Words.{sizesOf, Lengths, lengthsOf, needed, wordsIn, wordsOf, numbersOf, besideOf, Encoded, EveryWorld}
 
 -- ---- lengths
 

@@ -13,13 +13,13 @@ use Rattle.model.specs.declared.program.Costs.{Costs}
 use Rattle.tables.specs.Layout.{functionIn}
 use Rattle.tables.specs.Sizes.{setupWords, limitsOf, costsOf}
 use Rattle.tables.proofs.Setups.{functions-in}
 use Rattle.memory.specs.Memory.{tabled, Sized}
 use Rattle.memory.specs.declared.machine.Sizes.{Sizes}
-use Rattle.words.specs.Words.{sizesOf}
-use Rattle.words.specs.Decode.{setupOf}
-use Rattle.words.specs.Sizes.{SetupFits, SizesTold}
-use Rattle.words.proofs.Encoded.{length-setup}
-use Rattle.words.proofs.Decoded.{setup-is}
+use Rattle.memory.specs.Words.{sizesOf}
+use Rattle.memory.specs.Decode.{setupOf}
+use Rattle.memory.specs.Sizes.{SetupFits, SizesTold}
+use Rattle.memory.proofs.Encoded.{length-setup}
+use Rattle.memory.proofs.Decoded.{setup-is}
 
 -- the widest of the n functions from i on
 abbrev pub widestIn : List ℕ → ℕ → ℕ → ℕ

@@ -1,4 +1,0 @@
-pub mod Encoded
-pub mod Saved
-pub mod Decoded
-pub mod Widest

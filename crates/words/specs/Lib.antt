@@ -1,4 +1,0 @@
-pub mod Words
-pub mod Decode
-pub mod Sizes
-pub mod Sample
