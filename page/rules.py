@@ -2,7 +2,7 @@
 """Checks docs/RULES.md and docs/ASSURANCE.md against the sources, so that neither can rot:
 each file and name that a row of RULES names is there; a sentence is marked as quoted exactly if a comment of its definition's file quotes it;
 every quotation in a comment of crates/ is 01's, or is listed as another's; the places and counts of ASSURANCE are those of today.
-README's layout is crates.txt's. `page/rules.py mend` writes places and counts into ASSURANCE, and the marks into RULES."""
+README's layout is crates.txt's. No file of specs/ or src/ cites one of proofs/, so that what is to be believed stands in specs/. `page/rules.py mend` writes places and counts into ASSURANCE, and the marks into RULES."""
 import re
 import sys
 from pathlib import Path
@@ -222,6 +222,17 @@ def check_fields():
     print(f"rules: {count} fields named in the papers")
 
 
+def check_cited():
+    """What a contract or a definition says rests on no file of proofs/."""
+    count = 0
+    for path in [*ROOT.glob("crates/*/specs/**/*.antt"), *ROOT.glob("crates/*/src/**/*.rt")]:
+        count += 1
+        if found := re.search(r"^(?:pub |ghost )?use Rattle·\S*\bproofs\b.*$", path.read_text(), re.M):
+            say(f"{path.relative_to(ROOT)} cites proofs/: {found.group()}")
+    print(f"rules: {count} files of specs/ and src/ cite none of proofs/" if not failed else f"rules: {count} files of specs/ and src/")
+
+
+check_cited()
 check_layout()
 check_names("docs/PROVING.md")
 check_fields()
