@@ -180,10 +180,8 @@ def said():
 
 def of_c(archive):
     """The functions that an archive takes from elsewhere, by `nm`."""
-    if not (archive.exists() and shutil.which("nm")):
-        return None
-    run = subprocess.run(["nm", "-u", archive], capture_output=True, text=True)
-    return ", ".join(f"`{name}`" for name in sorted(set(re.findall(r"^\s+U (\w+)$", run.stdout, re.M))))
+    names = re.findall(r"^\s+U (\w+)$", "\n" + printed("nm", "-u", str(archive)), re.M) if archive.exists() else []
+    return ", ".join(f"`{name}`" for name in sorted(set(names)))
 
 
 def wake():
@@ -202,9 +200,16 @@ def wake():
         return (run.stdout, None) if run.returncode == 0 else (None, run.stderr.strip())
 
 
-def git(*words):
-    run = subprocess.run(["git", *words], cwd=ROOT, capture_output=True, text=True)
+def printed(*words):
+    """What a command prints, or nothing where it is not there or fails."""
+    if not shutil.which(words[0]):
+        return ""
+    run = subprocess.run(words, cwd=ROOT, capture_output=True, text=True)
     return run.stdout.strip() if run.returncode == 0 else ""
+
+
+def git(*words):
+    return printed("git", *words)
 
 
 # ---- the page
@@ -289,6 +294,8 @@ def main():
             rows.append(["the static library, of C", taken])
         if len(rows) > 1:
             parts.append(html_table(rows))
+        if kit := printed("rt", "version"):
+            parts.append(f"<p>The toolchain here is <code>{escape(kit)}</code>; its logic's sum stands in each verdict.</p>")
         parts.append("<p class=faint>The line of the verdict, as the logs have it, without counts:</p><pre>" + "\n".join(sorted({escape(re.sub(r"functions=\d+ (axioms=\d+ )?", "", one[1])) for one in done})) + "</pre>")
     else:
         parts.append(absent("what is assumed, as target/log is not there"))
