@@ -130,7 +130,7 @@ suspends c w k g = go (next w k) (step-case w k) (h .after)
     go z (Claim.does o e) a =
         let s = suspended-one c (shape w (o .op)) (run-susp (coreAt w c .state) (h .before)) a in
         let q : aimsTo (act w (o .op)) ≡ true = ap aimsTo (s .by) in
-        let n : okNumber (numberOf (step w (Do o) .answer)) ≡ true = ap (λ x. okNumber (numberOf x)) (number-sound w o e) ∙ call-number w e (o .op) q ∙ s .says .takes in
+        let n : okNumber (numberOf (step w (Do o) .answer)) ≡ true = ap (λ x. okNumber (numberOf x)) (number-sound w o e) ∙ call-number w e (o .op) q .ok ∙ s .says .takes in
         susp-aims w (numberOf (step w (Do o) .answer)) q (says-alike w (o .op)) ∙ picked n (ap inmost (s .suspend .inmost) ∙ ap {B = Option ℕ} some (sym (s .its-own)))
       where
         picked : {b : Bool} {x : Option ℕ} → b ≡ true → x ≡ some c → pick b x none ≡ some c
@@ -148,7 +148,7 @@ suspended-by c w (Do o) h = go (aimsTo (act w (o .op))) refl (sound w) refl
     go false q t e = no-some (susp-not w n q (says-alike w (o .op))) h
     go true q true e =
         let x = pick-some (okNumber n) (inmost (w .chain)) c (sym (susp-aims w n q (says-alike w (o .op))) ∙ h) in
-        let takes : takesBy (act w (o .op)) (suspendsIn (o .op)) w ≡ true = sym (call-number w e (o .op) q) ∙ ap (λ y. okNumber (numberOf y)) (sym (number-sound w o e)) ∙ x .0 in
+        let takes : takesBy (act w (o .op)) (suspendsIn (o .op)) w ≡ true = sym (call-number w e (o .op) q .ok) ∙ ap (λ y. okNumber (numberOf y)) (sym (number-sound w o e)) ∙ x .0 in
         let s = suspends-exactly w (Do o) c (takes-sound w o e ∙ takes) (inmost-old (w .chain) c (x .1)) in
         record { before = is-runs w c ∙ s .before; after = is-sleeps (next w (Do o)) c ∙ s .after }
     go true q false e =

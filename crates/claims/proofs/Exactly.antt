@@ -18,6 +18,7 @@ use Rattle.claims.proofs.Restores as Restores
 use Rattle.claims.proofs.Restores.{enters-old, suspends-old}
 use Rattle.claims.proofs.Untouched.{untouched}
 use Rattle.claims.proofs.Exact.{healthy-sound, no-some, entered, suspends, suspended-by}
+use Rattle.claims.proofs.Heard.{heard}
 use Rattle.claims.proofs.Returned.{returns, returned-by, closed}
 use Rattle.claims.proofs.Losses.{fails-by, failed-by}
 use Rattle.claims.proofs.Values.{integer, word}
@@ -51,6 +52,7 @@ events =
       answered = entry-answers;
       suspends = suspends;
       suspended = suspended-by;
+      heard = heard;
       returns = returns;
       returned = λ c w k h e. returned-by c w k (healthy-sound w h) e;
       fails = fails-by;

@@ -34,6 +34,7 @@ pub mod Failures
 pub mod Unwinds
 pub mod Numbers
 pub mod Exact
+pub mod Heard
 pub mod Losses
 pub mod Returned
 pub mod Values

@@ -167,7 +167,7 @@ module _ (w : World) (n c : ℕ) (m : Roomy steps n c w) where
   await-takes (Do o) pc dst src e l =
       ap (λ x. suspends (numberOf x)) (number-sound w o well)
       ∙ (ap (λ q. suspends (numberOf (call q w .answer))) (some-op e)
-      ∙ (call-number w well (Op.Await pc dst src) refl
+      ∙ (call-number w well (Op.Await pc dst src) refl .ok
       ∙ takes pc (allIn (dst ∷ src ∷ []) w) _ (rw (← base-top (w .frames)) l) (ap
       (λ (cs : List Active). inBody cs (λ _. tries pc CoroState.Awaiting dst (reg (spend w) src) (spend w) Keys.Keep)) (m .held .chain) ∙ accepted (spend w) spent still pc dst
       (reg (spend w) src) CoroState.Awaiting Keys.Keep)))
@@ -178,7 +178,7 @@ module _ (w : World) (n c : ℕ) (m : Roomy steps n c w) where
       let keys : Active → Keys = λ b. Keys.Set (reg (spend w) key) (largerOf (largestIn (coro (spend w) (b .coro))) (dynInt (spend w) (reg (spend w) key))) in
       ap (λ x. suspends (numberOf x)) (number-sound w o well)
       ∙ (ap (λ q. suspends (numberOf (call q w .answer))) (some-op e)
-      ∙ (call-number w well (Op.YieldKv pc dst src key) refl
+      ∙ (call-number w well (Op.YieldKv pc dst src key) refl .ok
       ∙ takes pc (allIn (dst ∷ src ∷ key ∷ []) w) _ (rw (← base-top (w .frames)) l) (ap
       (λ (cs : List Active). inBody cs (λ b. tries pc CoroState.Yielded dst (reg (spend w) src) (spend w) (keys b))) (m .held .chain) ∙ accepted (spend w) spent still pc dst
       (reg (spend w) src) CoroState.Yielded (keys a))))
@@ -247,7 +247,7 @@ module _ (w : World) (n c : ℕ) (m : Roomy steps n c w) where
         go : (y : Exact) → nextKey largest ≡ y → (suspends (numberOf (call (Op.Yield pc dst src) w .answer)) || eqb (numberOf (call (Op.Yield pc dst src) w .answer)) 7) ≡ true
         go (Exact.Fits k) q =
             first (suspends (numberOf (call (Op.Yield pc dst src) w .answer))) _
-            (call-number w well (Op.Yield pc dst src) refl
+            (call-number w well (Op.Yield pc dst src) refl .ok
             ∙ takes pc (allIn (dst ∷ src ∷ []) w) _ ok (ap
             (λ (cs : List Active). inBody cs (λ b. keyed (tries pc CoroState.Yielded dst (reg (spend w) src)) (autoKey (largestIn (coro (spend w) (b .coro))) (spend w) .world) (autoKey (largestIn (coro (spend w) (b .coro))) (spend w) .answer)))
             (m .held .chain) ∙ key-made pc dst (reg (spend w) src) k q))

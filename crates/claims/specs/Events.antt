@@ -64,6 +64,18 @@ isAwait (finishes kind x) = false
 isAwait (raises f pc) = false
 isAwait other = false
 
+-- what a suspension answers, by driver, whether it is an Await, and whether the coroutine was being closed. 01: "an Await there is 2, after
+-- suspending"; "A yield while closing clears closing and answers 6 to a Resume or iterator driver"
+abbrev pub told : Driver → Bool → Bool → ℕ
+told (Driver.Resume r) await closing = pick await 0 (pick closing 6 0)
+told (Driver.Iter has val iter) await closing = pick await 2 (pick closing 6 0)
+told Driver.Host await closing = 0
+told Driver.Finalize await closing = 0
+
+abbrev pub toldTo : List Active → Bool → Bool → ℕ
+toldTo [] await closing = 0
+toldTo (a ∷ chain) await closing = told (a .driver) await closing
+
 -- ---- returns. 01: "a return if `finish` or `unwind` makes it Returned"
 
 pub record Returns (e : Engine) (c : ℕ) (s : e .State) (k : e .Call) : Type 0 where
@@ -232,6 +244,7 @@ pub record Events (e : Engine) : Type 0 where
   pub answered : (c : ℕ) (s : e .State) (k : e .Call) → Enters e c s k → (b : By (e .view s) (e .op k) c) → e .number s k ≡ answers (is (e .view s) isNew c) (b .sent)
   pub suspends : (c : ℕ) (s : e .State) (k : e .Call) → Suspends e c s k → suspended (e .view s) (doing (e .view s) (e .op k)) (e .number s k) ≡ some c
   pub suspended : (c : ℕ) (s : e .State) (k : e .Call) → suspended (e .view s) (doing (e .view s) (e .op k)) (e .number s k) ≡ some c → Suspends e c s k
+  pub heard : (c : ℕ) (s : e .State) (k : e .Call) → Suspends e c s k → e .number s k ≡ toldTo (e .view s .chain) (isAwait (doing (e .view s) (e .op k))) (seenIn (λ x. x .closing) (e .view s .coro c))
   pub returns : (c : ℕ) (s : e .State) (k : e .Call) → Returns e c s k → returned (e .view s) (doing (e .view s) (e .op k)) (e .number s k) ≡ some c
   pub returned : (c : ℕ) (s : e .State) (k : e .Call) → Healthy e s → returned (e .view s) (doing (e .view s) (e .op k)) (e .number s k) ≡ some c → Returns e c s k
   pub fails : (c : ℕ) (s : e .State) (k : e .Call) → Fails e c s k → Lost (e .view s) (e .number s k) c (e .op k)
