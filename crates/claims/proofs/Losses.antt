@@ -63,23 +63,26 @@ use Rattle.claims.proofs.Bodies.{at-top}
 use Rattle.claims.proofs.Escapes.{AllSeen, Sees}
 use Rattle.claims.proofs.Failures.{unmade, isFailed, Loses, run-fails, AllRun, search-loses}
 use Rattle.claims.proofs.Unwinds.{sees, all-same, push-coros, stored-sees}
-use Rattle.claims.proofs.Exact.{number-sound}
+use Rattle.claims.proofs.Exact.{number-sound, no-some}
 
 -- ---- an unwind
 
-pub record Unwound (w : World) (o : After Answer) (xs : List ℕ) : Type 0 where
+-- what is raised, if anything, and who fails of it
+pub record Unwound (w : World) (o : After Answer) (y : Option ℕ) (xs : List ℕ) : Type 0 where
+  pub made : (x : ℕ) → y ≡ some x → fits w (w .setup .costs .error) ≡ true → slotsFull w ≡ false → unmade (o .answer) ≡ false
   pub gone : (c : ℕ) → unmade (o .answer) ≡ false → among c xs ≡ true → coreAt (o .world) c .state ≡ CoroState.Failed
   pub lost : (c : ℕ) → isRunning (coreAt w c .state) ≡ true → isFailed (coreAt (o .world) c .state) ≡ true → (unmade (o .answer) ≡ false) × (among c xs ≡ true)
 
-by-loses : {w : World} {o : After Answer} {xs : List ℕ} → Loses w o xs → Unwound w o xs
-by-loses {w} {o} {xs} l = record { gone = λ c m h. l .gone c h .1; lost = λ c r f. (l .made, go c r f (among c xs) refl) }
+by-loses : {w : World} {o : After Answer} {y : Option ℕ} {xs : List ℕ} → Loses w o xs → Unwound w o y xs
+by-loses {w} {o} {y} {xs} l = record { made = λ x p q r. l .made; gone = λ c m h. l .gone c h .1; lost = λ c r f. (l .made, go c r f (among c xs) refl) }
   where
     go : (c : ℕ) → isRunning (coreAt w c .state) ≡ true → isFailed (coreAt (o .world) c .state) ≡ true → (b : Bool) → among c xs ≡ b → among c xs ≡ true
     go c r f true e = e
     go c r f false e = no-both f (l .stays c e r)
 
-by-same : {w : World} {o : After Answer} {xs : List ℕ} → ((c : ℕ) → coreAt (o .world) c ≡ coreAt w c) → (unmade (o .answer) ≡ true) ⊎ (xs ≡ []) → Unwound w o xs
-by-same {w} {o} {xs} e u = record { gone = λ c m h. no u c m h; lost = λ c r f. no-both f (ap (λ k. isFailed (k .state)) (e c) ∙ run-fails (coreAt w c .state) r) }
+by-same : {w : World} {o : After Answer} {y : Option ℕ} {xs : List ℕ} → ((c : ℕ) → coreAt (o .world) c ≡ coreAt w c) → (unmade (o .answer) ≡ true) ⊎ (xs ≡ [])
+    → ((x : ℕ) → y ≡ some x → fits w (w .setup .costs .error) ≡ true → slotsFull w ≡ false → ⊥) → Unwound w o y xs
+by-same {w} {o} {y} {xs} e u n = record { made = λ x p q r. absurd (n x p q r); gone = λ c m h. no u c m h; lost = λ c r f. no-both f (ap (λ k. isFailed (k .state)) (e c) ∙ run-fails (coreAt w c .state) r) }
   where
     no : {A : Type 0} → (unmade (o .answer) ≡ true) ⊎ (xs ≡ []) → (c : ℕ) → unmade (o .answer) ≡ false → among c xs ≡ true → A
     no (inl q) c m h = no-both q m
@@ -118,9 +121,10 @@ module _ (w : World) (h : sound w ≡ true) where
   word-loses x (OptPc.Some p) = loses-same (λ c. refl) (frames-lose x (at p (w .frames)) (storePc p w) (stored-sees w h (OptPc.Some p)) (at-top p (w .frames)) refl)
 
   object-at : (f : Fault) (u : World) (fs : List Frame) → u .slots ≡ w .slots → u .setup ≡ w .setup → u .frames ≡ fs → u .chain ≡ w .chain
-      → Unwound w (andThen (alloc (u .setup .costs .error) (errorOf f u) u) searchMade) (lost (viewOf w) (nextWord (w .slots)) fs (w .chain))
+      → fits u (u .setup .costs .error) ≡ fits w (w .setup .costs .error) → slotsFull u ≡ slotsFull w
+      → Unwound w (andThen (alloc (u .setup .costs .error) (errorOf f u) u) searchMade) (some (nextWord (w .slots))) (lost (viewOf w) (nextWord (w .slots)) fs (w .chain))
   unfolding alloc pick
-  object-at f u fs es e p q = go (not (fits u (u .setup .costs .error))) (slotsFull u)
+  object-at f u fs es e p q room slot = go (fits u (u .setup .costs .error)) (slotsFull u) refl refl
     where
       y : World
       y = withUsed (satAdd (u .used) (u .setup .costs .error)) (withSlots (pushObject (u .slots) (errorOf f u)) u)
@@ -137,23 +141,23 @@ module _ (w : World) (h : sound w ≡ true) where
         coros = subst (AllSeen (viewOf w) (y .slots)) (sym q) (all-same (viewOf w) (w .slots) (y .slots) here (w .chain) (sees w h .coros));
       }
 
-      go : (a b : Bool) → Unwound w (andThen (made a b) searchMade) (lost (viewOf w) (nextWord (w .slots)) fs (w .chain))
-      go true b = by-same (λ c. ap (λ xs. coreIn (coroIn xs c)) es) (inl refl)
-      go false true = by-same (λ c. ap (λ xs. coreIn (coroIn xs c)) es) (inl refl)
-      go false false = by-loses (loses-same (λ c. ap coreIn (here c)) (subst (λ xs. Loses y (searchFrames (nextWord (u .slots)) y) (lost (viewOf w) (nextWord xs) fs (w .chain))) es (frames-lose (nextWord (u .slots)) fs y known p q)))
+      go : (a b : Bool) → fits u (u .setup .costs .error) ≡ a → slotsFull u ≡ b → Unwound w (andThen (made (not a) b) searchMade) (some (nextWord (w .slots))) (lost (viewOf w) (nextWord (w .slots)) fs (w .chain))
+      go false b i j = by-same (λ c. ap (λ xs. coreIn (coroIn xs c)) es) (inl refl) (λ x _ has _. no-both (room ∙ has) i)
+      go true true i j = by-same (λ c. ap (λ xs. coreIn (coroIn xs c)) es) (inl refl) (λ x _ _ has. no-both j (slot ∙ has))
+      go true false i j = by-loses (loses-same (λ c. ap coreIn (here c)) (subst (λ xs. Loses y (searchFrames (nextWord (u .slots)) y) (lost (viewOf w) (nextWord xs) fs (w .chain))) es (frames-lose (nextWord (u .slots)) fs y known p q)))
 
-  object-unwound : (f : Fault) (pc : OptPc) → let u = storeSome pc w in Unwound w (andThen (alloc (u .setup .costs .error) (errorOf f u) u) searchMade) (lostAt (viewOf w) (some (nextWord (w .slots))) pc)
-  object-unwound f OptPc.None = object-at f w (w .frames) refl refl refl refl
-  object-unwound f (OptPc.Some p) = object-at f (storePc p w) (at p (w .frames)) refl refl (at-top p (w .frames)) refl
+  object-unwound : (f : Fault) (pc : OptPc) → let u = storeSome pc w in Unwound w (andThen (alloc (u .setup .costs .error) (errorOf f u) u) searchMade) (some (nextWord (w .slots))) (lostAt (viewOf w) (some (nextWord (w .slots))) pc)
+  object-unwound f OptPc.None = object-at f w (w .frames) refl refl refl refl refl refl
+  object-unwound f (OptPc.Some p) = object-at f (storePc p w) (at p (w .frames)) refl refl (at-top p (w .frames)) refl refl refl
 
-  passed : (pc : OptPc) (f : Fault) → Unwound w (after (storeSome pc w) (Answer.Refused f)) []
-  passed OptPc.None f = by-same (λ c. refl) (inr refl)
-  passed (OptPc.Some p) f = by-same (λ c. refl) (inr refl)
+  passed : (pc : OptPc) (f : Fault) → Unwound w (after (storeSome pc w) (Answer.Refused f)) none []
+  passed OptPc.None f = by-same (λ c. refl) (inr refl) (λ x q _ _. no-some refl q)
+  passed (OptPc.Some p) f = by-same (λ c. refl) (inr refl) (λ x q _ _. no-some refl q)
 
-  refused : (f : Fault) → Unwound w (after w (Answer.Refused f)) []
-  refused f = by-same (λ c. refl) (inr refl)
+  refused : (f : Fault) → Unwound w (after w (Answer.Refused f)) none []
+  refused f = by-same (λ c. refl) (inr refl) (λ x q _ _. no-some refl q)
 
-  pub unwound : (f : Fault) (pc : OptPc) → Unwound w (unwind f pc w) (lostAt (viewOf w) (raised (viewOf w) f) pc)
+  pub unwound : (f : Fault) (pc : OptPc) → Unwound w (unwind f pc w) (raised (viewOf w) f) (lostAt (viewOf w) (raised (viewOf w) f) pc)
   unfolding unwind pick
   unwound Fault.None pc = refused Fault.Unsound
   unwound Fault.NullReference pc = object-unwound Fault.NullReference pc

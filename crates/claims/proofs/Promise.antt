@@ -44,7 +44,7 @@ use Rattle.claims.specs.Engine as Engine
 use Rattle.claims.specs.Demand3.{Restarts}
 use Rattle.claims.specs.Events.{Healthy, onBody, raised, raisedAt}
 use Rattle.claims.specs.Promise.{plain, Roomy, Makes, converts, Eleven, sets-up, no-fault, Soundness, Fresh, registers, NotEmpty, Promise}
-use Rattle.claims.specs.Steps.{seenOf, viewOf, opOf, looks, steps}
+use Rattle.claims.specs.Steps.{seenOf, rulesOf, viewOf, opOf, asksOf, looks, steps}
 use Rattle.claims.specs.Story.{wide, f, c, held}
 use Rattle.claims.specs.Premises.{premises}
 use Rattle.claims.specs.Witness.{nth, between, frame}
@@ -55,6 +55,8 @@ use Rattle.claims.proofs.Claim.{fresh-absent}
 use Rattle.claims.proofs.Soundness.{soundness-kept}
 use Rattle.claims.proofs.Finishes.{bodyOn, Unmade, FinishCase, f-other, f-returns, finish-case}
 use Rattle.claims.proofs.Escapes.{Ended, e-works, e-returns}
+use Rattle.claims.proofs.Failures.{unmade}
+use Rattle.claims.proofs.Losses.{unwound}
 use Rattle.claims.proofs.Unwinds.{word-ended}
 use Rattle.claims.proofs.Exact.{healthy-sound, number-sound, no-some}
 use Rattle.claims.proofs.Returned.{on-body}
@@ -208,12 +210,20 @@ finish-step w (Do o) kind x h e p b = ap numberOf (number-sound w o (healthy-sou
 accepts-finish : (w : World) (k : Call) (kind : ResultKind) (x : ℕ) → Healthy steps w → opOf k ≡ some (Op.Finish kind x) → plain kind ≡ true → onBody (w .frames) ≡ true → numberOf (step w k .answer) ≡ 0
 accepts-finish w k kind x h e p b = finish-step w k kind x h e (λ l f q. plain-made kind x w f p q) b
 
-accepts-integer : (w : World) (k : Call) (kind : ResultKind) (x : ℕ) → Healthy steps w → opOf k ≡ some (Op.Finish kind x) → Makes (viewOf w) → converts kind x ≡ true → onBody (w .frames) ≡ true → numberOf (step w k .answer) ≡ 0
+accepts-integer : (w : World) (k : Call) (kind : ResultKind) (x : ℕ) → Healthy steps w → opOf k ≡ some (Op.Finish kind x) → Makes (viewOf w) (w .setup .costs .int) → converts kind x ≡ true → onBody (w .frames) ≡ true → numberOf (step w k .answer) ≡ 0
 accepts-integer w k kind x h e m p b = finish-step w k kind x h e (λ l. can-make w (healthy-sound w h) kind x l p (m .bytes) (m .slot)) b
 
 accepts-escape : (w : World) (k : Call) (x : ℕ) (pc : OptPc) (c : ℕ) → Healthy steps w → opOf k ≡ some (Op.Unwind (Fault.Throw x) pc) → raisedAt (viewOf w) (some x) pc ≡ some c → numberOf (step w k .answer) ≡ 0
 accepts-escape w (SetUp s) x pc c h e q = let z : _≡_ {A = ℕ} 0 1 = cc in absurd (omega arith)
 accepts-escape w (Do o) x pc c h e q = ap numberOf (number-sound w o (healthy-sound w h)) ∙ ap (λ p. numberOf (call p w .answer)) (some-op e) ∙ escape-call x pc w c (healthy-sound w h) q
+
+raise-call : (f : Fault) (pc : OptPc) (w : World) (x : ℕ) → sound w ≡ true → raised (viewOf w) f ≡ some x → Makes (viewOf w) (w .setup .costs .error) → unmade (call (Op.Unwind f pc) w .answer) ≡ false
+unfolding call
+raise-call f pc w x h q m = unwound w h f pc .made x q (m .bytes) (m .slot)
+
+accepts-raise : (w : World) (k : Call) (f : Fault) (pc : OptPc) (x : ℕ) → Healthy steps w → opOf k ≡ some (Op.Unwind f pc) → raised (viewOf w) f ≡ some x → Makes (viewOf w) (w .setup .costs .error) → unmade (step w k .answer) ≡ false
+accepts-raise w (SetUp s) f pc x h e q m = let z : _≡_ {A = ℕ} 0 1 = cc in absurd (omega arith)
+accepts-raise w (Do o) f pc x h e q m = ap unmade (number-sound w o (healthy-sound w h)) ∙ ap (λ p. unmade (call p w .answer)) (some-op e) ∙ raise-call f pc w x (healthy-sound w h) q m
 
 -- ---- set-ups and looks
 
@@ -236,6 +246,15 @@ set-up-begun w (SetUp s) r = go (setupOk s) (r .accepted)
   where
     go : (b : Bool) → numberOf (pick b (accepted (fresh s)) (refused w Fault.Unsound) .answer) ≡ 0 → Fresh (viewOf (pick b (accepted (fresh s)) (refused w Fault.Unsound) .world))
     go true n = begins-fresh s
+    go false n = absurd (omega (arith, n))
+
+set-up-given : (w : World) (k : Call) → Restarts steps w k → asksOf k ≡ some (rulesOf (step w k .world .setup))
+unfolding step pick
+set-up-given w (Do o) r = let q = r .sets-up in let z : _≡_ {A = ℕ} 0 1 = cc in absurd (omega arith)
+set-up-given w (SetUp s) r = go (setupOk s) (r .accepted)
+  where
+    go : (b : Bool) → numberOf (pick b (accepted (fresh s)) (refused w Fault.Unsound) .answer) ≡ 0 → some (rulesOf s) ≡ some (rulesOf (pick b (accepted (fresh s)) (refused w Fault.Unsound) .world .setup))
+    go true n = refl
     go false n = absurd (omega (arith, n))
 
 set-up-refused : (w : World) (k : Call) → opOf k ≡ none → (numberOf (step w k .answer) ≡ 0 → ⊥) → (numberOf (step w k .answer) ≡ 11) × (viewOf (step w k .world) ≡ viewOf w)
@@ -315,11 +334,11 @@ roomy-met =
       grows = refl;
     }
 
-pub makes-met : Makes (viewOf (Engine.run steps (fresh wide) before))
+pub makes-met : let v = viewOf (Engine.run steps (fresh wide) before) in Makes v (v .rules .intCost) × Makes v (v .rules .errorCost)
 unfolding computed before
-makes-met = record { slot = refl; bytes = refl }
+makes-met = (record { slot = refl; bytes = refl }, record { slot = refl; bytes = refl })
 
-costs-met : viewOf (Engine.run steps (fresh wide) before) .intCost ≡ wide .costs .int
+costs-met : viewOf (Engine.run steps (fresh wide) before) .rules .intCost ≡ wide .costs .int
 unfolding computed before
 costs-met = refl
 
@@ -338,8 +357,8 @@ not-empty =
       z = nth held 26;
       c = c;
       suspends = p .suspends;
-      roomy = subst (λ w. Roomy steps (viewOf (Engine.run steps w before) .intCost) c (Engine.run steps w before)) (sym begins-at) (subst (λ n. Roomy steps n c (Engine.run steps (fresh wide) before)) (sym costs-met) roomy-met);
-      makes = subst (λ w. Makes (viewOf (Engine.run steps w before))) (sym begins-at) makes-met;
+      roomy = subst (λ w. Roomy steps (viewOf (Engine.run steps w before) .rules .intCost) c (Engine.run steps w before)) (sym begins-at) (subst (λ n. Roomy steps n c (Engine.run steps (fresh wide) before)) (sym costs-met) roomy-met);
+      makes = subst (λ w. let v = viewOf (Engine.run steps w before) in Makes v (v .rules .intCost) × Makes v (v .rules .errorCost)) (sym begins-at) makes-met;
       waits = p .waits;
       enters = p .enters;
       goes = p .goes;
@@ -359,9 +378,11 @@ promise =
         integer = accepts-integer;
         finish = accepts-finish;
         escape = accepts-escape;
+        raise = accepts-raise;
       };
       soundness = soundness;
-      set-ups = record { begun = set-up-begun; refused = set-up-refused };
+      set-ups = record { begun = set-up-begun; given = set-up-given; refused = set-up-refused };
       looks = record { sees = look-sees; unseen = look-unseen; unmoved = look-unmoved };
+      speaks = λ o. (Do o, refl);
       not-empty = not-empty;
     }

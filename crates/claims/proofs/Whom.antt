@@ -4,7 +4,7 @@ use native.Mathlib.Omega.{arith}
 use mathlib.Core.Path.{_≡_, refl, sym, ap, _∙_}
 use mathlib.Core.Bool.{Bool, true, false, not, _&&_, _||_}
 use mathlib.Core.List.{List, [], _∷_}
-use mathlib.Core.Option.{Option, none, some}
+use mathlib.Core.Option.{Option, none, some, orElse}
 use lib.ListN.{length}
 use lib.Dec.{eqb, ltb, leb}
 use borrow.Author.Tests.{leb-true, leb-false, le-ltb, lt-ltb, eqb-true, ne-eqb}
@@ -28,7 +28,7 @@ use Rattle.model.specs.declared.call.OptPc.{OptPc}
 use Rattle.model.specs.declared.call.Op.{Op}
 use Rattle.claims.specs.Engine.{isNew, sleeps, seenIn, is}
 use Rattle.claims.specs.Says as Says
-use Rattle.claims.specs.Says.{Does, Entry, entry, fits, named, cleaned, banked, orElse, charged, whomBy, whom, nothing, gets, closes}
+use Rattle.claims.specs.Says.{Does, Entry, entry, fits, named, cleaned, banked, charged, whomBy, whom, nothing, gets, closes}
 use Rattle.claims.specs.Steps.{seenOf, viewOf}
 use Rattle.claims.proofs.Entry as E
 use Rattle.claims.proofs.Entry.{accepts, acceptsAs, sentTo, aimed, pcBy, entryBy, act}
@@ -109,6 +109,7 @@ first E.nobody y = y
 first (E.entry c d x) y = E.entry c d x
 
 told-first : (pc : ℕ) (x y : E.Entry) → orElse (told pc x) (told pc y) ≡ told pc (first x y)
+unfolding orElse
 told-first pc E.nobody y = refl
 told-first pc (E.entry c d x) y = refl
 

@@ -5,8 +5,9 @@ use mathlib.Core.Path.{_≡_, refl, ap}
 use mathlib.Core.Logic.{_⊎_, inl, inr}
 use mathlib.Core.Bool.{true}
 use mathlib.Core.List.{List, [], _∷_, _++_}
-use mathlib.Core.Option.{Option, none, some}
+use mathlib.Core.Option.{Option, none, some, orElse}
 use lib.ListN.{length, take}
+use lib.Dec.{ltb}
 use Rattle.lists.specs.Pick.{pick}
 use Rattle.heap.specs.declared.fault.Fault.{Fault}
 use Rattle.model.specs.World.{World, fresh}
@@ -18,16 +19,16 @@ use Rattle.model.specs.declared.machine.Driver.{Driver}
 use Rattle.model.specs.declared.machine.Fuel.{Fuel}
 use Rattle.model.specs.declared.call.OptPc.{OptPc}
 use Rattle.model.specs.declared.call.Op.{Op}
-use Rattle.claims.specs.Engine.{Seen, run, code, isNew, is}
+use Rattle.claims.specs.Engine.{Seen, Rules, run, code, isNew, is}
 use Rattle.claims.specs.Says.{nothing, gets, closes}
 use Rattle.claims.specs.Delivery.{recorded}
 use Rattle.claims.specs.Events.{Healthy, thrown, escapes, Events}
-use Rattle.claims.specs.Promise.{SetUps, Looks}
+use Rattle.claims.specs.Promise.{Accepts, SetUps, Looks}
 use Rattle.claims.specs.Steps.{viewOf}
 use Rattle.claims.specs.Story as Story
 use Rattle.claims.specs.Story.{wide, c, held}
 use Rattle.claims.specs.Witness.{nth}
-use Rattle.claims.specs.Wrong.{idle, two, failing, forgetting, sparing, yielding, lostIn, excusing, muting, closing, rewriting, aborting, renewing, stillborn, fuelled, showing}
+use Rattle.claims.specs.Wrong.{idle, two, failing, forgetting, sparing, yielding, lostIn, excusing, muting, hushing, grudging, closing, rewriting, aborting, renewing, stillborn, fuelled, shrinking, showing}
 use Rattle.claims.proofs.Cores.{no-both}
 use Rattle.claims.proofs.Promise.{sound-healthy}
 
@@ -58,7 +59,7 @@ unfolding typed
 current-typed = refl
 
 pub no-cleanup : Events (idle two) → ⊥
-unfolding computed queued-ops queued
+unfolding computed queued-ops queued orElse
 no-cleanup v = no-both (v .entered c queued (asCall (Op.CoroCurrent 9 1) current-typed) (sound-healthy queued refl) (record { driver = Driver.Finalize; sent = closes 0; pc = 9; says = refl }) .after) refl
 
 -- c runs while it is being closed, and asks who runs
@@ -132,6 +133,15 @@ throw-lost v =
     let q : _≡_ {A = ℕ} 0 17 = v .answered c sleeping (asCall (Op.ResumeThrow 3 1 0 2) thrown-typed) (record { before = refl; after = refl }) (record { driver = Driver.Resume 1; sent = nothing; pc = 3; says = refl }) in
     absurd (omega (arith, q))
 
+-- c yields while it is being closed
+yield-typed : typed (Op.Yield 60 3 0) ≡ true
+unfolding typed
+yield-typed = refl
+
+pub ignored-unheard : Events hushing → ⊥
+unfolding computed closed-ops closed
+ignored-unheard v = let q : _≡_ {A = ℕ} 0 6 = v .heard c closed (asCall (Op.Yield 60 3 0) yield-typed) (record { before = refl; after = refl }) in absurd (omega (arith, q))
+
 -- c is closed with 9, which it does not catch
 dying-ops : List Op
 dying-ops = Story.begin 0 ++ (Op.Yield 8 3 0 ∷ Op.PutWord 2 9 ∷ Op.CoroClose 3 1 0 2 ∷ [])
@@ -204,6 +214,31 @@ comes-failed v = go (v .comes c called (asCall (Op.CoroNew 1 0 0 0) new-typed) (
 pub fuel-stays : SetUps fuelled → ⊥
 unfolding computed begun
 fuel-stays v = let q : _≡_ {A = ℕ} 998 0 = ap (λ (f : Fuel). f .fuel) (v .begun begun (SetUp wide) (record { sets-up = refl; accepted = refl }) .fuel) in absurd (omega (arith, q))
+
+-- a fault is raised, and nobody catches it
+fault-typed : typed (Op.Unwind Fault.TypeError OptPc.None) ≡ true
+unfolding typed
+fault-typed = refl
+
+grudging-healthy : Healthy grudging begun
+unfolding computed begun
+grudging-healthy (SetUp s) e = let z : _≡_ {A = ℕ} 0 1 = cc in absurd (omega arith)
+grudging-healthy (Do o) e = ap (λ p. pick (ltb 0 (numberOf (M.tested begun p .answer))) 9 0) (some-op e)
+  where
+    some-op : {a b : Op} → _≡_ {A = Option Op} (some a) (some b) → a ≡ b
+    some-op e = cc
+
+pub always-nine : Accepts grudging → ⊥
+unfolding computed begun
+always-nine v = no-both refl (v .raise begun (asCall (Op.Unwind Fault.TypeError OptPc.None) fault-typed) Fault.TypeError OptPc.None Story.d grudging-healthy refl refl (record { slot = refl; bytes = refl }))
+
+deep : Option Rules → ℕ
+deep none = 0
+deep (some r) = r .depth
+
+pub other-limits : SetUps shrinking → ⊥
+unfolding computed begun deep
+other-limits v = let q : _≡_ {A = ℕ} 6 1 = ap deep (v .given begun (SetUp wide) (record { sets-up = refl; accepted = refl })) in absurd (omega (arith, q))
 
 pub all-shown : Looks showing → ⊥
 unfolding computed begun

@@ -116,7 +116,7 @@ leaving Cont.Coro v x (a ∷ chain) below = pick (seenIn (λ k. k .closing && eq
 -- lets its own signal escape is Returned"
 abbrev pub escaped : View → ℕ → List Frame → List Active → Option ℕ
 escaped v x [] chain = none
-escaped v x (f ∷ fs) chain = pick (caught (v .handlers (f .func)) (f .pc)) none (leaving (f .cont) v x chain (escaped v x fs))
+escaped v x (f ∷ fs) chain = pick (caught (v .rules .handlers (f .func)) (f .pc)) none (leaving (f .cont) v x chain (escaped v x fs))
 
 -- 1 to 8 are raised as a new object, 17 as its word
 abbrev pub raised : View → Fault → Option ℕ
@@ -183,7 +183,7 @@ losing Cont.Coro v x (a ∷ chain) below = pick (seenIn (λ k. k .closing && eqb
 -- who fails where x is raised in these frames: all that it leaves, up to who catches it, is closed by it, or has it stop at the host
 abbrev pub lost : View → ℕ → List Frame → List Active → List ℕ
 lost v x [] chain = []
-lost v x (f ∷ fs) chain = pick (caught (v .handlers (f .func)) (f .pc)) [] (losing (f .cont) v x chain (lost v x fs))
+lost v x (f ∷ fs) chain = pick (caught (v .rules .handlers (f .func)) (f .pc)) [] (losing (f .cont) v x chain (lost v x fs))
 
 abbrev pub lostAt : View → Option ℕ → OptPc → List ℕ
 lostAt v none pc = []
@@ -218,16 +218,6 @@ undone other = none
 -- has begun, and does not run
 abbrev pub rests : CoroState → Bool
 rests s = ltb 1 (code s)
-
--- what only a set-up changes
-pub record Fixed (v z : View) : Type 0 where
-  pub depth : z .depth ≡ v .depth
-  pub height : z .height ≡ v .height
-  pub functions : z .functions ≡ v .functions
-  pub handlers : (f : ℕ) → z .handlers f ≡ v .handlers f
-  pub memory : z .memory ≡ v .memory
-  pub frame-cost : z .frameCost ≡ v .frameCost
-  pub int-cost : z .intCost ≡ v .intCost
 
 -- a result that is an integer, of 64 bits
 abbrev pub isInteger : ResultKind → Bool
@@ -272,7 +262,8 @@ pub record Events (e : Engine) : Type 0 where
   pub runs-on : (c : ℕ) (s : e .State) (k : e .Call) → (Restarts e s k → ⊥) → is (e .view s) runs c ≡ true → (Suspends e c s k → ⊥) → (Returns e c s k → ⊥) → (Fails e c s k → ⊥) → is (e .view (e .next s k)) runs c ≡ true
   pub comes : (c : ℕ) (s : e .State) (k : e .Call) → (undone (doing (e .view s) (e .op k)) ≡ some c → ⊥) → e .view s .coro c ≡ none
       → let z = e .view (e .next s k) in (z .coro c ≡ none) ⊎ (is z isNew c ≡ true)
-  pub fixed : (s : e .State) (k : e .Call) → (Restarts e s k → ⊥) → Fixed (e .view s) (e .view (e .next s k))
+  -- limits, functions and costs are the set-up's
+  pub fixed : (s : e .State) (k : e .Call) → (Restarts e s k → ⊥) → e .view (e .next s k) .rules ≡ e .view s .rules
   -- one a call
   pub one-switch : (c u : ℕ) (s : e .State) (k : e .Call) → Enters e c s k → Suspends e u s k → ⊥
   pub no-return : (c u : ℕ) (s : e .State) (k : e .Call) → Enters e c s k → Returns e u s k → ⊥

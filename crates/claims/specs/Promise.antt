@@ -10,6 +10,7 @@ use lib.Dec.{eqb, ltb, leb}
 use Rattle.heap.specs.declared.fault.Fault.{Fault}
 use Rattle.heap.specs.declared.value.Opt.{Opt}
 use Rattle.heap.specs.declared.heap.ResultKind.{ResultKind}
+use Rattle.model.specs.Call.{Operation}
 use Rattle.model.specs.declared.machine.Frame.{Frame}
 use Rattle.model.specs.declared.call.OptPc.{OptPc}
 use Rattle.model.specs.declared.call.Op.{Op}
@@ -34,7 +35,7 @@ suspends n = eqb n 0 || eqb n 2 || eqb n 6
 
 -- so many bytes more are within the limit; sums stop at 2^64 - 1
 abbrev pub room : View → ℕ → Bool
-room v n = leb (min (v .used + n) (2 ^ 64 - 1)) (v .memory)
+room v n = leb (min (v .used + n) (2 ^ 64 - 1)) (v .rules .memory)
 
 -- c runs on top, fuel is not 0 (else a cleanup may come first, or the answer may be 10), and there is room for n bytes and for what it
 -- would save beyond the most that it has saved. 01: "8 bytes per register and F per frame beyond the coroutine's largest saved sizes so far"
@@ -45,12 +46,12 @@ pub record Roomy (e : Engine) (n c : ℕ) (s : e .State) : Type 0 where
   pub seen : Seen
   pub there : e .view s .coro c ≡ some seen
   pub grows : let words = length (drop (held .body .base) (e .view s .stack)) - seen .mostWords in let frames = length (held .over ++ (held .body ∷ [])) - seen .mostFrames in
-      room (e .view s) (n + (words * 8 + frames * e .view s .frameCost)) ≡ true
+      room (e .view s) (n + (words * 8 + frames * e .view s .rules .frameCost)) ≡ true
 
--- a new integer object can be made
-pub record Makes (v : View) : Type 0 where
+-- a new object that costs n can be made
+pub record Makes (v : View) (n : ℕ) : Type 0 where
   pub slot : v .full ≡ false
-  pub bytes : room v (v .intCost) ≡ true
+  pub bytes : room v n ≡ true
 
 -- a result that converts: an i64, or a u64 below 2^63. 01: "A u64 above 2^63 - 1 gives 7."
 abbrev pub converts : ResultKind → ℕ → Bool
@@ -63,11 +64,14 @@ pub record Accepts (e : Engine) : Type 0 where
   -- an Await or a YieldKv is then answered 0, 2 or 6, and so suspends c (Events.suspended); a Yield that can make a key too, but for 7
   pub await : (c : ℕ) (s : e .State) (k : e .Call) (pc dst src : ℕ) → Roomy e 0 c s → e .op k ≡ some (Op.Await pc dst src) → lie (e .view s) (dst ∷ src ∷ []) ≡ true → suspends (e .number s k) ≡ true
   pub yield-kv : (c : ℕ) (s : e .State) (k : e .Call) (pc dst src key : ℕ) → Roomy e 0 c s → e .op k ≡ some (Op.YieldKv pc dst src key) → lie (e .view s) (dst ∷ src ∷ key ∷ []) ≡ true → suspends (e .number s k) ≡ true
-  pub yield : (c : ℕ) (s : e .State) (k : e .Call) (pc dst src : ℕ) → Roomy e (e .view s .intCost) c s → e .view s .full ≡ false → e .op k ≡ some (Op.Yield pc dst src) → lie (e .view s) (dst ∷ src ∷ []) ≡ true
+  pub yield : (c : ℕ) (s : e .State) (k : e .Call) (pc dst src : ℕ) → Roomy e (e .view s .rules .intCost) c s → e .view s .full ≡ false → e .op k ≡ some (Op.Yield pc dst src) → lie (e .view s) (dst ∷ src ∷ []) ≡ true
       → (suspends (e .number s k) || eqb (e .number s k) 7) ≡ true
-  pub integer : (s : e .State) (k : e .Call) (kind : ResultKind) (x : ℕ) → Healthy e s → e .op k ≡ some (Op.Finish kind x) → Makes (e .view s) → converts kind x ≡ true → onBody (e .view s .frames) ≡ true → e .number s k ≡ 0
+  pub integer : (s : e .State) (k : e .Call) (kind : ResultKind) (x : ℕ) → Healthy e s → e .op k ≡ some (Op.Finish kind x) → Makes (e .view s) (e .view s .rules .intCost) → converts kind x ≡ true → onBody (e .view s .frames) ≡ true → e .number s k ≡ 0
   pub finish : (s : e .State) (k : e .Call) (kind : ResultKind) (x : ℕ) → Healthy e s → e .op k ≡ some (Op.Finish kind x) → plain kind ≡ true → onBody (e .view s .frames) ≡ true → e .number s k ≡ 0
   pub escape : (s : e .State) (k : e .Call) (x : ℕ) (pc : OptPc) (c : ℕ) → Healthy e s → e .op k ≡ some (Op.Unwind (Fault.Throw x) pc) → raisedAt (e .view s) (some x) pc ≡ some c → e .number s k ≡ 0
+  -- an unwind of 1 to 8 whose error object can be made is not answered 9 or 14
+  pub raise : (s : e .State) (k : e .Call) (f : Fault) (pc : OptPc) (x : ℕ) → Healthy e s → e .op k ≡ some (Op.Unwind f pc) → raised (e .view s) f ≡ some x → Makes (e .view s) (e .view s .rules .errorCost)
+      → (eqb (e .number s k) 9 || eqb (e .number s k) 14) ≡ false
 
 -- ---- soundness is kept
 
@@ -97,6 +101,8 @@ pub record Fresh (v : View) : Type 0 where
 -- which set-ups are accepted is the table's (sheet/specs/SetUps.antt)
 pub record SetUps (e : Engine) : Type 0 where
   pub begun : (s : e .State) (k : e .Call) → Restarts e s k → Fresh (e .view (e .next s k))
+  -- the machine has the limits, functions and costs that were asked for
+  pub given : (s : e .State) (k : e .Call) → Restarts e s k → e .asks k ≡ some (e .view (e .next s k) .rules)
   -- one that is not accepted answers 11, and changes nothing
   pub refused : (s : e .State) (k : e .Call) → e .op k ≡ none → (e .number s k ≡ 0 → ⊥) → (e .number s k ≡ 11) × (e .view (e .next s k) ≡ e .view s)
 
@@ -125,8 +131,8 @@ pub record NotEmpty (e : Engine) : Type 0 where
   pub z : e .Call
   pub c : ℕ
   pub suspends : Suspends e c (run e (e .next start first) before) x
-  pub roomy : Roomy e (e .view (run e (e .next start first) before) .intCost) c (run e (e .next start first) before)
-  pub makes : Makes (e .view (run e (e .next start first) before))
+  pub roomy : Roomy e (e .view (run e (e .next start first) before) .rules .intCost) c (run e (e .next start first) before)
+  pub makes : let v = e .view (run e (e .next start first) before) in Makes v (v .rules .intCost) × Makes v (v .rules .errorCost)
   pub waits : Waits e c (e .next (run e (e .next start first) before) x) waiting
   pub enters : Enters e c (run e (e .next (run e (e .next start first) before) x) waiting) y
   pub goes : Goes e c (e .next (run e (e .next (run e (e .next start first) before) x) waiting) y) going
@@ -139,4 +145,6 @@ pub record Promise (e : Engine) : Type 0 where
   pub soundness : Soundness e
   pub set-ups : SetUps e
   pub looks : Looks e
+  -- every operation of 01 can be asked for
+  pub speaks : (o : Operation) → (k : e .Call) × (e .op k ≡ some (o .op))
   pub not-empty : NotEmpty e

@@ -4,14 +4,14 @@ use mathlib.Core.Bool.{Bool, true, false, not, _&&_}
 use mathlib.Core.List.{List, [], _∷_, map}
 use mathlib.Core.Option.{Option, none, some}
 use lib.ListN.{length, set}
-use lib.Dec.{ltb}
+use lib.Dec.{eqb, ltb}
 use Rattle.lists.specs.Pick.{pick}
 use Rattle.model.specs.Object.{withClosing, withResult}
 use Rattle.model.specs.World.{World, withStack, withFrames, withFuel}
 use Rattle.model.specs.Heap.{changeCoro}
 use Rattle.model.specs.Coro.{inState}
 use Rattle.model.specs.Answer.{numberOf}
-use Rattle.model.specs.Call.{Call}
+use Rattle.model.specs.Call.{Call, SetUp, Do}
 use Rattle.model.specs.Step.{step}
 use Rattle.heap.specs.declared.object.CoroState.{CoroState}
 use Rattle.model.specs.declared.machine.Cont.{Cont}
@@ -22,13 +22,13 @@ use Rattle.model.specs.declared.call.Op.{Op}
 use Rattle.claims.specs.Engine.{Engine, isNew, runs, awaits, sleeps, ended, seenIn, is}
 use Rattle.claims.specs.Demand3.{Demand3}
 use Rattle.claims.specs.Events.{isBody, failed, Events}
-use Rattle.claims.specs.Promise.{SetUps, Looks}
-use Rattle.claims.specs.Steps.{viewOf, opOf, looks}
+use Rattle.claims.specs.Promise.{Accepts, SetUps, Looks}
+use Rattle.claims.specs.Steps.{viewOf, opOf, asksOf, looks}
 use Rattle.claims.specs.Story.{c}
 
 -- it leaves another world than `step` does
 abbrev pub leaving : (World → Call → World) → Engine
-leaving f = record { State = World; Call = Call; op = opOf; view = viewOf; next = f; number = λ w k. numberOf (step w k .answer); look = looks }
+leaving f = record { State = World; Call = Call; op = opOf; asks = asksOf; view = viewOf; next = f; number = λ w k. numberOf (step w k .answer); look = looks }
 
 -- ---- machines that wake otherwise, where a coroutine is woken inside a call that it made
 
@@ -146,6 +146,7 @@ excusing =
       State = World;
       Call = Call;
       op = opOf;
+      asks = asksOf;
       view = viewOf;
       next = λ w k. let z = step w k .world in pick (lostIn (w .chain) z) w z;
       number = λ w k. pick (lostIn (w .chain) (step w k .world)) 9 (numberOf (step w k .answer));
@@ -159,11 +160,23 @@ muting =
       State = World;
       Call = Call;
       op = opOf;
+      asks = asksOf;
       view = viewOf;
       next = λ w k. step w k .world;
       number = λ w k. pick (ltb (length (w .chain)) (length (step w k .world .chain))) 0 (numberOf (step w k .answer));
       look = looks;
     }
+
+-- it answers otherwise than `step` does
+abbrev pub answering : (ℕ → ℕ) → Engine
+answering f = record { State = World; Call = Call; op = opOf; asks = asksOf; view = viewOf; next = λ w k. step w k .world; number = λ w k. f (numberOf (step w k .answer)); look = looks }
+
+-- a yield while closing is answered 0; what is not accepted is answered 9
+abbrev pub hushing : Engine
+hushing = answering (λ n. pick (eqb n 6) 0 n)
+
+abbrev pub grudging : Engine
+grudging = answering (λ n. pick (ltb 0 n) 9 0)
 
 -- who returns while it is being closed has the result 5
 abbrev pub paying : List Active → World → World → World
@@ -198,9 +211,19 @@ refuelled (some o) f z = z
 abbrev pub fuelled : Engine
 fuelled = leaving (λ w k. refuelled (opOf k) (w .fuel) (step w k .world))
 
+-- a set-up gives depth 1, whatever was asked for
+abbrev pub shallow : Call → Call
+shallow (SetUp s) =
+    let l = s .limits in
+    SetUp (record { limits = record { depth = 1; stack = l .stack; rows = l .rows; slots = l .slots; memory = l .memory }; costs = s .costs; hook = s .hook; functions = s .functions })
+shallow (Do o) = Do o
+
+abbrev pub shrinking : Engine
+shrinking = record { State = World; Call = Call; op = opOf; asks = asksOf; view = viewOf; next = λ w k. step w (shallow k) .world; number = λ w k. numberOf (step w (shallow k) .answer); look = looks }
+
 -- a look hands back the whole stack
 abbrev pub showing : Engine
-showing = record { State = World; Call = Call; op = opOf; view = viewOf; next = λ w k. step w k .world; number = λ w k. numberOf (step w k .answer); look = λ w. w .stack }
+showing = record { State = World; Call = Call; op = opOf; asks = asksOf; view = viewOf; next = λ w k. step w k .world; number = λ w k. numberOf (step w k .answer); look = λ w. w .stack }
 
 pub record Wrong : Type 0 where
   pub other-function : Demand3 (bent (onTop ofZero)) → ⊥
@@ -221,10 +244,13 @@ pub record Wrong : Type 0 where
   pub await-yields : Events yielding → ⊥
   pub excused : Events excusing → ⊥
   pub throw-lost : Events muting → ⊥
+  pub ignored-unheard : Events hushing → ⊥
+  pub always-nine : Accepts grudging → ⊥
   pub close-pays : Events closing → ⊥
   pub result-changes : Events (rewriting c) → ⊥
   pub aborted : Events (aborting c) → ⊥
   pub renewed : Events (renewing c) → ⊥
   pub comes-failed : Events (stillborn c) → ⊥
   pub fuel-stays : SetUps fuelled → ⊥
+  pub other-limits : SetUps shrinking → ⊥
   pub all-shown : Looks showing → ⊥
