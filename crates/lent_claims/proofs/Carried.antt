@@ -9,12 +9,12 @@ use lib.ListN.{length, drop}
 use lib.Dec.{eqb}
 use Rattle.lists.specs.Pick.{pick}
 use Rattle.heap.specs.declared.value.Opt.{Opt}
-use Rattle.claims.specs.Engine.{Seen, View, Engine, run, isNew, runs, awaits, is}
+use Rattle.claims.specs.Engine.{Seen, View, Engine, run, isNew, runs, awaits, seenIn, is}
 use Rattle.claims.specs.Says.{doing, lie}
 use Rattle.claims.specs.Held.{Held, closer, By, Entered, Restored}
 use Rattle.claims.specs.Delivery.{recorded, Left, resultOf}
 use Rattle.claims.specs.Demand3.{Enters, Suspends, Stops, Restarts, Waits, Goes, Demand3}
-use Rattle.claims.specs.Events.{Healthy, onBody, raisedAt, answers, suspended, isAwait, returned, Lost, lives, undone, rests, Fixed, Events}
+use Rattle.claims.specs.Events.{Healthy, onBody, raised, raisedAt, answers, suspended, isAwait, toldTo, returned, Lost, lives, undone, rests, Events}
 use Rattle.claims.specs.Promise.{suspends, room, Roomy, Makes, Accepts, Eleven, Soundness, Fresh, SetUps, registers, Looks, NotEmpty}
 use Rattle.claims.proofs.Premises.{Premises}
 use Rattle.lent_claims.proofs.Follows.{Follows, Sight, sight, same, along, ran}
@@ -85,6 +85,8 @@ module _ (e d : Engine) (f : Follows e d) where
         answered = λ c s k h. down (λ v. (b : By (v .before) (v .op) c) → v .number ≡ answers (is (v .before) isNew c) (b .sent)) s k (p .answered c (f .to s) (f .by s k) (up-enters e d f s k c h));
         suspends = λ c s k h. down (suspended-is c) s k (p .suspends c (f .to s) (f .by s k) (up-suspends e d f s k c h));
         suspended = λ c s k h. down-suspends e d f s k c (p .suspended c (f .to s) (f .by s k) (up (suspended-is c) s k h));
+        heard = λ c s k h.
+            down (λ v. v .number ≡ toldTo (v .before .chain) (isAwait (doing (v .before) (v .op))) (seenIn (λ x. x .closing) (v .before .coro c))) s k (p .heard c (f .to s) (f .by s k) (up-suspends e d f s k c h));
         returns = λ c s k h. down (returned-is c) s k (p .returns c (f .to s) (f .by s k) (up-returns e d f s k c h));
         returned = λ c s k ok h. down-returns e d f s k c (p .returned c (f .to s) (f .by s k) (up-healthy e d f s ok) (up (returned-is c) s k h));
         fails = λ c s k h. down (lost-in c) s k (p .fails c (f .to s) (f .by s k) (up-fails e d f s k c h));
@@ -110,7 +112,7 @@ module _ (e d : Engine) (f : Follows e d) where
         comes = λ c s k u h.
             down (λ v. (v .after .coro c ≡ none) ⊎ (is (v .after) isNew c ≡ true)) s k
             (p .comes c (f .to s) (f .by s k) (λ x. u (down (λ v. undone (doing (v .before) (v .op)) ≡ some c) s k x)) (up (λ v. v .before .coro c ≡ none) s k h));
-        fixed = λ s k r. down (λ v. Fixed (v .before) (v .after)) s k (p .fixed (f .to s) (f .by s k) (λ x. r (down-restarts e d f s k x)));
+        fixed = λ s k r. down (λ v. v .after .rules ≡ v .before .rules) s k (p .fixed (f .to s) (f .by s k) (λ x. r (down-restarts e d f s k x)));
         one-switch = λ c u s k h g. p .one-switch c u (f .to s) (f .by s k) (up-enters e d f s k c h) (up-suspends e d f s k u g);
         no-return = λ c u s k h g. p .no-return c u (f .to s) (f .by s k) (up-enters e d f s k c h) (up-returns e d f s k u g);
         one-leaves = λ c u s k h g. p .one-leaves c u (f .to s) (f .by s k) (up-suspends e d f s k c h) (up-returns e d f s k u g);
@@ -122,7 +124,7 @@ module _ (e d : Engine) (f : Follows e d) where
   Roomily : ℕ → ℕ → View → Type 0
   Roomily n c v =
       (eqb (v .fuel .fuel) 0 ≡ false) × (held : Held v c) × (seen : Seen) × (v .coro c ≡ some seen)
-      × (room v (n + ((length (drop (held .body .base) (v .stack)) - seen .mostWords) * 8 + (length (held .over ++ (held .body ∷ [])) - seen .mostFrames) * v .frameCost)) ≡ true)
+      × (room v (n + ((length (drop (held .body .base) (v .stack)) - seen .mostWords) * 8 + (length (held .over ++ (held .body ∷ [])) - seen .mostFrames) * v .rules .frameCost)) ≡ true)
 
   roomy : (n c : ℕ) (s : e .State) → Roomy e n c s → Roomy d n c (f .to s)
   unfolding Roomily
@@ -146,12 +148,15 @@ module _ (e d : Engine) (f : Follows e d) where
         await = λ c s k pc dst src r o l. ap suspends (sym (f .number s k)) ∙ p .await c (f .to s) (f .by s k) pc dst src (roomy 0 c s r) (f .op s k ∙ o) (lying s (dst ∷ src ∷ []) l);
         yield-kv = λ c s k pc dst src key r o l. ap suspends (sym (f .number s k)) ∙ p .yield-kv c (f .to s) (f .by s k) pc dst src key (roomy 0 c s r) (f .op s k ∙ o) (lying s (dst ∷ src ∷ key ∷ []) l);
         yield = λ c s k pc dst src r full o l.
-            let r′ = subst (λ n. Roomy d n c (f .to s)) (ap (λ v. v .intCost) (sym (f .view s))) (roomy (e .view s .intCost) c s r) in
+            let r′ = subst (λ n. Roomy d n c (f .to s)) (ap (λ v. v .rules .intCost) (sym (f .view s))) (roomy (e .view s .rules .intCost) c s r) in
             ap (λ n. suspends n || eqb n 7) (sym (f .number s k)) ∙ p .yield c (f .to s) (f .by s k) pc dst src r′ (ap (λ v. v .full) (f .view s) ∙ full) (f .op s k ∙ o) (lying s (dst ∷ src ∷ []) l);
         integer = λ s k kind x ok o m converts b.
-            sym (f .number s k) ∙ p .integer (f .to s) (f .by s k) kind x (up-healthy e d f s ok) (f .op s k ∙ o) (subst Makes (sym (f .view s)) m) converts (ap (λ v. onBody (v .frames)) (f .view s) ∙ b);
+            sym (f .number s k) ∙ p .integer (f .to s) (f .by s k) kind x (up-healthy e d f s ok) (f .op s k ∙ o) (subst (λ v. Makes v (v .rules .intCost)) (sym (f .view s)) m) converts (ap (λ v. onBody (v .frames)) (f .view s) ∙ b);
         finish = λ s k kind x ok o plain b. sym (f .number s k) ∙ p .finish (f .to s) (f .by s k) kind x (up-healthy e d f s ok) (f .op s k ∙ o) plain (ap (λ v. onBody (v .frames)) (f .view s) ∙ b);
         escape = λ s k x pc c ok o r. sym (f .number s k) ∙ p .escape (f .to s) (f .by s k) x pc c (up-healthy e d f s ok) (f .op s k ∙ o) (ap (λ v. raisedAt v (some x) pc) (f .view s) ∙ r);
+        raise = λ s k g pc x ok o r m.
+            ap (λ n. eqb n 9 || eqb n 14) (sym (f .number s k))
+            ∙ p .raise (f .to s) (f .by s k) g pc x (up-healthy e d f s ok) (f .op s k ∙ o) (ap (λ v. raised v g) (f .view s) ∙ r) (subst (λ v. Makes v (v .rules .errorCost)) (sym (f .view s)) m);
       }
 
   -- ---- soundness
@@ -170,6 +175,7 @@ module _ (e d : Engine) (f : Follows e d) where
   set-ups p =
       record {
         begun = λ s k h. down (λ v. Fresh (v .after)) s k (p .begun (f .to s) (f .by s k) (up-restarts e d f s k h));
+        given = λ s k h. sym (f .asks s k h) ∙ down (λ v. d .asks (f .by s k) ≡ some (v .after .rules)) s k (p .given (f .to s) (f .by s k) (up-restarts e d f s k h));
         refused = λ s k o n. down (λ v. (v .number ≡ 11) × (v .after ≡ v .before)) s k (p .refused (f .to s) (f .by s k) (f .op s k ∙ o) (λ x. n (sym (f .number s k) ∙ x)));
       }
 
@@ -206,7 +212,11 @@ module _ (e d : Engine) (f : Follows e d) where
     abbrev gs : List (d .Call)
     gs = along e d f s₄ going
 
-    pub not-empty : Restarts e start first → Roomy d (d .view (f .to s₁) .intCost) c (f .to s₁) → Makes (d .view (f .to s₁)) → Premises d c (f .to s₁) (f .by s₁ x) ws (f .by s₃ y) gs (f .by s₅ z) → NotEmpty e
+    -- an integer and an error object can be made
+    abbrev Both : View → Type 0
+    Both v = Makes v (v .rules .intCost) × Makes v (v .rules .errorCost)
+
+    pub not-empty : Restarts e start first → Roomy d (d .view (f .to s₁) .rules .intCost) c (f .to s₁) → Both (d .view (f .to s₁)) → Premises d c (f .to s₁) (f .by s₁ x) ws (f .by s₃ y) gs (f .by s₅ z) → NotEmpty e
     not-empty r has makes p =
         let at₂ = f .next s₁ x in
         let at₃ : run d (d .next (f .to s₁) (f .by s₁ x)) ws ≡ f .to s₃ = ap (λ u. run d u ws) at₂ ∙ ran e d f s₂ waiting in
@@ -224,8 +234,8 @@ module _ (e d : Engine) (f : Follows e d) where
           z = z;
           c = c;
           suspends = down-suspends e d f s₁ x c (p .suspends);
-          roomy = subst (λ v. Roomy e (v .intCost) c s₁) (f .view s₁) (roomy-down (d .view (f .to s₁) .intCost) c s₁ has);
-          makes = subst Makes (f .view s₁) makes;
+          roomy = subst (λ v. Roomy e (v .rules .intCost) c s₁) (f .view s₁) (roomy-down (d .view (f .to s₁) .rules .intCost) c s₁ has);
+          makes = subst Both (f .view s₁) makes;
           waits = down-waits e d f c s₂ waiting (subst (λ u. Waits d c u ws) at₂ (p .waits));
           enters = down-enters e d f s₃ y c (subst (λ u. Enters d c u (f .by s₃ y)) at₃ (p .enters));
           goes = down-goes e d f c s₄ going (subst (λ u. Goes d c u gs) at₄ (p .goes));

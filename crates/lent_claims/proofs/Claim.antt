@@ -36,6 +36,7 @@ promise =
       soundness = Carried.soundness outer steps follows (p .soundness);
       set-ups = Carried.set-ups outer steps follows (p .set-ups);
       looks = Carried.looks outer steps follows (p .looks);
+      speaks = λ o. (Do o, refl);
       not-empty = not-empty;
     }
 
