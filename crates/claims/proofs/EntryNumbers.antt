@@ -116,7 +116,7 @@ module _ {A : Type 0} (num : A → ℕ) (f : World → Entered → After A) (n :
       go e (e-in k r h b m q) = by (isCreated (k .state)) (entered c d k r u) (k .waiting)
 
 stored-accepts : (p : ℕ) (v : World) (c : ℕ) → accepts v c ≡ true → accepts (storePc p v) c ≡ true
-stored-accepts p v c a = accepts-stored (record { setup = refl; stack = refl; frames = refl; chain = refl; slots = refl }) c ∙ a
+stored-accepts p v c a = accepts-stored (record { setup = refl; stack = refl; frames = refl; chain = refl; slots = refl; used = refl }) c ∙ a
 
 -- ---- the arms
 

@@ -210,11 +210,11 @@ unfolding instruction pick
 instr-number w h p ok arm f await owes = gate (isNil (w .frames)) (not ok)
   where
     stands : {v : World} → Ready p w v → Stands v
-    stands {v} (r-same a b c d e) x chain q = ap (λ xs. isRunning (coreIn (coroIn xs (x .coro)) .state)) e ∙ first-runs w h x chain (sym d ∙ q)
+    stands {v} (r-same a b c d e g) x chain q = ap (λ xs. isRunning (coreIn (coroIn xs (x .coro)) .state)) e ∙ first-runs w h x chain (sym d ∙ q)
     stands {v} (r-stored s) x chain q = ap (λ xs. isRunning (coreIn (coroIn xs (x .coro)) .state)) (s .slots) ∙ first-runs w h x chain (sym (s .chain) ∙ q)
 
     alike : {v : World} {n : ℕ} {b : Bool} → Ready p w v → Tells v await n b → Tells w await n b
-    alike {v} (r-same a b c d e) t = tells-as d (λ x. ap (λ xs. coroIn xs x) e) t
+    alike {v} (r-same a b c d e g) t = tells-as d (λ x. ap (λ xs. coroIn xs x) e) t
     alike {v} (r-stored s) t = tells-as (s .chain) (λ x. ap (λ xs. coroIn xs x) (s .slots)) t
 
     paid : (ch : After Charge) → ChargeCase p w ch → Tells w await (numberOf (Gate.charged arm (ch .world) (ch .answer) .answer)) (paidBy f (ch .world) (ch .answer))

@@ -318,7 +318,7 @@ unfolding computed before
 roomy-met =
     record {
       healthy = sound-healthy (Engine.run steps (fresh wide) before) sound-there;
-      fuel = refl;
+      paid = λ pc y. refl;
       held = record {
         over = frame 1 0 8 0 (Cont.Dyn 2) ∷ [];
         body = frame 0 5 4 f Cont.Coro;
@@ -374,7 +374,7 @@ promise =
       accepts = record {
         await = λ c w k pc dst src m e l. await-takes w 0 c m k pc dst src e l;
         yield-kv = λ c w k pc dst src key m e l. kv-takes w 0 c m k pc dst src key e l;
-        yield = λ c w k pc dst src m s e l. yield-takes w (w .setup .costs .int) c m refl s k pc dst src e l;
+        yield = λ c w k pc dst src m s e l. yield-takes w (w .setup .costs .int) c m refl s pc k dst src e l;
         integer = accepts-integer;
         finish = accepts-finish;
         escape = accepts-escape;

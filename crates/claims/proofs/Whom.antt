@@ -122,7 +122,7 @@ charge-says p w e = fast (eqb (w .fuel .fuel) 0) refl
     u = unbank (storePc p (unbank w))
 
     su : Stored p w u
-    su = record { setup = refl; stack = refl; frames = refl; chain = refl; slots = refl }
+    su = record { setup = refl; stack = refl; frames = refl; chain = refl; slots = refl; used = refl }
 
     start : (a : After Started) → StartCase p w u (w .finalize) a → E.charged (chargeOr a .answer) w e ≡ first (E.cleaned (w .finalize) w) e
     start a (s-some c n z q t) = let x = sym (cleaned-stored su (w .finalize)) ∙ q in x ∙ ap (λ y. first y e) (sym x)
@@ -160,20 +160,21 @@ not-pick true x y = refl
 not-pick false x y = refl
 
 module _ (w : World) (h : sound w ≡ true) where
-  charged-told : (pc : ℕ) (a : E.Aim) → charged (viewOf w) pc (named (viewOf w) pc (aimOf a)) ≡ told pc (E.charged (charge (OptPc.Some pc) w .answer) w (aimed a w))
-  charged-told pc a =
-      (λ i. pick (eqb (w .fuel .fuel) 0) (pick (eqb (banked (w .fuel .bank)) 0) none (pick (w .fuel .ready) (orElse (cleaned-told w h pc (w .finalize) i) (named-aimed w h pc a i)) (named-aimed w h pc a i))) (named-aimed w h pc a i))
+  -- with whoever was to be entered
+  pub charged-by : (pc : ℕ) (e : E.Entry) → charged (viewOf w) pc (told pc e) ≡ told pc (E.charged (charge (OptPc.Some pc) w .answer) w e)
+  charged-by pc e =
+      (λ i. pick (eqb (w .fuel .fuel) 0) (pick (eqb (banked (w .fuel .bank)) 0) none (pick (w .fuel .ready) (orElse (cleaned-told w h pc (w .finalize) i) (told pc e)) (told pc e))) (told pc e))
       ∙ ap (λ y. pick (eqb (w .fuel .fuel) 0) (pick (eqb (banked (w .fuel .bank)) 0) none (pick (w .fuel .ready) y (told pc e))) (told pc e)) (told-first pc q e)
       ∙ ap (λ y. pick (eqb (w .fuel .fuel) 0) (pick (eqb (banked (w .fuel .bank)) 0) none y) (told pc e)) (told-pick pc (w .fuel .ready) (first q e) e)
       ∙ ap (λ y. pick (eqb (w .fuel .fuel) 0) y (told pc e)) (told-pick pc (eqb (banked (w .fuel .bank)) 0) E.nobody (pick (w .fuel .ready) (first q e) e))
       ∙ told-pick pc (eqb (w .fuel .fuel) 0) (pick (eqb (banked (w .fuel .bank)) 0) E.nobody (pick (w .fuel .ready) (first q e) e)) e
       ∙ ap (told pc) (sym (charge-says pc w e))
     where
-      e : E.Entry
-      e = aimed a w
-
       q : E.Entry
       q = E.cleaned (w .finalize) w
+
+  charged-told : (pc : ℕ) (a : E.Aim) → charged (viewOf w) pc (named (viewOf w) pc (aimOf a)) ≡ told pc (E.charged (charge (OptPc.Some pc) w .answer) w (aimed a w))
+  charged-told pc a = ap (charged (viewOf w) pc) (named-aimed w h pc a) ∙ charged-by pc (aimed a w)
 
   whom-alike : {a : E.Act} {d : Does} → Alike a d → whomBy (viewOf w) d ≡ told (pcBy a) (entryBy a w)
   whom-alike (l-at pc ok a) =

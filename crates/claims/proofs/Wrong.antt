@@ -29,7 +29,7 @@ use Rattle.claims.specs.Witness.{nth, between, frame}
 use Rattle.claims.specs.Wrong.{bent, onTop, tail, ofZero, discards, bare, atOne, further, higher, once, begun, greeted, late, Wrong}
 use Rattle.claims.proofs.Premises.{waits-true}
 use Rattle.claims.proofs.Cores.{no-both}
-use Rattle.claims.proofs.WrongEvents.{always-refused, return-fails, no-cleanup, closing-forgotten, failure-returns, await-yields, excused, throw-lost, ignored-unheard, always-nine, close-pays, result-changes, aborted, renewed, comes-failed, fuel-stays, other-limits, all-shown}
+use Rattle.claims.proofs.WrongEvents.{always-refused, return-fails, no-cleanup, closing-forgotten, failure-returns, await-yields, excused, throw-lost, ignored-unheard, always-nine, bank-unused, close-pays, result-changes, aborted, renewed, comes-failed, fuel-stays, other-limits, all-shown}
 
 abbrev first : List ℕ → ℕ
 first [] = 0
@@ -277,6 +277,7 @@ wrong =
       throw-lost = throw-lost;
       ignored-unheard = ignored-unheard;
       always-nine = always-nine;
+      bank-unused = bank-unused;
       close-pays = close-pays;
       result-changes = result-changes;
       aborted = aborted;

@@ -3,7 +3,7 @@ use Prim.Native.Nat.{ℕ}
 use native.Mathlib.Omega.{arith}
 use mathlib.Core.Path.{_≡_, refl, ap}
 use mathlib.Core.Logic.{_⊎_, inl, inr}
-use mathlib.Core.Bool.{true}
+use mathlib.Core.Bool.{true, false}
 use mathlib.Core.List.{List, [], _∷_, _++_}
 use mathlib.Core.Option.{Option, none, some, orElse}
 use lib.ListN.{length, take}
@@ -15,6 +15,8 @@ use Rattle.model.specs.Step as M
 use Rattle.model.specs.Answer.{numberOf}
 use Rattle.model.specs.Call.{SetUp, Do, typed, asCall}
 use Rattle.model.specs.Compute.{computed}
+use Rattle.heap.specs.declared.object.CoroState.{CoroState}
+use Rattle.model.specs.declared.machine.Cont.{Cont}
 use Rattle.model.specs.declared.machine.Driver.{Driver}
 use Rattle.model.specs.declared.machine.Fuel.{Fuel}
 use Rattle.model.specs.declared.call.OptPc.{OptPc}
@@ -23,12 +25,12 @@ use Rattle.claims.specs.Engine.{Seen, Rules, run, code, isNew, is}
 use Rattle.claims.specs.Says.{nothing, gets, closes}
 use Rattle.claims.specs.Delivery.{recorded}
 use Rattle.claims.specs.Events.{Healthy, thrown, escapes, Events}
-use Rattle.claims.specs.Promise.{Accepts, SetUps, Looks}
+use Rattle.claims.specs.Promise.{Roomy, Accepts, SetUps, Looks}
 use Rattle.claims.specs.Steps.{viewOf}
 use Rattle.claims.specs.Story as Story
 use Rattle.claims.specs.Story.{wide, c, held}
-use Rattle.claims.specs.Witness.{nth}
-use Rattle.claims.specs.Wrong.{idle, two, failing, forgetting, sparing, yielding, lostIn, excusing, muting, hushing, grudging, closing, rewriting, aborting, renewing, stillborn, fuelled, shrinking, showing}
+use Rattle.claims.specs.Witness.{nth, frame}
+use Rattle.claims.specs.Wrong.{idle, two, failing, forgetting, sparing, yielding, lostIn, excusing, muting, hushing, grudging, unpaid, stingy, closing, rewriting, aborting, renewing, stillborn, fuelled, shrinking, showing}
 use Rattle.claims.proofs.Cores.{no-both}
 use Rattle.claims.proofs.Promise.{sound-healthy}
 
@@ -215,6 +217,9 @@ pub fuel-stays : SetUps fuelled → ⊥
 unfolding computed begun
 fuel-stays v = let q : _≡_ {A = ℕ} 998 0 = ap (λ (f : Fuel). f .fuel) (v .begun begun (SetUp wide) (record { sets-up = refl; accepted = refl }) .fuel) in absurd (omega (arith, q))
 
+some-op : {a b : Op} → _≡_ {A = Option Op} (some a) (some b) → a ≡ b
+some-op e = cc
+
 -- a fault is raised, and nobody catches it
 fault-typed : typed (Op.Unwind Fault.TypeError OptPc.None) ≡ true
 unfolding typed
@@ -224,13 +229,49 @@ grudging-healthy : Healthy grudging begun
 unfolding computed begun
 grudging-healthy (SetUp s) e = let z : _≡_ {A = ℕ} 0 1 = cc in absurd (omega arith)
 grudging-healthy (Do o) e = ap (λ p. pick (ltb 0 (numberOf (M.tested begun p .answer))) 9 0) (some-op e)
-  where
-    some-op : {a b : Op} → _≡_ {A = Option Op} (some a) (some b) → a ≡ b
-    some-op e = cc
 
 pub always-nine : Accepts grudging → ⊥
 unfolding computed begun
 always-nine v = no-both refl (v .raise begun (asCall (Op.Unwind Fault.TypeError OptPc.None) fault-typed) Fault.TypeError OptPc.None Story.d grudging-healthy refl refl (record { slot = refl; bytes = refl }))
+
+-- d waits for a cleanup, for which c has gone too deep: the bank pays for c's Await
+banked-ops : List Op
+banked-ops =
+    Op.Grant 1000 ∷ Op.HostCall 0 ∷ Op.CoroNew 1 0 0 0 ∷ Op.CoroNew 2 1 0 0 ∷ Op.Resume 3 2 1 3 ∷ Op.Yield 8 3 0 ∷ Op.Resume 4 2 0 3 ∷ Op.HandOver Story.d
+    ∷ Story.deeper ∷ Story.deeper ∷ Story.deeper ∷ Story.deeper ∷ []
+
+banked : World
+banked = M.runOps (fresh wide) banked-ops
+
+stingy-healthy : Healthy stingy banked
+unfolding computed banked-ops banked
+stingy-healthy (SetUp s) e = let z : _≡_ {A = ℕ} 0 1 = cc in absurd (omega arith)
+stingy-healthy (Do o) e = ap (λ p. pick (unpaid banked (M.tested banked p .world)) 10 (numberOf (M.tested banked p .answer))) (some-op e)
+
+bank-pays : Roomy stingy 0 c banked
+unfolding computed banked-ops banked orElse
+bank-pays =
+    record {
+      healthy = stingy-healthy;
+      paid = λ pc y. refl;
+      held = record {
+        over = frame 0 0 20 0 Cont.Discard ∷ frame 0 5 16 0 Cont.Discard ∷ frame 0 5 12 0 Cont.Discard ∷ frame 0 5 8 0 Cont.Discard ∷ [];
+        body = frame 0 5 4 0 Cont.Coro;
+        under = frame 0 4 0 0 Cont.Entry ∷ [];
+        driver = Driver.Resume 2;
+        outer = [];
+        frames = refl;
+        its-own = refl;
+        chain = refl;
+      };
+      seen = record { state = CoroState.Running; words = []; frames = []; mostWords = 4; mostFrames = 1; closing = false; signal = 0; result = 0 };
+      there = refl;
+      grows = refl;
+    }
+
+pub bank-unused : Accepts stingy → ⊥
+unfolding computed banked-ops banked
+bank-unused v = no-both (v .await c banked (asCall (Op.Await 10 3 0) await-typed) 10 3 0 bank-pays refl refl) refl
 
 deep : Option Rules → ℕ
 deep none = 0

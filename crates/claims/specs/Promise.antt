@@ -15,7 +15,7 @@ use Rattle.model.specs.declared.machine.Frame.{Frame}
 use Rattle.model.specs.declared.call.OptPc.{OptPc}
 use Rattle.model.specs.declared.call.Op.{Op}
 use Rattle.claims.specs.Engine.{Seen, View, Engine, run}
-use Rattle.claims.specs.Says.{lie}
+use Rattle.claims.specs.Says.{lie, Entry, charged}
 use Rattle.claims.specs.Held.{Held}
 use Rattle.claims.specs.Demand3.{Enters, Suspends, Stops, Restarts, Waits, Goes, Demand3}
 use Rattle.claims.specs.Events.{Healthy, onBody, raised, raisedAt, Events}
@@ -37,11 +37,12 @@ suspends n = eqb n 0 || eqb n 2 || eqb n 6
 abbrev pub room : View → ℕ → Bool
 room v n = leb (min (v .used + n) (2 ^ 64 - 1)) (v .rules .memory)
 
--- c runs on top, fuel is not 0 (else a cleanup may come first, or the answer may be 10), and there is room for n bytes and for what it
+-- c runs on top, its instruction is paid for, and there is room for n bytes and for what it
 -- would save beyond the most that it has saved. 01: "8 bytes per register and F per frame beyond the coroutine's largest saved sizes so far"
 pub record Roomy (e : Engine) (n c : ℕ) (s : e .State) : Type 0 where
   pub healthy : Healthy e s
-  pub fuel : eqb (e .view s .fuel .fuel) 0 ≡ false
+  -- by the fuel or the bank, and no cleanup comes first: whom a call was to enter, it enters
+  pub paid : (pc : ℕ) (y : Entry) → charged (e .view s) pc (some y) ≡ some y
   pub held : Held (e .view s) c
   pub seen : Seen
   pub there : e .view s .coro c ≡ some seen

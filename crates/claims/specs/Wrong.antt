@@ -178,6 +178,23 @@ hushing = answering (λ n. pick (eqb n 6) 0 n)
 abbrev pub grudging : Engine
 grudging = answering (λ n. pick (ltb 0 n) 9 0)
 
+-- at fuel 0 a suspension is answered 10, and is not done, whatever the bank holds
+abbrev pub unpaid : World → World → Bool
+unpaid w z = eqb (w .fuel .fuel) 0 && ltb (length (z .chain)) (length (w .chain))
+
+abbrev pub stingy : Engine
+stingy =
+    record {
+      State = World;
+      Call = Call;
+      op = opOf;
+      asks = asksOf;
+      view = viewOf;
+      next = λ w k. let z = step w k .world in pick (unpaid w z) w z;
+      number = λ w k. pick (unpaid w (step w k .world)) 10 (numberOf (step w k .answer));
+      look = looks;
+    }
+
 -- who returns while it is being closed has the result 5
 abbrev pub paying : List Active → World → World → World
 paying [] w z = z
@@ -246,6 +263,7 @@ pub record Wrong : Type 0 where
   pub throw-lost : Events muting → ⊥
   pub ignored-unheard : Events hushing → ⊥
   pub always-nine : Accepts grudging → ⊥
+  pub bank-unused : Accepts stingy → ⊥
   pub close-pays : Events closing → ⊥
   pub result-changes : Events (rewriting c) → ⊥
   pub aborted : Events (aborting c) → ⊥

@@ -10,7 +10,7 @@ use lib.Dec.{eqb}
 use Rattle.lists.specs.Pick.{pick}
 use Rattle.heap.specs.declared.value.Opt.{Opt}
 use Rattle.claims.specs.Engine.{Seen, View, Engine, run, isNew, runs, awaits, seenIn, is}
-use Rattle.claims.specs.Says.{doing, lie}
+use Rattle.claims.specs.Says.{doing, lie, Entry, charged}
 use Rattle.claims.specs.Held.{Held, closer, By, Entered, Restored}
 use Rattle.claims.specs.Delivery.{recorded, Left, resultOf}
 use Rattle.claims.specs.Demand3.{Enters, Suspends, Stops, Restarts, Waits, Goes, Demand3}
@@ -123,20 +123,20 @@ module _ (e d : Engine) (f : Follows e d) where
   -- what is seen of a state in which c has room to suspend, and n bytes more
   Roomily : ℕ → ℕ → View → Type 0
   Roomily n c v =
-      (eqb (v .fuel .fuel) 0 ≡ false) × (held : Held v c) × (seen : Seen) × (v .coro c ≡ some seen)
+      ((pc : ℕ) (y : Entry) → charged v pc (some y) ≡ some y) × (held : Held v c) × (seen : Seen) × (v .coro c ≡ some seen)
       × (room v (n + ((length (drop (held .body .base) (v .stack)) - seen .mostWords) * 8 + (length (held .over ++ (held .body ∷ [])) - seen .mostFrames) * v .rules .frameCost)) ≡ true)
 
   roomy : (n c : ℕ) (s : e .State) → Roomy e n c s → Roomy d n c (f .to s)
   unfolding Roomily
   roomy n c s r =
-      let (fuel, held, seen, there, grows) = subst (Roomily n c) (sym (f .view s)) (r .fuel, r .held, r .seen, r .there, r .grows) in
-      record { healthy = up-healthy e d f s (r .healthy); fuel = fuel; held = held; seen = seen; there = there; grows = grows }
+      let (paid, held, seen, there, grows) = subst (Roomily n c) (sym (f .view s)) (r .paid, r .held, r .seen, r .there, r .grows) in
+      record { healthy = up-healthy e d f s (r .healthy); paid = paid; held = held; seen = seen; there = there; grows = grows }
 
   roomy-down : (n c : ℕ) (s : e .State) → Roomy d n c (f .to s) → Roomy e n c s
   unfolding Roomily
   roomy-down n c s r =
-      let (fuel, held, seen, there, grows) = subst (Roomily n c) (f .view s) (r .fuel, r .held, r .seen, r .there, r .grows) in
-      record { healthy = down-healthy e d f s (r .healthy); fuel = fuel; held = held; seen = seen; there = there; grows = grows }
+      let (paid, held, seen, there, grows) = subst (Roomily n c) (f .view s) (r .paid, r .held, r .seen, r .there, r .grows) in
+      record { healthy = down-healthy e d f s (r .healthy); paid = paid; held = held; seen = seen; there = there; grows = grows }
 
   -- the operands lie in the frame
   lying : (s : e .State) (rs : List ℕ) → lie (e .view s) rs ≡ true → lie (d .view (f .to s)) rs ≡ true
