@@ -21,6 +21,7 @@ use Rattle.claims.proofs.Exact.{healthy-sound, no-some, entered, suspen
 use Rattle.claims.proofs.Heard.{heard}
 use Rattle.claims.proofs.Returned.{returns, returned-by, closed}
 use Rattle.claims.proofs.Losses.{fails-by, failed-by}
+use Rattle.claims.proofs.Results.{spoilt, stopped}
 use Rattle.claims.proofs.Values.{integer, word}
 use Rattle.claims.proofs.Closing.{closing, yielded, awaited, fixed}
 use Rattle.claims.proofs.Still.{still, unbegun}
@@ -57,6 +58,8 @@ events =
       returned = λ c w k h e. returned-by c w k (healthy-sound w h) e;
       fails = fails-by;
       failed = λ c w k h r l. failed-by c w k (healthy-sound w h) r l;
+      spoilt = spoilt;
+      stopped = stopped;
       integer = integer;
       word = word;
       closed = closed;

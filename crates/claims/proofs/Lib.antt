@@ -18,6 +18,7 @@ pub mod Begins
 pub mod Deliver
 pub mod Switches
 pub mod Endings
+pub mod Ended
 pub mod Calls
 pub mod Claim
 pub mod Acceptance
@@ -36,6 +37,7 @@ pub mod Numbers
 pub mod Exact
 pub mod Heard
 pub mod Losses
+pub mod Results
 pub mod Returned
 pub mod Values
 pub mod Closing

@@ -61,7 +61,7 @@ use Rattle.claims.proofs.Views.{is-runs}
 use Rattle.claims.proofs.Finishes.{FinishCase, f-other, f-returns, finish-case}
 use Rattle.claims.proofs.Bodies.{at-top}
 use Rattle.claims.proofs.Escapes.{AllSeen, Sees}
-use Rattle.claims.proofs.Failures.{unmade, isFailed, Loses, run-fails, AllRun, search-loses}
+use Rattle.claims.proofs.Failures.{unmade, isFailed, Dead, dead-same, Loses, run-fails, AllRun, search-loses}
 use Rattle.claims.proofs.Unwinds.{sees, all-same, push-coros, stored-sees}
 use Rattle.claims.proofs.Exact.{number-sound, no-some}
 
@@ -70,11 +70,11 @@ use Rattle.claims.proofs.Exact.{number-sound, no-some}
 -- what is raised, if anything, and who fails of it
 pub record Unwound (w : World) (o : After Answer) (y : Option ℕ) (xs : List ℕ) : Type 0 where
   pub made : (x : ℕ) → y ≡ some x → fits w (w .setup .costs .error) ≡ true → slotsFull w ≡ false → unmade (o .answer) ≡ false
-  pub gone : (c : ℕ) → unmade (o .answer) ≡ false → among c xs ≡ true → coreAt (o .world) c .state ≡ CoroState.Failed
+  pub gone : (c : ℕ) → unmade (o .answer) ≡ false → among c xs ≡ true → (x : ℕ) × (y ≡ some x) × Dead x (coreAt (o .world) c)
   pub lost : (c : ℕ) → isRunning (coreAt w c .state) ≡ true → isFailed (coreAt (o .world) c .state) ≡ true → (unmade (o .answer) ≡ false) × (among c xs ≡ true)
 
-by-loses : {w : World} {o : After Answer} {y : Option ℕ} {xs : List ℕ} → Loses w o xs → Unwound w o y xs
-by-loses {w} {o} {y} {xs} l = record { made = λ x p q r. l .made; gone = λ c m h. l .gone c h .1; lost = λ c r f. (l .made, go c r f (among c xs) refl) }
+by-loses : {x : ℕ} {w : World} {o : After Answer} {xs : List ℕ} → Loses x w o xs → Unwound w o (some x) xs
+by-loses {x} {w} {o} {xs} l = record { made = λ x p q r. l .made; gone = λ c m h. (x, refl, l .gone c h .1); lost = λ c r f. (l .made, go c r f (among c xs) refl) }
   where
     go : (c : ℕ) → isRunning (coreAt w c .state) ≡ true → isFailed (coreAt (o .world) c .state) ≡ true → (b : Bool) → among c xs ≡ b → among c xs ≡ true
     go c r f true e = e
@@ -88,11 +88,11 @@ by-same {w} {o} {y} {xs} e u n = record { made = λ x p q r. absurd (n x p q r);
     no (inl q) c m h = no-both q m
     no (inr q) c m h = no-both h (ap (among c) q)
 
-loses-same : {w u : World} {o : After Answer} {xs : List ℕ} → ((c : ℕ) → coreAt u c ≡ coreAt w c) → Loses u o xs → Loses w o xs
+loses-same : {x : ℕ} {w u : World} {o : After Answer} {xs : List ℕ} → ((c : ℕ) → coreAt u c ≡ coreAt w c) → Loses x u o xs → Loses x w o xs
 loses-same e l = record {
   gone = λ c h. (ap (λ k. isRunning (k .state)) (sym (e c)) ∙ l .gone c h .0, l .gone c h .1);
   stays = λ c h r. l .stays c h (ap (λ k. isRunning (k .state)) (e c) ∙ r);
-  failed = λ c h. l .failed c (ap (λ k. k .state) (e c) ∙ h);
+  failed = λ c h. l .failed c (dead-same (e c) h);
   made = l .made;
 }
 
@@ -110,13 +110,13 @@ chain-runs w h = all-run w (w .chain) (and-left (each (λ a. runs (coro w (a .co
 
 module _ (w : World) (h : sound w ≡ true) where
   -- a word is raised at u, which is w but for objects and the top pc
-  frames-lose : (x : ℕ) (fs : List Frame) (u : World) → Sees (viewOf w) u → u .frames ≡ fs → u .chain ≡ w .chain → Loses u (searchFrames x u) (lost (viewOf w) x fs (w .chain))
+  frames-lose : (x : ℕ) (fs : List Frame) (u : World) → Sees (viewOf w) u → u .frames ≡ fs → u .chain ≡ w .chain → Loses x u (searchFrames x u) (lost (viewOf w) x fs (w .chain))
   frames-lose x fs u s p q =
-      subst (λ cs. Loses u (searchFrames x u) (lost (viewOf w) x fs cs)) q
-      (subst (λ gs. Loses u (searchFrames x u) (lost (viewOf w) x gs (u .chain))) p
+      subst (λ cs. Loses x u (searchFrames x u) (lost (viewOf w) x fs cs)) q
+      (subst (λ gs. Loses x u (searchFrames x u) (lost (viewOf w) x gs (u .chain))) p
       (search-loses (viewOf w) x (topFunc (u .frames)) (topPc (u .frames)) (u .frames) u refl s (subst (AllRun (viewOf w)) (sym q) (chain-runs w h))))
 
-  word-loses : (x : ℕ) (pc : OptPc) → Loses w (searchFrames x (storeSome pc w)) (lostAt (viewOf w) (some x) pc)
+  word-loses : (x : ℕ) (pc : OptPc) → Loses x w (searchFrames x (storeSome pc w)) (lostAt (viewOf w) (some x) pc)
   word-loses x OptPc.None = frames-lose x (w .frames) w (sees w h) refl refl
   word-loses x (OptPc.Some p) = loses-same (λ c. refl) (frames-lose x (at p (w .frames)) (storePc p w) (stored-sees w h (OptPc.Some p)) (at-top p (w .frames)) refl)
 
@@ -144,7 +144,7 @@ module _ (w : World) (h : sound w ≡ true) where
       go : (a b : Bool) → fits u (u .setup .costs .error) ≡ a → slotsFull u ≡ b → Unwound w (andThen (made (not a) b) searchMade) (some (nextWord (w .slots))) (lost (viewOf w) (nextWord (w .slots)) fs (w .chain))
       go false b i j = by-same (λ c. ap (λ xs. coreIn (coroIn xs c)) es) (inl refl) (λ x _ has _. no-both (room ∙ has) i)
       go true true i j = by-same (λ c. ap (λ xs. coreIn (coroIn xs c)) es) (inl refl) (λ x _ _ has. no-both j (slot ∙ has))
-      go true false i j = by-loses (loses-same (λ c. ap coreIn (here c)) (subst (λ xs. Loses y (searchFrames (nextWord (u .slots)) y) (lost (viewOf w) (nextWord xs) fs (w .chain))) es (frames-lose (nextWord (u .slots)) fs y known p q)))
+      go true false i j = by-loses (loses-same (λ c. ap coreIn (here c)) (subst (λ xs. Loses (nextWord xs) y (searchFrames (nextWord (u .slots)) y) (lost (viewOf w) (nextWord xs) fs (w .chain))) es (frames-lose (nextWord (u .slots)) fs y known p q)))
 
   object-unwound : (f : Fault) (pc : OptPc) → let u = storeSome pc w in Unwound w (andThen (alloc (u .setup .costs .error) (errorOf f u) u) searchMade) (some (nextWord (w .slots))) (lostAt (viewOf w) (some (nextWord (w .slots))) pc)
   object-unwound f OptPc.None = object-at f w (w .frames) refl refl refl refl refl refl
@@ -180,7 +180,7 @@ module _ (w : World) (h : sound w ≡ true) where
 
   pub thrown-gone : (x : ℕ) (pc : OptPc) (c : ℕ) → among c (lostAt (viewOf w) (some x) pc) ≡ true → coreAt (unwind (Fault.Throw x) pc w .world) c .state ≡ CoroState.Failed
   unfolding unwind pick
-  thrown-gone x pc c a = word-loses x pc .gone c a .1
+  thrown-gone x pc c a = word-loses x pc .gone c a .1 .0
 
 -- ---- other calls
 
@@ -309,7 +309,7 @@ module _ (w : World) (h : sound w ≡ true) (c : ℕ) (r : isRunning (coreAt w c
   call-lost Op.Look l = by-stop Op.Look refl l
 
   -- what runs is one of the chain
-  not-apart : {A : Type 0} → Apart c (w .chain) → A
+  pub not-apart : {A : Type 0} → Apart c (w .chain) → A
   not-apart n = go (coro w c) refl
     where
       go : {A : Type 0} (x : Coroutine) → coro w c ≡ x → A
@@ -319,7 +319,7 @@ module _ (w : World) (h : sound w ≡ true) (c : ℕ) (r : isRunning (coreAt w c
   has-lost : (o : Op) → Lost (viewOf w) (numberOf (call o w .answer)) c (some o) → coreAt (call o w .world) c .state ≡ CoroState.Failed
   unfolding call
   has-lost o (thrown x pc a) = thrown-gone w h x pc c a
-  has-lost o (escapes f pc m a) = unwound w h f pc .gone c m a
+  has-lost o (escapes f pc m a) = let (x, e, d) = unwound w h f pc .gone c m a in d .0
   has-lost o Said.stops = go (stop-stops w .each c)
     where
       z : World
@@ -330,7 +330,7 @@ module _ (w : World) (h : sound w ≡ true) (c : ℕ) (r : isRunning (coreAt w c
       go (inr (inl x)) = x
       go (inr (inr x)) = no-both (x .0) (run-born (coreAt w c .state) r)
 
-is-failed : (w : World) (c : ℕ) → is (viewOf w) Said.failed c ≡ isFailed (coreAt w c .state)
+pub is-failed : (w : World) (c : ℕ) → is (viewOf w) Said.failed c ≡ isFailed (coreAt w c .state)
 is-failed w c = go (coro w c)
   where
     go : (x : Coroutine) → Engine.seenIn (λ y. Said.failed (y .state)) (seenOf x) ≡ isFailed (coreIn x .state)

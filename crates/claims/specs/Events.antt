@@ -197,6 +197,10 @@ pub data Lost (v : View) (n c : ℕ) : Option Op → Type 0 where
   escapes : (f : Fault) (pc : OptPc) → (eqb n 9 || eqb n 14) ≡ false → among c (lostAt v (raised v f) pc) ≡ true → Lost v n c (some (Op.Unwind f pc))
   stops : Lost v n c (some Op.StopRun)
 
+-- what is seen of one that has ended: nothing is saved any more, and nothing closes it
+abbrev pub endedAs : CoroState → ℕ → Option Seen
+endedAs s x = some (record { state = s; words = []; frames = []; mostWords = 0; mostFrames = 0; closing = false; signal = 0; result = x })
+
 -- ---- what else is seen and is not a word, a frame or a state
 
 -- not Returned, not Failed
@@ -239,6 +243,10 @@ pub record Events (e : Engine) : Type 0 where
   pub returned : (c : ℕ) (s : e .State) (k : e .Call) → Healthy e s → returned (e .view s) (doing (e .view s) (e .op k)) (e .number s k) ≡ some c → Returns e c s k
   pub fails : (c : ℕ) (s : e .State) (k : e .Call) → Fails e c s k → Lost (e .view s) (e .number s k) c (e .op k)
   pub failed : (c : ℕ) (s : e .State) (k : e .Call) → Healthy e s → is (e .view s) runs c ≡ true → Lost (e .view s) (e .number s k) c (e .op k) → Fails e c s k
+  -- the result of one that fails is the word that was raised; where the run is stopped, nil
+  pub spoilt : (c : ℕ) (s : e .State) (k : e .Call) (f : Fault) (pc : OptPc) (x : ℕ) → Fails e c s k → e .op k ≡ some (Op.Unwind f pc) → raised (e .view s) f ≡ some x
+      → e .view (e .next s k) .coro c ≡ endedAs CoroState.Failed x
+  pub stopped : (c : ℕ) (s : e .State) (k : e .Call) → Fails e c s k → e .op k ≡ some Op.StopRun → e .view (e .next s k) .coro c ≡ endedAs CoroState.Failed 0
   -- an integer that is returned is recorded as a word that stands for it
   pub integer : (c : ℕ) (s : e .State) (k : e .Call) (kind : ResultKind) (x : ℕ) → Returns e c s k → e .op k ≡ some (Op.Finish kind x) → isInteger kind ≡ true
       → let z = e .view (e .next s k) in z .integer (recorded (z .coro c)) ≡ Opt.Some x
