@@ -9,7 +9,7 @@ use mathlib.Core.Option.{Option, none}
 use Rattle.heap.specs.Word.{nil}
 use Rattle.heap.specs.declared.object.CoroState.{CoroState}
 use Rattle.model.specs.State.{isRunning}
-use Rattle.model.specs.Object.{Coroutine, Absent, Is}
+use Rattle.model.specs.Object.{Core, Rest, Coroutine, Absent, Is}
 use Rattle.model.specs.World.{World}
 use Rattle.model.specs.Heap.{coro, changeAs}
 use Rattle.model.specs.Coro.{inState, ended, finishCoroutine, failAll}
@@ -22,19 +22,22 @@ use Rattle.claims.proofs.Shape.{Apart, Ends}
 use Rattle.claims.proofs.Quiet.{finish-ends}
 
 -- one that is there is seen as ended
-pub there-seen : (v : ℕ) (s : CoroState) (x : ℕ) (w : World) → (coreAt w v .seen ≡ none) ⊎ (coreAt (finishCoroutine v s x w) v .seen ≡ endedAs s x)
-there-seen v s x w = go (coro w v) refl
-  where
-    go : (y : Coroutine) → coro w v ≡ y → (coreIn y .seen ≡ none) ⊎ (coreAt (changeAs y v (inState s) (ended x) w) v .seen ≡ endedAs s x)
-    go Absent e = inl refl
-    go (Is k r) e = inr (ap (λ y. coreIn y .seen) (set-mine (w .slots) v e (inState s k) (ended x r)))
+pub there-seen : (v : ℕ) (s : CoroState) (x : ℕ) (w : World) {k : Core} {r : Rest} → coro w v ≡ Is k r → coreAt (finishCoroutine v s x w) v .seen ≡ endedAs s x
+there-seen v s x w {k} {r} e = ap (λ y. coreAt (changeAs y v (inState s) (ended x) w) v .seen) e ∙ ap (λ y. coreIn y .seen) (set-mine (w .slots) v e (inState s k) (ended x r))
 
 pub run-seen : (v : ℕ) (s : CoroState) (x : ℕ) (w : World) → isRunning (coreAt w v .state) ≡ true → coreAt (finishCoroutine v s x w) v .seen ≡ endedAs s x
-run-seen v s x w h = go (coro w v) refl h
+run-seen v s x w h = go (coro w v) refl
   where
-    go : (y : Coroutine) → coro w v ≡ y → isRunning (coreIn y .state) ≡ true → coreAt (changeAs y v (inState s) (ended x) w) v .seen ≡ endedAs s x
-    go Absent e q = no-both q refl
-    go (Is k r) e q = ap (λ y. coreIn y .seen) (set-mine (w .slots) v e (inState s k) (ended x r))
+    go : (y : Coroutine) → coro w v ≡ y → coreAt (finishCoroutine v s x w) v .seen ≡ endedAs s x
+    go Absent e = no-both h (ap (λ y. isRunning (coreIn y .state)) e)
+    go (Is k r) e = there-seen v s x w e
+
+fail-seen : (v : ℕ) (w : World) → (coreAt w v .seen ≡ none) ⊎ (coreAt (finishCoroutine v CoroState.Failed nil w) v .seen ≡ endedAs CoroState.Failed nil)
+fail-seen v w = go (coro w v) refl
+  where
+    go : (y : Coroutine) → coro w v ≡ y → (coreAt w v .seen ≡ none) ⊎ (coreAt (finishCoroutine v CoroState.Failed nil w) v .seen ≡ endedAs CoroState.Failed nil)
+    go Absent e = inl (ap (λ y. coreIn y .seen) e)
+    go (Is k r) e = inr (there-seen v CoroState.Failed nil w e)
 
 -- ---- the end of the run
 
@@ -53,7 +56,7 @@ fail-stays (a ∷ chain) w c h = fail-stays chain (finishCoroutine (a .coro) Cor
     mine q (inr e) = ap (λ u. coreAt y u .seen) q ∙ e
 
     go : Dec (c ≡ a .coro) → coreAt y c .seen ≡ endedAs CoroState.Failed nil
-    go (yes q) = mine q (there-seen (a .coro) CoroState.Failed nil w)
+    go (yes q) = mine q (fail-seen (a .coro) w)
     go (no q) = ap (λ (k : Seat). k .seen) (finish-ends (a .coro) CoroState.Failed nil w .others c q) ∙ h
 
 -- each of the chain that is there is seen as failed
@@ -72,7 +75,7 @@ stop-seen (a ∷ chain) w c = go (ℕ-discrete c (a .coro)) (stop-seen chain y c
     mine q (inr e) = inr (inr (fail-stays chain y c (ap (λ u. coreAt y u .seen) q ∙ e)))
 
     go : Dec (c ≡ a .coro) → Apart c chain ⊎ ((coreAt y c .seen ≡ none) ⊎ (coreAt z c .seen ≡ endedAs CoroState.Failed nil)) → Apart c (a ∷ chain) ⊎ ((coreAt w c .seen ≡ none) ⊎ (coreAt z c .seen ≡ endedAs CoroState.Failed nil))
-    go (yes q) s = mine q (there-seen (a .coro) CoroState.Failed nil w)
+    go (yes q) s = mine q (fail-seen (a .coro) w)
     go (no q) (inl n) = inl (q, n)
     go (no q) (inr (inl n)) = inr (inl (ap (λ (k : Seat). k .seen) (sym (finish-ends (a .coro) CoroState.Failed nil w .others c q)) ∙ n))
     go (no q) (inr (inr e)) = inr (inr e)

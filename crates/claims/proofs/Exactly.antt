@@ -25,6 +25,7 @@ use Rattle.claims.proofs.Results.{spoilt, stopped}
 use Rattle.claims.proofs.Values.{integer, word}
 use Rattle.claims.proofs.Closing.{closing, yielded, awaited, fixed}
 use Rattle.claims.proofs.Still.{still, unbegun}
+use Rattle.claims.proofs.Undone.{closes-new, throws-new}
 use Rattle.claims.proofs.States.{runs-on, comes}
 
 -- a call that lets one return enters nobody, and suspends nobody
@@ -68,6 +69,8 @@ events =
       awaited = awaited;
       still = still;
       unbegun = unbegun;
+      closes-new = closes-new;
+      throws-new = throws-new;
       runs-on = runs-on;
       comes = comes;
       fixed = fixed;

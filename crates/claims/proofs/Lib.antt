@@ -42,6 +42,7 @@ pub mod Returned
 pub mod Values
 pub mod Closing
 pub mod Still
+pub mod Undone
 pub mod States
 pub mod Exactly
 pub mod Premises

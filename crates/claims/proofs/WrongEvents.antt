@@ -179,7 +179,7 @@ stateIn (some x) = code (x .state)
 pub aborted : Events (aborting c) → ⊥
 unfolding computed waiting stateIn
 aborted v =
-    let q : _≡_ {A = ℕ} 5 0 = ap stateIn (v .unbegun c waiting (asCall (Op.CoroCurrent 9 1) current-typed) (λ r. no-set-up (r .sets-up)) (λ h. no-both (h .after) refl) refl (λ e. no-one e)) in
+    let q : _≡_ {A = ℕ} 5 0 = ap stateIn (v .unbegun c waiting (asCall (Op.CoroCurrent 9 1) current-typed) (λ r. no-set-up (r .sets-up)) (λ h. no-both (h .after) refl) refl (λ e _. no-one e)) in
     absurd (omega (arith, q))
   where
     no-one : _≡_ {A = Option ℕ} none (some c) → ⊥

@@ -20,7 +20,7 @@ use Rattle.model.specs.declared.machine.Frame.{Frame}
 use Rattle.model.specs.declared.call.OptPc.{OptPc}
 use Rattle.model.specs.declared.call.Op.{Op}
 use Rattle.claims.specs.Engine.{Seen, View, Engine, code, isNew, runs, awaits, sleeps, ended, seenIn, is}
-use Rattle.claims.specs.Says.{Sent, nothing, gets, closes, Aim, enter, suspend, neither, Does, instr, hosts, finishes, raises, other, doing}
+use Rattle.claims.specs.Says.{word, Sent, nothing, gets, closes, Aim, enter, suspend, neither, Does, instr, hosts, finishes, raises, other, doing, whom}
 use Rattle.claims.specs.Held.{at, closer, By}
 use Rattle.claims.specs.Delivery.{recorded, resultOf}
 use Rattle.claims.specs.Demand3.{Enters, Suspends, Restarts}
@@ -247,6 +247,12 @@ pub record Events (e : Engine) : Type 0 where
   pub spoilt : (c : ℕ) (s : e .State) (k : e .Call) (f : Fault) (pc : OptPc) (x : ℕ) → Fails e c s k → e .op k ≡ some (Op.Unwind f pc) → raised (e .view s) f ≡ some x
       → e .view (e .next s k) .coro c ≡ endedAs CoroState.Failed x
   pub stopped : (c : ℕ) (s : e .State) (k : e .Call) → Fails e c s k → e .op k ≡ some Op.StopRun → e .view (e .next s k) .coro c ≡ endedAs CoroState.Failed 0
+  -- of one that has not begun, where no cleanup comes first: a close that is answered 0 has it return nil, a throw that is answered 17
+  -- has it fail of that word, and any other answer leaves it
+  pub closes-new : (c : ℕ) (s : e .State) (k : e .Call) (pc dst r src : ℕ) → e .op k ≡ some (Op.CoroClose pc dst r src) → word (e .view s) r ≡ c → is (e .view s) isNew c ≡ true → whom (e .view s) (e .op k) ≡ none
+      → e .view (e .next s k) .coro c ≡ pick (eqb (e .number s k) 0) (endedAs CoroState.Returned 0) (e .view s .coro c)
+  pub throws-new : (c : ℕ) (s : e .State) (k : e .Call) (pc dst r src : ℕ) → e .op k ≡ some (Op.ResumeThrow pc dst r src) → word (e .view s) r ≡ c → is (e .view s) isNew c ≡ true → whom (e .view s) (e .op k) ≡ none
+      → e .view (e .next s k) .coro c ≡ pick (eqb (e .number s k) 17) (endedAs CoroState.Failed (word (e .view s) src)) (e .view s .coro c)
   -- an integer that is returned is recorded as a word that stands for it
   pub integer : (c : ℕ) (s : e .State) (k : e .Call) (kind : ResultKind) (x : ℕ) → Returns e c s k → e .op k ≡ some (Op.Finish kind x) → isInteger kind ≡ true
       → let z = e .view (e .next s k) in z .integer (recorded (z .coro c)) ≡ Opt.Some x
@@ -263,9 +269,9 @@ pub record Events (e : Engine) : Type 0 where
   pub awaited : (c : ℕ) (s : e .State) (k : e .Call) → Suspends e c s k → is (e .view (e .next s k)) awaits c ≡ isAwait (doing (e .view s) (e .op k))
   -- who sleeps, has returned or has failed is seen as before until it is entered, or the machine is set up anew
   pub still : (c : ℕ) (s : e .State) (k : e .Call) → (Restarts e s k → ⊥) → (Enters e c s k → ⊥) → is (e .view s) rests c ≡ true → e .view (e .next s k) .coro c ≡ e .view s .coro c
-  -- and so is one that has not begun, unless it is closed or a word is thrown into it
-  pub unbegun : (c : ℕ) (s : e .State) (k : e .Call) → (Restarts e s k → ⊥) → (Enters e c s k → ⊥) → is (e .view s) isNew c ≡ true → (undone (doing (e .view s) (e .op k)) ≡ some c → ⊥)
-      → e .view (e .next s k) .coro c ≡ e .view s .coro c
+  -- and so is one that has not begun, unless it is closed or a word is thrown into it, and no cleanup comes first
+  pub unbegun : (c : ℕ) (s : e .State) (k : e .Call) → (Restarts e s k → ⊥) → (Enters e c s k → ⊥) → is (e .view s) isNew c ≡ true
+      → (undone (doing (e .view s) (e .op k)) ≡ some c → whom (e .view s) (e .op k) ≡ none → ⊥) → e .view (e .next s k) .coro c ≡ e .view s .coro c
   -- who runs runs on, unless it is suspended, returns or fails; and who comes has not begun
   pub runs-on : (c : ℕ) (s : e .State) (k : e .Call) → (Restarts e s k → ⊥) → is (e .view s) runs c ≡ true → (Suspends e c s k → ⊥) → (Returns e c s k → ⊥) → (Fails e c s k → ⊥) → is (e .view (e .next s k)) runs c ≡ true
   pub comes : (c : ℕ) (s : e .State) (k : e .Call) → (undone (doing (e .view s) (e .op k)) ≡ some c → ⊥) → e .view s .coro c ≡ none
