@@ -13,7 +13,7 @@ use Rattle.heap.specs.declared.fault.Fault.{Fault}
 use Rattle.model.specs.World.{World, fresh}
 use Rattle.model.specs.Step as M
 use Rattle.model.specs.Answer.{numberOf}
-use Rattle.model.specs.Call.{SetUp, Do, typed, asCall}
+use Rattle.model.specs.Call.{Call, SetUp, Do, typed, asCall}
 use Rattle.model.specs.Compute.{computed}
 use Rattle.heap.specs.declared.object.CoroState.{CoroState}
 use Rattle.model.specs.declared.machine.Cont.{Cont}
@@ -25,12 +25,12 @@ use Rattle.claims.specs.Engine.{Seen, Rules, run, code, isNew, is}
 use Rattle.claims.specs.Says.{nothing, gets, closes}
 use Rattle.claims.specs.Delivery.{recorded}
 use Rattle.claims.specs.Events.{Healthy, thrown, escapes, Events}
-use Rattle.claims.specs.Promise.{Roomy, Accepts, SetUps, Looks}
-use Rattle.claims.specs.Steps.{viewOf}
+use Rattle.claims.specs.Promise.{Roomy, Accepts, SetUps, Looks, Speaks}
+use Rattle.claims.specs.Steps.{viewOf, opOf}
 use Rattle.claims.specs.Story as Story
 use Rattle.claims.specs.Story.{wide, c, held}
 use Rattle.claims.specs.Witness.{nth, frame}
-use Rattle.claims.specs.Wrong.{idle, two, failing, forgetting, sparing, yielding, lostIn, excusing, muting, hushing, grudging, unpaid, stingy, closing, rewriting, aborting, renewing, stillborn, fuelled, shrinking, showing}
+use Rattle.claims.specs.Wrong.{idle, two, failing, forgetting, sparing, yielding, lostIn, excusing, muting, hushing, grudging, unpaid, stingy, closing, rewriting, aborting, harsh, misnaming, renewing, stillborn, fuelled, shrinking, heardAs, deaf, showing}
 use Rattle.claims.proofs.Cores.{no-both}
 use Rattle.claims.proofs.Promise.{sound-healthy}
 
@@ -185,6 +185,21 @@ aborted v =
     no-one : _≡_ {A = Option ℕ} none (some c) → ⊥
     no-one e = let z : _≡_ {A = ℕ} 0 1 = cc in absurd (omega arith)
 
+-- it is closed; and c runs, and fails
+close-typed : typed (Op.CoroClose 3 1 0 2) ≡ true
+unfolding typed
+close-typed = refl
+
+pub close-fails : Events (harsh c) → ⊥
+unfolding computed waiting stateIn
+close-fails v = let q : _≡_ {A = ℕ} 5 4 = ap stateIn (v .closes-new c waiting (asCall (Op.CoroClose 3 1 0 2) close-typed) 3 1 0 2 refl refl refl refl) in absurd (omega (arith, q))
+
+pub wrong-result : Events (misnaming c) → ⊥
+unfolding computed begun
+wrong-result v =
+    let q : _≡_ {A = ℕ} 5 7 = ap recorded (v .spoilt c begun (asCall (Op.Unwind (Fault.Throw 7) OptPc.None) throw-typed) (Fault.Throw 7) OptPc.None 7 (record { before = refl; after = refl }) refl refl) in
+    absurd (omega (arith, q))
+
 pub renewed : Events (renewing c) → ⊥
 unfolding computed begun
 renewed v = no-both (v .runs-on c begun (asCall (Op.CoroCurrent 9 1) current-typed) (λ r. no-set-up (r .sets-up)) refl (λ h. no-both (h .after) refl) (λ h. no-both (h .after) refl) (λ h. no-both (h .after) refl)) refl
@@ -280,6 +295,17 @@ deep (some r) = r .depth
 pub other-limits : SetUps shrinking → ⊥
 unfolding computed begun deep
 other-limits v = let q : _≡_ {A = ℕ} 6 1 = ap deep (v .given begun (SetUp wide) (record { sets-up = refl; accepted = refl })) in absurd (omega (arith, q))
+
+stop-typed : typed Op.StopRun ≡ true
+unfolding typed
+stop-typed = refl
+
+pub speechless : Speaks deaf → ⊥
+speechless v = let (k, q) = v (record { op = Op.StopRun; within = stop-typed }) in go k q
+  where
+    go : (k : Call) → heardAs (opOf k) ≡ some Op.StopRun → ⊥
+    go (SetUp s) q = let z : _≡_ {A = ℕ} 0 1 = cc in absurd (omega arith)
+    go (Do o) q = let z : _≡_ {A = ℕ} 0 1 = cc in absurd (omega arith)
 
 pub all-shown : Looks showing → ⊥
 unfolding computed begun

@@ -118,6 +118,10 @@ pub record Looks (e : Engine) : Type 0 where
   pub unseen : (s : e .State) → (Healthy e s → ⊥) → e .look s ≡ []
   pub unmoved : (s : e .State) (k : e .Call) → e .op k ≡ some Op.Look → e .view (e .next s k) ≡ e .view s
 
+-- every operation of 01, with operands that its types can hold, is a call
+abbrev pub Speaks : Engine → Type 0
+Speaks e = (o : Operation) → (k : e .Call) × (e .op k ≡ some (o .op))
+
 -- ---- one list of calls in which every premise of demand 3 holds, and those of acceptance where its first call is made
 
 pub record NotEmpty (e : Engine) : Type 0 where
@@ -146,6 +150,5 @@ pub record Promise (e : Engine) : Type 0 where
   pub soundness : Soundness e
   pub set-ups : SetUps e
   pub looks : Looks e
-  -- every operation of 01 can be asked for
-  pub speaks : (o : Operation) → (k : e .Call) × (e .op k ≡ some (o .op))
+  pub speaks : Speaks e
   pub not-empty : NotEmpty e

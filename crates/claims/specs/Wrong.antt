@@ -22,7 +22,7 @@ use Rattle.model.specs.declared.call.Op.{Op}
 use Rattle.claims.specs.Engine.{Engine, isNew, runs, awaits, sleeps, ended, seenIn, is}
 use Rattle.claims.specs.Demand3.{Demand3}
 use Rattle.claims.specs.Events.{isBody, failed, Events}
-use Rattle.claims.specs.Promise.{Accepts, SetUps, Looks}
+use Rattle.claims.specs.Promise.{Accepts, SetUps, Looks, Speaks}
 use Rattle.claims.specs.Steps.{viewOf, opOf, asksOf, looks}
 use Rattle.claims.specs.Story.{c}
 
@@ -211,6 +211,13 @@ rewriting c = leaving (λ w k. let z = step w k .world in pick (is (viewOf w) en
 abbrev pub aborting : ℕ → Engine
 aborting c = leaving (λ w k. let z = step w k .world in pick (is (viewOf w) isNew c) (changeCoro c (inState CoroState.Failed) (λ r. r) z) z)
 
+-- a close has it fail, where it has not begun; who fails has the result 5
+abbrev pub harsh : ℕ → Engine
+harsh c = leaving (λ w k. let z = step w k .world in pick (is (viewOf w) isNew c && is (viewOf z) ended c) (changeCoro c (inState CoroState.Failed) (λ r. r) z) z)
+
+abbrev pub misnaming : ℕ → Engine
+misnaming c = leaving (λ w k. let z = step w k .world in pick (is (viewOf w) runs c && is (viewOf z) failed c) (changeCoro c (λ k. k) (withResult 5) z) z)
+
 -- c, which runs, is new again; c comes as one that has failed
 abbrev pub renewing : ℕ → Engine
 renewing c = leaving (λ w k. let z = step w k .world in pick (is (viewOf w) runs c) (changeCoro c (inState CoroState.Created) (λ r. r) z) z)
@@ -218,7 +225,15 @@ renewing c = leaving (λ w k. let z = step w k .world in pick (is (viewOf w) run
 abbrev pub stillborn : ℕ → Engine
 stillborn c = leaving (λ w k. let z = step w k .world in pick (not (is (viewOf w) isNew c) && is (viewOf z) isNew c) (changeCoro c (inState CoroState.Failed) (λ r. r) z) z)
 
--- ---- machines whose set-ups or looks are wrong
+-- ---- machines whose set-ups, looks or calls are wrong
+
+-- every operation is taken for a look
+abbrev pub heardAs : Option Op → Option Op
+heardAs none = none
+heardAs (some o) = some Op.Look
+
+abbrev pub deaf : Engine
+deaf = record { State = World; Call = Call; op = λ k. heardAs (opOf k); asks = asksOf; view = viewOf; next = λ w k. step w k .world; number = λ w k. numberOf (step w k .answer); look = looks }
 
 -- a set-up leaves the fuel
 abbrev pub refuelled : Option Op → Fuel → World → World
@@ -267,8 +282,11 @@ pub record Wrong : Type 0 where
   pub close-pays : Events closing → ⊥
   pub result-changes : Events (rewriting c) → ⊥
   pub aborted : Events (aborting c) → ⊥
+  pub close-fails : Events (harsh c) → ⊥
+  pub wrong-result : Events (misnaming c) → ⊥
   pub renewed : Events (renewing c) → ⊥
   pub comes-failed : Events (stillborn c) → ⊥
   pub fuel-stays : SetUps fuelled → ⊥
   pub other-limits : SetUps shrinking → ⊥
+  pub speechless : Speaks deaf → ⊥
   pub all-shown : Looks showing → ⊥

@@ -9,12 +9,13 @@ use lib.ListN.{length, drop}
 use lib.Dec.{eqb}
 use Rattle.lists.specs.Pick.{pick}
 use Rattle.heap.specs.declared.value.Opt.{Opt}
+use Rattle.heap.specs.declared.object.CoroState.{CoroState}
 use Rattle.claims.specs.Engine.{Seen, View, Engine, run, isNew, runs, awaits, seenIn, is}
-use Rattle.claims.specs.Says.{doing, lie, Entry, charged}
+use Rattle.claims.specs.Says.{word, doing, lie, Entry, charged, whom}
 use Rattle.claims.specs.Held.{Held, closer, By, Entered, Restored}
 use Rattle.claims.specs.Delivery.{recorded, Left, resultOf}
 use Rattle.claims.specs.Demand3.{Enters, Suspends, Stops, Restarts, Waits, Goes, Demand3}
-use Rattle.claims.specs.Events.{Healthy, onBody, raised, raisedAt, answers, suspended, isAwait, toldTo, returned, Lost, lives, undone, rests, Events}
+use Rattle.claims.specs.Events.{Healthy, onBody, raised, raisedAt, answers, suspended, isAwait, toldTo, returned, Lost, endedAs, lives, undone, rests, Events}
 use Rattle.claims.specs.Promise.{suspends, room, Roomy, Makes, Accepts, Eleven, Soundness, Fresh, SetUps, registers, Looks, NotEmpty}
 use Rattle.claims.proofs.Premises.{Premises}
 use Rattle.lent_claims.proofs.Follows.{Follows, Sight, sight, same, along, ran}
@@ -91,6 +92,15 @@ module _ (e d : Engine) (f : Follows e d) where
         returned = λ c s k ok h. down-returns e d f s k c (p .returned c (f .to s) (f .by s k) (up-healthy e d f s ok) (up (returned-is c) s k h));
         fails = λ c s k h. down (lost-in c) s k (p .fails c (f .to s) (f .by s k) (up-fails e d f s k c h));
         failed = λ c s k ok r h. down-fails e d f s k c (p .failed c (f .to s) (f .by s k) (up-healthy e d f s ok) (ap (λ v. is v runs c) (f .view s) ∙ r) (up (lost-in c) s k h));
+        spoilt = λ c s k g pc x h o r.
+            down (λ v. v .after .coro c ≡ endedAs CoroState.Failed x) s k (p .spoilt c (f .to s) (f .by s k) g pc x (up-fails e d f s k c h) (f .op s k ∙ o) (ap (λ v. raised v g) (f .view s) ∙ r));
+        stopped = λ c s k h o. down (λ v. v .after .coro c ≡ endedAs CoroState.Failed 0) s k (p .stopped c (f .to s) (f .by s k) (up-fails e d f s k c h) (f .op s k ∙ o));
+        closes-new = λ c s k pc dst r src o i n u.
+            down (λ v. v .after .coro c ≡ pick (eqb (v .number) 0) (endedAs CoroState.Returned 0) (v .before .coro c)) s k
+            (p .closes-new c (f .to s) (f .by s k) pc dst r src (f .op s k ∙ o) (ap (λ v. word v r) (f .view s) ∙ i) (ap (λ v. is v isNew c) (f .view s) ∙ n) (up (λ v. whom (v .before) (v .op) ≡ none) s k u));
+        throws-new = λ c s k pc dst r src o i n u.
+            down (λ v. v .after .coro c ≡ pick (eqb (v .number) 17) (endedAs CoroState.Failed (word (v .before) src)) (v .before .coro c)) s k
+            (p .throws-new c (f .to s) (f .by s k) pc dst r src (f .op s k ∙ o) (ap (λ v. word v r) (f .view s) ∙ i) (ap (λ v. is v isNew c) (f .view s) ∙ n) (up (λ v. whom (v .before) (v .op) ≡ none) s k u));
         integer = λ c s k kind x h o i.
             down (λ v. v .after .integer (recorded (v .after .coro c)) ≡ Opt.Some x) s k (p .integer c (f .to s) (f .by s k) kind x (up-returns e d f s k c h) (f .op s k ∙ o) i);
         word = λ c s k kind x h o i.
@@ -105,7 +115,8 @@ module _ (e d : Engine) (f : Follows e d) where
         still = λ c s k r h l. down (λ v. v .after .coro c ≡ v .before .coro c) s k (p .still c (f .to s) (f .by s k) (λ x. r (down-restarts e d f s k x)) (λ x. h (down-enters e d f s k c x)) (up (λ v. is (v .before) rests c ≡ true) s k l));
         unbegun = λ c s k r h l u.
             down (λ v. v .after .coro c ≡ v .before .coro c) s k
-            (p .unbegun c (f .to s) (f .by s k) (λ x. r (down-restarts e d f s k x)) (λ x. h (down-enters e d f s k c x)) (up (λ v. is (v .before) isNew c ≡ true) s k l) (λ x. u (down (λ v. undone (doing (v .before) (v .op)) ≡ some c) s k x)));
+            (p .unbegun c (f .to s) (f .by s k) (λ x. r (down-restarts e d f s k x)) (λ x. h (down-enters e d f s k c x)) (up (λ v. is (v .before) isNew c ≡ true) s k l)
+            (λ x y. u (down (λ v. undone (doing (v .before) (v .op)) ≡ some c) s k x) (down (λ v. whom (v .before) (v .op) ≡ none) s k y)));
         runs-on = λ c s k r h a b g.
             down (λ v. is (v .after) runs c ≡ true) s k
             (p .runs-on c (f .to s) (f .by s k) (λ x. r (down-restarts e d f s k x)) (up (λ v. is (v .before) runs c ≡ true) s k h) (λ x. a (down-suspends e d f s k c x)) (λ x. b (down-returns e d f s k c x)) (λ x. g (down-fails e d f s k c x)));
