@@ -45,6 +45,7 @@ pub mod Still
 pub mod Undone
 pub mod States
 pub mod Exactly
+pub mod Operands
 pub mod Premises
 pub mod Witness
 pub mod Roomy

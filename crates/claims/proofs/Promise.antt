@@ -26,7 +26,7 @@ use Rattle.model.specs.Added as Added
 use Rattle.model.specs.Added.{accepted, registersOn}
 use Rattle.model.specs.Sound.{sound, floorsOk, beside, matches}
 use Rattle.model.specs.Answer.{numberOf}
-use Rattle.model.specs.Call.{Call, SetUp, Do}
+use Rattle.model.specs.Call.{Call, SetUp, Do, asCall}
 use Rattle.model.specs.Calls.{table}
 use Rattle.model.specs.Step.{call, tested, step, told}
 use Rattle.model.specs.Compute.{computed}
@@ -60,6 +60,7 @@ use Rattle.claims.proofs.Losses.{unwound}
 use Rattle.claims.proofs.Unwinds.{word-ended}
 use Rattle.claims.proofs.Exact.{healthy-sound, number-sound, no-some}
 use Rattle.claims.proofs.Returned.{on-body}
+use Rattle.claims.proofs.Operands.{as-typed}
 use Rattle.claims.proofs.Premises.{premises-met}
 use Rattle.claims.proofs.Exactly.{events, demand3}
 use Rattle.claims.proofs.Values.{can-make, word-in}
@@ -383,6 +384,6 @@ promise =
       soundness = soundness;
       set-ups = record { begun = set-up-begun; given = set-up-given; refused = set-up-refused };
       looks = record { sees = look-sees; unseen = look-unseen; unmoved = look-unmoved };
-      speaks = λ o. (Do o, refl);
+      speaks = λ o h. (asCall o (as-typed o ∙ h), refl);
       not-empty = not-empty;
     }

@@ -296,12 +296,8 @@ pub other-limits : SetUps shrinking → ⊥
 unfolding computed begun deep
 other-limits v = let q : _≡_ {A = ℕ} 6 1 = ap deep (v .given begun (SetUp wide) (record { sets-up = refl; accepted = refl })) in absurd (omega (arith, q))
 
-stop-typed : typed Op.StopRun ≡ true
-unfolding typed
-stop-typed = refl
-
 pub speechless : Speaks deaf → ⊥
-speechless v = let (k, q) = v (record { op = Op.StopRun; within = stop-typed }) in go k q
+speechless v = let (k, q) = v Op.StopRun refl in go k q
   where
     go : (k : Call) → heardAs (opOf k) ≡ some Op.StopRun → ⊥
     go (SetUp s) q = let z : _≡_ {A = ℕ} 0 1 = cc in absurd (omega arith)

@@ -10,11 +10,11 @@ use lib.Dec.{eqb, ltb, leb}
 use Rattle.heap.specs.declared.fault.Fault.{Fault}
 use Rattle.heap.specs.declared.value.Opt.{Opt}
 use Rattle.heap.specs.declared.heap.ResultKind.{ResultKind}
-use Rattle.model.specs.Call.{Operation}
 use Rattle.model.specs.declared.machine.Frame.{Frame}
 use Rattle.model.specs.declared.call.OptPc.{OptPc}
 use Rattle.model.specs.declared.call.Op.{Op}
 use Rattle.claims.specs.Engine.{Seen, View, Engine, run}
+use Rattle.claims.specs.Operands.{written}
 use Rattle.claims.specs.Says.{lie, Entry, charged}
 use Rattle.claims.specs.Held.{Held}
 use Rattle.claims.specs.Demand3.{Enters, Suspends, Stops, Restarts, Waits, Goes, Demand3}
@@ -120,7 +120,7 @@ pub record Looks (e : Engine) : Type 0 where
 
 -- every operation of 01, with operands that its types can hold, is a call
 abbrev pub Speaks : Engine → Type 0
-Speaks e = (o : Operation) → (k : e .Call) × (e .op k ≡ some (o .op))
+Speaks e = (o : Op) → written o ≡ true → (k : e .Call) × (e .op k ≡ some o)
 
 -- ---- one list of calls in which every premise of demand 3 holds, and those of acceptance where its first call is made
 
