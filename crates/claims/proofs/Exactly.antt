@@ -25,8 +25,8 @@ use Rattle.claims.proofs.Results.{spoilt, stopped}
 use Rattle.claims.proofs.Values.{integer, word}
 use Rattle.claims.proofs.Closing.{closing, yielded, awaited, fixed}
 use Rattle.claims.proofs.Still.{still, unbegun}
-use Rattle.claims.proofs.Undone.{closes-new, throws-new}
-use Rattle.claims.proofs.States.{runs-on, comes}
+use Rattle.claims.proofs.Undone.{closes-new, throws-new, comes}
+use Rattle.claims.proofs.States.{runs-on}
 
 -- a call that lets one return enters nobody, and suspends nobody
 not-whom : (v : View) (d : Does) (n u : ℕ) → returned v d n ≡ some u → whomBy v d ≡ none

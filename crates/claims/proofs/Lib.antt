@@ -42,8 +42,8 @@ pub mod Returned
 pub mod Values
 pub mod Closing
 pub mod Still
-pub mod Undone
 pub mod States
+pub mod Undone
 pub mod Exactly
 pub mod Operands
 pub mod Premises

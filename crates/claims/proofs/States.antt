@@ -157,8 +157,8 @@ created-new CoroState.Awaiting e = no-both e refl
 created-new CoroState.Returned e = no-both e refl
 created-new CoroState.Failed e = no-both e refl
 
-pub comes : (c : ℕ) (w : World) (k : Call) → (undone (doing (viewOf w) (opOf k)) ≡ some c → ⊥) → viewOf w .coro c ≡ none → (viewOf (next w k) .coro c ≡ none) ⊎ (is (viewOf (next w k)) isNew c ≡ true)
-comes c w k u h = go (coro (next w k) c) refl (new (next w k) (step-case w k) u)
+pub comes-else : (c : ℕ) (w : World) (k : Call) → (undone (doing (viewOf w) (opOf k)) ≡ some c → ⊥) → viewOf w .coro c ≡ none → (viewOf (next w k) .coro c ≡ none) ⊎ (is (viewOf (next w k)) isNew c ≡ true)
+comes-else c w k u h = go (coro (next w k) c) refl (new (next w k) (step-case w k) u)
   where
     gone : (x : Coroutine) → seenOf x ≡ none → x ≡ Absent
     gone Absent e = refl

@@ -1,6 +1,8 @@
--- A close, and a throw, of a coroutine that has not begun.
+-- A close, and a throw, of a coroutine that has not begun, and of a word that names none; so who comes has not begun.
 use Prim.Native.Nat.{ℕ, _+_}
 use native.Mathlib.Omega.{arith}
+use native.Mathlib.Decide.{ℕ-discrete}
+use mathlib.Core.Logic.{_⊎_, inl, inr}
 use mathlib.Core.Path.{_≡_, refl, sym, ap, _∙_, subst}
 use mathlib.Core.Bool.{Bool, true, false, not}
 use mathlib.Core.List.{List, [], _∷_}
@@ -35,12 +37,13 @@ use Rattle.model.specs.declared.call.OptPc.{OptPc}
 use Rattle.model.specs.declared.call.Op.{Op}
 use Rattle.model.specs.declared.call.Answer.{Answer}
 use Rattle.claims.specs.Engine.{Seen, isNew, seenIn, is}
-use Rattle.claims.specs.Says.{word, whom}
-use Rattle.claims.specs.Events.{endedAs}
+use Rattle.claims.specs.Says.{word, does, doing, whom}
+use Rattle.claims.specs.Events.{undone, endedAs}
 use Rattle.claims.specs.Steps.{seenOf, viewOf, opOf}
 use Rattle.claims.proofs.Entry as E
 use Rattle.claims.proofs.Entry.{act, entryBy, pcBy}
-use Rattle.claims.proofs.Held.{coreIn, coreAt}
+use Rattle.claims.proofs.Held.{Seat, coreIn, coreAt}
+use Rattle.claims.proofs.Split.{next}
 use Rattle.claims.proofs.Cores.{no-both}
 use Rattle.claims.proofs.Ended.{there-seen}
 use Rattle.claims.proofs.Enters.{ChargeCase, c-done, c-spent, c-close, charge-case}
@@ -48,7 +51,11 @@ use Rattle.claims.proofs.Instr.{Alike, alike, coro-alike}
 use Rattle.claims.proofs.Events.{no-entry}
 use Rattle.claims.proofs.Views.{new-state, seen-at, base-top}
 use Rattle.claims.proofs.Whom.{told, whom-told}
+use Rattle.claims.proofs.Claim as Claim
+use Rattle.claims.proofs.Claim.{StepCase, anew, same, step-case}
 use Rattle.claims.proofs.Numbers.{step-number}
+use Rattle.claims.proofs.Exact.{no-some}
+use Rattle.claims.proofs.States.{comes-else}
 
 is-created : (s : CoroState) → isCreated s ≡ true → s ≡ CoroState.Created
 is-created CoroState.Created h = refl
@@ -172,3 +179,94 @@ throws-new c w k pc dst q src o f h m =
     new-there w c h (λ l r new e.
     by-call c w (Op.ResumeThrow pc dst q src) 17 (endedAs CoroState.Failed (word (viewOf w) src)) refl
     (subst (λ x. Left w c 17 (endedAs CoroState.Failed x) (Op.ResumeThrow pc dst q src)) (sym (word-reg w src)) (throw-left w c l r new e pc dst q src (sym (word-reg w q) ∙ f))) k o m)
+
+-- ---- and of a word that names none: nothing comes of it
+
+one-some : {x : Option ℕ} {c u : ℕ} → x ≡ some c → x ≡ some u → c ≡ u
+one-some p q = cc
+
+module _ (w : World) (c : ℕ) (e : coro w c ≡ Absent) where
+  here : {p : ℕ} {v : World} → Alike p w v → coro v c ≡ Absent
+  here a = coro-alike a c ∙ e
+
+  same-seen : {p : ℕ} {v : World} → Alike p w v → coreAt v c .seen ≡ coreAt w c .seen
+  same-seen a = ap (λ z. coreIn z .seen) (coro-alike a c)
+
+  close-none : {p₀ : ℕ} (v : World) → Alike p₀ w v → (p dst q src : ℕ) → reg v q ≡ c → coreAt (coroClose p dst q src v .world) c .seen ≡ coreAt w c .seen
+  unfolding coroClose
+  close-none v a p dst q src f =
+      ap (λ n. coreAt (closeTo (coroState v n) p dst n (reg v src) v .world) c .seen) f ∙ ap (λ y. coreAt (closeTo (stateAs y (notA v c)) p dst c (reg v src) v .world) c .seen) (here a) ∙ same-seen a
+
+  throw-none : {p₀ : ℕ} (v : World) → Alike p₀ w v → (p dst q src : ℕ) → reg v q ≡ c → coreAt (resumeThrow p dst q src v .world) c .seen ≡ coreAt w c .seen
+  unfolding resumeThrow
+  throw-none v a p dst q src f =
+      ap (λ n. coreAt (throwTo (coroState v n) p dst n (reg v src) v .world) c .seen) f ∙ ap (λ y. coreAt (throwTo (stateAs y (notA v c)) p dst c (reg v src) v .world) c .seen) (here a) ∙ same-seen a
+
+  instr-stays : (p : ℕ) (ok : Bool) (arm : World → After Step) → ((v : World) → Alike p w v → coreAt (arm v .world) c .seen ≡ coreAt w c .seen) → coreAt (instruction p ok arm w .world) c .seen ≡ coreAt w c .seen
+  unfolding instruction pick
+  instr-stays p ok arm owes = gate (isNil (w .frames)) ok
+    where
+      paid : (ch : After Charge) → ChargeCase p w ch → coreAt (Gate.charged arm (ch .world) (ch .answer) .world) c .seen ≡ coreAt w c .seen
+      paid ch (c-done m v r) = owes v (alike r)
+      paid ch (c-spent v r) = same-seen (alike r)
+      paid ch (c-close m u z x t) = go (ℕ-discrete c u)
+        where
+          go : Dec (c ≡ u) → coreAt z c .seen ≡ coreAt w c .seen
+          go (yes q) = no-both (ap (λ y. isNil (coreIn y .frames)) e) (ap (λ y. isNil (coreAt w y .frames)) q ∙ t .solid)
+          go (no q) = ap (λ (y : Seat). y .seen) (t .others c q)
+
+      gate : (b d : Bool) → coreAt (pick b (refused w Fault.NoFrame) (pick (not d) (refused w Fault.BadOperand) (andThen (charge (OptPc.Some p) w) (Gate.charged arm))) .world) c .seen ≡ coreAt w c .seen
+      gate true d = refl
+      gate false false = refl
+      gate false true = paid (charge (OptPc.Some p) w) (charge-case p w)
+
+  absent-stays : (o : Op) → undone (does (viewOf w) o) ≡ some c → coreAt (call o w .world) c .seen ≡ coreAt w c .seen
+  unfolding call
+  absent-stays (Op.CoroNew pc dst f argc) n = no-some refl n
+  absent-stays (Op.CoroNewIndirect pc dst callee argc) n = no-some refl n
+  absent-stays (Op.Spawn pc dst callee argc) n = no-some refl n
+  absent-stays (Op.Yield pc dst src) n = no-some refl n
+  absent-stays (Op.YieldKv pc dst src key) n = no-some refl n
+  absent-stays (Op.Await pc dst src) n = no-some refl n
+  absent-stays (Op.Resume pc dst u src) n = no-some refl n
+  absent-stays (Op.ResumeThrow pc dst q src) n = instr-stays pc _ (resumeThrow pc dst q src) (λ v a. throw-none v a pc dst q src (reg-alike a q ∙ sym (word-reg w q) ∙ one-some refl n))
+  absent-stays (Op.CoroClose pc dst q src) n = instr-stays pc _ (coroClose pc dst q src) (λ v a. close-none v a pc dst q src (reg-alike a q ∙ sym (word-reg w q) ∙ one-some refl n))
+  absent-stays (Op.CoroStatus pc dst u) n = no-some refl n
+  absent-stays (Op.CoroCurrent pc dst) n = no-some refl n
+  absent-stays (Op.CoroKey pc dst u) n = no-some refl n
+  absent-stays (Op.CoroResult pc dst u) n = no-some refl n
+  absent-stays (Op.IterNext pc has iter val src) n = no-some refl n
+  absent-stays (Op.Finish kind x) n = no-some refl n
+  absent-stays (Op.Unwind f pc) n = no-some refl n
+  absent-stays (Op.SpawnTask x) n = no-some refl n
+  absent-stays (Op.HostCall f) n = no-some refl n
+  absent-stays (Op.HostEntry u x) n = no-some refl n
+  absent-stays (Op.FunctionCall pc f cont) n = no-some refl n
+  absent-stays (Op.PutWord r x) n = no-some refl n
+  absent-stays (Op.MakeIterator x) n = no-some refl n
+  absent-stays Op.TakeOutcome n = no-some refl n
+  absent-stays (Op.HandOver x) n = no-some refl n
+  absent-stays (Op.Grant x) n = no-some refl n
+  absent-stays Op.StopRun n = no-some refl n
+  absent-stays Op.Look n = no-some refl n
+
+-- WHO COMES
+pub comes : (c : ℕ) (w : World) (k : Call) → viewOf w .coro c ≡ none → (viewOf (next w k) .coro c ≡ none) ⊎ (is (viewOf (next w k)) isNew c ≡ true)
+comes c w k h = go (undone (doing (viewOf w) (opOf k))) refl
+  where
+    gone : (x : Coroutine) → seenOf x ≡ none → x ≡ Absent
+    gone Absent e = refl
+    gone (Is k r) e = let z : _≡_ {A = ℕ} 0 1 = cc in absurd (omega arith)
+
+    stays : {k : Call} (z : World) → StepCase w k z → undone (doing (viewOf w) (opOf k)) ≡ some c → viewOf z .coro c ≡ none
+    stays z (anew s e) u = no-some refl u
+    stays z (same k e) u = h
+    stays z (Claim.does o e) u = sym (seen-at z c) ∙ absent-stays w c (gone (coro w c) h) (o .op) u ∙ seen-at w c ∙ h
+
+    named : (u : ℕ) → undone (doing (viewOf w) (opOf k)) ≡ some u → Dec (u ≡ c) → (viewOf (next w k) .coro c ≡ none) ⊎ (is (viewOf (next w k)) isNew c ≡ true)
+    named u e (yes q) = inl (stays (next w k) (step-case w k) (e ∙ ap {B = Option ℕ} some q))
+    named u e (no q) = comes-else c w k (λ p. q (one-some e p)) h
+
+    go : (x : Option ℕ) → undone (doing (viewOf w) (opOf k)) ≡ x → (viewOf (next w k) .coro c ≡ none) ⊎ (is (viewOf (next w k)) isNew c ≡ true)
+    go none e = comes-else c w k (λ p. no-some e p) h
+    go (some u) e = named u e (ℕ-discrete u c)

@@ -214,11 +214,8 @@ new-typed = refl
 
 pub comes-failed : Events (stillborn c) → ⊥
 unfolding computed called stateIn
-comes-failed v = go (v .comes c called (asCall (Op.CoroNew 1 0 0 0) new-typed) (λ e. no-one e) refl)
+comes-failed v = go (v .comes c called (asCall (Op.CoroNew 1 0 0 0) new-typed) refl)
   where
-    no-one : _≡_ {A = Option ℕ} none (some c) → ⊥
-    no-one e = let z : _≡_ {A = ℕ} 0 1 = cc in absurd (omega arith)
-
     z : World
     z = stillborn c .next called (asCall (Op.CoroNew 1 0 0 0) new-typed)
 

@@ -274,7 +274,7 @@ pub record Events (e : Engine) : Type 0 where
       → (undone (doing (e .view s) (e .op k)) ≡ some c → whom (e .view s) (e .op k) ≡ none → ⊥) → e .view (e .next s k) .coro c ≡ e .view s .coro c
   -- who runs runs on, unless it is suspended, returns or fails; and who comes has not begun
   pub runs-on : (c : ℕ) (s : e .State) (k : e .Call) → (Restarts e s k → ⊥) → is (e .view s) runs c ≡ true → (Suspends e c s k → ⊥) → (Returns e c s k → ⊥) → (Fails e c s k → ⊥) → is (e .view (e .next s k)) runs c ≡ true
-  pub comes : (c : ℕ) (s : e .State) (k : e .Call) → (undone (doing (e .view s) (e .op k)) ≡ some c → ⊥) → e .view s .coro c ≡ none
+  pub comes : (c : ℕ) (s : e .State) (k : e .Call) → e .view s .coro c ≡ none
       → let z = e .view (e .next s k) in (z .coro c ≡ none) ⊎ (is z isNew c ≡ true)
   -- limits, functions and costs are the set-up's
   pub fixed : (s : e .State) (k : e .Call) → (Restarts e s k → ⊥) → e .view (e .next s k) .rules ≡ e .view s .rules

@@ -120,9 +120,7 @@ module _ (e d : Engine) (f : Follows e d) where
         runs-on = λ c s k r h a b g.
             down (λ v. is (v .after) runs c ≡ true) s k
             (p .runs-on c (f .to s) (f .by s k) (λ x. r (down-restarts e d f s k x)) (up (λ v. is (v .before) runs c ≡ true) s k h) (λ x. a (down-suspends e d f s k c x)) (λ x. b (down-returns e d f s k c x)) (λ x. g (down-fails e d f s k c x)));
-        comes = λ c s k u h.
-            down (λ v. (v .after .coro c ≡ none) ⊎ (is (v .after) isNew c ≡ true)) s k
-            (p .comes c (f .to s) (f .by s k) (λ x. u (down (λ v. undone (doing (v .before) (v .op)) ≡ some c) s k x)) (up (λ v. v .before .coro c ≡ none) s k h));
+        comes = λ c s k h. down (λ v. (v .after .coro c ≡ none) ⊎ (is (v .after) isNew c ≡ true)) s k (p .comes c (f .to s) (f .by s k) (up (λ v. v .before .coro c ≡ none) s k h));
         fixed = λ s k r. down (λ v. v .after .rules ≡ v .before .rules) s k (p .fixed (f .to s) (f .by s k) (λ x. r (down-restarts e d f s k x)));
         one-switch = λ c u s k h g. p .one-switch c u (f .to s) (f .by s k) (up-enters e d f s k c h) (up-suspends e d f s k u g);
         no-return = λ c u s k h g. p .no-return c u (f .to s) (f .by s k) (up-enters e d f s k c h) (up-returns e d f s k u g);
