@@ -43,7 +43,7 @@ use Rattle.invariant.proofs.Call.{call-keeps}
 use Rattle.claims.specs.Engine as Engine
 use Rattle.claims.specs.Demand3.{Restarts}
 use Rattle.claims.specs.Events.{Healthy, onBody, raised, raisedAt}
-use Rattle.claims.specs.Promise.{plain, Roomy, Makes, converts, Eleven, sets-up, no-fault, Soundness, Fresh, registers, NotEmpty, Promise}
+use Rattle.claims.specs.Promise.{plain, Roomy, Makes, MakesBoth, converts, Eleven, sets-up, no-fault, Soundness, Fresh, registers, NotEmpty, Promise}
 use Rattle.claims.specs.Steps.{seenOf, rulesOf, viewOf, opOf, asksOf, looks, steps}
 use Rattle.claims.specs.Story.{wide, f, c, held}
 use Rattle.claims.specs.Premises.{premises}
@@ -335,7 +335,7 @@ roomy-met =
       grows = refl;
     }
 
-pub makes-met : let v = viewOf (Engine.run steps (fresh wide) before) in Makes v (v .rules .intCost) × Makes v (v .rules .errorCost)
+pub makes-met : MakesBoth (viewOf (Engine.run steps (fresh wide) before))
 unfolding computed before
 makes-met = (record { slot = refl; bytes = refl }, record { slot = refl; bytes = refl })
 
@@ -359,7 +359,7 @@ not-empty =
       c = c;
       suspends = p .suspends;
       roomy = subst (λ w. Roomy steps (viewOf (Engine.run steps w before) .rules .intCost) c (Engine.run steps w before)) (sym begins-at) (subst (λ n. Roomy steps n c (Engine.run steps (fresh wide) before)) (sym costs-met) roomy-met);
-      makes = subst (λ w. let v = viewOf (Engine.run steps w before) in Makes v (v .rules .intCost) × Makes v (v .rules .errorCost)) (sym begins-at) makes-met;
+      makes = subst (λ w. MakesBoth (viewOf (Engine.run steps w before))) (sym begins-at) makes-met;
       waits = p .waits;
       enters = p .enters;
       goes = p .goes;

@@ -29,7 +29,8 @@ use Rattle.claims.specs.Witness.{nth, between, frame}
 use Rattle.claims.specs.Wrong.{bent, onTop, tail, ofZero, discards, bare, atOne, further, higher, once, begun, greeted, late, Wrong}
 use Rattle.claims.proofs.Premises.{waits-true}
 use Rattle.claims.proofs.Cores.{no-both}
-use Rattle.claims.proofs.WrongEvents.{always-refused, return-fails, no-cleanup, closing-forgotten, failure-returns, await-yields, excused, throw-lost, ignored-unheard, always-nine, bank-unused, close-pays, result-changes, aborted, close-fails, wrong-result, renewed, comes-failed, fuel-stays, other-limits, speechless, all-shown}
+use Rattle.claims.proofs.WrongEvents.{always-refused, return-fails, no-cleanup, closing-forgotten, failure-returns, await-yields, excused, throw-lost, ignored-unheard}
+use Rattle.claims.proofs.WrongEvents.{always-nine, bank-unused, close-pays, result-changes, aborted, close-fails, wrong-result, renewed, comes-failed, fuel-stays, other-limits, speechless, all-shown}
 
 abbrev first : List ℕ → ℕ
 first [] = 0

@@ -54,6 +54,10 @@ pub record Makes (v : View) (n : ℕ) : Type 0 where
   pub slot : v .full ≡ false
   pub bytes : room v n ≡ true
 
+-- an integer object, and an error object
+abbrev pub MakesBoth : View → Type 0
+MakesBoth v = Makes v (v .rules .intCost) × Makes v (v .rules .errorCost)
+
 -- a result that converts: an i64, or a u64 below 2^63. 01: "A u64 above 2^63 - 1 gives 7."
 abbrev pub converts : ResultKind → ℕ → Bool
 converts ResultKind.None x = true
@@ -137,7 +141,7 @@ pub record NotEmpty (e : Engine) : Type 0 where
   pub c : ℕ
   pub suspends : Suspends e c (run e (e .next start first) before) x
   pub roomy : Roomy e (e .view (run e (e .next start first) before) .rules .intCost) c (run e (e .next start first) before)
-  pub makes : let v = e .view (run e (e .next start first) before) in Makes v (v .rules .intCost) × Makes v (v .rules .errorCost)
+  pub makes : MakesBoth (e .view (run e (e .next start first) before))
   pub waits : Waits e c (e .next (run e (e .next start first) before) x) waiting
   pub enters : Enters e c (run e (e .next (run e (e .next start first) before) x) waiting) y
   pub goes : Goes e c (e .next (run e (e .next (run e (e .next start first) before) x) waiting) y) going

@@ -16,7 +16,7 @@ use Rattle.claims.specs.Held.{Held, closer, By, Entered, Restored}
 use Rattle.claims.specs.Delivery.{recorded, Left, resultOf}
 use Rattle.claims.specs.Demand3.{Enters, Suspends, Stops, Restarts, Waits, Goes, Demand3}
 use Rattle.claims.specs.Events.{Healthy, onBody, raised, raisedAt, answers, suspended, isAwait, toldTo, returned, Lost, endedAs, lives, undone, rests, Events}
-use Rattle.claims.specs.Promise.{suspends, room, Roomy, Makes, Accepts, Eleven, Soundness, Fresh, SetUps, registers, Looks, NotEmpty}
+use Rattle.claims.specs.Promise.{suspends, room, Roomy, Makes, MakesBoth, Accepts, Eleven, Soundness, Fresh, SetUps, registers, Looks, NotEmpty}
 use Rattle.claims.proofs.Premises.{Premises}
 use Rattle.lent_claims.proofs.Follows.{Follows, Sight, sight, same, along, ran}
 use Rattle.lent_claims.proofs.Follows.{up-enters, down-enters, up-suspends, down-suspends, up-returns, down-returns, up-fails, down-fails, up-leaves, down-leaves, up-restarts, down-restarts, up-healthy, down-healthy, up-waits, down-waits, up-goes, down-goes}
@@ -221,11 +221,7 @@ module _ (e d : Engine) (f : Follows e d) where
     abbrev gs : List (d .Call)
     gs = along e d f s₄ going
 
-    -- an integer and an error object can be made
-    abbrev Both : View → Type 0
-    Both v = Makes v (v .rules .intCost) × Makes v (v .rules .errorCost)
-
-    pub not-empty : Restarts e start first → Roomy d (d .view (f .to s₁) .rules .intCost) c (f .to s₁) → Both (d .view (f .to s₁)) → Premises d c (f .to s₁) (f .by s₁ x) ws (f .by s₃ y) gs (f .by s₅ z) → NotEmpty e
+    pub not-empty : Restarts e start first → Roomy d (d .view (f .to s₁) .rules .intCost) c (f .to s₁) → MakesBoth (d .view (f .to s₁)) → Premises d c (f .to s₁) (f .by s₁ x) ws (f .by s₃ y) gs (f .by s₅ z) → NotEmpty e
     not-empty r has makes p =
         let at₂ = f .next s₁ x in
         let at₃ : run d (d .next (f .to s₁) (f .by s₁ x)) ws ≡ f .to s₃ = ap (λ u. run d u ws) at₂ ∙ ran e d f s₂ waiting in
@@ -244,7 +240,7 @@ module _ (e d : Engine) (f : Follows e d) where
           c = c;
           suspends = down-suspends e d f s₁ x c (p .suspends);
           roomy = subst (λ v. Roomy e (v .rules .intCost) c s₁) (f .view s₁) (roomy-down (d .view (f .to s₁) .rules .intCost) c s₁ has);
-          makes = subst Both (f .view s₁) makes;
+          makes = subst MakesBoth (f .view s₁) makes;
           waits = down-waits e d f c s₂ waiting (subst (λ u. Waits d c u ws) at₂ (p .waits));
           enters = down-enters e d f s₃ y c (subst (λ u. Enters d c u (f .by s₃ y)) at₃ (p .enters));
           goes = down-goes e d f c s₄ going (subst (λ u. Goes d c u gs) at₄ (p .goes));
