@@ -68,7 +68,7 @@ number-sound w o e = ap (λ b. pick b (call (o .op) w) (told (refused w Fault.Un
 pub no-some : {A : Type 0} {x : Option ℕ} {c : ℕ} → x ≡ none → x ≡ some c → A
 no-some p q = let z : _≡_ {A = ℕ} 0 1 = cc in absurd (omega arith)
 
-one-some : {x : Option ℕ} {c u : ℕ} → x ≡ some c → x ≡ some u → c ≡ u
+pub one-some : {x : Option ℕ} {c u : ℕ} → x ≡ some c → x ≡ some u → c ≡ u
 one-some p q = cc
 
 pub pick-some : (b : Bool) (x : Option ℕ) (c : ℕ) → pick b x none ≡ some c → (b ≡ true) × (x ≡ some c)

@@ -21,7 +21,6 @@ use Rattle.model.specs.Object.{Object, Coroutine, Absent, Is}
 use Rattle.model.specs.World.{World, After, after, andThen, withUsed, withSlots}
 use Rattle.model.specs.Frames.{storePc, topFunc, topPc}
 use Rattle.model.specs.Heap.{coro, alloc, fits, slotsFull, refuse}
-use Rattle.model.specs.Program.{func}
 use Rattle.model.specs.Machine.{errorOf, searchFrames, searchMade, storeSome, unwind, finish}
 use Rattle.model.specs.Sound.{sound, runningOk, runs, coros, runsAmong}
 use Rattle.model.specs.Answer.{numberOf}
@@ -60,29 +59,27 @@ use Rattle.claims.proofs.Claim.{StepCase, anew, same, step-case, fresh-
 use Rattle.claims.proofs.Views.{is-runs}
 use Rattle.claims.proofs.Finishes.{FinishCase, f-other, f-returns, finish-case}
 use Rattle.claims.proofs.Bodies.{at-top}
-use Rattle.claims.proofs.Escapes.{AllSeen, Sees}
+use Rattle.claims.proofs.Escapes.{Sees}
 use Rattle.claims.proofs.Failures.{unmade, isFailed, Dead, dead-same, Loses, run-fails, AllRun, search-loses}
-use Rattle.claims.proofs.Unwinds.{sees, all-same, push-coros, stored-sees}
-use Rattle.claims.proofs.Exact.{number-sound, no-some}
+use Rattle.claims.proofs.Unwinds.{sees, push-coros, stored-sees, made-sees}
+use Rattle.claims.proofs.Exact.{number-sound}
 
 -- ---- an unwind
 
 -- what is raised, if anything, and who fails of it
 pub record Unwound (w : World) (o : After Answer) (y : Option ℕ) (xs : List ℕ) : Type 0 where
-  pub made : (x : ℕ) → y ≡ some x → fits w (w .setup .costs .error) ≡ true → slotsFull w ≡ false → unmade (o .answer) ≡ false
   pub gone : (c : ℕ) → unmade (o .answer) ≡ false → among c xs ≡ true → (x : ℕ) × (y ≡ some x) × Dead x (coreAt (o .world) c)
   pub lost : (c : ℕ) → isRunning (coreAt w c .state) ≡ true → isFailed (coreAt (o .world) c .state) ≡ true → (unmade (o .answer) ≡ false) × (among c xs ≡ true)
 
 by-loses : {x : ℕ} {w : World} {o : After Answer} {xs : List ℕ} → Loses x w o xs → Unwound w o (some x) xs
-by-loses {x} {w} {o} {xs} l = record { made = λ x p q r. l .made; gone = λ c m h. (x, refl, l .gone c h .1); lost = λ c r f. (l .made, go c r f (among c xs) refl) }
+by-loses {x} {w} {o} {xs} l = record { gone = λ c m h. (x, refl, l .gone c h .1); lost = λ c r f. (l .made, go c r f (among c xs) refl) }
   where
     go : (c : ℕ) → isRunning (coreAt w c .state) ≡ true → isFailed (coreAt (o .world) c .state) ≡ true → (b : Bool) → among c xs ≡ b → among c xs ≡ true
     go c r f true e = e
     go c r f false e = no-both f (l .stays c e r)
 
-by-same : {w : World} {o : After Answer} {y : Option ℕ} {xs : List ℕ} → ((c : ℕ) → coreAt (o .world) c ≡ coreAt w c) → (unmade (o .answer) ≡ true) ⊎ (xs ≡ [])
-    → ((x : ℕ) → y ≡ some x → fits w (w .setup .costs .error) ≡ true → slotsFull w ≡ false → ⊥) → Unwound w o y xs
-by-same {w} {o} {y} {xs} e u n = record { made = λ x p q r. absurd (n x p q r); gone = λ c m h. no u c m h; lost = λ c r f. no-both f (ap (λ k. isFailed (k .state)) (e c) ∙ run-fails (coreAt w c .state) r) }
+by-same : {w : World} {o : After Answer} {y : Option ℕ} {xs : List ℕ} → ((c : ℕ) → coreAt (o .world) c ≡ coreAt w c) → (unmade (o .answer) ≡ true) ⊎ (xs ≡ []) → Unwound w o y xs
+by-same {w} {o} {y} {xs} e u = record { gone = λ c m h. no u c m h; lost = λ c r f. no-both f (ap (λ k. isFailed (k .state)) (e c) ∙ run-fails (coreAt w c .state) r) }
   where
     no : {A : Type 0} → (unmade (o .answer) ≡ true) ⊎ (xs ≡ []) → (c : ℕ) → unmade (o .answer) ≡ false → among c xs ≡ true → A
     no (inl q) c m h = no-both q m
@@ -121,10 +118,9 @@ module _ (w : World) (h : sound w ≡ true) where
   word-loses x (OptPc.Some p) = loses-same (λ c. refl) (frames-lose x (at p (w .frames)) (storePc p w) (stored-sees w h (OptPc.Some p)) (at-top p (w .frames)) refl)
 
   object-at : (f : Fault) (u : World) (fs : List Frame) → u .slots ≡ w .slots → u .setup ≡ w .setup → u .frames ≡ fs → u .chain ≡ w .chain
-      → fits u (u .setup .costs .error) ≡ fits w (w .setup .costs .error) → slotsFull u ≡ slotsFull w
       → Unwound w (andThen (alloc (u .setup .costs .error) (errorOf f u) u) searchMade) (some (nextWord (w .slots))) (lost (viewOf w) (nextWord (w .slots)) fs (w .chain))
   unfolding alloc pick
-  object-at f u fs es e p q room slot = go (fits u (u .setup .costs .error)) (slotsFull u) refl refl
+  object-at f u fs es e p q = go (not (fits u (u .setup .costs .error))) (slotsFull u)
     where
       y : World
       y = withUsed (satAdd (u .used) (u .setup .costs .error)) (withSlots (pushObject (u .slots) (errorOf f u)) u)
@@ -135,27 +131,21 @@ module _ (w : World) (h : sound w ≡ true) where
       here : (c : ℕ) → coro y c ≡ coro w c
       here c = push-coros (u .slots) (errorOf f u) refl c ∙ ap (λ xs. coroIn xs c) es
 
-      known : Sees (viewOf w) y
-      known = record {
-        handlers = λ n. ap (λ s. func s n .handlers) (sym e);
-        coros = subst (AllSeen (viewOf w) (y .slots)) (sym q) (all-same (viewOf w) (w .slots) (y .slots) here (w .chain) (sees w h .coros));
-      }
-
-      go : (a b : Bool) → fits u (u .setup .costs .error) ≡ a → slotsFull u ≡ b → Unwound w (andThen (made (not a) b) searchMade) (some (nextWord (w .slots))) (lost (viewOf w) (nextWord (w .slots)) fs (w .chain))
-      go false b i j = by-same (λ c. ap (λ xs. coreIn (coroIn xs c)) es) (inl refl) (λ x _ has _. no-both (room ∙ has) i)
-      go true true i j = by-same (λ c. ap (λ xs. coreIn (coroIn xs c)) es) (inl refl) (λ x _ _ has. no-both j (slot ∙ has))
-      go true false i j = by-loses (loses-same (λ c. ap coreIn (here c)) (subst (λ xs. Loses (nextWord xs) y (searchFrames (nextWord (u .slots)) y) (lost (viewOf w) (nextWord xs) fs (w .chain))) es (frames-lose (nextWord (u .slots)) fs y known p q)))
+      go : (a b : Bool) → Unwound w (andThen (made a b) searchMade) (some (nextWord (w .slots))) (lost (viewOf w) (nextWord (w .slots)) fs (w .chain))
+      go true b = by-same (λ c. ap (λ xs. coreIn (coroIn xs c)) es) (inl refl)
+      go false true = by-same (λ c. ap (λ xs. coreIn (coroIn xs c)) es) (inl refl)
+      go false false = by-loses (loses-same (λ c. ap coreIn (here c)) (subst (λ xs. Loses (nextWord xs) y (searchFrames (nextWord (u .slots)) y) (lost (viewOf w) (nextWord xs) fs (w .chain))) es (frames-lose (nextWord (u .slots)) fs y (made-sees w h f u es e q) p q)))
 
   object-unwound : (f : Fault) (pc : OptPc) → let u = storeSome pc w in Unwound w (andThen (alloc (u .setup .costs .error) (errorOf f u) u) searchMade) (some (nextWord (w .slots))) (lostAt (viewOf w) (some (nextWord (w .slots))) pc)
-  object-unwound f OptPc.None = object-at f w (w .frames) refl refl refl refl refl refl
-  object-unwound f (OptPc.Some p) = object-at f (storePc p w) (at p (w .frames)) refl refl (at-top p (w .frames)) refl refl refl
+  object-unwound f OptPc.None = object-at f w (w .frames) refl refl refl refl
+  object-unwound f (OptPc.Some p) = object-at f (storePc p w) (at p (w .frames)) refl refl (at-top p (w .frames)) refl
 
   passed : (pc : OptPc) (f : Fault) → Unwound w (after (storeSome pc w) (Answer.Refused f)) none []
-  passed OptPc.None f = by-same (λ c. refl) (inr refl) (λ x q _ _. no-some refl q)
-  passed (OptPc.Some p) f = by-same (λ c. refl) (inr refl) (λ x q _ _. no-some refl q)
+  passed OptPc.None f = by-same (λ c. refl) (inr refl)
+  passed (OptPc.Some p) f = by-same (λ c. refl) (inr refl)
 
   refused : (f : Fault) → Unwound w (after w (Answer.Refused f)) none []
-  refused f = by-same (λ c. refl) (inr refl) (λ x q _ _. no-some refl q)
+  refused f = by-same (λ c. refl) (inr refl)
 
   pub unwound : (f : Fault) (pc : OptPc) → Unwound w (unwind f pc w) (raised (viewOf w) f) (lostAt (viewOf w) (raised (viewOf w) f) pc)
   unfolding unwind pick

@@ -3,7 +3,7 @@ use Prim.Native.Nat.{ℕ, zero, suc, _^_, _<_}
 use native.Mathlib.Omega.{arith}
 use mathlib.Core.Path.{_≡_, refl, sym, ap, _∙_, subst}
 use mathlib.Core.Logic.{_⊎_, inl, inr}
-use mathlib.Core.Bool.{Bool, true, false}
+use mathlib.Core.Bool.{Bool, true, false, _||_}
 use mathlib.Core.List.{List, [], _∷_}
 use mathlib.Core.Option.{Option, none, some}
 use lib.ListN.{length, getD, take, drop}
@@ -11,6 +11,7 @@ use lib.Dec.{eqb}
 use borrow.Author.Tests.{eq-eqb, not-true}
 use Rattle.lists.specs.Pick.{pick}
 use Rattle.heap.specs.Table.{slot}
+use Rattle.heap.specs.Fault as Faults
 use Rattle.heap.specs.declared.heap.Place.{Place}
 use Rattle.heap.specs.declared.fault.Fault.{Fault}
 use Rattle.heap.specs.declared.object.CoroState.{CoroState}
@@ -42,23 +43,19 @@ use Rattle.soundness.proofs.Sound.{sound→}
 use Rattle.invariant.proofs.Call.{call-keeps}
 use Rattle.claims.specs.Engine as Engine
 use Rattle.claims.specs.Demand3.{Restarts}
-use Rattle.claims.specs.Events.{Healthy, onBody, raised, raisedAt}
-use Rattle.claims.specs.Promise.{plain, Roomy, Makes, MakesBoth, converts, Eleven, sets-up, no-fault, Soundness, Fresh, registers, NotEmpty, Promise}
+use Rattle.claims.specs.Events.{Healthy, onBody, raised, endsAt}
+use Rattle.claims.specs.Promise.{plain, room, Roomy, Makes, converts, Eleven, sets-up, no-fault, Soundness, Fresh, registers, NotEmpty, Promise}
 use Rattle.claims.specs.Steps.{seenOf, rulesOf, viewOf, opOf, asksOf, looks, steps}
 use Rattle.claims.specs.Story.{wide, f, c, held}
 use Rattle.claims.specs.Premises.{premises}
 use Rattle.claims.specs.Witness.{nth, between, frame}
 use Rattle.claims.proofs.Cores.{no-both}
-use Rattle.claims.proofs.Shape.{View}
 use Rattle.claims.proofs.Sounds.{Floors, floors}
 use Rattle.claims.proofs.Claim.{fresh-absent}
 use Rattle.claims.proofs.Soundness.{soundness-kept}
 use Rattle.claims.proofs.Finishes.{bodyOn, Unmade, FinishCase, f-other, f-returns, finish-case}
-use Rattle.claims.proofs.Escapes.{Ended, e-works, e-returns}
-use Rattle.claims.proofs.Failures.{unmade}
-use Rattle.claims.proofs.Losses.{unwound}
-use Rattle.claims.proofs.Unwinds.{word-ended}
-use Rattle.claims.proofs.Exact.{healthy-sound, number-sound, no-some}
+use Rattle.claims.proofs.Answers.{throw-answer, raise-answer, pass-answer}
+use Rattle.claims.proofs.Exact.{healthy-sound, number-sound}
 use Rattle.claims.proofs.Returned.{on-body}
 use Rattle.claims.proofs.Operands.{as-typed}
 use Rattle.claims.proofs.Premises.{premises-met}
@@ -196,14 +193,6 @@ finish-call : (kind : ResultKind) (x : ℕ) (w : World) → sound w ≡ true →
 unfolding call
 finish-call kind x w h p b = finish-zero kind x w (finish kind x w) h p b (finish-case kind x w)
 
-escape-zero : {v : View} {o : After Answer} {who : Option ℕ} {c : ℕ} → Ended v o who → who ≡ some c → numberOf (o .answer) ≡ 0
-escape-zero (e-works t) q = no-some refl q
-escape-zero (e-returns u f fs a chain t r n) q = n
-
-escape-call : (x : ℕ) (pc : OptPc) (w : World) (c : ℕ) → sound w ≡ true → raisedAt (viewOf w) (some x) pc ≡ some c → numberOf (call (Op.Unwind (Fault.Throw x) pc) w .answer) ≡ 0
-unfolding call unwind pick
-escape-call x pc w c h e = escape-zero (word-ended w h x pc) e
-
 finish-step : (w : World) (k : Call) (kind : ResultKind) (x : ℕ) → Healthy steps w → opOf k ≡ some (Op.Finish kind x) → (x < 2 ^ 64 → (f : Fault) → toDyn kind x w .answer ≡ WordOr.Refused f → ⊥) → onBody (w .frames) ≡ true → numberOf (step w k .answer) ≡ 0
 finish-step w (SetUp s) kind x h e p b = let z : _≡_ {A = ℕ} 0 1 = cc in absurd (omega arith)
 finish-step w (Do o) kind x h e p b = ap numberOf (number-sound w o (healthy-sound w h)) ∙ ap (λ q. numberOf (call q w .answer)) (some-op e) ∙ finish-call kind x w (healthy-sound w h) (p (word-in (o .op) kind x (some-op e) (o .within))) b
@@ -211,20 +200,25 @@ finish-step w (Do o) kind x h e p b = ap numberOf (number-sound w o (healthy-sou
 accepts-finish : (w : World) (k : Call) (kind : ResultKind) (x : ℕ) → Healthy steps w → opOf k ≡ some (Op.Finish kind x) → plain kind ≡ true → onBody (w .frames) ≡ true → numberOf (step w k .answer) ≡ 0
 accepts-finish w k kind x h e p b = finish-step w k kind x h e (λ l f q. plain-made kind x w f p q) b
 
-accepts-integer : (w : World) (k : Call) (kind : ResultKind) (x : ℕ) → Healthy steps w → opOf k ≡ some (Op.Finish kind x) → Makes (viewOf w) (w .setup .costs .int) → converts kind x ≡ true → onBody (w .frames) ≡ true → numberOf (step w k .answer) ≡ 0
+accepts-integer : (w : World) (k : Call) (kind : ResultKind) (x : ℕ) → Healthy steps w → opOf k ≡ some (Op.Finish kind x) → Makes (viewOf w) → converts kind x ≡ true → onBody (w .frames) ≡ true → numberOf (step w k .answer) ≡ 0
 accepts-integer w k kind x h e m p b = finish-step w k kind x h e (λ l. can-make w (healthy-sound w h) kind x l p (m .bytes) (m .slot)) b
 
-accepts-escape : (w : World) (k : Call) (x : ℕ) (pc : OptPc) (c : ℕ) → Healthy steps w → opOf k ≡ some (Op.Unwind (Fault.Throw x) pc) → raisedAt (viewOf w) (some x) pc ≡ some c → numberOf (step w k .answer) ≡ 0
-accepts-escape w (SetUp s) x pc c h e q = let z : _≡_ {A = ℕ} 0 1 = cc in absurd (omega arith)
-accepts-escape w (Do o) x pc c h e q = ap numberOf (number-sound w o (healthy-sound w h)) ∙ ap (λ p. numberOf (call p w .answer)) (some-op e) ∙ escape-call x pc w c (healthy-sound w h) q
-
-raise-call : (f : Fault) (pc : OptPc) (w : World) (x : ℕ) → sound w ≡ true → raised (viewOf w) f ≡ some x → Makes (viewOf w) (w .setup .costs .error) → unmade (call (Op.Unwind f pc) w .answer) ≡ false
+-- an unwind at a machine that is not refused
+unwinds : (w : World) (k : Call) (f : Fault) (pc : OptPc) → sound w ≡ true → opOf k ≡ some (Op.Unwind f pc) → numberOf (step w k .answer) ≡ numberOf (unwind f pc w .answer)
 unfolding call
-raise-call f pc w x h q m = unwound w h f pc .made x q (m .bytes) (m .slot)
+unwinds w (SetUp s) f pc h e = let z : _≡_ {A = ℕ} 0 1 = cc in absurd (omega arith)
+unwinds w (Do o) f pc h e = ap numberOf (number-sound w o h) ∙ ap (λ p. numberOf (call p w .answer)) (some-op e)
 
-accepts-raise : (w : World) (k : Call) (f : Fault) (pc : OptPc) (x : ℕ) → Healthy steps w → opOf k ≡ some (Op.Unwind f pc) → raised (viewOf w) f ≡ some x → Makes (viewOf w) (w .setup .costs .error) → unmade (step w k .answer) ≡ false
-accepts-raise w (SetUp s) f pc x h e q m = let z : _≡_ {A = ℕ} 0 1 = cc in absurd (omega arith)
-accepts-raise w (Do o) f pc x h e q m = ap unmade (number-sound w o (healthy-sound w h)) ∙ ap (λ p. unmade (call p w .answer)) (some-op e) ∙ raise-call f pc w x (healthy-sound w h) q m
+accepts-throw : (w : World) (k : Call) (x : ℕ) (pc : OptPc) → Healthy steps w → opOf k ≡ some (Op.Unwind (Fault.Throw x) pc) → numberOf (step w k .answer) ≡ endsAt (viewOf w) x pc
+accepts-throw w k x pc h e = unwinds w k (Fault.Throw x) pc (healthy-sound w h) e ∙ throw-answer w (healthy-sound w h) x pc
+
+accepts-raise : (w : World) (k : Call) (f : Fault) (pc : OptPc) (x : ℕ) → Healthy steps w → opOf k ≡ some (Op.Unwind f pc) → ((y : ℕ) → f ≡ Fault.Throw y → ⊥) → raised (viewOf w) f ≡ some x
+    → let v = viewOf w in numberOf (step w k .answer) ≡ pick (room v (v .rules .errorCost)) (pick (v .full) 14 (endsAt v x pc)) 9
+accepts-raise w k f pc x h e n q = unwinds w k f pc (healthy-sound w h) e ∙ raise-answer w (healthy-sound w h) f pc x n q
+
+accepts-pass : (w : World) (k : Call) (f : Fault) (pc : OptPc) → Healthy steps w → opOf k ≡ some (Op.Unwind f pc) → raised (viewOf w) f ≡ none
+    → numberOf (step w k .answer) ≡ pick (eqb (Faults.numberOf f) 9 || eqb (Faults.numberOf f) 10) (Faults.numberOf f) 11
+accepts-pass w k f pc h e q = unwinds w k f pc (healthy-sound w h) e ∙ pass-answer w (healthy-sound w h) f pc q
 
 -- ---- set-ups and looks
 
@@ -335,9 +329,9 @@ roomy-met =
       grows = refl;
     }
 
-pub makes-met : MakesBoth (viewOf (Engine.run steps (fresh wide) before))
+pub makes-met : Makes (viewOf (Engine.run steps (fresh wide) before))
 unfolding computed before
-makes-met = (record { slot = refl; bytes = refl }, record { slot = refl; bytes = refl })
+makes-met = record { slot = refl; bytes = refl }
 
 costs-met : viewOf (Engine.run steps (fresh wide) before) .rules .intCost ≡ wide .costs .int
 unfolding computed before
@@ -359,7 +353,7 @@ not-empty =
       c = c;
       suspends = p .suspends;
       roomy = subst (λ w. Roomy steps (viewOf (Engine.run steps w before) .rules .intCost) c (Engine.run steps w before)) (sym begins-at) (subst (λ n. Roomy steps n c (Engine.run steps (fresh wide) before)) (sym costs-met) roomy-met);
-      makes = subst (λ w. MakesBoth (viewOf (Engine.run steps w before))) (sym begins-at) makes-met;
+      makes = subst (λ w. Makes (viewOf (Engine.run steps w before))) (sym begins-at) makes-met;
       waits = p .waits;
       enters = p .enters;
       goes = p .goes;
@@ -378,8 +372,9 @@ promise =
         yield = λ c w k pc dst src m s e l. yield-takes w (w .setup .costs .int) c m refl s pc k dst src e l;
         integer = accepts-integer;
         finish = accepts-finish;
-        escape = accepts-escape;
+        throw = accepts-throw;
         raise = accepts-raise;
+        pass = accepts-pass;
       };
       soundness = soundness;
       set-ups = record { begun = set-up-begun; given = set-up-given; refused = set-up-refused };

@@ -30,11 +30,9 @@ use Rattle.claims.proofs.Ended.{stop-seen}
 use Rattle.claims.proofs.Claim as Claim
 use Rattle.claims.proofs.Claim.{StepCase, anew, same, step-case, fresh-absent}
 use Rattle.claims.proofs.Views.{is-runs, seen-at}
+use Rattle.claims.proofs.Exact.{one-some}
 use Rattle.claims.proofs.Failures.{isFailed, run-fails}
 use Rattle.claims.proofs.Losses.{unwound, not-apart, is-failed}
-
-one-word : {y : Option ℕ} {a b : ℕ} → y ≡ some a → y ≡ some b → a ≡ b
-one-word p q = cc
 
 some-op : {a b : Op} → _≡_ {A = Option Op} (some a) (some b) → a ≡ b
 some-op e = cc
@@ -45,7 +43,7 @@ module _ (w : World) (h : sound w ≡ true) (c : ℕ) (r : isRunning (coreAt w c
   unwind-spoils f pc x e l =
       let t = unwound w h f pc .lost c r l in
       let (y, q, d) = unwound w h f pc .gone c (t .0) (t .1) in
-      d .1 ∙ ap (endedAs CoroState.Failed) (one-word q e)
+      d .1 ∙ ap (endedAs CoroState.Failed) (one-some q e)
 
   stop-spoils : coreAt (call Op.StopRun w .world) c .seen ≡ endedAs CoroState.Failed 0
   unfolding call stopRun abortCoros

@@ -54,7 +54,7 @@ use Rattle.claims.proofs.Whom.{told, whom-told}
 use Rattle.claims.proofs.Claim as Claim
 use Rattle.claims.proofs.Claim.{StepCase, anew, same, step-case}
 use Rattle.claims.proofs.Numbers.{step-number}
-use Rattle.claims.proofs.Exact.{no-some}
+use Rattle.claims.proofs.Exact.{no-some, one-some}
 use Rattle.claims.proofs.States.{comes-else}
 
 is-created : (s : CoroState) → isCreated s ≡ true → s ≡ CoroState.Created
@@ -181,9 +181,6 @@ throws-new c w k pc dst q src o f h m =
     (subst (λ x. Left w c 17 (endedAs CoroState.Failed x) (Op.ResumeThrow pc dst q src)) (sym (word-reg w src)) (throw-left w c l r new e pc dst q src (sym (word-reg w q) ∙ f))) k o m)
 
 -- ---- and of a word that names none: nothing comes of it
-
-one-some : {x : Option ℕ} {c u : ℕ} → x ≡ some c → x ≡ some u → c ≡ u
-one-some p q = cc
 
 module _ (w : World) (c : ℕ) (e : coro w c ≡ Absent) where
   here : {p : ℕ} {v : World} → Alike p w v → coro v c ≡ Absent

@@ -112,6 +112,16 @@ module _ (w : World) (h : sound w ≡ true) where
   word-ended x OptPc.None = frames-ended x (w .frames) w (sees w h) refl refl
   word-ended x (OptPc.Some p) = then-ended (λ y t. tops (setPc p) (keeps-pc p) t) (frames-ended x (at p (w .frames)) (storePc p w) (stored-sees (OptPc.Some p)) (at-top p (w .frames)) refl)
 
+  -- with the error object made
+  pub made-sees : (f : Fault) (u : World) → u .slots ≡ w .slots → u .setup ≡ w .setup → u .chain ≡ w .chain → Sees (viewOf w) (withUsed (satAdd (u .used) (u .setup .costs .error)) (withSlots (pushObject (u .slots) (errorOf f u)) u))
+  made-sees f u es e q =
+      let ys = pushObject (u .slots) (errorOf f u) in
+      let here : (c : ℕ) → coroIn ys c ≡ coroIn (w .slots) c = λ c. push-coros (u .slots) (errorOf f u) refl c ∙ ap (λ xs. coroIn xs c) es in
+      record {
+        handlers = λ n. ap (λ s. func s n .handlers) (sym e);
+        coros = subst (AllSeen (viewOf w) ys) (sym q) (all-same (viewOf w) (w .slots) ys here (w .chain) (sees w h .coros));
+      }
+
   object-at : (f : Fault) (u : World) (fs : List Frame) → u .slots ≡ w .slots → u .setup ≡ w .setup → u .frames ≡ fs → u .chain ≡ w .chain
       → let o = andThen (alloc (u .setup .costs .error) (errorOf f u) u) searchMade in Ended (view u) o (counted (o .answer) (escaped (viewOf w) (nextWord (w .slots)) fs (w .chain)))
   unfolding alloc pick
@@ -126,16 +136,10 @@ module _ (w : World) (h : sound w ≡ true) where
       same : Same u y
       same = record { setup = refl; stack = refl; frames = refl; chain = refl; coros = push-coros (u .slots) (errorOf f u) refl }
 
-      known : Sees (viewOf w) y
-      known = record {
-        handlers = λ n. ap (λ s. func s n .handlers) (sym e);
-        coros = subst (AllSeen (viewOf w) (y .slots)) (sym q) (all-same (viewOf w) (w .slots) (y .slots) (λ c. push-coros (u .slots) (errorOf f u) refl c ∙ ap (λ xs. coroIn xs c) es) (w .chain) (sees w h .coros));
-      }
-
       go : (a b : Bool) → Ended (view u) (andThen (made a b) searchMade) (counted (andThen (made a b) searchMade .answer) (escaped (viewOf w) (nextWord (w .slots)) fs (w .chain)))
       go true b = e-works done
       go false true = e-works done
-      go false false = ended-counted (then-ended (λ z t. same-worked same t) (subst (λ xs. Ended (view y) (searchFrames (nextWord (u .slots)) y) (escaped (viewOf w) (nextWord xs) fs (w .chain))) es (frames-ended (nextWord (u .slots)) fs y known p q)))
+      go false false = ended-counted (then-ended (λ z t. same-worked same t) (subst (λ xs. Ended (view y) (searchFrames (nextWord (u .slots)) y) (escaped (viewOf w) (nextWord xs) fs (w .chain))) es (frames-ended (nextWord (u .slots)) fs y (made-sees f u es e q) p q)))
 
   object-ended : (f : Fault) (pc : OptPc) → let u = storeSome pc w in let o = andThen (alloc (u .setup .costs .error) (errorOf f u) u) searchMade in Ended (view w) o (counted (o .answer) (raisedAt (viewOf w) (some (nextWord (w .slots))) pc))
   object-ended f OptPc.None = object-at f w (w .frames) refl refl refl refl

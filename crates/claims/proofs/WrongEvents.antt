@@ -244,7 +244,12 @@ grudging-healthy (Do o) e = ap (λ p. pick (ltb 0 (numberOf (M.tested begun p .a
 
 pub always-nine : Accepts grudging → ⊥
 unfolding computed begun
-always-nine v = no-both refl (v .raise begun (asCall (Op.Unwind Fault.TypeError OptPc.None) fault-typed) Fault.TypeError OptPc.None Story.d grudging-healthy refl refl (record { slot = refl; bytes = refl }))
+always-nine v =
+    let q : _≡_ {A = ℕ} 9 17 = v .raise begun (asCall (Op.Unwind Fault.TypeError OptPc.None) fault-typed) Fault.TypeError OptPc.None Story.d grudging-healthy refl (λ y e. no-throw e) refl in
+    absurd (omega (arith, q))
+  where
+    no-throw : {y : ℕ} → Fault.TypeError ≡ Fault.Throw y → ⊥
+    no-throw e = let z : _≡_ {A = ℕ} 0 1 = cc in absurd (omega arith)
 
 -- d waits for a cleanup, for which c has gone too deep: the bank pays for c's Await
 banked-ops : List Op

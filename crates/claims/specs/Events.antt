@@ -20,7 +20,7 @@ use Rattle.model.specs.declared.machine.Frame.{Frame}
 use Rattle.model.specs.declared.call.OptPc.{OptPc}
 use Rattle.model.specs.declared.call.Op.{Op}
 use Rattle.claims.specs.Engine.{Seen, View, Engine, code, isNew, runs, awaits, sleeps, ended, seenIn, is}
-use Rattle.claims.specs.Says.{word, Sent, nothing, gets, closes, Aim, enter, suspend, neither, Does, instr, hosts, finishes, raises, other, doing, whom}
+use Rattle.claims.specs.Says.{word, Sent, nothing, gets, closes, Aim, enter, suspend, neither, Does, instr, hosts, finishes, raises, other, doing, banked, whom}
 use Rattle.claims.specs.Held.{at, closer, By}
 use Rattle.claims.specs.Delivery.{recorded, resultOf}
 use Rattle.claims.specs.Demand3.{Enters, Suspends, Restarts}
@@ -189,6 +189,31 @@ abbrev pub lostAt : View → Option ℕ → OptPc → List ℕ
 lostAt v none pc = []
 lostAt v (some x) OptPc.None = lost v x (v .frames) (v .chain)
 lostAt v (some x) (OptPc.Some pc) = lost v x (at pc (v .frames)) (v .chain)
+
+-- ---- what an unwind answers
+
+-- 01: "taking one costs one unit", which the fuel or the bank has to have
+abbrev pub handled : View → ℕ
+handled v = pick (eqb (v .fuel .fuel) 0) (pick (eqb (banked (v .fuel .bank)) 0) 10 0) 0
+
+-- the word x leaves a frame: of a body, it stops with one that it closes, and at the host and at a cleanup
+abbrev pub ending : Cont → View → ℕ → List Active → (List Active → ℕ) → ℕ
+ending Cont.Entry v x chain below = 17
+ending (Cont.Write r) v x chain below = below chain
+ending (Cont.Dyn r) v x chain below = below chain
+ending (Cont.Value r) v x chain below = below chain
+ending Cont.Discard v x chain below = below chain
+ending Cont.Coro v x [] below = below []
+ending Cont.Coro v x (a ∷ chain) below = pick (seenIn (λ k. k .closing && eqb x (k .signal)) (v .coro (a .coro))) 0 (pick (goesOn (a .driver)) (below chain) 0)
+
+-- where x is raised in these frames. 01: "if nobody catches, it answers 17 with the error object or thrown word"
+abbrev pub ends : View → ℕ → List Frame → List Active → ℕ
+ends v x [] chain = 17
+ends v x (f ∷ fs) chain = pick (caught (v .rules .handlers (f .func)) (f .pc)) (handled v) (ending (f .cont) v x chain (ends v x fs))
+
+abbrev pub endsAt : View → ℕ → OptPc → ℕ
+endsAt v x OptPc.None = ends v x (v .frames) (v .chain)
+endsAt v x (OptPc.Some pc) = ends v x (at pc (v .frames)) (v .chain)
 
 -- who fails: by an unwind of a word, whatever it answers; of a fault, but where its error object could not be made (9, 14); all, where
 -- the run is stopped

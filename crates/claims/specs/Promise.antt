@@ -7,6 +7,8 @@ use mathlib.Core.List.{List, [], _∷_, _++_}
 use mathlib.Core.Option.{Option, none, some}
 use lib.ListN.{length, drop}
 use lib.Dec.{eqb, ltb, leb}
+use Rattle.lists.specs.Pick.{pick}
+use Rattle.heap.specs.Fault.{numberOf}
 use Rattle.heap.specs.declared.fault.Fault.{Fault}
 use Rattle.heap.specs.declared.value.Opt.{Opt}
 use Rattle.heap.specs.declared.heap.ResultKind.{ResultKind}
@@ -18,7 +20,7 @@ use Rattle.claims.specs.Operands.{written}
 use Rattle.claims.specs.Says.{lie, Entry, charged}
 use Rattle.claims.specs.Held.{Held}
 use Rattle.claims.specs.Demand3.{Enters, Suspends, Stops, Restarts, Waits, Goes, Demand3}
-use Rattle.claims.specs.Events.{Healthy, onBody, raised, raisedAt, Events}
+use Rattle.claims.specs.Events.{Healthy, onBody, raised, endsAt, Events}
 
 -- ---- what is accepted, besides the entries (Events.entered)
 
@@ -49,14 +51,10 @@ pub record Roomy (e : Engine) (n c : ℕ) (s : e .State) : Type 0 where
   pub grows : let words = length (drop (held .body .base) (e .view s .stack)) - seen .mostWords in let frames = length (held .over ++ (held .body ∷ [])) - seen .mostFrames in
       room (e .view s) (n + (words * 8 + frames * e .view s .rules .frameCost)) ≡ true
 
--- a new object that costs n can be made
-pub record Makes (v : View) (n : ℕ) : Type 0 where
+-- a new integer object can be made
+pub record Makes (v : View) : Type 0 where
   pub slot : v .full ≡ false
-  pub bytes : room v n ≡ true
-
--- an integer object, and an error object
-abbrev pub MakesBoth : View → Type 0
-MakesBoth v = Makes v (v .rules .intCost) × Makes v (v .rules .errorCost)
+  pub bytes : room v (v .rules .intCost) ≡ true
 
 -- a result that converts: an i64, or a u64 below 2^63. 01: "A u64 above 2^63 - 1 gives 7."
 abbrev pub converts : ResultKind → ℕ → Bool
@@ -71,12 +69,14 @@ pub record Accepts (e : Engine) : Type 0 where
   pub yield-kv : (c : ℕ) (s : e .State) (k : e .Call) (pc dst src key : ℕ) → Roomy e 0 c s → e .op k ≡ some (Op.YieldKv pc dst src key) → lie (e .view s) (dst ∷ src ∷ key ∷ []) ≡ true → suspends (e .number s k) ≡ true
   pub yield : (c : ℕ) (s : e .State) (k : e .Call) (pc dst src : ℕ) → Roomy e (e .view s .rules .intCost) c s → e .view s .full ≡ false → e .op k ≡ some (Op.Yield pc dst src) → lie (e .view s) (dst ∷ src ∷ []) ≡ true
       → (suspends (e .number s k) || eqb (e .number s k) 7) ≡ true
-  pub integer : (s : e .State) (k : e .Call) (kind : ResultKind) (x : ℕ) → Healthy e s → e .op k ≡ some (Op.Finish kind x) → Makes (e .view s) (e .view s .rules .intCost) → converts kind x ≡ true → onBody (e .view s .frames) ≡ true → e .number s k ≡ 0
+  pub integer : (s : e .State) (k : e .Call) (kind : ResultKind) (x : ℕ) → Healthy e s → e .op k ≡ some (Op.Finish kind x) → Makes (e .view s) → converts kind x ≡ true → onBody (e .view s .frames) ≡ true → e .number s k ≡ 0
   pub finish : (s : e .State) (k : e .Call) (kind : ResultKind) (x : ℕ) → Healthy e s → e .op k ≡ some (Op.Finish kind x) → plain kind ≡ true → onBody (e .view s .frames) ≡ true → e .number s k ≡ 0
-  pub escape : (s : e .State) (k : e .Call) (x : ℕ) (pc : OptPc) (c : ℕ) → Healthy e s → e .op k ≡ some (Op.Unwind (Fault.Throw x) pc) → raisedAt (e .view s) (some x) pc ≡ some c → e .number s k ≡ 0
-  -- an unwind of 1 to 8 whose error object can be made is not answered 9 or 14
-  pub raise : (s : e .State) (k : e .Call) (f : Fault) (pc : OptPc) (x : ℕ) → Healthy e s → e .op k ≡ some (Op.Unwind f pc) → raised (e .view s) f ≡ some x → Makes (e .view s) (e .view s .rules .errorCost)
-      → (eqb (e .number s k) 9 || eqb (e .number s k) 14) ≡ false
+  -- what an unwind answers: of a word, and of 1 to 8, whose error object has to be made
+  pub throw : (s : e .State) (k : e .Call) (x : ℕ) (pc : OptPc) → Healthy e s → e .op k ≡ some (Op.Unwind (Fault.Throw x) pc) → e .number s k ≡ endsAt (e .view s) x pc
+  pub raise : (s : e .State) (k : e .Call) (f : Fault) (pc : OptPc) (x : ℕ) → Healthy e s → e .op k ≡ some (Op.Unwind f pc) → ((y : ℕ) → f ≡ Fault.Throw y → ⊥) → raised (e .view s) f ≡ some x
+      → let v = e .view s in e .number s k ≡ pick (room v (v .rules .errorCost)) (pick (v .full) 14 (endsAt v x pc)) 9
+  -- 01: "Faults 9 and 10 pass through it unchanged"; 11, where it "gets no such fault"
+  pub pass : (s : e .State) (k : e .Call) (f : Fault) (pc : OptPc) → Healthy e s → e .op k ≡ some (Op.Unwind f pc) → raised (e .view s) f ≡ none → e .number s k ≡ pick (eqb (numberOf f) 9 || eqb (numberOf f) 10) (numberOf f) 11
 
 -- ---- soundness is kept
 
@@ -141,7 +141,7 @@ pub record NotEmpty (e : Engine) : Type 0 where
   pub c : ℕ
   pub suspends : Suspends e c (run e (e .next start first) before) x
   pub roomy : Roomy e (e .view (run e (e .next start first) before) .rules .intCost) c (run e (e .next start first) before)
-  pub makes : MakesBoth (e .view (run e (e .next start first) before))
+  pub makes : Makes (e .view (run e (e .next start first) before))
   pub waits : Waits e c (e .next (run e (e .next start first) before) x) waiting
   pub enters : Enters e c (run e (e .next (run e (e .next start first) before) x) waiting) y
   pub goes : Goes e c (e .next (run e (e .next (run e (e .next start first) before) x) waiting) y) going

@@ -15,8 +15,8 @@ use Rattle.claims.specs.Says.{word, doing, lie, Entry, charged, whom}
 use Rattle.claims.specs.Held.{Held, closer, By, Entered, Restored}
 use Rattle.claims.specs.Delivery.{recorded, Left, resultOf}
 use Rattle.claims.specs.Demand3.{Enters, Suspends, Stops, Restarts, Waits, Goes, Demand3}
-use Rattle.claims.specs.Events.{Healthy, onBody, raised, raisedAt, answers, suspended, isAwait, toldTo, returned, Lost, endedAs, lives, undone, rests, Events}
-use Rattle.claims.specs.Promise.{suspends, room, Roomy, Makes, MakesBoth, Accepts, Eleven, Soundness, Fresh, SetUps, registers, Looks, NotEmpty}
+use Rattle.claims.specs.Events.{Healthy, onBody, raised, endsAt, answers, suspended, isAwait, toldTo, returned, Lost, endedAs, lives, undone, rests, Events}
+use Rattle.claims.specs.Promise.{suspends, room, Roomy, Makes, Accepts, Eleven, Soundness, Fresh, SetUps, registers, Looks, NotEmpty}
 use Rattle.claims.proofs.Premises.{Premises}
 use Rattle.lent_claims.proofs.Follows.{Follows, Sight, sight, same, along, ran}
 use Rattle.lent_claims.proofs.Follows.{up-enters, down-enters, up-suspends, down-suspends, up-returns, down-returns, up-fails, down-fails, up-leaves, down-leaves, up-restarts, down-restarts, up-healthy, down-healthy, up-waits, down-waits, up-goes, down-goes}
@@ -160,12 +160,13 @@ module _ (e d : Engine) (f : Follows e d) where
             let r′ = subst (λ n. Roomy d n c (f .to s)) (ap (λ v. v .rules .intCost) (sym (f .view s))) (roomy (e .view s .rules .intCost) c s r) in
             ap (λ n. suspends n || eqb n 7) (sym (f .number s k)) ∙ p .yield c (f .to s) (f .by s k) pc dst src r′ (ap (λ v. v .full) (f .view s) ∙ full) (f .op s k ∙ o) (lying s (dst ∷ src ∷ []) l);
         integer = λ s k kind x ok o m converts b.
-            sym (f .number s k) ∙ p .integer (f .to s) (f .by s k) kind x (up-healthy e d f s ok) (f .op s k ∙ o) (subst (λ v. Makes v (v .rules .intCost)) (sym (f .view s)) m) converts (ap (λ v. onBody (v .frames)) (f .view s) ∙ b);
+            sym (f .number s k) ∙ p .integer (f .to s) (f .by s k) kind x (up-healthy e d f s ok) (f .op s k ∙ o) (subst Makes (sym (f .view s)) m) converts (ap (λ v. onBody (v .frames)) (f .view s) ∙ b);
         finish = λ s k kind x ok o plain b. sym (f .number s k) ∙ p .finish (f .to s) (f .by s k) kind x (up-healthy e d f s ok) (f .op s k ∙ o) plain (ap (λ v. onBody (v .frames)) (f .view s) ∙ b);
-        escape = λ s k x pc c ok o r. sym (f .number s k) ∙ p .escape (f .to s) (f .by s k) x pc c (up-healthy e d f s ok) (f .op s k ∙ o) (ap (λ v. raisedAt v (some x) pc) (f .view s) ∙ r);
-        raise = λ s k g pc x ok o r m.
-            ap (λ n. eqb n 9 || eqb n 14) (sym (f .number s k))
-            ∙ p .raise (f .to s) (f .by s k) g pc x (up-healthy e d f s ok) (f .op s k ∙ o) (ap (λ v. raised v g) (f .view s) ∙ r) (subst (λ v. Makes v (v .rules .errorCost)) (sym (f .view s)) m);
+        throw = λ s k x pc ok o. down (λ v. v .number ≡ endsAt (v .before) x pc) s k (p .throw (f .to s) (f .by s k) x pc (up-healthy e d f s ok) (f .op s k ∙ o));
+        raise = λ s k g pc x ok o n r.
+            down (λ v. v .number ≡ pick (room (v .before) (v .before .rules .errorCost)) (pick (v .before .full) 14 (endsAt (v .before) x pc)) 9) s k
+            (p .raise (f .to s) (f .by s k) g pc x (up-healthy e d f s ok) (f .op s k ∙ o) n (ap (λ v. raised v g) (f .view s) ∙ r));
+        pass = λ s k g pc ok o r. sym (f .number s k) ∙ p .pass (f .to s) (f .by s k) g pc (up-healthy e d f s ok) (f .op s k ∙ o) (ap (λ v. raised v g) (f .view s) ∙ r);
       }
 
   -- ---- soundness
@@ -221,7 +222,7 @@ module _ (e d : Engine) (f : Follows e d) where
     abbrev gs : List (d .Call)
     gs = along e d f s₄ going
 
-    pub not-empty : Restarts e start first → Roomy d (d .view (f .to s₁) .rules .intCost) c (f .to s₁) → MakesBoth (d .view (f .to s₁)) → Premises d c (f .to s₁) (f .by s₁ x) ws (f .by s₃ y) gs (f .by s₅ z) → NotEmpty e
+    pub not-empty : Restarts e start first → Roomy d (d .view (f .to s₁) .rules .intCost) c (f .to s₁) → Makes (d .view (f .to s₁)) → Premises d c (f .to s₁) (f .by s₁ x) ws (f .by s₃ y) gs (f .by s₅ z) → NotEmpty e
     not-empty r has makes p =
         let at₂ = f .next s₁ x in
         let at₃ : run d (d .next (f .to s₁) (f .by s₁ x)) ws ≡ f .to s₃ = ap (λ u. run d u ws) at₂ ∙ ran e d f s₂ waiting in
@@ -240,7 +241,7 @@ module _ (e d : Engine) (f : Follows e d) where
           c = c;
           suspends = down-suspends e d f s₁ x c (p .suspends);
           roomy = subst (λ v. Roomy e (v .rules .intCost) c s₁) (f .view s₁) (roomy-down (d .view (f .to s₁) .rules .intCost) c s₁ has);
-          makes = subst MakesBoth (f .view s₁) makes;
+          makes = subst Makes (f .view s₁) makes;
           waits = down-waits e d f c s₂ waiting (subst (λ u. Waits d c u ws) at₂ (p .waits));
           enters = down-enters e d f s₃ y c (subst (λ u. Enters d c u (f .by s₃ y)) at₃ (p .enters));
           goes = down-goes e d f c s₄ going (subst (λ u. Goes d c u gs) at₄ (p .goes));
