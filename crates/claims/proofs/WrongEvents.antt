@@ -22,7 +22,7 @@ use Rattle.model.specs.declared.machine.Fuel.{Fuel}
 use Rattle.model.specs.declared.call.OptPc.{OptPc}
 use Rattle.model.specs.declared.call.Op.{Op}
 use Rattle.claims.specs.Engine.{Seen, Rules, run, code, isNew, is}
-use Rattle.claims.specs.Says.{nothing, gets, closes}
+use Rattle.claims.specs.Says.{nothing, gets, closes, does}
 use Rattle.claims.specs.Delivery.{recorded}
 use Rattle.claims.specs.Events.{Healthy, thrown, escapes, Events}
 use Rattle.claims.specs.Promise.{Roomy, Accepts, SetUps, Looks, Speaks}
@@ -30,7 +30,7 @@ use Rattle.claims.specs.Steps.{viewOf, opOf}
 use Rattle.claims.specs.Story as Story
 use Rattle.claims.specs.Story.{wide, c, held}
 use Rattle.claims.specs.Witness.{nth, frame}
-use Rattle.claims.specs.Wrong.{idle, two, failing, forgetting, sparing, yielding, lostIn, excusing, muting, hushing, grudging, unpaid, stingy, closing, rewriting, aborting, harsh, misnaming, renewing, stillborn, fuelled, shrinking, heardAs, deaf, showing}
+use Rattle.claims.specs.Wrong.{idle, two, failing, forgetting, sparing, yielding, lostIn, excusing, muting, hushing, grudging, cries, crying, unpaid, stingy, closing, rewriting, aborting, harsh, misnaming, renewing, stillborn, fuelled, shrinking, heardAs, deaf, showing}
 use Rattle.claims.proofs.Cores.{no-both}
 use Rattle.claims.proofs.Promise.{sound-healthy}
 
@@ -250,6 +250,22 @@ always-nine v =
   where
     no-throw : {y : ℕ} → Fault.TypeError ≡ Fault.Throw y → ⊥
     no-throw e = let z : _≡_ {A = ℕ} 0 1 = cc in absurd (omega arith)
+
+-- c is closed with 9, and catches it
+raising-ops : List Op
+raising-ops = Story.begin 1 ++ (Op.Yield 8 3 0 ∷ Op.PutWord 2 9 ∷ Op.CoroClose 3 1 0 2 ∷ [])
+
+raising : World
+raising = M.runOps (fresh wide) raising-ops
+
+crying-healthy : Healthy crying raising
+unfolding computed raising-ops raising
+crying-healthy (SetUp s) e = let z : _≡_ {A = ℕ} 0 1 = cc in absurd (omega arith)
+crying-healthy (Do o) e = ap (λ p. cries (does (viewOf raising) p) (numberOf (M.tested raising p .answer))) (some-op e)
+
+pub caught-unheard : Accepts crying → ⊥
+unfolding computed raising-ops raising
+caught-unheard v = let q : _≡_ {A = ℕ} 17 0 = v .throw raising (asCall (Op.Unwind (Fault.Throw 9) OptPc.None) signal-typed) 9 OptPc.None crying-healthy refl in absurd (omega (arith, q))
 
 -- d waits for a cleanup, for which c has gone too deep: the bank pays for c's Await
 banked-ops : List Op

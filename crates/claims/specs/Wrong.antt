@@ -20,6 +20,7 @@ use Rattle.model.specs.declared.machine.Frame.{Frame}
 use Rattle.model.specs.declared.machine.Fuel.{Fuel}
 use Rattle.model.specs.declared.call.Op.{Op}
 use Rattle.claims.specs.Engine.{Engine, isNew, runs, awaits, sleeps, ended, seenIn, is}
+use Rattle.claims.specs.Says.{Does, instr, hosts, finishes, raises, other, doing}
 use Rattle.claims.specs.Demand3.{Demand3}
 use Rattle.claims.specs.Events.{isBody, failed, Events}
 use Rattle.claims.specs.Promise.{Accepts, SetUps, Looks, Speaks}
@@ -178,6 +179,17 @@ hushing = answering (λ n. pick (eqb n 6) 0 n)
 abbrev pub grudging : Engine
 grudging = answering (λ n. pick (ltb 0 n) 9 0)
 
+-- an unwind is answered 17, though the word is caught
+abbrev pub cries : Does → ℕ → ℕ
+cries (instr pc ok a) n = n
+cries (hosts c x) n = n
+cries (finishes kind x) n = n
+cries (raises f pc) n = 17
+cries other n = n
+
+abbrev pub crying : Engine
+crying = record { State = World; Call = Call; op = opOf; asks = asksOf; view = viewOf; next = λ w k. step w k .world; number = λ w k. cries (doing (viewOf w) (opOf k)) (numberOf (step w k .answer)); look = looks }
+
 -- at fuel 0 a suspension is answered 10, and is not done, whatever the bank holds
 abbrev pub unpaid : World → World → Bool
 unpaid w z = eqb (w .fuel .fuel) 0 && ltb (length (z .chain)) (length (w .chain))
@@ -278,6 +290,7 @@ pub record Wrong : Type 0 where
   pub throw-lost : Events muting → ⊥
   pub ignored-unheard : Events hushing → ⊥
   pub always-nine : Accepts grudging → ⊥
+  pub caught-unheard : Accepts crying → ⊥
   pub bank-unused : Accepts stingy → ⊥
   pub close-pays : Events closing → ⊥
   pub result-changes : Events (rewriting c) → ⊥
