@@ -45,7 +45,7 @@ use Rattle.claims.proofs.Cores.{no-both, objectIn, coroIn, and-left, an
 use Rattle.claims.proofs.Enters.{EnterCase, e-in, e-out, enter-case, Stored, accepts-stored, ChargeCase, c-done, c-spent, c-close, charge-case}
 use Rattle.claims.proofs.Instr.{Alike, alike, coro-alike, aimed-alike}
 use Rattle.claims.proofs.Switches.{created-susp, returned-not}
-use Rattle.claims.proofs.Events.{no-entry}
+use Rattle.claims.proofs.Events.{no-entry, susp-born}
 use Rattle.claims.proofs.Numbers.{step-number}
 use Rattle.claims.proofs.Views.{new-state}
 use Rattle.claims.proofs.Claim.{Entering, entering, entry-sound}
@@ -83,22 +83,15 @@ sent-word (Is k r) v x a = go (isCreated (k .state))
     go true = refl
     go false = refl
 
-asleep-begun : (s : CoroState) → isSuspended s ≡ true → isCreated s ≡ false
-asleep-begun s h = go (isCreated s) refl
-  where
-    go : (b : Bool) → isCreated s ≡ b → b ≡ false
-    go true e = no-both h (created-susp s e)
-    go false e = refl
-
 thrown : (y : Coroutine) → isAsleep y ≡ true → answers (newIn y) (sentTo y nothing) ≡ 17
 unfolding newIn pick
 thrown Absent a = no-both a refl
-thrown (Is k r) a = ap (λ b. answers b (pick b nothing nothing)) (asleep-begun (k .state) a)
+thrown (Is k r) a = ap (λ b. answers b (pick b nothing nothing)) (susp-born (k .state) a)
 
 closed : (y : Coroutine) (x : ℕ) → isAsleep y ≡ true → answers (newIn y) (sentTo y (closes x)) ≡ 17
 unfolding newIn pick
 closed Absent x a = no-both a refl
-closed (Is k r) x a = ap (λ b. answers b (pick b nothing (closes x))) (asleep-begun (k .state) a)
+closed (Is k r) x a = ap (λ b. answers b (pick b nothing (closes x))) (susp-born (k .state) a)
 
 -- ---- coro_enter, and then a tail that answers n
 

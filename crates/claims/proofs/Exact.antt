@@ -68,6 +68,9 @@ number-sound w o e = ap (λ b. pick b (call (o .op) w) (told (refused w Fault.Un
 pub no-some : {A : Type 0} {x : Option ℕ} {c : ℕ} → x ≡ none → x ≡ some c → A
 no-some p q = let z : _≡_ {A = ℕ} 0 1 = cc in absurd (omega arith)
 
+pub some-op : {a b : Op} → _≡_ {A = Option Op} (some a) (some b) → a ≡ b
+some-op e = cc
+
 pub one-some : {x : Option ℕ} {c u : ℕ} → x ≡ some c → x ≡ some u → c ≡ u
 one-some p q = cc
 

@@ -39,6 +39,7 @@ use Rattle.claims.proofs.Cores.{no-both}
 use Rattle.claims.proofs.Shape.{over, Ends}
 use Rattle.claims.proofs.Events.{run-born}
 use Rattle.claims.proofs.Enters.{charge-none}
+use Rattle.claims.proofs.Views.{runs-state}
 use Rattle.claims.proofs.Quiet.{finish-ends, change-still}
 use Rattle.claims.proofs.Ended.{run-seen}
 use Rattle.claims.proofs.Endings.{return-done}
@@ -164,17 +165,9 @@ module _ (v : Engine.View) (value f pc : ℕ) where
   seen-runs : (x : Coroutine) (c : ℕ) → seenOf x ≡ v .coro c → is v Engine.runs c ≡ true → isRunning (coreIn x .state) ≡ true
   seen-runs x c e h = go x (ap (seenIn (λ y. Engine.runs (y .state))) e ∙ h)
     where
-      states : (s : CoroState) → Engine.runs s ≡ isRunning s
-      states CoroState.Created = refl
-      states CoroState.Running = refl
-      states CoroState.Yielded = refl
-      states CoroState.Awaiting = refl
-      states CoroState.Returned = refl
-      states CoroState.Failed = refl
-
       go : (x : Coroutine) → seenIn (λ y. Engine.runs (y .state)) (seenOf x) ≡ true → isRunning (coreIn x .state) ≡ true
       go Absent q = no-both q refl
-      go (Is k r) q = sym (states (k .state)) ∙ q
+      go (Is k r) q = sym (runs-state (k .state)) ∙ q
 
   popped : (x : Frame) (xs : List Frame) → Next xs → (w : World) → Sees v w → AllRun v (w .chain) → Loses value w (search xs value f pc (popTo x xs w)) (lost v value xs (w .chain))
   popped x xs next w h rs = let l = next (popTo x xs w) refl (record { handlers = h .handlers; coros = h .coros }) rs in record { gone = l .gone; stays = l .stays; failed = l .failed; made = l .made }

@@ -55,7 +55,7 @@ use Rattle.claims.proofs.Claim.{fresh-absent}
 use Rattle.claims.proofs.Soundness.{soundness-kept}
 use Rattle.claims.proofs.Finishes.{bodyOn, Unmade, FinishCase, f-other, f-returns, finish-case}
 use Rattle.claims.proofs.Answers.{throw-answer, raise-answer, pass-answer}
-use Rattle.claims.proofs.Exact.{healthy-sound, number-sound}
+use Rattle.claims.proofs.Exact.{healthy-sound, number-sound, some-op}
 use Rattle.claims.proofs.Returned.{on-body}
 use Rattle.claims.proofs.Operands.{as-typed}
 use Rattle.claims.proofs.Premises.{premises-met}
@@ -64,9 +64,6 @@ use Rattle.claims.proofs.Values.{can-make, word-in}
 use Rattle.claims.proofs.Roomy.{await-takes, kv-takes, yield-takes}
 
 -- ---- soundness
-
-some-op : {a b : Op} → _≡_ {A = Option Op} (some a) (some b) → a ≡ b
-some-op e = cc
 
 -- a sound machine is not refused
 look-numbered : (w : World) → numberOf (call Op.Look w .answer) ≡ 0

@@ -30,12 +30,9 @@ use Rattle.claims.proofs.Ended.{stop-seen}
 use Rattle.claims.proofs.Claim as Claim
 use Rattle.claims.proofs.Claim.{StepCase, anew, same, step-case, fresh-absent}
 use Rattle.claims.proofs.Views.{is-runs, seen-at}
-use Rattle.claims.proofs.Exact.{one-some}
+use Rattle.claims.proofs.Exact.{one-some, some-op}
 use Rattle.claims.proofs.Failures.{isFailed, run-fails}
 use Rattle.claims.proofs.Losses.{unwound, not-apart, is-failed}
-
-some-op : {a b : Op} → _≡_ {A = Option Op} (some a) (some b) → a ≡ b
-some-op e = cc
 
 module _ (w : World) (h : sound w ≡ true) (c : ℕ) (r : isRunning (coreAt w c .state) ≡ true) where
   unwind-spoils : (f : Fault) (pc : OptPc) (x : ℕ) → raised (viewOf w) f ≡ some x → isFailed (coreAt (call (Op.Unwind f pc) w .world) c .state) ≡ true → coreAt (call (Op.Unwind f pc) w .world) c .seen ≡ endedAs CoroState.Failed x

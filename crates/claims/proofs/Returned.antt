@@ -52,7 +52,7 @@ use Rattle.claims.proofs.Restores as Restores
 use Rattle.claims.proofs.Finishes.{Unmade, FinishCase, f-other, f-returns, finish-case, bodyOn}
 use Rattle.claims.proofs.Escapes.{Ended, e-works, e-returns}
 use Rattle.claims.proofs.Unwinds.{unwind-ended}
-use Rattle.claims.proofs.Exact.{number-sound, no-some, pick-some}
+use Rattle.claims.proofs.Exact.{number-sound, no-some, pick-some, some-op}
 
 -- ---- one that runs, and is moved, runs or has failed
 
@@ -314,9 +314,6 @@ ended-told w c {o} (e-returns u f fs a chain t r n) b l = go (ℕ-discrete c (a 
 unwind-told : (f : Fault) (pc : OptPc) (w : World) (c : ℕ) → sound w ≡ true → isRunning (coreAt w c .state) ≡ true → let z = call (Op.Unwind f pc) w .world in isReturned (coreAt z c .state) ≡ true → recorded (coreAt z c .seen) ≡ 0
 unfolding call
 unwind-told f pc w c h b l = ended-told w c (unwind-ended w h f pc) b l
-
-some-op : {a b : Op} → _≡_ {A = Option Op} (some a) (some b) → a ≡ b
-some-op e = cc
 
 pub closed : (c : ℕ) (w : World) (k : Call) (f : Fault) (pc : OptPc) → Said.Returns steps c w k → opOf k ≡ some (Op.Unwind f pc) → recorded (viewOf (next w k) .coro c) ≡ 0
 closed c w k f pc g e = ap recorded (sym (seen-at (next w k) c)) ∙ go (next w k) (step-case w k) (sym (is-ended (next w k) c) ∙ g .after) e

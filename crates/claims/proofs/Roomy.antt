@@ -59,11 +59,8 @@ use Rattle.claims.proofs.Instr.{Alike, alike, coro-alike}
 use Rattle.claims.proofs.Views.{base-top}
 use Rattle.claims.proofs.Whom.{told, charged-by}
 use Rattle.claims.proofs.Bodies.{Cut, cut-above, cut-base}
-use Rattle.claims.proofs.Exact.{healthy-sound, number-sound}
+use Rattle.claims.proofs.Exact.{healthy-sound, number-sound, some-op}
 use Rattle.claims.proofs.Numbers.{step-number, call-number}
-
-some-op : {a b : Op} → _≡_ {A = Option Op} (some a) (some b) → a ≡ b
-some-op e = cc
 
 stands : (over : List Frame) (body : Frame) (under : List Frame) → isNil (over ++ (body ∷ under)) ≡ false
 stands [] body under = refl

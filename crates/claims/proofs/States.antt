@@ -32,7 +32,7 @@ use Rattle.claims.proofs.Events.{susp-born, run-born}
 use Rattle.claims.proofs.Sounds.{apart}
 use Rattle.claims.proofs.Calls.{shape}
 use Rattle.claims.proofs.Claim.{StepCase, anew, same, does, step-case, fresh-absent}
-use Rattle.claims.proofs.Views.{is-runs, says-alike}
+use Rattle.claims.proofs.Views.{new-state, is-runs, says-alike}
 use Rattle.claims.proofs.Restores.{restarts-old}
 use Rattle.claims.proofs.Still.{undoneBy, alike-undone}
 
@@ -149,14 +149,6 @@ module _ (c : ℕ) where
       ap (λ x. isCreated (x .state)) (u .ends .others c (subst (Apart c) (u .inmost) (m .0) .0)) ∙ m .1
   comes-shape f (S.stops e i t) n h = ap (λ x. isCreated (x .state)) (t .apart c n) ∙ ap (λ x. isCreated (coreIn x .state)) h
 
-created-new : (s : CoroState) → isCreated s ≡ true → isNew s ≡ true
-created-new CoroState.Created e = refl
-created-new CoroState.Running e = no-both e refl
-created-new CoroState.Yielded e = no-both e refl
-created-new CoroState.Awaiting e = no-both e refl
-created-new CoroState.Returned e = no-both e refl
-created-new CoroState.Failed e = no-both e refl
-
 pub comes-else : (c : ℕ) (w : World) (k : Call) → (undone (doing (viewOf w) (opOf k)) ≡ some c → ⊥) → viewOf w .coro c ≡ none → (viewOf (next w k) .coro c ≡ none) ⊎ (is (viewOf (next w k)) isNew c ≡ true)
 comes-else c w k u h = go (coro (next w k) c) refl (new (next w k) (step-case w k) u)
   where
@@ -174,4 +166,4 @@ comes-else c w k u h = go (coro (next w k) c) refl (new (next w k) (step-case w 
 
     go : (x : Coroutine) → coro (next w k) c ≡ x → isCreated (coreAt (next w k) c .state) ≡ true → (viewOf (next w k) .coro c ≡ none) ⊎ (is (viewOf (next w k)) isNew c ≡ true)
     go Absent q n = inl (ap seenOf q)
-    go (Is j r) q n = inr (ap (λ y. seenIn (λ z. isNew (z .state)) (seenOf y)) q ∙ created-new (j .state) (sym (ap (λ y. isCreated (coreIn y .state)) q) ∙ n))
+    go (Is j r) q n = inr (ap (λ y. seenIn (λ z. isNew (z .state)) (seenOf y)) q ∙ new-state (j .state) ∙ (sym (ap (λ y. isCreated (coreIn y .state)) q) ∙ n))

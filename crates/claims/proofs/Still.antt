@@ -53,18 +53,22 @@ is-rests w c h = go (coro w c) h
     go Absent q = q
     go (Is k r) q = q
 
+-- who is not entered does not run
+not-entered : (c : ℕ) (w : World) (k : Call) → (D.Enters steps c w k → ⊥) → isRunning (coreAt w c .state) ≡ false → isRunning (coreAt (next w k) c .state) ≡ false
+not-entered c w k i idle = out (isRunning (coreAt (next w k) c .state)) refl
+  where
+    out : (b : Bool) → isRunning (coreAt (next w k) c .state) ≡ b → isRunning (coreAt (next w k) c .state) ≡ false
+    out false e = e
+    out true e = absurd (i (record { before = is-runs w c ∙ idle; after = is-runs (next w k) c ∙ e }))
+
 pub still : (c : ℕ) (w : World) (k : Call) → (D.Restarts steps w k → ⊥) → (D.Enters steps c w k → ⊥) → is (viewOf w) rests c ≡ true → viewOf (next w k) .coro c ≡ viewOf w .coro c
-still c w k r i h = sym (seen-at (next w k) c) ∙ ap (λ (x : Seat). x .seen) (stays c w k (coreAt w c) (rest-born (coreAt w c .state) q) idle (restarts-old w k r) (out (isRunning (coreAt (next w k) c .state)) refl) refl) ∙ seen-at w c
+still c w k r i h = sym (seen-at (next w k) c) ∙ ap (λ (x : Seat). x .seen) (stays c w k (coreAt w c) (rest-born (coreAt w c .state) q) idle (restarts-old w k r) (not-entered c w k i idle) refl) ∙ seen-at w c
   where
     q : rests (coreAt w c .state) ≡ true
     q = is-rests w c h
 
     idle : isRunning (coreAt w c .state) ≡ false
     idle = rest-run (coreAt w c .state) q
-
-    out : (b : Bool) → isRunning (coreAt (next w k) c .state) ≡ b → isRunning (coreAt (next w k) c .state) ≡ false
-    out false e = e
-    out true e = absurd (i (record { before = is-runs w c ∙ idle; after = is-runs (next w k) c ∙ e }))
 
 -- ---- one that has not begun
 
@@ -104,7 +108,7 @@ not-undone : (c : ℕ) (w : World) (k : Call) → (D.Restarts steps w k → ⊥)
 not-undone c w k r i h u = sym (seen-at (next w k) c) ∙ ap (λ (x : Seat). x .seen)
     (stays-firm c w k (coreAt w c) (λ _ x. firm m-plain (λ e. no-some (ap undoneBy e)) x) (λ _ x. firm m-ending (λ e. no-some (ap undoneBy e)) x)
     (λ o q _ x. firm (modeOf (act w (o .op))) (λ e. u (ap (λ (j : Call). undone (doing (viewOf w) (opOf j))) q ∙ alike-undone (says-alike w (o .op)) ∙ ap undoneBy e)) x)
-    idle (restarts-old w k r) (out (isRunning (coreAt (next w k) c .state)) refl) refl)
+    idle (restarts-old w k r) (not-entered c w k i idle) refl)
     ∙ seen-at w c
   where
     idle : isRunning (coreAt w c .state) ≡ false
@@ -116,10 +120,6 @@ not-undone c w k r i h u = sym (seen-at (next w k) c) ∙ ap (λ (x : Seat). x .
     firm : (b : Mode) → (b ≡ m-undoing c → ⊥) → (coreAt w c .seen ≡ none) ⊎ (b ≡ m-undoing c) → ⊥
     firm b n (inl e) = no-both h (ap (seenIn (λ y. isNew (y .state))) (sym (seen-at w c) ∙ e))
     firm b n (inr e) = n e
-
-    out : (b : Bool) → isRunning (coreAt (next w k) c .state) ≡ b → isRunning (coreAt (next w k) c .state) ≡ false
-    out false e = e
-    out true e = absurd (i (record { before = is-runs w c ∙ idle; after = is-runs (next w k) c ∙ e }))
 
 -- where another is entered it stays
 no-whom : {A : Type 0} {x : Option Entry} {y : Entry} → x ≡ none → x ≡ some y → A
@@ -140,10 +140,6 @@ pub unbegun : (c : ℕ) (w : World) (k : Call) → (D.Restarts steps w k → ⊥
     → viewOf (next w k) .coro c ≡ viewOf w .coro c
 unbegun c w k r i h u = go (whom (viewOf w) (opOf k)) refl
   where
-    out : (b : Bool) → isRunning (coreAt (next w k) c .state) ≡ b → isRunning (coreAt (next w k) c .state) ≡ false
-    out false e = e
-    out true e = absurd (i (record { before = is-runs w c ∙ is-new w c h; after = is-runs (next w k) c ∙ e }))
-
     case : (y : Entry) {k : Call} (z : World) → StepCase w k z → whom (viewOf w) (opOf k) ≡ some y → isRunning (coreAt z c .state) ≡ false → viewOf z .coro c ≡ viewOf w .coro c
     case y z (anew s e) q l = no-whom refl q
     case y z (same k e) q l = refl
@@ -151,4 +147,4 @@ unbegun c w k r i h u = go (whom (viewOf w) (opOf k)) refl
 
     go : (y : Option Entry) → whom (viewOf w) (opOf k) ≡ y → viewOf (next w k) .coro c ≡ viewOf w .coro c
     go none e = not-undone c w k r i h (λ q. u q e)
-    go (some y) e = case y (next w k) (step-case w k) e (out (isRunning (coreAt (next w k) c .state)) refl)
+    go (some y) e = case y (next w k) (step-case w k) e (not-entered c w k i (is-new w c h))

@@ -54,7 +54,7 @@ use Rattle.claims.proofs.Whom.{told, whom-told}
 use Rattle.claims.proofs.Claim as Claim
 use Rattle.claims.proofs.Claim.{StepCase, anew, same, step-case}
 use Rattle.claims.proofs.Numbers.{step-number}
-use Rattle.claims.proofs.Exact.{no-some, one-some}
+use Rattle.claims.proofs.Exact.{no-some, one-some, some-op}
 use Rattle.claims.proofs.States.{comes-else}
 
 is-created : (s : CoroState) → isCreated s ≡ true → s ≡ CoroState.Created
@@ -141,9 +141,6 @@ module _ (w : World) (c : ℕ) (k : Core) (r : Rest) (new : isCreated (k .state)
   throw-left n =
       instr-ends w c 17 (endedAs CoroState.Failed (reg w src)) (Op.ResumeThrow pc dst q src) pc _ _ (resumeThrow pc dst q src) refl refl refl refl n
       (λ v a. subst (λ x. Ends c 17 (endedAs CoroState.Failed x) (resumeThrow pc dst q src v)) (reg-alike a src) (throw-ends c k r new v (coro-alike a c ∙ e) pc dst q src (reg-alike a q ∙ f)))
-
-some-op : {a b : Op} → _≡_ {A = Option Op} (some a) (some b) → a ≡ b
-some-op e = cc
 
 by-call : (c : ℕ) (w : World) (p : Op) (n : ℕ) (y : Option Seen) → eqb 11 n ≡ false → Left w c n y p → (k : Call) → opOf k ≡ some p → whom (viewOf w) (opOf k) ≡ none
     → viewOf (step w k .world) .coro c ≡ pick (eqb (numberOf (step w k .answer)) n) y (viewOf w .coro c)

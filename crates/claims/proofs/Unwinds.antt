@@ -32,6 +32,7 @@ use Rattle.claims.specs.Steps.{seenOf, viewOf}
 use Rattle.claims.proofs.Cores.{no-both, and-left, and-right, coroIn, objectIn, push-cases, m-ending}
 use Rattle.claims.proofs.Shape.{View, view, Worked, done, tops, Apart}
 use Rattle.claims.proofs.Under.{keeps-pc}
+use Rattle.claims.proofs.Events.{or-left, or-right}
 use Rattle.claims.proofs.Quiet.{Same, same-worked}
 use Rattle.claims.proofs.Sounds.{two}
 use Rattle.claims.proofs.Bodies.{at-top}
@@ -41,15 +42,7 @@ use Rattle.claims.proofs.Escapes.{Ended, e-works, e-returns, then-ended
 
 apart-among : (c : ℕ) (chain : List Active) → among c (coros chain) ≡ false → Apart c chain
 apart-among c [] h = tt
-apart-among c (a ∷ chain) h = ((λ q. no-both (eq-eqb c (a .coro) q) (left (eqb c (a .coro)) (among c (coros chain)) h)), apart-among c chain (right (eqb c (a .coro)) (among c (coros chain)) h))
-  where
-    left : (a b : Bool) → (a || b) ≡ false → a ≡ false
-    left true b e = e
-    left false b e = refl
-
-    right : (a b : Bool) → (a || b) ≡ false → b ≡ false
-    right true b e = no-both refl e
-    right false b e = e
+apart-among c (a ∷ chain) h = ((λ q. no-both (eq-eqb c (a .coro) q) (or-left (eqb c (a .coro)) (among c (coros chain)) h)), apart-among c chain (or-right (eqb c (a .coro)) (among c (coros chain)) h))
 
 all-seen : (w : World) (chain : List Active) → distinct (coros chain) ≡ true → AllSeen (viewOf w) (w .slots) chain
 all-seen w [] h = tt

@@ -50,6 +50,7 @@ use Rattle.claims.proofs.Claim.{StepCase, anew, same, does, step-case, 
 use Rattle.claims.proofs.Views.{is-runs, is-ended}
 use Rattle.claims.proofs.Finishes.{FinishCase, f-other, f-returns, finish-case, dynIn, dyn-object}
 use Rattle.claims.proofs.Returned.{run-returned}
+use Rattle.claims.proofs.Exact.{some-op}
 
 -- ---- a new integer's word
 
@@ -166,9 +167,6 @@ finish-at : (w : World) (c : ℕ) (kind : ResultKind) (x : ℕ) → sound w ≡ 
     → let z = call (Op.Finish kind x) w .world in isReturned (coreAt z c .state) ≡ true → dynInt z (recorded (seenOf (coro z c))) ≡ Opt.Some x
 unfolding call
 finish-at w c kind x s l i b r = finish-int kind x w s l i c (finish kind x w) b r (finish-case kind x w)
-
-some-op : {a b : Op} → _≡_ {A = Option Op} (some a) (some b) → a ≡ b
-some-op e = cc
 
 pub word-in : (o : Op) (kind : ResultKind) (x : ℕ) → o ≡ Op.Finish kind x → typed o ≡ true → x < 2 ^ 64
 unfolding typed

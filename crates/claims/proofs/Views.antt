@@ -30,7 +30,7 @@ use Rattle.claims.proofs.Split.{hasLeft}
 
 -- ---- states
 
-runs-state : (s : CoroState) → runs s ≡ isRunning s
+pub runs-state : (s : CoroState) → runs s ≡ isRunning s
 runs-state CoroState.Created = refl
 runs-state CoroState.Running = refl
 runs-state CoroState.Yielded = refl

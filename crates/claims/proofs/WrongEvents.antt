@@ -32,6 +32,7 @@ use Rattle.claims.specs.Story.{wide, c, held}
 use Rattle.claims.specs.Witness.{nth, frame}
 use Rattle.claims.specs.Wrong.{idle, two, failing, forgetting, sparing, yielding, lostIn, excusing, muting, hushing, grudging, cries, crying, unpaid, stingy, closing, rewriting, aborting, harsh, misnaming, renewing, stillborn, fuelled, shrinking, heardAs, deaf, showing}
 use Rattle.claims.proofs.Cores.{no-both}
+use Rattle.claims.proofs.Exact.{some-op}
 use Rattle.claims.proofs.Promise.{sound-healthy}
 
 -- ---- events
@@ -110,9 +111,6 @@ excusing-healthy (SetUp s) e = absurd (no-setting e)
     no-setting : _≡_ {A = Option Op} none (some Op.Look) → ⊥
     no-setting e = let z : _≡_ {A = ℕ} 0 1 = cc in absurd (omega arith)
 excusing-healthy (Do o) e = ap (λ p. pick (lostIn (begun .chain) (M.tested begun p .world)) 9 (numberOf (M.tested begun p .answer))) (some-op e)
-  where
-    some-op : {a b : Op} → _≡_ {A = Option Op} (some a) (some b) → a ≡ b
-    some-op e = cc
 
 pub excused : Events excusing → ⊥
 unfolding computed begun
@@ -228,9 +226,6 @@ comes-failed v = go (v .comes c called (asCall (Op.CoroNew 1 0 0 0) new-typed) r
 pub fuel-stays : SetUps fuelled → ⊥
 unfolding computed begun
 fuel-stays v = let q : _≡_ {A = ℕ} 998 0 = ap (λ (f : Fuel). f .fuel) (v .begun begun (SetUp wide) (record { sets-up = refl; accepted = refl }) .fuel) in absurd (omega (arith, q))
-
-some-op : {a b : Op} → _≡_ {A = Option Op} (some a) (some b) → a ≡ b
-some-op e = cc
 
 -- a fault is raised, and nobody catches it
 fault-typed : typed (Op.Unwind Fault.TypeError OptPc.None) ≡ true
