@@ -18,7 +18,7 @@ use Rattle.claims.specs.Engine.{Seen, seenIn}
 use Rattle.claims.specs.Events.{endedAs}
 use Rattle.claims.proofs.Held.{Seat, coreIn, coreAt}
 use Rattle.claims.proofs.Cores.{no-both, set-mine}
-use Rattle.claims.proofs.Shape.{Apart, Ends}
+use Rattle.claims.proofs.Shape.{Apart}
 use Rattle.claims.proofs.Quiet.{finish-ends}
 
 -- one that is there is seen as ended

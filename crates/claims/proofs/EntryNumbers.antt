@@ -2,8 +2,7 @@
 use Prim.Native.Nat.{ℕ, _+_}
 use mathlib.Core.Path.{_≡_, refl, sym, ap, _∙_, subst}
 use mathlib.Core.Bool.{Bool, true, false, not, _&&_, _||_}
-use mathlib.Core.List.{List, [], _∷_}
-use mathlib.Core.Option.{some}
+use mathlib.Core.List.{List, _∷_}
 use lib.ListN.{getD}
 use Rattle.lists.specs.Pick.{pick}
 use Rattle.heap.specs.Word.{nil}
@@ -12,8 +11,8 @@ use Rattle.heap.specs.declared.fault.Fault.{Fault}
 use Rattle.heap.specs.declared.object.CoroState.{CoroState}
 use Rattle.model.specs.Lists.{isNil}
 use Rattle.model.specs.State.{isCreated, isSuspended, isResumable, isAwaiting, isReturned}
-use Rattle.model.specs.Object.{Core, Rest, Object, Coroutine, Absent, Is, isDone}
-use Rattle.model.specs.World.{World, After, after, andThen}
+use Rattle.model.specs.Object.{Core, Object, Coroutine, Absent, Is, isDone}
+use Rattle.model.specs.World.{World, After, andThen}
 use Rattle.model.specs.Frames.{topBase, reg, storePc}
 use Rattle.model.specs.Heap.{object, coro, notA, setDone}
 use Rattle.model.specs.Coro.{stateAs, entered, overflows, coroEnter, finishCoroutine}
@@ -33,16 +32,15 @@ use Rattle.model.specs.declared.coro.Entered.{Entered}
 use Rattle.model.specs.declared.exec.Step.{Step}
 use Rattle.model.specs.declared.call.OptPc.{OptPc}
 use Rattle.model.specs.declared.call.Op.{Op}
-use Rattle.model.specs.declared.call.Answer.{Answer}
 use Rattle.claims.specs.Engine.{isNew, seenIn, is}
-use Rattle.claims.specs.Says.{Sent, nothing, gets, closes}
+use Rattle.claims.specs.Says.{nothing, gets, closes}
 use Rattle.claims.specs.Held.{By}
 use Rattle.claims.specs.Demand3 as D
 use Rattle.claims.specs.Events.{answers}
 use Rattle.claims.specs.Steps.{seenOf, viewOf, opOf, steps}
-use Rattle.claims.proofs.Entry.{Aim, enters, suspends, neither, at, awaits, act, Entry, nobody, entry, acceptsAs, accepts, sentTo, aimed, cleaned, charged, entryBy}
+use Rattle.claims.proofs.Entry.{Aim, enters, suspends, neither, at, awaits, act, Entry, nobody, entry, acceptsAs, accepts, sentTo, aimed, charged, entryBy}
 use Rattle.claims.proofs.Cores.{no-both, objectIn, coroIn, and-left, and-right}
-use Rattle.claims.proofs.Enters.{EnterCase, e-in, e-out, enter-case, Stored, accepts-stored, ChargeCase, c-done, c-spent, c-close, charge-case}
+use Rattle.claims.proofs.Enters.{EnterCase, e-in, e-out, enter-case, accepts-stored, ChargeCase, c-done, c-spent, c-close, charge-case}
 use Rattle.claims.proofs.Instr.{Alike, alike, coro-alike, aimed-alike}
 use Rattle.claims.proofs.Switches.{created-susp, returned-not}
 use Rattle.claims.proofs.Events.{no-entry, susp-born}

@@ -14,15 +14,12 @@ use Rattle.model.specs.Gate.{refused}
 use Rattle.model.specs.Sound.{sound}
 use Rattle.model.specs.Answer.{numberOf}
 use Rattle.model.specs.Call.{Call, SetUp, Do, Operation, typed, asCall}
-use Rattle.model.specs.Step as M
 use Rattle.model.specs.Step.{call, tested, step, told}
 use Rattle.model.specs.declared.machine.Active.{Active}
 use Rattle.model.specs.declared.call.Op.{Op}
-use Rattle.claims.specs.Engine as Engine
 use Rattle.claims.specs.Says.{suspend, neither, Does, does, doing, Entry, entry}
 use Rattle.claims.specs.Held.{By}
 use Rattle.claims.specs.Demand3 as D
-use Rattle.claims.specs.Events as Said
 use Rattle.claims.specs.Events.{Healthy, inmost, suspended}
 use Rattle.claims.specs.Steps.{viewOf, opOf, steps}
 use Rattle.claims.proofs.Entry as E
@@ -32,7 +29,6 @@ use Rattle.claims.proofs.Held.{coreIn, coreAt}
 use Rattle.claims.proofs.Split.{next, Suspends, Enters}
 use Rattle.claims.proofs.Accepted as A
 use Rattle.claims.proofs.Cores.{no-both}
-use Rattle.claims.proofs.Shape as S
 use Rattle.claims.proofs.Events.{run-susp, suspended-one}
 use Rattle.claims.proofs.Calls.{shape}
 use Rattle.claims.proofs.Claim as Claim
@@ -41,7 +37,6 @@ use Rattle.claims.proofs.Acceptance.{named-enters, suspends-exactly, ta
 use Rattle.claims.proofs.Views.{is-runs, is-sleeps, Alike, l-at, l-host, l-finish, l-raise, l-other, says-alike}
 use Rattle.claims.proofs.Whom as Whom
 use Rattle.claims.proofs.Whom.{whom-told}
-use Rattle.claims.proofs.Restores as Restores
 use Rattle.claims.proofs.Restores.{suspends-old}
 use Rattle.claims.proofs.Numbers.{okNumber, aimsTo, call-number}
 

@@ -7,9 +7,7 @@ use Rattle.model.specs.Answer.{numberOf}
 use Rattle.model.specs.Step.{step}
 use Rattle.claims.specs.Engine.{View}
 use Rattle.claims.specs.Says.{Does, instr, hosts, finishes, raises, other, doing, Entry, whomBy}
-use Rattle.claims.specs.Demand3 as D
 use Rattle.claims.specs.Demand3.{Demand3}
-use Rattle.claims.specs.Events as Said
 use Rattle.claims.specs.Events.{suspended, returned, Events}
 use Rattle.claims.specs.Steps.{viewOf, opOf, steps}
 use Rattle.claims.proofs.EntryNumbers.{entry-answers}

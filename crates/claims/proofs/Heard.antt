@@ -15,7 +15,6 @@ use Rattle.claims.specs.Says.{doing}
 use Rattle.claims.specs.Demand3 as D
 use Rattle.claims.specs.Events.{isAwait, told, toldTo}
 use Rattle.claims.specs.Steps.{seenOf, viewOf, opOf, steps}
-use Rattle.claims.proofs.Entry.{act}
 use Rattle.claims.proofs.Held.{coreIn, coreAt}
 use Rattle.claims.proofs.Split.{next, Suspends}
 use Rattle.claims.proofs.Cores.{no-both}

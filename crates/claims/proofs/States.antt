@@ -5,18 +5,17 @@ use native.Mathlib.Decide.{ℕ-discrete}
 use mathlib.Core.Path.{_≡_, refl, sym, ap, _∙_, subst}
 use mathlib.Core.Logic.{_⊎_, inl, inr}
 use mathlib.Core.Bool.{Bool, true, false}
-use mathlib.Core.List.{List, _∷_}
-use mathlib.Core.Option.{Option, none, some}
+use mathlib.Core.List.{_∷_}
+use mathlib.Core.Option.{none, some}
 use Rattle.heap.specs.declared.object.CoroState.{CoroState}
 use Rattle.model.specs.Lists.{isNil}
 use Rattle.model.specs.State.{isCreated, isRunning, isSuspended}
 use Rattle.model.specs.Object.{Coroutine, Absent, Is}
 use Rattle.model.specs.World.{World}
 use Rattle.model.specs.Heap.{coro}
-use Rattle.model.specs.Call.{Call, Do, Operation}
-use Rattle.model.specs.declared.machine.Active.{Active}
+use Rattle.model.specs.Call.{Call}
 use Rattle.model.specs.declared.call.Op.{Op}
-use Rattle.claims.specs.Engine.{Seen, isNew, runs, sleeps, ended, seenIn, is}
+use Rattle.claims.specs.Engine.{isNew, runs, sleeps, ended, seenIn, is}
 use Rattle.claims.specs.Says.{doing}
 use Rattle.claims.specs.Demand3 as D
 use Rattle.claims.specs.Events as Said

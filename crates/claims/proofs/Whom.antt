@@ -27,7 +27,6 @@ use Rattle.model.specs.declared.coro.Started.{Started}
 use Rattle.model.specs.declared.call.OptPc.{OptPc}
 use Rattle.model.specs.declared.call.Op.{Op}
 use Rattle.claims.specs.Engine.{isNew, sleeps, seenIn, is}
-use Rattle.claims.specs.Says as Says
 use Rattle.claims.specs.Says.{Does, Entry, entry, fits, named, cleaned, banked, charged, whomBy, whom, nothing, gets, closes}
 use Rattle.claims.specs.Steps.{seenOf, viewOf}
 use Rattle.claims.proofs.Entry as E

@@ -39,8 +39,8 @@ suspends n = eqb n 0 || eqb n 2 || eqb n 6
 abbrev pub room : View → ℕ → Bool
 room v n = leb (min (v .used + n) (2 ^ 64 - 1)) (v .rules .memory)
 
--- c runs on top, its instruction is paid for, and there is room for n bytes and for what it
--- would save beyond the most that it has saved. 01: "8 bytes per register and F per frame beyond the coroutine's largest saved sizes so far"
+-- c runs on top, its instruction is paid for, and there is room for n bytes and for what it would save beyond the most that it has saved.
+-- 01: "8 bytes per register and F per frame beyond the coroutine's largest saved sizes so far"
 pub record Roomy (e : Engine) (n c : ℕ) (s : e .State) : Type 0 where
   pub healthy : Healthy e s
   -- by the fuel or the bank, and no cleanup comes first: whom a call was to enter, it enters
