@@ -2,11 +2,10 @@
 use Prim.Native.Nat.{ℕ, zero, suc, _^_, _<_}
 use native.Mathlib.Omega.{arith}
 use mathlib.Core.Path.{_≡_, refl, sym, ap, _∙_, subst}
-use mathlib.Core.Logic.{_⊎_, inl, inr}
 use mathlib.Core.Bool.{Bool, true, false, _||_}
 use mathlib.Core.List.{List, [], _∷_}
 use mathlib.Core.Option.{none, some}
-use lib.ListN.{length, getD, take, drop}
+use lib.ListN.{getD, take, drop}
 use lib.Dec.{eqb}
 use borrow.Author.Tests.{eq-eqb, not-true}
 use Rattle.lists.specs.Pick.{pick}
@@ -18,14 +17,14 @@ use Rattle.heap.specs.declared.object.CoroState.{CoroState}
 use Rattle.heap.specs.declared.heap.ResultKind.{ResultKind}
 use Rattle.model.specs.Program.{Func, Setup, setupOk}
 use Rattle.model.specs.Object.{Object, isDone}
-use Rattle.model.specs.World.{World, After, fresh, functionObjects}
-use Rattle.model.specs.Frames.{isCoro}
+use Rattle.model.specs.World.{World, andThen, fresh, functionObjects}
+use Rattle.model.specs.Frames.{popTo}
 use Rattle.model.specs.Heap.{place, objectAt, toDyn}
-use Rattle.model.specs.Machine.{finish, unwind, raisable}
+use Rattle.model.specs.Machine.{applyCont, writeMade, resumeIn, returnMade, finishAs, finishOn, finish, unwind, raisable}
 use Rattle.model.specs.Gate.{refused}
 use Rattle.model.specs.Added as Added
 use Rattle.model.specs.Added.{accepted, registersOn}
-use Rattle.model.specs.Sound.{sound, floorsOk, beside, matches}
+use Rattle.model.specs.Sound.{sound}
 use Rattle.model.specs.Answer.{numberOf}
 use Rattle.model.specs.Call.{Call, SetUp, Do, asCall}
 use Rattle.model.specs.Calls.{table}
@@ -43,20 +42,17 @@ use Rattle.soundness.proofs.Sound.{sound→}
 use Rattle.invariant.proofs.Call.{call-keeps}
 use Rattle.claims.specs.Engine as Engine
 use Rattle.claims.specs.Demand3.{Restarts}
-use Rattle.claims.specs.Events.{Healthy, onBody, raised, endsAt}
+use Rattle.claims.specs.Events.{Healthy, raised, endsAt}
 use Rattle.claims.specs.Promise.{plain, room, Roomy, Makes, converts, Eleven, sets-up, no-fault, Soundness, Fresh, registers, NotEmpty, Promise}
 use Rattle.claims.specs.Steps.{seenOf, rulesOf, viewOf, opOf, asksOf, looks, steps}
 use Rattle.claims.specs.Story.{wide, f, c, held}
 use Rattle.claims.specs.Premises.{premises}
 use Rattle.claims.specs.Witness.{nth, between, frame}
 use Rattle.claims.proofs.Cores.{no-both}
-use Rattle.claims.proofs.Sounds.{Floors, floors}
 use Rattle.claims.proofs.Claim.{fresh-absent}
 use Rattle.claims.proofs.Soundness.{soundness-kept}
-use Rattle.claims.proofs.Finishes.{bodyOn, Unmade, FinishCase, f-other, f-returns, finish-case}
 use Rattle.claims.proofs.Answers.{throw-answer, raise-answer, pass-answer}
 use Rattle.claims.proofs.Exact.{healthy-sound, number-sound, some-op}
-use Rattle.claims.proofs.Returned.{on-body}
 use Rattle.claims.proofs.Operands.{as-typed}
 use Rattle.claims.proofs.Premises.{premises-met}
 use Rattle.claims.proofs.Exactly.{events, demand3}
@@ -160,15 +156,6 @@ soundness =
 
 -- ---- acceptance
 
--- without an active coroutine no body is on top
-bodiless : (fs : List Frame) → Floors fs [] → bodyOn fs ≡ false
-bodiless [] h = refl
-bodiless (f ∷ fs) h = go (isCoro (f .cont)) refl h
-  where
-    go : (b : Bool) → isCoro (f .cont) ≡ b → beside b (λ f fs a. eqb (a .floor) (length fs)) f fs [] (matches (λ f fs a. eqb (a .floor) (length fs)) fs) ≡ true → isCoro (f .cont) ≡ false
-    go false e h = e
-    go true e h = no-both h refl
-
 plain-made : {A : Type 0} (kind : ResultKind) (x : ℕ) (w : World) (g : Fault) → plain kind ≡ true → toDyn kind x w .answer ≡ WordOr.Refused g → A
 unfolding toDyn
 plain-made ResultKind.None x w g p e = let z : _≡_ {A = ℕ} 0 1 = cc in absurd (omega arith)
@@ -176,29 +163,43 @@ plain-made ResultKind.Dyn x w g p e = let z : _≡_ {A = ℕ} 0 1 = cc in absurd
 plain-made ResultKind.I64 x w g p e = no-both p refl
 plain-made ResultKind.U64 x w g p e = no-both p refl
 
-finish-zero : (kind : ResultKind) (x : ℕ) (w : World) (o : After Answer) → sound w ≡ true → ((f : Fault) → toDyn kind x w .answer ≡ WordOr.Refused f → ⊥) → onBody (w .frames) ≡ true → FinishCase kind x w o → numberOf (o .answer) ≡ 0
-unfolding floorsOk
-finish-zero kind x w o h p b (f-returns f fs a chain y q r t m n ends tells ints) = n
-finish-zero kind x w o h p b (f-other same why) = go why
+-- a finish whose result is made, where the frame stands and where it is gone
+finish-zero : (kind : ResultKind) (x : ℕ) (w : World) → ((g : Fault) → toDyn kind x w .answer ≡ WordOr.Refused g → ⊥) → ((f : Frame) (fs : List Frame) (g : Fault) → toDyn kind x (popTo f fs w) .answer ≡ WordOr.Refused g → ⊥)
+    → numberOf (finish kind x w .answer) ≡ 0
+unfolding finish applyCont pick
+finish-zero kind x w here gone = go (w .frames)
   where
-    go : (bodyOn (w .frames) ≡ false) ⊎ ((w .chain ≡ []) ⊎ Unmade kind x w o) → numberOf (o .answer) ≡ 0
-    go (inl q) = no-both b (on-body (w .frames) ∙ q)
-    go (inr (inl q)) = no-both b (on-body (w .frames) ∙ bodiless (w .frames) (ap (matches (λ f fs a. eqb (a .floor) (length fs)) (w .frames)) (sym q) ∙ floors w h))
-    go (inr (inr u)) = absurd (p (u .fault) (u .refused))
+    dyn : (f : Frame) (fs : List Frame) (dst : ℕ) (m : WordOr) → toDyn kind x (popTo f fs w) .answer ≡ m → numberOf (andThen (writeMade dst (toDyn kind x (popTo f fs w) .world) m) resumeIn .answer) ≡ 0
+    dyn f fs dst (WordOr.Word y) e = refl
+    dyn f fs dst (WordOr.Refused g) e = absurd (gone f fs g e)
 
-finish-call : (kind : ResultKind) (x : ℕ) (w : World) → sound w ≡ true → ((f : Fault) → toDyn kind x w .answer ≡ WordOr.Refused f → ⊥) → onBody (w .frames) ≡ true → numberOf (call (Op.Finish kind x) w .answer) ≡ 0
+    body : (f : Frame) (fs : List Frame) (m : WordOr) → toDyn kind x w .answer ≡ m → numberOf (returnMade f fs (toDyn kind x w .world) m .answer) ≡ 0
+    body f fs (WordOr.Word y) e = refl
+    body f fs (WordOr.Refused g) e = absurd (here g e)
+
+    top : (c : Cont) (f : Frame) (fs : List Frame) → numberOf (finishAs c f fs kind x w .answer) ≡ 0
+    top Cont.Entry f fs = refl
+    top (Cont.Write dst) f fs = refl
+    top (Cont.Dyn dst) f fs = dyn f fs dst (toDyn kind x (popTo f fs w) .answer) refl
+    top (Cont.Value dst) f fs = refl
+    top Cont.Discard f fs = refl
+    top Cont.Coro f fs = body f fs (toDyn kind x w .answer) refl
+
+    go : (fs : List Frame) → numberOf (finishOn fs kind x w .answer) ≡ 0
+    go [] = refl
+    go (f ∷ fs) = top (f .cont) f fs
+
+finish-call : (w : World) (k : Call) (kind : ResultKind) (x : ℕ) → Healthy steps w → opOf k ≡ some (Op.Finish kind x) → (x < 2 ^ 64 → numberOf (finish kind x w .answer) ≡ 0) → numberOf (step w k .answer) ≡ 0
 unfolding call
-finish-call kind x w h p b = finish-zero kind x w (finish kind x w) h p b (finish-case kind x w)
+finish-call w (SetUp s) kind x h e p = let z : _≡_ {A = ℕ} 0 1 = cc in absurd (omega arith)
+finish-call w (Do o) kind x h e p = ap numberOf (number-sound w o (healthy-sound w h)) ∙ ap (λ q. numberOf (call q w .answer)) (some-op e) ∙ p (word-in (o .op) kind x (some-op e) (o .within))
 
-finish-step : (w : World) (k : Call) (kind : ResultKind) (x : ℕ) → Healthy steps w → opOf k ≡ some (Op.Finish kind x) → (x < 2 ^ 64 → (f : Fault) → toDyn kind x w .answer ≡ WordOr.Refused f → ⊥) → onBody (w .frames) ≡ true → numberOf (step w k .answer) ≡ 0
-finish-step w (SetUp s) kind x h e p b = let z : _≡_ {A = ℕ} 0 1 = cc in absurd (omega arith)
-finish-step w (Do o) kind x h e p b = ap numberOf (number-sound w o (healthy-sound w h)) ∙ ap (λ q. numberOf (call q w .answer)) (some-op e) ∙ finish-call kind x w (healthy-sound w h) (p (word-in (o .op) kind x (some-op e) (o .within))) b
+accepts-finish : (w : World) (k : Call) (kind : ResultKind) (x : ℕ) → Healthy steps w → opOf k ≡ some (Op.Finish kind x) → plain kind ≡ true → numberOf (step w k .answer) ≡ 0
+accepts-finish w k kind x h e p = finish-call w k kind x h e (λ l. finish-zero kind x w (λ g q. plain-made kind x w g p q) (λ f fs g q. plain-made kind x (popTo f fs w) g p q))
 
-accepts-finish : (w : World) (k : Call) (kind : ResultKind) (x : ℕ) → Healthy steps w → opOf k ≡ some (Op.Finish kind x) → plain kind ≡ true → onBody (w .frames) ≡ true → numberOf (step w k .answer) ≡ 0
-accepts-finish w k kind x h e p b = finish-step w k kind x h e (λ l f q. plain-made kind x w f p q) b
-
-accepts-integer : (w : World) (k : Call) (kind : ResultKind) (x : ℕ) → Healthy steps w → opOf k ≡ some (Op.Finish kind x) → Makes (viewOf w) → converts kind x ≡ true → onBody (w .frames) ≡ true → numberOf (step w k .answer) ≡ 0
-accepts-integer w k kind x h e m p b = finish-step w k kind x h e (λ l. can-make w (healthy-sound w h) kind x l p (m .bytes) (m .slot)) b
+accepts-integer : (w : World) (k : Call) (kind : ResultKind) (x : ℕ) → Healthy steps w → opOf k ≡ some (Op.Finish kind x) → Makes (viewOf w) → converts kind x ≡ true → numberOf (step w k .answer) ≡ 0
+accepts-integer w k kind x h e m p =
+    finish-call w k kind x h e (λ l. finish-zero kind x w (can-make w kind x l p (m .bytes) (m .slot)) (λ f fs. can-make (popTo f fs w) kind x l p (m .bytes) (m .slot)))
 
 -- an unwind at a machine that is not refused
 unwinds : (w : World) (k : Call) (f : Fault) (pc : OptPc) → sound w ≡ true → opOf k ≡ some (Op.Unwind f pc) → numberOf (step w k .answer) ≡ numberOf (unwind f pc w .answer)

@@ -20,7 +20,7 @@ use Rattle.claims.specs.Operands.{written}
 use Rattle.claims.specs.Says.{lie, Entry, charged}
 use Rattle.claims.specs.Held.{Held}
 use Rattle.claims.specs.Demand3.{Enters, Suspends, Stops, Restarts, Waits, Goes, Demand3}
-use Rattle.claims.specs.Events.{Healthy, onBody, raised, endsAt, Events}
+use Rattle.claims.specs.Events.{Healthy, raised, endsAt, Events}
 
 -- ---- what is accepted, besides the entries (Events.entered)
 
@@ -69,8 +69,9 @@ pub record Accepts (e : Engine) : Type 0 where
   pub yield-kv : (c : ℕ) (s : e .State) (k : e .Call) (pc dst src key : ℕ) → Roomy e 0 c s → e .op k ≡ some (Op.YieldKv pc dst src key) → lie (e .view s) (dst ∷ src ∷ key ∷ []) ≡ true → suspends (e .number s k) ≡ true
   pub yield : (c : ℕ) (s : e .State) (k : e .Call) (pc dst src : ℕ) → Roomy e (e .view s .rules .intCost) c s → e .view s .full ≡ false → e .op k ≡ some (Op.Yield pc dst src) → lie (e .view s) (dst ∷ src ∷ []) ≡ true
       → (suspends (e .number s k) || eqb (e .number s k) 7) ≡ true
-  pub integer : (s : e .State) (k : e .Call) (kind : ResultKind) (x : ℕ) → Healthy e s → e .op k ≡ some (Op.Finish kind x) → Makes (e .view s) → converts kind x ≡ true → onBody (e .view s .frames) ≡ true → e .number s k ≡ 0
-  pub finish : (s : e .State) (k : e .Call) (kind : ResultKind) (x : ℕ) → Healthy e s → e .op k ≡ some (Op.Finish kind x) → plain kind ≡ true → onBody (e .view s .frames) ≡ true → e .number s k ≡ 0
+  -- a finish of whatever frame
+  pub integer : (s : e .State) (k : e .Call) (kind : ResultKind) (x : ℕ) → Healthy e s → e .op k ≡ some (Op.Finish kind x) → Makes (e .view s) → converts kind x ≡ true → e .number s k ≡ 0
+  pub finish : (s : e .State) (k : e .Call) (kind : ResultKind) (x : ℕ) → Healthy e s → e .op k ≡ some (Op.Finish kind x) → plain kind ≡ true → e .number s k ≡ 0
   -- what an unwind answers: of a word, and of 1 to 8, whose error object has to be made
   pub throw : (s : e .State) (k : e .Call) (x : ℕ) (pc : OptPc) → Healthy e s → e .op k ≡ some (Op.Unwind (Fault.Throw x) pc) → e .number s k ≡ endsAt (e .view s) x pc
   pub raise : (s : e .State) (k : e .Call) (f : Fault) (pc : OptPc) (x : ℕ) → Healthy e s → e .op k ≡ some (Op.Unwind f pc) → ((y : ℕ) → f ≡ Fault.Throw y → ⊥) → raised (e .view s) f ≡ some x

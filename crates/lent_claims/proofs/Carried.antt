@@ -15,7 +15,7 @@ use Rattle.claims.specs.Says.{word, doing, lie, Entry, charged, whom}
 use Rattle.claims.specs.Held.{Held, closer, By, Entered, Restored}
 use Rattle.claims.specs.Delivery.{recorded, Left, resultOf}
 use Rattle.claims.specs.Demand3.{Enters, Suspends, Stops, Restarts, Waits, Goes, Demand3}
-use Rattle.claims.specs.Events.{Healthy, onBody, raised, endsAt, answers, suspended, isAwait, toldTo, returned, Lost, endedAs, lives, undone, rests, Events}
+use Rattle.claims.specs.Events.{Healthy, raised, endsAt, answers, suspended, isAwait, toldTo, returned, Lost, endedAs, lives, undone, rests, Events}
 use Rattle.claims.specs.Promise.{suspends, room, Roomy, Makes, Accepts, Eleven, Soundness, Fresh, SetUps, registers, Looks, NotEmpty}
 use Rattle.claims.proofs.Premises.{Premises}
 use Rattle.lent_claims.proofs.Follows.{Follows, Sight, sight, same, along, ran}
@@ -159,9 +159,8 @@ module _ (e d : Engine) (f : Follows e d) where
         yield = λ c s k pc dst src r full o l.
             let r′ = subst (λ n. Roomy d n c (f .to s)) (ap (λ v. v .rules .intCost) (sym (f .view s))) (roomy (e .view s .rules .intCost) c s r) in
             ap (λ n. suspends n || eqb n 7) (sym (f .number s k)) ∙ p .yield c (f .to s) (f .by s k) pc dst src r′ (ap (λ v. v .full) (f .view s) ∙ full) (f .op s k ∙ o) (lying s (dst ∷ src ∷ []) l);
-        integer = λ s k kind x ok o m converts b.
-            sym (f .number s k) ∙ p .integer (f .to s) (f .by s k) kind x (up-healthy e d f s ok) (f .op s k ∙ o) (subst Makes (sym (f .view s)) m) converts (ap (λ v. onBody (v .frames)) (f .view s) ∙ b);
-        finish = λ s k kind x ok o plain b. sym (f .number s k) ∙ p .finish (f .to s) (f .by s k) kind x (up-healthy e d f s ok) (f .op s k ∙ o) plain (ap (λ v. onBody (v .frames)) (f .view s) ∙ b);
+        integer = λ s k kind x ok o m converts. sym (f .number s k) ∙ p .integer (f .to s) (f .by s k) kind x (up-healthy e d f s ok) (f .op s k ∙ o) (subst Makes (sym (f .view s)) m) converts;
+        finish = λ s k kind x ok o plain. sym (f .number s k) ∙ p .finish (f .to s) (f .by s k) kind x (up-healthy e d f s ok) (f .op s k ∙ o) plain;
         throw = λ s k x pc ok o. down (λ v. v .number ≡ endsAt (v .before) x pc) s k (p .throw (f .to s) (f .by s k) x pc (up-healthy e d f s ok) (f .op s k ∙ o));
         raise = λ s k g pc x ok o n r.
             down (λ v. v .number ≡ pick (room (v .before) (v .before .rules .errorCost)) (pick (v .before .full) 14 (endsAt (v .before) x pc)) 9) s k
