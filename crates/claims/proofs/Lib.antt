@@ -44,6 +44,7 @@ pub mod Values
 pub mod Closing
 pub mod Still
 pub mod States
+pub mod Paid
 pub mod Undone
 pub mod Exactly
 pub mod Operands

@@ -57,6 +57,7 @@ use Rattle.claims.proofs.Operands.{as-typed}
 use Rattle.claims.proofs.Premises.{premises-met}
 use Rattle.claims.proofs.Exactly.{events, demand3}
 use Rattle.claims.proofs.Values.{can-make, word-in}
+use Rattle.claims.proofs.Undone.{accepts-close, accepts-throw-new}
 use Rattle.claims.proofs.Roomy.{await-takes, kv-takes, yield-takes}
 
 -- ---- soundness
@@ -368,6 +369,8 @@ promise =
         await = λ c w k pc dst src m e l. await-takes w 0 c m k pc dst src e l;
         yield-kv = λ c w k pc dst src key m e l. kv-takes w 0 c m k pc dst src key e l;
         yield = λ c w k pc dst src m s e l. yield-takes w (w .setup .costs .int) c m refl s pc k dst src e l;
+        close-new = λ w k pc dst r src m e l n. accepts-close w pc dst r src m l n k e;
+        throw-new = λ w k pc dst r src m e l n. accepts-throw-new w pc dst r src m l n k e;
         integer = accepts-integer;
         finish = accepts-finish;
         throw = accepts-throw;

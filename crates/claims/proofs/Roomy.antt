@@ -58,6 +58,7 @@ use Rattle.claims.proofs.Enters.{length-top, ChargeCase, c-done, c-spen
 use Rattle.claims.proofs.Instr.{Alike, alike, coro-alike}
 use Rattle.claims.proofs.Views.{base-top}
 use Rattle.claims.proofs.Whom.{told, charged-by}
+use Rattle.claims.proofs.Paid.{Paid, paid-for, paid-number}
 use Rattle.claims.proofs.Bodies.{Cut, cut-above, cut-base}
 use Rattle.claims.proofs.Exact.{healthy-sound, number-sound, some-op}
 use Rattle.claims.proofs.Numbers.{step-number, call-number}
@@ -88,30 +89,6 @@ room-less : (a b c d l k : ℕ) → a + b ≤ c + d → l ≡ k → leb (min (c 
 room-less a b c d l k p e h =
     let q : min (c + d) (2 ^ 64 - 1) ≤ l = leb-true (min (c + d) (2 ^ 64 - 1)) l h in
     le-leb (min (a + b) (2 ^ 64 - 1)) k (omega (arith, p, e, q))
-
--- ---- the charge
-
-pub record Paid (pc : ℕ) (w : World) : Type 0 where
-  pub left : World
-  pub words : ℕ
-  pub is : charge (OptPc.Some pc) w ≡ after left (Charge.Done words)
-  pub alike : Alike pc w left
-
-abbrev hosted : Option Entry → Bool
-hosted none = false
-hosted (some y) = goesOn (y .driver)
-
--- if it would enter a resumed coroutine, whoever that be, it is paid for, and starts no cleanup
-paid-for : (w : World) → sound w ≡ true → (pc : ℕ) → ((y : Entry) → charged (viewOf w) pc (some y) ≡ some y) → Paid pc w
-paid-for w h pc f = go (charge (OptPc.Some pc) w) refl (charge-case pc w) (sym (f (entry 0 (Driver.Resume 0) nothing pc)) ∙ charged-by w h pc e)
-  where
-    e : E.Entry
-    e = E.entry 0 (Driver.Resume 0) nothing
-
-    go : (ch : After Charge) → charge (OptPc.Some pc) w ≡ ch → ChargeCase pc w ch → told pc e ≡ told pc (E.charged (ch .answer) w e) → Paid pc w
-    go ch q (c-done n v r) s = record { left = v; words = n; is = q; alike = alike r }
-    go ch q (c-spent v r) s = no-both refl (ap hosted s)
-    go ch q (c-close n u z x t) s = no-both refl (ap hosted (s ∙ ap (told pc) x))
 
 -- u is w but for the top pc, bytes and objects
 record Near (pc : ℕ) (w u : World) : Type 0 where
@@ -283,17 +260,6 @@ module _ (w : World) (n c : ℕ) (m : Roomy steps n c w) where
         ap (λ (cs : List Active). yieldOn cs pc dst src y .answer) (beside pc .chain ∙ m .held .chain)
         ∙ ap (λ z. andThen (keyExact z y) (yieldKey pc dst (reg y src)) .answer) e
 
-    -- the number of an instruction that is paid for
-    number-paid : (ok : Bool) (arm : World → After Step) → ok ≡ true → instruction pc ok arm w .answer ≡ answerOf (p pc .words) (arm y .answer)
-    unfolding instruction
-    number-paid ok arm o =
-        let tail = andThen (charge (OptPc.Some pc) w) (Gate.charged arm) in
-        ap (λ b. pick b (refused w Fault.NoFrame) (pick (not ok) (refused w Fault.BadOperand) tail) .answer) (stand pc)
-        ∙ (ap (λ (x : After Answer). x .answer) (pick-false (refused w Fault.NoFrame) (pick (not ok) (refused w Fault.BadOperand) tail))
-        ∙ (ap (λ b. pick (not b) (refused w Fault.BadOperand) tail .answer) o
-        ∙ (ap (λ (x : After Answer). x .answer) (pick-false (refused w Fault.BadOperand) tail)
-        ∙ ap (λ (x : After Charge). andThen x (Gate.charged arm) .answer) (p pc .is))))
-
     pub yield-takes : (k : Call) (dst src : ℕ) → opOf k ≡ some (Op.Yield pc dst src) → lie (viewOf w) (dst ∷ src ∷ []) ≡ true → (suspends (numberOf (step w k .answer)) || eqb (numberOf (step w k .answer)) 7) ≡ true
     unfolding call
     yield-takes (SetUp s) dst src e l = let z : _≡_ {A = ℕ} 0 1 = cc in absurd (omega arith)
@@ -313,4 +279,4 @@ module _ (w : World) (n c : ℕ) (m : Roomy steps n c w) where
             (inner pc (λ b. keyed (tries pc CoroState.Yielded dst (reg y src)) (autoKey (largestIn (coro y (b .coro))) y .world) (autoKey (largestIn (coro y (b .coro))) y .answer)) (key-made dst (reg y src) k q)))
         go Exact.Over q =
             ap (λ n. suspends n || eqb n 7)
-            (ap numberOf (number-paid (allIn (dst ∷ src ∷ []) w) (yield pc dst src) ok ∙ ap (answerOf (p pc .words)) (seven dst src q)) ∙ step-number (p pc .words) (Step.Fault Fault.ArithOverflow))
+            (ap numberOf (paid-number w pc (p pc) (allIn (dst ∷ src ∷ []) w) (yield pc dst src) (stand pc) ok ∙ ap (answerOf (p pc .words)) (seven dst src q)) ∙ step-number (p pc .words) (Step.Fault Fault.ArithOverflow))

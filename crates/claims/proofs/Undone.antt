@@ -5,7 +5,7 @@ use native.Mathlib.Decide.{ℕ-discrete}
 use mathlib.Core.Logic.{_⊎_, inl}
 use mathlib.Core.Path.{_≡_, refl, sym, ap, _∙_, subst}
 use mathlib.Core.Bool.{Bool, true, false, not}
-use mathlib.Core.List.{_∷_}
+use mathlib.Core.List.{[], _∷_}
 use mathlib.Core.Option.{Option, none, some}
 use lib.ListN.{getD}
 use lib.Dec.{eqb}
@@ -37,9 +37,10 @@ use Rattle.model.specs.declared.call.OptPc.{OptPc}
 use Rattle.model.specs.declared.call.Op.{Op}
 use Rattle.model.specs.declared.call.Answer.{Answer}
 use Rattle.claims.specs.Engine.{Seen, isNew, seenIn, is}
-use Rattle.claims.specs.Says.{word, does, doing, whom}
+use Rattle.claims.specs.Says.{word, lie, does, doing, whom}
 use Rattle.claims.specs.Events.{undone, endedAs}
-use Rattle.claims.specs.Steps.{seenOf, viewOf, opOf}
+use Rattle.claims.specs.Promise.{Pays}
+use Rattle.claims.specs.Steps.{seenOf, viewOf, opOf, steps}
 use Rattle.claims.proofs.Entry as E
 use Rattle.claims.proofs.Entry.{act, entryBy, pcBy}
 use Rattle.claims.proofs.Held.{Seat, coreIn, coreAt}
@@ -50,11 +51,12 @@ use Rattle.claims.proofs.Enters.{ChargeCase, c-done, c-spent, c-close, 
 use Rattle.claims.proofs.Instr.{Alike, alike, coro-alike}
 use Rattle.claims.proofs.Events.{no-entry}
 use Rattle.claims.proofs.Views.{new-state, seen-at, base-top}
-use Rattle.claims.proofs.Whom.{told, whom-told}
+use Rattle.claims.proofs.Whom.{told, is-none, whom-told}
+use Rattle.claims.proofs.Paid.{Paid, paid-for, paid-number}
 use Rattle.claims.proofs.Claim as Claim
 use Rattle.claims.proofs.Claim.{StepCase, anew, same, step-case}
 use Rattle.claims.proofs.Numbers.{step-number}
-use Rattle.claims.proofs.Exact.{no-some, one-some, some-op}
+use Rattle.claims.proofs.Exact.{healthy-sound, number-sound, no-some, one-some, some-op}
 use Rattle.claims.proofs.States.{comes-else}
 
 is-created : (s : CoroState) → isCreated s ≡ true → s ≡ CoroState.Created
@@ -176,6 +178,46 @@ throws-new c w k pc dst q src o f h m =
     new-there w c h (λ l r new e.
     by-call c w (Op.ResumeThrow pc dst q src) 17 (endedAs CoroState.Failed (word (viewOf w) src)) refl
     (subst (λ x. Left w c 17 (endedAs CoroState.Failed x) (Op.ResumeThrow pc dst q src)) (sym (word-reg w src)) (throw-left w c l r new e pc dst q src (sym (word-reg w q) ∙ f))) k o m)
+
+-- ---- they are answered so where they are paid for
+
+module _ (w : World) (pc dst q src : ℕ) (m : Pays steps w) (l : lie (viewOf w) (dst ∷ q ∷ src ∷ []) ≡ true) (n : is (viewOf w) isNew (word (viewOf w) q) ≡ true) where
+  well : sound w ≡ true
+  well = healthy-sound w (m .healthy)
+
+  paid : Paid pc w
+  paid = paid-for w well pc (m .paid pc)
+
+  stand : isNil (w .frames) ≡ false
+  stand = sym (is-none (w .frames)) ∙ m .stands
+
+  -- an arm that ends it so is the instruction's
+  numbered : {y : Option Seen} {x : ℕ} (ok : Bool) (arm : World → After Step) → ok ≡ true → ((k : Core) (r : Rest) → isCreated (k .state) ≡ true → coro (paid .left) (word (viewOf w) q) ≡ Is k r → Ends (word (viewOf w) q) x y (arm (paid .left)))
+      → numberOf (instruction pc ok arm w .answer) ≡ x
+  numbered ok arm o f =
+      ap numberOf (paid-number w pc paid ok arm stand o) ∙ step-number (paid .words) (arm (paid .left) .answer)
+      ∙ new-there w (word (viewOf w) q) n (λ k r new e. f k r new (coro-alike (paid .alike) (word (viewOf w) q) ∙ e) .number)
+
+  named : reg (paid .left) q ≡ word (viewOf w) q
+  named = reg-alike (paid .alike) q ∙ sym (word-reg w q)
+
+  close-number : numberOf (call (Op.CoroClose pc dst q src) w .answer) ≡ 0
+  unfolding call
+  close-number = numbered _ (coroClose pc dst q src) (rw (← base-top (w .frames)) l) (λ k r new e. close-ends (word (viewOf w) q) k r new (paid .left) e pc dst q src named)
+
+  throw-number : numberOf (call (Op.ResumeThrow pc dst q src) w .answer) ≡ 17
+  unfolding call
+  throw-number = numbered _ (resumeThrow pc dst q src) (rw (← base-top (w .frames)) l) (λ k r new e. throw-ends (word (viewOf w) q) k r new (paid .left) e pc dst q src named)
+
+  at-step : (k : Call) (o : Op) {x : ℕ} → opOf k ≡ some o → numberOf (call o w .answer) ≡ x → numberOf (step w k .answer) ≡ x
+  at-step (SetUp s) o e h = let z : _≡_ {A = ℕ} 0 1 = cc in absurd (omega arith)
+  at-step (Do j) o e h = ap numberOf (number-sound w j well) ∙ ap (λ p. numberOf (call p w .answer)) (some-op e) ∙ h
+
+  pub accepts-close : (k : Call) → opOf k ≡ some (Op.CoroClose pc dst q src) → numberOf (step w k .answer) ≡ 0
+  accepts-close k e = at-step k (Op.CoroClose pc dst q src) e close-number
+
+  pub accepts-throw-new : (k : Call) → opOf k ≡ some (Op.ResumeThrow pc dst q src) → numberOf (step w k .answer) ≡ 17
+  accepts-throw-new k e = at-step k (Op.ResumeThrow pc dst q src) e throw-number
 
 -- ---- and of a word that names none: nothing comes of it
 

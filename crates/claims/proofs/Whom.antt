@@ -149,7 +149,7 @@ charge-says p w e = fast (eqb (w .fuel .fuel) 0) refl
 
 -- ---- whom
 
-is-none : (fs : List Frame) → eqb (length fs) 0 ≡ isNil fs
+pub is-none : (fs : List Frame) → eqb (length fs) 0 ≡ isNil fs
 is-none [] = refl
 is-none (f ∷ fs) = ne-eqb (length (f ∷ fs)) 0 (λ e. omega (arith, e))
 

@@ -30,7 +30,7 @@ use Rattle.claims.specs.Wrong.{bent, onTop, tail, ofZero, discards, bare
 use Rattle.claims.proofs.Premises.{waits-true}
 use Rattle.claims.proofs.Cores.{no-both}
 use Rattle.claims.proofs.WrongEvents.{always-refused, return-fails, no-cleanup, closing-forgotten, failure-returns, await-yields, excused, throw-lost, ignored-unheard}
-use Rattle.claims.proofs.WrongEvents.{always-nine, caught-unheard, bank-unused, close-pays, result-changes, aborted, close-fails, wrong-result, renewed, comes-failed, fuel-stays, other-limits, speechless, all-shown}
+use Rattle.claims.proofs.WrongEvents.{always-nine, caught-unheard, bank-unused, close-pays, result-changes, aborted, close-fails, close-refused, wrong-result, renewed, comes-failed, fuel-stays, other-limits, speechless, all-shown}
 
 abbrev first : List ℕ → ℕ
 first [] = 0
@@ -284,6 +284,7 @@ wrong =
       result-changes = result-changes;
       aborted = aborted;
       close-fails = close-fails;
+      close-refused = close-refused;
       wrong-result = wrong-result;
       renewed = renewed;
       comes-failed = comes-failed;

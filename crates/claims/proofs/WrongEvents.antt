@@ -30,7 +30,7 @@ use Rattle.claims.specs.Steps.{viewOf, opOf}
 use Rattle.claims.specs.Story as Story
 use Rattle.claims.specs.Story.{wide, c, held}
 use Rattle.claims.specs.Witness.{nth, frame}
-use Rattle.claims.specs.Wrong.{idle, two, failing, forgetting, sparing, yielding, lostIn, excusing, muting, hushing, grudging, cries, crying, unpaid, stingy, closing, rewriting, aborting, harsh, misnaming, renewing, stillborn, fuelled, shrinking, heardAs, deaf, showing}
+use Rattle.claims.specs.Wrong.{idle, two, failing, forgetting, sparing, yielding, lostIn, excusing, muting, hushing, grudging, cries, crying, unpaid, stingy, closing, rewriting, aborting, harsh, spurned, spurning, misnaming, renewing, stillborn, fuelled, shrinking, heardAs, deaf, showing}
 use Rattle.claims.proofs.Cores.{no-both}
 use Rattle.claims.proofs.Exact.{some-op}
 use Rattle.claims.proofs.Promise.{sound-healthy}
@@ -191,6 +191,17 @@ close-typed = refl
 pub close-fails : Events (harsh c) → ⊥
 unfolding computed waiting stateIn
 close-fails v = let q : _≡_ {A = ℕ} 5 4 = ap stateIn (v .closes-new c waiting (asCall (Op.CoroClose 3 1 0 2) close-typed) 3 1 0 2 refl refl refl refl) in absurd (omega (arith, q))
+
+spurning-healthy : Healthy (spurning c) waiting
+unfolding computed waiting
+spurning-healthy (SetUp s) e = let z : _≡_ {A = ℕ} 0 1 = cc in absurd (omega arith)
+spurning-healthy (Do o) e = ap (λ p. pick (spurned c waiting (M.tested waiting p .world)) 9 (numberOf (M.tested waiting p .answer))) (some-op e)
+
+pub close-refused : Accepts (spurning c) → ⊥
+unfolding computed waiting
+close-refused v =
+    let q : _≡_ {A = ℕ} 9 0 = v .close-new waiting (asCall (Op.CoroClose 3 1 0 2) close-typed) 3 1 0 2 (record { healthy = spurning-healthy; stands = refl; paid = λ pc y. refl }) refl refl refl in
+    absurd (omega (arith, q))
 
 pub wrong-result : Events (misnaming c) → ⊥
 unfolding computed begun

@@ -15,9 +15,9 @@ use Rattle.heap.specs.declared.heap.ResultKind.{ResultKind}
 use Rattle.model.specs.declared.machine.Frame.{Frame}
 use Rattle.model.specs.declared.call.OptPc.{OptPc}
 use Rattle.model.specs.declared.call.Op.{Op}
-use Rattle.claims.specs.Engine.{Seen, View, Engine, run}
+use Rattle.claims.specs.Engine.{Seen, View, Engine, run, isNew, is}
 use Rattle.claims.specs.Operands.{written}
-use Rattle.claims.specs.Says.{lie, Entry, charged}
+use Rattle.claims.specs.Says.{word, lie, Entry, charged}
 use Rattle.claims.specs.Held.{Held}
 use Rattle.claims.specs.Demand3.{Enters, Suspends, Stops, Restarts, Waits, Goes, Demand3}
 use Rattle.claims.specs.Events.{Healthy, raised, endsAt, Events}
@@ -51,6 +51,12 @@ pub record Roomy (e : Engine) (n c : ℕ) (s : e .State) : Type 0 where
   pub grows : let words = length (drop (held .body .base) (e .view s .stack)) - seen .mostWords in let frames = length (held .over ++ (held .body ∷ [])) - seen .mostFrames in
       room (e .view s) (n + (words * 8 + frames * e .view s .rules .frameCost)) ≡ true
 
+-- an instruction of the top frame is paid for so
+pub record Pays (e : Engine) (s : e .State) : Type 0 where
+  pub healthy : Healthy e s
+  pub stands : eqb (length (e .view s .frames)) 0 ≡ false
+  pub paid : (pc : ℕ) (y : Entry) → charged (e .view s) pc (some y) ≡ some y
+
 -- a new integer object can be made
 pub record Makes (v : View) : Type 0 where
   pub slot : v .full ≡ false
@@ -69,6 +75,11 @@ pub record Accepts (e : Engine) : Type 0 where
   pub yield-kv : (c : ℕ) (s : e .State) (k : e .Call) (pc dst src key : ℕ) → Roomy e 0 c s → e .op k ≡ some (Op.YieldKv pc dst src key) → lie (e .view s) (dst ∷ src ∷ key ∷ []) ≡ true → suspends (e .number s k) ≡ true
   pub yield : (c : ℕ) (s : e .State) (k : e .Call) (pc dst src : ℕ) → Roomy e (e .view s .rules .intCost) c s → e .view s .full ≡ false → e .op k ≡ some (Op.Yield pc dst src) → lie (e .view s) (dst ∷ src ∷ []) ≡ true
       → (suspends (e .number s k) || eqb (e .number s k) 7) ≡ true
+  -- a close of one that has not begun, and a throw into it (Events.closes-new, Events.throws-new)
+  pub close-new : (s : e .State) (k : e .Call) (pc dst r src : ℕ) → Pays e s → e .op k ≡ some (Op.CoroClose pc dst r src) → lie (e .view s) (dst ∷ r ∷ src ∷ []) ≡ true → is (e .view s) isNew (word (e .view s) r) ≡ true
+      → e .number s k ≡ 0
+  pub throw-new : (s : e .State) (k : e .Call) (pc dst r src : ℕ) → Pays e s → e .op k ≡ some (Op.ResumeThrow pc dst r src) → lie (e .view s) (dst ∷ r ∷ src ∷ []) ≡ true → is (e .view s) isNew (word (e .view s) r) ≡ true
+      → e .number s k ≡ 17
   -- a finish of whatever frame
   pub integer : (s : e .State) (k : e .Call) (kind : ResultKind) (x : ℕ) → Healthy e s → e .op k ≡ some (Op.Finish kind x) → Makes (e .view s) → converts kind x ≡ true → e .number s k ≡ 0
   pub finish : (s : e .State) (k : e .Call) (kind : ResultKind) (x : ℕ) → Healthy e s → e .op k ≡ some (Op.Finish kind x) → plain kind ≡ true → e .number s k ≡ 0

@@ -207,6 +207,23 @@ stingy =
       look = looks;
     }
 
+-- a close of c is answered 9, and is not done, while c has not begun
+abbrev pub spurned : ℕ → World → World → Bool
+spurned c w z = is (viewOf w) isNew c && is (viewOf z) ended c
+
+abbrev pub spurning : ℕ → Engine
+spurning c =
+    record {
+      State = World;
+      Call = Call;
+      op = opOf;
+      asks = asksOf;
+      view = viewOf;
+      next = λ w k. let z = step w k .world in pick (spurned c w z) w z;
+      number = λ w k. pick (spurned c w (step w k .world)) 9 (numberOf (step w k .answer));
+      look = looks;
+    }
+
 -- who returns while it is being closed has the result 5
 abbrev pub paying : List Active → World → World → World
 paying [] w z = z
@@ -296,6 +313,7 @@ pub record Wrong : Type 0 where
   pub result-changes : Events (rewriting c) → ⊥
   pub aborted : Events (aborting c) → ⊥
   pub close-fails : Events (harsh c) → ⊥
+  pub close-refused : Accepts (spurning c) → ⊥
   pub wrong-result : Events (misnaming c) → ⊥
   pub renewed : Events (renewing c) → ⊥
   pub comes-failed : Events (stillborn c) → ⊥

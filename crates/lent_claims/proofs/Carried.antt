@@ -16,7 +16,7 @@ use Rattle.claims.specs.Held.{Held, closer, By, Entered, Restored}
 use Rattle.claims.specs.Delivery.{recorded, Left, resultOf}
 use Rattle.claims.specs.Demand3.{Enters, Suspends, Stops, Restarts, Waits, Goes, Demand3}
 use Rattle.claims.specs.Events.{Healthy, raised, endsAt, answers, suspended, isAwait, toldTo, returned, Lost, endedAs, lives, undone, rests, Events}
-use Rattle.claims.specs.Promise.{suspends, room, Roomy, Makes, Accepts, Eleven, Soundness, Fresh, SetUps, registers, Looks, NotEmpty}
+use Rattle.claims.specs.Promise.{suspends, room, Roomy, Pays, Makes, Accepts, Eleven, Soundness, Fresh, SetUps, registers, Looks, NotEmpty}
 use Rattle.claims.proofs.Premises.{Premises}
 use Rattle.lent_claims.proofs.Follows.{Follows, Sight, sight, same, along, ran}
 use Rattle.lent_claims.proofs.Follows.{up-enters, down-enters, up-suspends, down-suspends, up-returns, down-returns, up-fails, down-fails, up-leaves, down-leaves, up-restarts, down-restarts, up-healthy, down-healthy, up-waits, down-waits, up-goes, down-goes}
@@ -151,6 +151,13 @@ module _ (e d : Engine) (f : Follows e d) where
   lying : (s : e .State) (rs : List ℕ) → lie (e .view s) rs ≡ true → lie (d .view (f .to s)) rs ≡ true
   lying s rs l = ap (λ v. lie v rs) (f .view s) ∙ l
 
+  pays : (s : e .State) → Pays e s → Pays d (f .to s)
+  pays s r = record {
+    healthy = up-healthy e d f s (r .healthy);
+    stands = ap (λ v. eqb (length (v .frames)) 0) (f .view s) ∙ r .stands;
+    paid = λ pc y. ap (λ v. charged v pc (some y)) (f .view s) ∙ r .paid pc y;
+  }
+
   pub accepts : Accepts d → Accepts e
   accepts p =
       record {
@@ -159,6 +166,10 @@ module _ (e d : Engine) (f : Follows e d) where
         yield = λ c s k pc dst src r full o l.
             let r′ = subst (λ n. Roomy d n c (f .to s)) (ap (λ v. v .rules .intCost) (sym (f .view s))) (roomy (e .view s .rules .intCost) c s r) in
             ap (λ n. suspends n || eqb n 7) (sym (f .number s k)) ∙ p .yield c (f .to s) (f .by s k) pc dst src r′ (ap (λ v. v .full) (f .view s) ∙ full) (f .op s k ∙ o) (lying s (dst ∷ src ∷ []) l);
+        close-new = λ s k pc dst r src m o l n.
+            sym (f .number s k) ∙ p .close-new (f .to s) (f .by s k) pc dst r src (pays s m) (f .op s k ∙ o) (lying s (dst ∷ r ∷ src ∷ []) l) (ap (λ v. is v isNew (word v r)) (f .view s) ∙ n);
+        throw-new = λ s k pc dst r src m o l n.
+            sym (f .number s k) ∙ p .throw-new (f .to s) (f .by s k) pc dst r src (pays s m) (f .op s k ∙ o) (lying s (dst ∷ r ∷ src ∷ []) l) (ap (λ v. is v isNew (word v r)) (f .view s) ∙ n);
         integer = λ s k kind x ok o m converts. sym (f .number s k) ∙ p .integer (f .to s) (f .by s k) kind x (up-healthy e d f s ok) (f .op s k ∙ o) (subst Makes (sym (f .view s)) m) converts;
         finish = λ s k kind x ok o plain. sym (f .number s k) ∙ p .finish (f .to s) (f .by s k) kind x (up-healthy e d f s ok) (f .op s k ∙ o) plain;
         throw = λ s k x pc ok o. down (λ v. v .number ≡ endsAt (v .before) x pc) s k (p .throw (f .to s) (f .by s k) x pc (up-healthy e d f s ok) (f .op s k ∙ o));
