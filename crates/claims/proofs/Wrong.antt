@@ -29,7 +29,8 @@ use Rattle.claims.specs.Witness.{nth, between, frame}
 use Rattle.claims.specs.Wrong.{bent, onTop, tail, ofZero, discards, bare, atOne, further, higher, once, begun, greeted, late, Wrong}
 use Rattle.claims.proofs.Premises.{waits-true}
 use Rattle.claims.proofs.Cores.{no-both}
-use Rattle.claims.proofs.WrongEvents.{always-refused, return-fails, no-cleanup, closing-forgotten, failure-returns, await-yields, excused, throw-lost, close-pays, result-changes, aborted, renewed, comes-failed, fuel-stays, all-shown}
+use Rattle.claims.proofs.WrongEvents.{always-refused, return-fails, no-cleanup, closing-forgotten, failure-returns, await-yields, excused, throw-lost, ignored-unheard}
+use Rattle.claims.proofs.WrongEvents.{always-nine, caught-unheard, bank-unused, close-pays, result-changes, aborted, close-fails, close-refused, wrong-result, renewed, comes-failed, fuel-stays, other-limits, speechless, all-shown}
 
 abbrev first : List ℕ → ℕ
 first [] = 0
@@ -275,11 +276,20 @@ wrong =
       await-yields = await-yields;
       excused = excused;
       throw-lost = throw-lost;
+      ignored-unheard = ignored-unheard;
+      always-nine = always-nine;
+      caught-unheard = caught-unheard;
+      bank-unused = bank-unused;
       close-pays = close-pays;
       result-changes = result-changes;
       aborted = aborted;
+      close-fails = close-fails;
+      close-refused = close-refused;
+      wrong-result = wrong-result;
       renewed = renewed;
       comes-failed = comes-failed;
       fuel-stays = fuel-stays;
+      other-limits = other-limits;
+      speechless = speechless;
       all-shown = all-shown;
     }
