@@ -95,6 +95,14 @@ greeted w z = withStack (set (z .stack) (length (w .stack)) 5) z
 abbrev pub late : World → World → World
 late w z = withFrames (onTop atOne (z .frames)) z
 
+-- one that slept inside a call that it made gets back 5 for the first word that it held, and every frame
+abbrev pub mistaking : Engine
+mistaking = leaving (λ w k. let z = step w k .world in pick (ltb (length (w .chain)) (length (z .chain)) && called (z .frames)) (greeted w z) z)
+
+-- who yields, awaits or returns leaves 5 in the stack's fourth word
+abbrev pub tainting : Engine
+tainting = leaving (λ w k. let z = step w k .world in pick (ltb (length (z .chain)) (length (w .chain))) (withStack (set (z .stack) 3 5) z) z)
+
 -- ---- machines whose events are wrong
 
 -- an entry is left undone, where a test says so: always; or while two coroutines wait for a cleanup
@@ -300,6 +308,8 @@ pub record Wrong : Type 0 where
   pub closing-forgotten : Events forgetting → ⊥
   pub failure-returns : Events sparing → ⊥
   pub rows-once : Demand3 once → ⊥
+  pub other-word : Demand3 mistaking → ⊥
+  pub below-changed : Demand3 tainting → ⊥
   pub new-gets-a-word : Demand3 (begun greeted) → ⊥
   pub new-at-pc-1 : Demand3 (begun late) → ⊥
   pub await-yields : Events yielding → ⊥
