@@ -40,6 +40,7 @@ use Rattle.sheet.proofs.Sheet.{leads-to}
 use Rattle.sheet.proofs.SheetNumbers.{says-number, sets-up}
 use Rattle.sheet.proofs.Led.{here}
 use Rattle.sheet.proofs.Kept.{filled}
+use Rattle.sheet.proofs.Walk.{none}
 use Rattle.sheet.proofs.WalkCalls.{fact}
 
 -- ---- "given exactly if"
@@ -216,7 +217,7 @@ behind-9 Op.Look w = (refl, tt)
 
 -- ---- words of refusals
 
-fault-word : (f : Fault) → among (Faults.numberOf f) (0 ∷ 17 ∷ []) ≡ false → Faults.wordOf f ≡ 0
+pub fault-word : (f : Fault) → eqb (Faults.numberOf f) 17 ≡ false → Faults.wordOf f ≡ 0
 fault-word Fault.None h = refl
 fault-word Fault.NullReference h = refl
 fault-word Fault.TypeError h = refl
@@ -236,14 +237,17 @@ fault-word Fault.Busy h = refl
 fault-word Fault.GrantTooLarge h = refl
 fault-word (Fault.Throw v) h = absurd (true≢false h)
 
+no-17 : (n : ℕ) → among n (0 ∷ 17 ∷ []) ≡ false → eqb n 17 ≡ false
+no-17 n h = none (eqb n 17) false (none (eqb n 0) (eqb n 17 || false) h .1) .0
+
 zero-word : (a : Answer) → among (numberOf a) (0 ∷ 17 ∷ []) ≡ false → wordOf a ≡ 0
 zero-word Answer.Accepted h = refl
 zero-word (Answer.Word v) h = absurd (true≢false h)
-zero-word (Answer.Refused f) h = fault-word f h
+zero-word (Answer.Refused f) h = fault-word f (no-17 (Faults.numberOf f) h)
 zero-word (Answer.Stepped Step.Next n) h = refl
 zero-word (Answer.Stepped Step.Frame n) h = refl
-zero-word (Answer.Stepped (Step.Fault f) n) h = fault-word f h
-zero-word (Answer.Stepped (Step.Unwind f) n) h = fault-word f h
+zero-word (Answer.Stepped (Step.Fault f) n) h = fault-word f (no-17 (Faults.numberOf f) h)
+zero-word (Answer.Stepped (Step.Unwind f) n) h = fault-word f (no-17 (Faults.numberOf f) h)
 zero-word (Answer.Cleanup n) h = refl
 zero-word (Answer.Unpaid n) h = refl
 zero-word (Answer.Exit v) h = absurd (true≢false h)
