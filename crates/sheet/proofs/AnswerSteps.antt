@@ -27,7 +27,7 @@ use Rattle.model.specs.declared.call.Answer.{Answer}
 use Rattle.sheet.specs.Lines.{Line, Lines, leads, stop}
 use Rattle.sheet.specs.Does.{number}
 use Rattle.sheet.specs.Words.{lies, word, arguments, isIn, state}
-use Rattle.sheet.specs.Moves.{atPc, pcStored, put, iteratorDone, entered, given, ended}
+use Rattle.sheet.specs.Moves.{pcStored, iteratorDone, entered, given, ended}
 use Rattle.sheet.specs.Charging.{amount, usedUp, bankBack, charged, lost, asAnswer, instruction}
 use Rattle.sheet.specs.Instructions as Asked
 use Rattle.sheet.specs.Makings as Makings
@@ -39,12 +39,9 @@ use Rattle.sheet.proofs.Among.{same}
 use Rattle.sheet.proofs.Choice.{both}
 use Rattle.sheet.proofs.Sheet.{leads-to}
 use Rattle.sheet.proofs.Led.{Every, InTurn, led-in-turn, in-turn}
+use Rattle.sheet.proofs.Moved.{length-at}
 
 -- ---- counts
-
-at-pc : (pc : ℕ) (fs : List Frame) → length (atPc pc fs) ≡ length fs
-at-pc pc [] = refl
-at-pc pc (f ∷ fs) = refl
 
 one-less : (c : List Active) → isNil c ≡ false → suc (length (drop 1 c)) ≡ length c
 one-less [] h = absurd (true≢false h)
@@ -85,7 +82,7 @@ keyed-alike : (u : World) → Alike u (Yields.keyed u)
 keyed-alike u = both (λ x. Alike u x) _ (alike u) (alike u)
 
 charged-alike : (pc : ℕ) (u : World) → Alike u (charged pc u)
-charged-alike pc u = both (λ x. Alike u x) _ (alike u) (both (λ x. Alike u x) _ (alike u) (record { frames = at-pc pc (u .frames); chain = refl }))
+charged-alike pc u = both (λ x. Alike u x) _ (alike u) (both (λ x. Alike u x) _ (alike u) (record { frames = length-at pc (u .frames); chain = refl }))
 
 keyed-chain : (u : World) → Yields.keyed u .chain ≡ u .chain
 keyed-chain u = both (λ (x : World). x .chain ≡ u .chain) _ refl refl
@@ -160,7 +157,7 @@ module _ (w : World) where
     still = alike u
 
     stored : Alike u (pcStored pc u)
-    stored = record { frames = at-pc pc (u .frames); chain = refl }
+    stored = record { frames = length-at pc (u .frames); chain = refl }
 
     -- an instruction's own lines, and where each has what is asked
     abbrev Turns : List (Line Step) → Line Step → Type 0
@@ -256,7 +253,7 @@ module _ (w : World) where
       spawns =
           turn (Makings.spawn pc dst c argc u .tests) (Makings.spawn pc dst c argc u .done)
           (λ _. stays u su still refl, finds (word u c) argc last (λ _. stays u su still refl, (λ _. stays u su (paid-alike made) refl, tt)))
-          (calls u su (ap suc (at-pc pc (Makings.paid made .frames) ∙ paid-alike made .frames)) refl)
+          (calls u su (ap suc (length-at pc (Makings.paid made .frames) ∙ paid-alike made .frames)) refl)
 
     -- yields: v is u, its key made; the chain is not empty
     module _ (v : World) (s : Alike u v) (same-chain : v .chain ≡ u .chain) (some-run : isNil (u .chain) ≡ false) (dst payload : ℕ) where
@@ -264,7 +261,7 @@ module _ (w : World) where
       z = pcStored pc v
 
       sz : Alike u z
-      sz = record { frames = at-pc pc (v .frames) ∙ s .frames; chain = s .chain }
+      sz = record { frames = length-at pc (v .frames) ∙ s .frames; chain = s .chain }
 
       shorter : (x : World) → x .chain ≡ drop 1 (v .chain) → suc (length (x .chain)) ≡ length (u .chain)
       shorter x e = ap (λ c. suc (length c)) e ∙ (one-less (v .chain) (ap isNil same-chain ∙ some-run) ∙ ap length same-chain)

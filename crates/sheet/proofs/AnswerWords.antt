@@ -10,11 +10,9 @@ use Rattle.lists.specs.Pick.{pick}
 use Rattle.heap.specs.Fault as Faults
 use Rattle.heap.specs.declared.fault.Fault.{Fault}
 use Rattle.heap.specs.declared.heap.ResultKind.{ResultKind}
-use Rattle.heap.specs.declared.value.Opt.{Opt}
 use Rattle.model.specs.World.{World, After, after}
 use Rattle.model.specs.Sound.{sound}
 use Rattle.model.specs.Answer.{numberOf, wordOf}
-use Rattle.model.specs.Machine as Machine
 use Rattle.model.specs.Call.{Do, Operation}
 use Rattle.model.specs.Step.{step}
 use Rattle.model.specs.declared.machine.Cont.{Cont}
@@ -22,13 +20,13 @@ use Rattle.model.specs.declared.machine.Frame.{Frame}
 use Rattle.model.specs.declared.call.OptPc.{OptPc}
 use Rattle.model.specs.declared.call.Op.{Op}
 use Rattle.model.specs.declared.call.Answer.{Answer}
-use Rattle.sheet.specs.Lines.{Line, Lines, leads}
+use Rattle.sheet.specs.Lines.{Lines, leads}
 use Rattle.sheet.specs.Does.{number}
 use Rattle.sheet.specs.Words.{base, word}
 use Rattle.sheet.specs.Moves.{atPc}
 use Rattle.sheet.specs.Charging.{starts, charged}
 use Rattle.sheet.specs.Makings.{newWord}
-use Rattle.sheet.specs.Endings.{finishBy, finishOn, result, orNil}
+use Rattle.sheet.specs.Endings.{finishBy, finishOn, result}
 use Rattle.sheet.specs.Unwinding as Unwinding
 use Rattle.sheet.specs.Sheet.{tableOf}
 use Rattle.sheet.specs.Answers.{exitBy, exitWord, wordFor, raisedBy, thrownFor}
@@ -36,7 +34,8 @@ use Rattle.sheet.proofs.Among.{same}
 use Rattle.sheet.proofs.Choice.{both, by-test}
 use Rattle.sheet.proofs.Sheet.{leads-to}
 use Rattle.sheet.proofs.Sentences.{fault-word}
-use Rattle.sheet.proofs.Led.{here, past, Every, InTurn, led, led-in-turn, all, led-answer}
+use Rattle.sheet.proofs.Led.{here, past, Every, led, led-in-turn, all, led-answer}
+use Rattle.sheet.proofs.Finishing.{or-nil-is}
 
 -- an answer of number m has the word n
 record Worded (m n : ℕ) (a : After Answer) : Type 0 where
@@ -64,13 +63,9 @@ plainly m s h = record { is = go (leads s .answer) (eqb (numberOf (leads s .answ
 
 -- ---- finish
 
-out-word : (v : Opt) → Machine.orNil v ≡ orNil v
-out-word Opt.None = refl
-out-word (Opt.Some v) = refl
-
 finish-words : (c : Cont) (f : Frame) (fs : List Frame) (k : ResultKind) (v : ℕ) (w : World) → Worded 0 (exitBy c (result k v)) (leads (finishBy c f fs k v w))
 unfolding pick
-finish-words Cont.Entry f fs k v w = record { is = λ _. out-word (result k v) }
+finish-words Cont.Entry f fs k v w = record { is = λ _. or-nil-is (result k v) }
 finish-words (Cont.Write r) f fs k v w = record { is = λ _. refl }
 finish-words (Cont.Dyn r) f fs k v w = plainly 0 (finishBy (Cont.Dyn r) f fs k v w) refl
 finish-words (Cont.Value r) f fs k v w = record { is = λ _. refl }
@@ -78,7 +73,7 @@ finish-words Cont.Discard f fs k v w = record { is = λ _. refl }
 finish-words Cont.Coro f fs k v w = plainly 0 (finishBy Cont.Coro f fs k v w) refl
 
 finish-on-words : (fs : List Frame) (k : ResultKind) (v : ℕ) (w : World) → Worded 0 (exitWord fs (result k v)) (leads (finishOn fs k v w))
-finish-on-words [] k v w = record { is = λ _. out-word (result k v) }
+finish-on-words [] k v w = record { is = λ _. or-nil-is (result k v) }
 finish-on-words (f ∷ fs) k v w = finish-words (f .cont) f fs k v w
 
 -- it throws nothing

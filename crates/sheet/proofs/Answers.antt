@@ -1,7 +1,7 @@
 -- The word and the Step of every answer, and what a look sees.
 use Prim.Native.Nat.{ℕ, _+_, _/_, _%_, _^_, _<_, _≤_}
 use mathlib.Core.Path.{_≡_, refl, sym, ap, ap₂, _∙_}
-use mathlib.Core.Bool.{Bool, true, false, not, _&&_, _||_, true≢false, false≢true}
+use mathlib.Core.Bool.{Bool, true, false, not, _&&_, _||_, false≢true}
 use mathlib.Core.List.{List, [], _∷_, _++_}
 use mathlib.Core.Option.{Option, none, some}
 use native.Mathlib.Omega.{arith}
@@ -15,13 +15,13 @@ use Rattle.heap.specs.declared.fault.Fault.{Fault}
 use Rattle.heap.specs.declared.heap.ResultKind.{ResultKind}
 use Rattle.heap.specs.declared.value.Opt.{Opt}
 use Rattle.model.specs.Lists.{each, among}
-use Rattle.model.specs.Program.{Setup, setupOk, limitsOk, costsOk, functionOk, hookOk, between}
+use Rattle.model.specs.Program.{setupOk, limitsOk, costsOk, functionOk, hookOk, between}
 use Rattle.model.specs.Object.{Object}
-use Rattle.model.specs.World.{World, After, after, fresh}
+use Rattle.model.specs.World.{World, After}
 use Rattle.model.specs.Sound.{sizesOk, sound}
 use Rattle.model.specs.Answer.{numberOf, wordOf, stepOf}
 use Rattle.model.specs.Call.{Call, SetUp, Do, Operation, typed}
-use Rattle.model.specs.Step.{Out, step}
+use Rattle.model.specs.Step.{step}
 use Rattle.model.specs.declared.machine.Cont.{Cont}
 use Rattle.model.specs.declared.machine.Frame.{Frame}
 use Rattle.model.specs.declared.exec.Step.{Step}
@@ -37,11 +37,11 @@ use Rattle.sheet.specs.Unwinding as Unwinding
 use Rattle.sheet.specs.OtherCalls as Others
 use Rattle.sheet.specs.Sheet.{tableOf, sheet}
 use Rattle.sheet.specs.Answers.{isInstruction, Answers}
-use Rattle.sheet.proofs.Among.{and-left, and-right}
+use Rattle.sheet.proofs.Among.{and-left, and-right, not-false}
 use Rattle.sheet.proofs.Choice.{both, by-test}
 use Rattle.sheet.proofs.Rules.{set-up, sizes}
 use Rattle.sheet.proofs.Sheet.{leads-to}
-use Rattle.sheet.proofs.SheetNumbers.{sets-up, look-sees, sees-nothing}
+use Rattle.sheet.proofs.SheetNumbers.{set-up-has, look-sees, sees-nothing}
 use Rattle.sheet.proofs.Led.{here, led, all, led-answer}
 use Rattle.sheet.proofs.AnswerSteps.{step-is}
 use Rattle.sheet.proofs.AnswerWords.{word-is, thrown-word}
@@ -144,13 +144,8 @@ module _ (w : World) (o : Operation) where
       go true false n h k = absurd (false≢true (ap not (sym k) ∙ h))
       go false b n h k = h
 
-set-up-bare : (b : Bool) (s : Setup) (w : World) → stepOf (pick (not b) (after w (Answer.Refused Fault.Unsound)) (after (fresh s) Answer.Accepted) .answer) ≡ none
-unfolding pick
-set-up-bare true s w = refl
-set-up-bare false s w = refl
-
 no-step-of : (w : World) (c : Call) → among (numberOf (step w c .answer)) (11 ∷ 12 ∷ 13 ∷ 15 ∷ 16 ∷ []) ≡ true → stepOf (step w c .answer) ≡ none
-no-step-of w (SetUp s) h = ap (λ (o : Out). stepOf (o .answer)) (sets-up w s) ∙ set-up-bare (setupOk s) s w
+no-step-of w (SetUp s) h = set-up-has (λ a. stepOf (a .answer) ≡ none) w s (λ _. refl) (λ _. refl)
 no-step-of w (Do o) h = no-step-by w o h
 
 -- ---- the iterator that was made
@@ -207,29 +202,18 @@ made-is w v s =
     led (λ (a : After Answer). eqb (numberOf (a .answer)) 0 ≡ true → found (a .world) (wordOf (a .answer)) ≡ Object.Iter v false Opt.None) (tableOf (Op.MakeIterator v) w .tests) (tableOf (Op.MakeIterator v) w .done)
     (no, (no, (no, (no, tt)))) (λ _. lookup (w .slots) (Object.Iter v false Opt.None) w (w .setup .costs .iter) refl (few w s))
 
-not-not : (b : Bool) → not b ≡ false → b ≡ true
-not-not true h = refl
-not-not false h = absurd (true≢false h)
-
 iterator-made : (w : World) (v : ℕ) (t : typed (Op.MakeIterator v) ≡ true) → let o = operation (Op.MakeIterator v) t in number w o ≡ 0 →
     found (step w (Do o) .world) (wordOf (step w (Do o) .answer)) ≡ Object.Iter v false Opt.None
 iterator-made w v t h =
     ap (λ (a : After Answer). found (a .world) (wordOf (a .answer))) (leads-to w (operation (Op.MakeIterator v) t))
-    ∙ by-test (λ (a : After Answer). eqb (numberOf (a .answer)) 0 ≡ true → found (a .world) (wordOf (a .answer)) ≡ Object.Iter v false Opt.None) (not (sound w)) (λ _ e. absurd (false≢true e)) (λ s. made-is w v (not-not (sound w) s))
+    ∙ by-test (λ (a : After Answer). eqb (numberOf (a .answer)) 0 ≡ true → found (a .world) (wordOf (a .answer)) ≡ Object.Iter v false Opt.None) (not (sound w)) (λ _ e. absurd (false≢true e)) (λ s. made-is w v (not-false (sound w) s))
     (ap (λ a. eqb (numberOf a) 0) (sym (answer-is w (operation (Op.MakeIterator v) t))) ∙ ap (λ n. eqb n 0) h)
-
--- ---- set-up
-
-set-up-zero : (b : Bool) (s : Setup) (w : World) → wordOf (pick (not b) (after w (Answer.Refused Fault.Unsound)) (after (fresh s) Answer.Accepted) .answer) ≡ 0
-unfolding pick
-set-up-zero true s w = refl
-set-up-zero false s w = refl
 
 pub answers : Answers
 answers =
     record {
       word = word-is;
-      set-up-word = λ w s. ap (λ (o : Out). wordOf (o .answer)) (sets-up w s) ∙ set-up-zero (setupOk s) s w;
+      set-up-word = λ w s. set-up-has (λ a. wordOf (a .answer) ≡ 0) w s (λ _. refl) (λ _. refl);
       iterator = iterator-made;
       thrown-word = thrown-word;
       no-step = no-step-of;
