@@ -125,7 +125,7 @@ module _ (e : Fault) (pc : OptPc) (w : World) where
 
   -- a fault of number 17 has its own
   own : {x : World} → Worded 17 raised (after x (Answer.Refused e))
-  own = record { is = λ h. sym (past (leb n 8) (newWord w) (ap (λ m. leb m 8) (same n 17 h)) refl) }
+  own = record { is = λ h. sym (past (leb n 8) _ (ap (λ m. leb m 8) (same n 17 h)) refl) }
 
   new-word : (pc : OptPc) → newWord (Unwinding.given pc w) ≡ newWord w
   new-word OptPc.None = refl
@@ -145,7 +145,7 @@ module _ (e : Fault) (pc : OptPc) (w : World) where
             (
               no refl,
               by-test (λ ts. Every (λ a. Worded 17 raised a) ts) (leb n 8) (λ h. searched (newWord z) (Unwinding.errorStored n z) (new-word pc ∙ sym (here (leb n 8) (Faults.wordOf e) h)))
-                  (λ h. searched (Faults.wordOf e) z (sym (past (leb n 8) (newWord w) h refl))),
+                  (λ h. searched (Faults.wordOf e) z (sym (past (leb n 8) _ h refl))),
             ),
           ),
         ),
