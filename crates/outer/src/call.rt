@@ -60,7 +60,7 @@ pub fn unsound(m: Machine, fuel: Fuel) -> Called
 }
 
 // On words of which it is known whether they are sound.
-pub fn called(
+fn called(
     ok: bool,
     stack: &mut [u64],
     frames: &mut [u64],

@@ -23,7 +23,7 @@ pub fn place(ok: bool, frames: &[u64], m: Machine) -> Span
 }
 
 // On words of which it is known whether they are sound.
-pub fn seen<'a>(
+fn seen<'a>(
     ok: bool,
     stack: &'a [u64],
     frames: &[u64],
