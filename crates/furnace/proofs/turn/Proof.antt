@@ -1,24 +1,26 @@
--- `turn` meets its contract: the call is the outer call, and the rest only looks. Assumes nothing.
-use native.Mathlib.Omega.{arith}
+-- `turn` meets its contract: the call is the outer call, noted before and counted after. Assumes nothing.
+use Prim.{tt}
+use mathlib.Core.Path.{_∙_}
+use Rattle.memory.specs.Lendings.{plain}
+use Rattle.outer.specs.State.{nine, state}
+use Rattle.furnace.proofs.Playing.{watched-is}
 use borrow.Author.Needs.{needs}
 use Rattle.furnace.proofs.turn.Statement.{statement}
 use Rattle.furnace.proofs.turn.Tie as tie
 
--- from the end to the call, and from there to what is noted before it
-abbrev call-of : tie.After-after → tie.After-call
-call-of c = c .before .before .before .before .before .before .before .before .before .before .before .before .before .before .before .before .before .before .before .before .before .before .before
-
-abbrev noted : tie.After-call → tie.After-before2
-noted c = c .before .before .before .before .before .before .before .before .before .before .before
-
 before-requires : tie.Need-before-requires
-before-requires c κs = search needs
+before-requires c κs =
+    let start = c .before .before .before .before .before .before .before .before .before .before .before .before .before .before in
+    start .pre
 
 call-requires : tie.Need-call-requires
-call-requires c κs = search needs
+call-requires c κs = tt
 
 after-requires : tie.Need-after-requires
-after-requires c κs = search needs
+after-requires c κs =
+    let at-before2 = c .before .before .before .before .before .before .before .before .before .before .before .before .before .before .before .before .before .before .before .before .before .before .before .before .before .before .before .before .before .before .before .before .before in
+    let start = at-before2 .before .before .before .before .before .before .before .before .before .before .before .before .before .before .before in
+    at-before2 .before2 .kept .1 .1 .1 .1 .1 .0 ∙ start .pre
 
 same-length : tie.Need-same-length
 same-length c = search needs
@@ -45,10 +47,18 @@ same-length-8 : tie.Need-same-length-8
 same-length-8 c = search needs
 
 same-length-9 : tie.Need-same-length-9
-same-length-9 c = noted (call-of c) .before2 .kept .1 .1 .1 .1 .1 .0
+same-length-9 c =
+    let at-before2 = c .before .before .before .before .before .before .before .before .before .before .before .before .before .before .before .before .before .before .before .before .before .before .before .before .before .before .before .before .before .before .before .before .before .before in
+    at-before2 .before2 .kept .1 .1 .1 .1 .1 .0
 
 returns : tie.Need-returns
-returns c = search needs
+returns c =
+    let at-call = c .before .before .before .before .before .before .before .before .before .before .before .before .before .before .before .before .before .before .before .before .before .before .before in
+    let at-before2 = at-call .before .before .before .before .before .before .before .before .before .before .before in
+    let start = at-before2 .before .before .before .before .before .before .before .before .before .before .before .before .before .before .before in
+    let a = start .args in
+    watched-is (state (nine (a .stack .now) (a .frames .now) (a .chain .now) (a .slots .now) (a .saved-stack .now) (a .saved-frames .now) (a .ready .now) (a .finalize .now) (a .setup .now) plain) (a .m) (a .fuel)) (a .notes .now) (a .count) (a .op)
+    _ _ _ _ (at-call .call .ensures) (at-before2 .before2 .ensures .0) (at-before2 .before2 .ensures .1) (c .after .ensures)
 
 pub turn-spec : {M : Type 1} → statement M
 turn-spec =
