@@ -1,12 +1,20 @@
 -- `woken` meets its contract: the part of the stack that came back. Assumes nothing.
 use Prim.{tt}
-use mathlib.Core.Path.{refl}
+use mathlib.Core.Path.{refl, sym, subst}
+use Prim.Native.Nat.{_≤_}
 use lib.ListN.{length}
 use native.Mathlib.Omega.{arith}
 use Rattle.furnace.proofs.Words.{at-most}
 use Rattle.furnace.proofs.Watching.{woken-is}
 use Rattle.furnace.proofs.tell.woken.Statement.{statement}
 use Rattle.furnace.proofs.tell.woken.Tie as tie
+
+-- the part begins where it ends or below, and ends within the stack
+begins : (c : tie.After-at-most2) → c .at-most2 .result ≤ c .before .at-most .result
+begins c = let at-own-base = c .before .before in subst (λ n. n ≤ c .before .at-most .result) (sym (c .at-most2 .ensures)) (at-most (c .before .at-most .result) (at-own-base .own-base .result))
+
+ends : (c : tie.After-at-most) → let a = c .before .before .before .before .before .before .args in c .at-most .result ≤ length (a .stack .now)
+ends c = let a = c .before .before .before .before .before .before .args in subst (λ n. n ≤ length (a .stack .now)) (sym (c .at-most .ensures)) (at-most (length (a .stack .now)) (a .m .height))
 
 own-base-requires : tie.Need-own-base-requires
 own-base-requires c κs = tt
@@ -19,39 +27,19 @@ at-most-requires-2 c κs = tt
 
 mul-back : tie.Need-mul-back
 mul-back c =
-    let at-at-most = c .before in let at-own-base = at-at-most .before in let start = at-own-base .before .before .before .before .before in
-    let p = at-at-most .at-most .ensures in
-    let q = c .at-most2 .ensures in
-    let b = at-most (length (start .args .stack .now)) (start .args .m .height) in
-    let d = at-most (at-at-most .at-most .result) (at-own-base .own-base .result) in
-    omega (arith, p, q, b, d, start .good)
+    let at-at-most = c .before in let start = at-at-most .before .before .before .before .before .before in
+    omega (arith, begins c, ends at-at-most, start .good)
 
 sub-back : tie.Need-sub-back
-sub-back c =
-    let at-at-most = c .before in let at-own-base = at-at-most .before in let start = at-own-base .before .before .before .before .before in
-    let p = at-at-most .at-most .ensures in
-    let q = c .at-most2 .ensures in
-    let b = at-most (length (start .args .stack .now)) (start .args .m .height) in
-    let d = at-most (at-at-most .at-most .result) (at-own-base .own-base .result) in
-    omega (arith, p, q, b, d)
+sub-back c = begins c
 
 part-back-start : tie.Need-part-back-start
-part-back-start c =
-    let at-at-most = c .before in let at-own-base = at-at-most .before in let start = at-own-base .before .before .before .before .before in
-    let p = at-at-most .at-most .ensures in
-    let q = c .at-most2 .ensures in
-    let b = at-most (length (start .args .stack .now)) (start .args .m .height) in
-    let d = at-most (at-at-most .at-most .result) (at-own-base .own-base .result) in
-    omega (arith, p, q, b, d)
+part-back-start c = begins c
 
 part-back-end : tie.Need-part-back-end
 part-back-end c =
-    let at-at-most = c .before in let at-own-base = at-at-most .before in let start = at-own-base .before .before .before .before .before in
-    let p = at-at-most .at-most .ensures in
-    let q = c .at-most2 .ensures in
-    let b = at-most (length (start .args .stack .now)) (start .args .m .height) in
-    let d = at-most (at-at-most .at-most .result) (at-own-base .own-base .result) in
-    omega (arith, p, q, b, d)
+    let at-at-most = c .before in
+    ends at-at-most
 
 woke-requires : tie.Need-woke-requires
 woke-requires c κs = tt
