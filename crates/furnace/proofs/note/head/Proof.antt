@@ -1,4 +1,5 @@
 -- `head` meets its contract: three stores. Assumes nothing.
+use mathlib.Core.Path.{refl}
 use native.Mathlib.Omega.{arith}
 use lib.ListN.{length-set}
 use borrow.Author.Needs.{needs}
@@ -33,7 +34,7 @@ same-length : tie.Need-same-length
 same-length c = simp length-set (search needs)
 
 returns : tie.Need-returns
-returns c = search needs
+returns c = refl
 
 pub head-spec : {M : Type 1} → statement M
 head-spec =
