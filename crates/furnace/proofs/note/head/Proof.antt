@@ -1,9 +1,10 @@
--- `head` is safe. Assumes nothing.
+-- `head` meets its contract: three stores. Assumes nothing.
+use mathlib.Core.Path.{refl}
 use native.Mathlib.Omega.{arith}
 use lib.ListN.{length-set}
 use borrow.Author.Needs.{needs}
-use Rattle.furnace.proofs.tell.head.Statement.{statement}
-use Rattle.furnace.proofs.tell.head.Tie as tie
+use Rattle.furnace.proofs.note.head.Statement.{statement}
+use Rattle.furnace.proofs.note.head.Tie as tie
 
 mul-notes : tie.Need-mul-notes
 mul-notes c = search needs
@@ -33,9 +34,19 @@ same-length : tie.Need-same-length
 same-length c = simp length-set (search needs)
 
 returns : tie.Need-returns
-returns c = search needs
+returns c = refl
 
 pub head-spec : {M : Type 1} → statement M
 head-spec =
     tie.close
-    (tie.spec mul-notes slice-write-notes add-notes mul-notes-2 slice-write-notes-2 add-notes-2 mul-notes-3 slice-write-notes-3 same-length returns)
+    (tie.spec
+    mul-notes
+    slice-write-notes
+    add-notes
+    mul-notes-2
+    slice-write-notes-2
+    add-notes-2
+    mul-notes-3
+    slice-write-notes-3
+    same-length
+    returns)
