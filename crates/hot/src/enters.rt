@@ -11,7 +11,7 @@ pub enum Enters {
 }
 
 // 01's gate, fuel in hand, and what coro_enter tests.
-pub(crate) fn may_enter(
+pub fn may_enter(
     stack: &[u64],
     frames: &[u64],
     slots: &[u64],

@@ -14,7 +14,7 @@ pub enum Leaves {
 }
 
 // 01's gate, fuel in hand, the key, and what coro_suspend tests.
-pub(crate) fn may_leave(
+pub fn may_leave(
     frames: &[u64],
     chain: &[u64],
     slots: &[u64],
