@@ -70,8 +70,9 @@ pub extern "C" fn bvm_batch(
     calls: &[u64],
     answers: &mut [u64],
 ) -> u64
-    ensures { λ r. ⌜ gave (host (nine stack frames chain slots «saved_stack» «saved_frames» ready finalize setup atExit) (atExit machine) (atExit fuel)) (atExit answers) r ≡ runHost (host (nine stack frames chain slots «saved_stack» «saved_frames» ready finalize setup atEntry) (atEntry machine) (atEntry fuel))
-        (now (calls .entry)) (atEntry answers) ⌝ }
+    ensures { λ r. ⌜ gave (host (nine stack frames chain slots «saved_stack» «saved_frames» ready finalize setup atExit) (atExit machine)
+        (atExit fuel)) (atExit answers) r ≡ runHost (host (nine stack frames chain slots «saved_stack» «saved_frames» ready finalize setup atEntry)
+        (atEntry machine) (atEntry fuel)) (now (calls .entry)) (atEntry answers) ⌝ }
 {
     let n = count(calls.len());
     if answers.len() / 8 < n {

@@ -36,9 +36,9 @@ fn goes_on_at(answers: &mut [u64], i: usize)
     requires { ⌜ i * 8 + 8 ≤ length (now answers) ⌝ }
     ensures { λ _. ⌜ now (answers .exit) ≡ putChunk 8 (now (answers .entry)) i (answerWords goesOn) ⌝ }
 {
-    let at = i * 8;
-    let to = at + 8;
-    goes_on(&mut answers[at..to]);
+    let from = i * 8;
+    let to = from + 8;
+    goes_on(&mut answers[from..to]);
 }
 
 // Any call, its answer at place i.
@@ -70,7 +70,7 @@ fn general_at(
 {
     let call = [n, a, b, c, d, e];
     let at = i * 8;
-    let to = at + 8;
+    let end = at + 8;
     bvm_kept(
         stack,
         frames,
@@ -84,7 +84,7 @@ fn general_at(
         machine,
         fuel,
         &call,
-        &mut answers[at..to],
+        &mut answers[at..end],
     );
 }
 

@@ -24,8 +24,8 @@ kept-of c = c .before .before .before .before .before .before .before .before .b
 mul-at : tie.Need-mul-at
 mul-at c = search needs
 
-add-to : tie.Need-add-to
-add-to c = search needs
+add-end : tie.Need-add-end
+add-end c = search needs
 
 slice-aggregate-bvm-kept : tie.Need-slice-aggregate-bvm-kept
 slice-aggregate-bvm-kept c = search needs
@@ -94,7 +94,7 @@ general-at-spec =
     tie.close
     (tie.spec
     mul-at
-    add-to
+    add-end
     slice-aggregate-bvm-kept
     mul-bvm-kept
     sub-bvm-kept

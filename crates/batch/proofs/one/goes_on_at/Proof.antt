@@ -8,8 +8,8 @@ use borrow.Author.Needs.{needs}
 use Rattle.batch.proofs.one.goes_on_at.Statement.{statement}
 use Rattle.batch.proofs.one.goes_on_at.Tie as tie
 
-mul-at : tie.Need-mul-at
-mul-at c = search needs
+mul-from : tie.Need-mul-from
+mul-from c = search needs
 
 add-to : tie.Need-add-to
 add-to c = search needs
@@ -42,7 +42,7 @@ pub goes-on-at-spec : {M : Type 1} → statement M
 goes-on-at-spec =
     tie.close
     (tie.spec
-    mul-at
+    mul-from
     add-to
     mul-goes-on
     sub-goes-on

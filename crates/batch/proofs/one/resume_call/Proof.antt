@@ -51,7 +51,9 @@ resume-at-requires c κs =
 
 goes-on-at-requires : tie.Need-goes-on-at-requires
 goes-on-at-requires c κs =
-    let start = c .before .before .before .before .before .before .before .before .before .before .before .before .before .before .before .before .before .before .before .before .before .before .before .before .before .before .before .before .before .before .before .before .before .before .before .before .before .before .before .before .before .before .before .before .before .before .before in
+    let at-resume-at = c .before .before .before .before .before .before .before .before .before .before .before .before .before .before .before .before .before in
+    let at-may-enter = at-resume-at .before .before .before .before .before .before .before .before .before .before .before .before in
+    let start = at-may-enter .before .before .before .before .before .before .before .before .before .before .before .before .before .before .before .before .before .before in
     start .pre .put .room
 
 enum-told : tie.Need-enum-told

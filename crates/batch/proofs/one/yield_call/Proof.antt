@@ -51,7 +51,9 @@ yield-at-requires c κs =
 
 goes-on-at-requires : tie.Need-goes-on-at-requires
 goes-on-at-requires c κs =
-    let start = c .before .before .before .before .before .before .before .before .before .before .before .before .before .before .before .before .before .before .before .before .before .before .before .before .before .before .before .before .before .before .before .before .before .before .before .before .before .before .before .before .before .before .before .before .before .before .before in
+    let at-yield-at = c .before .before .before .before .before .before .before .before .before .before .before .before .before .before .before .before .before in
+    let at-may-leave = at-yield-at .before .before .before .before .before .before .before .before .before .before .before .before in
+    let start = at-may-leave .before .before .before .before .before .before .before .before .before .before .before .before .before .before .before .before .before .before in
     start .pre .put .room
 
 enum-told : tie.Need-enum-told
