@@ -244,8 +244,8 @@ unfolding computed
 other-word d =
     let before = run mistaking (fresh wide) (take 13 held) in
     let q : _≡_ {A = ℕ} 5 11 =
-        word-back (d .restored c before (nth held 13) (between held 13 23) (nth held 23) (record { before = refl; after = refl })
-        (waits-true mistaking c (mistaking .next before (nth held 13)) (between held 13 23) refl) (record { before = refl; after = refl })) 12 in
+    word-back (d .restored c before (nth held 13) (between held 13 23) (nth held 23) (record { before = refl; after = refl })
+    (waits-true mistaking c (mistaking .next before (nth held 13)) (between held 13 23) refl) (record { before = refl; after = refl })) 12 in
     absurd (omega (arith, q))
 
 -- ---- the first entry
