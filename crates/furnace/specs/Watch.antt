@@ -49,6 +49,8 @@ ownWords stack frames chain m = let own = ownBase frames chain m in part own (m 
 
 -- ---- a call
 
+-- whether it suspends who runs, and which register then waits; whether it enters somebody with a word for the register that waits (a throw and a
+-- close raise theirs)
 abbrev pub partOf : Op → Part
 partOf (Op.CoroNew pc dst f argc) = Part.Neither
 partOf (Op.CoroNewIndirect pc dst callee argc) = Part.Neither
