@@ -39,12 +39,15 @@ suspends n = eqb n 0 || eqb n 2 || eqb n 6
 abbrev pub room : View → ℕ → Bool
 room v n = leb (min (v .used + n) (2 ^ 64 - 1)) (v .rules .memory)
 
+-- an instruction is paid for, by the fuel or the bank, and no cleanup comes first: whom a call was to enter, it enters
+abbrev pub PaidFor : View → Type 0
+PaidFor v = (pc : ℕ) (y : Entry) → charged v pc (some y) ≡ some y
+
 -- c runs on top, its instruction is paid for, and there is room for n bytes and for what it would save beyond the most that it has saved.
 -- 01: "8 bytes per register and F per frame beyond the coroutine's largest saved sizes so far"
 pub record Roomy (e : Engine) (n c : ℕ) (s : e .State) : Type 0 where
   pub healthy : Healthy e s
-  -- by the fuel or the bank, and no cleanup comes first: whom a call was to enter, it enters
-  pub paid : (pc : ℕ) (y : Entry) → charged (e .view s) pc (some y) ≡ some y
+  pub paid : PaidFor (e .view s)
   pub held : Held (e .view s) c
   pub seen : Seen
   pub there : e .view s .coro c ≡ some seen
@@ -55,7 +58,7 @@ pub record Roomy (e : Engine) (n c : ℕ) (s : e .State) : Type 0 where
 pub record Pays (e : Engine) (s : e .State) : Type 0 where
   pub healthy : Healthy e s
   pub stands : eqb (length (e .view s .frames)) 0 ≡ false
-  pub paid : (pc : ℕ) (y : Entry) → charged (e .view s) pc (some y) ≡ some y
+  pub paid : PaidFor (e .view s)
 
 -- a new integer object can be made
 pub record Makes (v : View) : Type 0 where
