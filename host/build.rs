@@ -1,52 +1,67 @@
-//! Finds the static library, or makes it.
+//! Finds the library's two archives, or makes them.
 //!
-//! `HUMDELZI_LIB` names the folder that holds `libboundary.a`. Without it the
-//! library is taken from `../target/staticlib`; if it is not there,
-//! `rt staticlib boundary` proves and writes it.
+//! `HUMDELZI_LIB` names the folder that holds `libboundary.a` and `libhot.a`.
+//! Without it they are taken from `../target/staticlib`; one that is not there
+//! is proved and written by `rt staticlib boundary`, `rt staticlib hot`.
 
 use std::path::{Path, PathBuf};
 use std::process::{self, Command};
 use std::{env, fs};
 
-const NAME: &str = "libboundary.a";
+/// Resume and Yield, then all functions: what the first leaves open is found
+/// in the second.
+const ARCHIVES: [&str; 2] = ["hot", "boundary"];
 
 fn main() {
     println!("cargo::rerun-if-changed=build.rs");
     println!("cargo::rerun-if-env-changed=HUMDELZI_LIB");
     let lib = named().unwrap_or_else(beside);
-    let file = lib.join(NAME);
-    println!("cargo::rerun-if-changed={}", file.display());
     println!("cargo::rustc-link-search=native={}", lib.display());
-    println!("cargo::rustc-link-lib=static=boundary");
+    for name in ARCHIVES {
+        println!("cargo::rerun-if-changed={}", file(&lib, name).display());
+        println!("cargo::rustc-link-lib=static={name}");
+    }
     // for the tests, which link a C program with it
     println!("cargo::rustc-env=HUMDELZI_LIB_FOUND={}", lib.display());
 }
 
-/// The folder that `HUMDELZI_LIB` names.
-fn named() -> Option<PathBuf> {
-    let lib = env::var_os("HUMDELZI_LIB").filter(|l| !l.is_empty())?;
-    match fs::canonicalize(&lib) {
-        Ok(lib) if lib.join(NAME).is_file() => Some(lib),
-        _ => fail(&format!("HUMDELZI_LIB names {}, which has no {NAME}", lib.to_string_lossy())),
-    }
+fn file(lib: &Path, name: &str) -> PathBuf {
+    lib.join(format!("lib{name}.a"))
 }
 
-/// The repository's own library, made if it is not there yet.
+/// The folder that `HUMDELZI_LIB` names.
+fn named() -> Option<PathBuf> {
+    let given = env::var_os("HUMDELZI_LIB").filter(|l| !l.is_empty())?;
+    let lib = fs::canonicalize(&given).unwrap_or_else(|_| given.clone().into());
+    for name in ARCHIVES {
+        if !file(&lib, name).is_file() {
+            fail(&format!(
+                "HUMDELZI_LIB names {}, which has no lib{name}.a",
+                given.to_string_lossy()
+            ));
+        }
+    }
+    Some(lib)
+}
+
+/// The repository's own archives, made if they are not there yet.
 fn beside() -> PathBuf {
     let here = PathBuf::from(env::var_os("CARGO_MANIFEST_DIR").expect("cargo sets it"));
     let root = here.parent().unwrap_or(&here).to_path_buf();
     let lib = root.join("target/staticlib");
-    if !lib.join(NAME).is_file() {
-        make(&root, &lib);
+    for name in ARCHIVES {
+        if !file(&lib, name).is_file() {
+            make(&root, &lib, name);
+        }
     }
     lib
 }
 
-fn make(root: &Path, lib: &Path) {
-    let why = match Command::new("rt").args(["staticlib", "boundary"]).current_dir(root).output() {
-        Ok(done) if done.status.success() && lib.join(NAME).is_file() => return,
+fn make(root: &Path, lib: &Path, name: &str) {
+    let why = match Command::new("rt").args(["staticlib", name]).current_dir(root).output() {
+        Ok(done) if done.status.success() && file(lib, name).is_file() => return,
         Ok(done) => format!(
-            "`rt staticlib boundary` failed:\n{}{}",
+            "`rt staticlib {name}` failed:\n{}{}",
             String::from_utf8_lossy(&done.stdout),
             String::from_utf8_lossy(&done.stderr)
         ),
@@ -54,9 +69,9 @@ fn make(root: &Path, lib: &Path) {
     };
     fail(&format!(
         "{why}\n\
-         The proved library {NAME} is not in {}. Either\n\
-         - install the Rattle toolchain, so that `rt` is found, and run `rt staticlib boundary` in {}\n\
-         - or set HUMDELZI_LIB to a folder that holds {NAME}",
+         The proved library lib{name}.a is not in {}. Either\n\
+         - install the Rattle toolchain, so that `rt` is found, and run `rt staticlib boundary` and `rt staticlib hot` in {}\n\
+         - or set HUMDELZI_LIB to a folder that holds libboundary.a and libhot.a",
         lib.display(),
         root.display()
     ));

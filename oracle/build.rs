@@ -48,6 +48,7 @@ fn library() {
     println!("cargo::rerun-if-env-changed=BVM_LIB");
     println!("cargo::rustc-check-cfg=cfg(library)");
     println!("cargo::rustc-check-cfg=cfg(hot)");
+    println!("cargo::rustc-check-cfg=cfg(batch)");
     let Some(lib) = env::var_os("BVM_LIB").filter(|s| !s.is_empty()) else {
         return;
     };
@@ -57,16 +58,18 @@ fn library() {
     println!("cargo::rustc-link-search=native={}", lib.display());
     println!("cargo::rustc-link-lib=static=boundary");
     println!("cargo::rustc-cfg=library");
-    hot(&lib);
+    for archive in ["hot", "batch"] {
+        faster(&lib, archive);
+    }
 }
 
-/// Links the functions of single switches, where they were built.
-fn hot(lib: &Path) {
-    let file = lib.join("libhot.a");
+/// Links the functions of single switches, and of batches, where they were built.
+fn faster(lib: &Path, archive: &str) {
+    let file = lib.join(format!("lib{archive}.a"));
     println!("cargo::rerun-if-changed={}", file.display());
     if file.exists() {
-        println!("cargo::rustc-link-lib=static=hot");
-        println!("cargo::rustc-cfg=hot");
+        println!("cargo::rustc-link-lib=static={archive}");
+        println!("cargo::rustc-cfg={archive}");
     }
 }
 

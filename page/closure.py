@@ -212,6 +212,8 @@ def closure(*roots):
 def find(place):
     """CRATE/specs/FILE.antt:NAME as a declaration."""
     path, _, name = place.removeprefix("crates/").rpartition(":")
+    if not (ROOT / "crates" / path).is_file():
+        raise SystemExit(f"closure: no file for {place}\n\n{__doc__}")
     file = file_of(Path("crates", path))
     if file is None or name not in file.declared:
         raise SystemExit(f"closure: no {name} in crates/{path}")

@@ -42,10 +42,15 @@ def table_after(page, heading):
     return rows[:1] + rows[2:]
 
 
-def html_table(rows, numbers=()):
+def breaking(text):
+    """Names may be broken between their parts."""
+    return re.sub(r"<code>[^<]*</code>", lambda code: re.sub(r"::|/|: ", lambda mark: mark.group() + "<wbr>", code.group()[6:-7]).join(("<code>", "</code>")), text)
+
+
+def html_table(rows, numbers=(), kind=""):
     head = "".join(f"<th{' class=n' if at in numbers else ''}>{inline(one)}</th>" for at, one in enumerate(rows[0]))
-    body = "".join("<tr>" + "".join(f"<td{' class=n' if at in numbers else ''}>{inline(one)}</td>" for at, one in enumerate(row)) + "</tr>\n" for row in rows[1:])
-    return f"<div class=scroll><table><thead><tr>{head}</tr></thead><tbody>{body}</tbody></table></div>"
+    body = "".join("<tr>" + "".join(f"<td{' class=n' if at in numbers else ''}>{breaking(inline(one))}</td>" for at, one in enumerate(row)) + "</tr>\n" for row in rows[1:])
+    return f"<div class=scroll><table{kind}><thead><tr>{head}</tr></thead><tbody>{body}</tbody></table></div>"
 
 
 # ---- statements and definitions
@@ -105,6 +110,10 @@ def crates():
         name = row.split(":")[0]
         log = TARGET / "log" / f"{name}.out"
         text = log.read_text(errors="replace") if log.exists() else ""
+        # a crate that was not proved again, because nothing had changed: what its last proof said stands beside it, but not its time
+        before = log.with_suffix(".say")
+        if "proved (unchanged" in text and before.exists():
+            text += before.read_text(errors="replace")
         verdict = re.search(r"^logic=proved .*$", text, re.M)
         seconds = re.search(rf"^rt: {name} proved \((\d+) s\)", text, re.M)
         functions = re.search(r" functions=(\d+)", verdict.group()) if verdict else None
@@ -129,7 +138,7 @@ def edits():
 
 def refused_at(fact, rows):
     """What the log says in the fact's own file, or at its own theorem: the first error that is about a fact, else the first that only says that the proof
-    names a place which is gone; not that something else was refused. Line, name, text, and whether it is about a fact."""
+    names a place which is gone; not that something else was refused (tests/edits judges alike). Line, name, text, and whether it is about a fact."""
     unfit = None
     for row in rows or []:
         if "was not admitted" in row:
@@ -138,7 +147,7 @@ def refused_at(fact, rows):
         found = re.search(rf"({re.escape(file)}(?:/Proof)?\.antt):(\d+):\d+: error: `([^`]+)`: (.*)$", row)
         if found and (not name or found.group(3) == name):
             line, where, text = found.group(2), found.group(3), found.group(4)
-            if "has no `Need-" in text or re.match(r"record `\S+\.Lts\.", text):
+            if re.search(r"has no (?:field )?`|^record `\S+\.Lts\.", text) or (not name and where.endswith("-spec")):
                 unfit = unfit or (line, where, text, False)
             else:
                 return line, where, text, True
@@ -169,6 +178,12 @@ def said():
     return commit, tests, rows[-1] if rows else ""
 
 
+def of_c(archive):
+    """The functions that an archive takes from elsewhere, by `nm`."""
+    names = re.findall(r"^\s+U (\w+)$", "\n" + printed("nm", "-u", str(archive)), re.M) if archive.exists() else []
+    return ", ".join(f"`{name}`" for name in sorted(set(names)))
+
+
 def wake():
     """The words of a wake, from a program over the compiled library; or why there are none."""
     library = TARGET / "staticlib" / "libboundary.a"
@@ -185,9 +200,16 @@ def wake():
         return (run.stdout, None) if run.returncode == 0 else (None, run.stderr.strip())
 
 
-def git(*words):
-    run = subprocess.run(["git", *words], cwd=ROOT, capture_output=True, text=True)
+def printed(*words):
+    """What a command prints, or nothing where it is not there or fails."""
+    if not shutil.which(words[0]):
+        return ""
+    run = subprocess.run(words, cwd=ROOT, capture_output=True, text=True)
     return run.stdout.strip() if run.returncode == 0 else ""
+
+
+def git(*words):
+    return printed("git", *words)
 
 
 # ---- the page
@@ -250,7 +272,7 @@ def main():
     for number, (claim, one, proof) in enumerate(demands, 1):
         own, names = closure.closure(one)
         comment = " ".join(row.lstrip("- /") for row in one.comment.splitlines())
-        parts.append(f"<h3 id=s{number}>{inline(claim)}</h3><p class=place>{one.place}; proved as {inline(proof)}</p>")
+        parts.append(f"<h3 id=s{number}>{inline(claim)}</h3><p class=place>{one.place}; proof: {inline(proof)}</p>")
         if comment:
             parts.append(f"<p>{inline(comment)}</p>")
         parts.append(f"<pre>{linked(one, known)}</pre>")
@@ -268,14 +290,18 @@ def main():
         none = [name for name, verdict, _, _, axioms in proved if verdict and not axioms and "foreign=" not in verdict]
         parts.append("<p>The prover assumes nothing but the contracts of functions that are not Rattle's. A crate's log names those that it declares (<code>foreign=</code>), a program's and a static "
                      f"library's those that it reaches (<code>axioms</code>). {len(none)} crates of {len(done)} have none.</p>")
+        if taken := of_c(TARGET / "staticlib" / "libboundary.a"):
+            rows.append(["the static library, of C", taken])
         if len(rows) > 1:
             parts.append(html_table(rows))
+        if kit := printed("rt", "version"):
+            parts.append(f"<p>The toolchain here is <code>{escape(kit)}</code>; its logic's sum stands in each verdict.</p>")
         parts.append("<p class=faint>The line of the verdict, as the logs have it, without counts:</p><pre>" + "\n".join(sorted({escape(re.sub(r"functions=\d+ (axioms=\d+ )?", "", one[1])) for one in done})) + "</pre>")
     else:
         parts.append(absent("what is assumed, as target/log is not there"))
 
     section("calls", "The calls")
-    parts.append(html_table(table_after("docs/THEOREMS.md", "# Each call")))
+    parts.append(html_table(table_after("docs/THEOREMS.md", "# Each call"), kind=" class=calls"))
 
     section("wrong", "Wrong edits, and what refused them")
     if logs:

@@ -1,8 +1,8 @@
 #!/usr/bin/env python3
 """Checks docs/RULES.md and docs/ASSURANCE.md against the sources, so that neither can rot:
-each file and name that a row of RULES names is there; a sentence that is marked as quoted is quoted in a comment of its definition's file;
+each file and name that a row of RULES names is there; a sentence is marked as quoted exactly if a comment of its definition's file quotes it;
 every quotation in a comment of crates/ is 01's, or is listed as another's; the places and counts of ASSURANCE are those of today.
-README's layout is crates.txt's. `page/rules.py mend` writes places and counts into ASSURANCE."""
+README's layout is crates.txt's. No file of specs/ or src/ cites one of proofs/, so that what is to be believed stands in specs/. `page/rules.py mend` writes places and counts into ASSURANCE, and the marks into RULES."""
 import re
 import sys
 from pathlib import Path
@@ -86,8 +86,14 @@ def shares(quotation, sentence):
     return any(tuple(quotation[at:at + few]) in runs for at in range(len(quotation) - few + 1))
 
 
-def check_rules():
+def quotes(quotation, sentence):
+    """Whether a quotation of four words or more, or of all of them, is one of the sentence."""
+    return (len(quotation) >= 4 or quotation == sentence) and shares(quotation, sentence)
+
+
+def check_rules(mend):
     names = quoted = 0
+    page = now = RULES.read_text()
     sections, quotations = {}, {}
     for path in sorted((ROOT / "crates").rglob("*")):
         if path.suffix in (".antt", ".rt"):
@@ -108,12 +114,19 @@ def check_rules():
             path = path_of(file)
             if not (ROOT / path).exists() or not has(path, name):
                 say(f"docs/RULES.md, {number}: no {name} in {path}")
-        if marked:
-            quoted += 1
-            files = [path_of(file) for file in re.findall(r"`([A-Za-z0-9_/]+\.(?:antt|rt)): ", cells[0])]
-            if not any(shares(plain(one), plain(sentence)) for file in files for _, one in quotations.get(file, [])):
-                say(f"docs/RULES.md, {number}: is quoted no more in {', '.join(map(str, files))}")
-    others = [plain(one) for one in re.findall(r'^- "([^"]+)"', RULES.read_text(), re.M)]
+        files = [path_of(file) for file in re.findall(r"`([A-Za-z0-9_/]+\.(?:antt|rt)): ", cells[0])]
+        found = [plain(one) for file in files for _, one in quotations.get(file, [])]
+        quoted += marked
+        if marked and not any(shares(one, plain(sentence)) for one in found):
+            say(f"docs/RULES.md, {number}: is quoted no more in {', '.join(map(str, files))}")
+        if not marked and any(quotes(one, plain(sentence)) for one in found):
+            if mend:
+                now = now.replace(f"| {number} | {sentence} |   |", f"| {number} | {sentence} | ” |")
+            else:
+                say(f"docs/RULES.md, {number}: is quoted in {', '.join(map(str, files))}, and has no mark")
+    if now != page:
+        RULES.write_text(now)
+    others = [plain(one) for one in re.findall(r'^- "([^"]+)"', page, re.M)]
     count = 0
     for path, found in quotations.items():
         for line, one in found:
@@ -209,11 +222,23 @@ def check_fields():
     print(f"rules: {count} fields named in the papers")
 
 
+def check_cited():
+    """What a contract or a definition says rests on no file of proofs/."""
+    count = 0
+    for path in [*ROOT.glob("crates/*/specs/**/*.antt"), *ROOT.glob("crates/*/src/**/*.rt")]:
+        count += 1
+        if found := re.search(r"^(?:pub |ghost )?use Rattle·\S*\bproofs\b.*$", path.read_text(), re.M):
+            say(f"{path.relative_to(ROOT)} cites proofs/: {found.group()}")
+    print(f"rules: {count} files of specs/ and src/ cite none of proofs/" if not failed else f"rules: {count} files of specs/ and src/")
+
+
+check_cited()
 check_layout()
 check_names("docs/PROVING.md")
 check_fields()
-if not check_rules():
+mending = sys.argv[1:] == ["mend"]
+if not check_rules(mending):
     say("docs/RULES.md has lost its rows")
-if not check_assurance(sys.argv[1:] == ["mend"]):
+if not check_assurance(mending):
     say("docs/ASSURANCE.md has lost its places or its sums")
 sys.exit(1 if failed else 0)

@@ -1,4 +1,4 @@
-/* A script sleeps and is woken at another height, on the compiled library; prints the words at four moments, for the picture. */
+/* A script sleeps and is woken at another height, on the compiled library; prints the words at five moments, for the picture. */
 #include <stdio.h>
 #include <stdlib.h>
 

@@ -6,7 +6,8 @@
  *
  * Every call tests the words first and refuses with 11 if they are no sound machine's. A host that owns its words, and lets only these
  * functions write them, may define HUMDELZI_KEPT before this file is included: a set-up leaves a sound machine, and every call leaves it
- * sound (crates/invariant/specs/Kept.antt, crates/kept/specs/Kept.antt), so the calls are then made without the test.
+ * sound (crates/invariant/specs/Kept.antt, crates/kept/specs/Kept.antt), so the calls are then made without the test; and Resume and Yield
+ * by functions of their own (libhot.a, to be linked before libboundary.a), which do the same (crates/hot/src) several times as fast.
  */
 #ifndef HUMDELZI_H
 #define HUMDELZI_H
@@ -30,9 +31,15 @@ uint64_t bvm_set_up(HUMDELZI_EIGHT, HUMDELZI_SLICE, HUMDELZI_SLICE, HUMDELZI_SLI
 uint64_t bvm_call(HUMDELZI_EIGHT, HUMDELZI_READ, HUMDELZI_SLICE, HUMDELZI_SLICE, HUMDELZI_READ /* call */, HUMDELZI_SLICE /* answer */);
 uint64_t bvm_kept(HUMDELZI_EIGHT, HUMDELZI_READ, HUMDELZI_SLICE, HUMDELZI_SLICE, HUMDELZI_READ /* call */, HUMDELZI_SLICE /* answer */);
 uint64_t bvm_run(HUMDELZI_EIGHT, HUMDELZI_READ, HUMDELZI_SLICE, HUMDELZI_SLICE, HUMDELZI_READ /* calls */, HUMDELZI_SLICE /* answers */);
+/* The same in an archive of its own (`-lbatch`), several times as fast where the calls are switches. */
+uint64_t bvm_batch(HUMDELZI_EIGHT, HUMDELZI_READ, HUMDELZI_SLICE, HUMDELZI_SLICE, HUMDELZI_READ /* calls */, HUMDELZI_SLICE /* answers */);
 uint64_t bvm_look(HUMDELZI_EIGHT_READ, HUMDELZI_READ, HUMDELZI_READ, HUMDELZI_READ, HUMDELZI_SLICE /* span */);
 uint64_t bvm_grant(HUMDELZI_EIGHT_READ, HUMDELZI_READ, HUMDELZI_READ, HUMDELZI_SLICE, HUMDELZI_SLICE /* answer */, uint64_t amount);
 uint64_t bvm_sound(HUMDELZI_EIGHT_READ, HUMDELZI_READ, HUMDELZI_READ, HUMDELZI_READ);
+
+/* in libhot.a: bvm_kept of one call, with its operands by value */
+uint64_t bvm_resume(HUMDELZI_EIGHT, HUMDELZI_READ, HUMDELZI_SLICE, HUMDELZI_SLICE, HUMDELZI_SLICE /* answer */, uint32_t pc, uint16_t dst, uint16_t coro, uint16_t src);
+uint64_t bvm_yield(HUMDELZI_EIGHT, HUMDELZI_READ, HUMDELZI_SLICE, HUMDELZI_SLICE, HUMDELZI_SLICE /* answer */, uint32_t pc, uint16_t dst, uint16_t src);
 
 /* ---- a machine */
 
@@ -109,10 +116,15 @@ static inline uint64_t humdelzi_call(humdelzi_machine *m, humdelzi_fuel *f, humd
 HUMDELZI_CALL(coro_new, , uint32_t pc, uint16_t dst, uint32_t function, uint8_t count) { return humdelzi_call(m, f, a, 0, pc, dst, function, count, 0); }
 HUMDELZI_CALL(coro_new_indirect, , uint32_t pc, uint16_t dst, uint16_t callee, uint8_t count) { return humdelzi_call(m, f, a, 1, pc, dst, callee, count, 0); }
 HUMDELZI_CALL(spawn, , uint32_t pc, uint16_t dst, uint16_t callee, uint8_t count) { return humdelzi_call(m, f, a, 2, pc, dst, callee, count, 0); }
+#ifdef HUMDELZI_KEPT
+HUMDELZI_CALL(yield, , uint32_t pc, uint16_t dst, uint16_t src) { return bvm_yield(HUMDELZI_NINE(m), m->machine, 25, &f->left, 4, &a->number, 8, pc, dst, src); }
+HUMDELZI_CALL(resume, , uint32_t pc, uint16_t dst, uint16_t coro, uint16_t src) { return bvm_resume(HUMDELZI_NINE(m), m->machine, 25, &f->left, 4, &a->number, 8, pc, dst, coro, src); }
+#else
 HUMDELZI_CALL(yield, , uint32_t pc, uint16_t dst, uint16_t src) { return humdelzi_call(m, f, a, 3, pc, dst, src, 0, 0); }
+HUMDELZI_CALL(resume, , uint32_t pc, uint16_t dst, uint16_t coro, uint16_t src) { return humdelzi_call(m, f, a, 6, pc, dst, coro, src, 0); }
+#endif
 HUMDELZI_CALL(yield_kv, , uint32_t pc, uint16_t dst, uint16_t src, uint16_t key) { return humdelzi_call(m, f, a, 4, pc, dst, src, key, 0); }
 HUMDELZI_CALL(await, , uint32_t pc, uint16_t dst, uint16_t src) { return humdelzi_call(m, f, a, 5, pc, dst, src, 0, 0); }
-HUMDELZI_CALL(resume, , uint32_t pc, uint16_t dst, uint16_t coro, uint16_t src) { return humdelzi_call(m, f, a, 6, pc, dst, coro, src, 0); }
 HUMDELZI_CALL(resume_throw, , uint32_t pc, uint16_t dst, uint16_t coro, uint16_t src) { return humdelzi_call(m, f, a, 7, pc, dst, coro, src, 0); }
 HUMDELZI_CALL(coro_close, , uint32_t pc, uint16_t dst, uint16_t coro, uint16_t src) { return humdelzi_call(m, f, a, 8, pc, dst, coro, src, 0); }
 HUMDELZI_CALL(coro_status, , uint32_t pc, uint16_t dst, uint16_t coro) { return humdelzi_call(m, f, a, 9, pc, dst, coro, 0, 0); }

@@ -18,6 +18,11 @@
 //!   that passes the test passes with the record of any other that does
 //!   (`any-fuel` there, from `AnyFuel` of
 //!   `crates/lent_claims/specs/Fuel.antt`).
+//! - `bvm_resume` and `bvm_yield` ask for what `bvm_kept` asks for, and leave
+//!   what it leaves of the same call: the contract of each, in
+//!   `crates/hot/src/resume.rt` and `yielding.rt`, is `bvm_kept`'s equation
+//!   (`keptIn` of `crates/boundary/specs/Host.antt`). So what is said of
+//!   `bvm_kept` above holds of them.
 
 #![allow(unsafe_code)]
 
@@ -38,9 +43,9 @@ pub(crate) struct Sound(Words);
 pub(crate) struct Record([u64; 4]);
 
 /// The library's functions. Each is lent the machine's nine slices and its
-/// numbers, as a pointer and a length each, then other slices.
+/// numbers, as a pointer and a length each, then other slices, then operands.
 macro_rules! functions {
-    ($($name:ident($($slice:ident)*) $pointer:ty;)*) => {
+    ($($name:ident($($slice:ident)* $(; $($operand:ident: $kind:ty),*)?) $pointer:ty;)*) => {
         extern "C" {
             $(fn $name(
                 stack: $pointer, _: usize,
@@ -54,6 +59,7 @@ macro_rules! functions {
                 setup: $pointer, _: usize,
                 machine: $pointer, _: usize,
                 $($slice: $pointer, _: usize,)*
+                $($($operand: $kind,)*)?
             ) -> u64;)*
         }
     };
@@ -62,12 +68,14 @@ macro_rules! functions {
 functions! {
     bvm_set_up(fuel given answer) *mut u64;
     bvm_kept(fuel call answer) *mut u64;
+    bvm_resume(fuel answer; pc: u32, dst: u16, coro: u16, src: u16) *mut u64;
+    bvm_yield(fuel answer; pc: u32, dst: u16, src: u16) *mut u64;
     bvm_sound(fuel) *const u64;
 }
 
-/// Calls one of them, with the words and then the other slices.
+/// Calls one of them, with the words, the other slices and the operands.
 macro_rules! lend {
-    ($name:ident($words:expr, $($slice:expr),*) $pointer:ident) => {{
+    ($name:ident($words:expr, $($slice:expr),* $(; $($operand:expr),*)?) $pointer:ident) => {{
         let w = $words;
         // SAFETY: above.
         unsafe {
@@ -83,6 +91,7 @@ macro_rules! lend {
                 w.setup.$pointer(), w.setup.len(),
                 w.machine.$pointer(), w.machine.len(),
                 $($slice.$pointer(), $slice.len(),)*
+                $($($operand,)*)?
             )
         }
     }};
@@ -121,6 +130,20 @@ impl Sound {
     pub(crate) fn kept(&mut self, fuel: &mut Record, mut call: CallWords) -> AnswerWords {
         let mut answer = [0; 8];
         lend!(bvm_kept(&mut self.0, fuel.0, call, answer) as_mut_ptr);
+        answer
+    }
+
+    /// Resume: `kept` of the call 6.
+    pub(crate) fn resume(&mut self, fuel: &mut Record, pc: u32, r: [u16; 3]) -> AnswerWords {
+        let (mut answer, [dst, coro, src]) = ([0; 8], r);
+        lend!(bvm_resume(&mut self.0, fuel.0, answer; pc, dst, coro, src) as_mut_ptr);
+        answer
+    }
+
+    /// Yield: `kept` of the call 3.
+    pub(crate) fn yields(&mut self, fuel: &mut Record, pc: u32, r: [u16; 2]) -> AnswerWords {
+        let (mut answer, [dst, src]) = ([0; 8], r);
+        lend!(bvm_yield(&mut self.0, fuel.0, answer; pc, dst, src) as_mut_ptr);
         answer
     }
 

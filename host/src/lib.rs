@@ -2,8 +2,9 @@
 //!
 //! A [`Machine`] owns the words of one machine; each of the 28 calls of "01",
 //! the build description with the exact rules (`docs/RULES.md`), is a method
-//! with typed operands, and answers an [`Answer`]. The functions behind it are compiled from proved code (`crates/boundary`): answers and
-//! words are those of the definitions, for every call.
+//! with typed operands, and answers an [`Answer`]. The functions behind it are
+//! compiled from proved code (`crates/boundary`, and `crates/hot` for Resume and
+//! Yield): answers and words are those of the definitions, for every call.
 //!
 //! The words are private. A set-up leaves a sound machine, every call leaves
 //! a sound machine sound (`crates/invariant/specs/Kept.antt`, and of the code

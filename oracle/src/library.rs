@@ -41,6 +41,11 @@ functions! {
     bvm_yield(answer; pc: u32, dst: u16, src: u16);
 }
 
+#[cfg(batch)]
+functions! {
+    bvm_batch(calls answers);
+}
+
 const GUARD: u64 = 0x5AFE_5AFE_5AFE_5AFE;
 /// Guard words on each side.
 const AROUND: usize = 4;
@@ -192,15 +197,34 @@ impl Lent {
     }
 
     /// Calls in words, one after the other; the answers have so many words,
-    /// and as many more as are not to be written.
+    /// and as many more as are not to be written. Where `bvm_batch` is linked
+    /// it must leave and answer the same, word for word.
     pub fn run(&mut self, calls: &[u64], answers: usize, more: usize) -> (u64, Vec<u64>) {
+        #[cfg(batch)]
+        let batch = self.clone().batch(calls, answers + more);
         let mut calls = Guarded::new(calls);
         let mut all = Guarded::new(&vec![GUARD; answers + more]);
         let (c, a) = (lent(calls.slice()), lent(all.slice()));
         let number = lend!(bvm_run(self.all(), c, a));
+        #[cfg(batch)]
+        {
+            let (lent, n, told) = batch;
+            assert_eq!((n, told.as_slice()), (number, all.words()), "bvm_batch beside bvm_run");
+            assert!(lent.is(&self.words()), "bvm_batch leaves what bvm_run leaves");
+        }
         let (told, beyond) = all.words().split_at(answers);
         assert!(beyond.iter().all(|&w| w == GUARD), "beyond the last answer nothing is written");
         (number, told.to_vec())
+    }
+
+    /// The memory that `bvm_batch` leaves, its number and its answers.
+    #[cfg(batch)]
+    fn batch(mut self, calls: &[u64], answers: usize) -> (Lent, u64, Vec<u64>) {
+        let mut calls = Guarded::new(calls);
+        let mut all = Guarded::new(&vec![GUARD; answers]);
+        let (c, a) = (lent(calls.slice()), lent(all.slice()));
+        let number = lend!(bvm_batch(self.all(), c, a));
+        (self, number, all.words().to_vec())
     }
 
     pub fn look(&mut self) -> (u64, [u64; 2]) {
@@ -231,6 +255,8 @@ impl Lent {
             ("bvm_grant", lend!(bvm_grant(self.all(), a; 1))),
             ("bvm_set_up", lend!(bvm_set_up(self.all(), c, a))),
         ];
+        #[cfg(batch)]
+        assert_eq!(lend!(bvm_batch(self.all(), c, a)), 14, "bvm_batch");
         assert!(answer.words().iter().all(|&w| w == GUARD), "nothing is written");
         told
     }
@@ -295,6 +321,14 @@ impl Bare {
     pub fn run(&mut self, calls: &mut [u64], answers: &mut [u64]) -> u64 {
         let (c, a) = (lent(calls), lent(answers));
         lend!(bvm_run(self.slices, c, a))
+    }
+
+    /// The same by `bvm_batch`.
+    #[cfg(batch)]
+    #[inline]
+    pub fn batch(&mut self, calls: &mut [u64], answers: &mut [u64]) -> u64 {
+        let (c, a) = (lent(calls), lent(answers));
+        lend!(bvm_batch(self.slices, c, a))
     }
 
     /// Resume, without the test of soundness.

@@ -11,6 +11,7 @@ use Rattle.lists.specs.Parts.{splice}
 use Rattle.heap.specs.declared.fault.Fault.{Fault}
 use Rattle.model.specs.Answer.{numberOf}
 use Rattle.model.specs.declared.call.Answer.{Answer}
+use Rattle.model.specs.declared.program.Costs.{Costs}
 use Rattle.model.specs.declared.machine.Fuel.{Fuel}
 use Rattle.soundness.proofs.Tests.{and-left, and-right}
 use Rattle.memory.specs.Memory.{Lent}
@@ -25,57 +26,41 @@ use Rattle.lent.specs.Step.{State, Left, isSound}
 use Rattle.outer.specs.State.{state, gives}
 use Rattle.run.specs.Run.{doWords, ReadFits, Reads}
 use Rattle.boundary.specs.Words.{machineIn, machineWords, sizesIn, fuelIn, fuelWords}
-use Rattle.boundary.specs.Host.{numbersOk, sameSizes, sizesHeld, Host, host, stateOf, tested, Gave, gave, tells, over, keptIn, doIn, callIn}
+use Rattle.boundary.specs.Host.{numbersOk, sameCosts, sameSizes, sizesHeld, Host, host, stateOf, tested, Gave, gave, tells, over, keptIn, doIn, callIn}
 
 -- sizes that are the same
+and-same : (p : Bool) (x y : ℕ) → (p && eqb x y) ≡ true → (p ≡ true) × (x ≡ y)
+and-same p x y h = (and-left p (eqb x y) h, eqb-true x y (and-right p (eqb x y) h))
+
+costs-same : (c d : Costs) → sameCosts c d ≡ true → c ≡ d
+costs-same c d h =
+    let two = eqb (c .frame) (d .frame) && eqb (c .coro) (d .coro) in
+    let three = two && eqb (c .object) (d .object) in
+    let four = three && eqb (c .int) (d .int) in
+    let five = four && eqb (c .error) (d .error) in
+    let iter = and-same five (c .iter) (d .iter) h in
+    let error = and-same four (c .error) (d .error) (iter .0) in
+    let int = and-same three (c .int) (d .int) (error .0) in
+    let object = and-same two (c .object) (d .object) (int .0) in
+    let coro = and-same (eqb (c .frame) (d .frame)) (c .coro) (d .coro) (object .0) in
+    let frame = eqb-true (c .frame) (d .frame) (coro .0) in
+    λ i. record { frame = frame i; coro = coro .1 i; object = object .1 i; int = int .1 i; error = error .1 i; iter = iter .1 i }
+
 pub sizes-same : (a b : Sizes) → sameSizes a b ≡ true → a ≡ b
 sizes-same a b h =
-    let p1 = eqb (a .depth) (b .depth) in
-    let p2 = p1 && eqb (a .stack) (b .stack) in
-    let p3 = p2 && eqb (a .rows) (b .rows) in
-    let p4 = p3 && eqb (a .slots) (b .slots) in
-    let p5 = p4 && eqb (a .memory) (b .memory) in
-    let p6 = p5 && eqb (a .width) (b .width) in
-    let p7 = p6 && eqb (a .costs .frame) (b .costs .frame) in
-    let p8 = p7 && eqb (a .costs .coro) (b .costs .coro) in
-    let p9 = p8 && eqb (a .costs .object) (b .costs .object) in
-    let p10 = p9 && eqb (a .costs .int) (b .costs .int) in
-    let p11 = p10 && eqb (a .costs .error) (b .costs .error) in
-    let p12 = p11 && eqb (a .costs .iter) (b .costs .iter) in
-    let h12 : p12 ≡ true = h in
-    let h11 = and-left p11 (eqb (a .costs .iter) (b .costs .iter)) h12 in
-    let h10 = and-left p10 (eqb (a .costs .error) (b .costs .error)) h11 in
-    let h9 = and-left p9 (eqb (a .costs .int) (b .costs .int)) h10 in
-    let h8 = and-left p8 (eqb (a .costs .object) (b .costs .object)) h9 in
-    let h7 = and-left p7 (eqb (a .costs .coro) (b .costs .coro)) h8 in
-    let h6 = and-left p6 (eqb (a .costs .frame) (b .costs .frame)) h7 in
-    let h5 = and-left p5 (eqb (a .width) (b .width)) h6 in
-    let h4 = and-left p4 (eqb (a .memory) (b .memory)) h5 in
-    let h3 = and-left p3 (eqb (a .slots) (b .slots)) h4 in
-    let h2 = and-left p2 (eqb (a .rows) (b .rows)) h3 in
-    let h1 = and-left p1 (eqb (a .stack) (b .stack)) h2 in
-    let e1 = eqb-true (a .depth) (b .depth) h1 in
-    let e2 = eqb-true (a .stack) (b .stack) (and-right p1 (eqb (a .stack) (b .stack)) h2) in
-    let e3 = eqb-true (a .rows) (b .rows) (and-right p2 (eqb (a .rows) (b .rows)) h3) in
-    let e4 = eqb-true (a .slots) (b .slots) (and-right p3 (eqb (a .slots) (b .slots)) h4) in
-    let e5 = eqb-true (a .memory) (b .memory) (and-right p4 (eqb (a .memory) (b .memory)) h5) in
-    let e6 = eqb-true (a .width) (b .width) (and-right p5 (eqb (a .width) (b .width)) h6) in
-    let e7 = eqb-true (a .costs .frame) (b .costs .frame) (and-right p6 (eqb (a .costs .frame) (b .costs .frame)) h7) in
-    let e8 = eqb-true (a .costs .coro) (b .costs .coro) (and-right p7 (eqb (a .costs .coro) (b .costs .coro)) h8) in
-    let e9 = eqb-true (a .costs .object) (b .costs .object) (and-right p8 (eqb (a .costs .object) (b .costs .object)) h9) in
-    let e10 = eqb-true (a .costs .int) (b .costs .int) (and-right p9 (eqb (a .costs .int) (b .costs .int)) h10) in
-    let e11 = eqb-true (a .costs .error) (b .costs .error) (and-right p10 (eqb (a .costs .error) (b .costs .error)) h11) in
-    let e12 = eqb-true (a .costs .iter) (b .costs .iter) (and-right p11 (eqb (a .costs .iter) (b .costs .iter)) h12) in
-    λ i.
-    record {
-      depth = e1 i;
-      stack = e2 i;
-      rows = e3 i;
-      slots = e4 i;
-      memory = e5 i;
-      width = e6 i;
-      costs = record { frame = e7 i; coro = e8 i; object = e9 i; int = e10 i; error = e11 i; iter = e12 i };
-    }
+    let two = eqb (a .depth) (b .depth) && eqb (a .stack) (b .stack) in
+    let three = two && eqb (a .rows) (b .rows) in
+    let four = three && eqb (a .slots) (b .slots) in
+    let five = four && eqb (a .memory) (b .memory) in
+    let limits = five && eqb (a .width) (b .width) in
+    let costs = costs-same (a .costs) (b .costs) (and-right limits (sameCosts (a .costs) (b .costs)) h) in
+    let width = and-same five (a .width) (b .width) (and-left limits (sameCosts (a .costs) (b .costs)) h) in
+    let memory = and-same four (a .memory) (b .memory) (width .0) in
+    let slots = and-same three (a .slots) (b .slots) (memory .0) in
+    let rows = and-same two (a .rows) (b .rows) (slots .0) in
+    let stack = and-same (eqb (a .depth) (b .depth)) (a .stack) (b .stack) (rows .0) in
+    let depth = eqb-true (a .depth) (b .depth) (stack .0) in
+    λ i. record { depth = depth i; stack = stack .1 i; rows = rows .1 i; slots = slots .1 i; memory = memory .1 i; width = width .1 i; costs = costs i }
 
 -- ---- the numbers' words
 

@@ -10,6 +10,7 @@ use Rattle.lists.specs.Parts.{splice}
 use Rattle.heap.specs.declared.fault.Fault.{Fault}
 use Rattle.model.specs.Answer.{numberOf}
 use Rattle.model.specs.Frames.{topBase}
+use Rattle.model.specs.declared.program.Costs.{Costs}
 use Rattle.model.specs.declared.call.Op.{Op}
 use Rattle.model.specs.declared.call.Answer.{Answer}
 use Rattle.memory.specs.Memory.{Lent}
@@ -44,12 +45,15 @@ numbersOk ms fs =
     leb 25 (length ms) && leb 4 (length fs) && leb (getD ms 6 0) 1 && leb (getD fs 3 0) 1
     && (eqb (getD fs 1 0) 1 || eqb (getD fs 1 0) 0 && eqb (getD fs 2 0) 0)
 
+abbrev pub sameCosts : Costs → Costs → Bool
+sameCosts c d =
+    eqb (c .frame) (d .frame) && eqb (c .coro) (d .coro) && eqb (c .object) (d .object) && eqb (c .int) (d .int) && eqb (c .error) (d .error)
+    && eqb (c .iter) (d .iter)
+
 abbrev pub sameSizes : Sizes → Sizes → Bool
 sameSizes a b =
     eqb (a .depth) (b .depth) && eqb (a .stack) (b .stack) && eqb (a .rows) (b .rows) && eqb (a .slots) (b .slots) && eqb (a .memory) (b .memory)
-    && eqb (a .width) (b .width) && eqb (a .costs .frame) (b .costs .frame) && eqb (a .costs .coro) (b .costs .coro)
-    && eqb (a .costs .object) (b .costs .object) && eqb (a .costs .int) (b .costs .int) && eqb (a .costs .error) (b .costs .error)
-    && eqb (a .costs .iter) (b .costs .iter)
+    && eqb (a .width) (b .width) && sameCosts (a .costs) (b .costs)
 
 -- the sizes beside the numbers are the set-up's
 abbrev pub sizesHeld : List ℕ → List ℕ → Bool

@@ -5,11 +5,13 @@ ghost use lib.ListN.{length};
 ghost use Rattle.memory.specs.Contract.{atEntry};
 ghost use Rattle.outer.specs.State.{nine};
 ghost use Rattle.boundary.specs.Words.{sizesIn};
-ghost use Rattle.boundary.specs.Host.{numbersOk, sameSizes, host, tested, HoldFits, sizesHeld, oneOr};
+ghost use Rattle.boundary.specs.Host.{numbersOk, sameCosts, sameSizes, host, tested, HoldFits, sizesHeld, oneOr};
 use crate::numbers::fuel_of;
 use crate::numbers::machine_of;
 use crate::numbers::sizes_of;
+use exec::operands::both;
 use memory::machine::Sizes;
+use model::program::Costs;
 use sound_words::whole::sound_words;
 
 // A flag is 0 or 1; an amount is set aside only where there is a bank.
@@ -37,45 +39,25 @@ pub(crate) fn numbers_ok(machine: &[u64], fuel: &[u64]) -> bool
     fuel[2] == 0
 }
 
+fn same_costs(c: Costs, d: Costs) -> bool
+    ensures { λ r. ⌜ r ≡ sameCosts c d ⌝ }
+{
+    let two = both(c.frame == d.frame, c.coro == d.coro);
+    let three = both(two, c.object == d.object);
+    let four = both(three, c.int == d.int);
+    let five = both(four, c.error == d.error);
+    both(five, c.iter == d.iter)
+}
+
 fn same_sizes(a: Sizes, b: Sizes) -> bool
     ensures { λ r. ⌜ r ≡ sameSizes a b ⌝ }
 {
-    let c = a.costs;
-    let d = b.costs;
-    if a.depth != b.depth {
-        return false;
-    }
-    if a.stack != b.stack {
-        return false;
-    }
-    if a.rows != b.rows {
-        return false;
-    }
-    if a.slots != b.slots {
-        return false;
-    }
-    if a.memory != b.memory {
-        return false;
-    }
-    if a.width != b.width {
-        return false;
-    }
-    if c.frame != d.frame {
-        return false;
-    }
-    if c.coro != d.coro {
-        return false;
-    }
-    if c.object != d.object {
-        return false;
-    }
-    if c.int != d.int {
-        return false;
-    }
-    if c.error != d.error {
-        return false;
-    }
-    c.iter == d.iter
+    let two = both(a.depth == b.depth, a.stack == b.stack);
+    let three = both(two, a.rows == b.rows);
+    let four = both(three, a.slots == b.slots);
+    let five = both(four, a.memory == b.memory);
+    let limits = both(five, a.width == b.width);
+    both(limits, same_costs(a.costs, b.costs))
 }
 
 fn sizes_held(machine: &[u64], setup: &[u64]) -> bool

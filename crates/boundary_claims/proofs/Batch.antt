@@ -1,11 +1,9 @@
 -- A batch is a list of calls. Assumes nothing.
 use Prim.Native.Nat.{ℕ, zero, suc}
-use mathlib.Core.Path.{_≡_, refl, sym, ap, subst}
+use mathlib.Core.Path.{_≡_, refl, ap}
 use mathlib.Core.Bool.{Bool, true}
 use mathlib.Core.List.{List, [], _∷_, _++_}
 use lib.ListN.{length, getD, take, drop}
-use Rattle.lists.specs.Pick.{pick}
-use Rattle.heap.specs.declared.fault.Fault.{Fault}
 use Rattle.model.specs.Lists.{each, each-first, each-rest}
 use Rattle.model.specs.Call.{isWord, Operation}
 use Rattle.model.specs.declared.call.Answer.{Answer}
@@ -14,7 +12,7 @@ use Rattle.calls.specs.Call.{opOf}
 use Rattle.calls.specs.declared.call.Read.{Read}
 use Rattle.calls.proofs.Typed.{read-typed}
 use Rattle.claims.specs.Engine.{run}
-use Rattle.lent.specs.Step.{State, isSound, Call, Do, step, stepWords}
+use Rattle.lent.specs.Step.{State, Call, Do, step, stepWords}
 use Rattle.lent_claims.specs.Engine.{outer}
 use Rattle.run.specs.Run.{doWords, runWords, callsIn}
 use Rattle.boundary_claims.specs.Batch.{Calls, none, is, not, Listed, Batch}

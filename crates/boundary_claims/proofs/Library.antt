@@ -39,11 +39,10 @@ use Rattle.lent.proofs.Kept.{words-kept, untested}
 use Rattle.lent.proofs.Sentences.{sentences}
 use Rattle.lent_claims.specs.Engine.{outer}
 use Rattle.lent_claims.proofs.Fuel as Fuel
-use Rattle.run.specs.Run.{doWords, Ran, runWords, countOf, callsIn, written, refusals, RunLeft, ends, runIn}
+use Rattle.run.specs.Run.{doWords, runWords, countOf, callsIn, written}
 use Rattle.boundary.specs.Words.{machineWords, sizesIn, sizesWords, fuelIn, fuelWords}
 use Rattle.boundary.specs.Host.{numbersOk, sameSizes, Host, host, stateOf, tested, Gave, gave, tells, over, keptIn, callIn, Granted, freshIn, setUpIn, runHost}
-use Rattle.boundary.proofs.Hosts.{numbers, sound, sizes, done}
-use Rattle.boundary.proofs.Hosts as Hosts
+use Rattle.boundary.proofs.Hosts.{numbers, sound, sizes}
 use Rattle.boundary_claims.specs.Batch.{Calls, none, is, not}
 use Rattle.boundary_claims.specs.Library.{NoFault, unknown, none-such, Library}
 use Rattle.boundary_claims.proofs.Answered.{kept, told, no-room, unseen, begun-by, long-in, set-up-is, not-begun, all, ran-by, run-is, answered, not-run}

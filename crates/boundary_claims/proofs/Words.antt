@@ -162,6 +162,6 @@ pub sizes-self : (l : Sizes) → sameSizes l l ≡ true
 sizes-self l =
     let e : (n : ℕ) → eqb n n ≡ true = λ n. eq-eqb n n refl in
     let c = l .costs in
-    both (both (both (both (both (both (both (both (both (both (both
-    (e (l .depth)) (e (l .stack))) (e (l .rows))) (e (l .slots))) (e (l .memory))) (e (l .width)))
-    (e (c .frame))) (e (c .coro))) (e (c .object))) (e (c .int))) (e (c .error))) (e (c .iter))
+    both
+    (both (both (both (both (both (e (l .depth)) (e (l .stack))) (e (l .rows))) (e (l .slots))) (e (l .memory))) (e (l .width)))
+    (both (both (both (both (both (e (c .frame)) (e (c .coro))) (e (c .object))) (e (c .int))) (e (c .error))) (e (c .iter)))

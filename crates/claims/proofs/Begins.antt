@@ -4,7 +4,7 @@ use native.Mathlib.Omega.{arith}
 use mathlib.Core.Path.{_≡_, refl, sym, ap, _∙_}
 use mathlib.Core.Bool.{Bool, true, false, _&&_, false≢true}
 use mathlib.Core.List.{List, [], _∷_, map}
-use mathlib.Core.Option.{Option, none, some}
+use mathlib.Core.Option.{Option, none, some, orElse}
 use lib.ListN.{length}
 use lib.Dec.{eqb}
 use Rattle.lists.specs.Pick.{pick, pick-true}
@@ -15,7 +15,7 @@ use Rattle.model.specs.declared.machine.Driver.{Driver}
 use Rattle.model.specs.declared.machine.Frame.{Frame}
 use Rattle.model.specs.declared.call.Op.{Op}
 use Rattle.claims.specs.Engine.{Seen, View, isNew, sleeps, seenIn, is}
-use Rattle.claims.specs.Says.{Sent, nothing, gets, closes, Aim, enter, suspend, neither, Does, instr, hosts, finishes, raises, other, doing, Entry, entry, fits, named, cleaned, banked, orElse, charged, whomBy, whom}
+use Rattle.claims.specs.Says.{Sent, nothing, gets, closes, Aim, enter, suspend, neither, Does, instr, hosts, finishes, raises, other, doing, Entry, entry, fits, named, cleaned, banked, charged, whomBy, whom}
 use Rattle.claims.specs.Held.{AllMoved}
 use Rattle.claims.specs.Steps.{seenOf}
 use Rattle.claims.proofs.Held.{coreIn}
@@ -70,6 +70,7 @@ module _ (v : View) where
       either (is v sleeps c && fits v c) (some (entry c Driver.Finalize (closes 0) pc)) (cleaned v pc queue) (λ s n. absurd (not-both (v .coro c) (and-left (is v sleeps c) (fits v c) s) n)) (cleaned-unsent pc queue)
 
   or-unsent : (x y : Option Entry) → Unsent x → Unsent y → Unsent (orElse x y)
+  unfolding orElse
   or-unsent none y f g = g
   or-unsent (some e) y f g = f
 

@@ -184,7 +184,7 @@ entry-shape c v w = go (isNil (w .frames)) refl
     go true h =
         tried (hostArrive v (e .world) (e .answer) .world) h
         (subst (Tried w 0 c Driver.Host (gets v)) (hosted-world v (e .world) (e .answer))
-        (try-at w 0 c Driver.Host v w (record { setup = refl; stack = refl; frames = top (w .frames) h; chain = refl; slots = refl }) done))
+        (try-at w 0 c Driver.Host v w (record { setup = refl; stack = refl; frames = top (w .frames) h; chain = refl; slots = refl; used = refl }) done))
 
 -- ---- finish and unwind
 

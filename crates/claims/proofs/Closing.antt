@@ -6,11 +6,9 @@ use mathlib.Core.Logic.{_⊎_, inl, inr}
 use mathlib.Core.Bool.{Bool, true, false, _||_}
 use mathlib.Core.List.{List, _∷_}
 use mathlib.Core.Option.{none}
-use lib.ListN.{length}
 use Rattle.lists.specs.Pick.{pick}
 use Rattle.heap.specs.declared.object.CoroState.{CoroState}
 use Rattle.model.specs.State.{isCreated, isRunning, isAwaiting, isSuspended}
-use Rattle.model.specs.Program.{func}
 use Rattle.model.specs.Object.{Coroutine, Absent, Is}
 use Rattle.model.specs.World.{World}
 use Rattle.model.specs.Heap.{coro}
@@ -21,8 +19,8 @@ use Rattle.claims.specs.Engine.{seenIn, is, awaits}
 use Rattle.claims.specs.Says.{Does, doing}
 use Rattle.claims.specs.Held.{closer}
 use Rattle.claims.specs.Demand3 as D
-use Rattle.claims.specs.Events.{isAwait, lives, Fixed}
-use Rattle.claims.specs.Steps.{seenOf, viewOf, opOf, steps}
+use Rattle.claims.specs.Events.{isAwait, lives}
+use Rattle.claims.specs.Steps.{seenOf, rulesOf, viewOf, opOf, steps}
 use Rattle.claims.proofs.Entry as E
 use Rattle.claims.proofs.Held.{Seat, coreIn, coreAt}
 use Rattle.claims.proofs.Split.{next, Suspends, restarts}
@@ -53,24 +51,13 @@ setup-stays (suspended p ok s dst x a chain e q t) = t .setup
 setup-stays (returns v x f fs a chain e en g t u) = u .setup ∙ setup-worked t
 setup-stays (stops e i t) = t .setup
 
-pub fixed : (w : World) (k : Call) → (D.Restarts steps w k → ⊥) → Fixed (viewOf w) (viewOf (next w k))
-fixed w k h = of (next w k) (go (next w k) (step-case w k) (restarts-old w k h))
+pub fixed : (w : World) (k : Call) → (D.Restarts steps w k → ⊥) → rulesOf (next w k .setup) ≡ rulesOf (w .setup)
+fixed w k h = ap rulesOf (go (next w k) (step-case w k) (restarts-old w k h))
   where
     go : {k : Call} (z : World) → StepCase w k z → restarts k ≡ false → z .setup ≡ w .setup
     go z (anew s e) q = no-both e q
     go z (same k e) q = refl
     go z (does o e) q = setup-stays (shape w (o .op))
-
-    of : (z : World) → z .setup ≡ w .setup → Fixed (viewOf w) (viewOf z)
-    of z e = record {
-      depth = ap (λ s. s .limits .depth) e;
-      height = ap (λ s. s .limits .stack) e;
-      functions = ap (λ s. length (s .functions)) e;
-      handlers = λ f. ap (λ s. func s f .handlers) e;
-      memory = ap (λ s. s .limits .memory) e;
-      frame-cost = ap (λ s. s .costs .frame) e;
-      int-cost = ap (λ s. s .costs .int) e;
-    }
 
 -- ---- one that lives
 

@@ -99,7 +99,7 @@ suspend-case s dst x keys t = go (t .chain) refl
     go [] e = z-out Fault.CannotSuspend
     go (a ∷ chain) e = deep a chain e (leb (length (t .frames)) (a .floor))
 
-keys-closing : (keys : Keys) (r : Rest) → setKeys keys r .closing ≡ r .closing
+pub keys-closing : (keys : Keys) (r : Rest) → setKeys keys r .closing ≡ r .closing
 keys-closing Keys.Keep r = refl
 keys-closing (Keys.Set key largest) r = refl
 

@@ -144,6 +144,7 @@ pub record Stored (p : ℕ) (w u : World) : Type 0 where
   pub frames : u .frames ≡ onTop (setPc p) (w .frames)
   pub chain : u .chain ≡ w .chain
   pub slots : u .slots ≡ w .slots
+  pub used : u .used ≡ w .used
 
 pub length-top : (g : Frame → Frame) (fs : List Frame) → length (onTop g fs) ≡ length fs
 length-top g [] = refl
@@ -200,14 +201,14 @@ is-in true x = refl
 is-in false x = refl
 
 pub start-case : (p : ℕ) (w u : World) → Stored p w u → (n : ℕ) (q : List ℕ) → StartCase p w u q (startFrom n q u)
-start-case p w u s n [] = s-none n (setFinalizing false (withFinalize [] u)) refl (record { setup = s .setup; stack = s .stack; frames = s .frames; chain = s .chain; slots = s .slots })
+start-case p w u s n [] = s-none n (setFinalizing false (withFinalize [] u)) refl (record { setup = s .setup; stack = s .stack; frames = s .frames; chain = s .chain; slots = s .slots; used = s .used })
 start-case p w u s n (c ∷ q) = go (coroEnter c Driver.Finalize (withFinalize q u)) (enter-case c Driver.Finalize (withFinalize q u)) (start-case p w u s (suc n) q)
   where
     v : World
     v = withFinalize q u
 
     sv : Stored p w v
-    sv = record { setup = s .setup; stack = s .stack; frames = s .frames; chain = s .chain; slots = s .slots }
+    sv = record { setup = s .setup; stack = s .stack; frames = s .frames; chain = s .chain; slots = s .slots; used = s .used }
 
     same : (x : Coroutine) → acceptsAs x v ≡ acceptsAs x u
     same Absent = refl
@@ -241,7 +242,7 @@ start-case p w u s n (c ∷ q) = go (coroEnter c Driver.Finalize (withFinalize q
 
 -- v is w after a charge that started nothing: as it was, or with the caller's pc
 pub data Ready (p : ℕ) (w v : World) : Type 0 where
-  r-same : v .setup ≡ w .setup → v .stack ≡ w .stack → v .frames ≡ w .frames → v .chain ≡ w .chain → v .slots ≡ w .slots → Ready p w v
+  r-same : v .setup ≡ w .setup → v .stack ≡ w .stack → v .frames ≡ w .frames → v .chain ≡ w .chain → v .slots ≡ w .slots → v .used ≡ w .used → Ready p w v
   r-stored : Stored p w v → Ready p w v
 
 pub data ChargeCase (p : ℕ) (w : World) : After Charge → Type 0 where
@@ -257,23 +258,23 @@ charge-case p w = fast (eqb (w .fuel .fuel) 0)
     u = unbank (storePc p (unbank w))
 
     su : Stored p w u
-    su = record { setup = refl; stack = refl; frames = refl; chain = refl; slots = refl }
+    su = record { setup = refl; stack = refl; frames = refl; chain = refl; slots = refl; used = refl }
 
     start : (a : After Started) → StartCase p w u (w .finalize) a → ChargeCase p w (chargeOr a)
     start a (s-some c n z e t) = c-close n c z (sym (cleaned-stored su (w .finalize)) ∙ e) t
-    start a (s-none n v e t) = c-done n (armClose (spend v)) (r-stored (record { setup = t .setup; stack = t .stack; frames = t .frames; chain = t .chain; slots = t .slots }))
+    start a (s-none n v e t) = c-done n (armClose (spend v)) (r-stored (record { setup = t .setup; stack = t .stack; frames = t .frames; chain = t .chain; slots = t .slots; used = t .used }))
 
     ready : (b : Bool) → ChargeCase p w (pick b (chargeOr (startFrom 0 (w .finalize) u)) (chargeDone 0 (unbank w)))
     ready true = start (startFrom 0 (w .finalize) u) (start-case p w u su 0 (w .finalize))
-    ready false = c-done 0 (armClose (spend (unbank w))) (r-same refl refl refl refl refl)
+    ready false = c-done 0 (armClose (spend (unbank w))) (r-same refl refl refl refl refl refl)
 
     slow : (b : Bool) → ChargeCase p w (pick b (after (unbank w) Charge.Spent) (chargeAt (OptPc.Some p) (unbank w)))
-    slow true = c-spent (unbank w) (r-same refl refl refl refl refl)
+    slow true = c-spent (unbank w) (r-same refl refl refl refl refl refl)
     slow false = ready (unbank w .fuel .ready)
 
     fast : (b : Bool) → ChargeCase p w (pick b (chargeSlow (OptPc.Some p) w) (after (spend w) (Charge.Done 0)))
     fast true = slow (eqb (unbank w .fuel .fuel) 0)
-    fast false = c-done 0 (spend w) (r-same refl refl refl refl refl)
+    fast false = c-done 0 (spend w) (r-same refl refl refl refl refl refl)
 
 -- without a pc nothing is touched but fuel
 pub charge-none : (w : World) → Same w (charge OptPc.None w .world)

@@ -2,8 +2,7 @@
 use Prim.Native.Nat.{ℕ, _+_}
 use mathlib.Core.Path.{_≡_, refl, sym, ap, _∙_, subst}
 use mathlib.Core.Bool.{Bool, true, false, not, _&&_, _||_}
-use mathlib.Core.List.{List, [], _∷_}
-use mathlib.Core.Option.{some}
+use mathlib.Core.List.{List, _∷_}
 use lib.ListN.{getD}
 use Rattle.lists.specs.Pick.{pick}
 use Rattle.heap.specs.Word.{nil}
@@ -12,8 +11,8 @@ use Rattle.heap.specs.declared.fault.Fault.{Fault}
 use Rattle.heap.specs.declared.object.CoroState.{CoroState}
 use Rattle.model.specs.Lists.{isNil}
 use Rattle.model.specs.State.{isCreated, isSuspended, isResumable, isAwaiting, isReturned}
-use Rattle.model.specs.Object.{Core, Rest, Object, Coroutine, Absent, Is, isDone}
-use Rattle.model.specs.World.{World, After, after, andThen}
+use Rattle.model.specs.Object.{Core, Object, Coroutine, Absent, Is, isDone}
+use Rattle.model.specs.World.{World, After, andThen}
 use Rattle.model.specs.Frames.{topBase, reg, storePc}
 use Rattle.model.specs.Heap.{object, coro, notA, setDone}
 use Rattle.model.specs.Coro.{stateAs, entered, overflows, coroEnter, finishCoroutine}
@@ -33,19 +32,18 @@ use Rattle.model.specs.declared.coro.Entered.{Entered}
 use Rattle.model.specs.declared.exec.Step.{Step}
 use Rattle.model.specs.declared.call.OptPc.{OptPc}
 use Rattle.model.specs.declared.call.Op.{Op}
-use Rattle.model.specs.declared.call.Answer.{Answer}
 use Rattle.claims.specs.Engine.{isNew, seenIn, is}
-use Rattle.claims.specs.Says.{Sent, nothing, gets, closes}
+use Rattle.claims.specs.Says.{nothing, gets, closes}
 use Rattle.claims.specs.Held.{By}
 use Rattle.claims.specs.Demand3 as D
 use Rattle.claims.specs.Events.{answers}
 use Rattle.claims.specs.Steps.{seenOf, viewOf, opOf, steps}
-use Rattle.claims.proofs.Entry.{Aim, enters, suspends, neither, at, awaits, act, Entry, nobody, entry, acceptsAs, accepts, sentTo, aimed, cleaned, charged, entryBy}
+use Rattle.claims.proofs.Entry.{Aim, enters, suspends, neither, at, awaits, act, Entry, nobody, entry, acceptsAs, accepts, sentTo, aimed, charged, entryBy}
 use Rattle.claims.proofs.Cores.{no-both, objectIn, coroIn, and-left, and-right}
-use Rattle.claims.proofs.Enters.{EnterCase, e-in, e-out, enter-case, Stored, accepts-stored, ChargeCase, c-done, c-spent, c-close, charge-case}
+use Rattle.claims.proofs.Enters.{EnterCase, e-in, e-out, enter-case, accepts-stored, ChargeCase, c-done, c-spent, c-close, charge-case}
 use Rattle.claims.proofs.Instr.{Alike, alike, coro-alike, aimed-alike}
 use Rattle.claims.proofs.Switches.{created-susp, returned-not}
-use Rattle.claims.proofs.Events.{no-entry}
+use Rattle.claims.proofs.Events.{no-entry, susp-born}
 use Rattle.claims.proofs.Numbers.{step-number}
 use Rattle.claims.proofs.Views.{new-state}
 use Rattle.claims.proofs.Claim.{Entering, entering, entry-sound}
@@ -83,22 +81,15 @@ sent-word (Is k r) v x a = go (isCreated (k .state))
     go true = refl
     go false = refl
 
-asleep-begun : (s : CoroState) → isSuspended s ≡ true → isCreated s ≡ false
-asleep-begun s h = go (isCreated s) refl
-  where
-    go : (b : Bool) → isCreated s ≡ b → b ≡ false
-    go true e = no-both h (created-susp s e)
-    go false e = refl
-
 thrown : (y : Coroutine) → isAsleep y ≡ true → answers (newIn y) (sentTo y nothing) ≡ 17
 unfolding newIn pick
 thrown Absent a = no-both a refl
-thrown (Is k r) a = ap (λ b. answers b (pick b nothing nothing)) (asleep-begun (k .state) a)
+thrown (Is k r) a = ap (λ b. answers b (pick b nothing nothing)) (susp-born (k .state) a)
 
 closed : (y : Coroutine) (x : ℕ) → isAsleep y ≡ true → answers (newIn y) (sentTo y (closes x)) ≡ 17
 unfolding newIn pick
 closed Absent x a = no-both a refl
-closed (Is k r) x a = ap (λ b. answers b (pick b nothing (closes x))) (asleep-begun (k .state) a)
+closed (Is k r) x a = ap (λ b. answers b (pick b nothing (closes x))) (susp-born (k .state) a)
 
 -- ---- coro_enter, and then a tail that answers n
 
@@ -116,7 +107,7 @@ module _ {A : Type 0} (num : A → ℕ) (f : World → Entered → After A) (n :
       go e (e-in k r h b m q) = by (isCreated (k .state)) (entered c d k r u) (k .waiting)
 
 stored-accepts : (p : ℕ) (v : World) (c : ℕ) → accepts v c ≡ true → accepts (storePc p v) c ≡ true
-stored-accepts p v c a = accepts-stored (record { setup = refl; stack = refl; frames = refl; chain = refl; slots = refl }) c ∙ a
+stored-accepts p v c a = accepts-stored (record { setup = refl; stack = refl; frames = refl; chain = refl; slots = refl; used = refl }) c ∙ a
 
 -- ---- the arms
 

@@ -75,7 +75,7 @@ AllSeen v xs [] = Unit {0}
 AllSeen v xs (a ∷ chain) = (seenOf (coroIn xs (a .coro)) ≡ v .coro (a .coro)) × Apart (a .coro) chain × AllSeen v xs chain
 
 pub record Sees (v : Engine.View) (w : World) : Type 0 where
-  pub handlers : (f : ℕ) → v .handlers f ≡ func (w .setup) f .handlers
+  pub handlers : (f : ℕ) → v .rules .handlers f ≡ func (w .setup) f .handlers
   pub coros : AllSeen v (w .slots) (w .chain)
 
 -- the end of another coroutine

@@ -14,15 +14,12 @@ use Rattle.model.specs.Gate.{refused}
 use Rattle.model.specs.Sound.{sound}
 use Rattle.model.specs.Answer.{numberOf}
 use Rattle.model.specs.Call.{Call, SetUp, Do, Operation, typed, asCall}
-use Rattle.model.specs.Step as M
 use Rattle.model.specs.Step.{call, tested, step, told}
 use Rattle.model.specs.declared.machine.Active.{Active}
 use Rattle.model.specs.declared.call.Op.{Op}
-use Rattle.claims.specs.Engine as Engine
 use Rattle.claims.specs.Says.{suspend, neither, Does, does, doing, Entry, entry}
 use Rattle.claims.specs.Held.{By}
 use Rattle.claims.specs.Demand3 as D
-use Rattle.claims.specs.Events as Said
 use Rattle.claims.specs.Events.{Healthy, inmost, suspended}
 use Rattle.claims.specs.Steps.{viewOf, opOf, steps}
 use Rattle.claims.proofs.Entry as E
@@ -32,7 +29,6 @@ use Rattle.claims.proofs.Held.{coreIn, coreAt}
 use Rattle.claims.proofs.Split.{next, Suspends, Enters}
 use Rattle.claims.proofs.Accepted as A
 use Rattle.claims.proofs.Cores.{no-both}
-use Rattle.claims.proofs.Shape as S
 use Rattle.claims.proofs.Events.{run-susp, suspended-one}
 use Rattle.claims.proofs.Calls.{shape}
 use Rattle.claims.proofs.Claim as Claim
@@ -41,7 +37,6 @@ use Rattle.claims.proofs.Acceptance.{named-enters, suspends-exactly, ta
 use Rattle.claims.proofs.Views.{is-runs, is-sleeps, Alike, l-at, l-host, l-finish, l-raise, l-other, says-alike}
 use Rattle.claims.proofs.Whom as Whom
 use Rattle.claims.proofs.Whom.{whom-told}
-use Rattle.claims.proofs.Restores as Restores
 use Rattle.claims.proofs.Restores.{suspends-old}
 use Rattle.claims.proofs.Numbers.{okNumber, aimsTo, call-number}
 
@@ -68,7 +63,10 @@ number-sound w o e = ap (λ b. pick b (call (o .op) w) (told (refused w Fault.Un
 pub no-some : {A : Type 0} {x : Option ℕ} {c : ℕ} → x ≡ none → x ≡ some c → A
 no-some p q = let z : _≡_ {A = ℕ} 0 1 = cc in absurd (omega arith)
 
-one-some : {x : Option ℕ} {c u : ℕ} → x ≡ some c → x ≡ some u → c ≡ u
+pub some-op : {a b : Op} → _≡_ {A = Option Op} (some a) (some b) → a ≡ b
+some-op e = cc
+
+pub one-some : {x : Option ℕ} {c u : ℕ} → x ≡ some c → x ≡ some u → c ≡ u
 one-some p q = cc
 
 pub pick-some : (b : Bool) (x : Option ℕ) (c : ℕ) → pick b x none ≡ some c → (b ≡ true) × (x ≡ some c)
@@ -130,7 +128,7 @@ suspends c w k g = go (next w k) (step-case w k) (h .after)
     go z (Claim.does o e) a =
         let s = suspended-one c (shape w (o .op)) (run-susp (coreAt w c .state) (h .before)) a in
         let q : aimsTo (act w (o .op)) ≡ true = ap aimsTo (s .by) in
-        let n : okNumber (numberOf (step w (Do o) .answer)) ≡ true = ap (λ x. okNumber (numberOf x)) (number-sound w o e) ∙ call-number w e (o .op) q ∙ s .says .takes in
+        let n : okNumber (numberOf (step w (Do o) .answer)) ≡ true = ap (λ x. okNumber (numberOf x)) (number-sound w o e) ∙ call-number w e (o .op) q .ok ∙ s .says .takes in
         susp-aims w (numberOf (step w (Do o) .answer)) q (says-alike w (o .op)) ∙ picked n (ap inmost (s .suspend .inmost) ∙ ap {B = Option ℕ} some (sym (s .its-own)))
       where
         picked : {b : Bool} {x : Option ℕ} → b ≡ true → x ≡ some c → pick b x none ≡ some c
@@ -148,7 +146,7 @@ suspended-by c w (Do o) h = go (aimsTo (act w (o .op))) refl (sound w) refl
     go false q t e = no-some (susp-not w n q (says-alike w (o .op))) h
     go true q true e =
         let x = pick-some (okNumber n) (inmost (w .chain)) c (sym (susp-aims w n q (says-alike w (o .op))) ∙ h) in
-        let takes : takesBy (act w (o .op)) (suspendsIn (o .op)) w ≡ true = sym (call-number w e (o .op) q) ∙ ap (λ y. okNumber (numberOf y)) (sym (number-sound w o e)) ∙ x .0 in
+        let takes : takesBy (act w (o .op)) (suspendsIn (o .op)) w ≡ true = sym (call-number w e (o .op) q .ok) ∙ ap (λ y. okNumber (numberOf y)) (sym (number-sound w o e)) ∙ x .0 in
         let s = suspends-exactly w (Do o) c (takes-sound w o e ∙ takes) (inmost-old (w .chain) c (x .1)) in
         record { before = is-runs w c ∙ s .before; after = is-sleeps (next w (Do o)) c ∙ s .after }
     go true q false e =

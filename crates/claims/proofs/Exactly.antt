@@ -7,9 +7,7 @@ use Rattle.model.specs.Answer.{numberOf}
 use Rattle.model.specs.Step.{step}
 use Rattle.claims.specs.Engine.{View}
 use Rattle.claims.specs.Says.{Does, instr, hosts, finishes, raises, other, doing, Entry, whomBy}
-use Rattle.claims.specs.Demand3 as D
 use Rattle.claims.specs.Demand3.{Demand3}
-use Rattle.claims.specs.Events as Said
 use Rattle.claims.specs.Events.{suspended, returned, Events}
 use Rattle.claims.specs.Steps.{viewOf, opOf, steps}
 use Rattle.claims.proofs.EntryNumbers.{entry-answers}
@@ -18,12 +16,15 @@ use Rattle.claims.proofs.Restores as Restores
 use Rattle.claims.proofs.Restores.{enters-old, suspends-old}
 use Rattle.claims.proofs.Untouched.{untouched}
 use Rattle.claims.proofs.Exact.{healthy-sound, no-some, entered, suspends, suspended-by}
+use Rattle.claims.proofs.Heard.{heard}
 use Rattle.claims.proofs.Returned.{returns, returned-by, closed}
 use Rattle.claims.proofs.Losses.{fails-by, failed-by}
+use Rattle.claims.proofs.Results.{spoilt, stopped}
 use Rattle.claims.proofs.Values.{integer, word}
 use Rattle.claims.proofs.Closing.{closing, yielded, awaited, fixed}
 use Rattle.claims.proofs.Still.{still, unbegun}
-use Rattle.claims.proofs.States.{runs-on, comes}
+use Rattle.claims.proofs.Undone.{closes-new, throws-new, comes}
+use Rattle.claims.proofs.States.{runs-on}
 
 -- a call that lets one return enters nobody, and suspends nobody
 not-whom : (v : View) (d : Does) (n u : ℕ) → returned v d n ≡ some u → whomBy v d ≡ none
@@ -51,10 +52,13 @@ events =
       answered = entry-answers;
       suspends = suspends;
       suspended = suspended-by;
+      heard = heard;
       returns = returns;
       returned = λ c w k h e. returned-by c w k (healthy-sound w h) e;
       fails = fails-by;
       failed = λ c w k h r l. failed-by c w k (healthy-sound w h) r l;
+      spoilt = spoilt;
+      stopped = stopped;
       integer = integer;
       word = word;
       closed = closed;
@@ -63,6 +67,8 @@ events =
       awaited = awaited;
       still = still;
       unbegun = unbegun;
+      closes-new = closes-new;
+      throws-new = throws-new;
       runs-on = runs-on;
       comes = comes;
       fixed = fixed;

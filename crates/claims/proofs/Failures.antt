@@ -32,14 +32,16 @@ use Rattle.model.specs.declared.call.Answer.{Answer}
 use Rattle.claims.specs.Engine as Engine
 use Rattle.claims.specs.Engine.{seenIn, is}
 use Rattle.claims.specs.Events as Events
-use Rattle.claims.specs.Events.{among, goesOn, losing, lost}
+use Rattle.claims.specs.Events.{among, goesOn, losing, lost, endedAs}
 use Rattle.claims.specs.Steps.{seenOf}
-use Rattle.claims.proofs.Held.{coreIn, coreAt}
+use Rattle.claims.proofs.Held.{Seat, coreIn, coreAt}
 use Rattle.claims.proofs.Cores.{no-both}
 use Rattle.claims.proofs.Shape.{over, Ends}
 use Rattle.claims.proofs.Events.{run-born}
 use Rattle.claims.proofs.Enters.{charge-none}
+use Rattle.claims.proofs.Views.{runs-state}
 use Rattle.claims.proofs.Quiet.{finish-ends, change-still}
+use Rattle.claims.proofs.Ended.{run-seen}
 use Rattle.claims.proofs.Endings.{return-done}
 use Rattle.claims.proofs.Escapes.{Looks, nothing, found, looks, AllSeen, Sees, closed-seen, fail-sees}
 
@@ -50,11 +52,18 @@ unmade a = eqb (numberOf a) 9 || eqb (numberOf a) 14
 abbrev pub isFailed : CoroState → Bool
 isFailed s = Events.failed s
 
--- of those that ran at w these have failed, and no other has
-pub record Loses (w : World) (o : After Answer) (xs : List ℕ) : Type 0 where
-  pub gone : (c : ℕ) → among c xs ≡ true → (isRunning (coreAt w c .state) ≡ true) × (coreAt (o .world) c .state ≡ CoroState.Failed)
+-- it has failed, with the result x
+abbrev pub Dead : ℕ → Seat → Type 0
+Dead x k = (k .state ≡ CoroState.Failed) × (k .seen ≡ endedAs CoroState.Failed x)
+
+pub dead-same : {x : ℕ} {k l : Seat} → l ≡ k → Dead x k → Dead x l
+dead-same e h = (ap (λ (y : Seat). y .state) e ∙ h .0, ap (λ (y : Seat). y .seen) e ∙ h .1)
+
+-- of those that ran at w these have failed of the word x, and no other has
+pub record Loses (x : ℕ) (w : World) (o : After Answer) (xs : List ℕ) : Type 0 where
+  pub gone : (c : ℕ) → among c xs ≡ true → (isRunning (coreAt w c .state) ≡ true) × Dead x (coreAt (o .world) c)
   pub stays : (c : ℕ) → among c xs ≡ false → isRunning (coreAt w c .state) ≡ true → isFailed (coreAt (o .world) c .state) ≡ false
-  pub failed : (c : ℕ) → coreAt w c .state ≡ CoroState.Failed → coreAt (o .world) c .state ≡ CoroState.Failed
+  pub failed : (c : ℕ) → Dead x (coreAt w c) → Dead x (coreAt (o .world) c)
   pub made : unmade (o .answer) ≡ false
 
 pub run-fails : (s : CoroState) → isRunning s ≡ true → isFailed s ≡ false
@@ -66,17 +75,17 @@ run-fails CoroState.Returned h = refl
 run-fails CoroState.Failed h = sym h
 
 -- nobody
-pub loses-none : (w : World) (o : After Answer) → ((c : ℕ) → coreAt (o .world) c ≡ coreAt w c) → unmade (o .answer) ≡ false → Loses w o []
+pub loses-none : {x : ℕ} (w : World) (o : After Answer) → ((c : ℕ) → coreAt (o .world) c ≡ coreAt w c) → unmade (o .answer) ≡ false → Loses x w o []
 loses-none w o e m = record {
   gone = λ c h. no-both h refl;
   stays = λ c h r. ap (λ k. isFailed (k .state)) (e c) ∙ run-fails (coreAt w c .state) r;
-  failed = λ c h. ap (λ k. k .state) (e c) ∙ h;
+  failed = λ c h. dead-same (e c) h;
   made = m;
 }
 
 -- one that returns has not failed
-loses-return : (w : World) (o : After Answer) (v : ℕ) → Ends CoroState.Returned v (coreAt w) (coreAt (o .world)) → isRunning (coreAt w v .state) ≡ true → unmade (o .answer) ≡ false → Loses w o []
-loses-return w o v e b m = record {
+loses-return : {x : ℕ} (w : World) (o : After Answer) (v : ℕ) → Ends CoroState.Returned v (coreAt w) (coreAt (o .world)) → isRunning (coreAt w v .state) ≡ true → unmade (o .answer) ≡ false → Loses x w o []
+loses-return {x} w o v e b m = record {
   gone = λ c h. no-both h refl;
   stays = λ c h r. not-failed c r (ℕ-discrete c v);
   failed = λ c h. still c h (ℕ-discrete c v);
@@ -91,9 +100,9 @@ loses-return w o v e b m = record {
     not-failed c r (yes q) = ap (λ x. isFailed (coreAt (o .world) x .state)) q ∙ mine (e .mine)
     not-failed c r (no q) = ap (λ k. isFailed (k .state)) (e .others c q) ∙ run-fails (coreAt w c .state) r
 
-    still : (c : ℕ) → coreAt w c .state ≡ CoroState.Failed → Dec (c ≡ v) → coreAt (o .world) c .state ≡ CoroState.Failed
-    still c h (yes q) = no-both b (ap (λ x. isRunning (coreAt w x .state)) (sym q) ∙ ap isRunning h)
-    still c h (no q) = ap (λ k. k .state) (e .others c q) ∙ h
+    still : (c : ℕ) → Dead x (coreAt w c) → Dec (c ≡ v) → Dead x (coreAt (o .world) c)
+    still c h (yes q) = no-both b (ap (λ x. isRunning (coreAt w x .state)) (sym q) ∙ ap isRunning (h .0))
+    still c h (no q) = dead-same (e .others c q) h
 
 either : (a b : Bool) → (a || b) ≡ true → (a ≡ true) ⊎ (b ≡ true)
 either true b h = inl refl
@@ -104,8 +113,9 @@ neither true b h = no-both refl h
 neither false b h = (refl, h)
 
 -- v fails, at y, and then others
-loses-more : (w y : World) (o : After Answer) (v : ℕ) (xs : List ℕ) → Ends CoroState.Failed v (coreAt w) (coreAt y) → isRunning (coreAt w v .state) ≡ true → Loses y o xs → Loses w o (v ∷ xs)
-loses-more w y o v xs e b l = record {
+loses-more : (x : ℕ) (w y : World) (o : After Answer) (v : ℕ) (xs : List ℕ) → Ends CoroState.Failed v (coreAt w) (coreAt y) → coreAt y v .seen ≡ endedAs CoroState.Failed x
+    → isRunning (coreAt w v .state) ≡ true → Loses x y o xs → Loses x w o (v ∷ xs)
+loses-more x w y o v xs e d b l = record {
   gone = λ c h. first c (either (eqb c v) (among c xs) h);
   stays = λ c h r. let n = neither (eqb c v) (among c xs) h in l .stays c (n .1) (ap (λ k. isRunning (k .state)) (e .others c (eqb-false c v (n .0))) ∙ r);
   failed = λ c h. l .failed c (before c h (ℕ-discrete c v));
@@ -116,18 +126,21 @@ loses-more w y o v xs e b l = record {
     mine (inl x) = ap (λ k. k .state) x
     mine (inr x) = no-both (x .0) (run-born (coreAt w v .state) b)
 
-    here : (c : ℕ) → c ≡ v → (isRunning (coreAt w c .state) ≡ true) × (coreAt (o .world) c .state ≡ CoroState.Failed)
-    here c q = (ap (λ x. isRunning (coreAt w x .state)) q ∙ b, l .failed c (ap (λ x. coreAt y x .state) q ∙ mine (e .mine)))
+    at-v : (c : ℕ) → c ≡ v → Dead x (coreAt y c)
+    at-v c q = dead-same (ap (coreAt y) q) (mine (e .mine), d)
 
-    before : (c : ℕ) → coreAt w c .state ≡ CoroState.Failed → Dec (c ≡ v) → coreAt y c .state ≡ CoroState.Failed
-    before c h (yes q) = ap (λ x. coreAt y x .state) q ∙ mine (e .mine)
-    before c h (no q) = ap (λ k. k .state) (e .others c q) ∙ h
+    here : (c : ℕ) → c ≡ v → (isRunning (coreAt w c .state) ≡ true) × Dead x (coreAt (o .world) c)
+    here c q = (ap (λ x. isRunning (coreAt w x .state)) q ∙ b, l .failed c (at-v c q))
 
-    other : (c : ℕ) → (isRunning (coreAt y c .state) ≡ true) × (coreAt (o .world) c .state ≡ CoroState.Failed) → Dec (c ≡ v) → (isRunning (coreAt w c .state) ≡ true) × (coreAt (o .world) c .state ≡ CoroState.Failed)
+    before : (c : ℕ) → Dead x (coreAt w c) → Dec (c ≡ v) → Dead x (coreAt y c)
+    before c h (yes q) = at-v c q
+    before c h (no q) = dead-same (e .others c q) h
+
+    other : (c : ℕ) → (isRunning (coreAt y c .state) ≡ true) × Dead x (coreAt (o .world) c) → Dec (c ≡ v) → (isRunning (coreAt w c .state) ≡ true) × Dead x (coreAt (o .world) c)
     other c h (yes q) = here c q
     other c h (no q) = (ap (λ k. isRunning (k .state)) (sym (e .others c q)) ∙ h .0, h .1)
 
-    first : (c : ℕ) → (eqb c v ≡ true) ⊎ (among c xs ≡ true) → (isRunning (coreAt w c .state) ≡ true) × (coreAt (o .world) c .state ≡ CoroState.Failed)
+    first : (c : ℕ) → (eqb c v ≡ true) ⊎ (among c xs ≡ true) → (isRunning (coreAt w c .state) ≡ true) × Dead x (coreAt (o .world) c)
     first c (inl q) = here c (eqb-true c v q)
     first c (inr q) = other c (l .gone c q) (ℕ-discrete c v)
 
@@ -140,9 +153,9 @@ AllRun v (a ∷ chain) = (is v Engine.runs (a .coro) ≡ true) × AllRun v chain
 
 module _ (v : Engine.View) (value f pc : ℕ) where
   abbrev Next : List Frame → Type 0
-  Next xs = (w : World) → w .frames ≡ xs → Sees v w → AllRun v (w .chain) → Loses w (search xs value f pc w) (lost v value xs (w .chain))
+  Next xs = (w : World) → w .frames ≡ xs → Sees v w → AllRun v (w .chain) → Loses value w (search xs value f pc w) (lost v value xs (w .chain))
 
-  failed-to : (xs : List Frame) → Next xs → (d : Driver) (s : Stop) (w : World) → w .frames ≡ xs → Sees v w → AllRun v (w .chain) → Loses w (stopOr (search xs value f pc) (failTo d s w .world) (failTo d s w .answer)) (pick (goesOn d) (lost v value xs (w .chain)) [])
+  failed-to : (xs : List Frame) → Next xs → (d : Driver) (s : Stop) (w : World) → w .frames ≡ xs → Sees v w → AllRun v (w .chain) → Loses value w (stopOr (search xs value f pc) (failTo d s w .world) (failTo d s w .answer)) (pick (goesOn d) (lost v value xs (w .chain)) [])
   unfolding pick
   failed-to xs next (Driver.Resume dst) s w p h r = next w p h r
   failed-to xs next (Driver.Iter has val iter) s w p h r = next w p h r
@@ -152,27 +165,19 @@ module _ (v : Engine.View) (value f pc : ℕ) where
   seen-runs : (x : Coroutine) (c : ℕ) → seenOf x ≡ v .coro c → is v Engine.runs c ≡ true → isRunning (coreIn x .state) ≡ true
   seen-runs x c e h = go x (ap (seenIn (λ y. Engine.runs (y .state))) e ∙ h)
     where
-      states : (s : CoroState) → Engine.runs s ≡ isRunning s
-      states CoroState.Created = refl
-      states CoroState.Running = refl
-      states CoroState.Yielded = refl
-      states CoroState.Awaiting = refl
-      states CoroState.Returned = refl
-      states CoroState.Failed = refl
-
       go : (x : Coroutine) → seenIn (λ y. Engine.runs (y .state)) (seenOf x) ≡ true → isRunning (coreIn x .state) ≡ true
       go Absent q = no-both q refl
-      go (Is k r) q = sym (states (k .state)) ∙ q
+      go (Is k r) q = sym (runs-state (k .state)) ∙ q
 
-  popped : (x : Frame) (xs : List Frame) → Next xs → (w : World) → Sees v w → AllRun v (w .chain) → Loses w (search xs value f pc (popTo x xs w)) (lost v value xs (w .chain))
+  popped : (x : Frame) (xs : List Frame) → Next xs → (w : World) → Sees v w → AllRun v (w .chain) → Loses value w (search xs value f pc (popTo x xs w)) (lost v value xs (w .chain))
   popped x xs next w h rs = let l = next (popTo x xs w) refl (record { handlers = h .handlers; coros = h .coros }) rs in record { gone = l .gone; stays = l .stays; failed = l .failed; made = l .made }
 
   body-left : (x : Frame) (xs : List Frame) → Next xs → (w : World) → w .frames ≡ x ∷ xs → isCoro (x .cont) ≡ true → Sees v w → AllRun v (w .chain) → (cs : List Active) → w .chain ≡ cs
-      → Loses w (andThen (escapedOn cs value f pc (popTo x xs w)) (stopOr (search xs value f pc))) (losing Cont.Coro v value cs (lost v value xs))
+      → Loses value w (andThen (escapedOn cs value f pc (popTo x xs w)) (stopOr (search xs value f pc))) (losing Cont.Coro v value cs (lost v value xs))
   unfolding pick
-  body-left x xs next w p q h rs [] r = subst (λ cs. Loses w (search xs value f pc (popTo x xs w)) (lost v value xs cs)) r (popped x xs next w h rs)
+  body-left x xs next w p q h rs [] r = subst (λ cs. Loses value w (search xs value f pc (popTo x xs w)) (lost v value xs cs)) r (popped x xs next w h rs)
   body-left x xs next w p q h rs (a ∷ chain) r =
-      subst (λ b. Loses w (left b) (pick (seenIn (λ k. k .closing && eqb value (k .signal)) (v .coro (a .coro))) [] (a .coro ∷ pick (goesOn (a .driver)) (lost v value xs chain) [])))
+      subst (λ b. Loses value w (left b) (pick (seenIn (λ k. k .closing && eqb value (k .signal)) (v .coro (a .coro))) [] (a .coro ∷ pick (goesOn (a .driver)) (lost v value xs chain) [])))
       (closed-seen v (coro w (a .coro)) (a .coro) value (all .0)) (test (seenIn (λ k. k .closing && eqb value (k .signal)) (v .coro (a .coro))))
     where
       u : World
@@ -196,19 +201,21 @@ module _ (v : Engine.View) (value f pc : ℕ) where
       rest : After Answer
       rest = stopOr (search xs value f pc) (failTo (a .driver) (Stop.Failed value f pc) y .world) (failTo (a .driver) (Stop.Failed value f pc) y .answer)
 
-      then : Loses y rest (pick (goesOn (a .driver)) (lost v value xs chain) [])
-      then = subst (λ cs. Loses y rest (pick (goesOn (a .driver)) (lost v value xs cs) [])) still
+      then : Loses value y rest (pick (goesOn (a .driver)) (lost v value xs chain) [])
+      then = subst (λ cs. Loses value y rest (pick (goesOn (a .driver)) (lost v value xs cs) [])) still
           (failed-to xs next (a .driver) (Stop.Failed value f pc) y (change-still (withChain chain u) (a .coro) (inState CoroState.Failed) (ended value) .frames) (fail-sees v x xs value w a chain h all) (subst (AllRun v) (sym still) (runs .1)))
 
       -- it ends there, b: because its own signal closed it
       left : Bool → After Answer
       left b = andThen (pick b (after (deliverReturn (a .driver) nil (finishCoroutine (a .coro) CoroState.Returned nil (withChain chain u))) true) (failTo (a .driver) (Stop.Failed value f pc) y)) (stopOr (search xs value f pc))
 
-      test : (b : Bool) → Loses w (left b) (pick b [] (a .coro ∷ pick (goesOn (a .driver)) (lost v value xs chain) []))
+      test : (b : Bool) → Loses value w (left b) (pick b [] (a .coro ∷ pick (goesOn (a .driver)) (lost v value xs chain) []))
       test true = loses-return w _ (a .coro) (return-done nil x xs w a chain p q r .ends) ran refl
-      test false = loses-more w y rest (a .coro) (pick (goesOn (a .driver)) (lost v value xs chain) []) (let e = finish-ends (a .coro) CoroState.Failed value (withChain chain u) in record { mine = e .mine; others = e .others }) ran then
+      test false =
+          let e = finish-ends (a .coro) CoroState.Failed value (withChain chain u) in
+          loses-more value w y rest (a .coro) (pick (goesOn (a .driver)) (lost v value xs chain) []) (record { mine = e .mine; others = e .others }) (run-seen (a .coro) CoroState.Failed value (withChain chain u) ran) ran then
 
-  leaving : (x : Frame) (xs : List Frame) → Next xs → (w : World) → w .frames ≡ x ∷ xs → Sees v w → AllRun v (w .chain) → (c : Cont) → x .cont ≡ c → Loses w (escape c value f pc (search xs value f pc) (popTo x xs w)) (losing c v value (w .chain) (lost v value xs))
+  leaving : (x : Frame) (xs : List Frame) → Next xs → (w : World) → w .frames ≡ x ∷ xs → Sees v w → AllRun v (w .chain) → (c : Cont) → x .cont ≡ c → Loses value w (escape c value f pc (search xs value f pc) (popTo x xs w)) (losing c v value (w .chain) (lost v value xs))
   unfolding coroEscaped
   leaving x xs next w p h rs Cont.Entry q = loses-none w _ (λ c. refl) refl
   leaving x xs next w p h rs (Cont.Write r) q = popped x xs next w h rs
@@ -218,12 +225,12 @@ module _ (v : Engine.View) (value f pc : ℕ) where
   leaving x xs next w p h rs Cont.Coro q = body-left x xs next w p (ap isCoro q) h rs (w .chain) refl
 
   looked : (x : Frame) (xs : List Frame) → Next xs → (w : World) → w .frames ≡ x ∷ xs → Sees v w → AllRun v (w .chain) → {c : Caught} {b : Bool}
-      → Looks (func (w .setup) (x .func) .handlers) (x .pc) c b → Loses w (searchAs c x xs value f pc (search xs value f pc) w) (pick b [] (losing (x .cont) v value (w .chain) (lost v value xs)))
+      → Looks (func (w .setup) (x .func) .handlers) (x .pc) c b → Loses value w (searchAs c x xs value f pc (search xs value f pc) w) (pick b [] (losing (x .cont) v value (w .chain) (lost v value xs)))
   unfolding pick
   looked x xs next w p h rs nothing = leaving x xs next w p h rs (x .cont) refl
   looked x xs next w p h rs (found n) = handled (charge OptPc.None w .answer)
     where
-      handled : (ch : Charge) → Loses w (caught n value (charge OptPc.None w .world) ch) []
+      handled : (ch : Charge) → Loses value w (caught n value (charge OptPc.None w .world) ch) []
       handled (Charge.Done i) = loses-none w _ (λ c. ap coreIn (charge-none w .coros c)) refl
       handled Charge.Spent = loses-none w _ (λ c. ap coreIn (charge-none w .coros c)) refl
       handled (Charge.Close i) = loses-none w _ (λ c. ap coreIn (charge-none w .coros c)) refl
@@ -231,5 +238,5 @@ module _ (v : Engine.View) (value f pc : ℕ) where
   pub search-loses : (fs : List Frame) → Next fs
   search-loses [] w p h rs = loses-none w _ (λ c. refl) refl
   search-loses (x ∷ xs) w p h rs =
-      subst (λ hs. Loses w (search (x ∷ xs) value f pc w) (pick (Events.caught hs (x .pc)) [] (losing (x .cont) v value (w .chain) (lost v value xs)))) (sym (h .handlers (x .func)))
+      subst (λ hs. Loses value w (search (x ∷ xs) value f pc w) (pick (Events.caught hs (x .pc)) [] (losing (x .cont) v value (w .chain) (lost v value xs)))) (sym (h .handlers (x .func)))
       (looked x xs (search-loses xs) w p h rs (looks (func (w .setup) (x .func) .handlers) (x .pc)))

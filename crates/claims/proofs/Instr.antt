@@ -47,6 +47,7 @@ pub record Alike (p : ℕ) (w v : World) : Type 0 where
   pub base : topBase (v .frames) ≡ topBase (w .frames)
   pub chain : v .chain ≡ w .chain
   pub slots : v .slots ≡ w .slots
+  pub used : v .used ≡ w .used
   pub works : (b : Mode) (z : View) → Worked b (view v) z → Worked b (view w) z
 
 base-top : (p : ℕ) (fs : List Frame) → topBase (onTop (setPc p) fs) ≡ topBase fs
@@ -58,7 +59,7 @@ top-top p [] = refl
 top-top p (f ∷ fs) = refl
 
 pub alike : {p : ℕ} {w v : World} → Ready p w v → Alike p w v
-alike {p} {w} {v} (r-same a b c d e) =
+alike {p} {w} {v} (r-same a b c d e g) =
     record {
       setup = a;
       stack = b;
@@ -67,6 +68,7 @@ alike {p} {w} {v} (r-same a b c d e) =
       base = ap topBase c;
       chain = d;
       slots = e;
+      used = g;
       works = λ n z t. subst (λ x. Worked n x z) (λ i. record { setup = a i; stack = b i; frames = c i; chain = d i; cores = λ x. coreIn (coroIn (e i) x) }) t;
     }
 alike {p} {w} {v} (r-stored s) =
@@ -78,6 +80,7 @@ alike {p} {w} {v} (r-stored s) =
       base = ap topBase (s .frames) ∙ base-top p (w .frames);
       chain = s .chain;
       slots = s .slots;
+      used = s .used;
       works = λ b z t. tops (setPc p) (keeps-pc p) (subst (λ x. Worked b x z) (λ i. record { setup = s .setup i; stack = s .stack i; frames = s .frames i; chain = s .chain i; cores = λ x. coreIn (coroIn (s .slots i) x) }) t);
     }
 

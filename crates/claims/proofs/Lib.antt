@@ -18,6 +18,7 @@ pub mod Begins
 pub mod Deliver
 pub mod Switches
 pub mod Endings
+pub mod Ended
 pub mod Calls
 pub mod Claim
 pub mod Acceptance
@@ -34,13 +35,19 @@ pub mod Failures
 pub mod Unwinds
 pub mod Numbers
 pub mod Exact
+pub mod Heard
+pub mod Answers
 pub mod Losses
+pub mod Results
 pub mod Returned
 pub mod Values
 pub mod Closing
 pub mod Still
 pub mod States
+pub mod Paid
+pub mod Undone
 pub mod Exactly
+pub mod Operands
 pub mod Premises
 pub mod Witness
 pub mod Roomy

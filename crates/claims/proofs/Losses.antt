@@ -21,7 +21,6 @@ use Rattle.model.specs.Object.{Object, Coroutine, Absent, Is}
 use Rattle.model.specs.World.{World, After, after, andThen, withUsed, withSlots}
 use Rattle.model.specs.Frames.{storePc, topFunc, topPc}
 use Rattle.model.specs.Heap.{coro, alloc, fits, slotsFull, refuse}
-use Rattle.model.specs.Program.{func}
 use Rattle.model.specs.Machine.{errorOf, searchFrames, searchMade, storeSome, unwind, finish}
 use Rattle.model.specs.Sound.{sound, runningOk, runs, coros, runsAmong}
 use Rattle.model.specs.Answer.{numberOf}
@@ -60,36 +59,37 @@ use Rattle.claims.proofs.Claim.{StepCase, anew, same, step-case, fresh-
 use Rattle.claims.proofs.Views.{is-runs}
 use Rattle.claims.proofs.Finishes.{FinishCase, f-other, f-returns, finish-case}
 use Rattle.claims.proofs.Bodies.{at-top}
-use Rattle.claims.proofs.Escapes.{AllSeen, Sees}
-use Rattle.claims.proofs.Failures.{unmade, isFailed, Loses, run-fails, AllRun, search-loses}
-use Rattle.claims.proofs.Unwinds.{sees, all-same, push-coros, stored-sees}
+use Rattle.claims.proofs.Escapes.{Sees}
+use Rattle.claims.proofs.Failures.{unmade, isFailed, Dead, dead-same, Loses, run-fails, AllRun, search-loses}
+use Rattle.claims.proofs.Unwinds.{sees, push-coros, stored-sees, made-sees}
 use Rattle.claims.proofs.Exact.{number-sound}
 
 -- ---- an unwind
 
-pub record Unwound (w : World) (o : After Answer) (xs : List ℕ) : Type 0 where
-  pub gone : (c : ℕ) → unmade (o .answer) ≡ false → among c xs ≡ true → coreAt (o .world) c .state ≡ CoroState.Failed
+-- what is raised, if anything, and who fails of it
+pub record Unwound (w : World) (o : After Answer) (y : Option ℕ) (xs : List ℕ) : Type 0 where
+  pub gone : (c : ℕ) → unmade (o .answer) ≡ false → among c xs ≡ true → (x : ℕ) × (y ≡ some x) × Dead x (coreAt (o .world) c)
   pub lost : (c : ℕ) → isRunning (coreAt w c .state) ≡ true → isFailed (coreAt (o .world) c .state) ≡ true → (unmade (o .answer) ≡ false) × (among c xs ≡ true)
 
-by-loses : {w : World} {o : After Answer} {xs : List ℕ} → Loses w o xs → Unwound w o xs
-by-loses {w} {o} {xs} l = record { gone = λ c m h. l .gone c h .1; lost = λ c r f. (l .made, go c r f (among c xs) refl) }
+by-loses : {x : ℕ} {w : World} {o : After Answer} {xs : List ℕ} → Loses x w o xs → Unwound w o (some x) xs
+by-loses {x} {w} {o} {xs} l = record { gone = λ c m h. (x, refl, l .gone c h .1); lost = λ c r f. (l .made, go c r f (among c xs) refl) }
   where
     go : (c : ℕ) → isRunning (coreAt w c .state) ≡ true → isFailed (coreAt (o .world) c .state) ≡ true → (b : Bool) → among c xs ≡ b → among c xs ≡ true
     go c r f true e = e
     go c r f false e = no-both f (l .stays c e r)
 
-by-same : {w : World} {o : After Answer} {xs : List ℕ} → ((c : ℕ) → coreAt (o .world) c ≡ coreAt w c) → (unmade (o .answer) ≡ true) ⊎ (xs ≡ []) → Unwound w o xs
-by-same {w} {o} {xs} e u = record { gone = λ c m h. no u c m h; lost = λ c r f. no-both f (ap (λ k. isFailed (k .state)) (e c) ∙ run-fails (coreAt w c .state) r) }
+by-same : {w : World} {o : After Answer} {y : Option ℕ} {xs : List ℕ} → ((c : ℕ) → coreAt (o .world) c ≡ coreAt w c) → (unmade (o .answer) ≡ true) ⊎ (xs ≡ []) → Unwound w o y xs
+by-same {w} {o} {y} {xs} e u = record { gone = λ c m h. no u c m h; lost = λ c r f. no-both f (ap (λ k. isFailed (k .state)) (e c) ∙ run-fails (coreAt w c .state) r) }
   where
     no : {A : Type 0} → (unmade (o .answer) ≡ true) ⊎ (xs ≡ []) → (c : ℕ) → unmade (o .answer) ≡ false → among c xs ≡ true → A
     no (inl q) c m h = no-both q m
     no (inr q) c m h = no-both h (ap (among c) q)
 
-loses-same : {w u : World} {o : After Answer} {xs : List ℕ} → ((c : ℕ) → coreAt u c ≡ coreAt w c) → Loses u o xs → Loses w o xs
+loses-same : {x : ℕ} {w u : World} {o : After Answer} {xs : List ℕ} → ((c : ℕ) → coreAt u c ≡ coreAt w c) → Loses x u o xs → Loses x w o xs
 loses-same e l = record {
   gone = λ c h. (ap (λ k. isRunning (k .state)) (sym (e c)) ∙ l .gone c h .0, l .gone c h .1);
   stays = λ c h r. l .stays c h (ap (λ k. isRunning (k .state)) (e c) ∙ r);
-  failed = λ c h. l .failed c (ap (λ k. k .state) (e c) ∙ h);
+  failed = λ c h. l .failed c (dead-same (e c) h);
   made = l .made;
 }
 
@@ -107,18 +107,18 @@ chain-runs w h = all-run w (w .chain) (and-left (each (λ a. runs (coro w (a .co
 
 module _ (w : World) (h : sound w ≡ true) where
   -- a word is raised at u, which is w but for objects and the top pc
-  frames-lose : (x : ℕ) (fs : List Frame) (u : World) → Sees (viewOf w) u → u .frames ≡ fs → u .chain ≡ w .chain → Loses u (searchFrames x u) (lost (viewOf w) x fs (w .chain))
+  frames-lose : (x : ℕ) (fs : List Frame) (u : World) → Sees (viewOf w) u → u .frames ≡ fs → u .chain ≡ w .chain → Loses x u (searchFrames x u) (lost (viewOf w) x fs (w .chain))
   frames-lose x fs u s p q =
-      subst (λ cs. Loses u (searchFrames x u) (lost (viewOf w) x fs cs)) q
-      (subst (λ gs. Loses u (searchFrames x u) (lost (viewOf w) x gs (u .chain))) p
+      subst (λ cs. Loses x u (searchFrames x u) (lost (viewOf w) x fs cs)) q
+      (subst (λ gs. Loses x u (searchFrames x u) (lost (viewOf w) x gs (u .chain))) p
       (search-loses (viewOf w) x (topFunc (u .frames)) (topPc (u .frames)) (u .frames) u refl s (subst (AllRun (viewOf w)) (sym q) (chain-runs w h))))
 
-  word-loses : (x : ℕ) (pc : OptPc) → Loses w (searchFrames x (storeSome pc w)) (lostAt (viewOf w) (some x) pc)
+  word-loses : (x : ℕ) (pc : OptPc) → Loses x w (searchFrames x (storeSome pc w)) (lostAt (viewOf w) (some x) pc)
   word-loses x OptPc.None = frames-lose x (w .frames) w (sees w h) refl refl
   word-loses x (OptPc.Some p) = loses-same (λ c. refl) (frames-lose x (at p (w .frames)) (storePc p w) (stored-sees w h (OptPc.Some p)) (at-top p (w .frames)) refl)
 
   object-at : (f : Fault) (u : World) (fs : List Frame) → u .slots ≡ w .slots → u .setup ≡ w .setup → u .frames ≡ fs → u .chain ≡ w .chain
-      → Unwound w (andThen (alloc (u .setup .costs .error) (errorOf f u) u) searchMade) (lost (viewOf w) (nextWord (w .slots)) fs (w .chain))
+      → Unwound w (andThen (alloc (u .setup .costs .error) (errorOf f u) u) searchMade) (some (nextWord (w .slots))) (lost (viewOf w) (nextWord (w .slots)) fs (w .chain))
   unfolding alloc pick
   object-at f u fs es e p q = go (not (fits u (u .setup .costs .error))) (slotsFull u)
     where
@@ -131,29 +131,23 @@ module _ (w : World) (h : sound w ≡ true) where
       here : (c : ℕ) → coro y c ≡ coro w c
       here c = push-coros (u .slots) (errorOf f u) refl c ∙ ap (λ xs. coroIn xs c) es
 
-      known : Sees (viewOf w) y
-      known = record {
-        handlers = λ n. ap (λ s. func s n .handlers) (sym e);
-        coros = subst (AllSeen (viewOf w) (y .slots)) (sym q) (all-same (viewOf w) (w .slots) (y .slots) here (w .chain) (sees w h .coros));
-      }
-
-      go : (a b : Bool) → Unwound w (andThen (made a b) searchMade) (lost (viewOf w) (nextWord (w .slots)) fs (w .chain))
+      go : (a b : Bool) → Unwound w (andThen (made a b) searchMade) (some (nextWord (w .slots))) (lost (viewOf w) (nextWord (w .slots)) fs (w .chain))
       go true b = by-same (λ c. ap (λ xs. coreIn (coroIn xs c)) es) (inl refl)
       go false true = by-same (λ c. ap (λ xs. coreIn (coroIn xs c)) es) (inl refl)
-      go false false = by-loses (loses-same (λ c. ap coreIn (here c)) (subst (λ xs. Loses y (searchFrames (nextWord (u .slots)) y) (lost (viewOf w) (nextWord xs) fs (w .chain))) es (frames-lose (nextWord (u .slots)) fs y known p q)))
+      go false false = by-loses (loses-same (λ c. ap coreIn (here c)) (subst (λ xs. Loses (nextWord xs) y (searchFrames (nextWord (u .slots)) y) (lost (viewOf w) (nextWord xs) fs (w .chain))) es (frames-lose (nextWord (u .slots)) fs y (made-sees w h f u es e q) p q)))
 
-  object-unwound : (f : Fault) (pc : OptPc) → let u = storeSome pc w in Unwound w (andThen (alloc (u .setup .costs .error) (errorOf f u) u) searchMade) (lostAt (viewOf w) (some (nextWord (w .slots))) pc)
+  object-unwound : (f : Fault) (pc : OptPc) → let u = storeSome pc w in Unwound w (andThen (alloc (u .setup .costs .error) (errorOf f u) u) searchMade) (some (nextWord (w .slots))) (lostAt (viewOf w) (some (nextWord (w .slots))) pc)
   object-unwound f OptPc.None = object-at f w (w .frames) refl refl refl refl
   object-unwound f (OptPc.Some p) = object-at f (storePc p w) (at p (w .frames)) refl refl (at-top p (w .frames)) refl
 
-  passed : (pc : OptPc) (f : Fault) → Unwound w (after (storeSome pc w) (Answer.Refused f)) []
+  passed : (pc : OptPc) (f : Fault) → Unwound w (after (storeSome pc w) (Answer.Refused f)) none []
   passed OptPc.None f = by-same (λ c. refl) (inr refl)
   passed (OptPc.Some p) f = by-same (λ c. refl) (inr refl)
 
-  refused : (f : Fault) → Unwound w (after w (Answer.Refused f)) []
+  refused : (f : Fault) → Unwound w (after w (Answer.Refused f)) none []
   refused f = by-same (λ c. refl) (inr refl)
 
-  pub unwound : (f : Fault) (pc : OptPc) → Unwound w (unwind f pc w) (lostAt (viewOf w) (raised (viewOf w) f) pc)
+  pub unwound : (f : Fault) (pc : OptPc) → Unwound w (unwind f pc w) (raised (viewOf w) f) (lostAt (viewOf w) (raised (viewOf w) f) pc)
   unfolding unwind pick
   unwound Fault.None pc = refused Fault.Unsound
   unwound Fault.NullReference pc = object-unwound Fault.NullReference pc
@@ -176,7 +170,7 @@ module _ (w : World) (h : sound w ≡ true) where
 
   pub thrown-gone : (x : ℕ) (pc : OptPc) (c : ℕ) → among c (lostAt (viewOf w) (some x) pc) ≡ true → coreAt (unwind (Fault.Throw x) pc w .world) c .state ≡ CoroState.Failed
   unfolding unwind pick
-  thrown-gone x pc c a = word-loses x pc .gone c a .1
+  thrown-gone x pc c a = word-loses x pc .gone c a .1 .0
 
 -- ---- other calls
 
@@ -305,7 +299,7 @@ module _ (w : World) (h : sound w ≡ true) (c : ℕ) (r : isRunning (coreAt w c
   call-lost Op.Look l = by-stop Op.Look refl l
 
   -- what runs is one of the chain
-  not-apart : {A : Type 0} → Apart c (w .chain) → A
+  pub not-apart : {A : Type 0} → Apart c (w .chain) → A
   not-apart n = go (coro w c) refl
     where
       go : {A : Type 0} (x : Coroutine) → coro w c ≡ x → A
@@ -315,7 +309,7 @@ module _ (w : World) (h : sound w ≡ true) (c : ℕ) (r : isRunning (coreAt w c
   has-lost : (o : Op) → Lost (viewOf w) (numberOf (call o w .answer)) c (some o) → coreAt (call o w .world) c .state ≡ CoroState.Failed
   unfolding call
   has-lost o (thrown x pc a) = thrown-gone w h x pc c a
-  has-lost o (escapes f pc m a) = unwound w h f pc .gone c m a
+  has-lost o (escapes f pc m a) = let (x, e, d) = unwound w h f pc .gone c m a in d .0
   has-lost o Said.stops = go (stop-stops w .each c)
     where
       z : World
@@ -326,7 +320,7 @@ module _ (w : World) (h : sound w ≡ true) (c : ℕ) (r : isRunning (coreAt w c
       go (inr (inl x)) = x
       go (inr (inr x)) = no-both (x .0) (run-born (coreAt w c .state) r)
 
-is-failed : (w : World) (c : ℕ) → is (viewOf w) Said.failed c ≡ isFailed (coreAt w c .state)
+pub is-failed : (w : World) (c : ℕ) → is (viewOf w) Said.failed c ≡ isFailed (coreAt w c .state)
 is-failed w c = go (coro w c)
   where
     go : (x : Coroutine) → Engine.seenIn (λ y. Said.failed (y .state)) (seenOf x) ≡ isFailed (coreIn x .state)

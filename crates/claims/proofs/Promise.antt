@@ -2,31 +2,31 @@
 use Prim.Native.Nat.{ℕ, zero, suc, _^_, _<_}
 use native.Mathlib.Omega.{arith}
 use mathlib.Core.Path.{_≡_, refl, sym, ap, _∙_, subst}
-use mathlib.Core.Logic.{_⊎_, inl, inr}
-use mathlib.Core.Bool.{Bool, true, false}
+use mathlib.Core.Bool.{Bool, true, false, _||_}
 use mathlib.Core.List.{List, [], _∷_}
-use mathlib.Core.Option.{Option, none, some}
-use lib.ListN.{length, getD, take, drop}
+use mathlib.Core.Option.{none, some}
+use lib.ListN.{getD, take, drop}
 use lib.Dec.{eqb}
 use borrow.Author.Tests.{eq-eqb, not-true}
 use Rattle.lists.specs.Pick.{pick}
 use Rattle.heap.specs.Table.{slot}
+use Rattle.heap.specs.Fault as Faults
 use Rattle.heap.specs.declared.heap.Place.{Place}
 use Rattle.heap.specs.declared.fault.Fault.{Fault}
 use Rattle.heap.specs.declared.object.CoroState.{CoroState}
 use Rattle.heap.specs.declared.heap.ResultKind.{ResultKind}
 use Rattle.model.specs.Program.{Func, Setup, setupOk}
 use Rattle.model.specs.Object.{Object, isDone}
-use Rattle.model.specs.World.{World, After, fresh, functionObjects}
-use Rattle.model.specs.Frames.{isCoro}
+use Rattle.model.specs.World.{World, andThen, fresh, functionObjects}
+use Rattle.model.specs.Frames.{popTo}
 use Rattle.model.specs.Heap.{place, objectAt, toDyn}
-use Rattle.model.specs.Machine.{finish, unwind, raisable}
+use Rattle.model.specs.Machine.{applyCont, writeMade, resumeIn, returnMade, finishAs, finishOn, finish, unwind, raisable}
 use Rattle.model.specs.Gate.{refused}
 use Rattle.model.specs.Added as Added
 use Rattle.model.specs.Added.{accepted, registersOn}
-use Rattle.model.specs.Sound.{sound, floorsOk, beside, matches}
+use Rattle.model.specs.Sound.{sound}
 use Rattle.model.specs.Answer.{numberOf}
-use Rattle.model.specs.Call.{Call, SetUp, Do}
+use Rattle.model.specs.Call.{Call, SetUp, Do, asCall}
 use Rattle.model.specs.Calls.{table}
 use Rattle.model.specs.Step.{call, tested, step, told}
 use Rattle.model.specs.Compute.{computed}
@@ -42,31 +42,25 @@ use Rattle.soundness.proofs.Sound.{sound→}
 use Rattle.invariant.proofs.Call.{call-keeps}
 use Rattle.claims.specs.Engine as Engine
 use Rattle.claims.specs.Demand3.{Restarts}
-use Rattle.claims.specs.Events.{Healthy, onBody, raised, raisedAt}
-use Rattle.claims.specs.Promise.{plain, Roomy, Makes, converts, Eleven, sets-up, no-fault, Soundness, Fresh, registers, NotEmpty, Promise}
-use Rattle.claims.specs.Steps.{seenOf, viewOf, opOf, looks, steps}
+use Rattle.claims.specs.Events.{Healthy, raised, endsAt}
+use Rattle.claims.specs.Promise.{plain, room, Roomy, Makes, converts, Eleven, sets-up, no-fault, Soundness, Fresh, registers, NotEmpty, Promise}
+use Rattle.claims.specs.Steps.{seenOf, rulesOf, viewOf, opOf, asksOf, looks, steps}
 use Rattle.claims.specs.Story.{wide, f, c, held}
 use Rattle.claims.specs.Premises.{premises}
 use Rattle.claims.specs.Witness.{nth, between, frame}
 use Rattle.claims.proofs.Cores.{no-both}
-use Rattle.claims.proofs.Shape.{View}
-use Rattle.claims.proofs.Sounds.{Floors, floors}
 use Rattle.claims.proofs.Claim.{fresh-absent}
 use Rattle.claims.proofs.Soundness.{soundness-kept}
-use Rattle.claims.proofs.Finishes.{bodyOn, Unmade, FinishCase, f-other, f-returns, finish-case}
-use Rattle.claims.proofs.Escapes.{Ended, e-works, e-returns}
-use Rattle.claims.proofs.Unwinds.{word-ended}
-use Rattle.claims.proofs.Exact.{healthy-sound, number-sound, no-some}
-use Rattle.claims.proofs.Returned.{on-body}
+use Rattle.claims.proofs.Answers.{throw-answer, raise-answer, pass-answer}
+use Rattle.claims.proofs.Exact.{healthy-sound, number-sound, some-op}
+use Rattle.claims.proofs.Operands.{as-typed}
 use Rattle.claims.proofs.Premises.{premises-met}
 use Rattle.claims.proofs.Exactly.{events, demand3}
 use Rattle.claims.proofs.Values.{can-make, word-in}
+use Rattle.claims.proofs.Undone.{accepts-close, accepts-throw-new}
 use Rattle.claims.proofs.Roomy.{await-takes, kv-takes, yield-takes}
 
 -- ---- soundness
-
-some-op : {a b : Op} → _≡_ {A = Option Op} (some a) (some b) → a ≡ b
-some-op e = cc
 
 -- a sound machine is not refused
 look-numbered : (w : World) → numberOf (call Op.Look w .answer) ≡ 0
@@ -163,15 +157,6 @@ soundness =
 
 -- ---- acceptance
 
--- without an active coroutine no body is on top
-bodiless : (fs : List Frame) → Floors fs [] → bodyOn fs ≡ false
-bodiless [] h = refl
-bodiless (f ∷ fs) h = go (isCoro (f .cont)) refl h
-  where
-    go : (b : Bool) → isCoro (f .cont) ≡ b → beside b (λ f fs a. eqb (a .floor) (length fs)) f fs [] (matches (λ f fs a. eqb (a .floor) (length fs)) fs) ≡ true → isCoro (f .cont) ≡ false
-    go false e h = e
-    go true e h = no-both h refl
-
 plain-made : {A : Type 0} (kind : ResultKind) (x : ℕ) (w : World) (g : Fault) → plain kind ≡ true → toDyn kind x w .answer ≡ WordOr.Refused g → A
 unfolding toDyn
 plain-made ResultKind.None x w g p e = let z : _≡_ {A = ℕ} 0 1 = cc in absurd (omega arith)
@@ -179,41 +164,60 @@ plain-made ResultKind.Dyn x w g p e = let z : _≡_ {A = ℕ} 0 1 = cc in absurd
 plain-made ResultKind.I64 x w g p e = no-both p refl
 plain-made ResultKind.U64 x w g p e = no-both p refl
 
-finish-zero : (kind : ResultKind) (x : ℕ) (w : World) (o : After Answer) → sound w ≡ true → ((f : Fault) → toDyn kind x w .answer ≡ WordOr.Refused f → ⊥) → onBody (w .frames) ≡ true → FinishCase kind x w o → numberOf (o .answer) ≡ 0
-unfolding floorsOk
-finish-zero kind x w o h p b (f-returns f fs a chain y q r t m n ends tells ints) = n
-finish-zero kind x w o h p b (f-other same why) = go why
+-- a finish whose result is made, where the frame stands and where it is gone
+finish-zero : (kind : ResultKind) (x : ℕ) (w : World) → ((g : Fault) → toDyn kind x w .answer ≡ WordOr.Refused g → ⊥) → ((f : Frame) (fs : List Frame) (g : Fault) → toDyn kind x (popTo f fs w) .answer ≡ WordOr.Refused g → ⊥)
+    → numberOf (finish kind x w .answer) ≡ 0
+unfolding finish applyCont pick
+finish-zero kind x w here gone = go (w .frames)
   where
-    go : (bodyOn (w .frames) ≡ false) ⊎ ((w .chain ≡ []) ⊎ Unmade kind x w o) → numberOf (o .answer) ≡ 0
-    go (inl q) = no-both b (on-body (w .frames) ∙ q)
-    go (inr (inl q)) = no-both b (on-body (w .frames) ∙ bodiless (w .frames) (ap (matches (λ f fs a. eqb (a .floor) (length fs)) (w .frames)) (sym q) ∙ floors w h))
-    go (inr (inr u)) = absurd (p (u .fault) (u .refused))
+    dyn : (f : Frame) (fs : List Frame) (dst : ℕ) (m : WordOr) → toDyn kind x (popTo f fs w) .answer ≡ m → numberOf (andThen (writeMade dst (toDyn kind x (popTo f fs w) .world) m) resumeIn .answer) ≡ 0
+    dyn f fs dst (WordOr.Word y) e = refl
+    dyn f fs dst (WordOr.Refused g) e = absurd (gone f fs g e)
 
-finish-call : (kind : ResultKind) (x : ℕ) (w : World) → sound w ≡ true → ((f : Fault) → toDyn kind x w .answer ≡ WordOr.Refused f → ⊥) → onBody (w .frames) ≡ true → numberOf (call (Op.Finish kind x) w .answer) ≡ 0
+    body : (f : Frame) (fs : List Frame) (m : WordOr) → toDyn kind x w .answer ≡ m → numberOf (returnMade f fs (toDyn kind x w .world) m .answer) ≡ 0
+    body f fs (WordOr.Word y) e = refl
+    body f fs (WordOr.Refused g) e = absurd (here g e)
+
+    top : (c : Cont) (f : Frame) (fs : List Frame) → numberOf (finishAs c f fs kind x w .answer) ≡ 0
+    top Cont.Entry f fs = refl
+    top (Cont.Write dst) f fs = refl
+    top (Cont.Dyn dst) f fs = dyn f fs dst (toDyn kind x (popTo f fs w) .answer) refl
+    top (Cont.Value dst) f fs = refl
+    top Cont.Discard f fs = refl
+    top Cont.Coro f fs = body f fs (toDyn kind x w .answer) refl
+
+    go : (fs : List Frame) → numberOf (finishOn fs kind x w .answer) ≡ 0
+    go [] = refl
+    go (f ∷ fs) = top (f .cont) f fs
+
+finish-call : (w : World) (k : Call) (kind : ResultKind) (x : ℕ) → Healthy steps w → opOf k ≡ some (Op.Finish kind x) → (x < 2 ^ 64 → numberOf (finish kind x w .answer) ≡ 0) → numberOf (step w k .answer) ≡ 0
 unfolding call
-finish-call kind x w h p b = finish-zero kind x w (finish kind x w) h p b (finish-case kind x w)
+finish-call w (SetUp s) kind x h e p = let z : _≡_ {A = ℕ} 0 1 = cc in absurd (omega arith)
+finish-call w (Do o) kind x h e p = ap numberOf (number-sound w o (healthy-sound w h)) ∙ ap (λ q. numberOf (call q w .answer)) (some-op e) ∙ p (word-in (o .op) kind x (some-op e) (o .within))
 
-escape-zero : {v : View} {o : After Answer} {who : Option ℕ} {c : ℕ} → Ended v o who → who ≡ some c → numberOf (o .answer) ≡ 0
-escape-zero (e-works t) q = no-some refl q
-escape-zero (e-returns u f fs a chain t r n) q = n
+accepts-finish : (w : World) (k : Call) (kind : ResultKind) (x : ℕ) → Healthy steps w → opOf k ≡ some (Op.Finish kind x) → plain kind ≡ true → numberOf (step w k .answer) ≡ 0
+accepts-finish w k kind x h e p = finish-call w k kind x h e (λ l. finish-zero kind x w (λ g q. plain-made kind x w g p q) (λ f fs g q. plain-made kind x (popTo f fs w) g p q))
 
-escape-call : (x : ℕ) (pc : OptPc) (w : World) (c : ℕ) → sound w ≡ true → raisedAt (viewOf w) (some x) pc ≡ some c → numberOf (call (Op.Unwind (Fault.Throw x) pc) w .answer) ≡ 0
-unfolding call unwind pick
-escape-call x pc w c h e = escape-zero (word-ended w h x pc) e
+accepts-integer : (w : World) (k : Call) (kind : ResultKind) (x : ℕ) → Healthy steps w → opOf k ≡ some (Op.Finish kind x) → Makes (viewOf w) → converts kind x ≡ true → numberOf (step w k .answer) ≡ 0
+accepts-integer w k kind x h e m p =
+    finish-call w k kind x h e (λ l. finish-zero kind x w (can-make w kind x l p (m .bytes) (m .slot)) (λ f fs. can-make (popTo f fs w) kind x l p (m .bytes) (m .slot)))
 
-finish-step : (w : World) (k : Call) (kind : ResultKind) (x : ℕ) → Healthy steps w → opOf k ≡ some (Op.Finish kind x) → (x < 2 ^ 64 → (f : Fault) → toDyn kind x w .answer ≡ WordOr.Refused f → ⊥) → onBody (w .frames) ≡ true → numberOf (step w k .answer) ≡ 0
-finish-step w (SetUp s) kind x h e p b = let z : _≡_ {A = ℕ} 0 1 = cc in absurd (omega arith)
-finish-step w (Do o) kind x h e p b = ap numberOf (number-sound w o (healthy-sound w h)) ∙ ap (λ q. numberOf (call q w .answer)) (some-op e) ∙ finish-call kind x w (healthy-sound w h) (p (word-in (o .op) kind x (some-op e) (o .within))) b
+-- an unwind at a machine that is not refused
+unwinds : (w : World) (k : Call) (f : Fault) (pc : OptPc) → sound w ≡ true → opOf k ≡ some (Op.Unwind f pc) → numberOf (step w k .answer) ≡ numberOf (unwind f pc w .answer)
+unfolding call
+unwinds w (SetUp s) f pc h e = let z : _≡_ {A = ℕ} 0 1 = cc in absurd (omega arith)
+unwinds w (Do o) f pc h e = ap numberOf (number-sound w o h) ∙ ap (λ p. numberOf (call p w .answer)) (some-op e)
 
-accepts-finish : (w : World) (k : Call) (kind : ResultKind) (x : ℕ) → Healthy steps w → opOf k ≡ some (Op.Finish kind x) → plain kind ≡ true → onBody (w .frames) ≡ true → numberOf (step w k .answer) ≡ 0
-accepts-finish w k kind x h e p b = finish-step w k kind x h e (λ l f q. plain-made kind x w f p q) b
+accepts-throw : (w : World) (k : Call) (x : ℕ) (pc : OptPc) → Healthy steps w → opOf k ≡ some (Op.Unwind (Fault.Throw x) pc) → numberOf (step w k .answer) ≡ endsAt (viewOf w) x pc
+accepts-throw w k x pc h e = unwinds w k (Fault.Throw x) pc (healthy-sound w h) e ∙ throw-answer w (healthy-sound w h) x pc
 
-accepts-integer : (w : World) (k : Call) (kind : ResultKind) (x : ℕ) → Healthy steps w → opOf k ≡ some (Op.Finish kind x) → Makes (viewOf w) → converts kind x ≡ true → onBody (w .frames) ≡ true → numberOf (step w k .answer) ≡ 0
-accepts-integer w k kind x h e m p b = finish-step w k kind x h e (λ l. can-make w (healthy-sound w h) kind x l p (m .bytes) (m .slot)) b
+accepts-raise : (w : World) (k : Call) (f : Fault) (pc : OptPc) (x : ℕ) → Healthy steps w → opOf k ≡ some (Op.Unwind f pc) → ((y : ℕ) → f ≡ Fault.Throw y → ⊥) → raised (viewOf w) f ≡ some x
+    → let v = viewOf w in numberOf (step w k .answer) ≡ pick (room v (v .rules .errorCost)) (pick (v .full) 14 (endsAt v x pc)) 9
+accepts-raise w k f pc x h e n q = unwinds w k f pc (healthy-sound w h) e ∙ raise-answer w (healthy-sound w h) f pc x n q
 
-accepts-escape : (w : World) (k : Call) (x : ℕ) (pc : OptPc) (c : ℕ) → Healthy steps w → opOf k ≡ some (Op.Unwind (Fault.Throw x) pc) → raisedAt (viewOf w) (some x) pc ≡ some c → numberOf (step w k .answer) ≡ 0
-accepts-escape w (SetUp s) x pc c h e q = let z : _≡_ {A = ℕ} 0 1 = cc in absurd (omega arith)
-accepts-escape w (Do o) x pc c h e q = ap numberOf (number-sound w o (healthy-sound w h)) ∙ ap (λ p. numberOf (call p w .answer)) (some-op e) ∙ escape-call x pc w c (healthy-sound w h) q
+accepts-pass : (w : World) (k : Call) (f : Fault) (pc : OptPc) → Healthy steps w → opOf k ≡ some (Op.Unwind f pc) → raised (viewOf w) f ≡ none
+    → numberOf (step w k .answer) ≡ pick (eqb (Faults.numberOf f) 9 || eqb (Faults.numberOf f) 10) (Faults.numberOf f) 11
+accepts-pass w k f pc h e q = unwinds w k f pc (healthy-sound w h) e ∙ pass-answer w (healthy-sound w h) f pc q
 
 -- ---- set-ups and looks
 
@@ -236,6 +240,15 @@ set-up-begun w (SetUp s) r = go (setupOk s) (r .accepted)
   where
     go : (b : Bool) → numberOf (pick b (accepted (fresh s)) (refused w Fault.Unsound) .answer) ≡ 0 → Fresh (viewOf (pick b (accepted (fresh s)) (refused w Fault.Unsound) .world))
     go true n = begins-fresh s
+    go false n = absurd (omega (arith, n))
+
+set-up-given : (w : World) (k : Call) → Restarts steps w k → asksOf k ≡ some (rulesOf (step w k .world .setup))
+unfolding step pick
+set-up-given w (Do o) r = let q = r .sets-up in let z : _≡_ {A = ℕ} 0 1 = cc in absurd (omega arith)
+set-up-given w (SetUp s) r = go (setupOk s) (r .accepted)
+  where
+    go : (b : Bool) → numberOf (pick b (accepted (fresh s)) (refused w Fault.Unsound) .answer) ≡ 0 → some (rulesOf s) ≡ some (rulesOf (pick b (accepted (fresh s)) (refused w Fault.Unsound) .world .setup))
+    go true n = refl
     go false n = absurd (omega (arith, n))
 
 set-up-refused : (w : World) (k : Call) → opOf k ≡ none → (numberOf (step w k .answer) ≡ 0 → ⊥) → (numberOf (step w k .answer) ≡ 11) × (viewOf (step w k .world) ≡ viewOf w)
@@ -299,7 +312,7 @@ unfolding computed before
 roomy-met =
     record {
       healthy = sound-healthy (Engine.run steps (fresh wide) before) sound-there;
-      fuel = refl;
+      paid = λ pc y. refl;
       held = record {
         over = frame 1 0 8 0 (Cont.Dyn 2) ∷ [];
         body = frame 0 5 4 f Cont.Coro;
@@ -319,7 +332,7 @@ pub makes-met : Makes (viewOf (Engine.run steps (fresh wide) before))
 unfolding computed before
 makes-met = record { slot = refl; bytes = refl }
 
-costs-met : viewOf (Engine.run steps (fresh wide) before) .intCost ≡ wide .costs .int
+costs-met : viewOf (Engine.run steps (fresh wide) before) .rules .intCost ≡ wide .costs .int
 unfolding computed before
 costs-met = refl
 
@@ -338,7 +351,7 @@ not-empty =
       z = nth held 26;
       c = c;
       suspends = p .suspends;
-      roomy = subst (λ w. Roomy steps (viewOf (Engine.run steps w before) .intCost) c (Engine.run steps w before)) (sym begins-at) (subst (λ n. Roomy steps n c (Engine.run steps (fresh wide) before)) (sym costs-met) roomy-met);
+      roomy = subst (λ w. Roomy steps (viewOf (Engine.run steps w before) .rules .intCost) c (Engine.run steps w before)) (sym begins-at) (subst (λ n. Roomy steps n c (Engine.run steps (fresh wide) before)) (sym costs-met) roomy-met);
       makes = subst (λ w. Makes (viewOf (Engine.run steps w before))) (sym begins-at) makes-met;
       waits = p .waits;
       enters = p .enters;
@@ -355,13 +368,18 @@ promise =
       accepts = record {
         await = λ c w k pc dst src m e l. await-takes w 0 c m k pc dst src e l;
         yield-kv = λ c w k pc dst src key m e l. kv-takes w 0 c m k pc dst src key e l;
-        yield = λ c w k pc dst src m s e l. yield-takes w (w .setup .costs .int) c m refl s k pc dst src e l;
+        yield = λ c w k pc dst src m s e l. yield-takes w (w .setup .costs .int) c m refl s pc k dst src e l;
+        close-new = λ w k pc dst r src m e l n. accepts-close w pc dst r src m l n k e;
+        throw-new = λ w k pc dst r src m e l n. accepts-throw-new w pc dst r src m l n k e;
         integer = accepts-integer;
         finish = accepts-finish;
-        escape = accepts-escape;
+        throw = accepts-throw;
+        raise = accepts-raise;
+        pass = accepts-pass;
       };
       soundness = soundness;
-      set-ups = record { begun = set-up-begun; refused = set-up-refused };
+      set-ups = record { begun = set-up-begun; given = set-up-given; refused = set-up-refused };
       looks = record { sees = look-sees; unseen = look-unseen; unmoved = look-unmoved };
+      speaks = λ o h. (asCall o (as-typed o ∙ h), refl);
       not-empty = not-empty;
     }

@@ -19,25 +19,20 @@ use Rattle.model.specs.Machine.{finish}
 use Rattle.model.specs.Sound.{sound}
 use Rattle.model.specs.Answer.{numberOf}
 use Rattle.model.specs.Call.{Call, SetUp, Do}
-use Rattle.model.specs.Step as M
 use Rattle.model.specs.Step.{call, step, told}
 use Rattle.model.specs.declared.machine.Cont.{Cont}
 use Rattle.model.specs.declared.machine.Frame.{Frame}
 use Rattle.model.specs.declared.call.OptPc.{OptPc}
 use Rattle.model.specs.declared.call.Op.{Op}
 use Rattle.model.specs.declared.call.Answer.{Answer}
-use Rattle.claims.specs.Engine as Engine
 use Rattle.claims.specs.Says.{finishes, does, doing, Entry}
 use Rattle.claims.specs.Delivery.{recorded}
-use Rattle.claims.specs.Demand3 as D
 use Rattle.claims.specs.Events as Said
 use Rattle.claims.specs.Events.{inmost, isBody, onBody, suspended, returned}
 use Rattle.claims.specs.Steps.{viewOf, opOf, steps}
-use Rattle.claims.proofs.Entry as E
 use Rattle.claims.proofs.Entry.{act}
 use Rattle.claims.proofs.Held.{Seat, coreIn, coreAt}
 use Rattle.claims.proofs.Split.{next}
-use Rattle.claims.proofs.Accepted as A
 use Rattle.claims.proofs.Cores.{no-both, and-left, and-right, Kept, kept, unborn, Mode}
 use Rattle.claims.proofs.Shape as S
 use Rattle.claims.proofs.Shape.{View, view, Ends, Worked, done, quiet, tops, puts, pushes, pops, fails, Apart, Shape}
@@ -47,12 +42,10 @@ use Rattle.claims.proofs.Calls.{shape}
 use Rattle.claims.proofs.Claim as Claim
 use Rattle.claims.proofs.Claim.{StepCase, anew, same, step-case, fresh-absent, next-sound}
 use Rattle.claims.proofs.Views.{is-runs, is-ended, seen-at}
-use Rattle.claims.proofs.Whom as Whom
-use Rattle.claims.proofs.Restores as Restores
 use Rattle.claims.proofs.Finishes.{Unmade, FinishCase, f-other, f-returns, finish-case, bodyOn}
 use Rattle.claims.proofs.Escapes.{Ended, e-works, e-returns}
 use Rattle.claims.proofs.Unwinds.{unwind-ended}
-use Rattle.claims.proofs.Exact.{number-sound, no-some, pick-some}
+use Rattle.claims.proofs.Exact.{number-sound, no-some, pick-some, some-op}
 
 -- ---- one that runs, and is moved, runs or has failed
 
@@ -314,9 +307,6 @@ ended-told w c {o} (e-returns u f fs a chain t r n) b l = go (ℕ-discrete c (a 
 unwind-told : (f : Fault) (pc : OptPc) (w : World) (c : ℕ) → sound w ≡ true → isRunning (coreAt w c .state) ≡ true → let z = call (Op.Unwind f pc) w .world in isReturned (coreAt z c .state) ≡ true → recorded (coreAt z c .seen) ≡ 0
 unfolding call
 unwind-told f pc w c h b l = ended-told w c (unwind-ended w h f pc) b l
-
-some-op : {a b : Op} → _≡_ {A = Option Op} (some a) (some b) → a ≡ b
-some-op e = cc
 
 pub closed : (c : ℕ) (w : World) (k : Call) (f : Fault) (pc : OptPc) → Said.Returns steps c w k → opOf k ≡ some (Op.Unwind f pc) → recorded (viewOf (next w k) .coro c) ≡ 0
 closed c w k f pc g e = ap recorded (sym (seen-at (next w k) c)) ∙ go (next w k) (step-case w k) (sym (is-ended (next w k) c) ∙ g .after) e

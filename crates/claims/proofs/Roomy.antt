@@ -22,18 +22,19 @@ use Rattle.model.specs.Object.{Core, Rest, Object, Coroutine, Absent, Is}
 use Rattle.model.specs.World.{World, After, after, andThen, withUsed, withSlots}
 use Rattle.model.specs.Frames.{lower, above, baseAt, onTop, setPc, reg, storePc}
 use Rattle.model.specs.Heap.{coro, dynInt, fits, slotsFull, refuse, alloc, encodeAt}
-use Rattle.model.specs.Fuel.{spend}
 use Rattle.model.specs.Coro as Coro
 use Rattle.model.specs.Coro.{saved, growth, suspendCoroutine, suspendInnermost, coroSuspend}
-use Rattle.model.specs.Cleanup.{chargeSlow, charge}
+use Rattle.model.specs.Cleanup.{charge}
 use Rattle.model.specs.Exec.{largestIn, largerOf, keyAt, keyExact, autoKey, yieldKey, yieldOn, yield}
-use Rattle.model.specs.Gate.{refused, allIn, answerOf, charged, instruction}
+use Rattle.model.specs.Gate as Gate
+use Rattle.model.specs.Gate.{refused, allIn, answerOf, instruction}
 use Rattle.model.specs.Sound.{sound}
 use Rattle.model.specs.Answer.{numberOf}
 use Rattle.model.specs.Call.{Call, SetUp, Do}
 use Rattle.model.specs.Step.{call, step}
 use Rattle.model.specs.declared.machine.Active.{Active}
 use Rattle.model.specs.declared.machine.Charge.{Charge}
+use Rattle.model.specs.declared.machine.Driver.{Driver}
 use Rattle.model.specs.declared.machine.Frame.{Frame}
 use Rattle.model.specs.declared.coro.WordOr.{WordOr}
 use Rattle.model.specs.declared.coro.Keys.{Keys}
@@ -43,22 +44,24 @@ use Rattle.model.specs.declared.call.OptPc.{OptPc}
 use Rattle.model.specs.declared.call.Op.{Op}
 use Rattle.model.specs.declared.call.Answer.{Answer}
 use Rattle.claims.specs.Engine.{Seen}
-use Rattle.claims.specs.Says.{lie}
+use Rattle.claims.specs.Says.{nothing, lie, Entry, entry, charged}
 use Rattle.claims.specs.Held.{at}
+use Rattle.claims.specs.Events.{goesOn}
 use Rattle.claims.specs.Promise.{suspends, Roomy}
 use Rattle.claims.specs.Steps.{seenOf, viewOf, opOf, steps}
+use Rattle.claims.proofs.Entry as E
 use Rattle.claims.proofs.Tries.{taken, tries, keyed, inBody}
 use Rattle.claims.proofs.Suspension.{paidBy}
 use Rattle.claims.proofs.Cores.{no-both}
-use Rattle.claims.proofs.Quiet.{Same, alloc-same}
-use Rattle.claims.proofs.Enters.{length-top}
+use Rattle.claims.proofs.Quiet.{Same, same-none, alloc-same}
+use Rattle.claims.proofs.Enters.{length-top, ChargeCase, c-done, c-spent, c-close, charge-case}
+use Rattle.claims.proofs.Instr.{Alike, alike, coro-alike}
 use Rattle.claims.proofs.Views.{base-top}
+use Rattle.claims.proofs.Whom.{told, charged-by}
+use Rattle.claims.proofs.Paid.{Paid, paid-for, paid-number}
 use Rattle.claims.proofs.Bodies.{Cut, cut-above, cut-base}
-use Rattle.claims.proofs.Exact.{healthy-sound, number-sound}
-use Rattle.claims.proofs.Numbers.{call-number}
-
-some-op : {a b : Op} → _≡_ {A = Option Op} (some a) (some b) → a ≡ b
-some-op e = cc
+use Rattle.claims.proofs.Exact.{healthy-sound, number-sound, some-op}
+use Rattle.claims.proofs.Numbers.{step-number, call-number}
 
 stands : (over : List Frame) (body : Frame) (under : List Frame) → isNil (over ++ (body ∷ under)) ≡ false
 stands [] body under = refl
@@ -87,6 +90,24 @@ room-less a b c d l k p e h =
     let q : min (c + d) (2 ^ 64 - 1) ≤ l = leb-true (min (c + d) (2 ^ 64 - 1)) l h in
     le-leb (min (a + b) (2 ^ 64 - 1)) k (omega (arith, p, e, q))
 
+-- u is w but for the top pc, bytes and objects
+record Near (pc : ℕ) (w u : World) : Type 0 where
+  setup : u .setup ≡ w .setup
+  stack : u .stack ≡ w .stack
+  tops : onTop (setPc pc) (u .frames) ≡ onTop (setPc pc) (w .frames)
+  chain : u .chain ≡ w .chain
+  coros : (c : ℕ) → coro u c ≡ coro w c
+
+near : {pc : ℕ} {w v u : World} → Alike pc w v → Same v u → Near pc w u
+near {pc} a s =
+    record {
+      setup = s .setup ∙ a .setup;
+      stack = s .stack ∙ a .stack;
+      tops = ap (onTop (setPc pc)) (s .frames) ∙ a .tops;
+      chain = s .chain ∙ a .chain;
+      coros = λ c. s .coros c ∙ coro-alike a c;
+    }
+
 module _ (w : World) (n c : ℕ) (m : Roomy steps n c w) where
   well : sound w ≡ true
   well = healthy-sound w (m .healthy)
@@ -97,13 +118,8 @@ module _ (w : World) (n c : ℕ) (m : Roomy steps n c w) where
   abbrev t : Cut (w .frames) a
   t = record { over = m .held .over; body = m .held .body; under = m .held .under; frames = m .held .frames; its-own = m .held .its-own; floor = refl }
 
-  -- the fuel pays
-  charges : (pc : ℕ) → charge (OptPc.Some pc) w ≡ after (spend w) (Charge.Done 0)
-  unfolding charge
-  charges pc = ap (λ b. pick b (chargeSlow (OptPc.Some pc) w) (after (spend w) (Charge.Done 0))) (m .fuel) ∙ pick-false (chargeSlow (OptPc.Some pc) w) (after (spend w) (Charge.Done 0))
-
-  -- at u, which is w but for n bytes at most and an object; its own words are as they were
-  module _ (u : World) (same : Same w u) (paid : u .used ≤ w .used + n) (pc dst x : ℕ) (st : CoroState) (keys : Keys) where
+  -- at u, which is w but for the pc, n bytes at most and an object; its own words are as they were
+  module _ (u : World) (pc : ℕ) (same : Near pc w u) (paid : u .used ≤ w .used + n) (dst x : ℕ) (st : CoroState) (keys : Keys) where
     abbrev v : World
     v = storePc pc u
 
@@ -112,17 +128,17 @@ module _ (w : World) (n c : ℕ) (m : Roomy steps n c w) where
 
     inside : leb (length (onTop (setPc pc) (u .frames))) (length (m .held .under)) ≡ false
     inside =
-        let e : length (onTop (setPc pc) (u .frames)) ≡ length (w .frames) = length-top (setPc pc) (u .frames) ∙ ap (λ (fs : List Frame). length fs) (same .frames) in
+        let e : length (onTop (setPc pc) (u .frames)) ≡ length (w .frames) = ap (λ (fs : List Frame). length fs) (same .tops) ∙ length-top (setPc pc) (w .frames) in
         let f : length (w .frames) ≡ length (m .held .over) + suc (length (m .held .under)) = ap (λ (fs : List Frame). length fs) (m .held .frames) ∙ length-append (m .held .over) (m .held .body ∷ m .held .under) in
         lt-leb (length (onTop (setPc pc) (u .frames))) (length (m .held .under)) (omega (arith, e, f))
 
     words : length (K .regs) ≡ length (drop (m .held .body .base) (w .stack))
-    words = (λ i. length (drop (baseAt (a .floor) (onTop (setPc pc) (same .frames i))) (same .stack i))) ∙ ap (λ b. length (drop b (w .stack))) (cut-base pc (w .frames) a t)
+    words = (λ i. length (drop (baseAt (a .floor) (same .tops i)) (same .stack i))) ∙ ap (λ b. length (drop b (w .stack))) (cut-base pc (w .frames) a t)
 
     frames : length (K .frames) ≡ length (m .held .over ++ (m .held .body ∷ []))
     frames =
         length-map (above (a .floor) (onTop (setPc pc) (u .frames))) (lower (baseAt (a .floor) (onTop (setPc pc) (u .frames))))
-        ∙ (ap (λ (fs : List Frame). length (above (a .floor) (onTop (setPc pc) fs))) (same .frames)
+        ∙ (ap (λ (fs : List Frame). length (above (a .floor) fs)) (same .tops)
         ∙ (ap (λ (fs : List Frame). length fs) (cut-above pc (w .frames) a t) ∙ at-length pc (m .held .over ++ (m .held .body ∷ []))))
 
     fits-still : (r : Rest) → m .seen .mostWords ≡ r .maxregs → m .seen .mostFrames ≡ r .maxframes → fits v (growth v K r) ≡ true
@@ -138,7 +154,7 @@ module _ (w : World) (n c : ℕ) (m : Roomy steps n c w) where
         ap (λ b. taken (pick (not b) (after v (Suspension.Refused Fault.OutOfMemory)) (after (Coro.putToSleep a (m .held .outer) K x keys r v) (Suspension.Done (a .driver) (Coro.eventOf st x (Coro.setKeys keys r)))) .answer)) (fits-still r (sym (ap mostWords q)) (sym (ap mostFrames q)))
         ∙ ap (λ (y : After Suspension). taken (y .answer)) (pick-false (after v (Suspension.Refused Fault.OutOfMemory)) (after (Coro.putToSleep a (m .held .outer) K x keys r v) (Suspension.Done (a .driver) (Coro.eventOf st x (Coro.setKeys keys r)))))
 
-    pub accepted : tries pc st dst x u keys ≡ true
+    accepted : tries pc st dst x u keys ≡ true
     unfolding coroSuspend
     accepted =
         ap (λ (cs : List Active). taken (suspendInnermost cs st dst x keys v .answer)) (same .chain ∙ m .held .chain)
@@ -146,97 +162,108 @@ module _ (w : World) (n c : ℕ) (m : Roomy steps n c w) where
         ∙ (ap (λ (y : After Suspension). taken (y .answer)) (pick-false (after v (Suspension.Refused Fault.CannotSuspend)) (suspendCoroutine (coro u c) a (m .held .outer) K x keys v))
         ∙ found (coro u c) (ap seenOf (same .coros c) ∙ m .there)))
 
-  spent : Same w (spend w)
-  spent = record { setup = refl; stack = refl; frames = refl; chain = refl; coros = λ x. refl }
+  -- an instruction whose operands lie takes it, at the world that the charge leaves
+  module _ (pc : ℕ) where
+    abbrev p : Paid pc w
+    p = paid-for w well pc (m .paid pc)
 
-  still : spend w .used ≤ w .used + n
-  still = omega arith
+    abbrev u : World
+    u = p .left
 
-  -- an instruction whose operands lie takes it
-  takes : (pc : ℕ) (ok : Bool) (f : World → Bool) → ok ≡ true → f (spend w) ≡ true →
-      pick (isNil (w .frames)) false (pick (not ok) false (paidBy f (charge (OptPc.Some pc) w .world) (charge (OptPc.Some pc) w .answer))) ≡ true
-  takes pc ok f o h =
-      ap (λ b. pick b false (pick (not ok) false (paidBy f (charge (OptPc.Some pc) w .world) (charge (OptPc.Some pc) w .answer)))) (ap (λ (fs : List Frame). isNil fs) (m .held .frames) ∙ stands (m .held .over) (m .held .body) (m .held .under))
-      ∙ (pick-false false (pick (not ok) false (paidBy f (charge (OptPc.Some pc) w .world) (charge (OptPc.Some pc) w .answer)))
-      ∙ (ap (λ b. pick (not b) false (paidBy f (charge (OptPc.Some pc) w .world) (charge (OptPc.Some pc) w .answer))) o
-      ∙ (pick-false false (paidBy f (charge (OptPc.Some pc) w .world) (charge (OptPc.Some pc) w .answer))
-      ∙ (ap (λ (x : After Charge). paidBy f (x .world) (x .answer)) (charges pc) ∙ h))))
+    beside : Near pc w u
+    beside = near (p .alike) same-none
+
+    still : u .used ≤ w .used + n
+    still = let e = p .alike .used in omega (arith, e)
+
+    stand : isNil (w .frames) ≡ false
+    stand = ap (λ (fs : List Frame). isNil fs) (m .held .frames) ∙ stands (m .held .over) (m .held .body) (m .held .under)
+
+    takes : (ok : Bool) (f : World → Bool) → ok ≡ true → f u ≡ true →
+        pick (isNil (w .frames)) false (pick (not ok) false (paidBy f (charge (OptPc.Some pc) w .world) (charge (OptPc.Some pc) w .answer))) ≡ true
+    takes ok f o h =
+        let tail : Bool = paidBy f (charge (OptPc.Some pc) w .world) (charge (OptPc.Some pc) w .answer) in
+        ap (λ b. pick b false (pick (not ok) false tail)) stand
+        ∙ (pick-false false (pick (not ok) false tail)
+        ∙ (ap (λ b. pick (not b) false tail) o
+        ∙ (pick-false false tail
+        ∙ (ap (λ (x : After Charge). paidBy f (x .world) (x .answer)) (p .is) ∙ h))))
+
+    -- the innermost is c
+    inner : (f : Active → Bool) → f a ≡ true → inBody (u .chain) f ≡ true
+    inner f h = ap (λ (cs : List Active). inBody cs f) (beside .chain ∙ m .held .chain) ∙ h
 
   pub await-takes : (k : Call) (pc dst src : ℕ) → opOf k ≡ some (Op.Await pc dst src) → lie (viewOf w) (dst ∷ src ∷ []) ≡ true → suspends (numberOf (step w k .answer)) ≡ true
   await-takes (SetUp s) pc dst src e l = let z : _≡_ {A = ℕ} 0 1 = cc in absurd (omega arith)
   await-takes (Do o) pc dst src e l =
       ap (λ x. suspends (numberOf x)) (number-sound w o well)
       ∙ (ap (λ q. suspends (numberOf (call q w .answer))) (some-op e)
-      ∙ (call-number w well (Op.Await pc dst src) refl
-      ∙ takes pc (allIn (dst ∷ src ∷ []) w) _ (rw (← base-top (w .frames)) l) (ap
-      (λ (cs : List Active). inBody cs (λ _. tries pc CoroState.Awaiting dst (reg (spend w) src) (spend w) Keys.Keep)) (m .held .chain) ∙ accepted (spend w) spent still pc dst
-      (reg (spend w) src) CoroState.Awaiting Keys.Keep)))
+      ∙ (call-number w well (Op.Await pc dst src) refl .ok
+      ∙ takes pc (allIn (dst ∷ src ∷ []) w) _ (rw (← base-top (w .frames)) l)
+      (inner pc (λ _. tries pc CoroState.Awaiting dst (reg (u pc) src) (u pc) Keys.Keep) (accepted (u pc) pc (beside pc) (still pc) dst (reg (u pc) src) CoroState.Awaiting Keys.Keep))))
 
   pub kv-takes : (k : Call) (pc dst src key : ℕ) → opOf k ≡ some (Op.YieldKv pc dst src key) → lie (viewOf w) (dst ∷ src ∷ key ∷ []) ≡ true → suspends (numberOf (step w k .answer)) ≡ true
   kv-takes (SetUp s) pc dst src key e l = let z : _≡_ {A = ℕ} 0 1 = cc in absurd (omega arith)
   kv-takes (Do o) pc dst src key e l =
-      let keys : Active → Keys = λ b. Keys.Set (reg (spend w) key) (largerOf (largestIn (coro (spend w) (b .coro))) (dynInt (spend w) (reg (spend w) key))) in
+      let keys : Active → Keys = λ b. Keys.Set (reg (u pc) key) (largerOf (largestIn (coro (u pc) (b .coro))) (dynInt (u pc) (reg (u pc) key))) in
       ap (λ x. suspends (numberOf x)) (number-sound w o well)
       ∙ (ap (λ q. suspends (numberOf (call q w .answer))) (some-op e)
-      ∙ (call-number w well (Op.YieldKv pc dst src key) refl
-      ∙ takes pc (allIn (dst ∷ src ∷ key ∷ []) w) _ (rw (← base-top (w .frames)) l) (ap
-      (λ (cs : List Active). inBody cs (λ b. tries pc CoroState.Yielded dst (reg (spend w) src) (spend w) (keys b))) (m .held .chain) ∙ accepted (spend w) spent still pc dst
-      (reg (spend w) src) CoroState.Yielded (keys a))))
+      ∙ (call-number w well (Op.YieldKv pc dst src key) refl .ok
+      ∙ takes pc (allIn (dst ∷ src ∷ key ∷ []) w) _ (rw (← base-top (w .frames)) l)
+      (inner pc (λ b. tries pc CoroState.Yielded dst (reg (u pc) src) (u pc) (keys b)) (accepted (u pc) pc (beside pc) (still pc) dst (reg (u pc) src) CoroState.Yielded (keys a)))))
 
   -- ---- a Yield: its key is made, or there is none (7)
 
-  module _ (cost : n ≡ w .setup .costs .int) (slot : slotsFull w ≡ false) where
+  module _ (cost : n ≡ w .setup .costs .int) (slot : slotsFull w ≡ false) (pc : ℕ) where
+    abbrev y : World
+    y = u pc
+
     abbrev largest : ℕ
-    largest = largestIn (coro (spend w) c)
+    largest = largestIn (coro y c)
 
-    affords : fits (spend w) (w .setup .costs .int) ≡ true
+    setup : y .setup ≡ w .setup
+    setup = p pc .alike .setup
+
+    affords : fits y (y .setup .costs .int) ≡ true
     affords =
-        room-less (w .used) (w .setup .costs .int) (w .used) (n + grown w n c m) (w .setup .limits .memory) (w .setup .limits .memory) (omega (arith, cost)) refl (m .grows)
+        let e = p pc .alike .used in
+        let i : y .setup .costs .int ≡ w .setup .costs .int = ap (λ s. s .costs .int) setup in
+        room-less (y .used) (y .setup .costs .int) (w .used) (n + grown w n c m) (w .setup .limits .memory) (y .setup .limits .memory) (omega (arith, cost, e, i)) (ap (λ s. s .limits .memory) (sym setup)) (m .grows)
 
-    key-made : (pc dst x : ℕ) (k : ℕ) → nextKey largest ≡ Exact.Fits k
-        → keyed (tries pc CoroState.Yielded dst x) (autoKey largest (spend w) .world) (autoKey largest (spend w) .answer) ≡ true
+    room : slotsFull y ≡ false
+    room = (λ i. leb (setup i .limits .slots) (length (p pc .alike .slots i))) ∙ slot
+
+    key-made : (dst x : ℕ) (k : ℕ) → nextKey largest ≡ Exact.Fits k → keyed (tries pc CoroState.Yielded dst x) (autoKey largest y .world) (autoKey largest y .answer) ≡ true
     unfolding autoKey alloc pick
-    key-made pc dst x k e = ap (λ y. keyed (tries pc CoroState.Yielded dst x) (keyExact y (spend w) .world) (keyExact y (spend w) .answer)) e ∙ go (inlineOf (ofBits 63 k))
+    key-made dst x k e = ap (λ z. keyed (tries pc CoroState.Yielded dst x) (keyExact z y .world) (keyExact z y .answer)) e ∙ go (inlineOf (ofBits 63 k))
       where
         made : World
-        made = withUsed (satAdd (w .used) (w .setup .costs .int)) (withSlots (pushObject (w .slots) (Object.Int k)) (spend w))
+        made = withUsed (satAdd (y .used) (y .setup .costs .int)) (withSlots (pushObject (y .slots) (Object.Int k)) y)
 
         object : (b d : Bool) → b ≡ false → d ≡ false
-            → let o = pick b (refuse (spend w) Fault.OutOfMemory) (pick d (refuse (spend w) Fault.Full) (after made (WordOr.Word (nextWord (w .slots))))) in Same w (o .world)
+            → let o = pick b (refuse y Fault.OutOfMemory) (pick d (refuse y Fault.Full) (after made (WordOr.Word (nextWord (y .slots))))) in Same y (o .world)
             → keyed (tries pc CoroState.Yielded dst x) (andThen o (keyAt k) .world) (andThen o (keyAt k) .answer) ≡ true
         object true d p q g = no-both refl p
         object false true p q g = no-both refl q
-        object false false p q g = accepted made g (omega (arith, cost)) pc dst x CoroState.Yielded (Keys.Set (nextWord (w .slots)) k)
+        object false false b q g =
+            let e = p pc .alike .used in
+            let i : y .setup .costs .int ≡ w .setup .costs .int = ap (λ s. s .costs .int) setup in
+            accepted made pc (near (p pc .alike) g) (omega (arith, cost, e, i)) dst x CoroState.Yielded (Keys.Set (nextWord (y .slots)) k)
 
-        go : (i : Inline) → keyed (tries pc CoroState.Yielded dst x) (andThen (encodeAt i k (spend w)) (keyAt k) .world) (andThen (encodeAt i k (spend w)) (keyAt k) .answer) ≡ true
-        go (Inline.At y) = accepted (spend w) spent still pc dst x CoroState.Yielded (Keys.Set (y .0) k)
-        go Inline.Large = object (not (fits (spend w) (w .setup .costs .int))) (slotsFull w) (ap not affords) slot (let g = alloc-same (w .setup .costs .int) (Object.Int k) (spend w) refl in record { setup = g .setup; stack = g .stack; frames = g .frames; chain = g .chain; coros = g .coros })
+        go : (i : Inline) → keyed (tries pc CoroState.Yielded dst x) (andThen (encodeAt i k y) (keyAt k) .world) (andThen (encodeAt i k y) (keyAt k) .answer) ≡ true
+        go (Inline.At z) = accepted y pc (beside pc) (still pc) dst x CoroState.Yielded (Keys.Set (z .0) k)
+        go Inline.Large = object (not (fits y (y .setup .costs .int))) (slotsFull y) (ap not affords) room (let g = alloc-same (y .setup .costs .int) (Object.Int k) y refl in record { setup = g .setup; stack = g .stack; frames = g .frames; chain = g .chain; coros = g .coros })
 
-    seven : (pc dst src : ℕ) → nextKey largest ≡ Exact.Over → yield pc dst src (spend w) .answer ≡ Step.Fault Fault.ArithOverflow
+    seven : (dst src : ℕ) → nextKey largest ≡ Exact.Over → yield pc dst src y .answer ≡ Step.Fault Fault.ArithOverflow
     unfolding yield autoKey
-    seven pc dst src e =
-        ap (λ (cs : List Active). yieldOn cs pc dst src (spend w) .answer) (m .held .chain)
-        ∙ ap (λ y. andThen (keyExact y (spend w)) (yieldKey pc dst (reg (spend w) src)) .answer) e
+    seven dst src e =
+        ap (λ (cs : List Active). yieldOn cs pc dst src y .answer) (beside pc .chain ∙ m .held .chain)
+        ∙ ap (λ z. andThen (keyExact z y) (yieldKey pc dst (reg y src)) .answer) e
 
-    -- the number of an instruction that is paid for
-    number-paid : (pc : ℕ) (ok : Bool) (arm : World → After Step) → ok ≡ true → instruction pc ok arm w .answer ≡ answerOf 0 (arm (spend w) .answer)
-    unfolding instruction
-    number-paid pc ok arm o =
-        let tail = andThen (charge (OptPc.Some pc) w) (charged arm) in
-        ap (λ b. pick b (refused w Fault.NoFrame) (pick (not ok) (refused w Fault.BadOperand) tail) .answer) (ap (λ (fs : List Frame). isNil fs) (m .held .frames) ∙ stands (m .held .over) (m .held .body) (m .held .under))
-        ∙ (ap (λ (x : After Answer). x .answer) (pick-false (refused w Fault.NoFrame) (pick (not ok) (refused w Fault.BadOperand) tail))
-        ∙ (ap (λ b. pick (not b) (refused w Fault.BadOperand) tail .answer) o
-        ∙ (ap (λ (x : After Answer). x .answer) (pick-false (refused w Fault.BadOperand) tail)
-        ∙ ap (λ (x : After Charge). andThen x (charged arm) .answer) (charges pc))))
-
-    numbered : (suspends (numberOf (answerOf 0 (Step.Fault Fault.ArithOverflow))) || eqb (numberOf (answerOf 0 (Step.Fault Fault.ArithOverflow))) 7) ≡ true
-    unfolding pick
-    numbered = refl
-
-    pub yield-takes : (k : Call) (pc dst src : ℕ) → opOf k ≡ some (Op.Yield pc dst src) → lie (viewOf w) (dst ∷ src ∷ []) ≡ true → (suspends (numberOf (step w k .answer)) || eqb (numberOf (step w k .answer)) 7) ≡ true
+    pub yield-takes : (k : Call) (dst src : ℕ) → opOf k ≡ some (Op.Yield pc dst src) → lie (viewOf w) (dst ∷ src ∷ []) ≡ true → (suspends (numberOf (step w k .answer)) || eqb (numberOf (step w k .answer)) 7) ≡ true
     unfolding call
-    yield-takes (SetUp s) pc dst src e l = let z : _≡_ {A = ℕ} 0 1 = cc in absurd (omega arith)
-    yield-takes (Do o) pc dst src e l = ap (λ x. suspends (numberOf x) || eqb (numberOf x) 7) (number-sound w o well ∙ ap (λ q. call q w .answer) (some-op e)) ∙ go (nextKey largest) refl
+    yield-takes (SetUp s) dst src e l = let z : _≡_ {A = ℕ} 0 1 = cc in absurd (omega arith)
+    yield-takes (Do o) dst src e l = ap (λ x. suspends (numberOf x) || eqb (numberOf x) 7) (number-sound w o well ∙ ap (λ q. call q w .answer) (some-op e)) ∙ go (nextKey largest) refl
       where
         ok : allIn (dst ∷ src ∷ []) w ≡ true
         ok = rw (← base-top (w .frames)) l
@@ -244,12 +271,12 @@ module _ (w : World) (n c : ℕ) (m : Roomy steps n c w) where
         first : (b d : Bool) → b ≡ true → (b || d) ≡ true
         first b d h = ap (λ x. x || d) h
 
-        go : (y : Exact) → nextKey largest ≡ y → (suspends (numberOf (call (Op.Yield pc dst src) w .answer)) || eqb (numberOf (call (Op.Yield pc dst src) w .answer)) 7) ≡ true
+        go : (z : Exact) → nextKey largest ≡ z → (suspends (numberOf (call (Op.Yield pc dst src) w .answer)) || eqb (numberOf (call (Op.Yield pc dst src) w .answer)) 7) ≡ true
         go (Exact.Fits k) q =
             first (suspends (numberOf (call (Op.Yield pc dst src) w .answer))) _
-            (call-number w well (Op.Yield pc dst src) refl
-            ∙ takes pc (allIn (dst ∷ src ∷ []) w) _ ok (ap
-            (λ (cs : List Active). inBody cs (λ b. keyed (tries pc CoroState.Yielded dst (reg (spend w) src)) (autoKey (largestIn (coro (spend w) (b .coro))) (spend w) .world) (autoKey (largestIn (coro (spend w) (b .coro))) (spend w) .answer)))
-            (m .held .chain) ∙ key-made pc dst (reg (spend w) src) k q))
+            (call-number w well (Op.Yield pc dst src) refl .ok
+            ∙ takes pc (allIn (dst ∷ src ∷ []) w) _ ok
+            (inner pc (λ b. keyed (tries pc CoroState.Yielded dst (reg y src)) (autoKey (largestIn (coro y (b .coro))) y .world) (autoKey (largestIn (coro y (b .coro))) y .answer)) (key-made dst (reg y src) k q)))
         go Exact.Over q =
-            ap (λ x. suspends (numberOf x) || eqb (numberOf x) 7) (number-paid pc (allIn (dst ∷ src ∷ []) w) (yield pc dst src) ok ∙ ap (answerOf 0) (seven pc dst src q)) ∙ numbered
+            ap (λ n. suspends n || eqb n 7)
+            (ap numberOf (paid-number w pc (p pc) (allIn (dst ∷ src ∷ []) w) (yield pc dst src) (stand pc) ok ∙ ap (answerOf (p pc .words)) (seven dst src q)) ∙ step-number (p pc .words) (Step.Fault Fault.ArithOverflow))

@@ -5,18 +5,17 @@ use native.Mathlib.Decide.{ℕ-discrete}
 use mathlib.Core.Path.{_≡_, refl, sym, ap, _∙_, subst}
 use mathlib.Core.Logic.{_⊎_, inl, inr}
 use mathlib.Core.Bool.{Bool, true, false}
-use mathlib.Core.List.{List, _∷_}
-use mathlib.Core.Option.{Option, none, some}
+use mathlib.Core.List.{_∷_}
+use mathlib.Core.Option.{none, some}
 use Rattle.heap.specs.declared.object.CoroState.{CoroState}
 use Rattle.model.specs.Lists.{isNil}
 use Rattle.model.specs.State.{isCreated, isRunning, isSuspended}
 use Rattle.model.specs.Object.{Coroutine, Absent, Is}
 use Rattle.model.specs.World.{World}
 use Rattle.model.specs.Heap.{coro}
-use Rattle.model.specs.Call.{Call, Do, Operation}
-use Rattle.model.specs.declared.machine.Active.{Active}
+use Rattle.model.specs.Call.{Call}
 use Rattle.model.specs.declared.call.Op.{Op}
-use Rattle.claims.specs.Engine.{Seen, isNew, runs, sleeps, ended, seenIn, is}
+use Rattle.claims.specs.Engine.{isNew, runs, sleeps, ended, seenIn, is}
 use Rattle.claims.specs.Says.{doing}
 use Rattle.claims.specs.Demand3 as D
 use Rattle.claims.specs.Events as Said
@@ -32,7 +31,7 @@ use Rattle.claims.proofs.Events.{susp-born, run-born}
 use Rattle.claims.proofs.Sounds.{apart}
 use Rattle.claims.proofs.Calls.{shape}
 use Rattle.claims.proofs.Claim.{StepCase, anew, same, does, step-case, fresh-absent}
-use Rattle.claims.proofs.Views.{is-runs, says-alike}
+use Rattle.claims.proofs.Views.{new-state, is-runs, says-alike}
 use Rattle.claims.proofs.Restores.{restarts-old}
 use Rattle.claims.proofs.Still.{undoneBy, alike-undone}
 
@@ -149,16 +148,8 @@ module _ (c : ℕ) where
       ap (λ x. isCreated (x .state)) (u .ends .others c (subst (Apart c) (u .inmost) (m .0) .0)) ∙ m .1
   comes-shape f (S.stops e i t) n h = ap (λ x. isCreated (x .state)) (t .apart c n) ∙ ap (λ x. isCreated (coreIn x .state)) h
 
-created-new : (s : CoroState) → isCreated s ≡ true → isNew s ≡ true
-created-new CoroState.Created e = refl
-created-new CoroState.Running e = no-both e refl
-created-new CoroState.Yielded e = no-both e refl
-created-new CoroState.Awaiting e = no-both e refl
-created-new CoroState.Returned e = no-both e refl
-created-new CoroState.Failed e = no-both e refl
-
-pub comes : (c : ℕ) (w : World) (k : Call) → (undone (doing (viewOf w) (opOf k)) ≡ some c → ⊥) → viewOf w .coro c ≡ none → (viewOf (next w k) .coro c ≡ none) ⊎ (is (viewOf (next w k)) isNew c ≡ true)
-comes c w k u h = go (coro (next w k) c) refl (new (next w k) (step-case w k) u)
+pub comes-else : (c : ℕ) (w : World) (k : Call) → (undone (doing (viewOf w) (opOf k)) ≡ some c → ⊥) → viewOf w .coro c ≡ none → (viewOf (next w k) .coro c ≡ none) ⊎ (is (viewOf (next w k)) isNew c ≡ true)
+comes-else c w k u h = go (coro (next w k) c) refl (new (next w k) (step-case w k) u)
   where
     gone : (x : Coroutine) → seenOf x ≡ none → x ≡ Absent
     gone Absent e = refl
@@ -174,4 +165,4 @@ comes c w k u h = go (coro (next w k) c) refl (new (next w k) (step-case w k) u)
 
     go : (x : Coroutine) → coro (next w k) c ≡ x → isCreated (coreAt (next w k) c .state) ≡ true → (viewOf (next w k) .coro c ≡ none) ⊎ (is (viewOf (next w k)) isNew c ≡ true)
     go Absent q n = inl (ap seenOf q)
-    go (Is j r) q n = inr (ap (λ y. seenIn (λ z. isNew (z .state)) (seenOf y)) q ∙ created-new (j .state) (sym (ap (λ y. isCreated (coreIn y .state)) q) ∙ n))
+    go (Is j r) q n = inr (ap (λ y. seenIn (λ z. isNew (z .state)) (seenOf y)) q ∙ new-state (j .state) ∙ (sym (ap (λ y. isCreated (coreIn y .state)) q) ∙ n))

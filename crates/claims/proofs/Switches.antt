@@ -32,7 +32,7 @@ use Rattle.claims.proofs.Quiet.{Calm, calm-worked, done-calm, finish-en
 -- ---- coro_enter with the caller's pc, and then a tail
 
 stored : (p : ℕ) (v : World) → Stored p v (storePc p v)
-stored p v = record { setup = refl; stack = refl; frames = refl; chain = refl; slots = refl }
+stored p v = record { setup = refl; stack = refl; frames = refl; chain = refl; slots = refl; used = refl }
 
 -- the world that is left, where the word x is sent; where nothing is
 abbrev pub sentW : ℕ → World → Entered → World

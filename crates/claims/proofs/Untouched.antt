@@ -88,7 +88,7 @@ unfolding pick
 event-pick true x y = refl
 event-pick false x y = refl
 
-closing-seen : (k : Coroutine) → seenIn (λ x. x .closing) (seenOf k) ≡ marked (λ r. r .closing) k
+pub closing-seen : (k : Coroutine) → seenIn (λ x. x .closing) (seenOf k) ≡ marked (λ r. r .closing) k
 closing-seen Absent = refl
 closing-seen (Is k r) = refl
 

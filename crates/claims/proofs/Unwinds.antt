@@ -32,6 +32,7 @@ use Rattle.claims.specs.Steps.{seenOf, viewOf}
 use Rattle.claims.proofs.Cores.{no-both, and-left, and-right, coroIn, objectIn, push-cases, m-ending}
 use Rattle.claims.proofs.Shape.{View, view, Worked, done, tops, Apart}
 use Rattle.claims.proofs.Under.{keeps-pc}
+use Rattle.claims.proofs.Events.{or-left, or-right}
 use Rattle.claims.proofs.Quiet.{Same, same-worked}
 use Rattle.claims.proofs.Sounds.{two}
 use Rattle.claims.proofs.Bodies.{at-top}
@@ -41,15 +42,7 @@ use Rattle.claims.proofs.Escapes.{Ended, e-works, e-returns, then-ended
 
 apart-among : (c : ℕ) (chain : List Active) → among c (coros chain) ≡ false → Apart c chain
 apart-among c [] h = tt
-apart-among c (a ∷ chain) h = ((λ q. no-both (eq-eqb c (a .coro) q) (left (eqb c (a .coro)) (among c (coros chain)) h)), apart-among c chain (right (eqb c (a .coro)) (among c (coros chain)) h))
-  where
-    left : (a b : Bool) → (a || b) ≡ false → a ≡ false
-    left true b e = e
-    left false b e = refl
-
-    right : (a b : Bool) → (a || b) ≡ false → b ≡ false
-    right true b e = no-both refl e
-    right false b e = e
+apart-among c (a ∷ chain) h = ((λ q. no-both (eq-eqb c (a .coro) q) (or-left (eqb c (a .coro)) (among c (coros chain)) h)), apart-among c chain (or-right (eqb c (a .coro)) (among c (coros chain)) h))
 
 all-seen : (w : World) (chain : List Active) → distinct (coros chain) ≡ true → AllSeen (viewOf w) (w .slots) chain
 all-seen w [] h = tt
@@ -112,6 +105,16 @@ module _ (w : World) (h : sound w ≡ true) where
   word-ended x OptPc.None = frames-ended x (w .frames) w (sees w h) refl refl
   word-ended x (OptPc.Some p) = then-ended (λ y t. tops (setPc p) (keeps-pc p) t) (frames-ended x (at p (w .frames)) (storePc p w) (stored-sees (OptPc.Some p)) (at-top p (w .frames)) refl)
 
+  -- with the error object made
+  pub made-sees : (f : Fault) (u : World) → u .slots ≡ w .slots → u .setup ≡ w .setup → u .chain ≡ w .chain → Sees (viewOf w) (withUsed (satAdd (u .used) (u .setup .costs .error)) (withSlots (pushObject (u .slots) (errorOf f u)) u))
+  made-sees f u es e q =
+      let ys = pushObject (u .slots) (errorOf f u) in
+      let here : (c : ℕ) → coroIn ys c ≡ coroIn (w .slots) c = λ c. push-coros (u .slots) (errorOf f u) refl c ∙ ap (λ xs. coroIn xs c) es in
+      record {
+        handlers = λ n. ap (λ s. func s n .handlers) (sym e);
+        coros = subst (AllSeen (viewOf w) ys) (sym q) (all-same (viewOf w) (w .slots) ys here (w .chain) (sees w h .coros));
+      }
+
   object-at : (f : Fault) (u : World) (fs : List Frame) → u .slots ≡ w .slots → u .setup ≡ w .setup → u .frames ≡ fs → u .chain ≡ w .chain
       → let o = andThen (alloc (u .setup .costs .error) (errorOf f u) u) searchMade in Ended (view u) o (counted (o .answer) (escaped (viewOf w) (nextWord (w .slots)) fs (w .chain)))
   unfolding alloc pick
@@ -126,16 +129,10 @@ module _ (w : World) (h : sound w ≡ true) where
       same : Same u y
       same = record { setup = refl; stack = refl; frames = refl; chain = refl; coros = push-coros (u .slots) (errorOf f u) refl }
 
-      known : Sees (viewOf w) y
-      known = record {
-        handlers = λ n. ap (λ s. func s n .handlers) (sym e);
-        coros = subst (AllSeen (viewOf w) (y .slots)) (sym q) (all-same (viewOf w) (w .slots) (y .slots) (λ c. push-coros (u .slots) (errorOf f u) refl c ∙ ap (λ xs. coroIn xs c) es) (w .chain) (sees w h .coros));
-      }
-
       go : (a b : Bool) → Ended (view u) (andThen (made a b) searchMade) (counted (andThen (made a b) searchMade .answer) (escaped (viewOf w) (nextWord (w .slots)) fs (w .chain)))
       go true b = e-works done
       go false true = e-works done
-      go false false = ended-counted (then-ended (λ z t. same-worked same t) (subst (λ xs. Ended (view y) (searchFrames (nextWord (u .slots)) y) (escaped (viewOf w) (nextWord xs) fs (w .chain))) es (frames-ended (nextWord (u .slots)) fs y known p q)))
+      go false false = ended-counted (then-ended (λ z t. same-worked same t) (subst (λ xs. Ended (view y) (searchFrames (nextWord (u .slots)) y) (escaped (viewOf w) (nextWord xs) fs (w .chain))) es (frames-ended (nextWord (u .slots)) fs y (made-sees f u es e q) p q)))
 
   object-ended : (f : Fault) (pc : OptPc) → let u = storeSome pc w in let o = andThen (alloc (u .setup .costs .error) (errorOf f u) u) searchMade in Ended (view w) o (counted (o .answer) (raisedAt (viewOf w) (some (nextWord (w .slots))) pc))
   object-ended f OptPc.None = object-at f w (w .frames) refl refl refl refl

@@ -5,7 +5,7 @@ use native.Mathlib.Decide.{ℕ-discrete}
 use mathlib.Core.Path.{_≡_, refl, sym, ap, _∙_, subst}
 use mathlib.Core.Bool.{Bool, true, false, not, _&&_}
 use mathlib.Core.List.{List, [], _∷_, _++_}
-use mathlib.Core.Option.{Option, some}
+use mathlib.Core.Option.{some}
 use lib.IntN.{ℤ, pos}
 use lib.ListN.{length, length-append}
 use lib.Seq.{getD-at}
@@ -50,6 +50,7 @@ use Rattle.claims.proofs.Claim.{StepCase, anew, same, does, step-case, 
 use Rattle.claims.proofs.Views.{is-runs, is-ended}
 use Rattle.claims.proofs.Finishes.{FinishCase, f-other, f-returns, finish-case, dynIn, dyn-object}
 use Rattle.claims.proofs.Returned.{run-returned}
+use Rattle.claims.proofs.Exact.{some-op}
 
 -- ---- a new integer's word
 
@@ -87,6 +88,12 @@ word-of : WordOr → ℕ
 word-of (WordOr.Word y) = y
 word-of (WordOr.Refused f) = 0
 
+exact-in : (z : ℤ) → inRange 63 z ≡ true → exactly z ≡ Exact.Fits (bitsOf 63 z)
+exact-in z q = ap (λ b. pick b (Exact.Fits (bitsOf 63 z)) Exact.Over) q ∙ pick-true (Exact.Fits (bitsOf 63 z)) Exact.Over
+
+signed-in : (x : ℕ) → x < 2 ^ 64 → exactly (ofBits 63 x) ≡ Exact.Fits x
+signed-in x l = exact-in (ofBits 63 x) (lt-ltb (mag (ofBits 63 x)) (2 ^ 63) (of-range 63 x l)) ∙ ap Exact.Fits (bits-of 63 x l)
+
 module _ (w : World) (h : sound w ≡ true) where
   few : length (w .slots) < 2 ^ 32
   few = let k = sound→ {ex = false} w h (λ z. no-both z refl) .heap in let a = k .count in let b = k .small in omega (arith, a, b)
@@ -108,12 +115,6 @@ module _ (w : World) (h : sound w ≡ true) where
           (ap (dynIntBy Object.Empty isFilled intIn (w .slots)) (class-int (ofBits 63 n) (ltb-true (mag (ofBits 63 n)) (2 ^ 47) q)) ∙ ap Opt.Some (bits-of 63 n l))
       go false q e = object (not (fits w (w .setup .costs .int))) (slotsFull w) e
 
-  exact-in : (z : ℤ) → inRange 63 z ≡ true → exactly z ≡ Exact.Fits (bitsOf 63 z)
-  exact-in z q = ap (λ b. pick b (Exact.Fits (bitsOf 63 z)) Exact.Over) q ∙ pick-true (Exact.Fits (bitsOf 63 z)) Exact.Over
-
-  signed-in : (x : ℕ) → x < 2 ^ 64 → exactly (ofBits 63 x) ≡ Exact.Fits x
-  signed-in x l = exact-in (ofBits 63 x) (lt-ltb (mag (ofBits 63 x)) (2 ^ 63) (of-range 63 x l)) ∙ ap Exact.Fits (bits-of 63 x l)
-
   made-int : (kind : ResultKind) (x y : ℕ) → isInteger kind ≡ true → x < 2 ^ 64 → toDyn kind x w .answer ≡ WordOr.Word y → dynInt (toDyn kind x w .world) y ≡ Opt.Some x
   unfolding toDyn pick
   made-int ResultKind.None x y k l e = no-both k refl
@@ -127,6 +128,7 @@ module _ (w : World) (h : sound w ≡ true) where
       go true e = encoded x y l e
       go false e = let z : _≡_ {A = ℕ} 0 1 = cc in absurd (omega arith)
 
+module _ (w : World) where
   -- and what converts, where an object can be made, is made
   can-encode : (n : ℕ) → fits w (w .setup .costs .int) ≡ true → slotsFull w ≡ false → (f : Fault) → encodeInt n w .answer ≡ WordOr.Refused f → ⊥
   unfolding alloc pick
@@ -166,9 +168,6 @@ finish-at : (w : World) (c : ℕ) (kind : ResultKind) (x : ℕ) → sound w ≡ 
     → let z = call (Op.Finish kind x) w .world in isReturned (coreAt z c .state) ≡ true → dynInt z (recorded (seenOf (coro z c))) ≡ Opt.Some x
 unfolding call
 finish-at w c kind x s l i b r = finish-int kind x w s l i c (finish kind x w) b r (finish-case kind x w)
-
-some-op : {a b : Op} → _≡_ {A = Option Op} (some a) (some b) → a ≡ b
-some-op e = cc
 
 pub word-in : (o : Op) (kind : ResultKind) (x : ℕ) → o ≡ Op.Finish kind x → typed o ≡ true → x < 2 ^ 64
 unfolding typed

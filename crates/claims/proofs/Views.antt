@@ -19,7 +19,6 @@ use Rattle.model.specs.declared.machine.Driver.{Driver}
 use Rattle.model.specs.declared.call.OptPc.{OptPc}
 use Rattle.model.specs.declared.call.Op.{Op}
 use Rattle.claims.specs.Engine.{isNew, runs, awaits, sleeps, ended, seenIn, is}
-use Rattle.claims.specs.Says as Says
 use Rattle.claims.specs.Says.{base, Aim, enter, suspend, neither, Does, instr, hosts, finishes, raises, other, does, nothing, gets, closes}
 use Rattle.claims.specs.Held.{closer}
 use Rattle.claims.specs.Steps.{seenOf, viewOf}
@@ -30,7 +29,7 @@ use Rattle.claims.proofs.Split.{hasLeft}
 
 -- ---- states
 
-runs-state : (s : CoroState) → runs s ≡ isRunning s
+pub runs-state : (s : CoroState) → runs s ≡ isRunning s
 runs-state CoroState.Created = refl
 runs-state CoroState.Running = refl
 runs-state CoroState.Yielded = refl

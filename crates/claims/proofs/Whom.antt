@@ -4,7 +4,7 @@ use native.Mathlib.Omega.{arith}
 use mathlib.Core.Path.{_≡_, refl, sym, ap, _∙_}
 use mathlib.Core.Bool.{Bool, true, false, not, _&&_, _||_}
 use mathlib.Core.List.{List, [], _∷_}
-use mathlib.Core.Option.{Option, none, some}
+use mathlib.Core.Option.{Option, none, some, orElse}
 use lib.ListN.{length}
 use lib.Dec.{eqb, ltb, leb}
 use borrow.Author.Tests.{leb-true, leb-false, le-ltb, lt-ltb, eqb-true, ne-eqb}
@@ -27,8 +27,7 @@ use Rattle.model.specs.declared.coro.Started.{Started}
 use Rattle.model.specs.declared.call.OptPc.{OptPc}
 use Rattle.model.specs.declared.call.Op.{Op}
 use Rattle.claims.specs.Engine.{isNew, sleeps, seenIn, is}
-use Rattle.claims.specs.Says as Says
-use Rattle.claims.specs.Says.{Does, Entry, entry, fits, named, cleaned, banked, orElse, charged, whomBy, whom, nothing, gets, closes}
+use Rattle.claims.specs.Says.{Does, Entry, entry, fits, named, cleaned, banked, charged, whomBy, whom, nothing, gets, closes}
 use Rattle.claims.specs.Steps.{seenOf, viewOf}
 use Rattle.claims.proofs.Entry as E
 use Rattle.claims.proofs.Entry.{accepts, acceptsAs, sentTo, aimed, pcBy, entryBy, act}
@@ -109,6 +108,7 @@ first E.nobody y = y
 first (E.entry c d x) y = E.entry c d x
 
 told-first : (pc : ℕ) (x y : E.Entry) → orElse (told pc x) (told pc y) ≡ told pc (first x y)
+unfolding orElse
 told-first pc E.nobody y = refl
 told-first pc (E.entry c d x) y = refl
 
@@ -121,7 +121,7 @@ charge-says p w e = fast (eqb (w .fuel .fuel) 0) refl
     u = unbank (storePc p (unbank w))
 
     su : Stored p w u
-    su = record { setup = refl; stack = refl; frames = refl; chain = refl; slots = refl }
+    su = record { setup = refl; stack = refl; frames = refl; chain = refl; slots = refl; used = refl }
 
     start : (a : After Started) → StartCase p w u (w .finalize) a → E.charged (chargeOr a .answer) w e ≡ first (E.cleaned (w .finalize) w) e
     start a (s-some c n z q t) = let x = sym (cleaned-stored su (w .finalize)) ∙ q in x ∙ ap (λ y. first y e) (sym x)
@@ -149,7 +149,7 @@ charge-says p w e = fast (eqb (w .fuel .fuel) 0) refl
 
 -- ---- whom
 
-is-none : (fs : List Frame) → eqb (length fs) 0 ≡ isNil fs
+pub is-none : (fs : List Frame) → eqb (length fs) 0 ≡ isNil fs
 is-none [] = refl
 is-none (f ∷ fs) = ne-eqb (length (f ∷ fs)) 0 (λ e. omega (arith, e))
 
@@ -159,20 +159,21 @@ not-pick true x y = refl
 not-pick false x y = refl
 
 module _ (w : World) (h : sound w ≡ true) where
-  charged-told : (pc : ℕ) (a : E.Aim) → charged (viewOf w) pc (named (viewOf w) pc (aimOf a)) ≡ told pc (E.charged (charge (OptPc.Some pc) w .answer) w (aimed a w))
-  charged-told pc a =
-      (λ i. pick (eqb (w .fuel .fuel) 0) (pick (eqb (banked (w .fuel .bank)) 0) none (pick (w .fuel .ready) (orElse (cleaned-told w h pc (w .finalize) i) (named-aimed w h pc a i)) (named-aimed w h pc a i))) (named-aimed w h pc a i))
+  -- with whoever was to be entered
+  pub charged-by : (pc : ℕ) (e : E.Entry) → charged (viewOf w) pc (told pc e) ≡ told pc (E.charged (charge (OptPc.Some pc) w .answer) w e)
+  charged-by pc e =
+      (λ i. pick (eqb (w .fuel .fuel) 0) (pick (eqb (banked (w .fuel .bank)) 0) none (pick (w .fuel .ready) (orElse (cleaned-told w h pc (w .finalize) i) (told pc e)) (told pc e))) (told pc e))
       ∙ ap (λ y. pick (eqb (w .fuel .fuel) 0) (pick (eqb (banked (w .fuel .bank)) 0) none (pick (w .fuel .ready) y (told pc e))) (told pc e)) (told-first pc q e)
       ∙ ap (λ y. pick (eqb (w .fuel .fuel) 0) (pick (eqb (banked (w .fuel .bank)) 0) none y) (told pc e)) (told-pick pc (w .fuel .ready) (first q e) e)
       ∙ ap (λ y. pick (eqb (w .fuel .fuel) 0) y (told pc e)) (told-pick pc (eqb (banked (w .fuel .bank)) 0) E.nobody (pick (w .fuel .ready) (first q e) e))
       ∙ told-pick pc (eqb (w .fuel .fuel) 0) (pick (eqb (banked (w .fuel .bank)) 0) E.nobody (pick (w .fuel .ready) (first q e) e)) e
       ∙ ap (told pc) (sym (charge-says pc w e))
     where
-      e : E.Entry
-      e = aimed a w
-
       q : E.Entry
       q = E.cleaned (w .finalize) w
+
+  charged-told : (pc : ℕ) (a : E.Aim) → charged (viewOf w) pc (named (viewOf w) pc (aimOf a)) ≡ told pc (E.charged (charge (OptPc.Some pc) w .answer) w (aimed a w))
+  charged-told pc a = ap (charged (viewOf w) pc) (named-aimed w h pc a) ∙ charged-by pc (aimed a w)
 
   whom-alike : {a : E.Act} {d : Does} → Alike a d → whomBy (viewOf w) d ≡ told (pcBy a) (entryBy a w)
   whom-alike (l-at pc ok a) =

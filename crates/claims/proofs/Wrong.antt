@@ -6,7 +6,7 @@ use mathlib.Core.Path.{_≡_, refl, sym, ap, _∙_, subst}
 use mathlib.Core.Bool.{Bool, true, false, not, _&&_}
 use mathlib.Core.List.{List, [], _∷_, _++_, map, append-assoc}
 use mathlib.Core.Option.{Option, none, some}
-use lib.ListN.{length, getD, take, length-append}
+use lib.ListN.{length, getD, take, drop, length-append}
 use lib.Seq.{take-append-seam}
 use Rattle.heap.specs.declared.object.CoroState.{CoroState}
 use Rattle.model.specs.World.{World, fresh}
@@ -15,21 +15,24 @@ use Rattle.model.specs.Step as M
 use Rattle.model.specs.Compute.{computed}
 use Rattle.model.specs.declared.machine.Cont.{Cont}
 use Rattle.model.specs.declared.machine.Active.{Active}
+use Rattle.model.specs.declared.machine.Driver.{Driver}
 use Rattle.model.specs.declared.machine.Frame.{Frame}
 use Rattle.model.specs.declared.call.Op.{Op}
 use Rattle.claims.specs.Engine.{Seen, View, run, isNew}
 use Rattle.claims.specs.Says.{Sent, nothing, Entry, doing, whom}
-use Rattle.claims.specs.Held.{at, Moved, AllMoved, pcOf, stepped, given, Entered, Restored}
+use Rattle.claims.specs.Held.{at, Moved, AllMoved, pcOf, waitsIn, stepped, given, Entered, Restored}
+use Rattle.claims.specs.Delivery.{eventOf, Memory, memory, deliver, Left}
 use Rattle.claims.specs.Demand3.{Demand3}
 use Rattle.claims.specs.Premises.{runsIn, sleepsIn, waits}
 use Rattle.claims.specs.Steps.{viewOf, opOf}
 use Rattle.claims.specs.Story as Story
 use Rattle.claims.specs.Story.{wide, c, held}
 use Rattle.claims.specs.Witness.{nth, between, frame}
-use Rattle.claims.specs.Wrong.{bent, onTop, tail, ofZero, discards, bare, atOne, further, higher, once, begun, greeted, late, Wrong}
+use Rattle.claims.specs.Wrong.{bent, onTop, tail, ofZero, discards, bare, atOne, further, higher, once, begun, greeted, late, mistaking, tainting, Wrong}
 use Rattle.claims.proofs.Premises.{waits-true}
 use Rattle.claims.proofs.Cores.{no-both}
-use Rattle.claims.proofs.WrongEvents.{always-refused, return-fails, no-cleanup, closing-forgotten, failure-returns, await-yields, excused, throw-lost, close-pays, result-changes, aborted, renewed, comes-failed, fuel-stays, all-shown}
+use Rattle.claims.proofs.WrongEvents.{always-refused, return-fails, no-cleanup, closing-forgotten, failure-returns, await-yields, excused, throw-lost, ignored-unheard}
+use Rattle.claims.proofs.WrongEvents.{always-nine, caught-unheard, bank-unused, close-pays, result-changes, aborted, close-fails, close-refused, wrong-result, renewed, comes-failed, fuel-stays, other-limits, speechless, all-shown}
 
 abbrev first : List ℕ → ℕ
 first [] = 0
@@ -217,6 +220,34 @@ unfolding computed
 rows-once d = more-frames (d .restored c (run once (fresh wide) (take 13 held)) (nth held 13) (between held 13 23) (nth held 23) (record { before = refl; after = refl })
     (waits-true once c (once .next (run once (fresh wide) (take 13 held)) (nth held 13)) (between held 13 23) refl) (record { before = refl; after = refl })) 3 refl refl
 
+-- ---- words
+
+abbrev lastBase : List Frame → ℕ
+lastBase [] = 0
+lastBase (f ∷ []) = f .base
+lastBase (f ∷ g ∷ fs) = lastBase (g ∷ fs)
+
+last-append : (fs : List Frame) (f : Frame) → lastBase (fs ++ (f ∷ [])) ≡ f .base
+last-append [] f = refl
+last-append (g ∷ []) f = refl
+last-append (g ∷ h ∷ fs) f = last-append (h ∷ fs) f
+
+-- the word at place i, where the Coro frame's base is that of the last frame found
+word-back : {v : View} {x : Option Op} {w : View} {y : Option Op} {c : ℕ} {z : View} → Restored v x w y c z → (i : ℕ)
+    → getD (z .stack) i 0 ≡ getD (given (sentIn (whom w y)) (z .frames) (waitsIn (doing v x)) (w .stack ++ drop (lastBase (found v)) (v .stack))) i 0
+word-back {v} {x} {w} {y} {c} {z} r i =
+    let base = sym (ap lastBase (found-mine r) ∙ last-append (r .held .over) (r .held .body)) in
+    ap (λ xs. getD xs i 0) (r .words) ∙ (λ j. getD (given (sent-is r j) (z .frames) (waitsIn (doing v x)) (w .stack ++ drop (base j) (v .stack))) i 0)
+
+other-word : Demand3 mistaking → ⊥
+unfolding computed
+other-word d =
+    let before = run mistaking (fresh wide) (take 13 held) in
+    let q : _≡_ {A = ℕ} 5 11 =
+    word-back (d .restored c before (nth held 13) (between held 13 23) (nth held 23) (record { before = refl; after = refl })
+    (waits-true mistaking c (mistaking .next before (nth held 13)) (between held 13 23) refl) (record { before = refl; after = refl })) 12 in
+    absurd (omega (arith, q))
+
 -- ---- the first entry
 
 -- c is there, and has not begun
@@ -253,6 +284,28 @@ new-at-pc-1 : Demand3 (begun late) → ⊥
 unfolding computed waiting
 new-at-pc-1 d = let q : _≡_ {A = ℕ} 1 0 = ap first (pcs (d .entered c waiting resume (record { before = refl; after = refl })) fresh-one refl refl refl) in absurd (omega (arith, q))
 
+-- ---- what lies below
+
+abbrev driverIn : Option Entry → Driver
+driverIn none = Driver.Host
+driverIn (some e) = e .driver
+
+word-below : {w : View} {y : Option Op} {c : ℕ} {v : View} {k : Option Op} {z : View} (l : Left w y c v k z) (i : ℕ)
+    → getD (z .stack) i 0 ≡ getD (deliver (driverIn (whom w y)) (eventOf v (doing v k) c z) (memory (w .stack) (at (l .by .pc) (w .frames))) .stack) i 0
+word-below {w} {y} {c} {v} {k} {z} l i =
+    ap (λ (m : Memory). getD (m .stack) i 0) (l .under)
+    ∙ ap (λ d. getD (deliver d (eventOf v (doing v k) c z) (memory (w .stack) (at (l .by .pc) (w .frames))) .stack) i 0) (ap driverIn (sym (l .by .says)))
+
+yield-typed : typed (Op.Yield 3 0 1) ≡ true
+unfolding typed
+yield-typed = refl
+
+below-changed : Demand3 tainting → ⊥
+unfolding computed waiting
+below-changed d =
+    let q : _≡_ {A = ℕ} 5 0 = word-below (d .untouched c waiting resume [] (asCall (Op.Yield 3 0 1) yield-typed) (record { before = refl; after = refl }) tt (record { before = refl; after = refl })) 3 in
+    absurd (omega (arith, q))
+
 -- NONE OF THEM
 pub wrong : Wrong
 wrong =
@@ -270,16 +323,27 @@ wrong =
       closing-forgotten = closing-forgotten;
       failure-returns = failure-returns;
       rows-once = rows-once;
+      other-word = other-word;
+      below-changed = below-changed;
       new-gets-a-word = new-gets-a-word;
       new-at-pc-1 = new-at-pc-1;
       await-yields = await-yields;
       excused = excused;
       throw-lost = throw-lost;
+      ignored-unheard = ignored-unheard;
+      always-nine = always-nine;
+      caught-unheard = caught-unheard;
+      bank-unused = bank-unused;
       close-pays = close-pays;
       result-changes = result-changes;
       aborted = aborted;
+      close-fails = close-fails;
+      close-refused = close-refused;
+      wrong-result = wrong-result;
       renewed = renewed;
       comes-failed = comes-failed;
       fuel-stays = fuel-stays;
+      other-limits = other-limits;
+      speechless = speechless;
       all-shown = all-shown;
     }

@@ -3,32 +3,36 @@ use Prim.Native.Nat.{ℕ}
 use native.Mathlib.Omega.{arith}
 use mathlib.Core.Path.{_≡_, refl, ap}
 use mathlib.Core.Logic.{_⊎_, inl, inr}
-use mathlib.Core.Bool.{true}
+use mathlib.Core.Bool.{true, false}
 use mathlib.Core.List.{List, [], _∷_, _++_}
-use mathlib.Core.Option.{Option, none, some}
+use mathlib.Core.Option.{Option, none, some, orElse}
 use lib.ListN.{length, take}
+use lib.Dec.{ltb}
 use Rattle.lists.specs.Pick.{pick}
 use Rattle.heap.specs.declared.fault.Fault.{Fault}
 use Rattle.model.specs.World.{World, fresh}
 use Rattle.model.specs.Step as M
 use Rattle.model.specs.Answer.{numberOf}
-use Rattle.model.specs.Call.{SetUp, Do, typed, asCall}
+use Rattle.model.specs.Call.{Call, SetUp, Do, typed, asCall}
 use Rattle.model.specs.Compute.{computed}
+use Rattle.heap.specs.declared.object.CoroState.{CoroState}
+use Rattle.model.specs.declared.machine.Cont.{Cont}
 use Rattle.model.specs.declared.machine.Driver.{Driver}
 use Rattle.model.specs.declared.machine.Fuel.{Fuel}
 use Rattle.model.specs.declared.call.OptPc.{OptPc}
 use Rattle.model.specs.declared.call.Op.{Op}
-use Rattle.claims.specs.Engine.{Seen, run, code, isNew, is}
-use Rattle.claims.specs.Says.{nothing, gets, closes}
+use Rattle.claims.specs.Engine.{Seen, Rules, run, code, isNew, is}
+use Rattle.claims.specs.Says.{nothing, gets, closes, does}
 use Rattle.claims.specs.Delivery.{recorded}
 use Rattle.claims.specs.Events.{Healthy, thrown, escapes, Events}
-use Rattle.claims.specs.Promise.{SetUps, Looks}
-use Rattle.claims.specs.Steps.{viewOf}
+use Rattle.claims.specs.Promise.{Roomy, Accepts, SetUps, Looks, Speaks}
+use Rattle.claims.specs.Steps.{viewOf, opOf}
 use Rattle.claims.specs.Story as Story
 use Rattle.claims.specs.Story.{wide, c, held}
-use Rattle.claims.specs.Witness.{nth}
-use Rattle.claims.specs.Wrong.{idle, two, failing, forgetting, sparing, yielding, lostIn, excusing, muting, closing, rewriting, aborting, renewing, stillborn, fuelled, showing}
+use Rattle.claims.specs.Witness.{nth, frame}
+use Rattle.claims.specs.Wrong.{idle, two, failing, forgetting, sparing, yielding, lostIn, excusing, muting, hushing, grudging, cries, crying, unpaid, stingy, closing, rewriting, aborting, harsh, spurned, spurning, misnaming, renewing, stillborn, fuelled, shrinking, heardAs, deaf, showing}
 use Rattle.claims.proofs.Cores.{no-both}
+use Rattle.claims.proofs.Exact.{some-op}
 use Rattle.claims.proofs.Promise.{sound-healthy}
 
 -- ---- events
@@ -58,7 +62,7 @@ unfolding typed
 current-typed = refl
 
 pub no-cleanup : Events (idle two) → ⊥
-unfolding computed queued-ops queued
+unfolding computed queued-ops queued orElse
 no-cleanup v = no-both (v .entered c queued (asCall (Op.CoroCurrent 9 1) current-typed) (sound-healthy queued refl) (record { driver = Driver.Finalize; sent = closes 0; pc = 9; says = refl }) .after) refl
 
 -- c runs while it is being closed, and asks who runs
@@ -107,9 +111,6 @@ excusing-healthy (SetUp s) e = absurd (no-setting e)
     no-setting : _≡_ {A = Option Op} none (some Op.Look) → ⊥
     no-setting e = let z : _≡_ {A = ℕ} 0 1 = cc in absurd (omega arith)
 excusing-healthy (Do o) e = ap (λ p. pick (lostIn (begun .chain) (M.tested begun p .world)) 9 (numberOf (M.tested begun p .answer))) (some-op e)
-  where
-    some-op : {a b : Op} → _≡_ {A = Option Op} (some a) (some b) → a ≡ b
-    some-op e = cc
 
 pub excused : Events excusing → ⊥
 unfolding computed begun
@@ -131,6 +132,15 @@ unfolding computed sleeping-ops sleeping
 throw-lost v =
     let q : _≡_ {A = ℕ} 0 17 = v .answered c sleeping (asCall (Op.ResumeThrow 3 1 0 2) thrown-typed) (record { before = refl; after = refl }) (record { driver = Driver.Resume 1; sent = nothing; pc = 3; says = refl }) in
     absurd (omega (arith, q))
+
+-- c yields while it is being closed
+yield-typed : typed (Op.Yield 60 3 0) ≡ true
+unfolding typed
+yield-typed = refl
+
+pub ignored-unheard : Events hushing → ⊥
+unfolding computed closed-ops closed
+ignored-unheard v = let q : _≡_ {A = ℕ} 0 6 = v .heard c closed (asCall (Op.Yield 60 3 0) yield-typed) (record { before = refl; after = refl }) in absurd (omega (arith, q))
 
 -- c is closed with 9, which it does not catch
 dying-ops : List Op
@@ -167,11 +177,37 @@ stateIn (some x) = code (x .state)
 pub aborted : Events (aborting c) → ⊥
 unfolding computed waiting stateIn
 aborted v =
-    let q : _≡_ {A = ℕ} 5 0 = ap stateIn (v .unbegun c waiting (asCall (Op.CoroCurrent 9 1) current-typed) (λ r. no-set-up (r .sets-up)) (λ h. no-both (h .after) refl) refl (λ e. no-one e)) in
+    let q : _≡_ {A = ℕ} 5 0 = ap stateIn (v .unbegun c waiting (asCall (Op.CoroCurrent 9 1) current-typed) (λ r. no-set-up (r .sets-up)) (λ h. no-both (h .after) refl) refl (λ e _. no-one e)) in
     absurd (omega (arith, q))
   where
     no-one : _≡_ {A = Option ℕ} none (some c) → ⊥
     no-one e = let z : _≡_ {A = ℕ} 0 1 = cc in absurd (omega arith)
+
+-- it is closed; and c runs, and fails
+close-typed : typed (Op.CoroClose 3 1 0 2) ≡ true
+unfolding typed
+close-typed = refl
+
+pub close-fails : Events (harsh c) → ⊥
+unfolding computed waiting stateIn
+close-fails v = let q : _≡_ {A = ℕ} 5 4 = ap stateIn (v .closes-new c waiting (asCall (Op.CoroClose 3 1 0 2) close-typed) 3 1 0 2 refl refl refl refl) in absurd (omega (arith, q))
+
+spurning-healthy : Healthy (spurning c) waiting
+unfolding computed waiting
+spurning-healthy (SetUp s) e = let z : _≡_ {A = ℕ} 0 1 = cc in absurd (omega arith)
+spurning-healthy (Do o) e = ap (λ p. pick (spurned c waiting (M.tested waiting p .world)) 9 (numberOf (M.tested waiting p .answer))) (some-op e)
+
+pub close-refused : Accepts (spurning c) → ⊥
+unfolding computed waiting
+close-refused v =
+    let q : _≡_ {A = ℕ} 9 0 = v .close-new waiting (asCall (Op.CoroClose 3 1 0 2) close-typed) 3 1 0 2 (record { healthy = spurning-healthy; stands = refl; paid = λ pc y. refl }) refl refl refl in
+    absurd (omega (arith, q))
+
+pub wrong-result : Events (misnaming c) → ⊥
+unfolding computed begun
+wrong-result v =
+    let q : _≡_ {A = ℕ} 5 7 = ap recorded (v .spoilt c begun (asCall (Op.Unwind (Fault.Throw 7) OptPc.None) throw-typed) (Fault.Throw 7) OptPc.None 7 (record { before = refl; after = refl }) refl refl) in
+    absurd (omega (arith, q))
 
 pub renewed : Events (renewing c) → ⊥
 unfolding computed begun
@@ -187,11 +223,8 @@ new-typed = refl
 
 pub comes-failed : Events (stillborn c) → ⊥
 unfolding computed called stateIn
-comes-failed v = go (v .comes c called (asCall (Op.CoroNew 1 0 0 0) new-typed) (λ e. no-one e) refl)
+comes-failed v = go (v .comes c called (asCall (Op.CoroNew 1 0 0 0) new-typed) refl)
   where
-    no-one : _≡_ {A = Option ℕ} none (some c) → ⊥
-    no-one e = let z : _≡_ {A = ℕ} 0 1 = cc in absurd (omega arith)
-
     z : World
     z = stillborn c .next called (asCall (Op.CoroNew 1 0 0 0) new-typed)
 
@@ -204,6 +237,95 @@ comes-failed v = go (v .comes c called (asCall (Op.CoroNew 1 0 0 0) new-typed) (
 pub fuel-stays : SetUps fuelled → ⊥
 unfolding computed begun
 fuel-stays v = let q : _≡_ {A = ℕ} 998 0 = ap (λ (f : Fuel). f .fuel) (v .begun begun (SetUp wide) (record { sets-up = refl; accepted = refl }) .fuel) in absurd (omega (arith, q))
+
+-- a fault is raised, and nobody catches it
+fault-typed : typed (Op.Unwind Fault.TypeError OptPc.None) ≡ true
+unfolding typed
+fault-typed = refl
+
+grudging-healthy : Healthy grudging begun
+unfolding computed begun
+grudging-healthy (SetUp s) e = let z : _≡_ {A = ℕ} 0 1 = cc in absurd (omega arith)
+grudging-healthy (Do o) e = ap (λ p. pick (ltb 0 (numberOf (M.tested begun p .answer))) 9 0) (some-op e)
+
+pub always-nine : Accepts grudging → ⊥
+unfolding computed begun
+always-nine v =
+    let q : _≡_ {A = ℕ} 9 17 = v .raise begun (asCall (Op.Unwind Fault.TypeError OptPc.None) fault-typed) Fault.TypeError OptPc.None Story.d grudging-healthy refl (λ y e. no-throw e) refl in
+    absurd (omega (arith, q))
+  where
+    no-throw : {y : ℕ} → Fault.TypeError ≡ Fault.Throw y → ⊥
+    no-throw e = let z : _≡_ {A = ℕ} 0 1 = cc in absurd (omega arith)
+
+-- c is closed with 9, and catches it
+raising-ops : List Op
+raising-ops = Story.begin 1 ++ (Op.Yield 8 3 0 ∷ Op.PutWord 2 9 ∷ Op.CoroClose 3 1 0 2 ∷ [])
+
+raising : World
+raising = M.runOps (fresh wide) raising-ops
+
+crying-healthy : Healthy crying raising
+unfolding computed raising-ops raising
+crying-healthy (SetUp s) e = let z : _≡_ {A = ℕ} 0 1 = cc in absurd (omega arith)
+crying-healthy (Do o) e = ap (λ p. cries (does (viewOf raising) p) (numberOf (M.tested raising p .answer))) (some-op e)
+
+pub caught-unheard : Accepts crying → ⊥
+unfolding computed raising-ops raising
+caught-unheard v = let q : _≡_ {A = ℕ} 17 0 = v .throw raising (asCall (Op.Unwind (Fault.Throw 9) OptPc.None) signal-typed) 9 OptPc.None crying-healthy refl in absurd (omega (arith, q))
+
+-- d waits for a cleanup, for which c has gone too deep: the bank pays for c's Await
+banked-ops : List Op
+banked-ops =
+    Op.Grant 1000 ∷ Op.HostCall 0 ∷ Op.CoroNew 1 0 0 0 ∷ Op.CoroNew 2 1 0 0 ∷ Op.Resume 3 2 1 3 ∷ Op.Yield 8 3 0 ∷ Op.Resume 4 2 0 3 ∷ Op.HandOver Story.d
+    ∷ Story.deeper ∷ Story.deeper ∷ Story.deeper ∷ Story.deeper ∷ []
+
+banked : World
+banked = M.runOps (fresh wide) banked-ops
+
+stingy-healthy : Healthy stingy banked
+unfolding computed banked-ops banked
+stingy-healthy (SetUp s) e = let z : _≡_ {A = ℕ} 0 1 = cc in absurd (omega arith)
+stingy-healthy (Do o) e = ap (λ p. pick (unpaid banked (M.tested banked p .world)) 10 (numberOf (M.tested banked p .answer))) (some-op e)
+
+bank-pays : Roomy stingy 0 c banked
+unfolding computed banked-ops banked orElse
+bank-pays =
+    record {
+      healthy = stingy-healthy;
+      paid = λ pc y. refl;
+      held = record {
+        over = frame 0 0 20 0 Cont.Discard ∷ frame 0 5 16 0 Cont.Discard ∷ frame 0 5 12 0 Cont.Discard ∷ frame 0 5 8 0 Cont.Discard ∷ [];
+        body = frame 0 5 4 0 Cont.Coro;
+        under = frame 0 4 0 0 Cont.Entry ∷ [];
+        driver = Driver.Resume 2;
+        outer = [];
+        frames = refl;
+        its-own = refl;
+        chain = refl;
+      };
+      seen = record { state = CoroState.Running; words = []; frames = []; mostWords = 4; mostFrames = 1; closing = false; signal = 0; result = 0 };
+      there = refl;
+      grows = refl;
+    }
+
+pub bank-unused : Accepts stingy → ⊥
+unfolding computed banked-ops banked
+bank-unused v = no-both (v .await c banked (asCall (Op.Await 10 3 0) await-typed) 10 3 0 bank-pays refl refl) refl
+
+deep : Option Rules → ℕ
+deep none = 0
+deep (some r) = r .depth
+
+pub other-limits : SetUps shrinking → ⊥
+unfolding computed begun deep
+other-limits v = let q : _≡_ {A = ℕ} 6 1 = ap deep (v .given begun (SetUp wide) (record { sets-up = refl; accepted = refl })) in absurd (omega (arith, q))
+
+pub speechless : Speaks deaf → ⊥
+speechless v = let (k, q) = v Op.StopRun refl in go k q
+  where
+    go : (k : Call) → heardAs (opOf k) ≡ some Op.StopRun → ⊥
+    go (SetUp s) q = let z : _≡_ {A = ℕ} 0 1 = cc in absurd (omega arith)
+    go (Do o) q = let z : _≡_ {A = ℕ} 0 1 = cc in absurd (omega arith)
 
 pub all-shown : Looks showing → ⊥
 unfolding computed begun

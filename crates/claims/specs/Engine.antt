@@ -28,6 +28,20 @@ pub record Seen : Type 0 where
   -- what it returned
   pub result : ℕ
 
+-- what a set-up asks for, and only a set-up changes
+pub record Rules : Type 0 where
+  -- the most frames, and the most words of the stack
+  pub depth : ℕ
+  pub height : ℕ
+  -- how many functions there are, and the handlers of each
+  pub functions : ℕ
+  pub handlers : ℕ → List Handler
+  -- the most bytes, and what a frame, an integer object and an error object cost
+  pub memory : ℕ
+  pub frameCost : ℕ
+  pub intCost : ℕ
+  pub errorCost : ℕ
+
 -- what is seen of a machine
 pub record View : Type 0 where
   -- from the bottom up
@@ -42,28 +56,22 @@ pub record View : Type 0 where
   -- the coroutines that wait for a cleanup
   pub queue : List ℕ
   pub fuel : Fuel
-  -- the most frames, and the most words of the stack
-  pub depth : ℕ
-  pub height : ℕ
-  -- how many functions there are, and the handlers of each
-  pub functions : ℕ
-  pub handlers : ℕ → List Handler
+  pub rules : Rules
   -- the word that the next object gets, and whether there is no slot for it
   pub fresh : ℕ
   pub full : Bool
   -- the integer that a word stands for, as 64 bits
   pub integer : ℕ → Opt
-  -- the bytes in use, the most, and what a frame and an integer object cost
+  -- the bytes in use
   pub used : ℕ
-  pub memory : ℕ
-  pub frameCost : ℕ
-  pub intCost : ℕ
 
 pub record Engine : Type 1 where
   pub State : Type 0
   pub Call : Type 0
   -- a call is one of 01's operations, or a set-up
   pub op : Call → Option Op
+  -- what a set-up asks for
+  pub asks : Call → Option Rules
   pub view : State → View
   pub next : State → Call → State
   -- 01: the number that it answers

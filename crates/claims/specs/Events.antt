@@ -20,7 +20,7 @@ use Rattle.model.specs.declared.machine.Frame.{Frame}
 use Rattle.model.specs.declared.call.OptPc.{OptPc}
 use Rattle.model.specs.declared.call.Op.{Op}
 use Rattle.claims.specs.Engine.{Seen, View, Engine, code, isNew, runs, awaits, sleeps, ended, seenIn, is}
-use Rattle.claims.specs.Says.{Sent, nothing, gets, closes, Aim, enter, suspend, neither, Does, instr, hosts, finishes, raises, other, doing}
+use Rattle.claims.specs.Says.{word, Sent, nothing, gets, closes, Aim, enter, suspend, neither, Does, instr, hosts, finishes, raises, other, doing, banked, whom}
 use Rattle.claims.specs.Held.{at, closer, By}
 use Rattle.claims.specs.Delivery.{recorded, resultOf}
 use Rattle.claims.specs.Demand3.{Enters, Suspends, Restarts}
@@ -64,6 +64,18 @@ isAwait (finishes kind x) = false
 isAwait (raises f pc) = false
 isAwait other = false
 
+-- what a suspension answers, by driver, whether it is an Await, and whether the coroutine was being closed. 01: "an Await there is 2, after
+-- suspending"; "A yield while closing clears closing and answers 6 to a Resume or iterator driver"
+abbrev pub told : Driver → Bool → Bool → ℕ
+told (Driver.Resume r) await closing = pick await 0 (pick closing 6 0)
+told (Driver.Iter has val iter) await closing = pick await 2 (pick closing 6 0)
+told Driver.Host await closing = 0
+told Driver.Finalize await closing = 0
+
+abbrev pub toldTo : List Active → Bool → Bool → ℕ
+toldTo [] await closing = 0
+toldTo (a ∷ chain) await closing = told (a .driver) await closing
+
 -- ---- returns. 01: "a return if `finish` or `unwind` makes it Returned"
 
 pub record Returns (e : Engine) (c : ℕ) (s : e .State) (k : e .Call) : Type 0 where
@@ -104,7 +116,7 @@ leaving Cont.Coro v x (a ∷ chain) below = pick (seenIn (λ k. k .closing && eq
 -- lets its own signal escape is Returned"
 abbrev pub escaped : View → ℕ → List Frame → List Active → Option ℕ
 escaped v x [] chain = none
-escaped v x (f ∷ fs) chain = pick (caught (v .handlers (f .func)) (f .pc)) none (leaving (f .cont) v x chain (escaped v x fs))
+escaped v x (f ∷ fs) chain = pick (caught (v .rules .handlers (f .func)) (f .pc)) none (leaving (f .cont) v x chain (escaped v x fs))
 
 -- 1 to 8 are raised as a new object, 17 as its word
 abbrev pub raised : View → Fault → Option ℕ
@@ -171,12 +183,37 @@ losing Cont.Coro v x (a ∷ chain) below = pick (seenIn (λ k. k .closing && eqb
 -- who fails where x is raised in these frames: all that it leaves, up to who catches it, is closed by it, or has it stop at the host
 abbrev pub lost : View → ℕ → List Frame → List Active → List ℕ
 lost v x [] chain = []
-lost v x (f ∷ fs) chain = pick (caught (v .handlers (f .func)) (f .pc)) [] (losing (f .cont) v x chain (lost v x fs))
+lost v x (f ∷ fs) chain = pick (caught (v .rules .handlers (f .func)) (f .pc)) [] (losing (f .cont) v x chain (lost v x fs))
 
 abbrev pub lostAt : View → Option ℕ → OptPc → List ℕ
 lostAt v none pc = []
 lostAt v (some x) OptPc.None = lost v x (v .frames) (v .chain)
 lostAt v (some x) (OptPc.Some pc) = lost v x (at pc (v .frames)) (v .chain)
+
+-- ---- what an unwind answers
+
+-- 01: "taking one costs one unit", which the fuel or the bank has to have
+abbrev pub handled : View → ℕ
+handled v = pick (eqb (v .fuel .fuel) 0) (pick (eqb (banked (v .fuel .bank)) 0) 10 0) 0
+
+-- the word x leaves a frame: of a body, it stops with one that it closes, and at the host and at a cleanup
+abbrev pub ending : Cont → View → ℕ → List Active → (List Active → ℕ) → ℕ
+ending Cont.Entry v x chain below = 17
+ending (Cont.Write r) v x chain below = below chain
+ending (Cont.Dyn r) v x chain below = below chain
+ending (Cont.Value r) v x chain below = below chain
+ending Cont.Discard v x chain below = below chain
+ending Cont.Coro v x [] below = below []
+ending Cont.Coro v x (a ∷ chain) below = pick (seenIn (λ k. k .closing && eqb x (k .signal)) (v .coro (a .coro))) 0 (pick (goesOn (a .driver)) (below chain) 0)
+
+-- where x is raised in these frames. 01: "if nobody catches, it answers 17 with the error object or thrown word"
+abbrev pub ends : View → ℕ → List Frame → List Active → ℕ
+ends v x [] chain = 17
+ends v x (f ∷ fs) chain = pick (caught (v .rules .handlers (f .func)) (f .pc)) (handled v) (ending (f .cont) v x chain (ends v x fs))
+
+abbrev pub endsAt : View → ℕ → OptPc → ℕ
+endsAt v x OptPc.None = ends v x (v .frames) (v .chain)
+endsAt v x (OptPc.Some pc) = ends v x (at pc (v .frames)) (v .chain)
 
 -- who fails: by an unwind of a word, whatever it answers; of a fault, but where its error object could not be made (9, 14); all, where
 -- the run is stopped
@@ -184,6 +221,10 @@ pub data Lost (v : View) (n c : ℕ) : Option Op → Type 0 where
   thrown : (x : ℕ) (pc : OptPc) → among c (lostAt v (some x) pc) ≡ true → Lost v n c (some (Op.Unwind (Fault.Throw x) pc))
   escapes : (f : Fault) (pc : OptPc) → (eqb n 9 || eqb n 14) ≡ false → among c (lostAt v (raised v f) pc) ≡ true → Lost v n c (some (Op.Unwind f pc))
   stops : Lost v n c (some Op.StopRun)
+
+-- what is seen of one that has ended: nothing is saved any more, and nothing closes it
+abbrev pub endedAs : CoroState → ℕ → Option Seen
+endedAs s x = some (record { state = s; words = []; frames = []; mostWords = 0; mostFrames = 0; closing = false; signal = 0; result = x })
 
 -- ---- what else is seen and is not a word, a frame or a state
 
@@ -207,16 +248,6 @@ undone other = none
 abbrev pub rests : CoroState → Bool
 rests s = ltb 1 (code s)
 
--- what only a set-up changes
-pub record Fixed (v z : View) : Type 0 where
-  pub depth : z .depth ≡ v .depth
-  pub height : z .height ≡ v .height
-  pub functions : z .functions ≡ v .functions
-  pub handlers : (f : ℕ) → z .handlers f ≡ v .handlers f
-  pub memory : z .memory ≡ v .memory
-  pub frame-cost : z .frameCost ≡ v .frameCost
-  pub int-cost : z .intCost ≡ v .intCost
-
 -- a result that is an integer, of 64 bits
 abbrev pub isInteger : ResultKind → Bool
 isInteger ResultKind.None = false
@@ -232,10 +263,21 @@ pub record Events (e : Engine) : Type 0 where
   pub answered : (c : ℕ) (s : e .State) (k : e .Call) → Enters e c s k → (b : By (e .view s) (e .op k) c) → e .number s k ≡ answers (is (e .view s) isNew c) (b .sent)
   pub suspends : (c : ℕ) (s : e .State) (k : e .Call) → Suspends e c s k → suspended (e .view s) (doing (e .view s) (e .op k)) (e .number s k) ≡ some c
   pub suspended : (c : ℕ) (s : e .State) (k : e .Call) → suspended (e .view s) (doing (e .view s) (e .op k)) (e .number s k) ≡ some c → Suspends e c s k
+  pub heard : (c : ℕ) (s : e .State) (k : e .Call) → Suspends e c s k → e .number s k ≡ toldTo (e .view s .chain) (isAwait (doing (e .view s) (e .op k))) (seenIn (λ x. x .closing) (e .view s .coro c))
   pub returns : (c : ℕ) (s : e .State) (k : e .Call) → Returns e c s k → returned (e .view s) (doing (e .view s) (e .op k)) (e .number s k) ≡ some c
   pub returned : (c : ℕ) (s : e .State) (k : e .Call) → Healthy e s → returned (e .view s) (doing (e .view s) (e .op k)) (e .number s k) ≡ some c → Returns e c s k
   pub fails : (c : ℕ) (s : e .State) (k : e .Call) → Fails e c s k → Lost (e .view s) (e .number s k) c (e .op k)
   pub failed : (c : ℕ) (s : e .State) (k : e .Call) → Healthy e s → is (e .view s) runs c ≡ true → Lost (e .view s) (e .number s k) c (e .op k) → Fails e c s k
+  -- the result of one that fails is the word that was raised; where the run is stopped, nil
+  pub spoilt : (c : ℕ) (s : e .State) (k : e .Call) (f : Fault) (pc : OptPc) (x : ℕ) → Fails e c s k → e .op k ≡ some (Op.Unwind f pc) → raised (e .view s) f ≡ some x
+      → e .view (e .next s k) .coro c ≡ endedAs CoroState.Failed x
+  pub stopped : (c : ℕ) (s : e .State) (k : e .Call) → Fails e c s k → e .op k ≡ some Op.StopRun → e .view (e .next s k) .coro c ≡ endedAs CoroState.Failed 0
+  -- of one that has not begun, where no cleanup comes first: a close that is answered 0 has it return nil, a throw that is answered 17
+  -- has it fail of that word, and any other answer leaves it
+  pub closes-new : (c : ℕ) (s : e .State) (k : e .Call) (pc dst r src : ℕ) → e .op k ≡ some (Op.CoroClose pc dst r src) → word (e .view s) r ≡ c → is (e .view s) isNew c ≡ true → whom (e .view s) (e .op k) ≡ none
+      → e .view (e .next s k) .coro c ≡ pick (eqb (e .number s k) 0) (endedAs CoroState.Returned 0) (e .view s .coro c)
+  pub throws-new : (c : ℕ) (s : e .State) (k : e .Call) (pc dst r src : ℕ) → e .op k ≡ some (Op.ResumeThrow pc dst r src) → word (e .view s) r ≡ c → is (e .view s) isNew c ≡ true → whom (e .view s) (e .op k) ≡ none
+      → e .view (e .next s k) .coro c ≡ pick (eqb (e .number s k) 17) (endedAs CoroState.Failed (word (e .view s) src)) (e .view s .coro c)
   -- an integer that is returned is recorded as a word that stands for it
   pub integer : (c : ℕ) (s : e .State) (k : e .Call) (kind : ResultKind) (x : ℕ) → Returns e c s k → e .op k ≡ some (Op.Finish kind x) → isInteger kind ≡ true
       → let z = e .view (e .next s k) in z .integer (recorded (z .coro c)) ≡ Opt.Some x
@@ -252,14 +294,15 @@ pub record Events (e : Engine) : Type 0 where
   pub awaited : (c : ℕ) (s : e .State) (k : e .Call) → Suspends e c s k → is (e .view (e .next s k)) awaits c ≡ isAwait (doing (e .view s) (e .op k))
   -- who sleeps, has returned or has failed is seen as before until it is entered, or the machine is set up anew
   pub still : (c : ℕ) (s : e .State) (k : e .Call) → (Restarts e s k → ⊥) → (Enters e c s k → ⊥) → is (e .view s) rests c ≡ true → e .view (e .next s k) .coro c ≡ e .view s .coro c
-  -- and so is one that has not begun, unless it is closed or a word is thrown into it
-  pub unbegun : (c : ℕ) (s : e .State) (k : e .Call) → (Restarts e s k → ⊥) → (Enters e c s k → ⊥) → is (e .view s) isNew c ≡ true → (undone (doing (e .view s) (e .op k)) ≡ some c → ⊥)
-      → e .view (e .next s k) .coro c ≡ e .view s .coro c
+  -- and so is one that has not begun, unless it is closed or a word is thrown into it, and no cleanup comes first
+  pub unbegun : (c : ℕ) (s : e .State) (k : e .Call) → (Restarts e s k → ⊥) → (Enters e c s k → ⊥) → is (e .view s) isNew c ≡ true
+      → (undone (doing (e .view s) (e .op k)) ≡ some c → whom (e .view s) (e .op k) ≡ none → ⊥) → e .view (e .next s k) .coro c ≡ e .view s .coro c
   -- who runs runs on, unless it is suspended, returns or fails; and who comes has not begun
   pub runs-on : (c : ℕ) (s : e .State) (k : e .Call) → (Restarts e s k → ⊥) → is (e .view s) runs c ≡ true → (Suspends e c s k → ⊥) → (Returns e c s k → ⊥) → (Fails e c s k → ⊥) → is (e .view (e .next s k)) runs c ≡ true
-  pub comes : (c : ℕ) (s : e .State) (k : e .Call) → (undone (doing (e .view s) (e .op k)) ≡ some c → ⊥) → e .view s .coro c ≡ none
+  pub comes : (c : ℕ) (s : e .State) (k : e .Call) → e .view s .coro c ≡ none
       → let z = e .view (e .next s k) in (z .coro c ≡ none) ⊎ (is z isNew c ≡ true)
-  pub fixed : (s : e .State) (k : e .Call) → (Restarts e s k → ⊥) → Fixed (e .view s) (e .view (e .next s k))
+  -- limits, functions and costs are the set-up's
+  pub fixed : (s : e .State) (k : e .Call) → (Restarts e s k → ⊥) → e .view (e .next s k) .rules ≡ e .view s .rules
   -- one a call
   pub one-switch : (c u : ℕ) (s : e .State) (k : e .Call) → Enters e c s k → Suspends e u s k → ⊥
   pub no-return : (c u : ℕ) (s : e .State) (k : e .Call) → Enters e c s k → Returns e u s k → ⊥

@@ -1,5 +1,6 @@
 pub mod Engine
 pub mod Says
+pub mod Operands
 pub mod Held
 pub mod Delivery
 pub mod Demand3

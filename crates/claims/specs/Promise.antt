@@ -7,17 +7,20 @@ use mathlib.Core.List.{List, [], _∷_, _++_}
 use mathlib.Core.Option.{Option, none, some}
 use lib.ListN.{length, drop}
 use lib.Dec.{eqb, ltb, leb}
+use Rattle.lists.specs.Pick.{pick}
+use Rattle.heap.specs.Fault.{numberOf}
 use Rattle.heap.specs.declared.fault.Fault.{Fault}
 use Rattle.heap.specs.declared.value.Opt.{Opt}
 use Rattle.heap.specs.declared.heap.ResultKind.{ResultKind}
 use Rattle.model.specs.declared.machine.Frame.{Frame}
 use Rattle.model.specs.declared.call.OptPc.{OptPc}
 use Rattle.model.specs.declared.call.Op.{Op}
-use Rattle.claims.specs.Engine.{Seen, View, Engine, run}
-use Rattle.claims.specs.Says.{lie}
+use Rattle.claims.specs.Engine.{Seen, View, Engine, run, isNew, is}
+use Rattle.claims.specs.Operands.{written}
+use Rattle.claims.specs.Says.{word, lie, Entry, charged}
 use Rattle.claims.specs.Held.{Held}
 use Rattle.claims.specs.Demand3.{Enters, Suspends, Stops, Restarts, Waits, Goes, Demand3}
-use Rattle.claims.specs.Events.{Healthy, onBody, raised, raisedAt, Events}
+use Rattle.claims.specs.Events.{Healthy, raised, endsAt, Events}
 
 -- ---- what is accepted, besides the entries (Events.entered)
 
@@ -34,23 +37,33 @@ suspends n = eqb n 0 || eqb n 2 || eqb n 6
 
 -- so many bytes more are within the limit; sums stop at 2^64 - 1
 abbrev pub room : View → ℕ → Bool
-room v n = leb (min (v .used + n) (2 ^ 64 - 1)) (v .memory)
+room v n = leb (min (v .used + n) (2 ^ 64 - 1)) (v .rules .memory)
 
--- c runs on top, fuel is not 0 (else a cleanup may come first, or the answer may be 10), and there is room for n bytes and for what it
--- would save beyond the most that it has saved. 01: "8 bytes per register and F per frame beyond the coroutine's largest saved sizes so far"
+-- an instruction is paid for, by the fuel or the bank, and no cleanup comes first: whom a call was to enter, it enters
+abbrev pub PaidFor : View → Type 0
+PaidFor v = (pc : ℕ) (y : Entry) → charged v pc (some y) ≡ some y
+
+-- c runs on top, its instruction is paid for, and there is room for n bytes and for what it would save beyond the most that it has saved.
+-- 01: "8 bytes per register and F per frame beyond the coroutine's largest saved sizes so far"
 pub record Roomy (e : Engine) (n c : ℕ) (s : e .State) : Type 0 where
   pub healthy : Healthy e s
-  pub fuel : eqb (e .view s .fuel .fuel) 0 ≡ false
+  pub paid : PaidFor (e .view s)
   pub held : Held (e .view s) c
   pub seen : Seen
   pub there : e .view s .coro c ≡ some seen
   pub grows : let words = length (drop (held .body .base) (e .view s .stack)) - seen .mostWords in let frames = length (held .over ++ (held .body ∷ [])) - seen .mostFrames in
-      room (e .view s) (n + (words * 8 + frames * e .view s .frameCost)) ≡ true
+      room (e .view s) (n + (words * 8 + frames * e .view s .rules .frameCost)) ≡ true
+
+-- an instruction of the top frame is paid for so
+pub record Pays (e : Engine) (s : e .State) : Type 0 where
+  pub healthy : Healthy e s
+  pub stands : eqb (length (e .view s .frames)) 0 ≡ false
+  pub paid : PaidFor (e .view s)
 
 -- a new integer object can be made
 pub record Makes (v : View) : Type 0 where
   pub slot : v .full ≡ false
-  pub bytes : room v (v .intCost) ≡ true
+  pub bytes : room v (v .rules .intCost) ≡ true
 
 -- a result that converts: an i64, or a u64 below 2^63. 01: "A u64 above 2^63 - 1 gives 7."
 abbrev pub converts : ResultKind → ℕ → Bool
@@ -63,11 +76,22 @@ pub record Accepts (e : Engine) : Type 0 where
   -- an Await or a YieldKv is then answered 0, 2 or 6, and so suspends c (Events.suspended); a Yield that can make a key too, but for 7
   pub await : (c : ℕ) (s : e .State) (k : e .Call) (pc dst src : ℕ) → Roomy e 0 c s → e .op k ≡ some (Op.Await pc dst src) → lie (e .view s) (dst ∷ src ∷ []) ≡ true → suspends (e .number s k) ≡ true
   pub yield-kv : (c : ℕ) (s : e .State) (k : e .Call) (pc dst src key : ℕ) → Roomy e 0 c s → e .op k ≡ some (Op.YieldKv pc dst src key) → lie (e .view s) (dst ∷ src ∷ key ∷ []) ≡ true → suspends (e .number s k) ≡ true
-  pub yield : (c : ℕ) (s : e .State) (k : e .Call) (pc dst src : ℕ) → Roomy e (e .view s .intCost) c s → e .view s .full ≡ false → e .op k ≡ some (Op.Yield pc dst src) → lie (e .view s) (dst ∷ src ∷ []) ≡ true
+  pub yield : (c : ℕ) (s : e .State) (k : e .Call) (pc dst src : ℕ) → Roomy e (e .view s .rules .intCost) c s → e .view s .full ≡ false → e .op k ≡ some (Op.Yield pc dst src) → lie (e .view s) (dst ∷ src ∷ []) ≡ true
       → (suspends (e .number s k) || eqb (e .number s k) 7) ≡ true
-  pub integer : (s : e .State) (k : e .Call) (kind : ResultKind) (x : ℕ) → Healthy e s → e .op k ≡ some (Op.Finish kind x) → Makes (e .view s) → converts kind x ≡ true → onBody (e .view s .frames) ≡ true → e .number s k ≡ 0
-  pub finish : (s : e .State) (k : e .Call) (kind : ResultKind) (x : ℕ) → Healthy e s → e .op k ≡ some (Op.Finish kind x) → plain kind ≡ true → onBody (e .view s .frames) ≡ true → e .number s k ≡ 0
-  pub escape : (s : e .State) (k : e .Call) (x : ℕ) (pc : OptPc) (c : ℕ) → Healthy e s → e .op k ≡ some (Op.Unwind (Fault.Throw x) pc) → raisedAt (e .view s) (some x) pc ≡ some c → e .number s k ≡ 0
+  -- a close of one that has not begun, and a throw into it (Events.closes-new, Events.throws-new)
+  pub close-new : (s : e .State) (k : e .Call) (pc dst r src : ℕ) → Pays e s → e .op k ≡ some (Op.CoroClose pc dst r src) → lie (e .view s) (dst ∷ r ∷ src ∷ []) ≡ true → is (e .view s) isNew (word (e .view s) r) ≡ true
+      → e .number s k ≡ 0
+  pub throw-new : (s : e .State) (k : e .Call) (pc dst r src : ℕ) → Pays e s → e .op k ≡ some (Op.ResumeThrow pc dst r src) → lie (e .view s) (dst ∷ r ∷ src ∷ []) ≡ true → is (e .view s) isNew (word (e .view s) r) ≡ true
+      → e .number s k ≡ 17
+  -- a finish of whatever frame
+  pub integer : (s : e .State) (k : e .Call) (kind : ResultKind) (x : ℕ) → Healthy e s → e .op k ≡ some (Op.Finish kind x) → Makes (e .view s) → converts kind x ≡ true → e .number s k ≡ 0
+  pub finish : (s : e .State) (k : e .Call) (kind : ResultKind) (x : ℕ) → Healthy e s → e .op k ≡ some (Op.Finish kind x) → plain kind ≡ true → e .number s k ≡ 0
+  -- what an unwind answers: of a word, and of 1 to 8, whose error object has to be made
+  pub throw : (s : e .State) (k : e .Call) (x : ℕ) (pc : OptPc) → Healthy e s → e .op k ≡ some (Op.Unwind (Fault.Throw x) pc) → e .number s k ≡ endsAt (e .view s) x pc
+  pub raise : (s : e .State) (k : e .Call) (f : Fault) (pc : OptPc) (x : ℕ) → Healthy e s → e .op k ≡ some (Op.Unwind f pc) → ((y : ℕ) → f ≡ Fault.Throw y → ⊥) → raised (e .view s) f ≡ some x
+      → let v = e .view s in e .number s k ≡ pick (room v (v .rules .errorCost)) (pick (v .full) 14 (endsAt v x pc)) 9
+  -- 01: "Faults 9 and 10 pass through it unchanged"; 11, where it "gets no such fault"
+  pub pass : (s : e .State) (k : e .Call) (f : Fault) (pc : OptPc) → Healthy e s → e .op k ≡ some (Op.Unwind f pc) → raised (e .view s) f ≡ none → e .number s k ≡ pick (eqb (numberOf f) 9 || eqb (numberOf f) 10) (numberOf f) 11
 
 -- ---- soundness is kept
 
@@ -97,6 +121,8 @@ pub record Fresh (v : View) : Type 0 where
 -- which set-ups are accepted is the table's (sheet/specs/SetUps.antt)
 pub record SetUps (e : Engine) : Type 0 where
   pub begun : (s : e .State) (k : e .Call) → Restarts e s k → Fresh (e .view (e .next s k))
+  -- the machine has the limits, functions and costs that were asked for
+  pub given : (s : e .State) (k : e .Call) → Restarts e s k → e .asks k ≡ some (e .view (e .next s k) .rules)
   -- one that is not accepted answers 11, and changes nothing
   pub refused : (s : e .State) (k : e .Call) → e .op k ≡ none → (e .number s k ≡ 0 → ⊥) → (e .number s k ≡ 11) × (e .view (e .next s k) ≡ e .view s)
 
@@ -110,6 +136,10 @@ pub record Looks (e : Engine) : Type 0 where
   pub sees : (s : e .State) → Healthy e s → e .look s ≡ registers (e .view s .frames) (e .view s .stack)
   pub unseen : (s : e .State) → (Healthy e s → ⊥) → e .look s ≡ []
   pub unmoved : (s : e .State) (k : e .Call) → e .op k ≡ some Op.Look → e .view (e .next s k) ≡ e .view s
+
+-- every operation of 01, with operands that its types can hold, is a call
+abbrev pub Speaks : Engine → Type 0
+Speaks e = (o : Op) → written o ≡ true → (k : e .Call) × (e .op k ≡ some o)
 
 -- ---- one list of calls in which every premise of demand 3 holds, and those of acceptance where its first call is made
 
@@ -125,7 +155,7 @@ pub record NotEmpty (e : Engine) : Type 0 where
   pub z : e .Call
   pub c : ℕ
   pub suspends : Suspends e c (run e (e .next start first) before) x
-  pub roomy : Roomy e (e .view (run e (e .next start first) before) .intCost) c (run e (e .next start first) before)
+  pub roomy : Roomy e (e .view (run e (e .next start first) before) .rules .intCost) c (run e (e .next start first) before)
   pub makes : Makes (e .view (run e (e .next start first) before))
   pub waits : Waits e c (e .next (run e (e .next start first) before) x) waiting
   pub enters : Enters e c (run e (e .next (run e (e .next start first) before) x) waiting) y
@@ -139,4 +169,5 @@ pub record Promise (e : Engine) : Type 0 where
   pub soundness : Soundness e
   pub set-ups : SetUps e
   pub looks : Looks e
+  pub speaks : Speaks e
   pub not-empty : NotEmpty e

@@ -2,7 +2,7 @@
 use Prim.Native.Nat.{ℕ, _+_}
 use mathlib.Core.Bool.{Bool, true, false, not, _&&_, _||_}
 use mathlib.Core.List.{List, [], _∷_}
-use mathlib.Core.Option.{Option, none, some}
+use mathlib.Core.Option.{Option, none, some, orElse}
 use lib.ListN.{length, getD}
 use lib.Dec.{eqb, ltb, leb}
 use Rattle.lists.specs.Pick.{pick}
@@ -59,7 +59,7 @@ pub data Does : Type 0 where
   other : Does
 
 abbrev pub does : View → Op → Does
-does v (Op.CoroNew pc dst f argc) = instr pc (lie v (dst ∷ []) && window v dst argc && ltb f (v .functions)) neither
+does v (Op.CoroNew pc dst f argc) = instr pc (lie v (dst ∷ []) && window v dst argc && ltb f (v .rules .functions)) neither
 does v (Op.CoroNewIndirect pc dst callee argc) = instr pc (lie v (dst ∷ callee ∷ []) && window v dst argc) neither
 does v (Op.Spawn pc dst callee argc) = instr pc (lie v (dst ∷ callee ∷ []) && window v dst argc) neither
 does v (Op.Yield pc dst src) = instr pc (lie v (dst ∷ src ∷ [])) (suspend false dst (word v src))
@@ -108,7 +108,7 @@ entry c d x pc = record { coro = c; driver = d; sent = x; pc = pc }
 -- 01: "not Created, Yielded or Awaiting (3); frames plus saved frames above the depth limit, or stack plus saved registers above the
 -- stack limit (4; equality passes)"
 abbrev pub fits : View → ℕ → Bool
-fits v c = seenIn (λ x. (isNew (x .state) || sleeps (x .state)) && leb (length (v .frames) + length (x .frames)) (v .depth) && leb (length (v .stack) + length (x .words)) (v .height)) (v .coro c)
+fits v c = seenIn (λ x. (isNew (x .state) || sleeps (x .state)) && leb (length (v .frames) + length (x .frames)) (v .rules .depth) && leb (length (v .stack) + length (x .words)) (v .rules .height)) (v .coro c)
 
 -- the call's own entry. 01: "A Created one ignores the sent word."
 abbrev pub named : View → ℕ → Aim → Option Entry
@@ -126,15 +126,9 @@ abbrev pub banked : Opt → ℕ
 banked Opt.None = 0
 banked (Opt.Some n) = n
 
-abbrev pub orElse : Option Entry → Option Entry → Option Entry
-orElse none y = y
-orElse (some x) y = some x
-
 -- with fuel, the call's own; with none, and a bank, first a cleanup if those are ready; with neither, nobody
 abbrev pub charged : View → ℕ → Option Entry → Option Entry
-charged v pc y =
-    pick (eqb (v .fuel .fuel) 0)
-    (pick (eqb (banked (v .fuel .bank)) 0) none (pick (v .fuel .ready) (orElse (cleaned v pc (v .queue)) y) y)) y
+charged v pc y = pick (eqb (v .fuel .fuel) 0) (pick (eqb (banked (v .fuel .bank)) 0) none (pick (v .fuel .ready) (orElse (cleaned v pc (v .queue)) y) y)) y
 
 abbrev pub whomBy : View → Does → Option Entry
 whomBy v (instr pc ok a) = pick (eqb (length (v .frames)) 0) none (pick ok (charged v pc (named v pc a)) none)

@@ -6,7 +6,7 @@ use mathlib.Core.List.{List}
 use mathlib.Core.Option.{Option, none, some}
 use lib.ListN.{length}
 use Rattle.heap.specs.Table.{nextWord}
-use Rattle.model.specs.Program.{func}
+use Rattle.model.specs.Program.{Setup, func}
 use Rattle.model.specs.Object.{Coroutine, Absent, Is, isDone}
 use Rattle.model.specs.World.{World}
 use Rattle.model.specs.Heap.{object, coro, slotsFull, dynInt}
@@ -14,11 +14,24 @@ use Rattle.model.specs.Answer.{numberOf}
 use Rattle.model.specs.Call.{Call, SetUp, Do, typed, asCall}
 use Rattle.model.specs.Step.{step}
 use Rattle.model.specs.declared.call.Op.{Op}
-use Rattle.claims.specs.Engine.{Seen, View, Engine}
+use Rattle.claims.specs.Engine.{Seen, Rules, View, Engine}
 
 abbrev pub seenOf : Coroutine → Option Seen
 seenOf Absent = none
 seenOf (Is k r) = some (record { state = k .state; words = k .regs; frames = k .frames; mostWords = r .maxregs; mostFrames = r .maxframes; closing = r .closing; signal = r .signal; result = r .result })
+
+abbrev pub rulesOf : Setup → Rules
+rulesOf s =
+    record {
+      depth = s .limits .depth;
+      height = s .limits .stack;
+      functions = length (s .functions);
+      handlers = λ f. func s f .handlers;
+      memory = s .limits .memory;
+      frameCost = s .costs .frame;
+      intCost = s .costs .int;
+      errorCost = s .costs .error;
+    }
 
 abbrev pub viewOf : World → View
 viewOf w =
@@ -30,22 +43,20 @@ viewOf w =
       done = λ x. isDone (object w x);
       queue = w .finalize;
       fuel = w .fuel;
-      depth = w .setup .limits .depth;
-      height = w .setup .limits .stack;
-      functions = length (w .setup .functions);
-      handlers = λ f. func (w .setup) f .handlers;
+      rules = rulesOf (w .setup);
       fresh = nextWord (w .slots);
       full = slotsFull w;
       integer = dynInt w;
       used = w .used;
-      memory = w .setup .limits .memory;
-      frameCost = w .setup .costs .frame;
-      intCost = w .setup .costs .int;
     }
 
 abbrev pub opOf : Call → Option Op
 opOf (SetUp s) = none
 opOf (Do o) = some (o .op)
+
+abbrev pub asksOf : Call → Option Rules
+asksOf (SetUp s) = some (rulesOf s)
+asksOf (Do o) = none
 
 pub look-typed : typed Op.Look ≡ true
 unfolding typed
@@ -55,4 +66,4 @@ abbrev pub looks : World → List ℕ
 looks w = step w (asCall Op.Look look-typed) .seen
 
 abbrev pub steps : Engine
-steps = record { State = World; Call = Call; op = opOf; view = viewOf; next = λ w k. step w k .world; number = λ w k. numberOf (step w k .answer); look = looks }
+steps = record { State = World; Call = Call; op = opOf; asks = asksOf; view = viewOf; next = λ w k. step w k .world; number = λ w k. numberOf (step w k .answer); look = looks }

@@ -4,14 +4,14 @@ use mathlib.Core.Bool.{Bool, true, false, not, _&&_}
 use mathlib.Core.List.{List, [], _∷_, map}
 use mathlib.Core.Option.{Option, none, some}
 use lib.ListN.{length, set}
-use lib.Dec.{ltb}
+use lib.Dec.{eqb, ltb}
 use Rattle.lists.specs.Pick.{pick}
 use Rattle.model.specs.Object.{withClosing, withResult}
 use Rattle.model.specs.World.{World, withStack, withFrames, withFuel}
 use Rattle.model.specs.Heap.{changeCoro}
 use Rattle.model.specs.Coro.{inState}
 use Rattle.model.specs.Answer.{numberOf}
-use Rattle.model.specs.Call.{Call}
+use Rattle.model.specs.Call.{Call, SetUp, Do}
 use Rattle.model.specs.Step.{step}
 use Rattle.heap.specs.declared.object.CoroState.{CoroState}
 use Rattle.model.specs.declared.machine.Cont.{Cont}
@@ -20,15 +20,16 @@ use Rattle.model.specs.declared.machine.Frame.{Frame}
 use Rattle.model.specs.declared.machine.Fuel.{Fuel}
 use Rattle.model.specs.declared.call.Op.{Op}
 use Rattle.claims.specs.Engine.{Engine, isNew, runs, awaits, sleeps, ended, seenIn, is}
+use Rattle.claims.specs.Says.{Does, instr, hosts, finishes, raises, other, doing}
 use Rattle.claims.specs.Demand3.{Demand3}
 use Rattle.claims.specs.Events.{isBody, failed, Events}
-use Rattle.claims.specs.Promise.{SetUps, Looks}
-use Rattle.claims.specs.Steps.{viewOf, opOf, looks}
+use Rattle.claims.specs.Promise.{Accepts, SetUps, Looks, Speaks}
+use Rattle.claims.specs.Steps.{viewOf, opOf, asksOf, looks}
 use Rattle.claims.specs.Story.{c}
 
 -- it leaves another world than `step` does
 abbrev pub leaving : (World → Call → World) → Engine
-leaving f = record { State = World; Call = Call; op = opOf; view = viewOf; next = f; number = λ w k. numberOf (step w k .answer); look = looks }
+leaving f = record { State = World; Call = Call; op = opOf; asks = asksOf; view = viewOf; next = f; number = λ w k. numberOf (step w k .answer); look = looks }
 
 -- ---- machines that wake otherwise, where a coroutine is woken inside a call that it made
 
@@ -94,6 +95,14 @@ greeted w z = withStack (set (z .stack) (length (w .stack)) 5) z
 abbrev pub late : World → World → World
 late w z = withFrames (onTop atOne (z .frames)) z
 
+-- one that slept inside a call that it made gets back 5 for the first word that it held, and every frame
+abbrev pub mistaking : Engine
+mistaking = leaving (λ w k. let z = step w k .world in pick (ltb (length (w .chain)) (length (z .chain)) && called (z .frames)) (greeted w z) z)
+
+-- who yields, awaits or returns leaves 5 in the stack's fourth word
+abbrev pub tainting : Engine
+tainting = leaving (λ w k. let z = step w k .world in pick (ltb (length (z .chain)) (length (w .chain))) (withStack (set (z .stack) 3 5) z) z)
+
 -- ---- machines whose events are wrong
 
 -- an entry is left undone, where a test says so: always; or while two coroutines wait for a cleanup
@@ -146,6 +155,7 @@ excusing =
       State = World;
       Call = Call;
       op = opOf;
+      asks = asksOf;
       view = viewOf;
       next = λ w k. let z = step w k .world in pick (lostIn (w .chain) z) w z;
       number = λ w k. pick (lostIn (w .chain) (step w k .world)) 9 (numberOf (step w k .answer));
@@ -159,9 +169,66 @@ muting =
       State = World;
       Call = Call;
       op = opOf;
+      asks = asksOf;
       view = viewOf;
       next = λ w k. step w k .world;
       number = λ w k. pick (ltb (length (w .chain)) (length (step w k .world .chain))) 0 (numberOf (step w k .answer));
+      look = looks;
+    }
+
+-- it answers otherwise than `step` does
+abbrev pub answering : (ℕ → ℕ) → Engine
+answering f = record { State = World; Call = Call; op = opOf; asks = asksOf; view = viewOf; next = λ w k. step w k .world; number = λ w k. f (numberOf (step w k .answer)); look = looks }
+
+-- a yield while closing is answered 0; what is not accepted is answered 9
+abbrev pub hushing : Engine
+hushing = answering (λ n. pick (eqb n 6) 0 n)
+
+abbrev pub grudging : Engine
+grudging = answering (λ n. pick (ltb 0 n) 9 0)
+
+-- an unwind is answered 17, though the word is caught
+abbrev pub cries : Does → ℕ → ℕ
+cries (instr pc ok a) n = n
+cries (hosts c x) n = n
+cries (finishes kind x) n = n
+cries (raises f pc) n = 17
+cries other n = n
+
+abbrev pub crying : Engine
+crying = record { State = World; Call = Call; op = opOf; asks = asksOf; view = viewOf; next = λ w k. step w k .world; number = λ w k. cries (doing (viewOf w) (opOf k)) (numberOf (step w k .answer)); look = looks }
+
+-- at fuel 0 a suspension is answered 10, and is not done, whatever the bank holds
+abbrev pub unpaid : World → World → Bool
+unpaid w z = eqb (w .fuel .fuel) 0 && ltb (length (z .chain)) (length (w .chain))
+
+abbrev pub stingy : Engine
+stingy =
+    record {
+      State = World;
+      Call = Call;
+      op = opOf;
+      asks = asksOf;
+      view = viewOf;
+      next = λ w k. let z = step w k .world in pick (unpaid w z) w z;
+      number = λ w k. pick (unpaid w (step w k .world)) 10 (numberOf (step w k .answer));
+      look = looks;
+    }
+
+-- a close of c is answered 9, and is not done, while c has not begun
+abbrev pub spurned : ℕ → World → World → Bool
+spurned c w z = is (viewOf w) isNew c && is (viewOf z) ended c
+
+abbrev pub spurning : ℕ → Engine
+spurning c =
+    record {
+      State = World;
+      Call = Call;
+      op = opOf;
+      asks = asksOf;
+      view = viewOf;
+      next = λ w k. let z = step w k .world in pick (spurned c w z) w z;
+      number = λ w k. pick (spurned c w (step w k .world)) 9 (numberOf (step w k .answer));
       look = looks;
     }
 
@@ -181,6 +248,13 @@ rewriting c = leaving (λ w k. let z = step w k .world in pick (is (viewOf w) en
 abbrev pub aborting : ℕ → Engine
 aborting c = leaving (λ w k. let z = step w k .world in pick (is (viewOf w) isNew c) (changeCoro c (inState CoroState.Failed) (λ r. r) z) z)
 
+-- a close has it fail, where it has not begun; who fails has the result 5
+abbrev pub harsh : ℕ → Engine
+harsh c = leaving (λ w k. let z = step w k .world in pick (is (viewOf w) isNew c && is (viewOf z) ended c) (changeCoro c (inState CoroState.Failed) (λ r. r) z) z)
+
+abbrev pub misnaming : ℕ → Engine
+misnaming c = leaving (λ w k. let z = step w k .world in pick (is (viewOf w) runs c && is (viewOf z) failed c) (changeCoro c (λ k. k) (withResult 5) z) z)
+
 -- c, which runs, is new again; c comes as one that has failed
 abbrev pub renewing : ℕ → Engine
 renewing c = leaving (λ w k. let z = step w k .world in pick (is (viewOf w) runs c) (changeCoro c (inState CoroState.Created) (λ r. r) z) z)
@@ -188,7 +262,15 @@ renewing c = leaving (λ w k. let z = step w k .world in pick (is (viewOf w) run
 abbrev pub stillborn : ℕ → Engine
 stillborn c = leaving (λ w k. let z = step w k .world in pick (not (is (viewOf w) isNew c) && is (viewOf z) isNew c) (changeCoro c (inState CoroState.Failed) (λ r. r) z) z)
 
--- ---- machines whose set-ups or looks are wrong
+-- ---- machines whose set-ups, looks or calls are wrong
+
+-- every operation is taken for a look
+abbrev pub heardAs : Option Op → Option Op
+heardAs none = none
+heardAs (some o) = some Op.Look
+
+abbrev pub deaf : Engine
+deaf = record { State = World; Call = Call; op = λ k. heardAs (opOf k); asks = asksOf; view = viewOf; next = λ w k. step w k .world; number = λ w k. numberOf (step w k .answer); look = looks }
 
 -- a set-up leaves the fuel
 abbrev pub refuelled : Option Op → Fuel → World → World
@@ -198,9 +280,19 @@ refuelled (some o) f z = z
 abbrev pub fuelled : Engine
 fuelled = leaving (λ w k. refuelled (opOf k) (w .fuel) (step w k .world))
 
+-- a set-up gives depth 1, whatever was asked for
+abbrev pub shallow : Call → Call
+shallow (SetUp s) =
+    let l = s .limits in
+    SetUp (record { limits = record { depth = 1; stack = l .stack; rows = l .rows; slots = l .slots; memory = l .memory }; costs = s .costs; hook = s .hook; functions = s .functions })
+shallow (Do o) = Do o
+
+abbrev pub shrinking : Engine
+shrinking = record { State = World; Call = Call; op = opOf; asks = asksOf; view = viewOf; next = λ w k. step w (shallow k) .world; number = λ w k. numberOf (step w (shallow k) .answer); look = looks }
+
 -- a look hands back the whole stack
 abbrev pub showing : Engine
-showing = record { State = World; Call = Call; op = opOf; view = viewOf; next = λ w k. step w k .world; number = λ w k. numberOf (step w k .answer); look = λ w. w .stack }
+showing = record { State = World; Call = Call; op = opOf; asks = asksOf; view = viewOf; next = λ w k. step w k .world; number = λ w k. numberOf (step w k .answer); look = λ w. w .stack }
 
 pub record Wrong : Type 0 where
   pub other-function : Demand3 (bent (onTop ofZero)) → ⊥
@@ -216,15 +308,26 @@ pub record Wrong : Type 0 where
   pub closing-forgotten : Events forgetting → ⊥
   pub failure-returns : Events sparing → ⊥
   pub rows-once : Demand3 once → ⊥
+  pub other-word : Demand3 mistaking → ⊥
+  pub below-changed : Demand3 tainting → ⊥
   pub new-gets-a-word : Demand3 (begun greeted) → ⊥
   pub new-at-pc-1 : Demand3 (begun late) → ⊥
   pub await-yields : Events yielding → ⊥
   pub excused : Events excusing → ⊥
   pub throw-lost : Events muting → ⊥
+  pub ignored-unheard : Events hushing → ⊥
+  pub always-nine : Accepts grudging → ⊥
+  pub caught-unheard : Accepts crying → ⊥
+  pub bank-unused : Accepts stingy → ⊥
   pub close-pays : Events closing → ⊥
   pub result-changes : Events (rewriting c) → ⊥
   pub aborted : Events (aborting c) → ⊥
+  pub close-fails : Events (harsh c) → ⊥
+  pub close-refused : Accepts (spurning c) → ⊥
+  pub wrong-result : Events (misnaming c) → ⊥
   pub renewed : Events (renewing c) → ⊥
   pub comes-failed : Events (stillborn c) → ⊥
   pub fuel-stays : SetUps fuelled → ⊥
+  pub other-limits : SetUps shrinking → ⊥
+  pub speechless : Speaks deaf → ⊥
   pub all-shown : Looks showing → ⊥

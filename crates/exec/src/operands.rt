@@ -12,7 +12,7 @@ ghost use Rattle.exec.specs.Instruction.{PcIs};
 use model::call::Op;
 use model::machine::Cont;
 
-fn both(a: bool, b: bool) -> bool
+pub fn both(a: bool, b: bool) -> bool
     ensures { λ r. ⌜ r ≡ (a && b) ⌝ }
 {
     if a {

@@ -1,5 +1,5 @@
--- The story's loop: what is left of it, done to the present, is the whole done to the start. Assumes nothing.
-use mathlib.Core.Path.{_≡_, refl, sym, ap, _∙_}
+-- A call as it is watched; and the story's loop: what is left of it, done to the present, is the whole done to the start. Assumes nothing.
+use mathlib.Core.Path.{_≡_, refl, sym, ap, ap₂, _∙_}
 use mathlib.Core.List.{List}
 use Prim.Native.Nat.{ℕ, suc, _+_, _<_, _≤_}
 use native.Mathlib.Omega.{arith}
@@ -8,8 +8,21 @@ use lib.Seq.{drop-cons}
 use Rattle.model.specs.declared.call.Op.{Op}
 use Rattle.memory.specs.Memory.{Lent}
 use Rattle.memory.proofs.Does.{SameLengths}
-use Rattle.lent.specs.Step.{State, Left, stepWords}
-use Rattle.furnace.specs.Story.{story, plays}
+use Rattle.memory.specs.declared.machine.Machine.{Machine}
+use Rattle.model.specs.declared.machine.Fuel.{Fuel}
+use Rattle.outer.specs.State.{state}
+use Rattle.lent.specs.Step.{State, Left, stepWords, setUpWords}
+use Rattle.furnace.specs.Story.{story, blank, empty}
+use Rattle.furnace.specs.declared.note.Seen.{Seen}
+use Rattle.furnace.specs.declared.note.Count.{Count}
+use Rattle.furnace.specs.Watch.{Watched, watched, notesAt, seenAt, countedAt, watch, watches, none}
+
+pub watched-is : (s : State) (notes : List ℕ) (c : Count) (o : Op) (d : Left) (was : Seen) (ns : List ℕ) (t : Count) → d ≡ stepWords s o → was ≡ seenAt s o → ns ≡ notesAt s o notes
+    → t ≡ countedAt d was ns c → watched (d .state) ns t ≡ watch (watched s notes c) o
+unfolding watch
+watched-is s notes c o d was ns t e f g h =
+    let r = h ∙ ap (λ (x : Left). countedAt x was ns c) e ∙ ap₂ (λ (x : Seen) (y : List ℕ). countedAt (stepWords s o) x y c) f g in
+    λ k. record { state = e k .state; notes = g k; count = r k }
 
 next : (M N P : Lent) → SameLengths M N → SameLengths N P → SameLengths M P
 next M N P a b =
@@ -25,13 +38,13 @@ next M N P a b =
       setup = b .setup ∙ a .setup;
     }
 
-module _ (s₀ : State) (notes₀ : List ℕ) where
-  pub record Along (s : State) (notes : List ℕ) (i : ℕ) : Type 0 where
-    pub lengths : SameLengths (s₀ .words) (s .words)
-    pub long : length notes ≡ length notes₀
-    pub left : plays s (drop i story) ≡ plays s₀ story
+module _ (s₀ : Watched) where
+  pub record Along (s : Watched) (i : ℕ) : Type 0 where
+    pub lengths : SameLengths (s₀ .state .words) (s .state .words)
+    pub long : length (s .notes) ≡ length (s₀ .notes)
+    pub left : watches s (drop i story) ≡ watches s₀ story
 
-  pub along-start : Along s₀ notes₀ 0
+  pub along-start : Along s₀ 0
   along-start =
       record {
         lengths = record { stack = refl; frames = refl; chain = refl; slots = refl; savedStack = refl; savedFrames = refl; ready = refl; finalize = refl; setup = refl };
@@ -39,20 +52,27 @@ module _ (s₀ : State) (notes₀ : List ℕ) where
         left = refl;
       }
 
-  pub along-more : (s : State) (notes notes′ : List ℕ) (i : ℕ) → Along s notes i → i < 58 → (o : Op) → o ≡ getD story i Op.Look → (d : Left) → d ≡ stepWords s o
-      → SameLengths (s .words) (d .state .words) → length notes′ ≡ length notes → Along (d .state) notes′ (i + 1)
-  along-more s notes notes′ i a h o e d q k l =
+  pub along-more : (s d : Watched) (i : ℕ) → Along s i → i < 58 → (o : Op) → o ≡ getD story i Op.Look → d ≡ watch s o
+      → SameLengths (s .state .words) (d .state .words) → length (d .notes) ≡ length (s .notes) → Along d (i + 1)
+  along-more s d i a h o e q k l =
       let up : suc i ≡ i + 1 = omega arith in
       record {
-        lengths = next (s₀ .words) (s .words) (d .state .words) (a .lengths) k;
+        lengths = next (s₀ .state .words) (s .state .words) (d .state .words) (a .lengths) k;
         long = l ∙ a .long;
         left =
-            ap (λ (x : Left). plays (x .state) (drop (i + 1) story)) q
-            ∙ ap (λ (x : Op). plays (stepWords s x .state) (drop (i + 1) story)) e
-            ∙ sym (ap (λ (n : ℕ). plays (stepWords s (getD story i Op.Look) .state) (drop n story)) up)
-            ∙ sym (ap (plays s) (drop-cons story i Op.Look h))
+            ap (λ (x : Watched). watches x (drop (i + 1) story)) q
+            ∙ ap (λ (x : Op). watches (watch s x) (drop (i + 1) story)) e
+            ∙ sym (ap (λ (n : ℕ). watches (watch s (getD story i Op.Look)) (drop n story)) up)
+            ∙ sym (ap (watches s) (drop-cons story i Op.Look h))
             ∙ a .left;
       }
 
-  pub along-end : (s : State) (notes : List ℕ) (i : ℕ) → 58 ≤ i → Along s notes i → s ≡ plays s₀ story
-  along-end s notes i h a = sym (ap (plays s) (drop-of-length-le story {i = i} h)) ∙ a .left
+  pub along-end : (s : Watched) (i : ℕ) → 58 ≤ i → Along s i → s ≡ watches s₀ story
+  along-end s i h a = sym (ap (watches s) (drop-of-length-le story {i = i} h)) ∙ a .left
+
+-- the set-up, and the story from there
+pub begun-and-played : (M : Lent) (given notes : List ℕ) (m : Machine) (f : Fuel) (d : Left) (z : Watched) → m ≡ blank → f ≡ empty → d ≡ setUpWords (state M m f) given
+    → z ≡ watches (watched (d .state) notes none) story → z .count ≡ watches (watched (setUpWords (state M blank empty) given .state) notes none) story .count
+begun-and-played M given notes m f d z p q e h =
+    ap (λ (x : Watched). x .count) h
+    ∙ ap (λ (x : Left). watches (watched (x .state) notes none) story .count) (e ∙ ap₂ (λ (x : Machine) (y : Fuel). setUpWords (state M x y) given) p q)

@@ -1,4 +1,5 @@
 -- The story: a furnace line with two zones, a sensor and a recipe, as a list of calls.
+use mathlib.Core.Bool.{false}
 use mathlib.Core.List.{List, [], _∷_, _++_}
 use Prim.Native.Nat.{ℕ, _+_}
 use Rattle.heap.specs.Word.{nil}
@@ -10,7 +11,8 @@ use Rattle.model.specs.Example.{plain}
 use Rattle.model.specs.declared.machine.Cont.{Cont}
 use Rattle.model.specs.declared.call.OptPc.{OptPc}
 use Rattle.model.specs.declared.call.Op.{Op}
-use Rattle.lent.specs.Step.{State, stepWords}
+use Rattle.model.specs.declared.machine.Fuel.{Fuel}
+use Rattle.memory.specs.declared.machine.Machine.{Machine}
 
 -- ---- the set-up: function 0 is the line, 1 heats a zone, 2 is a sensor, 3 a trim, 4 a survey, 5 a recipe with a cleanup block
 
@@ -28,6 +30,25 @@ furnace =
       hook = Opt.None;
       functions = plain 8 ∷ heat ∷ plain 3 ∷ plain 3 ∷ plain 4 ∷ recipe ∷ [];
     }
+
+-- the numbers and the fuel before it, which it does not read
+abbrev pub blank : Machine
+blank =
+    record {
+      height = 0;
+      depth = 0;
+      active = 0;
+      count = 0;
+      ready = 0;
+      finalize = 0;
+      finalizing = false;
+      outcome = record { 0 = 0; 1 = 0; 2 = 0; 3 = 0 };
+      used = 0;
+      seq = 0;
+    }
+
+abbrev pub empty : Fuel
+empty = record { fuel = 0; bank = Opt.None; ready = false }
 
 -- the words of what is made, in the slots after the six functions; the last is the iterator over the sensor
 abbrev pub zone1 : ℕ
@@ -89,8 +110,3 @@ waking =
 
 abbrev pub story : List Op
 story = heating ++ (surveying ++ (dropping ++ (racing ++ waking)))
-
--- calls on lent words, one after the other, whatever they answer
-abbrev pub plays : State → List Op → State
-plays s [] = s
-plays s (o ∷ os) = plays (stepWords s o .state) os

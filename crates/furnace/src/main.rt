@@ -1,4 +1,5 @@
 // A furnace line whose scripts sleep and are woken: what each held, and what came back.
+mod note;
 mod show;
 mod story;
 mod tell;
@@ -6,13 +7,14 @@ mod watch;
 
 ghost use mathlib.Core.Path.{_≡_};
 ghost use Rattle.memory.specs.Contract.{atEntry, atExit};
-ghost use Rattle.outer.specs.State.{nine, state, gives};
-ghost use Rattle.lent.specs.Step.{stepWords};
+ghost use Rattle.outer.specs.State.{nine, state};
+ghost use Rattle.lent.specs.Step.{setUpWords};
 ghost use Rattle.tables.specs.Sizes.{setupWords};
-ghost use Rattle.furnace.specs.Story.{furnace, story, plays};
-use crate::tell::Count;
+ghost use lib.ListN.{length};
+ghost use Rattle.furnace.specs.Story.{furnace, story, blank, empty};
+ghost use Rattle.furnace.specs.Watch.{watched, watch, watches, none};
+use crate::note::Count;
 use heap::value::Opt;
-use machine::called::Called;
 use memory::machine::Machine;
 use memory::machine::Told;
 use model::call::Op;
@@ -59,8 +61,10 @@ fn furnace() -> [u64; 224]
     given
 }
 
-struct Turned {
-    called: Called,
+// What calls leave of the numbers and of the fuel, and the wakes counted.
+struct Played {
+    machine: Machine,
+    fuel: Fuel,
     count: Count,
 }
 
@@ -80,10 +84,12 @@ fn turn(
     op: Op,
     notes: &mut [u64],
     count: Count,
-) -> Turned
-    ensures { λ r. ⌜ gives (nine stack frames chain slots «saved_stack» «saved_frames» ready finalize setup atExit) (r .called) ≡ stepWords (state (nine stack frames chain slots «saved_stack» «saved_frames» ready finalize setup atEntry) m fuel) op ⌝ }
+) -> Played
+    requires { ⌜ length (now notes) ≡ 64 ⌝ }
+    ensures { λ r. ⌜ watched (state (nine stack frames chain slots «saved_stack» «saved_frames» ready finalize setup atExit) (r .machine) (r .fuel)) (atExit notes) (r .count)
+        ≡ watch (watched (state (nine stack frames chain slots «saved_stack» «saved_frames» ready finalize setup atEntry) m fuel) (atEntry notes) count) op ⌝ }
 {
-    let was = tell::before(stack, frames, chain, m, op, notes);
+    let was = note::before(stack, frames, chain, m, op, notes);
     let called = outer::call::call(
         stack,
         frames,
@@ -113,14 +119,17 @@ fn turn(
         notes,
         count,
     );
-    Turned {
-        called,
+    Played {
+        machine: next,
+        fuel: left,
         count: told,
     }
 }
 
 // The numbers and the fuel before a set-up, which does not read them.
-fn blank() -> Machine {
+fn blank() -> Machine
+    ensures { λ r. ⌜ r ≡ blank ⌝ }
+{
     Machine {
         height: 0,
         depth: 0,
@@ -135,20 +144,15 @@ fn blank() -> Machine {
     }
 }
 
-fn empty() -> Fuel {
+fn empty() -> Fuel
+    ensures { λ r. ⌜ r ≡ empty ⌝ }
+{
     let bank = Opt::None;
     Fuel {
         fuel: 0,
         bank,
         ready: false,
     }
-}
-
-// What the story leaves of the numbers and of the fuel, and the wakes in it.
-struct Played {
-    machine: Machine,
-    fuel: Fuel,
-    count: Count,
 }
 
 // All calls of the story.
@@ -166,7 +170,9 @@ fn play(
     fuel: Fuel,
     notes: &mut [u64],
 ) -> Played
-    ensures { λ r. ⌜ state (nine stack frames chain slots «saved_stack» «saved_frames» ready finalize setup atExit) (r .machine) (r .fuel) ≡ plays (state (nine stack frames chain slots «saved_stack» «saved_frames» ready finalize setup atEntry) m fuel) story ⌝ }
+    requires { ⌜ length (now notes) ≡ 64 ⌝ }
+    ensures { λ r. ⌜ watched (state (nine stack frames chain slots «saved_stack» «saved_frames» ready finalize setup atExit) (r .machine) (r .fuel)) (atExit notes) (r .count)
+        ≡ watches (watched (state (nine stack frames chain slots «saved_stack» «saved_frames» ready finalize setup atEntry) m fuel) (atEntry notes) none) story ⌝ }
 {
     let mut k = m;
     let mut f = fuel;
@@ -190,9 +196,8 @@ fn play(
             notes,
             count,
         );
-        let called = did.called;
-        k = called.machine;
-        f = called.fuel;
+        k = did.machine;
+        f = did.fuel;
         count = did.count;
         i += 1;
     }
@@ -216,8 +221,10 @@ fn line(
     setup: &mut [u64],
     notes: &mut [u64],
     given: &[u64],
-) {
-    tell::heading();
+) -> Count
+    requires { ⌜ length (now notes) ≡ 64 ⌝ }
+    ensures { λ r. ⌜ r ≡ watches (watched (setUpWords (state (nine stack frames chain slots «saved_stack» «saved_frames» ready finalize setup atEntry) blank empty) (now (given .entry)) .state) (atEntry notes) none) story .count ⌝ }
+{
     let began = outer::set_up::set_up(
         stack,
         frames,
@@ -248,8 +255,7 @@ fn line(
         fuel,
         notes,
     );
-    let count = did.count;
-    tell::end(count);
+    did.count
 }
 
 fn main() {
@@ -264,7 +270,8 @@ fn main() {
     let mut finalize = [0u64; 16];
     let mut setup = [0u64; 224];
     let mut notes = [0u64; 64];
-    line(
+    tell::heading();
+    let count = line(
         &mut stack,
         &mut frames,
         &mut chain,
@@ -277,4 +284,5 @@ fn main() {
         &mut notes,
         &given,
     );
+    tell::end(count);
 }

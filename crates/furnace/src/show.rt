@@ -1,9 +1,8 @@
 // What a person reads.
 use crate::watch::Sent;
 use crate::watch::base;
-use crate::watch::coroutine;
 use crate::watch::field;
-use crate::watch::floor;
+use crate::watch::owner;
 use heap::value::Class;
 use heap::value::Opt;
 use heap::value::Word;
@@ -125,18 +124,6 @@ fn registers(stack: &[u64], start: usize, end: usize) {
         return;
     }
     words(&stack[start..end]);
-}
-
-// The word of the innermost of n running coroutines to which frame i belongs; nil if it is of none.
-fn owner(chain: &[u64], n: usize, i: usize) -> u64 {
-    let mut k = n;
-    while k > 0 {
-        k -= 1;
-        if floor(chain, k) <= i {
-            return coroutine(chain, k);
-        }
-    }
-    Word::NIL
 }
 
 // One frame: the part of the stack that is its own, its function, the coroutine that it belongs to, its words.

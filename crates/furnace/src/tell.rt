@@ -1,199 +1,29 @@
-// What there is to tell of a call: what is noted before it, and said after it.
-ghost use Prim.Native.Nat.{_+_, _≤_, _<_};
+// What there is to say of a call, and the wakes counted. What C's `write` does with the text no contract says; the counts each has.
+ghost use mathlib.Core.Path.{_≡_};
 ghost use lib.ListN.{length};
+ghost use Rattle.calls.specs.Codes.{same};
+ghost use Rattle.model.specs.Answer.{numberOf};
+ghost use Rattle.furnace.specs.Watch.{ownWords, sentTo, oneMore, entering, counted};
+use crate::note::Count;
+use crate::note::Seen;
+use crate::note::note_of;
 use crate::show;
+use crate::watch::Part;
 use crate::watch::Sent;
 use crate::watch::all_equal;
-use crate::watch::base;
+use crate::watch::arrives;
+use crate::watch::at_most;
 use crate::watch::coroutine;
 use crate::watch::field;
-use crate::watch::floor;
-use crate::watch::register;
-use crate::watch::suspends;
-use crate::watch::waits_in;
+use crate::watch::last;
+use crate::watch::own_base;
+use crate::watch::part_of;
 use crate::watch::woke;
 use calls::answer::Eight;
-use heap::value::Class;
-use heap::value::Word;
 use memory::machine::Machine;
 use model::call::Answer;
 use model::call::Op;
 use model::machine::Fuel;
-
-// The words of a note: how many the sleeper holds, which of them waits, its base, and the words. Slots 6 to 9 have one each.
-const NOTE: usize = 16;
-
-// Where a coroutine's note begins.
-fn note_of(w: u64) -> usize
-    ensures { λ r. ⌜ r ≤ 48 ⌝ }
-{
-    match Word(w).class() {
-        Class::Ref(o) => place_of(o.slot()),
-        _ => 0,
-    }
-}
-
-fn place_of(slot: usize) -> usize
-    ensures { λ r. ⌜ r ≤ 48 ⌝ }
-{
-    match slot {
-        7 => 16,
-        8 => 32,
-        9 => 48,
-        _ => 0,
-    }
-}
-
-// The head of the note at `at`.
-fn head(notes: &mut [u64], at: usize, n: usize, place: usize, own: usize)
-    requires { ⌜ at + 2 < length (now notes) ⌝ }
-{
-    notes[at] = n as u64;
-    notes[at + 1] = place as u64;
-    notes[at + 2] = own as u64;
-}
-
-// That note, of the words of the stack from `own` to `height`.
-fn keep(notes: &mut [u64], at: usize, place: usize, stack: &[u64], own: usize, height: usize)
-    requires { ⌜ at ≤ 48 ⌝ }
-{
-    if notes.len() < 64 {
-        return;
-    }
-    if height < own {
-        return;
-    }
-    if stack.len() < height {
-        return;
-    }
-    let n = height - own;
-    if NOTE - 3 < n {
-        return;
-    }
-    head(notes, at, n, place, own);
-    let first = at + 3;
-    let last = first + n;
-    lists::copy_words(&mut notes[first..last], &stack[own..height]);
-}
-
-// Before a call that suspends: what the coroutine that runs holds is noted.
-fn note_own(stack: &[u64], frames: &[u64], chain: &[u64], m: Machine, op: Op, notes: &mut [u64]) {
-    if !suspends(op) {
-        return;
-    }
-    if m.active == 0 {
-        return;
-    }
-    if m.depth == 0 {
-        return;
-    }
-    let i = m.active - 1;
-    let own = base(frames, floor(chain, i));
-    let top = base(frames, m.depth - 1);
-    let dst = waits_in(op);
-    let height = m.height;
-    if top < own {
-        return;
-    }
-    if height < top {
-        return;
-    }
-    if height - top <= dst {
-        return;
-    }
-    let place = top - own + dst;
-    let at = note_of(coroutine(chain, i));
-    keep(notes, at, place, stack, own, height);
-}
-
-// The base of the top frame; 0 without a frame.
-fn top_base(frames: &[u64], depth: usize) -> usize {
-    if depth == 0 {
-        return 0;
-    }
-    base(frames, depth - 1)
-}
-
-// The word that a call sends to the coroutine that it enters.
-fn sends(stack: &[u64], frames: &[u64], m: Machine, op: Op) -> Sent {
-    match op {
-        Op::Resume {
-            pc: _,
-            dst: _,
-            coro: _,
-            src,
-        } => Sent {
-            is: true,
-            word: register(stack, top_base(frames, m.depth), src as usize),
-        },
-        Op::IterNext {
-            pc: _,
-            has: _,
-            iter: _,
-            val: _,
-            src: _,
-        } => Sent {
-            is: true,
-            word: Word::NIL,
-        },
-        Op::HostEntry { coro: _, word } => Sent { is: true, word },
-        _ => Sent { is: false, word: 0 },
-    }
-}
-
-// What was seen before a call: running coroutines, the innermost of them, and the word that the call sends.
-pub(crate) struct Seen {
-    pub(crate) active: usize,
-    pub(crate) coro: u64,
-    pub(crate) sent: Sent,
-}
-
-fn own(chain: &[u64], active: usize) -> u64 {
-    if active == 0 {
-        return Word::NIL;
-    }
-    coroutine(chain, active - 1)
-}
-
-// Before a call.
-pub(crate) fn before(
-    stack: &[u64],
-    frames: &[u64],
-    chain: &[u64],
-    m: Machine,
-    op: Op,
-    notes: &mut [u64],
-) -> Seen {
-    note_own(stack, frames, chain, m, op, notes);
-    let sent = sends(stack, frames, m, op);
-    Seen {
-        active: m.active,
-        coro: own(chain, m.active),
-        sent,
-    }
-}
-
-// Coroutines woken, and those of them that came back with what they held.
-pub(crate) struct Count {
-    pub(crate) wakes: u64,
-    pub(crate) equal: u64,
-}
-
-impl Count {
-    fn with(self, equal: bool) -> Count {
-        let wakes = std::num::wrapping_add_u64(self.wakes, 1);
-        if equal {
-            return Count {
-                wakes,
-                equal: std::num::wrapping_add_u64(self.equal, 1),
-            };
-        }
-        Count {
-            wakes,
-            equal: self.equal,
-        }
-    }
-}
 
 // A sleeper was woken: the stack as it stands, what it held and what came back.
 fn woken(
@@ -206,19 +36,13 @@ fn woken(
     place: usize,
     from: u64,
     count: Count,
-) -> Count {
-    if m.active == 0 {
-        return count;
-    }
-    let own = base(frames, floor(chain, m.active - 1));
-    let height = m.height;
-    if height < own {
-        return count;
-    }
-    if stack.len() < height {
-        return count;
-    }
-    let back = &stack[own..height];
+) -> Count
+    ensures { λ r. ⌜ r ≡ oneMore count (same (sentTo (sent .is) place (sent .word) (now (held .entry))) (ownWords (now (stack .entry)) (now (frames .entry)) (now (chain .entry)) m)) ⌝ }
+{
+    let own = own_base(frames, chain, m);
+    let height = at_most(stack.len(), m.height);
+    let start = at_most(height, own);
+    let back = &stack[start..height];
     let equal = woke(held, sent, place, back);
     show::number(b" WAKES at height ", own as u64);
     show::number(b" (it slept at ", from);
@@ -230,7 +54,7 @@ fn woken(
     show::say(b"\n     came back");
     show::words(back);
     show::verdict(equal, sent.is);
-    count.with(equal)
+    count.one_more(equal)
 }
 
 // A coroutine was entered: it starts, or it is woken.
@@ -242,26 +66,20 @@ fn entered(
     sent: Sent,
     notes: &[u64],
     count: Count,
-) -> Count {
-    if m.active == 0 {
-        return count;
-    }
-    let c = coroutine(chain, m.active - 1);
+) -> Count
+    requires { ⌜ length (now notes) ≡ 64 ⌝ }
+    ensures { λ r. ⌜ r ≡ entering (now (stack .entry)) (now (frames .entry)) (now (chain .entry)) m sent (now (notes .entry)) count ⌝ }
+{
+    let c = coroutine(chain, last(m.active));
     let at = note_of(c);
-    if notes.len() < 64 {
-        return count;
-    }
-    let n = notes[at] as usize;
-    if NOTE - 3 < n {
-        return count;
-    }
+    let n = at_most(13, notes[at] as usize);
     show::name(c);
     if n == 0 {
         show::say(b" starts\n");
         return count;
     }
     let first = at + 3;
-    let last = first + n;
+    let end = first + n;
     let place = notes[at + 1] as usize;
     let from = notes[at + 2];
     woken(
@@ -270,7 +88,7 @@ fn entered(
         chain,
         m,
         sent,
-        &notes[first..last],
+        &notes[first..end],
         place,
         from,
         count,
@@ -278,21 +96,28 @@ fn entered(
 }
 
 // A coroutine sleeps: what it holds, from its note.
-fn asleep(c: u64, notes: &[u64]) {
+fn asleep(c: u64, notes: &[u64])
+    requires { ⌜ length (now notes) ≡ 64 ⌝ }
+{
     let at = note_of(c);
-    if notes.len() < 64 {
-        return;
-    }
-    let n = notes[at] as usize;
-    if NOTE - 3 < n {
-        return;
-    }
+    let n = at_most(13, notes[at] as usize);
     show::number(b" sleeps at height ", notes[at + 2]);
     show::say(b" and holds");
     let first = at + 3;
-    let last = first + n;
-    show::words(&notes[first..last]);
+    let end = first + n;
+    show::words(&notes[first..end]);
     show::say(b"\n");
+}
+
+// A coroutine runs no more: it sleeps, or it has ended.
+fn left(c: u64, op: Op, notes: &[u64])
+    requires { ⌜ length (now notes) ≡ 64 ⌝ }
+{
+    show::name(c);
+    match part_of(op) {
+        Part::Waits(_) => asleep(c, notes),
+        _ => show::say(b" ends\n"),
+    }
 }
 
 // An answer other than 0, to a call made while `coro` ran.
@@ -368,14 +193,12 @@ fn other(frames: &[u64], m: Machine, fuel: Fuel, op: Op, told: Eight) {
     }
 }
 
-// What an entry delivers: nothing where the call was answered by a cleanup's start.
-fn arrives(sent: Sent, n: u64) -> Sent {
-    if n == 0 {
-        return sent;
-    }
-    Sent {
-        is: false,
-        word: Word::NIL,
+// What there is to say of a call's answer.
+fn replied(frames: &[u64], m: Machine, fuel: Fuel, op: Op, told: Eight, coro: u64) {
+    if told.0 != 0 {
+        answered(told, coro, fuel);
+    } else {
+        other(frames, m, fuel, op, told);
     }
 }
 
@@ -391,25 +214,18 @@ pub(crate) fn after(
     was: Seen,
     notes: &[u64],
     count: Count,
-) -> Count {
+) -> Count
+    requires { ⌜ length (now notes) ≡ 64 ⌝ }
+    ensures { λ r. ⌜ r ≡ counted (now (stack .entry)) (now (frames .entry)) (now (chain .entry)) m (numberOf answer) was (now (notes .entry)) count ⌝ }
+{
     let told = calls::answer::words_of(answer);
-    let n = told.0;
-    if n != 0 {
-        answered(told, was.coro, fuel);
-    } else {
-        other(frames, m, fuel, op, told);
-    }
+    replied(frames, m, fuel, op, told, was.coro);
     if was.active < m.active {
-        let sent = arrives(was.sent, n);
+        let sent = arrives(told.0, was.sent);
         return entered(stack, frames, chain, m, sent, notes, count);
     }
     if m.active < was.active {
-        show::name(was.coro);
-        if suspends(op) {
-            asleep(was.coro, notes);
-            return count;
-        }
-        show::say(b" ends\n");
+        left(was.coro, op, notes);
     }
     count
 }

@@ -1,10 +1,12 @@
 // What is seen of a machine's words: whose frames stand on top, what a sleeper held, and whether it came back.
 ghost use mathlib.Core.Path.{_≡_};
-ghost use Prim.Native.Nat.{_+_, _*_, _≤_, _<_};
+ghost use Prim.Native.Nat.{_+_, _-_, _*_, _≤_, _<_};
 ghost use lib.ListN.{length, getD};
 ghost use Rattle.calls.specs.Codes.{same};
 ghost use Rattle.tables.specs.Layout.{baseIn};
-ghost use Rattle.furnace.specs.Watch.{floorIn, coroIn, sentTo, allEqual};
+ghost use Rattle.furnace.specs.Watch.{floorIn, coroIn, innermost, ownerIn, topBase, ownBase, partOf, sentBy, arriving, atMost, sentTo, allEqual};
+use heap::value::Word;
+use memory::machine::Machine;
 use model::call::Op;
 
 // Word k of record i of a table whose records have six words; 0 beyond its end.
@@ -57,40 +59,112 @@ pub(crate) fn register(stack: &[u64], base: usize, r: usize) -> u64
     stack[base + r]
 }
 
-// Whether a call suspends the coroutine that runs, and the register that then waits.
-pub(crate) fn suspends(op: Op) -> bool {
-    match op {
-        Op::Yield {
-            pc: _,
-            dst: _,
-            src: _,
-        } => true,
-        Op::YieldKv {
-            pc: _,
-            dst: _,
-            src: _,
-            key: _,
-        } => true,
-        Op::Await {
-            pc: _,
-            dst: _,
-            src: _,
-        } => true,
-        _ => false,
+// The place of the last of n, and 0 for none.
+pub(crate) fn last(n: usize) -> usize
+    ensures { λ r. ⌜ r ≡ n - 1 ⌝ }
+{
+    if n == 0 {
+        return 0;
     }
+    n - 1
 }
 
-pub(crate) fn waits_in(op: Op) -> usize {
+// How far a lies above b.
+pub(crate) fn above(a: usize, b: usize) -> usize
+    ensures { λ r. ⌜ r ≡ a - b ⌝ }
+{
+    if a < b {
+        return 0;
+    }
+    a - b
+}
+
+// n, and at most so much.
+pub(crate) fn at_most(most: usize, n: usize) -> usize
+    ensures { λ r. ⌜ r ≡ atMost most n ⌝ }
+{
+    if n <= most {
+        return n;
+    }
+    most
+}
+
+// The innermost of n running coroutines; nil if there is none.
+pub(crate) fn innermost(chain: &[u64], n: usize) -> u64
+    ensures { λ r. ⌜ r ≡ innermost (now (chain .entry)) n ⌝ }
+{
+    if n == 0 {
+        return Word::NIL;
+    }
+    coroutine(chain, n - 1)
+}
+
+// The innermost of n running coroutines to which frame i belongs; nil if it belongs to none.
+pub(crate) fn owner(chain: &[u64], n: usize, i: usize) -> u64
+    ensures { λ r. ⌜ r ≡ ownerIn (now (chain .entry)) n i ⌝ }
+{
+    let mut k = n;
+    while k > 0 {
+        k -= 1;
+        if floor(chain, k) <= i {
+            return coroutine(chain, k);
+        }
+    }
+    Word::NIL
+}
+
+// The base of the top frame.
+pub(crate) fn top_base(frames: &[u64], m: Machine) -> usize
+    ensures { λ r. ⌜ r ≡ topBase (now (frames .entry)) m ⌝ }
+{
+    base(frames, last(m.depth))
+}
+
+// The base of the body frame of the innermost running coroutine: from there on the words of the stack are its own.
+pub(crate) fn own_base(frames: &[u64], chain: &[u64], m: Machine) -> usize
+    ensures { λ r. ⌜ r ≡ ownBase (now (frames .entry)) (now (chain .entry)) m ⌝ }
+{
+    base(frames, floor(chain, last(m.active)))
+}
+
+// What a call is to who watches.
+pub(crate) enum Part {
+    // it suspends who runs, and this register then waits
+    Waits(u16),
+    // it enters a coroutine, and sends it the word in this register
+    Sends(u16),
+    // it enters a coroutine, and sends it this word
+    Hands(u64),
+    Neither,
+}
+
+pub(crate) fn part_of(op: Op) -> Part
+    ensures { λ r. ⌜ r ≡ partOf op ⌝ }
+{
     match op {
-        Op::Yield { pc: _, dst, src: _ } => dst as usize,
+        Op::Yield { pc: _, dst, src: _ } => Part::Waits(dst),
         Op::YieldKv {
             pc: _,
             dst,
             src: _,
             key: _,
-        } => dst as usize,
-        Op::Await { pc: _, dst, src: _ } => dst as usize,
-        _ => 0,
+        } => Part::Waits(dst),
+        Op::Await { pc: _, dst, src: _ } => Part::Waits(dst),
+        Op::Resume {
+            pc: _,
+            dst: _,
+            coro: _,
+            src,
+        } => Part::Sends(src),
+        Op::IterNext {
+            pc: _,
+            has: _,
+            iter: _,
+            val: _,
+            src: _,
+        } => Part::Hands(Word::NIL),
+        Op::HostEntry { coro: _, word } => Part::Hands(word),
+        _ => Part::Neither,
     }
 }
 
@@ -98,6 +172,29 @@ pub(crate) fn waits_in(op: Op) -> usize {
 pub(crate) struct Sent {
     pub(crate) is: bool,
     pub(crate) word: u64,
+}
+
+pub(crate) fn sends(stack: &[u64], frames: &[u64], m: Machine, p: Part) -> Sent
+    ensures { λ r. ⌜ r ≡ sentBy (now (stack .entry)) (now (frames .entry)) m p ⌝ }
+{
+    match p {
+        Part::Sends(r) => Sent {
+            is: true,
+            word: register(stack, top_base(frames, m), r as usize),
+        },
+        Part::Hands(x) => Sent { is: true, word: x },
+        _ => Sent { is: false, word: 0 },
+    }
+}
+
+// What of it arrives: nothing where the call was answered by a cleanup's start.
+pub(crate) fn arrives(n: u64, sent: Sent) -> Sent
+    ensures { λ r. ⌜ r ≡ arriving n sent ⌝ }
+{
+    if n == 0 {
+        return sent;
+    }
+    Sent { is: false, word: 0 }
 }
 
 // Word i of those that a sleeper held, with the sent one at `place`.

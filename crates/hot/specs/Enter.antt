@@ -3,7 +3,7 @@ use mathlib.Core.Path.{_≡_}
 use mathlib.Core.List.{List}
 use Prim.Native.Nat.{ℕ, _+_, _*_, _≤_}
 use lib.ListN.{length}
-use Rattle.heap.specs.Heap.{slotsOf, coroOf, placeOf}
+use Rattle.heap.specs.Heap.{SlotFits, slotsOf, coroOf, placeOf}
 use Rattle.heap.specs.declared.fault.Fault.{Fault}
 use Rattle.heap.specs.declared.heap.CoroPlace.the-variants as L
 use Rattle.model.specs.World.{World, After, andThen}
@@ -28,7 +28,7 @@ entersBy v dst w = coroEnter v (Driver.Resume dst) w
 
 pub record MoveInFits (stack frames slots savedStack savedFrames ms : List ℕ) (i : ℕ) : Type 0 where
   pub words : 25 ≤ length ms
-  pub slot : i * 20 + 20 ≤ length slots
+  pub slot : SlotFits slots i
   pub fits : MoveFits stack frames savedStack savedFrames (machineIn ms .height) (machineIn ms .depth) (sizesIn ms) (recordAt slots i)
 
 -- it stands there under the word v

@@ -3,6 +3,7 @@ use mathlib.Core.Path.{_≡_}
 use mathlib.Core.List.{List}
 use Prim.Native.Nat.{ℕ, _+_, _-_, _*_, _≤_, _<_}
 use lib.ListN.{length, getD}
+use Rattle.heap.specs.Slot.{width}
 use Rattle.tables.specs.Does.{Gets}
 use Rattle.boundary.specs.Words.{machineIn, sizesIn}
 use Rattle.hot.specs.Enter.{May}
@@ -13,7 +14,7 @@ pub record EntersFits (stack frames slots ms : List ℕ) : Type 0 where
   pub words : 25 ≤ length ms
   pub on-stack : getD ms 0 0 ≤ length stack
   pub on-frames : getD ms 1 0 * 6 ≤ length frames
-  pub in-slots : getD ms 3 0 * 20 ≤ length slots
+  pub in-slots : getD ms 3 0 * width ≤ length slots
   pub deep : getD ms 1 0 ≤ getD ms 13 0
   pub high : getD ms 0 0 ≤ getD ms 14 0
 

@@ -5,6 +5,7 @@ use Prim.Native.Nat.{ℕ, _+_, _-_, _*_, _≤_, _<_}
 use lib.ListN.{length, getD, set}
 use Rattle.lists.specs.Chunks.{chunkAt}
 use Rattle.heap.specs.Coding.{ofBits}
+use Rattle.heap.specs.Slot.{width}
 use Rattle.heap.specs.Int.{inlineOf, nextKey}
 use Rattle.heap.specs.Heap.{slotsOf, coroOf, placeOf}
 use Rattle.heap.specs.declared.heap.CoroPlace.the-variants as L
@@ -46,7 +47,7 @@ pub record May (frames chain slots : List ℕ) (m : Machine) (i : ℕ) : Type 0 
   pub running : 1 ≤ m .active
   pub floor : innermostIn chain m .floor < m .depth
   pub found : L.At i ≡ placeOf (coroOf (slotsOf (m .count) slots) (innermostIn chain m .coro))
-  pub unclosed : getD (chunkAt 20 slots i) 3 0 ≡ 0
+  pub unclosed : getD (chunkAt width slots i) 3 0 ≡ 0
   pub wide : m .height - baseIn frames (innermostIn chain m .floor) ≤ recordAt slots i .maxregs
   pub deep : m .depth - innermostIn chain m .floor ≤ recordAt slots i .maxframes
 

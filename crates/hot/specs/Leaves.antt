@@ -4,6 +4,7 @@ use mathlib.Core.List.{List}
 use Prim.Native.Nat.{ℕ, _+_, _-_, _*_, _≤_, _<_}
 use lib.ListN.{length, getD}
 use Rattle.lists.specs.Chunks.{chunkAt}
+use Rattle.heap.specs.Slot.{width}
 use Rattle.tables.specs.Layout.{baseIn}
 use Rattle.boundary.specs.Words.{machineIn}
 use Rattle.hot.specs.Leave.{innermostIn, May, Keyed}
@@ -14,7 +15,7 @@ pub record LeavesFits (frames chain slots ms : List ℕ) : Type 0 where
   pub words : 25 ≤ length ms
   pub on-frames : getD ms 1 0 * 6 ≤ length frames
   pub on-chain : getD ms 2 0 * 6 ≤ length chain
-  pub in-slots : getD ms 3 0 * 20 ≤ length slots
+  pub in-slots : getD ms 3 0 * width ≤ length slots
   pub floor : 1 ≤ getD ms 2 0 → innermostIn chain (machineIn ms) .floor < getD ms 1 0
   pub base : 1 ≤ getD ms 2 0 → baseIn frames (innermostIn chain (machineIn ms) .floor) ≤ getD ms 0 0
 

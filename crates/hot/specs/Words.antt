@@ -3,9 +3,8 @@ use mathlib.Core.Path.{_≡_}
 use mathlib.Core.List.{List}
 use Prim.Native.Nat.{ℕ}
 use lib.ListN.{set}
-use Rattle.lists.specs.Chunks.{chunkAt}
 use Rattle.lists.specs.Parts.{splice}
-use Rattle.heap.specs.Slot.{coroAt}
+use Rattle.heap.specs.Heap.{coroIn}
 use Rattle.heap.specs.declared.object.CoroObj.{CoroObj}
 use Rattle.memory.specs.declared.machine.Machine.{Machine}
 use Rattle.boundary.specs.Words.{machineIn, machineWords, fuelIn, fuelWords}
@@ -23,4 +22,4 @@ Fuelled fs fs′ = fs′ ≡ splice fs 0 (fuelWords (fuelIn fs′))
 
 -- the record of the coroutine in slot i
 abbrev pub recordAt : List ℕ → ℕ → CoroObj
-recordAt slots i = coroAt (chunkAt 20 slots i)
+recordAt slots i = coroIn slots i

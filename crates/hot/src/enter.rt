@@ -10,6 +10,11 @@ ghost use Rattle.machine.specs.Send.{SendFits};
 ghost use Rattle.model.specs.declared.exec.Step.the-variants.{Frame};
 ghost use Rattle.memory.specs.Lendings.{six};
 ghost use Rattle.memory.specs.Contract.{Met, ifSound, only};
+use crate::record::FRAMES;
+use crate::record::REGS;
+use crate::record::ROW;
+use crate::record::STATE;
+use crate::record::WAITING;
 use crate::record::word;
 use heap::object::CoroState;
 use model::machine::Driver;
@@ -29,21 +34,21 @@ fn move_in(
         (now (frames .exit)) (now («saved_stack» .exit)) (now («saved_frames» .exit)) (machineIn (now (machine .entry)) .height) (machineIn
         (now (machine .entry)) .depth) (sizesIn (now (machine .entry))) (recordAt (now (slots .entry)) i) ⌝ }
 {
-    let at = (word(slots, i, 7) as usize) * (machine[18] as usize);
+    let at = (word(slots, i, ROW) as usize) * (machine[18] as usize);
     tables::rows::enter_stack(
         stack,
         machine[0] as usize,
         saved_stack,
         at,
-        word(slots, i, 8) as usize,
+        word(slots, i, REGS) as usize,
     );
-    let from = (word(slots, i, 7) as usize) * ((machine[13] as usize) * 6);
+    let from = (word(slots, i, ROW) as usize) * ((machine[13] as usize) * 6);
     tables::rows::enter_frames(
         frames,
         machine[1] as usize,
         saved_frames,
         from,
-        word(slots, i, 9) as usize,
+        word(slots, i, FRAMES) as usize,
         machine[0],
     );
 }
@@ -132,10 +137,10 @@ pub(crate) fn enter(
         src as usize,
     );
     tables::frames::store_pc(frames, machine[1] as usize, pc);
-    let state = word(slots, i, 2);
-    let regs = word(slots, i, 8);
-    let deep = word(slots, i, 9);
-    let waiting = word(slots, i, 12);
+    let state = word(slots, i, STATE);
+    let regs = word(slots, i, REGS);
+    let deep = word(slots, i, FRAMES);
+    let waiting = word(slots, i, WAITING);
     enter_at(
         stack,
         frames,

@@ -1,5 +1,8 @@
 // Whether a Resume meets no refusal.
 ghost use Rattle.hot.specs.Enters.{EntersFits, Entering};
+use crate::record::FRAMES;
+use crate::record::REGS;
+use crate::record::STATE;
 use crate::record::word;
 use heap::heap::CoroPlace;
 use heap::value::Word;
@@ -11,7 +14,7 @@ pub enum Enters {
 }
 
 // 01's gate, fuel in hand, and what coro_enter tests.
-pub(crate) fn may_enter(
+pub fn may_enter(
     stack: &[u64],
     frames: &[u64],
     slots: &[u64],
@@ -54,21 +57,21 @@ pub(crate) fn may_enter(
     match heap::heap::coro_place(slots, machine[3] as usize, Word(v)) {
         CoroPlace::Not(_) => Enters::Not,
         CoroPlace::At(i) => {
-            let state = word(slots, i, 2);
+            let state = word(slots, i, STATE);
             if state == 1 {
                 return Enters::Not;
             }
             if 3 < state {
                 return Enters::Not;
             }
-            let deep = word(slots, i, 9);
+            let deep = word(slots, i, FRAMES);
             if deep == 0 {
                 return Enters::Not;
             }
             if machine[13] - machine[1] < deep {
                 return Enters::Not;
             }
-            if machine[14] - machine[0] < word(slots, i, 8) {
+            if machine[14] - machine[0] < word(slots, i, REGS) {
                 return Enters::Not;
             }
             Enters::At(i, v)

@@ -12,7 +12,7 @@ ghost use Rattle.hot.specs.Went.{goesOn};
 use boundary::call::bvm_kept;
 
 // The frame on top goes on.
-pub(crate) fn goes_on(answer: &mut [u64])
+pub fn goes_on(answer: &mut [u64])
     requires { ⌜ 8 ≤ length (now answer) ⌝ }
     ensures { λ _. ⌜ now (answer .exit) ≡ splice (now (answer .entry)) 0 (answerWords goesOn) ⌝ }
 {

@@ -3,6 +3,8 @@ ghost use mathlib.Core.Path.{_≡_};
 ghost use Prim.Native.Nat.{_+_, _*_, _≤_};
 ghost use lib.ListN.{length};
 ghost use Rattle.lists.specs.Chunks.{chunkAt, putChunk};
+ghost use Rattle.heap.specs.Slot.{width};
+ghost use Rattle.heap.specs.Heap.{SlotFits};
 ghost use Rattle.model.specs.Exec.{yield};
 ghost use Rattle.model.specs.declared.exec.Step.the-variants.{Frame};
 ghost use Rattle.memory.specs.Lendings.{six};
@@ -13,8 +15,17 @@ ghost use Rattle.hot.specs.Leave.{innermostIn, napWords, MoveOutFits, Le
 ghost use Rattle.hot.specs.Words.{enteredOver};
 use crate::enter::put_numbers;
 use crate::enter::send;
+use crate::record::FRAMES;
+use crate::record::KEY;
+use crate::record::LARGEST;
+use crate::record::PAYLOAD;
+use crate::record::REGS;
+use crate::record::ROW;
+use crate::record::STATE;
+use crate::record::WAITING;
 use crate::record::link;
 use crate::record::word;
+use heap::slot::WIDTH;
 
 // The registers and frames from the body up go to an empty row.
 fn move_out(
@@ -46,16 +57,16 @@ fn move_out(
 }
 
 fn write_nap(s: &mut [u64], regs: u64, frames: u64, dst: u64, payload: u64, key: u64, largest: u64)
-    requires { ⌜ length (now s) ≡ 20 ⌝ }
+    requires { ⌜ length (now s) ≡ width ⌝ }
     ensures { λ _. ⌜ now (s .exit) ≡ napWords regs frames dst payload key largest (now (s .entry)) ⌝ }
 {
-    s[2] = 2;
-    s[8] = regs;
-    s[9] = frames;
-    s[12] = dst;
-    s[13] = payload;
-    s[14] = key;
-    s[15] = largest;
+    s[STATE] = 2;
+    s[REGS] = regs;
+    s[FRAMES] = frames;
+    s[WAITING] = dst;
+    s[PAYLOAD] = payload;
+    s[KEY] = key;
+    s[LARGEST] = largest;
 }
 
 // The coroutine in slot i asleep, with no change of its largest sizes and its closing mark.
@@ -69,11 +80,11 @@ fn put_nap(
     key: u64,
     largest: u64,
 )
-    requires { ⌜ i * 20 + 20 ≤ length (now slots) ⌝ }
-    ensures { λ _. ⌜ now (slots .exit) ≡ putChunk 20 (now (slots .entry)) i (napWords regs frames dst payload key largest (chunkAt 20 (now (slots .entry)) i)) ⌝ }
+    requires { ⌜ SlotFits (now slots) i ⌝ }
+    ensures { λ _. ⌜ now (slots .exit) ≡ putChunk width (now (slots .entry)) i (napWords regs frames dst payload key largest (chunkAt width (now (slots .entry)) i)) ⌝ }
 {
-    let b = i * 20;
-    let e = b + 20;
+    let b = i * WIDTH;
+    let e = b + WIDTH;
     write_nap(&mut slots[b..e], regs, frames, dst, payload, key, largest);
 }
 
@@ -99,7 +110,7 @@ fn leave_at(
         (six stack frames chain slots «saved_stack» «saved_frames») (only (machineIn (now (machine .entry)))) (only (shrunkTo
         (now (machine .entry)) base floor)) (toldTo (innermostIn (now (chain .entry)) (machineIn (now (machine .entry))) .driver) payload key) ⌝ }
 {
-    let row = word(slots, i, 7);
+    let row = word(slots, i, ROW);
     move_out(
         stack,
         frames,

@@ -1,5 +1,9 @@
 // Whether a Yield meets no refusal, and its coroutine is driven by a Resume.
 ghost use Rattle.hot.specs.Leaves.{LeavesFits, Leaving};
+use crate::record::CLOSING;
+use crate::record::LARGEST;
+use crate::record::MAX_FRAMES;
+use crate::record::MAX_REGS;
 use crate::record::link;
 use crate::record::word;
 use heap::heap::CoroPlace;
@@ -14,7 +18,7 @@ pub enum Leaves {
 }
 
 // 01's gate, fuel in hand, the key, and what coro_suspend tests.
-pub(crate) fn may_leave(
+pub fn may_leave(
     frames: &[u64],
     chain: &[u64],
     slots: &[u64],
@@ -53,18 +57,18 @@ pub(crate) fn may_leave(
     match heap::heap::coro_place(slots, machine[3] as usize, Word(link(chain, top, 0))) {
         CoroPlace::Not(_) => Leaves::Not,
         CoroPlace::At(i) => {
-            if word(slots, i, 3) != 0 {
+            if word(slots, i, CLOSING) != 0 {
                 return Leaves::Not;
             }
             let floor = link(chain, top, 1);
             let base = tables::frame::base_at(frames, floor as usize) as u64;
-            if word(slots, i, 10) < machine[0] - base {
+            if word(slots, i, MAX_REGS) < machine[0] - base {
                 return Leaves::Not;
             }
-            if word(slots, i, 11) < machine[1] - floor {
+            if word(slots, i, MAX_FRAMES) < machine[1] - floor {
                 return Leaves::Not;
             }
-            match heap::int::next_key(word(slots, i, 15)) {
+            match heap::int::next_key(word(slots, i, LARGEST)) {
                 Exact::Over => Leaves::Not,
                 Exact::Fits(n) => match Word::inline_int(n) {
                     Inline::Large => Leaves::Not,

@@ -15,7 +15,7 @@ use crate::general::general;
 use crate::general::goes_on;
 
 // One unit of fuel, then the entry.
-pub(crate) fn resume_at(
+pub fn resume_at(
     stack: &mut [u64],
     frames: &mut [u64],
     chain: &mut [u64],

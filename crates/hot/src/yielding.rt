@@ -15,7 +15,7 @@ use crate::leaves::Leaves;
 use crate::leaves::may_leave;
 
 // One unit of fuel, then the suspension.
-pub(crate) fn yield_at(
+pub fn yield_at(
     stack: &mut [u64],
     frames: &mut [u64],
     chain: &mut [u64],

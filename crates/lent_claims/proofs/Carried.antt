@@ -2,20 +2,21 @@
 use Prim.Native.Nat.{ℕ, _+_, _-_, _*_}
 use mathlib.Core.Path.{_≡_, sym, ap, _∙_, subst}
 use mathlib.Core.Logic.{_⊎_}
-use mathlib.Core.Bool.{true, false, _||_}
+use mathlib.Core.Bool.{true, _||_}
 use mathlib.Core.List.{List, [], _∷_, _++_}
 use mathlib.Core.Option.{none, some}
 use lib.ListN.{length, drop}
 use lib.Dec.{eqb}
 use Rattle.lists.specs.Pick.{pick}
 use Rattle.heap.specs.declared.value.Opt.{Opt}
-use Rattle.claims.specs.Engine.{Seen, View, Engine, run, isNew, runs, awaits, is}
-use Rattle.claims.specs.Says.{doing, lie}
+use Rattle.heap.specs.declared.object.CoroState.{CoroState}
+use Rattle.claims.specs.Engine.{Seen, View, Engine, run, isNew, runs, awaits, seenIn, is}
+use Rattle.claims.specs.Says.{word, doing, lie, Entry, charged, whom}
 use Rattle.claims.specs.Held.{Held, closer, By, Entered, Restored}
 use Rattle.claims.specs.Delivery.{recorded, Left, resultOf}
 use Rattle.claims.specs.Demand3.{Enters, Suspends, Stops, Restarts, Waits, Goes, Demand3}
-use Rattle.claims.specs.Events.{Healthy, onBody, raisedAt, answers, suspended, isAwait, returned, Lost, lives, undone, rests, Fixed, Events}
-use Rattle.claims.specs.Promise.{suspends, room, Roomy, Makes, Accepts, Eleven, Soundness, Fresh, SetUps, registers, Looks, NotEmpty}
+use Rattle.claims.specs.Events.{Healthy, raised, endsAt, answers, suspended, isAwait, toldTo, returned, Lost, endedAs, lives, undone, rests, Events}
+use Rattle.claims.specs.Promise.{suspends, room, Roomy, Pays, Makes, Accepts, Eleven, Soundness, Fresh, SetUps, registers, Looks, NotEmpty}
 use Rattle.claims.proofs.Premises.{Premises}
 use Rattle.lent_claims.proofs.Follows.{Follows, Sight, sight, same, along, ran}
 use Rattle.lent_claims.proofs.Follows.{up-enters, down-enters, up-suspends, down-suspends, up-returns, down-returns, up-fails, down-fails, up-leaves, down-leaves, up-restarts, down-restarts, up-healthy, down-healthy, up-waits, down-waits, up-goes, down-goes}
@@ -85,10 +86,21 @@ module _ (e d : Engine) (f : Follows e d) where
         answered = λ c s k h. down (λ v. (b : By (v .before) (v .op) c) → v .number ≡ answers (is (v .before) isNew c) (b .sent)) s k (p .answered c (f .to s) (f .by s k) (up-enters e d f s k c h));
         suspends = λ c s k h. down (suspended-is c) s k (p .suspends c (f .to s) (f .by s k) (up-suspends e d f s k c h));
         suspended = λ c s k h. down-suspends e d f s k c (p .suspended c (f .to s) (f .by s k) (up (suspended-is c) s k h));
+        heard = λ c s k h.
+            down (λ v. v .number ≡ toldTo (v .before .chain) (isAwait (doing (v .before) (v .op))) (seenIn (λ x. x .closing) (v .before .coro c))) s k (p .heard c (f .to s) (f .by s k) (up-suspends e d f s k c h));
         returns = λ c s k h. down (returned-is c) s k (p .returns c (f .to s) (f .by s k) (up-returns e d f s k c h));
         returned = λ c s k ok h. down-returns e d f s k c (p .returned c (f .to s) (f .by s k) (up-healthy e d f s ok) (up (returned-is c) s k h));
         fails = λ c s k h. down (lost-in c) s k (p .fails c (f .to s) (f .by s k) (up-fails e d f s k c h));
         failed = λ c s k ok r h. down-fails e d f s k c (p .failed c (f .to s) (f .by s k) (up-healthy e d f s ok) (ap (λ v. is v runs c) (f .view s) ∙ r) (up (lost-in c) s k h));
+        spoilt = λ c s k g pc x h o r.
+            down (λ v. v .after .coro c ≡ endedAs CoroState.Failed x) s k (p .spoilt c (f .to s) (f .by s k) g pc x (up-fails e d f s k c h) (f .op s k ∙ o) (ap (λ v. raised v g) (f .view s) ∙ r));
+        stopped = λ c s k h o. down (λ v. v .after .coro c ≡ endedAs CoroState.Failed 0) s k (p .stopped c (f .to s) (f .by s k) (up-fails e d f s k c h) (f .op s k ∙ o));
+        closes-new = λ c s k pc dst r src o i n u.
+            down (λ v. v .after .coro c ≡ pick (eqb (v .number) 0) (endedAs CoroState.Returned 0) (v .before .coro c)) s k
+            (p .closes-new c (f .to s) (f .by s k) pc dst r src (f .op s k ∙ o) (ap (λ v. word v r) (f .view s) ∙ i) (ap (λ v. is v isNew c) (f .view s) ∙ n) (up (λ v. whom (v .before) (v .op) ≡ none) s k u));
+        throws-new = λ c s k pc dst r src o i n u.
+            down (λ v. v .after .coro c ≡ pick (eqb (v .number) 17) (endedAs CoroState.Failed (word (v .before) src)) (v .before .coro c)) s k
+            (p .throws-new c (f .to s) (f .by s k) pc dst r src (f .op s k ∙ o) (ap (λ v. word v r) (f .view s) ∙ i) (ap (λ v. is v isNew c) (f .view s) ∙ n) (up (λ v. whom (v .before) (v .op) ≡ none) s k u));
         integer = λ c s k kind x h o i.
             down (λ v. v .after .integer (recorded (v .after .coro c)) ≡ Opt.Some x) s k (p .integer c (f .to s) (f .by s k) kind x (up-returns e d f s k c h) (f .op s k ∙ o) i);
         word = λ c s k kind x h o i.
@@ -103,14 +115,13 @@ module _ (e d : Engine) (f : Follows e d) where
         still = λ c s k r h l. down (λ v. v .after .coro c ≡ v .before .coro c) s k (p .still c (f .to s) (f .by s k) (λ x. r (down-restarts e d f s k x)) (λ x. h (down-enters e d f s k c x)) (up (λ v. is (v .before) rests c ≡ true) s k l));
         unbegun = λ c s k r h l u.
             down (λ v. v .after .coro c ≡ v .before .coro c) s k
-            (p .unbegun c (f .to s) (f .by s k) (λ x. r (down-restarts e d f s k x)) (λ x. h (down-enters e d f s k c x)) (up (λ v. is (v .before) isNew c ≡ true) s k l) (λ x. u (down (λ v. undone (doing (v .before) (v .op)) ≡ some c) s k x)));
+            (p .unbegun c (f .to s) (f .by s k) (λ x. r (down-restarts e d f s k x)) (λ x. h (down-enters e d f s k c x)) (up (λ v. is (v .before) isNew c ≡ true) s k l)
+            (λ x y. u (down (λ v. undone (doing (v .before) (v .op)) ≡ some c) s k x) (down (λ v. whom (v .before) (v .op) ≡ none) s k y)));
         runs-on = λ c s k r h a b g.
             down (λ v. is (v .after) runs c ≡ true) s k
             (p .runs-on c (f .to s) (f .by s k) (λ x. r (down-restarts e d f s k x)) (up (λ v. is (v .before) runs c ≡ true) s k h) (λ x. a (down-suspends e d f s k c x)) (λ x. b (down-returns e d f s k c x)) (λ x. g (down-fails e d f s k c x)));
-        comes = λ c s k u h.
-            down (λ v. (v .after .coro c ≡ none) ⊎ (is (v .after) isNew c ≡ true)) s k
-            (p .comes c (f .to s) (f .by s k) (λ x. u (down (λ v. undone (doing (v .before) (v .op)) ≡ some c) s k x)) (up (λ v. v .before .coro c ≡ none) s k h));
-        fixed = λ s k r. down (λ v. Fixed (v .before) (v .after)) s k (p .fixed (f .to s) (f .by s k) (λ x. r (down-restarts e d f s k x)));
+        comes = λ c s k h. down (λ v. (v .after .coro c ≡ none) ⊎ (is (v .after) isNew c ≡ true)) s k (p .comes c (f .to s) (f .by s k) (up (λ v. v .before .coro c ≡ none) s k h));
+        fixed = λ s k r. down (λ v. v .after .rules ≡ v .before .rules) s k (p .fixed (f .to s) (f .by s k) (λ x. r (down-restarts e d f s k x)));
         one-switch = λ c u s k h g. p .one-switch c u (f .to s) (f .by s k) (up-enters e d f s k c h) (up-suspends e d f s k u g);
         no-return = λ c u s k h g. p .no-return c u (f .to s) (f .by s k) (up-enters e d f s k c h) (up-returns e d f s k u g);
         one-leaves = λ c u s k h g. p .one-leaves c u (f .to s) (f .by s k) (up-suspends e d f s k c h) (up-returns e d f s k u g);
@@ -121,24 +132,31 @@ module _ (e d : Engine) (f : Follows e d) where
   -- what is seen of a state in which c has room to suspend, and n bytes more
   Roomily : ℕ → ℕ → View → Type 0
   Roomily n c v =
-      (eqb (v .fuel .fuel) 0 ≡ false) × (held : Held v c) × (seen : Seen) × (v .coro c ≡ some seen)
-      × (room v (n + ((length (drop (held .body .base) (v .stack)) - seen .mostWords) * 8 + (length (held .over ++ (held .body ∷ [])) - seen .mostFrames) * v .frameCost)) ≡ true)
+      ((pc : ℕ) (y : Entry) → charged v pc (some y) ≡ some y) × (held : Held v c) × (seen : Seen) × (v .coro c ≡ some seen)
+      × (room v (n + ((length (drop (held .body .base) (v .stack)) - seen .mostWords) * 8 + (length (held .over ++ (held .body ∷ [])) - seen .mostFrames) * v .rules .frameCost)) ≡ true)
 
   roomy : (n c : ℕ) (s : e .State) → Roomy e n c s → Roomy d n c (f .to s)
   unfolding Roomily
   roomy n c s r =
-      let (fuel, held, seen, there, grows) = subst (Roomily n c) (sym (f .view s)) (r .fuel, r .held, r .seen, r .there, r .grows) in
-      record { healthy = up-healthy e d f s (r .healthy); fuel = fuel; held = held; seen = seen; there = there; grows = grows }
+      let (paid, held, seen, there, grows) = subst (Roomily n c) (sym (f .view s)) (r .paid, r .held, r .seen, r .there, r .grows) in
+      record { healthy = up-healthy e d f s (r .healthy); paid = paid; held = held; seen = seen; there = there; grows = grows }
 
   roomy-down : (n c : ℕ) (s : e .State) → Roomy d n c (f .to s) → Roomy e n c s
   unfolding Roomily
   roomy-down n c s r =
-      let (fuel, held, seen, there, grows) = subst (Roomily n c) (f .view s) (r .fuel, r .held, r .seen, r .there, r .grows) in
-      record { healthy = down-healthy e d f s (r .healthy); fuel = fuel; held = held; seen = seen; there = there; grows = grows }
+      let (paid, held, seen, there, grows) = subst (Roomily n c) (f .view s) (r .paid, r .held, r .seen, r .there, r .grows) in
+      record { healthy = down-healthy e d f s (r .healthy); paid = paid; held = held; seen = seen; there = there; grows = grows }
 
   -- the operands lie in the frame
   lying : (s : e .State) (rs : List ℕ) → lie (e .view s) rs ≡ true → lie (d .view (f .to s)) rs ≡ true
   lying s rs l = ap (λ v. lie v rs) (f .view s) ∙ l
+
+  pays : (s : e .State) → Pays e s → Pays d (f .to s)
+  pays s r = record {
+    healthy = up-healthy e d f s (r .healthy);
+    stands = ap (λ v. eqb (length (v .frames)) 0) (f .view s) ∙ r .stands;
+    paid = λ pc y. ap (λ v. charged v pc (some y)) (f .view s) ∙ r .paid pc y;
+  }
 
   pub accepts : Accepts d → Accepts e
   accepts p =
@@ -146,12 +164,19 @@ module _ (e d : Engine) (f : Follows e d) where
         await = λ c s k pc dst src r o l. ap suspends (sym (f .number s k)) ∙ p .await c (f .to s) (f .by s k) pc dst src (roomy 0 c s r) (f .op s k ∙ o) (lying s (dst ∷ src ∷ []) l);
         yield-kv = λ c s k pc dst src key r o l. ap suspends (sym (f .number s k)) ∙ p .yield-kv c (f .to s) (f .by s k) pc dst src key (roomy 0 c s r) (f .op s k ∙ o) (lying s (dst ∷ src ∷ key ∷ []) l);
         yield = λ c s k pc dst src r full o l.
-            let r′ = subst (λ n. Roomy d n c (f .to s)) (ap (λ v. v .intCost) (sym (f .view s))) (roomy (e .view s .intCost) c s r) in
+            let r′ = subst (λ n. Roomy d n c (f .to s)) (ap (λ v. v .rules .intCost) (sym (f .view s))) (roomy (e .view s .rules .intCost) c s r) in
             ap (λ n. suspends n || eqb n 7) (sym (f .number s k)) ∙ p .yield c (f .to s) (f .by s k) pc dst src r′ (ap (λ v. v .full) (f .view s) ∙ full) (f .op s k ∙ o) (lying s (dst ∷ src ∷ []) l);
-        integer = λ s k kind x ok o m converts b.
-            sym (f .number s k) ∙ p .integer (f .to s) (f .by s k) kind x (up-healthy e d f s ok) (f .op s k ∙ o) (subst Makes (sym (f .view s)) m) converts (ap (λ v. onBody (v .frames)) (f .view s) ∙ b);
-        finish = λ s k kind x ok o plain b. sym (f .number s k) ∙ p .finish (f .to s) (f .by s k) kind x (up-healthy e d f s ok) (f .op s k ∙ o) plain (ap (λ v. onBody (v .frames)) (f .view s) ∙ b);
-        escape = λ s k x pc c ok o r. sym (f .number s k) ∙ p .escape (f .to s) (f .by s k) x pc c (up-healthy e d f s ok) (f .op s k ∙ o) (ap (λ v. raisedAt v (some x) pc) (f .view s) ∙ r);
+        close-new = λ s k pc dst r src m o l n.
+            sym (f .number s k) ∙ p .close-new (f .to s) (f .by s k) pc dst r src (pays s m) (f .op s k ∙ o) (lying s (dst ∷ r ∷ src ∷ []) l) (ap (λ v. is v isNew (word v r)) (f .view s) ∙ n);
+        throw-new = λ s k pc dst r src m o l n.
+            sym (f .number s k) ∙ p .throw-new (f .to s) (f .by s k) pc dst r src (pays s m) (f .op s k ∙ o) (lying s (dst ∷ r ∷ src ∷ []) l) (ap (λ v. is v isNew (word v r)) (f .view s) ∙ n);
+        integer = λ s k kind x ok o m converts. sym (f .number s k) ∙ p .integer (f .to s) (f .by s k) kind x (up-healthy e d f s ok) (f .op s k ∙ o) (subst Makes (sym (f .view s)) m) converts;
+        finish = λ s k kind x ok o plain. sym (f .number s k) ∙ p .finish (f .to s) (f .by s k) kind x (up-healthy e d f s ok) (f .op s k ∙ o) plain;
+        throw = λ s k x pc ok o. down (λ v. v .number ≡ endsAt (v .before) x pc) s k (p .throw (f .to s) (f .by s k) x pc (up-healthy e d f s ok) (f .op s k ∙ o));
+        raise = λ s k g pc x ok o n r.
+            down (λ v. v .number ≡ pick (room (v .before) (v .before .rules .errorCost)) (pick (v .before .full) 14 (endsAt (v .before) x pc)) 9) s k
+            (p .raise (f .to s) (f .by s k) g pc x (up-healthy e d f s ok) (f .op s k ∙ o) n (ap (λ v. raised v g) (f .view s) ∙ r));
+        pass = λ s k g pc ok o r. sym (f .number s k) ∙ p .pass (f .to s) (f .by s k) g pc (up-healthy e d f s ok) (f .op s k ∙ o) (ap (λ v. raised v g) (f .view s) ∙ r);
       }
 
   -- ---- soundness
@@ -170,6 +195,7 @@ module _ (e d : Engine) (f : Follows e d) where
   set-ups p =
       record {
         begun = λ s k h. down (λ v. Fresh (v .after)) s k (p .begun (f .to s) (f .by s k) (up-restarts e d f s k h));
+        given = λ s k h. sym (f .asks s k h) ∙ down (λ v. d .asks (f .by s k) ≡ some (v .after .rules)) s k (p .given (f .to s) (f .by s k) (up-restarts e d f s k h));
         refused = λ s k o n. down (λ v. (v .number ≡ 11) × (v .after ≡ v .before)) s k (p .refused (f .to s) (f .by s k) (f .op s k ∙ o) (λ x. n (sym (f .number s k) ∙ x)));
       }
 
@@ -206,7 +232,7 @@ module _ (e d : Engine) (f : Follows e d) where
     abbrev gs : List (d .Call)
     gs = along e d f s₄ going
 
-    pub not-empty : Restarts e start first → Roomy d (d .view (f .to s₁) .intCost) c (f .to s₁) → Makes (d .view (f .to s₁)) → Premises d c (f .to s₁) (f .by s₁ x) ws (f .by s₃ y) gs (f .by s₅ z) → NotEmpty e
+    pub not-empty : Restarts e start first → Roomy d (d .view (f .to s₁) .rules .intCost) c (f .to s₁) → Makes (d .view (f .to s₁)) → Premises d c (f .to s₁) (f .by s₁ x) ws (f .by s₃ y) gs (f .by s₅ z) → NotEmpty e
     not-empty r has makes p =
         let at₂ = f .next s₁ x in
         let at₃ : run d (d .next (f .to s₁) (f .by s₁ x)) ws ≡ f .to s₃ = ap (λ u. run d u ws) at₂ ∙ ran e d f s₂ waiting in
@@ -224,7 +250,7 @@ module _ (e d : Engine) (f : Follows e d) where
           z = z;
           c = c;
           suspends = down-suspends e d f s₁ x c (p .suspends);
-          roomy = subst (λ v. Roomy e (v .intCost) c s₁) (f .view s₁) (roomy-down (d .view (f .to s₁) .intCost) c s₁ has);
+          roomy = subst (λ v. Roomy e (v .rules .intCost) c s₁) (f .view s₁) (roomy-down (d .view (f .to s₁) .rules .intCost) c s₁ has);
           makes = subst Makes (f .view s₁) makes;
           waits = down-waits e d f c s₂ waiting (subst (λ u. Waits d c u ws) at₂ (p .waits));
           enters = down-enters e d f s₃ y c (subst (λ u. Enters d c u (f .by s₃ y)) at₃ (p .enters));

@@ -12,6 +12,7 @@ use Rattle.claims.specs.Engine.{run}
 use Rattle.claims.specs.Events.{Healthy}
 use Rattle.claims.specs.Promise.{Promise}
 use Rattle.claims.specs.Steps.{steps}
+use Rattle.claims.proofs.Operands.{as-typed}
 use Rattle.claims.proofs.Promise as Steps
 use Rattle.lent.specs.Step.{State, Left, isSound, decoded, setUpOk, setUpWords, Call, SetUp, Do, step}
 use Rattle.lent.specs.Sentences.{number, NoSuchFault}
@@ -36,6 +37,7 @@ promise =
       soundness = Carried.soundness outer steps follows (p .soundness);
       set-ups = Carried.set-ups outer steps follows (p .set-ups);
       looks = Carried.looks outer steps follows (p .looks);
+      speaks = λ o h. (Do (record { op = o; within = as-typed o ∙ h }), refl);
       not-empty = not-empty;
     }
 

@@ -17,6 +17,7 @@ pub record Follows (e d : Engine) : Type 0 where
   pub by : e .State → e .Call → d .Call
   pub view : (s : e .State) → d .view (to s) ≡ e .view s
   pub op : (s : e .State) (k : e .Call) → d .op (by s k) ≡ e .op k
+  pub asks : (s : e .State) (k : e .Call) → Restarts e s k → d .asks (by s k) ≡ e .asks k
   pub next : (s : e .State) (k : e .Call) → d .next (to s) (by s k) ≡ to (e .next s k)
   pub number : (s : e .State) (k : e .Call) → d .number (to s) (by s k) ≡ e .number s k
   pub look : (s : e .State) → d .look (to s) ≡ e .look s

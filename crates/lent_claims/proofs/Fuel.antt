@@ -1,10 +1,9 @@
 -- A sound machine with another fuel record. Assumes nothing.
 use mathlib.Core.Path.{_≡_}
-use mathlib.Core.Bool.{Bool, true, false, _&&_}
-use Rattle.model.specs.World.{World}
+use mathlib.Core.Bool.{true, false, _&&_}
 use Rattle.model.specs.Sound.{sound}
 use Rattle.model.specs.declared.machine.Fuel.{Fuel}
-use Rattle.soundness.proofs.Tests.{and-left, and-right, both, no-false}
+use Rattle.soundness.proofs.Tests.{and-left, both, no-false}
 use Rattle.soundness.proofs.Sound.{Sound, sound→, →sound}
 use Rattle.soundness.proofs.Coros.{fuel-move}
 use Rattle.memory.specs.Decode.{setupOf}

@@ -73,7 +73,7 @@ split-met : premises steps c (run steps (fresh wide) before) (nth held 13) (betw
 unfolding computed before
 split-met = refl
 
-has-room : let w = run steps (fresh wide) before in Roomy steps (steps .view w .intCost) c w × Makes (steps .view w)
+has-room : let w = run steps (fresh wide) before in Roomy steps (steps .view w .rules .intCost) c w × Makes (steps .view w)
 unfolding computed before
 has-room = (roomy-met, makes-met)
 
@@ -110,4 +110,4 @@ not-empty =
     let q = subst (λ ws. Premises steps c (to s₁) (nth held 13) ws (nth held 23) (between held 23 26) (nth held 26)) (sym (follow-waiting s₂)) p in
     let r = subst (λ gs. Premises steps c (to s₁) (nth held 13) (along outer steps follows s₂ waiting) (nth held 23) gs (nth held 26)) (sym (follow-going s₄)) q in
     Carried.not-empty outer steps follows start first (map own before) (own (nth held 13)) waiting (own (nth held 23)) going (own (nth held 26)) c
-    (record { sets-up = refl; accepted = Sentences.sentences .set-up start (setupWords wide) taken }) (subst (λ w. Roomy steps (steps .view w .intCost) c w) reached (has-room .0)) (subst (λ w. Makes (steps .view w)) reached (has-room .1)) r
+    (record { sets-up = refl; accepted = Sentences.sentences .set-up start (setupWords wide) taken }) (subst (λ w. Roomy steps (steps .view w .rules .intCost) c w) reached (has-room .0)) (subst (λ w. Makes (steps .view w)) reached (has-room .1)) r

@@ -24,12 +24,13 @@ use Rattle.model.specs.declared.call.Op.{Op}
 use Rattle.soundness.proofs.Tests.{no-false, picked}
 use Rattle.soundness.proofs.Sound.{sound→}
 use Rattle.memory.specs.Decode.{setupOf}
+use Rattle.claims.specs.Demand3.{Restarts}
 use Rattle.claims.specs.Steps as Steps
 use Rattle.claims.specs.Steps.{viewOf, steps}
 use Rattle.claims.specs.Story.{bad}
 use Rattle.lent.specs.Step.{State, Left, isSound, decoded, stepWords, looked, setUpOk, setUpWords, Call, SetUp, Do}
 use Rattle.lent.proofs.Kept.{words-kept, untested, stepped, refused-words, set-up, given-ok, refused-set-up}
-use Rattle.lent_claims.specs.Engine.{opOf, outer}
+use Rattle.lent_claims.specs.Engine.{opOf, asksOf, outer}
 use Rattle.lent_claims.proofs.Follows.{Follows}
 
 -- ---- states
@@ -128,6 +129,16 @@ pub number : (s : State) (k : Call) → numberOf (step (to s) (by s k) .answer) 
 number s (SetUp given) = number-set-up s given (setUpOk given (s .words)) refl
 number s (Do o) = number-do s o (isSound s) refl
 
+pub asks : (s : State) (k : Call) → Restarts outer s k → Steps.asksOf (by s k) ≡ asksOf k
+asks s (Do o) r = refl
+asks s (SetUp given) r = go (setUpOk given (s .words)) refl
+  where
+    go : (b : Bool) → setUpOk given (s .words) ≡ b → Steps.asksOf (setting (setUpOk given (s .words)) given) ≡ some (Steps.rulesOf (setupOf given))
+    go true e = ap (λ b. Steps.asksOf (setting b given)) e ∙ ap Steps.asksOf (pick-true _ _)
+    go false e =
+        let z : _≡_ {A = ℕ} 11 0 = ap (λ (x : Left). numberOf (x .answer)) (sym (refused-set-up s given e)) ∙ r .accepted in
+        absurd (omega (arith, z))
+
 pub some-call : (s : State) (k : Model.Call) (o : Op) → Steps.opOf k ≡ some o → (j : Call) × (by s j ≡ k)
 some-call s (Model.SetUp u) o q = let z : _≡_ {A = ℕ} 0 1 = cc in absurd (omega arith)
 some-call s (Model.Do p) o q = (Do p, refl)
@@ -149,4 +160,4 @@ look s = go (isSound s) refl
         ap (λ (x : Out). x .seen) (stays (to s) (record { op = Op.Look; within = Steps.look-typed }) (unsound-to s e)) ∙ sym (ap (λ b. pick b (registers (decoded s)) []) e ∙ pick-false _ _)
 
 abbrev pub follows : Follows outer steps
-follows = record { to = to; by = by; view = view; op = op; next = next; number = number; look = look; some-call = some-call }
+follows = record { to = to; by = by; view = view; op = op; asks = asks; next = next; number = number; look = look; some-call = some-call }

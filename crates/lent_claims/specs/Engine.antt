@@ -3,13 +3,18 @@
 use mathlib.Core.Option.{Option, none, some}
 use Rattle.model.specs.Answer.{numberOf}
 use Rattle.model.specs.declared.call.Op.{Op}
-use Rattle.claims.specs.Engine.{Engine}
-use Rattle.claims.specs.Steps.{viewOf}
+use Rattle.memory.specs.Decode.{setupOf}
+use Rattle.claims.specs.Engine.{Rules, Engine}
+use Rattle.claims.specs.Steps.{rulesOf, viewOf}
 use Rattle.lent.specs.Step.{State, decoded, looked, Call, SetUp, Do, step}
 
 abbrev pub opOf : Call → Option Op
 opOf (SetUp given) = none
 opOf (Do o) = some (o .op)
 
+abbrev pub asksOf : Call → Option Rules
+asksOf (SetUp given) = some (rulesOf (setupOf given))
+asksOf (Do o) = none
+
 abbrev pub outer : Engine
-outer = record { State = State; Call = Call; op = opOf; view = λ s. viewOf (decoded s); next = λ s k. step s k .state; number = λ s k. numberOf (step s k .answer); look = looked }
+outer = record { State = State; Call = Call; op = opOf; asks = asksOf; view = λ s. viewOf (decoded s); next = λ s k. step s k .state; number = λ s k. numberOf (step s k .answer); look = looked }

@@ -1,7 +1,7 @@
 -- The sheet's lines for the instructions that ask for a coroutine: entries, CoroStatus, CoroCurrent, CoroKey, CoroResult.
 use Prim.Native.Nat.{ℕ}
 use mathlib.Core.Path.{_≡_, refl, ap, _∙_}
-use mathlib.Core.Bool.{Bool, true, false, not, _||_, true≢false}
+use mathlib.Core.Bool.{Bool, true, false, not, _||_}
 use mathlib.Core.List.{List, [], _∷_}
 use Rattle.lists.specs.Pick.{pick}
 use Rattle.heap.specs.Word.{nil}
@@ -28,6 +28,7 @@ use Rattle.sheet.specs.Moves.{pcStored, put, sent, entered, enteredClosi
 use Rattle.sheet.specs.Instructions as Table
 use Rattle.sheet.proofs.Words.{object-found}
 use Rattle.sheet.proofs.Moved.{below, below-if, word-is, stored, put-is, sent-is, coro-is, by-kind, ended-is, closing-is, marked-is}
+use Rattle.sheet.proofs.Among.{not-false}
 
 -- ---- coro_enter
 
@@ -168,10 +169,6 @@ resume-throw-is pc dst c src u saved =
 
     err : ℕ
     err = word u src
-
-not-false : (b : Bool) → not b ≡ false → b ≡ true
-not-false true h = refl
-not-false false h = absurd (true≢false h)
 
 close-is : (s d v : ℕ) (by : Driver) (w : World) (b : Bool) → isCoroutine (found w v) ≡ true →
     Exec.closeEntered v s (entered v by w) (pick b Entered.Fresh (Entered.Suspended d)) ≡ after (enteredClosing s v by w) (Step.Unwind (Fault.Throw s))

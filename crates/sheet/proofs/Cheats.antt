@@ -44,6 +44,7 @@ use Rattle.sheet.proofs.SetUps.{set-ups}
 use Rattle.sheet.proofs.Sentences.{given-by}
 use Rattle.sheet.proofs.Pep342.{send}
 use Rattle.sheet.proofs.Queue.{queue}
+use Rattle.sheet.proofs.Moved.{length-at}
 
 -- an engine that keeps the table gives step's world and answer
 module _ (e : Engine) (k : Keeps e) (w : World) (o : Operation) where
@@ -67,10 +68,6 @@ stored-stands : (pc : ℕ) (fs : List Frame) → isNil (atPc pc fs) ≡ isNil fs
 stored-stands pc [] = refl
 stored-stands pc (f ∷ fs) = refl
 
-stored-length : (pc : ℕ) (fs : List Frame) → length (atPc pc fs) ≡ length fs
-stored-length pc [] = refl
-stored-length pc (f ∷ fs) = refl
-
 onward-length : (fs : List Frame) → length (onward fs) ≡ length fs
 onward-length [] = refl
 onward-length (f ∷ fs) = refl
@@ -83,7 +80,7 @@ module _ (pc : ℕ) (w : World) where
   charged-stands = both (λ (u : World). isNil (u .frames) ≡ isNil (w .frames)) _ refl (both (λ (u : World). isNil (u .frames) ≡ isNil (w .frames)) _ refl (stored-stands pc (w .frames)))
 
   charged-length : length (charged pc w .frames) ≡ length (w .frames)
-  charged-length = both (λ (u : World). length (u .frames) ≡ length (w .frames)) _ refl (both (λ (u : World). length (u .frames) ≡ length (w .frames)) _ refl (stored-length pc (w .frames)))
+  charged-length = both (λ (u : World). length (u .frames) ≡ length (w .frames)) _ refl (both (λ (u : World). length (u .frames) ≡ length (w .frames)) _ refl (length-at pc (w .frames)))
 
   -- entered, and the word sent
   restored : (v dst r x : ℕ) → isNil (w .frames) ≡ false → Restored (coreOf (found (at pc w) v)) w (sent r x (entered v (Driver.Resume dst) (at pc w)))
@@ -96,7 +93,7 @@ module _ (pc : ℕ) (w : World) where
             onward-length fs
             ∙ (length-append up (z .frames)
             ∙ (ap (λ n. n + length (z .frames)) (length-map (k .frames) (λ f. record { func = f .func; pc = f .pc; base = f .base + length (z .stack); closure = f .closure; cont = f .cont }))
-            ∙ ap (λ n. length (k .frames) + n) (stored-length pc (charged pc w .frames) ∙ charged-length)));
+            ∙ ap (λ n. length (k .frames) + n) (length-at pc (charged pc w .frames) ∙ charged-length)));
       }
     where
       z : World

@@ -111,7 +111,7 @@ written-is : (r : ℕ) (o : Opt) (w : World) → Machine.writeResult r o w ≡ w
 written-is r Opt.None w = refl
 written-is r (Opt.Some v) w = put-is r v w
 
-or-nil-is : (o : Opt) → Machine.orNil o ≡ orNil o
+pub or-nil-is : (o : Opt) → Machine.orNil o ≡ orNil o
 or-nil-is Opt.None = refl
 or-nil-is (Opt.Some v) = refl
 

@@ -1,7 +1,7 @@
 -- What the table's moves keep: the set-up, the cleanup queue, and that no slot is empty.
 use Prim.Native.Nat.{ℕ, zero, suc}
 use mathlib.Core.Path.{_≡_, refl, ap}
-use mathlib.Core.Bool.{Bool, true, false, not, _&&_, false≢true}
+use mathlib.Core.Bool.{Bool, true, false, not, false≢true}
 use mathlib.Core.List.{List, [], _∷_, _++_}
 use lib.ListN.{set}
 use lib.Dec.{eqb}
@@ -22,7 +22,7 @@ use Rattle.sheet.specs.Makings.{stored}
 use Rattle.sheet.specs.Suspending.{delivered}
 use Rattle.sheet.specs.Endings.{isObject, converted, handedBack, overIn, returned}
 use Rattle.sheet.specs.OtherCalls.{stopped}
-use Rattle.sheet.proofs.Among.{and-left, and-right}
+use Rattle.sheet.proofs.Among.{and-left, and-right, both-true}
 use Rattle.sheet.proofs.Choice.{both, by-test}
 
 -- an object stands in every slot
@@ -51,18 +51,14 @@ Kept u x = KeptIn (u .finalize) (u .setup) (u .slots) (x .finalize) (x .setup) (
 pub same-world : (u : World) → Kept u u
 same-world u = record { queue = refl; stays = stays u }
 
-joins : (a b : Bool) → a ≡ true → b ≡ true → a && b ≡ true
-joins true b h k = k
-joins false b h k = absurd (false≢true h)
-
 pub set-filled : (xs : List (Slot Object)) (i : ℕ) (y : Slot Object) → isNothing (y .object) ≡ false → filled xs ≡ true → filled (set xs i y) ≡ true
 set-filled [] i y e h = refl
-set-filled (x ∷ xs) zero y e h = joins (not (isNothing (y .object))) (filled xs) (ap not e) (and-right (not (isNothing (x .object))) (filled xs) h)
-set-filled (x ∷ xs) (suc i) y e h = joins (not (isNothing (x .object))) _ (and-left (not (isNothing (x .object))) (filled xs) h) (set-filled xs i y e (and-right (not (isNothing (x .object))) (filled xs) h))
+set-filled (x ∷ xs) zero y e h = both-true (not (isNothing (y .object))) (filled xs) (ap not e) (and-right (not (isNothing (x .object))) (filled xs) h)
+set-filled (x ∷ xs) (suc i) y e h = both-true (not (isNothing (x .object))) _ (and-left (not (isNothing (x .object))) (filled xs) h) (set-filled xs i y e (and-right (not (isNothing (x .object))) (filled xs) h))
 
 push-filled : (xs : List (Slot Object)) (y : Slot Object) → isNothing (y .object) ≡ false → filled xs ≡ true → filled (xs ++ (y ∷ [])) ≡ true
-push-filled [] y e h = joins (not (isNothing (y .object))) true (ap not e) refl
-push-filled (x ∷ xs) y e h = joins (not (isNothing (x .object))) _ (and-left (not (isNothing (x .object))) (filled xs) h) (push-filled xs y e (and-right (not (isNothing (x .object))) (filled xs) h))
+push-filled [] y e h = both-true (not (isNothing (y .object))) true (ap not e) refl
+push-filled (x ∷ xs) y e h = both-true (not (isNothing (x .object))) _ (and-left (not (isNothing (x .object))) (filled xs) h) (push-filled xs y e (and-right (not (isNothing (x .object))) (filled xs) h))
 
 iterates : (o : Object) (f : Bool → Bool) (g : Opt → Opt) → eqb (kind o) 3 ≡ true → isNothing (iterator f g o) ≡ false
 iterates Object.Empty f g h = absurd (false≢true h)

@@ -39,6 +39,19 @@ pub led : {A : Type 0} (P : After A → Type 0) (ts : List (Line A)) (d : Line A
 led P [] d h k = k
 led P (t ∷ ts) d h k = by-test P (t .stops) (h .0) (λ _. led P ts d (h .1) k)
 
+-- .. where each line knows that none before it stopped the call
+abbrev pub InTurn : {A : Type 0} → (After A → Type 0) → List (Line A) → Line A → Type 0
+InTurn P [] d = P (after (d .left) (d .answer))
+InTurn P (t ∷ ts) d = (t .stops ≡ true → P (after (t .left) (t .answer))) × (t .stops ≡ false → InTurn P ts d)
+
+pub led-in-turn : {A : Type 0} (P : After A → Type 0) (ts : List (Line A)) (d : Line A) → InTurn P ts d → P (leadsFrom ts d)
+led-in-turn P [] d h = h
+led-in-turn P (t ∷ ts) d h = by-test P (t .stops) (h .0) (λ e. led-in-turn P ts d (h .1 e))
+
+pub in-turn : {A : Type 0} (P : After A → Type 0) (ts : List (Line A)) (d : Line A) → Every P ts → P (after (d .left) (d .answer)) → InTurn P ts d
+in-turn P [] d h k = k
+in-turn P (t ∷ ts) d h k = (h .0, λ _. in-turn P ts d (h .1) k)
+
 -- .. a test of the answer alone
 abbrev pub all : {A : Type 0} → (A → Bool) → List (Line A) → Line A → Bool
 all p ts d = each (λ l. p (l .answer)) ts && p (d .answer)

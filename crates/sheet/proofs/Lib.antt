@@ -29,6 +29,8 @@ pub mod Kept
 pub mod Walk
 pub mod WalkCalls
 pub mod Sentences
+pub mod AnswerSteps
+pub mod AnswerWords
 pub mod Answers
 pub mod Queue
 pub mod Cheats

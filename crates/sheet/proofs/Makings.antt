@@ -36,7 +36,7 @@ use Rattle.sheet.specs.Makings as Table
 use Rattle.sheet.specs.Makings.{holds, held, heldFrom, lowest, noRow, newWord, numbered, fitBytes, bytes, made, callee, isFunction, function, paid, noRoom, called}
 use Rattle.sheet.proofs.Among.{and-left}
 use Rattle.sheet.proofs.Words.{le-true, true-le, object-found, not-a}
-use Rattle.sheet.proofs.Moved.{below, base-is, word-is, stored}
+use Rattle.sheet.proofs.Moved.{below, base-is, word-is, stored, then-one}
 use Rattle.sheet.proofs.Asking.{next-is}
 use Rattle.sheet.proofs.Charging.{unbank-is}
 
@@ -241,11 +241,6 @@ paid-is w =
     ap (λ x. pick (eqb (w .fuel .fuel) 0) (pick (eqb (x .fuel .fuel) 0) (after x Charge.Spent) (after (armClose (spend x)) (Charge.Done 0))) (after (spend w) (Charge.Done 0))) (unbank-is w)
     ∙ (ap (λ x. pick (eqb (w .fuel .fuel) 0) (pick (eqb (reserve w) 0) (after (bankBack w) Charge.Spent) (after x (Charge.Done 0))) (after (spend w) (Charge.Done 0))) (armed (w .fuel .ready) (reserve w - 1) w)
     ∙ paid-by (eqb (w .fuel .fuel) 0) (eqb (reserve w) 0) (bankBack w) (spend w) _)
-
-then-one : {A B : Type 0} (g : World → A → After B) (a : Bool) (x y : After A) → andThen (pick a x y) g ≡ pick a (andThen x g) (andThen y g)
-unfolding pick
-then-one g true x y = refl
-then-one g false x y = refl
 
 pushes : (hook pc dst c : ℕ) (y : World) → andThen (pushFrame hook 0 (Cont.Value dst) (storePc pc y)) (Exec.hooked y c)
     ≡ pick (noRoom hook (pcStored pc y)) (after y (Step.Fault Fault.StackOverflow)) (after (called hook dst c (pcStored pc y)) Step.Frame)

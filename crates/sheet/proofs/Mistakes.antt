@@ -47,6 +47,7 @@ use Rattle.sheet.proofs.Led.{past, here, paid}
 use Rattle.sheet.proofs.Pep342.{stepped}
 use Rattle.sheet.proofs.Pep342Yields.{yielding}
 use Rattle.lists.proofs.Tests.{and-left, and-right}
+use Rattle.sheet.proofs.Moved.{length-at}
 
 nothing-over : (m n c : ℕ) → leb m n ≡ true → (m - n) * c ≡ 0
 nothing-over m n c h =
@@ -87,10 +88,6 @@ bases : (pc : ℕ) (fs : List Frame) → map (λ f. f .base) (atPc pc fs) ≡ ma
 bases pc [] = refl
 bases pc (f ∷ fs) = refl
 
-count : (pc : ℕ) (fs : List Frame) → length (atPc pc fs) ≡ length fs
-count pc [] = refl
-count pc (f ∷ fs) = refl
-
 base-of : (over : List Frame) (body : Frame) (under : List Frame) → getD (map (λ f. f .base) (over ++ (body ∷ under))) (length (over ++ (body ∷ under)) - suc (length under)) 0 ≡ body .base
 base-of [] body under =
     let e : suc (length under) - suc (length under) ≡ 0 = omega arith in
@@ -122,7 +119,7 @@ module _ (pc : ℕ) (w : World) (r : Rest) (m n : ℕ) (h : Runs w r m n) where
   stood = k .frames ∙ ap (atPc pc) (h .stands)
 
   numbered : length (z .frames) ≡ length (h .over ++ (h .body ∷ h .under))
-  numbered = ap (λ (fs : List Frame). length fs) stood ∙ count pc (h .over ++ (h .body ∷ h .under))
+  numbered = ap (λ (fs : List Frame). length fs) stood ∙ length-at pc (h .over ++ (h .body ∷ h .under))
 
   based : floorBase z ≡ h .body .base
   based =

@@ -3,13 +3,14 @@ use Prim.Native.Nat.{ℕ}
 use mathlib.Core.Path.{_≡_, refl, ap, _∙_}
 use mathlib.Core.Bool.{Bool, true, false, not, false≢true}
 use mathlib.Core.List.{List, [], _∷_}
+use lib.ListN.{length}
 use lib.Dec.{eqb}
 use Rattle.lists.specs.Pick.{pick}
 use Rattle.heap.specs.declared.fault.Fault.{Fault}
 use Rattle.heap.specs.declared.value.Opt.{Opt}
 use Rattle.heap.specs.declared.object.CoroState.{CoroState}
 use Rattle.model.specs.Object.{Core, Rest, Object, Coroutine, Absent, Is, asCoro}
-use Rattle.model.specs.World.{World, withStack, withFrames}
+use Rattle.model.specs.World.{World, After, andThen, withStack, withFrames}
 use Rattle.model.specs.Frames.{onTop, setPc, stepPc, topBase, putAt, reg, putReg, storePc}
 use Rattle.model.specs.Heap.{object, coro, notA, changeAs, changeCoro, changeIterIn}
 use Rattle.model.specs.Coro.{coroSend, finishCoroutine}
@@ -33,7 +34,19 @@ unfolding pick
 below-if true x e = refl
 below-if false x e = e refl
 
+pub then-one : {A B : Type 0} (g : World → A → After B) (a : Bool) (x y : After A) → andThen (pick a x y) g ≡ pick a (andThen x g) (andThen y g)
+unfolding pick
+then-one g true x y = refl
+then-one g false x y = refl
+
+pub then-two : {A B : Type 0} (g : World → A → After B) (a b : Bool) (x y z : After A) → andThen (pick a x (pick b y z)) g ≡ pick a (andThen x g) (pick b (andThen y g) (andThen z g))
+then-two g a b x y z = then-one g a x (pick b y z) ∙ below a (andThen x g) (then-one g b y z)
+
 -- ---- the top frame
+
+pub length-at : (pc : ℕ) (fs : List Frame) → length (atPc pc fs) ≡ length fs
+length-at pc [] = refl
+length-at pc (f ∷ fs) = refl
 
 pub base-is : (fs : List Frame) → topBase fs ≡ base fs
 base-is [] = refl
@@ -107,16 +120,16 @@ pub ended-is : (v : ℕ) (s : CoroState) (result : ℕ) (w : World) → finishCo
 ended-is v s result w = changed-is v _ _ w
 
 -- a coroutine that is entered, and then marked closing
+pub coroutine : (o : Object) → isCoroutine o ≡ true → asCoro o ≡ Is (coreOf o) (restOf o)
+coroutine Object.Empty h = absurd (false≢true h)
+coroutine (Object.Func n) h = absurd (false≢true h)
+coroutine (Object.Int n) h = absurd (false≢true h)
+coroutine (Object.Iter s d k) h = absurd (false≢true h)
+coroutine (Object.Error e n p x) h = absurd (false≢true h)
+coroutine (Object.Coro k r) h = refl
+
 pub closing-is : (signal v : ℕ) (d : Driver) (w : World) → isCoroutine (found w v) ≡ true → changeCoro v (λ k. k) (close signal) (entered v d w) ≡ enteredClosing signal v d w
-closing-is signal v d w h = entered-then v d (coreOf (found w v)) (restOf (found w v)) (close signal) w (coro-is w v ∙ go (found w v) h)
-  where
-    go : (o : Object) → isCoroutine o ≡ true → asCoro o ≡ Is (coreOf o) (restOf o)
-    go Object.Empty h = absurd (false≢true h)
-    go (Object.Func n) h = absurd (false≢true h)
-    go (Object.Int n) h = absurd (false≢true h)
-    go (Object.Iter s d k) h = absurd (false≢true h)
-    go (Object.Error e n p x) h = absurd (false≢true h)
-    go (Object.Coro k r) h = refl
+closing-is signal v d w h = entered-then v d (coreOf (found w v)) (restOf (found w v)) (close signal) w (coro-is w v ∙ coroutine (found w v) h)
 
 -- an iterator changed, where the word finds one
 marked-as : (o : Object) (v : ℕ) (f : Bool → Bool) (g : Opt → Opt) (w : World) → changeIterIn o v f g w ≡ pick (eqb (kind o) 3) (replaced v (iterator f g o) w) w

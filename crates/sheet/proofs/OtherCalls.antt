@@ -31,15 +31,15 @@ use Rattle.sheet.specs.Lines.{leads}
 use Rattle.sheet.specs.Words.{lies, found, isCoroutine, coreOf, restOf, state, resumable, lacksMemory, noSlot}
 use Rattle.sheet.specs.Moves.{pcStored, sent, replaced, entered}
 use Rattle.sheet.specs.Charging.{reserve, amount}
-use Rattle.sheet.specs.Makings.{isFunction, stored, newWord, noRoom}
+use Rattle.sheet.specs.Makings.{isFunction, stored, noRoom}
 use Rattle.sheet.specs.OtherCalls as Table
 use Rattle.sheet.specs.OtherCalls.{allowed, granted, stopped, registers}
 use Rattle.sheet.proofs.Among.{and-true}
 use Rattle.sheet.proofs.Moved as Moved
-use Rattle.sheet.proofs.Moved.{below, base-is, put-is, sent-is, coro-is, by-kind, ended-is}
+use Rattle.sheet.proofs.Moved.{below, base-is, put-is, sent-is, coro-is, by-kind, ended-is, then-two, then-one}
 use Rattle.sheet.proofs.Asking.{Saved, enter-is, creates, resumes}
 use Rattle.sheet.proofs.Charging.{suspends}
-use Rattle.sheet.proofs.Suspending.{cleaning-is, then-one}
+use Rattle.sheet.proofs.Suspending.{cleaning-is}
 
 -- ---- registers
 
@@ -111,14 +111,6 @@ put-word-is r v w = below _ _ (λ i. pick (not (passes i)) (refused w Fault.BadO
 
 -- ---- make iterator, take outcome, hand over
 
-made-by : (a b : Bool) (w y : World) (x : ℕ) →
-    andThen (pick a (after w (WordOr.Refused Fault.OutOfMemory)) (pick b (after w (WordOr.Refused Fault.Full)) (after y (WordOr.Word x)))) Added.answerMade
-    ≡ pick a (refused w Fault.OutOfMemory) (pick b (refused w Fault.Full) (after y (Answer.Word x)))
-unfolding pick
-made-by true b w y x = refl
-made-by false true w y x = refl
-made-by false false w y x = refl
-
 iterates : Coroutine → Fault → ℕ → World → After Answer
 iterates Absent f v w = refused w f
 iterates (Is k r) f v w = Added.iteratorOver (Is k r) v w
@@ -133,7 +125,7 @@ unfolding Added.makeIterator iterates alloc
 make-iterator-is v w =
     iterates-as (coro w v) v w
     ∙ (by-kind (λ x f. iterates x f v w) w v
-    ∙ below _ _ (below _ _ (made-by (lacksMemory w (w .setup .costs .iter)) (noSlot w) w (stored (Object.Iter v false Opt.None) (w .setup .costs .iter) w) (newWord w))))
+    ∙ below _ _ (below _ _ (then-two Added.answerMade (lacksMemory w (w .setup .costs .iter)) (noSlot w) _ _ _)))
 
 pub take-outcome-is : (w : World) → Added.takeOutcome w ≡ leads (Table.takeOutcome w)
 unfolding Added.takeOutcome

@@ -40,9 +40,8 @@ use Rattle.sheet.specs.Pep342Closes.{Closing}
 use Rattle.sheet.proofs.Among.{and-left, and-right, not-true, same}
 use Rattle.sheet.proofs.Choice.{both}
 use Rattle.sheet.proofs.Lookup.{put-get, put-put, has-body}
-use Rattle.sheet.proofs.Moved.{coro-is}
+use Rattle.sheet.proofs.Moved.{coro-is, coroutine}
 use Rattle.sheet.proofs.Asking.{resumes}
-use Rattle.sheet.proofs.Suspending.{coroutine}
 use Rattle.sheet.proofs.Sheet.{leads-to}
 use Rattle.sheet.proofs.Led.{past, here, follows}
 use Rattle.sheet.proofs.Pep342.{in-reach, in-state, close, throw}

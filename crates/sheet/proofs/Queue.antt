@@ -26,7 +26,7 @@ use Rattle.sheet.specs.Yields as Yields
 use Rattle.sheet.specs.Sheet.{lie, windowLies, tableOf, sheet}
 use Rattle.sheet.specs.Answers.{isInstruction}
 use Rattle.sheet.specs.Queue.{Queue}
-use Rattle.sheet.proofs.Among.{and-left, and-right, not-true}
+use Rattle.sheet.proofs.Among.{and-left, and-right, not-true, not-false}
 use Rattle.sheet.proofs.Choice.{both, by-test}
 use Rattle.sheet.proofs.Sheet.{leads-to}
 use Rattle.sheet.proofs.Led.{here, Every, led}
@@ -63,11 +63,7 @@ module _ (pc : ℕ) (w : World) where
   spent : (f r : Bool) (A B C : World) → A .finalize ≡ q → B .finalize ≡ q → C .finalize ≡ [] → (f && r) && not (isNil (from z q)) ≡ false →
       pick (f && r) (taken z q) 0 + length (pick (not f) A (pick (not r) B C) .finalize) ≡ length q
   unfolding pick
-  spent true true A B C a b c h = let e = found-none z q (isnt (isNil (from z q)) h) in let l : length (C .finalize) ≡ 0 = ap (λ x. length x) c in omega (arith, e, l)
-    where
-      isnt : (b : Bool) → not b ≡ false → b ≡ true
-      isnt true h = refl
-      isnt false h = absurd (true≢false h)
+  spent true true A B C a b c h = let e = found-none z q (not-false (isNil (from z q)) h) in let l : length (C .finalize) ≡ 0 = ap (λ x. length x) c in omega (arith, e, l)
   spent true false A B C a b c h = let l : length (B .finalize) ≡ length q = ap (λ x. length x) b in omega (arith, l)
   spent false r A B C a b c h = let l : length (A .finalize) ≡ length q = ap (λ x. length x) a in omega (arith, l)
 

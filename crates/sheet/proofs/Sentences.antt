@@ -15,11 +15,11 @@ use Rattle.heap.specs.declared.heap.ResultKind.{ResultKind}
 use Rattle.model.specs.Lists.{among}
 use Rattle.model.specs.Program.{Func, Setup, setupOk}
 use Rattle.model.specs.Object.{Object}
-use Rattle.model.specs.World.{World, After, after, functionObjects, fresh}
+use Rattle.model.specs.World.{World, After, functionObjects}
 use Rattle.model.specs.Sound.{sizesOk, sound}
 use Rattle.model.specs.Answer.{numberOf, wordOf}
 use Rattle.model.specs.Call.{Call, SetUp, Do, Operation}
-use Rattle.model.specs.Step.{Out, step, run}
+use Rattle.model.specs.Step.{step, run}
 use Rattle.model.specs.declared.machine.Cont.{Cont}
 use Rattle.model.specs.declared.machine.Frame.{Frame}
 use Rattle.model.specs.declared.exec.Step.{Step}
@@ -37,9 +37,10 @@ use Rattle.sheet.proofs.Among.{and-left, and-right, same}
 use Rattle.sheet.proofs.Choice.{both}
 use Rattle.sheet.proofs.Rules.{sizes}
 use Rattle.sheet.proofs.Sheet.{leads-to}
-use Rattle.sheet.proofs.SheetNumbers.{says-number, sets-up}
-use Rattle.sheet.proofs.Led.{here}
+use Rattle.sheet.proofs.SheetNumbers.{says-number, set-up-has}
+use Rattle.sheet.proofs.Led.{here, past}
 use Rattle.sheet.proofs.Kept.{filled}
+use Rattle.sheet.proofs.Walk.{none}
 use Rattle.sheet.proofs.WalkCalls.{fact}
 
 -- ---- "given exactly if"
@@ -62,17 +63,8 @@ gives-from n (t ∷ ts) d = gives-one (t .stops) (t .number) n (saysFrom ts d) (
 done-is : (w : World) (o : Operation) → step w (Do o) .world ≡ leads (sheet (o .op) w) .world
 done-is w o = ap (λ (a : After Answer). a .world) (leads-to w o)
 
-set-up-by : (b : Bool) (s : Setup) (w : World) (P : ℕ → World → Type 0) → P 11 w → P 0 (fresh s) →
-    P (numberOf (pick (not b) (after w (Answer.Refused Fault.Unsound)) (after (fresh s) Answer.Accepted) .answer)) (pick (not b) (after w (Answer.Refused Fault.Unsound)) (after (fresh s) Answer.Accepted) .world)
-unfolding pick
-set-up-by true s w P x y = y
-set-up-by false s w P x y = x
-
-set-up-has : (s : Setup) (w : World) (P : ℕ → World → Type 0) → P 11 w → P 0 (fresh s) → P (numberOf (step w (SetUp s) .answer)) (step w (SetUp s) .world)
-set-up-has s w P x y = subst (λ (o : Out). P (numberOf (o .answer)) (o .world)) (sym (sets-up w s)) (set-up-by (setupOk s) s w P x y)
-
 stays : (w : World) (c : Call) → among (numberOf (step w c .answer)) unchanging ≡ true → step w c .world ≡ w
-stays w (SetUp s) = set-up-has s w (λ m x. among m unchanging ≡ true → x ≡ w) (λ _. refl) (λ h. absurd (false≢true h))
+stays w (SetUp s) = set-up-has (λ a. among (numberOf (a .answer)) unchanging ≡ true → a .world ≡ w) w s (λ _ _. refl) (λ _ h. absurd (false≢true h))
 stays w (Do o) = λ h. done-is w o ∙ fact w (o .op) .calm (ap (λ n. among n unchanging) (sym (says-number w o)) ∙ h)
 
 new-filled : (i : ℕ) (fs : List Func) → filled (functionObjects i fs) ≡ true
@@ -80,7 +72,7 @@ new-filled i [] = refl
 new-filled i (f ∷ fs) = new-filled (suc i) fs
 
 steps-filled : (w : World) (c : Call) → filled (w .slots) ≡ true → filled (step w c .world .slots) ≡ true
-steps-filled w (SetUp s) h = set-up-has s w (λ m x. filled (x .slots) ≡ true) h (new-filled 0 (s .functions))
+steps-filled w (SetUp s) h = set-up-has (λ a. filled (a .world .slots) ≡ true) w s (λ _. h) (λ _. new-filled 0 (s .functions))
 steps-filled w (Do o) h = ap (λ (x : World). filled (x .slots)) (done-is w o) ∙ fact w (o .op) .stays .full h
 
 run-filled : (w : World) (cs : List Call) → filled (w .slots) ≡ true → filled (run w cs .slots) ≡ true
@@ -88,8 +80,7 @@ run-filled w [] h = h
 run-filled w (c ∷ cs) h = run-filled (step w c .world) cs (steps-filled w c h)
 
 accepted-filled : (w : World) (s : Setup) → setupOk s ≡ true → filled (step w (SetUp s) .world .slots) ≡ true
-unfolding pick
-accepted-filled w s h = ap (λ (o : Out). filled (o .world .slots)) (sets-up w s) ∙ (ap (λ b. filled (pick (not b) (after w (Answer.Refused Fault.Unsound)) (after (fresh s) Answer.Accepted) .world .slots)) h ∙ new-filled 0 (s .functions))
+accepted-filled w s h = set-up-has (λ a. filled (a .world .slots) ≡ true) w s (λ e. absurd (true≢false (sym h ∙ e))) (λ _. new-filled 0 (s .functions))
 
 reached-filled : (w : World) (s : Setup) (cs : List Call) → setupOk s ≡ true → filled (run w (SetUp s ∷ cs) .slots) ≡ true
 reached-filled w s cs h = run-filled (step w (SetUp s) .world) cs (accepted-filled w s h)
@@ -216,7 +207,7 @@ behind-9 Op.Look w = (refl, tt)
 
 -- ---- words of refusals
 
-fault-word : (f : Fault) → among (Faults.numberOf f) (0 ∷ 17 ∷ []) ≡ false → Faults.wordOf f ≡ 0
+pub fault-word : (f : Fault) → eqb (Faults.numberOf f) 17 ≡ false → Faults.wordOf f ≡ 0
 fault-word Fault.None h = refl
 fault-word Fault.NullReference h = refl
 fault-word Fault.TypeError h = refl
@@ -236,14 +227,17 @@ fault-word Fault.Busy h = refl
 fault-word Fault.GrantTooLarge h = refl
 fault-word (Fault.Throw v) h = absurd (true≢false h)
 
+no-17 : (n : ℕ) → among n (0 ∷ 17 ∷ []) ≡ false → eqb n 17 ≡ false
+no-17 n h = none (eqb n 17) false (none (eqb n 0) (eqb n 17 || false) h .1) .0
+
 zero-word : (a : Answer) → among (numberOf a) (0 ∷ 17 ∷ []) ≡ false → wordOf a ≡ 0
 zero-word Answer.Accepted h = refl
 zero-word (Answer.Word v) h = absurd (true≢false h)
-zero-word (Answer.Refused f) h = fault-word f h
+zero-word (Answer.Refused f) h = fault-word f (no-17 (Faults.numberOf f) h)
 zero-word (Answer.Stepped Step.Next n) h = refl
 zero-word (Answer.Stepped Step.Frame n) h = refl
-zero-word (Answer.Stepped (Step.Fault f) n) h = fault-word f h
-zero-word (Answer.Stepped (Step.Unwind f) n) h = fault-word f h
+zero-word (Answer.Stepped (Step.Fault f) n) h = fault-word f (no-17 (Faults.numberOf f) h)
+zero-word (Answer.Stepped (Step.Unwind f) n) h = fault-word f (no-17 (Faults.numberOf f) h)
 zero-word (Answer.Cleanup n) h = refl
 zero-word (Answer.Unpaid n) h = refl
 zero-word (Answer.Exit v) h = absurd (true≢false h)
@@ -252,11 +246,6 @@ zero-word Answer.Caught h = refl
 zero-word Answer.Stopped h = refl
 zero-word (Answer.Took o) h = absurd (true≢false h)
 
-set-up-says : (b : Bool) (s : Setup) (w : World) → numberOf (pick (not b) (after w (Answer.Refused Fault.Unsound)) (after (fresh s) Answer.Accepted) .answer) ≡ pick (not b) 11 0
-unfolding pick
-set-up-says true s w = refl
-set-up-says false s w = refl
-
 pub given-by : (n : ℕ) (w : World) (o : Operation) → eqb (number w o) n ≡ gives n (sheet (o .op) w)
 given-by n w o = ap (λ m. eqb m n) (says-number w o) ∙ gives-from n (sheet (o .op) w .tests) (sheet (o .op) w .done)
 
@@ -264,7 +253,7 @@ pub sentences : Sentences
 sentences =
     record {
       given = given-by;
-      given-set-up = λ w s. ap (λ (o : Out). numberOf (o .answer)) (sets-up w s) ∙ set-up-says (setupOk s) s w;
+      given-set-up = λ w s. set-up-has (λ a. numberOf (a .answer) ≡ pick (not (setupOk s)) 11 0) w s (λ e. sym (here (not (setupOk s)) 0 (ap not e))) (λ e. sym (past (not (setupOk s)) 11 (ap not e) refl));
       unchanged = stays;
       set-up-stays = λ w o. ap (λ (x : World). x .setup) (done-is w o) ∙ fact w (o .op) .stays .setup;
       full-after-9 = λ w o. behind-9 (o .op) w;

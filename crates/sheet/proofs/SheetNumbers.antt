@@ -1,6 +1,6 @@
 -- The sheet's numbers: each line's is its answer's.
 use Prim.Native.Nat.{ℕ}
-use mathlib.Core.Path.{_≡_, refl, ap, _∙_}
+use mathlib.Core.Path.{_≡_, refl, sym, ap, subst, _∙_}
 use mathlib.Core.Bool.{Bool, true, false, not, _&&_}
 use mathlib.Core.List.{List, [], _∷_}
 use lib.Dec.{eqb, leb}
@@ -30,8 +30,8 @@ use Rattle.sheet.specs.Unwinding as Unwinding
 use Rattle.sheet.specs.Unwinding.{search, left, given, errorStored}
 use Rattle.sheet.specs.OtherCalls as Others
 use Rattle.sheet.specs.Sheet.{tableOf, sheet, setUp, FaultSheet}
-use Rattle.sheet.proofs.Among.{same, and-left, and-right}
-use Rattle.sheet.proofs.Choice.{both}
+use Rattle.sheet.proofs.Among.{same, and-left, and-right, not-true, not-false}
+use Rattle.sheet.proofs.Choice.{both, by-test}
 use Rattle.sheet.proofs.OtherCalls.{registers-is}
 use Rattle.sheet.proofs.Sheet.{leads-to}
 
@@ -136,6 +136,11 @@ set-up-by false s w = refl
 pub sets-up : (w : World) (s : Setup) → step w (SetUp s) ≡ told (leads (setUp s w))
 unfolding step
 sets-up w s = set-up-by (setupOk s) s w
+
+-- what a refused set-up has, and an accepted one
+pub set-up-has : (P : After Answer → Type 0) (w : World) (s : Setup) → (setupOk s ≡ false → P (after w (Answer.Refused Fault.Unsound))) → (setupOk s ≡ true → P (after (fresh s) Answer.Accepted)) →
+    P (after (step w (SetUp s) .world) (step w (SetUp s) .answer))
+set-up-has P w s x y = subst (λ (o : Out). P (after (o .world) (o .answer))) (sym (sets-up w s)) (by-test P (not (setupOk s)) (λ e. x (not-true (setupOk s) e)) (λ e. y (not-false (setupOk s) e)))
 
 sees-by : (b : Bool) (x : Out) (w : World) (l : List ℕ) → x .seen ≡ l → pick b x (told (Gate.refused w Fault.Unsound)) .seen ≡ pick b l []
 unfolding pick

@@ -1,7 +1,7 @@
 -- The sheet's lines for Yield, YieldKv and Await: the suspension and what is delivered.
 use Prim.Native.Nat.{ℕ, zero, suc, _+_, _-_, _*_, max}
 use mathlib.Core.Path.{_≡_, refl, ap, _∙_}
-use mathlib.Core.Bool.{Bool, true, false, not, _&&_, true≢false, false≢true}
+use mathlib.Core.Bool.{Bool, true, false, not, _&&_, true≢false}
 use mathlib.Core.List.{List, [], _∷_, map}
 use lib.ListN.{length, getD, take, drop}
 use lib.Dec.{leb}
@@ -11,7 +11,7 @@ use Rattle.heap.specs.declared.fault.Fault.{Fault}
 use Rattle.heap.specs.declared.value.Opt.{Opt}
 use Rattle.heap.specs.declared.object.CoroState.{CoroState}
 use Rattle.model.specs.Lists.{isNil}
-use Rattle.model.specs.Object.{Core, Rest, Object, Is, asCoro, withPayload, withMaxregs, withMaxframes}
+use Rattle.model.specs.Object.{Core, Rest, Is, withPayload, withMaxregs, withMaxframes}
 use Rattle.model.specs.World.{World, After, after, andThen, withStack, withFrames, withChain, withFinalizing, withUsed, withFuel}
 use Rattle.model.specs.Frames.{frame, lower, above, baseAt}
 use Rattle.model.specs.Frames as Frames
@@ -30,11 +30,11 @@ use Rattle.model.specs.declared.coro.Keys.{Keys}
 use Rattle.model.specs.declared.coro.Suspension.{Suspension}
 use Rattle.model.specs.declared.exec.Step.{Step}
 use Rattle.sheet.specs.Lines.{leadsFrom}
-use Rattle.sheet.specs.Words.{found, isCoroutine, coreOf, restOf, lacksMemory}
-use Rattle.sheet.specs.Moves.{atPc, pcStored, sent, put, marked}
+use Rattle.sheet.specs.Words.{found, isCoroutine, coreOf, lacksMemory}
+use Rattle.sheet.specs.Moves.{pcStored, sent, put, marked}
 use Rattle.sheet.specs.Suspending.{running, restHere, heldFrames, floorBase, slept, growth, restAsleep, asleep, armed, cleaning, asks, isLoop, delivered}
 use Rattle.sheet.specs.Yields.{yielded, yields, yieldEnds, awaited, awaits, awaitEnds}
-use Rattle.sheet.proofs.Moved.{below, stored, put-is, sent-is, coro-is, marked-is}
+use Rattle.sheet.proofs.Moved.{below, stored, put-is, sent-is, coro-is, marked-is, coroutine, then-one, length-at}
 
 -- what a sound machine has: the innermost running coroutine is found, and its body is among the frames
 pub record Sane (w : World) : Type 0 where
@@ -106,14 +106,6 @@ module _ (st : CoroState) (dst payload : ℕ) (keys : Keys) (a : Active) (chain 
   sleeps-as : (k : Core) → Coros.suspendCoroutine (Is k r) a chain (Coros.saved st dst (a .floor) z) payload keys z ≡ body (baseAt (a .floor) (z .frames)) (length (map (lower (baseAt (a .floor) (z .frames))) (above (a .floor) (z .frames))))
   sleeps-as k = refl
 
-pub coroutine : (o : Object) → isCoroutine o ≡ true → asCoro o ≡ Is (coreOf o) (restOf o)
-coroutine Object.Empty h = absurd (false≢true h)
-coroutine (Object.Func n) h = absurd (false≢true h)
-coroutine (Object.Int n) h = absurd (false≢true h)
-coroutine (Object.Iter s d k) h = absurd (false≢true h)
-coroutine (Object.Error e n p x) h = absurd (false≢true h)
-coroutine (Object.Coro k r) h = refl
-
 module _ (st : CoroState) (dst payload : ℕ) (keys : Keys) (a : Active) (chain : List Active) (w : World) (sane : Sane (withChain (a ∷ chain) w)) where
   abbrev z₀ : World
   z₀ = withChain (a ∷ chain) w
@@ -127,11 +119,6 @@ module _ (st : CoroState) (dst payload : ℕ) (keys : Keys) (a : Active) (chain 
       ∙ (sleeps-as st dst payload keys a chain (restHere z₀) z₀ (coreOf (found z₀ (a .coro)))
       ∙ (λ i. body st dst payload keys a chain (restHere z₀) z₀ (base-at (w .frames) (length (w .frames) - suc (a .floor)) i) (length-map (lower (baseAt (a .floor) (w .frames))) (above (a .floor) (w .frames)) i)))))
 
-pub then-one : {A B : Type 0} (g : World → A → After B) (a : Bool) (x y : After A) → andThen (pick a x y) g ≡ pick a (andThen x g) (andThen y g)
-unfolding pick
-then-one g true x y = refl
-then-one g false x y = refl
-
 -- what is left asleep, however closing and keys are seen to
 module _ (st : CoroState) (dst : ℕ) (a : Active) (chain : List Active) (w : World) where
   left-is : (payload : ℕ) (keys : Keys) → body st dst payload keys a chain (restHere (withChain (a ∷ chain) w)) (withChain (a ∷ chain) w) (floorBase (withChain (a ∷ chain) w)) (length (heldFrames (withChain (a ∷ chain) w)))
@@ -139,10 +126,6 @@ module _ (st : CoroState) (dst : ℕ) (a : Active) (chain : List Active) (w : Wo
       (after (asleep (slept st dst (withChain (a ∷ chain) w)) (Coros.unclose st (Coros.setKeys keys (restAsleep (withChain (a ∷ chain) w) payload (restHere (withChain (a ∷ chain) w))))) (withChain (a ∷ chain) w))
       (Suspension.Done (a .driver) (Coros.eventOf st payload (Coros.setKeys keys (restHere (withChain (a ∷ chain) w))))))
   left-is payload keys = refl
-
-length-at : (pc : ℕ) (fs : List Frame) → length (atPc pc fs) ≡ length fs
-length-at pc [] = refl
-length-at pc (f ∷ fs) = refl
 
 pub sane-stored : (pc : ℕ) (w : World) → Sane w → Sane (pcStored pc w)
 sane-stored pc w sane =

@@ -26,7 +26,6 @@ use Rattle.model.specs.declared.machine.Cont.{Cont}
 use Rattle.model.specs.declared.machine.Driver.{Driver}
 use Rattle.model.specs.declared.machine.Frame.{Frame}
 use Rattle.model.specs.declared.machine.Stop.{Stop}
-use Rattle.model.specs.declared.coro.WordOr.{WordOr}
 use Rattle.model.specs.declared.call.OptPc.{OptPc}
 use Rattle.model.specs.declared.call.Answer.{Answer}
 use Rattle.sheet.specs.Lines.{Line, leadsFrom, leads, fault, line}
@@ -38,9 +37,9 @@ use Rattle.sheet.specs.Suspending.{asks}
 use Rattle.sheet.specs.Endings.{popped, overIn, returned}
 use Rattle.sheet.specs.Unwinding as Table
 use Rattle.sheet.specs.Unwinding.{covering, takers, taker, isEntry, isBody, ownSignal, driven, failedTo, failed, left, given, errorStored}
-use Rattle.sheet.proofs.Moved.{stored, put-is, coro-is, ended-is}
+use Rattle.sheet.proofs.Moved.{stored, put-is, coro-is, ended-is, then-two, then-one}
 use Rattle.sheet.proofs.Makings.{paid-is}
-use Rattle.sheet.proofs.Suspending.{cleaning-is, then-one}
+use Rattle.sheet.proofs.Suspending.{cleaning-is}
 use Rattle.sheet.proofs.Finishing.{returned-is}
 
 -- ---- the handler
@@ -163,21 +162,13 @@ raised-is : (value : ℕ) (d : Line Answer) (w : World) → Machine.searchFrames
 raised-is value d w =
     (λ i. Machine.search (w .frames) value (func-is (w .frames) i) (pc-is (w .frames) i) w) ∙ search-is (w .frames) value (Table.topFunc (w .frames)) (Table.topPc (w .frames)) d w
 
-made-by : (a b : Bool) (z y : World) (x : ℕ) →
-    andThen (pick a (after z (WordOr.Refused Fault.OutOfMemory)) (pick b (after z (WordOr.Refused Fault.Full)) (after y (WordOr.Word x)))) Machine.searchMade
-    ≡ pick a (after z (Answer.Refused Fault.OutOfMemory)) (pick b (after z (Answer.Refused Fault.Full)) (Machine.searchFrames x y))
-unfolding pick
-made-by true b z y x = refl
-made-by false true z y x = refl
-made-by false false z y x = refl
-
 error-is : (n : ℕ) (d : Line Answer) (z : World) →
     andThen (alloc (z .setup .costs .error) (Object.Error n (Frames.topFunc (z .frames)) (Frames.topPc (z .frames)) 0) z) Machine.searchMade
     ≡ pick (lacksMemory z (z .setup .costs .error)) (after z (Answer.Refused Fault.OutOfMemory)) (pick (noSlot z) (after z (Answer.Refused Fault.Full)) (leadsFrom (Table.raised (newWord z) (errorStored n z)) d))
 unfolding alloc
 error-is n d z =
     (λ i. andThen (alloc (z .setup .costs .error) (Object.Error n (func-is (z .frames) i) (pc-is (z .frames) i) 0) z) Machine.searchMade)
-    ∙ (made-by (lacksMemory z (z .setup .costs .error)) (noSlot z) z (errorStored n z) (newWord z)
+    ∙ (then-two Machine.searchMade (lacksMemory z (z .setup .costs .error)) (noSlot z) _ _ _
     ∙ ap (λ t. pick (lacksMemory z (z .setup .costs .error)) (after z (Answer.Refused Fault.OutOfMemory)) (pick (noSlot z) (after z (Answer.Refused Fault.Full)) t)) (raised-is (newWord z) d (errorStored n z)))
 
 abbrev at : Fault → World → World → After Answer

@@ -17,7 +17,7 @@ use Rattle.model.specs.Object.{Object, isFilled}
 use Rattle.model.specs.World.{World}
 use Rattle.model.specs.Heap.{objectAt, object, notA}
 use Rattle.sheet.specs.Words.{isReference, found, isNothing, dead}
-use Rattle.sheet.proofs.Among.{same, and-left, and-right, and-false}
+use Rattle.sheet.proofs.Among.{same, and-left, and-right, and-false, both-true}
 
 pub same-tests : (a b : Bool) → (a ≡ true → b ≡ true) → (b ≡ true → a ≡ true) → a ≡ b
 same-tests true true f g = refl
@@ -33,10 +33,6 @@ le-true m n h = go (leb m n) (le→leb m n h)
 
 pub true-le : (m n : ℕ) → leb m n ≡ true → m ≤ n
 true-le m n e = leb→le m n (subst (λ x. T x) (sym e) tt)
-
-both-true : (a b : Bool) → a ≡ true → b ≡ true → a && b ≡ true
-both-true true b h k = k
-both-true false b h k = h
 
 -- "References are 2^48 up to 2^49 - 1"
 pub top-one : (v : ℕ) → eqb (topOf v) 1 ≡ isReference v

@@ -35,8 +35,8 @@ use Rattle.sheet.specs.Yields.{yields, yieldEnds, awaits, awaitEnds, nex
 use Rattle.sheet.proofs.Choice.{both}
 use Rattle.sheet.proofs.Among.{same}
 use Rattle.sheet.proofs.Words.{top-one, nil-first, object-found}
-use Rattle.sheet.proofs.Moved.{below, word-is, coro-is}
-use Rattle.sheet.proofs.Suspending.{Sane, coroutine, yields-is, awaits-is}
+use Rattle.sheet.proofs.Moved.{below, word-is, coro-is, coroutine}
+use Rattle.sheet.proofs.Suspending.{Sane, yields-is, awaits-is}
 
 -- ---- Await
 

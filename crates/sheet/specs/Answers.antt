@@ -1,18 +1,21 @@
 -- 01: "Answers": the word and the Step of every answer, and the part that a look hands back.
 use Prim.Native.Nat.{ℕ}
 use mathlib.Core.Path.{_≡_}
-use mathlib.Core.Bool.{Bool, true, false}
-use mathlib.Core.Option.{Option, none, some}
+use mathlib.Core.Bool.{Bool, true, false, not, _&&_}
+use mathlib.Core.Option.{none, some}
 use mathlib.Core.List.{List, [], _∷_}
-use lib.ListN.{drop}
-use Rattle.heap.specs.declared.object.CoroState.{CoroState}
+use lib.ListN.{length, drop}
+use lib.Dec.{eqb, leb}
+use Rattle.lists.specs.Pick.{pick}
+use Rattle.heap.specs.Fault as Faults
+use Rattle.heap.specs.declared.fault.Fault.{Fault}
 use Rattle.heap.specs.declared.value.Opt.{Opt}
 use Rattle.model.specs.Lists.{among}
 use Rattle.model.specs.Program.{Setup}
 use Rattle.model.specs.Object.{Object}
 use Rattle.model.specs.World.{World}
 use Rattle.model.specs.Sound.{sound}
-use Rattle.model.specs.Answer.{stepNumber, numberOf, wordOf, stepOf}
+use Rattle.model.specs.Answer.{numberOf, wordOf, stepOf}
 use Rattle.model.specs.Call.{Call, SetUp, Do, Operation, typed, asCall}
 use Rattle.model.specs.Step.{step}
 use Rattle.model.specs.declared.machine.Cont.{Cont}
@@ -22,8 +25,9 @@ use Rattle.model.specs.declared.machine.Stop.{Stop}
 use Rattle.model.specs.declared.exec.Step.{Step}
 use Rattle.model.specs.declared.call.Op.{Op}
 use Rattle.sheet.specs.Does.{number, operation}
-use Rattle.sheet.specs.Words.{word, found, state, isIn}
-use Rattle.sheet.specs.Charging.{charged}
+use Rattle.sheet.specs.Lines.{fault}
+use Rattle.sheet.specs.Words.{word, found}
+use Rattle.sheet.specs.Charging.{starts}
 use Rattle.sheet.specs.Makings.{newWord}
 use Rattle.sheet.specs.Endings.{result, orNil}
 
@@ -81,6 +85,40 @@ wordFor (Op.Grant n) w = 0
 wordFor Op.StopRun w = 0
 wordFor Op.Look w = 0
 
+-- a cleanup that the charge starts raises nil; else the word is that of the instruction's register
+abbrev pub raisedBy : ℕ → ℕ → World → ℕ
+raisedBy pc src w = pick (starts pc w) 0 (word w src)
+
+-- "a thrown or uncaught word": `unwind` "answers 17 with the error object or thrown word"
+abbrev pub thrownFor : Op → World → ℕ
+thrownFor (Op.CoroNew pc dst f argc) w = 0
+thrownFor (Op.CoroNewIndirect pc dst c argc) w = 0
+thrownFor (Op.Spawn pc dst c argc) w = 0
+thrownFor (Op.Yield pc dst src) w = 0
+thrownFor (Op.YieldKv pc dst src key) w = 0
+thrownFor (Op.Await pc dst src) w = 0
+thrownFor (Op.Resume pc dst c src) w = 0
+thrownFor (Op.ResumeThrow pc dst c src) w = raisedBy pc src w
+thrownFor (Op.CoroClose pc dst c src) w = raisedBy pc src w
+thrownFor (Op.CoroStatus pc dst c) w = 0
+thrownFor (Op.CoroCurrent pc dst) w = 0
+thrownFor (Op.CoroKey pc dst c) w = 0
+thrownFor (Op.CoroResult pc dst c) w = 0
+thrownFor (Op.IterNext pc has iter val src) w = 0
+thrownFor (Op.Finish kind v) w = 0
+thrownFor (Op.Unwind f pc) w = pick (leb (Faults.numberOf f) 8) (newWord w) (Faults.wordOf f)
+thrownFor (Op.SpawnTask v) w = 0
+thrownFor (Op.HostCall f) w = 0
+thrownFor (Op.HostEntry c v) w = 0
+thrownFor (Op.FunctionCall pc f cont) w = 0
+thrownFor (Op.PutWord r v) w = 0
+thrownFor (Op.MakeIterator v) w = 0
+thrownFor Op.TakeOutcome w = 0
+thrownFor (Op.HandOver v) w = 0
+thrownFor (Op.Grant n) w = 0
+thrownFor Op.StopRun w = 0
+thrownFor Op.Look w = 0
+
 -- ---- Steps
 
 -- 01: "The fourteen instruction calls"
@@ -113,26 +151,17 @@ isInstruction (Op.Grant n) = false
 isInstruction Op.StopRun = false
 isInstruction Op.Look = false
 
--- a Step's number
-abbrev pub says : Option Step → Option ℕ
-says none = none
-says (some s) = some (stepNumber s)
+-- another frame or another coroutine is on top: the frames, or the active coroutines, are not as many as before
+abbrev pub moves : World → World → Bool
+moves w x = not (eqb (length (x .frames)) (length (w .frames)) && eqb (length (x .chain)) (length (w .chain)))
 
-abbrev pub isFault : Option Step → Bool
-isFault none = false
-isFault (some Step.Next) = false
-isFault (some Step.Frame) = false
-isFault (some (Step.Fault f)) = true
-isFault (some (Step.Unwind f)) = false
+-- the fault of a number; 17 has its word
+abbrev pub faultFor : ℕ → ℕ → Fault
+faultFor n v = pick (eqb n 17) (Fault.Throw v) (fault n)
 
--- a word is thrown into a coroutine that is new
-pub record ThrownAtNew (w : World) (o : Op) : Type 0 where
-  pub pc : ℕ
-  pub dst : ℕ
-  pub c : ℕ
-  pub src : ℕ
-  pub is : o ≡ Op.ResumeThrow pc dst c src
-  pub new : isIn (CoroState.Created ∷ []) (state (charged pc w) (word (charged pc w) c)) ≡ true
+-- Next and Fault go on in the frame that stood on top; Frame and Unwind in another
+abbrev pub stepFor : ℕ → ℕ → Bool → Step
+stepFor n v moved = pick (eqb n 0) (pick moved Step.Frame Step.Next) (pick moved (Step.Unwind (faultFor n v)) (Step.Fault (faultFor n v)))
 
 pub record Answers : Type 0 where
   pub word : (w : World) (o : Operation) → number w o ≡ 0 → wordOf (step w (Do o) .answer) ≡ wordFor (o .op) w
@@ -140,14 +169,15 @@ pub record Answers : Type 0 where
   -- the word that make iterator answers finds its iterator: "over a coroutine, not done, no key"
   pub iterator : (w : World) (v : ℕ) (t : typed (Op.MakeIterator v) ≡ true) → let o = operation (Op.MakeIterator v) t in
       number w o ≡ 0 → found (step w (Do o) .world) (wordOf (step w (Do o) .answer)) ≡ Object.Iter v false Opt.None
-  -- 11 to 13, 15 and 16 have no Step, nor has a call that is no instruction; any other answer of an instruction has one, of its number
+  -- 17's word
+  pub thrown-word : (w : World) (o : Operation) → number w o ≡ 17 → wordOf (step w (Do o) .answer) ≡ thrownFor (o .op) w
+  -- 11 to 13, 15 and 16 have no Step, nor has a call that is no instruction
   pub no-step : (w : World) (c : Call) → among (numberOf (step w c .answer)) (11 ∷ 12 ∷ 13 ∷ 15 ∷ 16 ∷ []) ≡ true → stepOf (step w c .answer) ≡ none
   pub no-instruction : (w : World) (o : Operation) → isInstruction (o .op) ≡ false → stepOf (step w (Do o) .answer) ≡ none
-  pub has-step : (w : World) (o : Operation) → isInstruction (o .op) ≡ true → among (number w o) (11 ∷ 12 ∷ 13 ∷ []) ≡ false → says (stepOf (step w (Do o) .answer)) ≡ some (number w o)
-  -- 14 has 9's: both are faults, and no unwinding
-  pub full : (w : World) (o : Operation) → isInstruction (o .op) ≡ true → among (number w o) (9 ∷ 14 ∷ []) ≡ true → isFault (stepOf (step w (Do o) .answer)) ≡ true
-  -- 17's two: a fault where a word is thrown into a new coroutine, else an unwinding
-  pub thrown : (w : World) (o : Operation) → isInstruction (o .op) ≡ true → number w o ≡ 17 → isFault (stepOf (step w (Do o) .answer)) ≡ true → ThrownAtNew w (o .op)
+  -- any other answer of an instruction has one: 0 has Next or Frame; a fault has Fault, as 9 and 14 and a word thrown into a new coroutine, or
+  -- Unwind, where another has been entered or has suspended
+  pub step-is : (w : World) (o : Operation) → isInstruction (o .op) ≡ true → among (number w o) (11 ∷ 12 ∷ 13 ∷ []) ≡ false →
+      stepOf (step w (Do o) .answer) ≡ some (stepFor (number w o) (wordOf (step w (Do o) .answer)) (moves w (step w (Do o) .world)))
   -- a look hands back the words from the top base to the stack's end, without a frame an empty part; no other call hands back any
   pub look : (w : World) (t : typed Op.Look ≡ true) (f : Frame) (fs : List Frame) → sound w ≡ true → w .frames ≡ f ∷ fs → step w (asCall Op.Look t) .seen ≡ drop (f .base) (w .stack)
   pub look-empty : (w : World) (t : typed Op.Look ≡ true) → w .frames ≡ [] → step w (asCall Op.Look t) .seen ≡ []

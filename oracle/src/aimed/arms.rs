@@ -654,11 +654,22 @@ fn queues(costs: Costs) -> Vec<Sequence> {
     [both, stopped, hookless].map(Run::done).into()
 }
 
+/// A loop that has ended: what its source register holds is looked at before
+/// the iterator's mark. Another iterator over the one that has returned.
+fn ended(costs: Costs) -> Vec<Sequence> {
+    let again = next(2, 1, 3, 4);
+    let run = Run::host(costs, 3).with([new(0, 0), Call::MakeIterator { src: C }, put(1, D)]);
+    let run = run.with([next(2, 1, 3, 0), VOID, next(2, 1, 3, 0), again.clone()]);
+    let run = run.with([put(4, 7), again.clone(), put(4, from_ref(0, 0)), again]);
+    let other = [Call::MakeIterator { src: C }, put(5, from_ref(8, 0)), next(2, 5, 3, 0)];
+    vec![run.with(other).done()]
+}
+
 /// All of them.
 pub(super) fn all(costs: Costs) -> Vec<Sequence> {
     let parts = [
         operands, results, escapes, closes, cleanups, grants, registers, memory, keys, limits,
-        stops, refusals, entries, steps, queues,
+        stops, refusals, entries, steps, queues, ended,
     ];
     parts.iter().flat_map(|part| part(costs)).collect()
 }

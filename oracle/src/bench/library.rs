@@ -141,16 +141,19 @@ impl Switch for Outer {
     }
 }
 
-/// `bvm_run` on the small machine: one test for a batch.
-pub(crate) struct Batch(Bare, Vec<u64>, Vec<u64>);
+/// Calls in words on the small machine: one test for them all.
+type Many = fn(&mut Bare, &mut [u64], &mut [u64]) -> u64;
 
-impl Batch {
-    pub(crate) fn new(costs: Costs) -> Batch {
-        Batch(fresh(&small(costs)), Vec::new(), Vec::new())
+/// `bvm_run`, or `bvm_batch`.
+pub(crate) struct Run(Bare, Many, Vec<u64>, Vec<u64>);
+
+impl Run {
+    pub(crate) fn new(costs: Costs, many: Many) -> Run {
+        Run(fresh(&small(costs)), many, Vec::new(), Vec::new())
     }
 }
 
-impl Switch for Batch {
+impl Switch for Run {
     others!();
 
     fn resume(&mut self) {
@@ -162,11 +165,11 @@ impl Switch for Batch {
     }
 
     fn trips(&mut self, n: usize) {
-        if self.1.len() != n * 12 {
-            self.1 = [RESUME, YIELD].concat().repeat(n);
-            self.2 = vec![0; n * 16];
+        if self.2.len() != n * 12 {
+            self.2 = [RESUME, YIELD].concat().repeat(n);
+            self.3 = vec![0; n * 16];
         }
-        assert_eq!(self.0.run(&mut self.1, &mut self.2), 0, "run");
-        assert_eq!(self.2[n * 16 - 6], 2, "suspended");
+        assert_eq!((self.1)(&mut self.0, &mut self.2, &mut self.3), 0, "run");
+        assert_eq!(self.3[n * 16 - 6], 2, "suspended");
     }
 }

@@ -205,7 +205,17 @@ fn engines() -> Vec<Engine> {
         #[cfg(library)]
         Engine { name: "outer", fresh: |c| Box::new(library::Outer::new(c)), only: trips },
         #[cfg(library)]
-        Engine { name: "batch", fresh: |c| Box::new(library::Batch::new(c)), only: trips },
+        Engine {
+            name: "run",
+            fresh: |c| Box::new(library::Run::new(c, oracle::library::Bare::run)),
+            only: trips,
+        },
+        #[cfg(batch)]
+        Engine {
+            name: "batch",
+            fresh: |c| Box::new(library::Run::new(c, oracle::library::Bare::batch)),
+            only: trips,
+        },
     ]
 }
 

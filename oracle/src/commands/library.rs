@@ -29,10 +29,11 @@ mod linked {
                 .map_err(|why| format!("sequence {i}: {why}"))?;
         }
         println!(
-            "{name}: {} sequences, {} calls through bvm_call, bvm_kept, {}bvm_run ({} runs), {} cells, {} words that are no call, {} words of state, {:.1} s, no difference",
+            "{name}: {} sequences, {} calls through bvm_call, bvm_kept, {}{} ({} runs), {} cells, {} words that are no call, {} words of state, {:.1} s, no difference",
             count.sequences,
             count.calls,
             if cfg!(hot) { "bvm_resume and bvm_yield, " } else { "" },
+            if cfg!(batch) { "bvm_run and bvm_batch" } else { "bvm_run" },
             count.runs,
             count.met(),
             count.none,

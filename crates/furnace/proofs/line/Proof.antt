@@ -1,19 +1,22 @@
--- `line` is safe: the slices keep their lengths. Assumes nothing.
+-- `line` meets its contract: the set-up, then the story. Assumes nothing.
 use Prim.{tt}
 use mathlib.Core.Path.{_∙_}
 use borrow.Author.Needs.{needs}
+use Rattle.memory.specs.Lendings.{plain}
+use Rattle.outer.specs.State.{nine}
+use Rattle.furnace.proofs.Playing.{begun-and-played}
 use Rattle.furnace.proofs.line.Statement.{statement}
 use Rattle.furnace.proofs.line.Tie as tie
 
--- from the end to the story, and from there to the set-up
-abbrev played : tie.After-end → tie.After-play
-played c = c .before .before .before .before .before .before .before .before .before .before .before .before .before .before .before .before .before .before .before .before
+-- from the end to the story, from there to the set-up, and to the start
+abbrev played : tie.After-result → tie.After-play
+played c = c .before .before .before .before .before .before .before .before .before .before .before .before .before .before .before .before .before .before .before
 
 abbrev began : tie.After-play → tie.After-set-up
 began c = c .before .before .before .before .before .before .before .before .before .before .before .before .before .before .before .before .before .before .before .before .before .before .before .before .before .before .before .before .before .before .before
 
-heading-requires : tie.Need-heading-requires
-heading-requires c κs = tt
+abbrev start-of : tie.After-set-up → tie.Start
+start-of c = c .before .before .before .before .before .before .before .before .before .before .before .before .before .before .before .before .before .before .before .before .before .before .before
 
 blank-requires : tie.Need-blank-requires
 blank-requires c κs = tt
@@ -25,10 +28,9 @@ set-up-requires : tie.Need-set-up-requires
 set-up-requires c κs = tt
 
 play-requires : tie.Need-play-requires
-play-requires c κs = tt
-
-end-requires : tie.Need-end-requires
-end-requires c κs = tt
+play-requires c κs =
+    let at-set-up = c .before .before .before .before .before .before .before .before .before .before .before .before .before .before .before .before .before .before .before .before .before .before .before .before .before .before .before .before .before .before in
+    start-of at-set-up .pre
 
 same-length : tie.Need-same-length
 same-length c = played c .play .kept .0 ∙ began (played c) .set-up .kept .0
@@ -61,18 +63,22 @@ same-length-10 : tie.Need-same-length-10
 same-length-10 c = search needs
 
 returns : tie.Need-returns
-returns c = tt
+returns c =
+    let end = played c in
+    let at-set-up = began end in
+    let a = start-of at-set-up .args in
+    begun-and-played
+    (nine (a .stack .now) (a .frames .now) (a .chain .now) (a .slots .now) (a .saved-stack .now) (a .saved-frames .now) (a .ready .now) (a .finalize .now) (a .setup .now) plain)
+    (a .given .now) (a .notes .now) _ _ _ _ (at-set-up .before .before .blank .ensures) (at-set-up .before .empty .ensures) (at-set-up .set-up .ensures) (end .play .ensures)
 
 pub line-spec : {M : Type 1} → statement M
 line-spec =
     tie.close
     (tie.spec
-    heading-requires
     blank-requires
     empty-requires
     set-up-requires
     play-requires
-    end-requires
     same-length
     same-length-2
     same-length-3

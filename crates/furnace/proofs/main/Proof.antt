@@ -8,6 +8,9 @@ use Rattle.furnace.proofs.main.Tie as tie
 furnace-requires : tie.Need-furnace-requires
 furnace-requires c κs = tt
 
+heading-requires : tie.Need-heading-requires
+heading-requires c κs = tt
+
 slice-aggregate-line : tie.Need-slice-aggregate-line
 slice-aggregate-line c = refl
 
@@ -40,11 +43,14 @@ slice-aggregate-line-10 c = refl
 
 slice-aggregate-line-11 : tie.Need-slice-aggregate-line-11
 slice-aggregate-line-11 c =
-    let at-furnace = c .before .before .before .before .before .before .before .before .before .before .before in
+    let at-furnace = c .before .before .before .before .before .before .before .before .before .before .before .before in
     sym (ap length (at-furnace .furnace .ensures))
 
 line-requires : tie.Need-line-requires
-line-requires c κs = tt
+line-requires c κs = refl
+
+end-requires : tie.Need-end-requires
+end-requires c κs = tt
 
 returns : tie.Need-returns
 returns c = tt
@@ -54,6 +60,7 @@ main-spec =
     tie.close
     (tie.spec
     furnace-requires
+    heading-requires
     slice-aggregate-line
     slice-aggregate-line-2
     slice-aggregate-line-3
@@ -66,4 +73,5 @@ main-spec =
     slice-aggregate-line-10
     slice-aggregate-line-11
     line-requires
+    end-requires
     returns)

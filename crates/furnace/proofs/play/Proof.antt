@@ -1,20 +1,19 @@
 -- `play` meets its contract: what is left, done to the present, is the whole done to the start. Assumes nothing.
 use Prim.{tt}
-use mathlib.Core.Path.{_≡_, refl}
+use mathlib.Core.Path.{_≡_, refl, _∙_}
 use Prim.Native.Nat.{_-_}
 use native.Mathlib.Omega.{arith}
-use Rattle.memory.specs.Memory.{Lent}
 use Rattle.memory.specs.Lendings.{plain}
-use Rattle.lent.specs.Step.{State}
-use Rattle.outer.specs.State.{nine, state, gives}
+use Rattle.outer.specs.State.{nine, state}
+use Rattle.furnace.specs.Watch.{Watched, watched, none}
 use Rattle.furnace.proofs.Playing.{Along, along-start, along-more, along-end}
 use Rattle.furnace.proofs.play.Statement.{statement}
 use Rattle.furnace.proofs.play.Tie as tie
 
 abbrev Inv-loop : tie.InvT-loop
 Inv-loop stack₀ frames₀ chain₀ slots₀ saved-stack₀ saved-frames₀ ready₀ finalize₀ setup notes₀ k₀ f₀ count₀ i₀ stack frames chain slots saved-stack saved-frames ready finalize notes k f count i =
-    Along (state (nine stack₀ frames₀ chain₀ slots₀ saved-stack₀ saved-frames₀ ready₀ finalize₀ setup plain) k₀ f₀) notes₀
-    (state (nine stack frames chain slots saved-stack saved-frames ready finalize setup plain) k f) notes i
+    Along (watched (state (nine stack₀ frames₀ chain₀ slots₀ saved-stack₀ saved-frames₀ ready₀ finalize₀ setup plain) k₀ f₀) notes₀ count₀)
+    (watched (state (nine stack frames chain slots saved-stack saved-frames ready finalize setup plain) k f) notes count) i
 
 abbrev μ-loop : tie.MeasureT-loop
 μ-loop stack₀ frames₀ chain₀ slots₀ saved-stack₀ saved-frames₀ ready₀ finalize₀ setup notes₀ k₀ f₀ count₀ i₀ stack frames chain slots saved-stack saved-frames ready finalize notes k f count i = 58 - i
@@ -27,26 +26,28 @@ abbrev test-of : tie.After-turn Inv-loop μ-loop → tie.In-loop Inv-loop μ-loo
 test-of c = c .before .before .before .before .before .before .before .before .before .before .before
 
 abbrev turn-of : tie.After-count Inv-loop μ-loop → tie.After-turn Inv-loop μ-loop
-turn-of c = c .before .before .before .before .before .before .before .before .before .before .before .before .before .before .before .before .before .before .before .before .before .before
+turn-of c = c .before .before .before .before .before .before .before .before .before .before .before .before .before .before .before .before .before .before .before .before .before
 
-abbrev at-start : tie.Start Inv-loop μ-loop → State
-at-start c = let a = c .args in state (nine (a .stack .now) (a .frames .now) (a .chain .now) (a .slots .now) (a .saved-stack .now) (a .saved-frames .now) (a .ready .now) (a .finalize .now) (a .setup .now) plain) (a .m) (a .fuel)
+abbrev at-start : tie.Start Inv-loop μ-loop → Watched
+at-start c =
+    let a = c .args in
+    watched (state (nine (a .stack .now) (a .frames .now) (a .chain .now) (a .slots .now) (a .saved-stack .now) (a .saved-frames .now) (a .ready .now) (a .finalize .now) (a .setup .now) plain) (a .m) (a .fuel)) (a .notes .now) none
 
-abbrev at-loop : tie.At-loop Inv-loop μ-loop → State
-at-loop c = let a = c .loop in state (nine (a .stack) (a .frames) (a .chain) (a .slots) (a .saved-stack) (a .saved-frames) (a .ready) (a .finalize) (start-of c .args .setup .now) plain) (a .k) (a .f)
-
-abbrev left-by : tie.After-turn Inv-loop μ-loop → Lent
-left-by c = nine (c .turn .last .0) (c .turn .last .1 .0) (c .turn .last .1 .1 .0) (c .turn .last .1 .1 .1 .0) (c .turn .last .1 .1 .1 .1 .0) (c .turn .last .1 .1 .1 .1 .1 .0) (c .turn .last .1 .1 .1 .1 .1 .1 .0) (c .turn .last .1 .1 .1 .1 .1 .1 .1 .0)
-    (start-of (test-of c .before) .args .setup .now) plain
+abbrev at-loop : tie.At-loop Inv-loop μ-loop → Watched
+at-loop c =
+    let a = c .loop in
+    watched (state (nine (a .stack) (a .frames) (a .chain) (a .slots) (a .saved-stack) (a .saved-frames) (a .ready) (a .finalize) (start-of c .args .setup .now) plain) (a .k) (a .f)) (a .notes) (a .count)
 
 loop-holds : tie.Need-loop-holds Inv-loop μ-loop
-loop-holds c = let start = c .before .before .before .before .before .before .before .before .before .before in along-start (at-start start) (start .args .notes .now)
+loop-holds c = let start = c .before .before .before .before .before .before .before .before .before .before in along-start (at-start start)
 
 call-requires : tie.Need-call-requires Inv-loop μ-loop
 call-requires c κs = tt
 
 turn-requires : tie.Need-turn-requires Inv-loop μ-loop
-turn-requires c κs = tt
+turn-requires c κs =
+    let loop = c .before .before .before .before .before .before .before .before .before .before .before in
+    loop .loop .inv .long ∙ start-of loop .pre
 
 add-i : tie.Need-add-i Inv-loop μ-loop
 add-i c = let t = test-of (turn-of c) .loop-test .taken in omega arith
@@ -62,8 +63,7 @@ loop-again c =
     let start = start-of loop in
     let k = did .turn .kept in
     let at-call = did .before .before .before .before .before .before .before .before .before .before in
-    along-more (at-start start) (start .args .notes .now) (at-loop loop) (loop .loop .notes) _ (loop .loop .i) (loop .loop .inv) (test .loop-test .taken)
-    (at-call .call .result) (at-call .call .ensures) (gives (left-by did) (did .turn .result .called)) (did .turn .ensures)
+    along-more (at-start start) (at-loop loop) _ (loop .loop .i) (loop .loop .inv) (test .loop-test .taken) (at-call .call .result) (at-call .call .ensures) (did .turn .ensures)
     (record { stack = k .0; frames = k .1 .0; chain = k .1 .1 .0; slots = k .1 .1 .1 .0; savedStack = k .1 .1 .1 .1 .0; savedFrames = k .1 .1 .1 .1 .1 .0; ready = k .1 .1 .1 .1 .1 .1 .0; finalize = k .1 .1 .1 .1 .1 .1 .1 .0; setup = refl })
     (k .1 .1 .1 .1 .1 .1 .1 .1 .1 .1 .1 .1 .0)
 
@@ -99,7 +99,7 @@ returns c =
     let loop = c .before in
     let start = start-of loop in
     let t = c .loop-test .left in
-    along-end (at-start start) (start .args .notes .now) (at-loop loop) (loop .loop .notes) (loop .loop .i) (omega arith) (loop .loop .inv)
+    along-end (at-start start) (at-loop loop) (loop .loop .i) (omega arith) (loop .loop .inv)
 
 pub play-spec : {M : Type 1} → statement M
 play-spec = tie.close (tie.spec Inv-loop μ-loop loop-holds call-requires turn-requires add-i loop-less loop-again same-length same-length-2 same-length-3 same-length-4 same-length-5 same-length-6 same-length-7 same-length-8 same-length-9 returns)

@@ -1,0 +1,53 @@
+-- `goes_on_at` meets its contract: the part comes back with the answer. Assumes nothing.
+use mathlib.Core.Path.{refl}
+use Prim.Native.Nat.{_*_}
+use Rattle.calls.specs.Answer.{answerWords}
+use Rattle.run.proofs.Written.{put-back, part-long}
+use Rattle.hot.specs.Went.{goesOn}
+use borrow.Author.Needs.{needs}
+use Rattle.batch.proofs.one.goes_on_at.Statement.{statement}
+use Rattle.batch.proofs.one.goes_on_at.Tie as tie
+
+mul-from : tie.Need-mul-from
+mul-from c = search needs
+
+add-to : tie.Need-add-to
+add-to c = search needs
+
+mul-goes-on : tie.Need-mul-goes-on
+mul-goes-on c = search needs
+
+sub-goes-on : tie.Need-sub-goes-on
+sub-goes-on c = search needs
+
+part-goes-on-start : tie.Need-part-goes-on-start
+part-goes-on-start c = search needs
+
+part-goes-on-end : tie.Need-part-goes-on-end
+part-goes-on-end c = search needs
+
+goes-on-requires : tie.Need-goes-on-requires
+goes-on-requires c κs = let start = c .before .before in part-long (start .args .answers .now) (start .args .i * 8) (start .pre)
+
+same-length : tie.Need-same-length
+same-length c = search needs
+
+returns : tie.Need-returns
+returns c =
+    let at-goes-on = c .before .before in
+    let start = at-goes-on .before .before .before in
+    put-back (start .args .answers .now) (answerWords goesOn) (start .args .i * 8) (start .pre) _ (at-goes-on .goes-on .ensures) refl
+
+pub goes-on-at-spec : {M : Type 1} → statement M
+goes-on-at-spec =
+    tie.close
+    (tie.spec
+    mul-from
+    add-to
+    mul-goes-on
+    sub-goes-on
+    part-goes-on-start
+    part-goes-on-end
+    goes-on-requires
+    same-length
+    returns)
