@@ -16,7 +16,7 @@ use heap::fault::Fault;
 use hot::enters::Enters;
 use hot::enters::may_enter;
 use hot::general::goes_on;
-use hot::leaves::Leaves;
+use hot::leaves::Sleeper;
 use hot::leaves::may_leave;
 use hot::resume::resume_at;
 use hot::yielding::yield_at;
@@ -182,7 +182,7 @@ fn yield_call(
         (host (nine stack frames chain slots «saved_stack» «saved_frames» ready finalize setup atExit) (atExit machine) (atExit fuel)) (now (answers .exit)) ⌝ }
 {
     match may_leave(frames, chain, slots, machine, fuel[0], dst, src) {
-        Leaves::At(k, key, largest) => {
+        Sleeper::At(k, key, largest) => {
             yield_at(
                 stack,
                 frames,
@@ -201,7 +201,7 @@ fn yield_call(
             );
             goes_on_at(answers, i);
         }
-        Leaves::Not => general_at(
+        Sleeper::Not => general_at(
             stack,
             frames,
             chain,

@@ -99,18 +99,18 @@ told-none pc E.nobody e = refl
 told-none pc (E.entry c d s) e = let z : _≡_ {A = ℕ} 0 1 = cc in absurd (omega arith)
 
 -- an answer other than n has changed nothing
-abbrev Leaves : World → ℕ → ℕ → Option Seen → After Answer → Type 0
-Leaves w c n y o = coreAt (o .world) c .seen ≡ pick (eqb (numberOf (o .answer)) n) y (coreAt w c .seen)
+abbrev LeavesSeen : World → ℕ → ℕ → Option Seen → After Answer → Type 0
+LeavesSeen w c n y o = coreAt (o .world) c .seen ≡ pick (eqb (numberOf (o .answer)) n) y (coreAt w c .seen)
 
 instr-ends : (w : World) (c n : ℕ) (y : Option Seen) (o : Op) (p : ℕ) (ok : Bool) (a : E.Aim) (arm : World → After Step) → eqb 10 n ≡ false → eqb 12 n ≡ false → eqb 13 n ≡ false → act w o ≡ E.at p ok a → entryBy (act w o) w ≡ E.nobody
-    → ((v : World) → Alike p w v → Ends c n y (arm v)) → Leaves w c n y (instruction p ok arm w)
+    → ((v : World) → Alike p w v → Ends c n y (arm v)) → LeavesSeen w c n y (instruction p ok arm w)
 unfolding instruction pick
 instr-ends w c n y o p ok a arm n10 n12 n13 e h owes = gate (isNil (w .frames)) ok (sym (ap (λ x. entryBy x w) e) ∙ h)
   where
     other : (m : ℕ) (z : World) → eqb m n ≡ false → coreAt z c .seen ≡ coreAt w c .seen → coreAt z c .seen ≡ pick (eqb m n) y (coreAt w c .seen)
     other m z q s = s ∙ sym (ap (λ b. pick b y (coreAt w c .seen)) q)
 
-    paid : (ch : After Charge) → ChargeCase p w ch → E.charged (ch .answer) w (E.aimed a w) ≡ E.nobody → Leaves w c n y (Gate.charged arm (ch .world) (ch .answer))
+    paid : (ch : After Charge) → ChargeCase p w ch → E.charged (ch .answer) w (E.aimed a w) ≡ E.nobody → LeavesSeen w c n y (Gate.charged arm (ch .world) (ch .answer))
     paid ch (c-done m v r) q =
         let t = owes v (alike r) in
         t .seen ∙ sym (ap (λ i. pick (eqb i n) y (coreAt w c .seen)) (step-number m (arm v .answer) ∙ t .number) ∙ ap (λ b. pick b y (coreAt w c .seen)) (eq-eqb n n refl))
@@ -118,7 +118,7 @@ instr-ends w c n y o p ok a arm n10 n12 n13 e h owes = gate (isNil (w .frames)) 
     paid ch (c-close m u z x t) q = no-entry q x
 
     gate : (b d : Bool) → pick b E.nobody (pick (not d) E.nobody (E.charged (charge (OptPc.Some p) w .answer) w (E.aimed a w))) ≡ E.nobody
-        → Leaves w c n y (pick b (refused w Fault.NoFrame) (pick (not d) (refused w Fault.BadOperand) (andThen (charge (OptPc.Some p) w) (Gate.charged arm))))
+        → LeavesSeen w c n y (pick b (refused w Fault.NoFrame) (pick (not d) (refused w Fault.BadOperand) (andThen (charge (OptPc.Some p) w) (Gate.charged arm))))
     gate true d q = other 12 w n12 refl
     gate false false q = other 13 w n13 refl
     gate false true q = paid (charge (OptPc.Some p) w) (charge-case p w) q

@@ -34,7 +34,7 @@ pub(crate) fn clear_row(saved_stack: &mut [u64], saved_frames: &mut [u64], l: Si
 }
 
 // An unfinished coroutine gives back its row.
-pub(crate) fn free_row(saved_stack: &mut [u64], saved_frames: &mut [u64], l: Sizes, c: CoroObj)
+pub(crate) fn give_back_row(saved_stack: &mut [u64], saved_frames: &mut [u64], l: Sizes, c: CoroObj)
     requires { ⌜ FreeFits (now «saved_stack») (now «saved_frames») l c ⌝ }
     ensures { λ _. ⌜ Freed (now («saved_stack» .entry)) (now («saved_frames» .entry)) (now («saved_stack» .exit)) (now («saved_frames» .exit)) l c ⌝ }
 {
@@ -96,7 +96,7 @@ pub fn finish_coroutine(
     match heap::heap::coro(slots, m.count, v) {
         Coroutine::Not(_) => {}
         Coroutine::At(i, c) => {
-            free_row(saved_stack, saved_frames, l, c);
+            give_back_row(saved_stack, saved_frames, l, c);
             mark_ended(slots, i, v.0, c, s, result);
         }
     }

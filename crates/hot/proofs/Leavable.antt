@@ -4,13 +4,13 @@ use mathlib.Core.List.{List}
 use Prim.Native.Nat.{ℕ}
 use Rattle.lists.proofs.Tests.{never}
 use Rattle.hot.specs.Leaves.{Leavable, Leaving}
-use Rattle.hot.specs.declared.leaves.Leaves.{Leaves}
+use Rattle.hot.specs.declared.leaves.Sleeper.{Sleeper}
 
 module _ (frames chain slots ms : List ℕ) (fuel dst src : ℕ) where
-  pub nothing : Leaving frames chain slots ms fuel dst src Leaves.Not
+  pub nothing : Leaving frames chain slots ms fuel dst src Sleeper.Not
   nothing = record { at = λ i k n e. never cc }
 
-  pub at-slot : (i key largest : ℕ) → Leavable frames chain slots ms fuel dst src i key largest → Leaving frames chain slots ms fuel dst src (Leaves.At i key largest)
+  pub at-slot : (i key largest : ℕ) → Leavable frames chain slots ms fuel dst src i key largest → Leaving frames chain slots ms fuel dst src (Sleeper.At i key largest)
   at-slot i key largest h =
       record {
         at = λ j k n e.

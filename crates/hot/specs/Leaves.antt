@@ -8,7 +8,7 @@ use Rattle.heap.specs.Slot.{width}
 use Rattle.tables.specs.Layout.{baseIn}
 use Rattle.boundary.specs.Words.{machineIn}
 use Rattle.hot.specs.Leave.{innermostIn, May, Keyed}
-use Rattle.hot.specs.declared.leaves.Leaves.{Leaves}
+use Rattle.hot.specs.declared.leaves.Sleeper.{Sleeper}
 
 -- words enough for the numbers; the innermost coroutine has a frame, which begins on the stack
 pub record LeavesFits (frames chain slots ms : List ℕ) : Type 0 where
@@ -29,5 +29,5 @@ pub record Leavable (frames chain slots ms : List ℕ) (fuel dst src i key large
   pub keyed : Keyed slots i key largest
   pub driven : getD (chunkAt 6 chain (getD ms 2 0 - 1)) 2 0 ≡ 0
 
-pub record Leaving (frames chain slots ms : List ℕ) (fuel dst src : ℕ) (r : Leaves) : Type 0 where
-  pub at : (i key largest : ℕ) → r ≡ Leaves.At i key largest → Leavable frames chain slots ms fuel dst src i key largest
+pub record Leaving (frames chain slots ms : List ℕ) (fuel dst src : ℕ) (r : Sleeper) : Type 0 where
+  pub at : (i key largest : ℕ) → r ≡ Sleeper.At i key largest → Leavable frames chain slots ms fuel dst src i key largest

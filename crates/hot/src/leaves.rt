@@ -12,7 +12,7 @@ use heap::int::Inline;
 use heap::value::Word;
 
 // The slot of the coroutine that may be suspended, its next key and that key's integer.
-pub enum Leaves {
+pub enum Sleeper {
     At(usize, u64, u64),
     Not,
 }
@@ -26,53 +26,53 @@ pub fn may_leave(
     fuel: u64,
     dst: u64,
     src: u64,
-) -> Leaves
+) -> Sleeper
     requires { ⌜ LeavesFits (now frames) (now chain) (now slots) (now machine) ⌝ }
     ensures { λ r. ⌜ Leaving (now (frames .entry)) (now (chain .entry)) (now (slots .entry)) (now (machine .entry)) fuel dst src r ⌝ }
 {
     if machine[1] == 0 {
-        return Leaves::Not;
+        return Sleeper::Not;
     }
     if fuel == 0 {
-        return Leaves::Not;
+        return Sleeper::Not;
     }
     if machine[2] == 0 {
-        return Leaves::Not;
+        return Sleeper::Not;
     }
     let low = tables::frame::base_at(frames, (machine[1] - 1) as usize) as u64;
     if machine[0] <= low {
-        return Leaves::Not;
+        return Sleeper::Not;
     }
     let width = machine[0] - low;
     if width <= dst {
-        return Leaves::Not;
+        return Sleeper::Not;
     }
     if width <= src {
-        return Leaves::Not;
+        return Sleeper::Not;
     }
     let top = (machine[2] - 1) as usize;
     if link(chain, top, 2) != 0 {
-        return Leaves::Not;
+        return Sleeper::Not;
     }
     match heap::heap::coro_place(slots, machine[3] as usize, Word(link(chain, top, 0))) {
-        CoroPlace::Not(_) => Leaves::Not,
+        CoroPlace::Not(_) => Sleeper::Not,
         CoroPlace::At(i) => {
             if word(slots, i, CLOSING) != 0 {
-                return Leaves::Not;
+                return Sleeper::Not;
             }
             let floor = link(chain, top, 1);
             let base = tables::frame::base_at(frames, floor as usize) as u64;
             if word(slots, i, MAX_REGS) < machine[0] - base {
-                return Leaves::Not;
+                return Sleeper::Not;
             }
             if word(slots, i, MAX_FRAMES) < machine[1] - floor {
-                return Leaves::Not;
+                return Sleeper::Not;
             }
             match heap::int::next_key(word(slots, i, LARGEST)) {
-                Exact::Over => Leaves::Not,
+                Exact::Over => Sleeper::Not,
                 Exact::Fits(n) => match Word::inline_int(n) {
-                    Inline::Large => Leaves::Not,
-                    Inline::At(k) => Leaves::At(i, k.0, n),
+                    Inline::Large => Sleeper::Not,
+                    Inline::At(k) => Sleeper::At(i, k.0, n),
                 },
             }
         }

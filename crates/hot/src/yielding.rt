@@ -11,7 +11,7 @@ ghost use Rattle.boundary.specs.Host.{host, gave, KeptFits, keptIn};
 use crate::general::general;
 use crate::general::goes_on;
 use crate::leave::leave;
-use crate::leaves::Leaves;
+use crate::leaves::Sleeper;
 use crate::leaves::may_leave;
 
 // One unit of fuel, then the suspension.
@@ -85,7 +85,7 @@ pub extern "C" fn bvm_yield(
         dst as u64,
         src as u64,
     ) {
-        Leaves::At(i, key, largest) => {
+        Sleeper::At(i, key, largest) => {
             yield_at(
                 stack,
                 frames,
@@ -105,7 +105,7 @@ pub extern "C" fn bvm_yield(
             goes_on(answer);
             0
         }
-        Leaves::Not => general(
+        Sleeper::Not => general(
             stack,
             frames,
             chain,

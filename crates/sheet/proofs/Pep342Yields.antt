@@ -42,11 +42,11 @@ module _ (pc dst payload key largest : ℕ) (v : World) (n : ℕ) where
   abbrev to : After Answer
   to = leadsFrom (map (asAnswer n) (Table.yields pc dst payload key largest v)) (asAnswer n (yieldEnds pc dst payload key largest v))
 
-  module _ (Leaves : World → Step → Type 0) (h : suspends z ≡ true) (leads : (x : World) (s : Step) → to ≡ after x (Answer.Stepped s n) → Leaves x s) where
+  module _ (Ends : World → Step → Type 0) (h : suspends z ≡ true) (leads : (x : World) (s : Step) → to ≡ after x (Answer.Stepped s n) → Ends x s) where
     short : lacksMemory z (growth z) ≡ false
     short = not-true (lacksMemory z (growth z)) (and-right (not (isNil (z .chain))) _ h)
 
-    pub yields-by : Yields pc dst payload key largest z Leaves
+    pub yields-by : Yields pc dst payload key largest z Ends
     yields-by =
         record {
           yield-delivers = λ c.

@@ -44,13 +44,13 @@ abbrev pub keyable : World → Bool
 keyable u = inRange 63 (nextKey u) && (not (isLarge (keyBits u) && lacksMemory u (u .setup .costs .int)) && not (isLarge (keyBits u) && noSlot u))
 
 -- what a yield of `payload` comes to, from z in which its key is made, whoever drives it: "Resume .. Iterator .. Host .. Cleanup driver"
-pub record Yields (pc dst payload key largest : ℕ) (z : World) (Leaves : World → Step → Type 0) : Type 0 where
+pub record Yields (pc dst payload key largest : ℕ) (z : World) (Ends : World → Step → Type 0) : Type 0 where
   -- the yielded word is what send, throw or close leaves in its register, a loop in its own, a run by the host as its outcome
-  pub yield-delivers : closing z ≡ false → Leaves (delivered (driver z) payload key (Stop.Yielded payload) (yielded dst payload key largest z)) Step.Frame
+  pub yield-delivers : closing z ≡ false → Ends (delivered (driver z) payload key (Stop.Yielded payload) (yielded dst payload key largest z)) Step.Frame
   -- but where it is being closed that is an error: 6, raised in whoever closes it
-  pub yield-closing : closing z ≡ true → asks (driver z) ≡ true → Leaves (yielded dst payload key largest z) (Step.Unwind Fault.CloseIgnored)
+  pub yield-closing : closing z ≡ true → asks (driver z) ≡ true → Ends (yielded dst payload key largest z) (Step.Unwind Fault.CloseIgnored)
   -- the host finds it as the outcome; a cleanup ends
-  pub yield-closing-quiet : closing z ≡ true → asks (driver z) ≡ false → Leaves (delivered (driver z) payload key Stop.CloseIgnored (yielded dst payload key largest z)) Step.Frame
+  pub yield-closing-quiet : closing z ≡ true → asks (driver z) ≡ false → Ends (delivered (driver z) payload key Stop.CloseIgnored (yielded dst payload key largest z)) Step.Frame
 
 pub record Yielding : Type 0 where
   pub yields : (pc dst src : ℕ) (w : World) (t : typed (Op.Yield pc dst src) ≡ true) → let u = charged pc w in

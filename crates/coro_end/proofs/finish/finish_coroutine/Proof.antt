@@ -19,8 +19,8 @@ enum-told c = search needs
 enum-known-i : tie.Need-enum-known-i
 enum-known-i c = search needs
 
-free-row-requires : tie.Need-free-row-requires
-free-row-requires c κs =
+give-back-row-requires : tie.Need-give-back-row-requires
+give-back-row-requires c κs =
     let at-i = c .before .before .before in let at-coro = at-i .before .before in let start = start-of at-coro in
     let h = start .pre .held in
     free-fits (start .args .l) (rows (start .args .slots .now) (start .args .saved-stack .now) (start .args .saved-frames .now) plain (h .beside))
@@ -56,12 +56,12 @@ same-length-4 c = search needs
 
 returns-2 : tie.Need-returns-2
 returns-2 c =
-    let at-mark-ended = c .before .before in let at-free-row = at-mark-ended .before .before .before .before .before .before in
-    let at-i = at-free-row .before .before .before .before in let at-coro = at-i .before .before in let start = start-of at-coro in
+    let at-mark-ended = c .before .before in let at-give-back-row = at-mark-ended .before .before .before .before .before .before in
+    let at-i = at-give-back-row .before .before .before .before in let at-coro = at-i .before .before in let start = start-of at-coro in
     λ w b rep rowed. ends (start .args .l) (rows (start .args .slots .now) (start .args .saved-stack .now) (start .args .saved-frames .now) plain b)
     (start .args .m) (b .fuel) (start .args .v .0) w rep rowed (at-i .i .given .0 .0) (at-i .i .given .0 .1 .0)
     (sym (at-i .i .given .1) ∙ at-coro .coro .ensures) (start .args .s) (start .args .result) (start .pre .ends) _ _ _ (at-mark-ended .mark-ended .ensures)
-    (at-free-row .free-row .ensures)
+    (at-give-back-row .give-back-row .ensures)
 
 pub finish-coroutine-spec : {M : Type 1} → statement M
 finish-coroutine-spec =
@@ -70,7 +70,7 @@ finish-coroutine-spec =
     coro-requires
     enum-told
     enum-known-i
-    free-row-requires
+    give-back-row-requires
     mark-ended-requires
     same-length
     returns

@@ -1,9 +1,9 @@
--- `free_row` meets its contract, whether the coroutine is finished or not. Assumes nothing.
+-- `give_back_row` meets its contract, whether the coroutine is finished or not. Assumes nothing.
 use mathlib.Core.Path.{refl, sym, _∙_}
 use Rattle.soundness.proofs.Tests.{no-true}
 use borrow.Author.Needs.{needs}
-use Rattle.coro_end.proofs.finish.free_row.Statement.{statement}
-use Rattle.coro_end.proofs.finish.free_row.Tie as tie
+use Rattle.coro_end.proofs.finish.give_back_row.Statement.{statement}
+use Rattle.coro_end.proofs.finish.give_back_row.Tie as tie
 
 is-finished-requires : tie.Need-is-finished-requires
 is-finished-requires c κs = search needs
@@ -28,7 +28,7 @@ returns-2 c =
     let at-is-finished = at-if1 .before in
     record { row = λ e. at-clear-row .clear-row .ensures; none = λ e. no-true (sym e ∙ sym (at-is-finished .is-finished .ensures) ∙ at-if1 .if1 .left) }
 
-pub free-row-spec : {M : Type 1} → statement M
-free-row-spec =
+pub give-back-row-spec : {M : Type 1} → statement M
+give-back-row-spec =
     tie.close
     (tie.spec is-finished-requires returns clear-row-requires same-length same-length-2 returns-2)
