@@ -16,6 +16,7 @@ use Rattle.claims.proofs.Restores as Restores
 use Rattle.claims.proofs.Restores.{enters-old, suspends-old}
 use Rattle.claims.proofs.Untouched.{untouched}
 use Rattle.claims.proofs.Exact.{healthy-sound, no-some, entered, suspends, suspended-by}
+use Rattle.claims.proofs.Resumed.{resumed, hosted}
 use Rattle.claims.proofs.Heard.{heard}
 use Rattle.claims.proofs.Returned.{returns, returned-by, closed}
 use Rattle.claims.proofs.Losses.{fails-by, failed-by}
@@ -50,6 +51,8 @@ events =
       enters = λ c w k h. Restores.entered c w k h .by;
       entered = entered;
       answered = entry-answers;
+      resumed = resumed;
+      hosted = hosted;
       suspends = suspends;
       suspended = suspended-by;
       heard = heard;

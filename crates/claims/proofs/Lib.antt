@@ -35,6 +35,7 @@ pub mod Failures
 pub mod Unwinds
 pub mod Numbers
 pub mod Exact
+pub mod Resumed
 pub mod Heard
 pub mod Answers
 pub mod Losses

@@ -30,7 +30,8 @@ use Rattle.claims.specs.Steps.{viewOf, opOf}
 use Rattle.claims.specs.Story as Story
 use Rattle.claims.specs.Story.{wide, c, held}
 use Rattle.claims.specs.Witness.{nth, frame}
-use Rattle.claims.specs.Wrong.{idle, two, failing, forgetting, sparing, yielding, lostIn, excusing, muting, hushing, grudging, cries, crying, unpaid, stingy, closing, rewriting, aborting, harsh, spurned, spurning, misnaming, renewing, stillborn, fuelled, shrinking, heardAs, deaf, showing}
+use Rattle.claims.specs.Wrong.{idle, two, failing, forgetting, sparing, yielding, lostIn, excusing, muting, hushing, flattering, grudging, cries, crying, unpaid, stingy}
+use Rattle.claims.specs.Wrong.{closing, rewriting, aborting, harsh, spurned, spurning, misnaming, renewing, stillborn, fuelled, shrinking, heardAs, deaf, showing}
 use Rattle.claims.proofs.Cores.{no-both}
 use Rattle.claims.proofs.Exact.{some-op}
 use Rattle.claims.proofs.Promise.{sound-healthy}
@@ -132,6 +133,21 @@ unfolding computed sleeping-ops sleeping
 throw-lost v =
     let q : _≡_ {A = ℕ} 0 17 = v .answered c sleeping (asCall (Op.ResumeThrow 3 1 0 2) thrown-typed) (record { before = refl; after = refl }) (record { driver = Driver.Resume 1; sent = nothing; pc = 3; says = refl }) in
     absurd (omega (arith, q))
+
+-- c resumes itself
+itself-ops : List Op
+itself-ops = Story.begin 0 ++ (Op.PutWord 0 c ∷ [])
+
+itself : World
+itself = M.runOps (fresh wide) itself-ops
+
+resume-typed : typed (Op.Resume 5 1 0 2) ≡ true
+unfolding typed
+resume-typed = refl
+
+pub refusal-unheard : Events flattering → ⊥
+unfolding computed itself-ops itself
+refusal-unheard v = no-both refl (v .resumed itself (asCall (Op.Resume 5 1 0 2) resume-typed) 5 1 0 2 refl refl .before)
 
 -- c yields while it is being closed
 yield-typed : typed (Op.Yield 60 3 0) ≡ true

@@ -187,6 +187,10 @@ hushing = answering (λ n. pick (eqb n 6) 0 n)
 abbrev pub grudging : Engine
 grudging = answering (λ n. pick (ltb 0 n) 9 0)
 
+-- what a coroutine's state forbids is answered 0
+abbrev pub flattering : Engine
+flattering = answering (λ n. pick (eqb n 3) 0 n)
+
 -- an unwind is answered 17, though the word is caught
 abbrev pub cries : Does → ℕ → ℕ
 cries (instr pc ok a) n = n
@@ -316,6 +320,7 @@ pub record Wrong : Type 0 where
   pub excused : Events excusing → ⊥
   pub throw-lost : Events muting → ⊥
   pub ignored-unheard : Events hushing → ⊥
+  pub refusal-unheard : Events flattering → ⊥
   pub always-nine : Accepts grudging → ⊥
   pub caught-unheard : Accepts crying → ⊥
   pub bank-unused : Accepts stingy → ⊥

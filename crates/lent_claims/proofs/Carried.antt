@@ -84,6 +84,9 @@ module _ (e d : Engine) (f : Follows e d) where
         enters = λ c s k h. down (λ v. By (v .before) (v .op) c) s k (p .enters c (f .to s) (f .by s k) (up-enters e d f s k c h));
         entered = λ c s k ok h. down-enters e d f s k c (p .entered c (f .to s) (f .by s k) (up-healthy e d f s ok) (up (λ v. By (v .before) (v .op) c) s k h));
         answered = λ c s k h. down (λ v. (b : By (v .before) (v .op) c) → v .number ≡ answers (is (v .before) isNew c) (b .sent)) s k (p .answered c (f .to s) (f .by s k) (up-enters e d f s k c h));
+        resumed = λ s k pc dst r src o n.
+            down-enters e d f s k (word (e .view s) r) (subst (λ v. Enters d (word v r) (f .to s) (f .by s k)) (f .view s) (p .resumed (f .to s) (f .by s k) pc dst r src (f .op s k ∙ o) (up (λ v. v .number ≡ 0) s k n)));
+        hosted = λ c s k x o n. down-enters e d f s k c (p .hosted c (f .to s) (f .by s k) x (f .op s k ∙ o) (up (λ v. v .number ≡ 0) s k n));
         suspends = λ c s k h. down (suspended-is c) s k (p .suspends c (f .to s) (f .by s k) (up-suspends e d f s k c h));
         suspended = λ c s k h. down-suspends e d f s k c (p .suspended c (f .to s) (f .by s k) (up (suspended-is c) s k h));
         heard = λ c s k h.
