@@ -7,7 +7,7 @@ use lib.ListN.{length, getD, drop, drop-of-length-le}
 use lib.Seq.{drop-cons}
 use Rattle.model.specs.declared.call.Op.{Op}
 use Rattle.memory.specs.Memory.{Lent}
-use Rattle.memory.proofs.Does.{SameLengths}
+use Rattle.memory.proofs.Does.{SameLengths, alike, then-alike}
 use Rattle.memory.specs.declared.machine.Machine.{Machine}
 use Rattle.model.specs.declared.machine.Fuel.{Fuel}
 use Rattle.outer.specs.State.{state}
@@ -24,20 +24,6 @@ watched-is s notes c o d was ns t e f g h =
     let r = h ∙ ap (λ (x : Left). countedAt x was ns c) e ∙ ap₂ (λ (x : Seen) (y : List ℕ). countedAt (stepWords s o) x y c) f g in
     λ k. record { state = e k .state; notes = g k; count = r k }
 
-next : (M N P : Lent) → SameLengths M N → SameLengths N P → SameLengths M P
-next M N P a b =
-    record {
-      stack = b .stack ∙ a .stack;
-      frames = b .frames ∙ a .frames;
-      chain = b .chain ∙ a .chain;
-      slots = b .slots ∙ a .slots;
-      savedStack = b .savedStack ∙ a .savedStack;
-      savedFrames = b .savedFrames ∙ a .savedFrames;
-      ready = b .ready ∙ a .ready;
-      finalize = b .finalize ∙ a .finalize;
-      setup = b .setup ∙ a .setup;
-    }
-
 module _ (s₀ : Watched) where
   pub record Along (s : Watched) (i : ℕ) : Type 0 where
     pub lengths : SameLengths (s₀ .state .words) (s .state .words)
@@ -47,7 +33,7 @@ module _ (s₀ : Watched) where
   pub along-start : Along s₀ 0
   along-start =
       record {
-        lengths = record { stack = refl; frames = refl; chain = refl; slots = refl; savedStack = refl; savedFrames = refl; ready = refl; finalize = refl; setup = refl };
+        lengths = alike (s₀ .state .words);
         long = refl;
         left = refl;
       }
@@ -57,7 +43,7 @@ module _ (s₀ : Watched) where
   along-more s d i a h o e q k l =
       let up : suc i ≡ i + 1 = omega arith in
       record {
-        lengths = next (s₀ .state .words) (s .state .words) (d .state .words) (a .lengths) k;
+        lengths = then-alike (s₀ .state .words) (s .state .words) (d .state .words) (a .lengths) k;
         long = l ∙ a .long;
         left =
             ap (λ (x : Watched). watches x (drop (i + 1) story)) q
