@@ -8,8 +8,7 @@ use std::path::{Path, PathBuf};
 use std::process::{self, Command};
 use std::{env, fs};
 
-/// Resume and Yield, then all functions: what the first leaves open is found
-/// in the second.
+/// Resume and Yield, and all other functions. Neither needs the other.
 const ARCHIVES: [&str; 2] = ["hot", "boundary"];
 
 fn main() {

@@ -136,7 +136,8 @@ impl Machine {
     ///
     /// # Errors
     ///
-    /// The words as they were, if they are no sound machine's (11).
+    /// The words as they were, if they are no sound machine's (11), or if the
+    /// fuel has other than four words.
     pub fn from_words(words: Words) -> Result<(Machine, Fuel), Unsound> {
         match Sound::test(words) {
             Ok((sound, record)) => Ok((Machine(sound), Fuel(record))),
