@@ -35,8 +35,9 @@ fn named() -> Option<PathBuf> {
     for name in ARCHIVES {
         if !file(&lib, name).is_file() {
             fail(&format!(
-                "HUMDELZI_LIB names {}, which has no lib{name}.a",
-                given.to_string_lossy()
+                "HUMDELZI_LIB names {}, which has no lib{name}.a (a relative path counts from {})",
+                given.to_string_lossy(),
+                env::var("CARGO_MANIFEST_DIR").unwrap_or_default()
             ));
         }
     }
