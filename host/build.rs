@@ -8,8 +8,7 @@ use std::path::{Path, PathBuf};
 use std::process::{self, Command};
 use std::{env, fs};
 
-/// Resume and Yield, then all functions: what the first leaves open is found
-/// in the second.
+/// Resume and Yield, and all other functions. Neither needs the other.
 const ARCHIVES: [&str; 2] = ["hot", "boundary"];
 
 fn main() {
@@ -36,8 +35,9 @@ fn named() -> Option<PathBuf> {
     for name in ARCHIVES {
         if !file(&lib, name).is_file() {
             fail(&format!(
-                "HUMDELZI_LIB names {}, which has no lib{name}.a",
-                given.to_string_lossy()
+                "HUMDELZI_LIB names {}, which has no lib{name}.a (a relative path counts from {})",
+                given.to_string_lossy(),
+                env::var("CARGO_MANIFEST_DIR").unwrap_or_default()
             ));
         }
     }

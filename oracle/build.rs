@@ -5,7 +5,8 @@
 //! exec.rs and program.rs are cut down to the parts the coroutine code needs.
 //! Every edit is listed in docs/DIFFERENCES.md.
 //!
-//! `BVM_LIB` names the folder that holds libboundary.a, the proved functions;
+//! `BVM_LIB` names the folder that holds libboundary.a, the proved functions, and
+//! libhot.a and libbatch.a, which are left out where they are not there;
 //! without it the crate builds without them.
 
 use std::fs;

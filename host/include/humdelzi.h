@@ -5,9 +5,10 @@
  * returns the answer's number (0: accepted) and writes the answer.
  *
  * Every call tests the words first and refuses with 11 if they are no sound machine's. A host that owns its words, and lets only these
- * functions write them, may define HUMDELZI_KEPT before this file is included: a set-up leaves a sound machine, and every call leaves it
- * sound (crates/invariant/specs/Kept.antt, crates/kept/specs/Kept.antt), so the calls are then made without the test; and Resume and Yield
- * by functions of their own (libhot.a, to be linked before libboundary.a), which do the same (crates/hot/src) several times as fast.
+ * functions write them, may define HUMDELZI_KEPT before this file is included: the calls are then made without the test, and Resume and
+ * Yield by functions of their own (libhot.a), which do the same (crates/hot/src) several times as fast. Such a host makes no call before a
+ * set-up that answered 0, or before humdelzi_sound said 1 of words from elsewhere: on other words these calls read and write anywhere. A set-up
+ * that answers 0 leaves a sound machine, and every call leaves it sound (begun, called and kept of crates/boundary_claims/specs/Library.antt).
  */
 #ifndef HUMDELZI_H
 #define HUMDELZI_H
@@ -86,9 +87,15 @@ enum {
     HUMDELZI_PLAIN, HUMDELZI_WORD, HUMDELZI_REFUSED, HUMDELZI_STEPPED, HUMDELZI_CLEANUP, HUMDELZI_UNPAID, HUMDELZI_EXIT,
     HUMDELZI_EXIT_WORD, HUMDELZI_RESUMED, HUMDELZI_CAUGHT, HUMDELZI_STOPPED, HUMDELZI_TOOK
 };
+/* (not an answer's outcome, which has numbers of its own) */
 enum { HUMDELZI_CREATED, HUMDELZI_RUNNING, HUMDELZI_YIELDED, HUMDELZI_AWAITING, HUMDELZI_RETURNED, HUMDELZI_FAILED };
 enum { HUMDELZI_NONE, HUMDELZI_DYN, HUMDELZI_I64, HUMDELZI_U64 };
 enum { HUMDELZI_ENTRY, HUMDELZI_WRITE, HUMDELZI_DYNAMIC, HUMDELZI_VALUE, HUMDELZI_DISCARD, HUMDELZI_CORO };
+
+/* an answer's outcome */
+enum {
+    HUMDELZI_NO_OUTCOME, HUMDELZI_HAS_YIELDED, HUMDELZI_HAS_AWAITED, HUMDELZI_HAS_RETURNED, HUMDELZI_HAS_FAILED, HUMDELZI_HAS_IGNORED_CLOSE
+};
 
 /* the word of an integer from -2^47 to 2^47 - 1 */
 static inline uint64_t humdelzi_int(int64_t n) { return (uint64_t)0xFFFE << 48 | ((uint64_t)n & (((uint64_t)1 << 48) - 1)); }

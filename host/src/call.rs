@@ -37,9 +37,10 @@ pub enum Cont {
     Entry,
     /// The raw word goes to a register; a result of kind none leaves it.
     Write(Reg),
-    /// The result as a word goes to a register.
+    /// The result as a word goes to a register: an integer as an inline one, or
+    /// as an object; nil for none.
     Dyn(Reg),
-    /// The result as a word, or nil for none, goes to a register.
+    /// The raw word, or nil for none, goes to a register.
     Value(Reg),
     /// The result is dropped.
     Discard,

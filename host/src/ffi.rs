@@ -127,24 +127,37 @@ impl Sound {
     }
 
     /// A call, without the test of soundness.
-    pub(crate) fn kept(&mut self, fuel: &mut Record, mut call: CallWords) -> AnswerWords {
-        let mut answer = [0; 8];
+    pub(crate) fn kept(
+        &mut self,
+        fuel: &mut Record,
+        mut call: CallWords,
+        answer: &mut AnswerWords,
+    ) {
         lend!(bvm_kept(&mut self.0, fuel.0, call, answer) as_mut_ptr);
-        answer
     }
 
     /// Resume: `kept` of the call 6.
-    pub(crate) fn resume(&mut self, fuel: &mut Record, pc: u32, r: [u16; 3]) -> AnswerWords {
-        let (mut answer, [dst, coro, src]) = ([0; 8], r);
+    pub(crate) fn resume(
+        &mut self,
+        fuel: &mut Record,
+        pc: u32,
+        r: [u16; 3],
+        answer: &mut AnswerWords,
+    ) {
+        let [dst, coro, src] = r;
         lend!(bvm_resume(&mut self.0, fuel.0, answer; pc, dst, coro, src) as_mut_ptr);
-        answer
     }
 
     /// Yield: `kept` of the call 3.
-    pub(crate) fn yields(&mut self, fuel: &mut Record, pc: u32, r: [u16; 2]) -> AnswerWords {
-        let (mut answer, [dst, src]) = ([0; 8], r);
+    pub(crate) fn yields(
+        &mut self,
+        fuel: &mut Record,
+        pc: u32,
+        r: [u16; 2],
+        answer: &mut AnswerWords,
+    ) {
+        let [dst, src] = r;
         lend!(bvm_yield(&mut self.0, fuel.0, answer; pc, dst, src) as_mut_ptr);
-        answer
     }
 
     /// The test of soundness.

@@ -93,12 +93,14 @@ impl Machine {
     /// functions of their own in the library, several times as fast.
     #[inline]
     pub fn call(&mut self, fuel: &mut Fuel, call: Call) -> Answer {
-        let (m, fuel) = (&mut self.0, &mut fuel.0);
-        Answer::read(&match call {
-            Call::Resume { pc, dst, coro, src } => m.resume(fuel, pc.0, [dst.0, coro.0, src.0]),
-            Call::Yield { pc, dst, src } => m.yields(fuel, pc.0, [dst.0, src.0]),
-            _ => m.kept(fuel, call.words()),
-        })
+        let (m, fuel, mut answer) = (&mut self.0, &mut fuel.0, [0; 8]);
+        let a = &mut answer;
+        match call {
+            Call::Resume { pc, dst, coro, src } => m.resume(fuel, pc.0, [dst.0, coro.0, src.0], a),
+            Call::Yield { pc, dst, src } => m.yields(fuel, pc.0, [dst.0, src.0], a),
+            _ => m.kept(fuel, call.words(), a),
+        }
+        Answer::read(a)
     }
 
     /// Calls, one after the other.
@@ -136,7 +138,8 @@ impl Machine {
     ///
     /// # Errors
     ///
-    /// The words as they were, if they are no sound machine's (11).
+    /// The words as they were, if they are no sound machine's (11), or if the
+    /// fuel has other than four words.
     pub fn from_words(words: Words) -> Result<(Machine, Fuel), Unsound> {
         match Sound::test(words) {
             Ok((sound, record)) => Ok((Machine(sound), Fuel(record))),
