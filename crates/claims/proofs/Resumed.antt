@@ -6,6 +6,7 @@ use mathlib.Core.Bool.{Bool, true, false, not, _&&_, _||_}
 use mathlib.Core.List.{[], _∷_}
 use mathlib.Core.Option.{some}
 use lib.ListN.{getD}
+use lib.Dec.{ltb, leb}
 use Rattle.lists.specs.Pick.{pick}
 use Rattle.heap.specs.Fault as Faults
 use Rattle.heap.specs.Word.{classOf}
@@ -42,6 +43,7 @@ use Rattle.claims.specs.Steps.{viewOf, opOf, steps}
 use Rattle.claims.proofs.Entry as E
 use Rattle.claims.proofs.Entry.{act, acceptsAs, accepts, aimed, sentTo, entryBy}
 use Rattle.claims.proofs.Split.{next}
+use Rattle.claims.proofs.Cores.{no-both}
 use Rattle.claims.proofs.Enters.{accepts-stored, ChargeCase, c-done, c-spent, c-close, charge-case}
 use Rattle.claims.proofs.Instr.{Alike, alike, accepts-alike}
 use Rattle.claims.proofs.Claim.{entry-sound}
@@ -50,31 +52,35 @@ use Rattle.claims.proofs.Views.{is-runs, base-top}
 use Rattle.claims.proofs.Numbers.{step-number}
 use Rattle.claims.proofs.Exact.{number-sound, some-op}
 
--- ---- coro_enter refuses by a number other than 0
+-- ---- coro_enter refuses by 1 to 4: where its tail answers another number, it accepts
 
-absent-number : (c : Class) (p : Place) → Faults.numberOf (Table.notA c p) ≡ 0 → ⊥
-absent-number Class.Nil p h = omega (arith, h)
-absent-number (Class.Ref o) Place.Nothing h = omega (arith, h)
-absent-number (Class.Ref o) (Place.At i) h = omega (arith, h)
-absent-number (Class.Int z) p h = omega (arith, h)
-absent-number Class.Opaque p h = omega (arith, h)
+module _ (n : ℕ) (no : (x : ℕ) → ltb 0 x ≡ true → leb x 4 ≡ true → x ≡ n → ⊥) where
+  pub absent-number : (c : Class) (p : Place) → Faults.numberOf (Table.notA c p) ≡ n → ⊥
+  absent-number Class.Nil p h = no 1 refl refl h
+  absent-number (Class.Ref o) Place.Nothing h = no 1 refl refl h
+  absent-number (Class.Ref o) (Place.At i) h = no 2 refl refl h
+  absent-number (Class.Int z) p h = no 2 refl refl h
+  absent-number Class.Opaque p h = no 2 refl refl h
 
-module _ {A : Type 0} (num : A → ℕ) (f : World → Entered → After A) (out : (w : World) (g : Fault) → num (f w (Entered.Refused g) .answer) ≡ Faults.numberOf g) where
-  accepted-by : (c : ℕ) (d : Driver) (u : World) → num (andThen (coroEnter c d u) f .answer) ≡ 0 → accepts u c ≡ true
-  unfolding coroEnter pick
-  accepted-by c d u h = go (coro u c) h
-    where
-      go : (x : Coroutine) → num (andThen (enterAs x c d u) f .answer) ≡ 0 → acceptsAs x u ≡ true
-      go Absent q = absurd (absent-number (classOf c) (place u c) (sym (out u (notA u c)) ∙ q))
-      go (Is k r) q = tests (isResumable (k .state)) (isNil (k .frames)) (overflows k u) q
-        where
-          tests : (a b o : Bool)
-              → num (andThen (pick (not a || b) (after u (Entered.Refused Fault.InvalidCoroState)) (pick o (after u (Entered.Refused Fault.StackOverflow)) (after (entered c d k r u) (pick (isCreated (k .state)) Entered.Fresh (Entered.Suspended (k .waiting)))))) f .answer) ≡ 0
-              → (a && not b && not o) ≡ true
-          tests false b o q = let n = sym (out u Fault.InvalidCoroState) ∙ q in absurd (omega (arith, n))
-          tests true true o q = let n = sym (out u Fault.InvalidCoroState) ∙ q in absurd (omega (arith, n))
-          tests true false true q = let n = sym (out u Fault.StackOverflow) ∙ q in absurd (omega (arith, n))
-          tests true false false q = refl
+  module _ {A : Type 0} (num : A → ℕ) (f : World → Entered → After A) (out : (w : World) (g : Fault) → num (f w (Entered.Refused g) .answer) ≡ Faults.numberOf g) where
+    pub accepted-by : (c : ℕ) (d : Driver) (u : World) → num (andThen (coroEnter c d u) f .answer) ≡ n → accepts u c ≡ true
+    unfolding coroEnter pick
+    accepted-by c d u h = go (coro u c) h
+      where
+        go : (x : Coroutine) → num (andThen (enterAs x c d u) f .answer) ≡ n → acceptsAs x u ≡ true
+        go Absent q = absurd (absent-number (classOf c) (place u c) (sym (out u (notA u c)) ∙ q))
+        go (Is k r) q = tests (isResumable (k .state)) (isNil (k .frames)) (overflows k u) q
+          where
+            tests : (a b o : Bool)
+                → num (andThen (pick (not a || b) (after u (Entered.Refused Fault.InvalidCoroState)) (pick o (after u (Entered.Refused Fault.StackOverflow)) (after (entered c d k r u) (pick (isCreated (k .state)) Entered.Fresh (Entered.Suspended (k .waiting)))))) f .answer) ≡ n
+                → (a && not b && not o) ≡ true
+            tests false b o q = absurd (no 3 refl refl (sym (out u Fault.InvalidCoroState) ∙ q))
+            tests true true o q = absurd (no 3 refl refl (sym (out u Fault.InvalidCoroState) ∙ q))
+            tests true false true q = absurd (no 4 refl refl (sym (out u Fault.StackOverflow) ∙ q))
+            tests true false false q = refl
+
+zero-not : (x : ℕ) → ltb 0 x ≡ true → leb x 4 ≡ true → x ≡ 0 → ⊥
+zero-not x a b e = no-both a (ap (ltb 0) e)
 
 aimed-in : (c : ℕ) (d : Driver) (x : ℕ) (w : World) → accepts w c ≡ true → aimed (E.enters c d (gets x) true) w ≡ E.entry c d (sentTo (coro w c) (gets x))
 unfolding pick
@@ -97,7 +103,7 @@ resume-by w pc dst q src h = gate (isNil (w .frames)) (allIn (dst ∷ q ∷ src 
     paid ch (c-done n v r) h =
         let a = alike r in
         let c : reg v q ≡ reg w q = λ i. getD (a .stack i) (a .base i + q) 0 in
-        let s = accepted-by stepNumber (arrive (reg v src)) (λ u g. refl) (reg v q) (Driver.Resume dst) (storePc pc v) (sym (step-number n (resume pc dst q src v .answer)) ∙ h) in
+        let s = accepted-by 0 zero-not stepNumber (arrive (reg v src)) (λ u g. refl) (reg v q) (Driver.Resume dst) (storePc pc v) (sym (step-number n (resume pc dst q src v .answer)) ∙ h) in
         let t = sym (accepts-stored {p = pc} {w = v} {u = storePc pc v} (record { setup = refl; stack = refl; frames = refl; chain = refl; slots = refl; used = refl }) (reg v q)) ∙ s in
         aimed-in (reg w q) (Driver.Resume dst) (reg w src) w (sym (ap (accepts w) c) ∙ (sym (accepts-alike a (reg v q)) ∙ t))
     paid ch (c-spent v r) h = absurd (omega (arith, h))
@@ -116,7 +122,7 @@ host-by w c x h = go (isNil (w .frames)) h
     go : (b : Bool) → numberOf (pick (not b) (refused w Fault.Busy) (andThen (coroEnter c Driver.Host w) (hostArrive x)) .answer) ≡ 0
         → pick (not b) E.nobody (aimed (E.enters c Driver.Host (gets x) true) w) ≡ E.entry c Driver.Host (sentTo (coro w c) (gets x))
     go false h = absurd (omega (arith, h))
-    go true h = aimed-in c Driver.Host x w (accepted-by numberOf (hostArrive x) (λ u g. refl) c Driver.Host w h)
+    go true h = aimed-in c Driver.Host x w (accepted-by 0 zero-not numberOf (hostArrive x) (λ u g. refl) c Driver.Host w h)
 
 -- ---- as claimed
 

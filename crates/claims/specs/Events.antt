@@ -264,6 +264,9 @@ pub record Events (e : Engine) : Type 0 where
   -- a Resume, or a host entry, that is answered 0 has entered whom it names
   pub resumed : (s : e .State) (k : e .Call) (pc dst r src : ℕ) → e .op k ≡ some (Op.Resume pc dst r src) → e .number s k ≡ 0 → Enters e (word (e .view s) r) s k
   pub hosted : (c : ℕ) (s : e .State) (k : e .Call) (x : ℕ) → e .op k ≡ some (Op.HostEntry c x) → e .number s k ≡ 0 → Enters e c s k
+  -- a throw into one that has begun, or a close, that is answered 17 has entered somebody: whom it names, or one that a cleanup is due to
+  pub threw : (s : e .State) (k : e .Call) (pc dst r src : ℕ) → e .op k ≡ some (Op.ResumeThrow pc dst r src) → e .number s k ≡ 17 → is (e .view s) isNew (word (e .view s) r) ≡ false → (c : ℕ) × Enters e c s k
+  pub closed-in : (s : e .State) (k : e .Call) (pc dst r src : ℕ) → e .op k ≡ some (Op.CoroClose pc dst r src) → e .number s k ≡ 17 → (c : ℕ) × Enters e c s k
   pub suspends : (c : ℕ) (s : e .State) (k : e .Call) → Suspends e c s k → suspended (e .view s) (doing (e .view s) (e .op k)) (e .number s k) ≡ some c
   pub suspended : (c : ℕ) (s : e .State) (k : e .Call) → suspended (e .view s) (doing (e .view s) (e .op k)) (e .number s k) ≡ some c → Suspends e c s k
   pub heard : (c : ℕ) (s : e .State) (k : e .Call) → Suspends e c s k → e .number s k ≡ toldTo (e .view s .chain) (isAwait (doing (e .view s) (e .op k))) (seenIn (λ x. x .closing) (e .view s .coro c))
