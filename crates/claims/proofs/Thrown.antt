@@ -23,11 +23,9 @@ use Rattle.model.specs.Cleanup.{isAsleep, charge}
 use Rattle.model.specs.Exec.{fault, throwEntered, throwTo, resumeThrow, closeEntered, closeIn, closeTo, coroClose}
 use Rattle.model.specs.Gate as Gate
 use Rattle.model.specs.Gate.{refused, instruction}
-use Rattle.model.specs.Sound.{sound}
 use Rattle.model.specs.Answer.{stepNumber, numberOf}
-use Rattle.model.specs.Call.{Call, SetUp, Do, Operation}
-use Rattle.model.specs.Step as M
-use Rattle.model.specs.Step.{call, tested, step}
+use Rattle.model.specs.Call.{Call, SetUp, Do}
+use Rattle.model.specs.Step.{call, step}
 use Rattle.model.specs.declared.machine.Driver.{Driver}
 use Rattle.model.specs.declared.machine.Charge.{Charge}
 use Rattle.model.specs.declared.coro.Stated.{Stated}
@@ -42,14 +40,14 @@ use Rattle.claims.proofs.Entry as E
 use Rattle.claims.proofs.Entry.{act, acceptsAs, accepts, aimed, sentTo, entryBy}
 use Rattle.claims.proofs.Split.{next}
 use Rattle.claims.proofs.Cores.{no-both, coroIn, and-left}
-use Rattle.claims.proofs.Enters.{accepts-stored, ChargeCase, c-done, c-spent, c-close, charge-case}
+use Rattle.claims.proofs.Enters.{ChargeCase, c-done, c-spent, c-close, charge-case}
 use Rattle.claims.proofs.Instr.{Alike, alike, coro-alike, aimed-alike}
 use Rattle.claims.proofs.Claim.{entry-sound}
 use Rattle.claims.proofs.Acceptance.{named-enters}
 use Rattle.claims.proofs.Views.{is-runs, base-top, new-state}
 use Rattle.claims.proofs.Numbers.{step-number}
 use Rattle.claims.proofs.Exact.{number-sound, some-op}
-use Rattle.claims.proofs.Resumed.{absent-number, accepted-by}
+use Rattle.claims.proofs.Resumed.{absent-number, accepted-by, stored, answered-sound}
 
 -- somebody is entered
 pub record Somebody (e : E.Entry) : Type 0 where
@@ -85,9 +83,6 @@ aimed-in : (c : ℕ) (d : Driver) (x : Sent) (v : World) → newIn (coro v c) �
 unfolding pick
 aimed-in c d x v n a =
     record { coro = c; driver = d; sent = sentTo (coro v c) x; is = (λ i. pick (accepts-sleeps (coro v c) v a n i && a i) (E.entry c d (sentTo (coro v c) x)) E.nobody) }
-
-stored : (p : ℕ) (v : World) (c : ℕ) → accepts (storePc p v) c ≡ true → accepts v c ≡ true
-stored p v c a = sym (accepts-stored {p = p} {w = v} {u = storePc p v} (record { setup = refl; stack = refl; frames = refl; chain = refl; slots = refl; used = refl }) c) ∙ a
 
 throw-in : (p dst q src : ℕ) (v : World) → newIn (coro v (reg v q)) ≡ false → stepNumber (resumeThrow p dst q src v .answer) ≡ 17
     → Somebody (aimed (E.enters (reg v q) (Driver.Resume dst) nothing (isAsleep (coro v (reg v q)))) v)
@@ -166,18 +161,10 @@ close-some w pc dst q src =
 
 -- ---- as claimed
 
-raised-sound : (w : World) (o : Operation) → numberOf (step w (Do o) .answer) ≡ 17 → sound w ≡ true
-unfolding step tested pick
-raised-sound w o h = go (sound w) refl h
-  where
-    go : (b : Bool) → sound w ≡ b → numberOf (pick b (call (o .op) w) (M.told (refused w Fault.Unsound)) .answer) ≡ 17 → sound w ≡ true
-    go true e n = e
-    go false e n = absurd (omega (arith, n))
-
 somebody-enters : (w : World) (k : Call) (p : Op) → opOf k ≡ some p → numberOf (step w k .answer) ≡ 17 → (numberOf (call p w .answer) ≡ 17 → Somebody (entryBy (act w p) w)) → (c : ℕ) × D.Enters steps c w k
 somebody-enters w (SetUp s) p e h f = let z : _≡_ {A = ℕ} 0 1 = cc in absurd (omega arith)
 somebody-enters w (Do o) p e h f =
-    let y = raised-sound w o h in
+    let y = answered-sound 17 (λ q. omega (arith, q)) w o h in
     let b = subst (λ p. numberOf (call p w .answer) ≡ 17 → Somebody (entryBy (act w p) w)) (sym (some-op e)) f (ap numberOf (sym (number-sound w o y)) ∙ h) in
     let t = named-enters w (Do o) (b .coro) (b .driver) (b .sent) (entry-sound w o y ∙ b .is) in
     (b .coro, record { before = is-runs w (b .coro) ∙ t .before; after = is-runs (next w (Do o)) (b .coro) ∙ t .after })
