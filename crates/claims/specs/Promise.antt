@@ -55,7 +55,7 @@ pub record Roomy (e : Engine) (n c : ℕ) (s : e .State) : Type 0 where
 pub record Pays (e : Engine) (s : e .State) : Type 0 where
   pub healthy : Healthy e s
   pub stands : eqb (length (e .view s .frames)) 0 ≡ false
-  pub paid : (pc : ℕ) (y : Entry) → charged (e .view s) pc (some y) ≡ some y
+  pub paid : (pc : ℕ) (x : Entry) → charged (e .view s) pc (some x) ≡ some x
 
 -- a new integer object can be made
 pub record Makes (v : View) : Type 0 where
