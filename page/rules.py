@@ -2,7 +2,7 @@
 """Checks docs/RULES.md and docs/ASSURANCE.md against the sources, so that neither can rot:
 each file and name that a row of RULES names is there; a sentence is marked as quoted exactly if a comment of its definition's file quotes it;
 every quotation in a comment of crates/ is 01's, or is listed as another's; the places and counts of ASSURANCE are those of today.
-README's layout is crates.txt's. No file of specs/ or src/ cites one of proofs/, so that what is to be believed stands in specs/. `page/rules.py mend` writes places and counts into ASSURANCE, and the marks into RULES."""
+README's layout is crates.txt's. What a wrong edit changes stands once in its file, and CHEATS names it. No file of specs/ or src/ cites one of proofs/, so that what is to be believed stands in specs/. `page/rules.py mend` writes places and counts into ASSURANCE, and the marks into RULES."""
 import re
 import sys
 from pathlib import Path
@@ -232,7 +232,28 @@ def check_cited():
     print(f"rules: {count} files of specs/ and src/ cite none of proofs/" if not failed else f"rules: {count} files of specs/ and src/")
 
 
+def check_edits():
+    """What an edit of must-fail/ changes stands once in its file. CHEATS names each wrong machine, and each edit of the definitions and of what is said of them."""
+    cheats, count = (ROOT / "docs/CHEATS.md").read_text(), 0
+    for path in sorted(ROOT.glob("crates/*/must-fail/*.edit")):
+        file, crate = None, path.parts[-3]
+        for key, text in re.findall(r"^(file|old|new): (.*)$", path.read_text(), re.M):
+            if key == "file":
+                file = ROOT / "crates" / crate / text
+            elif key == "old":
+                count += 1
+                if not file.is_file() or file.read_text().count(text) != 1:
+                    say(f"{path.relative_to(ROOT)}: not once in its file: {text}")
+        if crate in ("model", "sheet", "lent", "lent_claims") and f"`{path.stem}`" not in cheats:
+            say(f"docs/CHEATS.md: no {path.stem} of {crate}")
+    for name in re.findall(r"^  pub ([a-z0-9-]+) : .* → ⊥$", (ROOT / "crates/claims/specs/Wrong.antt").read_text(), re.M):
+        if f"`{name}`" not in cheats:
+            say(f"docs/CHEATS.md: no {name}")
+    print(f"rules: {count} texts that edits change")
+
+
 check_cited()
+check_edits()
 check_layout()
 check_names("docs/PROVING.md")
 check_fields()

@@ -16,7 +16,8 @@ use Rattle.claims.proofs.Restores as Restores
 use Rattle.claims.proofs.Restores.{enters-old, suspends-old}
 use Rattle.claims.proofs.Untouched.{untouched}
 use Rattle.claims.proofs.Exact.{healthy-sound, no-some, entered, suspends, suspended-by}
-use Rattle.claims.proofs.Resumed.{resumed, hosted}
+use Rattle.claims.proofs.Resumed.{resumed, hosted, turned}
+use Rattle.claims.proofs.Thrown.{threw, closed-in}
 use Rattle.claims.proofs.Heard.{heard}
 use Rattle.claims.proofs.Returned.{returns, returned-by, closed}
 use Rattle.claims.proofs.Losses.{fails-by, failed-by}
@@ -53,6 +54,9 @@ events =
       answered = entry-answers;
       resumed = resumed;
       hosted = hosted;
+      turned = turned;
+      threw = threw;
+      closed-in = closed-in;
       suspends = suspends;
       suspended = suspended-by;
       heard = heard;

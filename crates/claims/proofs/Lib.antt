@@ -36,6 +36,7 @@ pub mod Unwinds
 pub mod Numbers
 pub mod Exact
 pub mod Resumed
+pub mod Thrown
 pub mod Heard
 pub mod Answers
 pub mod Losses

@@ -31,7 +31,7 @@ use Rattle.claims.specs.Witness.{nth, between, frame}
 use Rattle.claims.specs.Wrong.{bent, onTop, tail, ofZero, discards, bare, atOne, further, higher, once, begun, greeted, late, mistaking, tainting, Wrong}
 use Rattle.claims.proofs.Premises.{waits-true}
 use Rattle.claims.proofs.Cores.{no-both}
-use Rattle.claims.proofs.WrongEvents.{always-refused, return-fails, no-cleanup, closing-forgotten, failure-returns, await-yields, excused, throw-lost, ignored-unheard, refusal-unheard}
+use Rattle.claims.proofs.WrongEvents.{always-refused, return-fails, no-cleanup, closing-forgotten, failure-returns, await-yields, excused, throw-lost, ignored-unheard, refusal-unheard, throw-feigned}
 use Rattle.claims.proofs.WrongEvents.{always-nine, caught-unheard, bank-unused, close-pays, result-changes, aborted, close-fails, close-refused, wrong-result, renewed, comes-failed, fuel-stays, other-limits, speechless, all-shown}
 
 abbrev first : List ℕ → ℕ
@@ -332,6 +332,7 @@ wrong =
       throw-lost = throw-lost;
       ignored-unheard = ignored-unheard;
       refusal-unheard = refusal-unheard;
+      throw-feigned = throw-feigned;
       always-nine = always-nine;
       caught-unheard = caught-unheard;
       bank-unused = bank-unused;

@@ -22,7 +22,7 @@ use Rattle.model.specs.declared.machine.Fuel.{Fuel}
 use Rattle.model.specs.declared.call.OptPc.{OptPc}
 use Rattle.model.specs.declared.call.Op.{Op}
 use Rattle.claims.specs.Engine.{Seen, Rules, run, code, isNew, is}
-use Rattle.claims.specs.Says.{nothing, gets, closes, does}
+use Rattle.claims.specs.Says.{nothing, gets, closes, does, Entry}
 use Rattle.claims.specs.Delivery.{recorded}
 use Rattle.claims.specs.Events.{Healthy, thrown, escapes, Events}
 use Rattle.claims.specs.Promise.{Roomy, Accepts, SetUps, Looks, Speaks}
@@ -30,7 +30,7 @@ use Rattle.claims.specs.Steps.{viewOf, opOf}
 use Rattle.claims.specs.Story as Story
 use Rattle.claims.specs.Story.{wide, c, held}
 use Rattle.claims.specs.Witness.{nth, frame}
-use Rattle.claims.specs.Wrong.{idle, two, failing, forgetting, sparing, yielding, lostIn, excusing, muting, hushing, flattering, grudging, cries, crying, unpaid, stingy}
+use Rattle.claims.specs.Wrong.{idle, two, failing, forgetting, sparing, yielding, lostIn, excusing, muting, hushing, flattering, feigning, grudging, cries, crying, unpaid, stingy}
 use Rattle.claims.specs.Wrong.{closing, rewriting, aborting, harsh, spurned, spurning, misnaming, renewing, stillborn, fuelled, shrinking, heardAs, deaf, showing}
 use Rattle.claims.proofs.Cores.{no-both}
 use Rattle.claims.proofs.Exact.{some-op}
@@ -148,6 +148,20 @@ resume-typed = refl
 pub refusal-unheard : Events flattering → ⊥
 unfolding computed itself-ops itself
 refusal-unheard v = no-both refl (v .resumed itself (asCall (Op.Resume 5 1 0 2) resume-typed) 5 1 0 2 refl refl .before)
+
+itself-typed : typed (Op.ResumeThrow 5 1 0 2) ≡ true
+unfolding typed
+itself-typed = refl
+
+no-one : {y : Entry} → _≡_ {A = Option Entry} none (some y) → ⊥
+no-one e = let z : _≡_ {A = ℕ} 0 1 = cc in absurd (omega arith)
+
+pub throw-feigned : Events feigning → ⊥
+unfolding computed itself-ops itself orElse
+throw-feigned v =
+    let k = asCall (Op.ResumeThrow 5 1 0 2) itself-typed in
+    let t = v .threw itself k 5 1 0 2 refl refl refl in
+    no-one (v .enters (t .0) itself k (t .1) .says)
 
 -- c yields while it is being closed
 yield-typed : typed (Op.Yield 60 3 0) ≡ true

@@ -261,9 +261,14 @@ pub record Events (e : Engine) : Type 0 where
   pub enters : (c : ℕ) (s : e .State) (k : e .Call) → Enters e c s k → By (e .view s) (e .op k) c
   pub entered : (c : ℕ) (s : e .State) (k : e .Call) → Healthy e s → By (e .view s) (e .op k) c → Enters e c s k
   pub answered : (c : ℕ) (s : e .State) (k : e .Call) → Enters e c s k → (b : By (e .view s) (e .op k) c) → e .number s k ≡ answers (is (e .view s) isNew c) (b .sent)
-  -- a Resume, or a host entry, that is answered 0 has entered whom it names
+  -- a Resume, a host entry, or a turn of a loop that goes on, that is answered 0 has entered whom it names
   pub resumed : (s : e .State) (k : e .Call) (pc dst r src : ℕ) → e .op k ≡ some (Op.Resume pc dst r src) → e .number s k ≡ 0 → Enters e (word (e .view s) r) s k
   pub hosted : (c : ℕ) (s : e .State) (k : e .Call) (x : ℕ) → e .op k ≡ some (Op.HostEntry c x) → e .number s k ≡ 0 → Enters e c s k
+  pub turned : (s : e .State) (k : e .Call) (pc has iter val src : ℕ) → e .op k ≡ some (Op.IterNext pc has iter val src) → e .number s k ≡ 0 → e .view s .done (word (e .view s) iter) ≡ false
+      → is (e .view s) ended (word (e .view s) src) ≡ false → Enters e (word (e .view s) src) s k
+  -- a throw into one that has begun, or a close, that is answered 17 has entered somebody: whom it names, or one that a cleanup is due to
+  pub threw : (s : e .State) (k : e .Call) (pc dst r src : ℕ) → e .op k ≡ some (Op.ResumeThrow pc dst r src) → e .number s k ≡ 17 → is (e .view s) isNew (word (e .view s) r) ≡ false → (c : ℕ) × Enters e c s k
+  pub closed-in : (s : e .State) (k : e .Call) (pc dst r src : ℕ) → e .op k ≡ some (Op.CoroClose pc dst r src) → e .number s k ≡ 17 → (c : ℕ) × Enters e c s k
   pub suspends : (c : ℕ) (s : e .State) (k : e .Call) → Suspends e c s k → suspended (e .view s) (doing (e .view s) (e .op k)) (e .number s k) ≡ some c
   pub suspended : (c : ℕ) (s : e .State) (k : e .Call) → suspended (e .view s) (doing (e .view s) (e .op k)) (e .number s k) ≡ some c → Suspends e c s k
   pub heard : (c : ℕ) (s : e .State) (k : e .Call) → Suspends e c s k → e .number s k ≡ toldTo (e .view s .chain) (isAwait (doing (e .view s) (e .op k))) (seenIn (λ x. x .closing) (e .view s .coro c))

@@ -187,9 +187,12 @@ hushing = answering (λ n. pick (eqb n 6) 0 n)
 abbrev pub grudging : Engine
 grudging = answering (λ n. pick (ltb 0 n) 9 0)
 
--- what a coroutine's state forbids is answered 0
+-- what a coroutine's state forbids is answered 0; or 17, as if a word had been raised in it
 abbrev pub flattering : Engine
 flattering = answering (λ n. pick (eqb n 3) 0 n)
+
+abbrev pub feigning : Engine
+feigning = answering (λ n. pick (eqb n 3) 17 n)
 
 -- an unwind is answered 17, though the word is caught
 abbrev pub cries : Does → ℕ → ℕ
@@ -321,6 +324,7 @@ pub record Wrong : Type 0 where
   pub throw-lost : Events muting → ⊥
   pub ignored-unheard : Events hushing → ⊥
   pub refusal-unheard : Events flattering → ⊥
+  pub throw-feigned : Events feigning → ⊥
   pub always-nine : Accepts grudging → ⊥
   pub caught-unheard : Accepts crying → ⊥
   pub bank-unused : Accepts stingy → ⊥

@@ -10,7 +10,7 @@ use lib.Dec.{eqb}
 use Rattle.lists.specs.Pick.{pick}
 use Rattle.heap.specs.declared.value.Opt.{Opt}
 use Rattle.heap.specs.declared.object.CoroState.{CoroState}
-use Rattle.claims.specs.Engine.{Seen, View, Engine, run, isNew, runs, awaits, seenIn, is}
+use Rattle.claims.specs.Engine.{Seen, View, Engine, run, isNew, runs, awaits, ended, seenIn, is}
 use Rattle.claims.specs.Says.{word, doing, lie, Entry, charged, whom}
 use Rattle.claims.specs.Held.{Held, closer, By, Entered, Restored}
 use Rattle.claims.specs.Delivery.{recorded, Left, resultOf}
@@ -87,6 +87,14 @@ module _ (e d : Engine) (f : Follows e d) where
         resumed = λ s k pc dst r src o n.
             down-enters e d f s k (word (e .view s) r) (subst (λ v. Enters d (word v r) (f .to s) (f .by s k)) (f .view s) (p .resumed (f .to s) (f .by s k) pc dst r src (f .op s k ∙ o) (up (λ v. v .number ≡ 0) s k n)));
         hosted = λ c s k x o n. down-enters e d f s k c (p .hosted c (f .to s) (f .by s k) x (f .op s k ∙ o) (up (λ v. v .number ≡ 0) s k n));
+        turned = λ s k pc has iter val src o n i q.
+            down-enters e d f s k (word (e .view s) src)
+            (subst (λ v. Enters d (word v src) (f .to s) (f .by s k)) (f .view s)
+            (p .turned (f .to s) (f .by s k) pc has iter val src (f .op s k ∙ o) (up (λ v. v .number ≡ 0) s k n) (ap (λ v. v .done (word v iter)) (f .view s) ∙ i) (ap (λ v. is v ended (word v src)) (f .view s) ∙ q)));
+        threw = λ s k pc dst r src o n i.
+            let t = p .threw (f .to s) (f .by s k) pc dst r src (f .op s k ∙ o) (up (λ v. v .number ≡ 17) s k n) (ap (λ v. is v isNew (word v r)) (f .view s) ∙ i) in (t .0, down-enters e d f s k (t .0) (t .1));
+        closed-in = λ s k pc dst r src o n.
+            let t = p .closed-in (f .to s) (f .by s k) pc dst r src (f .op s k ∙ o) (up (λ v. v .number ≡ 17) s k n) in (t .0, down-enters e d f s k (t .0) (t .1));
         suspends = λ c s k h. down (suspended-is c) s k (p .suspends c (f .to s) (f .by s k) (up-suspends e d f s k c h));
         suspended = λ c s k h. down-suspends e d f s k c (p .suspended c (f .to s) (f .by s k) (up (suspended-is c) s k h));
         heard = λ c s k h.
