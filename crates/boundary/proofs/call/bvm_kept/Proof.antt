@@ -9,7 +9,9 @@ abbrev do-call-of : tie.After-slice-known22 → tie.After-do-call
 do-call-of c = c .before .before .before .before .before .before .before .before .before .before .before .before .before .before .before .before .before .before .before .before .before .before
 
 do-call-requires : tie.Need-do-call-requires
-do-call-requires c κs = let start = c .before .before .before .before .before .before .before .before .before .before .before .before .before .before .before .before .before .before .before .before .before .before .before .before in record { known = sym (start .pre .sound); room = start .pre .room }
+do-call-requires c κs =
+    let start = c .before .before .before .before .before .before .before .before .before .before .before .before .before .before .before .before .before .before .before .before .before .before .before .before in
+    record { known = sym (start .pre .sound); room = start .pre .room }
 
 same-length : tie.Need-same-length
 same-length c = do-call-of c .do-call .kept .1 .0
