@@ -36,6 +36,7 @@ witness =
       through-meets = refl;
       twice-meets = refl;
       held-meets = refl;
+      refuelled-meets = refl;
       stopped-meets = refl;
       yielding-meets = refl;
       deep-numbers = refl;

@@ -18,7 +18,7 @@ use Rattle.model.specs.declared.machine.Active.{Active}
 use Rattle.model.specs.declared.machine.Driver.{Driver}
 use Rattle.model.specs.declared.machine.Frame.{Frame}
 use Rattle.model.specs.declared.call.Op.{Op}
-use Rattle.claims.specs.Engine.{Seen, View, run, isNew}
+use Rattle.claims.specs.Engine.{Seen, View, calls, run, isNew}
 use Rattle.claims.specs.Says.{Sent, nothing, Entry, doing, whom}
 use Rattle.claims.specs.Held.{at, Moved, AllMoved, pcOf, waitsIn, stepped, given, Entered, Restored}
 use Rattle.claims.specs.Delivery.{eventOf, Memory, memory, deliver, Left}
@@ -115,7 +115,7 @@ distances b n f₁ f₂ (k₁ ∷ k₂ ∷ k₃ ∷ ks) rest m = absurd (m .1 .1
 
 module _ (f : List Frame → List Frame) where
   abbrev s₁ : World
-  s₁ = run (bent f) (fresh wide) (take 13 held)
+  s₁ = run (bent f) (fresh wide) (map calls (take 13 held))
 
   abbrev s₂ : World
   s₂ = bent f .next s₁ (nth held 13)
@@ -217,8 +217,8 @@ more-frames {w = w} {z = z} r n p q =
 
 rows-once : Demand3 once → ⊥
 unfolding computed
-rows-once d = more-frames (d .restored c (run once (fresh wide) (take 13 held)) (nth held 13) (between held 13 23) (nth held 23) (record { before = refl; after = refl })
-    (waits-true once c (once .next (run once (fresh wide) (take 13 held)) (nth held 13)) (between held 13 23) refl) (record { before = refl; after = refl })) 3 refl refl
+rows-once d = more-frames (d .restored c (run once (fresh wide) (map calls (take 13 held))) (nth held 13) (between held 13 23) (nth held 23) (record { before = refl; after = refl })
+    (waits-true once c (once .next (run once (fresh wide) (map calls (take 13 held))) (nth held 13)) (between held 13 23) refl) (record { before = refl; after = refl })) 3 refl refl
 
 -- ---- words
 
@@ -233,7 +233,7 @@ last-append (g ∷ []) f = refl
 last-append (g ∷ h ∷ fs) f = last-append (h ∷ fs) f
 
 -- the word at place i, where the Coro frame's base is that of the last frame found
-word-back : {v : View} {x : Option Op} {w : View} {y : Option Op} {c : ℕ} {z : View} → Restored v x w y c z → (i : ℕ)
+pub word-back : {v : View} {x : Option Op} {w : View} {y : Option Op} {c : ℕ} {z : View} → Restored v x w y c z → (i : ℕ)
     → getD (z .stack) i 0 ≡ getD (given (sentIn (whom w y)) (z .frames) (waitsIn (doing v x)) (w .stack ++ drop (lastBase (found v)) (v .stack))) i 0
 word-back {v} {x} {w} {y} {c} {z} r i =
     let base = sym (ap lastBase (found-mine r) ∙ last-append (r .held .over) (r .held .body)) in
@@ -242,7 +242,7 @@ word-back {v} {x} {w} {y} {c} {z} r i =
 other-word : Demand3 mistaking → ⊥
 unfolding computed
 other-word d =
-    let before = run mistaking (fresh wide) (take 13 held) in
+    let before = run mistaking (fresh wide) (map calls (take 13 held)) in
     let q : _≡_ {A = ℕ} 5 11 =
     word-back (d .restored c before (nth held 13) (between held 13 23) (nth held 23) (record { before = refl; after = refl })
     (waits-true mistaking c (mistaking .next before (nth held 13)) (between held 13 23) refl) (record { before = refl; after = refl })) 12 in

@@ -29,7 +29,7 @@ use Rattle.claims.specs.Story.{c}
 
 -- it leaves another world than `step` does
 abbrev pub leaving : (World → Call → World) → Engine
-leaving f = record { State = World; Call = Call; op = opOf; asks = asksOf; view = viewOf; next = f; number = λ w k. numberOf (step w k .answer); look = looks }
+leaving f = record { State = World; Call = Call; op = opOf; asks = asksOf; view = viewOf; next = f; refuel = λ w f. withFuel f w; number = λ w k. numberOf (step w k .answer); look = looks }
 
 -- ---- machines that wake otherwise, where a coroutine is woken inside a call that it made
 
@@ -158,6 +158,7 @@ excusing =
       asks = asksOf;
       view = viewOf;
       next = λ w k. let z = step w k .world in pick (lostIn (w .chain) z) w z;
+      refuel = λ w f. withFuel f w;
       number = λ w k. pick (lostIn (w .chain) (step w k .world)) 9 (numberOf (step w k .answer));
       look = looks;
     }
@@ -172,13 +173,14 @@ muting =
       asks = asksOf;
       view = viewOf;
       next = λ w k. step w k .world;
+      refuel = λ w f. withFuel f w;
       number = λ w k. pick (ltb (length (w .chain)) (length (step w k .world .chain))) 0 (numberOf (step w k .answer));
       look = looks;
     }
 
 -- it answers otherwise than `step` does
 abbrev pub answering : (ℕ → ℕ) → Engine
-answering f = record { State = World; Call = Call; op = opOf; asks = asksOf; view = viewOf; next = λ w k. step w k .world; number = λ w k. f (numberOf (step w k .answer)); look = looks }
+answering f = record { State = World; Call = Call; op = opOf; asks = asksOf; view = viewOf; next = λ w k. step w k .world; refuel = λ w f. withFuel f w; number = λ w k. f (numberOf (step w k .answer)); look = looks }
 
 -- a yield while closing is answered 0; what is not accepted is answered 9
 abbrev pub hushing : Engine
@@ -203,7 +205,7 @@ cries (raises f pc) n = 17
 cries other n = n
 
 abbrev pub crying : Engine
-crying = record { State = World; Call = Call; op = opOf; asks = asksOf; view = viewOf; next = λ w k. step w k .world; number = λ w k. cries (doing (viewOf w) (opOf k)) (numberOf (step w k .answer)); look = looks }
+crying = record { State = World; Call = Call; op = opOf; asks = asksOf; view = viewOf; next = λ w k. step w k .world; refuel = λ w f. withFuel f w; number = λ w k. cries (doing (viewOf w) (opOf k)) (numberOf (step w k .answer)); look = looks }
 
 -- at fuel 0 a suspension is answered 10, and is not done, whatever the bank holds
 abbrev pub unpaid : World → World → Bool
@@ -218,6 +220,7 @@ stingy =
       asks = asksOf;
       view = viewOf;
       next = λ w k. let z = step w k .world in pick (unpaid w z) w z;
+      refuel = λ w f. withFuel f w;
       number = λ w k. pick (unpaid w (step w k .world)) 10 (numberOf (step w k .answer));
       look = looks;
     }
@@ -235,6 +238,7 @@ spurning c =
       asks = asksOf;
       view = viewOf;
       next = λ w k. let z = step w k .world in pick (spurned c w z) w z;
+      refuel = λ w f. withFuel f w;
       number = λ w k. pick (spurned c w (step w k .world)) 9 (numberOf (step w k .answer));
       look = looks;
     }
@@ -277,7 +281,7 @@ heardAs none = none
 heardAs (some o) = some Op.Look
 
 abbrev pub deaf : Engine
-deaf = record { State = World; Call = Call; op = λ k. heardAs (opOf k); asks = asksOf; view = viewOf; next = λ w k. step w k .world; number = λ w k. numberOf (step w k .answer); look = looks }
+deaf = record { State = World; Call = Call; op = λ k. heardAs (opOf k); asks = asksOf; view = viewOf; next = λ w k. step w k .world; refuel = λ w f. withFuel f w; number = λ w k. numberOf (step w k .answer); look = looks }
 
 -- a set-up leaves the fuel
 abbrev pub refuelled : Option Op → Fuel → World → World
@@ -295,11 +299,11 @@ shallow (SetUp s) =
 shallow (Do o) = Do o
 
 abbrev pub shrinking : Engine
-shrinking = record { State = World; Call = Call; op = opOf; asks = asksOf; view = viewOf; next = λ w k. step w (shallow k) .world; number = λ w k. numberOf (step w (shallow k) .answer); look = looks }
+shrinking = record { State = World; Call = Call; op = opOf; asks = asksOf; view = viewOf; next = λ w k. step w (shallow k) .world; refuel = λ w f. withFuel f w; number = λ w k. numberOf (step w (shallow k) .answer); look = looks }
 
 -- a look hands back the whole stack
 abbrev pub showing : Engine
-showing = record { State = World; Call = Call; op = opOf; asks = asksOf; view = viewOf; next = λ w k. step w k .world; number = λ w k. numberOf (step w k .answer); look = λ w. w .stack }
+showing = record { State = World; Call = Call; op = opOf; asks = asksOf; view = viewOf; next = λ w k. step w k .world; refuel = λ w f. withFuel f w; number = λ w k. numberOf (step w k .answer); look = λ w. w .stack }
 
 pub record Wrong : Type 0 where
   pub other-function : Demand3 (bent (onTop ofZero)) → ⊥
