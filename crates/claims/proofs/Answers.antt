@@ -1,7 +1,7 @@
 -- What an unwind answers: the frames are searched as the claim's `ends` does.
 use Prim.Native.Nat.{ℕ}
 use mathlib.Core.Path.{_≡_, refl, sym, ap, _∙_, subst}
-use mathlib.Core.Bool.{Bool, true, false, not, _&&_, _||_}
+use mathlib.Core.Bool.{Bool, true, false, not, _||_}
 use mathlib.Core.List.{List, [], _∷_}
 use mathlib.Core.Option.{none, some}
 use lib.Dec.{eqb}
@@ -9,7 +9,6 @@ use borrow.Author.Tests.{eqb-true}
 use Rattle.lists.specs.Pick.{pick}
 use Rattle.heap.specs.Table.{nextWord, pushObject}
 use Rattle.heap.specs.Charge.{satAdd}
-use Rattle.heap.specs.Word.{nil}
 use Rattle.heap.specs.Fault as Faults
 use Rattle.heap.specs.declared.fault.Fault.{Fault}
 use Rattle.heap.specs.declared.value.Opt.{Opt}
@@ -20,7 +19,7 @@ use Rattle.model.specs.World.{World, After, after, andThen, withChain, withUsed
 use Rattle.model.specs.Frames.{popTo, storePc, topFunc, topPc}
 use Rattle.model.specs.Heap.{coro, changeAs, changeCoro, alloc, fits, slotsFull, refuse}
 use Rattle.model.specs.Fuel.{unbankAt, unbank, spend}
-use Rattle.model.specs.Coro.{inState, ended, finishCoroutine, deliverReturn, failTo, escapedOn, coroEscaped}
+use Rattle.model.specs.Coro.{inState, ended, failTo, escapedOn, coroEscaped}
 use Rattle.model.specs.Cleanup.{chargeAt, chargeSlow, charge}
 use Rattle.model.specs.Machine.{caught, stopOr, escape, takeHandler, searchAs, search, errorOf, searchFrames, searchMade, storeSome, unwind}
 use Rattle.model.specs.Sound.{sound}
@@ -36,9 +35,7 @@ use Rattle.model.specs.declared.machine.Stop.{Stop}
 use Rattle.model.specs.declared.machine.Charge.{Charge}
 use Rattle.model.specs.declared.coro.WordOr.{WordOr}
 use Rattle.model.specs.declared.call.OptPc.{OptPc}
-use Rattle.model.specs.declared.call.Answer.{Answer}
 use Rattle.claims.specs.Engine as Engine
-use Rattle.claims.specs.Engine.{seenIn}
 use Rattle.claims.specs.Says.{banked}
 use Rattle.claims.specs.Held.{at}
 use Rattle.claims.specs.Events as Events
@@ -46,7 +43,6 @@ use Rattle.claims.specs.Events.{goesOn, raised, handled, ending, ends, e
 use Rattle.claims.specs.Promise.{room}
 use Rattle.claims.specs.Steps.{viewOf}
 use Rattle.claims.proofs.Bodies.{at-top}
-use Rattle.claims.proofs.Quiet.{change-still}
 use Rattle.claims.proofs.Escapes.{Looks, nothing, found, looks, AllSeen, Sees, failedBy, failed-still, fail-sees, by-signal}
 use Rattle.claims.proofs.Unwinds.{sees, stored-sees, made-sees}
 use Rattle.claims.proofs.Exact.{no-some, one-some}

@@ -3,7 +3,7 @@ use Prim.Native.Nat.{ℕ}
 use native.Mathlib.Decide.{ℕ-discrete}
 use mathlib.Core.Path.{_≡_, refl, sym, ap, _∙_, subst}
 use mathlib.Core.Logic.{_⊎_, inl, inr}
-use mathlib.Core.Bool.{Bool, true, false, _&&_, _||_}
+use mathlib.Core.Bool.{Bool, true, false, _||_}
 use mathlib.Core.List.{List, [], _∷_}
 use lib.Dec.{eqb}
 use borrow.Author.Tests.{eqb-true, eqb-false}
@@ -13,10 +13,10 @@ use Rattle.heap.specs.declared.object.CoroState.{CoroState}
 use Rattle.model.specs.State.{isCreated, isRunning}
 use Rattle.model.specs.Program.{func}
 use Rattle.model.specs.Object.{Coroutine, Absent, Is}
-use Rattle.model.specs.World.{World, After, after, andThen, withChain}
+use Rattle.model.specs.World.{World, After, andThen, withChain}
 use Rattle.model.specs.Frames.{isCoro, popTo}
 use Rattle.model.specs.Heap.{coro}
-use Rattle.model.specs.Coro.{inState, ended, finishCoroutine, deliverReturn, failTo, escapedOn, coroEscaped}
+use Rattle.model.specs.Coro.{failTo, escapedOn, coroEscaped}
 use Rattle.model.specs.Cleanup.{charge}
 use Rattle.model.specs.Machine.{caught, stopOr, escape, searchAs, search}
 use Rattle.model.specs.Answer.{numberOf}
