@@ -79,6 +79,8 @@ pub record Witness : Type 0 where
   pub refuelled-meets : premises steps c (at (past 10) held 13) (nth held 13) waiting (nth held 23) (between held 23 26) (nth held 26) ≡ true
   pub stopped-meets : meets 11 5 7 8 c ≡ true
   pub yielding-meets : meets 12 5 7 9 c ≡ true
+  pub pair-first : meets 13 6 11 12 c ≡ true
+  pub pair-second : meets 13 10 13 14 d ≡ true
   -- what the calls answer
   pub deep-numbers : numbers 0 ≡ 0 ∷ 0 ∷ 0 ∷ 0 ∷ 0 ∷ 0 ∷ 0 ∷ 0 ∷ 0 ∷ 0 ∷ 0 ∷ 0 ∷ 0 ∷ 4 ∷ 0 ∷ 0 ∷ 0 ∷ 0 ∷ 0 ∷ 0 ∷ 0 ∷ 0 ∷ 0 ∷ []
   pub nested-numbers : numbers 1 ≡ 0 ∷ 0 ∷ 0 ∷ 0 ∷ 0 ∷ 0 ∷ 0 ∷ 0 ∷ 0 ∷ 0 ∷ 0 ∷ 0 ∷ 0 ∷ 0 ∷ 0 ∷ 0 ∷ 0 ∷ 0 ∷ 0 ∷ []
@@ -93,6 +95,7 @@ pub record Witness : Type 0 where
   pub held-numbers : numbersOf (past 10) held ≡ 0 ∷ 12 ∷ 0 ∷ 0 ∷ 15 ∷ 0 ∷ 0 ∷ 0 ∷ 0 ∷ 0 ∷ 0 ∷ 0 ∷ 0 ∷ 0 ∷ 11 ∷ 0 ∷ 0 ∷ 13 ∷ 0 ∷ 0 ∷ 0 ∷ 0 ∷ 0 ∷ 0 ∷ 0 ∷ 0 ∷ 0 ∷ []
   pub stopped-numbers : numbers 11 ≡ 0 ∷ 0 ∷ 0 ∷ 0 ∷ 0 ∷ 0 ∷ 0 ∷ 0 ∷ 0 ∷ []
   pub yielding-numbers : numbers 12 ≡ 0 ∷ 0 ∷ 0 ∷ 0 ∷ 0 ∷ 0 ∷ 0 ∷ 17 ∷ 0 ∷ 0 ∷ []
+  pub pair-numbers : numbers 13 ≡ 0 ∷ 0 ∷ 0 ∷ 0 ∷ 0 ∷ 0 ∷ 0 ∷ 0 ∷ 0 ∷ 0 ∷ 0 ∷ 0 ∷ 0 ∷ 0 ∷ 0 ∷ []
   -- one split as lists, `held`: what the suspending call finds of c, from base 4 up ..
   pub found-stack : at (past 10) held 13 .stack ≡ c ∷ f ∷ 66 ∷ 0 ∷ 11 ∷ 0 ∷ 0 ∷ 0 ∷ 0 ∷ 22 ∷ 33 ∷ 0 ∷ []
   pub found-frames : at (past 10) held 13 .frames ≡ frame 1 0 8 0 (Cont.Dyn 2) ∷ frame 0 5 4 f Cont.Coro ∷ frame 0 2 0 0 Cont.Entry ∷ []
