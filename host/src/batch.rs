@@ -44,6 +44,12 @@ impl Batch {
         self.calls.is_empty()
     }
 
+    /// The first `n` calls alone, if there are more.
+    pub fn truncate(&mut self, n: usize) {
+        self.calls.truncate(n);
+        self.answers.truncate(n);
+    }
+
     /// The answer of call `i`, as it was last run.
     #[must_use]
     pub fn answer(&self, i: usize) -> Option<Answer> {
