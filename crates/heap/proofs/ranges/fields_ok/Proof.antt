@@ -5,21 +5,16 @@ use mathlib.Core.List.{List, [], _∷_}
 use Prim.Native.Nat.{ℕ, zero, suc, _-_, _≤_}
 use native.Mathlib.Omega.{arith}
 use borrow.Author.Needs.{needs}
-use borrow.Author.Tests.{le-leb, lt-leb, ne-eqb, not-true, not-false}
-use lib.Dec.{leb, eqb}
+use borrow.Author.Tests.{le-leb, lt-leb, not-true, not-false}
+use lib.Dec.{leb}
 use lib.ListN.{length, getD, drop, length-drop, replicate}
 use lib.Seq.{take-all}
 use Rattle.lists.specs.Tests.{zeros}
 use Rattle.heap.specs.Slot.{fieldsOf}
 use Rattle.heap.specs.Ranges.{rangesOf, within}
+use Rattle.heap.proofs.Within.{from-zero, at-zero}
 use Rattle.heap.proofs.ranges.fields_ok.Statement.{statement}
 use Rattle.heap.proofs.ranges.fields_ok.Tie as tie
-
-at-zero : (x : ℕ) → (leb 0 x && leb x 0) ≡ eqb x 0
-at-zero zero = refl
-at-zero (suc x) =
-    let n : suc x ≡ 0 → ⊥ = λ e. omega arith in
-    rw (lt-leb (suc x) 0 (omega arith), ne-eqb (suc x) 0 n, le-leb 0 (suc x) (omega arith))
 
 -- words of which none is used
 unused : (n : ℕ) (xs : List ℕ) → length xs ≡ n → within (rangesOf (replicate {A = ℕ} n 0) (replicate {A = ℕ} n 0)) xs ≡ zeros xs
@@ -27,9 +22,6 @@ unused zero [] e = refl
 unused zero (x ∷ xs) e = absurd (omega arith)
 unused (suc n) [] e = absurd (omega arith)
 unused (suc n) (x ∷ xs) e = let h : length xs ≡ n = omega arith in ap₂ _&&_ (at-zero x) (unused n xs h)
-
-from-zero : (w m : ℕ) → (leb 0 w && leb w m) ≡ leb w m
-from-zero w m = rw (le-leb 0 w (omega arith))
 
 -- ---- the tests that are left
 

@@ -55,13 +55,13 @@ none (x ∷ s) h = refl
 shared-slice-read-kind : tie.Need-shared-slice-read-kind
 shared-slice-read-kind c = search needs
 
-at-most-requires : tie.Need-at-most-requires
-at-most-requires c κs = search needs
+coro-ok-requires : tie.Need-coro-ok-requires
+coro-ok-requires c κs = search needs
 
 returns : tie.Need-returns
 returns c =
     let at-if1 = c .before in let start = at-if1 .before .before .before in
-    row (start .args .s .now) 6 (c .at-most .result) (c .at-most .ensures) (at-if1 .if1 .taken)
+    row (start .args .s .now) 6 (c .coro-ok .result) (c .coro-ok .ensures) (at-if1 .if1 .taken)
 
 fields-ok-requires : tie.Need-fields-ok-requires
 fields-ok-requires c κs = search needs
@@ -124,7 +124,7 @@ slot-ok-spec =
     tie.close
     (tie.spec
     shared-slice-read-kind
-    at-most-requires
+    coro-ok-requires
     returns
     fields-ok-requires
     returns-2
