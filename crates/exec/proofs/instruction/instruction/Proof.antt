@@ -160,16 +160,16 @@ instruction-spec =
     sub-base-at
     base-at-requires
     shared-slice-read-passes
-    (λ c κs. search needs)
+    (search needs)
     (λ c. refl)
     returns-2
-    (λ c κs. search needs)
+    (search needs)
     charge-requires
-    (λ c. search needs)
-    (λ c. search needs)
-    (λ c. search needs)
+    (search needs)
+    (search needs)
+    (search needs)
     body-requires
-    (λ c κs. search needs)
+    (search needs)
     (λ c. spent-of c .charge .kept .0)
     (λ c. spent-of c .charge .kept .1 .0)
     (λ c. spent-of c .charge .kept .1 .1 .0)

@@ -11,21 +11,12 @@ use borrow.Author.Needs.{needs}
 use Rattle.sound_words.proofs.saved.coro_ok.Statement.{statement}
 use Rattle.sound_words.proofs.saved.coro_ok.Tie as tie
 
-is-finished-requires : tie.Need-is-finished-requires
-is-finished-requires c κs = search needs
-
-ended-ok-requires : tie.Need-ended-ok-requires
-ended-ok-requires c κs = search needs
-
 returns : tie.Need-returns
 returns c =
     let at-if1 = c .before in let at-is-finished = at-if1 .before in let start = at-is-finished .before .before .before .before in
     let a = start .args in
     c .ended-ok .ensures
     ∙ finished (a .l) (setupOf (a .setup .now)) (a .saved .now) (a .asleep .now) (a .c) (sym (at-is-finished .is-finished .ensures) ∙ at-if1 .if1 .taken)
-
-sizes-ok-requires : tie.Need-sizes-ok-requires
-sizes-ok-requires c κs = search needs
 
 returns-2 : tie.Need-returns-2
 returns-2 c =
@@ -90,10 +81,10 @@ pub coro-ok-spec : {M : Type 1} → statement M
 coro-ok-spec =
     tie.close
     (tie.spec
-    is-finished-requires
-    ended-ok-requires
+    (search needs)
+    (search needs)
     returns
-    sizes-ok-requires
+    (search needs)
     returns-2
     returns-3
     row-rest-requires

@@ -20,13 +20,10 @@ returns-3 c =
     saved-some (a .l) (a .c)
     (rw (eq-eqb (a .c .row) 0 (at-if1 .if1 .left), eq-eqb (a .c .frames) 0 (at-if2 .if2 .left), ne-eqb (a .c .regs) 0 (c .if3 .taken)))
 
-largest-ok-requires : tie.Need-largest-ok-requires
-largest-ok-requires c κs = search needs
-
 returns-4 : tie.Need-returns-4
 returns-4 c =
     let at-if3 = c .before in let at-if2 = at-if3 .before .before in let at-if1 = at-if2 .before .before in let a = at-if1 .before .before .args in
     c .largest-ok .ensures ∙ sym (saved-none (a .l) (a .c) (at-if1 .if1 .left) (at-if2 .if2 .left) (at-if3 .if3 .left))
 
 pub ended-ok-spec : {M : Type 1} → statement M
-ended-ok-spec = tie.close (tie.spec returns returns-2 returns-3 largest-ok-requires returns-4)
+ended-ok-spec = tie.close (tie.spec returns returns-2 returns-3 (search needs) returns-4)

@@ -17,9 +17,6 @@ returns-2 c =
     let a = start .args in
     sym (rw (le-leb (a .c .regs) (a .l .width) (at-if1 .if1 .left), lt-leb (a .c .frames) (a .l .depth) (c .if2 .taken)))
 
-largest-ok-requires : tie.Need-largest-ok-requires
-largest-ok-requires c κs = search needs
-
 returns-3 : tie.Need-returns-3
 returns-3 c =
     let at-if2 = c .before in let at-if1 = at-if2 .before .before in let start = at-if1 .before .before in
@@ -27,4 +24,4 @@ returns-3 c =
     c .largest-ok .ensures ∙ sym (rw (le-leb (a .c .regs) (a .l .width) (at-if1 .if1 .left), le-leb (a .c .frames) (a .l .depth) (at-if2 .if2 .left)))
 
 pub sizes-ok-spec : {M : Type 1} → statement M
-sizes-ok-spec = tie.close (tie.spec returns returns-2 largest-ok-requires returns-3)
+sizes-ok-spec = tie.close (tie.spec returns returns-2 (search needs) returns-3)

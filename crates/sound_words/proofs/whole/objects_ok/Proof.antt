@@ -70,9 +70,6 @@ rows-are c g t e =
 mul-rest-ok : tie.Need-mul-rest-ok
 mul-rest-ok c = let start = begun c in omega (arith, start .pre .table, start .good)
 
-rest-ok-requires : tie.Need-rest-ok-requires
-rest-ok-requires c κs = search needs
-
 returns : tie.Need-returns
 returns c =
     let at-rest-ok = c .before in
@@ -117,9 +114,6 @@ mul-rest-ok-2 c =
     let start = begun (c .before .before .before .before .before .before .before .before .before .before) in
     omega (arith, start .pre .on-stack, start .good)
 
-rest-ok-requires-2 : tie.Need-rest-ok-requires-2
-rest-ok-requires-2 c κs = search needs
-
 returns-4 : tie.Need-returns-4
 returns-4 c =
     let at-rest-ok2 = c .before in let at-if3 = at-rest-ok2 .before .before in let at-rows-ok = at-if3 .before in let at-if2 = at-rows-ok .before .before .before in
@@ -139,9 +133,6 @@ mul-rest-ok-4 c =
     let start = begun (c .before .before .before .before .before .before .before .before .before .before .before .before .before .before) in
     omega (arith, start .pre .on-frames, start .good)
 
-rest-ok-requires-3 : tie.Need-rest-ok-requires-3
-rest-ok-requires-3 c κs = search needs
-
 returns-5 : tie.Need-returns-5
 returns-5 c =
     let at-if4 = c .before .before .before in let at-rest-ok2 = at-if4 .before in let at-if3 = at-rest-ok2 .before .before in let at-rows-ok = at-if3 .before in
@@ -156,16 +147,16 @@ objects-ok-spec =
     tie.close
     (tie.spec
     mul-rest-ok
-    rest-ok-requires
+    (search needs)
     returns
     running-requires
     returns-2
     rows-ok-requires
     returns-3
     mul-rest-ok-2
-    rest-ok-requires-2
+    (search needs)
     returns-4
     mul-rest-ok-3
     mul-rest-ok-4
-    rest-ok-requires-3
+    (search needs)
     returns-5)
