@@ -27,6 +27,15 @@ found c =
     ap (RV.At (slot at-known-told)) (c .coro-at .ensures)
     ∙ stands (start .args .m .count) (start .args .slots .now) (start .args .v .0) (slot at-known-told) (sym (told .i .given .1) ∙ placed .coro-place .ensures) .coro
 
+coro-place-requires : tie.Need-coro-place-requires
+coro-place-requires c κs = search needs
+
+enum-told : tie.Need-enum-told
+enum-told c = search needs
+
+enum-known-i : tie.Need-enum-known-i
+enum-known-i c = search needs
+
 coro-at-requires : tie.Need-coro-at-requires
 coro-at-requires c κs =
     let told = c .before in
@@ -34,12 +43,21 @@ coro-at-requires c κs =
     let start = placed .before .before in
     stands-words (start .args .m .count) (start .args .slots .now) (start .args .v .0) (slot c) (sym (told .i .given .1) ∙ placed .coro-place .ensures) (start .pre .table)
 
+is-suspended-requires : tie.Need-is-suspended-requires
+is-suspended-requires c κs = search needs
+
 returns : tie.Need-returns
 returns c =
     let asked = c .before in let read = asked .before in let at-known-told = read .before in
     let start = at-known-told .before .before .before .before .before in
     starts-awake (start .args .slots .now) (start .args .m) (start .args .l) (start .args .v .0) (slot at-known-told) (read .coro-at .result) (found read)
     (sym (asked .is-suspended .ensures) ∙ not-true _ (c .if1 .taken))
+
+refusal-requires : tie.Need-refusal-requires
+refusal-requires c κs = search needs
+
+number-requires : tie.Need-number-requires
+number-requires c κs = search needs
 
 returns-2 : tie.Need-returns-2
 returns-2 c =
@@ -60,13 +78,13 @@ pub may-start-spec : {M : Type 1} → statement M
 may-start-spec =
     tie.close
     (tie.spec
-    (search needs)
-    (search needs)
-    (search needs)
+    coro-place-requires
+    enum-told
+    enum-known-i
     coro-at-requires
-    (search needs)
+    is-suspended-requires
     returns
-    (search needs)
-    (search needs)
+    refusal-requires
+    number-requires
     returns-2
     returns-3)

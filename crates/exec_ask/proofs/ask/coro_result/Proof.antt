@@ -17,12 +17,30 @@ use Rattle.exec_ask.proofs.ask.coro_result.Tie as tie
 abbrev start-of : tie.After-reg → tie.Start
 start-of c = c .before .before .before .before .before
 
+reg-requires : tie.Need-reg-requires
+reg-requires c κs = search needs
+
+coro-place-requires : tie.Need-coro-place-requires
+coro-place-requires c κs = search needs
+
+enum-known-f : tie.Need-enum-known-f
+enum-known-f c = search needs
+
+enum-known-i : tie.Need-enum-known-i
+enum-known-i c = search needs
+
 state-at-requires : tie.Need-state-at-requires
 state-at-requires c κs =
     let at-i = c .before in let at-coro-place = at-i .before .before in let at-reg = at-coro-place .before in
     let start = start-of at-reg in
     stands-words (start .args .m .count) (start .args .slots .now) (at-reg .reg .result) (at-i .i .given .0 .0)
     (sym (at-i .i .given .1) ∙ at-coro-place .coro-place .ensures) (start .pre .table)
+
+is-returned-requires : tie.Need-is-returned-requires
+is-returned-requires c κs = search needs
+
+same-length : tie.Need-same-length
+same-length c = search needs
 
 returns : tie.Need-returns
 returns c =
@@ -43,6 +61,12 @@ result-at-requires c κs =
     stands-words (start .args .m .count) (start .args .slots .now) (at-reg .reg .result) (at-i .i .given .0 .0)
     (sym (at-i .i .given .1) ∙ at-coro-place .coro-place .ensures) (start .pre .table)
 
+put-requires : tie.Need-put-requires
+put-requires c κs = search needs
+
+same-length-2 : tie.Need-same-length-2
+same-length-2 c = search needs
+
 returns-2 : tie.Need-returns-2
 returns-2 c =
     let at-f = c .before in let at-coro-place = at-f .before .before in let at-reg = at-coro-place .before in
@@ -50,6 +74,9 @@ returns-2 c =
     λ l w b rep. let M = topTable (start .args .stack .now) (start .args .frames .now) (start .args .slots .now) plain b in
     result-refused l M (start .args .m) (b .fuel) w (start .args .dst) (start .args .c) (at-reg .reg .result) (at-reg .reg .ensures (w .stack) (w .frames) (rep .stack) (rep .frames) .is) _
     (named-none l M (start .args .m) (b .fuel) (at-reg .reg .result) w rep _ (sym (at-f .f .given .1) ∙ at-coro-place .coro-place .ensures)) rep
+
+same-length-3 : tie.Need-same-length-3
+same-length-3 c = search needs
 
 returns-3 : tie.Need-returns-3
 returns-3 c =
@@ -70,17 +97,17 @@ pub coro-result-spec : {M : Type 1} → statement M
 coro-result-spec =
     tie.close
     (tie.spec
-    (search needs)
-    (search needs)
-    (search needs)
-    (search needs)
+    reg-requires
+    coro-place-requires
+    enum-known-f
+    enum-known-i
     state-at-requires
-    (search needs)
-    (search needs)
+    is-returned-requires
+    same-length
     returns
     result-at-requires
-    (search needs)
-    (search needs)
+    put-requires
+    same-length-2
     returns-2
-    (search needs)
+    same-length-3
     returns-3)
