@@ -1,5 +1,5 @@
 -- THE CLAIM OVER LENT WORDS: all that is promised of an engine (claims/specs/Promise.antt) is promised of outer calls on lent words,
--- for slices of any length, whatever they held before the set-up; and what it says of the caller's stack slice, in its words.
+-- from every state, in slices of any length, whatever they hold; and what it says of the caller's stack slice, in its words.
 use Prim.Native.Nat.{ℕ, _+_, _-_}
 use mathlib.Core.Path.{_≡_}
 use mathlib.Core.Bool.{true, false}
