@@ -44,11 +44,11 @@ some-frame [] e = no-true e
 some-frame (f ∷ fs) e = omega arith
 
 -- an arm's outcome, by the operation
-pub as-arm : (l : Sizes) (M : Lent) (m : Machine) (f : Fuel) (w : World) (o x : Op) (a : Step) (pc : ℕ) (operands : World → Bool) (arm : World → After Step)
+pub as-arm : {l : Sizes} {M : Lent} {m : Machine} {f : Fuel} {w : World} {o x : Op} {a : Step} {pc : ℕ} {operands : World → Bool} {arm : World → After Step}
     → table o ≡ Instruction pc operands arm → o ≡ x → Does l (armOf (table x) w) M m f a → Does l (arm w) M m f a
-as-arm l M m f w o x a pc operands arm q e d = subst (λ g. Does l (g w) M m f a) (ap armOf (sym (ap table e) ∙ q)) d
+as-arm {l} {M} {m} {f} {w} {o} {x} {a} q e d = subst (λ g. Does l (g w) M m f a) (ap armOf (sym (ap table e) ∙ q)) d
 
-module _ (l : Sizes) (s f c o r q u : List ℕ) (m : Machine) (fuel : Fuel) (op : Op) (p : Past l (sixSetup s f c o r q u plain) m fuel op) where
+module _ {l : Sizes} {s f c o r q u : List ℕ} {m : Machine} {fuel : Fuel} {op : Op} (p : Past l (sixSetup s f c o r q u plain) m fuel op) where
   abbrev w : World
   w = p .ok .world
 
@@ -92,14 +92,14 @@ module _ (l : Sizes) (s f c o r q u : List ℕ) (m : Machine) (fuel : Fuel) (op 
       let ks = dst ∷ k ∷ src ∷ [] in
       record { ok = six-ok; narrow = n; coro = regs-in ks 1 t (omega arith); sent = regs-in ks 2 t (omega arith) }
 
-  pub resume-fits : (pc dst k src : ℕ) → op ≡ Op.Resume pc dst k src → ResumeFits l s f c o r q m pc k src
-  resume-fits pc dst k src e = resuming pc dst k src (p .passed _ _ _ (ap table e)) (p .narrow _ _ _ (ap table e))
+  pub resume-fits : {pc dst k src : ℕ} → op ≡ Op.Resume pc dst k src → ResumeFits l s f c o r q m pc k src
+  resume-fits {pc} {dst} {k} {src} e = resuming pc dst k src (p .passed _ _ _ (ap table e)) (p .narrow _ _ _ (ap table e))
 
-  pub throw-fits : (pc dst k src : ℕ) → op ≡ Op.ResumeThrow pc dst k src → ResumeFits l s f c o r q m pc k src
-  throw-fits pc dst k src e = resuming pc dst k src (p .passed _ _ _ (ap table e)) (p .narrow _ _ _ (ap table e))
+  pub throw-fits : {pc dst k src : ℕ} → op ≡ Op.ResumeThrow pc dst k src → ResumeFits l s f c o r q m pc k src
+  throw-fits {pc} {dst} {k} {src} e = resuming pc dst k src (p .passed _ _ _ (ap table e)) (p .narrow _ _ _ (ap table e))
 
-  pub close-fits : (pc dst k src : ℕ) → op ≡ Op.CoroClose pc dst k src → CloseFits l s f c o r q m pc dst k src
-  close-fits pc dst k src e =
+  pub close-fits : {pc dst k src : ℕ} → op ≡ Op.CoroClose pc dst k src → CloseFits l s f c o r q m pc dst k src
+  close-fits {pc} {dst} {k} {src} e =
       let ks = dst ∷ k ∷ src ∷ [] in
       record {
         ok = six-ok;
@@ -109,8 +109,8 @@ module _ (l : Sizes) (s f c o r q u : List ℕ) (m : Machine) (fuel : Fuel) (op 
         signal = regs-in ks 2 (p .passed _ _ _ (ap table e)) (omega arith);
       }
 
-  pub next-fits : (pc has iter val src : ℕ) → op ≡ Op.IterNext pc has iter val src → NextFits l s f c o r q m pc has iter src
-  next-fits pc has iter val src e =
+  pub next-fits : {pc has iter val src : ℕ} → op ≡ Op.IterNext pc has iter val src → NextFits l s f c o r q m pc has iter src
+  next-fits {pc} {has} {iter} {val} {src} e =
       let ks = has ∷ iter ∷ val ∷ src ∷ [] in
       record {
         ok = six-ok;
@@ -123,18 +123,18 @@ module _ (l : Sizes) (s f c o r q u : List ℕ) (m : Machine) (fuel : Fuel) (op 
   yielding : (pc dst src : ℕ) (ks : List ℕ) → allIn (dst ∷ src ∷ ks) w ≡ true → pc < 2 ^ 32 → YieldFits l s f c o r q m pc src
   yielding pc dst src ks t n = record { ok = six-ok; narrow = n; sent = regs-in (dst ∷ src ∷ ks) 1 t (omega arith) }
 
-  pub yield-fits : (pc dst src : ℕ) → op ≡ Op.Yield pc dst src → YieldFits l s f c o r q m pc src
-  yield-fits pc dst src e = yielding pc dst src [] (p .passed _ _ _ (ap table e)) (p .narrow _ _ _ (ap table e))
+  pub yield-fits : {pc dst src : ℕ} → op ≡ Op.Yield pc dst src → YieldFits l s f c o r q m pc src
+  yield-fits {pc} {dst} {src} e = yielding pc dst src [] (p .passed _ _ _ (ap table e)) (p .narrow _ _ _ (ap table e))
 
-  pub await-fits : (pc dst src : ℕ) → op ≡ Op.Await pc dst src → YieldFits l s f c o r q m pc src
-  await-fits pc dst src e = yielding pc dst src [] (p .passed _ _ _ (ap table e)) (p .narrow _ _ _ (ap table e))
+  pub await-fits : {pc dst src : ℕ} → op ≡ Op.Await pc dst src → YieldFits l s f c o r q m pc src
+  await-fits {pc} {dst} {src} e = yielding pc dst src [] (p .passed _ _ _ (ap table e)) (p .narrow _ _ _ (ap table e))
 
-  pub kv-fits : (pc dst src key : ℕ) → op ≡ Op.YieldKv pc dst src key → YieldKvFits l s f c o r q m pc src key
-  kv-fits pc dst src key e =
+  pub kv-fits : {pc dst src key : ℕ} → op ≡ Op.YieldKv pc dst src key → YieldKvFits l s f c o r q m pc src key
+  kv-fits {pc} {dst} {src} {key} e =
       record { plain = yielding pc dst src (key ∷ []) (p .passed _ _ _ (ap table e)) (p .narrow _ _ _ (ap table e)); named = regs-in (dst ∷ src ∷ key ∷ []) 2 (p .passed _ _ _ (ap table e)) (omega arith) }
 
-  pub new-fits : (pc dst g argc : ℕ) → op ≡ Op.CoroNew pc dst g argc → argc ≤ 255 → NewFits l s f o r q u m dst g argc
-  new-fits pc dst g argc e few =
+  pub new-fits : {pc dst g argc : ℕ} → op ≡ Op.CoroNew pc dst g argc → argc ≤ 255 → NewFits l s f o r q u m dst g argc
+  new-fits {pc} {dst} {g} {argc} e few =
       let t = p .passed _ _ _ (ap table e) in
       let both = and-left (inFrame w dst && windowIn w dst argc) (isFunction (w .setup) g) t in
       record {
@@ -157,25 +157,25 @@ module _ (l : Sizes) (s f c o r q u : List ℕ) (m : Machine) (fuel : Fuel) (op 
         window = window-fits dst argc (and-right (allIn ks w) (windowIn w dst argc) t);
       }
 
-  pub indirect-fits : (pc dst callee argc : ℕ) → op ≡ Op.CoroNewIndirect pc dst callee argc → argc ≤ 255 → IndirectFits l s f o r q u m dst callee argc
-  indirect-fits pc dst callee argc e few = calling dst callee argc (p .passed _ _ _ (ap table e)) few
+  pub indirect-fits : {pc dst callee argc : ℕ} → op ≡ Op.CoroNewIndirect pc dst callee argc → argc ≤ 255 → IndirectFits l s f o r q u m dst callee argc
+  indirect-fits {pc} {dst} {callee} {argc} e few = calling dst callee argc (p .passed _ _ _ (ap table e)) few
 
-  pub spawn-fits : (pc dst callee argc : ℕ) → op ≡ Op.Spawn pc dst callee argc → argc ≤ 255 → SpawnFits l s f o r q u m pc dst callee argc
-  spawn-fits pc dst callee argc e few = record { indirect = calling dst callee argc (p .passed _ _ _ (ap table e)) few; narrow = p .narrow _ _ _ (ap table e) }
+  pub spawn-fits : {pc dst callee argc : ℕ} → op ≡ Op.Spawn pc dst callee argc → argc ≤ 255 → SpawnFits l s f o r q u m pc dst callee argc
+  spawn-fits {pc} {dst} {callee} {argc} e few = record { indirect = calling dst callee argc (p .passed _ _ _ (ap table e)) few; narrow = p .narrow _ _ _ (ap table e) }
 
   asking : (dst k : ℕ) → allIn (dst ∷ k ∷ []) w ≡ true → AskFits s f o m dst k
   asking dst k t =
       let ks = dst ∷ k ∷ [] in
       record { table = p .ok .rep .slots .within; result = regs-in ks 0 t (omega arith); coro = regs-in ks 1 t (omega arith) }
 
-  pub status-fits : (pc dst k : ℕ) → op ≡ Op.CoroStatus pc dst k → AskFits s f o m dst k
-  status-fits pc dst k e = asking dst k (p .passed _ _ _ (ap table e))
+  pub status-fits : {pc dst k : ℕ} → op ≡ Op.CoroStatus pc dst k → AskFits s f o m dst k
+  status-fits {pc} {dst} {k} e = asking dst k (p .passed _ _ _ (ap table e))
 
-  pub key-fits : (pc dst k : ℕ) → op ≡ Op.CoroKey pc dst k → AskFits s f o m dst k
-  key-fits pc dst k e = asking dst k (p .passed _ _ _ (ap table e))
+  pub key-fits : {pc dst k : ℕ} → op ≡ Op.CoroKey pc dst k → AskFits s f o m dst k
+  key-fits {pc} {dst} {k} e = asking dst k (p .passed _ _ _ (ap table e))
 
-  pub result-fits : (pc dst k : ℕ) → op ≡ Op.CoroResult pc dst k → AskFits s f o m dst k
-  result-fits pc dst k e = asking dst k (p .passed _ _ _ (ap table e))
+  pub result-fits : {pc dst k : ℕ} → op ≡ Op.CoroResult pc dst k → AskFits s f o m dst k
+  result-fits {pc} {dst} {k} e = asking dst k (p .passed _ _ _ (ap table e))
 
-  pub current-fits : (pc dst : ℕ) → op ≡ Op.CoroCurrent pc dst → CurrentFits s f c m dst
-  current-fits pc dst e = record { running = p .ok .rep .chain .within; result = regs-in (dst ∷ []) 0 (p .passed _ _ _ (ap table e)) (omega arith) }
+  pub current-fits : {pc dst : ℕ} → op ≡ Op.CoroCurrent pc dst → CurrentFits s f c m dst
+  current-fits {pc} {dst} e = record { running = p .ok .rep .chain .within; result = regs-in (dst ∷ []) 0 (p .passed _ _ _ (ap table e)) (omega arith) }

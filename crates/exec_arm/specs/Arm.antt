@@ -23,3 +23,16 @@ pub record Past (l : Sizes) (M : Beside → Lent) (m : Machine) (fuel : Fuel) (o
   pub some : isNil (ok .world .frames) ≡ false
   pub passed : OfInstruction o (λ pc operands arm. operands (ok .world) ≡ true)
   pub narrow : OfInstruction o (λ pc operands arm. pc < 2 ^ 32)
+
+-- ---- the arms stand in three groups, each of which passes on what is none of its own
+
+pub data Suspending : Op → Type 0 where
+  yields : (pc dst src : ℕ) → Suspending (Op.Yield pc dst src)
+  yields-kv : (pc dst src key : ℕ) → Suspending (Op.YieldKv pc dst src key)
+  awaits : (pc dst src : ℕ) → Suspending (Op.Await pc dst src)
+
+pub data Entering : Op → Type 0 where
+  resumes : (pc dst coro src : ℕ) → Entering (Op.Resume pc dst coro src)
+  throws : (pc dst coro src : ℕ) → Entering (Op.ResumeThrow pc dst coro src)
+  closes : (pc dst coro src : ℕ) → Entering (Op.CoroClose pc dst coro src)
+  draws : (pc has iter val src : ℕ) → Entering (Op.IterNext pc has iter val src)

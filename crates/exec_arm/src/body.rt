@@ -2,17 +2,7 @@
 ghost use Rattle.exec_arm.specs.Arm.{Past, OfInstruction};
 ghost use Rattle.memory.specs.Lendings.{sixSetup};
 ghost use Rattle.memory.specs.Contract.{Met, ifSound, with};
-use exec_ask::ask::coro_current;
-use exec_ask::ask::coro_key;
-use exec_ask::ask::coro_result;
-use exec_ask::ask::coro_status;
-use exec_close::close::coro_close;
-use exec_enter::resume::resume;
-use exec_enter::throw::resume_throw;
-use exec_iter::iter::iter_next;
-use exec_make::indirect::coro_new_indirect;
-use exec_make::new::coro_new;
-use exec_make::spawn::spawn;
+use crate::entering::entering;
 use exec_yield::yielding::coro_await;
 use exec_yield::yielding::coro_yield;
 use exec_yield::yielding::yield_kv;
@@ -20,7 +10,6 @@ use machine::step::Stepped;
 use memory::machine::Machine;
 use memory::machine::Sizes;
 use model::call::Op;
-use model::exec::Step;
 use model::machine::Fuel;
 
 // The arm of an instruction; nothing is said of another call.
@@ -84,167 +73,10 @@ pub fn body(
             dst as u64,
             src as u64,
         ),
-        Op::Resume { pc, dst, coro, src } => {
-            let did = resume(
-                stack,
-                frames,
-                chain,
-                slots,
-                saved_stack,
-                saved_frames,
-                m,
-                l,
-                pc as u64,
-                dst as u64,
-                coro as u64,
-                src as u64,
-            );
-            let machine = did.machine;
-            let step = did.step;
-            Stepped {
-                machine,
-                fuel,
-                step,
-            }
-        }
-        Op::ResumeThrow { pc, dst, coro, src } => {
-            let did = resume_throw(
-                stack,
-                frames,
-                chain,
-                slots,
-                saved_stack,
-                saved_frames,
-                m,
-                l,
-                pc as u64,
-                dst as u64,
-                coro as u64,
-                src as u64,
-            );
-            let machine = did.machine;
-            let step = did.step;
-            Stepped {
-                machine,
-                fuel,
-                step,
-            }
-        }
-        Op::CoroClose { pc, dst, coro, src } => {
-            let did = coro_close(
-                stack,
-                frames,
-                chain,
-                slots,
-                saved_stack,
-                saved_frames,
-                m,
-                l,
-                pc as u64,
-                dst as u64,
-                coro as u64,
-                src as u64,
-            );
-            let machine = did.machine;
-            let step = did.step;
-            Stepped {
-                machine,
-                fuel,
-                step,
-            }
-        }
-        Op::IterNext {
-            pc,
-            has,
-            iter,
-            val,
-            src,
-        } => {
-            let did = iter_next(
-                stack,
-                frames,
-                chain,
-                slots,
-                saved_stack,
-                saved_frames,
-                m,
-                l,
-                pc as u64,
-                has as u64,
-                iter as u64,
-                val as u64,
-                src as u64,
-            );
-            let machine = did.machine;
-            let step = did.step;
-            Stepped {
-                machine,
-                fuel,
-                step,
-            }
-        }
-        Op::CoroNew {
-            pc: _,
-            dst,
-            func,
-            argc,
-        } => {
-            let did = coro_new(
-                stack,
-                frames,
-                slots,
-                saved_stack,
-                saved_frames,
-                setup,
-                m,
-                l,
-                dst as u64,
-                func as u64,
-                argc as u64,
-            );
-            let machine = did.machine;
-            let step = did.step;
-            Stepped {
-                machine,
-                fuel,
-                step,
-            }
-        }
-        Op::CoroNewIndirect {
-            pc: _,
-            dst,
-            callee,
-            argc,
-        } => {
-            let did = coro_new_indirect(
-                stack,
-                frames,
-                slots,
-                saved_stack,
-                saved_frames,
-                setup,
-                m,
-                l,
-                dst as u64,
-                callee as u64,
-                argc as u64,
-            );
-            let machine = did.machine;
-            let step = did.step;
-            Stepped {
-                machine,
-                fuel,
-                step,
-            }
-        }
-        Op::Spawn {
-            pc,
-            dst,
-            callee,
-            argc,
-        } => spawn(
+        _ => entering(
             stack,
             frames,
+            chain,
             slots,
             saved_stack,
             saved_frames,
@@ -252,47 +84,7 @@ pub fn body(
             m,
             l,
             fuel,
-            pc as u64,
-            dst as u64,
-            callee as u64,
-            argc as u64,
+            op,
         ),
-        Op::CoroStatus { pc: _, dst, coro } => {
-            let step = coro_status(stack, frames, slots, m, dst as u64, coro as u64);
-            Stepped {
-                machine: m,
-                fuel,
-                step,
-            }
-        }
-        Op::CoroCurrent { pc: _, dst } => {
-            let step = coro_current(stack, frames, chain, m, dst as u64);
-            Stepped {
-                machine: m,
-                fuel,
-                step,
-            }
-        }
-        Op::CoroKey { pc: _, dst, coro } => {
-            let step = coro_key(stack, frames, slots, m, dst as u64, coro as u64);
-            Stepped {
-                machine: m,
-                fuel,
-                step,
-            }
-        }
-        Op::CoroResult { pc: _, dst, coro } => {
-            let step = coro_result(stack, frames, slots, m, dst as u64, coro as u64);
-            Stepped {
-                machine: m,
-                fuel,
-                step,
-            }
-        }
-        _ => Stepped {
-            machine: m,
-            fuel,
-            step: Step::Next,
-        },
     }
 }

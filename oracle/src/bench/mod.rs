@@ -346,6 +346,11 @@ pub(crate) fn goals(processes: usize) -> Result<(), String> {
         lines += &String::from_utf8_lossy(&ran.stdout);
     }
     let rows: Vec<Vec<&str>> = lines.lines().map(|l| l.split('\t').collect()).collect();
+    if let (true, [Some(one), Some(four)]) =
+        (callgrind(), [0, 1].map(|i| instructions(i, "original")))
+    {
+        println!("The original so compiled takes {one:.0} / {four:.0} instructions.\n");
+    }
     println!("| 1 frame of 4 registers / 4 frames of 64 | at most | leasts | medians | |");
     println!("|---|---|---|---|---|");
     for (engine, shown, most) in GOALS {

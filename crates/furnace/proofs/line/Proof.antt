@@ -85,5 +85,5 @@ line-spec =
     same-length-7
     same-length-8
     same-length-9
-    (search needs)
+    (λ c. search needs)
     returns)

@@ -10,4 +10,4 @@ returns c =
     λ w b rep snd. function-called (start .args .l) _ _ (b .fuel) w _ _ (start .args .pc) (start .args .f) (start .args .cont) (c .pushed-as .ensures) (at-push-at .push-at .ensures w b rep snd)
 
 pub function-call-spec : {M : Type 1} → statement M
-function-call-spec = tie.close (tie.spec (search needs) (search needs) (search needs) returns)
+function-call-spec = tie.close (tie.spec (λ c κs. search needs) (λ c κs. search needs) (λ c. search needs) returns)

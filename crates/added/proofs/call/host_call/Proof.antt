@@ -10,4 +10,4 @@ returns c =
     λ w b rep snd. host-called (start .args .l) _ _ (b .fuel) w _ _ (start .args .f) (c .pushed-as .ensures) (at-push-frame .push-frame .ensures w b rep snd)
 
 pub host-call-spec : {M : Type 1} → statement M
-host-call-spec = tie.close (tie.spec (search needs) (search needs) (search needs) returns)
+host-call-spec = tie.close (tie.spec (λ c κs. search needs) (λ c κs. search needs) (λ c. search needs) returns)

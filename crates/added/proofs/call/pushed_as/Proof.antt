@@ -12,4 +12,4 @@ returns-2 : tie.Need-returns-2
 returns-2 c = λ w u. sym (ap (λ x. pushedOr w u x .answer) (c .before .a .given .1))
 
 pub pushed-as-spec : {M : Type 1} → statement M
-pushed-as-spec = tie.close (tie.spec (search needs) (search needs) returns returns-2)
+pushed-as-spec = tie.close (tie.spec (λ c. search needs) (λ c. search needs) returns returns-2)

@@ -10,4 +10,4 @@ returns c =
     λ l w b rep. word-put l _ _ (b .fuel) w (start .args .r) (start .args .v) (at-put .put .ensures l w b rep)
 
 pub put-word-spec : {M : Type 1} → statement M
-put-word-spec = tie.close (tie.spec (search needs) (search needs) returns)
+put-word-spec = tie.close (tie.spec (λ c κs. search needs) (λ c. search needs) returns)

@@ -16,4 +16,4 @@ returns-3 c = λ v w. sym (ap (λ x. hostArrive v w x .answer) (c .before .a .gi
 
 pub entered-as-spec : {M : Type 1} → statement M
 entered-as-spec =
-    tie.close (tie.spec (search needs) (search needs) (search needs) returns returns-2 returns-3)
+    tie.close (tie.spec (λ c. search needs) (λ c. search needs) (λ c. search needs) returns returns-2 returns-3)

@@ -35,13 +35,13 @@ pub host-entry-spec : {M : Type 1} → statement M
 host-entry-spec =
     tie.close
     (tie.spec
-    (search needs)
+    (λ c κs. search needs)
     arrive-requires
-    (search needs)
-    (search needs)
-    (search needs)
-    (search needs)
-    (search needs)
-    (search needs)
-    (search needs)
+    (λ c κs. search needs)
+    (λ c. search needs)
+    (λ c. search needs)
+    (λ c. search needs)
+    (λ c. search needs)
+    (λ c. search needs)
+    (λ c. search needs)
     returns)

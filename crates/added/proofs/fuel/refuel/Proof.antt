@@ -17,4 +17,4 @@ returns-2 c =
     sym (ap (λ b. refuel b (start .args .n) (start .args .f)) (c .enum-told2 .given .1))
 
 pub refuel-spec : {M : Type 1} → statement M
-refuel-spec = tie.close (tie.spec (search needs) (search needs) returns returns-2)
+refuel-spec = tie.close (tie.spec (λ c. search needs) (λ c. search needs) returns returns-2)

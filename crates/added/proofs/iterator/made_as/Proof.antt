@@ -12,4 +12,4 @@ returns-2 : tie.Need-returns-2
 returns-2 c = λ w. sym (ap (λ x. answerMade w x .answer) (c .before .a2 .given .1))
 
 pub made-as-spec : {M : Type 1} → statement M
-made-as-spec = tie.close (tie.spec (search needs) (search needs) returns returns-2)
+made-as-spec = tie.close (tie.spec (λ c. search needs) (λ c. search needs) returns returns-2)

@@ -32,4 +32,4 @@ returns-2 c =
 pub look-spec : {M : Type 1} → statement M
 look-spec =
     tie.close
-    (tie.spec returns (search needs) (search needs) returns-2)
+    (tie.spec returns (λ c. search needs) (λ c κs. search needs) returns-2)

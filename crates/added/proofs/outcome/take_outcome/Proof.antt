@@ -10,4 +10,4 @@ returns c =
     λ l w b rep. taken l (b .words) (start .args .m) _ (b .fuel) w _ rep (c .untold .ensures) (at-outcome-in .outcome-in .ensures)
 
 pub take-outcome-spec : {M : Type 1} → statement M
-take-outcome-spec = tie.close (tie.spec (search needs) (search needs) returns)
+take-outcome-spec = tie.close (tie.spec (λ c κs. search needs) (λ c κs. search needs) returns)

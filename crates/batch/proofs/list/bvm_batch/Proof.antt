@@ -149,9 +149,9 @@ pub bvm-batch-spec : {M : Type 1} → statement M
 bvm-batch-spec =
     tie.close
     (tie.spec
-    (search needs)
+    (λ c κs. search needs)
     returns
-    (search needs)
+    (λ c κs. search needs)
     refuse-list-requires
     same-length
     same-length-2

@@ -69,13 +69,13 @@ pub general-at-spec : {M : Type 1} → statement M
 general-at-spec =
     tie.close
     (tie.spec
-    (search needs)
-    (search needs)
-    (search needs)
-    (search needs)
-    (search needs)
-    (search needs)
-    (search needs)
+    (λ c. search needs)
+    (λ c. search needs)
+    (λ c. search needs)
+    (λ c. search needs)
+    (λ c. search needs)
+    (λ c. search needs)
+    (λ c. search needs)
     bvm-kept-requires
     same-length
     same-length-2
@@ -87,5 +87,5 @@ general-at-spec =
     same-length-8
     same-length-9
     same-length-10
-    (search needs)
+    (λ c. search needs)
     returns)

@@ -21,12 +21,12 @@ pub goes-on-at-spec : {M : Type 1} → statement M
 goes-on-at-spec =
     tie.close
     (tie.spec
-    (search needs)
-    (search needs)
-    (search needs)
-    (search needs)
-    (search needs)
-    (search needs)
+    (λ c. search needs)
+    (λ c. search needs)
+    (λ c. search needs)
+    (λ c. search needs)
+    (λ c. search needs)
+    (λ c. search needs)
     goes-on-requires
-    (search needs)
+    (λ c. search needs)
     returns)

@@ -255,8 +255,8 @@ pub one-spec : {M : Type 1} → statement M
 one-spec =
     tie.close
     (tie.spec
-    (search needs)
-    (search needs)
+    (λ c. search needs)
+    (λ c. search needs)
     put-at-requires
     same-length
     returns
@@ -266,12 +266,12 @@ one-spec =
     word-requires-4
     word-requires-5
     word-requires-6
-    (search needs)
-    (search needs)
+    (λ c. search needs)
+    (λ c. search needs)
     resume-call-requires
-    (search needs)
+    (λ c. search needs)
     yield-call-requires
-    (search needs)
+    (λ c. search needs)
     general-at-requires
     same-length-2
     same-length-3

@@ -152,10 +152,10 @@ resume-call-spec =
     (tie.spec
     slice-read-may-enter
     may-enter-requires
-    (search needs)
+    (λ c. search needs)
     resume-at-requires
     goes-on-at-requires
-    (search needs)
+    (λ c. search needs)
     general-at-requires
     same-length
     same-length-2

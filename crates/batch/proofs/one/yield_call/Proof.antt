@@ -151,10 +151,10 @@ yield-call-spec =
     (tie.spec
     slice-read-may-leave
     may-leave-requires
-    (search needs)
+    (λ c. search needs)
     yield-at-requires
     goes-on-at-requires
-    (search needs)
+    (λ c. search needs)
     general-at-requires
     same-length
     same-length-2

@@ -144,6 +144,6 @@ pub do-call-spec : {M : Type 1} → statement M
 do-call-spec =
     tie.close
     (tie.spec
-    tell-requires same-length returns machine-of-requires sizes-of-requires fuel-of-requires (search needs) do-read-requires put-machine-requires
+    tell-requires same-length returns machine-of-requires sizes-of-requires fuel-of-requires (λ c κs. search needs) do-read-requires put-machine-requires
     put-fuel-requires tell-requires-2 same-length-2 same-length-3 same-length-4 same-length-5 same-length-6 same-length-7 same-length-8 same-length-9
     same-length-10 same-length-11 same-length-12 returns-2)

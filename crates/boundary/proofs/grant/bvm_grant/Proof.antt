@@ -30,4 +30,4 @@ returns-2 : tie.Need-returns-2
 returns-2 c = c .before .before .before .before .do-grant .ensures
 
 pub bvm-grant-spec : {M : Type 1} → statement M
-bvm-grant-spec = tie.close (tie.spec returns (search needs) do-grant-requires same-length same-length-2 returns-2)
+bvm-grant-spec = tie.close (tie.spec returns (λ c κs. search needs) do-grant-requires same-length same-length-2 returns-2)

@@ -150,6 +150,6 @@ pub do-run-spec : {M : Type 1} → statement M
 do-run-spec =
     tie.close
     (tie.spec
-    (search needs) returns refuse-list-requires same-length returns-2 machine-of-requires fuel-of-requires run-known-requires put-machine-requires
+    (λ c κs. search needs) returns refuse-list-requires same-length returns-2 machine-of-requires fuel-of-requires run-known-requires put-machine-requires
     put-fuel-requires same-length-2 same-length-3 same-length-4 same-length-5 same-length-6 same-length-7 same-length-8 same-length-9 same-length-10
     same-length-11 same-length-12 returns-3)

@@ -61,4 +61,4 @@ returns-3 c =
     not-looked (of start) (start .args .span .now) (test .before .if1 .left) (test .tested .result) (test .tested .ensures) (at .place-in .result) (at .place-in .ensures) (c .if2 .left)
 
 pub bvm-look-spec : {M : Type 1} → statement M
-bvm-look-spec = tie.close (tie.spec returns (search needs) place-in-requires slice-write-span slice-write-span-2 (search needs) returns-2 (search needs) returns-3)
+bvm-look-spec = tie.close (tie.spec returns (λ c κs. search needs) place-in-requires slice-write-span slice-write-span-2 (λ c. search needs) returns-2 (λ c. search needs) returns-3)

@@ -21,10 +21,10 @@ pub put-fuel-spec : {M : Type 1} → statement M
 put-fuel-spec =
     tie.close
     (tie.spec
-    (search needs)
-    (search needs)
+    (λ c κs. search needs)
+    (λ c. search needs)
     slice-write-ws-2
     slice-write-ws-3
-    (search needs)
-    (search needs)
+    (λ c. search needs)
+    (λ c. search needs)
     returns)

@@ -55,13 +55,13 @@ pub put-machine-spec : {M : Type 1} → statement M
 put-machine-spec =
     tie.close
     (tie.spec
-    (search needs)
+    (λ c. search needs)
     slice-write-ws-2
     slice-write-ws-3
     slice-write-ws-4
     slice-write-ws-5
     slice-write-ws-6
-    (search needs)
+    (λ c. search needs)
     slice-write-ws-7
     slice-write-ws-8
     slice-write-ws-9

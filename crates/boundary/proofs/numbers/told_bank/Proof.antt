@@ -13,4 +13,4 @@ returns-2 : tie.Need-returns-2
 returns-2 c = sym (ap (λ b. bankWords b (flag (c .before .before .before .args .ready))) (c .before .bank .given .1))
 
 pub told-bank-spec : {M : Type 1} → statement M
-told-bank-spec = tie.close (tie.spec (search needs) (search needs) (search needs) (search needs) returns returns-2)
+told-bank-spec = tie.close (tie.spec (λ c. search needs) (λ c. search needs) (λ c. search needs) (λ c. search needs) returns returns-2)

@@ -13,4 +13,4 @@ returns-2 : tie.Need-returns-2
 returns-2 c = sym (ap oneOr (sym (c .before .tested .ensures) ∙ c .if1 .left) ∙ pick-false 1 0)
 
 pub bvm-sound-spec : {M : Type 1} → statement M
-bvm-sound-spec = tie.close (tie.spec (search needs) returns returns-2)
+bvm-sound-spec = tie.close (tie.spec (λ c κs. search needs) returns returns-2)

@@ -103,4 +103,4 @@ returns-7 c =
     ))
 
 pub numbers-ok-spec : {M : Type 1} → statement M
-numbers-ok-spec = tie.close (tie.spec returns returns-2 (search needs) returns-3 (search needs) returns-4 (search needs) returns-5 (search needs) returns-6 (search needs) returns-7)
+numbers-ok-spec = tie.close (tie.spec returns returns-2 (λ c. search needs) returns-3 (λ c. search needs) returns-4 (λ c. search needs) returns-5 (λ c. search needs) returns-6 (λ c. search needs) returns-7)

@@ -15,4 +15,4 @@ returns : tie.Need-returns
 returns c = c .same-sizes .ensures ∙ ap₂ sameSizes (c .before .before .sizes-of .ensures) (c .before .sizes .ensures .words)
 
 pub sizes-held-spec : {M : Type 1} → statement M
-sizes-held-spec = tie.close (tie.spec sizes-of-requires sizes-requires (search needs) returns)
+sizes-held-spec = tie.close (tie.spec sizes-of-requires sizes-requires (λ c κs. search needs) returns)

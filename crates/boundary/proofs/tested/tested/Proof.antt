@@ -71,4 +71,4 @@ returns-3 c =
     ∙ not-false _ (at-if2 .if2 .left))
 
 pub tested-spec : {M : Type 1} → statement M
-tested-spec = tie.close (tie.spec (search needs) returns machine-of-requires fuel-of-requires (search needs) returns-2 sizes-held-requires returns-3)
+tested-spec = tie.close (tie.spec (λ c κs. search needs) returns machine-of-requires fuel-of-requires (λ c κs. search needs) returns-2 sizes-held-requires returns-3)

@@ -12,4 +12,4 @@ returns-2 : tie.Need-returns-2
 returns-2 c = sym (ap exitWords (c .before .v .given .1))
 
 pub exit-words-spec : {M : Type 1} → statement M
-exit-words-spec = tie.close (tie.spec (search needs) (search needs) returns returns-2)
+exit-words-spec = tie.close (tie.spec (λ c. search needs) (λ c. search needs) returns returns-2)

@@ -42,8 +42,8 @@ pub put-answer-spec : {M : Type 1} → statement M
 put-answer-spec =
     tie.close
     (tie.spec
-    (search needs)
-    (search needs)
+    (λ c κs. search needs)
+    (λ c. search needs)
     slice-write-out-2
     slice-write-out-3
     slice-write-out-4
@@ -51,5 +51,5 @@ put-answer-spec =
     slice-write-out-6
     slice-write-out-7
     slice-write-out-8
-    (search needs)
+    (λ c. search needs)
     returns)

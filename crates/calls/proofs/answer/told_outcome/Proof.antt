@@ -13,4 +13,4 @@ returns-2 c = c .told-stop .ensures ∙ sym (ap told (c .before .before .o .give
 
 pub told-outcome-spec : {M : Type 1} → statement M
 told-outcome-spec =
-    tie.close (tie.spec (search needs) (search needs) (search needs) returns returns-2)
+    tie.close (tie.spec (λ c. search needs) (λ c. search needs) (λ c κs. search needs) returns returns-2)

@@ -23,9 +23,9 @@ pub read-six-spec : {M : Type 1} → statement M
 read-six-spec =
     tie.close
     (tie.spec
-    (search needs)
-    (search needs)
-    (search needs)
+    (λ c κs. search needs)
+    (λ c κs. search needs)
+    (λ c κs. search needs)
     returns
-    (search needs)
+    (λ c κs. search needs)
     returns-2)

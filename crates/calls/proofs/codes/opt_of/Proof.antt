@@ -18,5 +18,5 @@ opt-of-spec =
     tie.close
     (tie.spec
     returns
-    (search needs)
+    (λ c κs. search needs)
     returns-2)

@@ -10,4 +10,4 @@ returns c =
     λ m l w b rep. done-does l (b .words) m (start .args .f) w rep (at-spend .spend .result) _ (start .args .taken) (at-spend .spend .ensures) (c .arm-close .ensures)
 
 pub charge-done-spec : {M : Type 1} → statement M
-charge-done-spec = tie.close (tie.spec (search needs) (search needs) returns)
+charge-done-spec = tie.close (tie.spec (λ c κs. search needs) (λ c κs. search needs) returns)

@@ -18,4 +18,4 @@ returns-2 c =
     λ m l w b rep. charge-slow l (b .words) m (start .args .fuel) w rep OptPc.None (b .words) m _ _ (tested .if1 .left) (c .slow-plain .ensures m l w b rep)
 
 pub charge-plain-spec : {M : Type 1} → statement M
-charge-plain-spec = tie.close (tie.spec (search needs) returns (search needs) returns-2)
+charge-plain-spec = tie.close (tie.spec (λ c κs. search needs) returns (λ c κs. search needs) returns-2)

@@ -83,14 +83,14 @@ pub charge-ready-spec : {M : Type 1} → statement M
 charge-ready-spec =
     tie.close
     (tie.spec
-    (search needs)
+    (λ c κs. search needs)
     start-finalizer-requires
     charge-or-requires
-    (search needs)
+    (λ c. search needs)
     same-length-2
-    (search needs)
-    (search needs)
-    (search needs)
-    (search needs)
-    (search needs)
+    (λ c. search needs)
+    (λ c. search needs)
+    (λ c. search needs)
+    (λ c. search needs)
+    (λ c. search needs)
     returns)

@@ -22,4 +22,4 @@ returns-2 c =
     (c .charge-done .ensures m l (unbank w) b (back-rep l (b .words) m (start .args .fuel) w rep (back .unbank .result) (back .unbank .ensures)))
 
 pub slow-plain-spec : {M : Type 1} → statement M
-slow-plain-spec = tie.close (tie.spec (search needs) returns (search needs) returns-2)
+slow-plain-spec = tie.close (tie.spec (λ c κs. search needs) returns (λ c κs. search needs) returns-2)

@@ -59,18 +59,18 @@ pub start-finalizer-spec : {M : Type 1} → statement M
 start-finalizer-spec =
     tie.close
     (tie.spec
-    (search needs)
+    (λ c κs. search needs)
     first-start-requires
     start-at-requires
-    (search needs)
-    (search needs)
-    (search needs)
-    (search needs)
-    (search needs)
-    (search needs)
-    (search needs)
+    (λ c. search needs)
+    (λ c. search needs)
+    (λ c. search needs)
+    (λ c. search needs)
+    (λ c. search needs)
+    (λ c. search needs)
+    (λ c. search needs)
     returns
-    (search needs)
-    (search needs)
-    (search needs)
+    (λ c κs. search needs)
+    (λ c. search needs)
+    (λ c. search needs)
     returns-2)

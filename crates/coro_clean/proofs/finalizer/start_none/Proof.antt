@@ -21,4 +21,4 @@ returns c =
 
 pub start-none-spec : {M : Type 1} → statement M
 start-none-spec =
-    tie.close (tie.spec (search needs) (search needs) (search needs) returns)
+    tie.close (tie.spec (λ c κs. search needs) (λ c κs. search needs) (λ c. search needs) returns)

@@ -137,21 +137,21 @@ hand-over-spec =
     tie.close
     (tie.spec
     coro-place-requires
-    (search needs)
-    (search needs)
+    (λ c. search needs)
+    (λ c. search needs)
     state-at-requires
-    (search needs)
-    (search needs)
+    (λ c κs. search needs)
+    (λ c. search needs)
     returns
     finalized-at-requires
-    (search needs)
+    (λ c. search needs)
     returns-2
     put-finalized-requires
     push-back-requires
     add-n
-    (search needs)
-    (search needs)
+    (λ c κs. search needs)
+    (λ c. search needs)
     returns-3
-    (search needs)
-    (search needs)
+    (λ c. search needs)
+    (λ c. search needs)
     returns-4)

@@ -119,20 +119,20 @@ spawn-task-spec =
     tie.close
     (tie.spec
     coro-place-requires
-    (search needs)
-    (search needs)
+    (λ c. search needs)
+    (λ c. search needs)
     task-at-requires
-    (search needs)
+    (λ c. search needs)
     returns
     state-at-requires
-    (search needs)
-    (search needs)
+    (λ c κs. search needs)
+    (λ c. search needs)
     returns-2
     put-task-requires
     push-back-requires
     add-n
-    (search needs)
+    (λ c. search needs)
     returns-3
-    (search needs)
-    (search needs)
+    (λ c. search needs)
+    (λ c. search needs)
     returns-4)

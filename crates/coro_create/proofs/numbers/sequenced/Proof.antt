@@ -9,4 +9,4 @@ returns : tie.Need-returns
 returns c = ap (λ n. withNumber n (c .before .args .m)) (c .wrapping-add-u64 .ensures)
 
 pub sequenced-spec : {M : Type 1} → statement M
-sequenced-spec = tie.close (tie.spec (search needs) returns)
+sequenced-spec = tie.close (tie.spec (λ c κs. search needs) returns)

@@ -17,4 +17,4 @@ returns c =
     ∙ free-in (slotsOf (start .args .count) (start .args .slots .now)) (start .args .rows) (start .pre .1)
 
 pub lowest-free-row-spec : {M : Type 1} → statement M
-lowest-free-row-spec = tie.close (tie.spec (search needs) (search needs) returns)
+lowest-free-row-spec = tie.close (tie.spec (λ c κs. search needs) (λ c κs. search needs) returns)

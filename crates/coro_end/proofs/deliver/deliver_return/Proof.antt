@@ -51,20 +51,20 @@ pub deliver-return-spec : {M : Type 1} → statement M
 deliver-return-spec =
     tie.close
     (tie.spec
-    (search needs)
+    (λ c. search needs)
     coro-send-requires
-    (search needs)
+    (λ c. search needs)
     iter-returned-requires
-    (search needs)
-    (search needs)
-    (search needs)
-    (search needs)
-    (search needs)
-    (search needs)
+    (λ c. search needs)
+    (λ c κs. search needs)
+    (λ c. search needs)
+    (λ c κs. search needs)
+    (λ c. search needs)
+    (λ c. search needs)
     returns
-    (search needs)
-    (search needs)
-    (search needs)
+    (λ c. search needs)
+    (λ c. search needs)
+    (λ c. search needs)
     returns-2
     returns-3
     returns-4)

@@ -18,4 +18,4 @@ returns c =
 pub iter-returned-spec : {M : Type 1} → statement M
 iter-returned-spec =
     tie.close
-    (tie.spec (search needs) (search needs) (search needs) (search needs) (search needs) returns)
+    (tie.spec (λ c κs. search needs) (λ c κs. search needs) (λ c. search needs) (λ c. search needs) (λ c. search needs) returns)

@@ -16,4 +16,4 @@ returns-3 c = search needs
 
 pub outcome-of-spec : {M : Type 1} → statement M
 outcome-of-spec =
-    tie.close (tie.spec (search needs) (search needs) (search needs) returns returns-2 returns-3)
+    tie.close (tie.spec (λ c. search needs) (λ c. search needs) (λ c. search needs) returns returns-2 returns-3)

@@ -7,4 +7,4 @@ returns : tie.Need-returns
 returns c = rw (c .told-stop .ensures)
 
 pub stopped-spec : {M : Type 1} → statement M
-stopped-spec = tie.close (tie.spec (search needs) returns)
+stopped-spec = tie.close (tie.spec (λ c κs. search needs) returns)

@@ -27,4 +27,4 @@ returns-3 c =
 
 pub closed-by-spec : {M : Type 1} → statement M
 closed-by-spec =
-    tie.close (tie.spec (search needs) (search needs) (search needs) returns returns-2 returns-3)
+    tie.close (tie.spec (λ c κs. search needs) (λ c. search needs) (λ c. search needs) returns returns-2 returns-3)

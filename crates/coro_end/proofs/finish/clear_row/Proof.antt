@@ -9,4 +9,4 @@ returns c =
     record { regs = at-clear-part .clear-part .ensures; frames = at-clear-part2 .clear-part2 .ensures }
 
 pub clear-row-spec : {M : Type 1} → statement M
-clear-row-spec = tie.close (tie.spec (search needs) (search needs) (search needs) (search needs) (search needs) (search needs) (search needs) (search needs) returns)
+clear-row-spec = tie.close (tie.spec (λ c. search needs) (λ c κs. search needs) (λ c. search needs) (λ c. search needs) (λ c. search needs) (λ c κs. search needs) (λ c. search needs) (λ c. search needs) returns)

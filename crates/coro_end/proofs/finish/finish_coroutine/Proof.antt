@@ -46,14 +46,14 @@ pub finish-coroutine-spec : {M : Type 1} → statement M
 finish-coroutine-spec =
     tie.close
     (tie.spec
-    (search needs)
-    (search needs)
-    (search needs)
+    (λ c κs. search needs)
+    (λ c. search needs)
+    (λ c. search needs)
     give-back-row-requires
     mark-ended-requires
-    (search needs)
+    (λ c. search needs)
     returns
-    (search needs)
-    (search needs)
-    (search needs)
+    (λ c. search needs)
+    (λ c. search needs)
+    (λ c. search needs)
     returns-2)

@@ -22,4 +22,4 @@ returns-2 c =
 pub give-back-row-spec : {M : Type 1} → statement M
 give-back-row-spec =
     tie.close
-    (tie.spec (search needs) returns clear-row-requires (search needs) (search needs) returns-2)
+    (tie.spec (λ c κs. search needs) returns clear-row-requires (λ c. search needs) (λ c. search needs) returns-2)

@@ -19,4 +19,4 @@ returns c =
 
 pub mark-ended-spec : {M : Type 1} → statement M
 mark-ended-spec =
-    tie.close (tie.spec (search needs) (search needs) (search needs) (search needs) returns)
+    tie.close (tie.spec (λ c κs. search needs) (λ c κs. search needs) (λ c κs. search needs) (λ c. search needs) returns)

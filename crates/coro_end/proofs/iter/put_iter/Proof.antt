@@ -16,4 +16,4 @@ returns c =
     (at-tag .tag .ensures)
 
 pub put-iter-spec : {M : Type 1} → statement M
-put-iter-spec = tie.close (tie.spec (search needs) (search needs) (search needs) returns)
+put-iter-spec = tie.close (tie.spec (λ c κs. search needs) (λ c κs. search needs) (λ c. search needs) returns)

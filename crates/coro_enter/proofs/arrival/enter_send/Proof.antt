@@ -40,12 +40,12 @@ pub enter-send-spec : {M : Type 1} → statement M
 enter-send-spec =
     tie.close
     (tie.spec
-    (search needs)
+    (λ c κs. search needs)
     arrive-requires
-    (search needs)
-    (search needs)
-    (search needs)
-    (search needs)
-    (search needs)
-    (search needs)
+    (λ c. search needs)
+    (λ c. search needs)
+    (λ c. search needs)
+    (λ c. search needs)
+    (λ c. search needs)
+    (λ c. search needs)
     returns)

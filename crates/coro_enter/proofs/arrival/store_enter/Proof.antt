@@ -33,12 +33,12 @@ pub store-enter-spec : {M : Type 1} → statement M
 store-enter-spec =
     tie.close
     (tie.spec
-    (search needs)
+    (λ c κs. search needs)
     coro-enter-requires
-    (search needs)
-    (search needs)
-    (search needs)
-    (search needs)
-    (search needs)
-    (search needs)
+    (λ c. search needs)
+    (λ c. search needs)
+    (λ c. search needs)
+    (λ c. search needs)
+    (λ c. search needs)
+    (λ c. search needs)
     returns)

@@ -19,4 +19,4 @@ returns-3 c =
     let a = start .args in yielded (a .s) (a .payload) (a .closing) (a .key) (sym (at-is-awaiting .is-awaiting .ensures) ∙ at-if1 .if1 .left) (c .if2 .left)
 
 pub event-of-spec : {M : Type 1} → statement M
-event-of-spec = tie.close (tie.spec (search needs) returns returns-2 returns-3)
+event-of-spec = tie.close (tie.spec (λ c κs. search needs) returns returns-2 returns-3)

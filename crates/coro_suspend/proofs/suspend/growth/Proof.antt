@@ -26,4 +26,4 @@ returns c =
 pub growth-spec : {M : Type 1} → statement M
 growth-spec =
     tie.close
-    (tie.spec (search needs) (search needs) (search needs) mul-result-2 add-result returns)
+    (tie.spec (λ c κs. search needs) (λ c κs. search needs) (λ c. search needs) mul-result-2 add-result returns)

@@ -19,13 +19,13 @@ pub move-out-spec : {M : Type 1} → statement M
 move-out-spec =
     tie.close
     (tie.spec
-    (search needs)
-    (search needs)
+    (λ c. search needs)
+    (λ c κs. search needs)
     mul-from
-    (search needs)
+    (λ c. search needs)
     leave-frames-requires
-    (search needs)
-    (search needs)
-    (search needs)
-    (search needs)
+    (λ c. search needs)
+    (λ c. search needs)
+    (λ c. search needs)
+    (λ c. search needs)
     returns)

@@ -114,20 +114,20 @@ pub suspend-found-spec : {M : Type 1} → statement M
 suspend-found-spec =
     tie.close
     (tie.spec
-    (search needs)
+    (λ c κs. search needs)
     sub-regs
-    (search needs)
+    (λ c. search needs)
     growth-requires
-    (search needs)
-    (search needs)
-    (search needs)
+    (λ c κs. search needs)
+    (λ c. search needs)
+    (λ c. search needs)
     move-out-requires
     pop-active-requires
-    (search needs)
+    (λ c κs. search needs)
     put-sleep-requires
-    (search needs)
+    (λ c κs. search needs)
     shrunk-requires
-    (search needs)
+    (λ c. search needs)
     returns
     same-length-2
     same-length-3

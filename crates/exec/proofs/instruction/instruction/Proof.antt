@@ -160,16 +160,16 @@ instruction-spec =
     sub-base-at
     base-at-requires
     shared-slice-read-passes
-    (search needs)
+    (λ c κs. search needs)
     (λ c. refl)
     returns-2
-    (search needs)
+    (λ c κs. search needs)
     charge-requires
-    (search needs)
-    (search needs)
-    (search needs)
+    (λ c. search needs)
+    (λ c. search needs)
+    (λ c. search needs)
     body-requires
-    (search needs)
+    (λ c κs. search needs)
     (λ c. spent-of c .charge .kept .0)
     (λ c. spent-of c .charge .kept .1 .0)
     (λ c. spent-of c .charge .kept .1 .1 .0)

@@ -11,4 +11,4 @@ returns-2 : tie.Need-returns-2
 returns-2 c = let a = c .before .args in λ w k. frame-above w (a .base) (a .height) k (a .r) (c .if1 .left)
 
 pub in-frame-spec : {M : Type 1} → statement M
-in-frame-spec = tie.close (tie.spec (search needs) returns returns-2)
+in-frame-spec = tie.close (tie.spec (λ c. search needs) returns returns-2)

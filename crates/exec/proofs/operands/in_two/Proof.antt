@@ -11,4 +11,4 @@ returns c = λ w k. and-at (c .both2 .ensures) (c .before .before .before .in-fr
 pub in-two-spec : {M : Type 1} → statement M
 in-two-spec =
     tie.close
-    (tie.spec (search needs) (search needs) (search needs) (search needs) returns)
+    (tie.spec (λ c κs. search needs) (λ c κs. search needs) (λ c κs. search needs) (λ c κs. search needs) returns)

@@ -11,4 +11,4 @@ returns-2 : tie.Need-returns-2
 returns-2 c = let a = c .before .args in λ w k. under-above w (a .base) (a .height) k (a .dst) (a .argc) (c .if1 .left)
 
 pub window-in-spec : {M : Type 1} → statement M
-window-in-spec = tie.close (tie.spec (search needs) (search needs) (search needs) returns returns-2)
+window-in-spec = tie.close (tie.spec (λ c. search needs) (λ c. search needs) (λ c. search needs) returns returns-2)

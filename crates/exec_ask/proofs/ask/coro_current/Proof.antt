@@ -13,4 +13,4 @@ returns c =
     (put .put .ensures l w (record { words = onChain (a .chain .now) (b .words); fuel = b .fuel }) rep)
 
 pub coro-current-spec : {M : Type 1} → statement M
-coro-current-spec = tie.close (tie.spec (search needs) (search needs) (search needs) returns)
+coro-current-spec = tie.close (tie.spec (λ c κs. search needs) (λ c κs. search needs) (λ c. search needs) returns)

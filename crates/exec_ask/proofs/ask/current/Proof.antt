@@ -15,4 +15,4 @@ returns-2 c =
     current-top (a .chain .now) (a .m .active) (c .active-at .result) (omega (arith, test .if1 .left)) (c .active-at .ensures)
 
 pub current-spec : {M : Type 1} → statement M
-current-spec = tie.close (tie.spec returns (search needs) (search needs) returns-2)
+current-spec = tie.close (tie.spec returns (λ c. search needs) (λ c κs. search needs) returns-2)

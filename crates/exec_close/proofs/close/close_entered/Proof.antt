@@ -17,4 +17,4 @@ returns-2 c =
 
 pub close-entered-spec : {M : Type 1} → statement M
 close-entered-spec =
-    tie.close (tie.spec (search needs) returns (search needs) (search needs) returns-2)
+    tie.close (tie.spec (λ c. search needs) returns (λ c κs. search needs) (λ c. search needs) returns-2)

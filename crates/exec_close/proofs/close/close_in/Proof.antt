@@ -38,12 +38,12 @@ pub close-in-spec : {M : Type 1} → statement M
 close-in-spec =
     tie.close
     (tie.spec
-    (search needs)
+    (λ c κs. search needs)
     close-entered-requires
-    (search needs)
-    (search needs)
-    (search needs)
-    (search needs)
-    (search needs)
-    (search needs)
+    (λ c. search needs)
+    (λ c. search needs)
+    (λ c. search needs)
+    (λ c. search needs)
+    (λ c. search needs)
+    (λ c. search needs)
     returns)

@@ -15,4 +15,4 @@ returns-3 : tie.Need-returns-3
 returns-3 c = sym (ap (raised (c .before .before .before .args .v)) (c .before .a .given .1))
 
 pub raised-spec : {M : Type 1} → statement M
-raised-spec = tie.close (tie.spec (search needs) (search needs) (search needs) returns returns-2 returns-3)
+raised-spec = tie.close (tie.spec (λ c. search needs) (λ c. search needs) (λ c. search needs) returns returns-2 returns-3)

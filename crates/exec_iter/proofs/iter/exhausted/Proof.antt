@@ -19,4 +19,4 @@ returns-2 c =
     (done-in l (table (start .args .slots .now) plain b) (start .args .m) (b .fuel) w rep (start .args .iter) _ (at-is-done .is-done .ensures) ∙ at-if1 .if1 .left) (c .is-returned .ensures)
 
 pub exhausted-spec : {M : Type 1} → statement M
-exhausted-spec = tie.close (tie.spec (search needs) returns (search needs) returns-2)
+exhausted-spec = tie.close (tie.spec (λ c κs. search needs) returns (λ c κs. search needs) returns-2)

@@ -13,4 +13,4 @@ returns c =
     (at-set-done .set-done .ensures l w (record { words = top (start .args .stack .now) (start .args .frames .now) plain b; fuel = b .fuel }) rep)
 
 pub stop-spec : {M : Type 1} → statement M
-stop-spec = tie.close (tie.spec (search needs) (search needs) (search needs) (search needs) returns)
+stop-spec = tie.close (tie.spec (λ c κs. search needs) (λ c κs. search needs) (λ c. search needs) (λ c. search needs) returns)

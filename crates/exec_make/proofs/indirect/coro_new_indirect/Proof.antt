@@ -34,10 +34,10 @@ pub coro-new-indirect-spec : {M : Type 1} → statement M
 coro-new-indirect-spec =
     tie.close
     (tie.spec
-    (search needs)
+    (λ c κs. search needs)
     put-made-requires
-    (search needs)
-    (search needs)
-    (search needs)
-    (search needs)
+    (λ c. search needs)
+    (λ c. search needs)
+    (λ c. search needs)
+    (λ c. search needs)
     returns)

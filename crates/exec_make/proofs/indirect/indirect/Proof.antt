@@ -53,14 +53,14 @@ pub indirect-spec : {M : Type 1} → statement M
 indirect-spec =
     tie.close
     (tie.spec
-    (search needs)
+    (λ c κs. search needs)
     called-requires
-    (search needs)
-    (search needs)
+    (λ c. search needs)
+    (λ c. search needs)
     create-requires
-    (search needs)
+    (λ c. search needs)
     returns
-    (search needs)
-    (search needs)
-    (search needs)
+    (λ c. search needs)
+    (λ c. search needs)
+    (λ c. search needs)
     returns-2)

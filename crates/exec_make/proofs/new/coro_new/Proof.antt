@@ -30,4 +30,4 @@ returns c =
     (put .put-made .ensures (start .args .l) (coroCreate (start .args .f) 0 (window (start .args .dst) (start .args .argc) w) w .world) (record { words = left; fuel = b .fuel }) (made .world))
 
 pub coro-new-spec : {M : Type 1} → statement M
-coro-new-spec = tie.close (tie.spec (search needs) put-made-requires (search needs) (search needs) (search needs) (search needs) returns)
+coro-new-spec = tie.close (tie.spec (λ c κs. search needs) put-made-requires (λ c. search needs) (λ c. search needs) (λ c. search needs) (λ c. search needs) returns)

@@ -16,4 +16,4 @@ returns-2 c =
 
 pub put-made-spec : {M : Type 1} → statement M
 put-made-spec =
-    tie.close (tie.spec (search needs) (search needs) (search needs) (search needs) returns returns-2)
+    tie.close (tie.spec (λ c. search needs) (λ c κs. search needs) (λ c. search needs) (λ c. search needs) returns returns-2)

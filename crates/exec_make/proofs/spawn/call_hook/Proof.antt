@@ -38,4 +38,4 @@ returns-2 c =
     (pushing .push-hook .ensures (charge OptPc.None w .world) (record { words = b .words; fuel = paying .charge-plain .result .fuel }) (did .world) (paid-sound w snd))
 
 pub call-hook-spec : {M : Type 1} → statement M
-call-hook-spec = tie.close (tie.spec (search needs) (search needs) returns push-hook-requires (search needs) (search needs) returns-2)
+call-hook-spec = tie.close (tie.spec (λ c κs. search needs) (λ c. search needs) returns push-hook-requires (λ c. search needs) (λ c. search needs) returns-2)

@@ -25,12 +25,12 @@ pub deliver-all-spec : {M : Type 1} → statement M
 deliver-all-spec =
     tie.close
     (tie.spec
-    (search needs)
+    (λ c. search needs)
     deliver-requires
-    (search needs)
-    (search needs)
-    (search needs)
-    (search needs)
-    (search needs)
+    (λ c κs. search needs)
+    (λ c. search needs)
+    (λ c. search needs)
+    (λ c. search needs)
+    (λ c. search needs)
     returns
     returns-2)

@@ -12,4 +12,4 @@ returns-2 : tie.Need-returns-2
 returns-2 c = unwind-step (c .before .before .args .f) (λ z. (c .if1 .left) ((c .before .number .ensures) ∙ z))
 
 pub stepped-by-spec : {M : Type 1} → statement M
-stepped-by-spec = tie.close (tie.spec (search needs) returns returns-2)
+stepped-by-spec = tie.close (tie.spec (λ c κs. search needs) returns returns-2)

@@ -85,10 +85,10 @@ suspend-spec =
     store-pc-requires
     coro-suspend-requires
     deliver-all-requires
-    (search needs)
+    (λ c. search needs)
     same-length-2
-    (search needs)
-    (search needs)
-    (search needs)
-    (search needs)
+    (λ c. search needs)
+    (λ c. search needs)
+    (λ c. search needs)
+    (λ c. search needs)
     returns)

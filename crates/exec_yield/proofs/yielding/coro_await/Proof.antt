@@ -39,12 +39,12 @@ coro-await-spec =
     tie.close
     (tie.spec
     returns
-    (search needs)
+    (λ c κs. search needs)
     suspend-requires
-    (search needs)
-    (search needs)
-    (search needs)
-    (search needs)
-    (search needs)
-    (search needs)
+    (λ c. search needs)
+    (λ c. search needs)
+    (λ c. search needs)
+    (λ c. search needs)
+    (λ c. search needs)
+    (λ c. search needs)
     returns-2)

@@ -76,16 +76,16 @@ coro-yield-spec =
     tie.close
     (tie.spec
     returns
-    (search needs)
+    (λ c κs. search needs)
     sub-active-at
     active-at-requires
     largest-in-requires
     auto-key-requires
     yield-key-requires
-    (search needs)
-    (search needs)
-    (search needs)
-    (search needs)
-    (search needs)
-    (search needs)
+    (λ c. search needs)
+    (λ c. search needs)
+    (λ c. search needs)
+    (λ c. search needs)
+    (λ c. search needs)
+    (λ c. search needs)
     returns-2)

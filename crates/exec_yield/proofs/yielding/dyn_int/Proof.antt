@@ -9,4 +9,4 @@ returns : tie.Need-returns
 returns c = λ l w b rep. (c .dyn-int .ensures) ∙ dyn-int-is l _ (c .before .before .args .m) (b .fuel) w rep (c .before .before .args .v)
 
 pub dyn-int-spec : {M : Type 1} → statement M
-dyn-int-spec = tie.close (tie.spec (search needs) returns)
+dyn-int-spec = tie.close (tie.spec (λ c κs. search needs) returns)

@@ -12,4 +12,4 @@ returns c =
     λ l w b rep. ap (Keys.Set (start .args .key)) (c .larger-of .ensures ∙ ap₂ largerOf (at-largest-in .largest-in .ensures l w b rep) (at-dyn-int .dyn-int .ensures l w b rep))
 
 pub keyed-spec : {M : Type 1} → statement M
-keyed-spec = tie.close (tie.spec (search needs) (search needs) (search needs) returns)
+keyed-spec = tie.close (tie.spec (λ c κs. search needs) (λ c κs. search needs) (λ c κs. search needs) returns)

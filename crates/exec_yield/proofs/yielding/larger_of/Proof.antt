@@ -20,4 +20,4 @@ returns-3 c =
 
 pub larger-of-spec : {M : Type 1} → statement M
 larger-of-spec =
-    tie.close (tie.spec (search needs) (search needs) (search needs) returns returns-2 returns-3)
+    tie.close (tie.spec (λ c. search needs) (λ c. search needs) (λ c κs. search needs) returns returns-2 returns-3)

@@ -30,4 +30,4 @@ returns-2 c =
 pub largest-in-spec : {M : Type 1} → statement M
 largest-in-spec =
     tie.close
-    (tie.spec (search needs) (search needs) (search needs) coro-at-requires returns returns-2)
+    (tie.spec (λ c κs. search needs) (λ c. search needs) (λ c. search needs) coro-at-requires returns returns-2)

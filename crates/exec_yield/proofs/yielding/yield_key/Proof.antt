@@ -33,14 +33,14 @@ pub yield-key-spec : {M : Type 1} → statement M
 yield-key-spec =
     tie.close
     (tie.spec
-    (search needs)
+    (λ c. search needs)
     suspend-requires
-    (search needs)
-    (search needs)
-    (search needs)
-    (search needs)
-    (search needs)
-    (search needs)
-    (search needs)
+    (λ c. search needs)
+    (λ c. search needs)
+    (λ c. search needs)
+    (λ c. search needs)
+    (λ c. search needs)
+    (λ c. search needs)
+    (λ c. search needs)
     returns
     returns-2)

@@ -42,4 +42,4 @@ returns-5 c =
 
 pub fits-spec : {M : Type 1} → statement M
 fits-spec =
-    tie.close (tie.spec returns returns-2 returns-3 (search needs) returns-4 (search needs) returns-5)
+    tie.close (tie.spec returns returns-2 returns-3 (λ c κs. search needs) returns-4 (λ c. search needs) returns-5)

@@ -22,13 +22,13 @@ pub head-spec : {M : Type 1} → statement M
 head-spec =
     tie.close
     (tie.spec
-    (search needs)
-    (search needs)
-    (search needs)
-    (search needs)
+    (λ c. search needs)
+    (λ c. search needs)
+    (λ c. search needs)
+    (λ c. search needs)
     slice-write-notes-2
-    (search needs)
-    (search needs)
+    (λ c. search needs)
+    (λ c. search needs)
     slice-write-notes-3
     same-length
     returns)

@@ -63,16 +63,16 @@ note-at-spec =
     tie.close
     (tie.spec
     returns
-    (search needs)
-    (search needs)
-    (search needs)
+    (λ c κs. search needs)
+    (λ c κs. search needs)
+    (λ c κs. search needs)
     returns-2
-    (search needs)
-    (search needs)
-    (search needs)
+    (λ c. search needs)
+    (λ c κs. search needs)
+    (λ c κs. search needs)
     sub-n
-    (search needs)
+    (λ c κs. search needs)
     add-place
     keep-requires
-    (search needs)
+    (λ c. search needs)
     returns-3)

@@ -81,24 +81,24 @@ pub asleep-spec : {M : Type 1} → statement M
 asleep-spec =
     tie.close
     (tie.spec
-    (search needs)
+    (λ c κs. search needs)
     mul-at-most
     shared-slice-read-at-most
-    (search needs)
-    (search needs)
+    (λ c κs. search needs)
+    (λ c. search needs)
     add-number
     mul-number
     shared-slice-read-number
-    (search needs)
-    (search needs)
-    (search needs)
+    (λ c κs. search needs)
+    (λ c. search needs)
+    (λ c κs. search needs)
     add-first
     add-end
     mul-words
     sub-words
     part-words-start
     part-words-end
-    (search needs)
-    (search needs)
-    (search needs)
+    (λ c κs. search needs)
+    (λ c. search needs)
+    (λ c κs. search needs)
     returns)

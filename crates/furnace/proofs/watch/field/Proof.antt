@@ -22,4 +22,4 @@ returns-3 : tie.Need-returns-3
 returns-3 c = search needs
 
 pub field-spec : {M : Type 1} → statement M
-field-spec = tie.close (tie.spec returns (search needs) (search needs) returns-2 (search needs) (search needs) (search needs) returns-3)
+field-spec = tie.close (tie.spec returns (λ c. search needs) (λ c. search needs) returns-2 (λ c. search needs) (λ c. search needs) (λ c. search needs) returns-3)

@@ -16,4 +16,4 @@ returns-2 c =
     c .coroutine .ensures ∙ one-runs (start .args .chain .now) (start .args .n) (at-if1 .if1 .left)
 
 pub innermost-spec : {M : Type 1} → statement M
-innermost-spec = tie.close (tie.spec returns (search needs) (search needs) returns-2)
+innermost-spec = tie.close (tie.spec returns (λ c. search needs) (λ c κs. search needs) returns-2)

@@ -12,4 +12,4 @@ returns c =
     c .base .ensures ∙ ap (baseIn (start .args .frames .now)) (at-floor .floor .ensures ∙ ap (floorIn (start .args .chain .now)) (at-last .last .ensures))
 
 pub own-base-spec : {M : Type 1} → statement M
-own-base-spec = tie.close (tie.spec (search needs) (search needs) (search needs) returns)
+own-base-spec = tie.close (tie.spec (λ c κs. search needs) (λ c κs. search needs) (λ c κs. search needs) returns)

@@ -22,4 +22,4 @@ returns-3 : tie.Need-returns-3
 returns-3 c = search needs
 
 pub register-spec : {M : Type 1} → statement M
-register-spec = tie.close (tie.spec returns returns-2 (search needs) (search needs) (search needs) returns-3)
+register-spec = tie.close (tie.spec returns returns-2 (λ c. search needs) (λ c. search needs) (λ c. search needs) returns-3)

@@ -11,4 +11,4 @@ returns c =
     c .base .ensures ∙ ap (baseIn (start .args .frames .now)) (at-last .last .ensures)
 
 pub top-base-spec : {M : Type 1} → statement M
-top-base-spec = tie.close (tie.spec (search needs) (search needs) returns)
+top-base-spec = tie.close (tie.spec (λ c κs. search needs) (λ c κs. search needs) returns)

@@ -21,4 +21,4 @@ returns-3 c =
     sent-elsewhere (a .sent .is) (a .place) (a .sent .word) (a .i) (a .held .now) (c .before .before .if1 .left) (c .before .if2 .left)
 
 pub wanted-spec : {M : Type 1} → statement M
-wanted-spec = tie.close (tie.spec (search needs) (search needs) returns returns-2 (search needs) (search needs) returns-3)
+wanted-spec = tie.close (tie.spec (λ c. search needs) (λ c. search needs) returns returns-2 (λ c. search needs) (λ c. search needs) returns-3)

@@ -9,4 +9,4 @@ returns : tie.Need-returns
 returns c = ap isSet (c .word-at .ensures)
 
 pub flag-at-spec : {M : Type 1} → statement M
-flag-at-spec = tie.close (tie.spec (search needs) returns)
+flag-at-spec = tie.close (tie.spec (λ c κs. search needs) returns)

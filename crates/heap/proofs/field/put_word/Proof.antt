@@ -8,4 +8,4 @@ returns : tie.Need-returns
 returns c = let a = c .args in chunk-set 20 (a .i) (a .k) (a .v) (a .slots .now) (c .pre .1)
 
 pub put-word-spec : {M : Type 1} → statement M
-put-word-spec = tie.close (tie.spec (search needs) (search needs) (search needs) (search needs) (search needs) returns)
+put-word-spec = tie.close (tie.spec (λ c. search needs) (λ c. search needs) (λ c. search needs) (λ c. search needs) (λ c. search needs) returns)

@@ -9,4 +9,4 @@ returns : tie.Need-returns
 returns c = c .of-code .ensures ∙ ap stateOf (c .before .word-at .ensures)
 
 pub state-at-spec : {M : Type 1} → statement M
-state-at-spec = tie.close (tie.spec (search needs) (search needs) returns)
+state-at-spec = tie.close (tie.spec (λ c κs. search needs) (λ c κs. search needs) returns)

@@ -9,4 +9,4 @@ returns : tie.Need-returns
 returns c = let begin = c .before in sym (chunk-get 20 (begin .args .i) (begin .args .k) (begin .args .slots .now) (begin .pre .1))
 
 pub word-at-spec : {M : Type 1} → statement M
-word-at-spec = tie.close (tie.spec (search needs) (search needs) (search needs) (search needs) returns)
+word-at-spec = tie.close (tie.spec (λ c. search needs) (λ c. search needs) (λ c. search needs) (λ c. search needs) returns)

@@ -26,4 +26,4 @@ returns-2 c =
 pub coro-spec : {M : Type 1} → statement M
 coro-spec =
     tie.close
-    (tie.spec (search needs) (search needs) (search needs) coro-at-requires returns returns-2)
+    (tie.spec (λ c κs. search needs) (λ c. search needs) (λ c. search needs) coro-at-requires returns returns-2)

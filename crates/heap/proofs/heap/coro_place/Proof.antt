@@ -44,10 +44,10 @@ pub coro-place-spec : {M : Type 1} → statement M
 coro-place-spec =
     tie.close
     (tie.spec
-    (search needs)
-    (search needs)
-    (search needs)
-    (search needs)
+    (λ c κs. search needs)
+    (λ c. search needs)
+    (λ c κs. search needs)
+    (λ c. search needs)
     is-coro-requires
     returns
     returns-2

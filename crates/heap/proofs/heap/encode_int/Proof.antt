@@ -23,10 +23,10 @@ pub encode-int-spec : {M : Type 1} → statement M
 encode-int-spec =
     tie.close
     (tie.spec
-    (search needs)
-    (search needs)
-    (search needs)
-    (search needs)
+    (λ c κs. search needs)
+    (λ c. search needs)
+    (λ c. search needs)
+    (λ c κs. search needs)
     returns
-    (search needs)
+    (λ c. search needs)
     returns-2)

@@ -38,4 +38,4 @@ returns-3 c =
     next n (ltb n (2 ^ 63)) refl (start .fits .largest .fits) (at-if1 .if1 .left) (c .if2 .left)
 
 pub next-key-spec : {M : Type 1} → statement M
-next-key-spec = tie.close (tie.spec (search needs) returns returns-2 returns-3)
+next-key-spec = tie.close (tie.spec (λ c. search needs) returns returns-2 returns-3)

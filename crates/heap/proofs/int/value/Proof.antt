@@ -35,4 +35,4 @@ returns-3 : tie.Need-returns-3
 returns-3 c = rw (c .before .enum-told2 .given .1) (large _ (c .if1 .left))
 
 pub value-spec : {M : Type 1} → statement M
-value-spec = tie.close (tie.spec (search needs) (search needs) returns returns-2 returns-3)
+value-spec = tie.close (tie.spec (λ c. search needs) (λ c. search needs) returns returns-2 returns-3)

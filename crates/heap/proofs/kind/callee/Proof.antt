@@ -40,10 +40,10 @@ pub callee-spec : {M : Type 1} → statement M
 callee-spec =
     tie.close
     (tie.spec
-    (search needs)
-    (search needs)
-    (search needs)
-    (search needs)
+    (λ c κs. search needs)
+    (λ c. search needs)
+    (λ c κs. search needs)
+    (λ c. search needs)
     callee-at-requires
     returns
     returns-2)

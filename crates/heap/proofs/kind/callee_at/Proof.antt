@@ -20,4 +20,4 @@ returns-2 c =
     sym (no-func (chunkAt 20 (a .slots .now) (a .i)) (λ e. c .if1 .left (kind .word-at .ensures ∙ e)))
 
 pub callee-at-spec : {M : Type 1} → statement M
-callee-at-spec = tie.close (tie.spec (search needs) (search needs) returns returns-2)
+callee-at-spec = tie.close (tie.spec (λ c κs. search needs) (λ c κs. search needs) returns returns-2)

@@ -28,4 +28,4 @@ returns-3 c =
 pub done-at-spec : {M : Type 1} → statement M
 done-at-spec =
     tie.close
-    (tie.spec (search needs) (search needs) (search needs) returns returns-2 returns-3)
+    (tie.spec (λ c κs. search needs) (λ c κs. search needs) (λ c κs. search needs) returns returns-2 returns-3)

@@ -34,4 +34,4 @@ returns-2 c =
 
 pub is-done-spec : {M : Type 1} → statement M
 is-done-spec =
-    tie.close (tie.spec (search needs) (search needs) (search needs) done-at-requires returns returns-2)
+    tie.close (tie.spec (λ c κs. search needs) (λ c. search needs) (λ c. search needs) done-at-requires returns returns-2)

@@ -84,21 +84,21 @@ pub slot-ok-spec : {M : Type 1} → statement M
 slot-ok-spec =
     tie.close
     (tie.spec
-    (search needs)
-    (search needs)
+    (λ c. search needs)
+    (λ c κs. search needs)
     returns
-    (search needs)
+    (λ c κs. search needs)
     returns-2
     returns-3
-    (search needs)
+    (λ c κs. search needs)
     returns-4
-    (search needs)
-    (search needs)
-    (search needs)
-    (search needs)
-    (search needs)
-    (search needs)
-    (search needs)
-    (search needs)
-    (search needs)
+    (λ c. search needs)
+    (λ c. search needs)
+    (λ c. search needs)
+    (λ c. search needs)
+    (λ c. search needs)
+    (λ c. search needs)
+    (λ c. search needs)
+    (λ c. search needs)
+    (λ c κs. search needs)
     returns-5)

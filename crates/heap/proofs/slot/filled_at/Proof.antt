@@ -18,4 +18,4 @@ returns c =
 
 pub filled-at-spec : {M : Type 1} → statement M
 filled-at-spec =
-    tie.close (tie.spec (search needs) (search needs) (search needs) (search needs) (search needs) returns)
+    tie.close (tie.spec (λ c. search needs) (λ c. search needs) (λ c. search needs) (λ c. search needs) (λ c κs. search needs) returns)

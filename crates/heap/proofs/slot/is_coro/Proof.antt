@@ -11,4 +11,4 @@ returns : tie.Need-returns
 returns c = ap (λ k. eqb k 6) (sym (chunk-get 20 (c .before .args .i) 1 (c .before .args .slots .now) (omega arith)))
 
 pub is-coro-spec : {M : Type 1} → statement M
-is-coro-spec = tie.close (tie.spec (search needs) (search needs) (search needs) (search needs) returns)
+is-coro-spec = tie.close (tie.spec (λ c. search needs) (λ c. search needs) (λ c. search needs) (λ c. search needs) returns)

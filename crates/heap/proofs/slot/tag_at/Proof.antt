@@ -16,4 +16,4 @@ returns c =
     sym (getD-take 20 (drop b ws) 0 0 (omega arith) ∙ getD-drop b ws 0 0 ∙ ap (λ n. getD ws n 0) (add-zero b))
 
 pub tag-at-spec : {M : Type 1} → statement M
-tag-at-spec = tie.close (tie.spec (search needs) (search needs) (search needs) returns)
+tag-at-spec = tie.close (tie.spec (λ c. search needs) (λ c. search needs) (λ c. search needs) returns)

@@ -45,9 +45,9 @@ pub write-sleep-spec : {M : Type 1} → statement M
 write-sleep-spec =
     tie.close
     (tie.spec
-    (search needs)
-    (search needs)
-    (search needs)
+    (λ c κs. search needs)
+    (λ c. search needs)
+    (λ c. search needs)
     slice-write-s-2
     slice-write-s-3
     slice-write-s-4

@@ -57,22 +57,22 @@ pub move-in-spec : {M : Type 1} → statement M
 move-in-spec =
     tie.close
     (tie.spec
-    (search needs)
-    (search needs)
+    (λ c κs. search needs)
+    (λ c. search needs)
     mul-at
-    (search needs)
-    (search needs)
+    (λ c. search needs)
+    (λ c κs. search needs)
     enter-stack-requires
-    (search needs)
-    (search needs)
+    (λ c κs. search needs)
+    (λ c. search needs)
     mul-from
     mul-from-2
-    (search needs)
-    (search needs)
-    (search needs)
+    (λ c. search needs)
+    (λ c κs. search needs)
+    (λ c. search needs)
     enter-frames-requires
-    (search needs)
-    (search needs)
-    (search needs)
-    (search needs)
+    (λ c. search needs)
+    (λ c. search needs)
+    (λ c. search needs)
+    (λ c. search needs)
     returns)

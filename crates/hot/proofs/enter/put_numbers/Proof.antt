@@ -17,4 +17,4 @@ returns c = search needs
 pub put-numbers-spec : {M : Type 1} → statement M
 put-numbers-spec =
     tie.close
-    (tie.spec (search needs) slice-write-machine-2 slice-write-machine-3 (search needs) returns)
+    (tie.spec (λ c. search needs) slice-write-machine-2 slice-write-machine-3 (λ c. search needs) returns)

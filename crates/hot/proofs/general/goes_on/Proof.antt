@@ -36,7 +36,7 @@ pub goes-on-spec : {M : Type 1} → statement M
 goes-on-spec =
     tie.close
     (tie.spec
-    (search needs)
+    (λ c. search needs)
     slice-write-answer-2
     slice-write-answer-3
     slice-write-answer-4
@@ -44,5 +44,5 @@ goes-on-spec =
     slice-write-answer-6
     slice-write-answer-7
     slice-write-answer-8
-    (search needs)
+    (λ c. search needs)
     returns)

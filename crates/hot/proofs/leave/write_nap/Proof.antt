@@ -34,7 +34,7 @@ pub write-nap-spec : {M : Type 1} → statement M
 write-nap-spec =
     tie.close
     (tie.spec
-    (search needs)
+    (λ c. search needs)
     slice-write-s-2
     slice-write-s-3
     slice-write-s-4

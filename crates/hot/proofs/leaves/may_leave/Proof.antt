@@ -270,8 +270,8 @@ may-leave-spec =
     shared-slice-read-coro-place
     link-requires-2
     coro-place-requires
-    (search needs)
-    (search needs)
+    (λ c. search needs)
+    (λ c. search needs)
     word-requires
     returns-8
     link-requires-3
@@ -285,12 +285,12 @@ may-leave-spec =
     sub-if10
     returns-10
     word-requires-4
-    (search needs)
-    (search needs)
-    (search needs)
-    (search needs)
-    (search needs)
-    (search needs)
+    (λ c κs. search needs)
+    (λ c. search needs)
+    (λ c. search needs)
+    (λ c κs. search needs)
+    (λ c. search needs)
+    (λ c. search needs)
     returns-11
     returns-12
     returns-13

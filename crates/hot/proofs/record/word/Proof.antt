@@ -10,4 +10,4 @@ returns c = sym (chunk-get 20 (c .before .args .i) (c .before .args .k) (c .befo
 
 pub word-spec : {M : Type 1} → statement M
 word-spec =
-    tie.close (tie.spec (search needs) (search needs) (search needs) (search needs) returns)
+    tie.close (tie.spec (λ c. search needs) (λ c. search needs) (λ c. search needs) (λ c. search needs) returns)

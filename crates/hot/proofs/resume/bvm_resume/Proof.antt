@@ -178,10 +178,10 @@ bvm-resume-spec =
     (tie.spec
     slice-read-may-enter
     may-enter-requires
-    (search needs)
+    (λ c. search needs)
     resume-at-requires
     goes-on-requires
-    (search needs)
+    (λ c. search needs)
     general-requires
     same-length
     same-length-2

@@ -176,10 +176,10 @@ bvm-yield-spec =
     (tie.spec
     slice-read-may-leave
     may-leave-requires
-    (search needs)
+    (λ c. search needs)
     yield-at-requires
     goes-on-requires
-    (search needs)
+    (λ c. search needs)
     general-requires
     same-length
     same-length-2

@@ -100,9 +100,9 @@ pub yield-at-spec : {M : Type 1} → statement M
 yield-at-spec =
     tie.close
     (tie.spec
-    (search needs)
-    (search needs)
-    (search needs)
+    (λ c. search needs)
+    (λ c. search needs)
+    (λ c. search needs)
     leave-requires
     same-length
     same-length-2
@@ -111,5 +111,5 @@ yield-at-spec =
     same-length-5
     same-length-6
     same-length-7
-    (search needs)
+    (λ c. search needs)
     returns)

@@ -25,4 +25,4 @@ returns-2 c =
 pub coro-state-spec : {M : Type 1} → statement M
 coro-state-spec =
     tie.close
-    (tie.spec (search needs) (search needs) (search needs) state-at-requires returns returns-2)
+    (tie.spec (λ c κs. search needs) (λ c. search needs) (λ c. search needs) state-at-requires returns returns-2)

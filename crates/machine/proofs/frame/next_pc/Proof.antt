@@ -29,4 +29,4 @@ returns-2 c =
     (did .step-pc .ensures (w .frames) (rep .frames))
 
 pub next-pc-spec : {M : Type 1} → statement M
-next-pc-spec = tie.close (tie.spec returns step-pc-requires (search needs) returns-2)
+next-pc-spec = tie.close (tie.spec returns step-pc-requires (λ c. search needs) returns-2)

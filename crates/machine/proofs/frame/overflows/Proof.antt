@@ -20,4 +20,4 @@ returns-3 c =
     room-left (start .args .m) (start .args .l) (start .args .n) (at-if1 .if1 .left) (start .pre) (c .if2 .left)
 
 pub overflows-spec : {M : Type 1} → statement M
-overflows-spec = tie.close (tie.spec returns (search needs) returns-2 returns-3)
+overflows-spec = tie.close (tie.spec returns (λ c. search needs) returns-2 returns-3)

@@ -87,5 +87,5 @@ push-at-spec =
     returns
     store-pc-requires
     push-frame-requires
-    (search needs)
+    (λ c. search needs)
     returns-2)

@@ -73,5 +73,5 @@ push-frame-spec =
     returns
     push-frame-requires
     grown-requires
-    (search needs)
+    (λ c. search needs)
     returns-2)

@@ -14,4 +14,4 @@ returns c =
     (at-put-reg .put-reg .ensures (w .stack) (w .frames) (rep .stack) (rep .frames))
 
 pub put-spec : {M : Type 1} → statement M
-put-spec = tie.close (tie.spec (search needs) (search needs) returns)
+put-spec = tie.close (tie.spec (λ c κs. search needs) (λ c. search needs) returns)

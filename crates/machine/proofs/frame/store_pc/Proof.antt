@@ -13,4 +13,4 @@ returns c =
     (start .args .m .depth) (at-store-pc .store-pc .ensures (w .frames) (rep .frames))
 
 pub store-pc-spec : {M : Type 1} → statement M
-store-pc-spec = tie.close (tie.spec (search needs) (search needs) returns)
+store-pc-spec = tie.close (tie.spec (λ c κs. search needs) (λ c. search needs) returns)

@@ -14,4 +14,4 @@ returns-3 : tie.Need-returns-3
 returns-3 c = search needs
 
 pub arm-close-spec : {M : Type 1} → statement M
-arm-close-spec = tie.close (tie.spec (search needs) (search needs) returns returns-2 returns-3)
+arm-close-spec = tie.close (tie.spec (λ c. search needs) (λ c. search needs) returns returns-2 returns-3)

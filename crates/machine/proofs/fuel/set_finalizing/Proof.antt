@@ -12,4 +12,4 @@ returns c =
     (at-close-ready .close-ready .ensures) refl (c .arm-close .ensures)
 
 pub set-finalizing-spec : {M : Type 1} → statement M
-set-finalizing-spec = tie.close (tie.spec (search needs) (search needs) returns)
+set-finalizing-spec = tie.close (tie.spec (λ c κs. search needs) (λ c κs. search needs) returns)

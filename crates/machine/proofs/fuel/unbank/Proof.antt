@@ -11,4 +11,4 @@ returns-2 : tie.Need-returns-2
 returns-2 c = taken-back (c .before .before .before .args .f) _ (c .before .bank .given .1)
 
 pub unbank-spec : {M : Type 1} → statement M
-unbank-spec = tie.close (tie.spec (search needs) (search needs) returns returns-2)
+unbank-spec = tie.close (tie.spec (λ c. search needs) (λ c. search needs) returns returns-2)

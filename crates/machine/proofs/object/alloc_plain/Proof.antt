@@ -40,12 +40,12 @@ pub alloc-plain-spec : {M : Type 1} → statement M
 alloc-plain-spec =
     tie.close
     (tie.spec
-    (search needs)
+    (λ c κs. search needs)
     alloc-requires
-    (search needs)
-    (search needs)
-    (search needs)
-    (search needs)
+    (λ c. search needs)
+    (λ c. search needs)
+    (λ c κs. search needs)
+    (λ c. search needs)
     returns
-    (search needs)
+    (λ c. search needs)
     returns-2)

@@ -21,4 +21,4 @@ returns c =
 
 pub coro-send-spec : {M : Type 1} → statement M
 coro-send-spec =
-    tie.close (tie.spec (search needs) (search needs) (search needs) (search needs) returns)
+    tie.close (tie.spec (λ c κs. search needs) (λ c κs. search needs) (λ c. search needs) (λ c. search needs) returns)

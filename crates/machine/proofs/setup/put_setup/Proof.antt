@@ -11,4 +11,4 @@ returns c =
     at-fill-row .fill-row .ensures ∙ whole-row (start .args .setup .now) (start .args .given .now) (start .pre)
 
 pub put-setup-spec : {M : Type 1} → statement M
-put-setup-spec = tie.close (tie.spec (search needs) (search needs) returns)
+put-setup-spec = tie.close (tie.spec (λ c κs. search needs) (λ c. search needs) returns)

@@ -110,28 +110,28 @@ pub apply-cont-spec : {M : Type 1} → statement M
 apply-cont-spec =
     tie.close
     (tie.spec
-    (search needs)
-    (search needs)
-    (search needs)
-    (search needs)
-    (search needs)
+    (λ c. search needs)
+    (λ c. search needs)
+    (λ c κs. search needs)
+    (λ c. search needs)
+    (λ c. search needs)
     put-requires
-    (search needs)
+    (λ c. search needs)
     write-dyn-requires
-    (search needs)
-    (search needs)
+    (λ c. search needs)
+    (λ c. search needs)
     returns
-    (search needs)
-    (search needs)
-    (search needs)
+    (λ c. search needs)
+    (λ c κs. search needs)
+    (λ c κs. search needs)
     put-requires-2
-    (search needs)
-    (search needs)
+    (λ c. search needs)
+    (λ c. search needs)
     returns-2
     returns-3
-    (search needs)
+    (λ c. search needs)
     returns-4
-    (search needs)
+    (λ c. search needs)
     returns-5
     returns-6
     returns-7)

@@ -26,4 +26,4 @@ returns-4 c =
 pub result-of-spec : {M : Type 1} → statement M
 result-of-spec =
     tie.close
-    (tie.spec (search needs) (search needs) (search needs) (search needs) returns returns-2 returns-3 returns-4)
+    (tie.spec (λ c. search needs) (λ c. search needs) (λ c. search needs) (λ c. search needs) returns returns-2 returns-3 returns-4)

@@ -60,11 +60,11 @@ write-dyn-spec =
     tie.close
     (tie.spec
     to-dyn-requires
-    (search needs)
+    (λ c. search needs)
     put-requires
-    (search needs)
-    (search needs)
-    (search needs)
+    (λ c. search needs)
+    (λ c. search needs)
+    (λ c. search needs)
     returns
-    (search needs)
+    (λ c. search needs)
     returns-2)

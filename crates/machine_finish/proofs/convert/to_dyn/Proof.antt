@@ -37,12 +37,12 @@ pub to-dyn-spec : {M : Type 1} → statement M
 to-dyn-spec =
     tie.close
     (tie.spec
-    (search needs)
+    (λ c κs. search needs)
     to-dyn-requires
-    (search needs)
-    (search needs)
-    (search needs)
-    (search needs)
+    (λ c. search needs)
+    (λ c. search needs)
+    (λ c κs. search needs)
+    (λ c. search needs)
     returns
-    (search needs)
+    (λ c. search needs)
     returns-2)

@@ -70,7 +70,7 @@ end-call-spec =
     pop-requires
     apply-cont-requires
     resume-in-requires
-    (search needs)
-    (search needs)
-    (search needs)
+    (λ c. search needs)
+    (λ c. search needs)
+    (λ c. search needs)
     returns)

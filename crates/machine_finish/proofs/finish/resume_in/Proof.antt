@@ -21,4 +21,4 @@ returns-2 c =
 
 pub resume-in-spec : {M : Type 1} → statement M
 resume-in-spec =
-    tie.close (tie.spec (search needs) (search needs) (search needs) returns returns-2)
+    tie.close (tie.spec (λ c κs. search needs) (λ c κs. search needs) (λ c. search needs) returns returns-2)

@@ -25,4 +25,4 @@ returns c =
 
 pub handler-in-spec : {M : Type 1} → statement M
 handler-in-spec =
-    tie.close (tie.spec (search needs) (search needs) (search needs) handler-at-requires returns)
+    tie.close (tie.spec (λ c. search needs) (λ c κs. search needs) (λ c κs. search needs) handler-at-requires returns)

@@ -37,11 +37,11 @@ pub take-handler-spec : {M : Type 1} → statement M
 take-handler-spec =
     tie.close
     (tie.spec
-    (search needs)
-    (search needs)
+    (λ c κs. search needs)
+    (λ c κs. search needs)
     returns
-    (search needs)
-    (search needs)
-    (search needs)
-    (search needs)
+    (λ c κs. search needs)
+    (λ c κs. search needs)
+    (λ c. search needs)
+    (λ c. search needs)
     returns-2)

@@ -122,16 +122,16 @@ pub leave-spec : {M : Type 1} → statement M
 leave-spec =
     tie.close
     (tie.spec
-    (search needs)
-    (search needs)
+    (λ c. search needs)
+    (λ c κs. search needs)
     pop-requires
-    (search needs)
+    (λ c κs. search needs)
     passed-requires
     same-length
     same-length-2
     returns
     coro-escaped-requires
-    (search needs)
+    (λ c κs. search needs)
     same-length-3
     same-length-4
     same-length-5

@@ -102,9 +102,9 @@ turn-spec =
     tie.close
     (tie.spec
     handler-in-requires
-    (search needs)
+    (λ c. search needs)
     take-handler-requires
-    (search needs)
+    (λ c. search needs)
     leave-requires
     same-length
     same-length-2

@@ -27,4 +27,4 @@ returns-6 : tie.Need-returns-6
 returns-6 c = no-true (sym (ap isCoro (c .enum-told6 .given .1)) ∙ c .before .before .pre)
 
 pub passed-spec : {M : Type 1} → statement M
-passed-spec = tie.close (tie.spec (search needs) (search needs) (search needs) (search needs) (search needs) (search needs) returns returns-2 returns-3 returns-4 returns-5 returns-6)
+passed-spec = tie.close (tie.spec (λ c. search needs) (λ c. search needs) (λ c. search needs) (λ c. search needs) (λ c. search needs) (λ c. search needs) returns returns-2 returns-3 returns-4 returns-5 returns-6)

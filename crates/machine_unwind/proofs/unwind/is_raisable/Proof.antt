@@ -14,4 +14,4 @@ returns-3 : tie.Need-returns-3
 returns-3 c = let asked = c .before .before in raises-some (asked .before .args .fault) (asked .number .result) (asked .number .ensures) (c .before .if1 .left) (c .if2 .left)
 
 pub is-raisable-spec : {M : Type 1} → statement M
-is-raisable-spec = tie.close (tie.spec (search needs) returns returns-2 returns-3)
+is-raisable-spec = tie.close (tie.spec (λ c κs. search needs) returns returns-2 returns-3)

@@ -18,4 +18,4 @@ returns-2 c =
     λ l w b rep. origin-top l (frame (a .frames .now) plain b) (a .m) (b .fuel) w rep (omega (arith, test .if1 .left)) _ _ (func .func-at .ensures) (c .pc-at .ensures)
 
 pub origin-spec : {M : Type 1} → statement M
-origin-spec = tie.close (tie.spec returns (search needs) (search needs) (search needs) returns-2)
+origin-spec = tie.close (tie.spec returns (λ c. search needs) (λ c κs. search needs) (λ c κs. search needs) returns-2)

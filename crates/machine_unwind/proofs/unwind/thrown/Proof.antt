@@ -31,10 +31,10 @@ pub thrown-spec : {M : Type 1} → statement M
 thrown-spec =
     tie.close
     (tie.spec
-    (search needs)
-    (search needs)
+    (λ c κs. search needs)
+    (λ c κs. search needs)
     returns
-    (search needs)
-    (search needs)
+    (λ c κs. search needs)
+    (λ c. search needs)
     returns-2
     returns-3)

@@ -91,9 +91,9 @@ pub unwind-spec : {M : Type 1} → statement M
 unwind-spec =
     tie.close
     (tie.spec
-    (search needs)
+    (λ c κs. search needs)
     returns
-    (search needs)
+    (λ c κs. search needs)
     raise-requires
     same-length
     same-length-2

@@ -11,4 +11,4 @@ returns c =
     (at-limits .limits .ensures) (at-costs .costs .ensures) (c .row-words .ensures)
 
 pub sizes-spec : {M : Type 1} → statement M
-sizes-spec = tie.close (tie.spec (search needs) (search needs) (search needs) returns)
+sizes-spec = tie.close (tie.spec (λ c κs. search needs) (λ c κs. search needs) (λ c κs. search needs) returns)

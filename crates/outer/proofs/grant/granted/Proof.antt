@@ -27,4 +27,4 @@ returns-2 c =
     Law.not-granted (mem start) (a .m) (a .fuel) (a .n) (sym (test .sound-words .ensures) ∙ c .if1 .left)
 
 pub granted-spec : {M : Type 1} → statement M
-granted-spec = tie.close (tie.spec (search needs) (search needs) returns returns-2)
+granted-spec = tie.close (tie.spec (λ c κs. search needs) (λ c κs. search needs) returns returns-2)

@@ -70,4 +70,4 @@ returns-3 c =
     (sym (at-room .room-ok .ensures) ∙ not-false _ (at-if2 .if2 .left))
 
 pub allowed-spec : {M : Type 1} → statement M
-allowed-spec = tie.close (tie.spec (search needs) returns sizes-requires room-ok-requires returns-2 shared-slice-read-n mul-result add-result returns-3)
+allowed-spec = tie.close (tie.spec (λ c κs. search needs) returns sizes-requires room-ok-requires returns-2 shared-slice-read-n mul-result add-result returns-3)

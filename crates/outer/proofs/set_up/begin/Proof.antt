@@ -94,4 +94,4 @@ returns c =
     (own-part ws (is-held ws (mem start) (start .pre))) refl (at-set-up .set-up .ensures)
 
 pub begin-spec : {M : Type 1} → statement M
-begin-spec = tie.close (tie.spec shared-slice-read-n mul-k add-k (search needs) (search needs) part-set-up-end set-up-requires same-length same-length-2 same-length-3 same-length-4 same-length-5 same-length-6 same-length-7 same-length-8 same-length-9 returns)
+begin-spec = tie.close (tie.spec shared-slice-read-n mul-k add-k (λ c. search needs) (λ c. search needs) part-set-up-end set-up-requires same-length same-length-2 same-length-3 same-length-4 same-length-5 same-length-6 same-length-7 same-length-8 same-length-9 returns)

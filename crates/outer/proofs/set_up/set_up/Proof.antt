@@ -70,4 +70,4 @@ returns-2 c =
     at-begin .begin .ensures ∙ accepts (state (mem start) (a .m) (a .fuel)) (a .given .now) (accepted at-if)
 
 pub set-up-spec : {M : Type 1} → statement M
-set-up-spec = tie.close (tie.spec (search needs) (search needs) returns begin-requires same-length same-length-2 same-length-3 same-length-4 same-length-5 same-length-6 same-length-7 same-length-8 same-length-9 returns-2)
+set-up-spec = tie.close (tie.spec (λ c κs. search needs) (λ c κs. search needs) returns begin-requires same-length same-length-2 same-length-3 same-length-4 same-length-5 same-length-6 same-length-7 same-length-8 same-length-9 returns-2)

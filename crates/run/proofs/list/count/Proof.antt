@@ -21,4 +21,4 @@ returns-2 c =
     sym (ap (λ b. n / 6 + pick b 0 1) (ne-eqb (n % 6) 0 (c .if1 .left)) ∙ ap (λ k. n / 6 + k) (pick-false 0 1))
 
 pub count-spec : {M : Type 1} → statement M
-count-spec = tie.close (tie.spec returns (search needs) returns-2)
+count-spec = tie.close (tie.spec returns (λ c. search needs) returns-2)

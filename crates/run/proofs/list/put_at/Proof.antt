@@ -19,4 +19,4 @@ returns c =
     put-back (start .args .answers .now) (answerWords (start .args .a)) (start .args .i * 8) (start .pre) _ (at-put .put-answer .ensures) refl
 
 pub put-at-spec : {M : Type 1} → statement M
-put-at-spec = tie.close (tie.spec (search needs) (search needs) (search needs) (search needs) (search needs) (search needs) put-answer-requires (search needs) returns)
+put-at-spec = tie.close (tie.spec (λ c. search needs) (λ c. search needs) (λ c. search needs) (λ c. search needs) (λ c. search needs) (λ c. search needs) put-answer-requires (λ c. search needs) returns)

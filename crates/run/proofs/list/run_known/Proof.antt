@@ -101,4 +101,4 @@ returns-2 c =
     (did .run-list .ensures)
 
 pub run-known-spec : {M : Type 1} → statement M
-run-known-spec = tie.close (tie.spec (search needs) returns sizes-if-requires run-list-requires (search needs) same-length same-length-2 same-length-3 same-length-4 same-length-5 same-length-6 same-length-7 same-length-8 same-length-9 returns-2)
+run-known-spec = tie.close (tie.spec (λ c κs. search needs) returns sizes-if-requires run-list-requires (λ c κs. search needs) same-length same-length-2 same-length-3 same-length-4 same-length-5 same-length-6 same-length-7 same-length-8 same-length-9 returns-2)

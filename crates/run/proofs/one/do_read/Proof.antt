@@ -76,4 +76,4 @@ returns-3 c =
     no-read (a .ok) (mem start) (a .m) (a .fuel) (start .pre .known) (a .read) (at-read .read2 .given .0 .0) (not-false _ (at-if .if1 .left)) (at-read .read2 .given .1)
 
 pub do-read-spec : {M : Type 1} → statement M
-do-read-spec = tie.close (tie.spec (search needs) returns (search needs) sound-call-requires (search needs) same-length same-length-2 same-length-3 same-length-4 same-length-5 same-length-6 same-length-7 same-length-8 returns-2 returns-3)
+do-read-spec = tie.close (tie.spec (λ c κs. search needs) returns (λ c. search needs) sound-call-requires (λ c. search needs) same-length same-length-2 same-length-3 same-length-4 same-length-5 same-length-6 same-length-7 same-length-8 returns-2 returns-3)

@@ -26,4 +26,4 @@ returns-2 c =
 
 pub chain-ok-spec : {M : Type 1} → statement M
 chain-ok-spec =
-    tie.close (tie.spec (search needs) returns mul-rest-ok (search needs) returns-2)
+    tie.close (tie.spec (λ c κs. search needs) returns mul-rest-ok (λ c κs. search needs) returns-2)

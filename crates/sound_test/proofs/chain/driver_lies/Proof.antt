@@ -32,4 +32,4 @@ returns-4 c =
 pub driver-lies-spec : {M : Type 1} → statement M
 driver-lies-spec =
     tie.close
-    (tie.spec returns (search needs) returns-2 returns-3 (search needs) returns-4)
+    (tie.spec returns (λ c κs. search needs) returns-2 returns-3 (λ c κs. search needs) returns-4)

@@ -48,4 +48,4 @@ returns-8 c =
 pub cont-ok-spec : {M : Type 1} → statement M
 cont-ok-spec =
     tie.close
-    (tie.spec returns returns-2 returns-3 (search needs) returns-4 returns-5 returns-6 returns-7 returns-8)
+    (tie.spec returns returns-2 returns-3 (λ c κs. search needs) returns-4 returns-5 returns-6 returns-7 returns-8)

@@ -28,4 +28,4 @@ returns-3 c =
 pub saved-frames-ok-spec : {M : Type 1} → statement M
 saved-frames-ok-spec =
     tie.close
-    (tie.spec returns (search needs) returns-2 (search needs) (search needs) returns-3)
+    (tie.spec returns (λ c κs. search needs) returns-2 (λ c. search needs) (λ c κs. search needs) returns-3)

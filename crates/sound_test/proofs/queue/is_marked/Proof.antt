@@ -45,9 +45,9 @@ pub is-marked-spec : {M : Type 1} → statement M
 is-marked-spec =
     tie.close
     (tie.spec
-    (search needs)
-    (search needs)
-    (search needs)
+    (λ c κs. search needs)
+    (λ c. search needs)
+    (λ c. search needs)
     task-at-requires
     returns
     finalized-at-requires

@@ -17,4 +17,4 @@ returns-2 c =
     second-decides _ _ _ (at-entries .entries-ok .result) (c .rest-ok .result) refl (at-entries .entries-ok .ensures) (not-false _ (at-if1 .if1 .left)) (c .rest-ok .ensures)
 
 pub queue-ok-spec : {M : Type 1} → statement M
-queue-ok-spec = tie.close (tie.spec (search needs) returns (search needs) returns-2)
+queue-ok-spec = tie.close (tie.spec (λ c κs. search needs) returns (λ c κs. search needs) returns-2)

@@ -8,4 +8,4 @@ returns : tie.Need-returns
 returns c = λ j. set-bit (c .args .w) (c .args .i) j (c .pre)
 
 pub with-bit-spec : {M : Type 1} → statement M
-with-bit-spec = tie.close (tie.spec (search needs) returns)
+with-bit-spec = tie.close (tie.spec (λ c. search needs) returns)

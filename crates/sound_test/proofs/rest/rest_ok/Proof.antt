@@ -21,4 +21,4 @@ returns-2 c =
 pub rest-ok-spec : {M : Type 1} → statement M
 rest-ok-spec =
     tie.close
-    (tie.spec returns (search needs) (search needs) (search needs) (search needs) (search needs) returns-2)
+    (tie.spec returns (λ c. search needs) (λ c. search needs) (λ c. search needs) (λ c. search needs) (λ c κs. search needs) returns-2)

@@ -39,4 +39,4 @@ returns-3 c =
 pub long-ok-spec : {M : Type 1} → statement M
 long-ok-spec =
     tie.close
-    (tie.spec returns (search needs) (search needs) returns-2 mul-need add-need returns-3)
+    (tie.spec returns (λ c. search needs) (λ c κs. search needs) returns-2 mul-need add-need returns-3)

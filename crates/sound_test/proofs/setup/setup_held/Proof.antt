@@ -162,14 +162,14 @@ pub setup-held-spec : {M : Type 1} → statement M
 setup-held-spec =
     tie.close
     (tie.spec
-    (search needs)
+    (λ c κs. search needs)
     returns
     shared-slice-read-n
     limits-requires
-    (search needs)
+    (λ c κs. search needs)
     returns-2
     costs-requires
-    (search needs)
+    (λ c κs. search needs)
     returns-3
     shared-slice-read-if4
     shared-slice-read-if4-2
@@ -180,5 +180,5 @@ setup-held-spec =
     returns-6
     mul-rest-ok
     add-rest-ok
-    (search needs)
+    (λ c κs. search needs)
     returns-7)

@@ -14,4 +14,4 @@ returns-2 c =
     a-bank (start .args .f .bank) _ (eqb (start .args .f .fuel) 0) (at-enum-told2 .enum-told2 .given .1)
 
 pub fuel-ok-spec : {M : Type 1} → statement M
-fuel-ok-spec = tie.close (tie.spec (search needs) (search needs) returns returns-2)
+fuel-ok-spec = tie.close (tie.spec (λ c. search needs) (λ c. search needs) returns returns-2)

@@ -66,9 +66,9 @@ coro-row-spec =
     (tie.spec
     coro-ok-requires
     returns
-    (search needs)
+    (λ c κs. search needs)
     returns-2
-    (search needs)
+    (λ c κs. search needs)
     in-set-requires
     returns-3
     returns-4

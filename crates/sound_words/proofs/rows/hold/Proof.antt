@@ -17,4 +17,4 @@ returns-2 c =
     λ j h. sym (ap (λ b. b || bitAt (start .args .mask) j) (ne-eqb j (start .args .row) (λ e. omega (arith, c .if1 .left))))
 
 pub hold-spec : {M : Type 1} → statement M
-hold-spec = tie.close (tie.spec (search needs) returns returns-2)
+hold-spec = tie.close (tie.spec (λ c κs. search needs) returns returns-2)

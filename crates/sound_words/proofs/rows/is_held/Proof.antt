@@ -18,4 +18,4 @@ returns-2 c =
     sym (ap (λ b. b && bitAt (start .args .mask) (start .args .row)) (le-ltb (start .args .row) 64 (c .if1 .left)))
 
 pub is-held-spec : {M : Type 1} → statement M
-is-held-spec = tie.close (tie.spec (search needs) returns returns-2)
+is-held-spec = tie.close (tie.spec (λ c κs. search needs) returns returns-2)

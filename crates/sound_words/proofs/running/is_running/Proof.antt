@@ -18,4 +18,4 @@ returns-2 c =
 
 pub is-running-spec : {M : Type 1} → statement M
 is-running-spec =
-    tie.close (tie.spec (search needs) (search needs) (search needs) (search needs) returns returns-2)
+    tie.close (tie.spec (λ c κs. search needs) (λ c. search needs) (λ c. search needs) (λ c κs. search needs) returns returns-2)

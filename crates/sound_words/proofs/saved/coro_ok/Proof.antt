@@ -81,10 +81,10 @@ pub coro-ok-spec : {M : Type 1} → statement M
 coro-ok-spec =
     tie.close
     (tie.spec
-    (search needs)
-    (search needs)
+    (λ c κs. search needs)
+    (λ c κs. search needs)
     returns
-    (search needs)
+    (λ c κs. search needs)
     returns-2
     returns-3
     row-rest-requires

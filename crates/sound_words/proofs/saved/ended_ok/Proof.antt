@@ -26,4 +26,4 @@ returns-4 c =
     c .largest-ok .ensures ∙ sym (saved-none (a .l) (a .c) (at-if1 .if1 .left) (at-if2 .if2 .left) (at-if3 .if3 .left))
 
 pub ended-ok-spec : {M : Type 1} → statement M
-ended-ok-spec = tie.close (tie.spec returns returns-2 returns-3 (search needs) returns-4)
+ended-ok-spec = tie.close (tie.spec returns returns-2 returns-3 (λ c κs. search needs) returns-4)

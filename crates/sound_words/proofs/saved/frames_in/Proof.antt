@@ -39,10 +39,10 @@ pub frames-in-spec : {M : Type 1} → statement M
 frames-in-spec =
     tie.close
     (tie.spec
-    (search needs)
-    (search needs)
+    (λ c κs. search needs)
+    (λ c κs. search needs)
     returns
     returns-2
     returns-3
-    (search needs)
+    (λ c κs. search needs)
     returns-4)

@@ -27,4 +27,4 @@ returns-2 c =
 
 pub frames-saved-spec : {M : Type 1} → statement M
 frames-saved-spec =
-    tie.close (tie.spec (search needs) returns waits-ok-requires returns-2)
+    tie.close (tie.spec (λ c κs. search needs) returns waits-ok-requires returns-2)

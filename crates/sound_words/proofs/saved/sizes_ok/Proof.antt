@@ -24,4 +24,4 @@ returns-3 c =
     c .largest-ok .ensures ∙ sym (rw (le-leb (a .c .regs) (a .l .width) (at-if1 .if1 .left), le-leb (a .c .frames) (a .l .depth) (at-if2 .if2 .left)))
 
 pub sizes-ok-spec : {M : Type 1} → statement M
-sizes-ok-spec = tie.close (tie.spec returns returns-2 (search needs) returns-3)
+sizes-ok-spec = tie.close (tie.spec returns returns-2 (λ c κs. search needs) returns-3)

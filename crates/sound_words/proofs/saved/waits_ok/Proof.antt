@@ -34,10 +34,10 @@ pub waits-ok-spec : {M : Type 1} → statement M
 waits-ok-spec =
     tie.close
     (tie.spec
-    (search needs)
+    (λ c κs. search needs)
     returns
-    (search needs)
-    (search needs)
+    (λ c. search needs)
+    (λ c κs. search needs)
     returns-2
-    (search needs)
+    (λ c. search needs)
     returns-3)

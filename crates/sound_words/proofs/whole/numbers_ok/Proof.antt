@@ -41,9 +41,9 @@ numbers-ok-spec =
     (tie.spec
     room-ok-requires
     returns
-    (search needs)
+    (λ c κs. search needs)
     returns-2
-    (search needs)
+    (λ c κs. search needs)
     returns-3
-    (search needs)
+    (λ c κs. search needs)
     returns-4)

@@ -147,16 +147,16 @@ objects-ok-spec =
     tie.close
     (tie.spec
     mul-rest-ok
-    (search needs)
+    (λ c κs. search needs)
     returns
     running-requires
     returns-2
     rows-ok-requires
     returns-3
     mul-rest-ok-2
-    (search needs)
+    (λ c κs. search needs)
     returns-4
     mul-rest-ok-3
     mul-rest-ok-4
-    (search needs)
+    (λ c κs. search needs)
     returns-5)

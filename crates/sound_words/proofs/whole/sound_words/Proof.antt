@@ -140,7 +140,7 @@ pub sound-words-spec : {M : Type 1} → statement M
 sound-words-spec =
     tie.close
     (tie.spec
-    (search needs)
+    (λ c κs. search needs)
     returns
     sizes-requires
     numbers-ok-requires

@@ -41,5 +41,5 @@ tower-ok-spec =
     returns
     chain-ok-requires
     returns-2
-    (search needs)
+    (λ c κs. search needs)
     returns-3)

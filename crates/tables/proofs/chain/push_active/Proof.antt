@@ -19,4 +19,4 @@ returns c =
     λ cs p. subst (λ ws. Chain (a ∷ cs) ws (z .n + 1)) (sym (at-put-active .put-active .ensures)) (pushes activeWords length-active (z .chain .now) (z .n) a cs (start .pre) p)
 
 pub push-active-spec : {M : Type 1} → statement M
-push-active-spec = tie.close (tie.spec (search needs) (search needs) returns)
+push-active-spec = tie.close (tie.spec (λ c κs. search needs) (λ c. search needs) returns)

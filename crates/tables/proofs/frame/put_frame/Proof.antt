@@ -33,25 +33,25 @@ pub put-frame-spec : {M : Type 1} → statement M
 put-frame-spec =
     tie.close
     (tie.spec
-    (search needs)
-    (search needs)
-    (search needs)
-    (search needs)
-    (search needs)
+    (λ c. search needs)
+    (λ c. search needs)
+    (λ c. search needs)
+    (λ c. search needs)
+    (λ c. search needs)
     slice-write-frames-2
-    (search needs)
-    (search needs)
+    (λ c. search needs)
+    (λ c. search needs)
     slice-write-frames-3
-    (search needs)
-    (search needs)
+    (λ c. search needs)
+    (λ c. search needs)
     slice-write-frames-4
-    (search needs)
-    (search needs)
-    (search needs)
+    (λ c κs. search needs)
+    (λ c. search needs)
+    (λ c. search needs)
     slice-write-frames-5
-    (search needs)
-    (search needs)
-    (search needs)
+    (λ c κs. search needs)
+    (λ c. search needs)
+    (λ c. search needs)
     slice-write-frames-6
-    (search needs)
+    (λ c. search needs)
     returns)

@@ -13,4 +13,4 @@ returns c =
     clears frameWords length-frame (begin .frames .now) (cleared .clear-part .last .0) (begin .depth) (cleared .clear-part .ensures)
 
 pub clear-frames-spec : {M : Type 1} → statement M
-clear-frames-spec = tie.close (tie.spec (search needs) (search needs) (search needs) returns)
+clear-frames-spec = tie.close (tie.spec (λ c. search needs) (λ c κs. search needs) (λ c. search needs) returns)

@@ -19,4 +19,4 @@ returns c =
     λ fs p. subst (λ ws. Frames (f ∷ fs) ws (a .depth + 1)) (sym (at-put-frame .put-frame .ensures)) (pushes frameWords length-frame (a .frames .now) (a .depth) f fs (start .pre) p)
 
 pub push-frame-spec : {M : Type 1} → statement M
-push-frame-spec = tie.close (tie.spec (search needs) (search needs) returns)
+push-frame-spec = tie.close (tie.spec (λ c κs. search needs) (λ c. search needs) returns)

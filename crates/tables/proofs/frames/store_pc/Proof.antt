@@ -9,4 +9,4 @@ returns c = stores (c .args .frames .now) (c .args .depth) (c .args .pc) (c .pre
 
 pub store-pc-spec : {M : Type 1} → statement M
 store-pc-spec =
-    tie.close (tie.spec (search needs) (search needs) (search needs) (search needs) (search needs) (search needs) returns)
+    tie.close (tie.spec (λ c. search needs) (λ c. search needs) (λ c. search needs) (λ c. search needs) (λ c. search needs) (λ c. search needs) returns)

@@ -17,4 +17,4 @@ returns c =
     c .first-handler .ensures ∙ ap (λ (f : Function). firstOf (begin .args .pc) (funcOf f .handlers)) (read .function-at .ensures)
 
 pub handler-at-spec : {M : Type 1} → statement M
-handler-at-spec = tie.close (tie.spec (search needs) first-handler-requires returns)
+handler-at-spec = tie.close (tie.spec (λ c κs. search needs) first-handler-requires returns)

@@ -14,4 +14,4 @@ unfolding pick
 returns-2 c = rw (ne-eqb _ _ (c .before .if1 .left))
 
 pub hook-spec : {M : Type 1} → statement M
-hook-spec = tie.close (tie.spec (search needs) returns (search needs) returns-2)
+hook-spec = tie.close (tie.spec (λ c. search needs) returns (λ c. search needs) returns-2)

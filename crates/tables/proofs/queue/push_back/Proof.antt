@@ -8,4 +8,4 @@ returns : tie.Need-returns
 returns c = pushes-back (c .args .queue .now) (c .args .n) (c .args .v) (c .pre)
 
 pub push-back-spec : {M : Type 1} → statement M
-push-back-spec = tie.close (tie.spec (search needs) (search needs) (search needs) returns)
+push-back-spec = tie.close (tie.spec (λ c. search needs) (λ c. search needs) (λ c. search needs) returns)

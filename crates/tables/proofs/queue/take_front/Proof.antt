@@ -13,4 +13,4 @@ returns c =
     (begin .pre .0) (moved .move-down .ensures) (cleared .cut .ensures)
 
 pub take-front-spec : {M : Type 1} → statement M
-take-front-spec = tie.close (tie.spec (search needs) (search needs) (search needs) (search needs) returns)
+take-front-spec = tie.close (tie.spec (λ c. search needs) (λ c κs. search needs) (λ c κs. search needs) (λ c. search needs) returns)

@@ -8,4 +8,4 @@ returns : tie.Need-returns
 returns c = let begin = c .before .args in peeks (begin .queue .now) (begin .i)
 
 pub word-at-spec : {M : Type 1} → statement M
-word-at-spec = tie.close (tie.spec (search needs) (search needs) returns)
+word-at-spec = tie.close (tie.spec (λ c. search needs) (λ c. search needs) returns)

@@ -21,4 +21,4 @@ returns c =
 
 pub enter-frames-spec : {M : Type 1} → statement M
 enter-frames-spec =
-    tie.close (tie.spec (search needs) move-frames-requires (search needs) (search needs) returns)
+    tie.close (tie.spec (λ c. search needs) move-frames-requires (λ c. search needs) (λ c. search needs) returns)

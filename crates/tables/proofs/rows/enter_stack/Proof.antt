@@ -12,4 +12,4 @@ returns c =
     enters-stack (a .stack .now) (a .saved .now) (m .last .0) (m .last .1 .1 .0) (a .height) (a .at) (a .n) (start .pre .0) (m .ensures)
 
 pub enter-stack-spec : {M : Type 1} → statement M
-enter-stack-spec = tie.close (tie.spec (search needs) (search needs) (search needs) returns)
+enter-stack-spec = tie.close (tie.spec (λ c κs. search needs) (λ c. search needs) (λ c. search needs) returns)

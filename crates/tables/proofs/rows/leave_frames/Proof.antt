@@ -22,4 +22,4 @@ returns c =
 pub leave-frames-spec : {M : Type 1} → statement M
 leave-frames-spec =
     tie.close
-    (tie.spec (search needs) (search needs) move-frames-requires (search needs) (search needs) returns)
+    (tie.spec (λ c. search needs) (λ c. search needs) move-frames-requires (λ c. search needs) (λ c. search needs) returns)

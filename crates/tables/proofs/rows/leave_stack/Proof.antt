@@ -13,4 +13,4 @@ returns c =
 
 pub leave-stack-spec : {M : Type 1} → statement M
 leave-stack-spec =
-    tie.close (tie.spec (search needs) (search needs) (search needs) (search needs) returns)
+    tie.close (tie.spec (λ c. search needs) (λ c κs. search needs) (λ c. search needs) (λ c. search needs) returns)

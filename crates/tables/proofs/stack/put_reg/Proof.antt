@@ -10,4 +10,4 @@ returns c =
     puts (a .stack .now) (a .frames .now) (a .height) (a .depth) (a .r) (a .v) (start .pre) (c .base-at .result) (c .base-at .ensures)
 
 pub put-reg-spec : {M : Type 1} → statement M
-put-reg-spec = tie.close (tie.spec (search needs) (search needs) (search needs) (search needs) (search needs) (search needs) returns)
+put-reg-spec = tie.close (tie.spec (λ c. search needs) (λ c κs. search needs) (λ c. search needs) (λ c. search needs) (λ c. search needs) (λ c. search needs) returns)

@@ -10,4 +10,4 @@ returns c =
     gets (a .stack .now) (a .frames .now) (a .height) (a .depth) (a .r) (start .pre) (read .base-at .result) (read .base-at .ensures)
 
 pub reg-spec : {M : Type 1} → statement M
-reg-spec = tie.close (tie.spec (search needs) (search needs) (search needs) (search needs) (search needs) returns)
+reg-spec = tie.close (tie.spec (λ c. search needs) (λ c κs. search needs) (λ c. search needs) (λ c. search needs) (λ c. search needs) returns)

@@ -10,4 +10,4 @@ returns : tie.Need-returns
 returns c = ap (λ (n : ℕ). eqb n 0) (c .number .ensures)
 
 pub is-none-spec : {M : Type 1} → statement M
-is-none-spec = tie.close (tie.spec (search needs) returns)
+is-none-spec = tie.close (tie.spec (λ c κs. search needs) returns)

@@ -42,4 +42,4 @@ returns-2 : tie.Need-returns-2
 returns-2 c = other (c .before .args .self) (c .match .keys2)
 
 pub word-spec : {M : Type 1} → statement M
-word-spec = tie.close (tie.spec (search needs) returns returns-2)
+word-spec = tie.close (tie.spec (λ c. search needs) returns returns-2)

@@ -14,4 +14,4 @@ unfolding pick
 returns-2 c = rw (sym (c .before .fits2 .ensures) ∙ c .if1 .left)
 
 pub charge-spec : {M : Type 1} → statement M
-charge-spec = tie.close (tie.spec (search needs) (search needs) returns returns-2)
+charge-spec = tie.close (tie.spec (λ c κs. search needs) (λ c κs. search needs) returns returns-2)

@@ -10,4 +10,4 @@ returns : tie.Need-returns
 returns c = ap (λ (n : ℕ). leb n (c .before .before .args .self .limit)) (c .before .sat-add .ensures)
 
 pub fits-spec : {M : Type 1} → statement M
-fits-spec = tie.close (tie.spec (search needs) returns)
+fits-spec = tie.close (tie.spec (λ c κs. search needs) returns)

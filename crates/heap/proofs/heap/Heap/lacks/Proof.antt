@@ -23,4 +23,4 @@ unfolding pick
 returns-3 c = rw (sym (c .before .fits2 .ensures) ∙ c .if1 .left)
 
 pub lacks-spec : {M : Type 1} → statement M
-lacks-spec = tie.close (tie.spec (search needs) returns returns-2 returns-3)
+lacks-spec = tie.close (tie.spec (λ c κs. search needs) returns returns-2 returns-3)

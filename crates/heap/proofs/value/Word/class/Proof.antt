@@ -49,4 +49,4 @@ unfolding pick
 returns-5 c = rw (ne-eqb _ _ (c .before .before .if1 .left), ne-eqb _ _ (c .before .if2 .left), ne-eqb _ _ (c .if3 .left))
 
 pub class-spec : {M : Type 1} → statement M
-class-spec = tie.close (tie.spec (search needs) returns returns-2 returns-3 returns-4 returns-5)
+class-spec = tie.close (tie.spec (λ c. search needs) returns returns-2 returns-3 returns-4 returns-5)

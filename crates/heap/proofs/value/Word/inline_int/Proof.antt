@@ -34,4 +34,4 @@ returns-3 c =
     rw (high 63 n (omega arith), lt-ltb (2 ^ 64 - suc n) (2 ^ 47) (omega arith)) (ap (λ (k : ℕ). I.At (record { 0 = k })) (omega arith))
 
 pub inline-int-spec : {M : Type 1} → statement M
-inline-int-spec = tie.close (tie.spec (search needs) (search needs) returns returns-2 returns-3)
+inline-int-spec = tie.close (tie.spec (λ c. search needs) (λ c. search needs) returns returns-2 returns-3)
