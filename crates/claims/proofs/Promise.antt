@@ -44,7 +44,7 @@ use Rattle.claims.specs.Engine as Engine
 use Rattle.claims.specs.Engine.{Turn, calls}
 use Rattle.claims.specs.Demand3.{Restarts}
 use Rattle.claims.specs.Events.{Healthy, raised, endsAt}
-use Rattle.claims.specs.Promise.{plain, room, Roomy, Makes, converts, Eleven, sets-up, no-fault, Soundness, Fresh, registers, NotEmpty, Promise}
+use Rattle.claims.specs.Promise.{plain, room, Roomy, Makes, converts, Eleven, sets-up, no-fault, Soundness, Fresh, registers, Refuels, NotEmpty, Promise}
 use Rattle.claims.specs.Steps.{seenOf, rulesOf, viewOf, opOf, asksOf, looks, steps}
 use Rattle.claims.specs.Story.{wide, f, c, held}
 use Rattle.claims.specs.Premises.{premises}
@@ -286,6 +286,11 @@ look-unmoved w (Do o) e = go (sound w)
     go true = ap (λ p. viewOf (call p w .world)) (some-op e)
     go false = refl
 
+-- ---- another fuel record
+
+refuelled : Refuels steps
+refuelled w f = refl
+
 -- ---- not empty: the split that Witness.antt shows as lists
 
 unfoldable pub before : List (Turn Call)
@@ -381,7 +386,7 @@ promise =
       soundness = soundness;
       set-ups = record { begun = set-up-begun; given = set-up-given; refused = set-up-refused };
       looks = record { sees = look-sees; unseen = look-unseen; unmoved = look-unmoved };
-      refuels = λ w f. refl;
+      refuels = refuelled;
       speaks = λ o h. (asCall o (as-typed o ∙ h), refl);
       not-empty = not-empty;
     }
