@@ -1,15 +1,15 @@
-//! Finds the library's two archives, or makes them.
+//! Finds the library's three archives, or makes them.
 //!
-//! `HUMDELZI_LIB` names the folder that holds `libboundary.a` and `libhot.a`.
-//! Without it they are taken from `../target/staticlib`; one that is not there
-//! is proved and written by `rt staticlib boundary`, `rt staticlib hot`.
+//! `HUMDELZI_LIB` names the folder that holds `libboundary.a`, `libhot.a` and
+//! `libbatch.a`. Without it they are taken from `../target/staticlib`; one that
+//! is not there is proved and written by `rt staticlib boundary`, and so on.
 
 use std::path::{Path, PathBuf};
 use std::process::{self, Command};
 use std::{env, fs};
 
-/// Resume and Yield, and all other functions. Neither needs the other.
-const ARCHIVES: [&str; 2] = ["hot", "boundary"];
+/// Resume and Yield, many calls, and all other functions. None needs another.
+const ARCHIVES: [&str; 3] = ["hot", "batch", "boundary"];
 
 fn main() {
     println!("cargo::rerun-if-changed=build.rs");
@@ -70,8 +70,8 @@ fn make(root: &Path, lib: &Path, name: &str) {
     fail(&format!(
         "{why}\n\
          The proved library lib{name}.a is not in {}. Either\n\
-         - install the Rattle toolchain, so that `rt` is found, and run `rt staticlib boundary` and `rt staticlib hot` in {}\n\
-         - or set HUMDELZI_LIB to a folder that holds libboundary.a and libhot.a",
+         - install the Rattle toolchain, so that `rt` is found, and run `rt staticlib boundary`, `rt staticlib hot` and `rt staticlib batch` in {}\n\
+         - or set HUMDELZI_LIB to a folder that holds libboundary.a, libhot.a and libbatch.a",
         lib.display(),
         root.display()
     ));

@@ -1,6 +1,6 @@
 #!/usr/bin/env python3
 """Checks docs/RULES.md and docs/ASSURANCE.md against the sources, so that neither can rot:
-each file and name that a row of RULES names is there; a sentence is marked as quoted exactly if a comment of its definition's file quotes it;
+each file and name that a row of RULES names is there, and what is no statement in its column "theorem" is the fault sheet's; a sentence is marked as quoted exactly if a comment of its definition's file quotes it;
 every quotation in a comment of crates/ is 01's, or is listed as another's; the places and counts of ASSURANCE are those of today.
 README's layout is crates.txt's. What a wrong edit changes stands once in its file, and CHEATS names it. No file of specs/ or src/ cites one of proofs/, so that what is to be believed stands in specs/. `page/rules.py mend` writes places and counts into ASSURANCE, and the marks into RULES."""
 import re
@@ -91,8 +91,34 @@ def quotes(quotation, sentence):
     return (len(quotation) >= 4 or quotation == sentence) and shares(quotation, sentence)
 
 
+def is_definition(path, name):
+    """Whether a file declares the name as a definition that is no statement: a field or a record is one, and what ends in Type."""
+    made = closure.file_of(path).declared.get(name) if path.suffix == ".antt" else None
+    if made is None or made.kind != "definition":
+        return False
+    head = [row for row in made.code() if not row.startswith("module ")][0]
+    return head.startswith(("abbrev", "unfoldable")) and not re.search(r"(?:→|:) Type \d$", head)
+
+
+def check_judged(number, cell, table, now, mend):
+    """In the column "theorem" a definition has the mark °, and is one that the table's theorem rests on."""
+    for file, name, mark in re.findall(r"`([A-Za-z0-9_/]+\.(?:antt|rt)): ([A-Za-z0-9_-]+)`( °)?", cell):
+        path = path_of(file)
+        wanted = (ROOT / path).exists() and is_definition(path, name)
+        if wanted and (str(path), name) not in table:
+            say(f"docs/RULES.md, {number}: {name} of {path} is a definition, and no part of the fault sheet")
+        elif wanted != bool(mark) and mend:
+            place = f"`{file}: {name}`"
+            fixed = cell.replace(place + " °", place) if mark else cell.replace(place, place + " °")
+            now, cell = now.replace(f"| {cell} |", f"| {fixed} |"), fixed
+        elif wanted != bool(mark):
+            say(f"docs/RULES.md, {number}: {name} {'has no' if wanted else 'has a'} mark °")
+    return now
+
+
 def check_rules(mend):
     names = quoted = 0
+    table = {one.key for one in closure.closure(closure.find("sheet/specs/Sheet.antt:FaultSheet"))[0]}
     page = now = RULES.read_text()
     sections, quotations = {}, {}
     for path in sorted((ROOT / "crates").rglob("*")):
@@ -114,6 +140,7 @@ def check_rules(mend):
             path = path_of(file)
             if not (ROOT / path).exists() or not has(path, name):
                 say(f"docs/RULES.md, {number}: no {name} in {path}")
+        now = check_judged(number, cells[1].removesuffix(" |"), table, now, mend) if len(cells) > 1 else now
         files = [path_of(file) for file in re.findall(r"`([A-Za-z0-9_/]+\.(?:antt|rt)): ", cells[0])]
         found = [plain(one) for file in files for _, one in quotations.get(file, [])]
         quoted += marked
@@ -246,7 +273,7 @@ def check_edits():
                     say(f"{path.relative_to(ROOT)}: not once in its file: {text}")
         if crate in ("model", "sheet", "lent", "lent_claims") and f"`{path.stem}`" not in cheats:
             say(f"docs/CHEATS.md: no {path.stem} of {crate}")
-    for name in re.findall(r"^  pub ([a-z0-9-]+) : .* → ⊥$", (ROOT / "crates/claims/specs/Wrong.antt").read_text(), re.M):
+    for name in re.findall(r"^  pub ([a-z0-9-]+) : .* → ⊥$", "".join(path.read_text() for path in ROOT.glob("crates/claims/specs/Wrong*.antt")), re.M):
         if f"`{name}`" not in cheats:
             say(f"docs/CHEATS.md: no {name}")
     print(f"rules: {count} texts that edits change")

@@ -175,6 +175,7 @@ impl Answer {
 
     /// The fault of a refusal or of a raising step.
     #[must_use]
+    #[inline]
     pub fn fault(&self) -> Option<Fault> {
         match *self {
             Answer::Refused(f) | Answer::Stepped { step: Step::Fault(f) | Step::Unwind(f), .. } => {
@@ -204,6 +205,7 @@ impl Answer {
 
     /// The Step of an instruction past its gate; else none.
     #[must_use]
+    #[inline]
     pub fn step(&self) -> Option<Step> {
         match *self {
             Answer::Stepped { step, .. } => Some(step),
@@ -230,8 +232,18 @@ impl Answer {
         self.number() == 0
     }
 
-    /// The answer that eight words tell.
+    /// The answer that eight words tell. That of a switch is told apart first,
+    /// by single words: a wider load would wait for the library's stores.
+    #[inline]
     pub(crate) fn read(words: &[u64; 8]) -> Answer {
+        if words[4] == 3 && words[2] == 2 {
+            return Answer::Stepped { step: Step::Frame, taken: words[3] };
+        }
+        Answer::read_any(words)
+    }
+
+    #[cold]
+    fn read_any(words: &[u64; 8]) -> Answer {
         let [number, word, step, taken, case, kind, func, pc] = *words;
         let fault = || Fault::read(number, word);
         match case {

@@ -4,9 +4,10 @@
 //! Why each call is safe. The library is compiled from code that is proved to
 //! stay within the slices that it is lent, if what it asks for holds:
 //!
-//! - Every slice is passed as the pointer and the length of a slice that is
-//!   borrowed for the call, and no two overlap: they are different vectors,
-//!   each borrowed once.
+//! - Every slice is passed as its pointer and its length, and no two overlap:
+//!   the machine's are different parts of one block that [`Sound`] owns and
+//!   neither moves nor resizes, borrowed with it for the call; the others are
+//!   borrowed for the call each.
 //! - `bvm_set_up` and `bvm_sound` may be lent any words whatever, and
 //!   `bvm_sound` only reads.
 //! - `bvm_kept` asks for the words of a sound machine, and for a sound fuel
@@ -23,8 +24,12 @@
 //!   `crates/hot/src/resume.rt` and `yielding.rt`, is `bvm_kept`'s equation
 //!   (`keptIn` of `crates/boundary/specs/Host.antt`). So what is said of
 //!   `bvm_kept` above holds of them.
+//! - `bvm_batch` may be lent any words whatever, and leaves a sound machine
+//!   sound (`runHost` there; `ran` of `Library.antt`).
 
 #![allow(unsafe_code)]
+
+use std::slice;
 
 use crate::words::Words;
 
@@ -33,14 +38,59 @@ pub(crate) type CallWords = [u64; 6];
 /// An answer in words.
 pub(crate) type AnswerWords = [u64; 8];
 
+/// A slice as the library takes it.
+#[derive(Clone, Copy)]
+#[repr(C)]
+struct Lent(*mut u64, usize);
+
 /// The words of a sound machine; its fuel stands elsewhere.
-#[derive(Clone, PartialEq, Eq)]
-pub(crate) struct Sound(Words);
+pub(crate) struct Sound {
+    /// All words, in one block: read and written by way of the slices only.
+    _block: Vec<u64>,
+    /// Its parts that the library is lent, in the order of its parameters.
+    slices: [Lent; 10],
+    /// Where the library writes an answer.
+    answer: AnswerWords,
+}
+
+// SAFETY: the pointers lead into the block, which is the machine's own.
+unsafe impl Send for Sound {}
+// SAFETY: what is shared is only read.
+unsafe impl Sync for Sound {}
+
+/// The words of a machine, to be read.
+#[derive(Clone, Copy, PartialEq, Eq)]
+pub(crate) struct View<'a> {
+    pub(crate) stack: &'a [u64],
+    pub(crate) frames: &'a [u64],
+    pub(crate) chain: &'a [u64],
+    pub(crate) slots: &'a [u64],
+    pub(crate) saved_stack: &'a [u64],
+    pub(crate) saved_frames: &'a [u64],
+    pub(crate) ready: &'a [u64],
+    pub(crate) finalize: &'a [u64],
+    pub(crate) setup: &'a [u64],
+    pub(crate) machine: &'a [u64],
+}
+
+impl<'a> View<'a> {
+    /// The slices, in the order of the library's parameters.
+    pub(crate) fn parts(&self) -> [&'a [u64]; 10] {
+        let View { stack, frames, chain, slots, saved_stack, saved_frames, .. } = *self;
+        let View { ready, finalize, setup, machine, .. } = *self;
+        [stack, frames, chain, slots, saved_stack, saved_frames, ready, finalize, setup, machine]
+    }
+}
 
 /// A sound fuel record: what is left; 1 and how much is set aside, or 0 and 0;
 /// 1 if a cleanup is ready. The empty one is what a set-up gives.
 #[derive(Clone, PartialEq, Eq, Debug, Default)]
 pub(crate) struct Record([u64; 4]);
+
+/// Words of a page, and how far in theirs the slices begin from one another:
+/// where two begin at the same place, loads wait for stores to the other.
+const PAGE: usize = 512;
+const APART: usize = 80;
 
 /// The library's functions. Each is lent the machine's nine slices and its
 /// numbers, as a pointer and a length each, then other slices, then operands.
@@ -70,26 +120,19 @@ functions! {
     bvm_kept(fuel call answer) *mut u64;
     bvm_resume(fuel answer; pc: u32, dst: u16, coro: u16, src: u16) *mut u64;
     bvm_yield(fuel answer; pc: u32, dst: u16, src: u16) *mut u64;
+    bvm_batch(fuel calls answers) *mut u64;
     bvm_sound(fuel) *const u64;
 }
 
-/// Calls one of them, with the words, the other slices and the operands.
+/// Calls one of them, with the machine's slices, the others and the operands.
 macro_rules! lend {
-    ($name:ident($words:expr, $($slice:expr),* $(; $($operand:expr),*)?) $pointer:ident) => {{
-        let w = $words;
+    ($name:ident($lent:expr, $($slice:expr),* $(; $($operand:expr),*)?) $pointer:ident) => {{
+        let w: &[Lent; 10] = &$lent;
         // SAFETY: above.
         unsafe {
             $name(
-                w.stack.$pointer(), w.stack.len(),
-                w.frames.$pointer(), w.frames.len(),
-                w.chain.$pointer(), w.chain.len(),
-                w.slots.$pointer(), w.slots.len(),
-                w.saved_stack.$pointer(), w.saved_stack.len(),
-                w.saved_frames.$pointer(), w.saved_frames.len(),
-                w.ready.$pointer(), w.ready.len(),
-                w.finalize.$pointer(), w.finalize.len(),
-                w.setup.$pointer(), w.setup.len(),
-                w.machine.$pointer(), w.machine.len(),
+                w[0].0, w[0].1, w[1].0, w[1].1, w[2].0, w[2].1, w[3].0, w[3].1, w[4].0, w[4].1,
+                w[5].0, w[5].1, w[6].0, w[6].1, w[7].0, w[7].1, w[8].0, w[8].1, w[9].0, w[9].1,
                 $($slice.$pointer(), $slice.len(),)*
                 $($($operand,)*)?
             )
@@ -98,73 +141,121 @@ macro_rules! lend {
 }
 
 impl Sound {
-    /// A set-up of the words `given`, on words that hold anything.
-    pub(crate) fn set_up(mut words: Words, given: &[u64]) -> Option<(Sound, Record)> {
-        let (mut given, mut answer, mut fuel) = (given.to_vec(), [0; 8], [0; 4]);
-        words.fuel.clear();
-        let number = lend!(bvm_set_up(&mut words, fuel, given, answer) as_mut_ptr);
-        (number == 0).then_some((Sound(words), Record(fuel)))
+    /// Zeros, so many in each slice.
+    fn room(lengths: [usize; 10]) -> Sound {
+        let mut block = vec![0u64; lengths.iter().map(|n| n + PAGE).sum::<usize>() + PAGE];
+        let start = block.as_mut_ptr();
+        let first = start.align_offset(8 * PAGE);
+        let mut at = first;
+        let slices = std::array::from_fn(|i| {
+            at += (i * APART + PAGE - (at - first) % PAGE) % PAGE;
+            assert!(at + lengths[i] <= block.len(), "room for the slice");
+            // SAFETY: the part lies in the block.
+            let lent = Lent(unsafe { start.add(at) }, lengths[i]);
+            at += lengths[i];
+            lent
+        });
+        Sound { _block: block, slices, answer: [0; 8] }
+    }
+
+    /// These words in a block of their own.
+    fn hold(parts: [&[u64]; 10]) -> Sound {
+        let held = Sound::room(parts.map(<[u64]>::len));
+        for (to, from) in held.slices.iter().zip(parts) {
+            // SAFETY: as long, in a block that is not seen elsewhere yet.
+            unsafe { slice::from_raw_parts_mut(to.0, to.1) }.copy_from_slice(from);
+        }
+        held
+    }
+
+    /// A set-up of the words `given`, in slices of these lengths.
+    pub(crate) fn set_up(lengths: [usize; 10], given: &[u64]) -> Option<(Sound, Record)> {
+        let (mut made, mut given, mut fuel) = (Sound::room(lengths), given.to_vec(), [0; 4]);
+        let number = lend!(bvm_set_up(made.slices, fuel, given, made.answer) as_mut_ptr);
+        (number == 0).then_some((made, Record(fuel)))
     }
 
     /// Words from elsewhere, with their fuel, tested.
-    pub(crate) fn test(mut words: Words) -> Result<(Sound, Record), Box<Words>> {
-        let fuel = std::mem::take(&mut words.fuel);
-        let sound = lend!(bvm_sound(&words, fuel) as_ptr) == 1;
+    pub(crate) fn test(words: Words) -> Result<(Sound, Record), Box<Words>> {
+        let (held, fuel) = (Sound::hold(words.parts()), &words.fuel);
+        let sound = lend!(bvm_sound(held.slices, fuel) as_ptr) == 1;
         match <[u64; 4]>::try_from(&fuel[..]) {
-            Ok(record) if sound => Ok((Sound(words), Record(record))),
-            _ => Err(Box::new(Words { fuel, ..words })),
+            Ok(record) if sound => Ok((held, Record(record))),
+            _ => Err(Box::new(words)),
         }
     }
 
     /// The words, to be read.
-    pub(crate) fn words(&self) -> &Words {
-        &self.0
-    }
-
-    /// The words, to be carried elsewhere.
-    pub(crate) fn into_words(self, fuel: &Record) -> Words {
-        Words { fuel: fuel.0.to_vec(), ..self.0 }
+    pub(crate) fn words(&self) -> View<'_> {
+        // SAFETY: the slices are parts of the block, which lives as long, and
+        // nothing writes there while it is borrowed.
+        let part = |i: usize| unsafe { slice::from_raw_parts(self.slices[i].0, self.slices[i].1) };
+        View {
+            stack: part(0),
+            frames: part(1),
+            chain: part(2),
+            slots: part(3),
+            saved_stack: part(4),
+            saved_frames: part(5),
+            ready: part(6),
+            finalize: part(7),
+            setup: part(8),
+            machine: part(9),
+        }
     }
 
     /// A call, without the test of soundness.
-    pub(crate) fn kept(
-        &mut self,
-        fuel: &mut Record,
-        mut call: CallWords,
-        answer: &mut AnswerWords,
-    ) {
-        lend!(bvm_kept(&mut self.0, fuel.0, call, answer) as_mut_ptr);
+    pub(crate) fn kept(&mut self, fuel: &mut Record, mut call: CallWords) -> &AnswerWords {
+        lend!(bvm_kept(self.slices, fuel.0, call, self.answer) as_mut_ptr);
+        &self.answer
     }
 
     /// Resume: `kept` of the call 6.
-    pub(crate) fn resume(
-        &mut self,
-        fuel: &mut Record,
-        pc: u32,
-        r: [u16; 3],
-        answer: &mut AnswerWords,
-    ) {
+    #[inline]
+    pub(crate) fn resume(&mut self, fuel: &mut Record, pc: u32, r: [u16; 3]) -> &AnswerWords {
         let [dst, coro, src] = r;
-        lend!(bvm_resume(&mut self.0, fuel.0, answer; pc, dst, coro, src) as_mut_ptr);
+        lend!(bvm_resume(self.slices, fuel.0, self.answer; pc, dst, coro, src) as_mut_ptr);
+        &self.answer
     }
 
     /// Yield: `kept` of the call 3.
-    pub(crate) fn yields(
+    #[inline]
+    pub(crate) fn yields(&mut self, fuel: &mut Record, pc: u32, r: [u16; 2]) -> &AnswerWords {
+        let [dst, src] = r;
+        lend!(bvm_yield(self.slices, fuel.0, self.answer; pc, dst, src) as_mut_ptr);
+        &self.answer
+    }
+
+    /// Calls one after the other, after one test of soundness.
+    pub(crate) fn batch(
         &mut self,
         fuel: &mut Record,
-        pc: u32,
-        r: [u16; 2],
-        answer: &mut AnswerWords,
+        calls: &mut [CallWords],
+        answers: &mut [AnswerWords],
     ) {
-        let [dst, src] = r;
-        lend!(bvm_yield(&mut self.0, fuel.0, answer; pc, dst, src) as_mut_ptr);
+        let (calls, answers) = (calls.as_flattened_mut(), answers.as_flattened_mut());
+        lend!(bvm_batch(self.slices, fuel.0, calls, answers) as_mut_ptr);
     }
 
     /// The test of soundness.
     pub(crate) fn is_sound(&self, fuel: &Record) -> bool {
-        lend!(bvm_sound(&self.0, fuel.0) as_ptr) == 1
+        lend!(bvm_sound(self.slices, fuel.0) as_ptr) == 1
     }
 }
+
+impl Clone for Sound {
+    fn clone(&self) -> Sound {
+        Sound::hold(self.words().parts())
+    }
+}
+
+impl PartialEq for Sound {
+    fn eq(&self, other: &Sound) -> bool {
+        self.words() == other.words()
+    }
+}
+
+impl Eq for Sound {}
 
 impl Record {
     /// The words, to be read.

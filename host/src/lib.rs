@@ -3,8 +3,9 @@
 //! A [`Machine`] owns the words of one machine; each of the 28 calls of "01",
 //! the build description with the exact rules (`docs/RULES.md`), is a method
 //! with typed operands, and answers an [`Answer`]. The functions behind it are
-//! compiled from proved code (`crates/boundary`, and `crates/hot` for Resume and
-//! Yield): answers and words are those of the definitions, for every call.
+//! compiled from proved code (`crates/boundary`, `crates/hot` for Resume and
+//! Yield, `crates/batch` for many calls): answers and words are those of the
+//! definitions, for every call.
 //!
 //! The words are private. A set-up leaves a sound machine, every call leaves
 //! a sound machine sound (`crates/invariant/specs/Kept.antt`, and of the code
@@ -39,6 +40,7 @@
 #![deny(unsafe_code)]
 
 mod answer;
+mod batch;
 mod call;
 mod ffi;
 mod machine;
@@ -48,6 +50,7 @@ mod word;
 mod words;
 
 pub use answer::{Answer, Fault, Outcome, Step};
+pub use batch::Batch;
 pub use call::{Call, Cont, FunctionId, Kind, Pc, Reg};
 pub use machine::{Fuel, Machine, Refused};
 pub use setup::{Costs, Function, Handler, Setup};

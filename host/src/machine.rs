@@ -3,8 +3,9 @@
 use std::{error, fmt};
 
 use crate::answer::Answer;
+use crate::batch::Batch;
 use crate::call::Call;
-use crate::ffi::{Record, Sound};
+use crate::ffi::{Record, Sound, View};
 use crate::words::{Unsound, Words};
 use crate::{Cont, Fault, FunctionId, Kind, Pc, Reg, Setup, Word};
 
@@ -85,27 +86,41 @@ impl Machine {
         made.map(|(s, f)| (Machine(s), Fuel(f))).ok_or(Refused(Fault::Unsound))
     }
 
-    pub(crate) fn words(&self) -> &Words {
+    pub(crate) fn words(&self) -> View<'_> {
         self.0.words()
     }
 
     /// A call. The methods below are short for it. Resume and Yield have
     /// functions of their own in the library, several times as fast.
-    #[inline]
     pub fn call(&mut self, fuel: &mut Fuel, call: Call) -> Answer {
-        let (m, fuel, mut answer) = (&mut self.0, &mut fuel.0, [0; 8]);
-        let a = &mut answer;
         match call {
-            Call::Resume { pc, dst, coro, src } => m.resume(fuel, pc.0, [dst.0, coro.0, src.0], a),
-            Call::Yield { pc, dst, src } => m.yields(fuel, pc.0, [dst.0, src.0], a),
-            _ => m.kept(fuel, call.words(), a),
+            Call::Resume { pc, dst, coro, src } => self.resume(fuel, pc, dst, coro, src),
+            Call::Yield { pc, dst, src } => self.yield_(fuel, pc, dst, src),
+            _ => Answer::read(self.0.kept(&mut fuel.0, call.words())),
         }
-        Answer::read(a)
     }
 
-    /// Calls, one after the other.
-    pub fn run(&mut self, fuel: &mut Fuel, calls: &[Call]) -> Vec<Answer> {
-        calls.iter().map(|&call| self.call(fuel, call)).collect()
+    /// Resume: enters the coroutine in `coro` and sends it the word in `src`;
+    /// what it yields or returns comes to `dst`.
+    #[inline]
+    pub fn resume(&mut self, fuel: &mut Fuel, pc: Pc, dst: Reg, coro: Reg, src: Reg) -> Answer {
+        Answer::read(self.0.resume(&mut fuel.0, pc.0, [dst.0, coro.0, src.0]))
+    }
+
+    /// Yield: suspends with the word in `src` and the next key; a word sent
+    /// later comes to `dst`.
+    #[inline]
+    pub fn yield_(&mut self, fuel: &mut Fuel, pc: Pc, dst: Reg, src: Reg) -> Answer {
+        Answer::read(self.0.yields(&mut fuel.0, pc.0, [dst.0, src.0]))
+    }
+
+    /// The batch's calls, one after the other, refused ones too, by one call of
+    /// the library. It tests the machine's words first, as
+    /// [`check`](Machine::check) does: of few calls on a large machine, single
+    /// ones are faster.
+    pub fn run(&mut self, fuel: &mut Fuel, batch: &mut Batch) {
+        let (calls, answers) = batch.words();
+        self.0.batch(&mut fuel.0, calls, answers);
     }
 
     /// The test of soundness, on every word.
@@ -150,7 +165,22 @@ impl Machine {
     /// The machine's words, with its fuel's.
     #[must_use]
     pub fn into_words(self, fuel: &Fuel) -> Words {
-        self.0.into_words(&fuel.0)
+        let [stack, frames, chain, slots, saved_stack, saved_frames, ready, finalize, setup, machine] =
+            self.words().parts().map(<[u64]>::to_vec);
+        let fuel = fuel.0.words().to_vec();
+        Words {
+            stack,
+            frames,
+            chain,
+            slots,
+            saved_stack,
+            saved_frames,
+            ready,
+            finalize,
+            setup,
+            machine,
+            fuel,
+        }
     }
 
     /// Set-up: a fresh machine in place of this one, and an empty fuel record.
@@ -173,16 +203,10 @@ impl Machine {
         coro_new_indirect(pc: Pc, dst: Reg, callee: Reg, argc: u8) = CoroNewIndirect;
         /// Spawn: a coroutine as CoroNewIndirect makes it, handed to the hook.
         spawn(pc: Pc, dst: Reg, callee: Reg, argc: u8) = Spawn;
-        /// Yield: suspends with the word in `src` and the next key; a word
-        /// sent later comes to `dst`.
-        yield_(pc: Pc, dst: Reg, src: Reg) = Yield;
         /// YieldKv: as Yield, with a key of its own.
         yield_kv(pc: Pc, dst: Reg, src: Reg, key: Reg) = YieldKv;
         /// Await: suspends with the word in `src` and without a key.
         await_(pc: Pc, dst: Reg, src: Reg) = Await;
-        /// Resume: enters the coroutine in `coro` and sends it the word in
-        /// `src`; what it yields or returns comes to `dst`.
-        resume(pc: Pc, dst: Reg, coro: Reg, src: Reg) = Resume;
         /// ResumeThrow: raises the word in `src` where the coroutine sleeps.
         resume_throw(pc: Pc, dst: Reg, coro: Reg, src: Reg) = ResumeThrow;
         /// CoroClose: raises the word in `src` as the close signal.

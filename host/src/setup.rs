@@ -1,7 +1,6 @@
 //! The set-up: limits, costs, functions.
 
 use crate::machine::{Fuel, Machine, Refused};
-use crate::words::Words;
 use crate::{FunctionId, Pc, Reg};
 
 /// A try region of a function: a word raised at a pc from `start` up to, not
@@ -210,27 +209,16 @@ impl Setup {
         words
     }
 
-    /// Zeros, as many as a machine of this set-up needs. A limit beyond the
-    /// rules gets the largest there is: the set-up refuses it.
-    pub(crate) fn room(&self) -> Words {
+    /// The lengths of the slices that a machine of this set-up needs. A limit
+    /// beyond the rules gets the largest there is: the set-up refuses it.
+    pub(crate) fn room(&self) -> [usize; 10] {
         let at_most = |n: u64, most: u64| n.min(most) as usize;
         let (depth, stack) = (at_most(self.depth, 128), at_most(self.stack, 1024));
         let (rows, slots) = (at_most(self.rows, 64), at_most(self.slots, 4096));
         let widest = self.functions.iter().map(|f| at_most(f.registers, 256)).max();
         let width = stack.max(widest.unwrap_or(0));
-        let zeros = |n: usize| vec![0; n];
-        Words {
-            stack: zeros(stack),
-            frames: zeros(depth * 6),
-            chain: zeros(depth * 6),
-            slots: zeros(slots * 20),
-            saved_stack: zeros(rows * width),
-            saved_frames: zeros(rows * depth * 6),
-            ready: zeros(slots),
-            finalize: zeros(slots),
-            setup: zeros(NUMBERS + self.functions.len() * FUNCTION_WORDS),
-            machine: zeros(25),
-            fuel: zeros(4),
-        }
+        let (frames, setup) = (depth * 6, NUMBERS + self.functions.len() * FUNCTION_WORDS);
+        let saved = [rows * width, rows * frames];
+        [stack, frames, frames, slots * 20, saved[0], saved[1], slots, slots, setup, 25]
     }
 }

@@ -23,6 +23,15 @@ pub struct Words {
     pub fuel: Vec<u64>,
 }
 
+impl Words {
+    /// The machine's slices, in the order of the library's parameters.
+    pub(crate) fn parts(&self) -> [&[u64]; 10] {
+        let Words { stack, frames, chain, slots, saved_stack, saved_frames, .. } = self;
+        let Words { ready, finalize, setup, machine, .. } = self;
+        [stack, frames, chain, slots, saved_stack, saved_frames, ready, finalize, setup, machine]
+    }
+}
+
 /// Words that are no sound machine's: 11. Nothing of them is lost.
 #[derive(Clone, PartialEq, Eq, Debug)]
 pub struct Unsound(pub Box<Words>);

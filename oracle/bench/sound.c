@@ -1,7 +1,7 @@
 /* How long the test of soundness takes beside a plain pass over the same words. Links libboundary.a; compile with -O3.
  *
- * The machines are made word by word, by the layout of docs/CALLS.md. `sound WHICH N test` or `sound WHICH N pass` only runs one of the
- * two N times on one machine, for a tool that counts instructions.
+ * The machines are made word by word, by the layout of docs/CALLS.md. `sound names` only names them, one to a line. `sound WHICH N test` or
+ * `sound WHICH N pass` only runs one of the two N times on one machine, for a tool that counts instructions (tests/instructions).
  */
 #define _POSIX_C_SOURCE 200809L
 #include "../../host/include/humdelzi.h"
@@ -175,6 +175,10 @@ static double least(uint64_t (*f)(const lent *), const lent *m, int batch) {
 }
 
 int main(int argc, char **argv) {
+    if (argc == 2 && strcmp(argv[1], "names") == 0) {
+        for (size_t k = 0; k < sizeof PLANS / sizeof *PLANS; k++) puts(PLANS[k].name);
+        return 0;
+    }
     if (argc == 4) {
         lent m = make(&PLANS[atoi(argv[1])]);
         least(argv[3][0] == 't' ? test : pass, &m, atoi(argv[2]));

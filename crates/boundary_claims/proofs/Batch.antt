@@ -2,7 +2,7 @@
 use Prim.Native.Nat.{ℕ, zero, suc}
 use mathlib.Core.Path.{_≡_, refl, ap}
 use mathlib.Core.Bool.{Bool, true}
-use mathlib.Core.List.{List, [], _∷_, _++_}
+use mathlib.Core.List.{List, [], _∷_, _++_, map}
 use lib.ListN.{length, getD, take, drop}
 use Rattle.model.specs.Lists.{each, each-first, each-rest}
 use Rattle.model.specs.Call.{isWord, Operation}
@@ -11,7 +11,7 @@ use Rattle.soundness.proofs.Tests.{both}
 use Rattle.calls.specs.Call.{opOf}
 use Rattle.calls.specs.declared.call.Read.{Read}
 use Rattle.calls.proofs.Typed.{read-typed}
-use Rattle.claims.specs.Engine.{run}
+use Rattle.claims.specs.Engine.{calls, run}
 use Rattle.lent.specs.Step.{State, Call, Do, step, stepWords}
 use Rattle.lent_claims.specs.Engine.{outer}
 use Rattle.run.specs.Run.{doWords, runWords, callsIn}
@@ -30,7 +30,7 @@ each-drop p (suc n) [] e = refl
 each-drop p (suc n) (x ∷ xs) e = each-drop p n xs (each-rest p x xs e)
 
 -- what is read first, and the rest
-first : (ws : List ℕ) (r : Read) (rs : List Read) → each isWord ws ≡ true → opOf ws ≡ r → Listed rs → Listed (r ∷ rs)
+pub first : (ws : List ℕ) (r : Read) (rs : List Read) → each isWord ws ≡ true → opOf ws ≡ r → Listed rs → Listed (r ∷ rs)
 first ws (Read.Is o) rs h e t =
     let k : Operation = record { op = o; within = read-typed ws o h e } in
     record { list = Do k ∷ t .list; calls = is k rs (t .list) (t .calls) }
@@ -42,7 +42,7 @@ listed (suc n) cs h = first (take 6 cs) (opOf (take 6 cs)) (callsIn n (drop 6 cs
 
 -- ---- one after the other
 
-left : (s : State) {rs : List Read} {ks : List Call} → Calls rs ks → runWords s rs .state ≡ run outer s ks
+left : (s : State) {rs : List Read} {ks : List Call} → Calls rs ks → runWords s rs .state ≡ run outer s (map calls ks)
 left s none = refl
 left s (is o rs ks c) = left (stepWords s (o .op) .state) c
 left s (not f rs ks c) = left s c
@@ -52,7 +52,7 @@ long s [] = refl
 long s (r ∷ rs) = ap suc (long (doWords s r .state) rs)
 
 answer : (s : State) {rs : List Read} {ks : List Call} (r : Read) (more : List Read) (d : Answer) → Calls rs ks
-    → getD (runWords s (rs ++ (r ∷ more)) .answers) (length rs) d ≡ doWords (run outer s ks) r .answer
+    → getD (runWords s (rs ++ (r ∷ more)) .answers) (length rs) d ≡ doWords (run outer s (map calls ks)) r .answer
 answer s r more d none = refl
 answer s r more d (is o rs ks c) = answer (stepWords s (o .op) .state) r more d c
 answer s r more d (not f rs ks c) = answer s r more d c

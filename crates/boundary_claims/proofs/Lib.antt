@@ -4,3 +4,4 @@ pub mod Words
 pub mod Look
 pub mod Passing
 pub mod Library
+pub mod Linked

@@ -4,7 +4,7 @@ use native.Mathlib.Omega.{arith}
 use mathlib.Core.Path.{_≡_, refl, sym, ap, ap₂, _∙_}
 use mathlib.Core.Bool.{Bool, true, false, _&&_}
 use mathlib.Core.Logic.{_⊎_, inl, inr}
-use mathlib.Core.List.{List}
+use mathlib.Core.List.{List, map}
 use lib.ListN.{length, getD}
 use lib.Dec.{leb}
 use borrow.Author.Tests.{leb-true, le-leb}
@@ -32,6 +32,7 @@ use Rattle.calls.specs.Call.{opOf, opWords}
 use Rattle.calls.specs.declared.call.Read.{Read}
 use Rattle.calls.proofs.Back.{read-back}
 use Rattle.calls.proofs.Typed.{read-typed}
+use Rattle.claims.specs.Engine as Engine
 use Rattle.claims.specs.Engine.{run}
 use Rattle.lent.specs.Step.{State, Left, stateIn, isSound, decoded, stepWords, setUpOk, setUpWords, Call, Do, step}
 use Rattle.lent.specs.Sentences.{unchanging, NoSuchFault}
@@ -53,7 +54,7 @@ use Rattle.boundary_claims.proofs.Words.{machine-back, sizes-stay, same
 
 -- ---- a state written over a machine's words
 
-over-back : (h : Host) (s : State) → stateOf (over h s) ≡ s
+pub over-back : (h : Host) (s : State) → stateOf (over h s) ≡ s
 over-back h s = λ i. record { words = s .words; machine = machine-back (h .machine) (s .machine) i; fuel = fuel-back (h .fuel) (s .fuel) i }
 
 over-same : (h : Host) → numbersOk (h .machine) (h .fuel) ≡ true → over h (stateOf h) ≡ h
@@ -303,7 +304,7 @@ module _ (h : Host) (cs xs : List ℕ) where
   unfolding pick
   with-room = refl
 
-  runs : (ks : List Call) → tested h ≡ true → countOf (length cs) * 8 ≤ length xs → Calls (callsIn (countOf (length cs)) cs) ks → stateOf (runHost h cs xs .host) ≡ run outer (stateOf h) ks
+  runs : (ks : List Call) → tested h ≡ true → countOf (length cs) * 8 ≤ length xs → Calls (callsIn (countOf (length cs)) cs) ks → stateOf (runHost h cs xs .host) ≡ run outer (stateOf h) (map Engine.calls ks)
   runs ks e w c =
       let p = run-is h cs xs ∙ ap₂ (ran-by h cs xs) (le-leb (countOf (length cs) * 8) (length xs) w) e in
       ap stateOf (ap (λ (g : Gave). g .host) p ∙ with-room) ∙ over-back h (all h cs xs .state) ∙ batch .left (stateOf h) (callsIn (countOf (length cs)) cs) ks c

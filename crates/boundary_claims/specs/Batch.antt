@@ -3,7 +3,7 @@
 use Prim.Native.Nat.{ℕ}
 use mathlib.Core.Path.{_≡_}
 use mathlib.Core.Bool.{true}
-use mathlib.Core.List.{List, [], _∷_, _++_}
+use mathlib.Core.List.{List, [], _∷_, _++_, map}
 use lib.ListN.{length, getD}
 use Rattle.lists.specs.Pick.{pick}
 use Rattle.heap.specs.declared.fault.Fault.{Fault}
@@ -11,7 +11,7 @@ use Rattle.model.specs.Lists.{each}
 use Rattle.model.specs.Call.{isWord, Operation}
 use Rattle.model.specs.declared.call.Answer.{Answer}
 use Rattle.calls.specs.declared.call.Read.{Read}
-use Rattle.claims.specs.Engine.{run}
+use Rattle.claims.specs.Engine.{calls, run}
 use Rattle.lent.specs.Step.{State, isSound, Call, Do, step}
 use Rattle.lent_claims.specs.Engine.{outer}
 use Rattle.run.specs.Run.{runWords, callsIn}
@@ -30,10 +30,10 @@ pub record Batch : Type 0 where
   -- whatever is read from words of 64 bits
   pub listed : (n : ℕ) (cs : List ℕ) → each isWord cs ≡ true → Listed (callsIn n cs)
   -- what the batch leaves
-  pub left : (s : State) (rs : List Read) (ks : List Call) → Calls rs ks → runWords s rs .state ≡ run outer s ks
+  pub left : (s : State) (rs : List Read) (ks : List Call) → Calls rs ks → runWords s rs .state ≡ run outer s (map calls ks)
   -- what it answers: as many answers; a call's is its answer after the calls before it; what is no call is refused, with 11 first
   pub long : (s : State) (rs : List Read) → length (runWords s rs .answers) ≡ length rs
   pub answer : (s : State) (rs : List Read) (ks : List Call) (o : Operation) (more : List Read) (d : Answer) → Calls rs ks
-      → getD (runWords s (rs ++ (Read.Is (o .op) ∷ more)) .answers) (length rs) d ≡ step (run outer s ks) (Do o) .answer
+      → getD (runWords s (rs ++ (Read.Is (o .op) ∷ more)) .answers) (length rs) d ≡ step (run outer s (map calls ks)) (Do o) .answer
   pub refused : (s : State) (rs : List Read) (ks : List Call) (f : Fault) (more : List Read) (d : Answer) → Calls rs ks
-      → getD (runWords s (rs ++ (Read.Not f ∷ more)) .answers) (length rs) d ≡ Answer.Refused (pick (isSound (run outer s ks)) f Fault.Unsound)
+      → getD (runWords s (rs ++ (Read.Not f ∷ more)) .answers) (length rs) d ≡ Answer.Refused (pick (isSound (run outer s (map calls ks))) f Fault.Unsound)

@@ -1,2 +1,3 @@
 pub mod Batch
 pub mod Library
+pub mod Linked

@@ -4,7 +4,7 @@ use Prim.Native.Nat.{ℕ, _-_, _*_, _≤_, _<_}
 use mathlib.Core.Path.{_≡_}
 use mathlib.Core.Bool.{true, false}
 use mathlib.Core.Logic.{_⊎_}
-use mathlib.Core.List.{List, [], _∷_}
+use mathlib.Core.List.{List, [], _∷_, map}
 use lib.ListN.{length, getD}
 use Rattle.lists.specs.Chunks.{words}
 use Rattle.lists.specs.Parts.{part, splice}
@@ -20,6 +20,7 @@ use Rattle.memory.specs.Decode.{setupOf}
 use Rattle.calls.specs.Call.{opOf}
 use Rattle.calls.specs.Answer.{answerWords}
 use Rattle.calls.specs.declared.call.Read.{Read}
+use Rattle.claims.specs.Engine as Engine
 use Rattle.claims.specs.Engine.{run}
 use Rattle.lent.specs.Step.{looked, Call, SetUp, Do, step}
 use Rattle.lent.specs.Sentences.{unchanging, NoSuchFault}
@@ -48,7 +49,7 @@ pub record Library : Type 0 where
   pub sets-up : (h : Host) (given xs : List ℕ) → setUpIn h given xs .number ≡ 0 → stateOf (setUpIn h given xs .host) ≡ step (stateOf h) (SetUp given) .state
   pub calls : (h : Host) (o : Operation) (xs : List ℕ) → tested h ≡ true → 8 ≤ length xs → stateOf (callIn h (Read.Is (o .op)) xs .host) ≡ step (stateOf h) (Do o) .state
   pub runs : (h : Host) (cs xs : List ℕ) (ks : List Call) → tested h ≡ true → countOf (length cs) * 8 ≤ length xs → Calls (callsIn (countOf (length cs)) cs) ks
-      → stateOf (runHost h cs xs .host) ≡ run outer (stateOf h) ks
+      → stateOf (runHost h cs xs .host) ≡ run outer (stateOf h) (map Engine.calls ks)
   -- and answers what it answers: eight words each, over those of the caller, and its number; a run's is 0
   pub told : (h : Host) (o : Operation) (xs : List ℕ) → tested h ≡ true → 8 ≤ length xs
       → let a = step (stateOf h) (Do o) .answer in (callIn h (Read.Is (o .op)) xs .answer ≡ splice xs 0 (answerWords a)) × (callIn h (Read.Is (o .op)) xs .number ≡ Said.numberOf a)

@@ -1,7 +1,7 @@
 -- What an unwind answers: the frames are searched as the claim's `ends` does.
 use Prim.Native.Nat.{ℕ}
 use mathlib.Core.Path.{_≡_, refl, sym, ap, _∙_, subst}
-use mathlib.Core.Bool.{Bool, true, false, not, _&&_, _||_}
+use mathlib.Core.Bool.{Bool, true, false, not, _||_}
 use mathlib.Core.List.{List, [], _∷_}
 use mathlib.Core.Option.{none, some}
 use lib.Dec.{eqb}
@@ -9,7 +9,6 @@ use borrow.Author.Tests.{eqb-true}
 use Rattle.lists.specs.Pick.{pick}
 use Rattle.heap.specs.Table.{nextWord, pushObject}
 use Rattle.heap.specs.Charge.{satAdd}
-use Rattle.heap.specs.Word.{nil}
 use Rattle.heap.specs.Fault as Faults
 use Rattle.heap.specs.declared.fault.Fault.{Fault}
 use Rattle.heap.specs.declared.value.Opt.{Opt}
@@ -20,7 +19,7 @@ use Rattle.model.specs.World.{World, After, after, andThen, withChain, withUsed
 use Rattle.model.specs.Frames.{popTo, storePc, topFunc, topPc}
 use Rattle.model.specs.Heap.{coro, changeAs, changeCoro, alloc, fits, slotsFull, refuse}
 use Rattle.model.specs.Fuel.{unbankAt, unbank, spend}
-use Rattle.model.specs.Coro.{inState, ended, finishCoroutine, deliverReturn, failTo, escapedOn, coroEscaped}
+use Rattle.model.specs.Coro.{inState, ended, failTo, escapedOn, coroEscaped}
 use Rattle.model.specs.Cleanup.{chargeAt, chargeSlow, charge}
 use Rattle.model.specs.Machine.{caught, stopOr, escape, takeHandler, searchAs, search, errorOf, searchFrames, searchMade, storeSome, unwind}
 use Rattle.model.specs.Sound.{sound}
@@ -36,9 +35,7 @@ use Rattle.model.specs.declared.machine.Stop.{Stop}
 use Rattle.model.specs.declared.machine.Charge.{Charge}
 use Rattle.model.specs.declared.coro.WordOr.{WordOr}
 use Rattle.model.specs.declared.call.OptPc.{OptPc}
-use Rattle.model.specs.declared.call.Answer.{Answer}
 use Rattle.claims.specs.Engine as Engine
-use Rattle.claims.specs.Engine.{seenIn}
 use Rattle.claims.specs.Says.{banked}
 use Rattle.claims.specs.Held.{at}
 use Rattle.claims.specs.Events as Events
@@ -46,8 +43,7 @@ use Rattle.claims.specs.Events.{goesOn, raised, handled, ending, ends, e
 use Rattle.claims.specs.Promise.{room}
 use Rattle.claims.specs.Steps.{viewOf}
 use Rattle.claims.proofs.Bodies.{at-top}
-use Rattle.claims.proofs.Quiet.{change-still}
-use Rattle.claims.proofs.Escapes.{Looks, nothing, found, looks, AllSeen, Sees, closed-seen, fail-sees}
+use Rattle.claims.proofs.Escapes.{Looks, nothing, found, looks, AllSeen, Sees, failedBy, failed-still, fail-sees, by-signal}
 use Rattle.claims.proofs.Unwinds.{sees, stored-sees, made-sees}
 use Rattle.claims.proofs.Exact.{no-some, one-some}
 
@@ -101,28 +97,12 @@ module _ (v : Engine.View) (value f pc : ℕ) where
   unfolding pick
   body-left x xs next w h e [] r = popped x xs next w h e ∙ ap (ends v value xs) r
   body-left x xs next w h e (a ∷ chain) r =
-      subst (λ b. numberOf (left b .answer) ≡ pick (seenIn (λ k. k .closing && eqb value (k .signal)) (v .coro (a .coro))) 0 (pick (goesOn (a .driver)) (ends v value xs chain) 0))
-      (closed-seen v (coro w (a .coro)) (a .coro) value (all .0)) (test (seenIn (λ k. k .closing && eqb value (k .signal)) (v .coro (a .coro))))
-    where
-      u : World
-      u = withChain chain (popTo x xs w)
-
-      y : World
-      y = finishCoroutine (a .coro) CoroState.Failed value u
-
-      all : AllSeen v (w .slots) (a ∷ chain)
-      all = subst (AllSeen v (w .slots)) r (h .coros)
-
-      -- it ends there, b: because its own signal closed it
-      left : Bool → After Answer
-      left b = andThen (pick b (after (deliverReturn (a .driver) nil (finishCoroutine (a .coro) CoroState.Returned nil u)) true) (failTo (a .driver) (Stop.Failed value f pc) y)) (stopOr (search xs value f pc))
-
-      test : (b : Bool) → numberOf (left b .answer) ≡ pick b 0 (pick (goesOn (a .driver)) (ends v value xs chain) 0)
-      test true = refl
-      test false =
-          let g = change-still u (a .coro) (inState CoroState.Failed) (ended value) in
-          failed-to xs next (a .driver) (Stop.Failed value f pc) y (g .frames) (fail-sees v x xs value w a chain h all) (change-fuel (a .coro) (inState CoroState.Failed) (ended value) u ∙ e)
-          ∙ ap (λ cs. pick (goesOn (a .driver)) (ends v value xs cs) 0) (g .chain)
+      let all = subst (AllSeen v (w .slots)) r (h .coros) in
+      let g = failed-still value x xs a chain w in
+      by-signal v value f pc (search xs value f pc) x xs w a chain all (λ o n. numberOf (o .answer) ≡ n) 0 (pick (goesOn (a .driver)) (ends v value xs chain) 0) refl
+      (failed-to xs next (a .driver) (Stop.Failed value f pc) (failedBy value x xs a chain w) (g .frames) (fail-sees v x xs value w a chain h all)
+      (change-fuel (a .coro) (inState CoroState.Failed) (ended value) (withChain chain (popTo x xs w)) ∙ e)
+      ∙ ap (λ cs. pick (goesOn (a .driver)) (ends v value xs cs) 0) (g .chain))
 
   leaving : (x : Frame) (xs : List Frame) → Next xs → (w : World) → Sees v w → w .fuel ≡ v .fuel → (c : Cont) → numberOf (escape c value f pc (search xs value f pc) (popTo x xs w) .answer) ≡ ending c v value (w .chain) (ends v value xs)
   unfolding coroEscaped

@@ -42,7 +42,7 @@ use Rattle.claims.proofs.Entry.{Aim, enters, suspends, neither, at, awa
 use Rattle.claims.proofs.Cores.{no-both, objectIn, coroIn, and-left, and-right}
 use Rattle.claims.proofs.Enters.{EnterCase, e-in, e-out, enter-case, accepts-stored, ChargeCase, c-done, c-spent, c-close, charge-case}
 use Rattle.claims.proofs.Instr.{Alike, alike, coro-alike, aimed-alike}
-use Rattle.claims.proofs.Switches.{created-susp, returned-not}
+use Rattle.claims.proofs.Switches.{created-susp, returned-not, mayTurn}
 use Rattle.claims.proofs.Events.{no-entry, susp-born}
 use Rattle.claims.proofs.Numbers.{step-number}
 use Rattle.claims.proofs.Views.{new-state}
@@ -170,24 +170,15 @@ close-tells p dst c src v =
     go Absent e h a = no-both h (ap isAsleep e)
     go (Is k r) e h a = states (k .state) (sym (ap isAsleep e) ∙ h) a
 
-iter-tells : (p has iter val src : ℕ) (v : World)
-    → Tells v (aimed (enters (reg v src) (Driver.Iter has val (reg v iter)) (gets nil) (not (isDone (object v (reg v iter))) && not (awaits (coro v (reg v src))))) v) (stepNumber (iterNext p has iter val src v .answer))
-unfolding iterNext pick
-iter-tells p has iter val src v =
-    tells-pick v (may && accepts v n) (entry n d (sentTo (coro v n) (gets nil))) (stepNumber (iterNext p has iter val src v .answer))
-    (λ a. go (coro v n) refl (and-left may (accepts v n) a) (and-right may (accepts v n) a) ∙ sym (sent-word (coro v n) v nil (and-right may (accepts v n) a)))
+turn-tells : (p has x val n : ℕ) (v : World)
+    → Tells v (aimed (enters n (Driver.Iter has val x) (gets nil) (mayTurn x n v)) v) (stepNumber (iterOn (stateAs (coro v n) (notA v n)) p has x val n v .answer))
+unfolding pick
+turn-tells p has x val n v =
+    tells-pick v (mayTurn x n v && accepts v n) (entry n d (sentTo (coro v n) (gets nil))) (stepNumber (iterOn (stateAs (coro v n) (notA v n)) p has x val n v .answer))
+    (λ a. go (coro v n) refl (and-left (mayTurn x n v) (accepts v n) a) (and-right (mayTurn x n v) (accepts v n) a) ∙ sym (sent-word (coro v n) v nil (and-right (mayTurn x n v) (accepts v n) a)))
   where
-    n : ℕ
-    n = reg v src
-
-    x : ℕ
-    x = reg v iter
-
     d : Driver
     d = Driver.Iter has val x
-
-    may : Bool
-    may = not (isDone (object v x)) && not (awaits (coro v n))
 
     tests : (k : Core) (a b c : Bool) → (not a && not c) ≡ true → (isResumable (k .state) ≡ true) → isReturned (k .state) ≡ b → accepts v n ≡ true
         → stepNumber (pick (a || b) (Exec.put has 0 (setDone x v)) (pick c (fault v Fault.TypeError) (andThen (coroEnter n d (storePc p v)) (arrive nil))) .answer) ≡ 0
@@ -196,11 +187,16 @@ iter-tells p has iter val src v =
     tests k false false true m q e h = no-both m refl
     tests k false false false m q e h = entered-number stepNumber (arrive nil) 0 (λ w. refl) (λ w r. refl) n d (storePc p v) (stored-accepts p v n h)
 
-    go : (y : Coroutine) → coro v n ≡ y → may ≡ true → accepts v n ≡ true → stepNumber (iterOn (stateAs y (notA v n)) p has x val n v .answer) ≡ 0
+    go : (y : Coroutine) → coro v n ≡ y → mayTurn x n v ≡ true → accepts v n ≡ true → stepNumber (iterOn (stateAs y (notA v n)) p has x val n v .answer) ≡ 0
     go Absent e m a = no-both a (ap (λ y. acceptsAs y v) e)
     go (Is k r) e m a =
         tests k (isDone (object v x)) (isReturned (k .state)) (isAwaiting (k .state)) (ap (λ y. not (isDone (object v x)) && not (awaits y)) (sym e) ∙ m)
         (and-left (isResumable (k .state)) (not (isNil (k .frames))) (and-left (isResumable (k .state) && not (isNil (k .frames))) (not (overflows k v)) (ap (λ y. acceptsAs y v) (sym e) ∙ a))) refl a
+
+iter-tells : (p has iter val src : ℕ) (v : World)
+    → Tells v (aimed (enters (reg v src) (Driver.Iter has val (reg v iter)) (gets nil) (mayTurn (reg v iter) (reg v src) v)) v) (stepNumber (iterNext p has iter val src v .answer))
+unfolding iterNext
+iter-tells p has iter val src v = turn-tells p has (reg v iter) val (reg v src) v
 
 -- ---- an instruction; a cleanup's start is 17
 

@@ -36,7 +36,7 @@ use Rattle.claims.specs.Steps.{seenOf}
 use Rattle.claims.proofs.Cores.{coroIn, put-away, named-coro, m-ending}
 use Rattle.claims.proofs.Shape.{View, view, Worked, done, pops, Return, Apart}
 use Rattle.claims.proofs.Enters.{charge-none}
-use Rattle.claims.proofs.Quiet.{same-worked, change-still}
+use Rattle.claims.proofs.Quiet.{same-worked, Still, change-still}
 use Rattle.claims.proofs.Endings.{return-done, failing, handled}
 
 -- ---- moves, and then perhaps a return
@@ -90,24 +90,54 @@ all-apart : (v : Engine.View) (w u : World) (c : ℕ) → ((x : ℕ) → x ≢ c
 all-apart v w u c e [] n h = tt
 all-apart v w u c e (a ∷ chain) n h = (ap seenOf (e (a .coro) (λ q. n .0 (sym q))) ∙ h .0, h .1, all-apart v w u c e chain (n .1) (h .2))
 
-pub closed-seen : (v : Engine.View) (k : Coroutine) (c x : ℕ) → seenOf k ≡ v .coro c → seenIn (λ k. k .closing && eqb x (k .signal)) (v .coro c) ≡ closedBy k x
+closed-seen : (v : Engine.View) (k : Coroutine) (c x : ℕ) → seenOf k ≡ v .coro c → seenIn (λ k. k .closing && eqb x (k .signal)) (v .coro c) ≡ closedBy k x
 closed-seen v k c x e = ap (seenIn (λ k. k .closing && eqb x (k .signal))) (sym e) ∙ go k
   where
     go : (k : Coroutine) → seenIn (λ k. k .closing && eqb x (k .signal)) (seenOf k) ≡ closedBy k x
     go Absent = refl
     go (Is k r) = refl
 
--- one of the chain fails: the others are seen as before
+-- ---- a body's frame x goes, and with it the innermost coroutine a
+
+abbrev pub failedBy : ℕ → Frame → List Frame → Active → List Active → World → World
+failedBy value x xs a chain w = finishCoroutine (a .coro) CoroState.Failed value (withChain chain (popTo x xs w))
+
+pub failed-still : (value : ℕ) (x : Frame) (xs : List Frame) (a : Active) (chain : List Active) (w : World) → Still (withChain chain (popTo x xs w)) (failedBy value x xs a chain w)
+failed-still value x xs a chain w = change-still (withChain chain (popTo x xs w)) (a .coro) (inState CoroState.Failed) (ended value)
+
+-- the others are seen as before
 pub fail-sees : (v : Engine.View) (x : Frame) (xs : List Frame) (value : ℕ) (w : World) (a : Active) (chain : List Active) → Sees v w → AllSeen v (w .slots) (a ∷ chain)
-    → Sees v (finishCoroutine (a .coro) CoroState.Failed value (withChain chain (popTo x xs w)))
+    → Sees v (failedBy value x xs a chain w)
 fail-sees v x xs value w a chain h all =
     let u = withChain chain (popTo x xs w) in
-    let y = finishCoroutine (a .coro) CoroState.Failed value u in
-    let g = change-still u (a .coro) (inState CoroState.Failed) (ended value) in
+    let y = failedBy value x xs a chain w in
+    let g = failed-still value x xs a chain w in
     record {
       handlers = λ n. h .handlers n ∙ ap (λ s. func s n .handlers) (sym (g .setup));
       coros = subst (AllSeen v (y .slots)) (sym (g .chain)) (all-apart v w y (a .coro) (apart-coro (a .coro) (inState CoroState.Failed) (ended value) u) chain (all .1) (all .2));
     }
+
+-- .. and the search goes on, or ends with its driver
+abbrev pub failedOn : (World → After Answer) → ℕ → ℕ → ℕ → Frame → List Frame → Active → List Active → World → After Answer
+failedOn next value f pc x xs a chain w = let o = failTo (a .driver) (Stop.Failed value f pc) (failedBy value x xs a chain w) in stopOr next (o .world) (o .answer)
+
+-- a returns if its own signal closed it, as it is seen, and fails otherwise: what holds of both holds of the escape
+pub by-signal : (v : Engine.View) (value f pc : ℕ) (next : World → After Answer) (x : Frame) (xs : List Frame) (w : World) (a : Active) (chain : List Active) → AllSeen v (w .slots) (a ∷ chain)
+    → {A : Type 0} (G : After Answer → A → Type 0) (s t : A)
+    → G (after (deliverReturn (a .driver) nil (finishCoroutine (a .coro) CoroState.Returned nil (withChain chain (popTo x xs w)))) Answer.Stopped) s
+    → G (failedOn next value f pc x xs a chain w) t
+    → G (andThen (escapedOn (a ∷ chain) value f pc (popTo x xs w)) (stopOr next)) (pick (seenIn (λ k. k .closing && eqb value (k .signal)) (v .coro (a .coro))) s t)
+unfolding pick
+by-signal v value f pc next x xs w a chain all G s t returned failed =
+    subst (λ b. G (left b) (pick (seenIn (λ k. k .closing && eqb value (k .signal)) (v .coro (a .coro))) s t)) (closed-seen v (coro w (a .coro)) (a .coro) value (all .0))
+    (test (seenIn (λ k. k .closing && eqb value (k .signal)) (v .coro (a .coro))))
+  where
+    left : Bool → After Answer
+    left b = andThen (pick b (after (deliverReturn (a .driver) nil (finishCoroutine (a .coro) CoroState.Returned nil (withChain chain (popTo x xs w)))) true) (failTo (a .driver) (Stop.Failed value f pc) (failedBy value x xs a chain w))) (stopOr next)
+
+    test : (b : Bool) → G (left b) (pick b s t)
+    test true = returned
+    test false = failed
 
 -- ---- the search
 
@@ -127,33 +157,12 @@ module _ (v : Engine.View) (value f pc : ℕ) where
   unfolding pick
   body-left x xs next w p q h [] r = subst (λ cs. Ended (view w) (search xs value f pc (popTo x xs w)) (escaped v value xs cs)) r (then-ended (λ y t. pops x xs p (inr r) t) (next (popTo x xs w) refl (record { handlers = h .handlers; coros = h .coros })))
   body-left x xs next w p q h (a ∷ chain) r =
-      subst (λ b. Ended (view w) (left b) (pick (seenIn (λ k. k .closing && eqb value (k .signal)) (v .coro (a .coro))) (some (a .coro)) (pick (goesOn (a .driver)) (escaped v value xs chain) none)))
-      (closed-seen v (coro w (a .coro)) (a .coro) value (all .0)) (test (seenIn (λ k. k .closing && eqb value (k .signal)) (v .coro (a .coro))))
-    where
-      u : World
-      u = popTo x xs w
-
-      y : World
-      y = finishCoroutine (a .coro) CoroState.Failed value (withChain chain u)
-
-      all : AllSeen v (w .slots) (a ∷ chain)
-      all = subst (AllSeen v (w .slots)) r (h .coros)
-
-      still : y .chain ≡ chain
-      still = change-still (withChain chain u) (a .coro) (inState CoroState.Failed) (ended value) .chain
-
-      sees : Sees v y
-      sees = fail-sees v x xs value w a chain h all
-
-      -- it ends there, b: because its own signal closed it
-      left : Bool → After Answer
-      left b = andThen (pick b (after (deliverReturn (a .driver) nil (finishCoroutine (a .coro) CoroState.Returned nil (withChain chain u))) true) (failTo (a .driver) (Stop.Failed value f pc) y)) (stopOr (search xs value f pc))
-
-      test : (b : Bool) → Ended (view w) (left b) (pick b (some (a .coro)) (pick (goesOn (a .driver)) (escaped v value xs chain) none))
-      test true = e-returns (view w) x xs a chain done (return-done nil x xs w a chain p q r) refl
-      test false =
-          subst (λ cs. Ended (view w) (stopOr (search xs value f pc) (failTo (a .driver) (Stop.Failed value f pc) y .world) (failTo (a .driver) (Stop.Failed value f pc) y .answer)) (pick (goesOn (a .driver)) (escaped v value xs cs) none)) still
-          (then-ended (λ n t. failing x xs value w a chain p q r t) (failed-to xs next (a .driver) (Stop.Failed value f pc) y (change-still (withChain chain u) (a .coro) (inState CoroState.Failed) (ended value) .frames) sees))
+      let all = subst (AllSeen v (w .slots)) r (h .coros) in
+      let g = failed-still value x xs a chain w in
+      by-signal v value f pc (search xs value f pc) x xs w a chain all (Ended (view w)) (some (a .coro)) (pick (goesOn (a .driver)) (escaped v value xs chain) none)
+      (e-returns (view w) x xs a chain done (return-done nil x xs w a chain p q r) refl)
+      (subst (λ cs. Ended (view w) (failedOn (search xs value f pc) value f pc x xs a chain w) (pick (goesOn (a .driver)) (escaped v value xs cs) none)) (g .chain)
+      (then-ended (λ n t. failing x xs value w a chain p q r t) (failed-to xs next (a .driver) (Stop.Failed value f pc) (failedBy value x xs a chain w) (g .frames) (fail-sees v x xs value w a chain h all))))
 
   leaving : (x : Frame) (xs : List Frame) → Next xs → (w : World) → w .frames ≡ x ∷ xs → Sees v w → (c : Cont) → x .cont ≡ c → Ended (view w) (escape c value f pc (search xs value f pc) (popTo x xs w)) (Events.leaving c v value (w .chain) (escaped v value xs))
   unfolding coroEscaped

@@ -3,7 +3,7 @@ use Prim.Native.Nat.{ℕ}
 use native.Mathlib.Decide.{ℕ-discrete}
 use mathlib.Core.Path.{_≡_, refl, sym, ap, _∙_, subst}
 use mathlib.Core.Logic.{_⊎_, inl, inr}
-use mathlib.Core.Bool.{Bool, true, false, _&&_, _||_}
+use mathlib.Core.Bool.{Bool, true, false, _||_}
 use mathlib.Core.List.{List, [], _∷_}
 use lib.Dec.{eqb}
 use borrow.Author.Tests.{eqb-true, eqb-false}
@@ -13,10 +13,10 @@ use Rattle.heap.specs.declared.object.CoroState.{CoroState}
 use Rattle.model.specs.State.{isCreated, isRunning}
 use Rattle.model.specs.Program.{func}
 use Rattle.model.specs.Object.{Coroutine, Absent, Is}
-use Rattle.model.specs.World.{World, After, after, andThen, withChain}
+use Rattle.model.specs.World.{World, After, andThen, withChain}
 use Rattle.model.specs.Frames.{isCoro, popTo}
 use Rattle.model.specs.Heap.{coro}
-use Rattle.model.specs.Coro.{inState, ended, finishCoroutine, deliverReturn, failTo, escapedOn, coroEscaped}
+use Rattle.model.specs.Coro.{failTo, escapedOn, coroEscaped}
 use Rattle.model.specs.Cleanup.{charge}
 use Rattle.model.specs.Machine.{caught, stopOr, escape, searchAs, search}
 use Rattle.model.specs.Answer.{numberOf}
@@ -40,10 +40,10 @@ use Rattle.claims.proofs.Shape.{over, Ends}
 use Rattle.claims.proofs.Events.{run-born}
 use Rattle.claims.proofs.Enters.{charge-none}
 use Rattle.claims.proofs.Views.{runs-state}
-use Rattle.claims.proofs.Quiet.{finish-ends, change-still}
+use Rattle.claims.proofs.Quiet.{finish-ends, Still}
 use Rattle.claims.proofs.Ended.{run-seen}
 use Rattle.claims.proofs.Endings.{return-done}
-use Rattle.claims.proofs.Escapes.{Looks, nothing, found, looks, AllSeen, Sees, closed-seen, fail-sees}
+use Rattle.claims.proofs.Escapes.{Looks, nothing, found, looks, AllSeen, Sees, failedBy, failedOn, failed-still, fail-sees, by-signal}
 
 -- an error object could not be made
 abbrev pub unmade : Answer → Bool
@@ -177,14 +177,12 @@ module _ (v : Engine.View) (value f pc : ℕ) where
   unfolding pick
   body-left x xs next w p q h rs [] r = subst (λ cs. Loses value w (search xs value f pc (popTo x xs w)) (lost v value xs cs)) r (popped x xs next w h rs)
   body-left x xs next w p q h rs (a ∷ chain) r =
-      subst (λ b. Loses value w (left b) (pick (seenIn (λ k. k .closing && eqb value (k .signal)) (v .coro (a .coro))) [] (a .coro ∷ pick (goesOn (a .driver)) (lost v value xs chain) [])))
-      (closed-seen v (coro w (a .coro)) (a .coro) value (all .0)) (test (seenIn (λ k. k .closing && eqb value (k .signal)) (v .coro (a .coro))))
+      by-signal v value f pc (search xs value f pc) x xs w a chain all (Loses value w) [] (a .coro ∷ pick (goesOn (a .driver)) (lost v value xs chain) []) (loses-return w _ (a .coro) (return-done nil x xs w a chain p q r .ends) ran refl)
+      (let e = finish-ends (a .coro) CoroState.Failed value u in
+      loses-more value w (failedBy value x xs a chain w) rest (a .coro) (pick (goesOn (a .driver)) (lost v value xs chain) []) (record { mine = e .mine; others = e .others }) (run-seen (a .coro) CoroState.Failed value u ran) ran then)
     where
       u : World
-      u = popTo x xs w
-
-      y : World
-      y = finishCoroutine (a .coro) CoroState.Failed value (withChain chain u)
+      u = withChain chain (popTo x xs w)
 
       all : AllSeen v (w .slots) (a ∷ chain)
       all = subst (AllSeen v (w .slots)) r (h .coros)
@@ -195,25 +193,15 @@ module _ (v : Engine.View) (value f pc : ℕ) where
       ran : isRunning (coreAt w (a .coro) .state) ≡ true
       ran = seen-runs (coro w (a .coro)) (a .coro) (all .0) (runs .0)
 
-      still : y .chain ≡ chain
-      still = change-still (withChain chain u) (a .coro) (inState CoroState.Failed) (ended value) .chain
+      still : Still u (failedBy value x xs a chain w)
+      still = failed-still value x xs a chain w
 
       rest : After Answer
-      rest = stopOr (search xs value f pc) (failTo (a .driver) (Stop.Failed value f pc) y .world) (failTo (a .driver) (Stop.Failed value f pc) y .answer)
+      rest = failedOn (search xs value f pc) value f pc x xs a chain w
 
-      then : Loses value y rest (pick (goesOn (a .driver)) (lost v value xs chain) [])
-      then = subst (λ cs. Loses value y rest (pick (goesOn (a .driver)) (lost v value xs cs) [])) still
-          (failed-to xs next (a .driver) (Stop.Failed value f pc) y (change-still (withChain chain u) (a .coro) (inState CoroState.Failed) (ended value) .frames) (fail-sees v x xs value w a chain h all) (subst (AllRun v) (sym still) (runs .1)))
-
-      -- it ends there, b: because its own signal closed it
-      left : Bool → After Answer
-      left b = andThen (pick b (after (deliverReturn (a .driver) nil (finishCoroutine (a .coro) CoroState.Returned nil (withChain chain u))) true) (failTo (a .driver) (Stop.Failed value f pc) y)) (stopOr (search xs value f pc))
-
-      test : (b : Bool) → Loses value w (left b) (pick b [] (a .coro ∷ pick (goesOn (a .driver)) (lost v value xs chain) []))
-      test true = loses-return w _ (a .coro) (return-done nil x xs w a chain p q r .ends) ran refl
-      test false =
-          let e = finish-ends (a .coro) CoroState.Failed value (withChain chain u) in
-          loses-more value w y rest (a .coro) (pick (goesOn (a .driver)) (lost v value xs chain) []) (record { mine = e .mine; others = e .others }) (run-seen (a .coro) CoroState.Failed value (withChain chain u) ran) ran then
+      then : Loses value (failedBy value x xs a chain w) rest (pick (goesOn (a .driver)) (lost v value xs chain) [])
+      then = subst (λ cs. Loses value (failedBy value x xs a chain w) rest (pick (goesOn (a .driver)) (lost v value xs cs) [])) (still .chain)
+          (failed-to xs next (a .driver) (Stop.Failed value f pc) (failedBy value x xs a chain w) (still .frames) (fail-sees v x xs value w a chain h all) (subst (AllRun v) (sym (still .chain)) (runs .1)))
 
   leaving : (x : Frame) (xs : List Frame) → Next xs → (w : World) → w .frames ≡ x ∷ xs → Sees v w → AllRun v (w .chain) → (c : Cont) → x .cont ≡ c → Loses value w (escape c value f pc (search xs value f pc) (popTo x xs w)) (losing c v value (w .chain) (lost v value xs))
   unfolding coroEscaped

@@ -56,3 +56,4 @@ pub mod Roomy
 pub mod Promise
 pub mod WrongEvents
 pub mod Wrong
+pub mod WrongHosts

@@ -7,7 +7,7 @@ use mathlib.Core.Option.{Option, none}
 use lib.Dec.{eqb}
 use borrow.Author.Tests.{not-true, eq-eqb}
 use Rattle.model.specs.declared.call.Op.{Op}
-use Rattle.claims.specs.Engine.{Engine, run}
+use Rattle.claims.specs.Engine.{Engine, Turn, calls, refuels, run}
 use Rattle.claims.specs.Demand3.{Suspends, Enters, Stops, Restarts, Waits, Goes, Demand3}
 use Rattle.claims.specs.Premises.{isSetUp, runsIn, sleepsIn, leftIn, restarts, waits, goes, meets, premises, Holds}
 use Rattle.claims.proofs.Cores.{no-both, and-left, and-right}
@@ -30,35 +30,37 @@ module _ (e : Engine) (c : ℕ) where
   no-restart : (s : e .State) (k : e .Call) → not (restarts e c s k) ≡ true → Restarts e s k → ⊥
   no-restart s k h r = not-both (isSetUp (e .op k)) (eqb (e .number s k) 0) h (set-up (r .sets-up)) (eq-eqb (e .number s k) 0 (r .accepted))
 
-  pub waits-true : (s : e .State) (ks : List (e .Call)) → waits e c s ks ≡ true → Waits e c s ks
+  pub waits-true : (s : e .State) (ts : List (Turn (e .Call))) → waits e c s ts ≡ true → Waits e c s ts
   waits-true s [] h = tt
-  waits-true s (k ∷ ks) h =
+  waits-true s (refuels f ∷ ts) h = waits-true (e .refuel s f) ts h
+  waits-true s (calls k ∷ ts) h =
       let t = e .next s k in
-      let b : (not (not (runsIn e c s) && runsIn e c t) && waits e c t ks) ≡ true = and-right (not (restarts e c s k)) (not (not (runsIn e c s) && runsIn e c t) && waits e c t ks) h in (
-        no-restart s k (and-left (not (restarts e c s k)) (not (not (runsIn e c s) && runsIn e c t) && waits e c t ks) h),
-        (λ g. not-both (not (runsIn e c s)) (runsIn e c t) (and-left (not (not (runsIn e c s) && runsIn e c t)) (waits e c t ks) b) (ap not (g .before)) (g .after)),
-        waits-true t ks (and-right (not (not (runsIn e c s) && runsIn e c t)) (waits e c t ks) b),
+      let b : (not (not (runsIn e c s) && runsIn e c t) && waits e c t ts) ≡ true = and-right (not (restarts e c s k)) (not (not (runsIn e c s) && runsIn e c t) && waits e c t ts) h in (
+        no-restart s k (and-left (not (restarts e c s k)) (not (not (runsIn e c s) && runsIn e c t) && waits e c t ts) h),
+        (λ g. not-both (not (runsIn e c s)) (runsIn e c t) (and-left (not (not (runsIn e c s) && runsIn e c t)) (waits e c t ts) b) (ap not (g .before)) (g .after)),
+        waits-true t ts (and-right (not (not (runsIn e c s) && runsIn e c t)) (waits e c t ts) b),
       )
 
-  pub goes-true : (s : e .State) (ks : List (e .Call)) → goes e c s ks ≡ true → Goes e c s ks
+  pub goes-true : (s : e .State) (ts : List (Turn (e .Call))) → goes e c s ts ≡ true → Goes e c s ts
   goes-true s [] h = tt
-  goes-true s (k ∷ ks) h =
+  goes-true s (refuels f ∷ ts) h = goes-true (e .refuel s f) ts h
+  goes-true s (calls k ∷ ts) h =
       let t = e .next s k in
-      let b : (not (runsIn e c s && leftIn e c t) && goes e c t ks) ≡ true = and-right (not (restarts e c s k)) (not (runsIn e c s && leftIn e c t) && goes e c t ks) h in (
-        no-restart s k (and-left (not (restarts e c s k)) (not (runsIn e c s && leftIn e c t) && goes e c t ks) h),
-        (λ g. not-both (runsIn e c s) (leftIn e c t) (and-left (not (runsIn e c s && leftIn e c t)) (goes e c t ks) b) (g .before) (g .after)),
-        goes-true t ks (and-right (not (runsIn e c s && leftIn e c t)) (goes e c t ks) b),
+      let b : (not (runsIn e c s && leftIn e c t) && goes e c t ts) ≡ true = and-right (not (restarts e c s k)) (not (runsIn e c s && leftIn e c t) && goes e c t ts) h in (
+        no-restart s k (and-left (not (restarts e c s k)) (not (runsIn e c s && leftIn e c t) && goes e c t ts) h),
+        (λ g. not-both (runsIn e c s) (leftIn e c t) (and-left (not (runsIn e c s && leftIn e c t)) (goes e c t ts) b) (g .before) (g .after)),
+        goes-true t ts (and-right (not (runsIn e c s && leftIn e c t)) (goes e c t ts) b),
       )
 
 -- the premises apart
-pub record Premises (e : Engine) (c : ℕ) (s : e .State) (x : e .Call) (waiting : List (e .Call)) (y : e .Call) (going : List (e .Call)) (z : e .Call) : Type 0 where
+pub record Premises (e : Engine) (c : ℕ) (s : e .State) (x : e .Call) (waiting : List (Turn (e .Call))) (y : e .Call) (going : List (Turn (e .Call))) (z : e .Call) : Type 0 where
   pub suspends : Suspends e c s x
   pub waits : Waits e c (e .next s x) waiting
   pub enters : Enters e c (run e (e .next s x) waiting) y
   pub goes : Goes e c (e .next (run e (e .next s x) waiting) y) going
   pub leaves : Stops e c (run e (e .next (run e (e .next s x) waiting) y) going) z
 
-pub premises-met : (e : Engine) (c : ℕ) (s : e .State) (x : e .Call) (waiting : List (e .Call)) (y : e .Call) (going : List (e .Call)) (z : e .Call) → premises e c s x waiting y going z ≡ true → Premises e c s x waiting y going z
+pub premises-met : (e : Engine) (c : ℕ) (s : e .State) (x : e .Call) (waiting : List (Turn (e .Call))) (y : e .Call) (going : List (Turn (e .Call))) (z : e .Call) → premises e c s x waiting y going z ≡ true → Premises e c s x waiting y going z
 premises-met e c s₁ x waiting y going z h =
     let s₂ = e .next s₁ x in
     let s₃ = run e s₂ waiting in
@@ -75,7 +77,7 @@ premises-met e c s₁ x waiting y going z h =
       leaves = record { before = t .4; after = t .5 };
     }
 
-pub premises-hold : (e : Engine) → Demand3 e → (c : ℕ) (s : e .State) (x : e .Call) (waiting : List (e .Call)) (y : e .Call) (going : List (e .Call)) (z : e .Call) → premises e c s x waiting y going z ≡ true → Holds e c s x waiting y going z
+pub premises-hold : (e : Engine) → Demand3 e → (c : ℕ) (s : e .State) (x : e .Call) (waiting : List (Turn (e .Call))) (y : e .Call) (going : List (Turn (e .Call))) (z : e .Call) → premises e c s x waiting y going z ≡ true → Holds e c s x waiting y going z
 premises-hold e d c s x waiting y going z h =
     let p = premises-met e c s x waiting y going z h in
     record { restored = d .restored c s x waiting y (p .suspends) (p .waits) (p .enters); untouched = d .untouched c (run e (e .next s x) waiting) y going z (p .enters) (p .goes) (p .leaves) }

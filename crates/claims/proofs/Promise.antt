@@ -3,7 +3,7 @@ use Prim.Native.Nat.{ℕ, zero, suc, _^_, _<_}
 use native.Mathlib.Omega.{arith}
 use mathlib.Core.Path.{_≡_, refl, sym, ap, _∙_, subst}
 use mathlib.Core.Bool.{Bool, true, false, _||_}
-use mathlib.Core.List.{List, [], _∷_}
+use mathlib.Core.List.{List, [], _∷_, map}
 use mathlib.Core.Option.{none, some}
 use lib.ListN.{getD, take, drop}
 use lib.Dec.{eqb}
@@ -41,13 +41,14 @@ use Rattle.invariant.specs.Kept.{raises}
 use Rattle.soundness.proofs.Sound.{sound→}
 use Rattle.invariant.proofs.Call.{call-keeps}
 use Rattle.claims.specs.Engine as Engine
+use Rattle.claims.specs.Engine.{Turn, calls}
 use Rattle.claims.specs.Demand3.{Restarts}
 use Rattle.claims.specs.Events.{Healthy, raised, endsAt}
-use Rattle.claims.specs.Promise.{plain, room, Roomy, Makes, converts, Eleven, sets-up, no-fault, Soundness, Fresh, registers, NotEmpty, Promise}
+use Rattle.claims.specs.Promise.{plain, room, Roomy, Makes, converts, Eleven, sets-up, no-fault, Soundness, Fresh, registers, Refuels, NotEmpty, Promise}
 use Rattle.claims.specs.Steps.{seenOf, rulesOf, viewOf, opOf, asksOf, looks, steps}
 use Rattle.claims.specs.Story.{wide, f, c, held}
 use Rattle.claims.specs.Premises.{premises}
-use Rattle.claims.specs.Witness.{nth, between, frame}
+use Rattle.claims.specs.Witness.{nth, between, waiting, frame}
 use Rattle.claims.proofs.Cores.{no-both}
 use Rattle.claims.proofs.Claim.{fresh-absent}
 use Rattle.claims.proofs.Soundness.{soundness-kept}
@@ -285,10 +286,15 @@ look-unmoved w (Do o) e = go (sound w)
     go true = ap (λ p. viewOf (call p w .world)) (some-op e)
     go false = refl
 
+-- ---- another fuel record
+
+refuelled : Refuels steps
+refuelled w f = refl
+
 -- ---- not empty: the split that Witness.antt shows as lists
 
-unfoldable pub before : List Call
-before = drop 1 (take 13 held)
+unfoldable pub before : List (Turn Call)
+before = map calls (drop 1 (take 13 held))
 
 begins : step (fresh wide) (SetUp wide) .answer ≡ Answer.Accepted
 unfolding computed
@@ -298,7 +304,7 @@ begins-at : step (fresh wide) (SetUp wide) .world ≡ fresh wide
 unfolding computed
 begins-at = refl
 
-split-met : premises steps c (Engine.run steps (step (fresh wide) (SetUp wide) .world) before) (nth held 13) (between held 13 23) (nth held 23) (between held 23 26) (nth held 26) ≡ true
+split-met : premises steps c (Engine.run steps (step (fresh wide) (SetUp wide) .world) before) (nth held 13) waiting (nth held 23) (between held 23 26) (nth held 26) ≡ true
 unfolding computed before
 split-met = refl
 
@@ -338,14 +344,14 @@ costs-met = refl
 
 pub not-empty : NotEmpty steps
 not-empty =
-    let p = premises-met steps c (Engine.run steps (step (fresh wide) (SetUp wide) .world) before) (nth held 13) (between held 13 23) (nth held 23) (between held 23 26) (nth held 26) split-met in
+    let p = premises-met steps c (Engine.run steps (step (fresh wide) (SetUp wide) .world) before) (nth held 13) waiting (nth held 23) (between held 23 26) (nth held 26) split-met in
     record {
       start = fresh wide;
       first = SetUp wide;
       accepted = record { sets-up = refl; accepted = ap numberOf begins };
       before = before;
       x = nth held 13;
-      waiting = between held 13 23;
+      waiting = waiting;
       y = nth held 23;
       going = between held 23 26;
       z = nth held 26;
@@ -380,6 +386,7 @@ promise =
       soundness = soundness;
       set-ups = record { begun = set-up-begun; given = set-up-given; refused = set-up-refused };
       looks = record { sees = look-sees; unseen = look-unseen; unmoved = look-unmoved };
+      refuels = refuelled;
       speaks = λ o h. (asCall o (as-typed o ∙ h), refl);
       not-empty = not-empty;
     }

@@ -18,10 +18,9 @@ use Rattle.model.specs.Gate.{refused}
 use Rattle.model.specs.Added.{accepted}
 use Rattle.model.specs.Answer.{numberOf}
 use Rattle.model.specs.Call.{Call, SetUp, Do}
-use Rattle.model.specs.Step as M
 use Rattle.model.specs.Step.{step, told}
 use Rattle.model.specs.declared.machine.Frame.{Frame}
-use Rattle.claims.specs.Engine.{Seen, run, isNew, seenIn}
+use Rattle.claims.specs.Engine.{Seen, Turn, calls, refuels, run, isNew, seenIn}
 use Rattle.claims.specs.Says.{Does, doing, Sent, nothing, gets, closes}
 use Rattle.claims.specs.Held as H
 use Rattle.claims.specs.Held.{at, AllMoved, pcOf, waitsIn, stepped, into, given, closedBy, By, Entered, Restored}
@@ -62,9 +61,10 @@ restarts-old w (SetUp s) h = go (setupOk s) refl
     go false e = e
     go true e = absurd (h (record { sets-up = refl; accepted = ap (λ b. numberOf (told (pick b (accepted (fresh s)) (refused w Fault.Unsound)) .answer)) e }))
 
-pub waits-old : (c : ℕ) (w : World) (ks : List Call) → D.Waits steps c w ks → Waits c w ks
+pub waits-old : (c : ℕ) (w : World) (ts : List (Turn Call)) → D.Waits steps c w ts → Waits c w ts
 waits-old c w [] h = tt
-waits-old c w (k ∷ ks) h = (restarts-old w k (h .0), (λ e. h .1 (record { before = is-runs w c ∙ e .before; after = is-runs (next w k) c ∙ e .after })), waits-old c (next w k) ks (h .2))
+waits-old c w (refuels f ∷ ts) h = waits-old c (steps .refuel w f) ts h
+waits-old c w (calls k ∷ ts) h = (restarts-old w k (h .0), (λ e. h .1 (record { before = is-runs w c ∙ e .before; after = is-runs (next w k) c ∙ e .after })), waits-old c (next w k) ts (h .2))
 
 -- ---- an entry
 
@@ -197,7 +197,7 @@ restored-as c v x w (Do o) z s f a e t =
 pub entered : (c : ℕ) (w : World) (y : Call) → D.Enters steps c w y → Entered (viewOf w) (opOf y) c (viewOf (next w y))
 entered c w y h = entered-at c w y (next w y) (entering c w y (enters-old c w y h))
 
-pub restored : (c : ℕ) (v : World) (x : Call) (waiting : List Call) (y : Call) → D.Suspends steps c v x → D.Waits steps c (next v x) waiting
+pub restored : (c : ℕ) (v : World) (x : Call) (waiting : List (Turn Call)) (y : Call) → D.Suspends steps c v x → D.Waits steps c (next v x) waiting
     → let w = run steps (next v x) waiting in D.Enters steps c w y → Restored (viewOf v) (opOf x) (viewOf w) (opOf y) c (viewOf (next w y))
 restored c v x waiting y h q e = restored-as c v x w y (next w y) (coreAt (next v x) c) (found c v x s) (s .after) asleep (entering c w y (enters-old c w y e))
   where
@@ -207,9 +207,5 @@ restored c v x waiting y h q e = restored-as c v x w y (next w y) (coreAt (next 
     s : Suspends c v x
     s = suspends-old c v x h
 
-    same-run : (u : World) (ks : List Call) → M.run u ks ≡ run steps u ks
-    same-run u [] = refl
-    same-run u (k ∷ ks) = same-run (next u k) ks
-
     asleep : coreAt w c ≡ coreAt (next v x) c
-    asleep = ap (λ u. coreAt u c) (sym (same-run (next v x) waiting)) ∙ sleep c (coreAt (next v x) c) (next v x) waiting (record { asleep = s .after; holds = refl }) (waits-old c (next v x) waiting q) .holds
+    asleep = sleep c (coreAt (next v x) c) (next v x) waiting (record { asleep = s .after; holds = refl }) (waits-old c (next v x) waiting q) .holds

@@ -9,6 +9,8 @@ use Rattle.model.specs.Program.{setupOk}
 use Rattle.model.specs.World.{World}
 use Rattle.model.specs.Call.{Call, SetUp, Do}
 use Rattle.model.specs.Step.{step}
+use Rattle.claims.specs.Engine.{Turn, calls, refuels}
+use Rattle.claims.specs.Steps.{steps}
 use Rattle.claims.proofs.Entry.{entryOf, driverOf}
 use Rattle.claims.proofs.Held.{Seat, coreAt, calling, eventOf, mem, deliverTo}
 
@@ -39,14 +41,16 @@ restarts (SetUp s) = setupOk s
 restarts (Do o) = false
 
 -- among the calls is no accepted set-up, and none enters c
-abbrev pub Waits : ℕ → World → List Call → Type 0
+abbrev pub Waits : ℕ → World → List (Turn Call) → Type 0
 Waits c w [] = Unit {0}
-Waits c w (k ∷ ks) = (restarts k ≡ false) × (Enters c w k → ⊥) × Waits c (next w k) ks
+Waits c w (calls k ∷ ts) = (restarts k ≡ false) × (Enters c w k → ⊥) × Waits c (next w k) ts
+Waits c w (refuels f ∷ ts) = Waits c (steps .refuel w f) ts
 
 -- among the calls is no accepted set-up, and in none does c yield, await or return
-abbrev pub Goes : ℕ → World → List Call → Type 0
+abbrev pub Goes : ℕ → World → List (Turn Call) → Type 0
 Goes c w [] = Unit {0}
-Goes c w (k ∷ ks) = (restarts k ≡ false) × (Stops c w k → ⊥) × Goes c (next w k) ks
+Goes c w (calls k ∷ ts) = (restarts k ≡ false) × (Stops c w k → ⊥) × Goes c (next w k) ts
+Goes c w (refuels f ∷ ts) = Goes c (steps .refuel w f) ts
 
 -- ---- asleep. 01: "held are its Coro frame with all frames above it, and the words from that frame's base up"
 

@@ -253,22 +253,16 @@ returned-not CoroState.Awaiting e = sym e
 returned-not CoroState.Returned e = refl
 returned-not CoroState.Failed e = refl
 
-pub iter-arm : (p has iter val src : ℕ) (v : World)
-    → Arm v p (enters (reg v src) (Driver.Iter has val (reg v iter)) (gets nil) (not (isDone (object v (reg v iter))) && not (awaits (coro v (reg v src))))) false (iterNext p has iter val src v .world)
-unfolding iterNext pick
-iter-arm p has iter val src v = go (coro v n) refl
+-- a turn of the loop over the iterator x may enter its source n
+abbrev pub mayTurn : ℕ → ℕ → World → Bool
+mayTurn x n v = not (isDone (object v x)) && not (awaits (coro v n))
+
+turn-arm : (p has x val n : ℕ) (v : World) → Arm v p (enters n (Driver.Iter has val x) (gets nil) (mayTurn x n v)) false (iterOn (stateAs (coro v n) (notA v n)) p has x val n v .world)
+unfolding pick
+turn-arm p has x val n v = go (coro v n) refl
   where
-    n : ℕ
-    n = reg v src
-
-    x : ℕ
-    x = reg v iter
-
     d : Driver
     d = Driver.Iter has val x
-
-    may : Bool
-    may = not (isDone (object v x)) && not (awaits (coro v n))
 
     tried : Tried v p n d (gets nil) (andThen (coroEnter n d (storePc p v)) (arrive nil) .world)
     tried = let e = coroEnter n d (storePc p v) in subst (Tried v p n d (gets nil)) (arrive-world nil (e .world) (e .answer)) (try-sent v p n d nil)
@@ -277,12 +271,17 @@ iter-arm p has iter val src v = go (coro v n) refl
     over = calm-worked (done-calm x v) (puts has 0 done)
 
     tests : (k : Core) (r : Rest) → coro v n ≡ Is k r → (a b c : Bool) → isDone (object v x) ≡ a → isReturned (k .state) ≡ b → isAwaiting (k .state) ≡ c
-        → Arm v p (enters n d (gets nil) may) false (pick (a || b) (Exec.put has 0 (setDone x v)) (pick c (fault v Fault.TypeError) (andThen (coroEnter n d (storePc p v)) (arrive nil))) .world)
-    tests k r e true b c q s t = may-not may (ap (λ y. not y && not (awaits (coro v n))) q) over
-    tests k r e false true c q s t = refused-arm may (ap (λ y. acceptsAs y v) e ∙ ap (λ y. y && not (isNil (k .frames)) && not (overflows k v)) (returned-not (k .state) s)) over
-    tests k r e false false true q s t = may-not may (ap (λ y. not y && not (awaits (coro v n))) q ∙ ap (λ y. not (awaits y)) e ∙ ap not t) done
-    tests k r e false false false q s t = tried-arm may (ap (λ y. not y && not (awaits (coro v n))) q ∙ ap (λ y. not (awaits y)) e ∙ ap not t) tried
+        → Arm v p (enters n d (gets nil) (mayTurn x n v)) false (pick (a || b) (Exec.put has 0 (setDone x v)) (pick c (fault v Fault.TypeError) (andThen (coroEnter n d (storePc p v)) (arrive nil))) .world)
+    tests k r e true b c q s t = may-not (mayTurn x n v) (ap (λ y. not y && not (awaits (coro v n))) q) over
+    tests k r e false true c q s t = refused-arm (mayTurn x n v) (ap (λ y. acceptsAs y v) e ∙ ap (λ y. y && not (isNil (k .frames)) && not (overflows k v)) (returned-not (k .state) s)) over
+    tests k r e false false true q s t = may-not (mayTurn x n v) (ap (λ y. not y && not (awaits (coro v n))) q ∙ ap (λ y. not (awaits y)) e ∙ ap not t) done
+    tests k r e false false false q s t = tried-arm (mayTurn x n v) (ap (λ y. not y && not (awaits (coro v n))) q ∙ ap (λ y. not (awaits y)) e ∙ ap not t) tried
 
-    go : (y : Coroutine) → coro v n ≡ y → Arm v p (enters n d (gets nil) may) false (iterOn (stateAs y (notA v n)) p has x val n v .world)
-    go Absent e = refused-arm may (ap (λ y. acceptsAs y v) e) done
+    go : (y : Coroutine) → coro v n ≡ y → Arm v p (enters n d (gets nil) (mayTurn x n v)) false (iterOn (stateAs y (notA v n)) p has x val n v .world)
+    go Absent e = refused-arm (mayTurn x n v) (ap (λ y. acceptsAs y v) e) done
     go (Is k r) e = tests k r e (isDone (object v x)) (isReturned (k .state)) (isAwaiting (k .state)) refl refl refl
+
+pub iter-arm : (p has iter val src : ℕ) (v : World)
+    → Arm v p (enters (reg v src) (Driver.Iter has val (reg v iter)) (gets nil) (mayTurn (reg v iter) (reg v src) v)) false (iterNext p has iter val src v .world)
+unfolding iterNext
+iter-arm p has iter val src v = turn-arm p has (reg v iter) val (reg v src) v

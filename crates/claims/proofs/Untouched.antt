@@ -14,14 +14,13 @@ use Rattle.model.specs.Heap.{coro, toDyn}
 use Rattle.model.specs.Sound.{marked}
 use Rattle.model.specs.Machine.{finish}
 use Rattle.model.specs.Call.{Call, SetUp, Do}
-use Rattle.model.specs.Step as M
 use Rattle.model.specs.Step.{call}
 use Rattle.model.specs.declared.machine.Driver.{Driver}
 use Rattle.model.specs.declared.machine.Frame.{Frame}
 use Rattle.model.specs.declared.coro.WordOr.{WordOr}
 use Rattle.model.specs.declared.call.Op.{Op}
 use Rattle.model.specs.declared.call.Answer.{Answer}
-use Rattle.claims.specs.Engine.{View, run, seenIn}
+use Rattle.claims.specs.Engine.{View, Turn, calls, refuels, run, seenIn}
 use Rattle.claims.specs.Says.{Does, does, doing}
 use Rattle.claims.specs.Held.{at, into}
 use Rattle.claims.specs.Delivery as Y
@@ -46,9 +45,10 @@ use Rattle.claims.proofs.Restores.{enters-old, restarts-old, entry-by}
 pub leaves-old : (c : ℕ) (w : World) (k : Call) → D.Stops steps c w k → Stops c w k
 leaves-old c w k h = record { before = sym (is-runs w c) ∙ h .before; after = sym (is-left (next w k) c) ∙ h .after }
 
-goes-old : (c : ℕ) (w : World) (ks : List Call) → D.Goes steps c w ks → Goes c w ks
+goes-old : (c : ℕ) (w : World) (ts : List (Turn Call)) → D.Goes steps c w ts → Goes c w ts
 goes-old c w [] h = tt
-goes-old c w (k ∷ ks) h = (restarts-old w k (h .0), (λ e. h .1 (record { before = is-runs w c ∙ e .before; after = is-left (next w k) c ∙ e .after })), goes-old c (next w k) ks (h .2))
+goes-old c w (refuels f ∷ ts) h = goes-old c (steps .refuel w f) ts h
+goes-old c w (calls k ∷ ts) h = (restarts-old w k (h .0), (λ e. h .1 (record { before = is-runs w c ∙ e .before; after = is-left (next w k) c ∙ e .after })), goes-old c (next w k) ts (h .2))
 
 -- ---- the delivery
 
@@ -182,14 +182,14 @@ untouched-as c w (Do o) v l z t p q g =
       chain = q;
     }
 
-pub untouched : (c : ℕ) (w : World) (y : Call) (going : List Call) (l : Call) → D.Enters steps c w y → D.Goes steps c (next w y) going
+pub untouched : (c : ℕ) (w : World) (y : Call) (going : List (Turn Call)) (l : Call) → D.Enters steps c w y → D.Goes steps c (next w y) going
     → let v = run steps (next w y) going in D.Stops steps c v l → Left (viewOf w) (opOf y) c (viewOf v) (opOf l) (viewOf (next v l))
 untouched c w y going l h q e =
     let x = Claim.untouched c w y going l (enters-old c w y h) (goes-old c (next w y) going q) left in
     untouched-as c w y v l (next v l) (entering c w y (enters-old c w y h)) (x .under) (x .chain) (event-of v l c left)
   where
     v : World
-    v = M.run (next w y) going
+    v = run steps (next w y) going
 
     left : Stops c v l
     left = leaves-old c v l e

@@ -18,7 +18,7 @@ use Rattle.model.specs.declared.machine.Active.{Active}
 use Rattle.model.specs.declared.machine.Driver.{Driver}
 use Rattle.model.specs.declared.machine.Frame.{Frame}
 use Rattle.model.specs.declared.call.Op.{Op}
-use Rattle.claims.specs.Engine.{Seen, View, run, isNew}
+use Rattle.claims.specs.Engine.{Seen, View, calls, run, isNew}
 use Rattle.claims.specs.Says.{Sent, nothing, Entry, doing, whom}
 use Rattle.claims.specs.Held.{at, Moved, AllMoved, pcOf, waitsIn, stepped, given, Entered, Restored}
 use Rattle.claims.specs.Delivery.{eventOf, Memory, memory, deliver, Left}
@@ -26,9 +26,9 @@ use Rattle.claims.specs.Demand3.{Demand3}
 use Rattle.claims.specs.Premises.{runsIn, sleepsIn, waits}
 use Rattle.claims.specs.Steps.{viewOf, opOf}
 use Rattle.claims.specs.Story as Story
-use Rattle.claims.specs.Story.{wide, c, held}
+use Rattle.claims.specs.Story.{wide, c, part, held}
 use Rattle.claims.specs.Witness.{nth, between, frame}
-use Rattle.claims.specs.Wrong.{bent, onTop, tail, ofZero, discards, bare, atOne, further, higher, once, begun, greeted, late, mistaking, tainting, Wrong}
+use Rattle.claims.specs.Wrong.{leaving, swapped, exchanged, bent, onTop, tail, ofZero, discards, bare, atOne, further, higher, once, begun, greeted, late, mistaking, tainting, Wrong}
 use Rattle.claims.proofs.Premises.{waits-true}
 use Rattle.claims.proofs.Cores.{no-both}
 use Rattle.claims.proofs.WrongEvents.{always-refused, return-fails, no-cleanup, closing-forgotten, failure-returns, await-yields, excused, throw-lost, ignored-unheard, refusal-unheard, throw-feigned}
@@ -111,31 +111,31 @@ distances b n f₁ f₂ (k₁ ∷ []) rest m = absurd (m .1)
 distances b n f₁ f₂ (k₁ ∷ k₂ ∷ []) rest m = let p = m .0 .base in let q = m .1 .0 .base in omega (arith, p, q)
 distances b n f₁ f₂ (k₁ ∷ k₂ ∷ k₃ ∷ ks) rest m = absurd (m .1 .1)
 
--- ---- the split, of a bent machine
+-- ---- a split of the calls ks, of an engine that leaves other worlds: call i suspends c, and call j is its next entry
 
-module _ (f : List Frame → List Frame) where
+module _ (f : World → Call → World) (ks : List Call) (i j : ℕ) where
   abbrev s₁ : World
-  s₁ = run (bent f) (fresh wide) (take 13 held)
+  s₁ = run (leaving f) (fresh wide) (map calls (take i ks))
 
   abbrev s₂ : World
-  s₂ = bent f .next s₁ (nth held 13)
+  s₂ = f s₁ (nth ks i)
 
   abbrev s₃ : World
-  s₃ = run (bent f) s₂ (between held 13 23)
+  s₃ = run (leaving f) s₂ (between ks i j)
 
   abbrev s₄ : World
-  s₄ = bent f .next s₃ (nth held 23)
+  s₄ = f s₃ (nth ks j)
 
   abbrev Woken : Type 0
-  Woken = Restored (viewOf s₁) (opOf (nth held 13)) (viewOf s₃) (opOf (nth held 23)) c (viewOf s₄)
+  Woken = Restored (viewOf s₁) (opOf (nth ks i)) (viewOf s₃) (opOf (nth ks j)) c (viewOf s₄)
 
   abbrev met : Bool
-  met = runsIn (bent f) c s₁ && sleepsIn (bent f) c s₂ && not (runsIn (bent f) c s₃) && runsIn (bent f) c s₄ && waits (bent f) c s₂ (between held 13 23)
+  met = runsIn (leaving f) c s₁ && sleepsIn (leaving f) c s₂ && not (runsIn (leaving f) c s₃) && runsIn (leaving f) c s₄ && waits (leaving f) c s₂ (between ks i j)
 
-  woken : Demand3 (bent f) → met ≡ true → Woken
+  woken : Demand3 (leaving f) → met ≡ true → Woken
   woken d h =
-      let t = five (runsIn (bent f) c s₁) (sleepsIn (bent f) c s₂) (runsIn (bent f) c s₃) (runsIn (bent f) c s₄) (waits (bent f) c s₂ (between held 13 23)) h in
-      d .restored c s₁ (nth held 13) (between held 13 23) (nth held 23) (record { before = t .0; after = t .1 }) (waits-true (bent f) c s₂ (between held 13 23) (t .4)) (record { before = t .2; after = t .3 })
+      let t = five (runsIn (leaving f) c s₁) (sleepsIn (leaving f) c s₂) (runsIn (leaving f) c s₃) (runsIn (leaving f) c s₄) (waits (leaving f) c s₂ (between ks i j)) h in
+      d .restored c s₁ (nth ks i) (between ks i j) (nth ks j) (record { before = t .0; after = t .1 }) (waits-true (leaving f) c s₂ (between ks i j) (t .4)) (record { before = t .2; after = t .3 })
 
 -- ---- each of them
 
@@ -165,27 +165,27 @@ pc-alike b n f k m = m .pc
 
 other-function : Demand3 (bent (onTop ofZero)) → ⊥
 unfolding computed
-other-function d = let q : _≡_ {A = ℕ} 0 1 = ap first (on-top (woken (onTop ofZero) d refl) funcOf funcOf func-alike) in absurd (omega (arith, q))
+other-function d = let q : _≡_ {A = ℕ} 0 1 = ap first (on-top (woken (bent (onTop ofZero) .next) held 13 23 d refl) funcOf funcOf func-alike) in absurd (omega (arith, q))
 
 discarding : Demand3 (bent (onTop discards)) → ⊥
 unfolding computed
-discarding d = let q : _≡_ {A = ℕ} 4 2 = ap first (on-top (woken (onTop discards) d refl) contOf contOf cont-alike) in absurd (omega (arith, q))
+discarding d = let q : _≡_ {A = ℕ} 4 2 = ap first (on-top (woken (bent (onTop discards) .next) held 13 23 d refl) contOf contOf cont-alike) in absurd (omega (arith, q))
 
 top-dropped : Demand3 (bent tail) → ⊥
 unfolding computed
-top-dropped d = let q : _≡_ {A = ℕ} 0 1 = ap first (on-top (woken tail d refl) funcOf funcOf func-alike) in absurd (omega (arith, q))
+top-dropped d = let q : _≡_ {A = ℕ} 0 1 = ap first (on-top (woken (bent tail .next) held 13 23 d refl) funcOf funcOf func-alike) in absurd (omega (arith, q))
 
 closures-lost : Demand3 (bent (map bare)) → ⊥
 unfolding computed
-closures-lost d = let q : _≡_ {A = ℕ} 0 Story.f = ap second (on-top (woken (map bare) d refl) closureOf closureOf closure-alike) in absurd (omega (arith, q))
+closures-lost d = let q : _≡_ {A = ℕ} 0 Story.f = ap second (on-top (woken (bent (map bare) .next) held 13 23 d refl) closureOf closureOf closure-alike) in absurd (omega (arith, q))
 
 at-pc-1 : Demand3 (bent (onTop atOne)) → ⊥
 unfolding computed
-at-pc-1 d = let q : _≡_ {A = ℕ} 1 8 = ap first (on-top (woken (onTop atOne) d refl) pcIn pcIn pc-alike) in absurd (omega (arith, q))
+at-pc-1 d = let q : _≡_ {A = ℕ} 1 8 = ap first (on-top (woken (bent (onTop atOne) .next) held 13 23 d refl) pcIn pcIn pc-alike) in absurd (omega (arith, q))
 
 stepped-twice : Demand3 (bent (onTop further)) → ⊥
 unfolding computed
-stepped-twice d = let q : _≡_ {A = ℕ} 9 8 = ap first (on-top (woken (onTop further) d refl) pcIn pcIn pc-alike) in absurd (omega (arith, q))
+stepped-twice d = let q : _≡_ {A = ℕ} 9 8 = ap first (on-top (woken (bent (onTop further) .next) held 13 23 d refl) pcIn pcIn pc-alike) in absurd (omega (arith, q))
 
 -- bases: the top frame's and the body's are 5 words apart, and were 4
 two-moved : {v : View} {x : Option Op} {w : View} {y : Option Op} {c : ℕ} {z : View} (r : Restored v x w y c z) (p : ℕ) (f₁ f₂ : Frame)
@@ -199,7 +199,7 @@ two-moved {v} {x} {w} {y} {c} {z} r p f₁ f₂ e =
 
 bases-apart : Demand3 (bent (onTop higher)) → ⊥
 unfolding computed
-bases-apart d = let q : _≡_ {A = ℕ} 21 20 = two-moved (woken (onTop higher) d refl) 0 (frame 1 8 8 0 (Cont.Dyn 2)) (frame 0 5 4 Story.f Cont.Coro) refl in absurd (omega (arith, q))
+bases-apart d = let q : _≡_ {A = ℕ} 21 20 = two-moved (woken (bent (onTop higher) .next) held 13 23 d refl) 0 (frame 1 8 8 0 (Cont.Dyn 2)) (frame 0 5 4 Story.f Cont.Coro) refl in absurd (omega (arith, q))
 
 -- ---- rows moved once
 
@@ -217,8 +217,7 @@ more-frames {w = w} {z = z} r n p q =
 
 rows-once : Demand3 once → ⊥
 unfolding computed
-rows-once d = more-frames (d .restored c (run once (fresh wide) (take 13 held)) (nth held 13) (between held 13 23) (nth held 23) (record { before = refl; after = refl })
-    (waits-true once c (once .next (run once (fresh wide) (take 13 held)) (nth held 13)) (between held 13 23) refl) (record { before = refl; after = refl })) 3 refl refl
+rows-once d = more-frames (woken (once .next) held 13 23 d refl) 3 refl refl
 
 -- ---- words
 
@@ -233,7 +232,7 @@ last-append (g ∷ []) f = refl
 last-append (g ∷ h ∷ fs) f = last-append (h ∷ fs) f
 
 -- the word at place i, where the Coro frame's base is that of the last frame found
-word-back : {v : View} {x : Option Op} {w : View} {y : Option Op} {c : ℕ} {z : View} → Restored v x w y c z → (i : ℕ)
+pub word-back : {v : View} {x : Option Op} {w : View} {y : Option Op} {c : ℕ} {z : View} → Restored v x w y c z → (i : ℕ)
     → getD (z .stack) i 0 ≡ getD (given (sentIn (whom w y)) (z .frames) (waitsIn (doing v x)) (w .stack ++ drop (lastBase (found v)) (v .stack))) i 0
 word-back {v} {x} {w} {y} {c} {z} r i =
     let base = sym (ap lastBase (found-mine r) ∙ last-append (r .held .over) (r .held .body)) in
@@ -241,12 +240,16 @@ word-back {v} {x} {w} {y} {c} {z} r i =
 
 other-word : Demand3 mistaking → ⊥
 unfolding computed
-other-word d =
-    let before = run mistaking (fresh wide) (take 13 held) in
-    let q : _≡_ {A = ℕ} 5 11 =
-    word-back (d .restored c before (nth held 13) (between held 13 23) (nth held 23) (record { before = refl; after = refl })
-    (waits-true mistaking c (mistaking .next before (nth held 13)) (between held 13 23) refl) (record { before = refl; after = refl })) 12 in
-    absurd (omega (arith, q))
+other-word d = let q : _≡_ {A = ℕ} 5 11 = word-back (woken (mistaking .next) held 13 23 d refl) 12 in absurd (omega (arith, q))
+
+-- two sleep, with 7 and 8: the first of them gets the other's
+others-registers : Demand3 (swapped c Story.d) → ⊥
+unfolding computed
+others-registers d = let q : _≡_ {A = ℕ} 8 7 = word-back (woken (swapped c Story.d .next) (part 13) 6 11 d refl) 4 in absurd (omega (arith, q))
+
+rows-exchanged : Demand3 (exchanged c Story.d) → ⊥
+unfolding computed
+rows-exchanged d = let q : _≡_ {A = ℕ} 8 7 = word-back (woken (exchanged c Story.d .next) (part 13) 6 11 d refl) 4 in absurd (omega (arith, q))
 
 -- ---- the first entry
 
@@ -310,6 +313,8 @@ below-changed d =
 pub wrong : Wrong
 wrong =
     record {
+      others-registers = others-registers;
+      rows-exchanged = rows-exchanged;
       other-function = other-function;
       discarding = discarding;
       top-dropped = top-dropped;

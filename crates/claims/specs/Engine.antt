@@ -74,14 +74,22 @@ pub record Engine : Type 1 where
   pub asks : Call → Option Rules
   pub view : State → View
   pub next : State → Call → State
+  -- with another fuel record
+  pub refuel : State → Fuel → State
   -- 01: the number that it answers
   pub number : State → Call → ℕ
   -- the words that a look hands back
   pub look : State → List ℕ
 
-abbrev pub run : (e : Engine) → e .State → List (e .Call) → e .State
+-- a turn of the host: a call, or another fuel record, which the next call then finds. 01: "The fuel record stays with the host"
+pub data Turn (A : Type 0) : Type 0 where
+  calls : A → Turn A
+  refuels : Fuel → Turn A
+
+abbrev pub run : (e : Engine) → e .State → List (Turn (e .Call)) → e .State
 run e s [] = s
-run e s (k ∷ ks) = run e (e .next s k) ks
+run e s (calls k ∷ ts) = run e (e .next s k) ts
+run e s (refuels f ∷ ts) = run e (e .refuel s f) ts
 
 -- ---- states
 

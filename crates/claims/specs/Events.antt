@@ -258,8 +258,11 @@ isInteger ResultKind.U64 = true
 -- ---- the claim
 
 pub record Events (e : Engine) : Type 0 where
+  -- 01: "An entry, from any driver, is accepted exactly if `coro_enter` accepts": who is entered is whom the call says, or a cleanup due
   pub enters : (c : ℕ) (s : e .State) (k : e .Call) → Enters e c s k → By (e .view s) (e .op k) c
+  -- and whom a call says is entered, where the machine is not refused
   pub entered : (c : ℕ) (s : e .State) (k : e .Call) → Healthy e s → By (e .view s) (e .op k) c → Enters e c s k
+  -- 01: "also where the call then answers a fault, as 17 at a throw, a close or a cleanup's start": 0, or 17 where a word is raised
   pub answered : (c : ℕ) (s : e .State) (k : e .Call) → Enters e c s k → (b : By (e .view s) (e .op k) c) → e .number s k ≡ answers (is (e .view s) isNew c) (b .sent)
   -- a Resume, a host entry, or a turn of a loop that goes on, that is answered 0 has entered whom it names
   pub resumed : (s : e .State) (k : e .Call) (pc dst r src : ℕ) → e .op k ≡ some (Op.Resume pc dst r src) → e .number s k ≡ 0 → Enters e (word (e .view s) r) s k
@@ -269,12 +272,19 @@ pub record Events (e : Engine) : Type 0 where
   -- a throw into one that has begun, or a close, that is answered 17 has entered somebody: whom it names, or one that a cleanup is due to
   pub threw : (s : e .State) (k : e .Call) (pc dst r src : ℕ) → e .op k ≡ some (Op.ResumeThrow pc dst r src) → e .number s k ≡ 17 → is (e .view s) isNew (word (e .view s) r) ≡ false → (c : ℕ) × Enters e c s k
   pub closed-in : (s : e .State) (k : e .Call) (pc dst r src : ℕ) → e .op k ≡ some (Op.CoroClose pc dst r src) → e .number s k ≡ 17 → (c : ℕ) × Enters e c s k
+  -- 01: "A yield (YieldKv too) or await counts if `coro_suspend` accepts": who is suspended is the innermost, by one that answers 0, 2 or 6
   pub suspends : (c : ℕ) (s : e .State) (k : e .Call) → Suspends e c s k → suspended (e .view s) (doing (e .view s) (e .op k)) (e .number s k) ≡ some c
+  -- and one that answers so has suspended the innermost
   pub suspended : (c : ℕ) (s : e .State) (k : e .Call) → suspended (e .view s) (doing (e .view s) (e .op k)) (e .number s k) ≡ some c → Suspends e c s k
+  -- which of the three it answers: by the innermost's driver, and whether it awaits or was being closed
   pub heard : (c : ℕ) (s : e .State) (k : e .Call) → Suspends e c s k → e .number s k ≡ toldTo (e .view s .chain) (isAwait (doing (e .view s) (e .op k))) (seenIn (λ x. x .closing) (e .view s .coro c))
+  -- 01: "a return if `finish` or `unwind` makes it Returned": who returns is the innermost, or one whose own signal leaves it
   pub returns : (c : ℕ) (s : e .State) (k : e .Call) → Returns e c s k → returned (e .view s) (doing (e .view s) (e .op k)) (e .number s k) ≡ some c
+  -- and such a call that is answered 0 has it return, where the machine is not refused
   pub returned : (c : ℕ) (s : e .State) (k : e .Call) → Healthy e s → returned (e .view s) (doing (e .view s) (e .op k)) (e .number s k) ≡ some c → Returns e c s k
+  -- 01: "any other escape makes it Failed": who fails is one that a raised word leaves so, or the run is stopped
   pub fails : (c : ℕ) (s : e .State) (k : e .Call) → Fails e c s k → Lost (e .view s) (e .number s k) c (e .op k)
+  -- and of those that run, all whom the word leaves so, or a stop finds, fail, where the machine is not refused
   pub failed : (c : ℕ) (s : e .State) (k : e .Call) → Healthy e s → is (e .view s) runs c ≡ true → Lost (e .view s) (e .number s k) c (e .op k) → Fails e c s k
   -- the result of one that fails is the word that was raised; where the run is stopped, nil
   pub spoilt : (c : ℕ) (s : e .State) (k : e .Call) (f : Fault) (pc : OptPc) (x : ℕ) → Fails e c s k → e .op k ≡ some (Op.Unwind f pc) → raised (e .view s) f ≡ some x

@@ -128,5 +128,9 @@ pub record Restored (v : View) (x : Option Op) (w : View) (y : Option Op) (c : �
   -- it sleeps when it is entered, so that what is sent to it arrives
   pub asleep : is w sleeps c ≡ true
   pub entered : Entered w y c z
+  -- its frames, from its Coro frame up: function, closure and continuation of each are those that x found, and every base is moved by one
+  -- distance; the top one's pc is x's, a step further if a word is sent
   pub moved : AllMoved (held .body .base) (length (w .stack)) (at (stepped (entered .by .sent) (pcOf (doing v x))) (held .over ++ (held .body ∷ []))) (entered .over ++ (entered .body ∷ []))
+  -- the whole stack: the caller's as y found it, and on it every word that c held from its Coro frame's base up, and no other; with the
+  -- sent word, if any, in the register that x named
   pub words : z .stack ≡ given (entered .by .sent) (z .frames) (waitsIn (doing v x)) (w .stack ++ drop (held .body .base) (v .stack))

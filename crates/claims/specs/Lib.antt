@@ -11,3 +11,4 @@ pub mod Steps
 pub mod Story
 pub mod Witness
 pub mod Wrong
+pub mod WrongHosts

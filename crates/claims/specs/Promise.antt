@@ -13,9 +13,10 @@ use Rattle.heap.specs.declared.fault.Fault.{Fault}
 use Rattle.heap.specs.declared.value.Opt.{Opt}
 use Rattle.heap.specs.declared.heap.ResultKind.{ResultKind}
 use Rattle.model.specs.declared.machine.Frame.{Frame}
+use Rattle.model.specs.declared.machine.Fuel.{Fuel}
 use Rattle.model.specs.declared.call.OptPc.{OptPc}
 use Rattle.model.specs.declared.call.Op.{Op}
-use Rattle.claims.specs.Engine.{Seen, View, Engine, run, isNew, is}
+use Rattle.claims.specs.Engine.{Seen, View, Engine, Turn, run, isNew, is}
 use Rattle.claims.specs.Operands.{written}
 use Rattle.claims.specs.Says.{word, lie, Entry, charged}
 use Rattle.claims.specs.Held.{Held}
@@ -137,6 +138,13 @@ pub record Looks (e : Engine) : Type 0 where
   pub unseen : (s : e .State) → (Healthy e s → ⊥) → e .look s ≡ []
   pub unmoved : (s : e .State) (k : e .Call) → e .op k ≡ some Op.Look → e .view (e .next s k) ≡ e .view s
 
+-- another fuel record is all that a refuelling changes
+abbrev pub withFuel : Fuel → View → View
+withFuel f v = record { stack = v .stack; frames = v .frames; chain = v .chain; coro = v .coro; done = v .done; queue = v .queue; fuel = f; rules = v .rules; fresh = v .fresh; full = v .full; integer = v .integer; used = v .used }
+
+abbrev pub Refuels : Engine → Type 0
+Refuels e = (s : e .State) (f : Fuel) → e .view (e .refuel s f) ≡ withFuel f (e .view s)
+
 -- every operation of 01, with operands that its types can hold, is a call
 abbrev pub Speaks : Engine → Type 0
 Speaks e = (o : Op) → written o ≡ true → (k : e .Call) × (e .op k ≡ some o)
@@ -147,11 +155,11 @@ pub record NotEmpty (e : Engine) : Type 0 where
   pub start : e .State
   pub first : e .Call
   pub accepted : Restarts e start first
-  pub before : List (e .Call)
+  pub before : List (Turn (e .Call))
   pub x : e .Call
-  pub waiting : List (e .Call)
+  pub waiting : List (Turn (e .Call))
   pub y : e .Call
-  pub going : List (e .Call)
+  pub going : List (Turn (e .Call))
   pub z : e .Call
   pub c : ℕ
   pub suspends : Suspends e c (run e (e .next start first) before) x
@@ -169,5 +177,6 @@ pub record Promise (e : Engine) : Type 0 where
   pub soundness : Soundness e
   pub set-ups : SetUps e
   pub looks : Looks e
+  pub refuels : Refuels e
   pub speaks : Speaks e
   pub not-empty : NotEmpty e

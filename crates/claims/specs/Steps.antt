@@ -8,7 +8,7 @@ use lib.ListN.{length}
 use Rattle.heap.specs.Table.{nextWord}
 use Rattle.model.specs.Program.{Setup, func}
 use Rattle.model.specs.Object.{Coroutine, Absent, Is, isDone}
-use Rattle.model.specs.World.{World}
+use Rattle.model.specs.World.{World, withFuel}
 use Rattle.model.specs.Heap.{object, coro, slotsFull, dynInt}
 use Rattle.model.specs.Answer.{numberOf}
 use Rattle.model.specs.Call.{Call, SetUp, Do, typed, asCall}
@@ -66,4 +66,4 @@ abbrev pub looks : World → List ℕ
 looks w = step w (asCall Op.Look look-typed) .seen
 
 abbrev pub steps : Engine
-steps = record { State = World; Call = Call; op = opOf; asks = asksOf; view = viewOf; next = λ w k. step w k .world; number = λ w k. numberOf (step w k .answer); look = looks }
+steps = record { State = World; Call = Call; op = opOf; asks = asksOf; view = viewOf; next = λ w k. step w k .world; refuel = λ w f. withFuel f w; number = λ w k. numberOf (step w k .answer); look = looks }

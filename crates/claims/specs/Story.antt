@@ -134,10 +134,17 @@ stopped = begin 0 ++ (Op.Yield 8 3 0 ∷ Op.StopRun ∷ Op.HostEntry c 5 ∷ ret
 abbrev pub yielding : List Op
 yielding = begin 1 ++ (Op.Yield 8 3 0 ∷ Op.HandOver c ∷ Op.CoroCurrent 9 1 ∷ throws nil ∷ Op.Yield 60 3 0 ∷ [])
 
+-- 13. c sleeps with 7 in its first register, and d with 8, at the same pc: what they hold differs in that word alone. c is resumed, then d.
+abbrev pub pair : List Op
+pair =
+    begin 0
+    ++ (Op.PutWord 0 7 ∷ Op.Yield 8 3 1 ∷ Op.CoroNew 9 3 0 0 ∷ Op.Resume 10 1 3 2 ∷ Op.PutWord 0 8 ∷ Op.Yield 8 3 1 ∷ Op.Resume 11 1 0 2 ∷ returns 5
+    ∷ Op.Resume 12 1 3 2 ∷ returns 6 ∷ [])
+
 -- ---- the list, and its splits
 
 abbrev pub parts : List (List Op)
-parts = deep ∷ nested ∷ loop ∷ host ∷ ignoring ∷ awaiting ∷ cleaning ∷ operand ∷ catching ∷ through ∷ twice ∷ stopped ∷ yielding ∷ []
+parts = deep ∷ nested ∷ loop ∷ host ∷ ignoring ∷ awaiting ∷ cleaning ∷ operand ∷ catching ∷ through ∷ twice ∷ stopped ∷ yielding ∷ pair ∷ []
 
 pub written : each (each typed) parts ≡ true
 unfolding typed

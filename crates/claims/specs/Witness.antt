@@ -2,7 +2,7 @@
 -- answer; and one split as literal lists.
 use Prim.Native.Nat.{ℕ, suc, _-_}
 use mathlib.Core.Path.{_≡_}
-use mathlib.Core.Bool.{Bool, true}
+use mathlib.Core.Bool.{Bool, true, false}
 use mathlib.Core.List.{List, [], _∷_, _++_, map}
 use lib.ListN.{take, drop, getD}
 use Rattle.model.specs.Program.{setupOk}
@@ -12,10 +12,13 @@ use Rattle.model.specs.Answer.{numberOf}
 use Rattle.model.specs.Call.{Call, SetUp}
 use Rattle.model.specs.Coro.{coroState}
 use Rattle.model.specs.Step.{run, answers}
+use Rattle.heap.specs.declared.value.Opt.{Opt}
 use Rattle.heap.specs.declared.object.CoroState.{CoroState}
 use Rattle.model.specs.declared.machine.Cont.{Cont}
 use Rattle.model.specs.declared.machine.Frame.{Frame}
+use Rattle.model.specs.declared.machine.Fuel.{Fuel}
 use Rattle.model.specs.declared.coro.Stated.{Stated}
+use Rattle.claims.specs.Engine.{Turn, calls, refuels}
 use Rattle.claims.specs.Premises.{premises}
 use Rattle.claims.specs.Steps.{steps}
 use Rattle.claims.specs.Story.{wide, f, c, d, story, part, past, held}
@@ -31,8 +34,15 @@ abbrev pub nth : List Call → ℕ → Call
 nth ks i = getD ks i (SetUp wide)
 
 -- the calls between two positions
-abbrev pub between : List Call → ℕ → ℕ → List Call
-between ks i j = take (j - suc i) (drop (suc i) ks)
+abbrev pub between : List Call → ℕ → ℕ → List (Turn Call)
+between ks i j = map calls (take (j - suc i) (drop (suc i) ks))
+
+-- another fuel record; and the calls of `held` between 13 and 23, and then that record
+abbrev pub other : Fuel
+other = record { fuel = 500; bank = Opt.None; ready = false }
+
+abbrev pub waiting : List (Turn Call)
+waiting = between held 13 23 ++ (refuels other ∷ [])
 
 -- the world before call i
 abbrev pub at : List Call → List Call → ℕ → World
@@ -66,8 +76,11 @@ pub record Witness : Type 0 where
   pub through-meets : meets 9 5 7 10 c ≡ true
   pub twice-meets : meets 10 13 22 25 c ≡ true
   pub held-meets : meetsIn (past 10) held 13 23 26 c ≡ true
+  pub refuelled-meets : premises steps c (at (past 10) held 13) (nth held 13) waiting (nth held 23) (between held 23 26) (nth held 26) ≡ true
   pub stopped-meets : meets 11 5 7 8 c ≡ true
   pub yielding-meets : meets 12 5 7 9 c ≡ true
+  pub pair-first : meets 13 6 11 12 c ≡ true
+  pub pair-second : meets 13 10 13 14 d ≡ true
   -- what the calls answer
   pub deep-numbers : numbers 0 ≡ 0 ∷ 0 ∷ 0 ∷ 0 ∷ 0 ∷ 0 ∷ 0 ∷ 0 ∷ 0 ∷ 0 ∷ 0 ∷ 0 ∷ 0 ∷ 4 ∷ 0 ∷ 0 ∷ 0 ∷ 0 ∷ 0 ∷ 0 ∷ 0 ∷ 0 ∷ 0 ∷ []
   pub nested-numbers : numbers 1 ≡ 0 ∷ 0 ∷ 0 ∷ 0 ∷ 0 ∷ 0 ∷ 0 ∷ 0 ∷ 0 ∷ 0 ∷ 0 ∷ 0 ∷ 0 ∷ 0 ∷ 0 ∷ 0 ∷ 0 ∷ 0 ∷ 0 ∷ []
@@ -82,6 +95,7 @@ pub record Witness : Type 0 where
   pub held-numbers : numbersOf (past 10) held ≡ 0 ∷ 12 ∷ 0 ∷ 0 ∷ 15 ∷ 0 ∷ 0 ∷ 0 ∷ 0 ∷ 0 ∷ 0 ∷ 0 ∷ 0 ∷ 0 ∷ 11 ∷ 0 ∷ 0 ∷ 13 ∷ 0 ∷ 0 ∷ 0 ∷ 0 ∷ 0 ∷ 0 ∷ 0 ∷ 0 ∷ 0 ∷ []
   pub stopped-numbers : numbers 11 ≡ 0 ∷ 0 ∷ 0 ∷ 0 ∷ 0 ∷ 0 ∷ 0 ∷ 0 ∷ 0 ∷ []
   pub yielding-numbers : numbers 12 ≡ 0 ∷ 0 ∷ 0 ∷ 0 ∷ 0 ∷ 0 ∷ 0 ∷ 17 ∷ 0 ∷ 0 ∷ []
+  pub pair-numbers : numbers 13 ≡ 0 ∷ 0 ∷ 0 ∷ 0 ∷ 0 ∷ 0 ∷ 0 ∷ 0 ∷ 0 ∷ 0 ∷ 0 ∷ 0 ∷ 0 ∷ 0 ∷ 0 ∷ []
   -- one split as lists, `held`: what the suspending call finds of c, from base 4 up ..
   pub found-stack : at (past 10) held 13 .stack ≡ c ∷ f ∷ 66 ∷ 0 ∷ 11 ∷ 0 ∷ 0 ∷ 0 ∷ 0 ∷ 22 ∷ 33 ∷ 0 ∷ []
   pub found-frames : at (past 10) held 13 .frames ≡ frame 1 0 8 0 (Cont.Dyn 2) ∷ frame 0 5 4 f Cont.Coro ∷ frame 0 2 0 0 Cont.Entry ∷ []

@@ -6,9 +6,9 @@ use mathlib.Core.Option.{Option, none, some}
 use lib.ListN.{length, set}
 use lib.Dec.{eqb, ltb}
 use Rattle.lists.specs.Pick.{pick}
-use Rattle.model.specs.Object.{withClosing, withResult}
+use Rattle.model.specs.Object.{Core, Coroutine, Absent, Is, withClosing, withResult}
 use Rattle.model.specs.World.{World, withStack, withFrames, withFuel}
-use Rattle.model.specs.Heap.{changeCoro}
+use Rattle.model.specs.Heap.{coro, changeCoro}
 use Rattle.model.specs.Coro.{inState}
 use Rattle.model.specs.Answer.{numberOf}
 use Rattle.model.specs.Call.{Call, SetUp, Do}
@@ -25,11 +25,37 @@ use Rattle.claims.specs.Demand3.{Demand3}
 use Rattle.claims.specs.Events.{isBody, failed, Events}
 use Rattle.claims.specs.Promise.{Accepts, SetUps, Looks, Speaks}
 use Rattle.claims.specs.Steps.{viewOf, opOf, asksOf, looks}
-use Rattle.claims.specs.Story.{c}
+use Rattle.claims.specs.Story.{c, d}
 
--- it leaves another world than `step` does
+-- the world that it leaves, and the number that it answers
+abbrev pub bentBy : (World → Call → World) → (World → Call → ℕ) → Engine
+bentBy f g = record { State = World; Call = Call; op = opOf; asks = asksOf; view = viewOf; next = f; refuel = λ w x. withFuel x w; number = g; look = looks }
+
+-- it leaves another world than `step` does; it answers otherwise
 abbrev pub leaving : (World → Call → World) → Engine
-leaving f = record { State = World; Call = Call; op = opOf; asks = asksOf; view = viewOf; next = f; number = λ w k. numberOf (step w k .answer); look = looks }
+leaving f = bentBy f (λ w k. numberOf (step w k .answer))
+
+abbrev pub answering : (ℕ → ℕ) → Engine
+answering f = bentBy (λ w k. step w k .world) (λ w k. f (numberOf (step w k .answer)))
+
+-- ---- machines that give one sleeper what another saved
+
+-- a core with what a coroutine has saved
+abbrev pub savedBy : Coroutine → Core → Core
+savedBy Absent k = k
+savedBy (Is j r) k = record { state = k .state; regs = j .regs; frames = j .frames; waiting = k .waiting }
+
+-- an entry of c, while c and d sleep, reads d's row: what d saved is put on the stack, and d sleeps on
+abbrev pub swapped : ℕ → ℕ → Engine
+swapped c d =
+    leaving (λ w k. let z = step w k .world in
+    pick (is (viewOf w) sleeps c && is (viewOf w) sleeps d && is (viewOf z) runs c) (step (changeCoro c (savedBy (coro w d)) (λ r. r) w) k .world) z)
+
+-- where d is suspended while c sleeps, what they saved is exchanged
+abbrev pub exchanged : ℕ → ℕ → Engine
+exchanged c d =
+    leaving (λ w k. let z = step w k .world in
+    pick (is (viewOf w) sleeps c && is (viewOf w) runs d && is (viewOf z) sleeps d) (changeCoro c (savedBy (coro z d)) (λ r. r) (changeCoro d (savedBy (coro z c)) (λ r. r) z)) z)
 
 -- ---- machines that wake otherwise, where a coroutine is woken inside a call that it made
 
@@ -150,35 +176,11 @@ lostIn [] z = false
 lostIn (a ∷ chain) z = is (viewOf z) failed (a .coro)
 
 abbrev pub excusing : Engine
-excusing =
-    record {
-      State = World;
-      Call = Call;
-      op = opOf;
-      asks = asksOf;
-      view = viewOf;
-      next = λ w k. let z = step w k .world in pick (lostIn (w .chain) z) w z;
-      number = λ w k. pick (lostIn (w .chain) (step w k .world)) 9 (numberOf (step w k .answer));
-      look = looks;
-    }
+excusing = bentBy (λ w k. let z = step w k .world in pick (lostIn (w .chain) z) w z) (λ w k. pick (lostIn (w .chain) (step w k .world)) 9 (numberOf (step w k .answer)))
 
 -- every entry answers 0: a word that is thrown into a sleeper is lost
 abbrev pub muting : Engine
-muting =
-    record {
-      State = World;
-      Call = Call;
-      op = opOf;
-      asks = asksOf;
-      view = viewOf;
-      next = λ w k. step w k .world;
-      number = λ w k. pick (ltb (length (w .chain)) (length (step w k .world .chain))) 0 (numberOf (step w k .answer));
-      look = looks;
-    }
-
--- it answers otherwise than `step` does
-abbrev pub answering : (ℕ → ℕ) → Engine
-answering f = record { State = World; Call = Call; op = opOf; asks = asksOf; view = viewOf; next = λ w k. step w k .world; number = λ w k. f (numberOf (step w k .answer)); look = looks }
+muting = bentBy (λ w k. step w k .world) (λ w k. pick (ltb (length (w .chain)) (length (step w k .world .chain))) 0 (numberOf (step w k .answer)))
 
 -- a yield while closing is answered 0; what is not accepted is answered 9
 abbrev pub hushing : Engine
@@ -203,41 +205,21 @@ cries (raises f pc) n = 17
 cries other n = n
 
 abbrev pub crying : Engine
-crying = record { State = World; Call = Call; op = opOf; asks = asksOf; view = viewOf; next = λ w k. step w k .world; number = λ w k. cries (doing (viewOf w) (opOf k)) (numberOf (step w k .answer)); look = looks }
+crying = bentBy (λ w k. step w k .world) (λ w k. cries (doing (viewOf w) (opOf k)) (numberOf (step w k .answer)))
 
 -- at fuel 0 a suspension is answered 10, and is not done, whatever the bank holds
 abbrev pub unpaid : World → World → Bool
 unpaid w z = eqb (w .fuel .fuel) 0 && ltb (length (z .chain)) (length (w .chain))
 
 abbrev pub stingy : Engine
-stingy =
-    record {
-      State = World;
-      Call = Call;
-      op = opOf;
-      asks = asksOf;
-      view = viewOf;
-      next = λ w k. let z = step w k .world in pick (unpaid w z) w z;
-      number = λ w k. pick (unpaid w (step w k .world)) 10 (numberOf (step w k .answer));
-      look = looks;
-    }
+stingy = bentBy (λ w k. let z = step w k .world in pick (unpaid w z) w z) (λ w k. pick (unpaid w (step w k .world)) 10 (numberOf (step w k .answer)))
 
 -- a close of c is answered 9, and is not done, while c has not begun
 abbrev pub spurned : ℕ → World → World → Bool
 spurned c w z = is (viewOf w) isNew c && is (viewOf z) ended c
 
 abbrev pub spurning : ℕ → Engine
-spurning c =
-    record {
-      State = World;
-      Call = Call;
-      op = opOf;
-      asks = asksOf;
-      view = viewOf;
-      next = λ w k. let z = step w k .world in pick (spurned c w z) w z;
-      number = λ w k. pick (spurned c w (step w k .world)) 9 (numberOf (step w k .answer));
-      look = looks;
-    }
+spurning c = bentBy (λ w k. let z = step w k .world in pick (spurned c w z) w z) (λ w k. pick (spurned c w (step w k .world)) 9 (numberOf (step w k .answer)))
 
 -- who returns while it is being closed has the result 5
 abbrev pub paying : List Active → World → World → World
@@ -277,7 +259,7 @@ heardAs none = none
 heardAs (some o) = some Op.Look
 
 abbrev pub deaf : Engine
-deaf = record { State = World; Call = Call; op = λ k. heardAs (opOf k); asks = asksOf; view = viewOf; next = λ w k. step w k .world; number = λ w k. numberOf (step w k .answer); look = looks }
+deaf = record { State = World; Call = Call; op = λ k. heardAs (opOf k); asks = asksOf; view = viewOf; next = λ w k. step w k .world; refuel = λ w f. withFuel f w; number = λ w k. numberOf (step w k .answer); look = looks }
 
 -- a set-up leaves the fuel
 abbrev pub refuelled : Option Op → Fuel → World → World
@@ -295,13 +277,15 @@ shallow (SetUp s) =
 shallow (Do o) = Do o
 
 abbrev pub shrinking : Engine
-shrinking = record { State = World; Call = Call; op = opOf; asks = asksOf; view = viewOf; next = λ w k. step w (shallow k) .world; number = λ w k. numberOf (step w (shallow k) .answer); look = looks }
+shrinking = bentBy (λ w k. step w (shallow k) .world) (λ w k. numberOf (step w (shallow k) .answer))
 
 -- a look hands back the whole stack
 abbrev pub showing : Engine
-showing = record { State = World; Call = Call; op = opOf; asks = asksOf; view = viewOf; next = λ w k. step w k .world; number = λ w k. numberOf (step w k .answer); look = λ w. w .stack }
+showing = record { State = World; Call = Call; op = opOf; asks = asksOf; view = viewOf; next = λ w k. step w k .world; refuel = λ w f. withFuel f w; number = λ w k. numberOf (step w k .answer); look = λ w. w .stack }
 
 pub record Wrong : Type 0 where
+  pub others-registers : Demand3 (swapped c d) → ⊥
+  pub rows-exchanged : Demand3 (exchanged c d) → ⊥
   pub other-function : Demand3 (bent (onTop ofZero)) → ⊥
   pub discarding : Demand3 (bent (onTop discards)) → ⊥
   pub top-dropped : Demand3 (bent tail) → ⊥

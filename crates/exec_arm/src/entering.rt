@@ -1,5 +1,5 @@
 // coro.rs: exec, the arms that enter a coroutine.
-ghost use Rattle.exec_arm.specs.Arm.{Past, OfInstruction, NoneOf, suspending};
+ghost use Rattle.exec_arm.specs.Arm.{Past, OfInstruction, Suspending};
 ghost use Rattle.memory.specs.Lendings.{sixSetup};
 ghost use Rattle.memory.specs.Contract.{Met, ifSound, with};
 use crate::staying::staying;
@@ -27,7 +27,7 @@ pub(crate) fn entering(
     op: Op,
 ) -> Stepped
     requires { ⌜ Past l (sixSetup stack frames chain slots «saved_stack» «saved_frames» setup now) m fuel op ⌝ }
-    ensures { λ r. ⌜ (NoneOf suspending op → OfInstruction op (λ pc operands arm. Met ifSound l arm (sixSetup stack frames chain slots «saved_stack» «saved_frames» setup) (with m fuel) (with (r .machine) (r .fuel)) (r .step))) ⌝ }
+    ensures { λ r. ⌜ ((Suspending op → ⊥) → OfInstruction op (λ pc operands arm. Met ifSound l arm (sixSetup stack frames chain slots «saved_stack» «saved_frames» setup) (with m fuel) (with (r .machine) (r .fuel)) (r .step))) ⌝ }
 {
     match op {
         Op::Resume { pc, dst, coro, src } => {

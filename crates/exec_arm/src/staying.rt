@@ -1,5 +1,5 @@
 // coro.rs: exec, the arms after which the same coroutine runs: those that make a coroutine, and those that ask of one.
-ghost use Rattle.exec_arm.specs.Arm.{Past, OfInstruction, NoneOf, suspending, entering};
+ghost use Rattle.exec_arm.specs.Arm.{Past, OfInstruction, Suspending, Entering};
 ghost use Rattle.memory.specs.Lendings.{sixSetup};
 ghost use Rattle.memory.specs.Contract.{Met, ifSound, with};
 use exec_ask::ask::coro_current;
@@ -30,7 +30,7 @@ pub(crate) fn staying(
     op: Op,
 ) -> Stepped
     requires { ⌜ Past l (sixSetup stack frames chain slots «saved_stack» «saved_frames» setup now) m fuel op ⌝ }
-    ensures { λ r. ⌜ (NoneOf suspending op → NoneOf entering op → OfInstruction op (λ pc operands arm. Met ifSound l arm (sixSetup stack frames chain slots «saved_stack» «saved_frames» setup) (with m fuel) (with (r .machine) (r .fuel)) (r .step))) ⌝ }
+    ensures { λ r. ⌜ ((Suspending op → ⊥) → (Entering op → ⊥) → OfInstruction op (λ pc operands arm. Met ifSound l arm (sixSetup stack frames chain slots «saved_stack» «saved_frames» setup) (with m fuel) (with (r .machine) (r .fuel)) (r .step))) ⌝ }
 {
     match op {
         Op::CoroNew {

@@ -7,3 +7,4 @@ pub mod Lookups
 pub mod Place
 pub mod Charges
 pub mod Valid
+pub mod Within

@@ -42,14 +42,6 @@ pub fn state_at(slots: &[u64], i: usize) -> CoroState
     CoroState::of_code(word_at(slots, i, 2))
 }
 
-// Whether it is closing.
-pub fn closing_at(slots: &[u64], i: usize) -> bool
-    requires { ⌜ SlotFits (now slots) i ⌝ }
-    ensures { λ r. ⌜ r ≡ coroIn (now (slots .entry)) i .closing ⌝ }
-{
-    flag_at(slots, i, 3)
-}
-
 // Whether it was handed over for a cleanup.
 pub fn finalized_at(slots: &[u64], i: usize) -> bool
     requires { ⌜ SlotFits (now slots) i ⌝ }
@@ -74,28 +66,12 @@ pub fn key_at(slots: &[u64], i: usize) -> u64
     word_at(slots, i, 14)
 }
 
-// Its largest integer key so far.
-pub fn largest_at(slots: &[u64], i: usize) -> u64
-    requires { ⌜ SlotFits (now slots) i ⌝ }
-    ensures { λ r. ⌜ r ≡ coroIn (now (slots .entry)) i .largest ⌝ }
-{
-    word_at(slots, i, 15)
-}
-
 // Its result.
 pub fn result_at(slots: &[u64], i: usize) -> u64
     requires { ⌜ SlotFits (now slots) i ⌝ }
     ensures { λ r. ⌜ r ≡ coroIn (now (slots .entry)) i .result ⌝ }
 {
     word_at(slots, i, 16)
-}
-
-// Its signal of a close.
-pub fn signal_at(slots: &[u64], i: usize) -> u64
-    requires { ⌜ SlotFits (now slots) i ⌝ }
-    ensures { λ r. ⌜ r ≡ coroIn (now (slots .entry)) i .signal ⌝ }
-{
-    word_at(slots, i, 17)
 }
 
 // The coroutine at place i closes, with a signal: two words.

@@ -1,12 +1,13 @@
-// Whether lent words are a table of slots: each word within the range of its place.
+// Whether the words of a slot are within the ranges of their places.
 ghost use mathlib.Core.Path.{_≡_};
-ghost use lib.ListN.{length};
+ghost use mathlib.Core.List.{[]};
+ghost use lib.ListN.{length, getD};
 ghost use mathlib.Core.Bool.{_&&_};
 ghost use lib.Dec.{leb};
 ghost use Rattle.lists.specs.Chunks.{chunkAt};
-ghost use Rattle.heap.specs.Slot.{zero, fieldsOf};
-ghost use Rattle.heap.specs.Heap.{TableFits, SlotFits};
-ghost use Rattle.heap.specs.Ranges.{rangesOf, within, slotOk, tableOk};
+ghost use Rattle.heap.specs.Slot.{fieldsOf};
+ghost use Rattle.heap.specs.Heap.{SlotFits};
+ghost use Rattle.heap.specs.Ranges.{rangesOf, kinds, within, slotOk};
 use crate::slot::WIDTH;
 
 // The largest value of a word, and of one of 32 and of 16 bits.
@@ -15,30 +16,6 @@ const WORD: u64 = 0xFFFF_FFFF_FFFF_FFFF;
 const BITS32: u64 = 0xFFFF_FFFF;
 
 const BITS16: u64 = 0xFFFF;
-
-// The largest values of a coroutine's words.
-const CORO: [u64; 20] = [
-    BITS16,
-    6,
-    5,
-    1,
-    1,
-    1,
-    WORD,
-    WORD,
-    WORD,
-    WORD,
-    WORD,
-    WORD,
-    BITS16,
-    WORD,
-    WORD,
-    WORD,
-    WORD,
-    WORD,
-    0,
-    0,
-];
 
 // Those of the tag and the fields of kinds 0, 2, 3 and 4: empty, an integer, an iterator without a key and with one.
 const TAG: [u64; 5] = [0, BITS16, BITS16, BITS16, BITS16];
@@ -49,17 +26,24 @@ const SECOND: [u64; 5] = [0, 0, 0, 1, 1];
 
 const THIRD: [u64; 5] = [0, 0, 0, 0, WORD];
 
-// Each word is at most `most`.
-fn at_most(s: &[u64], most: [u64; 20]) -> bool
-    requires { ⌜ length (now s) ≡ 20 ⌝ }
-    ensures { λ r. ⌜ r ≡ within (rangesOf (zero 20) most) (now (s .entry)) ⌝ }
+// The words of a coroutine: its state, then what the others hold above their bits, in one test.
+fn coro_ok(s: &[u64]) -> bool
+    requires { ⌜ (length (now s) ≡ 20) × (getD (now s) 1 0 ≡ 6) ⌝ }
+    ensures { λ r. ⌜ r ≡ within (getD kinds 6 []) (now (s .entry)) ⌝ }
 {
-    for k in 0..20 {
-        if most[k] < s[k] {
-            return false;
-        }
+    if 5 < s[2] {
+        return false;
     }
-    true
+    let above = [
+        s[0] / 0x1_0000,
+        s[3] / 2,
+        s[4] / 2,
+        s[5] / 2,
+        s[12] / 0x1_0000,
+        s[18],
+        s[19],
+    ];
+    lists::all_zero(&above)
 }
 
 fn between(w: u64, least: u64, most: u64) -> bool
@@ -104,7 +88,7 @@ fn slot_ok(s: &[u64]) -> bool
 {
     let kind = s[1];
     if kind == 6 {
-        return at_most(s, CORO);
+        return coro_ok(s);
     }
     if kind == 5 {
         return fields_ok(s, 1, BITS16, 5, 8, BITS32, BITS32, WORD);
@@ -119,25 +103,12 @@ fn slot_ok(s: &[u64]) -> bool
     fields_ok(s, 0, TAG[k], kind, FIRST[k], SECOND[k], THIRD[k], 0)
 }
 
-fn slot_ok_at(slots: &[u64], i: usize) -> bool
+// The words of slot i lie in the ranges of its kind.
+pub fn slot_ok_at(slots: &[u64], i: usize) -> bool
     requires { ⌜ SlotFits (now slots) i ⌝ }
     ensures { λ r. ⌜ r ≡ slotOk (chunkAt 20 (now (slots .entry)) i) ⌝ }
 {
     let b = i * WIDTH;
     let e = b + WIDTH;
     slot_ok(&slots[b..e])
-}
-
-// The words are those of `count` slots, with zeros after them.
-pub fn table_ok(slots: &[u64], count: usize) -> bool
-    requires { ⌜ TableFits (now slots) count ⌝ }
-    ensures { λ r. ⌜ r ≡ tableOk count (now (slots .entry)) ⌝ }
-{
-    for i in 0..count {
-        if !slot_ok_at(slots, i) {
-            return false;
-        }
-    }
-    let end = count * WIDTH;
-    lists::all_zero(&slots[end..])
 }

@@ -166,7 +166,7 @@ pub fn object_at(slots: &[u64], i: usize) -> Object
 }
 
 // Whether a coroutine stands at place i.
-pub(crate) fn is_coro(slots: &[u64], i: usize) -> bool
+pub fn is_coro(slots: &[u64], i: usize) -> bool
     requires { ⌜ SlotFits (now slots) i ⌝ }
     ensures { λ r. ⌜ r ≡ eqb (getD (chunkAt 20 (now (slots .entry)) i) 1 0) 6 ⌝ }
 {

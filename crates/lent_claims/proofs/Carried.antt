@@ -10,13 +10,13 @@ use lib.Dec.{eqb}
 use Rattle.lists.specs.Pick.{pick}
 use Rattle.heap.specs.declared.value.Opt.{Opt}
 use Rattle.heap.specs.declared.object.CoroState.{CoroState}
-use Rattle.claims.specs.Engine.{Seen, View, Engine, run, isNew, runs, awaits, ended, seenIn, is}
+use Rattle.claims.specs.Engine.{Seen, View, Engine, Turn, run, isNew, runs, awaits, ended, seenIn, is}
 use Rattle.claims.specs.Says.{word, doing, lie, Entry, charged, whom}
 use Rattle.claims.specs.Held.{Held, closer, By, Entered, Restored}
 use Rattle.claims.specs.Delivery.{recorded, Left, resultOf}
 use Rattle.claims.specs.Demand3.{Enters, Suspends, Stops, Restarts, Waits, Goes, Demand3}
 use Rattle.claims.specs.Events.{Healthy, raised, endsAt, answers, suspended, isAwait, toldTo, returned, Lost, endedAs, lives, undone, rests, Events}
-use Rattle.claims.specs.Promise.{suspends, room, Roomy, Pays, Makes, Accepts, Eleven, Soundness, Fresh, SetUps, registers, Looks, NotEmpty}
+use Rattle.claims.specs.Promise.{suspends, room, Roomy, Pays, Makes, Accepts, Eleven, Soundness, Fresh, SetUps, registers, Looks, withFuel, Refuels, NotEmpty}
 use Rattle.claims.proofs.Premises.{Premises}
 use Rattle.lent_claims.proofs.Follows.{Follows, Sight, sight, same, along, ran}
 use Rattle.lent_claims.proofs.Follows.{up-enters, down-enters, up-suspends, down-suspends, up-returns, down-returns, up-fails, down-fails, up-leaves, down-leaves, up-restarts, down-restarts, up-healthy, down-healthy, up-waits, down-waits, up-goes, down-goes}
@@ -31,7 +31,7 @@ module _ (e d : Engine) (f : Follows e d) where
 
   -- ---- demand 3
 
-  restored : Demand3 d → (c : ℕ) (s : e .State) (x : e .Call) (waiting : List (e .Call)) (y : e .Call) → Suspends e c s x → Waits e c (e .next s x) waiting
+  restored : Demand3 d → (c : ℕ) (s : e .State) (x : e .Call) (waiting : List (Turn (e .Call))) (y : e .Call) → Suspends e c s x → Waits e c (e .next s x) waiting
       → let t = run e (e .next s x) waiting in Enters e c t y → Restored (e .view s) (e .op x) (e .view t) (e .op y) c (e .view (e .next t y))
   restored p c s x waiting y h w g =
       let s₁ = e .next s x in
@@ -45,7 +45,7 @@ module _ (e d : Engine) (f : Follows e d) where
       down (λ v. Restored (e .view s) (e .op x) (v .before) (v .op) c (v .after)) t y
       (down (λ v. Restored (v .before) (v .op) (d .view (f .to t)) (d .op y′) c (d .view (d .next (f .to t) y′))) s x (there (up-enters e d f t y c g)))
 
-  untouched : Demand3 d → (c : ℕ) (s : e .State) (y : e .Call) (going : List (e .Call)) (z : e .Call) → Enters e c s y → Goes e c (e .next s y) going
+  untouched : Demand3 d → (c : ℕ) (s : e .State) (y : e .Call) (going : List (Turn (e .Call))) (z : e .Call) → Enters e c s y → Goes e c (e .next s y) going
       → let t = run e (e .next s y) going in Stops e c t z → Left (e .view s) (e .op y) c (e .view t) (e .op z) (e .view (e .next t z))
   untouched p c s y going z h w g =
       let s₁ = e .next s y in
@@ -218,10 +218,13 @@ module _ (e d : Engine) (f : Follows e d) where
         unmoved = λ s k o. down (λ v. v .after ≡ v .before) s k (p .unmoved (f .to s) (f .by s k) (f .op s k ∙ o));
       }
 
+  pub refuels : Refuels d → Refuels e
+  refuels p s x = sym (f .view (e .refuel s x)) ∙ ap (d .view) (sym (f .refuel s x)) ∙ p (f .to s) x ∙ ap (withFuel x) (f .view s)
+
   -- ---- not empty
 
   -- calls of e that follow such a split of d's
-  module _ (start : e .State) (first : e .Call) (before : List (e .Call)) (x : e .Call) (waiting : List (e .Call)) (y : e .Call) (going : List (e .Call)) (z : e .Call) (c : ℕ) where
+  module _ (start : e .State) (first : e .Call) (before : List (Turn (e .Call))) (x : e .Call) (waiting : List (Turn (e .Call))) (y : e .Call) (going : List (Turn (e .Call))) (z : e .Call) (c : ℕ) where
     abbrev s₁ : e .State
     s₁ = run e (e .next start first) before
 
@@ -237,10 +240,10 @@ module _ (e d : Engine) (f : Follows e d) where
     abbrev s₅ : e .State
     s₅ = run e s₄ going
 
-    abbrev ws : List (d .Call)
+    abbrev ws : List (Turn (d .Call))
     ws = along e d f s₂ waiting
 
-    abbrev gs : List (d .Call)
+    abbrev gs : List (Turn (d .Call))
     gs = along e d f s₄ going
 
     pub not-empty : Restarts e start first → Roomy d (d .view (f .to s₁) .rules .intCost) c (f .to s₁) → Makes (d .view (f .to s₁)) → Premises d c (f .to s₁) (f .by s₁ x) ws (f .by s₃ y) gs (f .by s₅ z) → NotEmpty e

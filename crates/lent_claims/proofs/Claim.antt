@@ -7,8 +7,8 @@ use mathlib.Core.Bool.{Bool, true, false}
 use mathlib.Core.List.{List, [], _∷_}
 use Rattle.model.specs.Call.{typed, Operation}
 use Rattle.model.specs.declared.call.Op.{Op}
-use Rattle.soundness.proofs.Tests.{no-true}
-use Rattle.claims.specs.Engine.{run}
+use Rattle.soundness.proofs.Tests.{and-left, and-right, no-true}
+use Rattle.claims.specs.Engine.{Turn, calls, refuels, run}
 use Rattle.claims.specs.Events.{Healthy}
 use Rattle.claims.specs.Promise.{Promise}
 use Rattle.claims.specs.Steps.{steps}
@@ -18,8 +18,10 @@ use Rattle.lent.specs.Step.{State, Left, isSound, decoded, setUpOk, setUpWords,
 use Rattle.lent.specs.Sentences.{number, NoSuchFault}
 use Rattle.lent.proofs.Kept.{words-kept, refused-set-up}
 use Rattle.lent.proofs.Sentences.{sentences}
+use Rattle.lent_claims.specs.Fuel.{fuelSound}
 use Rattle.lent_claims.specs.Engine.{outer}
-use Rattle.lent_claims.specs.Claim.{OwnFault, bad-set-up, no-fault, Claim}
+use Rattle.lent_claims.specs.Claim.{OwnFault, bad-set-up, no-fault, fuelsSound, Claim}
+use Rattle.lent_claims.proofs.Fuel.{any-fuel}
 use Rattle.lent_claims.proofs.Follows.{down-healthy}
 use Rattle.lent_claims.proofs.Carried as Carried
 use Rattle.lent_claims.proofs.Outer.{sound-to, follows}
@@ -37,6 +39,7 @@ promise =
       soundness = Carried.soundness outer steps follows (p .soundness);
       set-ups = Carried.set-ups outer steps follows (p .set-ups);
       looks = Carried.looks outer steps follows (p .looks);
+      refuels = Carried.refuels outer steps follows (p .refuels);
       speaks = λ o h. (Do (record { op = o; within = as-typed o ∙ h }), refl);
       not-empty = not-empty;
     }
@@ -60,7 +63,7 @@ healthy-sound s h = go (isSound s) refl
         let z : _≡_ {A = ℕ} 11 0 = sym (sentences .unsound s a-look e) ∙ h (Do a-look) refl in
         absurd (omega (arith, z))
 
--- ---- lists of calls
+-- ---- lists of turns
 
 keeps : (s : State) (k : Call) → isSound s ≡ true → isSound (step s k .state) ≡ true
 keeps s (Do o) e = words-kept .kept s o e
@@ -70,9 +73,10 @@ keeps s (SetUp given) e = go (setUpOk given (s .words)) refl
     go true q = words-kept .begun s given q
     go false q = ap (λ (x : Left). isSound (x .state)) (refused-set-up s given q) ∙ e
 
-runs-on : (s : State) (ks : List Call) → isSound s ≡ true → isSound (run outer s ks) ≡ true
-runs-on s [] e = e
-runs-on s (k ∷ ks) e = runs-on (step s k .state) ks (keeps s k e)
+runs-on : (s : State) (ts : List (Turn Call)) → fuelsSound ts ≡ true → isSound s ≡ true → isSound (run outer s ts) ≡ true
+runs-on s [] q e = e
+runs-on s (calls k ∷ ts) q e = runs-on (step s k .state) ts q (keeps s k e)
+runs-on s (refuels f ∷ ts) q e = runs-on (outer .refuel s f) ts (and-right (fuelSound f) (fuelsSound ts) q) (any-fuel .any s f e (and-left (fuelSound f) (fuelsSound ts) q))
 
 own-fault : (t : State) (k : Call) → isSound t ≡ true → number t k ≡ 11 → OwnFault (t .words) k
 own-fault t (SetUp given) e n = go (setUpOk given (t .words)) refl
@@ -98,6 +102,6 @@ claim =
       entered = λ c s y h. stacked c s y h (d .entered c s y h);
       woken = λ c s x waiting y h w g. woken c s x (run outer (step s x .state) waiting) y g (d .restored c s x waiting y h w g);
       back = λ c s y going z h w g. back c s y (run outer (step s y .state) going) z h g (d .untouched c s y going z h w g);
-      lasts = λ s given ks e. runs-on (step s (SetUp given) .state) ks (words-kept .begun s given e);
-      eleven = λ s given ks k e n. own-fault (run outer (step s (SetUp given) .state) ks) k (runs-on (step s (SetUp given) .state) ks (words-kept .begun s given e)) n;
+      lasts = λ s given ts e q. runs-on (step s (SetUp given) .state) ts q (words-kept .begun s given e);
+      eleven = λ s given ts k e q n. own-fault (run outer (step s (SetUp given) .state) ts) k (runs-on (step s (SetUp given) .state) ts q (words-kept .begun s given e)) n;
     }

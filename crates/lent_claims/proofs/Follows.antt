@@ -6,8 +6,9 @@ use mathlib.Core.Bool.{Bool, _||_}
 use mathlib.Core.List.{List, [], _∷_}
 use mathlib.Core.Option.{Option, some}
 use Rattle.heap.specs.declared.object.CoroState.{CoroState}
+use Rattle.model.specs.declared.machine.Fuel.{Fuel}
 use Rattle.model.specs.declared.call.Op.{Op}
-use Rattle.claims.specs.Engine.{View, Engine, run, runs, sleeps, ended, is}
+use Rattle.claims.specs.Engine.{View, Engine, Turn, calls, refuels, run, runs, sleeps, ended, is}
 use Rattle.claims.specs.Demand3.{Enters, Suspends, Stops, Restarts, Waits, Goes}
 use Rattle.claims.specs.Events.{Healthy, Returns, failed, Fails}
 
@@ -19,6 +20,7 @@ pub record Follows (e d : Engine) : Type 0 where
   pub op : (s : e .State) (k : e .Call) → d .op (by s k) ≡ e .op k
   pub asks : (s : e .State) (k : e .Call) → Restarts e s k → d .asks (by s k) ≡ e .asks k
   pub next : (s : e .State) (k : e .Call) → d .next (to s) (by s k) ≡ to (e .next s k)
+  pub refuel : (s : e .State) (x : Fuel) → d .refuel (to s) x ≡ to (e .refuel s x)
   pub number : (s : e .State) (k : e .Call) → d .number (to s) (by s k) ≡ e .number s k
   pub look : (s : e .State) → d .look (to s) ≡ e .look s
   -- every operation of d is followed by some call
@@ -115,32 +117,38 @@ module _ (e d : Engine) (f : Follows e d) where
   pub down-healthy : (s : e .State) → Healthy d (f .to s) → Healthy e s
   down-healthy s h k q = sym (f .number s k) ∙ h (f .by s k) (f .op s k ∙ q)
 
-  -- ---- lists of calls
+  -- ---- lists of turns
 
-  abbrev pub along : e .State → List (e .Call) → List (d .Call)
+  abbrev pub along : e .State → List (Turn (e .Call)) → List (Turn (d .Call))
   along s [] = []
-  along s (k ∷ ks) = f .by s k ∷ along (e .next s k) ks
+  along s (calls k ∷ ts) = calls (f .by s k) ∷ along (e .next s k) ts
+  along s (refuels x ∷ ts) = refuels x ∷ along (e .refuel s x) ts
 
-  pub ran : (s : e .State) (ks : List (e .Call)) → run d (f .to s) (along s ks) ≡ f .to (run e s ks)
+  pub ran : (s : e .State) (ts : List (Turn (e .Call))) → run d (f .to s) (along s ts) ≡ f .to (run e s ts)
   ran s [] = refl
-  ran s (k ∷ ks) = ap (λ x. run d x (along (e .next s k) ks)) (f .next s k) ∙ ran (e .next s k) ks
+  ran s (calls k ∷ ts) = ap (λ x. run d x (along (e .next s k) ts)) (f .next s k) ∙ ran (e .next s k) ts
+  ran s (refuels x ∷ ts) = ap (λ y. run d y (along (e .refuel s x) ts)) (f .refuel s x) ∙ ran (e .refuel s x) ts
 
-  pub up-waits : (c : ℕ) (s : e .State) (ks : List (e .Call)) → Waits e c s ks → Waits d c (f .to s) (along s ks)
+  pub up-waits : (c : ℕ) (s : e .State) (ts : List (Turn (e .Call))) → Waits e c s ts → Waits d c (f .to s) (along s ts)
   up-waits c s [] h = tt
-  up-waits c s (k ∷ ks) (a, b, h) =
-      (λ x. a (down-restarts s k x), λ x. b (down-enters s k c x), subst (λ x. Waits d c x (along (e .next s k) ks)) (sym (f .next s k)) (up-waits c (e .next s k) ks h))
+  up-waits c s (calls k ∷ ts) (a, b, h) =
+      (λ x. a (down-restarts s k x), λ x. b (down-enters s k c x), subst (λ x. Waits d c x (along (e .next s k) ts)) (sym (f .next s k)) (up-waits c (e .next s k) ts h))
+  up-waits c s (refuels x ∷ ts) h = subst (λ y. Waits d c y (along (e .refuel s x) ts)) (sym (f .refuel s x)) (up-waits c (e .refuel s x) ts h)
 
-  pub down-waits : (c : ℕ) (s : e .State) (ks : List (e .Call)) → Waits d c (f .to s) (along s ks) → Waits e c s ks
+  pub down-waits : (c : ℕ) (s : e .State) (ts : List (Turn (e .Call))) → Waits d c (f .to s) (along s ts) → Waits e c s ts
   down-waits c s [] h = tt
-  down-waits c s (k ∷ ks) (a, b, h) =
-      (λ x. a (up-restarts s k x), λ x. b (up-enters s k c x), down-waits c (e .next s k) ks (subst (λ x. Waits d c x (along (e .next s k) ks)) (f .next s k) h))
+  down-waits c s (calls k ∷ ts) (a, b, h) =
+      (λ x. a (up-restarts s k x), λ x. b (up-enters s k c x), down-waits c (e .next s k) ts (subst (λ x. Waits d c x (along (e .next s k) ts)) (f .next s k) h))
+  down-waits c s (refuels x ∷ ts) h = down-waits c (e .refuel s x) ts (subst (λ y. Waits d c y (along (e .refuel s x) ts)) (f .refuel s x) h)
 
-  pub up-goes : (c : ℕ) (s : e .State) (ks : List (e .Call)) → Goes e c s ks → Goes d c (f .to s) (along s ks)
+  pub up-goes : (c : ℕ) (s : e .State) (ts : List (Turn (e .Call))) → Goes e c s ts → Goes d c (f .to s) (along s ts)
   up-goes c s [] h = tt
-  up-goes c s (k ∷ ks) (a, b, h) =
-      (λ x. a (down-restarts s k x), λ x. b (down-leaves s k c x), subst (λ x. Goes d c x (along (e .next s k) ks)) (sym (f .next s k)) (up-goes c (e .next s k) ks h))
+  up-goes c s (calls k ∷ ts) (a, b, h) =
+      (λ x. a (down-restarts s k x), λ x. b (down-leaves s k c x), subst (λ x. Goes d c x (along (e .next s k) ts)) (sym (f .next s k)) (up-goes c (e .next s k) ts h))
+  up-goes c s (refuels x ∷ ts) h = subst (λ y. Goes d c y (along (e .refuel s x) ts)) (sym (f .refuel s x)) (up-goes c (e .refuel s x) ts h)
 
-  pub down-goes : (c : ℕ) (s : e .State) (ks : List (e .Call)) → Goes d c (f .to s) (along s ks) → Goes e c s ks
+  pub down-goes : (c : ℕ) (s : e .State) (ts : List (Turn (e .Call))) → Goes d c (f .to s) (along s ts) → Goes e c s ts
   down-goes c s [] h = tt
-  down-goes c s (k ∷ ks) (a, b, h) =
-      (λ x. a (up-restarts s k x), λ x. b (up-leaves s k c x), down-goes c (e .next s k) ks (subst (λ x. Goes d c x (along (e .next s k) ks)) (f .next s k) h))
+  down-goes c s (calls k ∷ ts) (a, b, h) =
+      (λ x. a (up-restarts s k x), λ x. b (up-leaves s k c x), down-goes c (e .next s k) ts (subst (λ x. Goes d c x (along (e .next s k) ts)) (f .next s k) h))
+  down-goes c s (refuels x ∷ ts) h = down-goes c (e .refuel s x) ts (subst (λ y. Goes d c y (along (e .refuel s x) ts)) (f .refuel s x) h)

@@ -13,12 +13,12 @@ use Rattle.tables.specs.Sizes.{setupWords, stackSize, framesSize, chainSize, sa
 use Rattle.memory.specs.Memory.{Lent}
 use Rattle.memory.specs.Words.{numbersOf}
 use Rattle.memory.specs.Decode.{setupOf}
-use Rattle.claims.specs.Engine.{run}
+use Rattle.claims.specs.Engine.{Turn, calls, refuels, run}
 use Rattle.claims.specs.Promise.{Roomy, Makes, NotEmpty}
 use Rattle.claims.specs.Premises.{premises}
 use Rattle.claims.specs.Steps.{steps}
 use Rattle.claims.specs.Story.{wide, c, held}
-use Rattle.claims.specs.Witness.{nth, between}
+use Rattle.claims.specs.Witness.{nth, between, waiting}
 use Rattle.claims.proofs.Premises.{Premises, premises-met}
 use Rattle.claims.proofs.Promise.{before, roomy-met, makes-met}
 use Rattle.lent.specs.Step.{State, setUpOk, setUpWords, Call, SetUp, Do}
@@ -33,6 +33,10 @@ use Rattle.lent_claims.proofs.Outer.{to, sound-to, follows}
 abbrev own : Model.Call → Call
 own (Model.SetUp s) = SetUp (setupWords s)
 own (Model.Do o) = Do o
+
+abbrev turn : Turn Model.Call → Turn Call
+turn (calls k) = calls (own k)
+turn (refuels f) = refuels f
 
 abbrev sevens : ℕ → List ℕ
 sevens n = replicate n 7
@@ -69,7 +73,7 @@ read = refl
 begins : to (outer .next start first) ≡ fresh wide
 begins = sound-to (setUpWords start (setupWords wide) .state) (words-kept .begun start (setupWords wide) taken) ∙ words-kept .anew start (setupWords wide) taken ∙ ap fresh read
 
-split-met : premises steps c (run steps (fresh wide) before) (nth held 13) (between held 13 23) (nth held 23) (between held 23 26) (nth held 26) ≡ true
+split-met : premises steps c (run steps (fresh wide) before) (nth held 13) waiting (nth held 23) (between held 23 26) (nth held 26) ≡ true
 unfolding computed before
 split-met = refl
 
@@ -79,35 +83,35 @@ has-room = (roomy-met, makes-met)
 
 -- on words they follow these, whatever the state
 module _ (s : State) where
-  follow-before : along outer steps follows s (map own before) ≡ before
+  follow-before : along outer steps follows s (map turn before) ≡ before
   unfolding computed before
   follow-before = refl
 
-  follow-waiting : along outer steps follows s (map own (between held 13 23)) ≡ between held 13 23
+  follow-waiting : along outer steps follows s (map turn waiting) ≡ waiting
   unfolding computed
   follow-waiting = refl
 
-  follow-going : along outer steps follows s (map own (between held 23 26)) ≡ between held 23 26
+  follow-going : along outer steps follows s (map turn (between held 23 26)) ≡ between held 23 26
   unfolding computed
   follow-going = refl
 
 abbrev s₁ : State
-s₁ = run outer (outer .next start first) (map own before)
+s₁ = run outer (outer .next start first) (map turn before)
 
 reached : run steps (fresh wide) before ≡ to s₁
 reached =
     let s = outer .next start first in
-    ap (λ w. run steps w before) (sym begins) ∙ ap (run steps (to s)) (sym (follow-before s)) ∙ ran outer steps follows s (map own before)
+    ap (λ w. run steps w before) (sym begins) ∙ ap (run steps (to s)) (sym (follow-before s)) ∙ ran outer steps follows s (map turn before)
 
 pub not-empty : NotEmpty outer
 unfolding computed
 not-empty =
-    let waiting = map own (between held 13 23) in
-    let going = map own (between held 23 26) in
+    let waits = map turn waiting in
+    let going = map turn (between held 23 26) in
     let s₂ = outer .next s₁ (own (nth held 13)) in
-    let s₄ = outer .next (run outer s₂ waiting) (own (nth held 23)) in
-    let p = subst (λ w. Premises steps c w (nth held 13) (between held 13 23) (nth held 23) (between held 23 26) (nth held 26)) reached (premises-met steps c (run steps (fresh wide) before) (nth held 13) (between held 13 23) (nth held 23) (between held 23 26) (nth held 26) split-met) in
+    let s₄ = outer .next (run outer s₂ waits) (own (nth held 23)) in
+    let p = subst (λ w. Premises steps c w (nth held 13) waiting (nth held 23) (between held 23 26) (nth held 26)) reached (premises-met steps c (run steps (fresh wide) before) (nth held 13) waiting (nth held 23) (between held 23 26) (nth held 26) split-met) in
     let q = subst (λ ws. Premises steps c (to s₁) (nth held 13) ws (nth held 23) (between held 23 26) (nth held 26)) (sym (follow-waiting s₂)) p in
-    let r = subst (λ gs. Premises steps c (to s₁) (nth held 13) (along outer steps follows s₂ waiting) (nth held 23) gs (nth held 26)) (sym (follow-going s₄)) q in
-    Carried.not-empty outer steps follows start first (map own before) (own (nth held 13)) waiting (own (nth held 23)) going (own (nth held 26)) c
+    let r = subst (λ gs. Premises steps c (to s₁) (nth held 13) (along outer steps follows s₂ waits) (nth held 23) gs (nth held 26)) (sym (follow-going s₄)) q in
+    Carried.not-empty outer steps follows start first (map turn before) (own (nth held 13)) waits (own (nth held 23)) going (own (nth held 26)) c
     (record { sets-up = refl; accepted = Sentences.sentences .set-up start (setupWords wide) taken }) (subst (λ w. Roomy steps (steps .view w .rules .intCost) c w) reached (has-room .0)) (subst (λ w. Makes (steps .view w)) reached (has-room .1)) r

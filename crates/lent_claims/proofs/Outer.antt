@@ -3,13 +3,13 @@
 use Prim.Native.Nat.{ℕ, _^_}
 use native.Mathlib.Omega.{arith}
 use mathlib.Core.Path.{_≡_, refl, sym, ap, _∙_}
-use mathlib.Core.Bool.{Bool, true, false}
+use mathlib.Core.Bool.{Bool, true, false, _&&_}
 use mathlib.Core.List.{List, []}
 use mathlib.Core.Option.{none, some}
 use Rattle.lists.specs.Pick.{pick, pick-true, pick-false}
 use Rattle.heap.specs.declared.fault.Fault.{Fault}
 use Rattle.model.specs.Program.{Setup, setupOk}
-use Rattle.model.specs.World.{World, withOutcome, fresh}
+use Rattle.model.specs.World.{World, withFuel, withOutcome, fresh}
 use Rattle.model.specs.Sound.{sound}
 use Rattle.model.specs.Gate.{refused}
 use Rattle.model.specs.Added.{accepted, registers}
@@ -18,12 +18,14 @@ use Rattle.model.specs.Call.{Operation}
 use Rattle.model.specs.Call as Model
 use Rattle.model.specs.Step.{Out, told, call, tested, step}
 use Rattle.model.specs.Compute.{computed}
+use Rattle.model.specs.declared.machine.Fuel.{Fuel}
 use Rattle.model.specs.declared.machine.Stop.{Stop}
 use Rattle.model.specs.declared.machine.Outcome.{Outcome}
 use Rattle.model.specs.declared.call.Op.{Op}
-use Rattle.soundness.proofs.Tests.{no-false, picked}
+use Rattle.soundness.proofs.Tests.{no-false, and-left, picked}
 use Rattle.soundness.proofs.Sound.{sound→}
 use Rattle.memory.specs.Decode.{setupOf}
+use Rattle.sound.specs.Words.{setupHeld, wordsOk, soundWords}
 use Rattle.claims.specs.Demand3.{Restarts}
 use Rattle.claims.specs.Steps as Steps
 use Rattle.claims.specs.Steps.{viewOf, steps}
@@ -46,17 +48,35 @@ spoiled-unsound w = go (sound (spoiled w)) refl
     go true e = no-false (sound→ {ex = false} (spoiled w) e (λ z. no-false z) .outcome)
     go false e = refl
 
+-- the words are those of a world, sound or not; no such rule reads the fuel
+abbrev heldIn : State → Bool
+heldIn s = setupHeld (s .words .setup) && wordsOk (setupOf (s .words .setup)) (decoded s) (s .words) (s .machine)
+
 abbrev pub to : State → World
-to s = pick (isSound s) (decoded s) (spoiled (decoded s))
+to s = pick (heldIn s) (decoded s) (spoiled (decoded s))
 
 pub sound-to : (s : State) → isSound s ≡ true → to s ≡ decoded s
-sound-to s e = ap (λ b. pick b (decoded s) (spoiled (decoded s))) e ∙ pick-true _ _
+unfolding soundWords
+sound-to s e = ap (λ b. pick b (decoded s) (spoiled (decoded s))) (and-left (heldIn s) (sound (decoded s)) e) ∙ pick-true _ _
 
 unsound-to : (s : State) → isSound s ≡ false → sound (to s) ≡ false
-unsound-to s e = ap (λ b. sound (pick b (decoded s) (spoiled (decoded s)))) e ∙ ap sound (pick-false (decoded s) (spoiled (decoded s))) ∙ spoiled-unsound (decoded s)
+unfolding soundWords pick
+unsound-to s e = go (heldIn s) e
+  where
+    go : (b : Bool) → (b && sound (decoded s)) ≡ false → sound (pick b (decoded s) (spoiled (decoded s))) ≡ false
+    go true q = q
+    go false q = spoiled-unsound (decoded s)
 
 pub view : (s : State) → viewOf (to s) ≡ outer .view s
-view s = picked (λ (w : World). viewOf w ≡ outer .view s) (isSound s) (λ _. refl) (λ _. refl)
+view s = picked (λ (w : World). viewOf w ≡ outer .view s) (heldIn s) (λ _. refl) (λ _. refl)
+
+pub refuel : (s : State) (f : Fuel) → withFuel f (to s) ≡ to (outer .refuel s f)
+unfolding pick
+refuel s f = go (heldIn s)
+  where
+    go : (b : Bool) → withFuel f (pick b (decoded s) (spoiled (decoded s))) ≡ pick b (decoded (outer .refuel s f)) (spoiled (decoded (outer .refuel s f)))
+    go true = refl
+    go false = refl
 
 -- ---- operations
 
@@ -160,4 +180,4 @@ look s = go (isSound s) refl
         ap (λ (x : Out). x .seen) (stays (to s) (record { op = Op.Look; within = Steps.look-typed }) (unsound-to s e)) ∙ sym (ap (λ b. pick b (registers (decoded s)) []) e ∙ pick-false _ _)
 
 abbrev pub follows : Follows outer steps
-follows = record { to = to; by = by; view = view; op = op; asks = asks; next = next; number = number; look = look; some-call = some-call }
+follows = record { to = to; by = by; view = view; op = op; asks = asks; next = next; refuel = refuel; number = number; look = look; some-call = some-call }

@@ -1,14 +1,14 @@
 -- THE CLAIM OVER LENT WORDS: all that is promised of an engine (claims/specs/Promise.antt) is promised of outer calls on lent words,
--- for slices of any length, whatever they held before the set-up; and what it says of the caller's stack slice, in its words.
+-- from every state, in slices of any length, whatever they hold; and what it says of the caller's stack slice, in its words.
 use Prim.Native.Nat.{ℕ, _+_, _-_}
 use mathlib.Core.Path.{_≡_}
-use mathlib.Core.Bool.{true, false}
-use mathlib.Core.List.{List}
+use mathlib.Core.Bool.{Bool, true, false, _&&_}
+use mathlib.Core.List.{List, [], _∷_}
 use lib.ListN.{take, drop, set}
 use Rattle.lists.specs.Tests.{zeros}
 use Rattle.model.specs.Call.{Operation}
 use Rattle.memory.specs.Memory.{Lent}
-use Rattle.claims.specs.Engine.{run}
+use Rattle.claims.specs.Engine.{Turn, calls, refuels, run}
 use Rattle.claims.specs.Says.{base, Sent, nothing, gets, closes, doing}
 use Rattle.claims.specs.Held.{at, waitsIn, Held, By}
 use Rattle.claims.specs.Delivery.{eventOf, memory, deliver}
@@ -17,6 +17,7 @@ use Rattle.claims.specs.Events.{Healthy}
 use Rattle.claims.specs.Promise.{Promise}
 use Rattle.lent.specs.Step.{State, isSound, setUpOk, Call, SetUp, Do, step}
 use Rattle.lent.specs.Sentences.{number, NoSuchFault}
+use Rattle.lent_claims.specs.Fuel.{fuelSound}
 use Rattle.lent_claims.specs.Engine.{opOf, outer}
 
 -- ---- an entry, and what follows, in words of the stack slice
@@ -58,19 +59,25 @@ pub data OwnFault (M : Lent) : Call → Type 0 where
   bad-set-up : (given : List ℕ) → setUpOk given M ≡ false → OwnFault M (SetUp given)
   no-fault : (o : Operation) → NoSuchFault (o .op) → OwnFault M (Do o)
 
+-- every fuel record that the host puts is sound
+abbrev pub fuelsSound : List (Turn Call) → Bool
+fuelsSound [] = true
+fuelsSound (calls k ∷ ts) = fuelsSound ts
+fuelsSound (refuels f ∷ ts) = fuelSound f && fuelsSound ts
+
 pub record Claim : Type 0 where
   pub promise : Promise outer
   -- the machine is not refused exactly if its words are sound
   pub sound : (s : State) → isSound s ≡ true → Healthy outer s
   pub healthy : (s : State) → Healthy outer s → isSound s ≡ true
-  -- y enters c, be it the first time; and its next entry after a suspension
+  -- y enters c, be it the first time; and its next entry after a suspension. Between two calls the host may put any other fuel record
   pub entered : (c : ℕ) (s : State) (y : Call) → Enters outer c s y → Stacked s (step s y .state)
-  pub woken : (c : ℕ) (s : State) (x : Call) (waiting : List Call) (y : Call) → Suspends outer c s x → Waits outer c (step s x .state) waiting
+  pub woken : (c : ℕ) (s : State) (x : Call) (waiting : List (Turn Call)) (y : Call) → Suspends outer c s x → Waits outer c (step s x .state) waiting
       → let t = run outer (step s x .state) waiting in Enters outer c t y → Woken s x t y c (step t y .state)
   -- and its next yield, await or return
-  pub back : (c : ℕ) (s : State) (y : Call) (going : List Call) (z : Call) → Enters outer c s y → Goes outer c (step s y .state) going
+  pub back : (c : ℕ) (s : State) (y : Call) (going : List (Turn Call)) (z : Call) → Enters outer c s y → Goes outer c (step s y .state) going
       → let t = run outer (step s y .state) going in Stops outer c t z → Back s y c t z (step t z .state)
-  -- after an accepted set-up, and any calls, the words are sound, and no call answers 11 but for its own fault
-  pub lasts : (s : State) (given : List ℕ) (ks : List Call) → setUpOk given (s .words) ≡ true → isSound (run outer (step s (SetUp given) .state) ks) ≡ true
-  pub eleven : (s : State) (given : List ℕ) (ks : List Call) (k : Call) → setUpOk given (s .words) ≡ true
-      → let t = run outer (step s (SetUp given) .state) ks in number t k ≡ 11 → OwnFault (t .words) k
+  -- after an accepted set-up, and any calls and sound fuel records, the words are sound, and no call answers 11 but for its own fault
+  pub lasts : (s : State) (given : List ℕ) (ts : List (Turn Call)) → setUpOk given (s .words) ≡ true → fuelsSound ts ≡ true → isSound (run outer (step s (SetUp given) .state) ts) ≡ true
+  pub eleven : (s : State) (given : List ℕ) (ts : List (Turn Call)) (k : Call) → setUpOk given (s .words) ≡ true → fuelsSound ts ≡ true
+      → let t = run outer (step s (SetUp given) .state) ts in number t k ≡ 11 → OwnFault (t .words) k

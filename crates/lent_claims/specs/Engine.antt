@@ -7,6 +7,7 @@ use Rattle.memory.specs.Decode.{setupOf}
 use Rattle.claims.specs.Engine.{Rules, Engine}
 use Rattle.claims.specs.Steps.{rulesOf, viewOf}
 use Rattle.lent.specs.Step.{State, decoded, looked, Call, SetUp, Do, step}
+use Rattle.lent_claims.specs.Fuel.{fuelled}
 
 abbrev pub opOf : Call → Option Op
 opOf (SetUp given) = none
@@ -17,4 +18,4 @@ asksOf (SetUp given) = some (rulesOf (setupOf given))
 asksOf (Do o) = none
 
 abbrev pub outer : Engine
-outer = record { State = State; Call = Call; op = opOf; asks = asksOf; view = λ s. viewOf (decoded s); next = λ s k. step s k .state; number = λ s k. numberOf (step s k .answer); look = looked }
+outer = record { State = State; Call = Call; op = opOf; asks = asksOf; view = λ s. viewOf (decoded s); next = λ s k. step s k .state; refuel = fuelled; number = λ s k. numberOf (step s k .answer); look = looked }

@@ -1,3 +1,3 @@
+pub mod Fuel
 pub mod Engine
 pub mod Claim
-pub mod Fuel

@@ -26,17 +26,25 @@ pub fn clear_words(s: &mut [u64])
     }
 }
 
-// All words of `src`, into a slice as long; they become 0 in `src`.
+// All words of `src`, into a slice as long; they become 0 in `src`. Two in a turn, which are compiled to one load and two stores.
 pub fn take_words(dst: &mut [u64], src: &mut [u64])
     requires { ⌜ length (now dst) ≡ length (now src) ⌝ }
     ensures { λ _. ⌜ (now (dst .exit) ≡ now (src .entry)) × (now (src .exit) ≡ replicate (length (now (src .entry))) 0) ⌝ }
 {
     let mut i = 0;
-    while i < dst.len() {
+    while 1 < dst.len() - i {
+        let a = src[i];
+        let b = src[i + 1];
+        src[i] = 0;
+        src[i + 1] = 0;
+        dst[i] = a;
+        dst[i + 1] = b;
+        i += 2;
+    }
+    if i < dst.len() {
         let w = src[i];
         dst[i] = w;
         src[i] = 0;
-        i += 1;
     }
 }
 

@@ -16,12 +16,12 @@ use Rattle.model.specs.declared.call.Op.{Op}
 
 -- ---- "Charging a saved size twice."
 
--- it yields from its second frame, of one register, and yields there again
+-- entered by the host it yields from its second frame, of one register, and yields there again
 abbrev pub grown : List Op
-grown = holding 1 0 ++ (Op.Resume 2 1 0 1 ∷ Op.FunctionCall 7 0 Cont.Discard ∷ Op.Yield 8 0 0 ∷ [])
+grown = holding 1 0 ++ (Op.StopRun ∷ Op.HostEntry c 0 ∷ Op.FunctionCall 7 0 Cont.Discard ∷ Op.Yield 8 0 0 ∷ [])
 
 abbrev pub again : List Op
-again = grown ++ (Op.Resume 3 1 0 1 ∷ Op.Yield 9 0 0 ∷ [])
+again = grown ++ (Op.HostEntry c 0 ∷ Op.Yield 9 0 0 ∷ [])
 
 -- ---- "Writing `has` before `val`."
 
@@ -42,20 +42,36 @@ lastKey = holding 1 1 ++ (Op.Resume 2 1 0 1 ∷ (integer 1 (2 ^ 63 - 1) ++ (Op.Y
 abbrev pub afterYield : List Op → World
 afterYield cs = tested (reached cs) (Op.Yield 99 0 0) .world
 
-pub record Mistakes : Type 0 where
-  -- one word and one frame beyond creation's: 8 + 32 bytes, once
-  pub grows : reached grown .used ≡ 240
-  pub charged-once : reached again .used ≡ 240
-  pub has-last : look sameRegister ≡ c ∷ d ∷ 1 ∷ 0 ∷ 0 ∷ 0 ∷ []
-  pub five : number outside (Op.Yield 99 0 0) ≡ 5
-  pub pc-after-five : afterYield outside .frames ≡ caller 0 ∷ []
-  pub seven : number lastKey (Op.Yield 99 0 0) ≡ 7
-  pub pc-after-seven : afterYield lastKey .frames ≡ body 8 2 ∷ caller 3 ∷ []
+-- ---- what they do
 
-pub kept-out : Mistakes
+-- one word and one frame beyond creation's: 8 + 32 bytes, once
+pub grows : reached grown .used ≡ 240
 unfolding computed
-kept-out =
-    record { grows = refl; charged-once = refl; has-last = refl; five = refl; pc-after-five = refl; seven = refl; pc-after-seven = refl }
+grows = refl
+
+pub charged-once : reached again .used ≡ 240
+unfolding computed
+charged-once = refl
+
+pub has-last : look sameRegister ≡ c ∷ d ∷ 1 ∷ 0 ∷ 0 ∷ 0 ∷ []
+unfolding computed
+has-last = refl
+
+pub five : number outside (Op.Yield 99 0 0) ≡ 5
+unfolding computed
+five = refl
+
+pub pc-after-five : afterYield outside .frames ≡ caller 0 ∷ []
+unfolding computed
+pc-after-five = refl
+
+pub seven : number lastKey (Op.Yield 99 0 0) ≡ 7
+unfolding computed
+seven = refl
+
+pub pc-after-seven : afterYield lastKey .frames ≡ body 8 2 ∷ caller 3 ∷ []
+unfolding computed
+pc-after-seven = refl
 
 -- ---- 01: "Sound", after runs that an engine without its upkeep would leave unsound
 

@@ -2,7 +2,7 @@
 use Prim.Native.Nat.{ℕ}
 use mathlib.Core.Path.{_≡_, refl}
 use mathlib.Core.Bool.{true, false}
-use mathlib.Core.List.{List, [], _∷_, _++_}
+use mathlib.Core.List.{List, [], _∷_, _++_, map}
 use Rattle.heap.specs.Table.{slot}
 use Rattle.heap.specs.declared.fault.Fault.{Fault}
 use Rattle.heap.specs.declared.value.Opt.{Opt}
@@ -15,7 +15,7 @@ use Rattle.model.specs.Coro.{coroState}
 use Rattle.model.specs.Sound.{sound}
 use Rattle.model.specs.Compute.{computed}
 use Rattle.model.specs.Example.{c, d, holding, reached, number, look}
-use Rattle.model.specs.Runs.{caller, begun, handed}
+use Rattle.model.specs.Runs.{caller, body, begun, handed}
 use Rattle.model.specs.declared.machine.Cont.{Cont}
 use Rattle.model.specs.declared.machine.Frame.{Frame}
 use Rattle.model.specs.declared.machine.Outcome.{Outcome}
@@ -52,58 +52,103 @@ queued =
     Op.Grant 1000 ∷ Op.HostCall 2 ∷ Op.CoroNew 1 0 1 0 ∷ Op.CoroNew 2 1 1 0 ∷ Op.Resume 3 2 0 3 ∷ Op.Yield 8 0 0 ∷ Op.Resume 4 2 1 3 ∷ Op.Yield 8 0 0
     ∷ Op.HandOver c ∷ Op.HandOver d ∷ Op.CoroCurrent 5 2 ∷ []
 
-pub record Pinned : Type 0 where
-  -- "start ≤ pc < end"
-  pub inside : number catches (Op.Unwind (Fault.Throw 9) (OptPc.Some 99)) ≡ 0
-  pub at-end : number catches (Op.Unwind (Fault.Throw 9) (OptPc.Some 100)) ≡ 17
-  -- CoroResult wants a Returned one
-  pub failed-result : number failed (Op.CoroResult 3 1 0) ≡ 3
-  -- "adds to the bank if there is one"
-  pub banked : reached (handed ++ (Op.Grant 5 ∷ [])) .fuel ≡ record { fuel = 0; bank = Opt.Some 1002; ready = true }
-  -- "Take outcome: reads and clears it"; stop run clears it too
-  pub taken : reached (hosted ++ (Op.TakeOutcome ∷ [])) .outcome ≡ Outcome.None
-  pub stopped : reached (hosted ++ (Op.StopRun ∷ [])) .outcome ≡ Outcome.None
-  -- an error object has function and pc of the top frame, once the given pc is stored
-  pub error : object (reached (holding 1 1 ++ (Op.Unwind Fault.TypeError (OptPc.Some 7) ∷ []))) d ≡ Object.Error 2 1 7 0
-  -- no result leaves it as it was
-  pub nothing-written : look (holding 1 1 ++ (Op.PutWord 1 5 ∷ Op.FunctionCall 4 0 (Cont.Write 1) ∷ Op.Finish ResultKind.None 0 ∷ [])) ≡ c ∷ 5 ∷ []
-  -- pc is not stored by ResumeThrow's 1, nor by iter_next's 2 on an Awaiting source
-  pub throws-at-nil : reached (holding 1 1 ++ (Op.ResumeThrow 9 1 1 1 ∷ [])) .frames ≡ caller 0 ∷ []
-  pub source-awaits : reached (waiting ++ (Op.IterNext 9 1 1 1 0 ∷ [])) .frames ≡ caller 3 ∷ []
-  -- a word that equals the signal of one that is not closing is no signal
-  pub no-signal : coroState (reached (begun ++ (Op.Unwind (Fault.Throw 0) OptPc.None ∷ []))) c ≡ Stated.In CoroState.Failed
-  -- what was held wakes as it slept: function, pc one on, closure, continuation, and one distance for both frames
-  pub woken-frames : reached woken .frames
-      ≡ record { func = 1; pc = 9; base = 5; closure = 0; cont = Cont.Write 1 } ∷ record { func = 1; pc = 5; base = 3; closure = 0x1_0000_0000_0001; cont = Cont.Coro }
-      ∷ record { func = 0; pc = 3; base = 2; closure = 0; cont = Cont.Discard } ∷ record { func = 1; pc = 6; base = 0; closure = 0; cont = Cont.Entry } ∷ []
-  pub woken-words : reached woken .stack ≡ c ∷ 0 ∷ c ∷ 0 ∷ 0 ∷ c ∷ 0 ∷ []
-  -- .. and returns: Returned, the words below as they were, the result in its register
-  pub returned-words : reached (woken ++ (Op.Finish ResultKind.None 0 ∷ Op.Finish ResultKind.Dyn 7 ∷ [])) .stack ≡ c ∷ 0 ∷ 7 ∷ []
-  pub returned : coroState (reached (woken ++ (Op.Finish ResultKind.None 0 ∷ Op.Finish ResultKind.Dyn 7 ∷ []))) c ≡ Stated.In CoroState.Returned
-  -- a cleanup starts while two wait
-  pub cleaned : reached queued .finalize ≡ d ∷ []
+-- ---- what they do
 
-pub pinned : Pinned
+-- "start ≤ pc < end"
+pub inside : number catches (Op.Unwind (Fault.Throw 9) (OptPc.Some 99)) ≡ 0
 unfolding computed
-pinned =
-    record {
-      inside = refl;
-      at-end = refl;
-      failed-result = refl;
-      banked = refl;
-      taken = refl;
-      stopped = refl;
-      error = refl;
-      nothing-written = refl;
-      throws-at-nil = refl;
-      source-awaits = refl;
-      no-signal = refl;
-      woken-frames = refl;
-      woken-words = refl;
-      returned-words = refl;
-      returned = refl;
-      cleaned = refl;
-    }
+inside = refl
+
+pub at-end : number catches (Op.Unwind (Fault.Throw 9) (OptPc.Some 100)) ≡ 17
+unfolding computed
+at-end = refl
+
+-- CoroResult wants a Returned one
+pub failed-result : number failed (Op.CoroResult 3 1 0) ≡ 3
+unfolding computed
+failed-result = refl
+
+-- "adds to the bank if there is one"
+pub banked : reached (handed ++ (Op.Grant 5 ∷ [])) .fuel ≡ record { fuel = 0; bank = Opt.Some 1002; ready = true }
+unfolding computed
+banked = refl
+
+-- "Take outcome: reads and clears it"; stop run clears it too
+pub taken : reached (hosted ++ (Op.TakeOutcome ∷ [])) .outcome ≡ Outcome.None
+unfolding computed
+taken = refl
+
+pub stopped : reached (hosted ++ (Op.StopRun ∷ [])) .outcome ≡ Outcome.None
+unfolding computed
+stopped = refl
+
+-- an error object has function and pc of the top frame, once the given pc is stored
+pub error : object (reached (holding 1 1 ++ (Op.Unwind Fault.TypeError (OptPc.Some 7) ∷ []))) d ≡ Object.Error 2 1 7 0
+unfolding computed
+error = refl
+
+-- no result leaves it as it was
+pub nothing-written : look (holding 1 1 ++ (Op.PutWord 1 5 ∷ Op.FunctionCall 4 0 (Cont.Write 1) ∷ Op.Finish ResultKind.None 0 ∷ [])) ≡ c ∷ 5 ∷ []
+unfolding computed
+nothing-written = refl
+
+-- pc is not stored by ResumeThrow's 1, nor by iter_next's 2 on an Awaiting source
+pub throws-at-nil : reached (holding 1 1 ++ (Op.ResumeThrow 9 1 1 1 ∷ [])) .frames ≡ caller 0 ∷ []
+unfolding computed
+throws-at-nil = refl
+
+pub source-awaits : reached (waiting ++ (Op.IterNext 9 1 1 1 0 ∷ [])) .frames ≡ caller 3 ∷ []
+unfolding computed
+source-awaits = refl
+
+-- a word that equals the signal of one that is not closing is no signal
+pub no-signal : coroState (reached (begun ++ (Op.Unwind (Fault.Throw 0) OptPc.None ∷ []))) c ≡ Stated.In CoroState.Failed
+unfolding computed
+no-signal = refl
+
+-- what was held wakes as it slept: function, pc one on, one distance for both frames, closure, continuation
+pub woken-functions : map (λ f. f .func) (reached woken .frames) ≡ 1 ∷ 1 ∷ 0 ∷ 1 ∷ []
+unfolding computed
+woken-functions = refl
+
+pub woken-pcs : map (λ f. f .pc) (reached woken .frames) ≡ 9 ∷ 5 ∷ 3 ∷ 6 ∷ []
+unfolding computed
+woken-pcs = refl
+
+pub woken-bases : map (λ f. f .base) (reached woken .frames) ≡ 5 ∷ 3 ∷ 2 ∷ 0 ∷ []
+unfolding computed
+woken-bases = refl
+
+pub woken-closures : map (λ f. f .closure) (reached woken .frames) ≡ 0 ∷ 0x1_0000_0000_0001 ∷ 0 ∷ 0 ∷ []
+unfolding computed
+woken-closures = refl
+
+pub woken-continuations : map (λ f. f .cont) (reached woken .frames) ≡ Cont.Write 1 ∷ Cont.Coro ∷ Cont.Discard ∷ Cont.Entry ∷ []
+unfolding computed
+woken-continuations = refl
+
+pub woken-words : reached woken .stack ≡ c ∷ 0 ∷ c ∷ 0 ∷ 0 ∷ c ∷ 0 ∷ []
+unfolding computed
+woken-words = refl
+
+-- .. and returns: Returned, the words below as they were, the result in its register
+pub returned-words : reached (woken ++ (Op.Finish ResultKind.None 0 ∷ Op.Finish ResultKind.Dyn 7 ∷ [])) .stack ≡ c ∷ 0 ∷ 7 ∷ []
+unfolding computed
+returned-words = refl
+
+pub returned : coroState (reached (woken ++ (Op.Finish ResultKind.None 0 ∷ Op.Finish ResultKind.Dyn 7 ∷ []))) c ≡ Stated.In CoroState.Returned
+unfolding computed
+returned = refl
+
+-- the host enters it again: it stands where it slept, at the bottom
+pub woken-below : reached (hosted ++ (Op.HostEntry c 0 ∷ [])) .frames ≡ body 9 0 ∷ []
+unfolding computed
+woken-below = refl
+
+-- a cleanup starts while two wait
+pub cleaned : reached queued .finalize ≡ d ∷ []
+unfolding computed
+cleaned = refl
 
 -- ---- 01: "Sound", each rule broken alone
 

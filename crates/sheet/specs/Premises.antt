@@ -1,5 +1,6 @@
--- The premises of the PEP 342 theorems, and of the three mistakes, can be met: for each theorem, by its name, calls after which all
--- of them hold.
+-- The premises of the PEP 342 theorems, and of the three mistakes, can be met: calls after which all premises of a theorem hold. A field has
+-- the name of its theorem; but `caught-at` is for `caught`, `yield-kv` for `yields-kv`, `sizes` for `size-kept` and `size-once`, `yield-5` for its two
+-- neighbours too, and a theorem with the premises of another has that one's (docs/PEP342.md).
 use Prim.Native.Nat.{ℕ, _-_, _^_}
 use mathlib.Core.Path.{_≡_}
 use mathlib.Core.Bool.{Bool, true, false, not, _&&_}

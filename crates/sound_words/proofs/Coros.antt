@@ -1,4 +1,4 @@
--- A coroutine's test by its parts, and the row that it holds. Assumes nothing.
+-- A coroutine's test by its parts, and the row that it holds. Assumes (nothingSaved c).
 use mathlib.Core.Path.{_≡_, refl, sym, ap, _∙_}
 use mathlib.Core.Bool.{Bool, true, false, not, _&&_, _||_}
 use mathlib.Core.List.{List}
@@ -6,9 +6,10 @@ use Prim.Native.Nat.{ℕ, suc, _+_, _*_, _≤_, _<_}
 use native.Mathlib.Omega.{arith}
 use native.Mathlib.Nat.{suc-mul, mul-le-mul-right}
 use lib.Dec.{eqb, ltb, leb}
-use borrow.Author.Tests.{leb-true}
+use borrow.Author.Tests.{leb-true, le-leb}
 use Rattle.lists.specs.Pick.{pick, pick-true, pick-false}
 use Rattle.lists.specs.Chunks.{chunkAt}
+use Rattle.lists.proofs.Tests.{and-false}
 use Rattle.heap.specs.State.{isRunning, isFinished}
 use Rattle.heap.specs.declared.object.CoroState.{CoroState}
 use Rattle.heap.specs.declared.object.CoroObj.{CoroObj}
@@ -16,7 +17,8 @@ use Rattle.model.specs.Program.{Setup}
 use Rattle.memory.specs.declared.machine.Sizes.{Sizes}
 use Rattle.soundness.proofs.Tests.{and-left, and-right}
 use Rattle.sound.specs.Words.{restOk}
-use Rattle.sound_words.specs.Saved.{sizesIn, framesIn, coroTest}
+use Rattle.sound_test.proofs.Bools.{and-true}
+use Rattle.sound_words.specs.Saved.{largestIn, sizesIn, nothingSaved, framesIn, coroTest}
 use Rattle.sound_words.specs.Rows.{coroFine, coroRow}
 
 -- a row lies in its slice
@@ -32,6 +34,14 @@ frames-few l c e =
     let q = leb-true (c .frames) (l .depth) (and-right a b (and-left (a && b) d (and-left (a && b && d) (leb (c .maxframes) (l .depth)) e))) in
     omega arith
 
+-- a finished one's test by its parts
+module _ (l : Sizes) (c : CoroObj) where
+  pub saved-some : nothingSaved c ≡ false → false ≡ (sizesIn l c && nothingSaved c)
+  saved-some e = sym (ap (λ t. sizesIn l c && t) e ∙ and-false (sizesIn l c))
+
+  pub saved-none : c .row ≡ 0 → c .frames ≡ 0 → c .regs ≡ 0 → (sizesIn l c && nothingSaved c) ≡ largestIn l c
+  saved-none a b d = rw (a, b, d, le-leb 0 (l .width) (omega arith), le-leb 0 (l .depth) (omega arith)) (and-true _)
+
 -- a finished one does not run
 pub ended-rests : (t : CoroState) → isFinished t ≡ true → isRunning t ≡ false
 ended-rests CoroState.Created e = refl
@@ -42,23 +52,23 @@ ended-rests CoroState.Returned e = refl
 ended-rests CoroState.Failed e = refl
 
 module _ (l : Sizes) (s : Setup) (stack frames : List ℕ) (c : CoroObj) where
-  abbrev pub nothing : Bool
-  nothing = eqb (c .row) 0 && eqb (c .frames) 0 && eqb (c .regs) 0
-
   abbrev pub in-row : Bool
   in-row = ltb (c .row) (l .rows) && restOk (chunkAt (l .width) stack (c .row)) (c .regs) && framesIn s (chunkAt (l .depth * 6) frames (c .row)) c
 
   pub sizes-stop : sizesIn l c ≡ false → false ≡ coroTest l s stack frames c
-  sizes-stop e = sym (ap (λ t. t && pick (isFinished (c .state)) nothing in-row) e)
+  sizes-stop e = sym (ap (λ t. t && pick (isFinished (c .state)) (nothingSaved c) in-row) e)
 
-  sized : sizesIn l c ≡ true → coroTest l s stack frames c ≡ pick (isFinished (c .state)) nothing in-row
-  sized e = ap (λ t. t && pick (isFinished (c .state)) nothing in-row) e
+  sized : sizesIn l c ≡ true → coroTest l s stack frames c ≡ pick (isFinished (c .state)) (nothingSaved c) in-row
+  sized e = ap (λ t. t && pick (isFinished (c .state)) (nothingSaved c) in-row) e
 
-  pub ended : sizesIn l c ≡ true → isFinished (c .state) ≡ true → nothing ≡ coroTest l s stack frames c
-  ended e f = sym (sized e ∙ ap (λ t. pick t nothing in-row) f ∙ pick-true nothing in-row)
+  pub finished : isFinished (c .state) ≡ true → (sizesIn l c && nothingSaved c) ≡ coroTest l s stack frames c
+  finished f = sym (ap (λ t. sizesIn l c && t) (ap (λ t. pick t (nothingSaved c) in-row) f ∙ pick-true (nothingSaved c) in-row))
+
+  pub ended : sizesIn l c ≡ true → isFinished (c .state) ≡ true → nothingSaved c ≡ coroTest l s stack frames c
+  ended e f = sym (ap (λ t. t && nothingSaved c) e) ∙ finished f
 
   pub live : sizesIn l c ≡ true → isFinished (c .state) ≡ false → in-row ≡ coroTest l s stack frames c
-  live e f = sym (sized e ∙ ap (λ t. pick t nothing in-row) f ∙ pick-false nothing in-row)
+  live e f = sym (sized e ∙ ap (λ t. pick t (nothingSaved c) in-row) f ∙ pick-false (nothingSaved c) in-row)
 
   -- ---- the row
 

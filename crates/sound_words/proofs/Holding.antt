@@ -27,9 +27,9 @@ use Rattle.soundness.proofs.Tests.{and-left, both, picked}
 use Rattle.sound.specs.Words.{restOk}
 use Rattle.sound_test.specs.Queue.{bitAt}
 use Rattle.sound_test.proofs.Bits.{no-bit}
-use Rattle.sound_words.specs.Saved.{sizesIn, coroTest}
+use Rattle.sound_words.specs.Saved.{sizesIn, nothingSaved, coroTest}
 use Rattle.sound_words.specs.Rows.{coroFine, objectFine, coroRow, objectRow, slotRow, rowFree, freeTest, rowsOf, rowsHeld, rowsTest, heldBit}
-use Rattle.sound_words.proofs.Coros.{nothing, in-row, live, passed, refused}
+use Rattle.sound_words.proofs.Coros.{in-row, live, passed, refused}
 
 -- tests that agree below a bound
 pub below-same : (n : ℕ) (p q : ℕ → Bool) → ((i : ℕ) → i < n → p i ≡ q i) → allBelow n p ≡ allBelow n q
@@ -73,7 +73,7 @@ module _ (l : Sizes) (s : Setup) (stack frames : List ℕ) (chained : ℕ → Bo
     row-small e f =
         let t = coroTest l s stack frames c in
         let p = and-left t (not (isRunning (c .state)) || chained i) e in
-        let z = and-left (sizesIn l c) (pick (isFinished (c .state)) (nothing l s stack frames c) (in-row l s stack frames c)) p in
+        let z = and-left (sizesIn l c) (pick (isFinished (c .state)) (nothingSaved c) (in-row l s stack frames c)) p in
         let q = live l s stack frames c z f ∙ p in
         let a = ltb (c .row) (l .rows) in
         let b = restOk (chunkAt (l .width) stack (c .row)) (c .regs) in

@@ -33,9 +33,9 @@ use Rattle.memory.specs.Decode.{coreOf, restOf, objectOf}
 use Rattle.sound.specs.Words.{restOk, framesHeld, fitsRow}
 use Rattle.sound.proofs.Held.{length-piled, piled-take}
 use Rattle.sound.proofs.Rowed.{regs-long}
-use Rattle.sound_words.specs.Saved.{sizesIn, waitsIn, framesIn, coroTest}
+use Rattle.sound_words.specs.Saved.{sizesIn, nothingSaved, waitsIn, framesIn, coroTest}
 use Rattle.sound_words.proofs.Waiting.{resumable-frames, running-frames}
-use Rattle.sound_words.proofs.Coros.{row-inside, nothing, in-row, ended, live}
+use Rattle.sound_words.proofs.Coros.{row-inside, in-row, ended, live}
 
 -- ---- tests
 
@@ -173,7 +173,7 @@ module _ (s : Setup) (M : Lent) where
     kept e = go (isFinished (c .state)) refl
       where
         z : sizesIn l c ≡ true
-        z = and-left (sizesIn l c) (pick (isFinished (c .state)) (nothing l s (M .savedStack) (M .savedFrames) c) (in-row l s (M .savedStack) (M .savedFrames) c)) e
+        z = and-left (sizesIn l c) (pick (isFinished (c .state)) (nothingSaved c) (in-row l s (M .savedStack) (M .savedFrames) c)) e
 
         narrow : c .regs ≤ rowWords s
         narrow = sized z .0

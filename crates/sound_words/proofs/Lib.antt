@@ -7,6 +7,7 @@ pub mod Holding
 pub mod Ordered
 pub mod Keeping
 pub mod Rowing
+pub mod Ranging
 pub mod Fitting
 pub mod Slots
 pub mod Wholly

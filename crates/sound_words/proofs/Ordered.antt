@@ -1,5 +1,5 @@
 -- Tests one after the other: the first that fails decides, or the last. Assumes nothing.
-use mathlib.Core.Path.{_≡_, sym, _∙_}
+use mathlib.Core.Path.{_≡_, refl, sym, _∙_}
 use mathlib.Core.Bool.{Bool, true, false, _&&_}
 
 module _ (a b c d w : Bool) (q : (a && b && c && d) ≡ w) where
@@ -30,3 +30,10 @@ module _ (a b c d e w : Bool) (q : (a && b && c && d && e) ≡ w) where
 
   pub five-5 : (r : Bool) → a ≡ true → b ≡ true → c ≡ true → d ≡ true → r ≡ e → r ≡ w
   five-5 r p₁ p₂ p₃ p₄ h = h ∙ sym (rw (p₁, p₂, p₃, p₄)) ∙ q
+
+-- the first test's part that is made with the third
+pub made-later : (z r a w s u : Bool) → (z && r && (a && w) && s && u) ≡ ((a && z) && r && w && s && u)
+made-later z r true w s u = refl
+made-later true true false w s u = refl
+made-later true false false w s u = refl
+made-later false r false w s u = refl

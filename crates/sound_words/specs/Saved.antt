@@ -17,6 +17,10 @@ use Rattle.memory.specs.Decode.{setupOf}
 use Rattle.sound.specs.Words.{restOk}
 use Rattle.sound_test.specs.Frames.{savedFramesOk, Catches}
 
+-- the largest sizes so far
+abbrev pub largestIn : Sizes → CoroObj → Bool
+largestIn l c = leb (c .maxregs) (l .width) && leb (c .maxframes) (l .depth)
+
 -- "sizes within limits"
 abbrev pub sizesIn : Sizes → CoroObj → Bool
 sizesIn l c = leb (c .regs) (l .width) && leb (c .frames) (l .depth) && leb (c .maxregs) (l .width) && leb (c .maxframes) (l .depth)
@@ -31,11 +35,15 @@ framesIn s ws c =
     pick (isResumable (c .state)) (savedFramesOk s ws (c .frames) (c .regs) && waitsIn ws c)
     (eqb (c .frames) 0 && eqb (c .regs) 0 && restOk ws 0)
 
+-- no row, and nothing saved
+abbrev pub nothingSaved : CoroObj → Bool
+nothingSaved c = eqb (c .row) 0 && eqb (c .frames) 0 && eqb (c .regs) 0
+
 -- a finished one has no row and nothing saved; another has a row, with zeros after what is saved there
 abbrev pub coroTest : Sizes → Setup → List ℕ → List ℕ → CoroObj → Bool
 coroTest l s stack frames c =
     sizesIn l c
-    && pick (isFinished (c .state)) (eqb (c .row) 0 && eqb (c .frames) 0 && eqb (c .regs) 0)
+    && pick (isFinished (c .state)) (nothingSaved c)
     (ltb (c .row) (l .rows) && restOk (chunkAt (l .width) stack (c .row)) (c .regs) && framesIn s (chunkAt (l .depth * 6) frames (c .row)) c)
 
 -- ---- words enough

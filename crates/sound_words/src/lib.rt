@@ -3,5 +3,4 @@ pub mod numbers;
 pub mod rows;
 pub mod running;
 pub mod saved;
-pub mod table;
 pub mod whole;

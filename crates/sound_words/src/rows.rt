@@ -1,17 +1,17 @@
 // The slots from the last to the first, with the rows that they hold; then the rows that nobody holds.
 ghost use mathlib.Core.Path.{_≡_};
-ghost use mathlib.Core.Bool.{_||_};
+ghost use mathlib.Core.Bool.{_&&_, _||_};
 ghost use Prim.Native.Nat.{ℕ, _<_};
 ghost use lib.Dec.{eqb};
 ghost use Rattle.heap.specs.Heap.{SlotFits};
 ghost use Rattle.memory.specs.Decode.{setupOf};
 ghost use Rattle.sound_test.specs.Queue.{bitAt, inSet};
+ghost use Rattle.sound_words.specs.Table.{rangesTest};
 ghost use Rattle.sound_words.specs.Rows.{coroRow, slotRow, heldBit, rowFree, freeTest, rowsTest, RowsFit, SlotsFit, FreeFits};
 use crate::running::in_set;
 use crate::saved::coro_ok;
 use crate::saved::row_rest;
 use heap::object::CoroObj;
-use heap::object::Object;
 use memory::machine::Sizes;
 use sound_test::queue::bit;
 use sound_test::queue::with_bit;
@@ -64,23 +64,11 @@ fn slot_row(
     requires { ⌜ RowsFit (now saved) (now asleep) (now need) (now setup) (now set) l × (SlotFits (now slots) i × (i < 4096)) ⌝ }
     ensures { λ r. ⌜ r ≡ slotRow l (setupOf (now (setup .entry))) (now (saved .entry)) (now (asleep .entry)) (inSet (now (set .entry))) (now (slots .entry)) i ⌝ }
 {
-    match heap::slot::object_at(slots, i) {
-        Object::Empty => NONE,
-        Object::Func(_) => NONE,
-        Object::Int(_) => NONE,
-        Object::Iter {
-            src: _,
-            done: _,
-            key: _,
-        } => NONE,
-        Object::Error {
-            kind: _,
-            func: _,
-            pc: _,
-            payload: _,
-        } => NONE,
-        Object::Coro(c) => coro_row(saved, asleep, setup, need, set, l, i, c),
+    if heap::slot::is_coro(slots, i) {
+        let c = heap::slot::coro_at(slots, i);
+        return coro_row(saved, asleep, setup, need, set, l, i, c);
     }
+    NONE
 }
 
 // Whether a row is in the set of rows; a set with one row more.
@@ -138,7 +126,7 @@ fn free_ok(saved: &[u64], asleep: &[u64], l: Sizes, mask: u64) -> bool
     true
 }
 
-// All slots with their rows: each row held by one, and zeros in the others.
+// All slots with their rows: words in their ranges, each row held by one, and zeros in the others.
 pub fn rows_ok(
     slots: &[u64],
     count: usize,
@@ -150,12 +138,15 @@ pub fn rows_ok(
     l: Sizes,
 ) -> bool
     requires { ⌜ SlotsFit (now saved) (now asleep) (now need) (now setup) (now set) (now slots) l count ⌝ }
-    ensures { λ r. ⌜ r ≡ rowsTest l (setupOf (now (setup .entry))) (now (saved .entry)) (now (asleep .entry)) (inSet (now (set .entry))) (now (slots .entry)) count ⌝ }
+    ensures { λ r. ⌜ r ≡ (rangesTest (now (slots .entry)) count && rowsTest l (setupOf (now (setup .entry))) (now (saved .entry)) (now (asleep .entry)) (inSet (now (set .entry))) (now (slots .entry)) count) ⌝ }
 {
     let mut mask: u64 = 0;
     let mut i = count;
     while i > 0 {
         i -= 1;
+        if !heap::ranges::slot_ok_at(slots, i) {
+            return false;
+        }
         let row = slot_row(slots, saved, asleep, setup, need, set, l, i);
         if row == REFUSED {
             return false;

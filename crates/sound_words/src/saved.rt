@@ -7,7 +7,7 @@ ghost use Rattle.lists.specs.Chunks.{chunkAt};
 ghost use Rattle.memory.specs.Decode.{setupOf};
 ghost use Rattle.sound.specs.Words.{restOk};
 ghost use Rattle.sound_test.specs.Frames.{savedFramesOk, FramesFit};
-ghost use Rattle.sound_words.specs.Saved.{sizesIn, waitsIn, framesIn, coroTest, RowFits, SavedFits};
+ghost use Rattle.sound_words.specs.Saved.{largestIn, sizesIn, nothingSaved, waitsIn, framesIn, coroTest, RowFits, SavedFits};
 use heap::object::CoroObj;
 use memory::machine::Sizes;
 use sound_test::frames::saved_frames_ok;
@@ -24,6 +24,18 @@ pub(crate) fn row_rest(ws: &[u64], i: usize, w: usize, n: usize) -> bool
     rest_ok(&ws[b..e], n)
 }
 
+// The largest counts of a coroutine so far.
+fn largest_ok(l: Sizes, c: CoroObj) -> bool
+    ensures { λ r. ⌜ r ≡ largestIn l c ⌝ }
+{
+    let width = l.width as u64;
+    let depth = l.depth as u64;
+    if width < c.maxregs {
+        return false;
+    }
+    c.maxframes <= depth
+}
+
 // The counts of a coroutine.
 fn sizes_ok(l: Sizes, c: CoroObj) -> bool
     ensures { λ r. ⌜ r ≡ sizesIn l c ⌝ }
@@ -36,10 +48,7 @@ fn sizes_ok(l: Sizes, c: CoroObj) -> bool
     if depth < c.frames {
         return false;
     }
-    if width < c.maxregs {
-        return false;
-    }
-    c.maxframes <= depth
+    largest_ok(l, c)
 }
 
 // The waiting register of a suspended one lies in its top frame: ws are its row's frames.
@@ -100,6 +109,22 @@ fn row_frames(ws: &[u64], i: usize, w: usize, setup: &[u64], need: &[u64; 32], c
     frames_in(&ws[b..e], setup, need, c)
 }
 
+// A finished one: nothing saved, and its largest counts.
+fn ended_ok(l: Sizes, c: CoroObj) -> bool
+    ensures { λ r. ⌜ r ≡ (sizesIn l c && nothingSaved c) ⌝ }
+{
+    if c.row != 0 {
+        return false;
+    }
+    if c.frames != 0 {
+        return false;
+    }
+    if c.regs != 0 {
+        return false;
+    }
+    largest_ok(l, c)
+}
+
 // A coroutine: its counts; of a finished one nothing, of another its row.
 pub fn coro_ok(
     saved: &[u64],
@@ -112,18 +137,12 @@ pub fn coro_ok(
     requires { ⌜ SavedFits (now saved) (now asleep) (now need) (now setup) l ⌝ }
     ensures { λ r. ⌜ r ≡ coroTest l (setupOf (now (setup .entry))) (now (saved .entry)) (now (asleep .entry)) c ⌝ }
 {
-    if !sizes_ok(l, c) {
-        return false;
-    }
     let state = c.state;
     if state.is_finished() {
-        if c.row != 0 {
-            return false;
-        }
-        if c.frames != 0 {
-            return false;
-        }
-        return c.regs == 0;
+        return ended_ok(l, c);
+    }
+    if !sizes_ok(l, c) {
+        return false;
     }
     let rows = l.rows as u64;
     if rows <= c.row {

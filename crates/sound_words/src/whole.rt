@@ -8,7 +8,7 @@ use crate::numbers::fuel_ok;
 use crate::numbers::outcome_ok;
 use crate::rows::rows_ok;
 use crate::running::running;
-use crate::table::slots_held;
+use heap::slot::WIDTH;
 use memory::machine::Machine;
 use memory::machine::Sizes;
 use model::machine::Fuel;
@@ -96,7 +96,7 @@ fn objects_ok(
     requires { ⌜ ObjectsFit (now chain) (now slots) (now saved) (now asleep) (now need) (now setup) l m ⌝ }
     ensures { λ r. ⌜ r ≡ objectsTest l (setupOf (now (setup .entry))) (now (chain .entry)) (now (slots .entry)) (now (saved .entry)) (now (asleep .entry)) m ⌝ }
 {
-    if !slots_held(slots, m.count) {
+    if !rest_ok(slots, m.count * WIDTH) {
         return false;
     }
     let r = running(chain, m.active, slots, m.count);

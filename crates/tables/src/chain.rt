@@ -1,11 +1,10 @@
 // The chain of active coroutines, bottom first in a lent slice; `n` is their number.
-ghost use mathlib.Core.List.{[], _∷_};
+ghost use mathlib.Core.List.{_∷_};
 ghost use Prim.Native.Nat.{_+_, _-_, _*_, _≤_};
 ghost use lib.ListN.{length, drop};
 ghost use Rattle.model.specs.Coro.{active};
 ghost use Rattle.tables.specs.Does.{ChainDo};
 use crate::active::put_active;
-use crate::runs::clear_part;
 use model::machine::Active;
 use model::machine::Driver;
 
@@ -29,12 +28,4 @@ pub fn pop_active(chain: &mut [u64], n: usize)
 {
     let at = (n - 1) * 6;
     lists::clear_words(&mut chain[at..at + 6]);
-}
-
-// All go.
-pub fn clear_chain(chain: &mut [u64], n: usize)
-    requires { ⌜ n * 6 ≤ length (now chain) ⌝ }
-    ensures { λ _. ⌜ ChainDo (λ _. []) (now (chain .entry)) (now (chain .exit)) n 0 ⌝ }
-{
-    clear_part(chain, 0, n * 6);
 }

@@ -4,7 +4,7 @@ use oracle::lent::CallWords;
 use oracle::library::Bare;
 use oracle::world::{Costs, Setup};
 
-use super::{setup, small, Switch};
+use super::{setup, small, Switch, MOST};
 
 /// A machine with fuel and a bottom frame of function 0.
 fn fresh(s: &Setup) -> Bare {
@@ -165,11 +165,12 @@ impl Switch for Run {
     }
 
     fn trips(&mut self, n: usize) {
-        if self.2.len() != n * 12 {
-            self.2 = [RESUME, YIELD].concat().repeat(n);
-            self.3 = vec![0; n * 16];
+        if self.2.is_empty() {
+            self.2 = [RESUME, YIELD].concat().repeat(MOST);
+            self.3 = vec![0; MOST * 16];
         }
-        assert_eq!((self.1)(&mut self.0, &mut self.2, &mut self.3), 0, "run");
+        let (calls, answers) = (&mut self.2[..n * 12], &mut self.3[..n * 16]);
+        assert_eq!((self.1)(&mut self.0, calls, answers), 0, "run");
         assert_eq!(self.3[n * 16 - 6], 2, "suspended");
     }
 }

@@ -2,6 +2,8 @@
 //! so that a busy machine hits all of them. Instructions are counted by
 //! callgrind, where it is installed: the same batches in a process each.
 
+#[cfg(all(library, feature = "host"))]
+mod host;
 #[cfg(library)]
 mod library;
 mod plot;
@@ -14,6 +16,9 @@ use oracle::world::{Costs, Func, Handler, Setup};
 
 #[cfg(all(test, original, library))]
 pub(crate) use library::Kept;
+
+/// How many operations are timed at once, at most.
+const MOST: usize = 1000;
 
 /// How often a batch is timed, and how long at most.
 const SAMPLES: usize = 1001;
@@ -28,18 +33,32 @@ pub(crate) trait Switch {
     fn resume(&mut self);
     fn suspend(&mut self);
     /// A word is thrown into the coroutine, and unwound there.
-    fn throw(&mut self);
+    fn throw(&mut self) {
+        unimplemented!("not measured here");
+    }
     /// The coroutine is closed; its signal is unwound.
-    fn close(&mut self);
+    fn close(&mut self) {
+        unimplemented!("not measured here");
+    }
     /// An iterator over the coroutine, in register 3.
-    fn iterate(&mut self);
-    fn next(&mut self);
+    fn iterate(&mut self) {
+        unimplemented!("not measured here");
+    }
+    fn next(&mut self) {
+        unimplemented!("not measured here");
+    }
     /// A word is thrown where the machine stands, and unwound.
-    fn unwind(&mut self);
-    fn finish(&mut self);
+    fn unwind(&mut self) {
+        unimplemented!("not measured here");
+    }
+    fn finish(&mut self) {
+        unimplemented!("not measured here");
+    }
     /// The coroutine is handed over; the next charge starts its cleanup, whose
     /// signal is unwound.
-    fn clean(&mut self);
+    fn clean(&mut self) {
+        unimplemented!("not measured here");
+    }
 
     fn trips(&mut self, n: usize) {
         for _ in 0..n {
@@ -89,7 +108,7 @@ impl Measure {
             Create => 48,
             Close | Clean => 480,
             Unwind(64) => 100,
-            _ => 1000,
+            _ => MOST,
         }
     }
 
@@ -179,9 +198,11 @@ pub(crate) fn small(costs: Costs) -> Setup {
     Setup { depth: 8, stack: 128, rows: 2, slots: 16, ..s }
 }
 
-/// An engine: its name, how a fresh one is made, and what it is measured on.
+/// An engine: its name, what the table calls it, how a fresh one is made, and
+/// what it is measured on.
 struct Engine {
     name: &'static str,
+    shown: &'static str,
     fresh: fn(Costs) -> Box<dyn Switch>,
     only: fn(Measure) -> bool,
 }
@@ -191,29 +212,57 @@ fn engines() -> Vec<Engine> {
         #[cfg(original)]
         Engine {
             name: "original",
+            shown: "original",
             fresh: |c| Box::new(crate::driver::bench::Bench::new(c)),
             only: |_| true,
         },
         #[cfg(hot)]
         Engine {
             name: "hot",
+            shown: "`bvm_resume`, `bvm_yield`",
             fresh: |c| Box::new(library::Hot::new(c)),
             only: |m| matches!(m, Trip(..)),
         },
         #[cfg(library)]
-        Engine { name: "kept", fresh: |c| Box::new(library::Kept::new(c)), only: |_| true },
+        Engine {
+            name: "kept",
+            shown: "`bvm_kept`",
+            fresh: |c| Box::new(library::Kept::new(c)),
+            only: |_| true,
+        },
         #[cfg(library)]
-        Engine { name: "outer", fresh: |c| Box::new(library::Outer::new(c)), only: trips },
+        Engine {
+            name: "outer",
+            shown: "`bvm_call`, small",
+            fresh: |c| Box::new(library::Outer::new(c)),
+            only: trips,
+        },
         #[cfg(library)]
         Engine {
             name: "run",
+            shown: "`bvm_run`, small",
             fresh: |c| Box::new(library::Run::new(c, oracle::library::Bare::run)),
             only: trips,
         },
         #[cfg(batch)]
         Engine {
             name: "batch",
+            shown: "`bvm_batch`, small",
             fresh: |c| Box::new(library::Run::new(c, oracle::library::Bare::batch)),
+            only: trips,
+        },
+        #[cfg(all(library, feature = "host"))]
+        Engine {
+            name: "crate",
+            shown: "crate `host/`: `resume`, `yield_`",
+            fresh: |c| Box::new(host::Methods::new(c)),
+            only: trips,
+        },
+        #[cfg(all(library, feature = "host"))]
+        Engine {
+            name: "crate-run",
+            shown: "crate `host/`: `run`, small",
+            fresh: |c| Box::new(host::Run::new(c)),
             only: trips,
         },
     ]
@@ -232,8 +281,8 @@ struct Found {
     instructions: Option<f64>,
 }
 
-/// The table: every measure on every engine.
-pub(crate) fn table(costs: Costs) {
+/// The table: the measures on every engine.
+pub(crate) fn table(costs: Costs, only: impl Fn(usize) -> bool) {
     let engines = engines();
     if engines.is_empty() {
         return;
@@ -242,15 +291,94 @@ pub(crate) fn table(costs: Costs) {
     if !counted {
         println!("skipped: instructions are not counted (valgrind is not installed)\n");
     }
-    println!("| measure | engine | median ns | least ns | instructions | ratio of medians | of leasts | of instructions |");
+    println!("| measure | function | median ns | least ns | instructions | medians | leasts | instructions |");
     println!("|---|---|---:|---:|---:|---:|---:|---:|");
-    for (name, measure) in MEASURES {
+    for (_, (name, measure)) in MEASURES.into_iter().enumerate().filter(|(i, _)| only(*i)) {
         let these: Vec<_> = engines.iter().filter(|e| (e.only)(measure)).collect();
         let found = timed(costs, measure, &these, counted);
         for (e, f) in these.iter().zip(&found) {
-            println!("| {name} | {} |{}", e.name, line(f, &found[0]));
+            println!("| {name} | {} |{}", e.shown, line(f, &found[0]));
         }
     }
+}
+
+// ---- goals
+
+/// What was to be reached beside the original, with one frame of 4 registers
+/// and with four of 64 in all.
+const GOALS: [(&str, &str, [f64; 2]); 4] = [
+    ("hot", "single calls, the benchmark's host", [0.85, 0.95]),
+    ("crate", "single calls, the crate `host/`", [0.85, 0.95]),
+    ("batch", "a batch, the benchmark's host", [0.70, 0.88]),
+    ("crate-run", "a batch, the crate `host/`", [0.70, 0.88]),
+];
+
+/// The engines of the goals beside the original, a line each: the engine, then
+/// the ratios of leasts and of medians, with one frame and with four.
+pub(crate) fn ratios(costs: Costs) -> Result<(), String> {
+    let engines = engines();
+    let these: Vec<_> = engines
+        .iter()
+        .filter(|e| e.name == "original" || GOALS.iter().any(|g| g.0 == e.name))
+        .collect();
+    if these.first().is_none_or(|e| e.name != "original") {
+        return Err("the original is not linked".to_owned());
+    }
+    let found = [Trip(0, 1), Trip(1, 4)].map(|m| timed(costs, m, &these, false));
+    for (i, e) in these.iter().enumerate().skip(1) {
+        let of = |f: &Vec<Found>| (f[i].least / f[0].least, f[i].median / f[0].median);
+        let (one, four) = (of(&found[0]), of(&found[1]));
+        println!("{}\t{}\t{}\t{}\t{}", e.name, one.0, four.0, one.1, four.1);
+    }
+    Ok(())
+}
+
+/// The goals, by so many processes: where the code and the words lie differs
+/// from one to the next.
+pub(crate) fn goals(processes: usize) -> Result<(), String> {
+    let this = std::env::current_exe().map_err(|e| e.to_string())?;
+    let mut lines = String::new();
+    for _ in 0..processes {
+        let ran = Command::new(&this).arg("ratios").output().map_err(|e| e.to_string())?;
+        if !ran.status.success() {
+            return Err(String::from_utf8_lossy(&ran.stderr).into_owned());
+        }
+        lines += &String::from_utf8_lossy(&ran.stdout);
+    }
+    let rows: Vec<Vec<&str>> = lines.lines().map(|l| l.split('\t').collect()).collect();
+    if let (true, [Some(one), Some(four)]) =
+        (callgrind(), [0, 1].map(|i| instructions(i, "original")))
+    {
+        println!("The original so compiled takes {one:.0} / {four:.0} instructions.\n");
+    }
+    println!("| 1 frame of 4 registers / 4 frames of 64 | at most | leasts | medians | |");
+    println!("|---|---|---|---|---|");
+    for (engine, shown, most) in GOALS {
+        let of = |column: usize| -> Vec<f64> {
+            let mine = rows.iter().filter(|r| r[0] == engine);
+            let mut all: Vec<f64> = mine.filter_map(|r| r.get(column)?.parse().ok()).collect();
+            all.sort_by(f64::total_cmp);
+            all
+        };
+        let found = [1, 2, 3, 4].map(of);
+        if found[0].is_empty() {
+            continue;
+        }
+        let told = |all: &Vec<f64>| {
+            let (middle, last) = (all[all.len() / 2], all[all.len() - 1]);
+            format!("{middle:.2} ({:.2} to {last:.2})", all[0])
+        };
+        let met = |i: usize| (found[i][found[i].len() / 2] * 100.0).round() / 100.0 <= most[i];
+        let word = match [met(0), met(1)] {
+            [true, true] => "met",
+            [true, false] => "missed with four frames",
+            [false, true] => "missed with one frame",
+            [false, false] => "missed",
+        };
+        let [a, b, c, d] = found.each_ref().map(told);
+        println!("| {shown} | {:.2} / {:.2} | {a} / {b} | {c} / {d} | {word} |", most[0], most[1]);
+    }
+    Ok(())
 }
 
 fn line(f: &Found, first: &Found) -> String {
@@ -258,6 +386,9 @@ fn line(f: &Found, first: &Found) -> String {
     let counts = f.instructions.zip(first.instructions);
     let of_counts = counts.map_or("-".to_owned(), |(a, b)| format!("{:.2}", a / b));
     let (medians, leasts) = (f.median / first.median, f.least / first.least);
+    if std::ptr::eq(f, first) {
+        return format!(" {:.1} | {:.1} | {count} | | | |", f.median, f.least);
+    }
     format!(
         " {:.1} | {:.1} | {count} | {medians:.2} | {leasts:.2} | {of_counts} |",
         f.median, f.least
@@ -376,8 +507,8 @@ pub(crate) fn growth(costs: Costs, file: &str) -> Result<(), String> {
     let regs = [(0, 1), (1, 1), (3, 1), (4, 1), (4, 2), (4, 4)];
     let moved = |func: u32, n: usize| n * (REGS[func as usize] + 6);
     let (frames, regs) = (over(&frames, moved), over(&regs, moved));
-    let mut names: Vec<&str> = these.iter().map(|e| e.name).collect();
-    names.push("copy");
+    let mut names: Vec<&str> = these.iter().map(|e| e.shown).collect();
+    names.push("a plain copy");
     let text = plot::svg(&names, &frames, &regs);
     std::fs::write(file, text).map_err(|e| format!("{file}: {e}"))?;
     for (what, rows) in

@@ -24,8 +24,9 @@ pub(crate) fn svg(names: &[&str], frames: &[Row], regs: &[Row]) -> String {
     );
     out += &part(names, frames, "frames of 4 registers", LEFT, low, high);
     out += &part(names, regs, "registers, up to 255 in a frame", 2.0 * LEFT + WIDE, low, high);
+    let mut x = LEFT;
     for (i, name) in names.iter().enumerate() {
-        let (x, y) = (LEFT + 110.0 * i as f64, TOP + HIGH + 55.0);
+        let (name, y) = (name.replace('`', ""), TOP + HIGH + 55.0);
         let colour = COLOURS[(i + COLOURS.len() - names.len()) % COLOURS.len()];
         out += &format!(
             "<line x1=\"{x}\" y1=\"{y}\" x2=\"{}\" y2=\"{y}\" stroke=\"{colour}\" stroke-width=\"2\"/>\
@@ -34,6 +35,7 @@ pub(crate) fn svg(names: &[&str], frames: &[Row], regs: &[Row]) -> String {
             x + 23.0,
             y + 4.0
         );
+        x += 50.0 + 6.5 * name.len() as f64;
     }
     out + "</svg>\n"
 }

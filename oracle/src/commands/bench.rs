@@ -12,8 +12,9 @@ pub(crate) fn costs() -> Result<Costs, String> {
     Ok(costs)
 }
 
-pub(crate) fn bench() -> Result<(), String> {
-    crate::bench::table(costs()?);
+/// Of these measures, or of all.
+pub(crate) fn bench(only: &[&str]) -> Result<(), String> {
+    crate::bench::table(costs()?, |i| only.is_empty() || only.contains(&i.to_string().as_str()));
     #[cfg(not(library))]
     println!("\nskipped: the library is not linked (BVM_LIB is unset)");
     Ok(())

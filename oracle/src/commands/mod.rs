@@ -36,7 +36,8 @@ const USAGE: &str = "usage: oracle COMMAND
   antt SEED N DIR   N random sequences as theorems about the definitions
   antt-recorded FROM TO DIR   recorded sequences as theorems
   antt-damaged SEED N DIR     states at each rule's edge as theorems, and damaged ones, each rule broken up to N times
-  bench             the original's speed, the library's beside it, and others'
+  bench [MEASURE].. the original's speed, the library's beside it, and others', of these measures by number
+  goals N           the benchmark's goals by N processes, each of which is `ratios`
   growth FILE       how a round trip grows with frames and registers, as a plot
   instructions      the library's instructions of each measure, by callgrind
   count ENGINE I N  N operations of measure I, for callgrind";
@@ -80,7 +81,9 @@ pub(crate) fn run(args: &[&str]) -> Result<(), String> {
         ["antt-damaged", seed, n, dir] => {
             antt::damaged(COSTS, number(seed)?, number(n)?, Path::new(dir))
         }
-        ["bench"] => bench::bench(),
+        ["bench", ref only @ ..] => bench::bench(only),
+        ["goals", n] => crate::bench::goals(number(n)? as usize),
+        ["ratios"] => crate::bench::ratios(bench::costs()?),
         ["growth", file] => crate::bench::growth(bench::costs()?, file),
         ["instructions"] => crate::bench::recorded(),
         ["count", engine, i, n] => {

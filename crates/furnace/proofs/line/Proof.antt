@@ -59,9 +59,6 @@ same-length-8 c = played c .play .kept .1 .1 .1 .1 .1 .1 .1 .0 ∙ began (played
 same-length-9 : tie.Need-same-length-9
 same-length-9 c = began (played c) .set-up .kept .1 .1 .1 .1 .1 .1 .1 .1 .0
 
-same-length-10 : tie.Need-same-length-10
-same-length-10 c = search needs
-
 returns : tie.Need-returns
 returns c =
     let end = played c in
@@ -88,5 +85,5 @@ line-spec =
     same-length-7
     same-length-8
     same-length-9
-    same-length-10
+    (λ c. search needs)
     returns)

@@ -4,19 +4,10 @@ use borrow.Author.Needs.{needs}
 use Rattle.added.proofs.call.function_call.Statement.{statement}
 use Rattle.added.proofs.call.function_call.Tie as tie
 
-push-at-requires : tie.Need-push-at-requires
-push-at-requires c κs = search needs
-
-pushed-as-requires : tie.Need-pushed-as-requires
-pushed-as-requires c κs = search needs
-
-same-length : tie.Need-same-length
-same-length c = search needs
-
 returns : tie.Need-returns
 returns c =
     let at-push-at = c .before .before .before .before in let start = at-push-at .before .before .before .before .before in
     λ w b rep snd. function-called (start .args .l) _ _ (b .fuel) w _ _ (start .args .pc) (start .args .f) (start .args .cont) (c .pushed-as .ensures) (at-push-at .push-at .ensures w b rep snd)
 
 pub function-call-spec : {M : Type 1} → statement M
-function-call-spec = tie.close (tie.spec push-at-requires pushed-as-requires same-length returns)
+function-call-spec = tie.close (tie.spec (λ c κs. search needs) (λ c κs. search needs) (λ c. search needs) returns)

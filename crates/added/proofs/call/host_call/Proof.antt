@@ -4,19 +4,10 @@ use borrow.Author.Needs.{needs}
 use Rattle.added.proofs.call.host_call.Statement.{statement}
 use Rattle.added.proofs.call.host_call.Tie as tie
 
-push-frame-requires : tie.Need-push-frame-requires
-push-frame-requires c κs = search needs
-
-pushed-as-requires : tie.Need-pushed-as-requires
-pushed-as-requires c κs = search needs
-
-same-length : tie.Need-same-length
-same-length c = search needs
-
 returns : tie.Need-returns
 returns c =
     let at-push-frame = c .before .before .before .before in let start = at-push-frame .before .before .before .before .before in
     λ w b rep snd. host-called (start .args .l) _ _ (b .fuel) w _ _ (start .args .f) (c .pushed-as .ensures) (at-push-frame .push-frame .ensures w b rep snd)
 
 pub host-call-spec : {M : Type 1} → statement M
-host-call-spec = tie.close (tie.spec push-frame-requires pushed-as-requires same-length returns)
+host-call-spec = tie.close (tie.spec (λ c κs. search needs) (λ c κs. search needs) (λ c. search needs) returns)

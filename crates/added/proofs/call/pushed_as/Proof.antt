@@ -5,12 +5,6 @@ use borrow.Author.Needs.{needs}
 use Rattle.added.proofs.call.pushed_as.Statement.{statement}
 use Rattle.added.proofs.call.pushed_as.Tie as tie
 
-enum-told : tie.Need-enum-told
-enum-told c = search needs
-
-enum-known-a : tie.Need-enum-known-a
-enum-known-a c = search needs
-
 returns : tie.Need-returns
 returns c = λ w u. sym (ap (λ x. pushedOr w u x .answer) (c .enum-told .given .1))
 
@@ -18,4 +12,4 @@ returns-2 : tie.Need-returns-2
 returns-2 c = λ w u. sym (ap (λ x. pushedOr w u x .answer) (c .before .a .given .1))
 
 pub pushed-as-spec : {M : Type 1} → statement M
-pushed-as-spec = tie.close (tie.spec enum-told enum-known-a returns returns-2)
+pushed-as-spec = tie.close (tie.spec (λ c. search needs) (λ c. search needs) returns returns-2)

@@ -4,16 +4,10 @@ use borrow.Author.Needs.{needs}
 use Rattle.added.proofs.call.put_word.Statement.{statement}
 use Rattle.added.proofs.call.put_word.Tie as tie
 
-put-requires : tie.Need-put-requires
-put-requires c κs = search needs
-
-same-length : tie.Need-same-length
-same-length c = search needs
-
 returns : tie.Need-returns
 returns c =
     let at-put = c .before .before in let start = at-put .before .before .before .before in
     λ l w b rep. word-put l _ _ (b .fuel) w (start .args .r) (start .args .v) (at-put .put .ensures l w b rep)
 
 pub put-word-spec : {M : Type 1} → statement M
-put-word-spec = tie.close (tie.spec put-requires same-length returns)
+put-word-spec = tie.close (tie.spec (λ c κs. search needs) (λ c. search needs) returns)

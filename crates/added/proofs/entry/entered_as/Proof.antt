@@ -5,15 +5,6 @@ use borrow.Author.Needs.{needs}
 use Rattle.added.proofs.entry.entered_as.Statement.{statement}
 use Rattle.added.proofs.entry.entered_as.Tie as tie
 
-enum-told : tie.Need-enum-told
-enum-told c = search needs
-
-enum-told-2 : tie.Need-enum-told-2
-enum-told-2 c = search needs
-
-enum-known-a : tie.Need-enum-known-a
-enum-known-a c = search needs
-
 returns : tie.Need-returns
 returns c = λ v w. sym (ap (λ x. hostArrive v w x .answer) (c .enum-told .given .1))
 
@@ -25,4 +16,4 @@ returns-3 c = λ v w. sym (ap (λ x. hostArrive v w x .answer) (c .before .a .gi
 
 pub entered-as-spec : {M : Type 1} → statement M
 entered-as-spec =
-    tie.close (tie.spec enum-told enum-told-2 enum-known-a returns returns-2 returns-3)
+    tie.close (tie.spec (λ c. search needs) (λ c. search needs) (λ c. search needs) returns returns-2 returns-3)

@@ -15,35 +15,11 @@ coro-enter-of c = c .before .before .before .before .before .before .before .bef
 abbrev start-of : tie.After-coro-enter → tie.Start
 start-of c = c .before .before .before .before .before .before .before .before .before .before .before .before .before
 
-coro-enter-requires : tie.Need-coro-enter-requires
-coro-enter-requires c κs = search needs
-
 arrive-requires : tie.Need-arrive-requires
 arrive-requires c κs =
     let at-coro-enter = coro-enter-of c in let start = start-of at-coro-enter in let o = start .pre in
     arrive-fits (start .args .l) _ (at-coro-enter .coro-enter .result .machine) _ (start .args .c) Driver.Host (o .world) (at-coro-enter .coro-enter .result .answer) (o .sound)
     (at-coro-enter .coro-enter .ensures (o .world) (o .beside) (o .rep) (o .sound))
-
-entered-as-requires : tie.Need-entered-as-requires
-entered-as-requires c κs = search needs
-
-same-length : tie.Need-same-length
-same-length c = search needs
-
-same-length-2 : tie.Need-same-length-2
-same-length-2 c = search needs
-
-same-length-3 : tie.Need-same-length-3
-same-length-3 c = search needs
-
-same-length-4 : tie.Need-same-length-4
-same-length-4 c = search needs
-
-same-length-5 : tie.Need-same-length-5
-same-length-5 c = search needs
-
-same-length-6 : tie.Need-same-length-6
-same-length-6 c = search needs
 
 returns : tie.Need-returns
 returns c =
@@ -59,13 +35,13 @@ pub host-entry-spec : {M : Type 1} → statement M
 host-entry-spec =
     tie.close
     (tie.spec
-    coro-enter-requires
+    (λ c κs. search needs)
     arrive-requires
-    entered-as-requires
-    same-length
-    same-length-2
-    same-length-3
-    same-length-4
-    same-length-5
-    same-length-6
+    (λ c κs. search needs)
+    (λ c. search needs)
+    (λ c. search needs)
+    (λ c. search needs)
+    (λ c. search needs)
+    (λ c. search needs)
+    (λ c. search needs)
     returns)

@@ -8,22 +8,10 @@ use borrow.Author.Needs.{needs}
 use Rattle.added.proofs.fuel.grant.Statement.{statement}
 use Rattle.added.proofs.fuel.grant.Tie as tie
 
-reserve-requires : tie.Need-reserve-requires
-reserve-requires c κs = search needs
-
-sub-if1 : tie.Need-sub-if1
-sub-if1 c = search needs
-
 returns : tie.Need-returns
 returns c =
     let at-reserve = c .before in let start = at-reserve .before in let h = c .if1 .taken in
     λ l w b rep. too-large l (b .words) (start .args .m) (start .args .f) w rep (start .args .n) (subst (λ k. 2 ^ 64 ≤ k + start .args .n) (at-reserve .reserve .ensures) (omega arith))
-
-add-sum : tie.Need-add-sum
-add-sum c = search needs
-
-refuel-requires : tie.Need-refuel-requires
-refuel-requires c κs = search needs
 
 returns-2 : tie.Need-returns-2
 returns-2 c =
@@ -34,4 +22,4 @@ returns-2 c =
 
 pub grant-spec : {M : Type 1} → statement M
 grant-spec =
-    tie.close (tie.spec reserve-requires sub-if1 returns add-sum refuel-requires returns-2)
+    tie.close (tie.spec (λ c κs. search needs) (λ c. search needs) returns (λ c. search needs) (λ c κs. search needs) returns-2)

@@ -6,12 +6,6 @@ use borrow.Author.Needs.{needs}
 use Rattle.added.proofs.fuel.refuel.Statement.{statement}
 use Rattle.added.proofs.fuel.refuel.Tie as tie
 
-enum-told : tie.Need-enum-told
-enum-told c = search needs
-
-enum-told-2 : tie.Need-enum-told-2
-enum-told-2 c = search needs
-
 returns : tie.Need-returns
 returns c =
     let start = c .before .before in
@@ -23,4 +17,4 @@ returns-2 c =
     sym (ap (λ b. refuel b (start .args .n) (start .args .f)) (c .enum-told2 .given .1))
 
 pub refuel-spec : {M : Type 1} → statement M
-refuel-spec = tie.close (tie.spec enum-told enum-told-2 returns returns-2)
+refuel-spec = tie.close (tie.spec (λ c. search needs) (λ c. search needs) returns returns-2)

@@ -5,12 +5,6 @@ use borrow.Author.Needs.{needs}
 use Rattle.added.proofs.iterator.made_as.Statement.{statement}
 use Rattle.added.proofs.iterator.made_as.Tie as tie
 
-enum-known-a : tie.Need-enum-known-a
-enum-known-a c = search needs
-
-enum-known-a-2 : tie.Need-enum-known-a-2
-enum-known-a-2 c = search needs
-
 returns : tie.Need-returns
 returns c = λ w. sym (ap (λ x. answerMade w x .answer) (c .before .a .given .1))
 
@@ -18,4 +12,4 @@ returns-2 : tie.Need-returns-2
 returns-2 c = λ w. sym (ap (λ x. answerMade w x .answer) (c .before .a2 .given .1))
 
 pub made-as-spec : {M : Type 1} → statement M
-made-as-spec = tie.close (tie.spec enum-known-a enum-known-a-2 returns returns-2)
+made-as-spec = tie.close (tie.spec (λ c. search needs) (λ c. search needs) returns returns-2)

@@ -9,33 +9,15 @@ use borrow.Author.Needs.{needs}
 use Rattle.added.proofs.iterator.make_iterator.Statement.{statement}
 use Rattle.added.proofs.iterator.make_iterator.Tie as tie
 
-coro-state-requires : tie.Need-coro-state-requires
-coro-state-requires c κs = search needs
-
-enum-known-f : tie.Need-enum-known-f
-enum-known-f c = search needs
-
-enum-told : tie.Need-enum-told
-enum-told c = search needs
-
 alloc-plain-requires : tie.Need-alloc-plain-requires
 alloc-plain-requires c κs =
     let start = c .before .before .before .before .before .before .before in
     heap-room (start .pre .rep) (start .pre .sound) (start .pre .room)
 
-made-as-requires : tie.Need-made-as-requires
-made-as-requires c κs = search needs
-
-same-length : tie.Need-same-length
-same-length c = search needs
-
 returns : tie.Need-returns
 returns c =
     let at-f = c .before in let at-coro-state = at-f .before .before in let start = at-coro-state .before .before .before in
     λ w b rep snd. not-over (start .args .l) _ (start .args .m) (b .fuel) w (start .args .v) _ (sym (at-f .f .given .1) ∙ at-coro-state .coro-state .ensures (start .args .l) w b rep) rep
-
-same-length-2 : tie.Need-same-length-2
-same-length-2 c = search needs
 
 returns-2 : tie.Need-returns-2
 returns-2 c =
@@ -49,12 +31,12 @@ pub make-iterator-spec : {M : Type 1} → statement M
 make-iterator-spec =
     tie.close
     (tie.spec
-    coro-state-requires
-    enum-known-f
-    enum-told
+    (λ c κs. search needs)
+    (λ c. search needs)
+    (λ c. search needs)
     alloc-plain-requires
-    made-as-requires
-    same-length
+    (λ c κs. search needs)
+    (λ c. search needs)
     returns
-    same-length-2
+    (λ c. search needs)
     returns-2)

@@ -18,12 +18,6 @@ returns c =
       part = none-seen l w M (start .args .m) (b .fuel) rep (c .if1 .taken);
     }
 
-sub-base-at : tie.Need-sub-base-at
-sub-base-at c = search needs
-
-base-at-requires : tie.Need-base-at-requires
-base-at-requires c κs = search needs
-
 returns-2 : tie.Need-returns-2
 returns-2 c =
     let at-if1 = c .before .before in let start = at-if1 .before .before .before in let h = at-if1 .if1 .left in
@@ -38,4 +32,4 @@ returns-2 c =
 pub look-spec : {M : Type 1} → statement M
 look-spec =
     tie.close
-    (tie.spec returns sub-base-at base-at-requires returns-2)
+    (tie.spec returns (λ c. search needs) (λ c κs. search needs) returns-2)

@@ -4,16 +4,10 @@ use borrow.Author.Needs.{needs}
 use Rattle.added.proofs.outcome.take_outcome.Statement.{statement}
 use Rattle.added.proofs.outcome.take_outcome.Tie as tie
 
-outcome-in-requires : tie.Need-outcome-in-requires
-outcome-in-requires c κs = search needs
-
-untold-requires : tie.Need-untold-requires
-untold-requires c κs = search needs
-
 returns : tie.Need-returns
 returns c =
     let at-outcome-in = c .before in let start = at-outcome-in .before .before in
     λ l w b rep. taken l (b .words) (start .args .m) _ (b .fuel) w _ rep (c .untold .ensures) (at-outcome-in .outcome-in .ensures)
 
 pub take-outcome-spec : {M : Type 1} → statement M
-take-outcome-spec = tie.close (tie.spec outcome-in-requires untold-requires returns)
+take-outcome-spec = tie.close (tie.spec (λ c κs. search needs) (λ c κs. search needs) returns)

@@ -39,27 +39,6 @@ cut-requires c κs =
     let at-abort-coros = c .before .before .before .before .before .before .before .before .before .before .before .before .before .before .before in
     let h = aborted at-abort-coros .stack .within in (omega arith, h)
 
-emptied-requires : tie.Need-emptied-requires
-emptied-requires c κs = search needs
-
-same-length : tie.Need-same-length
-same-length c = search needs
-
-same-length-2 : tie.Need-same-length-2
-same-length-2 c = search needs
-
-same-length-3 : tie.Need-same-length-3
-same-length-3 c = search needs
-
-same-length-4 : tie.Need-same-length-4
-same-length-4 c = search needs
-
-same-length-5 : tie.Need-same-length-5
-same-length-5 c = search needs
-
-same-length-6 : tie.Need-same-length-6
-same-length-6 c = search needs
-
 returns : tie.Need-returns
 returns c =
     let at-cut = c .before .before .before in let at-clear-frames = at-cut .before .before .before .before in
@@ -75,11 +54,11 @@ stop-run-spec =
     abort-coros-requires
     clear-frames-requires
     cut-requires
-    emptied-requires
-    same-length
-    same-length-2
-    same-length-3
-    same-length-4
-    same-length-5
-    same-length-6
+    (λ c κs. search needs)
+    (λ c. search needs)
+    (λ c. search needs)
+    (λ c. search needs)
+    (λ c. search needs)
+    (λ c. search needs)
+    (λ c. search needs)
     returns)

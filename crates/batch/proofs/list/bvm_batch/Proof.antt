@@ -34,18 +34,12 @@ room c =
 abbrev list-of : tie.After-slice-known23 → tie.After-do-list
 list-of c = c .before .before .before .before .before .before .before .before .before .before .before .before .before .before .before .before .before .before .before .before .before .before
 
-count-requires : tie.Need-count-requires
-count-requires c κs = search needs
-
 returns : tie.Need-returns
 returns c =
     let at-count = c .before in
     let start = start-of at-count in
     let a = start .args in
     run-short (of start) (a .calls .now) (a .answers .now) (at-count .count .result) (at-count .count .ensures) (c .if1 .taken)
-
-bvm-sound-requires : tie.Need-bvm-sound-requires
-bvm-sound-requires c κs = search needs
 
 refuse-list-requires : tie.Need-refuse-list-requires
 refuse-list-requires c κs =
@@ -155,9 +149,9 @@ pub bvm-batch-spec : {M : Type 1} → statement M
 bvm-batch-spec =
     tie.close
     (tie.spec
-    count-requires
+    (λ c κs. search needs)
     returns
-    bvm-sound-requires
+    (λ c κs. search needs)
     refuse-list-requires
     same-length
     same-length-2

@@ -21,27 +21,6 @@ of c = host (mem c) (c .args .machine .now) (c .args .fuel .now)
 abbrev kept-of : tie.After-slice-known22 → tie.After-bvm-kept
 kept-of c = c .before .before .before .before .before .before .before .before .before .before .before .before .before .before .before .before .before .before .before .before .before .before
 
-mul-at : tie.Need-mul-at
-mul-at c = search needs
-
-add-end : tie.Need-add-end
-add-end c = search needs
-
-slice-aggregate-bvm-kept : tie.Need-slice-aggregate-bvm-kept
-slice-aggregate-bvm-kept c = search needs
-
-mul-bvm-kept : tie.Need-mul-bvm-kept
-mul-bvm-kept c = search needs
-
-sub-bvm-kept : tie.Need-sub-bvm-kept
-sub-bvm-kept c = search needs
-
-part-bvm-kept-start : tie.Need-part-bvm-kept-start
-part-bvm-kept-start c = search needs
-
-part-bvm-kept-end : tie.Need-part-bvm-kept-end
-part-bvm-kept-end c = search needs
-
 bvm-kept-requires : tie.Need-bvm-kept-requires
 bvm-kept-requires c κs =
     let start = c .before .before .before .before .before .before .before .before .before .before .before .before .before .before .before .before .before .before .before .before .before .before .before .before in
@@ -77,9 +56,6 @@ same-length-9 c = kept-of c .bvm-kept .kept .1 .1 .1 .1 .1 .1 .1 .1 .1 .0
 same-length-10 : tie.Need-same-length-10
 same-length-10 c = kept-of c .bvm-kept .kept .1 .1 .1 .1 .1 .1 .1 .1 .1 .1 .0
 
-same-length-11 : tie.Need-same-length-11
-same-length-11 c = search needs
-
 returns : tie.Need-returns
 returns c =
     let at-kept = kept-of c in
@@ -93,13 +69,13 @@ pub general-at-spec : {M : Type 1} → statement M
 general-at-spec =
     tie.close
     (tie.spec
-    mul-at
-    add-end
-    slice-aggregate-bvm-kept
-    mul-bvm-kept
-    sub-bvm-kept
-    part-bvm-kept-start
-    part-bvm-kept-end
+    (λ c. search needs)
+    (λ c. search needs)
+    (λ c. search needs)
+    (λ c. search needs)
+    (λ c. search needs)
+    (λ c. search needs)
+    (λ c. search needs)
     bvm-kept-requires
     same-length
     same-length-2
@@ -111,5 +87,5 @@ general-at-spec =
     same-length-8
     same-length-9
     same-length-10
-    same-length-11
+    (λ c. search needs)
     returns)

@@ -8,29 +8,8 @@ use borrow.Author.Needs.{needs}
 use Rattle.batch.proofs.one.goes_on_at.Statement.{statement}
 use Rattle.batch.proofs.one.goes_on_at.Tie as tie
 
-mul-from : tie.Need-mul-from
-mul-from c = search needs
-
-add-to : tie.Need-add-to
-add-to c = search needs
-
-mul-goes-on : tie.Need-mul-goes-on
-mul-goes-on c = search needs
-
-sub-goes-on : tie.Need-sub-goes-on
-sub-goes-on c = search needs
-
-part-goes-on-start : tie.Need-part-goes-on-start
-part-goes-on-start c = search needs
-
-part-goes-on-end : tie.Need-part-goes-on-end
-part-goes-on-end c = search needs
-
 goes-on-requires : tie.Need-goes-on-requires
 goes-on-requires c κs = let start = c .before .before in part-long (start .args .answers .now) (start .args .i * 8) (start .pre)
-
-same-length : tie.Need-same-length
-same-length c = search needs
 
 returns : tie.Need-returns
 returns c =
@@ -42,12 +21,12 @@ pub goes-on-at-spec : {M : Type 1} → statement M
 goes-on-at-spec =
     tie.close
     (tie.spec
-    mul-from
-    add-to
-    mul-goes-on
-    sub-goes-on
-    part-goes-on-start
-    part-goes-on-end
+    (λ c. search needs)
+    (λ c. search needs)
+    (λ c. search needs)
+    (λ c. search needs)
+    (λ c. search needs)
+    (λ c. search needs)
     goes-on-requires
-    same-length
+    (λ c. search needs)
     returns)

@@ -35,12 +35,6 @@ general-of c = c .before .before .before .before .before .before .before .before
 full : (c : tie.Else1) → let a = start-of c .args in a .i * 6 + 6 ≤ length (a .calls .now)
 full c = let h = start-of c .pre .call in let k = c .if1 .left in omega (arith, h, k)
 
-mul-if1 : tie.Need-mul-if1
-mul-if1 c = search needs
-
-sub-if1 : tie.Need-sub-if1
-sub-if1 c = search needs
-
 put-at-requires : tie.Need-put-at-requires
 put-at-requires c κs =
     let start = c .before .before .before .before .before .before .before .before .before .before .before .before .before .before .before in
@@ -88,12 +82,6 @@ word-requires-6 c κs =
     let at-if1 = c .before .before .before .before .before in
     (full at-if1, omega arith)
 
-way-of-requires : tie.Need-way-of-requires
-way-of-requires c = search needs
-
-enum-told : tie.Need-enum-told
-enum-told c = search needs
-
 resume-call-requires : tie.Need-resume-call-requires
 resume-call-requires c κs =
     let at-enum-told = c .before .before .before .before .before .before .before .before .before .before .before in
@@ -101,18 +89,12 @@ resume-call-requires c κs =
     let start = at-way-of .before .before .before .before .before .before .before .before .before .before .before .before .before .before .before .before .before .before .before .before .before in
     record { put = start .pre .put; narrow = at-way-of .way-of .ensures .resume (at-enum-told .enum-told .given .1) .1 }
 
-enum-told-2 : tie.Need-enum-told-2
-enum-told-2 c = search needs
-
 yield-call-requires : tie.Need-yield-call-requires
 yield-call-requires c κs =
     let at-enum-told2 = c .before .before .before .before .before .before .before .before .before .before .before in
     let at-way-of = at-enum-told2 .before .before in
     let start = at-way-of .before .before .before .before .before .before .before .before .before .before .before .before .before .before .before .before .before .before .before .before .before in
     record { put = start .pre .put; narrow = at-way-of .way-of .ensures .yield (at-enum-told2 .enum-told2 .given .1) .1 }
-
-enum-told-3 : tie.Need-enum-told-3
-enum-told-3 c = search needs
 
 general-at-requires : tie.Need-general-at-requires
 general-at-requires c κs =
@@ -273,8 +255,8 @@ pub one-spec : {M : Type 1} → statement M
 one-spec =
     tie.close
     (tie.spec
-    mul-if1
-    sub-if1
+    (λ c. search needs)
+    (λ c. search needs)
     put-at-requires
     same-length
     returns
@@ -284,12 +266,12 @@ one-spec =
     word-requires-4
     word-requires-5
     word-requires-6
-    way-of-requires
-    enum-told
+    (λ c. search needs)
+    (λ c. search needs)
     resume-call-requires
-    enum-told-2
+    (λ c. search needs)
     yield-call-requires
-    enum-told-3
+    (λ c. search needs)
     general-at-requires
     same-length-2
     same-length-3

@@ -39,9 +39,6 @@ may-enter-requires c κs =
     let start = c .before .before .before .before .before .before .before .before .before .before .before .before .before .before .before .before .before in
     enters-fit (of start) (start .pre .put .sound)
 
-enum-known-k : tie.Need-enum-known-k
-enum-known-k c = search needs
-
 resume-at-requires : tie.Need-resume-at-requires
 resume-at-requires c κs =
     let at-k = c .before .before .before .before .before .before .before .before .before in
@@ -55,9 +52,6 @@ goes-on-at-requires c κs =
     let at-may-enter = at-resume-at .before .before .before .before .before .before .before .before .before .before .before .before in
     let start = at-may-enter .before .before .before .before .before .before .before .before .before .before .before .before .before .before .before .before .before .before in
     start .pre .put .room
-
-enum-told : tie.Need-enum-told
-enum-told c = search needs
 
 general-at-requires : tie.Need-general-at-requires
 general-at-requires c κs =
@@ -158,10 +152,10 @@ resume-call-spec =
     (tie.spec
     slice-read-may-enter
     may-enter-requires
-    enum-known-k
+    (λ c. search needs)
     resume-at-requires
     goes-on-at-requires
-    enum-told
+    (λ c. search needs)
     general-at-requires
     same-length
     same-length-2

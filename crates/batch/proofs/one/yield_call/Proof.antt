@@ -39,9 +39,6 @@ may-leave-requires c κs =
     let start = c .before .before .before .before .before .before .before .before .before .before .before .before .before .before .before .before .before in
     leaves-fit (of start) (start .pre .put .sound)
 
-enum-known-k : tie.Need-enum-known-k
-enum-known-k c = search needs
-
 yield-at-requires : tie.Need-yield-at-requires
 yield-at-requires c κs =
     let at-k = c .before .before .before .before .before .before .before .before .before in
@@ -55,9 +52,6 @@ goes-on-at-requires c κs =
     let at-may-leave = at-yield-at .before .before .before .before .before .before .before .before .before .before .before .before in
     let start = at-may-leave .before .before .before .before .before .before .before .before .before .before .before .before .before .before .before .before .before .before in
     start .pre .put .room
-
-enum-told : tie.Need-enum-told
-enum-told c = search needs
 
 general-at-requires : tie.Need-general-at-requires
 general-at-requires c κs =
@@ -157,10 +151,10 @@ yield-call-spec =
     (tie.spec
     slice-read-may-leave
     may-leave-requires
-    enum-known-k
+    (λ c. search needs)
     yield-at-requires
     goes-on-at-requires
-    enum-told
+    (λ c. search needs)
     general-at-requires
     same-length
     same-length-2

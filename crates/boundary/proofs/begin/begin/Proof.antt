@@ -36,9 +36,6 @@ machine-of-requires c κs = c .before .before .before .before .before .before .b
 fuel-of-requires : tie.Need-fuel-of-requires
 fuel-of-requires c κs = c .before .before .before .before .before .before .before .before .before .before .before .before .before .before .before .before .pre .fuel
 
-set-up-requires : tie.Need-set-up-requires
-set-up-requires c κs = search needs
-
 tell-requires : tie.Need-tell-requires
 tell-requires c κs = start-of (c .before .before .before .before .before .before .before .before .before .before .before .before .before .before .before .before .before .before .before .before .before) .pre .answer
 
@@ -166,7 +163,7 @@ pub begin-spec : {M : Type 1} → statement M
 begin-spec =
     tie.close
     (tie.spec
-    machine-of-requires fuel-of-requires set-up-requires tell-requires same-length same-length-2 same-length-3 same-length-4 same-length-5
+    machine-of-requires fuel-of-requires (λ c κs. search needs) tell-requires same-length same-length-2 same-length-3 same-length-4 same-length-5
     same-length-6 same-length-7 same-length-8 same-length-9 same-length-10 same-length-11 same-length-12 returns sizes-requires put-machine-requires
     put-sizes-requires put-fuel-requires same-length-13 same-length-14 same-length-15 same-length-16 same-length-17 same-length-18 same-length-19
     same-length-20 same-length-21 same-length-22 same-length-23 same-length-24 returns-2)

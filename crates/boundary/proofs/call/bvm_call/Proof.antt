@@ -22,9 +22,6 @@ returns c =
     let a = start .args in
     too-short (of start) (opOf (a .call .now)) (a .answer .now) (gave (of start) (a .answer .now) 14) (c .if1 .taken) refl
 
-tested-requires : tie.Need-tested-requires
-tested-requires c κs = search needs
-
 do-call-requires : tie.Need-do-call-requires
 do-call-requires c κs =
     let test = c .before .before .before .before .before .before .before .before .before .before .before in
@@ -77,4 +74,4 @@ returns-2 c =
     called (of start) (opOf (a .call .now)) (a .answer .now) _ (at-if .if1 .left) (test .tested .result) (test .tested .ensures) (did .do-call .ensures)
 
 pub bvm-call-spec : {M : Type 1} → statement M
-bvm-call-spec = tie.close (tie.spec returns tested-requires do-call-requires same-length same-length-2 same-length-3 same-length-4 same-length-5 same-length-6 same-length-7 same-length-8 same-length-9 same-length-10 same-length-11 returns-2)
+bvm-call-spec = tie.close (tie.spec returns (λ c κs. search needs) do-call-requires same-length same-length-2 same-length-3 same-length-4 same-length-5 same-length-6 same-length-7 same-length-8 same-length-9 same-length-10 same-length-11 returns-2)

@@ -68,9 +68,6 @@ sizes-of-requires c κs = long (c .before .before .before) .0
 fuel-of-requires : tie.Need-fuel-of-requires
 fuel-of-requires c κs = long (c .before .before .before .before .before) .1
 
-op-of-requires : tie.Need-op-of-requires
-op-of-requires c κs = search needs
-
 do-read-requires : tie.Need-do-read-requires
 do-read-requires c κs =
     let at-fuel = c .before .before .before .before .before .before .before .before .before in
@@ -147,6 +144,6 @@ pub do-call-spec : {M : Type 1} → statement M
 do-call-spec =
     tie.close
     (tie.spec
-    tell-requires same-length returns machine-of-requires sizes-of-requires fuel-of-requires op-of-requires do-read-requires put-machine-requires
+    tell-requires same-length returns machine-of-requires sizes-of-requires fuel-of-requires (λ c κs. search needs) do-read-requires put-machine-requires
     put-fuel-requires tell-requires-2 same-length-2 same-length-3 same-length-4 same-length-5 same-length-6 same-length-7 same-length-8 same-length-9
     same-length-10 same-length-11 same-length-12 returns-2)

@@ -17,9 +17,6 @@ of c = host (mem c) (c .args .machine .now) (c .args .fuel .now)
 returns : tie.Need-returns
 returns c = let start = c .before .before .before .before .before .before .before .before .before .before .before .before .before in grant-short (of start) (start .args .amount) (start .args .answer .now) (c .if1 .taken)
 
-tested-requires : tie.Need-tested-requires
-tested-requires c κs = search needs
-
 do-grant-requires : tie.Need-do-grant-requires
 do-grant-requires c κs = record { known = c .before .before .tested .ensures; room = c .before .before .before .before .if1 .left }
 
@@ -33,4 +30,4 @@ returns-2 : tie.Need-returns-2
 returns-2 c = c .before .before .before .before .do-grant .ensures
 
 pub bvm-grant-spec : {M : Type 1} → statement M
-bvm-grant-spec = tie.close (tie.spec returns tested-requires do-grant-requires same-length same-length-2 returns-2)
+bvm-grant-spec = tie.close (tie.spec returns (λ c κs. search needs) do-grant-requires same-length same-length-2 returns-2)

@@ -49,9 +49,6 @@ machine-of-requires c κs = long c .0
 fuel-of-requires : tie.Need-fuel-of-requires
 fuel-of-requires c κs = long (c .before .before) .1
 
-grant-requires : tie.Need-grant-requires
-grant-requires c κs = search needs
-
 put-fuel-requires : tie.Need-put-fuel-requires
 put-fuel-requires c κs = long (c .before .before .before .before .before .before) .1
 
@@ -78,4 +75,4 @@ returns-2 c =
     (did .grant .ensures) _ _ (told .tell2 .result) (told .before .before .before .before .put-fuel .ensures) (told .tell2 .ensures .0) (told .tell2 .ensures .1)
 
 pub do-grant-spec : {M : Type 1} → statement M
-do-grant-spec = tie.close (tie.spec tell-requires same-length returns machine-of-requires fuel-of-requires grant-requires put-fuel-requires tell-requires-2 same-length-2 same-length-3 returns-2)
+do-grant-spec = tie.close (tie.spec tell-requires same-length returns machine-of-requires fuel-of-requires (λ c κs. search needs) put-fuel-requires tell-requires-2 same-length-2 same-length-3 returns-2)

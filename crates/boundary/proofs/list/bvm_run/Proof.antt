@@ -12,9 +12,6 @@ tested-of c = c .before .before .before .before .before .before .before .before 
 abbrev start-of : tie.After-tested → tie.Start
 start-of c = c .before .before .before .before .before .before .before .before .before .before .before .before .before .before .before .before .before .before .before .before .before .before .before .before
 
-tested-requires : tie.Need-tested-requires
-tested-requires c κs = search needs
-
 do-run-requires : tie.Need-do-run-requires
 do-run-requires c κs = c .before .before .before .before .before .before .before .before .before .before .before .tested .ensures
 
@@ -55,4 +52,4 @@ returns : tie.Need-returns
 returns c = do-run-of c .do-run .ensures
 
 pub bvm-run-spec : {M : Type 1} → statement M
-bvm-run-spec = tie.close (tie.spec tested-requires do-run-requires same-length same-length-2 same-length-3 same-length-4 same-length-5 same-length-6 same-length-7 same-length-8 same-length-9 same-length-10 same-length-11 returns)
+bvm-run-spec = tie.close (tie.spec (λ c κs. search needs) do-run-requires same-length same-length-2 same-length-3 same-length-4 same-length-5 same-length-6 same-length-7 same-length-8 same-length-9 same-length-10 same-length-11 returns)

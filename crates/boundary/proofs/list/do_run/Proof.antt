@@ -53,9 +53,6 @@ left-by c = nine (c .run-known .last .1 .0) (c .run-known .last .1 .1 .0) (c .ru
     (c .run-known .last .1 .1 .1 .1 .1 .1 .1 .1 .0)
     (start-of (count-of (else-of c)) .args .setup .now) plain
 
-count-requires : tie.Need-count-requires
-count-requires c κs = search needs
-
 returns : tie.Need-returns
 returns c =
     let at-count = c .before in
@@ -153,6 +150,6 @@ pub do-run-spec : {M : Type 1} → statement M
 do-run-spec =
     tie.close
     (tie.spec
-    count-requires returns refuse-list-requires same-length returns-2 machine-of-requires fuel-of-requires run-known-requires put-machine-requires
+    (λ c κs. search needs) returns refuse-list-requires same-length returns-2 machine-of-requires fuel-of-requires run-known-requires put-machine-requires
     put-fuel-requires same-length-2 same-length-3 same-length-4 same-length-5 same-length-6 same-length-7 same-length-8 same-length-9 same-length-10
     same-length-11 same-length-12 returns-3)

@@ -30,9 +30,6 @@ start-of c = c .before .before .before .before .before .before .before .before .
 returns : tie.Need-returns
 returns c = let start = c .before .before .before .before .before .before .before .before .before .before .before .before .before in look-short (of start) (start .args .span .now) (c .if1 .taken)
 
-tested-requires : tie.Need-tested-requires
-tested-requires c κs = search needs
-
 place-in-requires : tie.Need-place-in-requires
 place-in-requires c κs =
     let start = start-of (c .before) in
@@ -49,18 +46,12 @@ slice-write-span c = let h = c .before .before .if1 .left in omega arith
 slice-write-span-2 : tie.Need-slice-write-span-2
 slice-write-span-2 c = let h = c .before .before .if1 .left in simp length-set (omega arith)
 
-same-length : tie.Need-same-length
-same-length c = search needs
-
 returns-2 : tie.Need-returns-2
 returns-2 c =
     let at = c .before in
     let test = at .before in
     let start = start-of (test .before) in
     looked-at (of start) (start .args .span .now) (test .before .if1 .left) (test .tested .result) (test .tested .ensures) (at .place-in .result) (at .place-in .ensures) (c .if2 .taken)
-
-same-length-2 : tie.Need-same-length-2
-same-length-2 c = search needs
 
 returns-3 : tie.Need-returns-3
 returns-3 c =
@@ -70,4 +61,4 @@ returns-3 c =
     not-looked (of start) (start .args .span .now) (test .before .if1 .left) (test .tested .result) (test .tested .ensures) (at .place-in .result) (at .place-in .ensures) (c .if2 .left)
 
 pub bvm-look-spec : {M : Type 1} → statement M
-bvm-look-spec = tie.close (tie.spec returns tested-requires place-in-requires slice-write-span slice-write-span-2 same-length returns-2 same-length-2 returns-3)
+bvm-look-spec = tie.close (tie.spec returns (λ c κs. search needs) place-in-requires slice-write-span slice-write-span-2 (λ c. search needs) returns-2 (λ c. search needs) returns-3)

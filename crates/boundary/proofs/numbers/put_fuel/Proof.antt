@@ -6,23 +6,11 @@ use borrow.Author.Needs.{needs}
 use Rattle.boundary.proofs.numbers.put_fuel.Statement.{statement}
 use Rattle.boundary.proofs.numbers.put_fuel.Tie as tie
 
-told-bank-requires : tie.Need-told-bank-requires
-told-bank-requires c κs = search needs
-
-slice-write-ws : tie.Need-slice-write-ws
-slice-write-ws c = search needs
-
 slice-write-ws-2 : tie.Need-slice-write-ws-2
 slice-write-ws-2 c = simp length-set (omega arith)
 
 slice-write-ws-3 : tie.Need-slice-write-ws-3
 slice-write-ws-3 c = simp length-set (omega arith)
-
-slice-write-ws-4 : tie.Need-slice-write-ws-4
-slice-write-ws-4 c = search needs
-
-same-length : tie.Need-same-length
-same-length c = search needs
 
 returns : tie.Need-returns
 returns c =
@@ -33,10 +21,10 @@ pub put-fuel-spec : {M : Type 1} → statement M
 put-fuel-spec =
     tie.close
     (tie.spec
-    told-bank-requires
-    slice-write-ws
+    (λ c κs. search needs)
+    (λ c. search needs)
     slice-write-ws-2
     slice-write-ws-3
-    slice-write-ws-4
-    same-length
+    (λ c. search needs)
+    (λ c. search needs)
     returns)

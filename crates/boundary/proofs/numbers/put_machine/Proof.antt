@@ -7,9 +7,6 @@ use borrow.Author.Needs.{needs}
 use Rattle.boundary.proofs.numbers.put_machine.Statement.{statement}
 use Rattle.boundary.proofs.numbers.put_machine.Tie as tie
 
-slice-write-ws : tie.Need-slice-write-ws
-slice-write-ws c = search needs
-
 slice-write-ws-2 : tie.Need-slice-write-ws-2
 slice-write-ws-2 c = simp length-set (omega arith)
 
@@ -24,9 +21,6 @@ slice-write-ws-5 c = simp length-set (omega arith)
 
 slice-write-ws-6 : tie.Need-slice-write-ws-6
 slice-write-ws-6 c = simp length-set (omega arith)
-
-cast-ws : tie.Need-cast-ws
-cast-ws c = search needs
 
 slice-write-ws-7 : tie.Need-slice-write-ws-7
 slice-write-ws-7 c = simp length-set (omega arith)
@@ -61,13 +55,13 @@ pub put-machine-spec : {M : Type 1} → statement M
 put-machine-spec =
     tie.close
     (tie.spec
-    slice-write-ws
+    (λ c. search needs)
     slice-write-ws-2
     slice-write-ws-3
     slice-write-ws-4
     slice-write-ws-5
     slice-write-ws-6
-    cast-ws
+    (λ c. search needs)
     slice-write-ws-7
     slice-write-ws-8
     slice-write-ws-9

@@ -6,18 +6,6 @@ use borrow.Author.Needs.{needs}
 use Rattle.boundary.proofs.numbers.told_bank.Statement.{statement}
 use Rattle.boundary.proofs.numbers.told_bank.Tie as tie
 
-enum-told : tie.Need-enum-told
-enum-told c = search needs
-
-cast-t5 : tie.Need-cast-t5
-cast-t5 c = search needs
-
-enum-known-bank : tie.Need-enum-known-bank
-enum-known-bank c = search needs
-
-cast-t6 : tie.Need-cast-t6
-cast-t6 c = search needs
-
 returns : tie.Need-returns
 returns c = sym (ap (λ b. bankWords b (flag (c .before .before .args .ready))) (c .enum-told .given .1))
 
@@ -25,4 +13,4 @@ returns-2 : tie.Need-returns-2
 returns-2 c = sym (ap (λ b. bankWords b (flag (c .before .before .before .args .ready))) (c .before .bank .given .1))
 
 pub told-bank-spec : {M : Type 1} → statement M
-told-bank-spec = tie.close (tie.spec enum-told cast-t5 enum-known-bank cast-t6 returns returns-2)
+told-bank-spec = tie.close (tie.spec (λ c. search needs) (λ c. search needs) (λ c. search needs) (λ c. search needs) returns returns-2)

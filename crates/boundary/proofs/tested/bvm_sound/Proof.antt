@@ -6,9 +6,6 @@ use borrow.Author.Needs.{needs}
 use Rattle.boundary.proofs.tested.bvm_sound.Statement.{statement}
 use Rattle.boundary.proofs.tested.bvm_sound.Tie as tie
 
-tested-requires : tie.Need-tested-requires
-tested-requires c κs = search needs
-
 returns : tie.Need-returns
 returns c = sym (ap oneOr (sym (c .before .tested .ensures) ∙ c .if1 .taken) ∙ pick-true 1 0)
 
@@ -16,4 +13,4 @@ returns-2 : tie.Need-returns-2
 returns-2 c = sym (ap oneOr (sym (c .before .tested .ensures) ∙ c .if1 .left) ∙ pick-false 1 0)
 
 pub bvm-sound-spec : {M : Type 1} → statement M
-bvm-sound-spec = tie.close (tie.spec tested-requires returns returns-2)
+bvm-sound-spec = tie.close (tie.spec (λ c κs. search needs) returns returns-2)

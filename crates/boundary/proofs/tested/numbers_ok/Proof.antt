@@ -21,9 +21,6 @@ returns-2 c =
     let fs = a .fuel .now in
     sym (rw (le-leb 25 (length ms) (c .before .if1 .left), lt-leb 4 (length fs) (c .if2 .taken)))
 
-shared-slice-read-if3 : tie.Need-shared-slice-read-if3
-shared-slice-read-if3 c = search needs
-
 returns-3 : tie.Need-returns-3
 returns-3 c =
     let at-if2 = c .before .before in
@@ -33,9 +30,6 @@ returns-3 c =
     let ms = a .machine .now in
     let fs = a .fuel .now in
     sym (rw (le-leb 25 (length ms) (at-if1 .if1 .left), le-leb 4 (length fs) (at-if2 .if2 .left), lt-leb (getD ms 6 0) 1 (c .if3 .taken)))
-
-shared-slice-read-if4 : tie.Need-shared-slice-read-if4
-shared-slice-read-if4 c = search needs
 
 returns-4 : tie.Need-returns-4
 returns-4 c =
@@ -47,9 +41,6 @@ returns-4 c =
     let ms = a .machine .now in
     let fs = a .fuel .now in
     sym (rw (le-leb 25 (length ms) (at-if1 .if1 .left), le-leb 4 (length fs) (at-if2 .if2 .left), le-leb (getD ms 6 0) 1 (at-if3 .if3 .left), lt-leb (getD fs 3 0) 1 (c .if4 .taken)))
-
-shared-slice-read-if5 : tie.Need-shared-slice-read-if5
-shared-slice-read-if5 c = search needs
 
 returns-5 : tie.Need-returns-5
 returns-5 c =
@@ -69,9 +60,6 @@ returns-5 c =
           (getD fs 3 0) 1 (at-if4 .if4 .left),
       eq-eqb (getD fs 1 0) 1 (c .if5 .taken),
     ))
-
-shared-slice-read-if6 : tie.Need-shared-slice-read-if6
-shared-slice-read-if6 c = search needs
 
 returns-6 : tie.Need-returns-6
 returns-6 c =
@@ -94,9 +82,6 @@ returns-6 c =
       ne-eqb (getD fs 1 0) 0 (c .if6 .taken),
     ))
 
-shared-slice-read-result : tie.Need-shared-slice-read-result
-shared-slice-read-result c = search needs
-
 returns-7 : tie.Need-returns-7
 returns-7 c =
     let at-if5 = c .before .before .before in
@@ -118,4 +103,4 @@ returns-7 c =
     ))
 
 pub numbers-ok-spec : {M : Type 1} → statement M
-numbers-ok-spec = tie.close (tie.spec returns returns-2 shared-slice-read-if3 returns-3 shared-slice-read-if4 returns-4 shared-slice-read-if5 returns-5 shared-slice-read-if6 returns-6 shared-slice-read-result returns-7)
+numbers-ok-spec = tie.close (tie.spec returns returns-2 (λ c. search needs) returns-3 (λ c. search needs) returns-4 (λ c. search needs) returns-5 (λ c. search needs) returns-6 (λ c. search needs) returns-7)

@@ -3,23 +3,8 @@ use borrow.Author.Needs.{needs}
 use Rattle.boundary.proofs.tested.same_costs.Statement.{statement}
 use Rattle.boundary.proofs.tested.same_costs.Tie as tie
 
-both-requires : tie.Need-both-requires
-both-requires c κs = search needs
-
-both-requires-2 : tie.Need-both-requires-2
-both-requires-2 c κs = search needs
-
-both-requires-3 : tie.Need-both-requires-3
-both-requires-3 c κs = search needs
-
-both-requires-4 : tie.Need-both-requires-4
-both-requires-4 c κs = search needs
-
-both-requires-5 : tie.Need-both-requires-5
-both-requires-5 c κs = search needs
-
 returns : tie.Need-returns
 returns c = cc
 
 pub same-costs-spec : {M : Type 1} → statement M
-same-costs-spec = tie.close (tie.spec both-requires both-requires-2 both-requires-3 both-requires-4 both-requires-5 returns)
+same-costs-spec = tie.close (tie.spec (λ c κs. search needs) (λ c κs. search needs) (λ c κs. search needs) (λ c κs. search needs) (λ c κs. search needs) returns)

@@ -11,11 +11,8 @@ sizes-of-requires c κs = c .before .before .pre .numbers
 sizes-requires : tie.Need-sizes-requires
 sizes-requires c κs = c .before .before .before .pre .setup
 
-same-sizes-requires : tie.Need-same-sizes-requires
-same-sizes-requires c κs = search needs
-
 returns : tie.Need-returns
 returns c = c .same-sizes .ensures ∙ ap₂ sameSizes (c .before .before .sizes-of .ensures) (c .before .sizes .ensures .words)
 
 pub sizes-held-spec : {M : Type 1} → statement M
-sizes-held-spec = tie.close (tie.spec sizes-of-requires sizes-requires same-sizes-requires returns)
+sizes-held-spec = tie.close (tie.spec sizes-of-requires sizes-requires (λ c κs. search needs) returns)

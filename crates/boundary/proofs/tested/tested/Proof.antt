@@ -24,9 +24,6 @@ start-of c = c .before .before .before .before .before .before .before .before .
 passed : (c : tie.Else1) → let start = start-of (c .before) in numbersOk (start .args .machine .now) (start .args .fuel .now) ≡ true
 passed c = sym (c .before .numbers-ok .ensures) ∙ not-false _ (c .if1 .left)
 
-numbers-ok-requires : tie.Need-numbers-ok-requires
-numbers-ok-requires c κs = search needs
-
 returns : tie.Need-returns
 returns c = fails-numbers (of (start-of (c .before))) (sym (c .before .numbers-ok .ensures) ∙ not-true _ (c .if1 .taken))
 
@@ -35,9 +32,6 @@ machine-of-requires c κs = let a = start-of (c .before) .args in long-numbers (
 
 fuel-of-requires : tie.Need-fuel-of-requires
 fuel-of-requires c κs = let a = start-of (c .before .before) .args in long-numbers (a .machine .now) (a .fuel .now) (passed (c .before)) .1
-
-sound-words-requires : tie.Need-sound-words-requires
-sound-words-requires c κs = search needs
 
 returns-2 : tie.Need-returns-2
 returns-2 c =
@@ -77,4 +71,4 @@ returns-3 c =
     ∙ not-false _ (at-if2 .if2 .left))
 
 pub tested-spec : {M : Type 1} → statement M
-tested-spec = tie.close (tie.spec numbers-ok-requires returns machine-of-requires fuel-of-requires sound-words-requires returns-2 sizes-held-requires returns-3)
+tested-spec = tie.close (tie.spec (λ c κs. search needs) returns machine-of-requires fuel-of-requires (λ c κs. search needs) returns-2 sizes-held-requires returns-3)

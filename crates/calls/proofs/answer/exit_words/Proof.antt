@@ -5,12 +5,6 @@ use borrow.Author.Needs.{needs}
 use Rattle.calls.proofs.answer.exit_words.Statement.{statement}
 use Rattle.calls.proofs.answer.exit_words.Tie as tie
 
-enum-told : tie.Need-enum-told
-enum-told c = search needs
-
-enum-known-v : tie.Need-enum-known-v
-enum-known-v c = search needs
-
 returns : tie.Need-returns
 returns c = sym (ap exitWords (c .enum-told .given .1))
 
@@ -18,4 +12,4 @@ returns-2 : tie.Need-returns-2
 returns-2 c = sym (ap exitWords (c .before .v .given .1))
 
 pub exit-words-spec : {M : Type 1} → statement M
-exit-words-spec = tie.close (tie.spec enum-told enum-known-v returns returns-2)
+exit-words-spec = tie.close (tie.spec (λ c. search needs) (λ c. search needs) returns returns-2)

@@ -5,15 +5,6 @@ use borrow.Author.Needs.{needs}
 use Rattle.calls.proofs.answer.told_outcome.Statement.{statement}
 use Rattle.calls.proofs.answer.told_outcome.Tie as tie
 
-enum-told : tie.Need-enum-told
-enum-told c = search needs
-
-enum-known-o : tie.Need-enum-known-o
-enum-known-o c = search needs
-
-told-stop-requires : tie.Need-told-stop-requires
-told-stop-requires c κs = search needs
-
 returns : tie.Need-returns
 returns c = sym (ap told (c .enum-told .given .1))
 
@@ -22,4 +13,4 @@ returns-2 c = c .told-stop .ensures ∙ sym (ap told (c .before .before .o .give
 
 pub told-outcome-spec : {M : Type 1} → statement M
 told-outcome-spec =
-    tie.close (tie.spec enum-told enum-known-o told-stop-requires returns returns-2)
+    tie.close (tie.spec (λ c. search needs) (λ c. search needs) (λ c κs. search needs) returns returns-2)

@@ -13,30 +13,6 @@ use Rattle.calls.proofs.answer.told_step.Tie as tie
 abbrev three : Step → List ℕ
 three s = stepNumber s ∷ stepWord s ∷ stepCode (some s) ∷ []
 
-enum-told : tie.Need-enum-told
-enum-told c = search needs
-
-enum-told-2 : tie.Need-enum-told-2
-enum-told-2 c = search needs
-
-enum-known-s : tie.Need-enum-known-s
-enum-known-s c = search needs
-
-number-requires : tie.Need-number-requires
-number-requires c κs = search needs
-
-word-requires : tie.Need-word-requires
-word-requires c κs = search needs
-
-enum-known-s-2 : tie.Need-enum-known-s-2
-enum-known-s-2 c = search needs
-
-number-requires-2 : tie.Need-number-requires-2
-number-requires-2 c κs = search needs
-
-word-requires-2 : tie.Need-word-requires-2
-word-requires-2 c κs = search needs
-
 returns : tie.Need-returns
 returns c = sym (ap three (c .enum-told .given .1))
 
@@ -53,14 +29,14 @@ pub told-step-spec : {M : Type 1} → statement M
 told-step-spec =
     tie.close
     (tie.spec
-    enum-told
-    enum-told-2
-    enum-known-s
-    number-requires
-    word-requires
-    enum-known-s-2
-    number-requires-2
-    word-requires-2
+    (λ c. search needs)
+    (λ c. search needs)
+    (λ c. search needs)
+    (λ c κs. search needs)
+    (λ c κs. search needs)
+    (λ c. search needs)
+    (λ c κs. search needs)
+    (λ c κs. search needs)
     returns
     returns-2
     returns-3

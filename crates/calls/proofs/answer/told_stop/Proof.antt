@@ -5,21 +5,6 @@ use borrow.Author.Needs.{needs}
 use Rattle.calls.proofs.answer.told_stop.Statement.{statement}
 use Rattle.calls.proofs.answer.told_stop.Tie as tie
 
-enum-known-s : tie.Need-enum-known-s
-enum-known-s c = search needs
-
-enum-known-s-2 : tie.Need-enum-known-s-2
-enum-known-s-2 c = search needs
-
-enum-known-s-3 : tie.Need-enum-known-s-3
-enum-known-s-3 c = search needs
-
-enum-known-s-4 : tie.Need-enum-known-s-4
-enum-known-s-4 c = search needs
-
-enum-told : tie.Need-enum-told
-enum-told c = search needs
-
 returns : tie.Need-returns
 returns c = sym (ap toldStop (c .before .s .given .1))
 
@@ -39,11 +24,11 @@ pub told-stop-spec : {M : Type 1} → statement M
 told-stop-spec =
     tie.close
     (tie.spec
-    enum-known-s
-    enum-known-s-2
-    enum-known-s-3
-    enum-known-s-4
-    enum-told
+    (λ c. search needs)
+    (λ c. search needs)
+    (λ c. search needs)
+    (λ c. search needs)
+    (λ c. search needs)
     returns
     returns-2
     returns-3

@@ -6,54 +6,6 @@ use borrow.Author.Needs.{needs}
 use Rattle.calls.proofs.answer.words_of.Statement.{statement}
 use Rattle.calls.proofs.answer.words_of.Tie as tie
 
-enum-told : tie.Need-enum-told
-enum-told c = search needs
-
-enum-known-a : tie.Need-enum-known-a
-enum-known-a c = search needs
-
-enum-known-a-2 : tie.Need-enum-known-a-2
-enum-known-a-2 c = search needs
-
-number-requires : tie.Need-number-requires
-number-requires c κs = search needs
-
-word-requires : tie.Need-word-requires
-word-requires c κs = search needs
-
-enum-known-a-3 : tie.Need-enum-known-a-3
-enum-known-a-3 c = search needs
-
-told-step-requires : tie.Need-told-step-requires
-told-step-requires c κs = search needs
-
-enum-known-a-4 : tie.Need-enum-known-a-4
-enum-known-a-4 c = search needs
-
-enum-known-a-5 : tie.Need-enum-known-a-5
-enum-known-a-5 c = search needs
-
-enum-known-a-6 : tie.Need-enum-known-a-6
-enum-known-a-6 c = search needs
-
-exit-words-requires : tie.Need-exit-words-requires
-exit-words-requires c κs = search needs
-
-enum-told-2 : tie.Need-enum-told-2
-enum-told-2 c = search needs
-
-enum-told-3 : tie.Need-enum-told-3
-enum-told-3 c = search needs
-
-enum-told-4 : tie.Need-enum-told-4
-enum-told-4 c = search needs
-
-enum-known-a-7 : tie.Need-enum-known-a-7
-enum-known-a-7 c = search needs
-
-told-outcome-requires : tie.Need-told-outcome-requires
-told-outcome-requires c κs = search needs
-
 returns : tie.Need-returns
 returns c = sym (ap answerWords (c .enum-told .given .1))
 
@@ -96,22 +48,22 @@ pub words-of-spec : {M : Type 1} → statement M
 words-of-spec =
     tie.close
     (tie.spec
-    enum-told
-    enum-known-a
-    enum-known-a-2
-    number-requires
-    word-requires
-    enum-known-a-3
-    told-step-requires
-    enum-known-a-4
-    enum-known-a-5
-    enum-known-a-6
-    exit-words-requires
-    enum-told-2
-    enum-told-3
-    enum-told-4
-    enum-known-a-7
-    told-outcome-requires
+    (λ c. search needs)
+    (λ c. search needs)
+    (λ c. search needs)
+    (λ c κs. search needs)
+    (λ c κs. search needs)
+    (λ c. search needs)
+    (λ c κs. search needs)
+    (λ c. search needs)
+    (λ c. search needs)
+    (λ c. search needs)
+    (λ c κs. search needs)
+    (λ c. search needs)
+    (λ c. search needs)
+    (λ c. search needs)
+    (λ c. search needs)
+    (λ c κs. search needs)
     returns
     returns-2
     returns-3

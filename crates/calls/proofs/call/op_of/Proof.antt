@@ -9,27 +9,6 @@ use Rattle.calls.proofs.call.op_of.Tie as tie
 returns : tie.Need-returns
 returns c = other-length (c .before .before .args .words .now) (c .if1 .taken)
 
-shared-slice-read-read-six : tie.Need-shared-slice-read-read-six
-shared-slice-read-read-six c = search needs
-
-shared-slice-read-read-six-2 : tie.Need-shared-slice-read-read-six-2
-shared-slice-read-read-six-2 c = search needs
-
-shared-slice-read-read-six-3 : tie.Need-shared-slice-read-read-six-3
-shared-slice-read-read-six-3 c = search needs
-
-shared-slice-read-read-six-4 : tie.Need-shared-slice-read-read-six-4
-shared-slice-read-read-six-4 c = search needs
-
-shared-slice-read-read-six-5 : tie.Need-shared-slice-read-read-six-5
-shared-slice-read-read-six-5 c = search needs
-
-shared-slice-read-read-six-6 : tie.Need-shared-slice-read-read-six-6
-shared-slice-read-read-six-6 c = search needs
-
-read-six-requires : tie.Need-read-six-requires
-read-six-requires c κs = search needs
-
 returns-2 : tie.Need-returns-2
 returns-2 c =
     let left = c .before .before .before .before .before .before .before in
@@ -41,11 +20,11 @@ op-of-spec =
     tie.close
     (tie.spec
     returns
-    shared-slice-read-read-six
-    shared-slice-read-read-six-2
-    shared-slice-read-read-six-3
-    shared-slice-read-read-six-4
-    shared-slice-read-read-six-5
-    shared-slice-read-read-six-6
-    read-six-requires
+    (λ c. search needs)
+    (λ c. search needs)
+    (λ c. search needs)
+    (λ c. search needs)
+    (λ c. search needs)
+    (λ c. search needs)
+    (λ c κs. search needs)
     returns-2)

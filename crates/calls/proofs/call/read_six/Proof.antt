@@ -5,24 +5,12 @@ use borrow.Author.Needs.{needs}
 use Rattle.calls.proofs.call.read_six.Statement.{statement}
 use Rattle.calls.proofs.call.read_six.Tie as tie
 
-op-by-requires : tie.Need-op-by-requires
-op-by-requires c κs = search needs
-
-words-of-requires : tie.Need-words-of-requires
-words-of-requires c κs = search needs
-
-same-words-requires : tie.Need-same-words-requires
-same-words-requires c κs = search needs
-
 returns : tie.Need-returns
 returns c =
     let told = c .before in
     let g = told .before .before .before .args in
     let w = told .before .words-of .result in
     read-is (six (g .n) (g .a) (g .b) (g .c) (g .d) (g .e)) _ (six (w .0) (w .1) (w .2) (w .3) (w .4) (w .5)) _ (told .before .before .op-by .ensures) (told .before .words-of .ensures) (told .same-words .ensures) (c .if1 .taken)
-
-why-requires : tie.Need-why-requires
-why-requires c κs = search needs
 
 returns-2 : tie.Need-returns-2
 returns-2 c =
@@ -35,9 +23,9 @@ pub read-six-spec : {M : Type 1} → statement M
 read-six-spec =
     tie.close
     (tie.spec
-    op-by-requires
-    words-of-requires
-    same-words-requires
+    (λ c κs. search needs)
+    (λ c κs. search needs)
+    (λ c κs. search needs)
     returns
-    why-requires
+    (λ c κs. search needs)
     returns-2)

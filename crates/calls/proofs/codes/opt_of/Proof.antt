@@ -9,9 +9,6 @@ returns : tie.Need-returns
 unfolding pick
 returns c = rw (c .if1 .taken)
 
-as-pc-requires : tie.Need-as-pc-requires
-as-pc-requires c κs = search needs
-
 returns-2 : tie.Need-returns-2
 unfolding pick
 returns-2 c = rw (ne-eqb (c .before .before .args .n) 0 (c .before .if1 .left), c .as-pc .ensures)
@@ -21,5 +18,5 @@ opt-of-spec =
     tie.close
     (tie.spec
     returns
-    as-pc-requires
+    (λ c κs. search needs)
     returns-2)

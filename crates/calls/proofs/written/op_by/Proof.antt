@@ -9,45 +9,6 @@ use Rattle.calls.proofs.Past.{past}
 use Rattle.calls.proofs.written.op_by.Statement.{statement}
 use Rattle.calls.proofs.written.op_by.Tie as tie
 
-as-pc-requires : tie.Need-as-pc-requires
-as-pc-requires c κs = search needs
-
-as-pc-requires-2 : tie.Need-as-pc-requires-2
-as-pc-requires-2 c κs = search needs
-
-as-pc-requires-3 : tie.Need-as-pc-requires-3
-as-pc-requires-3 c κs = search needs
-
-as-reg-requires : tie.Need-as-reg-requires
-as-reg-requires c κs = search needs
-
-as-reg-requires-2 : tie.Need-as-reg-requires-2
-as-reg-requires-2 c κs = search needs
-
-as-reg-requires-3 : tie.Need-as-reg-requires-3
-as-reg-requires-3 c κs = search needs
-
-as-reg-requires-4 : tie.Need-as-reg-requires-4
-as-reg-requires-4 c κs = search needs
-
-as-reg-requires-5 : tie.Need-as-reg-requires-5
-as-reg-requires-5 c κs = search needs
-
-as-argc-requires : tie.Need-as-argc-requires
-as-argc-requires c κs = search needs
-
-kind-of-requires : tie.Need-kind-of-requires
-kind-of-requires c κs = search needs
-
-fault-of-requires : tie.Need-fault-of-requires
-fault-of-requires c κs = search needs
-
-opt-of-requires : tie.Need-opt-of-requires
-opt-of-requires c κs = search needs
-
-cont-of-requires : tie.Need-cont-of-requires
-cont-of-requires c κs = search needs
-
 -- the operands, narrowed; z is the place after the last
 pa : (z : tie.After-as-argc) → z .before .before .before .before .before .before .before .before .as-pc .result ≡ asPc (z .before .before .before .before .before .before .before .before .before .args .a)
 pa z = z .before .before .before .before .before .before .before .before .as-pc .ensures
@@ -163,7 +124,7 @@ pub op-by-spec : {M : Type 1} → statement M
 op-by-spec =
     tie.close
     (tie.spec
-    as-pc-requires as-pc-requires-2 as-pc-requires-3 as-reg-requires as-reg-requires-2 as-reg-requires-3 as-reg-requires-4 as-reg-requires-5
-    as-argc-requires kind-of-requires fault-of-requires opt-of-requires cont-of-requires returns returns-2 returns-3 returns-4 returns-5 returns-6
+    (λ c κs. search needs) (λ c κs. search needs) (λ c κs. search needs) (λ c κs. search needs) (λ c κs. search needs) (λ c κs. search needs) (λ c κs. search needs) (λ c κs. search needs)
+    (λ c κs. search needs) (λ c κs. search needs) (λ c κs. search needs) (λ c κs. search needs) (λ c κs. search needs) returns returns-2 returns-3 returns-4 returns-5 returns-6
     returns-7 returns-8 returns-9 returns-10 returns-11 returns-12 returns-13 returns-14 returns-15 returns-16 returns-17 returns-18 returns-19
     returns-20 returns-21 returns-22 returns-23 returns-24 returns-25 returns-26 returns-27)

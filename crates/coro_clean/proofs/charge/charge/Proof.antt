@@ -11,39 +11,12 @@ abbrev mem : tie.Start → Beside → Lent
 mem c b = cleaning (c .args .stack .now) (c .args .frames .now) (c .args .chain .now) (c .args .slots .now) (c .args .saved-stack .now)
     (c .args .saved-frames .now) (c .args .finalize .now) plain b
 
-spend-requires : tie.Need-spend-requires
-spend-requires c κs = search needs
-
 returns : tie.Need-returns
 returns c =
     let at-if1 = c .before in let entry = at-if1 .before .before .before .before .before .before .before .before .before in
     let paid = c in
     let start = entry in
     λ w b rep snd. charge-fast (start .args .l) (mem start b) (start .args .m) (start .args .fuel) w rep (OptPc.Some (start .args .pc)) _ (at-if1 .if1 .taken) (paid .spend .ensures)
-
-charge-slow-requires : tie.Need-charge-slow-requires
-charge-slow-requires c κs = search needs
-
-same-length : tie.Need-same-length
-same-length c = search needs
-
-same-length-2 : tie.Need-same-length-2
-same-length-2 c = search needs
-
-same-length-3 : tie.Need-same-length-3
-same-length-3 c = search needs
-
-same-length-4 : tie.Need-same-length-4
-same-length-4 c = search needs
-
-same-length-5 : tie.Need-same-length-5
-same-length-5 c = search needs
-
-same-length-6 : tie.Need-same-length-6
-same-length-6 c = search needs
-
-same-length-7 : tie.Need-same-length-7
-same-length-7 c = search needs
 
 returns-2 : tie.Need-returns-2
 returns-2 c =
@@ -59,14 +32,14 @@ pub charge-spec : {M : Type 1} → statement M
 charge-spec =
     tie.close
     (tie.spec
-    spend-requires
+    (λ c κs. search needs)
     returns
-    charge-slow-requires
-    same-length
-    same-length-2
-    same-length-3
-    same-length-4
-    same-length-5
-    same-length-6
-    same-length-7
+    (λ c κs. search needs)
+    (λ c. search needs)
+    (λ c. search needs)
+    (λ c. search needs)
+    (λ c. search needs)
+    (λ c. search needs)
+    (λ c. search needs)
+    (λ c. search needs)
     returns-2)

@@ -45,9 +45,6 @@ searched c w b rep snd =
     c .start-finalizer .ensures (storePc (entry .args .pc) w) b (at-store-pc .store-pc .ensures (entry .args .l) w (record { words = mem entry b; fuel = entry .args .fuel }) rep)
     (store-sounds (entry .args .pc) w (entry .pre .charge .narrow) snd)
 
-store-pc-requires : tie.Need-store-pc-requires
-store-pc-requires c κs = search needs
-
 start-finalizer-requires : tie.Need-start-finalizer-requires
 start-finalizer-requires c κs =
     let at-store-pc = store-pc-of c in
@@ -66,28 +63,10 @@ charge-or-requires c κs =
     unit-left (start .args .l) _ _ _ (start .args .fuel) (storePc (start .args .pc) (o .world)) _ (o .rep .fuel)
     (searched at-start-finalizer (o .world) (o .beside) (o .rep) (o .sound)) (start .pre .paid)
 
-same-length : tie.Need-same-length
-same-length c = search needs
-
 same-length-2 : tie.Need-same-length-2
 same-length-2 c =
     let at-start-finalizer = start-finalizer-of (c .before) in let at-store-pc = store-pc-of (at-start-finalizer .before) in
     at-start-finalizer .start-finalizer .kept .1 .0 ∙ at-store-pc .store-pc .kept .0
-
-same-length-3 : tie.Need-same-length-3
-same-length-3 c = search needs
-
-same-length-4 : tie.Need-same-length-4
-same-length-4 c = search needs
-
-same-length-5 : tie.Need-same-length-5
-same-length-5 c = search needs
-
-same-length-6 : tie.Need-same-length-6
-same-length-6 c = search needs
-
-same-length-7 : tie.Need-same-length-7
-same-length-7 c = search needs
 
 returns : tie.Need-returns
 returns c =
@@ -104,14 +83,14 @@ pub charge-ready-spec : {M : Type 1} → statement M
 charge-ready-spec =
     tie.close
     (tie.spec
-    store-pc-requires
+    (λ c κs. search needs)
     start-finalizer-requires
     charge-or-requires
-    same-length
+    (λ c. search needs)
     same-length-2
-    same-length-3
-    same-length-4
-    same-length-5
-    same-length-6
-    same-length-7
+    (λ c. search needs)
+    (λ c. search needs)
+    (λ c. search needs)
+    (λ c. search needs)
+    (λ c. search needs)
     returns)

@@ -20,9 +20,6 @@ abbrev mem : tie.Start → Beside → Lent
 mem c b = cleaning (c .args .stack .now) (c .args .frames .now) (c .args .chain .now) (c .args .slots .now) (c .args .saved-stack .now)
     (c .args .saved-frames .now) (c .args .finalize .now) plain b
 
-unbank-requires : tie.Need-unbank-requires
-unbank-requires c κs = search needs
-
 returns : tie.Need-returns
 returns c =
     let at-unbank = c .before .before in let entry = start-of at-unbank in
@@ -48,27 +45,6 @@ charge-ready-requires c κs =
       paid = paid-again (start .args .fuel) (back .unbank .result) (back .unbank .ensures) (some .if1 .left);
     }
 
-same-length : tie.Need-same-length
-same-length c = search needs
-
-same-length-2 : tie.Need-same-length-2
-same-length-2 c = search needs
-
-same-length-3 : tie.Need-same-length-3
-same-length-3 c = search needs
-
-same-length-4 : tie.Need-same-length-4
-same-length-4 c = search needs
-
-same-length-5 : tie.Need-same-length-5
-same-length-5 c = search needs
-
-same-length-6 : tie.Need-same-length-6
-same-length-6 c = search needs
-
-same-length-7 : tie.Need-same-length-7
-same-length-7 c = search needs
-
 returns-2 : tie.Need-returns-2
 returns-2 c =
     let at-charge-ready = c .before .before .before .before .before .before .before .before .before .before .before .before .before .before in
@@ -85,9 +61,6 @@ returns-2 c =
     slow-paid (start .args .l) (mem start b) (start .args .m) (start .args .fuel) w rep f (back .unbank .ensures) (OptPc.Some (start .args .pc)) _ _ _ _ (some .if1 .left)
     (at-ready (start .args .l) _ _ _ (start .args .pc) (unbank w) _ (sym (ap (λ (x : Fuel). x .ready) (again .fuel)) ∙ ready .if2 .taken)
     (begun .charge-ready .ensures (unbank w) b again (unbank-sounds w snd)))
-
-charge-done-requires : tie.Need-charge-done-requires
-charge-done-requires c κs = search needs
 
 returns-3 : tie.Need-returns-3
 returns-3 c =
@@ -110,16 +83,16 @@ pub charge-slow-spec : {M : Type 1} → statement M
 charge-slow-spec =
     tie.close
     (tie.spec
-    unbank-requires
+    (λ c κs. search needs)
     returns
     charge-ready-requires
-    same-length
-    same-length-2
-    same-length-3
-    same-length-4
-    same-length-5
-    same-length-6
-    same-length-7
+    (λ c. search needs)
+    (λ c. search needs)
+    (λ c. search needs)
+    (λ c. search needs)
+    (λ c. search needs)
+    (λ c. search needs)
+    (λ c. search needs)
     returns-2
-    charge-done-requires
+    (λ c κs. search needs)
     returns-3)

@@ -6,17 +6,11 @@ use borrow.Author.Needs.{needs}
 use Rattle.coro_clean.proofs.charge.slow_plain.Statement.{statement}
 use Rattle.coro_clean.proofs.charge.slow_plain.Tie as tie
 
-unbank-requires : tie.Need-unbank-requires
-unbank-requires c κs = search needs
-
 returns : tie.Need-returns
 returns c =
     let back = c .before .before in
     let start = back .before in
     λ m l w b rep. slow-spent l (b .words) m (start .args .fuel) w rep (back .unbank .result) (back .unbank .ensures) OptPc.None (c .if1 .taken)
-
-charge-done-requires : tie.Need-charge-done-requires
-charge-done-requires c κs = search needs
 
 returns-2 : tie.Need-returns-2
 returns-2 c =
@@ -28,4 +22,4 @@ returns-2 c =
     (c .charge-done .ensures m l (unbank w) b (back-rep l (b .words) m (start .args .fuel) w rep (back .unbank .result) (back .unbank .ensures)))
 
 pub slow-plain-spec : {M : Type 1} → statement M
-slow-plain-spec = tie.close (tie.spec unbank-requires returns charge-done-requires returns-2)
+slow-plain-spec = tie.close (tie.spec (λ c κs. search needs) returns (λ c κs. search needs) returns-2)

@@ -57,18 +57,6 @@ entered c w b rep snd =
     (fewer-rep (entry .args .l) (mem entry b) (entry .args .m) (entry .args .fuel) w rep (entry .args .i + 1) _ _ (at-take-front .take-front .ensures))
     (fewer-sound w (entry .args .i + 1) snd)
 
-word-at-requires : tie.Need-word-at-requires
-word-at-requires c κs = search needs
-
-add-taken : tie.Need-add-taken
-add-taken c = search needs
-
-take-front-requires : tie.Need-take-front-requires
-take-front-requires c κs = search needs
-
-sub-n : tie.Need-sub-n
-sub-n c = search needs
-
 coro-enter-requires : tie.Need-coro-enter-requires
 coro-enter-requires c κs =
     let at-take-front = take-front-of c in let entry = start-of (at-take-front .before .before) in
@@ -81,27 +69,6 @@ set-closing-requires c κs =
     let at-coro-enter = coro-enter-of c in let at-word-at = word-at-of at-coro-enter in let entry = start-of at-word-at in
     let o = entry .pre .ok in
     entered at-coro-enter (o .world) (o .beside) (o .rep) (o .sound) .world .slots .within
-
-set-finalizing-requires : tie.Need-set-finalizing-requires
-set-finalizing-requires c κs = search needs
-
-same-length : tie.Need-same-length
-same-length c = search needs
-
-same-length-2 : tie.Need-same-length-2
-same-length-2 c = search needs
-
-same-length-3 : tie.Need-same-length-3
-same-length-3 c = search needs
-
-same-length-4 : tie.Need-same-length-4
-same-length-4 c = search needs
-
-same-length-5 : tie.Need-same-length-5
-same-length-5 c = search needs
-
-same-length-6 : tie.Need-same-length-6
-same-length-6 c = search needs
 
 same-length-7 : tie.Need-same-length-7
 same-length-7 c =
@@ -128,18 +95,18 @@ pub start-at-spec : {M : Type 1} → statement M
 start-at-spec =
     tie.close
     (tie.spec
-    word-at-requires
-    add-taken
-    take-front-requires
-    sub-n
+    (λ c κs. search needs)
+    (λ c. search needs)
+    (λ c κs. search needs)
+    (λ c. search needs)
     coro-enter-requires
     set-closing-requires
-    set-finalizing-requires
-    same-length
-    same-length-2
-    same-length-3
-    same-length-4
-    same-length-5
-    same-length-6
+    (λ c κs. search needs)
+    (λ c. search needs)
+    (λ c. search needs)
+    (λ c. search needs)
+    (λ c. search needs)
+    (λ c. search needs)
+    (λ c. search needs)
     same-length-7
     returns)

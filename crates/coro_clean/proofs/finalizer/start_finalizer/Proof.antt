@@ -16,9 +16,6 @@ abbrev mem : tie.Start → Beside → Lent
 mem c b = cleaning (c .args .stack .now) (c .args .frames .now) (c .args .chain .now) (c .args .slots .now) (c .args .saved-stack .now)
     (c .args .saved-frames .now) (c .args .finalize .now) plain b
 
-unbank-requires : tie.Need-unbank-requires
-unbank-requires c κs = search needs
-
 first-start-requires : tie.Need-first-start-requires
 first-start-requires c κs =
     let entry = start-of (c .before .before) in
@@ -35,27 +32,6 @@ start-at-requires c κs =
       below = at-if1 .if1 .taken;
     }
 
-same-length : tie.Need-same-length
-same-length c = search needs
-
-same-length-2 : tie.Need-same-length-2
-same-length-2 c = search needs
-
-same-length-3 : tie.Need-same-length-3
-same-length-3 c = search needs
-
-same-length-4 : tie.Need-same-length-4
-same-length-4 c = search needs
-
-same-length-5 : tie.Need-same-length-5
-same-length-5 c = search needs
-
-same-length-6 : tie.Need-same-length-6
-same-length-6 c = search needs
-
-same-length-7 : tie.Need-same-length-7
-same-length-7 c = search needs
-
 returns : tie.Need-returns
 returns c =
     let at-start-at = c .before .before .before .before .before .before .before .before .before .before .before .before .before .before in
@@ -67,15 +43,6 @@ returns c =
     finalizer-at (entry .args .l) (mem entry b) (entry .args .m) (at-unbank .unbank .result) w again (at-first-start .first-start .result)
     (at-first-start .first-start .ensures) _ _ _ _ (at-if1 .if1 .taken)
     (at-start-at .start-at .ensures (unbank w) b again (unbank-sounds w snd))
-
-start-none-requires : tie.Need-start-none-requires
-start-none-requires c κs = search needs
-
-same-length-8 : tie.Need-same-length-8
-same-length-8 c = search needs
-
-same-length-9 : tie.Need-same-length-9
-same-length-9 c = search needs
 
 returns-2 : tie.Need-returns-2
 returns-2 c =
@@ -92,18 +59,18 @@ pub start-finalizer-spec : {M : Type 1} → statement M
 start-finalizer-spec =
     tie.close
     (tie.spec
-    unbank-requires
+    (λ c κs. search needs)
     first-start-requires
     start-at-requires
-    same-length
-    same-length-2
-    same-length-3
-    same-length-4
-    same-length-5
-    same-length-6
-    same-length-7
+    (λ c. search needs)
+    (λ c. search needs)
+    (λ c. search needs)
+    (λ c. search needs)
+    (λ c. search needs)
+    (λ c. search needs)
+    (λ c. search needs)
     returns
-    start-none-requires
-    same-length-8
-    same-length-9
+    (λ c κs. search needs)
+    (λ c. search needs)
+    (λ c. search needs)
     returns-2)

@@ -9,15 +9,6 @@ use borrow.Author.Needs.{needs}
 use Rattle.coro_clean.proofs.finalizer.start_none.Statement.{statement}
 use Rattle.coro_clean.proofs.finalizer.start_none.Tie as tie
 
-take-front-requires : tie.Need-take-front-requires
-take-front-requires c κs = search needs
-
-set-finalizing-requires : tie.Need-set-finalizing-requires
-set-finalizing-requires c κs = search needs
-
-same-length : tie.Need-same-length
-same-length c = search needs
-
 returns : tie.Need-returns
 returns c =
     let marked = c .before .before in let taken = marked .before .before .before in let start = taken .before .before .before in
@@ -30,4 +21,4 @@ returns c =
 
 pub start-none-spec : {M : Type 1} → statement M
 start-none-spec =
-    tie.close (tie.spec take-front-requires set-finalizing-requires same-length returns)
+    tie.close (tie.spec (λ c κs. search needs) (λ c κs. search needs) (λ c. search needs) returns)

@@ -54,20 +54,8 @@ room c =
 coro-place-requires : tie.Need-coro-place-requires
 coro-place-requires c κs = c .before .before .before .pre .ok .rep .slots .within
 
-enum-known-f : tie.Need-enum-known-f
-enum-known-f c = search needs
-
-enum-known-i : tie.Need-enum-known-i
-enum-known-i c = search needs
-
 state-at-requires : tie.Need-state-at-requires
 state-at-requires c κs = fits (c .before)
-
-is-suspended-requires : tie.Need-is-suspended-requires
-is-suspended-requires c κs = search needs
-
-same-length : tie.Need-same-length
-same-length c = search needs
 
 returns : tie.Need-returns
 returns c =
@@ -83,9 +71,6 @@ finalized-at-requires : tie.Need-finalized-at-requires
 finalized-at-requires c κs =
     let at-known-told2 = c .before .before .before .before .before in
     fits at-known-told2
-
-same-length-2 : tie.Need-same-length-2
-same-length-2 c = search needs
 
 returns-2 : tie.Need-returns-2
 returns-2 c =
@@ -115,12 +100,6 @@ add-n c =
     let entry = start-of (at-if2 .before .before .before .before .before .before .before) in
     let h = room at-if2 in omega (arith, h, entry .good)
 
-set-finalizing-requires : tie.Need-set-finalizing-requires
-set-finalizing-requires c κs = search needs
-
-same-length-3 : tie.Need-same-length-3
-same-length-3 c = search needs
-
 returns-3 : tie.Need-returns-3
 returns-3 c =
     let at-f = c .before in let at-coro-place = at-f .before .before in let entry = at-coro-place .before .before .before .before in
@@ -129,12 +108,6 @@ returns-3 c =
     λ l w b rep.
     hand-refused l (mem start b) (start .args .m) (start .args .fuel) (start .args .v .0) w rep _
     (none-there (coroOf (slotsOf (start .args .m .count) (start .args .slots .now)) (start .args .v .0)) _ (sym (at-f .f .given .1) ∙ placed .coro-place .ensures))
-
-same-length-4 : tie.Need-same-length-4
-same-length-4 c = search needs
-
-same-length-5 : tie.Need-same-length-5
-same-length-5 c = search needs
 
 returns-4 : tie.Need-returns-4
 returns-4 c =
@@ -164,21 +137,21 @@ hand-over-spec =
     tie.close
     (tie.spec
     coro-place-requires
-    enum-known-f
-    enum-known-i
+    (λ c. search needs)
+    (λ c. search needs)
     state-at-requires
-    is-suspended-requires
-    same-length
+    (λ c κs. search needs)
+    (λ c. search needs)
     returns
     finalized-at-requires
-    same-length-2
+    (λ c. search needs)
     returns-2
     put-finalized-requires
     push-back-requires
     add-n
-    set-finalizing-requires
-    same-length-3
+    (λ c κs. search needs)
+    (λ c. search needs)
     returns-3
-    same-length-4
-    same-length-5
+    (λ c. search needs)
+    (λ c. search needs)
     returns-4)

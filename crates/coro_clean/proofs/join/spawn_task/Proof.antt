@@ -53,17 +53,8 @@ room c =
 coro-place-requires : tie.Need-coro-place-requires
 coro-place-requires c κs = c .before .before .before .pre .ok .rep .slots .within
 
-enum-told : tie.Need-enum-told
-enum-told c = search needs
-
-enum-known-i : tie.Need-enum-known-i
-enum-known-i c = search needs
-
 task-at-requires : tie.Need-task-at-requires
 task-at-requires c κs = fits (c .before)
-
-same-length : tie.Need-same-length
-same-length c = search needs
 
 returns : tie.Need-returns
 returns c =
@@ -74,12 +65,6 @@ returns c =
 
 state-at-requires : tie.Need-state-at-requires
 state-at-requires c κs = fits (c .before .before .before .before)
-
-is-resumable-requires : tie.Need-is-resumable-requires
-is-resumable-requires c κs = search needs
-
-same-length-2 : tie.Need-same-length-2
-same-length-2 c = search needs
 
 returns-2 : tie.Need-returns-2
 returns-2 c =
@@ -107,9 +92,6 @@ add-n c =
     let entry = start-of (at-if2 .before .before .before .before .before .before .before) in
     let h = room at-if2 in omega (arith, h, entry .good)
 
-same-length-3 : tie.Need-same-length-3
-same-length-3 c = search needs
-
 returns-3 : tie.Need-returns-3
 returns-3 c =
     let at-coro-place = c .before .before in let entry = at-coro-place .before .before .before .before in
@@ -118,12 +100,6 @@ returns-3 c =
     λ l w b rep.
     task-refused l (mem start b) (start .args .m) (b .fuel) (start .args .v .0) w rep _
     (none-there (coroOf (slotsOf (start .args .m .count) (start .args .slots .now)) (start .args .v .0)) _ (sym (c .enum-told .given .1) ∙ placed .coro-place .ensures))
-
-same-length-4 : tie.Need-same-length-4
-same-length-4 c = search needs
-
-same-length-5 : tie.Need-same-length-5
-same-length-5 c = search needs
 
 returns-4 : tie.Need-returns-4
 returns-4 c =
@@ -143,20 +119,20 @@ spawn-task-spec =
     tie.close
     (tie.spec
     coro-place-requires
-    enum-told
-    enum-known-i
+    (λ c. search needs)
+    (λ c. search needs)
     task-at-requires
-    same-length
+    (λ c. search needs)
     returns
     state-at-requires
-    is-resumable-requires
-    same-length-2
+    (λ c κs. search needs)
+    (λ c. search needs)
     returns-2
     put-task-requires
     push-back-requires
     add-n
-    same-length-3
+    (λ c. search needs)
     returns-3
-    same-length-4
-    same-length-5
+    (λ c. search needs)
+    (λ c. search needs)
     returns-4)

@@ -53,26 +53,11 @@ find-spot-requires c κs =
     (start .pre .ok .rep) (start .args .f) (start .pre .ok .sound) (start .pre .function) (at-regs-at .regs-at .result) (at-regs-at .regs-at .ensures) in
     record { words = start .pre .ok .rep .slots .within; rows = k .rows; bytes = k .first }
 
-enum-known-g : tie.Need-enum-known-g
-enum-known-g c = search needs
-
-enum-known-row : tie.Need-enum-known-row
-enum-known-row c = search needs
-
-new-object-requires : tie.Need-new-object-requires
-new-object-requires c κs = search needs
-
-sequenced-requires : tie.Need-sequenced-requires
-sequenced-requires c κs = search needs
-
 bytes-requires : tie.Need-bytes-requires
 bytes-requires c κs =
     let at-regs-at = regs-at-of (c .before .before .before) in let start = start-of at-regs-at in
     numbers (start .args .l) (mem start (start .pre .ok .beside)) (start .args .m) (start .pre .ok .beside .fuel) (start .pre .ok .world) (start .pre .ok .rep)
     (start .args .f) (start .pre .ok .sound) (start .pre .function) (at-regs-at .regs-at .result) (at-regs-at .regs-at .ensures) .second
-
-heap-of-requires : tie.Need-heap-of-requires
-heap-of-requires c κs = search needs
 
 alloc-requires : tie.Need-alloc-requires
 alloc-requires c κs =
@@ -85,12 +70,6 @@ alloc-requires c κs =
     let r = start .pre .ok .room .slots in
     record { words = omega arith; slots = omega arith }
 
-enum-known-g-2 : tie.Need-enum-known-g-2
-enum-known-g-2 c = search needs
-
-enum-known-v : tie.Need-enum-known-v
-enum-known-v c = search needs
-
 write-row-requires : tie.Need-write-row-requires
 write-row-requires c κs =
     let at-known-told2 = c .before .before .before .before .before .before .before .before .before .before .before .before .before .before in
@@ -99,12 +78,6 @@ write-row-requires c κs =
     (start .pre .ok .rep) (start .pre .ok .sound) (start .args .f) (start .args .closure) (start .args .n) (at-regs-at .regs-at .result) (start .args .args)
     (few start) (start .pre .function) (at-regs-at .regs-at .ensures) (row at-known-told2) (found at-known-told2) (start .pre .few)
 
-allocated-requires : tie.Need-allocated-requires
-allocated-requires c κs = search needs
-
-same-length : tie.Need-same-length
-same-length c = search needs
-
 returns : tie.Need-returns
 returns c =
     let at-g = c .before in let at-find-spot = at-g .before .before in let at-regs-at = at-find-spot .before .before in
@@ -112,9 +85,6 @@ returns c =
     λ w b rep snd. not-created (start .args .l) (mem start b) (start .args .m) (b .fuel) w rep snd (start .args .f) (start .args .closure)
     (start .args .n) (at-regs-at .regs-at .result) (start .args .args) (few start) (start .pre .function) (at-regs-at .regs-at .ensures) _
     (sym (at-g .g .given .1) ∙ at-find-spot .find-spot .ensures)
-
-same-length-2 : tie.Need-same-length-2
-same-length-2 c = search needs
 
 returns-2 : tie.Need-returns-2
 returns-2 c =
@@ -127,15 +97,6 @@ returns-2 c =
     (row at-known-told2) (found at-known-told2) _ (at-sequenced .sequenced .result) _ (at-sequenced .sequenced .ensures)
     (alloc-told (start .args .slots .now) _ _ _ _ _ _ _ _ _ (at-alloc .alloc .ensures) (at-g2 .g2 .given .1) (at-heap-of .heap-of .ensures
     ∙ ap (λ q. heapOf q (start .args .l)) (at-sequenced .sequenced .ensures)) (at-bytes .bytes .ensures) (at-new-object .new-object .ensures))
-
-same-length-3 : tie.Need-same-length-3
-same-length-3 c = search needs
-
-same-length-4 : tie.Need-same-length-4
-same-length-4 c = search needs
-
-same-length-5 : tie.Need-same-length-5
-same-length-5 c = search needs
 
 returns-3 : tie.Need-returns-3
 returns-3 c =
@@ -157,22 +118,22 @@ coro-create-spec =
     (tie.spec
     regs-at-requires
     find-spot-requires
-    enum-known-g
-    enum-known-row
-    new-object-requires
-    sequenced-requires
+    (λ c. search needs)
+    (λ c. search needs)
+    (λ c κs. search needs)
+    (λ c κs. search needs)
     bytes-requires
-    heap-of-requires
+    (λ c κs. search needs)
     alloc-requires
-    enum-known-g-2
-    enum-known-v
+    (λ c. search needs)
+    (λ c. search needs)
     write-row-requires
-    allocated-requires
-    same-length
+    (λ c κs. search needs)
+    (λ c. search needs)
     returns
-    same-length-2
+    (λ c. search needs)
     returns-2
-    same-length-3
-    same-length-4
-    same-length-5
+    (λ c. search needs)
+    (λ c. search needs)
+    (λ c. search needs)
     returns-3)

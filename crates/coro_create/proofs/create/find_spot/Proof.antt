@@ -20,26 +20,11 @@ fault c =
     let at-lacks = c .before in let at-bytes = at-lacks .before in let at-heap-of = at-bytes .before in
     at-lacks .lacks .ensures ∙ ap₂ lacksOf (at-heap-of .heap-of .ensures) (at-bytes .bytes .ensures)
 
-heap-of-requires : tie.Need-heap-of-requires
-heap-of-requires c κs = search needs
-
-bytes-requires : tie.Need-bytes-requires
-bytes-requires c κs = search needs
-
-lacks-requires : tie.Need-lacks-requires
-lacks-requires c κs = search needs
-
-number-requires : tie.Need-number-requires
-number-requires c κs = search needs
-
 returns : tie.Need-returns
 returns c =
     let at-number = c .before in let at-lacks = at-number .before in let start = start-of at-lacks in
     spot-lacks (slotsOf (start .args .m .count) (start .args .slots .now)) (start .args .m) (start .args .l) (start .args .regs) (at-lacks .lacks .result)
     (fault at-number) (λ z. c .if1 .taken (at-number .number .ensures ∙ z))
-
-lowest-free-row-requires : tie.Need-lowest-free-row-requires
-lowest-free-row-requires c κs = search needs
 
 returns-2 : tie.Need-returns-2
 returns-2 c =
@@ -59,11 +44,11 @@ pub find-spot-spec : {M : Type 1} → statement M
 find-spot-spec =
     tie.close
     (tie.spec
-    heap-of-requires
-    bytes-requires
-    lacks-requires
-    number-requires
+    (λ c κs. search needs)
+    (λ c κs. search needs)
+    (λ c κs. search needs)
+    (λ c κs. search needs)
     returns
-    lowest-free-row-requires
+    (λ c κs. search needs)
     returns-2
     returns-3)

@@ -16,15 +16,6 @@ copied-of c = c .before .before
 abbrev start-of : tie.After-args2 → tie.Start
 start-of c = c .before .before .before .before .before .before
 
-mul-at : tie.Need-mul-at
-mul-at c = search needs
-
-copied-requires : tie.Need-copied-requires
-copied-requires c κs = search needs
-
-slice-aggregate-fill-row : tie.Need-slice-aggregate-fill-row
-slice-aggregate-fill-row c = search needs
-
 fill-row-requires : tie.Need-fill-row-requires
 fill-row-requires c κs = let k = copied-fits (start-of c .args .n) (start-of c .args .regs) in
     let e = copied-of c .copied .ensures in
@@ -32,18 +23,6 @@ fill-row-requires c κs = let k = copied-fits (start-of c .args .n) (start-of c 
     let few = p .few in
     let on = p .stack in
     (omega arith, omega arith, omega arith)
-
-mul-put-frame : tie.Need-mul-put-frame
-mul-put-frame c = search needs
-
-put-frame-requires : tie.Need-put-frame-requires
-put-frame-requires c κs = search needs
-
-same-length : tie.Need-same-length
-same-length c = search needs
-
-same-length-2 : tie.Need-same-length-2
-same-length-2 c = search needs
 
 returns : tie.Need-returns
 returns c =
@@ -59,12 +38,12 @@ pub write-row-spec : {M : Type 1} → statement M
 write-row-spec =
     tie.close
     (tie.spec
-    mul-at
-    copied-requires
-    slice-aggregate-fill-row
+    (λ c. search needs)
+    (λ c κs. search needs)
+    (λ c. search needs)
     fill-row-requires
-    mul-put-frame
-    put-frame-requires
-    same-length
-    same-length-2
+    (λ c. search needs)
+    (λ c κs. search needs)
+    (λ c. search needs)
+    (λ c. search needs)
     returns)

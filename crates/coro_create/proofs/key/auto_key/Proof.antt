@@ -7,18 +7,6 @@ use borrow.Author.Needs.{needs}
 use Rattle.coro_create.proofs.key.auto_key.Statement.{statement}
 use Rattle.coro_create.proofs.key.auto_key.Tie as tie
 
-next-key-requires : tie.Need-next-key-requires
-next-key-requires c κs = search needs
-
-enum-told : tie.Need-enum-told
-enum-told c = search needs
-
-enum-known-n : tie.Need-enum-known-n
-enum-known-n c = search needs
-
-heap-of-requires : tie.Need-heap-of-requires
-heap-of-requires c κs = search needs
-
 encode-int-requires : tie.Need-encode-int-requires
 encode-int-requires c κs =
     let start = c .before .before .before .before .before .before .before .before in
@@ -28,23 +16,11 @@ encode-int-requires c κs =
     let p₂ = p .slots in
     record { words = omega arith; slots = omega arith }
 
-enum-known-g : tie.Need-enum-known-g
-enum-known-g c = search needs
-
-enum-known-v : tie.Need-enum-known-v
-enum-known-v c = search needs
-
-allocated-requires : tie.Need-allocated-requires
-allocated-requires c κs = search needs
-
 returns : tie.Need-returns
 returns c =
     let at-next-key = c .before .before in let start = at-next-key .before .before in
     λ w b rep snd. key-over (start .args .l) (table (start .args .slots .now) plain b) (start .args .m) (b .fuel) w rep (start .args .largest)
     (sym (c .enum-told .given .1) ∙ at-next-key .next-key .ensures)
-
-same-length : tie.Need-same-length
-same-length c = search needs
 
 returns-2 : tie.Need-returns-2
 returns-2 c =
@@ -54,9 +30,6 @@ returns-2 c =
     λ w b rep snd. key-refused (start .args .l) (table (start .args .slots .now) plain b) (start .args .m) (b .fuel) w rep (start .args .largest)
     (at-n .n .given .0 .0) (sym (at-n .n .given .1) ∙ at-next-key .next-key .ensures) _ (at-encode-int .encode-int .result) (at-heap-of .heap-of .result)
     (at-encode-int .encode-int .ensures) (at-heap-of .heap-of .ensures) _ (at-g .g .given .1)
-
-same-length-2 : tie.Need-same-length-2
-same-length-2 c = search needs
 
 returns-3 : tie.Need-returns-3
 returns-3 c =
@@ -72,16 +45,16 @@ pub auto-key-spec : {M : Type 1} → statement M
 auto-key-spec =
     tie.close
     (tie.spec
-    next-key-requires
-    enum-told
-    enum-known-n
-    heap-of-requires
+    (λ c κs. search needs)
+    (λ c. search needs)
+    (λ c. search needs)
+    (λ c κs. search needs)
     encode-int-requires
-    enum-known-g
-    enum-known-v
-    allocated-requires
+    (λ c. search needs)
+    (λ c. search needs)
+    (λ c κs. search needs)
     returns
-    same-length
+    (λ c. search needs)
     returns-2
-    same-length-2
+    (λ c. search needs)
     returns-3)

@@ -5,11 +5,8 @@ use borrow.Author.Needs.{needs}
 use Rattle.coro_create.proofs.numbers.sequenced.Statement.{statement}
 use Rattle.coro_create.proofs.numbers.sequenced.Tie as tie
 
-wrapping-add-u64-requires : tie.Need-wrapping-add-u64-requires
-wrapping-add-u64-requires c κs = search needs
-
 returns : tie.Need-returns
 returns c = ap (λ n. withNumber n (c .before .args .m)) (c .wrapping-add-u64 .ensures)
 
 pub sequenced-spec : {M : Type 1} → statement M
-sequenced-spec = tie.close (tie.spec wrapping-add-u64-requires returns)
+sequenced-spec = tie.close (tie.spec (λ c κs. search needs) returns)

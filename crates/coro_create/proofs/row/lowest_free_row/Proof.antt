@@ -10,12 +10,6 @@ use borrow.Author.Needs.{needs}
 use Rattle.coro_create.proofs.row.lowest_free_row.Statement.{statement}
 use Rattle.coro_create.proofs.row.lowest_free_row.Tie as tie
 
-held-rows-requires : tie.Need-held-rows-requires
-held-rows-requires c κs = search needs
-
-lowest-requires : tie.Need-lowest-requires
-lowest-requires c κs = search needs
-
 returns : tie.Need-returns
 returns c =
     let at-held-rows = c .before in let start = at-held-rows .before .before in
@@ -23,4 +17,4 @@ returns c =
     ∙ free-in (slotsOf (start .args .count) (start .args .slots .now)) (start .args .rows) (start .pre .1)
 
 pub lowest-free-row-spec : {M : Type 1} → statement M
-lowest-free-row-spec = tie.close (tie.spec held-rows-requires lowest-requires returns)
+lowest-free-row-spec = tie.close (tie.spec (λ c κs. search needs) (λ c κs. search needs) returns)

@@ -17,27 +17,6 @@ finished o c e f = sym (ap rowOf e ∙ ap (λ (b : Bool). pick b 64 (c .row)) f 
 unfinished : (o : Object) (c : CoroObj) → o ≡ O.Coro c → isFinished (c .state) ≡ false → c .row ≡ rowOf o
 unfinished o c e f = sym (ap rowOf e ∙ ap (λ (b : Bool). pick b 64 (c .row)) f ∙ pick-false _ _)
 
-enum-told : tie.Need-enum-told
-enum-told c = search needs
-
-enum-told-2 : tie.Need-enum-told-2
-enum-told-2 c = search needs
-
-enum-told-3 : tie.Need-enum-told-3
-enum-told-3 c = search needs
-
-enum-told-4 : tie.Need-enum-told-4
-enum-told-4 c = search needs
-
-enum-told-5 : tie.Need-enum-told-5
-enum-told-5 c = search needs
-
-enum-known-o : tie.Need-enum-known-o
-enum-known-o c = search needs
-
-is-finished-requires : tie.Need-is-finished-requires
-is-finished-requires c κs = search needs
-
 returns : tie.Need-returns
 returns c = finished _ _ (c .before .before .before .o .given .1) (sym (c .before .is-finished .ensures) ∙ c .if1 .taken)
 
@@ -63,13 +42,13 @@ pub row-of-spec : {M : Type 1} → statement M
 row-of-spec =
     tie.close
     (tie.spec
-    enum-told
-    enum-told-2
-    enum-told-3
-    enum-told-4
-    enum-told-5
-    enum-known-o
-    is-finished-requires
+    (λ c. search needs)
+    (λ c. search needs)
+    (λ c. search needs)
+    (λ c. search needs)
+    (λ c. search needs)
+    (λ c. search needs)
+    (λ c κs. search needs)
     returns
     returns-2
     returns-3

@@ -6,24 +6,6 @@ use borrow.Author.Needs.{needs}
 use Rattle.coro_end.proofs.abort.abort_coros.Statement.{statement}
 use Rattle.coro_end.proofs.abort.abort_coros.Tie as tie
 
-fail-all-requires : tie.Need-fail-all-requires
-fail-all-requires c κs = search needs
-
-set-finalizing-requires : tie.Need-set-finalizing-requires
-set-finalizing-requires c κs = search needs
-
-same-length : tie.Need-same-length
-same-length c = search needs
-
-same-length-2 : tie.Need-same-length-2
-same-length-2 c = search needs
-
-same-length-3 : tie.Need-same-length-3
-same-length-3 c = search needs
-
-same-length-4 : tie.Need-same-length-4
-same-length-4 c = search needs
-
 returns : tie.Need-returns
 returns c =
     let set = c .before .before in let failed = set .before .before .before .before .before .before .before .before .before in
@@ -40,10 +22,10 @@ pub abort-coros-spec : {M : Type 1} → statement M
 abort-coros-spec =
     tie.close
     (tie.spec
-    fail-all-requires
-    set-finalizing-requires
-    same-length
-    same-length-2
-    same-length-3
-    same-length-4
+    (λ c κs. search needs)
+    (λ c κs. search needs)
+    (λ c. search needs)
+    (λ c. search needs)
+    (λ c. search needs)
+    (λ c. search needs)
     returns)

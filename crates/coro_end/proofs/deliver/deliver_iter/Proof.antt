@@ -4,27 +4,6 @@ use borrow.Author.Needs.{needs}
 use Rattle.coro_end.proofs.deliver.deliver_iter.Statement.{statement}
 use Rattle.coro_end.proofs.deliver.deliver_iter.Tie as tie
 
-enum-known-e : tie.Need-enum-known-e
-enum-known-e c = search needs
-
-iter-yielded-requires : tie.Need-iter-yielded-requires
-iter-yielded-requires c κs = search needs
-
-enum-told : tie.Need-enum-told
-enum-told c = search needs
-
-enum-told-2 : tie.Need-enum-told-2
-enum-told-2 c = search needs
-
-same-length : tie.Need-same-length
-same-length c = search needs
-
-same-length-2 : tie.Need-same-length-2
-same-length-2 c = search needs
-
-same-length-3 : tie.Need-same-length-3
-same-length-3 c = search needs
-
 returns : tie.Need-returns
 returns c =
     let at-iter-yielded = c .before .before .before .before .before .before in
@@ -46,13 +25,13 @@ pub deliver-iter-spec : {M : Type 1} → statement M
 deliver-iter-spec =
     tie.close
     (tie.spec
-    enum-known-e
-    iter-yielded-requires
-    enum-told
-    enum-told-2
-    same-length
-    same-length-2
-    same-length-3
+    (λ c. search needs)
+    (λ c κs. search needs)
+    (λ c. search needs)
+    (λ c. search needs)
+    (λ c. search needs)
+    (λ c. search needs)
+    (λ c. search needs)
     returns
     returns-2
     returns-3)

@@ -5,27 +5,6 @@ use borrow.Author.Needs.{needs}
 use Rattle.coro_end.proofs.deliver.deliver_resume.Statement.{statement}
 use Rattle.coro_end.proofs.deliver.deliver_resume.Tie as tie
 
-enum-known-e : tie.Need-enum-known-e
-enum-known-e c = search needs
-
-coro-send-requires : tie.Need-coro-send-requires
-coro-send-requires c κs = search needs
-
-enum-known-e-2 : tie.Need-enum-known-e-2
-enum-known-e-2 c = search needs
-
-coro-send-requires-2 : tie.Need-coro-send-requires-2
-coro-send-requires-2 c κs = search needs
-
-enum-told : tie.Need-enum-told
-enum-told c = search needs
-
-same-length : tie.Need-same-length
-same-length c = search needs
-
-same-length-2 : tie.Need-same-length-2
-same-length-2 c = search needs
-
 returns : tie.Need-returns
 returns c =
     let at-coro-send = c .before .before .before .before in let at-e = at-coro-send .before .before .before .before in
@@ -33,12 +12,6 @@ returns c =
     λ l w b rep. resume-yielded l _ (start .args .m) (b .fuel) w (start .args .e) (start .args .dst) (at-e .e .given .0 .0) (at-e .e .given .0 .1 .0)
     (at-e .e .given .1) (sent l (top (start .args .stack .now) (start .args .frames .now) plain b) (start .args .m) (b .fuel) w rep _ _ (start .args .dst)
     (at-e .e .given .0 .0) (at-coro-send .coro-send .ensures))
-
-same-length-3 : tie.Need-same-length-3
-same-length-3 c = search needs
-
-same-length-4 : tie.Need-same-length-4
-same-length-4 c = search needs
 
 returns-2 : tie.Need-returns-2
 returns-2 c =
@@ -57,15 +30,15 @@ pub deliver-resume-spec : {M : Type 1} → statement M
 deliver-resume-spec =
     tie.close
     (tie.spec
-    enum-known-e
-    coro-send-requires
-    enum-known-e-2
-    coro-send-requires-2
-    enum-told
-    same-length
-    same-length-2
+    (λ c. search needs)
+    (λ c κs. search needs)
+    (λ c. search needs)
+    (λ c κs. search needs)
+    (λ c. search needs)
+    (λ c. search needs)
+    (λ c. search needs)
     returns
-    same-length-3
-    same-length-4
+    (λ c. search needs)
+    (λ c. search needs)
     returns-2
     returns-3)

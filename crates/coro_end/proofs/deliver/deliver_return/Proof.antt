@@ -7,39 +7,15 @@ use borrow.Author.Needs.{needs}
 use Rattle.coro_end.proofs.deliver.deliver_return.Statement.{statement}
 use Rattle.coro_end.proofs.deliver.deliver_return.Tie as tie
 
-enum-known-d : tie.Need-enum-known-d
-enum-known-d c = search needs
-
 coro-send-requires : tie.Need-coro-send-requires
 coro-send-requires c κs =
     let at-d = c .before .before .before in let start = at-d .before .before .before .before .before in
     start .pre .resumes (at-d .d .given .0 .0) (at-d .d .given .1)
 
-enum-known-d-2 : tie.Need-enum-known-d-2
-enum-known-d-2 c = search needs
-
 iter-returned-requires : tie.Need-iter-returned-requires
 iter-returned-requires c κs =
     let at-d2 = c .before .before .before .before in let start = at-d2 .before .before .before .before .before in
     let f = start .pre .iterates (at-d2 .d2 .given .0 .0) (at-d2 .d2 .given .0 .1 .0) (at-d2 .d2 .given .0 .1 .1 .0) (at-d2 .d2 .given .1) in (f .table, f .flag)
-
-enum-told : tie.Need-enum-told
-enum-told c = search needs
-
-stopped-requires : tie.Need-stopped-requires
-stopped-requires c κs = search needs
-
-enum-told-2 : tie.Need-enum-told-2
-enum-told-2 c = search needs
-
-set-finalizing-requires : tie.Need-set-finalizing-requires
-set-finalizing-requires c κs = search needs
-
-same-length : tie.Need-same-length
-same-length c = search needs
-
-same-length-2 : tie.Need-same-length-2
-same-length-2 c = search needs
 
 returns : tie.Need-returns
 returns c =
@@ -48,15 +24,6 @@ returns c =
     λ l w b rep. return-to l _ (start .args .m) (start .args .fuel) w (start .args .d) (Driver.Resume (at-d .d .given .0 .0)) (start .args .value)
     (at-d .d .given .1) (sent l (topTable (start .args .stack .now) (start .args .frames .now) (start .args .slots .now) plain b) (start .args .m)
     (start .args .fuel) w rep _ _ (at-d .d .given .0 .0) (start .args .value) (at-coro-send .coro-send .ensures))
-
-same-length-3 : tie.Need-same-length-3
-same-length-3 c = search needs
-
-same-length-4 : tie.Need-same-length-4
-same-length-4 c = search needs
-
-same-length-5 : tie.Need-same-length-5
-same-length-5 c = search needs
 
 returns-2 : tie.Need-returns-2
 returns-2 c =
@@ -84,20 +51,20 @@ pub deliver-return-spec : {M : Type 1} → statement M
 deliver-return-spec =
     tie.close
     (tie.spec
-    enum-known-d
+    (λ c. search needs)
     coro-send-requires
-    enum-known-d-2
+    (λ c. search needs)
     iter-returned-requires
-    enum-told
-    stopped-requires
-    enum-told-2
-    set-finalizing-requires
-    same-length
-    same-length-2
+    (λ c. search needs)
+    (λ c κs. search needs)
+    (λ c. search needs)
+    (λ c κs. search needs)
+    (λ c. search needs)
+    (λ c. search needs)
     returns
-    same-length-3
-    same-length-4
-    same-length-5
+    (λ c. search needs)
+    (λ c. search needs)
+    (λ c. search needs)
     returns-2
     returns-3
     returns-4)

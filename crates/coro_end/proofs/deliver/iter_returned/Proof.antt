@@ -6,21 +6,6 @@ use borrow.Author.Needs.{needs}
 use Rattle.coro_end.proofs.deliver.iter_returned.Statement.{statement}
 use Rattle.coro_end.proofs.deliver.iter_returned.Tie as tie
 
-set-done-requires : tie.Need-set-done-requires
-set-done-requires c κs = search needs
-
-coro-send-requires : tie.Need-coro-send-requires
-coro-send-requires c κs = search needs
-
-same-length : tie.Need-same-length
-same-length c = search needs
-
-same-length-2 : tie.Need-same-length-2
-same-length-2 c = search needs
-
-same-length-3 : tie.Need-same-length-3
-same-length-3 c = search needs
-
 returns : tie.Need-returns
 returns c =
     let at-coro-send = c .before .before .before .before in let at-set-done = at-coro-send .before .before .before .before .before in
@@ -33,4 +18,4 @@ returns c =
 pub iter-returned-spec : {M : Type 1} → statement M
 iter-returned-spec =
     tie.close
-    (tie.spec set-done-requires coro-send-requires same-length same-length-2 same-length-3 returns)
+    (tie.spec (λ c κs. search needs) (λ c κs. search needs) (λ c. search needs) (λ c. search needs) (λ c. search needs) returns)

@@ -7,24 +7,6 @@ use borrow.Author.Needs.{needs}
 use Rattle.coro_end.proofs.deliver.iter_yielded.Statement.{statement}
 use Rattle.coro_end.proofs.deliver.iter_yielded.Tie as tie
 
-set-key-requires : tie.Need-set-key-requires
-set-key-requires c κs = search needs
-
-put-reg-requires : tie.Need-put-reg-requires
-put-reg-requires c κs = search needs
-
-coro-send-requires : tie.Need-coro-send-requires
-coro-send-requires c κs = search needs
-
-same-length : tie.Need-same-length
-same-length c = search needs
-
-same-length-2 : tie.Need-same-length-2
-same-length-2 c = search needs
-
-same-length-3 : tie.Need-same-length-3
-same-length-3 c = search needs
-
 returns : tie.Need-returns
 returns c =
     let at-coro-send = c .before .before .before .before in let at-put-reg = at-coro-send .before .before .before .before .before in
@@ -42,10 +24,10 @@ pub iter-yielded-spec : {M : Type 1} → statement M
 iter-yielded-spec =
     tie.close
     (tie.spec
-    set-key-requires
-    put-reg-requires
-    coro-send-requires
-    same-length
-    same-length-2
-    same-length-3
+    (λ c κs. search needs)
+    (λ c κs. search needs)
+    (λ c κs. search needs)
+    (λ c. search needs)
+    (λ c. search needs)
+    (λ c. search needs)
     returns)

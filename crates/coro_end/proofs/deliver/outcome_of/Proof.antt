@@ -5,15 +5,6 @@ use borrow.Author.Needs.{needs}
 use Rattle.coro_end.proofs.deliver.outcome_of.Statement.{statement}
 use Rattle.coro_end.proofs.deliver.outcome_of.Tie as tie
 
-enum-known-e : tie.Need-enum-known-e
-enum-known-e c = search needs
-
-enum-known-e-2 : tie.Need-enum-known-e-2
-enum-known-e-2 c = search needs
-
-enum-told : tie.Need-enum-told
-enum-told c = search needs
-
 returns : tie.Need-returns
 returns c = sym (ap outcomeOf (c .before .e .given .1))
 
@@ -25,4 +16,4 @@ returns-3 c = search needs
 
 pub outcome-of-spec : {M : Type 1} → statement M
 outcome-of-spec =
-    tie.close (tie.spec enum-known-e enum-known-e-2 enum-told returns returns-2 returns-3)
+    tie.close (tie.spec (λ c. search needs) (λ c. search needs) (λ c. search needs) returns returns-2 returns-3)

@@ -3,11 +3,8 @@ use borrow.Author.Needs.{needs}
 use Rattle.coro_end.proofs.deliver.stopped.Statement.{statement}
 use Rattle.coro_end.proofs.deliver.stopped.Tie as tie
 
-told-stop-requires : tie.Need-told-stop-requires
-told-stop-requires c κs = search needs
-
 returns : tie.Need-returns
 returns c = rw (c .told-stop .ensures)
 
 pub stopped-spec : {M : Type 1} → statement M
-stopped-spec = tie.close (tie.spec told-stop-requires returns)
+stopped-spec = tie.close (tie.spec (λ c κs. search needs) returns)

@@ -5,15 +5,6 @@ use borrow.Author.Needs.{needs}
 use Rattle.coro_end.proofs.escaped.closed_by.Statement.{statement}
 use Rattle.coro_end.proofs.escaped.closed_by.Tie as tie
 
-coro-requires : tie.Need-coro-requires
-coro-requires c κs = search needs
-
-enum-told : tie.Need-enum-told
-enum-told c = search needs
-
-enum-known-c : tie.Need-enum-known-c
-enum-known-c c = search needs
-
 returns : tie.Need-returns
 returns c =
     let test = c .before in let found = test .before .before in let looked = found .before .before in
@@ -36,4 +27,4 @@ returns-3 c =
 
 pub closed-by-spec : {M : Type 1} → statement M
 closed-by-spec =
-    tie.close (tie.spec coro-requires enum-told enum-known-c returns returns-2 returns-3)
+    tie.close (tie.spec (λ c κs. search needs) (λ c. search needs) (λ c. search needs) returns returns-2 returns-3)

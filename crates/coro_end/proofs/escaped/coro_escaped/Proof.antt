@@ -23,36 +23,9 @@ returns c =
     none-escaped (a .l) (lent (a .stack .now) (a .frames .now) (a .chain .now) (a .slots .now) (a .saved-stack .now) (a .saved-frames .now) b) (a .m) (a .fuel)
     w (a .value) (a .func) (a .pc) rep (c .if1 .taken)
 
-sub-active-at : tie.Need-sub-active-at
-sub-active-at c = search needs
-
-active-at-requires : tie.Need-active-at-requires
-active-at-requires c κs = search needs
-
 closed-by-requires : tie.Need-closed-by-requires
 closed-by-requires c κs =
     start-of (c .before .before .before .before .before) .pre .held .rep .slots .within
-
-coro-returned-requires : tie.Need-coro-returned-requires
-coro-returned-requires c κs = search needs
-
-same-length : tie.Need-same-length
-same-length c = search needs
-
-same-length-2 : tie.Need-same-length-2
-same-length-2 c = search needs
-
-same-length-3 : tie.Need-same-length-3
-same-length-3 c = search needs
-
-same-length-4 : tie.Need-same-length-4
-same-length-4 c = search needs
-
-same-length-5 : tie.Need-same-length-5
-same-length-5 c = search needs
-
-same-length-6 : tie.Need-same-length-6
-same-length-6 c = search needs
 
 returns-2 : tie.Need-returns-2
 returns-2 c =
@@ -75,21 +48,6 @@ end-last-requires c κs =
     let start = start-of (c .before .before .before .before .before .before .before .before .before .before .before) in
     let a = start .args in
     end-fits (a .l) (a .m) (a .stack .now) (a .frames .now) (a .chain .now) (a .slots .now) (a .saved-stack .now) (a .saved-frames .now) (start .pre) CoroState.Failed refl
-
-fail-to-requires : tie.Need-fail-to-requires
-fail-to-requires c κs = search needs
-
-same-length-7 : tie.Need-same-length-7
-same-length-7 c = search needs
-
-same-length-8 : tie.Need-same-length-8
-same-length-8 c = search needs
-
-same-length-9 : tie.Need-same-length-9
-same-length-9 c = search needs
-
-same-length-10 : tie.Need-same-length-10
-same-length-10 c = search needs
 
 returns-3 : tie.Need-returns-3
 returns-3 c =
@@ -115,21 +73,21 @@ coro-escaped-spec =
     tie.close
     (tie.spec
     returns
-    sub-active-at
-    active-at-requires
+    (λ c. search needs)
+    (λ c κs. search needs)
     closed-by-requires
-    coro-returned-requires
-    same-length
-    same-length-2
-    same-length-3
-    same-length-4
-    same-length-5
-    same-length-6
+    (λ c κs. search needs)
+    (λ c. search needs)
+    (λ c. search needs)
+    (λ c. search needs)
+    (λ c. search needs)
+    (λ c. search needs)
+    (λ c. search needs)
     returns-2
     end-last-requires
-    fail-to-requires
-    same-length-7
-    same-length-8
-    same-length-9
-    same-length-10
+    (λ c κs. search needs)
+    (λ c. search needs)
+    (λ c. search needs)
+    (λ c. search needs)
+    (λ c. search needs)
     returns-3)

@@ -8,24 +8,6 @@ use borrow.Author.Needs.{needs}
 use Rattle.coro_end.proofs.escaped.fail_to.Statement.{statement}
 use Rattle.coro_end.proofs.escaped.fail_to.Tie as tie
 
-enum-told : tie.Need-enum-told
-enum-told c = search needs
-
-enum-told-2 : tie.Need-enum-told-2
-enum-told-2 c = search needs
-
-enum-told-3 : tie.Need-enum-told-3
-enum-told-3 c = search needs
-
-stopped-requires : tie.Need-stopped-requires
-stopped-requires c κs = search needs
-
-enum-told-4 : tie.Need-enum-told-4
-enum-told-4 c = search needs
-
-set-finalizing-requires : tie.Need-set-finalizing-requires
-set-finalizing-requires c κs = search needs
-
 returns : tie.Need-returns
 returns c =
     let start = c .before .before in
@@ -59,12 +41,12 @@ pub fail-to-spec : {M : Type 1} → statement M
 fail-to-spec =
     tie.close
     (tie.spec
-    enum-told
-    enum-told-2
-    enum-told-3
-    stopped-requires
-    enum-told-4
-    set-finalizing-requires
+    (λ c. search needs)
+    (λ c. search needs)
+    (λ c. search needs)
+    (λ c κs. search needs)
+    (λ c. search needs)
+    (λ c κs. search needs)
     returns
     returns-2
     returns-3

@@ -10,15 +10,6 @@ use Rattle.coro_end.proofs.finish.finish_coroutine.Tie as tie
 abbrev start-of : tie.After-coro → tie.Start
 start-of c = c .before .before .before .before .before
 
-coro-requires : tie.Need-coro-requires
-coro-requires c κs = search needs
-
-enum-told : tie.Need-enum-told
-enum-told c = search needs
-
-enum-known-i : tie.Need-enum-known-i
-enum-known-i c = search needs
-
 give-back-row-requires : tie.Need-give-back-row-requires
 give-back-row-requires c κs =
     let at-i = c .before .before .before in let at-coro = at-i .before .before in let start = start-of at-coro in
@@ -36,23 +27,11 @@ mark-ended-requires c κs =
     (start .args .m) (h .beside .fuel) (start .args .v .0) (h .world) (h .rep) (h .known) (at-i .i .given .0 .0) (at-i .i .given .0 .1 .0)
     (sym (at-i .i .given .1) ∙ at-coro .coro .ensures)
 
-same-length : tie.Need-same-length
-same-length c = search needs
-
 returns : tie.Need-returns
 returns c =
     let at-coro = c .before .before in let start = start-of at-coro in
     λ w b rep rowed. none-ends (start .args .l) (rows (start .args .slots .now) (start .args .saved-stack .now) (start .args .saved-frames .now) plain b)
     (start .args .m) (b .fuel) (start .args .v .0) w rep (start .args .s) (start .args .result) _ (sym (c .enum-told .given .1) ∙ at-coro .coro .ensures)
-
-same-length-2 : tie.Need-same-length-2
-same-length-2 c = search needs
-
-same-length-3 : tie.Need-same-length-3
-same-length-3 c = search needs
-
-same-length-4 : tie.Need-same-length-4
-same-length-4 c = search needs
 
 returns-2 : tie.Need-returns-2
 returns-2 c =
@@ -67,14 +46,14 @@ pub finish-coroutine-spec : {M : Type 1} → statement M
 finish-coroutine-spec =
     tie.close
     (tie.spec
-    coro-requires
-    enum-told
-    enum-known-i
+    (λ c κs. search needs)
+    (λ c. search needs)
+    (λ c. search needs)
     give-back-row-requires
     mark-ended-requires
-    same-length
+    (λ c. search needs)
     returns
-    same-length-2
-    same-length-3
-    same-length-4
+    (λ c. search needs)
+    (λ c. search needs)
+    (λ c. search needs)
     returns-2)

@@ -5,9 +5,6 @@ use borrow.Author.Needs.{needs}
 use Rattle.coro_end.proofs.finish.give_back_row.Statement.{statement}
 use Rattle.coro_end.proofs.finish.give_back_row.Tie as tie
 
-is-finished-requires : tie.Need-is-finished-requires
-is-finished-requires c κs = search needs
-
 returns : tie.Need-returns
 returns c = record { row = λ e. no-true (sym (sym (c .before .is-finished .ensures) ∙ c .if1 .taken) ∙ e); none = λ e. (refl, refl) }
 
@@ -15,12 +12,6 @@ clear-row-requires : tie.Need-clear-row-requires
 clear-row-requires c κs =
     let at-if1 = c .before .before in let at-is-finished = at-if1 .before in let start = at-is-finished .before .before .before in
     start .pre .row (sym (at-is-finished .is-finished .ensures) ∙ at-if1 .if1 .left)
-
-same-length : tie.Need-same-length
-same-length c = search needs
-
-same-length-2 : tie.Need-same-length-2
-same-length-2 c = search needs
 
 returns-2 : tie.Need-returns-2
 returns-2 c =
@@ -31,4 +22,4 @@ returns-2 c =
 pub give-back-row-spec : {M : Type 1} → statement M
 give-back-row-spec =
     tie.close
-    (tie.spec is-finished-requires returns clear-row-requires same-length same-length-2 returns-2)
+    (tie.spec (λ c κs. search needs) returns clear-row-requires (λ c. search needs) (λ c. search needs) returns-2)

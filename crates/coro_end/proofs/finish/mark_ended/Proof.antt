@@ -9,18 +9,6 @@ use borrow.Author.Needs.{needs}
 use Rattle.coro_end.proofs.finish.mark_ended.Statement.{statement}
 use Rattle.coro_end.proofs.finish.mark_ended.Tie as tie
 
-tag-requires : tie.Need-tag-requires
-tag-requires c κs = search needs
-
-ended-requires : tie.Need-ended-requires
-ended-requires c κs = search needs
-
-put-slot-requires : tie.Need-put-slot-requires
-put-slot-requires c κs = search needs
-
-same-length : tie.Need-same-length
-same-length c = search needs
-
 returns : tie.Need-returns
 returns c =
     let at-put-slot = c .before .before in let at-ended = at-put-slot .before .before in let at-tag = at-ended .before in
@@ -31,4 +19,4 @@ returns c =
 
 pub mark-ended-spec : {M : Type 1} → statement M
 mark-ended-spec =
-    tie.close (tie.spec tag-requires ended-requires put-slot-requires same-length returns)
+    tie.close (tie.spec (λ c κs. search needs) (λ c κs. search needs) (λ c κs. search needs) (λ c. search needs) returns)

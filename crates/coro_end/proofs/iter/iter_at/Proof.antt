@@ -8,37 +8,10 @@ use borrow.Author.Needs.{needs}
 use Rattle.coro_end.proofs.iter.iter_at.Statement.{statement}
 use Rattle.coro_end.proofs.iter.iter_at.Tie as tie
 
-get-requires : tie.Need-get-requires
-get-requires c κs = search needs
-
-enum-told : tie.Need-enum-told
-enum-told c = search needs
-
-enum-known-i : tie.Need-enum-known-i
-enum-known-i c = search needs
-
 object-at-requires : tie.Need-object-at-requires
 object-at-requires c κs =
     let at-i = c .before in let at-get = at-i .before .before in let start = at-get .before .before in
     found-words (start .args .count) (start .args .slots .now) (start .args .v .0) (at-i .i .given .0 .0) (sym (at-i .i .given .1) ∙ at-get .get .ensures) (start .pre)
-
-enum-told-2 : tie.Need-enum-told-2
-enum-told-2 c = search needs
-
-enum-told-3 : tie.Need-enum-told-3
-enum-told-3 c = search needs
-
-enum-told-4 : tie.Need-enum-told-4
-enum-told-4 c = search needs
-
-enum-known-src : tie.Need-enum-known-src
-enum-known-src c = search needs
-
-enum-told-5 : tie.Need-enum-told-5
-enum-told-5 c = search needs
-
-enum-told-6 : tie.Need-enum-told-6
-enum-told-6 c = search needs
 
 returns : tie.Need-returns
 returns c =
@@ -91,16 +64,16 @@ pub iter-at-spec : {M : Type 1} → statement M
 iter-at-spec =
     tie.close
     (tie.spec
-    get-requires
-    enum-told
-    enum-known-i
+    (λ c κs. search needs)
+    (λ c. search needs)
+    (λ c. search needs)
     object-at-requires
-    enum-told-2
-    enum-told-3
-    enum-told-4
-    enum-known-src
-    enum-told-5
-    enum-told-6
+    (λ c. search needs)
+    (λ c. search needs)
+    (λ c. search needs)
+    (λ c. search needs)
+    (λ c. search needs)
+    (λ c. search needs)
     returns
     returns-2
     returns-3

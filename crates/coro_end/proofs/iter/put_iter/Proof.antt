@@ -8,15 +8,6 @@ use borrow.Author.Needs.{needs}
 use Rattle.coro_end.proofs.iter.put_iter.Statement.{statement}
 use Rattle.coro_end.proofs.iter.put_iter.Tie as tie
 
-tag-requires : tie.Need-tag-requires
-tag-requires c κs = search needs
-
-put-slot-requires : tie.Need-put-slot-requires
-put-slot-requires c κs = search needs
-
-same-length : tie.Need-same-length
-same-length c = search needs
-
 returns : tie.Need-returns
 returns c =
     let at-put-slot = c .before .before in let at-tag = at-put-slot .before .before in let start = at-tag .before .before in
@@ -25,4 +16,4 @@ returns c =
     (at-tag .tag .ensures)
 
 pub put-iter-spec : {M : Type 1} → statement M
-put-iter-spec = tie.close (tie.spec tag-requires put-slot-requires same-length returns)
+put-iter-spec = tie.close (tie.spec (λ c κs. search needs) (λ c κs. search needs) (λ c. search needs) returns)

@@ -7,23 +7,11 @@ use borrow.Author.Needs.{needs}
 use Rattle.coro_end.proofs.iter.set_done.Statement.{statement}
 use Rattle.coro_end.proofs.iter.set_done.Tie as tie
 
-iter-at-requires : tie.Need-iter-at-requires
-iter-at-requires c κs = search needs
-
-enum-known-slot : tie.Need-enum-known-slot
-enum-known-slot c = search needs
-
 put-iter-requires : tie.Need-put-iter-requires
 put-iter-requires c κs =
     let at-slot = c .before .before in let at-iter-at = at-slot .before .before in let start = at-iter-at .before .before .before in
     iter-words (start .args .m .count) (start .args .slots .now) (start .args .v .0) (at-slot .slot .given .0 .0) (at-slot .slot .given .0 .1 .0)
     (at-slot .slot .given .0 .1 .1 .0) (at-slot .slot .given .0 .1 .1 .1 .0) (sym (at-slot .slot .given .1) ∙ at-iter-at .iter-at .ensures) (start .pre)
-
-enum-told : tie.Need-enum-told
-enum-told c = search needs
-
-same-length : tie.Need-same-length
-same-length c = search needs
 
 returns : tie.Need-returns
 returns c =
@@ -32,9 +20,6 @@ returns c =
     λ l w b rep. iter-changed l (table (start .args .slots .now) plain b) (start .args .m) (b .fuel) w rep (start .args .v .0) (λ _. true) (λ k. k)
     (at-slot .slot .given .0 .0) (at-slot .slot .given .0 .1 .0) (at-slot .slot .given .0 .1 .1 .0) (at-slot .slot .given .0 .1 .1 .1 .0) _
     (sym (at-slot .slot .given .1) ∙ at-iter-at .iter-at .ensures) (at-put-iter .put-iter .ensures)
-
-same-length-2 : tie.Need-same-length-2
-same-length-2 c = search needs
 
 returns-2 : tie.Need-returns-2
 returns-2 c =
@@ -46,11 +31,11 @@ pub set-done-spec : {M : Type 1} → statement M
 set-done-spec =
     tie.close
     (tie.spec
-    iter-at-requires
-    enum-known-slot
+    (λ c κs. search needs)
+    (λ c. search needs)
     put-iter-requires
-    enum-told
-    same-length
+    (λ c. search needs)
+    (λ c. search needs)
     returns
-    same-length-2
+    (λ c. search needs)
     returns-2)

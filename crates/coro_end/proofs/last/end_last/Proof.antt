@@ -16,18 +16,6 @@ returns c =
     λ w b rep rowed. none-ends-last (a .l) (ending (a .chain .now) (a .slots .now) (a .saved-stack .now) (a .saved-frames .now) plain b) (a .m) (b .fuel) w rep
     (a .s) (a .result) (c .if1 .taken)
 
-sub-active-at : tie.Need-sub-active-at
-sub-active-at c = search needs
-
-active-at-requires : tie.Need-active-at-requires
-active-at-requires c κs = search needs
-
-pop-active-requires : tie.Need-pop-active-requires
-pop-active-requires c κs = search needs
-
-sub-n : tie.Need-sub-n
-sub-n c = search needs
-
 finish-coroutine-requires : tie.Need-finish-coroutine-requires
 finish-coroutine-requires c κs =
     let gone = c .before .before .before .before .before .before in let read = gone .before .before in
@@ -37,18 +25,6 @@ finish-coroutine-requires c κs =
     finish-fits (a .l) (a .m) (a .chain .now) (a .slots .now) (a .saved-stack .now) (a .saved-frames .now) (a .s) (start .pre) (read .active-at .result) some
     (read .active-at .ensures) (gone .pop-active .last .0)
     (gone .pop-active .ensures)
-
-same-length : tie.Need-same-length
-same-length c = search needs
-
-same-length-2 : tie.Need-same-length-2
-same-length-2 c = search needs
-
-same-length-3 : tie.Need-same-length-3
-same-length-3 c = search needs
-
-same-length-4 : tie.Need-same-length-4
-same-length-4 c = search needs
 
 returns-2 : tie.Need-returns-2
 returns-2 c =
@@ -70,13 +46,13 @@ end-last-spec =
     tie.close
     (tie.spec
     returns
-    sub-active-at
-    active-at-requires
-    pop-active-requires
-    sub-n
+    (λ c. search needs)
+    (λ c κs. search needs)
+    (λ c κs. search needs)
+    (λ c. search needs)
     finish-coroutine-requires
-    same-length
-    same-length-2
-    same-length-3
-    same-length-4
+    (λ c. search needs)
+    (λ c. search needs)
+    (λ c. search needs)
+    (λ c. search needs)
     returns-2)

@@ -23,12 +23,6 @@ returns c =
     none-active (a .l) (lent (a .stack .now) (a .frames .now) (a .chain .now) (a .slots .now) (a .saved-stack .now) (a .saved-frames .now) b) (a .m) (a .fuel) w
     (a .value) rep (c .if1 .taken)
 
-sub-active-at : tie.Need-sub-active-at
-sub-active-at c = search needs
-
-active-at-requires : tie.Need-active-at-requires
-active-at-requires c κs = search needs
-
 end-last-requires : tie.Need-end-last-requires
 end-last-requires c κs =
     let start = start-of (c .before .before .before .before .before .before .before .before) in
@@ -46,24 +40,6 @@ deliver-return-requires c κs =
     return-fits (a .l) (a .m) (a .stack .now) (a .frames .now) (a .chain .now) (a .slots .now) (a .saved-stack .now) (a .saved-frames .now) (start .pre)
     (read .active-at .result) some (read .active-at .ensures)
     (f .last .0) (f .last .1 .0) (f .last .1 .1 .0) (f .last .1 .1 .1 .0) (f .result) CoroState.Returned (a .value) (f .ensures)
-
-same-length : tie.Need-same-length
-same-length c = search needs
-
-same-length-2 : tie.Need-same-length-2
-same-length-2 c = search needs
-
-same-length-3 : tie.Need-same-length-3
-same-length-3 c = search needs
-
-same-length-4 : tie.Need-same-length-4
-same-length-4 c = search needs
-
-same-length-5 : tie.Need-same-length-5
-same-length-5 c = search needs
-
-same-length-6 : tie.Need-same-length-6
-same-length-6 c = search needs
 
 returns-2 : tie.Need-returns-2
 returns-2 c =
@@ -90,14 +66,14 @@ coro-returned-spec =
     tie.close
     (tie.spec
     returns
-    sub-active-at
-    active-at-requires
+    (λ c. search needs)
+    (λ c κs. search needs)
     end-last-requires
     deliver-return-requires
-    same-length
-    same-length-2
-    same-length-3
-    same-length-4
-    same-length-5
-    same-length-6
+    (λ c. search needs)
+    (λ c. search needs)
+    (λ c. search needs)
+    (λ c. search needs)
+    (λ c. search needs)
+    (λ c. search needs)
     returns-2)

@@ -4,30 +4,15 @@ use borrow.Author.Needs.{needs}
 use Rattle.coro_enter.proofs.arrival.arrive.Statement.{statement}
 use Rattle.coro_enter.proofs.arrival.arrive.Tie as tie
 
-enum-told : tie.Need-enum-told
-enum-told c = search needs
-
-enum-known-a : tie.Need-enum-known-a
-enum-known-a c = search needs
-
 coro-send-requires : tie.Need-coro-send-requires
 coro-send-requires c κs =
     let at-a = c .before .before .before in let start = at-a .before .before .before .before in
     start .pre .waits (at-a .a .given .0 .0) (at-a .a .given .1)
 
-enum-known-a-2 : tie.Need-enum-known-a-2
-enum-known-a-2 c = search needs
-
 returns : tie.Need-returns
 returns c =
     let start = c .before .before .before .before in
     λ l w b rep. arrive-fresh l _ (start .args .m) (b .fuel) w (start .args .a) (start .args .sent) (c .enum-told .given .1) rep
-
-same-length : tie.Need-same-length
-same-length c = search needs
-
-same-length-2 : tie.Need-same-length-2
-same-length-2 c = search needs
 
 returns-2 : tie.Need-returns-2
 returns-2 c =
@@ -44,12 +29,12 @@ pub arrive-spec : {M : Type 1} → statement M
 arrive-spec =
     tie.close
     (tie.spec
-    enum-told
-    enum-known-a
+    (λ c. search needs)
+    (λ c. search needs)
     coro-send-requires
-    enum-known-a-2
+    (λ c. search needs)
     returns
-    same-length
-    same-length-2
+    (λ c. search needs)
+    (λ c. search needs)
     returns-2
     returns-3)

@@ -16,9 +16,6 @@ store-enter-of c = c .before .before .before .before .before .before .before .be
 abbrev start-of : tie.After-store-enter → tie.Start
 start-of c = c .before .before .before .before .before .before .before .before .before .before .before .before .before
 
-store-enter-requires : tie.Need-store-enter-requires
-store-enter-requires c κs = search needs
-
 arrive-requires : tie.Need-arrive-requires
 arrive-requires c κs =
     let at-store-enter = store-enter-of c in let start = start-of at-store-enter in
@@ -26,24 +23,6 @@ arrive-requires c κs =
     arrive-fits (start .args .l) _ (at-store-enter .store-enter .result .machine) _ (start .args .v) (start .args .d) u
     (at-store-enter .store-enter .result .answer) (store-sounds (start .args .pc) (o .world) (start .pre .narrow) (o .sound))
     (at-store-enter .store-enter .ensures (o .world) (o .beside) (o .rep) (o .sound))
-
-same-length : tie.Need-same-length
-same-length c = search needs
-
-same-length-2 : tie.Need-same-length-2
-same-length-2 c = search needs
-
-same-length-3 : tie.Need-same-length-3
-same-length-3 c = search needs
-
-same-length-4 : tie.Need-same-length-4
-same-length-4 c = search needs
-
-same-length-5 : tie.Need-same-length-5
-same-length-5 c = search needs
-
-same-length-6 : tie.Need-same-length-6
-same-length-6 c = search needs
 
 returns : tie.Need-returns
 returns c =
@@ -61,12 +40,12 @@ pub enter-send-spec : {M : Type 1} → statement M
 enter-send-spec =
     tie.close
     (tie.spec
-    store-enter-requires
+    (λ c κs. search needs)
     arrive-requires
-    same-length
-    same-length-2
-    same-length-3
-    same-length-4
-    same-length-5
-    same-length-6
+    (λ c. search needs)
+    (λ c. search needs)
+    (λ c. search needs)
+    (λ c. search needs)
+    (λ c. search needs)
+    (λ c. search needs)
     returns)

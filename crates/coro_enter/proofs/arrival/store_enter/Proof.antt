@@ -11,9 +11,6 @@ use Rattle.coro_enter.proofs.arrival.store_enter.Tie as tie
 abbrev mem : tie.Start → Beside → Lent
 mem c b = lent (c .args .stack .now) (c .args .frames .now) (c .args .chain .now) (c .args .slots .now) (c .args .saved-stack .now) (c .args .saved-frames .now) b
 
-store-pc-requires : tie.Need-store-pc-requires
-store-pc-requires c κs = search needs
-
 coro-enter-requires : tie.Need-coro-enter-requires
 coro-enter-requires c κs =
     let at-store-pc = c .before .before .before .before .before .before .before .before in
@@ -23,24 +20,6 @@ coro-enter-requires c κs =
     (start .args .saved-stack .now) (start .args .saved-frames .now)
     (at-store-pc .store-pc .last .0) (start .args .pc) (at-store-pc .store-pc .kept .0) (start .pre .narrow) o
     (at-store-pc .store-pc .ensures (start .args .l) (o .world) (record { words = mem start (o .beside); fuel = o .beside .fuel }) (o .rep))
-
-same-length : tie.Need-same-length
-same-length c = search needs
-
-same-length-2 : tie.Need-same-length-2
-same-length-2 c = search needs
-
-same-length-3 : tie.Need-same-length-3
-same-length-3 c = search needs
-
-same-length-4 : tie.Need-same-length-4
-same-length-4 c = search needs
-
-same-length-5 : tie.Need-same-length-5
-same-length-5 c = search needs
-
-same-length-6 : tie.Need-same-length-6
-same-length-6 c = search needs
 
 returns : tie.Need-returns
 returns c =
@@ -54,12 +33,12 @@ pub store-enter-spec : {M : Type 1} → statement M
 store-enter-spec =
     tie.close
     (tie.spec
-    store-pc-requires
+    (λ c κs. search needs)
     coro-enter-requires
-    same-length
-    same-length-2
-    same-length-3
-    same-length-4
-    same-length-5
-    same-length-6
+    (λ c. search needs)
+    (λ c. search needs)
+    (λ c. search needs)
+    (λ c. search needs)
+    (λ c. search needs)
+    (λ c. search needs)
     returns)

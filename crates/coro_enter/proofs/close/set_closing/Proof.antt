@@ -10,24 +10,12 @@ use borrow.Author.Needs.{needs}
 use Rattle.coro_enter.proofs.close.set_closing.Statement.{statement}
 use Rattle.coro_enter.proofs.close.set_closing.Tie as tie
 
-coro-place-requires : tie.Need-coro-place-requires
-coro-place-requires c κs = search needs
-
-enum-told : tie.Need-enum-told
-enum-told c = search needs
-
-enum-known-i : tie.Need-enum-known-i
-enum-known-i c = search needs
-
 put-closing-requires : tie.Need-put-closing-requires
 put-closing-requires c κs =
     let at-i = c .before .before in
     let placed = at-i .before .before in
     let start = placed .before .before .before in
     stands-words (start .args .m .count) (start .args .slots .now) (start .args .v .0) (at-i .i .given .0 .0) (sym (at-i .i .given .1) ∙ placed .coro-place .ensures) (start .pre)
-
-same-length : tie.Need-same-length
-same-length c = search needs
 
 returns : tie.Need-returns
 returns c =
@@ -36,9 +24,6 @@ returns c =
     λ l w b rep.
     rest-absent l (table (start .args .slots .now) plain b) (start .args .m) (b .fuel) (start .args .v .0) w rep (close (start .args .signal)) _
     (none-there (coroOf (slotsOf (start .args .m .count) (start .args .slots .now)) (start .args .v .0)) _ (sym (c .enum-told .given .1) ∙ placed .coro-place .ensures))
-
-same-length-2 : tie.Need-same-length-2
-same-length-2 c = search needs
 
 returns-2 : tie.Need-returns-2
 returns-2 c =
@@ -53,11 +38,11 @@ pub set-closing-spec : {M : Type 1} → statement M
 set-closing-spec =
     tie.close
     (tie.spec
-    coro-place-requires
-    enum-told
-    enum-known-i
+    (λ c κs. search needs)
+    (λ c. search needs)
+    (λ c. search needs)
     put-closing-requires
-    same-length
+    (λ c. search needs)
     returns
-    same-length-2
+    (λ c. search needs)
     returns-2)

@@ -57,15 +57,6 @@ sum c =
     (slot at-coro-at) (coro at-coro-at) (found at-coro-at) (start .pre .sound) (at-refusal .refusal .result) (at-refusal .refusal .ensures) (none c)
     (start .pre .room)
 
-coro-place-requires : tie.Need-coro-place-requires
-coro-place-requires c κs = search needs
-
-enum-known-f : tie.Need-enum-known-f
-enum-known-f c = search needs
-
-enum-known-i : tie.Need-enum-known-i
-enum-known-i c = search needs
-
 coro-at-requires : tie.Need-coro-at-requires
 coro-at-requires c κs =
     let at-i = c .before .before in let at-coro-place = at-i .before .before in let start = start-of-coro-place at-coro-place in
@@ -78,12 +69,6 @@ refusal-requires c κs =
     let b = before (start .args .l) (mem start (start .pre .beside)) (start .args .m) (start .pre .beside .fuel) (start .args .v .0) (start .pre .world)
     (start .pre .rep) (slot c) (coro c) (found c) (start .pre .sound) in
     (b .depth, b .height)
-
-number-requires : tie.Need-number-requires
-number-requires c κs = search needs
-
-same-length : tie.Need-same-length
-same-length c = search needs
 
 returns : tie.Need-returns
 returns c =
@@ -117,36 +102,12 @@ entered-requires c κs =
     let start = start-of (at-if1 .before .before .before) in
     let s = sum at-if1 in let h₁ = s .height in let h₂ = s .depth in let h₃ = s .active in (omega (arith, h₁, start .good), omega (arith, h₂, start .good), omega (arith, h₃, start .good))
 
-entered-as-requires : tie.Need-entered-as-requires
-entered-as-requires c κs = search needs
-
-same-length-2 : tie.Need-same-length-2
-same-length-2 c = search needs
-
 returns-2 : tie.Need-returns-2
 returns-2 c =
     let at-f = c .before in let at-coro-place = at-f .before .before in let start = start-of-coro-place at-coro-place in
     λ w b rep snd. not-found (start .args .l) (mem start b) (start .args .m) (b .fuel) (start .args .v .0) w rep (start .args .d)
     _ (none-there (coroOf (slotsOf (start .args .m .count) (start .args .slots .now)) (start .args .v .0)) (at-f .f .given .0 .0)
     (sym (at-f .f .given .1) ∙ at-coro-place .coro-place .ensures))
-
-same-length-3 : tie.Need-same-length-3
-same-length-3 c = search needs
-
-same-length-4 : tie.Need-same-length-4
-same-length-4 c = search needs
-
-same-length-5 : tie.Need-same-length-5
-same-length-5 c = search needs
-
-same-length-6 : tie.Need-same-length-6
-same-length-6 c = search needs
-
-same-length-7 : tie.Need-same-length-7
-same-length-7 c = search needs
-
-same-length-8 : tie.Need-same-length-8
-same-length-8 c = search needs
 
 returns-3 : tie.Need-returns-3
 returns-3 c =
@@ -164,25 +125,25 @@ pub coro-enter-spec : {M : Type 1} → statement M
 coro-enter-spec =
     tie.close
     (tie.spec
-    coro-place-requires
-    enum-known-f
-    enum-known-i
+    (λ c κs. search needs)
+    (λ c. search needs)
+    (λ c. search needs)
     coro-at-requires
     refusal-requires
-    number-requires
-    same-length
+    (λ c κs. search needs)
+    (λ c. search needs)
     returns
     move-in-requires
     push-active-requires
     put-state-requires
     entered-requires
-    entered-as-requires
-    same-length-2
+    (λ c κs. search needs)
+    (λ c. search needs)
     returns-2
-    same-length-3
-    same-length-4
-    same-length-5
-    same-length-6
-    same-length-7
-    same-length-8
+    (λ c. search needs)
+    (λ c. search needs)
+    (λ c. search needs)
+    (λ c. search needs)
+    (λ c. search needs)
+    (λ c. search needs)
     returns-3)

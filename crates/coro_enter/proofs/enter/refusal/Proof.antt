@@ -6,17 +6,11 @@ use borrow.Author.Needs.{needs}
 use Rattle.coro_enter.proofs.enter.refusal.Statement.{statement}
 use Rattle.coro_enter.proofs.enter.refusal.Tie as tie
 
-is-resumable-requires : tie.Need-is-resumable-requires
-is-resumable-requires c κs = search needs
-
 returns : tie.Need-returns
 returns c = let a = c .before .before .args in by-state (a .m .height) (a .m .depth) (a .l) (a .c) (sym (c .before .is-resumable .ensures) ∙ not-true _ (c .if1 .taken))
 
 returns-2 : tie.Need-returns-2
 returns-2 c = let a = c .before .before .before .before .args in by-none (a .m .height) (a .m .depth) (a .l) (a .c) (c .if2 .taken)
-
-sub-if3 : tie.Need-sub-if3
-sub-if3 c = search needs
 
 returns-3 : tie.Need-returns-3
 returns-3 c =
@@ -25,9 +19,6 @@ returns-3 c =
     let a = start .args in
     by-depth (a .m .height) (a .m .depth) (a .l) (a .c) (sym (at-is-resumable .is-resumable .ensures) ∙ not-false _ (at-if1 .if1 .left)) (at-if2 .if2 .left)
     (start .pre .0) (c .if3 .taken)
-
-sub-if4 : tie.Need-sub-if4
-sub-if4 c = search needs
 
 returns-4 : tie.Need-returns-4
 returns-4 c =
@@ -49,11 +40,11 @@ pub refusal-spec : {M : Type 1} → statement M
 refusal-spec =
     tie.close
     (tie.spec
-    is-resumable-requires
+    (λ c κs. search needs)
     returns
     returns-2
-    sub-if3
+    (λ c. search needs)
     returns-3
-    sub-if4
+    (λ c. search needs)
     returns-4
     returns-5)

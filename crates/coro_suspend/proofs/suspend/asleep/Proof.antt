@@ -3,27 +3,6 @@ use borrow.Author.Needs.{needs}
 use Rattle.coro_suspend.proofs.suspend.asleep.Statement.{statement}
 use Rattle.coro_suspend.proofs.suspend.asleep.Tie as tie
 
-ignores-requires : tie.Need-ignores-requires
-ignores-requires c κs = search needs
-
-closing-after-requires : tie.Need-closing-after-requires
-closing-after-requires c κs = search needs
-
-larger-requires : tie.Need-larger-requires
-larger-requires c κs = search needs
-
-larger-requires-2 : tie.Need-larger-requires-2
-larger-requires-2 c κs = search needs
-
-key-of-requires : tie.Need-key-of-requires
-key-of-requires c κs = search needs
-
-largest-of-requires : tie.Need-largest-of-requires
-largest-of-requires c κs = search needs
-
-signal-after-requires : tie.Need-signal-after-requires
-signal-after-requires c κs = search needs
-
 returns : tie.Need-returns
 returns c =
     let at-largest-of = c .before in let at-key-of = at-largest-of .before in let at-larger2 = at-key-of .before in
@@ -42,11 +21,11 @@ pub asleep-spec : {M : Type 1} → statement M
 asleep-spec =
     tie.close
     (tie.spec
-    ignores-requires
-    closing-after-requires
-    larger-requires
-    larger-requires-2
-    key-of-requires
-    largest-of-requires
-    signal-after-requires
+    (λ c κs. search needs)
+    (λ c κs. search needs)
+    (λ c κs. search needs)
+    (λ c κs. search needs)
+    (λ c κs. search needs)
+    (λ c κs. search needs)
+    (λ c κs. search needs)
     returns)

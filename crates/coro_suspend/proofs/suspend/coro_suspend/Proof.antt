@@ -31,15 +31,6 @@ returns c =
     let start = c .before .before .before .before .before .before .before .before in
     λ w b rep snd. idle (start .args .l) (mem start b) (start .args .m) (b .fuel) (start .args .state) (start .args .dst) (start .args .payload) (start .args .keys) w rep (c .if1 .taken)
 
-sub-active-at : tie.Need-sub-active-at
-sub-active-at c = search needs
-
-active-at-requires : tie.Need-active-at-requires
-active-at-requires c κs = search needs
-
-same-length : tie.Need-same-length
-same-length c = search needs
-
 returns-2 : tie.Need-returns-2
 returns-2 c =
     let at-active-at = c .before .before in let at-if1 = at-active-at .before .before .before in let start = start-of at-if1 in
@@ -49,12 +40,6 @@ returns-2 c =
 coro-place-requires : tie.Need-coro-place-requires
 coro-place-requires c κs =
     start-of (c .before .before .before .before .before .before) .pre .ok .rep .slots .within
-
-enum-told : tie.Need-enum-told
-enum-told c = search needs
-
-enum-known-i : tie.Need-enum-known-i
-enum-known-i c = search needs
 
 coro-at-requires : tie.Need-coro-at-requires
 coro-at-requires c κs =
@@ -77,12 +62,6 @@ suspend-found-requires c κs =
       coro = ap (RV.At (at-i .i .given .0 .0)) (at-coro-at .coro-at .ensures) ∙ stands (start .args .m .count) (start .args .slots .now)
           (at-active-at .active-at .result .coro) (at-i .i .given .0 .0) (sym (at-i .i .given .1) ∙ at-coro-place .coro-place .ensures) .coro;
     }
-
-same-length-2 : tie.Need-same-length-2
-same-length-2 c = search needs
-
-same-length-3 : tie.Need-same-length-3
-same-length-3 c = search needs
 
 returns-3 : tie.Need-returns-3
 returns-3 c =
@@ -133,17 +112,17 @@ coro-suspend-spec =
     tie.close
     (tie.spec
     returns
-    sub-active-at
-    active-at-requires
-    same-length
+    (λ c. search needs)
+    (λ c κs. search needs)
+    (λ c. search needs)
     returns-2
     coro-place-requires
-    enum-told
-    enum-known-i
+    (λ c. search needs)
+    (λ c. search needs)
     coro-at-requires
     suspend-found-requires
-    same-length-2
-    same-length-3
+    (λ c. search needs)
+    (λ c. search needs)
     returns-3
     same-length-4
     same-length-5

@@ -5,9 +5,6 @@ use borrow.Author.Needs.{needs}
 use Rattle.coro_suspend.proofs.suspend.event_of.Statement.{statement}
 use Rattle.coro_suspend.proofs.suspend.event_of.Tie as tie
 
-is-awaiting-requires : tie.Need-is-awaiting-requires
-is-awaiting-requires c κs = search needs
-
 returns : tie.Need-returns
 returns c = let a = c .before .before .args in awaits (a .s) (a .payload) (a .closing) (a .key) (sym (c .before .is-awaiting .ensures) ∙ c .if1 .taken)
 
@@ -22,4 +19,4 @@ returns-3 c =
     let a = start .args in yielded (a .s) (a .payload) (a .closing) (a .key) (sym (at-is-awaiting .is-awaiting .ensures) ∙ at-if1 .if1 .left) (c .if2 .left)
 
 pub event-of-spec : {M : Type 1} → statement M
-event-of-spec = tie.close (tie.spec is-awaiting-requires returns returns-2 returns-3)
+event-of-spec = tie.close (tie.spec (λ c κs. search needs) returns returns-2 returns-3)

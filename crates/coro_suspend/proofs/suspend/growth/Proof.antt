@@ -12,15 +12,6 @@ product c =
     let start = c .before .before .before in
     let a = start .args in let e = c .beyond2 .ensures in let p = start .pre in small-product (c .beyond2 .result) (a .l .costs .frame) (omega (arith, p .1)) (p .2)
 
-beyond-requires : tie.Need-beyond-requires
-beyond-requires c κs = search needs
-
-beyond-requires-2 : tie.Need-beyond-requires-2
-beyond-requires-2 c κs = search needs
-
-mul-result : tie.Need-mul-result
-mul-result c = search needs
-
 mul-result-2 : tie.Need-mul-result-2
 mul-result-2 c = let h = product (c .before) in omega arith
 
@@ -35,4 +26,4 @@ returns c =
 pub growth-spec : {M : Type 1} → statement M
 growth-spec =
     tie.close
-    (tie.spec beyond-requires beyond-requires-2 mul-result mul-result-2 add-result returns)
+    (tie.spec (λ c κs. search needs) (λ c κs. search needs) (λ c. search needs) mul-result-2 add-result returns)

@@ -36,27 +36,12 @@ known c =
     (start .pre .ok .world) (start .pre .ok .rep) (start .args .a) (start .pre .some) (start .pre .top) (start .pre .floor) (start .args .i) (start .args .c) (start .pre .coro)
     (c .base-at .result) (c .base-at .ensures) (start .pre .ok .sound)
 
-base-at-requires : tie.Need-base-at-requires
-base-at-requires c κs = search needs
-
 sub-regs : tie.Need-sub-regs
 sub-regs c = known (c .before) .under
-
-sub-deep : tie.Need-sub-deep
-sub-deep c = search needs
 
 growth-requires : tie.Need-growth-requires
 growth-requires c κs =
     let k = known (c .before .before) in (k .regs, k .frames, k .cost)
-
-charge-requires : tie.Need-charge-requires
-charge-requires c κs = search needs
-
-enum-told : tie.Need-enum-told
-enum-told c = search needs
-
-enum-known-g : tie.Need-enum-known-g
-enum-known-g c = search needs
 
 move-out-requires : tie.Need-move-out-requires
 move-out-requires c κs =
@@ -70,23 +55,14 @@ pop-active-requires : tie.Need-pop-active-requires
 pop-active-requires c κs =
     let read = read-of (c .before .before .before .before .before .before .before .before .before .before) in (start-of-read read .pre .some, known read .chain)
 
-asleep-requires : tie.Need-asleep-requires
-asleep-requires c κs = search needs
-
 put-sleep-requires : tie.Need-put-sleep-requires
 put-sleep-requires c κs =
     known (read-of (c .before .before .before .before .before .before .before .before .before .before .before .before .before .before .before)) .slot
-
-event-of-requires : tie.Need-event-of-requires
-event-of-requires c κs = search needs
 
 shrunk-requires : tie.Need-shrunk-requires
 shrunk-requires c κs =
     let at-move-out = move-out-of c in let start = start-of (at-move-out .before) in
     start .pre .some
-
-same-length : tie.Need-same-length
-same-length c = search needs
 
 returns : tie.Need-returns
 returns c =
@@ -138,20 +114,20 @@ pub suspend-found-spec : {M : Type 1} → statement M
 suspend-found-spec =
     tie.close
     (tie.spec
-    base-at-requires
+    (λ c κs. search needs)
     sub-regs
-    sub-deep
+    (λ c. search needs)
     growth-requires
-    charge-requires
-    enum-told
-    enum-known-g
+    (λ c κs. search needs)
+    (λ c. search needs)
+    (λ c. search needs)
     move-out-requires
     pop-active-requires
-    asleep-requires
+    (λ c κs. search needs)
     put-sleep-requires
-    event-of-requires
+    (λ c κs. search needs)
     shrunk-requires
-    same-length
+    (λ c. search needs)
     returns
     same-length-2
     same-length-3

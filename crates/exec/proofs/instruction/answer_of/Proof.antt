@@ -5,25 +5,10 @@ use borrow.Author.Needs.{needs}
 use Rattle.exec.proofs.instruction.answer_of.Statement.{statement}
 use Rattle.exec.proofs.instruction.answer_of.Tie as tie
 
-enum-told : tie.Need-enum-told
-enum-told c = search needs
-
-enum-told-2 : tie.Need-enum-told-2
-enum-told-2 c = search needs
-
-enum-known-step : tie.Need-enum-known-step
-enum-known-step c = search needs
-
-number-requires : tie.Need-number-requires
-number-requires c κs = search needs
-
 returns : tie.Need-returns
 returns c =
     let at-number = c .before in let at-step = at-number .before .before in let start = at-step .before .before in
     unpaid-as (start .args .taken) (start .args .step) (at-step .step .given .0 .0) (at-step .step .given .1) (sym (at-number .number .ensures) ∙ c .if1 .taken)
-
-enum-told-3 : tie.Need-enum-told-3
-enum-told-3 c = search needs
 
 returns-2 : tie.Need-returns-2
 returns-2 c =
@@ -49,12 +34,12 @@ pub answer-of-spec : {M : Type 1} → statement M
 answer-of-spec =
     tie.close
     (tie.spec
-    enum-told
-    enum-told-2
-    enum-known-step
-    number-requires
+    (λ c. search needs)
+    (λ c. search needs)
+    (λ c. search needs)
+    (λ c κs. search needs)
     returns
-    enum-told-3
+    (λ c. search needs)
     returns-2
     returns-3
     returns-4

@@ -4,17 +4,8 @@ use borrow.Author.Needs.{needs}
 use Rattle.exec.proofs.operands.in_four.Statement.{statement}
 use Rattle.exec.proofs.operands.in_four.Tie as tie
 
-in-frame-requires : tie.Need-in-frame-requires
-in-frame-requires c κs = search needs
-
-in-three-requires : tie.Need-in-three-requires
-in-three-requires c κs = search needs
-
-both-requires : tie.Need-both-requires
-both-requires c κs = search needs
-
 returns : tie.Need-returns
 returns c = λ w k. and-at (c .both .ensures) (c .before .before .in-frame .ensures w k) (c .before .in-three .ensures w k)
 
 pub in-four-spec : {M : Type 1} → statement M
-in-four-spec = tie.close (tie.spec in-frame-requires in-three-requires both-requires returns)
+in-four-spec = tie.close (tie.spec (λ c κs. search needs) (λ c κs. search needs) (λ c κs. search needs) returns)

@@ -4,17 +4,8 @@ use borrow.Author.Needs.{needs}
 use Rattle.exec.proofs.operands.in_three.Statement.{statement}
 use Rattle.exec.proofs.operands.in_three.Tie as tie
 
-in-frame-requires : tie.Need-in-frame-requires
-in-frame-requires c κs = search needs
-
-in-two-requires : tie.Need-in-two-requires
-in-two-requires c κs = search needs
-
-both-requires : tie.Need-both-requires
-both-requires c κs = search needs
-
 returns : tie.Need-returns
 returns c = λ w k. and-at (c .both .ensures) (c .before .before .in-frame .ensures w k) (c .before .in-two .ensures w k)
 
 pub in-three-spec : {M : Type 1} → statement M
-in-three-spec = tie.close (tie.spec in-frame-requires in-two-requires both-requires returns)
+in-three-spec = tie.close (tie.spec (λ c κs. search needs) (λ c κs. search needs) (λ c κs. search needs) returns)

@@ -8,153 +8,6 @@ use borrow.Author.Needs.{needs}
 use Rattle.exec.proofs.operands.passes.Statement.{statement}
 use Rattle.exec.proofs.operands.passes.Tie as tie
 
-enum-known-op : tie.Need-enum-known-op
-enum-known-op c = search needs
-
-cast-in-frame : tie.Need-cast-in-frame
-cast-in-frame c = search needs
-
-in-frame-requires : tie.Need-in-frame-requires
-in-frame-requires c κs = search needs
-
-window-in-requires : tie.Need-window-in-requires
-window-in-requires c κs = search needs
-
-both-requires : tie.Need-both-requires
-both-requires c κs = search needs
-
-is-function-requires : tie.Need-is-function-requires
-is-function-requires c κs = search needs
-
-both-requires-2 : tie.Need-both-requires-2
-both-requires-2 c κs = search needs
-
-enum-known-op-2 : tie.Need-enum-known-op-2
-enum-known-op-2 c = search needs
-
-in-two-requires : tie.Need-in-two-requires
-in-two-requires c κs = search needs
-
-window-in-requires-2 : tie.Need-window-in-requires-2
-window-in-requires-2 c κs = search needs
-
-both-requires-3 : tie.Need-both-requires-3
-both-requires-3 c κs = search needs
-
-enum-known-op-3 : tie.Need-enum-known-op-3
-enum-known-op-3 c = search needs
-
-in-two-requires-2 : tie.Need-in-two-requires-2
-in-two-requires-2 c κs = search needs
-
-window-in-requires-3 : tie.Need-window-in-requires-3
-window-in-requires-3 c κs = search needs
-
-both-requires-4 : tie.Need-both-requires-4
-both-requires-4 c κs = search needs
-
-enum-known-op-4 : tie.Need-enum-known-op-4
-enum-known-op-4 c = search needs
-
-in-two-requires-3 : tie.Need-in-two-requires-3
-in-two-requires-3 c κs = search needs
-
-enum-known-op-5 : tie.Need-enum-known-op-5
-enum-known-op-5 c = search needs
-
-in-three-requires : tie.Need-in-three-requires
-in-three-requires c κs = search needs
-
-enum-known-op-6 : tie.Need-enum-known-op-6
-enum-known-op-6 c = search needs
-
-in-two-requires-4 : tie.Need-in-two-requires-4
-in-two-requires-4 c κs = search needs
-
-enum-known-op-7 : tie.Need-enum-known-op-7
-enum-known-op-7 c = search needs
-
-in-three-requires-2 : tie.Need-in-three-requires-2
-in-three-requires-2 c κs = search needs
-
-enum-known-op-8 : tie.Need-enum-known-op-8
-enum-known-op-8 c = search needs
-
-in-three-requires-3 : tie.Need-in-three-requires-3
-in-three-requires-3 c κs = search needs
-
-enum-known-op-9 : tie.Need-enum-known-op-9
-enum-known-op-9 c = search needs
-
-in-three-requires-4 : tie.Need-in-three-requires-4
-in-three-requires-4 c κs = search needs
-
-enum-known-op-10 : tie.Need-enum-known-op-10
-enum-known-op-10 c = search needs
-
-in-two-requires-5 : tie.Need-in-two-requires-5
-in-two-requires-5 c κs = search needs
-
-enum-known-op-11 : tie.Need-enum-known-op-11
-enum-known-op-11 c = search needs
-
-cast-in-frame-2 : tie.Need-cast-in-frame-2
-cast-in-frame-2 c = search needs
-
-in-frame-requires-2 : tie.Need-in-frame-requires-2
-in-frame-requires-2 c κs = search needs
-
-both-requires-5 : tie.Need-both-requires-5
-both-requires-5 c κs = search needs
-
-enum-known-op-12 : tie.Need-enum-known-op-12
-enum-known-op-12 c = search needs
-
-in-two-requires-6 : tie.Need-in-two-requires-6
-in-two-requires-6 c κs = search needs
-
-enum-known-op-13 : tie.Need-enum-known-op-13
-enum-known-op-13 c = search needs
-
-in-two-requires-7 : tie.Need-in-two-requires-7
-in-two-requires-7 c κs = search needs
-
-enum-known-op-14 : tie.Need-enum-known-op-14
-enum-known-op-14 c = search needs
-
-in-four-requires : tie.Need-in-four-requires
-in-four-requires c κs = search needs
-
-enum-known-op-15 : tie.Need-enum-known-op-15
-enum-known-op-15 c = search needs
-
-is-function-requires-2 : tie.Need-is-function-requires-2
-is-function-requires-2 c κs = search needs
-
-enum-known-op-16 : tie.Need-enum-known-op-16
-enum-known-op-16 c = search needs
-
-is-function-requires-3 : tie.Need-is-function-requires-3
-is-function-requires-3 c κs = search needs
-
-cont-in-requires : tie.Need-cont-in-requires
-cont-in-requires c κs = search needs
-
-both-requires-6 : tie.Need-both-requires-6
-both-requires-6 c κs = search needs
-
-enum-known-op-17 : tie.Need-enum-known-op-17
-enum-known-op-17 c = search needs
-
-cast-in-frame-3 : tie.Need-cast-in-frame-3
-cast-in-frame-3 c = search needs
-
-in-frame-requires-3 : tie.Need-in-frame-requires-3
-in-frame-requires-3 c κs = search needs
-
-both-requires-7 : tie.Need-both-requires-7
-both-requires-7 c κs = search needs
-
 returns : tie.Need-returns
 returns c =
     let start = c .before .before .before .before .before .before .before .before in let arm = c .before .before .before .before .before .before in let a = start .args in let g = arm .op .given .0 in
@@ -266,55 +119,55 @@ pub passes-spec : {M : Type 1} → statement M
 passes-spec =
     tie.close
     (tie.spec
-    enum-known-op
-    cast-in-frame
-    in-frame-requires
-    window-in-requires
-    both-requires
-    is-function-requires
-    both-requires-2
-    enum-known-op-2
-    in-two-requires
-    window-in-requires-2
-    both-requires-3
-    enum-known-op-3
-    in-two-requires-2
-    window-in-requires-3
-    both-requires-4
-    enum-known-op-4
-    in-two-requires-3
-    enum-known-op-5
-    in-three-requires
-    enum-known-op-6
-    in-two-requires-4
-    enum-known-op-7
-    in-three-requires-2
-    enum-known-op-8
-    in-three-requires-3
-    enum-known-op-9
-    in-three-requires-4
-    enum-known-op-10
-    in-two-requires-5
-    enum-known-op-11
-    cast-in-frame-2
-    in-frame-requires-2
-    both-requires-5
-    enum-known-op-12
-    in-two-requires-6
-    enum-known-op-13
-    in-two-requires-7
-    enum-known-op-14
-    in-four-requires
-    enum-known-op-15
-    is-function-requires-2
-    enum-known-op-16
-    is-function-requires-3
-    cont-in-requires
-    both-requires-6
-    enum-known-op-17
-    cast-in-frame-3
-    in-frame-requires-3
-    both-requires-7
+    (λ c. search needs)
+    (λ c. search needs)
+    (λ c κs. search needs)
+    (λ c κs. search needs)
+    (λ c κs. search needs)
+    (λ c κs. search needs)
+    (λ c κs. search needs)
+    (λ c. search needs)
+    (λ c κs. search needs)
+    (λ c κs. search needs)
+    (λ c κs. search needs)
+    (λ c. search needs)
+    (λ c κs. search needs)
+    (λ c κs. search needs)
+    (λ c κs. search needs)
+    (λ c. search needs)
+    (λ c κs. search needs)
+    (λ c. search needs)
+    (λ c κs. search needs)
+    (λ c. search needs)
+    (λ c κs. search needs)
+    (λ c. search needs)
+    (λ c κs. search needs)
+    (λ c. search needs)
+    (λ c κs. search needs)
+    (λ c. search needs)
+    (λ c κs. search needs)
+    (λ c. search needs)
+    (λ c κs. search needs)
+    (λ c. search needs)
+    (λ c. search needs)
+    (λ c κs. search needs)
+    (λ c κs. search needs)
+    (λ c. search needs)
+    (λ c κs. search needs)
+    (λ c. search needs)
+    (λ c κs. search needs)
+    (λ c. search needs)
+    (λ c κs. search needs)
+    (λ c. search needs)
+    (λ c κs. search needs)
+    (λ c. search needs)
+    (λ c κs. search needs)
+    (λ c κs. search needs)
+    (λ c κs. search needs)
+    (λ c. search needs)
+    (λ c. search needs)
+    (λ c κs. search needs)
+    (λ c κs. search needs)
     returns
     returns-2
     returns-3

@@ -7,90 +7,6 @@ use borrow.Author.Needs.{needs}
 use Rattle.exec.proofs.operands.pc_of.Statement.{statement}
 use Rattle.exec.proofs.operands.pc_of.Tie as tie
 
-enum-known-op : tie.Need-enum-known-op
-enum-known-op c = search needs
-
-cast-result : tie.Need-cast-result
-cast-result c = search needs
-
-enum-known-op-2 : tie.Need-enum-known-op-2
-enum-known-op-2 c = search needs
-
-cast-result-2 : tie.Need-cast-result-2
-cast-result-2 c = search needs
-
-enum-known-op-3 : tie.Need-enum-known-op-3
-enum-known-op-3 c = search needs
-
-cast-result-3 : tie.Need-cast-result-3
-cast-result-3 c = search needs
-
-enum-known-op-4 : tie.Need-enum-known-op-4
-enum-known-op-4 c = search needs
-
-cast-result-4 : tie.Need-cast-result-4
-cast-result-4 c = search needs
-
-enum-known-op-5 : tie.Need-enum-known-op-5
-enum-known-op-5 c = search needs
-
-cast-result-5 : tie.Need-cast-result-5
-cast-result-5 c = search needs
-
-enum-known-op-6 : tie.Need-enum-known-op-6
-enum-known-op-6 c = search needs
-
-cast-result-6 : tie.Need-cast-result-6
-cast-result-6 c = search needs
-
-enum-known-op-7 : tie.Need-enum-known-op-7
-enum-known-op-7 c = search needs
-
-cast-result-7 : tie.Need-cast-result-7
-cast-result-7 c = search needs
-
-enum-known-op-8 : tie.Need-enum-known-op-8
-enum-known-op-8 c = search needs
-
-cast-result-8 : tie.Need-cast-result-8
-cast-result-8 c = search needs
-
-enum-known-op-9 : tie.Need-enum-known-op-9
-enum-known-op-9 c = search needs
-
-cast-result-9 : tie.Need-cast-result-9
-cast-result-9 c = search needs
-
-enum-known-op-10 : tie.Need-enum-known-op-10
-enum-known-op-10 c = search needs
-
-cast-result-10 : tie.Need-cast-result-10
-cast-result-10 c = search needs
-
-enum-known-op-11 : tie.Need-enum-known-op-11
-enum-known-op-11 c = search needs
-
-cast-result-11 : tie.Need-cast-result-11
-cast-result-11 c = search needs
-
-enum-known-op-12 : tie.Need-enum-known-op-12
-enum-known-op-12 c = search needs
-
-cast-result-12 : tie.Need-cast-result-12
-cast-result-12 c = search needs
-
-enum-known-op-13 : tie.Need-enum-known-op-13
-enum-known-op-13 c = search needs
-
-cast-result-13 : tie.Need-cast-result-13
-cast-result-13 c = search needs
-
-enum-known-op-14 : tie.Need-enum-known-op-14
-enum-known-op-14 c = search needs
-
-cast-result-14 : tie.Need-cast-result-14
-cast-result-14 c = search needs
-
 returns : tie.Need-returns
 returns c = record { is = λ n t arm q. sym (ap (λ o. pcOf (table o)) (c .before .op .given .1)) ∙ ap pcOf q; narrow = search needs }
 
@@ -140,34 +56,34 @@ pub pc-of-spec : {M : Type 1} → statement M
 pc-of-spec =
     tie.close
     (tie.spec
-    enum-known-op
-    cast-result
-    enum-known-op-2
-    cast-result-2
-    enum-known-op-3
-    cast-result-3
-    enum-known-op-4
-    cast-result-4
-    enum-known-op-5
-    cast-result-5
-    enum-known-op-6
-    cast-result-6
-    enum-known-op-7
-    cast-result-7
-    enum-known-op-8
-    cast-result-8
-    enum-known-op-9
-    cast-result-9
-    enum-known-op-10
-    cast-result-10
-    enum-known-op-11
-    cast-result-11
-    enum-known-op-12
-    cast-result-12
-    enum-known-op-13
-    cast-result-13
-    enum-known-op-14
-    cast-result-14
+    (λ c. search needs)
+    (λ c. search needs)
+    (λ c. search needs)
+    (λ c. search needs)
+    (λ c. search needs)
+    (λ c. search needs)
+    (λ c. search needs)
+    (λ c. search needs)
+    (λ c. search needs)
+    (λ c. search needs)
+    (λ c. search needs)
+    (λ c. search needs)
+    (λ c. search needs)
+    (λ c. search needs)
+    (λ c. search needs)
+    (λ c. search needs)
+    (λ c. search needs)
+    (λ c. search needs)
+    (λ c. search needs)
+    (λ c. search needs)
+    (λ c. search needs)
+    (λ c. search needs)
+    (λ c. search needs)
+    (λ c. search needs)
+    (λ c. search needs)
+    (λ c. search needs)
+    (λ c. search needs)
+    (λ c. search needs)
     returns
     returns-2
     returns-3

@@ -4,15 +4,6 @@ use borrow.Author.Needs.{needs}
 use Rattle.exec.proofs.operands.window_in.Statement.{statement}
 use Rattle.exec.proofs.operands.window_in.Tie as tie
 
-add-result : tie.Need-add-result
-add-result c = search needs
-
-add-result-2 : tie.Need-add-result-2
-add-result-2 c = search needs
-
-sub-result : tie.Need-sub-result
-sub-result c = search needs
-
 returns : tie.Need-returns
 returns c = let a = c .before .args in λ w k. under-below w (a .base) (a .height) k (a .dst) (a .argc) (c .if1 .taken)
 
@@ -20,4 +11,4 @@ returns-2 : tie.Need-returns-2
 returns-2 c = let a = c .before .args in λ w k. under-above w (a .base) (a .height) k (a .dst) (a .argc) (c .if1 .left)
 
 pub window-in-spec : {M : Type 1} → statement M
-window-in-spec = tie.close (tie.spec add-result add-result-2 sub-result returns returns-2)
+window-in-spec = tie.close (tie.spec (λ c. search needs) (λ c. search needs) (λ c. search needs) returns returns-2)

@@ -1,6 +1,7 @@
 -- `body` meets the definition, by the instruction. Assumes nothing.
 use Rattle.memory.specs.Memory.{onSetup}
 use Rattle.exec_arm.proofs.Fitting.{as-arm, yield-fits, kv-fits, await-fits}
+use Rattle.exec_arm.proofs.Tags.{not-suspending}
 use borrow.Author.Needs.{needs}
 use Rattle.exec_arm.proofs.body.body.Statement.{statement}
 use Rattle.exec_arm.proofs.body.body.Tie as tie
@@ -50,7 +51,8 @@ returns-3 c =
     λ pc t arm q w b rep snd. as-arm q (at-op .op3 .given .1) (at-coro-await .coro-await .ensures w (record { words = onSetup (a .setup .now) (b .words); fuel = b .fuel }) rep snd)
 
 returns-4 : tie.Need-returns-4
-returns-4 c = entering-of c .entering .ensures (entering-of c .before .before .before .before .before .before .before .match .keys4)
+returns-4 c = let at-entering = entering-of c in let at-match = at-entering .before .before .before .before .before .before .before in
+    at-entering .entering .ensures (not-suspending _ (at-match .match .keys4))
 
 pub body-spec : {M : Type 1} → statement M
 body-spec =

@@ -1,6 +1,7 @@
 -- `entering` meets the definition, by the instruction that enters. Assumes nothing.
 use Rattle.memory.specs.Memory.{onSetup}
 use Rattle.exec_arm.proofs.Fitting.{as-arm, resume-fits, throw-fits, close-fits, next-fits}
+use Rattle.exec_arm.proofs.Tags.{not-entering}
 use borrow.Author.Needs.{needs}
 use Rattle.exec_arm.proofs.entering.entering.Statement.{statement}
 use Rattle.exec_arm.proofs.entering.entering.Tie as tie
@@ -61,7 +62,8 @@ returns-4 c =
     λ s pc t arm q w b rep snd. as-arm q (at-op .op4 .given .1) (at-iter-next .iter-next .ensures w (record { words = onSetup (a .setup .now) (b .words); fuel = a .fuel }) rep snd)
 
 returns-5 : tie.Need-returns-5
-returns-5 c = λ s. staying-of c .staying .ensures s (staying-of c .before .before .before .before .before .before .before .match .keys5)
+returns-5 c = λ s. let at-staying = staying-of c in let at-match = at-staying .before .before .before .before .before .before .before in
+    at-staying .staying .ensures s (not-entering _ (at-match .match .keys5))
 
 pub entering-spec : {M : Type 1} → statement M
 entering-spec =

@@ -11,30 +11,12 @@ use borrow.Author.Needs.{needs}
 use Rattle.exec_ask.proofs.ask.coro_key.Statement.{statement}
 use Rattle.exec_ask.proofs.ask.coro_key.Tie as tie
 
-reg-requires : tie.Need-reg-requires
-reg-requires c κs = search needs
-
-coro-place-requires : tie.Need-coro-place-requires
-coro-place-requires c κs = search needs
-
-enum-known-f : tie.Need-enum-known-f
-enum-known-f c = search needs
-
-enum-known-i : tie.Need-enum-known-i
-enum-known-i c = search needs
-
 key-at-requires : tie.Need-key-at-requires
 key-at-requires c κs =
     let at-i = c .before in let at-coro-place = at-i .before .before in let at-reg = at-coro-place .before in
     let start = at-reg .before .before .before .before .before in
     stands-words (start .args .m .count) (start .args .slots .now) (at-reg .reg .result) (at-i .i .given .0 .0)
     (sym (at-i .i .given .1) ∙ at-coro-place .coro-place .ensures) (start .pre .table)
-
-put-requires : tie.Need-put-requires
-put-requires c κs = search needs
-
-same-length : tie.Need-same-length
-same-length c = search needs
 
 returns : tie.Need-returns
 returns c =
@@ -43,9 +25,6 @@ returns c =
     λ l w b rep. let M = topTable (start .args .stack .now) (start .args .frames .now) (start .args .slots .now) plain b in
     key-refused l M (start .args .m) (b .fuel) w (start .args .dst) (start .args .c) (at-reg .reg .result) (at-reg .reg .ensures (w .stack) (w .frames) (rep .stack) (rep .frames) .is) _
     (named-none l M (start .args .m) (b .fuel) (at-reg .reg .result) w rep _ (sym (at-f .f .given .1) ∙ at-coro-place .coro-place .ensures)) rep
-
-same-length-2 : tie.Need-same-length-2
-same-length-2 c = search needs
 
 returns-2 : tie.Need-returns-2
 returns-2 c =
@@ -63,13 +42,13 @@ pub coro-key-spec : {M : Type 1} → statement M
 coro-key-spec =
     tie.close
     (tie.spec
-    reg-requires
-    coro-place-requires
-    enum-known-f
-    enum-known-i
+    (λ c κs. search needs)
+    (λ c κs. search needs)
+    (λ c. search needs)
+    (λ c. search needs)
     key-at-requires
-    put-requires
-    same-length
+    (λ c κs. search needs)
+    (λ c. search needs)
     returns
-    same-length-2
+    (λ c. search needs)
     returns-2)

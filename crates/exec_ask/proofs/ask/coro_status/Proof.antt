@@ -7,27 +7,6 @@ use borrow.Author.Needs.{needs}
 use Rattle.exec_ask.proofs.ask.coro_status.Statement.{statement}
 use Rattle.exec_ask.proofs.ask.coro_status.Tie as tie
 
-reg-requires : tie.Need-reg-requires
-reg-requires c κs = search needs
-
-coro-state-requires : tie.Need-coro-state-requires
-coro-state-requires c κs = search needs
-
-enum-known-f : tie.Need-enum-known-f
-enum-known-f c = search needs
-
-enum-known-s : tie.Need-enum-known-s
-enum-known-s c = search needs
-
-code-requires : tie.Need-code-requires
-code-requires c κs = search needs
-
-put-requires : tie.Need-put-requires
-put-requires c κs = search needs
-
-same-length : tie.Need-same-length
-same-length c = search needs
-
 returns : tie.Need-returns
 returns c =
     let found = c .before in let state = found .before .before in let read = state .before in
@@ -35,9 +14,6 @@ returns c =
     let a = start .args in
     λ l w b rep. status-refused l _ (a .m) (b .fuel) w (a .dst) (a .c) (read .reg .result) (read .reg .ensures (w .stack) (w .frames) (rep .stack) (rep .frames) .is) _
     (sym (found .f .given .1) ∙ state .coro-state .ensures l w (record { words = topTable (a .stack .now) (a .frames .now) (a .slots .now) plain b; fuel = b .fuel }) rep) rep
-
-same-length-2 : tie.Need-same-length-2
-same-length-2 c = search needs
 
 returns-2 : tie.Need-returns-2
 returns-2 c =
@@ -53,13 +29,13 @@ pub coro-status-spec : {M : Type 1} → statement M
 coro-status-spec =
     tie.close
     (tie.spec
-    reg-requires
-    coro-state-requires
-    enum-known-f
-    enum-known-s
-    code-requires
-    put-requires
-    same-length
+    (λ c κs. search needs)
+    (λ c κs. search needs)
+    (λ c. search needs)
+    (λ c. search needs)
+    (λ c κs. search needs)
+    (λ c κs. search needs)
+    (λ c. search needs)
     returns
-    same-length-2
+    (λ c. search needs)
     returns-2)

@@ -8,12 +8,6 @@ use Rattle.exec_ask.proofs.ask.current.Tie as tie
 returns : tie.Need-returns
 returns c = let a = c .before .before .before .args in current-none (a .chain .now) (a .m .active) (c .if1 .taken)
 
-sub-active-at : tie.Need-sub-active-at
-sub-active-at c = search needs
-
-active-at-requires : tie.Need-active-at-requires
-active-at-requires c κs = search needs
-
 returns-2 : tie.Need-returns-2
 returns-2 c =
     let test = c .before .before in let start = test .before .before .before in
@@ -21,4 +15,4 @@ returns-2 c =
     current-top (a .chain .now) (a .m .active) (c .active-at .result) (omega (arith, test .if1 .left)) (c .active-at .ensures)
 
 pub current-spec : {M : Type 1} → statement M
-current-spec = tie.close (tie.spec returns sub-active-at active-at-requires returns-2)
+current-spec = tie.close (tie.spec returns (λ c. search needs) (λ c κs. search needs) returns-2)

@@ -4,19 +4,10 @@ use borrow.Author.Needs.{needs}
 use Rattle.exec_close.proofs.close.close_entered.Statement.{statement}
 use Rattle.exec_close.proofs.close.close_entered.Tie as tie
 
-enum-known-a : tie.Need-enum-known-a
-enum-known-a c = search needs
-
 returns : tie.Need-returns
 returns c =
     let at-a = c .before in let start = at-a .before .before .before in
     λ l w b rep. closes-refused l _ (start .args .m) (b .fuel) w (start .args .v) (start .args .signal) (start .args .a) (at-a .a .given .0 .0) (at-a .a .given .1) rep
-
-set-closing-requires : tie.Need-set-closing-requires
-set-closing-requires c κs = search needs
-
-same-length : tie.Need-same-length
-same-length c = search needs
 
 returns-2 : tie.Need-returns-2
 returns-2 c =
@@ -26,4 +17,4 @@ returns-2 c =
 
 pub close-entered-spec : {M : Type 1} → statement M
 close-entered-spec =
-    tie.close (tie.spec enum-known-a returns set-closing-requires same-length returns-2)
+    tie.close (tie.spec (λ c. search needs) returns (λ c κs. search needs) (λ c. search needs) returns-2)

@@ -16,32 +16,11 @@ store-enter-of c = c .before .before .before .before .before .before .before .be
 abbrev start-of : tie.After-store-enter → tie.Start
 start-of c = c .before .before .before .before .before .before .before .before .before .before .before .before .before
 
-store-enter-requires : tie.Need-store-enter-requires
-store-enter-requires c κs = search needs
-
 close-entered-requires : tie.Need-close-entered-requires
 close-entered-requires c κs =
     let at-store-enter = store-enter-of c in let o = start-of at-store-enter .pre .ok in
     let did = at-store-enter .store-enter .ensures (o .world) (o .beside) (o .rep) (o .sound) in
     did .world .slots .within
-
-same-length : tie.Need-same-length
-same-length c = search needs
-
-same-length-2 : tie.Need-same-length-2
-same-length-2 c = search needs
-
-same-length-3 : tie.Need-same-length-3
-same-length-3 c = search needs
-
-same-length-4 : tie.Need-same-length-4
-same-length-4 c = search needs
-
-same-length-5 : tie.Need-same-length-5
-same-length-5 c = search needs
-
-same-length-6 : tie.Need-same-length-6
-same-length-6 c = search needs
 
 returns : tie.Need-returns
 returns c =
@@ -59,12 +38,12 @@ pub close-in-spec : {M : Type 1} → statement M
 close-in-spec =
     tie.close
     (tie.spec
-    store-enter-requires
+    (λ c κs. search needs)
     close-entered-requires
-    same-length
-    same-length-2
-    same-length-3
-    same-length-4
-    same-length-5
-    same-length-6
+    (λ c. search needs)
+    (λ c. search needs)
+    (λ c. search needs)
+    (λ c. search needs)
+    (λ c. search needs)
+    (λ c. search needs)
     returns)

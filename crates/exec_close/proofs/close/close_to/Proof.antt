@@ -18,39 +18,12 @@ start-of c = c .before .before .before .before .before .before .before
 abbrev mem : tie.Start → Beside → Lent
 mem c b = lent (c .args .stack .now) (c .args .frames .now) (c .args .chain .now) (c .args .slots .now) (c .args .saved-stack .now) (c .args .saved-frames .now) b
 
-is-suspended-requires : tie.Need-is-suspended-requires
-is-suspended-requires c κs = search needs
-
-close-in-requires : tie.Need-close-in-requires
-close-in-requires c κs = search needs
-
-same-length : tie.Need-same-length
-same-length c = search needs
-
-same-length-2 : tie.Need-same-length-2
-same-length-2 c = search needs
-
-same-length-3 : tie.Need-same-length-3
-same-length-3 c = search needs
-
-same-length-4 : tie.Need-same-length-4
-same-length-4 c = search needs
-
-same-length-5 : tie.Need-same-length-5
-same-length-5 c = search needs
-
-same-length-6 : tie.Need-same-length-6
-same-length-6 c = search needs
-
 returns : tie.Need-returns
 returns c =
     let at-close-in = c .before .before .before .before .before .before .before .before .before .before .before .before in
     let at-if1 = at-close-in .before .before .before .before .before .before .before in let at-is-suspended = at-if1 .before in let start = start-of at-is-suspended in
     λ w b rep snd. close-woken (start .args .l) _ (at-close-in .close-in .result .machine) (b .fuel) w (start .args .pc) (start .args .dst) (start .args .v) (start .args .signal)
     (start .args .s) (at-close-in .close-in .result .step) (sym (at-is-suspended .is-suspended .ensures) ∙ at-if1 .if1 .taken) (at-close-in .close-in .ensures w b rep snd)
-
-is-running-requires : tie.Need-is-running-requires
-is-running-requires c κs = search needs
 
 returns-2 : tie.Need-returns-2
 returns-2 c =
@@ -63,24 +36,6 @@ end-created-requires c κs =
     let start = start-of (c .before .before .before .before .before .before) in let o = start .pre .entry .ok in
     finish-asks (o .world) (o .sound) (start .args .l) (rows (start .args .slots .now) (start .args .saved-stack .now) (start .args .saved-frames .now) plain) (start .args .m)
     (record { words = mem start (o .beside); fuel = o .beside .fuel }) CoroState.Returned refl (o .rep)
-
-put-requires : tie.Need-put-requires
-put-requires c κs = search needs
-
-same-length-7 : tie.Need-same-length-7
-same-length-7 c = search needs
-
-same-length-8 : tie.Need-same-length-8
-same-length-8 c = search needs
-
-same-length-9 : tie.Need-same-length-9
-same-length-9 c = search needs
-
-same-length-10 : tie.Need-same-length-10
-same-length-10 c = search needs
-
-same-length-11 : tie.Need-same-length-11
-same-length-11 c = search needs
 
 returns-3 : tie.Need-returns-3
 returns-3 c =
@@ -98,22 +53,22 @@ pub close-to-spec : {M : Type 1} → statement M
 close-to-spec =
     tie.close
     (tie.spec
-    is-suspended-requires
-    close-in-requires
-    same-length
-    same-length-2
-    same-length-3
-    same-length-4
-    same-length-5
-    same-length-6
+    (λ c κs. search needs)
+    (λ c κs. search needs)
+    (λ c. search needs)
+    (λ c. search needs)
+    (λ c. search needs)
+    (λ c. search needs)
+    (λ c. search needs)
+    (λ c. search needs)
     returns
-    is-running-requires
+    (λ c κs. search needs)
     returns-2
     end-created-requires
-    put-requires
-    same-length-7
-    same-length-8
-    same-length-9
-    same-length-10
-    same-length-11
+    (λ c κs. search needs)
+    (λ c. search needs)
+    (λ c. search needs)
+    (λ c. search needs)
+    (λ c. search needs)
+    (λ c. search needs)
     returns-3)

@@ -14,34 +14,10 @@ start-of c = c .before .before .before .before .before .before .before .before .
 abbrev mem : tie.Start → Beside → Lent
 mem c b = lent (c .args .stack .now) (c .args .frames .now) (c .args .chain .now) (c .args .slots .now) (c .args .saved-stack .now) (c .args .saved-frames .now) b
 
-reg-requires : tie.Need-reg-requires
-reg-requires c κs = search needs
-
-reg-requires-2 : tie.Need-reg-requires-2
-reg-requires-2 c κs = search needs
-
-coro-state-requires : tie.Need-coro-state-requires
-coro-state-requires c κs = search needs
-
-enum-known-f : tie.Need-enum-known-f
-enum-known-f c = search needs
-
-enum-known-s : tie.Need-enum-known-s
-enum-known-s c = search needs
-
 close-to-requires : tie.Need-close-to-requires
 close-to-requires c κs =
     let p = start-of (c .before .before .before .before .before .before .before .before .before .before .before .before .before .before) .pre in
     record { entry = record { ok = p .ok; narrow = p .narrow; some = p .result .some }; result = p .result }
-
-same-length : tie.Need-same-length
-same-length c = search needs
-
-same-length-2 : tie.Need-same-length-2
-same-length-2 c = search needs
-
-same-length-3 : tie.Need-same-length-3
-same-length-3 c = search needs
 
 returns : tie.Need-returns
 returns c =
@@ -51,24 +27,6 @@ returns c =
     (at-reg2 .reg2 .result) (start .args .c) (start .args .src)
     (at-reg .reg .ensures (w .stack) (w .frames) (rep .stack) (rep .frames) .is) (at-reg2 .reg2 .ensures (w .stack) (w .frames) (rep .stack) (rep .frames) .is) _
     (sym (at-f .f .given .1) ∙ at-coro-state .coro-state .ensures (start .args .l) w (record { words = mem start b; fuel = b .fuel }) rep) rep
-
-same-length-4 : tie.Need-same-length-4
-same-length-4 c = search needs
-
-same-length-5 : tie.Need-same-length-5
-same-length-5 c = search needs
-
-same-length-6 : tie.Need-same-length-6
-same-length-6 c = search needs
-
-same-length-7 : tie.Need-same-length-7
-same-length-7 c = search needs
-
-same-length-8 : tie.Need-same-length-8
-same-length-8 c = search needs
-
-same-length-9 : tie.Need-same-length-9
-same-length-9 c = search needs
 
 returns-2 : tie.Need-returns-2
 returns-2 c =
@@ -83,20 +41,20 @@ pub coro-close-spec : {M : Type 1} → statement M
 coro-close-spec =
     tie.close
     (tie.spec
-    reg-requires
-    reg-requires-2
-    coro-state-requires
-    enum-known-f
-    enum-known-s
+    (λ c κs. search needs)
+    (λ c κs. search needs)
+    (λ c κs. search needs)
+    (λ c. search needs)
+    (λ c. search needs)
     close-to-requires
-    same-length
-    same-length-2
-    same-length-3
+    (λ c. search needs)
+    (λ c. search needs)
+    (λ c. search needs)
     returns
-    same-length-4
-    same-length-5
-    same-length-6
-    same-length-7
-    same-length-8
-    same-length-9
+    (λ c. search needs)
+    (λ c. search needs)
+    (λ c. search needs)
+    (λ c. search needs)
+    (λ c. search needs)
+    (λ c. search needs)
     returns-2)

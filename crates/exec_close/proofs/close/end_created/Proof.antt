@@ -5,21 +5,6 @@ use borrow.Author.Needs.{needs}
 use Rattle.exec_close.proofs.close.end_created.Statement.{statement}
 use Rattle.exec_close.proofs.close.end_created.Tie as tie
 
-is-created-requires : tie.Need-is-created-requires
-is-created-requires c κs = search needs
-
-finish-coroutine-requires : tie.Need-finish-coroutine-requires
-finish-coroutine-requires c κs = search needs
-
-same-length : tie.Need-same-length
-same-length c = search needs
-
-same-length-2 : tie.Need-same-length-2
-same-length-2 c = search needs
-
-same-length-3 : tie.Need-same-length-3
-same-length-3 c = search needs
-
 returns : tie.Need-returns
 returns c =
     let at-finish-coroutine = c .before .before .before .before .before .before in let at-if1 = at-finish-coroutine .before .before .before .before in let at-is-created = at-if1 .before in
@@ -36,10 +21,10 @@ pub end-created-spec : {M : Type 1} → statement M
 end-created-spec =
     tie.close
     (tie.spec
-    is-created-requires
-    finish-coroutine-requires
-    same-length
-    same-length-2
-    same-length-3
+    (λ c κs. search needs)
+    (λ c κs. search needs)
+    (λ c. search needs)
+    (λ c. search needs)
+    (λ c. search needs)
     returns
     returns-2)

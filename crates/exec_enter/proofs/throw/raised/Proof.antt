@@ -5,15 +5,6 @@ use borrow.Author.Needs.{needs}
 use Rattle.exec_enter.proofs.throw.raised.Statement.{statement}
 use Rattle.exec_enter.proofs.throw.raised.Tie as tie
 
-enum-told : tie.Need-enum-told
-enum-told c = search needs
-
-enum-told-2 : tie.Need-enum-told-2
-enum-told-2 c = search needs
-
-enum-known-a : tie.Need-enum-known-a
-enum-known-a c = search needs
-
 returns : tie.Need-returns
 returns c = sym (ap (raised (c .before .before .args .v)) (c .enum-told .given .1))
 
@@ -24,4 +15,4 @@ returns-3 : tie.Need-returns-3
 returns-3 c = sym (ap (raised (c .before .before .before .args .v)) (c .before .a .given .1))
 
 pub raised-spec : {M : Type 1} → statement M
-raised-spec = tie.close (tie.spec enum-told enum-told-2 enum-known-a returns returns-2 returns-3)
+raised-spec = tie.close (tie.spec (λ c. search needs) (λ c. search needs) (λ c. search needs) returns returns-2 returns-3)

@@ -17,24 +17,12 @@ start-of c = c .before .before .before .before .before .before .before
 abbrev mem : tie.Start → Beside → Lent
 mem c b = lent (c .args .stack .now) (c .args .frames .now) (c .args .chain .now) (c .args .slots .now) (c .args .saved-stack .now) (c .args .saved-frames .now) b
 
-is-created-requires : tie.Need-is-created-requires
-is-created-requires c κs = search needs
-
 finish-coroutine-requires : tie.Need-finish-coroutine-requires
 finish-coroutine-requires c κs =
     let start = start-of (c .before .before .before .before) in
     let o = start .pre .ok in
     finish-asks (o .world) (o .sound) (start .args .l) (rows (start .args .slots .now) (start .args .saved-stack .now) (start .args .saved-frames .now) plain) (start .args .m)
     (record { words = mem start (o .beside); fuel = o .beside .fuel }) CoroState.Failed refl (o .rep)
-
-same-length : tie.Need-same-length
-same-length c = search needs
-
-same-length-2 : tie.Need-same-length-2
-same-length-2 c = search needs
-
-same-length-3 : tie.Need-same-length-3
-same-length-3 c = search needs
 
 returns : tie.Need-returns
 returns c =
@@ -44,30 +32,6 @@ returns c =
     λ w b rep snd. throw-created (start .args .l) _ (start .args .m) (b .fuel) w (start .args .pc) (start .args .dst) (start .args .v) (start .args .err)
     (start .args .s) (sym (at-is-created .is-created .ensures) ∙ at-if1 .if1 .taken)
     (at-finish-coroutine .finish-coroutine .ensures w (record { words = mem start b; fuel = b .fuel }) rep (sound-rowed w snd))
-
-store-enter-requires : tie.Need-store-enter-requires
-store-enter-requires c κs = search needs
-
-raised-requires : tie.Need-raised-requires
-raised-requires c κs = search needs
-
-same-length-4 : tie.Need-same-length-4
-same-length-4 c = search needs
-
-same-length-5 : tie.Need-same-length-5
-same-length-5 c = search needs
-
-same-length-6 : tie.Need-same-length-6
-same-length-6 c = search needs
-
-same-length-7 : tie.Need-same-length-7
-same-length-7 c = search needs
-
-same-length-8 : tie.Need-same-length-8
-same-length-8 c = search needs
-
-same-length-9 : tie.Need-same-length-9
-same-length-9 c = search needs
 
 returns-2 : tie.Need-returns-2
 returns-2 c =
@@ -82,18 +46,18 @@ pub throw-to-spec : {M : Type 1} → statement M
 throw-to-spec =
     tie.close
     (tie.spec
-    is-created-requires
+    (λ c κs. search needs)
     finish-coroutine-requires
-    same-length
-    same-length-2
-    same-length-3
+    (λ c. search needs)
+    (λ c. search needs)
+    (λ c. search needs)
     returns
-    store-enter-requires
-    raised-requires
-    same-length-4
-    same-length-5
-    same-length-6
-    same-length-7
-    same-length-8
-    same-length-9
+    (λ c κs. search needs)
+    (λ c κs. search needs)
+    (λ c. search needs)
+    (λ c. search needs)
+    (λ c. search needs)
+    (λ c. search needs)
+    (λ c. search needs)
+    (λ c. search needs)
     returns-2)

@@ -6,17 +6,11 @@ use borrow.Author.Needs.{needs}
 use Rattle.exec_iter.proofs.iter.exhausted.Statement.{statement}
 use Rattle.exec_iter.proofs.iter.exhausted.Tie as tie
 
-is-done-requires : tie.Need-is-done-requires
-is-done-requires c κs = search needs
-
 returns : tie.Need-returns
 returns c =
     let at-is-done = c .before in let start = at-is-done .before .before in
     λ l w b rep. end-done (start .args .iter) (start .args .s) w
     (done-in l (table (start .args .slots .now) plain b) (start .args .m) (b .fuel) w rep (start .args .iter) _ (at-is-done .is-done .ensures) ∙ c .if1 .taken)
-
-is-returned-requires : tie.Need-is-returned-requires
-is-returned-requires c κs = search needs
 
 returns-2 : tie.Need-returns-2
 returns-2 c =
@@ -25,4 +19,4 @@ returns-2 c =
     (done-in l (table (start .args .slots .now) plain b) (start .args .m) (b .fuel) w rep (start .args .iter) _ (at-is-done .is-done .ensures) ∙ at-if1 .if1 .left) (c .is-returned .ensures)
 
 pub exhausted-spec : {M : Type 1} → statement M
-exhausted-spec = tie.close (tie.spec is-done-requires returns is-returned-requires returns-2)
+exhausted-spec = tie.close (tie.spec (λ c κs. search needs) returns (λ c κs. search needs) returns-2)

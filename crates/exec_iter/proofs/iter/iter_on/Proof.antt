@@ -15,59 +15,17 @@ start-of c = c .before .before .before .before .before .before .before .before
 abbrev around : tie.Start → Beside → Beside
 around c b = record { words = lent (c .args .stack .now) (c .args .frames .now) (c .args .chain .now) (c .args .slots .now) (c .args .saved-stack .now) (c .args .saved-frames .now) b; fuel = b .fuel }
 
-exhausted-requires : tie.Need-exhausted-requires
-exhausted-requires c κs = search needs
-
-stop-requires : tie.Need-stop-requires
-stop-requires c κs = search needs
-
-same-length : tie.Need-same-length
-same-length c = search needs
-
-same-length-2 : tie.Need-same-length-2
-same-length-2 c = search needs
-
-same-length-3 : tie.Need-same-length-3
-same-length-3 c = search needs
-
 returns : tie.Need-returns
 returns c =
     let at-stop = c .before .before .before .before in let at-if1 = at-stop .before .before .before .before in let at-exhausted = at-if1 .before in let start = start-of at-exhausted in
     λ w b rep snd. next-ended (start .args .l) _ (start .args .m) (b .fuel) w (start .args .pc) (start .args .has) (start .args .iter) (start .args .val) (start .args .src) (start .args .s)
     (sym (at-exhausted .exhausted .ensures (start .args .l) w (around start b) rep) ∙ at-if1 .if1 .taken) (at-stop .stop .ensures (start .args .l) w (around start b) rep)
 
-is-awaiting-requires : tie.Need-is-awaiting-requires
-is-awaiting-requires c κs = search needs
-
-same-length-4 : tie.Need-same-length-4
-same-length-4 c = search needs
-
 returns-2 : tie.Need-returns-2
 returns-2 c =
     let at-is-awaiting = c .before in let at-if1 = at-is-awaiting .before in let at-exhausted = at-if1 .before in let start = start-of at-exhausted in
     λ w b rep snd. next-awaiting (start .args .l) _ (start .args .m) (b .fuel) w (start .args .pc) (start .args .has) (start .args .iter) (start .args .val) (start .args .src) (start .args .s)
     (sym (at-exhausted .exhausted .ensures (start .args .l) w (around start b) rep) ∙ at-if1 .if1 .left) (sym (at-is-awaiting .is-awaiting .ensures) ∙ c .if2 .taken) rep
-
-enter-send-requires : tie.Need-enter-send-requires
-enter-send-requires c κs = search needs
-
-same-length-5 : tie.Need-same-length-5
-same-length-5 c = search needs
-
-same-length-6 : tie.Need-same-length-6
-same-length-6 c = search needs
-
-same-length-7 : tie.Need-same-length-7
-same-length-7 c = search needs
-
-same-length-8 : tie.Need-same-length-8
-same-length-8 c = search needs
-
-same-length-9 : tie.Need-same-length-9
-same-length-9 c = search needs
-
-same-length-10 : tie.Need-same-length-10
-same-length-10 c = search needs
 
 returns-3 : tie.Need-returns-3
 returns-3 c =
@@ -83,20 +41,20 @@ pub iter-on-spec : {M : Type 1} → statement M
 iter-on-spec =
     tie.close
     (tie.spec
-    exhausted-requires
-    stop-requires
-    same-length
-    same-length-2
-    same-length-3
+    (λ c κs. search needs)
+    (λ c κs. search needs)
+    (λ c. search needs)
+    (λ c. search needs)
+    (λ c. search needs)
     returns
-    is-awaiting-requires
-    same-length-4
+    (λ c κs. search needs)
+    (λ c. search needs)
     returns-2
-    enter-send-requires
-    same-length-5
-    same-length-6
-    same-length-7
-    same-length-8
-    same-length-9
-    same-length-10
+    (λ c κs. search needs)
+    (λ c. search needs)
+    (λ c. search needs)
+    (λ c. search needs)
+    (λ c. search needs)
+    (λ c. search needs)
+    (λ c. search needs)
     returns-3)

@@ -6,18 +6,6 @@ use borrow.Author.Needs.{needs}
 use Rattle.exec_iter.proofs.iter.stop.Statement.{statement}
 use Rattle.exec_iter.proofs.iter.stop.Tie as tie
 
-set-done-requires : tie.Need-set-done-requires
-set-done-requires c κs = search needs
-
-put-requires : tie.Need-put-requires
-put-requires c κs = search needs
-
-same-length : tie.Need-same-length
-same-length c = search needs
-
-same-length-2 : tie.Need-same-length-2
-same-length-2 c = search needs
-
 returns : tie.Need-returns
 returns c =
     let at-put = c .before .before in let at-set-done = at-put .before .before .before .before in let start = at-set-done .before .before .before .before .before in
@@ -25,4 +13,4 @@ returns c =
     (at-set-done .set-done .ensures l w (record { words = top (start .args .stack .now) (start .args .frames .now) plain b; fuel = b .fuel }) rep)
 
 pub stop-spec : {M : Type 1} → statement M
-stop-spec = tie.close (tie.spec set-done-requires put-requires same-length same-length-2 returns)
+stop-spec = tie.close (tie.spec (λ c κs. search needs) (λ c κs. search needs) (λ c. search needs) (λ c. search needs) returns)

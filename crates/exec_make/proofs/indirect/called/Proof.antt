@@ -15,18 +15,6 @@ use Rattle.exec_make.proofs.indirect.called.Tie as tie
 abbrev mem : tie.Start → Beside → Lent
 mem s b = tableSetup (s .args .slots .now) (s .args .setup .now) plain b
 
-callee-requires : tie.Need-callee-requires
-callee-requires c κs = search needs
-
-enum-known-g : tie.Need-enum-known-g
-enum-known-g c = search needs
-
-enum-known-f : tie.Need-enum-known-f
-enum-known-f c = search needs
-
-is-function-requires : tie.Need-is-function-requires
-is-function-requires c κs = search needs
-
 returns : tie.Need-returns
 returns c =
     let asked = c .before in let found = asked .before .before in let named = found .before .before in let start = named .before .before .before in
@@ -66,10 +54,10 @@ pub called-spec : {M : Type 1} → statement M
 called-spec =
     tie.close
     (tie.spec
-    callee-requires
-    enum-known-g
-    enum-known-f
-    is-function-requires
+    (λ c κs. search needs)
+    (λ c. search needs)
+    (λ c. search needs)
+    (λ c κs. search needs)
     returns
     params-at-requires
     returns-2

@@ -13,27 +13,12 @@ use Rattle.exec_make.proofs.indirect.coro_new_indirect.Tie as tie
 abbrev mem : tie.Start → Beside → Lent
 mem s b = topMaking (s .args .stack .now) (s .args .frames .now) (s .args .slots .now) (s .args .saved-stack .now) (s .args .saved-frames .now) (s .args .setup .now) plain b
 
-indirect-requires : tie.Need-indirect-requires
-indirect-requires c κs = search needs
-
 put-made-requires : tie.Need-put-made-requires
 put-made-requires c κs =
     let creating = c .before .before .before .before .before .before .before .before in let start = creating .before .before .before .before .before .before .before .before .before .before .before in let o = start .pre .ok in
     still-fits (start .args .l) (o .world) _ (mem start (o .beside)) _ (start .args .m) _ (o .beside .fuel) (o .beside .fuel) (start .args .dst)
     (indirect-good (start .args .dst) (start .args .callee) (start .args .argc) (o .world) (known (o .world) (o .sound)) .fact .still)
     (o .rep) (creating .indirect .ensures (o .world) (o .beside) (o .rep) (o .sound) .world) (start .pre .reg)
-
-same-length : tie.Need-same-length
-same-length c = search needs
-
-same-length-2 : tie.Need-same-length-2
-same-length-2 c = search needs
-
-same-length-3 : tie.Need-same-length-3
-same-length-3 c = search needs
-
-same-length-4 : tie.Need-same-length-4
-same-length-4 c = search needs
 
 returns : tie.Need-returns
 returns c =
@@ -49,10 +34,10 @@ pub coro-new-indirect-spec : {M : Type 1} → statement M
 coro-new-indirect-spec =
     tie.close
     (tie.spec
-    indirect-requires
+    (λ c κs. search needs)
     put-made-requires
-    same-length
-    same-length-2
-    same-length-3
-    same-length-4
+    (λ c. search needs)
+    (λ c. search needs)
+    (λ c. search needs)
+    (λ c. search needs)
     returns)

@@ -14,19 +14,10 @@ mem s b = topMaking (s .args .stack .now) (s .args .frames .now) (s .args .slots
 abbrev around : tie.Start → Beside → Beside
 around s b = record { words = mem s b; fuel = b .fuel }
 
-reg-requires : tie.Need-reg-requires
-reg-requires c κs = search needs
-
 called-requires : tie.Need-called-requires
 called-requires c κs =
     let start = c .before .before .before .before .before .before .before .before in let o = start .pre .ok in
     called-fits (start .args .l) (o .world) (mem start (o .beside)) (start .args .m) (o .beside .fuel) (o .rep) (o .room)
-
-enum-known-g : tie.Need-enum-known-g
-enum-known-g c = search needs
-
-enum-known-f : tie.Need-enum-known-f
-enum-known-f c = search needs
 
 create-requires : tie.Need-create-requires
 create-requires c κs =
@@ -41,9 +32,6 @@ create-requires c κs =
       window = start .pre .window;
     }
 
-same-length : tie.Need-same-length
-same-length c = search needs
-
 returns : tie.Need-returns
 returns c =
     let found = c .before in let asked = found .before .before in let read = asked .before .before in let start = read .before .before .before .before .before .before .before in
@@ -51,15 +39,6 @@ returns c =
     indirect-refused w (start .args .dst) (start .args .callee) (start .args .argc) (start .args .l) (mem start b) (start .args .m) (b .fuel) (read .reg .result)
     (read .reg .ensures (w .stack) (w .frames) (rep .stack) (rep .frames) .is) (found .g .given .0 .0)
     (sym (found .g .given .1) ∙ asked .called .ensures (start .args .l) w (around start b) rep) rep
-
-same-length-2 : tie.Need-same-length-2
-same-length-2 c = search needs
-
-same-length-3 : tie.Need-same-length-3
-same-length-3 c = search needs
-
-same-length-4 : tie.Need-same-length-4
-same-length-4 c = search needs
 
 returns-2 : tie.Need-returns-2
 returns-2 c =
@@ -74,14 +53,14 @@ pub indirect-spec : {M : Type 1} → statement M
 indirect-spec =
     tie.close
     (tie.spec
-    reg-requires
+    (λ c κs. search needs)
     called-requires
-    enum-known-g
-    enum-known-f
+    (λ c. search needs)
+    (λ c. search needs)
     create-requires
-    same-length
+    (λ c. search needs)
     returns
-    same-length-2
-    same-length-3
-    same-length-4
+    (λ c. search needs)
+    (λ c. search needs)
+    (λ c. search needs)
     returns-2)

@@ -11,9 +11,6 @@ use Rattle.exec_make.proofs.new.coro_new.Tie as tie
 abbrev mem : tie.Start → Beside → Lent
 mem s b = topMaking (s .args .stack .now) (s .args .frames .now) (s .args .slots .now) (s .args .saved-stack .now) (s .args .saved-frames .now) (s .args .setup .now) plain b
 
-create-requires : tie.Need-create-requires
-create-requires c κs = search needs
-
 put-made-requires : tie.Need-put-made-requires
 put-made-requires c κs =
     let at-create = c .before .before .before .before .before .before .before .before in let start = at-create .before .before .before .before .before .before .before .before .before .before .before in let o = start .pre .ok in
@@ -21,18 +18,6 @@ put-made-requires c κs =
     (create-still (start .args .l) (mem start (o .beside)) (start .args .m) (o .beside .fuel) (o .world) (o .rep) (o .sound) (start .args .f) 0
     (window (start .args .dst) (start .args .argc) (o .world)) (start .pre .function))
     (o .rep) (at-create .create .ensures (o .world) (o .beside) (o .rep) (o .sound) .world) (start .pre .reg)
-
-same-length : tie.Need-same-length
-same-length c = search needs
-
-same-length-2 : tie.Need-same-length-2
-same-length-2 c = search needs
-
-same-length-3 : tie.Need-same-length-3
-same-length-3 c = search needs
-
-same-length-4 : tie.Need-same-length-4
-same-length-4 c = search needs
 
 returns : tie.Need-returns
 returns c =
@@ -45,4 +30,4 @@ returns c =
     (put .put-made .ensures (start .args .l) (coroCreate (start .args .f) 0 (window (start .args .dst) (start .args .argc) w) w .world) (record { words = left; fuel = b .fuel }) (made .world))
 
 pub coro-new-spec : {M : Type 1} → statement M
-coro-new-spec = tie.close (tie.spec create-requires put-made-requires same-length same-length-2 same-length-3 same-length-4 returns)
+coro-new-spec = tie.close (tie.spec (λ c κs. search needs) put-made-requires (λ c. search needs) (λ c. search needs) (λ c. search needs) (λ c. search needs) returns)

@@ -15,21 +15,6 @@ mem s b = topMaking (s .args .stack .now) (s .args .frames .now) (s .args .slots
 abbrev around : tie.Start → Beside → Beside
 around s b = record { words = mem s b; fuel = b .fuel }
 
-sub-base-at : tie.Need-sub-base-at
-sub-base-at c = search needs
-
-base-at-requires : tie.Need-base-at-requires
-base-at-requires c κs = search needs
-
-add-at : tie.Need-add-at
-add-at c = search needs
-
-add-at-2 : tie.Need-add-at-2
-add-at-2 c = search needs
-
-set-aside-requires : tie.Need-set-aside-requires
-set-aside-requires c κs = search needs
-
 coro-create-requires : tie.Need-coro-create-requires
 coro-create-requires c κs =
     let start = c .before .before .before .before .before .before .before .before .before .before .before .before in let o = start .pre .ok in
@@ -38,15 +23,6 @@ coro-create-requires c κs =
       function = start .pre .function;
       few = start .pre .few;
     }
-
-same-length : tie.Need-same-length
-same-length c = search needs
-
-same-length-2 : tie.Need-same-length-2
-same-length-2 c = search needs
-
-same-length-3 : tie.Need-same-length-3
-same-length-3 c = search needs
 
 returns : tie.Need-returns
 returns c =
@@ -63,13 +39,13 @@ pub create-spec : {M : Type 1} → statement M
 create-spec =
     tie.close
     (tie.spec
-    sub-base-at
-    base-at-requires
-    add-at
-    add-at-2
-    set-aside-requires
+    (λ c. search needs)
+    (λ c κs. search needs)
+    (λ c. search needs)
+    (λ c. search needs)
+    (λ c κs. search needs)
     coro-create-requires
-    same-length
-    same-length-2
-    same-length-3
+    (λ c. search needs)
+    (λ c. search needs)
+    (λ c. search needs)
     returns)

@@ -4,18 +4,6 @@ use borrow.Author.Needs.{needs}
 use Rattle.exec_make.proofs.new.put_made.Statement.{statement}
 use Rattle.exec_make.proofs.new.put_made.Tie as tie
 
-enum-known-a : tie.Need-enum-known-a
-enum-known-a c = search needs
-
-put-requires : tie.Need-put-requires
-put-requires c κs = search needs
-
-enum-known-a-2 : tie.Need-enum-known-a-2
-enum-known-a-2 c = search needs
-
-same-length : tie.Need-same-length
-same-length c = search needs
-
 returns : tie.Need-returns
 returns c =
     let at-put = c .before .before in let at-a = at-put .before .before .before in let start = at-a .before .before .before .before in
@@ -28,4 +16,4 @@ returns-2 c =
 
 pub put-made-spec : {M : Type 1} → statement M
 put-made-spec =
-    tie.close (tie.spec enum-known-a put-requires enum-known-a-2 same-length returns returns-2)
+    tie.close (tie.spec (λ c. search needs) (λ c κs. search needs) (λ c. search needs) (λ c. search needs) returns returns-2)

@@ -18,12 +18,6 @@ mem s b = topSetup (s .args .stack .now) (s .args .frames .now) (s .args .setup 
 abbrev around : tie.Start → Beside → Beside
 around s b = record { words = mem s b; fuel = b .fuel }
 
-charge-plain-requires : tie.Need-charge-plain-requires
-charge-plain-requires c κs = search needs
-
-enum-told : tie.Need-enum-told
-enum-told c = search needs
-
 returns : tie.Need-returns
 returns c =
     let paying = c .before .before .before in let start = paying .before .before .before .before in
@@ -35,12 +29,6 @@ returns c =
 push-hook-requires : tie.Need-push-hook-requires
 push-hook-requires c κs = let start = c .before .before .before .before .before .before .before .before in start .pre
 
-same-length : tie.Need-same-length
-same-length c = search needs
-
-same-length-2 : tie.Need-same-length-2
-same-length-2 c = search needs
-
 returns-2 : tie.Need-returns-2
 returns-2 c =
     let pushing = c .before .before .before .before .before in let going = pushing .before .before .before in let paying = going .before .before in let start = paying .before .before .before .before in
@@ -50,4 +38,4 @@ returns-2 c =
     (pushing .push-hook .ensures (charge OptPc.None w .world) (record { words = b .words; fuel = paying .charge-plain .result .fuel }) (did .world) (paid-sound w snd))
 
 pub call-hook-spec : {M : Type 1} → statement M
-call-hook-spec = tie.close (tie.spec charge-plain-requires enum-told returns push-hook-requires same-length same-length-2 returns-2)
+call-hook-spec = tie.close (tie.spec (λ c κs. search needs) (λ c. search needs) returns push-hook-requires (λ c. search needs) (λ c. search needs) returns-2)

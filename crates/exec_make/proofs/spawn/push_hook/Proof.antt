@@ -22,12 +22,6 @@ around s b = record { words = mem s b; fuel = b .fuel }
 push-at-requires : tie.Need-push-at-requires
 push-at-requires c κs = let start = c .before .before .before .before .before in start .pre .call
 
-enum-known-answer : tie.Need-enum-known-answer
-enum-known-answer c = search needs
-
-enum-known-answer-2 : tie.Need-enum-known-answer-2
-enum-known-answer-2 c = search needs
-
 put-requires : tie.Need-put-requires
 put-requires c κs =
     let told = c .before .before .before in let pushing = told .before .before .before .before .before in let start = pushing .before .before .before .before .before .before in let o = start .pre .call .push .ok in
@@ -36,12 +30,6 @@ put-requires c κs =
     (sym (told .answer2 .given .1) ∙ did .answer) (did .world)
     (subst (λ k. 1 ≤ k) (regs-in (o .world .setup) (start .args .setup .now) (o .rep .setup) (start .args .hook) (start .pre .call .push .function)) (start .pre .register))
 
-same-length : tie.Need-same-length
-same-length c = search needs
-
-same-length-2 : tie.Need-same-length-2
-same-length-2 c = search needs
-
 returns : tie.Need-returns
 returns c =
     let told = c .before in let pushing = told .before .before .before .before .before in let start = pushing .before .before .before .before .before .before in
@@ -49,12 +37,6 @@ returns c =
     let did = pushing .push-at .ensures w b rep snd in
     hook-refused (start .args .hook) (start .args .pc) (start .args .dst) (start .args .c) w (start .args .l) _ _ (b .fuel) (told .answer .given .0 .0)
     (sym (told .answer .given .1) ∙ did .answer) (did .world)
-
-same-length-3 : tie.Need-same-length-3
-same-length-3 c = search needs
-
-same-length-4 : tie.Need-same-length-4
-same-length-4 c = search needs
 
 returns-2 : tie.Need-returns-2
 returns-2 c =
@@ -71,12 +53,12 @@ push-hook-spec =
     tie.close
     (tie.spec
     push-at-requires
-    enum-known-answer
-    enum-known-answer-2
+    (λ c. search needs)
+    (λ c. search needs)
     put-requires
-    same-length
-    same-length-2
+    (λ c. search needs)
+    (λ c. search needs)
     returns
-    same-length-3
-    same-length-4
+    (λ c. search needs)
+    (λ c. search needs)
     returns-2)

@@ -25,15 +25,6 @@ left c b =
     let s = start-of c in
     topMaking (s .args .stack .now) (s .args .frames .now) (c .indirect .last .1 .1 .0) (c .indirect .last .1 .1 .1 .0) (c .indirect .last .1 .1 .1 .1 .0) (s .args .setup .now) plain b
 
-hook-requires : tie.Need-hook-requires
-hook-requires c κs = search needs
-
-enum-known-hook : tie.Need-enum-known-hook
-enum-known-hook c = search needs
-
-enum-told : tie.Need-enum-told
-enum-told c = search needs
-
 returns : tie.Need-returns
 returns c =
     let asked = c .before .before in let start = asked .before .before .before .before .before .before .before in
@@ -43,12 +34,6 @@ returns c =
 
 indirect-requires : tie.Need-indirect-requires
 indirect-requires c κs = let start = c .before .before .before .before .before .before .before .before .before .before .before .before .before .before .before in start .pre .indirect
-
-enum-known-answer : tie.Need-enum-known-answer
-enum-known-answer c = search needs
-
-enum-known-answer-2 : tie.Need-enum-known-answer-2
-enum-known-answer-2 c = search needs
 
 call-hook-requires : tie.Need-call-hook-requires
 call-hook-requires c κs =
@@ -96,21 +81,6 @@ call-hook-requires c κs =
       register = hook .register;
     }
 
-same-length : tie.Need-same-length
-same-length c = search needs
-
-same-length-2 : tie.Need-same-length-2
-same-length-2 c = search needs
-
-same-length-3 : tie.Need-same-length-3
-same-length-3 c = search needs
-
-same-length-4 : tie.Need-same-length-4
-same-length-4 c = search needs
-
-same-length-5 : tie.Need-same-length-5
-same-length-5 c = search needs
-
 returns-2 : tie.Need-returns-2
 returns-2 c =
     let told = c .before in
@@ -122,21 +92,6 @@ returns-2 c =
     spawn-refused (start .args .l) w (mem start b) (start .args .m) (start .args .fuel) rep (start .args .pc) (start .args .dst) (start .args .callee) (start .args .argc)
     (named .hook2 .given .0 .0) (sym (named .hook2 .given .1) ∙ asked .hook .ensures) _ _ (start .args .fuel) _ (told .answer .given .0 .0) (told .answer .given .1)
     (creating .indirect .ensures w (record { words = b .words; fuel = start .args .fuel }) rep snd)
-
-same-length-6 : tie.Need-same-length-6
-same-length-6 c = search needs
-
-same-length-7 : tie.Need-same-length-7
-same-length-7 c = search needs
-
-same-length-8 : tie.Need-same-length-8
-same-length-8 c = search needs
-
-same-length-9 : tie.Need-same-length-9
-same-length-9 c = search needs
-
-same-length-10 : tie.Need-same-length-10
-same-length-10 c = search needs
 
 returns-3 : tie.Need-returns-3
 returns-3 c =
@@ -154,23 +109,23 @@ pub spawn-spec : {M : Type 1} → statement M
 spawn-spec =
     tie.close
     (tie.spec
-    hook-requires
-    enum-known-hook
-    enum-told
+    (λ c κs. search needs)
+    (λ c. search needs)
+    (λ c. search needs)
     returns
     indirect-requires
-    enum-known-answer
-    enum-known-answer-2
+    (λ c. search needs)
+    (λ c. search needs)
     call-hook-requires
-    same-length
-    same-length-2
-    same-length-3
-    same-length-4
-    same-length-5
+    (λ c. search needs)
+    (λ c. search needs)
+    (λ c. search needs)
+    (λ c. search needs)
+    (λ c. search needs)
     returns-2
-    same-length-6
-    same-length-7
-    same-length-8
-    same-length-9
-    same-length-10
+    (λ c. search needs)
+    (λ c. search needs)
+    (λ c. search needs)
+    (λ c. search needs)
+    (λ c. search needs)
     returns-3)

@@ -4,28 +4,10 @@ use borrow.Author.Needs.{needs}
 use Rattle.exec_yield.proofs.suspending.deliver_all.Statement.{statement}
 use Rattle.exec_yield.proofs.suspending.deliver_all.Tie as tie
 
-enum-known-a : tie.Need-enum-known-a
-enum-known-a c = search needs
-
 deliver-requires : tie.Need-deliver-requires
 deliver-requires c κs =
     let at-a = c .before .before .before .before in let start = at-a .before .before .before .before .before in
     start .pre .drives (at-a .a .given .0 .0) (at-a .a .given .0 .1 .0) (at-a .a .given .1)
-
-stepped-by-requires : tie.Need-stepped-by-requires
-stepped-by-requires c κs = search needs
-
-enum-known-a-2 : tie.Need-enum-known-a-2
-enum-known-a-2 c = search needs
-
-same-length : tie.Need-same-length
-same-length c = search needs
-
-same-length-2 : tie.Need-same-length-2
-same-length-2 c = search needs
-
-same-length-3 : tie.Need-same-length-3
-same-length-3 c = search needs
 
 returns : tie.Need-returns
 returns c =
@@ -43,12 +25,12 @@ pub deliver-all-spec : {M : Type 1} → statement M
 deliver-all-spec =
     tie.close
     (tie.spec
-    enum-known-a
+    (λ c. search needs)
     deliver-requires
-    stepped-by-requires
-    enum-known-a-2
-    same-length
-    same-length-2
-    same-length-3
+    (λ c κs. search needs)
+    (λ c. search needs)
+    (λ c. search needs)
+    (λ c. search needs)
+    (λ c. search needs)
     returns
     returns-2)

@@ -5,9 +5,6 @@ use borrow.Author.Needs.{needs}
 use Rattle.exec_yield.proofs.suspending.stepped_by.Statement.{statement}
 use Rattle.exec_yield.proofs.suspending.stepped_by.Tie as tie
 
-number-requires : tie.Need-number-requires
-number-requires c κs = search needs
-
 returns : tie.Need-returns
 returns c = frame-step (c .before .before .args .f) (sym (c .before .number .ensures) ∙ (c .if1 .taken))
 
@@ -15,4 +12,4 @@ returns-2 : tie.Need-returns-2
 returns-2 c = unwind-step (c .before .before .args .f) (λ z. (c .if1 .left) ((c .before .number .ensures) ∙ z))
 
 pub stepped-by-spec : {M : Type 1} → statement M
-stepped-by-spec = tie.close (tie.spec number-requires returns returns-2)
+stepped-by-spec = tie.close (tie.spec (λ c κs. search needs) returns returns-2)

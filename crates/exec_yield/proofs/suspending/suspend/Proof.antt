@@ -52,26 +52,11 @@ deliver-all-requires c κs =
     (at-coro-suspend .coro-suspend .ensures u (o .beside)
     (at-store-pc .store-pc .ensures (start .args .l) (o .world) (record { words = mem start (o .beside); fuel = o .beside .fuel }) (o .rep)) k)
 
-same-length : tie.Need-same-length
-same-length c = search needs
-
 same-length-2 : tie.Need-same-length-2
 same-length-2 c =
     let at-deliver-all = c .before .before .before .before .before .before in
     let at-coro-suspend = coro-suspend-of (at-deliver-all .before) in let at-store-pc = store-pc-of (at-coro-suspend .before) in
     at-deliver-all .deliver-all .kept .1 .0 ∙ at-coro-suspend .coro-suspend .kept .1 .0 ∙ at-store-pc .store-pc .kept .0
-
-same-length-3 : tie.Need-same-length-3
-same-length-3 c = search needs
-
-same-length-4 : tie.Need-same-length-4
-same-length-4 c = search needs
-
-same-length-5 : tie.Need-same-length-5
-same-length-5 c = search needs
-
-same-length-6 : tie.Need-same-length-6
-same-length-6 c = search needs
 
 returns : tie.Need-returns
 returns c =
@@ -100,10 +85,10 @@ suspend-spec =
     store-pc-requires
     coro-suspend-requires
     deliver-all-requires
-    same-length
+    (λ c. search needs)
     same-length-2
-    same-length-3
-    same-length-4
-    same-length-5
-    same-length-6
+    (λ c. search needs)
+    (λ c. search needs)
+    (λ c. search needs)
+    (λ c. search needs)
     returns)

@@ -5,11 +5,8 @@ use borrow.Author.Needs.{needs}
 use Rattle.exec_yield.proofs.yielding.dyn_int.Statement.{statement}
 use Rattle.exec_yield.proofs.yielding.dyn_int.Tie as tie
 
-dyn-int-requires : tie.Need-dyn-int-requires
-dyn-int-requires c κs = search needs
-
 returns : tie.Need-returns
 returns c = λ l w b rep. (c .dyn-int .ensures) ∙ dyn-int-is l _ (c .before .before .args .m) (b .fuel) w rep (c .before .before .args .v)
 
 pub dyn-int-spec : {M : Type 1} → statement M
-dyn-int-spec = tie.close (tie.spec dyn-int-requires returns)
+dyn-int-spec = tie.close (tie.spec (λ c κs. search needs) returns)

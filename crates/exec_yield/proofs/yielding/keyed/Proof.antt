@@ -6,19 +6,10 @@ use borrow.Author.Needs.{needs}
 use Rattle.exec_yield.proofs.yielding.keyed.Statement.{statement}
 use Rattle.exec_yield.proofs.yielding.keyed.Tie as tie
 
-dyn-int-requires : tie.Need-dyn-int-requires
-dyn-int-requires c κs = search needs
-
-largest-in-requires : tie.Need-largest-in-requires
-largest-in-requires c κs = search needs
-
-larger-of-requires : tie.Need-larger-of-requires
-larger-of-requires c κs = search needs
-
 returns : tie.Need-returns
 returns c =
     let at-largest-in = c .before in let at-dyn-int = at-largest-in .before in let start = at-dyn-int .before .before in
     λ l w b rep. ap (Keys.Set (start .args .key)) (c .larger-of .ensures ∙ ap₂ largerOf (at-largest-in .largest-in .ensures l w b rep) (at-dyn-int .dyn-int .ensures l w b rep))
 
 pub keyed-spec : {M : Type 1} → statement M
-keyed-spec = tie.close (tie.spec dyn-int-requires largest-in-requires larger-of-requires returns)
+keyed-spec = tie.close (tie.spec (λ c κs. search needs) (λ c κs. search needs) (λ c κs. search needs) returns)

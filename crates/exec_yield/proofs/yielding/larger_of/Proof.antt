@@ -5,15 +5,6 @@ use borrow.Author.Needs.{needs}
 use Rattle.exec_yield.proofs.yielding.larger_of.Statement.{statement}
 use Rattle.exec_yield.proofs.yielding.larger_of.Tie as tie
 
-enum-told : tie.Need-enum-told
-enum-told c = search needs
-
-enum-known-n : tie.Need-enum-known-n
-enum-known-n c = search needs
-
-less-requires : tie.Need-less-requires
-less-requires c κs = search needs
-
 returns : tie.Need-returns
 returns c =
     let at-less = c .before in let at-n = at-less .before .before in let start = at-n .before .before in
@@ -29,4 +20,4 @@ returns-3 c =
 
 pub larger-of-spec : {M : Type 1} → statement M
 larger-of-spec =
-    tie.close (tie.spec enum-told enum-known-n less-requires returns returns-2 returns-3)
+    tie.close (tie.spec (λ c. search needs) (λ c. search needs) (λ c κs. search needs) returns returns-2 returns-3)

@@ -8,15 +8,6 @@ use borrow.Author.Needs.{needs}
 use Rattle.exec_yield.proofs.yielding.largest_in.Statement.{statement}
 use Rattle.exec_yield.proofs.yielding.largest_in.Tie as tie
 
-coro-place-requires : tie.Need-coro-place-requires
-coro-place-requires c κs = search needs
-
-enum-told : tie.Need-enum-told
-enum-told c = search needs
-
-enum-known-i : tie.Need-enum-known-i
-enum-known-i c = search needs
-
 coro-at-requires : tie.Need-coro-at-requires
 coro-at-requires c κs =
     let at-i = c .before in let at-coro-place = at-i .before .before in let start = at-coro-place .before .before in
@@ -39,4 +30,4 @@ returns-2 c =
 pub largest-in-spec : {M : Type 1} → statement M
 largest-in-spec =
     tie.close
-    (tie.spec coro-place-requires enum-told enum-known-i coro-at-requires returns returns-2)
+    (tie.spec (λ c κs. search needs) (λ c. search needs) (λ c. search needs) coro-at-requires returns returns-2)

@@ -21,15 +21,6 @@ returns c =
     λ w b rep snd. kv-idle (start .args .l) (mem start b) (start .args .m) (start .args .fuel) w (start .args .pc) (start .args .dst) (start .args .src)
     (start .args .key) (idle (start .args .l) w (mem start b) (start .args .m) (start .args .fuel) rep (c .if1 .taken)) rep
 
-reg-requires : tie.Need-reg-requires
-reg-requires c κs = search needs
-
-reg-requires-2 : tie.Need-reg-requires-2
-reg-requires-2 c κs = search needs
-
-sub-active-at : tie.Need-sub-active-at
-sub-active-at c = search needs
-
 active-at-requires : tie.Need-active-at-requires
 active-at-requires c κs =
     let at-if1 = c .before .before .before .before .before .before .before .before in let start = start-of (at-if1 .before) in
@@ -45,24 +36,6 @@ suspend-requires c κs =
     let at-if1 = c .before .before .before .before .before .before .before .before .before .before .before .before .before .before .before .before .before in
     let start = start-of (at-if1 .before) in
     record { run = record { ok = start .pre .plain .ok; running = some-active (start .args .m .active) (at-if1 .if1 .left); narrow = start .pre .plain .narrow }; state = refl }
-
-same-length : tie.Need-same-length
-same-length c = search needs
-
-same-length-2 : tie.Need-same-length-2
-same-length-2 c = search needs
-
-same-length-3 : tie.Need-same-length-3
-same-length-3 c = search needs
-
-same-length-4 : tie.Need-same-length-4
-same-length-4 c = search needs
-
-same-length-5 : tie.Need-same-length-5
-same-length-5 c = search needs
-
-same-length-6 : tie.Need-same-length-6
-same-length-6 c = search needs
 
 returns-2 : tie.Need-returns-2
 returns-2 c =
@@ -86,16 +59,16 @@ yield-kv-spec =
     tie.close
     (tie.spec
     returns
-    reg-requires
-    reg-requires-2
-    sub-active-at
+    (λ c κs. search needs)
+    (λ c κs. search needs)
+    (λ c. search needs)
     active-at-requires
     keyed-requires
     suspend-requires
-    same-length
-    same-length-2
-    same-length-3
-    same-length-4
-    same-length-5
-    same-length-6
+    (λ c. search needs)
+    (λ c. search needs)
+    (λ c. search needs)
+    (λ c. search needs)
+    (λ c. search needs)
+    (λ c. search needs)
     returns-2)

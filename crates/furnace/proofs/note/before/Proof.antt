@@ -5,22 +5,10 @@ use borrow.Author.Needs.{needs}
 use Rattle.furnace.proofs.note.before.Statement.{statement}
 use Rattle.furnace.proofs.note.before.Tie as tie
 
-part-of-requires : tie.Need-part-of-requires
-part-of-requires c κs = search needs
-
 note-own-requires : tie.Need-note-own-requires
 note-own-requires c κs =
     let start = c .before .before .before .before .before .before in
     start .pre
-
-sends-requires : tie.Need-sends-requires
-sends-requires c κs = search needs
-
-innermost-requires : tie.Need-innermost-requires
-innermost-requires c κs = search needs
-
-same-length : tie.Need-same-length
-same-length c = search needs
 
 returns : tie.Need-returns
 returns c =
@@ -36,9 +24,9 @@ pub before-spec : {M : Type 1} → statement M
 before-spec =
     tie.close
     (tie.spec
-    part-of-requires
+    (λ c κs. search needs)
     note-own-requires
-    sends-requires
-    innermost-requires
-    same-length
+    (λ c κs. search needs)
+    (λ c κs. search needs)
+    (λ c. search needs)
     returns)

@@ -24,9 +24,6 @@ returns-3 c =
     let a = start .args in
     too-many (a .stack .now) (a .own) (a .top) (a .height) (a .r) (at-if1 .if1 .left) (at-if2 .if2 .left) (c .if3 .taken)
 
-above-requires : tie.Need-above-requires
-above-requires c κs = search needs
-
 returns-4 : tie.Need-returns-4
 returns-4 c =
     let at-above = c .before in let at-if3 = at-above .before in let at-if2 = at-if3 .before in let at-if1 = at-if2 .before in
@@ -35,9 +32,6 @@ returns-4 c =
     let e = at-above .above .ensures in
     let t = c .if4 .taken in
     not-among (a .stack .now) (a .own) (a .top) (a .height) (a .r) (at-if1 .if1 .left) (at-if2 .if2 .left) (at-if3 .if3 .left) (omega (arith, e, t))
-
-sub-result : tie.Need-sub-result
-sub-result c = search needs
 
 returns-5 : tie.Need-returns-5
 returns-5 c =
@@ -48,4 +42,4 @@ returns-5 c =
 
 pub fits-spec : {M : Type 1} → statement M
 fits-spec =
-    tie.close (tie.spec returns returns-2 returns-3 above-requires returns-4 sub-result returns-5)
+    tie.close (tie.spec returns returns-2 returns-3 (λ c κs. search needs) returns-4 (λ c. search needs) returns-5)

@@ -6,26 +6,8 @@ use borrow.Author.Needs.{needs}
 use Rattle.furnace.proofs.note.head.Statement.{statement}
 use Rattle.furnace.proofs.note.head.Tie as tie
 
-mul-notes : tie.Need-mul-notes
-mul-notes c = search needs
-
-slice-write-notes : tie.Need-slice-write-notes
-slice-write-notes c = search needs
-
-add-notes : tie.Need-add-notes
-add-notes c = search needs
-
-mul-notes-2 : tie.Need-mul-notes-2
-mul-notes-2 c = search needs
-
 slice-write-notes-2 : tie.Need-slice-write-notes-2
 slice-write-notes-2 c = let h = c .pre in simp length-set (omega arith)
-
-add-notes-2 : tie.Need-add-notes-2
-add-notes-2 c = search needs
-
-mul-notes-3 : tie.Need-mul-notes-3
-mul-notes-3 c = search needs
 
 slice-write-notes-3 : tie.Need-slice-write-notes-3
 slice-write-notes-3 c = let h = c .pre in simp length-set (omega arith)
@@ -40,13 +22,13 @@ pub head-spec : {M : Type 1} → statement M
 head-spec =
     tie.close
     (tie.spec
-    mul-notes
-    slice-write-notes
-    add-notes
-    mul-notes-2
+    (λ c. search needs)
+    (λ c. search needs)
+    (λ c. search needs)
+    (λ c. search needs)
     slice-write-notes-2
-    add-notes-2
-    mul-notes-3
+    (λ c. search needs)
+    (λ c. search needs)
     slice-write-notes-3
     same-length
     returns)

@@ -7,48 +7,6 @@ use borrow.Author.Needs.{needs}
 use Rattle.furnace.proofs.note.keep.Statement.{statement}
 use Rattle.furnace.proofs.note.keep.Tie as tie
 
-head-requires : tie.Need-head-requires
-head-requires c κs = search needs
-
-add-first : tie.Need-add-first
-add-first c = search needs
-
-add-copy-words : tie.Need-add-copy-words
-add-copy-words c = search needs
-
-mul-copy-words : tie.Need-mul-copy-words
-mul-copy-words c = search needs
-
-sub-copy-words : tie.Need-sub-copy-words
-sub-copy-words c = search needs
-
-part-copy-words-start : tie.Need-part-copy-words-start
-part-copy-words-start c = search needs
-
-part-copy-words-end : tie.Need-part-copy-words-end
-part-copy-words-end c = search needs
-
-add-copy-words-2 : tie.Need-add-copy-words-2
-add-copy-words-2 c = search needs
-
-mul-copy-words-2 : tie.Need-mul-copy-words-2
-mul-copy-words-2 c = search needs
-
-sub-copy-words-2 : tie.Need-sub-copy-words-2
-sub-copy-words-2 c = search needs
-
-part-copy-words-start-2 : tie.Need-part-copy-words-start-2
-part-copy-words-start-2 c = search needs
-
-part-copy-words-end-2 : tie.Need-part-copy-words-end-2
-part-copy-words-end-2 c = search needs
-
-copy-words-requires : tie.Need-copy-words-requires
-copy-words-requires c κs = search needs
-
-same-length : tie.Need-same-length
-same-length c = search needs
-
 returns : tie.Need-returns
 returns c =
     let at-copy-words = c .before .before in let at-head = at-copy-words .before .before .before .before .before in
@@ -61,18 +19,18 @@ pub keep-spec : {M : Type 1} → statement M
 keep-spec =
     tie.close
     (tie.spec
-    head-requires
-    add-first
-    add-copy-words
-    mul-copy-words
-    sub-copy-words
-    part-copy-words-start
-    part-copy-words-end
-    add-copy-words-2
-    mul-copy-words-2
-    sub-copy-words-2
-    part-copy-words-start-2
-    part-copy-words-end-2
-    copy-words-requires
-    same-length
+    (λ c κs. search needs)
+    (λ c. search needs)
+    (λ c. search needs)
+    (λ c. search needs)
+    (λ c. search needs)
+    (λ c. search needs)
+    (λ c. search needs)
+    (λ c. search needs)
+    (λ c. search needs)
+    (λ c. search needs)
+    (λ c. search needs)
+    (λ c. search needs)
+    (λ c κs. search needs)
+    (λ c. search needs)
     returns)

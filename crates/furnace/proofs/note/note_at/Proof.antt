@@ -15,15 +15,6 @@ returns c =
     let a = start .args in
     nobody-noted (a .stack .now) (a .frames .now) (a .chain .now) (a .m) (a .r) (a .notes .now) (c .if1 .taken)
 
-own-base-requires : tie.Need-own-base-requires
-own-base-requires c κs = search needs
-
-top-base-requires : tie.Need-top-base-requires
-top-base-requires c κs = search needs
-
-fits-requires : tie.Need-fits-requires
-fits-requires c κs = search needs
-
 returns-2 : tie.Need-returns-2
 returns-2 c =
     let at-fits2 = c .before in let at-top-base = at-fits2 .before in let at-own-base = at-top-base .before in
@@ -31,24 +22,12 @@ returns-2 c =
     let a = start .args in
     none-noted (a .stack .now) (a .frames .now) (a .chain .now) (a .m) (a .r) (a .notes .now) (at-own-base .own-base .result) (at-top-base .top-base .result) _ (at-own-base .own-base .ensures) (at-top-base .top-base .ensures) (at-fits2 .fits2 .ensures) (c .if2 .taken)
 
-sub-coroutine : tie.Need-sub-coroutine
-sub-coroutine c = search needs
-
-coroutine-requires : tie.Need-coroutine-requires
-coroutine-requires c κs = search needs
-
-note-of-requires : tie.Need-note-of-requires
-note-of-requires c κs = search needs
-
 sub-n : tie.Need-sub-n
 sub-n c =
     let at-if2 = c .before .before .before in let at-fits2 = at-if2 .before in let at-top-base = at-fits2 .before in
     let at-own-base = at-top-base .before in let start = at-own-base .before .before .before .before .before .before .before in
     let f = fitting (start .args .stack .now) (at-own-base .own-base .result) (at-top-base .top-base .result) (start .args .m .height) (start .args .r) (sym (at-fits2 .fits2 .ensures) ∙ not-false _ (at-if2 .if2 .left)) in
     f .above
-
-above-requires : tie.Need-above-requires
-above-requires c κs = search needs
 
 add-place : tie.Need-add-place
 add-place c =
@@ -69,9 +48,6 @@ keep-requires c κs =
     let p = start .pre in
     (omega (arith, f .above, f .few, e, b, p), omega (arith, f .above, f .within))
 
-same-length : tie.Need-same-length
-same-length c = search needs
-
 returns-3 : tie.Need-returns-3
 returns-3 c =
     let at-keep = c .before .before in let at-above = at-keep .before .before in let at-note-of = at-above .before in
@@ -87,16 +63,16 @@ note-at-spec =
     tie.close
     (tie.spec
     returns
-    own-base-requires
-    top-base-requires
-    fits-requires
+    (λ c κs. search needs)
+    (λ c κs. search needs)
+    (λ c κs. search needs)
     returns-2
-    sub-coroutine
-    coroutine-requires
-    note-of-requires
+    (λ c. search needs)
+    (λ c κs. search needs)
+    (λ c κs. search needs)
     sub-n
-    above-requires
+    (λ c κs. search needs)
     add-place
     keep-requires
-    same-length
+    (λ c. search needs)
     returns-3)

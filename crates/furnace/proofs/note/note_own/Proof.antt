@@ -6,12 +6,6 @@ use borrow.Author.Needs.{needs}
 use Rattle.furnace.proofs.note.note_own.Statement.{statement}
 use Rattle.furnace.proofs.note.note_own.Tie as tie
 
-enum-known-p : tie.Need-enum-known-p
-enum-known-p c = search needs
-
-cast-note-at : tie.Need-cast-note-at
-cast-note-at c = search needs
-
 note-at-requires : tie.Need-note-at-requires
 note-at-requires c κs =
     let start = c .before .before .before .before .before .before .before .before in
@@ -23,9 +17,6 @@ returns c =
     let a = start .args in
     no-waits (a .stack .now) (a .frames .now) (a .chain .now) (a .m) (a .notes .now) (a .p) (c .match .keys2)
 
-same-length : tie.Need-same-length
-same-length c = search needs
-
 returns-2 : tie.Need-returns-2
 returns-2 c =
     let at-note-at = c .before .before in let at-p = at-note-at .before .before .before in
@@ -35,4 +26,4 @@ returns-2 c =
 
 pub note-own-spec : {M : Type 1} → statement M
 note-own-spec =
-    tie.close (tie.spec enum-known-p cast-note-at note-at-requires returns same-length returns-2)
+    tie.close (tie.spec (λ c. search needs) (λ c. search needs) note-at-requires returns (λ c. search needs) returns-2)

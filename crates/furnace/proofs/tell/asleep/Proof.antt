@@ -15,9 +15,6 @@ room c = subst (λ n. n ≤ 48) (sym (c .note-of .ensures)) (note-below (c .befo
 few : (c : tie.After-at-most) → c .at-most .result ≤ 13
 few c = let at-note-of = c .before .before in let a = at-note-of .before .before .args in subst (λ n. n ≤ 13) (sym (c .at-most .ensures)) (at-most 13 (getD (a .notes .now) (at-note-of .note-of .result) 0))
 
-note-of-requires : tie.Need-note-of-requires
-note-of-requires c κs = search needs
-
 mul-at-most : tie.Need-mul-at-most
 mul-at-most c =
     let start = c .before .before in
@@ -27,12 +24,6 @@ shared-slice-read-at-most : tie.Need-shared-slice-read-at-most
 shared-slice-read-at-most c =
     let at-note-of = c .before in let start = at-note-of .before .before in
     omega (arith, room at-note-of, start .pre)
-
-at-most-requires : tie.Need-at-most-requires
-at-most-requires c κs = search needs
-
-slice-aggregate-number : tie.Need-slice-aggregate-number
-slice-aggregate-number c = search needs
 
 add-number : tie.Need-add-number
 add-number c =
@@ -48,15 +39,6 @@ shared-slice-read-number : tie.Need-shared-slice-read-number
 shared-slice-read-number c =
     let at-note-of = c .before .before .before .before in let start = at-note-of .before .before in
     omega (arith, room at-note-of, start .pre)
-
-number-requires : tie.Need-number-requires
-number-requires c κs = search needs
-
-slice-aggregate-say : tie.Need-slice-aggregate-say
-slice-aggregate-say c = search needs
-
-say-requires : tie.Need-say-requires
-say-requires c κs = search needs
 
 add-first : tie.Need-add-first
 add-first c =
@@ -92,15 +74,6 @@ part-words-end c =
     let start = at-note-of .before .before in
     omega (arith, room at-note-of, few at-at-most, start .pre)
 
-words-requires : tie.Need-words-requires
-words-requires c κs = search needs
-
-slice-aggregate-say-2 : tie.Need-slice-aggregate-say-2
-slice-aggregate-say-2 c = search needs
-
-say-requires-2 : tie.Need-say-requires-2
-say-requires-2 c κs = search needs
-
 returns : tie.Need-returns
 returns c = search needs
 
@@ -108,24 +81,24 @@ pub asleep-spec : {M : Type 1} → statement M
 asleep-spec =
     tie.close
     (tie.spec
-    note-of-requires
+    (λ c κs. search needs)
     mul-at-most
     shared-slice-read-at-most
-    at-most-requires
-    slice-aggregate-number
+    (λ c κs. search needs)
+    (λ c. search needs)
     add-number
     mul-number
     shared-slice-read-number
-    number-requires
-    slice-aggregate-say
-    say-requires
+    (λ c κs. search needs)
+    (λ c. search needs)
+    (λ c κs. search needs)
     add-first
     add-end
     mul-words
     sub-words
     part-words-start
     part-words-end
-    words-requires
-    slice-aggregate-say-2
-    say-requires-2
+    (λ c κs. search needs)
+    (λ c. search needs)
+    (λ c κs. search needs)
     returns)

@@ -12,29 +12,14 @@ returns c =
     let t = c .if1 .taken in
     beyond (a .table .now) (a .i * 6 + a .k) (omega arith)
 
-mul-at : tie.Need-mul-at
-mul-at c = search needs
-
-sub-if2 : tie.Need-sub-if2
-sub-if2 c = search needs
-
 returns-2 : tie.Need-returns-2
 returns-2 c =
     let a = c .before .before .args in
     let t = c .if2 .taken in
     beyond (a .table .now) (a .i * 6 + a .k) (omega arith)
 
-add-result : tie.Need-add-result
-add-result c = search needs
-
-mul-result : tie.Need-mul-result
-mul-result c = search needs
-
-shared-slice-read-result : tie.Need-shared-slice-read-result
-shared-slice-read-result c = search needs
-
 returns-3 : tie.Need-returns-3
 returns-3 c = search needs
 
 pub field-spec : {M : Type 1} → statement M
-field-spec = tie.close (tie.spec returns mul-at sub-if2 returns-2 add-result mul-result shared-slice-read-result returns-3)
+field-spec = tie.close (tie.spec returns (λ c. search needs) (λ c. search needs) returns-2 (λ c. search needs) (λ c. search needs) (λ c. search needs) returns-3)

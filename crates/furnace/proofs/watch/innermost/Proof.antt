@@ -10,16 +10,10 @@ returns c =
     let start = c .before .before in
     none-runs (start .args .chain .now) (start .args .n) (c .if1 .taken)
 
-sub-coroutine : tie.Need-sub-coroutine
-sub-coroutine c = search needs
-
-coroutine-requires : tie.Need-coroutine-requires
-coroutine-requires c κs = search needs
-
 returns-2 : tie.Need-returns-2
 returns-2 c =
     let at-if1 = c .before in let start = at-if1 .before .before in
     c .coroutine .ensures ∙ one-runs (start .args .chain .now) (start .args .n) (at-if1 .if1 .left)
 
 pub innermost-spec : {M : Type 1} → statement M
-innermost-spec = tie.close (tie.spec returns sub-coroutine coroutine-requires returns-2)
+innermost-spec = tie.close (tie.spec returns (λ c. search needs) (λ c κs. search needs) returns-2)

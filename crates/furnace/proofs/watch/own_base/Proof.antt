@@ -6,19 +6,10 @@ use borrow.Author.Needs.{needs}
 use Rattle.furnace.proofs.watch.own_base.Statement.{statement}
 use Rattle.furnace.proofs.watch.own_base.Tie as tie
 
-last-requires : tie.Need-last-requires
-last-requires c κs = search needs
-
-floor-requires : tie.Need-floor-requires
-floor-requires c κs = search needs
-
-base-requires : tie.Need-base-requires
-base-requires c κs = search needs
-
 returns : tie.Need-returns
 returns c =
     let at-floor = c .before in let at-last = at-floor .before in let start = at-last .before .before .before in
     c .base .ensures ∙ ap (baseIn (start .args .frames .now)) (at-floor .floor .ensures ∙ ap (floorIn (start .args .chain .now)) (at-last .last .ensures))
 
 pub own-base-spec : {M : Type 1} → statement M
-own-base-spec = tie.close (tie.spec last-requires floor-requires base-requires returns)
+own-base-spec = tie.close (tie.spec (λ c κs. search needs) (λ c κs. search needs) (λ c κs. search needs) returns)

@@ -4,24 +4,6 @@ use borrow.Author.Needs.{needs}
 use Rattle.furnace.proofs.watch.part_of.Statement.{statement}
 use Rattle.furnace.proofs.watch.part_of.Tie as tie
 
-enum-known-op : tie.Need-enum-known-op
-enum-known-op c = search needs
-
-enum-known-op-2 : tie.Need-enum-known-op-2
-enum-known-op-2 c = search needs
-
-enum-known-op-3 : tie.Need-enum-known-op-3
-enum-known-op-3 c = search needs
-
-enum-known-op-4 : tie.Need-enum-known-op-4
-enum-known-op-4 c = search needs
-
-enum-told : tie.Need-enum-told
-enum-told c = search needs
-
-enum-known-op-5 : tie.Need-enum-known-op-5
-enum-known-op-5 c = search needs
-
 returns : tie.Need-returns
 returns c =
     let at-op = c .before in
@@ -59,12 +41,12 @@ pub part-of-spec : {M : Type 1} → statement M
 part-of-spec =
     tie.close
     (tie.spec
-    enum-known-op
-    enum-known-op-2
-    enum-known-op-3
-    enum-known-op-4
-    enum-told
-    enum-known-op-5
+    (λ c. search needs)
+    (λ c. search needs)
+    (λ c. search needs)
+    (λ c. search needs)
+    (λ c. search needs)
+    (λ c. search needs)
     returns
     returns-2
     returns-3

@@ -18,17 +18,8 @@ returns-2 c =
     let t = c .if2 .taken in
     beyond (a .stack .now) (a .base + a .r) (omega arith)
 
-add-result : tie.Need-add-result
-add-result c = search needs
-
-mul-result : tie.Need-mul-result
-mul-result c = search needs
-
-shared-slice-read-result : tie.Need-shared-slice-read-result
-shared-slice-read-result c = search needs
-
 returns-3 : tie.Need-returns-3
 returns-3 c = search needs
 
 pub register-spec : {M : Type 1} → statement M
-register-spec = tie.close (tie.spec returns returns-2 add-result mul-result shared-slice-read-result returns-3)
+register-spec = tie.close (tie.spec returns returns-2 (λ c. search needs) (λ c. search needs) (λ c. search needs) returns-3)

@@ -6,21 +6,6 @@ use borrow.Author.Needs.{needs}
 use Rattle.furnace.proofs.watch.sends.Statement.{statement}
 use Rattle.furnace.proofs.watch.sends.Tie as tie
 
-enum-known-p : tie.Need-enum-known-p
-enum-known-p c = search needs
-
-top-base-requires : tie.Need-top-base-requires
-top-base-requires c κs = search needs
-
-cast-register : tie.Need-cast-register
-cast-register c = search needs
-
-register-requires : tie.Need-register-requires
-register-requires c κs = search needs
-
-enum-known-p-2 : tie.Need-enum-known-p-2
-enum-known-p-2 c = search needs
-
 returns : tie.Need-returns
 returns c =
     let at-top-base = c .before in let at-p = at-top-base .before .before in let start = at-p .before .before .before .before in
@@ -43,11 +28,11 @@ pub sends-spec : {M : Type 1} → statement M
 sends-spec =
     tie.close
     (tie.spec
-    enum-known-p
-    top-base-requires
-    cast-register
-    register-requires
-    enum-known-p-2
+    (λ c. search needs)
+    (λ c κs. search needs)
+    (λ c. search needs)
+    (λ c κs. search needs)
+    (λ c. search needs)
     returns
     returns-2
     returns-3)

@@ -5,16 +5,10 @@ use borrow.Author.Needs.{needs}
 use Rattle.furnace.proofs.watch.top_base.Statement.{statement}
 use Rattle.furnace.proofs.watch.top_base.Tie as tie
 
-last-requires : tie.Need-last-requires
-last-requires c κs = search needs
-
-base-requires : tie.Need-base-requires
-base-requires c κs = search needs
-
 returns : tie.Need-returns
 returns c =
     let at-last = c .before in let start = at-last .before .before in
     c .base .ensures ∙ ap (baseIn (start .args .frames .now)) (at-last .last .ensures)
 
 pub top-base-spec : {M : Type 1} → statement M
-top-base-spec = tie.close (tie.spec last-requires base-requires returns)
+top-base-spec = tie.close (tie.spec (λ c κs. search needs) (λ c κs. search needs) returns)

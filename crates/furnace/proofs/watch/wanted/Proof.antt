@@ -5,12 +5,6 @@ use Rattle.furnace.proofs.Words.{sent-there, sent-elsewhere, sent-none}
 use Rattle.furnace.proofs.watch.wanted.Statement.{statement}
 use Rattle.furnace.proofs.watch.wanted.Tie as tie
 
-mul-result : tie.Need-mul-result
-mul-result c = search needs
-
-shared-slice-read-result : tie.Need-shared-slice-read-result
-shared-slice-read-result c = search needs
-
 returns : tie.Need-returns
 returns c =
     let a = c .before .before .before .args in
@@ -21,16 +15,10 @@ returns-2 c =
     let a = c .before .before .before .args in
     sent-there (a .sent .is) (a .place) (a .sent .word) (a .i) (a .held .now) (c .before .if1 .left) (c .if2 .taken) (search needs)
 
-mul-result-2 : tie.Need-mul-result-2
-mul-result-2 c = search needs
-
-shared-slice-read-result-2 : tie.Need-shared-slice-read-result-2
-shared-slice-read-result-2 c = search needs
-
 returns-3 : tie.Need-returns-3
 returns-3 c =
     let a = c .before .before .before .before .args in
     sent-elsewhere (a .sent .is) (a .place) (a .sent .word) (a .i) (a .held .now) (c .before .before .if1 .left) (c .before .if2 .left)
 
 pub wanted-spec : {M : Type 1} → statement M
-wanted-spec = tie.close (tie.spec mul-result shared-slice-read-result returns returns-2 mul-result-2 shared-slice-read-result-2 returns-3)
+wanted-spec = tie.close (tie.spec (λ c. search needs) (λ c. search needs) returns returns-2 (λ c. search needs) (λ c. search needs) returns-3)

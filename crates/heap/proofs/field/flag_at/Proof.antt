@@ -5,11 +5,8 @@ use borrow.Author.Needs.{needs}
 use Rattle.heap.proofs.field.flag_at.Statement.{statement}
 use Rattle.heap.proofs.field.flag_at.Tie as tie
 
-word-at-requires : tie.Need-word-at-requires
-word-at-requires c κs = search needs
-
 returns : tie.Need-returns
 returns c = ap isSet (c .word-at .ensures)
 
 pub flag-at-spec : {M : Type 1} → statement M
-flag-at-spec = tie.close (tie.spec word-at-requires returns)
+flag-at-spec = tie.close (tie.spec (λ c κs. search needs) returns)

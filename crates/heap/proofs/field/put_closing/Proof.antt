@@ -6,24 +6,6 @@ use borrow.Author.Needs.{needs}
 use Rattle.heap.proofs.field.put_closing.Statement.{statement}
 use Rattle.heap.proofs.field.put_closing.Tie as tie
 
-mul-b : tie.Need-mul-b
-mul-b c = search needs
-
-add-slots : tie.Need-add-slots
-add-slots c = search needs
-
-mul-slots : tie.Need-mul-slots
-mul-slots c = search needs
-
-slice-write-slots : tie.Need-slice-write-slots
-slice-write-slots c = search needs
-
-add-slots-2 : tie.Need-add-slots-2
-add-slots-2 c = search needs
-
-mul-slots-2 : tie.Need-mul-slots-2
-mul-slots-2 c = search needs
-
 slice-write-slots-2 : tie.Need-slice-write-slots-2
 slice-write-slots-2 c = simp length-set (omega arith)
 
@@ -37,12 +19,12 @@ pub put-closing-spec : {M : Type 1} → statement M
 put-closing-spec =
     tie.close
     (tie.spec
-    mul-b
-    add-slots
-    mul-slots
-    slice-write-slots
-    add-slots-2
-    mul-slots-2
+    (λ c. search needs)
+    (λ c. search needs)
+    (λ c. search needs)
+    (λ c. search needs)
+    (λ c. search needs)
+    (λ c. search needs)
     slice-write-slots-2
     same-length
     returns)

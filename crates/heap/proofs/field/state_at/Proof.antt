@@ -5,14 +5,8 @@ use borrow.Author.Needs.{needs}
 use Rattle.heap.proofs.field.state_at.Statement.{statement}
 use Rattle.heap.proofs.field.state_at.Tie as tie
 
-word-at-requires : tie.Need-word-at-requires
-word-at-requires c κs = search needs
-
-of-code-requires : tie.Need-of-code-requires
-of-code-requires c κs = search needs
-
 returns : tie.Need-returns
 returns c = c .of-code .ensures ∙ ap stateOf (c .before .word-at .ensures)
 
 pub state-at-spec : {M : Type 1} → statement M
-state-at-spec = tie.close (tie.spec word-at-requires of-code-requires returns)
+state-at-spec = tie.close (tie.spec (λ c κs. search needs) (λ c κs. search needs) returns)

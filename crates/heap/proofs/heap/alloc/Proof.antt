@@ -7,12 +7,6 @@ use borrow.Author.Needs.{needs}
 use Rattle.heap.proofs.heap.alloc.Statement.{statement}
 use Rattle.heap.proofs.heap.alloc.Tie as tie
 
-lacks-requires : tie.Need-lacks-requires
-lacks-requires c κs = search needs
-
-is-none-requires : tie.Need-is-none-requires
-is-none-requires c κs = search needs
-
 returns : tie.Need-returns
 returns c =
     let at-is-none = c .before in let at-lacks = at-is-none .before in let start = at-lacks .before .before in
@@ -36,18 +30,6 @@ cast-reference c =
     let m = start .pre .slots in
     record { fits = omega arith }
 
-reference-requires : tie.Need-reference-requires
-reference-requires c κs = search needs
-
-add-t14 : tie.Need-add-t14
-add-t14 c = search needs
-
-sat-add-requires : tie.Need-sat-add-requires
-sat-add-requires c κs = search needs
-
-same-length : tie.Need-same-length
-same-length c = search needs
-
 returns-2 : tie.Need-returns-2
 returns-2 c =
     let at-reference = c .before in let at-put-slot = at-reference .before .before .before in
@@ -62,13 +44,13 @@ pub alloc-spec : {M : Type 1} → statement M
 alloc-spec =
     tie.close
     (tie.spec
-    lacks-requires
-    is-none-requires
+    (λ c κs. search needs)
+    (λ c κs. search needs)
     returns
     put-slot-requires
     cast-reference
-    reference-requires
-    add-t14
-    sat-add-requires
-    same-length
+    (λ c κs. search needs)
+    (λ c. search needs)
+    (λ c κs. search needs)
+    (λ c. search needs)
     returns-2)

@@ -7,15 +7,6 @@ use borrow.Author.Needs.{needs}
 use Rattle.heap.proofs.heap.coro.Statement.{statement}
 use Rattle.heap.proofs.heap.coro.Tie as tie
 
-coro-place-requires : tie.Need-coro-place-requires
-coro-place-requires c κs = search needs
-
-enum-known-f : tie.Need-enum-known-f
-enum-known-f c = search needs
-
-enum-known-i : tie.Need-enum-known-i
-enum-known-i c = search needs
-
 coro-at-requires : tie.Need-coro-at-requires
 coro-at-requires c κs =
     let at-i = c .before in let at-coro-place = at-i .before .before in let start = at-coro-place .before .before in
@@ -35,4 +26,4 @@ returns-2 c =
 pub coro-spec : {M : Type 1} → statement M
 coro-spec =
     tie.close
-    (tie.spec coro-place-requires enum-known-f enum-known-i coro-at-requires returns returns-2)
+    (tie.spec (λ c κs. search needs) (λ c. search needs) (λ c. search needs) coro-at-requires returns returns-2)

@@ -13,18 +13,6 @@ use borrow.Author.Needs.{needs}
 use Rattle.heap.proofs.heap.coro_place.Statement.{statement}
 use Rattle.heap.proofs.heap.coro_place.Tie as tie
 
-get-requires : tie.Need-get-requires
-get-requires c κs = search needs
-
-enum-told : tie.Need-enum-told
-enum-told c = search needs
-
-not-a-requires : tie.Need-not-a-requires
-not-a-requires c κs = search needs
-
-enum-known-i : tie.Need-enum-known-i
-enum-known-i c = search needs
-
 is-coro-requires : tie.Need-is-coro-requires
 is-coro-requires c κs =
     let at-i = c .before in let at-get = at-i .before .before in let start = at-get .before .before in
@@ -56,10 +44,10 @@ pub coro-place-spec : {M : Type 1} → statement M
 coro-place-spec =
     tie.close
     (tie.spec
-    get-requires
-    enum-told
-    not-a-requires
-    enum-known-i
+    (λ c κs. search needs)
+    (λ c. search needs)
+    (λ c κs. search needs)
+    (λ c. search needs)
     is-coro-requires
     returns
     returns-2

@@ -9,38 +9,11 @@ use borrow.Author.Needs.{needs}
 use Rattle.heap.proofs.heap.dyn_int.Statement.{statement}
 use Rattle.heap.proofs.heap.dyn_int.Tie as tie
 
-class-requires : tie.Need-class-requires
-class-requires c κs = search needs
-
-enum-told : tie.Need-enum-told
-enum-told c = search needs
-
-enum-known-o : tie.Need-enum-known-o
-enum-known-o c = search needs
-
-get-requires : tie.Need-get-requires
-get-requires c κs = search needs
-
-enum-told-2 : tie.Need-enum-told-2
-enum-told-2 c = search needs
-
-enum-known-i : tie.Need-enum-known-i
-enum-known-i c = search needs
-
 object-at-requires : tie.Need-object-at-requires
 object-at-requires c κs =
     let at-i = c .before in let at-get = at-i .before .before in let at-o = at-get .before .before in
     let start = at-o .before .before .before .before in
     found-words (start .args .count) (start .args .slots .now) (at-o .o .given .0 .0 .0) (at-i .i .given .0 .0) (sym (at-i .i .given .1) ∙ at-get .get .ensures) (start .pre)
-
-int-in-requires : tie.Need-int-in-requires
-int-in-requires c κs = search needs
-
-enum-known-n : tie.Need-enum-known-n
-enum-known-n c = search needs
-
-enum-told-3 : tie.Need-enum-told-3
-enum-told-3 c = search needs
 
 returns : tie.Need-returns
 returns c =
@@ -79,16 +52,16 @@ pub dyn-int-spec : {M : Type 1} → statement M
 dyn-int-spec =
     tie.close
     (tie.spec
-    class-requires
-    enum-told
-    enum-known-o
-    get-requires
-    enum-told-2
-    enum-known-i
+    (λ c κs. search needs)
+    (λ c. search needs)
+    (λ c. search needs)
+    (λ c κs. search needs)
+    (λ c. search needs)
+    (λ c. search needs)
     object-at-requires
-    int-in-requires
-    enum-known-n
-    enum-told-3
+    (λ c κs. search needs)
+    (λ c. search needs)
+    (λ c. search needs)
     returns
     returns-2
     returns-3

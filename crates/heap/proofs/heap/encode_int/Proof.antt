@@ -6,26 +6,11 @@ use borrow.Author.Needs.{needs}
 use Rattle.heap.proofs.heap.encode_int.Statement.{statement}
 use Rattle.heap.proofs.heap.encode_int.Tie as tie
 
-inline-int-requires : tie.Need-inline-int-requires
-inline-int-requires c κs = search needs
-
-enum-known-w : tie.Need-enum-known-w
-enum-known-w c = search needs
-
-enum-told : tie.Need-enum-told
-enum-told c = search needs
-
-alloc-requires : tie.Need-alloc-requires
-alloc-requires c κs = search needs
-
 returns : tie.Need-returns
 returns c =
     let at-w = c .before in let at-inline-int = at-w .before .before in let start = at-inline-int .before .before in
     let a = start .args in
     ap (λ (x : Inline). encodeBy x (a .slots .now) (a .h) (a .bytes) (a .n)) (sym (at-w .w .given .1) ∙ at-inline-int .inline-int .ensures)
-
-same-length : tie.Need-same-length
-same-length c = search needs
 
 returns-2 : tie.Need-returns-2
 returns-2 c =
@@ -38,10 +23,10 @@ pub encode-int-spec : {M : Type 1} → statement M
 encode-int-spec =
     tie.close
     (tie.spec
-    inline-int-requires
-    enum-known-w
-    enum-told
-    alloc-requires
+    (λ c κs. search needs)
+    (λ c. search needs)
+    (λ c. search needs)
+    (λ c κs. search needs)
     returns
-    same-length
+    (λ c. search needs)
     returns-2)

@@ -28,19 +28,10 @@ other n ws (C.Ref o) h = absurd (miss (0 ∷ 2 ∷ 3 ∷ []) 1 tt h)
 other n ws (C.Int z) h = refl
 other n ws C.Opaque h = refl
 
-class-requires : tie.Need-class-requires
-class-requires c κs = search needs
-
-enum-known-o : tie.Need-enum-known-o
-enum-known-o c = search needs
-
 returns : tie.Need-returns
 returns c =
     let at-class = c .before in let start = at-class .before .before in
     other (start .args .count) (start .args .slots .now) (at-class .class .result) (c .match .keys2) ∙ ap (look (start .args .count) (start .args .slots .now)) (at-class .class .ensures)
-
-slot-requires : tie.Need-slot-requires
-slot-requires c κs = search needs
 
 returns-2 : tie.Need-returns-2
 returns-2 c =
@@ -49,12 +40,6 @@ returns-2 c =
     beyond (start .args .count) (start .args .slots .now) (at-o .o .given .0 .0) (at-slot .slot .result) _ (at-slot .slot .ensures) refl (c .if1 .taken)
     ∙ ap (look (start .args .count) (start .args .slots .now)) (sym (at-o .o .given .1) ∙ at-class .class .ensures)
 
-tag-at-requires : tie.Need-tag-at-requires
-tag-at-requires c κs = search needs
-
-tag-requires : tie.Need-tag-requires
-tag-requires c κs = search needs
-
 returns-3 : tie.Need-returns-3
 returns-3 c =
     let at-tag = c .before in let at-tag-at = at-tag .before in let at-if1 = at-tag-at .before in let at-slot = at-if1 .before in
@@ -62,9 +47,6 @@ returns-3 c =
     other-tag (start .args .count) (start .args .slots .now) (at-o .o .given .0 .0) (at-slot .slot .result) (at-tag .tag .result) (at-slot .slot .ensures)
     (at-tag .tag .ensures) (at-if1 .if1 .left) (λ e. c .if2 .taken (at-tag-at .tag-at .ensures ∙ e))
     ∙ ap (look (start .args .count) (start .args .slots .now)) (sym (at-o .o .given .1) ∙ at-class .class .ensures)
-
-filled-at-requires : tie.Need-filled-at-requires
-filled-at-requires c κs = search needs
 
 returns-4 : tie.Need-returns-4
 unfolding pick
@@ -90,14 +72,14 @@ pub get-spec : {M : Type 1} → statement M
 get-spec =
     tie.close
     (tie.spec
-    class-requires
-    enum-known-o
+    (λ c κs. search needs)
+    (λ c. search needs)
     returns
-    slot-requires
+    (λ c κs. search needs)
     returns-2
-    tag-at-requires
-    tag-requires
+    (λ c κs. search needs)
+    (λ c κs. search needs)
     returns-3
-    filled-at-requires
+    (λ c κs. search needs)
     returns-4
     returns-5)

@@ -6,21 +6,6 @@ use borrow.Author.Needs.{needs}
 use Rattle.heap.proofs.heap.int_to_dyn.Statement.{statement}
 use Rattle.heap.proofs.heap.int_to_dyn.Tie as tie
 
-value-requires : tie.Need-value-requires
-value-requires c κs = search needs
-
-enum-known-v : tie.Need-enum-known-v
-enum-known-v c = search needs
-
-encode-int-requires : tie.Need-encode-int-requires
-encode-int-requires c κs = search needs
-
-enum-told : tie.Need-enum-told
-enum-told c = search needs
-
-same-length : tie.Need-same-length
-same-length c = search needs
-
 returns : tie.Need-returns
 returns c =
     let at-encode-int = c .before .before in let at-v = at-encode-int .before .before .before in
@@ -38,10 +23,10 @@ pub int-to-dyn-spec : {M : Type 1} → statement M
 int-to-dyn-spec =
     tie.close
     (tie.spec
-    value-requires
-    enum-known-v
-    encode-int-requires
-    enum-told
-    same-length
+    (λ c κs. search needs)
+    (λ c. search needs)
+    (λ c κs. search needs)
+    (λ c. search needs)
+    (λ c. search needs)
     returns
     returns-2)

@@ -9,30 +9,6 @@ use borrow.Author.Needs.{needs}
 use Rattle.heap.proofs.heap.not_a.Statement.{statement}
 use Rattle.heap.proofs.heap.not_a.Tie as tie
 
-class-requires : tie.Need-class-requires
-class-requires c κs = search needs
-
-enum-told : tie.Need-enum-told
-enum-told c = search needs
-
-enum-told-2 : tie.Need-enum-told-2
-enum-told-2 c = search needs
-
-get-requires : tie.Need-get-requires
-get-requires c κs = search needs
-
-enum-told-3 : tie.Need-enum-told-3
-enum-told-3 c = search needs
-
-enum-told-4 : tie.Need-enum-told-4
-enum-told-4 c = search needs
-
-enum-told-5 : tie.Need-enum-told-5
-enum-told-5 c = search needs
-
-enum-told-6 : tie.Need-enum-told-6
-enum-told-6 c = search needs
-
 returns : tie.Need-returns
 returns c =
     let at-class = c .before .before in let start = at-class .before .before in
@@ -62,14 +38,14 @@ pub not-a-spec : {M : Type 1} → statement M
 not-a-spec =
     tie.close
     (tie.spec
-    class-requires
-    enum-told
-    enum-told-2
-    get-requires
-    enum-told-3
-    enum-told-4
-    enum-told-5
-    enum-told-6
+    (λ c κs. search needs)
+    (λ c. search needs)
+    (λ c. search needs)
+    (λ c κs. search needs)
+    (λ c. search needs)
+    (λ c. search needs)
+    (λ c. search needs)
+    (λ c. search needs)
     returns
     returns-2
     returns-3

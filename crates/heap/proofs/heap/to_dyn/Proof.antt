@@ -8,27 +8,6 @@ use borrow.Author.Needs.{needs}
 use Rattle.heap.proofs.heap.to_dyn.Statement.{statement}
 use Rattle.heap.proofs.heap.to_dyn.Tie as tie
 
-enum-told : tie.Need-enum-told
-enum-told c = search needs
-
-nil-requires : tie.Need-nil-requires
-nil-requires c κs = search needs
-
-enum-told-2 : tie.Need-enum-told-2
-enum-told-2 c = search needs
-
-enum-told-3 : tie.Need-enum-told-3
-enum-told-3 c = search needs
-
-int-to-dyn-requires : tie.Need-int-to-dyn-requires
-int-to-dyn-requires c κs = search needs
-
-enum-told-4 : tie.Need-enum-told-4
-enum-told-4 c = search needs
-
-int-to-dyn-requires-2 : tie.Need-int-to-dyn-requires-2
-int-to-dyn-requires-2 c κs = search needs
-
 returns : tie.Need-returns
 returns c =
     let at-enum-told = c .before in let start = at-enum-told .before .before .before in
@@ -39,17 +18,11 @@ returns c =
 returns-2 : tie.Need-returns-2
 returns-2 c = let a = c .before .before .before .args in ap (λ (k : ResultKind). toDyn k (a .slots .now) (a .h) (a .bytes) (a .n)) (sym (c .enum-told2 .given .1))
 
-same-length : tie.Need-same-length
-same-length c = search needs
-
 returns-3 : tie.Need-returns-3
 returns-3 c =
     let at-int-to-dyn = c .before .before in let at-enum-told3 = at-int-to-dyn .before .before in
     let start = at-enum-told3 .before .before .before in
     let a = start .args in at-int-to-dyn .int-to-dyn .ensures ∙ ap (λ (k : ResultKind). toDyn k (a .slots .now) (a .h) (a .bytes) (a .n)) (sym (at-enum-told3 .enum-told3 .given .1))
-
-same-length-2 : tie.Need-same-length-2
-same-length-2 c = search needs
 
 returns-4 : tie.Need-returns-4
 returns-4 c =
@@ -61,16 +34,16 @@ pub to-dyn-spec : {M : Type 1} → statement M
 to-dyn-spec =
     tie.close
     (tie.spec
-    enum-told
-    nil-requires
-    enum-told-2
-    enum-told-3
-    int-to-dyn-requires
-    enum-told-4
-    int-to-dyn-requires-2
+    (λ c. search needs)
+    (λ c κs. search needs)
+    (λ c. search needs)
+    (λ c. search needs)
+    (λ c κs. search needs)
+    (λ c. search needs)
+    (λ c κs. search needs)
     returns
     returns-2
-    same-length
+    (λ c. search needs)
     returns-3
-    same-length-2
+    (λ c. search needs)
     returns-4)

@@ -13,9 +13,6 @@ use Rattle.heap.proofs.Coding.{low, high}
 use Rattle.heap.proofs.int.next_key.Statement.{statement}
 use Rattle.heap.proofs.int.next_key.Tie as tie
 
-add-t6 : tie.Need-add-t6
-add-t6 c = search needs
-
 next : (n : ℕ) (b : Bool) → ltb n (2 ^ 63) ≡ b → n < 2 ^ 64 → (n ≡ 2 ^ 63 - 1 → ⊥) → (n ≡ 2 ^ 64 - 1 → ⊥) → X.Fits (n + 1) ≡ nextKey n
 unfolding pick
 next n true e f h k =
@@ -41,4 +38,4 @@ returns-3 c =
     next n (ltb n (2 ^ 63)) refl (start .fits .largest .fits) (at-if1 .if1 .left) (c .if2 .left)
 
 pub next-key-spec : {M : Type 1} → statement M
-next-key-spec = tie.close (tie.spec add-t6 returns returns-2 returns-3)
+next-key-spec = tie.close (tie.spec (λ c. search needs) returns returns-2 returns-3)

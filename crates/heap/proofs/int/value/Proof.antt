@@ -25,12 +25,6 @@ large : (n : ℕ) → 2 ^ 63 ≤ n → X.Over ≡ exactly (pos n)
 unfolding pick
 large n h = rw (le-ltb n (2 ^ 63) h)
 
-enum-told : tie.Need-enum-told
-enum-told c = search needs
-
-enum-told-2 : tie.Need-enum-told-2
-enum-told-2 c = search needs
-
 returns : tie.Need-returns
 returns c = let a = c .before .before in rw (c .enum-told .given .1) (signed (a .args .bits) (a .fits .bits .fits))
 
@@ -41,4 +35,4 @@ returns-3 : tie.Need-returns-3
 returns-3 c = rw (c .before .enum-told2 .given .1) (large _ (c .if1 .left))
 
 pub value-spec : {M : Type 1} → statement M
-value-spec = tie.close (tie.spec enum-told enum-told-2 returns returns-2 returns-3)
+value-spec = tie.close (tie.spec (λ c. search needs) (λ c. search needs) returns returns-2 returns-3)

@@ -10,18 +10,6 @@ use borrow.Author.Needs.{needs}
 use Rattle.heap.proofs.kind.callee.Statement.{statement}
 use Rattle.heap.proofs.kind.callee.Tie as tie
 
-get-requires : tie.Need-get-requires
-get-requires c κs = search needs
-
-enum-told : tie.Need-enum-told
-enum-told c = search needs
-
-not-a-requires : tie.Need-not-a-requires
-not-a-requires c κs = search needs
-
-enum-known-i : tie.Need-enum-known-i
-enum-known-i c = search needs
-
 callee-at-requires : tie.Need-callee-at-requires
 callee-at-requires c κs =
     let place = c .before in
@@ -52,10 +40,10 @@ pub callee-spec : {M : Type 1} → statement M
 callee-spec =
     tie.close
     (tie.spec
-    get-requires
-    enum-told
-    not-a-requires
-    enum-known-i
+    (λ c κs. search needs)
+    (λ c. search needs)
+    (λ c κs. search needs)
+    (λ c. search needs)
     callee-at-requires
     returns
     returns-2)

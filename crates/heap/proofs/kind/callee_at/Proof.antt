@@ -7,12 +7,6 @@ use borrow.Author.Needs.{needs}
 use Rattle.heap.proofs.kind.callee_at.Statement.{statement}
 use Rattle.heap.proofs.kind.callee_at.Tie as tie
 
-word-at-requires : tie.Need-word-at-requires
-word-at-requires c κs = search needs
-
-word-at-requires-2 : tie.Need-word-at-requires-2
-word-at-requires-2 c κs = search needs
-
 returns : tie.Need-returns
 returns c =
     let kind = c .before .before in
@@ -26,4 +20,4 @@ returns-2 c =
     sym (no-func (chunkAt 20 (a .slots .now) (a .i)) (λ e. c .if1 .left (kind .word-at .ensures ∙ e)))
 
 pub callee-at-spec : {M : Type 1} → statement M
-callee-at-spec = tie.close (tie.spec word-at-requires word-at-requires-2 returns returns-2)
+callee-at-spec = tie.close (tie.spec (λ c κs. search needs) (λ c κs. search needs) returns returns-2)

@@ -6,15 +6,6 @@ use borrow.Author.Needs.{needs}
 use Rattle.heap.proofs.kind.done_at.Statement.{statement}
 use Rattle.heap.proofs.kind.done_at.Tie as tie
 
-word-at-requires : tie.Need-word-at-requires
-word-at-requires c κs = search needs
-
-flag-at-requires : tie.Need-flag-at-requires
-flag-at-requires c κs = search needs
-
-flag-at-requires-2 : tie.Need-flag-at-requires-2
-flag-at-requires-2 c κs = search needs
-
 returns : tie.Need-returns
 returns c =
     let kind = c .before .before in
@@ -37,4 +28,4 @@ returns-3 c =
 pub done-at-spec : {M : Type 1} → statement M
 done-at-spec =
     tie.close
-    (tie.spec word-at-requires flag-at-requires flag-at-requires-2 returns returns-2 returns-3)
+    (tie.spec (λ c κs. search needs) (λ c κs. search needs) (λ c κs. search needs) returns returns-2 returns-3)

@@ -8,15 +8,6 @@ use borrow.Author.Needs.{needs}
 use Rattle.heap.proofs.kind.is_done.Statement.{statement}
 use Rattle.heap.proofs.kind.is_done.Tie as tie
 
-get-requires : tie.Need-get-requires
-get-requires c κs = search needs
-
-enum-told : tie.Need-enum-told
-enum-told c = search needs
-
-enum-known-n : tie.Need-enum-known-n
-enum-known-n c = search needs
-
 done-at-requires : tie.Need-done-at-requires
 done-at-requires c κs =
     let place = c .before in
@@ -43,4 +34,4 @@ returns-2 c =
 
 pub is-done-spec : {M : Type 1} → statement M
 is-done-spec =
-    tie.close (tie.spec get-requires enum-told enum-known-n done-at-requires returns returns-2)
+    tie.close (tie.spec (λ c κs. search needs) (λ c. search needs) (λ c. search needs) done-at-requires returns returns-2)

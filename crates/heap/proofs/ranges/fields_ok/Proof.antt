@@ -5,21 +5,16 @@ use mathlib.Core.List.{List, [], _∷_}
 use Prim.Native.Nat.{ℕ, zero, suc, _-_, _≤_}
 use native.Mathlib.Omega.{arith}
 use borrow.Author.Needs.{needs}
-use borrow.Author.Tests.{le-leb, lt-leb, ne-eqb, not-true, not-false}
-use lib.Dec.{leb, eqb}
+use borrow.Author.Tests.{le-leb, lt-leb, not-true, not-false}
+use lib.Dec.{leb}
 use lib.ListN.{length, getD, drop, length-drop, replicate}
 use lib.Seq.{take-all}
 use Rattle.lists.specs.Tests.{zeros}
 use Rattle.heap.specs.Slot.{fieldsOf}
 use Rattle.heap.specs.Ranges.{rangesOf, within}
+use Rattle.heap.proofs.Within.{from-zero, at-zero}
 use Rattle.heap.proofs.ranges.fields_ok.Statement.{statement}
 use Rattle.heap.proofs.ranges.fields_ok.Tie as tie
-
-at-zero : (x : ℕ) → (leb 0 x && leb x 0) ≡ eqb x 0
-at-zero zero = refl
-at-zero (suc x) =
-    let n : suc x ≡ 0 → ⊥ = λ e. omega arith in
-    rw (lt-leb (suc x) 0 (omega arith), ne-eqb (suc x) 0 n, le-leb 0 (suc x) (omega arith))
 
 -- words of which none is used
 unused : (n : ℕ) (xs : List ℕ) → length xs ≡ n → within (rangesOf (replicate {A = ℕ} n 0) (replicate {A = ℕ} n 0)) xs ≡ zeros xs
@@ -27,9 +22,6 @@ unused zero [] e = refl
 unused zero (x ∷ xs) e = absurd (omega arith)
 unused (suc n) [] e = absurd (omega arith)
 unused (suc n) (x ∷ xs) e = let h : length xs ≡ n = omega arith in ap₂ _&&_ (at-zero x) (unused n xs h)
-
-from-zero : (w m : ℕ) → (leb 0 w && leb w m) ≡ leb w m
-from-zero w m = rw (le-leb 0 w (omega arith))
 
 -- ---- the tests that are left
 
@@ -112,58 +104,25 @@ past6 c = let z = at6 c in past5 (c .before .before) ∙ (rw (le-leb (word z 5) 
 
 -- ---- the needs
 
-shared-slice-read-if1 : tie.Need-shared-slice-read-if1
-shared-slice-read-if1 c = search needs
-
 returns : tie.Need-returns
 returns c = let z = c .before .before .before in sym (begin z ∙ (rw (lt-leb (word z 0) (z .args .tag) (c .if1 .taken))))
 
-shared-slice-read-if2 : tie.Need-shared-slice-read-if2
-shared-slice-read-if2 c = search needs
-
 returns-2 : tie.Need-returns-2
 returns-2 c = let past = c .before .before in let z = at1 past in sym (past1 past ∙ (rw (lt-leb (word z 1) (z .args .kind) (c .if2 .taken))))
-
-shared-slice-read-between : tie.Need-shared-slice-read-between
-shared-slice-read-between c = search needs
-
-between-requires : tie.Need-between-requires
-between-requires c κs = search needs
 
 returns-3 : tie.Need-returns-3
 returns-3 c =
     let past = c .before .before .before in let z = at2 past in
     sym (past2 past ∙ ap (λ (b : Bool). b && from3 z) (sym (c .before .between .ensures) ∙ not-true _ (c .if3 .taken)))
 
-shared-slice-read-if4 : tie.Need-shared-slice-read-if4
-shared-slice-read-if4 c = search needs
-
 returns-4 : tie.Need-returns-4
 returns-4 c = let past = c .before .before in let z = at3 past in sym (past3 past ∙ (rw (lt-leb (word z 3) (z .args .b) (c .if4 .taken))))
-
-shared-slice-read-if5 : tie.Need-shared-slice-read-if5
-shared-slice-read-if5 c = search needs
 
 returns-5 : tie.Need-returns-5
 returns-5 c = let past = c .before .before in let z = at4 past in sym (past4 past ∙ (rw (lt-leb (word z 4) (z .args .c) (c .if5 .taken))))
 
-shared-slice-read-if6 : tie.Need-shared-slice-read-if6
-shared-slice-read-if6 c = search needs
-
 returns-6 : tie.Need-returns-6
 returns-6 c = let past = c .before .before in let z = at5 past in sym (past5 past ∙ (rw (lt-leb (word z 5) (z .args .d) (c .if6 .taken))))
-
-sub-all-zero : tie.Need-sub-all-zero
-sub-all-zero c = search needs
-
-part-all-zero-start : tie.Need-part-all-zero-start
-part-all-zero-start c = search needs
-
-part-all-zero-end : tie.Need-part-all-zero-end
-part-all-zero-end c = search needs
-
-all-zero-requires : tie.Need-all-zero-requires
-all-zero-requires c κs = search needs
 
 returns-7 : tie.Need-returns-7
 returns-7 c =
@@ -175,21 +134,21 @@ pub fields-ok-spec : {M : Type 1} → statement M
 fields-ok-spec =
     tie.close
     (tie.spec
-    shared-slice-read-if1
+    (λ c. search needs)
     returns
-    shared-slice-read-if2
+    (λ c. search needs)
     returns-2
-    shared-slice-read-between
-    between-requires
+    (λ c. search needs)
+    (λ c κs. search needs)
     returns-3
-    shared-slice-read-if4
+    (λ c. search needs)
     returns-4
-    shared-slice-read-if5
+    (λ c. search needs)
     returns-5
-    shared-slice-read-if6
+    (λ c. search needs)
     returns-6
-    sub-all-zero
-    part-all-zero-start
-    part-all-zero-end
-    all-zero-requires
+    (λ c. search needs)
+    (λ c. search needs)
+    (λ c. search needs)
+    (λ c κs. search needs)
     returns-7)

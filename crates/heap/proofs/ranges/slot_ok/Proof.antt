@@ -52,19 +52,10 @@ none : (s : List ℕ) → 0 < length s → false ≡ within [] s
 none [] h = absurd (omega arith)
 none (x ∷ s) h = refl
 
-shared-slice-read-kind : tie.Need-shared-slice-read-kind
-shared-slice-read-kind c = search needs
-
-at-most-requires : tie.Need-at-most-requires
-at-most-requires c κs = search needs
-
 returns : tie.Need-returns
 returns c =
     let at-if1 = c .before in let start = at-if1 .before .before .before in
-    row (start .args .s .now) 6 (c .at-most .result) (c .at-most .ensures) (at-if1 .if1 .taken)
-
-fields-ok-requires : tie.Need-fields-ok-requires
-fields-ok-requires c κs = search needs
+    row (start .args .s .now) 6 (c .coro-ok .result) (c .coro-ok .ensures) (at-if1 .if1 .taken)
 
 returns-2 : tie.Need-returns-2
 returns-2 c =
@@ -78,40 +69,10 @@ returns-3 c =
     let n : length s ≡ 20 = start .pre in
     none s (omega arith) ∙ ap (λ (rs : List Range). within rs s) (sym (past (getD s 1 0) (c .if3 .taken) (at-if2 .if2 .left) (at-if1 .if1 .left)))
 
-fields-ok-requires-2 : tie.Need-fields-ok-requires-2
-fields-ok-requires-2 c κs = search needs
-
 returns-4 : tie.Need-returns-4
 returns-4 c =
     let at-if4 = c .before in let start = at-if4 .before .before .before .before .before .before in
     row (start .args .s .now) 1 (c .fields-ok2 .result) (c .fields-ok2 .ensures) (at-if4 .if4 .taken)
-
-mul-fields-ok : tie.Need-mul-fields-ok
-mul-fields-ok c = search needs
-
-array-read-fields-ok : tie.Need-array-read-fields-ok
-array-read-fields-ok c = search needs
-
-mul-fields-ok-2 : tie.Need-mul-fields-ok-2
-mul-fields-ok-2 c = search needs
-
-array-read-fields-ok-2 : tie.Need-array-read-fields-ok-2
-array-read-fields-ok-2 c = search needs
-
-mul-fields-ok-3 : tie.Need-mul-fields-ok-3
-mul-fields-ok-3 c = search needs
-
-array-read-fields-ok-3 : tie.Need-array-read-fields-ok-3
-array-read-fields-ok-3 c = search needs
-
-mul-fields-ok-4 : tie.Need-mul-fields-ok-4
-mul-fields-ok-4 c = search needs
-
-array-read-fields-ok-4 : tie.Need-array-read-fields-ok-4
-array-read-fields-ok-4 c = search needs
-
-fields-ok-requires-3 : tie.Need-fields-ok-requires-3
-fields-ok-requires-3 c κs = search needs
 
 returns-5 : tie.Need-returns-5
 returns-5 c =
@@ -123,21 +84,21 @@ pub slot-ok-spec : {M : Type 1} → statement M
 slot-ok-spec =
     tie.close
     (tie.spec
-    shared-slice-read-kind
-    at-most-requires
+    (λ c. search needs)
+    (λ c κs. search needs)
     returns
-    fields-ok-requires
+    (λ c κs. search needs)
     returns-2
     returns-3
-    fields-ok-requires-2
+    (λ c κs. search needs)
     returns-4
-    mul-fields-ok
-    array-read-fields-ok
-    mul-fields-ok-2
-    array-read-fields-ok-2
-    mul-fields-ok-3
-    array-read-fields-ok-3
-    mul-fields-ok-4
-    array-read-fields-ok-4
-    fields-ok-requires-3
+    (λ c. search needs)
+    (λ c. search needs)
+    (λ c. search needs)
+    (λ c. search needs)
+    (λ c. search needs)
+    (λ c. search needs)
+    (λ c. search needs)
+    (λ c. search needs)
+    (λ c κs. search needs)
     returns-5)

@@ -8,27 +8,6 @@ use borrow.Author.Needs.{needs}
 use Rattle.heap.proofs.slot.coro_at.Statement.{statement}
 use Rattle.heap.proofs.slot.coro_at.Tie as tie
 
-mul-b : tie.Need-mul-b
-mul-b c = search needs
-
-add-e : tie.Need-add-e
-add-e c = search needs
-
-mul-coro-of : tie.Need-mul-coro-of
-mul-coro-of c = search needs
-
-sub-coro-of : tie.Need-sub-coro-of
-sub-coro-of c = search needs
-
-part-coro-of-start : tie.Need-part-coro-of-start
-part-coro-of-start c = search needs
-
-part-coro-of-end : tie.Need-part-coro-of-end
-part-coro-of-end c = search needs
-
-coro-of-requires : tie.Need-coro-of-requires
-coro-of-requires c κs = search needs
-
 returns : tie.Need-returns
 returns c =
     let start = c .before .before .before in
@@ -40,11 +19,11 @@ pub coro-at-spec : {M : Type 1} → statement M
 coro-at-spec =
     tie.close
     (tie.spec
-    mul-b
-    add-e
-    mul-coro-of
-    sub-coro-of
-    part-coro-of-start
-    part-coro-of-end
-    coro-of-requires
+    (λ c. search needs)
+    (λ c. search needs)
+    (λ c. search needs)
+    (λ c. search needs)
+    (λ c. search needs)
+    (λ c. search needs)
+    (λ c κs. search needs)
     returns)

@@ -9,21 +9,6 @@ use borrow.Author.Needs.{needs}
 use Rattle.heap.proofs.slot.filled_at.Statement.{statement}
 use Rattle.heap.proofs.slot.filled_at.Tie as tie
 
-mul-b : tie.Need-mul-b
-mul-b c = search needs
-
-add-kind : tie.Need-add-kind
-add-kind c = search needs
-
-mul-kind : tie.Need-mul-kind
-mul-kind c = search needs
-
-shared-slice-read-kind : tie.Need-shared-slice-read-kind
-shared-slice-read-kind c = search needs
-
-fills-requires : tie.Need-fills-requires
-fills-requires c κs = search needs
-
 returns : tie.Need-returns
 returns c =
     let start = c .before .before .before in
@@ -33,4 +18,4 @@ returns c =
 
 pub filled-at-spec : {M : Type 1} → statement M
 filled-at-spec =
-    tie.close (tie.spec mul-b add-kind mul-kind shared-slice-read-kind fills-requires returns)
+    tie.close (tie.spec (λ c. search needs) (λ c. search needs) (λ c. search needs) (λ c. search needs) (λ c κs. search needs) returns)

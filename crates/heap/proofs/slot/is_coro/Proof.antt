@@ -7,20 +7,8 @@ use borrow.Author.Needs.{needs}
 use Rattle.heap.proofs.slot.is_coro.Statement.{statement}
 use Rattle.heap.proofs.slot.is_coro.Tie as tie
 
-mul-b : tie.Need-mul-b
-mul-b c = search needs
-
-add-result : tie.Need-add-result
-add-result c = search needs
-
-mul-result : tie.Need-mul-result
-mul-result c = search needs
-
-shared-slice-read-result : tie.Need-shared-slice-read-result
-shared-slice-read-result c = search needs
-
 returns : tie.Need-returns
 returns c = ap (λ k. eqb k 6) (sym (chunk-get 20 (c .before .args .i) 1 (c .before .args .slots .now) (omega arith)))
 
 pub is-coro-spec : {M : Type 1} → statement M
-is-coro-spec = tie.close (tie.spec mul-b add-result mul-result shared-slice-read-result returns)
+is-coro-spec = tie.close (tie.spec (λ c. search needs) (λ c. search needs) (λ c. search needs) (λ c. search needs) returns)

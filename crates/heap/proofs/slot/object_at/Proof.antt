@@ -8,27 +8,6 @@ use borrow.Author.Needs.{needs}
 use Rattle.heap.proofs.slot.object_at.Statement.{statement}
 use Rattle.heap.proofs.slot.object_at.Tie as tie
 
-mul-b : tie.Need-mul-b
-mul-b c = search needs
-
-add-e : tie.Need-add-e
-add-e c = search needs
-
-mul-object-of : tie.Need-mul-object-of
-mul-object-of c = search needs
-
-sub-object-of : tie.Need-sub-object-of
-sub-object-of c = search needs
-
-part-object-of-start : tie.Need-part-object-of-start
-part-object-of-start c = search needs
-
-part-object-of-end : tie.Need-part-object-of-end
-part-object-of-end c = search needs
-
-object-of-requires : tie.Need-object-of-requires
-object-of-requires c κs = search needs
-
 returns : tie.Need-returns
 returns c =
     let start = c .before .before .before in
@@ -40,11 +19,11 @@ pub object-at-spec : {M : Type 1} → statement M
 object-at-spec =
     tie.close
     (tie.spec
-    mul-b
-    add-e
-    mul-object-of
-    sub-object-of
-    part-object-of-start
-    part-object-of-end
-    object-of-requires
+    (λ c. search needs)
+    (λ c. search needs)
+    (λ c. search needs)
+    (λ c. search needs)
+    (λ c. search needs)
+    (λ c. search needs)
+    (λ c κs. search needs)
     returns)

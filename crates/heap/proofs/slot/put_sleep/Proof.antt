@@ -9,30 +9,6 @@ use borrow.Author.Needs.{needs}
 use Rattle.heap.proofs.slot.put_sleep.Statement.{statement}
 use Rattle.heap.proofs.slot.put_sleep.Tie as tie
 
-mul-b : tie.Need-mul-b
-mul-b c = search needs
-
-add-e : tie.Need-add-e
-add-e c = search needs
-
-mul-write-sleep : tie.Need-mul-write-sleep
-mul-write-sleep c = search needs
-
-sub-write-sleep : tie.Need-sub-write-sleep
-sub-write-sleep c = search needs
-
-part-write-sleep-start : tie.Need-part-write-sleep-start
-part-write-sleep-start c = search needs
-
-part-write-sleep-end : tie.Need-part-write-sleep-end
-part-write-sleep-end c = search needs
-
-write-sleep-requires : tie.Need-write-sleep-requires
-write-sleep-requires c κs = search needs
-
-same-length : tie.Need-same-length
-same-length c = search needs
-
 returns : tie.Need-returns
 returns c =
     let at-write-sleep = c .before .before in let start = at-write-sleep .before .before .before in
@@ -46,12 +22,12 @@ pub put-sleep-spec : {M : Type 1} → statement M
 put-sleep-spec =
     tie.close
     (tie.spec
-    mul-b
-    add-e
-    mul-write-sleep
-    sub-write-sleep
-    part-write-sleep-start
-    part-write-sleep-end
-    write-sleep-requires
-    same-length
+    (λ c. search needs)
+    (λ c. search needs)
+    (λ c. search needs)
+    (λ c. search needs)
+    (λ c. search needs)
+    (λ c. search needs)
+    (λ c κs. search needs)
+    (λ c. search needs)
     returns)

@@ -9,15 +9,6 @@ use borrow.Author.Needs.{needs}
 use Rattle.heap.proofs.slot.tag_at.Statement.{statement}
 use Rattle.heap.proofs.slot.tag_at.Tie as tie
 
-mul-b : tie.Need-mul-b
-mul-b c = search needs
-
-mul-result : tie.Need-mul-result
-mul-result c = search needs
-
-shared-slice-read-result : tie.Need-shared-slice-read-result
-shared-slice-read-result c = search needs
-
 returns : tie.Need-returns
 returns c =
     let b = c .before .args .i * 20 in
@@ -25,4 +16,4 @@ returns c =
     sym (getD-take 20 (drop b ws) 0 0 (omega arith) ∙ getD-drop b ws 0 0 ∙ ap (λ n. getD ws n 0) (add-zero b))
 
 pub tag-at-spec : {M : Type 1} → statement M
-tag-at-spec = tie.close (tie.spec mul-b mul-result shared-slice-read-result returns)
+tag-at-spec = tie.close (tie.spec (λ c. search needs) (λ c. search needs) (λ c. search needs) returns)

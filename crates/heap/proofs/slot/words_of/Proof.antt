@@ -3,42 +3,6 @@ use borrow.Author.Needs.{needs}
 use Rattle.heap.proofs.slot.words_of.Statement.{statement}
 use Rattle.heap.proofs.slot.words_of.Tie as tie
 
-enum-told : tie.Need-enum-told
-enum-told c = search needs
-
-fields-requires : tie.Need-fields-requires
-fields-requires c κs = search needs
-
-enum-known-o : tie.Need-enum-known-o
-enum-known-o c = search needs
-
-fields-requires-2 : tie.Need-fields-requires-2
-fields-requires-2 c κs = search needs
-
-enum-known-o-2 : tie.Need-enum-known-o-2
-enum-known-o-2 c = search needs
-
-fields-requires-3 : tie.Need-fields-requires-3
-fields-requires-3 c κs = search needs
-
-enum-known-o-3 : tie.Need-enum-known-o-3
-enum-known-o-3 c = search needs
-
-iter-words-requires : tie.Need-iter-words-requires
-iter-words-requires c κs = search needs
-
-enum-known-o-4 : tie.Need-enum-known-o-4
-enum-known-o-4 c = search needs
-
-fields-requires-4 : tie.Need-fields-requires-4
-fields-requires-4 c κs = search needs
-
-enum-known-o-5 : tie.Need-enum-known-o-5
-enum-known-o-5 c = search needs
-
-coro-words-requires : tie.Need-coro-words-requires
-coro-words-requires c κs = search needs
-
 returns : tie.Need-returns
 returns c = rw (c .before .enum-told .given .1) (c .fields .ensures)
 
@@ -61,18 +25,18 @@ pub words-of-spec : {M : Type 1} → statement M
 words-of-spec =
     tie.close
     (tie.spec
-    enum-told
-    fields-requires
-    enum-known-o
-    fields-requires-2
-    enum-known-o-2
-    fields-requires-3
-    enum-known-o-3
-    iter-words-requires
-    enum-known-o-4
-    fields-requires-4
-    enum-known-o-5
-    coro-words-requires
+    (λ c. search needs)
+    (λ c κs. search needs)
+    (λ c. search needs)
+    (λ c κs. search needs)
+    (λ c. search needs)
+    (λ c κs. search needs)
+    (λ c. search needs)
+    (λ c κs. search needs)
+    (λ c. search needs)
+    (λ c κs. search needs)
+    (λ c. search needs)
+    (λ c κs. search needs)
     returns
     returns-2
     returns-3

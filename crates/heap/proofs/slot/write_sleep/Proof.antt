@@ -5,15 +5,6 @@ use borrow.Author.Needs.{needs}
 use Rattle.heap.proofs.slot.write_sleep.Statement.{statement}
 use Rattle.heap.proofs.slot.write_sleep.Tie as tie
 
-code-requires : tie.Need-code-requires
-code-requires c κs = search needs
-
-slice-write-s : tie.Need-slice-write-s
-slice-write-s c = search needs
-
-cast-s : tie.Need-cast-s
-cast-s c = search needs
-
 slice-write-s-2 : tie.Need-slice-write-s-2
 slice-write-s-2 c = simp length-set (omega arith)
 
@@ -54,9 +45,9 @@ pub write-sleep-spec : {M : Type 1} → statement M
 write-sleep-spec =
     tie.close
     (tie.spec
-    code-requires
-    slice-write-s
-    cast-s
+    (λ c κs. search needs)
+    (λ c. search needs)
+    (λ c. search needs)
     slice-write-s-2
     slice-write-s-3
     slice-write-s-4

@@ -96,21 +96,6 @@ asleep c =
     let start = at-word .before .before .before .before .before .before .before .before .before .before .before .before .before .before .before .before .before .before .before in
     let a = start .args in waiting (getD (chunkAt 20 (a .slots .now) (a .i)) 2 0) (λ z. c .if1 .taken (at-word .word .ensures ∙ z))
 
-slice-read-reg : tie.Need-slice-read-reg
-slice-read-reg c = search needs
-
-slice-read-reg-2 : tie.Need-slice-read-reg-2
-slice-read-reg-2 c = search needs
-
-reg-requires : tie.Need-reg-requires
-reg-requires c κs = search needs
-
-slice-read-store-pc : tie.Need-slice-read-store-pc
-slice-read-store-pc c = search needs
-
-store-pc-requires : tie.Need-store-pc-requires
-store-pc-requires c κs = search needs
-
 word-requires : tie.Need-word-requires
 word-requires c κs =
     let start = c .before .before .before .before .before .before .before .before .before .before .before .before .before .before .before .before .before .before in
@@ -206,30 +191,12 @@ send-requires c κs =
     send-fits _ _ _ _ _ _ _ (k .waiting) (ap (λ n. getD (a .machine .now) 0 0 + n) (sym (at-word2 .word2 .ensures))) (ap (λ n. getD (a .machine .now) 1 0 + n) (sym (at-word3 .word3 .ensures))) (sym (at-word4 .word4 .ensures))
     (arrive-fits (sizesIn (a .machine .now)) _ (grown (machineIn (a .machine .now)) k) _ (a .v) (Driver.Resume (a .dst)) w₁ (enteredAs k) snd did .waits (k .waiting) (sym (waits-as k (asleep at-if1))))
 
-same-length : tie.Need-same-length
-same-length c = search needs
-
 same-length-2 : tie.Need-same-length-2
 same-length-2 c =
     let at-send = c .before .before .before .before in
     let at-enter-at = at-send .before .before .before .before .before .before .before .before .before .before .before .before .before .before .before .before .before .before .before .before .before .before .before in
     let at-store-pc = at-enter-at .before .before .before .before .before .before .before .before .before .before .before .before .before .before .before .before .before .before in
     at-send .send .kept .1 .0 ∙ at-enter-at .enter-at .kept .1 .0 ∙ at-store-pc .store-pc .kept .0
-
-same-length-3 : tie.Need-same-length-3
-same-length-3 c = search needs
-
-same-length-4 : tie.Need-same-length-4
-same-length-4 c = search needs
-
-same-length-5 : tie.Need-same-length-5
-same-length-5 c = search needs
-
-same-length-6 : tie.Need-same-length-6
-same-length-6 c = search needs
-
-same-length-7 : tie.Need-same-length-7
-same-length-7 c = search needs
 
 returns : tie.Need-returns
 returns c =
@@ -254,29 +221,11 @@ returns c =
           (at-reg .reg .ensures (w .stack) (w .frames) (rep .stack) (rep .frames) .is) (at-send .send .ensures))),
     )
 
-same-length-8 : tie.Need-same-length-8
-same-length-8 c = search needs
-
 same-length-9 : tie.Need-same-length-9
 same-length-9 c =
     let at-enter-at = c .before .before .before .before .before .before .before .before .before .before .before .before .before .before .before .before .before .before .before .before in
     let at-store-pc = at-enter-at .before .before .before .before .before .before .before .before .before .before .before .before .before .before .before .before .before .before in
     at-enter-at .enter-at .kept .1 .0 ∙ at-store-pc .store-pc .kept .0
-
-same-length-10 : tie.Need-same-length-10
-same-length-10 c = search needs
-
-same-length-11 : tie.Need-same-length-11
-same-length-11 c = search needs
-
-same-length-12 : tie.Need-same-length-12
-same-length-12 c = search needs
-
-same-length-13 : tie.Need-same-length-13
-same-length-13 c = search needs
-
-same-length-14 : tie.Need-same-length-14
-same-length-14 c = search needs
 
 returns-2 : tie.Need-returns-2
 returns-2 c =
@@ -300,11 +249,11 @@ pub enter-spec : {M : Type 1} → statement M
 enter-spec =
     tie.close
     (tie.spec
-    slice-read-reg
-    slice-read-reg-2
-    reg-requires
-    slice-read-store-pc
-    store-pc-requires
+    (λ c. search needs)
+    (λ c. search needs)
+    (λ c κs. search needs)
+    (λ c. search needs)
+    (λ c κs. search needs)
     word-requires
     word-requires-2
     word-requires-3
@@ -318,19 +267,19 @@ enter-spec =
     add-active
     put-numbers-requires
     send-requires
-    same-length
+    (λ c. search needs)
     same-length-2
-    same-length-3
-    same-length-4
-    same-length-5
-    same-length-6
-    same-length-7
+    (λ c. search needs)
+    (λ c. search needs)
+    (λ c. search needs)
+    (λ c. search needs)
+    (λ c. search needs)
     returns
-    same-length-8
+    (λ c. search needs)
     same-length-9
-    same-length-10
-    same-length-11
-    same-length-12
-    same-length-13
-    same-length-14
+    (λ c. search needs)
+    (λ c. search needs)
+    (λ c. search needs)
+    (λ c. search needs)
+    (λ c. search needs)
     returns-2)

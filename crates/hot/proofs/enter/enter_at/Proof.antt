@@ -46,12 +46,6 @@ move-in-requires c κs =
           (ok .sound) Fault.None (start .pre .may .fits) refl (ok .room) h;
     }
 
-shared-slice-read-push-active : tie.Need-shared-slice-read-push-active
-shared-slice-read-push-active c = search needs
-
-shared-slice-read-push-active-2 : tie.Need-shared-slice-read-push-active-2
-shared-slice-read-push-active-2 c = search needs
-
 push-active-requires : tie.Need-push-active-requires
 push-active-requires c κs =
     let start = c .before .before .before .before .before .before .before .before .before .before .before .before .before .before .before .before .before .before .before .before .before .before .before .before in
@@ -62,24 +56,6 @@ put-state-requires c κs =
     let at-move-in = c .before .before .before .before .before .before .before .before .before .before .before .before .before .before .before in
     let start = at-move-in .before .before .before .before .before .before .before .before .before .before .before .before .before in
     sum start .slot
-
-same-length : tie.Need-same-length
-same-length c = search needs
-
-same-length-2 : tie.Need-same-length-2
-same-length-2 c = search needs
-
-same-length-3 : tie.Need-same-length-3
-same-length-3 c = search needs
-
-same-length-4 : tie.Need-same-length-4
-same-length-4 c = search needs
-
-same-length-5 : tie.Need-same-length-5
-same-length-5 c = search needs
-
-same-length-6 : tie.Need-same-length-6
-same-length-6 c = search needs
 
 returns : tie.Need-returns
 returns c =
@@ -94,14 +70,14 @@ enter-at-spec =
     tie.close
     (tie.spec
     move-in-requires
-    shared-slice-read-push-active
-    shared-slice-read-push-active-2
+    (λ c. search needs)
+    (λ c. search needs)
     push-active-requires
     put-state-requires
-    same-length
-    same-length-2
-    same-length-3
-    same-length-4
-    same-length-5
-    same-length-6
+    (λ c. search needs)
+    (λ c. search needs)
+    (λ c. search needs)
+    (λ c. search needs)
+    (λ c. search needs)
+    (λ c. search needs)
     returns)

@@ -5,24 +5,12 @@ use borrow.Author.Needs.{needs}
 use Rattle.hot.proofs.enter.move_in.Statement.{statement}
 use Rattle.hot.proofs.enter.move_in.Tie as tie
 
-word-requires : tie.Need-word-requires
-word-requires c κs = search needs
-
-shared-slice-read-at : tie.Need-shared-slice-read-at
-shared-slice-read-at c = search needs
-
 mul-at : tie.Need-mul-at
 mul-at c =
     let start = c .before .before .before .before .before .before .before .before in
     let at = regs-place (start .args .slots .now) (start .args .machine .now) (start .args .i) (c .before .word .result) (c .before .word .ensures) in
     let inside = start .pre .fits .in-saved in
     record { fits = omega (arith, at, inside, start .good) }
-
-shared-slice-read-enter-stack : tie.Need-shared-slice-read-enter-stack
-shared-slice-read-enter-stack c = search needs
-
-word-requires-2 : tie.Need-word-requires-2
-word-requires-2 c κs = search needs
 
 enter-stack-requires : tie.Need-enter-stack-requires
 enter-stack-requires c κs =
@@ -32,12 +20,6 @@ enter-stack-requires c κs =
     let room = start .pre .fits .on-stack in
     let inside = start .pre .fits .in-saved in
     (omega (arith, n, room), omega (arith, at, n, inside))
-
-word-requires-3 : tie.Need-word-requires-3
-word-requires-3 c κs = search needs
-
-shared-slice-read-from : tie.Need-shared-slice-read-from
-shared-slice-read-from c = search needs
 
 mul-from : tie.Need-mul-from
 mul-from c =
@@ -52,32 +34,11 @@ mul-from-2 c =
     let inside = start .pre .fits .entering .in-saved in
     record { fits = omega (arith, at, inside, start .good) }
 
-shared-slice-read-enter-frames : tie.Need-shared-slice-read-enter-frames
-shared-slice-read-enter-frames c = search needs
-
-word-requires-4 : tie.Need-word-requires-4
-word-requires-4 c κs = search needs
-
-shared-slice-read-enter-frames-2 : tie.Need-shared-slice-read-enter-frames-2
-shared-slice-read-enter-frames-2 c = search needs
-
 enter-frames-requires : tie.Need-enter-frames-requires
 enter-frames-requires c κs =
     let at-word3 = c .before .before .before .before .before .before in let start = c .before .before .before .before .before .before .before .before .before .before .before .before .before .before .before .before .before .before .before .before .before .before .before .before in
     let s = start .args .slots .now in let ms = start .args .machine .now in let i = start .args .i in
     frames-fit s ms i (at-word3 .word3 .result) (at-word3 .word3 .ensures) (start .args .frames .now) (start .args .saved-frames .now) (c .before .word4 .result) (c .before .word4 .ensures) (start .pre .fits .entering)
-
-same-length : tie.Need-same-length
-same-length c = search needs
-
-same-length-2 : tie.Need-same-length-2
-same-length-2 c = search needs
-
-same-length-3 : tie.Need-same-length-3
-same-length-3 c = search needs
-
-same-length-4 : tie.Need-same-length-4
-same-length-4 c = search needs
 
 returns : tie.Need-returns
 returns c =
@@ -96,22 +57,22 @@ pub move-in-spec : {M : Type 1} → statement M
 move-in-spec =
     tie.close
     (tie.spec
-    word-requires
-    shared-slice-read-at
+    (λ c κs. search needs)
+    (λ c. search needs)
     mul-at
-    shared-slice-read-enter-stack
-    word-requires-2
+    (λ c. search needs)
+    (λ c κs. search needs)
     enter-stack-requires
-    word-requires-3
-    shared-slice-read-from
+    (λ c κs. search needs)
+    (λ c. search needs)
     mul-from
     mul-from-2
-    shared-slice-read-enter-frames
-    word-requires-4
-    shared-slice-read-enter-frames-2
+    (λ c. search needs)
+    (λ c κs. search needs)
+    (λ c. search needs)
     enter-frames-requires
-    same-length
-    same-length-2
-    same-length-3
-    same-length-4
+    (λ c. search needs)
+    (λ c. search needs)
+    (λ c. search needs)
+    (λ c. search needs)
     returns)

@@ -5,17 +5,11 @@ use borrow.Author.Needs.{needs}
 use Rattle.hot.proofs.enter.put_numbers.Statement.{statement}
 use Rattle.hot.proofs.enter.put_numbers.Tie as tie
 
-slice-write-machine : tie.Need-slice-write-machine
-slice-write-machine c = search needs
-
 slice-write-machine-2 : tie.Need-slice-write-machine-2
 slice-write-machine-2 c = simp length-set (omega arith)
 
 slice-write-machine-3 : tie.Need-slice-write-machine-3
 slice-write-machine-3 c = simp length-set (omega arith)
-
-same-length : tie.Need-same-length
-same-length c = search needs
 
 returns : tie.Need-returns
 returns c = search needs
@@ -23,4 +17,4 @@ returns c = search needs
 pub put-numbers-spec : {M : Type 1} → statement M
 put-numbers-spec =
     tie.close
-    (tie.spec slice-write-machine slice-write-machine-2 slice-write-machine-3 same-length returns)
+    (tie.spec (λ c. search needs) slice-write-machine-2 slice-write-machine-3 (λ c. search needs) returns)

@@ -24,35 +24,14 @@ slot c =
     let a = start .args in
     stands-words (getD (a .machine .now) 3 0) (a .slots .now) (at-reg .reg .result) (c .i .given .0 .0) (sym (c .i .given .1) ∙ at-coro-place .coro-place .ensures) (start .pre .in-slots)
 
-shared-slice-read-if1 : tie.Need-shared-slice-read-if1
-shared-slice-read-if1 c = search needs
-
 returns : tie.Need-returns
 returns c = nothing _ _ _ _ _ _ _ _
 
 returns-2 : tie.Need-returns-2
 returns-2 c = nothing _ _ _ _ _ _ _ _
 
-shared-slice-read-base-at : tie.Need-shared-slice-read-base-at
-shared-slice-read-base-at c = search needs
-
-sub-base-at : tie.Need-sub-base-at
-sub-base-at c = search needs
-
-base-at-requires : tie.Need-base-at-requires
-base-at-requires c κs = search needs
-
-shared-slice-read-if3 : tie.Need-shared-slice-read-if3
-shared-slice-read-if3 c = search needs
-
 returns-3 : tie.Need-returns-3
 returns-3 c = nothing _ _ _ _ _ _ _ _
-
-shared-slice-read-wide : tie.Need-shared-slice-read-wide
-shared-slice-read-wide c = search needs
-
-sub-wide : tie.Need-sub-wide
-sub-wide c = search needs
 
 returns-4 : tie.Need-returns-4
 returns-4 c = nothing _ _ _ _ _ _ _ _
@@ -62,27 +41,6 @@ returns-5 c = nothing _ _ _ _ _ _ _ _
 
 returns-6 : tie.Need-returns-6
 returns-6 c = nothing _ _ _ _ _ _ _ _
-
-shared-slice-read-reg : tie.Need-shared-slice-read-reg
-shared-slice-read-reg c = search needs
-
-shared-slice-read-reg-2 : tie.Need-shared-slice-read-reg-2
-shared-slice-read-reg-2 c = search needs
-
-reg-requires : tie.Need-reg-requires
-reg-requires c κs = search needs
-
-shared-slice-read-coro-place : tie.Need-shared-slice-read-coro-place
-shared-slice-read-coro-place c = search needs
-
-coro-place-requires : tie.Need-coro-place-requires
-coro-place-requires c κs = search needs
-
-enum-told : tie.Need-enum-told
-enum-told c = search needs
-
-enum-known-i : tie.Need-enum-known-i
-enum-known-i c = search needs
 
 word-requires : tie.Need-word-requires
 word-requires c κs =
@@ -103,26 +61,8 @@ word-requires-2 c κs =
 returns-9 : tie.Need-returns-9
 returns-9 c = nothing _ _ _ _ _ _ _ _
 
-shared-slice-read-if10 : tie.Need-shared-slice-read-if10
-shared-slice-read-if10 c = search needs
-
-shared-slice-read-if10-2 : tie.Need-shared-slice-read-if10-2
-shared-slice-read-if10-2 c = search needs
-
-sub-if10 : tie.Need-sub-if10
-sub-if10 c = search needs
-
 returns-10 : tie.Need-returns-10
 returns-10 c = nothing _ _ _ _ _ _ _ _
-
-shared-slice-read-if11 : tie.Need-shared-slice-read-if11
-shared-slice-read-if11 c = search needs
-
-shared-slice-read-if11-2 : tie.Need-shared-slice-read-if11-2
-shared-slice-read-if11-2 c = search needs
-
-sub-if11 : tie.Need-sub-if11
-sub-if11 c = search needs
 
 word-requires-3 : tie.Need-word-requires-3
 word-requires-3 c κs =
@@ -172,38 +112,38 @@ pub may-enter-spec : {M : Type 1} → statement M
 may-enter-spec =
     tie.close
     (tie.spec
-    shared-slice-read-if1
+    (λ c. search needs)
     returns
     returns-2
-    shared-slice-read-base-at
-    sub-base-at
-    base-at-requires
-    shared-slice-read-if3
+    (λ c. search needs)
+    (λ c. search needs)
+    (λ c κs. search needs)
+    (λ c. search needs)
     returns-3
-    shared-slice-read-wide
-    sub-wide
+    (λ c. search needs)
+    (λ c. search needs)
     returns-4
     returns-5
     returns-6
-    shared-slice-read-reg
-    shared-slice-read-reg-2
-    reg-requires
-    shared-slice-read-coro-place
-    coro-place-requires
-    enum-told
-    enum-known-i
+    (λ c. search needs)
+    (λ c. search needs)
+    (λ c κs. search needs)
+    (λ c. search needs)
+    (λ c κs. search needs)
+    (λ c. search needs)
+    (λ c. search needs)
     word-requires
     returns-7
     returns-8
     word-requires-2
     returns-9
-    shared-slice-read-if10
-    shared-slice-read-if10-2
-    sub-if10
+    (λ c. search needs)
+    (λ c. search needs)
+    (λ c. search needs)
     returns-10
-    shared-slice-read-if11
-    shared-slice-read-if11-2
-    sub-if11
+    (λ c. search needs)
+    (λ c. search needs)
+    (λ c. search needs)
     word-requires-3
     returns-11
     returns-12

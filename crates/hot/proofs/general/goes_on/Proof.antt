@@ -7,9 +7,6 @@ use borrow.Author.Needs.{needs}
 use Rattle.hot.proofs.general.goes_on.Statement.{statement}
 use Rattle.hot.proofs.general.goes_on.Tie as tie
 
-slice-write-answer : tie.Need-slice-write-answer
-slice-write-answer c = search needs
-
 slice-write-answer-2 : tie.Need-slice-write-answer-2
 slice-write-answer-2 c = simp length-set (omega arith)
 
@@ -31,9 +28,6 @@ slice-write-answer-7 c = simp length-set (omega arith)
 slice-write-answer-8 : tie.Need-slice-write-answer-8
 slice-write-answer-8 c = simp length-set (omega arith)
 
-same-length : tie.Need-same-length
-same-length c = search needs
-
 returns : tie.Need-returns
 returns c =
     sets-splice (c .args .answer .now) (0 ∷ 0 ∷ 2 ∷ 0 ∷ 3 ∷ 0 ∷ 0 ∷ 0 ∷ []) 0 (c .pre)
@@ -42,7 +36,7 @@ pub goes-on-spec : {M : Type 1} → statement M
 goes-on-spec =
     tie.close
     (tie.spec
-    slice-write-answer
+    (λ c. search needs)
     slice-write-answer-2
     slice-write-answer-3
     slice-write-answer-4
@@ -50,5 +44,5 @@ goes-on-spec =
     slice-write-answer-6
     slice-write-answer-7
     slice-write-answer-8
-    same-length
+    (λ c. search needs)
     returns)

@@ -14,7 +14,7 @@ shared-slice-read-leave-stack : tie.Need-shared-slice-read-leave-stack
 shared-slice-read-leave-stack c = let h = (c .before .before .before .before .before .before .before .before) .pre .words in omega (arith, h)
 
 leave-stack-requires : tie.Need-leave-stack-requires
-leave-stack-requires c κs = let fit = (c .before .before .before .before .before .before .before .before .before) .pre .fits in (fit .under, fit .on-stack, fit .in-saved)
+leave-stack-requires c κs = let fit = (c .before .before .before .before .before .before .before .before .before) .pre .fits in let inside = fit .in-saved in (fit .under, fit .on-stack, omega (arith, inside))
 
 shared-slice-read-from : tie.Need-shared-slice-read-from
 shared-slice-read-from c = let h = (c .before .before .before .before .before .before .before .before .before .before .before .before .before .before .before) .pre .words in omega (arith, h)
@@ -29,7 +29,9 @@ shared-slice-read-leave-frames : tie.Need-shared-slice-read-leave-frames
 shared-slice-read-leave-frames c = let h = (c .before .before .before .before .before .before .before .before .before .before .before .before .before .before .before .before .before) .pre .words in omega (arith, h)
 
 leave-frames-requires : tie.Need-leave-frames-requires
-leave-frames-requires c κs = (c .before .before .before .before .before .before .before .before .before .before .before .before .before .before .before .before .before .before) .pre .fits .leaving
+leave-frames-requires c κs =
+    let fit = (c .before .before .before .before .before .before .before .before .before .before .before .before .before .before .before .before .before .before) .pre .fits .leaving in let inside = fit .in-saved in
+    record { under = fit .under; on-frames = fit .on-frames; in-saved = omega (arith, inside); above = fit .above }
 
 same-length : tie.Need-same-length
 same-length c = c .before .before .before .before .before .before .before .before .before .before .before .before .before .leave-stack .kept .0

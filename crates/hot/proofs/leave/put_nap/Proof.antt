@@ -9,30 +9,6 @@ use borrow.Author.Needs.{needs}
 use Rattle.hot.proofs.leave.put_nap.Statement.{statement}
 use Rattle.hot.proofs.leave.put_nap.Tie as tie
 
-mul-b : tie.Need-mul-b
-mul-b c = search needs
-
-add-e : tie.Need-add-e
-add-e c = search needs
-
-mul-write-nap : tie.Need-mul-write-nap
-mul-write-nap c = search needs
-
-sub-write-nap : tie.Need-sub-write-nap
-sub-write-nap c = search needs
-
-part-write-nap-start : tie.Need-part-write-nap-start
-part-write-nap-start c = search needs
-
-part-write-nap-end : tie.Need-part-write-nap-end
-part-write-nap-end c = search needs
-
-write-nap-requires : tie.Need-write-nap-requires
-write-nap-requires c κs = search needs
-
-same-length : tie.Need-same-length
-same-length c = search needs
-
 returns : tie.Need-returns
 returns c =
     let start = (c .before .before .before .before .before) in
@@ -47,12 +23,12 @@ pub put-nap-spec : {M : Type 1} → statement M
 put-nap-spec =
     tie.close
     (tie.spec
-    mul-b
-    add-e
-    mul-write-nap
-    sub-write-nap
-    part-write-nap-start
-    part-write-nap-end
-    write-nap-requires
-    same-length
+    (λ c. search needs)
+    (λ c. search needs)
+    (λ c. search needs)
+    (λ c. search needs)
+    (λ c. search needs)
+    (λ c. search needs)
+    (λ c κs. search needs)
+    (λ c. search needs)
     returns)

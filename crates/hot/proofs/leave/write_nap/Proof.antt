@@ -6,9 +6,6 @@ use borrow.Author.Needs.{needs}
 use Rattle.hot.proofs.leave.write_nap.Statement.{statement}
 use Rattle.hot.proofs.leave.write_nap.Tie as tie
 
-slice-write-s : tie.Need-slice-write-s
-slice-write-s c = search needs
-
 slice-write-s-2 : tie.Need-slice-write-s-2
 slice-write-s-2 c = simp length-set (omega arith)
 
@@ -37,7 +34,7 @@ pub write-nap-spec : {M : Type 1} → statement M
 write-nap-spec =
     tie.close
     (tie.spec
-    slice-write-s
+    (λ c. search needs)
     slice-write-s-2
     slice-write-s-3
     slice-write-s-4

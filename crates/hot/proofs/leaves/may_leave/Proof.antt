@@ -134,12 +134,6 @@ coro-place-requires c κs =
     let start = c .before .before .before .before .before .before .before .before .before .before .before .before .before .before .before .before .before .before .before .before .before in
     start .pre .in-slots
 
-enum-told : tie.Need-enum-told
-enum-told c = search needs
-
-enum-known-i : tie.Need-enum-known-i
-enum-known-i c = search needs
-
 word-requires : tie.Need-word-requires
 word-requires c κs =
     let at-i = c .before in
@@ -206,24 +200,6 @@ word-requires-4 : tie.Need-word-requires-4
 word-requires-4 c κs =
     let at-i = c .before .before .before .before .before .before .before .before .before .before .before in
     (slot at-i, omega arith)
-
-next-key-requires : tie.Need-next-key-requires
-next-key-requires c κs = search needs
-
-enum-told-2 : tie.Need-enum-told-2
-enum-told-2 c = search needs
-
-enum-known-n : tie.Need-enum-known-n
-enum-known-n c = search needs
-
-inline-int-requires : tie.Need-inline-int-requires
-inline-int-requires c κs = search needs
-
-enum-told-3 : tie.Need-enum-told-3
-enum-told-3 c = search needs
-
-enum-known-k : tie.Need-enum-known-k
-enum-known-k c = search needs
 
 returns-11 : tie.Need-returns-11
 returns-11 c = nothing _ _ _ _ _ _ _
@@ -294,8 +270,8 @@ may-leave-spec =
     shared-slice-read-coro-place
     link-requires-2
     coro-place-requires
-    enum-told
-    enum-known-i
+    (λ c. search needs)
+    (λ c. search needs)
     word-requires
     returns-8
     link-requires-3
@@ -309,12 +285,12 @@ may-leave-spec =
     sub-if10
     returns-10
     word-requires-4
-    next-key-requires
-    enum-told-2
-    enum-known-n
-    inline-int-requires
-    enum-told-3
-    enum-known-k
+    (λ c κs. search needs)
+    (λ c. search needs)
+    (λ c. search needs)
+    (λ c κs. search needs)
+    (λ c. search needs)
+    (λ c. search needs)
     returns-11
     returns-12
     returns-13

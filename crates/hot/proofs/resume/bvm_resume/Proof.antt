@@ -29,9 +29,6 @@ may-enter-requires c κs =
     let start = c .before .before .before .before .before .before .before .before .before .before .before .before .before .before .before .before .before in
     enters-fit (of start) (start .pre .sound)
 
-enum-known-i : tie.Need-enum-known-i
-enum-known-i c = search needs
-
 resume-at-requires : tie.Need-resume-at-requires
 resume-at-requires c κs =
     let at-i = c .before .before .before .before .before .before .before .before .before in let at-may-enter = at-i .before .before in
@@ -44,9 +41,6 @@ goes-on-requires c κs =
     let at-may-enter = at-resume-at .before .before .before .before .before .before .before .before .before .before .before .before in
     let start = at-may-enter .before .before .before .before .before .before .before .before .before .before .before .before .before .before .before .before .before .before in
     start .pre .room
-
-enum-told : tie.Need-enum-told
-enum-told c = search needs
 
 general-requires : tie.Need-general-requires
 general-requires c κs =
@@ -184,10 +178,10 @@ bvm-resume-spec =
     (tie.spec
     slice-read-may-enter
     may-enter-requires
-    enum-known-i
+    (λ c. search needs)
     resume-at-requires
     goes-on-requires
-    enum-told
+    (λ c. search needs)
     general-requires
     same-length
     same-length-2

@@ -19,15 +19,6 @@ use Rattle.hot.proofs.resume.resume_at.Tie as tie
 abbrev mem : tie.Start → Beside → Lent
 mem c b = lent (c .args .stack .now) (c .args .frames .now) (c .args .chain .now) (c .args .slots .now) (c .args .saved-stack .now) (c .args .saved-frames .now) b
 
-slice-read-fuel : tie.Need-slice-read-fuel
-slice-read-fuel c = search needs
-
-sub-fuel : tie.Need-sub-fuel
-sub-fuel c = search needs
-
-slice-write-fuel : tie.Need-slice-write-fuel
-slice-write-fuel c = search needs
-
 enter-requires : tie.Need-enter-requires
 enter-requires c κs =
     let start = c .before .before .before .before .before .before .before .before .before .before .before .before .before .before .before .before in
@@ -45,30 +36,6 @@ enter-requires c κs =
       sent = record { some = e .some; on-frames = ok .rep .frames .within; below = e .src-in; on-stack = ok .rep .stack .within };
       may = e .may;
     }
-
-same-length : tie.Need-same-length
-same-length c = search needs
-
-same-length-2 : tie.Need-same-length-2
-same-length-2 c = search needs
-
-same-length-3 : tie.Need-same-length-3
-same-length-3 c = search needs
-
-same-length-4 : tie.Need-same-length-4
-same-length-4 c = search needs
-
-same-length-5 : tie.Need-same-length-5
-same-length-5 c = search needs
-
-same-length-6 : tie.Need-same-length-6
-same-length-6 c = search needs
-
-same-length-7 : tie.Need-same-length-7
-same-length-7 c = search needs
-
-same-length-8 : tie.Need-same-length-8
-same-length-8 c = search needs
 
 returns : tie.Need-returns
 returns c =
@@ -98,16 +65,16 @@ pub resume-at-spec : {M : Type 1} → statement M
 resume-at-spec =
     tie.close
     (tie.spec
-    slice-read-fuel
-    sub-fuel
-    slice-write-fuel
+    (λ c. search needs)
+    (λ c. search needs)
+    (λ c. search needs)
     enter-requires
-    same-length
-    same-length-2
-    same-length-3
-    same-length-4
-    same-length-5
-    same-length-6
-    same-length-7
-    same-length-8
+    (λ c. search needs)
+    (λ c. search needs)
+    (λ c. search needs)
+    (λ c. search needs)
+    (λ c. search needs)
+    (λ c. search needs)
+    (λ c. search needs)
+    (λ c. search needs)
     returns)

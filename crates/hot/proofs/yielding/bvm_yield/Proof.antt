@@ -27,9 +27,6 @@ may-leave-requires c κs =
     let start = c .before .before .before .before .before .before .before .before .before .before .before .before .before .before .before .before .before in
     leaves-fit (of start) (start .pre .sound)
 
-enum-known-i : tie.Need-enum-known-i
-enum-known-i c = search needs
-
 yield-at-requires : tie.Need-yield-at-requires
 yield-at-requires c κs =
     let at-i = c .before .before .before .before .before .before .before .before .before in let at-may-leave = at-i .before .before in
@@ -42,9 +39,6 @@ goes-on-requires c κs =
     let at-may-leave = at-yield-at .before .before .before .before .before .before .before .before .before .before .before .before in
     let start = at-may-leave .before .before .before .before .before .before .before .before .before .before .before .before .before .before .before .before .before .before in
     start .pre .room
-
-enum-told : tie.Need-enum-told
-enum-told c = search needs
 
 general-requires : tie.Need-general-requires
 general-requires c κs =
@@ -182,10 +176,10 @@ bvm-yield-spec =
     (tie.spec
     slice-read-may-leave
     may-leave-requires
-    enum-known-i
+    (λ c. search needs)
     yield-at-requires
     goes-on-requires
-    enum-told
+    (λ c. search needs)
     general-requires
     same-length
     same-length-2

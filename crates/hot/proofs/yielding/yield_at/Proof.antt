@@ -19,15 +19,6 @@ use Rattle.hot.proofs.yielding.yield_at.Tie as tie
 abbrev mem : tie.Start → Beside → Lent
 mem c b = lent (c .args .stack .now) (c .args .frames .now) (c .args .chain .now) (c .args .slots .now) (c .args .saved-stack .now) (c .args .saved-frames .now) b
 
-slice-read-fuel : tie.Need-slice-read-fuel
-slice-read-fuel c = search needs
-
-sub-fuel : tie.Need-sub-fuel
-sub-fuel c = search needs
-
-slice-write-fuel : tie.Need-slice-write-fuel
-slice-write-fuel c = search needs
-
 leave-requires : tie.Need-leave-requires
 leave-requires c κs =
     let start = c .before .before .before .before .before .before .before .before .before .before .before .before .before .before .before .before in
@@ -82,9 +73,6 @@ same-length-7 c =
     let at-leave = c .before .before .before .before .before .before .before .before .before .before .before .before .before .before in
     at-leave .leave .kept .1 .1 .1 .1 .1 .1 .0
 
-same-length-8 : tie.Need-same-length-8
-same-length-8 c = search needs
-
 returns : tie.Need-returns
 returns c =
     let at-leave = c .before .before .before .before .before .before .before .before .before .before .before .before .before .before in
@@ -112,9 +100,9 @@ pub yield-at-spec : {M : Type 1} → statement M
 yield-at-spec =
     tie.close
     (tie.spec
-    slice-read-fuel
-    sub-fuel
-    slice-write-fuel
+    (λ c. search needs)
+    (λ c. search needs)
+    (λ c. search needs)
     leave-requires
     same-length
     same-length-2
@@ -123,5 +111,5 @@ yield-at-spec =
     same-length-5
     same-length-6
     same-length-7
-    same-length-8
+    (λ c. search needs)
     returns)

@@ -35,12 +35,6 @@ shared-slice-read-passes c =
     let start = c .before .before .before .before .before .before .before .before .before in
     let k = start .pre .room .setup in omega arith
 
-passes-requires : tie.Need-passes-requires
-passes-requires c κs = search needs
-
-same-length : tie.Need-same-length
-same-length c = search needs
-
 returns-2 : tie.Need-returns-2
 returns-2 c =
     let at-passes = c .before in let at-base-at = at-passes .before .before in let at-if1 = at-base-at .before .before .before in
@@ -61,9 +55,6 @@ function-call-requires c κs =
     let some : 1 ≤ a .m .depth = (let h = at-if1 .if1 .left in omega arith) in
     let N = numbered (a .l) w (topSetup (a .stack .now) (a .frames .now) (a .setup .now) plain b) (a .m) (b .fuel) (getD (a .setup .now) 13 0) (at-base-at .base-at .result) rep some refl (at-base-at .base-at .ensures) in
     call-fits (a .l) (a .stack .now) (a .frames .now) (a .setup .now) (a .m) ok (a .pc) (a .f) (a .cont) some (search needs) (sym (at-passes .passes .ensures w N) ∙ not-false _ (at-if2 .if2 .left))
-
-same-length-2 : tie.Need-same-length-2
-same-length-2 c = search needs
 
 returns-3 : tie.Need-returns-3
 returns-3 c =
@@ -86,9 +77,9 @@ function-call-spec =
     sub-base-at
     base-at-requires
     shared-slice-read-passes
-    passes-requires
-    same-length
+    (λ c κs. search needs)
+    (λ c. search needs)
     returns-2
     function-call-requires
-    same-length-2
+    (λ c. search needs)
     returns-3)

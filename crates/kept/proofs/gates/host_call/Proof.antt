@@ -38,9 +38,6 @@ host-call-requires c κs =
     let a = start .args in
     push-fits (a .l) (a .stack .now) (a .frames .now) (a .setup .now) (a .m) (start .pre) (a .f) (sym (not-false _ (at-if2 .if2 .left)) ∙ at-is-function .is-function .ensures)
 
-same-length : tie.Need-same-length
-same-length c = search needs
-
 returns-3 : tie.Need-returns-3
 returns-3 c =
     let at-host-call = c .before .before in let at-if2 = at-host-call .before .before in let at-is-function = at-if2 .before in
@@ -59,5 +56,5 @@ host-call-spec =
     is-function-requires
     returns-2
     host-call-requires
-    same-length
+    (λ c. search needs)
     returns-3)

@@ -17,27 +17,6 @@ returns c =
     (busy (a .l) (six (a .stack .now) (a .frames .now) (a .chain .now) (a .slots .now) (a .saved-stack .now) (a .saved-frames .now) plain b) (a .m) (b .fuel) w _ _ (some-frames (w .frames)
     (a .frames .now) (a .m .depth) (rep .frames) (let h = c .if1 .taken in omega arith)) rep)
 
-host-entry-requires : tie.Need-host-entry-requires
-host-entry-requires c κs = search needs
-
-same-length : tie.Need-same-length
-same-length c = search needs
-
-same-length-2 : tie.Need-same-length-2
-same-length-2 c = search needs
-
-same-length-3 : tie.Need-same-length-3
-same-length-3 c = search needs
-
-same-length-4 : tie.Need-same-length-4
-same-length-4 c = search needs
-
-same-length-5 : tie.Need-same-length-5
-same-length-5 c = search needs
-
-same-length-6 : tie.Need-same-length-6
-same-length-6 c = search needs
-
 returns-2 : tie.Need-returns-2
 returns-2 c =
     let at-host-entry = c .before .before .before .before .before .before .before .before .before .before .before .before in
@@ -53,11 +32,11 @@ host-entry-spec =
     tie.close
     (tie.spec
     returns
-    host-entry-requires
-    same-length
-    same-length-2
-    same-length-3
-    same-length-4
-    same-length-5
-    same-length-6
+    (λ c κs. search needs)
+    (λ c. search needs)
+    (λ c. search needs)
+    (λ c. search needs)
+    (λ c. search needs)
+    (λ c. search needs)
+    (λ c. search needs)
     returns-2)

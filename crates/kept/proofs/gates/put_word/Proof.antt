@@ -36,9 +36,6 @@ shared-slice-read-passes c =
     let start = c .before .before .before .before .before .before .before .before in
     let k = start .pre .room .setup in omega arith
 
-passes-requires : tie.Need-passes-requires
-passes-requires c κs = search needs
-
 returns-2 : tie.Need-returns-2
 returns-2 c =
     let at-passes = c .before in let at-base-at = at-passes .before .before in let at-if1 = at-base-at .before .before in
@@ -60,9 +57,6 @@ put-word-requires c κs =
     let N = numbered (a .l) w (topSetup (a .stack .now) (a .frames .now) (a .setup .now) plain b) (a .m) (b .fuel) (getD (a .setup .now) 13 0) (at-base-at .base-at .result) rep some refl (at-base-at .base-at .ensures) in
     word-fits (a .l) (a .stack .now) (a .frames .now) (a .setup .now) (a .m) ok (a .r) (a .v) some (sym (at-passes .passes .ensures w N) ∙ not-false _ (at-if2 .if2 .left))
 
-same-length : tie.Need-same-length
-same-length c = search needs
-
 returns-3 : tie.Need-returns-3
 returns-3 c =
     let at-put-word = c .before .before in let at-if2 = at-put-word .before .before in let at-passes = at-if2 .before in
@@ -83,8 +77,8 @@ put-word-spec =
     sub-base-at
     base-at-requires
     shared-slice-read-passes
-    passes-requires
+    (λ c κs. search needs)
     returns-2
     put-word-requires
-    same-length
+    (λ c. search needs)
     returns-3)

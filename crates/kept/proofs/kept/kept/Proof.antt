@@ -12,9 +12,6 @@ abbrev mem : tie.Start → Beside → Lent
 mem c = all (c .args .stack .now) (c .args .frames .now) (c .args .chain .now) (c .args .slots .now) (c .args .saved-stack .now) (c .args .saved-frames .now)
     (c .args .ready .now) (c .args .finalize .now) (c .args .setup .now) plain
 
-widths-requires : tie.Need-widths-requires
-widths-requires c κs = search needs
-
 dispatch-requires : tie.Need-dispatch-requires
 dispatch-requires c κs = let at-widths = c .before .before .before .before .before .before .before .before in record { ok = at-widths .before .before .before .before .before .before .before .before .before .before .pre; within = at-widths .widths .ensures }
 
@@ -91,7 +88,7 @@ pub kept-spec : {M : Type 1} → statement M
 kept-spec =
     tie.close
     (tie.spec
-    widths-requires
+    (λ c κs. search needs)
     dispatch-requires
     same-length
     same-length-2

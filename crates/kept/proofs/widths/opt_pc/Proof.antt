@@ -7,12 +7,6 @@ use borrow.Author.Needs.{needs}
 use Rattle.kept.proofs.widths.opt_pc.Statement.{statement}
 use Rattle.kept.proofs.widths.opt_pc.Tie as tie
 
-enum-told : tie.Need-enum-told
-enum-told c = search needs
-
-enum-known-pc : tie.Need-enum-known-pc
-enum-known-pc c = search needs
-
 returns : tie.Need-returns
 returns c = ap optPc (c .enum-told .given .1)
 
@@ -22,4 +16,4 @@ returns-2 c =
     ap optPc (at-pc .pc .given .1) ∙ pc n (omega arith)
 
 pub opt-pc-spec : {M : Type 1} → statement M
-opt-pc-spec = tie.close (tie.spec enum-told enum-known-pc returns returns-2)
+opt-pc-spec = tie.close (tie.spec (λ c. search needs) (λ c. search needs) returns returns-2)

@@ -11,93 +11,6 @@ use borrow.Author.Needs.{needs}
 use Rattle.kept.proofs.widths.widths.Statement.{statement}
 use Rattle.kept.proofs.widths.widths.Tie as tie
 
-enum-known-op : tie.Need-enum-known-op
-enum-known-op c = search needs
-
-enum-known-op-2 : tie.Need-enum-known-op-2
-enum-known-op-2 c = search needs
-
-enum-known-op-3 : tie.Need-enum-known-op-3
-enum-known-op-3 c = search needs
-
-enum-known-op-4 : tie.Need-enum-known-op-4
-enum-known-op-4 c = search needs
-
-enum-known-op-5 : tie.Need-enum-known-op-5
-enum-known-op-5 c = search needs
-
-enum-known-op-6 : tie.Need-enum-known-op-6
-enum-known-op-6 c = search needs
-
-enum-known-op-7 : tie.Need-enum-known-op-7
-enum-known-op-7 c = search needs
-
-enum-known-op-8 : tie.Need-enum-known-op-8
-enum-known-op-8 c = search needs
-
-enum-known-op-9 : tie.Need-enum-known-op-9
-enum-known-op-9 c = search needs
-
-enum-known-op-10 : tie.Need-enum-known-op-10
-enum-known-op-10 c = search needs
-
-enum-known-op-11 : tie.Need-enum-known-op-11
-enum-known-op-11 c = search needs
-
-enum-known-op-12 : tie.Need-enum-known-op-12
-enum-known-op-12 c = search needs
-
-enum-known-op-13 : tie.Need-enum-known-op-13
-enum-known-op-13 c = search needs
-
-enum-known-op-14 : tie.Need-enum-known-op-14
-enum-known-op-14 c = search needs
-
-enum-known-op-15 : tie.Need-enum-known-op-15
-enum-known-op-15 c = search needs
-
-enum-known-op-16 : tie.Need-enum-known-op-16
-enum-known-op-16 c = search needs
-
-word-requires : tie.Need-word-requires
-word-requires c κs = search needs
-
-opt-pc-requires : tie.Need-opt-pc-requires
-opt-pc-requires c κs = search needs
-
-enum-known-op-17 : tie.Need-enum-known-op-17
-enum-known-op-17 c = search needs
-
-enum-known-op-18 : tie.Need-enum-known-op-18
-enum-known-op-18 c = search needs
-
-enum-known-op-19 : tie.Need-enum-known-op-19
-enum-known-op-19 c = search needs
-
-enum-known-op-20 : tie.Need-enum-known-op-20
-enum-known-op-20 c = search needs
-
-enum-known-op-21 : tie.Need-enum-known-op-21
-enum-known-op-21 c = search needs
-
-enum-known-op-22 : tie.Need-enum-known-op-22
-enum-known-op-22 c = search needs
-
-enum-told : tie.Need-enum-told
-enum-told c = search needs
-
-enum-known-op-23 : tie.Need-enum-known-op-23
-enum-known-op-23 c = search needs
-
-enum-known-op-24 : tie.Need-enum-known-op-24
-enum-known-op-24 c = search needs
-
-enum-told-2 : tie.Need-enum-told-2
-enum-told-2 c = search needs
-
-enum-told-3 : tie.Need-enum-told-3
-enum-told-3 c = search needs
-
 returns : tie.Need-returns
 unfolding typed
 returns c =
@@ -291,35 +204,35 @@ pub widths-spec : {M : Type 1} → statement M
 widths-spec =
     tie.close
     (tie.spec
-    enum-known-op
-    enum-known-op-2
-    enum-known-op-3
-    enum-known-op-4
-    enum-known-op-5
-    enum-known-op-6
-    enum-known-op-7
-    enum-known-op-8
-    enum-known-op-9
-    enum-known-op-10
-    enum-known-op-11
-    enum-known-op-12
-    enum-known-op-13
-    enum-known-op-14
-    enum-known-op-15
-    enum-known-op-16
-    word-requires
-    opt-pc-requires
-    enum-known-op-17
-    enum-known-op-18
-    enum-known-op-19
-    enum-known-op-20
-    enum-known-op-21
-    enum-known-op-22
-    enum-told
-    enum-known-op-23
-    enum-known-op-24
-    enum-told-2
-    enum-told-3
+    (λ c. search needs)
+    (λ c. search needs)
+    (λ c. search needs)
+    (λ c. search needs)
+    (λ c. search needs)
+    (λ c. search needs)
+    (λ c. search needs)
+    (λ c. search needs)
+    (λ c. search needs)
+    (λ c. search needs)
+    (λ c. search needs)
+    (λ c. search needs)
+    (λ c. search needs)
+    (λ c. search needs)
+    (λ c. search needs)
+    (λ c. search needs)
+    (λ c κs. search needs)
+    (λ c κs. search needs)
+    (λ c. search needs)
+    (λ c. search needs)
+    (λ c. search needs)
+    (λ c. search needs)
+    (λ c. search needs)
+    (λ c. search needs)
+    (λ c. search needs)
+    (λ c. search needs)
+    (λ c. search needs)
+    (λ c. search needs)
+    (λ c. search needs)
     returns
     returns-2
     returns-3

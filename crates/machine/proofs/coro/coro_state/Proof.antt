@@ -7,15 +7,6 @@ use Rattle.machine.proofs.Named.{state-none, state-at}
 use Rattle.machine.proofs.coro.coro_state.Statement.{statement}
 use Rattle.machine.proofs.coro.coro_state.Tie as tie
 
-coro-place-requires : tie.Need-coro-place-requires
-coro-place-requires c κs = search needs
-
-enum-known-f : tie.Need-enum-known-f
-enum-known-f c = search needs
-
-enum-known-i : tie.Need-enum-known-i
-enum-known-i c = search needs
-
 state-at-requires : tie.Need-state-at-requires
 state-at-requires c κs =
     let place = c .before .before .before in let start = place .before .before in
@@ -34,4 +25,4 @@ returns-2 c =
 pub coro-state-spec : {M : Type 1} → statement M
 coro-state-spec =
     tie.close
-    (tie.spec coro-place-requires enum-known-f enum-known-i state-at-requires returns returns-2)
+    (tie.spec (λ c κs. search needs) (λ c. search needs) (λ c. search needs) state-at-requires returns returns-2)

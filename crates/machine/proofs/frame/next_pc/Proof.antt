@@ -21,9 +21,6 @@ step-pc-requires c κs =
     let some : 1 ≤ start .args .m .depth = omega (arith, test .if1 .left) in
     (some, start .pre .within, start .pre .narrow some)
 
-same-length : tie.Need-same-length
-same-length c = search needs
-
 returns-2 : tie.Need-returns-2
 returns-2 c =
     let did = c .before .before in let start = did .before .before .before .before .before in
@@ -32,4 +29,4 @@ returns-2 c =
     (did .step-pc .ensures (w .frames) (rep .frames))
 
 pub next-pc-spec : {M : Type 1} → statement M
-next-pc-spec = tie.close (tie.spec returns step-pc-requires same-length returns-2)
+next-pc-spec = tie.close (tie.spec returns step-pc-requires (λ c. search needs) returns-2)

@@ -9,9 +9,6 @@ returns c =
     let start = c .before .before .before in
     too-deep (start .args .m) (start .args .l) (start .args .n) (c .if1 .taken)
 
-sub-if2 : tie.Need-sub-if2
-sub-if2 c = search needs
-
 returns-2 : tie.Need-returns-2
 returns-2 c =
     let at-if1 = c .before .before .before in let start = at-if1 .before .before .before in
@@ -23,4 +20,4 @@ returns-3 c =
     room-left (start .args .m) (start .args .l) (start .args .n) (at-if1 .if1 .left) (start .pre) (c .if2 .left)
 
 pub overflows-spec : {M : Type 1} → statement M
-overflows-spec = tie.close (tie.spec returns sub-if2 returns-2 returns-3)
+overflows-spec = tie.close (tie.spec returns (λ c. search needs) returns-2 returns-3)

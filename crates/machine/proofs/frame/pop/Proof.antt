@@ -5,27 +5,6 @@ use borrow.Author.Needs.{needs}
 use Rattle.machine.proofs.frame.pop.Statement.{statement}
 use Rattle.machine.proofs.frame.pop.Tie as tie
 
-sub-base-at : tie.Need-sub-base-at
-sub-base-at c = search needs
-
-base-at-requires : tie.Need-base-at-requires
-base-at-requires c κs = search needs
-
-cut-requires : tie.Need-cut-requires
-cut-requires c κs = search needs
-
-pop-frame-requires : tie.Need-pop-frame-requires
-pop-frame-requires c κs = search needs
-
-sub-next : tie.Need-sub-next
-sub-next c = search needs
-
-same-length : tie.Need-same-length
-same-length c = search needs
-
-same-length-2 : tie.Need-same-length-2
-same-length-2 c = search needs
-
 returns : tie.Need-returns
 returns c =
     let gone = c .before .before .before in let short = gone .before .before .before .before in
@@ -39,11 +18,11 @@ pub pop-spec : {M : Type 1} → statement M
 pop-spec =
     tie.close
     (tie.spec
-    sub-base-at
-    base-at-requires
-    cut-requires
-    pop-frame-requires
-    sub-next
-    same-length
-    same-length-2
+    (λ c. search needs)
+    (λ c κs. search needs)
+    (λ c κs. search needs)
+    (λ c κs. search needs)
+    (λ c. search needs)
+    (λ c. search needs)
+    (λ c. search needs)
     returns)

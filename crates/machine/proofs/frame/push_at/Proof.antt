@@ -69,9 +69,6 @@ push-frame-requires c κs =
       function = s .pre .push .function;
     }
 
-same-length : tie.Need-same-length
-same-length c = search needs
-
 returns-2 : tie.Need-returns-2
 returns-2 c =
     let at-push-frame = c .before .before in let at-store-pc = at-push-frame .before .before .before .before in
@@ -90,5 +87,5 @@ push-at-spec =
     returns
     store-pc-requires
     push-frame-requires
-    same-length
+    (λ c. search needs)
     returns-2)

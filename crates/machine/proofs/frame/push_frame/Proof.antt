@@ -51,9 +51,6 @@ grown-requires c κs =
     (ap (overflowing (start .args .m) (start .args .l)) (sym (at-regs-at .regs-at .ensures)) ∙ sym (at-overflows .overflows .ensures) ∙ at-if1 .if1 .left) in
     (subst (λ n. start .args .m .height + n < 2 ^ 64) (sym (at-regs-at .regs-at .ensures)) (h .height), h .depth)
 
-same-length : tie.Need-same-length
-same-length c = search needs
-
 returns-2 : tie.Need-returns-2
 returns-2 c =
     let at-push-frame = c .before .before .before in let at-if1 = at-push-frame .before .before in
@@ -76,5 +73,5 @@ push-frame-spec =
     returns
     push-frame-requires
     grown-requires
-    same-length
+    (λ c. search needs)
     returns-2)

@@ -6,12 +6,6 @@ use borrow.Author.Needs.{needs}
 use Rattle.machine.proofs.frame.put.Statement.{statement}
 use Rattle.machine.proofs.frame.put.Tie as tie
 
-put-reg-requires : tie.Need-put-reg-requires
-put-reg-requires c κs = search needs
-
-same-length : tie.Need-same-length
-same-length c = search needs
-
 returns : tie.Need-returns
 returns c =
     let at-put-reg = c .before .before in let start = at-put-reg .before .before .before .before in
@@ -20,4 +14,4 @@ returns c =
     (at-put-reg .put-reg .ensures (w .stack) (w .frames) (rep .stack) (rep .frames))
 
 pub put-spec : {M : Type 1} → statement M
-put-spec = tie.close (tie.spec put-reg-requires same-length returns)
+put-spec = tie.close (tie.spec (λ c κs. search needs) (λ c. search needs) returns)

@@ -6,12 +6,6 @@ use borrow.Author.Needs.{needs}
 use Rattle.machine.proofs.frame.store_pc.Statement.{statement}
 use Rattle.machine.proofs.frame.store_pc.Tie as tie
 
-store-pc-requires : tie.Need-store-pc-requires
-store-pc-requires c κs = search needs
-
-same-length : tie.Need-same-length
-same-length c = search needs
-
 returns : tie.Need-returns
 returns c =
     let at-store-pc = c .before .before in let start = at-store-pc .before .before .before in
@@ -19,4 +13,4 @@ returns c =
     (start .args .m .depth) (at-store-pc .store-pc .ensures (w .frames) (rep .frames))
 
 pub store-pc-spec : {M : Type 1} → statement M
-store-pc-spec = tie.close (tie.spec store-pc-requires same-length returns)
+store-pc-spec = tie.close (tie.spec (λ c κs. search needs) (λ c. search needs) returns)

@@ -4,12 +4,6 @@ use Rattle.machine.proofs.Flags.{set-aside, left-alone}
 use Rattle.machine.proofs.fuel.arm_close.Statement.{statement}
 use Rattle.machine.proofs.fuel.arm_close.Tie as tie
 
-enum-told : tie.Need-enum-told
-enum-told c = search needs
-
-enum-told-2 : tie.Need-enum-told-2
-enum-told-2 c = search needs
-
 returns : tie.Need-returns
 returns c = set-aside (c .before .before .before .args .f) (c .before .enum-told .given .1) (c .if1 .taken)
 
@@ -20,4 +14,4 @@ returns-3 : tie.Need-returns-3
 returns-3 c = search needs
 
 pub arm-close-spec : {M : Type 1} → statement M
-arm-close-spec = tie.close (tie.spec enum-told enum-told-2 returns returns-2 returns-3)
+arm-close-spec = tie.close (tie.spec (λ c. search needs) (λ c. search needs) returns returns-2 returns-3)

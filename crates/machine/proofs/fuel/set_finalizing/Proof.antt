@@ -5,12 +5,6 @@ use Rattle.machine.proofs.Flags.{finalizes}
 use Rattle.machine.proofs.fuel.set_finalizing.Statement.{statement}
 use Rattle.machine.proofs.fuel.set_finalizing.Tie as tie
 
-close-ready-requires : tie.Need-close-ready-requires
-close-ready-requires c κs = search needs
-
-arm-close-requires : tie.Need-arm-close-requires
-arm-close-requires c κs = search needs
-
 returns : tie.Need-returns
 returns c =
     let at-close-ready = c .before in let start = at-close-ready .before in
@@ -18,4 +12,4 @@ returns c =
     (at-close-ready .close-ready .ensures) refl (c .arm-close .ensures)
 
 pub set-finalizing-spec : {M : Type 1} → statement M
-set-finalizing-spec = tie.close (tie.spec close-ready-requires arm-close-requires returns)
+set-finalizing-spec = tie.close (tie.spec (λ c κs. search needs) (λ c κs. search needs) returns)

@@ -4,12 +4,6 @@ use Rattle.machine.proofs.Flags.{taken-back}
 use Rattle.machine.proofs.fuel.unbank.Statement.{statement}
 use Rattle.machine.proofs.fuel.unbank.Tie as tie
 
-enum-told : tie.Need-enum-told
-enum-told c = search needs
-
-enum-known-bank : tie.Need-enum-known-bank
-enum-known-bank c = search needs
-
 returns : tie.Need-returns
 returns c = search needs
 
@@ -17,4 +11,4 @@ returns-2 : tie.Need-returns-2
 returns-2 c = taken-back (c .before .before .before .args .f) _ (c .before .bank .given .1)
 
 pub unbank-spec : {M : Type 1} → statement M
-unbank-spec = tie.close (tie.spec enum-told enum-known-bank returns returns-2)
+unbank-spec = tie.close (tie.spec (λ c. search needs) (λ c. search needs) returns returns-2)

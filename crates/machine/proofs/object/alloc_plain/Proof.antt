@@ -8,9 +8,6 @@ use borrow.Author.Needs.{needs}
 use Rattle.machine.proofs.object.alloc_plain.Statement.{statement}
 use Rattle.machine.proofs.object.alloc_plain.Tie as tie
 
-heap-of-requires : tie.Need-heap-of-requires
-heap-of-requires c κs = search needs
-
 alloc-requires : tie.Need-alloc-requires
 alloc-requires c κs =
     let start = c .before .before .before in
@@ -18,18 +15,6 @@ alloc-requires c κs =
     let p₁ = start .pre .words in
     let p₂ = start .pre .slots in
     record { words = omega arith; slots = omega arith }
-
-enum-known-g : tie.Need-enum-known-g
-enum-known-g c = search needs
-
-enum-known-v : tie.Need-enum-known-v
-enum-known-v c = search needs
-
-allocated-requires : tie.Need-allocated-requires
-allocated-requires c κs = search needs
-
-same-length : tie.Need-same-length
-same-length c = search needs
 
 returns : tie.Need-returns
 returns c =
@@ -39,9 +24,6 @@ returns c =
     λ x e none w b rep.
     plain-refused (a .l) (table (a .slots .now) plain b) (a .m) (b .fuel) w rep (a .bytes) x none (did .alloc .last .0) (numbers .heap-of .result) (did .alloc .result)
     (did .alloc .ensures ∙ ap (allocOf (a .slots .now) (numbers .heap-of .result) (a .bytes)) (sym e)) (numbers .heap-of .ensures) (arm .g .given .0 .0) (arm .g .given .1)
-
-same-length-2 : tie.Need-same-length-2
-same-length-2 c = search needs
 
 returns-2 : tie.Need-returns-2
 returns-2 c =
@@ -58,12 +40,12 @@ pub alloc-plain-spec : {M : Type 1} → statement M
 alloc-plain-spec =
     tie.close
     (tie.spec
-    heap-of-requires
+    (λ c κs. search needs)
     alloc-requires
-    enum-known-g
-    enum-known-v
-    allocated-requires
-    same-length
+    (λ c. search needs)
+    (λ c. search needs)
+    (λ c κs. search needs)
+    (λ c. search needs)
     returns
-    same-length-2
+    (λ c. search needs)
     returns-2)

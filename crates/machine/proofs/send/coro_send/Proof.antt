@@ -8,18 +8,6 @@ use borrow.Author.Needs.{needs}
 use Rattle.machine.proofs.send.coro_send.Statement.{statement}
 use Rattle.machine.proofs.send.coro_send.Tie as tie
 
-put-reg-requires : tie.Need-put-reg-requires
-put-reg-requires c κs = search needs
-
-step-pc-requires : tie.Need-step-pc-requires
-step-pc-requires c κs = search needs
-
-same-length : tie.Need-same-length
-same-length c = search needs
-
-same-length-2 : tie.Need-same-length-2
-same-length-2 c = search needs
-
 returns : tie.Need-returns
 returns c =
     let at-step-pc = c .before .before in let at-put-reg = at-step-pc .before .before .before .before in
@@ -33,4 +21,4 @@ returns c =
 
 pub coro-send-spec : {M : Type 1} → statement M
 coro-send-spec =
-    tie.close (tie.spec put-reg-requires step-pc-requires same-length same-length-2 returns)
+    tie.close (tie.spec (λ c κs. search needs) (λ c κs. search needs) (λ c. search needs) (λ c. search needs) returns)

@@ -5,16 +5,10 @@ use borrow.Author.Needs.{needs}
 use Rattle.machine.proofs.setup.put_setup.Statement.{statement}
 use Rattle.machine.proofs.setup.put_setup.Tie as tie
 
-fill-row-requires : tie.Need-fill-row-requires
-fill-row-requires c κs = search needs
-
-same-length : tie.Need-same-length
-same-length c = search needs
-
 returns : tie.Need-returns
 returns c =
     let at-fill-row = c .before .before in let start = at-fill-row .before .before .before .before in
     at-fill-row .fill-row .ensures ∙ whole-row (start .args .setup .now) (start .args .given .now) (start .pre)
 
 pub put-setup-spec : {M : Type 1} → statement M
-put-setup-spec = tie.close (tie.spec fill-row-requires same-length returns)
+put-setup-spec = tie.close (tie.spec (λ c κs. search needs) (λ c. search needs) returns)

@@ -14,21 +14,6 @@ use borrow.Author.Needs.{needs}
 use Rattle.machine_finish.proofs.cont.apply_cont.Statement.{statement}
 use Rattle.machine_finish.proofs.cont.apply_cont.Tie as tie
 
-enum-told : tie.Need-enum-told
-enum-told c = search needs
-
-enum-known-cont : tie.Need-enum-known-cont
-enum-known-cont c = search needs
-
-result-of-requires : tie.Need-result-of-requires
-result-of-requires c κs = search needs
-
-enum-told-2 : tie.Need-enum-told-2
-enum-told-2 c = search needs
-
-enum-known-result : tie.Need-enum-known-result
-enum-known-result c = search needs
-
 put-requires : tie.Need-put-requires
 put-requires c κs =
     let arm = c .before .before .before .before .before .before in let start = arm .before .before .before .before .before in
@@ -37,20 +22,11 @@ put-requires c κs =
     put-fits (a .l) (topTable (a .stack .now) (a .frames .now) (a .slots .now) plain) (a .m) (a .cont) (start .pre) (arm .cont .given .0 .0)
     (ap (λ x. contLies x (length (w .stack)) (w .frames)) (arm .cont .given .1))
 
-enum-known-cont-2 : tie.Need-enum-known-cont-2
-enum-known-cont-2 c = search needs
-
 write-dyn-requires : tie.Need-write-dyn-requires
 write-dyn-requires c κs =
     let arm = c .before .before .before in let start = arm .before .before .before .before .before in
     let w = start .pre .ok .world in
     record { ok = start .pre .ok; lies = subst (λ x. contLies x (length (w .stack)) (w .frames) ≡ true) (arm .cont2 .given .1) (start .pre .lies) }
-
-same-length : tie.Need-same-length
-same-length c = search needs
-
-same-length-2 : tie.Need-same-length-2
-same-length-2 c = search needs
 
 returns : tie.Need-returns
 returns c =
@@ -62,15 +38,6 @@ returns c =
     subst (λ y. Does (a .l) (applyCont y (a .kind) (a .v) w) (topTable (f .last .0) (a .frames .now) (f .last .1 .1 .0) plain b) (f .result .machine) (b .fuel) (f .result .answer))
     (sym (arm .cont2 .given .1)) (f .ensures w b rep)
 
-enum-known-cont-3 : tie.Need-enum-known-cont-3
-enum-known-cont-3 c = search needs
-
-result-of-requires-2 : tie.Need-result-of-requires-2
-result-of-requires-2 c κs = search needs
-
-or-nil-requires : tie.Need-or-nil-requires
-or-nil-requires c κs = search needs
-
 put-requires-2 : tie.Need-put-requires-2
 put-requires-2 c κs =
     let arm = c .before .before .before .before in let start = arm .before .before .before .before .before in
@@ -78,12 +45,6 @@ put-requires-2 c κs =
     let w = start .pre .ok .world in
     put-fits (a .l) (topTable (a .stack .now) (a .frames .now) (a .slots .now) plain) (a .m) (a .cont) (start .pre) (arm .cont3 .given .0 .0)
     (ap (λ x. contLies x (length (w .stack)) (w .frames)) (arm .cont3 .given .1))
-
-enum-told-3 : tie.Need-enum-told-3
-enum-told-3 c = search needs
-
-enum-told-4 : tie.Need-enum-told-4
-enum-told-4 c = search needs
 
 returns-2 : tie.Need-returns-2
 returns-2 c =
@@ -103,9 +64,6 @@ returns-3 c =
     applies (a .kind) (a .v) w (a .l) (topTable (a .stack .now) (a .frames .now) (a .slots .now) plain b) (a .m) (b .fuel) (a .cont) (Cont.Write dst) w (arm .cont .given .1)
     (write-none (a .kind) (a .v) w dst (sym (none .enum-told2 .given .1) ∙ result .result-of .ensures)) rep
 
-same-length-3 : tie.Need-same-length-3
-same-length-3 c = search needs
-
 returns-4 : tie.Need-returns-4
 returns-4 c =
     let written = c .before .before in let some = written .before .before .before in let result = some .before .before in
@@ -118,9 +76,6 @@ returns-4 c =
     applies (a .kind) (a .v) w (a .l) (topTable (p .last .0) (a .frames .now) (a .slots .now) plain b) (a .m) (b .fuel) (a .cont) (Cont.Write dst) (putReg dst x w) (arm .cont .given .1)
     (write-some (a .kind) (a .v) w dst x (sym (some .result .given .1) ∙ result .result-of .ensures))
     (p .ensures (a .l) w (record { words = onSlots (a .slots .now) (b .words); fuel = b .fuel }) rep)
-
-same-length-4 : tie.Need-same-length-4
-same-length-4 c = search needs
 
 returns-5 : tie.Need-returns-5
 returns-5 c =
@@ -155,28 +110,28 @@ pub apply-cont-spec : {M : Type 1} → statement M
 apply-cont-spec =
     tie.close
     (tie.spec
-    enum-told
-    enum-known-cont
-    result-of-requires
-    enum-told-2
-    enum-known-result
+    (λ c. search needs)
+    (λ c. search needs)
+    (λ c κs. search needs)
+    (λ c. search needs)
+    (λ c. search needs)
     put-requires
-    enum-known-cont-2
+    (λ c. search needs)
     write-dyn-requires
-    same-length
-    same-length-2
+    (λ c. search needs)
+    (λ c. search needs)
     returns
-    enum-known-cont-3
-    result-of-requires-2
-    or-nil-requires
+    (λ c. search needs)
+    (λ c κs. search needs)
+    (λ c κs. search needs)
     put-requires-2
-    enum-told-3
-    enum-told-4
+    (λ c. search needs)
+    (λ c. search needs)
     returns-2
     returns-3
-    same-length-3
+    (λ c. search needs)
     returns-4
-    same-length-4
+    (λ c. search needs)
     returns-5
     returns-6
     returns-7)

@@ -19,9 +19,6 @@ to-dyn-requires c κs =
     let a = start .args in
     dyn-room (a .l) (topTable (a .stack .now) (a .frames .now) (a .slots .now) plain) (a .m) (Cont.Dyn (a .dst)) (start .pre)
 
-enum-known-made : tie.Need-enum-known-made
-enum-known-made c = search needs
-
 put-requires : tie.Need-put-requires
 put-requires c κs =
     let did = c .before .before .before .before .before .before .before in let start = did .before .before .before .before .before in
@@ -31,15 +28,6 @@ put-requires c κs =
     let rep = f .ensures (o .world) (record { words = onStack (a .stack .now) (onFrames (a .frames .now) (o .beside .words)); fuel = o .beside .fuel }) (o .rep) .world in
     put-fits-dyn (a .l) (topTable (a .stack .now) (a .frames .now) (a .slots .now) plain) (a .m) (Cont.Dyn (a .dst)) (start .pre) (a .kind) (a .v) (a .dst)
     (topTable (a .stack .now) (a .frames .now) (f .last .0) plain (o .beside)) (f .result .machine) refl rep
-
-enum-known-made-2 : tie.Need-enum-known-made-2
-enum-known-made-2 c = search needs
-
-same-length : tie.Need-same-length
-same-length c = search needs
-
-same-length-2 : tie.Need-same-length-2
-same-length-2 c = search needs
 
 returns : tie.Need-returns
 returns c =
@@ -55,9 +43,6 @@ returns c =
     does (a .l) (topTable (p .last .0) (a .frames .now) (f .last .0) plain b) (f .result .machine) (b .fuel) (applyCont (Cont.Dyn (a .dst)) (a .kind) (a .v) w) (putReg (a .dst) x u) Fault.None
     (dyn-put (a .kind) (a .v) w (a .dst) x (sym (arm .made .given .1) ∙ d .answer))
     (p .ensures (a .l) u (record { words = onSlots (f .last .0) (b .words); fuel = b .fuel }) (d .world))
-
-same-length-3 : tie.Need-same-length-3
-same-length-3 c = search needs
 
 returns-2 : tie.Need-returns-2
 returns-2 c =
@@ -75,11 +60,11 @@ write-dyn-spec =
     tie.close
     (tie.spec
     to-dyn-requires
-    enum-known-made
+    (λ c. search needs)
     put-requires
-    enum-known-made-2
-    same-length
-    same-length-2
+    (λ c. search needs)
+    (λ c. search needs)
+    (λ c. search needs)
     returns
-    same-length-3
+    (λ c. search needs)
     returns-2)

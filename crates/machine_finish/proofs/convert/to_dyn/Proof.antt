@@ -7,9 +7,6 @@ use borrow.Author.Needs.{needs}
 use Rattle.machine_finish.proofs.convert.to_dyn.Statement.{statement}
 use Rattle.machine_finish.proofs.convert.to_dyn.Tie as tie
 
-heap-of-requires : tie.Need-heap-of-requires
-heap-of-requires c κs = search needs
-
 to-dyn-requires : tie.Need-to-dyn-requires
 to-dyn-requires c κs =
     let start = c .before .before .before .before in
@@ -17,18 +14,6 @@ to-dyn-requires c κs =
     let p₁ = start .pre .words in
     let p₂ = start .pre .slots in
     record { words = omega arith; slots = omega arith }
-
-enum-known-g : tie.Need-enum-known-g
-enum-known-g c = search needs
-
-enum-known-x : tie.Need-enum-known-x
-enum-known-x c = search needs
-
-allocated-requires : tie.Need-allocated-requires
-allocated-requires c κs = search needs
-
-same-length : tie.Need-same-length
-same-length c = search needs
 
 returns : tie.Need-returns
 returns c =
@@ -38,9 +23,6 @@ returns c =
     λ w b rep.
     dyn-refused (a .l) (table (a .slots .now) plain b) (a .m) (b .fuel) w rep (did .to-dyn .last .0) (a .kind) (a .v) (numbers .heap-of .result) (did .to-dyn .result) (did .to-dyn .ensures)
     (numbers .heap-of .ensures) (arm .g .given .0 .0) (arm .g .given .1)
-
-same-length-2 : tie.Need-same-length-2
-same-length-2 c = search needs
 
 returns-2 : tie.Need-returns-2
 returns-2 c =
@@ -55,12 +37,12 @@ pub to-dyn-spec : {M : Type 1} → statement M
 to-dyn-spec =
     tie.close
     (tie.spec
-    heap-of-requires
+    (λ c κs. search needs)
     to-dyn-requires
-    enum-known-g
-    enum-known-x
-    allocated-requires
-    same-length
+    (λ c. search needs)
+    (λ c. search needs)
+    (λ c κs. search needs)
+    (λ c. search needs)
     returns
-    same-length-2
+    (λ c. search needs)
     returns-2)

@@ -49,15 +49,6 @@ resume-in-requires c κs =
     end-steps (a .l) (mem start) (a .m) (a .cont) (start .pre) (left gone) (gone .pop .result) rep (a .kind) (a .v)
     (topTable (f .last .0) (gone .pop .last .1 .0) (f .last .1 .1 .0) plain (o .beside)) (f .result .machine) (f .ensures (popTop (o .world)) (o .beside) rep .world)
 
-same-length : tie.Need-same-length
-same-length c = search needs
-
-same-length-2 : tie.Need-same-length-2
-same-length-2 c = search needs
-
-same-length-3 : tie.Need-same-length-3
-same-length-3 c = search needs
-
 returns : tie.Need-returns
 returns c =
     let on = c .before .before in let did = on .before .before .before .before .before .before .before in
@@ -79,7 +70,7 @@ end-call-spec =
     pop-requires
     apply-cont-requires
     resume-in-requires
-    same-length
-    same-length-2
-    same-length-3
+    (λ c. search needs)
+    (λ c. search needs)
+    (λ c. search needs)
     returns)

@@ -41,9 +41,6 @@ read c = sym (ap (λ (x : Frame). x .cont) (c .frame-at .ensures))
 top : (c : tie.After-frame-at) (w : World) (b : Beside) → let s = start-of c in Rep (s .args .l) w (mem s b) (s .args .m) (s .args .fuel) → On (w .frames) (c .frame-at .result .cont)
 top c w b rep = let s = start-of c in on-top (s .args .l) (mem s b) (s .args .m) (s .args .fuel) w rep (some c) (c .frame-at .result .cont) (read c)
 
-result-of-requires : tie.Need-result-of-requires
-result-of-requires c κs = search needs
-
 returns : tie.Need-returns
 returns c =
     let start = c .before .before .before .before .before .before .before .before .before in
@@ -52,28 +49,10 @@ returns c =
     does (a .l) (mem start b) (a .m) (a .fuel) (finish (a .kind) (a .v) w) w (Answer.Exit (c .result-of .result))
     (no-frame (a .kind) (a .v) w (c .result-of .result) (no-top (w .frames) (a .frames .now) (a .m .depth) (rep .frames) (c .before .if1 .taken)) (c .result-of .ensures)) rep
 
-sub-frame-at : tie.Need-sub-frame-at
-sub-frame-at c = search needs
-
-frame-at-requires : tie.Need-frame-at-requires
-frame-at-requires c κs = search needs
-
-way-of-requires : tie.Need-way-of-requires
-way-of-requires c κs = search needs
-
-enum-told : tie.Need-enum-told
-enum-told c = search needs
-
 pop-requires : tie.Need-pop-requires
 pop-requires c κs =
     let at-top = c .before .before .before .before .before in let start = start-of at-top in
     may-pop (start .args .l) (mem start) (start .args .m) (start .pre) (some at-top)
-
-result-of-requires-2 : tie.Need-result-of-requires-2
-result-of-requires-2 c κs = search needs
-
-enum-told-2 : tie.Need-enum-told-2
-enum-told-2 c = search needs
 
 end-call-requires : tie.Need-end-call-requires
 end-call-requires c κs =
@@ -85,9 +64,6 @@ end-call-requires c κs =
       call = sym (told .way-of .ensures) ∙ arm .enum-told2 .given .1;
     }
 
-enum-told-3 : tie.Need-enum-told-3
-enum-told-3 c = search needs
-
 finish-coro-requires : tie.Need-finish-coro-requires
 finish-coro-requires c κs =
     let arm = c .before .before .before .before .before .before in let told = arm .before .before in let at-top = told .before in
@@ -96,12 +72,6 @@ finish-coro-requires c κs =
       some = some at-top;
       top = read at-top ∙ driver-way (at-top .frame-at .result .cont) (sym (told .way-of .ensures) ∙ arm .enum-told3 .given .1);
     }
-
-same-length : tie.Need-same-length
-same-length c = search needs
-
-same-length-2 : tie.Need-same-length-2
-same-length-2 c = search needs
 
 returns-2 : tie.Need-returns-2
 returns-2 c =
@@ -117,38 +87,11 @@ returns-2 c =
     (finish-out (a .kind) (a .v) w (at-top .frame-at .result .cont) (top at-top w b rep) (o .result) (sym (told .way-of .ensures) ∙ arm .enum-told .given .1) (o .ensures))
     (p .ensures (a .l) w (under start (record { words = b .words; fuel = a .fuel })) rep)
 
-same-length-3 : tie.Need-same-length-3
-same-length-3 c = search needs
-
-same-length-4 : tie.Need-same-length-4
-same-length-4 c = search needs
-
-same-length-5 : tie.Need-same-length-5
-same-length-5 c = search needs
-
 returns-3 : tie.Need-returns-3
 returns-3 c =
     let did = c .before .before .before .before .before .before .before in let arm = did .before .before .before .before in
     let start = start-of (arm .before .before .before) in
     λ w b rep snd. did .end-call .ensures w (beyond start (record { words = b .words; fuel = start .args .fuel })) rep
-
-same-length-6 : tie.Need-same-length-6
-same-length-6 c = search needs
-
-same-length-7 : tie.Need-same-length-7
-same-length-7 c = search needs
-
-same-length-8 : tie.Need-same-length-8
-same-length-8 c = search needs
-
-same-length-9 : tie.Need-same-length-9
-same-length-9 c = search needs
-
-same-length-10 : tie.Need-same-length-10
-same-length-10 c = search needs
-
-same-length-11 : tie.Need-same-length-11
-same-length-11 c = search needs
 
 returns-4 : tie.Need-returns-4
 returns-4 c = c .before .before .before .before .before .before .before .before .before .before .before .before .finish-coro .ensures
@@ -157,29 +100,29 @@ pub finish-spec : {M : Type 1} → statement M
 finish-spec =
     tie.close
     (tie.spec
-    result-of-requires
+    (λ c κs. search needs)
     returns
-    sub-frame-at
-    frame-at-requires
-    way-of-requires
-    enum-told
+    (λ c. search needs)
+    (λ c κs. search needs)
+    (λ c κs. search needs)
+    (λ c. search needs)
     pop-requires
-    result-of-requires-2
-    enum-told-2
+    (λ c κs. search needs)
+    (λ c. search needs)
     end-call-requires
-    enum-told-3
+    (λ c. search needs)
     finish-coro-requires
-    same-length
-    same-length-2
+    (λ c. search needs)
+    (λ c. search needs)
     returns-2
-    same-length-3
-    same-length-4
-    same-length-5
+    (λ c. search needs)
+    (λ c. search needs)
+    (λ c. search needs)
     returns-3
-    same-length-6
-    same-length-7
-    same-length-8
-    same-length-9
-    same-length-10
-    same-length-11
+    (λ c. search needs)
+    (λ c. search needs)
+    (λ c. search needs)
+    (λ c. search needs)
+    (λ c. search needs)
+    (λ c. search needs)
     returns-4)

@@ -37,12 +37,6 @@ to-dyn-requires c κs =
     let o = start .pre .ok in
     heap-room (o .rep) (o .sound) (o .room)
 
-enum-known-made : tie.Need-enum-known-made
-enum-known-made c = search needs
-
-enum-known-made-2 : tie.Need-enum-known-made-2
-enum-known-made-2 c = search needs
-
 pop-requires : tie.Need-pop-requires
 pop-requires c κs =
     let did = c .before .before .before .before .before .before .before .before in
@@ -66,9 +60,6 @@ coro-returned-requires c κs =
     (lent (p .last .0) (p .last .1 .0) (a .chain .now) (f .last .0) (a .saved-stack .now) (a .saved-frames .now)) (p .result)
     (p .ensures (a .l) (toDyn (a .kind) (a .v) (o .world) .world) (under start (f .last .0) (o .beside)) (f .ensures (o .world) (around start (o .beside)) (o .rep) .world))
 
-same-length : tie.Need-same-length
-same-length c = search needs
-
 returns : tie.Need-returns
 returns c =
     let arm = c .before in let did = arm .before .before .before .before .before in
@@ -79,26 +70,11 @@ returns c =
     let d = f .ensures w (around start (record { words = b .words; fuel = a .fuel })) rep in
     body-refused (a .l) (mem start (f .last .0) b) (f .result .machine) (a .fuel) w (a .kind) (a .v) (top start w b rep) (arm .made .given .0 .0) (sym (arm .made .given .1) ∙ d .answer) (d .world)
 
-same-length-2 : tie.Need-same-length-2
-same-length-2 c = search needs
-
-same-length-3 : tie.Need-same-length-3
-same-length-3 c = search needs
-
-same-length-4 : tie.Need-same-length-4
-same-length-4 c = search needs
-
 same-length-5 : tie.Need-same-length-5
 same-length-5 c =
     let told = c .before .before .before .before .before .before .before .before .before .before .before .before .before .before in
     let did = told .before .before .before .before .before .before .before .before .before .before .before .before .before .before .before .before .before .before .before .before in
     told .coro-returned .kept .1 .1 .1 .0 ∙ did .to-dyn .kept .0
-
-same-length-6 : tie.Need-same-length-6
-same-length-6 c = search needs
-
-same-length-7 : tie.Need-same-length-7
-same-length-7 c = search needs
 
 returns-2 : tie.Need-returns-2
 returns-2 c =
@@ -127,16 +103,16 @@ finish-coro-spec =
     tie.close
     (tie.spec
     to-dyn-requires
-    enum-known-made
-    enum-known-made-2
+    (λ c. search needs)
+    (λ c. search needs)
     pop-requires
     coro-returned-requires
-    same-length
+    (λ c. search needs)
     returns
-    same-length-2
-    same-length-3
-    same-length-4
+    (λ c. search needs)
+    (λ c. search needs)
+    (λ c. search needs)
     same-length-5
-    same-length-6
-    same-length-7
+    (λ c. search needs)
+    (λ c. search needs)
     returns-2)

@@ -6,15 +6,6 @@ use borrow.Author.Needs.{needs}
 use Rattle.machine_finish.proofs.finish.resume_in.Statement.{statement}
 use Rattle.machine_finish.proofs.finish.resume_in.Tie as tie
 
-number-requires : tie.Need-number-requires
-number-requires c κs = search needs
-
-next-pc-requires : tie.Need-next-pc-requires
-next-pc-requires c κs = search needs
-
-same-length : tie.Need-same-length
-same-length c = search needs
-
 returns : tie.Need-returns
 returns c =
     let did = c .before .before in let test = did .before .before in let asked = test .before in let start = asked .before .before in
@@ -30,4 +21,4 @@ returns-2 c =
 
 pub resume-in-spec : {M : Type 1} → statement M
 resume-in-spec =
-    tie.close (tie.spec number-requires next-pc-requires same-length returns returns-2)
+    tie.close (tie.spec (λ c κs. search needs) (λ c κs. search needs) (λ c. search needs) returns returns-2)

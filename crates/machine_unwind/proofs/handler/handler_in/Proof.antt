@@ -11,15 +11,6 @@ use borrow.Author.Needs.{needs}
 use Rattle.machine_unwind.proofs.handler.handler_in.Statement.{statement}
 use Rattle.machine_unwind.proofs.handler.handler_in.Tie as tie
 
-sub-i : tie.Need-sub-i
-sub-i c = search needs
-
-func-at-requires : tie.Need-func-at-requires
-func-at-requires c κs = search needs
-
-pc-at-requires : tie.Need-pc-at-requires
-pc-at-requires c κs = search needs
-
 handler-at-requires : tie.Need-handler-at-requires
 handler-at-requires c κs =
     let e = c .before .func-at .ensures in let start = c .before .before .before .before .before in let setup = start .args .setup .now in
@@ -34,4 +25,4 @@ returns c =
 
 pub handler-in-spec : {M : Type 1} → statement M
 handler-in-spec =
-    tie.close (tie.spec sub-i func-at-requires pc-at-requires handler-at-requires returns)
+    tie.close (tie.spec (λ c. search needs) (λ c κs. search needs) (λ c κs. search needs) handler-at-requires returns)

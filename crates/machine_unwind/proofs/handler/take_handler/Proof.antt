@@ -6,12 +6,6 @@ use borrow.Author.Needs.{needs}
 use Rattle.machine_unwind.proofs.handler.take_handler.Statement.{statement}
 use Rattle.machine_unwind.proofs.handler.take_handler.Tie as tie
 
-charge-plain-requires : tie.Need-charge-plain-requires
-charge-plain-requires c κs = search needs
-
-is-spent-requires : tie.Need-is-spent-requires
-is-spent-requires c κs = search needs
-
 returns : tie.Need-returns
 returns c =
     let asked = c .before in
@@ -22,18 +16,6 @@ returns c =
     let M = top (a .stack .now) (a .frames .now) plain b in
     handler-unpaid l M (a .m) (r .result .fuel) w (a .h) (a .value) (r .result .answer) (sym (asked .is-spent .ensures) ∙ c .if1 .taken)
     (r .ensures (a .m) l w (record { words = M; fuel = b .fuel }) rep)
-
-put-requires : tie.Need-put-requires
-put-requires c κs = search needs
-
-store-pc-requires : tie.Need-store-pc-requires
-store-pc-requires c κs = search needs
-
-same-length : tie.Need-same-length
-same-length c = search needs
-
-same-length-2 : tie.Need-same-length-2
-same-length-2 c = search needs
 
 returns-2 : tie.Need-returns-2
 returns-2 c =
@@ -55,11 +37,11 @@ pub take-handler-spec : {M : Type 1} → statement M
 take-handler-spec =
     tie.close
     (tie.spec
-    charge-plain-requires
-    is-spent-requires
+    (λ c κs. search needs)
+    (λ c κs. search needs)
     returns
-    put-requires
-    store-pc-requires
-    same-length
-    same-length-2
+    (λ c κs. search needs)
+    (λ c κs. search needs)
+    (λ c. search needs)
+    (λ c. search needs)
     returns-2)

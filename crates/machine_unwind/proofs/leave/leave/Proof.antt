@@ -27,21 +27,12 @@ read-of c = c .before .before .before
 abbrev start-of : tie.After-cont-at → tie.Start
 start-of c = c .before .before .before .before .before .before .before .before .before
 
-sub-cont-at : tie.Need-sub-cont-at
-sub-cont-at c = search needs
-
-cont-at-requires : tie.Need-cont-at-requires
-cont-at-requires c κs = search needs
-
 pop-requires : tie.Need-pop-requires
 pop-requires c κs =
     let start = start-of (c .before .before) in
     let a = start .args in
     let o = start .pre .ok in
     pop-fits (a .l) (mem start (o .beside)) (a .m) (a .fuel) (o .world) (o .rep) (o .sound) (start .pre .some)
-
-is-coro-requires : tie.Need-is-coro-requires
-is-coro-requires c κs = search needs
 
 passed-requires : tie.Need-passed-requires
 passed-requires c κs =
@@ -87,9 +78,6 @@ coro-escaped-requires c κs =
     (subst (λ fs. Rep (a .l) (popOn fs w) (M (o .beside)) (gone .pop .result) (a .fuel)) (t .are)
     (gone .pop .ensures (a .l) w (record { words = mem start (o .beside); fuel = a .fuel }) (o .rep)))
 
-halted-requires : tie.Need-halted-requires
-halted-requires c κs = search needs
-
 same-length-3 : tie.Need-same-length-3
 same-length-3 c =
     let told = c .before .before .before .before .before .before .before .before .before .before .before .before .before .before .before in
@@ -134,16 +122,16 @@ pub leave-spec : {M : Type 1} → statement M
 leave-spec =
     tie.close
     (tie.spec
-    sub-cont-at
-    cont-at-requires
+    (λ c. search needs)
+    (λ c κs. search needs)
     pop-requires
-    is-coro-requires
+    (λ c κs. search needs)
     passed-requires
     same-length
     same-length-2
     returns
     coro-escaped-requires
-    halted-requires
+    (λ c κs. search needs)
     same-length-3
     same-length-4
     same-length-5

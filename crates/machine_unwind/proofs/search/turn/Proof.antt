@@ -29,9 +29,6 @@ handler-in-requires c κs =
     let o = start .pre .ok in
     handler-fits (a .l) (mem start (o .beside)) (a .m) (a .fuel) (o .world) (o .rep) (o .sound) (start .pre .some) (o .room)
 
-enum-known-h : tie.Need-enum-known-h
-enum-known-h c = search needs
-
 take-handler-requires : tie.Need-take-handler-requires
 take-handler-requires c κs =
     let arm = c .before .before .before in
@@ -41,9 +38,6 @@ take-handler-requires c κs =
     let o = start .pre .ok in
     catch-fits (a .l) (mem start (o .beside)) (a .m) (a .fuel) (o .world) (o .rep) (o .sound) (start .pre .some) (arm .h .given .0 .0)
     (sym (arm .h .given .1) ∙ read asked (o .world) (o .beside) (o .rep))
-
-enum-told : tie.Need-enum-told
-enum-told c = search needs
 
 leave-requires : tie.Need-leave-requires
 leave-requires c κs =
@@ -108,9 +102,9 @@ turn-spec =
     tie.close
     (tie.spec
     handler-in-requires
-    enum-known-h
+    (λ c. search needs)
     take-handler-requires
-    enum-told
+    (λ c. search needs)
     leave-requires
     same-length
     same-length-2

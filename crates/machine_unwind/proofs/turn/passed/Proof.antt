@@ -8,24 +8,6 @@ use borrow.Author.Needs.{needs}
 use Rattle.machine_unwind.proofs.turn.passed.Statement.{statement}
 use Rattle.machine_unwind.proofs.turn.passed.Tie as tie
 
-enum-told : tie.Need-enum-told
-enum-told c = search needs
-
-enum-told-2 : tie.Need-enum-told-2
-enum-told-2 c = search needs
-
-enum-told-3 : tie.Need-enum-told-3
-enum-told-3 c = search needs
-
-enum-told-4 : tie.Need-enum-told-4
-enum-told-4 c = search needs
-
-enum-told-5 : tie.Need-enum-told-5
-enum-told-5 c = search needs
-
-enum-told-6 : tie.Need-enum-told-6
-enum-told-6 c = search needs
-
 returns : tie.Need-returns
 returns c = λ w f pc. ap (λ k. escape k (c .before .before .args .value) f pc on w) (c .enum-told .given .1)
 
@@ -45,4 +27,4 @@ returns-6 : tie.Need-returns-6
 returns-6 c = no-true (sym (ap isCoro (c .enum-told6 .given .1)) ∙ c .before .before .pre)
 
 pub passed-spec : {M : Type 1} → statement M
-passed-spec = tie.close (tie.spec enum-told enum-told-2 enum-told-3 enum-told-4 enum-told-5 enum-told-6 returns returns-2 returns-3 returns-4 returns-5 returns-6)
+passed-spec = tie.close (tie.spec (λ c. search needs) (λ c. search needs) (λ c. search needs) (λ c. search needs) (λ c. search needs) (λ c. search needs) returns returns-2 returns-3 returns-4 returns-5 returns-6)

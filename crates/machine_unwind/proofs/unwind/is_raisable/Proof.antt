@@ -4,9 +4,6 @@ use borrow.Author.Needs.{needs}
 use Rattle.machine_unwind.proofs.unwind.is_raisable.Statement.{statement}
 use Rattle.machine_unwind.proofs.unwind.is_raisable.Tie as tie
 
-number-requires : tie.Need-number-requires
-number-requires c κs = search needs
-
 returns : tie.Need-returns
 returns c = let asked = c .before in raises-word (asked .before .args .fault) (asked .number .result) (asked .number .ensures) (c .if1 .taken)
 
@@ -17,4 +14,4 @@ returns-3 : tie.Need-returns-3
 returns-3 c = let asked = c .before .before in raises-some (asked .before .args .fault) (asked .number .result) (asked .number .ensures) (c .before .if1 .left) (c .if2 .left)
 
 pub is-raisable-spec : {M : Type 1} → statement M
-is-raisable-spec = tie.close (tie.spec number-requires returns returns-2 returns-3)
+is-raisable-spec = tie.close (tie.spec (λ c κs. search needs) returns returns-2 returns-3)

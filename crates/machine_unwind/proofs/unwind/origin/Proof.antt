@@ -12,19 +12,10 @@ returns c =
     let start = c .before .before .before in let a = start .args in
     λ l w b rep. origin-none l (frame (a .frames .now) plain b) (a .m) (b .fuel) w rep (c .if1 .taken) _ refl
 
-sub-i : tie.Need-sub-i
-sub-i c = search needs
-
-func-at-requires : tie.Need-func-at-requires
-func-at-requires c κs = search needs
-
-pc-at-requires : tie.Need-pc-at-requires
-pc-at-requires c κs = search needs
-
 returns-2 : tie.Need-returns-2
 returns-2 c =
     let func = c .before in let test = func .before .before in let start = test .before .before .before in let a = start .args in
     λ l w b rep. origin-top l (frame (a .frames .now) plain b) (a .m) (b .fuel) w rep (omega (arith, test .if1 .left)) _ _ (func .func-at .ensures) (c .pc-at .ensures)
 
 pub origin-spec : {M : Type 1} → statement M
-origin-spec = tie.close (tie.spec returns sub-i func-at-requires pc-at-requires returns-2)
+origin-spec = tie.close (tie.spec returns (λ c. search needs) (λ c κs. search needs) (λ c κs. search needs) returns-2)

@@ -33,18 +33,9 @@ told c w b rep =
     let beside : Beside = record { words = mem (start-of c) b; fuel = a .fuel } in
     c .thrown .ensures w beside rep (asked .origin .ensures (a .l) w beside rep)
 
-origin-requires : tie.Need-origin-requires
-origin-requires c κs = search needs
-
 thrown-requires : tie.Need-thrown-requires
 thrown-requires c κs =
     let o = c .before .before .before .before .before .before .before .before .before .before .pre .ok in heap-room (o .rep) (o .sound) (o .room)
-
-enum-known-made : tie.Need-enum-known-made
-enum-known-made c = search needs
-
-enum-known-made-2 : tie.Need-enum-known-made-2
-enum-known-made-2 c = search needs
 
 search-requires : tie.Need-search-requires
 search-requires c κs =
@@ -57,12 +48,6 @@ search-requires c κs =
     (asked .origin .ensures (a .l) (o .world) (record { words = mem start (o .beside); fuel = a .fuel }) (o .rep))
     (record { stack = refl; frames = refl; chain = refl; slots = made .thrown .kept .0; savedStack = refl; savedFrames = refl; ready = refl; finalize = refl; setup = refl })
     (told made (o .world) (o .beside) (o .rep) .world)
-
-same-length : tie.Need-same-length
-same-length c = search needs
-
-same-length-2 : tie.Need-same-length-2
-same-length-2 c = search needs
 
 returns : tie.Need-returns
 returns c =
@@ -114,13 +99,13 @@ pub raise-spec : {M : Type 1} → statement M
 raise-spec =
     tie.close
     (tie.spec
-    origin-requires
+    (λ c κs. search needs)
     thrown-requires
-    enum-known-made
-    enum-known-made-2
+    (λ c. search needs)
+    (λ c. search needs)
     search-requires
-    same-length
-    same-length-2
+    (λ c. search needs)
+    (λ c. search needs)
     returns
     same-length-3
     same-length-4

@@ -13,25 +13,10 @@ returns c =
     let start = c .before .before .before in let a = start .args in
     λ l w b rep. none-stored l (frame (a .frames .now) plain b) (a .m) (b .fuel) w rep (c .if1 .taken) (a .pc)
 
-enum-told : tie.Need-enum-told
-enum-told c = search needs
-
-enum-known-pc : tie.Need-enum-known-pc
-enum-known-pc c = search needs
-
-cast-store-pc : tie.Need-cast-store-pc
-cast-store-pc c = search needs
-
-store-pc-requires : tie.Need-store-pc-requires
-store-pc-requires c κs = search needs
-
 returns-2 : tie.Need-returns-2
 returns-2 c =
     let start = c .before .before .before .before .before in let a = start .args in
     λ l w b rep. subst (λ p. Rep l (storeSome p w) (frame (a .frames .now) plain b) (a .m) (b .fuel)) (sym (c .enum-told .given .1)) rep
-
-same-length : tie.Need-same-length
-same-length c = search needs
 
 returns-3 : tie.Need-returns-3
 returns-3 c =
@@ -43,10 +28,10 @@ store-some-spec =
     tie.close
     (tie.spec
     returns
-    enum-told
-    enum-known-pc
-    cast-store-pc
-    store-pc-requires
+    (λ c. search needs)
+    (λ c. search needs)
+    (λ c. search needs)
+    (λ c κs. search needs)
     returns-2
-    same-length
+    (λ c. search needs)
     returns-3)

@@ -8,23 +8,11 @@ use borrow.Author.Needs.{needs}
 use Rattle.machine_unwind.proofs.unwind.thrown.Statement.{statement}
 use Rattle.machine_unwind.proofs.unwind.thrown.Tie as tie
 
-number-requires : tie.Need-number-requires
-number-requires c κs = search needs
-
-word-requires : tie.Need-word-requires
-word-requires c κs = search needs
-
 returns : tie.Need-returns
 returns c =
     let test = c .before in let asked = test .before in let start = asked .before .before in let a = start .args in
     λ w b rep at.
     thrown-word (a .l) (table (a .slots .now) plain b) (a .m) (b .fuel) w (a .fault) (a .at) at (asked .number .result) (asked .number .ensures) (test .if1 .taken) _ (c .word .ensures) rep
-
-alloc-plain-requires : tie.Need-alloc-plain-requires
-alloc-plain-requires c κs = search needs
-
-same-length : tie.Need-same-length
-same-length c = search needs
 
 returns-2 : tie.Need-returns-2
 returns-2 c =
@@ -43,10 +31,10 @@ pub thrown-spec : {M : Type 1} → statement M
 thrown-spec =
     tie.close
     (tie.spec
-    number-requires
-    word-requires
+    (λ c κs. search needs)
+    (λ c κs. search needs)
     returns
-    alloc-plain-requires
-    same-length
+    (λ c κs. search needs)
+    (λ c. search needs)
     returns-2
     returns-3)

@@ -29,18 +29,12 @@ asked-of c = c .before .before .before
 abbrev start-of : tie.After-is-raisable → tie.Start
 start-of c = c .before .before .before .before .before .before .before .before
 
-is-raisable-requires : tie.Need-is-raisable-requires
-is-raisable-requires c κs = search needs
-
 returns : tie.Need-returns
 returns c =
     let asked = c .before in
     let start = start-of asked in
     let a = start .args in
     λ w b rep snd. unwind-refused (a .l) (mem start b) (a .m) (a .fuel) w (a .fault) (a .pc) (sym (asked .is-raisable .ensures) ∙ not-true _ (c .if1 .taken)) rep
-
-store-some-requires : tie.Need-store-some-requires
-store-some-requires c κs = search needs
 
 raise-requires : tie.Need-raise-requires
 raise-requires c κs =
@@ -97,9 +91,9 @@ pub unwind-spec : {M : Type 1} → statement M
 unwind-spec =
     tie.close
     (tie.spec
-    is-raisable-requires
+    (λ c κs. search needs)
     returns
-    store-some-requires
+    (λ c κs. search needs)
     raise-requires
     same-length
     same-length-2

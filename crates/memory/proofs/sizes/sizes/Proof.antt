@@ -4,15 +4,6 @@ use Rattle.memory.proofs.Widest.{told}
 use Rattle.memory.proofs.sizes.sizes.Statement.{statement}
 use Rattle.memory.proofs.sizes.sizes.Tie as tie
 
-limits-requires : tie.Need-limits-requires
-limits-requires c κs = search needs
-
-costs-requires : tie.Need-costs-requires
-costs-requires c κs = search needs
-
-row-words-requires : tie.Need-row-words-requires
-row-words-requires c κs = search needs
-
 returns : tie.Need-returns
 returns c =
     let at-costs = c .before in let at-limits = at-costs .before in let start = at-limits .before .before in
@@ -20,4 +11,4 @@ returns c =
     (at-limits .limits .ensures) (at-costs .costs .ensures) (c .row-words .ensures)
 
 pub sizes-spec : {M : Type 1} → statement M
-sizes-spec = tie.close (tie.spec limits-requires costs-requires row-words-requires returns)
+sizes-spec = tie.close (tie.spec (λ c κs. search needs) (λ c κs. search needs) (λ c κs. search needs) returns)

@@ -18,9 +18,6 @@ start-of c = c .before .before .before .before .before .before .before .before .
 abbrev sound-call-of : tie.After-slice-known16 → tie.After-sound-call
 sound-call-of c = c .before .before .before .before .before .before .before .before .before .before .before .before .before .before .before .before
 
-unsound-requires : tie.Need-unsound-requires
-unsound-requires c κs = search needs
-
 returns : tie.Need-returns
 returns c =
     let at-if = c .before in
@@ -67,4 +64,4 @@ returns-2 : tie.Need-returns-2
 returns-2 c = sound-call-of c .sound-call .ensures .is
 
 pub called-spec : {M : Type 1} → statement M
-called-spec = tie.close (tie.spec unsound-requires returns sizes-requires sound-call-requires same-length same-length-2 same-length-3 same-length-4 same-length-5 same-length-6 same-length-7 same-length-8 returns-2)
+called-spec = tie.close (tie.spec (λ c κs. search needs) returns sizes-requires sound-call-requires same-length same-length-2 same-length-3 same-length-4 same-length-5 same-length-6 same-length-7 same-length-8 returns-2)

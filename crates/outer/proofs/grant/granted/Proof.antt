@@ -11,12 +11,6 @@ use Rattle.outer.proofs.grant.granted.Tie as tie
 abbrev mem : tie.Start → Lent
 mem c = nine (c .args .stack .now) (c .args .frames .now) (c .args .chain .now) (c .args .slots .now) (c .args .saved-stack .now) (c .args .saved-frames .now) (c .args .ready .now) (c .args .finalize .now) (c .args .setup .now) plain
 
-sound-words-requires : tie.Need-sound-words-requires
-sound-words-requires c κs = search needs
-
-grant-requires : tie.Need-grant-requires
-grant-requires c κs = search needs
-
 returns : tie.Need-returns
 returns c =
     let at-if = c .before in
@@ -33,4 +27,4 @@ returns-2 c =
     Law.not-granted (mem start) (a .m) (a .fuel) (a .n) (sym (test .sound-words .ensures) ∙ c .if1 .left)
 
 pub granted-spec : {M : Type 1} → statement M
-granted-spec = tie.close (tie.spec sound-words-requires grant-requires returns returns-2)
+granted-spec = tie.close (tie.spec (λ c κs. search needs) (λ c κs. search needs) returns returns-2)

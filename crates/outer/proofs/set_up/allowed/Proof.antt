@@ -16,9 +16,6 @@ use Rattle.outer.proofs.set_up.allowed.Tie as tie
 held : (c : tie.Else1) → setupHeld (c .before .before .before .args .given .now) ≡ true
 held c = sym (c .before .setup-held .ensures) ∙ not-false _ (c .if1 .left)
 
-setup-held-requires : tie.Need-setup-held-requires
-setup-held-requires c κs = search needs
-
 returns : tie.Need-returns
 returns c =
     let at-held = c .before in
@@ -73,4 +70,4 @@ returns-3 c =
     (sym (at-room .room-ok .ensures) ∙ not-false _ (at-if2 .if2 .left))
 
 pub allowed-spec : {M : Type 1} → statement M
-allowed-spec = tie.close (tie.spec setup-held-requires returns sizes-requires room-ok-requires returns-2 shared-slice-read-n mul-result add-result returns-3)
+allowed-spec = tie.close (tie.spec (λ c κs. search needs) returns sizes-requires room-ok-requires returns-2 shared-slice-read-n mul-result add-result returns-3)

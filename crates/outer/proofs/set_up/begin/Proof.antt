@@ -37,12 +37,6 @@ mul-k c = let start = c .before .before .before .before .before .before .before 
 add-k : tie.Need-add-k
 add-k c = let start = c .before .before .before .before .before .before .before .before .before .before .before in let h = long start .functions in omega (arith, start .good)
 
-sub-set-up : tie.Need-sub-set-up
-sub-set-up c = search needs
-
-part-set-up-start : tie.Need-part-set-up-start
-part-set-up-start c = search needs
-
 part-set-up-end : tie.Need-part-set-up-end
 part-set-up-end c = let start = c .before .before .before .before .before .before .before .before .before .before .before .before .before .before .before .before .before .before .before .before in let h = long start .functions in omega arith
 
@@ -100,4 +94,4 @@ returns c =
     (own-part ws (is-held ws (mem start) (start .pre))) refl (at-set-up .set-up .ensures)
 
 pub begin-spec : {M : Type 1} → statement M
-begin-spec = tie.close (tie.spec shared-slice-read-n mul-k add-k sub-set-up part-set-up-start part-set-up-end set-up-requires same-length same-length-2 same-length-3 same-length-4 same-length-5 same-length-6 same-length-7 same-length-8 same-length-9 returns)
+begin-spec = tie.close (tie.spec shared-slice-read-n mul-k add-k (λ c. search needs) (λ c. search needs) part-set-up-end set-up-requires same-length same-length-2 same-length-3 same-length-4 same-length-5 same-length-6 same-length-7 same-length-8 same-length-9 returns)

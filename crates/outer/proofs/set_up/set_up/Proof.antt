@@ -23,12 +23,6 @@ begin-of c = c .before .before .before .before .before .before .before .before .
 accepted : (c : tie.Else1) → let start = c .before .before .before .before .before .before .before .before .before .before .before .before in setUpOk (start .args .given .now) (mem start) ≡ true
 accepted c = sym (c .before .allowed .ensures (mem (c .before .before .before .before .before .before .before .before .before .before .before .before)) refl) ∙ not-false _ (c .if1 .left)
 
-allowed-requires : tie.Need-allowed-requires
-allowed-requires c κs = search needs
-
-unsound-requires : tie.Need-unsound-requires
-unsound-requires c κs = search needs
-
 returns : tie.Need-returns
 returns c =
     let at-if = c .before in
@@ -76,4 +70,4 @@ returns-2 c =
     at-begin .begin .ensures ∙ accepts (state (mem start) (a .m) (a .fuel)) (a .given .now) (accepted at-if)
 
 pub set-up-spec : {M : Type 1} → statement M
-set-up-spec = tie.close (tie.spec allowed-requires unsound-requires returns begin-requires same-length same-length-2 same-length-3 same-length-4 same-length-5 same-length-6 same-length-7 same-length-8 same-length-9 returns-2)
+set-up-spec = tie.close (tie.spec (λ c κs. search needs) (λ c κs. search needs) returns begin-requires same-length same-length-2 same-length-3 same-length-4 same-length-5 same-length-6 same-length-7 same-length-8 same-length-9 returns-2)

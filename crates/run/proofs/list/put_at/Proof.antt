@@ -9,29 +9,8 @@ use borrow.Author.Needs.{needs}
 use Rattle.run.proofs.list.put_at.Statement.{statement}
 use Rattle.run.proofs.list.put_at.Tie as tie
 
-mul-at : tie.Need-mul-at
-mul-at c = search needs
-
-add-e : tie.Need-add-e
-add-e c = search needs
-
-mul-put-answer : tie.Need-mul-put-answer
-mul-put-answer c = search needs
-
-sub-put-answer : tie.Need-sub-put-answer
-sub-put-answer c = search needs
-
-part-put-answer-start : tie.Need-part-put-answer-start
-part-put-answer-start c = search needs
-
-part-put-answer-end : tie.Need-part-put-answer-end
-part-put-answer-end c = search needs
-
 put-answer-requires : tie.Need-put-answer-requires
 put-answer-requires c κs = let start = c .before .before in part-long (start .args .answers .now) (start .args .i * 8) (start .pre)
-
-same-length : tie.Need-same-length
-same-length c = search needs
 
 returns : tie.Need-returns
 returns c =
@@ -40,4 +19,4 @@ returns c =
     put-back (start .args .answers .now) (answerWords (start .args .a)) (start .args .i * 8) (start .pre) _ (at-put .put-answer .ensures) refl
 
 pub put-at-spec : {M : Type 1} → statement M
-put-at-spec = tie.close (tie.spec mul-at add-e mul-put-answer sub-put-answer part-put-answer-start part-put-answer-end put-answer-requires same-length returns)
+put-at-spec = tie.close (tie.spec (λ c. search needs) (λ c. search needs) (λ c. search needs) (λ c. search needs) (λ c. search needs) (λ c. search needs) put-answer-requires (λ c. search needs) returns)

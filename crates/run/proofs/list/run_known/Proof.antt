@@ -35,9 +35,6 @@ left-by c = state (nine (c .run-list .last .1 .0) (c .run-list .last .1 .1 .0) (
     (c .run-list .last .1 .1 .1 .1 .1 .1 .1 .1 .0) (start-of (else-of c .before) .args .setup .now) plain) (c .run-list .result .machine)
     (c .run-list .result .fuel)
 
-count-requires : tie.Need-count-requires
-count-requires c κs = search needs
-
 returns : tie.Need-returns
 returns c =
     let at-count = c .before in
@@ -64,9 +61,6 @@ run-list-requires c κs =
       calls = at-count .count .ensures;
       room = enough (length (start .args .answers .now)) (at-count .count .result) (room at-if);
     }
-
-number-of-requires : tie.Need-number-of-requires
-number-of-requires c κs = search needs
 
 same-length : tie.Need-same-length
 same-length c = run-list-of c .run-list .kept .1 .0
@@ -107,4 +101,4 @@ returns-2 c =
     (did .run-list .ensures)
 
 pub run-known-spec : {M : Type 1} → statement M
-run-known-spec = tie.close (tie.spec count-requires returns sizes-if-requires run-list-requires number-of-requires same-length same-length-2 same-length-3 same-length-4 same-length-5 same-length-6 same-length-7 same-length-8 same-length-9 returns-2)
+run-known-spec = tie.close (tie.spec (λ c κs. search needs) returns sizes-if-requires run-list-requires (λ c κs. search needs) same-length same-length-2 same-length-3 same-length-4 same-length-5 same-length-6 same-length-7 same-length-8 same-length-9 returns-2)

@@ -19,9 +19,6 @@ else-of c = c .before .before .before .before .before .before .before .before .b
 abbrev sound-call-of : tie.After-slice-known16 → tie.After-sound-call
 sound-call-of c = c .before .before .before .before .before .before .before .before .before .before .before .before .before .before .before .before
 
-unsound-requires : tie.Need-unsound-requires
-unsound-requires c κs = search needs
-
 returns : tie.Need-returns
 returns c =
     let at-if = c .before in
@@ -30,18 +27,12 @@ returns c =
     subst (λ r. Reads (a .ok) (state (mem start) (a .m) (a .fuel)) (a .read) (gives (mem start) r)) (sym (c .unsound .ensures))
     (refused-read (a .ok) (mem start) (a .m) (a .fuel) (start .pre .known) (a .read) (not-true _ (at-if .if1 .taken)))
 
-enum-known-read : tie.Need-enum-known-read
-enum-known-read c = search needs
-
 sound-call-requires : tie.Need-sound-call-requires
 sound-call-requires c κs =
     let at-if = c .before .before .before .before .before .before .before .before .before .before .before in
     let start = at-if .before .before .before .before .before .before .before .before .before .before in
     let yes = not-false _ (at-if .if1 .left) in
     record { sound = sym (start .pre .known) ∙ yes; sizes = start .pre .sizes yes }
-
-enum-known-read-2 : tie.Need-enum-known-read-2
-enum-known-read-2 c = search needs
 
 same-length : tie.Need-same-length
 same-length c = sound-call-of c .sound-call .kept .0
@@ -85,4 +76,4 @@ returns-3 c =
     no-read (a .ok) (mem start) (a .m) (a .fuel) (start .pre .known) (a .read) (at-read .read2 .given .0 .0) (not-false _ (at-if .if1 .left)) (at-read .read2 .given .1)
 
 pub do-read-spec : {M : Type 1} → statement M
-do-read-spec = tie.close (tie.spec unsound-requires returns enum-known-read sound-call-requires enum-known-read-2 same-length same-length-2 same-length-3 same-length-4 same-length-5 same-length-6 same-length-7 same-length-8 returns-2 returns-3)
+do-read-spec = tie.close (tie.spec (λ c κs. search needs) returns (λ c. search needs) sound-call-requires (λ c. search needs) same-length same-length-2 same-length-3 same-length-4 same-length-5 same-length-6 same-length-7 same-length-8 returns-2 returns-3)

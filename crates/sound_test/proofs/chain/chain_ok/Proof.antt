@@ -7,9 +7,6 @@ use borrow.Author.Needs.{needs}
 use Rattle.sound_test.proofs.chain.chain_ok.Statement.{statement}
 use Rattle.sound_test.proofs.chain.chain_ok.Tie as tie
 
-chain-over-requires : tie.Need-chain-over-requires
-chain-over-requires c κs = search needs
-
 returns : tie.Need-returns
 returns c =
     let at-chain-over = c .before in let start = at-chain-over .before .before .before in
@@ -21,9 +18,6 @@ mul-rest-ok c =
     let start = c .before .before .before .before in
     omega (arith, start .pre .on-chain)
 
-rest-ok-requires : tie.Need-rest-ok-requires
-rest-ok-requires c κs = search needs
-
 returns-2 : tie.Need-returns-2
 returns-2 c =
     let at-if1 = c .before in let at-chain-over = at-if1 .before in let start = at-chain-over .before .before .before in
@@ -32,4 +26,4 @@ returns-2 c =
 
 pub chain-ok-spec : {M : Type 1} → statement M
 chain-ok-spec =
-    tie.close (tie.spec chain-over-requires returns mul-rest-ok rest-ok-requires returns-2)
+    tie.close (tie.spec (λ c κs. search needs) returns mul-rest-ok (λ c κs. search needs) returns-2)

@@ -12,9 +12,6 @@ returns c =
     let start = c .before .before in
     let a = start .args in far-lies (a .code) (a .a) (a .b) (a .c) (a .end) (piled 6 frameOf (a .i) (a .frames .now)) (c .if1 .taken)
 
-lies-under-requires : tie.Need-lies-under-requires
-lies-under-requires c κs = search needs
-
 returns-2 : tie.Need-returns-2
 returns-2 c =
     let at-lies-under = c .before in let at-if1 = at-lies-under .before in let start = at-if1 .before .before in
@@ -24,9 +21,6 @@ returns-3 : tie.Need-returns-3
 returns-3 c =
     let at-if2 = c .before in let at-lies-under = at-if2 .before in let start = at-lies-under .before .before .before in
     let a = start .args in only-first (a .code) (a .a) (a .b) (a .c) (a .end) (piled 6 frameOf (a .i) (a .frames .now)) (at-lies-under .lies-under .result) (at-lies-under .lies-under .ensures) (c .if3 .taken) (not-false _ (at-if2 .if2 .left))
-
-lies-under-requires-2 : tie.Need-lies-under-requires-2
-lies-under-requires-2 c κs = search needs
 
 returns-4 : tie.Need-returns-4
 returns-4 c =
@@ -38,4 +32,4 @@ returns-4 c =
 pub driver-lies-spec : {M : Type 1} → statement M
 driver-lies-spec =
     tie.close
-    (tie.spec returns lies-under-requires returns-2 returns-3 lies-under-requires-2 returns-4)
+    (tie.spec returns (λ c κs. search needs) returns-2 returns-3 (λ c κs. search needs) returns-4)

@@ -20,9 +20,6 @@ returns-3 c =
     let at-if2 = c .before in let at-if1 = at-if2 .before in let a = at-if1 .before .before .args in
     entry-low (a .saved) (a .ws .now) (a .i) (a .code) (a .r) (a .base) (at-if1 .if1 .taken) (at-if2 .if2 .left) (c .if3 .left)
 
-lies-under-requires : tie.Need-lies-under-requires
-lies-under-requires c κs = search needs
-
 returns-4 : tie.Need-returns-4
 returns-4 c =
     let at-if4 = c .before in let at-if1 = at-if4 .before in let a = at-if1 .before .before .args in
@@ -51,4 +48,4 @@ returns-8 c =
 pub cont-ok-spec : {M : Type 1} → statement M
 cont-ok-spec =
     tie.close
-    (tie.spec returns returns-2 returns-3 lies-under-requires returns-4 returns-5 returns-6 returns-7 returns-8)
+    (tie.spec returns returns-2 returns-3 (λ c κs. search needs) returns-4 returns-5 returns-6 returns-7 returns-8)

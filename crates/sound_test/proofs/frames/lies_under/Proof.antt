@@ -11,15 +11,6 @@ use Rattle.sound_test.proofs.frames.lies_under.Tie as tie
 returns : tie.Need-returns
 returns c = search needs
 
-sub-below : tie.Need-sub-below
-sub-below c = search needs
-
-base-at-requires : tie.Need-base-at-requires
-base-at-requires c κs = search needs
-
-sub-result : tie.Need-sub-result
-sub-result c = search needs
-
 returns-2 : tie.Need-returns-2
 returns-2 c =
     let at-base = c .before in let start = at-base .before .before .before in
@@ -36,8 +27,8 @@ lies-under-spec =
     tie.close
     (tie.spec
     returns
-    sub-below
-    base-at-requires
-    sub-result
+    (λ c. search needs)
+    (λ c κs. search needs)
+    (λ c. search needs)
     returns-2
     returns-3)

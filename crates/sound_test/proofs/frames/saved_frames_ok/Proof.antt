@@ -13,20 +13,11 @@ returns c =
     let start = c .before .before .before in
     let a = start .args in no-frames (setupOf (a .setup .now)) (a .ws .now) (a .n) (a .regs) (c .if1 .taken)
 
-frames-over-requires : tie.Need-frames-over-requires
-frames-over-requires c κs = search needs
-
 returns-2 : tie.Need-returns-2
 returns-2 c =
     let at-frames-over = c .before in let start = at-frames-over .before .before .before .before in
     let a = start .args in
     first-fails _ _ _ (at-frames-over .frames-over .result) (saved-frames (setupOf (a .setup .now)) (a .ws .now) (a .n) (a .regs) (start .pre .inside) (omega arith)) (at-frames-over .frames-over .ensures) (not-true _ (c .if2 .taken))
-
-mul-rest-ok : tie.Need-mul-rest-ok
-mul-rest-ok c = search needs
-
-rest-ok-requires : tie.Need-rest-ok-requires
-rest-ok-requires c κs = search needs
 
 returns-3 : tie.Need-returns-3
 returns-3 c =
@@ -37,4 +28,4 @@ returns-3 c =
 pub saved-frames-ok-spec : {M : Type 1} → statement M
 saved-frames-ok-spec =
     tie.close
-    (tie.spec returns frames-over-requires returns-2 mul-rest-ok rest-ok-requires returns-3)
+    (tie.spec returns (λ c κs. search needs) returns-2 (λ c. search needs) (λ c κs. search needs) returns-3)

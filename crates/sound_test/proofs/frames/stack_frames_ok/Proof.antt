@@ -7,20 +7,11 @@ use borrow.Author.Needs.{needs}
 use Rattle.sound_test.proofs.frames.stack_frames_ok.Statement.{statement}
 use Rattle.sound_test.proofs.frames.stack_frames_ok.Tie as tie
 
-frames-over-requires : tie.Need-frames-over-requires
-frames-over-requires c κs = search needs
-
 returns : tie.Need-returns
 returns c =
     let at-frames-over = c .before in let start = at-frames-over .before .before .before in
     let a = start .args in
     first-fails _ _ _ (at-frames-over .frames-over .result) (stack-frames (setupOf (a .setup .now)) (a .ws .now) (a .n) (a .height) (start .pre .inside)) (at-frames-over .frames-over .ensures) (not-true _ (c .if1 .taken))
-
-mul-rest-ok : tie.Need-mul-rest-ok
-mul-rest-ok c = search needs
-
-rest-ok-requires : tie.Need-rest-ok-requires
-rest-ok-requires c κs = search needs
 
 returns-2 : tie.Need-returns-2
 returns-2 c =
@@ -30,4 +21,4 @@ returns-2 c =
 
 pub stack-frames-ok-spec : {M : Type 1} → statement M
 stack-frames-ok-spec =
-    tie.close (tie.spec frames-over-requires returns mul-rest-ok rest-ok-requires returns-2)
+    tie.close (tie.spec (λ c κs. search needs) returns (λ c. search needs) (λ c κs. search needs) returns-2)

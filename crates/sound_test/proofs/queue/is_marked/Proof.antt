@@ -7,15 +7,6 @@ use borrow.Author.Needs.{needs}
 use Rattle.sound_test.proofs.queue.is_marked.Statement.{statement}
 use Rattle.sound_test.proofs.queue.is_marked.Tie as tie
 
-coro-place-requires : tie.Need-coro-place-requires
-coro-place-requires c κs = search needs
-
-enum-told : tie.Need-enum-told
-enum-told c = search needs
-
-enum-known-i : tie.Need-enum-known-i
-enum-known-i c = search needs
-
 task-at-requires : tie.Need-task-at-requires
 task-at-requires c κs =
     let at-i = c .before .before in let placed = at-i .before .before in let start = placed .before .before in
@@ -54,9 +45,9 @@ pub is-marked-spec : {M : Type 1} → statement M
 is-marked-spec =
     tie.close
     (tie.spec
-    coro-place-requires
-    enum-told
-    enum-known-i
+    (λ c κs. search needs)
+    (λ c. search needs)
+    (λ c. search needs)
     task-at-requires
     returns
     finalized-at-requires

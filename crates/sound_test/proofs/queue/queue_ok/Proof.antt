@@ -6,16 +6,10 @@ use borrow.Author.Needs.{needs}
 use Rattle.sound_test.proofs.queue.queue_ok.Statement.{statement}
 use Rattle.sound_test.proofs.queue.queue_ok.Tie as tie
 
-entries-ok-requires : tie.Need-entries-ok-requires
-entries-ok-requires c κs = search needs
-
 returns : tie.Need-returns
 returns c =
     let at-entries = c .before in
     first-fails _ _ _ (at-entries .entries-ok .result) refl (at-entries .entries-ok .ensures) (not-true _ (c .if1 .taken))
-
-rest-ok-requires : tie.Need-rest-ok-requires
-rest-ok-requires c κs = search needs
 
 returns-2 : tie.Need-returns-2
 returns-2 c =
@@ -23,4 +17,4 @@ returns-2 c =
     second-decides _ _ _ (at-entries .entries-ok .result) (c .rest-ok .result) refl (at-entries .entries-ok .ensures) (not-false _ (at-if1 .if1 .left)) (c .rest-ok .ensures)
 
 pub queue-ok-spec : {M : Type 1} → statement M
-queue-ok-spec = tie.close (tie.spec entries-ok-requires returns rest-ok-requires returns-2)
+queue-ok-spec = tie.close (tie.spec (λ c κs. search needs) returns (λ c κs. search needs) returns-2)

@@ -12,21 +12,6 @@ use Rattle.sound_test.proofs.rest.rest_ok.Tie as tie
 returns : tie.Need-returns
 returns c = let a = c .before .before .args in let h : length (a .ws .now) ≤ a .from = c .if1 .taken in sym (ap zeros (drop-of-length-le (a .ws .now) h))
 
-mul-all-zero : tie.Need-mul-all-zero
-mul-all-zero c = search needs
-
-sub-all-zero : tie.Need-sub-all-zero
-sub-all-zero c = search needs
-
-part-all-zero-start : tie.Need-part-all-zero-start
-part-all-zero-start c = search needs
-
-part-all-zero-end : tie.Need-part-all-zero-end
-part-all-zero-end c = search needs
-
-all-zero-requires : tie.Need-all-zero-requires
-all-zero-requires c κs = search needs
-
 returns-2 : tie.Need-returns-2
 returns-2 c =
     let a = c .before .before .before .before .args in let ws = a .ws .now in
@@ -36,4 +21,4 @@ returns-2 c =
 pub rest-ok-spec : {M : Type 1} → statement M
 rest-ok-spec =
     tie.close
-    (tie.spec returns mul-all-zero sub-all-zero part-all-zero-start part-all-zero-end all-zero-requires returns-2)
+    (tie.spec returns (λ c. search needs) (λ c. search needs) (λ c. search needs) (λ c. search needs) (λ c κs. search needs) returns-2)

@@ -10,26 +10,11 @@ use borrow.Author.Needs.{needs}
 use Rattle.sound_test.proofs.setup.function_ok.Statement.{statement}
 use Rattle.sound_test.proofs.setup.function_ok.Tie as tie
 
-mul-regs : tie.Need-mul-regs
-mul-regs c = search needs
-
-shared-slice-read-regs : tie.Need-shared-slice-read-regs
-shared-slice-read-regs c = search needs
-
 returns : tie.Need-returns
 returns c =
     let start = c .before .before .before in
     let ws = start .args .setup .now in let at = start .args .at in let k = getD ws (at + 2) 0 in
     sym (rw (lt-leb (getD ws at 0) 256 (c .if1 .taken)))
-
-add-if2 : tie.Need-add-if2
-add-if2 c = search needs
-
-mul-if2 : tie.Need-mul-if2
-mul-if2 c = search needs
-
-shared-slice-read-if2 : tie.Need-shared-slice-read-if2
-shared-slice-read-if2 c = search needs
 
 returns-2 : tie.Need-returns-2
 returns-2 c =
@@ -37,26 +22,11 @@ returns-2 c =
     let ws = start .args .setup .now in let at = start .args .at in let k = getD ws (at + 2) 0 in
     sym (rw (le-leb (getD ws at 0) 256 (at-if1 .if1 .left), lt-leb (getD ws (at + 1) 0) (getD ws at 0) (c .if2 .taken)))
 
-add-count : tie.Need-add-count
-add-count c = search needs
-
-mul-count : tie.Need-mul-count
-mul-count c = search needs
-
-shared-slice-read-count : tie.Need-shared-slice-read-count
-shared-slice-read-count c = search needs
-
 returns-3 : tie.Need-returns-3
 returns-3 c =
     let at-if2 = c .before .before in let at-if1 = at-if2 .before .before in let start = at-if1 .before .before .before in
     let ws = start .args .setup .now in let at = start .args .at in let k = getD ws (at + 2) 0 in
     sym (rw (le-leb (getD ws at 0) 256 (at-if1 .if1 .left), le-leb (getD ws (at + 1) 0) (getD ws at 0) (at-if2 .if2 .left), lt-leb k 8 (c .if3 .taken)))
-
-add-from : tie.Need-add-from
-add-from c = search needs
-
-handlers-ok-requires : tie.Need-handlers-ok-requires
-handlers-ok-requires c κs = search needs
 
 returns-4 : tie.Need-returns-4
 returns-4 c =
@@ -64,30 +34,6 @@ returns-4 c =
     let start = at-if1 .before .before .before in
     let ws = start .args .setup .now in let at = start .args .at in let k = getD ws (at + 2) 0 in
     sym (rw (le-leb (getD ws at 0) 256 (at-if1 .if1 .left), le-leb (getD ws (at + 1) 0) (getD ws at 0) (at-if2 .if2 .left), le-leb k 8 (at-if3 .if3 .left), sym (at-handlers-ok .handlers-ok .ensures) ∙ not-true _ (c .if4 .taken)))
-
-mul-a : tie.Need-mul-a
-mul-a c = search needs
-
-add-a : tie.Need-add-a
-add-a c = search needs
-
-add-e : tie.Need-add-e
-add-e c = search needs
-
-mul-all-zero : tie.Need-mul-all-zero
-mul-all-zero c = search needs
-
-sub-all-zero : tie.Need-sub-all-zero
-sub-all-zero c = search needs
-
-part-all-zero-start : tie.Need-part-all-zero-start
-part-all-zero-start c = search needs
-
-part-all-zero-end : tie.Need-part-all-zero-end
-part-all-zero-end c = search needs
-
-all-zero-requires : tie.Need-all-zero-requires
-all-zero-requires c κs = search needs
 
 returns-5 : tie.Need-returns-5
 returns-5 c =
@@ -107,26 +53,26 @@ pub function-ok-spec : {M : Type 1} → statement M
 function-ok-spec =
     tie.close
     (tie.spec
-    mul-regs
-    shared-slice-read-regs
+    (λ c. search needs)
+    (λ c. search needs)
     returns
-    add-if2
-    mul-if2
-    shared-slice-read-if2
+    (λ c. search needs)
+    (λ c. search needs)
+    (λ c. search needs)
     returns-2
-    add-count
-    mul-count
-    shared-slice-read-count
+    (λ c. search needs)
+    (λ c. search needs)
+    (λ c. search needs)
     returns-3
-    add-from
-    handlers-ok-requires
+    (λ c. search needs)
+    (λ c κs. search needs)
     returns-4
-    mul-a
-    add-a
-    add-e
-    mul-all-zero
-    sub-all-zero
-    part-all-zero-start
-    part-all-zero-end
-    all-zero-requires
+    (λ c. search needs)
+    (λ c. search needs)
+    (λ c. search needs)
+    (λ c. search needs)
+    (λ c. search needs)
+    (λ c. search needs)
+    (λ c. search needs)
+    (λ c κs. search needs)
     returns-5)

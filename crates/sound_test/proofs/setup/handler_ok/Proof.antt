@@ -7,25 +7,10 @@ use borrow.Author.Needs.{needs}
 use Rattle.sound_test.proofs.setup.handler_ok.Statement.{statement}
 use Rattle.sound_test.proofs.setup.handler_ok.Tie as tie
 
-add-if1 : tie.Need-add-if1
-add-if1 c = search needs
-
-mul-if1 : tie.Need-mul-if1
-mul-if1 c = search needs
-
-shared-slice-read-if1 : tie.Need-shared-slice-read-if1
-shared-slice-read-if1 c = search needs
-
 returns : tie.Need-returns
 returns c =
     let start = c .before .before in
     let ws = start .args .setup .now in let at = start .args .at in sym (rw (le-ltb (getD ws (at + 3) 0) (start .args .regs) (c .if1 .taken)))
-
-mul-if2 : tie.Need-mul-if2
-mul-if2 c = search needs
-
-shared-slice-read-if2 : tie.Need-shared-slice-read-if2
-shared-slice-read-if2 c = search needs
 
 returns-2 : tie.Need-returns-2
 returns-2 c =
@@ -33,29 +18,11 @@ returns-2 c =
     let ws = start .args .setup .now in
     let at = start .args .at in sym (rw (lt-ltb (getD ws (at + 3) 0) (start .args .regs) (at-if1 .if1 .left), le-ltb (getD ws at 0) (2 ^ 32) (c .if2 .taken)))
 
-add-if3 : tie.Need-add-if3
-add-if3 c = search needs
-
-mul-if3 : tie.Need-mul-if3
-mul-if3 c = search needs
-
-shared-slice-read-if3 : tie.Need-shared-slice-read-if3
-shared-slice-read-if3 c = search needs
-
 returns-3 : tie.Need-returns-3
 returns-3 c =
     let at-if2 = c .before .before in let at-if1 = at-if2 .before .before in let start = at-if1 .before .before in
     let ws = start .args .setup .now in
     let at = start .args .at in sym (rw (lt-ltb (getD ws (at + 3) 0) (start .args .regs) (at-if1 .if1 .left), lt-ltb (getD ws at 0) (2 ^ 32) (at-if2 .if2 .left), le-ltb (getD ws (at + 1) 0) (2 ^ 32) (c .if3 .taken)))
-
-add-result : tie.Need-add-result
-add-result c = search needs
-
-mul-result : tie.Need-mul-result
-mul-result c = search needs
-
-shared-slice-read-result : tie.Need-shared-slice-read-result
-shared-slice-read-result c = search needs
 
 returns-4 : tie.Need-returns-4
 returns-4 c =
@@ -67,18 +34,18 @@ pub handler-ok-spec : {M : Type 1} → statement M
 handler-ok-spec =
     tie.close
     (tie.spec
-    add-if1
-    mul-if1
-    shared-slice-read-if1
+    (λ c. search needs)
+    (λ c. search needs)
+    (λ c. search needs)
     returns
-    mul-if2
-    shared-slice-read-if2
+    (λ c. search needs)
+    (λ c. search needs)
     returns-2
-    add-if3
-    mul-if3
-    shared-slice-read-if3
+    (λ c. search needs)
+    (λ c. search needs)
+    (λ c. search needs)
     returns-3
-    add-result
-    mul-result
-    shared-slice-read-result
+    (λ c. search needs)
+    (λ c. search needs)
+    (λ c. search needs)
     returns-4)

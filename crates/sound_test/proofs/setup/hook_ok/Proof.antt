@@ -4,12 +4,6 @@ use borrow.Author.Needs.{needs}
 use Rattle.sound_test.proofs.setup.hook_ok.Statement.{statement}
 use Rattle.sound_test.proofs.setup.hook_ok.Tie as tie
 
-shared-slice-read-code : tie.Need-shared-slice-read-code
-shared-slice-read-code c = search needs
-
-shared-slice-read-hook : tie.Need-shared-slice-read-hook
-shared-slice-read-hook c = search needs
-
 returns : tie.Need-returns
 returns c =
     let start = c .before .before .before in
@@ -20,25 +14,10 @@ returns-2 c =
     let at-if1 = c .before in let start = at-if1 .before .before .before in
     bad-code (start .args .setup .now) (at-if1 .if1 .left) (c .if2 .taken)
 
-shared-slice-read-if3 : tie.Need-shared-slice-read-if3
-shared-slice-read-if3 c = search needs
-
 returns-3 : tie.Need-returns-3
 returns-3 c =
     let at-if2 = c .before .before in let at-if1 = at-if2 .before in let start = at-if1 .before .before .before in
     no-function (start .args .setup .now) (at-if1 .if1 .left) (at-if2 .if2 .left) (c .if3 .taken)
-
-mul-result : tie.Need-mul-result
-mul-result c = search needs
-
-add-result : tie.Need-add-result
-add-result c = search needs
-
-mul-result-2 : tie.Need-mul-result-2
-mul-result-2 c = search needs
-
-shared-slice-read-result : tie.Need-shared-slice-read-result
-shared-slice-read-result c = search needs
 
 returns-4 : tie.Need-returns-4
 returns-4 c =
@@ -49,14 +28,14 @@ pub hook-ok-spec : {M : Type 1} → statement M
 hook-ok-spec =
     tie.close
     (tie.spec
-    shared-slice-read-code
-    shared-slice-read-hook
+    (λ c. search needs)
+    (λ c. search needs)
     returns
     returns-2
-    shared-slice-read-if3
+    (λ c. search needs)
     returns-3
-    mul-result
-    add-result
-    mul-result-2
-    shared-slice-read-result
+    (λ c. search needs)
+    (λ c. search needs)
+    (λ c. search needs)
+    (λ c. search needs)
     returns-4)

@@ -11,32 +11,20 @@ use borrow.Author.Needs.{needs}
 use Rattle.sound_test.proofs.setup.limits_ok.Statement.{statement}
 use Rattle.sound_test.proofs.setup.limits_ok.Tie as tie
 
-between-requires : tie.Need-between-requires
-between-requires c κs = search needs
-
 returns : tie.Need-returns
 returns c =
     let at-between = c .before in
     sym (rw (sym (at-between .between .ensures) ∙ not-true _ (c .if1 .taken)))
-
-between-requires-2 : tie.Need-between-requires-2
-between-requires-2 c κs = search needs
 
 returns-2 : tie.Need-returns-2
 returns-2 c =
     let at-between2 = c .before in let at-if1 = at-between2 .before in let at-between = at-if1 .before in
     sym (rw (sym (at-between .between .ensures) ∙ not-false _ (at-if1 .if1 .left), sym (at-between2 .between2 .ensures) ∙ not-true _ (c .if2 .taken)))
 
-between-requires-3 : tie.Need-between-requires-3
-between-requires-3 c κs = search needs
-
 returns-3 : tie.Need-returns-3
 returns-3 c =
     let at-between3 = c .before in let at-if2 = at-between3 .before in let at-between2 = at-if2 .before in let at-if1 = at-between2 .before in let at-between = at-if1 .before in
     sym (rw (sym (at-between .between .ensures) ∙ not-false _ (at-if1 .if1 .left), sym (at-between2 .between2 .ensures) ∙ not-false _ (at-if2 .if2 .left), sym (at-between3 .between3 .ensures) ∙ not-true _ (c .if3 .taken)))
-
-between-requires-4 : tie.Need-between-requires-4
-between-requires-4 c κs = search needs
 
 returns-4 : tie.Need-returns-4
 returns-4 c =
@@ -50,11 +38,11 @@ pub limits-ok-spec : {M : Type 1} → statement M
 limits-ok-spec =
     tie.close
     (tie.spec
-    between-requires
+    (λ c κs. search needs)
     returns
-    between-requires-2
+    (λ c κs. search needs)
     returns-2
-    between-requires-3
+    (λ c κs. search needs)
     returns-3
-    between-requires-4
+    (λ c κs. search needs)
     returns-4)

@@ -14,12 +14,6 @@ returns c =
     let start = c .before .before in
     sym (rw (lt-leb 14 (length (start .args .setup .now)) (c .if1 .taken)))
 
-shared-slice-read-n : tie.Need-shared-slice-read-n
-shared-slice-read-n c = search needs
-
-between-requires : tie.Need-between-requires
-between-requires c κs = search needs
-
 returns-2 : tie.Need-returns-2
 returns-2 c =
     let at-between = c .before in let at-if1 = at-between .before .before in let start = at-if1 .before .before in
@@ -45,4 +39,4 @@ returns-3 c =
 pub long-ok-spec : {M : Type 1} → statement M
 long-ok-spec =
     tie.close
-    (tie.spec returns shared-slice-read-n between-requires returns-2 mul-need add-need returns-3)
+    (tie.spec returns (λ c. search needs) (λ c κs. search needs) returns-2 mul-need add-need returns-3)

@@ -10,9 +10,6 @@ use borrow.Author.Needs.{needs}
 use Rattle.sound_test.proofs.setup.setup_held.Statement.{statement}
 use Rattle.sound_test.proofs.setup.setup_held.Tie as tie
 
-long-ok-requires : tie.Need-long-ok-requires
-long-ok-requires c κs = search needs
-
 returns : tie.Need-returns
 returns c =
     let at-long-ok = c .before in let start = at-long-ok .before .before in
@@ -34,9 +31,6 @@ limits-requires c κs =
     let l = long-of ws (sym (at-long-ok .long-ok .ensures) ∙ not-false _ (at-if1 .if1 .left)) in
     omega (arith, l)
 
-limits-ok-requires : tie.Need-limits-ok-requires
-limits-ok-requires c κs = search needs
-
 returns-2 : tie.Need-returns-2
 returns-2 c =
     let at-limits-ok = c .before in let at-limits = at-limits-ok .before in let at-if1 = at-limits .before .before in let at-long-ok = at-if1 .before in
@@ -52,9 +46,6 @@ costs-requires c κs =
     let ws = start .args .setup .now in
     let l = long-of ws (sym (at-long-ok .long-ok .ensures) ∙ not-false _ (at-if1 .if1 .left)) in
     omega (arith, l)
-
-costs-ok-requires : tie.Need-costs-ok-requires
-costs-ok-requires c κs = search needs
 
 returns-3 : tie.Need-returns-3
 returns-3 c =
@@ -151,9 +142,6 @@ add-rest-ok c =
     let l = long-of ws (sym (at-long-ok .long-ok .ensures) ∙ not-false _ (at-if1 .if1 .left)) in
     omega (arith, l)
 
-rest-ok-requires : tie.Need-rest-ok-requires
-rest-ok-requires c κs = search needs
-
 returns-7 : tie.Need-returns-7
 returns-7 c =
     let at-if6 = c .before in let at-hook-ok = at-if6 .before in let at-if5 = at-hook-ok .before in let at-functions-ok = at-if5 .before in
@@ -174,14 +162,14 @@ pub setup-held-spec : {M : Type 1} → statement M
 setup-held-spec =
     tie.close
     (tie.spec
-    long-ok-requires
+    (λ c κs. search needs)
     returns
     shared-slice-read-n
     limits-requires
-    limits-ok-requires
+    (λ c κs. search needs)
     returns-2
     costs-requires
-    costs-ok-requires
+    (λ c κs. search needs)
     returns-3
     shared-slice-read-if4
     shared-slice-read-if4-2
@@ -192,5 +180,5 @@ setup-held-spec =
     returns-6
     mul-rest-ok
     add-rest-ok
-    rest-ok-requires
+    (λ c κs. search needs)
     returns-7)

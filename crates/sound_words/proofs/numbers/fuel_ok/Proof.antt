@@ -5,12 +5,6 @@ use borrow.Author.Needs.{needs}
 use Rattle.sound_words.proofs.numbers.fuel_ok.Statement.{statement}
 use Rattle.sound_words.proofs.numbers.fuel_ok.Tie as tie
 
-enum-told : tie.Need-enum-told
-enum-told c = search needs
-
-enum-told-2 : tie.Need-enum-told-2
-enum-told-2 c = search needs
-
 returns : tie.Need-returns
 returns c = search needs
 
@@ -20,4 +14,4 @@ returns-2 c =
     a-bank (start .args .f .bank) _ (eqb (start .args .f .fuel) 0) (at-enum-told2 .enum-told2 .given .1)
 
 pub fuel-ok-spec : {M : Type 1} → statement M
-fuel-ok-spec = tie.close (tie.spec enum-told enum-told-2 returns returns-2)
+fuel-ok-spec = tie.close (tie.spec (λ c. search needs) (λ c. search needs) returns returns-2)

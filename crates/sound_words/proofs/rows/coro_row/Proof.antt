@@ -20,18 +20,12 @@ returns c =
     bad-coro (a .l) (setupOf (a .setup .now)) (a .saved .now) (a .asleep .now) (a .c) (inSet (a .set .now)) (a .i)
     (sym (at-coro-ok .coro-ok .ensures) ∙ not-true _ (c .if1 .taken))
 
-is-finished-requires : tie.Need-is-finished-requires
-is-finished-requires c κs = search needs
-
 returns-2 : tie.Need-returns-2
 returns-2 c =
     let at-is-finished = c .before in let at-if1 = at-is-finished .before in let at-coro-ok = at-if1 .before in let start = at-coro-ok .before .before .before .before in
     let a = start .args in
     no-row (a .l) (setupOf (a .setup .now)) (a .saved .now) (a .asleep .now) (a .c) (inSet (a .set .now)) (a .i)
     (sym (at-coro-ok .coro-ok .ensures) ∙ not-false _ (at-if1 .if1 .left)) (sym (at-is-finished .is-finished .ensures) ∙ c .if2 .taken)
-
-is-running-requires : tie.Need-is-running-requires
-is-running-requires c κs = search needs
 
 in-set-requires : tie.Need-in-set-requires
 in-set-requires c κs =
@@ -72,9 +66,9 @@ coro-row-spec =
     (tie.spec
     coro-ok-requires
     returns
-    is-finished-requires
+    (λ c κs. search needs)
     returns-2
-    is-running-requires
+    (λ c κs. search needs)
     in-set-requires
     returns-3
     returns-4

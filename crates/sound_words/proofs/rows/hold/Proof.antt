@@ -8,9 +8,6 @@ use borrow.Author.Needs.{needs}
 use Rattle.sound_words.proofs.rows.hold.Statement.{statement}
 use Rattle.sound_words.proofs.rows.hold.Tie as tie
 
-with-bit-requires : tie.Need-with-bit-requires
-with-bit-requires c κs = search needs
-
 returns : tie.Need-returns
 returns c = λ j h. c .with-bit .ensures j
 
@@ -20,4 +17,4 @@ returns-2 c =
     λ j h. sym (ap (λ b. b || bitAt (start .args .mask) j) (ne-eqb j (start .args .row) (λ e. omega (arith, c .if1 .left))))
 
 pub hold-spec : {M : Type 1} → statement M
-hold-spec = tie.close (tie.spec with-bit-requires returns returns-2)
+hold-spec = tie.close (tie.spec (λ c κs. search needs) returns returns-2)

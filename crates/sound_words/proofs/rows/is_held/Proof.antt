@@ -7,9 +7,6 @@ use borrow.Author.Needs.{needs}
 use Rattle.sound_words.proofs.rows.is_held.Statement.{statement}
 use Rattle.sound_words.proofs.rows.is_held.Tie as tie
 
-bit-requires : tie.Need-bit-requires
-bit-requires c κs = search needs
-
 returns : tie.Need-returns
 returns c =
     let at-if1 = c .before in let start = at-if1 .before in
@@ -21,4 +18,4 @@ returns-2 c =
     sym (ap (λ b. b && bitAt (start .args .mask) (start .args .row)) (le-ltb (start .args .row) 64 (c .if1 .left)))
 
 pub is-held-spec : {M : Type 1} → statement M
-is-held-spec = tie.close (tie.spec bit-requires returns returns-2)
+is-held-spec = tie.close (tie.spec (λ c κs. search needs) returns returns-2)

@@ -6,18 +6,6 @@ use Rattle.sound_words.specs.Running.{running}
 use Rattle.sound_words.proofs.running.is_running.Statement.{statement}
 use Rattle.sound_words.proofs.running.is_running.Tie as tie
 
-coro-requires : tie.Need-coro-requires
-coro-requires c κs = search needs
-
-enum-told : tie.Need-enum-told
-enum-told c = search needs
-
-enum-known-c : tie.Need-enum-known-c
-enum-known-c c = search needs
-
-is-running-requires : tie.Need-is-running-requires
-is-running-requires c κs = search needs
-
 returns : tie.Need-returns
 returns c =
     let at-coro = c .before .before in
@@ -30,4 +18,4 @@ returns-2 c =
 
 pub is-running-spec : {M : Type 1} → statement M
 is-running-spec =
-    tie.close (tie.spec coro-requires enum-told enum-known-c is-running-requires returns returns-2)
+    tie.close (tie.spec (λ c κs. search needs) (λ c. search needs) (λ c. search needs) (λ c κs. search needs) returns returns-2)

@@ -6,12 +6,6 @@ use Rattle.sound_words.proofs.Waiting.{resumable-frames, has-frames, ha
 use Rattle.sound_words.proofs.saved.frames_in.Statement.{statement}
 use Rattle.sound_words.proofs.saved.frames_in.Tie as tie
 
-is-resumable-requires : tie.Need-is-resumable-requires
-is-resumable-requires c κs = search needs
-
-frames-saved-requires : tie.Need-frames-saved-requires
-frames-saved-requires c κs = search needs
-
 returns : tie.Need-returns
 returns c =
     let at-if1 = c .before in let at-is-resumable = at-if1 .before in let start = at-is-resumable .before .before .before in
@@ -33,9 +27,6 @@ returns-3 c =
     has-regs (setupOf (a .setup .now)) (a .ws .now) (a .c) (sym (at-is-resumable .is-resumable .ensures) ∙ at-if1 .if1 .left) (at-if2 .if2 .left)
     (c .if3 .taken)
 
-rest-ok-requires : tie.Need-rest-ok-requires
-rest-ok-requires c κs = search needs
-
 returns-4 : tie.Need-returns-4
 returns-4 c =
     let at-if3 = c .before in let at-if2 = at-if3 .before .before in let at-if1 = at-if2 .before .before in let at-is-resumable = at-if1 .before in
@@ -48,10 +39,10 @@ pub frames-in-spec : {M : Type 1} → statement M
 frames-in-spec =
     tie.close
     (tie.spec
-    is-resumable-requires
-    frames-saved-requires
+    (λ c κs. search needs)
+    (λ c κs. search needs)
     returns
     returns-2
     returns-3
-    rest-ok-requires
+    (λ c κs. search needs)
     returns-4)

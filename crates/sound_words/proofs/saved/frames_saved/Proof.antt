@@ -8,9 +8,6 @@ use Rattle.sound_words.proofs.Waiting.{some-frame}
 use Rattle.sound_words.proofs.saved.frames_saved.Statement.{statement}
 use Rattle.sound_words.proofs.saved.frames_saved.Tie as tie
 
-saved-frames-ok-requires : tie.Need-saved-frames-ok-requires
-saved-frames-ok-requires c κs = search needs
-
 returns : tie.Need-returns
 returns c =
     let at-saved-frames-ok = c .before in
@@ -30,4 +27,4 @@ returns-2 c =
 
 pub frames-saved-spec : {M : Type 1} → statement M
 frames-saved-spec =
-    tie.close (tie.spec saved-frames-ok-requires returns waits-ok-requires returns-2)
+    tie.close (tie.spec (λ c κs. search needs) returns waits-ok-requires returns-2)

@@ -9,27 +9,6 @@ use borrow.Author.Needs.{needs}
 use Rattle.sound_words.proofs.saved.row_frames.Statement.{statement}
 use Rattle.sound_words.proofs.saved.row_frames.Tie as tie
 
-mul-b : tie.Need-mul-b
-mul-b c = search needs
-
-add-e : tie.Need-add-e
-add-e c = search needs
-
-mul-frames-in : tie.Need-mul-frames-in
-mul-frames-in c = search needs
-
-sub-frames-in : tie.Need-sub-frames-in
-sub-frames-in c = search needs
-
-part-frames-in-start : tie.Need-part-frames-in-start
-part-frames-in-start c = search needs
-
-part-frames-in-end : tie.Need-part-frames-in-end
-part-frames-in-end c = search needs
-
-frames-in-requires : tie.Need-frames-in-requires
-frames-in-requires c κs = search needs
-
 returns : tie.Need-returns
 returns c =
     let start = c .before .before .before .before in
@@ -42,11 +21,11 @@ pub row-frames-spec : {M : Type 1} → statement M
 row-frames-spec =
     tie.close
     (tie.spec
-    mul-b
-    add-e
-    mul-frames-in
-    sub-frames-in
-    part-frames-in-start
-    part-frames-in-end
-    frames-in-requires
+    (λ c. search needs)
+    (λ c. search needs)
+    (λ c. search needs)
+    (λ c. search needs)
+    (λ c. search needs)
+    (λ c. search needs)
+    (λ c κs. search needs)
     returns)

@@ -1,6 +1,7 @@
 -- `sizes_ok` meets its contract. Assumes nothing.
-use mathlib.Core.Path.{sym}
+use mathlib.Core.Path.{sym, _∙_}
 use borrow.Author.Tests.{le-leb, lt-leb}
+use borrow.Author.Needs.{needs}
 use Rattle.sound_words.proofs.saved.sizes_ok.Statement.{statement}
 use Rattle.sound_words.proofs.saved.sizes_ok.Tie as tie
 
@@ -18,17 +19,9 @@ returns-2 c =
 
 returns-3 : tie.Need-returns-3
 returns-3 c =
-    let at-if2 = c .before .before in let at-if1 = at-if2 .before .before in let start = at-if1 .before .before in
+    let at-if2 = c .before in let at-if1 = at-if2 .before .before in let start = at-if1 .before .before in
     let a = start .args in
-    sym
-    (rw (le-leb (a .c .regs) (a .l .width) (at-if1 .if1 .left), le-leb (a .c .frames) (a .l .depth) (at-if2 .if2 .left), lt-leb (a .c .maxregs) (a .l .width) (c .if3 .taken)))
-
-returns-4 : tie.Need-returns-4
-returns-4 c =
-    let at-if3 = c .before in let at-if2 = at-if3 .before .before in let at-if1 = at-if2 .before .before in let start = at-if1 .before .before in
-    let a = start .args in
-    sym
-    (rw (le-leb (a .c .regs) (a .l .width) (at-if1 .if1 .left), le-leb (a .c .frames) (a .l .depth) (at-if2 .if2 .left), le-leb (a .c .maxregs) (a .l .width) (at-if3 .if3 .left)))
+    c .largest-ok .ensures ∙ sym (rw (le-leb (a .c .regs) (a .l .width) (at-if1 .if1 .left), le-leb (a .c .frames) (a .l .depth) (at-if2 .if2 .left)))
 
 pub sizes-ok-spec : {M : Type 1} → statement M
-sizes-ok-spec = tie.close (tie.spec returns returns-2 returns-3 returns-4)
+sizes-ok-spec = tie.close (tie.spec returns returns-2 (λ c κs. search needs) returns-3)

@@ -8,20 +8,11 @@ use Rattle.sound_words.proofs.Waiting.{not-waiting, waits-far, waits-ne
 use Rattle.sound_words.proofs.saved.waits_ok.Statement.{statement}
 use Rattle.sound_words.proofs.saved.waits_ok.Tie as tie
 
-is-suspended-requires : tie.Need-is-suspended-requires
-is-suspended-requires c κs = search needs
-
 returns : tie.Need-returns
 returns c =
     let at-is-suspended = c .before in let start = at-is-suspended .before .before in
     let a = start .args in
     not-waiting (a .ws .now) (a .c) (sym (at-is-suspended .is-suspended .ensures) ∙ not-true _ (c .if1 .taken))
-
-sub-top : tie.Need-sub-top
-sub-top c = search needs
-
-base-at-requires : tie.Need-base-at-requires
-base-at-requires c κs = search needs
 
 returns-2 : tie.Need-returns-2
 returns-2 c =
@@ -29,9 +20,6 @@ returns-2 c =
     let a = start .args in
     waits-far (a .ws .now) (a .c) (sym (at-is-suspended .is-suspended .ensures) ∙ not-false _ (at-if1 .if1 .left)) (start .pre .0)
     (subst (λ (x : ℕ). a .c .regs ≤ x) (at-base .base-at .ensures) (c .if2 .taken))
-
-sub-result : tie.Need-sub-result
-sub-result c = search needs
 
 returns-3 : tie.Need-returns-3
 returns-3 c =
@@ -46,10 +34,10 @@ pub waits-ok-spec : {M : Type 1} → statement M
 waits-ok-spec =
     tie.close
     (tie.spec
-    is-suspended-requires
+    (λ c κs. search needs)
     returns
-    sub-top
-    base-at-requires
+    (λ c. search needs)
+    (λ c κs. search needs)
     returns-2
-    sub-result
+    (λ c. search needs)
     returns-3)

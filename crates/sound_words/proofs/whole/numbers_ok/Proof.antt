@@ -14,17 +14,11 @@ returns c =
     let at-room-ok = c .before in
     four-1 _ _ _ _ _ refl (sym (at-room-ok .room-ok .ensures) ∙ not-true _ (c .if1 .taken))
 
-counts-ok-requires : tie.Need-counts-ok-requires
-counts-ok-requires c κs = search needs
-
 returns-2 : tie.Need-returns-2
 returns-2 c =
     let at-counts-ok = c .before in let at-if1 = at-counts-ok .before in let at-room-ok = at-if1 .before in
     four-2 _ _ _ _ _ refl (sym (at-room-ok .room-ok .ensures) ∙ not-false _ (at-if1 .if1 .left))
     (sym (at-counts-ok .counts-ok .ensures) ∙ not-true _ (c .if2 .taken))
-
-outcome-ok-requires : tie.Need-outcome-ok-requires
-outcome-ok-requires c κs = search needs
 
 returns-3 : tie.Need-returns-3
 returns-3 c =
@@ -32,9 +26,6 @@ returns-3 c =
     let at-room-ok = at-if1 .before in
     four-3 _ _ _ _ _ refl (sym (at-room-ok .room-ok .ensures) ∙ not-false _ (at-if1 .if1 .left))
     (sym (at-counts-ok .counts-ok .ensures) ∙ not-false _ (at-if2 .if2 .left)) (sym (at-outcome-ok .outcome-ok .ensures) ∙ not-true _ (c .if3 .taken))
-
-fuel-ok-requires : tie.Need-fuel-ok-requires
-fuel-ok-requires c κs = search needs
 
 returns-4 : tie.Need-returns-4
 returns-4 c =
@@ -50,9 +41,9 @@ numbers-ok-spec =
     (tie.spec
     room-ok-requires
     returns
-    counts-ok-requires
+    (λ c κs. search needs)
     returns-2
-    outcome-ok-requires
+    (λ c κs. search needs)
     returns-3
-    fuel-ok-requires
+    (λ c κs. search needs)
     returns-4)

@@ -58,9 +58,6 @@ objects c b e =
     (ap (λ (l : Sizes). objectsTest l (setupOf (a .setup .now)) (a .chain .now) (a .slots .now) (a .saved .now) (a .asleep .now) (a .m)) (at-sizes .sizes .ensures .words))
     ∙ sym (c .objects-ok .ensures) ∙ e
 
-setup-held-requires : tie.Need-setup-held-requires
-setup-held-requires c κs = search needs
-
 returns : tie.Need-returns
 returns c =
     let at-setup-held = c .before in let start = at-setup-held .before .before .before .before .before .before .before .before .before .before in
@@ -143,7 +140,7 @@ pub sound-words-spec : {M : Type 1} → statement M
 sound-words-spec =
     tie.close
     (tie.spec
-    setup-held-requires
+    (λ c κs. search needs)
     returns
     sizes-requires
     numbers-ok-requires

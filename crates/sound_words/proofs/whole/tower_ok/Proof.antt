@@ -27,9 +27,6 @@ returns-2 c =
     three-2 _ _ _ _ refl (sym (at-stack-frames-ok .stack-frames-ok .ensures) ∙ not-false _ (at-if1 .if1 .left))
     (sym (at-chain-ok .chain-ok .ensures) ∙ not-true _ (c .if2 .taken))
 
-rest-ok-requires : tie.Need-rest-ok-requires
-rest-ok-requires c κs = search needs
-
 returns-3 : tie.Need-returns-3
 returns-3 c =
     let at-if2 = c .before in let at-chain-ok = at-if2 .before in let at-if1 = at-chain-ok .before in let at-stack-frames-ok = at-if1 .before in
@@ -44,5 +41,5 @@ tower-ok-spec =
     returns
     chain-ok-requires
     returns-2
-    rest-ok-requires
+    (λ c κs. search needs)
     returns-3)

@@ -8,74 +8,20 @@ use borrow.Author.Needs.{needs}
 use Rattle.tables.proofs.active.put_active.Statement.{statement}
 use Rattle.tables.proofs.active.put_active.Tie as tie
 
-mul-at : tie.Need-mul-at
-mul-at c = search needs
-
-mul-chain : tie.Need-mul-chain
-mul-chain c = search needs
-
-slice-write-chain : tie.Need-slice-write-chain
-slice-write-chain c = search needs
-
-add-chain : tie.Need-add-chain
-add-chain c = search needs
-
-mul-chain-2 : tie.Need-mul-chain-2
-mul-chain-2 c = search needs
-
 slice-write-chain-2 : tie.Need-slice-write-chain-2
 slice-write-chain-2 c = simp length-set (omega arith)
-
-driver-code-requires : tie.Need-driver-code-requires
-driver-code-requires c κs = search needs
-
-add-chain-2 : tie.Need-add-chain-2
-add-chain-2 c = search needs
-
-mul-chain-3 : tie.Need-mul-chain-3
-mul-chain-3 c = search needs
 
 slice-write-chain-3 : tie.Need-slice-write-chain-3
 slice-write-chain-3 c = simp length-set (omega arith)
 
-driver-first-requires : tie.Need-driver-first-requires
-driver-first-requires c κs = search needs
-
-add-chain-3 : tie.Need-add-chain-3
-add-chain-3 c = search needs
-
-mul-chain-4 : tie.Need-mul-chain-4
-mul-chain-4 c = search needs
-
 slice-write-chain-4 : tie.Need-slice-write-chain-4
 slice-write-chain-4 c = simp length-set (omega arith)
-
-driver-second-requires : tie.Need-driver-second-requires
-driver-second-requires c κs = search needs
-
-add-chain-4 : tie.Need-add-chain-4
-add-chain-4 c = search needs
-
-mul-chain-5 : tie.Need-mul-chain-5
-mul-chain-5 c = search needs
 
 slice-write-chain-5 : tie.Need-slice-write-chain-5
 slice-write-chain-5 c = simp length-set (omega arith)
 
-driver-third-requires : tie.Need-driver-third-requires
-driver-third-requires c κs = search needs
-
-add-chain-5 : tie.Need-add-chain-5
-add-chain-5 c = search needs
-
-mul-chain-6 : tie.Need-mul-chain-6
-mul-chain-6 c = search needs
-
 slice-write-chain-6 : tie.Need-slice-write-chain-6
 slice-write-chain-6 c = simp length-set (omega arith)
-
-same-length : tie.Need-same-length
-same-length c = search needs
 
 returns : tie.Need-returns
 returns c =
@@ -89,27 +35,27 @@ pub put-active-spec : {M : Type 1} → statement M
 put-active-spec =
     tie.close
     (tie.spec
-    mul-at
-    mul-chain
-    slice-write-chain
-    add-chain
-    mul-chain-2
+    (λ c. search needs)
+    (λ c. search needs)
+    (λ c. search needs)
+    (λ c. search needs)
+    (λ c. search needs)
     slice-write-chain-2
-    driver-code-requires
-    add-chain-2
-    mul-chain-3
+    (λ c κs. search needs)
+    (λ c. search needs)
+    (λ c. search needs)
     slice-write-chain-3
-    driver-first-requires
-    add-chain-3
-    mul-chain-4
+    (λ c κs. search needs)
+    (λ c. search needs)
+    (λ c. search needs)
     slice-write-chain-4
-    driver-second-requires
-    add-chain-4
-    mul-chain-5
+    (λ c κs. search needs)
+    (λ c. search needs)
+    (λ c. search needs)
     slice-write-chain-5
-    driver-third-requires
-    add-chain-5
-    mul-chain-6
+    (λ c κs. search needs)
+    (λ c. search needs)
+    (λ c. search needs)
     slice-write-chain-6
-    same-length
+    (λ c. search needs)
     returns)

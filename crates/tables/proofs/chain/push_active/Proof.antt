@@ -11,12 +11,6 @@ use borrow.Author.Needs.{needs}
 use Rattle.tables.proofs.chain.push_active.Statement.{statement}
 use Rattle.tables.proofs.chain.push_active.Tie as tie
 
-put-active-requires : tie.Need-put-active-requires
-put-active-requires c κs = search needs
-
-same-length : tie.Need-same-length
-same-length c = search needs
-
 returns : tie.Need-returns
 returns c =
     let at-put-active = c .before .before in let start = at-put-active .before .before .before in
@@ -25,4 +19,4 @@ returns c =
     λ cs p. subst (λ ws. Chain (a ∷ cs) ws (z .n + 1)) (sym (at-put-active .put-active .ensures)) (pushes activeWords length-active (z .chain .now) (z .n) a cs (start .pre) p)
 
 pub push-active-spec : {M : Type 1} → statement M
-push-active-spec = tie.close (tie.spec put-active-requires same-length returns)
+push-active-spec = tie.close (tie.spec (λ c κs. search needs) (λ c. search needs) returns)

@@ -8,68 +8,20 @@ use borrow.Author.Needs.{needs}
 use Rattle.tables.proofs.frame.put_frame.Statement.{statement}
 use Rattle.tables.proofs.frame.put_frame.Tie as tie
 
-mul-at : tie.Need-mul-at
-mul-at c = search needs
-
-mul-frames : tie.Need-mul-frames
-mul-frames c = search needs
-
-slice-write-frames : tie.Need-slice-write-frames
-slice-write-frames c = search needs
-
-add-frames : tie.Need-add-frames
-add-frames c = search needs
-
-mul-frames-2 : tie.Need-mul-frames-2
-mul-frames-2 c = search needs
-
 slice-write-frames-2 : tie.Need-slice-write-frames-2
 slice-write-frames-2 c = simp length-set (omega arith)
-
-add-frames-2 : tie.Need-add-frames-2
-add-frames-2 c = search needs
-
-mul-frames-3 : tie.Need-mul-frames-3
-mul-frames-3 c = search needs
 
 slice-write-frames-3 : tie.Need-slice-write-frames-3
 slice-write-frames-3 c = simp length-set (omega arith)
 
-add-frames-3 : tie.Need-add-frames-3
-add-frames-3 c = search needs
-
-mul-frames-4 : tie.Need-mul-frames-4
-mul-frames-4 c = search needs
-
 slice-write-frames-4 : tie.Need-slice-write-frames-4
 slice-write-frames-4 c = simp length-set (omega arith)
-
-cont-code-requires : tie.Need-cont-code-requires
-cont-code-requires c κs = search needs
-
-add-frames-4 : tie.Need-add-frames-4
-add-frames-4 c = search needs
-
-mul-frames-5 : tie.Need-mul-frames-5
-mul-frames-5 c = search needs
 
 slice-write-frames-5 : tie.Need-slice-write-frames-5
 slice-write-frames-5 c = simp length-set (omega arith)
 
-cont-reg-requires : tie.Need-cont-reg-requires
-cont-reg-requires c κs = search needs
-
-add-frames-5 : tie.Need-add-frames-5
-add-frames-5 c = search needs
-
-mul-frames-6 : tie.Need-mul-frames-6
-mul-frames-6 c = search needs
-
 slice-write-frames-6 : tie.Need-slice-write-frames-6
 slice-write-frames-6 c = simp length-set (omega arith)
-
-same-length : tie.Need-same-length
-same-length c = search needs
 
 returns : tie.Need-returns
 returns c =
@@ -81,25 +33,25 @@ pub put-frame-spec : {M : Type 1} → statement M
 put-frame-spec =
     tie.close
     (tie.spec
-    mul-at
-    mul-frames
-    slice-write-frames
-    add-frames
-    mul-frames-2
+    (λ c. search needs)
+    (λ c. search needs)
+    (λ c. search needs)
+    (λ c. search needs)
+    (λ c. search needs)
     slice-write-frames-2
-    add-frames-2
-    mul-frames-3
+    (λ c. search needs)
+    (λ c. search needs)
     slice-write-frames-3
-    add-frames-3
-    mul-frames-4
+    (λ c. search needs)
+    (λ c. search needs)
     slice-write-frames-4
-    cont-code-requires
-    add-frames-4
-    mul-frames-5
+    (λ c κs. search needs)
+    (λ c. search needs)
+    (λ c. search needs)
     slice-write-frames-5
-    cont-reg-requires
-    add-frames-5
-    mul-frames-6
+    (λ c κs. search needs)
+    (λ c. search needs)
+    (λ c. search needs)
     slice-write-frames-6
-    same-length
+    (λ c. search needs)
     returns)

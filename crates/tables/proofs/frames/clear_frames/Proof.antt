@@ -6,15 +6,6 @@ use borrow.Author.Needs.{needs}
 use Rattle.tables.proofs.frames.clear_frames.Statement.{statement}
 use Rattle.tables.proofs.frames.clear_frames.Tie as tie
 
-mul-clear-part : tie.Need-mul-clear-part
-mul-clear-part c = search needs
-
-clear-part-requires : tie.Need-clear-part-requires
-clear-part-requires c κs = search needs
-
-same-length : tie.Need-same-length
-same-length c = search needs
-
 returns : tie.Need-returns
 returns c =
     let cleared = c .before .before in
@@ -22,4 +13,4 @@ returns c =
     clears frameWords length-frame (begin .frames .now) (cleared .clear-part .last .0) (begin .depth) (cleared .clear-part .ensures)
 
 pub clear-frames-spec : {M : Type 1} → statement M
-clear-frames-spec = tie.close (tie.spec mul-clear-part clear-part-requires same-length returns)
+clear-frames-spec = tie.close (tie.spec (λ c. search needs) (λ c κs. search needs) (λ c. search needs) returns)

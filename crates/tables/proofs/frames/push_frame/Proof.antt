@@ -11,12 +11,6 @@ use borrow.Author.Needs.{needs}
 use Rattle.tables.proofs.frames.push_frame.Statement.{statement}
 use Rattle.tables.proofs.frames.push_frame.Tie as tie
 
-put-frame-requires : tie.Need-put-frame-requires
-put-frame-requires c κs = search needs
-
-same-length : tie.Need-same-length
-same-length c = search needs
-
 returns : tie.Need-returns
 returns c =
     let at-put-frame = c .before .before in let start = at-put-frame .before .before .before in
@@ -25,4 +19,4 @@ returns c =
     λ fs p. subst (λ ws. Frames (f ∷ fs) ws (a .depth + 1)) (sym (at-put-frame .put-frame .ensures)) (pushes frameWords length-frame (a .frames .now) (a .depth) f fs (start .pre) p)
 
 pub push-frame-spec : {M : Type 1} → statement M
-push-frame-spec = tie.close (tie.spec put-frame-requires same-length returns)
+push-frame-spec = tie.close (tie.spec (λ c κs. search needs) (λ c. search needs) returns)

@@ -7,9 +7,6 @@ use borrow.Author.Needs.{needs}
 use Rattle.tables.proofs.program.handler_at.Statement.{statement}
 use Rattle.tables.proofs.program.handler_at.Tie as tie
 
-function-at-requires : tie.Need-function-at-requires
-function-at-requires c κs = search needs
-
 first-handler-requires : tie.Need-first-handler-requires
 first-handler-requires c κs = subst (λ (f : Function). f .count ≤ 8) (sym (c .function-at .ensures)) (c .before .before .pre .1)
 
@@ -20,4 +17,4 @@ returns c =
     c .first-handler .ensures ∙ ap (λ (f : Function). firstOf (begin .args .pc) (funcOf f .handlers)) (read .function-at .ensures)
 
 pub handler-at-spec : {M : Type 1} → statement M
-handler-at-spec = tie.close (tie.spec function-at-requires first-handler-requires returns)
+handler-at-spec = tie.close (tie.spec (λ c κs. search needs) first-handler-requires returns)

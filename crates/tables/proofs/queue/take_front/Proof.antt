@@ -4,18 +4,6 @@ use borrow.Author.Needs.{needs}
 use Rattle.tables.proofs.queue.take_front.Statement.{statement}
 use Rattle.tables.proofs.queue.take_front.Tie as tie
 
-sub-rest : tie.Need-sub-rest
-sub-rest c = search needs
-
-move-down-requires : tie.Need-move-down-requires
-move-down-requires c κs = search needs
-
-cut-requires : tie.Need-cut-requires
-cut-requires c κs = search needs
-
-same-length : tie.Need-same-length
-same-length c = search needs
-
 returns : tie.Need-returns
 returns c =
     let cleared = c .before .before in
@@ -25,4 +13,4 @@ returns c =
     (begin .pre .0) (moved .move-down .ensures) (cleared .cut .ensures)
 
 pub take-front-spec : {M : Type 1} → statement M
-take-front-spec = tie.close (tie.spec sub-rest move-down-requires cut-requires same-length returns)
+take-front-spec = tie.close (tie.spec (λ c. search needs) (λ c κs. search needs) (λ c κs. search needs) (λ c. search needs) returns)

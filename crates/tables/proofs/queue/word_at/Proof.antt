@@ -4,14 +4,8 @@ use borrow.Author.Needs.{needs}
 use Rattle.tables.proofs.queue.word_at.Statement.{statement}
 use Rattle.tables.proofs.queue.word_at.Tie as tie
 
-mul-result : tie.Need-mul-result
-mul-result c = search needs
-
-shared-slice-read-result : tie.Need-shared-slice-read-result
-shared-slice-read-result c = search needs
-
 returns : tie.Need-returns
 returns c = let begin = c .before .args in peeks (begin .queue .now) (begin .i)
 
 pub word-at-spec : {M : Type 1} → statement M
-word-at-spec = tie.close (tie.spec mul-result shared-slice-read-result returns)
+word-at-spec = tie.close (tie.spec (λ c. search needs) (λ c. search needs) returns)

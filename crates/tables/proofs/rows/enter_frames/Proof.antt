@@ -5,20 +5,11 @@ use borrow.Author.Needs.{needs}
 use Rattle.tables.proofs.rows.enter_frames.Statement.{statement}
 use Rattle.tables.proofs.rows.enter_frames.Tie as tie
 
-mul-move-frames : tie.Need-mul-move-frames
-mul-move-frames c = search needs
-
 move-frames-requires : tie.Need-move-frames-requires
 move-frames-requires c κs =
     let start = c .before .before .before .before in
     let a = start .args in
     enter-asks (a .frames .now) (a .saved .now) (a .depth) (a .at) (a .n) (a .by) (start .pre)
-
-same-length : tie.Need-same-length
-same-length c = search needs
-
-same-length-2 : tie.Need-same-length-2
-same-length-2 c = search needs
 
 returns : tie.Need-returns
 returns c =
@@ -30,4 +21,4 @@ returns c =
 
 pub enter-frames-spec : {M : Type 1} → statement M
 enter-frames-spec =
-    tie.close (tie.spec mul-move-frames move-frames-requires same-length same-length-2 returns)
+    tie.close (tie.spec (λ c. search needs) move-frames-requires (λ c. search needs) (λ c. search needs) returns)

@@ -4,15 +4,6 @@ use borrow.Author.Needs.{needs}
 use Rattle.tables.proofs.rows.enter_stack.Statement.{statement}
 use Rattle.tables.proofs.rows.enter_stack.Tie as tie
 
-move-words-requires : tie.Need-move-words-requires
-move-words-requires c κs = search needs
-
-same-length : tie.Need-same-length
-same-length c = search needs
-
-same-length-2 : tie.Need-same-length-2
-same-length-2 c = search needs
-
 returns : tie.Need-returns
 returns c =
     let at-move-words = c .before .before .before .before in let start = at-move-words .before .before .before .before .before in
@@ -21,4 +12,4 @@ returns c =
     enters-stack (a .stack .now) (a .saved .now) (m .last .0) (m .last .1 .1 .0) (a .height) (a .at) (a .n) (start .pre .0) (m .ensures)
 
 pub enter-stack-spec : {M : Type 1} → statement M
-enter-stack-spec = tie.close (tie.spec move-words-requires same-length same-length-2 returns)
+enter-stack-spec = tie.close (tie.spec (λ c κs. search needs) (λ c. search needs) (λ c. search needs) returns)

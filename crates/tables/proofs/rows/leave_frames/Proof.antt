@@ -5,23 +5,11 @@ use borrow.Author.Needs.{needs}
 use Rattle.tables.proofs.rows.leave_frames.Statement.{statement}
 use Rattle.tables.proofs.rows.leave_frames.Tie as tie
 
-mul-move-frames : tie.Need-mul-move-frames
-mul-move-frames c = search needs
-
-sub-move-frames : tie.Need-sub-move-frames
-sub-move-frames c = search needs
-
 move-frames-requires : tie.Need-move-frames-requires
 move-frames-requires c κs =
     let start = c .before .before .before .before in
     let a = start .args in
     leave-asks (a .frames .now) (a .saved .now) (a .depth) (a .floor) (a .by) (a .at) (start .pre) (λ i. c .before .before .before .slice-known .given i .fits)
-
-same-length : tie.Need-same-length
-same-length c = search needs
-
-same-length-2 : tie.Need-same-length-2
-same-length-2 c = search needs
 
 returns : tie.Need-returns
 returns c =
@@ -34,4 +22,4 @@ returns c =
 pub leave-frames-spec : {M : Type 1} → statement M
 leave-frames-spec =
     tie.close
-    (tie.spec mul-move-frames sub-move-frames move-frames-requires same-length same-length-2 returns)
+    (tie.spec (λ c. search needs) (λ c. search needs) move-frames-requires (λ c. search needs) (λ c. search needs) returns)

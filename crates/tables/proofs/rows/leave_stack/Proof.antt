@@ -4,18 +4,6 @@ use borrow.Author.Needs.{needs}
 use Rattle.tables.proofs.rows.leave_stack.Statement.{statement}
 use Rattle.tables.proofs.rows.leave_stack.Tie as tie
 
-sub-move-words : tie.Need-sub-move-words
-sub-move-words c = search needs
-
-move-words-requires : tie.Need-move-words-requires
-move-words-requires c κs = search needs
-
-same-length : tie.Need-same-length
-same-length c = search needs
-
-same-length-2 : tie.Need-same-length-2
-same-length-2 c = search needs
-
 returns : tie.Need-returns
 returns c =
     let at-move-words = c .before .before .before .before in let start = at-move-words .before .before .before .before .before in
@@ -25,4 +13,4 @@ returns c =
 
 pub leave-stack-spec : {M : Type 1} → statement M
 leave-stack-spec =
-    tie.close (tie.spec sub-move-words move-words-requires same-length same-length-2 returns)
+    tie.close (tie.spec (λ c. search needs) (λ c κs. search needs) (λ c. search needs) (λ c. search needs) returns)

@@ -4,27 +4,6 @@ use borrow.Author.Needs.{needs}
 use Rattle.tables.proofs.runs.clear_part.Statement.{statement}
 use Rattle.tables.proofs.runs.clear_part.Tie as tie
 
-add-end : tie.Need-add-end
-add-end c = search needs
-
-mul-clear-words : tie.Need-mul-clear-words
-mul-clear-words c = search needs
-
-sub-clear-words : tie.Need-sub-clear-words
-sub-clear-words c = search needs
-
-part-clear-words-start : tie.Need-part-clear-words-start
-part-clear-words-start c = search needs
-
-part-clear-words-end : tie.Need-part-clear-words-end
-part-clear-words-end c = search needs
-
-clear-words-requires : tie.Need-clear-words-requires
-clear-words-requires c κs = search needs
-
-same-length : tie.Need-same-length
-same-length c = search needs
-
 returns : tie.Need-returns
 returns c =
     let cleaned = c .before .before in
@@ -35,11 +14,11 @@ pub clear-part-spec : {M : Type 1} → statement M
 clear-part-spec =
     tie.close
     (tie.spec
-    add-end
-    mul-clear-words
-    sub-clear-words
-    part-clear-words-start
-    part-clear-words-end
-    clear-words-requires
-    same-length
+    (λ c. search needs)
+    (λ c. search needs)
+    (λ c. search needs)
+    (λ c. search needs)
+    (λ c. search needs)
+    (λ c κs. search needs)
+    (λ c. search needs)
     returns)

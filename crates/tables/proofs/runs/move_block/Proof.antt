@@ -12,26 +12,8 @@ use borrow.Author.Needs.{needs}
 use Rattle.tables.proofs.runs.move_block.Statement.{statement}
 use Rattle.tables.proofs.runs.move_block.Tie as tie
 
-array-borrow-prefix-room : tie.Need-array-borrow-prefix-room
-array-borrow-prefix-room c = search needs
-
 slice-aggregate-copy-words : tie.Need-slice-aggregate-copy-words
 slice-aggregate-copy-words c = sym (length-take-le (c .before .before .before .args .n) (replicate 1024 0) (c .before .before .before .pre .0))
-
-add-copy-words : tie.Need-add-copy-words
-add-copy-words c = search needs
-
-mul-copy-words : tie.Need-mul-copy-words
-mul-copy-words c = search needs
-
-sub-copy-words : tie.Need-sub-copy-words
-sub-copy-words c = search needs
-
-part-copy-words-start : tie.Need-part-copy-words-start
-part-copy-words-start c = search needs
-
-part-copy-words-end : tie.Need-part-copy-words-end
-part-copy-words-end c = search needs
 
 copy-words-requires : tie.Need-copy-words-requires
 copy-words-requires c κs =
@@ -39,21 +21,6 @@ copy-words-requires c κs =
     let a = start .args in
     length-take-le (a .n) (replicate 1024 0) (start .pre .0)
     ∙ sym (ap (λ n. length (take n (drop (a .from) (a .src .now)))) (span (a .from) (a .n)) ∙ length-part (a .from) (a .n) (a .src .now) (start .pre .2))
-
-add-copy-words-2 : tie.Need-add-copy-words-2
-add-copy-words-2 c = search needs
-
-mul-copy-words-2 : tie.Need-mul-copy-words-2
-mul-copy-words-2 c = search needs
-
-sub-copy-words-2 : tie.Need-sub-copy-words-2
-sub-copy-words-2 c = search needs
-
-part-copy-words-start-2 : tie.Need-part-copy-words-start-2
-part-copy-words-start-2 c = search needs
-
-part-copy-words-end-2 : tie.Need-part-copy-words-end-2
-part-copy-words-end-2 c = search needs
 
 -- the words that are set aside
 held : (c : tie.After-copy-words) →
@@ -91,30 +58,6 @@ copy-words-requires-2 c κs =
     ap (λ n. length (take n (drop (a .at) (a .dst .now)))) (span (a .at) (a .n)) ∙ length-part (a .at) (a .n) (a .dst .now) (start .pre .1)
     ∙ sym (ap length (held at-copy-words) ∙ length-part (a .from) (a .n) (a .src .now) (start .pre .2))
 
-add-clear-words : tie.Need-add-clear-words
-add-clear-words c = search needs
-
-mul-clear-words : tie.Need-mul-clear-words
-mul-clear-words c = search needs
-
-sub-clear-words : tie.Need-sub-clear-words
-sub-clear-words c = search needs
-
-part-clear-words-start : tie.Need-part-clear-words-start
-part-clear-words-start c = search needs
-
-part-clear-words-end : tie.Need-part-clear-words-end
-part-clear-words-end c = search needs
-
-clear-words-requires : tie.Need-clear-words-requires
-clear-words-requires c κs = search needs
-
-same-length : tie.Need-same-length
-same-length c = search needs
-
-same-length-2 : tie.Need-same-length-2
-same-length-2 c = search needs
-
 returns : tie.Need-returns
 returns c =
     let at-clear = c .before .before in let at-copy-words-2 = at-clear .before .before .before .before in
@@ -133,28 +76,28 @@ pub move-block-spec : {M : Type 1} → statement M
 move-block-spec =
     tie.close
     (tie.spec
-    array-borrow-prefix-room
+    (λ c. search needs)
     slice-aggregate-copy-words
-    add-copy-words
-    mul-copy-words
-    sub-copy-words
-    part-copy-words-start
-    part-copy-words-end
+    (λ c. search needs)
+    (λ c. search needs)
+    (λ c. search needs)
+    (λ c. search needs)
+    (λ c. search needs)
     copy-words-requires
-    add-copy-words-2
-    mul-copy-words-2
-    sub-copy-words-2
-    part-copy-words-start-2
-    part-copy-words-end-2
+    (λ c. search needs)
+    (λ c. search needs)
+    (λ c. search needs)
+    (λ c. search needs)
+    (λ c. search needs)
     array-share-prefix-room
     slice-aggregate-copy-words-2
     copy-words-requires-2
-    add-clear-words
-    mul-clear-words
-    sub-clear-words
-    part-clear-words-start
-    part-clear-words-end
-    clear-words-requires
-    same-length
-    same-length-2
+    (λ c. search needs)
+    (λ c. search needs)
+    (λ c. search needs)
+    (λ c. search needs)
+    (λ c. search needs)
+    (λ c κs. search needs)
+    (λ c. search needs)
+    (λ c. search needs)
     returns)

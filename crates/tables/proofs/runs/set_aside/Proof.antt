@@ -9,26 +9,8 @@ use borrow.Author.Needs.{needs}
 use Rattle.tables.proofs.runs.set_aside.Statement.{statement}
 use Rattle.tables.proofs.runs.set_aside.Tie as tie
 
-array-borrow-prefix-args : tie.Need-array-borrow-prefix-args
-array-borrow-prefix-args c = search needs
-
 slice-aggregate-copy-words : tie.Need-slice-aggregate-copy-words
 slice-aggregate-copy-words c = sym (length-take-le (c .before .before .args .n) (replicate 255 0) (c .before .before .pre .0))
-
-add-copy-words : tie.Need-add-copy-words
-add-copy-words c = search needs
-
-mul-copy-words : tie.Need-mul-copy-words
-mul-copy-words c = search needs
-
-sub-copy-words : tie.Need-sub-copy-words
-sub-copy-words c = search needs
-
-part-copy-words-start : tie.Need-part-copy-words-start
-part-copy-words-start c = search needs
-
-part-copy-words-end : tie.Need-part-copy-words-end
-part-copy-words-end c = search needs
 
 copy-words-requires : tie.Need-copy-words-requires
 copy-words-requires c κs =
@@ -48,12 +30,12 @@ pub set-aside-spec : {M : Type 1} → statement M
 set-aside-spec =
     tie.close
     (tie.spec
-    array-borrow-prefix-args
+    (λ c. search needs)
     slice-aggregate-copy-words
-    add-copy-words
-    mul-copy-words
-    sub-copy-words
-    part-copy-words-start
-    part-copy-words-end
+    (λ c. search needs)
+    (λ c. search needs)
+    (λ c. search needs)
+    (λ c. search needs)
+    (λ c. search needs)
     copy-words-requires
     returns)

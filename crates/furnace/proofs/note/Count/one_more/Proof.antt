@@ -4,12 +4,6 @@ use borrow.Author.Needs.{needs}
 use Rattle.furnace.proofs.note.Count.one_more.Statement.{statement}
 use Rattle.furnace.proofs.note.Count.one_more.Tie as tie
 
-wrapping-add-u64-requires : tie.Need-wrapping-add-u64-requires
-wrapping-add-u64-requires c κs = search needs
-
-wrapping-add-u64-requires-2 : tie.Need-wrapping-add-u64-requires-2
-wrapping-add-u64-requires-2 c κs = search needs
-
 returns : tie.Need-returns
 returns c =
     let at-if1 = c .before in let at-wrapping-add-u64 = at-if1 .before in let start = at-wrapping-add-u64 .before in
@@ -22,4 +16,4 @@ returns-2 c =
 
 pub one-more-spec : {M : Type 1} → statement M
 one-more-spec =
-    tie.close (tie.spec wrapping-add-u64-requires wrapping-add-u64-requires-2 returns returns-2)
+    tie.close (tie.spec (λ c κs. search needs) (λ c κs. search needs) returns returns-2)

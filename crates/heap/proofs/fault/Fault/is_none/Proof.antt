@@ -6,11 +6,8 @@ use borrow.Author.Needs.{needs}
 use Rattle.heap.proofs.fault.Fault.is_none.Statement.{statement}
 use Rattle.heap.proofs.fault.Fault.is_none.Tie as tie
 
-number-requires : tie.Need-number-requires
-number-requires c κs = search needs
-
 returns : tie.Need-returns
 returns c = ap (λ (n : ℕ). eqb n 0) (c .number .ensures)
 
 pub is-none-spec : {M : Type 1} → statement M
-is-none-spec = tie.close (tie.spec number-requires returns)
+is-none-spec = tie.close (tie.spec (λ c κs. search needs) returns)

@@ -35,9 +35,6 @@ other F.Busy h = refl
 other F.GrantTooLarge h = refl
 other (F.Throw w) h = absurd (miss others 17 tt h)
 
-enum-known-self : tie.Need-enum-known-self
-enum-known-self c = search needs
-
 returns : tie.Need-returns
 returns c = rw (c .before .self .given .1)
 
@@ -45,4 +42,4 @@ returns-2 : tie.Need-returns-2
 returns-2 c = other (c .before .args .self) (c .match .keys2)
 
 pub word-spec : {M : Type 1} → statement M
-word-spec = tie.close (tie.spec enum-known-self returns returns-2)
+word-spec = tie.close (tie.spec (λ c. search needs) returns returns-2)

@@ -5,12 +5,6 @@ use borrow.Author.Needs.{needs}
 use Rattle.heap.proofs.heap.Heap.charge.Statement.{statement}
 use Rattle.heap.proofs.heap.Heap.charge.Tie as tie
 
-fits-requires : tie.Need-fits-requires
-fits-requires c κs = search needs
-
-sat-add-requires : tie.Need-sat-add-requires
-sat-add-requires c κs = search needs
-
 returns : tie.Need-returns
 unfolding pick
 returns c = rw (sym (c .before .before .fits2 .ensures) ∙ c .before .if1 .taken, c .sat-add .ensures)
@@ -20,4 +14,4 @@ unfolding pick
 returns-2 c = rw (sym (c .before .fits2 .ensures) ∙ c .if1 .left)
 
 pub charge-spec : {M : Type 1} → statement M
-charge-spec = tie.close (tie.spec fits-requires sat-add-requires returns returns-2)
+charge-spec = tie.close (tie.spec (λ c κs. search needs) (λ c κs. search needs) returns returns-2)

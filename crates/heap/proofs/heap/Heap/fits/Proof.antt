@@ -6,11 +6,8 @@ use borrow.Author.Needs.{needs}
 use Rattle.heap.proofs.heap.Heap.fits.Statement.{statement}
 use Rattle.heap.proofs.heap.Heap.fits.Tie as tie
 
-sat-add-requires : tie.Need-sat-add-requires
-sat-add-requires c κs = search needs
-
 returns : tie.Need-returns
 returns c = ap (λ (n : ℕ). leb n (c .before .before .args .self .limit)) (c .before .sat-add .ensures)
 
 pub fits-spec : {M : Type 1} → statement M
-fits-spec = tie.close (tie.spec sat-add-requires returns)
+fits-spec = tie.close (tie.spec (λ c κs. search needs) returns)

@@ -6,9 +6,6 @@ use borrow.Author.Needs.{needs}
 use Rattle.heap.proofs.heap.Heap.lacks.Statement.{statement}
 use Rattle.heap.proofs.heap.Heap.lacks.Tie as tie
 
-fits-requires : tie.Need-fits-requires
-fits-requires c κs = search needs
-
 returns : tie.Need-returns
 unfolding pick
 returns c =
@@ -26,4 +23,4 @@ unfolding pick
 returns-3 c = rw (sym (c .before .fits2 .ensures) ∙ c .if1 .left)
 
 pub lacks-spec : {M : Type 1} → statement M
-lacks-spec = tie.close (tie.spec fits-requires returns returns-2 returns-3)
+lacks-spec = tie.close (tie.spec (λ c κs. search needs) returns returns-2 returns-3)

@@ -24,9 +24,6 @@ int : (w m : ℕ) → (w ≡ 0 → ⊥) → (w / 2 ^ 48 ≡ 1 → ⊥) → w / 2
 unfolding pick
 int w m a b e h = rw (ne-eqb w 0 a, ne-eqb (w / 2 ^ 48) 1 b, eq-eqb (w / 2 ^ 48) 0xFFFE e) (ap C.Int h)
 
-add-t14 : tie.Need-add-t14
-add-t14 c = search needs
-
 returns : tie.Need-returns
 unfolding pick
 returns c = rw (eq-eqb _ _ (c .if1 .taken))
@@ -52,4 +49,4 @@ unfolding pick
 returns-5 c = rw (ne-eqb _ _ (c .before .before .if1 .left), ne-eqb _ _ (c .before .if2 .left), ne-eqb _ _ (c .if3 .left))
 
 pub class-spec : {M : Type 1} → statement M
-class-spec = tie.close (tie.spec add-t14 returns returns-2 returns-3 returns-4 returns-5)
+class-spec = tie.close (tie.spec (λ c. search needs) returns returns-2 returns-3 returns-4 returns-5)

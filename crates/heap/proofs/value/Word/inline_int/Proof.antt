@@ -14,12 +14,6 @@ use Rattle.heap.proofs.Coding.{low, high}
 use Rattle.heap.proofs.value.Word.inline_int.Statement.{statement}
 use Rattle.heap.proofs.value.Word.inline_int.Tie as tie
 
-add-t4 : tie.Need-add-t4
-add-t4 c = search needs
-
-sub-t8 : tie.Need-sub-t8
-sub-t8 c = search needs
-
 returns : tie.Need-returns
 unfolding pick
 returns c = let n = c .before .args .bits in rw (low 63 n (omega arith), lt-ltb n (2 ^ 47) (omega arith))
@@ -40,4 +34,4 @@ returns-3 c =
     rw (high 63 n (omega arith), lt-ltb (2 ^ 64 - suc n) (2 ^ 47) (omega arith)) (ap (λ (k : ℕ). I.At (record { 0 = k })) (omega arith))
 
 pub inline-int-spec : {M : Type 1} → statement M
-inline-int-spec = tie.close (tie.spec add-t4 sub-t8 returns returns-2 returns-3)
+inline-int-spec = tie.close (tie.spec (λ c. search needs) (λ c. search needs) returns returns-2 returns-3)

@@ -1,0 +1,78 @@
+-- A list of linked calls, with other fuel words between them, is a list of turns of the Claim's engine (lent_claims/specs/Claim.antt), and
+-- leaves what these leave: so what is claimed of every such list is claimed of every program that links the library.
+use Prim.Native.Nat.{ℕ, _*_, _≤_}
+use mathlib.Core.Path.{_≡_}
+use mathlib.Core.Bool.{true}
+use mathlib.Core.List.{List, [], _∷_, _++_, map}
+use lib.ListN.{length}
+use Rattle.model.specs.Lists.{each}
+use Rattle.model.specs.Call.{isWord, typed, Operation}
+use Rattle.model.specs.declared.call.Op.{Op}
+use Rattle.calls.specs.Call.{opOf, opWords}
+use Rattle.calls.specs.declared.call.Read.{Read}
+use Rattle.claims.specs.Engine.{Turn, calls, refuels, run}
+use Rattle.lent.specs.Step.{Call, SetUp, Do}
+use Rattle.lent_claims.specs.Engine.{outer}
+use Rattle.run.specs.Run.{countOf, callsIn}
+use Rattle.boundary.specs.Words.{fuelIn}
+use Rattle.boundary.specs.Host.{Host, host, stateOf, tested, keptIn, callIn, setUpIn, runHost}
+use Rattle.boundary_claims.specs.Batch.{Calls}
+
+-- a linked function, with the words that it is lent beside the machine; or other fuel words. `bvm_resume` and `bvm_yield` have the
+-- equation of `bvm_kept` (the `ensures` in hot/src), `bvm_batch` that of `bvm_run` (batch/src); `bvm_sound` and `bvm_look` only read
+pub data Link : Type 0 where
+  bvm-set-up : (given answer : List ℕ) → Link
+  bvm-call : (ws answer : List ℕ) → Link
+  bvm-kept : (ws answer : List ℕ) → Link
+  bvm-grant : (amount : ℕ) (answer : List ℕ) → Link
+  bvm-run : (ws answers : List ℕ) → Link
+  other-fuel : (fuel : List ℕ) → Link
+
+-- what it leaves: the definition that the function's contract cites
+abbrev pub after : Host → Link → Host
+after h (bvm-set-up given xs) = setUpIn h given xs .host
+after h (bvm-call ws xs) = callIn h (opOf ws) xs .host
+after h (bvm-kept ws xs) = keptIn h (opOf ws) xs .host
+after h (bvm-grant n xs) = host (h .words) (h .machine) (callIn h (Read.Is (Op.Grant n)) xs .host .fuel)
+after h (bvm-run cs xs) = runHost h cs xs .host
+after h (other-fuel fs) = host (h .words) (h .machine) fs
+
+abbrev pub afterAll : Host → List Link → Host
+afterAll h [] = h
+afterAll h (l ∷ ls) = afterAll (after h l) ls
+
+-- words of 64 bits, and room for the answer; fuel words with which the machine passes
+abbrev pub Fits : Host → Link → Type 0
+Fits h (bvm-set-up given xs) = 8 ≤ length xs
+Fits h (bvm-call ws xs) = (each isWord ws ≡ true) × (8 ≤ length xs)
+Fits h (bvm-kept ws xs) = (each isWord ws ≡ true) × (8 ≤ length xs)
+Fits h (bvm-grant n xs) = (isWord n ≡ true) × (8 ≤ length xs)
+Fits h (bvm-run cs xs) = (each isWord cs ≡ true) × (countOf (length cs) * 8 ≤ length xs)
+Fits h (other-fuel fs) = tested (host (h .words) (h .machine) fs) ≡ true
+
+abbrev pub AllFit : Host → List Link → Type 0
+AllFit h [] = Unit {0}
+AllFit h (l ∷ ls) = Fits h l × AllFit (after h l) ls
+
+-- the turns that it is: words that are no call are none
+pub data Is : Link → List (Turn Call) → Type 0 where
+  a-set-up : (given xs : List ℕ) → Is (bvm-set-up given xs) (calls (SetUp given) ∷ [])
+  a-call : (ws xs : List ℕ) (ks : List Call) → Calls (opOf ws ∷ []) ks → Is (bvm-call ws xs) (map calls ks)
+  a-kept : (ws xs : List ℕ) (ks : List Call) → Calls (opOf ws ∷ []) ks → Is (bvm-kept ws xs) (map calls ks)
+  a-grant : (n : ℕ) (xs : List ℕ) (o : Operation) → o .op ≡ Op.Grant n → Is (bvm-grant n xs) (calls (Do o) ∷ [])
+  a-run : (cs xs : List ℕ) (ks : List Call) → Calls (callsIn (countOf (length cs)) cs) ks → Is (bvm-run cs xs) (map calls ks)
+  a-record : (fs : List ℕ) → Is (other-fuel fs) (refuels (fuelIn fs) ∷ [])
+
+pub data Are : List Link → List (Turn Call) → Type 0 where
+  none : Are [] []
+  more : (l : Link) (ls : List Link) (ts us : List (Turn Call)) → Is l ts → Are ls us → Are (l ∷ ls) (ts ++ us)
+
+pub record Linked : Type 0 where
+  -- what a call's words say has operands that their types can hold, and every operation with such operands has words that say it
+  pub within : (ws : List ℕ) (o : Op) → each isWord ws ≡ true → opOf ws ≡ Read.Is o → typed o ≡ true
+  pub said : (o : Op) → typed o ≡ true → opOf (opWords o) ≡ Read.Is o
+  -- every list of linked calls is a list of turns
+  pub turns : (h : Host) (ls : List Link) → AllFit h ls → (ts : List (Turn Call)) × Are ls ts
+  -- and from a machine that passes, as an accepted `bvm_set_up` leaves one (`Library.begun`), it leaves what they leave, which passes
+  pub leaves : (h : Host) (ls : List Link) (ts : List (Turn Call)) → tested h ≡ true → AllFit h ls → Are ls ts → stateOf (afterAll h ls) ≡ run outer (stateOf h) ts
+  pub passes : (h : Host) (ls : List Link) → tested h ≡ true → AllFit h ls → tested (afterAll h ls) ≡ true
