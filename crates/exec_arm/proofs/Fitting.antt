@@ -163,19 +163,10 @@ module _ {l : Sizes} {s f c o r q u : List ℕ} {m : Machine} {fuel : Fuel} {op 
   pub spawn-fits : {pc dst callee argc : ℕ} → op ≡ Op.Spawn pc dst callee argc → argc ≤ 255 → SpawnFits l s f o r q u m pc dst callee argc
   spawn-fits {pc} {dst} {callee} {argc} e few = record { indirect = calling dst callee argc (p .passed _ _ _ (ap table e)) few; narrow = p .narrow _ _ _ (ap table e) }
 
-  asking : (dst k : ℕ) → allIn (dst ∷ k ∷ []) w ≡ true → AskFits s f o m dst k
-  asking dst k t =
-      let ks = dst ∷ k ∷ [] in
+  pub ask-fits : {pc dst k : ℕ} {arm : World → After Step} → table op ≡ Instruction pc (allIn (dst ∷ k ∷ [])) arm → AskFits s f o m dst k
+  ask-fits {pc} {dst} {k} e =
+      let ks = dst ∷ k ∷ [] in let t = p .passed _ _ _ e in
       record { table = p .ok .rep .slots .within; result = regs-in ks 0 t (omega arith); coro = regs-in ks 1 t (omega arith) }
-
-  pub status-fits : {pc dst k : ℕ} → op ≡ Op.CoroStatus pc dst k → AskFits s f o m dst k
-  status-fits {pc} {dst} {k} e = asking dst k (p .passed _ _ _ (ap table e))
-
-  pub key-fits : {pc dst k : ℕ} → op ≡ Op.CoroKey pc dst k → AskFits s f o m dst k
-  key-fits {pc} {dst} {k} e = asking dst k (p .passed _ _ _ (ap table e))
-
-  pub result-fits : {pc dst k : ℕ} → op ≡ Op.CoroResult pc dst k → AskFits s f o m dst k
-  result-fits {pc} {dst} {k} e = asking dst k (p .passed _ _ _ (ap table e))
 
   pub current-fits : {pc dst : ℕ} → op ≡ Op.CoroCurrent pc dst → CurrentFits s f c m dst
   current-fits {pc} {dst} e = record { running = p .ok .rep .chain .within; result = regs-in (dst ∷ []) 0 (p .passed _ _ _ (ap table e)) (omega arith) }

@@ -1,9 +1,10 @@
 -- `staying` meets the definition, by the instruction after which the same coroutine runs. Assumes nothing.
-use mathlib.Core.Path.{refl}
+use mathlib.Core.Path.{refl, ap}
 use native.Mathlib.Omega.{arith}
 use Rattle.memory.specs.Memory.{onChain, onSlots, onSaved, onSetup}
+use Rattle.model.specs.Calls.{table}
 use Rattle.exec_arm.proofs.Tags.{no-group}
-use Rattle.exec_arm.proofs.Fitting.{as-arm, new-fits, indirect-fits, spawn-fits, status-fits, current-fits, key-fits, result-fits}
+use Rattle.exec_arm.proofs.Fitting.{as-arm, new-fits, indirect-fits, spawn-fits, current-fits, ask-fits}
 use borrow.Author.Needs.{needs}
 use Rattle.exec_arm.proofs.staying.staying.Statement.{statement}
 use Rattle.exec_arm.proofs.staying.staying.Tie as tie
@@ -32,16 +33,16 @@ spawn-requires : tie.Need-spawn-requires
 spawn-requires c κs = let at-told = c .before .before .before .before .before in let at-op = at-told .before in spawn-fits (start-of (at-op .before .before) .pre) (at-op .op3 .given .1) (let k = at-told .known-told3 .given in omega arith)
 
 coro-status-requires : tie.Need-coro-status-requires
-coro-status-requires c κs = let at-op = c .before .before .before .before in status-fits (start-of (at-op .before .before) .pre) (at-op .op4 .given .1)
+coro-status-requires c κs = let at-op = c .before .before .before .before in ask-fits (start-of (at-op .before .before) .pre) (ap table (at-op .op4 .given .1))
 
 coro-current-requires : tie.Need-coro-current-requires
 coro-current-requires c κs = let at-op = c .before .before .before .before in current-fits (start-of (at-op .before .before) .pre) (at-op .op5 .given .1)
 
 coro-key-requires : tie.Need-coro-key-requires
-coro-key-requires c κs = let at-op = c .before .before .before .before in key-fits (start-of (at-op .before .before) .pre) (at-op .op6 .given .1)
+coro-key-requires c κs = let at-op = c .before .before .before .before in ask-fits (start-of (at-op .before .before) .pre) (ap table (at-op .op6 .given .1))
 
 coro-result-requires : tie.Need-coro-result-requires
-coro-result-requires c κs = let at-op = c .before .before .before .before in result-fits (start-of (at-op .before .before) .pre) (at-op .op7 .given .1)
+coro-result-requires c κs = let at-op = c .before .before .before .before in ask-fits (start-of (at-op .before .before) .pre) (ap table (at-op .op7 .given .1))
 
 returns : tie.Need-returns
 returns c =
