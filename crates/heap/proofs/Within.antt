@@ -22,6 +22,9 @@ at-zero (suc x) =
 inside : (w m : ℕ) → w ≤ m → (leb 0 w && leb w m) ≡ true
 inside w m h = rw (from-zero w m, le-leb w m h)
 
+any-word : (w : ℕ) → w < 2 ^ 64 → (leb 0 w && leb w (2 ^ 64 - 1)) ≡ true
+any-word w h = inside w (2 ^ 64 - 1) (omega arith)
+
 -- a number of bits: nothing is left above them
 half-word : (w : ℕ) → (leb 0 w && leb w (2 ^ 16 - 1)) ≡ eqb (w / 65536) 0
 half-word w = rw (from-zero w (2 ^ 16 - 1)) (go (ltb w 65536) refl)
@@ -77,16 +80,7 @@ coro-row (x₀ ∷ x₁ ∷ x₂ ∷ x₃ ∷ x₄ ∷ x₅ ∷ x₆ ∷ x₇ �
 coro-row (x₀ ∷ x₁ ∷ x₂ ∷ x₃ ∷ x₄ ∷ x₅ ∷ x₆ ∷ x₇ ∷ x₈ ∷ x₉ ∷ x₁₀ ∷ x₁₁ ∷ x₁₂ ∷ x₁₃ ∷ x₁₄ ∷ x₁₅ ∷ x₁₆ ∷ x₁₇ ∷ x₁₈ ∷ []) n k f = absurd (omega arith)
 coro-row (x₀ ∷ x₁ ∷ x₂ ∷ x₃ ∷ x₄ ∷ x₅ ∷ x₆ ∷ x₇ ∷ x₈ ∷ x₉ ∷ x₁₀ ∷ x₁₁ ∷ x₁₂ ∷ x₁₃ ∷ x₁₄ ∷ x₁₅ ∷ x₁₆ ∷ x₁₇ ∷ x₁₈ ∷ x₁₉ ∷ y ∷ ys) n k f = absurd (omega arith)
 coro-row (x₀ ∷ x₁ ∷ x₂ ∷ x₃ ∷ x₄ ∷ x₅ ∷ x₆ ∷ x₇ ∷ x₈ ∷ x₉ ∷ x₁₀ ∷ x₁₁ ∷ x₁₂ ∷ x₁₃ ∷ x₁₄ ∷ x₁₅ ∷ x₁₆ ∷ x₁₇ ∷ x₁₈ ∷ x₁₉ ∷ []) n k f =
-    let f₆ = f 6 in
-    let f₇ = f 7 in
-    let f₈ = f 8 in
-    let f₉ = f 9 in
-    let f₁₀ = f 10 in
-    let f₁₁ = f 11 in
-    let f₁₃ = f 13 in
-    let f₁₄ = f 14 in
-    let f₁₅ = f 15 in
-    let f₁₆ = f 16 in
-    let f₁₇ = f 17 in
-    rw (half-word x₀, inside x₁ 6 (omega arith), from-zero x₂ 5, flag-word x₃, flag-word x₄, flag-word x₅, inside x₆ (2 ^ 64 - 1) (omega arith), inside x₇ (2 ^ 64 - 1) (omega arith), inside x₈ (2 ^ 64 - 1) (omega arith), inside x₉ (2 ^ 64 - 1) (omega arith), inside x₁₀ (2 ^ 64 - 1) (omega arith), inside x₁₁ (2 ^ 64 - 1) (omega arith), half-word x₁₂, inside x₁₃ (2 ^ 64 - 1) (omega arith), inside x₁₄ (2 ^ 64 - 1) (omega arith), inside x₁₅ (2 ^ 64 - 1) (omega arith), inside x₁₆ (2 ^ 64 - 1) (omega arith), inside x₁₇ (2 ^ 64 - 1) (omega arith), at-zero x₁₈, at-zero x₁₉)
-    (swap (eqb (x₀ / 65536) 0) (leb x₂ 5) _)
+    rw (half-word x₀, inside x₁ 6 (omega arith), from-zero x₂ 5, flag-word x₃, flag-word x₄, flag-word x₅)
+    (rw (any-word x₆ (f 6), any-word x₇ (f 7), any-word x₈ (f 8), any-word x₉ (f 9), any-word x₁₀ (f 10), any-word x₁₁ (f 11), half-word x₁₂)
+    (rw (any-word x₁₃ (f 13), any-word x₁₄ (f 14), any-word x₁₅ (f 15), any-word x₁₆ (f 16), any-word x₁₇ (f 17), at-zero x₁₈, at-zero x₁₉)
+    (swap (eqb (x₀ / 65536) 0) (leb x₂ 5) _)))

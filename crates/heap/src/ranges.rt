@@ -17,7 +17,7 @@ const BITS32: u64 = 0xFFFF_FFFF;
 
 const BITS16: u64 = 0xFFFF;
 
-// Those of the tag and the fields of kinds 0, 2, 3 and 4: empty, an integer, an iterator without a key and with one.
+// The largest values of the tag and the fields of kinds 0, 2, 3 and 4: empty, an integer, an iterator without a key and with one.
 const TAG: [u64; 5] = [0, BITS16, BITS16, BITS16, BITS16];
 
 const FIRST: [u64; 5] = [0, 0, WORD, WORD, WORD];
