@@ -132,6 +132,7 @@ def edits():
         rows = log.read_text(errors="replace").splitlines() if log.exists() else None
         facts = []
         for fact in " ".join(re.findall(r"^refutes: (.*)$", text, re.M)).split():
+            fact = fact.replace("[+]", "+")
             facts.append((fact, refused_at(fact, rows)))
         yield crate, name, told, facts, rows is not None
 
