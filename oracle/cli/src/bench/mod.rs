@@ -396,9 +396,23 @@ pub(crate) fn count(costs: Costs, engine: &str, measure: usize, n: usize) -> Res
     let e = engines.iter().find(|e| e.name == engine).ok_or("no such engine is linked")?;
     let (_, m) = *MEASURES.get(measure).ok_or("no such measure")?;
     let mut s = (e.fresh)(costs);
-    m.ready(&mut *s);
-    m.batch(&mut *s, n);
+    at_a_page(&mut || {
+        m.ready(&mut *s);
+        m.batch(&mut *s, n);
+    });
     Ok(())
+}
+
+/// Runs `f` with a stack that begins at a page. Where it begins else hangs on
+/// how long the environment and the program's path are, and on that how many
+/// instructions the C library's `memset` and `memcpy` take.
+#[inline(never)]
+fn at_a_page(f: &mut dyn FnMut()) {
+    #[repr(align(4096))]
+    struct Page([u8; 4096]);
+    let mut page = Page([0; 4096]);
+    f();
+    black_box(&mut page.0);
 }
 
 /// The hot paths' instructions, a line each: measure, engine, instructions.
