@@ -50,6 +50,7 @@ static const plan PLANS[] = {
 };
 
 static const double GOAL = 1.5;
+enum { SAMPLES = 5000 };
 
 static uint64_t any(void) {
     static uint64_t x = 88172645463325252u;
@@ -178,6 +179,9 @@ static double least(uint64_t (*f)(const lent *), const lent *m, int batch) {
 }
 
 int main(int argc, char **argv) {
+    /* the stack from a page on: where it begins else hangs on how long the environment is, and on that what memset takes */
+    __attribute__((aligned(4096))) char page[4096];
+    __asm__ volatile("" : : "r"(page) : "memory");
     if (argc == 2 && strcmp(argv[1], "names") == 0) {
         for (size_t k = 0; k < sizeof PLANS / sizeof *PLANS; k++) puts(PLANS[k].name);
         return 0;
@@ -194,7 +198,7 @@ int main(int argc, char **argv) {
         for (int i = 0; i < SLICES; i++) words += m.length[i];
         if (test(&m) != 1) return fprintf(stderr, "not sound: %s\n", PLANS[k].name), 1;
         double t = 1e9, p = 1e9;
-        for (int i = 0; i < 300; i++) {
+        for (int i = 0; i < SAMPLES; i++) {
             double a = least(test, &m, words < 10000 ? 100 : 1), b = least(pass, &m, words < 10000 ? 100 : 1);
             t = a < t ? a : t, p = b < p ? b : p;
         }

@@ -247,14 +247,18 @@ const GOALS: [(&str, &str, [f64; 2]); 4] = [
     ("crate-run", "a batch, the crate `host/`", [0.70, 0.88]),
 ];
 
+impl Engine {
+    /// Whether it is the original, or has a goal beside it.
+    fn judged(&self) -> bool {
+        self.name == "original" || GOALS.iter().any(|g| g.0 == self.name)
+    }
+}
+
 /// The engines of the goals beside the original, a line each: the engine, then
 /// the ratios of leasts and of medians, with one frame and with four.
 pub(crate) fn ratios(costs: Costs) -> Result<(), String> {
     let engines = engines();
-    let these: Vec<_> = engines
-        .iter()
-        .filter(|e| e.name == "original" || GOALS.iter().any(|g| g.0 == e.name))
-        .collect();
+    let these: Vec<_> = engines.iter().filter(|e| e.judged()).collect();
     if these.first().is_none_or(|e| e.name != "original") {
         return Err("the original is not linked".to_owned());
     }

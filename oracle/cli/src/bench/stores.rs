@@ -5,21 +5,18 @@ use std::process::Command;
 
 use oracle::world::Costs;
 
-use super::{engines, timed, valgrind, MEASURES};
+use super::{engines, timed, valgrind, Engine, MEASURES};
 
-/// The engines named, or all that have a round trip alone; a line each, the
-/// two round trips of the goals.
+/// The engines named, or those of the goals; a line each, with the two round
+/// trips of the goals.
 pub(crate) fn table(costs: Costs, only: &[&str]) -> Result<(), String> {
     if !valgrind() {
         println!("Skipped: valgrind is not installed.");
         return Ok(());
     }
     let engines = engines();
-    let these: Vec<_> = engines
-        .iter()
-        .filter(|e| only.is_empty() || only.contains(&e.name))
-        .filter(|e| (e.only)(MEASURES[0].1) && (e.only)(MEASURES[1].1))
-        .collect();
+    let asked = |e: &Engine| if only.is_empty() { e.judged() } else { only.contains(&e.name) };
+    let these: Vec<_> = engines.iter().filter(|e| asked(e)).collect();
     if these.is_empty() {
         return Ok(());
     }
