@@ -139,16 +139,16 @@ def edits():
 
 def refused_at(fact, rows):
     """What the log says in the fact's own file, or at its own theorem: the first error that is about a fact, else the first that only says that the proof
-    names a place which is gone; not that something else was refused (tests/edits judges alike). Line, name, text, and whether it is about a fact."""
+    names a place which is gone, or another than stands there; not that something else was refused (tests/edits judges alike). Line, name, text, and whether it is about a fact."""
     unfit = None
     for row in rows or []:
         if "was not admitted" in row:
             continue
-        file, _, name = fact.partition(":")
+        file, _, name = fact.replace("[+]", "+").partition(":")
         found = re.search(rf"({re.escape(file)}(?:/Proof)?\.antt):(\d+):\d+: error: `([^`]+)`: (.*)$", row)
         if found and (not name or found.group(3) == name):
             line, where, text = found.group(2), found.group(3), found.group(4)
-            if re.search(r"has no (?:field )?`|^record `\S+\.Lts\.", text) or (not name and where.endswith("-spec")):
+            if re.search(r"has no (?:field )?`|^record `\S+\.Lts\.|^expected type `(?:tie|\S+\.Lts)\.|one has `\S+\.Lts\.[^ `]+`(?:  \(expected\)|$)", text) or (not name and where.endswith("-spec")):
                 unfit = unfit or (line, where, text, False)
             else:
                 return line, where, text, True

@@ -14,6 +14,7 @@ use crate::lent::{
 use crate::library::{Lent, Through};
 use crate::plain::Plain;
 use crate::sound::Broken;
+use crate::word::ref_parts;
 use crate::world::{Costs, Setup, World};
 
 /// What was tried: memories by damage, sound or not; functions by number;
@@ -24,6 +25,8 @@ pub struct Tried {
     pub answers: BTreeMap<(&'static str, u64), u64>,
     pub rules: BTreeMap<Broken, u64>,
     pub words: u64,
+    /// Memories with a running coroutine past slot 63.
+    pub far: u64,
 }
 
 impl Tried {
@@ -56,8 +59,10 @@ fn same(lent: &Lent, words: &Words) -> Result<(), String> {
 
 /// A sound machine: a random one, or what a run leaves.
 fn sound_machine(rng: &mut Rng, costs: Costs) -> World {
-    if rng.chance(70) {
-        return machine(rng, costs, Profile::Small);
+    match rng.below(100) {
+        0..=4 => return machine(rng, costs, Profile::Many),
+        5..=73 => return machine(rng, costs, Profile::Small),
+        _ => {}
     }
     let s = sequence(rng, costs, 12);
     let mut engine = Plain::default();
@@ -74,8 +79,11 @@ fn sound_machine(rng: &mut Rng, costs: Costs) -> World {
 pub fn memories(rng: &mut Rng, costs: Costs, n: u64, tried: &mut Tried) -> Result<(), String> {
     let mut left = n;
     while left > 0 {
-        let sound = Words::of(&sound_machine(rng, costs));
+        let world = sound_machine(rng, costs);
+        let sound = Words::of(&world);
+        let far = world.chain.iter().any(|a| ref_parts(a.coro).0 > 63);
         for _ in 0..left.min(8) {
+            tried.far += u64::from(far);
             let (words, damage) =
                 if rng.chance(12) { random(rng, &sound) } else { damaged(rng, &sound) };
             memory(rng, costs, &words, damage, tried)

@@ -79,11 +79,12 @@ mod linked {
         done.unwrap_or_else(|why| panic!("{why}"));
         let [sound, unsound] = tried.totals();
         println!(
-            "bad: {} memories, {sound} sound, {unsound} not, {:.1} s",
+            "bad: {} memories, {sound} sound, {unsound} not, {} with a running coroutine past slot 63, {:.1} s",
             tried.count(),
+            tried.far,
             start.elapsed().as_secs_f64()
         );
-        assert!(sound > 1_000 && unsound > 10_000);
+        assert!(sound > 1_000 && unsound > 10_000 && tried.far > 500);
     }
 
     #[test]

@@ -1,4 +1,5 @@
 pub mod Answered
+pub mod Beyond
 pub mod Batch
 pub mod Words
 pub mod Look

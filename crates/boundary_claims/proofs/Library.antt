@@ -5,7 +5,7 @@ use mathlib.Core.Path.{_≡_, refl, sym, ap, ap₂, _∙_}
 use mathlib.Core.Bool.{Bool, true, false, _&&_}
 use mathlib.Core.Logic.{_⊎_, inl, inr}
 use mathlib.Core.List.{List, map}
-use lib.ListN.{length, getD}
+use lib.ListN.{length, getD, replicate}
 use lib.Dec.{leb}
 use borrow.Author.Tests.{leb-true, le-leb}
 use Rattle.lists.specs.Pick.{pick, pick-true}
@@ -16,6 +16,7 @@ use Rattle.model.specs.World.{World, After, withFuel}
 use Rattle.model.specs.Gate.{refused}
 use Rattle.model.specs.Added.{refuel, grantTooLarge, grant}
 use Rattle.model.specs.Added as Added
+use Rattle.model.specs.Compute.{computed}
 use Rattle.model.specs.Lists.{each, among}
 use Rattle.model.specs.Call.{isWord, typed, Operation}
 use Rattle.model.specs.Step.{Out, call}
@@ -36,7 +37,8 @@ use Rattle.claims.specs.Engine as Engine
 use Rattle.claims.specs.Engine.{run}
 use Rattle.lent.specs.Step.{State, Left, stateIn, isSound, decoded, stepWords, setUpOk, setUpWords, Call, Do, step}
 use Rattle.lent.specs.Sentences.{unchanging, NoSuchFault}
-use Rattle.lent.proofs.Kept.{words-kept, untested}
+use Rattle.lent.proofs.Kept as Kept
+use Rattle.lent.proofs.Kept.{words-kept}
 use Rattle.lent.proofs.Sentences.{sentences}
 use Rattle.lent_claims.specs.Engine.{outer}
 use Rattle.lent_claims.proofs.Fuel as Fuel
@@ -45,11 +47,12 @@ use Rattle.boundary.specs.Words.{machineWords, sizesIn, sizesWords, fuelIn, fue
 use Rattle.boundary.specs.Host.{numbersOk, sameSizes, Host, host, stateOf, tested, Gave, gave, tells, over, keptIn, callIn, Granted, freshIn, setUpIn, runHost}
 use Rattle.boundary.proofs.Hosts.{numbers, sound, sizes}
 use Rattle.boundary_claims.specs.Batch.{Calls, none, is, not}
-use Rattle.boundary_claims.specs.Library.{NoFault, unknown, none-such, Library}
-use Rattle.boundary_claims.proofs.Answered.{kept, told, no-room, unseen, begun-by, long-in, set-up-is, not-begun, all, ran-by, run-is, answered, not-run}
+use Rattle.boundary_claims.specs.Library.{NoFault, unknown, none-such, Passes, HasRoom, Begins, smallest, sevens, Library}
+use Rattle.boundary_claims.proofs.Answered.{kept, told, by, call-is, begun-by, long-in, set-up-is, not-begun, bad-set-up, all, ran-by, run-is, answered, not-run, no-room, untested}
 use Rattle.boundary_claims.proofs.Batch.{listed, batch}
-use Rattle.boundary_claims.proofs.Look.{looks}
-use Rattle.boundary_claims.proofs.Passing.{passing}
+use Rattle.boundary_claims.proofs.Beyond.{beyond}
+use Rattle.boundary_claims.proofs.Look.{sees, looks}
+use Rattle.boundary_claims.proofs.Passing.{bank-set, passing}
 use Rattle.boundary_claims.proofs.Words.{machine-back, sizes-stay, same-machine, fuel-back, bankSet, same-fuel, numbers-all, numbers-each, written-ok, sizes-self}
 
 -- ---- a state written over a machine's words
@@ -70,6 +73,15 @@ passes : (h : Host) → numbersOk (h .machine) (h .fuel) ≡ true → isSound (s
 unfolding tested
 passes h a b c = both (both a b) (ap (λ (l : Sizes). sameSizes l (sizesOf (setupOf (h .words .setup)))) c ∙ sizes-self (sizesOf (setupOf (h .words .setup))))
 
+exactly : (h : Host) → Passes h → tested h ≡ true
+exactly h p =
+    let ms = h .machine in
+    let fs = h .fuel in
+    passes h
+    (numbers-all ms fs (le-leb 25 (length ms) (p .machine)) (le-leb 4 (length fs) (p .fuel)) (le-leb (getD ms 6 0) 1 (p .running))
+    (both (le-leb (getD fs 3 0) 1 (p .ready)) (bank-set (getD fs 1 0) (getD fs 2 0) (p .bank))))
+    (p .sound) (p .sizes)
+
 -- the set-up stays, and the words are sound
 pub record Stays (s t : State) : Type 0 where
   pub sound : isSound t ≡ true
@@ -86,7 +98,7 @@ keeps h t e k =
 stays-set-up : (s : State) (o : Operation) → isSound s ≡ true → setupOf (stepWords s (o .op) .state .words .setup) ≡ setupOf (s .words .setup)
 stays-set-up s o e =
     ap (λ (w : World). w .setup) (words-kept .leaves s o e)
-    ∙ ap (λ (x : Out). x .world .setup) (sym (untested (decoded s) o (words-kept .stands s e)))
+    ∙ ap (λ (x : Out). x .world .setup) (sym (Kept.untested (decoded s) o (words-kept .stands s e)))
     ∙ Sheet.sentences .set-up-stays (decoded s) o
 
 call-stays : (s : State) (o : Operation) → isSound s ≡ true → Stays s (stepWords s (o .op) .state)
@@ -95,14 +107,6 @@ call-stays s o e = record { sound = words-kept .kept s o e; setup = stays-set-up
 read-stays : (s : State) (ws : List ℕ) (r : Read) → each isWord ws ≡ true → opOf ws ≡ r → isSound s ≡ true → Stays s (doWords s r .state)
 read-stays s ws (Read.Is o) w q e = call-stays s (record { op = o; within = read-typed ws o w q }) e
 read-stays s ws (Read.Not f) w q e = record { sound = e; setup = refl }
-
--- by room for the answer, and by the test
-abbrev by : Host → Read → List ℕ → Bool → Bool → Gave
-by h r xs room ok = pick room (pick ok (keptIn h r xs) (tells h (Answer.Refused Fault.Unsound) xs)) (gave h xs 14)
-
-call-is : (h : Host) (r : Read) (xs : List ℕ) → callIn h r xs ≡ by h r xs (leb 8 (length xs)) (tested h)
-unfolding callIn
-call-is h r xs = refl
 
 called-by : (h : Host) (ws xs : List ℕ) → each isWord ws ≡ true → tested h ≡ true → (room : Bool) → tested (by h (opOf ws) xs room true .host) ≡ true
 unfolding pick
@@ -139,13 +143,6 @@ no-call h ws xs f e w q =
     ap (λ (r : Read). callIn h r xs) q ∙ sym (kept h (Read.Not f) xs e w) ∙ (λ i. tells (p i) (Answer.Refused (g i)) xs)
 
 -- ---- 11
-
-refused-by : (h : Host) (r : Read) (xs : List ℕ) → by h r xs true false .number ≡ 11
-unfolding pick
-refused-by h r xs = refl
-
-not-passed : (h : Host) (r : Read) (xs : List ℕ) → tested h ≡ false → 8 ≤ length xs → callIn h r xs .number ≡ 11
-not-passed h r xs e w = ap (λ (g : Gave). g .number) (call-is h r xs ∙ ap₂ (by h r xs) (le-leb 8 (length xs) w) e) ∙ refused-by h r xs
 
 eleven-by : (h : Host) (ws xs : List ℕ) (r : Read) → each isWord ws ≡ true → opOf ws ≡ r → (room ok : Bool) → tested h ≡ ok → by h r xs room ok .number ≡ 11 → (tested h ≡ false) ⊎ NoFault r
 unfolding pick
@@ -289,6 +286,36 @@ module _ (h : Host) (given xs : List ℕ) (n : setUpIn h given xs .number ≡ 0)
   sets-up : stateOf (setUpIn h given xs .host) ≡ setUpWords (stateOf h) given .state
   sets-up = ap stateOf (accepted .0) ∙ fresh-state h given
 
+-- with room and of good words, whatever the machine was
+accepted-by : (h : Host) (given xs : List ℕ) → begun-by h given xs true true true ≡ tells (freshIn h given) Answer.Accepted xs
+unfolding pick
+accepted-by h given xs = refl
+
+set-up : (h : Host) (given xs : List ℕ) → HasRoom h xs → setUpOk given (h .words) ≡ true → Begins h given xs
+set-up h given xs r e =
+    let l : long-in h ≡ true = both (le-leb 25 (length (h .machine)) (r .machine)) (le-leb 4 (length (h .fuel)) (r .fuel)) in
+    let p =
+    set-up-is h given xs ∙ ap (λ b. begun-by h given xs b (long-in h) (setUpOk given (h .words))) (le-leb 8 (length xs) (r .answer))
+    ∙ ap₂ (begun-by h given xs true) l e ∙ accepted-by h given xs in
+    record {
+      number = ap (λ (g : Gave). g .number) p;
+      answer = ap (λ (g : Gave). g .answer) p;
+      passes = ap (λ (g : Gave). tested (g .host)) p ∙ fresh-passes h given l e;
+    }
+
+-- ---- one that is accepted, and a machine that does not pass
+
+smallest-good : setUpOk smallest (sevens .words) ≡ true
+unfolding computed
+smallest-good = refl
+
+some : Begins sevens smallest (replicate 8 7)
+some = set-up sevens smallest (replicate 8 7) (record { answer = omega arith; machine = omega arith; fuel = omega arith }) smallest-good
+
+fails : tested sevens ≡ false
+unfolding tested
+fails = refl
+
 -- ---- a batch
 
 run-stays : (s : State) {rs : List Read} {ks : List Call} → Calls rs ks → isSound s ≡ true → Stays s (runWords s rs .state)
@@ -323,6 +350,10 @@ library =
       sets-up = sets-up;
       calls = calls;
       runs = runs;
+      set-up = set-up;
+      bad-set-up = bad-set-up;
+      fails = fails;
+      some = some;
       begun = begun;
       called = called;
       ran = ran;
@@ -337,10 +368,12 @@ library =
       no-room = no-room;
       no-call = no-call;
       unchanged = unchanged;
-      untested = not-passed;
+      untested = untested;
       eleven = eleven;
       no-fault = no-fault;
       passing = passing;
+      exactly = exactly;
+      beyond = beyond;
+      sees = sees;
       looks = looks;
-      unseen = unseen;
     }

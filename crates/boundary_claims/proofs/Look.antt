@@ -38,7 +38,7 @@ look-is : (h : Host) (zs : List ℕ) → lookIn h zs ≡ seen-by h zs (leb 2 (le
 unfolding lookIn
 look-is h zs = refl
 
-look-done : (h : Host) (zs : List ℕ) → seen-by h zs true true .span ≡ splice zs 0 (span-in h)
+look-done : (h : Host) (zs : List ℕ) → seen-by h zs true true ≡ saw (splice zs 0 (span-in h)) 0
 unfolding pick
 look-done h zs = refl
 
@@ -48,12 +48,15 @@ registers-part s c [] = refl
 registers-part s c (f ∷ fs) =
     ap (λ n. take (n - f .base) (drop (f .base) (s .words .stack))) (sym c) ∙ part-drop (f .base) (s .machine .height) (s .words .stack)
 
+pub sees : (h : Host) (zs : List ℕ) → tested h ≡ true → 2 ≤ length zs → lookIn h zs ≡ saw (splice zs 0 (span-in h)) 0
+sees h zs e l = look-is h zs ∙ ap₂ (seen-by h zs) (le-leb 2 (length zs) l) e ∙ look-done h zs
+
 pub looks : (h : Host) (zs : List ℕ) → tested h ≡ true → 2 ≤ length zs
     → let span = lookIn h zs .span in part (getD span 0 0) (getD span 1 0 - getD span 0 0) (h .words .stack) ≡ looked (stateOf h)
 unfolding registers
 looks h zs e l =
     let s = stateOf h in
-    let p = ap (λ (x : Looked). x .span) (look-is h zs ∙ ap₂ (seen-by h zs) (le-leb 2 (length zs) l) e) ∙ look-done h zs in
+    let p = ap (λ (x : Looked). x .span) (sees h zs e l) in
     let c = stands (s .words) (s .machine) (s .fuel) (sound h e) .rep .stack .count in
     ap (λ (span : List ℕ). part (getD span 0 0) (getD span 1 0 - getD span 0 0) (h .words .stack)) p
     ∙ registers-part s c (decoded s .frames)

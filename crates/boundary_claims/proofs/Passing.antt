@@ -4,12 +4,12 @@ use native.Mathlib.Omega.{arith}
 use mathlib.Core.Path.{_≡_, refl, sym, ap, _∙_, subst}
 use mathlib.Core.Bool.{Bool, true, false, _&&_, _||_}
 use mathlib.Core.Logic.{_⊎_, inl, inr}
-use lib.ListN.{getD}
+use lib.ListN.{length, getD}
 use lib.Dec.{eqb, leb}
-use borrow.Author.Tests.{leb-true, eqb-true}
+use borrow.Author.Tests.{leb-true, eqb-true, eq-eqb}
 use Rattle.model.specs.declared.machine.Outcome.{Outcome}
 use Rattle.model.specs.declared.machine.Stop.{Stop}
-use Rattle.soundness.proofs.Tests.{and-left, and-right}
+use Rattle.soundness.proofs.Tests.{and-left, and-right, both}
 use Rattle.memory.specs.Told.{told, outcomeIn}
 use Rattle.memory.specs.declared.machine.Told.{Told}
 use Rattle.sound.specs.Words.{outcomeHeld}
@@ -45,15 +45,26 @@ bank-is c a e = go (eqb c 1) refl
         let k : (eqb c 0 && eqb a 0) ≡ true = sym (ap (λ x. x || eqb c 0 && eqb a 0) q) ∙ e in
         inr (eqb-true c 0 (and-left (eqb c 0) (eqb a 0) k), eqb-true a 0 (and-right (eqb c 0) (eqb a 0) k))
 
+or-true : (b : Bool) → (b || true) ≡ true
+or-true true = refl
+or-true false = refl
+
+pub bank-set : (c a : ℕ) → (c ≡ 1) ⊎ ((c ≡ 0) × (a ≡ 0)) → (eqb c 1 || eqb c 0 && eqb a 0) ≡ true
+bank-set c a (inl e) = ap (λ b. b || eqb c 0 && eqb a 0) (eq-eqb c 1 e)
+bank-set c a (inr e) = ap (λ b. eqb c 1 || b) (both (eq-eqb c 0 (e .0)) (eq-eqb a 0 (e .1))) ∙ or-true (eqb c 1)
+
 pub passing : (h : Host) → tested h ≡ true → Passes h
 passing h e =
     let n = numbers-each (h .machine) (h .fuel) (numbers h e) in
     let r = leb (getD (h .fuel) 3 0) 1 in
     let s = stateOf h in
     record {
+      machine = leb-true 25 (length (h .machine)) (n .0);
+      fuel = leb-true 4 (length (h .fuel)) (n .1);
       running = leb-true (getD (h .machine) 6 0) 1 (n .2);
       ready = leb-true (getD (h .fuel) 3 0) 1 (and-left r (bankSet (h .fuel)) (n .3));
       bank = bank-is (getD (h .fuel) 1 0) (getD (h .fuel) 2 0) (and-right r (bankSet (h .fuel)) (n .3));
       outcome = held-small (s .machine .outcome) (passed (s .words) (s .machine) (s .fuel) (sound h e) .outcome);
       sizes = sizes h e;
+      sound = sound h e;
     }

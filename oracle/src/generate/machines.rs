@@ -41,7 +41,7 @@ fn attempt(rng: &mut Rng, costs: Costs, profile: Profile) -> World {
     // Room first; the limits are drawn tighter at the end.
     (s.depth, s.stack, s.rows, s.memory) = (128, 1024, 64, u64::MAX);
     let mut w = World::fresh(s);
-    objects(rng, &mut w);
+    objects(rng, &mut w, profile);
     w.setup.slots = w.slots.len() as u64 + rng.pick(&[0, 0, 1, 2, 5]);
     let words = Words::of(&w);
     fill(rng, &mut w, &words);
@@ -60,7 +60,8 @@ fn attempt(rng: &mut Rng, costs: Costs, profile: Profile) -> World {
 }
 
 /// Objects of every kind, most often with the function objects first.
-fn objects(rng: &mut Rng, w: &mut World) {
+fn objects(rng: &mut Rng, w: &mut World, profile: Profile) {
+    let many = profile == Profile::Many;
     let states = |rng: &mut Rng| match rng.below(10) {
         0 | 1 => State::Created,
         2..=4 => State::Running,
@@ -70,11 +71,14 @@ fn objects(rng: &mut Rng, w: &mut World) {
         _ => State::Failed,
     };
     let mut made: Vec<Slot> = Vec::new();
-    for _ in 0..rng.range(0, 6) {
+    // at most 64 rows, so no more of them that are not finished
+    let coros = if many { rng.range(20, 70) } else { rng.range(0, 6) };
+    for _ in 0..coros {
         let state = states(rng);
         made.push(filled(rng, Object::Coro(Box::new(Coro::blank(state)))));
     }
-    for _ in 0..rng.below(3) {
+    let integers = if many { rng.range(45, 125) } else { rng.below(3) };
+    for _ in 0..integers {
         let i = rng.pick(&EDGES);
         made.push(filled(rng, Object::Int(i)));
     }

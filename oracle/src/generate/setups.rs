@@ -11,6 +11,8 @@ pub enum Profile {
     Roomy,
     /// Functions of up to 256 registers and room for them.
     Wide,
+    /// As small ones, with objects past slot 63 and up to 64 rows.
+    Many,
 }
 
 /// Pcs: small ones, and the last before the wrap.
@@ -35,12 +37,14 @@ fn handler(rng: &mut Rng, nregs: u64) -> Handler {
 
 fn func(rng: &mut Rng, profile: Profile) -> Func {
     let nregs = match profile {
-        Profile::Small => rng.pick(&[0, 1, 1, 2, 2, 3, 3, 4, 5]),
+        Profile::Small | Profile::Many => rng.pick(&[0, 1, 1, 2, 2, 3, 3, 4, 5]),
         Profile::Roomy => rng.pick(&[0, 2, 3, 4, 5, 6]),
         Profile::Wide => rng.pick(&[2, 4, 200, 254, 255, 256, 256]),
     };
     let nparams = match profile {
-        Profile::Small | Profile::Roomy => rng.below(nregs.min(3) as usize + 1) as u64,
+        Profile::Small | Profile::Roomy | Profile::Many => {
+            rng.below(nregs.min(3) as usize + 1) as u64
+        }
         Profile::Wide => rng.pick(&[0, 1, 200, 255, 255]).min(nregs),
     };
     let count = match rng.below(10) {
@@ -74,7 +78,7 @@ pub fn setup(rng: &mut Rng, costs: Costs, profile: Profile) -> Setup {
             _ => rng.range(1, 6) as u64,
         },
         stack: match profile {
-            Profile::Small => rng.range(1, 24) as u64,
+            Profile::Small | Profile::Many => rng.range(1, 24) as u64,
             Profile::Roomy => rng.range(40, 100) as u64,
             Profile::Wide => rng.pick(&[512, 600, 1024]),
         },
