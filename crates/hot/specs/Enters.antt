@@ -36,24 +36,34 @@ topIn frames ms = baseIn frames (getD ms 1 0 - 1)
 abbrev pub inTop : List ℕ → List ℕ → ℕ → Bool
 inTop frames ms r = ltb (topIn frames ms + r) (getD ms 0 0)
 
--- the coroutine in slot i: Created, Yielded or Awaiting; it has frames; the depth and the stack have room for what it saved
+-- of the coroutine in slot i
 abbrev pub entryTests : List ℕ → List ℕ → ℕ → List Bool
 entryTests slots ms i =
     let c = recordAt slots i in
-    isResumable (c .state) ∷ not (eqb (c .frames) 0) ∷ leb (getD ms 1 0 + c .frames) (getD ms 13 0) ∷ leb (getD ms 0 0 + c .regs) (getD ms 14 0) ∷ []
+    let m = machineIn ms in
+    let l = sizesIn ms in
+    -- Created, Yielded or Awaiting, with frames
+    isResumable (c .state) ∷ not (eqb (c .frames) 0)
+    -- the depth limit and the stack limit, with what it saved
+    ∷ leb (m .depth + c .frames) (l .depth) ∷ leb (m .height + c .regs) (l .stack) ∷ []
 
--- the word in register c names a coroutine
+-- what the word in register c names
+abbrev pub toEnter : List ℕ → List ℕ → List ℕ → List ℕ → ℕ → CoroPlace
+toEnter stack frames slots ms c = placeOf (coroOf (slotsOf (getD ms 3 0) slots) (getD stack (topIn frames ms + c) 0))
+
+-- where it names a coroutine
 abbrev pub entersIn : List ℕ → List ℕ → CoroPlace → Bool
 entersIn slots ms (L.Not f) = false
 entersIn slots ms (L.At i) = all (entryTests slots ms i)
 
-abbrev pub toEnter : List ℕ → List ℕ → List ℕ → List ℕ → ℕ → CoroPlace
-toEnter stack frames slots ms c = placeOf (coroOf (slotsOf (getD ms 3 0) slots) (getD stack (topIn frames ms + c) 0))
-
--- a frame stands, there is fuel, the three registers lie in the frame
 abbrev pub enterTests : List ℕ → List ℕ → List ℕ → List ℕ → ℕ → ℕ → ℕ → ℕ → List Bool
 enterTests stack frames slots ms fuel dst c src =
-    leb 1 (getD ms 1 0) ∷ leb 1 fuel ∷ inTop frames ms dst ∷ inTop frames ms c ∷ inTop frames ms src ∷ entersIn slots ms (toEnter stack frames slots ms c) ∷ []
+    -- 12: a frame stands; the charge takes a unit of fuel that is there
+    leb 1 (machineIn ms .depth) ∷ leb 1 fuel
+    -- 13: the registers lie in the frame
+    ∷ inTop frames ms dst ∷ inTop frames ms c ∷ inTop frames ms src
+    -- coro_enter refuses nothing
+    ∷ entersIn slots ms (toEnter stack frames slots ms c) ∷ []
 
 unfoldable pub mayEnter : List ℕ → List ℕ → List ℕ → List ℕ → ℕ → ℕ → ℕ → ℕ → Bool
 mayEnter stack frames slots ms fuel dst c src = all (enterTests stack frames slots ms fuel dst c src)

@@ -41,26 +41,37 @@ abbrev pub keyFits : Exact → Bool
 keyFits (Exact.Fits n) = hasWord (inlineOf (ofBits 63 n))
 keyFits Exact.Over = false
 
--- the innermost coroutine, in slot i: it is not being closed, and was saved with as many words and frames before
+-- of the innermost coroutine, in slot i
 abbrev pub exitTests : List ℕ → List ℕ → List ℕ → List ℕ → ℕ → List Bool
 exitTests frames chain slots ms i =
     let c = recordAt slots i in
-    let floor = innermostIn chain (machineIn ms) .floor in
-    not (c .closing) ∷ leb (getD ms 0 0 - baseIn frames floor) (c .maxregs) ∷ leb (getD ms 1 0 - floor) (c .maxframes) ∷ keyFits (nextKey (c .largest)) ∷ []
+    let m = machineIn ms in
+    let floor = innermostIn chain m .floor in
+    -- it is not being closed
+    not (c .closing)
+    -- no more words and frames than it had saved before: no charge
+    ∷ leb (m .height - baseIn frames floor) (c .maxregs) ∷ leb (m .depth - floor) (c .maxframes)
+    ∷ keyFits (nextKey (c .largest)) ∷ []
 
--- its word names it
+-- what the innermost coroutine's word names
+abbrev pub toLeave : List ℕ → List ℕ → List ℕ → CoroPlace
+toLeave chain slots ms = placeOf (coroOf (slotsOf (getD ms 3 0) slots) (innermostIn chain (machineIn ms) .coro))
+
+-- where it names a coroutine
 abbrev pub leavesIn : List ℕ → List ℕ → List ℕ → List ℕ → CoroPlace → Bool
 leavesIn frames chain slots ms (L.Not f) = false
 leavesIn frames chain slots ms (L.At i) = all (exitTests frames chain slots ms i)
 
-abbrev pub toLeave : List ℕ → List ℕ → List ℕ → CoroPlace
-toLeave chain slots ms = placeOf (coroOf (slotsOf (getD ms 3 0) slots) (innermostIn chain (machineIn ms) .coro))
-
--- a frame stands, there is fuel, a coroutine runs, the two registers lie in the frame; it is driven by a Resume
 abbrev pub leaveTests : List ℕ → List ℕ → List ℕ → List ℕ → ℕ → ℕ → ℕ → List Bool
 leaveTests frames chain slots ms fuel dst src =
-    leb 1 (getD ms 1 0) ∷ leb 1 fuel ∷ leb 1 (getD ms 2 0) ∷ inTop frames ms dst ∷ inTop frames ms src
-    ∷ eqb (getD (chunkAt 6 chain (getD ms 2 0 - 1)) 2 0) 0 ∷ leavesIn frames chain slots ms (toLeave chain slots ms) ∷ []
+    -- 12: a frame stands; the charge takes a unit of fuel that is there; 5: a coroutine runs
+    leb 1 (machineIn ms .depth) ∷ leb 1 fuel ∷ leb 1 (machineIn ms .active)
+    -- 13: the registers lie in the frame
+    ∷ inTop frames ms dst ∷ inTop frames ms src
+    -- it is driven by a Resume, whose code is 0
+    ∷ eqb (getD (chunkAt 6 chain (machineIn ms .active - 1)) 2 0) 0
+    -- coro_suspend refuses nothing
+    ∷ leavesIn frames chain slots ms (toLeave chain slots ms) ∷ []
 
 unfoldable pub mayLeave : List ℕ → List ℕ → List ℕ → List ℕ → ℕ → ℕ → ℕ → Bool
 mayLeave frames chain slots ms fuel dst src = all (leaveTests frames chain slots ms fuel dst src)
