@@ -5,8 +5,8 @@
  * returns the answer's number (0: accepted) and writes the answer.
  *
  * Every call tests the words first and refuses with 11 if they are no sound machine's. A host that owns its words, and lets only these
- * functions write them, may define HUMDELZI_KEPT before this file is included: the calls are then made without the test, and Resume and
- * Yield by functions of their own (libhot.a), which do the same (crates/hot/src) several times as fast. Such a host makes no call before a
+ * functions write them, may define HUMDELZI_KEPT before this file is included: the calls are then made without the test, and a Resume or
+ * Yield that nothing refuses by a function of its own (libhot.a), which does the same (crates/hot/src) several times as fast. Such a host makes no call before a
  * set-up that answered 0, or before humdelzi_sound said 1 of words from elsewhere: on other words these calls read and write anywhere. A set-up
  * that answers 0 leaves a sound machine, and every call leaves it sound (begun, called and kept of crates/boundary_claims/specs/Library.antt).
  */
@@ -38,9 +38,11 @@ uint64_t bvm_look(HUMDELZI_EIGHT_READ, HUMDELZI_READ, HUMDELZI_READ, HUMDELZI_RE
 uint64_t bvm_grant(HUMDELZI_EIGHT_READ, HUMDELZI_READ, HUMDELZI_READ, HUMDELZI_SLICE, HUMDELZI_SLICE /* answer */, uint64_t amount);
 uint64_t bvm_sound(HUMDELZI_EIGHT_READ, HUMDELZI_READ, HUMDELZI_READ, HUMDELZI_READ);
 
-/* in libhot.a: bvm_kept of one call, with its operands by value */
-uint64_t bvm_resume(HUMDELZI_EIGHT, HUMDELZI_READ, HUMDELZI_SLICE, HUMDELZI_SLICE, HUMDELZI_SLICE /* answer */, uint32_t pc, uint16_t dst, uint16_t coro, uint16_t src);
-uint64_t bvm_yield(HUMDELZI_EIGHT, HUMDELZI_READ, HUMDELZI_SLICE, HUMDELZI_SLICE, HUMDELZI_SLICE /* answer */, uint32_t pc, uint16_t dst, uint16_t src);
+/* in libhot.a; stack frames chain slots saved_stack saved_frames, machine fuel, operands. 1: the call is done as bvm_kept does it, and its
+ * answer is 0 0 2 0 3 0 0 0. 0: nothing has changed, and bvm_kept makes the call. */
+#define HUMDELZI_SWITCH HUMDELZI_SLICE, HUMDELZI_SLICE, HUMDELZI_SLICE, HUMDELZI_SLICE, HUMDELZI_SLICE, HUMDELZI_SLICE, HUMDELZI_SLICE, HUMDELZI_SLICE
+uint64_t bvm_try_resume(HUMDELZI_SWITCH, uint32_t pc, uint16_t dst, uint16_t coro, uint16_t src);
+uint64_t bvm_try_yield(HUMDELZI_SWITCH, uint32_t pc, uint16_t dst, uint16_t src);
 
 /* ---- a machine */
 
@@ -124,8 +126,32 @@ HUMDELZI_CALL(coro_new, , uint32_t pc, uint16_t dst, uint32_t function, uint8_t 
 HUMDELZI_CALL(coro_new_indirect, , uint32_t pc, uint16_t dst, uint16_t callee, uint8_t count) { return humdelzi_call(m, f, a, 1, pc, dst, callee, count, 0); }
 HUMDELZI_CALL(spawn, , uint32_t pc, uint16_t dst, uint16_t callee, uint8_t count) { return humdelzi_call(m, f, a, 2, pc, dst, callee, count, 0); }
 #ifdef HUMDELZI_KEPT
-HUMDELZI_CALL(yield, , uint32_t pc, uint16_t dst, uint16_t src) { return bvm_yield(HUMDELZI_NINE(m), m->machine, 25, &f->left, 4, &a->number, 8, pc, dst, src); }
-HUMDELZI_CALL(resume, , uint32_t pc, uint16_t dst, uint16_t coro, uint16_t src) { return bvm_resume(HUMDELZI_NINE(m), m->machine, 25, &f->left, 4, &a->number, 8, pc, dst, coro, src); }
+#define HUMDELZI_SIX(m) HUMDELZI_LEND((m)->stack), HUMDELZI_LEND((m)->frames), HUMDELZI_LEND((m)->chain), HUMDELZI_LEND((m)->slots), \
+    HUMDELZI_LEND((m)->saved_stack), HUMDELZI_LEND((m)->saved_frames)
+/* what a try leaves; inlined it would keep the slices for the second call */
+#ifdef __GNUC__
+__attribute__((noinline, cold, unused))
+#endif
+static uint64_t humdelzi_general(humdelzi_machine *m, humdelzi_fuel *f, humdelzi_answer *a, uint64_t code, uint64_t o1, uint64_t o2, uint64_t o3, uint64_t o4)
+{
+    return humdelzi_call(m, f, a, code, o1, o2, o3, o4, 0);
+}
+/* the frame on top goes on */
+static inline uint64_t humdelzi_goes_on(humdelzi_answer *a)
+{
+    a->number = a->word = a->taken = a->outcome = a->function = a->pc = 0;
+    a->step = HUMDELZI_FRAME;
+    a->which = HUMDELZI_STEPPED;
+    return 0;
+}
+HUMDELZI_CALL(yield, , uint32_t pc, uint16_t dst, uint16_t src)
+{
+    return bvm_try_yield(HUMDELZI_SIX(m), m->machine, 25, &f->left, 4, pc, dst, src) ? humdelzi_goes_on(a) : humdelzi_general(m, f, a, 3, pc, dst, src, 0);
+}
+HUMDELZI_CALL(resume, , uint32_t pc, uint16_t dst, uint16_t coro, uint16_t src)
+{
+    return bvm_try_resume(HUMDELZI_SIX(m), m->machine, 25, &f->left, 4, pc, dst, coro, src) ? humdelzi_goes_on(a) : humdelzi_general(m, f, a, 6, pc, dst, coro, src);
+}
 #else
 HUMDELZI_CALL(yield, , uint32_t pc, uint16_t dst, uint16_t src) { return humdelzi_call(m, f, a, 3, pc, dst, src, 0, 0); }
 HUMDELZI_CALL(resume, , uint32_t pc, uint16_t dst, uint16_t coro, uint16_t src) { return humdelzi_call(m, f, a, 6, pc, dst, coro, src, 0); }

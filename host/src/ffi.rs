@@ -19,10 +19,11 @@
 //!   that passes the test passes with the record of any other that does
 //!   (`any-fuel` there, from `AnyFuel` of
 //!   `crates/lent_claims/specs/Fuel.antt`).
-//! - `bvm_resume` and `bvm_yield` ask for what `bvm_kept` asks for, and leave
-//!   what it leaves of the same call: the contract of each, in
-//!   `crates/hot/src/resume.rt` and `yielding.rt`, is `bvm_kept`'s equation
-//!   (`keptIn` of `crates/boundary/specs/Host.antt`). So what is said of
+//! - `bvm_try_resume` and `bvm_try_yield` ask for what `bvm_kept` asks for, of
+//!   the slices that they are lent and some others beside. Where they answer 1
+//!   they leave what it leaves of the same call, where they answer 0 all is as
+//!   it was: `Switched` of `crates/hot/specs/Switch.antt`, the contract of each
+//!   in `crates/hot/src/resume.rt` and `yielding.rt`. So what is said of
 //!   `bvm_kept` above holds of them.
 //! - `bvm_batch` may be lent any words whatever, and leaves a sound machine
 //!   sound (`runHost` there; `ran` of `Library.antt`).
@@ -93,9 +94,9 @@ const PAGE: usize = 512;
 const APART: usize = 80;
 
 /// The library's functions. Each is lent the machine's nine slices and its
-/// numbers, as a pointer and a length each, then other slices, then operands.
+/// numbers, as a pointer and a length each, then other slices.
 macro_rules! functions {
-    ($($name:ident($($slice:ident)* $(; $($operand:ident: $kind:ty),*)?) $pointer:ty;)*) => {
+    ($($name:ident($($slice:ident)*) $pointer:ty;)*) => {
         extern "C" {
             $(fn $name(
                 stack: $pointer, _: usize,
@@ -109,7 +110,6 @@ macro_rules! functions {
                 setup: $pointer, _: usize,
                 machine: $pointer, _: usize,
                 $($slice: $pointer, _: usize,)*
-                $($($operand: $kind,)*)?
             ) -> u64;)*
         }
     };
@@ -118,15 +118,38 @@ macro_rules! functions {
 functions! {
     bvm_set_up(fuel given answer) *mut u64;
     bvm_kept(fuel call answer) *mut u64;
-    bvm_resume(fuel answer; pc: u32, dst: u16, coro: u16, src: u16) *mut u64;
-    bvm_yield(fuel answer; pc: u32, dst: u16, src: u16) *mut u64;
     bvm_batch(fuel calls answers) *mut u64;
     bvm_sound(fuel) *const u64;
 }
 
-/// Calls one of them, with the machine's slices, the others and the operands.
+/// Those of a switch: they are lent the six slices that one moves words
+/// between, the machine's numbers and the fuel, and told the operands.
+macro_rules! switches {
+    ($($name:ident($($operand:ident: $kind:ty),*);)*) => {
+        extern "C" {
+            $(fn $name(
+                stack: *mut u64, _: usize,
+                frames: *mut u64, _: usize,
+                chain: *mut u64, _: usize,
+                slots: *mut u64, _: usize,
+                saved_stack: *mut u64, _: usize,
+                saved_frames: *mut u64, _: usize,
+                machine: *mut u64, _: usize,
+                fuel: *mut u64, _: usize,
+                $($operand: $kind,)*
+            ) -> u64;)*
+        }
+    };
+}
+
+switches! {
+    bvm_try_resume(pc: u32, dst: u16, coro: u16, src: u16);
+    bvm_try_yield(pc: u32, dst: u16, src: u16);
+}
+
+/// Calls one of the first, with the machine's slices and the others.
 macro_rules! lend {
-    ($name:ident($lent:expr, $($slice:expr),* $(; $($operand:expr),*)?) $pointer:ident) => {{
+    ($name:ident($lent:expr, $($slice:expr),*) $pointer:ident) => {{
         let w: &[Lent; 10] = &$lent;
         // SAFETY: above.
         unsafe {
@@ -134,9 +157,24 @@ macro_rules! lend {
                 w[0].0, w[0].1, w[1].0, w[1].1, w[2].0, w[2].1, w[3].0, w[3].1, w[4].0, w[4].1,
                 w[5].0, w[5].1, w[6].0, w[6].1, w[7].0, w[7].1, w[8].0, w[8].1, w[9].0, w[9].1,
                 $($slice.$pointer(), $slice.len(),)*
-                $($($operand,)*)?
             )
         }
+    }};
+}
+
+/// Calls one of the second: whether the switch is done.
+macro_rules! switch {
+    ($name:ident($lent:expr, $fuel:expr; $($operand:expr),*)) => {{
+        let w: &[Lent; 10] = &$lent;
+        let fuel: &mut [u64; 4] = &mut $fuel;
+        // SAFETY: above.
+        let done = unsafe {
+            $name(
+                w[0].0, w[0].1, w[1].0, w[1].1, w[2].0, w[2].1, w[3].0, w[3].1, w[4].0, w[4].1,
+                w[5].0, w[5].1, w[9].0, w[9].1, fuel.as_mut_ptr(), fuel.len(), $($operand,)*
+            )
+        };
+        done == 1
     }};
 }
 
@@ -210,20 +248,19 @@ impl Sound {
         &self.answer
     }
 
-    /// Resume: `kept` of the call 6.
+    /// Resume, where nothing refuses it: the frame on top goes on. Else nothing
+    /// is done.
     #[inline]
-    pub(crate) fn resume(&mut self, fuel: &mut Record, pc: u32, r: [u16; 3]) -> &AnswerWords {
+    pub(crate) fn try_resume(&mut self, fuel: &mut Record, pc: u32, r: [u16; 3]) -> bool {
         let [dst, coro, src] = r;
-        lend!(bvm_resume(self.slices, fuel.0, self.answer; pc, dst, coro, src) as_mut_ptr);
-        &self.answer
+        switch!(bvm_try_resume(self.slices, fuel.0; pc, dst, coro, src))
     }
 
-    /// Yield: `kept` of the call 3.
+    /// Yield to a Resume, where nothing refuses it, in the same way.
     #[inline]
-    pub(crate) fn yields(&mut self, fuel: &mut Record, pc: u32, r: [u16; 2]) -> &AnswerWords {
+    pub(crate) fn try_yield(&mut self, fuel: &mut Record, pc: u32, r: [u16; 2]) -> bool {
         let [dst, src] = r;
-        lend!(bvm_yield(self.slices, fuel.0, self.answer; pc, dst, src) as_mut_ptr);
-        &self.answer
+        switch!(bvm_try_yield(self.slices, fuel.0; pc, dst, src))
     }
 
     /// Calls one after the other, after one test of soundness.

@@ -7,7 +7,7 @@ use crate::batch::Batch;
 use crate::call::Call;
 use crate::ffi::{Record, Sound, View};
 use crate::words::{Unsound, Words};
-use crate::{Cont, Fault, FunctionId, Kind, Pc, Reg, Setup, Word};
+use crate::{Cont, Fault, FunctionId, Kind, Pc, Reg, Setup, Step, Word};
 
 /// The fuel record. It is the host's, and each call is lent it; a grant
 /// rewrites it there.
@@ -70,6 +70,10 @@ impl fmt::Debug for Machine {
     }
 }
 
+/// The answer of a switch that nothing refused (`goesOn` of
+/// `crates/hot/specs/Went.antt`).
+const GOES_ON: Answer = Answer::Stepped { step: Step::Frame, taken: 0 };
+
 /// One method for a call.
 macro_rules! calls {
     ($($(#[$doc:meta])* $name:ident($($operand:ident: $type:ty),*) = $call:ident;)*) => {
@@ -90,28 +94,42 @@ impl Machine {
         self.0.words()
     }
 
-    /// A call. The methods below are short for it. Resume and Yield have
-    /// functions of their own in the library, several times as fast.
+    /// A call. The methods below are short for it. A Resume or Yield that
+    /// nothing refuses is done by a function of its own in the library, several
+    /// times as fast.
     pub fn call(&mut self, fuel: &mut Fuel, call: Call) -> Answer {
         match call {
             Call::Resume { pc, dst, coro, src } => self.resume(fuel, pc, dst, coro, src),
             Call::Yield { pc, dst, src } => self.yield_(fuel, pc, dst, src),
-            _ => Answer::read(self.0.kept(&mut fuel.0, call.words())),
+            _ => self.any(fuel, call),
         }
+    }
+
+    /// Any call, by the function for all. Inlined into `resume` it would keep
+    /// the slices for the second call.
+    #[inline(never)]
+    fn any(&mut self, fuel: &mut Fuel, call: Call) -> Answer {
+        Answer::read(self.0.kept(&mut fuel.0, call.words()))
     }
 
     /// Resume: enters the coroutine in `coro` and sends it the word in `src`;
     /// what it yields or returns comes to `dst`.
     #[inline]
     pub fn resume(&mut self, fuel: &mut Fuel, pc: Pc, dst: Reg, coro: Reg, src: Reg) -> Answer {
-        Answer::read(self.0.resume(&mut fuel.0, pc.0, [dst.0, coro.0, src.0]))
+        if self.0.try_resume(&mut fuel.0, pc.0, [dst.0, coro.0, src.0]) {
+            return GOES_ON;
+        }
+        self.any(fuel, Call::Resume { pc, dst, coro, src })
     }
 
     /// Yield: suspends with the word in `src` and the next key; a word sent
     /// later comes to `dst`.
     #[inline]
     pub fn yield_(&mut self, fuel: &mut Fuel, pc: Pc, dst: Reg, src: Reg) -> Answer {
-        Answer::read(self.0.yields(&mut fuel.0, pc.0, [dst.0, src.0]))
+        if self.0.try_yield(&mut fuel.0, pc.0, [dst.0, src.0]) {
+            return GOES_ON;
+        }
+        self.any(fuel, Call::Yield { pc, dst, src })
     }
 
     /// The batch's calls, one after the other, refused ones too, by one call of

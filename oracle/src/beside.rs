@@ -1,6 +1,7 @@
 //! The compiled library beside another engine: the answer and every word
-//! after each call, through `bvm_call`, `bvm_kept`, `bvm_run`, and `bvm_resume`
-//! and `bvm_yield` where they are linked; `bvm_batch` too, beside `bvm_run`.
+//! after each call, through `bvm_call`, `bvm_kept`, `bvm_run`, and
+//! `bvm_try_resume` and `bvm_try_yield` where they are linked; `bvm_batch` too,
+//! beside `bvm_run`.
 
 use crate::call::{Answer, Call};
 use crate::coverage::ANSWERS;

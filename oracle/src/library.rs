@@ -35,10 +35,30 @@ functions! {
     bvm_sound();
 }
 
+/// Those that are lent what a switch touches: six slices, the numbers, the fuel.
 #[cfg(hot)]
-functions! {
-    bvm_resume(answer; pc: u32, dst: u16, coro: u16, src: u16);
-    bvm_yield(answer; pc: u32, dst: u16, src: u16);
+macro_rules! switches {
+    ($($name:ident($($word:ident: $kind:ty),*);)*) => {
+        extern "C" {
+            $(fn $name(
+                stack: *mut u64, _: usize,
+                frames: *mut u64, _: usize,
+                chain: *mut u64, _: usize,
+                slots: *mut u64, _: usize,
+                saved_stack: *mut u64, _: usize,
+                saved_frames: *mut u64, _: usize,
+                machine: *mut u64, _: usize,
+                fuel: *mut u64, _: usize,
+                $($word: $kind),*
+            ) -> u64;)*
+        }
+    };
+}
+
+#[cfg(hot)]
+switches! {
+    bvm_try_resume(pc: u32, dst: u16, coro: u16, src: u16);
+    bvm_try_yield(pc: u32, dst: u16, src: u16);
 }
 
 #[cfg(batch)]
@@ -106,31 +126,34 @@ macro_rules! lend {
     }};
 }
 
-/// Lends the eleven slices and the answer, then operands.
+/// Lends the eight slices that a switch touches, then operands: whether it was
+/// done. What it then answers is `GOES_ON`.
 #[cfg(hot)]
 macro_rules! switch {
-    ($name:ident($all:expr, $answer:expr, $($operand:expr),*)) => {{
-        let a: [Slice; 11] = $all;
+    ($name:ident($all:expr, $($operand:expr),*)) => {{
+        let a: &[Slice; 11] = &$all;
         // SAFETY: each slice is lent whole and none twice, and they are a
         // sound machine's.
         unsafe {
             $name(
                 a[0].0, a[0].1, a[1].0, a[1].1, a[2].0, a[2].1, a[3].0, a[3].1, a[4].0, a[4].1,
-                a[5].0, a[5].1, a[6].0, a[6].1, a[7].0, a[7].1, a[8].0, a[8].1, a[9].0, a[9].1,
-                a[10].0, a[10].1, $answer.0, $answer.1,
-                $($operand),*
+                a[5].0, a[5].1, a[9].0, a[9].1, a[10].0, a[10].1, $($operand),*
             )
         }
     }};
 }
+
+/// The answer of a switch that was done: the frame on top goes on.
+#[cfg(hot)]
+const GOES_ON: AnswerWords = [0, 0, 2, 0, 3, 0, 0, 0];
 
 /// A call in words through one of the library's functions.
 #[derive(Clone, Copy, PartialEq, Eq, PartialOrd, Ord, Debug)]
 pub enum Through {
     Call,
     Kept,
-    /// Resume and Yield by the functions of their own, where they are linked;
-    /// all else by `bvm_kept`.
+    /// Resume and Yield by the functions of their own, where they are linked
+    /// and do the call; all else by `bvm_kept`.
     Switch,
 }
 
@@ -169,31 +192,48 @@ impl Lent {
         let number = match through {
             Through::Call => lend!(bvm_call(self.all(), c, a)),
             Through::Kept => lend!(bvm_kept(self.all(), c, a)),
-            Through::Switch => match self.switched(call.words(), a) {
-                Some(number) => number,
-                None => lend!(bvm_kept(self.all(), c, a)),
-            },
+            Through::Switch if self.switched(call.words(), a) => 0,
+            Through::Switch => lend!(bvm_kept(self.all(), c, a)),
         };
         (number, answer.words().try_into().expect("eight words"))
     }
 
-    /// Resume or Yield, if the words are such a call.
+    /// Whether the words are a Resume or Yield that was done; its answer is
+    /// then written here. One that was not has changed no word.
     #[cfg(hot)]
-    fn switched(&mut self, call: &[u64], a: Slice) -> Option<u64> {
+    fn switched(&mut self, call: &[u64], a: Slice) -> bool {
+        let before = self.words();
+        match self.tried(call) {
+            Some(1) => {
+                // SAFETY: the answer's eight words, which nothing else holds.
+                unsafe { std::slice::from_raw_parts_mut(a.0, a.1) }.copy_from_slice(&GOES_ON);
+                true
+            }
+            told => {
+                assert!(matches!(told, None | Some(0)), "a try answers 0 or 1");
+                assert!(self.is(&before), "a try that answers 0 changes nothing");
+                false
+            }
+        }
+    }
+
+    /// What the function of a switch returns, if the words are such a call.
+    #[cfg(hot)]
+    fn tried(&mut self, call: &[u64]) -> Option<u64> {
         let pc = u32::try_from(*call.get(1)?).ok()?;
         let reg = |i: usize| u16::try_from(call[i]).ok();
         match *call {
             [6, _, _, _, _, 0] => {
-                Some(switch!(bvm_resume(self.all(), a, pc, reg(2)?, reg(3)?, reg(4)?)))
+                Some(switch!(bvm_try_resume(self.all(), pc, reg(2)?, reg(3)?, reg(4)?)))
             }
-            [3, _, _, _, 0, 0] => Some(switch!(bvm_yield(self.all(), a, pc, reg(2)?, reg(3)?))),
+            [3, _, _, _, 0, 0] => Some(switch!(bvm_try_yield(self.all(), pc, reg(2)?, reg(3)?))),
             _ => None,
         }
     }
 
     #[cfg(not(hot))]
-    fn switched(&mut self, _: &[u64], _: Slice) -> Option<u64> {
-        None
+    fn switched(&mut self, _: &[u64], _: Slice) -> bool {
+        false
     }
 
     /// Calls in words, one after the other; the answers have so many words,
@@ -331,20 +371,32 @@ impl Bare {
         lend!(bvm_batch(self.slices, c, a))
     }
 
-    /// Resume, without the test of soundness.
+    /// Resume, without the test of soundness: the answer's number.
     #[cfg(hot)]
     #[inline]
     pub fn resume(&mut self, pc: u32, dst: u16, coro: u16, src: u16) -> u64 {
-        let a = lent(&mut self.answer);
-        switch!(bvm_resume(self.slices, a, pc, dst, coro, src))
+        match switch!(bvm_try_resume(self.slices, pc, dst, coro, src)) {
+            1 => 0,
+            _ => self.general([6, pc.into(), dst.into(), coro.into(), src.into(), 0]),
+        }
     }
 
     /// Yield, without it.
     #[cfg(hot)]
     #[inline]
     pub fn suspend(&mut self, pc: u32, dst: u16, src: u16) -> u64 {
-        let a = lent(&mut self.answer);
-        switch!(bvm_yield(self.slices, a, pc, dst, src))
+        match switch!(bvm_try_yield(self.slices, pc, dst, src)) {
+            1 => 0,
+            _ => self.general([3, pc.into(), dst.into(), src.into(), 0, 0]),
+        }
+    }
+
+    /// What a try leaves. Inlined it would keep the slices for the second call.
+    #[cfg(hot)]
+    #[cold]
+    #[inline(never)]
+    fn general(&mut self, call: CallWords) -> u64 {
+        self.kept(call)[0]
     }
 
     /// A call with it.

@@ -12,11 +12,12 @@ use Rattle.lists.specs.Parts.{splice}
 use Rattle.lists.proofs.Tables.{length-chunk}
 use Rattle.heap.specs.declared.fault.Fault.{Fault}
 use Rattle.model.specs.Lists.{each}
-use Rattle.model.specs.Call.{isWord, typed}
+use Rattle.model.specs.Call.{isWord, areRegs, isPc, typed}
 use Rattle.model.specs.declared.call.Op.{Op}
 use Rattle.model.specs.declared.call.Answer.{Answer}
 use Rattle.soundness.proofs.Tests.{no-false, both}
 use Rattle.soundness.proofs.Sound.{Sound, sound→, facts}
+use Rattle.kept.proofs.InRange as InRange
 use Rattle.kept.proofs.InRange.{word}
 use Rattle.calls.specs.Call.{six, opOf, opWords}
 use Rattle.calls.specs.Answer.{answerWords}
@@ -36,6 +37,18 @@ use Rattle.batch.specs.Batch.{One}
 -- six words of 64 bits
 pub all-words : (n a b c d e : ℕ) → n < 2 ^ 64 → a < 2 ^ 64 → b < 2 ^ 64 → c < 2 ^ 64 → d < 2 ^ 64 → e < 2 ^ 64 → each isWord (six n a b c d e) ≡ true
 all-words n a b c d e h₁ h₂ h₃ h₄ h₅ h₆ = both (word n h₁) (both (word a h₂) (both (word b h₃) (both (word c h₄) (both (word d h₅) (both (word e h₆) refl)))))
+
+-- ---- operands of the types' widths
+
+pub resume-typed : (pc dst c src : ℕ) → pc < 2 ^ 32 → dst < 2 ^ 16 → c < 2 ^ 16 → src < 2 ^ 16 → typed (Op.Resume pc dst c src) ≡ true
+unfolding typed
+resume-typed pc dst c src a b d e =
+    InRange.both (isPc pc) (areRegs (dst ∷ c ∷ src ∷ [])) (InRange.pc pc a) (InRange.and-regs dst (c ∷ src ∷ []) b (InRange.and-regs c (src ∷ []) d (InRange.and-regs src [] e refl)))
+
+pub yield-typed : (pc dst src : ℕ) → pc < 2 ^ 32 → dst < 2 ^ 16 → src < 2 ^ 16 → typed (Op.Yield pc dst src) ≡ true
+unfolding typed
+yield-typed pc dst src a b d =
+    InRange.both (isPc pc) (areRegs (dst ∷ src ∷ [])) (InRange.pc pc a) (InRange.and-regs dst (src ∷ []) b (InRange.and-regs src [] d refl))
 
 -- ---- the words at place i
 

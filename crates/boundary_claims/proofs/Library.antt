@@ -87,7 +87,7 @@ pub record Stays (s t : State) : Type 0 where
   pub sound : isSound t ≡ true
   pub setup : setupOf (t .words .setup) ≡ setupOf (s .words .setup)
 
-keeps : (h : Host) (t : State) → tested h ≡ true → Stays (stateOf h) t → tested (over h t) ≡ true
+pub keeps : (h : Host) (t : State) → tested h ≡ true → Stays (stateOf h) t → tested (over h t) ≡ true
 keeps h t e k =
     let n = numbers-each (h .machine) (h .fuel) (numbers h e) in
     passes (over h t) (written-ok (h .machine) (h .fuel) (t .machine) (t .fuel) (n .0) (n .1)) (ap isSound (over-back h t) ∙ k .sound)
@@ -101,7 +101,7 @@ stays-set-up s o e =
     ∙ ap (λ (x : Out). x .world .setup) (sym (Kept.untested (decoded s) o (words-kept .stands s e)))
     ∙ Sheet.sentences .set-up-stays (decoded s) o
 
-call-stays : (s : State) (o : Operation) → isSound s ≡ true → Stays s (stepWords s (o .op) .state)
+pub call-stays : (s : State) (o : Operation) → isSound s ≡ true → Stays s (stepWords s (o .op) .state)
 call-stays s o e = record { sound = words-kept .kept s o e; setup = stays-set-up s o e }
 
 read-stays : (s : State) (ws : List ℕ) (r : Read) → each isWord ws ≡ true → opOf ws ≡ r → isSound s ≡ true → Stays s (doWords s r .state)

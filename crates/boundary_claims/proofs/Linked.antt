@@ -1,7 +1,7 @@
 -- A list of linked calls is a list of turns. Assumes nothing.
 use Prim.Native.Nat.{ℕ, _≤_}
 use native.Mathlib.Omega.{arith}
-use mathlib.Core.Path.{_≡_, refl, sym, ap, _∙_}
+use mathlib.Core.Path.{_≡_, refl, sym, ap, _∙_, subst}
 use mathlib.Core.Bool.{Bool, true, false}
 use mathlib.Core.List.{List, [], _∷_, _++_, map}
 use lib.ListN.{length}
@@ -17,19 +17,22 @@ use Rattle.calls.specs.declared.call.Read.{Read}
 use Rattle.calls.proofs.Back.{read-back}
 use Rattle.calls.proofs.Typed.{read-typed}
 use Rattle.claims.specs.Engine.{Turn, calls, refuels, run}
-use Rattle.lent.specs.Step.{State, Left, setUpOk, setUpWords, Call, SetUp, Do, step}
+use Rattle.claims.specs.Demand3.{Enters, Suspends, Stops, Waits, Goes}
+use Rattle.lent.specs.Step.{State, Left, setUpOk, setUpWords, stepWords, Call, SetUp, Do, step}
 use Rattle.lent.proofs.Kept.{refused-set-up}
 use Rattle.lent_claims.specs.Engine.{outer}
+use Rattle.lent_claims.specs.Claim.{Woken, Back}
+use Rattle.lent_claims.proofs.Claim.{claim}
 use Rattle.run.specs.Run.{countOf, doWords}
 use Rattle.boundary.specs.Words.{fuelIn}
 use Rattle.boundary.specs.Host.{Host, host, stateOf, tested, Gave, keptIn, callIn, setUpIn}
-use Rattle.boundary.proofs.Hosts.{numbers}
+use Rattle.boundary.proofs.Hosts.{numbers, sound}
 use Rattle.boundary_claims.specs.Batch.{Calls, none, Listed}
 use Rattle.boundary_claims.specs.Linked as Linked
-use Rattle.boundary_claims.specs.Linked.{Link, bvm-set-up, bvm-call, bvm-kept, bvm-grant, bvm-run, other-fuel, after, afterAll, Fits, AllFit, Is, a-set-up, a-call, a-kept, a-grant, a-run, a-record, Are, more}
+use Rattle.boundary_claims.specs.Linked.{Link, bvm-set-up, bvm-call, bvm-kept, bvm-grant, bvm-run, bvm-switch, other-fuel, after, afterAll, Fits, AllFit, Is, a-set-up, a-call, a-kept, a-grant, a-run, a-switch, a-record, Are, more, Wakes, Comes, Between}
 use Rattle.boundary_claims.proofs.Answered.{kept, begun-by, long-in, set-up-is}
 use Rattle.boundary_claims.proofs.Batch.{first, listed, batch}
-use Rattle.boundary_claims.proofs.Library.{over-back, library}
+use Rattle.boundary_claims.proofs.Library.{over-back, keeps, call-stays, library}
 use Rattle.boundary_claims.proofs.Words.{numbers-each}
 
 -- what a link leaves passes, and is what its turns leave
@@ -76,6 +79,13 @@ called h ws xs ks e (w, room) c =
           ∙ batch .left (stateOf h) (opOf ws ∷ []) ks c;
     }
 
+-- ---- a switch
+
+switched : (h : Host) (o : Operation) → tested h ≡ true → Leaves h (after h (bvm-switch (o .op))) (calls (Do o) ∷ [])
+switched h o e =
+    let s = stepWords (stateOf h) (o .op) .state in
+    record { passes = keeps h s e (call-stays (stateOf h) o (sound h e)); state = over-back h s }
+
 -- ---- each
 
 one : (h : Host) {l : Link} {ts : List (Turn Call)} → tested h ≡ true → Fits h l → Is l ts → Leaves h (after h l) ts
@@ -91,6 +101,7 @@ one h e f (a-grant n xs o q) =
       state = ap stateOf (sym (library .grants h n xs (f .0))) ∙ ap (λ (p : Op). stateOf (callIn h (Read.Is p) xs .host)) (sym q) ∙ library .calls h o xs e (f .1);
     }
 one h e f (a-run cs xs ks c) = record { passes = library .ran h cs xs (f .0) e; state = library .runs h cs xs ks e (f .1) c }
+one h e f (a-switch o p q) = subst (λ (x : Op). Leaves h (after h (bvm-switch x)) (calls (Do p) ∷ [])) q (switched h p e)
 one h e f (a-record fs) = record { passes = f; state = refl }
 
 -- ---- lists
@@ -120,6 +131,7 @@ turns-one h (bvm-call ws xs) f = let t = words-listed ws (f .0) in (map calls (t
 turns-one h (bvm-kept ws xs) f = let t = words-listed ws (f .0) in (map calls (t .list), a-kept ws xs (t .list) (t .calls))
 turns-one h (bvm-grant n xs) f = let (o, q) = granting n (f .0) in (calls (Do o) ∷ [], a-grant n xs o q)
 turns-one h (bvm-run cs xs) f = let t = listed (countOf (length cs)) cs (f .0) in (map calls (t .list), a-run cs xs (t .list) (t .calls))
+turns-one h (bvm-switch o) f = let p : Operation = record { op = o; within = f } in (calls (Do p) ∷ [], a-switch o p refl)
 turns-one h (other-fuel fs) f = (refuels (fuelIn fs) ∷ [], a-record fs)
 
 turns : (h : Host) (ls : List Link) → AllFit h ls → (ts : List (Turn Call)) × Are ls ts
@@ -127,6 +139,44 @@ turns h [] f = ([], Linked.none)
 turns h (l ∷ ls) f =
     let (ts, i) = turns-one h l (f .0) in
     let (us, a) = turns (after h l) ls (f .1) in (ts ++ us, more l ls ts us i a)
+
+-- ---- the Claim
+
+module _ (c : ℕ) (s u t z : State) (k l : Call) (ts : List (Turn Call)) (p : u ≡ step s k .state) (q : t ≡ run outer u ts) (r : z ≡ step t l .state) where
+  there : t ≡ run outer (step s k .state) ts
+  there = q ∙ ap (λ v. run outer v ts) p
+
+  wakes : Wakes c s k u ts t l z
+  wakes a w g =
+      subst (λ (v : State). Woken s k t l c v) (sym r) (subst (λ (v : State). Woken s k v l c (step v l .state)) (sym there)
+      (claim .woken c s k ts l a (subst (λ (v : State). Waits outer c v ts) p w) (subst (λ (v : State). Enters outer c v l) there g)))
+
+  comes : Comes c s k u ts t l z
+  comes a w g =
+      subst (λ (v : State). Back s k c t l v) (sym r) (subst (λ (v : State). Back s k c v l (step v l .state)) (sym there)
+      (claim .back c s k ts l a (subst (λ (v : State). Goes outer c v ts) p w) (subst (λ (v : State). Stops outer c v l) there g)))
+
+module _ (c : ℕ) (h : Host) (x : Link) (k : Call) (ls : List Link) (ts : List (Turn Call)) (y : Link) (l : Call) (b : Between h x k ls ts y l) where
+  abbrev h₁ : Host
+  h₁ = after h x
+
+  abbrev h₂ : Host
+  h₂ = afterAll h₁ ls
+
+  starts : Leaves h h₁ (calls k ∷ [])
+  starts = one h (b .passes) (b .first .0) (b .first .1)
+
+  goes-by : Leaves h₁ h₂ ts
+  goes-by = all h₁ (starts .passes) (b .between .0) (b .between .1)
+
+  ends : Leaves h₂ (after h₂ y) (calls l ∷ [])
+  ends = one h₂ (goes-by .passes) (b .last .0) (b .last .1)
+
+  woken : Wakes c (stateOf h) k (stateOf h₁) ts (stateOf h₂) l (stateOf (after h₂ y))
+  woken = wakes c (stateOf h) (stateOf h₁) (stateOf h₂) (stateOf (after h₂ y)) k l ts (starts .state) (goes-by .state) (ends .state)
+
+  back : Comes c (stateOf h) k (stateOf h₁) ts (stateOf h₂) l (stateOf (after h₂ y))
+  back = comes c (stateOf h) (stateOf h₁) (stateOf h₂) (stateOf (after h₂ y)) k l ts (starts .state) (goes-by .state) (ends .state)
 
 pub linked : Linked.Linked
 linked =
@@ -136,4 +186,6 @@ linked =
       turns = turns;
       leaves = λ h ls ts e f a. all h e f a .state;
       passes = λ h ls e f. let (ts, a) = turns h ls f in all h e f a .passes;
+      woken = woken;
+      back = back;
     }

@@ -2,7 +2,7 @@
 use mathlib.Core.Path.{_≡_, refl, ap, _∙_, subst}
 use mathlib.Core.Bool.{Bool, true, false}
 use mathlib.Core.List.{List}
-use Prim.Native.Nat.{ℕ, _≤_}
+use Prim.Native.Nat.{ℕ, _≤_, _<_}
 use lib.Dec.{eqb}
 use native.Mathlib.Omega.{arith}
 use borrow.Author.Tests.{eq-eqb, ne-eqb, eqb-false}
@@ -54,6 +54,26 @@ pub resumable : (n : ℕ) → (n ≡ 1 → ⊥) → n ≤ 3 → isResumable (sta
 resumable n h k =
     may-enter (eqb n 0) (eqb n 1) (eqb n 2) (eqb n 3) (eqb n 4) (ne-eqb n 1 h)
     (λ x y. let p = eqb-false n 0 x in let q = eqb-false n 2 y in let z : n ≡ 3 = omega (arith, p, q, h) in eq-eqb n 3 z)
+
+-- .. that a Resume refuses: Running; Returned or Failed
+pub running : (n : ℕ) → n ≡ 1 → isResumable (stateOf n) ≡ false
+unfolding pick
+running n e = ap (λ k. isResumable (stateOf k)) e
+
+kept-out : (a b c d e : Bool) → a ≡ false → b ≡ false → c ≡ false → d ≡ false
+    → isResumable (pick a CoroState.Created (pick b CoroState.Running (pick c CoroState.Yielded (pick d CoroState.Awaiting (pick e CoroState.Returned CoroState.Failed))))) ≡ false
+unfolding pick
+kept-out true b c d e p q r s = no-true p
+kept-out false true c d e p q r s = no-true q
+kept-out false false true d e p q r s = no-true r
+kept-out false false false true e p q r s = no-true s
+kept-out false false false false true p q r s = refl
+kept-out false false false false false p q r s = refl
+
+pub finished : (n : ℕ) → 3 < n → isResumable (stateOf n) ≡ false
+finished n h =
+    kept-out (eqb n 0) (eqb n 1) (eqb n 2) (eqb n 3) (eqb n 4) (ne-eqb n 0 (λ z. omega (arith, h, z))) (ne-eqb n 1 (λ z. omega (arith, h, z)))
+    (ne-eqb n 2 (λ z. omega (arith, h, z))) (ne-eqb n 3 (λ z. omega (arith, h, z)))
 
 -- ---- a pc stored, a word sent
 

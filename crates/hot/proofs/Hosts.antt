@@ -6,33 +6,26 @@ use Prim.Native.Nat.{ℕ, zero, suc, _^_, _≤_, _<_}
 use native.Mathlib.Omega.{arith}
 use lib.ListN.{length, getD, drop}
 use lib.Dec.{eqb, leb}
-use borrow.Author.Tests.{eqb-true, eqb-false, leb-true, lt-ltb}
+use borrow.Author.Tests.{eqb-true, leb-true}
 use Rattle.lists.specs.Pick.{pick, pick-true, pick-false}
 use Rattle.lists.specs.Parts.{splice}
 use Rattle.heap.specs.Slot.{flag, isSet}
 use Rattle.heap.specs.declared.value.Opt.{Opt}
-use Rattle.model.specs.Call.{areRegs, isPc, typed}
 use Rattle.model.specs.declared.call.Op.{Op}
-use Rattle.model.specs.declared.call.Answer.{Answer}
-use Rattle.model.specs.declared.machine.Fuel.{Fuel}
 use Rattle.soundness.proofs.Tests.{no-false, and-left, and-right}
 use Rattle.soundness.proofs.Sound.{Sound, sound→}
 use Rattle.memory.specs.Memory.{Lent, Beside}
 use Rattle.memory.specs.Lendings.{lent}
 use Rattle.memory.specs.Contract.{Ok, Gives, ifSound, with}
-use Rattle.memory.specs.declared.machine.Machine.{Machine}
 use Rattle.memory.proofs.Does.{SameLengths}
 use Rattle.kept.specs.Kept.{did}
-use Rattle.kept.proofs.InRange as InRange
 use Rattle.calls.specs.Answer.{answerWords}
-use Rattle.calls.specs.Call.{opOf, opWords}
 use Rattle.calls.specs.declared.call.Read.{Read}
-use Rattle.calls.proofs.Back.{read-back}
 use Rattle.lent.specs.Step.{Left, left, stepWords}
 use Rattle.outer.specs.State.{state}
 use Rattle.outer.proofs.Stepping.{may-call, stepped}
 use Rattle.boundary.specs.Words.{machineIn, machineWords, sizesIn, bankOf, bankWords, fuelIn, fuelWords}
-use Rattle.boundary.specs.Host.{numbersOk, Host, host, stateOf, tested, Gave, gave, tells, over, keptIn}
+use Rattle.boundary.specs.Host.{Host, host, stateOf, tested, gave, tells, over, keptIn}
 use Rattle.boundary.proofs.Hosts as Tested
 use Rattle.hot.specs.Words.{Numbers, Fuelled}
 use Rattle.hot.specs.Went.{Holds, goesOn, Went}
@@ -178,18 +171,3 @@ module _ (h : Host) (e : tested h ≡ true) where
         let p = w .numbers in
         let q = w .fuel in
         (λ i. gave (host left-words (p i) (q i)) (told i) 0) ∙ ap (λ (x : Left). tells (over h (x .state)) (x .answer) xs) d
-
--- operands of the types' widths
-pub resume-typed : (pc dst c src : ℕ) → pc < 2 ^ 32 → dst < 2 ^ 16 → c < 2 ^ 16 → src < 2 ^ 16 → typed (Op.Resume pc dst c src) ≡ true
-unfolding typed
-resume-typed pc dst c src a b d e =
-    InRange.both (isPc pc) (areRegs (dst ∷ c ∷ src ∷ [])) (InRange.pc pc a) (InRange.and-regs dst (c ∷ src ∷ []) b (InRange.and-regs c (src ∷ []) d (InRange.and-regs src [] e refl)))
-
-pub yield-typed : (pc dst src : ℕ) → pc < 2 ^ 32 → dst < 2 ^ 16 → src < 2 ^ 16 → typed (Op.Yield pc dst src) ≡ true
-unfolding typed
-yield-typed pc dst src a b d =
-    InRange.both (isPc pc) (areRegs (dst ∷ src ∷ [])) (InRange.pc pc a) (InRange.and-regs dst (src ∷ []) b (InRange.and-regs src [] d refl))
-
--- a call in its words is the call
-pub as-call : (h : Host) (xs : List ℕ) (g : Gave) (o : Op) → typed o ≡ true → g ≡ keptIn h (opOf (opWords o)) xs → g ≡ keptIn h (Read.Is o) xs
-as-call h xs g o t q = q ∙ ap (λ (r : Read). keptIn h r xs) (read-back o t)

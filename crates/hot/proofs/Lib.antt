@@ -1,4 +1,5 @@
 pub mod Peel
+pub mod Tests
 pub mod Numbers
 pub mod Hosts
 pub mod Places
@@ -9,3 +10,4 @@ pub mod Napping
 pub mod Leaving
 pub mod Leavable
 pub mod Yields
+pub mod Switching

@@ -6,3 +6,4 @@ pub mod Resume
 pub mod Leave
 pub mod Leaves
 pub mod Yield
+pub mod Switch

@@ -1,6 +1,7 @@
 -- A machine in 25 words (docs/CALLS.md), of which a switch changes three; its fuel in four; a coroutine's record in its slot.
 use mathlib.Core.Path.{_≡_}
-use mathlib.Core.List.{List}
+use mathlib.Core.Bool.{Bool, true, _&&_}
+use mathlib.Core.List.{List, [], _∷_}
 use Prim.Native.Nat.{ℕ}
 use lib.ListN.{set}
 use Rattle.lists.specs.Parts.{splice}
@@ -23,3 +24,8 @@ Fuelled fs fs′ = fs′ ≡ splice fs 0 (fuelWords (fuelIn fs′))
 -- the record of the coroutine in slot i
 abbrev pub recordAt : List ℕ → ℕ → CoroObj
 recordAt slots i = coroIn slots i
+
+-- every test is passed
+abbrev pub all : List Bool → Bool
+all [] = true
+all (t ∷ ts) = t && all ts

@@ -47,13 +47,7 @@ pub fn may_enter(
     if wide <= src {
         return Enters::Not;
     }
-    let v = tables::stack::reg(
-        stack,
-        frames,
-        machine[0] as usize,
-        machine[1] as usize,
-        c as usize,
-    );
+    let v = stack[(base + c) as usize];
     match heap::heap::coro_place(slots, machine[3] as usize, Word(v)) {
         CoroPlace::Not(_) => Enters::Not,
         CoroPlace::At(i) => {

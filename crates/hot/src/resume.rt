@@ -1,18 +1,15 @@
 // Resume, where nothing refuses it: its gate and its charge are passed, and the coroutine in slot i is entered.
-ghost use mathlib.Core.Path.{_≡_};
+ghost use lib.ListN.{getD};
+ghost use Rattle.hot.specs.Enters.{mayEnter};
 ghost use Rattle.hot.specs.Resume.{ResumeAtFits};
 ghost use Rattle.hot.specs.Went.{Went};
+ghost use Rattle.hot.specs.Switch.{SwitchFits, Switched};
 ghost use Rattle.model.specs.declared.call.Op.the-variants.{Resume};
 ghost use Rattle.memory.specs.Lendings.{six};
 ghost use Rattle.memory.specs.Contract.{atEntry, atExit};
-ghost use Rattle.calls.specs.declared.call.Read.the-variants.{Is};
-ghost use Rattle.outer.specs.State.{nine};
-ghost use Rattle.boundary.specs.Host.{host, gave, KeptFits, keptIn};
 use crate::enter::enter;
 use crate::enters::Enters;
 use crate::enters::may_enter;
-use crate::general::general;
-use crate::general::goes_on;
 
 // One unit of fuel, then the entry.
 pub fn resume_at(
@@ -51,30 +48,26 @@ pub fn resume_at(
     );
 }
 
-// coro.rs: exec, Resume, with gate and charge, on a machine that is known to be sound.
+// A Resume that nothing refuses, with gate and charge, on a machine that is known to be sound: 1. Of any other nothing is done: 0.
 #[no_mangle]
-pub extern "C" fn bvm_resume(
+pub extern "C" fn bvm_try_resume(
     stack: &mut [u64],
     frames: &mut [u64],
     chain: &mut [u64],
     slots: &mut [u64],
     saved_stack: &mut [u64],
     saved_frames: &mut [u64],
-    ready: &mut [u64],
-    finalize: &mut [u64],
-    setup: &[u64],
     machine: &mut [u64],
     fuel: &mut [u64],
-    answer: &mut [u64],
     pc: u32,
     dst: u16,
     coro: u16,
     src: u16,
 ) -> u64
-    requires { ⌜ KeptFits (host (nine stack frames chain slots «saved_stack» «saved_frames» ready finalize setup now) (now machine) (now fuel)) (now answer) ⌝ }
-    ensures { λ r. ⌜ gave (host (nine stack frames chain slots «saved_stack» «saved_frames» ready finalize setup atExit) (atExit machine)
-        (atExit fuel)) (atExit answer) r ≡ keptIn (host (nine stack frames chain slots «saved_stack» «saved_frames» ready finalize setup atEntry)
-        (atEntry machine) (atEntry fuel)) (Is (Resume pc dst coro src)) (atEntry answer) ⌝ }
+    requires { ⌜ SwitchFits (six stack frames chain slots «saved_stack» «saved_frames» now) (now machine) (now fuel) ⌝ }
+    ensures { λ r. ⌜ Switched (Resume pc dst coro src) (mayEnter (now (stack .entry)) (now (frames .entry)) (now (slots .entry)) (now (machine .entry)) (getD (now (fuel .entry)) 0 0) dst coro src)
+        (six stack frames chain slots «saved_stack» «saved_frames» atEntry) (six stack frames chain slots «saved_stack» «saved_frames» atExit)
+        (now (machine .entry)) (now (fuel .entry)) (now (machine .exit)) (now (fuel .exit)) r ⌝ }
 {
     match may_enter(
         stack,
@@ -103,27 +96,8 @@ pub extern "C" fn bvm_resume(
                 v,
                 i,
             );
-            goes_on(answer);
-            0
+            1
         }
-        Enters::Not => general(
-            stack,
-            frames,
-            chain,
-            slots,
-            saved_stack,
-            saved_frames,
-            ready,
-            finalize,
-            setup,
-            machine,
-            fuel,
-            answer,
-            6,
-            pc as u64,
-            dst as u64,
-            coro as u64,
-            src as u64,
-        ),
+        Enters::Not => 0,
     }
 }

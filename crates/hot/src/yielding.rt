@@ -1,15 +1,12 @@
 // Yield: its gate and its charge are passed, and the innermost coroutine is suspended.
-ghost use mathlib.Core.Path.{_≡_};
+ghost use lib.ListN.{getD};
+ghost use Rattle.hot.specs.Leaves.{mayLeave};
 ghost use Rattle.hot.specs.Yield.{YieldAtFits};
 ghost use Rattle.hot.specs.Went.{Went};
+ghost use Rattle.hot.specs.Switch.{SwitchFits, Switched};
 ghost use Rattle.model.specs.declared.call.Op.the-variants.{Yield};
 ghost use Rattle.memory.specs.Lendings.{six};
 ghost use Rattle.memory.specs.Contract.{atEntry, atExit};
-ghost use Rattle.calls.specs.declared.call.Read.the-variants.{Is};
-ghost use Rattle.outer.specs.State.{nine};
-ghost use Rattle.boundary.specs.Host.{host, gave, KeptFits, keptIn};
-use crate::general::general;
-use crate::general::goes_on;
 use crate::leave::leave;
 use crate::leaves::Sleeper;
 use crate::leaves::may_leave;
@@ -52,29 +49,25 @@ pub fn yield_at(
     );
 }
 
-// coro.rs: exec, Yield, with gate and charge, on a machine that is known to be sound.
+// A Yield that nothing refuses, to a Resume, with gate and charge, on a machine that is known to be sound: 1. Of any other nothing is done: 0.
 #[no_mangle]
-pub extern "C" fn bvm_yield(
+pub extern "C" fn bvm_try_yield(
     stack: &mut [u64],
     frames: &mut [u64],
     chain: &mut [u64],
     slots: &mut [u64],
     saved_stack: &mut [u64],
     saved_frames: &mut [u64],
-    ready: &mut [u64],
-    finalize: &mut [u64],
-    setup: &[u64],
     machine: &mut [u64],
     fuel: &mut [u64],
-    answer: &mut [u64],
     pc: u32,
     dst: u16,
     src: u16,
 ) -> u64
-    requires { ⌜ KeptFits (host (nine stack frames chain slots «saved_stack» «saved_frames» ready finalize setup now) (now machine) (now fuel)) (now answer) ⌝ }
-    ensures { λ r. ⌜ gave (host (nine stack frames chain slots «saved_stack» «saved_frames» ready finalize setup atExit) (atExit machine)
-        (atExit fuel)) (atExit answer) r ≡ keptIn (host (nine stack frames chain slots «saved_stack» «saved_frames» ready finalize setup atEntry)
-        (atEntry machine) (atEntry fuel)) (Is (Yield pc dst src)) (atEntry answer) ⌝ }
+    requires { ⌜ SwitchFits (six stack frames chain slots «saved_stack» «saved_frames» now) (now machine) (now fuel) ⌝ }
+    ensures { λ r. ⌜ Switched (Yield pc dst src) (mayLeave (now (frames .entry)) (now (chain .entry)) (now (slots .entry)) (now (machine .entry)) (getD (now (fuel .entry)) 0 0) dst src)
+        (six stack frames chain slots «saved_stack» «saved_frames» atEntry) (six stack frames chain slots «saved_stack» «saved_frames» atExit)
+        (now (machine .entry)) (now (fuel .entry)) (now (machine .exit)) (now (fuel .exit)) r ⌝ }
 {
     match may_leave(
         frames,
@@ -102,27 +95,8 @@ pub extern "C" fn bvm_yield(
                 key,
                 largest,
             );
-            goes_on(answer);
-            0
+            1
         }
-        Sleeper::Not => general(
-            stack,
-            frames,
-            chain,
-            slots,
-            saved_stack,
-            saved_frames,
-            ready,
-            finalize,
-            setup,
-            machine,
-            fuel,
-            answer,
-            3,
-            pc as u64,
-            dst as u64,
-            src as u64,
-            0,
-        ),
+        Sleeper::Not => 0,
     }
 }

@@ -1,6 +1,7 @@
 /* What each function of humdelzi.h passes on: the library's functions are here, and print the words of a call and hold each slice to the
  * machine's. Every operand has a number of its own. */
 #include <stdio.h>
+#include <string.h>
 #include "humdelzi.h"
 
 static uint64_t room[10];
@@ -9,16 +10,20 @@ static humdelzi_fuel f;
 static humdelzi_answer a;
 static const char *name;
 static int wrong;
+/* what a try answers, how many there were, and the words of the last one's call */
+static uint64_t done;
+static int tries;
+static uint64_t tried[6];
 
 #define S(x) uint64_t *x, size_t x##_length
 #define R(x) const uint64_t *x, size_t x##_length
 #define EIGHT(T) T(stack), T(frames), T(chain), T(slots), T(saved_stack), T(saved_frames), T(ready), T(finalize)
 
 #define IS(slice, at, words) (slice != (at) || slice##_length != (words))
-#define MACHINE                                                                                                                        \
+#define SIX                                                                                                                            \
     (IS(stack, room, 1) || IS(frames, room + 1, 2) || IS(chain, room + 2, 3) || IS(slots, room + 3, 4) || IS(saved_stack, room + 4, 5)  \
-     || IS(saved_frames, room + 5, 6) || IS(ready, room + 6, 7) || IS(finalize, room + 7, 8) || IS(setup, room + 8, 9)                  \
-     || IS(machine, m.machine, 25) || IS(fuel, &f.left, 4))
+     || IS(saved_frames, room + 5, 6) || IS(machine, m.machine, 25) || IS(fuel, &f.left, 4))
+#define MACHINE (SIX || IS(ready, room + 6, 7) || IS(finalize, room + 7, 8) || IS(setup, room + 8, 9))
 
 static uint64_t told(int off, uint64_t n, uint64_t o1, uint64_t o2, uint64_t o3, uint64_t o4, uint64_t o5)
 {
@@ -27,9 +32,22 @@ static uint64_t told(int off, uint64_t n, uint64_t o1, uint64_t o2, uint64_t o3,
     return 90;
 }
 
+/* where a switch was tried, the call that follows is that switch */
 static uint64_t call_told(int off, const uint64_t *call, size_t length)
 {
+    wrong += tried[0] != 0 && memcmp(call, tried, sizeof tried) != 0;
+    tried[0] = 0;
     return told(off || length != 6, call[0], call[1], call[2], call[3], call[4], call[5]);
+}
+
+static uint64_t try_told(int off, uint64_t n, uint64_t o1, uint64_t o2, uint64_t o3, uint64_t o4)
+{
+    const uint64_t words[6] = {n, o1, o2, o3, o4, 0};
+
+    wrong += off;
+    tries++;
+    memcpy(tried, words, sizeof tried);
+    return done;
 }
 
 uint64_t bvm_call(EIGHT(S), R(setup), S(machine), S(fuel), R(call), S(answer))
@@ -42,14 +60,14 @@ uint64_t bvm_kept(EIGHT(S), R(setup), S(machine), S(fuel), R(call), S(answer))
     return call_told(MACHINE || IS(answer, &a.number, 8), call, call_length);
 }
 
-uint64_t bvm_resume(EIGHT(S), R(setup), S(machine), S(fuel), S(answer), uint32_t pc, uint16_t dst, uint16_t coro, uint16_t src)
+uint64_t bvm_try_resume(S(stack), S(frames), S(chain), S(slots), S(saved_stack), S(saved_frames), S(machine), S(fuel), uint32_t pc, uint16_t dst, uint16_t coro, uint16_t src)
 {
-    return told(MACHINE || IS(answer, &a.number, 8), 6, pc, dst, coro, src, 0);
+    return try_told(SIX, 6, pc, dst, coro, src);
 }
 
-uint64_t bvm_yield(EIGHT(S), R(setup), S(machine), S(fuel), S(answer), uint32_t pc, uint16_t dst, uint16_t src)
+uint64_t bvm_try_yield(S(stack), S(frames), S(chain), S(slots), S(saved_stack), S(saved_frames), S(machine), S(fuel), uint32_t pc, uint16_t dst, uint16_t src)
 {
-    return told(MACHINE || IS(answer, &a.number, 8), 3, pc, dst, src, 0, 0);
+    return try_told(SIX, 3, pc, dst, src, 0);
 }
 
 uint64_t bvm_set_up(EIGHT(S), S(setup), S(machine), S(fuel), R(given), S(answer))
@@ -111,6 +129,22 @@ int main(void)
     seen = humdelzi_look(&m, &f);
     wrong += seen.words != room + 3 || seen.length != 2;
     wrong += humdelzi_sound(&m, &f) != 90;
+#ifdef HUMDELZI_KEPT
+    /* a switch that the try did: nothing else is called, and the answer is that of a frame that goes on */
+    {
+        static const uint64_t goes_on[8] = {0, 0, 2, 0, 3, 0, 0, 0};
+
+        wrong += tries != 2;
+        done = 1;
+        memset(&a, 7, sizeof a);
+        wrong += humdelzi_yield(&m, &f, &a, 11, 12, 13) != 0 || tried[0] != 3 || memcmp(&a.number, goes_on, sizeof goes_on) != 0;
+        memset(&a, 7, sizeof a);
+        wrong += humdelzi_resume(&m, &f, &a, 11, 12, 13, 14) != 0 || tried[0] != 6 || memcmp(&a.number, goes_on, sizeof goes_on) != 0;
+        wrong += tries != 4;
+    }
+#else
+    wrong += tries != 0;
+#endif
     /* the words of a fuel record and of an answer, by name */
     for (i = 0; i < 4; i++)
         (&f.left)[i] = i;

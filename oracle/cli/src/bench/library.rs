@@ -96,7 +96,7 @@ impl Switch for Kept {
     }
 }
 
-/// `bvm_resume` and `bvm_yield`.
+/// `bvm_try_resume` and `bvm_try_yield`.
 #[cfg(hot)]
 pub(crate) struct Hot(pub(crate) Bare);
 

@@ -153,7 +153,7 @@ fn engines() -> Vec<Engine> {
         #[cfg(hot)]
         Engine {
             name: "hot",
-            shown: "`bvm_resume`, `bvm_yield`",
+            shown: "`bvm_try_resume`, `bvm_try_yield`",
             fresh: |c| Box::new(library::Hot::new(c)),
             only: |m| matches!(m, Trip(..)),
         },

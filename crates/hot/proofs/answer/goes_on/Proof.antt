@@ -4,8 +4,8 @@ use native.Mathlib.Omega.{arith}
 use lib.ListN.{length-set}
 use Rattle.tables.proofs.Padded.{sets-splice}
 use borrow.Author.Needs.{needs}
-use Rattle.hot.proofs.general.goes_on.Statement.{statement}
-use Rattle.hot.proofs.general.goes_on.Tie as tie
+use Rattle.hot.proofs.answer.goes_on.Statement.{statement}
+use Rattle.hot.proofs.answer.goes_on.Tie as tie
 
 slice-write-answer-2 : tie.Need-slice-write-answer-2
 slice-write-answer-2 c = simp length-set (omega arith)
