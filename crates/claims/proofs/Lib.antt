@@ -14,7 +14,7 @@ pub mod Quiet
 pub mod Enters
 pub mod Instr
 pub mod Arms
-pub mod Begins
+pub mod Wakes
 pub mod Deliver
 pub mod Switches
 pub mod Endings

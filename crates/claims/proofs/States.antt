@@ -19,7 +19,7 @@ use Rattle.claims.specs.Engine.{isNew, runs, sleeps, ended, seenIn, is}
 use Rattle.claims.specs.Says.{doing}
 use Rattle.claims.specs.Demand3 as D
 use Rattle.claims.specs.Events as Said
-use Rattle.claims.specs.Events.{undone}
+use Rattle.claims.specs.Events.{endsUnbegun}
 use Rattle.claims.specs.Steps.{seenOf, viewOf, opOf, steps}
 use Rattle.claims.proofs.Entry.{act}
 use Rattle.claims.proofs.Held.{Seat, coreIn, coreAt}
@@ -148,7 +148,7 @@ module _ (c : ℕ) where
       ap (λ x. isCreated (x .state)) (u .ends .others c (subst (Apart c) (u .inmost) (m .0) .0)) ∙ m .1
   comes-shape f (S.stops e i t) n h = ap (λ x. isCreated (x .state)) (t .apart c n) ∙ ap (λ x. isCreated (coreIn x .state)) h
 
-pub comes-else : (c : ℕ) (w : World) (k : Call) → (undone (doing (viewOf w) (opOf k)) ≡ some c → ⊥) → viewOf w .coro c ≡ none → (viewOf (next w k) .coro c ≡ none) ⊎ (is (viewOf (next w k)) isNew c ≡ true)
+pub comes-else : (c : ℕ) (w : World) (k : Call) → (endsUnbegun (doing (viewOf w) (opOf k)) ≡ some c → ⊥) → viewOf w .coro c ≡ none → (viewOf (next w k) .coro c ≡ none) ⊎ (is (viewOf (next w k)) isNew c ≡ true)
 comes-else c w k u h = go (coro (next w k) c) refl (new (next w k) (step-case w k) u)
   where
     gone : (x : Coroutine) → seenOf x ≡ none → x ≡ Absent
@@ -158,7 +158,7 @@ comes-else c w k u h = go (coro (next w k) c) refl (new (next w k) (step-case w 
     away : coro w c ≡ Absent
     away = gone (coro w c) h
 
-    new : {k : Call} (z : World) → StepCase w k z → (undone (doing (viewOf w) (opOf k)) ≡ some c → ⊥) → isCreated (coreAt z c .state) ≡ true
+    new : {k : Call} (z : World) → StepCase w k z → (endsUnbegun (doing (viewOf w) (opOf k)) ≡ some c → ⊥) → isCreated (coreAt z c .state) ≡ true
     new z (anew s e) u = ap (λ x. isCreated (coreIn x .state)) (fresh-absent s c)
     new z (same k e) u = ap (λ x. isCreated (coreIn x .state)) away
     new z (does o e) u = comes-shape c (λ m. u (alike-undone (says-alike w (o .op)) ∙ ap undoneBy m)) (shape w (o .op)) (apart w e c (ap (λ x. isRunning (coreIn x .state)) away)) away

@@ -38,7 +38,7 @@ use Rattle.model.specs.declared.call.Op.{Op}
 use Rattle.model.specs.declared.call.Answer.{Answer}
 use Rattle.claims.specs.Engine.{Seen, isNew, seenIn, is}
 use Rattle.claims.specs.Says.{word, lie, does, doing, whom}
-use Rattle.claims.specs.Events.{undone, endedAs}
+use Rattle.claims.specs.Events.{endsUnbegun, endedAs}
 use Rattle.claims.specs.Promise.{Pays}
 use Rattle.claims.specs.Steps.{seenOf, viewOf, opOf, steps}
 use Rattle.claims.proofs.Entry as E
@@ -256,7 +256,7 @@ module _ (w : World) (c : ℕ) (e : coro w c ≡ Absent) where
       gate false false = refl
       gate false true = paid (charge (OptPc.Some p) w) (charge-case p w)
 
-  absent-stays : (o : Op) → undone (does (viewOf w) o) ≡ some c → coreAt (call o w .world) c .seen ≡ coreAt w c .seen
+  absent-stays : (o : Op) → endsUnbegun (does (viewOf w) o) ≡ some c → coreAt (call o w .world) c .seen ≡ coreAt w c .seen
   unfolding call
   absent-stays (Op.CoroNew pc dst f argc) n = no-some refl n
   absent-stays (Op.CoroNewIndirect pc dst callee argc) n = no-some refl n
@@ -288,21 +288,21 @@ module _ (w : World) (c : ℕ) (e : coro w c ≡ Absent) where
 
 -- WHO COMES
 pub comes : (c : ℕ) (w : World) (k : Call) → viewOf w .coro c ≡ none → (viewOf (next w k) .coro c ≡ none) ⊎ (is (viewOf (next w k)) isNew c ≡ true)
-comes c w k h = go (undone (doing (viewOf w) (opOf k))) refl
+comes c w k h = go (endsUnbegun (doing (viewOf w) (opOf k))) refl
   where
     gone : (x : Coroutine) → seenOf x ≡ none → x ≡ Absent
     gone Absent e = refl
     gone (Is k r) e = let z : _≡_ {A = ℕ} 0 1 = cc in absurd (omega arith)
 
-    stays : {k : Call} (z : World) → StepCase w k z → undone (doing (viewOf w) (opOf k)) ≡ some c → viewOf z .coro c ≡ none
+    stays : {k : Call} (z : World) → StepCase w k z → endsUnbegun (doing (viewOf w) (opOf k)) ≡ some c → viewOf z .coro c ≡ none
     stays z (anew s e) u = no-some refl u
     stays z (same k e) u = h
     stays z (Claim.does o e) u = sym (seen-at z c) ∙ absent-stays w c (gone (coro w c) h) (o .op) u ∙ seen-at w c ∙ h
 
-    named : (u : ℕ) → undone (doing (viewOf w) (opOf k)) ≡ some u → Dec (u ≡ c) → (viewOf (next w k) .coro c ≡ none) ⊎ (is (viewOf (next w k)) isNew c ≡ true)
+    named : (u : ℕ) → endsUnbegun (doing (viewOf w) (opOf k)) ≡ some u → Dec (u ≡ c) → (viewOf (next w k) .coro c ≡ none) ⊎ (is (viewOf (next w k)) isNew c ≡ true)
     named u e (yes q) = inl (stays (next w k) (step-case w k) (e ∙ ap {B = Option ℕ} some q))
     named u e (no q) = comes-else c w k (λ p. q (one-some e p)) h
 
-    go : (x : Option ℕ) → undone (doing (viewOf w) (opOf k)) ≡ x → (viewOf (next w k) .coro c ≡ none) ⊎ (is (viewOf (next w k)) isNew c ≡ true)
+    go : (x : Option ℕ) → endsUnbegun (doing (viewOf w) (opOf k)) ≡ x → (viewOf (next w k) .coro c ≡ none) ⊎ (is (viewOf (next w k)) isNew c ≡ true)
     go none e = comes-else c w k (λ p. no-some e p) h
     go (some u) e = named u e (ℕ-discrete u c)

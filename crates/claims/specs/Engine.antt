@@ -1,5 +1,5 @@
 -- An engine, and what is seen of it. All that is claimed here is claimed of an engine, whatever it is made of: it cites types and
--- list functions, and no rule of a machine.
+-- list functions, and no definition of the machine (what a call announces, Says.antt says in words of its own).
 use Prim.Native.Nat.{ℕ}
 use mathlib.Core.Bool.{Bool, false, _||_}
 use mathlib.Core.List.{List, [], _∷_}
@@ -30,7 +30,7 @@ pub record Seen : Type 0 where
 
 -- what a set-up asks for, and only a set-up changes
 pub record Rules : Type 0 where
-  -- the most frames, and the most words of the stack
+  -- limits: the most frames, and the most words of the stack (a machine's own fields of these names count what is in use)
   pub depth : ℕ
   pub height : ℕ
   -- how many functions there are, and the handlers of each

@@ -40,7 +40,8 @@ suspends n = eqb n 0 || eqb n 2 || eqb n 6
 abbrev pub room : View → ℕ → Bool
 room v n = leb (min (v .used + n) (2 ^ 64 - 1)) (v .rules .memory)
 
--- an instruction is paid for, by the fuel or the bank, and no cleanup comes first: whom a call was to enter, it enters
+-- an instruction is paid for, by the fuel or the bank, and no cleanup comes first: of `charged`'s four cases (Says.antt) those that leave it
+-- to the call whom it enters
 abbrev pub PaidFor : View → Type 0
 PaidFor v = (pc : ℕ) (y : Entry) → charged v pc (some y) ≡ some y
 
@@ -52,6 +53,7 @@ pub record Roomy (e : Engine) (n c : ℕ) (s : e .State) : Type 0 where
   pub held : Held (e .view s) c
   pub seen : Seen
   pub there : e .view s .coro c ≡ some seen
+  -- `-` stops at 0: what is saved within the most so far is free
   pub grows : let words = length (drop (held .body .base) (e .view s .stack)) - seen .mostWords in let frames = length (held .over ++ (held .body ∷ [])) - seen .mostFrames in
       room (e .view s) (n + (words * 8 + frames * e .view s .rules .frameCost)) ≡ true
 

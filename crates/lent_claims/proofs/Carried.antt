@@ -15,7 +15,7 @@ use Rattle.claims.specs.Says.{word, doing, lie, Entry, charged, whom}
 use Rattle.claims.specs.Held.{Held, closer, By, Entered, Restored}
 use Rattle.claims.specs.Delivery.{recorded, Left, resultOf}
 use Rattle.claims.specs.Demand3.{Enters, Suspends, Stops, Restarts, Waits, Goes, Demand3}
-use Rattle.claims.specs.Events.{Healthy, raised, endsAt, answers, suspended, isAwait, toldTo, returned, Lost, endedAs, lives, undone, rests, Events}
+use Rattle.claims.specs.Events.{Healthy, raised, endsAt, answers, suspended, isAwait, toldTo, returned, Lost, endedAs, lives, endsUnbegun, rests, Events}
 use Rattle.claims.specs.Promise.{suspends, room, Roomy, Pays, Makes, Accepts, Eleven, Soundness, Fresh, SetUps, registers, Looks, withFuel, Refuels, NotEmpty}
 use Rattle.claims.proofs.Premises.{Premises}
 use Rattle.lent_claims.proofs.Follows.{Follows, Sight, sight, same, along, ran}
@@ -127,7 +127,7 @@ module _ (e d : Engine) (f : Follows e d) where
         unbegun = λ c s k r h l u.
             down (λ v. v .after .coro c ≡ v .before .coro c) s k
             (p .unbegun c (f .to s) (f .by s k) (λ x. r (down-restarts e d f s k x)) (λ x. h (down-enters e d f s k c x)) (up (λ v. is (v .before) isNew c ≡ true) s k l)
-            (λ x y. u (down (λ v. undone (doing (v .before) (v .op)) ≡ some c) s k x) (down (λ v. whom (v .before) (v .op) ≡ none) s k y)));
+            (λ x y. u (down (λ v. endsUnbegun (doing (v .before) (v .op)) ≡ some c) s k x) (down (λ v. whom (v .before) (v .op) ≡ none) s k y)));
         runs-on = λ c s k r h a b g.
             down (λ v. is (v .after) runs c ≡ true) s k
             (p .runs-on c (f .to s) (f .by s k) (λ x. r (down-restarts e d f s k x)) (up (λ v. is (v .before) runs c ≡ true) s k h) (λ x. a (down-suspends e d f s k c x)) (λ x. b (down-returns e d f s k c x)) (λ x. g (down-fails e d f s k c x)));
