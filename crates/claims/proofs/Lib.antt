@@ -48,6 +48,7 @@ pub mod Still
 pub mod States
 pub mod Paid
 pub mod Undone
+pub mod Touches
 pub mod Exactly
 pub mod Operands
 pub mod Premises
@@ -55,5 +56,6 @@ pub mod Witness
 pub mod Roomy
 pub mod Promise
 pub mod WrongEvents
+pub mod WrongTouches
 pub mod Wrong
 pub mod WrongHosts

@@ -4,6 +4,7 @@ pub mod Operands
 pub mod Held
 pub mod Delivery
 pub mod Demand3
+pub mod Touches
 pub mod Events
 pub mod Promise
 pub mod Premises

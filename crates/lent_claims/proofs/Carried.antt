@@ -12,10 +12,11 @@ use Rattle.heap.specs.declared.value.Opt.{Opt}
 use Rattle.heap.specs.declared.object.CoroState.{CoroState}
 use Rattle.claims.specs.Engine.{Seen, View, Engine, Turn, run, isNew, runs, awaits, ended, seenIn, is}
 use Rattle.claims.specs.Says.{word, doing, lie, Entry, charged, whom}
-use Rattle.claims.specs.Held.{Held, closer, By, Entered, Restored}
+use Rattle.claims.specs.Held.{into, Held, closer, By, Entered, Restored}
 use Rattle.claims.specs.Delivery.{recorded, Left, resultOf}
 use Rattle.claims.specs.Demand3.{Enters, Suspends, Stops, Restarts, Waits, Goes, Demand3}
 use Rattle.claims.specs.Events.{Healthy, raised, endsAt, answers, suspended, isAwait, toldTo, returned, Lost, endedAs, lives, endsUnbegun, rests, Events}
+use Rattle.claims.specs.Touches.{Touched, Touches}
 use Rattle.claims.specs.Promise.{suspends, room, Roomy, Pays, Makes, Accepts, Eleven, Soundness, Fresh, SetUps, registers, Looks, withFuel, Refuels, NotEmpty}
 use Rattle.claims.proofs.Premises.{Premises}
 use Rattle.lent_claims.proofs.Follows.{Follows, Sight, sight, same, along, ran}
@@ -136,6 +137,14 @@ module _ (e d : Engine) (f : Follows e d) where
         one-switch = λ c u s k h g. p .one-switch c u (f .to s) (f .by s k) (up-enters e d f s k c h) (up-suspends e d f s k u g);
         no-return = λ c u s k h g. p .no-return c u (f .to s) (f .by s k) (up-enters e d f s k c h) (up-returns e d f s k u g);
         one-leaves = λ c u s k h g. p .one-leaves c u (f .to s) (f .by s k) (up-suspends e d f s k c h) (up-returns e d f s k u g);
+      }
+
+  pub touches : Touches d → Touches e
+  touches p =
+      record {
+        touched = λ s k o m q l h g.
+            down (λ v. Touched m (v .before) (v .after)) s k (p .touched (f .to s) (f .by s k) o m (f .op s k ∙ q) l (λ c x. h c (down-enters e d f s k c x)) (λ c x. g c (down-suspends e d f s k c x)));
+        put = λ s k r x o n. down (λ v. v .after .stack ≡ into (v .before .frames) r x (v .before .stack)) s k (p .put (f .to s) (f .by s k) r x (f .op s k ∙ o) (f .number s k ∙ n));
       }
 
   -- ---- acceptance

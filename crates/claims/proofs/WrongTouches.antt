@@ -1,0 +1,103 @@
+-- The machines that touch the script that runs: one call tells each. Nobody is entered in it or suspended, for the coroutines are `step`'s.
+use Prim.Native.Nat.{ℕ}
+use native.Mathlib.Omega.{arith}
+use mathlib.Core.Path.{_≡_, refl, sym, ap, _∙_}
+use mathlib.Core.Bool.{Bool, true, false}
+use mathlib.Core.Option.{Option, none, some, orElse}
+use lib.ListN.{getD}
+use lib.Dec.{ltb}
+use Rattle.lists.specs.Pick.{pick}
+use Rattle.heap.specs.declared.object.CoroState.{CoroState}
+use Rattle.model.specs.World.{World, fresh}
+use Rattle.model.specs.Frames.{putReg}
+use Rattle.model.specs.Step as M
+use Rattle.model.specs.Step.{step}
+use Rattle.model.specs.Call.{Call, typed, asCall}
+use Rattle.model.specs.Compute.{computed}
+use Rattle.model.specs.declared.call.Op.{Op}
+use Rattle.claims.specs.Engine.{runs, sleeps, is}
+use Rattle.claims.specs.Says.{Entry, whom}
+use Rattle.claims.specs.Demand3.{Enters, Suspends}
+use Rattle.claims.specs.Touches.{May, Touches}
+use Rattle.claims.specs.Steps.{viewOf, opOf}
+use Rattle.claims.specs.Story as Story
+use Rattle.claims.specs.Story.{wide}
+use Rattle.claims.specs.Wrong.{granting, after, beside, limitsOf, spilling, lazy}
+use Rattle.claims.proofs.Exact.{no-some}
+use Rattle.claims.proofs.Exactly.{events}
+
+-- c runs
+begun : World
+begun = M.runOps (fresh wide) (Story.begin 0)
+
+no-one : {y : Entry} → _≡_ {A = Option Entry} none (some y) → ⊥
+no-one e = let z : _≡_ {A = ℕ} 0 1 = cc in absurd (omega arith)
+
+-- ---- a grant
+
+grant-typed : typed (Op.Grant 1) ≡ true
+unfolding typed
+grant-typed = refl
+
+abbrev grant : Call
+grant = asCall (Op.Grant 1) grant-typed
+
+granted : (w : World) (k : Call) (p : CoroState → Bool) (c : ℕ) → is (viewOf (granting .next w k)) p c ≡ is (viewOf (step w k .world)) p c
+unfolding pick
+granted w k p c = go (ltb (w .fuel .fuel) (step w k .world .fuel .fuel)) (step w k .world)
+  where
+    go : (b : Bool) (z : World) → is (viewOf (pick b (putReg 0 5 z) z)) p c ≡ is (viewOf z) p c
+    go true z = refl
+    go false z = refl
+
+not-entered : (c : ℕ) → Enters granting c begun grant → ⊥
+not-entered c h = no-one (events .enters c begun grant (record { before = h .before; after = sym (granted begun grant runs c) ∙ h .after }) .says)
+
+not-suspended : (c : ℕ) → Suspends granting c begun grant → ⊥
+not-suspended c h = no-some refl (events .suspends c begun grant (record { before = h .before; after = sym (granted begun grant sleeps c) ∙ h .after }))
+
+pub grant-writes : Touches granting → ⊥
+unfolding computed begun
+grant-writes t = let q : _≡_ {A = ℕ} 5 0 = ap (λ xs. getD xs 4 0) (t .touched begun grant (Op.Grant 1) _ refl refl not-entered not-suspended .stack) in absurd (omega (arith, q))
+
+-- ---- a CoroStatus
+
+status-typed : typed (Op.CoroStatus 9 1 0) ≡ true
+unfolding typed
+status-typed = refl
+
+abbrev status : Call
+status = asCall (Op.CoroStatus 9 1 0) status-typed
+
+spilled : (m : Option May) (z : World) (p : CoroState → Bool) (c : ℕ) → is (viewOf (beside m z)) p c ≡ is (viewOf z) p c
+spilled none z p c = refl
+spilled (some m) z p c = go (m .register)
+  where
+    go : (r : Option ℕ) → is (viewOf (after r z)) p c ≡ is (viewOf z) p c
+    go none = refl
+    go (some r) = refl
+
+nobody-due : whom (viewOf begun) (some (Op.CoroStatus 9 1 0)) ≡ none
+unfolding computed begun orElse
+nobody-due = refl
+
+asks-entered : (c : ℕ) → Enters spilling c begun status → ⊥
+asks-entered c h =
+    no-one (sym nobody-due ∙ events .enters c begun status (record { before = h .before; after = sym (spilled (limitsOf (opOf status)) (step begun status .world) runs c) ∙ h .after }) .says)
+
+asks-suspended : (c : ℕ) → Suspends spilling c begun status → ⊥
+asks-suspended c h = no-some refl (events .suspends c begun status (record { before = h .before; after = sym (spilled (limitsOf (opOf status)) (step begun status .world) sleeps c) ∙ h .after }))
+
+pub status-spills : Touches spilling → ⊥
+unfolding computed begun
+status-spills t = let q : _≡_ {A = ℕ} 5 0 = ap (λ xs. getD xs 6 0) (t .touched begun status (Op.CoroStatus 9 1 0) _ refl refl asks-entered asks-suspended .stack) in absurd (omega (arith, q))
+
+-- ---- a put word
+
+put-typed : typed (Op.PutWord 0 7) ≡ true
+unfolding typed
+put-typed = refl
+
+pub put-ignored : Touches lazy → ⊥
+unfolding computed begun
+put-ignored t = let q : _≡_ {A = ℕ} 0 7 = ap (λ xs. getD xs 4 0) (t .put begun (asCall (Op.PutWord 0 7) put-typed) 0 7 refl refl) in absurd (omega (arith, q))
