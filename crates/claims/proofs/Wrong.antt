@@ -33,7 +33,7 @@ use Rattle.claims.proofs.Premises.{waits-true}
 use Rattle.claims.proofs.Cores.{no-both}
 use Rattle.claims.proofs.WrongEvents.{always-refused, return-fails, no-cleanup, closing-forgotten, failure-returns, await-yields, excused, throw-lost, ignored-unheard, refusal-unheard, throw-feigned}
 use Rattle.claims.proofs.WrongEvents.{always-nine, caught-unheard, bank-unused, close-pays, result-changes, aborted, close-fails, close-refused, wrong-result, renewed, comes-failed, fuel-stays, other-limits, speechless, all-shown}
-use Rattle.claims.proofs.WrongTouches.{grant-writes, status-spills, put-ignored}
+use Rattle.claims.proofs.WrongTouches.{grant-writes, status-spills, put-ignored, wrong-arguments, wrong-function}
 
 abbrev first : List ℕ → ℕ
 first [] = 0
@@ -378,6 +378,8 @@ wrong =
       grant-writes = grant-writes;
       status-spills = status-spills;
       put-ignored = put-ignored;
+      wrong-arguments = wrong-arguments;
+      wrong-function = wrong-function;
       fuel-stays = fuel-stays;
       other-limits = other-limits;
       speechless = speechless;

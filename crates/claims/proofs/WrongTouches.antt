@@ -1,28 +1,31 @@
--- The machines that touch the script that runs: one call tells each. Nobody is entered in it or suspended, for the coroutines are `step`'s.
+-- The machines that touch the script that runs, and those that make another coroutine: one call tells each. Where nobody is entered or
+-- suspended in it, it is because the coroutines are `step`'s.
 use Prim.Native.Nat.{ℕ}
 use native.Mathlib.Omega.{arith}
 use mathlib.Core.Path.{_≡_, refl, sym, ap, _∙_}
 use mathlib.Core.Bool.{Bool, true, false}
+use mathlib.Core.List.{[], _∷_}
 use mathlib.Core.Option.{Option, none, some, orElse}
 use lib.ListN.{getD}
 use lib.Dec.{ltb}
 use Rattle.lists.specs.Pick.{pick}
 use Rattle.heap.specs.declared.object.CoroState.{CoroState}
 use Rattle.model.specs.World.{World, fresh}
-use Rattle.model.specs.Frames.{putReg}
+use Rattle.model.specs.Frames.{topFunc, putReg}
 use Rattle.model.specs.Step as M
 use Rattle.model.specs.Step.{step}
 use Rattle.model.specs.Call.{Call, typed, asCall}
 use Rattle.model.specs.Compute.{computed}
 use Rattle.model.specs.declared.call.Op.{Op}
-use Rattle.claims.specs.Engine.{runs, sleeps, is}
+use Rattle.claims.specs.Engine.{Seen, runs, sleeps, is}
 use Rattle.claims.specs.Says.{Entry, whom}
 use Rattle.claims.specs.Demand3.{Enters, Suspends}
 use Rattle.claims.specs.Touches.{May, Touches}
+use Rattle.claims.specs.Made.{Creates}
 use Rattle.claims.specs.Steps.{viewOf, opOf}
 use Rattle.claims.specs.Story as Story
-use Rattle.claims.specs.Story.{wide}
-use Rattle.claims.specs.Wrong.{granting, after, beside, limitsOf, spilling, lazy}
+use Rattle.claims.specs.Story.{wide, c}
+use Rattle.claims.specs.Wrong.{granting, after, beside, limitsOf, spilling, lazy, breeding, fives, ofOne}
 use Rattle.claims.proofs.Exact.{no-some}
 use Rattle.claims.proofs.Exactly.{events}
 
@@ -101,3 +104,23 @@ put-typed = refl
 pub put-ignored : Touches lazy → ⊥
 unfolding computed begun
 put-ignored t = let q : _≡_ {A = ℕ} 0 7 = ap (λ xs. getD xs 4 0) (t .put begun (asCall (Op.PutWord 0 7) put-typed) 0 7 refl refl) in absurd (omega (arith, q))
+
+-- ---- a creation
+
+called : World
+called = M.runOps (fresh wide) (Op.Grant 1000 ∷ Op.HostCall 0 ∷ [])
+
+new-typed : typed (Op.CoroNew 1 0 0 0) ≡ true
+unfolding typed
+new-typed = refl
+
+abbrev new : Call
+new = asCall (Op.CoroNew 1 0 0 0) new-typed
+
+pub wrong-arguments : Creates (breeding fives c) → ⊥
+unfolding computed called
+wrong-arguments v = let q : _≡_ {A = ℕ} 5 0 = ap (λ (x : Seen). getD (x .words) 0 0) (v .new c called new 1 0 0 0 _ refl refl refl) in absurd (omega (arith, q))
+
+pub wrong-function : Creates (breeding ofOne c) → ⊥
+unfolding computed called
+wrong-function v = let q : _≡_ {A = ℕ} 1 0 = ap (λ (x : Seen). topFunc (x .frames)) (v .new c called new 1 0 0 0 _ refl refl refl) in absurd (omega (arith, q))

@@ -33,8 +33,9 @@ pub record Rules : Type 0 where
   -- limits: the most frames, and the most words of the stack (a machine's own fields of these names count what is in use)
   pub depth : ℕ
   pub height : ℕ
-  -- how many functions there are, and the handlers of each
+  -- how many functions there are, and the registers and handlers of each
   pub functions : ℕ
+  pub registers : ℕ → ℕ
   pub handlers : ℕ → List Handler
   -- the most bytes, and what a frame, an integer object and an error object cost
   pub memory : ℕ

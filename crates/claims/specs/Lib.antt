@@ -5,6 +5,7 @@ pub mod Held
 pub mod Delivery
 pub mod Demand3
 pub mod Touches
+pub mod Made
 pub mod Events
 pub mod Promise
 pub mod Premises

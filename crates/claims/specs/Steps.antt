@@ -26,6 +26,7 @@ rulesOf s =
       depth = s .limits .depth;
       height = s .limits .stack;
       functions = length (s .functions);
+      registers = λ f. func s f .regs;
       handlers = λ f. func s f .handlers;
       memory = s .limits .memory;
       frameCost = s .costs .frame;

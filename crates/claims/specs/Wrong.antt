@@ -25,6 +25,7 @@ use Rattle.claims.specs.Says.{Does, instr, hosts, finishes, raises, othe
 use Rattle.claims.specs.Demand3.{Demand3}
 use Rattle.claims.specs.Events.{isBody, failed, Events}
 use Rattle.claims.specs.Touches.{May, mayTouch, Touches}
+use Rattle.claims.specs.Made.{Creates}
 use Rattle.claims.specs.Promise.{Accepts, SetUps, Looks, Speaks}
 use Rattle.claims.specs.Steps.{viewOf, opOf, asksOf, looks}
 use Rattle.claims.specs.Story.{c, d}
@@ -302,6 +303,18 @@ spilling = leaving (λ w k. beside (limitsOf (opOf k)) (step w k .world))
 abbrev pub lazy : Engine
 lazy = leaving (λ w k. let z = step w k .world in pick (eqb (w .fuel .fuel) (z .fuel .fuel) && eqb (length (w .frames)) (length (z .frames))) w z)
 
+-- ---- machines that make another coroutine
+
+-- where c comes, what it begins with is bent: 5 in every register; a frame of another function
+abbrev pub breeding : (Core → Core) → ℕ → Engine
+breeding f c = leaving (λ w k. let z = step w k .world in pick (not (is (viewOf w) isNew c) && is (viewOf z) isNew c) (changeCoro c f (λ r. r) z) z)
+
+abbrev pub fives : Core → Core
+fives k = record { state = k .state; regs = map (λ x. 5) (k .regs); frames = k .frames; waiting = k .waiting }
+
+abbrev pub ofOne : Core → Core
+ofOne k = record { state = k .state; regs = k .regs; frames = map (λ f. record { func = 1; pc = f .pc; base = f .base; closure = f .closure; cont = f .cont }) (k .frames); waiting = k .waiting }
+
 -- ---- machines whose set-ups, looks or calls are wrong
 
 -- every operation is taken for a look
@@ -375,6 +388,8 @@ pub record Wrong : Type 0 where
   pub grant-writes : Touches granting → ⊥
   pub status-spills : Touches spilling → ⊥
   pub put-ignored : Touches lazy → ⊥
+  pub wrong-arguments : Creates (breeding fives c) → ⊥
+  pub wrong-function : Creates (breeding ofOne c) → ⊥
   pub fuel-stays : SetUps fuelled → ⊥
   pub other-limits : SetUps shrinking → ⊥
   pub speechless : Speaks deaf → ⊥

@@ -17,6 +17,7 @@ use Rattle.claims.specs.Delivery.{recorded, Left, resultOf}
 use Rattle.claims.specs.Demand3.{Enters, Suspends, Stops, Restarts, Waits, Goes, Demand3}
 use Rattle.claims.specs.Events.{Healthy, raised, endsAt, answers, suspended, isAwait, toldTo, returned, Lost, endedAs, lives, endsUnbegun, rests, Events}
 use Rattle.claims.specs.Touches.{Touched, Touches}
+use Rattle.claims.specs.Made.{arguments, made, Creates}
 use Rattle.claims.specs.Promise.{suspends, room, Roomy, Pays, Makes, Accepts, Eleven, Soundness, Fresh, SetUps, registers, Looks, withFuel, Refuels, NotEmpty}
 use Rattle.claims.proofs.Premises.{Premises}
 use Rattle.lent_claims.proofs.Follows.{Follows, Sight, sight, same, along, ran}
@@ -145,6 +146,20 @@ module _ (e d : Engine) (f : Follows e d) where
         touched = λ s k o m q l h g.
             down (λ v. Touched m (v .before) (v .after)) s k (p .touched (f .to s) (f .by s k) o m (f .op s k ∙ q) l (λ c x. h c (down-enters e d f s k c x)) (λ c x. g c (down-suspends e d f s k c x)));
         put = λ s k r x o n. down (λ v. v .after .stack ≡ into (v .before .frames) r x (v .before .stack)) s k (p .put (f .to s) (f .by s k) r x (f .op s k ∙ o) (f .number s k ∙ n));
+      }
+
+  -- who was not there, and is seen as x after the call
+  abbrev come-as : (View → Type 0) → ℕ → Seen → Sight → Type 0
+  come-as P c x v = v .before .coro c ≡ none → v .after .coro c ≡ some x → P (v .before)
+
+  pub creates : Creates d → Creates e
+  creates p =
+      record {
+        new = λ c s k pc dst n argc x o. down (come-as (λ v. x ≡ made (v .rules) n 0 (arguments v dst argc)) c x) s k (p .new c (f .to s) (f .by s k) pc dst n argc x (f .op s k ∙ o));
+        indirect = λ c s k pc dst r argc x o.
+            down (come-as (λ v. (n : ℕ) × (x ≡ made (v .rules) n (word v r) (arguments v dst argc))) c x) s k (p .indirect c (f .to s) (f .by s k) pc dst r argc x (f .op s k ∙ o));
+        spawned = λ c s k pc dst r argc x o.
+            down (come-as (λ v. (n : ℕ) × (x ≡ made (v .rules) n (word v r) (arguments v dst argc))) c x) s k (p .spawned c (f .to s) (f .by s k) pc dst r argc x (f .op s k ∙ o));
       }
 
   -- ---- acceptance

@@ -36,6 +36,7 @@ promise =
       demand3 = Carried.demand3 outer steps follows (p .demand3);
       events = Carried.events outer steps follows (p .events);
       touches = Carried.touches outer steps follows (p .touches);
+      creates = Carried.creates outer steps follows (p .creates);
       accepts = Carried.accepts outer steps follows (p .accepts);
       soundness = Carried.soundness outer steps follows (p .soundness);
       set-ups = Carried.set-ups outer steps follows (p .set-ups);
