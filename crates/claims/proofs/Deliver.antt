@@ -193,7 +193,8 @@ yield-arm p dst src v = go (v .chain)
         cases (AutoKey.Key key largest) = suspend-arm p CoroState.Yielded refl dst (reg v src) (Keys.Set key largest) v (o .world) g
         cases (AutoKey.Refused f) = a-works refl refl (same-worked g done)
 
-    go : (cs : List Active) → Arm (may (some p) none false) v p (suspends CoroState.Yielded dst (reg v src)) (inBody cs (λ a. keyed (tries p CoroState.Yielded dst (reg v src)) (autoKey (largestIn (coro v (a .coro))) v .world) (autoKey (largestIn (coro v (a .coro))) v .answer))) (yieldOn cs p dst src v .world)
+    go : (cs : List Active)
+        → Arm (may (some p) none false) v p (suspends CoroState.Yielded dst (reg v src)) (inBody cs (λ a. keyed (tries p CoroState.Yielded dst (reg v src)) (autoKey (largestIn (coro v (a .coro))) v .world) (autoKey (largestIn (coro v (a .coro))) v .answer))) (yieldOn cs p dst src v .world)
     go [] = a-works refl refl done
     go (a ∷ chain) = made (autoKey (largestIn (coro v (a .coro))) v) (key-same (largestIn (coro v (a .coro))) v)
 

@@ -57,6 +57,6 @@ pub mod Witness
 pub mod Roomy
 pub mod Promise
 pub mod WrongEvents
-pub mod WrongTouches
 pub mod Wrong
 pub mod WrongHosts
+pub mod WrongTouches

@@ -76,12 +76,16 @@ module _ (v : World) (c : ℕ) (e : coro v c ≡ Absent) where
       bytes : ℕ
       bytes = 8 * n + v .setup .costs .object + v .setup .costs .frame
 
+      grown : After WordOr
+      grown = after (withUsed (satAdd (u .used) bytes) (withSlots (pushObject (u .slots) o) u)) (WordOr.Word (nextWord (u .slots)))
+
       found : (objectIn (pushObject (v .slots) o) c ≡ objectIn (v .slots) c) ⊎ ((objectIn (v .slots) c ≡ Object.Empty) × (objectIn (pushObject (v .slots) o) c ≡ o)) → coreIn (asCoro (objectIn (pushObject (v .slots) o) c)) .seen ≡ some x
           → x ≡ made (rulesOf (v .setup)) f closure args
       found (inl q) h = no-one (ap (λ y. coreIn (asCoro y) .seen) q ∙ absent) h
       found (inr q) h = seen-is (sym (ap (λ y. coreIn (asCoro y) .seen) (q .1)) ∙ h)
 
-      go : (a b d g : Bool) → coreAt (pick a (refuse v Fault.OutOfMemory) (pick b (refuse v Fault.Full) (pick d (refuse u Fault.OutOfMemory) (pick g (refuse u Fault.Full) (after (withUsed (satAdd (u .used) bytes) (withSlots (pushObject (u .slots) o) u)) (WordOr.Word (nextWord (u .slots))))))) .world) c .seen ≡ some x
+      go : (a b d g : Bool)
+          → coreAt (pick a (refuse v Fault.OutOfMemory) (pick b (refuse v Fault.Full) (pick d (refuse u Fault.OutOfMemory) (pick g (refuse u Fault.Full) grown))) .world) c .seen ≡ some x
           → x ≡ made (rulesOf (v .setup)) f closure args
       go true b d g h = no-one absent h
       go false true d g h = no-one absent h

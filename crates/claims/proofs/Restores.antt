@@ -28,7 +28,7 @@ use Rattle.claims.proofs.Entry.{act, pcBy}
 use Rattle.claims.proofs.Held.{Seat, coreIn, coreAt, wordsWith, framesWith}
 use Rattle.claims.proofs.Split.{next, Suspends, Enters, restarts, Waits}
 use Rattle.claims.proofs.Cores.{no-both}
-use Rattle.claims.proofs.Wakes.{words-given, woken-with, regs-seen, frames-seen, all-raised}
+use Rattle.claims.proofs.Wakes.{words-given, woken-with, regs-seen, frames-seen, waits-seen, all-raised}
 use Rattle.claims.proofs.Events.{run-susp, suspended-one, no-entry}
 use Rattle.claims.proofs.Under.{lift-with}
 use Rattle.claims.proofs.Sounds.{lifts}
@@ -89,9 +89,8 @@ entered-at c w (Do o) z t =
       floor = b .floor;
       chain = t .enter .chain;
       closing = closer-at z c ∙ t .enter .closing ∙ ap (closedBy (t .sent)) (sym (closer-at w c));
-      waits = coreAt w c .waiting;
       saved-words = λ x e.
-          t .enter .stack ∙ words-given (t .sent) (coreAt w c) (w .stack) (x .words) (coreAt w c .waiting) (z .frames) (onTop (setPc (pcBy (act w (o .op)))) (w .frames)) (t .enter .solid) (regs-seen (coro w c) x e) refl (t .enter .frames);
+          t .enter .stack ∙ words-given (t .sent) (coreAt w c) (w .stack) (x .words) (x .waits) (z .frames) (onTop (setPc (pcBy (act w (o .op)))) (w .frames)) (t .enter .solid) (regs-seen (coro w c) x e) (waits-seen (coro w c) x e (t .enter .ready)) (t .enter .frames);
       saved-frames = λ x e. subst (AllMoved 0 (length (w .stack)) (woken (t .sent) (x .frames)))
           (ap (map (raise (length (w .stack)))) (ap (woken (t .sent)) (sym (frames-seen (coro w c) x e)) ∙ sym (woken-with (t .sent) (coreAt w c))) ∙ b .frames) (all-raised (length (w .stack)) (woken (t .sent) (x .frames)));
     }

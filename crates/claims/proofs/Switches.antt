@@ -103,7 +103,8 @@ try-silent {m} v p c d g calm may = go (coroEnter c d u) (enter-case c d u)
         i = entered c d k r u
 
 -- one that has begun is closed by x
-pub try-closed : {m : Option May} (v : World) (p c : ℕ) (d : Driver) (x : ℕ) (k : Core) (r : Rest) → coro v c ≡ Is k r → isCreated (k .state) ≡ false → Stores m (setPc p) → let e = coroEnter c d (storePc p v) in Tried m v p c d (closes x) (tailW (changeCoro c (λ k. k) (close x)) (e .world) (e .answer))
+pub try-closed : {m : Option May} (v : World) (p c : ℕ) (d : Driver) (x : ℕ) (k : Core) (r : Rest) → coro v c ≡ Is k r → isCreated (k .state) ≡ false → Stores m (setPc p)
+    → let e = coroEnter c d (storePc p v) in Tried m v p c d (closes x) (tailW (changeCoro c (λ k. k) (close x)) (e .world) (e .answer))
 try-closed {m} v p c d x k₀ r₀ here begun may = go (coroEnter c d u) (enter-case c d u)
   where
     u : World

@@ -3,35 +3,50 @@ use Prim.Native.Nat.{ℕ, _+_}
 use native.Mathlib.Omega.{arith}
 use mathlib.Core.Path.{_≡_, refl, sym, ap, _∙_, subst}
 use mathlib.Core.Logic.{_⊎_, inl, inr}
-use mathlib.Core.Bool.{Bool, true, false, not}
+use mathlib.Core.Bool.{Bool, true, false, not, _&&_, _||_}
 use mathlib.Core.List.{List, [], _∷_, _++_, append-nil}
 use mathlib.Core.Option.{Option, none, some}
-use lib.ListN.{length, getD, length-set}
+use lib.ListN.{length, getD, take, replicate, length-set}
 use lib.Seq.{set-getD, set-set}
+use lib.Dec.{leb, ltb}
+use borrow.Author.Tests.{eq-eqb}
 use Rattle.lists.specs.Pick.{pick}
+use Rattle.heap.specs.Word.{nil}
+use Rattle.heap.specs.Fault as Faults
 use Rattle.heap.specs.declared.fault.Fault.{Fault}
+use Rattle.heap.specs.declared.value.Opt.{Opt}
+use Rattle.heap.specs.declared.heap.ResultKind.{ResultKind}
 use Rattle.model.specs.Lists.{isNil}
 use Rattle.model.specs.State.{isRunning, isSuspended}
-use Rattle.model.specs.World.{World}
-use Rattle.model.specs.Frames.{onTop, setPc, putAt}
-use Rattle.model.specs.Gate.{refused, allIn, onFrame}
-use Rattle.model.specs.Added.{putWord}
+use Rattle.model.specs.Program.{func, isFunction}
+use Rattle.model.specs.World.{World, after, andThen, withStack, withFrames}
+use Rattle.model.specs.Frames.{frame, onTop, setPc, stepPc, putAt, storePc, nextPc, popTo}
+use Rattle.model.specs.Heap.{refuse, toDyn}
+use Rattle.model.specs.Machine.{pushFrame, resultOf, orNil, writeResult, writeMade, applyCont, isOk, resumeIn, finishAs, finishOn, finish}
+use Rattle.model.specs.Gate.{refused, allIn, onFrame, onHost}
+use Rattle.model.specs.Added.{pushedOr, hostCall, contAllowed, functionCall, putWord}
 use Rattle.model.specs.Sound.{sound}
 use Rattle.model.specs.Answer.{numberOf}
 use Rattle.model.specs.Call.{Call, SetUp, Do}
 use Rattle.model.specs.Step.{call, tested, step, told}
+use Rattle.model.specs.declared.machine.Cont.{Cont}
 use Rattle.model.specs.declared.machine.Frame.{Frame}
 use Rattle.model.specs.declared.machine.Active.{Active}
+use Rattle.model.specs.declared.coro.WordOr.{WordOr}
 use Rattle.model.specs.declared.call.Op.{Op}
+use Rattle.model.specs.declared.call.Answer.{Answer}
 use Rattle.claims.specs.Held.{at, into}
+use Rattle.claims.specs.Delivery.{onward}
 use Rattle.claims.specs.Demand3 as D
-use Rattle.claims.specs.Touches.{May, mayTouch, storing, writing, Over, bare, one, Touched, Touches}
+use Rattle.claims.specs.Events.{isBody}
+use Rattle.claims.specs.Touches.{May, mayTouch, storing, writing, Over, bare, one, Touched, Called, target, goOn, Finished, Touches}
 use Rattle.claims.specs.Steps.{viewOf, opOf, steps}
 use Rattle.claims.proofs.Held.{coreAt}
 use Rattle.claims.proofs.Split.{next}
-use Rattle.claims.proofs.Cores.{Mode, m-plain}
+use Rattle.claims.proofs.Cores.{no-both, Mode, m-plain}
 use Rattle.claims.proofs.Shape as S
 use Rattle.claims.proofs.Shape.{View, view, Stores, Worked, done, quiet, tops, puts, pushes, pops, fails, topV, putV, Shape}
+use Rattle.claims.proofs.Quiet.{Same, dyn-same}
 use Rattle.claims.proofs.Events.{ready-run}
 use Rattle.claims.proofs.Sounds.{first-runs}
 use Rattle.claims.proofs.Calls.{shape}
@@ -179,7 +194,46 @@ touched w k o m e l i j =
     go z (same k x) e i = walk m (view w) {b = m-plain} (near-none m (view w)) done
     go z (does p h) e i = shaped h (shape w (p .op)) (ap mayTouch (some-op e) ∙ l) i
 
--- ---- put word
+-- ---- where they are accepted: function call, host call, put word
+
+called-tested : (w : World) (pc f : ℕ) (cont : Cont) → let o = tested w (Op.FunctionCall pc f cont) in numberOf (o .answer) ≡ 0 → Called f cont (at pc (w .frames)) (viewOf w) (viewOf (o .world))
+unfolding tested call onFrame functionCall pushFrame pick
+called-tested w pc f cont =
+    go (sound w) (isNil (w .frames)) (isFunction (w .setup) f && contAllowed w cont) (leb (w .setup .limits .depth) (length (u .frames)) || ltb (w .setup .limits .stack) (length (w .stack) + func (w .setup) f .regs))
+  where
+    u : World
+    u = storePc pc w
+
+    left : World
+    left = withFrames (frame f (length (w .stack)) nil cont ∷ u .frames) (withStack (w .stack ++ replicate (func (w .setup) f .regs) 0) u)
+
+    go : (a b c d : Bool) → let o = pick a (told (pick b (refused w Fault.NoFrame) (pick (not c) (refused w Fault.BadOperand) (andThen (pick d (refuse u Fault.StackOverflow) (after left (WordOr.Word (length (w .stack))))) (pushedOr w))))) (told (refused w Fault.Unsound)) in
+        numberOf (o .answer) ≡ 0 → Called f cont (at pc (w .frames)) (viewOf w) (viewOf (o .world))
+    go true false true false n = record { frames = ap (λ (fs : List Frame). frame f (length (w .stack)) nil cont ∷ fs) (at-top pc (w .frames)); stack = refl }
+    go true false true true n = absurd (omega (arith, n))
+    go true false false d n = absurd (omega (arith, n))
+    go true true c d n = absurd (omega (arith, n))
+    go false b c d n = absurd (omega (arith, n))
+
+host-tested : (w : World) (f : ℕ) → let o = tested w (Op.HostCall f) in numberOf (o .answer) ≡ 0 → Called f Cont.Entry [] (viewOf w) (viewOf (o .world))
+unfolding tested call onHost hostCall pushFrame pick
+host-tested w f = go (sound w) (isNil (w .frames)) refl (isFunction (w .setup) f) (leb (w .setup .limits .depth) (length (w .frames)) || ltb (w .setup .limits .stack) (length (w .stack) + func (w .setup) f .regs))
+  where
+    left : World
+    left = withFrames (frame f (length (w .stack)) nil Cont.Entry ∷ w .frames) (withStack (w .stack ++ replicate (func (w .setup) f .regs) 0) w)
+
+    none-stands : (fs : List Frame) → isNil fs ≡ true → fs ≡ []
+    none-stands [] h = refl
+    none-stands (g ∷ fs) h = no-both h refl
+
+    go : (a b : Bool) → isNil (w .frames) ≡ b → (c d : Bool)
+        → let o = pick a (told (pick (not b) (refused w Fault.Busy) (pick (not c) (refused w Fault.BadOperand) (andThen (pick d (refuse w Fault.StackOverflow) (after left (WordOr.Word (length (w .stack))))) (pushedOr w))))) (told (refused w Fault.Unsound)) in
+        numberOf (o .answer) ≡ 0 → Called f Cont.Entry [] (viewOf w) (viewOf (o .world))
+    go true true e true false n = record { frames = ap (λ (fs : List Frame). frame f (length (w .stack)) nil Cont.Entry ∷ fs) (none-stands (w .frames) e); stack = refl }
+    go true true e true true n = absurd (omega (arith, n))
+    go true true e false d n = absurd (omega (arith, n))
+    go true false e c d n = absurd (omega (arith, n))
+    go false b e c d n = absurd (omega (arith, n))
 
 put-tested : (w : World) (r x : ℕ) → numberOf (tested w (Op.PutWord r x) .answer) ≡ 0 → tested w (Op.PutWord r x) .world .stack ≡ into (w .frames) r x (w .stack)
 unfolding tested call onFrame putWord pick
@@ -192,11 +246,81 @@ put-tested w r x = go (sound w) (isNil (w .frames)) (allIn (r ∷ []) w)
     go true false false n = absurd (omega (arith, n))
     go false b c n = absurd (omega (arith, n))
 
-put : (w : World) (k : Call) (r x : ℕ) → opOf k ≡ some (Op.PutWord r x) → numberOf (step w k .answer) ≡ 0 → step w k .world .stack ≡ into (w .frames) r x (w .stack)
+-- ---- a finish of a frame that is no body
+
+on-ward : (fs : List Frame) → onTop stepPc fs ≡ onward fs
+on-ward [] = refl
+on-ward (f ∷ fs) = refl
+
+module _ (kind : ResultKind) (x : ℕ) (f : Frame) (fs : List Frame) (w : World) where
+  -- f, whose continuation is c, is gone
+  record Gone (c : Cont) (z : World) : Type 0 where
+    frames : z .frames ≡ goOn c fs
+    word : ℕ
+    stack : z .stack ≡ writing (target c) fs word (take (f .base) (w .stack))
+    chain : z .chain ≡ w .chain
+
+  words : List ℕ
+  words = take (f .base) (w .stack)
+
+  wrote : (dst : ℕ) (r : Opt) → (y : ℕ) × (writeResult dst r (popTo f fs w) .stack ≡ into fs dst y words)
+  unfolding words
+  wrote dst Opt.None = (standing (some dst) fs words, stands (some dst) fs words)
+  wrote dst (Opt.Some y) = (y, put-storing none fs dst y words)
+
+  wrote-frames : (dst : ℕ) (r : Opt) → writeResult dst r (popTo f fs w) .frames ≡ fs
+  wrote-frames dst Opt.None = refl
+  wrote-frames dst (Opt.Some y) = refl
+
+  wrote-chain : (dst : ℕ) (r : Opt) → writeResult dst r (popTo f fs w) .chain ≡ w .chain
+  wrote-chain dst Opt.None = refl
+  wrote-chain dst (Opt.Some y) = refl
+
+  converted : (dst : ℕ) (t : World) (m : WordOr) → Same (popTo f fs w) t → numberOf (andThen (writeMade dst t m) resumeIn .answer) ≡ 0 → Gone (Cont.Dyn dst) (andThen (writeMade dst t m) resumeIn .world)
+  unfolding pick words
+  converted dst t (WordOr.Word y) g n = record { frames = ap (onTop stepPc) (g .frames) ∙ on-ward fs; word = y; stack = (λ i. putAt (g .frames i) dst y (g .stack i)) ∙ put-storing none fs dst y words; chain = g .chain }
+  converted dst t (WordOr.Refused e) g n = go (isOk e) refl n
+    where
+      go : (b : Bool) → isOk e ≡ b → let o = pick b (after (nextPc t) Answer.Resume) (after t (Answer.Refused e)) in numberOf (o .answer) ≡ 0 → Gone (Cont.Dyn dst) (o .world)
+      go true q n = record { frames = ap (onTop stepPc) (g .frames) ∙ on-ward fs; word = standing (some dst) fs words; stack = g .stack ∙ stands (some dst) fs words; chain = g .chain }
+      go false q n = no-both (eq-eqb (Faults.numberOf e) 0 n) q
+
+  finished-as : (c : Cont) → isBody c ≡ false → numberOf (finishAs c f fs kind x w .answer) ≡ 0 → Gone c (finishAs c f fs kind x w .world)
+  unfolding applyCont pick words
+  finished-as Cont.Entry b n = record { frames = refl; word = 0; stack = refl; chain = refl }
+  finished-as (Cont.Write dst) b n =
+      let r = resultOf kind x in
+      record { frames = ap (onTop stepPc) (wrote-frames dst r) ∙ on-ward fs; word = wrote dst r .0; stack = wrote dst r .1; chain = wrote-chain dst r }
+  finished-as (Cont.Dyn dst) b n = let o = toDyn kind x (popTo f fs w) in converted dst (o .world) (o .answer) (dyn-same kind x (popTo f fs w)) n
+  finished-as (Cont.Value dst) b n = record { frames = on-ward fs; word = orNil (resultOf kind x); stack = put-storing none fs dst (orNil (resultOf kind x)) words; chain = refl }
+  finished-as Cont.Discard b n = record { frames = on-ward fs; word = 0; stack = refl; chain = refl }
+  finished-as Cont.Coro b n = no-both refl b
+
+  finished-tested : w .frames ≡ f ∷ fs → isBody (f .cont) ≡ false → let o = tested w (Op.Finish kind x) in numberOf (o .answer) ≡ 0 → Finished f fs (viewOf w) (viewOf (o .world))
+  unfolding tested call finish pick words
+  finished-tested p b = go (sound w)
+    where
+      on : numberOf (finishOn (w .frames) kind x w .answer) ≡ 0 → Gone (f .cont) (finishOn (w .frames) kind x w .world)
+      on = subst (λ gs. numberOf (finishOn gs kind x w .answer) ≡ 0 → Gone (f .cont) (finishOn gs kind x w .world)) (sym p) (finished-as (f .cont) b)
+
+      go : (a : Bool) → let o = pick a (told (finish kind x w)) (told (refused w Fault.Unsound)) in numberOf (o .answer) ≡ 0 → Finished f fs (viewOf w) (viewOf (o .world))
+      go true n = let t = on n in record { frames = t .frames; word = t .word; stack = t .stack; chain = t .chain }
+      go false n = absurd (omega (arith, n))
+
+-- by a step: what holds of every call that is answered 0
+stepped : (P : World → World → Type 0) (o : Op) → ((w : World) → numberOf (tested w o .answer) ≡ 0 → P w (tested w o .world)) → (w : World) (k : Call) → opOf k ≡ some o → numberOf (step w k .answer) ≡ 0 → P w (step w k .world)
 unfolding step
-put w (SetUp s) r x e n = let z : _≡_ {A = ℕ} 0 1 = cc in absurd (omega arith)
-put w (Do p) r x e n = subst (λ q. numberOf (tested w q .answer) ≡ 0 → tested w q .world .stack ≡ into (w .frames) r x (w .stack)) (sym (some-op e)) (put-tested w r x) n
+stepped P o f w (SetUp s) e n = let z : _≡_ {A = ℕ} 0 1 = cc in absurd (omega arith)
+stepped P o f w (Do p) e n = subst (λ q. numberOf (tested w q .answer) ≡ 0 → P w (tested w q .world)) (sym (some-op e)) (f w) n
 
 -- WHAT IS LEFT ALONE
 pub touches : Touches steps
-touches = record { touched = touched; put = put }
+touches =
+    record {
+      touched = touched;
+      finished = λ w k kind x f fs q p b n.
+          stepped (λ w z. w .frames ≡ f ∷ fs → Finished f fs (viewOf w) (viewOf z)) (Op.Finish kind x) (λ w n p. finished-tested kind x f fs w p b n) w k q n p;
+      called = λ w k pc f cont. stepped (λ w z. Called f cont (at pc (w .frames)) (viewOf w) (viewOf z)) (Op.FunctionCall pc f cont) (λ w. called-tested w pc f cont) w k;
+      host-called = λ w k f. stepped (λ w z. Called f Cont.Entry [] (viewOf w) (viewOf z)) (Op.HostCall f) (λ w. host-tested w f) w k;
+      put = λ w k r x. stepped (λ w z. z .stack ≡ into (w .frames) r x (w .stack)) (Op.PutWord r x) (λ w. put-tested w r x) w k;
+    }

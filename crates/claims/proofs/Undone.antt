@@ -82,7 +82,7 @@ module _ (c : ℕ) (k : Core) (r : Rest) (new : isCreated (k .state) ≡ true) (
       ends-as
       (ap (λ n. closeTo (coroState v n) p dst n (reg v src) v) f
       ∙ ap (λ y. closeTo (stateAs y (notA v c)) p dst c (reg v src) v) e
-      ∙ ap (λ s. closeTo (Stated.In s) p dst c (reg v src) v) (is-created (k .state) new)) (record { number = refl; seen = there-seen c CoroState.Returned nil v e })
+      ∙ ap (λ s. closeTo (Stated.In s) p dst c (reg v src) v) (is-created (k .state) new)) (record { number = refl; seen = there-seen c CoroState.Returned nil v refl e })
 
   throw-ends : (p dst q src : ℕ) → reg v q ≡ c → Ends c 17 (endedAs CoroState.Failed (reg v src)) (resumeThrow p dst q src v)
   unfolding resumeThrow pick
@@ -90,7 +90,7 @@ module _ (c : ℕ) (k : Core) (r : Rest) (new : isCreated (k .state) ≡ true) (
       ends-as
       (ap (λ n. throwTo (coroState v n) p dst n (reg v src) v) f
       ∙ ap (λ y. throwTo (stateAs y (notA v c)) p dst c (reg v src) v) e
-      ∙ ap (λ s. throwTo (Stated.In s) p dst c (reg v src) v) (is-created (k .state) new)) (record { number = refl; seen = there-seen c CoroState.Failed (reg v src) v e })
+      ∙ ap (λ s. throwTo (Stated.In s) p dst c (reg v src) v) (is-created (k .state) new)) (record { number = refl; seen = there-seen c CoroState.Failed (reg v src) v refl e })
 
 -- ---- the instruction: no cleanup comes first
 

@@ -2,18 +2,20 @@
 use Prim.Native.Nat.{ℕ, _+_}
 use native.Mathlib.Omega.{arith}
 use mathlib.Core.Path.{_≡_, refl, sym, ap, _∙_}
-use mathlib.Core.Bool.{false}
+use mathlib.Core.Bool.{true, false}
 use mathlib.Core.List.{List, [], _∷_, _++_, map}
 use mathlib.Core.Option.{Option, none, some}
 use lib.ListN.{length, set}
+use Rattle.heap.specs.declared.object.CoroState.{CoroState}
 use Rattle.model.specs.Lists.{isNil}
+use Rattle.model.specs.State.{isResumable}
 use Rattle.model.specs.Object.{Coroutine, Absent, Is}
 use Rattle.model.specs.Frames.{onTop, stepPc, raise, topBase}
 use Rattle.model.specs.declared.machine.Frame.{Frame}
 use Rattle.claims.specs.Engine.{Seen}
 use Rattle.claims.specs.Says.{Sent, nothing, gets, closes}
 use Rattle.claims.specs.Held.{AllMoved, into, given, woken}
-use Rattle.claims.specs.Steps.{seenOf}
+use Rattle.claims.specs.Steps.{waitsOf, seenOf}
 use Rattle.claims.proofs.Held.{Seat, coreIn, wordsWith, framesWith}
 use Rattle.claims.proofs.Cores.{no-both}
 use Rattle.claims.proofs.Enters.{set-append-at}
@@ -67,6 +69,27 @@ frames-saved (Is k r) = refl
 pub frames-seen : (y : Coroutine) (x : Seen) → seenOf y ≡ some x → coreIn y .frames ≡ x .frames
 unfolding savedFrames
 frames-seen y x e = frames-saved y ∙ ap savedFrames e
+
+waitsIn : Option Seen → ℕ
+waitsIn none = 0
+waitsIn (some x) = x .waits
+
+waits-saved : (y : Coroutine) → isResumable (coreIn y .state) ≡ true → coreIn y .waiting ≡ waitsIn (seenOf y)
+unfolding waitsIn
+waits-saved Absent h = refl
+waits-saved (Is k r) h = go (k .state) h
+  where
+    go : (s : CoroState) → isResumable s ≡ true → k .waiting ≡ waitsOf s (k .waiting)
+    go CoroState.Created h = refl
+    go CoroState.Running h = no-both h refl
+    go CoroState.Yielded h = refl
+    go CoroState.Awaiting h = refl
+    go CoroState.Returned h = no-both h refl
+    go CoroState.Failed h = no-both h refl
+
+pub waits-seen : (y : Coroutine) (x : Seen) → seenOf y ≡ some x → isResumable (coreIn y .state) ≡ true → coreIn y .waiting ≡ x .waits
+unfolding waitsIn
+waits-seen y x e h = waits-saved y h ∙ ap waitsIn e
 
 pub all-raised : (h : ℕ) (fs : List Frame) → AllMoved 0 h fs (map (raise h) fs)
 all-raised h [] = tt

@@ -33,7 +33,6 @@ use Rattle.claims.proofs.Premises.{waits-true}
 use Rattle.claims.proofs.Cores.{no-both}
 use Rattle.claims.proofs.WrongEvents.{always-refused, return-fails, no-cleanup, closing-forgotten, failure-returns, await-yields, excused, throw-lost, ignored-unheard, refusal-unheard, throw-feigned}
 use Rattle.claims.proofs.WrongEvents.{always-nine, caught-unheard, bank-unused, close-pays, result-changes, aborted, close-fails, close-refused, wrong-result, renewed, comes-failed, fuel-stays, other-limits, speechless, all-shown}
-use Rattle.claims.proofs.WrongTouches.{grant-writes, status-spills, put-ignored, wrong-arguments, wrong-function}
 
 abbrev first : List ℕ → ℕ
 first [] = 0
@@ -267,7 +266,7 @@ resume = asCall (Op.Resume 2 1 0 2) resume-typed
 
 -- what is seen of it
 abbrev fresh-one : Seen
-fresh-one = record { state = CoroState.Created; words = 0 ∷ 0 ∷ 0 ∷ 0 ∷ []; frames = frame 0 0 0 0 Cont.Coro ∷ []; mostWords = 4; mostFrames = 1; closing = false; signal = 0; result = 0 }
+fresh-one = record { state = CoroState.Created; words = 0 ∷ 0 ∷ 0 ∷ 0 ∷ []; frames = frame 0 0 0 0 Cont.Coro ∷ []; waits = 0; mostWords = 4; mostFrames = 1; closing = false; signal = 0; result = 0 }
 
 -- nothing is sent to it: the word at place i, and the pcs
 module _ {w : View} {y : Option Op} {z : View} (t : Entered w y c z) (x : Seen) (h : w .coro c ≡ some x) (e : sentIn (whom w y) ≡ nothing) where
@@ -275,7 +274,7 @@ module _ {w : View} {y : Option Op} {z : View} (t : Entered w y c z) (x : Seen) 
   unsent = ap sentIn (sym (t .by .says)) ∙ e
 
   word-at : (i : ℕ) → getD (z .stack) i 0 ≡ getD (w .stack ++ x .words) i 0
-  word-at i = ap (λ xs. getD xs i 0) (t .saved-words x h) ∙ ap (λ s. getD (given s (z .frames) (t .waits) (w .stack ++ x .words)) i 0) unsent
+  word-at i = ap (λ xs. getD xs i 0) (t .saved-words x h) ∙ ap (λ s. getD (given s (z .frames) (x .waits) (w .stack ++ x .words)) i 0) unsent
 
   pcs : map pcIn (z .frames) ≡ map pcIn (wakes nothing (x .frames)) ++ map pcIn (at (t .by .pc) (w .frames))
   pcs =
@@ -304,7 +303,7 @@ unfolding typed
 throw-typed = refl
 
 asleep-one : Seen
-asleep-one = record { state = CoroState.Yielded; words = 7 ∷ 0 ∷ 0 ∷ 0 ∷ []; frames = frame 0 8 0 0 Cont.Coro ∷ []; mostWords = 4; mostFrames = 1; closing = false; signal = 0; result = 0 }
+asleep-one = record { state = CoroState.Yielded; words = 7 ∷ 0 ∷ 0 ∷ 0 ∷ []; frames = frame 0 8 0 0 Cont.Coro ∷ []; waits = 3; mostWords = 4; mostFrames = 1; closing = false; signal = 0; result = 0 }
 
 sleeper-gets-others : Demand3 startled → ⊥
 unfolding computed asleep-ops asleep asleep-one
@@ -375,11 +374,6 @@ wrong =
       wrong-result = wrong-result;
       renewed = renewed;
       comes-failed = comes-failed;
-      grant-writes = grant-writes;
-      status-spills = status-spills;
-      put-ignored = put-ignored;
-      wrong-arguments = wrong-arguments;
-      wrong-function = wrong-function;
       fuel-stays = fuel-stays;
       other-limits = other-limits;
       speechless = speechless;

@@ -4,18 +4,20 @@ use Prim.Native.Nat.{ℕ}
 use native.Mathlib.Omega.{arith}
 use mathlib.Core.Path.{_≡_, refl, sym, ap, _∙_}
 use mathlib.Core.Bool.{Bool, true, false}
-use mathlib.Core.List.{[], _∷_}
+use mathlib.Core.List.{List, [], _∷_, _++_}
 use mathlib.Core.Option.{Option, none, some, orElse}
 use lib.ListN.{getD}
 use lib.Dec.{ltb}
 use Rattle.lists.specs.Pick.{pick}
 use Rattle.heap.specs.declared.object.CoroState.{CoroState}
+use Rattle.heap.specs.declared.heap.ResultKind.{ResultKind}
 use Rattle.model.specs.World.{World, fresh}
 use Rattle.model.specs.Frames.{topFunc, putReg}
 use Rattle.model.specs.Step as M
 use Rattle.model.specs.Step.{step}
 use Rattle.model.specs.Call.{Call, typed, asCall}
 use Rattle.model.specs.Compute.{computed}
+use Rattle.model.specs.declared.machine.Cont.{Cont}
 use Rattle.model.specs.declared.call.Op.{Op}
 use Rattle.claims.specs.Engine.{Seen, runs, sleeps, is}
 use Rattle.claims.specs.Says.{Entry, whom}
@@ -25,7 +27,7 @@ use Rattle.claims.specs.Made.{Creates}
 use Rattle.claims.specs.Steps.{viewOf, opOf}
 use Rattle.claims.specs.Story as Story
 use Rattle.claims.specs.Story.{wide, c}
-use Rattle.claims.specs.Wrong.{granting, after, beside, limitsOf, spilling, lazy, breeding, fives, ofOne}
+use Rattle.claims.specs.WrongTouches.{granting, after, beside, limitsOf, spilling, lazy, littering, tearing, breeding, fives, ofOne, WrongTouches}
 use Rattle.claims.proofs.Exact.{no-some}
 use Rattle.claims.proofs.Exactly.{events}
 
@@ -59,7 +61,7 @@ not-entered c h = no-one (events .enters c begun grant (record { before = h .bef
 not-suspended : (c : ℕ) → Suspends granting c begun grant → ⊥
 not-suspended c h = no-some refl (events .suspends c begun grant (record { before = h .before; after = sym (granted begun grant sleeps c) ∙ h .after }))
 
-pub grant-writes : Touches granting → ⊥
+grant-writes : Touches granting → ⊥
 unfolding computed begun
 grant-writes t = let q : _≡_ {A = ℕ} 5 0 = ap (λ xs. getD xs 4 0) (t .touched begun grant (Op.Grant 1) _ refl refl not-entered not-suspended .stack) in absurd (omega (arith, q))
 
@@ -91,7 +93,7 @@ asks-entered c h =
 asks-suspended : (c : ℕ) → Suspends spilling c begun status → ⊥
 asks-suspended c h = no-some refl (events .suspends c begun status (record { before = h .before; after = sym (spilled (limitsOf (opOf status)) (step begun status .world) sleeps c) ∙ h .after }))
 
-pub status-spills : Touches spilling → ⊥
+status-spills : Touches spilling → ⊥
 unfolding computed begun
 status-spills t = let q : _≡_ {A = ℕ} 5 0 = ap (λ xs. getD xs 6 0) (t .touched begun status (Op.CoroStatus 9 1 0) _ refl refl asks-entered asks-suspended .stack) in absurd (omega (arith, q))
 
@@ -101,9 +103,35 @@ put-typed : typed (Op.PutWord 0 7) ≡ true
 unfolding typed
 put-typed = refl
 
-pub put-ignored : Touches lazy → ⊥
+put-ignored : Touches lazy → ⊥
 unfolding computed begun
 put-ignored t = let q : _≡_ {A = ℕ} 0 7 = ap (λ xs. getD xs 4 0) (t .put begun (asCall (Op.PutWord 0 7) put-typed) 0 7 refl refl) in absurd (omega (arith, q))
+
+-- ---- a function call
+
+call-typed : typed (Op.FunctionCall 5 0 Cont.Discard) ≡ true
+unfolding typed
+call-typed = refl
+
+call-litters : Touches littering → ⊥
+unfolding computed begun
+call-litters t = let q : _≡_ {A = ℕ} 5 0 = ap (λ xs. getD xs 8 0) (t .called begun (asCall (Op.FunctionCall 5 0 Cont.Discard) call-typed) 5 0 Cont.Discard refl refl .stack) in absurd (omega (arith, q))
+
+-- ---- and its finish
+
+deeper-ops : List Op
+deeper-ops = Story.begin 0 ++ (Story.deeper ∷ [])
+
+deeper : World
+deeper = M.runOps (fresh wide) deeper-ops
+
+finish-typed : typed Story.finish ≡ true
+unfolding typed
+finish-typed = refl
+
+finish-spills : Touches tearing → ⊥
+unfolding computed deeper-ops deeper
+finish-spills t = let q : _≡_ {A = ℕ} 5 0 = ap (λ xs. getD xs 4 0) (t .finished deeper (asCall Story.finish finish-typed) ResultKind.None 0 _ _ refl refl refl refl .stack) in absurd (omega (arith, q))
 
 -- ---- a creation
 
@@ -117,10 +145,23 @@ new-typed = refl
 abbrev new : Call
 new = asCall (Op.CoroNew 1 0 0 0) new-typed
 
-pub wrong-arguments : Creates (breeding fives c) → ⊥
+wrong-arguments : Creates (breeding fives c) → ⊥
 unfolding computed called
 wrong-arguments v = let q : _≡_ {A = ℕ} 5 0 = ap (λ (x : Seen). getD (x .words) 0 0) (v .new c called new 1 0 0 0 _ refl refl refl) in absurd (omega (arith, q))
 
-pub wrong-function : Creates (breeding ofOne c) → ⊥
+wrong-function : Creates (breeding ofOne c) → ⊥
 unfolding computed called
 wrong-function v = let q : _≡_ {A = ℕ} 1 0 = ap (λ (x : Seen). topFunc (x .frames)) (v .new c called new 1 0 0 0 _ refl refl refl) in absurd (omega (arith, q))
+
+-- NONE OF THEM
+pub wrong-touches : WrongTouches
+wrong-touches =
+    record {
+      grant-writes = grant-writes;
+      status-spills = status-spills;
+      put-ignored = put-ignored;
+      call-litters = call-litters;
+      finish-spills = finish-spills;
+      wrong-arguments = wrong-arguments;
+      wrong-function = wrong-function;
+    }

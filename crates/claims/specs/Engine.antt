@@ -19,6 +19,8 @@ pub record Seen : Type 0 where
   -- the words and frames that it has saved: of one that has not begun, what it begins with
   pub words : List ℕ
   pub frames : List Frame
+  -- the register of the top one of them that waits for a word
+  pub waits : ℕ
   -- the most that it has saved so far
   pub mostWords : ℕ
   pub mostFrames : ℕ

@@ -225,7 +225,7 @@ pub data Lost (v : View) (n c : ℕ) : Option Op → Type 0 where
 
 -- what is seen of one that has ended: nothing is saved any more, and nothing closes it
 abbrev pub endedAs : CoroState → ℕ → Option Seen
-endedAs s x = some (record { state = s; words = []; frames = []; mostWords = 0; mostFrames = 0; closing = false; signal = 0; result = x })
+endedAs s x = some (record { state = s; words = []; frames = []; waits = 0; mostWords = 0; mostFrames = 0; closing = false; signal = 0; result = x })
 
 -- ---- what else is seen and is not a word, a frame or a state
 

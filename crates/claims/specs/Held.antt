@@ -124,8 +124,7 @@ pub record Entered (w : View) (k : Option Op) (c : ℕ) (z : View) : Type 0 wher
   pub closing : closer (z .coro c) ≡ closedBy (by .sent) (closer (w .coro c))
   -- new or asleep, it has the words and frames that it is seen to have saved, moved to the caller's height, and no other; with the sent
   -- word, if any, in the register that waits. 01: "A Created one ignores the sent word.": nothing is sent to it (`named` of Says.antt)
-  pub waits : ℕ
-  pub saved-words : (x : Seen) → w .coro c ≡ some x → z .stack ≡ given (by .sent) (z .frames) waits (w .stack ++ x .words)
+  pub saved-words : (x : Seen) → w .coro c ≡ some x → z .stack ≡ given (by .sent) (z .frames) (x .waits) (w .stack ++ x .words)
   pub saved-frames : (x : Seen) → w .coro c ≡ some x → AllMoved 0 (length (w .stack)) (woken (by .sent) (x .frames)) (over ++ (body ∷ []))
 
 -- x at v suspended c, and y at w enters it and leaves z: what x found, moved from its Coro frame's base to the caller's height

@@ -4,9 +4,9 @@ pub mod Operands
 pub mod Held
 pub mod Delivery
 pub mod Demand3
+pub mod Events
 pub mod Touches
 pub mod Made
-pub mod Events
 pub mod Promise
 pub mod Premises
 pub mod Steps
@@ -14,3 +14,4 @@ pub mod Story
 pub mod Witness
 pub mod Wrong
 pub mod WrongHosts
+pub mod WrongTouches

@@ -29,6 +29,7 @@ made r f closure xs =
       state = CoroState.Created;
       words = filled (r .registers f) xs;
       frames = record { func = f; pc = 0; base = 0; closure = closure; cont = Cont.Coro } ∷ [];
+      waits = 0;
       mostWords = r .registers f;
       mostFrames = 1;
       closing = false;

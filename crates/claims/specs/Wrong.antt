@@ -8,7 +8,6 @@ use lib.Dec.{eqb, ltb}
 use Rattle.lists.specs.Pick.{pick}
 use Rattle.model.specs.Object.{Core, Coroutine, Absent, Is, withClosing, withResult}
 use Rattle.model.specs.World.{World, withStack, withFrames, withFuel}
-use Rattle.model.specs.Frames.{putReg}
 use Rattle.model.specs.Heap.{coro, changeCoro}
 use Rattle.model.specs.Coro.{inState}
 use Rattle.model.specs.Answer.{numberOf}
@@ -24,8 +23,6 @@ use Rattle.claims.specs.Engine.{Engine, isNew, runs, awaits, sleeps, end
 use Rattle.claims.specs.Says.{Does, instr, hosts, finishes, raises, other, doing}
 use Rattle.claims.specs.Demand3.{Demand3}
 use Rattle.claims.specs.Events.{isBody, failed, Events}
-use Rattle.claims.specs.Touches.{May, mayTouch, Touches}
-use Rattle.claims.specs.Made.{Creates}
 use Rattle.claims.specs.Promise.{Accepts, SetUps, Looks, Speaks}
 use Rattle.claims.specs.Steps.{viewOf, opOf, asksOf, looks}
 use Rattle.claims.specs.Story.{c, d}
@@ -277,44 +274,6 @@ renewing c = leaving (λ w k. let z = step w k .world in pick (is (viewOf w) run
 abbrev pub stillborn : ℕ → Engine
 stillborn c = leaving (λ w k. let z = step w k .world in pick (not (is (viewOf w) isNew c) && is (viewOf z) isNew c) (changeCoro c (inState CoroState.Failed) (λ r. r) z) z)
 
--- ---- machines that touch the script that runs
-
--- what adds fuel, as a grant does, puts 5 into the first register of the top frame
-abbrev pub granting : Engine
-granting = leaving (λ w k. let z = step w k .world in pick (ltb (w .fuel .fuel) (z .fuel .fuel)) (putReg 0 5 z) z)
-
--- a call that may write a register, as CoroStatus may, puts 5 into the one after it
-abbrev pub after : Option ℕ → World → World
-after none z = z
-after (some r) z = putReg (r + 1) 5 z
-
-abbrev pub beside : Option May → World → World
-beside none z = z
-beside (some m) z = after (m .register) z
-
-abbrev pub limitsOf : Option Op → Option May
-limitsOf none = none
-limitsOf (some o) = mayTouch o
-
-abbrev pub spilling : Engine
-spilling = leaving (λ w k. beside (limitsOf (opOf k)) (step w k .world))
-
--- what takes no fuel, and moves no frame, is answered as ever, and not done: so put word
-abbrev pub lazy : Engine
-lazy = leaving (λ w k. let z = step w k .world in pick (eqb (w .fuel .fuel) (z .fuel .fuel) && eqb (length (w .frames)) (length (z .frames))) w z)
-
--- ---- machines that make another coroutine
-
--- where c comes, what it begins with is bent: 5 in every register; a frame of another function
-abbrev pub breeding : (Core → Core) → ℕ → Engine
-breeding f c = leaving (λ w k. let z = step w k .world in pick (not (is (viewOf w) isNew c) && is (viewOf z) isNew c) (changeCoro c f (λ r. r) z) z)
-
-abbrev pub fives : Core → Core
-fives k = record { state = k .state; regs = map (λ x. 5) (k .regs); frames = k .frames; waiting = k .waiting }
-
-abbrev pub ofOne : Core → Core
-ofOne k = record { state = k .state; regs = k .regs; frames = map (λ f. record { func = 1; pc = f .pc; base = f .base; closure = f .closure; cont = f .cont }) (k .frames); waiting = k .waiting }
-
 -- ---- machines whose set-ups, looks or calls are wrong
 
 -- every operation is taken for a look
@@ -385,11 +344,6 @@ pub record Wrong : Type 0 where
   pub wrong-result : Events (misnaming c) → ⊥
   pub renewed : Events (renewing c) → ⊥
   pub comes-failed : Events (stillborn c) → ⊥
-  pub grant-writes : Touches granting → ⊥
-  pub status-spills : Touches spilling → ⊥
-  pub put-ignored : Touches lazy → ⊥
-  pub wrong-arguments : Creates (breeding fives c) → ⊥
-  pub wrong-function : Creates (breeding ofOne c) → ⊥
   pub fuel-stays : SetUps fuelled → ⊥
   pub other-limits : SetUps shrinking → ⊥
   pub speechless : Speaks deaf → ⊥

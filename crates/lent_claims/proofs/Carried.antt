@@ -10,13 +10,14 @@ use lib.Dec.{eqb}
 use Rattle.lists.specs.Pick.{pick}
 use Rattle.heap.specs.declared.value.Opt.{Opt}
 use Rattle.heap.specs.declared.object.CoroState.{CoroState}
+use Rattle.model.specs.declared.machine.Cont.{Cont}
 use Rattle.claims.specs.Engine.{Seen, View, Engine, Turn, run, isNew, runs, awaits, ended, seenIn, is}
 use Rattle.claims.specs.Says.{word, doing, lie, Entry, charged, whom}
-use Rattle.claims.specs.Held.{into, Held, closer, By, Entered, Restored}
+use Rattle.claims.specs.Held.{at, into, Held, closer, By, Entered, Restored}
 use Rattle.claims.specs.Delivery.{recorded, Left, resultOf}
 use Rattle.claims.specs.Demand3.{Enters, Suspends, Stops, Restarts, Waits, Goes, Demand3}
 use Rattle.claims.specs.Events.{Healthy, raised, endsAt, answers, suspended, isAwait, toldTo, returned, Lost, endedAs, lives, endsUnbegun, rests, Events}
-use Rattle.claims.specs.Touches.{Touched, Touches}
+use Rattle.claims.specs.Touches.{Touched, Called, Finished, Touches}
 use Rattle.claims.specs.Made.{arguments, made, Creates}
 use Rattle.claims.specs.Promise.{suspends, room, Roomy, Pays, Makes, Accepts, Eleven, Soundness, Fresh, SetUps, registers, Looks, withFuel, Refuels, NotEmpty}
 use Rattle.claims.proofs.Premises.{Premises}
@@ -145,6 +146,10 @@ module _ (e d : Engine) (f : Follows e d) where
       record {
         touched = λ s k o m q l h g.
             down (λ v. Touched m (v .before) (v .after)) s k (p .touched (f .to s) (f .by s k) o m (f .op s k ∙ q) l (λ c x. h c (down-enters e d f s k c x)) (λ c x. g c (down-suspends e d f s k c x)));
+        finished = λ s k kind x g gs o q b n.
+            down (λ v. v .before .frames ≡ g ∷ gs → Finished g gs (v .before) (v .after)) s k (λ r. p .finished (f .to s) (f .by s k) kind x g gs (f .op s k ∙ o) r b (f .number s k ∙ n)) q;
+        called = λ s k pc g cont o n. down (λ v. Called g cont (at pc (v .before .frames)) (v .before) (v .after)) s k (p .called (f .to s) (f .by s k) pc g cont (f .op s k ∙ o) (f .number s k ∙ n));
+        host-called = λ s k g o n. down (λ v. Called g Cont.Entry [] (v .before) (v .after)) s k (p .host-called (f .to s) (f .by s k) g (f .op s k ∙ o) (f .number s k ∙ n));
         put = λ s k r x o n. down (λ v. v .after .stack ≡ into (v .before .frames) r x (v .before .stack)) s k (p .put (f .to s) (f .by s k) r x (f .op s k ∙ o) (f .number s k ∙ n));
       }
 
