@@ -49,6 +49,7 @@ pub mod States
 pub mod Paid
 pub mod Undone
 pub mod Touches
+pub mod Named
 pub mod Made
 pub mod Exactly
 pub mod Operands

@@ -46,6 +46,7 @@ use Rattle.claims.proofs.Arms.{PushCase, p-in, p-out, push-case}
 use Rattle.claims.proofs.Views.{seen-at, base-top}
 use Rattle.claims.proofs.Exact.{some-op}
 use Rattle.claims.proofs.Undone.{instr-any, reg-alike, word-reg}
+use Rattle.claims.proofs.Named.{window-alike, named, named-indirect}
 
 no-one : {A : Type 0} {s : Option Seen} {x : Seen} → s ≡ none → s ≡ some x → A
 no-one p q = let z : _≡_ {A = ℕ} 0 1 = cc in absurd (omega arith)
@@ -137,9 +138,6 @@ spawn-core hook pc dst u (WordOr.Word y) c = paid (charge OptPc.None u .world) (
 
 -- ---- the calls
 
-window-alike : {p : ℕ} {w v : World} → Alike p w v → (dst argc : ℕ) → window dst argc v ≡ arguments (viewOf w) dst argc
-window-alike {p} {w} {v} a dst argc = (λ i. take argc (drop (a .base i + dst + 1) (a .stack i))) ∙ ap (λ b. take argc (drop (b + dst + 1) (w .stack))) (sym (base-top (w .frames)))
-
 abbrev NewBy : World → ℕ → ℕ → ℕ → Seen → Type 0
 NewBy w dst f argc x = x ≡ made (rulesOf (w .setup)) f 0 (arguments (viewOf w) dst argc)
 
@@ -198,4 +196,6 @@ creates =
       new = λ c w k pc dst f argc. stepped c w k (Op.CoroNew pc dst f argc) (NewBy w dst f argc) (λ e. new-made w c e pc dst f argc);
       indirect = λ c w k pc dst r argc. stepped c w k (Op.CoroNewIndirect pc dst r argc) (MadeBy w dst r argc) (λ e. indirect-by w c e pc dst r argc);
       spawned = λ c w k pc dst r argc. stepped c w k (Op.Spawn pc dst r argc) (MadeBy w dst r argc) (λ e. spawn-by w c e pc dst r argc);
+      named = named;
+      named-indirect = named-indirect;
     }

@@ -80,7 +80,7 @@ put-twice : (fs : List Frame) (r x y : ℕ) (xs : List ℕ) → into fs r x (int
 put-twice [] r x y xs = refl
 put-twice (f ∷ fs) r x y xs = set-set xs (f .base + r) y x
 
-put-storing : (o : Option ℕ) (fs : List Frame) (r x : ℕ) (xs : List ℕ) → putAt (storing o fs) r x xs ≡ into fs r x xs
+pub put-storing : (o : Option ℕ) (fs : List Frame) (r x : ℕ) (xs : List ℕ) → putAt (storing o fs) r x xs ≡ into fs r x xs
 put-storing none [] r x xs = refl
 put-storing none (f ∷ fs) r x xs = refl
 put-storing (some p) [] r x xs = refl
@@ -308,7 +308,7 @@ module _ (kind : ResultKind) (x : ℕ) (f : Frame) (fs : List Frame) (w : World)
       go false n = absurd (omega (arith, n))
 
 -- by a step: what holds of every call that is answered 0
-stepped : (P : World → World → Type 0) (o : Op) → ((w : World) → numberOf (tested w o .answer) ≡ 0 → P w (tested w o .world)) → (w : World) (k : Call) → opOf k ≡ some o → numberOf (step w k .answer) ≡ 0 → P w (step w k .world)
+pub stepped : (P : World → World → Type 0) (o : Op) → ((w : World) → numberOf (tested w o .answer) ≡ 0 → P w (tested w o .world)) → (w : World) (k : Call) → opOf k ≡ some o → numberOf (step w k .answer) ≡ 0 → P w (step w k .world)
 unfolding step
 stepped P o f w (SetUp s) e n = let z : _≡_ {A = ℕ} 0 1 = cc in absurd (omega arith)
 stepped P o f w (Do p) e n = subst (λ q. numberOf (tested w q .answer) ≡ 0 → P w (tested w q .world)) (sym (some-op e)) (f w) n

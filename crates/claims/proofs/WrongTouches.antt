@@ -27,7 +27,7 @@ use Rattle.claims.specs.Made.{Creates}
 use Rattle.claims.specs.Steps.{viewOf, opOf}
 use Rattle.claims.specs.Story as Story
 use Rattle.claims.specs.Story.{wide, c}
-use Rattle.claims.specs.WrongTouches.{granting, after, beside, limitsOf, spilling, lazy, littering, tearing, breeding, fives, ofOne, WrongTouches}
+use Rattle.claims.specs.WrongTouches.{granting, after, beside, limitsOf, spilling, lazy, littering, tearing, breeding, fives, ofOne, nameless, WrongTouches}
 use Rattle.claims.proofs.Exact.{no-some}
 use Rattle.claims.proofs.Exactly.{events}
 
@@ -153,6 +153,10 @@ wrong-function : Creates (breeding ofOne c) → ⊥
 unfolding computed called
 wrong-function v = let q : _≡_ {A = ℕ} 1 0 = ap (λ (x : Seen). topFunc (x .frames)) (v .new c called new 1 0 0 0 _ refl refl refl) in absurd (omega (arith, q))
 
+nobody-named : Creates (nameless c) → ⊥
+unfolding computed called
+nobody-named v = let q : _≡_ {A = ℕ} 0 c = ap (λ xs. getD xs 0 0) (v .named called new 1 0 0 0 refl refl .names) in absurd (omega (arith, q))
+
 -- NONE OF THEM
 pub wrong-touches : WrongTouches
 wrong-touches =
@@ -164,4 +168,5 @@ wrong-touches =
       finish-spills = finish-spills;
       wrong-arguments = wrong-arguments;
       wrong-function = wrong-function;
+      nobody-named = nobody-named;
     }

@@ -13,6 +13,7 @@ use Rattle.model.specs.declared.machine.Cont.{Cont}
 use Rattle.model.specs.declared.call.Op.{Op}
 use Rattle.claims.specs.Engine.{Seen, Rules, View, Engine}
 use Rattle.claims.specs.Says.{base, word}
+use Rattle.claims.specs.Held.{into}
 
 -- the words after the register dst of the top frame
 abbrev pub arguments : View → ℕ → ℕ → List ℕ
@@ -37,6 +38,11 @@ made r f closure xs =
       result = 0;
     }
 
+-- it is there under the word that was next, and that word is in the register dst
+pub record Named (v : View) (dst : ℕ) (x : Seen) (z : View) : Type 0 where
+  pub there : z .coro (v .fresh) ≡ some x
+  pub names : z .stack ≡ into (v .frames) dst (v .fresh) (v .stack)
+
 pub record Creates (e : Engine) : Type 0 where
   pub new : (c : ℕ) (s : e .State) (k : e .Call) (pc dst f argc : ℕ) (x : Seen) → e .op k ≡ some (Op.CoroNew pc dst f argc) → e .view s .coro c ≡ none → e .view (e .next s k) .coro c ≡ some x
       → x ≡ made (e .view s .rules) f 0 (arguments (e .view s) dst argc)
@@ -45,3 +51,8 @@ pub record Creates (e : Engine) : Type 0 where
       → (f : ℕ) × (x ≡ made (e .view s .rules) f (word (e .view s) r) (arguments (e .view s) dst argc))
   pub spawned : (c : ℕ) (s : e .State) (k : e .Call) (pc dst r argc : ℕ) (x : Seen) → e .op k ≡ some (Op.Spawn pc dst r argc) → e .view s .coro c ≡ none → e .view (e .next s k) .coro c ≡ some x
       → (f : ℕ) × (x ≡ made (e .view s .rules) f (word (e .view s) r) (arguments (e .view s) dst argc))
+  -- where they are accepted, the first two have made one
+  pub named : (s : e .State) (k : e .Call) (pc dst f argc : ℕ) → e .op k ≡ some (Op.CoroNew pc dst f argc) → e .number s k ≡ 0
+      → Named (e .view s) dst (made (e .view s .rules) f 0 (arguments (e .view s) dst argc)) (e .view (e .next s k))
+  pub named-indirect : (s : e .State) (k : e .Call) (pc dst r argc : ℕ) → e .op k ≡ some (Op.CoroNewIndirect pc dst r argc) → e .number s k ≡ 0
+      → (f : ℕ) × Named (e .view s) dst (made (e .view s .rules) f (word (e .view s) r) (arguments (e .view s) dst argc)) (e .view (e .next s k))

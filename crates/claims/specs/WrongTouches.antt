@@ -66,6 +66,10 @@ fives k = record { state = k .state; regs = map (λ x. 5) (k .regs); frames = k 
 abbrev pub ofOne : Core → Core
 ofOne k = record { state = k .state; regs = k .regs; frames = map (λ f. record { func = 1; pc = f .pc; base = f .base; closure = f .closure; cont = f .cont }) (k .frames); waiting = k .waiting }
 
+-- where c comes, the first register of the top frame is nil
+abbrev pub nameless : ℕ → Engine
+nameless c = leaving (λ w k. let z = step w k .world in pick (not (is (viewOf w) isNew c) && is (viewOf z) isNew c) (putReg 0 0 z) z)
+
 pub record WrongTouches : Type 0 where
   pub grant-writes : Touches granting → ⊥
   pub status-spills : Touches spilling → ⊥
@@ -74,3 +78,4 @@ pub record WrongTouches : Type 0 where
   pub finish-spills : Touches tearing → ⊥
   pub wrong-arguments : Creates (breeding fives c) → ⊥
   pub wrong-function : Creates (breeding ofOne c) → ⊥
+  pub nobody-named : Creates (nameless c) → ⊥

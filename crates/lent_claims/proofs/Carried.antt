@@ -18,7 +18,7 @@ use Rattle.claims.specs.Delivery.{recorded, Left, resultOf}
 use Rattle.claims.specs.Demand3.{Enters, Suspends, Stops, Restarts, Waits, Goes, Demand3}
 use Rattle.claims.specs.Events.{Healthy, raised, endsAt, answers, suspended, isAwait, toldTo, returned, Lost, endedAs, lives, endsUnbegun, rests, Events}
 use Rattle.claims.specs.Touches.{Touched, Called, Finished, Touches}
-use Rattle.claims.specs.Made.{arguments, made, Creates}
+use Rattle.claims.specs.Made.{arguments, made, Named, Creates}
 use Rattle.claims.specs.Promise.{suspends, room, Roomy, Pays, Makes, Accepts, Eleven, Soundness, Fresh, SetUps, registers, Looks, withFuel, Refuels, NotEmpty}
 use Rattle.claims.proofs.Premises.{Premises}
 use Rattle.lent_claims.proofs.Follows.{Follows, Sight, sight, same, along, ran}
@@ -165,6 +165,11 @@ module _ (e d : Engine) (f : Follows e d) where
             down (come-as (λ v. (n : ℕ) × (x ≡ made (v .rules) n (word v r) (arguments v dst argc))) c x) s k (p .indirect c (f .to s) (f .by s k) pc dst r argc x (f .op s k ∙ o));
         spawned = λ c s k pc dst r argc x o.
             down (come-as (λ v. (n : ℕ) × (x ≡ made (v .rules) n (word v r) (arguments v dst argc))) c x) s k (p .spawned c (f .to s) (f .by s k) pc dst r argc x (f .op s k ∙ o));
+        named = λ s k pc dst n argc o q.
+            down (λ v. Named (v .before) dst (made (v .before .rules) n 0 (arguments (v .before) dst argc)) (v .after)) s k (p .named (f .to s) (f .by s k) pc dst n argc (f .op s k ∙ o) (f .number s k ∙ q));
+        named-indirect = λ s k pc dst r argc o q.
+            down (λ v. (n : ℕ) × Named (v .before) dst (made (v .before .rules) n (word (v .before) r) (arguments (v .before) dst argc)) (v .after)) s k
+            (p .named-indirect (f .to s) (f .by s k) pc dst r argc (f .op s k ∙ o) (f .number s k ∙ q));
       }
 
   -- ---- acceptance
