@@ -51,6 +51,7 @@ pub mod Undone
 pub mod Touches
 pub mod Named
 pub mod Made
+pub mod Asks
 pub mod Exactly
 pub mod Operands
 pub mod Premises

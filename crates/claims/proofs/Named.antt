@@ -3,7 +3,7 @@ use Prim.Native.Nat.{ℕ, _+_, _*_, _%_, _^_, _<_}
 use native.Mathlib.Omega.{arith}
 use mathlib.Core.Path.{_≡_, refl, sym, ap, _∙_}
 use mathlib.Core.Bool.{Bool, true, false, not, _||_}
-use mathlib.Core.List.{List}
+use mathlib.Core.List.{List, [], _∷_}
 use mathlib.Core.Option.{Option, none, some}
 use lib.ListN.{length, take, drop}
 use lib.Dec.{eqb}
@@ -52,7 +52,7 @@ use Rattle.claims.proofs.Touches.{put-storing, stepped}
 
 -- ---- an instruction that is answered 0 has done its arm
 
-instr-zero : (w : World) (p : ℕ) (ok : Bool) (arm : World → After Step) (P : World → Type 0) → ((v : World) → Alike p w v → stepNumber (arm v .answer) ≡ 0 → P (arm v .world)) → numberOf (instruction p ok arm w .answer) ≡ 0 → P (instruction p ok arm w .world)
+pub instr-zero : (w : World) (p : ℕ) (ok : Bool) (arm : World → After Step) (P : World → Type 0) → ((v : World) → Alike p w v → stepNumber (arm v .answer) ≡ 0 → P (arm v .world)) → numberOf (instruction p ok arm w .answer) ≡ 0 → P (instruction p ok arm w .world)
 unfolding instruction pick
 instr-zero w p ok arm P owes = gate (isNil (w .frames)) ok
   where
@@ -67,7 +67,7 @@ instr-zero w p ok arm P owes = gate (isNil (w .frames)) ok
     gate false true h = paid (charge (OptPc.Some p) w) (charge-case p w) h
 
 -- and a call that is, has found a sound machine
-tested-zero : (w : World) (o : Op) (P : World → Type 0) → (sound w ≡ true → numberOf (call o w .answer) ≡ 0 → P (call o w .world)) → numberOf (tested w o .answer) ≡ 0 → P (tested w o .world)
+pub tested-zero : (w : World) (o : Op) (P : World → Type 0) → (sound w ≡ true → numberOf (call o w .answer) ≡ 0 → P (call o w .world)) → numberOf (tested w o .answer) ≡ 0 → P (tested w o .world)
 unfolding tested pick
 tested-zero w o P f = go (sound w) refl
   where
@@ -143,13 +143,17 @@ top-put : (p : ℕ) (fs : List Frame) (r x : ℕ) (xs : List ℕ) → putAt (onT
 top-put p [] r x xs = refl
 top-put p (f ∷ fs) r x xs = refl
 
+-- a register of the top frame, where v reads as w
+pub put-alike : {p : ℕ} {w v : World} → Alike p w v → (r x : ℕ) → putAt (v .frames) r x (v .stack) ≡ into (w .frames) r x (w .stack)
+put-alike {p} {w} {v} a r x =
+    sym (top-put p (v .frames) r x (v .stack)) ∙ (λ i. putAt (a .tops i) r x (a .stack i)) ∙ top-put p (w .frames) r x (w .stack) ∙ put-storing none (w .frames) r x (w .stack)
+
 module _ {p : ℕ} {w v : World} (a : Alike p w v) (l : length (v .slots) < 2 ^ 32) where
   put-named : (dst : ℕ) (x y : Seen) (z : World) → x ≡ y → Put v l dst x z → Named (viewOf w) dst y (viewOf z)
   put-named dst x y z e t =
       record {
         there = sym (seen-at z (nextWord (w .slots))) ∙ ap (λ xs. coreAt z (nextWord xs) .seen) (sym (a .slots)) ∙ t .there ∙ ap {B = Option Seen} some e;
-        names = t .names ∙ sym (top-put p (v .frames) dst (nextWord (v .slots)) (v .stack)) ∙ (λ i. putAt (a .tops i) dst (nextWord (a .slots i)) (a .stack i))
-            ∙ top-put p (w .frames) dst (nextWord (w .slots)) (w .stack) ∙ put-storing none (w .frames) dst (nextWord (w .slots)) (w .stack);
+        names = t .names ∙ put-alike a dst (nextWord (v .slots)) ∙ ap (λ xs. into (w .frames) dst (nextWord xs) (w .stack)) (a .slots);
       }
 
 alike-few : {p : ℕ} {w v : World} → sound w ≡ true → Alike p w v → length (v .slots) < 2 ^ 32
@@ -170,10 +174,11 @@ unfolding call coroNewIndirect
 indirect-named w pc dst r argc h =
     instr-zero w pc _ (coroNewIndirect dst r argc) (λ z. (f : ℕ) × Named (viewOf w) dst (made (rulesOf (w .setup)) f (word (viewOf w) r) (arguments (viewOf w) dst argc)) (viewOf z))
     (λ v a n.
-    let t = indirect-put v (alike-few h a) dst r argc n in
-    (t .0,
-    put-named a (alike-few h a) dst (made (rulesOf (v .setup)) (t .0) (reg v r) (window dst argc v)) (made (rulesOf (w .setup)) (t .0) (word (viewOf w) r) (arguments (viewOf w) dst argc)) (coroNewIndirect dst r argc v .world)
-    (λ i. made (rulesOf (a .setup i)) (t .0) ((reg-alike a r ∙ sym (word-reg w r)) i) (window-alike a dst argc i)) (t .1)))
+    let t = indirect-put v (alike-few h a) dst r argc n in (
+      t .0,
+      put-named a (alike-few h a) dst (made (rulesOf (v .setup)) (t .0) (reg v r) (window dst argc v)) (made (rulesOf (w .setup)) (t .0) (word (viewOf w) r) (arguments (viewOf w) dst argc)) (coroNewIndirect dst r argc v .world)
+          (λ i. made (rulesOf (a .setup i)) (t .0) ((reg-alike a r ∙ sym (word-reg w r)) i) (window-alike a dst argc i)) (t .1),
+    ))
 
 pub named : (w : World) (k : Call) (pc dst f argc : ℕ) → opOf k ≡ some (Op.CoroNew pc dst f argc) → numberOf (step w k .answer) ≡ 0
     → Named (viewOf w) dst (made (rulesOf (w .setup)) f 0 (arguments (viewOf w) dst argc)) (viewOf (step w k .world))

@@ -59,6 +59,7 @@ use Rattle.claims.proofs.Premises.{premises-met}
 use Rattle.claims.proofs.Exactly.{events, demand3}
 use Rattle.claims.proofs.Touches.{touches}
 use Rattle.claims.proofs.Made.{creates}
+use Rattle.claims.proofs.Asks.{asks}
 use Rattle.claims.proofs.Values.{can-make, word-in}
 use Rattle.claims.proofs.Undone.{accepts-close, accepts-throw-new}
 use Rattle.claims.proofs.Roomy.{await-takes, kv-takes, yield-takes}
@@ -375,6 +376,7 @@ promise =
       events = events;
       touches = touches;
       creates = creates;
+      asks = asks;
       accepts = record {
         await = λ c w k pc dst src m e l. await-takes w 0 c m k pc dst src e l;
         yield-kv = λ c w k pc dst src key m e l. kv-takes w 0 c m k pc dst src key e l;

@@ -24,10 +24,11 @@ use Rattle.claims.specs.Says.{Entry, whom}
 use Rattle.claims.specs.Demand3.{Enters, Suspends}
 use Rattle.claims.specs.Touches.{May, Touches}
 use Rattle.claims.specs.Made.{Creates}
+use Rattle.claims.specs.Asks.{Asks}
 use Rattle.claims.specs.Steps.{viewOf, opOf}
 use Rattle.claims.specs.Story as Story
 use Rattle.claims.specs.Story.{wide, c}
-use Rattle.claims.specs.WrongTouches.{granting, after, beside, limitsOf, spilling, lazy, littering, tearing, breeding, fives, ofOne, nameless, WrongTouches}
+use Rattle.claims.specs.WrongTouches.{granting, after, beside, limitsOf, spilling, lazy, littering, tearing, breeding, fives, ofOne, nameless, blurting, WrongTouches}
 use Rattle.claims.proofs.Exact.{no-some}
 use Rattle.claims.proofs.Exactly.{events}
 
@@ -157,6 +158,16 @@ nobody-named : Creates (nameless c) → ⊥
 unfolding computed called
 nobody-named v = let q : _≡_ {A = ℕ} 0 c = ap (λ xs. getD xs 0 0) (v .named called new 1 0 0 0 refl refl .names) in absurd (omega (arith, q))
 
+-- ---- a CoroCurrent
+
+current-typed : typed (Op.CoroCurrent 9 1) ≡ true
+unfolding typed
+current-typed = refl
+
+other-current : Asks blurting → ⊥
+unfolding computed begun
+other-current v = let q : _≡_ {A = ℕ} 9 c = ap (λ xs. getD xs 5 0) (v .current begun (asCall (Op.CoroCurrent 9 1) current-typed) 9 1 refl refl) in absurd (omega (arith, q))
+
 -- NONE OF THEM
 pub wrong-touches : WrongTouches
 wrong-touches =
@@ -169,4 +180,5 @@ wrong-touches =
       wrong-arguments = wrong-arguments;
       wrong-function = wrong-function;
       nobody-named = nobody-named;
+      other-current = other-current;
     }

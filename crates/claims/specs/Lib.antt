@@ -7,6 +7,7 @@ pub mod Demand3
 pub mod Events
 pub mod Touches
 pub mod Made
+pub mod Asks
 pub mod Promise
 pub mod Premises
 pub mod Steps

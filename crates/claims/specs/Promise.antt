@@ -1,5 +1,5 @@
 -- ALL THAT IS PROMISED of an engine, in one record: demand 3, events that are exact, what other calls leave alone, what a creation makes,
--- what is accepted, soundness that is kept, set-ups and looks, and that none of it is empty. `step` has it (`promise` in proofs/Promise.antt).
+-- what is asked, what is accepted, soundness that is kept, set-ups and looks, and that none of it is empty. `step` has it (`promise` in proofs/Promise.antt).
 use Prim.Native.Nat.{ℕ, _+_, _-_, _*_, _^_, min}
 use mathlib.Core.Path.{_≡_}
 use mathlib.Core.Bool.{Bool, true, false, _||_}
@@ -24,6 +24,7 @@ use Rattle.claims.specs.Demand3.{Enters, Suspends, Stops, Restarts, Wait
 use Rattle.claims.specs.Events.{Healthy, raised, endsAt, Events}
 use Rattle.claims.specs.Touches.{Touches}
 use Rattle.claims.specs.Made.{Creates}
+use Rattle.claims.specs.Asks.{Asks}
 
 -- ---- what is accepted, besides the entries (Events.entered)
 
@@ -179,6 +180,7 @@ pub record Promise (e : Engine) : Type 0 where
   pub events : Events e
   pub touches : Touches e
   pub creates : Creates e
+  pub asks : Asks e
   pub accepts : Accepts e
   pub soundness : Soundness e
   pub set-ups : SetUps e

@@ -16,6 +16,7 @@ use Rattle.model.specs.declared.call.Op.{Op}
 use Rattle.claims.specs.Engine.{Engine, isNew, is}
 use Rattle.claims.specs.Touches.{May, mayTouch, Touches}
 use Rattle.claims.specs.Made.{Creates}
+use Rattle.claims.specs.Asks.{Asks}
 use Rattle.claims.specs.Steps.{viewOf, opOf}
 use Rattle.claims.specs.Story.{c}
 use Rattle.claims.specs.Wrong.{leaving, greeted}
@@ -70,6 +71,18 @@ ofOne k = record { state = k .state; regs = k .regs; frames = map (λ f. record 
 abbrev pub nameless : ℕ → Engine
 nameless c = leaving (λ w k. let z = step w k .world in pick (not (is (viewOf w) isNew c) && is (viewOf z) isNew c) (putReg 0 0 z) z)
 
+-- a call that may write a register, as CoroCurrent may, writes 9
+abbrev pub nine : Option ℕ → World → World
+nine none z = z
+nine (some r) z = putReg r 9 z
+
+abbrev pub nineBy : Option May → World → World
+nineBy none z = z
+nineBy (some m) z = nine (m .register) z
+
+abbrev pub blurting : Engine
+blurting = leaving (λ w k. nineBy (limitsOf (opOf k)) (step w k .world))
+
 pub record WrongTouches : Type 0 where
   pub grant-writes : Touches granting → ⊥
   pub status-spills : Touches spilling → ⊥
@@ -79,3 +92,4 @@ pub record WrongTouches : Type 0 where
   pub wrong-arguments : Creates (breeding fives c) → ⊥
   pub wrong-function : Creates (breeding ofOne c) → ⊥
   pub nobody-named : Creates (nameless c) → ⊥
+  pub other-current : Asks blurting → ⊥

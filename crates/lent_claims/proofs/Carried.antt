@@ -16,9 +16,10 @@ use Rattle.claims.specs.Says.{word, doing, lie, Entry, charged, whom}
 use Rattle.claims.specs.Held.{at, into, Held, closer, By, Entered, Restored}
 use Rattle.claims.specs.Delivery.{recorded, Left, resultOf}
 use Rattle.claims.specs.Demand3.{Enters, Suspends, Stops, Restarts, Waits, Goes, Demand3}
-use Rattle.claims.specs.Events.{Healthy, raised, endsAt, answers, suspended, isAwait, toldTo, returned, Lost, endedAs, lives, endsUnbegun, rests, Events}
+use Rattle.claims.specs.Events.{inmost, Healthy, raised, endsAt, answers, suspended, isAwait, toldTo, returned, Lost, endedAs, lives, endsUnbegun, rests, Events}
 use Rattle.claims.specs.Touches.{Touched, Called, Finished, Touches}
 use Rattle.claims.specs.Made.{arguments, made, Named, Creates}
+use Rattle.claims.specs.Asks.{codeIn, orNil, Asks}
 use Rattle.claims.specs.Promise.{suspends, room, Roomy, Pays, Makes, Accepts, Eleven, Soundness, Fresh, SetUps, registers, Looks, withFuel, Refuels, NotEmpty}
 use Rattle.claims.proofs.Premises.{Premises}
 use Rattle.lent_claims.proofs.Follows.{Follows, Sight, sight, same, along, ran}
@@ -170,6 +171,14 @@ module _ (e d : Engine) (f : Follows e d) where
         named-indirect = λ s k pc dst r argc o q.
             down (λ v. (n : ℕ) × Named (v .before) dst (made (v .before .rules) n (word (v .before) r) (arguments (v .before) dst argc)) (v .after)) s k
             (p .named-indirect (f .to s) (f .by s k) pc dst r argc (f .op s k ∙ o) (f .number s k ∙ q));
+      }
+
+  pub asks : Asks d → Asks e
+  asks p =
+      record {
+        status = λ s k pc dst r o n. down (λ v. v .after .stack ≡ into (v .before .frames) dst (codeIn (v .before .coro (word (v .before) r))) (v .before .stack)) s k (p .status (f .to s) (f .by s k) pc dst r (f .op s k ∙ o) (f .number s k ∙ n));
+        current = λ s k pc dst o n. down (λ v. v .after .stack ≡ into (v .before .frames) dst (orNil (inmost (v .before .chain))) (v .before .stack)) s k (p .current (f .to s) (f .by s k) pc dst (f .op s k ∙ o) (f .number s k ∙ n));
+        result = λ s k pc dst r o n. down (λ v. v .after .stack ≡ into (v .before .frames) dst (recorded (v .before .coro (word (v .before) r))) (v .before .stack)) s k (p .result (f .to s) (f .by s k) pc dst r (f .op s k ∙ o) (f .number s k ∙ n));
       }
 
   -- ---- acceptance
