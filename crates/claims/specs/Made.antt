@@ -46,7 +46,7 @@ pub record Named (v : View) (dst : ℕ) (x : Seen) (z : View) : Type 0 where
 pub record Creates (e : Engine) : Type 0 where
   pub new : (c : ℕ) (s : e .State) (k : e .Call) (pc dst f argc : ℕ) (x : Seen) → e .op k ≡ some (Op.CoroNew pc dst f argc) → e .view s .coro c ≡ none → e .view (e .next s k) .coro c ≡ some x
       → x ≡ made (e .view s .rules) f 0 (arguments (e .view s) dst argc)
-  -- of the function that a register names by its closure
+  -- the register r holds its closure; which function f that is of is not seen
   pub indirect : (c : ℕ) (s : e .State) (k : e .Call) (pc dst r argc : ℕ) (x : Seen) → e .op k ≡ some (Op.CoroNewIndirect pc dst r argc) → e .view s .coro c ≡ none → e .view (e .next s k) .coro c ≡ some x
       → (f : ℕ) × (x ≡ made (e .view s .rules) f (word (e .view s) r) (arguments (e .view s) dst argc))
   pub spawned : (c : ℕ) (s : e .State) (k : e .Call) (pc dst r argc : ℕ) (x : Seen) → e .op k ≡ some (Op.Spawn pc dst r argc) → e .view s .coro c ≡ none → e .view (e .next s k) .coro c ≡ some x
