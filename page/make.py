@@ -132,6 +132,7 @@ def edits():
         rows = log.read_text(errors="replace").splitlines() if log.exists() else None
         facts = []
         for fact in " ".join(re.findall(r"^refutes: (.*)$", text, re.M)).split():
+            fact = fact.replace("[+]", "+")
             facts.append((fact, refused_at(fact, rows)))
         yield crate, name, told, facts, rows is not None
 
@@ -257,7 +258,14 @@ def main():
 
     section("promise", "What is promised")
     promised = table_after("README.md", "## What is promised")
-    parts.append(html_table([row[:3] for row in promised]))
+    there = {name for name, verdict, *_ in proved if verdict}
+    rows = [["", "Promise", "In this run"]]
+    for number, promise, state, *_ in promised[1:]:
+        named = list(dict.fromkeys(re.findall(r"crates/(\w+)", state)))
+        lacking = [name for name in named if name not in there]
+        shown = ", ".join(f"`{name}`" for name in lacking or named)
+        rows.append([number, promise, f"not proved: {shown}" if lacking else f"proved: {shown}"])
+    parts.append(html_table(rows))
 
     section("wake", "A script sleeps, and is woken at another height")
     words, why = wake()
@@ -288,8 +296,8 @@ def main():
         if verdict := re.search(r"^logic=proved .*$", library, re.M):
             rows.append(["the static library", "; ".join(re.findall(r"^axioms .*$", library, re.M)) or "nothing: `" + verdict.group() + "`"])
         none = [name for name, verdict, _, _, axioms in proved if verdict and not axioms and "foreign=" not in verdict]
-        parts.append("<p>The prover assumes nothing but the contracts of functions that are not Rattle's. A crate's log names those that it declares (<code>foreign=</code>), a program's and a static "
-                     f"library's those that it reaches (<code>axioms</code>). {len(none)} crates of {len(done)} have none.</p>")
+        parts.append("<p>A crate's log names the functions that are not Rattle's and that it declares (<code>foreign=</code>), a program's and a static library's those that it reaches "
+                     f"(<code>axioms</code>): their contracts are taken as they stand. {len(none)} crates of {len(done)} have none.</p>")
         if taken := of_c(TARGET / "staticlib" / "libboundary.a"):
             rows.append(["the static library, of C", taken])
         if len(rows) > 1:

@@ -1,7 +1,7 @@
 #!/usr/bin/env python3
-"""Checks docs/RULES.md and docs/ASSURANCE.md against the sources, so that neither can rot:
+"""Checks docs/RULES.md, docs/ASSURANCE.md and docs/LEGEND.md against the sources, so that none can rot:
 each file and name that a row of RULES names is there, and what is no statement in its column "theorem" is the fault sheet's; a sentence is marked as quoted exactly if a comment of its definition's file quotes it;
-every quotation in a comment of crates/ is 01's, or is listed as another's; the places and counts of ASSURANCE are those of today.
+every quotation in a comment of crates/ is 01's, or is listed as another's; the places and counts of ASSURANCE are those of today, and the names of LEGEND; each file and folder that README, ASSURANCE, LEGEND and THEOREMS name is there.
 README's layout is crates.txt's. What a wrong edit changes stands once in its file, and CHEATS names it. No file of specs/ or src/ cites one of proofs/, so that what is to be believed stands in specs/. `page/rules.py mend` writes places and counts into ASSURANCE, and the marks into RULES."""
 import re
 import sys
@@ -41,7 +41,7 @@ def rows_of(page):
 
 
 def path_of(name):
-    return Path("crates", name) if "/" in name else Path("crates/model/specs", name)
+    return Path("crates", name.removeprefix("crates/")) if "/" in name else Path("crates/model/specs", name)
 
 
 def has(path, name):
@@ -166,7 +166,8 @@ def check_rules(mend):
 
 
 def check_assurance(mend):
-    """A place is `NAME`, `crates/FILE:LINE`; a sum is a row of a table: statements, lines, declarations. `mend` writes what is so today."""
+    """A place is `NAME`, `crates/FILE:LINE`; a length is `crates/FILE` (N lines); a sum is a row of a table: statements, lines, declarations.
+    `mend` writes what is so today."""
     text = now = ASSURANCE.read_text()
     places = set(re.findall(r"`([A-Za-z0-9_-]+)`, `(crates/[A-Za-z0-9_/]+\.(?:antt|rt)):(\d+)`", text))
     for name, file, line in places:
@@ -177,6 +178,13 @@ def check_assurance(mend):
             now = now.replace(f"`{name}`, `{file}:{line}`", f"`{name}`, `{file}:{here[0]}`")
         elif here != [int(line)]:
             say(f"docs/ASSURANCE.md: {name} stands at {file}:{here[0] if here else '(nowhere)'}, not at {line}")
+    lengths = set(re.findall(r"`(crates/[A-Za-z0-9_/]+\.(?:antt|rt))` \((\d+) lines\)", text))
+    for file, length in lengths:
+        rows = len((ROOT / file).read_text().splitlines()) if (ROOT / file).exists() else 0
+        if mend and rows:
+            now = now.replace(f"`{file}` ({length} lines)", f"`{file}` ({rows} lines)")
+        elif rows != int(length):
+            say(f"docs/ASSURANCE.md: {file} has {rows} lines, not {length}")
     sums = re.findall(r"^(\|[^|]*\| (`[^|]+`) \|) ([0-9,]+) \| ([0-9,]+) \|$", text, re.M)
     for row, statements, lines, count in sums:
         found, _ = closure.closure(*map(closure.find, re.findall(r"`([^`]+)`", statements)))
@@ -187,7 +195,7 @@ def check_assurance(mend):
             say(f"docs/ASSURANCE.md: {statements}: {today}, not {lines} | {count}")
     if now != text:
         ASSURANCE.write_text(now)
-    print(f"rules: {len(places)} places and {len(sums)} sums of ASSURANCE")
+    print(f"rules: {len(places)} places, {len(lengths)} lengths and {len(sums)} sums of ASSURANCE")
     return len(places) > 8 and len(sums) > 3
 
 
@@ -226,6 +234,17 @@ def check_names(page):
         if not (ROOT / path_of(file)).exists() or not has(path_of(file), name):
             say(f"{page}: no {name} in {path_of(file)}")
     print(f"rules: {len(places)} names of {page}")
+
+
+def check_paths(*pages):
+    """Every file and folder that a page names in full is there."""
+    count = 0
+    for page in pages:
+        for path in set(re.findall(r"`((?:\.ci|crates|docs|host|oracle|page|tests)/[A-Za-z0-9_/.-]*[A-Za-z0-9_/])", (ROOT / page).read_text())):
+            count += 1
+            if not (ROOT / path).exists():
+                say(f"{page}: no {path}")
+    print(f"rules: {count} paths of {', '.join(pages)}")
 
 
 def check_fields():
@@ -283,6 +302,8 @@ check_cited()
 check_edits()
 check_layout()
 check_names("docs/PROVING.md")
+check_names("docs/LEGEND.md")
+check_paths("README.md", "docs/ASSURANCE.md", "docs/LEGEND.md", "docs/THEOREMS.md")
 check_fields()
 mending = sys.argv[1:] == ["mend"]
 if not check_rules(mending):

@@ -1,4 +1,5 @@
-/* How long the test of soundness takes beside a plain pass over the same words. Links libboundary.a; compile with -O3.
+/* How long the test of soundness takes beside a plain pass over the same words: the goal is at most 1.5 times as long. Links libboundary.a;
+ * compile with -O3.
  *
  * The machines are made word by word, by the layout of docs/CALLS.md. `sound names` only names them, one to a line. `sound WHICH N test` or
  * `sound WHICH N pass` only runs one of the two N times on one machine, for a tool that counts instructions (tests/instructions).
@@ -47,6 +48,9 @@ static const plan PLANS[] = {
     {"small: the other kinds in turn", SMALL, IN_TURN, SHUFFLED, 0},
     {"small: fresh", SMALL, FRESH, EMPTY, 0},
 };
+
+static const double GOAL = 1.5;
+enum { SAMPLES = 5000 };
 
 static uint64_t any(void) {
     static uint64_t x = 88172645463325252u;
@@ -175,6 +179,9 @@ static double least(uint64_t (*f)(const lent *), const lent *m, int batch) {
 }
 
 int main(int argc, char **argv) {
+    /* the stack from a page on: where it begins else hangs on how long the environment is, and on that what memset takes */
+    __attribute__((aligned(4096))) char page[4096];
+    __asm__ volatile("" : : "r"(page) : "memory");
     if (argc == 2 && strcmp(argv[1], "names") == 0) {
         for (size_t k = 0; k < sizeof PLANS / sizeof *PLANS; k++) puts(PLANS[k].name);
         return 0;
@@ -184,18 +191,19 @@ int main(int argc, char **argv) {
         least(argv[3][0] == 't' ? test : pass, &m, atoi(argv[2]));
         return 0;
     }
-    puts("| machine | words | test, us | plain pass, us | ratio |\n|---|---:|---:|---:|---:|");
+    puts("| machine | words | test, us | plain pass, us | ratio | at most 1.50 |\n|---|---:|---:|---:|---:|---|");
     for (size_t k = 0; k < sizeof PLANS / sizeof *PLANS; k++) {
         lent m = make(&PLANS[k]);
         size_t words = 0;
         for (int i = 0; i < SLICES; i++) words += m.length[i];
         if (test(&m) != 1) return fprintf(stderr, "not sound: %s\n", PLANS[k].name), 1;
         double t = 1e9, p = 1e9;
-        for (int i = 0; i < 300; i++) {
+        for (int i = 0; i < SAMPLES; i++) {
             double a = least(test, &m, words < 10000 ? 100 : 1), b = least(pass, &m, words < 10000 ? 100 : 1);
             t = a < t ? a : t, p = b < p ? b : p;
         }
-        printf("| %s | %zu | %.2f | %.2f | %.2f |\n", PLANS[k].name, words, t, p, t / p);
+        /* as it is printed, by hundredths */
+        printf("| %s | %zu | %.2f | %.2f | %.2f | %s |\n", PLANS[k].name, words, t, p, t / p, t / p < GOAL + 0.005 ? "met" : "missed");
     }
     return 0;
 }

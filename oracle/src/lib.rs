@@ -26,5 +26,6 @@ pub mod recorded;
 pub mod sample;
 pub mod situations;
 pub mod sound;
+pub mod switch;
 pub mod word;
 pub mod world;

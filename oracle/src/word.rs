@@ -1,4 +1,5 @@
-//! The coding of a 64-bit word: nil, references, inline integers.
+//! The coding of a 64-bit word: nil, references, inline integers. Inlined: the
+//! original runs on it too, and is timed.
 
 /// Nil is word 0.
 pub const NIL: u64 = 0;
@@ -11,29 +12,34 @@ pub const INLINE_END: i64 = 1 << 47;
 
 const LOW: u64 = (1 << 48) - 1;
 
+#[inline]
 #[must_use]
 pub fn is_ref(w: u64) -> bool {
     w >> 48 == 1
 }
 
 /// Slot (bits 0-31) and tag (bits 32-47) of a reference.
+#[inline]
 #[must_use]
 pub fn ref_parts(w: u64) -> (u32, u16) {
     (w as u32, (w >> 32) as u16)
 }
 
+#[inline]
 #[must_use]
 pub fn from_ref(slot: u32, tag: u16) -> u64 {
     REF_BASE | u64::from(tag) << 32 | u64::from(slot)
 }
 
 /// The word of an integer from -2^47 to 2^47 - 1; others need an object.
+#[inline]
 #[must_use]
 pub fn inline_int(i: i64) -> Option<u64> {
     (-INLINE_END..INLINE_END).contains(&i).then_some(INT_TAG | (i as u64 & LOW))
 }
 
 /// The integer that an inline word holds.
+#[inline]
 #[must_use]
 pub fn inline_value(w: u64) -> Option<i64> {
     (w >> 48 == INT_TAG >> 48).then_some((w << 16) as i64 >> 16)

@@ -55,7 +55,7 @@ iter-words n ws v i s d k e h = go (get O.Empty HO.isFilled (slotsOf n ws) v) re
     go (Place.At j) q e = let z = slot-is (slotAt O.Empty HO.isFilled (slotsOf n ws) j .object) j e in let y = found-words n ws v j (sym q) h in omega arith
 
 -- the word v names an iterator, at slot i
-pub record Held (xs : List (Slot Object)) (v i s : ℕ) (d : Bool) (k : Opt) : Type 0 where
+pub record Iterates (xs : List (Slot Object)) (v i s : ℕ) (d : Bool) (k : Opt) : Type 0 where
   pub points : Points xs v (Object.Iter s d k)
   pub slot : i ≡ slotOf v
 
@@ -72,10 +72,10 @@ module _ (xs : List (Slot Object)) (v : ℕ) where
     inside (Object.Error a b p x) j e = never cc
     inside (Object.Coro a b) j e = never cc
 
-    pub held : I.At i s d k ≡ iterOf (toSlots xs) v → Held xs v i s d k
+    pub held : I.At i s d k ≡ iterOf (toSlots xs) v → Iterates xs v i s d k
     held e = go (get Object.Empty isFilled xs v) refl (here (I.At i s d k) e)
       where
-        go : (p : Place) → get Object.Empty isFilled xs v ≡ p → I.At i s d k ≡ iterBy (toSlots xs) p → Held xs v i s d k
+        go : (p : Place) → get Object.Empty isFilled xs v ≡ p → I.At i s d k ≡ iterBy (toSlots xs) p → Iterates xs v i s d k
         go Place.Nothing q e = never cc
         go (Place.At j) q e =
             let z = inside (at xs j .object) j (e ∙ ap (λ (x : Slot H.Object). asIter j (x .object)) (at-map xs j)) in

@@ -112,7 +112,7 @@ abbrev pub deliverAll : World → Suspension → After Step
 deliverAll w (Suspension.Done d e) = andThen (deliver d e w) delivered
 deliverAll w (Suspension.Refused f) = fault w f
 
--- pc is stored, then coro_suspend. 01: "A key object made before that 9 stays."
+-- pc is stored, then coro_suspend, which charges and may answer 9
 abbrev pub suspend : ℕ → CoroState → ℕ → ℕ → Keys → World → After Step
 suspend pc state dst payload keys w = andThen (coroSuspend state dst payload keys (storePc pc w)) deliverAll
 
@@ -134,6 +134,7 @@ keyExact Exact.Over w = after w (AutoKey.Refused Fault.ArithOverflow)
 unfoldable pub autoKey : ℕ → World → After AutoKey
 autoKey largest w = keyExact (nextKey largest) w
 
+-- the key, and its object where it needs one, are made before the suspension. 01: "A key object made before that 9 stays."
 abbrev pub yieldKey : ℕ → ℕ → ℕ → World → AutoKey → After Step
 yieldKey pc dst payload w (AutoKey.Key key largest) = suspend pc CoroState.Yielded dst payload (Keys.Set key largest) w
 yieldKey pc dst payload w (AutoKey.Refused f) = fault w f
@@ -152,7 +153,7 @@ abbrev pub largerOf : ℕ → Opt → ℕ
 largerOf largest Opt.None = largest
 largerOf largest (Opt.Some n) = pick (lessBits largest n) n largest
 
--- 01: "YieldKv keeps its own key"
+-- 01: "No active coroutine: 5, pc not stored by the instruction."; "YieldKv keeps its own key"
 abbrev pub yieldKvOn : List Active → ℕ → ℕ → ℕ → ℕ → World → After Step
 yieldKvOn [] pc dst src key w = fault w Fault.CannotSuspend
 yieldKvOn (a ∷ chain) pc dst src key w =
@@ -162,7 +163,7 @@ yieldKvOn (a ∷ chain) pc dst src key w =
 unfoldable pub yieldKv : ℕ → ℕ → ℕ → ℕ → World → After Step
 yieldKv pc dst src key w = yieldKvOn (w .chain) pc dst src key w
 
--- 01: "Await leaves key and largest."
+-- 01: "No active coroutine: 5, pc not stored by the instruction."; "Await leaves key and largest."
 abbrev pub awaitOn : List Active → ℕ → ℕ → ℕ → World → After Step
 awaitOn [] pc dst src w = fault w Fault.CannotSuspend
 awaitOn (a ∷ chain) pc dst src w = suspend pc CoroState.Awaiting dst (reg w src) Keys.Keep w

@@ -136,7 +136,7 @@ module _ (l : Sizes) (s : Setup) (stack frames : List ℕ) (chained : ℕ → Bo
     object i = slotIn slots i .object
 
     -- those from i on passed; the set has their rows
-    pub record Held (mask i : ℕ) : Type 0 where
+    pub record RowsSoFar (mask i : ℕ) : Type 0 where
       pub within : i ≤ count
       pub passed : (j : ℕ) → i ≤ j → j < count → fine j (object j) ≡ true
       pub own : distinct (rowsHeld (drop i xs)) ≡ true
@@ -145,7 +145,7 @@ module _ (l : Sizes) (s : Setup) (stack frames : List ℕ) (chained : ℕ → Bo
     nothing-left : drop count xs ≡ []
     nothing-left = drop-of-length-le xs {i = count} (let h = length-chunks width slotOfWords count slots in omega arith)
 
-    pub begin : Held 0 count
+    pub begin : RowsSoFar 0 count
     begin =
         record {
           within = omega arith;
@@ -155,7 +155,7 @@ module _ (l : Sizes) (s : Setup) (stack frames : List ℕ) (chained : ℕ → Bo
         }
 
     -- the next slot
-    module _ (few : l .rows ≤ 64) (mask i row : ℕ) (p : Held mask i) (more : 0 < i) (is : row ≡ slotRow l s stack frames chained slots (i - 1)) where
+    module _ (few : l .rows ≤ 64) (mask i row : ℕ) (p : RowsSoFar mask i) (more : 0 < i) (is : row ≡ slotRow l s stack frames chained slots (i - 1)) where
       abbrev rs : List ℕ
       rs = rowsHeld (drop i xs)
 
@@ -191,7 +191,7 @@ module _ (l : Sizes) (s : Setup) (stack frames : List ℕ) (chained : ℕ → Bo
             sym (ap (λ b. all && b && freeTest l stack frames (λ n. among n held)) (of-drop (i - 1) xs d)
             ∙ ap (λ b. b && freeTest l stack frames (λ n. among n held)) (and-false all))
 
-        pub next : (mask′ : ℕ) → heldBit mask row ≡ false → ((j : ℕ) → j < 64 → bitAt mask′ j ≡ eqb j row || bitAt mask j) → Held mask′ (i - 1)
+        pub next : (mask′ : ℕ) → heldBit mask row ≡ false → ((j : ℕ) → j < 64 → bitAt mask′ j ≡ eqb j row || bitAt mask j) → RowsSoFar mask′ (i - 1)
         next mask′ e f = go (ltb row 64) refl
           where
             through : (j : ℕ) → i - 1 ≤ j → j < count → fine j (object j) ≡ true
@@ -201,7 +201,7 @@ module _ (l : Sizes) (s : Setup) (stack frames : List ℕ) (chained : ℕ → Bo
                 at true q = subst (λ k. fine k (object k) ≡ true) (sym (eqb-true j (i - 1) q)) (step-of few (i - 1) (object (i - 1)) row is good .good)
                 at false q = p .passed j (let d = eqb-false j (i - 1) q in omega arith) b
 
-            go : (t : Bool) → ltb row 64 ≡ t → Held mask′ (i - 1)
+            go : (t : Bool) → ltb row 64 ≡ t → RowsSoFar mask′ (i - 1)
             go true q =
                 let r : rowsHeld (drop (i - 1) xs) ≡ row ∷ rs = rows-next ∙ ap (λ b. pick b (row ∷ rs) rs) q ∙ pick-true _ _ in
                 record {
@@ -221,7 +221,7 @@ module _ (l : Sizes) (s : Setup) (stack frames : List ℕ) (chained : ℕ → Bo
                 }
 
     -- all passed
-    pub end : l .rows ≤ 64 → (mask i : ℕ) (b : Bool) → Held mask i → i ≤ 0 → b ≡ freeTest l stack frames (λ n. bitAt mask n) → b ≡ rowsTest l s stack frames chained slots count
+    pub end : l .rows ≤ 64 → (mask i : ℕ) (b : Bool) → RowsSoFar mask i → i ≤ 0 → b ≡ freeTest l stack frames (λ n. bitAt mask n) → b ≡ rowsTest l s stack frames chained slots count
     end few mask zero b p h e =
         let held = rowsHeld xs in
         e

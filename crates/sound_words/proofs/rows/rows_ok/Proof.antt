@@ -6,13 +6,13 @@ use borrow.Author.Tests.{not-true, not-false}
 use Rattle.memory.specs.Decode.{setupOf}
 use Rattle.sound_test.specs.Queue.{inSet}
 use Rattle.sound_words.specs.Rows.{rowsTest}
-use Rattle.sound_words.proofs.Holding.{Held, begin, refuses, twice, next, end}
+use Rattle.sound_words.proofs.Holding.{RowsSoFar, begin, refuses, twice, next, end}
 use Rattle.sound_words.proofs.Ranging.{Ranged, none-yet, one-more, out-of-range, fails-beside, all-ranged}
 use Rattle.sound_words.proofs.rows.rows_ok.Statement.{statement}
 use Rattle.sound_words.proofs.rows.rows_ok.Tie as tie
 
 abbrev Inv-loop : tie.InvT-loop
-Inv-loop slots count saved asleep setup need set l mask₀ i₀ mask i = Held l (setupOf setup) saved asleep (inSet set) slots count mask i × Ranged slots count i
+Inv-loop slots count saved asleep setup need set l mask₀ i₀ mask i = RowsSoFar l (setupOf setup) saved asleep (inSet set) slots count mask i × Ranged slots count i
 
 abbrev μ-loop : tie.MeasureT-loop
 μ-loop slots count saved asleep setup need set l mask₀ i₀ mask i = i

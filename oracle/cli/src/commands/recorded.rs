@@ -16,7 +16,7 @@ use oracle::sample::sample;
 use oracle::world::Costs;
 
 fn file() -> PathBuf {
-    PathBuf::from(env!("CARGO_MANIFEST_DIR")).join("recorded/answers.txt")
+    PathBuf::from(env!("CARGO_MANIFEST_DIR")).join("../recorded/answers.txt")
 }
 
 pub(crate) fn load() -> Result<Vec<Recorded>, String> {

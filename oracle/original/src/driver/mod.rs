@@ -17,7 +17,7 @@ use crate::machine::Machine;
 use crate::program::Program;
 
 /// The original, holding one state.
-pub(crate) struct Original {
+pub struct Original {
     prog: Program,
     m: Machine,
     stack: Vec<u64>,
@@ -59,7 +59,8 @@ impl Engine for Original {
 
 impl Original {
     /// The original before any set-up: the least machine there is.
-    pub(crate) fn blank() -> Original {
+    #[must_use]
+    pub fn blank() -> Original {
         let setup = Setup {
             depth: 1,
             stack: 1,
@@ -81,7 +82,8 @@ impl Original {
     }
 
     /// The original with its buffers as they are.
-    pub(crate) fn as_it_is() -> Original {
+    #[must_use]
+    pub fn as_it_is() -> Original {
         Original { shrinks: false, ..Original::blank() }
     }
 

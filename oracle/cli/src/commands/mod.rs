@@ -38,6 +38,7 @@ const USAGE: &str = "usage: oracle COMMAND
   antt-damaged SEED N DIR     states at each rule's edge as theorems, and damaged ones, each rule broken up to N times
   bench [MEASURE].. the original's speed, the library's beside it, and others', of these measures by number
   goals N           the benchmark's goals by N processes, each of which is `ratios`
+  stores [ENGINE].. instructions, loads and stores of a round trip, by lackey, and its time
   growth FILE       how a round trip grows with frames and registers, as a plot
   instructions      the library's instructions of each measure, by callgrind
   count ENGINE I N  N operations of measure I, for callgrind";
@@ -84,6 +85,7 @@ pub(crate) fn run(args: &[&str]) -> Result<(), String> {
         ["bench", ref only @ ..] => bench::bench(only),
         ["goals", n] => crate::bench::goals(number(n)? as usize),
         ["ratios"] => crate::bench::ratios(bench::costs()?),
+        ["stores", ref only @ ..] => crate::bench::stores::table(bench::costs()?, only),
         ["growth", file] => crate::bench::growth(bench::costs()?, file),
         ["instructions"] => crate::bench::recorded(),
         ["count", engine, i, n] => {
@@ -131,8 +133,8 @@ fn with_original(
 ) -> Result<(), String> {
     #[cfg(original)]
     {
-        let costs = crate::driver::bridge::costs();
-        f(&mut crate::driver::Original::blank(), costs)
+        let costs = original::costs();
+        f(&mut original::Original::blank(), costs)
     }
     #[cfg(not(original))]
     {

@@ -3,10 +3,10 @@
 use std::hint::black_box;
 
 use bytecode_lang::{FuncId, Inst, Reg, ValType};
+use oracle::switch::{setup, Switch};
 use oracle::world::{Costs, World};
 
 use super::{bridge, outer};
-use crate::bench::{setup, Switch};
 use crate::coll;
 use crate::coro;
 use crate::exec::{Cx, Step};
@@ -15,14 +15,21 @@ use crate::machine::{Cont, Machine};
 use crate::program::Program;
 
 /// A machine with a bottom frame and a coroutine's word in its register 0.
-pub(crate) struct Bench {
+pub struct Bench {
     prog: Program,
     m: Machine,
     stack: Vec<u64>,
 }
 
+/// A fresh one. Its round trips are compiled in this crate.
+#[must_use]
+pub fn switch(costs: Costs) -> Box<dyn Switch> {
+    Box::new(Bench::new(costs))
+}
+
 impl Bench {
-    pub(crate) fn new(costs: Costs) -> Bench {
+    #[must_use]
+    pub fn new(costs: Costs) -> Bench {
         let w = World::fresh(setup(costs));
         let prog = bridge::program(&w.setup);
         let mut m = bridge::machine(&prog, &w);
@@ -30,6 +37,24 @@ impl Bench {
         let mut b = Bench { prog, m, stack: Vec::new() };
         b.call(0, Cont::Entry);
         b
+    }
+
+    /// The words on the stack.
+    #[must_use]
+    pub fn stack(&self) -> &[u64] {
+        &self.stack
+    }
+
+    /// How many frames there are.
+    #[must_use]
+    pub fn depth(&self) -> usize {
+        self.m.frames.len()
+    }
+
+    /// A word into a register of the running frame.
+    pub fn put(&mut self, reg: u64, word: u64) {
+        let base = self.m.frames[self.m.frames.len() - 1].base;
+        self.stack[base + reg as usize] = word;
     }
 
     fn call(&mut self, func: u32, cont: Cont) {
@@ -121,66 +146,5 @@ impl Switch for Bench {
     fn clean(&mut self) {
         assert!(outer::hand_over(&mut self.m, self.stack[0]).is_ok(), "handed over");
         self.raised(Inst::CoroCurrent { dst: Reg(1) });
-    }
-}
-
-/// The library beside the original: the same answers, stacks and
-/// numbers of frames in the round trips that are measured.
-#[cfg(all(test, library))]
-mod tests {
-    use super::*;
-    use crate::bench::{Kept, MEASURES};
-
-    fn agree(original: &Bench, ours: &Kept) {
-        assert_eq!(ours.0.stack(), original.stack);
-        assert_eq!(ours.0.depth(), original.m.frames.len());
-    }
-
-    fn both(mut call: impl FnMut(&mut dyn Switch), original: &mut Bench, ours: &mut Kept) {
-        call(original);
-        call(ours);
-        agree(original, ours);
-    }
-
-    #[test]
-    fn round_trips_agree() {
-        let costs = bridge::costs();
-        for (func, frames) in [(0, 0), (1, 3)] {
-            let (mut a, mut b) = (Bench::new(costs), Kept::new(costs));
-            both(|e| e.create(func), &mut a, &mut b);
-            both(|e| e.resume(), &mut a, &mut b);
-            for _ in 0..frames {
-                both(|e| e.push(1), &mut a, &mut b);
-            }
-            for sent in 0..50 {
-                let base = a.m.frames[a.m.frames.len() - 1].base;
-                for r in 0..4 {
-                    let word = 1000 * sent + r;
-                    a.stack[base + r as usize] = word;
-                    b.put(r, word);
-                }
-                agree(&a, &b);
-                both(|e| e.suspend(), &mut a, &mut b);
-                a.stack[2] = 7 + sent;
-                b.put(2, 7 + sent);
-                both(|e| e.resume(), &mut a, &mut b);
-            }
-        }
-    }
-
-    /// Every measure leaves the same stack and as many frames.
-    #[test]
-    fn measures_agree() {
-        let costs = bridge::costs();
-        for (_, m) in MEASURES {
-            let (mut a, mut b) = (Bench::new(costs), Kept::new(costs));
-            m.ready(&mut a);
-            m.ready(&mut b);
-            for _ in 0..5 {
-                m.batch(&mut a, 2);
-                m.batch(&mut b, 2);
-                agree(&a, &b);
-            }
-        }
     }
 }

@@ -31,7 +31,8 @@ pub(crate) fn number_of(kind: ErrorKind) -> u8 {
 }
 
 /// The set-up costs of this build, read off the original's own types.
-pub(crate) fn costs() -> Costs {
+#[must_use]
+pub fn costs() -> Costs {
     let coro = Object::Coro(Box::new(coro_object(&Coro::blank(State::Created))));
     let iter = Object::Iter(Box::new(iter_object(0, false, None)));
     let error = error_object(1, 0, 0, 0);

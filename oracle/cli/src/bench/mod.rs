@@ -2,20 +2,25 @@
 //! so that a busy machine hits all of them. Instructions are counted by
 //! callgrind, where it is installed: the same batches in a process each.
 
+#[cfg(all(test, original, library))]
+mod agree;
 #[cfg(all(library, feature = "host"))]
 mod host;
 #[cfg(library)]
 mod library;
 mod plot;
+pub(crate) mod stores;
 
 use std::hint::black_box;
 use std::process::Command;
 use std::time::{Duration, Instant};
 
-use oracle::world::{Costs, Func, Handler, Setup};
-
-#[cfg(all(test, original, library))]
-pub(crate) use library::Kept;
+#[cfg(library)]
+pub(crate) use oracle::switch::setup;
+pub(crate) use oracle::switch::Switch;
+use oracle::world::Costs;
+#[cfg(library)]
+use oracle::world::Setup;
 
 /// How many operations are timed at once, at most.
 const MOST: usize = 1000;
@@ -23,51 +28,6 @@ const MOST: usize = 1000;
 /// How often a batch is timed, and how long at most.
 const SAMPLES: usize = 1001;
 const PATIENCE: Duration = Duration::from_millis(1500);
-
-/// A machine with a bottom frame of function 0. Register 0 of the running
-/// frame's caller holds the coroutine, register 3 of function 2 an iterator.
-pub(crate) trait Switch {
-    /// A frame on top. Its continuation takes no result.
-    fn push(&mut self, func: u32);
-    fn create(&mut self, func: u32);
-    fn resume(&mut self);
-    fn suspend(&mut self);
-    /// A word is thrown into the coroutine, and unwound there.
-    fn throw(&mut self) {
-        unimplemented!("not measured here");
-    }
-    /// The coroutine is closed; its signal is unwound.
-    fn close(&mut self) {
-        unimplemented!("not measured here");
-    }
-    /// An iterator over the coroutine, in register 3.
-    fn iterate(&mut self) {
-        unimplemented!("not measured here");
-    }
-    fn next(&mut self) {
-        unimplemented!("not measured here");
-    }
-    /// A word is thrown where the machine stands, and unwound.
-    fn unwind(&mut self) {
-        unimplemented!("not measured here");
-    }
-    fn finish(&mut self) {
-        unimplemented!("not measured here");
-    }
-    /// The coroutine is handed over; the next charge starts its cleanup, whose
-    /// signal is unwound.
-    fn clean(&mut self) {
-        unimplemented!("not measured here");
-    }
-
-    fn trips(&mut self, n: usize) {
-        for _ in 0..n {
-            self.resume();
-            self.suspend();
-            black_box(&mut *self);
-        }
-    }
-}
 
 /// What is measured: a number of operations on a machine made ready.
 #[derive(Clone, Copy, PartialEq, Eq)]
@@ -169,27 +129,6 @@ impl Measure {
     }
 }
 
-/// Function 0 has four registers and a handler over every pc, function 1
-/// sixteen registers, function 2 four, and those after them 64 and 255.
-#[cfg_attr(not(any(original, library)), allow(dead_code))]
-pub(crate) fn setup(costs: Costs) -> Setup {
-    let handler = Handler { start: 0, end: u64::from(u32::MAX), target: 0, catch: 3 };
-    let func = |nregs, handlers| Func { nregs, nparams: 0, handlers };
-    let plain = [16, 4, 64, 255].map(|n| func(n, vec![]));
-    let mut funcs = vec![func(4, vec![handler])];
-    funcs.extend(plain);
-    Setup {
-        depth: 128,
-        stack: 1024,
-        rows: 64,
-        slots: 4096,
-        memory: u64::MAX,
-        costs,
-        hook: None,
-        funcs,
-    }
-}
-
 /// The same functions but the widest on a machine of 1,111 words.
 #[cfg(library)]
 pub(crate) fn small(costs: Costs) -> Setup {
@@ -210,12 +149,7 @@ struct Engine {
 fn engines() -> Vec<Engine> {
     vec![
         #[cfg(original)]
-        Engine {
-            name: "original",
-            shown: "original",
-            fresh: |c| Box::new(crate::driver::bench::Bench::new(c)),
-            only: |_| true,
-        },
+        Engine { name: "original", shown: "original", fresh: original::switch, only: |_| true },
         #[cfg(hot)]
         Engine {
             name: "hot",
@@ -287,7 +221,7 @@ pub(crate) fn table(costs: Costs, only: impl Fn(usize) -> bool) {
     if engines.is_empty() {
         return;
     }
-    let counted = callgrind();
+    let counted = valgrind();
     if !counted {
         println!("skipped: instructions are not counted (valgrind is not installed)\n");
     }
@@ -313,14 +247,18 @@ const GOALS: [(&str, &str, [f64; 2]); 4] = [
     ("crate-run", "a batch, the crate `host/`", [0.70, 0.88]),
 ];
 
+impl Engine {
+    /// Whether it is the original, or has a goal beside it.
+    fn judged(&self) -> bool {
+        self.name == "original" || GOALS.iter().any(|g| g.0 == self.name)
+    }
+}
+
 /// The engines of the goals beside the original, a line each: the engine, then
 /// the ratios of leasts and of medians, with one frame and with four.
 pub(crate) fn ratios(costs: Costs) -> Result<(), String> {
     let engines = engines();
-    let these: Vec<_> = engines
-        .iter()
-        .filter(|e| e.name == "original" || GOALS.iter().any(|g| g.0 == e.name))
-        .collect();
+    let these: Vec<_> = engines.iter().filter(|e| e.judged()).collect();
     if these.first().is_none_or(|e| e.name != "original") {
         return Err("the original is not linked".to_owned());
     }
@@ -347,7 +285,7 @@ pub(crate) fn goals(processes: usize) -> Result<(), String> {
     }
     let rows: Vec<Vec<&str>> = lines.lines().map(|l| l.split('\t').collect()).collect();
     if let (true, [Some(one), Some(four)]) =
-        (callgrind(), [0, 1].map(|i| instructions(i, "original")))
+        (valgrind(), [0, 1].map(|i| instructions(i, "original")))
     {
         println!("The original so compiled takes {one:.0} / {four:.0} instructions.\n");
     }
@@ -431,7 +369,7 @@ fn timed(costs: Costs, m: Measure, engines: &[&Engine], counted: bool) -> Vec<Fo
 
 // ---- instructions
 
-fn callgrind() -> bool {
+fn valgrind() -> bool {
     Command::new("valgrind").arg("--version").output().is_ok_and(|o| o.status.success())
 }
 
@@ -462,14 +400,28 @@ pub(crate) fn count(costs: Costs, engine: &str, measure: usize, n: usize) -> Res
     let e = engines.iter().find(|e| e.name == engine).ok_or("no such engine is linked")?;
     let (_, m) = *MEASURES.get(measure).ok_or("no such measure")?;
     let mut s = (e.fresh)(costs);
-    m.ready(&mut *s);
-    m.batch(&mut *s, n);
+    at_a_page(&mut || {
+        m.ready(&mut *s);
+        m.batch(&mut *s, n);
+    });
     Ok(())
+}
+
+/// Runs `f` with a stack that begins at a page. Where it begins else hangs on
+/// how long the environment and the program's path are, and on that how many
+/// instructions the C library's `memset` and `memcpy` take.
+#[inline(never)]
+fn at_a_page(f: &mut dyn FnMut()) {
+    #[repr(align(4096))]
+    struct Page([u8; 4096]);
+    let mut page = Page([0; 4096]);
+    f();
+    black_box(&mut page.0);
 }
 
 /// The hot paths' instructions, a line each: measure, engine, instructions.
 pub(crate) fn recorded() -> Result<(), String> {
-    if !callgrind() {
+    if !valgrind() {
         return Err("valgrind is not installed".to_owned());
     }
     for (i, (name, m)) in MEASURES.iter().enumerate() {
@@ -504,6 +456,7 @@ pub(crate) fn growth(costs: Costs, file: &str) -> Result<(), String> {
     };
     // a frame has six words; a round trip moves all words there and back
     let frames: Vec<(u32, usize)> = [1, 2, 4, 8, 16, 32, 64].map(|n| (2, n)).to_vec();
+    // four frames of 255 registers fill the stack's 1,024 words beside the caller's four
     let regs = [(0, 1), (1, 1), (3, 1), (4, 1), (4, 2), (4, 4)];
     let moved = |func: u32, n: usize| n * (REGS[func as usize] + 6);
     let (frames, regs) = (over(&frames, moved), over(&regs, moved));

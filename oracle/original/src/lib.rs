@@ -1,4 +1,10 @@
-//! The oracle's commands; docs/ORACLE.md says how to use them.
+//! The original's coroutine code: its files as build.rs prepares them, at the
+//! root of the crate as they want it, stand-ins for what they import and we
+//! lack, and the driver, which puts them behind 01's calls and the benchmark.
+//!
+//! Nothing else is here, so that how the compiler cuts and inlines the original
+//! does not hang on other text of ours. Without the original's sources the
+//! crate is empty.
 
 #[cfg(original)]
 extern crate alloc;
@@ -38,19 +44,9 @@ mod map;
 #[cfg(original)]
 mod driver;
 
-mod bench;
-mod commands;
-
-use std::process::ExitCode;
-
-fn main() -> ExitCode {
-    let args: Vec<String> = std::env::args().skip(1).collect();
-    let args: Vec<&str> = args.iter().map(String::as_str).collect();
-    match commands::run(&args) {
-        Ok(()) => ExitCode::SUCCESS,
-        Err(why) => {
-            eprintln!("{why}");
-            ExitCode::FAILURE
-        }
-    }
-}
+#[cfg(original)]
+pub use driver::{
+    bench::{switch, Bench},
+    bridge::costs,
+    Original,
+};

@@ -44,8 +44,8 @@ pub(crate) fn sizes(costs: Costs) -> Result<(), String> {
     show("second engine", &mut Plain::default(), costs);
     #[cfg(original)]
     {
-        show("original, buffers shrunk at the entry", &mut crate::driver::Original::blank(), costs);
-        show("original as it is", &mut crate::driver::Original::as_it_is(), costs);
+        show("original, buffers shrunk at the entry", &mut original::Original::blank(), costs);
+        show("original as it is", &mut original::Original::as_it_is(), costs);
     }
     Ok(())
 }
