@@ -5,7 +5,7 @@ use mathlib.Core.Path.{_≡_, refl, sym, ap, _∙_}
 use mathlib.Core.Logic.{_⊎_, inl, inr}
 use mathlib.Core.Bool.{Bool, true, false, _||_}
 use mathlib.Core.List.{List, _∷_}
-use mathlib.Core.Option.{none}
+use mathlib.Core.Option.{Option, none}
 use Rattle.lists.specs.Pick.{pick}
 use Rattle.heap.specs.declared.object.CoroState.{CoroState}
 use Rattle.model.specs.State.{isCreated, isRunning, isAwaiting, isSuspended}
@@ -21,6 +21,7 @@ use Rattle.claims.specs.Held.{closer}
 use Rattle.claims.specs.Demand3 as D
 use Rattle.claims.specs.Events.{isAwait, lives}
 use Rattle.claims.specs.Steps.{seenOf, rulesOf, viewOf, opOf, steps}
+use Rattle.claims.specs.Touches.{May}
 use Rattle.claims.proofs.Entry as E
 use Rattle.claims.proofs.Held.{Seat, coreIn, coreAt}
 use Rattle.claims.proofs.Split.{next, Suspends, restarts}
@@ -35,13 +36,13 @@ use Rattle.claims.proofs.Restores.{suspends-old, restarts-old}
 
 -- ---- the set-up stays
 
-setup-worked : {b : Mode} {v z : View} → Worked b v z → z .setup ≡ v .setup
+setup-worked : {m : Option May} {b : Mode} {v z : View} → Worked m b v z → z .setup ≡ v .setup
 setup-worked done = refl
 setup-worked (quiet k q t) = setup-worked t
-setup-worked (tops g e t) = setup-worked t
-setup-worked (puts r x t) = setup-worked t
-setup-worked (pushes f xs p q t) = setup-worked t
-setup-worked (pops f fs p q t) = setup-worked t
+setup-worked (tops g e s t) = setup-worked t
+setup-worked (puts r x a t) = setup-worked t
+setup-worked (pushes f xs a p q) = refl
+setup-worked (pops f fs free p q t) = setup-worked t
 setup-worked (fails f fs a chain k y p q r e t) = setup-worked t
 
 setup-stays : {w z : World} {o : Op} → Shape w o z → z .setup ≡ w .setup
@@ -99,16 +100,16 @@ dead-ends {s} {v} {k} {l} e n c h = go (ℕ-discrete c v)
     go (yes q) = ap (λ y. alive (l y .state)) q ∙ mine (e .mine) (ap (λ y. alive (k y .state)) (sym q) ∙ h)
     go (no q) = ap (λ y. alive (y .state)) (e .others c q) ∙ h
 
-dead-worked : (c : ℕ) {b : Mode} {v z : View} → Worked b v z → alive (v .cores c .state) ≡ false → alive (z .cores c .state) ≡ false
+dead-worked : (c : ℕ) {m : Option May} {b : Mode} {v z : View} → Worked m b v z → alive (v .cores c .state) ≡ false → alive (z .cores c .state) ≡ false
 dead-worked c done h = h
 dead-worked c (quiet k q t) h = dead-worked c t (dead-kept (q c) h)
-dead-worked c (tops g e t) h = dead-worked c t h
-dead-worked c (puts r x t) h = dead-worked c t h
-dead-worked c (pushes f xs p q t) h = dead-worked c t h
-dead-worked c (pops f fs p q t) h = dead-worked c t h
+dead-worked c (tops g e s t) h = dead-worked c t h
+dead-worked c (puts r x a t) h = dead-worked c t h
+dead-worked c (pushes f xs a p q) h = h
+dead-worked c (pops f fs free p q t) h = dead-worked c t h
 dead-worked c (fails f fs a chain k y p q r e t) h = dead-worked c t (dead-ends e refl c h)
 
-lived : (c : ℕ) {b : Mode} {v z : View} → Worked b v z → alive (z .cores c .state) ≡ true → alive (v .cores c .state) ≡ true
+lived : (c : ℕ) {m : Option May} {b : Mode} {v z : View} → Worked m b v z → alive (z .cores c .state) ≡ true → alive (v .cores c .state) ≡ true
 lived c {v = v} t h = go (alive (v .cores c .state)) refl
   where
     go : (a : Bool) → alive (v .cores c .state) ≡ a → alive (v .cores c .state) ≡ true
@@ -132,13 +133,13 @@ ends-closing {s} {v} {k} {l} e n c h = go (ℕ-discrete c v)
     go (yes q) = ap (λ y. l y .closing) q ∙ mine (e .mine) (ap (λ y. alive (l y .state)) (sym q) ∙ h) ∙ ap (λ y. k y .closing) (sym q)
     go (no q) = ap (λ y. y .closing) (e .others c q)
 
-worked-closing : (c : ℕ) {b : Mode} {v z : View} → Worked b v z → alive (z .cores c .state) ≡ true → z .cores c .closing ≡ v .cores c .closing
+worked-closing : (c : ℕ) {m : Option May} {b : Mode} {v z : View} → Worked m b v z → alive (z .cores c .state) ≡ true → z .cores c .closing ≡ v .cores c .closing
 worked-closing c done h = refl
 worked-closing c (quiet k q t) h = worked-closing c t h ∙ kept-closing (q c) (lived c t h)
-worked-closing c (tops g e t) h = worked-closing c t h
-worked-closing c (puts r x t) h = worked-closing c t h
-worked-closing c (pushes f xs p q t) h = worked-closing c t h
-worked-closing c (pops f fs p q t) h = worked-closing c t h
+worked-closing c (tops g e s t) h = worked-closing c t h
+worked-closing c (puts r x a t) h = worked-closing c t h
+worked-closing c (pushes f xs a p q) h = refl
+worked-closing c (pops f fs free p q t) h = worked-closing c t h
 worked-closing c (fails f fs a chain k y p q r e t) h = worked-closing c t h ∙ ends-closing e refl c (lived c t h)
 
 module _ (c : ℕ) {w z : World} (healthy : (a : Active) (chain : List Active) → w .chain ≡ a ∷ chain → isRunning (coreAt w (a .coro) .state) ≡ true) where

@@ -28,6 +28,7 @@ use Rattle.model.specs.declared.coro.AutoKey.{AutoKey}
 use Rattle.model.specs.declared.coro.Suspension.{Suspension}
 use Rattle.model.specs.declared.exec.Step.{Step}
 use Rattle.model.specs.declared.call.Op.{Op}
+use Rattle.claims.specs.Touches.{may}
 use Rattle.claims.specs.Steps.{seenOf}
 use Rattle.claims.proofs.Entry.{suspends}
 use Rattle.claims.proofs.Tries.{taken, tries, keyed, inBody}
@@ -131,14 +132,14 @@ told-world w f = go (isOk f)
     go false = ap (λ (o : After Step). o .world) (pick-false (after w Step.Frame) (after w (Step.Unwind f)))
 
 -- a suspension at v, the key's object made before it at u
-pub suspend-arm : (p : ℕ) (s : CoroState) → isSuspended s ≡ true → (dst x : ℕ) (keys : Keys) (v u : World) → Same v u → Arm v p (suspends s dst x) (tries p s dst x u keys) (suspend p s dst x keys u .world)
+pub suspend-arm : (p : ℕ) (s : CoroState) → isSuspended s ≡ true → (dst x : ℕ) (keys : Keys) (v u : World) → Same v u → Arm (may (some p) none false) v p (suspends s dst x) (tries p s dst x u keys) (suspend p s dst x keys u .world)
 suspend-arm p s h dst x keys v u g = go (coroSuspend s dst x keys t) (suspend-case s dst x keys t)
   where
     t : World
     t = storePc p u
 
-    go : (o : After Suspension) → SuspendCase s dst x keys t o → Arm v p (suspends s dst x) (taken (o .answer)) (deliverAll (o .world) (o .answer) .world)
-    go o (z-out f) = a-works refl refl (same-worked g (tops (setPc p) (keeps-pc p) done))
+    go : (o : After Suspension) → SuspendCase s dst x keys t o → Arm (may (some p) none false) v p (suspends s dst x) (taken (o .answer)) (deliverAll (o .world) (o .answer) .world)
+    go o (z-out f) = a-works refl refl (same-worked g (tops (setPc p) (keeps-pc p) (p, refl, refl) done))
     go o (z-in a chain k r e c) = a-suspends refl s dst x a chain refl (subst (Suspend v p s dst x a chain) (sym (told-world (deliver (a .driver) m y .world) (deliver (a .driver) m y .answer))) it)
       where
         m : M.Event
@@ -181,36 +182,37 @@ suspend-arm p s h dst x keys v u g = go (coroSuspend s dst x keys t) (suspend-ca
 
 -- ---- Yield, YieldKv, Await
 
-pub yield-arm : (p dst src : ℕ) (v : World) → Arm v p (suspends CoroState.Yielded dst (reg v src)) (suspendsIn (Op.Yield p dst src) v) (yield p dst src v .world)
+pub yield-arm : (p dst src : ℕ) (v : World) → Arm (may (some p) none false) v p (suspends CoroState.Yielded dst (reg v src)) (suspendsIn (Op.Yield p dst src) v) (yield p dst src v .world)
 unfolding yield
 yield-arm p dst src v = go (v .chain)
   where
-    made : (o : After AutoKey) → Same v (o .world) → Arm v p (suspends CoroState.Yielded dst (reg v src)) (keyed (tries p CoroState.Yielded dst (reg v src)) (o .world) (o .answer)) (yieldKey p dst (reg v src) (o .world) (o .answer) .world)
+    made : (o : After AutoKey) → Same v (o .world) → Arm (may (some p) none false) v p (suspends CoroState.Yielded dst (reg v src)) (keyed (tries p CoroState.Yielded dst (reg v src)) (o .world) (o .answer)) (yieldKey p dst (reg v src) (o .world) (o .answer) .world)
     made o g = cases (o .answer)
       where
-        cases : (k : AutoKey) → Arm v p (suspends CoroState.Yielded dst (reg v src)) (keyed (tries p CoroState.Yielded dst (reg v src)) (o .world) k) (yieldKey p dst (reg v src) (o .world) k .world)
+        cases : (k : AutoKey) → Arm (may (some p) none false) v p (suspends CoroState.Yielded dst (reg v src)) (keyed (tries p CoroState.Yielded dst (reg v src)) (o .world) k) (yieldKey p dst (reg v src) (o .world) k .world)
         cases (AutoKey.Key key largest) = suspend-arm p CoroState.Yielded refl dst (reg v src) (Keys.Set key largest) v (o .world) g
         cases (AutoKey.Refused f) = a-works refl refl (same-worked g done)
 
-    go : (cs : List Active) → Arm v p (suspends CoroState.Yielded dst (reg v src)) (inBody cs (λ a. keyed (tries p CoroState.Yielded dst (reg v src)) (autoKey (largestIn (coro v (a .coro))) v .world) (autoKey (largestIn (coro v (a .coro))) v .answer))) (yieldOn cs p dst src v .world)
+    go : (cs : List Active)
+        → Arm (may (some p) none false) v p (suspends CoroState.Yielded dst (reg v src)) (inBody cs (λ a. keyed (tries p CoroState.Yielded dst (reg v src)) (autoKey (largestIn (coro v (a .coro))) v .world) (autoKey (largestIn (coro v (a .coro))) v .answer))) (yieldOn cs p dst src v .world)
     go [] = a-works refl refl done
     go (a ∷ chain) = made (autoKey (largestIn (coro v (a .coro))) v) (key-same (largestIn (coro v (a .coro))) v)
 
-pub yieldKv-arm : (p dst src key : ℕ) (v : World) → Arm v p (suspends CoroState.Yielded dst (reg v src)) (suspendsIn (Op.YieldKv p dst src key) v) (yieldKv p dst src key v .world)
+pub yieldKv-arm : (p dst src key : ℕ) (v : World) → Arm (may (some p) none false) v p (suspends CoroState.Yielded dst (reg v src)) (suspendsIn (Op.YieldKv p dst src key) v) (yieldKv p dst src key v .world)
 unfolding yieldKv
 yieldKv-arm p dst src key v = go (v .chain)
   where
     keys : Active → Keys
     keys a = Keys.Set (reg v key) (largerOf (largestIn (coro v (a .coro))) (dynInt v (reg v key)))
 
-    go : (cs : List Active) → Arm v p (suspends CoroState.Yielded dst (reg v src)) (inBody cs (λ a. tries p CoroState.Yielded dst (reg v src) v (keys a))) (yieldKvOn cs p dst src key v .world)
+    go : (cs : List Active) → Arm (may (some p) none false) v p (suspends CoroState.Yielded dst (reg v src)) (inBody cs (λ a. tries p CoroState.Yielded dst (reg v src) v (keys a))) (yieldKvOn cs p dst src key v .world)
     go [] = a-works refl refl done
     go (a ∷ chain) = suspend-arm p CoroState.Yielded refl dst (reg v src) (keys a) v v same-none
 
-pub await-arm : (p dst src : ℕ) (v : World) → Arm v p (suspends CoroState.Awaiting dst (reg v src)) (suspendsIn (Op.Await p dst src) v) (await p dst src v .world)
+pub await-arm : (p dst src : ℕ) (v : World) → Arm (may (some p) none false) v p (suspends CoroState.Awaiting dst (reg v src)) (suspendsIn (Op.Await p dst src) v) (await p dst src v .world)
 unfolding await
 await-arm p dst src v = go (v .chain)
   where
-    go : (cs : List Active) → Arm v p (suspends CoroState.Awaiting dst (reg v src)) (inBody cs (λ a. tries p CoroState.Awaiting dst (reg v src) v Keys.Keep)) (awaitOn cs p dst src v .world)
+    go : (cs : List Active) → Arm (may (some p) none false) v p (suspends CoroState.Awaiting dst (reg v src)) (inBody cs (λ a. tries p CoroState.Awaiting dst (reg v src) v Keys.Keep)) (awaitOn cs p dst src v .world)
     go [] = a-works refl refl done
     go (a ∷ chain) = suspend-arm p CoroState.Awaiting refl dst (reg v src) Keys.Keep v v same-none

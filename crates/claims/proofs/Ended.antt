@@ -3,12 +3,12 @@ use Prim.Native.Nat.{ℕ}
 use native.Mathlib.Decide.{ℕ-discrete}
 use mathlib.Core.Path.{_≡_, refl, sym, ap, _∙_}
 use mathlib.Core.Logic.{_⊎_, inl, inr}
-use mathlib.Core.Bool.{true}
+use mathlib.Core.Bool.{true, false}
 use mathlib.Core.List.{List, [], _∷_}
-use mathlib.Core.Option.{Option, none}
+use mathlib.Core.Option.{Option, none, some}
 use Rattle.heap.specs.Word.{nil}
 use Rattle.heap.specs.declared.object.CoroState.{CoroState}
-use Rattle.model.specs.State.{isRunning}
+use Rattle.model.specs.State.{isRunning, isResumable}
 use Rattle.model.specs.Object.{Core, Rest, Coroutine, Absent, Is}
 use Rattle.model.specs.World.{World}
 use Rattle.model.specs.Heap.{coro, changeAs}
@@ -16,28 +16,40 @@ use Rattle.model.specs.Coro.{inState, ended, finishCoroutine, failAll}
 use Rattle.model.specs.declared.machine.Active.{Active}
 use Rattle.claims.specs.Engine.{Seen, seenIn}
 use Rattle.claims.specs.Events.{endedAs}
+use Rattle.claims.specs.Steps.{waitsOf}
 use Rattle.claims.proofs.Held.{Seat, coreIn, coreAt}
 use Rattle.claims.proofs.Cores.{no-both, set-mine}
 use Rattle.claims.proofs.Shape.{Apart}
 use Rattle.claims.proofs.Quiet.{finish-ends}
 
--- one that is there is seen as ended
-pub there-seen : (v : ℕ) (s : CoroState) (x : ℕ) (w : World) {k : Core} {r : Rest} → coro w v ≡ Is k r → coreAt (finishCoroutine v s x w) v .seen ≡ endedAs s x
-there-seen v s x w {k} {r} e = ap (λ y. coreAt (changeAs y v (inState s) (ended x) w) v .seen) e ∙ ap (λ y. coreIn y .seen) (set-mine (w .slots) v e (inState s k) (ended x r))
+-- nothing waits any more
+waits-over : (s : CoroState) (r : ℕ) → isResumable s ≡ false → waitsOf s r ≡ 0
+waits-over CoroState.Created r h = no-both refl h
+waits-over CoroState.Running r h = refl
+waits-over CoroState.Yielded r h = no-both refl h
+waits-over CoroState.Awaiting r h = no-both refl h
+waits-over CoroState.Returned r h = refl
+waits-over CoroState.Failed r h = refl
 
-pub run-seen : (v : ℕ) (s : CoroState) (x : ℕ) (w : World) → isRunning (coreAt w v .state) ≡ true → coreAt (finishCoroutine v s x w) v .seen ≡ endedAs s x
-run-seen v s x w h = go (coro w v) refl
+-- one that is there is seen as ended
+pub there-seen : (v : ℕ) (s : CoroState) (x : ℕ) (w : World) {k : Core} {r : Rest} → isResumable s ≡ false → coro w v ≡ Is k r → coreAt (finishCoroutine v s x w) v .seen ≡ endedAs s x
+there-seen v s x w {k} {r} h e =
+    ap (λ y. coreAt (changeAs y v (inState s) (ended x) w) v .seen) e ∙ ap (λ y. coreIn y .seen) (set-mine (w .slots) v e (inState s k) (ended x r))
+    ∙ (λ i. some (record { state = s; words = []; frames = []; waits = waits-over s (k .waiting) h i; mostWords = 0; mostFrames = 0; closing = false; signal = 0; result = x }))
+
+pub run-seen : (v : ℕ) (s : CoroState) (x : ℕ) (w : World) → isResumable s ≡ false → isRunning (coreAt w v .state) ≡ true → coreAt (finishCoroutine v s x w) v .seen ≡ endedAs s x
+run-seen v s x w n h = go (coro w v) refl
   where
     go : (y : Coroutine) → coro w v ≡ y → coreAt (finishCoroutine v s x w) v .seen ≡ endedAs s x
     go Absent e = no-both h (ap (λ y. isRunning (coreIn y .state)) e)
-    go (Is k r) e = there-seen v s x w e
+    go (Is k r) e = there-seen v s x w n e
 
 fail-seen : (v : ℕ) (w : World) → (coreAt w v .seen ≡ none) ⊎ (coreAt (finishCoroutine v CoroState.Failed nil w) v .seen ≡ endedAs CoroState.Failed nil)
 fail-seen v w = go (coro w v) refl
   where
     go : (y : Coroutine) → coro w v ≡ y → (coreAt w v .seen ≡ none) ⊎ (coreAt (finishCoroutine v CoroState.Failed nil w) v .seen ≡ endedAs CoroState.Failed nil)
     go Absent e = inl (ap (λ y. coreIn y .seen) e)
-    go (Is k r) e = inr (there-seen v CoroState.Failed nil w e)
+    go (Is k r) e = inr (there-seen v CoroState.Failed nil w refl e)
 
 -- ---- the end of the run
 

@@ -5,6 +5,7 @@ use mathlib.Core.Path.{_≡_, refl, sym, ap, _∙_, subst}
 use mathlib.Core.Logic.{_⊎_, inl, inr}
 use mathlib.Core.Bool.{Bool, true, false}
 use mathlib.Core.List.{List, [], _∷_}
+use mathlib.Core.Option.{none}
 use lib.Dec.{eqb, leb}
 use Rattle.lists.specs.Pick.{pick}
 use Rattle.heap.specs.Word.{nil}
@@ -45,11 +46,11 @@ use Rattle.claims.proofs.Deliver.{Delivered, return-told}
 
 -- moves, and then perhaps a return of x
 pub data Done (x : ℕ) (v : View) (z : World) : Type 0 where
-  d-works : Worked m-ending v (view z) → Done x v z
-  d-returns : (u : View) (f : Frame) (fs : List Frame) (a : Active) (chain : List Active) → Worked m-ending v u → Return u x f fs a chain z → Done x v z
+  d-works : Worked none m-ending v (view z) → Done x v z
+  d-returns : (u : View) (f : Frame) (fs : List Frame) (a : Active) (chain : List Active) → Worked none m-ending v u → Return u x f fs a chain z → Done x v z
 
 -- after more moves
-pub then-done : {x : ℕ} {v u : View} {z : World} → ((y : View) → Worked m-ending u y → Worked m-ending v y) → Done x u z → Done x v z
+pub then-done : {x : ℕ} {v u : View} {z : World} → ((y : View) → Worked none m-ending u y → Worked none m-ending v y) → Done x u z → Done x v z
 then-done {z = z} g (d-works t) = d-works (g (view z) t)
 then-done g (d-returns u f fs a chain t r) = d-returns u f fs a chain (g u t) r
 
@@ -96,12 +97,12 @@ return-done x f fs w a chain p q r =
 
 -- ---- finish
 
-resume-worked : (w : World) (f : Fault) → Worked m-ending (view w) (view (resumeIn w f .world))
+resume-worked : (w : World) (f : Fault) → Worked none m-ending (view w) (view (resumeIn w f .world))
 unfolding pick
 resume-worked w f = go (isOk f)
   where
-    go : (b : Bool) → Worked m-ending (view w) (view (pick b (after (nextPc w) Answer.Resume) (after w (Answer.Refused f)) .world))
-    go true = tops stepPc keeps-step done
+    go : (b : Bool) → Worked none m-ending (view w) (view (pick b (after (nextPc w) Answer.Resume) (after w (Answer.Refused f)) .world))
+    go true = tops stepPc keeps-step tt done
     go false = done
 
 -- the chain is empty, or the body's coroutine returns
@@ -110,7 +111,7 @@ unfolding coroReturned
 returned-done x f fs w p q = go (w .chain) refl
   where
     go : (cs : List Active) → w .chain ≡ cs → Done x (view w) (returnedOn cs x (popTo f fs w))
-    go [] r = d-works (pops f fs p (inr r) done)
+    go [] r = d-works (pops f fs refl p (inr r) done)
     go (a ∷ chain) r = d-returns (view w) f fs a chain done (return-done x f fs w a chain p q r)
 
 pub finish-done : (kind : ResultKind) (v : ℕ) (w : World) → Done (madeWord (toDyn kind v w .answer)) (view w) (finish kind v w .world)
@@ -120,16 +121,16 @@ finish-done kind v w = go (w .frames) refl
     made : After WordOr
     made = toDyn kind v w
 
-    written : (dst : ℕ) (u : World) (r : Opt) → Worked m-ending (view u) (view (writeResult dst r u))
+    written : (dst : ℕ) (u : World) (r : Opt) → Worked none m-ending (view u) (view (writeResult dst r u))
     written dst u Opt.None = done
-    written dst u (Opt.Some x) = puts dst x done
+    written dst u (Opt.Some x) = puts dst x tt done
 
-    writing : (dst : ℕ) (u : World) (r : Opt) {z : View} → Worked m-ending (view (writeResult dst r u)) z → Worked m-ending (view u) z
+    writing : (dst : ℕ) (u : World) (r : Opt) {z : View} → Worked none m-ending (view (writeResult dst r u)) z → Worked none m-ending (view u) z
     writing dst u Opt.None t = t
-    writing dst u (Opt.Some x) t = puts dst x t
+    writing dst u (Opt.Some x) t = puts dst x tt t
 
-    dyn : (dst : ℕ) (u : World) (m : WordOr) → Worked m-ending (view u) (view (resumeIn (writeMade dst u m .world) (writeMade dst u m .answer) .world))
-    dyn dst u (WordOr.Word x) = puts dst x (resume-worked (putReg dst x u) Fault.None)
+    dyn : (dst : ℕ) (u : World) (m : WordOr) → Worked none m-ending (view u) (view (resumeIn (writeMade dst u m .world) (writeMade dst u m .answer) .world))
+    dyn dst u (WordOr.Word x) = puts dst x tt (resume-worked (putReg dst x u) Fault.None)
     dyn dst u (WordOr.Refused f) = resume-worked u f
 
     body : (f : Frame) (fs : List Frame) → w .frames ≡ f ∷ fs → isCoro (f .cont) ≡ true → (m : WordOr) → made .answer ≡ m → Done (madeWord (made .answer)) (view (made .world)) (returnMade f fs (made .world) m .world)
@@ -137,13 +138,13 @@ finish-done kind v w = go (w .frames) refl
     body f fs p q (WordOr.Refused y) e = d-works done
 
     top : (f : Frame) (fs : List Frame) → w .frames ≡ f ∷ fs → (c : Cont) → f .cont ≡ c → Done (madeWord (made .answer)) (view w) (finishAs c f fs kind v w .world)
-    top f fs p Cont.Entry q = d-works (pops f fs p (inl (ap isCoro q)) done)
-    top f fs p (Cont.Write dst) q = d-works (pops f fs p (inl (ap isCoro q)) (writing dst (popTo f fs w) (resultOf kind v) (resume-worked (writeResult dst (resultOf kind v) (popTo f fs w)) Fault.None)))
+    top f fs p Cont.Entry q = d-works (pops f fs refl p (inl (ap isCoro q)) done)
+    top f fs p (Cont.Write dst) q = d-works (pops f fs refl p (inl (ap isCoro q)) (writing dst (popTo f fs w) (resultOf kind v) (resume-worked (writeResult dst (resultOf kind v) (popTo f fs w)) Fault.None)))
     top f fs p (Cont.Dyn dst) q =
         let o = toDyn kind v (popTo f fs w) in
-        d-works (pops f fs p (inl (ap isCoro q)) (same-worked (dyn-same kind v (popTo f fs w)) (dyn dst (o .world) (o .answer))))
-    top f fs p (Cont.Value dst) q = d-works (pops f fs p (inl (ap isCoro q)) (puts dst (orNil (resultOf kind v)) (resume-worked (putReg dst (orNil (resultOf kind v)) (popTo f fs w)) Fault.None)))
-    top f fs p Cont.Discard q = d-works (pops f fs p (inl (ap isCoro q)) (resume-worked (popTo f fs w) Fault.None))
+        d-works (pops f fs refl p (inl (ap isCoro q)) (same-worked (dyn-same kind v (popTo f fs w)) (dyn dst (o .world) (o .answer))))
+    top f fs p (Cont.Value dst) q = d-works (pops f fs refl p (inl (ap isCoro q)) (puts dst (orNil (resultOf kind v)) tt (resume-worked (putReg dst (orNil (resultOf kind v)) (popTo f fs w)) Fault.None)))
+    top f fs p Cont.Discard q = d-works (pops f fs refl p (inl (ap isCoro q)) (resume-worked (popTo f fs w) Fault.None))
     top f fs p Cont.Coro q = then-done (λ y t. same-worked (dyn-same kind v w) t) (body f fs p (ap isCoro q) (made .answer) refl)
 
     go : (fs : List Frame) → w .frames ≡ fs → Done (madeWord (made .answer)) (view w) (finishOn fs kind v w .world)
@@ -154,13 +155,13 @@ finish-done kind v w = go (w .frames) refl
 
 -- the body x fails, and then more
 pub failing : (x : Frame) (xs : List Frame) (value : ℕ) (w : World) (a : Active) (chain : List Active) → w .frames ≡ x ∷ xs → isCoro (x .cont) ≡ true → w .chain ≡ a ∷ chain
-    → {z : View} → Worked m-ending (view (finishCoroutine (a .coro) CoroState.Failed value (withChain chain (popTo x xs w)))) z → Worked m-ending (view w) z
+    → {z : View} → Worked none m-ending (view (finishCoroutine (a .coro) CoroState.Failed value (withChain chain (popTo x xs w)))) z → Worked none m-ending (view w) z
 failing x xs value w a chain p q r {z} t =
     let v = withChain chain (popTo x xs w) in
     let y = finishCoroutine (a .coro) CoroState.Failed value v in
     let g = change-still v (a .coro) (inState CoroState.Failed) (ended value) in
-    fails x xs a chain (coreAt y) refl p q r (finish-ends (a .coro) CoroState.Failed value v)
-    (subst (λ n. Worked m-ending n z) (λ i. record { setup = g .setup i; stack = g .stack i; frames = g .frames i; chain = g .chain i; cores = coreAt y }) t)
+    fails x xs a chain (coreAt y) (refl, refl) p q r (finish-ends (a .coro) CoroState.Failed value v)
+    (subst (λ n. Worked none m-ending n z) (λ i. record { setup = g .setup i; stack = g .stack i; frames = g .frames i; chain = g .chain i; cores = coreAt y }) t)
 
 module _ (value f pc : ℕ) where
   -- what the search goes on with, where the frames are xs
@@ -182,7 +183,7 @@ module _ (value f pc : ℕ) where
       u = popTo x xs w
 
       go : (cs : List Active) → w .chain ≡ cs → Done nil (view w) (andThen (escapedOn cs value f pc u) (stopOr (search xs value f pc)) .world)
-      go [] r = then-done (λ y t. pops x xs p (inr r) t) (next u refl)
+      go [] r = then-done (λ y t. pops x xs refl p (inr r) t) (next u refl)
       go (a ∷ chain) r = test (closedBy (coro u (a .coro)) value)
         where
           y : World
@@ -193,17 +194,17 @@ module _ (value f pc : ℕ) where
           test false = then-done (λ n t. failing x xs value w a chain p q r t) (failed-to xs next (a .driver) (Stop.Failed value f pc) y (change-still (withChain chain u) (a .coro) (inState CoroState.Failed) (ended value) .frames))
 
   leaving : (x : Frame) (xs : List Frame) → Next xs → (w : World) → w .frames ≡ x ∷ xs → (c : Cont) → x .cont ≡ c → Done nil (view w) (escape c value f pc (search xs value f pc) (popTo x xs w) .world)
-  leaving x xs next w p Cont.Entry q = d-works (pops x xs p (inl (ap isCoro q)) done)
-  leaving x xs next w p (Cont.Write r) q = then-done (λ y t. pops x xs p (inl (ap isCoro q)) t) (next (popTo x xs w) refl)
-  leaving x xs next w p (Cont.Dyn r) q = then-done (λ y t. pops x xs p (inl (ap isCoro q)) t) (next (popTo x xs w) refl)
-  leaving x xs next w p (Cont.Value r) q = then-done (λ y t. pops x xs p (inl (ap isCoro q)) t) (next (popTo x xs w) refl)
-  leaving x xs next w p Cont.Discard q = then-done (λ y t. pops x xs p (inl (ap isCoro q)) t) (next (popTo x xs w) refl)
+  leaving x xs next w p Cont.Entry q = d-works (pops x xs refl p (inl (ap isCoro q)) done)
+  leaving x xs next w p (Cont.Write r) q = then-done (λ y t. pops x xs refl p (inl (ap isCoro q)) t) (next (popTo x xs w) refl)
+  leaving x xs next w p (Cont.Dyn r) q = then-done (λ y t. pops x xs refl p (inl (ap isCoro q)) t) (next (popTo x xs w) refl)
+  leaving x xs next w p (Cont.Value r) q = then-done (λ y t. pops x xs refl p (inl (ap isCoro q)) t) (next (popTo x xs w) refl)
+  leaving x xs next w p Cont.Discard q = then-done (λ y t. pops x xs refl p (inl (ap isCoro q)) t) (next (popTo x xs w) refl)
   leaving x xs next w p Cont.Coro q = escaped x xs next w p (ap isCoro q)
 
-  pub handled : (h : Handler) (w : World) (ch : Charge) → Worked m-ending (view w) (view (caught h value w ch .world))
-  handled h w (Charge.Done n) = tops (setPc (h .target)) (keeps-pc (h .target)) (puts (h .catch) value done)
+  pub handled : (h : Handler) (w : World) (ch : Charge) → Worked none m-ending (view w) (view (caught h value w ch .world))
+  handled h w (Charge.Done n) = tops (setPc (h .target)) (keeps-pc (h .target)) tt (puts (h .catch) value tt done)
   handled h w Charge.Spent = done
-  handled h w (Charge.Close n) = tops (setPc (h .target)) (keeps-pc (h .target)) (puts (h .catch) value done)
+  handled h w (Charge.Close n) = tops (setPc (h .target)) (keeps-pc (h .target)) tt (puts (h .catch) value tt done)
 
   looked : (x : Frame) (xs : List Frame) → Next xs → (w : World) → w .frames ≡ x ∷ xs → (c : Caught) → Done nil (view w) (searchAs c x xs value f pc (search xs value f pc) w .world)
   looked x xs next w p Caught.Nothing = leaving x xs next w p (x .cont) refl
@@ -231,7 +232,7 @@ unwind-done f pc w = valid (raisable f)
 
     store : (p : OptPc) → Done nil (view w) (unwindFault f (storeSome p w) .world)
     store OptPc.None = kinds w (eqb (numberOf f) 17) (leb (numberOf f) 8)
-    store (OptPc.Some p) = then-done (λ y t. tops (setPc p) (keeps-pc p) t) (kinds (storePc p w) (eqb (numberOf f) 17) (leb (numberOf f) 8))
+    store (OptPc.Some p) = then-done (λ y t. tops (setPc p) (keeps-pc p) tt t) (kinds (storePc p w) (eqb (numberOf f) 17) (leb (numberOf f) 8))
 
     valid : (b : Bool) → Done nil (view w) (pick b (unwindFault f (storeSome pc w)) (after w (Answer.Refused Fault.Unsound)) .world)
     valid true = store pc

@@ -3,6 +3,7 @@ use Prim.Native.Nat.{ℕ, _+_}
 use mathlib.Core.Path.{_≡_, refl, sym, ap, _∙_, subst}
 use mathlib.Core.Bool.{Bool, true, false, not, _&&_, _||_}
 use mathlib.Core.List.{List, _∷_}
+use mathlib.Core.Option.{Option, none, some}
 use lib.ListN.{getD}
 use Rattle.lists.specs.Pick.{pick}
 use Rattle.heap.specs.Word.{nil}
@@ -33,7 +34,8 @@ use Rattle.model.specs.declared.exec.Step.{Step}
 use Rattle.model.specs.declared.call.OptPc.{OptPc}
 use Rattle.model.specs.declared.call.Op.{Op}
 use Rattle.claims.specs.Engine.{isNew, seenIn, is}
-use Rattle.claims.specs.Says.{nothing, gets, closes}
+use Rattle.claims.specs.Says as Says
+use Rattle.claims.specs.Says.{Sent, nothing, gets, closes}
 use Rattle.claims.specs.Held.{By}
 use Rattle.claims.specs.Demand3 as D
 use Rattle.claims.specs.Events.{answers}
@@ -49,7 +51,6 @@ use Rattle.claims.proofs.Views.{new-state}
 use Rattle.claims.proofs.Claim.{Entering, entering, entry-sound}
 use Rattle.claims.proofs.Exact.{number-sound}
 use Rattle.claims.proofs.Restores.{enters-old, entry-by}
-use Rattle.claims.proofs.Begins.{what}
 
 -- one that has not begun
 newIn : Coroutine → Bool
@@ -279,6 +280,11 @@ new-is w c = go (coro w c)
     go : (x : Coroutine) → newIn x ≡ seenIn (λ y. isNew (y .state)) (seenOf x)
     go Absent = refl
     go (Is k r) = sym (new-state (k .state))
+
+-- what is sent
+what : Option Says.Entry → Sent
+what none = nothing
+what (some e) = e .sent
 
 -- WHAT AN ENTRY ANSWERS
 pub entry-answers : (c : ℕ) (w : World) (k : Call) → D.Enters steps c w k → (b : By (viewOf w) (opOf k) c) → numberOf (step w k .answer) ≡ answers (is (viewOf w) isNew c) (b .sent)

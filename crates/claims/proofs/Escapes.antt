@@ -42,10 +42,10 @@ use Rattle.claims.proofs.Endings.{return-done, failing, handled}
 -- ---- moves, and then perhaps a return
 
 pub data Ended (v : View) (o : After Answer) : Option ℕ → Type 0 where
-  e-works : Worked m-ending v (view (o .world)) → Ended v o none
-  e-returns : (u : View) (f : Frame) (fs : List Frame) (a : Active) (chain : List Active) → Worked m-ending v u → Return u nil f fs a chain (o .world) → numberOf (o .answer) ≡ 0 → Ended v o (some (a .coro))
+  e-works : Worked none m-ending v (view (o .world)) → Ended v o none
+  e-returns : (u : View) (f : Frame) (fs : List Frame) (a : Active) (chain : List Active) → Worked none m-ending v u → Return u nil f fs a chain (o .world) → numberOf (o .answer) ≡ 0 → Ended v o (some (a .coro))
 
-pub then-ended : {v u : View} {o : After Answer} {who : Option ℕ} → ((y : View) → Worked m-ending u y → Worked m-ending v y) → Ended u o who → Ended v o who
+pub then-ended : {v u : View} {o : After Answer} {who : Option ℕ} → ((y : View) → Worked none m-ending u y → Worked none m-ending v y) → Ended u o who → Ended v o who
 then-ended {o = o} g (e-works t) = e-works (g (view (o .world)) t)
 then-ended g (e-returns u f fs a chain t r n) = e-returns u f fs a chain (g u t) r n
 
@@ -155,7 +155,7 @@ module _ (v : Engine.View) (value f pc : ℕ) where
   body-left : (x : Frame) (xs : List Frame) → Next xs → (w : World) → w .frames ≡ x ∷ xs → isCoro (x .cont) ≡ true → Sees v w → (cs : List Active) → w .chain ≡ cs
       → Ended (view w) (andThen (escapedOn cs value f pc (popTo x xs w)) (stopOr (search xs value f pc))) (Events.leaving Cont.Coro v value cs (escaped v value xs))
   unfolding pick
-  body-left x xs next w p q h [] r = subst (λ cs. Ended (view w) (search xs value f pc (popTo x xs w)) (escaped v value xs cs)) r (then-ended (λ y t. pops x xs p (inr r) t) (next (popTo x xs w) refl (record { handlers = h .handlers; coros = h .coros })))
+  body-left x xs next w p q h [] r = subst (λ cs. Ended (view w) (search xs value f pc (popTo x xs w)) (escaped v value xs cs)) r (then-ended (λ y t. pops x xs refl p (inr r) t) (next (popTo x xs w) refl (record { handlers = h .handlers; coros = h .coros })))
   body-left x xs next w p q h (a ∷ chain) r =
       let all = subst (AllSeen v (w .slots)) r (h .coros) in
       let g = failed-still value x xs a chain w in
@@ -166,11 +166,11 @@ module _ (v : Engine.View) (value f pc : ℕ) where
 
   leaving : (x : Frame) (xs : List Frame) → Next xs → (w : World) → w .frames ≡ x ∷ xs → Sees v w → (c : Cont) → x .cont ≡ c → Ended (view w) (escape c value f pc (search xs value f pc) (popTo x xs w)) (Events.leaving c v value (w .chain) (escaped v value xs))
   unfolding coroEscaped
-  leaving x xs next w p h Cont.Entry q = e-works (pops x xs p (inl (ap isCoro q)) done)
-  leaving x xs next w p h (Cont.Write r) q = then-ended (λ y t. pops x xs p (inl (ap isCoro q)) t) (next (popTo x xs w) refl (record { handlers = h .handlers; coros = h .coros }))
-  leaving x xs next w p h (Cont.Dyn r) q = then-ended (λ y t. pops x xs p (inl (ap isCoro q)) t) (next (popTo x xs w) refl (record { handlers = h .handlers; coros = h .coros }))
-  leaving x xs next w p h (Cont.Value r) q = then-ended (λ y t. pops x xs p (inl (ap isCoro q)) t) (next (popTo x xs w) refl (record { handlers = h .handlers; coros = h .coros }))
-  leaving x xs next w p h Cont.Discard q = then-ended (λ y t. pops x xs p (inl (ap isCoro q)) t) (next (popTo x xs w) refl (record { handlers = h .handlers; coros = h .coros }))
+  leaving x xs next w p h Cont.Entry q = e-works (pops x xs refl p (inl (ap isCoro q)) done)
+  leaving x xs next w p h (Cont.Write r) q = then-ended (λ y t. pops x xs refl p (inl (ap isCoro q)) t) (next (popTo x xs w) refl (record { handlers = h .handlers; coros = h .coros }))
+  leaving x xs next w p h (Cont.Dyn r) q = then-ended (λ y t. pops x xs refl p (inl (ap isCoro q)) t) (next (popTo x xs w) refl (record { handlers = h .handlers; coros = h .coros }))
+  leaving x xs next w p h (Cont.Value r) q = then-ended (λ y t. pops x xs refl p (inl (ap isCoro q)) t) (next (popTo x xs w) refl (record { handlers = h .handlers; coros = h .coros }))
+  leaving x xs next w p h Cont.Discard q = then-ended (λ y t. pops x xs refl p (inl (ap isCoro q)) t) (next (popTo x xs w) refl (record { handlers = h .handlers; coros = h .coros }))
   leaving x xs next w p h Cont.Coro q = body-left x xs next w p (ap isCoro q) h (w .chain) refl
 
   looked : (x : Frame) (xs : List Frame) → Next xs → (w : World) → w .frames ≡ x ∷ xs → Sees v w → {c : Caught} {b : Bool} → Looks (func (w .setup) (x .func) .handlers) (x .pc) c b

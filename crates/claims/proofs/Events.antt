@@ -6,7 +6,7 @@ use mathlib.Core.Path.{_≡_, refl, sym, ap, _∙_, subst}
 use mathlib.Core.Logic.{_⊎_, inl, inr}
 use mathlib.Core.Bool.{Bool, true, false, _||_}
 use mathlib.Core.List.{List, _∷_}
-use mathlib.Core.Option.{none}
+use mathlib.Core.Option.{Option, none}
 use Rattle.heap.specs.declared.object.CoroState.{CoroState}
 use Rattle.model.specs.State.{isCreated, isRunning, isSuspended, isResumable}
 use Rattle.model.specs.World.{World}
@@ -15,6 +15,7 @@ use Rattle.model.specs.declared.machine.Active.{Active}
 use Rattle.model.specs.declared.machine.Frame.{Frame}
 use Rattle.model.specs.declared.call.Op.{Op}
 use Rattle.claims.specs.Says.{Sent}
+use Rattle.claims.specs.Touches.{May}
 use Rattle.claims.proofs.Entry.{suspends, at, Entry, entry, nobody, act, entryBy, pcBy}
 use Rattle.claims.proofs.Suspension.{suspendsIn, takesBy}
 use Rattle.claims.proofs.Held.{Seat, coreAt}
@@ -88,13 +89,13 @@ module _ (P : CoroState → Bool) (idle : (s : CoroState) → busy s ≡ false �
       go (yes q) = ap (λ y. P (l y .state)) q ∙ mine (e .mine) (ap (λ y. P (k y .state)) (sym q) ∙ h)
       go (no q) = ap (λ y. P (y .state)) (e .others u q) ∙ h
 
-  pub not-worked : (c : ℕ) {b : Mode} {v z : View} → Worked b v z → P (v .cores c .state) ≡ false → P (z .cores c .state) ≡ false
+  pub not-worked : (c : ℕ) {m : Option May} {b : Mode} {v z : View} → Worked m b v z → P (v .cores c .state) ≡ false → P (z .cores c .state) ≡ false
   not-worked c done h = h
   not-worked c (quiet k q t) h = not-worked c t (not-kept (q c) h)
-  not-worked c (tops g e t) h = not-worked c t h
-  not-worked c (puts r x t) h = not-worked c t h
-  not-worked c (pushes f xs p q t) h = not-worked c t h
-  not-worked c (pops f fs p q t) h = not-worked c t h
+  not-worked c (tops g e s t) h = not-worked c t h
+  not-worked c (puts r x a t) h = not-worked c t h
+  not-worked c (pushes f xs a p q) h = h
+  not-worked c (pops f fs free p q t) h = not-worked c t h
   not-worked c (fails f fs a chain k y p q r e t) h = not-worked c t (not-ends e refl c h)
 
   -- of a call that is no entry of c and no suspension of it
@@ -196,13 +197,13 @@ module _ (c : ℕ) (k : Seat) where
       of (inl x) = inl (ap (λ (y : Seat). y .seen) (sym h) ∙ x .0)
       of (inr x) = inr x
 
-  keep-worked : {b : Mode} {v z : View} → Firm c k b → Worked b v z → Apart c (v .chain) → v .cores c ≡ k → Apart c (z .chain) × (z .cores c ≡ k)
+  keep-worked : {m : Option May} {b : Mode} {v z : View} → Firm c k b → Worked m b v z → Apart c (v .chain) → v .cores c ≡ k → Apart c (z .chain) × (z .cores c ≡ k)
   keep-worked f done n h = (n, h)
   keep-worked f (quiet l q t) n h = keep-worked f t n (stays f (q c) h)
-  keep-worked f (tops g e t) n h = keep-worked f t n h
-  keep-worked f (puts r x t) n h = keep-worked f t n h
-  keep-worked f (pushes g xs p q t) n h = keep-worked f t n h
-  keep-worked f (pops g fs p q t) n h = keep-worked f t n h
+  keep-worked f (tops g e s t) n h = keep-worked f t n h
+  keep-worked f (puts r x a t) n h = keep-worked f t n h
+  keep-worked f (pushes g xs a p q) n h = (n, h)
+  keep-worked f (pops g fs free p q t) n h = keep-worked f t n h
   keep-worked f (fails g fs a chain l y p q r e t) n h =
       let m : Apart c (a ∷ chain) = subst (Apart c) r n in
       keep-worked f t (m .1) (e .others c (m .0) ∙ h)

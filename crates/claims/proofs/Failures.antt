@@ -179,7 +179,7 @@ module _ (v : Engine.View) (value f pc : ℕ) where
   body-left x xs next w p q h rs (a ∷ chain) r =
       by-signal v value f pc (search xs value f pc) x xs w a chain all (Loses value w) [] (a .coro ∷ pick (goesOn (a .driver)) (lost v value xs chain) []) (loses-return w _ (a .coro) (return-done nil x xs w a chain p q r .ends) ran refl)
       (let e = finish-ends (a .coro) CoroState.Failed value u in
-      loses-more value w (failedBy value x xs a chain w) rest (a .coro) (pick (goesOn (a .driver)) (lost v value xs chain) []) (record { mine = e .mine; others = e .others }) (run-seen (a .coro) CoroState.Failed value u ran) ran then)
+      loses-more value w (failedBy value x xs a chain w) rest (a .coro) (pick (goesOn (a .driver)) (lost v value xs chain) []) (record { mine = e .mine; others = e .others }) (run-seen (a .coro) CoroState.Failed value u refl ran) ran then)
     where
       u : World
       u = withChain chain (popTo x xs w)

@@ -6,6 +6,7 @@ use mathlib.Core.Path.{_≡_, refl, sym, ap, _∙_, subst}
 use mathlib.Core.Logic.{_≢_, _⊎_, inl, inr}
 use mathlib.Core.Bool.{Bool, true, false, _||_}
 use mathlib.Core.List.{List, [], _∷_, _++_, map}
+use mathlib.Core.Option.{Option}
 use lib.ListN.{length, take}
 use lib.Seq.{take-append-le, take-append-seam, take-take}
 use Rattle.heap.specs.declared.object.CoroState.{CoroState}
@@ -21,6 +22,7 @@ use Rattle.model.specs.declared.machine.Active.{Active}
 use Rattle.model.specs.declared.machine.Frame.{Frame}
 use Rattle.model.specs.declared.call.Op.{Op}
 use Rattle.claims.specs.Says.{Sent}
+use Rattle.claims.specs.Touches.{May}
 use Rattle.claims.proofs.Entry.{at, suspends, act, pcBy}
 use Rattle.claims.proofs.Held.{Seat, coreAt, wordsWith, framesWith, Event, Yields, Awaits, Ignores, Returns, eventAs, eventBy, Mem, mem, put, send, deliverTo}
 use Rattle.claims.proofs.Cores.{no-both, Kept, kept, unborn, Mode}
@@ -113,13 +115,13 @@ module _ (c : ℕ) (d : Driver) (bs : List ℕ) (bf : List Frame) (bc : List Act
       go (inl x) = ap (λ y. l y .state) (sym q) ∙ ap (λ y. y .state) x
       go (inr x) = no-both (x .0) (run-born (k v .state) (ap (λ y. isRunning (k y .state)) q ∙ r))
 
-  lost-worked : {b : Mode} {v z : View} → Worked b v z → Lost v → Lost z
+  lost-worked : {m : Option May} {b : Mode} {v z : View} → Worked m b v z → Lost v → Lost z
   lost-worked done h = h
   lost-worked (quiet k q t) h = lost-worked t (record { failed = kept-failed (q c) (h .failed); gone = h .gone })
-  lost-worked (tops g e t) h = lost-worked t (record { failed = h .failed; gone = h .gone })
-  lost-worked (puts r x t) h = lost-worked t (record { failed = h .failed; gone = h .gone })
-  lost-worked (pushes f xs p q t) h = lost-worked t (record { failed = h .failed; gone = h .gone })
-  lost-worked (pops f fs p q t) h = lost-worked t (record { failed = h .failed; gone = h .gone })
+  lost-worked (tops g e s t) h = lost-worked t (record { failed = h .failed; gone = h .gone })
+  lost-worked (puts r x a t) h = lost-worked t (record { failed = h .failed; gone = h .gone })
+  lost-worked (pushes f xs a p q) h = (record { failed = h .failed; gone = h .gone })
+  lost-worked (pops f fs free p q t) h = lost-worked t (record { failed = h .failed; gone = h .gone })
   lost-worked (fails f fs a chain k y p q r e t) h =
       let m : Apart c (a ∷ chain) = subst (Apart c) r (h .gone) in
       lost-worked t (record { failed = ap (λ x. x .state) (e .others c (m .0)) ∙ h .failed; gone = m .1 })
@@ -150,16 +152,16 @@ module _ (c : ℕ) (d : Driver) (bs : List ℕ) (bf : List Frame) (bc : List Act
             runs = ap (λ y. isRunning (y .state)) (e .others c (λ y. m (sym y))) ∙ u .runs;
           })
 
-  pub worked-under : {b : Mode} {v z : View} → Worked b v z → U v → U z ⊎ L z
+  pub worked-under : {m : Option May} {b : Mode} {v z : View} → Worked m b v z → U v → U z ⊎ L z
   worked-under done u = inl u
   worked-under (quiet k q t) u = worked-under t (record { over = u .over; runs = kept-runs c d bs bf bc (q c) (u .runs) })
-  worked-under (tops {v} g e t) u = worked-under t (record { over = over-top c d bs bf bc g e (mem (v .stack) (v .frames)) (u .over); runs = u .runs })
-  worked-under (puts {v} r x t) u = worked-under t (record { over = over-put c d bs bf bc r x (mem (v .stack) (v .frames)) (u .over); runs = u .runs })
-  worked-under (pushes {v} f xs p q t) u = worked-under t (record { over = over-push c d bs bf bc f xs (mem (v .stack) (v .frames)) p q (u .over); runs = u .runs })
-  worked-under (pops {v} f fs p q t) u =
+  worked-under (tops {v} g e s t) u = worked-under t (record { over = over-top c d bs bf bc g e (mem (v .stack) (v .frames)) (u .over); runs = u .runs })
+  worked-under (puts {v} r x a t) u = worked-under t (record { over = over-put c d bs bf bc r x (mem (v .stack) (v .frames)) (u .over); runs = u .runs })
+  worked-under (pushes {v} f xs a p q) u = inl (record { over = over-push c d bs bf bc f xs (mem (v .stack) (v .frames)) p q (u .over); runs = u .runs })
+  worked-under (pops {v} f fs free p q t) u =
       let x = pop-ext c d bs bf bc f fs (v .chain) (subst (λ x. Ext c d bf bc (length bs) x (v .chain)) p (u .over .ext)) q in
       worked-under t (record { over = record { ext = x .1; words = cut-words c d bs bf bc (f .base) (v .stack) (x .0) (u .over .words) }; runs = u .runs })
-  worked-under {z = z} (fails {v} f fs a rs k y p q r e t) u = go (worked-under t) (fail-cases v f fs a rs k p q r e u)
+  worked-under {z = z} (fails {v} f fs a rs k y p q r e t) u = go (λ x. worked-under t x) (fail-cases v f fs a rs k p q r e u)
     where
       n : View
       n = record { setup = v .setup; stack = take (f .base) (v .stack); frames = fs; chain = rs; cores = k }

@@ -3,6 +3,7 @@ use Prim.Native.Nat.{ℕ}
 use mathlib.Core.Path.{_≡_, refl, sym, ap, _∙_, subst}
 use mathlib.Core.Bool.{Bool, true, false, not, _&&_}
 use mathlib.Core.List.{List, [], _∷_, _++_, map}
+use mathlib.Core.Option.{Option}
 use lib.ListN.{length, take}
 use Rattle.lists.specs.Pick.{pick}
 use Rattle.heap.specs.Table.{Slot}
@@ -28,16 +29,17 @@ use Rattle.model.specs.declared.call.OptPc.{OptPc}
 use Rattle.model.specs.declared.call.Op.{Op}
 use Rattle.claims.specs.Says.{Sent}
 use Rattle.claims.specs.Held.{closedBy}
+use Rattle.claims.specs.Touches.{May, mayTouch}
 use Rattle.claims.proofs.Entry.{Aim, enters, suspends, neither, at, act, Entry, nobody, entry, accepts, sentTo, aimed, charged, entryBy, pcBy}
 use Rattle.claims.proofs.Suspension.{suspendsIn, paidBy, takesBy}
 use Rattle.claims.proofs.Held.{coreIn, coreAt, wordsWith, framesWith, heldAs, eventAs, mem, deliverTo}
 use Rattle.claims.proofs.Cores.{coroIn, Kept, Mode, m-plain}
 use Rattle.claims.proofs.Shape as S
-use Rattle.claims.proofs.Shape.{View, view, Worked, done, tops, Enter, Suspend, Shape, modeBy, modeOf}
+use Rattle.claims.proofs.Shape.{View, view, Stores, Worked, done, tops, Enter, Suspend, Shape, modeBy, modeOf}
 use Rattle.claims.proofs.Under.{keeps-pc}
 use Rattle.claims.proofs.Enters.{length-top, coro-slots, accepts-reads, Ready, r-same, r-stored, ChargeCase, c-done, c-spent, c-close, charge-case}
 
--- ---- v reads as w, but for the top pc, and comes from it by storing at most that
+-- ---- v reads as w, but for the top pc
 
 pub record Alike (p : ℕ) (w v : World) : Type 0 where
   pub setup : v .setup ≡ w .setup
@@ -48,7 +50,6 @@ pub record Alike (p : ℕ) (w v : World) : Type 0 where
   pub chain : v .chain ≡ w .chain
   pub slots : v .slots ≡ w .slots
   pub used : v .used ≡ w .used
-  pub works : (b : Mode) (z : View) → Worked b (view v) z → Worked b (view w) z
 
 base-top : (p : ℕ) (fs : List Frame) → topBase (onTop (setPc p) fs) ≡ topBase fs
 base-top p [] = refl
@@ -69,7 +70,6 @@ alike {p} {w} {v} (r-same a b c d e g) =
       chain = d;
       slots = e;
       used = g;
-      works = λ n z t. subst (λ x. Worked n x z) (λ i. record { setup = a i; stack = b i; frames = c i; chain = d i; cores = λ x. coreIn (coroIn (e i) x) }) t;
     }
 alike {p} {w} {v} (r-stored s) =
     record {
@@ -81,8 +81,13 @@ alike {p} {w} {v} (r-stored s) =
       chain = s .chain;
       slots = s .slots;
       used = s .used;
-      works = λ b z t. tops (setPc p) (keeps-pc p) (subst (λ x. Worked b x z) (λ i. record { setup = s .setup i; stack = s .stack i; frames = s .frames i; chain = s .chain i; cores = λ x. coreIn (coroIn (s .slots i) x) }) t);
     }
+
+-- and then more, if it may store that pc
+ready-works : {m : Option May} {p : ℕ} {w v : World} → Stores m (setPc p) → Ready p w v → (b : Mode) (z : View) → Worked m b (view v) z → Worked m b (view w) z
+ready-works {m} {p} {w} {v} may (r-same a b c d e g) n z t = subst (λ x. Worked m n x z) (λ i. record { setup = a i; stack = b i; frames = c i; chain = d i; cores = λ x. coreIn (coroIn (e i) x) }) t
+ready-works {m} {p} {w} {v} may (r-stored s) n z t =
+    tops (setPc p) (keeps-pc p) may (subst (λ x. Worked m n x z) (λ i. record { setup = s .setup i; stack = s .stack i; frames = s .frames i; chain = s .chain i; cores = λ x. coreIn (coroIn (s .slots i) x) }) t)
 
 module _ {p : ℕ} {w v : World} (a : Alike p w v) where
   pub coro-alike : (c : ℕ) → coro v c ≡ coro w c
@@ -127,17 +132,17 @@ module _ {p : ℕ} {w v : World} (a : Alike p w v) where
 
 -- ---- what an arm owes, at the world v that its charge left
 
--- t: whether coro_suspend accepts in it
-pub data Arm (v : World) (p : ℕ) (x : Aim) (t : Bool) (z : World) : Type 0 where
-  a-works : t ≡ false → aimed x v ≡ nobody → Worked (modeBy x) (view v) (view z) → Arm v p x t z
-  a-enters : t ≡ false → (c : ℕ) (d : Driver) (sent : Sent) → aimed x v ≡ entry c d sent → Enter v p c d sent z → Arm v p x t z
-  a-suspends : t ≡ true → (s : CoroState) (dst y : ℕ) (a : Active) (chain : List Active) → x ≡ suspends s dst y → Suspend v p s dst y a chain z → Arm v p x t z
+-- m: what it may touch; t: whether coro_suspend accepts in it
+pub data Arm (m : Option May) (v : World) (p : ℕ) (x : Aim) (t : Bool) (z : World) : Type 0 where
+  a-works : t ≡ false → aimed x v ≡ nobody → Worked m (modeBy x) (view v) (view z) → Arm m v p x t z
+  a-enters : t ≡ false → (c : ℕ) (d : Driver) (sent : Sent) → aimed x v ≡ entry c d sent → Enter v p c d sent z → Arm m v p x t z
+  a-suspends : t ≡ true → (s : CoroState) (dst y : ℕ) (a : Active) (chain : List Active) → x ≡ suspends s dst y → Suspend v p s dst y a chain z → Arm m v p x t z
 
 -- F: what the instruction is after, read off the top base, the stack and the slots
 pub instr-shape : (w : World) (o : Op) (p : ℕ) (ok : Bool) (F : ℕ → List ℕ → List (Slot Object) → Aim) (arm : World → After Step) → act w o ≡ at p ok (F (topBase (w .frames)) (w .stack) (w .slots))
-    → ((v : World) → Arm v p (F (topBase (v .frames)) (v .stack) (v .slots)) (suspendsIn o v) (arm v .world)) → Shape w o (instruction p ok arm w .world)
+    → Stores (mayTouch o) (setPc p) → ((v : World) → Arm (mayTouch o) v p (F (topBase (v .frames)) (v .stack) (v .slots)) (suspendsIn o v) (arm v .world)) → Shape w o (instruction p ok arm w .world)
 unfolding instruction pick
-instr-shape w o p ok F arm e owes = gate (isNil (w .frames)) ok refl refl
+instr-shape w o p ok F arm e may owes = gate (isNil (w .frames)) ok refl refl
   where
     aim : World → Aim
     aim u = F (topBase (u .frames)) (u .stack) (u .slots)
@@ -160,16 +165,16 @@ instr-shape w o p ok F arm e owes = gate (isNil (w .frames)) ok refl refl
     aims : {v : World} → Alike p w v → entryBy (act w o) w ≡ aimed (aim w) w → {y : Entry} → aimed (aim v) v ≡ y → entryBy (act w o) w ≡ y
     aims {v} a q x = q ∙ sym (aimed-alike a (aim w)) ∙ ap (λ y. aimed y v) (sym (aim-same a)) ∙ x
 
-    armed : {v : World} (z : World) → Alike p w v → entryBy (act w o) w ≡ aimed (aim w) w → takesBy (act w o) (suspendsIn o) w ≡ suspendsIn o v → Arm v p (aim v) (suspendsIn o v) z → Shape w o z
-    armed {v} z a q h (a-works b x t) = S.works (record { entry = aims a q x; takes = h ∙ b }) (modeBy (aim v)) (ap modeOf e ∙ ap modeBy (sym (aim-same a))) (a .works (modeBy (aim v)) (view z) t)
-    armed {v} z a q h (a-enters b c d sent x t) = entering (record { entry = aims a q x; takes = h ∙ b }) (enter-alike a t)
-    armed {v} z a q h (a-suspends b s dst y n chain x t) =
+    armed : {v : World} (z : World) → Ready p w v → Alike p w v → entryBy (act w o) w ≡ aimed (aim w) w → takesBy (act w o) (suspendsIn o) w ≡ suspendsIn o v → Arm (mayTouch o) v p (aim v) (suspendsIn o v) z → Shape w o z
+    armed {v} z r a q h (a-works b x t) = S.works (record { entry = aims a q x; takes = h ∙ b }) (modeBy (aim v)) (ap modeOf e ∙ ap modeBy (sym (aim-same a))) (ready-works may r (modeBy (aim v)) (view z) t)
+    armed {v} z r a q h (a-enters b c d sent x t) = entering (record { entry = aims a q x; takes = h ∙ b }) (enter-alike a t)
+    armed {v} z r a q h (a-suspends b s dst y n chain x t) =
         let k : aim w ≡ suspends s dst y = sym (aim-same a) ∙ x in
         S.suspended p ok s dst y n chain (record { entry = q ∙ ap (λ m. aimed m w) k; takes = h ∙ b }) (e ∙ ap (at p ok) k) (suspend-alike a t)
 
     paid : (ch : After Charge) → entryBy (act w o) w ≡ charged (ch .answer) w (aimed (aim w) w) → takesBy (act w o) (suspendsIn o) w ≡ paidBy (suspendsIn o) (ch .world) (ch .answer) → ChargeCase p w ch → Shape w o (Gate.charged arm (ch .world) (ch .answer) .world)
-    paid ch q h (c-done n v r) = armed (arm v .world) (alike r) q h (owes v)
-    paid ch q h (c-spent v r) = S.works (record { entry = q; takes = h }) (modeOf (act w o)) refl (alike r .works (modeOf (act w o)) (view v) done)
+    paid ch q h (c-done n v r) = armed (arm v .world) r (alike r) q h (owes v)
+    paid ch q h (c-spent v r) = S.works (record { entry = q; takes = h }) (modeOf (act w o)) refl (ready-works may r (modeOf (act w o)) (view v) done)
     paid ch q h (c-close n c z x t) = entering (record { entry = q ∙ x; takes = h }) t
 
     gate : (a b : Bool) → isNil (w .frames) ≡ a → ok ≡ b → Shape w o (pick a (refused w Fault.NoFrame) (pick (not b) (refused w Fault.BadOperand) (andThen (charge (OptPc.Some p) w) (Gate.charged arm))) .world)

@@ -14,7 +14,7 @@ pub mod Quiet
 pub mod Enters
 pub mod Instr
 pub mod Arms
-pub mod Begins
+pub mod Wakes
 pub mod Deliver
 pub mod Switches
 pub mod Endings
@@ -48,6 +48,10 @@ pub mod Still
 pub mod States
 pub mod Paid
 pub mod Undone
+pub mod Touches
+pub mod Named
+pub mod Made
+pub mod Asks
 pub mod Exactly
 pub mod Operands
 pub mod Premises
@@ -57,3 +61,4 @@ pub mod Promise
 pub mod WrongEvents
 pub mod Wrong
 pub mod WrongHosts
+pub mod WrongTouches

@@ -43,6 +43,7 @@ use Rattle.claims.specs.Says.{nothing, gets, closes}
 use Rattle.claims.specs.Events as Said
 use Rattle.claims.specs.Events.{among, lost, lostAt, raised, Lost, thrown, escapes}
 use Rattle.claims.specs.Steps.{seenOf, viewOf, opOf, steps}
+use Rattle.claims.specs.Touches.{May}
 use Rattle.claims.proofs.Entry.{act}
 use Rattle.claims.proofs.Held.{Seat, coreIn, coreAt}
 use Rattle.claims.proofs.Split.{next}
@@ -174,18 +175,18 @@ module _ (w : World) (h : sound w ≡ true) where
 
 -- ---- other calls
 
-run-worked : (c : ℕ) {b : Mode} {v z : View} → (b ≡ m-ending → ⊥) → Worked b v z → isRunning (v .cores c .state) ≡ true → isRunning (z .cores c .state) ≡ true
+run-worked : (c : ℕ) {m : Option May} {b : Mode} {v z : View} → (b ≡ m-ending → ⊥) → Worked m b v z → isRunning (v .cores c .state) ≡ true → isRunning (z .cores c .state) ≡ true
 run-worked c e done h = h
 run-worked c e (quiet k q t) h = run-worked c e t (on (q c) h)
   where
     on : {m : Mode} {u : ℕ} {k l : Seat} → Kept m u k l → isRunning (k .state) ≡ true → isRunning (l .state) ≡ true
     on (kept e) h = ap (λ x. isRunning (x .state)) e ∙ h
     on {k = k} (unborn a b m n) h = no-both a (run-born (k .state) h)
-run-worked c e (tops g i t) h = run-worked c e t h
-run-worked c e (puts r x t) h = run-worked c e t h
-run-worked c e (pushes f xs p q t) h = run-worked c e t h
-run-worked c e (pops f fs p q t) h = run-worked c e t h
-run-worked c e (fails f fs a chain k y p q r i t) h = absurd (e y)
+run-worked c e (tops g i s t) h = run-worked c e t h
+run-worked c e (puts r x a t) h = run-worked c e t h
+run-worked c e (pushes f xs a p q) h = h
+run-worked c e (pops f fs free p q t) h = run-worked c e t h
+run-worked c e (fails f fs a chain k y p q r i t) h = absurd (e (y .0))
 
 -- only finish and unwind end those that run
 ending-act : (a : E.Act) → S.modeOf a ≡ m-ending → S.isEnding a ≡ true
@@ -224,7 +225,7 @@ stopped {w} {z} {o} c (S.suspended p ok s dst x a chain e q t) n r l = go (ℕ-d
     go : Dec (c ≡ a .coro) → o ≡ Op.StopRun
     go (yes y) = no-both l (ap (λ u. isFailed (coreAt z u .state)) y ∙ ap (λ k. isFailed (k .state)) (t .mine) ∙ susp-fails s (t .asleep))
     go (no y) = no-both l (on (t .others c y))
-stopped c (S.returns v x f fs a chain e en g t u) n r l = no-both en n
+stopped c (S.returns v x f fs a chain e en g t u) n r l = no-both (en .0) n
 stopped c (S.stops e i t) n r l = i
 
 finish-fails : (kind : ResultKind) (x : ℕ) (w : World) (c : ℕ) (o : After Answer) → isRunning (coreAt w c .state) ≡ true → FinishCase kind x w o → isFailed (coreAt (o .world) c .state) ≡ false

@@ -57,6 +57,9 @@ use Rattle.claims.proofs.Exact.{healthy-sound, number-sound, some-op}
 use Rattle.claims.proofs.Operands.{as-typed}
 use Rattle.claims.proofs.Premises.{premises-met}
 use Rattle.claims.proofs.Exactly.{events, demand3}
+use Rattle.claims.proofs.Touches.{touches}
+use Rattle.claims.proofs.Made.{creates}
+use Rattle.claims.proofs.Asks.{asks}
 use Rattle.claims.proofs.Values.{can-make, word-in}
 use Rattle.claims.proofs.Undone.{accepts-close, accepts-throw-new}
 use Rattle.claims.proofs.Roomy.{await-takes, kv-takes, yield-takes}
@@ -329,7 +332,7 @@ roomy-met =
         its-own = refl;
         chain = refl;
       };
-      seen = record { state = CoroState.Running; words = []; frames = []; mostWords = 4; mostFrames = 1; closing = false; signal = 0; result = 0 };
+      seen = record { state = CoroState.Running; words = []; frames = []; waits = 0; mostWords = 4; mostFrames = 1; closing = false; signal = 0; result = 0 };
       there = refl;
       grows = refl;
     }
@@ -371,6 +374,9 @@ promise =
     record {
       demand3 = demand3;
       events = events;
+      touches = touches;
+      creates = creates;
+      asks = asks;
       accepts = record {
         await = λ c w k pc dst src m e l. await-takes w 0 c m k pc dst src e l;
         yield-kv = λ c w k pc dst src key m e l. kv-takes w 0 c m k pc dst src key e l;

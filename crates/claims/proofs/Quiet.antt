@@ -31,6 +31,7 @@ use Rattle.model.specs.Exec.{keyExact, keyAt, autoKey, indirectTo, indirect, wi
 use Rattle.model.specs.declared.coro.WordOr.{WordOr}
 use Rattle.heap.specs.declared.heap.ResultKind.{ResultKind}
 use Rattle.claims.specs.Delivery.{recorded}
+use Rattle.claims.specs.Touches.{May}
 use Rattle.claims.specs.Steps.{seenOf}
 use Rattle.claims.proofs.Held.{Seat, coreIn, coreAt}
 use Rattle.claims.proofs.Cores.{no-both, busy, Mode, m-undoing, Kept, kept, unborn, objectIn, push-cases, set-mine, set-other, set-iter}
@@ -62,8 +63,8 @@ grown-kept {b} {w} {v} g c = go (g .finds c)
     go (inl e) = kept (ap coreIn e)
     go (inr e) = unborn (ap (λ x. isCreated (coreIn x .state)) (e .0)) (new-idle (coreAt v c .state) (e .1)) (λ _. e .2 ∙ sym (ap (λ x. coreIn x .closing) (e .0))) (inl (ap (λ x. coreIn x .seen) (e .0), e .1))
 
-pub grown-worked : {b : Mode} {w v : World} → Grown w v → {z : View} → Worked b (view v) z → Worked b (view w) z
-grown-worked {b} {w} {v} g {z} t = quiet (coreAt v) (grown-kept g) (subst (λ x. Worked b x z) (λ i. record { setup = g .setup i; stack = g .stack i; frames = g .frames i; chain = g .chain i; cores = coreAt v }) t)
+pub grown-worked : {m : Option May} {b : Mode} {w v : World} → Grown w v → {z : View} → Worked m b (view v) z → Worked m b (view w) z
+grown-worked {m} {b} {w} {v} g {z} t = quiet (coreAt v) (grown-kept g) (subst (λ x. Worked m b x z) (λ i. record { setup = g .setup i; stack = g .stack i; frames = g .frames i; chain = g .chain i; cores = coreAt v }) t)
 
 -- ---- alloc and what calls it
 
@@ -112,8 +113,8 @@ pub record Same (w v : World) : Type 0 where
 pub same-none : {w : World} → Same w w
 same-none = record { setup = refl; stack = refl; frames = refl; chain = refl; coros = λ c. refl }
 
-pub same-worked : {b : Mode} {w v : World} → Same w v → {z : View} → Worked b (view v) z → Worked b (view w) z
-same-worked {b} {w} {v} g {z} t = subst (λ x. Worked b x z) (λ i. record { setup = g .setup i; stack = g .stack i; frames = g .frames i; chain = g .chain i; cores = λ c. coreIn (g .coros c i) }) t
+pub same-worked : {m : Option May} {b : Mode} {w v : World} → Same w v → {z : View} → Worked m b (view v) z → Worked m b (view w) z
+same-worked {m} {b} {w} {v} g {z} t = subst (λ x. Worked m b x z) (λ i. record { setup = g .setup i; stack = g .stack i; frames = g .frames i; chain = g .chain i; cores = λ c. coreIn (g .coros c i) }) t
 
 pub alloc-same : (bytes : ℕ) (o : Object) (w : World) → asCoro o ≡ Absent → Same w (alloc bytes o w .world)
 unfolding alloc pick
@@ -190,8 +191,8 @@ pub record Calm (w v : World) : Type 0 where
   pub chain : v .chain ≡ w .chain
   pub cores : (c : ℕ) → coreAt v c ≡ coreAt w c
 
-pub calm-worked : {b : Mode} {w v : World} → Calm w v → {z : View} → Worked b (view v) z → Worked b (view w) z
-calm-worked {b} {w} {v} g {z} t = subst (λ x. Worked b x z) (λ i. record { setup = g .setup i; stack = g .stack i; frames = g .frames i; chain = g .chain i; cores = λ c. g .cores c i }) t
+pub calm-worked : {m : Option May} {b : Mode} {w v : World} → Calm w v → {z : View} → Worked m b (view v) z → Worked m b (view w) z
+calm-worked {m} {b} {w} {v} g {z} t = subst (λ x. Worked m b x z) (λ i. record { setup = g .setup i; stack = g .stack i; frames = g .frames i; chain = g .chain i; cores = λ c. g .cores c i }) t
 
 iter-calm : (v : ℕ) (f : Bool → Bool) (g : Opt → Opt) (w : World) → Calm w (changeIterIn (object w v) v f g w)
 iter-calm v f g w = go (object w v) refl

@@ -1,40 +1,36 @@
 -- Demand 3's first half in the claim's words: what a suspending call found stands again after the next entry.
-use Prim.Native.Nat.{ℕ, _+_}
-use native.Mathlib.Omega.{arith}
+use Prim.Native.Nat.{ℕ}
 use mathlib.Core.Path.{_≡_, refl, sym, ap, _∙_, subst}
 use mathlib.Core.Bool.{Bool, true, false}
 use mathlib.Core.List.{List, [], _∷_, _++_, map, append-assoc}
 use mathlib.Core.Option.{some}
-use lib.ListN.{length, drop, set}
+use lib.ListN.{length, drop}
 use Rattle.lists.specs.Pick.{pick}
 use Rattle.heap.specs.declared.fault.Fault.{Fault}
-use Rattle.model.specs.Lists.{isNil}
 use Rattle.model.specs.State.{isSuspended}
 use Rattle.model.specs.Program.{setupOk}
 use Rattle.model.specs.World.{World, fresh}
-use Rattle.model.specs.Frames.{onTop, setPc, stepPc, raise, lower, topBase}
+use Rattle.model.specs.Frames.{onTop, setPc, raise, lower}
 use Rattle.model.specs.Heap.{coro}
 use Rattle.model.specs.Gate.{refused}
 use Rattle.model.specs.Added.{accepted}
 use Rattle.model.specs.Answer.{numberOf}
 use Rattle.model.specs.Call.{Call, SetUp, Do}
 use Rattle.model.specs.Step.{step, told}
-use Rattle.model.specs.declared.machine.Frame.{Frame}
-use Rattle.claims.specs.Engine.{Seen, Turn, calls, refuels, run, isNew, seenIn}
-use Rattle.claims.specs.Says.{Does, doing, Sent, nothing, gets, closes}
+use Rattle.claims.specs.Engine.{Turn, calls, refuels, run}
+use Rattle.claims.specs.Says.{Does, doing}
 use Rattle.claims.specs.Held as H
-use Rattle.claims.specs.Held.{at, AllMoved, pcOf, waitsIn, stepped, into, given, closedBy, By, Entered, Restored}
+use Rattle.claims.specs.Held.{at, AllMoved, pcOf, waitsIn, stepped, woken, closedBy, By, Entered, Restored}
 use Rattle.claims.specs.Demand3 as D
-use Rattle.claims.specs.Steps.{seenOf, viewOf, opOf, steps}
+use Rattle.claims.specs.Steps.{viewOf, opOf, steps}
 use Rattle.claims.proofs.Entry as E
 use Rattle.claims.proofs.Entry.{act, pcBy}
 use Rattle.claims.proofs.Held.{Seat, coreIn, coreAt, wordsWith, framesWith}
 use Rattle.claims.proofs.Split.{next, Suspends, Enters, restarts, Waits}
 use Rattle.claims.proofs.Cores.{no-both}
-use Rattle.claims.proofs.Begins.{new-unsent, regs-seen, frames-seen, all-raised}
+use Rattle.claims.proofs.Wakes.{words-given, woken-with, regs-seen, frames-seen, waits-seen, all-raised}
 use Rattle.claims.proofs.Events.{run-susp, suspended-one, no-entry}
 use Rattle.claims.proofs.Under.{lift-with}
-use Rattle.claims.proofs.Enters.{set-append-at}
 use Rattle.claims.proofs.Sounds.{lifts}
 use Rattle.claims.proofs.Calls.{shape}
 use Rattle.claims.proofs.Claim.{StepCase, anew, same, does, step-case, fresh-absent, entry-sound, Entering, entering, sleep}
@@ -93,15 +89,11 @@ entered-at c w (Do o) z t =
       floor = b .floor;
       chain = t .enter .chain;
       closing = closer-at z c ∙ t .enter .closing ∙ ap (closedBy (t .sent)) (sym (closer-at w c));
-      new-words = λ x e n. t .enter .stack ∙ ap (λ y. w .stack ++ wordsWith y (coreAt w c)) (unsent x e n) ∙ ap (λ (xs : List ℕ). w .stack ++ xs) (regs-seen (coro w c) x e)
-          ∙ ap (λ y. given y (z .frames) 0 (w .stack ++ x .words)) (sym (unsent x e n));
-      new-frames = λ x e n. subst (AllMoved 0 (length (w .stack)) (x .frames))
-          (ap (map (raise (length (w .stack)))) (sym (frames-seen (coro w c) x e)) ∙ ap (λ y. map (raise (length (w .stack))) (framesWith y (coreAt w c))) (sym (unsent x e n)) ∙ b .frames)
-          (all-raised (length (w .stack)) (x .frames));
+      saved-words = λ x e.
+          t .enter .stack ∙ words-given (t .sent) (coreAt w c) (w .stack) (x .words) (x .waits) (z .frames) (onTop (setPc (pcBy (act w (o .op)))) (w .frames)) (t .enter .solid) (regs-seen (coro w c) x e) (waits-seen (coro w c) x e (t .enter .ready)) (t .enter .frames);
+      saved-frames = λ x e. subst (AllMoved 0 (length (w .stack)) (woken (t .sent) (x .frames)))
+          (ap (map (raise (length (w .stack)))) (ap (woken (t .sent)) (sym (frames-seen (coro w c) x e)) ∙ sym (woken-with (t .sent) (coreAt w c))) ∙ b .frames) (all-raised (length (w .stack)) (woken (t .sent) (x .frames)));
     }
-  where
-    unsent : (x : Seen) → seenOf (coro w c) ≡ some x → isNew (x .state) ≡ true → t .sent ≡ nothing
-    unsent x e n = new-unsent (viewOf w) (opOf (Do o)) c (t .driver) (t .sent) (pcBy (act w (o .op))) (entry-by c w (Do o) z t .says) (ap (seenIn (λ y. isNew (y .state))) e ∙ n)
 
 -- ---- what a suspending call finds
 
@@ -168,16 +160,6 @@ found c v k h = go (next v k) (step-case v k) (h .after)
         }
 
 -- ---- and what the entry makes of it
-
--- the sent word, in the waiting register of the frame that is now on top
-words-given : (sent : Sent) (s : Seat) (xs ys : List ℕ) (dst : ℕ) (gs fs : List Frame) → isNil (s .frames) ≡ false → s .regs ≡ ys → s .waiting ≡ dst → gs ≡ map (raise (length xs)) (framesWith sent s) ++ fs → xs ++ wordsWith sent s ≡ given sent gs dst (xs ++ ys)
-words-given nothing s xs ys dst gs fs n r q e = ap (λ (l : List ℕ). xs ++ l) r
-words-given (closes x) s xs ys dst gs fs n r q e = ap (λ (l : List ℕ). xs ++ l) r
-words-given (gets x) s xs ys dst gs fs n r q e = go (s .frames) n ∙ ap (λ hs. into hs dst x (xs ++ ys)) (sym e)
-  where
-    go : (hs : List Frame) → isNil hs ≡ false → xs ++ set (s .regs) (topBase hs + s .waiting) x ≡ into (map (raise (length xs)) (onTop stepPc hs) ++ fs) dst x (xs ++ ys)
-    go [] n = no-both refl n
-    go (f ∷ hs) n = (λ i. xs ++ set (r i) (f .base + q i) x) ∙ sym (set-append-at xs ys (f .base + length xs + dst) (f .base + dst) x (omega arith))
 
 restored-as : (c : ℕ) (v : World) (x : Call) (w : World) (y : Call) (z : World) (s : Seat) → Found v x c s → isSuspended (s .state) ≡ true → coreAt w c ≡ s → Entering c w y z → Restored (viewOf v) (opOf x) (viewOf w) (opOf y) c (viewOf z)
 unfolding entry-by entered-at

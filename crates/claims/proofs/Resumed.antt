@@ -83,7 +83,7 @@ module _ (n : ℕ) (no : (x : ℕ) → ltb 0 x ≡ true → leb x 4 ≡ true →
             tests true false true q = absurd (no 4 refl refl (sym (out u Fault.StackOverflow) ∙ q))
             tests true false false q = refl
 
-zero-not : (x : ℕ) → ltb 0 x ≡ true → leb x 4 ≡ true → x ≡ 0 → ⊥
+pub zero-not : (x : ℕ) → ltb 0 x ≡ true → leb x 4 ≡ true → x ≡ 0 → ⊥
 zero-not x a b e = no-both a (ap (ltb 0) e)
 
 -- c is entered

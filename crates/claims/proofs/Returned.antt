@@ -30,6 +30,7 @@ use Rattle.claims.specs.Delivery.{recorded}
 use Rattle.claims.specs.Events as Said
 use Rattle.claims.specs.Events.{inmost, isBody, onBody, suspended, returned}
 use Rattle.claims.specs.Steps.{viewOf, opOf, steps}
+use Rattle.claims.specs.Touches.{May}
 use Rattle.claims.proofs.Entry.{act}
 use Rattle.claims.proofs.Held.{Seat, coreIn, coreAt}
 use Rattle.claims.proofs.Split.{next}
@@ -84,22 +85,22 @@ going-ends {v} {c} {k} {l} e g = go (ℕ-discrete c v)
     go (yes q) = mine (e .mine) q
     go (no q) = subst (λ y. Going (y .state)) (sym (e .others c q)) g
 
-going-worked : (c : ℕ) {b : Mode} {v z : View} → Worked b v z → Going (v .cores c .state) → Going (z .cores c .state)
+going-worked : (c : ℕ) {m : Option May} {b : Mode} {v z : View} → Worked m b v z → Going (v .cores c .state) → Going (z .cores c .state)
 going-worked c done g = g
 going-worked c (quiet k q t) g = going-worked c t (going-kept (q c) g)
-going-worked c (tops f e t) g = going-worked c t g
-going-worked c (puts r x t) g = going-worked c t g
-going-worked c (pushes f xs p q t) g = going-worked c t g
-going-worked c (pops f fs p q t) g = going-worked c t g
+going-worked c (tops f e s t) g = going-worked c t g
+going-worked c (puts r x a t) g = going-worked c t g
+going-worked c (pushes f xs a p q) g = g
+going-worked c (pops f fs free p q t) g = going-worked c t g
 going-worked c (fails f fs a chain k y p q r e t) g = going-worked c t (going-ends e g)
 
-apart-worked : (c : ℕ) {b : Mode} {v z : View} → Worked b v z → Apart c (v .chain) → Apart c (z .chain)
+apart-worked : (c : ℕ) {m : Option May} {b : Mode} {v z : View} → Worked m b v z → Apart c (v .chain) → Apart c (z .chain)
 apart-worked c done g = g
 apart-worked c (quiet k q t) g = apart-worked c t g
-apart-worked c (tops f e t) g = apart-worked c t g
-apart-worked c (puts r x t) g = apart-worked c t g
-apart-worked c (pushes f xs p q t) g = apart-worked c t g
-apart-worked c (pops f fs p q t) g = apart-worked c t g
+apart-worked c (tops f e s t) g = apart-worked c t g
+apart-worked c (puts r x a t) g = apart-worked c t g
+apart-worked c (pushes f xs a p q) g = g
+apart-worked c (pops f fs free p q t) g = apart-worked c t g
 apart-worked c (fails f fs a chain k y p q r e t) g = apart-worked c t (subst (Apart c) r g .1)
 
 -- ---- a call that is no finish and no unwind lets nobody return
@@ -124,7 +125,7 @@ no-return {A} {w} {z} c (S.suspended p ok s dst x a chain e q t) n b l = go (ℕ
     go : Dec (c ≡ a .coro) → A
     go (yes y) = no-both l (ap (λ u. isReturned (coreAt z u .state)) y ∙ ap (λ k. isReturned (k .state)) (t .mine) ∙ slept s (t .asleep))
     go (no y) = no-both l (going-not (going-kept (t .others c y) (runs b)))
-no-return c (S.returns v x f fs a chain e en g t u) n b l = no-both en n
+no-return c (S.returns v x f fs a chain e en g t u) n b l = no-both (en .0) n
 no-return {A} {w} {z} c (S.stops e i t) n b l = go (t .each c)
   where
     go : (Apart c (w .chain) × (coreAt z c ≡ coreAt w c)) ⊎ ((coreAt z c .state ≡ CoroState.Failed) ⊎ ((isCreated (coreAt w c .state) ≡ true) × (coreAt z c ≡ coreAt w c))) → A

@@ -6,7 +6,7 @@ use mathlib.Core.Path.{_≡_}
 use mathlib.Core.Logic.{_≢_, _⊎_, inl, inr}
 use mathlib.Core.Bool.{Bool, true, false}
 use mathlib.Core.List.{List, [], _∷_, _++_, map}
-use mathlib.Core.Option.{Option, none}
+use mathlib.Core.Option.{Option, none, some}
 use lib.ListN.{length, take}
 use Rattle.heap.specs.declared.object.CoroState.{CoroState}
 use Rattle.model.specs.Lists.{isNil}
@@ -25,6 +25,7 @@ use Rattle.claims.specs.Engine.{Seen}
 use Rattle.claims.specs.Says.{Sent, nothing, gets, closes}
 use Rattle.claims.specs.Held.{closedBy}
 use Rattle.claims.specs.Delivery.{recorded}
+use Rattle.claims.specs.Touches.{May, mayTouch}
 use Rattle.claims.proofs.Entry as E
 use Rattle.claims.proofs.Entry.{suspends, Act, at, byHost, finishes, unwinds, other, act, Entry, nobody, entry, entryBy, pcBy}
 use Rattle.claims.proofs.Suspension.{suspendsIn, takesBy}
@@ -74,19 +75,34 @@ coresV k v = record { setup = v .setup; stack = v .stack; frames = v .frames; ch
 abbrev pub endV : Frame → List Frame → List Active → (ℕ → Seat) → View → View
 endV f fs chain k v = record { setup = v .setup; stack = take (f .base) (v .stack); frames = fs; chain = chain; cores = k }
 
+-- what a call may do that is limited so: store its pc, write its register, put a frame on top; with no limit, what it likes
+abbrev pub Stores : Option May → (Frame → Frame) → Type 0
+Stores none g = Unit {0}
+Stores (some m) g = (p : ℕ) × (m .pc ≡ some p) × (g ≡ setPc p)
+
+abbrev pub Writes : Option May → ℕ → Type 0
+Writes none r = Unit {0}
+Writes (some m) r = m .register ≡ some r
+
+abbrev pub Calls : Option May → Type 0
+Calls none = Unit {0}
+Calls (some m) = m .calls ≡ true
+
 -- moves, from the first to the last
-pub data Worked (b : Mode) : View → View → Type 0 where
-  done : {v : View} → Worked b v v
+pub data Worked (m : Option May) (b : Mode) : View → View → Type 0 where
+  done : {v : View} → Worked m b v v
   -- cores that have not begun
-  quiet : {v z : View} (k : ℕ → Seat) → ((c : ℕ) → Kept b c (v .cores c) (k c)) → Worked b (coresV k v) z → Worked b v z
+  quiet : {v z : View} (k : ℕ → Seat) → ((c : ℕ) → Kept b c (v .cores c) (k c)) → Worked m b (coresV k v) z → Worked m b v z
   -- the top frame's pc
-  tops : {v z : View} (g : Frame → Frame) → Keeps g → Worked b (topV g v) z → Worked b v z
-  puts : {v z : View} (r x : ℕ) → Worked b (putV r x v) z → Worked b v z
-  pushes : {v z : View} (f : Frame) (xs : List ℕ) → isCoro (f .cont) ≡ false → f .base ≡ length (v .stack) → Worked b (pushV f xs v) z → Worked b v z
-  pops : {v z : View} (f : Frame) (fs : List Frame) → v .frames ≡ f ∷ fs → (isCoro (f .cont) ≡ false) ⊎ (v .chain ≡ []) → Worked b (popV f fs v) z → Worked b v z
+  tops : {v z : View} (g : Frame → Frame) → Keeps g → Stores m g → Worked m b (topV g v) z → Worked m b v z
+  puts : {v z : View} (r x : ℕ) → Writes m r → Worked m b (putV r x v) z → Worked m b v z
+  -- a frame goes on top, which is the last move
+  pushes : {v : View} (f : Frame) (xs : List ℕ) → Calls m → isCoro (f .cont) ≡ false → f .base ≡ length (v .stack) → Worked m b v (pushV f xs v)
+  -- a frame goes, if there is no limit
+  pops : {v z : View} (f : Frame) (fs : List Frame) → m ≡ none → v .frames ≡ f ∷ fs → (isCoro (f .cont) ≡ false) ⊎ (v .chain ≡ []) → Worked m b (popV f fs v) z → Worked m b v z
   -- a body goes, and its coroutine fails, if b lets it
-  fails : {v z : View} (f : Frame) (fs : List Frame) (a : Active) (chain : List Active) (k : ℕ → Seat) → b ≡ m-ending → v .frames ≡ f ∷ fs → isCoro (f .cont) ≡ true → v .chain ≡ a ∷ chain
-      → Ends CoroState.Failed (a .coro) (v .cores) k → Worked b (endV f fs chain k v) z → Worked b v z
+  fails : {v z : View} (f : Frame) (fs : List Frame) (a : Active) (chain : List Active) (k : ℕ → Seat) → (b ≡ m-ending) × (m ≡ none) → v .frames ≡ f ∷ fs → isCoro (f .cont) ≡ true → v .chain ≡ a ∷ chain
+      → Ends CoroState.Failed (a .coro) (v .cores) k → Worked m b (endV f fs chain k v) z → Worked m b v z
 
 -- what ends nobody is allowed to any call
 kept-anyway : {b : Mode} {c : ℕ} {k l : Seat} → Kept m-plain c k l → Kept b c k l
@@ -94,14 +110,14 @@ kept-anyway (kept e) = kept e
 kept-anyway (unborn a b m (inl n)) = unborn a b m (inl n)
 kept-anyway (unborn a b m (inr n)) = let z : _≡_ {A = ℕ} 0 1 = cc in absurd (omega arith)
 
-pub anyway : {b : Mode} {v z : View} → Worked m-plain v z → Worked b v z
+pub anyway : {m : Option May} {b : Mode} {v z : View} → Worked m m-plain v z → Worked m b v z
 anyway done = done
 anyway (quiet k q t) = quiet k (λ c. kept-anyway (q c)) (anyway t)
-anyway (tops g e t) = tops g e (anyway t)
-anyway (puts r x t) = puts r x (anyway t)
-anyway (pushes f xs p q t) = pushes f xs p q (anyway t)
-anyway (pops f fs p q t) = pops f fs p q (anyway t)
-anyway (fails f fs a chain k y p q r e t) = let z : _≡_ {A = ℕ} 0 1 = cc in absurd (omega arith)
+anyway (tops g e s t) = tops g e s (anyway t)
+anyway (puts r x a t) = puts r x a (anyway t)
+anyway (pushes f xs a p q) = pushes f xs a p q
+anyway (pops f fs free p q t) = pops f fs free p q (anyway t)
+anyway (fails f fs a chain k y p q r e t) = let no = y .0 in let z : _≡_ {A = ℕ} 0 1 = cc in absurd (omega arith)
 
 -- c is entered at w, and z is left; p is the caller's pc
 pub record Enter (w : World) (p c : ℕ) (d : Driver) (sent : Sent) (z : World) : Type 0 where
@@ -176,8 +192,8 @@ modeOf unwinds = m-ending
 modeOf other = m-plain
 
 pub data Shape (w : World) (o : Op) (z : World) : Type 0 where
-  works : Says w o nobody false → (b : Mode) → modeOf (act w o) ≡ b → Worked b (view w) (view z) → Shape w o z
+  works : Says w o nobody false → (b : Mode) → modeOf (act w o) ≡ b → Worked (mayTouch o) b (view w) (view z) → Shape w o z
   enters : (c : ℕ) (d : Driver) (sent : Sent) → Says w o (entry c d sent) false → Enter w (pcBy (act w o)) c d sent z → Shape w o z
   suspended : (p : ℕ) (ok : Bool) (s : CoroState) (dst x : ℕ) (a : Active) (chain : List Active) → Says w o nobody true → act w o ≡ at p ok (suspends s dst x) → Suspend w p s dst x a chain z → Shape w o z
-  returns : (v : View) (x : ℕ) (f : Frame) (fs : List Frame) (a : Active) (chain : List Active) → Says w o nobody false → isEnding (act w o) ≡ true → ((c : ℕ) → eventBy (act w o) w c ≡ Returns x) → Worked m-ending (view w) v → Return v x f fs a chain z → Shape w o z
+  returns : (v : View) (x : ℕ) (f : Frame) (fs : List Frame) (a : Active) (chain : List Active) → Says w o nobody false → (isEnding (act w o) ≡ true) × (mayTouch o ≡ none) → ((c : ℕ) → eventBy (act w o) w c ≡ Returns x) → Worked none m-ending (view w) v → Return v x f fs a chain z → Shape w o z
   stops : Says w o nobody false → o ≡ Op.StopRun → Stop w z → Shape w o z

@@ -6,7 +6,7 @@ use mathlib.Core.Path.{_≡_, refl, sym, ap, _∙_, subst}
 use mathlib.Core.Logic.{_⊎_, inl, inr}
 use mathlib.Core.Bool.{Bool, true, false}
 use mathlib.Core.List.{_∷_}
-use mathlib.Core.Option.{none, some}
+use mathlib.Core.Option.{Option, none, some}
 use Rattle.heap.specs.declared.object.CoroState.{CoroState}
 use Rattle.model.specs.Lists.{isNil}
 use Rattle.model.specs.State.{isCreated, isRunning, isSuspended}
@@ -19,8 +19,9 @@ use Rattle.claims.specs.Engine.{isNew, runs, sleeps, ended, seenIn, is}
 use Rattle.claims.specs.Says.{doing}
 use Rattle.claims.specs.Demand3 as D
 use Rattle.claims.specs.Events as Said
-use Rattle.claims.specs.Events.{undone}
+use Rattle.claims.specs.Events.{endsUnbegun}
 use Rattle.claims.specs.Steps.{seenOf, viewOf, opOf, steps}
+use Rattle.claims.specs.Touches.{May}
 use Rattle.claims.proofs.Entry.{act}
 use Rattle.claims.proofs.Held.{Seat, coreIn, coreAt}
 use Rattle.claims.proofs.Split.{next, restarts}
@@ -53,13 +54,13 @@ module _ (c : ℕ) where
       go (yes q) = ap (λ y. isCreated (l y .state)) q ∙ mine (e .mine) q
       go (no q) = ap (λ y. isCreated (y .state)) (e .others c q) ∙ h
 
-  begun-worked : {b : Mode} {v z : View} → Worked b v z → isCreated (v .cores c .state) ≡ false → isCreated (z .cores c .state) ≡ false
+  begun-worked : {m : Option May} {b : Mode} {v z : View} → Worked m b v z → isCreated (v .cores c .state) ≡ false → isCreated (z .cores c .state) ≡ false
   begun-worked done h = h
   begun-worked (quiet k q t) h = begun-worked t (begun-kept (q c) h)
-  begun-worked (tops g e t) h = begun-worked t h
-  begun-worked (puts r x t) h = begun-worked t h
-  begun-worked (pushes f xs p q t) h = begun-worked t h
-  begun-worked (pops f fs p q t) h = begun-worked t h
+  begun-worked (tops g e s t) h = begun-worked t h
+  begun-worked (puts r x a t) h = begun-worked t h
+  begun-worked (pushes f xs a p q) h = h
+  begun-worked (pops f fs free p q t) h = begun-worked t h
   begun-worked (fails f fs a chain k y p q r e t) h = begun-worked t (begun-ends refl e h)
 
   begun-shape : {w z : World} {o : Op} → Shape w o z → isCreated (coreAt w c .state) ≡ false → isCreated (coreAt z c .state) ≡ false
@@ -118,13 +119,13 @@ module _ (c : ℕ) where
   comes-kept f (unborn a b m (inl n)) h = n .1
   comes-kept f (unborn a b m (inr n)) h = absurd (f n)
 
-  comes-worked : {b : Mode} {v z : View} → (b ≡ m-undoing c → ⊥) → Worked b v z → Apart c (v .chain) → isCreated (v .cores c .state) ≡ true → Apart c (z .chain) × (isCreated (z .cores c .state) ≡ true)
+  comes-worked : {m : Option May} {b : Mode} {v z : View} → (b ≡ m-undoing c → ⊥) → Worked m b v z → Apart c (v .chain) → isCreated (v .cores c .state) ≡ true → Apart c (z .chain) × (isCreated (z .cores c .state) ≡ true)
   comes-worked f done n h = (n, h)
   comes-worked f (quiet k q t) n h = comes-worked f t n (comes-kept f (q c) h)
-  comes-worked f (tops g e t) n h = comes-worked f t n h
-  comes-worked f (puts r x t) n h = comes-worked f t n h
-  comes-worked f (pushes g xs p q t) n h = comes-worked f t n h
-  comes-worked f (pops g fs p q t) n h = comes-worked f t n h
+  comes-worked f (tops g e s t) n h = comes-worked f t n h
+  comes-worked f (puts r x a t) n h = comes-worked f t n h
+  comes-worked f (pushes g xs a p q) n h = (n, h)
+  comes-worked f (pops g fs free p q t) n h = comes-worked f t n h
   comes-worked f (fails g fs a chain l y p q r e t) n h =
       let m : Apart c (a ∷ chain) = subst (Apart c) r n in
       comes-worked f t (m .1) (ap (λ x. isCreated (x .state)) (e .others c (m .0)) ∙ h)
@@ -148,7 +149,7 @@ module _ (c : ℕ) where
       ap (λ x. isCreated (x .state)) (u .ends .others c (subst (Apart c) (u .inmost) (m .0) .0)) ∙ m .1
   comes-shape f (S.stops e i t) n h = ap (λ x. isCreated (x .state)) (t .apart c n) ∙ ap (λ x. isCreated (coreIn x .state)) h
 
-pub comes-else : (c : ℕ) (w : World) (k : Call) → (undone (doing (viewOf w) (opOf k)) ≡ some c → ⊥) → viewOf w .coro c ≡ none → (viewOf (next w k) .coro c ≡ none) ⊎ (is (viewOf (next w k)) isNew c ≡ true)
+pub comes-else : (c : ℕ) (w : World) (k : Call) → (endsUnbegun (doing (viewOf w) (opOf k)) ≡ some c → ⊥) → viewOf w .coro c ≡ none → (viewOf (next w k) .coro c ≡ none) ⊎ (is (viewOf (next w k)) isNew c ≡ true)
 comes-else c w k u h = go (coro (next w k) c) refl (new (next w k) (step-case w k) u)
   where
     gone : (x : Coroutine) → seenOf x ≡ none → x ≡ Absent
@@ -158,7 +159,7 @@ comes-else c w k u h = go (coro (next w k) c) refl (new (next w k) (step-case w 
     away : coro w c ≡ Absent
     away = gone (coro w c) h
 
-    new : {k : Call} (z : World) → StepCase w k z → (undone (doing (viewOf w) (opOf k)) ≡ some c → ⊥) → isCreated (coreAt z c .state) ≡ true
+    new : {k : Call} (z : World) → StepCase w k z → (endsUnbegun (doing (viewOf w) (opOf k)) ≡ some c → ⊥) → isCreated (coreAt z c .state) ≡ true
     new z (anew s e) u = ap (λ x. isCreated (coreIn x .state)) (fresh-absent s c)
     new z (same k e) u = ap (λ x. isCreated (coreIn x .state)) away
     new z (does o e) u = comes-shape c (λ m. u (alike-undone (says-alike w (o .op)) ∙ ap undoneBy m)) (shape w (o .op)) (apart w e c (ap (λ x. isRunning (coreIn x .state)) away)) away

@@ -16,7 +16,7 @@ use Rattle.model.specs.declared.call.Op.{Op}
 use Rattle.claims.specs.Engine.{isNew, seenIn, is}
 use Rattle.claims.specs.Says.{Does, doing, nothing, gets, closes, Entry, whom}
 use Rattle.claims.specs.Demand3 as D
-use Rattle.claims.specs.Events.{undone, rests}
+use Rattle.claims.specs.Events.{endsUnbegun, rests}
 use Rattle.claims.specs.Steps.{seenOf, viewOf, opOf, steps}
 use Rattle.claims.proofs.Entry as E
 use Rattle.claims.proofs.Entry.{act, pcBy, entryBy}
@@ -93,7 +93,7 @@ undoneBy m-plain = none
 undoneBy m-ending = none
 undoneBy (m-undoing c) = some c
 
-pub alike-undone : {a : E.Act} {d : Does} → Alike a d → undone d ≡ undoneBy (modeOf a)
+pub alike-undone : {a : E.Act} {d : Does} → Alike a d → endsUnbegun d ≡ undoneBy (modeOf a)
 alike-undone (l-at pc ok (E.enters c d nothing may)) = refl
 alike-undone (l-at pc ok (E.enters c d (gets x) may)) = refl
 alike-undone (l-at pc ok (E.enters c d (closes x) may)) = refl
@@ -104,10 +104,10 @@ alike-undone (l-finish kind x) = refl
 alike-undone (l-raise f pc) = refl
 alike-undone l-other = refl
 
-not-undone : (c : ℕ) (w : World) (k : Call) → (D.Restarts steps w k → ⊥) → (D.Enters steps c w k → ⊥) → is (viewOf w) isNew c ≡ true → (undone (doing (viewOf w) (opOf k)) ≡ some c → ⊥) → viewOf (next w k) .coro c ≡ viewOf w .coro c
+not-undone : (c : ℕ) (w : World) (k : Call) → (D.Restarts steps w k → ⊥) → (D.Enters steps c w k → ⊥) → is (viewOf w) isNew c ≡ true → (endsUnbegun (doing (viewOf w) (opOf k)) ≡ some c → ⊥) → viewOf (next w k) .coro c ≡ viewOf w .coro c
 not-undone c w k r i h u = sym (seen-at (next w k) c) ∙ ap (λ (x : Seat). x .seen)
     (stays-firm c w k (coreAt w c) (λ _ x. firm m-plain (λ e. no-some (ap undoneBy e)) x) (λ _ x. firm m-ending (λ e. no-some (ap undoneBy e)) x)
-    (λ o q _ x. firm (modeOf (act w (o .op))) (λ e. u (ap (λ (j : Call). undone (doing (viewOf w) (opOf j))) q ∙ alike-undone (says-alike w (o .op)) ∙ ap undoneBy e)) x)
+    (λ o q _ x. firm (modeOf (act w (o .op))) (λ e. u (ap (λ (j : Call). endsUnbegun (doing (viewOf w) (opOf j))) q ∙ alike-undone (says-alike w (o .op)) ∙ ap undoneBy e)) x)
     idle (restarts-old w k r) (not-entered c w k i idle) refl)
     ∙ seen-at w c
   where
@@ -136,7 +136,7 @@ beside {w} {z} {o} c y (suspended p ok s dst x a chain e n t) q l = no-whom (ap 
 beside {w} {z} {o} c y (returns v x f fs a chain e en g t u) q l = no-whom (ap (told (pcBy (act w o))) (e .entry)) q
 beside {w} {z} {o} c y (stops e i t) q l = no-whom (ap (told (pcBy (act w o))) (e .entry)) q
 
-pub unbegun : (c : ℕ) (w : World) (k : Call) → (D.Restarts steps w k → ⊥) → (D.Enters steps c w k → ⊥) → is (viewOf w) isNew c ≡ true → (undone (doing (viewOf w) (opOf k)) ≡ some c → whom (viewOf w) (opOf k) ≡ none → ⊥)
+pub unbegun : (c : ℕ) (w : World) (k : Call) → (D.Restarts steps w k → ⊥) → (D.Enters steps c w k → ⊥) → is (viewOf w) isNew c ≡ true → (endsUnbegun (doing (viewOf w) (opOf k)) ≡ some c → whom (viewOf w) (opOf k) ≡ none → ⊥)
     → viewOf (next w k) .coro c ≡ viewOf w .coro c
 unbegun c w k r i h u = go (whom (viewOf w) (opOf k)) refl
   where

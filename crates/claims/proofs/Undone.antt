@@ -38,7 +38,7 @@ use Rattle.model.specs.declared.call.Op.{Op}
 use Rattle.model.specs.declared.call.Answer.{Answer}
 use Rattle.claims.specs.Engine.{Seen, isNew, seenIn, is}
 use Rattle.claims.specs.Says.{word, lie, does, doing, whom}
-use Rattle.claims.specs.Events.{undone, endedAs}
+use Rattle.claims.specs.Events.{endsUnbegun, endedAs}
 use Rattle.claims.specs.Promise.{Pays}
 use Rattle.claims.specs.Steps.{seenOf, viewOf, opOf, steps}
 use Rattle.claims.proofs.Entry as E
@@ -82,7 +82,7 @@ module _ (c : ℕ) (k : Core) (r : Rest) (new : isCreated (k .state) ≡ true) (
       ends-as
       (ap (λ n. closeTo (coroState v n) p dst n (reg v src) v) f
       ∙ ap (λ y. closeTo (stateAs y (notA v c)) p dst c (reg v src) v) e
-      ∙ ap (λ s. closeTo (Stated.In s) p dst c (reg v src) v) (is-created (k .state) new)) (record { number = refl; seen = there-seen c CoroState.Returned nil v e })
+      ∙ ap (λ s. closeTo (Stated.In s) p dst c (reg v src) v) (is-created (k .state) new)) (record { number = refl; seen = there-seen c CoroState.Returned nil v refl e })
 
   throw-ends : (p dst q src : ℕ) → reg v q ≡ c → Ends c 17 (endedAs CoroState.Failed (reg v src)) (resumeThrow p dst q src v)
   unfolding resumeThrow pick
@@ -90,7 +90,7 @@ module _ (c : ℕ) (k : Core) (r : Rest) (new : isCreated (k .state) ≡ true) (
       ends-as
       (ap (λ n. throwTo (coroState v n) p dst n (reg v src) v) f
       ∙ ap (λ y. throwTo (stateAs y (notA v c)) p dst c (reg v src) v) e
-      ∙ ap (λ s. throwTo (Stated.In s) p dst c (reg v src) v) (is-created (k .state) new)) (record { number = refl; seen = there-seen c CoroState.Failed (reg v src) v e })
+      ∙ ap (λ s. throwTo (Stated.In s) p dst c (reg v src) v) (is-created (k .state) new)) (record { number = refl; seen = there-seen c CoroState.Failed (reg v src) v refl e })
 
 -- ---- the instruction: no cleanup comes first
 
@@ -125,7 +125,7 @@ instr-ends w c n y o p ok a arm n10 n12 n13 e h owes = gate (isNil (w .frames)) 
 
 -- ---- the two calls
 
-reg-alike : {p : ℕ} {w v : World} → Alike p w v → (q : ℕ) → reg v q ≡ reg w q
+pub reg-alike : {p : ℕ} {w v : World} → Alike p w v → (q : ℕ) → reg v q ≡ reg w q
 reg-alike a q = λ i. getD (a .stack i) (a .base i + q) 0
 
 abbrev Left : World → ℕ → ℕ → Option Seen → Op → Type 0
@@ -156,7 +156,7 @@ by-call c w p n y n11 f (Do j) o m = go (sound w) refl
         let nobody = told-none (pcBy (act w (j .op))) (entryBy (act w (j .op)) w) (sym (whom-told w e (j .op)) ∙ m) in
         sym (seen-at (call (j .op) w .world) c) ∙ subst (Left w c n y) (sym (some-op o)) f nobody ∙ ap (pick (eqb (numberOf (call (j .op) w .answer)) n) y) (seen-at w c)
 
-word-reg : (w : World) (q : ℕ) → word (viewOf w) q ≡ reg w q
+pub word-reg : (w : World) (q : ℕ) → word (viewOf w) q ≡ reg w q
 word-reg w q = ap (λ b. getD (w .stack) (b + q) 0) (base-top (w .frames))
 
 -- one that is new is there
@@ -238,25 +238,29 @@ module _ (w : World) (c : ℕ) (e : coro w c ≡ Absent) where
   throw-none v a p dst q src f =
       ap (λ n. coreAt (throwTo (coroState v n) p dst n (reg v src) v .world) c .seen) f ∙ ap (λ y. coreAt (throwTo (stateAs y (notA v c)) p dst c (reg v src) v .world) c .seen) (here a) ∙ same-seen a
 
-  instr-stays : (p : ℕ) (ok : Bool) (arm : World → After Step) → ((v : World) → Alike p w v → coreAt (arm v .world) c .seen ≡ coreAt w c .seen) → coreAt (instruction p ok arm w .world) c .seen ≡ coreAt w c .seen
+  -- what holds of what is seen of c holds after an instruction, if its arm leaves it so
+  pub instr-any : (P : Option Seen → Type 0) → P (coreAt w c .seen) → (p : ℕ) (ok : Bool) (arm : World → After Step) → ((v : World) → Alike p w v → P (coreAt (arm v .world) c .seen)) → P (coreAt (instruction p ok arm w .world) c .seen)
   unfolding instruction pick
-  instr-stays p ok arm owes = gate (isNil (w .frames)) ok
+  instr-any P now p ok arm owes = gate (isNil (w .frames)) ok
     where
-      paid : (ch : After Charge) → ChargeCase p w ch → coreAt (Gate.charged arm (ch .world) (ch .answer) .world) c .seen ≡ coreAt w c .seen
+      paid : (ch : After Charge) → ChargeCase p w ch → P (coreAt (Gate.charged arm (ch .world) (ch .answer) .world) c .seen)
       paid ch (c-done m v r) = owes v (alike r)
-      paid ch (c-spent v r) = same-seen (alike r)
+      paid ch (c-spent v r) = subst P (sym (same-seen (alike r))) now
       paid ch (c-close m u z x t) = go (ℕ-discrete c u)
         where
-          go : Dec (c ≡ u) → coreAt z c .seen ≡ coreAt w c .seen
+          go : Dec (c ≡ u) → P (coreAt z c .seen)
           go (yes q) = no-both (ap (λ y. isNil (coreIn y .frames)) e) (ap (λ y. isNil (coreAt w y .frames)) q ∙ t .solid)
-          go (no q) = ap (λ (y : Seat). y .seen) (t .others c q)
+          go (no q) = subst P (sym (ap (λ (y : Seat). y .seen) (t .others c q))) now
 
-      gate : (b d : Bool) → coreAt (pick b (refused w Fault.NoFrame) (pick (not d) (refused w Fault.BadOperand) (andThen (charge (OptPc.Some p) w) (Gate.charged arm))) .world) c .seen ≡ coreAt w c .seen
-      gate true d = refl
-      gate false false = refl
+      gate : (b d : Bool) → P (coreAt (pick b (refused w Fault.NoFrame) (pick (not d) (refused w Fault.BadOperand) (andThen (charge (OptPc.Some p) w) (Gate.charged arm))) .world) c .seen)
+      gate true d = now
+      gate false false = now
       gate false true = paid (charge (OptPc.Some p) w) (charge-case p w)
 
-  absent-stays : (o : Op) → undone (does (viewOf w) o) ≡ some c → coreAt (call o w .world) c .seen ≡ coreAt w c .seen
+  instr-stays : (p : ℕ) (ok : Bool) (arm : World → After Step) → ((v : World) → Alike p w v → coreAt (arm v .world) c .seen ≡ coreAt w c .seen) → coreAt (instruction p ok arm w .world) c .seen ≡ coreAt w c .seen
+  instr-stays p ok arm owes = instr-any (λ x. x ≡ coreAt w c .seen) refl p ok arm owes
+
+  absent-stays : (o : Op) → endsUnbegun (does (viewOf w) o) ≡ some c → coreAt (call o w .world) c .seen ≡ coreAt w c .seen
   unfolding call
   absent-stays (Op.CoroNew pc dst f argc) n = no-some refl n
   absent-stays (Op.CoroNewIndirect pc dst callee argc) n = no-some refl n
@@ -288,21 +292,21 @@ module _ (w : World) (c : ℕ) (e : coro w c ≡ Absent) where
 
 -- WHO COMES
 pub comes : (c : ℕ) (w : World) (k : Call) → viewOf w .coro c ≡ none → (viewOf (next w k) .coro c ≡ none) ⊎ (is (viewOf (next w k)) isNew c ≡ true)
-comes c w k h = go (undone (doing (viewOf w) (opOf k))) refl
+comes c w k h = go (endsUnbegun (doing (viewOf w) (opOf k))) refl
   where
     gone : (x : Coroutine) → seenOf x ≡ none → x ≡ Absent
     gone Absent e = refl
     gone (Is k r) e = let z : _≡_ {A = ℕ} 0 1 = cc in absurd (omega arith)
 
-    stays : {k : Call} (z : World) → StepCase w k z → undone (doing (viewOf w) (opOf k)) ≡ some c → viewOf z .coro c ≡ none
+    stays : {k : Call} (z : World) → StepCase w k z → endsUnbegun (doing (viewOf w) (opOf k)) ≡ some c → viewOf z .coro c ≡ none
     stays z (anew s e) u = no-some refl u
     stays z (same k e) u = h
     stays z (Claim.does o e) u = sym (seen-at z c) ∙ absent-stays w c (gone (coro w c) h) (o .op) u ∙ seen-at w c ∙ h
 
-    named : (u : ℕ) → undone (doing (viewOf w) (opOf k)) ≡ some u → Dec (u ≡ c) → (viewOf (next w k) .coro c ≡ none) ⊎ (is (viewOf (next w k)) isNew c ≡ true)
+    named : (u : ℕ) → endsUnbegun (doing (viewOf w) (opOf k)) ≡ some u → Dec (u ≡ c) → (viewOf (next w k) .coro c ≡ none) ⊎ (is (viewOf (next w k)) isNew c ≡ true)
     named u e (yes q) = inl (stays (next w k) (step-case w k) (e ∙ ap {B = Option ℕ} some q))
     named u e (no q) = comes-else c w k (λ p. q (one-some e p)) h
 
-    go : (x : Option ℕ) → undone (doing (viewOf w) (opOf k)) ≡ x → (viewOf (next w k) .coro c ≡ none) ⊎ (is (viewOf (next w k)) isNew c ≡ true)
+    go : (x : Option ℕ) → endsUnbegun (doing (viewOf w) (opOf k)) ≡ x → (viewOf (next w k) .coro c ≡ none) ⊎ (is (viewOf (next w k)) isNew c ≡ true)
     go none e = comes-else c w k (λ p. no-some e p) h
     go (some u) e = named u e (ℕ-discrete u c)

@@ -83,7 +83,7 @@ unfolding pick
 ended-counted {v} {o} (e-works t) = subst (Ended v o) (sym (nobody (eqb (numberOf (o .answer)) 0))) (e-works t)
 ended-counted {v} {o} (e-returns u f fs a chain t r n) = subst (λ m. Ended v o (pick (eqb m 0) (some (a .coro)) none)) (sym n) (e-returns u f fs a chain t r n)
 
-ended-none : {v : View} {o : After Answer} → Worked m-ending v (view (o .world)) → (b : Bool) → Ended v o (pick b none none)
+ended-none : {v : View} {o : After Answer} → Worked none m-ending v (view (o .world)) → (b : Bool) → Ended v o (pick b none none)
 unfolding pick
 ended-none t true = e-works t
 ended-none t false = e-works t
@@ -93,9 +93,9 @@ module _ (w : World) (h : sound w ≡ true) where
   frames-ended : (x : ℕ) (fs : List Frame) (u : World) → Sees (viewOf w) u → u .frames ≡ fs → u .chain ≡ w .chain → Ended (view u) (searchFrames x u) (escaped (viewOf w) x fs (w .chain))
   frames-ended x fs u s p q = subst (λ cs. Ended (view u) (searchFrames x u) (escaped (viewOf w) x fs cs)) q (subst (λ gs. Ended (view u) (searchFrames x u) (escaped (viewOf w) x gs (u .chain))) p (search-ended (viewOf w) x (topFunc (u .frames)) (topPc (u .frames)) (u .frames) u refl s))
 
-  stored-works : (pc : OptPc) {z : View} → Worked m-ending (view (storeSome pc w)) z → Worked m-ending (view w) z
+  stored-works : (pc : OptPc) {z : View} → Worked none m-ending (view (storeSome pc w)) z → Worked none m-ending (view w) z
   stored-works OptPc.None t = t
-  stored-works (OptPc.Some p) t = tops (setPc p) (keeps-pc p) t
+  stored-works (OptPc.Some p) t = tops (setPc p) (keeps-pc p) tt t
 
   pub stored-sees : (pc : OptPc) → Sees (viewOf w) (storeSome pc w)
   stored-sees OptPc.None = sees w h
@@ -103,7 +103,7 @@ module _ (w : World) (h : sound w ≡ true) where
 
   pub word-ended : (x : ℕ) (pc : OptPc) → Ended (view w) (searchFrames x (storeSome pc w)) (raisedAt (viewOf w) (some x) pc)
   word-ended x OptPc.None = frames-ended x (w .frames) w (sees w h) refl refl
-  word-ended x (OptPc.Some p) = then-ended (λ y t. tops (setPc p) (keeps-pc p) t) (frames-ended x (at p (w .frames)) (storePc p w) (stored-sees (OptPc.Some p)) (at-top p (w .frames)) refl)
+  word-ended x (OptPc.Some p) = then-ended (λ y t. tops (setPc p) (keeps-pc p) tt t) (frames-ended x (at p (w .frames)) (storePc p w) (stored-sees (OptPc.Some p)) (at-top p (w .frames)) refl)
 
   -- with the error object made
   pub made-sees : (f : Fault) (u : World) → u .slots ≡ w .slots → u .setup ≡ w .setup → u .chain ≡ w .chain → Sees (viewOf w) (withUsed (satAdd (u .used) (u .setup .costs .error)) (withSlots (pushObject (u .slots) (errorOf f u)) u))
@@ -136,7 +136,7 @@ module _ (w : World) (h : sound w ≡ true) where
 
   object-ended : (f : Fault) (pc : OptPc) → let u = storeSome pc w in let o = andThen (alloc (u .setup .costs .error) (errorOf f u) u) searchMade in Ended (view w) o (counted (o .answer) (raisedAt (viewOf w) (some (nextWord (w .slots))) pc))
   object-ended f OptPc.None = object-at f w (w .frames) refl refl refl refl
-  object-ended f (OptPc.Some p) = then-ended (λ y t. tops (setPc p) (keeps-pc p) t) (object-at f (storePc p w) (at p (w .frames)) refl refl (at-top p (w .frames)) refl)
+  object-ended f (OptPc.Some p) = then-ended (λ y t. tops (setPc p) (keeps-pc p) tt t) (object-at f (storePc p w) (at p (w .frames)) refl refl (at-top p (w .frames)) refl)
 
   -- WHO RETURNS BY AN UNWIND
   pub unwind-ended : (f : Fault) (pc : OptPc) → Ended (view w) (unwind f pc w) (counted (unwind f pc w .answer) (raisedAt (viewOf w) (raised (viewOf w) f) pc))

@@ -54,7 +54,7 @@ use Rattle.claims.proofs.Exact.{some-op}
 
 -- ---- a new integer's word
 
-new-object : (xs : List (Slot Object)) (o : Object) → length xs < 2 ^ 32 → isFilled o ≡ true → objectIn (pushObject xs o) (nextWord xs) ≡ o
+pub new-object : (xs : List (Slot Object)) (o : Object) → length xs < 2 ^ 32 → isFilled o ≡ true → objectIn (pushObject xs o) (nextWord xs) ≡ o
 new-object xs o l f =
     ap (λ c. objectAt ys (getIn Object.Empty isFilled ys c)) (class-ref (length xs) 0 l (omega arith))
     ∙ (ap (λ b. objectAt ys (pick b (Place.At (slotOf w)) Place.Nothing)) named
@@ -95,7 +95,7 @@ signed-in : (x : ℕ) → x < 2 ^ 64 → exactly (ofBits 63 x) ≡ Exact.Fits x
 signed-in x l = exact-in (ofBits 63 x) (lt-ltb (mag (ofBits 63 x)) (2 ^ 63) (of-range 63 x l)) ∙ ap Exact.Fits (bits-of 63 x l)
 
 module _ (w : World) (h : sound w ≡ true) where
-  few : length (w .slots) < 2 ^ 32
+  pub few : length (w .slots) < 2 ^ 32
   few = let k = sound→ {ex = false} w h (λ z. no-both z refl) .heap in let a = k .count in let b = k .small in omega (arith, a, b)
 
   encoded : (n y : ℕ) → n < 2 ^ 64 → encodeInt n w .answer ≡ WordOr.Word y → dynInt (encodeInt n w .world) y ≡ Opt.Some n

@@ -18,9 +18,9 @@ use Rattle.model.specs.declared.machine.Active.{Active}
 use Rattle.model.specs.declared.machine.Driver.{Driver}
 use Rattle.model.specs.declared.machine.Frame.{Frame}
 use Rattle.model.specs.declared.call.Op.{Op}
-use Rattle.claims.specs.Engine.{Seen, View, calls, run, isNew}
+use Rattle.claims.specs.Engine.{Seen, View, calls, run}
 use Rattle.claims.specs.Says.{Sent, nothing, Entry, doing, whom}
-use Rattle.claims.specs.Held.{at, Moved, AllMoved, pcOf, waitsIn, stepped, given, Entered, Restored}
+use Rattle.claims.specs.Held.{at, Moved, AllMoved, pcOf, waitsIn, stepped, given, woken as wakes, Entered, Restored}
 use Rattle.claims.specs.Delivery.{eventOf, Memory, memory, deliver, Left}
 use Rattle.claims.specs.Demand3.{Demand3}
 use Rattle.claims.specs.Premises.{runsIn, sleepsIn, waits}
@@ -28,7 +28,7 @@ use Rattle.claims.specs.Steps.{viewOf, opOf}
 use Rattle.claims.specs.Story as Story
 use Rattle.claims.specs.Story.{wide, c, part, held}
 use Rattle.claims.specs.Witness.{nth, between, frame}
-use Rattle.claims.specs.Wrong.{leaving, swapped, exchanged, bent, onTop, tail, ofZero, discards, bare, atOne, further, higher, once, begun, greeted, late, mistaking, tainting, Wrong}
+use Rattle.claims.specs.Wrong.{leaving, swapped, exchanged, bent, onTop, tail, ofZero, discards, bare, atOne, further, higher, once, begun, greeted, late, startled, mistaking, tainting, Wrong}
 use Rattle.claims.proofs.Premises.{waits-true}
 use Rattle.claims.proofs.Cores.{no-both}
 use Rattle.claims.proofs.WrongEvents.{always-refused, return-fails, no-cleanup, closing-forgotten, failure-returns, await-yields, excused, throw-lost, ignored-unheard, refusal-unheard, throw-feigned}
@@ -266,26 +266,50 @@ resume = asCall (Op.Resume 2 1 0 2) resume-typed
 
 -- what is seen of it
 abbrev fresh-one : Seen
-fresh-one = record { state = CoroState.Created; words = 0 ∷ 0 ∷ 0 ∷ 0 ∷ []; frames = frame 0 0 0 0 Cont.Coro ∷ []; mostWords = 4; mostFrames = 1; closing = false; signal = 0; result = 0 }
+fresh-one = record { state = CoroState.Created; words = 0 ∷ 0 ∷ 0 ∷ 0 ∷ []; frames = frame 0 0 0 0 Cont.Coro ∷ []; waits = 0; mostWords = 4; mostFrames = 1; closing = false; signal = 0; result = 0 }
 
--- nothing is sent to it: the word at place i, and the pc
-module _ {w : View} {y : Option Op} {z : View} (t : Entered w y c z) (x : Seen) (h : w .coro c ≡ some x) (n : isNew (x .state) ≡ true) (e : sentIn (whom w y) ≡ nothing) where
+-- nothing is sent to it: the word at place i, and the pcs
+module _ {w : View} {y : Option Op} {z : View} (t : Entered w y c z) (x : Seen) (h : w .coro c ≡ some x) (e : sentIn (whom w y) ≡ nothing) where
+  unsent : t .by .sent ≡ nothing
+  unsent = ap sentIn (sym (t .by .says)) ∙ e
+
   word-at : (i : ℕ) → getD (z .stack) i 0 ≡ getD (w .stack ++ x .words) i 0
-  word-at i = ap (λ xs. getD xs i 0) (t .new-words x h n) ∙ ap (λ s. getD (given s (z .frames) 0 (w .stack ++ x .words)) i 0) (ap sentIn (sym (t .by .says)) ∙ e)
+  word-at i = ap (λ xs. getD xs i 0) (t .saved-words x h) ∙ ap (λ s. getD (given s (z .frames) (x .waits) (w .stack ++ x .words)) i 0) unsent
 
-  pcs : map pcIn (z .frames) ≡ map pcIn (x .frames) ++ map pcIn (at (t .by .pc) (w .frames))
+  pcs : map pcIn (z .frames) ≡ map pcIn (wakes nothing (x .frames)) ++ map pcIn (at (t .by .pc) (w .frames))
   pcs =
       let mine = t .over ++ (t .body ∷ []) in
       ap (map pcIn) (t .frames ∙ sym (append-assoc (t .over) (t .body ∷ []) (at (t .by .pc) (w .frames)))) ∙ map-append pcIn mine (at (t .by .pc) (w .frames))
-      ∙ ap (λ l. l ++ map pcIn (at (t .by .pc) (w .frames))) (all-alike pcIn pcIn (pc-alike 0 (length (w .stack))) (x .frames) mine (t .new-frames x h n))
+      ∙ ap (λ l. l ++ map pcIn (at (t .by .pc) (w .frames))) (all-alike pcIn pcIn (pc-alike 0 (length (w .stack))) (wakes (t .by .sent) (x .frames)) mine (t .saved-frames x h))
+      ∙ ap (λ s. map pcIn (wakes s (x .frames)) ++ map pcIn (at (t .by .pc) (w .frames))) unsent
 
 new-gets-a-word : Demand3 (begun greeted) → ⊥
 unfolding computed waiting
-new-gets-a-word d = let q : _≡_ {A = ℕ} 5 0 = word-at (d .entered c waiting resume (record { before = refl; after = refl })) fresh-one refl refl refl 4 in absurd (omega (arith, q))
+new-gets-a-word d = let q : _≡_ {A = ℕ} 5 0 = word-at (d .entered c waiting resume (record { before = refl; after = refl })) fresh-one refl refl 4 in absurd (omega (arith, q))
 
 new-at-pc-1 : Demand3 (begun late) → ⊥
 unfolding computed waiting
-new-at-pc-1 d = let q : _≡_ {A = ℕ} 1 0 = ap first (pcs (d .entered c waiting resume (record { before = refl; after = refl })) fresh-one refl refl refl) in absurd (omega (arith, q))
+new-at-pc-1 d = let q : _≡_ {A = ℕ} 1 0 = ap first (pcs (d .entered c waiting resume (record { before = refl; after = refl })) fresh-one refl refl) in absurd (omega (arith, q))
+
+-- c slept before the first call, with 7 in its first register: a word is thrown into it, so that none is sent
+asleep-ops : List Op
+asleep-ops = Story.begin 0 ++ (Op.PutWord 0 7 ∷ Op.Yield 8 3 0 ∷ [])
+
+asleep : World
+asleep = M.runOps (fresh wide) asleep-ops
+
+throw-typed : typed (Op.ResumeThrow 3 1 0 2) ≡ true
+unfolding typed
+throw-typed = refl
+
+asleep-one : Seen
+asleep-one = record { state = CoroState.Yielded; words = 7 ∷ 0 ∷ 0 ∷ 0 ∷ []; frames = frame 0 8 0 0 Cont.Coro ∷ []; waits = 3; mostWords = 4; mostFrames = 1; closing = false; signal = 0; result = 0 }
+
+sleeper-gets-others : Demand3 startled → ⊥
+unfolding computed asleep-ops asleep asleep-one
+sleeper-gets-others d =
+    let q : _≡_ {A = ℕ} 5 7 = word-at (d .entered c (record { world = asleep; saw = false }) (asCall (Op.ResumeThrow 3 1 0 2) throw-typed) (record { before = refl; after = refl })) asleep-one refl refl 4 in
+    absurd (omega (arith, q))
 
 -- ---- what lies below
 
@@ -332,6 +356,7 @@ wrong =
       below-changed = below-changed;
       new-gets-a-word = new-gets-a-word;
       new-at-pc-1 = new-at-pc-1;
+      sleeper-gets-others = sleeper-gets-others;
       await-yields = await-yields;
       excused = excused;
       throw-lost = throw-lost;

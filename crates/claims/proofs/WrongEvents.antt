@@ -333,7 +333,7 @@ bank-pays =
         its-own = refl;
         chain = refl;
       };
-      seen = record { state = CoroState.Running; words = []; frames = []; mostWords = 4; mostFrames = 1; closing = false; signal = 0; result = 0 };
+      seen = record { state = CoroState.Running; words = []; frames = []; waits = 0; mostWords = 4; mostFrames = 1; closing = false; signal = 0; result = 0 };
       there = refl;
       grows = refl;
     }

@@ -19,19 +19,21 @@ pub data Event : Type 0 where
   Ignores : Event
   Returns : ℕ → Event
 
--- what the coroutine recorded as its result; nil, which is 0, where it is gone
+-- what is seen as the coroutine's result after the call; nil, which is 0, where it is gone
 abbrev pub recorded : Option Seen → ℕ
 recorded none = 0
 recorded (some x) = x .result
 
--- the word that is returned: an integer's is recorded
+-- the word that is returned. Which word stands for an integer is the call's choice, seen in what is recorded; that it stands for this integer,
+-- Events.integer says
 abbrev pub resultOf : ResultKind → ℕ → ℕ → ℕ
 resultOf ResultKind.None x r = 0
 resultOf ResultKind.Dyn x r = x
 resultOf ResultKind.I64 x r = r
 resultOf ResultKind.U64 x r = r
 
--- what c gives in a call at v that leaves z; a close that its own signal ends gives nil
+-- what c gives in a call at v that leaves z; a close that its own signal ends gives nil. Only a suspension, a finish or an unwind gives
+-- (Events.suspends, Events.returns): the other cases do not occur
 abbrev pub eventOf : View → Does → ℕ → View → Event
 eventOf v (instr pc ok (enter u d x may)) c z = Returns 0
 eventOf v (instr pc ok (suspend await dst x)) c z = pick await (Awaits x) (pick (seenIn (λ k. k .closing) (v .coro c)) Ignores (Yields x))

@@ -1,5 +1,5 @@
 -- An engine, and what is seen of it. All that is claimed here is claimed of an engine, whatever it is made of: it cites types and
--- list functions, and no rule of a machine.
+-- list functions, and no definition of the machine (what a call announces, Says.antt says in words of its own).
 use Prim.Native.Nat.{ℕ}
 use mathlib.Core.Bool.{Bool, false, _||_}
 use mathlib.Core.List.{List, [], _∷_}
@@ -19,6 +19,8 @@ pub record Seen : Type 0 where
   -- the words and frames that it has saved: of one that has not begun, what it begins with
   pub words : List ℕ
   pub frames : List Frame
+  -- the register of the top one of them that waits for a word
+  pub waits : ℕ
   -- the most that it has saved so far
   pub mostWords : ℕ
   pub mostFrames : ℕ
@@ -30,11 +32,12 @@ pub record Seen : Type 0 where
 
 -- what a set-up asks for, and only a set-up changes
 pub record Rules : Type 0 where
-  -- the most frames, and the most words of the stack
+  -- limits: the most frames, and the most words of the stack (a machine's own fields of these names count what is in use)
   pub depth : ℕ
   pub height : ℕ
-  -- how many functions there are, and the handlers of each
+  -- how many functions there are, and the registers and handlers of each
   pub functions : ℕ
+  pub registers : ℕ → ℕ
   pub handlers : ℕ → List Handler
   -- the most bytes, and what a frame, an integer object and an error object cost
   pub memory : ℕ

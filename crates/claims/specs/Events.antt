@@ -102,7 +102,8 @@ goesOn (Driver.Iter has val iter) = true
 goesOn Driver.Host = false
 goesOn Driver.Finalize = false
 
--- the word x leaves a frame: of a body, it ends one that it closes, else goes on or not
+-- the word x leaves a frame: of a body, it ends one that it closes, else goes on or not. `below` is the same question for the frames under
+-- this one, with the chain that is left
 abbrev pub leaving : Cont → View → ℕ → List Active → (List Active → Option ℕ) → Option ℕ
 leaving Cont.Entry v x chain below = none
 leaving (Cont.Write r) v x chain below = below chain
@@ -170,7 +171,7 @@ pub record Fails (e : Engine) (c : ℕ) (s : e .State) (k : e .Call) : Type 0 wh
   pub before : is (e .view s) runs c ≡ true
   pub after : is (e .view (e .next s k)) failed c ≡ true
 
--- the word x leaves a frame: of a body, one that it closes ends it; any other fails, and so may those below
+-- the word x leaves a frame: of a body, one that it closes ends it; any other fails, and so may those below (`below` as in `leaving`)
 abbrev pub losing : Cont → View → ℕ → List Active → (List Active → List ℕ) → List ℕ
 losing Cont.Entry v x chain below = []
 losing (Cont.Write r) v x chain below = below chain
@@ -196,7 +197,7 @@ lostAt v (some x) (OptPc.Some pc) = lost v x (at pc (v .frames)) (v .chain)
 abbrev pub handled : View → ℕ
 handled v = pick (eqb (v .fuel .fuel) 0) (pick (eqb (banked (v .fuel .bank)) 0) 10 0) 0
 
--- the word x leaves a frame: of a body, it stops with one that it closes, and at the host and at a cleanup
+-- the word x leaves a frame: of a body, it stops with one that it closes, and at the host and at a cleanup (`below` as in `leaving`)
 abbrev pub ending : Cont → View → ℕ → List Active → (List Active → ℕ) → ℕ
 ending Cont.Entry v x chain below = 17
 ending (Cont.Write r) v x chain below = below chain
@@ -216,7 +217,7 @@ endsAt v x OptPc.None = ends v x (v .frames) (v .chain)
 endsAt v x (OptPc.Some pc) = ends v x (at pc (v .frames)) (v .chain)
 
 -- who fails: by an unwind of a word, whatever it answers; of a fault, but where its error object could not be made (9, 14); all, where
--- the run is stopped
+-- the run is stopped. A thrown word is both of the first two: it needs no object, so its number does not matter
 pub data Lost (v : View) (n c : ℕ) : Option Op → Type 0 where
   thrown : (x : ℕ) (pc : OptPc) → among c (lostAt v (some x) pc) ≡ true → Lost v n c (some (Op.Unwind (Fault.Throw x) pc))
   escapes : (f : Fault) (pc : OptPc) → (eqb n 9 || eqb n 14) ≡ false → among c (lostAt v (raised v f) pc) ≡ true → Lost v n c (some (Op.Unwind f pc))
@@ -224,7 +225,7 @@ pub data Lost (v : View) (n c : ℕ) : Option Op → Type 0 where
 
 -- what is seen of one that has ended: nothing is saved any more, and nothing closes it
 abbrev pub endedAs : CoroState → ℕ → Option Seen
-endedAs s x = some (record { state = s; words = []; frames = []; mostWords = 0; mostFrames = 0; closing = false; signal = 0; result = x })
+endedAs s x = some (record { state = s; words = []; frames = []; waits = 0; mostWords = 0; mostFrames = 0; closing = false; signal = 0; result = x })
 
 -- ---- what else is seen and is not a word, a frame or a state
 
@@ -233,16 +234,16 @@ abbrev pub lives : CoroState → Bool
 lives s = ltb (code s) 4
 
 -- whom a call may end that has not begun: a word is thrown into it, or it is closed
-abbrev pub undone : Does → Option ℕ
-undone (instr pc ok (enter c d nothing may)) = some c
-undone (instr pc ok (enter c d (gets x) may)) = none
-undone (instr pc ok (enter c d (closes x) may)) = some c
-undone (instr pc ok (suspend await dst x)) = none
-undone (instr pc ok neither) = none
-undone (hosts c x) = none
-undone (finishes kind x) = none
-undone (raises f pc) = none
-undone other = none
+abbrev pub endsUnbegun : Does → Option ℕ
+endsUnbegun (instr pc ok (enter c d nothing may)) = some c
+endsUnbegun (instr pc ok (enter c d (gets x) may)) = none
+endsUnbegun (instr pc ok (enter c d (closes x) may)) = some c
+endsUnbegun (instr pc ok (suspend await dst x)) = none
+endsUnbegun (instr pc ok neither) = none
+endsUnbegun (hosts c x) = none
+endsUnbegun (finishes kind x) = none
+endsUnbegun (raises f pc) = none
+endsUnbegun other = none
 
 -- has begun, and does not run
 abbrev pub rests : CoroState → Bool
@@ -264,7 +265,8 @@ pub record Events (e : Engine) : Type 0 where
   pub entered : (c : ℕ) (s : e .State) (k : e .Call) → Healthy e s → By (e .view s) (e .op k) c → Enters e c s k
   -- 01: "also where the call then answers a fault, as 17 at a throw, a close or a cleanup's start": 0, or 17 where a word is raised
   pub answered : (c : ℕ) (s : e .State) (k : e .Call) → Enters e c s k → (b : By (e .view s) (e .op k) c) → e .number s k ≡ answers (is (e .view s) isNew c) (b .sent)
-  -- a Resume, a host entry, or a turn of a loop that goes on, that is answered 0 has entered whom it names
+  -- a Resume, a host entry, or a turn of a loop that goes on, that is answered 0 has entered whom it names (a source that has returned only
+  -- ends the loop: `turned` leaves it out)
   pub resumed : (s : e .State) (k : e .Call) (pc dst r src : ℕ) → e .op k ≡ some (Op.Resume pc dst r src) → e .number s k ≡ 0 → Enters e (word (e .view s) r) s k
   pub hosted : (c : ℕ) (s : e .State) (k : e .Call) (x : ℕ) → e .op k ≡ some (Op.HostEntry c x) → e .number s k ≡ 0 → Enters e c s k
   pub turned : (s : e .State) (k : e .Call) (pc has iter val src : ℕ) → e .op k ≡ some (Op.IterNext pc has iter val src) → e .number s k ≡ 0 → e .view s .done (word (e .view s) iter) ≡ false
@@ -314,7 +316,7 @@ pub record Events (e : Engine) : Type 0 where
   pub still : (c : ℕ) (s : e .State) (k : e .Call) → (Restarts e s k → ⊥) → (Enters e c s k → ⊥) → is (e .view s) rests c ≡ true → e .view (e .next s k) .coro c ≡ e .view s .coro c
   -- and so is one that has not begun, unless it is closed or a word is thrown into it, and no cleanup comes first
   pub unbegun : (c : ℕ) (s : e .State) (k : e .Call) → (Restarts e s k → ⊥) → (Enters e c s k → ⊥) → is (e .view s) isNew c ≡ true
-      → (undone (doing (e .view s) (e .op k)) ≡ some c → whom (e .view s) (e .op k) ≡ none → ⊥) → e .view (e .next s k) .coro c ≡ e .view s .coro c
+      → (endsUnbegun (doing (e .view s) (e .op k)) ≡ some c → whom (e .view s) (e .op k) ≡ none → ⊥) → e .view (e .next s k) .coro c ≡ e .view s .coro c
   -- who runs runs on, unless it is suspended, returns or fails; and who comes has not begun
   pub runs-on : (c : ℕ) (s : e .State) (k : e .Call) → (Restarts e s k → ⊥) → is (e .view s) runs c ≡ true → (Suspends e c s k → ⊥) → (Returns e c s k → ⊥) → (Fails e c s k → ⊥) → is (e .view (e .next s k)) runs c ≡ true
   pub comes : (c : ℕ) (s : e .State) (k : e .Call) → e .view s .coro c ≡ none

@@ -11,7 +11,7 @@ use Rattle.model.specs.declared.machine.Driver.{Driver}
 use Rattle.model.specs.declared.machine.Active.{Active}
 use Rattle.model.specs.declared.machine.Frame.{Frame}
 use Rattle.model.specs.declared.call.Op.{Op}
-use Rattle.claims.specs.Engine.{Seen, View, is, isNew, sleeps}
+use Rattle.claims.specs.Engine.{Seen, View, is, sleeps}
 use Rattle.claims.specs.Says.{Sent, nothing, gets, closes, Aim, enter, suspend, neither, Does, instr, hosts, finishes, raises, other, doing, entry, whom}
 
 -- ---- frames, field by field
@@ -63,8 +63,8 @@ waitsIn (finishes kind x) = 0
 waitsIn (raises f pc) = 0
 waitsIn other = 0
 
--- c on top: its Coro frame, with frames over it and under it. 01: "held are its Coro frame with all frames above it, and the words from
--- that frame's base up"
+-- c is innermost: its Coro frame, with frames over it and under it. 01: "held are its Coro frame with all frames above it, and the words
+-- from that frame's base up". By `chain` its floor is how many stand under that frame, so over, body and under are the only such split
 pub record Held (v : View) (c : ℕ) : Type 0 where
   pub over : List Frame
   pub body : Frame
@@ -105,6 +105,11 @@ given nothing fs r xs = xs
 given (gets x) fs r xs = into fs r x xs
 given (closes x) fs r xs = xs
 
+-- saved frames as they wake: the top one's pc a step further, if a word is sent
+abbrev pub woken : Sent → List Frame → List Frame
+woken s [] = []
+woken s (f ∷ fs) = at (stepped s (f .pc)) (f ∷ fs)
+
 -- k at w enters c and leaves z: c's frames and words on those of the caller, whose pc is k's
 pub record Entered (w : View) (k : Option Op) (c : ℕ) (z : View) : Type 0 where
   pub by : By w k c
@@ -117,10 +122,10 @@ pub record Entered (w : View) (k : Option Op) (c : ℕ) (z : View) : Type 0 wher
   pub floor : body .base ≡ length (w .stack)
   pub chain : z .chain ≡ record { coro = c; floor = length (w .frames); driver = by .driver } ∷ w .chain
   pub closing : closer (z .coro c) ≡ closedBy (by .sent) (closer (w .coro c))
-  -- 01: "A Created one ignores the sent word.": it begins with the words and frames that it was made with; a word sent would be in its
-  -- first register
-  pub new-words : (x : Seen) → w .coro c ≡ some x → isNew (x .state) ≡ true → z .stack ≡ given (by .sent) (z .frames) 0 (w .stack ++ x .words)
-  pub new-frames : (x : Seen) → w .coro c ≡ some x → isNew (x .state) ≡ true → AllMoved 0 (length (w .stack)) (x .frames) (over ++ (body ∷ []))
+  -- new or asleep, it has the words and frames that it is seen to have saved, moved to the caller's height, and no other; with the sent
+  -- word, if any, in the register that waits. 01: "A Created one ignores the sent word.": nothing is sent to it (`named` of Says.antt)
+  pub saved-words : (x : Seen) → w .coro c ≡ some x → z .stack ≡ given (by .sent) (z .frames) (x .waits) (w .stack ++ x .words)
+  pub saved-frames : (x : Seen) → w .coro c ≡ some x → AllMoved 0 (length (w .stack)) (woken (by .sent) (x .frames)) (over ++ (body ∷ []))
 
 -- x at v suspended c, and y at w enters it and leaves z: what x found, moved from its Coro frame's base to the caller's height
 pub record Restored (v : View) (x : Option Op) (w : View) (y : Option Op) (c : ℕ) (z : View) : Type 0 where
@@ -130,7 +135,8 @@ pub record Restored (v : View) (x : Option Op) (w : View) (y : Option Op) (c : �
   pub entered : Entered w y c z
   -- its frames, from its Coro frame up: function, closure and continuation of each are those that x found, and every base is moved by one
   -- distance; the top one's pc is x's, a step further if a word is sent
-  pub moved : AllMoved (held .body .base) (length (w .stack)) (at (stepped (entered .by .sent) (pcOf (doing v x))) (held .over ++ (held .body ∷ []))) (entered .over ++ (entered .body ∷ []))
+  pub moved : let heldFrames = held .over ++ (held .body ∷ []) in let wakePc = stepped (entered .by .sent) (pcOf (doing v x)) in
+      AllMoved (held .body .base) (length (w .stack)) (at wakePc heldFrames) (entered .over ++ (entered .body ∷ []))
   -- the whole stack: the caller's as y found it, and on it every word that c held from its Coro frame's base up, and no other; with the
   -- sent word, if any, in the register that x named
   pub words : z .stack ≡ given (entered .by .sent) (z .frames) (waitsIn (doing v x)) (w .stack ++ drop (held .body .base) (v .stack))

@@ -5,6 +5,9 @@ pub mod Held
 pub mod Delivery
 pub mod Demand3
 pub mod Events
+pub mod Touches
+pub mod Made
+pub mod Asks
 pub mod Promise
 pub mod Premises
 pub mod Steps
@@ -12,3 +15,4 @@ pub mod Story
 pub mod Witness
 pub mod Wrong
 pub mod WrongHosts
+pub mod WrongTouches

@@ -1,5 +1,5 @@
--- ALL THAT IS PROMISED of an engine, in one record: demand 3, events that are exact, what is accepted, soundness that is kept, set-ups and
--- looks, and that none of it is empty. `step` has it (`promise` in proofs/Promise.antt).
+-- ALL THAT IS PROMISED of an engine, in one record: demand 3, events that are exact, what other calls leave alone, what a creation makes,
+-- what is asked, what is accepted, soundness that is kept, set-ups and looks, and that none of it is empty. `step` has it (`promise` in proofs/Promise.antt).
 use Prim.Native.Nat.{ℕ, _+_, _-_, _*_, _^_, min}
 use mathlib.Core.Path.{_≡_}
 use mathlib.Core.Bool.{Bool, true, false, _||_}
@@ -22,6 +22,9 @@ use Rattle.claims.specs.Says.{word, lie, Entry, charged}
 use Rattle.claims.specs.Held.{Held}
 use Rattle.claims.specs.Demand3.{Enters, Suspends, Stops, Restarts, Waits, Goes, Demand3}
 use Rattle.claims.specs.Events.{Healthy, raised, endsAt, Events}
+use Rattle.claims.specs.Touches.{Touches}
+use Rattle.claims.specs.Made.{Creates}
+use Rattle.claims.specs.Asks.{Asks}
 
 -- ---- what is accepted, besides the entries (Events.entered)
 
@@ -40,7 +43,8 @@ suspends n = eqb n 0 || eqb n 2 || eqb n 6
 abbrev pub room : View → ℕ → Bool
 room v n = leb (min (v .used + n) (2 ^ 64 - 1)) (v .rules .memory)
 
--- an instruction is paid for, by the fuel or the bank, and no cleanup comes first: whom a call was to enter, it enters
+-- an instruction is paid for, by the fuel or the bank, and no cleanup comes first: of `charged`'s four cases (Says.antt) those that leave it
+-- to the call whom it enters
 abbrev pub PaidFor : View → Type 0
 PaidFor v = (pc : ℕ) (y : Entry) → charged v pc (some y) ≡ some y
 
@@ -52,6 +56,7 @@ pub record Roomy (e : Engine) (n c : ℕ) (s : e .State) : Type 0 where
   pub held : Held (e .view s) c
   pub seen : Seen
   pub there : e .view s .coro c ≡ some seen
+  -- `-` stops at 0: what is saved within the most so far is free
   pub grows : let words = length (drop (held .body .base) (e .view s .stack)) - seen .mostWords in let frames = length (held .over ++ (held .body ∷ [])) - seen .mostFrames in
       room (e .view s) (n + (words * 8 + frames * e .view s .rules .frameCost)) ≡ true
 
@@ -173,6 +178,9 @@ pub record NotEmpty (e : Engine) : Type 0 where
 pub record Promise (e : Engine) : Type 0 where
   pub demand3 : Demand3 e
   pub events : Events e
+  pub touches : Touches e
+  pub creates : Creates e
+  pub asks : Asks e
   pub accepts : Accepts e
   pub soundness : Soundness e
   pub set-ups : SetUps e

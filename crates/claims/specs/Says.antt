@@ -1,4 +1,5 @@
--- What a call says: read off its operands, and off the registers before it. And so whom it enters, by which driver, with what word.
+-- What a call announces, in words of the claims' own: its operands and the registers that they name, limits, the charge, the cleanup that may
+-- come first. And so whom it enters, by which driver, with what word.
 use Prim.Native.Nat.{ℕ, _+_}
 use mathlib.Core.Bool.{Bool, true, false, not, _&&_, _||_}
 use mathlib.Core.List.{List, [], _∷_}
@@ -43,14 +44,14 @@ pub data Sent : Type 0 where
   closes : ℕ → Sent
 
 pub data Aim : Type 0 where
-  -- to enter the coroutine that a word names: driver, what it is entered with, and whether its state allows this
+  -- to enter the coroutine that a word names: driver, what it is entered with, and whether the call may (a test of states beyond `fits`)
   enter : ℕ → Driver → Sent → Bool → Aim
   -- to suspend: an await or not, the register that waits, the payload
   suspend : Bool → ℕ → ℕ → Aim
   neither : Aim
 
 pub data Does : Type 0 where
-  -- an instruction: its pc, whether its operands pass, and its aim
+  -- an instruction: its pc, whether its operands lie in the frame (and its function is one), and what it is after
   instr : ℕ → Bool → Aim → Does
   -- the host enters a coroutine, with a word
   hosts : ℕ → ℕ → Does
@@ -126,7 +127,8 @@ abbrev pub banked : Opt → ℕ
 banked Opt.None = 0
 banked (Opt.Some n) = n
 
--- with fuel, the call's own; with none, and a bank, first a cleanup if those are ready; with neither, nobody
+-- who is entered once it is charged, y being the call's own: with fuel, y; with neither fuel nor bank, nobody; with a bank and cleanups
+-- ready, one that is cleaned up, else y; with a bank only, y
 abbrev pub charged : View → ℕ → Option Entry → Option Entry
 charged v pc y = pick (eqb (v .fuel .fuel) 0) (pick (eqb (banked (v .fuel .bank)) 0) none (pick (v .fuel .ready) (orElse (cleaned v pc (v .queue)) y) y)) y
 

@@ -6,6 +6,7 @@ use mathlib.Core.List.{List}
 use mathlib.Core.Option.{Option, none, some}
 use lib.ListN.{length}
 use Rattle.heap.specs.Table.{nextWord}
+use Rattle.heap.specs.declared.object.CoroState.{CoroState}
 use Rattle.model.specs.Program.{Setup, func}
 use Rattle.model.specs.Object.{Coroutine, Absent, Is, isDone}
 use Rattle.model.specs.World.{World, withFuel}
@@ -16,9 +17,18 @@ use Rattle.model.specs.Step.{step}
 use Rattle.model.specs.declared.call.Op.{Op}
 use Rattle.claims.specs.Engine.{Seen, Rules, View, Engine}
 
+-- the register that waits, of one that can be entered
+abbrev pub waitsOf : CoroState → ℕ → ℕ
+waitsOf CoroState.Created r = r
+waitsOf CoroState.Running r = 0
+waitsOf CoroState.Yielded r = r
+waitsOf CoroState.Awaiting r = r
+waitsOf CoroState.Returned r = 0
+waitsOf CoroState.Failed r = 0
+
 abbrev pub seenOf : Coroutine → Option Seen
 seenOf Absent = none
-seenOf (Is k r) = some (record { state = k .state; words = k .regs; frames = k .frames; mostWords = r .maxregs; mostFrames = r .maxframes; closing = r .closing; signal = r .signal; result = r .result })
+seenOf (Is k r) = some (record { state = k .state; words = k .regs; frames = k .frames; waits = waitsOf (k .state) (k .waiting); mostWords = r .maxregs; mostFrames = r .maxframes; closing = r .closing; signal = r .signal; result = r .result })
 
 abbrev pub rulesOf : Setup → Rules
 rulesOf s =
@@ -26,6 +36,7 @@ rulesOf s =
       depth = s .limits .depth;
       height = s .limits .stack;
       functions = length (s .functions);
+      registers = λ f. func s f .regs;
       handlers = λ f. func s f .handlers;
       memory = s .limits .memory;
       frameCost = s .costs .frame;

@@ -1,6 +1,6 @@
 -- Machines that are wrong in one thing, and else `step`. None of them has what is promised: `proofs/Wrong.antt`.
 use Prim.Native.Nat.{ℕ, _+_}
-use mathlib.Core.Bool.{Bool, true, false, not, _&&_}
+use mathlib.Core.Bool.{Bool, true, false, not, _&&_, _||_}
 use mathlib.Core.List.{List, [], _∷_, map}
 use mathlib.Core.Option.{Option, none, some}
 use lib.ListN.{length, set}
@@ -120,6 +120,29 @@ greeted w z = withStack (set (z .stack) (length (w .stack)) 5) z
 
 abbrev pub late : World → World → World
 late w z = withFrames (onTop atOne (z .frames)) z
+
+-- it knows whether a call has suspended anybody: before that, who slept is woken with 5 for its first word. So it is `step` in every list
+-- in which a call suspended whoever is woken
+pub record Forgetful : Type 0 where
+  pub world : World
+  pub saw : Bool
+
+abbrev pub startled : Engine
+startled =
+    record {
+      State = Forgetful;
+      Call = Call;
+      op = opOf;
+      asks = asksOf;
+      view = λ s. viewOf (s .world);
+      next = λ s k. let w = s .world in let z = step w k .world in record {
+        world = pick (ltb (length (w .chain)) (length (z .chain)) && slept w (z .chain) && not (s .saw)) (greeted w z) z;
+        saw = s .saw || ltb (length (z .chain)) (length (w .chain));
+      };
+      refuel = λ s f. record { world = withFuel f (s .world); saw = s .saw };
+      number = λ s k. numberOf (step (s .world) k .answer);
+      look = λ s. looks (s .world);
+    }
 
 -- one that slept inside a call that it made gets back 5 for the first word that it held, and every frame
 abbrev pub mistaking : Engine
@@ -303,6 +326,7 @@ pub record Wrong : Type 0 where
   pub below-changed : Demand3 tainting → ⊥
   pub new-gets-a-word : Demand3 (begun greeted) → ⊥
   pub new-at-pc-1 : Demand3 (begun late) → ⊥
+  pub sleeper-gets-others : Demand3 startled → ⊥
   pub await-yields : Events yielding → ⊥
   pub excused : Events excusing → ⊥
   pub throw-lost : Events muting → ⊥

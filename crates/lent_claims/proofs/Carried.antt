@@ -10,12 +10,16 @@ use lib.Dec.{eqb}
 use Rattle.lists.specs.Pick.{pick}
 use Rattle.heap.specs.declared.value.Opt.{Opt}
 use Rattle.heap.specs.declared.object.CoroState.{CoroState}
+use Rattle.model.specs.declared.machine.Cont.{Cont}
 use Rattle.claims.specs.Engine.{Seen, View, Engine, Turn, run, isNew, runs, awaits, ended, seenIn, is}
 use Rattle.claims.specs.Says.{word, doing, lie, Entry, charged, whom}
-use Rattle.claims.specs.Held.{Held, closer, By, Entered, Restored}
+use Rattle.claims.specs.Held.{at, into, Held, closer, By, Entered, Restored}
 use Rattle.claims.specs.Delivery.{recorded, Left, resultOf}
 use Rattle.claims.specs.Demand3.{Enters, Suspends, Stops, Restarts, Waits, Goes, Demand3}
-use Rattle.claims.specs.Events.{Healthy, raised, endsAt, answers, suspended, isAwait, toldTo, returned, Lost, endedAs, lives, undone, rests, Events}
+use Rattle.claims.specs.Events.{inmost, Healthy, raised, endsAt, answers, suspended, isAwait, toldTo, returned, Lost, endedAs, lives, endsUnbegun, rests, Events}
+use Rattle.claims.specs.Touches.{Touched, Called, Finished, Touches}
+use Rattle.claims.specs.Made.{arguments, made, Named, Creates}
+use Rattle.claims.specs.Asks.{codeIn, orNil, Asks}
 use Rattle.claims.specs.Promise.{suspends, room, Roomy, Pays, Makes, Accepts, Eleven, Soundness, Fresh, SetUps, registers, Looks, withFuel, Refuels, NotEmpty}
 use Rattle.claims.proofs.Premises.{Premises}
 use Rattle.lent_claims.proofs.Follows.{Follows, Sight, sight, same, along, ran}
@@ -127,7 +131,7 @@ module _ (e d : Engine) (f : Follows e d) where
         unbegun = λ c s k r h l u.
             down (λ v. v .after .coro c ≡ v .before .coro c) s k
             (p .unbegun c (f .to s) (f .by s k) (λ x. r (down-restarts e d f s k x)) (λ x. h (down-enters e d f s k c x)) (up (λ v. is (v .before) isNew c ≡ true) s k l)
-            (λ x y. u (down (λ v. undone (doing (v .before) (v .op)) ≡ some c) s k x) (down (λ v. whom (v .before) (v .op) ≡ none) s k y)));
+            (λ x y. u (down (λ v. endsUnbegun (doing (v .before) (v .op)) ≡ some c) s k x) (down (λ v. whom (v .before) (v .op) ≡ none) s k y)));
         runs-on = λ c s k r h a b g.
             down (λ v. is (v .after) runs c ≡ true) s k
             (p .runs-on c (f .to s) (f .by s k) (λ x. r (down-restarts e d f s k x)) (up (λ v. is (v .before) runs c ≡ true) s k h) (λ x. a (down-suspends e d f s k c x)) (λ x. b (down-returns e d f s k c x)) (λ x. g (down-fails e d f s k c x)));
@@ -136,6 +140,45 @@ module _ (e d : Engine) (f : Follows e d) where
         one-switch = λ c u s k h g. p .one-switch c u (f .to s) (f .by s k) (up-enters e d f s k c h) (up-suspends e d f s k u g);
         no-return = λ c u s k h g. p .no-return c u (f .to s) (f .by s k) (up-enters e d f s k c h) (up-returns e d f s k u g);
         one-leaves = λ c u s k h g. p .one-leaves c u (f .to s) (f .by s k) (up-suspends e d f s k c h) (up-returns e d f s k u g);
+      }
+
+  pub touches : Touches d → Touches e
+  touches p =
+      record {
+        touched = λ s k o m q l h g.
+            down (λ v. Touched m (v .before) (v .after)) s k (p .touched (f .to s) (f .by s k) o m (f .op s k ∙ q) l (λ c x. h c (down-enters e d f s k c x)) (λ c x. g c (down-suspends e d f s k c x)));
+        finished = λ s k kind x g gs o q b n.
+            down (λ v. v .before .frames ≡ g ∷ gs → Finished g gs (v .before) (v .after)) s k (λ r. p .finished (f .to s) (f .by s k) kind x g gs (f .op s k ∙ o) r b (f .number s k ∙ n)) q;
+        called = λ s k pc g cont o n. down (λ v. Called g cont (at pc (v .before .frames)) (v .before) (v .after)) s k (p .called (f .to s) (f .by s k) pc g cont (f .op s k ∙ o) (f .number s k ∙ n));
+        host-called = λ s k g o n. down (λ v. Called g Cont.Entry [] (v .before) (v .after)) s k (p .host-called (f .to s) (f .by s k) g (f .op s k ∙ o) (f .number s k ∙ n));
+        put = λ s k r x o n. down (λ v. v .after .stack ≡ into (v .before .frames) r x (v .before .stack)) s k (p .put (f .to s) (f .by s k) r x (f .op s k ∙ o) (f .number s k ∙ n));
+      }
+
+  -- who was not there, and is seen as x after the call
+  abbrev come-as : (View → Type 0) → ℕ → Seen → Sight → Type 0
+  come-as P c x v = v .before .coro c ≡ none → v .after .coro c ≡ some x → P (v .before)
+
+  pub creates : Creates d → Creates e
+  creates p =
+      record {
+        new = λ c s k pc dst n argc x o. down (come-as (λ v. x ≡ made (v .rules) n 0 (arguments v dst argc)) c x) s k (p .new c (f .to s) (f .by s k) pc dst n argc x (f .op s k ∙ o));
+        indirect = λ c s k pc dst r argc x o.
+            down (come-as (λ v. (n : ℕ) × (x ≡ made (v .rules) n (word v r) (arguments v dst argc))) c x) s k (p .indirect c (f .to s) (f .by s k) pc dst r argc x (f .op s k ∙ o));
+        spawned = λ c s k pc dst r argc x o.
+            down (come-as (λ v. (n : ℕ) × (x ≡ made (v .rules) n (word v r) (arguments v dst argc))) c x) s k (p .spawned c (f .to s) (f .by s k) pc dst r argc x (f .op s k ∙ o));
+        named = λ s k pc dst n argc o q.
+            down (λ v. Named (v .before) dst (made (v .before .rules) n 0 (arguments (v .before) dst argc)) (v .after)) s k (p .named (f .to s) (f .by s k) pc dst n argc (f .op s k ∙ o) (f .number s k ∙ q));
+        named-indirect = λ s k pc dst r argc o q.
+            down (λ v. (n : ℕ) × Named (v .before) dst (made (v .before .rules) n (word (v .before) r) (arguments (v .before) dst argc)) (v .after)) s k
+            (p .named-indirect (f .to s) (f .by s k) pc dst r argc (f .op s k ∙ o) (f .number s k ∙ q));
+      }
+
+  pub asks : Asks d → Asks e
+  asks p =
+      record {
+        status = λ s k pc dst r o n. down (λ v. v .after .stack ≡ into (v .before .frames) dst (codeIn (v .before .coro (word (v .before) r))) (v .before .stack)) s k (p .status (f .to s) (f .by s k) pc dst r (f .op s k ∙ o) (f .number s k ∙ n));
+        current = λ s k pc dst o n. down (λ v. v .after .stack ≡ into (v .before .frames) dst (orNil (inmost (v .before .chain))) (v .before .stack)) s k (p .current (f .to s) (f .by s k) pc dst (f .op s k ∙ o) (f .number s k ∙ n));
+        result = λ s k pc dst r o n. down (λ v. v .after .stack ≡ into (v .before .frames) dst (recorded (v .before .coro (word (v .before) r))) (v .before .stack)) s k (p .result (f .to s) (f .by s k) pc dst r (f .op s k ∙ o) (f .number s k ∙ n));
       }
 
   -- ---- acceptance

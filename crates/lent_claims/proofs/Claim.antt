@@ -35,6 +35,9 @@ promise =
     record {
       demand3 = Carried.demand3 outer steps follows (p .demand3);
       events = Carried.events outer steps follows (p .events);
+      touches = Carried.touches outer steps follows (p .touches);
+      creates = Carried.creates outer steps follows (p .creates);
+      asks = Carried.asks outer steps follows (p .asks);
       accepts = Carried.accepts outer steps follows (p .accepts);
       soundness = Carried.soundness outer steps follows (p .soundness);
       set-ups = Carried.set-ups outer steps follows (p .set-ups);

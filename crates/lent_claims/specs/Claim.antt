@@ -42,7 +42,8 @@ pub record Woken (s : State) (x : Call) (t : State) (y : Call) (c : ℕ) (z : St
   pub stacked : Stacked t z
   pub held : Held (outer .view s) c
   pub by : By (outer .view t) (opOf y) c
-  -- from the caller's height up stand the words that c held, from its Coro frame's base up, with the sent word in the register that waits
+  -- from the caller's height up stand the words that c held, from its Coro frame's base up, with the sent word in the register that waits:
+  -- its place is counted from that base, so the top frame's base comes in
   pub above : drop (t .machine .height) (inUse z)
       ≡ sentTo (by .sent) (base (outer .view s .frames) - held .body .base + waitsIn (doing (outer .view s) (opOf x))) (drop (held .body .base) (inUse s))
 

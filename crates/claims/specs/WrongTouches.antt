@@ -1,0 +1,95 @@
+-- Machines that touch the script that runs, or make another coroutine, and else are `step`. None of them has what is promised:
+-- `proofs/WrongTouches.antt`.
+use Prim.Native.Nat.{ℕ, _+_}
+use mathlib.Core.Bool.{not, _&&_}
+use mathlib.Core.List.{map}
+use mathlib.Core.Option.{Option, none, some}
+use lib.ListN.{length}
+use lib.Dec.{eqb, ltb}
+use Rattle.lists.specs.Pick.{pick}
+use Rattle.model.specs.Object.{Core}
+use Rattle.model.specs.World.{World}
+use Rattle.model.specs.Frames.{putReg}
+use Rattle.model.specs.Heap.{changeCoro}
+use Rattle.model.specs.Step.{step}
+use Rattle.model.specs.declared.call.Op.{Op}
+use Rattle.claims.specs.Engine.{Engine, isNew, is}
+use Rattle.claims.specs.Touches.{May, mayTouch, Touches}
+use Rattle.claims.specs.Made.{Creates}
+use Rattle.claims.specs.Asks.{Asks}
+use Rattle.claims.specs.Steps.{viewOf, opOf}
+use Rattle.claims.specs.Story.{c}
+use Rattle.claims.specs.Wrong.{leaving, greeted}
+
+-- ---- machines that touch the script that runs
+
+-- what adds fuel, as a grant does, puts 5 into the first register of the top frame
+abbrev pub granting : Engine
+granting = leaving (λ w k. let z = step w k .world in pick (ltb (w .fuel .fuel) (z .fuel .fuel)) (putReg 0 5 z) z)
+
+-- a call that may write a register, as CoroStatus may, puts 5 into the one after it
+abbrev pub after : Option ℕ → World → World
+after none z = z
+after (some r) z = putReg (r + 1) 5 z
+
+abbrev pub beside : Option May → World → World
+beside none z = z
+beside (some m) z = after (m .register) z
+
+abbrev pub limitsOf : Option Op → Option May
+limitsOf none = none
+limitsOf (some o) = mayTouch o
+
+abbrev pub spilling : Engine
+spilling = leaving (λ w k. beside (limitsOf (opOf k)) (step w k .world))
+
+-- what takes no fuel, and moves no frame, is answered as ever, and not done: so put word
+abbrev pub lazy : Engine
+lazy = leaving (λ w k. let z = step w k .world in pick (eqb (w .fuel .fuel) (z .fuel .fuel) && eqb (length (w .frames)) (length (z .frames))) w z)
+
+-- a frame that is called begins with 5 in its first register
+abbrev pub littering : Engine
+littering = leaving (λ w k. let z = step w k .world in pick (ltb (length (w .frames)) (length (z .frames)) && eqb (length (w .chain)) (length (z .chain))) (greeted w z) z)
+
+-- a frame that is called and finishes leaves 5 in its caller's first register
+abbrev pub tearing : Engine
+tearing = leaving (λ w k. let z = step w k .world in pick (ltb (length (z .frames)) (length (w .frames)) && eqb (length (w .chain)) (length (z .chain))) (putReg 0 5 z) z)
+
+-- ---- machines that make another coroutine
+
+-- where c comes, what it begins with is bent: 5 in every register; a frame of another function
+abbrev pub breeding : (Core → Core) → ℕ → Engine
+breeding f c = leaving (λ w k. let z = step w k .world in pick (not (is (viewOf w) isNew c) && is (viewOf z) isNew c) (changeCoro c f (λ r. r) z) z)
+
+abbrev pub fives : Core → Core
+fives k = record { state = k .state; regs = map (λ x. 5) (k .regs); frames = k .frames; waiting = k .waiting }
+
+abbrev pub ofOne : Core → Core
+ofOne k = record { state = k .state; regs = k .regs; frames = map (λ f. record { func = 1; pc = f .pc; base = f .base; closure = f .closure; cont = f .cont }) (k .frames); waiting = k .waiting }
+
+-- where c comes, the first register of the top frame is nil
+abbrev pub nameless : ℕ → Engine
+nameless c = leaving (λ w k. let z = step w k .world in pick (not (is (viewOf w) isNew c) && is (viewOf z) isNew c) (putReg 0 0 z) z)
+
+-- a call that may write a register, as CoroCurrent may, writes 9
+abbrev pub nine : Option ℕ → World → World
+nine none z = z
+nine (some r) z = putReg r 9 z
+
+abbrev pub nineBy : Option May → World → World
+nineBy none z = z
+nineBy (some m) z = nine (m .register) z
+
+abbrev pub blurting : Engine
+blurting = leaving (λ w k. nineBy (limitsOf (opOf k)) (step w k .world))
+
+pub record WrongTouches : Type 0 where
+  pub grant-writes : Touches granting → ⊥
+  pub status-spills : Touches spilling → ⊥
+  pub put-ignored : Touches lazy → ⊥
+  pub call-litters : Touches littering → ⊥
+  pub finish-spills : Touches tearing → ⊥
+  pub wrong-arguments : Creates (breeding fives c) → ⊥
+  pub wrong-function : Creates (breeding ofOne c) → ⊥
+  pub nobody-named : Creates (nameless c) → ⊥
+  pub other-current : Asks blurting → ⊥
