@@ -295,6 +295,11 @@ def check_edits():
     for name in re.findall(r"^  pub ([a-z0-9-]+) : .* → ⊥$", "".join(path.read_text() for path in ROOT.glob("crates/claims/specs/Wrong*.antt")), re.M):
         if f"`{name}`" not in cheats:
             say(f"docs/CHEATS.md: no {name}")
+    # and what it names so is an edit, or a word of 01
+    edits, rules = {path.stem for path in ROOT.glob("crates/*/must-fail/*.edit")}, (ROOT / "docs/RULES.md").read_text()
+    for name in sorted(set(re.findall(r"`([a-z0-9]+(?:_[a-z0-9]+)+)`", cheats))):
+        if name not in edits and f"`{name}`" not in rules:
+            say(f"docs/CHEATS.md: {name} is no edit")
     print(f"rules: {count} texts that edits change")
 
 
