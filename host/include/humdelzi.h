@@ -2,9 +2,9 @@
  *
  * The functions of the static library (target/staticlib/libboundary.a) and all words are described in docs/CALLS.md. A machine is nine
  * slices of words that the host lends, its numbers in 25 words, and a fuel record of four, which is the host's. Each function here
- * returns the answer's number (0: accepted) and writes the answer.
+ * returns the answer's number (0: accepted) and writes the answer; humdelzi_sound returns 1 or 0, and a look where the registers stand.
  *
- * Every call tests the words first and refuses with 11 if they are no sound machine's. A host that owns its words, and lets only these
+ * Every call tests the words first and refuses with 11 if they are no sound machine's. A host that owns its words, the fuel's four among them, and lets only these
  * functions write them, may define HUMDELZI_KEPT before this file is included: the calls are then made without the test, and a Resume or
  * Yield that nothing refuses by a function of its own (libhot.a), which does the same (crates/hot/src) several times as fast. Such a host makes no call before a
  * set-up that answered 0, or before humdelzi_sound said 1 of words from elsewhere: on other words these calls read and write anywhere. A set-up

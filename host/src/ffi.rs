@@ -13,8 +13,8 @@
 //! - `bvm_kept` asks for the words of a sound machine, and for a sound fuel
 //!   record. [`Sound`] holds nothing else: it is made where `bvm_set_up`
 //!   answered 0 or where `bvm_sound` said yes, its words are private to this
-//!   module, and only `bvm_kept` and an accepted set-up change them. Both
-//!   leave a sound machine (`crates/boundary_claims/specs/Library.antt`:
+//!   module, and only `bvm_kept`, the two tries and `bvm_batch` below, and an
+//!   accepted set-up change them. All leave a sound machine (`crates/boundary_claims/specs/Library.antt`:
 //!   `begun`, `called`, `kept`). The same holds of [`Record`]; and a machine
 //!   that passes the test passes with the record of any other that does
 //!   (`any-fuel` there, from `AnyFuel` of
