@@ -195,5 +195,6 @@ pub data Shape (w : World) (o : Op) (z : World) : Type 0 where
   works : Says w o nobody false → (b : Mode) → modeOf (act w o) ≡ b → Worked (mayTouch o) b (view w) (view z) → Shape w o z
   enters : (c : ℕ) (d : Driver) (sent : Sent) → Says w o (entry c d sent) false → Enter w (pcBy (act w o)) c d sent z → Shape w o z
   suspended : (p : ℕ) (ok : Bool) (s : CoroState) (dst x : ℕ) (a : Active) (chain : List Active) → Says w o nobody true → act w o ≡ at p ok (suspends s dst x) → Suspend w p s dst x a chain z → Shape w o z
-  returns : (v : View) (x : ℕ) (f : Frame) (fs : List Frame) (a : Active) (chain : List Active) → Says w o nobody false → (isEnding (act w o) ≡ true) × (mayTouch o ≡ none) → ((c : ℕ) → eventBy (act w o) w c ≡ Returns x) → Worked none m-ending (view w) v → Return v x f fs a chain z → Shape w o z
+  returns : (v : View) (x : ℕ) (f : Frame) (fs : List Frame) (a : Active) (chain : List Active) → Says w o nobody false → (isEnding (act w o) ≡ true) × (mayTouch o ≡ none)
+      → ((c : ℕ) → eventBy (act w o) w c ≡ Returns x) → Worked none m-ending (view w) v → Return v x f fs a chain z → Shape w o z
   stops : Says w o nobody false → o ≡ Op.StopRun → Stop w z → Shape w o z
