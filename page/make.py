@@ -93,10 +93,14 @@ def sums(declarations):
 
 
 def statements():
-    """The demands: what each claims, its statement, and the name of its proof, from docs/ASSURANCE.md."""
-    for claim, statement, proof in table_after("docs/ASSURANCE.md", "## Which theorem says it")[1:]:
+    """The demands, then the linked functions: what each claims, its statement, and the name of its proof, from docs/ASSURANCE.md and docs/THEOREMS.md; each statement once."""
+    told = set()
+    for claim, statement, proof in (table_after("docs/ASSURANCE.md", "## Which theorem says it")[1:]
+                                    + table_after("docs/THEOREMS.md", "## From the claim to linked code")[1:]):
         name, file = re.search(r"`([^`]+)`, `(crates/[^:`]+)", statement).groups()
-        yield claim, closure.find(f"{file}:{name}"), proof
+        if (name, file) not in told:
+            told.add((name, file))
+            yield claim, closure.find(f"{file}:{name}"), proof
 
 
 # ---- the run

@@ -1,8 +1,8 @@
 #!/usr/bin/env python3
-"""Checks docs/RULES.md, docs/ASSURANCE.md and docs/LEGEND.md against the sources, so that none can rot:
+"""Checks docs/RULES.md, docs/ASSURANCE.md, docs/THEOREMS.md and docs/LEGEND.md against the sources, so that none can rot:
 each file and name that a row of RULES names is there, and what is no statement in its column "theorem" is the fault sheet's; a sentence is marked as quoted exactly if a comment of its definition's file quotes it;
-every quotation in a comment of crates/ is 01's, or is listed as another's; the places and counts of ASSURANCE are those of today, and the names of LEGEND; each file and folder that README, ASSURANCE, LEGEND and THEOREMS name is there.
-README's layout is crates.txt's. What a wrong edit changes stands once in its file, and CHEATS names it. No file of specs/ or src/ cites one of proofs/, so that what is to be believed stands in specs/. `page/rules.py mend` writes places and counts into ASSURANCE, and the marks into RULES."""
+every quotation in a comment of crates/ is 01's, or is listed as another's; the places and counts of ASSURANCE and THEOREMS are those of today, and the names of LEGEND; each file and folder that README, ASSURANCE, LEGEND and THEOREMS name is there.
+README's layout is crates.txt's. What a wrong edit changes stands once in its file, and CHEATS names it. No file of specs/ or src/ cites one of proofs/, so that what is to be believed stands in specs/. `page/rules.py mend` writes places and counts into ASSURANCE and THEOREMS, and the marks into RULES."""
 import re
 import sys
 from pathlib import Path
@@ -13,7 +13,7 @@ import closure
 
 ROOT = closure.ROOT
 RULES = ROOT / "docs/RULES.md"
-ASSURANCE = ROOT / "docs/ASSURANCE.md"
+PLACED = ("docs/ASSURANCE.md", "docs/THEOREMS.md")
 failed = []
 
 
@@ -165,10 +165,10 @@ def check_rules(mend):
     return expected > 150 and names > 250
 
 
-def check_assurance(mend):
+def check_places(page, mend):
     """A place is `NAME`, `crates/FILE:LINE`; a length is `crates/FILE` (N lines); a sum is a row of a table: statements, lines, declarations.
     `mend` writes what is so today."""
-    text = now = ASSURANCE.read_text()
+    text = now = (ROOT / page).read_text()
     places = set(re.findall(r"`([A-Za-z0-9_-]+)`, `(crates/[A-Za-z0-9_/]+\.(?:antt|rt)):(\d+)`", text))
     for name, file, line in places:
         rows = (ROOT / file).read_text().splitlines() if (ROOT / file).exists() else []
@@ -177,14 +177,14 @@ def check_assurance(mend):
         if mend and here:
             now = now.replace(f"`{name}`, `{file}:{line}`", f"`{name}`, `{file}:{here[0]}`")
         elif here != [int(line)]:
-            say(f"docs/ASSURANCE.md: {name} stands at {file}:{here[0] if here else '(nowhere)'}, not at {line}")
+            say(f"{page}: {name} stands at {file}:{here[0] if here else '(nowhere)'}, not at {line}")
     lengths = set(re.findall(r"`(crates/[A-Za-z0-9_/]+\.(?:antt|rt))` \((\d+) lines\)", text))
     for file, length in lengths:
         rows = len((ROOT / file).read_text().splitlines()) if (ROOT / file).exists() else 0
         if mend and rows:
             now = now.replace(f"`{file}` ({length} lines)", f"`{file}` ({rows} lines)")
         elif rows != int(length):
-            say(f"docs/ASSURANCE.md: {file} has {rows} lines, not {length}")
+            say(f"{page}: {file} has {rows} lines, not {length}")
     sums = re.findall(r"^(\|[^|]*\| (`[^|]+`) \|) ([0-9,]+) \| ([0-9,]+) \|$", text, re.M)
     for row, statements, lines, count in sums:
         found, _ = closure.closure(*map(closure.find, re.findall(r"`([^`]+)`", statements)))
@@ -192,11 +192,11 @@ def check_assurance(mend):
         if mend:
             now = now.replace(f"{row} {lines} | {count} |", f"{row} {today} |")
         elif today != f"{lines} | {count}":
-            say(f"docs/ASSURANCE.md: {statements}: {today}, not {lines} | {count}")
+            say(f"{page}: {statements}: {today}, not {lines} | {count}")
     if now != text:
-        ASSURANCE.write_text(now)
-    print(f"rules: {len(places)} places, {len(lengths)} lengths and {len(sums)} sums of ASSURANCE")
-    return len(places) > 8 and len(sums) > 3
+        (ROOT / page).write_text(now)
+    print(f"rules: {len(places)} places, {len(lengths)} lengths and {len(sums)} sums of {page}")
+    return len(places) > 8 and len(sums) > 2
 
 
 def check_layout():
@@ -313,6 +313,7 @@ check_fields()
 mending = sys.argv[1:] == ["mend"]
 if not check_rules(mending):
     say("docs/RULES.md has lost its rows")
-if not check_assurance(mending):
-    say("docs/ASSURANCE.md has lost its places or its sums")
+for placed in PLACED:
+    if not check_places(placed, mending):
+        say(f"{placed} has lost its places or its sums")
 sys.exit(1 if failed else 0)
