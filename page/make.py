@@ -156,8 +156,8 @@ def refused_at(fact, rows):
                 unfit = unfit or (line, where, text, False)
             else:
                 return line, where, text, True
-        elif not name and re.search(rf"^fn \S*{re.escape(fact.replace('/', '::'))}: no proof: .* `search` does not close", row):
-            return None, "no proof", row.partition("no proof: ")[2], True
+        elif re.search(rf"^fn \S*{re.escape(file.removesuffix('/Proof').replace('/', '::'))}: no proof: .* `search` does not close" + (f".*`{name}`" if name else ""), row):
+            return None, name or "no proof", row.partition("no proof: ")[2], True
     return unfit
 
 
