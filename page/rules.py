@@ -2,7 +2,7 @@
 """Checks docs/RULES.md, docs/ASSURANCE.md, docs/THEOREMS.md and docs/LEGEND.md against the sources, so that none can rot:
 each file and name that a row of RULES names is there, and what is no statement in its column "theorem" is the fault sheet's; a sentence is marked as quoted exactly if a comment of its definition's file quotes it;
 every quotation in a comment of crates/ is 01's, or is listed as another's; the places and counts of ASSURANCE and THEOREMS are those of today, and the names of LEGEND; each file and folder that README, ASSURANCE, LEGEND and THEOREMS name is there.
-README's layout is crates.txt's. What a wrong edit changes stands once in its file, and CHEATS names it. No file of specs/ or src/ cites one of proofs/, so that what is to be believed stands in specs/. `page/rules.py mend` writes places and counts into ASSURANCE and THEOREMS, and the marks into RULES."""
+README's layout is crates.txt's. What boundary_claims says of a linked function is what its contract cites. What a wrong edit changes stands once in its file, and CHEATS names it. No file of specs/ or src/ cites one of proofs/, so that what is to be believed stands in specs/. `page/rules.py mend` writes places and counts into ASSURANCE and THEOREMS, and the marks into RULES."""
 import re
 import sys
 from pathlib import Path
@@ -303,8 +303,35 @@ def check_edits():
     print(f"rules: {count} texts that edits change")
 
 
+def check_linked():
+    """For each linked function that changes a word, `after` of boundary_claims/specs/Linked.antt has the definition that its contract cites."""
+    rows = re.findall(r"^after h \(bvm-(\S+) .*?\) = (.*)$", (ROOT / "crates/boundary_claims/specs/Linked.antt").read_text(), re.M)
+    contracts = {}
+    for path in [*ROOT.glob("crates/boundary/src/*.rt"), *ROOT.glob("crates/hot/src/*.rt"), *ROOT.glob("crates/batch/src/*.rt")]:
+        for name, text in re.findall(r"pub extern \"C\" fn bvm_(\w+)(.*?)^\{", path.read_text(), re.M | re.S):
+            contracts[name] = text[text.index("ensures"):]
+    linked = {"switch": ("try_resume", "try_yield"), "run": ("run", "batch")}
+    # by way of a record, whose equations are the definition's; what keptIn leaves is doWords written back over the host's words
+    records = {"grant": ("boundary/specs/Host.antt", "Granted", "callIn"), "switch": ("hot/specs/Switch.antt", "Switched", "keptIn")}
+    if len(rows) < 6:
+        say("crates/boundary_claims/specs/Linked.antt: after has lost its rows")
+    for name, right in rows:
+        definition = re.search(r"(?:\w+In|runHost|doWords)\b", right).group()
+        if name in records:
+            file, record, within = records[name]
+            body = re.search(rf"^pub record {record} .*?(?=^\S|\Z)", (ROOT / "crates" / file).read_text(), re.M | re.S)
+            if not body or within not in body.group() or definition not in (within, "doWords"):
+                say(f"crates/{file}: {record} does not say {within}")
+            definition = record
+        for function in linked.get(name, (name.replace("-", "_"),)):
+            if not re.search(rf"\b{definition}\b", contracts.get(function, "")):
+                say(f"bvm_{function} has not the definition that Linked.antt gives it: {definition}")
+    print(f"rules: {len(rows)} linked functions have the contract that Linked.antt says")
+
+
 check_cited()
 check_edits()
+check_linked()
 check_layout()
 check_names("docs/PROVING.md")
 check_names("docs/LEGEND.md")
