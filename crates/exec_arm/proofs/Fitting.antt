@@ -43,6 +43,10 @@ some-frame : (fs : List Frame) → isNil fs ≡ false → 1 ≤ length fs
 some-frame [] e = no-true e
 some-frame (f ∷ fs) e = omega arith
 
+-- all that the words stand in, for a call that is lent some of them
+abbrev pub around : {l : Sizes} {w : World} {M : Lent} {m : Machine} {f : Fuel} → Rep l w M m f → Beside
+around {l} {w} {M} {m} {f} rep = record { words = M; fuel = f }
+
 -- an arm's outcome, by the operation
 pub as-arm : {l : Sizes} {M : Lent} {m : Machine} {f : Fuel} {w : World} {o x : Op} {a : Step} {pc : ℕ} {operands : World → Bool} {arm : World → After Step}
     → table o ≡ Instruction pc operands arm → o ≡ x → Does l (armOf (table x) w) M m f a → Does l (arm w) M m f a
