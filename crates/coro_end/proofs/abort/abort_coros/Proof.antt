@@ -6,6 +6,9 @@ use borrow.Author.Needs.{needs}
 use Rattle.coro_end.proofs.abort.abort_coros.Statement.{statement}
 use Rattle.coro_end.proofs.abort.abort_coros.Tie as tie
 
+fail-all-requires : tie.Need-fail-all-requires
+fail-all-requires c κs = c .before .before .before .before .before .before .before .before .pre
+
 returns : tie.Need-returns
 returns c =
     let set = c .before .before in let failed = set .before .before .before .before .before .before .before .before .before in
@@ -22,7 +25,7 @@ pub abort-coros-spec : {M : Type 1} → statement M
 abort-coros-spec =
     tie.close
     (tie.spec
-    (λ c κs. search needs)
+    fail-all-requires
     (λ c κs. search needs)
     (λ c. search needs)
     (λ c. search needs)

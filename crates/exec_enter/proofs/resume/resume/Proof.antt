@@ -4,6 +4,11 @@ use borrow.Author.Needs.{needs}
 use Rattle.exec_enter.proofs.resume.resume.Statement.{statement}
 use Rattle.exec_enter.proofs.resume.resume.Tie as tie
 
+enter-send-requires : tie.Need-enter-send-requires
+enter-send-requires c κs =
+    let p = c .before .before .before .before .before .before .before .before .before .before .before .before .before .before .before .before .before .before .pre in
+    record { ok = p .ok; narrow = p .narrow; some = p .coro .some }
+
 returns : tie.Need-returns
 returns c =
     let at-enter-send = c .before .before .before .before .before .before .before .before .before .before .before .before in
@@ -20,7 +25,7 @@ resume-spec =
     (tie.spec
     (λ c κs. search needs)
     (λ c κs. search needs)
-    (λ c κs. search needs)
+    enter-send-requires
     (λ c. search needs)
     (λ c. search needs)
     (λ c. search needs)
