@@ -46,7 +46,7 @@ use Rattle.claims.proofs.Arms.{PushCase, p-in, p-out, push-case}
 use Rattle.claims.proofs.Views.{seen-at, base-top}
 use Rattle.claims.proofs.Exact.{some-op}
 use Rattle.claims.proofs.Undone.{instr-any, reg-alike, word-reg}
-use Rattle.claims.proofs.Named.{window-alike, named, named-indirect}
+use Rattle.claims.proofs.Named.{window-alike, named, named-indirect, hook-called}
 
 no-one : {A : Type 0} {s : Option Seen} {x : Seen} → s ≡ none → s ≡ some x → A
 no-one p q = let z : _≡_ {A = ℕ} 0 1 = cc in absurd (omega arith)
@@ -198,4 +198,5 @@ creates =
       spawned = λ c w k pc dst r argc. stepped c w k (Op.Spawn pc dst r argc) (MadeBy w dst r argc) (λ e. spawn-by w c e pc dst r argc);
       named = named;
       named-indirect = named-indirect;
+      hooked = hook-called;
     }

@@ -19,7 +19,7 @@ use Rattle.model.specs.Call.{Call, typed, asCall}
 use Rattle.model.specs.Compute.{computed}
 use Rattle.model.specs.declared.machine.Cont.{Cont}
 use Rattle.model.specs.declared.call.Op.{Op}
-use Rattle.claims.specs.Engine.{Seen, runs, sleeps, is}
+use Rattle.claims.specs.Engine.{Seen, isNew, runs, sleeps, seenIn, is}
 use Rattle.claims.specs.Says.{Entry, whom}
 use Rattle.claims.specs.Demand3.{Enters, Suspends}
 use Rattle.claims.specs.Touches.{May, Touches}
@@ -28,7 +28,8 @@ use Rattle.claims.specs.Asks.{Asks}
 use Rattle.claims.specs.Steps.{viewOf, opOf}
 use Rattle.claims.specs.Story as Story
 use Rattle.claims.specs.Story.{wide, c}
-use Rattle.claims.specs.WrongTouches.{granting, after, beside, limitsOf, spilling, lazy, littering, tearing, breeding, fives, ofOne, nameless, blurting, WrongTouches}
+use Rattle.claims.specs.WrongTouches.{granting, after, beside, limitsOf, spilling, lazy, littering, tearing, breeding, fives, ofOne, nameless, repeating, barren, blurting, WrongTouches}
+use Rattle.claims.proofs.Cores.{no-both}
 use Rattle.claims.proofs.Exact.{no-some}
 use Rattle.claims.proofs.Exactly.{events}
 
@@ -158,6 +159,30 @@ nobody-named : Creates (nameless c) → ⊥
 unfolding computed called
 nobody-named v = let q : _≡_ {A = ℕ} 0 c = ap (λ xs. getD xs 0 0) (v .named called new 1 0 0 0 refl refl .names) in absurd (omega (arith, q))
 
+-- c has not begun, and a second one is made
+unbegun : World
+unbegun = M.runOps (fresh wide) (Op.Grant 1000 ∷ Op.HostCall 0 ∷ Op.CoroNew 1 0 0 0 ∷ [])
+
+named-twice : Creates (repeating c) → ⊥
+unfolding computed unbegun
+named-twice v = no-both {b = is (viewOf unbegun) isNew c} refl (ap (seenIn (λ x. isNew (x .state))) (v .named unbegun new 1 0 0 0 refl refl .came .unused))
+
+-- ---- a Spawn
+
+holding : World
+holding = M.runOps (fresh wide) (Op.Grant 1000 ∷ Op.HostCall 0 ∷ Op.PutWord 3 Story.f ∷ [])
+
+spawn-typed : typed (Op.Spawn 1 0 3 0) ≡ true
+unfolding typed
+spawn-typed = refl
+
+abbrev spawn : Call
+spawn = asCall (Op.Spawn 1 0 3 0) spawn-typed
+
+nobody-spawned : Creates (barren c) → ⊥
+unfolding computed holding
+nobody-spawned v = let (f, t) = v .hooked holding spawn 1 0 3 0 refl refl in no-both {b = false} (ap (seenIn (λ x. isNew (x .state))) (t .came .there)) refl
+
 -- ---- a CoroCurrent
 
 current-typed : typed (Op.CoroCurrent 9 1) ≡ true
@@ -180,5 +205,7 @@ wrong-touches =
       wrong-arguments = wrong-arguments;
       wrong-function = wrong-function;
       nobody-named = nobody-named;
+      named-twice = named-twice;
+      nobody-spawned = nobody-spawned;
       other-current = other-current;
     }

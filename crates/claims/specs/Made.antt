@@ -1,5 +1,5 @@
 -- What a creation makes. A coroutine that was not there before a CoroNew, CoroNewIndirect or Spawn, and is there after it, has the arguments in
--- its first registers, zeros in the others, and one frame, in which its function begins.
+-- its first registers, zeros in the others, and one frame, in which its function begins. Its word named no coroutine before.
 use Prim.Native.Nat.{ℕ, _+_, _-_}
 use mathlib.Core.Path.{_≡_}
 use mathlib.Core.Bool.{false}
@@ -13,7 +13,7 @@ use Rattle.model.specs.declared.machine.Cont.{Cont}
 use Rattle.model.specs.declared.call.Op.{Op}
 use Rattle.claims.specs.Engine.{Seen, Rules, View, Engine}
 use Rattle.claims.specs.Says.{base, word}
-use Rattle.claims.specs.Held.{into}
+use Rattle.claims.specs.Held.{at, into}
 
 -- the words after the register dst of the top frame
 abbrev pub arguments : View → ℕ → ℕ → List ℕ
@@ -38,10 +38,22 @@ made r f closure xs =
       result = 0;
     }
 
--- it is there under the word that was next, and that word is in the register dst
-pub record Named (v : View) (dst : ℕ) (x : Seen) (z : View) : Type 0 where
+-- it is there under the word that was next, which named nobody
+pub record Came (v : View) (x : Seen) (z : View) : Type 0 where
+  pub unused : v .coro (v .fresh) ≡ none
   pub there : z .coro (v .fresh) ≡ some x
+
+-- and that word is in the register dst
+pub record Named (v : View) (dst : ℕ) (x : Seen) (z : View) : Type 0 where
+  pub came : Came v x z
   pub names : z .stack ≡ into (v .frames) dst (v .fresh) (v .stack)
+
+-- or in the first register of the hook, which is called; which function that is, is not seen
+pub record Hooked (v : View) (pc dst : ℕ) (x : Seen) (z : View) : Type 0 where
+  pub came : Came v x z
+  pub hook : ℕ
+  pub frames : z .frames ≡ record { func = hook; pc = 0; base = length (v .stack); closure = 0; cont = Cont.Value dst } ∷ at pc (v .frames)
+  pub stack : z .stack ≡ v .stack ++ (v .fresh ∷ replicate (v .rules .registers hook - 1) 0)
 
 pub record Creates (e : Engine) : Type 0 where
   pub new : (c : ℕ) (s : e .State) (k : e .Call) (pc dst f argc : ℕ) (x : Seen) → e .op k ≡ some (Op.CoroNew pc dst f argc) → e .view s .coro c ≡ none → e .view (e .next s k) .coro c ≡ some x
@@ -51,8 +63,10 @@ pub record Creates (e : Engine) : Type 0 where
       → (f : ℕ) × (x ≡ made (e .view s .rules) f (word (e .view s) r) (arguments (e .view s) dst argc))
   pub spawned : (c : ℕ) (s : e .State) (k : e .Call) (pc dst r argc : ℕ) (x : Seen) → e .op k ≡ some (Op.Spawn pc dst r argc) → e .view s .coro c ≡ none → e .view (e .next s k) .coro c ≡ some x
       → (f : ℕ) × (x ≡ made (e .view s .rules) f (word (e .view s) r) (arguments (e .view s) dst argc))
-  -- where they are accepted, the first two have made one
+  -- where they are accepted, they have made one
   pub named : (s : e .State) (k : e .Call) (pc dst f argc : ℕ) → e .op k ≡ some (Op.CoroNew pc dst f argc) → e .number s k ≡ 0
       → Named (e .view s) dst (made (e .view s .rules) f 0 (arguments (e .view s) dst argc)) (e .view (e .next s k))
   pub named-indirect : (s : e .State) (k : e .Call) (pc dst r argc : ℕ) → e .op k ≡ some (Op.CoroNewIndirect pc dst r argc) → e .number s k ≡ 0
       → (f : ℕ) × Named (e .view s) dst (made (e .view s .rules) f (word (e .view s) r) (arguments (e .view s) dst argc)) (e .view (e .next s k))
+  pub hooked : (s : e .State) (k : e .Call) (pc dst r argc : ℕ) → e .op k ≡ some (Op.Spawn pc dst r argc) → e .number s k ≡ 0
+      → (f : ℕ) × Hooked (e .view s) pc dst (made (e .view s .rules) f (word (e .view s) r) (arguments (e .view s) dst argc)) (e .view (e .next s k))

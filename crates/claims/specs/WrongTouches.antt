@@ -7,17 +7,20 @@ use mathlib.Core.Option.{Option, none, some}
 use lib.ListN.{length}
 use lib.Dec.{eqb, ltb}
 use Rattle.lists.specs.Pick.{pick}
+use Rattle.heap.specs.Table.{nextWord}
 use Rattle.model.specs.Object.{Core}
-use Rattle.model.specs.World.{World}
+use Rattle.model.specs.World.{World, withSlots, withFuel}
 use Rattle.model.specs.Frames.{putReg}
 use Rattle.model.specs.Heap.{changeCoro}
+use Rattle.model.specs.Answer.{numberOf}
+use Rattle.model.specs.Call.{Call}
 use Rattle.model.specs.Step.{step}
 use Rattle.model.specs.declared.call.Op.{Op}
-use Rattle.claims.specs.Engine.{Engine, isNew, is}
+use Rattle.claims.specs.Engine.{View, Engine, isNew, is}
 use Rattle.claims.specs.Touches.{May, mayTouch, Touches}
 use Rattle.claims.specs.Made.{Creates}
 use Rattle.claims.specs.Asks.{Asks}
-use Rattle.claims.specs.Steps.{viewOf, opOf}
+use Rattle.claims.specs.Steps.{viewOf, opOf, asksOf, looks}
 use Rattle.claims.specs.Story.{c}
 use Rattle.claims.specs.Wrong.{leaving, greeted}
 
@@ -71,17 +74,54 @@ ofOne k = record { state = k .state; regs = k .regs; frames = map (λ f. record 
 abbrev pub nameless : ℕ → Engine
 nameless c = leaving (λ w k. let z = step w k .world in pick (not (is (viewOf w) isNew c) && is (viewOf z) isNew c) (putReg 0 0 z) z)
 
+-- the register that a call may write gets the word x
+abbrev pub put : ℕ → Option ℕ → World → World
+put x none z = z
+put x (some r) z = putReg r x z
+
+abbrev pub putBy : ℕ → Option May → World → World
+putBy x none z = z
+putBy x (some m) z = put x (m .register) z
+
+-- while c has not begun, its word is the next one: a creation makes nobody, and gives c's word again
+abbrev pub nextIs : ℕ → View → View
+nextIs x v =
+    record {
+      stack = v .stack;
+      frames = v .frames;
+      chain = v .chain;
+      coro = v .coro;
+      done = v .done;
+      queue = v .queue;
+      fuel = v .fuel;
+      rules = v .rules;
+      fresh = x;
+      full = v .full;
+      integer = v .integer;
+      used = v .used;
+    }
+
+abbrev pub repeating : ℕ → Engine
+repeating c =
+    record {
+      State = World;
+      Call = Call;
+      op = opOf;
+      asks = asksOf;
+      view = λ w. nextIs (pick (is (viewOf w) isNew c) c (nextWord (w .slots))) (viewOf w);
+      next = λ w k. let z = step w k .world in pick (is (viewOf w) isNew c && is (viewOf z) isNew (nextWord (w .slots))) (putBy c (limitsOf (opOf k)) (withSlots (w .slots) z)) z;
+      refuel = λ w f. withFuel f w;
+      number = λ w k. numberOf (step w k .answer);
+      look = looks;
+    }
+
+-- a call that makes c and puts a frame on top, as Spawn does, makes nobody
+abbrev pub barren : ℕ → Engine
+barren c = leaving (λ w k. let z = step w k .world in pick (not (is (viewOf w) isNew c) && is (viewOf z) isNew c && ltb (length (w .frames)) (length (z .frames))) (withSlots (w .slots) z) z)
+
 -- a call that may write a register, as CoroCurrent may, writes 9
-abbrev pub nine : Option ℕ → World → World
-nine none z = z
-nine (some r) z = putReg r 9 z
-
-abbrev pub nineBy : Option May → World → World
-nineBy none z = z
-nineBy (some m) z = nine (m .register) z
-
 abbrev pub blurting : Engine
-blurting = leaving (λ w k. nineBy (limitsOf (opOf k)) (step w k .world))
+blurting = leaving (λ w k. putBy 9 (limitsOf (opOf k)) (step w k .world))
 
 pub record WrongTouches : Type 0 where
   pub grant-writes : Touches granting → ⊥
@@ -92,4 +132,6 @@ pub record WrongTouches : Type 0 where
   pub wrong-arguments : Creates (breeding fives c) → ⊥
   pub wrong-function : Creates (breeding ofOne c) → ⊥
   pub nobody-named : Creates (nameless c) → ⊥
+  pub named-twice : Creates (repeating c) → ⊥
+  pub nobody-spawned : Creates (barren c) → ⊥
   pub other-current : Asks blurting → ⊥

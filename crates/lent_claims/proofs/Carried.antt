@@ -18,7 +18,7 @@ use Rattle.claims.specs.Delivery.{recorded, Left, resultOf}
 use Rattle.claims.specs.Demand3.{Enters, Suspends, Stops, Restarts, Waits, Goes, Demand3}
 use Rattle.claims.specs.Events.{inmost, Healthy, raised, endsAt, answers, suspended, isAwait, toldTo, returned, Lost, endedAs, lives, endsUnbegun, rests, Events}
 use Rattle.claims.specs.Touches.{Touched, Called, Finished, Touches}
-use Rattle.claims.specs.Made.{arguments, made, Named, Creates}
+use Rattle.claims.specs.Made.{arguments, made, Named, Hooked, Creates}
 use Rattle.claims.specs.Asks.{codeIn, orNil, Asks}
 use Rattle.claims.specs.Promise.{suspends, room, Roomy, Pays, Makes, Accepts, Eleven, Soundness, Fresh, SetUps, registers, Looks, withFuel, Refuels, NotEmpty}
 use Rattle.claims.proofs.Premises.{Premises}
@@ -171,6 +171,9 @@ module _ (e d : Engine) (f : Follows e d) where
         named-indirect = λ s k pc dst r argc o q.
             down (λ v. (n : ℕ) × Named (v .before) dst (made (v .before .rules) n (word (v .before) r) (arguments (v .before) dst argc)) (v .after)) s k
             (p .named-indirect (f .to s) (f .by s k) pc dst r argc (f .op s k ∙ o) (f .number s k ∙ q));
+        hooked = λ s k pc dst r argc o q.
+            down (λ v. (n : ℕ) × Hooked (v .before) pc dst (made (v .before .rules) n (word (v .before) r) (arguments (v .before) dst argc)) (v .after)) s k
+            (p .hooked (f .to s) (f .by s k) pc dst r argc (f .op s k ∙ o) (f .number s k ∙ q));
       }
 
   pub asks : Asks d → Asks e
