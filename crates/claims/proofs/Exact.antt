@@ -66,6 +66,19 @@ no-some p q = let z : _≡_ {A = ℕ} 0 1 = cc in absurd (omega arith)
 pub some-op : {a b : Op} → _≡_ {A = Option Op} (some a) (some b) → a ≡ b
 some-op e = cc
 
+-- what a call answers at a sound machine is what its operation answers
+pub at-step : (w : World) → sound w ≡ true → (k : Call) (o : Op) {x : ℕ} → opOf k ≡ some o → numberOf (call o w .answer) ≡ x → numberOf (step w k .answer) ≡ x
+at-step w h (SetUp s) o e n = let z : _≡_ {A = ℕ} 0 1 = cc in absurd (omega arith)
+at-step w h (Do j) o e n = ap numberOf (number-sound w j h) ∙ ap (λ p. numberOf (call p w .answer)) (some-op e) ∙ n
+
+-- so it is not refused
+look-numbered : (w : World) → numberOf (call Op.Look w .answer) ≡ 0
+unfolding call
+look-numbered w = refl
+
+pub sound-healthy : (w : World) → sound w ≡ true → Healthy steps w
+sound-healthy w h k e = at-step w h k Op.Look e (look-numbered w)
+
 pub one-some : {x : Option ℕ} {c u : ℕ} → x ≡ some c → x ≡ some u → c ≡ u
 one-some p q = cc
 

@@ -6,7 +6,6 @@ use mathlib.Core.Logic.{_⊎_, inl, inr}
 use mathlib.Core.Bool.{Bool, true, false, not, _||_}
 use mathlib.Core.List.{List}
 use mathlib.Core.Option.{Option, none, some}
-use lib.ListN.{getD, take, drop}
 use lib.Dec.{eqb}
 use Rattle.lists.specs.Pick.{pick}
 use Rattle.heap.specs.Word.{nil}
@@ -43,7 +42,7 @@ use Rattle.claims.proofs.Cores.{objectIn, push-cases}
 use Rattle.claims.proofs.Enters.{charge-none}
 use Rattle.claims.proofs.Instr.{Alike, coro-alike}
 use Rattle.claims.proofs.Arms.{PushCase, p-in, p-out, push-case}
-use Rattle.claims.proofs.Views.{seen-at, base-top}
+use Rattle.claims.proofs.Views.{seen-at}
 use Rattle.claims.proofs.Exact.{some-op}
 use Rattle.claims.proofs.Undone.{instr-any, reg-alike, word-reg}
 use Rattle.claims.proofs.Named.{window-alike, named, named-indirect, hook-called}

@@ -53,7 +53,7 @@ use Rattle.claims.proofs.Cores.{no-both}
 use Rattle.claims.proofs.Claim.{fresh-absent}
 use Rattle.claims.proofs.Soundness.{soundness-kept}
 use Rattle.claims.proofs.Answers.{throw-answer, raise-answer, pass-answer}
-use Rattle.claims.proofs.Exact.{healthy-sound, number-sound, some-op}
+use Rattle.claims.proofs.Exact.{healthy-sound, number-sound, some-op, sound-healthy}
 use Rattle.claims.proofs.Operands.{as-typed}
 use Rattle.claims.proofs.Premises.{premises-met}
 use Rattle.claims.proofs.Exactly.{events, demand3}
@@ -65,15 +65,6 @@ use Rattle.claims.proofs.Undone.{accepts-close, accepts-throw-new}
 use Rattle.claims.proofs.Roomy.{await-takes, kv-takes, yield-takes}
 
 -- ---- soundness
-
--- a sound machine is not refused
-look-numbered : (w : World) → numberOf (call Op.Look w .answer) ≡ 0
-unfolding call
-look-numbered w = refl
-
-pub sound-healthy : (w : World) → sound w ≡ true → Healthy steps w
-sound-healthy w h (SetUp s) e = let z : _≡_ {A = ℕ} 0 1 = cc in absurd (omega arith)
-sound-healthy w h (Do o) e = ap numberOf (number-sound w o h) ∙ ap (λ p. numberOf (call p w .answer)) (some-op e) ∙ look-numbered w
 
 begun : (w : World) (k : Call) → Restarts steps w k → sound (step w k .world) ≡ true
 unfolding step pick

@@ -39,7 +39,7 @@ use Rattle.model.specs.declared.call.Answer.{Answer}
 use Rattle.claims.specs.Engine.{Seen, isNew, seenIn, is}
 use Rattle.claims.specs.Says.{word, lie, does, doing, whom}
 use Rattle.claims.specs.Events.{endsUnbegun, endedAs}
-use Rattle.claims.specs.Promise.{Pays}
+use Rattle.claims.specs.Asks.{Pays}
 use Rattle.claims.specs.Steps.{seenOf, viewOf, opOf, steps}
 use Rattle.claims.proofs.Entry as E
 use Rattle.claims.proofs.Entry.{act, entryBy, pcBy}
@@ -56,7 +56,7 @@ use Rattle.claims.proofs.Paid.{Paid, paid-for, paid-number}
 use Rattle.claims.proofs.Claim as Claim
 use Rattle.claims.proofs.Claim.{StepCase, anew, same, step-case}
 use Rattle.claims.proofs.Numbers.{step-number}
-use Rattle.claims.proofs.Exact.{healthy-sound, number-sound, no-some, one-some, some-op}
+use Rattle.claims.proofs.Exact.{healthy-sound, no-some, one-some, some-op, at-step}
 use Rattle.claims.proofs.States.{comes-else}
 
 is-created : (s : CoroState) → isCreated s ≡ true → s ≡ CoroState.Created
@@ -209,15 +209,11 @@ module _ (w : World) (pc dst q src : ℕ) (m : Pays steps w) (l : lie (viewOf w)
   unfolding call
   throw-number = numbered _ (resumeThrow pc dst q src) (rw (← base-top (w .frames)) l) (λ k r new e. throw-ends (word (viewOf w) q) k r new (paid .left) e pc dst q src named)
 
-  at-step : (k : Call) (o : Op) {x : ℕ} → opOf k ≡ some o → numberOf (call o w .answer) ≡ x → numberOf (step w k .answer) ≡ x
-  at-step (SetUp s) o e h = let z : _≡_ {A = ℕ} 0 1 = cc in absurd (omega arith)
-  at-step (Do j) o e h = ap numberOf (number-sound w j well) ∙ ap (λ p. numberOf (call p w .answer)) (some-op e) ∙ h
-
   pub accepts-close : (k : Call) → opOf k ≡ some (Op.CoroClose pc dst q src) → numberOf (step w k .answer) ≡ 0
-  accepts-close k e = at-step k (Op.CoroClose pc dst q src) e close-number
+  accepts-close k e = at-step w well k (Op.CoroClose pc dst q src) e close-number
 
   pub accepts-throw-new : (k : Call) → opOf k ≡ some (Op.ResumeThrow pc dst q src) → numberOf (step w k .answer) ≡ 17
-  accepts-throw-new k e = at-step k (Op.ResumeThrow pc dst q src) e throw-number
+  accepts-throw-new k e = at-step w well k (Op.ResumeThrow pc dst q src) e throw-number
 
 -- ---- and of a word that names none: nothing comes of it
 

@@ -45,7 +45,7 @@ sleeps-state CoroState.Awaiting = refl
 sleeps-state CoroState.Returned = refl
 sleeps-state CoroState.Failed = refl
 
-ended-state : (s : CoroState) → ended s ≡ isReturned s
+pub ended-state : (s : CoroState) → ended s ≡ isReturned s
 ended-state CoroState.Created = refl
 ended-state CoroState.Running = refl
 ended-state CoroState.Yielded = refl

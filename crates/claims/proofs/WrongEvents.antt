@@ -33,8 +33,7 @@ use Rattle.claims.specs.Witness.{nth, frame}
 use Rattle.claims.specs.Wrong.{idle, two, failing, forgetting, sparing, yielding, lostIn, excusing, muting, hushing, flattering, feigning, grudging, cries, crying, unpaid, stingy}
 use Rattle.claims.specs.Wrong.{closing, rewriting, aborting, harsh, spurned, spurning, misnaming, renewing, stillborn, fuelled, shrinking, heardAs, deaf, showing}
 use Rattle.claims.proofs.Cores.{no-both}
-use Rattle.claims.proofs.Exact.{some-op}
-use Rattle.claims.proofs.Promise.{sound-healthy}
+use Rattle.claims.proofs.Exact.{some-op, sound-healthy}
 
 -- ---- events
 

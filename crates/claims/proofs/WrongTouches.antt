@@ -15,22 +15,25 @@ use Rattle.model.specs.World.{World, fresh}
 use Rattle.model.specs.Frames.{topFunc, putReg}
 use Rattle.model.specs.Step as M
 use Rattle.model.specs.Step.{step}
-use Rattle.model.specs.Call.{Call, typed, asCall}
+use Rattle.model.specs.Answer.{numberOf}
+use Rattle.model.specs.Call.{Call, SetUp, Do, typed, asCall}
 use Rattle.model.specs.Compute.{computed}
 use Rattle.model.specs.declared.machine.Cont.{Cont}
 use Rattle.model.specs.declared.call.Op.{Op}
 use Rattle.claims.specs.Engine.{Seen, isNew, runs, sleeps, seenIn, is}
 use Rattle.claims.specs.Says.{Entry, whom}
 use Rattle.claims.specs.Demand3.{Enters, Suspends}
+use Rattle.claims.specs.Events.{Healthy}
 use Rattle.claims.specs.Touches.{May, Touches}
 use Rattle.claims.specs.Made.{Creates}
 use Rattle.claims.specs.Asks.{Asks}
 use Rattle.claims.specs.Steps.{viewOf, opOf}
 use Rattle.claims.specs.Story as Story
 use Rattle.claims.specs.Story.{wide, c}
-use Rattle.claims.specs.WrongTouches.{granting, after, beside, limitsOf, spilling, lazy, littering, tearing, breeding, fives, ofOne, nameless, repeating, barren, blurting, WrongTouches}
+use Rattle.claims.specs.Wrong.{flattering}
+use Rattle.claims.specs.WrongTouches.{granting, after, beside, limitsOf, spilling, lazy, littering, tearing, breeding, fives, ofOne, nameless, repeating, barren, blurting, vouching, idles, coy, WrongTouches}
 use Rattle.claims.proofs.Cores.{no-both}
-use Rattle.claims.proofs.Exact.{no-some}
+use Rattle.claims.proofs.Exact.{no-some, some-op}
 use Rattle.claims.proofs.Exactly.{events}
 
 -- c runs
@@ -193,6 +196,38 @@ other-current : Asks blurting → ⊥
 unfolding computed begun
 other-current v = let q : _≡_ {A = ℕ} 9 c = ap (λ xs. getD xs 5 0) (v .current begun (asCall (Op.CoroCurrent 9 1) current-typed) 9 1 refl refl) in absurd (omega (arith, q))
 
+-- ---- the asking calls: nil names nobody, and c runs
+
+nil-typed : typed (Op.CoroStatus 9 1 2) ≡ true
+unfolding typed
+nil-typed = refl
+
+nobody-vouched : Asks vouching → ⊥
+unfolding computed begun
+nobody-vouched v = no-both (v .status-if begun (asCall (Op.CoroStatus 9 1 2) nil-typed) 9 1 2 refl .0 refl .passes) refl
+
+knowing : World
+knowing = M.runOps (fresh wide) (Op.Grant 1000 ∷ Op.HostCall 0 ∷ Op.CoroNew 1 0 0 0 ∷ [])
+
+result-typed : typed (Op.CoroResult 9 1 0) ≡ true
+unfolding typed
+result-typed = refl
+
+result-early : Asks flattering → ⊥
+unfolding computed knowing
+result-early v = no-both (v .result-if knowing (asCall (Op.CoroResult 9 1 0) result-typed) 9 1 0 refl .0 refl .passes) refl
+
+coy-healthy : Healthy coy knowing
+unfolding computed knowing
+coy-healthy (SetUp s) e = let z : _≡_ {A = ℕ} 0 1 = cc in absurd (omega arith)
+coy-healthy (Do o) e = ap (λ p. pick (idles knowing (M.tested knowing p .world)) 9 (numberOf (M.tested knowing p .answer))) (some-op e)
+
+status-withheld : Asks coy → ⊥
+unfolding computed knowing
+status-withheld v =
+    let q : _≡_ {A = ℕ} 9 0 = v .status-if knowing status 9 1 0 refl .1 (record { pays = record { healthy = coy-healthy; stands = refl; paid = λ pc y. refl }; lies = refl; passes = refl }) in
+    absurd (omega (arith, q))
+
 -- NONE OF THEM
 pub wrong-touches : WrongTouches
 wrong-touches =
@@ -208,4 +243,7 @@ wrong-touches =
       named-twice = named-twice;
       nobody-spawned = nobody-spawned;
       other-current = other-current;
+      nobody-vouched = nobody-vouched;
+      result-early = result-early;
+      status-withheld = status-withheld;
     }

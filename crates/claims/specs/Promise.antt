@@ -18,13 +18,13 @@ use Rattle.model.specs.declared.call.OptPc.{OptPc}
 use Rattle.model.specs.declared.call.Op.{Op}
 use Rattle.claims.specs.Engine.{Seen, View, Engine, Turn, run, isNew, is}
 use Rattle.claims.specs.Operands.{written}
-use Rattle.claims.specs.Says.{word, lie, Entry, charged}
+use Rattle.claims.specs.Says.{word, lie}
 use Rattle.claims.specs.Held.{Held}
 use Rattle.claims.specs.Demand3.{Enters, Suspends, Stops, Restarts, Waits, Goes, Demand3}
 use Rattle.claims.specs.Events.{Healthy, raised, endsAt, Events}
 use Rattle.claims.specs.Touches.{Touches}
 use Rattle.claims.specs.Made.{Creates}
-use Rattle.claims.specs.Asks.{Asks}
+use Rattle.claims.specs.Asks.{PaidFor, Pays, Asks}
 
 -- ---- what is accepted, besides the entries (Events.entered)
 
@@ -43,11 +43,6 @@ suspends n = eqb n 0 || eqb n 2 || eqb n 6
 abbrev pub room : View → ℕ → Bool
 room v n = leb (min (v .used + n) (2 ^ 64 - 1)) (v .rules .memory)
 
--- an instruction is paid for, by the fuel or the bank, and no cleanup comes first: of `charged`'s four cases (Says.antt) those that leave it
--- to the call whom it enters
-abbrev pub PaidFor : View → Type 0
-PaidFor v = (pc : ℕ) (y : Entry) → charged v pc (some y) ≡ some y
-
 -- c runs on top, its instruction is paid for, and there is room for n bytes and for what it would save beyond the most that it has saved.
 -- 01: "8 bytes per register and F per frame beyond the coroutine's largest saved sizes so far"
 pub record Roomy (e : Engine) (n c : ℕ) (s : e .State) : Type 0 where
@@ -59,12 +54,6 @@ pub record Roomy (e : Engine) (n c : ℕ) (s : e .State) : Type 0 where
   -- `-` stops at 0: what is saved within the most so far is free
   pub grows : let words = length (drop (held .body .base) (e .view s .stack)) - seen .mostWords in let frames = length (held .over ++ (held .body ∷ [])) - seen .mostFrames in
       room (e .view s) (n + (words * 8 + frames * e .view s .rules .frameCost)) ≡ true
-
--- an instruction of the top frame is paid for so
-pub record Pays (e : Engine) (s : e .State) : Type 0 where
-  pub healthy : Healthy e s
-  pub stands : eqb (length (e .view s .frames)) 0 ≡ false
-  pub paid : PaidFor (e .view s)
 
 -- a new integer object can be made
 pub record Makes (v : View) : Type 0 where

@@ -1,7 +1,7 @@
 -- Machines that touch the script that runs, or make another coroutine, and else are `step`. None of them has what is promised:
 -- `proofs/WrongTouches.antt`.
 use Prim.Native.Nat.{ℕ, _+_}
-use mathlib.Core.Bool.{not, _&&_}
+use mathlib.Core.Bool.{Bool, not, _&&_}
 use mathlib.Core.List.{map}
 use mathlib.Core.Option.{Option, none, some}
 use lib.ListN.{length}
@@ -22,7 +22,7 @@ use Rattle.claims.specs.Made.{Creates}
 use Rattle.claims.specs.Asks.{Asks}
 use Rattle.claims.specs.Steps.{viewOf, opOf, asksOf, looks}
 use Rattle.claims.specs.Story.{c}
-use Rattle.claims.specs.Wrong.{leaving, greeted}
+use Rattle.claims.specs.Wrong.{bentBy, leaving, greeted, flattering}
 
 -- ---- machines that touch the script that runs
 
@@ -123,6 +123,19 @@ barren c = leaving (λ w k. let z = step w k .world in pick (not (is (viewOf w) 
 abbrev pub blurting : Engine
 blurting = leaving (λ w k. putBy 9 (limitsOf (opOf k)) (step w k .world))
 
+-- what is refused since its word names nothing (1) is answered 0, and the register that it may write gets 0, which is Created's code
+abbrev pub vouching : Engine
+vouching =
+    bentBy (λ w k. let o = step w k in pick (eqb (numberOf (o .answer)) 1) (putBy 0 (limitsOf (opOf k)) (o .world)) (o .world))
+    (λ w k. let n = numberOf (step w k .answer) in pick (eqb n 1) 0 n)
+
+-- what takes fuel, moves no frame and makes no object, as CoroStatus does, is answered 9, and not done
+abbrev pub idles : World → World → Bool
+idles w z = ltb (z .fuel .fuel) (w .fuel .fuel) && eqb (length (w .frames)) (length (z .frames)) && eqb (length (w .slots)) (length (z .slots))
+
+abbrev pub coy : Engine
+coy = bentBy (λ w k. let z = step w k .world in pick (idles w z) w z) (λ w k. let o = step w k in pick (idles w (o .world)) 9 (numberOf (o .answer)))
+
 pub record WrongTouches : Type 0 where
   pub grant-writes : Touches granting → ⊥
   pub status-spills : Touches spilling → ⊥
@@ -135,3 +148,6 @@ pub record WrongTouches : Type 0 where
   pub named-twice : Creates (repeating c) → ⊥
   pub nobody-spawned : Creates (barren c) → ⊥
   pub other-current : Asks blurting → ⊥
+  pub nobody-vouched : Asks vouching → ⊥
+  pub result-early : Asks flattering → ⊥
+  pub status-withheld : Asks coy → ⊥

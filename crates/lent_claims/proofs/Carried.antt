@@ -2,7 +2,7 @@
 use Prim.Native.Nat.{ℕ, _+_, _-_, _*_}
 use mathlib.Core.Path.{_≡_, sym, ap, _∙_, subst}
 use mathlib.Core.Logic.{_⊎_}
-use mathlib.Core.Bool.{true, _||_}
+use mathlib.Core.Bool.{Bool, true, _||_}
 use mathlib.Core.List.{List, [], _∷_, _++_}
 use mathlib.Core.Option.{none, some}
 use lib.ListN.{length, drop}
@@ -19,8 +19,8 @@ use Rattle.claims.specs.Demand3.{Enters, Suspends, Stops, Restarts, Waits, Goes
 use Rattle.claims.specs.Events.{inmost, Healthy, raised, endsAt, answers, suspended, isAwait, toldTo, returned, Lost, endedAs, lives, endsUnbegun, rests, Events}
 use Rattle.claims.specs.Touches.{Touched, Called, Finished, Touches}
 use Rattle.claims.specs.Made.{arguments, made, Named, Hooked, Creates}
-use Rattle.claims.specs.Asks.{codeIn, orNil, Asks}
-use Rattle.claims.specs.Promise.{suspends, room, Roomy, Pays, Makes, Accepts, Eleven, Soundness, Fresh, SetUps, registers, Looks, withFuel, Refuels, NotEmpty}
+use Rattle.claims.specs.Asks.{Pays, Exact, codeIn, orNil, Asks}
+use Rattle.claims.specs.Promise.{suspends, room, Roomy, Makes, Accepts, Eleven, Soundness, Fresh, SetUps, registers, Looks, withFuel, Refuels, NotEmpty}
 use Rattle.claims.proofs.Premises.{Premises}
 use Rattle.lent_claims.proofs.Follows.{Follows, Sight, sight, same, along, ran}
 use Rattle.lent_claims.proofs.Follows.{up-enters, down-enters, up-suspends, down-suspends, up-returns, down-returns, up-fails, down-fails, up-leaves, down-leaves, up-restarts, down-restarts, up-healthy, down-healthy, up-waits, down-waits, up-goes, down-goes}
@@ -176,14 +176,6 @@ module _ (e d : Engine) (f : Follows e d) where
             (p .hooked (f .to s) (f .by s k) pc dst r argc (f .op s k ∙ o) (f .number s k ∙ q));
       }
 
-  pub asks : Asks d → Asks e
-  asks p =
-      record {
-        status = λ s k pc dst r o n. down (λ v. v .after .stack ≡ into (v .before .frames) dst (codeIn (v .before .coro (word (v .before) r))) (v .before .stack)) s k (p .status (f .to s) (f .by s k) pc dst r (f .op s k ∙ o) (f .number s k ∙ n));
-        current = λ s k pc dst o n. down (λ v. v .after .stack ≡ into (v .before .frames) dst (orNil (inmost (v .before .chain))) (v .before .stack)) s k (p .current (f .to s) (f .by s k) pc dst (f .op s k ∙ o) (f .number s k ∙ n));
-        result = λ s k pc dst r o n. down (λ v. v .after .stack ≡ into (v .before .frames) dst (recorded (v .before .coro (word (v .before) r))) (v .before .stack)) s k (p .result (f .to s) (f .by s k) pc dst r (f .op s k ∙ o) (f .number s k ∙ n));
-      }
-
   -- ---- acceptance
 
   -- what is seen of a state in which c has room to suspend, and n bytes more
@@ -214,6 +206,32 @@ module _ (e d : Engine) (f : Follows e d) where
     stands = ap (λ v. eqb (length (v .frames)) 0) (f .view s) ∙ r .stands;
     paid = λ pc y. ap (λ v. charged v pc (some y)) (f .view s) ∙ r .paid pc y;
   }
+
+  pays-down : (s : e .State) → Pays d (f .to s) → Pays e s
+  pays-down s r = record {
+    healthy = down-healthy e d f s (r .healthy);
+    stands = ap (λ v. eqb (length (v .frames)) 0) (sym (f .view s)) ∙ r .stands;
+    paid = λ pc y. ap (λ v. charged v pc (some y)) (sym (f .view s)) ∙ r .paid pc y;
+  }
+
+  -- answered 0 exactly where d answers it
+  exact : (s : e .State) (k : e .Call) (rs : List ℕ) {a b : Bool} → a ≡ b → Exact d (f .to s) (f .by s k) rs a → Exact e s k rs b
+  exact s k rs q (only, then) = (
+    λ n. let t = only (f .number s k ∙ n) in record { pays = pays-down s (t .pays); lies = ap (λ v. lie v rs) (sym (f .view s)) ∙ t .lies; passes = sym q ∙ t .passes },
+    λ t. sym (f .number s k) ∙ then (record { pays = pays s (t .pays); lies = lying s rs (t .lies); passes = q ∙ t .passes }),
+  )
+
+  pub asks : Asks d → Asks e
+  asks p =
+      record {
+        status-if = λ s k pc dst r o. exact s k (dst ∷ r ∷ []) (ap (λ v. is v (λ x. true) (word v r)) (f .view s)) (p .status-if (f .to s) (f .by s k) pc dst r (f .op s k ∙ o));
+        current-if = λ s k pc dst o. exact s k (dst ∷ []) (λ i. true) (p .current-if (f .to s) (f .by s k) pc dst (f .op s k ∙ o));
+        key-if = λ s k pc dst r o. exact s k (dst ∷ r ∷ []) (ap (λ v. is v (λ x. true) (word v r)) (f .view s)) (p .key-if (f .to s) (f .by s k) pc dst r (f .op s k ∙ o));
+        result-if = λ s k pc dst r o. exact s k (dst ∷ r ∷ []) (ap (λ v. is v ended (word v r)) (f .view s)) (p .result-if (f .to s) (f .by s k) pc dst r (f .op s k ∙ o));
+        status = λ s k pc dst r o n. down (λ v. v .after .stack ≡ into (v .before .frames) dst (codeIn (v .before .coro (word (v .before) r))) (v .before .stack)) s k (p .status (f .to s) (f .by s k) pc dst r (f .op s k ∙ o) (f .number s k ∙ n));
+        current = λ s k pc dst o n. down (λ v. v .after .stack ≡ into (v .before .frames) dst (orNil (inmost (v .before .chain))) (v .before .stack)) s k (p .current (f .to s) (f .by s k) pc dst (f .op s k ∙ o) (f .number s k ∙ n));
+        result = λ s k pc dst r o n. down (λ v. v .after .stack ≡ into (v .before .frames) dst (recorded (v .before .coro (word (v .before) r))) (v .before .stack)) s k (p .result (f .to s) (f .by s k) pc dst r (f .op s k ∙ o) (f .number s k ∙ n));
+      }
 
   pub accepts : Accepts d → Accepts e
   accepts p =

@@ -13,6 +13,7 @@ use Rattle.claims.specs.Events.{Healthy}
 use Rattle.claims.specs.Promise.{Promise}
 use Rattle.claims.specs.Steps.{steps}
 use Rattle.claims.proofs.Operands.{as-typed}
+use Rattle.claims.proofs.Exact as Exact
 use Rattle.claims.proofs.Promise as Steps
 use Rattle.lent.specs.Step.{State, Left, isSound, decoded, setUpOk, setUpWords, Call, SetUp, Do, step}
 use Rattle.lent.specs.Sentences.{number, NoSuchFault}
@@ -50,7 +51,7 @@ promise =
 -- ---- sound words are not refused, and no others
 
 sound-healthy : (s : State) → isSound s ≡ true → Healthy outer s
-sound-healthy s e = down-healthy outer steps follows s (subst (Healthy steps) (sym (sound-to s e)) (Steps.sound-healthy (decoded s) (words-kept .stands s e)))
+sound-healthy s e = down-healthy outer steps follows s (subst (Healthy steps) (sym (sound-to s e)) (Exact.sound-healthy (decoded s) (words-kept .stands s e)))
 
 a-look : Operation
 unfolding typed
