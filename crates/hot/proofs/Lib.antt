@@ -9,5 +9,6 @@ pub mod Resuming
 pub mod Napping
 pub mod Leaving
 pub mod Leavable
+pub mod Fits
 pub mod Yields
 pub mod Switching
