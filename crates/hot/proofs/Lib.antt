@@ -10,5 +10,6 @@ pub mod Napping
 pub mod Leaving
 pub mod Leavable
 pub mod Fits
+pub mod Storing
 pub mod Yields
 pub mod Switching

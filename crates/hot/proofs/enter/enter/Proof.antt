@@ -1,35 +1,24 @@
 -- `enter` meets the model: a pc stored, an entry, the numbers, and the word that is sent. Assumes nothing.
-use mathlib.Core.Path.{_≡_, sym, ap, ap₂, _∙_, refl}
+use mathlib.Core.Path.{_≡_, sym, ap₂, _∙_}
 use mathlib.Core.Bool.{false}
 use Prim.Native.Nat.{_+_}
 use native.Mathlib.Omega.{arith}
 use lib.ListN.{getD, set}
 use Rattle.lists.specs.Chunks.{chunkAt}
 use Rattle.model.specs.State.{isCreated}
-use Rattle.model.specs.World.{World}
-use Rattle.model.specs.Frames.{reg, storePc}
-use Rattle.model.specs.Coro.{coroEnter}
-use Rattle.model.specs.Exec.{arrive}
-use Rattle.model.specs.declared.exec.Step.{Step}
-use Rattle.model.specs.declared.machine.Driver.{Driver}
-use Rattle.memory.specs.Memory.{Lent, Beside, Rep}
+use Rattle.memory.specs.Memory.{Lent, Beside}
 use Rattle.memory.specs.Lendings.{lent}
-use Rattle.memory.specs.Contract.{only}
-use Rattle.machine.proofs.Stored.{store-sounds, stored-ok}
-use Rattle.coro_enter.specs.Enter.{grown, enteredAs}
-use Rattle.coro_enter.proofs.Entries.{then-does, arrive-fresh, arrive-sent, arrive-fits}
-use Rattle.coro_enter.proofs.Parts.{fresh-as, waits-as}
-use Rattle.boundary.specs.Words.{machineIn, sizesIn}
+use Rattle.coro_enter.specs.Enter.{grown}
+use Rattle.boundary.specs.Words.{machineIn}
 use Rattle.hot.specs.Words.{enteredOver, recordAt}
-use Rattle.hot.proofs.Entering.{created, waiting, stored-rep, sends-rep, send-fits}
+use Rattle.hot.proofs.Entering.{created, waiting}
 use Rattle.hot.proofs.Fits.{at-fits, sum, fit}
+use Rattle.hot.proofs.Storing.{enter-asks, enter-sends, enter-fresh, enter-sent}
 use borrow.Author.Needs.{needs}
 use Rattle.hot.proofs.enter.enter.Statement.{statement}
 use Rattle.hot.proofs.enter.enter.Tie as tie
 
-abbrev mem : tie.Start → Beside → Lent
-mem c = let a = c .args in lent (a .stack .now) (a .frames .now) (a .chain .now) (a .slots .now) (a .saved-stack .now) (a .saved-frames .now)
-
+-- the ways back
 abbrev start-of : tie.After-store-pc → tie.Start
 start-of c = (c .before .before .before .before .before .before .before .before .before .before .before .before .before .before .before)
 
@@ -45,12 +34,9 @@ entry-of c = (c .before .before .before .before .before .before .before .before 
 abbrev begun : tie.After-enter-at → tie.Start
 begun c = start-of (pc-of c)
 
--- the world with the pc stored
-stored : (c : tie.After-store-pc) (w : World) (b : Beside) →
-    let a = start-of c .args in let ms = a .machine .now in Rep (sizesIn ms) w (mem (start-of c) b) (machineIn ms) (b .fuel)
-    → Rep (sizesIn ms) (storePc (a .pc) w) (lent (a .stack .now) (c .store-pc .last .0) (a .chain .now) (a .slots .now) (a .saved-stack .now) (a .saved-frames .now) b) (machineIn ms) (b .fuel)
-stored c w b rep =
-    let a = start-of c .args in let ms = a .machine .now in stored-rep (sizesIn ms) w (mem (start-of c) b) (machineIn ms) (b .fuel) rep (c .store-pc .last .0) (a .pc) (c .store-pc .ensures)
+-- what the entry leaves
+abbrev left-words : tie.After-enter-at → Beside → Lent
+left-words c = let s = c .enter-at .last in lent (s .0) (s .1 .0) (s .1 .1 .0) (s .1 .1 .1 .0) (s .1 .1 .1 .1 .0) (s .1 .1 .1 .1 .1 .0)
 
 -- what the numbers' words hold
 told : (c : tie.After-put-numbers) →
@@ -69,13 +55,7 @@ asleep c =
 enter-at-requires : tie.Need-enter-at-requires
 enter-at-requires c κs =
     let at-store-pc = (c .before .before .before .before .before .before .before .before .before .before .before .before .before .before .before .before .before) in
-    let start = start-of at-store-pc in let a = start .args in let ms = a .machine .now in let o = start .pre .entry .ok in
-    record {
-      words = start .pre .words;
-      ok = stored-ok (sizesIn ms) (only (machineIn ms)) (a .stack .now) (a .frames .now) (a .chain .now) (a .slots .now) (a .saved-stack .now) (a .saved-frames .now)
-          (at-store-pc .store-pc .last .0) (a .pc) (at-store-pc .store-pc .kept .0) (start .pre .entry .narrow) o (stored at-store-pc (o .world) (o .beside) (o .rep));
-      may = start .pre .may;
-    }
+    let s = at-store-pc .store-pc in enter-asks (start-of at-store-pc .pre) (s .last .0) (s .ensures) (s .kept .0)
 
 add-height : tie.Need-add-height
 add-height c =
@@ -96,14 +76,9 @@ add-active c =
 
 send-requires : tie.Need-send-requires
 send-requires c κs =
-    let at-enter-at = entry-of (c .before .before .before .before .before) in let at-store-pc = pc-of at-enter-at in let start = start-of at-store-pc in let a = start .args in
-    let ms = a .machine .now in let o = start .pre .entry .ok in
-    let k = recordAt (a .slots .now) (a .i) in let w₁ = storePc (a .pc) (o .world) in
-    let snd = store-sounds (a .pc) (o .world) (start .pre .entry .narrow) (o .sound) in
-    let did = at-enter-at .enter-at .ensures w₁ (o .beside) (stored at-store-pc (o .world) (o .beside) (o .rep)) snd in
-    send-fits _ _ _ _ _ _ _ (k .waiting) (ap (λ n. getD ms 0 0 + n) (sym (word4-of at-enter-at .before .before .before .before .word2 .ensures)))
-    (ap (λ n. getD ms 1 0 + n) (sym (word4-of at-enter-at .before .before .word3 .ensures))) (sym (word4-of at-enter-at .word4 .ensures))
-    (arrive-fits (sizesIn ms) _ (grown (machineIn ms) k) _ (a .v) (Driver.Resume (a .dst)) w₁ (enteredAs k) snd did .waits (k .waiting) (sym (waits-as k (asleep (c .before .before)))))
+    let at-enter-at = entry-of (c .before .before .before .before .before) in let at-word4 = word4-of at-enter-at in let start = begun at-enter-at in let s = pc-of at-enter-at .store-pc in
+    enter-sends (start .pre) (s .last .0) (s .ensures) (start .args .dst) (left-words at-enter-at) (at-enter-at .enter-at .ensures) _ _ _
+    (at-word4 .before .before .before .before .word2 .ensures) (at-word4 .before .before .word3 .ensures) (at-word4 .word4 .ensures) (asleep (c .before .before))
 
 same-length-2 : tie.Need-same-length-2
 same-length-2 c =
@@ -112,19 +87,13 @@ same-length-2 c =
 
 returns : tie.Need-returns
 returns c =
-    let at-enter-at = entry-of (c .before .before .before .before .before .before .before .before .before .before) in let at-store-pc = pc-of at-enter-at in
-    let start = start-of at-store-pc in let a = start .args in let ms = a .machine .now in
-    let k = recordAt (a .slots .now) (a .i) in let n = grown (machineIn ms) k in (
-      told (c .before .before .before .before .before .before .before .before .before .before),
-      λ w b rep snd.
-          let u = storePc (a .pc) w in let v = reg w (a .src) in let e = coroEnter (a .v) (Driver.Resume (a .dst)) u in
-          let d = at-enter-at .enter-at .ensures u b (stored at-store-pc w b rep) (store-sounds (a .pc) w (start .pre .entry .narrow) snd) in
-          then-does (sizesIn ms) _ n (b .fuel) e (arrive v) (enteredAs k) Step.Frame (d .answer)
-          (arrive-sent (sizesIn ms) _ n (b .fuel) (e .world) (enteredAs k) v (k .waiting) (sym (waits-as k (asleep (c .before .before .before .before .before .before .before))))
-          (sends-rep (sizesIn ms) (e .world) _ n (b .fuel) (d .world) _ _ _ _ _ _ (k .waiting) v
-          (ap (λ n. getD ms 0 0 + n) (word4-of at-enter-at .before .before .before .before .word2 .ensures))
-          (ap (λ n. getD ms 1 0 + n) (word4-of at-enter-at .before .before .word3 .ensures)) (word4-of at-enter-at .word4 .ensures)
-          (at-store-pc .before .before .before .reg .ensures (w .stack) (w .frames) (rep .stack) (rep .frames) .is) (c .before .before .before .before .send .ensures))),
+    let at-put-numbers = (c .before .before .before .before .before .before .before .before .before .before) in let at-enter-at = entry-of at-put-numbers in
+    let at-word4 = word4-of at-enter-at in let at-store-pc = pc-of at-enter-at in
+    let start = start-of at-store-pc in let s = at-store-pc .store-pc in (
+      told at-put-numbers,
+      λ w b rep snd. enter-sent (start .pre) (s .last .0) (s .ensures) (start .args .dst) (left-words at-enter-at) (at-enter-at .enter-at .ensures) _ _ _ _
+          (at-store-pc .before .before .before .reg .ensures) (at-word4 .before .before .before .before .word2 .ensures) (at-word4 .before .before .word3 .ensures) (at-word4 .word4 .ensures)
+          (asleep (c .before .before .before .before .before .before .before)) w b _ _ (c .before .before .before .before .send .ensures) rep snd,
     )
 
 same-length-9 : tie.Need-same-length-9
@@ -132,15 +101,10 @@ same-length-9 c = let at-enter-at = entry-of (c .before .before .before) in at-e
 
 returns-2 : tie.Need-returns-2
 returns-2 c =
-    let at-enter-at = entry-of (c .before .before .before) in let at-store-pc = pc-of at-enter-at in let start = start-of at-store-pc in let a = start .args in let ms = a .machine .now in
-    let k = recordAt (a .slots .now) (a .i) in let n = grown (machineIn ms) k in (
-      told (c .before .before .before),
-      λ w b rep snd.
-          let u = storePc (a .pc) w in let v = reg w (a .src) in let e = coroEnter (a .v) (Driver.Resume (a .dst)) u in
-          let d = at-enter-at .enter-at .ensures u b (stored at-store-pc w b rep) (store-sounds (a .pc) w (start .pre .entry .narrow) snd) in
-          then-does (sizesIn ms) _ n (b .fuel) e (arrive v) (enteredAs k) Step.Frame (d .answer)
-          (arrive-fresh (sizesIn ms) _ n (b .fuel) (e .world) (enteredAs k) v
-          (sym (fresh-as k (created _ (sym (word4-of at-enter-at .before .before .before .before .before .before .word .ensures) ∙ c .if1 .left)))) (d .world)),
+    let at-put-numbers = (c .before .before .before) in let at-enter-at = entry-of at-put-numbers in let start = begun at-enter-at in let s = pc-of at-enter-at .store-pc in (
+      told at-put-numbers,
+      enter-fresh (start .pre) (s .last .0) (s .ensures) (start .args .dst) (left-words at-enter-at) (at-enter-at .enter-at .ensures)
+          (created _ (sym (word4-of at-enter-at .before .before .before .before .before .before .word .ensures) ∙ c .if1 .left)),
     )
 
 pub enter-spec : {M : Type 1} → statement M

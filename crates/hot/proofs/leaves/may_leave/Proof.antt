@@ -37,12 +37,13 @@ slot c =
     let start = start-of (c .before .before) in let a = start .args in
     stands-words (getD (a .machine .now) 3 0) (a .slots .now) (innermostIn (a .chain .now) (machineIn (a .machine .now)) .coro) (c .i .given .0 .0) (found c) (start .pre .in-slots)
 
+runs : (c : tie.After-coro-place) → 1 ≤ getD (start-of c .args .machine .now) 2 0
+runs c = some-active _ (c .before .before .before .before .before .before .before .before .before .before .before .before .before .if3 .left)
+
 -- its floor is a frame's
 floored : (c : tie.After-link3) → c .link3 .result < getD (start-of (c .before .before .before .before .before .before) .args .machine .now) 1 0
 floored c =
-    let at-coro-place = (c .before .before .before .before .before .before) in
-    let e = c .link3 .ensures in
-    let h = start-of at-coro-place .pre .floor (some-active _ (at-coro-place .before .before .before .before .before .before .before .before .before .before .before .before .before .if3 .left)) in
+    let at-coro-place = (c .before .before .before .before .before .before) in let e = c .link3 .ensures in let h = start-of at-coro-place .pre .floor (runs at-coro-place) in
     omega (arith, h, e)
 
 -- where its body begins
@@ -86,10 +87,8 @@ base-at-requires-2 c κs = let f = floored c in let h = start-of (c .before .bef
 
 sub-if9 : tie.Need-sub-if9
 sub-if9 c =
-    let at-coro-place = (c .before .before .before .before .before .before .before .before .before) in
-    let e = based (c .before .before) in
-    let h = start-of at-coro-place .pre .base (some-active _ (at-coro-place .before .before .before .before .before .before .before .before .before .before .before .before .before .if3 .left)) in
-    omega (arith, h, e)
+    let at-coro-place = (c .before .before .before .before .before .before .before .before .before) in let e = based (c .before .before) in
+    let h = start-of at-coro-place .pre .base (runs at-coro-place) in omega (arith, h, e)
 
 returns-9 : tie.Need-returns-9
 returns-9 c = let e = based (c .before .before .before) in too-wide (found (c .before .before .before .before .before .before .before .before)) (omega arith)
@@ -120,7 +119,7 @@ returns-14 c =
     let at-if6 = at-i .before .before .before .before .before .before .before .before in let at-if3 = at-if6 .before .before .before .before .before .before .before in
     let start = start-of (at-i .before .before) in
     let low = at-if6 .before .before .before .before .before .base-at .ensures in let above = at-if6 .before .before .before .if4 .left in
-    let run = some-active _ (at-if3 .if3 .left) in let e = based at-base-at2 in let f = at-base-at2 .before .link3 .ensures in
+    let run = runs (at-i .before .before) in let e = based at-base-at2 in let f = at-base-at2 .before .link3 .ensures in
     at-slot (found at-i)
     (record {
       some = some-active _ (at-if3 .before .before .before .if1 .left);
