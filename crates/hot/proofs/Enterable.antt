@@ -18,71 +18,69 @@ use Rattle.hot.specs.Enters.{topIn, entryTests, entersIn, toEnter, enter
 use Rattle.hot.specs.declared.enters.Enters.{Enters}
 use Rattle.hot.proofs.Tests.{fails}
 
-module _ (stack frames slots ms : List ℕ) (fuel dst c src : ℕ) where
-  abbrev Told : Enters → Type 0
-  Told r = Entering stack frames slots ms fuel dst c src r
+-- word k of slot i
+abbrev word : List ℕ → ℕ → ℕ → ℕ
+word slots i k = getD (chunkAt 20 slots i) k 0
 
+module _ {stack frames slots ms : List ℕ} {fuel dst c src : ℕ} where
   -- ---- a test that is not passed
 
-  refused : (n : ℕ) → getD (enterTests stack frames slots ms fuel dst c src) n true ≡ false → Told Enters.Not
+  refused : (n : ℕ) → getD (enterTests stack frames slots ms fuel dst c src) n true ≡ false → Entering stack frames slots ms fuel dst c src Enters.Not
   unfolding mayEnter
   refused n e = record { at = λ i v q. never cc; told = sym (fails (enterTests stack frames slots ms fuel dst c src) n e) }
 
-  pub no-frame : getD ms 1 0 ≡ 0 → Told Enters.Not
+  pub no-frame : getD ms 1 0 ≡ 0 → Entering stack frames slots ms fuel dst c src Enters.Not
   no-frame e = refused 0 (lt-leb 1 (getD ms 1 0) (omega arith))
 
-  pub no-fuel : fuel ≡ 0 → Told Enters.Not
+  pub no-fuel : fuel ≡ 0 → Entering stack frames slots ms fuel dst c src Enters.Not
   no-fuel e = refused 1 (lt-leb 1 fuel (omega arith))
 
-  pub no-dst : getD ms 0 0 ≤ topIn frames ms + dst → Told Enters.Not
+  pub no-dst : getD ms 0 0 ≤ topIn frames ms + dst → Entering stack frames slots ms fuel dst c src Enters.Not
   no-dst h = refused 2 (le-ltb (topIn frames ms + dst) (getD ms 0 0) h)
 
-  pub no-coro : getD ms 0 0 ≤ topIn frames ms + c → Told Enters.Not
+  pub no-coro : getD ms 0 0 ≤ topIn frames ms + c → Entering stack frames slots ms fuel dst c src Enters.Not
   no-coro h = refused 3 (le-ltb (topIn frames ms + c) (getD ms 0 0) h)
 
-  pub no-src : getD ms 0 0 ≤ topIn frames ms + src → Told Enters.Not
+  pub no-src : getD ms 0 0 ≤ topIn frames ms + src → Entering stack frames slots ms fuel dst c src Enters.Not
   no-src h = refused 4 (le-ltb (topIn frames ms + src) (getD ms 0 0) h)
 
-  pub no-place : (f : Fault) → L.Not f ≡ toEnter stack frames slots ms c → Told Enters.Not
-  no-place f e = refused 5 (ap (entersIn slots ms) (sym e))
+  pub no-place : {f : Fault} → L.Not f ≡ toEnter stack frames slots ms c → Entering stack frames slots ms fuel dst c src Enters.Not
+  no-place e = refused 5 (ap (entersIn slots ms) (sym e))
 
-  module _ (i : ℕ) (found : L.At i ≡ toEnter stack frames slots ms c) where
-    abbrev word : ℕ → ℕ
-    word k = getD (chunkAt 20 slots i) k 0
-
-    kept-out : (n : ℕ) → getD (entryTests slots ms i) n true ≡ false → Told Enters.Not
+  module _ {i : ℕ} (found : L.At i ≡ toEnter stack frames slots ms c) where
+    kept-out : (n : ℕ) → getD (entryTests slots ms i) n true ≡ false → Entering stack frames slots ms fuel dst c src Enters.Not
     kept-out n e = refused 5 (ap (entersIn slots ms) (sym found) ∙ fails (entryTests slots ms i) n e)
 
-    pub no-state : isResumable (stateOf (word 2)) ≡ false → Told Enters.Not
+    pub no-state : isResumable (stateOf (word slots i 2)) ≡ false → Entering stack frames slots ms fuel dst c src Enters.Not
     no-state e = kept-out 0 e
 
-    pub no-frames : word 9 ≡ 0 → Told Enters.Not
-    no-frames e = kept-out 1 (ap not (eq-eqb (word 9) 0 e))
+    pub no-frames : word slots i 9 ≡ 0 → Entering stack frames slots ms fuel dst c src Enters.Not
+    no-frames e = kept-out 1 (ap not (eq-eqb (word slots i 9) 0 e))
 
-    pub no-depth : getD ms 13 0 < getD ms 1 0 + word 9 → Told Enters.Not
-    no-depth h = kept-out 2 (lt-leb (getD ms 1 0 + word 9) (getD ms 13 0) h)
+    pub no-depth : getD ms 13 0 < getD ms 1 0 + word slots i 9 → Entering stack frames slots ms fuel dst c src Enters.Not
+    no-depth h = kept-out 2 (lt-leb (getD ms 1 0 + word slots i 9) (getD ms 13 0) h)
 
-    pub no-stack : getD ms 14 0 < getD ms 0 0 + word 8 → Told Enters.Not
-    no-stack h = kept-out 3 (lt-leb (getD ms 0 0 + word 8) (getD ms 14 0) h)
+    pub no-stack : getD ms 14 0 < getD ms 0 0 + word slots i 8 → Entering stack frames slots ms fuel dst c src Enters.Not
+    no-stack h = kept-out 3 (lt-leb (getD ms 0 0 + word slots i 8) (getD ms 14 0) h)
 
     -- ---- all are passed
 
-    all-passed : (v : ℕ) → Enterable stack frames slots ms fuel dst c src i v → isResumable (stateOf (word 2)) ≡ true → (word 9 ≡ 0 → ⊥)
-        → getD ms 1 0 + word 9 ≤ getD ms 13 0 → getD ms 0 0 + word 8 ≤ getD ms 14 0 → mayEnter stack frames slots ms fuel dst c src ≡ true
+    all-passed : {v : ℕ} → Enterable stack frames slots ms fuel dst c src i v → isResumable (stateOf (word slots i 2)) ≡ true → (word slots i 9 ≡ 0 → ⊥)
+        → getD ms 1 0 + word slots i 9 ≤ getD ms 13 0 → getD ms 0 0 + word slots i 8 ≤ getD ms 14 0 → mayEnter stack frames slots ms fuel dst c src ≡ true
     unfolding mayEnter
-    all-passed v h state some deep high =
+    all-passed h state some deep high =
         let base = topIn frames ms in
-        let entry = both state (both (ap not (ne-eqb (word 9) 0 some)) (both (le-leb (getD ms 1 0 + word 9) (getD ms 13 0) deep) (both (le-leb (getD ms 0 0 + word 8) (getD ms 14 0) high) refl))) in
+        let entry = both state (both (ap not (ne-eqb (word slots i 9) 0 some)) (both (le-leb (getD ms 1 0 + word slots i 9) (getD ms 13 0) deep) (both (le-leb (getD ms 0 0 + word slots i 8) (getD ms 14 0) high) refl))) in
         both (le-leb 1 (getD ms 1 0) (h .some)) (both (le-leb 1 fuel (h .paid)) (both (lt-ltb (base + dst) (getD ms 0 0) (h .dst-in)) (both (lt-ltb (base + c) (getD ms 0 0) (h .coro-in))
         (both (lt-ltb (base + src) (getD ms 0 0) (h .src-in)) (both (ap (entersIn slots ms) (sym found) ∙ entry) refl)))))
 
-    pub at-slot : (v : ℕ) → Enterable stack frames slots ms fuel dst c src i v → isResumable (stateOf (word 2)) ≡ true → (word 9 ≡ 0 → ⊥)
-        → getD ms 1 0 + word 9 ≤ getD ms 13 0 → getD ms 0 0 + word 8 ≤ getD ms 14 0 → Told (Enters.At i v)
-    at-slot v h state some deep high =
+    pub at-slot : {v : ℕ} → Enterable stack frames slots ms fuel dst c src i v → isResumable (stateOf (word slots i 2)) ≡ true → (word slots i 9 ≡ 0 → ⊥)
+        → getD ms 1 0 + word slots i 9 ≤ getD ms 13 0 → getD ms 0 0 + word slots i 8 ≤ getD ms 14 0 → Entering stack frames slots ms fuel dst c src (Enters.At i v)
+    at-slot {v} h state some deep high =
         record {
           at = λ j u e.
               let p : i ≡ j = cc in
               let q : v ≡ u = cc in
               subst (λ z. Enterable stack frames slots ms fuel dst c src z u) p (subst (λ z. Enterable stack frames slots ms fuel dst c src i z) q h);
-          told = sym (all-passed v h state some deep high);
+          told = sym (all-passed h state some deep high);
         }

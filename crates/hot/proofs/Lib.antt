@@ -9,5 +9,7 @@ pub mod Resuming
 pub mod Napping
 pub mod Leaving
 pub mod Leavable
+pub mod Fits
+pub mod Storing
 pub mod Yields
 pub mod Switching

@@ -24,7 +24,8 @@ use Rattle.model.specs.declared.call.Answer.{Answer}
 use Rattle.model.specs.declared.exec.Step.{Step}
 use Rattle.model.specs.declared.machine.Fuel.{Fuel}
 use Rattle.memory.specs.Memory.{Lent, Beside, Rep}
-use Rattle.memory.specs.Contract.{Does}
+use Rattle.memory.specs.Lendings.{lent}
+use Rattle.memory.specs.Contract.{Does, Ok, only}
 use Rattle.memory.specs.declared.machine.Machine.{Machine}
 use Rattle.memory.specs.declared.machine.Sizes.{Sizes}
 use Rattle.coro_enter.specs.Enter.{grown}
@@ -37,11 +38,17 @@ use Rattle.exec_arm.specs.Arm.{OfInstruction}
 use Rattle.exec.proofs.Gated.{some-frames, numbered, done}
 use Rattle.kept.specs.Kept.{did}
 use Rattle.kept.proofs.Calls.{as-instruction}
-use Rattle.boundary.specs.Words.{machineIn, machineWords, fuelIn, fuelWords, bankOf}
+use Rattle.boundary.specs.Words.{machineIn, sizesIn, machineWords, fuelIn, fuelWords, bankOf}
 use Rattle.hot.specs.Words.{enteredOver, Numbers, Fuelled}
 use Rattle.hot.proofs.Numbers.{entered-words, back, numbers}
 use Rattle.hot.specs.Enter.{resumesBy}
 use Rattle.hot.specs.Enters.{Enterable}
+use Rattle.hot.specs.Went.{Holds}
+
+-- without the fuel's words
+pub held-only : {stack frames chain slots savedStack savedFrames ms fs : List ℕ} {pc : ℕ} → Holds stack frames chain slots savedStack savedFrames ms fs pc
+    → Ok (sizesIn ms) (lent stack frames chain slots savedStack savedFrames) (only (machineIn ms))
+held-only {fs = fs} h = let k = h .ok in record { world = k .world; beside = record { words = k .beside .words; fuel = fuelIn fs }; rep = k .rep; sound = k .sound; room = k .room }
 
 -- ---- the words of the fuel, and of the numbers
 

@@ -11,7 +11,7 @@ use Rattle.kept.specs.Kept.{did}
 use Rattle.boundary.specs.Words.{machineIn, sizesIn, fuelIn}
 use Rattle.hot.specs.Went.{goesOn}
 use Rattle.hot.specs.Words.{recordAt}
-use Rattle.hot.proofs.Resuming.{spent-in, spent-words, grown-in, grown-words, paid, paid-rep, paid-sound, resume-done, told-as}
+use Rattle.hot.proofs.Resuming.{held-only, spent-in, spent-words, grown-in, grown-words, paid, paid-rep, paid-sound, resume-done, told-as}
 use borrow.Author.Needs.{needs}
 use Rattle.hot.proofs.resume.resume_at.Statement.{statement}
 use Rattle.hot.proofs.resume.resume_at.Tie as tie
@@ -24,18 +24,11 @@ sub-fuel c = search needs
 
 enter-requires : tie.Need-enter-requires
 enter-requires c κs =
-    let start = c .before .before .before .before .before .before .before .before .before .before .before .before .before .before .before .before in
-    let a = start .args in
-    let e = start .pre .enterable in
+    let start = (c .before .before .before .before .before .before .before .before .before .before .before .before .before .before .before .before) in let e = start .pre .enterable in
     let ok = start .pre .held .ok in
     record {
       words = start .pre .held .words;
-      entry =
-          record {
-            ok = record { world = ok .world; beside = record { words = ok .beside .words; fuel = fuelIn (a .fuel .now) }; rep = ok .rep; sound = ok .sound; room = ok .room };
-            narrow = start .pre .held .narrow;
-            some = e .some;
-          };
+      entry = record { ok = held-only (start .pre .held); narrow = start .pre .held .narrow; some = e .some };
       sent = record { some = e .some; on-frames = ok .rep .frames .within; below = e .src-in; on-stack = ok .rep .stack .within };
       may = e .may;
     }
@@ -57,8 +50,8 @@ returns c =
           let r₁ = paid-rep (sizesIn ms) M (machineIn ms) (fuelIn fs) w rep snd (a .pc) (a .dst) (a .c) (a .src) (start .pre .held .narrow) (e .some) rich in
           let s₁ = paid-sound (sizesIn ms) M (machineIn ms) (fuelIn fs) w rep snd (a .pc) (a .dst) (a .c) (a .src) (start .pre .held .narrow) (e .some) rich in
           told-as (sizesIn ms) _ (did (Op.Resume (a .pc) (a .dst) (a .c) (a .src)) w) goesOn _ _ _ _ (grown-in ms _ k (start .pre .held .numbers) (entered .0)) (spent-in fs (start .pre .held .tank))
-          (resume-done (sizesIn ms) M (machineIn ms) (fuelIn fs) w rep snd (a .pc) (a .dst) (a .c) (a .src) (start .pre .held .narrow) (e .some) rich (e .dst-in) (e .coro-in) (e .src-in) _ (grown (machineIn ms) k) (a .v)
-          (e .is (w₁ .stack) (w₁ .frames) (r₁ .stack) (r₁ .frames) .is)
+          (resume-done (sizesIn ms) M (machineIn ms) (fuelIn fs) w rep snd (a .pc) (a .dst) (a .c) (a .src) (start .pre .held .narrow) (e .some) rich (e .dst-in) (e .coro-in) (e .src-in) _
+          (grown (machineIn ms) k) (a .v) (e .is (w₁ .stack) (w₁ .frames) (r₁ .stack) (r₁ .frames) .is)
           (entered .1 w₁ (record { words = b .words; fuel = spent (fuelIn fs) }) r₁ s₁));
       numbers = grown-words ms _ k (start .pre .held .numbers) (entered .0);
       fuel = spent-words fs (start .pre .held .tank) (start .pre .held .fuelled);

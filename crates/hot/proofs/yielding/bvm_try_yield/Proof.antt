@@ -42,30 +42,6 @@ yield-at-requires c κs =
     let start = start-of at-may-leave in
     record { held = holds (of start) (start .pre .sound) (start .args .pc) (start .fits .pc .fits); leavable = at-may-leave .may-leave .ensures .at _ _ _ (at-i .i .given .1) }
 
-same-length : tie.Need-same-length
-same-length c = done-of c .yield-at .kept .0
-
-same-length-2 : tie.Need-same-length-2
-same-length-2 c = done-of c .yield-at .kept .1 .0
-
-same-length-3 : tie.Need-same-length-3
-same-length-3 c = done-of c .yield-at .kept .1 .1 .0
-
-same-length-4 : tie.Need-same-length-4
-same-length-4 c = done-of c .yield-at .kept .1 .1 .1 .0
-
-same-length-5 : tie.Need-same-length-5
-same-length-5 c = done-of c .yield-at .kept .1 .1 .1 .1 .0
-
-same-length-6 : tie.Need-same-length-6
-same-length-6 c = done-of c .yield-at .kept .1 .1 .1 .1 .1 .0
-
-same-length-7 : tie.Need-same-length-7
-same-length-7 c = done-of c .yield-at .kept .1 .1 .1 .1 .1 .1 .0
-
-same-length-8 : tie.Need-same-length-8
-same-length-8 c = done-of c .yield-at .kept .1 .1 .1 .1 .1 .1 .1 .0
-
 returns : tie.Need-returns
 returns c =
     let at-yield-at = done-of c in
@@ -96,14 +72,14 @@ bvm-try-yield-spec =
     (λ c. search needs)
     yield-at-requires
     (λ c. search needs)
-    same-length
-    same-length-2
-    same-length-3
-    same-length-4
-    same-length-5
-    same-length-6
-    same-length-7
-    same-length-8
+    (λ c. search needs)
+    (λ c. search needs)
+    (λ c. search needs)
+    (λ c. search needs)
+    (λ c. search needs)
+    (λ c. search needs)
+    (λ c. search needs)
+    (λ c. search needs)
     returns
     (λ c. search needs)
     (λ c. search needs)

@@ -10,7 +10,7 @@ use Rattle.kept.specs.Kept.{did}
 use Rattle.boundary.specs.Words.{machineIn, sizesIn, fuelIn}
 use Rattle.hot.specs.Went.{goesOn}
 use Rattle.hot.specs.Leave.{leftIn}
-use Rattle.hot.proofs.Resuming.{spent-in, spent-words, paid, paid-rep, paid-sound, told-as}
+use Rattle.hot.proofs.Resuming.{held-only, spent-in, spent-words, paid, paid-rep, paid-sound, told-as}
 use Rattle.hot.proofs.Yields.{left-in, left-words, yield-done}
 use borrow.Author.Needs.{needs}
 use Rattle.hot.proofs.yielding.yield_at.Statement.{statement}
@@ -24,67 +24,23 @@ sub-fuel c = search needs
 
 leave-requires : tie.Need-leave-requires
 leave-requires c κs =
-    let start = c .before .before .before .before .before .before .before .before .before .before .before .before .before .before .before .before in
-    let a = start .args in
-    let e = start .pre .leavable in let ok = start .pre .held .ok in
+    let start = (c .before .before .before .before .before .before .before .before .before .before .before .before .before .before .before .before) in let e = start .pre .leavable in
+    let ok = start .pre .held .ok in
     record {
       words = start .pre .held .words;
-      run =
-          record {
-            ok = record { world = ok .world; beside = record { words = ok .beside .words; fuel = fuelIn (a .fuel .now) }; rep = ok .rep; sound = ok .sound; room = ok .room };
-            running = e .may .running;
-            narrow = start .pre .held .narrow;
-          };
+      run = record { ok = held-only (start .pre .held); running = e .may .running; narrow = start .pre .held .narrow };
       sent = record { some = e .some; on-frames = ok .rep .frames .within; below = e .src-in; on-stack = ok .rep .stack .within };
       may = e .may;
       keyed = e .keyed;
       driven = e .driven;
     }
 
-same-length : tie.Need-same-length
-same-length c =
-    let at-leave = c .before .before .before .before .before .before .before .before .before .before .before .before .before .before in
-    at-leave .leave .kept .0
-
-same-length-2 : tie.Need-same-length-2
-same-length-2 c =
-    let at-leave = c .before .before .before .before .before .before .before .before .before .before .before .before .before .before in
-    at-leave .leave .kept .1 .0
-
-same-length-3 : tie.Need-same-length-3
-same-length-3 c =
-    let at-leave = c .before .before .before .before .before .before .before .before .before .before .before .before .before .before in
-    at-leave .leave .kept .1 .1 .0
-
-same-length-4 : tie.Need-same-length-4
-same-length-4 c =
-    let at-leave = c .before .before .before .before .before .before .before .before .before .before .before .before .before .before in
-    at-leave .leave .kept .1 .1 .1 .0
-
-same-length-5 : tie.Need-same-length-5
-same-length-5 c =
-    let at-leave = c .before .before .before .before .before .before .before .before .before .before .before .before .before .before in
-    at-leave .leave .kept .1 .1 .1 .1 .0
-
-same-length-6 : tie.Need-same-length-6
-same-length-6 c =
-    let at-leave = c .before .before .before .before .before .before .before .before .before .before .before .before .before .before in
-    at-leave .leave .kept .1 .1 .1 .1 .1 .0
-
-same-length-7 : tie.Need-same-length-7
-same-length-7 c =
-    let at-leave = c .before .before .before .before .before .before .before .before .before .before .before .before .before .before in
-    at-leave .leave .kept .1 .1 .1 .1 .1 .1 .0
-
 returns : tie.Need-returns
 returns c =
-    let at-leave = c .before .before .before .before .before .before .before .before .before .before .before .before .before .before in
-    let start = at-leave .before .before .before .before .before .before .before .before .before .before .before .before .before .before .before .before .before in
-    let a = start .args in
-    let ms = a .machine .now in let fs = a .fuel .now in
-    let frames = a .frames .now in let chain = a .chain .now in
-    let held = start .pre .held in let e = start .pre .leavable in
-    let left = at-leave .leave .ensures in
+    let at-leave = (c .before .before .before .before .before .before .before .before .before .before .before .before .before .before) in
+    let start = at-leave .before .before .before .before .before .before .before .before .before .before .before .before .before .before .before .before .before in let a = start .args in
+    let ms = a .machine .now in let fs = a .fuel .now in let frames = a .frames .now in let chain = a .chain .now in
+    let held = start .pre .held in let e = start .pre .leavable in let left = at-leave .leave .ensures in
     let rich : getD fs 0 0 ≡ 0 → ⊥ = λ z. let h = e .paid in omega (arith, h, z) in
     record {
       met = λ w b rep snd.
@@ -107,12 +63,12 @@ yield-at-spec =
     sub-fuel
     (λ c. search needs)
     leave-requires
-    same-length
-    same-length-2
-    same-length-3
-    same-length-4
-    same-length-5
-    same-length-6
-    same-length-7
+    (λ c. search needs)
+    (λ c. search needs)
+    (λ c. search needs)
+    (λ c. search needs)
+    (λ c. search needs)
+    (λ c. search needs)
+    (λ c. search needs)
     (λ c. search needs)
     returns)
