@@ -1,7 +1,8 @@
 -- Tests that hold together. Assumes nothing.
 use mathlib.Core.Path.{_≡_, refl, sym, ap, _∙_}
 use mathlib.Core.Bool.{Bool, true, false, _&&_}
-use Prim.Native.Nat.{ℕ}
+use mathlib.Core.List.{List, [], _∷_}
+use Prim.Native.Nat.{ℕ, zero, suc}
 use borrow.Author.Tests.{eqb-true, eq-eqb}
 use lib.Dec.{eqb}
 use Rattle.soundness.proofs.Tests.{no-true}
@@ -36,31 +37,31 @@ first-fails t z w b e p q = sym (ap (λ x. x && z) (sym p ∙ q)) ∙ e
 pub second-decides : (t z w b c : Bool) → (t && z) ≡ w → b ≡ t → b ≡ true → c ≡ z → c ≡ w
 second-decides t z w b c e p q r = r ∙ sym (ap (λ x. x && z) (sym p ∙ q)) ∙ e
 
--- seven tests, one after the other: the first that fails decides, or the last
-module _ (a b c d e f g w : Bool) where
-  abbrev pub Seven : Type 0
-  Seven = (a && b && c && d && e && f && g) ≡ w
+-- tests one after the other: `Left ts w`, the whole w is what those of ts say, since all before them have passed
+abbrev pub upto : Bool → List Bool → Bool
+upto p [] = p
+upto p (t ∷ ts) = upto (p && t) ts
 
-  pub stop-1 : Seven → a ≡ false → false ≡ w
-  stop-1 q h = sym (rw h) ∙ q
+abbrev pub from : ℕ → List Bool → List Bool
+from zero ts = ts
+from (suc n) [] = []
+from (suc n) (t ∷ ts) = from n ts
 
-  pub stop-2 : Seven → a ≡ true → b ≡ false → false ≡ w
-  stop-2 q p h = sym (rw (p, h)) ∙ q
+pub record Left (ts : List Bool) (w : Bool) : Type 0 where
+  pub is : upto true ts ≡ w
 
-  pub stop-3 : Seven → a ≡ true → b ≡ true → c ≡ false → false ≡ w
-  stop-3 q p₁ p₂ h = sym (rw (p₁, p₂, h)) ∙ q
+failed : (ts : List Bool) → upto false ts ≡ false
+failed [] = refl
+failed (t ∷ ts) = failed ts
 
-  pub stop-4 : Seven → a ≡ true → b ≡ true → c ≡ true → d ≡ false → false ≡ w
-  stop-4 q p₁ p₂ p₃ h = sym (rw (p₁, p₂, p₃, h)) ∙ q
+pub pass : {t : Bool} {ts : List Bool} {w : Bool} → Left (t ∷ ts) w → t ≡ true → Left ts w
+pass {t} {ts} l q = record { is = sym (ap (λ b. upto b ts) q) ∙ l .is }
 
-  pub stop-5 : Seven → a ≡ true → b ≡ true → c ≡ true → d ≡ true → e ≡ false → false ≡ w
-  stop-5 q p₁ p₂ p₃ p₄ h = sym (rw (p₁, p₂, p₃, p₄, h)) ∙ q
+pub stop : {t : Bool} {ts : List Bool} {w : Bool} → Left (t ∷ ts) w → t ≡ false → false ≡ w
+stop {t} {ts} l q = sym (failed ts) ∙ sym (ap (λ b. upto b ts) q) ∙ l .is
 
-  pub stop-6 : Seven → a ≡ true → b ≡ true → c ≡ true → d ≡ true → e ≡ true → f ≡ false → false ≡ w
-  stop-6 q p₁ p₂ p₃ p₄ p₅ h = sym (rw (p₁, p₂, p₃, p₄, p₅, h)) ∙ q
-
-  pub decides : (r : Bool) → Seven → a ≡ true → b ≡ true → c ≡ true → d ≡ true → e ≡ true → f ≡ true → r ≡ g → r ≡ w
-  decides r q p₁ p₂ p₃ p₄ p₅ p₆ h = h ∙ sym (rw (p₁, p₂, p₃, p₄, p₅, p₆)) ∙ q
+pub last : {t w r : Bool} → Left (t ∷ []) w → r ≡ t → r ≡ w
+last l q = q ∙ l .is
 
 -- three
 module _ (a b c w : Bool) where

@@ -1,7 +1,8 @@
 -- `running` meets its contract: the active ones passed so far run, and the set has their slots. Assumes nothing.
 use mathlib.Core.Path.{_≡_, refl, sym, _∙_}
 use mathlib.Core.Bool.{true, false≢true}
-use Prim.Native.Nat.{_*_, _-_, _<_}
+use mathlib.Core.List.{List}
+use Prim.Native.Nat.{ℕ, _*_, _-_, _<_}
 use native.Mathlib.Omega.{arith}
 use borrow.Author.Tests.{not-true, not-false}
 use lib.ListN.{length-set, getD}
@@ -9,6 +10,8 @@ use Rattle.lists.proofs.Tables.{length-chunks}
 use Rattle.heap.specs.Word.{slotOf}
 use Rattle.heap.specs.Slot.{width, slotOfWords}
 use Rattle.heap.specs.Heap.{slotsOf}
+use Rattle.heap.specs.Table.{Slot}
+use Rattle.heap.specs.declared.object.Object as H
 use Rattle.sound_test.proofs.Bits.{empty-set, put-set}
 use Rattle.sound_words.proofs.Chained.{Passed, runs, stops, twice, passes, all-run, set-of, word-inside}
 use Rattle.sound_words.proofs.running.running.Statement.{statement}
@@ -20,76 +23,60 @@ Inv-loop chain n slots count seen₀ k₀ seen k = Passed (slotsOf count slots) 
 abbrev μ-loop : tie.MeasureT-loop
 μ-loop chain n slots count seen₀ k₀ seen k = n - k
 
--- the next one's slot is in range
-small : (c : tie.After-is-running Inv-loop μ-loop)
-    → let at-loop = c .before .before .before in let start = at-loop .before .before .before in
-    runs (slotsOf (start .args .count) (start .args .slots .now)) (getD (start .args .chain .now) (at-loop .loop .k * 6) 0) ≡ true
-    → slotOf (getD (start .args .chain .now) (at-loop .loop .k * 6) 0) < 4096
-small c e =
-    let at-loop = c .before .before .before in let start = at-loop .before .before .before in
-    let a = start .args in
-    let i = word-inside (slotsOf (a .count) (a .slots .now)) (getD (a .chain .now) (at-loop .loop .k * 6) 0) e in
-    let l = length-chunks width slotOfWords (a .count) (a .slots .now) in
-    let f = start .pre .few in
-    omega arith
+-- the coroutines, and the next one's word
+abbrev table : tie.At-loop Inv-loop μ-loop → List (Slot H.Object)
+table c = let a = c .before .before .before .args in slotsOf (a .count) (a .slots .now)
+
+abbrev word : tie.At-loop Inv-loop μ-loop → ℕ
+word c = getD (c .before .before .before .args .chain .now) (c .loop .k * 6) 0
+
+runs-now : (c : tie.Else1 Inv-loop μ-loop) → let at-loop = c .before .before .before .before in runs (table at-loop) (word at-loop) ≡ true
+runs-now c = sym (c .before .is-running .ensures) ∙ not-false _ (c .if1 .left)
+
+small : (c : tie.Else1 Inv-loop μ-loop) → slotOf (word (c .before .before .before .before)) < 4096
+small c =
+    let at-loop = c .before .before .before .before in let start = at-loop .before .before .before in
+    omega (arith, word-inside (table at-loop) (word at-loop) (runs-now c), length-chunks width slotOfWords (start .args .count) (start .args .slots .now), start .pre .few)
 
 loop-holds : tie.Need-loop-holds Inv-loop μ-loop
 loop-holds c = record { within = omega arith; fine = refl; own = refl; holds = empty-set; long = refl }
 
 mul-w : tie.Need-mul-w Inv-loop μ-loop
-mul-w c =
-    let at-loop = c .before in let start = at-loop .before .before .before in
-    omega (arith, start .pre .on-chain, at-loop .loop .inv .within)
+mul-w c = omega (arith, c .before .before .before .before .pre .on-chain, c .before .loop .inv .within)
 
 mul-w-2 : tie.Need-mul-w-2 Inv-loop μ-loop
-mul-w-2 c =
-    let at-loop = c .before in let start = at-loop .before .before .before in
-    omega (arith, start .pre .on-chain, at-loop .loop .inv .within)
+mul-w-2 c = omega (arith, c .before .before .before .before .pre .on-chain, c .before .loop .inv .within)
 
 shared-slice-read-w : tie.Need-shared-slice-read-w Inv-loop μ-loop
-shared-slice-read-w c =
-    let at-loop = c .before .before in let start = at-loop .before .before .before in
-    omega (arith, start .pre .on-chain, at-loop .loop .inv .within)
+shared-slice-read-w c = omega (arith, c .before .before .before .before .before .pre .on-chain, c .before .before .loop .inv .within)
 
 is-running-requires : tie.Need-is-running-requires Inv-loop μ-loop
-is-running-requires c κs =
-    let start = c .before .before .before .before .before in
-    start .pre .table
+is-running-requires c κs = c .before .before .before .before .before .pre .table
 
 returns : tie.Need-returns Inv-loop μ-loop
 returns c =
-    let at-is-running = c .before in let at-loop-test = at-is-running .before .before in let at-loop = at-loop-test .before in
-    let start = at-loop .before .before .before in
-    let a = start .args in
+    let at-is-running = c .before in let at-loop-test = at-is-running .before .before in let at-loop = at-loop-test .before in let a = at-loop .before .before .before .args in
     record {
-      good = stops (slotsOf (a .count) (a .slots .now)) (a .chain .now) (a .n) (at-loop .loop .k) (at-loop-test .loop-test .taken)
-          (sym (at-is-running .is-running .ensures) ∙ not-true _ (c .if1 .taken));
+      good = stops (table at-loop) (a .chain .now) (a .n) (at-loop .loop .k) (at-loop-test .loop-test .taken) (sym (at-is-running .is-running .ensures) ∙ not-true _ (c .if1 .taken));
       long = at-loop .loop .inv .long;
       set = λ e. absurd (false≢true e);
     }
 
 mul-v : tie.Need-mul-v Inv-loop μ-loop
-mul-v c =
-    let at-is-running = c .before in
-    omega (arith, small at-is-running (sym (at-is-running .is-running .ensures) ∙ not-false _ (c .if1 .left)))
+mul-v c = omega (arith, small c)
 
 array-read-v : tie.Need-array-read-v Inv-loop μ-loop
-array-read-v c =
-    let at-is-running = c .before in
-    omega (arith, small at-is-running (sym (at-is-running .is-running .ensures) ∙ not-false _ (c .if1 .left)))
+array-read-v c = omega (arith, small c)
 
 bit-requires : tie.Need-bit-requires Inv-loop μ-loop
 bit-requires c κs = omega arith
 
 returns-2 : tie.Need-returns-2 Inv-loop μ-loop
 returns-2 c =
-    let at-bit = c .before in let at-if1 = at-bit .before in let at-is-running = at-if1 .before in let at-loop-test = at-is-running .before .before in
-    let at-loop = at-loop-test .before in let start = at-loop .before .before .before in
-    let a = start .args in
+    let at-bit = c .before in let at-loop-test = at-bit .before .before .before .before in let at-loop = at-loop-test .before in let a = at-loop .before .before .before .args in
     record {
-      good = twice (slotsOf (a .count) (a .slots .now)) (a .chain .now) (a .n) (at-loop .loop .k) (at-loop .loop .seen) (at-loop .loop .inv)
-          (at-loop-test .loop-test .taken) (sym (at-is-running .is-running .ensures) ∙ not-false _ (at-if1 .if1 .left))
-          (sym (at-bit .bit .ensures) ∙ c .if2 .taken);
+      good = twice (table at-loop) (a .chain .now) (a .n) (at-loop .loop .k) (at-loop .loop .seen) (at-loop .loop .inv)
+          (at-loop-test .loop-test .taken) (runs-now (at-bit .before)) (sym (at-bit .bit .ensures) ∙ c .if2 .taken);
       long = at-loop .loop .inv .long;
       set = λ e. absurd (false≢true e);
     }
@@ -98,47 +85,32 @@ with-bit-requires : tie.Need-with-bit-requires Inv-loop μ-loop
 with-bit-requires c κs = omega arith
 
 mul-seen : tie.Need-mul-seen Inv-loop μ-loop
-mul-seen c =
-    let at-if1 = c .before .before .before in let at-is-running = at-if1 .before in
-    omega (arith, small at-is-running (sym (at-is-running .is-running .ensures) ∙ not-false _ (at-if1 .if1 .left)))
+mul-seen c = omega (arith, small (c .before .before .before))
 
 array-write-seen : tie.Need-array-write-seen Inv-loop μ-loop
-array-write-seen c =
-    let at-if1 = c .before .before .before in let at-is-running = at-if1 .before in
-    omega (arith, small at-is-running (sym (at-is-running .is-running .ensures) ∙ not-false _ (at-if1 .if1 .left)))
+array-write-seen c = omega (arith, small (c .before .before .before))
 
 add-k : tie.Need-add-k Inv-loop μ-loop
-add-k c =
-    let at-loop-test = c .before .before .before .before .before .before in
-    omega (arith, at-loop-test .loop-test .taken)
+add-k c = omega (arith, c .before .before .before .before .before .before .loop-test .taken)
 
 loop-less : tie.Need-loop-less Inv-loop μ-loop
-loop-less c =
-    let at-loop-test = c .before .before .before .before .before .before in
-    omega (arith, at-loop-test .loop-test .taken)
+loop-less c = omega (arith, c .before .before .before .before .before .before .loop-test .taken)
 
 loop-again : tie.Need-loop-again Inv-loop μ-loop
 loop-again c =
-    let at-if2 = c .before in let at-bit = at-if2 .before in let at-if1 = at-bit .before in let at-is-running = at-if1 .before in
-    let at-loop-test = at-is-running .before .before in let at-loop = at-loop-test .before in let start = at-loop .before .before .before in
-    let a = start .args in
-    let h = small at-is-running (sym (at-is-running .is-running .ensures) ∙ not-false _ (at-if1 .if1 .left)) in
-    passes (slotsOf (a .count) (a .slots .now)) (a .chain .now) (a .n) (at-loop .loop .k) (at-loop .loop .seen) (at-loop .loop .inv)
-    (at-loop-test .loop-test .taken) (sym (at-is-running .is-running .ensures) ∙ not-false _ (at-if1 .if1 .left)) _
-    (sym (at-bit .bit .ensures) ∙ at-if2 .if2 .left)
-    (λ y. put-set (at-loop .loop .seen) _ _ y (let q = at-loop .loop .inv .long in omega arith) (c .with-bit .ensures))
-    (simp length-set (at-loop .loop .inv .long))
+    let at-if2 = c .before in let at-bit = at-if2 .before in let at-if1 = at-bit .before in let at-loop-test = at-if1 .before .before .before in
+    let at-loop = at-loop-test .before in let a = at-loop .before .before .before .args in let h = small at-if1 in
+    passes (table at-loop) (a .chain .now) (a .n) (at-loop .loop .k) (at-loop .loop .seen) (at-loop .loop .inv)
+    (at-loop-test .loop-test .taken) (runs-now at-if1) _ (sym (at-bit .bit .ensures) ∙ at-if2 .if2 .left)
+    (λ y. put-set (at-loop .loop .seen) _ _ y (let q = at-loop .loop .inv .long in omega arith) (c .with-bit .ensures)) (simp length-set (at-loop .loop .inv .long))
 
 returns-3 : tie.Need-returns-3 Inv-loop μ-loop
 returns-3 c =
-    let at-loop = c .before in let start = at-loop .before .before .before in
-    let a = start .args in
+    let at-loop = c .before in let a = at-loop .before .before .before .args in let inv = at-loop .loop .inv in
     record {
-      good = all-run (slotsOf (a .count) (a .slots .now)) (a .chain .now) (a .n) (at-loop .loop .k) (at-loop .loop .seen) (at-loop .loop .inv)
-          (c .loop-test .left);
-      long = at-loop .loop .inv .long;
-      set = λ e. set-of (slotsOf (a .count) (a .slots .now)) (a .chain .now) (a .n) (at-loop .loop .k) (at-loop .loop .seen) (at-loop .loop .inv)
-          (c .loop-test .left);
+      good = all-run (table at-loop) (a .chain .now) (a .n) (at-loop .loop .k) (at-loop .loop .seen) inv (c .loop-test .left);
+      long = inv .long;
+      set = λ e. set-of (table at-loop) (a .chain .now) (a .n) (at-loop .loop .k) (at-loop .loop .seen) inv (c .loop-test .left);
     }
 
 pub running-spec : {M : Type 1} → statement M

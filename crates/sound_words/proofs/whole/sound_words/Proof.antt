@@ -1,16 +1,18 @@
 -- `sound_words` meets its contract: each part fails the whole, and the last decides it. Assumes nothing.
 use mathlib.Core.Path.{_≡_, sym, ap, _∙_, subst}
 use mathlib.Core.Bool.{Bool, true, false}
+use mathlib.Core.List.{List, [], _∷_}
+use Prim.Native.Nat.{ℕ}
 use lib.ListN.{length}
 use borrow.Author.Tests.{not-true, not-false}
 use Rattle.memory.specs.Memory.{Lent}
 use Rattle.memory.specs.declared.machine.Sizes.{Sizes}
 use Rattle.memory.specs.Words.{sizesOf}
 use Rattle.memory.specs.Decode.{setupOf}
-use Rattle.sound.specs.Words.{setupHeld}
+use Rattle.sound.specs.Words.{setupHeld, soundWords}
 use Rattle.sound_test.specs.Room.{SizesFit}
-use Rattle.sound_words.specs.Whole.{lentOf, numbersTest, objectsTest, ObjectsFit}
-use Rattle.sound_words.proofs.Ordered.{five-1, five-2, five-3, five-4, five-5}
+use Rattle.sound_test.proofs.Bools.{Left, from, pass, stop, last}
+use Rattle.sound_words.specs.Whole.{lentOf, numbersTest, towerTest, objectsTest, queuesTest, ObjectsFit}
 use Rattle.sound_words.proofs.Fitting.{counted, setup-fits, sizes-fit, tower-fits, objects-fit, queues-fit}
 use Rattle.sound_words.proofs.Wholly.{whole-same}
 use borrow.Author.Needs.{needs}
@@ -22,119 +24,102 @@ lent c =
     lentOf (c .args .stack .now) (c .args .frames .now) (c .args .chain .now) (c .args .slots .now) (c .args .saved .now) (c .args .asleep .now)
     (c .args .ready .now) (c .args .finalize .now) (c .args .setup .now)
 
--- what has passed so far
-held : (c : tie.Else1)
-    → let start = c .before .before .before .before .before .before .before .before .before .before .before in
-    setupHeld (start .args .setup .now) ≡ true
-held c =
-    let at-setup-held = c .before in
-    sym (at-setup-held .setup-held .ensures) ∙ not-false _ (c .if1 .left)
+abbrev numbers-by : tie.Start → Sizes → Bool
+numbers-by c l =
+    let M = lent c in
+    numbersTest l (length (M .stack)) (length (M .frames)) (length (M .chain)) (length (M .slots)) (length (M .savedStack)) (length (M .savedFrames)) (length (M .ready))
+    (length (M .finalize)) (c .args .m) (c .args .fuel)
 
-numbers : (c : tie.After-numbers-ok)
-    → let start = c .before .before .before .before .before .before .before .before .before .before .before .before .before in
-    (b : Bool) → c .numbers-ok .result ≡ b
-    → counted (lent start) (start .args .m) (start .args .fuel) ≡ b
-numbers c b e =
-    let at-sizes = c .before in let start = at-sizes .before .before .before .before .before .before .before .before .before .before .before .before in
-    let a = start .args in
-    sym
-    (ap
-    (λ (l : Sizes).
-    numbersTest l (length (a .stack .now)) (length (a .frames .now)) (length (a .chain .now)) (length (a .slots .now)) (length (a .saved .now))
-    (length (a .asleep .now)) (length (a .ready .now)) (length (a .finalize .now)) (a .m) (a .fuel))
-    (at-sizes .sizes .ensures .words))
-    ∙ sym (c .numbers-ok .ensures) ∙ e
+abbrev objects-by : tie.Start → Sizes → Bool
+objects-by c l = let M = lent c in objectsTest l (setupOf (M .setup)) (M .chain) (M .slots) (M .savedStack) (M .savedFrames) (c .args .m)
 
-objects : (c : tie.After-objects-ok)
-    → let start = c .before .before .before .before .before .before .before .before .before .before .before .before .before .before .before .before .before .before .before .before in
-    let a = start .args in
-    (b : Bool) → c .objects-ok .result ≡ b
-    → objectsTest (sizesOf (setupOf (a .setup .now))) (setupOf (a .setup .now)) (a .chain .now) (a .slots .now) (a .saved .now) (a .asleep .now) (a .m) ≡ b
-objects c b e =
-    let at-sizes = c .before .before .before .before .before .before .before .before in
-    let start = at-sizes .before .before .before .before .before .before .before .before .before .before .before .before in
-    let a = start .args in
-    sym
-    (ap (λ (l : Sizes). objectsTest l (setupOf (a .setup .now)) (a .chain .now) (a .slots .now) (a .saved .now) (a .asleep .now) (a .m)) (at-sizes .sizes .ensures .words))
-    ∙ sym (c .objects-ok .ensures) ∙ e
+abbrev tests : tie.Start → List Bool
+tests c =
+    let M = lent c in let m = c .args .m in let s = setupOf (M .setup) in
+    setupHeld (M .setup) ∷ counted M m (c .args .fuel) ∷ towerTest s (M .stack) (M .frames) (M .chain) m ∷ objects-by c (sizesOf s)
+    ∷ queuesTest (M .ready) (M .finalize) (M .slots) m ∷ []
+
+-- the first n have passed
+abbrev Passed : ℕ → tie.Start → Type 0
+Passed n c = Left (from n (tests c)) (soundWords (lent c) (c .args .m) (c .args .fuel))
+
+begun : (c : tie.Start) → Passed 0 c
+begun c = record { is = whole-same (lent c) (c .args .m) (c .args .fuel) }
+
+abbrev begin-of : tie.After-sizes → tie.Start
+begin-of c = c .before .before .before .before .before .before .before .before .before .before .before .before
+
+abbrev start-of : tie.Else2 → tie.Start
+start-of c = begin-of (c .before .before)
+
+-- what each part told
+held : (c : tie.Else1) → setupHeld (c .before .before .before .before .before .before .before .before .before .before .before .args .setup .now) ≡ true
+held c = sym (c .before .setup-held .ensures) ∙ not-false _ (c .if1 .left)
+
+numbers : (c : tie.After-numbers-ok) (b : Bool) → c .numbers-ok .result ≡ b → let start = begin-of (c .before) in counted (lent start) (start .args .m) (start .args .fuel) ≡ b
+numbers c b e = sym (ap (numbers-by (begin-of (c .before))) (c .before .sizes .ensures .words)) ∙ sym (c .numbers-ok .ensures) ∙ e
+
+ready : (c : tie.Else2) → let start = start-of c in counted (lent start) (start .args .m) (start .args .fuel) ≡ true
+ready c = numbers (c .before) true (not-false _ (c .if2 .left))
+
+abbrev sizes-of : tie.After-objects-ok → tie.After-sizes
+sizes-of c = c .before .before .before .before .before .before .before .before
+
+objects : (c : tie.After-objects-ok) (b : Bool) → c .objects-ok .result ≡ b → let start = begin-of (sizes-of c) in objects-by start (sizesOf (setupOf (start .args .setup .now))) ≡ b
+objects c b e = sym (ap (objects-by (begin-of (sizes-of c))) (sizes-of c .sizes .ensures .words)) ∙ sym (c .objects-ok .ensures) ∙ e
+
+passed-1 : (c : tie.Else1) → Passed 1 (c .before .before .before .before .before .before .before .before .before .before .before)
+passed-1 c = pass (begun (c .before .before .before .before .before .before .before .before .before .before .before)) (held c)
+
+passed-2 : (c : tie.Else2) → Passed 2 (start-of c)
+passed-2 c = pass (passed-1 (c .before .before .before)) (ready c)
+
+passed-3 : (c : tie.Else3) → Passed 3 (start-of (c .before .before .before .before))
+passed-3 c = pass (passed-2 (c .before .before .before .before)) (sym (c .before .tower-ok .ensures) ∙ not-false _ (c .if3 .left))
 
 returns : tie.Need-returns
-returns c =
-    let at-setup-held = c .before in let start = at-setup-held .before .before .before .before .before .before .before .before .before .before in
-    five-1 _ _ _ _ _ _ (whole-same (lent start) (start .args .m) (start .args .fuel))
-    (sym (at-setup-held .setup-held .ensures) ∙ not-true _ (c .if1 .taken))
+returns c = stop (begun (c .before .before .before .before .before .before .before .before .before .before .before)) (sym (c .before .setup-held .ensures) ∙ not-true _ (c .if1 .taken))
 
 sizes-requires : tie.Need-sizes-requires
-sizes-requires c κs =
-    let start = c .before .before .before .before .before .before .before .before .before .before .before in
-    setup-fits (start .args .setup .now) (held ((c)))
+sizes-requires c κs = setup-fits (c .before .before .before .before .before .before .before .before .before .before .before .args .setup .now) (held c)
 
 numbers-ok-requires : tie.Need-numbers-ok-requires
-numbers-ok-requires c κs =
-    let at-if1 = c .before in let start = at-if1 .before .before .before .before .before .before .before .before .before .before .before in
-    subst SizesFit (sym (c .sizes .ensures .words)) (sizes-fit (start .args .setup .now) (held at-if1))
+numbers-ok-requires c κs = subst SizesFit (sym (c .sizes .ensures .words)) (sizes-fit (begin-of c .args .setup .now) (held (c .before)))
 
 returns-2 : tie.Need-returns-2
-returns-2 c =
-    let at-numbers-ok = c .before in let at-if1 = at-numbers-ok .before .before in
-    let start = at-if1 .before .before .before .before .before .before .before .before .before .before .before in
-    five-2 _ _ _ _ _ _ (whole-same (lent start) (start .args .m) (start .args .fuel)) (held at-if1)
-    (numbers at-numbers-ok false (not-true _ (c .if2 .taken)))
+returns-2 c = stop (passed-1 (c .before .before .before)) (numbers (c .before) false (not-true _ (c .if2 .taken)))
 
 catches-requires : tie.Need-catches-requires
-catches-requires c κs =
-    let at-if1 = c .before .before .before in
-    held at-if1
+catches-requires c κs = held (c .before .before .before)
 
 tower-ok-requires : tie.Need-tower-ok-requires
 tower-ok-requires c κs =
-    let at-catches = c .before in let at-if2 = at-catches .before in let at-numbers-ok = at-if2 .before in let at-if1 = at-numbers-ok .before .before in
-    let start = at-if1 .before .before .before .before .before .before .before .before .before .before .before in
-    tower-fits (lent start) (start .args .m) (start .args .fuel) (held at-if1) (numbers at-numbers-ok true (not-false _ (at-if2 .if2 .left))) _
-    (at-catches .catches .ensures)
+    let at-if2 = c .before .before in let start = start-of at-if2 in
+    tower-fits (lent start) (start .args .m) (start .args .fuel) (held (at-if2 .before .before .before)) (ready at-if2) _ (c .before .catches .ensures)
 
 returns-3 : tie.Need-returns-3
-returns-3 c =
-    let at-tower-ok = c .before in let at-if2 = at-tower-ok .before .before .before in let at-numbers-ok = at-if2 .before in let at-if1 = at-numbers-ok .before .before in
-    let start = at-if1 .before .before .before .before .before .before .before .before .before .before .before in
-    five-3 _ _ _ _ _ _ (whole-same (lent start) (start .args .m) (start .args .fuel)) (held at-if1)
-    (numbers at-numbers-ok true (not-false _ (at-if2 .if2 .left)))
-    (sym (at-tower-ok .tower-ok .ensures) ∙ not-true _ (c .if3 .taken))
+returns-3 c = stop (passed-2 (c .before .before .before .before)) (sym (c .before .tower-ok .ensures) ∙ not-true _ (c .if3 .taken))
 
 objects-ok-requires : tie.Need-objects-ok-requires
 objects-ok-requires c κs =
-    let at-catches = c .before .before .before .before in let at-if2 = at-catches .before in let at-numbers-ok = at-if2 .before in let at-sizes = at-numbers-ok .before in
-    let at-if1 = at-sizes .before in let start = at-if1 .before .before .before .before .before .before .before .before .before .before .before in
-    let a = start .args in
+    let at-catches = c .before .before .before .before in let at-if2 = at-catches .before in let start = start-of at-if2 in let a = start .args in
     subst
     (λ (l : Sizes). ObjectsFit (a .chain .now) (a .slots .now) (a .saved .now) (a .asleep .now) (at-catches .catches .result) (a .setup .now) l (a .m))
-    (sym (at-sizes .sizes .ensures .words))
-    (objects-fit (lent start) (a .m) (a .fuel) (held at-if1) (numbers at-numbers-ok true (not-false _ (at-if2 .if2 .left))) _ (at-catches .catches .ensures))
+    (sym (at-if2 .before .before .sizes .ensures .words))
+    (objects-fit (lent start) (a .m) (a .fuel) (held (at-if2 .before .before .before)) (ready at-if2) _ (at-catches .catches .ensures))
 
 returns-4 : tie.Need-returns-4
-returns-4 c =
-    let at-objects-ok = c .before in let at-if3 = at-objects-ok .before .before in let at-tower-ok = at-if3 .before in let at-if2 = at-tower-ok .before .before .before in
-    let at-numbers-ok = at-if2 .before in let at-if1 = at-numbers-ok .before .before in
-    let start = at-if1 .before .before .before .before .before .before .before .before .before .before .before in
-    five-4 _ _ _ _ _ _ (whole-same (lent start) (start .args .m) (start .args .fuel)) (held at-if1)
-    (numbers at-numbers-ok true (not-false _ (at-if2 .if2 .left)))
-    (sym (at-tower-ok .tower-ok .ensures) ∙ not-false _ (at-if3 .if3 .left)) (objects at-objects-ok false (not-true _ (c .if4 .taken)))
+returns-4 c = stop (passed-3 (c .before .before .before)) (objects (c .before) false (not-true _ (c .if4 .taken)))
 
 queues-ok-requires : tie.Need-queues-ok-requires
 queues-ok-requires c κs =
-    let at-if2 = c .before .before .before .before .before .before .before in let at-numbers-ok = at-if2 .before in let at-if1 = at-numbers-ok .before .before in
-    let start = at-if1 .before .before .before .before .before .before .before .before .before .before .before in
-    queues-fit (lent start) (start .args .m) (start .args .fuel) (held at-if1) (numbers at-numbers-ok true (not-false _ (at-if2 .if2 .left)))
+    let at-if2 = c .before .before .before .before .before .before .before in let start = start-of at-if2 in
+    queues-fit (lent start) (start .args .m) (start .args .fuel) (held (at-if2 .before .before .before)) (ready at-if2)
 
 returns-5 : tie.Need-returns-5
 returns-5 c =
-    let at-if4 = c .before in let at-objects-ok = at-if4 .before in let at-if3 = at-objects-ok .before .before in let at-tower-ok = at-if3 .before in
-    let at-if2 = at-tower-ok .before .before .before in let at-numbers-ok = at-if2 .before in let at-if1 = at-numbers-ok .before .before in
-    let start = at-if1 .before .before .before .before .before .before .before .before .before .before .before in
-    five-5 _ _ _ _ _ _ (whole-same (lent start) (start .args .m) (start .args .fuel)) (c .queues-ok .result) (held at-if1)
-    (numbers at-numbers-ok true (not-false _ (at-if2 .if2 .left)))
-    (sym (at-tower-ok .tower-ok .ensures) ∙ not-false _ (at-if3 .if3 .left)) (objects at-objects-ok true (not-false _ (at-if4 .if4 .left)))
-    (c .queues-ok .ensures)
+    let at-if4 = c .before in
+    last (pass (passed-3 (at-if4 .before .before .before)) (objects (at-if4 .before) true (not-false _ (at-if4 .if4 .left)))) (c .queues-ok .ensures)
 
 pub sound-words-spec : {M : Type 1} → statement M
 sound-words-spec =
