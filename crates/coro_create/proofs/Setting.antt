@@ -33,6 +33,14 @@ narrow f h =
 pub known : (w : World) → sound w ≡ true → Sound false w
 known w snd = sound→ w snd (λ z. no-false z)
 
+-- the sizes of a sound world, and the bytes of a coroutine
+pub record Numbers (l : Sizes) (regs : ℕ) : Type 0 where
+  pub rows : l .rows ≤ 64
+  pub slots : l .slots ≤ 4096
+  pub deep : 1 ≤ l .depth
+  pub first : bytesOf regs (l .costs .coro) (l .costs .frame) < 2 ^ 64
+  pub second : bytesOf regs (l .costs .object) (l .costs .frame) < 2 ^ 64
+
 module _ (l : Sizes) (M : Lent) (m : Machine) (fu : Fuel) (w : World) (rep : Rep l w M m fu) (f : ℕ) where
   abbrev s : Setup
   s = w .setup
@@ -51,14 +59,7 @@ module _ (l : Sizes) (M : Lent) (m : Machine) (fu : Fuel) (w : World) (rep : Rep
     pub regs-is : functionIn (M .setup) f .regs ≡ func s f .regs
     regs-is = regs-in s (M .setup) (rep .setup) f named
 
-    pub record Numbers (regs : ℕ) : Type 0 where
-      pub rows : l .rows ≤ 64
-      pub slots : l .slots ≤ 4096
-      pub deep : 1 ≤ l .depth
-      pub first : bytesOf regs (l .costs .coro) (l .costs .frame) < 2 ^ 64
-      pub second : bytesOf regs (l .costs .object) (l .costs .frame) < 2 ^ 64
-
-    pub numbers : (regs : ℕ) → regs ≡ functionIn (M .setup) f .regs → Numbers regs
+    pub numbers : (regs : ℕ) → regs ≡ functionIn (M .setup) f .regs → Numbers l regs
     numbers regs e =
         let k = facts s (known w snd .setup) in
         let g = facts s (known w snd .setup) in

@@ -67,9 +67,9 @@ module _ (kind : ResultKind) (v : ℕ) (w : World) where
   dyn-not dst g e = ap (writeMade dst (toDyn kind v w .world)) (sym e)
 
   -- of a continuation that is known
-  pub applies : (l : Sizes) (M : Lent) (m : Machine) (f : Fuel) (c x : Cont) (u : World) → c ≡ x → applyCont x kind v w ≡ after u Fault.None
+  pub applies : {l : Sizes} {M : Lent} {m : Machine} {f : Fuel} {c x : Cont} {u : World} → c ≡ x → applyCont x kind v w ≡ after u Fault.None
       → Rep l u M m f → Does l (applyCont c kind v w) M m f Fault.None
-  applies l M m f c x u e q rep = does l M m f (applyCont c kind v w) u Fault.None (ap (λ y. applyCont y kind v w) e ∙ q) rep
+  applies {l} {M} {m} {f} {c} {x} {u} e q rep = does l M m f (applyCont c kind v w) u Fault.None (ap (λ y. applyCont y kind v w) e ∙ q) rep
 
 -- ---- what stays
 

@@ -40,51 +40,51 @@ module _ (l : Sizes) (value fn pc : ℕ) where
   unfolding searchFrom
   none-left w e = ap (λ fs. search fs value fn pc w) e
 
-  module _ (M₀ : Beside → Lent) (n₀ : Numbers) (M : Beside → Lent) (n : Numbers) (at : Along M₀ n₀ M n) where
-    -- no frame is left
-    pub along-none : n .machine .depth ≡ 0 → Gives ifSound l (searchFrom value fn pc) M₀ n₀ M n (Answer.Refused (Fault.Throw value))
-    along-none e w b rep snd =
+module _ {l : Sizes} {value fn pc : ℕ} {M₀ : Beside → Lent} {n₀ : Numbers} {M : Beside → Lent} {n : Numbers} (at : Along l value fn pc M₀ n₀ M n) where
+  -- no frame is left
+  pub along-none : n .machine .depth ≡ 0 → Gives ifSound l (searchFrom value fn pc) M₀ n₀ M n (Answer.Refused (Fault.Throw value))
+  along-none e w b rep snd =
+      let r = at .rest w b rep snd in
+      does l (M b) (n .machine) (n .fuel b) (searchFrom value fn pc w) (r .world) (Answer.Refused (Fault.Throw value))
+      (r .same ∙ none-left l value fn pc (r .world) (no-top (r .world .frames) (M b .frames) (n .machine .depth) (r .rep .frames) e)) (r .rep)
+
+  -- one turn more
+  module _ (some : 1 ≤ n .machine .depth) (a : fn < 2 ^ 32) (z : pc < 2 ^ 32) (M′ : Beside → Lent) (n′ : Numbers) (t : Answer) (did : Gives ifSound l (turn value fn pc) M n M′ n′ t) where
+    steps : (w : World) (b : Beside) → Rep l w (M b) (n .machine) (n .fuel b) → sound w ≡ true → Steps value fn pc w (turn value fn pc w)
+    steps w b rep snd =
+        let x = some-top (w .frames) (M b .frames) (n .machine .depth) (rep .frames) some in
+        turn-steps value fn pc w snd (x .top) (x .rest) (x .are) a z
+
+    pub along-ends : goesOn t ≡ false → Gives ifSound l (searchFrom value fn pc) M₀ n₀ M′ n′ t
+    along-ends e w b rep snd =
         let r = at .rest w b rep snd in
-        does l (M b) (n .machine) (n .fuel b) (searchFrom value fn pc w) (r .world) (Answer.Refused (Fault.Throw value))
-        (r .same ∙ none-left (r .world) (no-top (r .world .frames) (M b .frames) (n .machine .depth) (r .rep .frames) e)) (r .rep)
+        let d = did (r .world) b (r .rep) (r .sound) in
+        let o = turn value fn pc (r .world) in
+        does l (M′ b) (n′ .machine) (n′ .fuel b) (searchFrom value fn pc w) (o .world) t
+        (r .same ∙ steps (r .world) b (r .rep) (r .sound) .ends (ap goesOn (sym (d .answer)) ∙ e) ∙ ap (after (o .world)) (sym (d .answer))) (d .world)
 
-    -- one turn more
-    module _ (some : 1 ≤ n .machine .depth) (a : fn < 2 ^ 32) (z : pc < 2 ^ 32) (M′ : Beside → Lent) (n′ : Numbers) (t : Answer) (did : Gives ifSound l (turn value fn pc) M n M′ n′ t) where
-      steps : (w : World) (b : Beside) → Rep l w (M b) (n .machine) (n .fuel b) → sound w ≡ true → Steps value fn pc w (turn value fn pc w)
-      steps w b rep snd =
-          let x = some-top (w .frames) (M b .frames) (n .machine .depth) (rep .frames) some in
-          turn-steps value fn pc w snd (x .top) (x .rest) (x .are) a z
+    module _ (same : (b : Beside) → SameLengths (M b) (M′ b)) (e : goesOn t ≡ true) where
+      below : (w : World) (b : Beside) → Rep l w (M b) (n .machine) (n .fuel b) → sound w ≡ true → Below value fn pc w (turn value fn pc w .world)
+      below w b rep snd = steps w b rep snd .on (ap goesOn (sym (did w b rep snd .answer)) ∙ e)
 
-      pub along-ends : goesOn t ≡ false → Gives ifSound l (searchFrom value fn pc) M₀ n₀ M′ n′ t
-      along-ends e w b rep snd =
-          let r = at .rest w b rep snd in
-          let d = did (r .world) b (r .rep) (r .sound) in
-          let o = turn value fn pc (r .world) in
-          does l (M′ b) (n′ .machine) (n′ .fuel b) (searchFrom value fn pc w) (o .world) t
-          (r .same ∙ steps (r .world) b (r .rep) (r .sound) .ends (ap goesOn (sym (d .answer)) ∙ e) ∙ ap (after (o .world)) (sym (d .answer))) (d .world)
+      pub along-fewer : n′ .machine .depth < n .machine .depth
+      along-fewer =
+          let o = at .ok in
+          let k = below (o .world) (o .beside) (o .rep) (o .sound) .fewer in
+          let p = o .rep .frames .count in
+          let q = did (o .world) (o .beside) (o .rep) (o .sound) .world .frames .count in
+          omega arith
 
-      module _ (same : (b : Beside) → SameLengths (M b) (M′ b)) (e : goesOn t ≡ true) where
-        below : (w : World) (b : Beside) → Rep l w (M b) (n .machine) (n .fuel b) → sound w ≡ true → Below value fn pc w (turn value fn pc w .world)
-        below w b rep snd = steps w b rep snd .on (ap goesOn (sym (did w b rep snd .answer)) ∙ e)
-
-        pub along-fewer : n′ .machine .depth < n .machine .depth
-        along-fewer =
-            let o = at .ok in
-            let k = below (o .world) (o .beside) (o .rep) (o .sound) .fewer in
-            let p = o .rep .frames .count in
-            let q = did (o .world) (o .beside) (o .rep) (o .sound) .world .frames .count in
-            omega arith
-
-        pub along-more : Along M₀ n₀ M′ n′
-        along-more =
-            let o = at .ok in
-            let k = below (o .world) (o .beside) (o .rep) (o .sound) in
-            record {
-              ok = ok-next l M M′ n n′ o (turn value fn pc (o .world) .world) (k .setup) (k .sound) (same (o .beside)) (did (o .world) (o .beside) (o .rep) (o .sound) .world);
-              kept = λ b. then-alike (M₀ b) (M b) (M′ b) (at .kept b) (same b);
-              rest =
-                  λ w b rep snd.
-                  let r = at .rest w b rep snd in
-                  let j = below (r .world) b (r .rep) (r .sound) in
-                  record { world = turn value fn pc (r .world) .world; rep = did (r .world) b (r .rep) (r .sound) .world; sound = j .sound; same = r .same ∙ j .same };
-            }
+      pub along-more : Along l value fn pc M₀ n₀ M′ n′
+      along-more =
+          let o = at .ok in
+          let k = below (o .world) (o .beside) (o .rep) (o .sound) in
+          record {
+            ok = ok-next l M M′ n n′ o (turn value fn pc (o .world) .world) (k .setup) (k .sound) (same (o .beside)) (did (o .world) (o .beside) (o .rep) (o .sound) .world);
+            kept = λ b. then-alike (M₀ b) (M b) (M′ b) (at .kept b) (same b);
+            rest =
+                λ w b rep snd.
+                let r = at .rest w b rep snd in
+                let j = below (r .world) b (r .rep) (r .sound) in
+                record { world = turn value fn pc (r .world) .world; rep = did (r .world) b (r .rep) (r .sound) .world; sound = j .sound; same = r .same ∙ j .same };
+          }

@@ -30,22 +30,17 @@ fail-all-below t =
 
 returns : (t : ℕ) → fail-all-lts.Need-returns (end-last-reads.Asked, end-last-reads.Learnt, fail-all-below t, fail-all.Post) (fail-all-at t) fail-all.Post
 returns t c =
-    let start = c .before .before .before .before .before .before in
-    let a = start .args in
+    let a = c .before .before .before .before .before .before .args in
     λ w b rep rowed. none-fails (a .l) (ending (a .chain .now) (a .slots .now) (a .saved-stack .now) (a .saved-frames .now) plain b) (a .m) (b .fuel) w rep (c .if1 .taken)
 
 end-last-requires : (t : ℕ) → fail-all-lts.Need-end-last-requires (end-last-reads.Asked, end-last-reads.Learnt, fail-all-below t, fail-all.Post) (fail-all-at t) fail-all.Post
-end-last-requires t c κs =
-    let start = c .before .before .before .before .before .before .before .before .before .before in
-    record { held = start .pre .1; ends = refl }
+end-last-requires t c κs = record { held = c .before .before .before .before .before .before .before .before .before .before .pre .1; ends = refl }
 
 fail-all-requires : (t : ℕ) → fail-all-lts.Need-fail-all-requires (end-last-reads.Asked, end-last-reads.Learnt, fail-all-below t, fail-all.Post) (fail-all-at t) fail-all.Post
 fail-all-requires t c κs =
     let done = c .before .before .before .before .before .before .before .before .before .before .before .before in
     let test = done .before .before .before .before .before in let start = test .before .before .before .before .before .before in
-    let a = start .args in
-    let f = done .end-last in
-    let h = start .pre .1 in
+    let a = start .args in let f = done .end-last in let h = start .pre .1 in
     let some : 1 ≤ a .m .active = omega (arith, test .if1 .left) in
     let rep = f .ensures (h .world) (h .beside) (h .rep) (h .known) in (
       subst (λ n. f .result .active < n) (start .pre .0) (fewer (a .l) (ending (a .chain .now) (a .slots .now) (a .saved-stack .now) (a .saved-frames .now) plain (h .beside)) (a .m) (h .beside .fuel) (h .world) (h .rep) some
@@ -53,38 +48,12 @@ fail-all-requires t c κs =
       record { world = endLast CoroState.Failed nil (h .world); beside = h .beside; rep = rep; known = end-rowed CoroState.Failed nil (h .world) refl (h .known) },
     )
 
-same-length : (t : ℕ) → fail-all-lts.Need-same-length (end-last-reads.Asked, end-last-reads.Learnt, fail-all-below t, fail-all.Post) (fail-all-at t) fail-all.Post
-same-length t c =
-    let again = c .before .before .before .before .before .before .before .before in
-    let done = again .before .before .before .before .before .before .before .before .before .before .before .before .before in
-    again .fail-all .kept .0 ∙ done .end-last .kept .0
-
-same-length-2 : (t : ℕ) → fail-all-lts.Need-same-length-2 (end-last-reads.Asked, end-last-reads.Learnt, fail-all-below t, fail-all.Post) (fail-all-at t) fail-all.Post
-same-length-2 t c =
-    let again = c .before .before .before .before .before .before .before .before in
-    let done = again .before .before .before .before .before .before .before .before .before .before .before .before .before in
-    again .fail-all .kept .1 .0 ∙ done .end-last .kept .1 .0
-
-same-length-3 : (t : ℕ) → fail-all-lts.Need-same-length-3 (end-last-reads.Asked, end-last-reads.Learnt, fail-all-below t, fail-all.Post) (fail-all-at t) fail-all.Post
-same-length-3 t c =
-    let again = c .before .before .before .before .before .before .before .before in
-    let done = again .before .before .before .before .before .before .before .before .before .before .before .before .before in
-    again .fail-all .kept .1 .1 .0 ∙ done .end-last .kept .1 .1 .0
-
-same-length-4 : (t : ℕ) → fail-all-lts.Need-same-length-4 (end-last-reads.Asked, end-last-reads.Learnt, fail-all-below t, fail-all.Post) (fail-all-at t) fail-all.Post
-same-length-4 t c =
-    let again = c .before .before .before .before .before .before .before .before in
-    let done = again .before .before .before .before .before .before .before .before .before .before .before .before .before in
-    again .fail-all .kept .1 .1 .1 .0 ∙ done .end-last .kept .1 .1 .1 .0
-
 returns-2 : (t : ℕ) → fail-all-lts.Need-returns-2 (end-last-reads.Asked, end-last-reads.Learnt, fail-all-below t, fail-all.Post) (fail-all-at t) fail-all.Post
 returns-2 t c =
     let again = c .before .before .before .before .before .before .before .before in
     let done = again .before .before .before .before .before .before .before .before .before .before .before .before .before in
-    let test = done .before .before .before .before .before in let start = test .before .before .before .before .before .before in
-    let a = start .args in
-    let f = done .end-last in
-    let g = again .fail-all in
+    let test = done .before .before .before .before .before in let a = test .before .before .before .before .before .before .args in
+    let f = done .end-last in let g = again .fail-all in
     let some : 1 ≤ a .m .active = omega (arith, test .if1 .left) in
     λ w b rep rowed.
     let n = rep .chain .count in
@@ -99,8 +68,12 @@ pub +fail-all-spec : {M : Type 1} → statement M
     (returns t)
     (end-last-requires t)
     (fail-all-requires t)
-    (same-length t)
-    (same-length-2 t)
-    (same-length-3 t)
-    (same-length-4 t)
+    (λ c. let again = c .before .before .before .before .before .before .before .before in
+    again .fail-all .kept .0 ∙ again .before .before .before .before .before .before .before .before .before .before .before .before .before .end-last .kept .0)
+    (λ c. let again = c .before .before .before .before .before .before .before .before in
+    again .fail-all .kept .1 .0 ∙ again .before .before .before .before .before .before .before .before .before .before .before .before .before .end-last .kept .1 .0)
+    (λ c. let again = c .before .before .before .before .before .before .before .before in
+    again .fail-all .kept .1 .1 .0 ∙ again .before .before .before .before .before .before .before .before .before .before .before .before .before .end-last .kept .1 .1 .0)
+    (λ c. let again = c .before .before .before .before .before .before .before .before in
+    again .fail-all .kept .1 .1 .1 .0 ∙ again .before .before .before .before .before .before .before .before .before .before .before .before .before .end-last .kept .1 .1 .1 .0)
     (returns-2 t)

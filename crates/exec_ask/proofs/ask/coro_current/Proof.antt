@@ -5,6 +5,9 @@ use borrow.Author.Needs.{needs}
 use Rattle.exec_ask.proofs.ask.coro_current.Statement.{statement}
 use Rattle.exec_ask.proofs.ask.coro_current.Tie as tie
 
+current-requires : tie.Need-current-requires
+current-requires c κs = c .before .before .before .pre .running
+
 returns : tie.Need-returns
 returns c =
     let put = c .before .before in let asked = put .before .before in let start = asked .before .before .before .before in
@@ -13,4 +16,4 @@ returns c =
     (put .put .ensures l w (record { words = onChain (a .chain .now) (b .words); fuel = b .fuel }) rep)
 
 pub coro-current-spec : {M : Type 1} → statement M
-coro-current-spec = tie.close (tie.spec (λ c κs. search needs) (λ c κs. search needs) (λ c. search needs) returns)
+coro-current-spec = tie.close (tie.spec current-requires (λ c κs. search needs) (λ c. search needs) returns)

@@ -31,61 +31,41 @@ under s slots b = record { words = onChain (s .args .chain .now) (onSlots slots 
 top : (s : tie.Start) (w : World) (b : Beside) → Rep (s .args .l) w (mem s (s .args .slots .now) b) (s .args .m) (s .args .fuel) → On (w .frames) Cont.Coro
 top s w b rep = on-top (s .args .l) (mem s (s .args .slots .now) b) (s .args .m) (s .args .fuel) w rep (s .pre .some) Cont.Coro (s .pre .top)
 
+abbrev start-of : tie.After-to-dyn → tie.Start
+start-of c = c .before .before .before .before .before .before .before .before
+
 to-dyn-requires : tie.Need-to-dyn-requires
 to-dyn-requires c κs =
-    let start = c .before .before .before .before .before .before .before in
-    let o = start .pre .ok in
-    heap-room (o .rep) (o .sound) (o .room)
+    let o = c .before .before .before .before .before .before .before .pre .ok in heap-room (o .rep) (o .sound) (o .room)
 
 pop-requires : tie.Need-pop-requires
 pop-requires c κs =
-    let did = c .before .before .before .before .before .before .before .before in
-    let start = did .before .before .before .before .before .before .before .before in
-    let a = start .args in
-    let o = start .pre .ok in
-    let f = did .to-dyn in
+    let did = c .before .before .before .before .before .before .before .before in let start = start-of did in let a = start .args in let o = start .pre .ok in let f = did .to-dyn in
     body-pops (a .l) (mem start (a .slots .now)) (a .m) (start .pre) (a .kind) (a .v) (mem start (f .last .0) (o .beside)) (f .result .machine)
     (f .ensures (o .world) (around start (o .beside)) (o .rep) .world)
 
 coro-returned-requires : tie.Need-coro-returned-requires
 coro-returned-requires c κs =
     let gone = c .before .before .before .before .before .before .before .before .before .before in
-    let did = gone .before .before .before .before .before .before .before .before .before in
-    let start = did .before .before .before .before .before .before .before .before in
-    let a = start .args in
-    let o = start .pre .ok in
-    let f = did .to-dyn in
-    let p = gone .pop in
+    let did = gone .before .before .before .before .before .before .before .before .before in let start = start-of did in let a = start .args in
+    let o = start .pre .ok in let f = did .to-dyn in let p = gone .pop in
     body-asks (a .l) (mem start (a .slots .now)) (a .m) (start .pre) (a .kind) (a .v)
     (lent (p .last .0) (p .last .1 .0) (a .chain .now) (f .last .0) (a .saved-stack .now) (a .saved-frames .now)) (p .result)
     (p .ensures (a .l) (toDyn (a .kind) (a .v) (o .world) .world) (under start (f .last .0) (o .beside)) (f .ensures (o .world) (around start (o .beside)) (o .rep) .world))
 
 returns : tie.Need-returns
 returns c =
-    let arm = c .before in let did = arm .before .before .before .before .before in
-    let start = did .before .before .before .before .before .before .before .before in
-    let a = start .args in
-    let f = did .to-dyn in
+    let arm = c .before in let did = arm .before .before .before .before .before in let start = start-of did in let a = start .args in let f = did .to-dyn in
     λ w b rep snd.
     let d = f .ensures w (around start (record { words = b .words; fuel = a .fuel })) rep in
     body-refused (a .l) (mem start (f .last .0) b) (f .result .machine) (a .fuel) w (a .kind) (a .v) (top start w b rep) (arm .made .given .0 .0) (sym (arm .made .given .1) ∙ d .answer) (d .world)
-
-same-length-5 : tie.Need-same-length-5
-same-length-5 c =
-    let told = c .before .before .before .before .before .before .before .before .before .before .before .before .before .before in
-    let did = told .before .before .before .before .before .before .before .before .before .before .before .before .before .before .before .before .before .before .before .before in
-    told .coro-returned .kept .1 .1 .1 .0 ∙ did .to-dyn .kept .0
 
 returns-2 : tie.Need-returns-2
 returns-2 c =
     let told = c .before .before .before .before .before .before .before .before .before .before .before .before .before .before in
     let gone = told .before .before .before .before .before .before .before .before .before .before .before in
-    let arm = gone .before .before .before .before in let did = arm .before .before .before .before .before in
-    let start = did .before .before .before .before .before .before .before .before in
-    let a = start .args in
-    let f = did .to-dyn in
-    let p = gone .pop in
-    let g = told .coro-returned in
+    let arm = gone .before .before .before .before in let did = arm .before .before .before .before .before in let start = start-of did in
+    let a = start .args in let f = did .to-dyn in let p = gone .pop in let g = told .coro-returned in
     λ w b rep snd.
     let u = toDyn (a .kind) (a .v) w .world in
     let t = top start w b rep in
@@ -112,7 +92,8 @@ finish-coro-spec =
     (λ c. search needs)
     (λ c. search needs)
     (λ c. search needs)
-    same-length-5
+    (λ c. let told = c .before .before .before .before .before .before .before .before .before .before .before .before .before .before in
+    told .coro-returned .kept .1 .1 .1 .0 ∙ told .before .before .before .before .before .before .before .before .before .before .before .before .before .before .before .before .before .before .before .before .to-dyn .kept .0)
     (λ c. search needs)
     (λ c. search needs)
     returns-2)

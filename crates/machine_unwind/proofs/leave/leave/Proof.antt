@@ -29,29 +29,15 @@ start-of c = c .before .before .before .before .before .before .before .before .
 
 pop-requires : tie.Need-pop-requires
 pop-requires c κs =
-    let start = start-of (c .before .before) in
-    let a = start .args in
-    let o = start .pre .ok in
+    let start = start-of (c .before .before) in let a = start .args in let o = start .pre .ok in
     pop-fits (a .l) (mem start (o .beside)) (a .m) (a .fuel) (o .world) (o .rep) (o .sound) (start .pre .some)
 
 passed-requires : tie.Need-passed-requires
-passed-requires c κs =
-    let test = c in let asked = test .before in sym (asked .is-coro .ensures) ∙ not-true _ (test .if1 .taken)
-
-same-length : tie.Need-same-length
-same-length c = gone-of (c .before .before) .pop .kept .0
-
-same-length-2 : tie.Need-same-length-2
-same-length-2 c = gone-of (c .before .before) .pop .kept .1 .0
+passed-requires c κs = sym (c .before .is-coro .ensures) ∙ not-true _ (c .if1 .taken)
 
 returns : tie.Need-returns
 returns c =
-    let test = c .before in
-    let asked = test .before in
-    let gone = gone-of asked in
-    let read = read-of gone in
-    let start = start-of read in
-    let a = start .args in
+    let asked = c .before .before in let gone = gone-of asked in let read = read-of gone in let start = start-of read in let a = start .args in
     λ w b rep snd.
     let t = some-top (w .frames) (a .frames .now) (a .m .depth) (rep .frames) (start .pre .some) in
     let e = gone .pop .last in
@@ -61,14 +47,8 @@ returns c =
 
 coro-escaped-requires : tie.Need-coro-escaped-requires
 coro-escaped-requires c κs =
-    let test = c .before .before .before .before .before .before in
-    let asked = test .before in
-    let gone = gone-of asked in
-    let read = read-of gone in
-    let start = start-of read in
-    let a = start .args in
-    let o = start .pre .ok in
-    let w = o .world in
+    let test = c .before .before .before .before .before .before in let asked = test .before in let gone = gone-of asked in let read = read-of gone in
+    let start = start-of read in let a = start .args in let o = start .pre .ok in let w = o .world in
     let t = some-top (w .frames) (a .frames .now) (a .m .depth) (o .rep .frames) (start .pre .some) in
     let is = read .cont-at .ensures ∙ its-cont (w .frames) (a .frames .now) (a .m .depth) (o .rep .frames) t in
     let e = gone .pop .last in
@@ -78,39 +58,11 @@ coro-escaped-requires c κs =
     (subst (λ fs. Rep (a .l) (popOn fs w) (M (o .beside)) (gone .pop .result) (a .fuel)) (t .are)
     (gone .pop .ensures (a .l) w (record { words = mem start (o .beside); fuel = a .fuel }) (o .rep)))
 
-same-length-3 : tie.Need-same-length-3
-same-length-3 c =
-    let told = c .before .before .before .before .before .before .before .before .before .before .before .before .before .before .before in
-    told .coro-escaped .kept .0 ∙ gone-of (told .before .before .before .before .before .before .before .before) .pop .kept .0
-
-same-length-4 : tie.Need-same-length-4
-same-length-4 c =
-    let told = c .before .before .before .before .before .before .before .before .before .before .before .before .before .before .before in
-    told .coro-escaped .kept .1 .0 ∙ gone-of (told .before .before .before .before .before .before .before .before) .pop .kept .1 .0
-
-same-length-5 : tie.Need-same-length-5
-same-length-5 c = c .before .before .before .before .before .before .before .before .before .before .before .before .before .before .before .coro-escaped .kept .1 .1 .0
-
-same-length-6 : tie.Need-same-length-6
-same-length-6 c = c .before .before .before .before .before .before .before .before .before .before .before .before .before .before .before .coro-escaped .kept .1 .1 .1 .0
-
-same-length-7 : tie.Need-same-length-7
-same-length-7 c = c .before .before .before .before .before .before .before .before .before .before .before .before .before .before .before .coro-escaped .kept .1 .1 .1 .1 .0
-
-same-length-8 : tie.Need-same-length-8
-same-length-8 c = c .before .before .before .before .before .before .before .before .before .before .before .before .before .before .before .coro-escaped .kept .1 .1 .1 .1 .1 .0
-
 returns-2 : tie.Need-returns-2
 returns-2 c =
     let told = c .before .before .before .before .before .before .before .before .before .before .before .before .before .before .before in
-    let test = told .before .before .before .before .before .before .before in
-    let asked = test .before in
-    let gone = gone-of asked in
-    let read = read-of gone in
-    let start = start-of read in
-    let a = start .args in
-    let r = told .coro-escaped in
-    let e = r .last in
+    let test = told .before .before .before .before .before .before .before in let asked = test .before in let gone = gone-of asked in let read = read-of gone in
+    let start = start-of read in let a = start .args in let r = told .coro-escaped in let e = r .last in
     λ w b rep snd.
     let t = some-top (w .frames) (a .frames .now) (a .m .depth) (rep .frames) (start .pre .some) in
     left-body (a .value) (a .func) (a .pc) (a .l) (lent (e .0) (e .1 .0) (e .1 .1 .0) (e .1 .1 .1 .0) (e .1 .1 .1 .1 .0) (e .1 .1 .1 .1 .1 .0) b) (r .result .machine) (r .result .fuel)
@@ -127,15 +79,17 @@ leave-spec =
     pop-requires
     (λ c κs. search needs)
     passed-requires
-    same-length
-    same-length-2
+    (λ c. gone-of (c .before .before) .pop .kept .0)
+    (λ c. gone-of (c .before .before) .pop .kept .1 .0)
     returns
     coro-escaped-requires
     (λ c κs. search needs)
-    same-length-3
-    same-length-4
-    same-length-5
-    same-length-6
-    same-length-7
-    same-length-8
+    (λ c. let told = c .before .before .before .before .before .before .before .before .before .before .before .before .before .before .before in
+    told .coro-escaped .kept .0 ∙ gone-of (told .before .before .before .before .before .before .before .before) .pop .kept .0)
+    (λ c. let told = c .before .before .before .before .before .before .before .before .before .before .before .before .before .before .before in
+    told .coro-escaped .kept .1 .0 ∙ gone-of (told .before .before .before .before .before .before .before .before) .pop .kept .1 .0)
+    (λ c. c .before .before .before .before .before .before .before .before .before .before .before .before .before .before .before .coro-escaped .kept .1 .1 .0)
+    (λ c. c .before .before .before .before .before .before .before .before .before .before .before .before .before .before .before .coro-escaped .kept .1 .1 .1 .0)
+    (λ c. c .before .before .before .before .before .before .before .before .before .before .before .before .before .before .before .coro-escaped .kept .1 .1 .1 .1 .0)
+    (λ c. c .before .before .before .before .before .before .before .before .before .before .before .before .before .before .before .coro-escaped .kept .1 .1 .1 .1 .1 .0)
     returns-2)

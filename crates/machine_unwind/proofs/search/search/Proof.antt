@@ -66,73 +66,26 @@ turn-requires c κs =
 goes-on-requires : tie.Need-goes-on-requires Inv-loop μ-loop
 goes-on-requires c κs = search needs
 
-same-length : tie.Need-same-length Inv-loop μ-loop
-same-length c =
-    let did = turn-of (c .before) in did .turn .kept .0 ∙ so-far (loop-of did) .stack
-
-same-length-2 : tie.Need-same-length-2 Inv-loop μ-loop
-same-length-2 c =
-    let did = turn-of (c .before) in did .turn .kept .1 .0 ∙ so-far (loop-of did) .frames
-
-same-length-3 : tie.Need-same-length-3 Inv-loop μ-loop
-same-length-3 c =
-    let did = turn-of (c .before) in did .turn .kept .1 .1 .0 ∙ so-far (loop-of did) .chain
-
-same-length-4 : tie.Need-same-length-4 Inv-loop μ-loop
-same-length-4 c =
-    let did = turn-of (c .before) in did .turn .kept .1 .1 .1 .0 ∙ so-far (loop-of did) .slots
-
-same-length-5 : tie.Need-same-length-5 Inv-loop μ-loop
-same-length-5 c =
-    let did = turn-of (c .before) in did .turn .kept .1 .1 .1 .1 .0 ∙ so-far (loop-of did) .savedStack
-
-same-length-6 : tie.Need-same-length-6 Inv-loop μ-loop
-same-length-6 c =
-    let did = turn-of (c .before) in did .turn .kept .1 .1 .1 .1 .1 .0 ∙ so-far (loop-of did) .savedFrames
-
 returns : tie.Need-returns Inv-loop μ-loop
 returns c =
-    let asked = c .before in let did = turn-of asked in let loop = loop-of did in let start = start-of loop in let a = start .args in
-    along-ends (a .l) (a .value) (a .func) (a .pc) (at-start start) (with (a .m) (a .fuel)) (at-loop loop) (with (loop .loop .n) (loop .loop .f)) (loop .loop .inv)
-    (some-left (did .before .before .before .before .before .before .before)) (start .pre .func) (start .pre .pc) (at-turn did) (with (did .turn .result .machine) (did .turn .result .fuel)) (did .turn .result .answer) (did .turn .ensures)
-    (sym (asked .goes-on .ensures) ∙ not-true _ (c .if2 .taken))
+    let asked = c .before in let did = turn-of asked in let loop = loop-of did in let p = start-of loop .pre in let r = did .turn .result in
+    along-ends (loop .loop .inv) (some-left (did .before .before .before .before .before .before .before)) (p .func) (p .pc) (at-turn did) (with (r .machine) (r .fuel)) (r .answer)
+    (did .turn .ensures) (sym (asked .goes-on .ensures) ∙ not-true _ (c .if2 .taken))
 
 loop-less : tie.Need-loop-less Inv-loop μ-loop
 loop-less c =
-    let asked = c .before in let did = turn-of asked in let loop = loop-of did in let start = start-of loop in let a = start .args in
-    along-fewer (a .l) (a .value) (a .func) (a .pc) (at-start start) (with (a .m) (a .fuel)) (at-loop loop) (with (loop .loop .n) (loop .loop .f)) (loop .loop .inv)
-    (some-left (did .before .before .before .before .before .before .before)) (start .pre .func) (start .pre .pc) (at-turn did) (with (did .turn .result .machine) (did .turn .result .fuel)) (did .turn .result .answer) (did .turn .ensures)
-    (same-turn did) (sym (asked .goes-on .ensures) ∙ not-false _ (c .if2 .left))
+    let asked = c .before in let did = turn-of asked in let loop = loop-of did in let p = start-of loop .pre in let r = did .turn .result in
+    along-fewer (loop .loop .inv) (some-left (did .before .before .before .before .before .before .before)) (p .func) (p .pc) (at-turn did) (with (r .machine) (r .fuel)) (r .answer)
+    (did .turn .ensures) (same-turn did) (sym (asked .goes-on .ensures) ∙ not-false _ (c .if2 .left))
 
 loop-again : tie.Need-loop-again Inv-loop μ-loop
 loop-again c =
-    let asked = c .before in let did = turn-of asked in let loop = loop-of did in let start = start-of loop in let a = start .args in
-    along-more (a .l) (a .value) (a .func) (a .pc) (at-start start) (with (a .m) (a .fuel)) (at-loop loop) (with (loop .loop .n) (loop .loop .f)) (loop .loop .inv)
-    (some-left (did .before .before .before .before .before .before .before)) (start .pre .func) (start .pre .pc) (at-turn did) (with (did .turn .result .machine) (did .turn .result .fuel)) (did .turn .result .answer) (did .turn .ensures)
-    (same-turn did) (sym (asked .goes-on .ensures) ∙ not-false _ (c .if2 .left))
-
-same-length-7 : tie.Need-same-length-7 Inv-loop μ-loop
-same-length-7 c = so-far (c .before .before) .stack
-
-same-length-8 : tie.Need-same-length-8 Inv-loop μ-loop
-same-length-8 c = so-far (c .before .before) .frames
-
-same-length-9 : tie.Need-same-length-9 Inv-loop μ-loop
-same-length-9 c = so-far (c .before .before) .chain
-
-same-length-10 : tie.Need-same-length-10 Inv-loop μ-loop
-same-length-10 c = so-far (c .before .before) .slots
-
-same-length-11 : tie.Need-same-length-11 Inv-loop μ-loop
-same-length-11 c = so-far (c .before .before) .savedStack
-
-same-length-12 : tie.Need-same-length-12 Inv-loop μ-loop
-same-length-12 c = so-far (c .before .before) .savedFrames
+    let asked = c .before in let did = turn-of asked in let loop = loop-of did in let p = start-of loop .pre in let r = did .turn .result in
+    along-more (loop .loop .inv) (some-left (did .before .before .before .before .before .before .before)) (p .func) (p .pc) (at-turn did) (with (r .machine) (r .fuel)) (r .answer)
+    (did .turn .ensures) (same-turn did) (sym (asked .goes-on .ensures) ∙ not-false _ (c .if2 .left))
 
 returns-2 : tie.Need-returns-2 Inv-loop μ-loop
-returns-2 c =
-    let loop = c .before .before in let start = start-of loop in let a = start .args in
-    along-none (a .l) (a .value) (a .func) (a .pc) (at-start start) (with (a .m) (a .fuel)) (at-loop loop) (with (loop .loop .n) (loop .loop .f)) (loop .loop .inv) (omega (arith, c .if1 .left))
+returns-2 c = along-none (c .before .before .loop .inv) (omega (arith, c .if1 .left))
 
 pub search-spec : {M : Type 1} → statement M
 search-spec =
@@ -143,19 +96,19 @@ search-spec =
     loop-holds
     turn-requires
     goes-on-requires
-    same-length
-    same-length-2
-    same-length-3
-    same-length-4
-    same-length-5
-    same-length-6
+    (λ c. let did = turn-of (c .before) in did .turn .kept .0 ∙ so-far (loop-of did) .stack)
+    (λ c. let did = turn-of (c .before) in did .turn .kept .1 .0 ∙ so-far (loop-of did) .frames)
+    (λ c. let did = turn-of (c .before) in did .turn .kept .1 .1 .0 ∙ so-far (loop-of did) .chain)
+    (λ c. let did = turn-of (c .before) in did .turn .kept .1 .1 .1 .0 ∙ so-far (loop-of did) .slots)
+    (λ c. let did = turn-of (c .before) in did .turn .kept .1 .1 .1 .1 .0 ∙ so-far (loop-of did) .savedStack)
+    (λ c. let did = turn-of (c .before) in did .turn .kept .1 .1 .1 .1 .1 .0 ∙ so-far (loop-of did) .savedFrames)
     returns
     loop-less
     loop-again
-    same-length-7
-    same-length-8
-    same-length-9
-    same-length-10
-    same-length-11
-    same-length-12
+    (λ c. so-far (c .before .before) .stack)
+    (λ c. so-far (c .before .before) .frames)
+    (λ c. so-far (c .before .before) .chain)
+    (λ c. so-far (c .before .before) .slots)
+    (λ c. so-far (c .before .before) .savedStack)
+    (λ c. so-far (c .before .before) .savedFrames)
     returns-2)

@@ -47,51 +47,20 @@ leave-requires c κs =
     let beside : Beside = record { words = onSetup (a .setup .now) (o .beside .words); fuel = o .beside .fuel } in
     record { ok = record { world = o .world; beside = beside; rep = o .rep; sound = o .sound; room = o .room }; some = start .pre .some }
 
-same-length : tie.Need-same-length
-same-length c = c .before .before .before .before .take-handler .kept .0
-
-same-length-2 : tie.Need-same-length-2
-same-length-2 c = c .before .before .before .before .take-handler .kept .1 .0
-
 returns : tie.Need-returns
 returns c =
-    let took = c .before .before .before .before in
-    let arm = took .before .before .before .before in
-    let asked = arm .before .before in
-    let a = start-of asked .args in
-    let t = took .take-handler in
-    let e = t .last in
+    let took = c .before .before .before .before in let arm = took .before .before .before .before in let asked = arm .before .before in
+    let a = start-of asked .args in let t = took .take-handler in let e = t .last in
     λ w b rep snd.
     turn-takes (a .l) (sixSetup (e .0) (e .1 .0) (a .chain .now) (a .slots .now) (a .saved-stack .now) (a .saved-frames .now) (a .setup .now) plain b) (t .result .machine) (t .result .fuel) w
     (a .value) (a .func) (a .pc) (t .result .answer) (arm .h .given .0 .0) (sym (arm .h .given .1) ∙ read asked w b rep)
     (t .ensures (a .l) w (record { words = mem (start-of asked) b; fuel = b .fuel }) rep)
 
-same-length-3 : tie.Need-same-length-3
-same-length-3 c = c .before .before .before .before .before .before .before .before .before .before .before .before .leave .kept .0
-
-same-length-4 : tie.Need-same-length-4
-same-length-4 c = c .before .before .before .before .before .before .before .before .before .before .before .before .leave .kept .1 .0
-
-same-length-5 : tie.Need-same-length-5
-same-length-5 c = c .before .before .before .before .before .before .before .before .before .before .before .before .leave .kept .1 .1 .0
-
-same-length-6 : tie.Need-same-length-6
-same-length-6 c = c .before .before .before .before .before .before .before .before .before .before .before .before .leave .kept .1 .1 .1 .0
-
-same-length-7 : tie.Need-same-length-7
-same-length-7 c = c .before .before .before .before .before .before .before .before .before .before .before .before .leave .kept .1 .1 .1 .1 .0
-
-same-length-8 : tie.Need-same-length-8
-same-length-8 c = c .before .before .before .before .before .before .before .before .before .before .before .before .leave .kept .1 .1 .1 .1 .1 .0
-
 returns-2 : tie.Need-returns-2
 returns-2 c =
     let left = c .before .before .before .before .before .before .before .before .before .before .before .before in
-    let arm = left .before .before .before .before .before .before .before in
-    let asked = arm .before .before in
-    let a = start-of asked .args in
-    let t = left .leave in
-    let e = t .last in
+    let arm = left .before .before .before .before .before .before .before in let asked = arm .before .before in
+    let a = start-of asked .args in let t = left .leave in let e = t .last in
     λ w b rep snd.
     turn-leaves (a .l) (sixSetup (e .0) (e .1 .0) (e .1 .1 .0) (e .1 .1 .1 .0) (e .1 .1 .1 .1 .0) (e .1 .1 .1 .1 .1 .0) (a .setup .now) plain b) (t .result .machine) (t .result .fuel) w
     (a .value) (a .func) (a .pc) (t .result .answer) (sym (arm .enum-told .given .1) ∙ read asked w b rep)
@@ -106,13 +75,13 @@ turn-spec =
     take-handler-requires
     (λ c. search needs)
     leave-requires
-    same-length
-    same-length-2
+    (λ c. c .before .before .before .before .take-handler .kept .0)
+    (λ c. c .before .before .before .before .take-handler .kept .1 .0)
     returns
-    same-length-3
-    same-length-4
-    same-length-5
-    same-length-6
-    same-length-7
-    same-length-8
+    (λ c. c .before .before .before .before .before .before .before .before .before .before .before .before .leave .kept .0)
+    (λ c. c .before .before .before .before .before .before .before .before .before .before .before .before .leave .kept .1 .0)
+    (λ c. c .before .before .before .before .before .before .before .before .before .before .before .before .leave .kept .1 .1 .0)
+    (λ c. c .before .before .before .before .before .before .before .before .before .before .before .before .leave .kept .1 .1 .1 .0)
+    (λ c. c .before .before .before .before .before .before .before .before .before .before .before .before .leave .kept .1 .1 .1 .1 .0)
+    (λ c. c .before .before .before .before .before .before .before .before .before .before .before .before .leave .kept .1 .1 .1 .1 .1 .0)
     returns-2)

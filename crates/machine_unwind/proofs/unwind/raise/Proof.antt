@@ -28,8 +28,7 @@ after-made c b =
 told : (c : tie.After-thrown) (w : World) (b : Beside) → Rep (start-of c .args .l) w (mem (start-of c) b) (start-of c .args .m) (start-of c .args .fuel)
     → Does (start-of c .args .l) (thrown (start-of c .args .fault) w) (after-made c b) (c .thrown .result .machine) (start-of c .args .fuel) (c .thrown .result .answer)
 told c w b rep =
-    let asked = c .before .before in
-    let a = start-of c .args in
+    let asked = c .before .before in let a = start-of c .args in
     let beside : Beside = record { words = mem (start-of c) b; fuel = a .fuel } in
     c .thrown .ensures w beside rep (asked .origin .ensures (a .l) w beside rep)
 
@@ -40,10 +39,7 @@ thrown-requires c κs =
 search-requires : tie.Need-search-requires
 search-requires c κs =
     let made = c .before .before .before .before .before .before .before .before .before .before .before .before in
-    let asked = made .before .before in
-    let start = start-of made in
-    let a = start .args in
-    let o = start .pre .ok in
+    let asked = made .before .before in let start = start-of made in let a = start .args in let o = start .pre .ok in
     raised-fits (a .l) (mem start) (after-made made) (a .m) (made .thrown .result .machine) (a .fuel) o (a .fault) (start .pre .raises) (asked .origin .result)
     (asked .origin .ensures (a .l) (o .world) (record { words = mem start (o .beside); fuel = a .fuel }) (o .rep))
     (record { stack = refl; frames = refl; chain = refl; slots = made .thrown .kept .0; savedStack = refl; savedFrames = refl; ready = refl; finalize = refl; setup = refl })
@@ -51,42 +47,15 @@ search-requires c κs =
 
 returns : tie.Need-returns
 returns c =
-    let arm = c .before in
-    let made = arm .before .before .before .before .before in
-    let a = start-of made .args in
+    let arm = c .before in let made = arm .before .before .before .before .before in let a = start-of made .args in
     λ w b rep snd.
     raise-refused (a .fault) w (a .l) (after-made made b) (made .thrown .result .machine) (a .fuel) (arm .made .given .0 .0) (made .thrown .result .answer) (arm .made .given .1) (told made w b rep)
-
-same-length-3 : tie.Need-same-length-3
-same-length-3 c = c .before .before .before .before .before .before .before .before .before .before .before .before .search .kept .0
-
-same-length-4 : tie.Need-same-length-4
-same-length-4 c = c .before .before .before .before .before .before .before .before .before .before .before .before .search .kept .1 .0
-
-same-length-5 : tie.Need-same-length-5
-same-length-5 c = c .before .before .before .before .before .before .before .before .before .before .before .before .search .kept .1 .1 .0
-
-same-length-6 : tie.Need-same-length-6
-same-length-6 c =
-    let found = c .before .before .before .before .before .before .before .before .before .before .before .before in
-    found .search .kept .1 .1 .1 .0 ∙ found .before .before .before .before .before .before .before .before .before .before .before .before .before .thrown .kept .0
-
-same-length-7 : tie.Need-same-length-7
-same-length-7 c = c .before .before .before .before .before .before .before .before .before .before .before .before .search .kept .1 .1 .1 .1 .0
-
-same-length-8 : tie.Need-same-length-8
-same-length-8 c = c .before .before .before .before .before .before .before .before .before .before .before .before .search .kept .1 .1 .1 .1 .1 .0
 
 returns-2 : tie.Need-returns-2
 returns-2 c =
     let found = c .before .before .before .before .before .before .before .before .before .before .before .before in
-    let arm = found .before .before .before .before .before .before .before .before in
-    let made = arm .before .before .before .before .before in
-    let asked = made .before .before in
-    let start = start-of made in
-    let a = start .args in
-    let r = found .search in
-    let e = r .last in
+    let arm = found .before .before .before .before .before .before .before .before in let made = arm .before .before .before .before .before in
+    let asked = made .before .before in let start = start-of made in let a = start .args in let r = found .search in let e = r .last in
     λ w b rep snd.
     let u = thrown (a .fault) w .world in
     let g = thrown-good (a .fault) w snd (start .pre .raises) in
@@ -107,10 +76,11 @@ raise-spec =
     (λ c. search needs)
     (λ c. search needs)
     returns
-    same-length-3
-    same-length-4
-    same-length-5
-    same-length-6
-    same-length-7
-    same-length-8
+    (λ c. c .before .before .before .before .before .before .before .before .before .before .before .before .search .kept .0)
+    (λ c. c .before .before .before .before .before .before .before .before .before .before .before .before .search .kept .1 .0)
+    (λ c. c .before .before .before .before .before .before .before .before .before .before .before .before .search .kept .1 .1 .0)
+    (λ c. let found = c .before .before .before .before .before .before .before .before .before .before .before .before in
+    found .search .kept .1 .1 .1 .0 ∙ found .before .before .before .before .before .before .before .before .before .before .before .before .before .thrown .kept .0)
+    (λ c. c .before .before .before .before .before .before .before .before .before .before .before .before .search .kept .1 .1 .1 .1 .0)
+    (λ c. c .before .before .before .before .before .before .before .before .before .before .before .before .search .kept .1 .1 .1 .1 .1 .0)
     returns-2)
