@@ -1,7 +1,7 @@
 -- The Step of an instruction's answer: whether another frame or coroutine is on top of what each line leaves.
 use Prim.Native.Nat.{ℕ, suc}
-use mathlib.Core.Path.{_≡_, refl, sym, ap, subst, _∙_}
-use mathlib.Core.Bool.{Bool, true, false, not, _&&_, true≢false, false≢true}
+use mathlib.Core.Path.{_≡_, refl, sym, ap, _∙_}
+use mathlib.Core.Bool.{Bool, true, false, not, _&&_, true≢false}
 use mathlib.Core.List.{List, [], _∷_, map}
 use mathlib.Core.Option.{some}
 use native.Mathlib.Omega.{arith}
@@ -13,31 +13,24 @@ use Rattle.heap.specs.declared.fault.Fault.{Fault}
 use Rattle.heap.specs.declared.object.CoroState.{CoroState}
 use Rattle.model.specs.Lists.{isNil, among}
 use Rattle.model.specs.World.{World, After, after}
-use Rattle.model.specs.Sound.{sound}
 use Rattle.model.specs.Answer.{numberOf, wordOf, stepOf}
-use Rattle.model.specs.Call.{Do, Operation}
-use Rattle.model.specs.Step.{step}
 use Rattle.model.specs.declared.machine.Active.{Active}
 use Rattle.model.specs.declared.machine.Driver.{Driver}
 use Rattle.model.specs.declared.machine.Frame.{Frame}
 use Rattle.model.specs.declared.machine.Stop.{Stop}
 use Rattle.model.specs.declared.exec.Step.{Step}
-use Rattle.model.specs.declared.call.Op.{Op}
 use Rattle.model.specs.declared.call.Answer.{Answer}
 use Rattle.sheet.specs.Lines.{Line, Lines, leads, stop}
-use Rattle.sheet.specs.Does.{number}
-use Rattle.sheet.specs.Words.{lies, word, arguments, isIn, state}
+use Rattle.sheet.specs.Words.{word, arguments, isIn, state}
 use Rattle.sheet.specs.Moves.{pcStored, iteratorDone, entered, given, ended}
 use Rattle.sheet.specs.Charging.{amount, usedUp, bankBack, charged, lost, asAnswer, instruction}
 use Rattle.sheet.specs.Instructions as Asked
 use Rattle.sheet.specs.Makings as Makings
 use Rattle.sheet.specs.Suspending.{running, restHere, delivered}
 use Rattle.sheet.specs.Yields as Yields
-use Rattle.sheet.specs.Sheet.{lie, windowLies, tableOf}
-use Rattle.sheet.specs.Answers.{isInstruction, moves, stepFor}
+use Rattle.sheet.specs.Answers.{moves, stepFor}
 use Rattle.sheet.proofs.Among.{same}
 use Rattle.sheet.proofs.Choice.{both}
-use Rattle.sheet.proofs.Sheet.{leads-to}
 use Rattle.sheet.proofs.Led.{Every, InTurn, led-in-turn, in-turn}
 use Rattle.sheet.proofs.Moved.{length-at}
 
@@ -97,8 +90,8 @@ delivered-chain Driver.Finalize payload key s x = refl
 -- ---- a line's Step is the one that its number, its word and the counts say
 
 module _ (w : World) where
-  record Right (a : After Answer) : Type 0 where
-    is : among (numberOf (a .answer)) (11 ∷ 12 ∷ 13 ∷ []) ≡ false → stepOf (a .answer) ≡ some (stepFor (numberOf (a .answer)) (wordOf (a .answer)) (moves w (a .world)))
+  pub record Right (a : After Answer) : Type 0 where
+    pub is : among (numberOf (a .answer)) (11 ∷ 12 ∷ 13 ∷ []) ≡ false → stepOf (a .answer) ≡ some (stepFor (numberOf (a .answer)) (wordOf (a .answer)) (moves w (a .world)))
 
   -- the Step that goes with b
   abbrev Fits : Bool → Answer → Type 0
@@ -107,7 +100,7 @@ module _ (w : World) where
   right : (b : Bool) (a : Answer) (x : World) → moves w x ≡ b → Fits b a → Right (after x a)
   right b a x m h = record { is = λ _. h ∙ ap (λ t. some (stepFor (numberOf a) (wordOf a) t)) (sym m) }
 
-  refused : {f : Fault} → among (numberOf (Answer.Refused f)) (11 ∷ 12 ∷ 13 ∷ []) ≡ true → Right (after w (Answer.Refused f))
+  pub refused : {f : Fault} → among (numberOf (Answer.Refused f)) (11 ∷ 12 ∷ 13 ∷ []) ≡ true → Right (after w (Answer.Refused f))
   refused e = record { is = λ h. absurd (true≢false (sym e ∙ h)) }
 
   -- in u there are as many as in w
@@ -163,61 +156,61 @@ module _ (w : World) where
     abbrev Turns : List (Line Step) → Line Step → Type 0
     Turns ts d = InTurn (λ a. Right a) (map (asAnswer (lost pc w)) ts) (asAnswer (lost pc w) d)
 
-    abbrev Told : Lines Step → Type 0
+    abbrev pub Told : Lines Step → Type 0
     Told s = Turns (s .tests) (s .done)
 
     turn : (ts : List (Line Step)) (d : Line Step) → Every (λ a. Right a) (map (asAnswer (lost pc w)) ts) → Right (after (d .left) (asAnswer (lost pc w) d .answer)) → Turns ts d
     turn ts d h k = in-turn (λ a. Right a) (map (asAnswer (lost pc w)) ts) (asAnswer (lost pc w) d) h k
 
     -- behind the gate and the charge
-    gate : (ok : Bool) (own : World → Lines Step) → Told (own u) → Right (leads (instruction pc ok own w))
+    pub gate : (ok : Bool) (own : World → Lines Step) → Told (own u) → Right (leads (instruction pc ok own w))
     unfolding pick
     gate ok own h =
         led-in-turn (λ a. Right a) (instruction pc ok own w .tests) (instruction pc ok own w .done)
         (λ _. refused refl, λ _. (λ _. refused refl, λ _. (λ _. stays w as-is as-is refl, λ _. (λ _. enters w as-is refl refl, λ _. h))))
 
     module _ (dst c src : ℕ) where
-      resumes : Told (Asked.resume pc dst c src u)
+      pub resumes : Told (Asked.resume pc dst c src u)
       unfolding pick
       resumes =
           turn (Asked.resume pc dst c src u .tests) (Asked.resume pc dst c src u .done)
           (λ _. stays u su stored refl, (λ _. stays u su stored refl, (λ _. stays u su stored refl, (λ _. stays u su stored refl, tt))))
           (gives u su (state u (word u c)) _ _ (entered (word u c) (Driver.Resume dst) (pcStored pc u)) refl refl)
 
-      throws : Told (Asked.resumeThrow pc dst c src u)
+      pub throws : Told (Asked.resumeThrow pc dst c src u)
       unfolding pick
       throws =
           turn (Asked.resumeThrow pc dst c src u .tests) (Asked.resumeThrow pc dst c src u .done)
           (λ _. stays u su still refl, (λ _. stays u su still refl, (λ _. stays u su (ended-alike (word u c) CoroState.Failed (word u src) u) refl, (λ _. stays u su stored refl, (λ _. stays u su stored refl, tt)))))
           (enters u su refl refl)
 
-      closes : Told (Asked.coroClose pc dst c src u)
+      pub closes : Told (Asked.coroClose pc dst c src u)
       unfolding pick
       closes =
           turn (Asked.coroClose pc dst c src u .tests) (Asked.coroClose pc dst c src u .done)
           (λ _. stays u su still refl, (λ _. stays u su still refl, (λ _. stays u su still refl, (λ _. stays u su (ended-alike (word u c) CoroState.Returned 0 u) refl, (λ _. stays u su still refl, (λ _. stays u su stored refl, tt))))))
           (enters u su refl refl)
 
-    nexts : (has iter val src : ℕ) → Told (Asked.iterNext pc has iter val src u)
+    pub nexts : (has iter val src : ℕ) → Told (Asked.iterNext pc has iter val src u)
     unfolding pick
     nexts has iter val src =
         turn (Asked.iterNext pc has iter val src u .tests) (Asked.iterNext pc has iter val src u .done)
         (λ _. stays u su still refl, (λ _. stays u su still refl, (λ _. stays u su (marked-alike (word u iter) u) refl, (λ _. stays u su still refl, (λ _. stays u su stored refl, (λ _. stays u su stored refl, tt))))))
         (gives u su (state u (word u src)) _ _ (entered (word u src) (Driver.Iter has val (word u iter)) (pcStored pc u)) refl refl)
 
-    asks : (dst c : ℕ) → Told (Asked.coroStatus dst c u)
+    pub asks : (dst c : ℕ) → Told (Asked.coroStatus dst c u)
     unfolding pick
     asks dst c = turn (Asked.coroStatus dst c u .tests) (Asked.coroStatus dst c u .done) (λ _. stays u su still refl, (λ _. stays u su still refl, tt)) (stays u su still refl)
 
-    keys : (dst c : ℕ) → Told (Asked.coroKey dst c u)
+    pub keys : (dst c : ℕ) → Told (Asked.coroKey dst c u)
     unfolding pick
     keys dst c = turn (Asked.coroKey dst c u .tests) (Asked.coroKey dst c u .done) (λ _. stays u su still refl, (λ _. stays u su still refl, tt)) (stays u su still refl)
 
-    results : (dst c : ℕ) → Told (Asked.coroResult dst c u)
+    pub results : (dst c : ℕ) → Told (Asked.coroResult dst c u)
     unfolding pick
     results dst c = turn (Asked.coroResult dst c u .tests) (Asked.coroResult dst c u .done) (λ _. stays u su still refl, (λ _. stays u su still refl, (λ _. stays u su still refl, tt))) (stays u su still refl)
 
-    current : (dst : ℕ) → Told (Asked.coroCurrent dst u)
+    pub current : (dst : ℕ) → Told (Asked.coroCurrent dst u)
     unfolding pick
     current dst = stays u su still refl
 
@@ -233,11 +226,11 @@ module _ (w : World) where
     unfolding pick Lasts
     finds v argc more h = (λ _. stays u su still refl, (λ _. stays u su still refl, (λ _. stays u su still refl, (λ _. stays u su still refl, creates (Makings.callee u v) more h))))
 
-    makes : (dst f argc : ℕ) → Told (Makings.coroNew dst f argc u)
+    pub makes : (dst f argc : ℕ) → Told (Makings.coroNew dst f argc u)
     unfolding pick Lasts
     makes dst f argc = turn (Makings.coroNew dst f argc u .tests) (Makings.coroNew dst f argc u .done) (creates f [] tt) (stays u su still refl)
 
-    makes-of : (dst c argc : ℕ) → Told (Makings.coroNewIndirect dst c argc u)
+    pub makes-of : (dst c argc : ℕ) → Told (Makings.coroNewIndirect dst c argc u)
     unfolding pick Lasts
     makes-of dst c argc = turn (Makings.coroNewIndirect dst c argc u .tests) (Makings.coroNewIndirect dst c argc u .done) (finds (word u c) argc [] tt) (stays u su still refl)
 
@@ -248,7 +241,7 @@ module _ (w : World) where
       abbrev last : List (Line Step)
       last = stop 10 (usedUp made) (bankBack made) ∷ stop 4 (Makings.noRoom (amount (u .setup .hook) 0) (pcStored pc (Makings.paid made))) (Makings.paid made) ∷ []
 
-      spawns : Told (Makings.spawn pc dst c argc u)
+      pub spawns : Told (Makings.spawn pc dst c argc u)
       unfolding pick Lasts
       spawns =
           turn (Makings.spawn pc dst c argc u .tests) (Makings.spawn pc dst c argc u .done)
@@ -280,51 +273,17 @@ module _ (w : World) where
           (λ _. stays u su sz refl, (λ _. leaves u su (shorter (Yields.awaited dst payload z) refl) refl, tt))
           (leaves u su (shorter (Yields.awaitEnds pc dst payload v .left) (delivered-chain (running (z .chain) .driver) payload 0 _ (Yields.awaited dst payload z))) refl)
 
-    yield-told : (dst src : ℕ) → Told (Yields.yield pc dst src u)
+    pub yield-told : (dst src : ℕ) → Told (Yields.yield pc dst src u)
     unfolding pick
     yield-told dst src = (
       λ _. stays u su still refl,
       λ e. (λ _. stays u su still refl, λ _. (λ _. stays u su still refl, λ _. (λ _. stays u su still refl, λ _. yields (Yields.keyed u) (keyed-alike u) (keyed-chain u) e dst (word u src) (Yields.keyWord u) (Yields.keyBits u)))),
     )
 
-    yield-kv-told : (dst src key : ℕ) → Told (Yields.yieldKv pc dst src key u)
+    pub yield-kv-told : (dst src key : ℕ) → Told (Yields.yieldKv pc dst src key u)
     unfolding pick
     yield-kv-told dst src key = (λ _. stays u su still refl, λ e. yields u still refl e dst (word u src) (word u key) (Yields.raised (restHere u .largest) (Yields.integerOf u (word u key))))
 
-    await-told : (dst src : ℕ) → Told (Yields.await pc dst src u)
+    pub await-told : (dst src : ℕ) → Told (Yields.await pc dst src u)
     unfolding pick
     await-told dst src = (λ _. stays u su still refl, λ e. awaits u still refl e dst (word u src))
-
-  tells : (o : Op) → isInstruction o ≡ true → Right (leads (tableOf o w))
-  tells (Op.CoroNew pc dst f argc) i = gate pc (lies w dst && windowLies dst argc w && Makings.isFunction w f) (Makings.coroNew dst f argc) (makes pc dst f argc)
-  tells (Op.CoroNewIndirect pc dst c argc) i = gate pc (lie (dst ∷ c ∷ []) w && windowLies dst argc w) (Makings.coroNewIndirect dst c argc) (makes-of pc dst c argc)
-  tells (Op.Spawn pc dst c argc) i = gate pc (lie (dst ∷ c ∷ []) w && windowLies dst argc w) (Makings.spawn pc dst c argc) (spawns pc dst c argc)
-  tells (Op.Yield pc dst src) i = gate pc (lie (dst ∷ src ∷ []) w) (Yields.yield pc dst src) (yield-told pc dst src)
-  tells (Op.YieldKv pc dst src key) i = gate pc (lie (dst ∷ src ∷ key ∷ []) w) (Yields.yieldKv pc dst src key) (yield-kv-told pc dst src key)
-  tells (Op.Await pc dst src) i = gate pc (lie (dst ∷ src ∷ []) w) (Yields.await pc dst src) (await-told pc dst src)
-  tells (Op.Resume pc dst c src) i = gate pc (lie (dst ∷ c ∷ src ∷ []) w) (Asked.resume pc dst c src) (resumes pc dst c src)
-  tells (Op.ResumeThrow pc dst c src) i = gate pc (lie (dst ∷ c ∷ src ∷ []) w) (Asked.resumeThrow pc dst c src) (throws pc dst c src)
-  tells (Op.CoroClose pc dst c src) i = gate pc (lie (dst ∷ c ∷ src ∷ []) w) (Asked.coroClose pc dst c src) (closes pc dst c src)
-  tells (Op.CoroStatus pc dst c) i = gate pc (lie (dst ∷ c ∷ []) w) (Asked.coroStatus dst c) (asks pc dst c)
-  tells (Op.CoroCurrent pc dst) i = gate pc (lie (dst ∷ []) w) (Asked.coroCurrent dst) (current pc dst)
-  tells (Op.CoroKey pc dst c) i = gate pc (lie (dst ∷ c ∷ []) w) (Asked.coroKey dst c) (keys pc dst c)
-  tells (Op.CoroResult pc dst c) i = gate pc (lie (dst ∷ c ∷ []) w) (Asked.coroResult dst c) (results pc dst c)
-  tells (Op.IterNext pc has iter val src) i = gate pc (lie (has ∷ iter ∷ val ∷ src ∷ []) w) (Asked.iterNext pc has iter val src) (nexts pc has iter val src)
-  tells (Op.Finish kind v) i = absurd (false≢true i)
-  tells (Op.Unwind f pc) i = absurd (false≢true i)
-  tells (Op.SpawnTask v) i = absurd (false≢true i)
-  tells (Op.HostCall f) i = absurd (false≢true i)
-  tells (Op.HostEntry c v) i = absurd (false≢true i)
-  tells (Op.FunctionCall pc f cont) i = absurd (false≢true i)
-  tells (Op.PutWord r v) i = absurd (false≢true i)
-  tells (Op.MakeIterator v) i = absurd (false≢true i)
-  tells Op.TakeOutcome i = absurd (false≢true i)
-  tells (Op.HandOver v) i = absurd (false≢true i)
-  tells (Op.Grant n) i = absurd (false≢true i)
-  tells Op.StopRun i = absurd (false≢true i)
-  tells Op.Look i = absurd (false≢true i)
-
-  -- 11 first
-  pub step-is : (o : Operation) → isInstruction (o .op) ≡ true → among (number w o) (11 ∷ 12 ∷ 13 ∷ []) ≡ false →
-      stepOf (step w (Do o) .answer) ≡ some (stepFor (number w o) (wordOf (step w (Do o) .answer)) (moves w (step w (Do o) .world)))
-  step-is o i = subst (λ a. Right a) (sym (leads-to w o)) (both (λ a. Right a) (not (sound w)) (refused refl) (tells (o .op) i)) .is
