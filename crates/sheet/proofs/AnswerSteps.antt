@@ -1,4 +1,4 @@
--- The Step of an instruction's answer: whether another frame or coroutine is on top of what each line leaves.
+-- The Step of an instruction's answer: whether another frame or coroutine is on top of what each line leaves. The table of every call's words and Steps.
 use Prim.Native.Nat.{ℕ, suc}
 use mathlib.Core.Path.{_≡_, refl, sym, ap, _∙_}
 use mathlib.Core.Bool.{Bool, true, false, not, _&&_, true≢false}
@@ -19,20 +19,25 @@ use Rattle.model.specs.declared.machine.Driver.{Driver}
 use Rattle.model.specs.declared.machine.Frame.{Frame}
 use Rattle.model.specs.declared.machine.Stop.{Stop}
 use Rattle.model.specs.declared.exec.Step.{Step}
+use Rattle.model.specs.declared.call.Op.{Op}
 use Rattle.model.specs.declared.call.Answer.{Answer}
 use Rattle.sheet.specs.Lines.{Line, Lines, leads, stop}
-use Rattle.sheet.specs.Words.{word, arguments, isIn, state}
+use Rattle.sheet.specs.Words.{lies, word, arguments, isIn, state}
 use Rattle.sheet.specs.Moves.{pcStored, iteratorDone, entered, given, ended}
 use Rattle.sheet.specs.Charging.{amount, usedUp, bankBack, charged, lost, asAnswer, instruction}
 use Rattle.sheet.specs.Instructions as Asked
 use Rattle.sheet.specs.Makings as Makings
 use Rattle.sheet.specs.Suspending.{running, restHere, delivered}
 use Rattle.sheet.specs.Yields as Yields
-use Rattle.sheet.specs.Answers.{moves, stepFor}
-use Rattle.sheet.proofs.Among.{same}
+use Rattle.sheet.specs.Sheet.{lie, windowLies, tableOf}
+use Rattle.sheet.specs.Answers.{wordFor, thrownFor, isInstruction, moves, stepFor}
+use Rattle.sheet.proofs.Among.{same, and-left, and-right}
 use Rattle.sheet.proofs.Choice.{both}
 use Rattle.sheet.proofs.Led.{Every, InTurn, led-in-turn, in-turn}
 use Rattle.sheet.proofs.Moved.{length-at}
+use Rattle.sheet.proofs.WalkCalls.{never}
+use Rattle.sheet.proofs.Sheet.{behind}
+use Rattle.sheet.proofs.AnswerWords.{Worded, wordless, plainly, finish-on-words, finish-on-thrown, unwind-words, unwind-thrown, throw-thrown, close-thrown, task-words, iterator-words, outcome-words}
 
 -- ---- counts
 
@@ -156,61 +161,61 @@ module _ (w : World) where
     abbrev Turns : List (Line Step) → Line Step → Type 0
     Turns ts d = InTurn (λ a. Right a) (map (asAnswer (lost pc w)) ts) (asAnswer (lost pc w) d)
 
-    abbrev pub Told : Lines Step → Type 0
+    abbrev Told : Lines Step → Type 0
     Told s = Turns (s .tests) (s .done)
 
     turn : (ts : List (Line Step)) (d : Line Step) → Every (λ a. Right a) (map (asAnswer (lost pc w)) ts) → Right (after (d .left) (asAnswer (lost pc w) d .answer)) → Turns ts d
     turn ts d h k = in-turn (λ a. Right a) (map (asAnswer (lost pc w)) ts) (asAnswer (lost pc w) d) h k
 
     -- behind the gate and the charge
-    pub gate : (ok : Bool) (own : World → Lines Step) → Told (own u) → Right (leads (instruction pc ok own w))
+    gate : (ok : Bool) (own : World → Lines Step) → Told (own u) → Right (leads (instruction pc ok own w))
     unfolding pick
     gate ok own h =
         led-in-turn (λ a. Right a) (instruction pc ok own w .tests) (instruction pc ok own w .done)
         (λ _. refused refl, λ _. (λ _. refused refl, λ _. (λ _. stays w as-is as-is refl, λ _. (λ _. enters w as-is refl refl, λ _. h))))
 
     module _ (dst c src : ℕ) where
-      pub resumes : Told (Asked.resume pc dst c src u)
+      resumes : Told (Asked.resume pc dst c src u)
       unfolding pick
       resumes =
           turn (Asked.resume pc dst c src u .tests) (Asked.resume pc dst c src u .done)
           (λ _. stays u su stored refl, (λ _. stays u su stored refl, (λ _. stays u su stored refl, (λ _. stays u su stored refl, tt))))
           (gives u su (state u (word u c)) _ _ (entered (word u c) (Driver.Resume dst) (pcStored pc u)) refl refl)
 
-      pub throws : Told (Asked.resumeThrow pc dst c src u)
+      throws : Told (Asked.resumeThrow pc dst c src u)
       unfolding pick
       throws =
           turn (Asked.resumeThrow pc dst c src u .tests) (Asked.resumeThrow pc dst c src u .done)
           (λ _. stays u su still refl, (λ _. stays u su still refl, (λ _. stays u su (ended-alike (word u c) CoroState.Failed (word u src) u) refl, (λ _. stays u su stored refl, (λ _. stays u su stored refl, tt)))))
           (enters u su refl refl)
 
-      pub closes : Told (Asked.coroClose pc dst c src u)
+      closes : Told (Asked.coroClose pc dst c src u)
       unfolding pick
       closes =
           turn (Asked.coroClose pc dst c src u .tests) (Asked.coroClose pc dst c src u .done)
           (λ _. stays u su still refl, (λ _. stays u su still refl, (λ _. stays u su still refl, (λ _. stays u su (ended-alike (word u c) CoroState.Returned 0 u) refl, (λ _. stays u su still refl, (λ _. stays u su stored refl, tt))))))
           (enters u su refl refl)
 
-    pub nexts : (has iter val src : ℕ) → Told (Asked.iterNext pc has iter val src u)
+    nexts : (has iter val src : ℕ) → Told (Asked.iterNext pc has iter val src u)
     unfolding pick
     nexts has iter val src =
         turn (Asked.iterNext pc has iter val src u .tests) (Asked.iterNext pc has iter val src u .done)
         (λ _. stays u su still refl, (λ _. stays u su still refl, (λ _. stays u su (marked-alike (word u iter) u) refl, (λ _. stays u su still refl, (λ _. stays u su stored refl, (λ _. stays u su stored refl, tt))))))
         (gives u su (state u (word u src)) _ _ (entered (word u src) (Driver.Iter has val (word u iter)) (pcStored pc u)) refl refl)
 
-    pub asks : (dst c : ℕ) → Told (Asked.coroStatus dst c u)
+    asks : (dst c : ℕ) → Told (Asked.coroStatus dst c u)
     unfolding pick
     asks dst c = turn (Asked.coroStatus dst c u .tests) (Asked.coroStatus dst c u .done) (λ _. stays u su still refl, (λ _. stays u su still refl, tt)) (stays u su still refl)
 
-    pub keys : (dst c : ℕ) → Told (Asked.coroKey dst c u)
+    keys : (dst c : ℕ) → Told (Asked.coroKey dst c u)
     unfolding pick
     keys dst c = turn (Asked.coroKey dst c u .tests) (Asked.coroKey dst c u .done) (λ _. stays u su still refl, (λ _. stays u su still refl, tt)) (stays u su still refl)
 
-    pub results : (dst c : ℕ) → Told (Asked.coroResult dst c u)
+    results : (dst c : ℕ) → Told (Asked.coroResult dst c u)
     unfolding pick
     results dst c = turn (Asked.coroResult dst c u .tests) (Asked.coroResult dst c u .done) (λ _. stays u su still refl, (λ _. stays u su still refl, (λ _. stays u su still refl, tt))) (stays u su still refl)
 
-    pub current : (dst : ℕ) → Told (Asked.coroCurrent dst u)
+    current : (dst : ℕ) → Told (Asked.coroCurrent dst u)
     unfolding pick
     current dst = stays u su still refl
 
@@ -226,11 +231,11 @@ module _ (w : World) where
     unfolding pick Lasts
     finds v argc more h = (λ _. stays u su still refl, (λ _. stays u su still refl, (λ _. stays u su still refl, (λ _. stays u su still refl, creates (Makings.callee u v) more h))))
 
-    pub makes : (dst f argc : ℕ) → Told (Makings.coroNew dst f argc u)
+    makes : (dst f argc : ℕ) → Told (Makings.coroNew dst f argc u)
     unfolding pick Lasts
     makes dst f argc = turn (Makings.coroNew dst f argc u .tests) (Makings.coroNew dst f argc u .done) (creates f [] tt) (stays u su still refl)
 
-    pub makes-of : (dst c argc : ℕ) → Told (Makings.coroNewIndirect dst c argc u)
+    makes-of : (dst c argc : ℕ) → Told (Makings.coroNewIndirect dst c argc u)
     unfolding pick Lasts
     makes-of dst c argc = turn (Makings.coroNewIndirect dst c argc u .tests) (Makings.coroNewIndirect dst c argc u .done) (finds (word u c) argc [] tt) (stays u su still refl)
 
@@ -241,7 +246,7 @@ module _ (w : World) where
       abbrev last : List (Line Step)
       last = stop 10 (usedUp made) (bankBack made) ∷ stop 4 (Makings.noRoom (amount (u .setup .hook) 0) (pcStored pc (Makings.paid made))) (Makings.paid made) ∷ []
 
-      pub spawns : Told (Makings.spawn pc dst c argc u)
+      spawns : Told (Makings.spawn pc dst c argc u)
       unfolding pick Lasts
       spawns =
           turn (Makings.spawn pc dst c argc u .tests) (Makings.spawn pc dst c argc u .done)
@@ -273,17 +278,75 @@ module _ (w : World) where
           (λ _. stays u su sz refl, (λ _. leaves u su (shorter (Yields.awaited dst payload z) refl) refl, tt))
           (leaves u su (shorter (Yields.awaitEnds pc dst payload v .left) (delivered-chain (running (z .chain) .driver) payload 0 _ (Yields.awaited dst payload z))) refl)
 
-    pub yield-told : (dst src : ℕ) → Told (Yields.yield pc dst src u)
+    yield-told : (dst src : ℕ) → Told (Yields.yield pc dst src u)
     unfolding pick
     yield-told dst src = (
       λ _. stays u su still refl,
       λ e. (λ _. stays u su still refl, λ _. (λ _. stays u su still refl, λ _. (λ _. stays u su still refl, λ _. yields (Yields.keyed u) (keyed-alike u) (keyed-chain u) e dst (word u src) (Yields.keyWord u) (Yields.keyBits u)))),
     )
 
-    pub yield-kv-told : (dst src key : ℕ) → Told (Yields.yieldKv pc dst src key u)
+    yield-kv-told : (dst src key : ℕ) → Told (Yields.yieldKv pc dst src key u)
     unfolding pick
     yield-kv-told dst src key = (λ _. stays u su still refl, λ e. yields u still refl e dst (word u src) (word u key) (Yields.raised (restHere u .largest) (Yields.integerOf u (word u key))))
 
-    pub await-told : (dst src : ℕ) → Told (Yields.await pc dst src u)
+    await-told : (dst src : ℕ) → Told (Yields.await pc dst src u)
     unfolding pick
     await-told dst src = (λ _. stays u su still refl, λ e. awaits u still refl e dst (word u src))
+
+-- ---- THE TABLE: the words of every call's 0 and 17, and the Step of an instruction
+
+pub record Answered (s : World → Lines Answer) (word raised : World → ℕ) (i : Bool) : Type 0 where
+  pub words : (w : World) → Worded 0 (word w) (leads (s w))
+  pub thrown : (w : World) → Worded 17 (raised w) (leads (s w))
+  pub steps : (w : World) → i ≡ true → Right w (leads (s w))
+
+-- each 0 and 17 has the word 0
+abbrev silent : Lines Answer → Bool
+silent s = wordless 0 s && wordless 17 s
+
+module _ (pc : ℕ) (operands : World → Bool) (own : World → Lines Step) (told : (w : World) → Told w pc (own (charged pc w))) where
+  -- an instruction that throws
+  throwing : {thrown : World → ℕ} → ((w : World) → wordless 0 (behind pc operands own w) ≡ true) → ((w : World) → Worded 17 (thrown w) (leads (behind pc operands own w))) →
+      Answered (behind pc operands own) (λ w. 0) thrown true
+  throwing h thrown = record { words = λ w. plainly 0 (behind pc operands own w) (h w); thrown = thrown; steps = λ w _. gate w pc (operands w) own (told w) }
+
+  -- any other
+  stepping : ((w : World) → silent (behind pc operands own w) ≡ true) → Answered (behind pc operands own) (λ w. 0) (λ w. 0) true
+  stepping h =
+      throwing (λ w. and-left (wordless 0 (behind pc operands own w)) _ (h w)) (λ w. plainly 17 (behind pc operands own w) (and-right (wordless 0 (behind pc operands own w)) _ (h w)))
+
+other : {s : World → Lines Answer} {word thrown : World → ℕ} → ((w : World) → Worded 0 (word w) (leads (s w))) → ((w : World) → Worded 17 (thrown w) (leads (s w))) → Answered s word thrown false
+other words thrown = record { words = words; thrown = thrown; steps = λ w. never }
+
+silently : {s : World → Lines Answer} → ((w : World) → silent (s w) ≡ true) → Answered s (λ w. 0) (λ w. 0) false
+silently {s} h = other (λ w. plainly 0 (s w) (and-left (wordless 0 (s w)) _ (h w))) (λ w. plainly 17 (s w) (and-right (wordless 0 (s w)) _ (h w)))
+
+pub answered : (o : Op) → Answered (λ w. tableOf o w) (λ w. wordFor o w) (λ w. thrownFor o w) (isInstruction o)
+unfolding pick
+answered (Op.CoroNew pc dst f argc) = stepping pc (λ w. lies w dst && windowLies dst argc w && Makings.isFunction w f) (Makings.coroNew dst f argc) (λ w. makes w pc dst f argc) (λ w. refl)
+answered (Op.CoroNewIndirect pc dst c argc) = stepping pc (λ w. lie (dst ∷ c ∷ []) w && windowLies dst argc w) (Makings.coroNewIndirect dst c argc) (λ w. makes-of w pc dst c argc) (λ w. refl)
+answered (Op.Spawn pc dst c argc) = stepping pc (λ w. lie (dst ∷ c ∷ []) w && windowLies dst argc w) (Makings.spawn pc dst c argc) (λ w. spawns w pc dst c argc) (λ w. refl)
+answered (Op.Yield pc dst src) = stepping pc (lie (dst ∷ src ∷ [])) (Yields.yield pc dst src) (λ w. yield-told w pc dst src) (λ w. refl)
+answered (Op.YieldKv pc dst src key) = stepping pc (lie (dst ∷ src ∷ key ∷ [])) (Yields.yieldKv pc dst src key) (λ w. yield-kv-told w pc dst src key) (λ w. refl)
+answered (Op.Await pc dst src) = stepping pc (lie (dst ∷ src ∷ [])) (Yields.await pc dst src) (λ w. await-told w pc dst src) (λ w. refl)
+answered (Op.Resume pc dst c src) = stepping pc (lie (dst ∷ c ∷ src ∷ [])) (Asked.resume pc dst c src) (λ w. resumes w pc dst c src) (λ w. refl)
+answered (Op.ResumeThrow pc dst c src) = throwing pc (lie (dst ∷ c ∷ src ∷ [])) (Asked.resumeThrow pc dst c src) (λ w. throws w pc dst c src) (λ w. refl) (λ w. throw-thrown w pc dst c src)
+answered (Op.CoroClose pc dst c src) = throwing pc (lie (dst ∷ c ∷ src ∷ [])) (Asked.coroClose pc dst c src) (λ w. closes w pc dst c src) (λ w. refl) (λ w. close-thrown w pc dst c src)
+answered (Op.CoroStatus pc dst c) = stepping pc (lie (dst ∷ c ∷ [])) (Asked.coroStatus dst c) (λ w. asks w pc dst c) (λ w. refl)
+answered (Op.CoroCurrent pc dst) = stepping pc (lie (dst ∷ [])) (Asked.coroCurrent dst) (λ w. current w pc dst) (λ w. refl)
+answered (Op.CoroKey pc dst c) = stepping pc (lie (dst ∷ c ∷ [])) (Asked.coroKey dst c) (λ w. keys w pc dst c) (λ w. refl)
+answered (Op.CoroResult pc dst c) = stepping pc (lie (dst ∷ c ∷ [])) (Asked.coroResult dst c) (λ w. results w pc dst c) (λ w. refl)
+answered (Op.IterNext pc has iter val src) = stepping pc (lie (has ∷ iter ∷ val ∷ src ∷ [])) (Asked.iterNext pc has iter val src) (λ w. nexts w pc has iter val src) (λ w. refl)
+answered (Op.Finish kind v) = other (λ w. finish-on-words (w .frames) kind v w) (λ w. finish-on-thrown (w .frames) kind v w)
+answered (Op.Unwind f pc) = other (unwind-words f pc) (unwind-thrown f pc)
+answered (Op.SpawnTask v) = other (task-words v) (λ w. plainly 17 (tableOf (Op.SpawnTask v) w) refl)
+answered (Op.HostCall f) = silently (λ w. refl)
+answered (Op.HostEntry c v) = silently (λ w. refl)
+answered (Op.FunctionCall pc f cont) = silently (λ w. refl)
+answered (Op.PutWord r v) = silently (λ w. refl)
+answered (Op.MakeIterator v) = other (iterator-words v) (λ w. plainly 17 (tableOf (Op.MakeIterator v) w) refl)
+answered Op.TakeOutcome = other outcome-words (λ w. plainly 17 (tableOf Op.TakeOutcome w) refl)
+answered (Op.HandOver v) = silently (λ w. refl)
+answered (Op.Grant n) = silently (λ w. refl)
+answered Op.StopRun = silently (λ w. refl)
+answered Op.Look = silently (λ w. refl)

@@ -23,28 +23,24 @@ use Rattle.model.specs.declared.machine.Frame.{Frame}
 use Rattle.model.specs.declared.exec.Step.{Step}
 use Rattle.model.specs.declared.call.Op.{Op}
 use Rattle.model.specs.declared.call.Answer.{Answer}
-use Rattle.sheet.specs.Lines.{Lines, leads}
+use Rattle.sheet.specs.Lines.{leads}
 use Rattle.sheet.specs.Does.{number, operation}
-use Rattle.sheet.specs.Words.{lies, found, isReference}
-use Rattle.sheet.specs.Charging.{charged}
-use Rattle.sheet.specs.Instructions as Asked
-use Rattle.sheet.specs.Yields as Yields
-use Rattle.sheet.specs.Makings as Makings
+use Rattle.sheet.specs.Words.{found, isReference}
 use Rattle.sheet.specs.Makings.{stored}
 use Rattle.sheet.specs.OtherCalls as Others
-use Rattle.sheet.specs.Sheet.{lie, windowLies, tableOf, sheet}
+use Rattle.sheet.specs.Sheet.{tableOf, sheet}
 use Rattle.sheet.specs.Sentences.{unchanging}
 use Rattle.sheet.specs.Answers.{wordFor, thrownFor, isInstruction, Answers}
 use Rattle.sheet.proofs.Among.{and-left, and-right, and-false, not-false}
 use Rattle.sheet.proofs.Choice.{both, by-test}
 use Rattle.sheet.proofs.Rules.{set-up, sizes}
-use Rattle.sheet.proofs.WalkCalls.{isNone, bare, tell, fit, never}
-use Rattle.sheet.proofs.Sheet.{behind, holds, leads-to}
+use Rattle.sheet.proofs.WalkCalls.{isNone, bare, tell, fit}
+use Rattle.sheet.proofs.Sheet.{holds, leads-to}
 use Rattle.sheet.proofs.SheetNumbers.{set-up-has, look-sees, sees-nothing}
 use Rattle.sheet.proofs.Led.{here, led, led-answer}
-use Rattle.sheet.proofs.AnswerSteps.{Right, refused, Told, gate, resumes, throws, closes, nexts, asks, keys, results, current, makes, makes-of, spawns, yield-told, yield-kv-told, await-told}
+use Rattle.sheet.proofs.AnswerSteps.{Right, refused, answered}
 use Rattle.sheet.proofs.AnswerWords as Words
-use Rattle.sheet.proofs.AnswerWords.{Worded, wordless, plainly, finish-on-words, finish-on-thrown, unwind-words, unwind-thrown, throw-thrown, close-thrown, task-words, iterator-words, outcome-words}
+use Rattle.sheet.proofs.AnswerWords.{Worded}
 
 -- ---- no Step: of a call that is no instruction, and of a number that changes nothing
 
@@ -141,64 +137,6 @@ iterator-made w v t h =
     ap (λ (a : After Answer). found (a .world) (wordOf (a .answer))) (leads-to w (operation (Op.MakeIterator v) t))
     ∙ by-test (λ (a : After Answer). eqb (numberOf (a .answer)) 0 ≡ true → found (a .world) (wordOf (a .answer)) ≡ Object.Iter v false Opt.None) (not (sound w)) (λ _ e. absurd (false≢true e)) (λ s. made-is w v (not-false (sound w) s))
     (ap (λ a. eqb (numberOf a) 0) (sym (answer-is w (operation (Op.MakeIterator v) t))) ∙ ap (λ n. eqb n 0) h)
-
--- ---- THE TABLE: the words of every call's 0 and 17, and the Step of an instruction
-
-record Answered (s : World → Lines Answer) (word raised : World → ℕ) (i : Bool) : Type 0 where
-  words : (w : World) → Worded 0 (word w) (leads (s w))
-  thrown : (w : World) → Worded 17 (raised w) (leads (s w))
-  steps : (w : World) → i ≡ true → Right w (leads (s w))
-
--- each 0 and 17 has the word 0
-abbrev silent : Lines Answer → Bool
-silent s = wordless 0 s && wordless 17 s
-
-module _ (pc : ℕ) (operands : World → Bool) (own : World → Lines Step) (told : (w : World) → Told w pc (own (charged pc w))) where
-  -- an instruction that throws
-  throwing : {thrown : World → ℕ} → ((w : World) → wordless 0 (behind pc operands own w) ≡ true) → ((w : World) → Worded 17 (thrown w) (leads (behind pc operands own w))) →
-      Answered (behind pc operands own) (λ w. 0) thrown true
-  throwing h thrown = record { words = λ w. plainly 0 (behind pc operands own w) (h w); thrown = thrown; steps = λ w _. gate w pc (operands w) own (told w) }
-
-  -- any other
-  stepping : ((w : World) → silent (behind pc operands own w) ≡ true) → Answered (behind pc operands own) (λ w. 0) (λ w. 0) true
-  stepping h =
-      throwing (λ w. and-left (wordless 0 (behind pc operands own w)) _ (h w)) (λ w. plainly 17 (behind pc operands own w) (and-right (wordless 0 (behind pc operands own w)) _ (h w)))
-
-other : {s : World → Lines Answer} {word thrown : World → ℕ} → ((w : World) → Worded 0 (word w) (leads (s w))) → ((w : World) → Worded 17 (thrown w) (leads (s w))) → Answered s word thrown false
-other words thrown = record { words = words; thrown = thrown; steps = λ w. never }
-
-silently : {s : World → Lines Answer} → ((w : World) → silent (s w) ≡ true) → Answered s (λ w. 0) (λ w. 0) false
-silently {s} h = other (λ w. plainly 0 (s w) (and-left (wordless 0 (s w)) _ (h w))) (λ w. plainly 17 (s w) (and-right (wordless 0 (s w)) _ (h w)))
-
-answered : (o : Op) → Answered (λ w. tableOf o w) (λ w. wordFor o w) (λ w. thrownFor o w) (isInstruction o)
-unfolding pick
-answered (Op.CoroNew pc dst f argc) = stepping pc (λ w. lies w dst && windowLies dst argc w && Makings.isFunction w f) (Makings.coroNew dst f argc) (λ w. makes w pc dst f argc) (λ w. refl)
-answered (Op.CoroNewIndirect pc dst c argc) = stepping pc (λ w. lie (dst ∷ c ∷ []) w && windowLies dst argc w) (Makings.coroNewIndirect dst c argc) (λ w. makes-of w pc dst c argc) (λ w. refl)
-answered (Op.Spawn pc dst c argc) = stepping pc (λ w. lie (dst ∷ c ∷ []) w && windowLies dst argc w) (Makings.spawn pc dst c argc) (λ w. spawns w pc dst c argc) (λ w. refl)
-answered (Op.Yield pc dst src) = stepping pc (lie (dst ∷ src ∷ [])) (Yields.yield pc dst src) (λ w. yield-told w pc dst src) (λ w. refl)
-answered (Op.YieldKv pc dst src key) = stepping pc (lie (dst ∷ src ∷ key ∷ [])) (Yields.yieldKv pc dst src key) (λ w. yield-kv-told w pc dst src key) (λ w. refl)
-answered (Op.Await pc dst src) = stepping pc (lie (dst ∷ src ∷ [])) (Yields.await pc dst src) (λ w. await-told w pc dst src) (λ w. refl)
-answered (Op.Resume pc dst c src) = stepping pc (lie (dst ∷ c ∷ src ∷ [])) (Asked.resume pc dst c src) (λ w. resumes w pc dst c src) (λ w. refl)
-answered (Op.ResumeThrow pc dst c src) = throwing pc (lie (dst ∷ c ∷ src ∷ [])) (Asked.resumeThrow pc dst c src) (λ w. throws w pc dst c src) (λ w. refl) (λ w. throw-thrown w pc dst c src)
-answered (Op.CoroClose pc dst c src) = throwing pc (lie (dst ∷ c ∷ src ∷ [])) (Asked.coroClose pc dst c src) (λ w. closes w pc dst c src) (λ w. refl) (λ w. close-thrown w pc dst c src)
-answered (Op.CoroStatus pc dst c) = stepping pc (lie (dst ∷ c ∷ [])) (Asked.coroStatus dst c) (λ w. asks w pc dst c) (λ w. refl)
-answered (Op.CoroCurrent pc dst) = stepping pc (lie (dst ∷ [])) (Asked.coroCurrent dst) (λ w. current w pc dst) (λ w. refl)
-answered (Op.CoroKey pc dst c) = stepping pc (lie (dst ∷ c ∷ [])) (Asked.coroKey dst c) (λ w. keys w pc dst c) (λ w. refl)
-answered (Op.CoroResult pc dst c) = stepping pc (lie (dst ∷ c ∷ [])) (Asked.coroResult dst c) (λ w. results w pc dst c) (λ w. refl)
-answered (Op.IterNext pc has iter val src) = stepping pc (lie (has ∷ iter ∷ val ∷ src ∷ [])) (Asked.iterNext pc has iter val src) (λ w. nexts w pc has iter val src) (λ w. refl)
-answered (Op.Finish kind v) = other (λ w. finish-on-words (w .frames) kind v w) (λ w. finish-on-thrown (w .frames) kind v w)
-answered (Op.Unwind f pc) = other (unwind-words f pc) (unwind-thrown f pc)
-answered (Op.SpawnTask v) = other (task-words v) (λ w. plainly 17 (tableOf (Op.SpawnTask v) w) refl)
-answered (Op.HostCall f) = silently (λ w. refl)
-answered (Op.HostEntry c v) = silently (λ w. refl)
-answered (Op.FunctionCall pc f cont) = silently (λ w. refl)
-answered (Op.PutWord r v) = silently (λ w. refl)
-answered (Op.MakeIterator v) = other (iterator-words v) (λ w. plainly 17 (tableOf (Op.MakeIterator v) w) refl)
-answered Op.TakeOutcome = other outcome-words (λ w. plainly 17 (tableOf Op.TakeOutcome w) refl)
-answered (Op.HandOver v) = silently (λ w. refl)
-answered (Op.Grant n) = silently (λ w. refl)
-answered Op.StopRun = silently (λ w. refl)
-answered Op.Look = silently (λ w. refl)
 
 -- ---- 11 first
 

@@ -29,8 +29,8 @@ pub mod Pep342Closes
 pub mod Pep342Deletion
 pub mod Mistakes
 pub mod Sentences
-pub mod AnswerSteps
 pub mod AnswerWords
+pub mod AnswerSteps
 pub mod Answers
 pub mod Queue
 pub mod Cheats
