@@ -23,8 +23,7 @@ use Rattle.invariant.specs.Reachable.{Reachable}
 use Rattle.soundness.proofs.Tests.{no-true, no-false, unnegate, picked}
 use Rattle.soundness.proofs.Sound.{Sound, sound→, →sound, →wide}
 use Rattle.soundness.proofs.Fresh.{fresh-sound}
-use Rattle.invariant.proofs.Call.{call-keeps}
-use Rattle.invariant.proofs.Agreed.{step-agree, run-agree}
+use Rattle.invariant.proofs.Call.{call-keeps, step-agree, run-agree}
 
 -- ---- one call
 

@@ -2,9 +2,9 @@ pub mod Leave
 pub mod Unwind
 pub mod Exec
 pub mod Added
-pub mod Call
-pub mod Kept
 pub mod Agree
 pub mod AgreeMachine
 pub mod AgreeExec
-pub mod Agreed
+pub mod AgreeAdded
+pub mod Call
+pub mod Kept

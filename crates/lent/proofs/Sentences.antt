@@ -1,7 +1,7 @@
 -- Demand 1 of lent words, from the fault sheet and from "soundness is kept". Assumes nothing.
 use Prim.Native.Nat.{ℕ, suc, _*_}
-use mathlib.Core.Path.{_≡_, refl, sym, ap, _∙_}
-use mathlib.Core.Bool.{Bool, true, false, not, _&&_, false≢true}
+use mathlib.Core.Path.{_≡_, refl, sym, ap, subst, _∙_}
+use mathlib.Core.Bool.{Bool, true, false, _&&_, false≢true}
 use mathlib.Core.Logic.{_⊎_, inl, inr}
 use mathlib.Core.List.{List, []}
 use lib.ListN.{length, getD, take, drop}
@@ -30,7 +30,7 @@ use Rattle.model.specs.declared.call.Answer.{Answer}
 use Rattle.invariant.specs.Kept.{raises}
 use Rattle.soundness.proofs.Tests.{no-false, no-true, and-left, and-right}
 use Rattle.soundness.proofs.Sound.{sound→}
-use Rattle.invariant.proofs.Call.{call-keeps}
+use Rattle.invariant.proofs.Call.{call-keeps, unwound}
 use Rattle.sheet.proofs.Sentences as Sheet
 use Rattle.tables.specs.Layout.{frameWords, frameOf, activeWords, activeOf}
 use Rattle.tables.specs.Parts.{piled}
@@ -100,40 +100,14 @@ among-raisable Fault.GrantTooLarge = refl
 among-raisable (Fault.Throw x) = refl
 
 -- only an unwind can be given what it does not take
-none-such : (o : Op) → raises (table o) ≡ false → NoSuchFault o
-none-such (Op.CoroNew pc dst f argc) h = no-true h
-none-such (Op.CoroNewIndirect pc dst callee argc) h = no-true h
-none-such (Op.Spawn pc dst callee argc) h = no-true h
-none-such (Op.Yield pc dst src) h = no-true h
-none-such (Op.YieldKv pc dst src key) h = no-true h
-none-such (Op.Await pc dst src) h = no-true h
-none-such (Op.Resume pc dst c src) h = no-true h
-none-such (Op.ResumeThrow pc dst c src) h = no-true h
-none-such (Op.CoroClose pc dst c src) h = no-true h
-none-such (Op.CoroStatus pc dst c) h = no-true h
-none-such (Op.CoroCurrent pc dst) h = no-true h
-none-such (Op.CoroKey pc dst c) h = no-true h
-none-such (Op.CoroResult pc dst c) h = no-true h
-none-such (Op.IterNext pc has iter val src) h = no-true h
-none-such (Op.Finish kind x) h = no-true h
-none-such (Op.Unwind f pc) h = no-such f pc (among-raisable f ∙ h)
-none-such (Op.SpawnTask x) h = no-true h
-none-such (Op.HostCall f) h = no-true h
-none-such (Op.HostEntry c x) h = no-true h
-none-such (Op.FunctionCall pc f cont) h = no-true h
-none-such (Op.PutWord r x) h = no-true h
-none-such (Op.MakeIterator x) h = no-true h
-none-such Op.TakeOutcome h = no-true h
-none-such (Op.HandOver x) h = no-true h
-none-such (Op.Grant n) h = no-true h
-none-such Op.StopRun h = no-true h
-none-such Op.Look h = no-true h
+none-such : (o : Operation) → raises (table (o .op)) ≡ false → NoSuchFault (o .op)
+none-such o h = let u = unwound (o .op) (o .within) h in subst (λ p. NoSuchFault p) (sym (u .is)) (no-such (u .fault) (u .pc) (among-raisable (u .fault) ∙ u .bad))
 
 eleven : (s : State) (o : Operation) → number s (Do o) ≡ 11 → (isSound s ≡ false) ⊎ NoSuchFault (o .op)
 eleven s o n = go (isSound s) refl
   where
     from : isSound s ≡ true → (b : Bool) → raises (table (o .op)) ≡ b → NoSuchFault (o .op)
-    from e false q = none-such (o .op) q
+    from e false q = none-such o q
     from e true q =
         let f = call-keeps {ex = false} (o .op) (decoded s) (o .within) (sound→ (decoded s) (words-kept .stands s e) (λ z. no-false z)) .fine q in
         let m = eq-eqb (numberOf (call (o .op) (decoded s) .answer)) 11 (sym (sound-number s o e) ∙ n) in

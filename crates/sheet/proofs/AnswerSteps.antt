@@ -1,7 +1,7 @@
--- The Step of an instruction's answer: whether another frame or coroutine is on top of what each line leaves.
+-- The Step of an instruction's answer: whether another frame or coroutine is on top of what each line leaves. The table of every call's words and Steps.
 use Prim.Native.Nat.{ℕ, suc}
-use mathlib.Core.Path.{_≡_, refl, sym, ap, subst, _∙_}
-use mathlib.Core.Bool.{Bool, true, false, not, _&&_, true≢false, false≢true}
+use mathlib.Core.Path.{_≡_, refl, sym, ap, _∙_}
+use mathlib.Core.Bool.{Bool, true, false, not, _&&_, true≢false}
 use mathlib.Core.List.{List, [], _∷_, map}
 use mathlib.Core.Option.{some}
 use native.Mathlib.Omega.{arith}
@@ -13,10 +13,7 @@ use Rattle.heap.specs.declared.fault.Fault.{Fault}
 use Rattle.heap.specs.declared.object.CoroState.{CoroState}
 use Rattle.model.specs.Lists.{isNil, among}
 use Rattle.model.specs.World.{World, After, after}
-use Rattle.model.specs.Sound.{sound}
 use Rattle.model.specs.Answer.{numberOf, wordOf, stepOf}
-use Rattle.model.specs.Call.{Do, Operation}
-use Rattle.model.specs.Step.{step}
 use Rattle.model.specs.declared.machine.Active.{Active}
 use Rattle.model.specs.declared.machine.Driver.{Driver}
 use Rattle.model.specs.declared.machine.Frame.{Frame}
@@ -25,7 +22,6 @@ use Rattle.model.specs.declared.exec.Step.{Step}
 use Rattle.model.specs.declared.call.Op.{Op}
 use Rattle.model.specs.declared.call.Answer.{Answer}
 use Rattle.sheet.specs.Lines.{Line, Lines, leads, stop}
-use Rattle.sheet.specs.Does.{number}
 use Rattle.sheet.specs.Words.{lies, word, arguments, isIn, state}
 use Rattle.sheet.specs.Moves.{pcStored, iteratorDone, entered, given, ended}
 use Rattle.sheet.specs.Charging.{amount, usedUp, bankBack, charged, lost, asAnswer, instruction}
@@ -34,12 +30,14 @@ use Rattle.sheet.specs.Makings as Makings
 use Rattle.sheet.specs.Suspending.{running, restHere, delivered}
 use Rattle.sheet.specs.Yields as Yields
 use Rattle.sheet.specs.Sheet.{lie, windowLies, tableOf}
-use Rattle.sheet.specs.Answers.{isInstruction, moves, stepFor}
-use Rattle.sheet.proofs.Among.{same}
+use Rattle.sheet.specs.Answers.{wordFor, thrownFor, isInstruction, moves, stepFor}
+use Rattle.sheet.proofs.Among.{same, and-left, and-right}
 use Rattle.sheet.proofs.Choice.{both}
-use Rattle.sheet.proofs.Sheet.{leads-to}
 use Rattle.sheet.proofs.Led.{Every, InTurn, led-in-turn, in-turn}
 use Rattle.sheet.proofs.Moved.{length-at}
+use Rattle.sheet.proofs.WalkCalls.{never}
+use Rattle.sheet.proofs.Sheet.{behind}
+use Rattle.sheet.proofs.AnswerWords.{Worded, wordless, plainly, finish-on-words, finish-on-thrown, unwind-words, unwind-thrown, throw-thrown, close-thrown, task-words, iterator-words, outcome-words}
 
 -- ---- counts
 
@@ -97,8 +95,8 @@ delivered-chain Driver.Finalize payload key s x = refl
 -- ---- a line's Step is the one that its number, its word and the counts say
 
 module _ (w : World) where
-  record Right (a : After Answer) : Type 0 where
-    is : among (numberOf (a .answer)) (11 ∷ 12 ∷ 13 ∷ []) ≡ false → stepOf (a .answer) ≡ some (stepFor (numberOf (a .answer)) (wordOf (a .answer)) (moves w (a .world)))
+  pub record Right (a : After Answer) : Type 0 where
+    pub is : among (numberOf (a .answer)) (11 ∷ 12 ∷ 13 ∷ []) ≡ false → stepOf (a .answer) ≡ some (stepFor (numberOf (a .answer)) (wordOf (a .answer)) (moves w (a .world)))
 
   -- the Step that goes with b
   abbrev Fits : Bool → Answer → Type 0
@@ -107,7 +105,7 @@ module _ (w : World) where
   right : (b : Bool) (a : Answer) (x : World) → moves w x ≡ b → Fits b a → Right (after x a)
   right b a x m h = record { is = λ _. h ∙ ap (λ t. some (stepFor (numberOf a) (wordOf a) t)) (sym m) }
 
-  refused : {f : Fault} → among (numberOf (Answer.Refused f)) (11 ∷ 12 ∷ 13 ∷ []) ≡ true → Right (after w (Answer.Refused f))
+  pub refused : {f : Fault} → among (numberOf (Answer.Refused f)) (11 ∷ 12 ∷ 13 ∷ []) ≡ true → Right (after w (Answer.Refused f))
   refused e = record { is = λ h. absurd (true≢false (sym e ∙ h)) }
 
   -- in u there are as many as in w
@@ -295,36 +293,60 @@ module _ (w : World) where
     unfolding pick
     await-told dst src = (λ _. stays u su still refl, λ e. awaits u still refl e dst (word u src))
 
-  tells : (o : Op) → isInstruction o ≡ true → Right (leads (tableOf o w))
-  tells (Op.CoroNew pc dst f argc) i = gate pc (lies w dst && windowLies dst argc w && Makings.isFunction w f) (Makings.coroNew dst f argc) (makes pc dst f argc)
-  tells (Op.CoroNewIndirect pc dst c argc) i = gate pc (lie (dst ∷ c ∷ []) w && windowLies dst argc w) (Makings.coroNewIndirect dst c argc) (makes-of pc dst c argc)
-  tells (Op.Spawn pc dst c argc) i = gate pc (lie (dst ∷ c ∷ []) w && windowLies dst argc w) (Makings.spawn pc dst c argc) (spawns pc dst c argc)
-  tells (Op.Yield pc dst src) i = gate pc (lie (dst ∷ src ∷ []) w) (Yields.yield pc dst src) (yield-told pc dst src)
-  tells (Op.YieldKv pc dst src key) i = gate pc (lie (dst ∷ src ∷ key ∷ []) w) (Yields.yieldKv pc dst src key) (yield-kv-told pc dst src key)
-  tells (Op.Await pc dst src) i = gate pc (lie (dst ∷ src ∷ []) w) (Yields.await pc dst src) (await-told pc dst src)
-  tells (Op.Resume pc dst c src) i = gate pc (lie (dst ∷ c ∷ src ∷ []) w) (Asked.resume pc dst c src) (resumes pc dst c src)
-  tells (Op.ResumeThrow pc dst c src) i = gate pc (lie (dst ∷ c ∷ src ∷ []) w) (Asked.resumeThrow pc dst c src) (throws pc dst c src)
-  tells (Op.CoroClose pc dst c src) i = gate pc (lie (dst ∷ c ∷ src ∷ []) w) (Asked.coroClose pc dst c src) (closes pc dst c src)
-  tells (Op.CoroStatus pc dst c) i = gate pc (lie (dst ∷ c ∷ []) w) (Asked.coroStatus dst c) (asks pc dst c)
-  tells (Op.CoroCurrent pc dst) i = gate pc (lie (dst ∷ []) w) (Asked.coroCurrent dst) (current pc dst)
-  tells (Op.CoroKey pc dst c) i = gate pc (lie (dst ∷ c ∷ []) w) (Asked.coroKey dst c) (keys pc dst c)
-  tells (Op.CoroResult pc dst c) i = gate pc (lie (dst ∷ c ∷ []) w) (Asked.coroResult dst c) (results pc dst c)
-  tells (Op.IterNext pc has iter val src) i = gate pc (lie (has ∷ iter ∷ val ∷ src ∷ []) w) (Asked.iterNext pc has iter val src) (nexts pc has iter val src)
-  tells (Op.Finish kind v) i = absurd (false≢true i)
-  tells (Op.Unwind f pc) i = absurd (false≢true i)
-  tells (Op.SpawnTask v) i = absurd (false≢true i)
-  tells (Op.HostCall f) i = absurd (false≢true i)
-  tells (Op.HostEntry c v) i = absurd (false≢true i)
-  tells (Op.FunctionCall pc f cont) i = absurd (false≢true i)
-  tells (Op.PutWord r v) i = absurd (false≢true i)
-  tells (Op.MakeIterator v) i = absurd (false≢true i)
-  tells Op.TakeOutcome i = absurd (false≢true i)
-  tells (Op.HandOver v) i = absurd (false≢true i)
-  tells (Op.Grant n) i = absurd (false≢true i)
-  tells Op.StopRun i = absurd (false≢true i)
-  tells Op.Look i = absurd (false≢true i)
+-- ---- THE TABLE: the words of every call's 0 and 17, and the Step of an instruction
 
-  -- 11 first
-  pub step-is : (o : Operation) → isInstruction (o .op) ≡ true → among (number w o) (11 ∷ 12 ∷ 13 ∷ []) ≡ false →
-      stepOf (step w (Do o) .answer) ≡ some (stepFor (number w o) (wordOf (step w (Do o) .answer)) (moves w (step w (Do o) .world)))
-  step-is o i = subst (λ a. Right a) (sym (leads-to w o)) (both (λ a. Right a) (not (sound w)) (refused refl) (tells (o .op) i)) .is
+pub record Answered (s : World → Lines Answer) (word raised : World → ℕ) (i : Bool) : Type 0 where
+  pub words : (w : World) → Worded 0 (word w) (leads (s w))
+  pub thrown : (w : World) → Worded 17 (raised w) (leads (s w))
+  pub steps : (w : World) → i ≡ true → Right w (leads (s w))
+
+-- each 0 and 17 has the word 0
+abbrev silent : Lines Answer → Bool
+silent s = wordless 0 s && wordless 17 s
+
+module _ (pc : ℕ) (operands : World → Bool) (own : World → Lines Step) (told : (w : World) → Told w pc (own (charged pc w))) where
+  -- an instruction that throws
+  throwing : {thrown : World → ℕ} → ((w : World) → wordless 0 (behind pc operands own w) ≡ true) → ((w : World) → Worded 17 (thrown w) (leads (behind pc operands own w))) →
+      Answered (behind pc operands own) (λ w. 0) thrown true
+  throwing h thrown = record { words = λ w. plainly 0 (behind pc operands own w) (h w); thrown = thrown; steps = λ w _. gate w pc (operands w) own (told w) }
+
+  -- any other
+  stepping : ((w : World) → silent (behind pc operands own w) ≡ true) → Answered (behind pc operands own) (λ w. 0) (λ w. 0) true
+  stepping h =
+      throwing (λ w. and-left (wordless 0 (behind pc operands own w)) _ (h w)) (λ w. plainly 17 (behind pc operands own w) (and-right (wordless 0 (behind pc operands own w)) _ (h w)))
+
+other : {s : World → Lines Answer} {word thrown : World → ℕ} → ((w : World) → Worded 0 (word w) (leads (s w))) → ((w : World) → Worded 17 (thrown w) (leads (s w))) → Answered s word thrown false
+other words thrown = record { words = words; thrown = thrown; steps = λ w. never }
+
+silently : {s : World → Lines Answer} → ((w : World) → silent (s w) ≡ true) → Answered s (λ w. 0) (λ w. 0) false
+silently {s} h = other (λ w. plainly 0 (s w) (and-left (wordless 0 (s w)) _ (h w))) (λ w. plainly 17 (s w) (and-right (wordless 0 (s w)) _ (h w)))
+
+pub answered : (o : Op) → Answered (λ w. tableOf o w) (λ w. wordFor o w) (λ w. thrownFor o w) (isInstruction o)
+unfolding pick
+answered (Op.CoroNew pc dst f argc) = stepping pc (λ w. lies w dst && windowLies dst argc w && Makings.isFunction w f) (Makings.coroNew dst f argc) (λ w. makes w pc dst f argc) (λ w. refl)
+answered (Op.CoroNewIndirect pc dst c argc) = stepping pc (λ w. lie (dst ∷ c ∷ []) w && windowLies dst argc w) (Makings.coroNewIndirect dst c argc) (λ w. makes-of w pc dst c argc) (λ w. refl)
+answered (Op.Spawn pc dst c argc) = stepping pc (λ w. lie (dst ∷ c ∷ []) w && windowLies dst argc w) (Makings.spawn pc dst c argc) (λ w. spawns w pc dst c argc) (λ w. refl)
+answered (Op.Yield pc dst src) = stepping pc (lie (dst ∷ src ∷ [])) (Yields.yield pc dst src) (λ w. yield-told w pc dst src) (λ w. refl)
+answered (Op.YieldKv pc dst src key) = stepping pc (lie (dst ∷ src ∷ key ∷ [])) (Yields.yieldKv pc dst src key) (λ w. yield-kv-told w pc dst src key) (λ w. refl)
+answered (Op.Await pc dst src) = stepping pc (lie (dst ∷ src ∷ [])) (Yields.await pc dst src) (λ w. await-told w pc dst src) (λ w. refl)
+answered (Op.Resume pc dst c src) = stepping pc (lie (dst ∷ c ∷ src ∷ [])) (Asked.resume pc dst c src) (λ w. resumes w pc dst c src) (λ w. refl)
+answered (Op.ResumeThrow pc dst c src) = throwing pc (lie (dst ∷ c ∷ src ∷ [])) (Asked.resumeThrow pc dst c src) (λ w. throws w pc dst c src) (λ w. refl) (λ w. throw-thrown w pc dst c src)
+answered (Op.CoroClose pc dst c src) = throwing pc (lie (dst ∷ c ∷ src ∷ [])) (Asked.coroClose pc dst c src) (λ w. closes w pc dst c src) (λ w. refl) (λ w. close-thrown w pc dst c src)
+answered (Op.CoroStatus pc dst c) = stepping pc (lie (dst ∷ c ∷ [])) (Asked.coroStatus dst c) (λ w. asks w pc dst c) (λ w. refl)
+answered (Op.CoroCurrent pc dst) = stepping pc (lie (dst ∷ [])) (Asked.coroCurrent dst) (λ w. current w pc dst) (λ w. refl)
+answered (Op.CoroKey pc dst c) = stepping pc (lie (dst ∷ c ∷ [])) (Asked.coroKey dst c) (λ w. keys w pc dst c) (λ w. refl)
+answered (Op.CoroResult pc dst c) = stepping pc (lie (dst ∷ c ∷ [])) (Asked.coroResult dst c) (λ w. results w pc dst c) (λ w. refl)
+answered (Op.IterNext pc has iter val src) = stepping pc (lie (has ∷ iter ∷ val ∷ src ∷ [])) (Asked.iterNext pc has iter val src) (λ w. nexts w pc has iter val src) (λ w. refl)
+answered (Op.Finish kind v) = other (λ w. finish-on-words (w .frames) kind v w) (λ w. finish-on-thrown (w .frames) kind v w)
+answered (Op.Unwind f pc) = other (unwind-words f pc) (unwind-thrown f pc)
+answered (Op.SpawnTask v) = other (task-words v) (λ w. plainly 17 (tableOf (Op.SpawnTask v) w) refl)
+answered (Op.HostCall f) = silently (λ w. refl)
+answered (Op.HostEntry c v) = silently (λ w. refl)
+answered (Op.FunctionCall pc f cont) = silently (λ w. refl)
+answered (Op.PutWord r v) = silently (λ w. refl)
+answered (Op.MakeIterator v) = other (iterator-words v) (λ w. plainly 17 (tableOf (Op.MakeIterator v) w) refl)
+answered Op.TakeOutcome = other outcome-words (λ w. plainly 17 (tableOf Op.TakeOutcome w) refl)
+answered (Op.HandOver v) = silently (λ w. refl)
+answered (Op.Grant n) = silently (λ w. refl)
+answered Op.StopRun = silently (λ w. refl)
+answered Op.Look = silently (λ w. refl)

@@ -5,23 +5,18 @@ use mathlib.Core.Bool.{Bool, true, false, not, _||_, false≢true}
 use mathlib.Core.List.{List, [], _∷_}
 use lib.ListN.{getD}
 use lib.Dec.{eqb, leb}
-use borrow.Author.Tests.{eq-eqb}
 use Rattle.lists.specs.Pick.{pick}
 use Rattle.heap.specs.Fault as Faults
 use Rattle.heap.specs.declared.fault.Fault.{Fault}
 use Rattle.heap.specs.declared.heap.ResultKind.{ResultKind}
 use Rattle.model.specs.World.{World, After, after}
-use Rattle.model.specs.Sound.{sound}
 use Rattle.model.specs.Answer.{numberOf, wordOf}
-use Rattle.model.specs.Call.{Do, Operation}
-use Rattle.model.specs.Step.{step}
 use Rattle.model.specs.declared.machine.Cont.{Cont}
 use Rattle.model.specs.declared.machine.Frame.{Frame}
 use Rattle.model.specs.declared.call.OptPc.{OptPc}
 use Rattle.model.specs.declared.call.Op.{Op}
 use Rattle.model.specs.declared.call.Answer.{Answer}
 use Rattle.sheet.specs.Lines.{Lines, leads}
-use Rattle.sheet.specs.Does.{number}
 use Rattle.sheet.specs.Words.{base, word}
 use Rattle.sheet.specs.Moves.{atPc}
 use Rattle.sheet.specs.Charging.{starts, charged}
@@ -32,17 +27,16 @@ use Rattle.sheet.specs.Sheet.{tableOf}
 use Rattle.sheet.specs.Answers.{exitBy, exitWord, wordFor, raisedBy, thrownFor}
 use Rattle.sheet.proofs.Among.{same}
 use Rattle.sheet.proofs.Choice.{both, by-test}
-use Rattle.sheet.proofs.Sheet.{leads-to}
 use Rattle.sheet.proofs.Sentences.{fault-word}
 use Rattle.sheet.proofs.Led.{here, past, Every, led, led-in-turn, all, led-answer}
 use Rattle.sheet.proofs.Finishing.{or-nil-is}
 
 -- an answer of number m has the word n
-record Worded (m n : ℕ) (a : After Answer) : Type 0 where
-  is : eqb (numberOf (a .answer)) m ≡ true → wordOf (a .answer) ≡ n
+pub record Worded (m n : ℕ) (a : After Answer) : Type 0 where
+  pub is : eqb (numberOf (a .answer)) m ≡ true → wordOf (a .answer) ≡ n
 
 -- a number that is not m
-no : {m n : ℕ} {b : Bool} {a : Answer} {x : World} → eqb (numberOf a) m ≡ false → b ≡ true → Worded m n (after x a)
+pub no : {m n : ℕ} {b : Bool} {a : Answer} {x : World} → eqb (numberOf a) m ≡ false → b ≡ true → Worded m n (after x a)
 no e _ = record { is = λ h. absurd (false≢true (sym e ∙ h)) }
 
 -- an answer's word is n
@@ -54,7 +48,10 @@ at e _ = record { is = λ _. e }
 abbrev plain : ℕ → Answer → Bool
 plain m a = not (eqb (numberOf a) m) || eqb (wordOf a) 0
 
-plainly : (m : ℕ) (s : Lines Answer) → all (plain m) (s .tests) (s .done) ≡ true → Worded m 0 (leads s)
+abbrev pub wordless : ℕ → Lines Answer → Bool
+wordless m s = all (plain m) (s .tests) (s .done)
+
+pub plainly : (m : ℕ) (s : Lines Answer) → wordless m s ≡ true → Worded m 0 (leads s)
 plainly m s h = record { is = go (leads s .answer) (eqb (numberOf (leads s .answer)) m) (led-answer (plain m) (s .tests) (s .done) h) }
   where
     go : (a : Answer) (b : Bool) → not b || eqb (wordOf a) 0 ≡ true → b ≡ true → wordOf a ≡ 0
@@ -72,7 +69,7 @@ finish-words (Cont.Value r) f fs k v w = record { is = λ _. refl }
 finish-words Cont.Discard f fs k v w = record { is = λ _. refl }
 finish-words Cont.Coro f fs k v w = plainly 0 (finishBy Cont.Coro f fs k v w) refl
 
-finish-on-words : (fs : List Frame) (k : ResultKind) (v : ℕ) (w : World) → Worded 0 (exitWord fs (result k v)) (leads (finishOn fs k v w))
+pub finish-on-words : (fs : List Frame) (k : ResultKind) (v : ℕ) (w : World) → Worded 0 (exitWord fs (result k v)) (leads (finishOn fs k v w))
 finish-on-words [] k v w = record { is = λ _. or-nil-is (result k v) }
 finish-on-words (f ∷ fs) k v w = finish-words (f .cont) f fs k v w
 
@@ -86,7 +83,7 @@ finish-thrown (Cont.Value r) f fs k v w = plainly 17 (finishBy (Cont.Value r) f 
 finish-thrown Cont.Discard f fs k v w = plainly 17 (finishBy Cont.Discard f fs k v w) refl
 finish-thrown Cont.Coro f fs k v w = plainly 17 (finishBy Cont.Coro f fs k v w) refl
 
-finish-on-thrown : (fs : List Frame) (k : ResultKind) (v : ℕ) (w : World) → Worded 17 0 (leads (finishOn fs k v w))
+pub finish-on-thrown : (fs : List Frame) (k : ResultKind) (v : ℕ) (w : World) → Worded 17 0 (leads (finishOn fs k v w))
 unfolding pick
 finish-on-thrown [] k v w = plainly 17 (finishOn [] k v w) refl
 finish-on-thrown (f ∷ fs) k v w = finish-thrown (f .cont) f fs k v w
@@ -115,7 +112,7 @@ module _ (e : Fault) (pc : OptPc) (w : World) where
   none : {x : World} → Worded 0 0 (after x (Answer.Refused e))
   none = record { is = λ h. fault-word e (ap (λ m. eqb m 17) (same n 0 h)) }
 
-  unwind-words : Worded 0 0 (leads t)
+  pub unwind-words : Worded 0 0 (leads t)
   unwind-words =
       led (λ a. Worded 0 0 a) (t .tests) (t .done)
       (no refl, (λ _. none, (no refl, (no refl, both (λ ts. Every (λ a. Worded 0 0 a) ts) (leb n 8) (search-words (z .frames) (newWord z) _ _ (Unwinding.errorStored n z)) (search-words (z .frames) (Faults.wordOf e) _ _ z))))) none
@@ -134,7 +131,7 @@ module _ (e : Fault) (pc : OptPc) (w : World) where
   searched : (value : ℕ) (x : World) → value ≡ raised → Every (λ a. Worded 17 raised a) (Unwinding.raised value x)
   searched value x h = subst (λ v. Every (λ a. Worded 17 v a) (Unwinding.raised value x)) h (search-thrown (x .frames) value _ _ x)
 
-  unwind-thrown : Worded 17 raised (leads t)
+  pub unwind-thrown : Worded 17 raised (leads t)
   unwind-thrown =
       led (λ a. Worded 17 raised a) (t .tests) (t .done) (
         no refl,
@@ -173,7 +170,7 @@ module _ (w : World) where
   abbrev Thrown : Op → Type 0
   Thrown o = Worded 17 (thrownFor o w) (leads (tableOf o w))
 
-  throw-thrown : (pc dst c src : ℕ) → Thrown (Op.ResumeThrow pc dst c src)
+  pub throw-thrown : (pc dst c src : ℕ) → Thrown (Op.ResumeThrow pc dst c src)
   unfolding pick
   throw-thrown pc dst c src =
       let t = tableOf (Op.ResumeThrow pc dst c src) w in
@@ -185,7 +182,7 @@ module _ (w : World) where
         ),
       )
 
-  close-thrown : (pc dst c src : ℕ) → Thrown (Op.CoroClose pc dst c src)
+  pub close-thrown : (pc dst c src : ℕ) → Thrown (Op.CoroClose pc dst c src)
   unfolding pick
   close-thrown pc dst c src =
       let t = tableOf (Op.CoroClose pc dst c src) w in
@@ -197,73 +194,13 @@ module _ (w : World) where
         ),
       )
 
-  thrown : (o : Op) → Thrown o
-  unfolding pick
-  thrown (Op.CoroNew pc dst f argc) = plainly 17 (tableOf (Op.CoroNew pc dst f argc) w) refl
-  thrown (Op.CoroNewIndirect pc dst c argc) = plainly 17 (tableOf (Op.CoroNewIndirect pc dst c argc) w) refl
-  thrown (Op.Spawn pc dst c argc) = plainly 17 (tableOf (Op.Spawn pc dst c argc) w) refl
-  thrown (Op.Yield pc dst src) = plainly 17 (tableOf (Op.Yield pc dst src) w) refl
-  thrown (Op.YieldKv pc dst src key) = plainly 17 (tableOf (Op.YieldKv pc dst src key) w) refl
-  thrown (Op.Await pc dst src) = plainly 17 (tableOf (Op.Await pc dst src) w) refl
-  thrown (Op.Resume pc dst c src) = plainly 17 (tableOf (Op.Resume pc dst c src) w) refl
-  thrown (Op.ResumeThrow pc dst c src) = throw-thrown pc dst c src
-  thrown (Op.CoroClose pc dst c src) = close-thrown pc dst c src
-  thrown (Op.CoroStatus pc dst c) = plainly 17 (tableOf (Op.CoroStatus pc dst c) w) refl
-  thrown (Op.CoroCurrent pc dst) = plainly 17 (tableOf (Op.CoroCurrent pc dst) w) refl
-  thrown (Op.CoroKey pc dst c) = plainly 17 (tableOf (Op.CoroKey pc dst c) w) refl
-  thrown (Op.CoroResult pc dst c) = plainly 17 (tableOf (Op.CoroResult pc dst c) w) refl
-  thrown (Op.IterNext pc has iter val src) = plainly 17 (tableOf (Op.IterNext pc has iter val src) w) refl
-  thrown (Op.Finish kind v) = finish-on-thrown (w .frames) kind v w
-  thrown (Op.Unwind f pc) = unwind-thrown f pc w
-  thrown (Op.SpawnTask v) = plainly 17 (tableOf (Op.SpawnTask v) w) refl
-  thrown (Op.HostCall f) = plainly 17 (tableOf (Op.HostCall f) w) refl
-  thrown (Op.HostEntry c v) = plainly 17 (tableOf (Op.HostEntry c v) w) refl
-  thrown (Op.FunctionCall pc f cont) = plainly 17 (tableOf (Op.FunctionCall pc f cont) w) refl
-  thrown (Op.PutWord r v) = plainly 17 (tableOf (Op.PutWord r v) w) refl
-  thrown (Op.MakeIterator v) = plainly 17 (tableOf (Op.MakeIterator v) w) refl
-  thrown Op.TakeOutcome = plainly 17 (tableOf Op.TakeOutcome w) refl
-  thrown (Op.HandOver v) = plainly 17 (tableOf (Op.HandOver v) w) refl
-  thrown (Op.Grant n) = plainly 17 (tableOf (Op.Grant n) w) refl
-  thrown Op.StopRun = plainly 17 (tableOf Op.StopRun w) refl
-  thrown Op.Look = plainly 17 (tableOf Op.Look w) refl
+-- ---- spawn task, make iterator and take outcome answer a word
 
-  words : (o : Op) → Worded 0 (wordFor o w) (leads (tableOf o w))
-  unfolding pick
-  words (Op.CoroNew pc dst f argc) = plainly 0 (tableOf (Op.CoroNew pc dst f argc) w) refl
-  words (Op.CoroNewIndirect pc dst c argc) = plainly 0 (tableOf (Op.CoroNewIndirect pc dst c argc) w) refl
-  words (Op.Spawn pc dst c argc) = plainly 0 (tableOf (Op.Spawn pc dst c argc) w) refl
-  words (Op.Yield pc dst src) = plainly 0 (tableOf (Op.Yield pc dst src) w) refl
-  words (Op.YieldKv pc dst src key) = plainly 0 (tableOf (Op.YieldKv pc dst src key) w) refl
-  words (Op.Await pc dst src) = plainly 0 (tableOf (Op.Await pc dst src) w) refl
-  words (Op.Resume pc dst c src) = plainly 0 (tableOf (Op.Resume pc dst c src) w) refl
-  words (Op.ResumeThrow pc dst c src) = plainly 0 (tableOf (Op.ResumeThrow pc dst c src) w) refl
-  words (Op.CoroClose pc dst c src) = plainly 0 (tableOf (Op.CoroClose pc dst c src) w) refl
-  words (Op.CoroStatus pc dst c) = plainly 0 (tableOf (Op.CoroStatus pc dst c) w) refl
-  words (Op.CoroCurrent pc dst) = plainly 0 (tableOf (Op.CoroCurrent pc dst) w) refl
-  words (Op.CoroKey pc dst c) = plainly 0 (tableOf (Op.CoroKey pc dst c) w) refl
-  words (Op.CoroResult pc dst c) = plainly 0 (tableOf (Op.CoroResult pc dst c) w) refl
-  words (Op.IterNext pc has iter val src) = plainly 0 (tableOf (Op.IterNext pc has iter val src) w) refl
-  words (Op.Finish kind v) = finish-on-words (w .frames) kind v w
-  words (Op.Unwind f pc) = unwind-words f pc w
-  words (Op.SpawnTask v) = let t = tableOf (Op.SpawnTask v) w in led (λ a. Worded 0 v a) (t .tests) (t .done) (no refl, tt) (at refl refl)
-  words (Op.HostCall f) = plainly 0 (tableOf (Op.HostCall f) w) refl
-  words (Op.HostEntry c v) = plainly 0 (tableOf (Op.HostEntry c v) w) refl
-  words (Op.FunctionCall pc f cont) = plainly 0 (tableOf (Op.FunctionCall pc f cont) w) refl
-  words (Op.PutWord r v) = plainly 0 (tableOf (Op.PutWord r v) w) refl
-  words (Op.MakeIterator v) = let t = tableOf (Op.MakeIterator v) w in led (λ a. Worded 0 (newWord w) a) (t .tests) (t .done) (no refl, (no refl, (no refl, (no refl, tt)))) (at refl refl)
-  words Op.TakeOutcome = record { is = λ _. refl }
-  words (Op.HandOver v) = plainly 0 (tableOf (Op.HandOver v) w) refl
-  words (Op.Grant n) = plainly 0 (tableOf (Op.Grant n) w) refl
-  words Op.StopRun = plainly 0 (tableOf Op.StopRun w) refl
-  words Op.Look = plainly 0 (tableOf Op.Look w) refl
+pub task-words : (v : ℕ) (w : World) → Worded 0 v (leads (tableOf (Op.SpawnTask v) w))
+task-words v w = let t = tableOf (Op.SpawnTask v) w in led (λ a. Worded 0 v a) (t .tests) (t .done) (no refl, tt) (at refl refl)
 
-  -- 11 first
-  behind : (m n : ℕ) (o : Operation) → eqb 11 m ≡ false → Worded m n (leads (tableOf (o .op) w)) → number w o ≡ m → wordOf (step w (Do o) .answer) ≡ n
-  behind m n o e h k =
-      subst (λ a. Worded m n a) (sym (leads-to w o)) (both (λ a. Worded m n a) (not (sound w)) (no e refl) h) .is (eq-eqb (number w o) m k)
+pub iterator-words : (v : ℕ) (w : World) → Worded 0 (wordFor (Op.MakeIterator v) w) (leads (tableOf (Op.MakeIterator v) w))
+iterator-words v w = let t = tableOf (Op.MakeIterator v) w in led (λ a. Worded 0 (newWord w) a) (t .tests) (t .done) (no refl, (no refl, (no refl, (no refl, tt)))) (at refl refl)
 
-  pub word-is : (o : Operation) → number w o ≡ 0 → wordOf (step w (Do o) .answer) ≡ wordFor (o .op) w
-  word-is o = behind 0 (wordFor (o .op) w) o refl (words (o .op))
-
-  pub thrown-word : (o : Operation) → number w o ≡ 17 → wordOf (step w (Do o) .answer) ≡ thrownFor (o .op) w
-  thrown-word o = behind 17 (thrownFor (o .op) w) o refl (thrown (o .op))
+pub outcome-words : (w : World) → Worded 0 (wordFor Op.TakeOutcome w) (leads (tableOf Op.TakeOutcome w))
+outcome-words w = record { is = λ _. refl }

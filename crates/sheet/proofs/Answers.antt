@@ -1,125 +1,59 @@
 -- The word and the Step of every answer, and what a look sees.
 use Prim.Native.Nat.{ℕ, _+_, _/_, _%_, _^_, _<_, _≤_}
-use mathlib.Core.Path.{_≡_, refl, sym, ap, ap₂, _∙_}
+use mathlib.Core.Path.{_≡_, refl, sym, ap, ap₂, subst, _∙_}
 use mathlib.Core.Bool.{Bool, true, false, not, _&&_, _||_, false≢true}
 use mathlib.Core.List.{List, [], _∷_, _++_}
 use mathlib.Core.Option.{Option, none, some}
 use native.Mathlib.Omega.{arith}
 use lib.ListN.{length, getD}
 use lib.Dec.{eqb, ltb, leb}
-use borrow.Author.Tests.{leb-true, le-leb, lt-ltb}
+use borrow.Author.Tests.{leb-true, eq-eqb, le-leb, lt-ltb}
 use Rattle.lists.specs.Pick.{pick}
-use Rattle.heap.specs.Fault as Faults
 use Rattle.heap.specs.Table.{Slot, slot}
-use Rattle.heap.specs.declared.fault.Fault.{Fault}
-use Rattle.heap.specs.declared.heap.ResultKind.{ResultKind}
 use Rattle.heap.specs.declared.value.Opt.{Opt}
 use Rattle.model.specs.Lists.{each, among}
 use Rattle.model.specs.Program.{setupOk, limitsOk, costsOk, functionOk, hookOk, between}
 use Rattle.model.specs.Object.{Object}
-use Rattle.model.specs.World.{World, After}
+use Rattle.model.specs.World.{World, After, after}
 use Rattle.model.specs.Sound.{sizesOk, sound}
 use Rattle.model.specs.Answer.{numberOf, wordOf, stepOf}
 use Rattle.model.specs.Call.{Call, SetUp, Do, Operation, typed}
 use Rattle.model.specs.Step.{step}
-use Rattle.model.specs.declared.machine.Cont.{Cont}
 use Rattle.model.specs.declared.machine.Frame.{Frame}
 use Rattle.model.specs.declared.exec.Step.{Step}
-use Rattle.model.specs.declared.call.OptPc.{OptPc}
 use Rattle.model.specs.declared.call.Op.{Op}
 use Rattle.model.specs.declared.call.Answer.{Answer}
-use Rattle.sheet.specs.Lines.{Line, leads}
+use Rattle.sheet.specs.Lines.{leads}
 use Rattle.sheet.specs.Does.{number, operation}
 use Rattle.sheet.specs.Words.{found, isReference}
-use Rattle.sheet.specs.Makings.{newWord, stored}
-use Rattle.sheet.specs.Endings.{finishBy, finishOn}
-use Rattle.sheet.specs.Unwinding as Unwinding
+use Rattle.sheet.specs.Makings.{stored}
 use Rattle.sheet.specs.OtherCalls as Others
 use Rattle.sheet.specs.Sheet.{tableOf, sheet}
-use Rattle.sheet.specs.Answers.{isInstruction, Answers}
-use Rattle.sheet.proofs.Among.{and-left, and-right, not-false}
+use Rattle.sheet.specs.Sentences.{unchanging}
+use Rattle.sheet.specs.Answers.{wordFor, thrownFor, isInstruction, Answers}
+use Rattle.sheet.proofs.Among.{and-left, and-right, and-false, not-false}
 use Rattle.sheet.proofs.Choice.{both, by-test}
 use Rattle.sheet.proofs.Rules.{set-up, sizes}
-use Rattle.sheet.proofs.Sheet.{leads-to}
+use Rattle.sheet.proofs.WalkCalls.{isNone, bare, tell, fit}
+use Rattle.sheet.proofs.Sheet.{holds, leads-to}
 use Rattle.sheet.proofs.SheetNumbers.{set-up-has, look-sees, sees-nothing}
-use Rattle.sheet.proofs.Led.{here, led, all, led-answer}
-use Rattle.sheet.proofs.AnswerSteps.{step-is}
-use Rattle.sheet.proofs.AnswerWords.{word-is, thrown-word}
+use Rattle.sheet.proofs.Led.{here, led, led-answer}
+use Rattle.sheet.proofs.AnswerSteps.{Right, refused, answered}
+use Rattle.sheet.proofs.AnswerWords as Words
+use Rattle.sheet.proofs.AnswerWords.{Worded}
 
 -- ---- no Step: of a call that is no instruction, and of a number that changes nothing
 
-isNone : Option Step → Bool
-isNone none = true
-isNone (some s) = false
+none-is : (a : Answer) → bare a ≡ true → stepOf a ≡ none
+none-is a h = go (stepOf a) h
+  where
+    go : (s : Option Step) → isNone s ≡ true → s ≡ none
+    go none h = refl
+    go (some s) h = absurd (false≢true h)
 
-none-is : (s : Option Step) → isNone s ≡ true → s ≡ none
-unfolding isNone
-none-is none h = refl
-none-is (some s) h = absurd (false≢true h)
-
-abbrev bare : Answer → Bool
-bare a = isNone (stepOf a)
-
-search-bare : (fs : List Frame) (value f pc : ℕ) (w : World) → each (λ (l : Line Answer). bare (l .answer)) (Unwinding.search fs value f pc w) ≡ true
-unfolding isNone
-search-bare [] value f pc w = refl
-search-bare (x ∷ xs) value f pc w = search-bare xs value f pc (Unwinding.left x xs value w)
-
-finish-bare : (c : Cont) (f : Frame) (fs : List Frame) (k : ResultKind) (v : ℕ) (w : World) → all bare (finishBy c f fs k v w .tests) (finishBy c f fs k v w .done) ≡ true
-unfolding isNone
-finish-bare Cont.Entry f fs k v w = refl
-finish-bare (Cont.Write r) f fs k v w = refl
-finish-bare (Cont.Dyn r) f fs k v w = refl
-finish-bare (Cont.Value r) f fs k v w = refl
-finish-bare Cont.Discard f fs k v w = refl
-finish-bare Cont.Coro f fs k v w = refl
-
-finish-on-bare : (fs : List Frame) (k : ResultKind) (v : ℕ) (w : World) → all bare (finishOn fs k v w .tests) (finishOn fs k v w .done) ≡ true
-unfolding isNone
-finish-on-bare [] k v w = refl
-finish-on-bare (f ∷ fs) k v w = finish-bare (f .cont) f fs k v w
-
-unwind-bare : (e : Fault) (pc : OptPc) (w : World) → all bare (sheet (Op.Unwind e pc) w .tests) (sheet (Op.Unwind e pc) w .done) ≡ true
-unfolding isNone
-unwind-bare e pc w =
-    let n = Faults.numberOf e in
-    let z = Unwinding.given pc w in
-    ap (λ b. b && true)
-    (both (λ (ts : List (Line Answer)). each (λ (l : Line Answer). bare (l .answer)) ts ≡ true) (leb n 8) (search-bare (z .frames) (newWord z) _ _ (Unwinding.errorStored n z)) (search-bare (z .frames) (Faults.wordOf e) _ _ z))
-
--- what the lines of a call are
-abbrev fit : Bool → Answer → Bool
-fit i a = pick i (bare a || not (among (numberOf a) (11 ∷ 12 ∷ 13 ∷ 15 ∷ 16 ∷ []))) (bare a)
-
-fits : (o : Op) (w : World) → all (fit (isInstruction o)) (sheet o w .tests) (sheet o w .done) ≡ true
-unfolding pick isNone
-fits (Op.CoroNew pc dst f argc) w = refl
-fits (Op.CoroNewIndirect pc dst c argc) w = refl
-fits (Op.Spawn pc dst c argc) w = refl
-fits (Op.Yield pc dst src) w = refl
-fits (Op.YieldKv pc dst src key) w = refl
-fits (Op.Await pc dst src) w = refl
-fits (Op.Resume pc dst c src) w = refl
-fits (Op.ResumeThrow pc dst c src) w = refl
-fits (Op.CoroClose pc dst c src) w = refl
-fits (Op.CoroStatus pc dst c) w = refl
-fits (Op.CoroCurrent pc dst) w = refl
-fits (Op.CoroKey pc dst c) w = refl
-fits (Op.CoroResult pc dst c) w = refl
-fits (Op.IterNext pc has iter val src) w = refl
-fits (Op.Finish kind v) w = finish-on-bare (w .frames) kind v w
-fits (Op.Unwind f pc) w = unwind-bare f pc w
-fits (Op.SpawnTask v) w = refl
-fits (Op.HostCall f) w = refl
-fits (Op.HostEntry c v) w = refl
-fits (Op.FunctionCall pc f cont) w = refl
-fits (Op.PutWord r v) w = refl
-fits (Op.MakeIterator v) w = refl
-fits Op.TakeOutcome w = refl
-fits (Op.HandOver v) w = refl
-fits (Op.Grant n) w = refl
-fits Op.StopRun w = refl
-fits Op.Look w = refl
+bare-by : (b c : Bool) → b || c ≡ true → c ≡ false → b ≡ true
+bare-by true c h k = refl
+bare-by false c h k = absurd (false≢true (sym k ∙ h))
 
 answer-is : (w : World) (o : Operation) → step w (Do o) .answer ≡ leads (sheet (o .op) w) .answer
 answer-is w o = ap (λ (a : After Answer). a .answer) (leads-to w o)
@@ -129,20 +63,15 @@ module _ (w : World) (o : Operation) where
   a = step w (Do o) .answer
 
   fitting : fit (isInstruction (o .op)) a ≡ true
-  fitting = ap (λ a. fit (isInstruction (o .op)) a) (answer-is w o) ∙ led-answer (fit (isInstruction (o .op))) (sheet (o .op) w .tests) (sheet (o .op) w .done) (fits (o .op) w)
+  fitting =
+      ap (λ a. fit (isInstruction (o .op)) a) (answer-is w o)
+      ∙ led-answer (fit (isInstruction (o .op))) (sheet (o .op) w .tests) (sheet (o .op) w .done) (and-right (tell (tableOf (o .op) w)) _ (holds (o .op) .right w))
 
   no-instruction : isInstruction (o .op) ≡ false → stepOf a ≡ none
-  unfolding pick
-  no-instruction e = none-is (stepOf a) (ap (λ i. fit i a) (sym e) ∙ fitting)
+  no-instruction e = none-is a (bare-by (bare a) _ fitting (ap (λ i. i && not (among (numberOf a) unchanging)) e))
 
-  no-step-by : among (numberOf a) (11 ∷ 12 ∷ 13 ∷ 15 ∷ 16 ∷ []) ≡ true → stepOf a ≡ none
-  unfolding pick
-  no-step-by k = none-is (stepOf a) (go (isInstruction (o .op)) (bare a) (among (numberOf a) (11 ∷ 12 ∷ 13 ∷ 15 ∷ 16 ∷ [])) fitting k)
-    where
-      go : (i b n : Bool) → pick i (b || not n) b ≡ true → n ≡ true → b ≡ true
-      go true true n h k = refl
-      go true false n h k = absurd (false≢true (ap not (sym k) ∙ h))
-      go false b n h k = h
+  no-step-by : among (numberOf a) unchanging ≡ true → stepOf a ≡ none
+  no-step-by k = none-is a (bare-by (bare a) _ fitting (ap (λ n. isInstruction (o .op) && not n) k ∙ and-false (isInstruction (o .op))))
 
 no-step-of : (w : World) (c : Call) → among (numberOf (step w c .answer)) (11 ∷ 12 ∷ 13 ∷ 15 ∷ 16 ∷ []) ≡ true → stepOf (step w c .answer) ≡ none
 no-step-of w (SetUp s) h = set-up-has (λ a. stepOf (a .answer) ≡ none) w s (λ _. refl) (λ _. refl)
@@ -209,16 +138,25 @@ iterator-made w v t h =
     ∙ by-test (λ (a : After Answer). eqb (numberOf (a .answer)) 0 ≡ true → found (a .world) (wordOf (a .answer)) ≡ Object.Iter v false Opt.None) (not (sound w)) (λ _ e. absurd (false≢true e)) (λ s. made-is w v (not-false (sound w) s))
     (ap (λ a. eqb (numberOf a) 0) (sym (answer-is w (operation (Op.MakeIterator v) t))) ∙ ap (λ n. eqb n 0) h)
 
+-- ---- 11 first
+
+worded : (m n : ℕ) (w : World) (o : Operation) → eqb 11 m ≡ false → Worded m n (leads (tableOf (o .op) w)) → number w o ≡ m → wordOf (step w (Do o) .answer) ≡ n
+worded m n w o e h k =
+    subst (λ a. Worded m n a) (sym (leads-to w o)) (both (λ a. Worded m n a) (not (sound w)) (Words.no e refl) h) .is (eq-eqb (number w o) m k)
+
+step-is : (w : World) (o : Operation) → isInstruction (o .op) ≡ true → Right w (after (step w (Do o) .world) (step w (Do o) .answer))
+step-is w o i = subst (λ a. Right w a) (sym (leads-to w o)) (both (λ a. Right w a) (not (sound w)) (refused w refl) (answered (o .op) .steps w i))
+
 pub answers : Answers
 answers =
     record {
-      word = word-is;
+      word = λ w o. worded 0 (wordFor (o .op) w) w o refl (answered (o .op) .words w);
       set-up-word = λ w s. set-up-has (λ a. wordOf (a .answer) ≡ 0) w s (λ _. refl) (λ _. refl);
       iterator = iterator-made;
-      thrown-word = thrown-word;
+      thrown-word = λ w o. worded 17 (thrownFor (o .op) w) w o refl (answered (o .op) .thrown w);
       no-step = no-step-of;
       no-instruction = no-instruction;
-      step-is = step-is;
+      step-is = λ w o i. step-is w o i .is;
       look = λ w t f fs s e. look-sees w (operation Op.Look t) refl ∙ (here (sound w) [] s ∙ ap (λ (g : List Frame). Others.registers g (w .stack)) e);
       look-empty = λ w t e. look-sees w (operation Op.Look t) refl ∙ (ap (λ (g : List Frame). pick (sound w) (Others.registers g (w .stack)) []) e ∙ both (λ (l : List ℕ). l ≡ []) (sound w) refl refl);
       no-look = sees-nothing;

@@ -17,20 +17,15 @@ use Rattle.model.specs.declared.exec.Step.{Step}
 use Rattle.model.specs.declared.call.Op.{Op}
 use Rattle.model.specs.declared.call.Answer.{Answer}
 use Rattle.sheet.specs.Lines.{Line, Lines, leadsFrom, leads, refuse}
-use Rattle.sheet.specs.Words.{lies}
 use Rattle.sheet.specs.Moves.{pcStored}
 use Rattle.sheet.specs.Charging.{usedUp, searches, starts, closable, from, taken, charged, lost, asAnswer, instruction}
-use Rattle.sheet.specs.Makings as Makings
-use Rattle.sheet.specs.Instructions as Asked
-use Rattle.sheet.specs.Yields as Yields
-use Rattle.sheet.specs.Sheet.{lie, windowLies, tableOf, sheet}
+use Rattle.sheet.specs.Sheet.{tableOf, sheet}
 use Rattle.sheet.specs.Answers.{isInstruction}
 use Rattle.sheet.specs.Queue.{Queue}
 use Rattle.sheet.proofs.Among.{and-left, and-right, not-true, not-false}
 use Rattle.sheet.proofs.Choice.{both, by-test}
-use Rattle.sheet.proofs.Sheet.{leads-to}
+use Rattle.sheet.proofs.Sheet.{holds, leads-to}
 use Rattle.sheet.proofs.Led.{here, Every, led}
-use Rattle.sheet.proofs.Walk as Walk
 use Rattle.sheet.proofs.Walk.{EveryLine, Own, Owns}
 
 -- ---- the search
@@ -106,40 +101,6 @@ module _ (pc : ℕ) (w : World) where
           let l : lost pc w ≡ taken z q = here (searches w) 0 (and-left (searches w) _ h) in
           omega (arith, e, l)
 
--- ---- by instruction
-
-abbrev At : World → Op → Type 0
-At w o = length (w .finalize) ≡ takenOff (leads (sheet o w) .answer) + length (leads (sheet o w) .world .finalize)
-
-loss-by : (o : Op) (w : World) → isInstruction o ≡ true → At w o
-loss-by (Op.CoroNew pc dst f argc) w i = loses pc w (lies w dst && windowLies dst argc w && Makings.isFunction w f) (Makings.coroNew dst f argc) (Walk.new-owns (charged pc w) dst f argc)
-loss-by (Op.CoroNewIndirect pc dst c argc) w i = loses pc w (lie (dst ∷ c ∷ []) w && windowLies dst argc w) (Makings.coroNewIndirect dst c argc) (Walk.new-indirect-owns (charged pc w) dst c argc)
-loss-by (Op.Spawn pc dst c argc) w i = loses pc w (lie (dst ∷ c ∷ []) w && windowLies dst argc w) (Makings.spawn pc dst c argc) (Walk.spawn-owns (charged pc w) pc dst c argc)
-loss-by (Op.Yield pc dst src) w i = loses pc w (lie (dst ∷ src ∷ []) w) (Yields.yield pc dst src) (Walk.yield-owns (charged pc w) pc dst src)
-loss-by (Op.YieldKv pc dst src key) w i = loses pc w (lie (dst ∷ src ∷ key ∷ []) w) (Yields.yieldKv pc dst src key) (Walk.yield-kv-owns (charged pc w) pc dst src key)
-loss-by (Op.Await pc dst src) w i = loses pc w (lie (dst ∷ src ∷ []) w) (Yields.await pc dst src) (Walk.await-owns (charged pc w) pc dst src)
-loss-by (Op.Resume pc dst c src) w i = loses pc w (lie (dst ∷ c ∷ src ∷ []) w) (Asked.resume pc dst c src) (Walk.resume-owns (charged pc w) pc dst c src)
-loss-by (Op.ResumeThrow pc dst c src) w i = loses pc w (lie (dst ∷ c ∷ src ∷ []) w) (Asked.resumeThrow pc dst c src) (Walk.throw-owns (charged pc w) pc dst c src)
-loss-by (Op.CoroClose pc dst c src) w i = loses pc w (lie (dst ∷ c ∷ src ∷ []) w) (Asked.coroClose pc dst c src) (Walk.close-owns (charged pc w) pc dst c src)
-loss-by (Op.CoroStatus pc dst c) w i = loses pc w (lie (dst ∷ c ∷ []) w) (Asked.coroStatus dst c) (Walk.status-owns (charged pc w) dst c)
-loss-by (Op.CoroCurrent pc dst) w i = loses pc w (lie (dst ∷ []) w) (Asked.coroCurrent dst) (Walk.current-owns (charged pc w) dst)
-loss-by (Op.CoroKey pc dst c) w i = loses pc w (lie (dst ∷ c ∷ []) w) (Asked.coroKey dst c) (Walk.key-owns (charged pc w) dst c)
-loss-by (Op.CoroResult pc dst c) w i = loses pc w (lie (dst ∷ c ∷ []) w) (Asked.coroResult dst c) (Walk.result-owns (charged pc w) dst c)
-loss-by (Op.IterNext pc has iter val src) w i = loses pc w (lie (has ∷ iter ∷ val ∷ src ∷ []) w) (Asked.iterNext pc has iter val src) (Walk.next-owns (charged pc w) pc has iter val src)
-loss-by (Op.Finish kind v) w i = absurd (false≢true i)
-loss-by (Op.Unwind f pc) w i = absurd (false≢true i)
-loss-by (Op.SpawnTask v) w i = absurd (false≢true i)
-loss-by (Op.HostCall f) w i = absurd (false≢true i)
-loss-by (Op.HostEntry c v) w i = absurd (false≢true i)
-loss-by (Op.FunctionCall pc f cont) w i = absurd (false≢true i)
-loss-by (Op.PutWord r v) w i = absurd (false≢true i)
-loss-by (Op.MakeIterator v) w i = absurd (false≢true i)
-loss-by Op.TakeOutcome w i = absurd (false≢true i)
-loss-by (Op.HandOver v) w i = absurd (false≢true i)
-loss-by (Op.Grant n) w i = absurd (false≢true i)
-loss-by Op.StopRun w i = absurd (false≢true i)
-loss-by Op.Look w i = absurd (false≢true i)
-
 -- ---- the count
 
 own-count : (n : ℕ) (ts : List (Line Step)) (d : Line Step) → takenOff (leadsFrom (map (asAnswer n) ts) (asAnswer n d) .answer) ≡ n
@@ -163,5 +124,11 @@ count-by w o pc ok own e =
     ∙ counted (sound w) (isNil (w .frames)) ok (usedUp w) (searches w) (taken (pcStored pc w) (w .finalize)) _ _ _ _ _ refl refl refl refl
     (both (λ (a : After Answer). takenOff (a .answer) ≡ lost pc w) (starts pc w) refl (own-count (lost pc w) (own (charged pc w) .tests) (own (charged pc w) .done))))
 
+loss-by : (w : World) (o : Op) → isInstruction o ≡ true → let a = leads (sheet o w) in length (w .finalize) ≡ takenOff (a .answer) + length (a .world .finalize)
+loss-by w o i =
+    let h = holds o .instructs i in
+    subst (λ (s : Lines Answer). Loses (h .pc) w (leadsFrom (refuse 11 (not (sound w)) w ∷ s .tests) (s .done))) (sym (h .is w))
+    (loses (h .pc) w (h .operands w) (h .own) (h .owns (charged (h .pc) w)))
+
 pub queue : Queue
-queue = record { loss = λ w o i. subst (λ (a : After Answer). length (w .finalize) ≡ takenOff (a .answer) + length (a .world .finalize)) (sym (leads-to w o)) (loss-by (o .op) w i); count = count-by }
+queue = record { loss = λ w o i. subst (λ (a : After Answer). length (w .finalize) ≡ takenOff (a .answer) + length (a .world .finalize)) (sym (leads-to w o)) (loss-by w (o .op) i); count = count-by }

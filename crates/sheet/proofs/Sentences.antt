@@ -1,6 +1,6 @@
 -- 01's sentences about all answers, from the table.
 use Prim.Native.Nat.{ℕ, suc, _≤_}
-use mathlib.Core.Path.{_≡_, refl, sym, ap, subst, _∙_}
+use mathlib.Core.Path.{_≡_, refl, sym, ap, _∙_}
 use mathlib.Core.Bool.{Bool, true, false, not, _&&_, _||_, true≢false, false≢true}
 use mathlib.Core.List.{List, [], _∷_}
 use native.Mathlib.Omega.{arith}
@@ -11,7 +11,6 @@ use Rattle.lists.specs.Pick.{pick}
 use Rattle.heap.specs.Fault as Faults
 use Rattle.heap.specs.Table.{Slot}
 use Rattle.heap.specs.declared.fault.Fault.{Fault}
-use Rattle.heap.specs.declared.heap.ResultKind.{ResultKind}
 use Rattle.model.specs.Lists.{among}
 use Rattle.model.specs.Program.{Func, Setup, setupOk}
 use Rattle.model.specs.Object.{Object}
@@ -20,28 +19,24 @@ use Rattle.model.specs.Sound.{sizesOk, sound}
 use Rattle.model.specs.Answer.{numberOf, wordOf}
 use Rattle.model.specs.Call.{Call, SetUp, Do, Operation}
 use Rattle.model.specs.Step.{step, run}
-use Rattle.model.specs.declared.machine.Cont.{Cont}
 use Rattle.model.specs.declared.machine.Frame.{Frame}
 use Rattle.model.specs.declared.exec.Step.{Step}
 use Rattle.model.specs.declared.call.Op.{Op}
 use Rattle.model.specs.declared.call.Answer.{Answer}
-use Rattle.sheet.specs.Lines.{Line, leads, saysFrom, refuse}
+use Rattle.sheet.specs.Lines.{Line, leads, saysFrom, says}
 use Rattle.sheet.specs.Does.{number}
 use Rattle.sheet.specs.Words.{isNothing, noSlot}
-use Rattle.sheet.specs.Makings.{noRow, newWord}
-use Rattle.sheet.specs.Endings.{finishBy, finishOn}
-use Rattle.sheet.specs.Unwinding as Unwinding
+use Rattle.sheet.specs.Makings.{noRow}
 use Rattle.sheet.specs.Sheet.{tableOf, sheet}
-use Rattle.sheet.specs.Sentences.{givesFrom, gives, Behind9, FullAfter9, takenOf, everySlot, unchanging, Sentences}
+use Rattle.sheet.specs.Sentences.{givesFrom, gives, takenOf, everySlot, unchanging, Sentences}
 use Rattle.sheet.proofs.Among.{and-left, and-right, same}
-use Rattle.sheet.proofs.Choice.{both}
 use Rattle.sheet.proofs.Rules.{sizes}
-use Rattle.sheet.proofs.Sheet.{leads-to}
+use Rattle.sheet.proofs.Sheet.{holds, leads-to}
 use Rattle.sheet.proofs.SheetNumbers.{says-number, set-up-has}
 use Rattle.sheet.proofs.Led.{here, past}
 use Rattle.sheet.proofs.Kept.{filled}
-use Rattle.sheet.proofs.Walk.{none}
-use Rattle.sheet.proofs.WalkCalls.{fact}
+use Rattle.sheet.proofs.Walk.{by-stop, none}
+use Rattle.sheet.proofs.WalkCalls.{Fact, no}
 
 -- ---- "given exactly if"
 
@@ -59,6 +54,10 @@ gives-from n [] d = refl
 gives-from n (t ∷ ts) d = gives-one (t .stops) (t .number) n (saysFrom ts d) (givesFrom n ts d) (gives-from n ts d)
 
 -- ---- what changes nothing; slots
+
+-- 11 first
+fact : (w : World) (o : Op) → Fact w (says (sheet o w)) (leads (sheet o w) .world)
+fact w o = by-stop (λ m x. Fact w m x) (not (sound w)) _ _ _ _ (no w refl) (λ _. holds o .fact w)
 
 done-is : (w : World) (o : Operation) → step w (Do o) .world ≡ leads (sheet (o .op) w) .world
 done-is w o = ap (λ (a : After Answer). a .world) (leads-to w o)
@@ -135,76 +134,6 @@ full-by v o f h =
     ap (λ b. b || noRow v) (sym (slots-exact v f (sound-by v o h)))
     ∙ fact v (o .op) .lack (ap (λ n. eqb n 14) (sym (says-number v o) ∙ h))
 
--- ---- 14 behind 9
-
-no : {A : Type 0} → false ≡ true → A
-no h = absurd (false≢true h)
-
-nine-ten : {A : Type 0} (n : ℕ) → eqb n 14 && (eqb n 9 || eqb n 10) ≡ true → A
-nine-ten n h = no (subst (λ m. eqb m 9 || eqb m 10 ≡ true) (same n 14 (and-left (eqb n 14) _ h)) (and-right (eqb n 14) _ h))
-
-search-14 : (l : Line Answer) (fs : List Frame) (value f pc : ℕ) (w : World) → Behind9 l (Unwinding.search fs value f pc w)
-search-14 l [] value f pc w = (no, tt)
-search-14 l (x ∷ xs) value f pc w = (no, (no, (no, (no, (no, search-14 _ xs value f pc (Unwinding.left x xs value w))))))
-
-finish-14 : (c : Cont) (f : Frame) (fs : List Frame) (k : ResultKind) (v : ℕ) (w : World) (l : Line Answer) → Behind9 l (finishBy c f fs k v w .tests)
-finish-14 Cont.Entry f fs k v w l = tt
-finish-14 (Cont.Write r) f fs k v w l = tt
-finish-14 (Cont.Dyn r) f fs k v w l = (no, (no, (λ _. (refl, refl), tt)))
-finish-14 (Cont.Value r) f fs k v w l = tt
-finish-14 Cont.Discard f fs k v w l = tt
-finish-14 Cont.Coro f fs k v w l = (no, (no, (λ _. (refl, refl), tt)))
-
-finish-on-14 : (fs : List Frame) (k : ResultKind) (v : ℕ) (w : World) (l : Line Answer) → Behind9 l (finishOn fs k v w .tests)
-finish-on-14 [] k v w l = tt
-finish-on-14 (f ∷ fs) k v w l = finish-14 (f .cont) f fs k v w l
-
-behind-9 : (o : Op) (w : World) → FullAfter9 (sheet o w .tests)
-behind-9 (Op.CoroNew pc dst f argc) w = (refl, (no, (no, (no, (no, (no, (λ _. (refl, refl), (no, tt))))))))
-behind-9 (Op.CoroNewIndirect pc dst c argc) w = (refl, (no, (no, (no, (no, (no, (no, (no, (no, (no, (λ _. (refl, refl), (no, tt))))))))))))
-behind-9 (Op.Spawn pc dst c argc) w = (refl, (no, (no, (no, (no, (no, (no, (no, (no, (no, (no, (λ _. (refl, refl), (no, (no, (no, tt)))))))))))))))
-behind-9 (Op.Yield pc dst src) w = (refl, (no, (no, (no, (no, (no, (no, (no, (λ _. (refl, refl), (no, (no, tt)))))))))))
-behind-9 (Op.YieldKv pc dst src key) w = (refl, (no, (no, (no, (no, (no, (no, (no, tt))))))))
-behind-9 (Op.Await pc dst src) w = (refl, (no, (no, (no, (no, (no, (no, (no, tt))))))))
-behind-9 (Op.Resume pc dst c src) w = (refl, (no, (no, (no, (no, (no, (no, (no, (no, tt)))))))))
-behind-9 (Op.ResumeThrow pc dst c src) w = (refl, (no, (no, (no, (no, (no, (no, (no, (no, (no, tt))))))))))
-behind-9 (Op.CoroClose pc dst c src) w = (refl, (no, (no, (no, (no, (no, (no, (no, (no, (no, (no, tt)))))))))))
-behind-9 (Op.CoroStatus pc dst c) w = (refl, (no, (no, (no, (no, (no, (no, tt)))))))
-behind-9 (Op.CoroCurrent pc dst) w = (refl, (no, (no, (no, (no, tt)))))
-behind-9 (Op.CoroKey pc dst c) w = (refl, (no, (no, (no, (no, (no, (no, tt)))))))
-behind-9 (Op.CoroResult pc dst c) w = (refl, (no, (no, (no, (no, (no, (no, (no, tt))))))))
-behind-9 (Op.IterNext pc has iter val src) w = (refl, (no, (no, (no, (no, (no, (no, (no, (no, (no, (no, tt)))))))))))
-behind-9 (Op.Finish kind v) w = (refl, finish-on-14 (w .frames) kind v w _)
-behind-9 (Op.Unwind f pc) w =
-    let n = Faults.numberOf f in
-    let z = Unwinding.given pc w in (
-      refl,
-      (
-        no,
-        (
-          nine-ten n,
-          (
-            no,
-            (
-              λ _. (refl, refl),
-              both (λ (ts : List (Line Answer)). Behind9 (refuse 14 (leb n 8 && noSlot z) z) ts) (leb n 8) (search-14 _ (z .frames) (newWord z) _ _ (Unwinding.errorStored n z)) (search-14 _ (z .frames) (Faults.wordOf f) _ _ z),
-            ),
-          ),
-        ),
-      ),
-    )
-behind-9 (Op.SpawnTask v) w = (refl, (no, tt))
-behind-9 (Op.HostCall f) w = (refl, (no, (no, (no, tt))))
-behind-9 (Op.HostEntry c v) w = (refl, (no, (no, (no, (no, (no, tt))))))
-behind-9 (Op.FunctionCall pc f cont) w = (refl, (no, (no, (no, tt))))
-behind-9 (Op.PutWord r v) w = (refl, (no, (no, tt)))
-behind-9 (Op.MakeIterator v) w = (refl, (no, (no, (no, (λ _. (refl, refl), tt)))))
-behind-9 Op.TakeOutcome w = (refl, tt)
-behind-9 (Op.HandOver v) w = (refl, (no, (no, (no, tt))))
-behind-9 (Op.Grant n) w = (refl, (no, tt))
-behind-9 Op.StopRun w = (refl, tt)
-behind-9 Op.Look w = (refl, tt)
-
 -- ---- words of refusals
 
 pub fault-word : (f : Fault) → eqb (Faults.numberOf f) 17 ≡ false → Faults.wordOf f ≡ 0
@@ -256,7 +185,7 @@ sentences =
       given-set-up = λ w s. set-up-has (λ a. numberOf (a .answer) ≡ pick (not (setupOk s)) 11 0) w s (λ e. sym (here (not (setupOk s)) 0 (ap not e))) (λ e. sym (past (not (setupOk s)) 11 (ap not e) refl));
       unchanged = stays;
       set-up-stays = λ w o. ap (λ (x : World). x .setup) (done-is w o) ∙ fact w (o .op) .stays .setup;
-      full-after-9 = λ w o. behind-9 (o .op) w;
+      full-after-9 = λ w o. (refl, holds (o .op) .full w _);
       slots-taken = λ w s cs h k. slots-exact (run w (SetUp s ∷ cs)) (reached-filled w s cs h) k;
       full = λ w s cs o h k. full-by (run w (SetUp s ∷ cs)) o (reached-filled w s cs h) k;
       refused-word = λ w c h. zero-word (step w c .answer) h;

@@ -1,4 +1,4 @@
--- The sheet: every call leads to the first line that stops it.
+-- The sheet: what holds of each call and its lines; every call leads to the first line that stops it.
 use Prim.Native.Nat.{ℕ, _+_, _^_}
 use mathlib.Core.Path.{_≡_, refl, sym, ap, subst, _∙_}
 use mathlib.Core.Bool.{Bool, true, false, not, _&&_, true≢false}
@@ -9,6 +9,7 @@ use borrow.Author.Tests.{ltb-true}
 use Rattle.lists.specs.Pick.{pick, pick-false}
 use Rattle.heap.specs.Fault as Faults
 use Rattle.heap.specs.declared.fault.Fault.{Fault}
+use Rattle.heap.specs.declared.value.Opt.{Opt}
 use Rattle.model.specs.Lists.{isNil, each}
 use Rattle.model.specs.Program as Program
 use Rattle.model.specs.Object.{Object, asCoro}
@@ -20,20 +21,24 @@ use Rattle.model.specs.Gate as Gate
 use Rattle.model.specs.Gate.{inFrame, allIn, windowIn, answerOf, stepped}
 use Rattle.model.specs.declared.machine.Active.{Active}
 use Rattle.model.specs.declared.machine.Charge.{Charge}
+use Rattle.model.specs.declared.machine.Driver.{Driver}
 use Rattle.model.specs.declared.exec.Step.{Step}
 use Rattle.model.specs.declared.call.OptPc.{OptPc}
 use Rattle.model.specs.Call.{Operation, Do, typed}
-use Rattle.model.specs.Step.{Out, told, call, tested, step}
+use Rattle.model.specs.Calls.{Row, Instruction, table}
+use Rattle.model.specs.Step.{Out, told, doing, call, tested, step}
 use Rattle.model.specs.declared.call.Op.{Op}
 use Rattle.model.specs.declared.call.Answer.{Answer}
-use Rattle.sheet.specs.Lines.{Line, Lines, leadsFrom, leads}
-use Rattle.sheet.specs.Words.{lies, found, isCoroutine}
+use Rattle.sheet.specs.Lines.{Line, Lines, leadsFrom, leads, says}
+use Rattle.sheet.specs.Words.{lies, found, coreOf, restOf, state, isCoroutine}
 use Rattle.sheet.specs.Suspending.{running}
 use Rattle.sheet.specs.Charging.{usedUp, bankBack, starts, cleanup, charged, lost, asAnswer, instruction}
-use Rattle.sheet.specs.Instructions as Instructions
+use Rattle.sheet.specs.Instructions as Asked
 use Rattle.sheet.specs.Makings as Makings
 use Rattle.sheet.specs.Yields as Yields
 use Rattle.sheet.specs.Sheet.{lie, windowLies, tableOf, sheet}
+use Rattle.sheet.specs.Answers.{isInstruction}
+use Rattle.sheet.specs.Sentences.{Behind9}
 use Rattle.sheet.proofs.Among.{same, and-left, and-right, not-true}
 use Rattle.sheet.proofs.Choice.{both}
 use Rattle.sheet.proofs.Floors.{not-stuck}
@@ -49,6 +54,9 @@ use Rattle.sheet.proofs.Unwinding.{unwind-is}
 use Rattle.sheet.proofs.Charging.{charge-is}
 use Rattle.sheet.proofs.Suspending.{Sane, sane-stored}
 use Rattle.sheet.proofs.OtherCalls.{spawn-task-is, host-call-is, host-entry-is, function-call-is, put-word-is, make-iterator-is, take-outcome-is, hand-over-is, grant-is, stop-run-is}
+use Rattle.sheet.proofs.Kept.{stays, same-world, set-filled, adds, enters-kept, gives-kept, stops-kept}
+use Rattle.sheet.proofs.Walk.{Owns, new-owns, new-indirect-owns, spawn-owns, yield-owns, yield-kv-owns, await-owns, resume-owns, throw-owns, close-owns, status-owns, current-owns, key-owns, result-owns, next-owns}
+use Rattle.sheet.proofs.WalkCalls.{Fact, instruction-facts, Facts, no, to, is14, finish-on, unwind-fact, by, granted-facts, task-facts, rights, finish-on-right, unwind-right, never, no-14, finish-on-14, unwind-14}
 
 -- ---- what a sound machine has
 
@@ -149,41 +157,126 @@ window-is rs dst argc w = ap (λ b. each (λ r. ltb (b + r) (length (w .stack)))
 new-is : (dst f argc : ℕ) (w : World) → inFrame w dst && windowIn w dst argc && Program.isFunction (w .setup) f ≡ lies w dst && windowLies dst argc w && Makings.isFunction w f
 new-is dst f argc w = ap (λ b. ltb (b + dst) (length (w .stack)) && leb (b + dst + 1 + argc) (length (w .stack)) && Makings.isFunction w f) (base-is (w .frames))
 
--- ---- every call on a sound machine
+-- ---- what holds of a call o, which does what the row r says, has the lines s, and is an instruction or not
 
 abbrev done-by : Out → After Answer
 done-by x = after (x .world) (x .answer)
 
-call-is : (o : Op) (w : World) → typed o ≡ true → sound w ≡ true → done-by (call o w) ≡ leads (tableOf o w)
-unfolding call typed
-call-is (Op.CoroNew pc dst f argc) w t h = instruction-is pc _ _ _ (Makings.coroNew dst f argc) w h (new-is dst f argc w) (λ u _ _. coro-new-is dst f argc u) (λ u. refl)
-call-is (Op.CoroNewIndirect pc dst c argc) w t h = instruction-is pc _ _ _ (Makings.coroNewIndirect dst c argc) w h (window-is (dst ∷ c ∷ []) dst argc w) (λ u _ _. coro-new-indirect-is dst c argc u) (λ u. refl)
-call-is (Op.Spawn pc dst c argc) w t h = instruction-is pc _ _ _ (Makings.spawn pc dst c argc) w h (window-is (dst ∷ c ∷ []) dst argc w) (λ u _ _. spawn-is pc dst c argc u) (λ u. refl)
-call-is (Op.Yield pc dst src) w t h = instruction-is pc _ _ _ (Yields.yield pc dst src) w h (lie-is (dst ∷ src ∷ []) w) (λ u _ s. yield-is pc dst src u s) (λ u. refl)
-call-is (Op.YieldKv pc dst src key) w t h = instruction-is pc _ _ _ (Yields.yieldKv pc dst src key) w h (lie-is (dst ∷ src ∷ key ∷ []) w) (λ u _ s. yield-kv-is pc dst src key u s) (λ u. refl)
-call-is (Op.Await pc dst src) w t h = instruction-is pc _ _ _ (Yields.await pc dst src) w h (lie-is (dst ∷ src ∷ []) w) (λ u _ s. await-is pc dst src u s) (λ u. refl)
-call-is (Op.Resume pc dst c src) w t h = instruction-is pc _ _ _ (Instructions.resume pc dst c src) w h (lie-is (dst ∷ c ∷ src ∷ []) w) (λ u s _. resume-is pc dst c src u s) (λ u. refl)
-call-is (Op.ResumeThrow pc dst c src) w t h = instruction-is pc _ _ _ (Instructions.resumeThrow pc dst c src) w h (lie-is (dst ∷ c ∷ src ∷ []) w) (λ u s _. resume-throw-is pc dst c src u s) (λ u. refl)
-call-is (Op.CoroClose pc dst c src) w t h = instruction-is pc _ _ _ (Instructions.coroClose pc dst c src) w h (lie-is (dst ∷ c ∷ src ∷ []) w) (λ u s _. coro-close-is pc dst c src u s) (λ u. refl)
-call-is (Op.CoroStatus pc dst c) w t h = instruction-is pc _ _ _ (Instructions.coroStatus dst c) w h (lie-is (dst ∷ c ∷ []) w) (λ u _ _. coro-status-is dst c u) (λ u. refl)
-call-is (Op.CoroCurrent pc dst) w t h = instruction-is pc _ _ _ (Instructions.coroCurrent dst) w h (lie-is (dst ∷ []) w) (λ u _ _. coro-current-is dst u) (λ u. refl)
-call-is (Op.CoroKey pc dst c) w t h = instruction-is pc _ _ _ (Instructions.coroKey dst c) w h (lie-is (dst ∷ c ∷ []) w) (λ u _ _. coro-key-is dst c u) (λ u. refl)
-call-is (Op.CoroResult pc dst c) w t h = instruction-is pc _ _ _ (Instructions.coroResult dst c) w h (lie-is (dst ∷ c ∷ []) w) (λ u _ _. coro-result-is dst c u) (λ u. refl)
-call-is (Op.IterNext pc has iter val src) w t h =
-    instruction-is pc _ _ _ (Instructions.iterNext pc has iter val src) w h (lie-is (has ∷ iter ∷ val ∷ src ∷ []) w) (λ u s _. iter-next-is pc has iter val src u s) (λ u. refl)
-call-is (Op.Finish kind v) w t h = finish-is kind v w (ltb-true v (2 ^ 64) t)
-call-is (Op.Unwind f pc) w t h = unwind-is f pc w
-call-is (Op.SpawnTask v) w t h = spawn-task-is v w
-call-is (Op.HostCall f) w t h = host-call-is f w
-call-is (Op.HostEntry c v) w t h = host-entry-is c v w (sound-saved w h)
-call-is (Op.FunctionCall pc f cont) w t h = function-call-is pc f cont w
-call-is (Op.PutWord r v) w t h = put-word-is r v w
-call-is (Op.MakeIterator v) w t h = make-iterator-is v w
-call-is Op.TakeOutcome w t h = take-outcome-is w
-call-is (Op.HandOver v) w t h = hand-over-is v w
-call-is (Op.Grant n) w t h = grant-is n w
-call-is Op.StopRun w t h = stop-run-is w
-call-is Op.Look w t h = refl
+-- an instruction's lines
+abbrev pub behind : ℕ → (World → Bool) → (World → Lines Step) → World → Lines Answer
+behind pc operands own w = instruction pc (operands w) own w
+
+pub record Instructs (s : World → Lines Answer) : Type 0 where
+  pub pc : ℕ
+  pub operands : World → Bool
+  pub own : World → Lines Step
+  pub is : (w : World) → s w ≡ behind pc operands own w
+  pub owns : (u : World) → Owns u (own u)
+
+pub record Holds (o : Op) (r : Row) (s : World → Lines Answer) (i : Bool) : Type 0 where
+  pub is : (w : World) → typed o ≡ true → sound w ≡ true → done-by (doing r w) ≡ leads (s w)
+  -- only a look sees
+  pub blind : (w : World) → (o ≡ Op.Look → ⊥) → doing r w .seen ≡ []
+  -- its lines: their numbers, 14 behind 9, and what the one that stops it leaves
+  pub right : (w : World) → rights i (s w) ≡ true
+  pub full : (w : World) (l : Line Answer) → Behind9 l (s w .tests)
+  pub fact : (w : World) → Fact w (says (s w)) (leads (s w) .world)
+  pub instructs : i ≡ true → Instructs s
+
+-- no line is 14
+abbrev plain : Bool → Lines Answer → Bool
+plain i s = rights i s && each (λ l. not (eqb (l .number) 14)) (s .tests)
+
+module _ {o : Op} {r : Row} {s : World → Lines Answer} (is : (w : World) → typed o ≡ true → sound w ≡ true → done-by (doing r w) ≡ leads (s w))
+    (blind : (w : World) → (o ≡ Op.Look → ⊥) → doing r w .seen ≡ []) where
+  other : ((w : World) → Fact w (says (s w)) (leads (s w) .world)) → ((w : World) → rights false (s w) ≡ true) → ((w : World) (l : Line Answer) → Behind9 l (s w .tests)) → Holds o r s false
+  other fact right full = record { is = is; blind = blind; right = right; full = full; fact = fact; instructs = never }
+
+  plainly : ((w : World) → Facts w (s w)) → ((w : World) → plain false (s w) ≡ true) → Holds o r s false
+  plainly facts h = other (λ w. by w (s w) (facts w)) (λ w. and-left (rights false (s w)) _ (h w)) (λ w l. no-14 l (s w .tests) (and-right (rights false (s w)) _ (h w)))
+
+module _ {o : Op} (pc : ℕ) {ok operands : World → Bool} {arm : World → After Step} (own : World → Lines Step) (passes : (w : World) → ok w ≡ operands w)
+    (does : (u : World) → Saved u → Sane u → arm u ≡ leads (own u)) (owns : (u : World) → Owns u (own u)) (wells : (u : World) → each well (own u .tests) && well (own u .done) ≡ true) where
+  instructing : ((w : World) → rights true (behind pc operands own w) ≡ true) → ((w : World) (l : Line Answer) → Behind9 l (behind pc operands own w .tests)) →
+      Holds o (Instruction pc ok arm) (behind pc operands own) true
+  instructing right full =
+      record {
+        is = λ w _ h. instruction-is pc (ok w) (operands w) arm own w h (passes w) does wells;
+        blind = λ w _. refl;
+        right = right;
+        full = full;
+        fact = λ w. by w (behind pc operands own w) (instruction-facts pc (operands w) own w (owns (charged pc w)));
+        instructs = λ _. record { pc = pc; operands = operands; own = own; is = λ w. refl; owns = owns };
+      }
+
+  steps : ((w : World) → plain true (behind pc operands own w) ≡ true) → Holds o (Instruction pc ok arm) (behind pc operands own) true
+  steps h = instructing (λ w. and-left (rights true (behind pc operands own w)) _ (h w)) (λ w l. no-14 l (behind pc operands own w .tests) (and-right (rights true (behind pc operands own w)) _ (h w)))
+
+  -- one that can answer 14
+  fills : ((w : World) → rights true (behind pc operands own w) ≡ true) → ((w : World) (l : Line Answer) → Behind9 l (map (asAnswer (lost pc w)) (own (charged pc w) .tests))) →
+      Holds o (Instruction pc ok arm) (behind pc operands own) true
+  fills right full = instructing right (λ w l. (never, (never, (never, (never, full w _)))))
+
+-- ---- THE TABLE: every call
+
+pub holds : (o : Op) → Holds o (table o) (λ w. tableOf o w) (isInstruction o)
+unfolding typed pick
+holds (Op.CoroNew pc dst f argc) =
+    fills pc (Makings.coroNew dst f argc) (new-is dst f argc) (λ u _ _. coro-new-is dst f argc u) (λ u. new-owns u dst f argc) (λ u. refl) (λ w. refl)
+    (λ w l. (never, (λ _. (refl, refl), (never, tt))))
+holds (Op.CoroNewIndirect pc dst c argc) =
+    fills pc (Makings.coroNewIndirect dst c argc) (window-is (dst ∷ c ∷ []) dst argc) (λ u _ _. coro-new-indirect-is dst c argc u) (λ u. new-indirect-owns u dst c argc) (λ u. refl) (λ w. refl)
+    (λ w l. (never, (never, (never, (never, (never, (λ _. (refl, refl), (never, tt))))))))
+holds (Op.Spawn pc dst c argc) =
+    fills pc (Makings.spawn pc dst c argc) (window-is (dst ∷ c ∷ []) dst argc) (λ u _ _. spawn-is pc dst c argc u) (λ u. spawn-owns u pc dst c argc) (λ u. refl) (λ w. refl)
+    (λ w l. (never, (never, (never, (never, (never, (never, (λ _. (refl, refl), (never, (never, (never, tt)))))))))))
+holds (Op.Yield pc dst src) =
+    fills pc (Yields.yield pc dst src) (lie-is (dst ∷ src ∷ [])) (λ u _ s. yield-is pc dst src u s) (λ u. yield-owns u pc dst src) (λ u. refl) (λ w. refl)
+    (λ w l. (never, (never, (never, (λ _. (refl, refl), (never, (never, tt)))))))
+holds (Op.YieldKv pc dst src key) =
+    steps pc (Yields.yieldKv pc dst src key) (lie-is (dst ∷ src ∷ key ∷ [])) (λ u _ s. yield-kv-is pc dst src key u s) (λ u. yield-kv-owns u pc dst src key) (λ u. refl) (λ w. refl)
+holds (Op.Await pc dst src) = steps pc (Yields.await pc dst src) (lie-is (dst ∷ src ∷ [])) (λ u _ s. await-is pc dst src u s) (λ u. await-owns u pc dst src) (λ u. refl) (λ w. refl)
+holds (Op.Resume pc dst c src) = steps pc (Asked.resume pc dst c src) (lie-is (dst ∷ c ∷ src ∷ [])) (λ u s _. resume-is pc dst c src u s) (λ u. resume-owns u pc dst c src) (λ u. refl) (λ w. refl)
+holds (Op.ResumeThrow pc dst c src) =
+    steps pc (Asked.resumeThrow pc dst c src) (lie-is (dst ∷ c ∷ src ∷ [])) (λ u s _. resume-throw-is pc dst c src u s) (λ u. throw-owns u pc dst c src) (λ u. refl) (λ w. refl)
+holds (Op.CoroClose pc dst c src) =
+    steps pc (Asked.coroClose pc dst c src) (lie-is (dst ∷ c ∷ src ∷ [])) (λ u s _. coro-close-is pc dst c src u s) (λ u. close-owns u pc dst c src) (λ u. refl) (λ w. refl)
+holds (Op.CoroStatus pc dst c) = steps pc (Asked.coroStatus dst c) (lie-is (dst ∷ c ∷ [])) (λ u _ _. coro-status-is dst c u) (λ u. status-owns u dst c) (λ u. refl) (λ w. refl)
+holds (Op.CoroCurrent pc dst) = steps pc (Asked.coroCurrent dst) (lie-is (dst ∷ [])) (λ u _ _. coro-current-is dst u) (λ u. current-owns u dst) (λ u. refl) (λ w. refl)
+holds (Op.CoroKey pc dst c) = steps pc (Asked.coroKey dst c) (lie-is (dst ∷ c ∷ [])) (λ u _ _. coro-key-is dst c u) (λ u. key-owns u dst c) (λ u. refl) (λ w. refl)
+holds (Op.CoroResult pc dst c) = steps pc (Asked.coroResult dst c) (lie-is (dst ∷ c ∷ [])) (λ u _ _. coro-result-is dst c u) (λ u. result-owns u dst c) (λ u. refl) (λ w. refl)
+holds (Op.IterNext pc has iter val src) =
+    steps pc (Asked.iterNext pc has iter val src) (lie-is (has ∷ iter ∷ val ∷ src ∷ [])) (λ u s _. iter-next-is pc has iter val src u s) (λ u. next-owns u pc has iter val src) (λ u. refl) (λ w. refl)
+holds (Op.Finish kind v) =
+    other (λ w t _. finish-is kind v w (ltb-true v (2 ^ 64) t)) (λ w _. refl) (λ w. by w (tableOf (Op.Finish kind v) w) (finish-on w (w .frames) kind v))
+    (λ w. finish-on-right (w .frames) kind v w) (λ w l. finish-on-14 (w .frames) kind v w l)
+holds (Op.Unwind f pc) = other (λ w _ _. unwind-is f pc w) (λ w _. refl) (unwind-fact f pc) (unwind-right f pc) (unwind-14 f pc)
+holds (Op.SpawnTask v) = plainly (λ w _ _. spawn-task-is v w) (λ w _. refl) (task-facts v) (λ w. refl)
+holds (Op.HostCall f) = plainly (λ w _ _. host-call-is f w) (λ w _. refl) (λ w. ((no w refl, (no w refl, (no w refl, tt))), to w _ (stays w) refl)) (λ w. refl)
+holds (Op.HostEntry c v) =
+    plainly (λ w _ h. host-entry-is c v w (sound-saved w h)) (λ w _. refl)
+    (λ w. (
+      (no w refl, (no w refl, (no w refl, (no w refl, (no w refl, tt))))),
+      to w _ (gives-kept w (state w c) (coreOf (found w c) .waiting) v _ (enters-kept w (restOf (found w c)) c Driver.Host w (same-world w)) .stays) refl,
+    )) (λ w. refl)
+holds (Op.FunctionCall pc f cont) = plainly (λ w _ _. function-call-is pc f cont w) (λ w _. refl) (λ w. ((no w refl, (no w refl, (no w refl, tt))), to w _ (stays w) refl)) (λ w. refl)
+holds (Op.PutWord r v) = plainly (λ w _ _. put-word-is r v w) (λ w _. refl) (λ w. ((no w refl, (no w refl, tt)), to w _ (stays w) refl)) (λ w. refl)
+holds (Op.MakeIterator v) =
+    other (λ w _ _. make-iterator-is v w) (λ w _. refl)
+    (λ w. by w (tableOf (Op.MakeIterator v) w) (
+      (no w refl, (no w refl, (no w refl, (λ e. is14 w w (stays w) e, tt)))),
+      to w _ (adds w (Object.Iter v false Opt.None) (w .setup .costs .iter) w refl (same-world w) .stays) refl,
+    ))
+    (λ w. refl) (λ w l. (never, (never, (never, (λ _. (refl, refl), tt)))))
+holds Op.TakeOutcome = plainly (λ w _ _. take-outcome-is w) (λ w _. refl) (λ w. (tt, to w _ (stays w) refl)) (λ w. refl)
+holds (Op.HandOver v) =
+    plainly (λ w _ _. hand-over-is v w) (λ w _. refl)
+    (λ w. ((no w refl, (no w refl, (no w refl, tt))), to w _ (record { setup = refl; full = λ h. set-filled (w .slots) _ _ refl h }) refl)) (λ w. refl)
+holds (Op.Grant n) = plainly (λ w _ _. grant-is n w) (λ w _. refl) (λ w. ((no w refl, tt), granted-facts w (w .fuel .bank) _)) (λ w. refl)
+holds Op.StopRun = plainly (λ w _ _. stop-run-is w) (λ w _. refl) (λ w. (tt, to w _ (stops-kept w (w .chain) w (same-world w) .stays) refl)) (λ w. refl)
+holds Op.Look = plainly (λ w _ _. refl) (λ w h. absurd (h refl)) (λ w. (tt, to w w (stays w) refl)) (λ w. refl)
+
+-- ---- a call on any machine
 
 tested-by : (b : Bool) (x : Out) (y : After Answer) (w : World) → (b ≡ true → done-by x ≡ y) → done-by (pick b x (told (Gate.refused w Fault.Unsound))) ≡ pick (not b) (after w (Answer.Refused Fault.Unsound)) y
 unfolding pick
@@ -191,5 +284,5 @@ tested-by true x y w e = e refl
 tested-by false x y w e = refl
 
 pub leads-to : (w : World) (o : Operation) → done-by (step w (Do o)) ≡ leads (sheet (o .op) w)
-unfolding step tested
-leads-to w o = tested-by (sound w) (call (o .op) w) (leads (tableOf (o .op) w)) w (call-is (o .op) w (o .within))
+unfolding step tested call
+leads-to w o = tested-by (sound w) (call (o .op) w) (leads (tableOf (o .op) w)) w (holds (o .op) .is w (o .within))

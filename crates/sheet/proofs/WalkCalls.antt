@@ -1,19 +1,21 @@
 -- Every line of every call: which numbers leave the machine as it was, where 14 stands, and that no slot is emptied.
 use Prim.Native.Nat.{ℕ}
-use mathlib.Core.Path.{_≡_, refl, sym, ap, _∙_}
+use mathlib.Core.Path.{_≡_, refl, sym, ap, subst, _∙_}
 use mathlib.Core.Bool.{Bool, true, false, not, _&&_, _||_, true≢false, false≢true}
 use mathlib.Core.List.{List, [], _∷_, map}
+use mathlib.Core.Option.{Option, none, some}
 use lib.Dec.{eqb, leb}
+use borrow.Author.Tests.{eq-eqb}
 use Rattle.lists.specs.Pick.{pick}
 use Rattle.heap.specs.Fault.{numberOf, wordOf}
 use Rattle.heap.specs.declared.fault.Fault.{Fault}
 use Rattle.heap.specs.declared.heap.ResultKind.{ResultKind}
 use Rattle.heap.specs.declared.object.CoroState.{CoroState}
 use Rattle.heap.specs.declared.value.Opt.{Opt}
-use Rattle.model.specs.Lists.{among}
-use Rattle.model.specs.Object.{Object}
+use Rattle.model.specs.Lists.{each, among}
 use Rattle.model.specs.World.{World, withFinalize}
-use Rattle.model.specs.Sound.{sound}
+use Rattle.model.specs.Answer as Answers
+use Rattle.model.specs.Answer.{stepOf}
 use Rattle.model.specs.declared.machine.Cont.{Cont}
 use Rattle.model.specs.declared.machine.Driver.{Driver}
 use Rattle.model.specs.declared.machine.Frame.{Frame}
@@ -23,25 +25,23 @@ use Rattle.model.specs.declared.call.OptPc.{OptPc}
 use Rattle.model.specs.declared.call.Op.{Op}
 use Rattle.model.specs.declared.call.Answer.{Answer}
 use Rattle.sheet.specs.Lines.{Line, Lines, leadsFrom, saysFrom, line, refuse}
-use Rattle.sheet.specs.Words.{lies, found, coreOf, restOf, state, noSlot}
+use Rattle.sheet.specs.Words.{noSlot}
 use Rattle.sheet.specs.Moves.{pcStored, put}
 use Rattle.sheet.specs.Charging.{bankBack, charged, lost, asAnswer, instruction}
-use Rattle.sheet.specs.Instructions as Asked
-use Rattle.sheet.specs.Yields as Yields
-use Rattle.sheet.specs.Makings as Makings
 use Rattle.sheet.specs.Makings.{noRow, newWord, paid}
 use Rattle.sheet.specs.Suspending.{running}
 use Rattle.sheet.specs.Endings.{popped, dynamic, converted, isObject, finishBy, finishOn, conversion, overIn, returned}
 use Rattle.sheet.specs.Unwinding as Unwinding
 use Rattle.sheet.specs.Unwinding.{left, search, given, errorStored, failedTo}
 use Rattle.sheet.specs.OtherCalls as Others
-use Rattle.sheet.specs.Sheet.{lie, windowLies, tableOf, sheet}
-use Rattle.sheet.specs.Sentences.{unchanging}
-use Rattle.sheet.proofs.Among.{and-right}
+use Rattle.sheet.specs.Sheet.{tableOf}
+use Rattle.sheet.specs.Sentences.{unchanging, Behind9}
+use Rattle.sheet.proofs.Among.{same, and-left, and-right, not-true}
 use Rattle.sheet.proofs.Choice.{both}
-use Rattle.sheet.proofs.Kept.{Stays, stays, Kept, same-world, set-filled, adds, enters-kept, gives-kept, over-kept, returns-kept, converts-kept, stops-kept}
+use Rattle.sheet.proofs.Led.{all}
+use Rattle.sheet.proofs.Kept.{Stays, stays, Kept, same-world, set-filled, adds, enters-kept, over-kept, returns-kept, converts-kept}
 use Rattle.sheet.proofs.Walk as Walk
-use Rattle.sheet.proofs.Walk.{EveryLine, by-stop, led-line, map-lines, lacking, Own, Owns, none}
+use Rattle.sheet.proofs.Walk.{EveryLine, by-stop, led-line, map-lines, lacking, Own, Owns}
 
 -- a line of a call on w that stops it with the number m, and leaves x
 pub record Fact (w : World) (m : ℕ) (x : World) : Type 0 where
@@ -91,20 +91,20 @@ module _ (pc : ℕ) (ok : Bool) (own : World → Lines Step) (w : World) (owns :
 
 -- ---- the other calls
 
-abbrev Facts : World → Lines Answer → Type 0
+abbrev pub Facts : World → Lines Answer → Type 0
 Facts w s = EveryLine (Fact w) (s .tests) × Fact w (s .done .number) (s .done .left)
 
 module _ (w : World) where
   -- a refusal that leaves the machine as it was
-  no : {m : ℕ} → eqb m 14 ≡ false → Fact w m w
-  no e = record { stays = stays w; lack = λ k. absurd (true≢false (sym k ∙ e)); calm = λ _. refl }
+  pub no : {m : ℕ} {b : Bool} → eqb m 14 ≡ false → b ≡ true → Fact w m w
+  no e _ = record { stays = stays w; lack = λ k. absurd (true≢false (sym k ∙ e)); calm = λ _. refl }
 
   -- a number that is neither 14 nor one that changes nothing
-  to : {m : ℕ} (x : World) → Stays w x → eqb m 14 || among m unchanging ≡ false → Fact w m x
-  to {m} x f h = record { stays = f; lack = λ e. absurd (true≢false (sym e ∙ none (eqb m 14) (among m unchanging) h .0)); calm = λ e. absurd (true≢false (sym e ∙ none (eqb m 14) (among m unchanging) h .1)) }
+  pub to : {m : ℕ} (x : World) → Stays w x → eqb m 14 || among m unchanging ≡ false → Fact w m x
+  to {m} x f h = let n = Walk.none (eqb m 14) (among m unchanging) h in record { stays = f; lack = λ e. absurd (true≢false (sym e ∙ n .0)); calm = λ e. absurd (true≢false (sym e ∙ n .1)) }
 
   -- 14
-  is14 : (x : World) → Stays w x → noSlot w ≡ true → Fact w 14 x
+  pub is14 : (x : World) → Stays w x → noSlot w ≡ true → Fact w 14 x
   is14 x f e = record { stays = f; lack = λ _. ap (λ t. t || noRow w) e; calm = λ k. absurd (false≢true k) }
 
   -- finish
@@ -129,7 +129,7 @@ module _ (w : World) where
     to (finishBy Cont.Coro f fs r v w .done .left) (returns-kept w (w .chain) (dynamic r v w) (popped f fs (converted r v w)) (converts-kept w r v w (same-world w)) .stays) refl,
   )
 
-  finish-on : (fs : List Frame) (r : ResultKind) (v : ℕ) → Facts w (finishOn fs r v w)
+  pub finish-on : (fs : List Frame) (r : ResultKind) (v : ℕ) → Facts w (finishOn fs r v w)
   finish-on [] r v = (tt, to w (stays w) refl)
   finish-on (f ∷ fs) r v = finish-by (f .cont) f fs r v
 
@@ -210,65 +210,107 @@ module _ (e : Fault) (pc : OptPc) (w : World) where
   -- the first test stops it, or the others go by their numbers
   pub unwind-fact : Fact w (saysFrom (tableOf (Op.Unwind e pc) w .tests) (tableOf (Op.Unwind e pc) w .done)) (leadsFrom (tableOf (Op.Unwind e pc) w .tests) (tableOf (Op.Unwind e pc) w .done) .world)
   unwind-fact =
-      by-stop (λ m x. Fact w m x) (eqb (numberOf e) 0 || (leb 11 (numberOf e) && not (eqb (numberOf e) 17))) _ _ _ _ (λ _. no w refl)
+      by-stop (λ m x. Fact w m x) (eqb (numberOf e) 0 || (leb 11 (numberOf e) && not (eqb (numberOf e) 17))) _ _ _ _ (no w refl)
       (λ h.
       led-line (λ m x. Fact w m x)
       (line (numberOf e) (eqb (numberOf e) 9 || eqb (numberOf e) 10) (Answer.Refused e) z ∷ refuse 9 _ z ∷ refuse 14 (leb (numberOf e) 8 && noSlot z) z ∷ raised) (line (numberOf e) true (Answer.Refused e) z)
       (λ _. to w z (given-kept .stays) (raisable e h), (λ _. to w z (given-kept .stays) refl, (λ k. is14 w z (given-kept .stays) (sym given-slots ∙ and-right (leb (numberOf e) 8) (noSlot z) k), raised-facts)))
       (to w z (given-kept .stays) (raisable e h)))
 
--- ---- every call
+-- ---- from its lines to what a call leaves
 
-module _ (w : World) where
-  abbrev At : Op → Type 0
-  At o = Fact w (saysFrom (tableOf o w .tests) (tableOf o w .done)) (leadsFrom (tableOf o w .tests) (tableOf o w .done) .world)
+pub by : (w : World) (s : Lines Answer) → Facts w s → Fact w (saysFrom (s .tests) (s .done)) (leadsFrom (s .tests) (s .done) .world)
+by w s h = led-line (λ m x. Fact w m x) (s .tests) (s .done) (h .0) (h .1)
 
-  by : (s : Lines Answer) → Facts w s → Fact w (saysFrom (s .tests) (s .done)) (leadsFrom (s .tests) (s .done) .world)
-  by s h = led-line (λ m x. Fact w m x) (s .tests) (s .done) (h .0) (h .1)
+pub granted-facts : (w : World) (b : Opt) (n : ℕ) → Fact w 0 (Others.granted b n w)
+granted-facts w Opt.None n = to w (Others.granted Opt.None n w) (stays w) refl
+granted-facts w (Opt.Some m) n = to w (Others.granted (Opt.Some m) n w) (stays w) refl
 
-  behind : (pc : ℕ) (ok : Bool) (own : World → Lines Step) → Owns (charged pc w) (own (charged pc w)) → Fact w (saysFrom (instruction pc ok own w .tests) (instruction pc ok own w .done)) (leadsFrom (instruction pc ok own w .tests) (instruction pc ok own w .done) .world)
-  behind pc ok own h = by (instruction pc ok own w) (instruction-facts pc ok own w h)
+pub task-facts : (v : ℕ) (w : World) → Facts w (Others.spawnTask v w)
+task-facts v w = ((no w refl, tt), to w (Others.spawnTask v w .done .left) (both (λ (x : World). Stays w x) _ (record { setup = refl; full = λ h. set-filled (w .slots) _ _ refl h }) (stays w)) refl)
 
-  granted-facts : (b : Opt) (n : ℕ) → Fact w 0 (Others.granted b n w)
-  granted-facts Opt.None n = to w (Others.granted Opt.None n w) (stays w) refl
-  granted-facts (Opt.Some m) n = to w (Others.granted (Opt.Some m) n w) (stays w) refl
+-- ---- a line's number is its answer's; only an instruction's answer has a Step, and not with a number that changes nothing
 
-  pub facts : (o : Op) → At o
-  facts (Op.CoroNew pc dst f argc) = behind pc (lies w dst && windowLies dst argc w && Makings.isFunction w f) (Makings.coroNew dst f argc) (Walk.new-owns (charged pc w) dst f argc)
-  facts (Op.CoroNewIndirect pc dst c argc) = behind pc (lie (dst ∷ c ∷ []) w && windowLies dst argc w) (Makings.coroNewIndirect dst c argc) (Walk.new-indirect-owns (charged pc w) dst c argc)
-  facts (Op.Spawn pc dst c argc) = behind pc (lie (dst ∷ c ∷ []) w && windowLies dst argc w) (Makings.spawn pc dst c argc) (Walk.spawn-owns (charged pc w) pc dst c argc)
-  facts (Op.Yield pc dst src) = behind pc (lie (dst ∷ src ∷ []) w) (Yields.yield pc dst src) (Walk.yield-owns (charged pc w) pc dst src)
-  facts (Op.YieldKv pc dst src key) = behind pc (lie (dst ∷ src ∷ key ∷ []) w) (Yields.yieldKv pc dst src key) (Walk.yield-kv-owns (charged pc w) pc dst src key)
-  facts (Op.Await pc dst src) = behind pc (lie (dst ∷ src ∷ []) w) (Yields.await pc dst src) (Walk.await-owns (charged pc w) pc dst src)
-  facts (Op.Resume pc dst c src) = behind pc (lie (dst ∷ c ∷ src ∷ []) w) (Asked.resume pc dst c src) (Walk.resume-owns (charged pc w) pc dst c src)
-  facts (Op.ResumeThrow pc dst c src) = behind pc (lie (dst ∷ c ∷ src ∷ []) w) (Asked.resumeThrow pc dst c src) (Walk.throw-owns (charged pc w) pc dst c src)
-  facts (Op.CoroClose pc dst c src) = behind pc (lie (dst ∷ c ∷ src ∷ []) w) (Asked.coroClose pc dst c src) (Walk.close-owns (charged pc w) pc dst c src)
-  facts (Op.CoroStatus pc dst c) = behind pc (lie (dst ∷ c ∷ []) w) (Asked.coroStatus dst c) (Walk.status-owns (charged pc w) dst c)
-  facts (Op.CoroCurrent pc dst) = behind pc (lie (dst ∷ []) w) (Asked.coroCurrent dst) (Walk.current-owns (charged pc w) dst)
-  facts (Op.CoroKey pc dst c) = behind pc (lie (dst ∷ c ∷ []) w) (Asked.coroKey dst c) (Walk.key-owns (charged pc w) dst c)
-  facts (Op.CoroResult pc dst c) = behind pc (lie (dst ∷ c ∷ []) w) (Asked.coroResult dst c) (Walk.result-owns (charged pc w) dst c)
-  facts (Op.IterNext pc has iter val src) = behind pc (lie (has ∷ iter ∷ val ∷ src ∷ []) w) (Asked.iterNext pc has iter val src) (Walk.next-owns (charged pc w) pc has iter val src)
-  facts (Op.Finish kind v) = by (finishOn (w .frames) kind v w) (finish-on w (w .frames) kind v)
-  facts (Op.Unwind f pc) = unwind-fact f pc w
-  facts (Op.SpawnTask v) =
-      by (Others.spawnTask v w) ((λ _. no w refl, tt), to w (Others.spawnTask v w .done .left) (both (λ (x : World). Stays w x) _ (record { setup = refl; full = λ h. set-filled (w .slots) _ _ refl h }) (stays w)) refl)
-  facts (Op.HostCall f) = by (Others.hostCall f w) ((λ _. no w refl, (λ _. no w refl, (λ _. no w refl, tt))), to w (Others.hostCall f w .done .left) (stays w) refl)
-  facts (Op.HostEntry c v) =
-      by (Others.hostEntry c v w) (
-        (λ _. no w refl, (λ _. no w refl, (λ _. no w refl, (λ _. no w refl, (λ _. no w refl, tt))))),
-        to w (Others.hostEntry c v w .done .left) (gives-kept w (state w c) (coreOf (found w c) .waiting) v _ (enters-kept w (restOf (found w c)) c Driver.Host w (same-world w)) .stays) refl,
-      )
-  facts (Op.FunctionCall pc f cont) = by (Others.functionCall pc f cont w) ((λ _. no w refl, (λ _. no w refl, (λ _. no w refl, tt))), to w (Others.functionCall pc f cont w .done .left) (stays w) refl)
-  facts (Op.PutWord r v) = by (Others.putWord r v w) ((λ _. no w refl, (λ _. no w refl, tt)), to w (Others.putWord r v w .done .left) (stays w) refl)
-  facts (Op.MakeIterator v) =
-      by (Others.makeIterator v w)
-      ((λ _. no w refl, (λ _. no w refl, (λ _. no w refl, (λ e. is14 w w (stays w) e, tt)))), to w (Others.makeIterator v w .done .left) (adds w (Object.Iter v false Opt.None) (w .setup .costs .iter) w refl (same-world w) .stays) refl)
-  facts Op.TakeOutcome = by (Others.takeOutcome w) (tt, to w (Others.takeOutcome w .done .left) (stays w) refl)
-  facts (Op.HandOver v) = by (Others.handOver v w) ((λ _. no w refl, (λ _. no w refl, (λ _. no w refl, tt))), to w (Others.handOver v w .done .left) (record { setup = refl; full = λ h. set-filled (w .slots) _ _ refl h }) refl)
-  facts (Op.Grant n) = by (Others.grant n w) ((λ _. no w refl, tt), granted-facts (w .fuel .bank) _)
-  facts Op.StopRun = by (Others.stopRun w) (tt, to w (Others.stopRun w .done .left) (stops-kept w (w .chain) w (same-world w) .stays) refl)
-  facts Op.Look = by (Others.look w) (tt, to w w (stays w) refl)
+abbrev pub isNone : Option Step → Bool
+isNone none = true
+isNone (some s) = false
 
-  -- 11 first
-  pub fact : (o : Op) → Fact w (saysFrom (sheet o w .tests) (sheet o w .done)) (leadsFrom (sheet o w .tests) (sheet o w .done) .world)
-  fact o = by-stop (λ m x. Fact w m x) (not (sound w)) _ _ _ _ (λ _. no w refl) (λ _. facts o)
+abbrev pub bare : Answer → Bool
+bare a = isNone (stepOf a)
+
+abbrev pub tells : Line Answer → Bool
+tells l = eqb (Answers.numberOf (l .answer)) (l .number)
+
+abbrev pub fit : Bool → Answer → Bool
+fit i a = bare a || (i && not (among (Answers.numberOf a) unchanging))
+
+abbrev pub tell : Lines Answer → Bool
+tell s = each tells (s .tests) && tells (s .done)
+
+abbrev pub rights : Bool → Lines Answer → Bool
+rights i s = tell s && all (fit i) (s .tests) (s .done)
+
+finish-right : (c : Cont) (f : Frame) (fs : List Frame) (k : ResultKind) (v : ℕ) (w : World) → rights false (finishBy c f fs k v w) ≡ true
+finish-right Cont.Entry f fs k v w = refl
+finish-right (Cont.Write r) f fs k v w = refl
+finish-right (Cont.Dyn r) f fs k v w = refl
+finish-right (Cont.Value r) f fs k v w = refl
+finish-right Cont.Discard f fs k v w = refl
+finish-right Cont.Coro f fs k v w = refl
+
+pub finish-on-right : (fs : List Frame) (k : ResultKind) (v : ℕ) (w : World) → rights false (finishOn fs k v w) ≡ true
+finish-on-right [] k v w = refl
+finish-on-right (f ∷ fs) k v w = finish-right (f .cont) f fs k v w
+
+abbrev found-right : List (Line Answer) → Bool
+found-right ts = each tells ts && each (λ l. fit false (l .answer)) ts
+
+search-right : (fs : List Frame) (value f pc : ℕ) (w : World) → found-right (search fs value f pc w) ≡ true
+search-right [] value f pc w = refl
+search-right (x ∷ xs) value f pc w = search-right xs value f pc (left x xs value w)
+
+pub unwind-right : (e : Fault) (pc : OptPc) (w : World) → rights false (Unwinding.unwind e pc w) ≡ true
+unwind-right e pc w = λ i. ((own i && and-left (each tells (raised e pc w)) _ found i) && own i) && (and-right (each tells (raised e pc w)) _ found i && true)
+  where
+    own : eqb (numberOf e) (numberOf e) ≡ true
+    own = eq-eqb (numberOf e) (numberOf e) refl
+
+    found : found-right (raised e pc w) ≡ true
+    found = both (λ (ts : List (Line Answer)). found-right ts ≡ true) (leb (numberOf e) 8)
+        (search-right (z e pc w .frames) (newWord (z e pc w)) _ _ _) (search-right (z e pc w .frames) (wordOf e) _ _ _)
+
+-- ---- 14 behind 9
+
+pub never : {A : Type 0} → false ≡ true → A
+never h = absurd (false≢true h)
+
+pub no-14 : (l : Line Answer) (ts : List (Line Answer)) → each (λ t. not (eqb (t .number) 14)) ts ≡ true → Behind9 l ts
+no-14 l [] h = tt
+no-14 l (t ∷ ts) h =
+    let is = eqb (t .number) 14 in (λ e. never (sym (not-true is (and-left (not is) _ h)) ∙ and-left is (t .stops) e), no-14 t ts (and-right (not is) _ h))
+
+search-14 : (l : Line Answer) (fs : List Frame) (value f pc : ℕ) (w : World) → Behind9 l (search fs value f pc w)
+search-14 l [] value f pc w = (never, tt)
+search-14 l (x ∷ xs) value f pc w = (never, (never, (never, (never, (never, search-14 _ xs value f pc (left x xs value w))))))
+
+finish-14 : (c : Cont) (f : Frame) (fs : List Frame) (k : ResultKind) (v : ℕ) (w : World) (l : Line Answer) → Behind9 l (finishBy c f fs k v w .tests)
+finish-14 Cont.Entry f fs k v w l = tt
+finish-14 (Cont.Write r) f fs k v w l = tt
+finish-14 (Cont.Dyn r) f fs k v w l = (never, (never, (λ _. (refl, refl), tt)))
+finish-14 (Cont.Value r) f fs k v w l = tt
+finish-14 Cont.Discard f fs k v w l = tt
+finish-14 Cont.Coro f fs k v w l = (never, (never, (λ _. (refl, refl), tt)))
+
+pub finish-on-14 : (fs : List Frame) (k : ResultKind) (v : ℕ) (w : World) (l : Line Answer) → Behind9 l (finishOn fs k v w .tests)
+finish-on-14 [] k v w l = tt
+finish-on-14 (f ∷ fs) k v w l = finish-14 (f .cont) f fs k v w l
+
+nine-ten : {A : Type 0} (n : ℕ) → eqb n 14 && (eqb n 9 || eqb n 10) ≡ true → A
+nine-ten n h = never (subst (λ m. eqb m 9 || eqb m 10 ≡ true) (same n 14 (and-left (eqb n 14) _ h)) (and-right (eqb n 14) _ h))
+
+pub unwind-14 : (e : Fault) (pc : OptPc) (w : World) (l : Line Answer) → Behind9 l (Unwinding.unwind e pc w .tests)
+unwind-14 e pc w l =
+    let n = numberOf e in
+    let y = z e pc w in
+    let found = both (λ (ts : List (Line Answer)). Behind9 (refuse 14 (leb n 8 && noSlot y) y) ts) (leb n 8) (search-14 _ (y .frames) (newWord y) _ _ _) (search-14 _ (y .frames) (wordOf e) _ _ _) in
+    (never, (nine-ten n, (never, (λ _. (refl, refl), found))))
