@@ -20,7 +20,7 @@ use Rattle.model.specs.declared.machine.Frame.{Frame}
 use Rattle.model.specs.declared.coro.WordOr.{WordOr}
 use Rattle.model.specs.declared.call.Op.{Op}
 use Rattle.model.specs.declared.call.Answer.{Answer}
-use Rattle.claims.specs.Engine.{View, Turn, calls, refuels, run, seenIn}
+use Rattle.claims.specs.Engine.{Turn, calls, refuels, run, seenIn}
 use Rattle.claims.specs.Says.{Does, doing}
 use Rattle.claims.specs.Held.{at, into}
 use Rattle.claims.specs.Delivery as Y
