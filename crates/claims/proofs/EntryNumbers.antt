@@ -2,7 +2,7 @@
 use Prim.Native.Nat.{ℕ, _+_}
 use mathlib.Core.Path.{_≡_, refl, sym, ap, _∙_, subst}
 use mathlib.Core.Bool.{Bool, true, false, not, _&&_, _||_}
-use mathlib.Core.List.{List, _∷_}
+use mathlib.Core.List.{List}
 use mathlib.Core.Option.{Option, none, some}
 use lib.ListN.{getD}
 use Rattle.lists.specs.Pick.{pick}
@@ -19,13 +19,14 @@ use Rattle.model.specs.Heap.{object, coro, notA, setDone}
 use Rattle.model.specs.Coro.{stateAs, entered, overflows, coroEnter, finishCoroutine}
 use Rattle.model.specs.Cleanup.{isAsleep, charge}
 use Rattle.model.specs.Exec as Exec
-use Rattle.model.specs.Exec.{fault, coroNew, coroNewIndirect, spawn, yield, yieldKv, await, arrive, resume, throwEntered, throwTo, resumeThrow, closeEntered, closeIn, closeTo, coroClose, coroStatus, coroCurrent, coroKey, coroResult, iterOn, iterNext}
+use Rattle.model.specs.Exec.{fault, arrive, resume, throwEntered, throwTo, resumeThrow, closeEntered, closeIn, closeTo, coroClose, iterOn, iterNext}
 use Rattle.model.specs.Gate as Gate
 use Rattle.model.specs.Gate.{refused, instruction, onHost}
 use Rattle.model.specs.Added.{hostArrive, hostEntry}
 use Rattle.model.specs.Answer.{stepNumber, numberOf}
 use Rattle.model.specs.Call.{Call, SetUp, Do}
-use Rattle.model.specs.Step.{step, call}
+use Rattle.model.specs.Calls.{Instruction, table}
+use Rattle.model.specs.Step.{doing, step, call}
 use Rattle.model.specs.declared.machine.Driver.{Driver}
 use Rattle.model.specs.declared.machine.Charge.{Charge}
 use Rattle.model.specs.declared.coro.Stated.{Stated}
@@ -40,14 +41,14 @@ use Rattle.claims.specs.Held.{By}
 use Rattle.claims.specs.Demand3 as D
 use Rattle.claims.specs.Events.{answers}
 use Rattle.claims.specs.Steps.{seenOf, viewOf, opOf, steps}
-use Rattle.claims.proofs.Entry.{Aim, enters, suspends, neither, at, awaits, act, Entry, nobody, entry, acceptsAs, accepts, sentTo, aimed, charged, entryBy}
+use Rattle.claims.proofs.Entry.{Aim, enters, Act, at, awaits, act, Entry, nobody, entry, acceptsAs, accepts, sentTo, aimed, charged, entryBy}
 use Rattle.claims.proofs.Cores.{no-both, objectIn, coroIn, and-left, and-right}
 use Rattle.claims.proofs.Enters.{EnterCase, e-in, e-out, enter-case, accepts-stored, ChargeCase, c-done, c-spent, c-close, charge-case}
 use Rattle.claims.proofs.Instr.{Alike, alike, coro-alike, aimed-alike}
 use Rattle.claims.proofs.Switches.{created-susp, returned-not, mayTurn}
 use Rattle.claims.proofs.Events.{no-entry, susp-born}
 use Rattle.claims.proofs.Numbers.{step-number}
-use Rattle.claims.proofs.Views.{new-state}
+use Rattle.claims.proofs.Views.{new-state, yields, yieldsKv, waits, resumes, throws, shuts, turns, aimless, Kind, k-at, k-host, k-finish, k-raise, k-other, kind-of}
 use Rattle.claims.proofs.Claim.{Entering, entering, entry-sound}
 use Rattle.claims.proofs.Exact.{number-sound}
 use Rattle.claims.proofs.Restores.{enters-old, entry-by}
@@ -201,11 +202,16 @@ iter-tells p has iter val src v = turn-tells p has (reg v iter) val (reg v src) 
 
 -- ---- an instruction; a cleanup's start is 17
 
-instr-tells : (w : World) (o : Op) (p : ℕ) (ok : Bool) (F : ℕ → List ℕ → List (Slot Object) → Aim) (arm : World → After Step) → act w o ≡ at p ok (F (topBase (w .frames)) (w .stack) (w .slots))
-    → ((v : World) → Tells v (aimed (F (topBase (v .frames)) (v .stack) (v .slots)) v) (stepNumber (arm v .answer)))
-    → Tells w (entryBy (act w o) w) (numberOf (instruction p ok arm w .answer))
-unfolding instruction pick
-instr-tells w o p ok F arm e owes = subst (λ x. Tells w (entryBy x w) (numberOf (instruction p ok arm w .answer))) (sym e) (gate (isNil (w .frames)) ok)
+-- a call's answer
+abbrev Answers : World → Op → Type 0
+Answers w o = Tells w (entryBy (act w o) w) (numberOf (call o w .answer))
+
+instr-tells : (w : World) (o : Op) (F : ℕ → List ℕ → List (Slot Object) → Aim) {p : ℕ} {ok : World → Bool} {arm : World → After Step} → table o ≡ Instruction p ok arm
+    → act w o ≡ at p (ok w) (F (topBase (w .frames)) (w .stack) (w .slots)) → ((v : World) → Tells v (aimed (F (topBase (v .frames)) (v .stack) (v .slots)) v) (stepNumber (arm v .answer))) → Answers w o
+unfolding call instruction pick
+instr-tells w o F {p} {ok} {arm} e q owes =
+    subst (λ x. Tells w (entryBy x w) (numberOf (doing (table o) w .answer))) (sym q)
+    (subst (λ r. Tells w (entryBy (at p (ok w) (F (topBase (w .frames)) (w .stack) (w .slots))) w) (numberOf (doing r w .answer))) (sym e) (gate (isNil (w .frames)) (ok w)))
   where
     aim : World → Aim
     aim u = F (topBase (u .frames)) (u .stack) (u .slots)
@@ -238,40 +244,23 @@ host-tells c x w = go (isNil (w .frames))
         tells-pick w (accepts w c) (entry c Driver.Host (sentTo (coro w c) (gets x))) (numberOf (andThen (coroEnter c Driver.Host w) (hostArrive x) .answer))
         (λ a. entered-number numberOf (hostArrive x) 0 (λ w. refl) (λ w r. refl) c Driver.Host w a ∙ sym (sent-word (coro w c) w x a))
 
-abbrev plain : ℕ → List ℕ → List (Slot Object) → Aim
-plain b s xs = neither
-
-call-tells : (w : World) (o : Op) → Tells w (entryBy (act w o) w) (numberOf (call o w .answer))
-unfolding call
-call-tells w (Op.CoroNew pc dst f argc) = instr-tells w (Op.CoroNew pc dst f argc) pc _ plain (coroNew dst f argc) refl (λ v. tt)
-call-tells w (Op.CoroNewIndirect pc dst callee argc) = instr-tells w (Op.CoroNewIndirect pc dst callee argc) pc _ plain (coroNewIndirect dst callee argc) refl (λ v. tt)
-call-tells w (Op.Spawn pc dst callee argc) = instr-tells w (Op.Spawn pc dst callee argc) pc _ plain (spawn pc dst callee argc) refl (λ v. tt)
-call-tells w (Op.Yield pc dst src) = instr-tells w (Op.Yield pc dst src) pc _ (λ b s xs. suspends CoroState.Yielded dst (getD s (b + src) 0)) (yield pc dst src) refl (λ v. tt)
-call-tells w (Op.YieldKv pc dst src key) = instr-tells w (Op.YieldKv pc dst src key) pc _ (λ b s xs. suspends CoroState.Yielded dst (getD s (b + src) 0)) (yieldKv pc dst src key) refl (λ v. tt)
-call-tells w (Op.Await pc dst src) = instr-tells w (Op.Await pc dst src) pc _ (λ b s xs. suspends CoroState.Awaiting dst (getD s (b + src) 0)) (await pc dst src) refl (λ v. tt)
-call-tells w (Op.Resume pc dst c src) = instr-tells w (Op.Resume pc dst c src) pc _ (λ b s xs. enters (getD s (b + c) 0) (Driver.Resume dst) (gets (getD s (b + src) 0)) true) (resume pc dst c src) refl (resume-tells pc dst c src)
-call-tells w (Op.ResumeThrow pc dst c src) = instr-tells w (Op.ResumeThrow pc dst c src) pc _ (λ b s xs. enters (getD s (b + c) 0) (Driver.Resume dst) nothing (isAsleep (coroIn xs (getD s (b + c) 0)))) (resumeThrow pc dst c src) refl (throw-tells pc dst c src)
-call-tells w (Op.CoroClose pc dst c src) = instr-tells w (Op.CoroClose pc dst c src) pc _ (λ b s xs. enters (getD s (b + c) 0) (Driver.Resume dst) (closes (getD s (b + src) 0)) (isAsleep (coroIn xs (getD s (b + c) 0)))) (coroClose pc dst c src) refl (close-tells pc dst c src)
-call-tells w (Op.CoroStatus pc dst c) = instr-tells w (Op.CoroStatus pc dst c) pc _ plain (coroStatus dst c) refl (λ v. tt)
-call-tells w (Op.CoroCurrent pc dst) = instr-tells w (Op.CoroCurrent pc dst) pc _ plain (coroCurrent dst) refl (λ v. tt)
-call-tells w (Op.CoroKey pc dst c) = instr-tells w (Op.CoroKey pc dst c) pc _ plain (coroKey dst c) refl (λ v. tt)
-call-tells w (Op.CoroResult pc dst c) = instr-tells w (Op.CoroResult pc dst c) pc _ plain (coroResult dst c) refl (λ v. tt)
-call-tells w (Op.IterNext pc has iter val src) =
-    instr-tells w (Op.IterNext pc has iter val src) pc _
-    (λ b s xs. enters (getD s (b + src) 0) (Driver.Iter has val (getD s (b + iter) 0)) (gets nil) (not (isDone (objectIn xs (getD s (b + iter) 0))) && not (awaits (coroIn xs (getD s (b + src) 0))))) (iterNext pc has iter val src) refl (iter-tells pc has iter val src)
-call-tells w (Op.Finish kind x) = tt
-call-tells w (Op.Unwind f pc) = tt
-call-tells w (Op.SpawnTask x) = tt
-call-tells w (Op.HostCall f) = tt
-call-tells w (Op.HostEntry c x) = host-tells c x w
-call-tells w (Op.FunctionCall pc f cont) = tt
-call-tells w (Op.PutWord r x) = tt
-call-tells w (Op.MakeIterator x) = tt
-call-tells w Op.TakeOutcome = tt
-call-tells w (Op.HandOver x) = tt
-call-tells w (Op.Grant n) = tt
-call-tells w Op.StopRun = tt
-call-tells w Op.Look = tt
+call-tells : (w : World) {o : Op} {a : Act} {d : Says.Does} → act w o ≡ a → Kind w o a d → Answers w o
+call-tells w {o} q (k-at {a = a} e (yields pc dst src)) = instr-tells w o (λ b s xs. a) e q (λ v. tt)
+call-tells w {o} q (k-at {a = a} e (yieldsKv pc dst src key)) = instr-tells w o (λ b s xs. a) e q (λ v. tt)
+call-tells w {o} q (k-at {a = a} e (waits pc dst src)) = instr-tells w o (λ b s xs. a) e q (λ v. tt)
+call-tells w {o} q (k-at e (resumes pc dst c src)) = instr-tells w o (λ b s xs. enters (getD s (b + c) 0) (Driver.Resume dst) (gets (getD s (b + src) 0)) true) refl refl (resume-tells pc dst c src)
+call-tells w {o} q (k-at e (throws pc dst c src)) =
+    instr-tells w o (λ b s xs. enters (getD s (b + c) 0) (Driver.Resume dst) nothing (isAsleep (coroIn xs (getD s (b + c) 0)))) refl refl (throw-tells pc dst c src)
+call-tells w {o} q (k-at e (shuts pc dst c src)) =
+    instr-tells w o (λ b s xs. enters (getD s (b + c) 0) (Driver.Resume dst) (closes (getD s (b + src) 0)) (isAsleep (coroIn xs (getD s (b + c) 0)))) refl refl (close-tells pc dst c src)
+call-tells w {o} q (k-at e (turns pc has iter val src)) =
+    instr-tells w o (λ b s xs. enters (getD s (b + src) 0) (Driver.Iter has val (getD s (b + iter) 0)) (gets nil) (not (isDone (objectIn xs (getD s (b + iter) 0))) && not (awaits (coroIn xs (getD s (b + src) 0)))))
+    refl refl (iter-tells pc has iter val src)
+call-tells w {o} q (k-at {a = a} e aimless) = instr-tells w o (λ b s xs. a) e q (λ v. tt)
+call-tells w q (k-host c x) = host-tells c x w
+call-tells w q (k-finish kind x) = tt
+call-tells w q (k-raise f pc) = tt
+call-tells w {o} q (k-other e) = subst (λ x. Tells w (entryBy x w) (numberOf (call o w .answer))) (sym q) tt
 
 new-is : (w : World) (c : ℕ) → newIn (coro w c) ≡ is (viewOf w) isNew c
 unfolding newIn
@@ -293,7 +282,7 @@ entry-answers c w (SetUp s) h b = no-entry refl (entering c w (SetUp s) (enters-
 entry-answers c w (Do o) h b =
     let t = entering c w (Do o) (enters-old c w (Do o) h) in
     let it : entryBy (act w (o .op)) w ≡ entry c (t .driver) (t .sent) = sym (entry-sound w o (t .healthy)) ∙ t .by in
-    let n : numberOf (call (o .op) w .answer) ≡ answers (newIn (coro w c)) (t .sent) = subst (λ e. Tells w e (numberOf (call (o .op) w .answer))) it (call-tells w (o .op)) in
+    let n : numberOf (call (o .op) w .answer) ≡ answers (newIn (coro w c)) (t .sent) = subst (λ e. Tells w e (numberOf (call (o .op) w .answer))) it (call-tells w refl (kind-of w (o .op))) in
     ap numberOf (number-sound w o (t .healthy)) ∙ n ∙ (λ i. answers (new-is w c i) (same t i))
   where
     same : (t : Entering c w (Do o) (step w (Do o) .world)) → t .sent ≡ b .sent

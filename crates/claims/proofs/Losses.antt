@@ -39,7 +39,7 @@ use Rattle.soundness.proofs.Slots.{runs-among}
 use Rattle.claims.specs.Engine.{is}
 use Rattle.claims.specs.Engine as Engine
 use Rattle.claims.specs.Held.{at}
-use Rattle.claims.specs.Says.{nothing, gets, closes}
+use Rattle.claims.specs.Says.{Does, nothing, gets, closes}
 use Rattle.claims.specs.Events as Said
 use Rattle.claims.specs.Events.{among, lost, lostAt, raised, Lost, thrown, escapes}
 use Rattle.claims.specs.Steps.{seenOf, viewOf, opOf, steps}
@@ -57,7 +57,7 @@ use Rattle.claims.proofs.Endings.{stop-stops}
 use Rattle.claims.proofs.Calls.{shape}
 use Rattle.claims.proofs.Claim as Claim
 use Rattle.claims.proofs.Claim.{StepCase, anew, same, step-case, fresh-absent, next-sound}
-use Rattle.claims.proofs.Views.{is-runs}
+use Rattle.claims.proofs.Views.{is-runs, Kind, k-at, k-host, k-finish, k-raise, k-other, kind-of}
 use Rattle.claims.proofs.Finishes.{FinishCase, f-other, f-returns, finish-case}
 use Rattle.claims.proofs.Bodies.{at-top}
 use Rattle.claims.proofs.Escapes.{Sees}
@@ -269,35 +269,13 @@ module _ (w : World) (h : sound w ≡ true) (c : ℕ) (r : isRunning (coreAt w c
       go : (p : Op) → p ≡ Op.StopRun → {n : ℕ} → Lost (viewOf w) n c (some p)
       go p e {n} = subst (λ q. Lost (viewOf w) n c (some q)) (sym e) Said.stops
 
-  call-lost : (o : Op) → isFailed (coreAt (call o w .world) c .state) ≡ true → Lost (viewOf w) (numberOf (call o w .answer)) c (some o)
+  call-lost : {o : Op} {a : E.Act} {d : Does} → act w o ≡ a → isFailed (coreAt (call o w .world) c .state) ≡ true → Kind w o a d → Lost (viewOf w) (numberOf (call o w .answer)) c (some o)
   unfolding call
-  call-lost (Op.CoroNew pc dst f argc) l = by-stop (Op.CoroNew pc dst f argc) refl l
-  call-lost (Op.CoroNewIndirect pc dst callee argc) l = by-stop (Op.CoroNewIndirect pc dst callee argc) refl l
-  call-lost (Op.Spawn pc dst callee argc) l = by-stop (Op.Spawn pc dst callee argc) refl l
-  call-lost (Op.Yield pc dst src) l = by-stop (Op.Yield pc dst src) refl l
-  call-lost (Op.YieldKv pc dst src key) l = by-stop (Op.YieldKv pc dst src key) refl l
-  call-lost (Op.Await pc dst src) l = by-stop (Op.Await pc dst src) refl l
-  call-lost (Op.Resume pc dst u src) l = by-stop (Op.Resume pc dst u src) refl l
-  call-lost (Op.ResumeThrow pc dst u src) l = by-stop (Op.ResumeThrow pc dst u src) refl l
-  call-lost (Op.CoroClose pc dst u src) l = by-stop (Op.CoroClose pc dst u src) refl l
-  call-lost (Op.CoroStatus pc dst u) l = by-stop (Op.CoroStatus pc dst u) refl l
-  call-lost (Op.CoroCurrent pc dst) l = by-stop (Op.CoroCurrent pc dst) refl l
-  call-lost (Op.CoroKey pc dst u) l = by-stop (Op.CoroKey pc dst u) refl l
-  call-lost (Op.CoroResult pc dst u) l = by-stop (Op.CoroResult pc dst u) refl l
-  call-lost (Op.IterNext pc has iter val src) l = by-stop (Op.IterNext pc has iter val src) refl l
-  call-lost (Op.Finish kind x) l = no-both l (finish-fails kind x w c (finish kind x w) r (finish-case kind x w))
-  call-lost (Op.Unwind f pc) l = let t = unwound w h f pc .lost c r l in escapes f pc (t .0) (t .1)
-  call-lost (Op.SpawnTask x) l = by-stop (Op.SpawnTask x) refl l
-  call-lost (Op.HostCall f) l = by-stop (Op.HostCall f) refl l
-  call-lost (Op.HostEntry u x) l = by-stop (Op.HostEntry u x) refl l
-  call-lost (Op.FunctionCall pc f cont) l = by-stop (Op.FunctionCall pc f cont) refl l
-  call-lost (Op.PutWord i x) l = by-stop (Op.PutWord i x) refl l
-  call-lost (Op.MakeIterator x) l = by-stop (Op.MakeIterator x) refl l
-  call-lost Op.TakeOutcome l = by-stop Op.TakeOutcome refl l
-  call-lost (Op.HandOver x) l = by-stop (Op.HandOver x) refl l
-  call-lost (Op.Grant n) l = by-stop (Op.Grant n) refl l
-  call-lost Op.StopRun l = by-stop Op.StopRun refl l
-  call-lost Op.Look l = by-stop Op.Look refl l
+  call-lost {o} q l (k-at e i) = by-stop o (ap S.isEnding q) l
+  call-lost {o} q l (k-host u x) = by-stop o refl l
+  call-lost q l (k-finish kind x) = no-both l (finish-fails kind x w c (finish kind x w) r (finish-case kind x w))
+  call-lost q l (k-raise f pc) = let t = unwound w h f pc .lost c r l in escapes f pc (t .0) (t .1)
+  call-lost {o} q l (k-other e) = by-stop o (ap S.isEnding q) l
 
   -- what runs is one of the chain
   pub not-apart : {A : Type 0} → Apart c (w .chain) → A
@@ -337,7 +315,7 @@ fails-by c w k g = go (next w k) (step-case w k) (sym (is-failed (next w k) c) �
     go : {k : Call} (z : World) → StepCase w k z → isFailed (coreAt z c .state) ≡ true → Lost (viewOf w) (numberOf (step w k .answer)) c (opOf k)
     go z (anew s e) a = no-both a (ap (λ x. isFailed (coreIn x .state)) (fresh-absent s c))
     go z (same k e) a = no-both a (run-fails (coreAt w c .state) ran)
-    go z (Claim.does o e) a = subst (λ y. Lost (viewOf w) (numberOf y) c (some (o .op))) (sym (number-sound w o e)) (call-lost w e c ran (o .op) a)
+    go z (Claim.does o e) a = subst (λ y. Lost (viewOf w) (numberOf y) c (some (o .op))) (sym (number-sound w o e)) (call-lost w e c ran refl a (kind-of w (o .op)))
 
 pub failed-by : (c : ℕ) (w : World) (k : Call) → sound w ≡ true → is (viewOf w) Engine.runs c ≡ true → Lost (viewOf w) (numberOf (step w k .answer)) c (opOf k) → Said.Fails steps c w k
 unfolding named

@@ -39,7 +39,7 @@ use Rattle.model.specs.declared.exec.Step.{Step}
 use Rattle.model.specs.declared.call.OptPc.{OptPc}
 use Rattle.model.specs.declared.call.Op.{Op}
 use Rattle.model.specs.declared.call.Answer.{Answer}
-use Rattle.claims.specs.Says.{does}
+use Rattle.claims.specs.Says.{Does, does}
 use Rattle.claims.specs.Events.{isAwait, told}
 use Rattle.claims.specs.Steps.{viewOf}
 use Rattle.claims.proofs.Entry as E
@@ -48,6 +48,7 @@ use Rattle.claims.proofs.Tries.{taken, tries, keyed, inBody}
 use Rattle.claims.proofs.Suspension.{suspendsIn, paidBy, takesBy}
 use Rattle.claims.proofs.Held.{coreIn, coreAt}
 use Rattle.claims.proofs.Cores.{no-both, coroIn}
+use Rattle.claims.proofs.Views.{yields, yieldsKv, waits, resumes, throws, shuts, turns, aimless, Kind, k-at, k-host, k-finish, k-raise, k-other, kind-of}
 use Rattle.claims.proofs.Enters.{Ready, r-same, r-stored, ChargeCase, c-done, c-spent, c-close, charge-case}
 use Rattle.claims.proofs.Quiet.{key-same}
 use Rattle.claims.proofs.Deliver.{keys-closing}
@@ -239,32 +240,20 @@ aimsTo (E.finishes kind x) = false
 aimsTo E.unwinds = false
 aimsTo E.other = false
 
-pub call-number : (w : World) → sound w ≡ true → (o : Op) → aimsTo (act w o) ≡ true → Tells w (isAwait (does (viewOf w) o)) (numberOf (call o w .answer)) (takesBy (act w o) (suspendsIn o) w)
+kind-number : (w : World) → sound w ≡ true → {o : Op} {a : E.Act} {d : Does} → Kind w o a d → aimsTo a ≡ true → Tells w (isAwait (does (viewOf w) o)) (numberOf (call o w .answer)) (takesBy (act w o) (suspendsIn o) w)
 unfolding call
-call-number w h (Op.CoroNew pc dst f argc) q = no-both q refl
-call-number w h (Op.CoroNewIndirect pc dst callee argc) q = no-both q refl
-call-number w h (Op.Spawn pc dst callee argc) q = no-both q refl
-call-number w h (Op.Yield pc dst src) q = instr-number w h pc _ (yield pc dst src) (suspendsIn (Op.Yield pc dst src)) false (yield-number pc dst src)
-call-number w h (Op.YieldKv pc dst src key) q = instr-number w h pc _ (yieldKv pc dst src key) (suspendsIn (Op.YieldKv pc dst src key)) false (yieldKv-number pc dst src key)
-call-number w h (Op.Await pc dst src) q = instr-number w h pc _ (await pc dst src) (suspendsIn (Op.Await pc dst src)) true (await-number pc dst src)
-call-number w h (Op.Resume pc dst u src) q = no-both q refl
-call-number w h (Op.ResumeThrow pc dst u src) q = no-both q refl
-call-number w h (Op.CoroClose pc dst u src) q = no-both q refl
-call-number w h (Op.CoroStatus pc dst u) q = no-both q refl
-call-number w h (Op.CoroCurrent pc dst) q = no-both q refl
-call-number w h (Op.CoroKey pc dst u) q = no-both q refl
-call-number w h (Op.CoroResult pc dst u) q = no-both q refl
-call-number w h (Op.IterNext pc has iter val src) q = no-both q refl
-call-number w h (Op.Finish kind x) q = no-both q refl
-call-number w h (Op.Unwind f pc) q = no-both q refl
-call-number w h (Op.SpawnTask x) q = no-both q refl
-call-number w h (Op.HostCall f) q = no-both q refl
-call-number w h (Op.HostEntry u x) q = no-both q refl
-call-number w h (Op.FunctionCall pc f cont) q = no-both q refl
-call-number w h (Op.PutWord r x) q = no-both q refl
-call-number w h (Op.MakeIterator x) q = no-both q refl
-call-number w h Op.TakeOutcome q = no-both q refl
-call-number w h (Op.HandOver x) q = no-both q refl
-call-number w h (Op.Grant n) q = no-both q refl
-call-number w h Op.StopRun q = no-both q refl
-call-number w h Op.Look q = no-both q refl
+kind-number w h (k-at e (yields pc dst src)) q = instr-number w h pc _ (yield pc dst src) (suspendsIn (Op.Yield pc dst src)) false (yield-number pc dst src)
+kind-number w h (k-at e (yieldsKv pc dst src key)) q = instr-number w h pc _ (yieldKv pc dst src key) (suspendsIn (Op.YieldKv pc dst src key)) false (yieldKv-number pc dst src key)
+kind-number w h (k-at e (waits pc dst src)) q = instr-number w h pc _ (await pc dst src) (suspendsIn (Op.Await pc dst src)) true (await-number pc dst src)
+kind-number w h (k-at e (resumes pc dst c src)) q = no-both q refl
+kind-number w h (k-at e (throws pc dst c src)) q = no-both q refl
+kind-number w h (k-at e (shuts pc dst c src)) q = no-both q refl
+kind-number w h (k-at e (turns pc has iter val src)) q = no-both q refl
+kind-number w h (k-at e aimless) q = no-both q refl
+kind-number w h (k-host c x) q = no-both q refl
+kind-number w h (k-finish kind x) q = no-both q refl
+kind-number w h (k-raise f pc) q = no-both q refl
+kind-number w h (k-other e) q = no-both q refl
+
+pub call-number : (w : World) → sound w ≡ true → (o : Op) → aimsTo (act w o) ≡ true → Tells w (isAwait (does (viewOf w) o)) (numberOf (call o w .answer)) (takesBy (act w o) (suspendsIn o) w)
+call-number w h o q = kind-number w h (kind-of w o) q

@@ -43,13 +43,16 @@ use Rattle.invariant.proofs.Call.{call-keeps}
 use Rattle.claims.specs.Engine as Engine
 use Rattle.claims.specs.Engine.{Turn, calls}
 use Rattle.claims.specs.Demand3.{Restarts}
+use Rattle.claims.specs.Says.{Does}
 use Rattle.claims.specs.Events.{Healthy, raised, endsAt}
 use Rattle.claims.specs.Promise.{plain, room, Roomy, Makes, converts, Eleven, sets-up, no-fault, Soundness, Fresh, registers, Refuels, NotEmpty, Promise}
 use Rattle.claims.specs.Steps.{seenOf, rulesOf, viewOf, opOf, asksOf, looks, steps}
 use Rattle.claims.specs.Story.{wide, f, c, held}
 use Rattle.claims.specs.Premises.{premises}
 use Rattle.claims.specs.Witness.{nth, between, waiting, frame}
+use Rattle.claims.proofs.Entry.{Act}
 use Rattle.claims.proofs.Cores.{no-both}
+use Rattle.claims.proofs.Views.{Kind, k-at, k-host, k-finish, k-raise, k-other, kind-of}
 use Rattle.claims.proofs.Claim.{fresh-absent}
 use Rattle.claims.proofs.Soundness.{soundness-kept}
 use Rattle.claims.proofs.Answers.{throw-answer, raise-answer, pass-answer}
@@ -105,38 +108,16 @@ unraised v Fault.GrantTooLarge h = refl
 unraised v (Fault.Throw x) h = no-both refl h
 
 -- only an unwind can be given what it does not take
-unput : (v : Engine.View) (o : Op) → raises (table o) ≡ false → Eleven v (some o)
-unput v (Op.CoroNew pc dst f argc) h = no-both refl h
-unput v (Op.CoroNewIndirect pc dst callee argc) h = no-both refl h
-unput v (Op.Spawn pc dst callee argc) h = no-both refl h
-unput v (Op.Yield pc dst src) h = no-both refl h
-unput v (Op.YieldKv pc dst src key) h = no-both refl h
-unput v (Op.Await pc dst src) h = no-both refl h
-unput v (Op.Resume pc dst u src) h = no-both refl h
-unput v (Op.ResumeThrow pc dst u src) h = no-both refl h
-unput v (Op.CoroClose pc dst u src) h = no-both refl h
-unput v (Op.CoroStatus pc dst u) h = no-both refl h
-unput v (Op.CoroCurrent pc dst) h = no-both refl h
-unput v (Op.CoroKey pc dst u) h = no-both refl h
-unput v (Op.CoroResult pc dst u) h = no-both refl h
-unput v (Op.IterNext pc has iter val src) h = no-both refl h
-unput v (Op.Finish kind x) h = no-both refl h
-unput v (Op.Unwind f pc) h = no-fault f pc (unraised v f h) (λ e. no-both (ap raisable e) h) (λ e. no-both (ap raisable e) h)
-unput v (Op.SpawnTask x) h = no-both refl h
-unput v (Op.HostCall f) h = no-both refl h
-unput v (Op.HostEntry u x) h = no-both refl h
-unput v (Op.FunctionCall pc f cont) h = no-both refl h
-unput v (Op.PutWord r x) h = no-both refl h
-unput v (Op.MakeIterator x) h = no-both refl h
-unput v Op.TakeOutcome h = no-both refl h
-unput v (Op.HandOver x) h = no-both refl h
-unput v (Op.Grant n) h = no-both refl h
-unput v Op.StopRun h = no-both refl h
-unput v Op.Look h = no-both refl h
+unput : (w : World) {o : Op} {a : Act} {d : Does} → raises (table o) ≡ false → Kind w o a d → Eleven (viewOf w) (some o)
+unput w h (k-at e i) = no-both (ap raises e) h
+unput w h (k-host c x) = no-both refl h
+unput w h (k-finish kind x) = no-both refl h
+unput w h (k-raise f pc) = no-fault f pc (unraised (viewOf w) f h) (λ e. no-both (ap raisable e) h) (λ e. no-both (ap raisable e) h)
+unput w h (k-other e) = no-both e h
 
 eleven : (w : World) (k : Call) → sound w ≡ true → numberOf (step w k .answer) ≡ 11 → Eleven (viewOf w) (opOf k)
 eleven w (SetUp s) h n = sets-up
-eleven w (Do o) h n = unput (viewOf w) (o .op) (go (raises (table (o .op))) refl)
+eleven w (Do o) h n = unput w (go (raises (table (o .op))) refl) (kind-of w (o .op))
   where
     go : (b : Bool) → raises (table (o .op)) ≡ b → raises (table (o .op)) ≡ false
     go false q = q

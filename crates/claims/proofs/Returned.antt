@@ -25,13 +25,13 @@ use Rattle.model.specs.declared.machine.Frame.{Frame}
 use Rattle.model.specs.declared.call.OptPc.{OptPc}
 use Rattle.model.specs.declared.call.Op.{Op}
 use Rattle.model.specs.declared.call.Answer.{Answer}
-use Rattle.claims.specs.Says.{finishes, does, doing, Entry}
+use Rattle.claims.specs.Says.{Does, finishes, does, doing, Entry}
 use Rattle.claims.specs.Delivery.{recorded}
 use Rattle.claims.specs.Events as Said
 use Rattle.claims.specs.Events.{inmost, isBody, onBody, suspended, returned}
 use Rattle.claims.specs.Steps.{viewOf, opOf, steps}
 use Rattle.claims.specs.Touches.{May}
-use Rattle.claims.proofs.Entry.{act}
+use Rattle.claims.proofs.Entry.{Act, act}
 use Rattle.claims.proofs.Held.{Seat, coreIn, coreAt}
 use Rattle.claims.proofs.Split.{next}
 use Rattle.claims.proofs.Cores.{no-both, and-left, and-right, Kept, kept, unborn, Mode}
@@ -42,7 +42,7 @@ use Rattle.claims.proofs.Sounds.{apart, first-runs}
 use Rattle.claims.proofs.Calls.{shape}
 use Rattle.claims.proofs.Claim as Claim
 use Rattle.claims.proofs.Claim.{StepCase, anew, same, step-case, fresh-absent, next-sound}
-use Rattle.claims.proofs.Views.{is-runs, is-ended, seen-at}
+use Rattle.claims.proofs.Views.{is-runs, is-ended, seen-at, Kind, k-at, k-host, k-finish, k-raise, k-other, kind-of}
 use Rattle.claims.proofs.Finishes.{Unmade, FinishCase, f-other, f-returns, finish-case, bodyOn}
 use Rattle.claims.proofs.Escapes.{Ended, e-works, e-returns}
 use Rattle.claims.proofs.Unwinds.{unwind-ended}
@@ -218,65 +218,22 @@ finish-has kind x w h c o e (f-returns f fs a chain y p q r m n ends tells ints)
 
 -- ---- every call
 
-call-who : (w : World) → sound w ≡ true → (o : Op) (c : ℕ) → isRunning (coreAt w c .state) ≡ true → isReturned (coreAt (call o w .world) c .state) ≡ true → returned (viewOf w) (does (viewOf w) o) (numberOf (call o w .answer)) ≡ some c
+call-who : (w : World) → sound w ≡ true → (c : ℕ) {o : Op} {a : Act} {d : Does} → act w o ≡ a → isRunning (coreAt w c .state) ≡ true → isReturned (coreAt (call o w .world) c .state) ≡ true → Kind w o a d
+    → returned (viewOf w) d (numberOf (call o w .answer)) ≡ some c
 unfolding call
-call-who w h (Op.CoroNew pc dst f argc) c b l = no-return c (shape w (Op.CoroNew pc dst f argc)) refl b l
-call-who w h (Op.CoroNewIndirect pc dst callee argc) c b l = no-return c (shape w (Op.CoroNewIndirect pc dst callee argc)) refl b l
-call-who w h (Op.Spawn pc dst callee argc) c b l = no-return c (shape w (Op.Spawn pc dst callee argc)) refl b l
-call-who w h (Op.Yield pc dst src) c b l = no-return c (shape w (Op.Yield pc dst src)) refl b l
-call-who w h (Op.YieldKv pc dst src key) c b l = no-return c (shape w (Op.YieldKv pc dst src key)) refl b l
-call-who w h (Op.Await pc dst src) c b l = no-return c (shape w (Op.Await pc dst src)) refl b l
-call-who w h (Op.Resume pc dst u src) c b l = no-return c (shape w (Op.Resume pc dst u src)) refl b l
-call-who w h (Op.ResumeThrow pc dst u src) c b l = no-return c (shape w (Op.ResumeThrow pc dst u src)) refl b l
-call-who w h (Op.CoroClose pc dst u src) c b l = no-return c (shape w (Op.CoroClose pc dst u src)) refl b l
-call-who w h (Op.CoroStatus pc dst u) c b l = no-return c (shape w (Op.CoroStatus pc dst u)) refl b l
-call-who w h (Op.CoroCurrent pc dst) c b l = no-return c (shape w (Op.CoroCurrent pc dst)) refl b l
-call-who w h (Op.CoroKey pc dst u) c b l = no-return c (shape w (Op.CoroKey pc dst u)) refl b l
-call-who w h (Op.CoroResult pc dst u) c b l = no-return c (shape w (Op.CoroResult pc dst u)) refl b l
-call-who w h (Op.IterNext pc has iter val src) c b l = no-return c (shape w (Op.IterNext pc has iter val src)) refl b l
-call-who w h (Op.Finish kind x) c b l = finish-who kind x w c (finish kind x w) b l (finish-case kind x w)
-call-who w h (Op.Unwind f pc) c b l = ended-who w c (unwind-ended w h f pc) b l
-call-who w h (Op.SpawnTask x) c b l = no-return c (shape w (Op.SpawnTask x)) refl b l
-call-who w h (Op.HostCall f) c b l = no-return c (shape w (Op.HostCall f)) refl b l
-call-who w h (Op.HostEntry u x) c b l = no-return c (shape w (Op.HostEntry u x)) refl b l
-call-who w h (Op.FunctionCall pc f cont) c b l = no-return c (shape w (Op.FunctionCall pc f cont)) refl b l
-call-who w h (Op.PutWord r x) c b l = no-return c (shape w (Op.PutWord r x)) refl b l
-call-who w h (Op.MakeIterator x) c b l = no-return c (shape w (Op.MakeIterator x)) refl b l
-call-who w h Op.TakeOutcome c b l = no-return c (shape w Op.TakeOutcome) refl b l
-call-who w h (Op.HandOver x) c b l = no-return c (shape w (Op.HandOver x)) refl b l
-call-who w h (Op.Grant n) c b l = no-return c (shape w (Op.Grant n)) refl b l
-call-who w h Op.StopRun c b l = no-return c (shape w Op.StopRun) refl b l
-call-who w h Op.Look c b l = no-return c (shape w Op.Look) refl b l
+call-who w h c {o} q b l (k-at e i) = no-return c (shape w o) (ap S.isEnding q) b l
+call-who w h c {o} q b l (k-host u x) = no-return c (shape w o) refl b l
+call-who w h c q b l (k-finish kind x) = finish-who kind x w c (finish kind x w) b l (finish-case kind x w)
+call-who w h c q b l (k-raise f pc) = ended-who w c (unwind-ended w h f pc) b l
+call-who w h c {o} q b l (k-other e) = no-return c (shape w o) (ap S.isEnding q) b l
 
-call-has : (w : World) → sound w ≡ true → (o : Op) (c : ℕ) → returned (viewOf w) (does (viewOf w) o) (numberOf (call o w .answer)) ≡ some c → Has w c (call o w .world)
+call-has : (w : World) → sound w ≡ true → (c : ℕ) {o : Op} {a : Act} {d : Does} → returned (viewOf w) d (numberOf (call o w .answer)) ≡ some c → Kind w o a d → Has w c (call o w .world)
 unfolding call
-call-has w h (Op.CoroNew pc dst f argc) c e = no-some refl e
-call-has w h (Op.CoroNewIndirect pc dst callee argc) c e = no-some refl e
-call-has w h (Op.Spawn pc dst callee argc) c e = no-some refl e
-call-has w h (Op.Yield pc dst src) c e = no-some refl e
-call-has w h (Op.YieldKv pc dst src key) c e = no-some refl e
-call-has w h (Op.Await pc dst src) c e = no-some refl e
-call-has w h (Op.Resume pc dst u src) c e = no-some refl e
-call-has w h (Op.ResumeThrow pc dst u src) c e = no-some refl e
-call-has w h (Op.CoroClose pc dst u src) c e = no-some refl e
-call-has w h (Op.CoroStatus pc dst u) c e = no-some refl e
-call-has w h (Op.CoroCurrent pc dst) c e = no-some refl e
-call-has w h (Op.CoroKey pc dst u) c e = no-some refl e
-call-has w h (Op.CoroResult pc dst u) c e = no-some refl e
-call-has w h (Op.IterNext pc has iter val src) c e = no-some refl e
-call-has w h (Op.Finish kind x) c e = finish-has kind x w h c (finish kind x w) e (finish-case kind x w)
-call-has w h (Op.Unwind f pc) c e = ended-has w h c (unwind-ended w h f pc) e
-call-has w h (Op.SpawnTask x) c e = no-some refl e
-call-has w h (Op.HostCall f) c e = no-some refl e
-call-has w h (Op.HostEntry u x) c e = no-some refl e
-call-has w h (Op.FunctionCall pc f cont) c e = no-some refl e
-call-has w h (Op.PutWord r x) c e = no-some refl e
-call-has w h (Op.MakeIterator x) c e = no-some refl e
-call-has w h Op.TakeOutcome c e = no-some refl e
-call-has w h (Op.HandOver x) c e = no-some refl e
-call-has w h (Op.Grant n) c e = no-some refl e
-call-has w h Op.StopRun c e = no-some refl e
-call-has w h Op.Look c e = no-some refl e
+call-has w h c e (k-at p i) = no-some refl e
+call-has w h c e (k-host u x) = no-some refl e
+call-has w h c e (k-finish kind x) = finish-has kind x w h c (finish kind x w) e (finish-case kind x w)
+call-has w h c e (k-raise f pc) = ended-has w h c (unwind-ended w h f pc) e
+call-has w h c e (k-other p) = no-some refl e
 
 pub returns : (c : ℕ) (w : World) (k : Call) → Said.Returns steps c w k → returned (viewOf w) (doing (viewOf w) (opOf k)) (numberOf (step w k .answer)) ≡ some c
 returns c w k g = go (next w k) (step-case w k) (sym (is-ended (next w k) c) ∙ g .after)
@@ -287,12 +244,12 @@ returns c w k g = go (next w k) (step-case w k) (sym (is-ended (next w k) c) ∙
     go : {k : Call} (z : World) → StepCase w k z → isReturned (coreAt z c .state) ≡ true → returned (viewOf w) (doing (viewOf w) (opOf k)) (numberOf (step w k .answer)) ≡ some c
     go z (anew s e) a = no-both a (ap (λ x. isReturned (coreIn x .state)) (fresh-absent s c))
     go z (same k e) a = no-both a (run-returned (coreAt w c .state) ran)
-    go z (Claim.does o e) a = ap (λ y. returned (viewOf w) (does (viewOf w) (o .op)) (numberOf y)) (number-sound w o e) ∙ call-who w e (o .op) c ran a
+    go z (Claim.does o e) a = ap (λ y. returned (viewOf w) (does (viewOf w) (o .op)) (numberOf y)) (number-sound w o e) ∙ call-who w e c refl ran a (kind-of w (o .op))
 
 pub returned-by : (c : ℕ) (w : World) (k : Call) → sound w ≡ true → returned (viewOf w) (doing (viewOf w) (opOf k)) (numberOf (step w k .answer)) ≡ some c → Said.Returns steps c w k
 returned-by c w (SetUp s) h e = no-some refl e
 returned-by c w (Do o) h e =
-    let t = call-has w h (o .op) c (ap (λ y. returned (viewOf w) (does (viewOf w) (o .op)) (numberOf y)) (sym (number-sound w o h)) ∙ e) in
+    let t = call-has w h c (ap (λ y. returned (viewOf w) (does (viewOf w) (o .op)) (numberOf y)) (sym (number-sound w o h)) ∙ e) (kind-of w (o .op)) in
     record { before = is-runs w c ∙ t .before; after = is-ended (next w (Do o)) c ∙ ap (λ y. isReturned (coreAt y c .state)) (next-sound w o h) ∙ t .after }
 
 -- ---- a close that its own signal ends is recorded as nil

@@ -37,7 +37,7 @@ use Rattle.model.specs.declared.call.OptPc.{OptPc}
 use Rattle.model.specs.declared.call.Op.{Op}
 use Rattle.model.specs.declared.call.Answer.{Answer}
 use Rattle.claims.specs.Engine.{Seen, isNew, seenIn, is}
-use Rattle.claims.specs.Says.{word, lie, does, doing, whom}
+use Rattle.claims.specs.Says.{word, lie, Does, doing, whom}
 use Rattle.claims.specs.Events.{endsUnbegun, endedAs}
 use Rattle.claims.specs.Asks.{Pays}
 use Rattle.claims.specs.Steps.{seenOf, viewOf, opOf, steps}
@@ -50,7 +50,7 @@ use Rattle.claims.proofs.Ended.{there-seen}
 use Rattle.claims.proofs.Enters.{ChargeCase, c-done, c-spent, c-close, charge-case}
 use Rattle.claims.proofs.Instr.{Alike, alike, coro-alike}
 use Rattle.claims.proofs.Events.{no-entry}
-use Rattle.claims.proofs.Views.{new-state, seen-at, base-top}
+use Rattle.claims.proofs.Views.{new-state, seen-at, base-top, yields, yieldsKv, waits, resumes, throws, shuts, turns, aimless, Kind, k-at, k-host, k-finish, k-raise, k-other, kind-of}
 use Rattle.claims.proofs.Whom.{told, is-none, whom-told}
 use Rattle.claims.proofs.Paid.{Paid, paid-for, paid-number}
 use Rattle.claims.proofs.Claim as Claim
@@ -256,35 +256,20 @@ module _ (w : World) (c : ℕ) (e : coro w c ≡ Absent) where
   instr-stays : (p : ℕ) (ok : Bool) (arm : World → After Step) → ((v : World) → Alike p w v → coreAt (arm v .world) c .seen ≡ coreAt w c .seen) → coreAt (instruction p ok arm w .world) c .seen ≡ coreAt w c .seen
   instr-stays p ok arm owes = instr-any (λ x. x ≡ coreAt w c .seen) refl p ok arm owes
 
-  absent-stays : (o : Op) → endsUnbegun (does (viewOf w) o) ≡ some c → coreAt (call o w .world) c .seen ≡ coreAt w c .seen
+  absent-stays : {o : Op} {a : E.Act} {d : Does} → Kind w o a d → endsUnbegun d ≡ some c → coreAt (call o w .world) c .seen ≡ coreAt w c .seen
   unfolding call
-  absent-stays (Op.CoroNew pc dst f argc) n = no-some refl n
-  absent-stays (Op.CoroNewIndirect pc dst callee argc) n = no-some refl n
-  absent-stays (Op.Spawn pc dst callee argc) n = no-some refl n
-  absent-stays (Op.Yield pc dst src) n = no-some refl n
-  absent-stays (Op.YieldKv pc dst src key) n = no-some refl n
-  absent-stays (Op.Await pc dst src) n = no-some refl n
-  absent-stays (Op.Resume pc dst u src) n = no-some refl n
-  absent-stays (Op.ResumeThrow pc dst q src) n = instr-stays pc _ (resumeThrow pc dst q src) (λ v a. throw-none v a pc dst q src (reg-alike a q ∙ sym (word-reg w q) ∙ one-some refl n))
-  absent-stays (Op.CoroClose pc dst q src) n = instr-stays pc _ (coroClose pc dst q src) (λ v a. close-none v a pc dst q src (reg-alike a q ∙ sym (word-reg w q) ∙ one-some refl n))
-  absent-stays (Op.CoroStatus pc dst u) n = no-some refl n
-  absent-stays (Op.CoroCurrent pc dst) n = no-some refl n
-  absent-stays (Op.CoroKey pc dst u) n = no-some refl n
-  absent-stays (Op.CoroResult pc dst u) n = no-some refl n
-  absent-stays (Op.IterNext pc has iter val src) n = no-some refl n
-  absent-stays (Op.Finish kind x) n = no-some refl n
-  absent-stays (Op.Unwind f pc) n = no-some refl n
-  absent-stays (Op.SpawnTask x) n = no-some refl n
-  absent-stays (Op.HostCall f) n = no-some refl n
-  absent-stays (Op.HostEntry u x) n = no-some refl n
-  absent-stays (Op.FunctionCall pc f cont) n = no-some refl n
-  absent-stays (Op.PutWord r x) n = no-some refl n
-  absent-stays (Op.MakeIterator x) n = no-some refl n
-  absent-stays Op.TakeOutcome n = no-some refl n
-  absent-stays (Op.HandOver x) n = no-some refl n
-  absent-stays (Op.Grant x) n = no-some refl n
-  absent-stays Op.StopRun n = no-some refl n
-  absent-stays Op.Look n = no-some refl n
+  absent-stays (k-at e (yields pc dst src)) n = no-some refl n
+  absent-stays (k-at e (yieldsKv pc dst src key)) n = no-some refl n
+  absent-stays (k-at e (waits pc dst src)) n = no-some refl n
+  absent-stays (k-at e (resumes pc dst u src)) n = no-some refl n
+  absent-stays (k-at e (throws pc dst q src)) n = instr-stays pc _ (resumeThrow pc dst q src) (λ v a. throw-none v a pc dst q src (reg-alike a q ∙ one-some refl n))
+  absent-stays (k-at e (shuts pc dst q src)) n = instr-stays pc _ (coroClose pc dst q src) (λ v a. close-none v a pc dst q src (reg-alike a q ∙ one-some refl n))
+  absent-stays (k-at e (turns pc has iter val src)) n = no-some refl n
+  absent-stays (k-at e aimless) n = no-some refl n
+  absent-stays (k-host u x) n = no-some refl n
+  absent-stays (k-finish kind x) n = no-some refl n
+  absent-stays (k-raise f pc) n = no-some refl n
+  absent-stays (k-other e) n = no-some refl n
 
 -- WHO COMES
 pub comes : (c : ℕ) (w : World) (k : Call) → viewOf w .coro c ≡ none → (viewOf (next w k) .coro c ≡ none) ⊎ (is (viewOf (next w k)) isNew c ≡ true)
@@ -297,7 +282,7 @@ comes c w k h = go (endsUnbegun (doing (viewOf w) (opOf k))) refl
     stays : {k : Call} (z : World) → StepCase w k z → endsUnbegun (doing (viewOf w) (opOf k)) ≡ some c → viewOf z .coro c ≡ none
     stays z (anew s e) u = no-some refl u
     stays z (same k e) u = h
-    stays z (Claim.does o e) u = sym (seen-at z c) ∙ absent-stays w c (gone (coro w c) h) (o .op) u ∙ seen-at w c ∙ h
+    stays z (Claim.does o e) u = sym (seen-at z c) ∙ absent-stays w c (gone (coro w c) h) (kind-of w (o .op)) u ∙ seen-at w c ∙ h
 
     named : (u : ℕ) → endsUnbegun (doing (viewOf w) (opOf k)) ≡ some u → Dec (u ≡ c) → (viewOf (next w k) .coro c ≡ none) ⊎ (is (viewOf (next w k)) isNew c ≡ true)
     named u e (yes q) = inl (stays (next w k) (step-case w k) (e ∙ ap {B = Option ℕ} some q))

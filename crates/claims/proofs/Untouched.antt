@@ -20,8 +20,8 @@ use Rattle.model.specs.declared.machine.Frame.{Frame}
 use Rattle.model.specs.declared.coro.WordOr.{WordOr}
 use Rattle.model.specs.declared.call.Op.{Op}
 use Rattle.model.specs.declared.call.Answer.{Answer}
-use Rattle.claims.specs.Engine.{View, Turn, calls, refuels, run, seenIn}
-use Rattle.claims.specs.Says.{Does, does, doing}
+use Rattle.claims.specs.Engine.{Turn, calls, refuels, run, seenIn}
+use Rattle.claims.specs.Says.{Does, doing}
 use Rattle.claims.specs.Held.{at, into}
 use Rattle.claims.specs.Delivery as Y
 use Rattle.claims.specs.Delivery.{recorded, resultOf, Memory, memory, onward, deliver, Left}
@@ -36,7 +36,7 @@ use Rattle.claims.proofs.Events.{no-entry}
 use Rattle.claims.proofs.Finishes.{FinishCase, f-other, f-returns, finish-case}
 use Rattle.claims.proofs.Claim as Claim
 use Rattle.claims.proofs.Claim.{StepCase, anew, same, step-case, run-left, Entering, entering}
-use Rattle.claims.proofs.Views.{is-runs, is-left, Alike, l-at, l-host, l-finish, l-raise, l-other, says-alike}
+use Rattle.claims.proofs.Views.{is-runs, is-left, Kind, k-at, k-host, k-finish, k-raise, k-other, kind-of}
 use Rattle.claims.proofs.Bodies.{at-top}
 use Rattle.claims.proofs.Restores.{enters-old, restarts-old, entry-by}
 
@@ -92,25 +92,6 @@ pub closing-seen : (k : Coroutine) → seenIn (λ x. x .closing) (seenOf k) ≡ 
 closing-seen Absent = refl
 closing-seen (Is k r) = refl
 
-abbrev isFinish : E.Act → Bool
-isFinish (E.at pc ok a) = false
-isFinish (E.byHost c x) = false
-isFinish (E.finishes kind x) = true
-isFinish E.unwinds = false
-isFinish E.other = false
-
-event-alike : (v : World) (c : ℕ) (z : View) {a : E.Act} {d : Does} → isFinish a ≡ false → Alike a d → Y.eventOf (viewOf v) d c z ≡ eventTo (eventBy a v c)
-event-alike v c z n (l-at pc ok (E.enters u d x may)) = refl
-event-alike v c z n (l-at pc ok (E.suspends s dst x)) =
-    let b = marked (λ r. r .closing) (coro v c) in
-    ap (λ t. pick (isAwaiting s) (Y.Awaits x) (pick t Y.Ignores (Y.Yields x))) (closing-seen (coro v c))
-    ∙ ap (pick (isAwaiting s) (Y.Awaits x)) (event-pick b Ignores (Yields x)) ∙ event-pick (isAwaiting s) (Awaits x) (pick b Ignores (Yields x))
-event-alike v c z n (l-at pc ok E.neither) = refl
-event-alike v c z n (l-host u x) = refl
-event-alike v c z n (l-finish kind x) = no-both refl n
-event-alike v c z n (l-raise f pc) = refl
-event-alike v c z n l-other = refl
-
 -- who leaves by a finish returns, and has recorded its result
 result-alike : (kind : ResultKind) (x : ℕ) (v : World) (r : ℕ) → ((y : ℕ) → toDyn kind x v .answer ≡ WordOr.Word y → r ≡ y) → (y : ℕ) → toDyn kind x v .answer ≡ WordOr.Word y → resultOf kind x r ≡ madeWord (toDyn kind x v .answer)
 unfolding toDyn
@@ -131,35 +112,19 @@ finish-event kind x v c o b l (f-returns f fs a chain y p q r m n ends tells int
     go (yes h) = result-alike kind x v (recorded (seenOf (coro (o .world) c))) (λ t g. ap (λ u. recorded (seenOf (coro (o .world) u))) h ∙ tells (ap (λ u. isRunning (coreAt v u .state)) (sym h) ∙ b) ∙ one-made m g) y m
     go (no h) = no-both l (run-left (coreAt (o .world) c .state) (ap (λ k. isRunning (k .state)) (ends .others c h) ∙ b))
 
-event-told : (v : World) (o : Op) (c : ℕ) → isRunning (coreAt v c .state) ≡ true → hasLeft (coreAt (call o v .world) c .state) ≡ true → Y.eventOf (viewOf v) (does (viewOf v) o) c (viewOf (call o v .world)) ≡ eventTo (eventBy (act v o) v c)
+event-told : (v : World) (c : ℕ) {o : Op} {a : E.Act} {d : Does} → isRunning (coreAt v c .state) ≡ true → hasLeft (coreAt (call o v .world) c .state) ≡ true → Kind v o a d
+    → Y.eventOf (viewOf v) d c (viewOf (call o v .world)) ≡ eventTo (eventBy a v c)
 unfolding call
-event-told v (Op.CoroNew pc dst f argc) c b l = event-alike v c (viewOf (call (Op.CoroNew pc dst f argc) v .world)) refl (says-alike v (Op.CoroNew pc dst f argc))
-event-told v (Op.CoroNewIndirect pc dst callee argc) c b l = event-alike v c (viewOf (call (Op.CoroNewIndirect pc dst callee argc) v .world)) refl (says-alike v (Op.CoroNewIndirect pc dst callee argc))
-event-told v (Op.Spawn pc dst callee argc) c b l = event-alike v c (viewOf (call (Op.Spawn pc dst callee argc) v .world)) refl (says-alike v (Op.Spawn pc dst callee argc))
-event-told v (Op.Yield pc dst src) c b l = event-alike v c (viewOf (call (Op.Yield pc dst src) v .world)) refl (says-alike v (Op.Yield pc dst src))
-event-told v (Op.YieldKv pc dst src key) c b l = event-alike v c (viewOf (call (Op.YieldKv pc dst src key) v .world)) refl (says-alike v (Op.YieldKv pc dst src key))
-event-told v (Op.Await pc dst src) c b l = event-alike v c (viewOf (call (Op.Await pc dst src) v .world)) refl (says-alike v (Op.Await pc dst src))
-event-told v (Op.Resume pc dst u src) c b l = event-alike v c (viewOf (call (Op.Resume pc dst u src) v .world)) refl (says-alike v (Op.Resume pc dst u src))
-event-told v (Op.ResumeThrow pc dst u src) c b l = event-alike v c (viewOf (call (Op.ResumeThrow pc dst u src) v .world)) refl (says-alike v (Op.ResumeThrow pc dst u src))
-event-told v (Op.CoroClose pc dst u src) c b l = event-alike v c (viewOf (call (Op.CoroClose pc dst u src) v .world)) refl (says-alike v (Op.CoroClose pc dst u src))
-event-told v (Op.CoroStatus pc dst u) c b l = event-alike v c (viewOf (call (Op.CoroStatus pc dst u) v .world)) refl (says-alike v (Op.CoroStatus pc dst u))
-event-told v (Op.CoroCurrent pc dst) c b l = event-alike v c (viewOf (call (Op.CoroCurrent pc dst) v .world)) refl (says-alike v (Op.CoroCurrent pc dst))
-event-told v (Op.CoroKey pc dst u) c b l = event-alike v c (viewOf (call (Op.CoroKey pc dst u) v .world)) refl (says-alike v (Op.CoroKey pc dst u))
-event-told v (Op.CoroResult pc dst u) c b l = event-alike v c (viewOf (call (Op.CoroResult pc dst u) v .world)) refl (says-alike v (Op.CoroResult pc dst u))
-event-told v (Op.IterNext pc has iter val src) c b l = event-alike v c (viewOf (call (Op.IterNext pc has iter val src) v .world)) refl (says-alike v (Op.IterNext pc has iter val src))
-event-told v (Op.Finish kind x) c b l = ap Y.Returns (finish-event kind x v c (finish kind x v) b l (finish-case kind x v))
-event-told v (Op.Unwind f pc) c b l = event-alike v c (viewOf (call (Op.Unwind f pc) v .world)) refl (says-alike v (Op.Unwind f pc))
-event-told v (Op.SpawnTask x) c b l = event-alike v c (viewOf (call (Op.SpawnTask x) v .world)) refl (says-alike v (Op.SpawnTask x))
-event-told v (Op.HostCall f) c b l = event-alike v c (viewOf (call (Op.HostCall f) v .world)) refl (says-alike v (Op.HostCall f))
-event-told v (Op.HostEntry u x) c b l = event-alike v c (viewOf (call (Op.HostEntry u x) v .world)) refl (says-alike v (Op.HostEntry u x))
-event-told v (Op.FunctionCall pc f cont) c b l = event-alike v c (viewOf (call (Op.FunctionCall pc f cont) v .world)) refl (says-alike v (Op.FunctionCall pc f cont))
-event-told v (Op.PutWord q x) c b l = event-alike v c (viewOf (call (Op.PutWord q x) v .world)) refl (says-alike v (Op.PutWord q x))
-event-told v (Op.MakeIterator x) c b l = event-alike v c (viewOf (call (Op.MakeIterator x) v .world)) refl (says-alike v (Op.MakeIterator x))
-event-told v Op.TakeOutcome c b l = event-alike v c (viewOf (call Op.TakeOutcome v .world)) refl (says-alike v Op.TakeOutcome)
-event-told v (Op.HandOver x) c b l = event-alike v c (viewOf (call (Op.HandOver x) v .world)) refl (says-alike v (Op.HandOver x))
-event-told v (Op.Grant n) c b l = event-alike v c (viewOf (call (Op.Grant n) v .world)) refl (says-alike v (Op.Grant n))
-event-told v Op.StopRun c b l = event-alike v c (viewOf (call Op.StopRun v .world)) refl (says-alike v Op.StopRun)
-event-told v Op.Look c b l = event-alike v c (viewOf (call Op.Look v .world)) refl (says-alike v Op.Look)
+event-told v c b l (k-at {a = E.enters u d x may} e i) = refl
+event-told v c b l (k-at {a = E.suspends s dst x} e i) =
+    let b = marked (λ r. r .closing) (coro v c) in
+    ap (λ t. pick (isAwaiting s) (Y.Awaits x) (pick t Y.Ignores (Y.Yields x))) (closing-seen (coro v c))
+    ∙ ap (pick (isAwaiting s) (Y.Awaits x)) (event-pick b Ignores (Yields x)) ∙ event-pick (isAwaiting s) (Awaits x) (pick b Ignores (Yields x))
+event-told v c b l (k-at {a = E.neither} e i) = refl
+event-told v c b l (k-host u x) = refl
+event-told v c b l (k-finish kind x) = ap Y.Returns (finish-event kind x v c (finish kind x v) b l (finish-case kind x v))
+event-told v c b l (k-raise f pc) = refl
+event-told v c b l (k-other e) = refl
 
 event-of : (v : World) (k : Call) (c : ℕ) → Stops c v k → Y.eventOf (viewOf v) (doing (viewOf v) (opOf k)) c (viewOf (next v k)) ≡ eventTo (eventOf v k c)
 event-of v k c h = go (next v k) (step-case v k) (h .after)
@@ -167,7 +132,7 @@ event-of v k c h = go (next v k) (step-case v k) (h .after)
     go : {k : Call} (z : World) → StepCase v k z → hasLeft (coreAt z c .state) ≡ true → Y.eventOf (viewOf v) (doing (viewOf v) (opOf k)) c (viewOf z) ≡ eventTo (eventOf v k c)
     go z (anew s e) a = refl
     go z (same k e) a = no-both a (run-left (coreAt v c .state) (h .before))
-    go z (Claim.does o e) a = event-told v (o .op) c (h .before) a
+    go z (Claim.does o e) a = event-told v c (h .before) a (kind-of v (o .op))
 
 -- THE SECOND HALF
 untouched-as : (c : ℕ) (w : World) (y : Call) (v : World) (l : Call) (z : World) → Entering c w y (next w y) → mem (z .stack) (z .frames) ≡ deliverTo (driverOf (entryOf w y)) (eventOf v l c) (mem (w .stack) (calling w y)) → z .chain ≡ w .chain

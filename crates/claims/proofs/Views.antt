@@ -8,16 +8,19 @@ use Rattle.heap.specs.declared.object.CoroState.{CoroState}
 use Rattle.heap.specs.declared.heap.ResultKind.{ResultKind}
 use Rattle.model.specs.State.{isCreated, isRunning, isAwaiting, isSuspended, isReturned, isResumable}
 use Rattle.model.specs.Object.{Coroutine, Absent, Is, isDone}
-use Rattle.model.specs.World.{World}
+use Rattle.model.specs.World.{World, After}
 use Rattle.model.specs.Frames.{topBase, reg}
 use Rattle.model.specs.Heap.{object, coro}
 use Rattle.model.specs.Program.{isFunction}
 use Rattle.model.specs.Gate.{inFrame, windowIn}
 use Rattle.model.specs.Cleanup.{isAsleep}
+use Rattle.model.specs.Calls.{Instruction, table}
+use Rattle.model.specs.declared.exec.Step.{Step}
 use Rattle.model.specs.declared.machine.Frame.{Frame}
 use Rattle.model.specs.declared.machine.Driver.{Driver}
 use Rattle.model.specs.declared.call.OptPc.{OptPc}
 use Rattle.model.specs.declared.call.Op.{Op}
+use Rattle.invariant.specs.Kept as Kept
 use Rattle.claims.specs.Engine.{isNew, runs, awaits, sleeps, ended, seenIn, is}
 use Rattle.claims.specs.Says.{base, Aim, enter, suspend, neither, Does, instr, hosts, finishes, raises, other, does, nothing, gets, closes}
 use Rattle.claims.specs.Held.{closer}
@@ -152,40 +155,72 @@ pub data Alike : E.Act → Does → Type 0 where
   l-raise : (f : Fault) (pc : OptPc) → Alike E.unwinds (raises f pc)
   l-other : Alike E.other other
 
-alike-at : (pc : ℕ) {ok yes : Bool} (a : E.Aim) {b : Aim} → yes ≡ ok → b ≡ aimOf a → Alike (E.at pc ok a) (instr pc yes b)
-alike-at pc {ok} a {b} p q = subst (λ y. Alike (E.at pc ok a) (instr pc y b)) (sym p) (subst (λ y. Alike (E.at pc ok a) (instr pc ok y)) (sym q) (l-at pc ok a))
+-- the instructions that are after something, and the others
+pub data Aims (w : World) : Op → E.Aim → Type 0 where
+  yields : (pc dst src : ℕ) → Aims w (Op.Yield pc dst src) (E.suspends CoroState.Yielded dst (reg w src))
+  yieldsKv : (pc dst src key : ℕ) → Aims w (Op.YieldKv pc dst src key) (E.suspends CoroState.Yielded dst (reg w src))
+  waits : (pc dst src : ℕ) → Aims w (Op.Await pc dst src) (E.suspends CoroState.Awaiting dst (reg w src))
+  resumes : (pc dst c src : ℕ) → Aims w (Op.Resume pc dst c src) (E.enters (reg w c) (Driver.Resume dst) (gets (reg w src)) true)
+  throws : (pc dst c src : ℕ) → Aims w (Op.ResumeThrow pc dst c src) (E.enters (reg w c) (Driver.Resume dst) nothing (isAsleep (coro w (reg w c))))
+  shuts : (pc dst c src : ℕ) → Aims w (Op.CoroClose pc dst c src) (E.enters (reg w c) (Driver.Resume dst) (closes (reg w src)) (isAsleep (coro w (reg w c))))
+  turns : (pc has iter val src : ℕ) → Aims w (Op.IterNext pc has iter val src)
+      (E.enters (reg w src) (Driver.Iter has val (reg w iter)) (gets 0) (not (isDone (object w (reg w iter))) && not (E.awaits (coro w (reg w src)))))
+  aimless : {o : Op} → Aims w o E.neither
+
+-- THE CALLS, as the theorems go by them: those that some theorem has something of its own to say of, and the others
+pub data Kind (w : World) : Op → E.Act → Does → Type 0 where
+  k-at : {o : Op} {a : E.Aim} {pc : ℕ} {ok : World → Bool} {arm : World → After Step} → table o ≡ Instruction pc ok arm → Aims w o a → Kind w o (E.at pc (ok w) a) (instr pc (ok w) (aimOf a))
+  k-host : (c x : ℕ) → Kind w (Op.HostEntry c x) (E.byHost c x) (hosts c x)
+  k-finish : (kind : ResultKind) (x : ℕ) → Kind w (Op.Finish kind x) (E.finishes kind x) (finishes kind x)
+  k-raise : (f : Fault) (pc : OptPc) → Kind w (Op.Unwind f pc) E.unwinds (raises f pc)
+  k-other : {o : Op} → Kept.raises (table o) ≡ true → Kind w o E.other other
+
+alike : {w : World} {o : Op} {a : E.Act} {d : Does} → Kind w o a d → Alike a d
+alike {w} (k-at {a = a} {pc} {ok} e i) = l-at pc (ok w) a
+alike (k-host c x) = l-host c x
+alike (k-finish kind x) = l-finish kind x
+alike (k-raise f pc) = l-raise f pc
+alike (k-other e) = l-other
+
+at : {w : World} {o : Op} {a : E.Aim} {pc : ℕ} {ok : World → Bool} {arm : World → After Step} {yes : Bool} {b : Aim} → table o ≡ Instruction pc ok arm → Aims w o a → yes ≡ ok w → b ≡ aimOf a
+    → Kind w o (E.at pc (ok w) a) (instr pc yes b)
+at {w} {o} {a} {pc} {ok} {b = b} e i p q = subst (λ y. Kind w o (E.at pc (ok w) a) (instr pc y b)) (sym p) (subst (λ y. Kind w o (E.at pc (ok w) a) (instr pc (ok w) y)) (sym q) (k-at e i))
 
 and-unit : (a : Bool) → (a && true) ≡ a
 and-unit true = refl
 and-unit false = refl
 
-pub says-alike : (w : World) (o : Op) → Alike (act w o) (does (viewOf w) o)
-says-alike w (Op.CoroNew pc dst f argc) = alike-at pc E.neither (rw (base-top (w .frames)) (ap (λ b. b && windowIn w dst argc && isFunction (w .setup) f) (and-unit (inFrame w dst)))) refl
-says-alike w (Op.CoroNewIndirect pc dst callee argc) = alike-at pc E.neither (rw (base-top (w .frames))) refl
-says-alike w (Op.Spawn pc dst callee argc) = alike-at pc E.neither (rw (base-top (w .frames))) refl
-says-alike w (Op.Yield pc dst src) = alike-at pc (E.suspends CoroState.Yielded dst (reg w src)) (rw (base-top (w .frames))) (rw (base-top (w .frames)))
-says-alike w (Op.YieldKv pc dst src key) = alike-at pc (E.suspends CoroState.Yielded dst (reg w src)) (rw (base-top (w .frames))) (rw (base-top (w .frames)))
-says-alike w (Op.Await pc dst src) = alike-at pc (E.suspends CoroState.Awaiting dst (reg w src)) (rw (base-top (w .frames))) (rw (base-top (w .frames)))
-says-alike w (Op.Resume pc dst c src) = alike-at pc (E.enters (reg w c) (Driver.Resume dst) (gets (reg w src)) true) (rw (base-top (w .frames))) (rw (base-top (w .frames)))
-says-alike w (Op.ResumeThrow pc dst c src) = alike-at pc (E.enters (reg w c) (Driver.Resume dst) nothing (isAsleep (coro w (reg w c)))) (rw (base-top (w .frames))) (rw (base-top (w .frames)) (ap (enter (reg w c) (Driver.Resume dst) nothing) (is-asleep w (reg w c))))
-says-alike w (Op.CoroClose pc dst c src) = alike-at pc (E.enters (reg w c) (Driver.Resume dst) (closes (reg w src)) (isAsleep (coro w (reg w c)))) (rw (base-top (w .frames))) (rw (base-top (w .frames)) (ap (enter (reg w c) (Driver.Resume dst) (closes (reg w src))) (is-asleep w (reg w c))))
-says-alike w (Op.CoroStatus pc dst c) = alike-at pc E.neither (rw (base-top (w .frames))) refl
-says-alike w (Op.CoroCurrent pc dst) = alike-at pc E.neither (rw (base-top (w .frames))) refl
-says-alike w (Op.CoroKey pc dst c) = alike-at pc E.neither (rw (base-top (w .frames))) refl
-says-alike w (Op.CoroResult pc dst c) = alike-at pc E.neither (rw (base-top (w .frames))) refl
-says-alike w (Op.IterNext pc has iter val src) =
-    alike-at pc (E.enters (reg w src) (Driver.Iter has val (reg w iter)) (gets 0) (not (isDone (object w (reg w iter))) && not (E.awaits (coro w (reg w src))))) (rw (base-top (w .frames)))
+-- every call has its kind
+pub kind-of : (w : World) (o : Op) → Kind w o (act w o) (does (viewOf w) o)
+kind-of w (Op.CoroNew pc dst f argc) = at refl aimless (rw (base-top (w .frames)) (ap (λ b. b && windowIn w dst argc && isFunction (w .setup) f) (and-unit (inFrame w dst)))) refl
+kind-of w (Op.CoroNewIndirect pc dst callee argc) = at refl aimless (rw (base-top (w .frames))) refl
+kind-of w (Op.Spawn pc dst callee argc) = at refl aimless (rw (base-top (w .frames))) refl
+kind-of w (Op.Yield pc dst src) = at refl (yields pc dst src) (rw (base-top (w .frames))) (rw (base-top (w .frames)))
+kind-of w (Op.YieldKv pc dst src key) = at refl (yieldsKv pc dst src key) (rw (base-top (w .frames))) (rw (base-top (w .frames)))
+kind-of w (Op.Await pc dst src) = at refl (waits pc dst src) (rw (base-top (w .frames))) (rw (base-top (w .frames)))
+kind-of w (Op.Resume pc dst c src) = at refl (resumes pc dst c src) (rw (base-top (w .frames))) (rw (base-top (w .frames)))
+kind-of w (Op.ResumeThrow pc dst c src) = at refl (throws pc dst c src) (rw (base-top (w .frames))) (rw (base-top (w .frames)) (ap (enter (reg w c) (Driver.Resume dst) nothing) (is-asleep w (reg w c))))
+kind-of w (Op.CoroClose pc dst c src) = at refl (shuts pc dst c src) (rw (base-top (w .frames))) (rw (base-top (w .frames)) (ap (enter (reg w c) (Driver.Resume dst) (closes (reg w src))) (is-asleep w (reg w c))))
+kind-of w (Op.CoroStatus pc dst c) = at refl aimless (rw (base-top (w .frames))) refl
+kind-of w (Op.CoroCurrent pc dst) = at refl aimless (rw (base-top (w .frames))) refl
+kind-of w (Op.CoroKey pc dst c) = at refl aimless (rw (base-top (w .frames))) refl
+kind-of w (Op.CoroResult pc dst c) = at refl aimless (rw (base-top (w .frames))) refl
+kind-of w (Op.IterNext pc has iter val src) =
+    at refl (turns pc has iter val src) (rw (base-top (w .frames)))
     (rw (base-top (w .frames)) (ap (λ b. enter (reg w src) (Driver.Iter has val (reg w iter)) (gets 0) (not (isDone (object w (reg w iter))) && not b)) (is-awaits w (reg w src))))
-says-alike w (Op.Finish kind x) = l-finish kind x
-says-alike w (Op.Unwind f pc) = l-raise f pc
-says-alike w (Op.SpawnTask x) = l-other
-says-alike w (Op.HostCall f) = l-other
-says-alike w (Op.HostEntry c x) = l-host c x
-says-alike w (Op.FunctionCall pc f cont) = l-other
-says-alike w (Op.PutWord r x) = l-other
-says-alike w (Op.MakeIterator x) = l-other
-says-alike w Op.TakeOutcome = l-other
-says-alike w (Op.HandOver x) = l-other
-says-alike w (Op.Grant n) = l-other
-says-alike w Op.StopRun = l-other
-says-alike w Op.Look = l-other
+kind-of w (Op.Finish kind x) = k-finish kind x
+kind-of w (Op.Unwind f pc) = k-raise f pc
+kind-of w (Op.SpawnTask x) = k-other refl
+kind-of w (Op.HostCall f) = k-other refl
+kind-of w (Op.HostEntry c x) = k-host c x
+kind-of w (Op.FunctionCall pc f cont) = k-other refl
+kind-of w (Op.PutWord r x) = k-other refl
+kind-of w (Op.MakeIterator x) = k-other refl
+kind-of w Op.TakeOutcome = k-other refl
+kind-of w (Op.HandOver x) = k-other refl
+kind-of w (Op.Grant n) = k-other refl
+kind-of w Op.StopRun = k-other refl
+kind-of w Op.Look = k-other refl
+
+pub says-alike : (w : World) (o : Op) → Alike (act w o) (does (viewOf w) o)
+says-alike w o = alike (kind-of w o)
