@@ -17,36 +17,10 @@ abbrev μ-loop : tie.MeasureT-loop
 loop-holds : tie.Need-loop-holds Inv-loop μ-loop
 loop-holds c = (omega arith, omega arith, refl)
 
-sub-i : tie.Need-sub-i Inv-loop μ-loop
-sub-i c = omega arith
-
-mul-if1 : tie.Need-mul-if1 Inv-loop μ-loop
-mul-if1 c =
-    let start = c .before .before .before .before in
-    omega (arith, start .pre .on-frames)
-
-add-if1 : tie.Need-add-if1 Inv-loop μ-loop
-add-if1 c =
-    let start = c .before .before .before .before in
-    omega (arith, start .pre .on-frames)
-
-mul-if1-2 : tie.Need-mul-if1-2 Inv-loop μ-loop
-mul-if1-2 c =
-    let start = c .before .before .before .before in
-    omega (arith, start .pre .on-frames)
-
-shared-slice-read-if1 : tie.Need-shared-slice-read-if1 Inv-loop μ-loop
-shared-slice-read-if1 c =
-    let start = c .before .before .before .before .before in
-    omega (arith, start .pre .on-frames)
-
 returns : tie.Need-returns Inv-loop μ-loop
 returns c =
     let at-if1 = c .before in let at-loop-test = at-if1 .before .before in let at-loop = at-loop-test .before in let start = at-loop .before .before .before in
     let a = start .args in none-left (a .chain .now) (a .frames .now) (at-loop .loop .i) (at-loop .loop .k) _ (at-loop .loop .inv .2) (at-loop-test .loop-test .taken) (at-if1 .if1 .taken) (c .if2 .taken)
-
-sub-k : tie.Need-sub-k Inv-loop μ-loop
-sub-k c = omega arith
 
 active-ok-requires : tie.Need-active-ok-requires Inv-loop μ-loop
 active-ok-requires c κs =
@@ -60,9 +34,6 @@ returns-2 c =
     let a = start .args in
     active-stop (a .chain .now) (a .frames .now) (at-loop .loop .i) (at-loop .loop .k) _ (at-loop .loop .inv .2) (at-loop-test .loop-test .taken) (at-if1 .if1 .taken) (omega arith) (at-active-ok .active-ok .result) (at-active-ok .active-ok .ensures) (not-true _ (c .if3 .taken))
 
-loop-less : tie.Need-loop-less Inv-loop μ-loop
-loop-less c = omega arith
-
 loop-again : tie.Need-loop-again Inv-loop μ-loop
 loop-again c =
     let at-active-ok = c .before in let at-if1 = at-active-ok .before .before in let at-loop-test = at-if1 .before .before in let at-loop = at-loop-test .before in
@@ -73,9 +44,6 @@ loop-again c =
       active-more (a .chain .now) (a .frames .now) (at-loop .loop .i) (at-loop .loop .k) _ (at-loop .loop .inv .2) (at-loop-test .loop-test .taken)
           (at-if1 .if1 .taken) (omega arith) (at-active-ok .active-ok .result) (at-active-ok .active-ok .ensures) (not-false _ (c .if3 .left)),
     )
-
-loop-less-2 : tie.Need-loop-less-2 Inv-loop μ-loop
-loop-less-2 c = omega arith
 
 loop-again-2 : tie.Need-loop-again-2 Inv-loop μ-loop
 loop-again-2 c =
@@ -94,17 +62,17 @@ chain-over-spec =
     Inv-loop
     μ-loop
     loop-holds
-    sub-i
-    mul-if1
-    add-if1
-    mul-if1-2
-    shared-slice-read-if1
+    (λ c. omega arith)
+    (λ c. omega (arith, c .before .before .before .before .pre .on-frames))
+    (λ c. omega (arith, c .before .before .before .before .pre .on-frames))
+    (λ c. omega (arith, c .before .before .before .before .pre .on-frames))
+    (λ c. omega (arith, c .before .before .before .before .before .pre .on-frames))
     returns
-    sub-k
+    (λ c. omega arith)
     active-ok-requires
     returns-2
-    loop-less
+    (λ c. omega arith)
     loop-again
-    loop-less-2
+    (λ c. omega arith)
     loop-again-2
     returns-3)

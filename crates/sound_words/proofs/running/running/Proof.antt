@@ -1,6 +1,6 @@
 -- `running` meets its contract: the active ones passed so far run, and the set has their slots. Assumes nothing.
 use mathlib.Core.Path.{_≡_, refl, sym, _∙_}
-use mathlib.Core.Bool.{true, false≢true}
+use mathlib.Core.Bool.{true, false, false≢true}
 use mathlib.Core.List.{List}
 use Prim.Native.Nat.{ℕ, _*_, _-_, _<_}
 use native.Mathlib.Omega.{arith}
@@ -13,6 +13,7 @@ use Rattle.heap.specs.Heap.{slotsOf}
 use Rattle.heap.specs.Table.{Slot}
 use Rattle.heap.specs.declared.object.Object as H
 use Rattle.sound_test.proofs.Bits.{empty-set, put-set}
+use Rattle.sound_words.specs.Running.{runningTest, RunningTold}
 use Rattle.sound_words.proofs.Chained.{Passed, runs, stops, twice, passes, all-run, set-of, word-inside}
 use Rattle.sound_words.proofs.running.running.Statement.{statement}
 use Rattle.sound_words.proofs.running.running.Tie as tie
@@ -38,63 +39,26 @@ small c =
     let at-loop = c .before .before .before .before in let start = at-loop .before .before .before in
     omega (arith, word-inside (table at-loop) (word at-loop) (runs-now c), length-chunks width slotOfWords (start .args .count) (start .args .slots .now), start .pre .few)
 
+-- one that does not run, or runs twice, refuses the whole
+refused : (c : tie.At-loop Inv-loop μ-loop) → let a = c .before .before .before .args in
+    false ≡ runningTest (a .chain .now) (a .n) (table c) → RunningTold (a .chain .now) (a .n) (table c) (record { good = false; set = c .loop .seen })
+refused c e = record { good = e; long = c .loop .inv .long; set = λ f. absurd (false≢true f) }
+
 loop-holds : tie.Need-loop-holds Inv-loop μ-loop
 loop-holds c = record { within = omega arith; fine = refl; own = refl; holds = empty-set; long = refl }
-
-mul-w : tie.Need-mul-w Inv-loop μ-loop
-mul-w c = omega (arith, c .before .before .before .before .pre .on-chain, c .before .loop .inv .within)
-
-mul-w-2 : tie.Need-mul-w-2 Inv-loop μ-loop
-mul-w-2 c = omega (arith, c .before .before .before .before .pre .on-chain, c .before .loop .inv .within)
-
-shared-slice-read-w : tie.Need-shared-slice-read-w Inv-loop μ-loop
-shared-slice-read-w c = omega (arith, c .before .before .before .before .before .pre .on-chain, c .before .before .loop .inv .within)
-
-is-running-requires : tie.Need-is-running-requires Inv-loop μ-loop
-is-running-requires c κs = c .before .before .before .before .before .pre .table
 
 returns : tie.Need-returns Inv-loop μ-loop
 returns c =
     let at-is-running = c .before in let at-loop-test = at-is-running .before .before in let at-loop = at-loop-test .before in let a = at-loop .before .before .before .args in
-    record {
-      good = stops (table at-loop) (a .chain .now) (a .n) (at-loop .loop .k) (at-loop-test .loop-test .taken) (sym (at-is-running .is-running .ensures) ∙ not-true _ (c .if1 .taken));
-      long = at-loop .loop .inv .long;
-      set = λ e. absurd (false≢true e);
-    }
-
-mul-v : tie.Need-mul-v Inv-loop μ-loop
-mul-v c = omega (arith, small c)
-
-array-read-v : tie.Need-array-read-v Inv-loop μ-loop
-array-read-v c = omega (arith, small c)
-
-bit-requires : tie.Need-bit-requires Inv-loop μ-loop
-bit-requires c κs = omega arith
+    refused at-loop
+    (stops (table at-loop) (a .chain .now) (a .n) (at-loop .loop .k) (at-loop-test .loop-test .taken) (sym (at-is-running .is-running .ensures) ∙ not-true _ (c .if1 .taken)))
 
 returns-2 : tie.Need-returns-2 Inv-loop μ-loop
 returns-2 c =
     let at-bit = c .before in let at-loop-test = at-bit .before .before .before .before in let at-loop = at-loop-test .before in let a = at-loop .before .before .before .args in
-    record {
-      good = twice (table at-loop) (a .chain .now) (a .n) (at-loop .loop .k) (at-loop .loop .seen) (at-loop .loop .inv)
-          (at-loop-test .loop-test .taken) (runs-now (at-bit .before)) (sym (at-bit .bit .ensures) ∙ c .if2 .taken);
-      long = at-loop .loop .inv .long;
-      set = λ e. absurd (false≢true e);
-    }
-
-with-bit-requires : tie.Need-with-bit-requires Inv-loop μ-loop
-with-bit-requires c κs = omega arith
-
-mul-seen : tie.Need-mul-seen Inv-loop μ-loop
-mul-seen c = omega (arith, small (c .before .before .before))
-
-array-write-seen : tie.Need-array-write-seen Inv-loop μ-loop
-array-write-seen c = omega (arith, small (c .before .before .before))
-
-add-k : tie.Need-add-k Inv-loop μ-loop
-add-k c = omega (arith, c .before .before .before .before .before .before .loop-test .taken)
-
-loop-less : tie.Need-loop-less Inv-loop μ-loop
-loop-less c = omega (arith, c .before .before .before .before .before .before .loop-test .taken)
+    refused at-loop
+    (twice (table at-loop) (a .chain .now) (a .n) (at-loop .loop .k) (at-loop .loop .seen) (at-loop .loop .inv) (at-loop-test .loop-test .taken) (runs-now (at-bit .before))
+    (sym (at-bit .bit .ensures) ∙ c .if2 .taken))
 
 loop-again : tie.Need-loop-again Inv-loop μ-loop
 loop-again c =
@@ -120,19 +84,17 @@ running-spec =
     Inv-loop
     μ-loop
     loop-holds
-    mul-w
-    mul-w-2
-    shared-slice-read-w
-    is-running-requires
+    (λ c. omega (arith, c .before .before .before .before .pre .on-chain, c .before .loop .inv .within))
+    (λ c. omega (arith, c .before .before .before .before .pre .on-chain, c .before .loop .inv .within))
+    (λ c. omega (arith, c .before .before .before .before .before .pre .on-chain, c .before .before .loop .inv .within))
+    (λ c κs. c .before .before .before .before .before .pre .table)
     returns
-    mul-v
-    array-read-v
-    bit-requires
+    (λ c. omega (arith, small c)) (λ c. omega (arith, small c))
+    (λ c κs. omega arith)
     returns-2
-    with-bit-requires
-    mul-seen
-    array-write-seen
-    add-k
-    loop-less
+    (λ c κs. omega arith)
+    (λ c. omega (arith, small (c .before .before .before))) (λ c. omega (arith, small (c .before .before .before)))
+    (λ c. omega (arith, c .before .before .before .before .before .before .loop-test .taken))
+    (λ c. omega (arith, c .before .before .before .before .before .before .loop-test .taken))
     loop-again
     returns-3)

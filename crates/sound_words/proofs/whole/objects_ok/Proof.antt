@@ -114,8 +114,7 @@ mul-rest-ok-4 c =
     let start = start-of (c .before .before .before .before .before .before .before .before .before .before .before .before .before .before) in omega (arith, start .pre .on-frames, start .good)
 
 returns-5 : tie.Need-returns-5
-returns-5 c =
-    let at-if4 = c .before .before .before in
+returns-5 c = let at-if4 = c .before .before .before in
     last (pass (passed-3 (at-if4 .before .before .before)) (sym (at-if4 .before .rest-ok2 .ensures) ∙ not-false _ (at-if4 .if4 .left))) (c .rest-ok3 .ensures)
 
 pub objects-ok-spec : {M : Type 1} → statement M

@@ -20,9 +20,7 @@ use Rattle.sound_words.proofs.whole.sound_words.Statement.{statement}
 use Rattle.sound_words.proofs.whole.sound_words.Tie as tie
 
 abbrev lent : tie.Start → Lent
-lent c =
-    lentOf (c .args .stack .now) (c .args .frames .now) (c .args .chain .now) (c .args .slots .now) (c .args .saved .now) (c .args .asleep .now)
-    (c .args .ready .now) (c .args .finalize .now) (c .args .setup .now)
+lent c = let a = c .args in lentOf (a .stack .now) (a .frames .now) (a .chain .now) (a .slots .now) (a .saved .now) (a .asleep .now) (a .ready .now) (a .finalize .now) (a .setup .now)
 
 abbrev numbers-by : tie.Start → Sizes → Bool
 numbers-by c l =
@@ -93,8 +91,7 @@ catches-requires : tie.Need-catches-requires
 catches-requires c κs = held (c .before .before .before)
 
 tower-ok-requires : tie.Need-tower-ok-requires
-tower-ok-requires c κs =
-    let at-if2 = c .before .before in let start = start-of at-if2 in
+tower-ok-requires c κs = let at-if2 = c .before .before in let start = start-of at-if2 in
     tower-fits (lent start) (start .args .m) (start .args .fuel) (held (at-if2 .before .before .before)) (ready at-if2) _ (c .before .catches .ensures)
 
 returns-3 : tie.Need-returns-3
@@ -112,13 +109,11 @@ returns-4 : tie.Need-returns-4
 returns-4 c = stop (passed-3 (c .before .before .before)) (objects (c .before) false (not-true _ (c .if4 .taken)))
 
 queues-ok-requires : tie.Need-queues-ok-requires
-queues-ok-requires c κs =
-    let at-if2 = c .before .before .before .before .before .before .before in let start = start-of at-if2 in
+queues-ok-requires c κs = let at-if2 = c .before .before .before .before .before .before .before in let start = start-of at-if2 in
     queues-fit (lent start) (start .args .m) (start .args .fuel) (held (at-if2 .before .before .before)) (ready at-if2)
 
 returns-5 : tie.Need-returns-5
-returns-5 c =
-    let at-if4 = c .before in
+returns-5 c = let at-if4 = c .before in
     last (pass (passed-3 (at-if4 .before .before .before)) (objects (at-if4 .before) true (not-false _ (at-if4 .if4 .left)))) (c .queues-ok .ensures)
 
 pub sound-words-spec : {M : Type 1} → statement M
