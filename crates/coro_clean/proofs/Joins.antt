@@ -55,6 +55,26 @@ joins-room mark xs i v y q n h k =
     let c = length-append q (v ∷ []) in
     omega arith
 
+-- ---- what is owed of the coroutine in slot i, by what its slot says
+
+pub record Tasks (l : Sizes) (M : Lent) (m : Machine) (f : Fuel) (v : ℕ) (w : World) (i : ℕ) : Type 0 where
+  pub already : coroIn (M .slots) i .task ≡ true → Does l (spawnTask v w) M m f (WordOr.Word v)
+  pub late : coroIn (M .slots) i .task ≡ false → isResumable (coroIn (M .slots) i .state) ≡ false → Does l (spawnTask v w) M m f (WordOr.Word v)
+  pub room : sound w ≡ true → Room (w .setup) M → coroIn (M .slots) i .task ≡ false → m .ready < length (M .ready)
+  pub joins : coroIn (M .slots) i .task ≡ false → isResumable (coroIn (M .slots) i .state) ≡ true → (slots′ ready′ : List ℕ)
+      → slots′ ≡ putChunk width (M .slots) i (taskWords (chunkAt width (M .slots) i)) → QueueDo (λ xs. xs ++ (v ∷ [])) (M .ready) ready′ (m .ready) (m .ready + 1)
+      → Does l (spawnTask v w) (onSlots slots′ (onReady ready′ M)) (withWaiting (m .ready + 1) m) f (WordOr.Word v)
+
+pub record Hands (l : Sizes) (M : Lent) (m : Machine) (f : Fuel) (v : ℕ) (w : World) (i : ℕ) : Type 0 where
+  pub awake : isSuspended (coroIn (M .slots) i .state) ≡ false → Does l (handOver v w) M m f (Answer.Refused Fault.InvalidCoroState)
+  pub twice : isSuspended (coroIn (M .slots) i .state) ≡ true → coroIn (M .slots) i .finalized ≡ true → Does l (handOver v w) M m f (Answer.Refused Fault.InvalidCoroState)
+  pub room : sound w ≡ true → Room (w .setup) M → coroIn (M .slots) i .finalized ≡ false → m .finalize < length (M .finalize)
+  -- the flags are set of the world in which its mark is, and its word in the queue
+  pub joins : isSuspended (coroIn (M .slots) i .state) ≡ true → coroIn (M .slots) i .finalized ≡ false → (slots′ finalize′ : List ℕ)
+      → slots′ ≡ putChunk width (M .slots) i (finalizedWords (chunkAt width (M .slots) i)) → QueueDo (λ xs. xs ++ (v ∷ [])) (M .finalize) finalize′ (m .finalize) (m .finalize + 1)
+      → (n : Machine) (g : Fuel) → ((u : World) → Rep l u (onSlots slots′ (onFinalize finalize′ M)) (withCleanups (m .finalize + 1) m) f
+      → Rep l (setFinalizing (m .finalizing) u) (onSlots slots′ (onFinalize finalize′ M)) n g) → Does l (handOver v w) (onSlots slots′ (onFinalize finalize′ M)) n g Answer.Accepted
+
 module _ (l : Sizes) (M : Lent) (m : Machine) (f : Fuel) (v : ℕ) (w : World) (rep : Rep l w M m f) where
   -- ---- no coroutine
 
@@ -95,38 +115,30 @@ module _ (l : Sizes) (M : Lent) (m : Machine) (f : Fuel) (v : ℕ) (w : World) (
     unfolding may-join
     task-stays e = does l M m f (spawnTask v w) w (WordOr.Word v) (as-task ∙ passed _ (after w (WordOr.Word v)) may-join e) rep
 
-    pub task-already : coroIn (M .slots) i .task ≡ true → Does l (spawnTask v w) M m f (WordOr.Word v)
+    pub tasks-at : Tasks l M m f v w i
     unfolding may-join
-    task-already e = task-stays (ap (λ b. not b && isResumable (t .core .state)) (sym task-is ∙ e))
-
-    pub task-late : coroIn (M .slots) i .task ≡ false → isResumable (coroIn (M .slots) i .state) ≡ false → Does l (spawnTask v w) M m f (WordOr.Word v)
-    unfolding may-join
-    task-late e r = task-stays (ap₂ (λ b c. not b && c) (sym task-is ∙ e) (ap isResumable (sym state-is) ∙ r))
-
-    pub task-room : sound w ≡ true → Room (w .setup) M → coroIn (M .slots) i .task ≡ false → m .ready < length (M .ready)
-    task-room snd room e =
-        let h : Sound false w = sound→ w snd (λ z. no-false z) in
-        let s = task-sound w v (t .core) (t .rest) h (t .coro) (sym task-is ∙ e) in
-        let k = h .heap .count in
-        let a = joins-room (λ r. r .task) (w .slots) (slotOf v) v _ (w .ready) (w .setup .limits .slots) (s .tasks) k in
-        let c = rep .ready .count in
-        let q = room .ready in
-        omega arith
-
-    pub task-joins : coroIn (M .slots) i .task ≡ false → isResumable (coroIn (M .slots) i .state) ≡ true → (slots′ ready′ : List ℕ)
-        → slots′ ≡ putChunk width (M .slots) i (taskWords (chunkAt width (M .slots) i)) → QueueDo (λ xs. xs ++ (v ∷ [])) (M .ready) ready′ (m .ready) (m .ready + 1)
-        → Does l (spawnTask v w) (onSlots slots′ (onReady ready′ M)) (withWaiting (m .ready + 1) m) f (WordOr.Word v)
-    unfolding may-join
-    task-joins e r slots′ ready′ mark push =
-        let u = withReady (w .ready ++ (v ∷ [])) w in
-        let queued = turn-ready l w M m f rep (w .ready ++ (v ∷ [])) ready′ (m .ready + 1) (push (w .ready) (rep .ready)) in
-        let k = t .core in
-        let r′ = withTask true (t .rest) in
-        does l (onSlots slots′ (onReady ready′ M)) (withWaiting (m .ready + 1) m) f (spawnTask v w) (setCoro v k r′ u) (WordOr.Word v)
-        (as-task ∙ chosen (after (setCoro v k r′ u) (WordOr.Word v)) _ may-join (ap₂ (λ b c. not b && c) (sym task-is ∙ e) (ap isResumable (sym state-is) ∙ r)))
-        (rest-rep l (onReady ready′ M) (withWaiting (m .ready + 1) m) f v u queued i (coroIn (M .slots) i) t r′ slots′ refl
-        (H.tasks (M .slots) i (tagOf v) (coroIn (M .slots) i) (placed-words l M m f v w rep i at) slots′ mark
-        ∙ ap (λ (x : CoroObj). putSlot (M .slots) i (slot (tagOf v) (O.Coro (asTask x)))) (t .is)))
+    tasks-at = record {
+      already = λ e. task-stays (ap (λ b. not b && isResumable (t .core .state)) (sym task-is ∙ e));
+      late = λ e r. task-stays (ap₂ (λ b c. not b && c) (sym task-is ∙ e) (ap isResumable (sym state-is) ∙ r));
+      room = λ snd room e.
+          let h : Sound false w = sound→ w snd (λ z. no-false z) in
+          let s = task-sound w v (t .core) (t .rest) h (t .coro) (sym task-is ∙ e) in
+          let k = h .heap .count in
+          let a = joins-room (λ r. r .task) (w .slots) (slotOf v) v _ (w .ready) (w .setup .limits .slots) (s .tasks) k in
+          let c = rep .ready .count in
+          let q = room .ready in
+          omega arith;
+      joins = λ e r slots′ ready′ mark push.
+          let u = withReady (w .ready ++ (v ∷ [])) w in
+          let queued = turn-ready l w M m f rep (w .ready ++ (v ∷ [])) ready′ (m .ready + 1) (push (w .ready) (rep .ready)) in
+          let k = t .core in
+          let r′ = withTask true (t .rest) in
+          does l (onSlots slots′ (onReady ready′ M)) (withWaiting (m .ready + 1) m) f (spawnTask v w) (setCoro v k r′ u) (WordOr.Word v)
+          (as-task ∙ chosen (after (setCoro v k r′ u) (WordOr.Word v)) _ may-join (ap₂ (λ b c. not b && c) (sym task-is ∙ e) (ap isResumable (sym state-is) ∙ r)))
+          (rest-rep l (onReady ready′ M) (withWaiting (m .ready + 1) m) f v u queued i (coroIn (M .slots) i) t r′ slots′ refl
+          (H.tasks (M .slots) i (tagOf v) (coroIn (M .slots) i) (placed-words l M m f v w rep i at) slots′ mark
+          ∙ ap (λ (x : CoroObj). putSlot (M .slots) i (slot (tagOf v) (O.Coro (asTask x)))) (t .is)));
+    }
 
     -- ---- hand over
 
@@ -137,45 +149,34 @@ module _ (l : Sizes) (M : Lent) (m : Machine) (f : Fuel) (v : ℕ) (w : World) (
     unfit : Bool
     unfit = not (isSuspended (t .core .state)) || t .rest .finalized
 
-    pub hand-awake : isSuspended (coroIn (M .slots) i .state) ≡ false → Does l (handOver v w) M m f (Answer.Refused Fault.InvalidCoroState)
+    refused : unfit ≡ true → Does l (handOver v w) M m f (Answer.Refused Fault.InvalidCoroState)
     unfolding unfit
-    hand-awake e =
-        does l M m f (handOver v w) w (Answer.Refused Fault.InvalidCoroState)
-        (as-handed ∙ chosen (after w (Answer.Refused Fault.InvalidCoroState)) _ unfit (ap (λ b. not b || t .rest .finalized) (ap isSuspended (sym state-is) ∙ e))) rep
+    refused e =
+        does l M m f (handOver v w) w (Answer.Refused Fault.InvalidCoroState) (as-handed ∙ chosen (after w (Answer.Refused Fault.InvalidCoroState)) _ unfit e) rep
 
-    pub hand-twice : isSuspended (coroIn (M .slots) i .state) ≡ true → coroIn (M .slots) i .finalized ≡ true → Does l (handOver v w) M m f (Answer.Refused Fault.InvalidCoroState)
+    pub hands-at : Hands l M m f v w i
     unfolding unfit
-    hand-twice e d =
-        does l M m f (handOver v w) w (Answer.Refused Fault.InvalidCoroState)
-        (as-handed ∙ chosen (after w (Answer.Refused Fault.InvalidCoroState)) _ unfit (ap₂ (λ b c. not b || c) (ap isSuspended (sym state-is) ∙ e) (sym finalized-is ∙ d))) rep
-
-    pub hand-room : sound w ≡ true → Room (w .setup) M → coroIn (M .slots) i .finalized ≡ false → m .finalize < length (M .finalize)
-    hand-room snd room e =
-        let h : Sound false w = sound→ w snd (λ z. no-false z) in
-        let s = handed-sound w v (t .core) (t .rest) h (t .coro) (sym finalized-is ∙ e) in
-        let k = h .heap .count in
-        let a = joins-room (λ r. r .finalized) (w .slots) (slotOf v) v _ (w .finalize) (w .setup .limits .slots) (s .cleanups) k in
-        let c = rep .finalize .count in
-        let q = room .finalize in
-        omega arith
-
-    -- its mark, and its word in the queue
-    abbrev pub handed : World
-    handed = setCoro v (t .core) (withFinalized true (t .rest)) (withFinalize (w .finalize ++ (v ∷ [])) w)
-
-    pub hand-rep : (slots′ finalize′ : List ℕ) → slots′ ≡ putChunk width (M .slots) i (finalizedWords (chunkAt width (M .slots) i))
-        → QueueDo (λ xs. xs ++ (v ∷ [])) (M .finalize) finalize′ (m .finalize) (m .finalize + 1) → Rep l handed (onSlots slots′ (onFinalize finalize′ M)) (withCleanups (m .finalize + 1) m) f
-    hand-rep slots′ finalize′ mark push =
-        let u = withFinalize (w .finalize ++ (v ∷ [])) w in
-        let queued = turn-finalize l w M m f rep (w .finalize ++ (v ∷ [])) finalize′ (m .finalize + 1) (push (w .finalize) (rep .finalize)) in
-        rest-rep l (onFinalize finalize′ M) (withCleanups (m .finalize + 1) m) f v u queued i (coroIn (M .slots) i) t (withFinalized true (t .rest)) slots′ refl
-        (H.finalizes (M .slots) i (tagOf v) (coroIn (M .slots) i) (placed-words l M m f v w rep i at) slots′ mark
-        ∙ ap (λ (x : CoroObj). putSlot (M .slots) i (slot (tagOf v) (O.Coro (asFinalized x)))) (t .is))
-
-    pub hand-does : isSuspended (coroIn (M .slots) i .state) ≡ true → coroIn (M .slots) i .finalized ≡ false → (M′ : Lent) (n : Machine) (g : Fuel)
-        → Rep l (setFinalizing (m .finalizing) handed) M′ n g → Does l (handOver v w) M′ n g Answer.Accepted
-    unfolding unfit
-    hand-does e d M′ n g r =
-        does l M′ n g (handOver v w) (setFinalizing (w .finalizing) handed) Answer.Accepted
-        (as-handed ∙ passed _ (after (setFinalizing (w .finalizing) handed) Answer.Accepted) unfit (ap₂ (λ b c. not b || c) (ap isSuspended (sym state-is) ∙ e) (sym finalized-is ∙ d)))
-        (subst (λ b. Rep l (setFinalizing b handed) M′ n g) (rep .finalizing) r)
+    hands-at = record {
+      awake = λ e. refused (ap (λ b. not b || t .rest .finalized) (ap isSuspended (sym state-is) ∙ e));
+      twice = λ e d. refused (ap₂ (λ b c. not b || c) (ap isSuspended (sym state-is) ∙ e) (sym finalized-is ∙ d));
+      room = λ snd room e.
+          let h : Sound false w = sound→ w snd (λ z. no-false z) in
+          let s = handed-sound w v (t .core) (t .rest) h (t .coro) (sym finalized-is ∙ e) in
+          let k = h .heap .count in
+          let a = joins-room (λ r. r .finalized) (w .slots) (slotOf v) v _ (w .finalize) (w .setup .limits .slots) (s .cleanups) k in
+          let c = rep .finalize .count in
+          let q = room .finalize in
+          omega arith;
+      joins = λ e d slots′ finalize′ mark push n g flags.
+          let u = withFinalize (w .finalize ++ (v ∷ [])) w in
+          let queued = turn-finalize l w M m f rep (w .finalize ++ (v ∷ [])) finalize′ (m .finalize + 1) (push (w .finalize) (rep .finalize)) in
+          let r′ = withFinalized true (t .rest) in
+          let handed = setCoro v (t .core) r′ u in
+          let M′ = onSlots slots′ (onFinalize finalize′ M) in
+          does l M′ n g (handOver v w) (setFinalizing (w .finalizing) handed) Answer.Accepted
+          (as-handed ∙ passed _ (after (setFinalizing (w .finalizing) handed) Answer.Accepted) unfit (ap₂ (λ b c. not b || c) (ap isSuspended (sym state-is) ∙ e) (sym finalized-is ∙ d)))
+          (subst (λ b. Rep l (setFinalizing b handed) M′ n g) (rep .finalizing) (flags handed
+          (rest-rep l (onFinalize finalize′ M) (withCleanups (m .finalize + 1) m) f v u queued i (coroIn (M .slots) i) t r′ slots′ refl
+          (H.finalizes (M .slots) i (tagOf v) (coroIn (M .slots) i) (placed-words l M m f v w rep i at) slots′ mark
+          ∙ ap (λ (x : CoroObj). putSlot (M .slots) i (slot (tagOf v) (O.Coro (asFinalized x)))) (t .is)))));
+    }

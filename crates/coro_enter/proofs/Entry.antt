@@ -50,8 +50,8 @@ use Rattle.tables.proofs.Codes.{length-frame}
 use Rattle.tables.proofs.Parts.{length-upward}
 use Rattle.tables.proofs.Fits.{row-inside, enter-fits}
 use Rattle.memory.specs.Slots.{toSlot, toSlots}
-use Rattle.memory.specs.Memory.{Lent, Slots, Rep, Room, regsRows, framesRows}
-use Rattle.memory.specs.Contract.{Does}
+use Rattle.memory.specs.Memory.{Lent, Beside, Slots, Rep, Room, regsRows, framesRows}
+use Rattle.memory.specs.Contract.{Does, Ok, only}
 use Rattle.memory.specs.Rows.{rowAt}
 use Rattle.memory.specs.declared.machine.Machine.{Machine}
 use Rattle.memory.specs.declared.machine.Sizes.{Sizes}
@@ -121,6 +121,14 @@ accepts false true w o p q = no-true q
 accepts true b w o p q = no-true p
 
 -- ---- one world that the words stand for
+
+-- there is room for a coroutine that may be entered
+pub record Grows (l : Sizes) (M : Lent) (m : Machine) (i : ℕ) (c : CoroObj) : Type 0 where
+  pub chain : m .active * 6 + 6 ≤ length (M .chain)
+  pub slot : SlotFits (M .slots) i
+  pub height : m .height + c .regs ≤ l .stack
+  pub depth : m .depth + c .frames ≤ l .depth
+  pub active : m .active + 1 ≤ l .depth
 
 module _ (l : Sizes) (M : Lent) (m : Machine) (f : Fuel) (v : ℕ) (w : World) (rep : Rep l w M m f) where
   -- no coroutine is found
@@ -292,12 +300,8 @@ module _ (l : Sizes) (M : Lent) (m : Machine) (f : Fuel) (v : ℕ) (w : World) (
                   (λ j h. let b = bases-under (length (k .regs)) (k .frames) none-frame bases j h in omega arith);
             }
 
-        pub record Sums : Type 0 where
-          pub chain : m .active * 6 + 6 ≤ length (M .chain)
-          pub slot : SlotFits (M .slots) i
-          pub height : m .height + c .regs ≤ l .stack
-          pub depth : m .depth + c .frames ≤ l .depth
-          pub active : m .active + 1 ≤ l .depth
+        abbrev pub Sums : Type 0
+        Sums = Grows l M m i c
 
         pub sums : Room s M → Sums
         sums room =
@@ -374,3 +378,17 @@ module _ (l : Sizes) (M : Lent) (m : Machine) (f : Fuel) (v : ℕ) (w : World) (
               let here = there-words (w .slots) v i c in-world (M .slots) (m .count) (rep .slots) in
               subst (λ z. Does l (coroEnter v d w) M′ z f a) (sym en)
               (done a moves push (mark ∙ ap (λ z. putChunk width (M .slots) i (stateWords (codeOf CoroState.Running) 0 0 z)) here) ea)
+
+-- ---- the same, of what the contract asks
+
+module _ {l : Sizes} {M : Beside → Lent} {m : Machine} {i : ℕ} {c : CoroObj} (o : Ok l M (only m)) (v : ℕ) (found : RV.At i c ≡ coroOf (slotsOf (m .count) (M (o .beside) .slots)) v) where
+  pub ok-before : (m .depth ≤ l .depth) × (m .height ≤ l .stack)
+  ok-before = let b = before l (M (o .beside)) m (o .beside .fuel) v (o .world) (o .rep) i c found (o .sound) in (b .depth, b .height)
+
+  module _ {g : Fault} (told : g ≡ refusalOf (m .height) (m .depth) l c) (none : numberOf g ≡ 0) where
+    pub ok-moves : length (M (o .beside) .stack) < 2 ^ 64
+        → MoveFits (M (o .beside) .stack) (M (o .beside) .frames) (M (o .beside) .savedStack) (M (o .beside) .savedFrames) (m .height) (m .depth) l c
+    ok-moves = move-fits l (M (o .beside)) m (o .beside .fuel) v (o .world) (o .rep) i c found (o .sound) g told none (o .room)
+
+    pub ok-sums : Grows l (M (o .beside)) m i c
+    ok-sums = sums l (M (o .beside)) m (o .beside .fuel) v (o .world) (o .rep) i c found (o .sound) g told none (o .room)

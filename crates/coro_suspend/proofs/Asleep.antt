@@ -45,6 +45,7 @@ use Rattle.tables.proofs.Decode.{base-at, top-active}
 use Rattle.tables.proofs.Fits.{row-inside, leave-fits}
 use Rattle.memory.specs.Slots.{toSlot, toCoro, toSlots}
 use Rattle.memory.specs.Memory.{Lent, Slots, Rep, Room, regsRows, framesRows}
+use Rattle.memory.specs.Lendings.{lent}
 use Rattle.memory.specs.Contract.{Does}
 use Rattle.memory.specs.Rows.{rowAt}
 use Rattle.memory.specs.declared.machine.Machine.{Machine}
@@ -54,7 +55,7 @@ use Rattle.memory.proofs.Tables.{slots-are, slots-set, length-tabled}
 use Rattle.memory.proofs.Lookup.{There, there, there-words, lacks, regs-row, frames-row, regs-set, frames-set}
 use Rattle.memory.proofs.Does.{does}
 use Rattle.memory.proofs.Turn.{turn-used, turn-stack, turn-frames, turn-chain, turn-slots}
-use Rattle.coro_suspend.specs.Suspend.{growthOf, keyOf, asleep, eventAs, shrunk, LeaveFit, MovedOut}
+use Rattle.coro_suspend.specs.Suspend.{growthOf, keyOf, asleep, eventAs, shrunk, LeaveFit, MovedOut, Found}
 use Rattle.coro_suspend.proofs.Parts.{heapOf, spends, pays, asleep-is, event-is}
 use Rattle.coro_suspend.proofs.Innermost.{Innermost, innermost, other}
 
@@ -338,3 +339,17 @@ module _ (l : Sizes) (M : Lent) (m : Machine) (f : Fuel) (st : CoroState) (dst p
                 (subst (λ z. Does l goal M′ (shrunk m base (a .floor) (g .used)) f (Suspension.Done (a .driver) z))
                 (sym (ee ∙ ap (λ (y : CoroObj). eventAs st payload (c .closing) (y .key)) ex))
                 (done g is paid moves pop (mark ∙ ap₂ (λ y z. putChunk width (M .slots) i (sleepWords y z)) ex (there-words (w .slots) (a .coro) i c in-world (M .slots) (m .count) (rep .slots)))))
+
+-- ---- the same, where the innermost coroutine was found
+
+module _ {l : Sizes} {stack frames chain slots savedStack savedFrames : List ℕ} {m : Machine} {st : CoroState} {a : Active} {i : ℕ} {c : CoroObj} {base : ℕ}
+    (p : Found l stack frames chain slots savedStack savedFrames m st a i c) (read : base ≡ baseIn frames (a .floor)) where
+  abbrev M₀ : Lent
+  M₀ = lent stack frames chain slots savedStack savedFrames (p .ok .beside)
+
+  pub found-before : Before l M₀ m (p .ok .beside .fuel) st 0 0 Keys.Keep (p .ok .world) (p .ok .rep) a (p .some) (p .top) (p .floor) i c (p .coro) base read (p .ok .sound)
+  found-before = before l M₀ m (p .ok .beside .fuel) st 0 0 Keys.Keep (p .ok .world) (p .ok .rep) a (p .some) (p .top) (p .floor) i c (p .coro) base read (p .ok .sound)
+
+  pub found-leaves : LeaveFit stack frames savedStack savedFrames m l (c .row) (a .floor) base
+  found-leaves =
+      leave-fit l M₀ m (p .ok .beside .fuel) st 0 0 Keys.Keep (p .ok .world) (p .ok .rep) a (p .some) (p .top) (p .floor) i c (p .coro) base read (p .ok .sound) (p .ok .room)

@@ -34,19 +34,22 @@ use Rattle.model.specs.declared.machine.Fuel.{Fuel}
 use Rattle.soundness.proofs.Tests.{and-left, and-right}
 use Rattle.soundness.proofs.Sound.{→sound, facts}
 use Rattle.soundness.proofs.Charge.{charge-good}
+use Rattle.soundness.proofs.Made.{indirect-good}
 use Rattle.tables.specs.Does.{RegFits}
 use Rattle.tables.specs.Layout.{functionIn}
 use Rattle.tables.specs.Sizes.{hookOf}
 use Rattle.tables.proofs.Setups.{hook-in, regs-in}
 use Rattle.tables.proofs.Doing.{reg-fits}
 use Rattle.memory.specs.Memory.{Lent, Rep}
+use Rattle.memory.specs.Lendings.{topMaking, plain}
 use Rattle.memory.specs.Contract.{Does}
 use Rattle.memory.specs.declared.machine.Machine.{Machine}
 use Rattle.memory.specs.declared.machine.Sizes.{Sizes}
-use Rattle.memory.proofs.Does.{does}
-use Rattle.machine.specs.Frame.{pushedOr, pushAt}
+use Rattle.memory.proofs.Does.{does, room-same}
+use Rattle.machine.specs.Frame.{pushedOr, pushAt, PushFits}
 use Rattle.coro_create.proofs.Setting.{known, named-in}
-use Rattle.exec_make.specs.Spawn.{hookFrame, hookPaid}
+use Rattle.exec_make.specs.Spawn.{hookFrame, hookPaid, HookFits, SpawnFits}
+use Rattle.exec_make.proofs.Newly.{still-fits}
 
 -- ---- the hook is a function with a register
 
@@ -62,6 +65,25 @@ hook-there l w M m fuel rep snd hook e =
     let wide = ltb-true 0 (func s hook .regs) (and-right (isFunction s hook) (ltb 0 (func s hook .regs)) ok) in
     let same = regs-in s (M .setup) (rep .setup) hook named in
     record { function = named; register = omega arith }
+
+-- what its call asks, after the creation
+pub hook-asks : {l : Sizes} {stack frames slots savedStack savedFrames setup slots′ savedStack′ savedFrames′ : List ℕ} {m n : Machine} {pc dst callee argc : ℕ}
+    → (p : SpawnFits l stack frames slots savedStack savedFrames setup m pc dst callee argc) (hook : ℕ) → Opt.Some hook ≡ hookOf setup
+    → Rep l (indirect dst callee argc (p .indirect .ok .world) .world) (topMaking stack frames slots′ savedStack′ savedFrames′ setup plain (p .indirect .ok .beside)) n (p .indirect .ok .beside .fuel)
+    → length slots′ ≡ length slots → length savedStack′ ≡ length savedStack → length savedFrames′ ≡ length savedFrames → HookFits l stack frames setup n pc hook
+hook-asks {l} {stack} {frames} {slots} {savedStack} {savedFrames} {setup} {slots′} {savedStack′} {savedFrames′} {m} {n} {pc} {dst} {callee} {argc} p hook e rep k₁ k₂ k₃ =
+    let o = p .indirect .ok in
+    let M = topMaking stack frames slots savedStack savedFrames setup plain (o .beside) in
+    let M′ = topMaking stack frames slots′ savedStack′ savedFrames′ setup plain (o .beside) in
+    let u = indirect dst callee argc (o .world) .world in
+    let made = indirect-good dst callee argc (o .world) (known (o .world) (o .sound)) in
+    let there = hook-there l (o .world) M m (o .beside .fuel) (o .rep) (o .sound) hook e in
+    let fits = still-fits l (o .world) u M M′ m n (o .beside .fuel) (o .beside .fuel) dst (made .fact .still) (o .rep) rep (p .indirect .reg) in
+    let room = room-same (o .world .setup) (u .setup) M M′ (made .fact .still .setup)
+    (record { stack = refl; frames = refl; chain = refl; slots = k₁; savedStack = k₂; savedFrames = k₃; ready = refl; finalize = refl; setup = refl }) (o .room) in
+    let pushes : PushFits l stack frames setup n hook =
+    record { ok = record { world = u; beside = record { words = M′; fuel = o .beside .fuel }; rep = rep; sound = →sound u (made .sound); room = room }; function = there .function } in
+    record { call = record { push = pushes; some = fits .some; narrow = p .narrow }; register = there .register }
 
 -- ---- the hook's frame, by the frame that a call pushes
 

@@ -57,8 +57,7 @@ start-finalizer-requires c κs =
 
 charge-or-requires : tie.Need-charge-or-requires
 charge-or-requires c κs =
-    let at-start-finalizer = start-finalizer-of c in let entry = start-of at-start-finalizer in
-    let start = entry in
+    let at-start-finalizer = start-finalizer-of c in let start = start-of at-start-finalizer in
     let o = start .pre .charge .ok in
     unit-left (start .args .l) _ _ _ (start .args .fuel) (storePc (start .args .pc) (o .world)) _ (o .rep .fuel)
     (searched at-start-finalizer (o .world) (o .beside) (o .rep) (o .sound)) (start .pre .paid)
@@ -70,14 +69,11 @@ same-length-2 c =
 
 returns : tie.Need-returns
 returns c =
-    let at-start-finalizer = start-finalizer-of (c .before) in let entry = start-of at-start-finalizer in
-    let paid = c in
-    let begun = at-start-finalizer in
-    let start = entry in
+    let at-start-finalizer = start-finalizer-of (c .before) in let start = start-of at-start-finalizer in
     λ w b rep snd.
-    let d = searched begun w b rep snd in
+    let d = searched at-start-finalizer w b rep snd in
     sought (start .args .l) _ _ _ (start .args .pc) w _ _ (d .answer)
-    (paid .charge-or .ensures (start .args .l) (startFinalizer (storePc (start .args .pc) w) .world) (record { words = words begun b; fuel = start .args .fuel }) (d .world))
+    (c .charge-or .ensures (start .args .l) (startFinalizer (storePc (start .args .pc) w) .world) (record { words = words at-start-finalizer b; fuel = start .args .fuel }) (d .world))
 
 pub charge-ready-spec : {M : Type 1} → statement M
 charge-ready-spec =

@@ -22,62 +22,47 @@ mem c b = cleaning (c .args .stack .now) (c .args .frames .now) (c .args .chain 
 
 returns : tie.Need-returns
 returns c =
-    let at-unbank = c .before .before in let entry = start-of at-unbank in
-    let back = at-unbank in
-    let start = entry in
-    λ w b rep snd. slow-spent (start .args .l) (mem start b) (start .args .m) (start .args .fuel) w rep (back .unbank .result) (back .unbank .ensures)
+    let at-unbank = c .before .before in let start = start-of at-unbank in
+    λ w b rep snd. slow-spent (start .args .l) (mem start b) (start .args .m) (start .args .fuel) w rep (at-unbank .unbank .result) (at-unbank .unbank .ensures)
     (OptPc.Some (start .args .pc)) (c .if1 .taken)
 
 charge-ready-requires : tie.Need-charge-ready-requires
 charge-ready-requires c κs =
     let at-if1 = c .before .before .before .before .before .before .before .before in let at-unbank = at-if1 .before .before in
-    let entry = start-of at-unbank in
-    let some = at-if1 in
-    let back = at-unbank in
-    let start = entry in
+    let start = start-of at-unbank in
     let p = start .pre in
     record {
       charge = record {
-        ok = unbank-ok (start .args .l) (mem start) (start .args .m) (start .args .fuel) (back .unbank .result) (back .unbank .ensures) (p .ok);
+        ok = unbank-ok (start .args .l) (mem start) (start .args .m) (start .args .fuel) (at-unbank .unbank .result) (at-unbank .unbank .ensures) (p .ok);
         narrow = p .narrow;
         some = p .some;
       };
-      paid = paid-again (start .args .fuel) (back .unbank .result) (back .unbank .ensures) (some .if1 .left);
+      paid = paid-again (start .args .fuel) (at-unbank .unbank .result) (at-unbank .unbank .ensures) (at-if1 .if1 .left);
     }
 
 returns-2 : tie.Need-returns-2
 returns-2 c =
     let at-charge-ready = c .before .before .before .before .before .before .before .before .before .before .before .before .before .before in
     let at-if2 = at-charge-ready .before .before .before .before .before .before .before .before in let at-if1 = at-if2 .before in
-    let at-unbank = at-if1 .before .before in let entry = start-of at-unbank in
-    let begun = at-charge-ready in
-    let ready = at-if2 in
-    let some = at-if1 in
-    let back = at-unbank in
-    let start = entry in
+    let at-unbank = at-if1 .before .before in let start = start-of at-unbank in
     λ w b rep snd.
-    let f = back .unbank .result in
-    let again = back-rep (start .args .l) (mem start b) (start .args .m) (start .args .fuel) w rep f (back .unbank .ensures) in
-    slow-paid (start .args .l) (mem start b) (start .args .m) (start .args .fuel) w rep f (back .unbank .ensures) (OptPc.Some (start .args .pc)) _ _ _ _ (some .if1 .left)
-    (at-ready (start .args .l) _ _ _ (start .args .pc) (unbank w) _ (sym (ap (λ (x : Fuel). x .ready) (again .fuel)) ∙ ready .if2 .taken)
-    (begun .charge-ready .ensures (unbank w) b again (unbank-sounds w snd)))
+    let f = at-unbank .unbank .result in
+    let again = back-rep (start .args .l) (mem start b) (start .args .m) (start .args .fuel) w rep f (at-unbank .unbank .ensures) in
+    slow-paid (start .args .l) (mem start b) (start .args .m) (start .args .fuel) w rep f (at-unbank .unbank .ensures) (OptPc.Some (start .args .pc)) _ _ _ _ (at-if1 .if1 .left)
+    (at-ready (start .args .l) _ _ _ (start .args .pc) (unbank w) _ (sym (ap (λ (x : Fuel). x .ready) (again .fuel)) ∙ at-if2 .if2 .taken)
+    (at-charge-ready .charge-ready .ensures (unbank w) b again (unbank-sounds w snd)))
 
 returns-3 : tie.Need-returns-3
 returns-3 c =
     let at-charge-done = c .before in let at-if2 = at-charge-done .before in let at-if1 = at-if2 .before in
-    let at-unbank = at-if1 .before .before in let entry = start-of at-unbank in
-    let paid = at-charge-done in
-    let ready = at-if2 in
-    let some = at-if1 in
-    let back = at-unbank in
-    let start = entry in
+    let at-unbank = at-if1 .before .before in let start = start-of at-unbank in
     λ w b rep snd.
-    let f = back .unbank .result in
-    let again = back-rep (start .args .l) (mem start b) (start .args .m) (start .args .fuel) w rep f (back .unbank .ensures) in
-    slow-paid (start .args .l) (mem start b) (start .args .m) (start .args .fuel) w rep f (back .unbank .ensures) (OptPc.Some (start .args .pc)) (mem start b)
-    (start .args .m) _ _ (some .if1 .left)
-    (at-idle (start .args .l) (mem start b) (start .args .m) _ (start .args .pc) (unbank w) _ (sym (ap (λ (x : Fuel). x .ready) (again .fuel)) ∙ ready .if2 .left)
-    (paid .charge-done .ensures (start .args .m) (start .args .l) (unbank w) (record { words = mem start b; fuel = f }) again))
+    let f = at-unbank .unbank .result in
+    let again = back-rep (start .args .l) (mem start b) (start .args .m) (start .args .fuel) w rep f (at-unbank .unbank .ensures) in
+    slow-paid (start .args .l) (mem start b) (start .args .m) (start .args .fuel) w rep f (at-unbank .unbank .ensures) (OptPc.Some (start .args .pc)) (mem start b)
+    (start .args .m) _ _ (at-if1 .if1 .left)
+    (at-idle (start .args .l) (mem start b) (start .args .m) _ (start .args .pc) (unbank w) _ (sym (ap (λ (x : Fuel). x .ready) (again .fuel)) ∙ at-if2 .if2 .left)
+    (at-charge-done .charge-done .ensures (start .args .m) (start .args .l) (unbank w) (record { words = mem start b; fuel = f }) again))
 
 pub charge-slow-spec : {M : Type 1} → statement M
 charge-slow-spec =

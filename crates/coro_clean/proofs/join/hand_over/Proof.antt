@@ -5,14 +5,16 @@ use Prim.Native.Nat.{ℕ, _<_}
 use lib.ListN.{length}
 use native.Mathlib.Omega.{arith}
 use borrow.Author.Tests.{not-true, not-false}
-use Rattle.heap.specs.Heap.{SlotFits, slotsOf, placeOf, coroOf}
-use Rattle.heap.specs.declared.heap.CoroPlace.the-variants as L
+use Rattle.heap.specs.Heap.{SlotFits, coroIn, slotsOf, coroOf}
 use Rattle.heap.proofs.Place.{none-there, stands-words}
-use Rattle.memory.specs.Memory.{Lent, Beside}
+use Rattle.memory.specs.Memory.{Lent, Beside, Rep}
+use Rattle.memory.specs.declared.machine.Sizes.{Sizes}
+use Rattle.model.specs.World.{World}
+use Rattle.model.specs.declared.machine.Fuel.{Fuel}
 use Rattle.heap.specs.State.{isSuspended}
 use Rattle.memory.specs.Memory.{onSlots, onFinalize}
 use Rattle.memory.specs.Lendings.{cleanups, plain}
-use Rattle.coro_clean.proofs.Joins.{hand-refused, hand-awake, hand-twice, hand-room, handed, hand-rep, hand-does}
+use Rattle.coro_clean.proofs.Joins.{Hands, hand-refused, hands-at}
 use borrow.Author.Needs.{needs}
 use Rattle.coro_clean.proofs.join.hand_over.Statement.{statement}
 use Rattle.coro_clean.proofs.join.hand_over.Tie as tie
@@ -28,28 +30,30 @@ mem c b = cleanups (c .args .slots .now) (c .args .finalize .now) plain b
 abbrev slot : tie.After-known-told2 → ℕ
 slot c = c .before .i .given .0 .0
 
-stands-at : (c : tie.After-known-told2) →
-    let entry = start-of c in
-    L.At (slot c) ≡ placeOf (coroOf (slotsOf (entry .args .m .count) (entry .args .slots .now)) (entry .args .v .0))
-stands-at c = sym (c .before .i .given .1) ∙ c .before .before .before .coro-place .ensures
-
 fits : (c : tie.After-known-told2) → SlotFits (start-of c .args .slots .now) (slot c)
 fits c =
-    let start = (start-of c) in
-    stands-words (start .args .m .count) (start .args .slots .now) (start .args .v .0) (slot c) (stands-at c) (start .pre .ok .rep .slots .within)
+    let s = start-of c in
+    stands-words (s .args .m .count) (s .args .slots .now) (s .args .v .0) (slot c) (sym (c .before .i .given .1) ∙ c .before .before .before .coro-place .ensures) (s .pre .ok .rep .slots .within)
+
+found : (c : tie.After-known-told2) (l : Sizes) (w : World) (b : Beside) (f : Fuel) →
+    let s = start-of c in
+    Rep l w (mem s b) (s .args .m) f → Hands l (mem s b) (s .args .m) f (s .args .v .0) w (slot c)
+found c l w b f rep =
+    let s = start-of c in
+    hands-at l (mem s b) (s .args .m) f (s .args .v .0) w rep (slot c) (sym (c .before .i .given .1) ∙ c .before .before .before .coro-place .ensures)
+
+-- it is suspended or not, and handed over before or not
+asleep : (c : tie.After-is-suspended) → isSuspended (coroIn (start-of (c .before .before .before) .args .slots .now) (slot (c .before .before .before)) .state) ≡ c .is-suspended .result
+asleep c = ap isSuspended (sym (c .before .state-at .ensures)) ∙ sym (c .is-suspended .ensures)
+
+abbrev place-of : tie.After-finalized-at → tie.After-known-told2
+place-of c = c .before .before .before .before .before .before
 
 -- the cleanup queue has room for it
-room : (c : tie.Else2) →
-    let entry = start-of (c .before .before .before .before .before .before .before) in
-    entry .args .m .finalize < length (entry .args .finalize .now)
+room : (c : tie.Else2) → let s = start-of (place-of (c .before)) in s .args .m .finalize < length (s .args .finalize .now)
 room c =
-    let at-finalized-at = c .before in let at-known-told2 = at-finalized-at .before .before .before .before .before .before in
-    let entry = start-of at-known-told2 in
-    let place = at-known-told2 in
-    let start = entry in
-    let o = start .pre .ok in
-    hand-room (start .pre .sizes) (mem start (o .beside)) (start .args .m) (o .beside .fuel) (start .args .v .0) (o .world) (o .rep) (slot place)
-    (stands-at place) (o .sound) (o .room) (sym (at-finalized-at .finalized-at .ensures) ∙ c .if2 .left)
+    let place = place-of (c .before) in let p = start-of place .pre in let o = p .ok in
+    found place (p .sizes) (o .world) (o .beside) (o .beside .fuel) (o .rep) .room (o .sound) (o .room) (sym (c .before .finalized-at .ensures) ∙ c .if2 .left)
 
 coro-place-requires : tie.Need-coro-place-requires
 coro-place-requires c κs = c .before .before .before .pre .ok .rep .slots .within
@@ -59,78 +63,46 @@ state-at-requires c κs = fits (c .before)
 
 returns : tie.Need-returns
 returns c =
-    let at-is-suspended = c .before in let at-state-at = at-is-suspended .before in
-    let at-known-told2 = at-state-at .before .before in let entry = start-of at-known-told2 in
-    let place = at-known-told2 in
-    let start = entry in
-    λ l w b rep.
-    hand-awake l (mem start b) (start .args .m) (start .args .fuel) (start .args .v .0) w rep (slot place) (stands-at place)
-    (ap isSuspended (sym (at-state-at .state-at .ensures)) ∙ sym (at-is-suspended .is-suspended .ensures) ∙ not-true _ (c .if1 .taken))
+    let asked = c .before in let place = asked .before .before .before in
+    λ l w b rep. found place l w b (start-of place .args .fuel) rep .awake (asleep asked ∙ not-true _ (c .if1 .taken))
 
 finalized-at-requires : tie.Need-finalized-at-requires
-finalized-at-requires c κs =
-    let at-known-told2 = c .before .before .before .before .before in
-    fits at-known-told2
+finalized-at-requires c κs = fits (c .before .before .before .before .before)
 
 returns-2 : tie.Need-returns-2
 returns-2 c =
-    let at-finalized-at = c .before in let at-if1 = at-finalized-at .before .before in let at-is-suspended = at-if1 .before in
-    let at-state-at = at-is-suspended .before in let at-known-told2 = at-state-at .before .before in
-    let entry = start-of at-known-told2 in
-    let place = at-known-told2 in
-    let start = entry in
-    λ l w b rep.
-    hand-twice l (mem start b) (start .args .m) (start .args .fuel) (start .args .v .0) w rep (slot place) (stands-at place)
-    (ap isSuspended (sym (at-state-at .state-at .ensures)) ∙ sym (at-is-suspended .is-suspended .ensures) ∙ not-false _ (at-if1 .if1 .left))
+    let at-finalized-at = c .before in let at-if1 = at-finalized-at .before .before in let place = place-of at-finalized-at in
+    λ l w b rep. found place l w b (start-of place .args .fuel) rep .twice (asleep (at-if1 .before) ∙ not-false _ (at-if1 .if1 .left))
     (sym (at-finalized-at .finalized-at .ensures) ∙ c .if2 .taken)
 
 put-finalized-requires : tie.Need-put-finalized-requires
-put-finalized-requires c κs =
-    let at-known-told2 = c .before .before .before .before .before .before .before .before in
-    fits at-known-told2
+put-finalized-requires c κs = fits (place-of (c .before .before))
 
 push-back-requires : tie.Need-push-back-requires
-push-back-requires c κs =
-    let at-if2 = c .before .before .before .before .before in
-    room at-if2
+push-back-requires c κs = room (c .before .before .before .before .before)
 
 add-n : tie.Need-add-n
 add-n c =
     let at-if2 = c .before .before .before .before .before .before .before .before .before in
-    let entry = start-of (at-if2 .before .before .before .before .before .before .before) in
-    let h = room at-if2 in omega (arith, h, entry .good)
+    omega (arith, room at-if2, start-of (place-of (at-if2 .before)) .good)
 
 returns-3 : tie.Need-returns-3
 returns-3 c =
-    let at-f = c .before in let at-coro-place = at-f .before .before in let entry = at-coro-place .before .before .before .before in
-    let placed = at-coro-place in
-    let start = entry in
+    let at-f = c .before in let at-coro-place = at-f .before .before in let start = at-coro-place .before .before .before .before in
     λ l w b rep.
     hand-refused l (mem start b) (start .args .m) (start .args .fuel) (start .args .v .0) w rep _
-    (none-there (coroOf (slotsOf (start .args .m .count) (start .args .slots .now)) (start .args .v .0)) _ (sym (at-f .f .given .1) ∙ placed .coro-place .ensures))
+    (none-there (coroOf (slotsOf (start .args .m .count) (start .args .slots .now)) (start .args .v .0)) _ (sym (at-f .f .given .1) ∙ at-coro-place .coro-place .ensures))
 
 returns-4 : tie.Need-returns-4
 returns-4 c =
     let at-set-finalizing = c .before .before in let at-push-back = at-set-finalizing .before .before .before .before in
     let at-put-finalized = at-push-back .before .before .before .before in let at-if2 = at-put-finalized .before .before in
-    let at-finalized-at = at-if2 .before in let at-if1 = at-finalized-at .before .before in let at-is-suspended = at-if1 .before in
-    let at-state-at = at-is-suspended .before in let at-known-told2 = at-state-at .before .before in
-    let entry = start-of at-known-told2 in
-    let marked = at-set-finalizing in
-    let joined = at-push-back in
-    let handed-on = at-put-finalized in
-    let place = at-known-told2 in
-    let start = entry in
+    let at-finalized-at = at-if2 .before in let at-if1 = at-finalized-at .before .before in let place = place-of at-finalized-at in
     λ l w b rep.
-    let M = mem start b in
-    let f = start .args .fuel in
-    let v = start .args .v .0 in
-    hand-does l M (start .args .m) f v w rep (slot place) (stands-at place)
-    (ap isSuspended (sym (at-state-at .state-at .ensures)) ∙ sym (at-is-suspended .is-suspended .ensures) ∙ not-false _ (at-if1 .if1 .left))
-    (sym (at-finalized-at .finalized-at .ensures) ∙ at-if2 .if2 .left) _ _ _
-    (marked .set-finalizing .ensures l (handed l M (start .args .m) f v w rep (slot place) (stands-at place))
-    (record { words = onSlots (handed-on .put-finalized .last .0) (onFinalize (joined .push-back .last .0) M); fuel = f })
-    (hand-rep l M (start .args .m) f v w rep (slot place) (stands-at place) _ _ (handed-on .put-finalized .ensures) (joined .push-back .ensures)))
+    found place l w b (start-of place .args .fuel) rep .joins (asleep (at-if1 .before) ∙ not-false _ (at-if1 .if1 .left)) (sym (at-finalized-at .finalized-at .ensures) ∙ at-if2 .if2 .left)
+    _ _ (at-put-finalized .put-finalized .ensures) (at-push-back .push-back .ensures) _ _
+    (λ u r. at-set-finalizing .set-finalizing .ensures l u
+    (record { words = onSlots (at-put-finalized .put-finalized .last .0) (onFinalize (at-push-back .push-back .last .0) (mem (start-of place) b)); fuel = start-of place .args .fuel }) r)
 
 pub hand-over-spec : {M : Type 1} → statement M
 hand-over-spec =

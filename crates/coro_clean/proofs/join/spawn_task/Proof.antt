@@ -5,13 +5,14 @@ use Prim.Native.Nat.{ℕ, _<_}
 use lib.ListN.{length}
 use native.Mathlib.Omega.{arith}
 use borrow.Author.Tests.{not-true, not-false}
-use Rattle.heap.specs.Heap.{SlotFits, slotsOf, placeOf, coroOf}
-use Rattle.heap.specs.declared.heap.CoroPlace.the-variants as L
+use Rattle.heap.specs.Heap.{SlotFits, coroIn, slotsOf, coroOf}
 use Rattle.heap.proofs.Place.{none-there, stands-words}
-use Rattle.memory.specs.Memory.{Lent, Beside}
+use Rattle.memory.specs.Memory.{Lent, Beside, Rep}
+use Rattle.memory.specs.declared.machine.Sizes.{Sizes}
+use Rattle.model.specs.World.{World}
 use Rattle.model.specs.State.{isResumable}
 use Rattle.memory.specs.Lendings.{tasks, plain}
-use Rattle.coro_clean.proofs.Joins.{task-refused, task-already, task-late, task-room, task-joins}
+use Rattle.coro_clean.proofs.Joins.{Tasks, task-refused, tasks-at}
 use borrow.Author.Needs.{needs}
 use Rattle.coro_clean.proofs.join.spawn_task.Statement.{statement}
 use Rattle.coro_clean.proofs.join.spawn_task.Tie as tie
@@ -27,28 +28,32 @@ mem c b = tasks (c .args .slots .now) (c .args .ready .now) plain b
 abbrev slot : tie.After-known-told → ℕ
 slot c = c .before .i .given .0 .0
 
-stands-at : (c : tie.After-known-told) →
-    let entry = start-of c in
-    L.At (slot c) ≡ placeOf (coroOf (slotsOf (entry .args .m .count) (entry .args .slots .now)) (entry .args .v .0))
-stands-at c = sym (c .before .i .given .1) ∙ c .before .before .before .coro-place .ensures
-
 fits : (c : tie.After-known-told) → SlotFits (start-of c .args .slots .now) (slot c)
 fits c =
-    let start = (start-of c) in
-    stands-words (start .args .m .count) (start .args .slots .now) (start .args .v .0) (slot c) (stands-at c) (start .pre .ok .rep .slots .within)
+    let s = start-of c in
+    stands-words (s .args .m .count) (s .args .slots .now) (s .args .v .0) (slot c) (sym (c .before .i .given .1) ∙ c .before .before .before .coro-place .ensures) (s .pre .ok .rep .slots .within)
+
+found : (c : tie.After-known-told) (l : Sizes) (w : World) (b : Beside) →
+    let s = start-of c in
+    Rep l w (mem s b) (s .args .m) (b .fuel) → Tasks l (mem s b) (s .args .m) (b .fuel) (s .args .v .0) w (slot c)
+found c l w b rep =
+    let s = start-of c in
+    tasks-at l (mem s b) (s .args .m) (b .fuel) (s .args .v .0) w rep (slot c) (sym (c .before .i .given .1) ∙ c .before .before .before .coro-place .ensures)
+
+-- it can be resumed or not
+resumable : (c : tie.After-is-resumable) →
+    let place = c .before .before .before .before .before .before in
+    isResumable (coroIn (start-of place .args .slots .now) (slot place) .state) ≡ c .is-resumable .result
+resumable c = ap isResumable (sym (c .before .state-at .ensures)) ∙ sym (c .is-resumable .ensures)
+
+abbrev task-of : tie.Else2 → tie.After-task-at
+task-of c = c .before .before .before .before .before
 
 -- the ready queue has room for it
-room : (c : tie.Else2) →
-    let entry = start-of (c .before .before .before .before .before .before .before) in
-    entry .args .m .ready < length (entry .args .ready .now)
+room : (c : tie.Else2) → let s = start-of (task-of c .before .before) in s .args .m .ready < length (s .args .ready .now)
 room c =
-    let at-if1 = c .before .before .before .before in let at-task-at = at-if1 .before in
-    let at-known-told = at-task-at .before .before in let entry = start-of at-known-told in
-    let place = at-known-told in
-    let start = entry in
-    let o = start .pre .ok in
-    task-room (start .pre .sizes) (mem start (o .beside)) (start .args .m) (o .beside .fuel) (start .args .v .0) (o .world) (o .rep) (slot place)
-    (stands-at place) (o .sound) (o .room) (sym (at-task-at .task-at .ensures) ∙ at-if1 .if1 .left)
+    let asked = task-of c in let p = start-of (asked .before .before) .pre in let o = p .ok in
+    found (asked .before .before) (p .sizes) (o .world) (o .beside) (o .rep) .room (o .sound) (o .room) (sym (asked .task-at .ensures) ∙ c .before .before .before .before .if1 .left)
 
 coro-place-requires : tie.Need-coro-place-requires
 coro-place-requires c κs = c .before .before .before .pre .ok .rep .slots .within
@@ -58,61 +63,43 @@ task-at-requires c κs = fits (c .before)
 
 returns : tie.Need-returns
 returns c =
-    let at-task-at = c .before in let at-known-told = at-task-at .before .before in let entry = start-of at-known-told in
-    let place = at-known-told in
-    let start = entry in
-    λ l w b rep. task-already l (mem start b) (start .args .m) (b .fuel) (start .args .v .0) w rep (slot place) (stands-at place) (sym (at-task-at .task-at .ensures) ∙ c .if1 .taken)
+    let at-task-at = c .before in
+    λ l w b rep. found (at-task-at .before .before) l w b rep .already (sym (at-task-at .task-at .ensures) ∙ c .if1 .taken)
 
 state-at-requires : tie.Need-state-at-requires
 state-at-requires c κs = fits (c .before .before .before .before)
 
 returns-2 : tie.Need-returns-2
 returns-2 c =
-    let at-is-resumable = c .before in let at-state-at = at-is-resumable .before in let at-if1 = at-state-at .before .before in
-    let at-task-at = at-if1 .before in let at-known-told = at-task-at .before .before in let entry = start-of at-known-told in
-    let place = at-known-told in
-    let start = entry in
+    let asked = c .before in let at-if1 = asked .before .before .before in let at-task-at = at-if1 .before in
     λ l w b rep.
-    task-late l (mem start b) (start .args .m) (b .fuel) (start .args .v .0) w rep (slot place) (stands-at place) (sym (at-task-at .task-at .ensures) ∙ at-if1 .if1 .left)
-    (ap isResumable (sym (at-state-at .state-at .ensures)) ∙ sym (at-is-resumable .is-resumable .ensures) ∙ not-true _ (c .if2 .taken))
+    found (at-task-at .before .before) l w b rep .late (sym (at-task-at .task-at .ensures) ∙ at-if1 .if1 .left) (resumable asked ∙ not-true _ (c .if2 .taken))
 
 put-task-requires : tie.Need-put-task-requires
-put-task-requires c κs =
-    let at-known-told = c .before .before .before .before .before .before .before .before in
-    fits at-known-told
+put-task-requires c κs = fits (task-of (c .before) .before .before)
 
 push-back-requires : tie.Need-push-back-requires
-push-back-requires c κs =
-    let at-if2 = c .before .before .before .before .before in
-    room at-if2
+push-back-requires c κs = room (c .before .before .before .before .before)
 
 add-n : tie.Need-add-n
 add-n c =
     let at-if2 = c .before .before .before .before .before .before .before .before .before in
-    let entry = start-of (at-if2 .before .before .before .before .before .before .before) in
-    let h = room at-if2 in omega (arith, h, entry .good)
+    omega (arith, room at-if2, start-of (task-of at-if2 .before .before) .good)
 
 returns-3 : tie.Need-returns-3
 returns-3 c =
-    let at-coro-place = c .before .before in let entry = at-coro-place .before .before .before .before in
-    let placed = at-coro-place in
-    let start = entry in
+    let at-coro-place = c .before .before in let start = at-coro-place .before .before .before .before in
     λ l w b rep.
     task-refused l (mem start b) (start .args .m) (b .fuel) (start .args .v .0) w rep _
-    (none-there (coroOf (slotsOf (start .args .m .count) (start .args .slots .now)) (start .args .v .0)) _ (sym (c .enum-told .given .1) ∙ placed .coro-place .ensures))
+    (none-there (coroOf (slotsOf (start .args .m .count) (start .args .slots .now)) (start .args .v .0)) _ (sym (c .enum-told .given .1) ∙ at-coro-place .coro-place .ensures))
 
 returns-4 : tie.Need-returns-4
 returns-4 c =
     let at-push-back = c .before .before .before in let at-put-task = at-push-back .before .before .before .before in
-    let at-if2 = at-put-task .before .before in let at-is-resumable = at-if2 .before in let at-state-at = at-is-resumable .before in
-    let at-if1 = at-state-at .before .before in let at-task-at = at-if1 .before in let at-known-told = at-task-at .before .before in
-    let entry = start-of at-known-told in
-    let place = at-known-told in
-    let start = entry in
+    let at-if2 = at-put-task .before .before in let at-task-at = task-of at-if2 in
     λ l w b rep.
-    task-joins l (mem start b) (start .args .m) (b .fuel) (start .args .v .0) w rep (slot place) (stands-at place) (sym (at-task-at .task-at .ensures) ∙ at-if1 .if1 .left)
-    (ap isResumable (sym (at-state-at .state-at .ensures)) ∙ sym (at-is-resumable .is-resumable .ensures) ∙ not-false _ (at-if2 .if2 .left)) _ _
-    (at-put-task .put-task .ensures) (at-push-back .push-back .ensures)
+    found (at-task-at .before .before) l w b rep .joins (sym (at-task-at .task-at .ensures) ∙ at-if2 .before .before .before .before .if1 .left)
+    (resumable (at-if2 .before) ∙ not-false _ (at-if2 .if2 .left)) _ _ (at-put-task .put-task .ensures) (at-push-back .push-back .ensures)
 
 pub spawn-task-spec : {M : Type 1} → statement M
 spawn-task-spec =

@@ -1,7 +1,6 @@
 -- `coro_enter` meets the model, outcome by outcome. Assumes nothing.
 use mathlib.Core.Path.{_≡_, sym, ap, _∙_}
-use Prim.Native.Nat.{ℕ, _^_, _<_}
-use lib.ListN.{length}
+use Prim.Native.Nat.{ℕ}
 use native.Mathlib.Omega.{arith}
 use Rattle.heap.specs.Heap.{slotsOf, coroOf}
 use Rattle.heap.specs.Fault.{numberOf}
@@ -10,7 +9,7 @@ use Rattle.heap.specs.declared.object.CoroObj.{CoroObj}
 use Rattle.heap.proofs.Place.{none-there, stands, stands-words}
 use Rattle.memory.specs.Memory.{Lent, Beside}
 use Rattle.memory.specs.Lendings.{lent}
-use Rattle.coro_enter.proofs.Entry.{before, Sums, sums, move-fits, not-found, refused, accepted}
+use Rattle.coro_enter.proofs.Entry.{Grows, ok-before, ok-moves, ok-sums, not-found, refused, accepted}
 use borrow.Author.Needs.{needs}
 use Rattle.coro_enter.proofs.enter.coro_enter.Statement.{statement}
 use Rattle.coro_enter.proofs.enter.coro_enter.Tie as tie
@@ -39,8 +38,7 @@ found : (c : tie.After-coro-at) →
     let start = start-of c in
     RV.At (slot c) (coro c) ≡ coroOf (slotsOf (start .args .m .count) (start .args .slots .now)) (start .args .v .0)
 found c =
-    let at-i = c .before .before .before in let at-coro-place = at-i .before .before in
-    let start = start-of-coro-place at-coro-place in
+    let at-i = c .before .before .before in let at-coro-place = at-i .before .before in let start = start-of c in
     ap (RV.At (slot c)) (c .coro-at .ensures)
     ∙ stands (start .args .m .count) (start .args .slots .now) (start .args .v .0) (slot c) (sym (at-i .i .given .1) ∙ at-coro-place .coro-place .ensures) .coro
 
@@ -48,14 +46,11 @@ none : (c : tie.Else1) → numberOf (c .before .before .refusal .result) ≡ 0
 none c = sym (c .before .number .ensures) ∙ c .if1 .left
 
 sum : (c : tie.Else1) →
-    let at-refusal = c .before .before in let at-coro-at = at-refusal .before in let start = start-of at-coro-at in
-    Sums (start .args .l) (mem start (start .pre .beside)) (start .args .m) (start .pre .beside .fuel) (start .args .v .0) (start .pre .world) (start .pre .rep)
-    (slot at-coro-at) (coro at-coro-at) (found at-coro-at) (start .pre .sound) (at-refusal .refusal .result) (at-refusal .refusal .ensures) (none c)
+    let at-coro-at = c .before .before .before in let start = start-of at-coro-at in
+    Grows (start .args .l) (mem start (start .pre .beside)) (start .args .m) (slot at-coro-at) (coro at-coro-at)
 sum c =
     let at-refusal = c .before .before in let at-coro-at = at-refusal .before in let start = start-of at-coro-at in
-    sums (start .args .l) (mem start (start .pre .beside)) (start .args .m) (start .pre .beside .fuel) (start .args .v .0) (start .pre .world) (start .pre .rep)
-    (slot at-coro-at) (coro at-coro-at) (found at-coro-at) (start .pre .sound) (at-refusal .refusal .result) (at-refusal .refusal .ensures) (none c)
-    (start .pre .room)
+    ok-sums (start .pre) (start .args .v .0) (found at-coro-at) (at-refusal .refusal .ensures) (none c)
 
 coro-at-requires : tie.Need-coro-at-requires
 coro-at-requires c κs =
@@ -64,37 +59,24 @@ coro-at-requires c κs =
     (sym (at-i .i .given .1) ∙ at-coro-place .coro-place .ensures) (start .pre .rep .slots .within)
 
 refusal-requires : tie.Need-refusal-requires
-refusal-requires c κs =
-    let start = start-of c in
-    let b = before (start .args .l) (mem start (start .pre .beside)) (start .args .m) (start .pre .beside .fuel) (start .args .v .0) (start .pre .world)
-    (start .pre .rep) (slot c) (coro c) (found c) (start .pre .sound) in
-    (b .depth, b .height)
+refusal-requires c κs = let start = start-of c in ok-before (start .pre) (start .args .v .0) (found c)
 
 returns : tie.Need-returns
 returns c =
-    let at-number = c .before in let at-refusal = at-number .before in let at-coro-at = at-refusal .before in
-    let start = start-of at-coro-at in
+    let at-number = c .before in let at-refusal = at-number .before in let at-coro-at = at-refusal .before in let start = start-of at-coro-at in
     λ w b rep snd. refused (start .args .l) (mem start b) (start .args .m) (b .fuel) (start .args .v .0) w rep (slot at-coro-at) (coro at-coro-at)
     (found at-coro-at) (start .args .d) (at-refusal .refusal .result) (at-refusal .refusal .ensures) (λ z. c .if1 .taken (at-number .number .ensures ∙ z))
 
 move-in-requires : tie.Need-move-in-requires
 move-in-requires c κs =
-    let at-if1 = c .before .before .before .before in let at-refusal = at-if1 .before .before in
-    let at-coro-at = at-refusal .before in let start = start-of at-coro-at in
-    let h : length (start .args .stack .now) < 2 ^ 64 = omega (arith, start .good) in
-    move-fits (start .args .l) (mem start (start .pre .beside)) (start .args .m) (start .pre .beside .fuel) (start .args .v .0) (start .pre .world)
-    (start .pre .rep) (slot at-coro-at) (coro at-coro-at) (found at-coro-at) (start .pre .sound) (at-refusal .refusal .result) (at-refusal .refusal .ensures)
-    (none at-if1) (start .pre .room) h
+    let at-if1 = c .before .before .before .before in let at-refusal = at-if1 .before .before in let at-coro-at = at-refusal .before in let start = start-of at-coro-at in
+    ok-moves (start .pre) (start .args .v .0) (found at-coro-at) (at-refusal .refusal .ensures) (none at-if1) (omega (arith, start .good))
 
 push-active-requires : tie.Need-push-active-requires
-push-active-requires c κs =
-    let at-if1 = if1-of c in
-    sum at-if1 .chain
+push-active-requires c κs = sum (if1-of c) .chain
 
 put-state-requires : tie.Need-put-state-requires
-put-state-requires c κs =
-    let at-if1 = if1-of (c .before .before .before .before) in
-    sum at-if1 .slot
+put-state-requires c κs = sum (if1-of (c .before .before .before .before)) .slot
 
 entered-requires : tie.Need-entered-requires
 entered-requires c κs =
@@ -111,11 +93,9 @@ returns-2 c =
 
 returns-3 : tie.Need-returns-3
 returns-3 c =
-    let at-entered = c .before in let at-put-state = at-entered .before .before .before in
-    let at-push-active = at-put-state .before .before .before .before in
+    let at-entered = c .before in let at-put-state = at-entered .before .before .before in let at-push-active = at-put-state .before .before .before .before in
+    let at-if1 = if1-of (at-push-active .before) in let at-refusal = at-if1 .before .before in let at-coro-at = at-refusal .before in let start = start-of at-coro-at in
     let at-move-in = at-push-active .before .before .before .before .before .before .before .before .before .before in
-    let at-if1 = at-move-in .before .before .before .before .before in let at-refusal = at-if1 .before .before in
-    let at-coro-at = at-refusal .before in let start = start-of at-coro-at in
     λ w b rep snd. accepted (start .args .l) (mem start b) (start .args .m) (b .fuel) (start .args .v .0) w rep (slot at-coro-at) (coro at-coro-at)
     (found at-coro-at) snd (at-refusal .refusal .result) (at-refusal .refusal .ensures) (none at-if1) (start .args .d) _ _ _ _ _ _ (at-entered .entered .result)
     (c .entered-as .result) (at-move-in .move-in .ensures) (at-push-active .push-active .ensures) (at-put-state .put-state .ensures) (c .entered-as .ensures)

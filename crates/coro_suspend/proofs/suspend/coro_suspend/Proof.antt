@@ -22,8 +22,7 @@ start-of c = c .before .before .before .before .before .before .before .before
 abbrev mem : tie.Start → Beside → Lent
 mem c b = lent (c .args .stack .now) (c .args .frames .now) (c .args .chain .now) (c .args .slots .now) (c .args .saved-stack .now) (c .args .saved-frames .now) b
 
-some : (c : tie.Else1) →
-    1 ≤ start-of c .args .m .active
+some : (c : tie.Else1) → 1 ≤ start-of c .args .m .active
 some c = let h = c .if1 .left in omega arith
 
 returns : tie.Need-returns
@@ -38,8 +37,7 @@ returns-2 c =
     (start .args .keys) w rep (at-active-at .active-at .result) (some at-if1) (at-active-at .active-at .ensures) (c .if2 .taken)
 
 coro-place-requires : tie.Need-coro-place-requires
-coro-place-requires c κs =
-    start-of (c .before .before .before .before .before .before) .pre .ok .rep .slots .within
+coro-place-requires c κs = start-of (c .before .before .before .before .before .before) .pre .ok .rep .slots .within
 
 coro-at-requires : tie.Need-coro-at-requires
 coro-at-requires c κs =
@@ -72,40 +70,8 @@ returns-3 c =
     (none-there (coroOf (slotsOf (start .args .m .count) (start .args .slots .now)) (at-active-at .active-at .result .coro)) (c .enum-told .given .0 .0)
     (sym (c .enum-told .given .1) ∙ at-coro-place .coro-place .ensures))
 
-same-length-4 : tie.Need-same-length-4
-same-length-4 c =
-    let at-suspend-found = suspend-found-of c in
-    at-suspend-found .suspend-found .kept .0
-
-same-length-5 : tie.Need-same-length-5
-same-length-5 c =
-    let at-suspend-found = suspend-found-of c in
-    at-suspend-found .suspend-found .kept .1 .0
-
-same-length-6 : tie.Need-same-length-6
-same-length-6 c =
-    let at-suspend-found = suspend-found-of c in
-    at-suspend-found .suspend-found .kept .1 .1 .0
-
-same-length-7 : tie.Need-same-length-7
-same-length-7 c =
-    let at-suspend-found = suspend-found-of c in
-    at-suspend-found .suspend-found .kept .1 .1 .1 .0
-
-same-length-8 : tie.Need-same-length-8
-same-length-8 c =
-    let at-suspend-found = suspend-found-of c in
-    at-suspend-found .suspend-found .kept .1 .1 .1 .1 .0
-
-same-length-9 : tie.Need-same-length-9
-same-length-9 c =
-    let at-suspend-found = suspend-found-of c in
-    at-suspend-found .suspend-found .kept .1 .1 .1 .1 .1 .0
-
 returns-4 : tie.Need-returns-4
-returns-4 c =
-    let at-suspend-found = suspend-found-of c in
-    at-suspend-found .suspend-found .ensures
+returns-4 c = suspend-found-of c .suspend-found .ensures
 
 pub coro-suspend-spec : {M : Type 1} → statement M
 coro-suspend-spec =
@@ -124,10 +90,10 @@ coro-suspend-spec =
     (λ c. search needs)
     (λ c. search needs)
     returns-3
-    same-length-4
-    same-length-5
-    same-length-6
-    same-length-7
-    same-length-8
-    same-length-9
+    (λ c. suspend-found-of c .suspend-found .kept .0)
+    (λ c. suspend-found-of c .suspend-found .kept .1 .0)
+    (λ c. suspend-found-of c .suspend-found .kept .1 .1 .0)
+    (λ c. suspend-found-of c .suspend-found .kept .1 .1 .1 .0)
+    (λ c. suspend-found-of c .suspend-found .kept .1 .1 .1 .1 .0)
+    (λ c. suspend-found-of c .suspend-found .kept .1 .1 .1 .1 .1 .0)
     returns-4)

@@ -4,7 +4,7 @@ use Rattle.heap.specs.Charge.{chargeOf}
 use Rattle.memory.specs.Memory.{Lent, Beside}
 use Rattle.memory.specs.Lendings.{lent}
 use Rattle.coro_suspend.proofs.Parts.{heapOf}
-use Rattle.coro_suspend.proofs.Asleep.{Before, before, leave-fit, spent, accepted}
+use Rattle.coro_suspend.proofs.Asleep.{found-before, found-leaves, spent, accepted}
 use borrow.Author.Needs.{needs}
 use Rattle.coro_suspend.proofs.suspend.suspend_found.Statement.{statement}
 use Rattle.coro_suspend.proofs.suspend.suspend_found.Tie as tie
@@ -16,85 +16,42 @@ move-out-of c = c .before .before .before .before .before .before .before .befor
 abbrev read-of : tie.After-move-out-arg4 → tie.After-base-at
 read-of c = c .before .before .before .before .before .before .before .before .before .before .before
 
-abbrev start-of-read : tie.After-base-at → tie.Start
-start-of-read c = c .before .before .before .before .before .before .before .before
-
-abbrev start-of : tie.After-move-out-arg4 → tie.Start
-start-of c = start-of-read (read-of c)
+abbrev start-of : tie.After-base-at → tie.Start
+start-of c = c .before .before .before .before .before .before .before .before
 
 abbrev mem : tie.Start → Beside → Lent
 mem c b = lent (c .args .stack .now) (c .args .frames .now) (c .args .chain .now) (c .args .slots .now) (c .args .saved-stack .now) (c .args .saved-frames .now) b
 
-known : (c : tie.After-base-at) →
-    let start = start-of-read c in
-    Before (start .args .l) (mem start (start .pre .ok .beside)) (start .args .m) (start .pre .ok .beside .fuel) (start .args .state) (start .args .dst) (start .args .payload) (start .args .keys)
-    (start .pre .ok .world) (start .pre .ok .rep) (start .args .a) (start .pre .some) (start .pre .top) (start .pre .floor) (start .args .i) (start .args .c) (start .pre .coro)
-    (c .base-at .result) (c .base-at .ensures) (start .pre .ok .sound)
-known c =
-    let start = start-of-read c in
-    before (start .args .l) (mem start (start .pre .ok .beside)) (start .args .m) (start .pre .ok .beside .fuel) (start .args .state) (start .args .dst) (start .args .payload) (start .args .keys)
-    (start .pre .ok .world) (start .pre .ok .rep) (start .args .a) (start .pre .some) (start .pre .top) (start .pre .floor) (start .args .i) (start .args .c) (start .pre .coro)
-    (c .base-at .result) (c .base-at .ensures) (start .pre .ok .sound)
-
 sub-regs : tie.Need-sub-regs
-sub-regs c = known (c .before) .under
+sub-regs c = found-before (start-of (c .before) .pre) (c .before .base-at .ensures) .under
 
 growth-requires : tie.Need-growth-requires
 growth-requires c κs =
-    let k = known (c .before .before) in (k .regs, k .frames, k .cost)
+    let read = c .before .before in let k = found-before (start-of read .pre) (read .base-at .ensures) in (k .regs, k .frames, k .cost)
 
 move-out-requires : tie.Need-move-out-requires
-move-out-requires c κs =
-    let read = read-of c in let start = start-of-read read in
-    leave-fit (start .args .l) (mem start (start .pre .ok .beside)) (start .args .m) (start .pre .ok .beside .fuel) (start .args .state) (start .args .dst)
-    (start .args .payload) (start .args .keys) (start .pre .ok .world) (start .pre .ok .rep) (start .args .a) (start .pre .some) (start .pre .top)
-    (start .pre .floor) (start .args .i) (start .args .c) (start .pre .coro) (read .base-at .result) (read .base-at .ensures)
-    (start .pre .ok .sound) (start .pre .ok .room)
+move-out-requires c κs = let read = read-of c in found-leaves (start-of read .pre) (read .base-at .ensures)
 
 pop-active-requires : tie.Need-pop-active-requires
 pop-active-requires c κs =
-    let read = read-of (c .before .before .before .before .before .before .before .before .before .before) in (start-of-read read .pre .some, known read .chain)
+    let read = read-of (c .before .before .before .before .before .before .before .before .before .before) in let p = start-of read .pre in
+    (p .some, found-before p (read .base-at .ensures) .chain)
 
 put-sleep-requires : tie.Need-put-sleep-requires
 put-sleep-requires c κs =
-    known (read-of (c .before .before .before .before .before .before .before .before .before .before .before .before .before .before .before)) .slot
+    let read = read-of (c .before .before .before .before .before .before .before .before .before .before .before .before .before .before .before) in
+    found-before (start-of read .pre) (read .base-at .ensures) .slot
 
 shrunk-requires : tie.Need-shrunk-requires
-shrunk-requires c κs =
-    let at-move-out = move-out-of c in let start = start-of (at-move-out .before) in
-    start .pre .some
+shrunk-requires c κs = start-of (read-of (move-out-of c .before)) .pre .some
 
 returns : tie.Need-returns
 returns c =
     let at-charge = c .before .before in let at-growth = at-charge .before in
-    let read = at-growth .before .before .before in let start = start-of-read read in
+    let read = at-growth .before .before .before in let start = start-of read in
     λ w b rep snd. spent (start .args .l) (mem start b) (start .args .m) (b .fuel) (start .args .state) (start .args .dst) (start .args .payload)
     (start .args .keys) w rep (start .args .a) (start .pre .some) (start .pre .top) (start .pre .floor) (start .args .i) (start .args .c) (start .pre .coro)
     (read .base-at .result) (read .base-at .ensures) (sym (c .enum-told .given .1) ∙ at-charge .charge .ensures ∙ ap (chargeOf (heapOf (start .args .m) (start .args .l))) (at-growth .growth .ensures))
-
-same-length-2 : tie.Need-same-length-2
-same-length-2 c =
-    move-out-of (c .before) .move-out .kept .0
-
-same-length-3 : tie.Need-same-length-3
-same-length-3 c =
-    move-out-of (c .before) .move-out .kept .1 .0
-
-same-length-4 : tie.Need-same-length-4
-same-length-4 c =
-    let at-pop-active = c .before .before .before .before .before .before .before .before .before in
-    at-pop-active .pop-active .kept .0
-
-same-length-5 : tie.Need-same-length-5
-same-length-5 c = c .before .before .before .before .put-sleep .kept .0
-
-same-length-6 : tie.Need-same-length-6
-same-length-6 c =
-    move-out-of (c .before) .move-out .kept .1 .1 .0
-
-same-length-7 : tie.Need-same-length-7
-same-length-7 c =
-    move-out-of (c .before) .move-out .kept .1 .1 .1 .0
 
 returns-2 : tie.Need-returns-2
 returns-2 c =
@@ -102,7 +59,7 @@ returns-2 c =
     let at-asleep = at-put-sleep .before .before in let at-pop-active = at-asleep .before .before .before in
     let at-move-out = at-pop-active .before .before .before .before .before .before .before .before .before .before in
     let at-g = at-move-out .before .before .before .before .before .before in let at-charge = at-g .before .before in
-    let at-growth = at-charge .before in let read = at-growth .before .before .before in let start = start-of-read read in
+    let at-growth = at-charge .before in let read = at-growth .before .before .before in let start = start-of read in
     λ w b rep snd. accepted (start .args .l) (mem start b) (start .args .m) (b .fuel) (start .args .state) (start .args .dst) (start .args .payload)
     (start .args .keys) w rep (start .args .a) (start .pre .some) (start .pre .top) (start .pre .floor) (start .args .i) (start .args .c) (start .pre .coro)
     (read .base-at .result) (read .base-at .ensures) snd _ _ _ _ _ _ (at-g .g .given .0 .0) (at-asleep .asleep .result) (c .shrunk .result) (at-event-of .event-of .result) (start .pre .state)
@@ -129,10 +86,10 @@ suspend-found-spec =
     shrunk-requires
     (λ c. search needs)
     returns
-    same-length-2
-    same-length-3
-    same-length-4
-    same-length-5
-    same-length-6
-    same-length-7
+    (λ c. move-out-of (c .before) .move-out .kept .0)
+    (λ c. move-out-of (c .before) .move-out .kept .1 .0)
+    (λ c. c .before .before .before .before .before .before .before .before .before .pop-active .kept .0)
+    (λ c. c .before .before .before .before .put-sleep .kept .0)
+    (λ c. move-out-of (c .before) .move-out .kept .1 .1 .0)
+    (λ c. move-out-of (c .before) .move-out .kept .1 .1 .1 .0)
     returns-2)

@@ -1,14 +1,12 @@
 -- `spawn` meets the model, by the hook and by what indirect answers. Assumes nothing.
-use mathlib.Core.Path.{refl, sym, _∙_}
+use mathlib.Core.Path.{sym, _∙_}
 use Rattle.model.specs.Exec.{indirect}
 use Rattle.soundness.proofs.Sound.{→sound}
 use Rattle.memory.specs.Memory.{Lent, Beside}
 use Rattle.memory.specs.Lendings.{topMaking, plain}
-use Rattle.memory.proofs.Does.{room-same}
-use Rattle.exec_make.proofs.Newly.{still-fits}
 use Rattle.soundness.proofs.Made.{indirect-good}
 use Rattle.coro_create.proofs.Setting.{known}
-use Rattle.exec_make.proofs.Hooked.{hook-there, no-hook, spawn-refused, spawn-called}
+use Rattle.exec_make.proofs.Hooked.{hook-asks, no-hook, spawn-refused, spawn-called}
 use borrow.Author.Needs.{needs}
 use Rattle.exec_make.proofs.spawn.spawn.Statement.{statement}
 use Rattle.exec_make.proofs.spawn.spawn.Tie as tie
@@ -33,77 +31,38 @@ returns c =
     (sym (c .enum-told .given .1) ∙ asked .hook .ensures)
 
 indirect-requires : tie.Need-indirect-requires
-indirect-requires c κs = let start = c .before .before .before .before .before .before .before .before .before .before .before .before .before .before .before in start .pre .indirect
+indirect-requires c κs = c .before .before .before .before .before .before .before .before .before .before .before .before .before .before .before .pre .indirect
+
+-- the hook that the set-up has
+abbrev named-of : tie.After-indirect → tie.After-hook2
+named-of c = c .before .before .before .before .before .before .before
 
 call-hook-requires : tie.Need-call-hook-requires
 call-hook-requires c κs =
-    let creating = c .before .before .before .before .before .before .before .before .before .before .before .before in
-    let named = creating .before .before .before .before .before .before .before in
-    let asked = named .before .before in
-    let start = asked .before .before .before .before .before .before .before in
-    let o = start .pre .indirect .ok in
-    let u = indirect (start .args .dst) (start .args .callee) (start .args .argc) (o .world) .world in
-    let made = indirect-good (start .args .dst) (start .args .callee) (start .args .argc) (o .world) (known (o .world) (o .sound)) in
-    let did = creating .indirect .ensures (o .world) (o .beside) (o .rep) (o .sound) in
-    let hook = hook-there (start .args .l) (o .world) (mem start (o .beside)) (start .args .m) (o .beside .fuel) (o .rep) (o .sound) (named .hook2 .given .0 .0)
-    (sym (named .hook2 .given .1) ∙ asked .hook .ensures) in
-    let fits = still-fits (start .args .l) (o .world) u (mem start (o .beside)) _ (start .args .m) _ (o .beside .fuel) (o .beside .fuel) (start .args .dst)
-    (made .fact .still) (o .rep) (did .world) (start .pre .indirect .reg) in
-    record {
-      call =
-          record {
-            push =
-                record {
-                  ok =
-                      record {
-                        world = u;
-                        beside = record { words = left creating (o .beside); fuel = o .beside .fuel };
-                        rep = did .world;
-                        sound = →sound u (made .sound);
-                        room = room-same (o .world .setup) (u .setup) (mem start (o .beside)) (left creating (o .beside)) (made .fact .still .setup)
-                            (record {
-                              stack = refl;
-                              frames = refl;
-                              chain = refl;
-                              slots = creating .indirect .kept .1 .1 .0;
-                              savedStack = creating .indirect .kept .1 .1 .1 .0;
-                              savedFrames = creating .indirect .kept .1 .1 .1 .1 .0;
-                              ready = refl;
-                              finalize = refl;
-                              setup = refl;
-                            }) (o .room);
-                      };
-                  function = hook .function;
-                };
-            some = fits .some;
-            narrow = start .pre .narrow;
-          };
-      register = hook .register;
-    }
+    let creating = c .before .before .before .before .before .before .before .before .before .before .before .before in let named = named-of creating in
+    let p = start-of creating .pre in let o = p .indirect .ok in let k = creating .indirect .kept in
+    hook-asks p (named .hook2 .given .0 .0) (sym (named .hook2 .given .1) ∙ named .before .before .hook .ensures)
+    (creating .indirect .ensures (o .world) (o .beside) (o .rep) (o .sound) .world) (k .1 .1 .0) (k .1 .1 .1 .0) (k .1 .1 .1 .1 .0)
 
 returns-2 : tie.Need-returns-2
 returns-2 c =
-    let told = c .before in
-    let creating = told .before .before .before .before .before .before .before .before .before in
-    let named = creating .before .before .before .before .before .before .before in
-    let asked = named .before .before in
-    let start = asked .before .before .before .before .before .before .before in
+    let told = c .before in let creating = told .before .before .before .before .before .before .before .before .before in
+    let named = named-of creating in let a = start-of creating .args in
     λ w b rep snd.
-    spawn-refused (start .args .l) w (mem start b) (start .args .m) (start .args .fuel) rep (start .args .pc) (start .args .dst) (start .args .callee) (start .args .argc)
-    (named .hook2 .given .0 .0) (sym (named .hook2 .given .1) ∙ asked .hook .ensures) _ _ (start .args .fuel) _ (told .answer .given .0 .0) (told .answer .given .1)
-    (creating .indirect .ensures w (record { words = b .words; fuel = start .args .fuel }) rep snd)
+    spawn-refused (a .l) w (mem (start-of creating) b) (a .m) (a .fuel) rep (a .pc) (a .dst) (a .callee) (a .argc)
+    (named .hook2 .given .0 .0) (sym (named .hook2 .given .1) ∙ named .before .before .hook .ensures) _ _ (a .fuel) _ (told .answer .given .0 .0) (told .answer .given .1)
+    (creating .indirect .ensures w (record { words = b .words; fuel = a .fuel }) rep snd)
 
 returns-3 : tie.Need-returns-3
 returns-3 c =
-    let calling = c .before .before .before .before in let told = calling .before .before .before .before in let creating = told .before .before .before .before .before .before .before .before .before in
-    let named = creating .before .before .before .before .before .before .before in let asked = named .before .before in let start = asked .before .before .before .before .before .before .before in
+    let calling = c .before .before .before .before in let told = calling .before .before .before .before in
+    let creating = told .before .before .before .before .before .before .before .before .before in let named = named-of creating in let a = start-of creating .args in
     λ w b rep snd.
-    let did = creating .indirect .ensures w (record { words = b .words; fuel = start .args .fuel }) rep snd in
-    let made = indirect-good (start .args .dst) (start .args .callee) (start .args .argc) w (known w snd) in
-    let u = indirect (start .args .dst) (start .args .callee) (start .args .argc) w .world in
-    spawn-called (start .args .l) w (mem start b) (start .args .m) (start .args .fuel) rep (start .args .pc) (start .args .dst) (start .args .callee) (start .args .argc)
-    (named .hook2 .given .0 .0) (sym (named .hook2 .given .1) ∙ asked .hook .ensures) _ _ _ (told .answer2 .given .0 .0) _ (sym (told .answer2 .given .1) ∙ did .answer)
-    (calling .call-hook .ensures u (record { words = left creating b; fuel = b .fuel }) (did .world) (→sound u (made .sound)))
+    let did = creating .indirect .ensures w (record { words = b .words; fuel = a .fuel }) rep snd in
+    let u = indirect (a .dst) (a .callee) (a .argc) w .world in
+    spawn-called (a .l) w (mem (start-of creating) b) (a .m) (a .fuel) rep (a .pc) (a .dst) (a .callee) (a .argc)
+    (named .hook2 .given .0 .0) (sym (named .hook2 .given .1) ∙ named .before .before .hook .ensures) _ _ _ (told .answer2 .given .0 .0) _ (sym (told .answer2 .given .1) ∙ did .answer)
+    (calling .call-hook .ensures u (record { words = left creating b; fuel = b .fuel }) (did .world) (→sound u (indirect-good (a .dst) (a .callee) (a .argc) w (known w snd) .sound)))
 
 pub spawn-spec : {M : Type 1} → statement M
 spawn-spec =
