@@ -11,15 +11,15 @@ use Rattle.heap.specs.declared.int.Exact.{Exact}
 use Rattle.heap.specs.declared.object.CoroState.{CoroState}
 use Rattle.model.specs.State.{isCreated, isAwaiting, isReturned}
 use Rattle.model.specs.Program.{func, isFunction}
-use Rattle.model.specs.Object.{Object, Coroutine, Absent, Is, isDone}
+use Rattle.model.specs.Object.{Object, isDone}
 use Rattle.model.specs.World.{World}
 use Rattle.model.specs.Frames.{reg, storePc}
-use Rattle.model.specs.Heap.{object, coro, notA, encodeInt, dynInt}
+use Rattle.model.specs.Heap.{object, coro, encodeInt, dynInt}
 use Rattle.model.specs.Coro.{coroCreate, coroState, coroEnter, coroSuspend, deliver, inState, ended}
 use Rattle.model.specs.Cleanup.{close, charge}
 use Rattle.model.specs.Machine.{pushFrame, isOk}
 use Rattle.model.specs.Exec.{putMade, window, coroNew, indirectTo, indirect, coroNewIndirect, hooked, callHook, spawnMade, spawnWith, spawn, delivered, deliverAll, suspend, largestIn, keyAt, keyExact, autoKey, yieldKey, yieldOn, yield, largerOf}
-use Rattle.model.specs.Exec.{yieldKvOn, yieldKv, awaitOn, await, arrive, resume, throwEntered, throwTo, resumeThrow, closeEntered, closeIn, closeTo, coroClose, statusOf, coroStatus, coroCurrent, keyOf, coroKey, resultIn, coroResult, iterOn, iterNext}
+use Rattle.model.specs.Exec.{yieldKvOn, yieldKv, awaitOn, await, arrive, resume, throwEntered, throwTo, resumeThrow, closeEntered, closeIn, closeTo, coroClose, iterOn, iterNext}
 use Rattle.model.specs.Added.{answerMade}
 use Rattle.model.specs.declared.machine.Cont.{Cont}
 use Rattle.model.specs.declared.machine.Driver.{Driver}
@@ -181,34 +181,6 @@ module _ (w : World) (h : Agree w) where
       go (Stated.In CoroState.Awaiting) = enter
       go (Stated.In CoroState.Returned) = h
       go (Stated.In CoroState.Failed) = h
-
-  pub status-agree : (dst c : ℕ) → Ag (coroStatus dst c w)
-  unfolding coroStatus
-  status-agree dst c = go (coroState w (reg w c))
-    where
-      go : (s : Stated) → Ag (statusOf s dst w)
-      go (Stated.In s) = h
-      go (Stated.Refused f) = h
-
-  pub current-agree : (dst : ℕ) → Ag (coroCurrent dst w)
-  unfolding coroCurrent
-  current-agree dst = h
-
-  pub key-agree : (dst c : ℕ) → Ag (coroKey dst c w)
-  unfolding coroKey
-  key-agree dst c = go (coro w (reg w c))
-    where
-      go : (o : Coroutine) → Ag (keyOf o (notA w (reg w c)) dst w)
-      go Absent = h
-      go (Is k r) = h
-
-  pub result-agree : (dst c : ℕ) → Ag (coroResult dst c w)
-  unfolding coroResult
-  result-agree dst c = go (coro w (reg w c))
-    where
-      go : (o : Coroutine) → Ag (resultIn o (notA w (reg w c)) dst w)
-      go Absent = h
-      go (Is k r) = picked Ag (isReturned (k .state)) (λ _. h) (λ _. h)
 
   pub iter-agree : (pc has iter val src : ℕ) → Ag (iterNext pc has iter val src w)
   unfolding iterNext

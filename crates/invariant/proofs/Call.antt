@@ -29,11 +29,11 @@ use Rattle.soundness.proofs.Tests.{no-true, and-left, and-right, picked}
 use Rattle.soundness.proofs.Sound.{Sound}
 use Rattle.soundness.proofs.Charge.{Charging, charge-good}
 use Rattle.invariant.proofs.Unwind.{Fine, finish-good, unwind-good}
-use Rattle.invariant.proofs.Exec.{Stepping, new-good, new-indirect-good, spawn-good, yield-good, yieldKv-good, await-good, resume-good, throw-good, close-good, status-good, current-good, key-good, result-good, iter-good}
+use Rattle.invariant.proofs.Exec.{Stepping, new-good, new-indirect-good, spawn-good, yield-good, yieldKv-good, await-good, resume-good, throw-good, close-good, Asks, asks-good, asks-agree, status-asks, current-asks, key-asks, result-asks, iter-good}
 use Rattle.invariant.proofs.Added.{host-call-good, host-entry-good, function-call-good, put-word-good, make-iterator-good, take-outcome-good, hand-over-good, grant-good, stop-run-good, spawn-task-good}
 use Rattle.invariant.proofs.Agree.{Ag, task-agree, abort-agree, charge-agree}
 use Rattle.invariant.proofs.AgreeMachine.{then-ag, finish-agree, unwind-agree}
-use Rattle.invariant.proofs.AgreeExec.{answer-made, new-agree, new-indirect-agree, spawn-agree, yield-agree, yieldKv-agree, await-agree, resume-agree, throw-agree, close-agree, status-agree, current-agree, key-agree, result-agree, iter-agree}
+use Rattle.invariant.proofs.AgreeExec.{answer-made, new-agree, new-indirect-agree, spawn-agree, yield-agree, yieldKv-agree, await-agree, resume-agree, throw-agree, close-agree, iter-agree}
 use Rattle.invariant.proofs.AgreeAdded.{host-call-agree, host-entry-agree, function-call-agree, make-iterator-agree, hand-over-agree, grant-agree}
 use Rattle.soundness.proofs.Good.{Good, good, then-good, stepFine, answerFine, Calm, InTop, calm-top}
 
@@ -92,6 +92,9 @@ module _ (ex : Bool) where
         Acts pc (allIn (d ∷ rs)) arm
     acts keeps agrees = (at-pc, (λ w u ok some k l. keeps u k at-pc (each-first isReg d rs (and-right (isPc pc) _ e)) (first-in w u ok some l), agrees))
 
+    asks : {arm : World → After Step} → ((u : World) → Asks d u (arm u)) → Acts pc (allIn (d ∷ rs)) arm
+    asks does = acts (λ u k _ _ _. asks-good (does u) k) (λ u k. asks-agree (does u) k)
+
   -- THE TABLE
   owes : (o : Op) → typed o ≡ true → Owes o (table o)
   unfolding typed putWord takeOutcome stopRun
@@ -117,10 +120,10 @@ module _ (ex : Bool) where
   owes (Op.Resume pc dst c src) e = acts pc dst (c ∷ src ∷ []) e (λ u k p _ t. resume-good pc dst u k p t c src) (λ u k. resume-agree u k pc dst c src)
   owes (Op.ResumeThrow pc dst c src) e = acts pc dst (c ∷ src ∷ []) e (λ u k p _ t. throw-good pc dst u k p t c src) (λ u k. throw-agree u k pc dst c src)
   owes (Op.CoroClose pc dst c src) e = acts pc dst (c ∷ src ∷ []) e (λ u k p _ t. close-good pc dst u k p t c src) (λ u k. close-agree u k pc dst c src)
-  owes (Op.CoroStatus pc dst c) e = acts pc dst (c ∷ []) e (λ u k _ _ _. status-good dst u k c) (λ u k. status-agree u k dst c)
-  owes (Op.CoroCurrent pc dst) e = (and-left (isPc pc) (isReg dst) e, (λ w u ok some k l. current-good dst u k, λ u k. current-agree u k dst))
-  owes (Op.CoroKey pc dst c) e = acts pc dst (c ∷ []) e (λ u k _ _ _. key-good dst u k c) (λ u k. key-agree u k dst c)
-  owes (Op.CoroResult pc dst c) e = acts pc dst (c ∷ []) e (λ u k _ _ _. result-good dst u k c) (λ u k. result-agree u k dst c)
+  owes (Op.CoroStatus pc dst c) e = asks pc dst (c ∷ []) e (λ u. status-asks dst u c)
+  owes (Op.CoroCurrent pc dst) e = (and-left (isPc pc) (isReg dst) e, (λ w u ok some k l. asks-good (current-asks dst u) k, λ u k. asks-agree (current-asks dst u) k))
+  owes (Op.CoroKey pc dst c) e = asks pc dst (c ∷ []) e (λ u. key-asks dst u c)
+  owes (Op.CoroResult pc dst c) e = asks pc dst (c ∷ []) e (λ u. result-asks dst u c)
   owes (Op.IterNext pc has iter val src) e =
       let p = at-pc pc has (iter ∷ val ∷ src ∷ []) e in (
         p,

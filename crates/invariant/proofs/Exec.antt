@@ -13,12 +13,12 @@ use Rattle.heap.specs.declared.object.CoroState.{CoroState}
 use Rattle.model.specs.State.{isCreated, isAwaiting, isReturned, isRunning, isSuspended, isFinished}
 use Rattle.model.specs.Program.{isFunction, hookOk}
 use Rattle.model.specs.Object.{Core, Rest, Coroutine, Absent, Is, isDone}
-use Rattle.model.specs.World.{World, andThen}
+use Rattle.model.specs.World.{World, After, andThen}
 use Rattle.model.specs.Frames.{reg, storePc}
 use Rattle.model.specs.Heap.{object, coro, notA, dynInt}
 use Rattle.model.specs.Coro.{stateAs, coroEnter, finishCoroutine, inState, ended}
 use Rattle.model.specs.Machine.{pushFrame, isOk}
-use Rattle.model.specs.Exec.{put, putMade, window, coroNew, coroNewIndirect, hooked, callHook, spawnMade, spawnWith, spawn, delivered, deliverAll, suspend, largestIn, yieldKey, yieldOn, yield, largerOf, yieldKvOn, yieldKv, awaitOn}
+use Rattle.model.specs.Exec.{fault, put, putMade, window, coroNew, coroNewIndirect, hooked, callHook, spawnMade, spawnWith, spawn, delivered, deliverAll, suspend, largestIn, yieldKey, yieldOn, yield, largerOf, yieldKvOn, yieldKv, awaitOn}
 use Rattle.model.specs.Exec.{await, arrive, resume, throwEntered, throwTo, resumeThrow, closeEntered, closeIn, closeTo, coroClose, statusOf, coroStatus, current, coroCurrent, keyOf, coroKey, resultIn, coroResult, iterOn, iterNext}
 use Rattle.model.specs.Sound.{runs}
 use Rattle.model.specs.declared.machine.Cont.{Cont}
@@ -43,7 +43,9 @@ use Rattle.soundness.proofs.Enter.{enter-good, send-sound}
 use Rattle.invariant.proofs.Leave.{suspend-good}
 use Rattle.soundness.proofs.End.{deliver-good}
 use Rattle.soundness.proofs.Charge.{Charging, charge-good, close-sound, calm-store}
+use Rattle.invariant.specs.Reachable.{Agree}
 use Rattle.invariant.proofs.Unwind.{push-good}
+use Rattle.invariant.proofs.Agree.{Ag}
 use Rattle.soundness.proofs.Good.{Good, good, then-good, fine, madeFine, enteredFine, suspensionFine, stepFine, fine-notA, still, Calm, still-calm, InTop, calm-top, top-under}
 
 abbrev pub Stepping : World → Step → Type 0
@@ -217,33 +219,44 @@ module _ {ex : Bool} (pc dst : ℕ) (w : World) (h : Sound ex w) (p : ltb pc (2 
       stated (coro w (reg w c)) (notA w (reg w c)) (λ s. Good ex Stepping (closeTo s pc dst (reg w c) (reg w src) w)) (λ f. good h f) (fine-notA w (reg w c))
       (λ k r e. close-to (reg w c) (reg w src) k r e (k .state) refl)
 
--- ---- CoroStatus, CoroCurrent, CoroKey, CoroResult
+-- ---- CoroStatus, CoroCurrent, CoroKey, CoroResult: they ask, which is a fault or a word put into dst, and no more
 
-module _ {ex : Bool} (dst : ℕ) (w : World) (h : Sound ex w) where
-  pub status-good : (c : ℕ) → Good ex Stepping (coroStatus dst c w)
+pub data Asks (dst : ℕ) (w : World) : After Step → Type 0 where
+  faults : {f : Fault} → fine f ≡ true → Asks dst w (fault w f)
+  puts : (v : ℕ) → Asks dst w (put dst v w)
+
+pub asks-good : {ex : Bool} {dst : ℕ} {w : World} {o : After Step} → Asks dst w o → Sound ex w → Good ex Stepping o
+asks-good (faults e) h = good h e
+asks-good {ex} {dst} {w} (puts v) h = put-good dst v w h
+
+pub asks-agree : {dst : ℕ} {w : World} {o : After Step} → Asks dst w o → Agree w → Ag o
+asks-agree (faults e) h = h
+asks-agree (puts v) h = h
+
+module _ (dst : ℕ) (w : World) where
+  pub status-asks : (c : ℕ) → Asks dst w (coroStatus dst c w)
   unfolding coroStatus
-  status-good c =
-      stated (coro w (reg w c)) (notA w (reg w c)) (λ s. Good ex Stepping (statusOf s dst w)) (λ f. good h f) (fine-notA w (reg w c)) (λ k r e. put-good dst (codeOf (k .state)) w h)
+  status-asks c = stated (coro w (reg w c)) (notA w (reg w c)) (λ s. Asks dst w (statusOf s dst w)) (λ f. faults f) (fine-notA w (reg w c)) (λ k r e. puts (codeOf (k .state)))
 
-  pub current-good : Good ex Stepping (coroCurrent dst w)
+  pub current-asks : Asks dst w (coroCurrent dst w)
   unfolding coroCurrent
-  current-good = put-good dst (current (w .chain)) w h
+  current-asks = puts (current (w .chain))
 
-  pub key-good : (c : ℕ) → Good ex Stepping (coroKey dst c w)
+  pub key-asks : (c : ℕ) → Asks dst w (coroKey dst c w)
   unfolding coroKey
-  key-good c = go (coro w (reg w c))
+  key-asks c = go (coro w (reg w c))
     where
-      go : (o : Coroutine) → Good ex Stepping (keyOf o (notA w (reg w c)) dst w)
-      go Absent = good h (fine-notA w (reg w c))
-      go (Is k r) = put-good dst (r .key) w h
+      go : (o : Coroutine) → Asks dst w (keyOf o (notA w (reg w c)) dst w)
+      go Absent = faults (fine-notA w (reg w c))
+      go (Is k r) = puts (r .key)
 
-  pub result-good : (c : ℕ) → Good ex Stepping (coroResult dst c w)
+  pub result-asks : (c : ℕ) → Asks dst w (coroResult dst c w)
   unfolding coroResult
-  result-good c = go (coro w (reg w c))
+  result-asks c = go (coro w (reg w c))
     where
-      go : (o : Coroutine) → Good ex Stepping (resultIn o (notA w (reg w c)) dst w)
-      go Absent = good h (fine-notA w (reg w c))
-      go (Is k r) = picked (Good ex Stepping) (isReturned (k .state)) (λ _. put-good dst (r .result) w h) (λ _. good h refl)
+      go : (o : Coroutine) → Asks dst w (resultIn o (notA w (reg w c)) dst w)
+      go Absent = faults (fine-notA w (reg w c))
+      go (Is k r) = picked (λ o. Asks dst w o) (isReturned (k .state)) (λ _. puts (r .result)) (λ _. faults refl)
 
 -- ---- iter_next
 

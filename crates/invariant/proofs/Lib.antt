@@ -1,8 +1,8 @@
 pub mod Leave
 pub mod Unwind
+pub mod Agree
 pub mod Exec
 pub mod Added
-pub mod Agree
 pub mod AgreeMachine
 pub mod AgreeExec
 pub mod AgreeAdded

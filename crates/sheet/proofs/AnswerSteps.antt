@@ -3,7 +3,7 @@ use Prim.Native.Nat.{ℕ, suc}
 use mathlib.Core.Path.{_≡_, refl, sym, ap, _∙_}
 use mathlib.Core.Bool.{Bool, true, false, not, _&&_, true≢false}
 use mathlib.Core.List.{List, [], _∷_, map}
-use mathlib.Core.Option.{some}
+use mathlib.Core.Option.{Option, none, some}
 use native.Mathlib.Omega.{arith}
 use lib.ListN.{length, drop}
 use lib.Dec.{eqb}
@@ -12,7 +12,7 @@ use Rattle.lists.specs.Pick.{pick}
 use Rattle.heap.specs.declared.fault.Fault.{Fault}
 use Rattle.heap.specs.declared.object.CoroState.{CoroState}
 use Rattle.model.specs.Lists.{isNil, among}
-use Rattle.model.specs.World.{World, After, after}
+use Rattle.model.specs.World.{World, After, after, withStack}
 use Rattle.model.specs.Answer.{numberOf, wordOf, stepOf}
 use Rattle.model.specs.declared.machine.Active.{Active}
 use Rattle.model.specs.declared.machine.Driver.{Driver}
@@ -33,7 +33,7 @@ use Rattle.sheet.specs.Sheet.{lie, windowLies, tableOf}
 use Rattle.sheet.specs.Answers.{wordFor, thrownFor, isInstruction, moves, stepFor}
 use Rattle.sheet.proofs.Among.{same, and-left, and-right}
 use Rattle.sheet.proofs.Choice.{both}
-use Rattle.sheet.proofs.Led.{Every, InTurn, led-in-turn, in-turn}
+use Rattle.sheet.proofs.Led.{Every, InTurn, led-in-turn, in-turn, line-by-line}
 use Rattle.sheet.proofs.Moved.{length-at}
 use Rattle.sheet.proofs.WalkCalls.{never}
 use Rattle.sheet.proofs.Sheet.{behind}
@@ -203,21 +203,21 @@ module _ (w : World) where
         (λ _. stays u su still refl, (λ _. stays u su still refl, (λ _. stays u su (marked-alike (word u iter) u) refl, (λ _. stays u su still refl, (λ _. stays u su stored refl, (λ _. stays u su stored refl, tt))))))
         (gives u su (state u (word u src)) _ _ (entered (word u src) (Driver.Iter has val (word u iter)) (pcStored pc u)) refl refl)
 
-    asks : (dst c : ℕ) → Told (Asked.coroStatus dst c u)
-    unfolding pick
-    asks dst c = turn (Asked.coroStatus dst c u .tests) (Asked.coroStatus dst c u .done) (λ _. stays u su still refl, (λ _. stays u su still refl, tt)) (stays u su still refl)
+    -- an instruction that asks: each line leaves u but for its registers, and has the Step that goes on in the frame
+    abbrev asked : Line Answer → World × Option Step
+    asked l = (withStack [] (l .left), stepOf (l .answer))
 
-    keys : (dst c : ℕ) → Told (Asked.coroKey dst c u)
-    unfolding pick
-    keys dst c = turn (Asked.coroKey dst c u .tests) (Asked.coroKey dst c u .done) (λ _. stays u su still refl, (λ _. stays u su still refl, tt)) (stays u su still refl)
+    abbrev goes-on : Line Answer → World × Option Step
+    goes-on l = (withStack [] u, some (stepFor (numberOf (l .answer)) (wordOf (l .answer)) false))
 
-    results : (dst c : ℕ) → Told (Asked.coroResult dst c u)
-    unfolding pick
-    results dst c = turn (Asked.coroResult dst c u .tests) (Asked.coroResult dst c u .done) (λ _. stays u su still refl, (λ _. stays u su still refl, (λ _. stays u su still refl, tt))) (stays u su still refl)
+    asks-right : (l : Line Answer) → asked l ≡ goes-on l → Right (after (l .left) (l .answer))
+    asks-right l e = stays u su (record { frames = ap (λ p. length (p .0 .frames)) e; chain = ap (λ p. length (p .0 .chain)) e }) (ap (λ p. p .1) e)
 
-    current : (dst : ℕ) → Told (Asked.coroCurrent dst u)
-    unfolding pick
-    current dst = stays u su still refl
+    asks : (s : Lines Step) → let ts = map (asAnswer (lost pc w)) (s .tests) in let d = asAnswer (lost pc w) (s .done) in map asked ts ≡ map goes-on ts → asked d ≡ goes-on d → Told s
+    asks s e d =
+        turn (s .tests) (s .done)
+        (line-by-line asked goes-on (λ l. l .stops ≡ true → Right (after (l .left) (l .answer))) (u, none) (λ l h _. asks-right l h) (map (asAnswer (lost pc w)) (s .tests)) e)
+        (asks-right (asAnswer (lost pc w) (s .done)) d)
 
     -- creations: the tests, then others
     Lasts : List (Line Step) → Type 0
@@ -332,10 +332,10 @@ answered (Op.Await pc dst src) = stepping pc (lie (dst ∷ src ∷ [])) (Yields.
 answered (Op.Resume pc dst c src) = stepping pc (lie (dst ∷ c ∷ src ∷ [])) (Asked.resume pc dst c src) (λ w. resumes w pc dst c src) (λ w. refl)
 answered (Op.ResumeThrow pc dst c src) = throwing pc (lie (dst ∷ c ∷ src ∷ [])) (Asked.resumeThrow pc dst c src) (λ w. throws w pc dst c src) (λ w. refl) (λ w. throw-thrown w pc dst c src)
 answered (Op.CoroClose pc dst c src) = throwing pc (lie (dst ∷ c ∷ src ∷ [])) (Asked.coroClose pc dst c src) (λ w. closes w pc dst c src) (λ w. refl) (λ w. close-thrown w pc dst c src)
-answered (Op.CoroStatus pc dst c) = stepping pc (lie (dst ∷ c ∷ [])) (Asked.coroStatus dst c) (λ w. asks w pc dst c) (λ w. refl)
-answered (Op.CoroCurrent pc dst) = stepping pc (lie (dst ∷ [])) (Asked.coroCurrent dst) (λ w. current w pc dst) (λ w. refl)
-answered (Op.CoroKey pc dst c) = stepping pc (lie (dst ∷ c ∷ [])) (Asked.coroKey dst c) (λ w. keys w pc dst c) (λ w. refl)
-answered (Op.CoroResult pc dst c) = stepping pc (lie (dst ∷ c ∷ [])) (Asked.coroResult dst c) (λ w. results w pc dst c) (λ w. refl)
+answered (Op.CoroStatus pc dst c) = stepping pc (lie (dst ∷ c ∷ [])) (Asked.coroStatus dst c) (λ w. asks w pc (Asked.coroStatus dst c (charged pc w)) refl refl) (λ w. refl)
+answered (Op.CoroCurrent pc dst) = stepping pc (lie (dst ∷ [])) (Asked.coroCurrent dst) (λ w. asks w pc (Asked.coroCurrent dst (charged pc w)) refl refl) (λ w. refl)
+answered (Op.CoroKey pc dst c) = stepping pc (lie (dst ∷ c ∷ [])) (Asked.coroKey dst c) (λ w. asks w pc (Asked.coroKey dst c (charged pc w)) refl refl) (λ w. refl)
+answered (Op.CoroResult pc dst c) = stepping pc (lie (dst ∷ c ∷ [])) (Asked.coroResult dst c) (λ w. asks w pc (Asked.coroResult dst c (charged pc w)) refl refl) (λ w. refl)
 answered (Op.IterNext pc has iter val src) = stepping pc (lie (has ∷ iter ∷ val ∷ src ∷ [])) (Asked.iterNext pc has iter val src) (λ w. nexts w pc has iter val src) (λ w. refl)
 answered (Op.Finish kind v) = other (λ w. finish-on-words (w .frames) kind v w) (λ w. finish-on-thrown (w .frames) kind v w)
 answered (Op.Unwind f pc) = other (unwind-words f pc) (unwind-thrown f pc)

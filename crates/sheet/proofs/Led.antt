@@ -3,6 +3,7 @@ use Prim.Native.Nat.{ℕ}
 use mathlib.Core.Path.{_≡_, refl, ap}
 use mathlib.Core.Bool.{Bool, true, false, not, _&&_, _||_, true≢false, false≢true}
 use mathlib.Core.List.{List, [], _∷_, map}
+use lib.ListN.{getD, drop}
 use Rattle.lists.specs.Pick.{pick}
 use Rattle.heap.specs.declared.object.CoroState.{CoroState}
 use Rattle.model.specs.Lists.{isNil, each}
@@ -31,9 +32,12 @@ here false y e = absurd (false≢true e)
 
 -- ---- what every line that stops has, the line that is led to has
 
+abbrev pub All : {A : Type 0} → (A → Type 0) → List A → Type 0
+All P [] = Unit {0}
+All P (t ∷ ts) = P t × All P ts
+
 abbrev pub Every : {A : Type 0} → (After A → Type 0) → List (Line A) → Type 0
-Every P [] = Unit {0}
-Every P (t ∷ ts) = (t .stops ≡ true → P (after (t .left) (t .answer))) × Every P ts
+Every P ts = All (λ t. t .stops ≡ true → P (after (t .left) (t .answer))) ts
 
 pub led : {A : Type 0} (P : After A → Type 0) (ts : List (Line A)) (d : Line A) → Every P ts → P (after (d .left) (d .answer)) → P (leadsFrom ts d)
 led P [] d h k = k
@@ -62,6 +66,11 @@ led-answer p ts d h = led (λ a. p (a .answer) ≡ true) ts d (go ts (and-left (
     go : (ts : List (Line _)) → each (λ l. p (l .answer)) ts ≡ true → Every (λ a. p (a .answer) ≡ true) ts
     go [] h = tt
     go (t ∷ ts) h = (λ _. and-left (p (t .answer)) (each (λ l. p (l .answer)) ts) h, go ts (and-right (p (t .answer)) (each (λ l. p (l .answer)) ts) h))
+
+-- .. what follows, line by line, from an equation of two lists
+pub line-by-line : {A B : Type 0} (f g : A → B) (P : A → Type 0) → B → ((t : A) → f t ≡ g t → P t) → (ts : List A) → map f ts ≡ map g ts → All P ts
+line-by-line f g P b h [] e = tt
+line-by-line f g P b h (t ∷ ts) e = (h t (ap (λ xs. getD xs 0 b) e), line-by-line f g P b h ts (ap (λ xs. drop 1 xs) e))
 
 -- ---- an instruction that pays comes to its own lines
 

@@ -55,7 +55,7 @@ use Rattle.sheet.proofs.Charging.{charge-is}
 use Rattle.sheet.proofs.Suspending.{Sane, sane-stored}
 use Rattle.sheet.proofs.OtherCalls.{spawn-task-is, host-call-is, host-entry-is, function-call-is, put-word-is, make-iterator-is, take-outcome-is, hand-over-is, grant-is, stop-run-is}
 use Rattle.sheet.proofs.Kept.{stays, same-world, set-filled, adds, enters-kept, gives-kept, stops-kept}
-use Rattle.sheet.proofs.Walk.{Owns, new-owns, new-indirect-owns, spawn-owns, yield-owns, yield-kv-owns, await-owns, resume-owns, throw-owns, close-owns, status-owns, current-owns, key-owns, result-owns, next-owns}
+use Rattle.sheet.proofs.Walk.{Owns, new-owns, new-indirect-owns, spawn-owns, yield-owns, yield-kv-owns, await-owns, resume-owns, throw-owns, close-owns, asks-owns, next-owns}
 use Rattle.sheet.proofs.WalkCalls.{Fact, instruction-facts, Facts, no, to, is14, finish-on, unwind-fact, by, granted-facts, task-facts, rights, finish-on-right, unwind-right, never, no-14, finish-on-14, unwind-14}
 
 -- ---- what a sound machine has
@@ -241,10 +241,12 @@ holds (Op.ResumeThrow pc dst c src) =
     steps pc (Asked.resumeThrow pc dst c src) (lie-is (dst ∷ c ∷ src ∷ [])) (λ u s _. resume-throw-is pc dst c src u s) (λ u. throw-owns u pc dst c src) (λ u. refl) (λ w. refl)
 holds (Op.CoroClose pc dst c src) =
     steps pc (Asked.coroClose pc dst c src) (lie-is (dst ∷ c ∷ src ∷ [])) (λ u s _. coro-close-is pc dst c src u s) (λ u. close-owns u pc dst c src) (λ u. refl) (λ w. refl)
-holds (Op.CoroStatus pc dst c) = steps pc (Asked.coroStatus dst c) (lie-is (dst ∷ c ∷ [])) (λ u _ _. coro-status-is dst c u) (λ u. status-owns u dst c) (λ u. refl) (λ w. refl)
-holds (Op.CoroCurrent pc dst) = steps pc (Asked.coroCurrent dst) (lie-is (dst ∷ [])) (λ u _ _. coro-current-is dst u) (λ u. current-owns u dst) (λ u. refl) (λ w. refl)
-holds (Op.CoroKey pc dst c) = steps pc (Asked.coroKey dst c) (lie-is (dst ∷ c ∷ [])) (λ u _ _. coro-key-is dst c u) (λ u. key-owns u dst c) (λ u. refl) (λ w. refl)
-holds (Op.CoroResult pc dst c) = steps pc (Asked.coroResult dst c) (lie-is (dst ∷ c ∷ [])) (λ u _ _. coro-result-is dst c u) (λ u. result-owns u dst c) (λ u. refl) (λ w. refl)
+holds (Op.CoroStatus pc dst c) =
+    steps pc (Asked.coroStatus dst c) (lie-is (dst ∷ c ∷ [])) (λ u _ _. coro-status-is dst c u) (λ u. asks-owns u (Asked.coroStatus dst c u) refl refl) (λ u. refl) (λ w. refl)
+holds (Op.CoroCurrent pc dst) = steps pc (Asked.coroCurrent dst) (lie-is (dst ∷ [])) (λ u _ _. coro-current-is dst u) (λ u. asks-owns u (Asked.coroCurrent dst u) refl refl) (λ u. refl) (λ w. refl)
+holds (Op.CoroKey pc dst c) = steps pc (Asked.coroKey dst c) (lie-is (dst ∷ c ∷ [])) (λ u _ _. coro-key-is dst c u) (λ u. asks-owns u (Asked.coroKey dst c u) refl refl) (λ u. refl) (λ w. refl)
+holds (Op.CoroResult pc dst c) =
+    steps pc (Asked.coroResult dst c) (lie-is (dst ∷ c ∷ [])) (λ u _ _. coro-result-is dst c u) (λ u. asks-owns u (Asked.coroResult dst c u) refl refl) (λ u. refl) (λ w. refl)
 holds (Op.IterNext pc has iter val src) =
     steps pc (Asked.iterNext pc has iter val src) (lie-is (has ∷ iter ∷ val ∷ src ∷ [])) (λ u s _. iter-next-is pc has iter val src u s) (λ u. next-owns u pc has iter val src) (λ u. refl) (λ w. refl)
 holds (Op.Finish kind v) =

@@ -7,7 +7,7 @@ use lib.Dec.{eqb}
 use Rattle.lists.specs.Pick.{pick}
 use Rattle.heap.specs.declared.object.CoroState.{CoroState}
 use Rattle.model.specs.Lists.{among}
-use Rattle.model.specs.World.{World, After}
+use Rattle.model.specs.World.{World, After, withStack}
 use Rattle.model.specs.declared.machine.Driver.{Driver}
 use Rattle.model.specs.declared.machine.Stop.{Stop}
 use Rattle.model.specs.declared.exec.Step.{Step}
@@ -23,13 +23,13 @@ use Rattle.sheet.specs.Yields as Yields
 use Rattle.sheet.specs.Sentences.{unchanging}
 use Rattle.sheet.proofs.Among.{and-right}
 use Rattle.sheet.proofs.Choice.{both}
-use Rattle.sheet.proofs.Kept.{Kept, same-world, set-filled, adds, marks, enters-kept, gives-kept, ends-kept, delivers-kept}
+use Rattle.sheet.proofs.Led.{All, line-by-line}
+use Rattle.sheet.proofs.Kept.{filled, Kept, same-world, set-filled, adds, marks, enters-kept, gives-kept, ends-kept, delivers-kept}
 
 -- ---- lines by their numbers
 
 abbrev pub EveryLine : {A : Type 0} → (ℕ → World → Type 0) → List (Line A) → Type 0
-EveryLine P [] = Unit {0}
-EveryLine P (t ∷ ts) = (t .stops ≡ true → P (t .number) (t .left)) × EveryLine P ts
+EveryLine P ts = All (λ t. t .stops ≡ true → P (t .number) (t .left)) ts
 
 pub by-stop : {A : Type 0} (P : ℕ → World → Type 0) (b : Bool) (x y : After A) (m n : ℕ) → (b ≡ true → P m (x .world)) → (b ≡ false → P n (y .world)) → P (pick b m n) (pick b x y .world)
 unfolding pick
@@ -99,17 +99,15 @@ module _ (u : World) where
     ok (gives-kept u (state u (word u src)) _ _ _ (enters-kept u _ (word u src) (Driver.Iter has val (word u iter)) (pcStored pc u) k)) refl,
   )
 
-  pub status-owns : (dst c : ℕ) → Owns u (Asked.coroStatus dst c u)
-  status-owns dst c = ((λ _. ok k refl, (λ _. ok k refl, tt)), ok k refl)
+  -- an instruction that asks: each line leaves u but for its registers, and has a number that is neither 14 nor one that changes nothing
+  abbrev asked : Line Step → World × Bool
+  asked l = (withStack [] (l .left), eqb (l .number) 14 || among (l .number) unchanging)
 
-  pub current-owns : (dst : ℕ) → Owns u (Asked.coroCurrent dst u)
-  current-owns dst = (tt, ok k refl)
+  asks-own : (l : Line Step) → asked l ≡ (withStack [] u, false) → Own u (l .number) (l .left)
+  asks-own l e = ok (record { queue = ap (λ p. p .0 .finalize) e; stays = record { setup = ap (λ p. p .0 .setup) e; full = λ f. ap (λ p. filled (p .0 .slots)) e ∙ f } }) (ap (λ p. p .1) e)
 
-  pub key-owns : (dst c : ℕ) → Owns u (Asked.coroKey dst c u)
-  key-owns dst c = ((λ _. ok k refl, (λ _. ok k refl, tt)), ok k refl)
-
-  pub result-owns : (dst c : ℕ) → Owns u (Asked.coroResult dst c u)
-  result-owns dst c = ((λ _. ok k refl, (λ _. ok k refl, (λ _. ok k refl, tt))), ok k refl)
+  pub asks-owns : (s : Lines Step) → map asked (s .tests) ≡ map (λ l. (withStack [] u, false)) (s .tests) → asked (s .done) ≡ (withStack [] u, false) → Owns u s
+  asks-owns s e d = (line-by-line asked (λ l. (withStack [] u, false)) (λ l. l .stops ≡ true → Own u (l .number) (l .left)) (u, false) (λ l k _. asks-own l k) (s .tests) e, asks-own (s .done) d)
 
   made-kept : (f closure : ℕ) (args : List ℕ) → Kept u (Makings.made f closure args u)
   made-kept f closure args = adds u _ (Makings.bytes u f) (Makings.numbered u) refl k
