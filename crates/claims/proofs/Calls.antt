@@ -1,5 +1,5 @@
--- Every call has the shape. A call that is added owes its clause of `plan` (Entry.antt), and a clause of `shape`; what is claimed
--- of lists follows.
+-- Every call has the shape. A call that is added owes its clauses of `plan` (Entry.antt), by which the theorems go, of `as-typed`
+-- (Operands.antt) and of `shape`; what is claimed of lists follows.
 use Prim.Native.Nat.{ℕ, _+_}
 use mathlib.Core.Path.{_≡_, refl, sym, ap, _∙_, subst}
 use mathlib.Core.Bool.{Bool, true, false, not, _&&_, _||_}

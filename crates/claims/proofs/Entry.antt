@@ -1,27 +1,38 @@
 -- Who is entered by a call, by which driver, and with what word. 01: "An entry, from any driver, is accepted exactly if
 -- `coro_enter` accepts, also where the call then answers a fault".
-use Prim.Native.Nat.{ℕ}
+use Prim.Native.Nat.{ℕ, _+_}
+use mathlib.Core.Path.{_≡_, refl, ap, _∙_}
 use mathlib.Core.Bool.{Bool, true, false, not, _&&_}
 use mathlib.Core.List.{List, [], _∷_}
+use lib.ListN.{length}
+use lib.Dec.{ltb, leb}
 use Rattle.lists.specs.Pick.{pick}
 use Rattle.heap.specs.Word.{nil}
+use Rattle.heap.specs.declared.fault.Fault.{Fault}
 use Rattle.heap.specs.declared.object.CoroState.{CoroState}
 use Rattle.model.specs.Lists.{isNil}
 use Rattle.model.specs.State.{isCreated, isAwaiting, isResumable}
 use Rattle.model.specs.Object.{Coroutine, Absent, Is, isDone}
-use Rattle.model.specs.World.{World}
-use Rattle.model.specs.Frames.{reg}
+use Rattle.model.specs.Program.{isFunction}
+use Rattle.model.specs.World.{World, After}
+use Rattle.model.specs.Frames.{topBase, reg}
 use Rattle.model.specs.Heap.{object, coro, dynInt}
 use Rattle.model.specs.Coro.{overflows}
+use Rattle.model.specs.Gate.{inFrame, allIn, windowIn}
 use Rattle.model.specs.Cleanup.{isAsleep, charge}
 use Rattle.model.specs.Sound.{sound}
 use Rattle.model.specs.Call.{Call, SetUp, Do}
 use Rattle.model.specs.Calls.{Row, Instruction, OnFrame, OnHost, Unwinds, Grants, Looks, Other, table}
 use Rattle.model.specs.Exec.{largestIn, largerOf, autoKey}
 use Rattle.model.specs.declared.coro.Keys.{Keys}
+use Rattle.invariant.specs.Kept.{raises}
+use Rattle.claims.specs.Says as Says
+use Rattle.claims.specs.Steps.{viewOf}
 use Rattle.claims.specs.Says.{Sent, nothing, gets, closes}
 use Rattle.claims.proofs.Tries.{tries, keyed, inBody}
+use Rattle.model.specs.declared.exec.Step.{Step}
 use Rattle.model.specs.declared.machine.Driver.{Driver}
+use Rattle.model.specs.declared.machine.Frame.{Frame}
 use Rattle.model.specs.declared.machine.Charge.{Charge}
 use Rattle.heap.specs.declared.heap.ResultKind.{ResultKind}
 use Rattle.model.specs.declared.call.OptPc.{OptPc}
@@ -50,72 +61,125 @@ abbrev pub awaits : Coroutine → Bool
 awaits Absent = false
 awaits (Is k r) = isAwaiting (k .state)
 
--- what a call is after, read at the world where it is made
-pub data Plan : Type 0 where
-  entering : (World → Aim) → Plan
-  -- with whether coro_suspend accepts, at the world that the charge left
-  suspending : (World → Aim) → (World → Bool) → Plan
+-- the instructions that are to suspend, and those that are to enter
+pub data Suspending : Op → Type 0 where
+  yields : (pc dst src : ℕ) → Suspending (Op.Yield pc dst src)
+  yieldsKv : (pc dst src key : ℕ) → Suspending (Op.YieldKv pc dst src key)
+  waits : (pc dst src : ℕ) → Suspending (Op.Await pc dst src)
+
+pub data Entering : Op → Type 0 where
+  resumes : (pc dst c src : ℕ) → Entering (Op.Resume pc dst c src)
+  throws : (pc dst c src : ℕ) → Entering (Op.ResumeThrow pc dst c src)
+  shuts : (pc dst c src : ℕ) → Entering (Op.CoroClose pc dst c src)
+  turns : (pc has iter val src : ℕ) → Entering (Op.IterNext pc has iter val src)
+
+-- THE CALLS, as the theorems go by them: those that some theorem has something of its own to say of, and all others
+pub data Plan : Op → Type 0 where
+  suspending : {o : Op} → Suspending o → Plan o
+  entering : {o : Op} → Entering o → Plan o
   -- host entry
-  hosting : ℕ → ℕ → Plan
-  finishing : ResultKind → ℕ → Plan
-  idle : Plan
+  hosting : (c v : ℕ) → Plan (Op.HostEntry c v)
+  finishing : (kind : ResultKind) (v : ℕ) → Plan (Op.Finish kind v)
+  unwinding : (f : Fault) (pc : OptPc) → Plan (Op.Unwind f pc)
+  -- an instruction that is after neither, and says so; and a call that is no instruction
+  asking : {o : Op} {pc : ℕ} {ok : World → Bool} {arm : World → After Step} → table o ≡ Instruction pc ok arm → ((w : World) → Says.does (viewOf w) o ≡ Says.instr pc (ok w) Says.neither) → Plan o
+  idle : {o : Op} → raises (table o) ≡ true → ((w : World) → Says.does (viewOf w) o ≡ Says.other) → Plan o
 
-abbrev pub plan : Op → Plan
-plan (Op.CoroNew pc dst f argc) = idle
-plan (Op.CoroNewIndirect pc dst callee argc) = idle
-plan (Op.Spawn pc dst callee argc) = idle
-plan (Op.Yield pc dst src) = suspending (λ w. suspends CoroState.Yielded dst (reg w src)) (λ w. inBody (w .chain) (λ a. keyed (tries pc CoroState.Yielded dst (reg w src)) (autoKey (largestIn (coro w (a .coro))) w .world) (autoKey (largestIn (coro w (a .coro))) w .answer)))
-plan (Op.YieldKv pc dst src key) = suspending (λ w. suspends CoroState.Yielded dst (reg w src)) (λ w. inBody (w .chain) (λ a. tries pc CoroState.Yielded dst (reg w src) w (Keys.Set (reg w key) (largerOf (largestIn (coro w (a .coro))) (dynInt w (reg w key))))))
-plan (Op.Await pc dst src) = suspending (λ w. suspends CoroState.Awaiting dst (reg w src)) (λ w. inBody (w .chain) (λ a. tries pc CoroState.Awaiting dst (reg w src) w Keys.Keep))
-plan (Op.Resume pc dst c src) = entering (λ w. enters (reg w c) (Driver.Resume dst) (gets (reg w src)) true)
-plan (Op.ResumeThrow pc dst c src) = entering (λ w. enters (reg w c) (Driver.Resume dst) nothing (isAsleep (coro w (reg w c))))
-plan (Op.CoroClose pc dst c src) = entering (λ w. enters (reg w c) (Driver.Resume dst) (closes (reg w src)) (isAsleep (coro w (reg w c))))
-plan (Op.CoroStatus pc dst c) = idle
-plan (Op.CoroCurrent pc dst) = idle
-plan (Op.CoroKey pc dst c) = idle
-plan (Op.CoroResult pc dst c) = idle
-plan (Op.IterNext pc has iter val src) = entering (λ w. enters (reg w src) (Driver.Iter has val (reg w iter)) (gets nil) (not (isDone (object w (reg w iter))) && not (awaits (coro w (reg w src)))))
+pub base-top : (fs : List Frame) → Says.base fs ≡ topBase fs
+base-top [] = refl
+base-top (f ∷ fs) = refl
+
+and-unit : (a : Bool) → (a && true) ≡ a
+and-unit true = refl
+and-unit false = refl
+
+lie-in : (w : World) (rs : List ℕ) → Says.lie (viewOf w) rs ≡ allIn rs w
+lie-in w [] = refl
+lie-in w (r ∷ rs) = λ i. ltb (base-top (w .frames) i + r) (length (w .stack)) && lie-in w rs i
+
+window-in : (w : World) (dst argc : ℕ) → Says.window (viewOf w) dst argc ≡ windowIn w dst argc
+window-in w dst argc = ap (λ b. leb (b + dst + 1 + argc) (length (w .stack))) (base-top (w .frames))
+
+-- an instruction's operands pass in the claim's words where they pass in the model's
+pub in-frame : (w : World) (pc : ℕ) (rs : List ℕ) → Says.instr pc (Says.lie (viewOf w) rs) Says.neither ≡ Says.instr pc (allIn rs w) Says.neither
+in-frame w pc rs = ap (λ b. Says.instr pc b Says.neither) (lie-in w rs)
+
+pub in-window : (w : World) (pc dst callee argc : ℕ)
+    → Says.instr pc (Says.lie (viewOf w) (dst ∷ callee ∷ []) && Says.window (viewOf w) dst argc) Says.neither ≡ Says.instr pc (allIn (dst ∷ callee ∷ []) w && windowIn w dst argc) Says.neither
+in-window w pc dst callee argc = λ i. Says.instr pc (lie-in w (dst ∷ callee ∷ []) i && window-in w dst argc i) Says.neither
+
+pub new-in : (w : World) (pc dst f argc : ℕ) → Says.does (viewOf w) (Op.CoroNew pc dst f argc) ≡ Says.instr pc (inFrame w dst && windowIn w dst argc && isFunction (w .setup) f) Says.neither
+new-in w pc dst f argc = λ i. Says.instr pc ((lie-in w (dst ∷ []) ∙ and-unit (inFrame w dst)) i && window-in w dst argc i && isFunction (w .setup) f) Says.neither
+
+abbrev pub plan : (o : Op) → Plan o
+plan (Op.CoroNew pc dst f argc) = asking refl (λ w. new-in w pc dst f argc)
+plan (Op.CoroNewIndirect pc dst callee argc) = asking refl (λ w. in-window w pc dst callee argc)
+plan (Op.Spawn pc dst callee argc) = asking refl (λ w. in-window w pc dst callee argc)
+plan (Op.Yield pc dst src) = suspending (yields pc dst src)
+plan (Op.YieldKv pc dst src key) = suspending (yieldsKv pc dst src key)
+plan (Op.Await pc dst src) = suspending (waits pc dst src)
+plan (Op.Resume pc dst c src) = entering (resumes pc dst c src)
+plan (Op.ResumeThrow pc dst c src) = entering (throws pc dst c src)
+plan (Op.CoroClose pc dst c src) = entering (shuts pc dst c src)
+plan (Op.CoroStatus pc dst c) = asking refl (λ w. in-frame w pc (dst ∷ c ∷ []))
+plan (Op.CoroCurrent pc dst) = asking refl (λ w. in-frame w pc (dst ∷ []))
+plan (Op.CoroKey pc dst c) = asking refl (λ w. in-frame w pc (dst ∷ c ∷ []))
+plan (Op.CoroResult pc dst c) = asking refl (λ w. in-frame w pc (dst ∷ c ∷ []))
+plan (Op.IterNext pc has iter val src) = entering (turns pc has iter val src)
 plan (Op.Finish kind v) = finishing kind v
-plan (Op.Unwind f pc) = idle
-plan (Op.SpawnTask v) = idle
-plan (Op.HostCall f) = idle
+plan (Op.Unwind f pc) = unwinding f pc
+plan (Op.SpawnTask v) = idle refl (λ w. refl)
+plan (Op.HostCall f) = idle refl (λ w. refl)
 plan (Op.HostEntry c v) = hosting c v
-plan (Op.FunctionCall pc f cont) = idle
-plan (Op.PutWord r v) = idle
-plan (Op.MakeIterator v) = idle
-plan Op.TakeOutcome = idle
-plan (Op.HandOver v) = idle
-plan (Op.Grant n) = idle
-plan Op.StopRun = idle
-plan Op.Look = idle
+plan (Op.FunctionCall pc f cont) = idle refl (λ w. refl)
+plan (Op.PutWord r v) = idle refl (λ w. refl)
+plan (Op.MakeIterator v) = idle refl (λ w. refl)
+plan Op.TakeOutcome = idle refl (λ w. refl)
+plan (Op.HandOver v) = idle refl (λ w. refl)
+plan (Op.Grant n) = idle refl (λ w. refl)
+plan Op.StopRun = idle refl (λ w. refl)
+plan Op.Look = idle refl (λ w. refl)
 
-abbrev pub aimOf : Plan → World → Aim
-aimOf (entering f) w = f w
-aimOf (suspending f accepts) w = f w
-aimOf (hosting c v) w = neither
-aimOf (finishing kind v) w = neither
-aimOf idle w = neither
+-- what they are after, read at the world where the call is made
+abbrev pub suspendAim : {o : Op} → Suspending o → World → Aim
+suspendAim (yields pc dst src) w = suspends CoroState.Yielded dst (reg w src)
+suspendAim (yieldsKv pc dst src key) w = suspends CoroState.Yielded dst (reg w src)
+suspendAim (waits pc dst src) w = suspends CoroState.Awaiting dst (reg w src)
 
--- a call that is no instruction
-abbrev pub ownBy : Plan → Act
-ownBy (entering f) = other
-ownBy (suspending f accepts) = other
-ownBy (hosting c v) = byHost c v
-ownBy (finishing kind v) = finishes kind v
-ownBy idle = other
+abbrev pub enterAim : {o : Op} → Entering o → World → Aim
+enterAim (resumes pc dst c src) w = enters (reg w c) (Driver.Resume dst) (gets (reg w src)) true
+enterAim (throws pc dst c src) w = enters (reg w c) (Driver.Resume dst) nothing (isAsleep (coro w (reg w c)))
+enterAim (shuts pc dst c src) w = enters (reg w c) (Driver.Resume dst) (closes (reg w src)) (isAsleep (coro w (reg w c)))
+enterAim (turns pc has iter val src) w = enters (reg w src) (Driver.Iter has val (reg w iter)) (gets nil) (not (isDone (object w (reg w iter))) && not (awaits (coro w (reg w src))))
 
--- pc and operands are those of the call's row
-abbrev pub actBy : World → Row → Plan → Act
-actBy w (Instruction pc operands arm) p = at pc (operands w) (aimOf p w)
-actBy w (OnFrame operands body) p = ownBy p
-actBy w (OnHost operands body) p = ownBy p
-actBy w (Unwinds f pc) p = unwinds
-actBy w (Grants n) p = ownBy p
-actBy w Looks p = ownBy p
-actBy w (Other body) p = ownBy p
+-- whether coro_suspend accepts, at the world that the charge left
+abbrev pub suspendOk : {o : Op} → Suspending o → World → Bool
+suspendOk (yields pc dst src) w =
+    inBody (w .chain) (λ a. keyed (tries pc CoroState.Yielded dst (reg w src)) (autoKey (largestIn (coro w (a .coro))) w .world) (autoKey (largestIn (coro w (a .coro))) w .answer))
+suspendOk (yieldsKv pc dst src key) w = inBody (w .chain) (λ a. tries pc CoroState.Yielded dst (reg w src) w (Keys.Set (reg w key) (largerOf (largestIn (coro w (a .coro))) (dynInt w (reg w key)))))
+suspendOk (waits pc dst src) w = inBody (w .chain) (λ a. tries pc CoroState.Awaiting dst (reg w src) w Keys.Keep)
+
+-- pc and operands are those of the instruction's row
+abbrev pub atRow : Row → World → Aim → Act
+atRow (Instruction pc operands arm) w a = at pc (operands w) a
+atRow (OnFrame operands body) w a = other
+atRow (OnHost operands body) w a = other
+atRow (Unwinds f pc) w a = other
+atRow (Grants n) w a = other
+atRow Looks w a = other
+atRow (Other body) w a = other
+
+abbrev pub actBy : {o : Op} → Plan o → World → Act
+actBy {o} (suspending i) w = atRow (table o) w (suspendAim i w)
+actBy {o} (entering i) w = atRow (table o) w (enterAim i w)
+actBy (hosting c v) w = byHost c v
+actBy (finishing kind v) w = finishes kind v
+actBy (unwinding f pc) w = unwinds
+actBy (asking {pc = pc} {ok} e d) w = at pc (ok w) neither
+actBy (idle e d) w = other
 
 abbrev pub act : World → Op → Act
-act w o = actBy w (table o) (plan o)
+act w o = actBy (plan o) w
 
 -- ---- who is entered
 

@@ -41,14 +41,14 @@ use Rattle.claims.specs.Held.{By}
 use Rattle.claims.specs.Demand3 as D
 use Rattle.claims.specs.Events.{answers}
 use Rattle.claims.specs.Steps.{seenOf, viewOf, opOf, steps}
-use Rattle.claims.proofs.Entry.{Aim, enters, Act, at, awaits, act, Entry, nobody, entry, acceptsAs, accepts, sentTo, aimed, charged, entryBy}
+use Rattle.claims.proofs.Entry.{yields, yieldsKv, waits, resumes, throws, shuts, turns, Aim, enters, Act, at, awaits, act, Entry, nobody, entry, acceptsAs, accepts, sentTo, aimed, charged, entryBy}
 use Rattle.claims.proofs.Cores.{no-both, objectIn, coroIn, and-left, and-right}
 use Rattle.claims.proofs.Enters.{EnterCase, e-in, e-out, enter-case, accepts-stored, ChargeCase, c-done, c-spent, c-close, charge-case}
 use Rattle.claims.proofs.Instr.{Alike, alike, coro-alike, aimed-alike}
 use Rattle.claims.proofs.Switches.{created-susp, returned-not, mayTurn}
 use Rattle.claims.proofs.Events.{no-entry, susp-born}
 use Rattle.claims.proofs.Numbers.{step-number}
-use Rattle.claims.proofs.Views.{new-state, yields, yieldsKv, waits, resumes, throws, shuts, turns, aimless, Kind, k-at, k-host, k-finish, k-raise, k-other, kind-of}
+use Rattle.claims.proofs.Views.{new-state, to-suspend, to-enter, aimless, Kind, k-at, k-host, k-finish, k-raise, k-other, kind-of}
 use Rattle.claims.proofs.Claim.{Entering, entering, entry-sound}
 use Rattle.claims.proofs.Exact.{number-sound}
 use Rattle.claims.proofs.Restores.{enters-old, entry-by}
@@ -245,15 +245,16 @@ host-tells c x w = go (isNil (w .frames))
         (λ a. entered-number numberOf (hostArrive x) 0 (λ w. refl) (λ w r. refl) c Driver.Host w a ∙ sym (sent-word (coro w c) w x a))
 
 call-tells : (w : World) {o : Op} {a : Act} {d : Says.Does} → act w o ≡ a → Kind w o a d → Answers w o
-call-tells w {o} q (k-at {a = a} e (yields pc dst src)) = instr-tells w o (λ b s xs. a) e q (λ v. tt)
-call-tells w {o} q (k-at {a = a} e (yieldsKv pc dst src key)) = instr-tells w o (λ b s xs. a) e q (λ v. tt)
-call-tells w {o} q (k-at {a = a} e (waits pc dst src)) = instr-tells w o (λ b s xs. a) e q (λ v. tt)
-call-tells w {o} q (k-at e (resumes pc dst c src)) = instr-tells w o (λ b s xs. enters (getD s (b + c) 0) (Driver.Resume dst) (gets (getD s (b + src) 0)) true) refl refl (resume-tells pc dst c src)
-call-tells w {o} q (k-at e (throws pc dst c src)) =
+call-tells w {o} q (k-at {a = a} e (to-suspend (yields pc dst src))) = instr-tells w o (λ b s xs. a) e q (λ v. tt)
+call-tells w {o} q (k-at {a = a} e (to-suspend (yieldsKv pc dst src key))) = instr-tells w o (λ b s xs. a) e q (λ v. tt)
+call-tells w {o} q (k-at {a = a} e (to-suspend (waits pc dst src))) = instr-tells w o (λ b s xs. a) e q (λ v. tt)
+call-tells w {o} q (k-at e (to-enter (resumes pc dst c src))) =
+    instr-tells w o (λ b s xs. enters (getD s (b + c) 0) (Driver.Resume dst) (gets (getD s (b + src) 0)) true) refl refl (resume-tells pc dst c src)
+call-tells w {o} q (k-at e (to-enter (throws pc dst c src))) =
     instr-tells w o (λ b s xs. enters (getD s (b + c) 0) (Driver.Resume dst) nothing (isAsleep (coroIn xs (getD s (b + c) 0)))) refl refl (throw-tells pc dst c src)
-call-tells w {o} q (k-at e (shuts pc dst c src)) =
+call-tells w {o} q (k-at e (to-enter (shuts pc dst c src))) =
     instr-tells w o (λ b s xs. enters (getD s (b + c) 0) (Driver.Resume dst) (closes (getD s (b + src) 0)) (isAsleep (coroIn xs (getD s (b + c) 0)))) refl refl (close-tells pc dst c src)
-call-tells w {o} q (k-at e (turns pc has iter val src)) =
+call-tells w {o} q (k-at e (to-enter (turns pc has iter val src))) =
     instr-tells w o (λ b s xs. enters (getD s (b + src) 0) (Driver.Iter has val (getD s (b + iter) 0)) (gets nil) (not (isDone (objectIn xs (getD s (b + iter) 0))) && not (awaits (coroIn xs (getD s (b + src) 0)))))
     refl refl (iter-tells pc has iter val src)
 call-tells w {o} q (k-at {a = a} e aimless) = instr-tells w o (λ b s xs. a) e q (λ v. tt)

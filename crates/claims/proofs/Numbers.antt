@@ -43,12 +43,12 @@ use Rattle.claims.specs.Says.{Does, does}
 use Rattle.claims.specs.Events.{isAwait, told}
 use Rattle.claims.specs.Steps.{viewOf}
 use Rattle.claims.proofs.Entry as E
-use Rattle.claims.proofs.Entry.{act}
+use Rattle.claims.proofs.Entry.{yields, yieldsKv, waits, resumes, throws, shuts, turns, act}
 use Rattle.claims.proofs.Tries.{taken, tries, keyed, inBody}
 use Rattle.claims.proofs.Suspension.{suspendsIn, paidBy, takesBy}
 use Rattle.claims.proofs.Held.{coreIn, coreAt}
 use Rattle.claims.proofs.Cores.{no-both, coroIn}
-use Rattle.claims.proofs.Views.{yields, yieldsKv, waits, resumes, throws, shuts, turns, aimless, Kind, k-at, k-host, k-finish, k-raise, k-other, kind-of}
+use Rattle.claims.proofs.Views.{to-suspend, to-enter, aimless, Kind, k-at, k-host, k-finish, k-raise, k-other, kind-of}
 use Rattle.claims.proofs.Enters.{Ready, r-same, r-stored, ChargeCase, c-done, c-spent, c-close, charge-case}
 use Rattle.claims.proofs.Quiet.{key-same}
 use Rattle.claims.proofs.Deliver.{keys-closing}
@@ -240,15 +240,16 @@ aimsTo (E.finishes kind x) = false
 aimsTo E.unwinds = false
 aimsTo E.other = false
 
-kind-number : (w : World) → sound w ≡ true → {o : Op} {a : E.Act} {d : Does} → Kind w o a d → aimsTo a ≡ true → Tells w (isAwait (does (viewOf w) o)) (numberOf (call o w .answer)) (takesBy (act w o) (suspendsIn o) w)
+kind-number : (w : World) → sound w ≡ true → {o : Op} {a : E.Act} {d : Does} → Kind w o a d → aimsTo a ≡ true
+    → Tells w (isAwait (does (viewOf w) o)) (numberOf (call o w .answer)) (takesBy (act w o) (suspendsIn o) w)
 unfolding call
-kind-number w h (k-at e (yields pc dst src)) q = instr-number w h pc _ (yield pc dst src) (suspendsIn (Op.Yield pc dst src)) false (yield-number pc dst src)
-kind-number w h (k-at e (yieldsKv pc dst src key)) q = instr-number w h pc _ (yieldKv pc dst src key) (suspendsIn (Op.YieldKv pc dst src key)) false (yieldKv-number pc dst src key)
-kind-number w h (k-at e (waits pc dst src)) q = instr-number w h pc _ (await pc dst src) (suspendsIn (Op.Await pc dst src)) true (await-number pc dst src)
-kind-number w h (k-at e (resumes pc dst c src)) q = no-both q refl
-kind-number w h (k-at e (throws pc dst c src)) q = no-both q refl
-kind-number w h (k-at e (shuts pc dst c src)) q = no-both q refl
-kind-number w h (k-at e (turns pc has iter val src)) q = no-both q refl
+kind-number w h (k-at e (to-suspend (yields pc dst src))) q = instr-number w h pc _ (yield pc dst src) (suspendsIn (Op.Yield pc dst src)) false (yield-number pc dst src)
+kind-number w h (k-at e (to-suspend (yieldsKv pc dst src key))) q = instr-number w h pc _ (yieldKv pc dst src key) (suspendsIn (Op.YieldKv pc dst src key)) false (yieldKv-number pc dst src key)
+kind-number w h (k-at e (to-suspend (waits pc dst src))) q = instr-number w h pc _ (await pc dst src) (suspendsIn (Op.Await pc dst src)) true (await-number pc dst src)
+kind-number w h (k-at e (to-enter (resumes pc dst c src))) q = no-both q refl
+kind-number w h (k-at e (to-enter (throws pc dst c src))) q = no-both q refl
+kind-number w h (k-at e (to-enter (shuts pc dst c src))) q = no-both q refl
+kind-number w h (k-at e (to-enter (turns pc has iter val src))) q = no-both q refl
 kind-number w h (k-at e aimless) q = no-both q refl
 kind-number w h (k-host c x) q = no-both q refl
 kind-number w h (k-finish kind x) q = no-both q refl

@@ -218,8 +218,8 @@ finish-has kind x w h c o e (f-returns f fs a chain y p q r m n ends tells ints)
 
 -- ---- every call
 
-call-who : (w : World) → sound w ≡ true → (c : ℕ) {o : Op} {a : Act} {d : Does} → act w o ≡ a → isRunning (coreAt w c .state) ≡ true → isReturned (coreAt (call o w .world) c .state) ≡ true → Kind w o a d
-    → returned (viewOf w) d (numberOf (call o w .answer)) ≡ some c
+call-who : (w : World) → sound w ≡ true → (c : ℕ) {o : Op} {a : Act} {d : Does} → act w o ≡ a → isRunning (coreAt w c .state) ≡ true
+    → isReturned (coreAt (call o w .world) c .state) ≡ true → Kind w o a d → returned (viewOf w) d (numberOf (call o w .answer)) ≡ some c
 unfolding call
 call-who w h c {o} q b l (k-at e i) = no-return c (shape w o) (ap S.isEnding q) b l
 call-who w h c {o} q b l (k-host u x) = no-return c (shape w o) refl b l
@@ -227,7 +227,8 @@ call-who w h c q b l (k-finish kind x) = finish-who kind x w c (finish kind x w)
 call-who w h c q b l (k-raise f pc) = ended-who w c (unwind-ended w h f pc) b l
 call-who w h c {o} q b l (k-other e) = no-return c (shape w o) (ap S.isEnding q) b l
 
-call-has : (w : World) → sound w ≡ true → (c : ℕ) {o : Op} {a : Act} {d : Does} → returned (viewOf w) d (numberOf (call o w .answer)) ≡ some c → Kind w o a d → Has w c (call o w .world)
+call-has : (w : World) → sound w ≡ true → (c : ℕ) {o : Op} {a : Act} {d : Does} → returned (viewOf w) d (numberOf (call o w .answer)) ≡ some c → Kind w o a d
+    → Has w c (call o w .world)
 unfolding call
 call-has w h c e (k-at p i) = no-some refl e
 call-has w h c e (k-host u x) = no-some refl e

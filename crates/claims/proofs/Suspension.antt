@@ -10,15 +10,17 @@ use Rattle.model.specs.Call.{Call, SetUp, Do}
 use Rattle.model.specs.declared.machine.Charge.{Charge}
 use Rattle.model.specs.declared.call.OptPc.{OptPc}
 use Rattle.model.specs.declared.call.Op.{Op}
-use Rattle.claims.proofs.Entry.{Act, at, byHost, finishes, unwinds, other, act, Plan, entering, suspending, hosting, finishing, idle, plan}
+use Rattle.claims.proofs.Entry.{Act, at, byHost, finishes, unwinds, other, act, Plan, suspending, entering, hosting, finishing, unwinding, asking, idle, plan, suspendOk}
 
 -- whether the instruction comes to coro_suspend, and it accepts, at the world that the charge left
-abbrev pub suspendsBy : Plan → World → Bool
-suspendsBy (entering f) w = false
-suspendsBy (suspending f accepts) w = accepts w
+abbrev pub suspendsBy : {o : Op} → Plan o → World → Bool
+suspendsBy (suspending i) w = suspendOk i w
+suspendsBy (entering i) w = false
 suspendsBy (hosting c v) w = false
 suspendsBy (finishing kind v) w = false
-suspendsBy idle w = false
+suspendsBy (unwinding f pc) w = false
+suspendsBy (asking e d) w = false
+suspendsBy (idle e d) w = false
 
 abbrev pub suspendsIn : Op → World → Bool
 suspendsIn o w = suspendsBy (plan o) w

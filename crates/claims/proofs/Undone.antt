@@ -42,7 +42,7 @@ use Rattle.claims.specs.Events.{endsUnbegun, endedAs}
 use Rattle.claims.specs.Asks.{Pays}
 use Rattle.claims.specs.Steps.{seenOf, viewOf, opOf, steps}
 use Rattle.claims.proofs.Entry as E
-use Rattle.claims.proofs.Entry.{act, entryBy, pcBy}
+use Rattle.claims.proofs.Entry.{yields, yieldsKv, waits, resumes, throws, shuts, turns, act, entryBy, pcBy}
 use Rattle.claims.proofs.Held.{Seat, coreIn, coreAt}
 use Rattle.claims.proofs.Split.{next}
 use Rattle.claims.proofs.Cores.{no-both}
@@ -50,7 +50,7 @@ use Rattle.claims.proofs.Ended.{there-seen}
 use Rattle.claims.proofs.Enters.{ChargeCase, c-done, c-spent, c-close, charge-case}
 use Rattle.claims.proofs.Instr.{Alike, alike, coro-alike}
 use Rattle.claims.proofs.Events.{no-entry}
-use Rattle.claims.proofs.Views.{new-state, seen-at, base-top, yields, yieldsKv, waits, resumes, throws, shuts, turns, aimless, Kind, k-at, k-host, k-finish, k-raise, k-other, kind-of}
+use Rattle.claims.proofs.Views.{new-state, seen-at, base-top, to-suspend, to-enter, aimless, Kind, k-at, k-host, k-finish, k-raise, k-other, kind-of}
 use Rattle.claims.proofs.Whom.{told, is-none, whom-told}
 use Rattle.claims.proofs.Paid.{Paid, paid-for, paid-number}
 use Rattle.claims.proofs.Claim as Claim
@@ -258,13 +258,13 @@ module _ (w : World) (c : ℕ) (e : coro w c ≡ Absent) where
 
   absent-stays : {o : Op} {a : E.Act} {d : Does} → Kind w o a d → endsUnbegun d ≡ some c → coreAt (call o w .world) c .seen ≡ coreAt w c .seen
   unfolding call
-  absent-stays (k-at e (yields pc dst src)) n = no-some refl n
-  absent-stays (k-at e (yieldsKv pc dst src key)) n = no-some refl n
-  absent-stays (k-at e (waits pc dst src)) n = no-some refl n
-  absent-stays (k-at e (resumes pc dst u src)) n = no-some refl n
-  absent-stays (k-at e (throws pc dst q src)) n = instr-stays pc _ (resumeThrow pc dst q src) (λ v a. throw-none v a pc dst q src (reg-alike a q ∙ one-some refl n))
-  absent-stays (k-at e (shuts pc dst q src)) n = instr-stays pc _ (coroClose pc dst q src) (λ v a. close-none v a pc dst q src (reg-alike a q ∙ one-some refl n))
-  absent-stays (k-at e (turns pc has iter val src)) n = no-some refl n
+  absent-stays (k-at e (to-suspend (yields pc dst src))) n = no-some refl n
+  absent-stays (k-at e (to-suspend (yieldsKv pc dst src key))) n = no-some refl n
+  absent-stays (k-at e (to-suspend (waits pc dst src))) n = no-some refl n
+  absent-stays (k-at e (to-enter (resumes pc dst u src))) n = no-some refl n
+  absent-stays (k-at e (to-enter (throws pc dst q src))) n = instr-stays pc _ (resumeThrow pc dst q src) (λ v a. throw-none v a pc dst q src (reg-alike a q ∙ one-some refl n))
+  absent-stays (k-at e (to-enter (shuts pc dst q src))) n = instr-stays pc _ (coroClose pc dst q src) (λ v a. close-none v a pc dst q src (reg-alike a q ∙ one-some refl n))
+  absent-stays (k-at e (to-enter (turns pc has iter val src))) n = no-some refl n
   absent-stays (k-at e aimless) n = no-some refl n
   absent-stays (k-host u x) n = no-some refl n
   absent-stays (k-finish kind x) n = no-some refl n

@@ -22,7 +22,7 @@ use Rattle.model.specs.declared.call.Op.{Op}
 use Rattle.model.specs.declared.call.Answer.{Answer}
 use Rattle.claims.specs.Engine.{Turn, calls, refuels, run, seenIn}
 use Rattle.claims.specs.Says.{Does, doing}
-use Rattle.claims.specs.Held.{at, into}
+use Rattle.claims.specs.Held.{into}
 use Rattle.claims.specs.Delivery as Y
 use Rattle.claims.specs.Delivery.{recorded, resultOf, Memory, memory, onward, deliver, Left}
 use Rattle.claims.specs.Demand3 as D

@@ -1,32 +1,29 @@
 -- What is seen of a world: states, registers, and what a call says of itself, beside the proof's own words for them.
 use Prim.Native.Nat.{ℕ}
 use mathlib.Core.Path.{_≡_, refl, sym, ap, subst}
-use mathlib.Core.Bool.{Bool, true, false, not, _&&_, _||_}
-use mathlib.Core.List.{List, [], _∷_}
+use mathlib.Core.Bool.{Bool, true, not, _&&_, _||_}
 use Rattle.heap.specs.declared.fault.Fault.{Fault}
 use Rattle.heap.specs.declared.object.CoroState.{CoroState}
 use Rattle.heap.specs.declared.heap.ResultKind.{ResultKind}
 use Rattle.model.specs.State.{isCreated, isRunning, isAwaiting, isSuspended, isReturned, isResumable}
 use Rattle.model.specs.Object.{Coroutine, Absent, Is, isDone}
 use Rattle.model.specs.World.{World, After}
-use Rattle.model.specs.Frames.{topBase, reg}
+use Rattle.model.specs.Frames.{reg}
 use Rattle.model.specs.Heap.{object, coro}
-use Rattle.model.specs.Program.{isFunction}
-use Rattle.model.specs.Gate.{inFrame, windowIn}
 use Rattle.model.specs.Cleanup.{isAsleep}
 use Rattle.model.specs.Calls.{Instruction, table}
 use Rattle.model.specs.declared.exec.Step.{Step}
-use Rattle.model.specs.declared.machine.Frame.{Frame}
 use Rattle.model.specs.declared.machine.Driver.{Driver}
 use Rattle.model.specs.declared.call.OptPc.{OptPc}
 use Rattle.model.specs.declared.call.Op.{Op}
 use Rattle.invariant.specs.Kept as Kept
 use Rattle.claims.specs.Engine.{isNew, runs, awaits, sleeps, ended, seenIn, is}
-use Rattle.claims.specs.Says.{base, Aim, enter, suspend, neither, Does, instr, hosts, finishes, raises, other, does, nothing, gets, closes}
+use Rattle.claims.specs.Says.{Aim, enter, suspend, neither, Does, instr, hosts, finishes, raises, other, does, nothing, gets, closes}
 use Rattle.claims.specs.Held.{closer}
 use Rattle.claims.specs.Steps.{seenOf, viewOf}
 use Rattle.claims.proofs.Entry as E
-use Rattle.claims.proofs.Entry.{act}
+use Rattle.claims.proofs.Entry.{yields, yieldsKv, waits, resumes, throws, shuts, turns, act}
+pub use Rattle.claims.proofs.Entry.{base-top}
 use Rattle.claims.proofs.Held.{coreIn, coreAt}
 use Rattle.claims.proofs.Split.{hasLeft}
 
@@ -138,10 +135,6 @@ closer-at w c = go (coro w c)
 
 -- ---- what a call says
 
-pub base-top : (fs : List Frame) → base fs ≡ topBase fs
-base-top [] = refl
-base-top (f ∷ fs) = refl
-
 abbrev pub aimOf : E.Aim → Aim
 aimOf (E.enters c d x may) = enter c d x may
 aimOf (E.suspends s dst x) = suspend (isAwaiting s) dst x
@@ -155,21 +148,16 @@ pub data Alike : E.Act → Does → Type 0 where
   l-raise : (f : Fault) (pc : OptPc) → Alike E.unwinds (raises f pc)
   l-other : Alike E.other other
 
--- the instructions that are after something, and the others
+-- what an instruction is after
 pub data Aims (w : World) : Op → E.Aim → Type 0 where
-  yields : (pc dst src : ℕ) → Aims w (Op.Yield pc dst src) (E.suspends CoroState.Yielded dst (reg w src))
-  yieldsKv : (pc dst src key : ℕ) → Aims w (Op.YieldKv pc dst src key) (E.suspends CoroState.Yielded dst (reg w src))
-  waits : (pc dst src : ℕ) → Aims w (Op.Await pc dst src) (E.suspends CoroState.Awaiting dst (reg w src))
-  resumes : (pc dst c src : ℕ) → Aims w (Op.Resume pc dst c src) (E.enters (reg w c) (Driver.Resume dst) (gets (reg w src)) true)
-  throws : (pc dst c src : ℕ) → Aims w (Op.ResumeThrow pc dst c src) (E.enters (reg w c) (Driver.Resume dst) nothing (isAsleep (coro w (reg w c))))
-  shuts : (pc dst c src : ℕ) → Aims w (Op.CoroClose pc dst c src) (E.enters (reg w c) (Driver.Resume dst) (closes (reg w src)) (isAsleep (coro w (reg w c))))
-  turns : (pc has iter val src : ℕ) → Aims w (Op.IterNext pc has iter val src)
-      (E.enters (reg w src) (Driver.Iter has val (reg w iter)) (gets 0) (not (isDone (object w (reg w iter))) && not (E.awaits (coro w (reg w src)))))
+  to-suspend : {o : Op} (i : E.Suspending o) → Aims w o (E.suspendAim i w)
+  to-enter : {o : Op} (i : E.Entering o) → Aims w o (E.enterAim i w)
   aimless : {o : Op} → Aims w o E.neither
 
--- THE CALLS, as the theorems go by them: those that some theorem has something of its own to say of, and the others
+-- the call and its plan, in the proof's words and in those of the claim
 pub data Kind (w : World) : Op → E.Act → Does → Type 0 where
-  k-at : {o : Op} {a : E.Aim} {pc : ℕ} {ok : World → Bool} {arm : World → After Step} → table o ≡ Instruction pc ok arm → Aims w o a → Kind w o (E.at pc (ok w) a) (instr pc (ok w) (aimOf a))
+  k-at : {o : Op} {a : E.Aim} {pc : ℕ} {ok : World → Bool} {arm : World → After Step} → table o ≡ Instruction pc ok arm → Aims w o a
+      → Kind w o (E.at pc (ok w) a) (instr pc (ok w) (aimOf a))
   k-host : (c x : ℕ) → Kind w (Op.HostEntry c x) (E.byHost c x) (hosts c x)
   k-finish : (kind : ResultKind) (x : ℕ) → Kind w (Op.Finish kind x) (E.finishes kind x) (finishes kind x)
   k-raise : (f : Fault) (pc : OptPc) → Kind w (Op.Unwind f pc) E.unwinds (raises f pc)
@@ -182,45 +170,31 @@ alike (k-finish kind x) = l-finish kind x
 alike (k-raise f pc) = l-raise f pc
 alike (k-other e) = l-other
 
-at : {w : World} {o : Op} {a : E.Aim} {pc : ℕ} {ok : World → Bool} {arm : World → After Step} {yes : Bool} {b : Aim} → table o ≡ Instruction pc ok arm → Aims w o a → yes ≡ ok w → b ≡ aimOf a
-    → Kind w o (E.at pc (ok w) a) (instr pc yes b)
-at {w} {o} {a} {pc} {ok} {b = b} e i p q = subst (λ y. Kind w o (E.at pc (ok w) a) (instr pc y b)) (sym p) (subst (λ y. Kind w o (E.at pc (ok w) a) (instr pc (ok w) y)) (sym q) (k-at e i))
+at : {w : World} {o : Op} {a : E.Aim} {pc : ℕ} {ok : World → Bool} {arm : World → After Step} {yes : Bool} {b : Aim}
+    → table o ≡ Instruction pc ok arm → Aims w o a → yes ≡ ok w → b ≡ aimOf a → Kind w o (E.at pc (ok w) a) (instr pc yes b)
+at {w} {o} {a} {pc} {ok} {b = b} e i p q =
+    subst (λ y. Kind w o (E.at pc (ok w) a) (instr pc y b)) (sym p) (subst (λ y. Kind w o (E.at pc (ok w) a) (instr pc (ok w) y)) (sym q) (k-at e i))
 
-and-unit : (a : Bool) → (a && true) ≡ a
-and-unit true = refl
-and-unit false = refl
-
--- every call has its kind
-pub kind-of : (w : World) (o : Op) → Kind w o (act w o) (does (viewOf w) o)
-kind-of w (Op.CoroNew pc dst f argc) = at refl aimless (rw (base-top (w .frames)) (ap (λ b. b && windowIn w dst argc && isFunction (w .setup) f) (and-unit (inFrame w dst)))) refl
-kind-of w (Op.CoroNewIndirect pc dst callee argc) = at refl aimless (rw (base-top (w .frames))) refl
-kind-of w (Op.Spawn pc dst callee argc) = at refl aimless (rw (base-top (w .frames))) refl
-kind-of w (Op.Yield pc dst src) = at refl (yields pc dst src) (rw (base-top (w .frames))) (rw (base-top (w .frames)))
-kind-of w (Op.YieldKv pc dst src key) = at refl (yieldsKv pc dst src key) (rw (base-top (w .frames))) (rw (base-top (w .frames)))
-kind-of w (Op.Await pc dst src) = at refl (waits pc dst src) (rw (base-top (w .frames))) (rw (base-top (w .frames)))
-kind-of w (Op.Resume pc dst c src) = at refl (resumes pc dst c src) (rw (base-top (w .frames))) (rw (base-top (w .frames)))
-kind-of w (Op.ResumeThrow pc dst c src) = at refl (throws pc dst c src) (rw (base-top (w .frames))) (rw (base-top (w .frames)) (ap (enter (reg w c) (Driver.Resume dst) nothing) (is-asleep w (reg w c))))
-kind-of w (Op.CoroClose pc dst c src) = at refl (shuts pc dst c src) (rw (base-top (w .frames))) (rw (base-top (w .frames)) (ap (enter (reg w c) (Driver.Resume dst) (closes (reg w src))) (is-asleep w (reg w c))))
-kind-of w (Op.CoroStatus pc dst c) = at refl aimless (rw (base-top (w .frames))) refl
-kind-of w (Op.CoroCurrent pc dst) = at refl aimless (rw (base-top (w .frames))) refl
-kind-of w (Op.CoroKey pc dst c) = at refl aimless (rw (base-top (w .frames))) refl
-kind-of w (Op.CoroResult pc dst c) = at refl aimless (rw (base-top (w .frames))) refl
-kind-of w (Op.IterNext pc has iter val src) =
-    at refl (turns pc has iter val src) (rw (base-top (w .frames)))
+by-plan : (w : World) {o : Op} (p : E.Plan o) → Kind w o (E.actBy p w) (does (viewOf w) o)
+by-plan w (E.suspending (yields pc dst src)) = at refl (to-suspend (yields pc dst src)) (rw (base-top (w .frames))) (rw (base-top (w .frames)))
+by-plan w (E.suspending (yieldsKv pc dst src key)) = at refl (to-suspend (yieldsKv pc dst src key)) (rw (base-top (w .frames))) (rw (base-top (w .frames)))
+by-plan w (E.suspending (waits pc dst src)) = at refl (to-suspend (waits pc dst src)) (rw (base-top (w .frames))) (rw (base-top (w .frames)))
+by-plan w (E.entering (resumes pc dst c src)) = at refl (to-enter (resumes pc dst c src)) (rw (base-top (w .frames))) (rw (base-top (w .frames)))
+by-plan w (E.entering (throws pc dst c src)) =
+    at refl (to-enter (throws pc dst c src)) (rw (base-top (w .frames))) (rw (base-top (w .frames)) (ap (enter (reg w c) (Driver.Resume dst) nothing) (is-asleep w (reg w c))))
+by-plan w (E.entering (shuts pc dst c src)) =
+    at refl (to-enter (shuts pc dst c src)) (rw (base-top (w .frames))) (rw (base-top (w .frames)) (ap (enter (reg w c) (Driver.Resume dst) (closes (reg w src))) (is-asleep w (reg w c))))
+by-plan w (E.entering (turns pc has iter val src)) =
+    at refl (to-enter (turns pc has iter val src)) (rw (base-top (w .frames)))
     (rw (base-top (w .frames)) (ap (λ b. enter (reg w src) (Driver.Iter has val (reg w iter)) (gets 0) (not (isDone (object w (reg w iter))) && not b)) (is-awaits w (reg w src))))
-kind-of w (Op.Finish kind x) = k-finish kind x
-kind-of w (Op.Unwind f pc) = k-raise f pc
-kind-of w (Op.SpawnTask x) = k-other refl
-kind-of w (Op.HostCall f) = k-other refl
-kind-of w (Op.HostEntry c x) = k-host c x
-kind-of w (Op.FunctionCall pc f cont) = k-other refl
-kind-of w (Op.PutWord r x) = k-other refl
-kind-of w (Op.MakeIterator x) = k-other refl
-kind-of w Op.TakeOutcome = k-other refl
-kind-of w (Op.HandOver x) = k-other refl
-kind-of w (Op.Grant n) = k-other refl
-kind-of w Op.StopRun = k-other refl
-kind-of w Op.Look = k-other refl
+by-plan w (E.hosting c x) = k-host c x
+by-plan w (E.finishing kind x) = k-finish kind x
+by-plan w (E.unwinding f pc) = k-raise f pc
+by-plan w {o} (E.asking {pc = pc} {ok} e d) = subst (Kind w o (E.at pc (ok w) E.neither)) (sym (d w)) (k-at e aimless)
+by-plan w {o} (E.idle e d) = subst (Kind w o E.other) (sym (d w)) (k-other e)
+
+pub kind-of : (w : World) (o : Op) → Kind w o (act w o) (does (viewOf w) o)
+kind-of w o = by-plan w (E.plan o)
 
 pub says-alike : (w : World) (o : Op) → Alike (act w o) (does (viewOf w) o)
 says-alike w o = alike (kind-of w o)
