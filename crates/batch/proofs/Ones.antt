@@ -62,11 +62,12 @@ six-words : (cs : List ℕ) (i : ℕ) → i * 6 + 6 ≤ length cs
     → let ws = chunkAt 6 cs i in opOf (six (getD ws 0 0) (getD ws 1 0) (getD ws 2 0) (getD ws 3 0) (getD ws 4 0) (getD ws 5 0)) ≡ readIn cs i
 six-words cs i h = ap opOf (as-six (chunkAt 6 cs i) (length-chunk 6 i cs h))
 
-pub of-words : (h : Host) (cs xs : List ℕ) (i : ℕ) (h′ : Host) (xs′ : List ℕ) → i * 6 + 6 ≤ length cs → let ws = chunkAt 6 cs i in (n a b c d e : ℕ)
-    → n ≡ getD ws 0 0 → a ≡ getD ws 1 0 → b ≡ getD ws 2 0 → c ≡ getD ws 3 0 → d ≡ getD ws 4 0 → e ≡ getD ws 5 0
-    → One h (opOf (six n a b c d e)) xs i h′ xs′ → One h (readIn cs i) xs i h′ xs′
-of-words h cs xs i h′ xs′ full n a b c d e p q r s t u o =
-    subst (λ z. One h z xs i h′ xs′) ((λ j. opOf (six (p j) (q j) (r j) (s j) (t j) (u j))) ∙ six-words cs i full) o
+pub words-read : {n a b c d e : ℕ} (cs : List ℕ) (i : ℕ) → i * 6 + 6 ≤ length cs → let ws = chunkAt 6 cs i in
+    n ≡ getD ws 0 0 → a ≡ getD ws 1 0 → b ≡ getD ws 2 0 → c ≡ getD ws 3 0 → d ≡ getD ws 4 0 → e ≡ getD ws 5 0 → opOf (six n a b c d e) ≡ readIn cs i
+words-read cs i full p q r s t u = (λ j. opOf (six (p j) (q j) (r j) (s j) (t j) (u j))) ∙ six-words cs i full
+
+pub of-read : {h h′ : Host} {r r′ : Read} {xs xs′ : List ℕ} {i : ℕ} → r ≡ r′ → One h r xs i h′ xs′ → One h r′ xs i h′ xs′
+of-read {h} {h′} {xs = xs} {xs′ = xs′} {i = i} e o = subst (λ z. One h z xs i h′ xs′) e o
 
 -- ---- a call
 

@@ -1,5 +1,4 @@
 -- `play` meets its contract: what is left, done to the present, is the whole done to the start. Assumes nothing.
-use Prim.{tt}
 use mathlib.Core.Path.{_≡_, refl, _∙_}
 use Prim.Native.Nat.{_-_}
 use native.Mathlib.Omega.{arith}
@@ -7,6 +6,7 @@ use Rattle.memory.specs.Lendings.{plain}
 use Rattle.outer.specs.State.{nine, state}
 use Rattle.furnace.specs.Watch.{Watched, watched, none}
 use Rattle.furnace.proofs.Playing.{Along, along-start, along-more, along-end}
+use borrow.Author.Needs.{needs}
 use Rattle.furnace.proofs.play.Statement.{statement}
 use Rattle.furnace.proofs.play.Tie as tie
 
@@ -41,9 +41,6 @@ at-loop c =
 loop-holds : tie.Need-loop-holds Inv-loop μ-loop
 loop-holds c = let start = c .before .before .before .before .before .before .before .before .before .before in along-start (at-start start)
 
-call-requires : tie.Need-call-requires Inv-loop μ-loop
-call-requires c κs = tt
-
 turn-requires : tie.Need-turn-requires Inv-loop μ-loop
 turn-requires c κs =
     let loop = c .before .before .before .before .before .before .before .before .before .before .before in
@@ -57,49 +54,33 @@ loop-less c = let t = test-of (turn-of c) .loop-test .taken in omega arith
 
 loop-again : tie.Need-loop-again Inv-loop μ-loop
 loop-again c =
-    let did = turn-of c in
-    let test = test-of did in
-    let loop = test .before in
-    let start = start-of loop in
-    let k = did .turn .kept in
-    let at-call = did .before .before .before .before .before .before .before .before .before .before in
-    along-more (at-start start) (at-loop loop) _ (loop .loop .i) (loop .loop .inv) (test .loop-test .taken) (at-call .call .result) (at-call .call .ensures) (did .turn .ensures)
-    (record { stack = k .0; frames = k .1 .0; chain = k .1 .1 .0; slots = k .1 .1 .1 .0; savedStack = k .1 .1 .1 .1 .0; savedFrames = k .1 .1 .1 .1 .1 .0; ready = k .1 .1 .1 .1 .1 .1 .0; finalize = k .1 .1 .1 .1 .1 .1 .1 .0; setup = refl })
-    (k .1 .1 .1 .1 .1 .1 .1 .1 .1 .1 .1 .1 .0)
-
-same-length : tie.Need-same-length Inv-loop μ-loop
-same-length c = c .before .loop .inv .lengths .stack
-
-same-length-2 : tie.Need-same-length-2 Inv-loop μ-loop
-same-length-2 c = c .before .loop .inv .lengths .frames
-
-same-length-3 : tie.Need-same-length-3 Inv-loop μ-loop
-same-length-3 c = c .before .loop .inv .lengths .chain
-
-same-length-4 : tie.Need-same-length-4 Inv-loop μ-loop
-same-length-4 c = c .before .loop .inv .lengths .slots
-
-same-length-5 : tie.Need-same-length-5 Inv-loop μ-loop
-same-length-5 c = c .before .loop .inv .lengths .savedStack
-
-same-length-6 : tie.Need-same-length-6 Inv-loop μ-loop
-same-length-6 c = c .before .loop .inv .lengths .savedFrames
-
-same-length-7 : tie.Need-same-length-7 Inv-loop μ-loop
-same-length-7 c = c .before .loop .inv .lengths .ready
-
-same-length-8 : tie.Need-same-length-8 Inv-loop μ-loop
-same-length-8 c = c .before .loop .inv .lengths .finalize
-
-same-length-9 : tie.Need-same-length-9 Inv-loop μ-loop
-same-length-9 c = c .before .loop .inv .long
+    let did = turn-of c in let test = test-of did in let loop = test .before in let at-call = did .before .before .before .before .before .before .before .before .before .before in let k = did .turn .kept in let q = k .1 .1 .1 .1 in
+    along-more (at-start (start-of loop)) (at-loop loop) _ (loop .loop .i) (loop .loop .inv) (test .loop-test .taken) (at-call .call .result) (at-call .call .ensures) (did .turn .ensures)
+    (record { stack = k .0; frames = k .1 .0; chain = k .1 .1 .0; slots = k .1 .1 .1 .0; savedStack = q .0; savedFrames = q .1 .0; ready = q .1 .1 .0; finalize = q .1 .1 .1 .0; setup = refl })
+    (q .1 .1 .1 .1 .1 .1 .1 .1 .0)
 
 returns : tie.Need-returns Inv-loop μ-loop
-returns c =
-    let loop = c .before in
-    let start = start-of loop in
-    let t = c .loop-test .left in
-    along-end (at-start start) (at-loop loop) (loop .loop .i) (omega arith) (loop .loop .inv)
+returns c = let loop = c .before in let t = c .loop-test .left in along-end (at-start (start-of loop)) (at-loop loop) (loop .loop .i) (omega arith) (loop .loop .inv)
 
 pub play-spec : {M : Type 1} → statement M
-play-spec = tie.close (tie.spec Inv-loop μ-loop loop-holds call-requires turn-requires add-i loop-less loop-again same-length same-length-2 same-length-3 same-length-4 same-length-5 same-length-6 same-length-7 same-length-8 same-length-9 returns)
+play-spec =
+    tie.close
+    (tie.spec
+    Inv-loop
+    μ-loop
+    loop-holds
+    (λ c κs. search needs)
+    turn-requires
+    add-i
+    loop-less
+    loop-again
+    (λ c. search needs)
+    (λ c. search needs)
+    (λ c. search needs)
+    (λ c. search needs)
+    (λ c. search needs)
+    (λ c. search needs)
+    (λ c. search needs)
+    (λ c. search needs)
+    (λ c. search needs)
+    returns)

@@ -7,6 +7,7 @@ use Rattle.outer.specs.State.{nine}
 use Rattle.run.proofs.Written.{in-calls}
 use Rattle.boundary.specs.Host.{Host, host}
 use Rattle.batch.proofs.Going.{Going, going-start, going-more, going-end}
+use borrow.Author.Needs.{needs}
 use Rattle.batch.proofs.list.do_list.Statement.{statement}
 use Rattle.batch.proofs.list.do_list.Tie as tie
 
@@ -46,94 +47,32 @@ left-by c =
 
 loop-holds : tie.Need-loop-holds Inv-loop μ-loop
 loop-holds c =
-    let start = c .before .before .before .before .before .before .before .before .before .before .before .before .before in
-    let a = start .args in
+    let start = c .before .before .before .before .before .before .before .before .before .before .before .before .before in let a = start .args in
     going-start (at-start start) (a .calls .now) (a .answers .now) (a .n) (start .pre)
 
 one-requires : tie.Need-one-requires Inv-loop μ-loop
 one-requires c κs =
-    let at-loop-test = c .before .before .before .before .before .before .before .before .before .before .before in
-    let loop = at-loop-test .before in
-    let start = start-of loop in
-    let a = start .args in
-    let t = at-loop-test .loop-test .taken in
-    let r = start .pre .room in
-    let k = loop .loop .inv .along .long in
-    record { put = record { sound = loop .loop .inv .sound; room = omega (arith, t, r, k) }; call = in-calls (a .calls .now) (loop .loop .i) (a .n) (start .pre .calls) t }
+    let at-loop-test = c .before .before .before .before .before .before .before .before .before .before .before in let loop = at-loop-test .before in let start = start-of loop in
+    let t = at-loop-test .loop-test .taken in let r = start .pre .room in let k = loop .loop .inv .along .long in
+    record { put = record { sound = loop .loop .inv .sound; room = omega (arith, t, r, k) }; call = in-calls (start .args .calls .now) (loop .loop .i) (start .args .n) (start .pre .calls) t }
 
 add-i : tie.Need-add-i Inv-loop μ-loop
-add-i c =
-    let test = test-of (one-of c) in
-    let t = test .loop-test .taken in
-    let start = start-of (test .before) in
-    omega (arith, t, start .good)
+add-i c = let test = test-of (one-of c) in let t = test .loop-test .taken in omega (arith, t, start-of (test .before) .good)
 
 loop-less : tie.Need-loop-less Inv-loop μ-loop
-loop-less c =
-    let t = test-of (one-of c) .loop-test .taken in omega (arith, t)
+loop-less c = let t = test-of (one-of c) .loop-test .taken in omega (arith, t)
 
 loop-again : tie.Need-loop-again Inv-loop μ-loop
 loop-again c =
-    let did = one-of c in
-    let test = test-of did in
-    let loop = test .before in
-    let start = start-of loop in
-    let a = start .args in
-    let same = did .one .kept in
+    let did = one-of c in let test = test-of did in let loop = test .before in let start = start-of loop in let a = start .args in let k = did .one .kept in let q = k .1 .1 .1 .1 in
     going-more (at-start start) (a .calls .now) (a .answers .now) (a .n) (at-loop loop) (loop .loop .answers) (loop .loop .i) (loop .loop .inv) (test .loop-test .taken) (start .pre .room)
     (left-by did) _ (did .one .ensures)
-    (record {
-      stack = same .0;
-      frames = same .1 .0;
-      chain = same .1 .1 .0;
-      slots = same .1 .1 .1 .0;
-      savedStack = same .1 .1 .1 .1 .0;
-      savedFrames = same .1 .1 .1 .1 .1 .0;
-      ready = same .1 .1 .1 .1 .1 .1 .0;
-      finalize = same .1 .1 .1 .1 .1 .1 .1 .0;
-      setup = refl;
-    })
-    refl (same .1 .1 .1 .1 .1 .1 .1 .1 .1 .0) (same .1 .1 .1 .1 .1 .1 .1 .1 .1 .1 .0) (same .1 .1 .1 .1 .1 .1 .1 .1 .1 .1 .1 .1 .0)
-
-same-length : tie.Need-same-length Inv-loop μ-loop
-same-length c = c .before .loop .inv .along .lengths .stack
-
-same-length-2 : tie.Need-same-length-2 Inv-loop μ-loop
-same-length-2 c = c .before .loop .inv .along .lengths .frames
-
-same-length-3 : tie.Need-same-length-3 Inv-loop μ-loop
-same-length-3 c = c .before .loop .inv .along .lengths .chain
-
-same-length-4 : tie.Need-same-length-4 Inv-loop μ-loop
-same-length-4 c = c .before .loop .inv .along .lengths .slots
-
-same-length-5 : tie.Need-same-length-5 Inv-loop μ-loop
-same-length-5 c = c .before .loop .inv .along .lengths .savedStack
-
-same-length-6 : tie.Need-same-length-6 Inv-loop μ-loop
-same-length-6 c = c .before .loop .inv .along .lengths .savedFrames
-
-same-length-7 : tie.Need-same-length-7 Inv-loop μ-loop
-same-length-7 c = c .before .loop .inv .along .lengths .ready
-
-same-length-8 : tie.Need-same-length-8 Inv-loop μ-loop
-same-length-8 c = c .before .loop .inv .along .lengths .finalize
-
-same-length-9 : tie.Need-same-length-9 Inv-loop μ-loop
-same-length-9 c = c .before .loop .inv .machine
-
-same-length-10 : tie.Need-same-length-10 Inv-loop μ-loop
-same-length-10 c = c .before .loop .inv .fuel
-
-same-length-11 : tie.Need-same-length-11 Inv-loop μ-loop
-same-length-11 c = c .before .loop .inv .along .long
+    (record { stack = k .0; frames = k .1 .0; chain = k .1 .1 .0; slots = k .1 .1 .1 .0; savedStack = q .0; savedFrames = q .1 .0; ready = q .1 .1 .0; finalize = q .1 .1 .1 .0; setup = refl })
+    refl (q .1 .1 .1 .1 .1 .0) (q .1 .1 .1 .1 .1 .1 .0) (q .1 .1 .1 .1 .1 .1 .1 .1 .0)
 
 returns : tie.Need-returns Inv-loop μ-loop
 returns c =
-    let loop = c .before in
-    let start = start-of loop in
-    let a = start .args in
-    let t = c .loop-test .left in
+    let loop = c .before in let start = start-of loop in let a = start .args in let t = c .loop-test .left in
     going-end (at-start start) (a .calls .now) (a .answers .now) (a .n) (at-loop loop) (loop .loop .answers) (loop .loop .i) (loop .loop .inv) (omega (arith, t))
 
 pub do-list-spec : {M : Type 1} → statement M
@@ -147,15 +86,15 @@ do-list-spec =
     add-i
     loop-less
     loop-again
-    same-length
-    same-length-2
-    same-length-3
-    same-length-4
-    same-length-5
-    same-length-6
-    same-length-7
-    same-length-8
-    same-length-9
-    same-length-10
-    same-length-11
+    (λ c. search needs)
+    (λ c. search needs)
+    (λ c. search needs)
+    (λ c. search needs)
+    (λ c. search needs)
+    (λ c. search needs)
+    (λ c. search needs)
+    (λ c. search needs)
+    (λ c. search needs)
+    (λ c. search needs)
+    (λ c. search needs)
     returns)

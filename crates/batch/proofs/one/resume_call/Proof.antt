@@ -18,13 +18,18 @@ use Rattle.batch.proofs.one.resume_call.Statement.{statement}
 use Rattle.batch.proofs.one.resume_call.Tie as tie
 
 abbrev mem : tie.Start → Lent
-mem c = nine (c .args .stack .now) (c .args .frames .now) (c .args .chain .now) (c .args .slots .now) (c .args .saved-stack .now) (c .args .saved-frames .now) (c .args .ready .now) (c .args .finalize .now) (c .args .setup .now) plain
+mem c =
+    let a = c .args in
+    nine (a .stack .now) (a .frames .now) (a .chain .now) (a .slots .now) (a .saved-stack .now) (a .saved-frames .now) (a .ready .now) (a .finalize .now) (a .setup .now) plain
 
 abbrev of : tie.Start → Host
 of c = host (mem c) (c .args .machine .now) (c .args .fuel .now)
 
-abbrev done-of : tie.After-slice-known21 → tie.After-resume-at
-done-of c = c .before .before .before .before .before .before .before .before .before .before .before .before .before .before .before .before .before .before .before .before
+abbrev start-of : tie.After-may-enter → tie.Start
+start-of c = c .before .before .before .before .before .before .before .before .before .before .before .before .before .before .before .before .before .before
+
+abbrev done-of : tie.After-resume-at → tie.Start
+done-of c = start-of (c .before .before .before .before .before .before .before .before .before .before .before .before)
 
 abbrev general-of : tie.After-slice-known32 → tie.After-general-at
 general-of c = c .before .before .before .before .before .before .before .before .before .before .before .before .before .before .before .before .before .before .before .before .before .before
@@ -41,107 +46,25 @@ may-enter-requires c κs =
 
 resume-at-requires : tie.Need-resume-at-requires
 resume-at-requires c κs =
-    let at-k = c .before .before .before .before .before .before .before .before .before in
-    let at-may-enter = at-k .before .before in
-    let start = at-may-enter .before .before .before .before .before .before .before .before .before .before .before .before .before .before .before .before .before .before in
+    let at-k = c .before .before .before .before .before .before .before .before .before in let at-may-enter = at-k .before .before in let start = start-of at-may-enter in
     record { held = holds (of start) (start .pre .put .sound) (start .args .pc) (start .pre .narrow); enterable = at-may-enter .may-enter .ensures .at _ _ (at-k .k .given .1) }
-
-goes-on-at-requires : tie.Need-goes-on-at-requires
-goes-on-at-requires c κs =
-    let at-resume-at = c .before .before .before .before .before .before .before .before .before .before .before .before .before .before .before .before .before in
-    let at-may-enter = at-resume-at .before .before .before .before .before .before .before .before .before .before .before .before in
-    let start = at-may-enter .before .before .before .before .before .before .before .before .before .before .before .before .before .before .before .before .before .before in
-    start .pre .put .room
-
-general-at-requires : tie.Need-general-at-requires
-general-at-requires c κs =
-    let start = c .before .before .before .before .before .before .before .before .before .before .before .before .before .before .before .before .before .before .before .before .before .before .before .before .before .before .before .before .before .before .before in
-    start .pre .put
-
-same-length : tie.Need-same-length
-same-length c = done-of c .resume-at .kept .0
-
-same-length-2 : tie.Need-same-length-2
-same-length-2 c = done-of c .resume-at .kept .1 .0
-
-same-length-3 : tie.Need-same-length-3
-same-length-3 c = done-of c .resume-at .kept .1 .1 .0
-
-same-length-4 : tie.Need-same-length-4
-same-length-4 c = done-of c .resume-at .kept .1 .1 .1 .0
-
-same-length-5 : tie.Need-same-length-5
-same-length-5 c = done-of c .resume-at .kept .1 .1 .1 .1 .0
-
-same-length-6 : tie.Need-same-length-6
-same-length-6 c = done-of c .resume-at .kept .1 .1 .1 .1 .1 .0
-
-same-length-7 : tie.Need-same-length-7
-same-length-7 c = done-of c .resume-at .kept .1 .1 .1 .1 .1 .1 .0
-
-same-length-8 : tie.Need-same-length-8
-same-length-8 c = done-of c .resume-at .kept .1 .1 .1 .1 .1 .1 .1 .0
-
-same-length-9 : tie.Need-same-length-9
-same-length-9 c = c .before .before .goes-on-at .kept .0
 
 returns : tie.Need-returns
 returns c =
     let at-goes-on-at = c .before .before in
     let at-resume-at = at-goes-on-at .before .before .before .before .before .before .before .before .before .before .before .before .before .before .before .before .before .before in
-    let at-k = at-resume-at .before .before .before .before .before .before .before .before .before .before in
-    let at-may-enter = at-k .before .before in
-    let start = at-may-enter .before .before .before .before .before .before .before .before .before .before .before .before .before .before .before .before .before .before in
-    let a = start .args in
-    let sure = start .pre .put .sound in
-    let may = at-may-enter .may-enter .ensures .at _ _ (at-k .k .given .1) in
-    let kept = at-resume-at .resume-at .kept in
-    let s = at-resume-at .resume-at .last in
-    let w = start .fits in
-    let short : getD (a .machine .now) 0 0 ≤ 1024 = low (of start) sure in
-    let in-dst = may .dst-in in
-    let in-c = may .coro-in in
-    let in-src = may .src-in in
-    switch-one (of start) sure (Op.Resume (a .pc) (a .dst) (a .c) (a .src))
-    (resume-typed (a .pc) (a .dst) (a .c) (a .src) (start .pre .narrow) (omega (arith, short, in-dst)) (omega (arith, short, in-c)) (omega (arith, short, in-src)))
+    let at-k = at-resume-at .before .before .before .before .before .before .before .before .before .before in let at-may-enter = at-k .before .before in
+    let start = start-of at-may-enter in let a = start .args in
+    let sure = start .pre .put .sound in let may = at-may-enter .may-enter .ensures .at _ _ (at-k .k .given .1) in
+    let k = at-resume-at .resume-at .kept in let s = at-resume-at .resume-at .last in let w = start .fits in
+    let short = low (of start) sure in let op = Op.Resume (a .pc) (a .dst) (a .c) (a .src) in
+    switch-one (of start) sure op (resume-typed (a .pc) (a .dst) (a .c) (a .src) (start .pre .narrow)
+    (omega (arith, short, may .dst-in)) (omega (arith, short, may .coro-in)) (omega (arith, short, may .src-in)))
     (all-words 6 (a .pc) (a .dst) (a .c) (a .src) 0 (omega arith) (w .pc .fits) (w .dst .fits) (w .c .fits) (w .src .fits) (omega arith)) (a .answers .now) _ (a .i) _
-    (went-in (of start) sure blank (Op.Resume (a .pc) (a .dst) (a .c) (a .src)) (s .0) (s .1 .0) (s .1 .1 .0) (s .1 .1 .1 .0) (s .1 .1 .1 .1 .0)
+    (went-in (of start) sure blank op (s .0) (s .1 .0) (s .1 .1 .0) (s .1 .1 .1 .0) (s .1 .1 .1 .1 .0)
     (s .1 .1 .1 .1 .1 .0) (s .1 .1 .1 .1 .1 .1 .0) (s .1 .1 .1 .1 .1 .1 .1 .0) (splice blank 0 (answerWords goesOn))
-    (record { stack = kept .0; frames = kept .1 .0; chain = kept .1 .1 .0; slots = kept .1 .1 .1 .0; savedStack = kept .1 .1 .1 .1 .0; savedFrames = kept .1 .1 .1 .1 .1 .0; ready = refl; finalize = refl; setup = refl })
+    (record { stack = k .0; frames = k .1 .0; chain = k .1 .1 .0; slots = k .1 .1 .1 .0; savedStack = k .1 .1 .1 .1 .0; savedFrames = k .1 .1 .1 .1 .1 .0; ready = refl; finalize = refl; setup = refl })
     (at-resume-at .resume-at .ensures) refl) (at-goes-on-at .goes-on-at .ensures)
-
-same-length-10 : tie.Need-same-length-10
-same-length-10 c = general-of c .general-at .kept .0
-
-same-length-11 : tie.Need-same-length-11
-same-length-11 c = general-of c .general-at .kept .1 .0
-
-same-length-12 : tie.Need-same-length-12
-same-length-12 c = general-of c .general-at .kept .1 .1 .0
-
-same-length-13 : tie.Need-same-length-13
-same-length-13 c = general-of c .general-at .kept .1 .1 .1 .0
-
-same-length-14 : tie.Need-same-length-14
-same-length-14 c = general-of c .general-at .kept .1 .1 .1 .1 .0
-
-same-length-15 : tie.Need-same-length-15
-same-length-15 c = general-of c .general-at .kept .1 .1 .1 .1 .1 .0
-
-same-length-16 : tie.Need-same-length-16
-same-length-16 c = general-of c .general-at .kept .1 .1 .1 .1 .1 .1 .0
-
-same-length-17 : tie.Need-same-length-17
-same-length-17 c = general-of c .general-at .kept .1 .1 .1 .1 .1 .1 .1 .0
-
-same-length-18 : tie.Need-same-length-18
-same-length-18 c = general-of c .general-at .kept .1 .1 .1 .1 .1 .1 .1 .1 .1 .0
-
-same-length-19 : tie.Need-same-length-19
-same-length-19 c = general-of c .general-at .kept .1 .1 .1 .1 .1 .1 .1 .1 .1 .1 .0
-
-same-length-20 : tie.Need-same-length-20
-same-length-20 c = general-of c .general-at .kept .1 .1 .1 .1 .1 .1 .1 .1 .1 .1 .1 .0
 
 returns-2 : tie.Need-returns-2
 returns-2 c = general-of c .general-at .ensures
@@ -154,28 +77,21 @@ resume-call-spec =
     may-enter-requires
     (λ c. search needs)
     resume-at-requires
-    goes-on-at-requires
+    (λ c κs. done-of (c .before .before .before .before .before .before .before .before .before .before .before .before .before .before .before .before .before) .pre .put .room)
     (λ c. search needs)
-    general-at-requires
-    same-length
-    same-length-2
-    same-length-3
-    same-length-4
-    same-length-5
-    same-length-6
-    same-length-7
-    same-length-8
-    same-length-9
+    (λ c κs. start-of (c .before .before .before .before .before .before .before .before .before .before .before .before .before) .pre .put)
+    (λ c. search needs)
+    (λ c. search needs)
+    (λ c. search needs)
+    (λ c. search needs)
+    (λ c. search needs)
+    (λ c. search needs)
+    (λ c. search needs)
+    (λ c. search needs)
+    (λ c. search needs)
     returns
-    same-length-10
-    same-length-11
-    same-length-12
-    same-length-13
-    same-length-14
-    same-length-15
-    same-length-16
-    same-length-17
-    same-length-18
-    same-length-19
-    same-length-20
+    (λ c. general-of c .general-at .kept .0) (λ c. general-of c .general-at .kept .1 .0) (λ c. general-of c .general-at .kept .1 .1 .0) (λ c. general-of c .general-at .kept .1 .1 .1 .0)
+    (λ c. general-of c .general-at .kept .1 .1 .1 .1 .0) (λ c. general-of c .general-at .kept .1 .1 .1 .1 .1 .0) (λ c. general-of c .general-at .kept .1 .1 .1 .1 .1 .1 .0)
+    (λ c. general-of c .general-at .kept .1 .1 .1 .1 .1 .1 .1 .0) (λ c. general-of c .general-at .kept .1 .1 .1 .1 .1 .1 .1 .1 .1 .0)
+    (λ c. general-of c .general-at .kept .1 .1 .1 .1 .1 .1 .1 .1 .1 .1 .0) (λ c. general-of c .general-at .kept .1 .1 .1 .1 .1 .1 .1 .1 .1 .1 .1 .0)
     returns-2)
