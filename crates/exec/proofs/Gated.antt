@@ -14,7 +14,7 @@ use Rattle.model.specs.World.{World, After, after, andThen}
 use Rattle.model.specs.Frames.{topBase}
 use Rattle.model.specs.Cleanup.{charge}
 use Rattle.model.specs.Gate.{refused, answerOf, charged, instruction}
-use Rattle.model.specs.Calls.{table}
+use Rattle.model.specs.Calls.{Row, Instruction, table}
 use Rattle.model.specs.Sound.{sound}
 use Rattle.model.specs.declared.call.OptPc.{OptPc}
 use Rattle.model.specs.declared.call.Op.{Op}
@@ -61,6 +61,15 @@ numbered l w M m f functions base rep some e b = record {
   based = record { base = b ∙ base-in (w .frames) (M .frames) (m .depth) (rep .frames) some; height = rep .stack .count };
 }
 
+module _ {l : Sizes} {w : World} {M : Lent} {m : Machine} {f : Fuel} (rep : Rep l w M m f) (some : 1 ≤ m .depth) where
+  pub has-frame : isNil (w .frames) ≡ false
+  has-frame = some-frames (w .frames) (M .frames) (m .depth) (rep .frames) some
+
+  -- what was told of the operands is the instruction's own test
+  pub gate-told : {functions base pc : ℕ} {t : World → Bool} {arm : World → After Step} {x : Row} {r : Bool} → x ≡ Instruction pc t arm → functions ≡ getD (M .setup) 13 0
+      → base ≡ baseIn (M .frames) (m .depth - 1) → Passes x functions base (m .height) r → t w ≡ r
+  gate-told {functions} {base} q e b pass = ap (λ y. operandsOf y w) (sym q) ∙ sym (pass w (numbered l w M m f functions base rep some e b))
+
 -- they stay where the world is calm
 calmed : (w u : World) (n b h : ℕ) → Calm w u → Numbered w n b h → Numbered u n b h
 calmed w u n b h c k = record {
@@ -70,8 +79,8 @@ calmed w u n b h c k = record {
 
 -- ---- answers
 
-pub answered : {A : Type 0} (l : Sizes) (M : Lent) (m : Machine) (f : Fuel) (o : After A) (a b : A) → a ≡ b → Does l o M m f a → Does l o M m f b
-answered l M m f o a b e d = subst (Does l o M m f) e d
+pub answered : {A : Type 0} {l : Sizes} {M : Lent} {m : Machine} {f : Fuel} {o : After A} {a b : A} → a ≡ b → Does l o M m f a → Does l o M m f b
+answered {A} {l} {M} {m} {f} {o} e d = subst (Does l o M m f) e d
 
 pub unpaid-as : (n : ℕ) (s : Step) (f : Fault) → s ≡ Step.Fault f → numberOf f ≡ 10 → Answer.Unpaid n ≡ answerOf n s
 unpaid-as n s f e k = sym (ap (answerOf n) e ∙ ap (λ t. pick t (Answer.Unpaid n) (Answer.Stepped (Step.Fault f) n)) (eq-eqb (numberOf f) 10 k) ∙ pick-true _ _)
@@ -131,17 +140,17 @@ module _ (l : Sizes) (M : Lent) (m : Machine) (f : Fuel) (w : World) (pc : ℕ) 
 
 -- ---- what is asked
 
-module _ (l : Sizes) (s f c o r q₀ z u : List ℕ) (m : Machine) (fuel : Fuel) (ok : Ok l (gating s f c o r q₀ z u plain) (with m fuel)) where
+module _ {l : Sizes} {s f c o r q₀ z u : List ℕ} {m : Machine} {fuel : Fuel} (ok : Ok l (gating s f c o r q₀ z u plain) (with m fuel)) where
   abbrev pub charge-ok : Ok l (cleaning s f c o r q₀ z plain) (with m fuel)
   charge-ok = record { world = ok .world; beside = record { words = onSetup u (ok .beside .words); fuel = ok .beside .fuel }; rep = ok .rep; sound = ok .sound; room = ok .room }
 
   -- the arm, after a charge
-  pub arm-fits : (s′ f′ c′ o′ r′ q′ z′ : List ℕ) (m′ : Machine) (fuel′ : Fuel) (op : Op) (pc functions base n : ℕ) → 1 ≤ m .depth → functions ≡ getD u 13 0 → base ≡ baseIn f (m .depth - 1)
+  pub arm-fits : {s′ f′ c′ o′ r′ q′ z′ : List ℕ} {m′ : Machine} {fuel′ : Fuel} {op : Op} {pc functions base n : ℕ} → 1 ≤ m .depth → functions ≡ getD u 13 0 → base ≡ baseIn f (m .depth - 1)
       → Passes (table op) functions base (m .height) true → PcIs op pc
       → SameLengths (cleaning s f c o r q₀ z plain (charge-ok .beside)) (cleaning s′ f′ c′ o′ r′ q′ z′ plain (charge-ok .beside))
       → Does l (charge (OptPc.Some pc) (ok .world)) (cleaning s′ f′ c′ o′ r′ q′ z′ plain (charge-ok .beside)) m′ fuel′ (Charge.Done n)
       → Past l (sixSetup s′ f′ c′ o′ r′ q′ u plain) m′ fuel′ op
-  arm-fits s′ f′ c′ o′ r′ q′ z′ m′ fuel′ op pc functions base n some e b pass is k d =
+  arm-fits {s′} {f′} {c′} {o′} {r′} {q′} {z′} {m′} {fuel′} {op} {pc} {functions} {base} {n} some e b pass is k d =
       let w = ok .world in
       let narrow = narrow-pc pc (is .narrow) in
       let calm = charged-calm (OptPc.Some pc) w narrow (ok .sound) n (sym (d .answer)) in

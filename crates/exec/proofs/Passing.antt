@@ -64,6 +64,10 @@ module _ (w : World) (base height : ℕ) (k : Based w base height) where
 pub function-at : (w : World) (functions base height : ℕ) → Numbered w functions base height → (f : ℕ) → ltb f functions ≡ isFunction (w .setup) f
 function-at w functions base height k f = ap (ltb f) (k .functions)
 
+-- the test of an operation that is known
+pub tested-as : {o x : Op} {r : Bool} (w : World) → o ≡ x → r ≡ operandsOf (table x) w → r ≡ operandsOf (table o) w
+tested-as w e h = h ∙ sym (ap (λ z. operandsOf (table z) w) e)
+
 -- ---- calls that name neither a register nor a function
 
 abbrev pub plain : List ℕ

@@ -7,18 +7,15 @@ use Rattle.heap.specs.declared.fault.Fault.{Fault}
 use Rattle.model.specs.Lists.{isNil}
 use Rattle.model.specs.World.{World, After, after, andThen}
 use Rattle.model.specs.Gate.{refused, onFrame, onHost, instruction}
-use Rattle.model.specs.Added.{answerMade, accepted, grant}
-use Rattle.model.specs.Cleanup.{spawnTask}
-use Rattle.model.specs.Machine.{unwind}
+use Rattle.model.specs.Added.{answerMade}
 use Rattle.model.specs.Calls.{Row, Instruction, OnFrame, OnHost, Unwinds, Grants, Looks, Other, table}
-use Rattle.model.specs.Step.{told, doing, call}
-use Rattle.model.specs.declared.call.OptPc.{OptPc}
+use Rattle.model.specs.Step.{doing, call}
 use Rattle.model.specs.declared.call.Op.{Op}
 use Rattle.model.specs.declared.call.Answer.{Answer}
 use Rattle.model.specs.declared.coro.WordOr.{WordOr}
 use Rattle.model.specs.declared.machine.Fuel.{Fuel}
-use Rattle.memory.specs.Memory.{Lent, Rep}
-use Rattle.memory.specs.Contract.{Does}
+use Rattle.memory.specs.Memory.{Lent, Beside, Rep, Room}
+use Rattle.memory.specs.Contract.{Numbers, Ok, Does}
 use Rattle.memory.specs.declared.machine.Machine.{Machine}
 use Rattle.memory.specs.declared.machine.Sizes.{Sizes}
 use Rattle.soundness.proofs.Tests.{no-false}
@@ -26,63 +23,60 @@ use Rattle.memory.proofs.Does.{does}
 use Rattle.added.proofs.Iterators.{madeAs, made-any}
 use Rattle.exec_arm.specs.Arm.{OfInstruction}
 use Rattle.exec_arm.proofs.Tags.{isInstruction}
+use Rattle.exec_arm.proofs.Fitting.{around}
 use Rattle.kept.specs.Kept.{did}
 
 -- what a row leaves, and answers
-abbrev rowDid : Row → World → After Answer
+abbrev pub rowDid : Row → World → After Answer
 rowDid x w = after (doing x w .world) (doing x w .answer)
 
-module _ (l : Sizes) (M : Lent) (m : Machine) (f : Fuel) (w : World) (o : Op) (a : Answer) where
+module _ {l : Sizes} {M : Lent} {m : Machine} {f : Fuel} {a : Answer} where
   -- of an operation whose row is known
-  by-row : (x : Row) → table o ≡ x → Does l (rowDid x w) M m f a → Does l (did o w) M m f a
+  by-row : (w : World) (o : Op) (x : Row) → table o ≡ x → Does l (rowDid x w) M m f a → Does l (did o w) M m f a
   unfolding call
-  by-row x e d = subst (λ z. Does l (rowDid z w) M m f a) (sym e) d
+  by-row w o x e d = subst (λ z. Does l (rowDid z w) M m f a) (sym e) d
 
-  pub as-other : (x : Op) (body : World → After Answer) → o ≡ x → table x ≡ Other body → Does l (body w) M m f a → Does l (did o w) M m f a
-  as-other x body e r d = by-row (Other body) (ap table e ∙ r) d
+  -- of an operation that is known, by its row; and by the call itself
+  pub as-row : {o x : Op} (w : World) → o ≡ x → Does l (rowDid (table x) w) M m f a → Does l (did o w) M m f a
+  as-row {o} {x} w e d = by-row w o (table x) (ap table e) d
 
-  pub as-unwind : (x : Op) (g : Fault) (pc : OptPc) → o ≡ x → table x ≡ Unwinds g pc → Does l (unwind g pc w) M m f a → Does l (did o w) M m f a
-  as-unwind x g pc e r d = by-row (Unwinds g pc) (ap table e ∙ r) d
+  pub as-same : {o x : Op} (w : World) → o ≡ x → Does l (did x w) M m f a → Does l (did o w) M m f a
+  as-same w e d = subst (λ z. Does l (did z w) M m f a) (sym e) d
 
-  pub as-grant : (x : Op) (n : ℕ) → o ≡ x → table x ≡ Grants n → Does l (grant n w) M m f a → Does l (did o w) M m f a
-  as-grant x n e r d = by-row (Grants n) (ap table e ∙ r) d
+  pub as-host : (w : World) (o : Op) (operands : World → Bool) (body : World → After Answer) → table o ≡ OnHost operands body → Does l (onHost (operands w) body w) M m f a → Does l (did o w) M m f a
+  as-host w o operands body e d = by-row w o (OnHost operands body) e d
 
-  pub as-look : (x : Op) → o ≡ x → table x ≡ Looks → Does l (accepted w) M m f a → Does l (did o w) M m f a
-  as-look x e r d = by-row Looks (ap table e ∙ r) d
+  pub as-frame : (w : World) (o : Op) (operands : World → Bool) (body : World → After Answer) → table o ≡ OnFrame operands body → Does l (onFrame (operands w) body w) M m f a → Does l (did o w) M m f a
+  as-frame w o operands body e d = by-row w o (OnFrame operands body) e d
 
-  pub as-host : (x : Op) (operands : World → Bool) (body : World → After Answer) → o ≡ x → table x ≡ OnHost operands body → Does l (onHost (operands w) body w) M m f a → Does l (did o w) M m f a
-  as-host x operands body e r d = by-row (OnHost operands body) (ap table e ∙ r) d
-
-  pub as-frame : (x : Op) (operands : World → Bool) (body : World → After Answer) → o ≡ x → table x ≡ OnFrame operands body → Does l (onFrame (operands w) body w) M m f a → Does l (did o w) M m f a
-  as-frame x operands body e r d = by-row (OnFrame operands body) (ap table e ∙ r) d
-
-  -- the same call
-  pub as-same : (x : Op) → o ≡ x → Does l (did x w) M m f a → Does l (did o w) M m f a
-  as-same x e d = subst (λ z. Does l (did z w) M m f a) (sym e) d
-
-  -- an instruction
-  pub as-instruction : isInstruction (table o) ≡ true → OfInstruction o (λ pc operands arm. Does l (instruction pc (operands w) arm w) M m f a) → Does l (did o w) M m f a
-  as-instruction t d = go (table o) refl t
-    where
-      go : (x : Row) → table o ≡ x → isInstruction x ≡ true → Does l (did o w) M m f a
-      go (Instruction pc operands arm) q e = by-row (Instruction pc operands arm) q (d pc operands arm q)
-      go (OnFrame operands body) q e = no-false e
-      go (OnHost operands body) q e = no-false e
-      go (Unwinds g pc) q e = no-false e
-      go (Grants n) q e = no-false e
-      go Looks q e = no-false e
-      go (Other body) q e = no-false e
-
-  -- spawn_task, whose answer is the word made
-  pub as-task : (x : Op) (v : ℕ) (b : WordOr) → o ≡ x → table x ≡ Other (λ z. andThen (spawnTask v z) answerMade) → Does l (spawnTask v w) M m f b → ((z : World) → a ≡ answerMade z b .answer) → Does l (did o w) M m f a
-  as-task x v b e r d q =
-      let t = spawnTask v w in
-      as-other x (λ z. andThen (spawnTask v z) answerMade) e r
-      (does l M m f (andThen t answerMade) (t .world) a (made (t .world) (t .answer) ∙ ap (λ y. after (t .world) (madeAs y)) (sym (d .answer)) ∙ ap (after (t .world)) (sym (q w ∙ made-any w b))) (d .world))
+  -- an answer that is the word made
+  pub made-of : {o : After WordOr} {b : WordOr} → Does l o M m f b → ((z : World) → a ≡ answerMade z b .answer) → Does l (andThen o answerMade) M m f a
+  made-of {o} {b} d q =
+      does l M m f (andThen o answerMade) (o .world) a
+      (made (o .world) (o .answer) ∙ ap (λ y. after (o .world) (madeAs y)) (sym (d .answer)) ∙ ap (after (o .world)) (sym (q (o .world) ∙ made-any (o .world) b))) (d .world)
     where
       made : (u : World) (y : WordOr) → answerMade u y ≡ after u (madeAs y)
       made u (WordOr.Word k) = refl
       made u (WordOr.Refused k) = refl
+
+-- an instruction
+pub as-instruction : (l : Sizes) (M : Lent) (m : Machine) (f : Fuel) (w : World) (o : Op) (a : Answer) → isInstruction (table o) ≡ true
+    → OfInstruction o (λ pc operands arm. Does l (instruction pc (operands w) arm w) M m f a) → Does l (did o w) M m f a
+as-instruction l M m f w o a t d = go (table o) refl t
+  where
+    go : (x : Row) → table o ≡ x → isInstruction x ≡ true → Does l (did o w) M m f a
+    go (Instruction pc operands arm) q e = by-row w o (Instruction pc operands arm) q (d pc operands arm q)
+    go (OnFrame operands body) q e = no-false e
+    go (OnHost operands body) q e = no-false e
+    go (Unwinds g pc) q e = no-false e
+    go (Grants n) q e = no-false e
+    go Looks q e = no-false e
+    go (Other body) q e = no-false e
+
+-- a callee may be lent some of sound words
+pub lent-ok : {l : Sizes} {M N : Beside → Lent} {n k : Numbers} (ok : Ok l M n) → Rep l (ok .world) (N (around (ok .rep))) (k .machine) (k .fuel (around (ok .rep)))
+    → Room (ok .world .setup) (N (around (ok .rep))) → Ok l N k
+lent-ok ok rep room = record { world = ok .world; beside = around (ok .rep); rep = rep; sound = ok .sound; room = room }
 
 -- ---- the gates
 

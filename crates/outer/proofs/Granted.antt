@@ -15,7 +15,7 @@ use Rattle.memory.specs.declared.machine.Sizes.{Sizes}
 use Rattle.memory.specs.Words.{sizesOf}
 use Rattle.memory.specs.Decode.{setupOf}
 use Rattle.added.specs.declared.fuel.GrantDid.{GrantDid}
-use Rattle.kept.proofs.Calls.{as-grant}
+use Rattle.kept.proofs.Calls.{as-row}
 use Rattle.lent.specs.Step.{isSound}
 use Rattle.outer.specs.State.{state}
 use Rattle.outer.specs.Grant.{grantWords}
@@ -28,7 +28,7 @@ module _ (M : Lent) (m : Machine) (f : Fuel) (n : ℕ) where
       let l = sizesOf (setupOf (M .setup)) in
       let o = Op.Grant n in
       let d = stepped M M m m f (r .fuel) l o (r .answer) (record { sound = e; sizes = refl }) (alike M)
-      (λ w b rep s. as-grant l M m (r .fuel) w o (r .answer) o n refl refl (met l w (record { words = M; fuel = b .fuel }) rep)) in
+      (λ w b rep s. as-row {o = o} w refl (met l w (record { words = M; fuel = b .fuel }) rep)) in
       λ i. record { fuel = d i .state .fuel; answer = d i .answer }
 
   pub not-granted : isSound (state M m f) ≡ false → record { fuel = f; answer = Answer.Refused Fault.Unsound } ≡ grantWords (state M m f) n

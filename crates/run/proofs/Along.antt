@@ -89,6 +89,12 @@ module _ (ok : Bool) (l : Sizes) (cs xs₀ : List ℕ) (n : ℕ) (s₀ : State) 
               ∙ a .answers;
         }
 
+-- the next turn, by what was read, done and put
+pub along-next : {ok : Bool} {l : Sizes} {cs xs₀ xs xs′ : List ℕ} {n i : ℕ} {s₀ s : State} {r : Read} {d : Left} → Along ok l cs xs₀ n s₀ s xs i → i < n → n * 8 ≤ length xs₀ → r ≡ readIn cs i
+    → Reads ok s r d → xs′ ≡ putChunk 8 xs i (answerWords (d .answer)) → SameLengths (s .words) (d .state .words) → d .state .words .setup ≡ s .words .setup → length xs′ ≡ length xs
+    → Along ok l cs xs₀ n s₀ (d .state) xs′ (i + 1)
+along-next {ok} {l} {cs} {xs₀} {xs} {xs′} {n} {i} {s₀} {s} {r} {d} a h room e did = along-more ok l cs xs₀ n s₀ s xs i a h room d xs′ (subst (λ z. Reads ok s z d) e did)
+
 -- ---- refused, one after the other
 
 module _ (xs₀ : List ℕ) (n : ℕ) where

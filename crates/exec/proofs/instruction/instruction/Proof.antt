@@ -1,156 +1,116 @@
 -- `instruction` meets the definition: its gate, its charge, its arm. Assumes nothing.
-use mathlib.Core.Path.{refl, sym, ap, _∙_}
-use Prim.Native.Nat.{_≤_}
+use mathlib.Core.Path.{_≡_, refl, sym, _∙_}
+use mathlib.Core.Bool.{Bool, true}
+use Prim.Native.Nat.{ℕ, _≤_}
 use native.Mathlib.Omega.{arith}
-use lib.ListN.{getD}
 use borrow.Author.Tests.{not-true, not-false}
-use Rattle.model.specs.Cleanup.{charge}
+use Rattle.model.specs.World.{World, After}
+use Rattle.model.specs.Calls.{Instruction, table}
 use Rattle.model.specs.declared.call.OptPc.{OptPc}
-use Rattle.memory.specs.Memory.{Lent, Beside, onFinalize, onSetup}
+use Rattle.model.specs.declared.exec.Step.{Step}
+use Rattle.memory.specs.Memory.{Lent, Beside, Rep}
 use Rattle.memory.specs.Lendings.{plain}
 use Rattle.coro_clean.proofs.Charged.{charged-sound, narrow-pc}
-use Rattle.exec.specs.Operands.{operandsOf}
+use Rattle.exec_arm.proofs.Fitting.{around}
 use Rattle.exec.specs.Instruction.{gating}
-use Rattle.exec.proofs.Gated.{no-frames, some-frames, numbered, answered, no-frame, bad-operand, spent, closed, done, charge-ok, arm-fits}
+use Rattle.exec.proofs.Gated.{no-frames, has-frame, gate-told, answered, no-frame, bad-operand, spent, closed, done, charge-ok, arm-fits}
 use borrow.Author.Needs.{needs}
 use Rattle.exec.proofs.instruction.instruction.Statement.{statement}
 use Rattle.exec.proofs.instruction.instruction.Tie as tie
 
-abbrev mem : tie.Start → Beside → Lent
-mem c b = gating (c .args .stack .now) (c .args .frames .now) (c .args .chain .now) (c .args .slots .now) (c .args .saved-stack .now)
-    (c .args .saved-frames .now) (c .args .finalize .now) (c .args .setup .now) plain b
-
--- the ways back: to the start, to the test of the frame, to the base, to the test of the operands, to the charge of each outcome, to the arm
+-- the ways back: to the start, from the test of the operands to that of the frame, from the charge to the operands', to the charge of each outcome, to the arm
 abbrev start-of : tie.Else1 → tie.Start
 start-of c = c .before .before .before .before .before .before .before .before .before .before
 
-abbrev some-of : tie.After-base-at → tie.Else1
-some-of c = c .before .before .before
+abbrev frame-of : tie.After-passes → tie.Else1
+frame-of c = c .before .before .before .before .before
 
-abbrev base-of : tie.After-passes → tie.After-base-at
-base-of c = c .before .before
-
-abbrev gate-of : tie.After-pc-of → tie.Else2
-gate-of c = c .before .before .before .before .before .before .before .before
-
-abbrev spent-of : tie.After-enum-told → tie.After-charge
-spent-of c = c .before .before .before .before .before .before .before .before .before .before .before .before .before .before .before .before .before .before
-
-abbrev closed-of : tie.After-a → tie.After-charge
-closed-of c = c .before .before .before .before .before .before .before .before .before .before .before .before .before .before .before .before .before .before
+abbrev gate-of : tie.After-charge → tie.Else2
+gate-of c = c .before .before .before .before .before .before .before .before .before
 
 abbrev paid-of : tie.After-a2 → tie.After-charge
 paid-of c = c .before .before .before .before .before .before .before .before .before .before .before .before .before .before .before .before .before .before
 
-abbrev arm-of : tie.After-body → tie.After-a2
-arm-of c = c .before .before .before .before .before .before .before .before
-
 abbrev body-of : tie.After-answer-of → tie.After-body
 body-of c = c .before .before .before .before .before .before .before .before .before .before .before .before .before .before .before
 
+abbrev arm-of : tie.After-body → tie.After-a2
+arm-of c = c .before .before .before .before .before .before .before .before
+
+-- there is a frame; the operands pass as the instruction says
+some : (c : tie.Else1) → 1 ≤ start-of c .args .m .depth
+some c = let h = c .if1 .left in omega arith
+
+abbrev Stands : tie.Start → World → Beside → Type 0
+Stands c w b = let a = c .args in Rep (a .l) w (gating (a .stack .now) (a .frames .now) (a .chain .now) (a .slots .now) (a .saved-stack .now) (a .saved-frames .now) (a .finalize .now) (a .setup .now) plain b) (a .m) (a .fuel)
+
+told : (c : tie.After-passes) (w : World) (b : Beside) {pc : ℕ} {t : World → Bool} {arm : World → After Step} → table (start-of (frame-of c) .args .op) ≡ Instruction pc t arm
+    → Stands (start-of (frame-of c)) w b → t w ≡ c .passes .result
+told c w b q rep = gate-told rep (some (frame-of c)) q refl (c .before .before .base-at .ensures) (c .passes .ensures)
+
+passed : (c : tie.Else2) (w : World) (b : Beside) {pc : ℕ} {t : World → Bool} {arm : World → After Step} → table (start-of (frame-of (c .before)) .args .op) ≡ Instruction pc t arm
+    → Stands (start-of (frame-of (c .before))) w b → t w ≡ true
+passed c w b q rep = told (c .before) w b q rep ∙ not-false _ (c .if2 .left)
+
 returns : tie.Need-returns
-returns c =
-    let start = c .before .before .before .before .before .before .before .before .before .before in let a = start .args in
-    λ pc t arm q w b rep snd. no-frame (a .l) (mem start b) (a .m) (a .fuel) w pc (t w) arm (no-frames (w .frames) (a .frames .now) (a .m .depth) (rep .frames) (c .if1 .taken)) rep
+returns c = λ pc t arm q w b rep snd. no-frame _ _ _ _ w pc (t w) arm (no-frames (w .frames) _ _ (rep .frames) (c .if1 .taken)) rep
 
 sub-base-at : tie.Need-sub-base-at
-sub-base-at c =
-    let at-if1 = c .before .before in
-    let h = at-if1 .if1 .left in omega arith
+sub-base-at c = let h = some (c .before .before) in omega arith
 
 base-at-requires : tie.Need-base-at-requires
 base-at-requires c κs =
-    let at-if1 = c .before .before in let start = start-of at-if1 in
-    let h = at-if1 .if1 .left in let k = start .pre .rep .frames .within in omega arith
+    let at-if1 = c .before .before in
+    let h = some at-if1 in let k = start-of at-if1 .pre .rep .frames .within in omega arith
 
 shared-slice-read-passes : tie.Need-shared-slice-read-passes
-shared-slice-read-passes c =
-    let start = c .before .before .before .before .before .before .before .before .before .before .before .before .before .before in
-    let k = start .pre .room .setup in omega arith
+shared-slice-read-passes c = let k = start-of (c .before .before .before .before) .pre .room .setup in omega arith
 
 returns-2 : tie.Need-returns-2
-returns-2 c =
-    let at-passes = c .before in let at-base-at = base-of at-passes in let at-if1 = some-of at-base-at in let start = start-of at-if1 in let a = start .args in
-    λ pc t arm q w b rep snd.
-    let some : 1 ≤ a .m .depth = (let h = at-if1 .if1 .left in omega arith) in
-    let N = numbered (a .l) w (mem start b) (a .m) (a .fuel) (getD (a .setup .now) 13 0) (at-base-at .base-at .result) rep some refl (at-base-at .base-at .ensures) in
-    bad-operand (a .l) (mem start b) (a .m) (a .fuel) w pc (t w) arm (some-frames (w .frames) (a .frames .now) (a .m .depth) (rep .frames) some)
-    (ap (λ x. operandsOf x w) (sym q) ∙ sym (at-passes .passes .ensures w N) ∙ not-true _ (c .if2 .taken)) rep
+returns-2 c = let at-passes = c .before in
+    λ pc t arm q w b rep snd. bad-operand _ _ _ _ w pc (t w) arm (has-frame rep (some (frame-of at-passes))) (told at-passes w b q rep ∙ not-true _ (c .if2 .taken)) rep
 
 charge-requires : tie.Need-charge-requires
-charge-requires c κs =
-    let at-if1 = c .before .before .before .before .before .before .before .before .before .before .before .before .before .before in let start = start-of at-if1 in
-    let a = start .args in
-    record {
-      ok = charge-ok (a .l) (a .stack .now) (a .frames .now) (a .chain .now) (a .slots .now) (a .saved-stack .now) (a .saved-frames .now) (a .finalize .now) (a .setup .now)
-          (a .m) (a .fuel) (start .pre);
-      narrow = c .pc-of .ensures .narrow;
-      some = (let h = at-if1 .if1 .left in omega arith);
-    }
+charge-requires c κs = let at-if1 = c .before .before .before .before .before .before .before .before .before .before .before .before .before .before in record { ok = charge-ok (start-of at-if1 .pre); narrow = c .pc-of .ensures .narrow; some = some at-if1 }
 
 body-requires : tie.Need-body-requires
 body-requires c κs =
-    let at-a2 = c .before .before .before .before .before .before .before in let at-charge = paid-of at-a2 in let at-pc-of = at-charge .before in let at-if2 = gate-of at-pc-of in
-    let at-passes = at-if2 .before in let at-base-at = base-of at-passes in let at-if1 = some-of at-base-at in let start = start-of at-if1 in
-    let a = start .args in let ok = start .pre in
-    let b = charge-ok (a .l) (a .stack .now) (a .frames .now) (a .chain .now) (a .slots .now) (a .saved-stack .now) (a .saved-frames .now) (a .finalize .now) (a .setup .now)
-    (a .m) (a .fuel) (start .pre) .beside in
-    arm-fits (a .l) (a .stack .now) (a .frames .now) (a .chain .now) (a .slots .now) (a .saved-stack .now) (a .saved-frames .now) (a .finalize .now) (a .setup .now)
-    (a .m) (a .fuel) (start .pre)
-    (at-charge .charge .last .0) (at-charge .charge .last .1 .0) (at-charge .charge .last .1 .1 .0) (at-charge .charge .last .1 .1 .1 .0) (at-charge .charge .last .1 .1 .1 .1 .0) (at-charge
-    .charge .last .1 .1 .1 .1 .1 .0) (at-charge .charge .last .1 .1 .1 .1 .1 .1 .0)
-    (at-charge .charge .result .machine) (at-charge .charge .result .fuel) (a .op) (at-pc-of .pc-of .result) (getD (a .setup .now) 13 0) (at-base-at .base-at .result) (at-a2 .a2 .given .0 .0)
-    (let h = at-if1 .if1 .left in omega arith) refl (at-base-at .base-at .ensures)
-    (λ w N. sym (not-false _ (at-if2 .if2 .left)) ∙ at-passes .passes .ensures w N) (at-pc-of .pc-of .ensures)
+    let at-a = c .before .before .before .before .before .before .before in let at-charge = paid-of at-a in let at-if2 = gate-of at-charge in let at-passes = at-if2 .before in
+    let ok = start-of (frame-of at-passes) .pre in let k = at-charge .charge .kept in
+    arm-fits ok (some (frame-of at-passes)) refl (at-passes .before .before .base-at .ensures)
+    (λ w N. sym (not-false _ (at-if2 .if2 .left)) ∙ at-passes .passes .ensures w N) (at-charge .before .pc-of .ensures)
     (record {
-      stack = at-charge .charge .kept .0;
-      frames = at-charge .charge .kept .1 .0;
-      chain = at-charge .charge .kept .1 .1 .0;
-      slots = at-charge .charge .kept .1 .1 .1 .0;
-      savedStack = at-charge .charge .kept .1 .1 .1 .1 .0;
-      savedFrames = at-charge .charge .kept .1 .1 .1 .1 .1 .0;
+      stack = k .0;
+      frames = k .1 .0;
+      chain = k .1 .1 .0;
+      slots = k .1 .1 .1 .0;
+      savedStack = k .1 .1 .1 .1 .0;
+      savedFrames = k .1 .1 .1 .1 .1 .0;
       ready = refl;
-      finalize = at-charge .charge .kept .1 .1 .1 .1 .1 .1 .0;
+      finalize = k .1 .1 .1 .1 .1 .1 .0;
       setup = refl;
     })
-    (answered (a .l) _ _ _ (charge (OptPc.Some (at-pc-of .pc-of .result)) (ok .world)) (at-charge .charge .result .answer) _ (at-a2 .a2 .given .1) (at-charge .charge .ensures (ok .world) b (ok .rep) (ok .sound)))
+    (answered (at-a .a2 .given .1) (at-charge .charge .ensures (ok .world) (charge-ok ok .beside) (ok .rep) (ok .sound)))
 
 returns-3 : tie.Need-returns-3
 returns-3 c =
-    let at-charge = spent-of c in let at-pc-of = at-charge .before in let at-if2 = gate-of at-pc-of in
-    let at-passes = at-if2 .before in let at-base-at = base-of at-passes in let at-if1 = some-of at-base-at in let start = start-of at-if1 in let a = start .args in
-    λ pc t arm q w b rep snd.
-    let some : 1 ≤ a .m .depth = (let h = at-if1 .if1 .left in omega arith) in
-    let N = numbered (a .l) w (mem start b) (a .m) (a .fuel) (getD (a .setup .now) 13 0) (at-base-at .base-at .result) rep some refl (at-base-at .base-at .ensures) in
-    spent (a .l) _ _ _ w pc (t w) arm (some-frames (w .frames) (a .frames .now) (a .m .depth) (rep .frames) some) (ap (λ x. operandsOf x w) (sym q) ∙ sym (at-passes .passes .ensures w N) ∙ not-false _ (at-if2 .if2 .left))
-    (at-pc-of .pc-of .result) (at-pc-of .pc-of .ensures .is pc t arm q)
-    (answered (a .l) _ _ _ (charge (OptPc.Some (at-pc-of .pc-of .result)) w) (at-charge .charge .result .answer) _ (c .enum-told .given .1)
-    (at-charge .charge .ensures w (record { words = onSetup (a .setup .now) (b .words); fuel = b .fuel }) rep snd))
+    let at = c .before .before .before .before .before .before .before .before .before .before .before .before .before .before .before .before .before .before in let at-if2 = gate-of at in
+    λ pc t arm q w b rep snd. spent _ _ _ _ w pc (t w) arm (has-frame rep (some (frame-of (at-if2 .before)))) (passed at-if2 w b q rep) _ (at .before .pc-of .ensures .is pc t arm q)
+    (answered (c .enum-told .given .1) (at .charge .ensures w (around rep) rep snd))
 
 returns-4 : tie.Need-returns-4
 returns-4 c =
-    let at-a = c .before in let at-charge = closed-of at-a in let at-pc-of = at-charge .before in let at-if2 = gate-of at-pc-of in
-    let at-passes = at-if2 .before in let at-base-at = base-of at-passes in let at-if1 = some-of at-base-at in let start = start-of at-if1 in let a = start .args in
-    λ pc t arm q w b rep snd.
-    let some : 1 ≤ a .m .depth = (let h = at-if1 .if1 .left in omega arith) in
-    let N = numbered (a .l) w (mem start b) (a .m) (a .fuel) (getD (a .setup .now) 13 0) (at-base-at .base-at .result) rep some refl (at-base-at .base-at .ensures) in
-    closed (a .l) _ _ _ w pc (t w) arm (some-frames (w .frames) (a .frames .now) (a .m .depth) (rep .frames) some) (ap (λ x. operandsOf x w) (sym q) ∙ sym (at-passes .passes .ensures w N) ∙ not-false _ (at-if2 .if2 .left))
-    (at-pc-of .pc-of .result) (at-pc-of .pc-of .ensures .is pc t arm q) (at-a .a .given .0 .0)
-    (answered (a .l) _ _ _ (charge (OptPc.Some (at-pc-of .pc-of .result)) w) (at-charge .charge .result .answer) _ (at-a .a .given .1)
-    (at-charge .charge .ensures w (record { words = onSetup (a .setup .now) (b .words); fuel = b .fuel }) rep snd))
+    let at = c .before .before .before .before .before .before .before .before .before .before .before .before .before .before .before .before .before .before .before in let at-if2 = gate-of at in
+    λ pc t arm q w b rep snd. closed _ _ _ _ w pc (t w) arm (has-frame rep (some (frame-of (at-if2 .before)))) (passed at-if2 w b q rep) _ (at .before .pc-of .ensures .is pc t arm q) _
+    (answered (c .before .a .given .1) (at .charge .ensures w (around rep) rep snd))
 
 returns-5 : tie.Need-returns-5
 returns-5 c =
-    let at-body = body-of c in let at-a2 = arm-of at-body in let at-charge = paid-of at-a2 in let at-pc-of = at-charge .before in let at-if2 = gate-of at-pc-of in
-    let at-passes = at-if2 .before in let at-base-at = base-of at-passes in let at-if1 = some-of at-base-at in let start = start-of at-if1 in let a = start .args in
+    let at-body = body-of c in let at-a = arm-of at-body in let at = paid-of at-a in let at-if2 = gate-of at in let at-pc = at .before in
     λ pc t arm q w b rep snd.
-    let some : 1 ≤ a .m .depth = (let h = at-if1 .if1 .left in omega arith) in
-    let N = numbered (a .l) w (mem start b) (a .m) (a .fuel) (getD (a .setup .now) 13 0) (at-base-at .base-at .result) rep some refl (at-base-at .base-at .ensures) in
-    let paid = at-charge .charge .ensures w (record { words = onSetup (a .setup .now) (b .words); fuel = b .fuel }) rep snd in
-    done (a .l) _ _ _ w pc (t w) arm (some-frames (w .frames) (a .frames .now) (a .m .depth) (rep .frames) some) (ap (λ x. operandsOf x w) (sym q) ∙ sym (at-passes .passes .ensures w N) ∙ not-false _ (at-if2 .if2 .left))
-    (at-pc-of .pc-of .result) (at-pc-of .pc-of .ensures .is pc t arm q) (at-a2 .a2 .given .0 .0) (at-body .body .result .step) (c .answer-of .result) (sym (at-a2 .a2 .given .1) ∙ paid .answer)
-    (at-body .body .ensures pc t arm q (charge (OptPc.Some (at-pc-of .pc-of .result)) w .world) (record { words = onFinalize (at-charge .charge .last .1 .1 .1 .1 .1 .1 .0) (b .words); fuel = b .fuel }) (paid .world)
-    (charged-sound (OptPc.Some (at-pc-of .pc-of .result)) w (narrow-pc _ (at-pc-of .pc-of .ensures .narrow)) snd)) (c .answer-of .ensures)
+    let paid = at .charge .ensures w (around rep) rep snd in
+    done _ _ _ _ w pc (t w) arm (has-frame rep (some (frame-of (at-if2 .before)))) (passed at-if2 w b q rep) _ (at-pc .pc-of .ensures .is pc t arm q) _ _ _ (sym (at-a .a2 .given .1) ∙ paid .answer)
+    (at-body .body .ensures pc t arm q _ (around (paid .world)) (paid .world) (charged-sound (OptPc.Some (at-pc .pc-of .result)) w (narrow-pc _ (at-pc .pc-of .ensures .narrow)) snd)) (c .answer-of .ensures)
 
 pub instruction-spec : {M : Type 1} → statement M
 instruction-spec =
@@ -170,21 +130,21 @@ instruction-spec =
     (λ c. search needs)
     body-requires
     (λ c κs. search needs)
-    (λ c. spent-of c .charge .kept .0)
-    (λ c. spent-of c .charge .kept .1 .0)
-    (λ c. spent-of c .charge .kept .1 .1 .0)
-    (λ c. spent-of c .charge .kept .1 .1 .1 .0)
-    (λ c. spent-of c .charge .kept .1 .1 .1 .1 .0)
-    (λ c. spent-of c .charge .kept .1 .1 .1 .1 .1 .0)
-    (λ c. spent-of c .charge .kept .1 .1 .1 .1 .1 .1 .0)
+    (λ c. search)
+    (λ c. search)
+    (λ c. search)
+    (λ c. search)
+    (λ c. search)
+    (λ c. search)
+    (λ c. search)
     returns-3
-    (λ c. closed-of (c .before) .charge .kept .0)
-    (λ c. closed-of (c .before) .charge .kept .1 .0)
-    (λ c. closed-of (c .before) .charge .kept .1 .1 .0)
-    (λ c. closed-of (c .before) .charge .kept .1 .1 .1 .0)
-    (λ c. closed-of (c .before) .charge .kept .1 .1 .1 .1 .0)
-    (λ c. closed-of (c .before) .charge .kept .1 .1 .1 .1 .1 .0)
-    (λ c. closed-of (c .before) .charge .kept .1 .1 .1 .1 .1 .1 .0)
+    (λ c. search)
+    (λ c. search)
+    (λ c. search)
+    (λ c. search)
+    (λ c. search)
+    (λ c. search)
+    (λ c. search)
     returns-4
     (λ c. let at-body = body-of c in at-body .body .kept .0 ∙ paid-of (arm-of at-body) .charge .kept .0)
     (λ c. let at-body = body-of c in at-body .body .kept .1 .0 ∙ paid-of (arm-of at-body) .charge .kept .1 .0)

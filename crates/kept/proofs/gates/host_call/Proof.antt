@@ -15,7 +15,7 @@ returns : tie.Need-returns
 returns c =
     let start = c .before .before .before .before .before in
     let a = start .args in
-    λ w b rep snd. as-host (a .l) _ (a .m) (b .fuel) w (Op.HostCall (a .f)) _ _ _ _ refl refl
+    λ w b rep snd. as-host w (Op.HostCall (a .f)) _ _ refl
     (busy (a .l) (topSetup (a .stack .now) (a .frames .now) (a .setup .now) plain b) (a .m) (b .fuel) w _ _ (some-frames (w .frames) (a .frames .now) (a .m .depth) (rep .frames) (let h = c .if1 .taken in omega arith)) rep)
 
 is-function-requires : tie.Need-is-function-requires
@@ -27,7 +27,7 @@ returns-2 : tie.Need-returns-2
 returns-2 c =
     let at-is-function = c .before in let at-if1 = at-is-function .before in let start = at-if1 .before .before .before .before .before in
     let a = start .args in
-    λ w b rep snd. as-host (a .l) _ (a .m) (b .fuel) w (Op.HostCall (a .f)) _ _ _ _ refl refl
+    λ w b rep snd. as-host w (Op.HostCall (a .f)) _ _ refl
     (host-bad (a .l) (topSetup (a .stack .now) (a .frames .now) (a .setup .now) plain b) (a .m) (b .fuel) w _ _ (no-frames (w .frames) (a .frames .now) (a .m .depth) (rep .frames) (let h =
     at-if1 .if1 .left in omega arith)) (function-told (a .l) (topSetup (a .stack .now) (a .frames .now) (a .setup .now) plain b) (a .m) (b .fuel) w (a .f) _ rep (at-is-function
     .is-function .ensures) ∙ not-true _ (c .if2 .taken)) rep)
@@ -43,7 +43,7 @@ returns-3 c =
     let at-host-call = c .before .before in let at-if2 = at-host-call .before .before in let at-is-function = at-if2 .before in
     let at-if1 = at-is-function .before in let start = at-if1 .before .before .before .before .before in
     let a = start .args in
-    λ w b rep snd. as-host (a .l) _ _ (b .fuel) w (Op.HostCall (a .f)) _ _ _ _ refl refl
+    λ w b rep snd. as-host w (Op.HostCall (a .f)) _ _ refl
     (host-past (a .l) _ _ (b .fuel) w _ _ _ (no-frames (w .frames) (a .frames .now) (a .m .depth) (rep .frames) (let h = at-if1 .if1 .left in omega arith)) (function-told (a .l) (topSetup (a
     .stack .now) (a .frames .now) (a .setup .now) plain b) (a .m) (b .fuel) w (a .f) _ rep (at-is-function .is-function .ensures) ∙ not-false _ (at-if2 .if2 .left))
     (at-host-call .host-call .ensures w b rep snd))

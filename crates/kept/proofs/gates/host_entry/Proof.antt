@@ -13,7 +13,7 @@ returns : tie.Need-returns
 returns c =
     let start = c .before .before .before .before .before .before .before .before in
     let a = start .args in
-    λ w b rep snd. as-host (a .l) _ (a .m) (b .fuel) w (Op.HostEntry (a .c) (a .v)) _ _ _ _ refl refl
+    λ w b rep snd. as-host w (Op.HostEntry (a .c) (a .v)) _ _ refl
     (busy (a .l) (six (a .stack .now) (a .frames .now) (a .chain .now) (a .slots .now) (a .saved-stack .now) (a .saved-frames .now) plain b) (a .m) (b .fuel) w _ _ (some-frames (w .frames)
     (a .frames .now) (a .m .depth) (rep .frames) (let h = c .if1 .taken in omega arith)) rep)
 
@@ -23,7 +23,7 @@ returns-2 c =
     let at-if1 = at-host-entry .before .before .before .before .before .before .before in
     let start = at-if1 .before .before .before .before .before .before .before .before in
     let a = start .args in
-    λ w b rep snd. as-host (a .l) _ _ (b .fuel) w (Op.HostEntry (a .c) (a .v)) _ _ _ _ refl refl
+    λ w b rep snd. as-host w (Op.HostEntry (a .c) (a .v)) _ _ refl
     (host-past (a .l) _ _ (b .fuel) w _ _ _ (no-frames (w .frames) (a .frames .now) (a .m .depth) (rep .frames) (let h = at-if1 .if1 .left in omega arith)) refl
     (at-host-entry .host-entry .ensures w b rep snd))
 

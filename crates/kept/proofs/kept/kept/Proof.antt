@@ -15,46 +15,6 @@ mem c = all (c .args .stack .now) (c .args .frames .now) (c .args .chain .now) (
 dispatch-requires : tie.Need-dispatch-requires
 dispatch-requires c κs = let at-widths = c .before .before .before .before .before .before .before .before in record { ok = at-widths .before .before .before .before .before .before .before .before .before .before .pre; within = at-widths .widths .ensures }
 
-same-length : tie.Need-same-length
-same-length c =
-    let at-dispatch = c .before .before .before .before .before .before .before .before .before .before .before .before .before .before .before .before in
-    at-dispatch .dispatch .kept .0
-
-same-length-2 : tie.Need-same-length-2
-same-length-2 c =
-    let at-dispatch = c .before .before .before .before .before .before .before .before .before .before .before .before .before .before .before .before in
-    at-dispatch .dispatch .kept .1 .0
-
-same-length-3 : tie.Need-same-length-3
-same-length-3 c =
-    let at-dispatch = c .before .before .before .before .before .before .before .before .before .before .before .before .before .before .before .before in
-    at-dispatch .dispatch .kept .1 .1 .0
-
-same-length-4 : tie.Need-same-length-4
-same-length-4 c =
-    let at-dispatch = c .before .before .before .before .before .before .before .before .before .before .before .before .before .before .before .before in
-    at-dispatch .dispatch .kept .1 .1 .1 .0
-
-same-length-5 : tie.Need-same-length-5
-same-length-5 c =
-    let at-dispatch = c .before .before .before .before .before .before .before .before .before .before .before .before .before .before .before .before in
-    at-dispatch .dispatch .kept .1 .1 .1 .1 .0
-
-same-length-6 : tie.Need-same-length-6
-same-length-6 c =
-    let at-dispatch = c .before .before .before .before .before .before .before .before .before .before .before .before .before .before .before .before in
-    at-dispatch .dispatch .kept .1 .1 .1 .1 .1 .0
-
-same-length-7 : tie.Need-same-length-7
-same-length-7 c =
-    let at-dispatch = c .before .before .before .before .before .before .before .before .before .before .before .before .before .before .before .before in
-    at-dispatch .dispatch .kept .1 .1 .1 .1 .1 .1 .0
-
-same-length-8 : tie.Need-same-length-8
-same-length-8 c =
-    let at-dispatch = c .before .before .before .before .before .before .before .before .before .before .before .before .before .before .before .before in
-    at-dispatch .dispatch .kept .1 .1 .1 .1 .1 .1 .1 .0
-
 returns : tie.Need-returns
 returns c =
     let at-dispatch = c .before .before .before .before .before .before .before .before .before .before .before .before .before .before .before .before in
@@ -90,12 +50,12 @@ kept-spec =
     (tie.spec
     (λ c κs. search needs)
     dispatch-requires
-    same-length
-    same-length-2
-    same-length-3
-    same-length-4
-    same-length-5
-    same-length-6
-    same-length-7
-    same-length-8
+    (λ c. search needs)
+    (λ c. search needs)
+    (λ c. search needs)
+    (λ c. search needs)
+    (λ c. search needs)
+    (λ c. search needs)
+    (λ c. search needs)
+    (λ c. search needs)
     returns)
