@@ -120,15 +120,22 @@ module _ (h : Host) (zs : List ℕ) where
 
 -- ---- a set-up
 
+-- what `set_up` gave, of the numbers and the fuel read, and the number told
+pub record Tried (h : Host) (given : List ℕ) (M′ : Lent) (d : Called) (n : ℕ) : Type 0 where
+  pub machine : Machine
+  pub fuel : Fuel
+  pub machine-is : machine ≡ machineIn (h .machine)
+  pub fuel-is : fuel ≡ fuelIn (h .fuel)
+  pub did : gives M′ d ≡ setUpWords (state (h .words) machine fuel) given
+  pub told : n ≡ numberOf (d .answer)
+
 module _ (h : Host) (given xs : List ℕ) where
   abbrev ok-words : Bool
   ok-words = setUpOk given (h .words)
 
-  -- what `set_up` gave, of the numbers and the fuel read
-  module _ (m : Machine) (f : Fuel) (a : m ≡ machineIn (h .machine)) (b : f ≡ fuelIn (h .fuel)) (M′ : Lent) (d : Called) (is : gives M′ d ≡ setUpWords (state (h .words) m f) given) (n : ℕ)
-      (told : n ≡ numberOf (d .answer)) where
+  module _ {M′ : Lent} {d : Called} {n : ℕ} (t : Tried h given M′ d n) where
     made : gives M′ d ≡ setUpWords (stateOf h) given
-    made = is ∙ (λ i. setUpWords (state (h .words) (a i) (b i)) given)
+    made = t .did ∙ (λ i. setUpWords (state (h .words) (t .machine-is i) (t .fuel-is i)) given)
 
     when-ok : ok-words ≡ true → gives M′ d ≡ begins (h .words) given
     when-ok e = made ∙ sym (accepts (stateOf h) given e)
@@ -140,24 +147,24 @@ module _ (h : Host) (given xs : List ℕ) where
     pub accepted : n ≡ 0 → ok-words ≡ true
     accepted z = go ok-words refl
       where
-        go : (t : Bool) → ok-words ≡ t → ok-words ≡ true
+        go : (b : Bool) → ok-words ≡ b → ok-words ≡ true
         go true e = e
-        go false e = let q : n ≡ 11 = told ∙ ap (λ (x : Left). numberOf (x .answer)) (when-not e) in absurd (omega arith)
+        go false e = let q : n ≡ 11 = t .told ∙ ap (λ (x : Left). numberOf (x .answer)) (when-not e) in absurd (omega arith)
 
     pub not-accepted : (n ≡ 0 → ⊥) → ok-words ≡ false
     not-accepted z = go ok-words refl
       where
-        go : (t : Bool) → ok-words ≡ t → ok-words ≡ false
+        go : (b : Bool) → ok-words ≡ b → ok-words ≡ false
         go false e = e
-        go true e = absurd (z (told ∙ ap (λ (x : Left). numberOf (x .answer)) (when-ok e)))
+        go true e = absurd (z (t .told ∙ ap (λ (x : Left). numberOf (x .answer)) (when-ok e)))
 
     pub begin-refused : (n ≡ 0 → ⊥) → (xs′ : List ℕ) → xs′ ≡ splice xs 0 (answerWords (d .answer)) → gave (host M′ (h .machine) (h .fuel)) xs′ n ≡ beginIn h given xs
     begin-refused z xs′ e =
         let k = not-accepted z in
         let q = when-not k in
-        (λ i. gave (host M′ (h .machine) (h .fuel)) (e i) (told i))
+        (λ i. gave (host M′ (h .machine) (h .fuel)) (e i) (t .told i))
         ∙ (λ i. gave (host (q i .state .words) (h .machine) (h .fuel)) (splice xs 0 (answerWords (q i .answer))) (numberOf (q i .answer)))
-        ∙ sym (ap (λ t. pick t (tells (freshIn h given) Answer.Accepted xs) (tells h (Answer.Refused Fault.Unsound) xs)) k ∙ pick-false _ _)
+        ∙ sym (ap (λ b. pick b (tells (freshIn h given) Answer.Accepted xs) (tells h (Answer.Refused Fault.Unsound) xs)) k ∙ pick-false _ _)
 
     pub begin-done : n ≡ 0 → (l : Sizes) → l ≡ sizesOf (setupOf given) → (ks ms′ fs′ xs′ : List ℕ) → ks ≡ splice (h .machine) 0 (machineWords (d .machine)) → ms′ ≡ splice ks 13 (sizesWords l)
         → fs′ ≡ splice (h .fuel) 0 (fuelWords (d .fuel)) → xs′ ≡ splice xs 0 (answerWords (d .answer)) → gave (host M′ ms′ fs′) xs′ n ≡ beginIn h given xs
@@ -165,13 +172,13 @@ module _ (h : Host) (given xs : List ℕ) where
         let k = accepted z in
         let q = made in
         let y : d .answer ≡ Answer.Accepted = ap (λ (x : Left). x .answer) (when-ok k) in
-        let u = p₁ ∙ ap₂ (λ (v : List ℕ) (t : Sizes). splice v 13 (sizesWords t)) p₀ e in
+        let u = p₁ ∙ ap₂ (λ (v : List ℕ) (k : Sizes). splice v 13 (sizesWords k)) p₀ e in
         let v = p₃ ∙ ap (λ (x : Answer). splice xs 0 (answerWords x)) y in
-        let t = told ∙ ap numberOf y in
-        (λ i. gave (host M′ (u i) (p₂ i)) (v i) (t i))
+        let x = t .told ∙ ap numberOf y in
+        (λ i. gave (host M′ (u i) (p₂ i)) (v i) (x i))
         ∙ (λ i. gave (host (q i .state .words) (splice (splice (h .machine) 0 (machineWords (q i .state .machine))) 13 (sizesWords (sizesOf (setupOf given)))) (splice (h .fuel) 0 (fuelWords (q i .state .fuel))))
         (splice xs 0 (answerWords Answer.Accepted)) (numberOf Answer.Accepted))
-        ∙ sym (ap (λ t. pick t (tells (freshIn h given) Answer.Accepted xs) (tells h (Answer.Refused Fault.Unsound) xs)) k ∙ pick-true _ _)
+        ∙ sym (ap (λ b. pick b (tells (freshIn h given) Answer.Accepted xs) (tells h (Answer.Refused Fault.Unsound) xs)) k ∙ pick-true _ _)
 
   pub fits-given : ok-words ≡ true → SetupFits given
   fits-given e = given-fits given (is-held given (h .words) e)

@@ -31,9 +31,6 @@ returns c =
 tell-requires : tie.Need-tell-requires
 tell-requires c κs = c .before .before .if1 .left
 
-same-length : tie.Need-same-length
-same-length c = c .before .before .tell .kept .0
-
 returns-2 : tie.Need-returns-2
 returns-2 c =
     let told = c .before .before in
@@ -42,9 +39,6 @@ returns-2 c =
 
 tell-requires-2 : tie.Need-tell-requires-2
 tell-requires-2 c κs = c .before .before .before .if1 .left
-
-same-length-2 : tie.Need-same-length-2
-same-length-2 c = c .before .before .tell2 .kept .0
 
 returns-3 : tie.Need-returns-3
 returns-3 c =
@@ -61,42 +55,6 @@ begin-requires c κs =
     let at-if1 = at-if2 .before in
     record { machine = at-if2 .if2 .left; fuel = at-if3 .if3 .left; answer = at-if1 .if1 .left }
 
-same-length-3 : tie.Need-same-length-3
-same-length-3 c = begin-of c .begin .kept .0
-
-same-length-4 : tie.Need-same-length-4
-same-length-4 c = begin-of c .begin .kept .1 .0
-
-same-length-5 : tie.Need-same-length-5
-same-length-5 c = begin-of c .begin .kept .1 .1 .0
-
-same-length-6 : tie.Need-same-length-6
-same-length-6 c = begin-of c .begin .kept .1 .1 .1 .0
-
-same-length-7 : tie.Need-same-length-7
-same-length-7 c = begin-of c .begin .kept .1 .1 .1 .1 .0
-
-same-length-8 : tie.Need-same-length-8
-same-length-8 c = begin-of c .begin .kept .1 .1 .1 .1 .1 .0
-
-same-length-9 : tie.Need-same-length-9
-same-length-9 c = begin-of c .begin .kept .1 .1 .1 .1 .1 .1 .0
-
-same-length-10 : tie.Need-same-length-10
-same-length-10 c = begin-of c .begin .kept .1 .1 .1 .1 .1 .1 .1 .0
-
-same-length-11 : tie.Need-same-length-11
-same-length-11 c = begin-of c .begin .kept .1 .1 .1 .1 .1 .1 .1 .1 .0
-
-same-length-12 : tie.Need-same-length-12
-same-length-12 c = begin-of c .begin .kept .1 .1 .1 .1 .1 .1 .1 .1 .1 .0
-
-same-length-13 : tie.Need-same-length-13
-same-length-13 c = begin-of c .begin .kept .1 .1 .1 .1 .1 .1 .1 .1 .1 .1 .0
-
-same-length-14 : tie.Need-same-length-14
-same-length-14 c = begin-of c .begin .kept .1 .1 .1 .1 .1 .1 .1 .1 .1 .1 .1 .1 .0
-
 returns-4 : tie.Need-returns-4
 returns-4 c =
     let start = start-of (else-of (begin-of c) .before .before) in
@@ -110,5 +68,9 @@ pub bvm-set-up-spec : {M : Type 1} → statement M
 bvm-set-up-spec =
     tie.close
     (tie.spec
-    returns tell-requires same-length returns-2 tell-requires-2 same-length-2 returns-3 begin-requires same-length-3 same-length-4 same-length-5
-    same-length-6 same-length-7 same-length-8 same-length-9 same-length-10 same-length-11 same-length-12 same-length-13 same-length-14 returns-4)
+    returns tell-requires (λ c. c .before .before .tell .kept .0) returns-2 tell-requires-2 (λ c. c .before .before .tell2 .kept .0) returns-3
+    begin-requires (λ c. begin-of c .begin .kept .0) (λ c. begin-of c .begin .kept .1 .0) (λ c. begin-of c .begin .kept .1 .1 .0)
+    (λ c. begin-of c .begin .kept .1 .1 .1 .0) (λ c. begin-of c .begin .kept .1 .1 .1 .1 .0) (λ c. begin-of c .begin .kept .1 .1 .1 .1 .1 .0)
+    (λ c. begin-of c .begin .kept .1 .1 .1 .1 .1 .1 .0) (λ c. begin-of c .begin .kept .1 .1 .1 .1 .1 .1 .1 .0)
+    (λ c. begin-of c .begin .kept .1 .1 .1 .1 .1 .1 .1 .1 .0) (λ c. begin-of c .begin .kept .1 .1 .1 .1 .1 .1 .1 .1 .1 .0)
+    (λ c. begin-of c .begin .kept .1 .1 .1 .1 .1 .1 .1 .1 .1 .1 .0) (λ c. begin-of c .begin .kept .1 .1 .1 .1 .1 .1 .1 .1 .1 .1 .1 .1 .0) returns-4)

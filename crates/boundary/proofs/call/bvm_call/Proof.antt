@@ -31,39 +31,6 @@ do-call-requires c κs =
 abbrev do-call-of : tie.After-slice-known22 → tie.After-do-call
 do-call-of c = c .before .before .before .before .before .before .before .before .before .before .before .before .before .before .before .before .before .before .before .before .before .before
 
-same-length : tie.Need-same-length
-same-length c = do-call-of c .do-call .kept .1 .0
-
-same-length-2 : tie.Need-same-length-2
-same-length-2 c = do-call-of c .do-call .kept .1 .1 .0
-
-same-length-3 : tie.Need-same-length-3
-same-length-3 c = do-call-of c .do-call .kept .1 .1 .1 .0
-
-same-length-4 : tie.Need-same-length-4
-same-length-4 c = do-call-of c .do-call .kept .1 .1 .1 .1 .0
-
-same-length-5 : tie.Need-same-length-5
-same-length-5 c = do-call-of c .do-call .kept .1 .1 .1 .1 .1 .0
-
-same-length-6 : tie.Need-same-length-6
-same-length-6 c = do-call-of c .do-call .kept .1 .1 .1 .1 .1 .1 .0
-
-same-length-7 : tie.Need-same-length-7
-same-length-7 c = do-call-of c .do-call .kept .1 .1 .1 .1 .1 .1 .1 .0
-
-same-length-8 : tie.Need-same-length-8
-same-length-8 c = do-call-of c .do-call .kept .1 .1 .1 .1 .1 .1 .1 .1 .0
-
-same-length-9 : tie.Need-same-length-9
-same-length-9 c = do-call-of c .do-call .kept .1 .1 .1 .1 .1 .1 .1 .1 .1 .1 .0
-
-same-length-10 : tie.Need-same-length-10
-same-length-10 c = do-call-of c .do-call .kept .1 .1 .1 .1 .1 .1 .1 .1 .1 .1 .1 .0
-
-same-length-11 : tie.Need-same-length-11
-same-length-11 c = do-call-of c .do-call .kept .1 .1 .1 .1 .1 .1 .1 .1 .1 .1 .1 .1 .1 .0
-
 returns-2 : tie.Need-returns-2
 returns-2 c =
     let did = do-call-of c in
@@ -74,4 +41,12 @@ returns-2 c =
     called (of start) (opOf (a .call .now)) (a .answer .now) _ (at-if .if1 .left) (test .tested .result) (test .tested .ensures) (did .do-call .ensures)
 
 pub bvm-call-spec : {M : Type 1} → statement M
-bvm-call-spec = tie.close (tie.spec returns (λ c κs. search needs) do-call-requires same-length same-length-2 same-length-3 same-length-4 same-length-5 same-length-6 same-length-7 same-length-8 same-length-9 same-length-10 same-length-11 returns-2)
+bvm-call-spec =
+    tie.close
+    (tie.spec
+    returns (λ c κs. search needs) do-call-requires (λ c. do-call-of c .do-call .kept .1 .0) (λ c. do-call-of c .do-call .kept .1 .1 .0)
+    (λ c. do-call-of c .do-call .kept .1 .1 .1 .0) (λ c. do-call-of c .do-call .kept .1 .1 .1 .1 .0) (λ c. do-call-of c .do-call .kept .1 .1 .1 .1 .1 .0)
+    (λ c. do-call-of c .do-call .kept .1 .1 .1 .1 .1 .1 .0) (λ c. do-call-of c .do-call .kept .1 .1 .1 .1 .1 .1 .1 .0)
+    (λ c. do-call-of c .do-call .kept .1 .1 .1 .1 .1 .1 .1 .1 .0) (λ c. do-call-of c .do-call .kept .1 .1 .1 .1 .1 .1 .1 .1 .1 .1 .0)
+    (λ c. do-call-of c .do-call .kept .1 .1 .1 .1 .1 .1 .1 .1 .1 .1 .1 .0) (λ c. do-call-of c .do-call .kept .1 .1 .1 .1 .1 .1 .1 .1 .1 .1 .1 .1 .1 .0)
+    returns-2)

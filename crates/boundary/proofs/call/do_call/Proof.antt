@@ -47,17 +47,11 @@ long c = let a = start-of c .args in long-numbers (a .machine .now) (a .fuel .no
 tell-requires : tie.Need-tell-requires
 tell-requires c κs = c .before .before .before .before .before .before .before .before .before .before .before .before .before .before .before .pre .room
 
-same-length : tie.Need-same-length
-same-length c = c .before .before .tell .kept .0
-
 returns : tie.Need-returns
 returns c =
-    let told = c .before .before in
-    let at-if = told .before .before in
-    let start = at-if .before .before .before .before .before .before .before .before .before .before .before .before .before .before in
-    let a = start .args in
-    let e = told .tell .ensures in
-    refused (of start) (opOf (a .call .now)) (a .answer .now) _ (a .ok) (not-true _ (at-if .if1 .taken)) (λ i. gave (of start) (e .0 i) (e .1 i))
+    let told = c .before .before in let at-if = told .before .before in
+    let start = at-if .before .before .before .before .before .before .before .before .before .before .before .before .before .before in let a = start .args in
+    refused (of start) (opOf (a .call .now)) (a .answer .now) _ (a .ok) (not-true _ (at-if .if1 .taken)) (λ i. gave (of start) (told .tell .ensures .0 i) (told .tell .ensures .1 i))
 
 machine-of-requires : tie.Need-machine-of-requires
 machine-of-requires c κs = long (c .before) .0
@@ -70,10 +64,8 @@ fuel-of-requires c κs = long (c .before .before .before .before .before) .1
 
 do-read-requires : tie.Need-do-read-requires
 do-read-requires c κs =
-    let at-fuel = c .before .before .before .before .before .before .before .before .before in
-    let at-sizes = at-fuel .before .before in
-    let at-machine = at-sizes .before .before in
-    let at-if = else-of at-machine in
+    let at-fuel = c .before .before .before .before .before .before .before .before .before in let at-sizes = at-fuel .before .before in
+    let at-machine = at-sizes .before .before in let at-if = else-of at-machine in
     may-read (of (start-of at-if)) (sound at-if) (at-machine .machine-of .result) (at-fuel .fuel-of .result) (at-sizes .sizes-of .result)
     (at-machine .machine-of .ensures) (at-fuel .fuel-of .ensures) (at-sizes .sizes-of .ensures)
 
@@ -89,52 +81,11 @@ tell-requires-2 c κs = begin-of (c .before .before .before .before .before .bef
 abbrev do-read-of : tie.After-slice-known23 → tie.After-do-read
 do-read-of c = c .before .before .before .before .before .before .before .before .before .before .before .before .before .before .before .before .before .before .before .before .before .before .before .before .before .before .before .before .before .before
 
-same-length-2 : tie.Need-same-length-2
-same-length-2 c = do-read-of c .do-read .kept .1 .0
-
-same-length-3 : tie.Need-same-length-3
-same-length-3 c = do-read-of c .do-read .kept .1 .1 .0
-
-same-length-4 : tie.Need-same-length-4
-same-length-4 c = do-read-of c .do-read .kept .1 .1 .1 .0
-
-same-length-5 : tie.Need-same-length-5
-same-length-5 c = do-read-of c .do-read .kept .1 .1 .1 .1 .0
-
-same-length-6 : tie.Need-same-length-6
-same-length-6 c = do-read-of c .do-read .kept .1 .1 .1 .1 .1 .0
-
-same-length-7 : tie.Need-same-length-7
-same-length-7 c = do-read-of c .do-read .kept .1 .1 .1 .1 .1 .1 .0
-
-same-length-8 : tie.Need-same-length-8
-same-length-8 c = do-read-of c .do-read .kept .1 .1 .1 .1 .1 .1 .1 .0
-
-same-length-9 : tie.Need-same-length-9
-same-length-9 c = do-read-of c .do-read .kept .1 .1 .1 .1 .1 .1 .1 .1 .0
-
-same-length-10 : tie.Need-same-length-10
-same-length-10 c = c .before .before .before .before .before .before .before .before .before .before .put-machine .kept .0
-
-same-length-11 : tie.Need-same-length-11
-same-length-11 c = c .before .before .before .before .before .before .put-fuel .kept .0
-
-same-length-12 : tie.Need-same-length-12
-same-length-12 c = c .before .before .tell2 .kept .0
-
 returns-2 : tie.Need-returns-2
 returns-2 c =
-    let told = c .before .before in
-    let at-put-fuel = told .before .before .before .before in
-    let at-put-machine = at-put-fuel .before .before .before .before in
-    let did = do-read-of c in
-    let at-op = did .before .before .before .before .before .before .before .before .before in
-    let at-fuel = at-op .before in
-    let at-machine = machine-at did in
-    let at-if = else-of at-machine in
-    let start = start-of at-if in
-    let a = start .args in
-    let r = opOf (a .call .now) in
+    let told = c .before .before in let at-put-fuel = told .before .before .before .before in let at-put-machine = at-put-fuel .before .before .before .before in
+    let did = do-read-of c in let at-op = did .before .before .before .before .before .before .before .before .before in let at-fuel = at-op .before in
+    let at-machine = machine-at did in let at-if = else-of at-machine in let start = start-of at-if in let a = start .args in let r = opOf (a .call .now) in
     done (of start) r (a .answer .now) _ (a .ok) (not-false _ (at-if .if1 .left))
     (left-in (of start) r (a .answer .now) (at-machine .machine-of .result) (at-fuel .fuel-of .result) (at-op .op-of .result) (left-by did) (did .do-read .result) _ _ _ (told .tell2 .result)
     (at-machine .machine-of .ensures) (at-fuel .fuel-of .ensures) (at-op .op-of .ensures) (did .do-read .ensures)
@@ -144,6 +95,10 @@ pub do-call-spec : {M : Type 1} → statement M
 do-call-spec =
     tie.close
     (tie.spec
-    tell-requires same-length returns machine-of-requires sizes-of-requires fuel-of-requires (λ c κs. search needs) do-read-requires put-machine-requires
-    put-fuel-requires tell-requires-2 same-length-2 same-length-3 same-length-4 same-length-5 same-length-6 same-length-7 same-length-8 same-length-9
-    same-length-10 same-length-11 same-length-12 returns-2)
+    tell-requires (λ c. c .before .before .tell .kept .0) returns machine-of-requires sizes-of-requires fuel-of-requires (λ c κs. search needs)
+    do-read-requires put-machine-requires put-fuel-requires tell-requires-2 (λ c. do-read-of c .do-read .kept .1 .0)
+    (λ c. do-read-of c .do-read .kept .1 .1 .0) (λ c. do-read-of c .do-read .kept .1 .1 .1 .0) (λ c. do-read-of c .do-read .kept .1 .1 .1 .1 .0)
+    (λ c. do-read-of c .do-read .kept .1 .1 .1 .1 .1 .0) (λ c. do-read-of c .do-read .kept .1 .1 .1 .1 .1 .1 .0)
+    (λ c. do-read-of c .do-read .kept .1 .1 .1 .1 .1 .1 .1 .0) (λ c. do-read-of c .do-read .kept .1 .1 .1 .1 .1 .1 .1 .1 .0)
+    (λ c. c .before .before .before .before .before .before .before .before .before .before .put-machine .kept .0)
+    (λ c. c .before .before .before .before .before .before .put-fuel .kept .0) (λ c. c .before .before .tell2 .kept .0) returns-2)

@@ -55,24 +55,17 @@ left-by c = nine (c .run-known .last .1 .0) (c .run-known .last .1 .1 .0) (c .ru
 
 returns : tie.Need-returns
 returns c =
-    let at-count = c .before in
-    let start = start-of at-count in
-    let a = start .args in
+    let at-count = c .before in let start = start-of at-count in let a = start .args in
     run-short (of start) (a .calls .now) (a .answers .now) (at-count .count .result) (at-count .count .ensures) (c .if1 .taken)
 
 refuse-list-requires : tie.Need-refuse-list-requires
 refuse-list-requires c κs = room (c .before .before)
 
-same-length : tie.Need-same-length
-same-length c = c .before .before .refuse-list .kept .0
-
 returns-2 : tie.Need-returns-2
 returns-2 c =
-    let at-if1 = c .before .before .before .before .before in
-    let at-count = at-if1 .before in
-    let start = start-of at-count in
-    let a = start .args in
-    run-refused (of start) (a .calls .now) (a .answers .now) (at-count .count .result) (at-count .count .ensures) (room at-if1) (a .ok) (start .pre) (not-true _ (c .before .before .before .before .if2 .taken)) _ (c .before .before .refuse-list .ensures)
+    let at-if1 = c .before .before .before .before .before in let at-count = at-if1 .before in let start = start-of at-count in let a = start .args in
+    run-refused (of start) (a .calls .now) (a .answers .now) (at-count .count .result) (at-count .count .ensures) (room at-if1) (a .ok) (start .pre)
+    (not-true _ (c .before .before .before .before .if2 .taken)) _ (c .before .before .refuse-list .ensures)
 
 machine-of-requires : tie.Need-machine-of-requires
 machine-of-requires c κs = long (c .before) .0
@@ -82,74 +75,35 @@ fuel-of-requires c κs = long (c .before .before .before) .1
 
 run-known-requires : tie.Need-run-known-requires
 run-known-requires c κs =
-    let at-fuel = c .before .before .before .before .before .before .before .before .before in
-    let at-machine = at-fuel .before .before in
-    let at-if = at-machine .before .before in
-    let start = start-of (count-of at-if) in
+    let at-fuel = c .before .before .before .before .before .before .before .before .before in let at-machine = at-fuel .before .before in
+    let at-if = at-machine .before .before in let start = start-of (count-of at-if) in
     may-read (of start) (sound at-if) (at-machine .machine-of .result) (at-fuel .fuel-of .result) (sizesIn (start .args .machine .now)) (at-machine .machine-of .ensures) (at-fuel .fuel-of .ensures) refl .known
 
 put-machine-requires : tie.Need-put-machine-requires
-put-machine-requires c κs = long
-    (else-of (c .before .before .before .before .before .before .before .before .before .before .before .before .before .before .before .before .before .before .before .before .before)) .0
+put-machine-requires c κs =
+    let did = c .before .before .before .before .before .before .before .before .before .before .before .before .before .before .before .before .before .before .before .before .before in long (else-of did) .0
 
 put-fuel-requires : tie.Need-put-fuel-requires
-put-fuel-requires c κs = long
-    (else-of (c .before .before .before .before .before .before .before .before .before .before .before .before .before .before .before .before .before .before .before .before .before .before .before .before .before)) .1
-
-same-length-2 : tie.Need-same-length-2
-same-length-2 c = run-known-of c .run-known .kept .1 .0
-
-same-length-3 : tie.Need-same-length-3
-same-length-3 c = run-known-of c .run-known .kept .1 .1 .0
-
-same-length-4 : tie.Need-same-length-4
-same-length-4 c = run-known-of c .run-known .kept .1 .1 .1 .0
-
-same-length-5 : tie.Need-same-length-5
-same-length-5 c = run-known-of c .run-known .kept .1 .1 .1 .1 .0
-
-same-length-6 : tie.Need-same-length-6
-same-length-6 c = run-known-of c .run-known .kept .1 .1 .1 .1 .1 .0
-
-same-length-7 : tie.Need-same-length-7
-same-length-7 c = run-known-of c .run-known .kept .1 .1 .1 .1 .1 .1 .0
-
-same-length-8 : tie.Need-same-length-8
-same-length-8 c = run-known-of c .run-known .kept .1 .1 .1 .1 .1 .1 .1 .0
-
-same-length-9 : tie.Need-same-length-9
-same-length-9 c = run-known-of c .run-known .kept .1 .1 .1 .1 .1 .1 .1 .1 .0
-
-same-length-10 : tie.Need-same-length-10
-same-length-10 c = c .before .before .before .before .before .before .put-machine .kept .0
-
-same-length-11 : tie.Need-same-length-11
-same-length-11 c = c .before .before .put-fuel .kept .0
-
-same-length-12 : tie.Need-same-length-12
-same-length-12 c = run-known-of c .run-known .kept .1 .1 .1 .1 .1 .1 .1 .1 .1 .1 .1 .1 .1 .0
+put-fuel-requires c κs =
+    let did = c .before .before .before .before .before .before .before .before .before .before .before .before .before .before .before .before .before .before .before .before .before .before .before .before .before in long (else-of did) .1
 
 returns-3 : tie.Need-returns-3
 returns-3 c =
-    let did = run-known-of c in
-    let at-fuel = did .before .before .before .before .before .before .before .before .before .before in
-    let at-machine = at-fuel .before .before in
-    let at-if = else-of did in
-    let at-count = count-of at-if in
-    let start = start-of at-count in
-    let a = start .args in
-    let r = did .run-known .result in
-    run-done (of start) (a .calls .now) (a .answers .now) (at-count .count .result) (at-count .count .ensures)
-    (room (at-if .before))
-    (a .ok) (start .pre) (not-false _ (at-if .if2 .left)) (at-machine .machine-of .result) (at-fuel .fuel-of .result)
-    (at-machine .machine-of .ensures) (at-fuel .fuel-of .ensures) (left-by did) (r .machine) (r .fuel) _ _
-    (did .run-known .last .1 .1 .1 .1 .1 .1 .1 .1 .1 .1 .1 .1 .1 .0) (r .number) (did .run-known .ensures)
-    (c .before .before .before .before .before .before .put-machine .ensures) (c .before .before .put-fuel .ensures)
+    let did = run-known-of c in let at-fuel = did .before .before .before .before .before .before .before .before .before .before in let at-machine = at-fuel .before .before in
+    let at-if = else-of did in let at-count = count-of at-if in let start = start-of at-count in let a = start .args in let r = did .run-known .result in
+    run-done (of start) (a .calls .now) (a .answers .now) (at-count .count .result) (at-count .count .ensures) (room (at-if .before)) (a .ok) (start .pre)
+    (not-false _ (at-if .if2 .left)) (at-machine .machine-of .result) (at-fuel .fuel-of .result) (at-machine .machine-of .ensures) (at-fuel .fuel-of .ensures)
+    (left-by did) (r .machine) (r .fuel) _ _ (did .run-known .last .1 .1 .1 .1 .1 .1 .1 .1 .1 .1 .1 .1 .1 .0) (r .number)
+    (did .run-known .ensures) (c .before .before .before .before .before .before .put-machine .ensures) (c .before .before .put-fuel .ensures)
 
 pub do-run-spec : {M : Type 1} → statement M
 do-run-spec =
     tie.close
     (tie.spec
-    (λ c κs. search needs) returns refuse-list-requires same-length returns-2 machine-of-requires fuel-of-requires run-known-requires put-machine-requires
-    put-fuel-requires same-length-2 same-length-3 same-length-4 same-length-5 same-length-6 same-length-7 same-length-8 same-length-9 same-length-10
-    same-length-11 same-length-12 returns-3)
+    (λ c κs. search needs) returns refuse-list-requires (λ c. c .before .before .refuse-list .kept .0) returns-2 machine-of-requires fuel-of-requires
+    run-known-requires put-machine-requires put-fuel-requires (λ c. run-known-of c .run-known .kept .1 .0) (λ c. run-known-of c .run-known .kept .1 .1 .0)
+    (λ c. run-known-of c .run-known .kept .1 .1 .1 .0) (λ c. run-known-of c .run-known .kept .1 .1 .1 .1 .0)
+    (λ c. run-known-of c .run-known .kept .1 .1 .1 .1 .1 .0) (λ c. run-known-of c .run-known .kept .1 .1 .1 .1 .1 .1 .0)
+    (λ c. run-known-of c .run-known .kept .1 .1 .1 .1 .1 .1 .1 .0) (λ c. run-known-of c .run-known .kept .1 .1 .1 .1 .1 .1 .1 .1 .0)
+    (λ c. c .before .before .before .before .before .before .put-machine .kept .0) (λ c. c .before .before .put-fuel .kept .0)
+    (λ c. run-known-of c .run-known .kept .1 .1 .1 .1 .1 .1 .1 .1 .1 .1 .1 .1 .1 .0) returns-3)
