@@ -37,7 +37,9 @@ returns-3 c =
     λ pc t arm q w b rep snd. as-arm q (at .before .before .before .before .before .before .before .before .op3 .given .1) (at .coro-await .ensures w (around rep) rep snd)
 
 returns-4 : tie.Need-returns-4
-returns-4 c = let at-entering = c .before .before .before .before .before .before .before .before .before .before .before .before in let at-match = at-entering .before .before .before .before .before .before .before in
+returns-4 c =
+    let at-entering = c .before .before .before .before .before .before .before .before .before .before .before .before in
+    let at-match = at-entering .before .before .before .before .before .before .before in
     at-entering .entering .ensures (not-suspending _ (at-match .match .keys4))
 
 pub body-spec : {M : Type 1} → statement M

@@ -45,7 +45,9 @@ returns-4 c =
     λ s pc t arm q w b rep snd. as-arm q (at .before .before .before .before .before .before .before .before .op4 .given .1) (at .iter-next .ensures w (around rep) rep snd)
 
 returns-5 : tie.Need-returns-5
-returns-5 c = λ s. let at-staying = c .before .before .before .before .before .before .before .before .before .before .before .before in let at-match = at-staying .before .before .before .before .before .before .before in
+returns-5 c = λ s.
+    let at-staying = c .before .before .before .before .before .before .before .before .before .before .before .before in
+    let at-match = at-staying .before .before .before .before .before .before .before in
     at-staying .staying .ensures s (not-entering _ (at-match .match .keys5))
 
 pub entering-spec : {M : Type 1} → statement M
