@@ -42,7 +42,9 @@ some : (c : tie.Else1) → 1 ≤ start-of c .args .m .depth
 some c = let h = c .if1 .left in omega arith
 
 abbrev Stands : tie.Start → World → Beside → Type 0
-Stands c w b = let a = c .args in Rep (a .l) w (gating (a .stack .now) (a .frames .now) (a .chain .now) (a .slots .now) (a .saved-stack .now) (a .saved-frames .now) (a .finalize .now) (a .setup .now) plain b) (a .m) (a .fuel)
+Stands c w b =
+    let a = c .args in
+    Rep (a .l) w (gating (a .stack .now) (a .frames .now) (a .chain .now) (a .slots .now) (a .saved-stack .now) (a .saved-frames .now) (a .finalize .now) (a .setup .now) plain b) (a .m) (a .fuel)
 
 told : (c : tie.After-passes) (w : World) (b : Beside) {pc : ℕ} {t : World → Bool} {arm : World → After Step} → table (start-of (frame-of c) .args .op) ≡ Instruction pc t arm
     → Stands (start-of (frame-of c)) w b → t w ≡ c .passes .result
@@ -71,7 +73,9 @@ returns-2 c = let at-passes = c .before in
     λ pc t arm q w b rep snd. bad-operand _ _ _ _ w pc (t w) arm (has-frame rep (some (frame-of at-passes))) (told at-passes w b q rep ∙ not-true _ (c .if2 .taken)) rep
 
 charge-requires : tie.Need-charge-requires
-charge-requires c κs = let at-if1 = c .before .before .before .before .before .before .before .before .before .before .before .before .before .before in record { ok = charge-ok (start-of at-if1 .pre); narrow = c .pc-of .ensures .narrow; some = some at-if1 }
+charge-requires c κs =
+    let at-if1 = c .before .before .before .before .before .before .before .before .before .before .before .before .before .before in
+    record { ok = charge-ok (start-of at-if1 .pre); narrow = c .pc-of .ensures .narrow; some = some at-if1 }
 
 body-requires : tie.Need-body-requires
 body-requires c κs =
@@ -110,7 +114,8 @@ returns-5 c =
     λ pc t arm q w b rep snd.
     let paid = at .charge .ensures w (around rep) rep snd in
     done _ _ _ _ w pc (t w) arm (has-frame rep (some (frame-of (at-if2 .before)))) (passed at-if2 w b q rep) _ (at-pc .pc-of .ensures .is pc t arm q) _ _ _ (sym (at-a .a2 .given .1) ∙ paid .answer)
-    (at-body .body .ensures pc t arm q _ (around (paid .world)) (paid .world) (charged-sound (OptPc.Some (at-pc .pc-of .result)) w (narrow-pc _ (at-pc .pc-of .ensures .narrow)) snd)) (c .answer-of .ensures)
+    (at-body .body .ensures pc t arm q _ (around (paid .world)) (paid .world) (charged-sound (OptPc.Some (at-pc .pc-of .result)) w (narrow-pc _ (at-pc .pc-of .ensures .narrow)) snd))
+    (c .answer-of .ensures)
 
 pub instruction-spec : {M : Type 1} → statement M
 instruction-spec =
