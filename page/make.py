@@ -268,7 +268,9 @@ def main():
         named = list(dict.fromkeys(re.findall(r"crates/(\w+)", state)))
         lacking = [name for name in named if name not in there]
         shown = ", ".join(f"`{name}`" for name in lacking or named)
-        rows.append([number, promise, f"not proved: {shown}" if lacking else f"proved: {shown}"])
+        # what README says is compared and not proved is so here too
+        compared = next((f" {one.strip()}." for one in state.split(". ") if "compared, and not proved" in one), "")
+        rows.append([number, promise, f"not proved: {shown}" if lacking else f"proved: {shown}" + (f".{compared}" if compared else "")])
     parts.append(html_table(rows))
 
     section("wake", "A script sleeps, and is woken at another height")
