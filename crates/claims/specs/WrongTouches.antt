@@ -1,4 +1,4 @@
--- Machines that touch the script that runs, or make another coroutine, and else are `step`. None of them has what is promised:
+-- Machines that touch the script that runs, make another coroutine, or answer wrongly what is asked. None of them has what is promised:
 -- `proofs/WrongTouches.antt`.
 use Prim.Native.Nat.{ℕ, _+_}
 use mathlib.Core.Bool.{Bool, not, _&&_}
