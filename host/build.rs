@@ -1,15 +1,15 @@
 //! Finds the library's three archives, or makes them.
 //!
-//! `HUMDELZI_LIB` names the folder that holds `libboundary.a`, `libhot.a` and
-//! `libbatch.a`. Without it they are taken from `../target/staticlib`; one that
-//! is not there is proved and written by `rt staticlib boundary`, and so on.
+//! `HUMDELZI_LIB` names the folder that holds `liblinked_calls.a`, `liblinked_switch.a` and
+//! `liblinked_batch.a`. Without it they are taken from `../target/staticlib`; one that
+//! is not there is proved and written by `rt staticlib linked_calls`, and so on.
 
 use std::path::{Path, PathBuf};
 use std::process::{self, Command};
 use std::{env, fs};
 
 /// Resume and Yield, many calls, and all other functions. None needs another.
-const ARCHIVES: [&str; 3] = ["hot", "batch", "boundary"];
+const ARCHIVES: [&str; 3] = ["linked_switch", "linked_batch", "linked_calls"];
 
 fn main() {
     println!("cargo::rerun-if-changed=build.rs");
@@ -70,8 +70,8 @@ fn make(root: &Path, lib: &Path, name: &str) {
     fail(&format!(
         "{why}\n\
          The proved library lib{name}.a is not in {}. Either\n\
-         - install the Rattle toolchain, so that `rt` is found, and run `rt staticlib boundary`, `rt staticlib hot` and `rt staticlib batch` in {}\n\
-         - or set HUMDELZI_LIB to a folder that holds libboundary.a, libhot.a and libbatch.a",
+         - install the Rattle toolchain, so that `rt` is found, and run `rt staticlib linked_calls`, `rt staticlib linked_switch` and `rt staticlib linked_batch` in {}\n\
+         - or set HUMDELZI_LIB to a folder that holds liblinked_calls.a, liblinked_switch.a and liblinked_batch.a",
         lib.display(),
         root.display()
     ));

@@ -1,5 +1,5 @@
 //! Links the static library. `BVM_LIB` names the folder that holds
-//! libboundary.a, the proved functions, and libhot.a and libbatch.a, which are
+//! liblinked_calls.a, the proved functions, and liblinked_switch.a and liblinked_batch.a, which are
 //! left out where they are not there; without it the crate builds without them.
 
 use std::path::Path;
@@ -19,12 +19,12 @@ fn main() {
         process::exit(1)
     });
     println!("cargo::rustc-link-search=native={}", lib.display());
-    println!("cargo::rerun-if-changed={}", file(&lib, "boundary"));
-    link("boundary", "library");
-    for archive in ["hot", "batch"] {
+    println!("cargo::rerun-if-changed={}", file(&lib, "linked_calls"));
+    link("linked_calls", "library");
+    for (archive, cfg) in [("linked_switch", "hot"), ("linked_batch", "batch")] {
         println!("cargo::rerun-if-changed={}", file(&lib, archive));
         if Path::new(&file(&lib, archive)).exists() {
-            link(archive, archive);
+            link(archive, cfg);
         }
     }
 }

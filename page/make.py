@@ -191,9 +191,9 @@ def of_c(archive):
 
 def wake():
     """The words of a wake, from a program over the compiled library; or why there are none."""
-    library = TARGET / "staticlib" / "libboundary.a"
+    library = TARGET / "staticlib" / "liblinked_calls.a"
     if not library.exists():
-        return None, "target/staticlib/libboundary.a is not there"
+        return None, "target/staticlib/liblinked_calls.a is not there"
     if not shutil.which("cc"):
         return None, "there is no C compiler (cc)"
     with tempfile.TemporaryDirectory() as folder:
@@ -297,14 +297,14 @@ def main():
     section("axioms", "What is assumed")
     if done:
         rows = [["", "assumed"]] + [[f"`{name}`", "; ".join(axioms)] for name, _, _, _, axioms in proved if axioms]
-        report = TARGET / "staticlib" / "boundary.report"
+        report = TARGET / "staticlib" / "linked_calls.report"
         library = report.read_text() if report.exists() else ""
         if verdict := re.search(r"^logic=proved .*$", library, re.M):
             rows.append(["the static library", "; ".join(re.findall(r"^axioms .*$", library, re.M)) or "nothing: `" + verdict.group() + "`"])
         none = [name for name, verdict, _, _, axioms in proved if verdict and not axioms and "foreign=" not in verdict]
         parts.append("<p>A crate's log names the functions that are not Rattle's and that it declares (<code>foreign=</code>), a program's and a static library's those that it reaches "
                      f"(<code>axioms</code>): their contracts are taken as they stand. {len(none)} crates of {len(done)} have none.</p>")
-        if taken := of_c(TARGET / "staticlib" / "libboundary.a"):
+        if taken := of_c(TARGET / "staticlib" / "liblinked_calls.a"):
             rows.append(["the static library, of C", taken])
         if len(rows) > 1:
             parts.append(html_table(rows))

@@ -2,7 +2,7 @@
 """Checks docs/RULES.md, docs/ASSURANCE.md, docs/THEOREMS.md and docs/LEGEND.md against the sources, so that none can rot:
 each file and name that a row of RULES names is there, and what is no statement in its column "theorem" is the fault sheet's; a sentence is marked as quoted exactly if a comment of its definition's file quotes it;
 every quotation in a comment of crates/ is 01's, or is listed as another's; the places and counts of ASSURANCE and THEOREMS are those of today, and the names of LEGEND; each file and folder that README, ASSURANCE, LEGEND and THEOREMS name is there.
-README's layout is crates.txt's. What boundary_claims says of a linked function is what its contract cites. What a wrong edit changes stands once in its file, and CHEATS names it. No file of specs/ or src/ cites one of proofs/, so that what is to be believed stands in specs/. `page/rules.py mend` writes places and counts into ASSURANCE and THEOREMS, and the marks into RULES."""
+README's layout is crates.txt's. What claims_linked says of a linked function is what its contract cites. What a wrong edit changes stands once in its file, and CHEATS names it. No file of specs/ or src/ cites one of proofs/, so that what is to be believed stands in specs/. `page/rules.py mend` writes places and counts into ASSURANCE and THEOREMS, and the marks into RULES."""
 import re
 import sys
 from pathlib import Path
@@ -118,7 +118,7 @@ def check_judged(number, cell, table, now, mend):
 
 def check_rules(mend):
     names = quoted = 0
-    table = {one.key for one in closure.closure(closure.find("sheet/specs/Sheet.antt:FaultSheet"))[0]}
+    table = {one.key for one in closure.closure(closure.find("claims_sheet/specs/Sheet.antt:FaultSheet"))[0]}
     page = now = RULES.read_text()
     sections, quotations = {}, {}
     for path in sorted((ROOT / "crates").rglob("*")):
@@ -290,9 +290,9 @@ def check_edits():
                 count += 1
                 if not file.is_file() or file.read_text().count(text) != 1:
                     say(f"{path.relative_to(ROOT)}: not once in its file: {text}")
-        if crate in ("model", "sheet", "lent", "lent_claims") and f"`{path.stem}`" not in cheats:
+        if crate in ("model", "claims_sheet", "memory_step", "claims_memory") and f"`{path.stem}`" not in cheats:
             say(f"docs/CHEATS.md: no {path.stem} of {crate}")
-    for name in re.findall(r"^  pub ([a-z0-9-]+) : .* → ⊥$", "".join(path.read_text() for path in ROOT.glob("crates/claims/specs/Wrong*.antt")), re.M):
+    for name in re.findall(r"^  pub ([a-z0-9-]+) : .* → ⊥$", "".join(path.read_text() for path in ROOT.glob("crates/claims_model/specs/Wrong*.antt")), re.M):
         if f"`{name}`" not in cheats:
             say(f"docs/CHEATS.md: no {name}")
     # and what it names so is an edit, or a word of 01
@@ -304,17 +304,17 @@ def check_edits():
 
 
 def check_linked():
-    """For each linked function that changes a word, `after` of boundary_claims/specs/Linked.antt has the definition that its contract cites."""
-    rows = re.findall(r"^after h \(bvm-(\S+) .*?\) = (.*)$", (ROOT / "crates/boundary_claims/specs/Linked.antt").read_text(), re.M)
+    """For each linked function that changes a word, `after` of claims_linked/specs/Linked.antt has the definition that its contract cites."""
+    rows = re.findall(r"^after h \(bvm-(\S+) .*?\) = (.*)$", (ROOT / "crates/claims_linked/specs/Linked.antt").read_text(), re.M)
     contracts = {}
-    for path in [*ROOT.glob("crates/boundary/src/*.rt"), *ROOT.glob("crates/hot/src/*.rt"), *ROOT.glob("crates/batch/src/*.rt")]:
+    for path in [*ROOT.glob("crates/linked_calls/src/*.rt"), *ROOT.glob("crates/linked_switch/src/*.rt"), *ROOT.glob("crates/linked_batch/src/*.rt")]:
         for name, text in re.findall(r"pub extern \"C\" fn bvm_(\w+)(.*?)^\{", path.read_text(), re.M | re.S):
             contracts[name] = text[text.index("ensures"):]
     linked = {"switch": ("try_resume", "try_yield"), "run": ("run", "batch")}
     # by way of a record, whose equations are the definition's; what keptIn leaves is doWords written back over the host's words
-    records = {"grant": ("boundary/specs/Host.antt", "Granted", "callIn"), "switch": ("hot/specs/Switch.antt", "Switched", "keptIn")}
+    records = {"grant": ("linked_calls/specs/Host.antt", "Granted", "callIn"), "switch": ("linked_switch/specs/Switch.antt", "Switched", "keptIn")}
     if len(rows) < 6:
-        say("crates/boundary_claims/specs/Linked.antt: after has lost its rows")
+        say("crates/claims_linked/specs/Linked.antt: after has lost its rows")
     for name, right in rows:
         definition = re.search(r"(?:\w+In|runHost|doWords)\b", right).group()
         if name in records:

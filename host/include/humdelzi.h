@@ -1,14 +1,14 @@
 /* A proved coroutine switch, for C programs: one inline function for each call of 01 (the build description, docs/RULES.md).
  *
- * The functions of the static library (target/staticlib/libboundary.a) and all words are described in docs/CALLS.md. A machine is nine
+ * The functions of the static library (target/staticlib/liblinked_calls.a) and all words are described in docs/CALLS.md. A machine is nine
  * slices of words that the host lends, its numbers in 25 words, and a fuel record of four, which is the host's. Each function here
  * returns the answer's number (0: accepted) and writes the answer; humdelzi_sound returns 1 or 0, and a look where the registers stand.
  *
  * Every call tests the words first and refuses with 11 if they are no sound machine's. A host that owns its words, the fuel's four among them, and lets only these
  * functions write them, may define HUMDELZI_KEPT before this file is included: the calls are then made without the test, and a Resume or
- * Yield that nothing refuses by a function of its own (libhot.a), which does the same (crates/hot/src) several times as fast. Such a host makes no call before a
+ * Yield that nothing refuses by a function of its own (liblinked_switch.a), which does the same (crates/linked_switch/src) several times as fast. Such a host makes no call before a
  * set-up that answered 0, or before humdelzi_sound said 1 of words from elsewhere: on other words these calls read and write anywhere. A set-up
- * that answers 0 leaves a sound machine, and every call leaves it sound (begun, called and kept of crates/boundary_claims/specs/Library.antt).
+ * that answers 0 leaves a sound machine, and every call leaves it sound (begun, called and kept of crates/claims_linked/specs/Library.antt).
  */
 #ifndef HUMDELZI_H
 #define HUMDELZI_H
@@ -32,13 +32,13 @@ uint64_t bvm_set_up(HUMDELZI_EIGHT, HUMDELZI_SLICE, HUMDELZI_SLICE, HUMDELZI_SLI
 uint64_t bvm_call(HUMDELZI_EIGHT, HUMDELZI_READ, HUMDELZI_SLICE, HUMDELZI_SLICE, HUMDELZI_READ /* call */, HUMDELZI_SLICE /* answer */);
 uint64_t bvm_kept(HUMDELZI_EIGHT, HUMDELZI_READ, HUMDELZI_SLICE, HUMDELZI_SLICE, HUMDELZI_READ /* call */, HUMDELZI_SLICE /* answer */);
 uint64_t bvm_run(HUMDELZI_EIGHT, HUMDELZI_READ, HUMDELZI_SLICE, HUMDELZI_SLICE, HUMDELZI_READ /* calls */, HUMDELZI_SLICE /* answers */);
-/* The same in an archive of its own (`-lbatch`), several times as fast where the calls are switches. */
+/* The same in an archive of its own (`-llinked_batch`), several times as fast where the calls are switches. */
 uint64_t bvm_batch(HUMDELZI_EIGHT, HUMDELZI_READ, HUMDELZI_SLICE, HUMDELZI_SLICE, HUMDELZI_READ /* calls */, HUMDELZI_SLICE /* answers */);
 uint64_t bvm_look(HUMDELZI_EIGHT_READ, HUMDELZI_READ, HUMDELZI_READ, HUMDELZI_READ, HUMDELZI_SLICE /* span */);
 uint64_t bvm_grant(HUMDELZI_EIGHT_READ, HUMDELZI_READ, HUMDELZI_READ, HUMDELZI_SLICE, HUMDELZI_SLICE /* answer */, uint64_t amount);
 uint64_t bvm_sound(HUMDELZI_EIGHT_READ, HUMDELZI_READ, HUMDELZI_READ, HUMDELZI_READ);
 
-/* in libhot.a; stack frames chain slots saved_stack saved_frames, machine fuel, operands. 1: the call is done as bvm_kept does it, and its
+/* in liblinked_switch.a; stack frames chain slots saved_stack saved_frames, machine fuel, operands. 1: the call is done as bvm_kept does it, and its
  * answer is 0 0 2 0 3 0 0 0. 0: nothing has changed, and bvm_kept makes the call. */
 #define HUMDELZI_SWITCH HUMDELZI_SLICE, HUMDELZI_SLICE, HUMDELZI_SLICE, HUMDELZI_SLICE, HUMDELZI_SLICE, HUMDELZI_SLICE, HUMDELZI_SLICE, HUMDELZI_SLICE
 uint64_t bvm_try_resume(HUMDELZI_SWITCH, uint32_t pc, uint16_t dst, uint16_t coro, uint16_t src);

@@ -14,16 +14,16 @@
 //!   record. [`Sound`] holds nothing else: it is made where `bvm_set_up`
 //!   answered 0 or where `bvm_sound` said yes, its words are private to this
 //!   module, and only `bvm_kept`, the two tries and `bvm_batch` below, and an
-//!   accepted set-up change them. All leave a sound machine (`crates/boundary_claims/specs/Library.antt`:
+//!   accepted set-up change them. All leave a sound machine (`crates/claims_linked/specs/Library.antt`:
 //!   `begun`, `called`, `kept`). The same holds of [`Record`]; and a machine
 //!   that passes the test passes with the record of any other that does
 //!   (`any-fuel` there, from `AnyFuel` of
-//!   `crates/lent_claims/specs/Fuel.antt`).
+//!   `crates/claims_memory/specs/Fuel.antt`).
 //! - `bvm_try_resume` and `bvm_try_yield` ask for what `bvm_kept` asks for, of
 //!   the slices that they are lent and some others beside. Where they answer 1
 //!   they leave what it leaves of the same call, where they answer 0 all is as
-//!   it was: `Switched` of `crates/hot/specs/Switch.antt`, the contract of each
-//!   in `crates/hot/src/resume.rt` and `yielding.rt`. So what is said of
+//!   it was: `Switched` of `crates/linked_switch/specs/Switch.antt`, the contract of each
+//!   in `crates/linked_switch/src/resume.rt` and `yielding.rt`. So what is said of
 //!   `bvm_kept` above holds of them.
 //! - `bvm_batch` may be lent any words whatever, and leaves a sound machine
 //!   sound (`runHost` there; `ran` of `Library.antt`).

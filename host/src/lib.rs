@@ -3,13 +3,13 @@
 //! A [`Machine`] owns the words of one machine; each of the 28 calls of "01",
 //! the build description with the exact rules (`docs/RULES.md`), is a method
 //! with typed operands, and answers an [`Answer`]. The functions behind it are
-//! compiled from proved code (`crates/boundary`, `crates/hot` for Resume and
-//! Yield, `crates/batch` for many calls): answers and words are those of the
+//! compiled from proved code (`crates/linked_calls`, `crates/linked_switch` for Resume and
+//! Yield, `crates/linked_batch` for many calls): answers and words are those of the
 //! definitions, for every call.
 //!
 //! The words are private. A set-up leaves a sound machine, every call leaves
-//! a sound machine sound (`crates/invariant/specs/Kept.antt`, and of the code
-//! `crates/kept/specs/Kept.antt`), so the methods do not test the words again
+//! a sound machine sound (`crates/claims_invariant/specs/Kept.antt`, and of the code
+//! `crates/machine_step/specs/Kept.antt`), so the methods do not test the words again
 //! at each call. [`Machine::check`] runs the test, and
 //! [`Machine::from_words`] runs it once on words that come from elsewhere.
 //!

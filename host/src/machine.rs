@@ -71,7 +71,7 @@ impl fmt::Debug for Machine {
 }
 
 /// The answer of a switch that nothing refused (`goesOn` of
-/// `crates/hot/specs/Went.antt`).
+/// `crates/linked_switch/specs/Went.antt`).
 const GOES_ON: Answer = Answer::Stepped { step: Step::Frame, taken: 0 };
 
 /// One method for a call.

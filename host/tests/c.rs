@@ -13,7 +13,7 @@ fn compiles_and_runs(name: &str, flags: &[&str]) {
         .arg("-I")
         .arg(here.join("include"))
         .arg(here.join("tests/c/sleep.c"))
-        .args(["-L", env!("HUMDELZI_LIB_FOUND"), "-lhot", "-lboundary", "-o"])
+        .args(["-L", env!("HUMDELZI_LIB_FOUND"), "-llinked_switch", "-llinked_calls", "-o"])
         .arg(&program)
         .output();
     let Ok(made) = made else {

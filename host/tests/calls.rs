@@ -1,5 +1,5 @@
 //! The typed side against the definitions: the words of each call are those of
-//! `opWords` (`crates/calls/specs/Call.antt`), also through the C header; and a
+//! `opWords` (`crates/memory_calls/specs/Call.antt`), also through the C header; and a
 //! list of calls in which every kind of call, answer and object is met once.
 
 use std::path::{Path, PathBuf};
@@ -14,7 +14,7 @@ fn here() -> &'static Path {
 
 /// The lines of `opWords`: a call's name and its six parts, as they stand there.
 fn definition() -> Vec<(String, Vec<String>)> {
-    let file = here().join("../crates/calls/specs/Call.antt");
+    let file = here().join("../crates/memory_calls/specs/Call.antt");
     let text = fs::read_to_string(file).expect("the definition");
     let lines = text.lines().filter_map(|l| l.strip_prefix("opWords ")?.split_once(" = six "));
     let found = lines.map(|(call, words)| {

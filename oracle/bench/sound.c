@@ -1,4 +1,4 @@
-/* How long the test of soundness takes beside a plain pass over the same words: the goal is at most 1.5 times as long. Links libboundary.a;
+/* How long the test of soundness takes beside a plain pass over the same words: the goal is at most 1.5 times as long. Links liblinked_calls.a;
  * compile with -O3.
  *
  * The machines are made word by word, by the layout of docs/CALLS.md. `sound names` only names them, one to a line. `sound WHICH N test` or

@@ -16,20 +16,20 @@ use Rattle.model.specs.declared.call.OptPc.{OptPc}
 use Rattle.model.specs.declared.machine.Charge.{Charge}
 use Rattle.model.specs.declared.machine.Frame.{Frame}
 use Rattle.model.specs.declared.machine.Fuel.{Fuel}
-use Rattle.soundness.proofs.Tests.{no-false, no-true}
-use Rattle.soundness.proofs.Sound.{sound→, →sound}
-use Rattle.soundness.proofs.Good.{Good, Calm}
-use Rattle.soundness.proofs.Charge.{Charging, charge-good}
-use Rattle.tables.specs.Layout.{baseIn}
-use Rattle.tables.specs.Parts.{Frames}
-use Rattle.tables.specs.Does.{RegFits}
-use Rattle.tables.proofs.Doing.{reg-fits}
-use Rattle.memory.specs.Memory.{Lent, Beside, Rep}
-use Rattle.memory.specs.Contract.{Ok, Does, with}
-use Rattle.memory.specs.declared.machine.Machine.{Machine}
-use Rattle.memory.specs.declared.machine.Sizes.{Sizes}
-use Rattle.memory.proofs.Does.{SameLengths, ok-next}
-use Rattle.machine.proofs.Frames.{top-base}
+use Rattle.claims_sound.proofs.Tests.{no-false, no-true}
+use Rattle.claims_sound.proofs.Sound.{sound→, →sound}
+use Rattle.claims_sound.proofs.Good.{Good, Calm}
+use Rattle.claims_sound.proofs.Charge.{Charging, charge-good}
+use Rattle.memory_tables.specs.Layout.{baseIn}
+use Rattle.memory_tables.specs.Parts.{Frames}
+use Rattle.memory_tables.specs.Does.{RegFits}
+use Rattle.memory_tables.proofs.Doing.{reg-fits}
+use Rattle.memory_world.specs.Memory.{Lent, Beside, Rep}
+use Rattle.memory_world.specs.Contract.{Ok, Does, with}
+use Rattle.memory_world.specs.declared.machine.Machine.{Machine}
+use Rattle.memory_world.specs.declared.machine.Sizes.{Sizes}
+use Rattle.memory_world.proofs.Does.{SameLengths, ok-next}
+use Rattle.machine_state.proofs.Frames.{top-base}
 
 -- ---- the world
 

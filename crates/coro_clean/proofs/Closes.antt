@@ -16,14 +16,14 @@ use Rattle.model.specs.declared.call.OptPc.{OptPc}
 use Rattle.model.specs.declared.coro.Started.{Started}
 use Rattle.model.specs.declared.machine.Charge.{Charge}
 use Rattle.model.specs.declared.machine.Fuel.{Fuel}
-use Rattle.soundness.proofs.Tests.{no-true, picked}
-use Rattle.memory.specs.Memory.{Lent, Beside, Rep}
-use Rattle.memory.specs.Lendings.{plain, cleaning}
-use Rattle.memory.specs.Contract.{Ok, Does, with}
-use Rattle.memory.specs.declared.machine.Machine.{Machine}
-use Rattle.memory.specs.declared.machine.Sizes.{Sizes}
-use Rattle.memory.proofs.Does.{does, ok-next}
-use Rattle.machine.proofs.Stored.{store-sounds}
+use Rattle.claims_sound.proofs.Tests.{no-true, picked}
+use Rattle.memory_world.specs.Memory.{Lent, Beside, Rep}
+use Rattle.memory_world.specs.Lendings.{plain, cleaning}
+use Rattle.memory_world.specs.Contract.{Ok, Does, with}
+use Rattle.memory_world.specs.declared.machine.Machine.{Machine}
+use Rattle.memory_world.specs.declared.machine.Sizes.{Sizes}
+use Rattle.memory_world.proofs.Does.{does, ok-next}
+use Rattle.machine_state.proofs.Stored.{store-sounds}
 use Rattle.coro_clean.specs.Charge.{chargeReady}
 use Rattle.coro_clean.proofs.Paid.{chosen, passed}
 use Rattle.coro_clean.proofs.Search.{test}

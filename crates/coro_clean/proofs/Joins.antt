@@ -28,21 +28,21 @@ use Rattle.model.specs.Sound.{sound}
 use Rattle.model.specs.declared.call.Answer.{Answer}
 use Rattle.model.specs.declared.coro.WordOr.{WordOr}
 use Rattle.model.specs.declared.machine.Fuel.{Fuel}
-use Rattle.soundness.proofs.Tests.{no-false}
-use Rattle.soundness.proofs.Queue as I
-use Rattle.soundness.proofs.Sound.{Sound, sound→}
-use Rattle.soundness.proofs.Coros.{task-sound, handed-sound}
-use Rattle.tables.specs.Does.{QueueDo}
-use Rattle.memory.specs.Memory.{Lent, Rep, Room, onSlots, onReady, onFinalize}
-use Rattle.memory.specs.Contract.{Does}
-use Rattle.memory.specs.Numbers.{withWaiting, withCleanups}
-use Rattle.memory.specs.declared.machine.Machine.{Machine}
-use Rattle.memory.specs.declared.machine.Sizes.{Sizes}
-use Rattle.memory.proofs.Does.{does}
-use Rattle.memory.proofs.Turn.{turn-ready, turn-finalize}
-use Rattle.memory.proofs.Lookup.{There, lacks}
-use Rattle.memory.proofs.Slotted.{in-slots, coro-absent, rest-rep, placed, placed-words}
-use Rattle.memory.proofs.Few.{queue-few}
+use Rattle.claims_sound.proofs.Tests.{no-false}
+use Rattle.claims_sound.proofs.Queue as I
+use Rattle.claims_sound.proofs.Sound.{Sound, sound→}
+use Rattle.claims_sound.proofs.Coros.{task-sound, handed-sound}
+use Rattle.memory_tables.specs.Does.{QueueDo}
+use Rattle.memory_world.specs.Memory.{Lent, Rep, Room, onSlots, onReady, onFinalize}
+use Rattle.memory_world.specs.Contract.{Does}
+use Rattle.memory_world.specs.Numbers.{withWaiting, withCleanups}
+use Rattle.memory_world.specs.declared.machine.Machine.{Machine}
+use Rattle.memory_world.specs.declared.machine.Sizes.{Sizes}
+use Rattle.memory_world.proofs.Does.{does}
+use Rattle.memory_world.proofs.Turn.{turn-ready, turn-finalize}
+use Rattle.memory_world.proofs.Lookup.{There, lacks}
+use Rattle.memory_world.proofs.Slotted.{in-slots, coro-absent, rest-rep, placed, placed-words}
+use Rattle.memory_world.proofs.Few.{queue-few}
 use Rattle.coro_clean.proofs.Paid.{chosen, passed}
 
 -- ---- room for one more

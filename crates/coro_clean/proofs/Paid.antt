@@ -11,13 +11,13 @@ use Rattle.model.specs.Fuel.{unbankAt, unbank, armAt, armClose, spend}
 use Rattle.model.specs.Cleanup.{chargeDone, chargeAt, chargeSlow, charge}
 use Rattle.model.specs.declared.machine.Charge.{Charge}
 use Rattle.model.specs.declared.machine.Fuel.{Fuel}
-use Rattle.memory.specs.Memory.{Lent, Rep}
-use Rattle.memory.specs.Contract.{Does}
-use Rattle.memory.specs.declared.machine.Machine.{Machine}
-use Rattle.memory.specs.declared.machine.Sizes.{Sizes}
-use Rattle.memory.proofs.Does.{does}
-use Rattle.memory.proofs.Turn.{turn-fuel}
-use Rattle.machine.proofs.Flags.{unbank-rep, arm-rep}
+use Rattle.memory_world.specs.Memory.{Lent, Rep}
+use Rattle.memory_world.specs.Contract.{Does}
+use Rattle.memory_world.specs.declared.machine.Machine.{Machine}
+use Rattle.memory_world.specs.declared.machine.Sizes.{Sizes}
+use Rattle.memory_world.proofs.Does.{does}
+use Rattle.memory_world.proofs.Turn.{turn-fuel}
+use Rattle.machine_state.proofs.Flags.{unbank-rep, arm-rep}
 use Rattle.coro_clean.specs.Charge.{spent}
 
 -- a choice by a test that is known

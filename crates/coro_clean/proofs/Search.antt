@@ -24,8 +24,8 @@ use Rattle.model.specs.Coro.{coroEnter}
 use Rattle.model.specs.Cleanup.{isAsleep, isEntered, close, started, startFrom, startFinalizer}
 use Rattle.model.specs.declared.coro.Started.{Started}
 use Rattle.model.specs.declared.machine.Driver.{Driver}
-use Rattle.memory.specs.declared.machine.Machine.{Machine}
-use Rattle.memory.specs.declared.machine.Sizes.{Sizes}
+use Rattle.memory_world.specs.declared.machine.Machine.{Machine}
+use Rattle.memory_world.specs.declared.machine.Sizes.{Sizes}
 use Rattle.coro_enter.specs.Enter.{refusalOf}
 use Rattle.coro_clean.specs.Start.{firstOf, startsAs, starts, startNone, startAt}
 use Rattle.coro_clean.proofs.Paid.{chosen, passed}

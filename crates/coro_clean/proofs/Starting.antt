@@ -25,23 +25,23 @@ use Rattle.model.specs.Sound.{sound}
 use Rattle.model.specs.declared.coro.Started.{Started}
 use Rattle.model.specs.declared.machine.Driver.{Driver}
 use Rattle.model.specs.declared.machine.Fuel.{Fuel}
-use Rattle.soundness.proofs.Tests.{no-false}
-use Rattle.soundness.proofs.Queue as I
-use Rattle.soundness.proofs.Sound.{Sound, sound→, →sound}
-use Rattle.soundness.proofs.Coros.{cleanups-sound, unbank-sound}
-use Rattle.tables.specs.Parts.{Queue, Run}
-use Rattle.tables.specs.Does.{QueueDo}
-use Rattle.tables.proofs.Parts.{run-of}
-use Rattle.memory.specs.Memory.{Lent, Beside, Rep, onFinalize}
-use Rattle.memory.specs.Lendings.{plain, lent, cleaning}
-use Rattle.memory.specs.Contract.{Ok, Does, only, with}
-use Rattle.memory.specs.Numbers.{withCleanups}
-use Rattle.memory.specs.declared.machine.Machine.{Machine}
-use Rattle.memory.specs.declared.machine.Sizes.{Sizes}
-use Rattle.memory.proofs.Does.{room-same}
-use Rattle.memory.proofs.Turn.{turn-finalize}
-use Rattle.memory.proofs.Slotted.{coro-absent, coro-there}
-use Rattle.machine.proofs.Flags.{unbank-rep}
+use Rattle.claims_sound.proofs.Tests.{no-false}
+use Rattle.claims_sound.proofs.Queue as I
+use Rattle.claims_sound.proofs.Sound.{Sound, sound→, →sound}
+use Rattle.claims_sound.proofs.Coros.{cleanups-sound, unbank-sound}
+use Rattle.memory_tables.specs.Parts.{Queue, Run}
+use Rattle.memory_tables.specs.Does.{QueueDo}
+use Rattle.memory_tables.proofs.Parts.{run-of}
+use Rattle.memory_world.specs.Memory.{Lent, Beside, Rep, onFinalize}
+use Rattle.memory_world.specs.Lendings.{plain, lent, cleaning}
+use Rattle.memory_world.specs.Contract.{Ok, Does, only, with}
+use Rattle.memory_world.specs.Numbers.{withCleanups}
+use Rattle.memory_world.specs.declared.machine.Machine.{Machine}
+use Rattle.memory_world.specs.declared.machine.Sizes.{Sizes}
+use Rattle.memory_world.proofs.Does.{room-same}
+use Rattle.memory_world.proofs.Turn.{turn-finalize}
+use Rattle.memory_world.proofs.Slotted.{coro-absent, coro-there}
+use Rattle.machine_state.proofs.Flags.{unbank-rep}
 use Rattle.coro_enter.proofs.Accepts.{accepts-if}
 use Rattle.coro_clean.specs.Start.{firstOf, startsAs, starts, SearchFits, startNone, startAt}
 use Rattle.coro_clean.proofs.Search.{first-most, test, starts-none, starts-at}

@@ -6,10 +6,10 @@ use Rattle.model.specs.Fuel.{fuelOf, unbankAt}
 use Rattle.model.specs.Cleanup.{startFinalizer, chargeOr}
 use Rattle.model.specs.declared.machine.Charge.{Charge}
 use Rattle.model.specs.declared.machine.Fuel.{Fuel}
-use Rattle.memory.specs.Memory.{Lent, Beside}
-use Rattle.memory.specs.Contract.{Ok, with}
-use Rattle.memory.specs.declared.machine.Machine.{Machine}
-use Rattle.memory.specs.declared.machine.Sizes.{Sizes}
+use Rattle.memory_world.specs.Memory.{Lent, Beside}
+use Rattle.memory_world.specs.Contract.{Ok, with}
+use Rattle.memory_world.specs.declared.machine.Machine.{Machine}
+use Rattle.memory_world.specs.declared.machine.Sizes.{Sizes}
 
 -- one unit less
 abbrev pub spent : Fuel → Fuel

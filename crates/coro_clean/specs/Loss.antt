@@ -8,10 +8,10 @@ use Rattle.model.specs.World.{World}
 use Rattle.model.specs.Cleanup.{startFinalizer}
 use Rattle.model.specs.declared.coro.Started.{Started}
 use Rattle.model.specs.declared.machine.Fuel.{Fuel}
-use Rattle.memory.specs.Memory.{Lent, Rep}
-use Rattle.memory.specs.Contract.{Does}
-use Rattle.memory.specs.declared.machine.Machine.{Machine}
-use Rattle.memory.specs.declared.machine.Sizes.{Sizes}
+use Rattle.memory_world.specs.Memory.{Lent, Rep}
+use Rattle.memory_world.specs.Contract.{Does}
+use Rattle.memory_world.specs.declared.machine.Machine.{Machine}
+use Rattle.memory_world.specs.declared.machine.Sizes.{Sizes}
 
 -- of the definition: the words counted, and no others, have left the queue
 pub record Lost (w : World) : Type 0 where

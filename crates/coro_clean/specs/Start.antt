@@ -20,10 +20,10 @@ use Rattle.model.specs.Cleanup.{close, started}
 use Rattle.model.specs.declared.coro.Started.{Started}
 use Rattle.model.specs.declared.machine.Driver.{Driver}
 use Rattle.model.specs.declared.machine.Fuel.{Fuel}
-use Rattle.memory.specs.Memory.{Lent, Beside, onFinalize}
-use Rattle.memory.specs.Contract.{Ok, with}
-use Rattle.memory.specs.declared.machine.Machine.{Machine}
-use Rattle.memory.specs.declared.machine.Sizes.{Sizes}
+use Rattle.memory_world.specs.Memory.{Lent, Beside, onFinalize}
+use Rattle.memory_world.specs.Contract.{Ok, with}
+use Rattle.memory_world.specs.declared.machine.Machine.{Machine}
+use Rattle.memory_world.specs.declared.machine.Sizes.{Sizes}
 use Rattle.coro_enter.specs.Enter.{refusalOf}
 
 -- ---- the search

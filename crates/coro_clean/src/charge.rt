@@ -5,14 +5,14 @@ ghost use Prim.Native.Nat.{_≤_};
 ghost use Rattle.model.specs.World.{after};
 ghost use Rattle.model.specs.Cleanup.{chargeDone, chargeOr, chargeSlow, charge};
 ghost use Rattle.model.specs.declared.call.OptPc.the-variants.{None, Some};
-ghost use Rattle.memory.specs.Lendings.{none, cleaning};
-ghost use Rattle.memory.specs.Contract.{Met, any, every, ifSound, with};
+ghost use Rattle.memory_world.specs.Lendings.{none, cleaning};
+ghost use Rattle.memory_world.specs.Contract.{Met, any, every, ifSound, with};
 ghost use Rattle.coro_clean.specs.Charge.{spent, chargeReady, ChargeFits, ReadyFits};
 use crate::finalizer::start_finalizer;
-use machine::fuel::arm_close;
-use machine::fuel::unbank;
-use memory::machine::Machine;
-use memory::machine::Sizes;
+use machine_state::fuel::arm_close;
+use machine_state::fuel::unbank;
+use memory_world::machine::Machine;
+use memory_world::machine::Sizes;
 use model::coro::Started;
 use model::machine::Charge;
 use model::machine::Fuel;
@@ -120,7 +120,7 @@ pub(crate) fn charge_ready(
     requires { ⌜ ReadyFits l (cleaning stack frames chain slots «saved_stack» «saved_frames» finalize now) m fuel pc ⌝ }
     ensures { λ r. ⌜ Met ifSound l (chargeReady pc) (cleaning stack frames chain slots «saved_stack» «saved_frames» finalize) (with m fuel) (with (r .machine) (r .fuel)) (r .answer) ⌝ }
 {
-    machine::frame::store_pc(frames, m, pc);
+    machine_state::frame::store_pc(frames, m, pc);
     let did = start_finalizer(
         stack,
         frames,

@@ -3,18 +3,18 @@ ghost use mathlib.Core.Path.{_≡_};
 ghost use Prim.Native.Nat.{_≤_};
 ghost use lib.ListN.{length, take};
 ghost use Rattle.model.specs.Cleanup.{startFinalizer};
-ghost use Rattle.memory.specs.Lendings.{cleaning};
-ghost use Rattle.memory.specs.Contract.{Met, Ok, any, every, ifSound, with};
+ghost use Rattle.memory_world.specs.Lendings.{cleaning};
+ghost use Rattle.memory_world.specs.Contract.{Met, Ok, any, every, ifSound, with};
 ghost use Rattle.coro_clean.specs.Start.{firstOf, starts, MayFits, SearchFits, queue, startNone, startAt, StartFits};
 use coro_enter::close::set_closing;
 use coro_enter::enter::coro_enter;
 use coro_enter::enter::refusal;
 use heap::heap::CoroPlace;
 use heap::value::Word;
-use machine::fuel::set_finalizing;
-use machine::fuel::unbank;
-use memory::machine::Machine;
-use memory::machine::Sizes;
+use machine_state::fuel::set_finalizing;
+use machine_state::fuel::unbank;
+use memory_world::machine::Machine;
+use memory_world::machine::Sizes;
 use model::coro::Started;
 use model::machine::Driver;
 use model::machine::Fuel;
@@ -66,7 +66,7 @@ pub(crate) fn start_none(finalize: &mut [u64], m: Machine, fuel: Fuel) -> StartD
     requires { ⌜ m .finalize ≤ length (now finalize) ⌝ }
     ensures { λ r. ⌜ every (λ l. Met any l startNone (queue finalize) (with m fuel) (with (r .machine) (r .fuel)) (r .answer)) ⌝ }
 {
-    tables::queue::take_front(finalize, m.finalize, m.finalize);
+    memory_tables::queue::take_front(finalize, m.finalize, m.finalize);
     let mut n = m;
     n.finalize = 0;
     let did = set_finalizing(n, fuel, false);
@@ -100,9 +100,9 @@ pub(crate) fn start_at(
     requires { ⌜ StartFits l (cleaning stack frames chain slots «saved_stack» «saved_frames» finalize now) m fuel i ⌝ }
     ensures { λ r. ⌜ Met ifSound l (startAt i) (cleaning stack frames chain slots «saved_stack» «saved_frames» finalize) (with m fuel) (with (r .machine) (r .fuel)) (r .answer) ⌝ }
 {
-    let v = tables::queue::word_at(finalize, i);
+    let v = memory_tables::queue::word_at(finalize, i);
     let taken = i + 1;
-    tables::queue::take_front(finalize, m.finalize, taken);
+    memory_tables::queue::take_front(finalize, m.finalize, taken);
     let mut n = m;
     n.finalize = m.finalize - taken;
     let did = coro_enter(

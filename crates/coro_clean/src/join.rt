@@ -1,15 +1,15 @@
 // coro.rs: spawn_task. 01: "Hand over". A coroutine joins a queue, once.
 ghost use Rattle.model.specs.Cleanup.{spawnTask};
 ghost use Rattle.model.specs.Added.{handOver};
-ghost use Rattle.memory.specs.Lendings.{tasks, cleanups};
-ghost use Rattle.memory.specs.Contract.{Met, any, every, only, with};
+ghost use Rattle.memory_world.specs.Lendings.{tasks, cleanups};
+ghost use Rattle.memory_world.specs.Contract.{Met, any, every, only, with};
 ghost use Rattle.coro_clean.specs.Join.{JoinFits};
 use heap::fault::Fault;
 use heap::heap::CoroPlace;
 use heap::value::Word;
-use machine::called::Called;
-use machine::fuel::set_finalizing;
-use memory::machine::Machine;
+use machine_state::called::Called;
+use machine_state::fuel::set_finalizing;
+use memory_world::machine::Machine;
 use model::call::Answer;
 use model::coro::WordOr;
 use model::machine::Fuel;
@@ -45,7 +45,7 @@ pub fn spawn_task(slots: &mut [u64], ready: &mut [u64], m: Machine, v: Word) -> 
                 };
             }
             heap::field::put_task(slots, i);
-            tables::queue::push_back(ready, m.ready, v.0);
+            memory_tables::queue::push_back(ready, m.ready, v.0);
             let mut n = m;
             n.ready = m.ready + 1;
             TaskDid {
@@ -84,7 +84,7 @@ pub fn hand_over(slots: &mut [u64], finalize: &mut [u64], m: Machine, fuel: Fuel
                 };
             }
             heap::field::put_finalized(slots, i);
-            tables::queue::push_back(finalize, m.finalize, v.0);
+            memory_tables::queue::push_back(finalize, m.finalize, v.0);
             let mut n = m;
             n.finalize = m.finalize + 1;
             let did = set_finalizing(n, fuel, m.finalizing);

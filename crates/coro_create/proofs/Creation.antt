@@ -36,32 +36,32 @@ use Rattle.model.specs.declared.coro.WordOr.{WordOr}
 use Rattle.model.specs.declared.machine.Cont.{Cont}
 use Rattle.model.specs.declared.machine.Frame.{Frame}
 use Rattle.model.specs.declared.machine.Fuel.{Fuel}
-use Rattle.soundness.proofs.Sound.{facts}
-use Rattle.soundness.proofs.Make.{length-newRegs, regs-widest}
-use Rattle.soundness.proofs.Held.{lowest-free}
-use Rattle.tables.specs.Layout.{functionIn, frameWords}
-use Rattle.tables.specs.Parts.{SavedStack, SavedFrames, RowIs, upward}
-use Rattle.tables.specs.Sizes.{framesSize}
-use Rattle.tables.proofs.Rowed.{rows-fill}
-use Rattle.tables.proofs.Fits.{row-inside, frames-row}
-use Rattle.memory.specs.Slots.{toObject, toSlots}
-use Rattle.memory.specs.Rows.{rowAt}
-use Rattle.memory.specs.Memory.{Lent, onSlots, onSaved, Rep, regsRows, framesRows}
-use Rattle.memory.specs.Contract.{Does}
-use Rattle.memory.specs.declared.machine.Machine.{Machine}
-use Rattle.memory.specs.declared.machine.Sizes.{Sizes}
-use Rattle.memory.proofs.Rows.{nobody}
-use Rattle.memory.proofs.Turn.{turn-seq}
-use Rattle.memory.proofs.Tables.{slots-are, rows-at, length-tabled}
-use Rattle.memory.proofs.Does.{does}
-use Rattle.machine.specs.Numbers.{heapOf, allocated}
+use Rattle.claims_sound.proofs.Sound.{facts}
+use Rattle.claims_sound.proofs.Make.{length-newRegs, regs-widest}
+use Rattle.claims_sound.proofs.Held.{lowest-free}
+use Rattle.memory_tables.specs.Layout.{functionIn, frameWords}
+use Rattle.memory_tables.specs.Parts.{SavedStack, SavedFrames, RowIs, upward}
+use Rattle.memory_tables.specs.Sizes.{framesSize}
+use Rattle.memory_tables.proofs.Rowed.{rows-fill}
+use Rattle.memory_tables.proofs.Fits.{row-inside, frames-row}
+use Rattle.memory_world.specs.Slots.{toObject, toSlots}
+use Rattle.memory_world.specs.Rows.{rowAt}
+use Rattle.memory_world.specs.Memory.{Lent, onSlots, onSaved, Rep, regsRows, framesRows}
+use Rattle.memory_world.specs.Contract.{Does}
+use Rattle.memory_world.specs.declared.machine.Machine.{Machine}
+use Rattle.memory_world.specs.declared.machine.Sizes.{Sizes}
+use Rattle.memory_world.proofs.Rows.{nobody}
+use Rattle.memory_world.proofs.Turn.{turn-seq}
+use Rattle.memory_world.proofs.Tables.{slots-are, rows-at, length-tabled}
+use Rattle.memory_world.proofs.Does.{does}
+use Rattle.machine_state.specs.Numbers.{heapOf, allocated}
 use Rattle.coro_create.specs.Numbers.{sequenced}
 use Rattle.coro_create.specs.Row.{heldIn}
 use Rattle.coro_create.specs.Create.{bytesOf, spotOf, newObject, copiedOf, WriteFits, Writes}
 use Rattle.coro_create.specs.declared.create.Spot.{Spot}
 use Rattle.coro_create.proofs.Held.{free-same}
-use Rattle.machine.proofs.Pushed.{alloc-done, alloc-lacks}
-use Rattle.machine.proofs.Allocation.{fits-same, full-same, alloc-refused, alloc-made}
+use Rattle.machine_state.proofs.Pushed.{alloc-done, alloc-lacks}
+use Rattle.machine_state.proofs.Allocation.{fits-same, full-same, alloc-refused, alloc-made}
 use Rattle.coro_create.proofs.Setting.{known, one-of, regs-is, numbers}
 use Rattle.coro_create.proofs.NewRow.{regs-new, frames-new, regs-written}
 

@@ -16,7 +16,7 @@ use Rattle.model.specs.Lists.{among}
 use Rattle.model.specs.State.{isFinished}
 use Rattle.model.specs.Object.{Object, asCoro}
 use Rattle.model.specs.Rows.{heldBy, heldRows, lowestFree}
-use Rattle.memory.specs.Slots.{toObject, toSlots}
+use Rattle.memory_world.specs.Slots.{toObject, toSlots}
 use Rattle.coro_create.specs.Row.{rowOf, heldIn, marked, lowestBy}
 
 -- ---- the pass over the slots

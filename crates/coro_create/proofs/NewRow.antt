@@ -16,10 +16,10 @@ use Rattle.model.specs.Lists.{among}
 use Rattle.model.specs.Object.{Object, asCoro}
 use Rattle.model.specs.Rows.{heldRows}
 use Rattle.model.specs.Coro.{newRegs, newCore, newRest}
-use Rattle.memory.specs.Rows.{savedBy, rowAt}
-use Rattle.memory.specs.Memory.{regsRows, framesRows}
-use Rattle.memory.proofs.Rows.{row-new, row-same}
-use Rattle.memory.proofs.Tables.{rows-set}
+use Rattle.memory_world.specs.Rows.{savedBy, rowAt}
+use Rattle.memory_world.specs.Memory.{regsRows, framesRows}
+use Rattle.memory_world.proofs.Rows.{row-new, row-same}
+use Rattle.memory_world.proofs.Tables.{rows-set}
 use Rattle.coro_create.specs.Create.{copiedOf}
 
 -- ---- a new coroutine

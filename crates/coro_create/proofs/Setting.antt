@@ -11,13 +11,13 @@ use Rattle.model.specs.Program.{Func, Setup, func, noFunc, isFunction, function
 use Rattle.model.specs.World.{World}
 use Rattle.model.specs.Sound.{sound}
 use Rattle.model.specs.declared.machine.Fuel.{Fuel}
-use Rattle.soundness.proofs.Tests.{and-left, no-false, each-at}
-use Rattle.soundness.proofs.Sound.{Sound, sound→, facts}
-use Rattle.tables.specs.Layout.{functionIn}
-use Rattle.tables.proofs.Setups.{functions-in, regs-in}
-use Rattle.memory.specs.Memory.{Lent, Rep, Room}
-use Rattle.memory.specs.declared.machine.Machine.{Machine}
-use Rattle.memory.specs.declared.machine.Sizes.{Sizes}
+use Rattle.claims_sound.proofs.Tests.{and-left, no-false, each-at}
+use Rattle.claims_sound.proofs.Sound.{Sound, sound→, facts}
+use Rattle.memory_tables.specs.Layout.{functionIn}
+use Rattle.memory_tables.proofs.Setups.{functions-in, regs-in}
+use Rattle.memory_world.specs.Memory.{Lent, Rep, Room}
+use Rattle.memory_world.specs.declared.machine.Machine.{Machine}
+use Rattle.memory_world.specs.declared.machine.Sizes.{Sizes}
 use Rattle.coro_create.specs.Create.{bytesOf}
 
 -- "registers 0-256"

@@ -12,8 +12,8 @@ use Rattle.model.specs.Coro.{coroCreate}
 use Rattle.model.specs.Exec.{keyAt, keyExact, autoKey}
 use Rattle.model.specs.Sound.{sound}
 use Rattle.model.specs.declared.coro.WordOr.{WordOr}
-use Rattle.soundness.proofs.Sound.{→sound}
-use Rattle.soundness.proofs.Make.{int-good, create-good}
+use Rattle.claims_sound.proofs.Sound.{→sound}
+use Rattle.claims_sound.proofs.Make.{int-good, create-good}
 use Rattle.coro_create.proofs.Setting.{known}
 
 pub create-sound : (f closure : ℕ) (args : List ℕ) (w : World) → sound w ≡ true → isFunction (w .setup) f ≡ true → sound (coroCreate f closure args w .world) ≡ true

@@ -20,15 +20,15 @@ use Rattle.heap.specs.declared.object.Object as H
 use Rattle.model.specs.Frames.{frame}
 use Rattle.model.specs.Rows.{lowestFree}
 use Rattle.model.specs.declared.machine.Cont.{Cont}
-use Rattle.tables.specs.Layout.{frameWords}
-use Rattle.memory.specs.Memory.{Lent, Beside, onSlots, onSaved, onSetup}
-use Rattle.memory.specs.Contract.{Ok, only}
-use Rattle.memory.specs.declared.machine.Machine.{Machine}
-use Rattle.memory.specs.declared.machine.Sizes.{Sizes}
-use Rattle.machine.specs.Numbers.{heapOf}
+use Rattle.memory_tables.specs.Layout.{frameWords}
+use Rattle.memory_world.specs.Memory.{Lent, Beside, onSlots, onSaved, onSetup}
+use Rattle.memory_world.specs.Contract.{Ok, only}
+use Rattle.memory_world.specs.declared.machine.Machine.{Machine}
+use Rattle.memory_world.specs.declared.machine.Sizes.{Sizes}
+use Rattle.machine_state.specs.Numbers.{heapOf}
 use Rattle.coro_create.specs.Row.{heldIn}
 use Rattle.coro_create.specs.declared.create.Spot.{Spot}
-use Rattle.memory.specs.Lendings.{making, plain}
+use Rattle.memory_world.specs.Lendings.{making, plain}
 
 -- 01: "8 times registers + C + F", or A for C
 abbrev pub bytesOf : ℕ → ℕ → ℕ → ℕ

@@ -5,8 +5,8 @@ ghost use lib.ListN.{take};
 ghost use Rattle.heap.specs.Heap.{slotsOf};
 ghost use Rattle.model.specs.Coro.{coroCreate};
 ghost use Rattle.coro_create.specs.Create.{newObject, bytesOf, SpotFits, spotOf, copiedOf, WriteFits, Writes, CreateFits};
-ghost use Rattle.memory.specs.Contract.{Met, ifSound, only};
-ghost use Rattle.memory.specs.Lendings.{making};
+ghost use Rattle.memory_world.specs.Contract.{Met, ifSound, only};
+ghost use Rattle.memory_world.specs.Lendings.{making};
 use crate::numbers::sequenced;
 use crate::row::lowest_free_row;
 use heap::fault::Fault;
@@ -14,10 +14,10 @@ use heap::object::CoroObj;
 use heap::object::CoroState;
 use heap::object::Object;
 use heap::value::Word;
-use machine::numbers::allocated;
-use machine::numbers::heap_of;
-use memory::machine::Machine;
-use memory::machine::Sizes;
+use machine_state::numbers::allocated;
+use machine_state::numbers::heap_of;
+use memory_world::machine::Machine;
+use memory_world::machine::Sizes;
 use model::coro::WordOr;
 use model::machine::Cont;
 use model::machine::Frame;
@@ -112,7 +112,7 @@ fn write_row(
 {
     let at = row * l.width;
     let k = copied(n, regs);
-    tables::runs::fill_row(saved_stack, at, regs, &args, k);
+    memory_tables::runs::fill_row(saved_stack, at, regs, &args, k);
     let body = Frame {
         func: f,
         pc: 0,
@@ -120,7 +120,7 @@ fn write_row(
         closure,
         cont: Cont::Coro,
     };
-    tables::frame::put_frame(saved_frames, row * l.depth, body);
+    memory_tables::frame::put_frame(saved_frames, row * l.depth, body);
 }
 
 // coro.rs: coro_create. The arguments are the first n words of args.
@@ -139,7 +139,7 @@ pub fn coro_create(
     requires { ⌜ CreateFits l (now slots) (now «saved_stack») (now «saved_frames») (now setup) m f n ⌝ }
     ensures { λ r. ⌜ Met ifSound l (coroCreate f closure (take n args)) (making slots «saved_stack» «saved_frames» setup) (only m) (only (r .machine)) (r .answer) ⌝ }
 {
-    let regs = tables::program::regs_at(setup, f as usize);
+    let regs = memory_tables::program::regs_at(setup, f as usize);
     match find_spot(slots, m, l, regs) {
         Spot::Lacks(g) => CreateDid {
             machine: m,

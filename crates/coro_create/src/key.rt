@@ -1,15 +1,15 @@
 // coro.rs: auto_key.
 ghost use Rattle.heap.specs.Heap.{Room};
 ghost use Rattle.model.specs.Exec.{autoKey};
-ghost use Rattle.machine.specs.Numbers.{heapOf};
-ghost use Rattle.memory.specs.Lendings.{table};
-ghost use Rattle.memory.specs.Contract.{Met, ifSound, only};
+ghost use Rattle.machine_state.specs.Numbers.{heapOf};
+ghost use Rattle.memory_world.specs.Lendings.{table};
+ghost use Rattle.memory_world.specs.Contract.{Met, ifSound, only};
 use heap::fault::Fault;
 use heap::int::Exact;
-use machine::numbers::allocated;
-use machine::numbers::heap_of;
-use memory::machine::Machine;
-use memory::machine::Sizes;
+use machine_state::numbers::allocated;
+use machine_state::numbers::heap_of;
+use memory_world::machine::Machine;
+use memory_world::machine::Sizes;
 use model::coro::AutoKey;
 
 // What a new key leaves of the numbers, and answers.

@@ -1,7 +1,7 @@
 // The sequence number among the machine's numbers.
 ghost use mathlib.Core.Path.{_≡_};
 ghost use Rattle.coro_create.specs.Numbers.{sequenced};
-use memory::machine::Machine;
+use memory_world::machine::Machine;
 
 // 01: "advances the 64-bit sequence number, wrapping"
 pub(crate) fn sequenced(m: Machine) -> Machine

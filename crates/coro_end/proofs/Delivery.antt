@@ -15,16 +15,16 @@ use Rattle.model.specs.declared.machine.Driver.{Driver}
 use Rattle.model.specs.declared.machine.Fuel.{Fuel}
 use Rattle.model.specs.declared.machine.Outcome.{Outcome}
 use Rattle.model.specs.declared.machine.Stop.{Stop}
-use Rattle.tables.specs.Does.{RegFits, Puts}
-use Rattle.memory.specs.Memory.{Lent, onStack, onFrames, Rep}
-use Rattle.memory.specs.Contract.{Does}
-use Rattle.memory.specs.declared.machine.Machine.{Machine}
-use Rattle.memory.specs.declared.machine.Sizes.{Sizes}
-use Rattle.memory.specs.Lendings.{top, plain}
-use Rattle.memory.specs.Contract.{any, only, every, Turns}
-use Rattle.memory.proofs.Turn.{turn-stack, turn-outcome}
-use Rattle.machine.specs.Send.{SendFits}
-use Rattle.memory.proofs.Does.{does}
+use Rattle.memory_tables.specs.Does.{RegFits, Puts}
+use Rattle.memory_world.specs.Memory.{Lent, onStack, onFrames, Rep}
+use Rattle.memory_world.specs.Contract.{Does}
+use Rattle.memory_world.specs.declared.machine.Machine.{Machine}
+use Rattle.memory_world.specs.declared.machine.Sizes.{Sizes}
+use Rattle.memory_world.specs.Lendings.{top, plain}
+use Rattle.memory_world.specs.Contract.{any, only, every, Turns}
+use Rattle.memory_world.proofs.Turn.{turn-stack, turn-outcome}
+use Rattle.machine_state.specs.Send.{SendFits}
+use Rattle.memory_world.proofs.Does.{does}
 use Rattle.coro_end.specs.Deliver.{iterYielded, stopped}
 
 -- ---- what is asked after a word was put into a register

@@ -25,25 +25,25 @@ use Rattle.model.specs.Heap.{changeAs, setCoro}
 use Rattle.model.specs.Coro.{inState, ended, finishCoroutine}
 use Rattle.model.specs.Sound.{rowWords, savedSizes, sound}
 use Rattle.model.specs.declared.machine.Fuel.{Fuel}
-use Rattle.soundness.proofs.Tests.{no-false, no-true, and-left, and-right, each-at, at-each}
-use Rattle.soundness.proofs.Point.{Points, finds}
-use Rattle.soundness.proofs.Sound.{sound→}
-use Rattle.tables.specs.Layout.{frameWords}
-use Rattle.tables.specs.Parts.{SavedStack, SavedFrames, RowIs, upward}
-use Rattle.tables.specs.Sizes.{framesSize}
-use Rattle.tables.proofs.Codes.{length-frame}
-use Rattle.tables.proofs.Parts.{length-upward}
-use Rattle.tables.proofs.Rowed.{rows-empty}
-use Rattle.tables.proofs.Fits.{row-inside}
-use Rattle.memory.specs.Slots.{toCoro, toSlots}
-use Rattle.memory.specs.Rows.{rowAt, Rowed}
-use Rattle.memory.specs.Memory.{Lent, Rep, onSlots, onSaved, regsRows, framesRows}
-use Rattle.memory.specs.declared.machine.Machine.{Machine}
-use Rattle.memory.specs.declared.machine.Sizes.{Sizes}
-use Rattle.memory.proofs.Tables.{slots-are, length-tabled}
-use Rattle.memory.proofs.Turn.{turn-slots}
-use Rattle.memory.proofs.Lookup.{There, there, lacks, regs-row, frames-row, row-below}
-use Rattle.memory.proofs.Slotted.{slot-inside, put-slots, object-rep}
+use Rattle.claims_sound.proofs.Tests.{no-false, no-true, and-left, and-right, each-at, at-each}
+use Rattle.claims_sound.proofs.Point.{Points, finds}
+use Rattle.claims_sound.proofs.Sound.{sound→}
+use Rattle.memory_tables.specs.Layout.{frameWords}
+use Rattle.memory_tables.specs.Parts.{SavedStack, SavedFrames, RowIs, upward}
+use Rattle.memory_tables.specs.Sizes.{framesSize}
+use Rattle.memory_tables.proofs.Codes.{length-frame}
+use Rattle.memory_tables.proofs.Parts.{length-upward}
+use Rattle.memory_tables.proofs.Rowed.{rows-empty}
+use Rattle.memory_tables.proofs.Fits.{row-inside}
+use Rattle.memory_world.specs.Slots.{toCoro, toSlots}
+use Rattle.memory_world.specs.Rows.{rowAt, Rowed}
+use Rattle.memory_world.specs.Memory.{Lent, Rep, onSlots, onSaved, regsRows, framesRows}
+use Rattle.memory_world.specs.declared.machine.Machine.{Machine}
+use Rattle.memory_world.specs.declared.machine.Sizes.{Sizes}
+use Rattle.memory_world.proofs.Tables.{slots-are, length-tabled}
+use Rattle.memory_world.proofs.Turn.{turn-slots}
+use Rattle.memory_world.proofs.Lookup.{There, there, lacks, regs-row, frames-row, row-below}
+use Rattle.memory_world.proofs.Slotted.{slot-inside, put-slots, object-rep}
 use Rattle.coro_end.specs.Finish.{endedAs, FreeFits, Freed}
 use Rattle.coro_end.proofs.Rowless.{disowned, regs-left, frames-left}
 

@@ -15,13 +15,13 @@ use Rattle.model.specs.Fuel.{setFinalizing}
 use Rattle.model.specs.declared.machine.Active.{Active}
 use Rattle.model.specs.declared.machine.Fuel.{Fuel}
 use Rattle.model.specs.declared.machine.Outcome.{Outcome}
-use Rattle.tables.specs.Parts.{Chain}
-use Rattle.memory.specs.Memory.{Lent, Rep}
-use Rattle.memory.specs.Numbers.{withTold}
-use Rattle.memory.specs.Told.{told}
-use Rattle.memory.specs.declared.machine.Machine.{Machine}
-use Rattle.memory.specs.declared.machine.Sizes.{Sizes}
-use Rattle.memory.proofs.Turn.{turn-chain, turn-outcome}
+use Rattle.memory_tables.specs.Parts.{Chain}
+use Rattle.memory_world.specs.Memory.{Lent, Rep}
+use Rattle.memory_world.specs.Numbers.{withTold}
+use Rattle.memory_world.specs.Told.{told}
+use Rattle.memory_world.specs.declared.machine.Machine.{Machine}
+use Rattle.memory_world.specs.declared.machine.Sizes.{Sizes}
+use Rattle.memory_world.proofs.Turn.{turn-chain, turn-outcome}
 use Rattle.coro_end.specs.Last.{endOn, endLast, failActive}
 use Rattle.coro_end.proofs.Innermost.{none-here}
 

@@ -17,15 +17,15 @@ use Rattle.model.specs.declared.machine.Driver.{Driver}
 use Rattle.model.specs.declared.machine.Frame.{Frame}
 use Rattle.model.specs.declared.machine.Fuel.{Fuel}
 use Rattle.model.specs.declared.machine.Stop.{Stop}
-use Rattle.soundness.proofs.Good.{Still}
-use Rattle.tables.specs.Layout.{activeIn}
-use Rattle.memory.specs.Memory.{Lent, Beside, onStack, onFrames, Rep}
-use Rattle.memory.specs.Lendings.{lent, plain}
-use Rattle.memory.specs.Contract.{Does, Turns, ifRowed, only}
-use Rattle.memory.specs.declared.machine.Machine.{Machine}
-use Rattle.memory.specs.declared.machine.Sizes.{Sizes}
-use Rattle.memory.proofs.Does.{does}
-use Rattle.machine.proofs.Frames.{chosen, passed}
+use Rattle.claims_sound.proofs.Good.{Still}
+use Rattle.memory_tables.specs.Layout.{activeIn}
+use Rattle.memory_world.specs.Memory.{Lent, Beside, onStack, onFrames, Rep}
+use Rattle.memory_world.specs.Lendings.{lent, plain}
+use Rattle.memory_world.specs.Contract.{Does, Turns, ifRowed, only}
+use Rattle.memory_world.specs.declared.machine.Machine.{Machine}
+use Rattle.memory_world.specs.declared.machine.Sizes.{Sizes}
+use Rattle.memory_world.proofs.Does.{does}
+use Rattle.machine_state.proofs.Frames.{chosen, passed}
 use Rattle.coro_end.specs.Deliver.{DriverFits}
 use Rattle.coro_end.specs.Finish.{FinishFits}
 use Rattle.coro_end.specs.Last.{ending, endOn, endLast}

@@ -11,19 +11,19 @@ use Rattle.model.specs.World.{World, withChain}
 use Rattle.model.specs.Coro.{inState, ended, finishCoroutine}
 use Rattle.model.specs.declared.machine.Active.{Active}
 use Rattle.model.specs.declared.machine.Fuel.{Fuel}
-use Rattle.soundness.proofs.Coros.{changed}
-use Rattle.soundness.proofs.Good.{Still, still}
-use Rattle.tables.specs.Layout.{activeIn}
-use Rattle.tables.specs.Parts.{Chain}
-use Rattle.tables.specs.Does.{ChainDo}
-use Rattle.tables.proofs.Decode.{top-active}
-use Rattle.memory.specs.Memory.{Lent, onChain, Rep}
-use Rattle.memory.specs.Rows.{Rowed}
-use Rattle.memory.specs.Numbers.{withActive}
-use Rattle.memory.specs.Lendings.{rows, plain}
-use Rattle.memory.specs.declared.machine.Machine.{Machine}
-use Rattle.memory.specs.declared.machine.Sizes.{Sizes}
-use Rattle.memory.proofs.Turn.{turn-chain}
+use Rattle.claims_sound.proofs.Coros.{changed}
+use Rattle.claims_sound.proofs.Good.{Still, still}
+use Rattle.memory_tables.specs.Layout.{activeIn}
+use Rattle.memory_tables.specs.Parts.{Chain}
+use Rattle.memory_tables.specs.Does.{ChainDo}
+use Rattle.memory_tables.proofs.Decode.{top-active}
+use Rattle.memory_world.specs.Memory.{Lent, onChain, Rep}
+use Rattle.memory_world.specs.Rows.{Rowed}
+use Rattle.memory_world.specs.Numbers.{withActive}
+use Rattle.memory_world.specs.Lendings.{rows, plain}
+use Rattle.memory_world.specs.declared.machine.Machine.{Machine}
+use Rattle.memory_world.specs.declared.machine.Sizes.{Sizes}
+use Rattle.memory_world.proofs.Turn.{turn-chain}
 use Rattle.coro_end.specs.Finish.{FinishFits}
 use Rattle.coro_end.specs.Last.{ending, InRows, endOn, endLast}
 use Rattle.coro_end.proofs.Known.{finish-rowed}

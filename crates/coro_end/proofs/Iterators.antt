@@ -20,15 +20,15 @@ use Rattle.model.specs.Object.{Object, isFilled}
 use Rattle.model.specs.World.{World}
 use Rattle.model.specs.Heap.{objectAt, object, changeIterIn}
 use Rattle.model.specs.declared.machine.Fuel.{Fuel}
-use Rattle.soundness.proofs.Point.{at, objectIn, Points, points, pointed}
-use Rattle.memory.specs.Slots.{toObject, toSlots}
-use Rattle.memory.specs.Memory.{Lent, Rep, onSlots}
-use Rattle.memory.specs.declared.machine.Machine.{Machine}
-use Rattle.memory.specs.declared.machine.Sizes.{Sizes}
-use Rattle.memory.proofs.Slots.{at-map, get-same}
-use Rattle.memory.proofs.Tables.{slots-are}
-use Rattle.memory.proofs.Lookup.{place-slot}
-use Rattle.memory.proofs.Slotted.{object-rep}
+use Rattle.claims_sound.proofs.Point.{at, objectIn, Points, points, pointed}
+use Rattle.memory_world.specs.Slots.{toObject, toSlots}
+use Rattle.memory_world.specs.Memory.{Lent, Rep, onSlots}
+use Rattle.memory_world.specs.declared.machine.Machine.{Machine}
+use Rattle.memory_world.specs.declared.machine.Sizes.{Sizes}
+use Rattle.memory_world.proofs.Slots.{at-map, get-same}
+use Rattle.memory_world.proofs.Tables.{slots-are}
+use Rattle.memory_world.proofs.Lookup.{place-slot}
+use Rattle.memory_world.proofs.Slotted.{object-rep}
 use Rattle.coro_end.specs.Iter.{asIter, iterBy, iterOf}
 use Rattle.coro_end.specs.declared.iter.Iterator.{Iterator}
 use Rattle.coro_end.specs.declared.iter.Iterator.the-variants as I

@@ -21,21 +21,21 @@ use Rattle.model.specs.Coro.{inState, ended, finishCoroutine}
 use Rattle.model.specs.Sound.{rowWords, savedSizes, frameNames, sound}
 use Rattle.model.specs.declared.machine.Active.{Active}
 use Rattle.model.specs.declared.machine.Frame.{Frame}
-use Rattle.soundness.proofs.Tests.{no-false, no-true, and-left, and-right, both}
-use Rattle.soundness.proofs.Point.{at, Points, finds}
-use Rattle.soundness.proofs.Held.{Rows}
-use Rattle.soundness.proofs.Slots.{freed-rows}
-use Rattle.soundness.proofs.Stand.{Stands, plain, body, names-of}
-use Rattle.soundness.proofs.Tower.{stands-within}
-use Rattle.soundness.proofs.Sound.{Sound, sound→}
-use Rattle.soundness.proofs.Coros.{changed}
-use Rattle.memory.specs.Memory.{Lent, Beside, Rep}
-use Rattle.memory.specs.declared.machine.Machine.{Machine}
-use Rattle.memory.specs.declared.machine.Sizes.{Sizes}
+use Rattle.claims_sound.proofs.Tests.{no-false, no-true, and-left, and-right, both}
+use Rattle.claims_sound.proofs.Point.{at, Points, finds}
+use Rattle.claims_sound.proofs.Held.{Rows}
+use Rattle.claims_sound.proofs.Slots.{freed-rows}
+use Rattle.claims_sound.proofs.Stand.{Stands, plain, body, names-of}
+use Rattle.claims_sound.proofs.Tower.{stands-within}
+use Rattle.claims_sound.proofs.Sound.{Sound, sound→}
+use Rattle.claims_sound.proofs.Coros.{changed}
+use Rattle.memory_world.specs.Memory.{Lent, Beside, Rep}
+use Rattle.memory_world.specs.declared.machine.Machine.{Machine}
+use Rattle.memory_world.specs.declared.machine.Sizes.{Sizes}
 use Rattle.coro_end.specs.Finish.{FinishFits}
 use Rattle.coro_end.specs.Returned.{lastLies, ReturnFits}
 use Rattle.coro_end.proofs.Ending.{sound-rowed}
-use Rattle.memory.specs.Rows.{Rowed}
+use Rattle.memory_world.specs.Rows.{Rowed}
 
 -- ---- the rows stay in order when a coroutine ends
 

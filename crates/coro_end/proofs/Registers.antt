@@ -11,15 +11,15 @@ use Rattle.model.specs.Frames.{topPc}
 use Rattle.model.specs.Sound.{liesUnder, driverLies}
 use Rattle.model.specs.declared.machine.Driver.{Driver}
 use Rattle.model.specs.declared.machine.Frame.{Frame}
-use Rattle.soundness.proofs.Tests.{no-false, and-left, and-right}
-use Rattle.tables.specs.Layout.{frameWords}
-use Rattle.tables.specs.Parts.{Stack, Frames}
-use Rattle.tables.specs.Does.{RegFits}
-use Rattle.tables.proofs.Codes.{length-frame}
-use Rattle.tables.proofs.Parts.{top-get}
-use Rattle.tables.proofs.Doing.{reg-fits}
-use Rattle.memory.specs.declared.machine.Machine.{Machine}
-use Rattle.machine.specs.Send.{SendFits}
+use Rattle.claims_sound.proofs.Tests.{no-false, and-left, and-right}
+use Rattle.memory_tables.specs.Layout.{frameWords}
+use Rattle.memory_tables.specs.Parts.{Stack, Frames}
+use Rattle.memory_tables.specs.Does.{RegFits}
+use Rattle.memory_tables.proofs.Codes.{length-frame}
+use Rattle.memory_tables.proofs.Parts.{top-get}
+use Rattle.memory_tables.proofs.Doing.{reg-fits}
+use Rattle.memory_world.specs.declared.machine.Machine.{Machine}
+use Rattle.machine_state.specs.Send.{SendFits}
 use Rattle.coro_end.specs.Deliver.{DriverFits}
 
 module _ (xs stack frames : List ℕ) (height depth r : ℕ) (s : Stack xs stack height) where

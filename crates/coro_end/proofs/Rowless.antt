@@ -14,11 +14,11 @@ use Rattle.model.specs.Lists.{distinct}
 use Rattle.model.specs.State.{isFinished}
 use Rattle.model.specs.Object.{Core, Rest, Object, Is, asCoro}
 use Rattle.model.specs.Rows.{heldRows}
-use Rattle.soundness.proofs.Point.{at, Points}
-use Rattle.memory.specs.Rows.{noRow, owns, rowAt}
-use Rattle.memory.specs.Memory.{regsRows, framesRows}
-use Rattle.memory.proofs.Rows.{row-left, row-other}
-use Rattle.memory.proofs.Tables.{rows-set}
+use Rattle.claims_sound.proofs.Point.{at, Points}
+use Rattle.memory_world.specs.Rows.{noRow, owns, rowAt}
+use Rattle.memory_world.specs.Memory.{regsRows, framesRows}
+use Rattle.memory_world.proofs.Rows.{row-left, row-other}
+use Rattle.memory_world.proofs.Tables.{rows-set}
 
 -- a finished coroutine owns no row
 pub disowned : (k : Core) (r : Rest) → isFinished (k .state) ≡ true → (n : ℕ) → owns n (Is k r) ≡ false

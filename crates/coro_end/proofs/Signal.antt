@@ -11,10 +11,10 @@ use Rattle.heap.specs.declared.object.CoroObj.{CoroObj}
 use Rattle.model.specs.World.{World}
 use Rattle.model.specs.Heap.{coro}
 use Rattle.model.specs.Coro.{closedBy}
-use Rattle.memory.specs.Slots.{toSlots}
-use Rattle.memory.specs.Memory.{Slots}
-use Rattle.memory.proofs.Tables.{slots-are}
-use Rattle.memory.proofs.Lookup.{there, lacks}
+use Rattle.memory_world.specs.Slots.{toSlots}
+use Rattle.memory_world.specs.Memory.{Slots}
+use Rattle.memory_world.proofs.Tables.{slots-are}
+use Rattle.memory_world.proofs.Lookup.{there, lacks}
 
 module _ (w : World) (ws : List ℕ) (n v value : ℕ) (s : Slots (toSlots (w .slots)) ws n) where
   pub none-closed : (f : Fault) → RV.Not f ≡ coroOf (slotsOf n ws) v → false ≡ closedBy (coro w v) value

@@ -11,10 +11,10 @@ use Rattle.model.specs.Coro.{coroSend}
 use Rattle.model.specs.declared.machine.Driver.{Driver}
 use Rattle.model.specs.declared.machine.Outcome.{Outcome}
 use Rattle.model.specs.declared.machine.Stop.{Stop}
-use Rattle.tables.specs.Does.{RegFits}
-use Rattle.memory.specs.Told.{told}
-use Rattle.memory.specs.declared.machine.Machine.{Machine}
-use Rattle.machine.specs.Send.{SendFits}
+use Rattle.memory_tables.specs.Does.{RegFits}
+use Rattle.memory_world.specs.Told.{told}
+use Rattle.memory_world.specs.declared.machine.Machine.{Machine}
+use Rattle.machine_state.specs.Send.{SendFits}
 
 -- iter_next's two registers lie in the top frame, and the slots in the words
 pub record IterFits (stack frames slots : List ℕ) (m : Machine) (has val : ℕ) : Type 0 where

@@ -8,11 +8,11 @@ use Rattle.lists.specs.Parts.{splice}
 use Rattle.heap.specs.declared.object.CoroObj.{CoroObj}
 use Rattle.heap.specs.declared.object.CoroState.{CoroState}
 use Rattle.model.specs.State.{isFinished}
-use Rattle.memory.specs.Memory.{Lent, Beside}
-use Rattle.memory.specs.Rows.{Rowed}
-use Rattle.memory.specs.Contract.{SomeWorld, only}
-use Rattle.memory.specs.declared.machine.Machine.{Machine}
-use Rattle.memory.specs.declared.machine.Sizes.{Sizes}
+use Rattle.memory_world.specs.Memory.{Lent, Beside}
+use Rattle.memory_world.specs.Rows.{Rowed}
+use Rattle.memory_world.specs.Contract.{SomeWorld, only}
+use Rattle.memory_world.specs.declared.machine.Machine.{Machine}
+use Rattle.memory_world.specs.declared.machine.Sizes.{Sizes}
 
 -- a world whose rows are in order is held, and the new state is an end
 pub record FinishFits (l : Sizes) (M : Beside → Lent) (m : Machine) (s : CoroState) : Type 0 where

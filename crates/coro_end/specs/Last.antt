@@ -5,8 +5,8 @@ use Rattle.heap.specs.declared.object.CoroState.{CoroState}
 use Rattle.model.specs.World.{World, withChain}
 use Rattle.model.specs.Coro.{finishCoroutine, failAll}
 use Rattle.model.specs.declared.machine.Active.{Active}
-use Rattle.memory.specs.Rows.{Rowed}
-use Rattle.memory.specs.Memory.{Lent, Beside, onChain, onSlots, onSaved}
+use Rattle.memory_world.specs.Rows.{Rowed}
+use Rattle.memory_world.specs.Memory.{Lent, Beside, onChain, onSlots, onSaved}
 
 -- the chain, the slots and the rows are lent
 abbrev pub ending : {X : Type 0} → X → X → X → X → (X → List ℕ) → Beside → Lent

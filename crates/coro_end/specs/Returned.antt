@@ -8,11 +8,11 @@ use Rattle.model.specs.Frames.{topPc}
 use Rattle.model.specs.Sound.{driverLies}
 use Rattle.model.specs.declared.machine.Active.{Active}
 use Rattle.model.specs.declared.machine.Frame.{Frame}
-use Rattle.memory.specs.Memory.{Lent, Beside}
-use Rattle.memory.specs.Rows.{Rowed}
-use Rattle.memory.specs.Contract.{SomeWorld, only}
-use Rattle.memory.specs.declared.machine.Machine.{Machine}
-use Rattle.memory.specs.declared.machine.Sizes.{Sizes}
+use Rattle.memory_world.specs.Memory.{Lent, Beside}
+use Rattle.memory_world.specs.Rows.{Rowed}
+use Rattle.memory_world.specs.Contract.{SomeWorld, only}
+use Rattle.memory_world.specs.declared.machine.Machine.{Machine}
+use Rattle.memory_world.specs.declared.machine.Sizes.{Sizes}
 
 -- the registers of the innermost coroutine's driver lie in the top frame
 abbrev pub lastLies : List Active → ℕ → List Frame → Bool

@@ -1,15 +1,15 @@
 // coro.rs: abort_coros.
 ghost use Rattle.model.specs.Coro.{abortCoros};
-ghost use Rattle.memory.specs.Contract.{SomeWorld, Leaves, ifRowed, only, with};
+ghost use Rattle.memory_world.specs.Contract.{SomeWorld, Leaves, ifRowed, only, with};
 ghost use Rattle.coro_end.specs.Last.{InRows, ending, failActive};
 use crate::last::end_last;
 use heap::object::CoroState;
 use heap::value::Word;
-use machine::fuel::FuelDid;
-use machine::fuel::set_finalizing;
-use memory::machine::Machine;
-use memory::machine::Sizes;
-use memory::machine::Told;
+use machine_state::fuel::FuelDid;
+use machine_state::fuel::set_finalizing;
+use memory_world::machine::Machine;
+use memory_world::machine::Sizes;
+use memory_world::machine::Told;
 use model::machine::Fuel;
 
 // Every active coroutine fails, from the innermost on.

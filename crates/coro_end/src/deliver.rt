@@ -6,20 +6,20 @@ ghost use Rattle.heap.specs.Heap.{TableFits};
 ghost use Rattle.model.specs.Coro.{outcomeOf, deliver, deliverReturn};
 ghost use Rattle.model.specs.declared.machine.Driver.the-variants.{Resume, Iter};
 ghost use Rattle.model.specs.declared.machine.Outcome.the-variants.{Some};
-ghost use Rattle.machine.specs.Send.{SendFits};
-ghost use Rattle.memory.specs.Told.{told};
+ghost use Rattle.machine_state.specs.Send.{SendFits};
+ghost use Rattle.memory_world.specs.Told.{told};
 ghost use Rattle.coro_end.specs.Deliver.{IterFits, DriverFits, iterYielded, iterReturned, stopped};
-ghost use Rattle.memory.specs.Lendings.{top, topTable};
-ghost use Rattle.memory.specs.Contract.{Leaves, Met, any, every, only, with};
+ghost use Rattle.memory_world.specs.Lendings.{top, topTable};
+ghost use Rattle.memory_world.specs.Contract.{Leaves, Met, any, every, only, with};
 use crate::iter::set_done;
 use crate::iter::set_key;
 use heap::fault::Fault;
 use heap::value::Word;
-use machine::fuel::FuelDid;
-use machine::fuel::set_finalizing;
-use machine::send::coro_send;
-use memory::machine::Machine;
-use memory::machine::Told;
+use machine_state::fuel::FuelDid;
+use machine_state::fuel::set_finalizing;
+use machine_state::send::coro_send;
+use memory_world::machine::Machine;
+use memory_world::machine::Told;
 use model::coro::Event;
 use model::machine::Driver;
 use model::machine::Fuel;
@@ -115,7 +115,7 @@ pub(crate) fn iter_yielded(
     ensures { λ _. ⌜ every (λ l. Leaves any l (iterYielded has val iter payload key) (topTable stack frames slots) (only m) (only m)) ⌝ }
 {
     set_key(slots, m, Word(iter), key);
-    tables::stack::put_reg(stack, frames, m.height, m.depth, val as usize, payload);
+    memory_tables::stack::put_reg(stack, frames, m.height, m.depth, val as usize, payload);
     coro_send(stack, frames, m, has, 1);
 }
 

@@ -5,17 +5,17 @@ ghost use Rattle.heap.specs.Heap.{TableFits};
 ghost use Rattle.model.specs.Heap.{coro};
 ghost use Rattle.model.specs.Coro.{closedBy, failTo, coroEscaped};
 ghost use Rattle.coro_end.specs.Returned.{ReturnFits};
-ghost use Rattle.memory.specs.Lendings.{none, six, table};
-ghost use Rattle.memory.specs.Contract.{Met, Reads, any, every, ifRowed, only, with};
+ghost use Rattle.memory_world.specs.Lendings.{none, six, table};
+ghost use Rattle.memory_world.specs.Contract.{Met, Reads, any, every, ifRowed, only, with};
 use crate::deliver::stopped;
 use crate::last::end_last;
 use crate::returned::coro_returned;
 use heap::heap::Coroutine;
 use heap::object::CoroState;
 use heap::value::Word;
-use machine::fuel::set_finalizing;
-use memory::machine::Machine;
-use memory::machine::Sizes;
+use machine_state::fuel::set_finalizing;
+use memory_world::machine::Machine;
+use memory_world::machine::Sizes;
 use model::machine::Driver;
 use model::machine::Fuel;
 use model::machine::Stop;
@@ -108,7 +108,7 @@ pub fn coro_escaped(
             answer: false,
         };
     }
-    let last = tables::active::active_at(chain, m.active - 1);
+    let last = memory_tables::active::active_at(chain, m.active - 1);
     let d = last.driver;
     if closed_by(slots, m, Word(last.coro), value) {
         let did = coro_returned(

@@ -8,17 +8,17 @@ ghost use Rattle.heap.specs.Word.{tagOf};
 ghost use Rattle.heap.specs.declared.object.Object.the-variants.{Coro};
 ghost use Rattle.model.specs.Coro.{finishCoroutine};
 ghost use Rattle.coro_end.specs.Finish.{FinishFits, endedAs, RowFits, Cleared, FreeFits, Freed};
-ghost use Rattle.memory.specs.Lendings.{rows};
-ghost use Rattle.memory.specs.Contract.{Leaves, ifRowed, only};
+ghost use Rattle.memory_world.specs.Lendings.{rows};
+ghost use Rattle.memory_world.specs.Contract.{Leaves, ifRowed, only};
 use heap::heap::Coroutine;
 use heap::object::CoroObj;
 use heap::object::CoroState;
 use heap::object::Object;
 use heap::value::Obj;
 use heap::value::Word;
-use memory::machine::Machine;
-use memory::machine::Sizes;
-use tables::runs::clear_part;
+use memory_tables::runs::clear_part;
+use memory_world::machine::Machine;
+use memory_world::machine::Sizes;
 
 // The words of a row become 0.
 pub(crate) fn clear_row(saved_stack: &mut [u64], saved_frames: &mut [u64], l: Sizes, c: CoroObj)

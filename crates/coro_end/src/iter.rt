@@ -8,14 +8,14 @@ ghost use Rattle.heap.specs.Word.{tagOf};
 ghost use Rattle.heap.specs.declared.object.Object.the-variants.{Iter};
 ghost use Rattle.model.specs.Heap.{setKey, setDone};
 ghost use Rattle.coro_end.specs.Iter.{iterOf};
-ghost use Rattle.memory.specs.Lendings.{table};
-ghost use Rattle.memory.specs.Contract.{Leaves, any, every, only};
+ghost use Rattle.memory_world.specs.Lendings.{table};
+ghost use Rattle.memory_world.specs.Contract.{Leaves, any, every, only};
 use heap::heap::Place;
 use heap::object::Object;
 use heap::value::Obj;
 use heap::value::Opt;
 use heap::value::Word;
-use memory::machine::Machine;
+use memory_world::machine::Machine;
 
 // The iterator that a word names: its slot, and what it holds.
 pub enum Iterator {

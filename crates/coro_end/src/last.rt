@@ -1,12 +1,12 @@
 // coro.rs: what coro_returned, coro_escaped and abort_coros share: the innermost coroutine leaves the chain, and ends.
 ghost use Rattle.coro_end.specs.Finish.{FinishFits};
 ghost use Rattle.coro_end.specs.Last.{ending, endLast};
-ghost use Rattle.memory.specs.Contract.{Leaves, ifRowed, only};
+ghost use Rattle.memory_world.specs.Contract.{Leaves, ifRowed, only};
 use crate::finish::finish_coroutine;
 use heap::object::CoroState;
 use heap::value::Word;
-use memory::machine::Machine;
-use memory::machine::Sizes;
+use memory_world::machine::Machine;
+use memory_world::machine::Sizes;
 
 // The innermost coroutine is taken off the chain, and ends.
 pub(crate) fn end_last(
@@ -25,8 +25,8 @@ pub(crate) fn end_last(
     if m.active == 0 {
         return m;
     }
-    let last = tables::active::active_at(chain, m.active - 1);
-    tables::chain::pop_active(chain, m.active);
+    let last = memory_tables::active::active_at(chain, m.active - 1);
+    memory_tables::chain::pop_active(chain, m.active);
     let mut n = m;
     n.active = m.active - 1;
     let v = Word(last.coro);

@@ -1,14 +1,14 @@
 // coro.rs: coro_returned. The body's frame has been popped.
 ghost use Rattle.model.specs.Coro.{coroReturned};
 ghost use Rattle.coro_end.specs.Returned.{ReturnFits};
-ghost use Rattle.memory.specs.Lendings.{six};
-ghost use Rattle.memory.specs.Contract.{Leaves, ifRowed, with};
+ghost use Rattle.memory_world.specs.Lendings.{six};
+ghost use Rattle.memory_world.specs.Contract.{Leaves, ifRowed, with};
 use crate::deliver::deliver_return;
 use crate::last::end_last;
 use heap::object::CoroState;
-use machine::fuel::FuelDid;
-use memory::machine::Machine;
-use memory::machine::Sizes;
+use machine_state::fuel::FuelDid;
+use memory_world::machine::Machine;
+use memory_world::machine::Sizes;
 use model::machine::Fuel;
 
 // The innermost coroutine ends, and its result goes to whoever drove it.
@@ -30,7 +30,7 @@ pub fn coro_returned(
     if m.active == 0 {
         return FuelDid { machine: m, fuel };
     }
-    let last = tables::active::active_at(chain, m.active - 1);
+    let last = memory_tables::active::active_at(chain, m.active - 1);
     let d = last.driver;
     let s = CoroState::Returned;
     let n = end_last(chain, slots, saved_stack, saved_frames, m, l, s, value);

@@ -16,9 +16,9 @@ use Rattle.model.specs.Cleanup.{isEntered}
 use Rattle.model.specs.declared.coro.Entered.{Entered}
 use Rattle.model.specs.declared.machine.Driver.{Driver}
 use Rattle.model.specs.declared.machine.Fuel.{Fuel}
-use Rattle.memory.specs.Memory.{Lent, Rep}
-use Rattle.memory.specs.declared.machine.Machine.{Machine}
-use Rattle.memory.specs.declared.machine.Sizes.{Sizes}
+use Rattle.memory_world.specs.Memory.{Lent, Rep}
+use Rattle.memory_world.specs.declared.machine.Machine.{Machine}
+use Rattle.memory_world.specs.declared.machine.Sizes.{Sizes}
 use Rattle.coro_enter.specs.Enter.{refusalOf}
 use Rattle.coro_enter.proofs.Entry.{in-world, verdict, unfit, same-verdict, model-enter}
 

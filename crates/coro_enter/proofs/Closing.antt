@@ -13,10 +13,10 @@ use Rattle.model.specs.World.{World}
 use Rattle.model.specs.Heap.{changeCoro}
 use Rattle.model.specs.Cleanup.{close}
 use Rattle.model.specs.declared.machine.Fuel.{Fuel}
-use Rattle.memory.specs.Memory.{Lent, Rep, onSlots}
-use Rattle.memory.specs.declared.machine.Machine.{Machine}
-use Rattle.memory.specs.declared.machine.Sizes.{Sizes}
-use Rattle.memory.proofs.Slotted.{placed-words, marks-changed}
+use Rattle.memory_world.specs.Memory.{Lent, Rep, onSlots}
+use Rattle.memory_world.specs.declared.machine.Machine.{Machine}
+use Rattle.memory_world.specs.declared.machine.Sizes.{Sizes}
+use Rattle.memory_world.proofs.Slotted.{placed-words, marks-changed}
 
 pub closing-rep : (l : Sizes) (M : Lent) (m : Machine) (f : Fuel) (v : ℕ) (w : World) → Rep l w M m f → (i : ℕ) → L.At i ≡ placeOf (coroOf (slotsOf (m .count) (M .slots)) v)
     → (signal : ℕ) (slots′ : List ℕ) → slots′ ≡ putChunk width (M .slots) i (closingWords signal (chunkAt width (M .slots) i))

@@ -36,32 +36,32 @@ use Rattle.model.specs.declared.machine.Cont.{Cont}
 use Rattle.model.specs.declared.machine.Driver.{Driver}
 use Rattle.model.specs.declared.machine.Frame.{Frame}
 use Rattle.model.specs.declared.machine.Fuel.{Fuel}
-use Rattle.soundness.proofs.Tests.{no-false, no-true, and-left, and-right, or-first, or-second}
-use Rattle.soundness.proofs.Point.{Points, finds}
-use Rattle.soundness.proofs.Stand.{chained}
-use Rattle.soundness.proofs.Sound.{Sound, sound→}
-use Rattle.soundness.proofs.Coros.{object-ok}
-use Rattle.soundness.proofs.States.{resumable-held}
-use Rattle.tables.specs.Layout.{frameWords}
-use Rattle.tables.specs.Parts.{Frames, Chain, SavedStack, SavedFrames, RowIs, upward}
-use Rattle.tables.specs.Does.{ChainDo, StackEntered, FramesEntered}
-use Rattle.tables.specs.Sizes.{framesSize}
-use Rattle.tables.proofs.Codes.{length-frame}
-use Rattle.tables.proofs.Parts.{length-upward}
-use Rattle.tables.proofs.Fits.{row-inside, enter-fits}
-use Rattle.memory.specs.Slots.{toSlot, toSlots}
-use Rattle.memory.specs.Memory.{Lent, Beside, Slots, Rep, Room, regsRows, framesRows}
-use Rattle.memory.specs.Contract.{Does, Ok, only}
-use Rattle.memory.specs.Rows.{rowAt}
-use Rattle.memory.specs.declared.machine.Machine.{Machine}
-use Rattle.memory.specs.declared.machine.Sizes.{Sizes}
-use Rattle.memory.proofs.Slots.{at-map, put-same}
-use Rattle.memory.proofs.Tables.{slots-are, slots-set, length-tabled}
-use Rattle.memory.proofs.Lookup.{There, there, there-words, lacks, regs-row, frames-row, row-below, regs-set, frames-set}
+use Rattle.claims_sound.proofs.Tests.{no-false, no-true, and-left, and-right, or-first, or-second}
+use Rattle.claims_sound.proofs.Point.{Points, finds}
+use Rattle.claims_sound.proofs.Stand.{chained}
+use Rattle.claims_sound.proofs.Sound.{Sound, sound→}
+use Rattle.claims_sound.proofs.Coros.{object-ok}
+use Rattle.claims_sound.proofs.States.{resumable-held}
+use Rattle.memory_tables.specs.Layout.{frameWords}
+use Rattle.memory_tables.specs.Parts.{Frames, Chain, SavedStack, SavedFrames, RowIs, upward}
+use Rattle.memory_tables.specs.Does.{ChainDo, StackEntered, FramesEntered}
+use Rattle.memory_tables.specs.Sizes.{framesSize}
+use Rattle.memory_tables.proofs.Codes.{length-frame}
+use Rattle.memory_tables.proofs.Parts.{length-upward}
+use Rattle.memory_tables.proofs.Fits.{row-inside, enter-fits}
+use Rattle.memory_world.specs.Slots.{toSlot, toSlots}
+use Rattle.memory_world.specs.Memory.{Lent, Beside, Slots, Rep, Room, regsRows, framesRows}
+use Rattle.memory_world.specs.Contract.{Does, Ok, only}
+use Rattle.memory_world.specs.Rows.{rowAt}
+use Rattle.memory_world.specs.declared.machine.Machine.{Machine}
+use Rattle.memory_world.specs.declared.machine.Sizes.{Sizes}
+use Rattle.memory_world.proofs.Slots.{at-map, put-same}
+use Rattle.memory_world.proofs.Tables.{slots-are, slots-set, length-tabled}
+use Rattle.memory_world.proofs.Lookup.{There, there, there-words, lacks, regs-row, frames-row, row-below, regs-set, frames-set}
 use Rattle.coro_enter.specs.Enter.{refusalOf, enteredAs, grown, MoveFits, Moves}
-use Rattle.machine.proofs.Bases.{bases-under}
-use Rattle.memory.proofs.Does.{does}
-use Rattle.memory.proofs.Turn.{turn-stack, turn-frames, turn-chain, turn-slots}
+use Rattle.machine_state.proofs.Bases.{bases-under}
+use Rattle.memory_world.proofs.Does.{does}
+use Rattle.memory_world.proofs.Turn.{turn-stack, turn-frames, turn-chain, turn-slots}
 
 -- its record when it runs: nothing is saved any more
 abbrev running : CoroObj → CoroObj

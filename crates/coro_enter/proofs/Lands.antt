@@ -22,12 +22,12 @@ use Rattle.model.specs.Sound.{sound, basesOk, frameNames, contsLie, catchesLie,
 use Rattle.model.specs.declared.coro.Entered.{Entered}
 use Rattle.model.specs.declared.machine.Driver.{Driver}
 use Rattle.model.specs.declared.machine.Frame.{Frame}
-use Rattle.soundness.proofs.Tests.{no-false, no-true, and-left, and-right, or-first, or-second, picked}
-use Rattle.soundness.proofs.Point.{finds}
-use Rattle.soundness.proofs.Sound.{Sound, sound→, →sound}
-use Rattle.soundness.proofs.Coros.{object-ok}
-use Rattle.soundness.proofs.Tower.{store-sound}
-use Rattle.machine.proofs.Lands.{Lands}
+use Rattle.claims_sound.proofs.Tests.{no-false, no-true, and-left, and-right, or-first, or-second, picked}
+use Rattle.claims_sound.proofs.Point.{finds}
+use Rattle.claims_sound.proofs.Sound.{Sound, sound→, →sound}
+use Rattle.claims_sound.proofs.Coros.{object-ok}
+use Rattle.claims_sound.proofs.Tower.{store-sound}
+use Rattle.machine_state.proofs.Lands.{Lands}
 
 suspended-of : (s : CoroState) → isResumable s ≡ true → isCreated s ≡ false → isSuspended s ≡ true
 suspended-of CoroState.Created p q = no-true q

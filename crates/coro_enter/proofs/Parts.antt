@@ -11,8 +11,8 @@ use Rattle.heap.specs.declared.object.CoroObj.{CoroObj}
 use Rattle.heap.specs.declared.object.CoroState.{CoroState}
 use Rattle.model.specs.State.{isCreated, isResumable}
 use Rattle.model.specs.declared.coro.Entered.{Entered}
-use Rattle.soundness.proofs.Tests.{no-false, no-true}
-use Rattle.memory.specs.declared.machine.Sizes.{Sizes}
+use Rattle.claims_sound.proofs.Tests.{no-false, no-true}
+use Rattle.memory_world.specs.declared.machine.Sizes.{Sizes}
 use Rattle.coro_enter.specs.Enter.{refusalOf, enteredAs}
 
 abbrev verdict : Bool → Bool → Bool → Bool → Fault

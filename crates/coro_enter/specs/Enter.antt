@@ -9,9 +9,9 @@ use Rattle.heap.specs.declared.fault.Fault.{Fault}
 use Rattle.heap.specs.declared.object.CoroObj.{CoroObj}
 use Rattle.model.specs.State.{isCreated, isResumable}
 use Rattle.model.specs.declared.coro.Entered.{Entered}
-use Rattle.tables.specs.Does.{EntersStack, EntersFrames, EnterFits}
-use Rattle.memory.specs.declared.machine.Machine.{Machine}
-use Rattle.memory.specs.declared.machine.Sizes.{Sizes}
+use Rattle.memory_tables.specs.Does.{EntersStack, EntersFrames, EnterFits}
+use Rattle.memory_world.specs.declared.machine.Machine.{Machine}
+use Rattle.memory_world.specs.declared.machine.Sizes.{Sizes}
 
 -- why it is not entered, or None
 abbrev pub refusalOf : ℕ → ℕ → Sizes → CoroObj → Fault

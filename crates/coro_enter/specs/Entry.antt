@@ -3,12 +3,12 @@ use mathlib.Core.Path.{_≡_}
 use mathlib.Core.List.{List}
 use Prim.Native.Nat.{ℕ, _^_, _≤_, _<_}
 use Rattle.model.specs.declared.coro.Entered.{Entered}
-use Rattle.tables.specs.Does.{RegFits}
-use Rattle.memory.specs.Lendings.{lent}
-use Rattle.memory.specs.Contract.{Ok, only}
-use Rattle.memory.specs.declared.machine.Machine.{Machine}
-use Rattle.memory.specs.declared.machine.Sizes.{Sizes}
-use Rattle.machine.specs.Send.{SendFits}
+use Rattle.memory_tables.specs.Does.{RegFits}
+use Rattle.memory_world.specs.Lendings.{lent}
+use Rattle.memory_world.specs.Contract.{Ok, only}
+use Rattle.memory_world.specs.declared.machine.Machine.{Machine}
+use Rattle.memory_world.specs.declared.machine.Sizes.{Sizes}
+use Rattle.machine_state.specs.Send.{SendFits}
 
 -- a sound world with a frame, and a pc of 32 bits
 pub record EntryFits (l : Sizes) (stack frames chain slots savedStack savedFrames : List ℕ) (m : Machine) (pc : ℕ) : Type 0 where

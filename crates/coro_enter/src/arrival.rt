@@ -4,15 +4,15 @@ ghost use Rattle.model.specs.Frames.{storePc};
 ghost use Rattle.model.specs.Coro.{coroEnter};
 ghost use Rattle.model.specs.Exec.{arrive};
 ghost use Rattle.coro_enter.specs.Entry.{EntryFits, ArriveFits};
-ghost use Rattle.memory.specs.Lendings.{six, top};
-ghost use Rattle.memory.specs.Contract.{Met, any, every, ifSound, only};
+ghost use Rattle.memory_world.specs.Lendings.{six, top};
+ghost use Rattle.memory_world.specs.Contract.{Met, any, every, ifSound, only};
 use crate::enter::EnterDid;
 use crate::enter::coro_enter;
 use heap::value::Word;
-use machine::send::coro_send;
-use machine::step::StepDid;
-use memory::machine::Machine;
-use memory::machine::Sizes;
+use machine_state::send::coro_send;
+use machine_state::step::StepDid;
+use memory_world::machine::Machine;
+use memory_world::machine::Sizes;
 use model::coro::Entered;
 use model::exec::Step;
 use model::machine::Driver;
@@ -34,7 +34,7 @@ pub fn store_enter(
     requires { ⌜ EntryFits l (now stack) (now frames) (now chain) (now slots) (now «saved_stack») (now «saved_frames») m pc ⌝ }
     ensures { λ r. ⌜ Met ifSound l (λ w. coroEnter v d (storePc pc w)) (six stack frames chain slots «saved_stack» «saved_frames») (only m) (only (r .machine)) (r .answer) ⌝ }
 {
-    machine::frame::store_pc(frames, m, pc);
+    machine_state::frame::store_pc(frames, m, pc);
     coro_enter(
         stack,
         frames,

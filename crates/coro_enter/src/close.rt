@@ -2,11 +2,11 @@
 ghost use Rattle.heap.specs.Heap.{TableFits};
 ghost use Rattle.model.specs.Heap.{changeCoro};
 ghost use Rattle.model.specs.Cleanup.{close};
-ghost use Rattle.memory.specs.Lendings.{table};
-ghost use Rattle.memory.specs.Contract.{Leaves, any, every, only};
+ghost use Rattle.memory_world.specs.Lendings.{table};
+ghost use Rattle.memory_world.specs.Contract.{Leaves, any, every, only};
 use heap::heap::CoroPlace;
 use heap::value::Word;
-use memory::machine::Machine;
+use memory_world::machine::Machine;
 
 // coro.rs: co.closing = true, co.signal = signal, where the word names a coroutine.
 pub fn set_closing(slots: &mut [u64], m: Machine, v: Word, signal: u64)

@@ -2,16 +2,16 @@
 ghost use mathlib.Core.Path.{_≡_};
 ghost use Prim.Native.Nat.{_+_, _^_, _≤_, _<_};
 ghost use Rattle.model.specs.Coro.{coroEnter};
-ghost use Rattle.memory.specs.Lendings.{six};
-ghost use Rattle.memory.specs.Contract.{Ok, Met, ifSound, only};
+ghost use Rattle.memory_world.specs.Lendings.{six};
+ghost use Rattle.memory_world.specs.Contract.{Ok, Met, ifSound, only};
 ghost use Rattle.coro_enter.specs.Enter.{refusalOf, enteredAs, grown, MoveFits, Moves};
 use heap::fault::Fault;
 use heap::heap::CoroPlace;
 use heap::object::CoroObj;
 use heap::object::CoroState;
 use heap::value::Word;
-use memory::machine::Machine;
-use memory::machine::Sizes;
+use memory_world::machine::Machine;
+use memory_world::machine::Sizes;
 use model::coro::Entered;
 use model::machine::Driver;
 
@@ -56,9 +56,9 @@ pub(crate) fn move_in(
     ensures { λ _. ⌜ Moves (now (stack .entry)) (now (frames .entry)) (now («saved_stack» .entry)) (now («saved_frames» .entry)) (now (stack .exit)) (now (frames .exit)) (now («saved_stack» .exit)) (now («saved_frames» .exit)) (m .height) (m .depth) l c ⌝ }
 {
     let at = (c.row as usize) * l.width;
-    tables::rows::enter_stack(stack, m.height, saved_stack, at, c.regs as usize);
+    memory_tables::rows::enter_stack(stack, m.height, saved_stack, at, c.regs as usize);
     let from = (c.row as usize) * (l.depth * 6);
-    tables::rows::enter_frames(
+    memory_tables::rows::enter_frames(
         frames,
         m.depth,
         saved_frames,
@@ -125,7 +125,7 @@ pub fn coro_enter(
                 };
             }
             move_in(stack, frames, saved_stack, saved_frames, m, l, c);
-            tables::chain::push_active(chain, m.active, v.0, m.depth as u64, d);
+            memory_tables::chain::push_active(chain, m.active, v.0, m.depth as u64, d);
             heap::slot::put_state(slots, i, CoroState::Running, 0, 0);
             EnterDid {
                 machine: entered(m, c),

@@ -36,25 +36,25 @@ use Rattle.model.specs.declared.coro.Keys.{Keys}
 use Rattle.model.specs.declared.coro.Suspension.{Suspension}
 use Rattle.model.specs.declared.machine.Active.{Active}
 use Rattle.model.specs.declared.machine.Fuel.{Fuel}
-use Rattle.soundness.proofs.States.{suspended-held}
-use Rattle.tables.specs.Layout.{frameWords, activeIn, baseIn}
-use Rattle.tables.specs.Parts.{Chain, Stack, SavedStack, SavedFrames, RowIs, upward}
-use Rattle.tables.specs.Does.{ChainDo, StackLeft, FramesLeft}
-use Rattle.tables.specs.Sizes.{framesSize}
-use Rattle.tables.proofs.Decode.{base-at, top-active}
-use Rattle.tables.proofs.Fits.{row-inside, leave-fits}
-use Rattle.memory.specs.Slots.{toSlot, toCoro, toSlots}
-use Rattle.memory.specs.Memory.{Lent, Slots, Rep, Room, regsRows, framesRows}
-use Rattle.memory.specs.Lendings.{lent}
-use Rattle.memory.specs.Contract.{Does}
-use Rattle.memory.specs.Rows.{rowAt}
-use Rattle.memory.specs.declared.machine.Machine.{Machine}
-use Rattle.memory.specs.declared.machine.Sizes.{Sizes}
-use Rattle.memory.proofs.Slots.{at-map, put-same}
-use Rattle.memory.proofs.Tables.{slots-are, slots-set, length-tabled}
-use Rattle.memory.proofs.Lookup.{There, there, there-words, lacks, regs-row, frames-row, regs-set, frames-set}
-use Rattle.memory.proofs.Does.{does}
-use Rattle.memory.proofs.Turn.{turn-used, turn-stack, turn-frames, turn-chain, turn-slots}
+use Rattle.claims_sound.proofs.States.{suspended-held}
+use Rattle.memory_tables.specs.Layout.{frameWords, activeIn, baseIn}
+use Rattle.memory_tables.specs.Parts.{Chain, Stack, SavedStack, SavedFrames, RowIs, upward}
+use Rattle.memory_tables.specs.Does.{ChainDo, StackLeft, FramesLeft}
+use Rattle.memory_tables.specs.Sizes.{framesSize}
+use Rattle.memory_tables.proofs.Decode.{base-at, top-active}
+use Rattle.memory_tables.proofs.Fits.{row-inside, leave-fits}
+use Rattle.memory_world.specs.Slots.{toSlot, toCoro, toSlots}
+use Rattle.memory_world.specs.Memory.{Lent, Slots, Rep, Room, regsRows, framesRows}
+use Rattle.memory_world.specs.Lendings.{lent}
+use Rattle.memory_world.specs.Contract.{Does}
+use Rattle.memory_world.specs.Rows.{rowAt}
+use Rattle.memory_world.specs.declared.machine.Machine.{Machine}
+use Rattle.memory_world.specs.declared.machine.Sizes.{Sizes}
+use Rattle.memory_world.proofs.Slots.{at-map, put-same}
+use Rattle.memory_world.proofs.Tables.{slots-are, slots-set, length-tabled}
+use Rattle.memory_world.proofs.Lookup.{There, there, there-words, lacks, regs-row, frames-row, regs-set, frames-set}
+use Rattle.memory_world.proofs.Does.{does}
+use Rattle.memory_world.proofs.Turn.{turn-used, turn-stack, turn-frames, turn-chain, turn-slots}
 use Rattle.coro_suspend.specs.Suspend.{growthOf, keyOf, asleep, eventAs, shrunk, LeaveFit, MovedOut, Found}
 use Rattle.coro_suspend.proofs.Parts.{heapOf, spends, pays, asleep-is, event-is}
 use Rattle.coro_suspend.proofs.Innermost.{Innermost, innermost, other}

@@ -25,18 +25,18 @@ use Rattle.model.specs.declared.machine.Active.{Active}
 use Rattle.model.specs.declared.machine.Driver.{Driver}
 use Rattle.model.specs.declared.machine.Frame.{Frame}
 use Rattle.model.specs.declared.machine.Fuel.{Fuel}
-use Rattle.soundness.proofs.Tests.{no-false, and-left, and-right, picked}
-use Rattle.soundness.proofs.Stand.{Stands, names-of}
-use Rattle.soundness.proofs.Cut.{Cut, cut, base-cut, below-cut}
-use Rattle.soundness.proofs.Sound.{Sound, sound→}
-use Rattle.tables.specs.Parts.{Frames}
-use Rattle.tables.proofs.Decode.{top-frame}
-use Rattle.tables.proofs.Doing.{reg-fits}
-use Rattle.memory.specs.Memory.{Lent, Rep}
-use Rattle.memory.specs.declared.machine.Machine.{Machine}
-use Rattle.memory.specs.declared.machine.Sizes.{Sizes}
-use Rattle.machine.specs.Send.{SendFits}
-use Rattle.machine.proofs.Lands.{Lands, Receives, receives}
+use Rattle.claims_sound.proofs.Tests.{no-false, and-left, and-right, picked}
+use Rattle.claims_sound.proofs.Stand.{Stands, names-of}
+use Rattle.claims_sound.proofs.Cut.{Cut, cut, base-cut, below-cut}
+use Rattle.claims_sound.proofs.Sound.{Sound, sound→}
+use Rattle.memory_tables.specs.Parts.{Frames}
+use Rattle.memory_tables.proofs.Decode.{top-frame}
+use Rattle.memory_tables.proofs.Doing.{reg-fits}
+use Rattle.memory_world.specs.Memory.{Lent, Rep}
+use Rattle.memory_world.specs.declared.machine.Machine.{Machine}
+use Rattle.memory_world.specs.declared.machine.Sizes.{Sizes}
+use Rattle.machine_state.specs.Send.{SendFits}
+use Rattle.machine_state.proofs.Lands.{Lands, Receives, receives}
 
 module _ (st : CoroState) (dst payload : ℕ) (keys : Keys) (w : World) (snd : sound w ≡ true) (d : Driver) (event : Event) where
   known : Sound false w

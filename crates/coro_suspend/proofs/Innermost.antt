@@ -21,15 +21,15 @@ use Rattle.model.specs.Sound.{sound, basesOk, bodyLast, framesOver, waits, save
 use Rattle.model.specs.declared.machine.Active.{Active}
 use Rattle.model.specs.declared.machine.Cont.{Cont}
 use Rattle.model.specs.declared.machine.Frame.{Frame}
-use Rattle.soundness.proofs.Tests.{no-false, and-left, and-right}
-use Rattle.soundness.proofs.Stand.{Stands, bases-of}
-use Rattle.soundness.proofs.Cut.{Cut, cut, base-cut, floor-below}
-use Rattle.soundness.proofs.Point.{Points, finds}
-use Rattle.soundness.proofs.Sound.{Sound, sound→, Facts, facts}
-use Rattle.soundness.proofs.Coros.{object-ok, last-runs}
-use Rattle.soundness.proofs.States.{running-held}
-use Rattle.memory.proofs.Lookup.{row-below}
-use Rattle.machine.proofs.Bases.{bases-under}
+use Rattle.claims_sound.proofs.Tests.{no-false, and-left, and-right}
+use Rattle.claims_sound.proofs.Stand.{Stands, bases-of}
+use Rattle.claims_sound.proofs.Cut.{Cut, cut, base-cut, floor-below}
+use Rattle.claims_sound.proofs.Point.{Points, finds}
+use Rattle.claims_sound.proofs.Sound.{Sound, sound→, Facts, facts}
+use Rattle.claims_sound.proofs.Coros.{object-ok, last-runs}
+use Rattle.claims_sound.proofs.States.{running-held}
+use Rattle.memory_world.proofs.Lookup.{row-below}
+use Rattle.machine_state.proofs.Bases.{bases-under}
 
 -- ---- bases never fall
 

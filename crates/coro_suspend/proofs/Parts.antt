@@ -17,9 +17,9 @@ use Rattle.model.specs.Object.{Core, Rest, withClosing, withSignal, withPayload
 use Rattle.model.specs.Coro.{sized, setKeys, unclose, eventOf}
 use Rattle.model.specs.declared.coro.Event.{Event}
 use Rattle.model.specs.declared.coro.Keys.{Keys}
-use Rattle.memory.specs.Slots.{toCoro}
-use Rattle.memory.specs.declared.machine.Machine.{Machine}
-use Rattle.memory.specs.declared.machine.Sizes.{Sizes}
+use Rattle.memory_world.specs.Slots.{toCoro}
+use Rattle.memory_world.specs.declared.machine.Machine.{Machine}
+use Rattle.memory_world.specs.declared.machine.Sizes.{Sizes}
 use Rattle.coro_suspend.specs.Suspend.{keyOf, ignores, asleep, eventAs}
 
 -- a product that 64 bits hold

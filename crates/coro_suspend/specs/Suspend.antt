@@ -14,12 +14,12 @@ use Rattle.model.specs.State.{isAwaiting, isSuspended}
 use Rattle.model.specs.declared.coro.Event.{Event}
 use Rattle.model.specs.declared.coro.Keys.{Keys}
 use Rattle.model.specs.declared.machine.Active.{Active}
-use Rattle.tables.specs.Layout.{activeIn}
-use Rattle.tables.specs.Does.{LeavesStack, LeavesFrames, LeaveFits}
-use Rattle.memory.specs.Lendings.{lent}
-use Rattle.memory.specs.Contract.{Ok, only}
-use Rattle.memory.specs.declared.machine.Machine.{Machine}
-use Rattle.memory.specs.declared.machine.Sizes.{Sizes}
+use Rattle.memory_tables.specs.Layout.{activeIn}
+use Rattle.memory_tables.specs.Does.{LeavesStack, LeavesFrames, LeaveFits}
+use Rattle.memory_world.specs.Lendings.{lent}
+use Rattle.memory_world.specs.Contract.{Ok, only}
+use Rattle.memory_world.specs.declared.machine.Machine.{Machine}
+use Rattle.memory_world.specs.declared.machine.Sizes.{Sizes}
 
 -- coro.rs: coro_suspend, grow: the bytes of registers and frames beyond the largest saved sizes so far
 abbrev pub growthOf : Sizes → CoroObj → ℕ → ℕ → ℕ

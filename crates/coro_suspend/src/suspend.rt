@@ -6,8 +6,8 @@ ghost use Rattle.lists.specs.Pick.{pick};
 ghost use Rattle.heap.specs.Word.{nil};
 ghost use Rattle.model.specs.Coro.{coroSuspend};
 ghost use Rattle.coro_suspend.specs.Suspend.{growthOf, keyOf, largestOf, ignores, asleep, eventAs, shrunk, LeaveFit, MovedOut, Found, SuspendFits};
-ghost use Rattle.memory.specs.Lendings.{six};
-ghost use Rattle.memory.specs.Contract.{Met, ifSound, only};
+ghost use Rattle.memory_world.specs.Lendings.{six};
+ghost use Rattle.memory_world.specs.Contract.{Met, ifSound, only};
 use heap::fault::Fault;
 use heap::heap::Charged;
 use heap::heap::CoroPlace;
@@ -15,8 +15,8 @@ use heap::heap::Heap;
 use heap::object::CoroObj;
 use heap::object::CoroState;
 use heap::value::Word;
-use memory::machine::Machine;
-use memory::machine::Sizes;
+use memory_world::machine::Machine;
+use memory_world::machine::Sizes;
 use model::coro::Event;
 use model::coro::Keys;
 use model::coro::Suspension;
@@ -151,9 +151,9 @@ pub(crate) fn move_out(
     ensures { λ _. ⌜ MovedOut (now (stack .entry)) (now (frames .entry)) (now («saved_stack» .entry)) (now («saved_frames» .entry)) (now (stack .exit)) (now (frames .exit)) (now («saved_stack» .exit)) (now («saved_frames» .exit)) m l row floor base ⌝ }
 {
     let at = (row as usize) * l.width;
-    tables::rows::leave_stack(stack, m.height, base, saved_stack, at);
+    memory_tables::rows::leave_stack(stack, m.height, base, saved_stack, at);
     let from = (row as usize) * (l.depth * 6);
-    tables::rows::leave_frames(frames, m.depth, floor, base as u64, saved_frames, from);
+    memory_tables::rows::leave_frames(frames, m.depth, floor, base as u64, saved_frames, from);
 }
 
 fn shrunk(m: Machine, base: usize, floor: usize, used: u64) -> Machine
@@ -190,7 +190,7 @@ pub(crate) fn suspend_found(
     ensures { λ r. ⌜ Met ifSound l (coroSuspend state dst payload keys) (six stack frames chain slots «saved_stack» «saved_frames») (only m) (only (r .machine)) (r .answer) ⌝ }
 {
     let floor = a.floor as usize;
-    let base = tables::frame::base_at(frames, floor);
+    let base = memory_tables::frame::base_at(frames, floor);
     let regs = (m.height - base) as u64;
     let deep = (m.depth - floor) as u64;
     let grow = growth(l, c, regs, deep);
@@ -217,7 +217,7 @@ pub(crate) fn suspend_found(
                 floor,
                 base,
             );
-            tables::chain::pop_active(chain, m.active);
+            memory_tables::chain::pop_active(chain, m.active);
             let d = asleep(state, regs, deep, dst, payload, keys, c);
             heap::slot::put_sleep(slots, i, d);
             let driver = a.driver;
@@ -254,7 +254,7 @@ pub fn coro_suspend(
             answer: Suspension::Refused(Fault::CannotSuspend),
         };
     }
-    let a = tables::active::active_at(chain, m.active - 1);
+    let a = memory_tables::active::active_at(chain, m.active - 1);
     if (m.depth as u64) <= a.floor {
         return SuspendDid {
             machine: m,

@@ -16,18 +16,18 @@ use Rattle.model.specs.declared.call.Op.{Op}
 use Rattle.model.specs.declared.exec.Step.{Step}
 use Rattle.model.specs.declared.machine.Frame.{Frame}
 use Rattle.model.specs.declared.machine.Fuel.{Fuel}
-use Rattle.soundness.proofs.Tests.{no-true, and-left, and-right, each-at}
-use Rattle.tables.specs.Layout.{baseIn}
-use Rattle.tables.specs.Parts.{Frames}
-use Rattle.tables.specs.Does.{RegFits}
-use Rattle.tables.proofs.Doing.{reg-fits}
-use Rattle.tables.proofs.Setups.{functions-in}
-use Rattle.memory.specs.Memory.{Lent, Beside, Rep, onChain, onSetup}
-use Rattle.memory.specs.Lendings.{lent, sixSetup, topMaking, plain}
-use Rattle.memory.specs.Contract.{Ok, Does, only}
-use Rattle.memory.specs.declared.machine.Machine.{Machine}
-use Rattle.memory.specs.declared.machine.Sizes.{Sizes}
-use Rattle.machine.proofs.Frames.{top-base}
+use Rattle.claims_sound.proofs.Tests.{no-true, and-left, and-right, each-at}
+use Rattle.memory_tables.specs.Layout.{baseIn}
+use Rattle.memory_tables.specs.Parts.{Frames}
+use Rattle.memory_tables.specs.Does.{RegFits}
+use Rattle.memory_tables.proofs.Doing.{reg-fits}
+use Rattle.memory_tables.proofs.Setups.{functions-in}
+use Rattle.memory_world.specs.Memory.{Lent, Beside, Rep, onChain, onSetup}
+use Rattle.memory_world.specs.Lendings.{lent, sixSetup, topMaking, plain}
+use Rattle.memory_world.specs.Contract.{Ok, Does, only}
+use Rattle.memory_world.specs.declared.machine.Machine.{Machine}
+use Rattle.memory_world.specs.declared.machine.Sizes.{Sizes}
+use Rattle.machine_state.proofs.Frames.{top-base}
 use Rattle.exec_make.specs.New.{NewFits}
 use Rattle.exec_make.specs.Indirect.{IndirectFits}
 use Rattle.exec_make.specs.Spawn.{SpawnFits}

@@ -14,7 +14,7 @@ use Rattle.model.specs.Calls.{Row, Instruction, OnFrame, OnHost, Unwinds, Grant
 use Rattle.model.specs.declared.call.Op.{Op}
 use Rattle.model.specs.declared.exec.Step.{Step}
 use Rattle.model.proofs.call.Op as Op′
-use Rattle.soundness.proofs.Tests.{no-true, and-left, and-right}
+use Rattle.claims_sound.proofs.Tests.{no-true, and-left, and-right}
 use Rattle.exec_arm.specs.Arm.{OfInstruction, Suspending, yields, yields-kv, awaits, Entering, resumes, throws, closes, draws}
 
 abbrev pub isInstruction : Row → Bool

@@ -8,10 +8,10 @@ use Rattle.model.specs.Calls.{Instruction, table}
 use Rattle.model.specs.declared.call.Op.{Op}
 use Rattle.model.specs.declared.exec.Step.{Step}
 use Rattle.model.specs.declared.machine.Fuel.{Fuel}
-use Rattle.memory.specs.Memory.{Lent, Beside}
-use Rattle.memory.specs.Contract.{Ok, with}
-use Rattle.memory.specs.declared.machine.Machine.{Machine}
-use Rattle.memory.specs.declared.machine.Sizes.{Sizes}
+use Rattle.memory_world.specs.Memory.{Lent, Beside}
+use Rattle.memory_world.specs.Contract.{Ok, with}
+use Rattle.memory_world.specs.declared.machine.Machine.{Machine}
+use Rattle.memory_world.specs.declared.machine.Sizes.{Sizes}
 
 -- said of an operation that is an instruction, and of no other
 abbrev pub OfInstruction : Op → (ℕ → (World → Bool) → (World → After Step) → Type 0) → Type 0

@@ -1,14 +1,14 @@
 // coro.rs: exec, its arms. The operands have been tested, and the charge is taken.
 ghost use Rattle.exec_arm.specs.Arm.{Past, OfInstruction};
-ghost use Rattle.memory.specs.Lendings.{sixSetup};
-ghost use Rattle.memory.specs.Contract.{Met, ifSound, with};
+ghost use Rattle.memory_world.specs.Lendings.{sixSetup};
+ghost use Rattle.memory_world.specs.Contract.{Met, ifSound, with};
 use crate::entering::entering;
 use exec_yield::yielding::coro_await;
 use exec_yield::yielding::coro_yield;
 use exec_yield::yielding::yield_kv;
-use machine::step::Stepped;
-use memory::machine::Machine;
-use memory::machine::Sizes;
+use machine_state::step::Stepped;
+use memory_world::machine::Machine;
+use memory_world::machine::Sizes;
 use model::call::Op;
 use model::machine::Fuel;
 

@@ -1,15 +1,15 @@
 // coro.rs: exec, the arms that enter a coroutine.
 ghost use Rattle.exec_arm.specs.Arm.{Past, OfInstruction, Suspending};
-ghost use Rattle.memory.specs.Lendings.{sixSetup};
-ghost use Rattle.memory.specs.Contract.{Met, ifSound, with};
+ghost use Rattle.memory_world.specs.Lendings.{sixSetup};
+ghost use Rattle.memory_world.specs.Contract.{Met, ifSound, with};
 use crate::staying::staying;
 use exec_close::close::coro_close;
 use exec_enter::resume::resume;
 use exec_enter::throw::resume_throw;
 use exec_iter::iter::iter_next;
-use machine::step::Stepped;
-use memory::machine::Machine;
-use memory::machine::Sizes;
+use machine_state::step::Stepped;
+use memory_world::machine::Machine;
+use memory_world::machine::Sizes;
 use model::call::Op;
 use model::machine::Fuel;
 

@@ -1,7 +1,7 @@
 // coro.rs: exec, the arms after which the same coroutine runs: those that make a coroutine, and those that ask of one.
 ghost use Rattle.exec_arm.specs.Arm.{Past, OfInstruction, Suspending, Entering};
-ghost use Rattle.memory.specs.Lendings.{sixSetup};
-ghost use Rattle.memory.specs.Contract.{Met, ifSound, with};
+ghost use Rattle.memory_world.specs.Lendings.{sixSetup};
+ghost use Rattle.memory_world.specs.Contract.{Met, ifSound, with};
 use exec_ask::ask::coro_current;
 use exec_ask::ask::coro_key;
 use exec_ask::ask::coro_result;
@@ -9,9 +9,9 @@ use exec_ask::ask::coro_status;
 use exec_make::indirect::coro_new_indirect;
 use exec_make::new::coro_new;
 use exec_make::spawn::spawn;
-use machine::step::Stepped;
-use memory::machine::Machine;
-use memory::machine::Sizes;
+use machine_state::step::Stepped;
+use memory_world::machine::Machine;
+use memory_world::machine::Sizes;
 use model::call::Op;
 use model::exec::Step;
 use model::machine::Fuel;

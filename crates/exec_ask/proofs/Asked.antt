@@ -20,15 +20,15 @@ use Rattle.model.specs.declared.coro.Stated.{Stated}
 use Rattle.model.specs.declared.exec.Step.{Step}
 use Rattle.model.specs.declared.machine.Active.{Active}
 use Rattle.model.specs.declared.machine.Fuel.{Fuel}
-use Rattle.tables.specs.Layout.{activeIn}
-use Rattle.tables.specs.Parts.{Chain}
-use Rattle.tables.proofs.Decode.{top-active}
-use Rattle.memory.specs.Memory.{Lent, Rep}
-use Rattle.memory.specs.Contract.{Does}
-use Rattle.memory.specs.declared.machine.Machine.{Machine}
-use Rattle.memory.specs.declared.machine.Sizes.{Sizes}
-use Rattle.memory.proofs.Does.{does}
-use Rattle.memory.proofs.Lookup.{Lacks}
+use Rattle.memory_tables.specs.Layout.{activeIn}
+use Rattle.memory_tables.specs.Parts.{Chain}
+use Rattle.memory_tables.proofs.Decode.{top-active}
+use Rattle.memory_world.specs.Memory.{Lent, Rep}
+use Rattle.memory_world.specs.Contract.{Does}
+use Rattle.memory_world.specs.declared.machine.Machine.{Machine}
+use Rattle.memory_world.specs.declared.machine.Sizes.{Sizes}
+use Rattle.memory_world.proofs.Does.{does}
+use Rattle.memory_world.proofs.Lookup.{Lacks}
 use Rattle.exec_ask.specs.Ask.{Current}
 
 -- ---- CoroCurrent

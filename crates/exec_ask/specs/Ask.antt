@@ -6,9 +6,9 @@ use lib.ListN.{length}
 use Rattle.heap.specs.Heap.{TableFits}
 use Rattle.model.specs.Exec.{current}
 use Rattle.model.specs.declared.machine.Active.{Active}
-use Rattle.tables.specs.Parts.{Chain}
-use Rattle.tables.specs.Does.{RegFits}
-use Rattle.memory.specs.declared.machine.Machine.{Machine}
+use Rattle.memory_tables.specs.Parts.{Chain}
+use Rattle.memory_tables.specs.Does.{RegFits}
+use Rattle.memory_world.specs.declared.machine.Machine.{Machine}
 
 -- two registers of the top frame, and the slots in the words
 pub record AskFits (stack frames slots : List ℕ) (m : Machine) (dst c : ℕ) : Type 0 where

@@ -3,14 +3,14 @@ ghost use Prim.Native.Nat.{_*_, _≤_};
 ghost use lib.ListN.{length};
 ghost use Rattle.model.specs.Exec.{coroStatus, coroCurrent, coroKey, coroResult};
 ghost use Rattle.exec_ask.specs.Ask.{AskFits, CurrentFits, Current};
-ghost use Rattle.memory.specs.Lendings.{topTable, topChain};
-ghost use Rattle.memory.specs.Contract.{Met, any, every, only};
+ghost use Rattle.memory_world.specs.Lendings.{topTable, topChain};
+ghost use Rattle.memory_world.specs.Contract.{Met, any, every, only};
 use heap::fault::Fault;
 use heap::heap::CoroPlace;
 use heap::value::Word;
-use machine::coro::coro_state;
-use machine::frame::put;
-use memory::machine::Machine;
+use machine_state::coro::coro_state;
+use machine_state::frame::put;
+use memory_world::machine::Machine;
 use model::coro::Stated;
 use model::exec::Step;
 
@@ -26,7 +26,7 @@ pub fn coro_status(
     requires { ⌜ AskFits (now stack) (now frames) (now slots) m dst c ⌝ }
     ensures { λ r. ⌜ every (λ l. Met any l (coroStatus dst c) (topTable stack frames slots) (only m) (only m) r) ⌝ }
 {
-    let v = tables::stack::reg(stack, frames, m.height, m.depth, c as usize);
+    let v = memory_tables::stack::reg(stack, frames, m.height, m.depth, c as usize);
     match coro_state(slots, m, Word(v)) {
         Stated::Refused(f) => Step::Fault(f),
         Stated::In(s) => {
@@ -45,7 +45,7 @@ fn current(chain: &[u64], m: Machine) -> u64
     if m.active == 0 {
         return 0;
     }
-    let a = tables::active::active_at(chain, m.active - 1);
+    let a = memory_tables::active::active_at(chain, m.active - 1);
     a.coro
 }
 
@@ -71,7 +71,7 @@ pub fn coro_key(
     requires { ⌜ AskFits (now stack) (now frames) (now slots) m dst c ⌝ }
     ensures { λ r. ⌜ every (λ l. Met any l (coroKey dst c) (topTable stack frames slots) (only m) (only m) r) ⌝ }
 {
-    let v = tables::stack::reg(stack, frames, m.height, m.depth, c as usize);
+    let v = memory_tables::stack::reg(stack, frames, m.height, m.depth, c as usize);
     match heap::heap::coro_place(slots, m.count, Word(v)) {
         CoroPlace::Not(f) => Step::Fault(f),
         CoroPlace::At(i) => {
@@ -94,7 +94,7 @@ pub fn coro_result(
     requires { ⌜ AskFits (now stack) (now frames) (now slots) m dst c ⌝ }
     ensures { λ r. ⌜ every (λ l. Met any l (coroResult dst c) (topTable stack frames slots) (only m) (only m) r) ⌝ }
 {
-    let v = tables::stack::reg(stack, frames, m.height, m.depth, c as usize);
+    let v = memory_tables::stack::reg(stack, frames, m.height, m.depth, c as usize);
     match heap::heap::coro_place(slots, m.count, Word(v)) {
         CoroPlace::Not(f) => Step::Fault(f),
         CoroPlace::At(i) => {

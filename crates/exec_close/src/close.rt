@@ -6,19 +6,19 @@ ghost use Rattle.heap.specs.declared.object.CoroState.the-variants.{Returned};
 ghost use Rattle.coro_end.specs.Finish.{FinishFits};
 ghost use Rattle.coro_enter.specs.Entry.{EntryFits, AnswerFits};
 ghost use Rattle.exec_close.specs.Close.{endCreated, CloseFits};
-ghost use Rattle.memory.specs.Lendings.{rows, six, table};
-ghost use Rattle.memory.specs.Contract.{Leaves, Met, any, every, ifRowed, ifSound, only};
+ghost use Rattle.memory_world.specs.Lendings.{rows, six, table};
+ghost use Rattle.memory_world.specs.Contract.{Leaves, Met, any, every, ifRowed, ifSound, only};
 use coro_end::finish::finish_coroutine;
 use coro_enter::arrival::store_enter;
 use coro_enter::close::set_closing;
 use heap::fault::Fault;
 use heap::object::CoroState;
 use heap::value::Word;
-use machine::coro::coro_state;
-use machine::frame::put;
-use machine::step::StepDid;
-use memory::machine::Machine;
-use memory::machine::Sizes;
+use machine_state::coro::coro_state;
+use machine_state::frame::put;
+use machine_state::step::StepDid;
+use memory_world::machine::Machine;
+use memory_world::machine::Sizes;
 use model::coro::Entered;
 use model::coro::Stated;
 use model::exec::Step;
@@ -167,8 +167,8 @@ pub fn coro_close(
     requires { ⌜ CloseFits l (now stack) (now frames) (now chain) (now slots) (now «saved_stack») (now «saved_frames») m pc dst c src ⌝ }
     ensures { λ r. ⌜ Met ifSound l (coroClose pc dst c src) (six stack frames chain slots «saved_stack» «saved_frames») (only m) (only (r .machine)) (r .step) ⌝ }
 {
-    let v = tables::stack::reg(stack, frames, m.height, m.depth, c as usize);
-    let signal = tables::stack::reg(stack, frames, m.height, m.depth, src as usize);
+    let v = memory_tables::stack::reg(stack, frames, m.height, m.depth, c as usize);
+    let signal = memory_tables::stack::reg(stack, frames, m.height, m.depth, src as usize);
     match coro_state(slots, m, Word(v)) {
         Stated::Refused(f) => StepDid {
             machine: m,

@@ -8,10 +8,10 @@ use Rattle.model.specs.Exec.{arrive, resume}
 use Rattle.model.specs.declared.exec.Step.{Step}
 use Rattle.model.specs.declared.machine.Driver.{Driver}
 use Rattle.model.specs.declared.machine.Fuel.{Fuel}
-use Rattle.memory.specs.Memory.{Lent}
-use Rattle.memory.specs.Contract.{Does}
-use Rattle.memory.specs.declared.machine.Machine.{Machine}
-use Rattle.memory.specs.declared.machine.Sizes.{Sizes}
+use Rattle.memory_world.specs.Memory.{Lent}
+use Rattle.memory_world.specs.Contract.{Does}
+use Rattle.memory_world.specs.declared.machine.Machine.{Machine}
+use Rattle.memory_world.specs.declared.machine.Sizes.{Sizes}
 
 pub resumed : (l : Sizes) (M : Lent) (m : Machine) (f : Fuel) (w : World) (pc dst c src v sent : ℕ) (s : Step) → v ≡ reg w c → sent ≡ reg w src
     → Does l (andThen (coroEnter v (Driver.Resume dst) (storePc pc w)) (arrive sent)) M m f s → Does l (resume pc dst c src w) M m f s

@@ -1,11 +1,11 @@
 -- coro.rs: exec, Resume and ResumeThrow, on the lent words.
 use mathlib.Core.List.{List}
 use Prim.Native.Nat.{ℕ, _^_, _<_}
-use Rattle.tables.specs.Does.{RegFits}
-use Rattle.memory.specs.Lendings.{lent}
-use Rattle.memory.specs.Contract.{Ok, only}
-use Rattle.memory.specs.declared.machine.Machine.{Machine}
-use Rattle.memory.specs.declared.machine.Sizes.{Sizes}
+use Rattle.memory_tables.specs.Does.{RegFits}
+use Rattle.memory_world.specs.Lendings.{lent}
+use Rattle.memory_world.specs.Contract.{Ok, only}
+use Rattle.memory_world.specs.declared.machine.Machine.{Machine}
+use Rattle.memory_world.specs.declared.machine.Sizes.{Sizes}
 
 -- a sound world, and operands that the gate has tested
 pub record ResumeFits (l : Sizes) (stack frames chain slots savedStack savedFrames : List ℕ) (m : Machine) (pc c src : ℕ) : Type 0 where

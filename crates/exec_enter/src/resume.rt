@@ -1,12 +1,12 @@
 // coro.rs: exec, Resume. Its operands have been tested.
 ghost use Rattle.model.specs.Exec.{resume};
 ghost use Rattle.exec_enter.specs.Resume.{ResumeFits};
-ghost use Rattle.memory.specs.Lendings.{six};
-ghost use Rattle.memory.specs.Contract.{Met, ifSound, only};
+ghost use Rattle.memory_world.specs.Lendings.{six};
+ghost use Rattle.memory_world.specs.Contract.{Met, ifSound, only};
 use coro_enter::arrival::enter_send;
-use machine::step::StepDid;
-use memory::machine::Machine;
-use memory::machine::Sizes;
+use machine_state::step::StepDid;
+use memory_world::machine::Machine;
+use memory_world::machine::Sizes;
 use model::machine::Driver;
 
 // coro.rs: exec, Resume.
@@ -27,8 +27,8 @@ pub fn resume(
     requires { ⌜ ResumeFits l (now stack) (now frames) (now chain) (now slots) (now «saved_stack») (now «saved_frames») m pc c src ⌝ }
     ensures { λ r. ⌜ Met ifSound l (resume pc dst c src) (six stack frames chain slots «saved_stack» «saved_frames») (only m) (only (r .machine)) (r .step) ⌝ }
 {
-    let v = tables::stack::reg(stack, frames, m.height, m.depth, c as usize);
-    let sent = tables::stack::reg(stack, frames, m.height, m.depth, src as usize);
+    let v = memory_tables::stack::reg(stack, frames, m.height, m.depth, c as usize);
+    let sent = memory_tables::stack::reg(stack, frames, m.height, m.depth, src as usize);
     enter_send(
         stack,
         frames,

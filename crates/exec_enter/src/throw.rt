@@ -5,17 +5,17 @@ ghost use Rattle.model.specs.declared.coro.Stated.the-variants.{In};
 ghost use Rattle.coro_enter.specs.Entry.{EntryFits};
 ghost use Rattle.exec_enter.specs.Resume.{ResumeFits};
 ghost use Rattle.exec_enter.specs.Throw.{raised};
-ghost use Rattle.memory.specs.Lendings.{six};
-ghost use Rattle.memory.specs.Contract.{Met, ifSound, only};
+ghost use Rattle.memory_world.specs.Lendings.{six};
+ghost use Rattle.memory_world.specs.Contract.{Met, ifSound, only};
 use coro_end::finish::finish_coroutine;
 use coro_enter::arrival::store_enter;
 use heap::fault::Fault;
 use heap::object::CoroState;
 use heap::value::Word;
-use machine::coro::coro_state;
-use machine::step::StepDid;
-use memory::machine::Machine;
-use memory::machine::Sizes;
+use machine_state::coro::coro_state;
+use machine_state::step::StepDid;
+use memory_world::machine::Machine;
+use memory_world::machine::Sizes;
 use model::coro::Entered;
 use model::coro::Stated;
 use model::exec::Step;
@@ -104,8 +104,8 @@ pub fn resume_throw(
     requires { ⌜ ResumeFits l (now stack) (now frames) (now chain) (now slots) (now «saved_stack») (now «saved_frames») m pc c src ⌝ }
     ensures { λ r. ⌜ Met ifSound l (resumeThrow pc dst c src) (six stack frames chain slots «saved_stack» «saved_frames») (only m) (only (r .machine)) (r .step) ⌝ }
 {
-    let v = tables::stack::reg(stack, frames, m.height, m.depth, c as usize);
-    let err = tables::stack::reg(stack, frames, m.height, m.depth, src as usize);
+    let v = memory_tables::stack::reg(stack, frames, m.height, m.depth, c as usize);
+    let err = memory_tables::stack::reg(stack, frames, m.height, m.depth, src as usize);
     match coro_state(slots, m, Word(v)) {
         Stated::Refused(f) => StepDid {
             machine: m,

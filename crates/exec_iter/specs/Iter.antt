@@ -9,11 +9,11 @@ use Rattle.model.specs.Object.{isDone}
 use Rattle.model.specs.World.{World}
 use Rattle.model.specs.Frames.{putReg}
 use Rattle.model.specs.Heap.{object, setDone}
-use Rattle.tables.specs.Does.{RegFits}
-use Rattle.memory.specs.Lendings.{lent}
-use Rattle.memory.specs.Contract.{Ok, only}
-use Rattle.memory.specs.declared.machine.Machine.{Machine}
-use Rattle.memory.specs.declared.machine.Sizes.{Sizes}
+use Rattle.memory_tables.specs.Does.{RegFits}
+use Rattle.memory_world.specs.Lendings.{lent}
+use Rattle.memory_world.specs.Contract.{Ok, only}
+use Rattle.memory_world.specs.declared.machine.Machine.{Machine}
+use Rattle.memory_world.specs.declared.machine.Sizes.{Sizes}
 
 -- the loop is at its end: the iterator is done, or its source has returned
 abbrev pub exhausted : ℕ → CoroState → World → Bool

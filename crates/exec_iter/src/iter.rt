@@ -4,18 +4,18 @@ ghost use Rattle.model.specs.Exec.{iterOn, iterNext};
 ghost use Rattle.model.specs.declared.coro.Stated.the-variants.{In};
 ghost use Rattle.coro_enter.specs.Entry.{AnswerFits};
 ghost use Rattle.exec_iter.specs.Iter.{exhausted, stopped, StopFits, NextFits};
-ghost use Rattle.memory.specs.Lendings.{six, table, topTable};
-ghost use Rattle.memory.specs.Contract.{Leaves, Met, Reads, any, every, ifSound, only};
+ghost use Rattle.memory_world.specs.Lendings.{six, table, topTable};
+ghost use Rattle.memory_world.specs.Contract.{Leaves, Met, Reads, any, every, ifSound, only};
 use coro_end::iter::set_done;
 use coro_enter::arrival::enter_send;
 use heap::fault::Fault;
 use heap::object::CoroState;
 use heap::value::Word;
-use machine::coro::coro_state;
-use machine::frame::put;
-use machine::step::StepDid;
-use memory::machine::Machine;
-use memory::machine::Sizes;
+use machine_state::coro::coro_state;
+use machine_state::frame::put;
+use machine_state::step::StepDid;
+use memory_world::machine::Machine;
+use memory_world::machine::Sizes;
 use model::coro::Stated;
 use model::exec::Step;
 use model::machine::Driver;
@@ -115,8 +115,8 @@ pub fn iter_next(
     requires { ⌜ NextFits l (now stack) (now frames) (now chain) (now slots) (now «saved_stack») (now «saved_frames») m pc has iter src ⌝ }
     ensures { λ r. ⌜ Met ifSound l (iterNext pc has iter val src) (six stack frames chain slots «saved_stack» «saved_frames») (only m) (only (r .machine)) (r .step) ⌝ }
 {
-    let it = tables::stack::reg(stack, frames, m.height, m.depth, iter as usize);
-    let v = tables::stack::reg(stack, frames, m.height, m.depth, src as usize);
+    let it = memory_tables::stack::reg(stack, frames, m.height, m.depth, iter as usize);
+    let v = memory_tables::stack::reg(stack, frames, m.height, m.depth, src as usize);
     match coro_state(slots, m, Word(v)) {
         Stated::Refused(f) => StepDid {
             machine: m,

@@ -28,19 +28,19 @@ use Rattle.model.specs.Exec.{window, indirectTo, indirect, coroNewIndirect, put
 use Rattle.model.specs.declared.coro.WordOr.{WordOr}
 use Rattle.model.specs.declared.exec.Step.{Step}
 use Rattle.model.specs.declared.machine.Fuel.{Fuel}
-use Rattle.tables.specs.Layout.{functionIn}
-use Rattle.tables.specs.Sizes.{functionsOf}
-use Rattle.tables.proofs.Setups.{functions-in, params-in, is-function-in}
-use Rattle.memory.specs.Slots.{toObject, toSlots}
-use Rattle.memory.specs.Memory.{Lent, Rep, Room}
-use Rattle.memory.specs.Contract.{Does}
-use Rattle.memory.specs.declared.machine.Machine.{Machine}
-use Rattle.memory.specs.declared.machine.Sizes.{Sizes}
-use Rattle.memory.proofs.Does.{does}
-use Rattle.memory.proofs.Slots.{at-map, get-same}
-use Rattle.memory.proofs.Tables.{slots-are}
-use Rattle.memory.proofs.Lookup.{found-fault}
-use Rattle.machine.proofs.Frames.{chosen, passed}
+use Rattle.memory_tables.specs.Layout.{functionIn}
+use Rattle.memory_tables.specs.Sizes.{functionsOf}
+use Rattle.memory_tables.proofs.Setups.{functions-in, params-in, is-function-in}
+use Rattle.memory_world.specs.Slots.{toObject, toSlots}
+use Rattle.memory_world.specs.Memory.{Lent, Rep, Room}
+use Rattle.memory_world.specs.Contract.{Does}
+use Rattle.memory_world.specs.declared.machine.Machine.{Machine}
+use Rattle.memory_world.specs.declared.machine.Sizes.{Sizes}
+use Rattle.memory_world.proofs.Does.{does}
+use Rattle.memory_world.proofs.Slots.{at-map, get-same}
+use Rattle.memory_world.proofs.Tables.{slots-are}
+use Rattle.memory_world.proofs.Lookup.{found-fault}
+use Rattle.machine_state.proofs.Frames.{chosen, passed}
 use Rattle.coro_create.proofs.Setting.{named-in}
 use Rattle.exec_make.specs.Indirect.{calleeIn, taking, called, CalledFits}
 use Rattle.exec_make.proofs.Newly.{made-put}

@@ -31,22 +31,22 @@ use Rattle.model.proofs.machine.Charge as Charge′
 use Rattle.model.specs.declared.machine.Cont.{Cont}
 use Rattle.model.specs.declared.machine.Frame.{Frame}
 use Rattle.model.specs.declared.machine.Fuel.{Fuel}
-use Rattle.soundness.proofs.Tests.{and-left, and-right}
-use Rattle.soundness.proofs.Sound.{→sound, facts}
-use Rattle.soundness.proofs.Charge.{charge-good}
-use Rattle.soundness.proofs.Made.{indirect-good}
-use Rattle.tables.specs.Does.{RegFits}
-use Rattle.tables.specs.Layout.{functionIn}
-use Rattle.tables.specs.Sizes.{hookOf}
-use Rattle.tables.proofs.Setups.{hook-in, regs-in}
-use Rattle.tables.proofs.Doing.{reg-fits}
-use Rattle.memory.specs.Memory.{Lent, Rep}
-use Rattle.memory.specs.Lendings.{topMaking, plain}
-use Rattle.memory.specs.Contract.{Does}
-use Rattle.memory.specs.declared.machine.Machine.{Machine}
-use Rattle.memory.specs.declared.machine.Sizes.{Sizes}
-use Rattle.memory.proofs.Does.{does, room-same}
-use Rattle.machine.specs.Frame.{pushedOr, pushAt, PushFits}
+use Rattle.claims_sound.proofs.Tests.{and-left, and-right}
+use Rattle.claims_sound.proofs.Sound.{→sound, facts}
+use Rattle.claims_sound.proofs.Charge.{charge-good}
+use Rattle.claims_sound.proofs.Made.{indirect-good}
+use Rattle.memory_tables.specs.Does.{RegFits}
+use Rattle.memory_tables.specs.Layout.{functionIn}
+use Rattle.memory_tables.specs.Sizes.{hookOf}
+use Rattle.memory_tables.proofs.Setups.{hook-in, regs-in}
+use Rattle.memory_tables.proofs.Doing.{reg-fits}
+use Rattle.memory_world.specs.Memory.{Lent, Rep}
+use Rattle.memory_world.specs.Lendings.{topMaking, plain}
+use Rattle.memory_world.specs.Contract.{Does}
+use Rattle.memory_world.specs.declared.machine.Machine.{Machine}
+use Rattle.memory_world.specs.declared.machine.Sizes.{Sizes}
+use Rattle.memory_world.proofs.Does.{does, room-same}
+use Rattle.machine_state.specs.Frame.{pushedOr, pushAt, PushFits}
 use Rattle.coro_create.proofs.Setting.{known, named-in}
 use Rattle.exec_make.specs.Spawn.{hookFrame, hookPaid, HookFits, SpawnFits}
 use Rattle.exec_make.proofs.Newly.{still-fits}

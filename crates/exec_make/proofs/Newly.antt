@@ -20,17 +20,17 @@ use Rattle.model.specs.declared.exec.Step.{Step}
 use Rattle.model.specs.declared.machine.Cont.{Cont}
 use Rattle.model.specs.declared.machine.Frame.{Frame}
 use Rattle.model.specs.declared.machine.Fuel.{Fuel}
-use Rattle.soundness.proofs.Good.{Still}
-use Rattle.soundness.proofs.Make.{create-good}
-use Rattle.tables.specs.Layout.{baseIn}
-use Rattle.tables.specs.Does.{RegFits}
-use Rattle.tables.proofs.Padded.{length-part, take-pad}
-use Rattle.tables.proofs.Decode.{base-at}
-use Rattle.memory.specs.Memory.{Lent, Rep}
-use Rattle.memory.specs.Contract.{Does}
-use Rattle.memory.specs.declared.machine.Machine.{Machine}
-use Rattle.memory.specs.declared.machine.Sizes.{Sizes}
-use Rattle.memory.proofs.Does.{does}
+use Rattle.claims_sound.proofs.Good.{Still}
+use Rattle.claims_sound.proofs.Make.{create-good}
+use Rattle.memory_tables.specs.Layout.{baseIn}
+use Rattle.memory_tables.specs.Does.{RegFits}
+use Rattle.memory_tables.proofs.Padded.{length-part, take-pad}
+use Rattle.memory_tables.proofs.Decode.{base-at}
+use Rattle.memory_world.specs.Memory.{Lent, Rep}
+use Rattle.memory_world.specs.Contract.{Does}
+use Rattle.memory_world.specs.declared.machine.Machine.{Machine}
+use Rattle.memory_world.specs.declared.machine.Sizes.{Sizes}
+use Rattle.memory_world.proofs.Does.{does}
 use Rattle.coro_create.proofs.Setting.{known, one-of}
 
 -- ---- the word of what was made

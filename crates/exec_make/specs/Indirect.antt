@@ -12,13 +12,13 @@ use Rattle.model.specs.Program.{Setup, func, isFunction}
 use Rattle.model.specs.Object.{Object}
 use Rattle.model.specs.World.{World}
 use Rattle.model.specs.Heap.{object, notA}
-use Rattle.tables.specs.Layout.{baseIn}
-use Rattle.tables.specs.Does.{RegFits}
-use Rattle.memory.specs.Memory.{Lent, Beside, onSlots, onSetup}
-use Rattle.memory.specs.Lendings.{topMaking, plain}
-use Rattle.memory.specs.Contract.{Ok, only}
-use Rattle.memory.specs.declared.machine.Machine.{Machine}
-use Rattle.memory.specs.declared.machine.Sizes.{Sizes}
+use Rattle.memory_tables.specs.Layout.{baseIn}
+use Rattle.memory_tables.specs.Does.{RegFits}
+use Rattle.memory_world.specs.Memory.{Lent, Beside, onSlots, onSetup}
+use Rattle.memory_world.specs.Lendings.{topMaking, plain}
+use Rattle.memory_world.specs.Contract.{Ok, only}
+use Rattle.memory_world.specs.declared.machine.Machine.{Machine}
+use Rattle.memory_world.specs.declared.machine.Sizes.{Sizes}
 
 -- ---- which function a word calls
 

@@ -2,12 +2,12 @@
 use mathlib.Core.List.{List}
 use Prim.Native.Nat.{ℕ, _+_, _-_, _*_, _≤_, _<_}
 use lib.ListN.{getD}
-use Rattle.tables.specs.Layout.{baseIn}
-use Rattle.tables.specs.Does.{RegFits}
-use Rattle.memory.specs.Lendings.{topMaking, plain}
-use Rattle.memory.specs.Contract.{Ok, only}
-use Rattle.memory.specs.declared.machine.Machine.{Machine}
-use Rattle.memory.specs.declared.machine.Sizes.{Sizes}
+use Rattle.memory_tables.specs.Layout.{baseIn}
+use Rattle.memory_tables.specs.Does.{RegFits}
+use Rattle.memory_world.specs.Lendings.{topMaking, plain}
+use Rattle.memory_world.specs.Contract.{Ok, only}
+use Rattle.memory_world.specs.declared.machine.Machine.{Machine}
+use Rattle.memory_world.specs.declared.machine.Sizes.{Sizes}
 
 -- a sound world, one of the set-up's functions, a register of the top frame, and the argument window after it on the stack
 pub record NewFits (l : Sizes) (stack frames slots savedStack savedFrames setup : List ℕ) (m : Machine) (dst f argc : ℕ) : Type 0 where

@@ -10,10 +10,10 @@ use Rattle.model.specs.Exec.{hooked, callHook}
 use Rattle.model.specs.declared.call.OptPc.{OptPc}
 use Rattle.model.specs.declared.exec.Step.{Step}
 use Rattle.model.specs.declared.machine.Cont.{Cont}
-use Rattle.tables.specs.Layout.{functionIn}
-use Rattle.memory.specs.declared.machine.Machine.{Machine}
-use Rattle.memory.specs.declared.machine.Sizes.{Sizes}
-use Rattle.machine.specs.Frame.{CallFits}
+use Rattle.memory_tables.specs.Layout.{functionIn}
+use Rattle.memory_world.specs.declared.machine.Machine.{Machine}
+use Rattle.memory_world.specs.declared.machine.Sizes.{Sizes}
+use Rattle.machine_state.specs.Frame.{CallFits}
 use Rattle.exec_make.specs.Indirect.{IndirectFits}
 
 -- the hook's frame, with the coroutine c in its first register

@@ -1,8 +1,8 @@
 // coro.rs: indirect; exec, CoroNewIndirect. Its operands have been tested.
 ghost use Rattle.model.specs.Exec.{indirect, coroNewIndirect};
 ghost use Rattle.exec_make.specs.Indirect.{called, tableSetup, CalledFits, IndirectFits};
-ghost use Rattle.memory.specs.Lendings.{topMaking};
-ghost use Rattle.memory.specs.Contract.{Met, Reads, every, ifSound, only};
+ghost use Rattle.memory_world.specs.Lendings.{topMaking};
+ghost use Rattle.memory_world.specs.Contract.{Met, Reads, every, ifSound, only};
 use crate::new::create;
 use crate::new::put_made;
 use coro_create::create::CreateDid;
@@ -10,9 +10,9 @@ use heap::fault::Fault;
 use heap::kind::Callable;
 use heap::kind::callee;
 use heap::value::Word;
-use machine::step::StepDid;
-use memory::machine::Machine;
-use memory::machine::Sizes;
+use machine_state::step::StepDid;
+use memory_world::machine::Machine;
+use memory_world::machine::Sizes;
 use model::coro::WordOr;
 
 // The function that a word calls with argc arguments, or the fault.
@@ -23,10 +23,10 @@ pub(crate) fn called(slots: &[u64], setup: &[u64], m: Machine, v: Word, argc: u6
     match callee(slots, m.count, v) {
         Callable::Not(g) => Callable::Not(g),
         Callable::Func(f) => {
-            if !tables::program::is_function(setup, f) {
+            if !memory_tables::program::is_function(setup, f) {
                 return Callable::Not(Fault::TypeError);
             }
-            if tables::program::params_at(setup, f as usize) != argc {
+            if memory_tables::program::params_at(setup, f as usize) != argc {
                 return Callable::Not(Fault::TypeError);
             }
             Callable::Func(f)
@@ -51,7 +51,7 @@ pub(crate) fn indirect(
     requires { ⌜ IndirectFits l (now stack) (now frames) (now slots) (now «saved_stack») (now «saved_frames») (now setup) m dst callee argc ⌝ }
     ensures { λ r. ⌜ Met ifSound l (indirect dst callee argc) (topMaking stack frames slots «saved_stack» «saved_frames» setup) (only m) (only (r .machine)) (r .answer) ⌝ }
 {
-    let v = tables::stack::reg(stack, frames, m.height, m.depth, callee as usize);
+    let v = memory_tables::stack::reg(stack, frames, m.height, m.depth, callee as usize);
     match called(slots, setup, m, Word(v), argc) {
         Callable::Not(g) => CreateDid {
             machine: m,

@@ -1,15 +1,15 @@
 // coro.rs: exec, CoroNew. Its operands have been tested.
 ghost use Rattle.model.specs.Coro.{coroCreate};
 ghost use Rattle.model.specs.Exec.{putMade, window, coroNew};
-ghost use Rattle.tables.specs.Does.{RegFits};
+ghost use Rattle.memory_tables.specs.Does.{RegFits};
 ghost use Rattle.exec_make.specs.New.{NewFits};
-ghost use Rattle.memory.specs.Lendings.{top, topMaking};
-ghost use Rattle.memory.specs.Contract.{Met, any, every, ifSound, only};
+ghost use Rattle.memory_world.specs.Lendings.{top, topMaking};
+ghost use Rattle.memory_world.specs.Contract.{Met, any, every, ifSound, only};
 use coro_create::create::CreateDid;
 use coro_create::create::coro_create;
-use machine::step::StepDid;
-use memory::machine::Machine;
-use memory::machine::Sizes;
+use machine_state::step::StepDid;
+use memory_world::machine::Machine;
+use memory_world::machine::Sizes;
 use model::coro::WordOr;
 use model::exec::Step;
 
@@ -31,10 +31,10 @@ pub(crate) fn create(
     requires { ⌜ NewFits l (now stack) (now frames) (now slots) (now «saved_stack») (now «saved_frames») (now setup) m dst f argc ⌝ }
     ensures { λ r. ⌜ Met ifSound l (λ w. coroCreate f closure (window dst argc w) w) (topMaking stack frames slots «saved_stack» «saved_frames» setup) (only m) (only (r .machine)) (r .answer) ⌝ }
 {
-    let base = tables::frame::base_at(frames, m.depth - 1);
+    let base = memory_tables::frame::base_at(frames, m.depth - 1);
     let at = base + (dst as usize) + 1;
     let n = argc as usize;
-    let args = tables::runs::set_aside(stack, at, n);
+    let args = memory_tables::runs::set_aside(stack, at, n);
     coro_create(
         slots,
         saved_stack,
@@ -56,7 +56,7 @@ pub(crate) fn put_made(stack: &mut [u64], frames: &[u64], m: Machine, dst: u64, 
 {
     match a {
         WordOr::Word(v) => {
-            machine::frame::put(stack, frames, m, dst, v);
+            machine_state::frame::put(stack, frames, m, dst, v);
             Step::Next
         }
         WordOr::Refused(f) => Step::Fault(f),

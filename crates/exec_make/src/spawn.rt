@@ -1,16 +1,16 @@
 // coro.rs: exec, Spawn. Its operands have been tested, and its first unit is paid.
 ghost use Rattle.model.specs.Exec.{spawn};
 ghost use Rattle.exec_make.specs.Spawn.{hookFrame, hookPaid, HookFits, SpawnFits};
-ghost use Rattle.memory.specs.Lendings.{topMaking, topSetup};
-ghost use Rattle.memory.specs.Contract.{Met, ifSound, only, with};
+ghost use Rattle.memory_world.specs.Lendings.{topMaking, topSetup};
+ghost use Rattle.memory_world.specs.Contract.{Met, ifSound, only, with};
 use crate::indirect::indirect;
 use coro_clean::charge::charge_plain;
 use heap::fault::Fault;
 use heap::value::Opt;
-use machine::step::StepDid;
-use machine::step::Stepped;
-use memory::machine::Machine;
-use memory::machine::Sizes;
+use machine_state::step::StepDid;
+use machine_state::step::Stepped;
+use memory_world::machine::Machine;
+use memory_world::machine::Sizes;
 use model::coro::WordOr;
 use model::exec::Step;
 use model::machine::Charge;
@@ -32,7 +32,17 @@ pub(crate) fn push_hook(
     requires { ⌜ HookFits l (now stack) (now frames) (now setup) m pc hook ⌝ }
     ensures { λ r. ⌜ Met ifSound l (hookFrame hook pc dst c) (topSetup stack frames setup) (only m) (only (r .machine)) (r .step) ⌝ }
 {
-    let did = machine::frame::push_at(stack, frames, setup, m, l, pc, hook, 0, Cont::Value(dst));
+    let did = machine_state::frame::push_at(
+        stack,
+        frames,
+        setup,
+        m,
+        l,
+        pc,
+        hook,
+        0,
+        Cont::Value(dst),
+    );
     let next = did.machine;
     let answer = did.answer;
     match answer {
@@ -41,7 +51,7 @@ pub(crate) fn push_hook(
             step: Step::Fault(g),
         },
         WordOr::Word(_base) => {
-            machine::frame::put(stack, frames, next, 0, c);
+            machine_state::frame::put(stack, frames, next, 0, c);
             StepDid {
                 machine: next,
                 step: Step::Frame,
@@ -105,7 +115,7 @@ pub fn spawn(
     requires { ⌜ SpawnFits l (now stack) (now frames) (now slots) (now «saved_stack») (now «saved_frames») (now setup) m pc dst callee argc ⌝ }
     ensures { λ r. ⌜ Met ifSound l (spawn pc dst callee argc) (topMaking stack frames slots «saved_stack» «saved_frames» setup) (with m fuel) (with (r .machine) (r .fuel)) (r .step) ⌝ }
 {
-    let Opt::Some(hook) = tables::program::hook(setup) else {
+    let Opt::Some(hook) = memory_tables::program::hook(setup) else {
         return Stepped {
             machine: m,
             fuel,

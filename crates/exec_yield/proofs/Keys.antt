@@ -23,13 +23,13 @@ use Rattle.model.specs.World.{World}
 use Rattle.model.specs.Heap.{coro, intIn, dynInt}
 use Rattle.model.specs.Exec.{largestIn, largerOf}
 use Rattle.model.specs.declared.machine.Fuel.{Fuel}
-use Rattle.memory.specs.Slots.{toObject, toSlots}
-use Rattle.memory.specs.Memory.{Lent, Rep}
-use Rattle.memory.specs.declared.machine.Machine.{Machine}
-use Rattle.memory.specs.declared.machine.Sizes.{Sizes}
-use Rattle.memory.proofs.Slots.{at-map, get-same}
-use Rattle.memory.proofs.Tables.{slots-are}
-use Rattle.memory.proofs.Lookup.{lacks, there}
+use Rattle.memory_world.specs.Slots.{toObject, toSlots}
+use Rattle.memory_world.specs.Memory.{Lent, Rep}
+use Rattle.memory_world.specs.declared.machine.Machine.{Machine}
+use Rattle.memory_world.specs.declared.machine.Sizes.{Sizes}
+use Rattle.memory_world.proofs.Slots.{at-map, get-same}
+use Rattle.memory_world.proofs.Tables.{slots-are}
+use Rattle.memory_world.proofs.Lookup.{lacks, there}
 
 -- ---- the integer that a word is or names
 

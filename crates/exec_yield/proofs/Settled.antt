@@ -20,15 +20,15 @@ use Rattle.model.specs.declared.coro.Suspension.{Suspension}
 use Rattle.model.specs.declared.exec.Step.{Step}
 use Rattle.model.specs.declared.machine.Driver.{Driver}
 use Rattle.model.specs.declared.machine.Fuel.{Fuel}
-use Rattle.soundness.proofs.Tests.{no-false}
-use Rattle.soundness.proofs.Stand.{chained}
-use Rattle.soundness.proofs.Sound.{Sound, sound→}
-use Rattle.memory.specs.Memory.{Lent, Rep}
-use Rattle.memory.specs.Contract.{Does}
-use Rattle.memory.specs.declared.machine.Machine.{Machine}
-use Rattle.memory.specs.declared.machine.Sizes.{Sizes}
-use Rattle.memory.proofs.Does.{does}
-use Rattle.machine.proofs.Lands.{lands-fits}
+use Rattle.claims_sound.proofs.Tests.{no-false}
+use Rattle.claims_sound.proofs.Stand.{chained}
+use Rattle.claims_sound.proofs.Sound.{Sound, sound→}
+use Rattle.memory_world.specs.Memory.{Lent, Rep}
+use Rattle.memory_world.specs.Contract.{Does}
+use Rattle.memory_world.specs.declared.machine.Machine.{Machine}
+use Rattle.memory_world.specs.declared.machine.Sizes.{Sizes}
+use Rattle.memory_world.proofs.Does.{does}
+use Rattle.machine_state.proofs.Lands.{lands-fits}
 use Rattle.coro_suspend.proofs.Awake.{suspend-lands}
 use Rattle.exec_yield.specs.Suspend.{steppedBy, DeliverFits}
 

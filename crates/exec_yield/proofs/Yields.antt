@@ -23,18 +23,18 @@ use Rattle.model.specs.declared.coro.Keys.{Keys}
 use Rattle.model.specs.declared.exec.Step.{Step}
 use Rattle.model.specs.declared.machine.Active.{Active}
 use Rattle.model.specs.declared.machine.Fuel.{Fuel}
-use Rattle.soundness.proofs.Tests.{no-false, picked}
-use Rattle.soundness.proofs.Sound.{sound→, →sound}
-use Rattle.soundness.proofs.Made.{auto-good}
-use Rattle.tables.specs.Layout.{activeIn}
-use Rattle.tables.specs.Parts.{Chain}
-use Rattle.tables.proofs.Decode.{top-active}
-use Rattle.memory.specs.Memory.{Lent, Rep, Room}
-use Rattle.memory.specs.Lendings.{lent}
-use Rattle.memory.specs.Contract.{Ok, Does, only}
-use Rattle.memory.specs.declared.machine.Machine.{Machine}
-use Rattle.memory.specs.declared.machine.Sizes.{Sizes}
-use Rattle.memory.proofs.Does.{does}
+use Rattle.claims_sound.proofs.Tests.{no-false, picked}
+use Rattle.claims_sound.proofs.Sound.{sound→, →sound}
+use Rattle.claims_sound.proofs.Made.{auto-good}
+use Rattle.memory_tables.specs.Layout.{activeIn}
+use Rattle.memory_tables.specs.Parts.{Chain}
+use Rattle.memory_tables.proofs.Decode.{top-active}
+use Rattle.memory_world.specs.Memory.{Lent, Rep, Room}
+use Rattle.memory_world.specs.Lendings.{lent}
+use Rattle.memory_world.specs.Contract.{Ok, Does, only}
+use Rattle.memory_world.specs.declared.machine.Machine.{Machine}
+use Rattle.memory_world.specs.declared.machine.Sizes.{Sizes}
+use Rattle.memory_world.proofs.Does.{does}
 use Rattle.exec_yield.specs.Suspend.{RunFits}
 use Rattle.exec_yield.specs.Yielding.{keysFor}
 

@@ -12,10 +12,10 @@ use Rattle.model.specs.declared.coro.Event.{Event}
 use Rattle.model.specs.declared.coro.Suspension.{Suspension}
 use Rattle.model.specs.declared.exec.Step.{Step}
 use Rattle.model.specs.declared.machine.Driver.{Driver}
-use Rattle.memory.specs.Lendings.{lent}
-use Rattle.memory.specs.Contract.{Ok, only}
-use Rattle.memory.specs.declared.machine.Machine.{Machine}
-use Rattle.memory.specs.declared.machine.Sizes.{Sizes}
+use Rattle.memory_world.specs.Lendings.{lent}
+use Rattle.memory_world.specs.Contract.{Ok, only}
+use Rattle.memory_world.specs.declared.machine.Machine.{Machine}
+use Rattle.memory_world.specs.declared.machine.Sizes.{Sizes}
 use Rattle.coro_end.specs.Deliver.{DriverFits}
 
 -- the driver's frame goes on, or the fault is raised there

@@ -5,11 +5,11 @@ use Rattle.model.specs.World.{World}
 use Rattle.model.specs.Heap.{coro, dynInt}
 use Rattle.model.specs.Exec.{largestIn, largerOf}
 use Rattle.model.specs.declared.coro.Keys.{Keys}
-use Rattle.tables.specs.Does.{RegFits}
-use Rattle.memory.specs.Lendings.{lent}
-use Rattle.memory.specs.Contract.{Ok, only}
-use Rattle.memory.specs.declared.machine.Machine.{Machine}
-use Rattle.memory.specs.declared.machine.Sizes.{Sizes}
+use Rattle.memory_tables.specs.Does.{RegFits}
+use Rattle.memory_world.specs.Lendings.{lent}
+use Rattle.memory_world.specs.Contract.{Ok, only}
+use Rattle.memory_world.specs.declared.machine.Machine.{Machine}
+use Rattle.memory_world.specs.declared.machine.Sizes.{Sizes}
 
 -- the keys that a YieldKv of the coroutine v leaves
 abbrev pub keysFor : ℕ → ℕ → World → Keys

@@ -2,15 +2,15 @@
 ghost use mathlib.Core.Path.{_≡_};
 ghost use Rattle.model.specs.Exec.{deliverAll, suspend};
 ghost use Rattle.exec_yield.specs.Suspend.{steppedBy, DeliverFits, SuspendFits};
-ghost use Rattle.memory.specs.Lendings.{six, topTable};
-ghost use Rattle.memory.specs.Contract.{Met, any, every, ifSound, with};
+ghost use Rattle.memory_world.specs.Lendings.{six, topTable};
+ghost use Rattle.memory_world.specs.Contract.{Met, any, every, ifSound, with};
 use coro_end::deliver::deliver;
 use coro_suspend::suspend::coro_suspend;
 use heap::fault::Fault;
 use heap::object::CoroState;
-use machine::step::Stepped;
-use memory::machine::Machine;
-use memory::machine::Sizes;
+use machine_state::step::Stepped;
+use memory_world::machine::Machine;
+use memory_world::machine::Sizes;
 use model::coro::Keys;
 use model::coro::Suspension;
 use model::exec::Step;
@@ -79,7 +79,7 @@ pub(crate) fn suspend(
     requires { ⌜ SuspendFits l (now stack) (now frames) (now chain) (now slots) (now «saved_stack») (now «saved_frames») m pc state ⌝ }
     ensures { λ r. ⌜ Met ifSound l (suspend pc state dst payload keys) (six stack frames chain slots «saved_stack» «saved_frames») (with m fuel) (with (r .machine) (r .fuel)) (r .step) ⌝ }
 {
-    machine::frame::store_pc(frames, m, pc);
+    machine_state::frame::store_pc(frames, m, pc);
     let did = coro_suspend(
         stack,
         frames,

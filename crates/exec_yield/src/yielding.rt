@@ -7,8 +7,8 @@ ghost use Rattle.model.specs.Exec.{largestIn, largerOf, yield, yieldKey, yieldK
 ghost use Rattle.model.specs.Heap.{coro, dynInt};
 ghost use Rattle.exec_yield.specs.Suspend.{RunFits};
 ghost use Rattle.exec_yield.specs.Yielding.{keysFor, YieldFits, YieldKvFits};
-ghost use Rattle.memory.specs.Lendings.{six, table};
-ghost use Rattle.memory.specs.Contract.{Met, Reads, every, ifSound, only, with};
+ghost use Rattle.memory_world.specs.Lendings.{six, table};
+ghost use Rattle.memory_world.specs.Contract.{Met, Reads, every, ifSound, only, with};
 use crate::suspending::suspend;
 use coro_create::key::auto_key;
 use heap::fault::Fault;
@@ -16,9 +16,9 @@ use heap::heap::CoroPlace;
 use heap::object::CoroState;
 use heap::value::Opt;
 use heap::value::Word;
-use machine::step::Stepped;
-use memory::machine::Machine;
-use memory::machine::Sizes;
+use machine_state::step::Stepped;
+use memory_world::machine::Machine;
+use memory_world::machine::Sizes;
 use model::coro::AutoKey;
 use model::coro::Keys;
 use model::exec::Step;
@@ -86,7 +86,7 @@ pub fn coro_await(
             step: Step::Fault(Fault::CannotSuspend),
         };
     }
-    let payload = tables::stack::reg(stack, frames, m.height, m.depth, src as usize);
+    let payload = memory_tables::stack::reg(stack, frames, m.height, m.depth, src as usize);
     let state = CoroState::Awaiting;
     suspend(
         stack,
@@ -143,9 +143,9 @@ pub fn yield_kv(
             step: Step::Fault(Fault::CannotSuspend),
         };
     }
-    let payload = tables::stack::reg(stack, frames, m.height, m.depth, src as usize);
-    let named = tables::stack::reg(stack, frames, m.height, m.depth, key as usize);
-    let a = tables::active::active_at(chain, m.active - 1);
+    let payload = memory_tables::stack::reg(stack, frames, m.height, m.depth, src as usize);
+    let named = memory_tables::stack::reg(stack, frames, m.height, m.depth, key as usize);
+    let a = memory_tables::active::active_at(chain, m.active - 1);
     let keys = keyed(slots, m, a.coro, named);
     let state = CoroState::Yielded;
     suspend(
@@ -238,8 +238,8 @@ pub fn coro_yield(
             step: Step::Fault(Fault::CannotSuspend),
         };
     }
-    let payload = tables::stack::reg(stack, frames, m.height, m.depth, src as usize);
-    let a = tables::active::active_at(chain, m.active - 1);
+    let payload = memory_tables::stack::reg(stack, frames, m.height, m.depth, src as usize);
+    let a = memory_tables::active::active_at(chain, m.active - 1);
     let largest = largest_in(slots, m, a.coro);
     let did = auto_key(slots, m, l, largest);
     let n = did.machine;

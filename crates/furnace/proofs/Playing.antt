@@ -6,12 +6,12 @@ use native.Mathlib.Omega.{arith}
 use lib.ListN.{length, getD, drop, drop-of-length-le}
 use lib.Seq.{drop-cons}
 use Rattle.model.specs.declared.call.Op.{Op}
-use Rattle.memory.specs.Memory.{Lent}
-use Rattle.memory.proofs.Does.{SameLengths, alike, then-alike}
-use Rattle.memory.specs.declared.machine.Machine.{Machine}
+use Rattle.memory_world.specs.Memory.{Lent}
+use Rattle.memory_world.proofs.Does.{SameLengths, alike, then-alike}
+use Rattle.memory_world.specs.declared.machine.Machine.{Machine}
 use Rattle.model.specs.declared.machine.Fuel.{Fuel}
-use Rattle.outer.specs.State.{state}
-use Rattle.lent.specs.Step.{State, Left, stepWords, setUpWords}
+use Rattle.outer_call.specs.State.{state}
+use Rattle.memory_step.specs.Step.{State, Left, stepWords, setUpWords}
 use Rattle.furnace.specs.Story.{story, blank, empty}
 use Rattle.furnace.specs.declared.note.Seen.{Seen}
 use Rattle.furnace.specs.declared.note.Count.{Count}

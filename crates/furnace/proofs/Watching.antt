@@ -16,9 +16,9 @@ use Rattle.model.specs.Answer.{numberOf}
 use Rattle.model.specs.declared.call.Op.{Op}
 use Rattle.model.specs.declared.call.Answer.{Answer}
 use Rattle.model.proofs.call.Op as Op′
-use Rattle.memory.specs.declared.machine.Machine.{Machine}
-use Rattle.tables.proofs.Padded.{span}
-use Rattle.calls.specs.Codes.{same}
+use Rattle.memory_world.specs.declared.machine.Machine.{Machine}
+use Rattle.memory_tables.proofs.Padded.{span}
+use Rattle.memory_calls.specs.Codes.{same}
 use Rattle.furnace.specs.declared.watch.Part.{Part}
 use Rattle.furnace.specs.declared.watch.Sent.{Sent}
 use Rattle.furnace.specs.declared.note.Seen.{Seen}

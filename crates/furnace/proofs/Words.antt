@@ -12,8 +12,8 @@ use lib.Seq.{drop-cons, getD-set-same, getD-set-other, take-all, take-nil}
 use Rattle.lists.specs.Pick.{pick, pick-true, pick-false}
 use Rattle.lists.specs.Parts.{part}
 use Rattle.heap.specs.Word.{nil}
-use Rattle.soundness.proofs.Tests.{no-false, and-left, and-right}
-use Rattle.calls.specs.Codes.{same}
+use Rattle.claims_sound.proofs.Tests.{no-false, and-left, and-right}
+use Rattle.memory_calls.specs.Codes.{same}
 use Rattle.furnace.specs.Watch.{coroIn, innermost, atMost, noteOf, noteFits, sentTo, allEqual}
 
 pub beyond : (xs : List ℕ) (n : ℕ) → length xs ≤ n → 0 ≡ getD xs n 0

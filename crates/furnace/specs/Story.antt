@@ -12,7 +12,7 @@ use Rattle.model.specs.declared.machine.Cont.{Cont}
 use Rattle.model.specs.declared.call.OptPc.{OptPc}
 use Rattle.model.specs.declared.call.Op.{Op}
 use Rattle.model.specs.declared.machine.Fuel.{Fuel}
-use Rattle.memory.specs.declared.machine.Machine.{Machine}
+use Rattle.memory_world.specs.declared.machine.Machine.{Machine}
 
 -- ---- the set-up: function 0 is the line, 1 heats a zone, 2 is a sensor, 3 a trim, 4 a survey, 5 a recipe with a cleanup block
 

@@ -9,10 +9,10 @@ use Rattle.lists.specs.Parts.{part, splice}
 use Rattle.heap.specs.Word.{nil}
 use Rattle.model.specs.Answer.{numberOf}
 use Rattle.model.specs.declared.call.Op.{Op}
-use Rattle.tables.specs.Layout.{baseIn}
-use Rattle.memory.specs.declared.machine.Machine.{Machine}
-use Rattle.calls.specs.Codes.{same}
-use Rattle.lent.specs.Step.{State, Left, stepWords}
+use Rattle.memory_tables.specs.Layout.{baseIn}
+use Rattle.memory_world.specs.declared.machine.Machine.{Machine}
+use Rattle.memory_calls.specs.Codes.{same}
+use Rattle.memory_step.specs.Step.{State, Left, stepWords}
 use Rattle.furnace.specs.declared.watch.Part.{Part}
 use Rattle.furnace.specs.declared.watch.Sent.{Sent}
 use Rattle.furnace.specs.declared.note.Seen.{Seen}

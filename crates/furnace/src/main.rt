@@ -6,17 +6,17 @@ mod tell;
 mod watch;
 
 ghost use mathlib.Core.Path.{_≡_};
-ghost use Rattle.memory.specs.Contract.{atEntry, atExit};
-ghost use Rattle.outer.specs.State.{nine, state};
-ghost use Rattle.lent.specs.Step.{setUpWords};
-ghost use Rattle.tables.specs.Sizes.{setupWords};
+ghost use Rattle.memory_world.specs.Contract.{atEntry, atExit};
+ghost use Rattle.outer_call.specs.State.{nine, state};
+ghost use Rattle.memory_step.specs.Step.{setUpWords};
+ghost use Rattle.memory_tables.specs.Sizes.{setupWords};
 ghost use lib.ListN.{length};
 ghost use Rattle.furnace.specs.Story.{furnace, story, blank, empty};
 ghost use Rattle.furnace.specs.Watch.{watched, watch, watches, none};
 use crate::note::Count;
 use heap::value::Opt;
-use memory::machine::Machine;
-use memory::machine::Told;
+use memory_world::machine::Machine;
+use memory_world::machine::Told;
 use model::call::Op;
 use model::machine::Fuel;
 
@@ -90,7 +90,7 @@ fn turn(
         ≡ watch (watched (state (nine stack frames chain slots «saved_stack» «saved_frames» ready finalize setup atEntry) m fuel) (atEntry notes) count) op ⌝ }
 {
     let was = note::before(stack, frames, chain, m, op, notes);
-    let called = outer::call::call(
+    let called = outer_call::call::call(
         stack,
         frames,
         chain,
@@ -225,7 +225,7 @@ fn line(
     requires { ⌜ length (now notes) ≡ 64 ⌝ }
     ensures { λ r. ⌜ r ≡ watches (watched (setUpWords (state (nine stack frames chain slots «saved_stack» «saved_frames» ready finalize setup atEntry) blank empty) (now (given .entry)) .state) (atEntry notes) none) story .count ⌝ }
 {
-    let began = outer::set_up::set_up(
+    let began = outer_call::set_up::set_up(
         stack,
         frames,
         chain,

@@ -12,7 +12,7 @@ use crate::watch::own_base;
 use crate::watch::part_of;
 use crate::watch::sends;
 use crate::watch::top_base;
-use memory::machine::Machine;
+use memory_world::machine::Machine;
 use model::call::Op;
 
 // What was seen before a call: running coroutines, the innermost of them, and the word that the call sends.

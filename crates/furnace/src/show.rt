@@ -7,7 +7,7 @@ use heap::value::Class;
 use heap::value::Opt;
 use heap::value::Word;
 use libc::STDOUT_FILENO;
-use memory::machine::Machine;
+use memory_world::machine::Machine;
 use model::machine::Fuel;
 
 pub(crate) fn say(text: &[u8]) {

@@ -1,7 +1,7 @@
 // What there is to say of a call, and the wakes counted. What C's `write` does with the text no contract says; the counts each has.
 ghost use mathlib.Core.Path.{_≡_};
 ghost use lib.ListN.{length};
-ghost use Rattle.calls.specs.Codes.{same};
+ghost use Rattle.memory_calls.specs.Codes.{same};
 ghost use Rattle.model.specs.Answer.{numberOf};
 ghost use Rattle.furnace.specs.Watch.{ownWords, sentTo, oneMore, entering, counted};
 use crate::note::Count;
@@ -19,8 +19,8 @@ use crate::watch::last;
 use crate::watch::own_base;
 use crate::watch::part_of;
 use crate::watch::woke;
-use calls::answer::Eight;
-use memory::machine::Machine;
+use memory_calls::answer::Eight;
+use memory_world::machine::Machine;
 use model::call::Answer;
 use model::call::Op;
 use model::machine::Fuel;
@@ -218,7 +218,7 @@ pub(crate) fn after(
     requires { ⌜ length (now notes) ≡ 64 ⌝ }
     ensures { λ r. ⌜ r ≡ counted (now (stack .entry)) (now (frames .entry)) (now (chain .entry)) m (numberOf answer) was (now (notes .entry)) count ⌝ }
 {
-    let told = calls::answer::words_of(answer);
+    let told = memory_calls::answer::words_of(answer);
     replied(frames, m, fuel, op, told, was.coro);
     if was.active < m.active {
         let sent = arrives(told.0, was.sent);
@@ -255,7 +255,7 @@ pub(crate) fn end(count: Count) {
             b" equal: each sleeper held the same words again, with the sent one where it waited.\n",
         );
         show::say(
-            b"No coincidence: `woken` in crates/lent_claims/specs/Claim.antt says it of every list of calls.\n",
+            b"No coincidence: `woken` in crates/claims_memory/specs/Claim.antt says it of every list of calls.\n",
         );
         return;
     }

@@ -2,11 +2,11 @@
 ghost use mathlib.Core.Path.{_≡_};
 ghost use Prim.Native.Nat.{_+_, _-_, _*_, _≤_, _<_};
 ghost use lib.ListN.{length, getD};
-ghost use Rattle.calls.specs.Codes.{same};
-ghost use Rattle.tables.specs.Layout.{baseIn};
+ghost use Rattle.memory_calls.specs.Codes.{same};
+ghost use Rattle.memory_tables.specs.Layout.{baseIn};
 ghost use Rattle.furnace.specs.Watch.{floorIn, coroIn, innermost, ownerIn, topBase, ownBase, partOf, sentBy, arriving, atMost, sentTo, allEqual};
 use heap::value::Word;
-use memory::machine::Machine;
+use memory_world::machine::Machine;
 use model::call::Op;
 
 // Word k of record i of a table whose records have six words; 0 beyond its end.

@@ -23,20 +23,20 @@ use Rattle.model.specs.declared.coro.WordOr.{WordOr}
 use Rattle.model.specs.declared.machine.Cont.{Cont}
 use Rattle.model.specs.declared.machine.Frame.{Frame}
 use Rattle.model.specs.declared.machine.Fuel.{Fuel}
-use Rattle.soundness.proofs.Sound.{→sound}
-use Rattle.soundness.proofs.Make.{dyn-good}
-use Rattle.tables.specs.Layout.{frameIn}
-use Rattle.memory.specs.Memory.{Lent, Beside, Rep}
-use Rattle.memory.specs.Contract.{Does, Ok, only}
-use Rattle.memory.specs.declared.machine.Machine.{Machine}
-use Rattle.memory.specs.declared.machine.Sizes.{Sizes}
-use Rattle.memory.proofs.Does.{does, SameLengths}
-use Rattle.machine.specs.Frame.{StepFits, PopFits, popOn, popTop}
-use Rattle.machine.specs.Way.{wayOf}
-use Rattle.machine.specs.declared.way.Way.{Way}
-use Rattle.machine.proofs.Frames.{chosen, passed}
-use Rattle.machine.proofs.Tops.{some-top, step-fits, known, names-in, cont-under, pop-sounds, pop-fits, pop-ok}
-use Rattle.machine.proofs.Ways.{out-way, caller-way}
+use Rattle.claims_sound.proofs.Sound.{→sound}
+use Rattle.claims_sound.proofs.Make.{dyn-good}
+use Rattle.memory_tables.specs.Layout.{frameIn}
+use Rattle.memory_world.specs.Memory.{Lent, Beside, Rep}
+use Rattle.memory_world.specs.Contract.{Does, Ok, only}
+use Rattle.memory_world.specs.declared.machine.Machine.{Machine}
+use Rattle.memory_world.specs.declared.machine.Sizes.{Sizes}
+use Rattle.memory_world.proofs.Does.{does, SameLengths}
+use Rattle.machine_state.specs.Frame.{StepFits, PopFits, popOn, popTop}
+use Rattle.machine_state.specs.Way.{wayOf}
+use Rattle.machine_state.specs.declared.way.Way.{Way}
+use Rattle.machine_state.proofs.Frames.{chosen, passed}
+use Rattle.machine_state.proofs.Tops.{some-top, step-fits, known, names-in, cont-under, pop-sounds, pop-fits, pop-ok}
+use Rattle.machine_state.proofs.Ways.{out-way, caller-way}
 use Rattle.coro_end.specs.Returned.{ReturnFits}
 use Rattle.coro_end.proofs.Known.{return-asks}
 use Rattle.machine_finish.specs.Finish.{ContFits, TopFits, EndFits}

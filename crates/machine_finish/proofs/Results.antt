@@ -18,17 +18,17 @@ use Rattle.model.specs.declared.coro.WordOr.{WordOr}
 use Rattle.model.specs.declared.machine.Cont.{Cont}
 use Rattle.model.specs.declared.machine.Frame.{Frame}
 use Rattle.model.specs.declared.machine.Fuel.{Fuel}
-use Rattle.soundness.proofs.Good.{Still}
-use Rattle.soundness.proofs.Make.{dyn-good}
-use Rattle.tables.specs.Does.{RegFits}
-use Rattle.memory.specs.Memory.{Lent, Beside, Rep}
-use Rattle.memory.specs.Contract.{Does}
-use Rattle.memory.specs.declared.machine.Machine.{Machine}
-use Rattle.memory.specs.declared.machine.Sizes.{Sizes}
-use Rattle.memory.proofs.Does.{does}
-use Rattle.machine.specs.Numbers.{heapOf}
-use Rattle.machine.proofs.Allocation.{heap-room}
-use Rattle.machine.proofs.Tops.{known, names-in, reg-in}
+use Rattle.claims_sound.proofs.Good.{Still}
+use Rattle.claims_sound.proofs.Make.{dyn-good}
+use Rattle.memory_tables.specs.Does.{RegFits}
+use Rattle.memory_world.specs.Memory.{Lent, Beside, Rep}
+use Rattle.memory_world.specs.Contract.{Does}
+use Rattle.memory_world.specs.declared.machine.Machine.{Machine}
+use Rattle.memory_world.specs.declared.machine.Sizes.{Sizes}
+use Rattle.memory_world.proofs.Does.{does}
+use Rattle.machine_state.specs.Numbers.{heapOf}
+use Rattle.machine_state.proofs.Allocation.{heap-room}
+use Rattle.machine_state.proofs.Tops.{known, names-in, reg-in}
 use Rattle.machine_finish.specs.Finish.{ContFits}
 
 -- ---- what it leaves

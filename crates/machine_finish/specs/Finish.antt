@@ -5,13 +5,13 @@ use Prim.Native.Nat.{_-_, _≤_}
 use lib.ListN.{length}
 use Rattle.model.specs.Sound.{contLies}
 use Rattle.model.specs.declared.machine.Cont.{Cont}
-use Rattle.tables.specs.Layout.{frameIn}
-use Rattle.memory.specs.Memory.{Lent, Beside}
-use Rattle.memory.specs.Contract.{Ok, only}
-use Rattle.memory.specs.declared.machine.Machine.{Machine}
-use Rattle.memory.specs.declared.machine.Sizes.{Sizes}
-use Rattle.machine.specs.Way.{wayOf}
-use Rattle.machine.specs.declared.way.Way.{Way}
+use Rattle.memory_tables.specs.Layout.{frameIn}
+use Rattle.memory_world.specs.Memory.{Lent, Beside}
+use Rattle.memory_world.specs.Contract.{Ok, only}
+use Rattle.memory_world.specs.declared.machine.Machine.{Machine}
+use Rattle.memory_world.specs.declared.machine.Sizes.{Sizes}
+use Rattle.machine_state.specs.Way.{wayOf}
+use Rattle.machine_state.specs.declared.way.Way.{Way}
 
 -- ---- apply_cont
 

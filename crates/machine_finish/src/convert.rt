@@ -1,15 +1,15 @@
 // conv.rs: to_dyn.
 ghost use Rattle.heap.specs.Heap.{Room};
 ghost use Rattle.model.specs.Heap.{toDyn};
-ghost use Rattle.machine.specs.Numbers.{heapOf};
-ghost use Rattle.memory.specs.Lendings.{table};
-ghost use Rattle.memory.specs.Contract.{Met, any, only};
+ghost use Rattle.machine_state.specs.Numbers.{heapOf};
+ghost use Rattle.memory_world.specs.Lendings.{table};
+ghost use Rattle.memory_world.specs.Contract.{Met, any, only};
 use heap::heap::ResultKind;
-use machine::numbers::allocated;
-use machine::numbers::heap_of;
-use machine::object::WordDid;
-use memory::machine::Machine;
-use memory::machine::Sizes;
+use machine_state::numbers::allocated;
+use machine_state::numbers::heap_of;
+use machine_state::object::WordDid;
+use memory_world::machine::Machine;
+use memory_world::machine::Sizes;
 use model::coro::WordOr;
 
 // A result of a kind as a dynamic word; nil for none.

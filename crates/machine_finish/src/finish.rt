@@ -1,23 +1,23 @@
 // machine.rs: finish, of the top frame.
 ghost use Rattle.model.specs.Machine.{resumeIn, finish};
 ghost use Rattle.model.specs.declared.machine.Cont.the-variants.{Coro};
-ghost use Rattle.machine.specs.Frame.{StepFits};
+ghost use Rattle.machine_state.specs.Frame.{StepFits};
 ghost use Rattle.machine_finish.specs.Finish.{TopFits, EndFits};
-ghost use Rattle.memory.specs.Lendings.{frame, six, topTable};
-ghost use Rattle.memory.specs.Contract.{Met, Ok, any, every, ifSound, only, with};
+ghost use Rattle.memory_world.specs.Lendings.{frame, six, topTable};
+ghost use Rattle.memory_world.specs.Contract.{Met, Ok, any, every, ifSound, only, with};
 use crate::cont::apply_cont;
 use crate::cont::result_of;
 use crate::convert::to_dyn;
 use coro_end::returned::coro_returned;
 use heap::fault::Fault;
 use heap::heap::ResultKind;
-use machine::called::Called;
-use machine::frame::next_pc;
-use machine::frame::pop;
-use machine::way::Way;
-use machine::way::way_of;
-use memory::machine::Machine;
-use memory::machine::Sizes;
+use machine_state::called::Called;
+use machine_state::frame::next_pc;
+use machine_state::frame::pop;
+use machine_state::way::Way;
+use machine_state::way::way_of;
+use memory_world::machine::Machine;
+use memory_world::machine::Sizes;
 use model::call::Answer;
 use model::coro::WordOr;
 use model::machine::Cont;
@@ -139,7 +139,7 @@ pub fn finish(
             answer,
         };
     }
-    let f = tables::frame::frame_at(frames, m.depth - 1);
+    let f = memory_tables::frame::frame_at(frames, m.depth - 1);
     let cont = f.cont;
     match way_of(cont) {
         Way::Out => {

@@ -11,12 +11,12 @@ use Rattle.model.specs.Machine.{search}
 use Rattle.model.specs.Sound.{sound}
 use Rattle.model.specs.declared.call.Answer.{Answer}
 use Rattle.model.specs.declared.machine.Fuel.{Fuel}
-use Rattle.memory.specs.Memory.{Lent, Beside, Rep}
-use Rattle.memory.specs.Contract.{Numbers, Ok, Gives, ifSound}
-use Rattle.memory.specs.declared.machine.Machine.{Machine}
-use Rattle.memory.specs.declared.machine.Sizes.{Sizes}
-use Rattle.memory.proofs.Does.{does, SameLengths, alike, then-alike, ok-next}
-use Rattle.machine.proofs.Tops.{no-top, some-top}
+use Rattle.memory_world.specs.Memory.{Lent, Beside, Rep}
+use Rattle.memory_world.specs.Contract.{Numbers, Ok, Gives, ifSound}
+use Rattle.memory_world.specs.declared.machine.Machine.{Machine}
+use Rattle.memory_world.specs.declared.machine.Sizes.{Sizes}
+use Rattle.memory_world.proofs.Does.{does, SameLengths, alike, then-alike, ok-next}
+use Rattle.machine_state.proofs.Tops.{no-top, some-top}
 use Rattle.machine_unwind.specs.Turns.{goesOn, turn, searchFrom}
 use Rattle.machine_unwind.proofs.Below.{Below, Steps, turn-steps}
 

@@ -27,12 +27,12 @@ use Rattle.model.specs.declared.machine.Frame.{Frame}
 use Rattle.model.specs.declared.machine.Stop.{Stop}
 use Rattle.model.specs.declared.program.Caught.{Caught}
 use Rattle.model.specs.declared.program.Handler.{Handler}
-use Rattle.soundness.proofs.Tests.{no-false, no-true, picked}
-use Rattle.soundness.proofs.Sound.{→sound}
-use Rattle.soundness.proofs.Tower.{pop-sound}
-use Rattle.soundness.proofs.Coros.{changed}
-use Rattle.soundness.proofs.End.{escaped-good}
-use Rattle.machine.proofs.Tops.{known}
+use Rattle.claims_sound.proofs.Tests.{no-false, no-true, picked}
+use Rattle.claims_sound.proofs.Sound.{→sound}
+use Rattle.claims_sound.proofs.Tower.{pop-sound}
+use Rattle.claims_sound.proofs.Coros.{changed}
+use Rattle.claims_sound.proofs.End.{escaped-good}
+use Rattle.machine_state.proofs.Tops.{known}
 use Rattle.machine_unwind.specs.Turns.{on, goesOn, turnOn, turn, searchFrom}
 
 -- ---- an escape that goes on leaves the set-up

@@ -14,18 +14,18 @@ use Rattle.model.specs.declared.machine.Frame.{Frame}
 use Rattle.model.specs.declared.machine.Fuel.{Fuel}
 use Rattle.model.specs.declared.program.Caught.{Caught}
 use Rattle.model.specs.declared.program.Handler.{Handler}
-use Rattle.soundness.proofs.Tests.{and-left, and-right, each-at}
-use Rattle.soundness.proofs.Sound.{facts}
-use Rattle.soundness.proofs.Raised.{first-in}
-use Rattle.tables.specs.Parts.{Frames}
-use Rattle.tables.proofs.Tops.{top-func, top-pc, top-cont}
-use Rattle.tables.specs.Layout.{funcIn, pcIn, contIn, functionIn}
-use Rattle.tables.specs.Does.{RegFits}
-use Rattle.tables.proofs.Setups.{functions-in, count-in, function-in}
-use Rattle.memory.specs.Memory.{Lent, Rep, Room}
-use Rattle.memory.specs.declared.machine.Machine.{Machine}
-use Rattle.memory.specs.declared.machine.Sizes.{Sizes}
-use Rattle.machine.proofs.Tops.{Top, some-top, known, names-in, top-fits, reg-in}
+use Rattle.claims_sound.proofs.Tests.{and-left, and-right, each-at}
+use Rattle.claims_sound.proofs.Sound.{facts}
+use Rattle.claims_sound.proofs.Raised.{first-in}
+use Rattle.memory_tables.specs.Parts.{Frames}
+use Rattle.memory_tables.proofs.Tops.{top-func, top-pc, top-cont}
+use Rattle.memory_tables.specs.Layout.{funcIn, pcIn, contIn, functionIn}
+use Rattle.memory_tables.specs.Does.{RegFits}
+use Rattle.memory_tables.proofs.Setups.{functions-in, count-in, function-in}
+use Rattle.memory_world.specs.Memory.{Lent, Rep, Room}
+use Rattle.memory_world.specs.declared.machine.Machine.{Machine}
+use Rattle.memory_world.specs.declared.machine.Sizes.{Sizes}
+use Rattle.machine_state.proofs.Tops.{Top, some-top, known, names-in, top-fits, reg-in}
 use Rattle.machine_unwind.specs.Turns.{handlerOn, handlerIn}
 use Rattle.machine_unwind.specs.Fits.{HandlerFits}
 

@@ -23,17 +23,17 @@ use Rattle.model.specs.declared.call.OptPc.{OptPc}
 use Rattle.model.specs.declared.coro.WordOr.{WordOr}
 use Rattle.model.specs.declared.machine.Frame.{Frame}
 use Rattle.model.specs.declared.machine.Fuel.{Fuel}
-use Rattle.soundness.proofs.Tests.{no-true, and-left, both, or-else, picked}
-use Rattle.soundness.proofs.Good.{Still, still}
-use Rattle.soundness.proofs.Raised.{func-small, pc-small, error-good, some-sound}
-use Rattle.soundness.proofs.Sound.{→sound}
-use Rattle.tables.specs.Layout.{funcIn, pcIn}
-use Rattle.memory.specs.Memory.{Lent, Beside, Rep}
-use Rattle.memory.specs.Contract.{Ok, Does, with}
-use Rattle.memory.specs.declared.machine.Machine.{Machine}
-use Rattle.memory.specs.declared.machine.Sizes.{Sizes}
-use Rattle.memory.proofs.Does.{does, SameLengths, ok-next}
-use Rattle.machine.proofs.Tops.{no-top, some-top, known}
+use Rattle.claims_sound.proofs.Tests.{no-true, and-left, both, or-else, picked}
+use Rattle.claims_sound.proofs.Good.{Still, still}
+use Rattle.claims_sound.proofs.Raised.{func-small, pc-small, error-good, some-sound}
+use Rattle.claims_sound.proofs.Sound.{→sound}
+use Rattle.memory_tables.specs.Layout.{funcIn, pcIn}
+use Rattle.memory_world.specs.Memory.{Lent, Beside, Rep}
+use Rattle.memory_world.specs.Contract.{Ok, Does, with}
+use Rattle.memory_world.specs.declared.machine.Machine.{Machine}
+use Rattle.memory_world.specs.declared.machine.Sizes.{Sizes}
+use Rattle.memory_world.proofs.Does.{does, SameLengths, ok-next}
+use Rattle.machine_state.proofs.Tops.{no-top, some-top, known}
 use Rattle.machine_unwind.specs.Turns.{searchFrom, originOf, thrown}
 use Rattle.machine_unwind.specs.Fits.{SearchFits}
 use Rattle.machine_unwind.specs.declared.turn.Origin.{Origin}

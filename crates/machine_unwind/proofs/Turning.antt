@@ -18,14 +18,14 @@ use Rattle.model.specs.declared.machine.Frame.{Frame}
 use Rattle.model.specs.declared.machine.Fuel.{Fuel}
 use Rattle.model.specs.declared.program.Caught.{Caught}
 use Rattle.model.specs.declared.program.Handler.{Handler}
-use Rattle.soundness.proofs.Tests.{no-false, no-true}
-use Rattle.memory.specs.Memory.{Lent, Rep}
-use Rattle.memory.specs.Rows.{Rowed}
-use Rattle.memory.specs.Contract.{Does}
-use Rattle.memory.specs.declared.machine.Machine.{Machine}
-use Rattle.memory.specs.declared.machine.Sizes.{Sizes}
-use Rattle.memory.proofs.Does.{does}
-use Rattle.machine.specs.Frame.{popOn, popTop}
+use Rattle.claims_sound.proofs.Tests.{no-false, no-true}
+use Rattle.memory_world.specs.Memory.{Lent, Rep}
+use Rattle.memory_world.specs.Rows.{Rowed}
+use Rattle.memory_world.specs.Contract.{Does}
+use Rattle.memory_world.specs.declared.machine.Machine.{Machine}
+use Rattle.memory_world.specs.declared.machine.Sizes.{Sizes}
+use Rattle.memory_world.proofs.Does.{does}
+use Rattle.machine_state.specs.Frame.{popOn, popTop}
 use Rattle.machine_unwind.specs.Turns.{isSpent, on, handlerOn, handlerIn, Passes, Halts, leaveOn, leave, turnOn, turn}
 
 -- ---- a handler

@@ -9,11 +9,11 @@ use Rattle.model.specs.Call.{optPc}
 use Rattle.model.specs.Machine.{raisable}
 use Rattle.model.specs.declared.call.OptPc.{OptPc}
 use Rattle.model.specs.declared.machine.Fuel.{Fuel}
-use Rattle.tables.specs.Layout.{funcIn, functionIn}
-use Rattle.memory.specs.Memory.{Lent, Beside, onFrames, onSetup}
-use Rattle.memory.specs.Contract.{Ok, with}
-use Rattle.memory.specs.declared.machine.Machine.{Machine}
-use Rattle.memory.specs.declared.machine.Sizes.{Sizes}
+use Rattle.memory_tables.specs.Layout.{funcIn, functionIn}
+use Rattle.memory_world.specs.Memory.{Lent, Beside, onFrames, onSetup}
+use Rattle.memory_world.specs.Contract.{Ok, with}
+use Rattle.memory_world.specs.declared.machine.Machine.{Machine}
+use Rattle.memory_world.specs.declared.machine.Sizes.{Sizes}
 
 -- the frames and the set-up
 abbrev pub frameSetup : {X : Type 0} → X → X → (X → List ℕ) → Beside → Lent

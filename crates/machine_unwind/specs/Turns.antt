@@ -14,7 +14,7 @@ use Rattle.model.specs.declared.machine.Charge.{Charge}
 use Rattle.model.specs.declared.machine.Cont.{Cont}
 use Rattle.model.specs.declared.machine.Frame.{Frame}
 use Rattle.model.specs.declared.program.Caught.{Caught}
-use Rattle.memory.specs.Contract.{Kind}
+use Rattle.memory_world.specs.Contract.{Kind}
 use Rattle.machine_unwind.specs.declared.turn.Origin.{Origin}
 
 abbrev pub isSpent : Charge → Bool

@@ -1,17 +1,17 @@
 // machine.rs: unwind, the handler of a frame. program.rs: FuncInfo.
-ghost use Rattle.memory.specs.Lendings.{top};
-ghost use Rattle.memory.specs.Contract.{Met, Reads, any, every, only, with};
+ghost use Rattle.memory_world.specs.Lendings.{top};
+ghost use Rattle.memory_world.specs.Contract.{Met, Reads, any, every, only, with};
 ghost use Rattle.model.specs.Machine.{takeHandler};
-ghost use Rattle.tables.specs.Does.{RegFits};
+ghost use Rattle.memory_tables.specs.Does.{RegFits};
 ghost use Rattle.machine_unwind.specs.Turns.{handlerIn};
 ghost use Rattle.machine_unwind.specs.Fits.{frameSetup, HandlerFits};
 use crate::turn::is_spent;
 use coro_clean::charge::charge_plain;
 use heap::fault::Fault;
-use machine::called::Called;
-use machine::frame::put;
-use machine::frame::store_pc;
-use memory::machine::Machine;
+use machine_state::called::Called;
+use machine_state::frame::put;
+use machine_state::frame::store_pc;
+use memory_world::machine::Machine;
 use model::call::Answer;
 use model::machine::Fuel;
 use model::program::Caught;
@@ -23,9 +23,9 @@ pub(crate) fn handler_in(frames: &[u64], setup: &[u64], m: Machine) -> Caught
     ensures { λ r. ⌜ every (λ l. Reads l handlerIn (frameSetup frames setup) (only m) r) ⌝ }
 {
     let i = m.depth - 1;
-    let f = tables::frame::func_at(frames, i);
-    let pc = tables::frame::pc_at(frames, i);
-    tables::program::handler_at(setup, f as usize, pc)
+    let f = memory_tables::frame::func_at(frames, i);
+    let pc = memory_tables::frame::pc_at(frames, i);
+    memory_tables::program::handler_at(setup, f as usize, pc)
 }
 
 // A handler is taken for one unit: the frame goes on at its target, with the word in its catch register.

@@ -1,16 +1,16 @@
 // machine.rs: unwind, a frame without a handler.
-ghost use Rattle.memory.specs.Lendings.{six};
-ghost use Rattle.memory.specs.Contract.{Met, ifSound, with};
+ghost use Rattle.memory_world.specs.Lendings.{six};
+ghost use Rattle.memory_world.specs.Contract.{Met, ifSound, with};
 ghost use Rattle.machine_unwind.specs.Turns.{leave};
 ghost use Rattle.machine_unwind.specs.Fits.{FrameFits};
 use crate::turn::halted;
 use crate::turn::is_coro;
 use crate::turn::passed;
 use coro_end::escaped::coro_escaped;
-use machine::called::Called;
-use machine::frame::pop;
-use memory::machine::Machine;
-use memory::machine::Sizes;
+use machine_state::called::Called;
+use machine_state::frame::pop;
+use memory_world::machine::Machine;
+use memory_world::machine::Sizes;
 use model::machine::Fuel;
 
 // The top frame goes, and a word raised at pc of function func escapes what it was.
@@ -31,7 +31,7 @@ pub(crate) fn leave(
     requires { ⌜ FrameFits l (six stack frames chain slots «saved_stack» «saved_frames» now) m fuel ⌝ }
     ensures { λ r. ⌜ Met ifSound l (leave value func pc) (six stack frames chain slots «saved_stack» «saved_frames») (with m fuel) (with (r .machine) (r .fuel)) (r .answer) ⌝ }
 {
-    let k = tables::frame::cont_at(frames, m.depth - 1);
+    let k = memory_tables::frame::cont_at(frames, m.depth - 1);
     let n = pop(stack, frames, m);
     if !is_coro(k) {
         return Called {

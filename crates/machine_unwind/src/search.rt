@@ -1,6 +1,6 @@
 // machine.rs: unwind's loop, from the top frame down.
-ghost use Rattle.memory.specs.Lendings.{sixSetup};
-ghost use Rattle.memory.specs.Contract.{Met, ifSound, with};
+ghost use Rattle.memory_world.specs.Lendings.{sixSetup};
+ghost use Rattle.memory_world.specs.Contract.{Met, ifSound, with};
 ghost use Rattle.machine_unwind.specs.Turns.{turn, searchFrom};
 ghost use Rattle.machine_unwind.specs.Fits.{FrameFits, SearchFits};
 use crate::handler::handler_in;
@@ -8,9 +8,9 @@ use crate::handler::take_handler;
 use crate::leave::leave;
 use crate::turn::goes_on;
 use heap::fault::Fault;
-use machine::called::Called;
-use memory::machine::Machine;
-use memory::machine::Sizes;
+use machine_state::called::Called;
+use memory_world::machine::Machine;
+use memory_world::machine::Sizes;
 use model::call::Answer;
 use model::machine::Fuel;
 use model::program::Caught;

@@ -4,9 +4,9 @@ ghost use Prim.Native.Nat.{_*_, _≤_};
 ghost use lib.ListN.{length};
 ghost use Rattle.heap.specs.Heap.{Room};
 ghost use Rattle.model.specs.Machine.{unwindFault, storeSome, raisable, unwind};
-ghost use Rattle.machine.specs.Numbers.{heapOf};
-ghost use Rattle.memory.specs.Lendings.{frame, table, sixSetup};
-ghost use Rattle.memory.specs.Contract.{Leaves, Met, Reads, any, every, ifSound, only, with};
+ghost use Rattle.machine_state.specs.Numbers.{heapOf};
+ghost use Rattle.memory_world.specs.Lendings.{frame, table, sixSetup};
+ghost use Rattle.memory_world.specs.Contract.{Leaves, Met, Reads, any, every, ifSound, only, with};
 ghost use Rattle.machine_unwind.specs.Turns.{originOf, ifAt, thrown};
 ghost use Rattle.machine_unwind.specs.Fits.{RaiseFits, UnwindFits};
 use crate::search::search;
@@ -14,11 +14,11 @@ use crate::turn::Origin;
 use heap::fault::Fault;
 use heap::object::Object;
 use heap::value::Word;
-use machine::called::Called;
-use machine::object::WordDid;
-use machine::object::alloc_plain;
-use memory::machine::Machine;
-use memory::machine::Sizes;
+use machine_state::called::Called;
+use machine_state::object::WordDid;
+use machine_state::object::alloc_plain;
+use memory_world::machine::Machine;
+use memory_world::machine::Sizes;
 use model::call::Answer;
 use model::call::OptPc;
 use model::coro::WordOr;
@@ -34,8 +34,8 @@ pub(crate) fn origin(frames: &[u64], m: Machine) -> Origin
     }
     let i = m.depth - 1;
     Origin {
-        func: tables::frame::func_at(frames, i),
-        pc: tables::frame::pc_at(frames, i),
+        func: memory_tables::frame::func_at(frames, i),
+        pc: memory_tables::frame::pc_at(frames, i),
     }
 }
 
@@ -136,7 +136,7 @@ fn store_some(frames: &mut [u64], m: Machine, pc: OptPc)
     }
     match pc {
         OptPc::None => {}
-        OptPc::Some(p) => machine::frame::store_pc(frames, m, p as u64),
+        OptPc::Some(p) => machine_state::frame::store_pc(frames, m, p as u64),
     }
 }
 

@@ -2,8 +2,8 @@
 use Prim.{tt}
 use mathlib.Core.Path.{_∙_}
 use borrow.Author.Needs.{needs}
-use Rattle.memory.specs.Lendings.{plain}
-use Rattle.outer.specs.State.{nine}
+use Rattle.memory_world.specs.Lendings.{plain}
+use Rattle.outer_call.specs.State.{nine}
 use Rattle.furnace.proofs.Playing.{begun-and-played}
 use Rattle.furnace.proofs.line.Statement.{statement}
 use Rattle.furnace.proofs.line.Tie as tie

@@ -2,8 +2,8 @@
 use mathlib.Core.Path.{_≡_, refl, _∙_}
 use Prim.Native.Nat.{_-_}
 use native.Mathlib.Omega.{arith}
-use Rattle.memory.specs.Lendings.{plain}
-use Rattle.outer.specs.State.{nine, state}
+use Rattle.memory_world.specs.Lendings.{plain}
+use Rattle.outer_call.specs.State.{nine, state}
 use Rattle.furnace.specs.Watch.{Watched, watched, none}
 use Rattle.furnace.proofs.Playing.{Along, along-start, along-more, along-end}
 use borrow.Author.Needs.{needs}

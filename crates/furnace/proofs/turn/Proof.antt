@@ -1,8 +1,8 @@
 -- `turn` meets its contract: the call is the outer call, noted before and counted after. Assumes nothing.
 use Prim.{tt}
 use mathlib.Core.Path.{_∙_}
-use Rattle.memory.specs.Lendings.{plain}
-use Rattle.outer.specs.State.{nine, state}
+use Rattle.memory_world.specs.Lendings.{plain}
+use Rattle.outer_call.specs.State.{nine, state}
 use Rattle.furnace.proofs.Playing.{watched-is}
 use Rattle.furnace.proofs.turn.Statement.{statement}
 use Rattle.furnace.proofs.turn.Tie as tie

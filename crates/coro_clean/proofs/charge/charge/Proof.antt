@@ -1,7 +1,7 @@
 -- `charge` meets the definition, by the fuel in hand. Assumes nothing.
 use Rattle.model.specs.declared.call.OptPc.{OptPc}
-use Rattle.memory.specs.Memory.{Lent, Beside}
-use Rattle.memory.specs.Lendings.{cleaning, plain}
+use Rattle.memory_world.specs.Memory.{Lent, Beside}
+use Rattle.memory_world.specs.Lendings.{cleaning, plain}
 use Rattle.coro_clean.proofs.Paid.{charge-fast, charge-slow}
 use borrow.Author.Needs.{needs}
 use Rattle.coro_clean.proofs.charge.charge.Statement.{statement}

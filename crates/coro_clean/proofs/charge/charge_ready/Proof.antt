@@ -5,10 +5,10 @@ use Rattle.model.specs.World.{World}
 use Rattle.model.specs.Frames.{storePc}
 use Rattle.model.specs.Cleanup.{startFinalizer}
 use Rattle.model.specs.Sound.{sound}
-use Rattle.memory.specs.Memory.{Lent, Beside, Rep}
-use Rattle.memory.specs.Lendings.{cleaning, plain}
-use Rattle.memory.specs.Contract.{Does}
-use Rattle.machine.proofs.Stored.{store-sounds}
+use Rattle.memory_world.specs.Memory.{Lent, Beside, Rep}
+use Rattle.memory_world.specs.Lendings.{cleaning, plain}
+use Rattle.memory_world.specs.Contract.{Does}
+use Rattle.machine_state.proofs.Stored.{store-sounds}
 use Rattle.coro_clean.proofs.Closes.{sought, unit-left, stored-ok}
 use borrow.Author.Needs.{needs}
 use Rattle.coro_clean.proofs.charge.charge_ready.Statement.{statement}

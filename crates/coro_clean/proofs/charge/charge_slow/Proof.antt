@@ -3,8 +3,8 @@ use mathlib.Core.Path.{sym, ap, _∙_}
 use Rattle.model.specs.Fuel.{unbank}
 use Rattle.model.specs.declared.call.OptPc.{OptPc}
 use Rattle.model.specs.declared.machine.Fuel.{Fuel}
-use Rattle.memory.specs.Memory.{Lent, Beside}
-use Rattle.memory.specs.Lendings.{cleaning, plain}
+use Rattle.memory_world.specs.Memory.{Lent, Beside}
+use Rattle.memory_world.specs.Lendings.{cleaning, plain}
 use Rattle.coro_clean.proofs.Paid.{back-rep, slow-spent, slow-paid}
 use Rattle.coro_clean.proofs.Starting.{unbank-sounds, unbank-ok}
 use Rattle.coro_clean.proofs.Closes.{at-ready, at-idle, paid-again}

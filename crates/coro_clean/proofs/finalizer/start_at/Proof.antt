@@ -8,9 +8,9 @@ use Rattle.model.specs.Coro.{coroEnter}
 use Rattle.model.specs.Cleanup.{close}
 use Rattle.model.specs.Sound.{sound}
 use Rattle.model.specs.declared.machine.Driver.{Driver}
-use Rattle.memory.specs.Memory.{Lent, Beside, Rep, onSlots, onFinalize}
-use Rattle.memory.specs.Lendings.{lent, cleaning, plain}
-use Rattle.memory.specs.Contract.{Does}
+use Rattle.memory_world.specs.Memory.{Lent, Beside, Rep, onSlots, onFinalize}
+use Rattle.memory_world.specs.Lendings.{lent, cleaning, plain}
+use Rattle.memory_world.specs.Contract.{Does}
 use mathlib.Core.Bool.{true}
 use Rattle.coro_clean.proofs.Starting.{fewer-sound, fewer-rep, fewer-ok, start-does}
 use borrow.Author.Needs.{needs}

@@ -1,8 +1,8 @@
 -- `start_finalizer` meets the definition: the first word that starts, or none. Assumes nothing.
 use Rattle.model.specs.Fuel.{unbank}
-use Rattle.memory.specs.Memory.{Lent, Beside}
-use Rattle.memory.specs.Lendings.{cleaning, plain}
-use Rattle.machine.proofs.Flags.{unbank-rep}
+use Rattle.memory_world.specs.Memory.{Lent, Beside}
+use Rattle.memory_world.specs.Lendings.{cleaning, plain}
+use Rattle.machine_state.proofs.Flags.{unbank-rep}
 use Rattle.coro_clean.proofs.Starting.{unbank-sounds, search-fits, unbank-ok, finalizer-at, finalizer-none}
 use borrow.Author.Needs.{needs}
 use Rattle.coro_clean.proofs.finalizer.start_finalizer.Statement.{statement}

@@ -3,7 +3,7 @@ use mathlib.Core.Path.{refl}
 use mathlib.Core.List.{[]}
 use Rattle.model.specs.World.{withFinalize}
 use Rattle.coro_clean.specs.Start.{queue}
-use Rattle.memory.specs.Lendings.{plain}
+use Rattle.memory_world.specs.Lendings.{plain}
 use Rattle.coro_clean.proofs.Starting.{none-rep, none-does}
 use borrow.Author.Needs.{needs}
 use Rattle.coro_clean.proofs.finalizer.start_none.Statement.{statement}

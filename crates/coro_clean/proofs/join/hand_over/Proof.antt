@@ -7,13 +7,13 @@ use native.Mathlib.Omega.{arith}
 use borrow.Author.Tests.{not-true, not-false}
 use Rattle.heap.specs.Heap.{SlotFits, coroIn, slotsOf, coroOf}
 use Rattle.heap.proofs.Place.{none-there, stands-words}
-use Rattle.memory.specs.Memory.{Lent, Beside, Rep}
-use Rattle.memory.specs.declared.machine.Sizes.{Sizes}
+use Rattle.memory_world.specs.Memory.{Lent, Beside, Rep}
+use Rattle.memory_world.specs.declared.machine.Sizes.{Sizes}
 use Rattle.model.specs.World.{World}
 use Rattle.model.specs.declared.machine.Fuel.{Fuel}
 use Rattle.heap.specs.State.{isSuspended}
-use Rattle.memory.specs.Memory.{onSlots, onFinalize}
-use Rattle.memory.specs.Lendings.{cleanups, plain}
+use Rattle.memory_world.specs.Memory.{onSlots, onFinalize}
+use Rattle.memory_world.specs.Lendings.{cleanups, plain}
 use Rattle.coro_clean.proofs.Joins.{Hands, hand-refused, hands-at}
 use borrow.Author.Needs.{needs}
 use Rattle.coro_clean.proofs.join.hand_over.Statement.{statement}

@@ -7,11 +7,11 @@ use native.Mathlib.Omega.{arith}
 use borrow.Author.Tests.{not-true, not-false}
 use Rattle.heap.specs.Heap.{SlotFits, coroIn, slotsOf, coroOf}
 use Rattle.heap.proofs.Place.{none-there, stands-words}
-use Rattle.memory.specs.Memory.{Lent, Beside, Rep}
-use Rattle.memory.specs.declared.machine.Sizes.{Sizes}
+use Rattle.memory_world.specs.Memory.{Lent, Beside, Rep}
+use Rattle.memory_world.specs.declared.machine.Sizes.{Sizes}
 use Rattle.model.specs.World.{World}
 use Rattle.model.specs.State.{isResumable}
-use Rattle.memory.specs.Lendings.{tasks, plain}
+use Rattle.memory_world.specs.Lendings.{tasks, plain}
 use Rattle.coro_clean.proofs.Joins.{Tasks, task-refused, tasks-at}
 use borrow.Author.Needs.{needs}
 use Rattle.coro_clean.proofs.join.spawn_task.Statement.{statement}

@@ -4,9 +4,9 @@ use Prim.Native.Nat.{ℕ, _*_, _≤_}
 use native.Mathlib.Omega.{arith}
 use lib.ListN.{length}
 use Rattle.heap.specs.Heap.{slotsOf, TableFits}
-use Rattle.memory.specs.Memory.{Lent, Beside}
-use Rattle.machine.specs.Numbers.{heapOf}
-use Rattle.memory.specs.Lendings.{making, plain}
+use Rattle.memory_world.specs.Memory.{Lent, Beside}
+use Rattle.machine_state.specs.Numbers.{heapOf}
+use Rattle.memory_world.specs.Lendings.{making, plain}
 use Rattle.coro_create.specs.Create.{spotOf}
 use Rattle.coro_create.specs.declared.create.Spot.{Spot}
 use Rattle.coro_create.proofs.Setting.{Numbers, in-setup, numbers}

@@ -1,7 +1,7 @@
 -- `find_spot` meets its contract, by its tests in order. Assumes nothing.
 use mathlib.Core.Path.{_≡_, sym, ap₂, _∙_}
 use Rattle.heap.specs.Heap.{slotsOf, lacksOf}
-use Rattle.machine.specs.Numbers.{heapOf}
+use Rattle.machine_state.specs.Numbers.{heapOf}
 use Rattle.coro_create.specs.Create.{bytesOf}
 use Rattle.coro_create.proofs.Parts.{spot-lacks, spot-full, spot-row}
 use borrow.Author.Needs.{needs}

@@ -1,7 +1,7 @@
 -- `auto_key` meets the model, outcome by outcome. Assumes nothing.
 use mathlib.Core.Path.{_≡_, sym, ap, _∙_}
 use native.Mathlib.Omega.{arith}
-use Rattle.memory.specs.Lendings.{table, plain}
+use Rattle.memory_world.specs.Lendings.{table, plain}
 use Rattle.coro_create.proofs.Keying.{key-over, key-refused, key-made}
 use borrow.Author.Needs.{needs}
 use Rattle.coro_create.proofs.key.auto_key.Statement.{statement}

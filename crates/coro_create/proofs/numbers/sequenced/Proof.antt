@@ -1,6 +1,6 @@
 -- `sequenced` meets its contract: the library's sum wraps. Assumes nothing.
 use mathlib.Core.Path.{ap}
-use Rattle.memory.specs.Numbers.{withNumber}
+use Rattle.memory_world.specs.Numbers.{withNumber}
 use borrow.Author.Needs.{needs}
 use Rattle.coro_create.proofs.numbers.sequenced.Statement.{statement}
 use Rattle.coro_create.proofs.numbers.sequenced.Tie as tie

@@ -5,7 +5,7 @@ use native.Mathlib.Omega.{arith}
 use lib.ListN.{length}
 use Rattle.heap.specs.Word.{nil}
 use Rattle.heap.specs.declared.object.CoroState.{CoroState}
-use Rattle.memory.specs.Lendings.{plain}
+use Rattle.memory_world.specs.Lendings.{plain}
 use Rattle.coro_end.specs.Last.{ending, endLast}
 use Rattle.coro_end.proofs.Innermost.{end-rowed}
 use Rattle.coro_end.proofs.Failing.{none-fails, fewer, others-fail}

@@ -1,5 +1,5 @@
 -- `abort_coros` meets the definition: the coroutines, then the flags, then the outcome. Assumes nothing.
-use Rattle.memory.specs.Lendings.{plain}
+use Rattle.memory_world.specs.Lendings.{plain}
 use Rattle.coro_end.specs.Last.{ending, failActive}
 use Rattle.coro_end.proofs.Failing.{aborted}
 use borrow.Author.Needs.{needs}

@@ -1,7 +1,7 @@
 -- `deliver` meets the definition, driver by driver. Assumes nothing.
 use Rattle.model.specs.declared.machine.Driver.{Driver}
-use Rattle.memory.specs.Memory.{onSlots}
-use Rattle.memory.specs.Lendings.{topTable, plain}
+use Rattle.memory_world.specs.Memory.{onSlots}
+use Rattle.memory_world.specs.Lendings.{topTable, plain}
 use Rattle.coro_end.proofs.Delivery.{told-host, to-driver, to-host, to-cleanup}
 use borrow.Author.Needs.{needs}
 use Rattle.coro_end.proofs.deliver.deliver.Statement.{statement}

@@ -1,5 +1,5 @@
 -- `deliver_resume` meets the definition, event by event. Assumes nothing.
-use Rattle.memory.specs.Lendings.{top, plain}
+use Rattle.memory_world.specs.Lendings.{top, plain}
 use Rattle.coro_end.proofs.Delivery.{sent, resume-yielded, resume-awaiting, resume-ignored}
 use borrow.Author.Needs.{needs}
 use Rattle.coro_end.proofs.deliver.deliver_resume.Statement.{statement}

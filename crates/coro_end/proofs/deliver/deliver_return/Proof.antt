@@ -1,7 +1,7 @@
 -- `deliver_return` meets the definition, driver by driver. Assumes nothing.
 use Rattle.model.specs.declared.machine.Driver.{Driver}
 use Rattle.model.specs.declared.machine.Stop.{Stop}
-use Rattle.memory.specs.Lendings.{topTable, plain}
+use Rattle.memory_world.specs.Lendings.{topTable, plain}
 use Rattle.coro_end.proofs.Delivery.{sent, told-host, return-to}
 use borrow.Author.Needs.{needs}
 use Rattle.coro_end.proofs.deliver.deliver_return.Statement.{statement}

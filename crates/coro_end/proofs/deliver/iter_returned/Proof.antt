@@ -1,6 +1,6 @@
 -- `iter_returned` meets its contract: the mark, and then 0 sent. Assumes nothing.
 use Rattle.model.specs.Heap.{setDone}
-use Rattle.memory.specs.Lendings.{top, topTable, plain}
+use Rattle.memory_world.specs.Lendings.{top, topTable, plain}
 use Rattle.coro_end.proofs.Delivery.{sent}
 use borrow.Author.Needs.{needs}
 use Rattle.coro_end.proofs.deliver.iter_returned.Statement.{statement}

@@ -1,7 +1,7 @@
 -- `iter_yielded` meets its contract: the key, the word, and then 1 sent. Assumes nothing.
 use Rattle.model.specs.Frames.{putReg}
 use Rattle.model.specs.Heap.{setKey}
-use Rattle.memory.specs.Lendings.{top, topTable, plain}
+use Rattle.memory_world.specs.Lendings.{top, topTable, plain}
 use Rattle.coro_end.proofs.Delivery.{sent, put}
 use borrow.Author.Needs.{needs}
 use Rattle.coro_end.proofs.deliver.iter_yielded.Statement.{statement}

@@ -1,7 +1,7 @@
 -- `told_stop` meets its contract, by cases of what is told. Assumes nothing.
 use mathlib.Core.Path.{sym, ap}
 use Rattle.model.specs.declared.machine.Outcome.the-variants.{Some}
-use Rattle.memory.specs.Told.{told}
+use Rattle.memory_world.specs.Told.{told}
 use borrow.Author.Needs.{needs}
 use Rattle.coro_end.proofs.deliver.told_stop.Statement.{statement}
 use Rattle.coro_end.proofs.deliver.told_stop.Tie as tie

@@ -3,8 +3,8 @@ use mathlib.Core.Path.{refl, sym, _∙_}
 use Prim.Native.Nat.{_≤_}
 use native.Mathlib.Omega.{arith}
 use Rattle.heap.specs.declared.object.CoroState.{CoroState}
-use Rattle.memory.specs.Memory.{onStack, onFrames}
-use Rattle.memory.specs.Lendings.{lent}
+use Rattle.memory_world.specs.Memory.{onStack, onFrames}
+use Rattle.memory_world.specs.Lendings.{lent}
 use Rattle.coro_end.specs.Last.{endLast}
 use Rattle.coro_end.proofs.Innermost.{last}
 use Rattle.coro_end.proofs.Homecoming.{none-escaped, close-succeeds, fails, end-fits}

@@ -1,6 +1,6 @@
 -- `finish_coroutine` meets the definition, whether the word names a coroutine or not. Assumes nothing.
 use mathlib.Core.Path.{sym, _∙_}
-use Rattle.memory.specs.Lendings.{rows, plain}
+use Rattle.memory_world.specs.Lendings.{rows, plain}
 use Rattle.coro_end.proofs.Ending.{slot-fits, free-fits, none-ends, ends}
 use borrow.Author.Needs.{needs}
 use Rattle.coro_end.proofs.finish.finish_coroutine.Statement.{statement}

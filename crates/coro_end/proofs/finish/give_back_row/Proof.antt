@@ -1,6 +1,6 @@
 -- `give_back_row` meets its contract, whether the coroutine is finished or not. Assumes nothing.
 use mathlib.Core.Path.{refl, sym, _∙_}
-use Rattle.soundness.proofs.Tests.{no-true}
+use Rattle.claims_sound.proofs.Tests.{no-true}
 use borrow.Author.Needs.{needs}
 use Rattle.coro_end.proofs.finish.give_back_row.Statement.{statement}
 use Rattle.coro_end.proofs.finish.give_back_row.Tie as tie

@@ -1,7 +1,7 @@
 -- `set_done` meets the definition: the mark, where the word names an iterator. Assumes nothing.
 use mathlib.Core.Path.{sym, _∙_}
 use mathlib.Core.Bool.{true}
-use Rattle.memory.specs.Lendings.{table, plain}
+use Rattle.memory_world.specs.Lendings.{table, plain}
 use Rattle.coro_end.proofs.Iterators.{iter-words, iter-absent, iter-changed}
 use borrow.Author.Needs.{needs}
 use Rattle.coro_end.proofs.iter.set_done.Statement.{statement}

@@ -1,8 +1,8 @@
 -- `end_last` meets its definition, whether a coroutine is active or not. Assumes nothing.
 use Prim.Native.Nat.{_≤_}
 use native.Mathlib.Omega.{arith}
-use Rattle.memory.specs.Memory.{onChain}
-use Rattle.memory.specs.Lendings.{plain}
+use Rattle.memory_world.specs.Memory.{onChain}
+use Rattle.memory_world.specs.Lendings.{plain}
 use Rattle.coro_end.specs.Last.{ending}
 use Rattle.coro_end.proofs.Innermost.{last, popped, none-ends-last, ends-last, finish-fits}
 use borrow.Author.Needs.{needs}

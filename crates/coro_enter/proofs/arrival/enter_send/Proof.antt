@@ -2,8 +2,8 @@
 use Rattle.model.specs.Frames.{storePc}
 use Rattle.model.specs.Coro.{coroEnter}
 use Rattle.model.specs.Exec.{arrive}
-use Rattle.memory.specs.Lendings.{lent}
-use Rattle.machine.proofs.Stored.{store-sounds}
+use Rattle.memory_world.specs.Lendings.{lent}
+use Rattle.machine_state.proofs.Stored.{store-sounds}
 use Rattle.coro_enter.proofs.Entries.{then-does, arrive-fits}
 use borrow.Author.Needs.{needs}
 use Rattle.coro_enter.proofs.arrival.enter_send.Statement.{statement}

@@ -1,9 +1,9 @@
 -- `store_enter` meets its contract: a pc stored, and an entry. Assumes nothing.
 use Rattle.model.specs.Frames.{storePc}
-use Rattle.memory.specs.Memory.{Lent, Beside}
-use Rattle.memory.specs.Lendings.{lent}
-use Rattle.memory.specs.Contract.{only}
-use Rattle.machine.proofs.Stored.{store-sounds, stored-ok}
+use Rattle.memory_world.specs.Memory.{Lent, Beside}
+use Rattle.memory_world.specs.Lendings.{lent}
+use Rattle.memory_world.specs.Contract.{only}
+use Rattle.machine_state.proofs.Stored.{store-sounds, stored-ok}
 use borrow.Author.Needs.{needs}
 use Rattle.coro_enter.proofs.arrival.store_enter.Statement.{statement}
 use Rattle.coro_enter.proofs.arrival.store_enter.Tie as tie

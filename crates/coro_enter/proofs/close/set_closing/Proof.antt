@@ -3,8 +3,8 @@ use mathlib.Core.Path.{sym, _∙_}
 use Rattle.heap.specs.Heap.{slotsOf, coroOf}
 use Rattle.heap.proofs.Place.{none-there, stands-words}
 use Rattle.model.specs.Cleanup.{close}
-use Rattle.memory.specs.Lendings.{table, plain}
-use Rattle.memory.proofs.Slotted.{rest-absent}
+use Rattle.memory_world.specs.Lendings.{table, plain}
+use Rattle.memory_world.proofs.Slotted.{rest-absent}
 use Rattle.coro_enter.proofs.Closing.{closing-rep}
 use borrow.Author.Needs.{needs}
 use Rattle.coro_enter.proofs.close.set_closing.Statement.{statement}

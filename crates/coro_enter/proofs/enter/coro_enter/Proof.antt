@@ -7,8 +7,8 @@ use Rattle.heap.specs.Fault.{numberOf}
 use Rattle.heap.specs.declared.heap.Coroutine.the-variants as RV
 use Rattle.heap.specs.declared.object.CoroObj.{CoroObj}
 use Rattle.heap.proofs.Place.{none-there, stands, stands-words}
-use Rattle.memory.specs.Memory.{Lent, Beside}
-use Rattle.memory.specs.Lendings.{lent}
+use Rattle.memory_world.specs.Memory.{Lent, Beside}
+use Rattle.memory_world.specs.Lendings.{lent}
 use Rattle.coro_enter.proofs.Entry.{Grows, ok-before, ok-moves, ok-sums, not-found, refused, accepted}
 use borrow.Author.Needs.{needs}
 use Rattle.coro_enter.proofs.enter.coro_enter.Statement.{statement}

@@ -1,8 +1,8 @@
 -- `suspend_found` meets the model, outcome by outcome. Assumes nothing.
 use mathlib.Core.Path.{sym, ap, _∙_}
 use Rattle.heap.specs.Charge.{chargeOf}
-use Rattle.memory.specs.Memory.{Lent, Beside}
-use Rattle.memory.specs.Lendings.{lent}
+use Rattle.memory_world.specs.Memory.{Lent, Beside}
+use Rattle.memory_world.specs.Lendings.{lent}
 use Rattle.coro_suspend.proofs.Parts.{heapOf}
 use Rattle.coro_suspend.proofs.Asleep.{found-before, found-leaves, spent, accepted}
 use borrow.Author.Needs.{needs}

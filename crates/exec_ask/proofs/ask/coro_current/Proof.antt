@@ -1,5 +1,5 @@
 -- `coro_current` meets the definition: the innermost coroutine is put. Assumes nothing.
-use Rattle.memory.specs.Memory.{onChain}
+use Rattle.memory_world.specs.Memory.{onChain}
 use Rattle.exec_ask.proofs.Asked.{current-told}
 use borrow.Author.Needs.{needs}
 use Rattle.exec_ask.proofs.ask.coro_current.Statement.{statement}

@@ -2,10 +2,10 @@
 use mathlib.Core.Path.{sym, ap, _∙_}
 use Rattle.heap.specs.declared.object.CoroObj.{CoroObj}
 use Rattle.heap.proofs.Place.{stands-words}
-use Rattle.memory.specs.Memory.{onSlots}
-use Rattle.memory.specs.Lendings.{topTable, plain}
-use Rattle.memory.proofs.Slotted.{placed}
-use Rattle.machine.proofs.Named.{named-none}
+use Rattle.memory_world.specs.Memory.{onSlots}
+use Rattle.memory_world.specs.Lendings.{topTable, plain}
+use Rattle.memory_world.proofs.Slotted.{placed}
+use Rattle.machine_state.proofs.Named.{named-none}
 use Rattle.exec_ask.proofs.Asked.{key-refused, key-told}
 use borrow.Author.Needs.{needs}
 use Rattle.exec_ask.proofs.ask.coro_key.Statement.{statement}

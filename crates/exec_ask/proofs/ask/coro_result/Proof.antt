@@ -4,10 +4,10 @@ use Rattle.heap.specs.declared.object.CoroObj.{CoroObj}
 use Rattle.heap.proofs.Place.{stands-words}
 use borrow.Author.Tests.{not-true, not-false}
 use Rattle.model.specs.State.{isReturned}
-use Rattle.memory.specs.Memory.{onSlots}
-use Rattle.memory.specs.Lendings.{topTable, plain}
-use Rattle.memory.proofs.Slotted.{placed, reads-state}
-use Rattle.machine.proofs.Named.{named-none}
+use Rattle.memory_world.specs.Memory.{onSlots}
+use Rattle.memory_world.specs.Lendings.{topTable, plain}
+use Rattle.memory_world.proofs.Slotted.{placed, reads-state}
+use Rattle.machine_state.proofs.Named.{named-none}
 use Rattle.exec_ask.proofs.Asked.{result-refused, result-early, result-told}
 use borrow.Author.Needs.{needs}
 use Rattle.exec_ask.proofs.ask.coro_result.Statement.{statement}

@@ -1,7 +1,7 @@
 -- `coro_status` meets the definition, by what the word names. Assumes nothing.
 use mathlib.Core.Path.{sym, _∙_}
-use Rattle.memory.specs.Memory.{onSlots}
-use Rattle.memory.specs.Lendings.{topTable, plain}
+use Rattle.memory_world.specs.Memory.{onSlots}
+use Rattle.memory_world.specs.Lendings.{topTable, plain}
 use Rattle.exec_ask.proofs.Asked.{status-refused, status-told}
 use borrow.Author.Needs.{needs}
 use Rattle.exec_ask.proofs.ask.coro_status.Statement.{statement}

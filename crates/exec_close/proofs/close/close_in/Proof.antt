@@ -3,7 +3,7 @@ use Rattle.model.specs.Frames.{storePc}
 use Rattle.model.specs.Coro.{coroEnter}
 use Rattle.model.specs.Exec.{closeEntered}
 use Rattle.model.specs.declared.machine.Driver.{Driver}
-use Rattle.memory.specs.Lendings.{lent}
+use Rattle.memory_world.specs.Lendings.{lent}
 use Rattle.coro_enter.proofs.Entries.{then-does}
 use borrow.Author.Needs.{needs}
 use Rattle.exec_close.proofs.close.close_in.Statement.{statement}

@@ -1,7 +1,7 @@
 -- `coro_close` meets the definition: the words of two registers, and what the first names. Assumes nothing.
 use mathlib.Core.Path.{sym, _∙_}
-use Rattle.memory.specs.Memory.{Lent, Beside}
-use Rattle.memory.specs.Lendings.{lent}
+use Rattle.memory_world.specs.Memory.{Lent, Beside}
+use Rattle.memory_world.specs.Lendings.{lent}
 use Rattle.exec_close.proofs.Closed.{close-refused, closes}
 use borrow.Author.Needs.{needs}
 use Rattle.exec_close.proofs.close.coro_close.Statement.{statement}

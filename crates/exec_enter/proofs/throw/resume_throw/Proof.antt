@@ -1,7 +1,7 @@
 -- `resume_throw` meets the definition: the words of two registers, and what the first names. Assumes nothing.
 use mathlib.Core.Path.{sym, _∙_}
-use Rattle.memory.specs.Memory.{Lent, Beside}
-use Rattle.memory.specs.Lendings.{lent}
+use Rattle.memory_world.specs.Memory.{Lent, Beside}
+use Rattle.memory_world.specs.Lendings.{lent}
 use Rattle.exec_enter.proofs.Thrown.{throw-refused, throws}
 use borrow.Author.Needs.{needs}
 use Rattle.exec_enter.proofs.throw.resume_throw.Statement.{statement}

@@ -1,6 +1,6 @@
 -- `exhausted` meets its contract, by what the iterator says and then its source. Assumes nothing.
 use mathlib.Core.Path.{_∙_}
-use Rattle.memory.specs.Lendings.{table, plain}
+use Rattle.memory_world.specs.Lendings.{table, plain}
 use Rattle.exec_iter.proofs.Looped.{done-in, end-done, end-returned}
 use borrow.Author.Needs.{needs}
 use Rattle.exec_iter.proofs.iter.exhausted.Statement.{statement}

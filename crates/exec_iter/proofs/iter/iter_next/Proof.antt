@@ -1,7 +1,7 @@
 -- `iter_next` meets the definition: the words of two registers, and what the second names. Assumes nothing.
 use mathlib.Core.Path.{sym, _∙_}
-use Rattle.memory.specs.Memory.{Lent, Beside}
-use Rattle.memory.specs.Lendings.{lent}
+use Rattle.memory_world.specs.Memory.{Lent, Beside}
+use Rattle.memory_world.specs.Lendings.{lent}
 use Rattle.exec_iter.proofs.Looped.{next-refused, iterates}
 use borrow.Author.Needs.{needs}
 use Rattle.exec_iter.proofs.iter.iter_next.Statement.{statement}

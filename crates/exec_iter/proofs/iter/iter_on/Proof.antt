@@ -1,7 +1,7 @@
 -- `iter_on` meets the definition: the end of a loop, a source that awaits, or an entry that sends nil. Assumes nothing.
 use mathlib.Core.Path.{sym, _∙_}
-use Rattle.memory.specs.Memory.{Beside}
-use Rattle.memory.specs.Lendings.{lent}
+use Rattle.memory_world.specs.Memory.{Beside}
+use Rattle.memory_world.specs.Lendings.{lent}
 use Rattle.exec_iter.proofs.Looped.{next-ended, next-awaiting, next-entered}
 use borrow.Author.Needs.{needs}
 use Rattle.exec_iter.proofs.iter.iter_on.Statement.{statement}

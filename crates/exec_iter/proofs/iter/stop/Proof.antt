@@ -1,7 +1,7 @@
 -- `stop` meets its contract: an iterator marked as done, and a flag put. Assumes nothing.
 use Rattle.model.specs.Heap.{setDone}
-use Rattle.memory.specs.Memory.{onSlots}
-use Rattle.memory.specs.Lendings.{top, plain}
+use Rattle.memory_world.specs.Memory.{onSlots}
+use Rattle.memory_world.specs.Lendings.{top, plain}
 use borrow.Author.Needs.{needs}
 use Rattle.exec_iter.proofs.iter.stop.Statement.{statement}
 use Rattle.exec_iter.proofs.iter.stop.Tie as tie

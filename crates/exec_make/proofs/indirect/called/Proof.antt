@@ -4,9 +4,9 @@ use Prim.Native.Nat.{_<_}
 use native.Mathlib.Omega.{arith}
 use lib.ListN.{getD}
 use borrow.Author.Tests.{ltb-true, not-true, not-false}
-use Rattle.memory.specs.Memory.{Lent, Beside}
+use Rattle.memory_world.specs.Memory.{Lent, Beside}
 use Rattle.exec_make.specs.Indirect.{tableSetup}
-use Rattle.memory.specs.Lendings.{plain}
+use Rattle.memory_world.specs.Lendings.{plain}
 use Rattle.exec_make.proofs.Callee.{no-callee, no-function, other-count, is-callee}
 use borrow.Author.Needs.{needs}
 use Rattle.exec_make.proofs.indirect.called.Statement.{statement}

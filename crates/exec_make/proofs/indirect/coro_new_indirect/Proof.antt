@@ -1,9 +1,9 @@
 -- `coro_new_indirect` meets the model: a creation, and its word. Assumes nothing.
 use Rattle.model.specs.Exec.{indirect}
-use Rattle.memory.specs.Memory.{Lent, Beside}
-use Rattle.memory.specs.Lendings.{topMaking, plain}
+use Rattle.memory_world.specs.Memory.{Lent, Beside}
+use Rattle.memory_world.specs.Lendings.{topMaking, plain}
 use Rattle.exec_make.proofs.Newly.{still-fits}
-use Rattle.soundness.proofs.Made.{indirect-good}
+use Rattle.claims_sound.proofs.Made.{indirect-good}
 use Rattle.coro_create.proofs.Setting.{known}
 use Rattle.exec_make.proofs.Callee.{indirect-met}
 use borrow.Author.Needs.{needs}

@@ -1,7 +1,7 @@
 -- `indirect` meets the model, by the function that is called. Assumes nothing.
 use mathlib.Core.Path.{sym, _∙_}
-use Rattle.memory.specs.Memory.{Lent, Beside}
-use Rattle.memory.specs.Lendings.{topMaking, plain}
+use Rattle.memory_world.specs.Memory.{Lent, Beside}
+use Rattle.memory_world.specs.Lendings.{topMaking, plain}
 use Rattle.exec_make.proofs.Callee.{called-fits, called-function, indirect-refused, indirect-made}
 use borrow.Author.Needs.{needs}
 use Rattle.exec_make.proofs.indirect.indirect.Statement.{statement}

@@ -1,8 +1,8 @@
 -- `coro_new` meets the model: a creation, and its word. Assumes nothing.
 use Rattle.model.specs.Coro.{coroCreate}
 use Rattle.model.specs.Exec.{window}
-use Rattle.memory.specs.Memory.{Lent, Beside}
-use Rattle.memory.specs.Lendings.{topMaking, plain}
+use Rattle.memory_world.specs.Memory.{Lent, Beside}
+use Rattle.memory_world.specs.Lendings.{topMaking, plain}
 use Rattle.exec_make.proofs.Newly.{still-fits, create-still, new-met}
 use borrow.Author.Needs.{needs}
 use Rattle.exec_make.proofs.new.coro_new.Statement.{statement}

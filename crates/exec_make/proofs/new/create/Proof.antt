@@ -2,8 +2,8 @@
 use mathlib.Core.Path.{ap}
 use Prim.Native.Nat.{_+_}
 use native.Mathlib.Omega.{arith}
-use Rattle.memory.specs.Memory.{Lent, Beside}
-use Rattle.memory.specs.Lendings.{topMaking, plain}
+use Rattle.memory_world.specs.Memory.{Lent, Beside}
+use Rattle.memory_world.specs.Lendings.{topMaking, plain}
 use Rattle.exec_make.proofs.Newly.{window-is, with-window}
 use borrow.Author.Needs.{needs}
 use Rattle.exec_make.proofs.new.create.Statement.{statement}

@@ -3,9 +3,9 @@ use mathlib.Core.Path.{sym, _∙_, subst}
 use Rattle.model.specs.Cleanup.{charge}
 use Rattle.model.specs.declared.call.OptPc.{OptPc}
 use Rattle.model.specs.declared.machine.Charge.{Charge}
-use Rattle.memory.specs.Memory.{Lent, Beside}
-use Rattle.memory.specs.Lendings.{topSetup, plain}
-use Rattle.memory.specs.Contract.{Does}
+use Rattle.memory_world.specs.Memory.{Lent, Beside}
+use Rattle.memory_world.specs.Lendings.{topSetup, plain}
+use Rattle.memory_world.specs.Contract.{Does}
 use Rattle.exec_make.proofs.Hooked.{paid-sound, not-paid, was-paid}
 use borrow.Author.Needs.{needs}
 use Rattle.exec_make.proofs.spawn.call_hook.Statement.{statement}

@@ -3,10 +3,10 @@ use mathlib.Core.Path.{sym, _∙_, subst}
 use Prim.Native.Nat.{_≤_}
 use Rattle.heap.specs.Word.{nil}
 use Rattle.model.specs.declared.machine.Cont.{Cont}
-use Rattle.tables.proofs.Setups.{regs-in}
-use Rattle.memory.specs.Memory.{Lent, Beside}
-use Rattle.memory.specs.Lendings.{topSetup, plain}
-use Rattle.machine.specs.Frame.{pushAt}
+use Rattle.memory_tables.proofs.Setups.{regs-in}
+use Rattle.memory_world.specs.Memory.{Lent, Beside}
+use Rattle.memory_world.specs.Lendings.{topSetup, plain}
+use Rattle.machine_state.specs.Frame.{pushAt}
 use Rattle.exec_make.proofs.Hooked.{hook-refused, hook-fits, hook-done}
 use borrow.Author.Needs.{needs}
 use Rattle.exec_make.proofs.spawn.push_hook.Statement.{statement}

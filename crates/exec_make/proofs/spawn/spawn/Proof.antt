@@ -1,10 +1,10 @@
 -- `spawn` meets the model, by the hook and by what indirect answers. Assumes nothing.
 use mathlib.Core.Path.{sym, _∙_}
 use Rattle.model.specs.Exec.{indirect}
-use Rattle.soundness.proofs.Sound.{→sound}
-use Rattle.memory.specs.Memory.{Lent, Beside}
-use Rattle.memory.specs.Lendings.{topMaking, plain}
-use Rattle.soundness.proofs.Made.{indirect-good}
+use Rattle.claims_sound.proofs.Sound.{→sound}
+use Rattle.memory_world.specs.Memory.{Lent, Beside}
+use Rattle.memory_world.specs.Lendings.{topMaking, plain}
+use Rattle.claims_sound.proofs.Made.{indirect-good}
 use Rattle.coro_create.proofs.Setting.{known}
 use Rattle.exec_make.proofs.Hooked.{hook-asks, no-hook, spawn-refused, spawn-called}
 use borrow.Author.Needs.{needs}

@@ -2,15 +2,15 @@
 use mathlib.Core.Path.{_∙_}
 use Rattle.model.specs.Frames.{storePc}
 use Rattle.model.specs.Coro.{coroSuspend}
-use Rattle.memory.specs.Memory.{Lent, Beside}
-use Rattle.memory.specs.Lendings.{lent}
-use Rattle.machine.proofs.Stored.{store-sounds}
-use Rattle.machine.proofs.Stored.{stored-ok}
+use Rattle.memory_world.specs.Memory.{Lent, Beside}
+use Rattle.memory_world.specs.Lendings.{lent}
+use Rattle.machine_state.proofs.Stored.{store-sounds}
+use Rattle.machine_state.proofs.Stored.{stored-ok}
 use Rattle.exec_yield.proofs.Settled.{drives, suspended, framed}
 use borrow.Author.Needs.{needs}
 use Rattle.exec_yield.proofs.suspending.suspend.Statement.{statement}
 use Rattle.exec_yield.proofs.suspending.suspend.Tie as tie
-use Rattle.memory.specs.Contract.{only}
+use Rattle.memory_world.specs.Contract.{only}
 
 -- the ways back that several clauses take
 abbrev coro-suspend-of : tie.After-deliver-all-arg3 → tie.After-coro-suspend

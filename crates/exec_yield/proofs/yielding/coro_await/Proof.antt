@@ -1,7 +1,7 @@
 -- `coro_await` meets the model: none runs, or the innermost one suspends. Assumes nothing.
 use mathlib.Core.Path.{refl}
-use Rattle.memory.specs.Memory.{Lent, Beside}
-use Rattle.memory.specs.Lendings.{lent}
+use Rattle.memory_world.specs.Memory.{Lent, Beside}
+use Rattle.memory_world.specs.Lendings.{lent}
 use Rattle.exec_yield.proofs.Yields.{some-active, idle, runs, await-idle, await-runs}
 use borrow.Author.Needs.{needs}
 use Rattle.exec_yield.proofs.yielding.coro_await.Statement.{statement}

@@ -2,9 +2,9 @@
 use mathlib.Core.Path.{ap, _∙_}
 use native.Mathlib.Omega.{arith}
 use Rattle.model.specs.Exec.{autoKey}
-use Rattle.memory.specs.Memory.{Lent, Beside}
-use Rattle.memory.specs.Lendings.{lent}
-use Rattle.machine.proofs.Allocation.{heap-room}
+use Rattle.memory_world.specs.Memory.{Lent, Beside}
+use Rattle.memory_world.specs.Lendings.{lent}
+use Rattle.machine_state.proofs.Allocation.{heap-room}
 use Rattle.exec_yield.proofs.Yields.{some-active, idle, runs, innermost, yield-idle, yield-runs, key-sounds, key-run}
 use borrow.Author.Needs.{needs}
 use Rattle.exec_yield.proofs.yielding.coro_yield.Statement.{statement}

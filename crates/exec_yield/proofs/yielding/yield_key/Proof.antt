@@ -1,7 +1,7 @@
 -- `yield_key` meets the model, arm by arm. Assumes nothing.
 use mathlib.Core.Path.{refl}
-use Rattle.memory.specs.Memory.{Lent, Beside}
-use Rattle.memory.specs.Lendings.{lent}
+use Rattle.memory_world.specs.Memory.{Lent, Beside}
+use Rattle.memory_world.specs.Lendings.{lent}
 use Rattle.exec_yield.proofs.Yields.{keyed-yield, unkeyed-yield}
 use borrow.Author.Needs.{needs}
 use Rattle.exec_yield.proofs.yielding.yield_key.Statement.{statement}

@@ -1,8 +1,8 @@
 -- `yield_kv` meets the model: none runs, or the innermost one suspends with its keys. Assumes nothing.
 use mathlib.Core.Path.{refl, ap, _∙_}
 use native.Mathlib.Omega.{arith}
-use Rattle.memory.specs.Memory.{Lent, Beside}
-use Rattle.memory.specs.Lendings.{lent}
+use Rattle.memory_world.specs.Memory.{Lent, Beside}
+use Rattle.memory_world.specs.Lendings.{lent}
 use Rattle.exec_yield.proofs.Yields.{some-active, idle, runs, innermost, kv-idle, kv-runs}
 use borrow.Author.Needs.{needs}
 use Rattle.exec_yield.proofs.yielding.yield_kv.Statement.{statement}

@@ -2,7 +2,7 @@
 use mathlib.Core.Path.{ap, _∙_}
 use Prim.Native.Nat.{_+_}
 use Rattle.lists.specs.Parts.{part, splice}
-use Rattle.tables.proofs.Padded.{moved}
+use Rattle.memory_tables.proofs.Padded.{moved}
 use borrow.Author.Needs.{needs}
 use Rattle.furnace.proofs.note.keep.Statement.{statement}
 use Rattle.furnace.proofs.note.keep.Tie as tie

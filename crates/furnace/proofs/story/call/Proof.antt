@@ -3,7 +3,7 @@ use mathlib.Core.Path.{sym}
 use lib.ListN.{List·getD-eq-default}
 use borrow.Author.Needs.{needs}
 use Rattle.model.specs.declared.call.Op.{Op}
-use Rattle.calls.proofs.Past.{past}
+use Rattle.memory_calls.proofs.Past.{past}
 use Rattle.furnace.specs.Story.{story}
 use Rattle.furnace.proofs.story.call.Statement.{statement}
 use Rattle.furnace.proofs.story.call.Tie as tie

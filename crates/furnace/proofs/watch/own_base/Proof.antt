@@ -1,6 +1,6 @@
 -- `own_base` meets its contract. Assumes nothing.
 use mathlib.Core.Path.{ap, _∙_}
-use Rattle.tables.specs.Layout.{baseIn}
+use Rattle.memory_tables.specs.Layout.{baseIn}
 use Rattle.furnace.specs.Watch.{floorIn}
 use borrow.Author.Needs.{needs}
 use Rattle.furnace.proofs.watch.own_base.Statement.{statement}

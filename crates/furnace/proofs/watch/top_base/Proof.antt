@@ -1,6 +1,6 @@
 -- `top_base` meets its contract. Assumes nothing.
 use mathlib.Core.Path.{ap, _∙_}
-use Rattle.tables.specs.Layout.{baseIn}
+use Rattle.memory_tables.specs.Layout.{baseIn}
 use borrow.Author.Needs.{needs}
 use Rattle.furnace.proofs.watch.top_base.Statement.{statement}
 use Rattle.furnace.proofs.watch.top_base.Tie as tie

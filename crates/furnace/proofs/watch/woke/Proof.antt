@@ -5,7 +5,7 @@ use Prim.Native.Nat.{ℕ, _-_, _≤_, _<_}
 use native.Mathlib.Omega.{arith}
 use borrow.Author.Needs.{needs}
 use lib.ListN.{length, drop}
-use Rattle.calls.specs.Codes.{same}
+use Rattle.memory_calls.specs.Codes.{same}
 use Rattle.furnace.specs.Watch.{sentTo}
 use Rattle.furnace.proofs.Words.{sent-long, shorter, differ, go-on, all-same}
 use Rattle.furnace.proofs.watch.woke.Statement.{statement}

@@ -4,9 +4,9 @@ use mathlib.Core.Bool.{true}
 use lib.ListN.{length}
 use Rattle.model.specs.Machine.{orNil, applyCont}
 use Rattle.model.specs.Sound.{contLies}
-use Rattle.memory.specs.Memory.{onSlots}
-use Rattle.memory.specs.Lendings.{topTable, plain}
-use Rattle.memory.specs.Contract.{Does}
+use Rattle.memory_world.specs.Memory.{onSlots}
+use Rattle.memory_world.specs.Lendings.{topTable, plain}
+use Rattle.memory_world.specs.Contract.{Does}
 use Rattle.machine_finish.proofs.Results.{entry-is, discard-is, coro-is, write-none, write-some, value-is, applies, put-fits}
 use borrow.Author.Needs.{needs}
 use Rattle.machine_finish.proofs.cont.apply_cont.Statement.{statement}

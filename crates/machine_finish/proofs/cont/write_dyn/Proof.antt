@@ -5,9 +5,9 @@ use Rattle.model.specs.Frames.{putReg}
 use Rattle.model.specs.Heap.{toDyn}
 use Rattle.model.specs.Machine.{applyCont}
 use Rattle.model.specs.declared.machine.Cont.{Cont}
-use Rattle.memory.specs.Memory.{onStack, onFrames, onSlots}
-use Rattle.memory.specs.Lendings.{topTable, plain}
-use Rattle.memory.proofs.Does.{does}
+use Rattle.memory_world.specs.Memory.{onStack, onFrames, onSlots}
+use Rattle.memory_world.specs.Lendings.{topTable, plain}
+use Rattle.memory_world.proofs.Does.{does}
 use Rattle.machine_finish.proofs.Results.{dyn-put, dyn-not, dyn-room, put-fits-dyn}
 use borrow.Author.Needs.{needs}
 use Rattle.machine_finish.proofs.cont.write_dyn.Statement.{statement}

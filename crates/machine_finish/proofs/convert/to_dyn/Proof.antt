@@ -1,7 +1,7 @@
 -- `to_dyn` meets the definition, outcome by outcome. Assumes nothing.
 use mathlib.Core.Path.{_≡_, ap}
 use native.Mathlib.Omega.{arith}
-use Rattle.memory.specs.Lendings.{table, plain}
+use Rattle.memory_world.specs.Lendings.{table, plain}
 use Rattle.machine_finish.proofs.Conversion.{dyn-refused, dyn-made}
 use borrow.Author.Needs.{needs}
 use Rattle.machine_finish.proofs.convert.to_dyn.Statement.{statement}

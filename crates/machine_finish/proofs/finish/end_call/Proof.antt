@@ -2,9 +2,9 @@
 use mathlib.Core.Path.{refl}
 use Rattle.model.specs.World.{World}
 use Rattle.model.specs.Machine.{applyCont}
-use Rattle.memory.specs.Memory.{Lent, Beside, Rep, onStack, onSlots}
-use Rattle.memory.specs.Lendings.{topTable, plain}
-use Rattle.machine.specs.Frame.{popTop}
+use Rattle.memory_world.specs.Memory.{Lent, Beside, Rep, onStack, onSlots}
+use Rattle.memory_world.specs.Lendings.{topTable, plain}
+use Rattle.machine_state.specs.Frame.{popTop}
 use Rattle.machine_finish.proofs.Ends.{on-top, may-pop, end-applies, end-steps, call-ends}
 use borrow.Author.Needs.{needs}
 use Rattle.machine_finish.proofs.finish.end_call.Statement.{statement}

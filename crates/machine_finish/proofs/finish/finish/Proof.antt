@@ -6,13 +6,13 @@ use Rattle.model.specs.World.{World}
 use Rattle.model.specs.Machine.{finish}
 use Rattle.model.specs.declared.call.Answer.{Answer}
 use Rattle.model.specs.declared.machine.Frame.{Frame}
-use Rattle.tables.specs.Layout.{frameIn}
-use Rattle.memory.specs.Memory.{Lent, Beside, Rep, onChain, onSlots, onSaved}
-use Rattle.memory.specs.Lendings.{lent}
-use Rattle.memory.proofs.Does.{does}
-use Rattle.machine.specs.Frame.{popTop}
-use Rattle.machine.proofs.Tops.{no-top}
-use Rattle.machine.proofs.Ways.{driver-way}
+use Rattle.memory_tables.specs.Layout.{frameIn}
+use Rattle.memory_world.specs.Memory.{Lent, Beside, Rep, onChain, onSlots, onSaved}
+use Rattle.memory_world.specs.Lendings.{lent}
+use Rattle.memory_world.proofs.Does.{does}
+use Rattle.machine_state.specs.Frame.{popTop}
+use Rattle.machine_state.proofs.Tops.{no-top}
+use Rattle.machine_state.proofs.Ways.{driver-way}
 use Rattle.machine_finish.proofs.Ends.{On, on-top, no-frame, finish-out, may-pop}
 use borrow.Author.Needs.{needs}
 use Rattle.machine_finish.proofs.finish.finish.Statement.{statement}

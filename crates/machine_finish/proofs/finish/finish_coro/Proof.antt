@@ -6,9 +6,9 @@ use Rattle.model.specs.World.{World}
 use Rattle.model.specs.Frames.{popTo}
 use Rattle.model.specs.Heap.{toDyn}
 use Rattle.model.specs.declared.machine.Cont.{Cont}
-use Rattle.memory.specs.Memory.{Lent, Beside, Rep, onStack, onFrames, onChain, onSlots, onSaved}
-use Rattle.memory.specs.Lendings.{lent}
-use Rattle.machine.proofs.Allocation.{heap-room}
+use Rattle.memory_world.specs.Memory.{Lent, Beside, Rep, onStack, onFrames, onChain, onSlots, onSaved}
+use Rattle.memory_world.specs.Lendings.{lent}
+use Rattle.machine_state.proofs.Allocation.{heap-room}
 use Rattle.coro_end.proofs.Ending.{sound-rowed}
 use Rattle.machine_finish.proofs.Ends.{On, on-top, dyn-sounds, dyn-top, popped-to, body-pops, body-asks, body-refused, body-returns}
 use borrow.Author.Needs.{needs}

@@ -1,6 +1,6 @@
 -- `resume_in` meets the definition: the caller's pc steps, or it is refused. Assumes nothing.
 use mathlib.Core.Path.{sym, _∙_}
-use Rattle.memory.specs.Lendings.{frame, plain}
+use Rattle.memory_world.specs.Lendings.{frame, plain}
 use Rattle.machine_finish.proofs.Ends.{resumes, resumes-not}
 use borrow.Author.Needs.{needs}
 use Rattle.machine_finish.proofs.finish.resume_in.Statement.{statement}

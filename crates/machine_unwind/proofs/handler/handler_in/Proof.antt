@@ -3,9 +3,9 @@ use mathlib.Core.Path.{sym, ap₂, _∙_, subst}
 use Prim.Native.Nat.{_+_, _*_, _≤_}
 use lib.ListN.{length}
 use Rattle.model.specs.Program.{firstOf, funcOf}
-use Rattle.tables.specs.Layout.{functionIn}
+use Rattle.memory_tables.specs.Layout.{functionIn}
 use Rattle.machine_unwind.specs.Fits.{frameSetup}
-use Rattle.memory.specs.Lendings.{plain}
+use Rattle.memory_world.specs.Lendings.{plain}
 use Rattle.machine_unwind.proofs.Handlers.{handler-read}
 use borrow.Author.Needs.{needs}
 use Rattle.machine_unwind.proofs.handler.handler_in.Statement.{statement}

@@ -1,6 +1,6 @@
 -- `take_handler` meets its contract: a unit, a word and a pc. Assumes nothing.
 use mathlib.Core.Path.{sym, _∙_}
-use Rattle.memory.specs.Lendings.{top, plain}
+use Rattle.memory_world.specs.Lendings.{top, plain}
 use Rattle.machine_unwind.proofs.Turning.{handler-unpaid, handler-taken}
 use borrow.Author.Needs.{needs}
 use Rattle.machine_unwind.proofs.handler.take_handler.Statement.{statement}

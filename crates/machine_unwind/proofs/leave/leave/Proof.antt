@@ -2,10 +2,10 @@
 use mathlib.Core.Path.{sym, ap, _∙_, subst}
 use borrow.Author.Tests.{not-true, not-false}
 use Rattle.model.specs.Frames.{isCoro}
-use Rattle.memory.specs.Memory.{Lent, Beside, Rep}
-use Rattle.memory.specs.Lendings.{lent}
-use Rattle.machine.specs.Frame.{popOn, popTop}
-use Rattle.machine.proofs.Tops.{some-top, pop-fits}
+use Rattle.memory_world.specs.Memory.{Lent, Beside, Rep}
+use Rattle.memory_world.specs.Lendings.{lent}
+use Rattle.machine_state.specs.Frame.{popOn, popTop}
+use Rattle.machine_state.proofs.Tops.{some-top, pop-fits}
 use Rattle.coro_end.proofs.Known.{return-asks}
 use Rattle.coro_end.proofs.Ending.{sound-rowed}
 use Rattle.machine_unwind.proofs.Handlers.{its-cont}

@@ -4,10 +4,10 @@ use mathlib.Core.Path.{sym, _∙_, refl}
 use Prim.Native.Nat.{_≤_}
 use native.Mathlib.Omega.{arith}
 use borrow.Author.Tests.{not-true, not-false}
-use Rattle.memory.specs.Memory.{Lent, Beside}
-use Rattle.memory.specs.Lendings.{sixSetup, plain}
-use Rattle.memory.specs.Contract.{with}
-use Rattle.memory.proofs.Does.{SameLengths}
+use Rattle.memory_world.specs.Memory.{Lent, Beside}
+use Rattle.memory_world.specs.Lendings.{sixSetup, plain}
+use Rattle.memory_world.specs.Contract.{with}
+use Rattle.memory_world.proofs.Does.{SameLengths}
 use borrow.Author.Needs.{needs}
 use Rattle.machine_unwind.proofs.Along.{Along, along-start, along-none, along-ends, along-fewer, along-more}
 use Rattle.machine_unwind.proofs.search.search.Statement.{statement}

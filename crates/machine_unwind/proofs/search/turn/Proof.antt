@@ -1,8 +1,8 @@
 -- `turn` meets its contract: a handler taken, or the frame left. Assumes nothing.
 use mathlib.Core.Path.{_≡_, sym, _∙_}
 use Rattle.model.specs.World.{World}
-use Rattle.memory.specs.Memory.{Lent, Beside, Rep, onSetup}
-use Rattle.memory.specs.Lendings.{sixSetup, plain}
+use Rattle.memory_world.specs.Memory.{Lent, Beside, Rep, onSetup}
+use Rattle.memory_world.specs.Lendings.{sixSetup, plain}
 use Rattle.machine_unwind.specs.Turns.{handlerIn}
 use Rattle.machine_unwind.proofs.Handlers.{handler-fits, catch-fits}
 use Rattle.machine_unwind.proofs.Turning.{turn-takes, turn-leaves}

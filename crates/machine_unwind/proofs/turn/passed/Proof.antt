@@ -2,7 +2,7 @@
 use mathlib.Core.Path.{sym, ap, _∙_}
 use Rattle.model.specs.Frames.{isCoro}
 use Rattle.model.specs.Machine.{escape}
-use Rattle.soundness.proofs.Tests.{no-true}
+use Rattle.claims_sound.proofs.Tests.{no-true}
 use Rattle.machine_unwind.specs.Turns.{on}
 use borrow.Author.Needs.{needs}
 use Rattle.machine_unwind.proofs.turn.passed.Statement.{statement}

@@ -1,7 +1,7 @@
 -- `origin` meets its contract: no frame, or the top one. Assumes nothing.
 use mathlib.Core.Path.{refl}
 use native.Mathlib.Omega.{arith}
-use Rattle.memory.specs.Lendings.{frame, plain}
+use Rattle.memory_world.specs.Lendings.{frame, plain}
 use Rattle.machine_unwind.proofs.Raising.{origin-none, origin-top}
 use borrow.Author.Needs.{needs}
 use Rattle.machine_unwind.proofs.unwind.origin.Statement.{statement}

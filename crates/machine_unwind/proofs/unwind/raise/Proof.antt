@@ -1,10 +1,10 @@
 -- `raise` meets its contract: where and what is raised, and the search. Assumes nothing.
 use mathlib.Core.Path.{refl, _∙_}
 use Rattle.model.specs.World.{World}
-use Rattle.memory.specs.Memory.{Lent, Beside, Rep}
-use Rattle.memory.specs.Lendings.{sixSetup, plain}
-use Rattle.memory.specs.Contract.{Does}
-use Rattle.machine.proofs.Allocation.{heap-room}
+use Rattle.memory_world.specs.Memory.{Lent, Beside, Rep}
+use Rattle.memory_world.specs.Lendings.{sixSetup, plain}
+use Rattle.memory_world.specs.Contract.{Does}
+use Rattle.machine_state.proofs.Allocation.{heap-room}
 use Rattle.machine_unwind.specs.Turns.{thrown}
 use Rattle.machine_unwind.proofs.Raising.{thrown-good, raised-fits, raise-refused, raise-searched}
 use borrow.Author.Needs.{needs}

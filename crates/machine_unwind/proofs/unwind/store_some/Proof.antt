@@ -1,8 +1,8 @@
 -- `store_some` meets its contract: no frame, no pc, or a pc stored. Assumes nothing.
 use mathlib.Core.Path.{sym, subst}
 use Rattle.model.specs.Machine.{storeSome}
-use Rattle.memory.specs.Memory.{Rep}
-use Rattle.memory.specs.Lendings.{frame, plain}
+use Rattle.memory_world.specs.Memory.{Rep}
+use Rattle.memory_world.specs.Lendings.{frame, plain}
 use Rattle.machine_unwind.proofs.Raising.{none-stored}
 use borrow.Author.Needs.{needs}
 use Rattle.machine_unwind.proofs.unwind.store_some.Statement.{statement}

@@ -2,7 +2,7 @@
 use mathlib.Core.Path.{refl, ap}
 use Rattle.heap.specs.Word.{nil}
 use Rattle.model.specs.Object.{Object}
-use Rattle.memory.specs.Lendings.{table, plain}
+use Rattle.memory_world.specs.Lendings.{table, plain}
 use Rattle.machine_unwind.proofs.Raising.{thrown-word, thrown-object, thrown-passes}
 use borrow.Author.Needs.{needs}
 use Rattle.machine_unwind.proofs.unwind.thrown.Statement.{statement}

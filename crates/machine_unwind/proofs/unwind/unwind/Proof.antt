@@ -2,10 +2,10 @@
 use mathlib.Core.Path.{refl, sym, _∙_}
 use borrow.Author.Tests.{not-true, not-false}
 use Rattle.model.specs.Machine.{storeSome}
-use Rattle.memory.specs.Memory.{Lent, Beside}
-use Rattle.memory.specs.Lendings.{sixSetup, plain}
-use Rattle.memory.specs.Contract.{with}
-use Rattle.memory.proofs.Does.{ok-next}
+use Rattle.memory_world.specs.Memory.{Lent, Beside}
+use Rattle.memory_world.specs.Lendings.{sixSetup, plain}
+use Rattle.memory_world.specs.Contract.{with}
+use Rattle.memory_world.proofs.Does.{ok-next}
 use Rattle.machine_unwind.proofs.Raising.{some-sounds, some-setup, unwind-refused, unwind-raises}
 use borrow.Author.Needs.{needs}
 use Rattle.machine_unwind.proofs.unwind.unwind.Statement.{statement}

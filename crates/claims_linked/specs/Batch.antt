@@ -1,0 +1,39 @@
+-- A batch of calls is a list of calls of the Claim's engine (lent_claims/specs/Claim.antt), so what is promised of every list of outer
+-- calls is promised of every batch. Words that are no call leave the machine as it is, and are not in the list.
+use Prim.Native.Nat.{ℕ}
+use mathlib.Core.Path.{_≡_}
+use mathlib.Core.Bool.{true}
+use mathlib.Core.List.{List, [], _∷_, _++_, map}
+use lib.ListN.{length, getD}
+use Rattle.lists.specs.Pick.{pick}
+use Rattle.heap.specs.declared.fault.Fault.{Fault}
+use Rattle.model.specs.Lists.{each}
+use Rattle.model.specs.Call.{isWord, Operation}
+use Rattle.model.specs.declared.call.Answer.{Answer}
+use Rattle.memory_calls.specs.declared.call.Read.{Read}
+use Rattle.claims_model.specs.Engine.{calls, run}
+use Rattle.memory_step.specs.Step.{State, isSound, Call, Do, step}
+use Rattle.claims_memory.specs.Engine.{outer}
+use Rattle.outer_run.specs.Run.{runWords, callsIn}
+
+-- the calls among what was read, in order
+pub data Calls : List Read → List Call → Type 0 where
+  none : Calls [] []
+  is : (o : Operation) (rs : List Read) (ks : List Call) → Calls rs ks → Calls (Read.Is (o .op) ∷ rs) (Do o ∷ ks)
+  not : (f : Fault) (rs : List Read) (ks : List Call) → Calls rs ks → Calls (Read.Not f ∷ rs) ks
+
+pub record Listed (rs : List Read) : Type 0 where
+  pub list : List Call
+  pub calls : Calls rs list
+
+pub record Batch : Type 0 where
+  -- whatever is read from words of 64 bits
+  pub listed : (n : ℕ) (cs : List ℕ) → each isWord cs ≡ true → Listed (callsIn n cs)
+  -- what the batch leaves
+  pub left : (s : State) (rs : List Read) (ks : List Call) → Calls rs ks → runWords s rs .state ≡ run outer s (map calls ks)
+  -- what it answers: as many answers; a call's is its answer after the calls before it; what is no call is refused, with 11 first
+  pub long : (s : State) (rs : List Read) → length (runWords s rs .answers) ≡ length rs
+  pub answer : (s : State) (rs : List Read) (ks : List Call) (o : Operation) (more : List Read) (d : Answer) → Calls rs ks
+      → getD (runWords s (rs ++ (Read.Is (o .op) ∷ more)) .answers) (length rs) d ≡ step (run outer s (map calls ks)) (Do o) .answer
+  pub refused : (s : State) (rs : List Read) (ks : List Call) (f : Fault) (more : List Read) (d : Answer) → Calls rs ks
+      → getD (runWords s (rs ++ (Read.Not f ∷ more)) .answers) (length rs) d ≡ Answer.Refused (pick (isSound (run outer s (map calls ks))) f Fault.Unsound)

@@ -1,0 +1,19 @@
+-- The fuel record is the host's (01), and Sound speaks of it by itself ("fuel 0 while banked"): a sound machine is sound with any record
+-- that is so, be it another machine's.
+use mathlib.Core.Path.{_≡_}
+use mathlib.Core.Bool.{Bool, true, _||_}
+use lib.Dec.{eqb}
+use Rattle.model.specs.Sound.{isNone}
+use Rattle.model.specs.declared.machine.Fuel.{Fuel}
+use Rattle.memory_step.specs.Step.{State, isSound}
+
+-- 01: "fuel 0 while banked"
+abbrev pub fuelSound : Fuel → Bool
+fuelSound f = isNone (f .bank) || eqb (f .fuel) 0
+
+abbrev pub fuelled : State → Fuel → State
+fuelled s f = record { words = s .words; machine = s .machine; fuel = f }
+
+pub record AnyFuel : Type 0 where
+  pub own : (s : State) → isSound s ≡ true → fuelSound (s .fuel) ≡ true
+  pub any : (s : State) (f : Fuel) → isSound s ≡ true → fuelSound f ≡ true → isSound (fuelled s f) ≡ true

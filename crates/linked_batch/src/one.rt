@@ -1,0 +1,349 @@
+// One call of a list, on a machine that is known to be sound.
+ghost use mathlib.Core.Path.{_≡_};
+ghost use Prim.Native.Nat.{_+_, _*_, _≤_, _<_};
+ghost use lib.ListN.{length, getD};
+ghost use Rattle.lists.specs.Chunks.{chunkAt, putChunk};
+ghost use Rattle.memory_world.specs.Contract.{atEntry, atExit};
+ghost use Rattle.memory_calls.specs.Call.{six, opOf};
+ghost use Rattle.memory_calls.specs.Answer.{answerWords};
+ghost use Rattle.outer_call.specs.State.{nine};
+ghost use Rattle.outer_run.specs.Run.{readIn};
+ghost use Rattle.linked_calls.specs.Host.{host};
+ghost use Rattle.linked_switch.specs.Went.{goesOn};
+ghost use Rattle.linked_batch.specs.Batch.{PutFits, SwitchFits, Goes, OneFits, One};
+use heap::fault::Fault;
+use linked_calls::call::bvm_kept;
+use linked_switch::answer::goes_on;
+use linked_switch::enters::Enters;
+use linked_switch::enters::may_enter;
+use linked_switch::leaves::Sleeper;
+use linked_switch::leaves::may_leave;
+use linked_switch::resume::resume_at;
+use linked_switch::yielding::yield_at;
+use model::call::Answer;
+use outer_run::list::put_at;
+
+// Word k of call i.
+fn word(calls: &[u64], i: usize, k: usize) -> u64
+    requires { ⌜ (i * 6 + 6 ≤ length (now calls)) × (k < 6) ⌝ }
+    ensures { λ r. ⌜ r ≡ getD (chunkAt 6 (now (calls .entry)) i) k 0 ⌝ }
+{
+    calls[i * 6 + k]
+}
+
+// Answer i: the frame on top goes on.
+fn goes_on_at(answers: &mut [u64], i: usize)
+    requires { ⌜ i * 8 + 8 ≤ length (now answers) ⌝ }
+    ensures { λ _. ⌜ now (answers .exit) ≡ putChunk 8 (now (answers .entry)) i (answerWords goesOn) ⌝ }
+{
+    let from = i * 8;
+    let to = from + 8;
+    goes_on(&mut answers[from..to]);
+}
+
+// Any call, its answer at place i.
+fn general_at(
+    stack: &mut [u64],
+    frames: &mut [u64],
+    chain: &mut [u64],
+    slots: &mut [u64],
+    saved_stack: &mut [u64],
+    saved_frames: &mut [u64],
+    ready: &mut [u64],
+    finalize: &mut [u64],
+    setup: &[u64],
+    machine: &mut [u64],
+    fuel: &mut [u64],
+    answers: &mut [u64],
+    i: usize,
+    n: u64,
+    a: u64,
+    b: u64,
+    c: u64,
+    d: u64,
+    e: u64,
+)
+    requires { ⌜ PutFits (host (nine stack frames chain slots «saved_stack» «saved_frames» ready finalize setup now) (now machine) (now fuel)) (now answers) i ⌝ }
+    ensures { λ _. ⌜ One (host (nine stack frames chain slots «saved_stack» «saved_frames» ready finalize setup atEntry) (atEntry machine) (atEntry fuel))
+        (opOf (six n a b c d e)) (now (answers .entry)) i
+        (host (nine stack frames chain slots «saved_stack» «saved_frames» ready finalize setup atExit) (atExit machine) (atExit fuel)) (now (answers .exit)) ⌝ }
+{
+    let call = [n, a, b, c, d, e];
+    let at = i * 8;
+    let end = at + 8;
+    bvm_kept(
+        stack,
+        frames,
+        chain,
+        slots,
+        saved_stack,
+        saved_frames,
+        ready,
+        finalize,
+        setup,
+        machine,
+        fuel,
+        &call,
+        &mut answers[at..end],
+    );
+}
+
+// Resume: a register that lies in the top frame has 16 bits.
+fn resume_call(
+    stack: &mut [u64],
+    frames: &mut [u64],
+    chain: &mut [u64],
+    slots: &mut [u64],
+    saved_stack: &mut [u64],
+    saved_frames: &mut [u64],
+    ready: &mut [u64],
+    finalize: &mut [u64],
+    setup: &[u64],
+    machine: &mut [u64],
+    fuel: &mut [u64],
+    answers: &mut [u64],
+    i: usize,
+    pc: u64,
+    dst: u64,
+    c: u64,
+    src: u64,
+)
+    requires { ⌜ SwitchFits (host (nine stack frames chain slots «saved_stack» «saved_frames» ready finalize setup now) (now machine) (now fuel)) (now answers) i pc ⌝ }
+    ensures { λ _. ⌜ One (host (nine stack frames chain slots «saved_stack» «saved_frames» ready finalize setup atEntry) (atEntry machine) (atEntry fuel))
+        (opOf (six 6 pc dst c src 0)) (now (answers .entry)) i
+        (host (nine stack frames chain slots «saved_stack» «saved_frames» ready finalize setup atExit) (atExit machine) (atExit fuel)) (now (answers .exit)) ⌝ }
+{
+    match may_enter(stack, frames, slots, machine, fuel[0], dst, c, src) {
+        Enters::At(k, v) => {
+            resume_at(
+                stack,
+                frames,
+                chain,
+                slots,
+                saved_stack,
+                saved_frames,
+                machine,
+                fuel,
+                pc,
+                dst,
+                c,
+                src,
+                v,
+                k,
+            );
+            goes_on_at(answers, i);
+        }
+        Enters::Not => general_at(
+            stack,
+            frames,
+            chain,
+            slots,
+            saved_stack,
+            saved_frames,
+            ready,
+            finalize,
+            setup,
+            machine,
+            fuel,
+            answers,
+            i,
+            6,
+            pc,
+            dst,
+            c,
+            src,
+            0,
+        ),
+    }
+}
+
+// Yield.
+fn yield_call(
+    stack: &mut [u64],
+    frames: &mut [u64],
+    chain: &mut [u64],
+    slots: &mut [u64],
+    saved_stack: &mut [u64],
+    saved_frames: &mut [u64],
+    ready: &mut [u64],
+    finalize: &mut [u64],
+    setup: &[u64],
+    machine: &mut [u64],
+    fuel: &mut [u64],
+    answers: &mut [u64],
+    i: usize,
+    pc: u64,
+    dst: u64,
+    src: u64,
+)
+    requires { ⌜ SwitchFits (host (nine stack frames chain slots «saved_stack» «saved_frames» ready finalize setup now) (now machine) (now fuel)) (now answers) i pc ⌝ }
+    ensures { λ _. ⌜ One (host (nine stack frames chain slots «saved_stack» «saved_frames» ready finalize setup atEntry) (atEntry machine) (atEntry fuel))
+        (opOf (six 3 pc dst src 0 0)) (now (answers .entry)) i
+        (host (nine stack frames chain slots «saved_stack» «saved_frames» ready finalize setup atExit) (atExit machine) (atExit fuel)) (now (answers .exit)) ⌝ }
+{
+    match may_leave(frames, chain, slots, machine, fuel[0], dst, src) {
+        Sleeper::At(k, key, largest) => {
+            yield_at(
+                stack,
+                frames,
+                chain,
+                slots,
+                saved_stack,
+                saved_frames,
+                machine,
+                fuel,
+                pc,
+                dst,
+                src,
+                k,
+                key,
+                largest,
+            );
+            goes_on_at(answers, i);
+        }
+        Sleeper::Not => general_at(
+            stack,
+            frames,
+            chain,
+            slots,
+            saved_stack,
+            saved_frames,
+            ready,
+            finalize,
+            setup,
+            machine,
+            fuel,
+            answers,
+            i,
+            3,
+            pc,
+            dst,
+            src,
+            0,
+            0,
+        ),
+    }
+}
+
+// Which way a call goes.
+enum Way {
+    Resume,
+    Yield,
+    General,
+}
+
+// A pc of 32 bits, and 0 after the operands.
+fn way_of(n: u64, a: u64, d: u64, e: u64) -> Way
+    ensures { λ r. ⌜ Goes n a d e r ⌝ }
+{
+    if 4294967295 < a {
+        return Way::General;
+    }
+    if e != 0 {
+        return Way::General;
+    }
+    if n == 6 {
+        return Way::Resume;
+    }
+    if n != 3 {
+        return Way::General;
+    }
+    if d != 0 {
+        return Way::General;
+    }
+    Way::Yield
+}
+
+// The call at place i. A last part of fewer than six words is none.
+pub(crate) fn one(
+    stack: &mut [u64],
+    frames: &mut [u64],
+    chain: &mut [u64],
+    slots: &mut [u64],
+    saved_stack: &mut [u64],
+    saved_frames: &mut [u64],
+    ready: &mut [u64],
+    finalize: &mut [u64],
+    setup: &[u64],
+    machine: &mut [u64],
+    fuel: &mut [u64],
+    calls: &[u64],
+    answers: &mut [u64],
+    i: usize,
+)
+    requires { ⌜ OneFits (host (nine stack frames chain slots «saved_stack» «saved_frames» ready finalize setup now) (now machine) (now fuel)) (now calls) (now answers) i ⌝ }
+    ensures { λ _. ⌜ One (host (nine stack frames chain slots «saved_stack» «saved_frames» ready finalize setup atEntry) (atEntry machine) (atEntry fuel))
+        (readIn (now (calls .entry)) i) (now (answers .entry)) i
+        (host (nine stack frames chain slots «saved_stack» «saved_frames» ready finalize setup atExit) (atExit machine) (atExit fuel)) (now (answers .exit)) ⌝ }
+{
+    if calls.len() - i * 6 < 6 {
+        put_at(answers, i, Answer::Refused(Fault::BadOperand));
+        return;
+    }
+    let n = word(calls, i, 0);
+    let a = word(calls, i, 1);
+    let b = word(calls, i, 2);
+    let c = word(calls, i, 3);
+    let d = word(calls, i, 4);
+    let e = word(calls, i, 5);
+    match way_of(n, a, d, e) {
+        Way::Resume => resume_call(
+            stack,
+            frames,
+            chain,
+            slots,
+            saved_stack,
+            saved_frames,
+            ready,
+            finalize,
+            setup,
+            machine,
+            fuel,
+            answers,
+            i,
+            a,
+            b,
+            c,
+            d,
+        ),
+        Way::Yield => yield_call(
+            stack,
+            frames,
+            chain,
+            slots,
+            saved_stack,
+            saved_frames,
+            ready,
+            finalize,
+            setup,
+            machine,
+            fuel,
+            answers,
+            i,
+            a,
+            b,
+            c,
+        ),
+        Way::General => general_at(
+            stack,
+            frames,
+            chain,
+            slots,
+            saved_stack,
+            saved_frames,
+            ready,
+            finalize,
+            setup,
+            machine,
+            fuel,
+            answers,
+            i,
+            n,
+            a,
+            b,
+            c,
+            d,
+            e,
+        ),
+    }
+}

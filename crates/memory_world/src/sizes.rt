@@ -1,0 +1,52 @@
+// The set-up's numbers by value, read from its words.
+ghost use mathlib.Core.Path.{_≡_};
+ghost use Prim.Native.Nat.{max};
+ghost use Rattle.model.specs.Sound.{rowWords};
+ghost use Rattle.memory_world.specs.Decode.{setupOf};
+ghost use Rattle.memory_world.specs.Sizes.{SetupFits, SizesTold};
+use crate::machine::Sizes;
+
+fn larger(a: usize, b: usize) -> usize
+    ensures { λ r. ⌜ r ≡ max a b ⌝ }
+{
+    if a < b {
+        return b;
+    }
+    a
+}
+
+// The words of a row: as many as the stack's, or the widest function's.
+fn row_words(setup: &[u64]) -> usize
+    requires { ⌜ SetupFits (now setup) ⌝ }
+    ensures { λ r. ⌜ r ≡ rowWords (setupOf (now (setup .entry))) ⌝ }
+{
+    let n = setup[13] as usize;
+    let mut most = setup[1] as usize;
+    let mut i = 0;
+    while i < n {
+        let at = 14 + i * 35;
+        let regs = setup[at] as usize;
+        most = larger(most, regs);
+        i += 1;
+    }
+    most
+}
+
+// The limits, the words of a row, and the costs.
+pub fn sizes(setup: &[u64]) -> Sizes
+    requires { ⌜ SetupFits (now setup) ⌝ }
+    ensures { λ r. ⌜ SizesTold (now (setup .entry)) r ⌝ }
+{
+    let l = memory_tables::program::limits(setup);
+    let costs = memory_tables::program::costs(setup);
+    let width = row_words(setup);
+    Sizes {
+        depth: l.depth as usize,
+        stack: l.stack as usize,
+        rows: l.rows as usize,
+        slots: l.slots as usize,
+        memory: l.memory,
+        width,
+        costs,
+    }
+}

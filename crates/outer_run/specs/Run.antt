@@ -1,0 +1,94 @@
+-- Calls in words: each is the outer call that its words are, one after the other.
+use mathlib.Core.Path.{_≡_}
+use mathlib.Core.Bool.{Bool, true}
+use mathlib.Core.List.{List, [], _∷_}
+use Prim.Native.Nat.{ℕ, _+_, _*_, _/_, _%_, _≤_}
+use lib.ListN.{length, replicate}
+use lib.Dec.{eqb, leb}
+use Rattle.lists.specs.Pick.{pick}
+use Rattle.lists.specs.Chunks.{chunkAt, chunks, words}
+use Rattle.lists.specs.Parts.{splice}
+use Rattle.heap.specs.declared.fault.Fault.{Fault}
+use Rattle.model.specs.declared.call.Answer.{Answer}
+use Rattle.memory_world.specs.declared.machine.Sizes.{Sizes}
+use Rattle.memory_world.specs.Words.{sizesOf}
+use Rattle.memory_world.specs.Decode.{setupOf}
+use Rattle.memory_calls.specs.Call.{opOf}
+use Rattle.memory_calls.specs.Answer.{answerWords}
+use Rattle.memory_calls.specs.declared.call.Read.{Read}
+use Rattle.memory_step.specs.Step.{State, Left, refuses, isSound, stepWords}
+
+-- ---- one
+
+-- 01: "Each tests 11 first": so also where the words are no call
+abbrev pub doWords : State → Read → Left
+doWords s (Read.Is o) = stepWords s o
+doWords s (Read.Not f) = refuses s (pick (isSound s) f Fault.Unsound)
+
+-- ---- a list: the states one after the other, and the answers
+
+pub record Ran : Type 0 where
+  pub state : State
+  pub answers : List Answer
+
+abbrev pub runWords : State → List Read → Ran
+runWords s [] = record { state = s; answers = [] }
+runWords s (r ∷ rs) =
+    let d = doWords s r in
+    let t = runWords (d .state) rs in
+    record { state = t .state; answers = d .answer ∷ t .answers }
+
+-- ---- in words: six a call, a last part of fewer than six being one that is none; eight an answer
+
+abbrev pub countOf : ℕ → ℕ
+countOf n = n / 6 + pick (eqb (n % 6) 0) 0 1
+
+abbrev pub readIn : List ℕ → ℕ → Read
+readIn cs i = opOf (chunkAt 6 cs i)
+
+abbrev pub callsIn : ℕ → List ℕ → List Read
+callsIn n cs = chunks 6 opOf n cs
+
+abbrev pub written : List ℕ → ℕ → List Answer → List ℕ
+written xs at answers = splice xs at (words answerWords answers)
+
+-- each of n calls answered 11
+abbrev pub refusals : ℕ → List Answer
+refusals n = replicate n (Answer.Refused Fault.Unsound)
+
+-- what a run leaves: 0, or why it was not made
+pub record RunLeft : Type 0 where
+  pub state : State
+  pub answers : List ℕ
+  pub number : ℕ
+
+abbrev pub ends : Bool → ℕ
+ends ok = pick ok 0 11
+
+-- too few words for the answers: 14, before anything else
+unfoldable pub runIn : State → List ℕ → List ℕ → RunLeft
+runIn s cs xs =
+    let n = countOf (length cs) in
+    let t = runWords s (callsIn n cs) in
+    pick (leb (n * 8) (length xs)) (record { state = t .state; answers = written xs 0 (t .answers); number = ends (isSound s) }) (record { state = s; answers = xs; number = 14 })
+
+-- ---- what the functions ask and promise
+
+-- it is known whether the words are sound, and if they are, the sizes are their set-up's
+pub record ReadFits (ok : Bool) (l : Sizes) (s : State) : Type 0 where
+  pub known : ok ≡ isSound s
+  pub sizes : ok ≡ true → l ≡ sizesOf (setupOf (s .words .setup))
+
+pub record Reads (ok : Bool) (s : State) (r : Read) (d : Left) : Type 0 where
+  pub is : d ≡ doWords s r
+  pub again : ok ≡ isSound (d .state)
+
+-- as many calls as the words hold, and words enough for their answers
+pub record ListFits (ok : Bool) (l : Sizes) (s : State) (cs xs : List ℕ) (n : ℕ) : Type 0 where
+  pub fits : ReadFits ok l s
+  pub calls : n ≡ countOf (length cs)
+  pub room : n * 8 ≤ length xs
+
+pub record Listed (s : State) (cs xs : List ℕ) (n : ℕ) (s′ : State) (xs′ : List ℕ) : Type 0 where
+  pub state : s′ ≡ runWords s (callsIn n cs) .state
+  pub answers : xs′ ≡ written xs 0 (runWords s (callsIn n cs) .answers)
