@@ -57,9 +57,9 @@ use Rattle.machine_added.proofs.fuel.GrantDid as G
 use Rattle.machine_added.proofs.fuel.GrantDid.Laws as G′
 use Rattle.outer_call.proofs.grant.granted as callee
 use Rattle.outer_call.proofs.grant.granted.Symbol as callee-def
-use Rattle.outer_call.proofs.grant.granted.Symbol.{name as #outer·grant·granted}
+use Rattle.outer_call.proofs.grant.granted.Symbol.{name as #outer_call·grant·granted}
 use Rattle.outer_call.proofs.grant.granted.Met as callee-thm
-use Rattle.outer_grant.proofs.grant.Key.{name as #grant·grant}
+use Rattle.outer_grant.proofs.grant.Key.{name as #outer_grant·grant}
 use Rattle.outer_grant.proofs.grant as grant
 use Rattle.outer_grant.proofs.grant.Statement as stated
 use Rattle.outer_grant.proofs.grant.Code as code
@@ -179,7 +179,7 @@ module _ {M : Type 1} (𝓤 : URA M) (H : Heap 𝓤) (A : Atoms 𝓤) (W : Given
         move ! (2 ∷ 3 ∷ []) $ join ! $ frame ! $ feqI ! (List Val) (vptr b o ∷ []) (vptr b o ∷ []) refl $ fjoin3 ! $ fjoin ! $
         owned ! An.the-row (Is An.the-row) (EL.makes An.the-type An′.the-plain 𝓤 H A) (r .answer) _ answer-is $ move ! (1 ∷ 0 ∷ []) $ done !
 
-  module _ (C : Calls 𝓤 H) (Λ : Loops 𝓤 H) (fm : FmC 𝓤 H (W .laws) C) (known : Triple 𝓤 (C #outer·grant·granted) (Of 𝓤 H A at-mem run)) where
+  module _ (C : Calls 𝓤 H) (Λ : Loops 𝓤 H) (fm : FmC 𝓤 H (W .laws) C) (known : Triple 𝓤 (C #outer_call·grant·granted) (Of 𝓤 H A at-mem run)) where
     walk : Are (Ts ρ) (Ises (Ts ρ)) a vs → ent 𝓤 (onEntry 𝓤 H A grant.signature (κ, ρ) (q, σ) x at) (WpFn 𝓤 H C Λ code.function (vptr b o ∷ flat (Ts ρ) vs) Post)
     walk are =
         let typed = all-typed 𝓤 H A (Ts ρ) (lawfuls 𝓤 H A W 9 1 ρ) a vs are in
@@ -232,13 +232,13 @@ module _ {M : Type 1} (𝓤 : URA M) (H : Heap 𝓤) (A : Atoms 𝓤) (W : Given
         (8 ∷ 9 ∷ []) $ free1 ! $ move ! (6 ∷ 7 ∷ []) $ free1 ! $ move ! (4 ∷ 5 ∷ []) $ free1 ! $ free0 ! $ by ! (exits r v is e))))))))))))))))))))))
 
 module _ {M : Type 1} (𝓤 : URA M) (H : Heap 𝓤) (A : Atoms 𝓤) (W : Given 𝓤 H A) (mem : Memory → SProp 𝓤) (run : Routine → Fun 𝓤) where
-  grant-walks : (C : Calls 𝓤 H) (Λ : Loops 𝓤 H) → FmC 𝓤 H (W .laws) C → Triple 𝓤 (C #outer·grant·granted) (Of 𝓤 H A mem run) → Walks 𝓤 H A grant.ended stayed (WpFn 𝓤 H C Λ code.function) (grant.clauses 𝓤 H A mem run)
+  grant-walks : (C : Calls 𝓤 H) (Λ : Loops 𝓤 H) → FmC 𝓤 H (W .laws) C → Triple 𝓤 (C #outer_call·grant·granted) (Of 𝓤 H A mem run) → Walks 𝓤 H A grant.ended stayed (WpFn 𝓤 H C Λ code.function) (grant.clauses 𝓤 H A mem run)
   grant-walks C Λ fm known = walked 𝓤 H A grant.ended stayed (grant.clauses 𝓤 H A mem run) (WpFn 𝓤 H C Λ code.function) (λ κs. (ptr-vals, sp (κs .1)))
       (λ κs. (mut-tells (named 0) (κs .0) F.the-row, tells 9 1 (κs .1)))
       (λ κs qs bounds a _ are. via 𝓤 _ (fst∗ 𝓤 _ (emp 𝓤)) (walk 𝓤 H A W mem run (κs .0) (κs .1) (qs .0) (qs .1) (a .0 .ptr .0) (a .0 .ptr .1) (a .0 .name) (a .0 .now) (a .1) C Λ fm known (are .1)))
 
 grant-meets : {M : Type 1} (𝓤 : URA M) (H : Heap 𝓤) (A : Atoms 𝓤) (W : Given 𝓤 H A) (mem : Memory → SProp 𝓤) (run : Routine → Fun 𝓤) (𝓣 : Tables 𝓤 H)
-    → Triple 𝓤 (𝓣 .C #outer·grant·granted) (Of 𝓤 H A mem run) → Meets 𝓤 H A grant.signature (WpFn 𝓤 H (𝓣 .C) (𝓣 .Λ) code.function) (grant.spec 𝓤 H A mem run)
+    → Triple 𝓤 (𝓣 .C #outer_call·grant·granted) (Of 𝓤 H A mem run) → Meets 𝓤 H A grant.signature (WpFn 𝓤 H (𝓣 .C) (𝓣 .Λ) code.function) (grant.spec 𝓤 H A mem run)
 grant-meets 𝓤 H A W mem run 𝓣 known =
     walk-meets 𝓤 H A grant.ended stayed W
     (goes-ref 𝓤 H A W 10 0 tt (plain (λ _. F.the-row)), go 𝓤 H A W (after (grant.ended .signature .params)) (grant.ended .kept .1) (λ κs. silents 9 1 (κs .1)))
@@ -248,6 +248,6 @@ pub grant-spec : {M : Type 1} → stated.statement M
 unfolding code.routine tablesOf
 grant-spec 𝓤 H 𝓜 𝓖 𝓡 =
     entered 𝓤 H (tripleOf 𝓤 H (𝓖 .A) grant.signature (grant.spec 𝓤 H (𝓖 .A) (𝓜 .mem) (𝓡 .run)))
-    (tables 𝓤 H 𝓜 𝓡 code.env .C) (tables 𝓤 H 𝓜 𝓡 code.env .Λ) #grant·grant code.function (code.unfolded 𝓤 H 𝓜 𝓡)
+    (tables 𝓤 H 𝓜 𝓡 code.env .C) (tables 𝓤 H 𝓜 𝓡 code.env .Λ) #outer_grant·grant code.function (code.unfolded 𝓤 H 𝓜 𝓡)
     (grant-meets 𝓤 H (𝓖 .A) (givenOf 𝓤 H 𝓜 𝓖) (𝓜 .mem) (𝓡 .run) (tablesOf 𝓤 H 𝓜 (tables 𝓤 H 𝓜 𝓡 code.env))
-    (cited 𝓤 H (Of 𝓤 H (𝓖 .A) (𝓜 .mem) (𝓡 .run)) 𝓜 𝓡 code.env #outer·grant·granted callee-def.routine code.calls-outer·grant·granted (callee-thm.met 𝓤 H 𝓜 𝓖 𝓡)))
+    (cited 𝓤 H (Of 𝓤 H (𝓖 .A) (𝓜 .mem) (𝓡 .run)) 𝓜 𝓡 code.env #outer_call·grant·granted callee-def.routine code.calls-outer-call·grant·granted (callee-thm.met 𝓤 H 𝓜 𝓖 𝓡)))
