@@ -1,11 +1,10 @@
 // The numbers that are no counts: the outcome and the fuel.
 ghost use mathlib.Core.Path.{_≡_};
 ghost use Rattle.check_machine.specs.Numbers.{outcomeTest, fuelTest};
+use heap::value::BITS32;
 use heap::value::Opt;
 use memory_world::machine::Told;
 use model::machine::Fuel;
-
-const BITS32: u64 = 0x1_0000_0000;
 
 // An outcome's four words.
 pub fn outcome_ok(t: Told) -> bool

@@ -14,6 +14,7 @@ use crate::saved::row_rest;
 use check_tables::queue::bit;
 use check_tables::queue::with_bit;
 use heap::object::CoroObj;
+use memory_tables::frame::FRAME_WIDTH;
 use memory_world::machine::Sizes;
 
 // No row; and what is refused.
@@ -98,7 +99,7 @@ fn row_free(saved: &[u64], asleep: &[u64], l: Sizes, n: usize) -> bool
     if !row_rest(saved, n, l.width, 0) {
         return false;
     }
-    row_rest(asleep, n, l.depth * 6, 0)
+    row_rest(asleep, n, l.depth * FRAME_WIDTH, 0)
 }
 
 // Row n is in the set, or has only zeros.

@@ -8,7 +8,9 @@ ghost use Rattle.check_machine.specs.Running.{running, RunningAsks, Runn
 use check_tables::queue::bit;
 use check_tables::queue::with_bit;
 use heap::heap::Coroutine;
+use heap::value::BITS32;
 use heap::value::Word;
+use memory_tables::active::ACTIVE_WIDTH;
 
 // Whether they are in order, and the set of their slots.
 pub struct Runs {
@@ -38,14 +40,14 @@ pub fn running(chain: &[u64], n: usize, slots: &[u64], count: usize) -> Runs
     let mut seen = [0u64; 64];
     let mut k = 0;
     while k < n {
-        let w = chain[k * 6];
+        let w = chain[k * ACTIVE_WIDTH];
         if !is_running(slots, count, w) {
             return Runs {
                 good: false,
                 set: seen,
             };
         }
-        let x = w % 0x1_0000_0000;
+        let x = w % BITS32;
         let at = (x / 64) as usize;
         let v = seen[at];
         if bit(v, x % 64) {

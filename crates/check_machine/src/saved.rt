@@ -11,6 +11,7 @@ ghost use Rattle.check_machine.specs.Saved.{largestIn, sizesIn, nothingS
 use check_tables::frames::saved_frames_ok;
 use check_tables::rest::rest_ok;
 use heap::object::CoroObj;
+use memory_tables::frame::FRAME_WIDTH;
 use memory_tables::frame::base_at;
 use memory_world::machine::Sizes;
 
@@ -153,5 +154,5 @@ pub fn coro_ok(
     if !row_rest(saved, row, l.width, regs) {
         return false;
     }
-    row_frames(asleep, row, l.depth * 6, setup, need, c)
+    row_frames(asleep, row, l.depth * FRAME_WIDTH, setup, need, c)
 }

@@ -17,6 +17,7 @@ use check_tables::room::counts_ok;
 use check_tables::room::room_ok;
 use check_tables::setup::setup_held;
 use heap::slot::WIDTH;
+use memory_tables::frame::FRAME_WIDTH;
 use memory_world::machine::Machine;
 use memory_world::machine::Sizes;
 use model::machine::Fuel;
@@ -110,7 +111,7 @@ fn objects_ok(
     if !rest_ok(saved, l.rows * l.width) {
         return false;
     }
-    rest_ok(asleep, l.rows * (l.depth * 6))
+    rest_ok(asleep, l.rows * (l.depth * FRAME_WIDTH))
 }
 
 // The two queues.

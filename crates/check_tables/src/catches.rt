@@ -1,22 +1,15 @@
 // One more than the largest catch register of each function: so many words a frame of it has at least.
 ghost use mathlib.Core.Path.{_≡_};
 ghost use mathlib.Core.Bool.{true};
-ghost use Prim.Native.Nat.{max};
 ghost use lib.ListN.{take};
 ghost use Rattle.memory_tables.specs.Layout.{handlersFrom};
 ghost use Rattle.memory_world.specs.Decode.{setupOf};
 ghost use Rattle.memory_sound.specs.Words.{setupHeld};
 ghost use Rattle.check_tables.specs.Frames.{catchWidth, Catches};
 ghost use Rattle.check_tables.specs.Catch.{CatchFits};
-
-fn larger(a: u64, b: u64) -> u64
-    ensures { λ r. ⌜ r ≡ max a b ⌝ }
-{
-    if a < b {
-        return b;
-    }
-    a
-}
+use heap::int::larger;
+use memory_tables::program::FUNCTION_WIDTH;
+use memory_tables::program::NUMBERS_WIDTH;
 
 // Of the n handlers from word `at` on.
 fn widest_catch(setup: &[u64], at: usize, n: usize) -> u64
@@ -42,7 +35,7 @@ pub fn catches(setup: &[u64]) -> [u64; 32]
     let mut need = [0u64; 32];
     let mut i = 0;
     while i < n {
-        let at = 14 + i * 35;
+        let at = NUMBERS_WIDTH + i * FUNCTION_WIDTH;
         let k = setup[at + 2] as usize;
         let w = widest_catch(setup, at + 3, k);
         need[i] = w;

@@ -7,6 +7,8 @@ ghost use Rattle.memory_tables.specs.Layout.{driverOf, frameOf};
 ghost use Rattle.memory_tables.specs.Parts.{piled};
 ghost use Rattle.check_tables.specs.Chain.{driverHeld, activeTest, chainTest, chainOk, ChainFits};
 use crate::frames::lies_under;
+use memory_tables::active::ACTIVE_WIDTH;
+use memory_tables::frame::FRAME_WIDTH;
 
 // A driver's code and its three numbers.
 fn driver_held(code: u64, a: u64, b: u64, c: u64) -> bool
@@ -52,7 +54,7 @@ fn active_ok(chain: &[u64], frames: &[u64], k: usize, i: usize) -> bool
     requires { ⌜ (k * 6 + 6 ≤ length (now chain)) × (i * 6 + 6 ≤ length (now frames)) ⌝ }
     ensures { λ r. ⌜ r ≡ activeTest (now (chain .entry)) (now (frames .entry)) k i ⌝ }
 {
-    let at = k * 6;
+    let at = k * ACTIVE_WIDTH;
     if chain[at + 1] as usize != i {
         return false;
     }
@@ -76,7 +78,7 @@ fn chain_over(chain: &[u64], frames: &[u64], n: usize, depth: usize) -> bool
     let mut k = n;
     while i > 0 {
         i -= 1;
-        if 4 < frames[i * 6 + 4] {
+        if 4 < frames[i * FRAME_WIDTH + 4] {
             if k == 0 {
                 return false;
             }
@@ -97,5 +99,5 @@ pub fn chain_ok(chain: &[u64], frames: &[u64], n: usize, depth: usize) -> bool
     if !chain_over(chain, frames, n, depth) {
         return false;
     }
-    crate::rest::rest_ok(chain, n * 6)
+    crate::rest::rest_ok(chain, n * ACTIVE_WIDTH)
 }

@@ -7,9 +7,9 @@ ghost use Rattle.memory_tables.specs.Layout.{frameOf};
 ghost use Rattle.memory_tables.specs.Parts.{piled};
 ghost use Rattle.memory_world.specs.Decode.{setupOf};
 ghost use Rattle.check_tables.specs.Frames.{contTest, frameTest, framesTest, stackFramesOk, savedFramesOk, FrameFits, FramesFit};
+use heap::value::BITS32;
+use memory_tables::frame::FRAME_WIDTH;
 use memory_tables::frame::base_at;
-
-const BITS32: u64 = 0x1_0000_0000;
 
 // Whether a register lies in the frame below the one at place i, which begins at `end`.
 pub(crate) fn lies_under(ws: &[u64], i: usize, r: u64, end: u64) -> bool
@@ -61,7 +61,7 @@ fn frame_ok(ws: &[u64], setup: &[u64], need: &[u64; 32], saved: bool, i: usize, 
     requires { ⌜ FrameFits (now ws) (now need) (now setup) i ⌝ }
     ensures { λ b. ⌜ b ≡ frameTest saved (setupOf (now (setup .entry))) (now (ws .entry)) i end ⌝ }
 {
-    let at = i * 6;
+    let at = i * FRAME_WIDTH;
     let func = ws[at];
     let base = ws[at + 2];
     let code = ws[at + 4];
@@ -107,7 +107,7 @@ pub fn stack_frames_ok(ws: &[u64], setup: &[u64], need: &[u64; 32], n: usize, he
     if !frames_over(ws, setup, need, false, n, height as u64) {
         return false;
     }
-    crate::rest::rest_ok(ws, n * 6)
+    crate::rest::rest_ok(ws, n * FRAME_WIDTH)
 }
 
 // The n frames of a row with so many saved registers, and zeros after them.
@@ -121,5 +121,5 @@ pub fn saved_frames_ok(ws: &[u64], setup: &[u64], need: &[u64; 32], n: usize, re
     if !frames_over(ws, setup, need, true, n, regs) {
         return false;
     }
-    crate::rest::rest_ok(ws, n * 6)
+    crate::rest::rest_ok(ws, n * FRAME_WIDTH)
 }

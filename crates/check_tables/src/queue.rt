@@ -7,6 +7,7 @@ ghost use lib.ListN.{take};
 ghost use Rattle.heap.specs.Heap.{TableFits, slotsOf, coroOf};
 ghost use Rattle.check_tables.specs.Queue.{byCoro, markOf, entriesOk, queueHeld, bitAt, QueueAsks};
 use heap::heap::CoroPlace;
+use heap::value::BITS32;
 use heap::value::Word;
 
 // Whether a word names a coroutine that is a task, or one that was handed over for a cleanup.
@@ -54,7 +55,7 @@ fn entries_ok(q: &[u64], n: usize, slots: &[u64], count: usize, task: bool) -> b
         if !is_marked(slots, count, task, w) {
             return false;
         }
-        let x = (w % 0x1_0000_0000) as usize;
+        let x = (w % BITS32) as usize;
         if seen[x] {
             return false;
         }

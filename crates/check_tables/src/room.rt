@@ -2,6 +2,7 @@
 ghost use mathlib.Core.Path.{_≡_};
 ghost use Rattle.check_tables.specs.Room.{roomTest, countsTest, SizesFit};
 use heap::slot::WIDTH;
+use memory_tables::frame::FRAME_WIDTH;
 use memory_world::machine::Machine;
 use memory_world::machine::Sizes;
 
@@ -20,7 +21,7 @@ pub fn room_ok(
     requires { ⌜ SizesFit l ⌝ }
     ensures { λ r. ⌜ r ≡ roomTest l stack frames chain slots saved asleep ready finalize ⌝ }
 {
-    let records = l.depth * 6;
+    let records = l.depth * FRAME_WIDTH;
     if stack < l.stack {
         return false;
     }

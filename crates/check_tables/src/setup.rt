@@ -8,10 +8,12 @@ ghost use Rattle.memory_tables.specs.Layout.{handlerFrom};
 ghost use Rattle.memory_world.specs.Sizes.{SetupFits};
 ghost use Rattle.memory_sound.specs.Words.{setupHeld};
 ghost use Rattle.check_tables.specs.Setup.{handlersTest, functionTest, hookTest, longTest};
+use heap::value::BITS32;
+use memory_tables::program::FUNCTION_WIDTH;
+use memory_tables::program::HANDLER_WIDTH;
+use memory_tables::program::NUMBERS_WIDTH;
 use model::program::Costs;
 use model::program::Limits;
-
-const BITS32: u64 = 0x1_0000_0000;
 
 const COST: u64 = 65536;
 
@@ -84,7 +86,7 @@ fn handlers_ok(setup: &[u64], at: usize, n: usize, regs: u64) -> bool
     ensures { λ r. ⌜ r ≡ handlersTest (now (setup .entry)) at n regs ⌝ }
 {
     for j in 0..n {
-        if !handler_ok(setup, at + j * 4, regs) {
+        if !handler_ok(setup, at + j * HANDLER_WIDTH, regs) {
             return false;
         }
     }
@@ -112,8 +114,8 @@ fn function_ok(setup: &[u64], at: usize) -> bool
     if !handlers_ok(setup, from, n, regs) {
         return false;
     }
-    let a = from + n * 4;
-    let e = at + 35;
+    let a = from + n * HANDLER_WIDTH;
+    let e = at + FUNCTION_WIDTH;
     lists::all_zero(&setup[a..e])
 }
 
@@ -122,7 +124,7 @@ fn functions_ok(setup: &[u64], n: usize) -> bool
     ensures { λ r. ⌜ r ≡ allBelow n (λ i. functionTest (now (setup .entry)) (14 + i * 35)) ⌝ }
 {
     for i in 0..n {
-        if !function_ok(setup, 14 + i * 35) {
+        if !function_ok(setup, NUMBERS_WIDTH + i * FUNCTION_WIDTH) {
             return false;
         }
     }
@@ -146,14 +148,14 @@ fn hook_ok(setup: &[u64]) -> bool
         return false;
     }
     let f = hook as usize;
-    0 < setup[14 + f * 35]
+    0 < setup[NUMBERS_WIDTH + f * FUNCTION_WIDTH]
 }
 
 // Words enough for the numbers, and for as many functions as they say.
 fn long_ok(setup: &[u64]) -> bool
     ensures { λ r. ⌜ r ≡ longTest (now (setup .entry)) ⌝ }
 {
-    if setup.len() < 14 {
+    if setup.len() < NUMBERS_WIDTH {
         return false;
     }
     let n = setup[13];
@@ -161,7 +163,7 @@ fn long_ok(setup: &[u64]) -> bool
         return false;
     }
     let k = n as usize;
-    let need = 14 + k * 35;
+    let need = NUMBERS_WIDTH + k * FUNCTION_WIDTH;
     need <= setup.len()
 }
 
@@ -188,5 +190,5 @@ pub fn setup_held(setup: &[u64]) -> bool
     if !hook_ok(setup) {
         return false;
     }
-    crate::rest::rest_ok(setup, 14 + n * 35)
+    crate::rest::rest_ok(setup, NUMBERS_WIDTH + n * FUNCTION_WIDTH)
 }

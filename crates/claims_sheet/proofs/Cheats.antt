@@ -32,7 +32,8 @@ use Rattle.claims_sheet.specs.Charging.{charged}
 use Rattle.claims_sheet.specs.Sheet.{sheet}
 use Rattle.claims_sheet.specs.Pep342.{at, held}
 use Rattle.claims_sheet.specs.Setters.{withStack, withFrames}
-use Rattle.claims_sheet.specs.SetUps.{ClosingList, Fresh}
+use Rattle.model.specs.ClosingList.{ClosingList}
+use Rattle.claims_sheet.specs.SetUps.{Fresh}
 use Rattle.claims_sheet.specs.SmallRuns as SmallRuns
 use Rattle.claims_sheet.specs.SmallRuns.{usual, reached, holding, yielded}
 use Rattle.claims_sheet.specs.Cheats.{Engine, Keeps, Gives-up, Restored, Moves-once, always, woken, once, accepting, refuelling, showing, Cheats}

@@ -20,7 +20,7 @@ use Rattle.model.specs.Object.{Core, Rest, Object, Absent, Is, isFilled, asCoro
 use Rattle.model.specs.World.{World, withSlots, withStack, withFrames, withChain}
 use Rattle.model.specs.Frames.{raise}
 use Rattle.model.specs.Heap.{objectAt, place, coro, setCoro, changeAs, changeCoro}
-use Rattle.model.specs.Coro.{active, inState, entered}
+use Rattle.model.specs.Coro.{sized, active, inState, entered}
 use Rattle.model.specs.Sound.{bodyLast, framesOver, waits, savedIn, savedOk, sound}
 use Rattle.model.specs.declared.machine.Driver.{Driver}
 use Rattle.model.specs.declared.machine.Frame.{Frame}
@@ -92,10 +92,12 @@ put-put xs i o p =
     ∙ set-set xs i (slot (getD xs i vacant .tag) o) (slot (getD xs i vacant .tag) p)
 
 -- an entered coroutine whose rest is then changed is entered with that rest
-pub entered-then : (v : ℕ) (d : Driver) (k : Core) (r : Rest) (g : Rest → Rest) (w : World) → coro w v ≡ Is k r → changeCoro v (λ x. x) g (entered v d k r w) ≡ entered v d k (g r) w
-entered-then v d k r g w h =
-    ap (λ x. changeAs x v (λ y. y) g (entered v d k r w)) (put-get v k (inState CoroState.Running k) r r (stood w) h)
-    ∙ ap (λ (xs : List (Slot Object)). withSlots xs (stood w)) (put-put (w .slots) (slotOf v) (Object.Coro (inState CoroState.Running k) r) (Object.Coro (inState CoroState.Running k) (g r)))
+pub entered-then : (v : ℕ) (d : Driver) (k : Core) (r : Rest) (g : Rest → Rest) (w : World) → coro w v ≡ Is k r → g (sized k r) ≡ sized k (g r) → changeCoro v (λ x. x) g (entered v d k r w) ≡ entered v d k (g r) w
+entered-then v d k r g w h e =
+    let k′ = inState CoroState.Running k in
+    ap (λ x. changeAs x v (λ y. y) g (entered v d k r w)) (put-get v k k′ r (sized k r) (stood w) h)
+    ∙ ap (λ (xs : List (Slot Object)). withSlots xs (stood w)) (put-put (w .slots) (slotOf v) (Object.Coro k′ (sized k r)) (Object.Coro k′ (g (sized k r))))
+    ∙ ap (λ x. setCoro v k′ x (stood w)) e
   where
     stood : World → World
     stood u = withChain (active v (length (u .frames)) d ∷ u .chain) (withFrames (map (raise (length (u .stack))) (k .frames) ++ u .frames) (withStack (u .stack ++ k .regs) u))

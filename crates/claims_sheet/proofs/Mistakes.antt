@@ -30,8 +30,8 @@ use Rattle.model.specs.declared.call.Op.{Op}
 use Rattle.model.specs.declared.call.Answer.{Answer}
 use Rattle.claims_sheet.specs.Does.{does, operation}
 use Rattle.claims_sheet.specs.Words as Memory
-use Rattle.claims_sheet.specs.Words.{isReference, found, kind, restOf, base, lacksMemory}
-use Rattle.claims_sheet.specs.Moves.{atPc, pcStored, onward, inRegister, put, sent, replaced, iterator}
+use Rattle.claims_sheet.specs.Words.{isReference, found, kind, coreOf, restOf, base, lacksMemory}
+use Rattle.claims_sheet.specs.Moves.{atPc, pcStored, onward, inRegister, put, sent, replaced, iterator, atLeast}
 use Rattle.claims_sheet.specs.Charging.{fuelled, reserve, charged, lost}
 use Rattle.claims_sheet.specs.Suspending.{running, heldFrames, floorBase, slept, restHere, restAsleep, growth, isLoop, delivered}
 use Rattle.claims_sheet.specs.Yields as Table
@@ -39,13 +39,14 @@ use Rattle.claims_sheet.specs.Yields.{yielded, awaited, nextKey, raised,
 use Rattle.claims_sheet.specs.Sheet.{lie}
 use Rattle.claims_sheet.specs.Pep342.{pays, at, held}
 use Rattle.claims_sheet.specs.Pep342Yields.{suspends, closing, driver}
-use Rattle.claims_sheet.specs.Mistakes.{Runs, Paid, LastOne, Mistakes}
+use Rattle.claims_sheet.specs.Mistakes.{Runs, Paid, Among, LastOne, Mistakes}
 use Rattle.claims_sheet.proofs.Choice.{both}
 use Rattle.claims_sheet.proofs.Rules.{set-up, sizes}
 use Rattle.claims_sheet.proofs.Sheet.{leads-to}
 use Rattle.claims_sheet.proofs.Led.{past, here, paid}
 use Rattle.claims_sheet.proofs.Pep342.{stepped}
 use Rattle.claims_sheet.proofs.Pep342Yields.{yielding}
+use Rattle.claims_sheet.proofs.Pep342Departs.{rest-resumed}
 use Rattle.lists.proofs.Tests.{and-left, and-right}
 use Rattle.claims_sheet.proofs.Moved.{length-at}
 
@@ -270,6 +271,11 @@ kept pc dst src w t p r m n h a = go (isLoop (driver (at pc w))) refl
     go false l = paid-in _ (ap (λ (o : After Answer). o .world .slots) (yielding .await-delivers pc dst src w t p a l) ∙ told-slots (driver (at pc w)) (held src pc w) (Stop.Awaiting (held src pc w)) x l)
     go true l = paid-in _ (ap (λ (o : After Answer). o .world .slots) (yielding .await-in-loop pc dst src w t p a l))
 
+-- ---- what was saved
+
+among : (k : Core) (r : Rest) → Among k (atLeast k r)
+among k r = (le-leb _ (max (r .maxregs) (length (k .regs))) (omega arith), le-leb _ (max (r .maxframes) (length (k .frames))) (omega arith))
+
 -- ---- `val` before `has`
 
 twice : (fs : List Frame) (r v : ℕ) (xs : List ℕ) → isNil fs ≡ false → inRegister fs r 1 (inRegister fs r v xs) ≡ set (set xs (base (onward fs) + r) v) (base (onward fs) + r) 1
@@ -300,6 +306,8 @@ mistakes =
     record {
       size-kept = kept;
       size-once = once;
+      size-entered = λ pc dst c src w passes t h.
+          let o = found (at pc w) (held c pc w) in subst (λ r. Among (coreOf o) r) (sym (rest-resumed pc dst c src w passes t h)) (among (coreOf o) (restOf o));
       val-first = first;
       yield-5 = λ pc dst src w t p h.
           leads-to w _ ∙ (paid pc (lie (dst ∷ src ∷ []) w) (Table.yield pc dst src) w p ∙ (here (isNil (charged pc w .chain)) _ h ∙ stepped _ _ (Step.Fault Fault.CannotSuspend) (lost pc w) refl));

@@ -129,7 +129,7 @@ coroutine (Object.Error e n p x) h = absurd (false≢true h)
 coroutine (Object.Coro k r) h = refl
 
 pub closing-is : (signal v : ℕ) (d : Driver) (w : World) → isCoroutine (found w v) ≡ true → changeCoro v (λ k. k) (close signal) (entered v d w) ≡ enteredClosing signal v d w
-closing-is signal v d w h = entered-then v d (coreOf (found w v)) (restOf (found w v)) (close signal) w (coro-is w v ∙ coroutine (found w v) h)
+closing-is signal v d w h = entered-then v d (coreOf (found w v)) (restOf (found w v)) (close signal) w (coro-is w v ∙ coroutine (found w v) h) refl
 
 -- an iterator changed, where the word finds one
 marked-as : (o : Object) (v : ℕ) (f : Bool → Bool) (g : Opt → Opt) (w : World) → changeIterIn o v f g w ≡ pick (eqb (kind o) 3) (replaced v (iterator f g o) w) w

@@ -30,7 +30,7 @@ use Rattle.model.specs.declared.call.Answer.{Answer}
 use Rattle.claims_sheet.specs.Lines.{Line, leadsFrom, line}
 use Rattle.claims_sheet.specs.Does.{does, operation}
 use Rattle.claims_sheet.specs.Words.{found, isCoroutine, coreOf, restOf, state, isIn, resumable}
-use Rattle.claims_sheet.specs.Moves.{pcStored, put, emptied, over, replaced, ended, sent, enteredAs}
+use Rattle.claims_sheet.specs.Moves.{pcStored, put, emptied, over, replaced, ended, sent, atLeast, enteredAs}
 use Rattle.claims_sheet.specs.Charging.{usedUp, charged}
 use Rattle.claims_sheet.specs.Makings.{paid}
 use Rattle.claims_sheet.specs.Endings.{overIn, popped}
@@ -222,15 +222,15 @@ module _ (pc dst c src : ℕ) (w : World) (passes : Passes pc dst c src w) (slee
         ∙ falls (z .stack) (z .frames) e f p last I end ends (length (core .regs)) (core .frames) (core .regs) (and-left (bodyLast (core .frames)) _ whole) bases un)) h
 
     abbrev inside : World
-    inside = replaced v (Object.Coro (emptied CoroState.Running core) r′) z
+    inside = replaced v (Object.Coro (emptied CoroState.Running core) (atLeast core r′)) z
 
-    rest-inside : restOf (found inside v) ≡ r′
-    rest-inside = ap (λ o. restOf o) (found-new v z there (emptied CoroState.Running core) r′)
+    rest-inside : restOf (found inside v) ≡ atLeast core r′
+    rest-inside = ap (λ o. restOf o) (found-new v z there (emptied CoroState.Running core) (atLeast core r′))
 
     -- it is over, and its frame gone
     leaves-with : (s : CoroState) (result : ℕ) (x : Frame) (ys : List ℕ) → x .base ≡ 0 → over result r′ ≡ over result rest →
         ended v s result (withStack (take (x .base + length (z .stack)) (z .stack ++ ys)) inside) ≡ ended v s result z
-    leaves-with s result x ys q o = ap (λ xs. ended v s result (withStack xs inside)) (floor (x .base) ys q) ∙ ends-alike v z there (emptied CoroState.Running core) r′ s result refl o
+    leaves-with s result x ys q o = ap (λ xs. ended v s result (withStack xs inside)) (floor (x .base) ys q) ∙ ends-alike v z there (emptied CoroState.Running core) (atLeast core r′) s result refl o
 
   abbrev signalled : Rest
   signalled = withClosing true (withSignal e rest)

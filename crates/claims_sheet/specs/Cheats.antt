@@ -20,7 +20,8 @@ use Rattle.model.specs.declared.machine.Active.{Active}
 use Rattle.model.specs.declared.call.Op.{Op}
 use Rattle.model.specs.declared.call.Answer.{Answer}
 use Rattle.claims_sheet.specs.Setters.{withStack, withFrames, withFuel}
-use Rattle.claims_sheet.specs.SetUps.{ClosingList, Fresh}
+use Rattle.model.specs.ClosingList.{ClosingList}
+use Rattle.claims_sheet.specs.SetUps.{Fresh}
 use Rattle.claims_sheet.specs.Lines.{leads, says}
 use Rattle.claims_sheet.specs.Does.{operation}
 use Rattle.claims_sheet.specs.Words.{found, coreOf, state, suspended}

@@ -17,11 +17,11 @@ use Rattle.model.specs.declared.machine.Frame.{Frame}
 use Rattle.model.specs.declared.exec.Step.{Step}
 use Rattle.model.specs.declared.call.Op.{Op}
 use Rattle.claims_sheet.specs.Does.{does, operation}
-use Rattle.claims_sheet.specs.Words.{found, base}
+use Rattle.claims_sheet.specs.Words.{found, coreOf, restOf, base}
 use Rattle.claims_sheet.specs.Charging.{charged}
 use Rattle.claims_sheet.specs.Yields.{nextKey}
 use Rattle.claims_sheet.specs.Sheet.{lie}
-use Rattle.claims_sheet.specs.Pep342.{pays, leaves, at, held}
+use Rattle.claims_sheet.specs.Pep342.{pays, leaves, at, held, enters, asleep, Passes}
 use Rattle.claims_sheet.specs.Pep342Yields.{suspends, closing, driver}
 
 -- the innermost coroutine has the rest r, and its Coro frame, with all frames above it, m words and n frames
@@ -47,6 +47,10 @@ pub record Paid (w : World) (c : ℕ) : Type 0 where
   pub words : leb (length (core .regs)) (rest .maxregs) ≡ true
   pub frames : leb (length (core .frames)) (rest .maxframes) ≡ true
 
+-- so much is saved, and is among the largest sizes
+abbrev pub Among : Core → Rest → Type 0
+Among k r = (leb (length (k .regs)) (r .maxregs) ≡ true) × (leb (length (k .frames)) (r .maxframes) ≡ true)
+
 -- where a frame stands, p and then 1 were written to its register r
 abbrev pub LastOne : ℕ → ℕ → World → Type 0
 LastOne r p v = isNil (v .frames) ≡ false → (xs : List ℕ) × (v .stack ≡ set (set xs (base (v .frames) + r) p) (base (v .frames) + r) 1)
@@ -58,6 +62,9 @@ pub record Mistakes : Type 0 where
   -- and sizes that were paid for cost nothing: a suspension of no more than the largest ones leaves the memory as it was
   pub size-once : (pc dst src : ℕ) (w : World) (t : typed (Op.Await pc dst src) ≡ true) → pays pc (lie (dst ∷ src ∷ []) w) w ≡ true → (r : Rest) (m n : ℕ) → Runs w r m n → leb m (r .maxregs) ≡ true → leb n (r .maxframes) ≡ true →
       does w (operation (Op.Await pc dst src) t) .world .used ≡ w .used
+  -- what an entry finds saved is such a size, whatever was recorded
+  pub size-entered : (pc dst c src : ℕ) (w : World) → Passes pc dst c src w → (t : typed (Op.Resume pc dst c src) ≡ true) → let v = held c pc w in enters asleep v (at pc w) ≡ true →
+      Among (coreOf (found (at pc w) v)) (restOf (found (does w (operation (Op.Resume pc dst c src) t) .world) v))
   -- a loop's `val` is written first, then `has`: with one register for both, 1 stays
   pub val-first : (pc dst src key : ℕ) (w : World) (t : typed (Op.YieldKv pc dst src key) ≡ true) (r iter : ℕ) → pays pc (lie (dst ∷ src ∷ key ∷ []) w) w ≡ true →
       suspends (at pc w) ≡ true → closing (at pc w) ≡ false → driver (at pc w) ≡ Driver.Iter r r iter →

@@ -1,5 +1,5 @@
 -- The sheet's own words: what is done to a world. None of them is the machine's.
-use Prim.Native.Nat.{ℕ, _+_, _%_, _^_}
+use Prim.Native.Nat.{ℕ, _+_, _%_, _^_, max}
 use mathlib.Core.Bool.{Bool, true, false}
 use mathlib.Core.List.{List, [], _∷_, _++_, map}
 use lib.ListN.{length, getD, set}
@@ -67,11 +67,15 @@ emptied s k = record { state = s; regs = []; frames = []; waiting = k .waiting }
 
 -- ---- entries
 
+-- "the coroutine's largest saved sizes so far": what is saved is such a size
+abbrev pub atLeast : Core → Rest → Rest
+atLeast k r = withMaxregs (max (r .maxregs) (length (k .regs))) (withMaxframes (max (r .maxframes) (length (k .frames))) r)
+
 -- "It appends the saved words and frames, adds the old stack height to every base, sets Running and pushes the driver."
 abbrev pub enteredAs : Rest → ℕ → Driver → World → World
 enteredAs r v d w =
     let k = coreOf (found w v) in
-    replaced v (Object.Coro (emptied CoroState.Running k) r)
+    replaced v (Object.Coro (emptied CoroState.Running k) (atLeast k r))
     (withChain (record { coro = v; floor = length (w .frames); driver = d } ∷ w .chain)
     (withFrames (map (λ f. record { func = f .func; pc = f .pc; base = f .base + length (w .stack); closure = f .closure; cont = f .cont }) (k .frames) ++ w .frames)
     (withStack (w .stack ++ k .regs) w)))

@@ -1,5 +1,5 @@
 -- What this machine keeps of PEP 342: send, throw, close and next, as one short theorem about `step` for each sentence. The table
--- of sentences is docs/PEP342.md; what the coroutine does then is in Pep342Yields, Pep342Ends and Pep342Closes, deletion in
+-- of sentences is docs/rules/PEP342.md; what the coroutine does then is in Pep342Yields, Pep342Ends and Pep342Closes, deletion in
 -- Pep342Deletion.
 use Prim.Native.Nat.{ℕ}
 use mathlib.Core.Path.{_≡_}

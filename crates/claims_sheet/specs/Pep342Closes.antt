@@ -1,5 +1,5 @@
 -- PEP 342: close() of a coroutine that catches nothing, and throw() into one, whole: two calls, and what the caller then has. It may
--- sleep inside a function call. The table of sentences is docs/PEP342.md.
+-- sleep inside a function call. The table of sentences is docs/rules/PEP342.md.
 use Prim.Native.Nat.{ℕ}
 use mathlib.Core.Path.{_≡_}
 use mathlib.Core.Bool.{true, false}

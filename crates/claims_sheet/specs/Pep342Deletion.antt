@@ -1,4 +1,4 @@
--- PEP 342: deletion, which is a hand over by the host and a close at a later charge. The table of PEP 342's sentences is docs/PEP342.md.
+-- PEP 342: deletion, which is a hand over by the host and a close at a later charge. The table of PEP 342's sentences is docs/rules/PEP342.md.
 use Prim.Native.Nat.{ℕ}
 use mathlib.Core.Path.{_≡_}
 use mathlib.Core.Bool.{Bool, true, false, not, _||_}

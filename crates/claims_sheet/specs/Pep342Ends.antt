@@ -1,5 +1,5 @@
 -- PEP 342: a word that is raised, from the top frame down: caught, or let out of a coroutine, or uncaught. The table of sentences is
--- docs/PEP342.md.
+-- docs/rules/PEP342.md.
 use Prim.Native.Nat.{ℕ, _+_}
 use mathlib.Core.Path.{_≡_}
 use mathlib.Core.Bool.{Bool, true, false, not, _&&_, _||_}

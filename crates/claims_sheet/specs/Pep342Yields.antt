@@ -1,5 +1,5 @@
 -- PEP 342: a coroutine that was sent to, thrown into or closed yields, awaits or returns, whoever drives it. The table of PEP 342's
--- sentences is docs/PEP342.md.
+-- sentences is docs/rules/PEP342.md.
 use Prim.Native.Nat.{ℕ}
 use mathlib.Core.Path.{_≡_}
 use mathlib.Core.Bool.{Bool, true, false, not, _&&_}

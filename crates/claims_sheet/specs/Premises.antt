@@ -1,11 +1,11 @@
 -- The premises of the PEP 342 theorems, and of the three mistakes, can be met: calls after which all premises of a theorem hold. A field has
 -- the name of its theorem; but `caught-at` is for `caught`, `yield-kv` for `yields-kv`, `sizes` for `size-kept` and `size-once`, `yield-5` for its two
--- neighbours too, and a theorem with the premises of another has that one's (docs/PEP342.md).
+-- neighbours too, and a theorem with the premises of another has that one's (docs/rules/PEP342.md).
 use Prim.Native.Nat.{ℕ, _-_, _^_}
 use mathlib.Core.Path.{_≡_}
 use mathlib.Core.Bool.{Bool, true, false, not, _&&_}
-use mathlib.Core.List.{List, [], _∷_}
-use lib.ListN.{length, take, drop}
+use mathlib.Core.List.{List, [], _∷_, _++_}
+use lib.ListN.{length, getD, take, drop}
 use lib.Dec.{eqb, leb}
 use Rattle.heap.specs.Coding.{inRange}
 use Rattle.heap.specs.declared.fault.Fault.{Fault}
@@ -13,7 +13,7 @@ use Rattle.heap.specs.declared.heap.ResultKind.{ResultKind}
 use Rattle.heap.specs.declared.object.CoroState.{CoroState}
 use Rattle.model.specs.Lists.{isNil, each}
 use Rattle.model.specs.World.{World}
-use Rattle.model.specs.Sound.{sound}
+use Rattle.model.specs.Sound.{sound, isNone}
 use Rattle.model.specs.Step.{tested}
 use Rattle.model.specs.declared.machine.Cont.{Cont}
 use Rattle.model.specs.declared.machine.Driver.{Driver}
@@ -109,6 +109,10 @@ caught = Op.Grant 100 ∷ Op.HostCall 3 ∷ Op.CoroNew 1 0 1 0 ∷ Op.Resume 2 1
 abbrev pub uncaughtIn : ℕ → World → Bool
 uncaughtIn v z = enters asleep v z && each (λ f. isNil (takers f z)) (coreOf (found z v) .frames)
 
+-- three units, all used, and a coroutine in the cleanup queue
+abbrev pub poorer : List Op
+poorer = begun 3 (Op.CoroNew 1 0 1 0 ∷ Op.Resume 2 1 0 2 ∷ Op.Yield 8 0 0 ∷ Op.HandOver c ∷ [])
+
 abbrev pub returns : ResultKind → ℕ → Bool
 returns kind v =
     let w = run (running 1 []) in
@@ -150,6 +154,14 @@ pub record Premises : Type 0 where
   pub hand-over : let w = run (yielded 1 []) in isCoroutine (found w c) && (suspended (state w c) && not (restOf (found w c) .finalized)) ≡ true
   pub hand-over-refused : let w = run (yielded 1 (Op.HandOver c ∷ [])) in let x = run (holding 1 []) in (suspended (state w c) && restOf (found w c) .finalized) && not (suspended (state x c)) ≡ true
   pub cleanup-starts : let w = run (yielded 1 (Op.HandOver c ∷ [])) in (not (isNil (w .frames)) && not (usedUp w)) && (searches w && closable (pcStored 4 w) c) ≡ true
+  -- Pep342Departs: it awaited inside its close, and is resumed; it sleeps with more than fits above the caller's frames; no unit is left, and then there are two
+  pub still-closing : into (ignoring (Op.Await 60 0 0 ∷ [])) 4 1 0 2 (λ v u z. enters asleep v z && restOf (found z v) .closing) ≡ true
+  pub signal-later : comes (ignoring (Op.Await 200 0 0 ∷ Op.Resume 4 1 0 2 ∷ [])) (Fault.Throw 9) 0 (λ v x u. isNil (takers x u) && (isBody (x .cont) && (ownSignal (u .chain) v u && (asks (driver u) && not (isLoop (driver u)))))) ≡ true
+  pub never-closed : let w = run (running 1 (Op.FunctionCall 5 1 Cont.Discard ∷ Op.Yield 8 0 0 ∷ Op.FunctionCall 6 0 Cont.Discard ∷ Op.HandOver c ∷ [])) in
+      (not (isNil (w .frames)) && (lie (0 ∷ []) w && (not (usedUp w) && searches w))) && ((eqb (length (w .finalize)) 1 && eqb (getD (w .finalize) 0 0) c)
+      && (isCoroutine (found w c) && (restOf (found w c) .finalized && tooHigh (pcStored 4 w) c))) ≡ true
+  pub spent : let w = run poorer in sound w && (not (isNil (w .frames)) && (usedUp w && not (isNil (w .finalize)))) ≡ true
+  pub unarmed : let w = run (poorer ++ (Op.CoroCurrent 4 1 ∷ Op.Grant 2 ∷ [])) in isNone (w .fuel .bank) && (not (usedUp w) && (w .fuel .ready && not (isNil (w .finalize)))) ≡ true
   -- Mistakes: a body that has its creation's registers; a loop with one register for both
   pub sizes : let w = run (running 1 []) in let r = restOf (found w c) in (pays 8 (lie (0 ∷ 0 ∷ []) w) w && suspends (at 8 w))
       && (isBody (topOf (w .frames) .cont) && (leb (length (drop (topOf (w .frames) .base) (w .stack))) (r .maxregs) && leb 1 (r .maxframes))) ≡ true

@@ -2,11 +2,11 @@
 use mathlib.Core.Path.{_≡_, refl, sym, ap, _∙_, subst}
 use mathlib.Core.Bool.{Bool, true, false, not, _&&_, _||_}
 use mathlib.Core.List.{List, [], _∷_, _++_}
-use Prim.Native.Nat.{ℕ, _-_, _≤_}
+use Prim.Native.Nat.{ℕ, _-_, _≤_, max}
 use native.Mathlib.Omega.{arith}
 use lib.ListN.{length}
 use lib.Dec.{eqb, leb}
-use borrow.Author.Tests.{le-leb, eqb-true, eq-eqb}
+use borrow.Author.Tests.{leb-true, le-leb, eqb-true, eq-eqb}
 use Rattle.lists.specs.Pick.{pick, pick-false}
 use Rattle.heap.specs.Table.{Slot}
 use Rattle.heap.specs.declared.value.Opt.{Opt}
@@ -18,7 +18,7 @@ use Rattle.model.specs.Object.{Core, Rest, Object, Coroutine, Absent, Is, withT
 use Rattle.model.specs.World.{World, withStack, withFrames, withChain, withSlots, withReady, withFinalize, withFinalizing, withOutcome, withUsed, withSeq, withFuel}
 use Rattle.model.specs.Heap.{object, coro, setCoro, changeAs, changeCoro, changeIterIn, setDone, setKey}
 use Rattle.model.specs.Fuel.{fuelOf, unbankAt, unbank, armAt, armClose, setReady, setFinalizing, spend}
-use Rattle.model.specs.Coro.{inState, ended}
+use Rattle.model.specs.Coro.{inState, sized, ended}
 use Rattle.model.specs.Sound.{savedSizes, savedIn, bodyLast, framesOver, waits, runs, coros, rowWords, isNone, outcomeRange}
 use Rattle.model.specs.declared.machine.Active.{Active}
 use Rattle.model.specs.declared.machine.Frame.{Frame}
@@ -47,11 +47,26 @@ max-ok s k r h k′ a b =
 none-saved : (s : Setup) (st : CoroState) (k : Core) (r : Rest) → isResumable st ≡ false → savedIn s (Is (inState st k) r) ≡ true
 none-saved s st k r e = ap (λ b. pick b (bodyLast [] && framesOver s 0 [] && waits (inState st k)) true) e ∙ pick-false _ _
 
-pub running-ok : {ex : Bool} (s : Setup) (k : Core) (r : Rest) → ObjectOk ex s (Object.Coro k r) → ObjectOk ex s (Object.Coro (inState CoroState.Running k) r)
+-- .. and stay so, raised to what is saved
+sized-ok : (s : Setup) (k : Core) (r : Rest) → savedSizes s (Is k r) ≡ true → savedSizes s (Is k (sized k r)) ≡ true
+sized-ok s k r h =
+    let a = leb (length (k .regs)) (rowWords s) in
+    let b = leb (length (k .frames)) (s .limits .depth) in
+    let c = leb (r .maxregs) (rowWords s) in
+    let d = leb (r .maxframes) (s .limits .depth) in
+    let t = and-left (a && b && c) d h in
+    let saved = and-left (a && b) c t in
+    let p₁ = leb-true (length (k .regs)) (rowWords s) (and-left a b saved) in
+    let p₂ = leb-true (length (k .frames)) (s .limits .depth) (and-right a b saved) in
+    let p₃ = leb-true (r .maxregs) (rowWords s) (and-right (a && b) c t) in
+    let p₄ = leb-true (r .maxframes) (s .limits .depth) (and-right (a && b && c) d h) in
+    both (both saved (le-leb (max (r .maxregs) (length (k .regs))) (rowWords s) (omega arith))) (le-leb (max (r .maxframes) (length (k .frames))) (s .limits .depth) (omega arith))
+
+pub running-ok : {ex : Bool} (s : Setup) (k : Core) (r : Rest) → ObjectOk ex s (Object.Coro k r) → ObjectOk ex s (Object.Coro (inState CoroState.Running k) (sized k r))
 running-ok s k r h =
     record {
-      sizes = max-ok s k r (h .sizes) (inState CoroState.Running k) (le-leb 0 (rowWords s) (omega arith)) (le-leb 0 (s .limits .depth) (omega arith));
-      saved = none-saved s CoroState.Running k r refl;
+      sizes = max-ok s k (sized k r) (sized-ok s k r (h .sizes)) (inState CoroState.Running k) (le-leb 0 (rowWords s) (omega arith)) (le-leb 0 (s .limits .depth) (omega arith));
+      saved = none-saved s CoroState.Running k (sized k r) refl;
       rowless = refl;
       range = h .range;
       wide = λ _. refl;
@@ -169,17 +184,18 @@ module _ {ex : Bool} (w : World) (v : ℕ) (k : Core) (r : Rest) (h : Sound ex w
 
   -- it is entered
   pub enter-sound : (a : Active) (stack : List ℕ) (frames : List Frame) → a .coro ≡ v → isRunning (k .state) ≡ false → isFinished (k .state) ≡ false → Tower ex (w .setup) stack frames (a ∷ w .chain)
-      → Sound ex (setCoro v (inState CoroState.Running k) r (withChain (a ∷ w .chain) (withFrames frames (withStack stack w))))
+      → Sound ex (setCoro v (inState CoroState.Running k) (sized k r) (withChain (a ∷ w .chain) (withFrames frames (withStack stack w))))
   enter-sound a stack frames q i f t =
       let k′ = inState CoroState.Running k in
+      let r′ = sized k r in
       record {
         setup = h .setup;
         tower = t;
         heap =
-            subst (λ u. Heap ex (w .setup) (u ∷ coros (w .chain)) (putCoro here k′ r)) (sym q)
-            (enter-heap here k′ r (h .heap) (running-ok (w .setup) k r (object-ok (h .heap) here)) i refl (same-rows here k′ r (h .heap .rows) (sym f) refl));
-        tasks = queue-put (λ x. x .task) here k′ r (λ z. z) (h .tasks);
-        cleanups = queue-put (λ x. x .finalized) here k′ r (λ z. z) (h .cleanups);
+            subst (λ u. Heap ex (w .setup) (u ∷ coros (w .chain)) (putCoro here k′ r′)) (sym q)
+            (enter-heap here k′ r′ (h .heap) (running-ok (w .setup) k r (object-ok (h .heap) here)) i refl (same-rows here k′ r′ (h .heap .rows) (sym f) refl));
+        tasks = queue-put (λ x. x .task) here k′ r′ (λ z. z) (h .tasks);
+        cleanups = queue-put (λ x. x .finalized) here k′ r′ (λ z. z) (h .cleanups);
         room = h .room;
         banked = h .banked;
         outcome = h .outcome;

@@ -118,7 +118,7 @@ pub(crate) fn start_at(
         Driver::Finalize,
     );
     let k = did.machine;
-    set_closing(slots, k, Word(v), 0);
+    set_closing(slots, k, Word(v), Word::NIL);
     let marked = set_finalizing(k, fuel, true);
     let last = marked.machine;
     let f = marked.fuel;

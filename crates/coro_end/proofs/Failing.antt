@@ -16,14 +16,16 @@ use Rattle.model.specs.declared.machine.Active.{Active}
 use Rattle.model.specs.declared.machine.Fuel.{Fuel}
 use Rattle.model.specs.declared.machine.Outcome.{Outcome}
 use Rattle.memory_tables.specs.Parts.{Chain}
-use Rattle.memory_world.specs.Memory.{Lent, Rep}
+use Rattle.memory_world.specs.Memory.{Lent, Beside, Rep}
+use Rattle.memory_world.specs.Contract.{SomeWorld, Turns, ifRowed, only}
 use Rattle.memory_world.specs.Numbers.{withTold}
 use Rattle.memory_world.specs.Told.{told}
 use Rattle.memory_world.specs.declared.machine.Machine.{Machine}
 use Rattle.memory_world.specs.declared.machine.Sizes.{Sizes}
 use Rattle.memory_world.proofs.Turn.{turn-chain, turn-outcome}
-use Rattle.coro_end.specs.Last.{endOn, endLast, failActive}
-use Rattle.coro_end.proofs.Innermost.{none-here}
+use Rattle.memory_world.proofs.Does.{SameLengths, alike, then-alike}
+use Rattle.coro_end.specs.Last.{InRows, endOn, endLast, failActive}
+use Rattle.coro_end.proofs.Innermost.{none-here, end-rowed}
 
 -- ---- an end does not look at the chain
 
@@ -68,10 +70,62 @@ module _ (l : Sizes) (M : Lent) (m : Machine) (f : Fuel) (w : World) where
       let k = shorter w (w .chain) (omega arith) in
       omega arith
 
-  -- .. and then the others
-  pub others-fail : 1 ≤ length (w .chain) → Rep l (failActive (endLast CoroState.Failed nil w)) M m f → Rep l (failActive w) M m f
-  others-fail h rep = subst (λ u. Rep l u M m f) (fail-next w (w .chain) h) rep
-
   pub aborted : Rep l (setFinalizing false (failActive w)) M m f → Rep l (abortCoros w) M (withTold (told Outcome.None) m) f
   unfolding abortCoros
   aborted rep = turn-outcome l (setFinalizing false (failActive w)) M m f rep Outcome.None
+
+-- ---- the loop: those that are left fail in the present world as all do in that of the start
+
+pub record Rest (l : Sizes) (w : World) (M : Lent) (m : Machine) (f : Fuel) : Type 0 where
+  pub world : World
+  pub rep : Rep l world M m f
+  pub rowed : InRows world
+  pub same : failActive w ≡ failActive world
+
+pub record Along (l : Sizes) (M₀ : Beside → Lent) (m₀ : Machine) (M : Beside → Lent) (m : Machine) : Type 0 where
+  pub some : SomeWorld InRows l M (only m)
+  pub kept : (b : Beside) → SameLengths (M₀ b) (M b)
+  pub rest : (w : World) (b : Beside) → Rep l w (M₀ b) m₀ (b .fuel) → InRows w → Rest l w (M b) m (b .fuel)
+
+pub along-start : (l : Sizes) (M : Beside → Lent) (m : Machine) → SomeWorld InRows l M (only m) → Along l M m M m
+along-start l M m o = record { some = o; kept = λ b. alike (M b); rest = λ w b rep rowed. record { world = w; rep = rep; rowed = rowed; same = refl } }
+
+module _ {l : Sizes} {M₀ : Beside → Lent} {m₀ : Machine} {M : Beside → Lent} {m : Machine} (at : Along l M₀ m₀ M m) where
+  -- none is left
+  pub along-none : m .active ≡ 0 → Turns ifRowed l failActive M₀ (only m₀) M (only m)
+  along-none e w b rep rowed =
+      let r = at .rest w b rep rowed in
+      subst (λ u. Rep l u (M b) m (b .fuel)) (sym (r .same)) (none-fails l (M b) m (b .fuel) (r .world) (r .rep) e)
+
+  -- one more has failed
+  module _ (left : 1 ≤ m .active) (M′ : Beside → Lent) (n : Machine) (did : Turns ifRowed l (endLast CoroState.Failed nil) M (only m) M′ (only n)) where
+    pub along-fewer : n .active < m .active
+    along-fewer =
+        let o = at .some in
+        fewer l (M (o .beside)) m (o .beside .fuel) (o .world) (o .rep) left (M′ (o .beside)) n (o .beside .fuel) (did (o .world) (o .beside) (o .rep) (o .known))
+
+    next : (w : World) (b : Beside) → Rep l w (M b) m (b .fuel) → failActive w ≡ failActive (endLast CoroState.Failed nil w)
+    next w b rep = let n = rep .chain .count in sym (fail-next w (w .chain) (omega arith))
+
+    pub along-more : ((b : Beside) → SameLengths (M b) (M′ b)) → Along l M₀ m₀ M′ n
+    along-more same =
+        let o = at .some in
+        record {
+          some =
+              record {
+                world = endLast CoroState.Failed nil (o .world);
+                beside = o .beside;
+                rep = did (o .world) (o .beside) (o .rep) (o .known);
+                known = end-rowed CoroState.Failed nil (o .world) refl (o .known);
+              };
+          kept = λ b. then-alike (M₀ b) (M b) (M′ b) (at .kept b) (same b);
+          rest =
+              λ w b rep rowed.
+              let r = at .rest w b rep rowed in
+              record {
+                world = endLast CoroState.Failed nil (r .world);
+                rep = did (r .world) b (r .rep) (r .rowed);
+                rowed = end-rowed CoroState.Failed nil (r .world) refl (r .rowed);
+                same = r .same ∙ next (r .world) b (r .rep);
+              };
+        }

@@ -24,12 +24,12 @@ pub(crate) fn fail_all(
     requires { ⌜ SomeWorld InRows l (ending chain slots «saved_stack» «saved_frames» now) (only m) ⌝ }
     ensures { λ r. ⌜ Leaves ifRowed l failActive (ending chain slots «saved_stack» «saved_frames») (only m) (only r) ⌝ }
 {
-    if m.active == 0 {
-        return m;
+    let mut n = m;
+    while n.active != 0 {
+        let s = CoroState::Failed;
+        n = end_last(chain, slots, saved_stack, saved_frames, n, l, s, Word::NIL);
     }
-    let s = CoroState::Failed;
-    let n = end_last(chain, slots, saved_stack, saved_frames, m, l, s, Word::NIL);
-    fail_all(chain, slots, saved_stack, saved_frames, n, l)
+    n
 }
 
 // No coroutine runs any more, no cleanup, and nothing has happened.

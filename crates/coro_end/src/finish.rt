@@ -16,6 +16,7 @@ use heap::object::CoroState;
 use heap::object::Object;
 use heap::value::Obj;
 use heap::value::Word;
+use memory_tables::frame::FRAME_WIDTH;
 use memory_tables::runs::clear_part;
 use memory_world::machine::Machine;
 use memory_world::machine::Sizes;
@@ -28,8 +29,8 @@ pub(crate) fn clear_row(saved_stack: &mut [u64], saved_frames: &mut [u64], l: Si
     let at = (c.row as usize) * l.width;
     let n = c.regs as usize;
     clear_part(saved_stack, at, n);
-    let from = (c.row as usize) * (l.depth * 6);
-    let k = (c.frames as usize) * 6;
+    let from = (c.row as usize) * (l.depth * FRAME_WIDTH);
+    let k = (c.frames as usize) * FRAME_WIDTH;
     clear_part(saved_frames, from, k);
 }
 
@@ -65,7 +66,7 @@ fn ended(c: CoroObj, s: CoroState, result: u64) -> CoroObj
         key: c.key,
         largest: c.largest,
         result,
-        signal: 0,
+        signal: Word::NIL,
     }
 }
 

@@ -11,8 +11,8 @@ use borrow.Author.Tests.{leb-true, ltb-false, not-false, ne-eqb}
 use Rattle.lists.specs.Pick.{pick, pick-true}
 use Rattle.lists.specs.Chunks.{chunkAt, putChunk}
 use Rattle.heap.specs.Fault.{numberOf}
-use Rattle.heap.specs.Object.{codeOf}
-use Rattle.heap.specs.Slot.{stateWords, width}
+use Rattle.heap.specs.Object.{asEntered}
+use Rattle.heap.specs.Slot.{enteredWords, width}
 use Rattle.heap.specs.Word.{slotOf, tagOf}
 use Rattle.heap.specs.Table.{Slot, slot, putObject}
 use Rattle.heap.specs.Heap.{slotsOf, coroOf, putSlot, SlotFits}
@@ -28,7 +28,7 @@ use Rattle.model.specs.Object.{Core, Rest, Object, Is}
 use Rattle.model.specs.World.{World, After, after}
 use Rattle.model.specs.Frames.{raise}
 use Rattle.model.specs.Rows.{heldRows}
-use Rattle.model.specs.Coro.{active, inState, entered, overflows, enterAs, coroEnter}
+use Rattle.model.specs.Coro.{active, inState, sized, entered, overflows, enterAs, coroEnter}
 use Rattle.model.specs.Sound.{rowWords, sound, basesOk, frameNames, contsLie, catchesLie, framesOver, bodyLast, waits, savedIn, savedSizes}
 use Rattle.model.specs.Program.{Setup}
 use Rattle.model.specs.declared.coro.Entered.{Entered}
@@ -62,28 +62,6 @@ use Rattle.coro_enter.specs.Enter.{refusalOf, enteredAs, grown, MoveFits
 use Rattle.machine_state.proofs.Bases.{bases-under}
 use Rattle.memory_world.proofs.Does.{does}
 use Rattle.memory_world.proofs.Turn.{turn-stack, turn-frames, turn-chain, turn-slots}
-
--- its record when it runs: nothing is saved any more
-abbrev running : CoroObj → CoroObj
-running c =
-    record {
-      state = CoroState.Running;
-      closing = c .closing;
-      finalized = c .finalized;
-      task = c .task;
-      seq = c .seq;
-      row = c .row;
-      regs = 0;
-      frames = 0;
-      maxregs = c .maxregs;
-      maxframes = c .maxframes;
-      waiting = c .waiting;
-      payload = c .payload;
-      key = c .key;
-      largest = c .largest;
-      result = c .result;
-      signal = c .signal;
-    }
 
 -- ---- lists
 
@@ -323,14 +301,14 @@ module _ (l : Sizes) (M : Lent) (m : Machine) (f : Fuel) (v : ℕ) (w : World) (
 
         -- the entry
         module _ (d : Driver) (stack′ frames′ chain′ slots′ savedStack′ savedFrames′ : List ℕ) where
-          slots-after : slots′ ≡ putSlot (M .slots) i (slot (tagOf v) (O.Coro (running c))) → Slots (toSlots (entered v d k r w .slots)) slots′ (m .count)
+          slots-after : slots′ ≡ putSlot (M .slots) i (slot (tagOf v) (O.Coro (asEntered c))) → Slots (toSlots (entered v d k r w .slots)) slots′ (m .count)
           slots-after e =
-              let y : Slot H.Object = slot (tagOf v) (O.Coro (running c)) in
-              let o : Object = Object.Coro (inState CoroState.Running k) r in
+              let y : Slot H.Object = slot (tagOf v) (O.Coro (asEntered c)) in
+              let o : Object = Object.Coro (inState CoroState.Running k) (sized k r) in
               let tag : getD (toSlots (w .slots)) (slotOf v) (slot 0 O.Empty) .tag ≡ tagOf v = ap (λ (x : Slot H.Object). x .tag) (at-map (w .slots) (slotOf v)) ∙ points .tag in
               let same : toSlots (putObject Object.Empty (w .slots) (slotOf v) o) ≡ set (toSlots (w .slots)) i y =
               put-same (w .slots) (slotOf v) o
-              ∙ ap₂ (λ t (x : CoroObj). set (toSlots (w .slots)) (slotOf v) (slot t (O.Coro (running x)))) tag (sym (in-world .is))
+              ∙ ap₂ (λ t (x : CoroObj). set (toSlots (w .slots)) (slotOf v) (slot t (O.Coro (asEntered x)))) tag (sym (in-world .is))
               ∙ ap (λ j. set (toSlots (w .slots)) j y) (sym (in-world .slot)) in
               subst (λ xs. Slots xs slots′ (m .count)) (sym same)
               (subst (λ z. Slots (set (toSlots (w .slots)) i y) z (m .count)) (sym e) (slots-set (toSlots (w .slots)) (M .slots) (m .count) i y (rep .slots) (before .below)))
@@ -341,7 +319,7 @@ module _ (l : Sizes) (M : Lent) (m : Machine) (f : Fuel) (v : ℕ) (w : World) (
           done : (a : Entered)
               → Moves (M .stack) (M .frames) (M .savedStack) (M .savedFrames) stack′ frames′ savedStack′ savedFrames′ (m .height) (m .depth) l c
               → ChainDo (λ cs. active v (m .depth) d ∷ cs) (M .chain) chain′ (m .active) (m .active + 1)
-              → slots′ ≡ putSlot (M .slots) i (slot (tagOf v) (O.Coro (running c)))
+              → slots′ ≡ putSlot (M .slots) i (slot (tagOf v) (O.Coro (asEntered c)))
               → a ≡ enteredAs c
               → Does l (coroEnter v d w) M′ (grown m c) f a
           done a moves push mark ea =
@@ -364,20 +342,20 @@ module _ (l : Sizes) (M : Lent) (m : Machine) (f : Fuel) (v : ℕ) (w : World) (
               (map (raise (length (w .stack))) (k .frames) ++ w .frames) frames′ (m .depth + c .frames) (subst (λ n. Frames (map (raise n) (k .frames) ++ w .frames) frames′ (m .depth + c .frames)) (rep .stack .count) (up .frames)))
               (active v (length (w .frames)) d ∷ w .chain) chain′ (m .active + 1) (subst (λ n. Chain (active v n d ∷ w .chain) chain′ (m .active + 1)) (rep .frames .count) (push (w .chain) (rep .chain))))
               (entered v d k r w .slots) slots′ savedStack′ savedFrames′ (m .count) (slots-after mark)
-              (subst (λ z. SavedStack (rowWords s) z savedStack′) (regs-set (w .slots) v k r points own live k′ r refl refl (s .limits .rows)) (on .saved))
-              (subst (λ z. SavedFrames (framesSize s) z savedFrames′) (frames-set (w .slots) v k r points own live k′ r refl refl (s .limits .rows)) (up .saved)))
+              (subst (λ z. SavedStack (rowWords s) z savedStack′) (regs-set (w .slots) v k r points own live k′ (sized k r) refl refl (s .limits .rows)) (on .saved))
+              (subst (λ z. SavedFrames (framesSize s) z savedFrames′) (frames-set (w .slots) v k r points own live k′ (sized k r) refl refl (s .limits .rows)) (up .saved)))
 
           pub accepted : (n : Machine) (a : Entered)
               → Moves (M .stack) (M .frames) (M .savedStack) (M .savedFrames) stack′ frames′ savedStack′ savedFrames′ (m .height) (m .depth) l c
               → ChainDo (λ cs. active v (m .depth) d ∷ cs) (M .chain) chain′ (m .active) (m .active + 1)
-              → slots′ ≡ putChunk width (M .slots) i (stateWords (codeOf CoroState.Running) 0 0 (chunkAt width (M .slots) i))
+              → slots′ ≡ putChunk width (M .slots) i (enteredWords (chunkAt width (M .slots) i))
               → a ≡ enteredAs c
               → n ≡ grown m c
               → Does l (coroEnter v d w) M′ n f a
           accepted n a moves push mark ea en =
               let here = there-words (w .slots) v i c in-world (M .slots) (m .count) (rep .slots) in
               subst (λ z. Does l (coroEnter v d w) M′ z f a) (sym en)
-              (done a moves push (mark ∙ ap (λ z. putChunk width (M .slots) i (stateWords (codeOf CoroState.Running) 0 0 z)) here) ea)
+              (done a moves push (mark ∙ ap (λ z. putChunk width (M .slots) i (enteredWords z)) here) ea)
 
 -- ---- the same, of what the contract asks
 

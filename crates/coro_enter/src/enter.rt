@@ -10,6 +10,7 @@ use heap::heap::CoroPlace;
 use heap::object::CoroObj;
 use heap::object::CoroState;
 use heap::value::Word;
+use memory_tables::frame::FRAME_WIDTH;
 use memory_world::machine::Machine;
 use memory_world::machine::Sizes;
 use model::coro::Entered;
@@ -57,7 +58,7 @@ pub(crate) fn move_in(
 {
     let at = (c.row as usize) * l.width;
     memory_tables::rows::enter_stack(stack, m.height, saved_stack, at, c.regs as usize);
-    let from = (c.row as usize) * (l.depth * 6);
+    let from = (c.row as usize) * (l.depth * FRAME_WIDTH);
     memory_tables::rows::enter_frames(
         frames,
         m.depth,
@@ -126,7 +127,7 @@ pub fn coro_enter(
             }
             move_in(stack, frames, saved_stack, saved_frames, m, l, c);
             memory_tables::chain::push_active(chain, m.active, v.0, m.depth as u64, d);
-            heap::slot::put_state(slots, i, CoroState::Running, 0, 0);
+            heap::slot::put_entered(slots, i);
             EnterDid {
                 machine: entered(m, c),
                 answer: entered_as(c),

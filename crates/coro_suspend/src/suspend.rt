@@ -1,7 +1,7 @@
 // coro.rs: coro_suspend. What it refuses is tested before anything is lent.
 ghost use mathlib.Core.Path.{_≡_};
 ghost use mathlib.Core.Bool.{false};
-ghost use Prim.Native.Nat.{_-_, _≤_, max};
+ghost use Prim.Native.Nat.{_-_, _≤_};
 ghost use Rattle.lists.specs.Pick.{pick};
 ghost use Rattle.heap.specs.Word.{nil};
 ghost use Rattle.model.specs.Coro.{coroSuspend};
@@ -12,9 +12,11 @@ use heap::fault::Fault;
 use heap::heap::Charged;
 use heap::heap::CoroPlace;
 use heap::heap::Heap;
+use heap::int::larger;
 use heap::object::CoroObj;
 use heap::object::CoroState;
 use heap::value::Word;
+use memory_tables::frame::FRAME_WIDTH;
 use memory_world::machine::Machine;
 use memory_world::machine::Sizes;
 use model::coro::Event;
@@ -33,12 +35,6 @@ fn beyond(n: u64, most: u64) -> u64
     ensures { λ r. ⌜ r ≡ n - most ⌝ }
 {
     if n <= most { 0 } else { n - most }
-}
-
-fn larger(a: u64, b: u64) -> u64
-    ensures { λ r. ⌜ r ≡ max a b ⌝ }
-{
-    if a <= b { b } else { a }
 }
 
 // The bytes that a suspension charges.
@@ -90,7 +86,7 @@ fn signal_after(ignored: bool, signal: u64) -> u64
 }
 
 // A coroutine that sleeps, with so many registers and frames saved.
-pub(crate) fn asleep(
+pub fn asleep(
     s: CoroState,
     regs: u64,
     frames: u64,
@@ -152,7 +148,7 @@ pub(crate) fn move_out(
 {
     let at = (row as usize) * l.width;
     memory_tables::rows::leave_stack(stack, m.height, base, saved_stack, at);
-    let from = (row as usize) * (l.depth * 6);
+    let from = (row as usize) * (l.depth * FRAME_WIDTH);
     memory_tables::rows::leave_frames(frames, m.depth, floor, base as u64, saved_frames, from);
 }
 

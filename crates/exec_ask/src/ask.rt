@@ -43,7 +43,7 @@ fn current(chain: &[u64], m: Machine) -> u64
     ensures { λ r. ⌜ Current (now (chain .entry)) (m .active) r ⌝ }
 {
     if m.active == 0 {
-        return 0;
+        return Word::NIL;
     }
     let a = memory_tables::active::active_at(chain, m.active - 1);
     a.coro

@@ -95,7 +95,7 @@ pub(crate) fn end_created(
             l,
             Word(v),
             CoroState::Returned,
-            0,
+            Word::NIL,
         );
     }
 }
@@ -142,7 +142,7 @@ pub(crate) fn close_to(
         };
     }
     end_created(slots, saved_stack, saved_frames, m, l, s, v);
-    put(stack, frames, m, dst, 0);
+    put(stack, frames, m, dst, Word::NIL);
     StepDid {
         machine: m,
         step: Step::Next,

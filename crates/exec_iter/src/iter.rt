@@ -92,7 +92,7 @@ pub(crate) fn iter_on(
         pc,
         src,
         Driver::Iter { has, val, iter },
-        0,
+        Word::NIL,
     )
 }
 

@@ -7,6 +7,7 @@ ghost use Rattle.memory_world.specs.Lendings.{top, topMaking};
 ghost use Rattle.memory_world.specs.Contract.{Met, any, every, ifSound, only};
 use coro_create::create::CreateDid;
 use coro_create::create::coro_create;
+use heap::value::Word;
 use machine_state::step::StepDid;
 use memory_world::machine::Machine;
 use memory_world::machine::Sizes;
@@ -91,7 +92,7 @@ pub fn coro_new(
         l,
         dst,
         f,
-        0,
+        Word::NIL,
         argc,
     );
     let next = did.machine;

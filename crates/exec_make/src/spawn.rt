@@ -7,6 +7,7 @@ use crate::indirect::indirect;
 use coro_clean::charge::charge_plain;
 use heap::fault::Fault;
 use heap::value::Opt;
+use heap::value::Word;
 use machine_state::step::StepDid;
 use machine_state::step::Stepped;
 use memory_world::machine::Machine;
@@ -40,7 +41,7 @@ pub(crate) fn push_hook(
         l,
         pc,
         hook,
-        0,
+        Word::NIL,
         Cont::Value(dst),
     );
     let next = did.machine;

@@ -11,6 +11,8 @@ use lib.Signed.{mag}
 use borrow.Author.Tests.{lt-ltb, le-ltb, ltb-true, ltb-false}
 use Rattle.lists.specs.Pick.{pick}
 use Rattle.heap.specs.Coding.{bitsOf, ofBits}
+use Rattle.heap.specs.Int.{exactIn}
+use Rattle.heap.specs.declared.int.Exact.the-variants as X
 
 -- 2 ^ (h + 1) is twice 2 ^ h
 pub double : (h : ℕ) → 2 ^ (h + 1) ≡ 2 ^ h * 2
@@ -52,3 +54,19 @@ of-range h n f = halves h n (ltb n (2 ^ h)) refl f .1
 pub bits-below : (h : ℕ) (z : ℤ) → mag z < 2 ^ h → bitsOf h z < 2 ^ (h + 1)
 bits-below h (pos n) r = omega (arith, double h)
 bits-below h (negsuc n) r = omega (arith, double h)
+
+-- ---- h + 1 bits read at a signed and at an unsigned type of that width
+
+-- signed, they are always in the range
+pub signed-fits : (h n : ℕ) → n < 2 ^ (h + 1) → X.Fits n ≡ exactIn h (ofBits h n)
+unfolding pick
+signed-fits h n f = rw (lt-ltb (mag (ofBits h n)) (2 ^ h) (of-range h n f), bits-of h n f)
+
+-- unsigned, the lower half of them is, and the upper half is not
+pub unsigned-fits : (h n : ℕ) → n < 2 ^ h → X.Fits n ≡ exactIn h (pos n)
+unfolding pick
+unsigned-fits h n f = rw (lt-ltb n (2 ^ h) f)
+
+pub unsigned-over : (h n : ℕ) → 2 ^ h ≤ n → X.Over ≡ exactIn h (pos n)
+unfolding pick
+unsigned-over h n f = rw (le-ltb n (2 ^ h) f)

@@ -3,9 +3,9 @@ use mathlib.Core.Path.{_≡_, ap, _∙_}
 use mathlib.Core.List.{List}
 use Prim.Native.Nat.{ℕ}
 use Rattle.lists.specs.Chunks.{chunkAt, putChunk}
-use Rattle.heap.specs.Object.{asClosing, asTask, asFinalized}
+use Rattle.heap.specs.Object.{asClosing, asTask, asFinalized, asEntered}
 use Rattle.heap.specs.Table.{slot}
-use Rattle.heap.specs.Slot.{width, coroAt, slotWords, closingWords, taskWords, finalizedWords}
+use Rattle.heap.specs.Slot.{width, coroAt, slotWords, closingWords, taskWords, finalizedWords, enteredWords}
 use Rattle.heap.specs.Heap.{coroIn, putSlot}
 use Rattle.heap.specs.declared.object.CoroObj.{CoroObj}
 use Rattle.heap.specs.declared.object.Object.the-variants as O
@@ -29,3 +29,6 @@ module _ (ws : List ℕ) (i t : ℕ) (c : CoroObj) (here : chunkAt width ws i �
 
   pub finalizes : (ws′ : List ℕ) → ws′ ≡ putChunk width ws i (finalizedWords (chunkAt width ws i)) → ws′ ≡ putSlot ws i (slot t (O.Coro (asFinalized c)))
   finalizes ws′ e = e ∙ ap (λ (z : List ℕ). putChunk width ws i (finalizedWords z)) here
+
+  pub enters : (ws′ : List ℕ) → ws′ ≡ putChunk width ws i (enteredWords (chunkAt width ws i)) → ws′ ≡ putSlot ws i (slot t (O.Coro (asEntered c)))
+  enters ws′ e = e ∙ ap (λ (z : List ℕ). putChunk width ws i (enteredWords z)) here

@@ -18,9 +18,13 @@ abbrev pub valueOf : IntTy → ℕ → ℤ
 valueOf T.I64 n = ofBits 63 n
 valueOf T.U64 n = pos n
 
--- an integer of 64 bits, or out of range. 01: "A u64 above 2^63 - 1 gives 7."
+-- the bits of a signed integer of h + 1 bits, or out of its range
+abbrev pub exactIn : ℕ → ℤ → Exact
+exactIn h z = pick (inRange h z) (X.Fits (bitsOf h z)) X.Over
+
+-- .. of 64 bits. 01: "A u64 above 2^63 - 1 gives 7."
 abbrev pub exactly : ℤ → Exact
-exactly z = pick (inRange 63 z) (X.Fits (bitsOf 63 z)) X.Over
+exactly z = exactIn 63 z
 
 -- dynv: inline_int. 01: "Integers from -2^47 to 2^47 - 1 are [inline words]; others are integer objects."
 abbrev pub inlineOf : ℤ → Inline

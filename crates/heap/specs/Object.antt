@@ -1,5 +1,5 @@
 -- heap.rs: Object. 01: State codes.
-use Prim.Native.Nat.{ℕ}
+use Prim.Native.Nat.{ℕ, max}
 use mathlib.Core.Bool.{Bool, true, false}
 use lib.Dec.{eqb}
 use Rattle.lists.specs.Pick.{pick}
@@ -90,3 +90,25 @@ asTask c = flagged (c .closing) (c .finalized) true (c .signal) c
 -- co.finalized = true
 abbrev pub asFinalized : CoroObj → CoroObj
 asFinalized c = flagged (c .closing) true (c .task) (c .signal) c
+
+-- coro.rs: coro_enter. It runs, and nothing is saved. 01: "the coroutine's largest saved sizes so far": what was saved is such a size.
+abbrev pub asEntered : CoroObj → CoroObj
+asEntered c =
+    record {
+      state = CoroState.Running;
+      closing = c .closing;
+      finalized = c .finalized;
+      task = c .task;
+      seq = c .seq;
+      row = c .row;
+      regs = 0;
+      frames = 0;
+      maxregs = max (c .maxregs) (c .regs);
+      maxframes = max (c .maxframes) (c .frames);
+      waiting = c .waiting;
+      payload = c .payload;
+      key = c .key;
+      largest = c .largest;
+      result = c .result;
+      signal = c .signal;
+    }

@@ -1,6 +1,6 @@
 -- A slot in 20 words: tag, kind, then the object's fields in order; words that are not used are 0. This layout is known to
 -- this crate alone.
-use Prim.Native.Nat.{ℕ, _^_, _-_}
+use Prim.Native.Nat.{ℕ, _^_, _-_, max}
 use mathlib.Core.Bool.{Bool, true, false, not}
 use mathlib.Core.List.{List, [], _∷_, _++_}
 use lib.ListN.{getD, set, replicate}
@@ -10,6 +10,7 @@ use Rattle.heap.specs.Object.{codeOf, stateOf}
 use Rattle.heap.specs.Table.{Slot, slot}
 use Rattle.heap.specs.declared.value.Opt.{Opt}
 use Rattle.heap.specs.declared.value.Opt.the-variants as M
+use Rattle.heap.specs.declared.object.CoroState.{CoroState}
 use Rattle.heap.specs.declared.object.CoroObj.{CoroObj}
 use Rattle.heap.specs.declared.object.Object.{Object}
 use Rattle.heap.specs.declared.object.Object.the-variants as O
@@ -57,9 +58,11 @@ slotWords v = v .tag ∷ objectWords (v .object)
 
 -- ---- a coroutine's words, some changed
 
--- its state, and how many registers and frames are saved
-abbrev pub stateWords : ℕ → ℕ → ℕ → List ℕ → List ℕ
-stateWords s regs frames ws = set (set (set ws 2 s) 8 regs) 9 frames
+-- what an entry changes: it runs, and nothing is saved; what was saved is among its largest sizes
+abbrev pub enteredWords : List ℕ → List ℕ
+enteredWords ws =
+    let a = set (set (set ws 2 (codeOf CoroState.Running)) 8 0) 9 0 in
+    set (set a 10 (max (getD ws 10 0) (getD ws 8 0))) 11 (max (getD ws 11 0) (getD ws 9 0))
 
 -- what a suspension changes: neither finalized, task, seq and row nor the result
 abbrev pub sleepWords : CoroObj → List ℕ → List ℕ

@@ -1,5 +1,6 @@
 // int.rs: value, at its two types, and the words of integers. An i64 is kept as its 64 bits of two's complement.
 ghost use mathlib.Core.Path.{_≡_};
+ghost use Prim.Native.Nat.{max};
 ghost use Rattle.heap.specs.Coding.{ofBits};
 ghost use Rattle.heap.specs.Int.{valueOf, exactly, nextKey, lessBits};
 use crate::value::Word;
@@ -20,6 +21,13 @@ pub enum Exact {
 pub enum Inline {
     At(Word),
     Large,
+}
+
+// The larger of two numbers.
+pub fn larger(a: u64, b: u64) -> u64
+    ensures { λ r. ⌜ r ≡ max a b ⌝ }
+{
+    if a <= b { b } else { a }
 }
 
 // int.rs: value. The value of register bits read at a type, as an i64.

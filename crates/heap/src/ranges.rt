@@ -9,16 +9,18 @@ ghost use Rattle.heap.specs.Slot.{fieldsOf};
 ghost use Rattle.heap.specs.Heap.{SlotFits};
 ghost use Rattle.heap.specs.Ranges.{rangesOf, kinds, within, slotOk};
 use crate::slot::WIDTH;
+use crate::value::BITS16;
+use crate::value::BITS32;
 
 // The largest value of a word, and of one of 32 and of 16 bits.
 const WORD: u64 = 0xFFFF_FFFF_FFFF_FFFF;
 
-const BITS32: u64 = 0xFFFF_FFFF;
+const MOST32: u64 = BITS32 - 1;
 
-const BITS16: u64 = 0xFFFF;
+const MOST16: u64 = BITS16 - 1;
 
 // The largest values of the tag and the fields of kinds 0, 2, 3 and 4: empty, an integer, an iterator without a key and with one.
-const TAG: [u64; 5] = [0, BITS16, BITS16, BITS16, BITS16];
+const TAG: [u64; 5] = [0, MOST16, MOST16, MOST16, MOST16];
 
 const FIRST: [u64; 5] = [0, 0, WORD, WORD, WORD];
 
@@ -35,11 +37,11 @@ fn coro_ok(s: &[u64]) -> bool
         return false;
     }
     let above = [
-        s[0] / 0x1_0000,
+        s[0] / BITS16,
         s[3] / 2,
         s[4] / 2,
         s[5] / 2,
-        s[12] / 0x1_0000,
+        s[12] / BITS16,
         s[18],
         s[19],
     ];
@@ -91,13 +93,13 @@ fn slot_ok(s: &[u64]) -> bool
         return coro_ok(s);
     }
     if kind == 5 {
-        return fields_ok(s, 1, BITS16, 5, 8, BITS32, BITS32, WORD);
+        return fields_ok(s, 1, MOST16, 5, 8, MOST32, MOST32, WORD);
     }
     if 4 < kind {
         return false;
     }
     if kind == 1 {
-        return fields_ok(s, 0, BITS16, 1, BITS32, 0, 0, 0);
+        return fields_ok(s, 0, MOST16, 1, MOST32, 0, 0, 0);
     }
     let k = kind as usize;
     fields_ok(s, 0, TAG[k], kind, FIRST[k], SECOND[k], THIRD[k], 0)

@@ -4,10 +4,11 @@ ghost use lib.ListN.{length, getD};
 ghost use lib.Dec.{eqb};
 ghost use Rattle.lists.specs.Chunks.{chunkAt, putChunk};
 ghost use Rattle.heap.specs.Table.{slot};
-ghost use Rattle.heap.specs.Object.{isFilled, codeOf};
-ghost use Rattle.heap.specs.Slot.{coroAt, objectAt, fieldsOf, fills, slotWords, stateWords, sleepWords};
+ghost use Rattle.heap.specs.Object.{isFilled};
+ghost use Rattle.heap.specs.Slot.{coroAt, objectAt, fieldsOf, fills, slotWords, enteredWords, sleepWords};
 ghost use Rattle.heap.specs.Heap.{SlotFits, slotIn, putSlot};
 ghost use Rattle.heap.specs.declared.object.Object.the-variants.{Iter, Coro};
+use crate::int::larger;
 use crate::object::CoroObj;
 use crate::object::CoroState;
 use crate::object::Object;
@@ -204,13 +205,19 @@ pub fn put_slot(slots: &mut [u64], i: usize, tag: u64, o: Object)
     lists::copy_words(&mut slots[b..e], &words);
 }
 
-fn write_state(s: &mut [u64], state: u64, regs: u64, frames: u64)
+// It runs, and nothing is saved; what was saved is among its largest sizes.
+fn write_entered(s: &mut [u64])
     requires { ⌜ length (now s) ≡ 20 ⌝ }
-    ensures { λ _. ⌜ now (s .exit) ≡ stateWords state regs frames (now (s .entry)) ⌝ }
+    ensures { λ _. ⌜ now (s .exit) ≡ enteredWords (now (s .entry)) ⌝ }
 {
-    s[2] = state;
-    s[8] = regs;
-    s[9] = frames;
+    let maxregs = larger(s[10], s[8]);
+    let maxframes = larger(s[11], s[9]);
+    let state = CoroState::Running;
+    s[2] = state.code();
+    s[8] = 0;
+    s[9] = 0;
+    s[10] = maxregs;
+    s[11] = maxframes;
 }
 
 fn write_sleep(s: &mut [u64], c: CoroObj)
@@ -231,14 +238,14 @@ fn write_sleep(s: &mut [u64], c: CoroObj)
     s[17] = c.signal;
 }
 
-// The coroutine at place i in another state, with so many registers and frames saved: three words.
-pub fn put_state(slots: &mut [u64], i: usize, state: CoroState, regs: u64, frames: u64)
+// The coroutine at place i entered: the words that an entry changes.
+pub fn put_entered(slots: &mut [u64], i: usize)
     requires { ⌜ SlotFits (now slots) i ⌝ }
-    ensures { λ _. ⌜ now (slots .exit) ≡ putChunk 20 (now (slots .entry)) i (stateWords (codeOf state) regs frames (chunkAt 20 (now (slots .entry)) i)) ⌝ }
+    ensures { λ _. ⌜ now (slots .exit) ≡ putChunk 20 (now (slots .entry)) i (enteredWords (chunkAt 20 (now (slots .entry)) i)) ⌝ }
 {
     let b = i * WIDTH;
     let e = b + WIDTH;
-    write_state(&mut slots[b..e], state.code(), regs, frames);
+    write_entered(&mut slots[b..e]);
 }
 
 // The coroutine at place i asleep: the words that a suspension changes.

@@ -17,6 +17,11 @@ pub enum Opt {
     Some(u64),
 }
 
+// How many numbers 32 bits hold, and 16.
+pub const BITS32: u64 = 0x1_0000_0000;
+
+pub const BITS16: u64 = 0x1_0000;
+
 // What a word is.
 pub enum Class {
     Nil,
@@ -33,6 +38,12 @@ impl Word {
     pub const REF: u64 = 0x1_0000_0000_0000;
     // 01: "top sixteen bits FFFE (hex)"
     pub const INT: u64 = 0xFFFE_0000_0000_0000;
+    // What lies below a word's top sixteen bits; those bits of a reference, and of an integer.
+    const LOW: u64 = 0x1_0000_0000_0000;
+
+    const REF_TAG: u64 = 1;
+
+    const INT_TAG: u64 = 0xFFFE;
 
     pub fn nil() -> Self
         ensures { λ r. ⌜ r .0 ≡ nil ⌝ }
@@ -44,7 +55,7 @@ impl Word {
     pub fn reference(slot: u32, tag: u16) -> Self
         ensures { λ r. ⌜ r .0 ≡ reference slot tag ⌝ }
     {
-        Word(Word::REF + (tag as u64) * 0x1_0000_0000 + (slot as u64))
+        Word(Word::REF + (tag as u64) * BITS32 + (slot as u64))
     }
 
     // dynv: inline_int. The word of an integer, given as its 64 bits of two's complement, where it has one.
@@ -56,7 +67,7 @@ impl Word {
         } else if bits < 0xFFFF_8000_0000_0000 {
             Inline::Large
         } else {
-            Inline::At(Word(bits - Word::REF))
+            Inline::At(Word(bits - Word::LOW))
         }
     }
 
@@ -64,13 +75,13 @@ impl Word {
         ensures { λ r. ⌜ r ≡ classOf (self .0) ⌝ }
     {
         let w = self.0;
-        let top = w / Word::REF;
+        let top = w / Word::LOW;
         if w == Word::NIL {
             Class::Nil
-        } else if top == 1 {
+        } else if top == Word::REF_TAG {
             Class::Ref(Obj(w))
-        } else if top == 0xFFFE {
-            let n = w % Word::REF;
+        } else if top == Word::INT_TAG {
+            let n = w % Word::LOW;
             if n < 0x8000_0000_0000 {
                 Class::Int(n)
             } else {
@@ -87,13 +98,13 @@ impl Obj {
     pub fn slot(self) -> usize
         ensures { λ r. ⌜ r ≡ slotOf (self .0) ⌝ }
     {
-        (self.0 % 0x1_0000_0000) as usize
+        (self.0 % BITS32) as usize
     }
 
     // 01: "tag in bits 32-47"
     pub fn tag(self) -> u64
         ensures { λ r. ⌜ r ≡ tagOf (self .0) ⌝ }
     {
-        self.0 / 0x1_0000_0000 % 0x1_0000
+        self.0 / BITS32 % BITS16
     }
 }

@@ -6,6 +6,7 @@ ghost use Rattle.memory_tables.specs.Does.{RegFits};
 ghost use Rattle.memory_world.specs.Lendings.{top, topSetup};
 ghost use Rattle.memory_world.specs.Contract.{Met, any, every, ifSound, only};
 ghost use Rattle.machine_state.specs.Frame.{PushFits, CallFits};
+use heap::value::Word;
 use machine_state::frame::push_at;
 use machine_state::frame::push_frame;
 use memory_world::machine::Machine;
@@ -42,7 +43,7 @@ pub fn host_call(
     requires { ⌜ PushFits l (now stack) (now frames) (now setup) m f ⌝ }
     ensures { λ r. ⌜ Met ifSound l (hostCall f) (topSetup stack frames setup) (only m) (only (r .machine)) (r .answer) ⌝ }
 {
-    let did = push_frame(stack, frames, setup, m, l, f, 0, Cont::Entry);
+    let did = push_frame(stack, frames, setup, m, l, f, Word::NIL, Cont::Entry);
     let n = did.machine;
     let a = did.answer;
     CallDid {
@@ -65,7 +66,7 @@ pub fn function_call(
     requires { ⌜ CallFits l (now stack) (now frames) (now setup) m pc f ⌝ }
     ensures { λ r. ⌜ Met ifSound l (functionCall pc f cont) (topSetup stack frames setup) (only m) (only (r .machine)) (r .answer) ⌝ }
 {
-    let did = push_at(stack, frames, setup, m, l, pc, f, 0, cont);
+    let did = push_at(stack, frames, setup, m, l, pc, f, Word::NIL, cont);
     let n = did.machine;
     let a = did.answer;
     CallDid {

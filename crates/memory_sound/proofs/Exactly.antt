@@ -23,6 +23,7 @@ use Rattle.model.specs.World.{World}
 use Rattle.model.specs.Sound.{rowWords, savedSizes, savedSizesOk, unusedOk, sound}
 use Rattle.model.specs.declared.machine.Frame.{Frame}
 use Rattle.model.specs.declared.machine.Fuel.{Fuel}
+use Rattle.model.proofs.WellFormed.{exactly as well-formed}
 use Rattle.claims_sound.proofs.Tests.{no-false, and-left, and-right, both, picked}
 use Rattle.claims_sound.proofs.Stand.{chained}
 use Rattle.claims_sound.proofs.Sound.{sound→, Rules, rules}
@@ -40,7 +41,7 @@ use Rattle.memory_world.specs.declared.machine.Told.{Told}
 use Rattle.memory_world.specs.declared.machine.Machine.{Machine}
 use Rattle.memory_world.proofs.Tables.{slots-are}
 use Rattle.memory_world.proofs.Few.{queue-few}
-use Rattle.memory_world.specs.Words.{sizesOf, wordsOf, numbersOf}
+use Rattle.memory_world.specs.Words.{sizesOf, lengthsOf, wordsIn, wordsOf, numbersOf}
 use Rattle.memory_world.specs.Decode.{setupOf, worldOf}
 use Rattle.memory_world.proofs.Encoded.{every-world, length-setup}
 use Rattle.memory_world.proofs.Decoded.{one-world, sound-words}
@@ -293,14 +294,34 @@ module _ (M : Lent) (m : Machine) (f : Fuel) (rep : Rep (sizesOf (worldOf M m f 
 
 -- ---- the law
 
+-- what is a world's words, to the end of each slice, stands for it
+its-own : (w : World) (M : Lent) (m : Machine) (f : Fuel) → sound w ≡ true → Room (w .setup) M → M ≡ wordsIn (lengthsOf M) w → m ≡ numbersOf w → f ≡ w .fuel → Stands M m f w
+its-own w M m f e r a b c =
+    record {
+      rep =
+          subst (λ (N : Lent). Rep (sizesOf (w .setup)) w N m f) (sym a)
+          (subst (λ (n : Machine). Rep (sizesOf (w .setup)) w (wordsIn (lengthsOf M) w) n f) (sym b)
+          (subst (λ (g : Fuel). Rep (sizesOf (w .setup)) w (wordsIn (lengthsOf M) w) (numbersOf w) g) (sym c) (every-world .inside w M e r)));
+      sound = e;
+      room = r;
+    }
+
 exactly : (M : Lent) (m : Machine) (f : Fuel) → Exactly M m f
 exactly M m f =
     record {
-      stands = λ e. let p = passed M m f e in record { rep = rep M m f p; sound = p .sound; room = room M m f p };
+      stands = standing;
       passes = stood;
       one = λ w h. one-world .decoded (h .sound) (h .rep);
+      formed =
+          λ e. let h = standing e in
+          let k = one-world .exactly (h .rep) in
+          record { formed = well-formed .formed (worldOf M m f) (h .sound); room = h .room; words = k .0; numbers = k .1 };
+      sounds = λ q. stood (worldOf M m f) (its-own (worldOf M m f) M m f (well-formed .sounds (worldOf M m f) (q .formed)) (q .room) (q .words) (q .numbers) refl);
     }
   where
+    standing : soundWords M m f ≡ true → Stands M m f (worldOf M m f)
+    standing e = let p = passed M m f e in record { rep = rep M m f p; sound = p .sound; room = room M m f p }
+
     stood : (w : World) → Stands M m f w → soundWords M m f ≡ true
     stood w h =
         let q = sym (one-world .decoded (h .sound) (h .rep)) in

@@ -7,6 +7,9 @@ ghost use Rattle.memory_tables.specs.Layout.{driverCode, driverFirst, dr
 use model::machine::Active;
 use model::machine::Driver;
 
+// The words of an active coroutine.
+pub const ACTIVE_WIDTH: usize = 6;
+
 fn driver_code(d: Driver) -> u64
     ensures { λ r. ⌜ r ≡ driverCode d ⌝ }
 {
@@ -87,7 +90,7 @@ pub fn active_at(chain: &[u64], i: usize) -> Active
     requires { ⌜ i * 6 + 6 ≤ length (now chain) ⌝ }
     ensures { λ a. ⌜ a ≡ activeIn (now (chain .entry)) i ⌝ }
 {
-    let at = i * 6;
+    let at = i * ACTIVE_WIDTH;
     let driver = driver_of(chain[at + 2], chain[at + 3], chain[at + 4], chain[at + 5]);
     Active {
         coro: chain[at],
@@ -101,7 +104,7 @@ pub fn put_active(chain: &mut [u64], i: usize, a: Active)
     requires { ⌜ i * 6 + 6 ≤ length (now chain) ⌝ }
     ensures { λ _. ⌜ now (chain .exit) ≡ splice (now (chain .entry)) (i * 6) (activeWords a) ⌝ }
 {
-    let at = i * 6;
+    let at = i * ACTIVE_WIDTH;
     let d = a.driver;
     chain[at] = a.coro;
     chain[at + 1] = a.floor;

@@ -4,6 +4,7 @@ ghost use Prim.Native.Nat.{_+_, _-_, _*_, _≤_};
 ghost use lib.ListN.{length, drop};
 ghost use Rattle.model.specs.Coro.{active};
 ghost use Rattle.memory_tables.specs.Does.{ChainDo};
+use crate::active::ACTIVE_WIDTH;
 use crate::active::put_active;
 use model::machine::Active;
 use model::machine::Driver;
@@ -26,6 +27,6 @@ pub fn pop_active(chain: &mut [u64], n: usize)
     requires { ⌜ (1 ≤ n) × (n * 6 ≤ length (now chain)) ⌝ }
     ensures { λ _. ⌜ ChainDo (drop 1) (now (chain .entry)) (now (chain .exit)) n (n - 1) ⌝ }
 {
-    let at = (n - 1) * 6;
-    lists::clear_words(&mut chain[at..at + 6]);
+    let at = (n - 1) * ACTIVE_WIDTH;
+    lists::clear_words(&mut chain[at..at + ACTIVE_WIDTH]);
 }

@@ -7,6 +7,9 @@ ghost use Rattle.memory_tables.specs.Layout.{contCode, contReg, contOf, 
 use model::machine::Cont;
 use model::machine::Frame;
 
+// The words of a frame.
+pub const FRAME_WIDTH: usize = 6;
+
 // A continuation's code.
 pub fn cont_code(k: Cont) -> u64
     ensures { λ r. ⌜ r ≡ contCode k ⌝ }
@@ -54,7 +57,7 @@ pub fn frame_at(frames: &[u64], i: usize) -> Frame
     requires { ⌜ i * 6 + 6 ≤ length (now frames) ⌝ }
     ensures { λ f. ⌜ f ≡ frameIn (now (frames .entry)) i ⌝ }
 {
-    let at = i * 6;
+    let at = i * FRAME_WIDTH;
     let cont = cont_of(frames[at + 4], frames[at + 5]);
     Frame {
         func: frames[at],
@@ -70,28 +73,28 @@ pub fn func_at(frames: &[u64], i: usize) -> u64
     requires { ⌜ i * 6 + 6 ≤ length (now frames) ⌝ }
     ensures { λ r. ⌜ r ≡ funcIn (now (frames .entry)) i ⌝ }
 {
-    frames[i * 6]
+    frames[i * FRAME_WIDTH]
 }
 
 pub fn pc_at(frames: &[u64], i: usize) -> u64
     requires { ⌜ i * 6 + 6 ≤ length (now frames) ⌝ }
     ensures { λ r. ⌜ r ≡ pcIn (now (frames .entry)) i ⌝ }
 {
-    frames[i * 6 + 1]
+    frames[i * FRAME_WIDTH + 1]
 }
 
 pub fn base_at(frames: &[u64], i: usize) -> usize
     requires { ⌜ i * 6 + 6 ≤ length (now frames) ⌝ }
     ensures { λ r. ⌜ r ≡ baseIn (now (frames .entry)) i ⌝ }
 {
-    frames[i * 6 + 2] as usize
+    frames[i * FRAME_WIDTH + 2] as usize
 }
 
 pub fn cont_at(frames: &[u64], i: usize) -> Cont
     requires { ⌜ i * 6 + 6 ≤ length (now frames) ⌝ }
     ensures { λ k. ⌜ k ≡ contIn (now (frames .entry)) i ⌝ }
 {
-    cont_of(frames[i * 6 + 4], frames[i * 6 + 5])
+    cont_of(frames[i * FRAME_WIDTH + 4], frames[i * FRAME_WIDTH + 5])
 }
 
 // The frame at place i replaced.
@@ -99,7 +102,7 @@ pub fn put_frame(frames: &mut [u64], i: usize, f: Frame)
     requires { ⌜ i * 6 + 6 ≤ length (now frames) ⌝ }
     ensures { λ _. ⌜ now (frames .exit) ≡ splice (now (frames .entry)) (i * 6) (frameWords f) ⌝ }
 {
-    let at = i * 6;
+    let at = i * FRAME_WIDTH;
     let k = f.cont;
     frames[at] = f.func;
     frames[at + 1] = f.pc;

@@ -4,6 +4,7 @@ ghost use Prim.Native.Nat.{_+_, _-_, _*_, _^_, _≤_, _<_};
 ghost use lib.ListN.{length, getD, drop};
 ghost use Rattle.model.specs.Frames.{frame, onTop, setPc, stepPc};
 ghost use Rattle.memory_tables.specs.Does.{FramesDo};
+use crate::frame::FRAME_WIDTH;
 use crate::frame::put_frame;
 use crate::runs::clear_part;
 use model::machine::Cont;
@@ -14,7 +15,7 @@ pub fn store_pc(frames: &mut [u64], depth: usize, pc: u64)
     requires { ⌜ (1 ≤ depth) × (depth * 6 ≤ length (now frames)) ⌝ }
     ensures { λ _. ⌜ FramesDo (onTop (setPc pc)) (now (frames .entry)) (now (frames .exit)) depth depth ⌝ }
 {
-    let at = (depth - 1) * 6 + 1;
+    let at = (depth - 1) * FRAME_WIDTH + 1;
     frames[at] = pc;
 }
 
@@ -23,7 +24,7 @@ pub fn step_pc(frames: &mut [u64], depth: usize)
     requires { ⌜ (1 ≤ depth) × (depth * 6 ≤ length (now frames)) × (getD (now frames) ((depth - 1) * 6 + 1) 0 < 2 ^ 32) ⌝ }
     ensures { λ _. ⌜ FramesDo (onTop stepPc) (now (frames .entry)) (now (frames .exit)) depth depth ⌝ }
 {
-    let here = (depth - 1) * 6 + 1;
+    let here = (depth - 1) * FRAME_WIDTH + 1;
     let pc = frames[here] as u32;
     frames[here] = std::num::wrapping_add_u32(pc, 1) as u64;
 }
@@ -48,8 +49,8 @@ pub fn pop_frame(frames: &mut [u64], depth: usize)
     requires { ⌜ (1 ≤ depth) × (depth * 6 ≤ length (now frames)) ⌝ }
     ensures { λ _. ⌜ FramesDo (drop 1) (now (frames .entry)) (now (frames .exit)) depth (depth - 1) ⌝ }
 {
-    let at = (depth - 1) * 6;
-    lists::clear_words(&mut frames[at..at + 6]);
+    let at = (depth - 1) * FRAME_WIDTH;
+    lists::clear_words(&mut frames[at..at + FRAME_WIDTH]);
 }
 
 // All frames go.
@@ -57,5 +58,5 @@ pub fn clear_frames(frames: &mut [u64], depth: usize)
     requires { ⌜ depth * 6 ≤ length (now frames) ⌝ }
     ensures { λ _. ⌜ FramesDo (λ _. []) (now (frames .entry)) (now (frames .exit)) depth 0 ⌝ }
 {
-    clear_part(frames, 0, depth * 6);
+    clear_part(frames, 0, depth * FRAME_WIDTH);
 }

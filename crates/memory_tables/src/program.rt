@@ -13,6 +13,13 @@ use model::program::Function;
 use model::program::Handler;
 use model::program::Limits;
 
+// The numbers of a set-up, which stand before its functions; the words of a function, and of a handler.
+pub const NUMBERS_WIDTH: usize = 14;
+
+pub const FUNCTION_WIDTH: usize = 35;
+
+pub const HANDLER_WIDTH: usize = 4;
+
 pub fn limits(setup: &[u64]) -> Limits
     requires { ⌜ 14 ≤ length (now setup) ⌝ }
     ensures { λ r. ⌜ r ≡ limitsOf (now (setup .entry)) ⌝ }
@@ -66,13 +73,13 @@ fn handlers_from(setup: &[u64], at: usize) -> [Handler; 8]
     requires { ⌜ at + 32 ≤ length (now setup) ⌝ }
     ensures { λ r. ⌜ r ≡ handlersFrom 8 (now (setup .entry)) at ⌝ }
 {
-    let b = at + 4;
-    let c = b + 4;
-    let d = c + 4;
-    let e = d + 4;
-    let f = e + 4;
-    let g = f + 4;
-    let h = g + 4;
+    let b = at + HANDLER_WIDTH;
+    let c = b + HANDLER_WIDTH;
+    let d = c + HANDLER_WIDTH;
+    let e = d + HANDLER_WIDTH;
+    let f = e + HANDLER_WIDTH;
+    let g = f + HANDLER_WIDTH;
+    let h = g + HANDLER_WIDTH;
     [
         handler_from(setup, at),
         handler_from(setup, b),
@@ -90,7 +97,7 @@ pub fn function_at(setup: &[u64], i: usize) -> Function
     requires { ⌜ 14 + i * 35 + 35 ≤ length (now setup) ⌝ }
     ensures { λ r. ⌜ r ≡ functionIn (now (setup .entry)) i ⌝ }
 {
-    let at = 14 + i * 35;
+    let at = NUMBERS_WIDTH + i * FUNCTION_WIDTH;
     let handlers = handlers_from(setup, at + 3);
     Function {
         regs: setup[at],
@@ -105,7 +112,7 @@ pub fn regs_at(setup: &[u64], i: usize) -> u64
     requires { ⌜ 14 + i * 35 < length (now setup) ⌝ }
     ensures { λ r. ⌜ r ≡ functionIn (now (setup .entry)) i .regs ⌝ }
 {
-    let at = 14 + i * 35;
+    let at = NUMBERS_WIDTH + i * FUNCTION_WIDTH;
     setup[at]
 }
 
@@ -114,7 +121,7 @@ pub fn params_at(setup: &[u64], i: usize) -> u64
     requires { ⌜ 14 + i * 35 + 1 < length (now setup) ⌝ }
     ensures { λ r. ⌜ r ≡ functionIn (now (setup .entry)) i .params ⌝ }
 {
-    let at = 14 + i * 35;
+    let at = NUMBERS_WIDTH + i * FUNCTION_WIDTH;
     setup[at + 1]
 }
 

@@ -2,6 +2,7 @@
 ghost use Prim.Native.Nat.{_+_, _-_, _*_, _≤_};
 ghost use lib.ListN.{length};
 ghost use Rattle.memory_tables.specs.Does.{EntersStack, EntersFrames, EnterFits, LeavesStack, LeavesFrames, LeaveFits};
+use crate::frame::FRAME_WIDTH;
 use crate::runs::move_frames;
 use crate::runs::move_words;
 
@@ -25,7 +26,7 @@ pub fn enter_frames(
     requires { ⌜ EnterFits (now frames) (now saved) depth at n by ⌝ }
     ensures { λ _. ⌜ EntersFrames (now (frames .entry)) (now (saved .entry)) (now (frames .exit)) (now (saved .exit)) depth at n by ⌝ }
 {
-    move_frames(frames, depth * 6, saved, at, n, 0, by);
+    move_frames(frames, depth * FRAME_WIDTH, saved, at, n, 0, by);
 }
 
 // The words from `base` up go to an empty row.
@@ -48,5 +49,5 @@ pub fn leave_frames(
     requires { ⌜ LeaveFits (now frames) (now saved) depth floor by at ⌝ }
     ensures { λ _. ⌜ LeavesFrames (now (frames .entry)) (now (saved .entry)) (now (frames .exit)) (now (saved .exit)) depth floor by at ⌝ }
 {
-    move_frames(saved, at, frames, floor * 6, depth - floor, by, 0);
+    move_frames(saved, at, frames, floor * FRAME_WIDTH, depth - floor, by, 0);
 }

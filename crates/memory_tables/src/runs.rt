@@ -4,6 +4,7 @@ ghost use Prim.Native.Nat.{_+_, _-_, _*_, _≤_, _<_};
 ghost use lib.ListN.{length, take, replicate};
 ghost use Rattle.lists.specs.Parts.{part, splice, pad};
 ghost use Rattle.memory_tables.specs.Runs.{Moved, lowered, rebase, between, RebaseFits};
+use crate::frame::FRAME_WIDTH;
 
 // As `move_words`, by way of an array: compiled to one move and one clearing of memory, which pays from some eight words on.
 fn move_block(dst: &mut [u64], at: usize, src: &mut [u64], from: usize, n: usize)
@@ -113,7 +114,14 @@ pub fn move_frames(
 {
     let mut j = 0;
     while j < n {
-        move_frame(dst, at + j * 6, src, from + j * 6, old, new);
+        move_frame(
+            dst,
+            at + j * FRAME_WIDTH,
+            src,
+            from + j * FRAME_WIDTH,
+            old,
+            new,
+        );
         j += 1;
     }
 }

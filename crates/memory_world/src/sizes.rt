@@ -5,6 +5,8 @@ ghost use Rattle.model.specs.Sound.{rowWords};
 ghost use Rattle.memory_world.specs.Decode.{setupOf};
 ghost use Rattle.memory_world.specs.Sizes.{SetupFits, SizesTold};
 use crate::machine::Sizes;
+use memory_tables::program::FUNCTION_WIDTH;
+use memory_tables::program::NUMBERS_WIDTH;
 
 fn larger(a: usize, b: usize) -> usize
     ensures { λ r. ⌜ r ≡ max a b ⌝ }
@@ -24,7 +26,7 @@ fn row_words(setup: &[u64]) -> usize
     let mut most = setup[1] as usize;
     let mut i = 0;
     while i < n {
-        let at = 14 + i * 35;
+        let at = NUMBERS_WIDTH + i * FUNCTION_WIDTH;
         let regs = setup[at] as usize;
         most = larger(most, regs);
         i += 1;

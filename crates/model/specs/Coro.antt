@@ -73,10 +73,14 @@ active v floor d = record { coro = v; floor = floor; driver = d }
 abbrev pub inState : CoroState → Core → Core
 inState s k = record { state = s; regs = []; frames = []; waiting = k .waiting }
 
+-- 01: "the coroutine's largest saved sizes so far": what is saved is such a size
+abbrev pub sized : Core → Rest → Rest
+sized k r = withMaxregs (max (r .maxregs) (length (k .regs))) (withMaxframes (max (r .maxframes) (length (k .frames))) r)
+
 -- 01: "It appends the saved words and frames, adds the old stack height to every base, sets Running and pushes the driver."
 abbrev pub entered : ℕ → Driver → Core → Rest → World → World
 entered v d k r w =
-    setCoro v (inState CoroState.Running k) r
+    setCoro v (inState CoroState.Running k) (sized k r)
     (withChain (active v (length (w .frames)) d ∷ w .chain)
     (withFrames (map (raise (length (w .stack))) (k .frames) ++ w .frames)
     (withStack (w .stack ++ k .regs) w)))
@@ -109,9 +113,6 @@ abbrev pub saved : CoroState → ℕ → ℕ → World → Core
 saved state dst floor w =
     let s = baseAt floor (w .frames) in
     record { state = state; regs = drop s (w .stack); frames = map (lower s) (above floor (w .frames)); waiting = dst }
-
-abbrev pub sized : Core → Rest → Rest
-sized k r = withMaxregs (max (r .maxregs) (length (k .regs))) (withMaxframes (max (r .maxframes) (length (k .frames))) r)
 
 -- 01: "8 bytes per register and F per frame beyond the coroutine's largest saved sizes so far"
 abbrev pub growth : World → Core → Rest → ℕ

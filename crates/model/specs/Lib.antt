@@ -16,6 +16,9 @@ pub mod Gate
 pub mod Added
 pub mod Answer
 pub mod Sound
+pub mod ClosingList
+pub mod WellFormed
+pub mod Exactly
 pub mod Call
 pub mod Calls
 pub mod Step

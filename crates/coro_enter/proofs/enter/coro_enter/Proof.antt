@@ -75,8 +75,8 @@ move-in-requires c κs =
 push-active-requires : tie.Need-push-active-requires
 push-active-requires c κs = sum (if1-of c) .chain
 
-put-state-requires : tie.Need-put-state-requires
-put-state-requires c κs = sum (if1-of (c .before .before .before .before)) .slot
+put-entered-requires : tie.Need-put-entered-requires
+put-entered-requires c κs = sum (if1-of (c .before .before .before .before)) .slot
 
 entered-requires : tie.Need-entered-requires
 entered-requires c κs =
@@ -93,12 +93,12 @@ returns-2 c =
 
 returns-3 : tie.Need-returns-3
 returns-3 c =
-    let at-entered = c .before in let at-put-state = at-entered .before .before .before in let at-push-active = at-put-state .before .before .before .before in
+    let at-entered = c .before in let at-put-entered = at-entered .before .before .before in let at-push-active = at-put-entered .before .before .before .before in
     let at-if1 = if1-of (at-push-active .before) in let at-refusal = at-if1 .before .before in let at-coro-at = at-refusal .before in let start = start-of at-coro-at in
     let at-move-in = at-push-active .before .before .before .before .before .before .before .before .before .before in
     λ w b rep snd. accepted (start .args .l) (mem start b) (start .args .m) (b .fuel) (start .args .v .0) w rep (slot at-coro-at) (coro at-coro-at)
     (found at-coro-at) snd (at-refusal .refusal .result) (at-refusal .refusal .ensures) (none at-if1) (start .args .d) _ _ _ _ _ _ (at-entered .entered .result)
-    (c .entered-as .result) (at-move-in .move-in .ensures) (at-push-active .push-active .ensures) (at-put-state .put-state .ensures) (c .entered-as .ensures)
+    (c .entered-as .result) (at-move-in .move-in .ensures) (at-push-active .push-active .ensures) (at-put-entered .put-entered .ensures) (c .entered-as .ensures)
     (at-entered .entered .ensures)
 
 pub coro-enter-spec : {M : Type 1} → statement M
@@ -115,7 +115,7 @@ coro-enter-spec =
     returns
     move-in-requires
     push-active-requires
-    put-state-requires
+    put-entered-requires
     entered-requires
     (λ c κs. search needs)
     (λ c. search needs)

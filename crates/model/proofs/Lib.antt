@@ -1,0 +1,11 @@
+pub mod Tests
+pub mod Places
+pub mod FrameRules
+pub mod ChainRules
+pub mod Point
+pub mod SlotRules
+pub mod RowRules
+pub mod ObjectRules
+pub mod Rules
+pub mod ClosingList
+pub mod WellFormed
