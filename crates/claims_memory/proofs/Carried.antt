@@ -261,6 +261,7 @@ module _ (e d : Engine) (f : Follows e d) where
       record {
         begun = λ s k h. down-healthy e d f (e .next s k) (subst (Healthy d) (f .next s k) (p .begun (f .to s) (f .by s k) (up-restarts e d f s k h)));
         kept = λ s k h. down-healthy e d f (e .next s k) (subst (Healthy d) (f .next s k) (p .kept (f .to s) (f .by s k) (up-healthy e d f s h)));
+        refuelled = λ s x g h. down-healthy e d f (e .refuel s x) (subst (Healthy d) (f .refuel s x) (p .refuelled (f .to s) x g (up-healthy e d f s h)));
         eleven = λ s k h n. down (λ v. Eleven (v .before) (v .op)) s k (p .eleven (f .to s) (f .by s k) (up-healthy e d f s h) (f .number s k ∙ n));
       }
 

@@ -19,7 +19,7 @@ use Rattle.model.specs.World.{World, After, after, withFinalize}
 use Rattle.model.specs.Frames.{onTop, setPc, stepPc, raise, topBase, putAt, storePc}
 use Rattle.model.specs.Heap.{coro, notA, setCoro, changeAs, changeCoro}
 use Rattle.model.specs.Fuel.{setFinalizing, unbank, armClose, spend}
-use Rattle.model.specs.Coro.{active, inState, entered, overflows, enterAs, coroEnter, coroSend}
+use Rattle.model.specs.Coro.{sized, active, inState, entered, overflows, enterAs, coroEnter, coroSend}
 use Rattle.model.specs.Cleanup.{isAsleep, isEntered, close, started, startFrom, startFinalizer, chargeDone, chargeOr, chargeAt, chargeSlow, charge}
 use Rattle.model.specs.declared.machine.Driver.{Driver}
 use Rattle.model.specs.declared.machine.Frame.{Frame}
@@ -75,13 +75,13 @@ set-append-at (x ∷ xs) ys (suc n) i a h = ap (λ (l : List ℕ). x ∷ l) (set
 
 module _ (v : ℕ) (d : Driver) (u : World) (k : Core) (r : Rest) (e : coro u v ≡ Is k r) where
   raw-mine : isRunning (coreAt (entered v d k r u) v .state) ≡ true
-  raw-mine = ap (λ x. isRunning (coreIn x .state)) (set-mine (u .slots) v e (inState CoroState.Running k) r)
+  raw-mine = ap (λ x. isRunning (coreIn x .state)) (set-mine (u .slots) v e (inState CoroState.Running k) (sized k r))
 
   raw-others : (x : ℕ) → x ≢ v → coreAt (entered v d k r u) x ≡ coreAt u x
-  raw-others x n = set-other (u .slots) v e (inState CoroState.Running k) r x n
+  raw-others x n = set-other (u .slots) v e (inState CoroState.Running k) (sized k r) x n
 
   raw-closing : coreAt (entered v d k r u) v .closing ≡ closingOf r
-  raw-closing = ap (λ x. coreIn x .closing) (set-mine (u .slots) v e (inState CoroState.Running k) r)
+  raw-closing = ap (λ x. coreIn x .closing) (set-mine (u .slots) v e (inState CoroState.Running k) (sized k r))
 
   pub raw-none : Raw u v (seat k r) d nothing (entered v d k r u)
   raw-none = record { setup = refl; stack = refl; frames = refl; chain = refl; mine = raw-mine; closing = raw-closing; others = raw-others }
@@ -106,17 +106,17 @@ module _ (v : ℕ) (d : Driver) (u : World) (k : Core) (r : Rest) (e : coro u v 
     chain = refl;
     mine = ap (λ y. isRunning (coreIn y .state)) mine;
     closing = ap (λ y. coreIn y .closing) mine ∙ pick-true (some x) none;
-    others = λ y n. set-other (i .slots) v here (inState CoroState.Running k) (close x r) y n ∙ raw-others y n;
+    others = λ y n. set-other (i .slots) v here (inState CoroState.Running k) (close x (sized k r)) y n ∙ raw-others y n;
   })
     where
       i : World
       i = entered v d k r u
 
-      here : coro i v ≡ Is (inState CoroState.Running k) r
-      here = set-mine (u .slots) v e (inState CoroState.Running k) r
+      here : coro i v ≡ Is (inState CoroState.Running k) (sized k r)
+      here = set-mine (u .slots) v e (inState CoroState.Running k) (sized k r)
 
-      mine : coro (setCoro v (inState CoroState.Running k) (close x r) i) v ≡ Is (inState CoroState.Running k) (close x r)
-      mine = set-mine (i .slots) v here (inState CoroState.Running k) (close x r)
+      mine : coro (setCoro v (inState CoroState.Running k) (close x (sized k r)) i) v ≡ Is (inState CoroState.Running k) (close x (sized k r))
+      mine = set-mine (i .slots) v here (inState CoroState.Running k) (close x (sized k r))
 
   -- where the sent word depends on the state
   pub raw-sent : (x : ℕ) → isNil (k .frames) ≡ false → (b : Bool) → Raw u v (seat k r) d (pick b nothing (gets x)) (pick b (entered v d k r u) (coroSend (k .waiting) x (entered v d k r u)))

@@ -58,7 +58,9 @@ pub mod Premises
 pub mod Witness
 pub mod Roomy
 pub mod Promise
+pub mod Places
+pub mod WrongEntries
+pub mod WrongWakes
 pub mod WrongEvents
-pub mod Wrong
-pub mod WrongHosts
-pub mod WrongTouches
+pub mod WrongCalls
+pub mod WrongPromise

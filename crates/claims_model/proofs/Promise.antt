@@ -17,14 +17,14 @@ use Rattle.heap.specs.declared.object.CoroState.{CoroState}
 use Rattle.heap.specs.declared.heap.ResultKind.{ResultKind}
 use Rattle.model.specs.Program.{Func, Setup, setupOk}
 use Rattle.model.specs.Object.{Object, isDone}
-use Rattle.model.specs.World.{World, andThen, fresh, functionObjects}
+use Rattle.model.specs.World.{World, andThen, fresh, functionObjects, withFuel}
 use Rattle.model.specs.Frames.{popTo}
 use Rattle.model.specs.Heap.{place, objectAt, toDyn}
 use Rattle.model.specs.Machine.{applyCont, writeMade, resumeIn, returnMade, finishAs, finishOn, finish, unwind, raisable}
 use Rattle.model.specs.Gate.{refused}
 use Rattle.model.specs.Added as Added
 use Rattle.model.specs.Added.{accepted, registersOn}
-use Rattle.model.specs.Sound.{sound}
+use Rattle.model.specs.Sound.{isNone, sound}
 use Rattle.model.specs.Answer.{numberOf}
 use Rattle.model.specs.Call.{Call, SetUp, Do, asCall}
 use Rattle.model.specs.Calls.{table}
@@ -34,18 +34,21 @@ use Rattle.model.specs.declared.machine.Cont.{Cont}
 use Rattle.model.specs.declared.machine.Driver.{Driver}
 use Rattle.model.specs.declared.machine.Frame.{Frame}
 use Rattle.model.specs.declared.coro.WordOr.{WordOr}
+use Rattle.heap.specs.declared.value.Opt.{Opt}
+use Rattle.model.specs.declared.machine.Fuel.{Fuel}
 use Rattle.model.specs.declared.call.OptPc.{OptPc}
 use Rattle.model.specs.declared.call.Op.{Op}
 use Rattle.model.specs.declared.call.Answer.{Answer}
 use Rattle.claims_invariant.specs.Kept.{raises}
-use Rattle.claims_sound.proofs.Sound.{sound→}
+use Rattle.claims_sound.proofs.Sound.{sound→, →sound}
+use Rattle.claims_sound.proofs.Coros.{fuel-move}
 use Rattle.claims_invariant.proofs.Call.{call-keeps}
 use Rattle.claims_model.specs.Engine as Engine
 use Rattle.claims_model.specs.Engine.{Turn, calls}
 use Rattle.claims_model.specs.Demand3.{Restarts}
 use Rattle.claims_model.specs.Says.{Does}
 use Rattle.claims_model.specs.Events.{Healthy, raised, endsAt}
-use Rattle.claims_model.specs.Promise.{plain, room, Roomy, Makes, converts, Eleven, sets-up, no-fault, Soundness, Fresh, registers, Refuels, NotEmpty, Promise}
+use Rattle.claims_model.specs.Promise.{plain, room, Roomy, Makes, converts, unbanked, fuelSound, Eleven, sets-up, no-fault, Soundness, Fresh, registers, Refuels, NotEmpty, Promise}
 use Rattle.claims_model.specs.Steps.{seenOf, rulesOf, viewOf, opOf, asksOf, looks, steps}
 use Rattle.claims_model.specs.Story.{wide, f, c, held}
 use Rattle.claims_model.specs.Premises.{premises}
@@ -86,6 +89,13 @@ kept w (SetUp s) h = go (setupOk s) refl
     go : (b : Bool) → setupOk s ≡ b → sound (pick b (accepted (fresh s)) (refused w Fault.Unsound) .world) ≡ true
     go true e = soundness-kept .begun s e
     go false e = h
+
+other-fuel : (w : World) (f : Fuel) → fuelSound f ≡ true → sound w ≡ true → sound (withFuel f w) ≡ true
+other-fuel w f e h = →sound (withFuel f w) (fuel-move w f (w .finalizing) (sound→ w h (λ z. no-both z refl)) (go (f .bank) e))
+  where
+    go : (b : Opt) → (unbanked b || eqb (f .fuel) 0) ≡ true → (isNone b || eqb (f .fuel) 0) ≡ true
+    go Opt.None e = e
+    go (Opt.Some n) e = e
 
 unraised : (v : Engine.View) (f : Fault) → raisable f ≡ false → raised v f ≡ none
 unraised v Fault.None h = refl
@@ -128,6 +138,7 @@ soundness =
     record {
       begun = λ w k r. sound-healthy (step w k .world) (begun w k r);
       kept = λ w k h. sound-healthy (step w k .world) (kept w k (healthy-sound w h));
+      refuelled = λ w f e h. sound-healthy (withFuel f w) (other-fuel w f e (healthy-sound w h));
       eleven = λ w k h n. eleven w k (healthy-sound w h) n;
     }
 

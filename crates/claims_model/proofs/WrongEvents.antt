@@ -1,361 +1,289 @@
--- The machines whose events, set-ups or looks are wrong: one call tells each.
+-- The engines whose events are wrong: one call tells each, by the field that WrongEvents.antt names.
 use Prim.Native.Nat.{ℕ}
 use native.Mathlib.Omega.{arith}
 use mathlib.Core.Path.{_≡_, refl, ap}
 use mathlib.Core.Logic.{_⊎_, inl, inr}
-use mathlib.Core.Bool.{true, false}
-use mathlib.Core.List.{List, [], _∷_, _++_}
+use mathlib.Core.Bool.{true}
 use mathlib.Core.Option.{Option, none, some, orElse}
-use lib.ListN.{length, take}
-use lib.Dec.{ltb}
 use Rattle.lists.specs.Pick.{pick}
 use Rattle.heap.specs.declared.fault.Fault.{Fault}
-use Rattle.model.specs.World.{World, fresh}
+use Rattle.heap.specs.declared.value.Opt.{Opt}
+use Rattle.heap.specs.declared.object.CoroState.{CoroState}
+use Rattle.heap.specs.declared.heap.ResultKind.{ResultKind}
+use Rattle.model.specs.Object.{withClosing}
+use Rattle.model.specs.World.{World}
+use Rattle.model.specs.Heap.{changeCoro}
 use Rattle.model.specs.Step as M
 use Rattle.model.specs.Answer.{numberOf}
-use Rattle.model.specs.Call.{Call, SetUp, Do, typed, asCall}
+use Rattle.model.specs.Call.{SetUp, Do, asCall}
 use Rattle.model.specs.Compute.{computed}
-use Rattle.heap.specs.declared.object.CoroState.{CoroState}
-use Rattle.model.specs.declared.machine.Cont.{Cont}
 use Rattle.model.specs.declared.machine.Driver.{Driver}
-use Rattle.model.specs.declared.machine.Fuel.{Fuel}
 use Rattle.model.specs.declared.call.OptPc.{OptPc}
 use Rattle.model.specs.declared.call.Op.{Op}
-use Rattle.claims_model.specs.Engine.{Seen, Rules, run, code, isNew, is}
-use Rattle.claims_model.specs.Says.{nothing, gets, closes, does, Entry}
+use Rattle.claims_model.specs.Engine.{Seen, Rules, View, code, isNew, runs, ended, is}
+use Rattle.claims_model.specs.Says.{nothing, gets, closes, Entry}
 use Rattle.claims_model.specs.Delivery.{recorded}
-use Rattle.claims_model.specs.Events.{Healthy, thrown, escapes, Events}
-use Rattle.claims_model.specs.Promise.{Roomy, Accepts, SetUps, Looks, Speaks}
-use Rattle.claims_model.specs.Steps.{viewOf, opOf}
+use Rattle.claims_model.specs.Events.{failed as isFailed, Healthy, Lost, thrown, escapes, stops, Events}
+use Rattle.claims_model.specs.Steps.{viewOf}
 use Rattle.claims_model.specs.Story as Story
-use Rattle.claims_model.specs.Story.{wide, c, held}
-use Rattle.claims_model.specs.Witness.{nth, frame}
-use Rattle.claims_model.specs.Wrong.{idle, two, failing, forgetting, sparing, yielding, lostIn, excusing, muting, hushing, flattering, feigning, grudging, cries, crying, unpaid, stingy}
-use Rattle.claims_model.specs.Wrong.{closing, rewriting, aborting, harsh, spurned, spurning, misnaming, renewing, stillborn, fuelled, shrinking, heardAs, deaf, showing}
+use Rattle.claims_model.specs.Story.{c}
+use Rattle.claims_model.specs.Refuted.{Refuted}
+use Rattle.claims_model.specs.Bent as Bent
+use Rattle.claims_model.specs.Bent.{isA, leavingAt, answeringAt, answeringFor, making}
+use Rattle.claims_model.specs.WrongWakes.{grantResumes, closingEnds}
+use Rattle.claims_model.specs.WrongEvents.{entersNobody, two, entriesAnswer0, returnFails, failureReturns, awaitYields, returns5, reaching, being, result5, closeOfNewFails, shallow, lostIn, failureAnswers9, RefutedEvents, WrongEvents}
 use Rattle.claims_model.proofs.Cores.{no-both}
 use Rattle.claims_model.proofs.Exact.{some-op, sound-healthy}
+use Rattle.claims_model.proofs.Exactly as Exactly
+use Rattle.claims_model.proofs.Places.{called, waiting, begun, itself, sleeping, dying, closed, returned, over, holding, nested, queued, looping}
 
--- ---- events
-
-at-rest : World
-at-rest = M.run (fresh wide) (take 23 held)
-
-pub always-refused : Events (idle (λ _. true)) → ⊥
-unfolding computed at-rest
-always-refused v = no-both (v .entered c at-rest (nth held 23) (sound-healthy at-rest refl) (record { driver = Driver.Resume 1; sent = gets 44; pc = 15; says = refl }) .after) refl
-
-finishing : World
-finishing = M.run (fresh wide) (take 26 held)
-
-pub return-fails : Events failing → ⊥
-unfolding computed finishing
-return-fails v = no-both (v .returned c finishing (nth held 26) (sound-healthy finishing refl) refl .after) refl
-
-queued-ops : List Op
-queued-ops = Op.Grant 1000 ∷ Op.HostCall 0 ∷ Op.CoroNew 1 0 0 0 ∷ Op.CoroNew 2 1 0 0 ∷ Op.Resume 3 2 0 3 ∷ Op.Yield 8 3 0 ∷ Op.Resume 4 2 1 3 ∷ Op.Yield 8 3 0 ∷ Op.HandOver c ∷ Op.HandOver Story.d ∷ []
-
-queued : World
-queued = M.runOps (fresh wide) queued-ops
-
-current-typed : typed (Op.CoroCurrent 9 1) ≡ true
-unfolding typed
-current-typed = refl
-
-pub no-cleanup : Events (idle two) → ⊥
-unfolding computed queued-ops queued orElse
-no-cleanup v = no-both (v .entered c queued (asCall (Op.CoroCurrent 9 1) current-typed) (sound-healthy queued refl) (record { driver = Driver.Finalize; sent = closes 0; pc = 9; says = refl }) .after) refl
-
--- c runs while it is being closed, and asks who runs
-closed-ops : List Op
-closed-ops = Story.closed
-
-closed : World
-closed = M.runOps (fresh wide) closed-ops
-
-no-set-up : _≡_ {A = Option Op} (some (Op.CoroCurrent 9 1)) none → ⊥
-no-set-up e = let z : _≡_ {A = ℕ} 0 1 = cc in absurd (omega arith)
-
-pub closing-forgotten : Events forgetting → ⊥
-unfolding computed closed-ops closed
-closing-forgotten v = no-closer (v .closing c closed (asCall (Op.CoroCurrent 9 1) current-typed) (λ r. no-set-up (r .sets-up)) (λ h. no-both refl (h .before)) (λ h. no-both (h .after) refl) refl)
-  where
-    no-closer : _≡_ {A = Option ℕ} none (some 9) → ⊥
-    no-closer e = let z : _≡_ {A = ℕ} 0 1 = cc in absurd (omega arith)
-
--- c runs, and a word that nobody catches is raised
-throw-typed : typed (Op.Unwind (Fault.Throw 7) OptPc.None) ≡ true
-unfolding typed
-throw-typed = refl
-
-begun : World
-begun = M.runOps (fresh wide) (Story.begin 0)
-
-pub failure-returns : Events sparing → ⊥
-unfolding computed begun
-failure-returns v = no-both (v .failed c begun (asCall (Op.Unwind (Fault.Throw 7) OptPc.None) throw-typed) (sound-healthy begun refl) refl (escapes (Fault.Throw 7) OptPc.None refl refl) .after) refl
-
--- an Await of c
-await-typed : typed (Op.Await 10 3 0) ≡ true
-unfolding typed
-await-typed = refl
-
-pub await-yields : Events yielding → ⊥
-unfolding computed begun
-await-yields v = no-both (v .awaited c begun (asCall (Op.Await 10 3 0) await-typed) (record { before = refl; after = refl })) refl
-
--- a look at that machine answers 0
-excusing-healthy : Healthy excusing begun
-unfolding computed begun
-excusing-healthy (SetUp s) e = absurd (no-setting e)
-  where
-    no-setting : _≡_ {A = Option Op} none (some Op.Look) → ⊥
-    no-setting e = let z : _≡_ {A = ℕ} 0 1 = cc in absurd (omega arith)
-excusing-healthy (Do o) e = ap (λ p. pick (lostIn (begun .chain) (M.tested begun p .world)) 9 (numberOf (M.tested begun p .answer))) (some-op e)
-
-pub excused : Events excusing → ⊥
-unfolding computed begun
-excused v = no-both (v .failed c begun (asCall (Op.Unwind (Fault.Throw 7) OptPc.None) throw-typed) excusing-healthy refl (thrown 7 OptPc.None refl) .after) refl
-
--- a word is thrown into c, which sleeps
-sleeping-ops : List Op
-sleeping-ops = Story.begin 0 ++ (Op.Yield 8 3 0 ∷ [])
-
-sleeping : World
-sleeping = M.runOps (fresh wide) sleeping-ops
-
-thrown-typed : typed (Op.ResumeThrow 3 1 0 2) ≡ true
-unfolding typed
-thrown-typed = refl
-
-pub throw-lost : Events muting → ⊥
-unfolding computed sleeping-ops sleeping
-throw-lost v =
-    let q : _≡_ {A = ℕ} 0 17 = v .answered c sleeping (asCall (Op.ResumeThrow 3 1 0 2) thrown-typed) (record { before = refl; after = refl }) (record { driver = Driver.Resume 1; sent = nothing; pc = 3; says = refl }) in
-    absurd (omega (arith, q))
-
--- c resumes itself
-itself-ops : List Op
-itself-ops = Story.begin 0 ++ (Op.PutWord 0 c ∷ [])
-
-itself : World
-itself = M.runOps (fresh wide) itself-ops
-
-resume-typed : typed (Op.Resume 5 1 0 2) ≡ true
-unfolding typed
-resume-typed = refl
-
-pub refusal-unheard : Events flattering → ⊥
-unfolding computed itself-ops itself
-refusal-unheard v = no-both refl (v .resumed itself (asCall (Op.Resume 5 1 0 2) resume-typed) 5 1 0 2 refl refl .before)
-
-itself-typed : typed (Op.ResumeThrow 5 1 0 2) ≡ true
-unfolding typed
-itself-typed = refl
+-- ---- small things
 
 no-one : {y : Entry} → _≡_ {A = Option Entry} none (some y) → ⊥
 no-one e = let z : _≡_ {A = ℕ} 0 1 = cc in absurd (omega arith)
 
-pub throw-feigned : Events feigning → ⊥
-unfolding computed itself-ops itself orElse
-throw-feigned v =
-    let k = asCall (Op.ResumeThrow 5 1 0 2) itself-typed in
-    let t = v .threw itself k 5 1 0 2 refl refl refl in
-    no-one (v .enters (t .0) itself k (t .1) .says)
+no-word : {x : ℕ} → _≡_ {A = Option ℕ} none (some x) → ⊥
+no-word e = let z : _≡_ {A = ℕ} 0 1 = cc in absurd (omega arith)
 
--- c yields while it is being closed
-yield-typed : typed (Op.Yield 60 3 0) ≡ true
-unfolding typed
-yield-typed = refl
+no-words : {x : ℕ} → _≡_ {A = Option ℕ} (some x) none → ⊥
+no-words e = let z : _≡_ {A = ℕ} 0 1 = cc in absurd (omega arith)
 
-pub ignored-unheard : Events hushing → ⊥
-unfolding computed closed-ops closed
-ignored-unheard v = let q : _≡_ {A = ℕ} 0 6 = v .heard c closed (asCall (Op.Yield 60 3 0) yield-typed) (record { before = refl; after = refl }) in absurd (omega (arith, q))
+no-set-up : {o : Op} → _≡_ {A = Option Op} (some o) none → ⊥
+no-set-up e = let z : _≡_ {A = ℕ} 0 1 = cc in absurd (omega arith)
 
--- c is closed with 9, which it does not catch
-dying-ops : List Op
-dying-ops = Story.begin 0 ++ (Op.Yield 8 3 0 ∷ Op.PutWord 2 9 ∷ Op.CoroClose 3 1 0 2 ∷ [])
+-- nobody fails by a finish
+no-lost : {v : View} {n c : ℕ} (o : Option Op) → Lost v n c o → isA Bent.finish o ≡ true → ⊥
+no-lost o (thrown x pc h) e = no-both e refl
+no-lost o (escapes f pc n h) e = no-both e refl
+no-lost o stops e = no-both e refl
 
-dying : World
-dying = M.runOps (fresh wide) dying-ops
-
-signal-typed : typed (Op.Unwind (Fault.Throw 9) OptPc.None) ≡ true
-unfolding typed
-signal-typed = refl
-
-pub close-pays : Events closing → ⊥
-unfolding computed dying-ops dying
-close-pays v = let q : _≡_ {A = ℕ} 5 0 = v .closed c dying (asCall (Op.Unwind (Fault.Throw 9) OptPc.None) signal-typed) (Fault.Throw 9) OptPc.None (record { before = refl; after = refl }) refl in absurd (omega (arith, q))
-
-died : World
-died = M.runOps (fresh wide) (dying-ops ++ (Op.Unwind (Fault.Throw 9) OptPc.None ∷ []))
-
-pub result-changes : Events (rewriting c) → ⊥
-unfolding computed dying-ops died
-result-changes v =
-    let q : _≡_ {A = ℕ} 5 0 = ap recorded (v .still c died (asCall (Op.CoroCurrent 9 1) current-typed) (λ r. no-set-up (r .sets-up)) (λ h. no-both (h .after) refl) refl) in
-    absurd (omega (arith, q))
-
--- c is there, and has not begun
-waiting : World
-waiting = M.runOps (fresh wide) (Op.Grant 1000 ∷ Op.HostCall 0 ∷ Op.CoroNew 1 0 0 0 ∷ [])
-
-stateIn : Option Seen → ℕ
+abbrev stateIn : Option Seen → ℕ
 stateIn none = 9
 stateIn (some x) = code (x .state)
 
-pub aborted : Events (aborting c) → ⊥
-unfolding computed waiting stateIn
-aborted v =
-    let q : _≡_ {A = ℕ} 5 0 = ap stateIn (v .unbegun c waiting (asCall (Op.CoroCurrent 9 1) current-typed) (λ r. no-set-up (r .sets-up)) (λ h. no-both (h .after) refl) refl (λ e _. no-one e)) in
-    absurd (omega (arith, q))
-  where
-    no-one : _≡_ {A = Option ℕ} none (some c) → ⊥
-    no-one e = let z : _≡_ {A = ℕ} 0 1 = cc in absurd (omega arith)
+abbrev value : Opt → ℕ
+value Opt.None = 0
+value (Opt.Some n) = n
 
--- it is closed; and c runs, and fails
-close-typed : typed (Op.CoroClose 3 1 0 2) ≡ true
-unfolding typed
-close-typed = refl
+-- ---- each of them
 
-pub close-fails : Events (harsh c) → ⊥
-unfolding computed waiting stateIn
-close-fails v = let q : _≡_ {A = ℕ} 5 4 = ap stateIn (v .closes-new c waiting (asCall (Op.CoroClose 3 1 0 2) close-typed) 3 1 0 2 refl refl refl refl) in absurd (omega (arith, q))
-
-spurning-healthy : Healthy (spurning c) waiting
+pub events-enters : Refuted Events (λ e v. v .enters) grantResumes
 unfolding computed waiting
-spurning-healthy (SetUp s) e = let z : _≡_ {A = ℕ} 0 1 = cc in absurd (omega arith)
-spurning-healthy (Do o) e = ap (λ p. pick (spurned c waiting (M.tested waiting p .world)) 9 (numberOf (M.tested waiting p .answer))) (some-op e)
+events-enters h = no-one (h c waiting (asCall (Op.Grant 1) refl) (record { before = refl; after = refl }) .says)
 
-pub close-refused : Accepts (spurning c) → ⊥
+events-entered : Refuted Events (λ e v. v .entered) (entersNobody (λ w. true))
+unfolding computed sleeping
+events-entered h = no-both (h c sleeping (asCall (Op.Resume 9 1 0 2) refl) (sound-healthy sleeping refl) (record { driver = Driver.Resume 1; sent = gets 9; pc = 9; says = refl }) .after) refl
+
+events-answered : Refuted Events (λ e v. v .answered) entriesAnswer0
+unfolding computed sleeping
+events-answered h =
+    let q : _≡_ {A = ℕ} 0 17 = h c sleeping (asCall (Op.ResumeThrow 3 1 0 2) refl) (record { before = refl; after = refl }) (record { driver = Driver.Resume 1; sent = nothing; pc = 3; says = refl }) in
+    absurd (omega (arith, q))
+
+-- c resumes itself
+events-resumed : Refuted Events (λ e v. v .resumed) (answeringFor 3 0)
+unfolding computed itself
+events-resumed h = no-both refl (h itself (asCall (Op.Resume 5 1 0 2) refl) 5 1 0 2 refl refl .before)
+
+-- c has returned
+events-hosted : Refuted Events (λ e v. v .hosted) (answeringFor 3 0)
+unfolding computed over
+events-hosted h = no-both (h c over (asCall (Op.HostEntry c 5) refl) 5 refl refl .after) refl
+
+-- c loops over itself
+events-turned : Refuted Events (λ e v. v .turned) (answeringFor 3 0)
+unfolding computed looping
+events-turned h = no-both refl (h looping (asCall (Op.IterNext 5 2 1 3 0) refl) 5 2 1 3 0 refl refl refl refl .before)
+
+events-threw : Refuted Events (λ e v. v .threw) (answeringFor 3 17)
+unfolding computed itself orElse
+events-threw h =
+    let k = asCall (Op.ResumeThrow 5 1 0 2) refl in
+    let t = h itself k 5 1 0 2 refl refl refl in
+    no-one (Exactly.events .enters (t .0) itself k (record { before = t .1 .before; after = t .1 .after }) .says)
+
+events-closed-in : Refuted Events (λ e v. v .closed-in) (answeringFor 3 17)
+unfolding computed itself orElse
+events-closed-in h =
+    let k = asCall (Op.CoroClose 5 1 0 2) refl in
+    let t = h itself k 5 1 0 2 refl refl in
+    no-one (Exactly.events .enters (t .0) itself k (record { before = t .1 .before; after = t .1 .after }) .says)
+
+events-suspends : Refuted Events (λ e v. v .suspends) (answeringAt Bent.yield 9)
+unfolding computed begun
+events-suspends h = no-word (h c begun (asCall (Op.Yield 8 3 1) refl) (record { before = refl; after = refl }))
+
+events-suspended : Refuted Events (λ e v. v .suspended) (leavingAt Bent.yield (λ w z. w))
+unfolding computed begun
+events-suspended h = no-both (h c begun (asCall (Op.Yield 8 3 1) refl) refl .after) refl
+
+events-heard : Refuted Events (λ e v. v .heard) (answeringFor 6 0)
+unfolding computed closed
+events-heard h = let q : _≡_ {A = ℕ} 0 6 = h c closed (asCall (Op.Yield 60 3 0) refl) (record { before = refl; after = refl }) in absurd (omega (arith, q))
+
+events-returns : Refuted Events (λ e v. v .returns) failureReturns
+unfolding computed begun
+events-returns h = no-word (h c begun (asCall (Op.Unwind (Fault.Throw 7) OptPc.None) refl) (record { before = refl; after = refl }))
+
+events-returned : Refuted Events (λ e v. v .returned) returnFails
+unfolding computed begun
+events-returned h = no-both (h c begun (asCall (Op.Finish ResultKind.Dyn 5) refl) (sound-healthy begun refl) refl .after) refl
+
+events-fails : Refuted Events (λ e v. v .fails) returnFails
+unfolding computed begun
+events-fails h = no-lost _ (h c begun (asCall (Op.Finish ResultKind.Dyn 5) refl) (record { before = refl; after = refl })) refl
+
+events-failed : Refuted Events (λ e v. v .failed) failureReturns
+unfolding computed begun
+events-failed h = no-both (h c begun (asCall (Op.Unwind (Fault.Throw 7) OptPc.None) refl) (sound-healthy begun refl) refl (escapes (Fault.Throw 7) OptPc.None refl refl) .after) refl
+
+events-spoilt : Refuted Events (λ e v. v .spoilt) (reaching isFailed result5)
+unfolding computed begun
+events-spoilt h =
+    let q : _≡_ {A = ℕ} 5 7 = ap recorded (h c begun (asCall (Op.Unwind (Fault.Throw 7) OptPc.None) refl) (Fault.Throw 7) OptPc.None 7 (record { before = refl; after = refl }) refl refl) in
+    absurd (omega (arith, q))
+
+events-stopped : Refuted Events (λ e v. v .stopped) (reaching isFailed result5)
+unfolding computed begun
+events-stopped h = let q : _≡_ {A = ℕ} 5 0 = ap recorded (h c begun (asCall Op.StopRun refl) (record { before = refl; after = refl }) refl) in absurd (omega (arith, q))
+
+events-closes-new : Refuted Events (λ e v. v .closes-new) closeOfNewFails
 unfolding computed waiting
-close-refused v =
-    let q : _≡_ {A = ℕ} 9 0 = v .close-new waiting (asCall (Op.CoroClose 3 1 0 2) close-typed) 3 1 0 2 (record { healthy = spurning-healthy; stands = refl; paid = λ pc y. refl }) refl refl refl in
+events-closes-new h = let q : _≡_ {A = ℕ} 5 4 = ap stateIn (h c waiting (asCall (Op.CoroClose 3 1 0 2) refl) 3 1 0 2 refl refl refl refl) in absurd (omega (arith, q))
+
+events-throws-new : Refuted Events (λ e v. v .throws-new) (reaching isFailed result5)
+unfolding computed waiting
+events-throws-new h = let q : _≡_ {A = ℕ} 5 0 = ap recorded (h c waiting (asCall (Op.ResumeThrow 3 1 0 2) refl) 3 1 0 2 refl refl refl refl) in absurd (omega (arith, q))
+
+events-integer : Refuted Events (λ e v. v .integer) returns5
+unfolding computed begun
+events-integer h =
+    let q : _≡_ {A = ℕ} 0 7 = ap value (h c begun (asCall (Op.Finish ResultKind.I64 7) refl) ResultKind.I64 7 (record { before = refl; after = refl }) refl refl) in
     absurd (omega (arith, q))
 
-pub wrong-result : Events (misnaming c) → ⊥
+events-word : Refuted Events (λ e v. v .word) returns5
 unfolding computed begun
-wrong-result v =
-    let q : _≡_ {A = ℕ} 5 7 = ap recorded (v .spoilt c begun (asCall (Op.Unwind (Fault.Throw 7) OptPc.None) throw-typed) (Fault.Throw 7) OptPc.None 7 (record { before = refl; after = refl }) refl refl) in
+events-word h =
+    let q : _≡_ {A = ℕ} 5 7 = h c begun (asCall (Op.Finish ResultKind.Dyn 7) refl) ResultKind.Dyn 7 (record { before = refl; after = refl }) refl refl in
     absurd (omega (arith, q))
 
-pub renewed : Events (renewing c) → ⊥
+events-closed : Refuted Events (λ e v. v .closed) returns5
+unfolding computed dying
+events-closed h =
+    let q : _≡_ {A = ℕ} 5 0 = h c dying (asCall (Op.Unwind (Fault.Throw 9) OptPc.None) refl) (Fault.Throw 9) OptPc.None (record { before = refl; after = refl }) refl in
+    absurd (omega (arith, q))
+
+events-yielded : Refuted Events (λ e v. v .yielded) (leavingAt Bent.yield (λ w z. changeCoro c (λ k. k) (withClosing true) z))
 unfolding computed begun
-renewed v = no-both (v .runs-on c begun (asCall (Op.CoroCurrent 9 1) current-typed) (λ r. no-set-up (r .sets-up)) refl (λ h. no-both (h .after) refl) (λ h. no-both (h .after) refl) (λ h. no-both (h .after) refl)) refl
+events-yielded h = no-words (h c begun (asCall (Op.Yield 8 3 1) refl) (record { before = refl; after = refl }))
 
--- c is not there yet
-called : World
-called = M.runOps (fresh wide) (Op.Grant 1000 ∷ Op.HostCall 0 ∷ [])
+-- c runs while it is being closed, and asks who runs
+events-closing : Refuted Events (λ e v. v .closing) closingEnds
+unfolding computed closed
+events-closing h = no-word (h c closed (asCall (Op.CoroCurrent 9 1) refl) (λ r. no-set-up (r .sets-up)) (λ g. no-both refl (g .before)) (λ g. no-both (g .after) refl) refl)
 
-new-typed : typed (Op.CoroNew 1 0 0 0) ≡ true
-unfolding typed
-new-typed = refl
+events-awaited : Refuted Events (λ e v. v .awaited) awaitYields
+unfolding computed begun
+events-awaited h = no-both (h c begun (asCall (Op.Await 10 3 0) refl) (record { before = refl; after = refl })) refl
 
-pub comes-failed : Events (stillborn c) → ⊥
-unfolding computed called stateIn
-comes-failed v = go (v .comes c called (asCall (Op.CoroNew 1 0 0 0) new-typed) refl)
+events-still : Refuted Events (λ e v. v .still) (being ended result5)
+unfolding computed returned
+events-still h =
+    let q : _≡_ {A = ℕ} 5 7 = ap recorded (h c returned (asCall (Op.CoroCurrent 9 1) refl) (λ r. no-set-up (r .sets-up)) (λ h. no-both (h .after) refl) refl) in
+    absurd (omega (arith, q))
+
+events-unbegun : Refuted Events (λ e v. v .unbegun) (being isNew (making c CoroState.Failed))
+unfolding computed waiting
+events-unbegun h =
+    let q : _≡_ {A = ℕ} 5 0 = ap stateIn (h c waiting (asCall (Op.CoroCurrent 9 1) refl) (λ r. no-set-up (r .sets-up)) (λ h. no-both (h .after) refl) refl (λ e _. no-word e)) in
+    absurd (omega (arith, q))
+
+events-runs-on : Refuted Events (λ e v. v .runs-on) (being runs (making c CoroState.Created))
+unfolding computed begun
+events-runs-on h = no-both (h c begun (asCall (Op.CoroCurrent 9 1) refl) (λ r. no-set-up (r .sets-up)) refl (λ h. no-both (h .after) refl) (λ h. no-both (h .after) refl) (λ h. no-both (h .after) refl)) refl
+
+events-comes : Refuted Events (λ e v. v .comes) (reaching isNew (making c CoroState.Failed))
+unfolding computed called
+events-comes h = go (h c called (asCall (Op.CoroNew 1 0 0 0) refl) refl)
   where
     z : World
-    z = stillborn c .next called (asCall (Op.CoroNew 1 0 0 0) new-typed)
+    z = reaching isNew (making c CoroState.Failed) .next called (asCall (Op.CoroNew 1 0 0 0) refl)
 
     go : (viewOf z .coro c ≡ none) ⊎ (is (viewOf z) isNew c ≡ true) → ⊥
     go (inl e) = let q : _≡_ {A = ℕ} 5 9 = ap stateIn e in absurd (omega (arith, q))
     go (inr e) = no-both e refl
 
--- ---- set-ups and looks
-
-pub fuel-stays : SetUps fuelled → ⊥
+events-fixed : Refuted Events (λ e v. v .fixed) (leavingAt Bent.grant (λ w z. shallow z))
 unfolding computed begun
-fuel-stays v = let q : _≡_ {A = ℕ} 998 0 = ap (λ (f : Fuel). f .fuel) (v .begun begun (SetUp wide) (record { sets-up = refl; accepted = refl }) .fuel) in absurd (omega (arith, q))
+events-fixed h = let q : _≡_ {A = ℕ} 1 6 = ap (λ (r : Rules). r .depth) (h begun (asCall (Op.Grant 1) refl) (λ r. no-set-up (r .sets-up))) in absurd (omega (arith, q))
 
--- a fault is raised, and nobody catches it
-fault-typed : typed (Op.Unwind Fault.TypeError OptPc.None) ≡ true
-unfolding typed
-fault-typed = refl
+events-one-switch : Refuted Events (λ e v. v .one-switch) (leavingAt Bent.resume (λ w z. making c CoroState.Yielded z))
+unfolding computed holding
+events-one-switch h = h Story.d c holding (asCall (Op.Resume 2 1 0 2) refl) (record { before = refl; after = refl }) (record { before = refl; after = refl })
 
-grudging-healthy : Healthy grudging begun
+events-no-return : Refuted Events (λ e v. v .no-return) (leavingAt Bent.resume (λ w z. making c CoroState.Returned z))
+unfolding computed holding
+events-no-return h = h Story.d c holding (asCall (Op.Resume 2 1 0 2) refl) (record { before = refl; after = refl }) (record { before = refl; after = refl })
+
+events-one-leaves : Refuted Events (λ e v. v .one-leaves) (leavingAt Bent.yield (λ w z. making c CoroState.Returned z))
+unfolding computed nested
+events-one-leaves h = h Story.d c nested (asCall (Op.Yield 8 3 1) refl) (record { before = refl; after = refl }) (record { before = refl; after = refl })
+
+-- ---- more of them
+
+no-cleanup : Events (entersNobody two) → ⊥
+unfolding computed queued orElse
+no-cleanup v = no-both (v .entered c queued (asCall (Op.CoroCurrent 9 1) refl) (sound-healthy queued refl) (record { driver = Driver.Finalize; sent = closes 0; pc = 9; says = refl }) .after) refl
+
+-- a look at that machine answers 0
+healthy : Healthy failureAnswers9 begun
 unfolding computed begun
-grudging-healthy (SetUp s) e = let z : _≡_ {A = ℕ} 0 1 = cc in absurd (omega arith)
-grudging-healthy (Do o) e = ap (λ p. pick (ltb 0 (numberOf (M.tested begun p .answer))) 9 0) (some-op e)
+healthy (SetUp s) e = let z : _≡_ {A = ℕ} 0 1 = cc in absurd (omega arith)
+healthy (Do o) e = ap (λ p. pick (lostIn (begun .chain) (M.tested begun p .world)) 9 (numberOf (M.tested begun p .answer))) (some-op e)
 
-pub always-nine : Accepts grudging → ⊥
+failure-answers-9 : Events failureAnswers9 → ⊥
 unfolding computed begun
-always-nine v =
-    let q : _≡_ {A = ℕ} 9 17 = v .raise begun (asCall (Op.Unwind Fault.TypeError OptPc.None) fault-typed) Fault.TypeError OptPc.None Story.d grudging-healthy refl (λ y e. no-throw e) refl in
-    absurd (omega (arith, q))
-  where
-    no-throw : {y : ℕ} → Fault.TypeError ≡ Fault.Throw y → ⊥
-    no-throw e = let z : _≡_ {A = ℕ} 0 1 = cc in absurd (omega arith)
+failure-answers-9 v = no-both (v .failed c begun (asCall (Op.Unwind (Fault.Throw 7) OptPc.None) refl) healthy refl (thrown 7 OptPc.None refl) .after) refl
 
--- c is closed with 9, and catches it
-raising-ops : List Op
-raising-ops = Story.begin 1 ++ (Op.Yield 8 3 0 ∷ Op.PutWord 2 9 ∷ Op.CoroClose 3 1 0 2 ∷ [])
-
-raising : World
-raising = M.runOps (fresh wide) raising-ops
-
-crying-healthy : Healthy crying raising
-unfolding computed raising-ops raising
-crying-healthy (SetUp s) e = let z : _≡_ {A = ℕ} 0 1 = cc in absurd (omega arith)
-crying-healthy (Do o) e = ap (λ p. cries (does (viewOf raising) p) (numberOf (M.tested raising p .answer))) (some-op e)
-
-pub caught-unheard : Accepts crying → ⊥
-unfolding computed raising-ops raising
-caught-unheard v = let q : _≡_ {A = ℕ} 17 0 = v .throw raising (asCall (Op.Unwind (Fault.Throw 9) OptPc.None) signal-typed) 9 OptPc.None crying-healthy refl in absurd (omega (arith, q))
-
--- d waits for a cleanup, for which c has gone too deep: the bank pays for c's Await
-banked-ops : List Op
-banked-ops =
-    Op.Grant 1000 ∷ Op.HostCall 0 ∷ Op.CoroNew 1 0 0 0 ∷ Op.CoroNew 2 1 0 0 ∷ Op.Resume 3 2 1 3 ∷ Op.Yield 8 3 0 ∷ Op.Resume 4 2 0 3 ∷ Op.HandOver Story.d
-    ∷ Story.deeper ∷ Story.deeper ∷ Story.deeper ∷ Story.deeper ∷ []
-
-banked : World
-banked = M.runOps (fresh wide) banked-ops
-
-stingy-healthy : Healthy stingy banked
-unfolding computed banked-ops banked
-stingy-healthy (SetUp s) e = let z : _≡_ {A = ℕ} 0 1 = cc in absurd (omega arith)
-stingy-healthy (Do o) e = ap (λ p. pick (unpaid banked (M.tested banked p .world)) 10 (numberOf (M.tested banked p .answer))) (some-op e)
-
-bank-pays : Roomy stingy 0 c banked
-unfolding computed banked-ops banked orElse
-bank-pays =
+-- NONE OF THEM
+pub refuted-events : RefutedEvents
+refuted-events =
     record {
-      healthy = stingy-healthy;
-      paid = λ pc y. refl;
-      held = record {
-        over = frame 0 0 20 0 Cont.Discard ∷ frame 0 5 16 0 Cont.Discard ∷ frame 0 5 12 0 Cont.Discard ∷ frame 0 5 8 0 Cont.Discard ∷ [];
-        body = frame 0 5 4 0 Cont.Coro;
-        under = frame 0 4 0 0 Cont.Entry ∷ [];
-        driver = Driver.Resume 2;
-        outer = [];
-        frames = refl;
-        its-own = refl;
-        chain = refl;
-      };
-      seen = record { state = CoroState.Running; words = []; frames = []; waits = 0; mostWords = 4; mostFrames = 1; closing = false; signal = 0; result = 0 };
-      there = refl;
-      grows = refl;
+      enters = events-enters;
+      entered = events-entered;
+      answered = events-answered;
+      resumed = events-resumed;
+      hosted = events-hosted;
+      turned = events-turned;
+      threw = events-threw;
+      closed-in = events-closed-in;
+      suspends = events-suspends;
+      suspended = events-suspended;
+      heard = events-heard;
+      returns = events-returns;
+      returned = events-returned;
+      fails = events-fails;
+      failed = events-failed;
+      spoilt = events-spoilt;
+      stopped = events-stopped;
+      closes-new = events-closes-new;
+      throws-new = events-throws-new;
+      integer = events-integer;
+      word = events-word;
+      closed = events-closed;
+      yielded = events-yielded;
+      closing = events-closing;
+      awaited = events-awaited;
+      still = events-still;
+      unbegun = events-unbegun;
+      runs-on = events-runs-on;
+      comes = events-comes;
+      fixed = events-fixed;
+      one-switch = events-one-switch;
+      no-return = events-no-return;
+      one-leaves = events-one-leaves;
     }
 
-pub bank-unused : Accepts stingy → ⊥
-unfolding computed banked-ops banked
-bank-unused v = no-both (v .await c banked (asCall (Op.Await 10 3 0) await-typed) 10 3 0 bank-pays refl refl) refl
-
-deep : Option Rules → ℕ
-deep none = 0
-deep (some r) = r .depth
-
-pub other-limits : SetUps shrinking → ⊥
-unfolding computed begun deep
-other-limits v = let q : _≡_ {A = ℕ} 6 1 = ap deep (v .given begun (SetUp wide) (record { sets-up = refl; accepted = refl })) in absurd (omega (arith, q))
-
-pub speechless : Speaks deaf → ⊥
-speechless v = let (k, q) = v Op.StopRun refl in go k q
-  where
-    go : (k : Call) → heardAs (opOf k) ≡ some Op.StopRun → ⊥
-    go (SetUp s) q = let z : _≡_ {A = ℕ} 0 1 = cc in absurd (omega arith)
-    go (Do o) q = let z : _≡_ {A = ℕ} 0 1 = cc in absurd (omega arith)
-
-pub all-shown : Looks showing → ⊥
-unfolding computed begun
-all-shown v = let q : _≡_ {A = ℕ} 8 4 = ap length (v .sees begun (sound-healthy begun refl)) in absurd (omega (arith, q))
+pub wrong-events : WrongEvents
+wrong-events = record { no-cleanup = no-cleanup; failure-answers-9 = failure-answers-9 }

@@ -9,10 +9,13 @@ pub mod Touches
 pub mod Made
 pub mod Asks
 pub mod Promise
+pub mod Refuted
 pub mod Premises
 pub mod Steps
 pub mod Story
 pub mod Witness
-pub mod Wrong
-pub mod WrongHosts
-pub mod WrongTouches
+pub mod Bent
+pub mod WrongWakes
+pub mod WrongEvents
+pub mod WrongCalls
+pub mod WrongPromise

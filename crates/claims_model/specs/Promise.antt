@@ -95,9 +95,19 @@ pub data Eleven (v : View) : Option Op → Type 0 where
   sets-up : Eleven v none
   no-fault : (f : Fault) (pc : OptPc) → raised v f ≡ none → (f ≡ Fault.OutOfMemory → ⊥) → (f ≡ Fault.OutOfFuel → ⊥) → Eleven v (some (Op.Unwind f pc))
 
+-- 01: "fuel 0 while banked"
+abbrev pub unbanked : Opt → Bool
+unbanked Opt.None = true
+unbanked (Opt.Some n) = false
+
+abbrev pub fuelSound : Fuel → Bool
+fuelSound f = unbanked (f .bank) || eqb (f .fuel) 0
+
 pub record Soundness (e : Engine) : Type 0 where
   pub begun : (s : e .State) (k : e .Call) → Restarts e s k → Healthy e (e .next s k)
   pub kept : (s : e .State) (k : e .Call) → Healthy e s → Healthy e (e .next s k)
+  -- and by every other fuel record that is sound
+  pub refuelled : (s : e .State) (f : Fuel) → fuelSound f ≡ true → Healthy e s → Healthy e (e .refuel s f)
   pub eleven : (s : e .State) (k : e .Call) → Healthy e s → e .number s k ≡ 11 → Eleven (e .view s) (e .op k)
 
 -- ---- set-ups and looks

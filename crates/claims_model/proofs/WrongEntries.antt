@@ -1,0 +1,299 @@
+-- The engines that are wrong in an entry or in what is left: demand 3 refuses each by the field that WrongWakes.antt names.
+use Prim.Native.Nat.{ℕ, _+_}
+use native.Mathlib.Omega.{arith}
+use mathlib.Core.Path.{_≡_, refl, sym, ap, _∙_}
+use mathlib.Core.Logic.{_⊎_, inl, inr}
+use mathlib.Core.Bool.{true, false, not, _&&_}
+use mathlib.Core.List.{List, [], _∷_, _++_, map, append-assoc}
+use mathlib.Core.Option.{Option, none, some}
+use lib.ListN.{length, getD, length-append}
+use Rattle.heap.specs.declared.object.CoroState.{CoroState}
+use Rattle.model.specs.World.{withChain}
+use Rattle.model.specs.Call.{asCall}
+use Rattle.model.specs.Compute.{computed}
+use Rattle.model.specs.declared.machine.Cont.{Cont}
+use Rattle.model.specs.declared.machine.Active.{Active}
+use Rattle.model.specs.declared.machine.Driver.{Driver}
+use Rattle.model.specs.declared.machine.Frame.{Frame}
+use Rattle.model.specs.declared.call.Op.{Op}
+use Rattle.claims_model.specs.Engine.{Engine, Turn, Seen, View, run}
+use Rattle.claims_model.specs.Says.{Sent, nothing, Entry, doing, whom}
+use Rattle.claims_model.specs.Held.{at, Moved, AllMoved, closer, closedBy, stepped, given, woken as wakes, By, Entered}
+use Rattle.claims_model.specs.Delivery.{eventOf, Memory, memory, deliver, Left}
+use Rattle.claims_model.specs.Premises.{runsIn, sleepsIn, leftIn, waits}
+use Rattle.claims_model.specs.Story.{c}
+use Rattle.claims_model.specs.Witness.{frame}
+use Rattle.claims_model.specs.Refuted as R
+use Rattle.claims_model.specs.Refuted.{RefutedAt, Each, Wake, entered, by, left}
+use Rattle.claims_model.specs.Bent.{seeing, parting, beginning}
+use Rattle.claims_model.specs.WrongWakes as W
+use Rattle.claims_model.specs.WrongWakes.{grantResumes, beginsWith, underTop, fourthWord5, floor0, closingEnds, eachSeen, onTop, discards, atOne, higher, firstWord5}
+use Rattle.claims_model.proofs.Premises.{waits-true}
+use Rattle.claims_model.proofs.Places.{waiting, begun, sleeping}
+
+-- ---- small things
+
+abbrev pub first : List ℕ → ℕ
+first [] = 0
+first (x ∷ xs) = x
+
+abbrev pub second : List ℕ → ℕ
+second [] = 0
+second (x ∷ xs) = first xs
+
+abbrev pub codeOf : Cont → ℕ
+codeOf Cont.Entry = 0
+codeOf (Cont.Write r) = 1
+codeOf (Cont.Dyn r) = 2
+codeOf (Cont.Value r) = 3
+codeOf Cont.Discard = 4
+codeOf Cont.Coro = 5
+
+abbrev pub floorIn : List Active → ℕ
+floorIn [] = 0
+floorIn (a ∷ chain) = a .floor
+
+abbrev pub someOne : List Active → ℕ
+someOne [] = 0
+someOne (a ∷ chain) = 1
+
+abbrev pub headOr : Frame → List Frame → Frame
+headOr g [] = g
+headOr g (f ∷ fs) = f
+
+abbrev pub lastOr : Frame → List Frame → Frame
+lastOr g [] = g
+lastOr g (f ∷ fs) = lastOr f fs
+
+pub last-is : (g : Frame) (fs : List Frame) (f : Frame) → lastOr g (fs ++ (f ∷ [])) ≡ f
+last-is g [] f = refl
+last-is g (h ∷ fs) f = last-is h fs f
+
+pub last-two : (g : Frame) (fs : List Frame) (b f : Frame) → lastOr g (fs ++ (b ∷ f ∷ [])) ≡ f
+last-two g [] b f = refl
+last-two g (h ∷ fs) b f = last-two h fs b f
+
+-- of two frames, what stands over another is the first
+pub first-of : (over : List Frame) (b x f g : Frame) → f ∷ g ∷ [] ≡ over ++ (b ∷ x ∷ []) → b ≡ f
+first-of [] b x f g e = sym (ap (headOr b) e)
+first-of (o ∷ over) b x f g e =
+    let n = ap length e in
+    let m = length-append over (b ∷ x ∷ []) in
+    absurd (omega (arith, n, m))
+
+-- it is one of the two
+pub one-of : (over : List Frame) (b : Frame) (under : List Frame) (f g : Frame) → f ∷ g ∷ [] ≡ over ++ (b ∷ under) → (b ≡ f) ⊎ (b ≡ g)
+one-of [] b under f g e = inl (sym (ap (headOr b) e))
+one-of (o ∷ []) b under f g e = inr (sym (ap (λ fs. headOr b (W.tail fs)) e))
+one-of (o ∷ p ∷ over) b under f g e =
+    let n = ap length e in
+    let m = length-append over (b ∷ under) in
+    absurd (omega (arith, n, m))
+
+abbrev pub sentIn : Option Entry → Sent
+sentIn none = nothing
+sentIn (some e) = e .sent
+
+abbrev pub pcIn : Option Entry → ℕ
+pcIn none = 0
+pcIn (some e) = e .pc
+
+abbrev pub driverIn : Option Entry → Driver
+driverIn none = Driver.Host
+driverIn (some e) = e .driver
+
+pub no-one : {y : Entry} → _≡_ {A = Option Entry} none (some y) → ⊥
+no-one e = let z : _≡_ {A = ℕ} 0 1 = cc in absurd (omega arith)
+
+pub no-word : {x : ℕ} → _≡_ {A = Option ℕ} none (some x) → ⊥
+no-word e = let z : _≡_ {A = ℕ} 0 1 = cc in absurd (omega arith)
+
+-- ---- cases, by computation
+
+abbrev pub entry-at : {e : Engine} (c : ℕ) (s : e .State) (y : e .Call) → runsIn e c s ≡ false → runsIn e c (e .next s y) ≡ true → R.Entering e
+entry-at c s y a b = record { c = c; s = s; y = y; enters = record { before = a; after = b } }
+
+abbrev pub wake-at : {e : Engine} (c : ℕ) (s : e .State) (x : e .Call) (waiting : List (Turn (e .Call))) (y : e .Call) → runsIn e c s ≡ true → sleepsIn e c (e .next s x) ≡ true → waits e c (e .next s x) waiting ≡ true
+    → runsIn e c (run e (e .next s x) waiting) ≡ false → runsIn e c (e .next (run e (e .next s x) waiting) y) ≡ true → Wake e
+wake-at {e} c s x waiting y a b h f g =
+    record { c = c; s = s; x = x; waiting = waiting; y = y; suspends = record { before = a; after = b }; waits = waits-true e c (e .next s x) waiting h; enters = record { before = f; after = g } }
+
+-- it is entered and stops at once
+abbrev pub leave-at : {e : Engine} (c : ℕ) (s : e .State) (y z : e .Call) → runsIn e c s ≡ false → runsIn e c (e .next s y) ≡ true → runsIn e c (e .next s y) ≡ true → leftIn e c (e .next (e .next s y) z) ≡ true → R.Leave e
+leave-at c s y z a b f g = record { c = c; s = s; y = y; going = []; z = z; enters = record { before = a; after = b }; goes = tt; stops = record { before = f; after = g } }
+
+-- ---- entries
+
+-- what is seen of c, which has not begun
+abbrev pub fresh-one : Seen
+fresh-one = record { state = CoroState.Created; words = 0 ∷ 0 ∷ 0 ∷ 0 ∷ []; frames = frame 0 0 0 0 Cont.Coro ∷ []; waits = 0; mostWords = 4; mostFrames = 1; closing = false; signal = 0; result = 0 }
+
+module _ {w : View} {y : Option Op} (b : By w y c) where
+  pub sent-by : b .sent ≡ sentIn (whom w y)
+  sent-by = ap sentIn (sym (b .says))
+
+  pub pc-by : b .pc ≡ pcIn (whom w y)
+  pc-by = ap pcIn (sym (b .says))
+
+  pub driver-by : b .driver ≡ driverIn (whom w y)
+  driver-by = ap driverIn (sym (b .says))
+
+-- what the call says is sent
+pub closed-by : {w : View} {y : Option Op} {z : View} (t : Entered w y c z) → closer (z .coro c) ≡ closedBy (t .by .sent) (closer (w .coro c)) → closer (z .coro c) ≡ closedBy (sentIn (whom w y)) (closer (w .coro c))
+closed-by {w} t h = h ∙ ap (λ s. closedBy s (closer (w .coro c))) (sent-by (t .by))
+
+pub word-by : {w : View} {y : Option Op} {z : View} (t : Entered w y c z) (x : Seen) → z .stack ≡ given (t .by .sent) (z .frames) (x .waits) (w .stack ++ x .words) → (i : ℕ)
+    → getD (z .stack) i 0 ≡ getD (given (sentIn (whom w y)) (z .frames) (x .waits) (w .stack ++ x .words)) i 0
+word-by {w} {y} {z} t x h i = ap (λ xs. getD xs i 0) h ∙ ap (λ s. getD (given s (z .frames) (x .waits) (w .stack ++ x .words)) i 0) (sent-by (t .by))
+
+-- frames that have something alike
+module _ (F : (b h : ℕ) (f g : Frame) → Moved b h f g → Type 0) (g k : Frame → ℕ) (alike : (b h : ℕ) (f j : Frame) (m : Moved b h f j) → F b h f j m → k j ≡ g f) where
+  pub all-alike : (b n : ℕ) (fs ks : List Frame) (m : AllMoved b n fs ks) → Each F b n fs ks m → map k ks ≡ map g fs
+  all-alike b n [] [] m h = refl
+  all-alike b n [] (j ∷ js) m h = absurd m
+  all-alike b n (f ∷ fs) [] m h = absurd m
+  all-alike b n (f ∷ fs) (j ∷ js) m h = λ i. alike b n f j (m .0) (h .0) i ∷ all-alike b n fs js (m .1) (h .1) i
+
+-- each frame that was moved has the field
+module _ (F : (b h : ℕ) (f g : Frame) → Moved b h f g → Type 0) (p : (b h : ℕ) (f g : Frame) (m : Moved b h f g) → F b h f g m) where
+  pub each : (b n : ℕ) (fs ks : List Frame) (m : AllMoved b n fs ks) → Each F b n fs ks m
+  each b n [] [] m = tt
+  each b n [] (j ∷ js) m = tt
+  each b n (f ∷ fs) [] m = tt
+  each b n (f ∷ fs) (j ∷ js) m = (p b n f j (m .0), each b n fs js (m .1))
+
+abbrev pub pcAlike : (b h : ℕ) (f g : Frame) → Moved b h f g → Type 0
+pcAlike b h f g m = g .pc ≡ f .pc
+
+abbrev pub pcIs : Frame → ℕ
+pcIs f = f .pc
+
+pub map-append : (g : Frame → ℕ) (xs ys : List Frame) → map g (xs ++ ys) ≡ map g xs ++ map g ys
+map-append g [] ys = refl
+map-append g (x ∷ xs) ys = ap (λ (l : List ℕ). g x ∷ l) (map-append g xs ys)
+
+-- c's frames, over and body, stand on others
+pub on-others : {w : View} {y : Option Op} {z : View} (t : Entered w y c z) → z .frames ≡ (t .over ++ (t .body ∷ [])) ++ at (t .by .pc) (w .frames)
+on-others {w} t = t .frames ∙ sym (append-assoc (t .over) (t .body ∷ []) (at (t .by .pc) (w .frames)))
+
+-- the first frame's pc, where c's saved frames are those of fs
+pub first-pc : {w : View} {y : Option Op} {z : View} (t : Entered w y c z) (fs : List Frame) (n : ℕ) → AllMoved 0 n fs (t .over ++ (t .body ∷ [])) → map pcIs (z .frames) ≡ map pcIs fs ++ map pcIs (at (t .by .pc) (w .frames))
+first-pc {w} t fs n m =
+    let mine = t .over ++ (t .body ∷ []) in
+    ap (map pcIs) (on-others t) ∙ map-append pcIs mine (at (t .by .pc) (w .frames))
+    ∙ ap (λ l. l ++ map pcIs (at (t .by .pc) (w .frames))) (all-alike pcAlike pcIs pcIs (λ b h f j m e. e) 0 n fs mine m (each pcAlike (λ b h f g m. m .pc) 0 n fs mine m))
+
+by-says : RefutedAt by (λ e a r. r .says) grantResumes
+unfolding computed waiting
+by-says = (entry-at c waiting (asCall (Op.Grant 1) refl) refl refl, λ r h. no-one h)
+
+pub entered-by : RefutedAt entered (λ e a r. r .by) grantResumes
+unfolding computed waiting
+entered-by = (entry-at c waiting (asCall (Op.Grant 1) refl) refl refl, λ r h. no-one (h .says))
+
+entered-frames : RefutedAt entered (λ e a r. r .frames) (beginsWith (underTop atOne))
+unfolding computed waiting
+entered-frames = (
+  entry-at c waiting (asCall (Op.Resume 2 1 0 2) refl) refl refl,
+  λ r h.
+      let q : _≡_ {A = ℕ} 1 2 = ap (λ fs. lastOr (r .body) fs .pc) h ∙ ap pcIs (last-two (r .body) (r .over) (r .body) (frame 0 (r .by .pc) 0 0 Cont.Entry)) ∙ pc-by (r .by) in
+      absurd (omega (arith, q)),
+)
+
+entered-stack : RefutedAt entered (λ e a r. r .stack) (beginning fourthWord5)
+unfolding computed waiting
+entered-stack = (entry-at c waiting (asCall (Op.Resume 2 1 0 2) refl) refl refl, λ r h. let q : _≡_ {A = ℕ} 5 0 = ap (λ xs. getD xs 3 0) h in absurd (omega (arith, q)))
+
+entered-its-own : RefutedAt entered (λ e a r. r .its-own) (seeing (eachSeen discards))
+unfolding computed waiting
+entered-its-own = (
+  entry-at c waiting (asCall (Op.Resume 2 1 0 2) refl) refl refl,
+  λ r h.
+      let q : _≡_ {A = ℕ} 4 5 = ap (λ f. codeOf (f .cont)) (sym (first-of (r .over) (r .body) _ _ _ (r .frames))) ∙ ap codeOf h in
+      absurd (omega (arith, q)),
+)
+
+entered-floor : RefutedAt entered (λ e a r. r .floor) (seeing (eachSeen higher))
+unfolding computed waiting
+entered-floor = (
+  entry-at c waiting (asCall (Op.Resume 2 1 0 2) refl) refl refl,
+  λ r h.
+      let q : _≡_ {A = ℕ} 5 4 = ap (λ f. f .base) (sym (first-of (r .over) (r .body) _ _ _ (r .frames))) ∙ h in
+      absurd (omega (arith, q)),
+)
+
+entered-chain : RefutedAt entered (λ e a r. r .chain) (beginning (λ w z. withChain (map floor0 (z .chain)) z))
+unfolding computed waiting
+entered-chain = (entry-at c waiting (asCall (Op.Resume 2 1 0 2) refl) refl refl, λ r h. let q : _≡_ {A = ℕ} 0 1 = ap floorIn h in absurd (omega (arith, q)))
+
+entered-closing : RefutedAt entered (λ e a r. r .closing) closingEnds
+unfolding computed sleeping
+entered-closing = (entry-at c sleeping (asCall (Op.CoroClose 3 1 0 2) refl) refl refl, λ r h. no-word (closed-by r h))
+
+entered-saved-words : RefutedAt entered (λ e a r. r .saved-words) (beginning firstWord5)
+unfolding computed waiting
+entered-saved-words = (
+  entry-at c waiting (asCall (Op.Resume 2 1 0 2) refl) refl refl,
+  λ r h.
+      let q : _≡_ {A = ℕ} 5 0 = word-by r fresh-one (h fresh-one refl) 4 in
+      absurd (omega (arith, q)),
+)
+
+entered-saved-frames : RefutedAt entered (λ e a r. r .saved-frames) (beginsWith (onTop atOne))
+unfolding computed waiting
+entered-saved-frames = (
+  entry-at c waiting (asCall (Op.Resume 2 1 0 2) refl) refl refl,
+  λ r h.
+      let q : _≡_ {A = ℕ} 1 0 = ap first (first-pc r (wakes (r .by .sent) (frame 0 0 0 0 Cont.Coro ∷ [])) 4 (h fresh-one refl)) ∙ ap (λ s. stepped s 0) (sent-by (r .by)) in
+      absurd (omega (arith, q)),
+)
+
+-- ---- what is left
+
+word-below : {w : View} {y : Option Op} {v : View} {k : Option Op} {z : View} (l : Left w y c v k z) → memory (z .stack) (z .frames) ≡ deliver (l .by .driver) (eventOf v (doing v k) c z) (memory (w .stack) (at (l .by .pc) (w .frames)))
+    → (i : ℕ) → getD (z .stack) i 0 ≡ getD (deliver (driverIn (whom w y)) (eventOf v (doing v k) c z) (memory (w .stack) (at (l .by .pc) (w .frames))) .stack) i 0
+word-below {w} {y} {v} {k} {z} l h i =
+    ap (λ (m : Memory). getD (m .stack) i 0) h ∙ ap (λ d. getD (deliver d (eventOf v (doing v k) c z) (memory (w .stack) (at (l .by .pc) (w .frames))) .stack) i 0) (driver-by (l .by))
+
+left-by : RefutedAt left (λ e a r. r .by) grantResumes
+unfolding computed waiting
+left-by = (leave-at c waiting (asCall (Op.Grant 1) refl) (asCall (Op.Yield 3 0 1) refl) refl refl refl refl, λ r h. no-one (h .says))
+
+pub left-under : RefutedAt left (λ e a r. r .under) (parting fourthWord5)
+unfolding computed waiting
+left-under = (
+  leave-at c waiting (asCall (Op.Resume 2 1 0 2) refl) (asCall (Op.Yield 3 0 1) refl) refl refl refl refl,
+  λ r h.
+      let q : _≡_ {A = ℕ} 5 0 = word-below r h 3 in
+      absurd (omega (arith, q)),
+)
+
+left-chain : RefutedAt left (λ e a r. r .chain) (parting (λ w z. withChain (w .chain) z))
+unfolding computed waiting
+left-chain = (
+  leave-at c waiting (asCall (Op.Resume 2 1 0 2) refl) (asCall (Op.Yield 3 0 1) refl) refl refl refl refl,
+  λ r h.
+      let q : _≡_ {A = ℕ} 1 0 = ap someOne h in
+      absurd (omega (arith, q)),
+)
+
+-- NONE OF THEM
+pub refuted-by : W.RefutedBy
+refuted-by = record { says = by-says }
+
+pub refuted-entered : W.RefutedEntered
+refuted-entered =
+    record {
+      by = entered-by;
+      frames = entered-frames;
+      stack = entered-stack;
+      its-own = entered-its-own;
+      floor = entered-floor;
+      chain = entered-chain;
+      closing = entered-closing;
+      saved-words = entered-saved-words;
+      saved-frames = entered-saved-frames;
+    }
+
+pub refuted-left : W.RefutedLeft
+refuted-left = record { by = left-by; under = left-under; chain = left-chain }

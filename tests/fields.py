@@ -1,0 +1,169 @@
+"""The fields of what is promised, and what refutes each: see tests/fields."""
+import pathlib
+import re
+import sys
+
+ROOT = pathlib.Path(__file__).resolve().parent.parent
+failed = 0
+
+
+def say(text):
+    global failed
+    failed += 1
+    print(f"fields: {text}")
+
+
+def declared(folder):
+    """The records of a folder: name -> {field: type}; and the text of every other declaration with a capital letter: name -> text."""
+    records, others = {}, {}
+    for path in sorted((ROOT / folder).glob("*.antt")):
+        name, field, inside = None, None, None
+        for row in path.read_text().splitlines():
+            if row.strip().startswith("--"):
+                continue
+            if found := re.match(r"pub record (\S+) ", row):
+                name, field, inside = found.group(1), None, None
+                if name in records:
+                    say(f"{path.relative_to(ROOT)}: a second record {name}")
+                records[name] = {}
+            elif name and (found := re.match(r"  pub (\S+) : (.*)", row)):
+                field = found.group(1)
+                records[name][field] = found.group(2)
+            elif name and field and row.startswith("      "):
+                records[name][field] += " " + row.strip()
+            elif name and re.match(r"  \S", row):
+                say(f"{path.relative_to(ROOT)}: not a field of {name} as this test reads them: {row.strip()}")
+            elif row and not row.startswith(" "):
+                name = None
+                found = re.match(r"(?:abbrev pub|pub data|unfoldable pub|pub) ([A-Z]\S*)", row)
+                inside = found.group(1) if found else inside if re.match(rf"{inside} ", row) else None
+                if inside:
+                    others[inside] = others.get(inside, "") + " " + row
+            elif inside:
+                others[inside] += " " + row.strip()
+    return records, others
+
+
+def names(text):
+    return set(re.findall(r"(?<![\w.·-])[A-Z][\w-]*", text))
+
+
+def is_data(text):
+    """A field that holds a thing, and says nothing: a state, a call, a number, a frame, a list of such."""
+    return re.fullmatch(r"(?:e \.(?:State|Call)|ℕ|Bool|Frame|Driver|Sent|Seen|(?:List|Option) (?:\w+|\([^→≡]*\)))", text)
+
+
+# Records that are premises of claims: a premise that says less makes no claim say less. Where such a record is a conclusion too (`Enters`, `Suspends`,
+# `Returns`, `Fails` of `Events`), a field less makes of the premise one under which `step` has not what is claimed.
+PREMISES = {"Enters", "Suspends", "Stops", "Restarts", "Returns", "Fails", "Roomy", "Makes"}
+
+# Fields that no engine can be wrong in alone.
+ALONE = {
+    ("NotEmpty", "waits"): "of the empty list it holds of every engine: it says that the turns between are such as `enters` needs",
+    ("NotEmpty", "goes"): "of the empty list it holds of every engine: it says that the turns between are such as `leaves` needs",
+}
+
+
+def of_engines():
+    specs = "crates/claims_model/specs"
+    records, others = declared(specs)
+    # what `Promise` reaches
+    reached, ahead = set(), ["Promise"]
+    while ahead:
+        one = ahead.pop()
+        if one not in reached and one != "Engine" and (one in records or one in others):
+            reached.add(one)
+            ahead += names(" ".join(records[one].values()) if one in records else others[one])
+    # a record or a type has a statement if it says an equation or an order, or names a record or a type that has one
+    claims, more = set(), True
+    while more:
+        more = False
+        for one in reached - claims:
+            text = " ".join(records[one].values()) if one in records else others[one]
+            if re.search(r"≡|⊥|⊎|≤|<", text) or names(text) & claims:
+                claims.add(one)
+                more = True
+    refuted = {name[len("Refuted"):]: fields for name, fields in records.items() if name.startswith("Refuted") and len(name) > len("Refuted")}
+    texts = {path.stem: path.read_text() for path in (ROOT / specs).glob("*.antt")}
+    proofs = "".join(path.read_text() for path in (ROOT / "crates/claims_model/proofs").glob("Wrong*.antt"))
+    count, engines = 0, set()
+    for one in sorted(reached & records.keys() & claims - PREMISES):
+        statements = [field for field, text in records[one].items() if not is_data(text)]
+        table = refuted.get(one, {})
+        if not re.search(rf"^pub refuted-\S+ : (?:W\.)?Refuted{one}$", proofs, re.M):
+            say(f"Refuted{one} is not proved in crates/claims_model/proofs/Wrong*.antt")
+        for field in statements:
+            if (one, field) in ALONE:
+                continue
+            count += 1
+            found = re.fullmatch(r"(Refuted|RefutedIn|RefutedAt|MovedRefuted)(?: (\w+))? \(λ [^.]*\. .*?\.([\w-]+)\) (.+)", table.get(field, ""))
+            if not found:
+                say(f"{one}.{field} refutes no engine: Refuted{one} of {specs}/Wrong*.antt has no such field")
+                continue
+            how, of, projected, engine = found.groups()
+            engines.add(engine)
+            if projected != field:
+                say(f"Refuted{one}.{field} is of the field {projected}")
+            if how in ("Refuted", "RefutedIn") and of != one:
+                say(f"Refuted{one}.{field} is of the record {of}")
+            if how == "RefutedAt" and one not in names(re.search(rf"^{of} e a = (.*)$", texts["Refuted"], re.M).group(1)):
+                say(f"Refuted{one}.{field} is of another record: {of} of {specs}/Refuted.antt")
+        for field in table.keys() - set(statements):
+            say(f"Refuted{one}.{field}: {one} has no such statement")
+    for one in refuted.keys() - (reached & claims):
+        say(f"Refuted{one}: no record {one} is promised")
+    for one, field in ALONE:
+        if field not in records.get(one, {}):
+            say(f"no {one}.{field}: its reason is stale")
+    each = ", each refutes one" if not failed else ""
+    print(f"fields: {count} statements of {len(reached & records.keys() & claims - PREMISES)} records of an engine{each} of {len(engines)} engines; {len(ALONE)} that no engine is wrong in alone; {len(PREMISES)} records of premises")
+    return count > 100
+
+
+# Records that are of no engine: of the fault sheet, of lent words, of linked calls.
+RECORDS = {
+    "claims_sheet": ["FaultSheet", "Sentences", "Answers", "Queue", "SetUps", "Mistakes", "Keeps"],
+    "claims_memory": ["Claim", "AnyFuel", "Stacked", "Woken", "Back"],
+    "claims_linked": ["Library", "Passes", "Begins", "NoRoom", "Untested", "Beyond", "Linked", "Batch"],
+}
+
+
+def of_records():
+    """Each field of RECORDS has a row of tests/fields.txt, which quotes it and names what refuses a wrong one."""
+    rows, found = {}, {}
+    for row in (ROOT / "tests/fields.txt").read_text().splitlines():
+        if row and not row.startswith("#"):
+            place, by, words = row.split(" | ", 2)
+            rows[place] = (by, words)
+    for crate, wanted in RECORDS.items():
+        records, _ = declared(f"crates/{crate}/specs")
+        for one in wanted:
+            if one not in records:
+                say(f"crates/{crate}/specs: no record {one}")
+            for field, text in records.get(one, {}).items():
+                found[f"{crate} {one}.{field}"] = text
+    for place, text in found.items():
+        if place not in rows:
+            say(f"tests/fields.txt: no row for {place}")
+            continue
+        by, words = rows[place]
+        crate, field = place.split(" ")[0], place.split(".")[1]
+        if text != words:
+            say(f"{place} does not say any more: {words}")
+        for name in by.split(", ") if by != "-" else []:
+            if theorem := re.fullmatch(r"(\w+)/(\w+):([\w-]+)", name):
+                path = ROOT / f"crates/{theorem.group(1)}/proofs/{theorem.group(2)}.antt"
+                if not path.is_file() or not re.search(rf"\.{re.escape(field)}(?![\w-])", path.read_text()) or not re.search(rf"(?<![\w-]){re.escape(theorem.group(3))}(?![\w-])", path.read_text()):
+                    say(f"{place}: {name} does not rest on it")
+            elif not (ROOT / f"crates/{crate}/must-fail/{name}.edit").is_file():
+                say(f"{place}: no {name} of crates/{crate}/must-fail")
+    for place in rows.keys() - found.keys():
+        say(f"tests/fields.txt: no field {place}")
+    without = sum(by == "-" for by, _ in rows.values())
+    print(f"fields: {len(found)} fields of {sum(map(len, RECORDS.values()))} records that are of no engine: {len(rows) - without} with a wrong answer or a theorem that rests on them, {without} quoted alone")
+    return len(found) > 100
+
+
+if not of_engines() or not of_records():
+    say("records have lost their fields")
+sys.exit(1 if failed else 0)
