@@ -19,10 +19,10 @@ use Rattle.claims_sound.proofs.Tests.{and-left, and-right}
 use Rattle.memory_calls.specs.Answer.{answerWords}
 use Rattle.memory_calls.specs.declared.call.Read.{Read}
 use Rattle.machine_added.specs.Look.{endOn}
-use Rattle.memory_step.specs.Step.{isSound, decoded, setUpOk, Do, step}
-use Rattle.outer_run.specs.Run.{Ran, runWords, countOf, callsIn, written, refusals, RunLeft, ends, runIn}
-use Rattle.linked_calls.specs.Host.{Host, stateOf, tested, Gave, gave, tells, over, doIn, keptIn, callIn, Granted, freshIn, setUpIn, Looked, saw, lookIn, runHost}
-use Rattle.linked_calls.proofs.Hosts.{sound, done}
+use Rattle.memory_step.specs.Step.{decoded, setUpOk, Do, step}
+use Rattle.outer_run.specs.Run.{Ran, runWords, countOf, callsIn, written, refusals}
+use Rattle.linked_calls.specs.Host.{Host, stateOf, tested, Gave, gave, tells, over, doIn, keptIn, short, callIn, Granted, freshIn, long, setUpIn, Looked, saw, lookIn, runHost}
+use Rattle.linked_calls.proofs.Hosts.{done}
 use Rattle.linked_calls.proofs.Hosts as Hosts
 use Rattle.claims_linked.specs.Library.{HasRoom, NoRoom, Untested}
 
@@ -37,13 +37,13 @@ told h o xs e w = let p = sym (kept h (Read.Is (o .op)) xs e w) in (ap (λ (g : 
 
 -- by room for the answer, and by the test
 abbrev pub by : Host → Read → List ℕ → Bool → Bool → Gave
-by h r xs room ok = pick room (pick ok (keptIn h r xs) (tells h (Answer.Refused Fault.Unsound) xs)) (gave h xs 14)
+by h r xs room ok = pick room (pick ok (keptIn h r xs) (tells h (Answer.Refused Fault.Unsound) xs)) (gave h xs (short ok))
 
 pub call-is : (h : Host) (r : Read) (xs : List ℕ) → callIn h r xs ≡ by h r xs (leb 8 (length xs)) (tested h)
 unfolding callIn
 call-is h r xs = refl
 
-no-answer : (h : Host) (r : Read) (xs : List ℕ) → length xs < 8 → callIn h r xs ≡ gave h xs 14
+no-answer : (h : Host) (r : Read) (xs : List ℕ) → length xs < 8 → callIn h r xs ≡ gave h xs (short (tested h))
 no-answer h r xs w = call-is h r xs ∙ ap (λ b. by h r xs b (tested h)) (lt-leb 8 (length xs) w) ∙ pick-false _ _
 
 by-none : (h : Host) (r : Read) (xs : List ℕ) → by h r xs true false ≡ tells h (Answer.Refused Fault.Unsound) xs
@@ -64,7 +64,7 @@ grant-gave h n xs fs′ xs′ r g p k =
 abbrev looked-by : Host → List ℕ → Bool → Bool → Looked
 looked-by h zs room ok =
     let w = decoded (stateOf h) in
-    pick room (pick ok (saw (splice zs 0 (topBase (w .frames) ∷ endOn (w .frames) (w .stack) ∷ [])) 0) (saw (splice zs 0 (0 ∷ 0 ∷ [])) 11)) (saw zs 14)
+    pick room (pick ok (saw (splice zs 0 (topBase (w .frames) ∷ endOn (w .frames) (w .stack) ∷ [])) 0) (saw (splice zs 0 (0 ∷ 0 ∷ [])) 11)) (saw zs (short ok))
 
 look-is : (h : Host) (zs : List ℕ) → lookIn h zs ≡ looked-by h zs (leb 2 (length zs)) (tested h)
 unfolding lookIn
@@ -77,27 +77,24 @@ sees-nothing h zs = refl
 unseen : (h : Host) (zs : List ℕ) → tested h ≡ false → 2 ≤ length zs → lookIn h zs ≡ saw (splice zs 0 (0 ∷ 0 ∷ [])) 11
 unseen h zs e w = look-is h zs ∙ ap₂ (looked-by h zs) (le-leb 2 (length zs) w) e ∙ sees-nothing h zs
 
-no-places : (h : Host) (zs : List ℕ) → length zs < 2 → lookIn h zs ≡ saw zs 14
+no-places : (h : Host) (zs : List ℕ) → length zs < 2 → lookIn h zs ≡ saw zs (short (tested h))
 no-places h zs w = look-is h zs ∙ ap (λ b. looked-by h zs b (tested h)) (lt-leb 2 (length zs) w) ∙ pick-false _ _
 
 -- ---- a set-up
 
 -- by room for the answer, for numbers and fuel, and by the set-up's own test
 abbrev pub begun-by : Host → List ℕ → List ℕ → Bool → Bool → Bool → Gave
-begun-by h given xs room long ok =
+begun-by h given xs room wide ok =
     let no = tells h (Answer.Refused Fault.Unsound) xs in
-    pick room (pick long (pick ok (tells (freshIn h given) Answer.Accepted xs) no) no) (gave h xs 14)
+    pick room (pick wide (pick ok (tells (freshIn h given) Answer.Accepted xs) no) no) (gave h xs (short (wide && ok)))
 
-abbrev pub long-in : Host → Bool
-long-in h = leb 25 (length (h .machine)) && leb 4 (length (h .fuel))
-
-pub set-up-is : (h : Host) (given xs : List ℕ) → setUpIn h given xs ≡ begun-by h given xs (leb 8 (length xs)) (long-in h) (setUpOk given (h .words))
+pub set-up-is : (h : Host) (given xs : List ℕ) → setUpIn h given xs ≡ begun-by h given xs (leb 8 (length xs)) (long h) (setUpOk given (h .words))
 unfolding setUpIn
 set-up-is h given xs = refl
 
-not-begun-by : (h : Host) (given xs : List ℕ) (room long ok : Bool) → (begun-by h given xs room long ok .number ≡ 0 → ⊥) → begun-by h given xs room long ok .host ≡ h
+not-begun-by : (h : Host) (given xs : List ℕ) (room wide ok : Bool) → (begun-by h given xs room wide ok .number ≡ 0 → ⊥) → begun-by h given xs room wide ok .host ≡ h
 unfolding pick
-not-begun-by h given xs false long ok n = refl
+not-begun-by h given xs false wide ok n = refl
 not-begun-by h given xs true false ok n = refl
 not-begun-by h given xs true true false n = refl
 not-begun-by h given xs true true true n = absurd (n refl)
@@ -106,19 +103,19 @@ pub not-begun : (h : Host) (given xs : List ℕ) → (setUpIn h given xs .number
 not-begun h given xs n =
     let p = set-up-is h given xs in
     ap (λ (g : Gave). g .host) p
-    ∙ not-begun-by h given xs (leb 8 (length xs)) (long-in h) (setUpOk given (h .words)) (λ z. n (ap (λ (g : Gave). g .number) p ∙ z))
+    ∙ not-begun-by h given xs (leb 8 (length xs)) (long h) (setUpOk given (h .words)) (λ z. n (ap (λ (g : Gave). g .number) p ∙ z))
 
-begun-none : (h : Host) (given xs : List ℕ) → length xs < 8 → setUpIn h given xs ≡ gave h xs 14
+begun-none : (h : Host) (given xs : List ℕ) → length xs < 8 → setUpIn h given xs ≡ gave h xs (short (long h && setUpOk given (h .words)))
 begun-none h given xs w =
-    set-up-is h given xs ∙ ap (λ b. begun-by h given xs b (long-in h) (setUpOk given (h .words))) (lt-leb 8 (length xs) w) ∙ pick-false _ _
+    set-up-is h given xs ∙ ap (λ b. begun-by h given xs b (long h) (setUpOk given (h .words))) (lt-leb 8 (length xs) w) ∙ pick-false _ _
 
-room-of : (h : Host) (xs : List ℕ) → 8 ≤ length xs → long-in h ≡ true → HasRoom h xs
+room-of : (h : Host) (xs : List ℕ) → 8 ≤ length xs → long h ≡ true → HasRoom h xs
 room-of h xs w e =
     let a = leb 25 (length (h .machine)) in
     let b = leb 4 (length (h .fuel)) in
     record { answer = w; machine = leb-true 25 (length (h .machine)) (and-left a b e); fuel = leb-true 4 (length (h .fuel)) (and-right a b e) }
 
-refused-by : (h : Host) (given xs : List ℕ) (long ok : Bool) → (long ≡ true → ok ≡ true → ⊥) → begun-by h given xs true long ok ≡ tells h (Answer.Refused Fault.Unsound) xs
+refused-by : (h : Host) (given xs : List ℕ) (wide ok : Bool) → (wide ≡ true → ok ≡ true → ⊥) → begun-by h given xs true wide ok ≡ tells h (Answer.Refused Fault.Unsound) xs
 unfolding pick
 refused-by h given xs false ok n = refl
 refused-by h given xs true false n = refl
@@ -126,8 +123,8 @@ refused-by h given xs true true n = absurd (n refl refl)
 
 pub bad-set-up : (h : Host) (given xs : List ℕ) → 8 ≤ length xs → (HasRoom h xs → setUpOk given (h .words) ≡ true → ⊥) → setUpIn h given xs ≡ tells h (Answer.Refused Fault.Unsound) xs
 bad-set-up h given xs w n =
-    set-up-is h given xs ∙ ap (λ b. begun-by h given xs b (long-in h) (setUpOk given (h .words))) (le-leb 8 (length xs) w)
-    ∙ refused-by h given xs (long-in h) (setUpOk given (h .words)) (λ l e. n (room-of h xs w l) e)
+    set-up-is h given xs ∙ ap (λ b. begun-by h given xs b (long h) (setUpOk given (h .words))) (le-leb 8 (length xs) w)
+    ∙ refused-by h given xs (long h) (setUpOk given (h .words)) (λ l e. n (room-of h xs w l) e)
 
 -- ---- a run
 
@@ -138,44 +135,35 @@ module _ (h : Host) (cs xs : List ℕ) where
   abbrev pub all : Ran
   all = runWords (stateOf h) (callsIn count cs)
 
-  abbrev pub made : Bool → RunLeft
-  made room =
-      pick room (record { state = all .state; answers = written xs 0 (all .answers); number = ends (isSound (stateOf h)) }) (record { state = stateOf h; answers = xs; number = 14 })
-
   -- by room for the answers, and by the test
   abbrev pub ran-by : Bool → Bool → Gave
   ran-by room ok =
-      let t = made room in
-      pick room (pick ok (gave (over h (t .state)) (t .answers) (t .number)) (gave h (written xs 0 (refusals count)) 11)) (gave h xs 14)
+      pick room (pick ok (gave (over h (all .state)) (written xs 0 (all .answers)) 0) (gave h (written xs 0 (refusals count)) 11)) (gave h xs (short ok))
 
   pub run-is : runHost h cs xs ≡ ran-by (leb (count * 8) (length xs)) (tested h)
-  unfolding runHost runIn
+  unfolding runHost
   run-is = refl
 
-  all-done : ran-by true true ≡ gave (over h (all .state)) (written xs 0 (all .answers)) (ends (isSound (stateOf h)))
+  all-done : ran-by true true ≡ gave (over h (all .state)) (written xs 0 (all .answers)) 0
   unfolding pick
   all-done = refl
-
-  ends-0 : tested h ≡ true → ends (isSound (stateOf h)) ≡ 0
-  unfolding pick
-  ends-0 e = ap ends (sound h e)
 
   pub answered : tested h ≡ true → count * 8 ≤ length xs → (runHost h cs xs .answer ≡ splice xs 0 (words answerWords (all .answers))) × (runHost h cs xs .number ≡ 0)
   answered e w =
       let p = run-is ∙ ap₂ ran-by (le-leb (count * 8) (length xs) w) e ∙ all-done in
-      (ap (λ (g : Gave). g .answer) p, ap (λ (g : Gave). g .number) p ∙ ends-0 e)
+      (ap (λ (g : Gave). g .answer) p, ap (λ (g : Gave). g .number) p)
 
-  not-run-by : (room ok : Bool) → tested h ≡ ok → (ran-by room ok .number ≡ 0 → ⊥) → ran-by room ok .host ≡ h
+  not-run-by : (room ok : Bool) → (ran-by room ok .number ≡ 0 → ⊥) → ran-by room ok .host ≡ h
   unfolding pick
-  not-run-by false ok e n = refl
-  not-run-by true false e n = refl
-  not-run-by true true e n = absurd (n (ends-0 e))
+  not-run-by false ok n = refl
+  not-run-by true false n = refl
+  not-run-by true true n = absurd (n refl)
 
   pub not-run : (runHost h cs xs .number ≡ 0 → ⊥) → runHost h cs xs .host ≡ h
   not-run n =
-      ap (λ (g : Gave). g .host) run-is ∙ not-run-by (leb (count * 8) (length xs)) (tested h) refl (λ z. n (ap (λ (g : Gave). g .number) run-is ∙ z))
+      ap (λ (g : Gave). g .host) run-is ∙ not-run-by (leb (count * 8) (length xs)) (tested h) (λ z. n (ap (λ (g : Gave). g .number) run-is ∙ z))
 
-  no-answers : length xs < count * 8 → runHost h cs xs ≡ gave h xs 14
+  no-answers : length xs < count * 8 → runHost h cs xs ≡ gave h xs (short (tested h))
   no-answers w = run-is ∙ ap (λ b. ran-by b (tested h)) (lt-leb (count * 8) (length xs) w) ∙ pick-false _ _
 
   none-run : ran-by true false ≡ gave h (written xs 0 (refusals count)) 11
@@ -194,7 +182,7 @@ no-room h xs =
       run = λ cs w. no-answers h cs xs w;
       look = λ w. no-places h xs w;
       set-up = λ given w. begun-none h given xs w;
-      grant = λ n fs′ xs′ r w k. grant-gave h n xs fs′ xs′ r (gave h xs 14) (no-answer h (Read.Is (Op.Grant n)) xs w) k;
+      grant = λ n fs′ xs′ r w k. grant-gave h n xs fs′ xs′ r (gave h xs (short (tested h))) (no-answer h (Read.Is (Op.Grant n)) xs w) k;
     }
 
 pub untested : (h : Host) (xs : List ℕ) → tested h ≡ false → Untested h xs

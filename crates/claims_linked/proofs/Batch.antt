@@ -34,7 +34,7 @@ pub first : (ws : List ℕ) (r : Read) (rs : List Read) → each isWord ws ≡ t
 first ws (Read.Is o) rs h e t =
     let k : Operation = record { op = o; within = read-typed ws o h e } in
     record { list = Do k ∷ t .list; calls = is k rs (t .list) (t .calls) }
-first ws (Read.Not f) rs h e t = record { list = t .list; calls = not f rs (t .list) (t .calls) }
+first ws (Read.Not g) rs h e t = record { list = t .list; calls = not g rs (t .list) (t .calls) }
 
 pub listed : (n : ℕ) (cs : List ℕ) → each isWord cs ≡ true → Listed (callsIn n cs)
 listed zero cs h = record { list = []; calls = none }
@@ -45,7 +45,7 @@ listed (suc n) cs h = first (take 6 cs) (opOf (take 6 cs)) (callsIn n (drop 6 cs
 left : (s : State) {rs : List Read} {ks : List Call} → Calls rs ks → runWords s rs .state ≡ run outer s (map calls ks)
 left s none = refl
 left s (is o rs ks c) = left (stepWords s (o .op) .state) c
-left s (not f rs ks c) = left s c
+left s (not g rs ks c) = left s c
 
 long : (s : State) (rs : List Read) → length (runWords s rs .answers) ≡ length rs
 long s [] = refl
@@ -55,7 +55,7 @@ answer : (s : State) {rs : List Read} {ks : List Call} (r : Read) (more : List R
     → getD (runWords s (rs ++ (r ∷ more)) .answers) (length rs) d ≡ doWords (run outer s (map calls ks)) r .answer
 answer s r more d none = refl
 answer s r more d (is o rs ks c) = answer (stepWords s (o .op) .state) r more d c
-answer s r more d (not f rs ks c) = answer s r more d c
+answer s r more d (not g rs ks c) = answer s r more d c
 
 pub batch : Batch
 batch =
@@ -64,5 +64,5 @@ batch =
       left = λ s rs ks c. left s c;
       long = long;
       answer = λ s rs ks o more d c. answer s (Read.Is (o .op)) more d c;
-      refused = λ s rs ks f more d c. answer s (Read.Not f) more d c;
+      refused = λ s rs ks g more d c. answer s (Read.Not g) more d c;
     }

@@ -15,9 +15,9 @@ use Rattle.memory_calls.specs.declared.call.Read.{Read}
 use Rattle.memory_step.specs.Step.{State, setUpOk, setUpWords}
 use Rattle.outer_run.specs.Run.{doWords}
 use Rattle.linked_calls.specs.Words.{machineWords, fuelWords}
-use Rattle.linked_calls.specs.Host.{Host, stateOf, tested, Gave, over, callIn, freshIn, setUpIn, runHost}
+use Rattle.linked_calls.specs.Host.{Host, stateOf, tested, Gave, over, callIn, freshIn, long, setUpIn, runHost}
 use Rattle.claims_linked.specs.Library.{Beyond}
-use Rattle.claims_linked.proofs.Answered.{by, call-is, begun-by, long-in, set-up-is, all, count, ran-by, run-is}
+use Rattle.claims_linked.proofs.Answered.{by, call-is, begun-by, set-up-is, all, count, ran-by, run-is}
 
 numbers-rest : (ms : List ℕ) (m : Machine) → drop 25 (splice ms 0 (machineWords m)) ≡ drop 25 ms
 numbers-rest ms m = drop-drop 12 13 ms
@@ -50,9 +50,9 @@ ran-rest h cs xs true true = over-rest h (all h cs xs .state)
 fresh-rest : (h : Host) (given : List ℕ) → Beyond h (freshIn h given)
 fresh-rest h given = record { machine = drop-drop 12 13 (h .machine); fuel = fuel-rest (h .fuel) (setUpWords (stateOf h) given .state .fuel) }
 
-begun-rest : (h : Host) (given xs : List ℕ) (room long ok : Bool) → Beyond h (begun-by h given xs room long ok .host)
+begun-rest : (h : Host) (given xs : List ℕ) (room wide ok : Bool) → Beyond h (begun-by h given xs room wide ok .host)
 unfolding pick
-begun-rest h given xs false long ok = same h
+begun-rest h given xs false wide ok = same h
 begun-rest h given xs true false ok = same h
 begun-rest h given xs true true false = same h
 begun-rest h given xs true true true = fresh-rest h given
@@ -62,5 +62,5 @@ beyond h r ws xs =
     let at : (g k : Gave) → g ≡ k → Beyond h (k .host) → Beyond h (g .host) = λ g k p b. subst (λ (x : Gave). Beyond h (x .host)) (sym p) b in (
       at (callIn h r xs) _ (call-is h r xs) (called-rest h r xs (leb 8 (length xs)) (tested h)),
       at (runHost h ws xs) _ (run-is h ws xs) (ran-rest h ws xs (leb (count h ws xs * 8) (length xs)) (tested h)),
-      at (setUpIn h ws xs) _ (set-up-is h ws xs) (begun-rest h ws xs (leb 8 (length xs)) (long-in h) (setUpOk ws (h .words))),
+      at (setUpIn h ws xs) _ (set-up-is h ws xs) (begun-rest h ws xs (leb 8 (length xs)) (long h) (setUpOk ws (h .words))),
     )

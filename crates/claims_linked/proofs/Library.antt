@@ -17,7 +17,7 @@ use Rattle.model.specs.Gate.{refused}
 use Rattle.model.specs.Added.{refuel, grantTooLarge, grant}
 use Rattle.model.specs.Added as Added
 use Rattle.model.specs.Compute.{computed}
-use Rattle.model.specs.Lists.{each, among}
+use Rattle.model.specs.Lists.{isNil, each, among}
 use Rattle.model.specs.Call.{isWord, typed, Operation}
 use Rattle.model.specs.Step.{Out, call}
 use Rattle.model.specs.declared.call.Op.{Op}
@@ -29,7 +29,8 @@ use Rattle.memory_world.specs.declared.machine.Machine.{Machine}
 use Rattle.memory_world.specs.declared.machine.Sizes.{Sizes}
 use Rattle.memory_world.specs.Words.{sizesOf, lengthsOf}
 use Rattle.memory_world.specs.Decode.{setupOf}
-use Rattle.memory_calls.specs.Call.{opOf, opWords}
+use Rattle.memory_calls.specs.Call.{refusal, opOf, opWords}
+use Rattle.memory_calls.specs.declared.call.Gate.{Gate}
 use Rattle.memory_calls.specs.declared.call.Read.{Read}
 use Rattle.memory_calls.proofs.Back.{read-back}
 use Rattle.memory_calls.proofs.Typed.{read-typed}
@@ -44,11 +45,11 @@ use Rattle.claims_memory.specs.Engine.{outer}
 use Rattle.claims_memory.proofs.Fuel as Fuel
 use Rattle.outer_run.specs.Run.{doWords, runWords, countOf, callsIn, written}
 use Rattle.linked_calls.specs.Words.{machineWords, sizesIn, sizesWords, fuelIn, fuelWords}
-use Rattle.linked_calls.specs.Host.{numbersOk, sameSizes, Host, host, stateOf, tested, Gave, gave, tells, over, keptIn, callIn, Granted, freshIn, setUpIn, runHost}
+use Rattle.linked_calls.specs.Host.{numbersOk, sameSizes, Host, host, stateOf, tested, Gave, gave, tells, over, keptIn, callIn, Granted, freshIn, long, setUpIn, runHost}
 use Rattle.linked_calls.proofs.Hosts.{numbers, sound, sizes}
 use Rattle.claims_linked.specs.Batch.{Calls, none, is, not}
 use Rattle.claims_linked.specs.Library.{NoFault, unknown, none-such, Passes, HasRoom, Begins, smallest, sevens, Library}
-use Rattle.claims_linked.proofs.Answered.{kept, told, by, call-is, begun-by, long-in, set-up-is, not-begun, bad-set-up, all, ran-by, run-is, answered, not-run, no-room, untested}
+use Rattle.claims_linked.proofs.Answered.{kept, told, by, call-is, begun-by, set-up-is, not-begun, bad-set-up, all, ran-by, run-is, answered, not-run, no-room, untested}
 use Rattle.claims_linked.proofs.Batch.{listed, batch}
 use Rattle.claims_linked.proofs.Beyond.{beyond}
 use Rattle.claims_linked.proofs.Look.{sees, looks}
@@ -106,7 +107,7 @@ call-stays s o e = record { sound = words-kept .kept s o e; setup = stays-set-up
 
 read-stays : (s : State) (ws : List ℕ) (r : Read) → each isWord ws ≡ true → opOf ws ≡ r → isSound s ≡ true → Stays s (doWords s r .state)
 read-stays s ws (Read.Is o) w q e = call-stays s (record { op = o; within = read-typed ws o w q }) e
-read-stays s ws (Read.Not f) w q e = record { sound = e; setup = refl }
+read-stays s ws (Read.Not g) w q e = record { sound = e; setup = refl }
 
 called-by : (h : Host) (ws xs : List ℕ) → each isWord ws ≡ true → tested h ≡ true → (room : Bool) → tested (by h (opOf ws) xs room true .host) ≡ true
 unfolding pick
@@ -126,7 +127,7 @@ unchanged-by : (h : Host) (ws xs : List ℕ) (r : Read) → each isWord ws ≡ t
 unfolding pick
 unchanged-by h ws xs r w q false ok e n = refl
 unchanged-by h ws xs r w q true false e n = refl
-unchanged-by h ws xs (Read.Not f) w q true true e n = over-same h (numbers h e)
+unchanged-by h ws xs (Read.Not g) w q true true e n = over-same h (numbers h e)
 unchanged-by h ws xs (Read.Is o) w q true true e n =
     ap (over h) (sentences .unchanged (stateOf h) (Do (record { op = o; within = read-typed ws o w q })) n) ∙ over-same h (numbers h e)
 
@@ -136,19 +137,34 @@ unchanged h ws xs w n =
     ap (λ (g : Gave). g .host) p
     ∙ unchanged-by h ws xs (opOf ws) w refl (leb 8 (length xs)) (tested h) refl (sym (ap (λ (g : Gave). among (g .number) unchanging) p) ∙ n)
 
-no-call : (h : Host) (ws xs : List ℕ) (f : Fault) → tested h ≡ true → 8 ≤ length xs → opOf ws ≡ Read.Not f → callIn h (opOf ws) xs ≡ tells h (Answer.Refused f) xs
-no-call h ws xs f e w q =
+no-call : (h : Host) (ws xs : List ℕ) (g : Gate) → tested h ≡ true → 8 ≤ length xs → opOf ws ≡ Read.Not g
+    → callIn h (opOf ws) xs ≡ tells h (Answer.Refused (refusal g (isNil (decoded (stateOf h) .frames)))) xs
+no-call h ws xs g e w q =
     let p = over-same h (numbers h e) in
-    let g : pick (isSound (stateOf h)) f Fault.Unsound ≡ f = ap (λ b. pick b f Fault.Unsound) (sound h e) ∙ pick-true f Fault.Unsound in
-    ap (λ (r : Read). callIn h r xs) q ∙ sym (kept h (Read.Not f) xs e w) ∙ (λ i. tells (p i) (Answer.Refused (g i)) xs)
+    let f = refusal g (isNil (decoded (stateOf h) .frames)) in
+    let k : pick (isSound (stateOf h)) f Fault.Unsound ≡ f = ap (λ b. pick b f Fault.Unsound) (sound h e) ∙ pick-true f Fault.Unsound in
+    ap (λ (r : Read). callIn h r xs) q ∙ sym (kept h (Read.Not g) xs e w) ∙ (λ i. tells (p i) (Answer.Refused (k i)) xs)
 
 -- ---- 11
 
+-- no other test answers it
+only-fault : (g : Gate) (b : Bool) → numberOf (refusal g b) ≡ 11 → NoFault (Read.Not g)
+unfolding pick
+only-fault Gate.NoFault b n = unknown
+only-fault Gate.Frame true n = absurd (omega (arith, n))
+only-fault Gate.Frame false n = absurd (omega (arith, n))
+only-fault Gate.Host true n = absurd (omega (arith, n))
+only-fault Gate.Host false n = absurd (omega (arith, n))
+only-fault Gate.Operand b n = absurd (omega (arith, n))
+
 eleven-by : (h : Host) (ws xs : List ℕ) (r : Read) → each isWord ws ≡ true → opOf ws ≡ r → (room ok : Bool) → tested h ≡ ok → by h r xs room ok .number ≡ 11 → (tested h ≡ false) ⊎ NoFault r
 unfolding pick
-eleven-by h ws xs r w q false ok e n = absurd (omega (arith, n))
+eleven-by h ws xs r w q false true e n = absurd (omega (arith, n))
+eleven-by h ws xs r w q false false e n = inl e
 eleven-by h ws xs r w q true false e n = inl e
-eleven-by h ws xs (Read.Not f) w q true true e n = inr (unknown f (sym (ap (λ b. numberOf (pick b f Fault.Unsound)) (sound h e)) ∙ n))
+eleven-by h ws xs (Read.Not g) w q true true e n =
+    let b = isNil (decoded (stateOf h) .frames) in
+    inr (only-fault g b (sym (ap (λ t. numberOf (pick t (refusal g b) Fault.Unsound)) (sound h e)) ∙ n))
 eleven-by h ws xs (Read.Is o) w q true true e n = go (sentences .eleven (stateOf h) (record { op = o; within = read-typed ws o w q }) n)
   where
     go : (isSound (stateOf h) ≡ false) ⊎ NoSuchFault o → (tested h ≡ false) ⊎ NoFault (Read.Is o)
@@ -162,7 +178,7 @@ eleven h ws xs w n =
 no-fault-by : (h : Host) (ws xs : List ℕ) {r : Read} → each isWord ws ≡ true → opOf ws ≡ r → (ok : Bool) → tested h ≡ ok → NoFault r → by h r xs true ok .number ≡ 11
 unfolding pick
 no-fault-by h ws xs w q false e k = refl
-no-fault-by h ws xs w q true e (unknown f n) = ap (λ b. numberOf (pick b f Fault.Unsound)) (sound h e) ∙ n
+no-fault-by h ws xs w q true e unknown = ap (λ b. numberOf (pick b Fault.Unsound Fault.Unsound)) (sound h e)
 no-fault-by h ws xs w q true e (none-such o k) = sentences .no-fault (stateOf h) (record { op = o; within = read-typed ws o w q }) k
 
 no-fault : (h : Host) (ws xs : List ℕ) → each isWord ws ≡ true → 8 ≤ length xs → NoFault (opOf ws) → callIn h (opOf ws) xs .number ≡ 11
@@ -249,7 +265,7 @@ fresh-state h given =
     let s = setUpWords (stateOf h) given .state in
     λ i. record { words = s .words; machine = machine-back (h .machine) (s .machine) i; fuel = fuel-back (h .fuel) (s .fuel) i }
 
-fresh-passes : (h : Host) (given : List ℕ) → long-in h ≡ true → setUpOk given (h .words) ≡ true → tested (freshIn h given) ≡ true
+fresh-passes : (h : Host) (given : List ℕ) → long h ≡ true → setUpOk given (h .words) ≡ true → tested (freshIn h given) ≡ true
 fresh-passes h given l e =
     let s = setUpWords (stateOf h) given .state in
     let ms = h .machine in
@@ -265,19 +281,21 @@ fresh-passes h given l e =
     (ap isSound (fresh-state h given) ∙ words-kept .begun (stateOf h) given e)
     (ap (λ (x : World). sizesOf (x .setup)) (sym (words-kept .anew (stateOf h) given e)))
 
-begun-as : (h : Host) (given xs : List ℕ) (room long ok : Bool) → long-in h ≡ long → setUpOk given (h .words) ≡ ok → begun-by h given xs room long ok .number ≡ 0
-    → (begun-by h given xs room long ok .host ≡ freshIn h given) × (long ≡ true) × (ok ≡ true)
+begun-as : (h : Host) (given xs : List ℕ) (room wide ok : Bool) → long h ≡ wide → setUpOk given (h .words) ≡ ok → begun-by h given xs room wide ok .number ≡ 0
+    → (begun-by h given xs room wide ok .host ≡ freshIn h given) × (wide ≡ true) × (ok ≡ true)
 unfolding pick
-begun-as h given xs false long ok l e n = absurd (omega (arith, n))
+begun-as h given xs false false ok l e n = absurd (omega (arith, n))
+begun-as h given xs false true false l e n = absurd (omega (arith, n))
+begun-as h given xs false true true l e n = absurd (omega (arith, n))
 begun-as h given xs true false ok l e n = absurd (omega (arith, n))
 begun-as h given xs true true false l e n = absurd (omega (arith, n))
 begun-as h given xs true true true l e n = (refl, refl, refl)
 
 module _ (h : Host) (given xs : List ℕ) (n : setUpIn h given xs .number ≡ 0) where
-  accepted : (setUpIn h given xs .host ≡ freshIn h given) × (long-in h ≡ true) × (setUpOk given (h .words) ≡ true)
+  accepted : (setUpIn h given xs .host ≡ freshIn h given) × (long h ≡ true) × (setUpOk given (h .words) ≡ true)
   accepted =
       let p = set-up-is h given xs in
-      let b = begun-as h given xs (leb 8 (length xs)) (long-in h) (setUpOk given (h .words)) refl refl (sym (ap (λ (g : Gave). g .number) p) ∙ n) in
+      let b = begun-as h given xs (leb 8 (length xs)) (long h) (setUpOk given (h .words)) refl refl (sym (ap (λ (g : Gave). g .number) p) ∙ n) in
       (ap (λ (g : Gave). g .host) p ∙ b .0, b .1, b .2)
 
   begun : tested (setUpIn h given xs .host) ≡ true
@@ -293,9 +311,9 @@ accepted-by h given xs = refl
 
 set-up : (h : Host) (given xs : List ℕ) → HasRoom h xs → setUpOk given (h .words) ≡ true → Begins h given xs
 set-up h given xs r e =
-    let l : long-in h ≡ true = both (le-leb 25 (length (h .machine)) (r .machine)) (le-leb 4 (length (h .fuel)) (r .fuel)) in
+    let l : long h ≡ true = both (le-leb 25 (length (h .machine)) (r .machine)) (le-leb 4 (length (h .fuel)) (r .fuel)) in
     let p =
-    set-up-is h given xs ∙ ap (λ b. begun-by h given xs b (long-in h) (setUpOk given (h .words))) (le-leb 8 (length xs) (r .answer))
+    set-up-is h given xs ∙ ap (λ b. begun-by h given xs b (long h) (setUpOk given (h .words))) (le-leb 8 (length xs) (r .answer))
     ∙ ap₂ (begun-by h given xs true) l e ∙ accepted-by h given xs in
     record {
       number = ap (λ (g : Gave). g .number) p;
@@ -324,7 +342,7 @@ run-stays s (is o rs ks c) e =
     let a = call-stays s o e in
     let b = run-stays (stepWords s (o .op) .state) c (a .sound) in
     record { sound = b .sound; setup = b .setup ∙ a .setup }
-run-stays s (not f rs ks c) e = run-stays s c e
+run-stays s (not g rs ks c) e = run-stays s c e
 
 module _ (h : Host) (cs xs : List ℕ) where
   with-room : ran-by h cs xs true true .host ≡ over h (all h cs xs .state)

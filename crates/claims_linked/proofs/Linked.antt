@@ -25,12 +25,12 @@ use Rattle.claims_memory.specs.Claim.{Woken, Back}
 use Rattle.claims_memory.proofs.Claim.{claim}
 use Rattle.outer_run.specs.Run.{countOf, doWords}
 use Rattle.linked_calls.specs.Words.{fuelIn}
-use Rattle.linked_calls.specs.Host.{Host, host, stateOf, tested, Gave, keptIn, callIn, setUpIn}
+use Rattle.linked_calls.specs.Host.{Host, host, stateOf, tested, Gave, keptIn, callIn, long, setUpIn}
 use Rattle.linked_calls.proofs.Hosts.{numbers, sound}
 use Rattle.claims_linked.specs.Batch.{Calls, none, Listed}
 use Rattle.claims_linked.specs.Linked as Linked
-use Rattle.claims_linked.specs.Linked.{Link, bvm-set-up, bvm-call, bvm-kept, bvm-grant, bvm-run, bvm-switch, other-fuel, after, afterAll, Fits, AllFit, Is, a-set-up, a-call, a-kept, a-grant, a-run, a-switch, a-record, Are, more, Wakes, Comes, Between}
-use Rattle.claims_linked.proofs.Answered.{kept, begun-by, long-in, set-up-is}
+use Rattle.claims_linked.specs.Linked.{Link, bvm-set-up, bvm-call, bvm-call-unchecked, bvm-grant, bvm-run, bvm-switch, other-fuel, after, afterAll, Fits, AllFit, Is, a-set-up, a-call, a-call-unchecked, a-grant, a-run, a-switch, a-record, Are, more, Wakes, Comes, Between}
+use Rattle.claims_linked.proofs.Answered.{kept, begun-by, set-up-is}
 use Rattle.claims_linked.proofs.Batch.{first, listed, batch}
 use Rattle.claims_linked.proofs.Library.{over-back, keeps, call-stays, library}
 use Rattle.claims_linked.proofs.Words.{numbers-each}
@@ -47,8 +47,8 @@ module _ (h : Host) (given xs : List ℕ) (e : tested h ≡ true) (room : 8 ≤ 
   roomy : setUpIn h given xs ≡ begun-by h given xs true true (setUpOk given (h .words))
   roomy =
       let t = numbers-each (h .machine) (h .fuel) (numbers h e) in
-      let long : long-in h ≡ true = both (t .0) (t .1) in
-      set-up-is h given xs ∙ (λ i. begun-by h given xs (le-leb 8 (length xs) room i) (long i) (setUpOk given (h .words)))
+      let wide : long h ≡ true = both (t .0) (t .1) in
+      set-up-is h given xs ∙ (λ i. begun-by h given xs (le-leb 8 (length xs) room i) (wide i) (setUpOk given (h .words)))
 
   number-by : (ok : Bool) → begun-by h given xs true true ok .number ≡ pick ok 0 11
   unfolding pick
@@ -91,7 +91,7 @@ switched h o e =
 one : (h : Host) {l : Link} {ts : List (Turn Call)} → tested h ≡ true → Fits h l → Is l ts → Leaves h (after h l) ts
 one h e f (a-set-up given xs) = sets-up h given xs e f
 one h e f (a-call ws xs ks c) = called h ws xs ks e f c
-one h e f (a-kept ws xs ks c) =
+one h e f (a-call-unchecked ws xs ks c) =
     let same = ap (λ (g : Gave). g .host) (kept h (opOf ws) xs e (f .1)) in
     let t = called h ws xs ks e f c in
     record { passes = ap tested same ∙ t .passes; state = ap stateOf same ∙ t .state }
@@ -128,7 +128,7 @@ words-listed ws w = first ws (opOf ws) [] w refl (record { list = []; calls = no
 turns-one : (h : Host) (l : Link) → Fits h l → (ts : List (Turn Call)) × Is l ts
 turns-one h (bvm-set-up given xs) f = (calls (SetUp given) ∷ [], a-set-up given xs)
 turns-one h (bvm-call ws xs) f = let t = words-listed ws (f .0) in (map calls (t .list), a-call ws xs (t .list) (t .calls))
-turns-one h (bvm-kept ws xs) f = let t = words-listed ws (f .0) in (map calls (t .list), a-kept ws xs (t .list) (t .calls))
+turns-one h (bvm-call-unchecked ws xs) f = let t = words-listed ws (f .0) in (map calls (t .list), a-call-unchecked ws xs (t .list) (t .calls))
 turns-one h (bvm-grant n xs) f = let (o, q) = granting n (f .0) in (calls (Do o) ∷ [], a-grant n xs o q)
 turns-one h (bvm-run cs xs) f = let t = listed (countOf (length cs)) cs (f .0) in (map calls (t .list), a-run cs xs (t .list) (t .calls))
 turns-one h (bvm-switch o) f = let p : Operation = record { op = o; within = f } in (calls (Do p) ∷ [], a-switch o p refl)

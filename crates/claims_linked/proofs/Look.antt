@@ -15,7 +15,7 @@ use Rattle.model.specs.declared.machine.Frame.{Frame}
 use Rattle.machine_added.specs.Look.{endOn}
 use Rattle.memory_step.specs.Step.{State, decoded, looked}
 use Rattle.outer_call.proofs.Stepping.{stands}
-use Rattle.linked_calls.specs.Host.{Host, stateOf, tested, Looked, saw, lookIn}
+use Rattle.linked_calls.specs.Host.{Host, stateOf, tested, short, Looked, saw, lookIn}
 use Rattle.linked_calls.proofs.Hosts.{sound}
 
 take-none : (k : ℕ) → take {A = ℕ} k [] ≡ []
@@ -32,7 +32,7 @@ abbrev span-in : Host → List ℕ
 span-in h = let w = decoded (stateOf h) in topBase (w .frames) ∷ endOn (w .frames) (w .stack) ∷ []
 
 abbrev seen-by : Host → List ℕ → Bool → Bool → Looked
-seen-by h zs room ok = pick room (pick ok (saw (splice zs 0 (span-in h)) 0) (saw (splice zs 0 (0 ∷ 0 ∷ [])) 11)) (saw zs 14)
+seen-by h zs room ok = pick room (pick ok (saw (splice zs 0 (span-in h)) 0) (saw (splice zs 0 (0 ∷ 0 ∷ [])) 11)) (saw zs (short ok))
 
 look-is : (h : Host) (zs : List ℕ) → lookIn h zs ≡ seen-by h zs (leb 2 (length zs)) (tested h)
 unfolding lookIn

@@ -7,12 +7,14 @@ use mathlib.Core.List.{List, [], _∷_, _++_, map}
 use lib.ListN.{length, getD}
 use Rattle.lists.specs.Pick.{pick}
 use Rattle.heap.specs.declared.fault.Fault.{Fault}
-use Rattle.model.specs.Lists.{each}
+use Rattle.model.specs.Lists.{isNil, each}
 use Rattle.model.specs.Call.{isWord, Operation}
 use Rattle.model.specs.declared.call.Answer.{Answer}
+use Rattle.memory_calls.specs.Call.{refusal}
+use Rattle.memory_calls.specs.declared.call.Gate.{Gate}
 use Rattle.memory_calls.specs.declared.call.Read.{Read}
 use Rattle.claims_model.specs.Engine.{calls, run}
-use Rattle.memory_step.specs.Step.{State, isSound, Call, Do, step}
+use Rattle.memory_step.specs.Step.{State, isSound, decoded, Call, Do, step}
 use Rattle.claims_memory.specs.Engine.{outer}
 use Rattle.outer_run.specs.Run.{runWords, callsIn}
 
@@ -20,7 +22,7 @@ use Rattle.outer_run.specs.Run.{runWords, callsIn}
 pub data Calls : List Read → List Call → Type 0 where
   none : Calls [] []
   is : (o : Operation) (rs : List Read) (ks : List Call) → Calls rs ks → Calls (Read.Is (o .op) ∷ rs) (Do o ∷ ks)
-  not : (f : Fault) (rs : List Read) (ks : List Call) → Calls rs ks → Calls (Read.Not f ∷ rs) ks
+  not : (g : Gate) (rs : List Read) (ks : List Call) → Calls rs ks → Calls (Read.Not g ∷ rs) ks
 
 pub record Listed (rs : List Read) : Type 0 where
   pub list : List Call
@@ -31,9 +33,10 @@ pub record Batch : Type 0 where
   pub listed : (n : ℕ) (cs : List ℕ) → each isWord cs ≡ true → Listed (callsIn n cs)
   -- what the batch leaves
   pub left : (s : State) (rs : List Read) (ks : List Call) → Calls rs ks → runWords s rs .state ≡ run outer s (map calls ks)
-  -- what it answers: as many answers; a call's is its answer after the calls before it; what is no call is refused, with 11 first
+  -- what it answers: as many answers; a call's is its answer after the calls before it; what is no call is refused as the call that its code names
   pub long : (s : State) (rs : List Read) → length (runWords s rs .answers) ≡ length rs
   pub answer : (s : State) (rs : List Read) (ks : List Call) (o : Operation) (more : List Read) (d : Answer) → Calls rs ks
       → getD (runWords s (rs ++ (Read.Is (o .op) ∷ more)) .answers) (length rs) d ≡ step (run outer s (map calls ks)) (Do o) .answer
-  pub refused : (s : State) (rs : List Read) (ks : List Call) (f : Fault) (more : List Read) (d : Answer) → Calls rs ks
-      → getD (runWords s (rs ++ (Read.Not f ∷ more)) .answers) (length rs) d ≡ Answer.Refused (pick (isSound (run outer s (map calls ks))) f Fault.Unsound)
+  pub refused : (s : State) (rs : List Read) (ks : List Call) (g : Gate) (more : List Read) (d : Answer) → Calls rs ks
+      → let t = run outer s (map calls ks) in
+      getD (runWords s (rs ++ (Read.Not g ∷ more)) .answers) (length rs) d ≡ Answer.Refused (pick (isSound t) (refusal g (isNil (decoded t .frames))) Fault.Unsound)

@@ -2,15 +2,14 @@
 -- equal to its code; a call's words, as all lent words, have 64 bits.
 use Prim.Native.Nat.{ℕ, _-_, _*_, _≤_, _<_}
 use mathlib.Core.Path.{_≡_}
-use mathlib.Core.Bool.{true, false}
+use mathlib.Core.Bool.{true, false, _&&_}
 use mathlib.Core.Logic.{_⊎_}
 use mathlib.Core.List.{List, [], _∷_, _++_, map}
 use lib.ListN.{length, getD, drop, replicate}
 use Rattle.lists.specs.Chunks.{words}
 use Rattle.lists.specs.Parts.{part, splice}
-use Rattle.heap.specs.Fault.{numberOf}
 use Rattle.heap.specs.declared.fault.Fault.{Fault}
-use Rattle.model.specs.Lists.{each, among}
+use Rattle.model.specs.Lists.{isNil, each, among}
 use Rattle.model.specs.Answer as Said
 use Rattle.model.specs.Frames.{topBase}
 use Rattle.model.specs.Call.{isWord, Operation}
@@ -19,8 +18,9 @@ use Rattle.model.specs.declared.call.Answer.{Answer}
 use Rattle.memory_world.specs.Words.{sizesOf}
 use Rattle.memory_world.specs.Decode.{setupOf}
 use Rattle.machine_added.specs.Look.{endOn}
-use Rattle.memory_calls.specs.Call.{opOf}
+use Rattle.memory_calls.specs.Call.{refusal, opOf}
 use Rattle.memory_calls.specs.Answer.{answerWords}
+use Rattle.memory_calls.specs.declared.call.Gate.{Gate}
 use Rattle.memory_calls.specs.declared.call.Read.{Read}
 use Rattle.claims_model.specs.Engine as Engine
 use Rattle.claims_model.specs.Engine.{run}
@@ -29,12 +29,12 @@ use Rattle.memory_step.specs.Sentences.{unchanging, NoSuchFault}
 use Rattle.claims_memory.specs.Engine.{outer}
 use Rattle.outer_run.specs.Run.{runWords, countOf, callsIn}
 use Rattle.linked_calls.specs.Words.{sizesIn}
-use Rattle.linked_calls.specs.Host.{Host, host, stateOf, tested, gave, tells, keptIn, callIn, Granted, saw, lookIn, setUpIn, runHost}
+use Rattle.linked_calls.specs.Host.{Host, host, stateOf, tested, gave, tells, keptIn, short, callIn, Granted, saw, lookIn, long, setUpIn, runHost}
 use Rattle.claims_linked.specs.Batch.{Calls}
 
 -- an unwind of a fault that is none of 01's, in words or in its operand
 pub data NoFault : Read → Type 0 where
-  unknown : (f : Fault) → numberOf f ≡ 11 → NoFault (Read.Not f)
+  unknown : NoFault (Read.Not Gate.NoFault)
   none-such : (o : Op) → NoSuchFault o → NoFault (Read.Is o)
 
 -- a machine that passes: 25 words and four of fuel, flags are 0 or 1, an amount is set aside only where there is a bank, the outcome is one of
@@ -61,13 +61,13 @@ pub record Begins (h : Host) (given xs : List ℕ) : Type 0 where
   pub answer : setUpIn h given xs .answer ≡ splice xs 0 (answerWords Answer.Accepted)
   pub passes : tested (setUpIn h given xs .host) ≡ true
 
--- an answer that does not fit: 14, and nothing is changed
+-- an answer that does not fit: 11 where 11 is due, else 14, and nothing is changed
 pub record NoRoom (h : Host) (xs : List ℕ) : Type 0 where
-  pub call : (r : Read) → length xs < 8 → callIn h r xs ≡ gave h xs 14
-  pub run : (cs : List ℕ) → length xs < countOf (length cs) * 8 → runHost h cs xs ≡ gave h xs 14
-  pub look : length xs < 2 → lookIn h xs ≡ saw xs 14
-  pub set-up : (given : List ℕ) → length xs < 8 → setUpIn h given xs ≡ gave h xs 14
-  pub grant : (n : ℕ) (fs′ xs′ : List ℕ) (r : ℕ) → length xs < 8 → Granted h n xs fs′ xs′ r → (fs′ ≡ h .fuel) × (xs′ ≡ xs) × (r ≡ 14)
+  pub call : (r : Read) → length xs < 8 → callIn h r xs ≡ gave h xs (short (tested h))
+  pub run : (cs : List ℕ) → length xs < countOf (length cs) * 8 → runHost h cs xs ≡ gave h xs (short (tested h))
+  pub look : length xs < 2 → lookIn h xs ≡ saw xs (short (tested h))
+  pub set-up : (given : List ℕ) → length xs < 8 → setUpIn h given xs ≡ gave h xs (short (long h && setUpOk given (h .words)))
+  pub grant : (n : ℕ) (fs′ xs′ : List ℕ) (r : ℕ) → length xs < 8 → Granted h n xs fs′ xs′ r → (fs′ ≡ h .fuel) × (xs′ ≡ xs) × (r ≡ short (tested h))
 
 -- the words of the answer 11
 abbrev pub unsound : List ℕ
@@ -121,10 +121,11 @@ pub record Library : Type 0 where
   pub grants : (h : Host) (n : ℕ) (xs : List ℕ) → isWord n ≡ true → let after = callIn h (Read.Is (Op.Grant n)) xs .host in after ≡ host (h .words) (h .machine) (after .fuel)
   -- with its own fuel, or with that of any other machine that passes
   pub any-fuel : (h g : Host) → tested h ≡ true → tested g ≡ true → tested (host (h .words) (h .machine) (g .fuel)) ≡ true
-  -- and there `bvm_kept` is `bvm_call`
+  -- and there `bvm_call_unchecked` is `bvm_call`
   pub kept : (h : Host) (r : Read) (xs : List ℕ) → tested h ≡ true → 8 ≤ length xs → keptIn h r xs ≡ callIn h r xs
-  -- words that are no call are refused by number, right after 11, and only the answer is written
-  pub no-call : (h : Host) (ws xs : List ℕ) (f : Fault) → tested h ≡ true → 8 ≤ length xs → opOf ws ≡ Read.Not f → callIn h (opOf ws) xs ≡ tells h (Answer.Refused f) xs
+  -- words that are no call are refused as the call that their code names, and only the answer is written
+  pub no-call : (h : Host) (ws xs : List ℕ) (g : Gate) → tested h ≡ true → 8 ≤ length xs → opOf ws ≡ Read.Not g
+      → callIn h (opOf ws) xs ≡ tells h (Answer.Refused (refusal g (isNil (decoded (stateOf h) .frames)))) xs
   -- 01: "11, 12, 13, 15, 16 change no word": of the machine's 25 and the fuel's four neither
   pub unchanged : (h : Host) (ws xs : List ℕ) → each isWord ws ≡ true → among (callIn h (opOf ws) xs .number) unchanging ≡ true → callIn h (opOf ws) xs .host ≡ h
   -- nor a set-up or a run that is not made; where the answer does not fit, its words neither

@@ -24,11 +24,11 @@ use Rattle.claims_linked.specs.Batch.{Calls}
 pub data Link : Type 0 where
   bvm-set-up : (given answer : List ℕ) → Link
   bvm-call : (ws answer : List ℕ) → Link
-  bvm-kept : (ws answer : List ℕ) → Link
+  bvm-call-unchecked : (ws answer : List ℕ) → Link
   bvm-grant : (amount : ℕ) (answer : List ℕ) → Link
   -- `bvm_batch` too: its `ensures` (batch/src/list.rt) is the equation of `bvm_run`
   bvm-run : (ws answers : List ℕ) → Link
-  -- a `bvm_try_resume` or `bvm_try_yield` that returned 1; one that returned 0 has changed nothing and is no link
+  -- a `bvm_try_resume_unchecked` or `bvm_try_yield_unchecked` that returned 1; one that returned 0 has changed nothing and is no link
   bvm-switch : (o : Op) → Link
   other-fuel : (fuel : List ℕ) → Link
 
@@ -36,7 +36,7 @@ pub data Link : Type 0 where
 abbrev pub after : Host → Link → Host
 after h (bvm-set-up given xs) = setUpIn h given xs .host
 after h (bvm-call ws xs) = callIn h (opOf ws) xs .host
-after h (bvm-kept ws xs) = keptIn h (opOf ws) xs .host
+after h (bvm-call-unchecked ws xs) = keptIn h (opOf ws) xs .host
 after h (bvm-grant n xs) = host (h .words) (h .machine) (callIn h (Read.Is (Op.Grant n)) xs .host .fuel)
 after h (bvm-run cs xs) = runHost h cs xs .host
 -- (hot/specs/Switch.antt: Switched.done, whose equation has this host on its right side, whatever the answer's words)
@@ -51,7 +51,7 @@ afterAll h (l ∷ ls) = afterAll (after h l) ls
 abbrev pub Fits : Host → Link → Type 0
 Fits h (bvm-set-up given xs) = 8 ≤ length xs
 Fits h (bvm-call ws xs) = (each isWord ws ≡ true) × (8 ≤ length xs)
-Fits h (bvm-kept ws xs) = (each isWord ws ≡ true) × (8 ≤ length xs)
+Fits h (bvm-call-unchecked ws xs) = (each isWord ws ≡ true) × (8 ≤ length xs)
 Fits h (bvm-grant n xs) = (isWord n ≡ true) × (8 ≤ length xs)
 Fits h (bvm-run cs xs) = (each isWord cs ≡ true) × (countOf (length cs) * 8 ≤ length xs)
 Fits h (bvm-switch o) = typed o ≡ true
@@ -65,7 +65,7 @@ AllFit h (l ∷ ls) = Fits h l × AllFit (after h l) ls
 pub data Is : Link → List (Turn Call) → Type 0 where
   a-set-up : (given xs : List ℕ) → Is (bvm-set-up given xs) (calls (SetUp given) ∷ [])
   a-call : (ws xs : List ℕ) (ks : List Call) → Calls (opOf ws ∷ []) ks → Is (bvm-call ws xs) (map calls ks)
-  a-kept : (ws xs : List ℕ) (ks : List Call) → Calls (opOf ws ∷ []) ks → Is (bvm-kept ws xs) (map calls ks)
+  a-call-unchecked : (ws xs : List ℕ) (ks : List Call) → Calls (opOf ws ∷ []) ks → Is (bvm-call-unchecked ws xs) (map calls ks)
   a-grant : (n : ℕ) (xs : List ℕ) (o : Operation) → o .op ≡ Op.Grant n → Is (bvm-grant n xs) (calls (Do o) ∷ [])
   a-run : (cs xs : List ℕ) (ks : List Call) → Calls (callsIn (countOf (length cs)) cs) ks → Is (bvm-run cs xs) (map calls ks)
   a-switch : (o : Op) (p : Operation) → p .op ≡ o → Is (bvm-switch o) (calls (Do p) ∷ [])

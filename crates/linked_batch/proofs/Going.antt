@@ -17,8 +17,7 @@ use Rattle.memory_world.proofs.Does.{SameLengths}
 use Rattle.memory_step.specs.Step.{State, isSound}
 use Rattle.outer_run.specs.Run.{doWords, countOf, readIn}
 use Rattle.outer_run.proofs.Along.{Along, along-start, along-more, along-end}
-use Rattle.outer_run.proofs.Ended.{ran}
-use Rattle.linked_calls.specs.Words.{machineIn, fuelIn, fuelWords}
+use Rattle.linked_calls.specs.Words.{fuelWords}
 use Rattle.linked_calls.specs.Host.{Host, host, stateOf, tested, oneOr, gave, over, runHost}
 use Rattle.linked_calls.proofs.Hosts as Tested
 use Rattle.linked_calls.proofs.Others.{run-done}
@@ -62,7 +61,7 @@ module _ (h₀ : Host) (cs xs₀ : List ℕ) (n : ℕ) where
   sizes = sizesOf (setupOf (h₀ .words .setup))
 
   pub record Going (h : Host) (xs : List ℕ) (i : ℕ) : Type 0 where
-    pub along : Along true sizes cs xs₀ n (stateOf h₀) (stateOf h) xs i
+    pub along : Along sizes cs xs₀ n (stateOf h₀) (stateOf h) xs i
     pub written : h ≡ over h₀ (stateOf h)
     pub sound : tested h ≡ true
     pub machine : length (h .machine) ≡ length (h₀ .machine)
@@ -75,8 +74,8 @@ module _ (h₀ : Host) (cs xs₀ : List ℕ) (n : ℕ) where
       let q = k .fuelled in
       record {
         along =
-            along-start true sizes cs xs₀ n (stateOf h₀)
-            (record { fits = record { known = sym (Tested.sound h₀ (b .sound)); sizes = λ z. refl }; calls = b .calls; room = b .room });
+            along-start sizes cs xs₀ n (stateOf h₀)
+            (record { fits = record { sound = Tested.sound h₀ (b .sound); sizes = refl }; calls = b .calls; room = b .room });
         written = λ j. host (h₀ .words) (p j) (q j);
         sound = b .sound;
         machine = refl;
@@ -92,9 +91,9 @@ module _ (h₀ : Host) (cs xs₀ : List ℕ) (n : ℕ) where
         let ws : h′ .words ≡ d .state .words = ap (λ (k : Host). k .words) (o .host) in
         record {
           along =
-              subst (λ s. Along true sizes cs xs₀ n (stateOf h₀) s xs′ (i + 1)) (sym at)
-              (along-more true sizes cs xs₀ n (stateOf h₀) (stateOf h) xs i (g .along) t room d xs′
-              (record { is = refl; again = sym (Tested.sound h′ (o .sound)) ∙ ap isSound at }) (o .answers)
+              subst (λ s. Along sizes cs xs₀ n (stateOf h₀) s xs′ (i + 1)) (sym at)
+              (along-more sizes cs xs₀ n (stateOf h₀) (stateOf h) xs i (g .along) t room d xs′
+              (record { is = refl; again = ap isSound (sym at) ∙ Tested.sound h′ (o .sound) }) (o .answers)
               (subst (λ M. SameLengths (h .words) M) ws same) (ap (λ (M : Lent). M .setup) (sym ws) ∙ us) long);
           written = o .host ∙ ap (λ (k : Host). over k (d .state)) (g .written) ∙ over-over h₀ (stateOf h) (d .state) ∙ ap (over h₀) (sym at);
           sound = o .sound;
@@ -103,12 +102,11 @@ module _ (h₀ : Host) (cs xs₀ : List ℕ) (n : ℕ) where
         }
 
     pub going-end : n ≤ i → Done h₀ cs xs₀ n h xs
-    going-end w = record { listed = along-end true sizes cs xs₀ n (stateOf h₀) (stateOf h) xs i w (g .along); written = g .written }
+    going-end w = record { listed = along-end sizes cs xs₀ n (stateOf h₀) (stateOf h) xs i w (g .along); written = g .written }
 
   -- ---- all of it is what a run leaves
 
   pub batch-done : tested h₀ ≡ true → n ≡ countOf (length cs) → n * 8 ≤ length xs₀ → (h′ : Host) (xs′ : List ℕ) → Done h₀ cs xs₀ n h′ xs′ → gave h′ xs′ 0 ≡ runHost h₀ cs xs₀
   batch-done e k room h′ xs′ d =
-      run-done h₀ cs xs₀ n k room true (sym e) refl (machineIn (h₀ .machine)) (fuelIn (h₀ .fuel)) refl refl (h′ .words) (machineIn (h′ .machine)) (fuelIn (h′ .fuel)) (h′ .machine) (h′ .fuel) xs′ 0
-      (ran (stateOf h₀) cs xs₀ n k room true (sym (Tested.sound h₀ e)) (stateOf h′) xs′ 0 (sym (pick-true 0 11)) (d .listed))
+      run-done h₀ cs xs₀ n k room true (sym e) refl (stateOf h₀) (stateOf h′) refl (h′ .machine) (h′ .fuel) xs′ (d .listed)
       (ap (λ (z : Host). z .machine) (d .written)) (ap (λ (z : Host). z .fuel) (d .written))

@@ -21,6 +21,7 @@ use Rattle.machine_step.proofs.InRange as InRange
 use Rattle.machine_step.proofs.InRange.{word}
 use Rattle.memory_calls.specs.Call.{six, opOf, opWords}
 use Rattle.memory_calls.specs.Answer.{answerWords}
+use Rattle.memory_calls.specs.declared.call.Gate.{Gate}
 use Rattle.memory_calls.specs.declared.call.Read.{Read}
 use Rattle.memory_calls.proofs.Back.{read-back}
 use Rattle.memory_calls.proofs.Reading.{as-six, other-length}
@@ -52,7 +53,7 @@ yield-typed pc dst src a b d =
 
 -- ---- the words at place i
 
-pub no-call : (cs : List ℕ) (i : ℕ) → i * 6 ≤ length cs → length cs - i * 6 < 6 → Read.Not Fault.BadOperand ≡ readIn cs i
+pub no-call : (cs : List ℕ) (i : ℕ) → i * 6 ≤ length cs → length cs - i * 6 < 6 → Read.Not Gate.Operand ≡ readIn cs i
 no-call cs i w h =
     let k = length-drop (i * 6) cs in
     let l : length (chunkAt 6 cs i) ≡ length (drop (i * 6) cs) = ap length (take-all 6 (drop (i * 6) cs) (omega arith)) in
@@ -80,7 +81,7 @@ module _ (h : Host) (e : tested h ≡ true) where
       let k : 8 ≤ 8 = omega arith in
       ap (λ (g : Gave). tested (g .host)) (library .kept h (opOf ws) blank e k) ∙ library .called h ws blank w e
 
-  -- .. that `bvm_kept` did, of which the answer stands in its part
+  -- .. that `bvm_call_unchecked` did, of which the answer stands in its part
   pub kept-one : (ws : List ℕ) → each isWord ws ≡ true → (xs : List ℕ) (i : ℕ) → i * 8 + 8 ≤ length xs → (h′ : Host) (p′ : List ℕ) (n : ℕ)
       → gave h′ p′ n ≡ keptIn h (opOf ws) (take (i * 8 + 8 - i * 8) (drop (i * 8) xs))
       → One h (opOf ws) xs i h′ (take (i * 8) xs ++ (p′ ++ drop (i * 8 + 8 - i * 8) (drop (i * 8) xs)))
@@ -100,7 +101,7 @@ module _ (h : Host) (e : tested h ≡ true) where
       record { host = is; answers = put ∙ ap (putChunk 8 xs i) said; sound = ap tested is ∙ passes-again (opWords o) w }
 
   -- .. that is none
-  pub no-one : (xs xs′ : List ℕ) (i : ℕ) (r : Read) → Read.Not Fault.BadOperand ≡ r → xs′ ≡ putChunk 8 xs i (answerWords (Answer.Refused Fault.BadOperand)) → One h r xs i h xs′
+  pub no-one : (xs xs′ : List ℕ) (i : ℕ) (r : Read) → Read.Not Gate.Operand ≡ r → xs′ ≡ putChunk 8 xs i (answerWords (Answer.Refused Fault.BadOperand)) → One h r xs i h xs′
   no-one xs xs′ i r n put =
       let k = holds h e 0 (omega arith) in
       let p = k .numbers in

@@ -30,7 +30,7 @@ pub record OneFits (h : Host) (cs xs : List ℕ) (i : ℕ) : Type 0 where
   pub put : PutFits h xs i
   pub call : i * 6 ≤ length cs
 
--- what `bvm_kept` leaves (boundary: keptIn), with the answer at its place; the machine is sound again
+-- what `bvm_call_unchecked` leaves (boundary: keptIn), with the answer at its place; the machine is sound again
 pub record One (h : Host) (r : Read) (xs : List ℕ) (i : ℕ) (h′ : Host) (xs′ : List ℕ) : Type 0 where
   pub host : h′ ≡ over h (doWords (stateOf h) r .state)
   pub answers : xs′ ≡ putChunk 8 xs i (answerWords (doWords (stateOf h) r .answer))

@@ -75,9 +75,6 @@ pub extern "C" fn bvm_batch(
         (atEntry machine) (atEntry fuel)) (now (calls .entry)) (atEntry answers) ⌝ }
 {
     let n = count(calls.len());
-    if answers.len() / 8 < n {
-        return 14;
-    }
     let ok = bvm_sound(
         stack,
         frames,
@@ -91,6 +88,12 @@ pub extern "C" fn bvm_batch(
         machine,
         fuel,
     );
+    if answers.len() / 8 < n {
+        if ok == 0 {
+            return 11;
+        }
+        return 14;
+    }
     if ok == 0 {
         refuse_list(answers, n);
         return 11;

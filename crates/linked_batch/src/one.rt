@@ -12,7 +12,8 @@ ghost use Rattle.linked_calls.specs.Host.{host};
 ghost use Rattle.linked_switch.specs.Went.{goesOn};
 ghost use Rattle.linked_batch.specs.Batch.{PutFits, SwitchFits, Goes, OneFits, One};
 use heap::fault::Fault;
-use linked_calls::call::bvm_kept;
+use linked_calls::call::bvm_call_unchecked;
+use linked_calls::numbers::FUEL;
 use linked_switch::answer::goes_on;
 use linked_switch::enters::Enters;
 use linked_switch::enters::may_enter;
@@ -71,7 +72,7 @@ fn general_at(
     let call = [n, a, b, c, d, e];
     let at = i * 8;
     let end = at + 8;
-    bvm_kept(
+    bvm_call_unchecked(
         stack,
         frames,
         chain,
@@ -113,7 +114,7 @@ fn resume_call(
         (opOf (six 6 pc dst c src 0)) (now (answers .entry)) i
         (host (nine stack frames chain slots «saved_stack» «saved_frames» ready finalize setup atExit) (atExit machine) (atExit fuel)) (now (answers .exit)) ⌝ }
 {
-    match may_enter(stack, frames, slots, machine, fuel[0], dst, c, src) {
+    match may_enter(stack, frames, slots, machine, fuel[FUEL], dst, c, src) {
         Enters::At(k, v) => {
             resume_at(
                 stack,
@@ -181,7 +182,7 @@ fn yield_call(
         (opOf (six 3 pc dst src 0 0)) (now (answers .entry)) i
         (host (nine stack frames chain slots «saved_stack» «saved_frames» ready finalize setup atExit) (atExit machine) (atExit fuel)) (now (answers .exit)) ⌝ }
 {
-    match may_leave(frames, chain, slots, machine, fuel[0], dst, src) {
+    match may_leave(frames, chain, slots, machine, fuel[FUEL], dst, src) {
         Sleeper::At(k, key, largest) => {
             yield_at(
                 stack,

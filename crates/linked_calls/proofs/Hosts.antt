@@ -23,10 +23,10 @@ use Rattle.memory_world.specs.Decode.{setupOf}
 use Rattle.memory_calls.specs.Answer.{answerWords}
 use Rattle.memory_calls.specs.declared.call.Read.{Read}
 use Rattle.memory_step.specs.Step.{State, Left, isSound}
-use Rattle.outer_call.specs.State.{state, gives}
-use Rattle.outer_run.specs.Run.{doWords, ReadFits, Reads}
+use Rattle.outer_call.specs.State.{state, gives, SoundFits}
+use Rattle.outer_run.specs.Run.{doWords, Reads}
 use Rattle.linked_calls.specs.Words.{machineIn, machineWords, sizesIn, fuelIn, fuelWords}
-use Rattle.linked_calls.specs.Host.{numbersOk, sameCosts, sameSizes, sizesHeld, Host, host, stateOf, tested, Gave, gave, tells, over, keptIn, doIn, callIn}
+use Rattle.linked_calls.specs.Host.{numbersOk, sameCosts, sameSizes, sizesHeld, Host, host, stateOf, tested, Gave, gave, tells, over, keptIn, doIn, short, callIn}
 
 -- sizes that are the same
 and-same : (p : Bool) (x y : ℕ) → (p && eqb x y) ≡ true → (p ≡ true) × (x ≡ y)
@@ -117,13 +117,12 @@ module _ (h : Host) (e : tested h ≡ true) where
   sizes = sizes-same _ _ (and-right (nums && isSound (stateOf h)) held e)
 
   -- what is read from its words may be called
-  pub may-read : (m : Machine) (f : Fuel) (l : Sizes) → m ≡ machineIn (h .machine) → f ≡ fuelIn (h .fuel) → l ≡ sizesIn (h .machine) → ReadFits true l (state (h .words) m f)
-  may-read m f l a b c =
-      record { known = sym sound ∙ sym (λ i. isSound (state (h .words) (a i) (b i))); sizes = λ z. c ∙ sizes }
+  pub may-read : (m : Machine) (f : Fuel) (l : Sizes) → m ≡ machineIn (h .machine) → f ≡ fuelIn (h .fuel) → l ≡ sizesIn (h .machine) → SoundFits l (state (h .words) m f)
+  may-read m f l a b c = record { sound = (λ i. isSound (state (h .words) (a i) (b i))) ∙ sound; sizes = c ∙ sizes }
 
 -- what a call leaves, in words
 pub left-in : (h : Host) (r : Read) (xs : List ℕ) (m : Machine) (f : Fuel) (k : Read) (M′ : Lent) (d : Called) (ms′ fs′ xs′ : List ℕ) (n : ℕ)
-    → m ≡ machineIn (h .machine) → f ≡ fuelIn (h .fuel) → k ≡ r → Reads true (state (h .words) m f) k (gives M′ d)
+    → m ≡ machineIn (h .machine) → f ≡ fuelIn (h .fuel) → k ≡ r → Reads (state (h .words) m f) k (gives M′ d)
     → ms′ ≡ splice (h .machine) 0 (machineWords (d .machine)) → fs′ ≡ splice (h .fuel) 0 (fuelWords (d .fuel)) → xs′ ≡ splice xs 0 (answerWords (d .answer)) → n ≡ numberOf (d .answer)
     → gave (host M′ ms′ fs′) xs′ n ≡ keptIn h r xs
 left-in h r xs m f k M′ d ms′ fs′ xs′ n a b c did e₁ e₂ e₃ e₄ =
@@ -143,8 +142,8 @@ module _ (h : Host) (r : Read) (xs : List ℕ) (g : Gave) where
   pub called : 8 ≤ length xs → (ok : Bool) → ok ≡ tested h → g ≡ doIn ok h r xs → g ≡ callIn h r xs
   unfolding callIn
   called w ok e q =
-      q ∙ ap (λ b. doIn b h r xs) e ∙ sym (ap (λ b. pick b (doIn (tested h) h r xs) (gave h xs 14)) (le-leb 8 (length xs) w) ∙ pick-true _ _)
+      q ∙ ap (λ b. doIn b h r xs) e ∙ sym (ap (λ b. pick b (doIn (tested h) h r xs) (gave h xs (short (tested h)))) (le-leb 8 (length xs) w) ∙ pick-true _ _)
 
-  pub too-short : length xs < 8 → g ≡ gave h xs 14 → g ≡ callIn h r xs
+  pub too-short : length xs < 8 → g ≡ gave h xs (short (tested h)) → g ≡ callIn h r xs
   unfolding callIn
-  too-short w q = q ∙ sym (ap (λ b. pick b (doIn (tested h) h r xs) (gave h xs 14)) (lt-leb 8 (length xs) w) ∙ pick-false _ _)
+  too-short w q = q ∙ sym (ap (λ b. pick b (doIn (tested h) h r xs) (gave h xs (short (tested h)))) (lt-leb 8 (length xs) w) ∙ pick-false _ _)

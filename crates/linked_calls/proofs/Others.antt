@@ -2,7 +2,7 @@
 use mathlib.Core.Path.{_≡_, refl, sym, ap, ap₂, _∙_, subst}
 use mathlib.Core.Bool.{Bool, true, false, _&&_}
 use mathlib.Core.List.{List, [], _∷_}
-use Prim.Native.Nat.{ℕ, _*_, _/_, _≤_, _<_}
+use Prim.Native.Nat.{ℕ, _-_, _*_, _/_, _≤_, _<_}
 use native.Mathlib.Omega.{arith}
 use lib.ListN.{length, set}
 use lib.Dec.{leb}
@@ -11,38 +11,37 @@ use Rattle.lists.specs.Pick.{pick, pick-true, pick-false}
 use Rattle.lists.specs.Parts.{splice}
 use Rattle.heap.specs.declared.fault.Fault.{Fault}
 use Rattle.model.specs.Answer.{numberOf}
-use Rattle.model.specs.Added.{grant}
+use Rattle.model.specs.Added.{grant, registers}
 use Rattle.model.specs.Frames.{topBase}
 use Rattle.model.specs.declared.call.Op.{Op}
 use Rattle.model.specs.declared.call.Answer.{Answer}
 use Rattle.model.specs.declared.machine.Fuel.{Fuel}
 use Rattle.memory_tables.proofs.Padded.{sets-splice}
-use Rattle.memory_world.specs.Memory.{Lent, Beside}
+use Rattle.memory_world.specs.Memory.{Lent}
 use Rattle.memory_world.specs.Contract.{Gives, any, with}
 use Rattle.memory_world.specs.declared.machine.Machine.{Machine}
 use Rattle.memory_world.specs.declared.machine.Sizes.{Sizes}
-use Rattle.memory_world.specs.Words.{sizesOf}
-use Rattle.memory_world.specs.Decode.{setupOf, worldOf}
+use Rattle.memory_world.specs.Words.{Lengths, sizesOf}
+use Rattle.memory_world.specs.Decode.{setupOf}
 use Rattle.memory_world.specs.Sizes.{SetupFits}
 use Rattle.machine_state.specs.declared.called.Called.{Called}
-use Rattle.machine_added.specs.Look.{LookFits, endOn}
+use Rattle.machine_added.specs.Look.{endOn}
 use Rattle.machine_added.specs.declared.look.Span.{Span}
 use Rattle.machine_added.specs.declared.fuel.GrantDid.{GrantDid}
 use Rattle.memory_calls.specs.Answer.{answerWords}
 use Rattle.memory_calls.specs.declared.call.Read.{Read}
-use Rattle.memory_step.specs.Step.{State, Left, refuses, isSound, decoded, stepWords, setUpOk, setUpWords}
+use Rattle.memory_step.specs.Step.{State, Left, refuses, isSound, decoded, looked, stepWords, setUpOk, setUpWords}
 use Rattle.outer_call.specs.State.{state, gives}
 use Rattle.outer_call.specs.SetUp.{begins}
-use Rattle.outer_call.specs.Look.{Placed}
 use Rattle.outer_call.specs.Grant.{grantWords}
 use Rattle.outer_call.proofs.Stepping.{stands}
-use Rattle.outer_call.proofs.Seen.{look-fits}
+use Rattle.outer_call.proofs.Seen.{within, whole, as-many}
 use Rattle.outer_call.proofs.Granted as Law
 use Rattle.outer_call.proofs.Begun.{given-fits, is-held, accepts, refuses-it}
-use Rattle.outer_run.specs.Run.{RunLeft, countOf, written, refusals, runIn}
+use Rattle.outer_run.specs.Run.{runWords, countOf, callsIn, written, refusals, Listed}
 use Rattle.outer_run.proofs.Written.{few}
 use Rattle.linked_calls.specs.Words.{machineIn, machineWords, sizesWords, fuelIn, fuelWords}
-use Rattle.linked_calls.specs.Host.{Host, host, stateOf, tested, Gave, gave, tells, over, keptIn, doIn, callIn, Granted, Looked, saw, lookIn, freshIn, beginIn, setUpIn, runHost}
+use Rattle.linked_calls.specs.Host.{Host, host, stateOf, tested, Gave, gave, tells, over, keptIn, doIn, short, callIn, Granted, Looked, saw, lookIn, Spans, freshIn, beginIn, long, LongAs, setUpIn, runHost}
 use Rattle.linked_calls.proofs.Hosts.{sound, done, refused, called, too-short}
 
 -- ---- a grant
@@ -55,8 +54,9 @@ module _ (h : Host) (n : ℕ) (xs : List ℕ) where
   abbrev read : Read
   read = Read.Is (Op.Grant n)
 
-  pub grant-short : length xs < 8 → Granted h n xs (h .fuel) xs 14
-  grant-short w = granted-by h n xs (gave h xs 14) (too-short h read xs (gave h xs 14) w refl) (h .fuel) xs 14 refl refl refl
+  pub grant-short : length xs < 8 → (ok : Bool) → ok ≡ tested h → (r : ℕ) → r ≡ short ok → Granted h n xs (h .fuel) xs r
+  grant-short w ok known r e =
+      let g = gave h xs (short (tested h)) in granted-by h n xs g (too-short h read xs g w refl) (h .fuel) xs r refl refl (e ∙ ap short known)
 
   module _ (room : 8 ≤ length xs) (ok : Bool) (known : ok ≡ tested h) where
     pub grant-refused : ok ≡ false → (xs′ : List ℕ) (r : ℕ) → xs′ ≡ splice xs 0 (answerWords (Answer.Refused Fault.Unsound)) → r ≡ numberOf (Answer.Refused Fault.Unsound) → Granted h n xs (h .fuel) xs′ r
@@ -86,37 +86,56 @@ module _ (h : Host) (zs : List ℕ) where
   abbrev tried : Bool → Looked
   tried b = pick b (saw (splice zs 0 top) 0) (saw (splice zs 0 (0 ∷ 0 ∷ [])) 11)
 
-  pub look-short : length zs < 2 → saw zs 14 ≡ lookIn h zs
+  abbrev cut : Looked
+  cut = saw zs (short (tested h))
+
+  pub look-short : length zs < 2 → (ok : Bool) → ok ≡ tested h → (r : ℕ) → r ≡ short ok → saw zs r ≡ lookIn h zs
   unfolding lookIn
-  look-short e = sym (ap (λ b. pick b (tried (tested h)) (saw zs 14)) (lt-leb 2 (length zs) e) ∙ pick-false _ _)
+  look-short e ok known r q = ap (saw zs) (q ∙ ap short known) ∙ sym (ap (λ b. pick b (tried (tested h)) cut) (lt-leb 2 (length zs) e) ∙ pick-false _ _)
 
   look-long : 2 ≤ length zs → tried (tested h) ≡ lookIn h zs
   unfolding lookIn
-  look-long e = sym (ap (λ b. pick b (tried (tested h)) (saw zs 14)) (le-leb 2 (length zs) e) ∙ pick-true _ _)
+  look-long e = sym (ap (λ b. pick b (tried (tested h)) cut) (le-leb 2 (length zs) e) ∙ pick-true _ _)
 
-  module _ (room : 2 ≤ length zs) (ok : Bool) (known : ok ≡ tested h) (s : Span) (p : Placed ok (h .words .frames) (machineIn (h .machine)) s) where
-    stored : set (set zs 0 (s .start)) 1 (s .end) ≡ splice zs 0 (s .start ∷ s .end ∷ [])
-    stored = sets-splice zs (s .start ∷ s .end ∷ []) 0 room
+  module _ (room : 2 ≤ length zs) (ok : Bool) (known : ok ≡ tested h) where
+    stored : (a b : ℕ) → set (set zs 0 a) 1 b ≡ splice zs 0 (a ∷ b ∷ [])
+    stored a b = sets-splice zs (a ∷ b ∷ []) 0 room
 
-    pub looked-at : ok ≡ true → saw (set (set zs 0 (s .start)) 1 (s .end)) 0 ≡ lookIn h zs
-    looked-at e =
-        let M = h .words in
-        let m = machineIn (h .machine) in
-        let f = fuelIn (h .fuel) in
-        let k = stands M m f (sound h (sym known ∙ e)) in
-        let w = worldOf M m f in
-        let b : Beside = record { words = M; fuel = f } in
-        let d = p .sees e (sizesOf (w .setup)) w b (k .rep) in
+    pub looked-at : ok ≡ true → (s : Span) → Spans h s → saw (set (set zs 0 (s .start)) 1 (s .end)) 0 ≡ lookIn h zs
+    looked-at e s d =
         let x = d .start in
         let y = d .end in
-        ap (λ (z : List ℕ). saw z 0) (stored ∙ (λ i. splice zs 0 (x i ∷ y i ∷ [])))
+        ap (λ (z : List ℕ). saw z 0) (stored (s .start) (s .end) ∙ (λ i. splice zs 0 (x i ∷ y i ∷ [])))
         ∙ sym (ap tried (sym known ∙ e) ∙ pick-true _ _) ∙ look-long room
 
-    pub not-looked : ok ≡ false → saw (set (set zs 0 (s .start)) 1 (s .end)) 11 ≡ lookIn h zs
-    not-looked e =
-        let q = p .empty e in
-        ap (λ (z : List ℕ). saw z 11) (stored ∙ ap (λ (x : Span). splice zs 0 (x .start ∷ x .end ∷ [])) q)
-        ∙ sym (ap tried (sym known ∙ e) ∙ pick-false _ _) ∙ look-long room
+    pub not-looked : ok ≡ false → saw (set (set zs 0 0) 1 0) 11 ≡ lookIn h zs
+    not-looked e = ap (λ (z : List ℕ). saw z 11) (stored 0 0) ∙ sym (ap tried (sym known ∙ e) ∙ pick-false _ _) ∙ look-long room
+
+-- of a part that is what a look hands back, by its length
+module _ (h : Host) (e : tested h ≡ true) (m : Machine) (f : Fuel) (is : m ≡ machineIn (h .machine)) (fuelled : f ≡ fuelIn (h .fuel)) where
+  abbrev at : State
+  at = stateOf h
+
+  look-sound : isSound (state (h .words) m f) ≡ true
+  look-sound = (λ i. isSound (state (h .words) (is i) (fuelled i))) ∙ sound h e
+
+  high : m .height ≡ endOn (decoded at .frames) (decoded at .stack)
+  high =
+      let k = stands (h .words) (at .machine) (at .fuel) (sound h e) in
+      ap (λ (x : Machine). x .height) is ∙ k .rep .stack .count ∙ whole (decoded at) (k .sound)
+
+  pub may-see : true ≡ isSound (state (h .words) m f)
+  may-see = sym look-sound
+
+  pub spans : (xs : List ℕ) → xs ≡ looked (state (h .words) m f)
+      → (length xs ≤ m .height) × Spans h (record { start = m .height - length xs; end = m .height })
+  spans xs q =
+      let w = decoded at in
+      let k = stands (h .words) (at .machine) (at .fuel) (sound h e) in
+      let p : xs ≡ registers w = q ∙ (λ i. looked (state (h .words) (is i) (fuelled i))) ∙ ap (λ b. pick b (registers w) []) (sound h e) ∙ pick-true _ _ in
+      let l : length xs ≡ endOn (w .frames) (w .stack) - topBase (w .frames) = ap length p ∙ as-many w in
+      let b = within w (k .sound) in
+      (omega (arith, l, b, high), record { start = omega (arith, l, b, high); end = high })
 
 -- ---- a set-up
 
@@ -187,18 +206,18 @@ module _ (h : Host) (given xs : List ℕ) where
   abbrev roomy : Bool → Gave
   roomy t = pick t (beginIn h given xs) (tells h (Answer.Refused Fault.Unsound) xs)
 
-  abbrev both-long : Bool
-  both-long = leb 25 (length (h .machine)) && leb 4 (length (h .fuel))
+  abbrev none-told : Gave
+  none-told = gave h xs (short (long h && ok-words))
 
-  pub set-up-short : length xs < 8 → gave h xs 14 ≡ setUpIn h given xs
+  pub set-up-short : length xs < 8 → (b : Bool) → b ≡ (long h && ok-words) → (r : ℕ) → r ≡ short b → gave h xs r ≡ setUpIn h given xs
   unfolding setUpIn
-  set-up-short e = sym (ap (λ t. pick t (roomy both-long) (gave h xs 14)) (lt-leb 8 (length xs) e) ∙ pick-false _ _)
+  set-up-short e b k r q = ap (gave h xs) (q ∙ ap short k) ∙ sym (ap (λ t. pick t (roomy (long h)) none-told) (lt-leb 8 (length xs) e) ∙ pick-false _ _)
 
-  long-answer : 8 ≤ length xs → roomy both-long ≡ setUpIn h given xs
+  long-answer : 8 ≤ length xs → roomy (long h) ≡ setUpIn h given xs
   unfolding setUpIn
-  long-answer e = sym (ap (λ t. pick t (roomy both-long) (gave h xs 14)) (le-leb 8 (length xs) e) ∙ pick-true _ _)
+  long-answer e = sym (ap (λ t. pick t (roomy (long h)) none-told) (le-leb 8 (length xs) e) ∙ pick-true _ _)
 
-  no-room : 8 ≤ length xs → both-long ≡ false → (xs′ : List ℕ) (r : ℕ) → xs′ ≡ splice xs 0 (answerWords (Answer.Refused Fault.Unsound)) → r ≡ numberOf (Answer.Refused Fault.Unsound)
+  no-room : 8 ≤ length xs → long h ≡ false → (xs′ : List ℕ) (r : ℕ) → xs′ ≡ splice xs 0 (answerWords (Answer.Refused Fault.Unsound)) → r ≡ numberOf (Answer.Refused Fault.Unsound)
       → gave h xs′ r ≡ setUpIn h given xs
   no-room w e xs′ r p q = (λ i. gave h (p i) (q i)) ∙ sym (ap roomy e ∙ pick-false _ _) ∙ long-answer w
 
@@ -213,6 +232,26 @@ module _ (h : Host) (given xs : List ℕ) where
   pub set-up-made : 8 ≤ length xs → 25 ≤ length (h .machine) → 4 ≤ length (h .fuel) → (g : Gave) → g ≡ beginIn h given xs → g ≡ setUpIn h given xs
   set-up-made w k e g q = q ∙ sym (ap roomy (ap₂ (λ t u. t && u) (le-leb 25 (length (h .machine)) k) (le-leb 4 (length (h .fuel)) e)) ∙ pick-true _ _) ∙ long-answer w
 
+-- whether it is accepted, by the lengths
+pub no-machine : (h : Host) (given : List ℕ) (n : Lengths) (m f : ℕ) → LongAs h n m f → m < 25 → false ≡ (long h && setUpOk given (h .words))
+no-machine h given n m f l e =
+    let k : length (h .machine) < 25 = subst (λ i. i < 25) (sym (l .machine)) e in
+    sym (ap (λ b. b && leb 4 (length (h .fuel)) && setUpOk given (h .words)) (lt-leb 25 (length (h .machine)) k))
+
+module _ (h : Host) (given : List ℕ) (n : Lengths) (m f : ℕ) (l : LongAs h n m f) (w : 25 ≤ m) where
+  wide : 25 ≤ length (h .machine)
+  wide = subst (λ i. 25 ≤ i) (sym (l .machine)) w
+
+  pub no-fuel : f < 4 → false ≡ (long h && setUpOk given (h .words))
+  no-fuel e =
+      let k : length (h .fuel) < 4 = subst (λ i. i < 4) (sym (l .fuel)) e in
+      sym (ap₂ (λ a b. a && b && setUpOk given (h .words)) (le-leb 25 (length (h .machine)) wide) (lt-leb 4 (length (h .fuel)) k))
+
+  pub long-all : 4 ≤ f → (b : Bool) → b ≡ setUpOk given (h .words) → b ≡ (long h && setUpOk given (h .words))
+  long-all e b q =
+      let k : 4 ≤ length (h .fuel) = subst (λ i. 4 ≤ i) (sym (l .fuel)) e in
+      q ∙ sym (ap₂ (λ a c. a && c && setUpOk given (h .words)) (le-leb 25 (length (h .machine)) wide) (le-leb 4 (length (h .fuel)) k))
+
 -- ---- a run
 
 module _ (h : Host) (cs xs : List ℕ) where
@@ -220,25 +259,31 @@ module _ (h : Host) (cs xs : List ℕ) where
   n = countOf (length cs)
 
   abbrev ran : Bool → Gave
-  ran t = let u = runIn (stateOf h) cs xs in pick t (gave (over h (u .state)) (u .answers) (u .number)) (gave h (written xs 0 (refusals n)) 11)
+  ran t = let u = runWords (stateOf h) (callsIn n cs) in pick t (gave (over h (u .state)) (written xs 0 (u .answers)) 0) (gave h (written xs 0 (refusals n)) 11)
 
-  pub run-short : (k : ℕ) → k ≡ n → length xs / 8 < k → gave h xs 14 ≡ runHost h cs xs
+  abbrev not-ran : Gave
+  not-ran = gave h xs (short (tested h))
+
+  pub run-short : (k : ℕ) → k ≡ n → length xs / 8 < k → (ok : Bool) → ok ≡ tested h → (r : ℕ) → r ≡ short ok → gave h xs r ≡ runHost h cs xs
   unfolding runHost
-  run-short k e w = sym (ap (λ t. pick t (ran (tested h)) (gave h xs 14)) (sym (ap (λ z. leb (z * 8) (length xs)) e) ∙ few (length xs) k w) ∙ pick-false _ _)
+  run-short k e w ok known r q =
+      ap (gave h xs) (q ∙ ap short known)
+      ∙ sym (ap (λ t. pick t (ran (tested h)) not-ran) (sym (ap (λ z. leb (z * 8) (length xs)) e) ∙ few (length xs) k w) ∙ pick-false _ _)
 
   room-for : (k : ℕ) → k ≡ n → k * 8 ≤ length xs → ran (tested h) ≡ runHost h cs xs
   unfolding runHost
-  room-for k e w = sym (ap (λ t. pick t (ran (tested h)) (gave h xs 14)) (sym (ap (λ z. leb (z * 8) (length xs)) e) ∙ le-leb (k * 8) (length xs) w) ∙ pick-true _ _)
+  room-for k e w = sym (ap (λ t. pick t (ran (tested h)) not-ran) (sym (ap (λ z. leb (z * 8) (length xs)) e) ∙ le-leb (k * 8) (length xs) w) ∙ pick-true _ _)
 
   module _ (k : ℕ) (e : k ≡ n) (w : k * 8 ≤ length xs) (ok : Bool) (known : ok ≡ tested h) where
     pub run-refused : ok ≡ false → (xs′ : List ℕ) → xs′ ≡ written xs 0 (refusals k) → gave h xs′ 11 ≡ runHost h cs xs
     run-refused z xs′ p = ap (λ (y : List ℕ). gave h y 11) (p ∙ ap (λ j. written xs 0 (refusals j)) e) ∙ sym (ap ran (sym known ∙ z) ∙ pick-false _ _) ∙ room-for k e w
 
-    pub run-done : ok ≡ true → (m : Machine) (f : Fuel) → m ≡ machineIn (h .machine) → f ≡ fuelIn (h .fuel) → (M′ : Lent) (m′ : Machine) (f′ : Fuel) (ms′ fs′ xs′ : List ℕ) (r : ℕ)
-        → record { state = state M′ m′ f′; answers = xs′; number = r } ≡ runIn (state (h .words) m f) cs xs → ms′ ≡ splice (h .machine) 0 (machineWords m′) → fs′ ≡ splice (h .fuel) 0 (fuelWords f′)
-        → gave (host M′ ms′ fs′) xs′ r ≡ runHost h cs xs
-    run-done z m f a b M′ m′ f′ ms′ fs′ xs′ r did p q =
-        let u : record { state = state M′ m′ f′; answers = xs′; number = r } ≡ runIn (stateOf h) cs xs = did ∙ (λ i. runIn (state (h .words) (a i) (b i)) cs xs) in
-        (λ i. gave (host M′ (p i) (q i)) xs′ r)
-        ∙ ap (λ (x : RunLeft). gave (over h (x .state)) (x .answers) (x .number)) u
+    pub run-done : ok ≡ true → (s s′ : State) → s ≡ stateOf h → (ms′ fs′ xs′ : List ℕ) → Listed s cs xs k s′ xs′
+        → ms′ ≡ splice (h .machine) 0 (machineWords (s′ .machine)) → fs′ ≡ splice (h .fuel) 0 (fuelWords (s′ .fuel)) → gave (host (s′ .words) ms′ fs′) xs′ 0 ≡ runHost h cs xs
+    run-done z s s′ is ms′ fs′ xs′ did p q =
+        let d = subst (λ j. Listed (stateOf h) cs xs j s′ xs′) e (subst (λ (y : State). Listed y cs xs k s′ xs′) is did) in
+        let u = d .state in
+        let v = d .answers in
+        (λ i. gave (host (s′ .words) (p i) (q i)) xs′ 0)
+        ∙ (λ i. gave (over h (u i)) (v i) 0)
         ∙ sym (ap ran (sym known ∙ z) ∙ pick-true _ _) ∙ room-for k e w

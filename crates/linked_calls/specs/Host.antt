@@ -15,15 +15,16 @@ use Rattle.model.specs.declared.call.Op.{Op}
 use Rattle.model.specs.declared.call.Answer.{Answer}
 use Rattle.memory_world.specs.Memory.{Lent}
 use Rattle.memory_world.specs.declared.machine.Sizes.{Sizes}
-use Rattle.memory_world.specs.Words.{sizesOf}
+use Rattle.memory_world.specs.Words.{Lengths, lengthsOf, sizesOf}
 use Rattle.memory_world.specs.Decode.{setupOf}
 use Rattle.memory_world.specs.Sizes.{SetupFits}
 use Rattle.memory_calls.specs.Answer.{answerWords}
 use Rattle.memory_calls.specs.declared.call.Read.{Read}
-use Rattle.machine_added.specs.Look.{LookFits, endOn}
+use Rattle.machine_added.specs.Look.{endOn}
+use Rattle.machine_added.specs.declared.look.Span.{Span}
 use Rattle.memory_step.specs.Step.{State, isSound, decoded, setUpOk, setUpWords}
 use Rattle.outer_call.specs.State.{state}
-use Rattle.outer_run.specs.Run.{doWords, countOf, written, refusals, runIn}
+use Rattle.outer_run.specs.Run.{doWords, runWords, countOf, callsIn, written, refusals}
 use Rattle.linked_calls.specs.Words.{machineIn, machineWords, sizesIn, sizesWords, fuelIn, fuelWords}
 
 pub record Host : Type 0 where
@@ -90,9 +91,12 @@ keptIn h r xs = let d = doWords (stateOf h) r in tells (over h (d .state)) (d .a
 abbrev pub doIn : Bool → Host → Read → List ℕ → Gave
 doIn ok h r xs = pick ok (keptIn h r xs) (tells h (Answer.Refused Fault.Unsound) xs)
 
--- an answer that does not fit is 14, before anything else
+-- without room for the answer only a number is returned: 11 first, then 14
+abbrev pub short : Bool → ℕ
+short ok = pick ok 14 11
+
 unfoldable pub callIn : Host → Read → List ℕ → Gave
-callIn h r xs = pick (leb 8 (length xs)) (doIn (tested h) h r xs) (gave h xs 14)
+callIn h r xs = pick (leb 8 (length xs)) (doIn (tested h) h r xs) (gave h xs (short (tested h)))
 
 -- ---- a grant: the call, of which the fuel's words and the answer are written
 
@@ -115,7 +119,7 @@ lookIn h zs =
     let w = decoded (stateOf h) in
     pick (leb 2 (length zs))
     (pick (tested h) (saw (splice zs 0 (topBase (w .frames) ∷ endOn (w .frames) (w .stack) ∷ [])) 0) (saw (splice zs 0 (0 ∷ 0 ∷ [])) 11))
-    (saw zs 14)
+    (saw zs (short (tested h)))
 
 -- ---- a set-up, which does not test what was there
 
@@ -128,19 +132,25 @@ freshIn h given =
 abbrev pub beginIn : Host → List ℕ → List ℕ → Gave
 beginIn h given xs = pick (setUpOk given (h .words)) (tells (freshIn h given) Answer.Accepted xs) (tells h (Answer.Refused Fault.Unsound) xs)
 
+-- words enough for the numbers and the fuel
+abbrev pub long : Host → Bool
+long h = leb 25 (length (h .machine)) && leb 4 (length (h .fuel))
+
 unfoldable pub setUpIn : Host → List ℕ → List ℕ → Gave
 setUpIn h given xs =
     pick (leb 8 (length xs))
-    (pick (leb 25 (length (h .machine)) && leb 4 (length (h .fuel))) (beginIn h given xs) (tells h (Answer.Refused Fault.Unsound) xs))
-    (gave h xs 14)
+    (pick (long h) (beginIn h given xs) (tells h (Answer.Refused Fault.Unsound) xs))
+    (gave h xs (short (long h && setUpOk given (h .words))))
 
--- ---- a run: too few words for the answers is 14, and on a machine that is not sound each answer is 11
+-- ---- a run: on a machine that is not sound each answer is 11
 
 unfoldable pub runHost : Host → List ℕ → List ℕ → Gave
 runHost h cs xs =
     let n = countOf (length cs) in
-    let t = runIn (stateOf h) cs xs in
-    pick (leb (n * 8) (length xs)) (pick (tested h) (gave (over h (t .state)) (t .answers) (t .number)) (gave h (written xs 0 (refusals n)) 11)) (gave h xs 14)
+    let t = runWords (stateOf h) (callsIn n cs) in
+    pick (leb (n * 8) (length xs))
+    (pick (tested h) (gave (over h (t .state)) (written xs 0 (t .answers)) 0) (gave h (written xs 0 (refusals n)) 11))
+    (gave h xs (short (tested h)))
 
 -- ---- what the functions ask
 
@@ -156,9 +166,16 @@ pub record KeptFits (h : Host) (xs : List ℕ) : Type 0 where
   pub sound : tested h ≡ true
   pub room : 8 ≤ length xs
 
-pub record PlaceFits (ok : Bool) (ws ms : List ℕ) : Type 0 where
-  pub numbers : ok ≡ true → 25 ≤ length ms
-  pub frames : ok ≡ true → LookFits ws (machineIn ms)
+-- where the top frame's registers begin and end
+pub record Spans (h : Host) (s : Span) : Type 0 where
+  pub start : s .start ≡ topBase (decoded (stateOf h) .frames)
+  pub end : s .end ≡ endOn (decoded (stateOf h) .frames) (decoded (stateOf h) .stack)
+
+-- slices of such lengths
+pub record LongAs (h : Host) (n : Lengths) (m f : ℕ) : Type 0 where
+  pub words : lengthsOf (h .words) ≡ n
+  pub machine : length (h .machine) ≡ m
+  pub fuel : length (h .fuel) ≡ f
 
 pub record BeginFits (ms fs xs : List ℕ) : Type 0 where
   pub machine : 25 ≤ length ms

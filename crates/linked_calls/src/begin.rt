@@ -3,15 +3,31 @@ ghost use mathlib.Core.Path.{_≡_};
 ghost use Prim.Native.Nat.{_≤_};
 ghost use lib.ListN.{length};
 ghost use Rattle.lists.specs.Parts.{splice};
+ghost use mathlib.Core.Bool.{_&&_};
+ghost use Rattle.memory_step.specs.Step.{setUpOk};
+ghost use Rattle.outer_call.specs.SetUp.{lengths};
 ghost use Rattle.memory_world.specs.Contract.{atEntry, atExit};
 ghost use Rattle.outer_call.specs.State.{nine};
 ghost use Rattle.linked_calls.specs.Words.{sizesWords};
-ghost use Rattle.linked_calls.specs.Host.{host, gave, BeginFits, beginIn, setUpIn};
+ghost use Rattle.linked_calls.specs.Host.{Host, host, gave, long, LongAs, BeginFits, beginIn, setUpIn};
 use crate::call::tell;
+use crate::numbers::CORO_COST;
+use crate::numbers::DEPTH_LIMIT;
+use crate::numbers::ERROR_COST;
+use crate::numbers::FRAME_COST;
+use crate::numbers::INT_COST;
+use crate::numbers::ITER_COST;
+use crate::numbers::MEMORY;
+use crate::numbers::OBJECT_COST;
+use crate::numbers::ROW_WIDTH;
+use crate::numbers::ROWS;
+use crate::numbers::SLOTS;
+use crate::numbers::STACK_LIMIT;
 use crate::numbers::fuel_of;
 use crate::numbers::machine_of;
 use crate::numbers::put_fuel;
 use crate::numbers::put_machine;
+use crate::tested::short;
 use heap::fault::Fault;
 use memory_world::machine::Sizes;
 use model::call::Answer;
@@ -22,18 +38,18 @@ fn put_sizes(ws: &mut [u64], l: Sizes)
     ensures { λ _. ⌜ now (ws .exit) ≡ splice (now (ws .entry)) 13 (sizesWords l) ⌝ }
 {
     let c = l.costs;
-    ws[13] = l.depth as u64;
-    ws[14] = l.stack as u64;
-    ws[15] = l.rows as u64;
-    ws[16] = l.slots as u64;
-    ws[17] = l.memory;
-    ws[18] = l.width as u64;
-    ws[19] = c.frame;
-    ws[20] = c.coro;
-    ws[21] = c.object;
-    ws[22] = c.int;
-    ws[23] = c.error;
-    ws[24] = c.iter;
+    ws[DEPTH_LIMIT] = l.depth as u64;
+    ws[STACK_LIMIT] = l.stack as u64;
+    ws[ROWS] = l.rows as u64;
+    ws[SLOTS] = l.slots as u64;
+    ws[MEMORY] = l.memory;
+    ws[ROW_WIDTH] = l.width as u64;
+    ws[FRAME_COST] = c.frame;
+    ws[CORO_COST] = c.coro;
+    ws[OBJECT_COST] = c.object;
+    ws[INT_COST] = c.int;
+    ws[ERROR_COST] = c.error;
+    ws[ITER_COST] = c.iter;
 }
 
 // With room for the numbers, the fuel and the answer.
@@ -87,6 +103,43 @@ fn begin(
     n
 }
 
+// Whether a set-up of these words is accepted in slices of such lengths.
+fn accepts(
+    given: &[u64],
+    stack: usize,
+    frames: usize,
+    chain: usize,
+    slots: usize,
+    saved_stack: usize,
+    saved_frames: usize,
+    ready: usize,
+    finalize: usize,
+    setup: usize,
+    machine: usize,
+    fuel: usize,
+) -> bool
+    ensures { λ r. ⌜ ((h : Host) → LongAs h (lengths stack frames chain slots «saved_stack» «saved_frames» ready finalize setup) machine fuel → r ≡ (long h && setUpOk (now (given .entry)) (h .words))) ⌝ }
+{
+    if machine < 25 {
+        return false;
+    }
+    if fuel < 4 {
+        return false;
+    }
+    outer_call::set_up::allowed(
+        given,
+        stack,
+        frames,
+        chain,
+        slots,
+        saved_stack,
+        saved_frames,
+        ready,
+        finalize,
+        setup,
+    )
+}
+
 #[no_mangle]
 pub extern "C" fn bvm_set_up(
     stack: &mut [u64],
@@ -108,7 +161,21 @@ pub extern "C" fn bvm_set_up(
         (atEntry machine) (atEntry fuel)) (now (given .entry)) (atEntry answer) ⌝ }
 {
     if answer.len() < 8 {
-        return 14;
+        let ok = accepts(
+            given,
+            stack.len(),
+            frames.len(),
+            chain.len(),
+            slots.len(),
+            saved_stack.len(),
+            saved_frames.len(),
+            ready.len(),
+            finalize.len(),
+            setup.len(),
+            machine.len(),
+            fuel.len(),
+        );
+        return short(ok);
     }
     if machine.len() < 25 {
         return tell(answer, Answer::Refused(Fault::Unsound));

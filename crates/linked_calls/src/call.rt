@@ -14,6 +14,7 @@ use crate::numbers::machine_of;
 use crate::numbers::put_fuel;
 use crate::numbers::put_machine;
 use crate::numbers::sizes_of;
+use crate::tested::short;
 use crate::tested::tested;
 use heap::fault::Fault;
 use memory_calls::answer::put_answer;
@@ -59,7 +60,6 @@ fn do_call(
     let f = fuel_of(fuel);
     let read = op_of(call);
     let did = outer_run::one::do_read(
-        true,
         stack,
         frames,
         chain,
@@ -103,9 +103,6 @@ pub extern "C" fn bvm_call(
         (atExit fuel)) (atExit answer) r ≡ callIn (host (nine stack frames chain slots «saved_stack» «saved_frames» ready finalize setup atEntry)
         (atEntry machine) (atEntry fuel)) (opOf (now (call .entry))) (atEntry answer) ⌝ }
 {
-    if answer.len() < 8 {
-        return 14;
-    }
     let ok = tested(
         stack,
         frames,
@@ -119,6 +116,9 @@ pub extern "C" fn bvm_call(
         machine,
         fuel,
     );
+    if answer.len() < 8 {
+        return short(ok);
+    }
     do_call(
         ok,
         stack,
@@ -137,9 +137,9 @@ pub extern "C" fn bvm_call(
     )
 }
 
-// The same on a machine that is known to be sound.
+// The same on a machine that is known to be sound, with room for the answer: neither is tested.
 #[no_mangle]
-pub extern "C" fn bvm_kept(
+pub extern "C" fn bvm_call_unchecked(
     stack: &mut [u64],
     frames: &mut [u64],
     chain: &mut [u64],

@@ -7,6 +7,7 @@ use crate::call::tell;
 use crate::numbers::fuel_of;
 use crate::numbers::machine_of;
 use crate::numbers::put_fuel;
+use crate::tested::short;
 use crate::tested::tested;
 use heap::fault::Fault;
 use model::call::Answer;
@@ -61,9 +62,6 @@ pub extern "C" fn bvm_grant(
 ) -> u64
     ensures { λ r. ⌜ Granted (host (nine stack frames chain slots «saved_stack» «saved_frames» ready finalize setup atEntry) (atEntry machine) (atEntry fuel)) amount (atEntry answer) (atExit fuel) (atExit answer) r ⌝ }
 {
-    if answer.len() < 8 {
-        return 14;
-    }
     let ok = tested(
         stack,
         frames,
@@ -77,6 +75,9 @@ pub extern "C" fn bvm_grant(
         machine,
         fuel,
     );
+    if answer.len() < 8 {
+        return short(ok);
+    }
     do_grant(
         ok,
         stack,

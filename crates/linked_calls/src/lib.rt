@@ -1,4 +1,4 @@
-// The functions that a C or Rust program links (docs/CALLS.md). What is passed by value inside is lent in words here.
+// The functions that a C or Rust program links (docs/ABI.md). What is passed by value inside is lent in words here.
 pub mod begin;
 pub mod call;
 pub mod grant;

@@ -7,10 +7,12 @@ use crate::numbers::fuel_of;
 use crate::numbers::machine_of;
 use crate::numbers::put_fuel;
 use crate::numbers::put_machine;
+use crate::numbers::sizes_of;
+use crate::tested::short;
 use crate::tested::tested;
 use outer_run::list::count;
 use outer_run::list::refuse_list;
-use outer_run::list::run_known;
+use outer_run::list::run_list;
 
 // On a machine of which it is known whether it is sound.
 fn do_run(
@@ -36,16 +38,16 @@ fn do_run(
 {
     let n = count(calls.len());
     if answers.len() / 8 < n {
-        return 14;
+        return short(ok);
     }
     if !ok {
         refuse_list(answers, n);
         return 11;
     }
     let m = machine_of(machine);
+    let l = sizes_of(machine);
     let f = fuel_of(fuel);
-    let did = run_known(
-        true,
+    let did = run_list(
         stack,
         frames,
         chain,
@@ -56,15 +58,17 @@ fn do_run(
         finalize,
         setup,
         m,
+        l,
         f,
         calls,
         answers,
+        n,
     );
     let k = did.machine;
     let left = did.fuel;
     put_machine(machine, k);
     put_fuel(fuel, left);
-    did.number
+    0
 }
 
 #[no_mangle]

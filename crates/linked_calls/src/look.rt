@@ -1,23 +1,53 @@
-// Where the registers of the top frame stand.
+// Where the registers of the top frame stand: the part that a look hands back ends with the stack.
 ghost use mathlib.Core.Path.{_≡_};
+ghost use mathlib.Core.Bool.{true};
 ghost use Rattle.memory_world.specs.Contract.{atEntry, atExit};
 ghost use Rattle.outer_call.specs.State.{nine};
-ghost use Rattle.outer_call.specs.Look.{Placed};
-ghost use Rattle.linked_calls.specs.Words.{machineIn};
-ghost use Rattle.linked_calls.specs.Host.{host, PlaceFits, lookIn, saw};
+ghost use Rattle.linked_calls.specs.Host.{host, tested, Spans, lookIn, saw};
+use crate::numbers::fuel_of;
 use crate::numbers::machine_of;
+use crate::tested::short;
 use crate::tested::tested;
 use machine_added::look::Span;
 
-fn place_in(ok: bool, frames: &[u64], machine: &[u64]) -> Span
-    requires { ⌜ PlaceFits ok (now frames) (now machine) ⌝ }
-    ensures { λ r. ⌜ Placed ok (now (frames .entry)) (machineIn (now (machine .entry))) r ⌝ }
+// On a sound machine.
+fn span_in(
+    stack: &[u64],
+    frames: &[u64],
+    chain: &[u64],
+    slots: &[u64],
+    saved_stack: &[u64],
+    saved_frames: &[u64],
+    ready: &[u64],
+    finalize: &[u64],
+    setup: &[u64],
+    machine: &[u64],
+    fuel: &[u64],
+) -> Span
+    requires { ⌜ tested (host (nine stack frames chain slots «saved_stack» «saved_frames» ready finalize setup now) (now machine) (now fuel)) ≡ true ⌝ }
+    ensures { λ r. ⌜ Spans (host (nine stack frames chain slots «saved_stack» «saved_frames» ready finalize setup atEntry) (atEntry machine) (atEntry fuel)) r ⌝ }
 {
-    if !ok {
-        return Span { start: 0, end: 0 };
-    }
     let m = machine_of(machine);
-    outer_call::look::place(true, frames, m)
+    let f = fuel_of(fuel);
+    let part = outer_call::look::seen(
+        true,
+        stack,
+        frames,
+        chain,
+        slots,
+        saved_stack,
+        saved_frames,
+        ready,
+        finalize,
+        setup,
+        m,
+        f,
+    );
+    let n = part.len();
+    Span {
+        start: m.height - n,
+        end: m.height,
+    }
 }
 
 #[no_mangle]
@@ -37,9 +67,6 @@ pub extern "C" fn bvm_look(
 ) -> u64
     ensures { λ r. ⌜ saw (atExit span) r ≡ lookIn (host (nine stack frames chain slots «saved_stack» «saved_frames» ready finalize setup atEntry) (atEntry machine) (atEntry fuel)) (atEntry span) ⌝ }
 {
-    if span.len() < 2 {
-        return 14;
-    }
     let ok = tested(
         stack,
         frames,
@@ -53,11 +80,28 @@ pub extern "C" fn bvm_look(
         machine,
         fuel,
     );
-    let s = place_in(ok, frames, machine);
+    if span.len() < 2 {
+        return short(ok);
+    }
+    if !ok {
+        span[0] = 0;
+        span[1] = 0;
+        return 11;
+    }
+    let s = span_in(
+        stack,
+        frames,
+        chain,
+        slots,
+        saved_stack,
+        saved_frames,
+        ready,
+        finalize,
+        setup,
+        machine,
+        fuel,
+    );
     span[0] = s.start as u64;
     span[1] = s.end as u64;
-    if ok {
-        return 0;
-    }
-    11
+    0
 }

@@ -5,7 +5,13 @@ ghost use lib.ListN.{length};
 ghost use Rattle.memory_world.specs.Contract.{atEntry};
 ghost use Rattle.outer_call.specs.State.{nine};
 ghost use Rattle.linked_calls.specs.Words.{sizesIn};
-ghost use Rattle.linked_calls.specs.Host.{numbersOk, sameCosts, sameSizes, host, tested, HoldFits, sizesHeld, oneOr};
+ghost use Rattle.linked_calls.specs.Host.{numbersOk, sameCosts, sameSizes, host, tested, HoldFits, sizesHeld, oneOr, short};
+use crate::numbers::BANK;
+use crate::numbers::BANKED;
+use crate::numbers::CLEANUPS;
+use crate::numbers::FINALIZING;
+use crate::numbers::FUEL_WIDTH;
+use crate::numbers::MACHINE_WIDTH;
 use crate::numbers::fuel_of;
 use crate::numbers::machine_of;
 use crate::numbers::sizes_of;
@@ -18,25 +24,25 @@ use model::program::Costs;
 pub(crate) fn numbers_ok(machine: &[u64], fuel: &[u64]) -> bool
     ensures { λ r. ⌜ r ≡ numbersOk (now (machine .entry)) (now (fuel .entry)) ⌝ }
 {
-    if machine.len() < 25 {
+    if machine.len() < MACHINE_WIDTH {
         return false;
     }
-    if fuel.len() < 4 {
+    if fuel.len() < FUEL_WIDTH {
         return false;
     }
-    if machine[6] > 1 {
+    if machine[FINALIZING] > 1 {
         return false;
     }
-    if fuel[3] > 1 {
+    if fuel[CLEANUPS] > 1 {
         return false;
     }
-    if fuel[1] == 1 {
+    if fuel[BANKED] == 1 {
         return true;
     }
-    if fuel[1] != 0 {
+    if fuel[BANKED] != 0 {
         return false;
     }
-    fuel[2] == 0
+    fuel[BANK] == 0
 }
 
 fn same_costs(c: Costs, d: Costs) -> bool
@@ -105,6 +111,16 @@ pub(crate) fn tested(
         return false;
     }
     sizes_held(machine, setup)
+}
+
+// What is returned where an answer has no room: 11 comes before 14.
+pub fn short(ok: bool) -> u64
+    ensures { λ r. ⌜ r ≡ short ok ⌝ }
+{
+    if ok {
+        return 14;
+    }
+    11
 }
 
 // 1 if the machine is sound, else 0.

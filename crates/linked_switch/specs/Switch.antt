@@ -1,4 +1,4 @@
--- `bvm_try_resume` and `bvm_try_yield`: a switch that nothing refuses is done on the words; any other is left to `bvm_kept`.
+-- `bvm_try_resume_unchecked` and `bvm_try_yield_unchecked`: a switch that nothing refuses is done on the words; any other is left to `bvm_call_unchecked`.
 use mathlib.Core.Path.{_≡_}
 use mathlib.Core.Bool.{Bool, true}
 use mathlib.Core.List.{List}
@@ -21,6 +21,6 @@ pub record Switched (o : Op) (goes : Bool) (M M′ : Beside → Lent) (ms fs ms�
   pub told : r ≡ oneOr goes
   -- 0: every word is as it was
   pub left : r ≡ 0 → (b : Beside) → host (M′ b) ms′ fs′ ≡ host (M b) ms fs
-  -- 1: with whatever queues and set-up the machine passes, all that `bvm_kept` leaves and answers; the answer is goesOn's, and is not written
+  -- 1: with whatever queues and set-up the machine passes, all that `bvm_call_unchecked` leaves and answers; the answer is goesOn's, and is not written
   pub done : r ≡ 1 → (b : Beside) (xs : List ℕ) → tested (host (M b) ms fs) ≡ true
       → gave (host (M′ b) ms′ fs′) (splice xs 0 (answerWords goesOn)) 0 ≡ keptIn (host (M b) ms fs) (Read.Is o) xs

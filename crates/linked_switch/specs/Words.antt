@@ -1,4 +1,4 @@
--- A machine in 25 words (docs/CALLS.md), of which a switch changes three; its fuel in four; a coroutine's record in its slot.
+-- A machine in 25 words (docs/ABI.md), of which a switch changes three; its fuel in four; a coroutine's record in its slot.
 use mathlib.Core.Path.{_≡_}
 use mathlib.Core.Bool.{Bool, true, _&&_}
 use mathlib.Core.List.{List, [], _∷_}

@@ -16,7 +16,6 @@ use crate::record::ROW;
 use crate::record::STATE;
 use crate::record::WAITING;
 use crate::record::word;
-use heap::object::CoroState;
 use model::machine::Driver;
 
 // The row's registers and frames on top of the machine's.
@@ -79,7 +78,7 @@ fn enter_at(
         machine[1],
         Driver::Resume(dst),
     );
-    heap::slot::put_state(slots, i, CoroState::Running, 0, 0);
+    heap::slot::put_entered(slots, i);
 }
 
 // The numbers that an entry changes.

@@ -19,7 +19,7 @@ use Rattle.model.specs.declared.call.OptPc.{OptPc}
 use Rattle.model.specs.declared.call.Op.{Op}
 use Rattle.memory_tables.proofs.Codes.{cont-back}
 use Rattle.memory_calls.specs.Codes.{asPc, asReg, asArgc, faultOf, kindCode, kindOf, optCode, optWord, optOf, same}
-use Rattle.memory_calls.specs.Call.{opIn, opWords, why, opOf}
+use Rattle.memory_calls.specs.Call.{opIn, opWords, gateIn, opOf}
 use Rattle.memory_calls.specs.declared.call.Read.{Read}
 
 -- ---- the same words
@@ -138,7 +138,7 @@ op-back Op.Look e = refl
 
 -- every call is read back
 pub read-back : (o : Op) → typed o ≡ true → opOf (opWords o) ≡ Read.Is o
-read-back o e = ap (λ (x : Op). pick (same (opWords x) (opWords o)) (Read.Is x) (Read.Not (why (opWords o)))) (op-back o e) ∙ rw (same-all (opWords o)) (pick-true (Read.Is o) (Read.Not (why (opWords o))))
+read-back o e = ap (λ (x : Op). pick (same (opWords x) (opWords o)) (Read.Is x) (Read.Not (gateIn (opWords o)))) (op-back o e) ∙ rw (same-all (opWords o)) (pick-true (Read.Is o) (Read.Not (gateIn (opWords o))))
 
 -- what is read, if anything, and whether it is a call
 abbrev got : Op → Read → Op
@@ -154,7 +154,7 @@ pub read-in : (ws : List ℕ) (o : Op) → opOf ws ≡ Read.Is o → (opIn ws �
 unfolding pick
 read-in ws o = go (same (opWords (opIn ws)) ws) refl
   where
-    go : (b : Bool) → same (opWords (opIn ws)) ws ≡ b → pick b (Read.Is (opIn ws)) (Read.Not (why ws)) ≡ Read.Is o → (opIn ws ≡ o) × (opWords o ≡ ws)
+    go : (b : Bool) → same (opWords (opIn ws)) ws ≡ b → pick b (Read.Is (opIn ws)) (Read.Not (gateIn ws)) ≡ Read.Is o → (opIn ws ≡ o) × (opWords o ≡ ws)
     go true t e = let h = ap (got o) e in (h, ap opWords (sym h) ∙ same-are (opWords (opIn ws)) ws t)
     go false t e = never (ap (λ (r : Read). flag (isCall r)) e)
 

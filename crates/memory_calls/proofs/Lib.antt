@@ -3,3 +3,4 @@ pub mod Typed
 pub mod Past
 pub mod Reading
 pub mod Answers
+pub mod Gates

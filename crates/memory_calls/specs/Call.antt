@@ -1,6 +1,6 @@
 -- A call in six words: its code, its operands in the order of `Op`, then 0. One table says which call a code is; words are a call if they
 -- are those that the call is written in.
-use mathlib.Core.Bool.{Bool, _&&_}
+use mathlib.Core.Bool.{Bool, not, _&&_, _||_}
 use mathlib.Core.List.{List, [], _∷_}
 use Prim.Native.Nat.{ℕ}
 use lib.ListN.{length, getD}
@@ -11,6 +11,7 @@ use Rattle.heap.specs.declared.fault.Fault.{Fault}
 use Rattle.model.specs.declared.call.Op.{Op}
 use Rattle.memory_tables.specs.Layout.{contCode, contReg, contOf}
 use Rattle.memory_calls.specs.Codes.{asPc, asReg, asArgc, faultOf, kindCode, kindOf, optCode, optWord, optOf, same}
+use Rattle.memory_calls.specs.declared.call.Gate.{Gate}
 use Rattle.memory_calls.specs.declared.call.Read.{Read}
 
 -- the calls from code 0 on, of five operands
@@ -83,16 +84,30 @@ opWords (Op.Grant n) = six 24 n 0 0 0 0
 opWords Op.StopRun = six 25 0 0 0 0 0
 opWords Op.Look = six 26 0 0 0 0 0
 
--- 01: "`unwind` gets no such fault" (11); all else is 13
-abbrev pub noFault : ℕ → ℕ → Bool
-noFault n a = eqb n 15 && ltb 17 a
+-- ---- words that are no call, of which the code still names one
 
-abbrev pub whyBy : ℕ → ℕ → Fault
-whyBy n a = pick (noFault n a) Fault.Unsound Fault.BadOperand
+-- 01: "`unwind` takes a fault 1 to 10, or 17 with its word (else 11)"
+abbrev pub noFault : ℕ → Bool
+noFault a = eqb a 0 || ltb 10 a && not (eqb a 17)
 
-abbrev pub why : List ℕ → Fault
-why ws = pick (eqb (length ws) 6) (whyBy (getD ws 0 0) (getD ws 1 0)) Fault.BadOperand
+-- which test stands before that of the operands: an instruction, a function call and a put word need a frame; a host call and a host entry
+-- need that none stands; an unwind needs its fault
+abbrev pub gateBy : ℕ → ℕ → Gate
+gateBy n a =
+    pick (ltb n 14 || eqb n 19 || eqb n 20) Gate.Frame
+    (pick (eqb n 17 || eqb n 18) Gate.Host
+    (pick (eqb n 15 && noFault a) Gate.NoFault Gate.Operand))
 
--- the call that the words are, or why they are none
+abbrev pub gateIn : List ℕ → Gate
+gateIn ws = pick (eqb (length ws) 6) (gateBy (getD ws 0 0) (getD ws 1 0)) Gate.Operand
+
+-- 01: "Each tests 11 first, then 12 or 15, then 13 or 16", by whether no frame stands
+abbrev pub refusal : Gate → Bool → Fault
+refusal Gate.NoFault none = Fault.Unsound
+refusal Gate.Frame none = pick none Fault.NoFrame Fault.BadOperand
+refusal Gate.Host none = pick none Fault.BadOperand Fault.Busy
+refusal Gate.Operand none = Fault.BadOperand
+
+-- the call that the words are, or the test that refuses them
 abbrev pub opOf : List ℕ → Read
-opOf ws = pick (same (opWords (opIn ws)) ws) (Read.Is (opIn ws)) (Read.Not (why ws))
+opOf ws = pick (same (opWords (opIn ws)) ws) (Read.Is (opIn ws)) (Read.Not (gateIn ws))

@@ -1,17 +1,30 @@
 // A call from its words.
 ghost use mathlib.Core.Path.{_≡_};
+ghost use lib.Dec.{eqb};
 ghost use Rattle.memory_calls.specs.Codes.{same};
-ghost use Rattle.memory_calls.specs.Call.{six, whyBy, opOf};
+ghost use Rattle.memory_calls.specs.Call.{six, noFault, gateBy, refusal, opOf};
 use crate::written::Six;
 use crate::written::op_by;
 use crate::written::words_of;
 use heap::fault::Fault;
 use model::call::Op;
 
+// What is tested before the operands of a call.
+pub enum Gate {
+    // 11: an unwind of no such fault
+    NoFault,
+    // 12 without a frame: an instruction, a function call, a put word
+    Frame,
+    // 15 while a frame stands: a host call, a host entry
+    Host,
+    // nothing: 13
+    Operand,
+}
+
 pub enum Read {
     Is(Op),
-    // no call: 13, or 11 for an unknown fault
-    Not(Fault),
+    // no call, and the test that refuses the words
+    Not(Gate),
 }
 
 fn same_words(w: Six, n: u64, a: u64, b: u64, c: u64, d: u64, e: u64) -> bool
@@ -38,16 +51,63 @@ fn same_words(w: Six, n: u64, a: u64, b: u64, c: u64, d: u64, e: u64) -> bool
     true
 }
 
-fn why(n: u64, a: u64) -> Fault
-    ensures { λ r. ⌜ r ≡ whyBy n a ⌝ }
+// No fault that an unwind takes.
+fn no_fault(a: u64) -> bool
+    ensures { λ r. ⌜ r ≡ noFault a ⌝ }
 {
-    if n != 15 {
-        return Fault::BadOperand;
+    if a == 0 {
+        return true;
     }
-    if a > 17 {
-        return Fault::Unsound;
+    if a <= 10 {
+        return false;
     }
-    Fault::BadOperand
+    a != 17
+}
+
+fn gate_of(n: u64, a: u64) -> Gate
+    ensures { λ r. ⌜ r ≡ gateBy n a ⌝ }
+{
+    if n < 14 {
+        return Gate::Frame;
+    }
+    if n == 15 {
+        if no_fault(a) {
+            return Gate::NoFault;
+        }
+        return Gate::Operand;
+    }
+    if n < 17 {
+        return Gate::Operand;
+    }
+    if n < 19 {
+        return Gate::Host;
+    }
+    if n < 21 {
+        return Gate::Frame;
+    }
+    Gate::Operand
+}
+
+// The number by which words that are no call are refused, of a machine of so many frames.
+pub fn refusal(g: Gate, depth: usize) -> Fault
+    ensures { λ r. ⌜ r ≡ refusal g (eqb depth 0) ⌝ }
+{
+    match g {
+        Gate::NoFault => Fault::Unsound,
+        Gate::Frame => {
+            if depth == 0 {
+                return Fault::NoFrame;
+            }
+            Fault::BadOperand
+        }
+        Gate::Host => {
+            if depth == 0 {
+                return Fault::BadOperand;
+            }
+            Fault::Busy
+        }
+        Gate::Operand => Fault::BadOperand,
+    }
 }
 
 fn read_six(n: u64, a: u64, b: u64, c: u64, d: u64, e: u64) -> Read
@@ -58,15 +118,15 @@ fn read_six(n: u64, a: u64, b: u64, c: u64, d: u64, e: u64) -> Read
     if same_words(w, n, a, b, c, d, e) {
         return Read::Is(op);
     }
-    Read::Not(why(n, a))
+    Read::Not(gate_of(n, a))
 }
 
-// The call that the words are, or why they are none.
+// The call that the words are, or the test that refuses them.
 pub fn op_of(words: &[u64]) -> Read
     ensures { λ r. ⌜ r ≡ opOf (now (words .entry)) ⌝ }
 {
     if words.len() != 6 {
-        return Read::Not(Fault::BadOperand);
+        return Read::Not(Gate::Operand);
     }
     read_six(words[0], words[1], words[2], words[3], words[4], words[5])
 }

@@ -1,4 +1,4 @@
-// A call in six words, and its answer in eight (docs/CALLS.md).
+// A call in six words, and its answer in eight (docs/ABI.md).
 pub mod answer;
 pub mod call;
 pub mod codes;

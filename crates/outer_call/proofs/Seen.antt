@@ -4,14 +4,14 @@ use mathlib.Core.Bool.{Bool, true, false}
 use mathlib.Core.List.{List, [], _∷_}
 use Prim.Native.Nat.{ℕ, _-_, _≤_}
 use native.Mathlib.Omega.{arith}
-use lib.ListN.{length, take, drop}
+use lib.ListN.{length, take, drop, length-drop}
 use lib.Dec.{leb}
-use borrow.Author.Tests.{leb-true}
+use borrow.Author.Tests.{leb-true, eqb-true}
 use Rattle.lists.specs.Pick.{pick, pick-true, pick-false}
 use Rattle.model.specs.World.{World}
 use Rattle.model.specs.Frames.{topBase}
 use Rattle.model.specs.Sound.{basesOk, sound}
-use Rattle.model.specs.Added.{registers}
+use Rattle.model.specs.Added.{registersOn, registers}
 use Rattle.model.specs.declared.machine.Frame.{Frame}
 use Rattle.model.specs.declared.machine.Fuel.{Fuel}
 use Rattle.claims_sound.proofs.Tests.{no-false, and-left}
@@ -29,12 +29,29 @@ use Rattle.outer_call.specs.Look.{Placed}
 use Rattle.outer_call.proofs.Stepping.{stands}
 
 -- the top frame begins within the stack
-within : (w : World) → sound w ≡ true → topBase (w .frames) ≤ endOn (w .frames) (w .stack)
+pub within : (w : World) → sound w ≡ true → topBase (w .frames) ≤ endOn (w .frames) (w .stack)
 within w e = go (w .frames) (bases-of (w .setup) (sound→ {ex = false} w e (λ z. no-false z) .tower .stands))
   where
     go : (fs : List Frame) → basesOk (length (w .stack)) fs ≡ true → topBase fs ≤ endOn fs (w .stack)
     go [] h = omega arith
     go (f ∷ fs) h = leb-true (f .base) (length (w .stack)) (and-left (leb (f .base) (length (w .stack))) (basesOk (f .base) fs) h)
+
+-- and the words in use end with it
+pub whole : (w : World) → sound w ≡ true → length (w .stack) ≡ endOn (w .frames) (w .stack)
+whole w e = go (w .frames) (bases-of (w .setup) (sound→ {ex = false} w e (λ z. no-false z) .tower .stands))
+  where
+    go : (fs : List Frame) → basesOk (length (w .stack)) fs ≡ true → length (w .stack) ≡ endOn fs (w .stack)
+    go [] h = eqb-true (length (w .stack)) 0 h
+    go (f ∷ fs) h = refl
+
+-- as many registers as the words between
+pub as-many : (w : World) → length (registers w) ≡ endOn (w .frames) (w .stack) - topBase (w .frames)
+unfolding registers
+as-many w = go (w .frames)
+  where
+    go : (fs : List Frame) → length (registersOn fs (w .stack)) ≡ endOn fs (w .stack) - topBase fs
+    go [] = refl
+    go (f ∷ fs) = length-drop (f .base) (w .stack)
 
 ends : (w : World) → endOn (w .frames) (w .stack) ≤ length (w .stack)
 ends w = go (w .frames)

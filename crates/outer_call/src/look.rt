@@ -12,7 +12,7 @@ use memory_world::machine::Machine;
 use model::machine::Fuel;
 
 // Where that part begins and ends.
-pub fn place(ok: bool, frames: &[u64], m: Machine) -> Span
+fn place(ok: bool, frames: &[u64], m: Machine) -> Span
     requires { ⌜ (ok ≡ true → LookFits (now frames) m) ⌝ }
     ensures { λ r. ⌜ Placed ok (now (frames .entry)) m r ⌝ }
 {
@@ -22,8 +22,8 @@ pub fn place(ok: bool, frames: &[u64], m: Machine) -> Span
     machine_added::look::look(frames, m)
 }
 
-// On words of which it is known whether they are sound.
-fn seen<'a>(
+// .. on words of which it is known whether they are sound.
+pub fn seen<'a>(
     ok: bool,
     stack: &'a [u64],
     frames: &[u64],

@@ -10,12 +10,14 @@ ghost use Rattle.outer_call.specs.SetUp.{lengths, begins};
 use crate::call::unsound;
 use heap::value::Opt;
 use machine_state::called::Called;
+use memory_tables::program::FUNCTION_WIDTH;
+use memory_tables::program::NUMBERS_WIDTH;
 use memory_world::machine::Machine;
 use model::call::Answer;
 use model::machine::Fuel;
 
 // Whether the words given are a set-up's, and slices of these lengths are long enough for it.
-fn allowed(
+pub fn allowed(
     given: &[u64],
     stack: usize,
     frames: usize,
@@ -47,7 +49,7 @@ fn allowed(
         return false;
     }
     let n = given[13] as usize;
-    14 + n * 35 <= setup
+    NUMBERS_WIDTH + n * FUNCTION_WIDTH <= setup
 }
 
 // A fresh machine. Zeros may follow the set-up's words.
@@ -67,7 +69,7 @@ fn begin(
     ensures { λ r. ⌜ gives (nine stack frames chain slots «saved_stack» «saved_frames» ready finalize setup atExit) r ≡ begins (nine stack frames chain slots «saved_stack» «saved_frames» ready finalize setup atEntry) (now (given .entry)) ⌝ }
 {
     let n = given[13] as usize;
-    let k = 14 + n * 35;
+    let k = NUMBERS_WIDTH + n * FUNCTION_WIDTH;
     let machine = machine_state::setup::set_up(
         stack,
         frames,

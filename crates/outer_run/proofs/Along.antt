@@ -1,6 +1,5 @@
 -- A run's loop: what is left of it, done to the present, is the whole done to the start. Assumes nothing.
 use mathlib.Core.Path.{_≡_, refl, sym, ap, ap₂, _∙_, subst}
-use mathlib.Core.Bool.{Bool, true, false}
 use mathlib.Core.List.{List, [], _∷_, _++_}
 use Prim.Native.Nat.{ℕ, suc, _+_, _-_, _*_, _≤_, _<_}
 use native.Mathlib.Omega.{arith}
@@ -18,23 +17,24 @@ use Rattle.memory_world.specs.Decode.{setupOf}
 use Rattle.memory_calls.specs.Answer.{answerWords}
 use Rattle.memory_calls.specs.declared.call.Read.{Read}
 use Rattle.memory_step.specs.Step.{State, Left, isSound}
-use Rattle.outer_run.specs.Run.{doWords, Ran, runWords, countOf, readIn, callsIn, written, refusals, ReadFits, Reads, ListFits, Listed}
+use Rattle.outer_call.specs.State.{SoundFits}
+use Rattle.outer_run.specs.Run.{doWords, Ran, runWords, countOf, readIn, callsIn, written, refusals, Reads, ListFits, Listed}
 use Rattle.outer_run.proofs.Written.{splice-next}
 
-module _ (ok : Bool) (l : Sizes) (cs xs₀ : List ℕ) (n : ℕ) (s₀ : State) where
+module _ (l : Sizes) (cs xs₀ : List ℕ) (n : ℕ) (s₀ : State) where
   -- the calls from place i on
   abbrev pub left-at : ℕ → List Read
   left-at i = callsIn (n - i) (drop (i * 6) cs)
 
   pub record Along (s : State) (xs : List ℕ) (i : ℕ) : Type 0 where
-    pub fits : ReadFits ok l s
+    pub fits : SoundFits l s
     pub within : i ≤ n
     pub lengths : SameLengths (s₀ .words) (s .words)
     pub long : length xs ≡ length xs₀
     pub state : runWords s (left-at i) .state ≡ runWords s₀ (callsIn n cs) .state
     pub answers : written xs (i * 8) (runWords s (left-at i) .answers) ≡ written xs₀ 0 (runWords s₀ (callsIn n cs) .answers)
 
-  pub along-start : ListFits ok l s₀ cs xs₀ n → Along s₀ xs₀ 0
+  pub along-start : ListFits l s₀ cs xs₀ n → Along s₀ xs₀ 0
   along-start h =
       let e : n - 0 ≡ n = omega arith in
       record {
@@ -63,7 +63,7 @@ module _ (ok : Bool) (l : Sizes) (cs xs₀ : List ℕ) (n : ℕ) (s₀ : State) 
       ∙ ap (λ (z : List ℕ). readIn cs i ∷ callsIn (n - (i + 1)) z) (drop-drop 6 (i * 6) cs ∙ ap (λ k. drop k cs) p)
 
   module _ (s : State) (xs : List ℕ) (i : ℕ) (a : Along s xs i) (h : i < n) (room : n * 8 ≤ length xs₀) where
-    pub along-more : (d : Left) (xs′ : List ℕ) → Reads ok s (readIn cs i) d → xs′ ≡ putChunk 8 xs i (answerWords (d .answer)) → SameLengths (s .words) (d .state .words)
+    pub along-more : (d : Left) (xs′ : List ℕ) → Reads s (readIn cs i) d → xs′ ≡ putChunk 8 xs i (answerWords (d .answer)) → SameLengths (s .words) (d .state .words)
         → d .state .words .setup ≡ s .words .setup → length xs′ ≡ length xs → Along (d .state) xs′ (i + 1)
     along-more d xs′ r e q u g =
         let rs = left-at (i + 1) in
@@ -76,7 +76,7 @@ module _ (ok : Bool) (l : Sizes) (cs xs₀ : List ℕ) (n : ℕ) (s₀ : State) 
         let p : i * 8 + 8 ≡ (i + 1) * 8 = omega arith in
         let big : i * 8 + 8 ≤ length xs = let z = a .long in omega arith in
         record {
-          fits = record { known = r .again; sizes = λ o. a .fits .sizes o ∙ ap (λ ws. sizesOf (setupOf ws)) (sym u) };
+          fits = record { sound = r .again; sizes = a .fits .sizes ∙ ap (λ ws. sizesOf (setupOf ws)) (sym u) };
           within = omega arith;
           lengths = then-alike (s₀ .words) (s .words) (d .state .words) (a .lengths) q;
           long = g ∙ a .long;
@@ -90,10 +90,10 @@ module _ (ok : Bool) (l : Sizes) (cs xs₀ : List ℕ) (n : ℕ) (s₀ : State) 
         }
 
 -- the next turn, by what was read, done and put
-pub along-next : {ok : Bool} {l : Sizes} {cs xs₀ xs xs′ : List ℕ} {n i : ℕ} {s₀ s : State} {r : Read} {d : Left} → Along ok l cs xs₀ n s₀ s xs i → i < n → n * 8 ≤ length xs₀ → r ≡ readIn cs i
-    → Reads ok s r d → xs′ ≡ putChunk 8 xs i (answerWords (d .answer)) → SameLengths (s .words) (d .state .words) → d .state .words .setup ≡ s .words .setup → length xs′ ≡ length xs
-    → Along ok l cs xs₀ n s₀ (d .state) xs′ (i + 1)
-along-next {ok} {l} {cs} {xs₀} {xs} {xs′} {n} {i} {s₀} {s} {r} {d} a h room e did = along-more ok l cs xs₀ n s₀ s xs i a h room d xs′ (subst (λ z. Reads ok s z d) e did)
+pub along-next : {l : Sizes} {cs xs₀ xs xs′ : List ℕ} {n i : ℕ} {s₀ s : State} {r : Read} {d : Left} → Along l cs xs₀ n s₀ s xs i → i < n → n * 8 ≤ length xs₀ → r ≡ readIn cs i
+    → Reads s r d → xs′ ≡ putChunk 8 xs i (answerWords (d .answer)) → SameLengths (s .words) (d .state .words) → d .state .words .setup ≡ s .words .setup → length xs′ ≡ length xs
+    → Along l cs xs₀ n s₀ (d .state) xs′ (i + 1)
+along-next {l} {cs} {xs₀} {xs} {xs′} {n} {i} {s₀} {s} {r} {d} a h room e did = along-more l cs xs₀ n s₀ s xs i a h room d xs′ (subst (λ z. Reads s z d) e did)
 
 -- ---- refused, one after the other
 

@@ -1,29 +1,29 @@
 -- Calls in words: each is the outer call that its words are, one after the other.
 use mathlib.Core.Path.{_≡_}
-use mathlib.Core.Bool.{Bool, true}
+use mathlib.Core.Bool.{true}
 use mathlib.Core.List.{List, [], _∷_}
 use Prim.Native.Nat.{ℕ, _+_, _*_, _/_, _%_, _≤_}
 use lib.ListN.{length, replicate}
-use lib.Dec.{eqb, leb}
+use lib.Dec.{eqb}
 use Rattle.lists.specs.Pick.{pick}
 use Rattle.lists.specs.Chunks.{chunkAt, chunks, words}
 use Rattle.lists.specs.Parts.{splice}
+use Rattle.model.specs.Lists.{isNil}
 use Rattle.heap.specs.declared.fault.Fault.{Fault}
 use Rattle.model.specs.declared.call.Answer.{Answer}
 use Rattle.memory_world.specs.declared.machine.Sizes.{Sizes}
-use Rattle.memory_world.specs.Words.{sizesOf}
-use Rattle.memory_world.specs.Decode.{setupOf}
-use Rattle.memory_calls.specs.Call.{opOf}
+use Rattle.memory_calls.specs.Call.{refusal, opOf}
 use Rattle.memory_calls.specs.Answer.{answerWords}
 use Rattle.memory_calls.specs.declared.call.Read.{Read}
-use Rattle.memory_step.specs.Step.{State, Left, refuses, isSound, stepWords}
+use Rattle.memory_step.specs.Step.{State, Left, refuses, isSound, decoded, stepWords}
+use Rattle.outer_call.specs.State.{SoundFits}
 
 -- ---- one
 
--- 01: "Each tests 11 first": so also where the words are no call
+-- words that are no call are refused too in 01's order: "Each tests 11 first, then 12 or 15, then 13 or 16"
 abbrev pub doWords : State → Read → Left
 doWords s (Read.Is o) = stepWords s o
-doWords s (Read.Not f) = refuses s (pick (isSound s) f Fault.Unsound)
+doWords s (Read.Not g) = refuses s (pick (isSound s) (refusal g (isNil (decoded s .frames))) Fault.Unsound)
 
 -- ---- a list: the states one after the other, and the answers
 
@@ -56,36 +56,16 @@ written xs at answers = splice xs at (words answerWords answers)
 abbrev pub refusals : ℕ → List Answer
 refusals n = replicate n (Answer.Refused Fault.Unsound)
 
--- what a run leaves: 0, or why it was not made
-pub record RunLeft : Type 0 where
-  pub state : State
-  pub answers : List ℕ
-  pub number : ℕ
+-- ---- what the functions ask and promise, on sound words
 
-abbrev pub ends : Bool → ℕ
-ends ok = pick ok 0 11
-
--- too few words for the answers: 14, before anything else
-unfoldable pub runIn : State → List ℕ → List ℕ → RunLeft
-runIn s cs xs =
-    let n = countOf (length cs) in
-    let t = runWords s (callsIn n cs) in
-    pick (leb (n * 8) (length xs)) (record { state = t .state; answers = written xs 0 (t .answers); number = ends (isSound s) }) (record { state = s; answers = xs; number = 14 })
-
--- ---- what the functions ask and promise
-
--- it is known whether the words are sound, and if they are, the sizes are their set-up's
-pub record ReadFits (ok : Bool) (l : Sizes) (s : State) : Type 0 where
-  pub known : ok ≡ isSound s
-  pub sizes : ok ≡ true → l ≡ sizesOf (setupOf (s .words .setup))
-
-pub record Reads (ok : Bool) (s : State) (r : Read) (d : Left) : Type 0 where
+pub record Reads (s : State) (r : Read) (d : Left) : Type 0 where
   pub is : d ≡ doWords s r
-  pub again : ok ≡ isSound (d .state)
+  -- so the next call may be made
+  pub again : isSound (d .state) ≡ true
 
 -- as many calls as the words hold, and words enough for their answers
-pub record ListFits (ok : Bool) (l : Sizes) (s : State) (cs xs : List ℕ) (n : ℕ) : Type 0 where
-  pub fits : ReadFits ok l s
+pub record ListFits (l : Sizes) (s : State) (cs xs : List ℕ) (n : ℕ) : Type 0 where
+  pub fits : SoundFits l s
   pub calls : n ≡ countOf (length cs)
   pub room : n * 8 ≤ length xs
 

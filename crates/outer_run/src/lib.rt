@@ -1,3 +1,3 @@
-// Calls in words on lent words, whatever they hold: one, and a list of them.
+// Calls in words on sound words: one, and a list of them.
 pub mod list;
 pub mod one;

@@ -1,4 +1,4 @@
-// Calls in words, one after the other: the machine is tested once.
+// Calls in words, one after the other, on sound words.
 ghost use mathlib.Core.Path.{_≡_};
 ghost use Prim.Native.Nat.{_+_, _*_, _≤_};
 ghost use lib.ListN.{length};
@@ -6,12 +6,9 @@ ghost use Rattle.lists.specs.Chunks.{chunkAt, putChunk};
 ghost use Rattle.memory_world.specs.Contract.{atEntry, atExit};
 ghost use Rattle.memory_calls.specs.Call.{opOf};
 ghost use Rattle.memory_calls.specs.Answer.{answerWords};
-ghost use Rattle.memory_step.specs.Step.{isSound};
 ghost use Rattle.outer_call.specs.State.{nine, state};
-ghost use Rattle.outer_run.specs.Run.{countOf, readIn, written, refusals, ListFits, Listed, runIn, ends};
+ghost use Rattle.outer_run.specs.Run.{countOf, readIn, written, refusals, ListFits, Listed};
 use crate::one::do_read;
-use crate::one::sizes_if;
-use check_machine::whole::sound_words;
 use heap::fault::Fault;
 use memory_calls::call::Read;
 use memory_world::machine::Machine;
@@ -19,11 +16,10 @@ use memory_world::machine::Sizes;
 use model::call::Answer;
 use model::machine::Fuel;
 
-// The numbers and the fuel that a run leaves; 0, or why it was not made.
+// The numbers and the fuel that a run leaves.
 pub struct Ran {
     pub machine: Machine,
     pub fuel: Fuel,
-    pub number: u64,
 }
 
 // How many calls are in n words: a last part of fewer than six is one more.
@@ -73,15 +69,8 @@ pub fn refuse_list(answers: &mut [u64], n: usize)
     }
 }
 
-// .. without that number.
-struct Passed {
-    machine: Machine,
-    fuel: Fuel,
-}
-
-// The n calls, on words of which it is known whether they are sound.
-fn run_list(
-    ok: bool,
+// The n calls, on sound words.
+pub fn run_list(
     stack: &mut [u64],
     frames: &mut [u64],
     chain: &mut [u64],
@@ -97,8 +86,8 @@ fn run_list(
     calls: &[u64],
     answers: &mut [u64],
     n: usize,
-) -> Passed
-    requires { ⌜ ListFits ok l (state (nine stack frames chain slots «saved_stack» «saved_frames» ready finalize setup now) m fuel) (now calls) (now answers) n ⌝ }
+) -> Ran
+    requires { ⌜ ListFits l (state (nine stack frames chain slots «saved_stack» «saved_frames» ready finalize setup now) m fuel) (now calls) (now answers) n ⌝ }
     ensures { λ r. ⌜ Listed (state (nine stack frames chain slots «saved_stack» «saved_frames» ready finalize setup atEntry) m fuel)
         (now (calls .entry)) (now (answers .entry)) n (state (nine stack frames chain slots «saved_stack» «saved_frames» ready finalize setup atExit)
         (r .machine) (r .fuel)) (now (answers .exit)) ⌝ }
@@ -109,7 +98,6 @@ fn run_list(
     while i < n {
         let read = read_at(calls, i);
         let did = do_read(
-            ok,
             stack,
             frames,
             chain,
@@ -130,137 +118,8 @@ fn run_list(
         put_at(answers, i, a);
         i += 1;
     }
-    Passed {
+    Ran {
         machine: k,
         fuel: f,
     }
-}
-
-// 11 if the machine is not sound, and each call was answered so.
-fn number_of(ok: bool) -> u64
-    ensures { λ r. ⌜ r ≡ ends ok ⌝ }
-{
-    if ok {
-        return 0;
-    }
-    11
-}
-
-// On words of which it is known whether they are sound.
-pub fn run_known(
-    ok: bool,
-    stack: &mut [u64],
-    frames: &mut [u64],
-    chain: &mut [u64],
-    slots: &mut [u64],
-    saved_stack: &mut [u64],
-    saved_frames: &mut [u64],
-    ready: &mut [u64],
-    finalize: &mut [u64],
-    setup: &[u64],
-    m: Machine,
-    fuel: Fuel,
-    calls: &[u64],
-    answers: &mut [u64],
-) -> Ran
-    requires { ⌜ ok ≡ isSound (state (nine stack frames chain slots «saved_stack» «saved_frames» ready finalize setup now) m fuel) ⌝ }
-    ensures { λ r. ⌜ record {
-      state = state (nine stack frames chain slots «saved_stack» «saved_frames» ready finalize setup atExit) (r .machine)
-          (r .fuel);
-      answers = now (answers .exit);
-      number = r .number;
-    } ≡ runIn
-        (state (nine stack frames chain slots «saved_stack» «saved_frames» ready finalize setup atEntry) m fuel) (now (calls .entry))
-        (now (answers .entry)) ⌝ }
-{
-    let n = count(calls.len());
-    if answers.len() / 8 < n {
-        return Ran {
-            machine: m,
-            fuel,
-            number: 14,
-        };
-    }
-    let l = sizes_if(ok, setup);
-    let did = run_list(
-        ok,
-        stack,
-        frames,
-        chain,
-        slots,
-        saved_stack,
-        saved_frames,
-        ready,
-        finalize,
-        setup,
-        m,
-        l,
-        fuel,
-        calls,
-        answers,
-        n,
-    );
-    let machine = did.machine;
-    let left = did.fuel;
-    Ran {
-        machine,
-        fuel: left,
-        number: number_of(ok),
-    }
-}
-
-// The calls in `calls`, six words each; their answers to `answers`, eight words each.
-pub fn run(
-    stack: &mut [u64],
-    frames: &mut [u64],
-    chain: &mut [u64],
-    slots: &mut [u64],
-    saved_stack: &mut [u64],
-    saved_frames: &mut [u64],
-    ready: &mut [u64],
-    finalize: &mut [u64],
-    setup: &[u64],
-    m: Machine,
-    fuel: Fuel,
-    calls: &[u64],
-    answers: &mut [u64],
-) -> Ran
-    ensures { λ r. ⌜ record {
-      state = state (nine stack frames chain slots «saved_stack» «saved_frames» ready finalize setup atExit) (r .machine)
-          (r .fuel);
-      answers = now (answers .exit);
-      number = r .number;
-    } ≡ runIn
-        (state (nine stack frames chain slots «saved_stack» «saved_frames» ready finalize setup atEntry) m fuel) (now (calls .entry))
-        (now (answers .entry)) ⌝ }
-{
-    let ok = sound_words(
-        stack,
-        frames,
-        chain,
-        slots,
-        saved_stack,
-        saved_frames,
-        ready,
-        finalize,
-        setup,
-        m,
-        fuel,
-    );
-    run_known(
-        ok,
-        stack,
-        frames,
-        chain,
-        slots,
-        saved_stack,
-        saved_frames,
-        ready,
-        finalize,
-        setup,
-        m,
-        fuel,
-        calls,
-        answers,
-    )
 }

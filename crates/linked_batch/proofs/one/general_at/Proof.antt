@@ -1,4 +1,4 @@
--- `general_at` meets its contract: what `bvm_kept` leaves, the answer in its part. Assumes nothing.
+-- `general_at` meets its contract: what `bvm_call_unchecked` leaves, the answer in its part. Assumes nothing.
 use mathlib.Core.Path.{_≡_}
 use Prim.Native.Nat.{_*_}
 use Rattle.memory_world.specs.Memory.{Lent}
@@ -18,43 +18,43 @@ mem c = nine (c .args .stack .now) (c .args .frames .now) (c .args .chain .now) 
 abbrev of : tie.Start → Host
 of c = host (mem c) (c .args .machine .now) (c .args .fuel .now)
 
-abbrev kept-of : tie.After-slice-known22 → tie.After-bvm-kept
+abbrev kept-of : tie.After-slice-known22 → tie.After-bvm-call-unchecked
 kept-of c = c .before .before .before .before .before .before .before .before .before .before .before .before .before .before .before .before .before .before .before .before .before .before
 
-bvm-kept-requires : tie.Need-bvm-kept-requires
-bvm-kept-requires c κs =
+bvm-call-unchecked-requires : tie.Need-bvm-call-unchecked-requires
+bvm-call-unchecked-requires c κs =
     let start = c .before .before .before .before .before .before .before .before .before .before .before .before .before .before .before .before .before .before .before .before .before .before .before .before in
     record { sound = start .pre .sound; room = part-long (start .args .answers .now) (start .args .i * 8) (start .pre .room) }
 
 same-length : tie.Need-same-length
-same-length c = kept-of c .bvm-kept .kept .0
+same-length c = kept-of c .bvm-call-unchecked .kept .0
 
 same-length-2 : tie.Need-same-length-2
-same-length-2 c = kept-of c .bvm-kept .kept .1 .0
+same-length-2 c = kept-of c .bvm-call-unchecked .kept .1 .0
 
 same-length-3 : tie.Need-same-length-3
-same-length-3 c = kept-of c .bvm-kept .kept .1 .1 .0
+same-length-3 c = kept-of c .bvm-call-unchecked .kept .1 .1 .0
 
 same-length-4 : tie.Need-same-length-4
-same-length-4 c = kept-of c .bvm-kept .kept .1 .1 .1 .0
+same-length-4 c = kept-of c .bvm-call-unchecked .kept .1 .1 .1 .0
 
 same-length-5 : tie.Need-same-length-5
-same-length-5 c = kept-of c .bvm-kept .kept .1 .1 .1 .1 .0
+same-length-5 c = kept-of c .bvm-call-unchecked .kept .1 .1 .1 .1 .0
 
 same-length-6 : tie.Need-same-length-6
-same-length-6 c = kept-of c .bvm-kept .kept .1 .1 .1 .1 .1 .0
+same-length-6 c = kept-of c .bvm-call-unchecked .kept .1 .1 .1 .1 .1 .0
 
 same-length-7 : tie.Need-same-length-7
-same-length-7 c = kept-of c .bvm-kept .kept .1 .1 .1 .1 .1 .1 .0
+same-length-7 c = kept-of c .bvm-call-unchecked .kept .1 .1 .1 .1 .1 .1 .0
 
 same-length-8 : tie.Need-same-length-8
-same-length-8 c = kept-of c .bvm-kept .kept .1 .1 .1 .1 .1 .1 .1 .0
+same-length-8 c = kept-of c .bvm-call-unchecked .kept .1 .1 .1 .1 .1 .1 .1 .0
 
 same-length-9 : tie.Need-same-length-9
-same-length-9 c = kept-of c .bvm-kept .kept .1 .1 .1 .1 .1 .1 .1 .1 .1 .0
+same-length-9 c = kept-of c .bvm-call-unchecked .kept .1 .1 .1 .1 .1 .1 .1 .1 .1 .0
 
 same-length-10 : tie.Need-same-length-10
-same-length-10 c = kept-of c .bvm-kept .kept .1 .1 .1 .1 .1 .1 .1 .1 .1 .1 .0
+same-length-10 c = kept-of c .bvm-call-unchecked .kept .1 .1 .1 .1 .1 .1 .1 .1 .1 .1 .0
 
 returns : tie.Need-returns
 returns c =
@@ -63,7 +63,7 @@ returns c =
     let a = start .args in
     let w = start .fits in
     kept-one (of start) (start .pre .sound) (six (a .n) (a .a) (a .b) (a .c) (a .d) (a .e))
-    (all-words (a .n) (a .a) (a .b) (a .c) (a .d) (a .e) (w .n .fits) (w .a .fits) (w .b .fits) (w .c .fits) (w .d .fits) (w .e .fits)) (a .answers .now) (a .i) (start .pre .room) _ _ _ (at-kept .bvm-kept .ensures)
+    (all-words (a .n) (a .a) (a .b) (a .c) (a .d) (a .e) (w .n .fits) (w .a .fits) (w .b .fits) (w .c .fits) (w .d .fits) (w .e .fits)) (a .answers .now) (a .i) (start .pre .room) _ _ _ (at-kept .bvm-call-unchecked .ensures)
 
 pub general-at-spec : {M : Type 1} → statement M
 general-at-spec =
@@ -76,7 +76,7 @@ general-at-spec =
     (λ c. search needs)
     (λ c. search needs)
     (λ c. search needs)
-    bvm-kept-requires
+    bvm-call-unchecked-requires
     same-length
     same-length-2
     same-length-3

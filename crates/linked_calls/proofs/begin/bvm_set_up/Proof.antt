@@ -1,4 +1,5 @@
--- `bvm_set_up` meets its contract: 14, too few words, or by the set-up. Assumes nothing.
+-- `bvm_set_up` meets its contract: no room, too few words, or by the set-up. Assumes nothing.
+use mathlib.Core.Path.{refl}
 use Rattle.memory_world.specs.Memory.{Lent}
 use Rattle.memory_world.specs.Lendings.{plain}
 use Rattle.outer_call.specs.State.{nine}
@@ -25,8 +26,11 @@ start-of c = c .before .before .before .before .before .before .before .before .
 
 returns : tie.Need-returns
 returns c =
-    let start = c .before .before .before .before .before .before .before .before .before .before .before .before .before .before in
-    set-up-short (of start) (start .args .given .now) (start .args .answer .now) (c .if1 .taken)
+    let at-accepts = c .before in
+    let at-if = at-accepts .before in
+    let start = at-if .before .before .before .before .before .before .before .before .before .before .before .before .before .before in
+    set-up-short (of start) (start .args .given .now) (start .args .answer .now) (at-if .if1 .taken) (at-accepts .accepts .result)
+    (at-accepts .accepts .ensures (of start) (record { words = refl; machine = refl; fuel = refl })) (c .short .result) (c .short .ensures)
 
 tell-requires : tie.Need-tell-requires
 tell-requires c κs = c .before .before .if1 .left
@@ -68,7 +72,7 @@ pub bvm-set-up-spec : {M : Type 1} → statement M
 bvm-set-up-spec =
     tie.close
     (tie.spec
-    returns tell-requires (λ c. c .before .before .tell .kept .0) returns-2 tell-requires-2 (λ c. c .before .before .tell2 .kept .0) returns-3
+    (λ c κs. search needs) (λ c κs. search needs) returns tell-requires (λ c. c .before .before .tell .kept .0) returns-2 tell-requires-2 (λ c. c .before .before .tell2 .kept .0) returns-3
     begin-requires (λ c. begin-of c .begin .kept .0) (λ c. begin-of c .begin .kept .1 .0) (λ c. begin-of c .begin .kept .1 .1 .0)
     (λ c. begin-of c .begin .kept .1 .1 .1 .0) (λ c. begin-of c .begin .kept .1 .1 .1 .1 .0) (λ c. begin-of c .begin .kept .1 .1 .1 .1 .1 .0)
     (λ c. begin-of c .begin .kept .1 .1 .1 .1 .1 .1 .0) (λ c. begin-of c .begin .kept .1 .1 .1 .1 .1 .1 .1 .0)

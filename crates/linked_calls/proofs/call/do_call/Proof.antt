@@ -34,9 +34,9 @@ abbrev begin-of : tie.After-do-read → tie.Start
 begin-of c = start-of (else-of (machine-at c))
 
 abbrev left-by : tie.After-do-read → Lent
-left-by c = nine (c .do-read .last .1 .0) (c .do-read .last .1 .1 .0) (c .do-read .last .1 .1 .1 .0) (c .do-read .last .1 .1 .1 .1 .0)
-    (c .do-read .last .1 .1 .1 .1 .1 .0) (c .do-read .last .1 .1 .1 .1 .1 .1 .0) (c .do-read .last .1 .1 .1 .1 .1 .1 .1 .0)
-    (c .do-read .last .1 .1 .1 .1 .1 .1 .1 .1 .0) (begin-of c .args .setup .now) plain
+left-by c = nine (c .do-read .last .0) (c .do-read .last .1 .0) (c .do-read .last .1 .1 .0) (c .do-read .last .1 .1 .1 .0)
+    (c .do-read .last .1 .1 .1 .1 .0) (c .do-read .last .1 .1 .1 .1 .1 .0) (c .do-read .last .1 .1 .1 .1 .1 .1 .0)
+    (c .do-read .last .1 .1 .1 .1 .1 .1 .1 .0) (begin-of c .args .setup .now) plain
 
 sound : (c : tie.Else1) → tested (of (start-of c)) ≡ true
 sound c = sym (start-of c .pre .known) ∙ not-false _ (c .if1 .left)
@@ -96,9 +96,9 @@ do-call-spec =
     tie.close
     (tie.spec
     tell-requires (λ c. c .before .before .tell .kept .0) returns machine-of-requires sizes-of-requires fuel-of-requires (λ c κs. search needs)
-    do-read-requires put-machine-requires put-fuel-requires tell-requires-2 (λ c. do-read-of c .do-read .kept .1 .0)
-    (λ c. do-read-of c .do-read .kept .1 .1 .0) (λ c. do-read-of c .do-read .kept .1 .1 .1 .0) (λ c. do-read-of c .do-read .kept .1 .1 .1 .1 .0)
-    (λ c. do-read-of c .do-read .kept .1 .1 .1 .1 .1 .0) (λ c. do-read-of c .do-read .kept .1 .1 .1 .1 .1 .1 .0)
-    (λ c. do-read-of c .do-read .kept .1 .1 .1 .1 .1 .1 .1 .0) (λ c. do-read-of c .do-read .kept .1 .1 .1 .1 .1 .1 .1 .1 .0)
+    do-read-requires put-machine-requires put-fuel-requires tell-requires-2 (λ c. do-read-of c .do-read .kept .0)
+    (λ c. do-read-of c .do-read .kept .1 .0) (λ c. do-read-of c .do-read .kept .1 .1 .0) (λ c. do-read-of c .do-read .kept .1 .1 .1 .0)
+    (λ c. do-read-of c .do-read .kept .1 .1 .1 .1 .0) (λ c. do-read-of c .do-read .kept .1 .1 .1 .1 .1 .0)
+    (λ c. do-read-of c .do-read .kept .1 .1 .1 .1 .1 .1 .0) (λ c. do-read-of c .do-read .kept .1 .1 .1 .1 .1 .1 .1 .0)
     (λ c. c .before .before .before .before .before .before .before .before .before .before .put-machine .kept .0)
     (λ c. c .before .before .before .before .before .before .put-fuel .kept .0) (λ c. c .before .before .tell2 .kept .0) returns-2)

@@ -1,4 +1,5 @@
--- `bvm_grant` meets its contract: 14, or by the test. Assumes nothing.
+-- `bvm_grant` meets its contract: by the test and by room for the answer. Assumes nothing.
+use mathlib.Core.Path.{refl}
 use Rattle.memory_world.specs.Memory.{Lent}
 use Rattle.memory_world.specs.Lendings.{plain}
 use Rattle.outer_call.specs.State.{nine}
@@ -15,19 +16,22 @@ abbrev of : tie.Start → Host
 of c = host (mem c) (c .args .machine .now) (c .args .fuel .now)
 
 returns : tie.Need-returns
-returns c = let start = c .before .before .before .before .before .before .before .before .before .before .before .before .before in grant-short (of start) (start .args .amount) (start .args .answer .now) (c .if1 .taken)
+returns c =
+    let test = c .before .before in
+    let start = test .before .before .before .before .before .before .before .before .before .before .before .before .before .before in
+    grant-short (of start) (start .args .amount) (start .args .answer .now) (c .before .if1 .taken) (test .tested .result) (test .tested .ensures) (c .short .result) (c .short .ensures)
 
 do-grant-requires : tie.Need-do-grant-requires
-do-grant-requires c κs = record { known = c .before .before .tested .ensures; room = c .before .before .before .before .if1 .left }
-
-same-length : tie.Need-same-length
-same-length c = c .before .before .before .before .do-grant .kept .1 .1 .1 .1 .1 .1 .1 .1 .1 .1 .1 .0
+do-grant-requires c κs = let at-if = c .before .before in record { known = at-if .before .tested .ensures; room = at-if .if1 .left }
 
 same-length-2 : tie.Need-same-length-2
-same-length-2 c = c .before .before .before .before .do-grant .kept .1 .1 .1 .1 .1 .1 .1 .1 .1 .1 .1 .1 .0
+same-length-2 c = c .before .before .before .before .do-grant .kept .1 .1 .1 .1 .1 .1 .1 .1 .1 .1 .1 .0
+
+same-length-3 : tie.Need-same-length-3
+same-length-3 c = c .before .before .before .before .do-grant .kept .1 .1 .1 .1 .1 .1 .1 .1 .1 .1 .1 .1 .0
 
 returns-2 : tie.Need-returns-2
 returns-2 c = c .before .before .before .before .do-grant .ensures
 
 pub bvm-grant-spec : {M : Type 1} → statement M
-bvm-grant-spec = tie.close (tie.spec returns (λ c κs. search needs) do-grant-requires same-length same-length-2 returns-2)
+bvm-grant-spec = tie.close (tie.spec (λ c κs. search needs) (λ c κs. search needs) (λ c. refl) returns do-grant-requires same-length-2 same-length-3 returns-2)

@@ -1,5 +1,5 @@
--- `do_run` meets its contract: 14, refused, or what `run_known` leaves, in words. Assumes nothing.
-use mathlib.Core.Path.{_≡_, refl, sym, _∙_, subst}
+-- `do_run` meets its contract: 14, refused, or what `run_list` leaves, in words. Assumes nothing.
+use mathlib.Core.Path.{_≡_, sym, _∙_}
 use mathlib.Core.Bool.{true}
 use Prim.Native.Nat.{_≤_, _*_, _/_}
 use native.Mathlib.Omega.{arith}
@@ -7,9 +7,8 @@ use lib.ListN.{length, length-set}
 use borrow.Author.Tests.{not-true, not-false}
 use Rattle.memory_world.specs.Memory.{Lent}
 use Rattle.memory_world.specs.Lendings.{plain}
-use Rattle.outer_call.specs.State.{nine}
+use Rattle.outer_call.specs.State.{nine, state}
 use Rattle.outer_run.proofs.Written.{enough}
-use Rattle.linked_calls.specs.Words.{sizesIn}
 use Rattle.linked_calls.specs.Host.{Host, host, tested}
 use Rattle.linked_calls.proofs.Hosts.{long-numbers, numbers, may-read}
 use Rattle.linked_calls.proofs.Others.{run-short, run-refused, run-done}
@@ -29,11 +28,11 @@ count-of c = c .before .before
 abbrev start-of : tie.After-count → tie.Start
 start-of c = c .before .before .before .before .before .before .before .before .before .before .before .before .before .before
 
-abbrev run-known-of : tie.After-slice-known23 → tie.After-run-known
-run-known-of c = c .before .before .before .before .before .before .before .before .before .before .before .before .before .before .before .before .before .before .before .before .before .before .before .before .before .before .before .before
+abbrev run-list-of : tie.After-slice-known23 → tie.After-run-list
+run-list-of c = c .before .before .before .before .before .before .before .before .before .before .before .before .before .before .before .before .before .before .before .before .before .before .before .before .before .before .before .before
 
-abbrev else-of : tie.After-run-known → tie.Else2
-else-of c = c .before .before .before .before .before .before .before .before .before .before .before .before .before .before
+abbrev else-of : tie.After-run-list → tie.Else2
+else-of c = c .before .before .before .before .before .before .before .before .before .before .before .before .before .before .before .before
 
 sound : (c : tie.Else2) → tested (of (start-of (count-of c))) ≡ true
 sound c = sym (start-of (count-of c) .pre) ∙ not-false _ (c .if2 .left)
@@ -47,16 +46,16 @@ room c =
     let h = c .if1 .left in
     enough (length xs) (c .before .count .result) (let z : c .before .count .result ≤ length xs / 8 = omega arith in z)
 
-abbrev left-by : tie.After-run-known → Lent
-left-by c = nine (c .run-known .last .1 .0) (c .run-known .last .1 .1 .0) (c .run-known .last .1 .1 .1 .0) (c .run-known .last .1 .1 .1 .1 .0)
-    (c .run-known .last .1 .1 .1 .1 .1 .0) (c .run-known .last .1 .1 .1 .1 .1 .1 .0) (c .run-known .last .1 .1 .1 .1 .1 .1 .1 .0)
-    (c .run-known .last .1 .1 .1 .1 .1 .1 .1 .1 .0)
+abbrev left-by : tie.After-run-list → Lent
+left-by c = nine (c .run-list .last .0) (c .run-list .last .1 .0) (c .run-list .last .1 .1 .0) (c .run-list .last .1 .1 .1 .0)
+    (c .run-list .last .1 .1 .1 .1 .0) (c .run-list .last .1 .1 .1 .1 .1 .0) (c .run-list .last .1 .1 .1 .1 .1 .1 .0)
+    (c .run-list .last .1 .1 .1 .1 .1 .1 .1 .0)
     (start-of (count-of (else-of c)) .args .setup .now) plain
 
 returns : tie.Need-returns
 returns c =
-    let at-count = c .before in let start = start-of at-count in let a = start .args in
-    run-short (of start) (a .calls .now) (a .answers .now) (at-count .count .result) (at-count .count .ensures) (c .if1 .taken)
+    let at-count = c .before .before in let start = start-of at-count in let a = start .args in
+    run-short (of start) (a .calls .now) (a .answers .now) (at-count .count .result) (at-count .count .ensures) (c .before .if1 .taken) (a .ok) (start .pre) (c .short .result) (c .short .ensures)
 
 refuse-list-requires : tie.Need-refuse-list-requires
 refuse-list-requires c κs = room (c .before .before)
@@ -70,14 +69,23 @@ returns-2 c =
 machine-of-requires : tie.Need-machine-of-requires
 machine-of-requires c κs = long (c .before) .0
 
-fuel-of-requires : tie.Need-fuel-of-requires
-fuel-of-requires c κs = long (c .before .before .before) .1
+sizes-of-requires : tie.Need-sizes-of-requires
+sizes-of-requires c κs = long (c .before .before .before) .0
 
-run-known-requires : tie.Need-run-known-requires
-run-known-requires c κs =
-    let at-fuel = c .before .before .before .before .before .before .before .before .before in let at-machine = at-fuel .before .before in
-    let at-if = at-machine .before .before in let start = start-of (count-of at-if) in
-    may-read (of start) (sound at-if) (at-machine .machine-of .result) (at-fuel .fuel-of .result) (sizesIn (start .args .machine .now)) (at-machine .machine-of .ensures) (at-fuel .fuel-of .ensures) refl .known
+fuel-of-requires : tie.Need-fuel-of-requires
+fuel-of-requires c κs = long (c .before .before .before .before .before) .1
+
+run-list-requires : tie.Need-run-list-requires
+run-list-requires c κs =
+    let at-fuel = c .before .before .before .before .before .before .before .before .before in let at-sizes = at-fuel .before .before in let at-machine = at-sizes .before .before in
+    let at-if = at-machine .before .before in let at-count = count-of at-if in let start = start-of at-count in
+    record {
+      fits =
+          may-read (of start) (sound at-if) (at-machine .machine-of .result) (at-fuel .fuel-of .result) (at-sizes .sizes-of .result) (at-machine .machine-of .ensures) (at-fuel .fuel-of .ensures)
+          (at-sizes .sizes-of .ensures);
+      calls = at-count .count .ensures;
+      room = room (at-if .before);
+    }
 
 put-machine-requires : tie.Need-put-machine-requires
 put-machine-requires c κs =
@@ -89,21 +97,21 @@ put-fuel-requires c κs =
 
 returns-3 : tie.Need-returns-3
 returns-3 c =
-    let did = run-known-of c in let at-fuel = did .before .before .before .before .before .before .before .before .before .before in let at-machine = at-fuel .before .before in
-    let at-if = else-of did in let at-count = count-of at-if in let start = start-of at-count in let a = start .args in let r = did .run-known .result in
+    let did = run-list-of c in let at-fuel = did .before .before .before .before .before .before .before .before .before .before in let at-machine = at-fuel .before .before .before .before in
+    let at-if = else-of did in let at-count = count-of at-if in let start = start-of at-count in let a = start .args in let r = did .run-list .result in
+    let m = at-machine .machine-of .ensures in let f = at-fuel .fuel-of .ensures in
     run-done (of start) (a .calls .now) (a .answers .now) (at-count .count .result) (at-count .count .ensures) (room (at-if .before)) (a .ok) (start .pre)
-    (not-false _ (at-if .if2 .left)) (at-machine .machine-of .result) (at-fuel .fuel-of .result) (at-machine .machine-of .ensures) (at-fuel .fuel-of .ensures)
-    (left-by did) (r .machine) (r .fuel) _ _ (did .run-known .last .1 .1 .1 .1 .1 .1 .1 .1 .1 .1 .1 .1 .1 .0) (r .number)
-    (did .run-known .ensures) (c .before .before .before .before .before .before .put-machine .ensures) (c .before .before .put-fuel .ensures)
+    (not-false _ (at-if .if2 .left)) (state (mem start) (at-machine .machine-of .result) (at-fuel .fuel-of .result)) (state (left-by did) (r .machine) (r .fuel)) (λ i. state (mem start) (m i) (f i)) _ _ _
+    (did .run-list .ensures) (c .before .before .before .before .before .before .put-machine .ensures) (c .before .before .put-fuel .ensures)
 
 pub do-run-spec : {M : Type 1} → statement M
 do-run-spec =
     tie.close
     (tie.spec
-    (λ c κs. search needs) returns refuse-list-requires (λ c. c .before .before .refuse-list .kept .0) returns-2 machine-of-requires fuel-of-requires
-    run-known-requires put-machine-requires put-fuel-requires (λ c. run-known-of c .run-known .kept .1 .0) (λ c. run-known-of c .run-known .kept .1 .1 .0)
-    (λ c. run-known-of c .run-known .kept .1 .1 .1 .0) (λ c. run-known-of c .run-known .kept .1 .1 .1 .1 .0)
-    (λ c. run-known-of c .run-known .kept .1 .1 .1 .1 .1 .0) (λ c. run-known-of c .run-known .kept .1 .1 .1 .1 .1 .1 .0)
-    (λ c. run-known-of c .run-known .kept .1 .1 .1 .1 .1 .1 .1 .0) (λ c. run-known-of c .run-known .kept .1 .1 .1 .1 .1 .1 .1 .1 .0)
+    (λ c κs. search needs) (λ c κs. search needs) returns refuse-list-requires (λ c. c .before .before .refuse-list .kept .0) returns-2 machine-of-requires sizes-of-requires fuel-of-requires
+    run-list-requires put-machine-requires put-fuel-requires (λ c. run-list-of c .run-list .kept .0) (λ c. run-list-of c .run-list .kept .1 .0)
+    (λ c. run-list-of c .run-list .kept .1 .1 .0) (λ c. run-list-of c .run-list .kept .1 .1 .1 .0)
+    (λ c. run-list-of c .run-list .kept .1 .1 .1 .1 .0) (λ c. run-list-of c .run-list .kept .1 .1 .1 .1 .1 .0)
+    (λ c. run-list-of c .run-list .kept .1 .1 .1 .1 .1 .1 .0) (λ c. run-list-of c .run-list .kept .1 .1 .1 .1 .1 .1 .1 .0)
     (λ c. c .before .before .before .before .before .before .put-machine .kept .0) (λ c. c .before .before .put-fuel .kept .0)
-    (λ c. run-known-of c .run-known .kept .1 .1 .1 .1 .1 .1 .1 .1 .1 .1 .1 .1 .1 .0) returns-3)
+    (λ c. run-list-of c .run-list .kept .1 .1 .1 .1 .1 .1 .1 .1 .1 .1 .1 .1 .1 .0) returns-3)

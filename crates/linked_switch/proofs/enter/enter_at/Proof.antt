@@ -30,7 +30,7 @@ returns c =
     let start = start-of at-move-in in let a = start .args in
     λ w b rep snd. accepted (sizesIn (a .machine .now)) (mem start b) (machineIn (a .machine .now)) (b .fuel) (a .v) w rep (a .i) (recordAt (a .slots .now) (a .i)) (found (start .pre)) snd Fault.None
     (start .pre .may .fits) refl (Driver.Resume (a .dst)) _ _ _ _ _ _ _ _ (at-move-in .move-in .ensures)
-    (c .before .before .before .before .before .before .push-active .ensures) (c .before .before .put-state .ensures) refl refl
+    (c .before .before .before .before .before .before .push-active .ensures) (c .before .before .put-entered .ensures) refl refl
 
 pub enter-at-spec : {M : Type 1} → statement M
 enter-at-spec =

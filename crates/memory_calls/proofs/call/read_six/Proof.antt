@@ -17,7 +17,7 @@ returns-2 c =
     let told = c .before .before in
     let g = told .before .before .before .args in
     let w = told .before .words-of .result in
-    read-not (g .n) (g .a) (g .b) (g .c) (g .d) (g .e) _ (six (w .0) (w .1) (w .2) (w .3) (w .4) (w .5)) _ _ (told .before .before .op-by .ensures) (told .before .words-of .ensures) (told .same-words .ensures) (c .before .if1 .left) (c .why .ensures)
+    read-not (g .n) (g .a) (g .b) (g .c) (g .d) (g .e) _ (six (w .0) (w .1) (w .2) (w .3) (w .4) (w .5)) _ _ (told .before .before .op-by .ensures) (told .before .words-of .ensures) (told .same-words .ensures) (c .before .if1 .left) (c .gate-of .ensures)
 
 pub read-six-spec : {M : Type 1} → statement M
 read-six-spec =

@@ -11,12 +11,12 @@ use Rattle.outer_run.proofs.list.run_list.Statement.{statement}
 use Rattle.outer_run.proofs.list.run_list.Tie as tie
 
 abbrev Inv-loop : tie.InvT-loop
-Inv-loop ok stack₀ frames₀ chain₀ slots₀ saved-stack₀ saved-frames₀ ready₀ finalize₀ setup l calls answers₀ n k₀ f₀ i₀ stack frames chain slots saved-stack saved-frames ready finalize answers k f i =
-    Along ok l calls answers₀ n (state (nine stack₀ frames₀ chain₀ slots₀ saved-stack₀ saved-frames₀ ready₀ finalize₀ setup plain) k₀ f₀)
+Inv-loop stack₀ frames₀ chain₀ slots₀ saved-stack₀ saved-frames₀ ready₀ finalize₀ setup l calls answers₀ n k₀ f₀ i₀ stack frames chain slots saved-stack saved-frames ready finalize answers k f i =
+    Along l calls answers₀ n (state (nine stack₀ frames₀ chain₀ slots₀ saved-stack₀ saved-frames₀ ready₀ finalize₀ setup plain) k₀ f₀)
     (state (nine stack frames chain slots saved-stack saved-frames ready finalize setup plain) k f) answers i
 
 abbrev μ-loop : tie.MeasureT-loop
-μ-loop ok stack₀ frames₀ chain₀ slots₀ saved-stack₀ saved-frames₀ ready₀ finalize₀ setup l calls answers₀ n k₀ f₀ i₀ stack frames chain slots saved-stack saved-frames ready finalize answers k f i = n - i
+μ-loop stack₀ frames₀ chain₀ slots₀ saved-stack₀ saved-frames₀ ready₀ finalize₀ setup l calls answers₀ n k₀ f₀ i₀ stack frames chain slots saved-stack saved-frames ready finalize answers k f i = n - i
 
 -- the ways back that several clauses take
 abbrev start-of : tie.At-loop Inv-loop μ-loop → tie.Start Inv-loop μ-loop
@@ -29,7 +29,7 @@ abbrev do-read-of : tie.After-slice-known18 Inv-loop μ-loop → tie.After-do-re
 do-read-of c = c .before .before .before .before .before .before .before .before .before .before .before .before .before .before .before .before .before .before .before .before .before .before
 
 loop-holds : tie.Need-loop-holds Inv-loop μ-loop
-loop-holds c = along-start _ _ _ _ _ _ (c .before .before .before .before .before .before .before .before .before .before .before .pre)
+loop-holds c = along-start _ _ _ _ _ (c .before .before .before .before .before .before .before .before .before .before .before .pre)
 
 read-at-requires : tie.Need-read-at-requires Inv-loop μ-loop
 read-at-requires c κs =
@@ -58,14 +58,14 @@ loop-again c =
     along-next (loop .loop .inv) (test .loop-test .taken) (start-of loop .pre .room)
     (did .before .before .before .before .before .before .before .before .before .read-at .ensures) (did .do-read .ensures) (at-put .put-at .ensures)
     (record {
-      stack = same .1 .0;
-      frames = same .1 .1 .0;
-      chain = same .1 .1 .1 .0;
-      slots = same .1 .1 .1 .1 .0;
-      savedStack = same .1 .1 .1 .1 .1 .0;
-      savedFrames = same .1 .1 .1 .1 .1 .1 .0;
-      ready = same .1 .1 .1 .1 .1 .1 .1 .0;
-      finalize = same .1 .1 .1 .1 .1 .1 .1 .1 .0;
+      stack = same .0;
+      frames = same .1 .0;
+      chain = same .1 .1 .0;
+      slots = same .1 .1 .1 .0;
+      savedStack = same .1 .1 .1 .1 .0;
+      savedFrames = same .1 .1 .1 .1 .1 .0;
+      ready = same .1 .1 .1 .1 .1 .1 .0;
+      finalize = same .1 .1 .1 .1 .1 .1 .1 .0;
       setup = refl;
     })
     refl (at-put .put-at .kept .0)
@@ -74,7 +74,7 @@ returns : tie.Need-returns Inv-loop μ-loop
 returns c =
     let loop = c .before in
     let over : start-of loop .args .n ≤ loop .loop .i = (let t = c .loop-test .left in omega arith) in
-    along-end _ _ _ _ _ _ _ _ _ over (loop .loop .inv)
+    along-end _ _ _ _ _ _ _ _ over (loop .loop .inv)
 
 pub run-list-spec : {M : Type 1} → statement M
 run-list-spec =

@@ -1,4 +1,4 @@
--- `bvm_try_resume` meets its contract: an entry done on the words, or nothing done. Assumes nothing.
+-- `bvm_try_resume_unchecked` meets its contract: an entry done on the words, or nothing done. Assumes nothing.
 use mathlib.Core.Path.{_≡_, refl, sym, ap, _∙_}
 use native.Mathlib.Omega.{arith}
 use lib.ListN.{getD}
@@ -10,8 +10,8 @@ use Rattle.linked_switch.specs.Enters.{enters, mayEnter}
 use Rattle.linked_switch.proofs.Hosts.{long, holds, enters-fit}
 use Rattle.linked_switch.proofs.Switching.{not-here, done-here}
 use borrow.Author.Needs.{needs}
-use Rattle.linked_switch.proofs.resume.bvm_try_resume.Statement.{statement}
-use Rattle.linked_switch.proofs.resume.bvm_try_resume.Tie as tie
+use Rattle.linked_switch.proofs.resume.bvm_try_resume_unchecked.Statement.{statement}
+use Rattle.linked_switch.proofs.resume.bvm_try_resume_unchecked.Tie as tie
 
 abbrev mem : tie.Start → Beside → Lent
 mem c = let a = c .args in lent (a .stack .now) (a .frames .now) (a .chain .now) (a .slots .now) (a .saved-stack .now) (a .saved-frames .now)
@@ -63,8 +63,8 @@ returns-2 c =
     not-here (Op.Resume (a .pc) (a .dst) (a .coro) (a .src)) (mayEnter (a .stack .now) (a .frames .now) (a .slots .now) (a .machine .now) (getD (a .fuel .now) 0 0) (a .dst) (a .coro) (a .src)) (mem start)
     (a .machine .now) (a .fuel .now) (sym (ap enters (c .enum-told .given .1)) ∙ at-may-enter .may-enter .ensures .told)
 
-pub bvm-try-resume-spec : {M : Type 1} → statement M
-bvm-try-resume-spec =
+pub bvm-try-resume-unchecked-spec : {M : Type 1} → statement M
+bvm-try-resume-unchecked-spec =
     tie.close
     (tie.spec
     slice-read-may-enter

@@ -1,4 +1,4 @@
--- `bvm_try_yield` meets its contract: a suspension done on the words, or nothing done. Assumes nothing.
+-- `bvm_try_yield_unchecked` meets its contract: a suspension done on the words, or nothing done. Assumes nothing.
 use mathlib.Core.Path.{_≡_, refl, sym, ap, _∙_}
 use native.Mathlib.Omega.{arith}
 use lib.ListN.{getD}
@@ -10,8 +10,8 @@ use Rattle.linked_switch.specs.Leaves.{leaves, mayLeave}
 use Rattle.linked_switch.proofs.Hosts.{long, holds, leaves-fit}
 use Rattle.linked_switch.proofs.Switching.{not-here, done-here}
 use borrow.Author.Needs.{needs}
-use Rattle.linked_switch.proofs.yielding.bvm_try_yield.Statement.{statement}
-use Rattle.linked_switch.proofs.yielding.bvm_try_yield.Tie as tie
+use Rattle.linked_switch.proofs.yielding.bvm_try_yield_unchecked.Statement.{statement}
+use Rattle.linked_switch.proofs.yielding.bvm_try_yield_unchecked.Tie as tie
 
 abbrev mem : tie.Start → Beside → Lent
 mem c = let a = c .args in lent (a .stack .now) (a .frames .now) (a .chain .now) (a .slots .now) (a .saved-stack .now) (a .saved-frames .now)
@@ -63,8 +63,8 @@ returns-2 c =
     not-here (Op.Yield (a .pc) (a .dst) (a .src)) (mayLeave (a .frames .now) (a .chain .now) (a .slots .now) (a .machine .now) (getD (a .fuel .now) 0 0) (a .dst) (a .src)) (mem start)
     (a .machine .now) (a .fuel .now) (sym (ap leaves (c .enum-told .given .1)) ∙ at-may-leave .may-leave .ensures .told)
 
-pub bvm-try-yield-spec : {M : Type 1} → statement M
-bvm-try-yield-spec =
+pub bvm-try-yield-unchecked-spec : {M : Type 1} → statement M
+bvm-try-yield-unchecked-spec =
     tie.close
     (tie.spec
     slice-read-may-leave

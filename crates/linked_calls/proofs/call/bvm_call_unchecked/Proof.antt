@@ -1,9 +1,9 @@
--- `bvm_kept` meets its contract. Assumes nothing.
+-- `bvm_call_unchecked` meets its contract. Assumes nothing.
 use mathlib.Core.Path.{sym, _∙_, refl}
 use Rattle.lists.specs.Pick.{pick-true}
 use borrow.Author.Needs.{needs}
-use Rattle.linked_calls.proofs.call.bvm_kept.Statement.{statement}
-use Rattle.linked_calls.proofs.call.bvm_kept.Tie as tie
+use Rattle.linked_calls.proofs.call.bvm_call_unchecked.Statement.{statement}
+use Rattle.linked_calls.proofs.call.bvm_call_unchecked.Tie as tie
 
 abbrev do-call-of : tie.After-slice-known22 → tie.After-do-call
 do-call-of c = c .before .before .before .before .before .before .before .before .before .before .before .before .before .before .before .before .before .before .before .before .before .before
@@ -16,8 +16,8 @@ do-call-requires c κs =
 returns : tie.Need-returns
 returns c = do-call-of c .do-call .ensures ∙ pick-true _ _
 
-pub bvm-kept-spec : {M : Type 1} → statement M
-bvm-kept-spec =
+pub bvm-call-unchecked-spec : {M : Type 1} → statement M
+bvm-call-unchecked-spec =
     tie.close
     (tie.spec
     do-call-requires (λ c. do-call-of c .do-call .kept .1 .0) (λ c. do-call-of c .do-call .kept .1 .1 .0) (λ c. do-call-of c .do-call .kept .1 .1 .1 .0)
