@@ -1,3 +1,4 @@
 pub mod Words
+pub mod Bodies
 pub mod Watching
 pub mod Playing

@@ -23,7 +23,7 @@ use Rattle.furnace.specs.declared.watch.Part.{Part}
 use Rattle.furnace.specs.declared.watch.Sent.{Sent}
 use Rattle.furnace.specs.declared.note.Seen.{Seen}
 use Rattle.furnace.specs.declared.note.Count.{Count}
-use Rattle.furnace.specs.Watch.{coroIn, floorIn, ownerIn, topBase, ownBase, ownWords, partOf, noSent, sentBy, arriving, noteOf, noteFits, note, notedAt, noted, atMost, notedWords, heldIn, sentTo, oneMore, entering, counted}
+use Rattle.furnace.specs.Watch.{coroIn, floorIn, ownerIn, topBase, ownBase, ownWords, partOf, noSent, sentBy, arriving, noteOf, noteFits, framesFit, note, noteFrames, notedAt, noted, atMost, notedWords, heldIn, sentTo, oneMore, framesBack, isBack, entering, counted}
 use Rattle.furnace.proofs.watch.Part as Part′
 use Rattle.furnace.proofs.Words.{clamped}
 
@@ -83,7 +83,7 @@ module _ (stack frames : List ℕ) (m : Machine) where
       (λ k. record { is = true; word = h k }) ∙ ap (sentBy stack frames m) (sym e)
 
   pub no-sends : (p : Part) → OneOf (0 ∷ 3 ∷ []) (tagOf Part′.the-type p) → noSent ≡ sentBy stack frames m p
-  no-sends (Part.Waits r) h = refl
+  no-sends (Part.Waits r pc) h = refl
   no-sends (Part.Sends r) h = absurd (miss (0 ∷ 3 ∷ []) 1 tt h)
   no-sends (Part.Hands x) h = absurd (miss (0 ∷ 3 ∷ []) 2 tt h)
   no-sends Part.Neither h = refl
@@ -100,74 +100,81 @@ no-and : (a b : Bool) → b ≡ false → (a && b) ≡ false
 no-and true b e = e
 no-and false b e = refl
 
-module _ (stack frames chain : List ℕ) (m : Machine) (r : ℕ) (notes : List ℕ) where
-  abbrev fits : ℕ → ℕ → Bool
-  fits own top = noteFits stack own top (m .height) r
+module _ (stack frames chain : List ℕ) (m : Machine) (r pc : ℕ) (notes : List ℕ) where
+  abbrev fits : ℕ → ℕ → ℕ → Bool
+  fits own top floor = noteFits stack own top (m .height) r && framesFit frames floor (m .depth)
 
   abbrev runs : Bool
   runs = not (eqb (m .active) 0)
 
   -- the note, and what is left where the tests say b
-  abbrev it : ℕ → ℕ → List ℕ
-  it own top = note stack (noteOf (coroIn chain (m .active - 1))) (m .height - own) (top - own + r) own notes
+  abbrev it : ℕ → ℕ → ℕ → List ℕ
+  it own top floor =
+      let at = noteOf (coroIn chain (m .active - 1)) in
+      noteFrames frames at floor (m .depth - floor) pc (note stack at (m .height - own) (top - own + r) own notes)
 
-  abbrev leaves : ℕ → ℕ → Bool → List ℕ
-  leaves own top b = pick b (it own top) notes
+  abbrev leaves : ℕ → ℕ → ℕ → Bool → List ℕ
+  leaves own top floor b = pick b (it own top floor) notes
 
-  pub nobody-noted : m .active ≡ 0 → notes ≡ notedAt stack frames chain m r notes
+  pub nobody-noted : m .active ≡ 0 → notes ≡ notedAt stack frames chain m r pc notes
   nobody-noted h =
       let own = ownBase frames chain m in
       let top = topBase frames m in
-      sym (ap (λ (b : Bool). leaves own top (not b && fits own top)) (eq-eqb (m .active) 0 h) ∙ pick-false (it own top) notes)
+      let floor = floorIn chain (m .active - 1) in
+      sym (ap (λ (b : Bool). leaves own top floor (not b && fits own top floor)) (eq-eqb (m .active) 0 h) ∙ pick-false (it own top floor) notes)
 
-  module _ (own top : ℕ) (b : Bool) (p : own ≡ ownBase frames chain m) (q : top ≡ topBase frames m) (f : b ≡ fits own top) where
-    there : leaves own top (runs && fits own top) ≡ notedAt stack frames chain m r notes
-    there = ap₂ (λ (x y : ℕ). leaves x y (runs && fits x y)) p q
+  module _ (own top floor : ℕ) (b : Bool) (p : own ≡ ownBase frames chain m) (q : top ≡ topBase frames m) (s : floor ≡ floorIn chain (m .active - 1)) (f : b ≡ fits own top floor) where
+    there : leaves own top floor (runs && fits own top floor) ≡ notedAt stack frames chain m r pc notes
+    there =
+        ap₂ (λ (x y : ℕ). leaves x y floor (runs && fits x y floor)) p q
+        ∙ ap (λ (z : ℕ). leaves (ownBase frames chain m) (topBase frames m) z (runs && fits (ownBase frames chain m) (topBase frames m) z)) s
 
-    pub none-noted : not b ≡ true → notes ≡ notedAt stack frames chain m r notes
-    none-noted h = sym (ap (leaves own top) (no-and runs (fits own top) (sym f ∙ not-true b h)) ∙ pick-false (it own top) notes) ∙ there
+    pub none-noted : not b ≡ true → notes ≡ notedAt stack frames chain m r pc notes
+    none-noted h = sym (ap (leaves own top floor) (no-and runs (fits own top floor) (sym f ∙ not-true b h)) ∙ pick-false (it own top floor) notes) ∙ there
 
     pub one-noted : not b ≡ false → (m .active ≡ 0 → ⊥) → (at above : ℕ) → at ≡ noteOf (coroIn chain (m .active - 1)) → above ≡ top - own
-        → (ns : List ℕ) → ns ≡ note stack at (m .height - own) (above + r) own notes → ns ≡ notedAt stack frames chain m r notes
-    one-noted h k at above e g ns is =
-        is
-        ∙ ap₂ (λ (x y : ℕ). note stack x (m .height - own) (y + r) own notes) e g
-        ∙ sym (ap (λ (c : Bool). leaves own top (not c && fits own top)) (ne-eqb (m .active) 0 k) ∙ ap (leaves own top) (sym f ∙ not-false b h) ∙ pick-true (it own top) notes)
+        → (ns ks : List ℕ) → ns ≡ note stack at (m .height - own) (above + r) own notes → ks ≡ noteFrames frames at floor (m .depth - floor) pc ns
+        → ks ≡ notedAt stack frames chain m r pc notes
+    one-noted h k at above e g ns ks is also =
+        also
+        ∙ ap (noteFrames frames at floor (m .depth - floor) pc) is
+        ∙ ap₂ (λ (x y : ℕ). noteFrames frames x floor (m .depth - floor) pc (note stack x (m .height - own) (y + r) own notes)) e g
+        ∙ sym (ap (λ (c : Bool). leaves own top floor (not c && fits own top floor)) (ne-eqb (m .active) 0 k) ∙ ap (leaves own top floor) (sym f ∙ not-false b h) ∙ pick-true (it own top floor) notes)
         ∙ there
 
 module _ (stack frames chain : List ℕ) (m : Machine) where
   pub no-waits : (notes : List ℕ) (p : Part) → OneOf (1 ∷ 2 ∷ 3 ∷ []) (tagOf Part′.the-type p) → notes ≡ noted stack frames chain m p notes
-  no-waits notes (Part.Waits r) h = absurd (miss (1 ∷ 2 ∷ 3 ∷ []) 0 tt h)
+  no-waits notes (Part.Waits r pc) h = absurd (miss (1 ∷ 2 ∷ 3 ∷ []) 0 tt h)
   no-waits notes (Part.Sends r) h = refl
   no-waits notes (Part.Hands x) h = refl
   no-waits notes Part.Neither h = refl
 
   -- ---- a wake
 
-  pub woken-is : (held : List ℕ) (s : Sent) (place : ℕ) (c : Count) (own e from : ℕ) (b : Bool) → own ≡ ownBase frames chain m → e ≡ atMost (length stack) (m .height) → from ≡ atMost e own
-      → b ≡ same (sentTo (s .is) place (s .word) held) (take (e - from) (drop from stack)) → (d : Count) → d ≡ oneMore c b
-      → d ≡ oneMore c (same (sentTo (s .is) place (s .word) held) (ownWords stack frames chain m))
-  woken-is held s place c own e from b o p q f d is =
-      let back = clamped stack own (m .height) from e p q ∙ ap (λ (x : ℕ). part x (m .height - x) stack) o in
-      is ∙ ap (oneMore c) (f ∙ ap (same (sentTo (s .is) place (s .word) held)) back)
+  pub woken-is : (s : Sent) (notes : List ℕ) (at n : ℕ) (c : Count) (own e start low : ℕ) (words bodies b : Bool) → n ≡ notedWords notes at → own ≡ ownBase frames chain m
+      → e ≡ atMost (length stack) (m .height) → start ≡ atMost e own → low ≡ floorIn chain (m .active - 1)
+      → words ≡ same (sentTo (s .is) (getD notes (at + 1) 0) (s .word) (take (at + 3 + n - (at + 3)) (drop (at + 3) notes))) (take (e - start) (drop start stack))
+      → bodies ≡ framesBack frames low (m .depth) notes at (s .is) (getD notes (at + 2) 0) own → b ≡ words && bodies → (d : Count) → d ≡ oneMore c b
+      → d ≡ oneMore c (isBack stack frames chain m s notes at)
+  woken-is s notes at n c own e start low words bodies b many o p q f w g both d is =
+      let back = clamped stack own (m .height) start e p q ∙ ap (λ (x : ℕ). part x (m .height - x) stack) o in
+      let held = ap (λ (k : ℕ). take k (drop (at + 3) notes)) (span (at + 3) n) ∙ ap (λ (k : ℕ). part (at + 3) k notes) many in
+      let one = w ∙ ap₂ (λ (x y : List ℕ). same (sentTo (s .is) (getD notes (at + 1) 0) (s .word) x) y) held back in
+      let two = g ∙ ap₂ (λ (x y : ℕ). framesBack frames x (m .depth) notes at (s .is) (getD notes (at + 2) 0) y) f o in
+      is ∙ ap (oneMore c) (both ∙ ap₂ _&&_ one two)
 
   module _ (s : Sent) (notes : List ℕ) (c : Count) (at n : ℕ) (is : at ≡ noteOf (coroIn chain (m .active - 1))) (e : n ≡ notedWords notes at) where
-    abbrev woken : ℕ → ℕ → Count
-    woken x k = oneMore c (same (sentTo (s .is) (getD notes (x + 1) 0) (s .word) (part (x + 3) k notes)) (ownWords stack frames chain m))
+    abbrev woken : ℕ → Count
+    woken x = oneMore c (isBack stack frames chain m s notes x)
 
-    found : pick (eqb n 0) c (woken at n) ≡ entering stack frames chain m s notes c
-    found = ap (λ (k : ℕ). pick (eqb k 0) c (woken at k)) e ∙ ap (λ (x : ℕ). pick (eqb (notedWords notes x) 0) c (woken x (notedWords notes x))) is
+    found : pick (eqb n 0) c (woken at) ≡ entering stack frames chain m s notes c
+    found = ap (λ (k : ℕ). pick (eqb k 0) c (woken at)) e ∙ ap (λ (x : ℕ). pick (eqb (notedWords notes x) 0) c (woken x)) is
 
     pub starts : n ≡ 0 → c ≡ entering stack frames chain m s notes c
-    starts h = sym (ap (λ (b : Bool). pick b c (woken at n)) (eq-eqb n 0 h) ∙ pick-true c (woken at n)) ∙ found
+    starts h = sym (ap (λ (b : Bool). pick b c (woken at)) (eq-eqb n 0 h) ∙ pick-true c (woken at)) ∙ found
 
-    pub wakes : (n ≡ 0 → ⊥) → (d : Count)
-        → d ≡ oneMore c (same (sentTo (s .is) (getD notes (at + 1) 0) (s .word) (take (at + 3 + n - (at + 3)) (drop (at + 3) notes))) (ownWords stack frames chain m))
-        → d ≡ entering stack frames chain m s notes c
-    wakes h d f =
-        f ∙ ap (λ (k : ℕ). woken at k) (span (at + 3) n)
-        ∙ sym (ap (λ (b : Bool). pick b c (woken at n)) (ne-eqb n 0 h) ∙ pick-false c (woken at n))
-        ∙ found
+    pub wakes : (n ≡ 0 → ⊥) → (d : Count) → d ≡ woken at → d ≡ entering stack frames chain m s notes c
+    wakes h d f = f ∙ sym (ap (λ (b : Bool). pick b c (woken at)) (ne-eqb n 0 h) ∙ pick-false c (woken at)) ∙ found
 
   module _ (a : Answer) (was : Seen) (notes : List ℕ) (c : Count) where
     abbrev by : ℕ → Count

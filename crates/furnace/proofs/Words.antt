@@ -129,7 +129,7 @@ clamped xs own h s e p q = inner (leb h (length xs)) refl (leb own e) refl where
 
 -- ---- a note
 
-pub note-below : (w : ℕ) → noteOf w ≤ 48
+pub note-below : (w : ℕ) → noteOf w ≤ 96
 note-below w = omega arith
 
 pub record Fits (stack : List ℕ) (own top height r : ℕ) : Type 0 where

@@ -1,11 +1,12 @@
--- What who watches sees in a machine's words, before and after each call, and when a sleeper has come back.
+-- What an observer sees in a machine's words before and after each call, and when a sleeper has come back.
 use mathlib.Core.Bool.{Bool, true, false, not, _&&_}
 use mathlib.Core.List.{List, [], _∷_}
-use Prim.Native.Nat.{ℕ, zero, suc, _+_, _-_, _*_, _%_, _^_}
+use Prim.Native.Nat.{ℕ, zero, suc, _+_, _-_, _*_, _/_, _%_, _^_}
 use lib.ListN.{length, getD, set}
 use lib.Dec.{eqb, leb, ltb}
 use Rattle.lists.specs.Pick.{pick}
 use Rattle.lists.specs.Parts.{part, splice}
+use Rattle.lists.specs.Tests.{allBelow}
 use Rattle.heap.specs.Word.{nil}
 use Rattle.model.specs.Answer.{numberOf}
 use Rattle.model.specs.declared.call.Op.{Op}
@@ -49,15 +50,15 @@ ownWords stack frames chain m = let own = ownBase frames chain m in part own (m 
 
 -- ---- a call
 
--- whether it suspends who runs, and which register then waits; whether it enters somebody with a word for the register that waits (a throw and a
+-- whether it suspends the coroutine that runs, which register then waits, and its pc; whether it enters somebody with a word for the register that waits (a throw and a
 -- close raise theirs)
 abbrev pub partOf : Op → Part
 partOf (Op.CoroNew pc dst f argc) = Part.Neither
 partOf (Op.CoroNewIndirect pc dst callee argc) = Part.Neither
 partOf (Op.Spawn pc dst callee argc) = Part.Neither
-partOf (Op.Yield pc dst src) = Part.Waits dst
-partOf (Op.YieldKv pc dst src key) = Part.Waits dst
-partOf (Op.Await pc dst src) = Part.Waits dst
+partOf (Op.Yield pc dst src) = Part.Waits dst pc
+partOf (Op.YieldKv pc dst src key) = Part.Waits dst pc
+partOf (Op.Await pc dst src) = Part.Waits dst pc
 partOf (Op.Resume pc dst c src) = Part.Sends src
 partOf (Op.ResumeThrow pc dst c src) = Part.Neither
 partOf (Op.CoroClose pc dst c src) = Part.Neither
@@ -85,7 +86,7 @@ abbrev pub noSent : Sent
 noSent = record { is = false; word = 0 }
 
 abbrev pub sentBy : List ℕ → List ℕ → Machine → Part → Sent
-sentBy stack frames m (Part.Waits r) = noSent
+sentBy stack frames m (Part.Waits r pc) = noSent
 sentBy stack frames m (Part.Sends r) = record { is = true; word = getD stack (topBase frames m + r) 0 }
 sentBy stack frames m (Part.Hands x) = record { is = true; word = x }
 sentBy stack frames m Part.Neither = noSent
@@ -99,10 +100,10 @@ arriving n s = pick (eqb n 0) s noSent
 abbrev pub seenIn : List ℕ → List ℕ → List ℕ → Machine → Op → Seen
 seenIn stack frames chain m o = record { active = m .active; coro = innermost chain (m .active); sent = sentBy stack frames m (partOf o) }
 
--- A note of a sleeper: how many words it holds, which of them waits, its base, and the words. It has room for 13, and there is one for each of
--- the slots 6 to 9.
+-- A note of a sleeper, 32 words: how many words it holds, which of them waits, its base, and the words, at most 13; from place 16 on how many
+-- frames it has, and their words, at most 12. There is one for each of the slots 6 to 9.
 abbrev pub noteOf : ℕ → ℕ
-noteOf w = (w % 4 + 2) % 4 * 16
+noteOf w = (w % 4 + 2) % 4 * 32
 
 abbrev pub noteFits : List ℕ → ℕ → ℕ → ℕ → ℕ → Bool
 noteFits stack own top height r = leb own height && (leb height (length stack) && (leb (height - own) 13 && ltb (top - own + r) (height - own)))
@@ -110,17 +111,31 @@ noteFits stack own top height r = leb own height && (leb height (length stack) &
 abbrev pub note : List ℕ → ℕ → ℕ → ℕ → ℕ → List ℕ → List ℕ
 note stack at n place own notes = splice (set (set (set notes at n) (at + 1) place) (at + 2) own) (at + 3) (part own n stack)
 
--- of who runs, where the register r of the top frame is to wait
-abbrev pub notedAt : List ℕ → List ℕ → List ℕ → Machine → ℕ → List ℕ → List ℕ
-notedAt stack frames chain m r notes =
+-- the frames from place `floor` on, at most two
+abbrev pub framesFit : List ℕ → ℕ → ℕ → Bool
+framesFit frames floor depth = ltb floor depth && (leb (depth - floor) 2 && leb depth (length frames / 6))
+
+-- where the top one's pc stands among the words of n frames
+abbrev pub topPc : ℕ → ℕ
+topPc n = n * 6 - 5
+
+-- with the pc at which the top one sleeps
+abbrev pub noteFrames : List ℕ → ℕ → ℕ → ℕ → ℕ → List ℕ → List ℕ
+noteFrames frames at floor n pc notes = set (splice (set notes (at + 16) n) (at + 17) (part (floor * 6) (n * 6) frames)) (at + 17 + topPc n) pc
+
+-- of the coroutine that runs, where the register r of the top frame is to wait
+abbrev pub notedAt : List ℕ → List ℕ → List ℕ → Machine → ℕ → ℕ → List ℕ → List ℕ
+notedAt stack frames chain m r pc notes =
     let own = ownBase frames chain m in
     let top = topBase frames m in
-    pick (not (eqb (m .active) 0) && noteFits stack own top (m .height) r)
-    (note stack (noteOf (coroIn chain (m .active - 1))) (m .height - own) (top - own + r) own notes)
+    let floor = floorIn chain (m .active - 1) in
+    let at = noteOf (coroIn chain (m .active - 1)) in
+    pick (not (eqb (m .active) 0) && (noteFits stack own top (m .height) r && framesFit frames floor (m .depth)))
+    (noteFrames frames at floor (m .depth - floor) pc (note stack at (m .height - own) (top - own + r) own notes))
     notes
 
 abbrev pub noted : List ℕ → List ℕ → List ℕ → Machine → Part → List ℕ → List ℕ
-noted stack frames chain m (Part.Waits r) notes = notedAt stack frames chain m r notes
+noted stack frames chain m (Part.Waits r pc) notes = notedAt stack frames chain m r pc notes
 noted stack frames chain m (Part.Sends r) notes = notes
 noted stack frames chain m (Part.Hands x) notes = notes
 noted stack frames chain m Part.Neither notes = notes
@@ -143,6 +158,22 @@ abbrev pub sentTo : Bool → ℕ → ℕ → List ℕ → List ℕ
 sentTo true place x held = set held place x
 sentTo false place x held = held
 
+-- word p of the frames again, which was `was` and is `is`: a base as far above the sleeper's own as it was; the top one's pc one step further
+-- where a word is sent; any other the same
+abbrev pub wordBack : Bool → ℕ → ℕ → ℕ → ℕ → ℕ → ℕ → Bool
+wordBack sent n from to p was is =
+    pick (eqb (p % 6) 2) (eqb (is - to) (was - from))
+    (pick (sent && eqb p (topPc n)) (eqb is ((was % 2 ^ 32 + 1) % 2 ^ 32)) (eqb is was))
+
+abbrev pub notedFrames : List ℕ → ℕ → ℕ
+notedFrames notes at = atMost 2 (getD notes (at + 16) 0)
+
+-- those from place `floor` on, the sleeper's own base being `from` then and `to` now
+abbrev pub framesBack : List ℕ → ℕ → ℕ → List ℕ → ℕ → Bool → ℕ → ℕ → Bool
+framesBack frames floor depth notes at sent from to =
+    let n = notedFrames notes at in
+    eqb (depth - floor) n && allBelow (n * 6) (λ p. wordBack sent n from to p (getD notes (at + 17 + p) 0) (getD frames (floor * 6 + p) 0))
+
 abbrev pub none : Count
 none = record { wakes = 0; equal = 0 }
 
@@ -150,11 +181,17 @@ none = record { wakes = 0; equal = 0 }
 abbrev pub oneMore : Count → Bool → Count
 oneMore c equal = record { wakes = (c .wakes + 1) % 2 ^ 64; equal = pick equal ((c .equal + 1) % 2 ^ 64) (c .equal) }
 
--- who runs now was entered: if it has a note it was woken, and is to have again what it held
+-- whether the coroutine that runs has again the words and the frames of the note at `at`
+abbrev pub isBack : List ℕ → List ℕ → List ℕ → Machine → Sent → List ℕ → ℕ → Bool
+isBack stack frames chain m s notes at =
+    same (sentTo (s .is) (getD notes (at + 1) 0) (s .word) (heldIn notes at)) (ownWords stack frames chain m)
+    && framesBack frames (floorIn chain (m .active - 1)) (m .depth) notes at (s .is) (getD notes (at + 2) 0) (ownBase frames chain m)
+
+-- the coroutine that runs now was entered: if it has a note it was woken, and is to have again what it held
 abbrev pub entering : List ℕ → List ℕ → List ℕ → Machine → Sent → List ℕ → Count → Count
 entering stack frames chain m s notes c =
     let at = noteOf (coroIn chain (m .active - 1)) in
-    pick (eqb (notedWords notes at) 0) c (oneMore c (same (sentTo (s .is) (getD notes (at + 1) 0) (s .word) (heldIn notes at)) (ownWords stack frames chain m)))
+    pick (eqb (notedWords notes at) 0) c (oneMore c (isBack stack frames chain m s notes at))
 
 -- the call answered n: was somebody entered?
 abbrev pub counted : List ℕ → List ℕ → List ℕ → Machine → ℕ → Seen → List ℕ → Count → Count

@@ -1,4 +1,5 @@
 // A furnace line whose scripts sleep and are woken: what each held, and what came back.
+mod body;
 mod note;
 mod show;
 mod story;
@@ -85,7 +86,7 @@ fn turn(
     notes: &mut [u64],
     count: Count,
 ) -> Played
-    requires { ⌜ length (now notes) ≡ 64 ⌝ }
+    requires { ⌜ length (now notes) ≡ 128 ⌝ }
     ensures { λ r. ⌜ watched (state (nine stack frames chain slots «saved_stack» «saved_frames» ready finalize setup atExit) (r .machine) (r .fuel)) (atExit notes) (r .count)
         ≡ watch (watched (state (nine stack frames chain slots «saved_stack» «saved_frames» ready finalize setup atEntry) m fuel) (atEntry notes) count) op ⌝ }
 {
@@ -170,7 +171,7 @@ fn play(
     fuel: Fuel,
     notes: &mut [u64],
 ) -> Played
-    requires { ⌜ length (now notes) ≡ 64 ⌝ }
+    requires { ⌜ length (now notes) ≡ 128 ⌝ }
     ensures { λ r. ⌜ watched (state (nine stack frames chain slots «saved_stack» «saved_frames» ready finalize setup atExit) (r .machine) (r .fuel)) (atExit notes) (r .count)
         ≡ watches (watched (state (nine stack frames chain slots «saved_stack» «saved_frames» ready finalize setup atEntry) m fuel) (atEntry notes) none) story ⌝ }
 {
@@ -222,7 +223,7 @@ fn line(
     notes: &mut [u64],
     given: &[u64],
 ) -> Count
-    requires { ⌜ length (now notes) ≡ 64 ⌝ }
+    requires { ⌜ length (now notes) ≡ 128 ⌝ }
     ensures { λ r. ⌜ r ≡ watches (watched (setUpWords (state (nine stack frames chain slots «saved_stack» «saved_frames» ready finalize setup atEntry) blank empty) (now (given .entry)) .state) (atEntry notes) none) story .count ⌝ }
 {
     let began = outer_call::set_up::set_up(
@@ -269,7 +270,7 @@ fn main() {
     let mut ready = [0u64; 16];
     let mut finalize = [0u64; 16];
     let mut setup = [0u64; 224];
-    let mut notes = [0u64; 64];
+    let mut notes = [0u64; 128];
     tell::heading();
     let count = line(
         &mut stack,

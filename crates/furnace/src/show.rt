@@ -106,28 +106,75 @@ pub(crate) fn line(text: &[u8], w: u64) {
     say(b"\n");
 }
 
-// All words of a slice.
-pub(crate) fn words(s: &[u64]) {
+// The word that was sent, in brackets.
+fn sent_word(w: u64) {
+    match Word(w).class() {
+        Class::Nil => say(b"  [-]"),
+        Class::Ref(o) => {
+            say(b" [@");
+            made(o.slot());
+            say(b"]");
+        }
+        Class::Int(n) => {
+            number(b"  [", n);
+            say(b"]");
+        }
+        Class::Opaque => {
+            number(b"  [", w);
+            say(b"]");
+        }
+    }
+}
+
+// No place of a slice.
+pub(crate) const NOWHERE: usize = 0xFFFF_FFFF_FFFF_FFFF;
+
+// All words of a slice, the one at `mark` in brackets.
+pub(crate) fn words(s: &[u64], mark: usize) {
     let mut i = 0;
     while i < s.len() {
-        word(s[i]);
+        if i == mark {
+            sent_word(s[i]);
+        } else {
+            word(s[i]);
+        }
         i += 1;
     }
 }
 
-// The words of the stack from `start` to `end`.
-fn registers(stack: &[u64], start: usize, end: usize) {
+// The words of the stack from `start` to `end`, the one at `mark` above `own` in brackets.
+fn registers(stack: &[u64], start: usize, end: usize, own: usize, mark: usize) {
     if end < start {
         return;
     }
     if stack.len() < end {
         return;
     }
-    words(&stack[start..end]);
+    words(&stack[start..end], place(start, own, mark));
+}
+
+// Where that one stands in a frame that begins at `start`.
+fn place(start: usize, own: usize, mark: usize) -> usize {
+    if start < own {
+        return NOWHERE;
+    }
+    if mark < start - own {
+        return NOWHERE;
+    }
+    mark - (start - own)
 }
 
 // One frame: the part of the stack that is its own, its function, the coroutine that it belongs to, its words.
-fn frame(stack: &[u64], frames: &[u64], chain: &[u64], active: usize, i: usize, end: usize) {
+fn frame(
+    stack: &[u64],
+    frames: &[u64],
+    chain: &[u64],
+    active: usize,
+    i: usize,
+    end: usize,
+    own: usize,
+    mark: usize,
+) {
     let start = base(frames, i);
     say(b"     |");
     right(start as u64);
@@ -137,20 +184,59 @@ fn frame(stack: &[u64], frames: &[u64], chain: &[u64], active: usize, i: usize, 
     }
     say(b" | ");
     function(field(frames, i, 0));
+    right(field(frames, i, 1));
     say(b" | ");
     name(owner(chain, active, i));
     say(b" |");
-    registers(stack, start, end);
+    registers(stack, start, end, own, mark);
     say(b"\n");
 }
 
-// The stack as it stands, the top frame first.
-pub(crate) fn stack(stack: &[u64], frames: &[u64], chain: &[u64], m: Machine) {
+// The functions and pcs of frames that were noted from `at` on, at most two.
+pub(crate) fn noted(notes: &[u64], at: usize) {
+    say(b"   at");
+    if notes.len() < 9 {
+        return;
+    }
+    if notes.len() - 9 < at {
+        return;
+    }
+    body(notes[at + 1], notes[at + 2]);
+    if 1 < notes[at] {
+        body(notes[at + 7], notes[at + 8]);
+    }
+}
+
+fn body(f: u64, pc: u64) {
+    say(b"  ");
+    function(f);
+    number(b" ", pc);
+}
+
+// The functions and pcs of the frames from `floor` on.
+pub(crate) fn bodies(frames: &[u64], floor: usize, depth: usize) {
+    say(b"   at");
+    let mut i = floor;
+    while i < depth {
+        body(field(frames, i, 0), field(frames, i, 1));
+        i += 1;
+    }
+}
+
+// The stack as it stands, the top frame first; the word at `mark` above `own` in brackets.
+pub(crate) fn stack(
+    stack: &[u64],
+    frames: &[u64],
+    chain: &[u64],
+    m: Machine,
+    own: usize,
+    mark: usize,
+) {
     let mut i = m.depth;
     let mut end = m.height;
     while i > 0 {
         i -= 1;
-        frame(stack, frames, chain, m.active, i, end);
+        frame(stack, frames, chain, m.active, i, end, own, mark);
         end = base(frames, i);
     }
 }

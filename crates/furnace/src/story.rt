@@ -21,7 +21,7 @@ const SENSOR: u64 = 0x1_0000_0000_0009;
 const READINGS: u64 = 0x1_0000_0000_000A;
 
 // The integer 0 as a word.
-const INT: u64 = 0xFFFE_0000_0000_0000;
+const INT: u64 = Word::INT;
 
 // How many there are.
 pub(crate) const CALLS: usize = 58;

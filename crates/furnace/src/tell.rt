@@ -1,9 +1,11 @@
 // What there is to say of a call, and the wakes counted. What C's `write` does with the text no contract says; the counts each has.
 ghost use mathlib.Core.Path.{_≡_};
+ghost use mathlib.Core.Bool.{_&&_};
+ghost use Prim.Native.Nat.{_+_, _≤_};
 ghost use lib.ListN.{length};
-ghost use Rattle.memory_calls.specs.Codes.{same};
 ghost use Rattle.model.specs.Answer.{numberOf};
-ghost use Rattle.furnace.specs.Watch.{ownWords, sentTo, oneMore, entering, counted};
+ghost use Rattle.furnace.specs.Watch.{isBack, notedWords, oneMore, entering, counted};
+use crate::body;
 use crate::note::Count;
 use crate::note::Seen;
 use crate::note::note_of;
@@ -15,6 +17,7 @@ use crate::watch::arrives;
 use crate::watch::at_most;
 use crate::watch::coroutine;
 use crate::watch::field;
+use crate::watch::floor;
 use crate::watch::last;
 use crate::watch::own_base;
 use crate::watch::part_of;
@@ -25,36 +28,65 @@ use model::call::Answer;
 use model::call::Op;
 use model::machine::Fuel;
 
-// A sleeper was woken: the stack as it stands, what it held and what came back.
+// A sleeper was woken: the stack as it stands, what it held and what came back. Its note of n words begins at `at`.
 fn woken(
     stack: &[u64],
     frames: &[u64],
     chain: &[u64],
     m: Machine,
     sent: Sent,
-    held: &[u64],
-    place: usize,
-    from: u64,
+    notes: &[u64],
+    at: usize,
+    n: usize,
     count: Count,
 ) -> Count
-    ensures { λ r. ⌜ r ≡ oneMore count (same (sentTo (sent .is) place (sent .word) (now (held .entry))) (ownWords (now (stack .entry)) (now (frames .entry)) (now (chain .entry)) m)) ⌝ }
+    requires { ⌜ (at + 32 ≤ length (now notes)) × (n ≡ notedWords (now notes) at) ⌝ }
+    ensures { λ r. ⌜ r ≡ oneMore count (isBack (now (stack .entry)) (now (frames .entry)) (now (chain .entry)) m sent (now (notes .entry)) at) ⌝ }
 {
     let own = own_base(frames, chain, m);
     let height = at_most(stack.len(), m.height);
     let start = at_most(height, own);
     let back = &stack[start..height];
-    let equal = woke(held, sent, place, back);
+    let first = at + 3;
+    let held = &notes[first..first + n];
+    let place = notes[at + 1] as usize;
+    let from = notes[at + 2] as usize;
+    let words = woke(held, sent, place, back);
+    let low = floor(chain, last(m.active));
+    let bodies = body::back(frames, low, m.depth, notes, at, sent.is, from, own);
+    let equal = both(words, bodies);
     show::number(b" WAKES at height ", own as u64);
-    show::number(b" (it slept at ", from);
+    show::number(b" (it slept at ", from as u64);
     show::say(b")");
     show::sent(sent);
-    show::stack(stack, frames, chain, m);
+    let mark = marked(sent.is, place);
+    show::stack(stack, frames, chain, m, own, mark);
     show::say(b"     held     ");
-    show::words(held);
+    show::words(held, held.len());
+    show::noted(notes, at + 16);
     show::say(b"\n     came back");
-    show::words(back);
+    show::words(back, mark);
+    show::bodies(frames, low, m.depth);
     show::verdict(equal, sent.is);
     count.one_more(equal)
+}
+
+// Both.
+fn both(a: bool, b: bool) -> bool
+    ensures { λ r. ⌜ r ≡ a && b ⌝ }
+{
+    if a {
+        return b;
+    }
+    false
+}
+
+// The place of the word that was sent; of none, if none was.
+fn marked(is: bool, place: usize) -> usize {
+    if is {
+        return place;
+    }
+    show::NOWHERE
 }
 
 // A coroutine was entered: it starts, or it is woken.
@@ -67,7 +99,7 @@ fn entered(
     notes: &[u64],
     count: Count,
 ) -> Count
-    requires { ⌜ length (now notes) ≡ 64 ⌝ }
+    requires { ⌜ length (now notes) ≡ 128 ⌝ }
     ensures { λ r. ⌜ r ≡ entering (now (stack .entry)) (now (frames .entry)) (now (chain .entry)) m sent (now (notes .entry)) count ⌝ }
 {
     let c = coroutine(chain, last(m.active));
@@ -78,26 +110,12 @@ fn entered(
         show::say(b" starts\n");
         return count;
     }
-    let first = at + 3;
-    let end = first + n;
-    let place = notes[at + 1] as usize;
-    let from = notes[at + 2];
-    woken(
-        stack,
-        frames,
-        chain,
-        m,
-        sent,
-        &notes[first..end],
-        place,
-        from,
-        count,
-    )
+    woken(stack, frames, chain, m, sent, notes, at, n, count)
 }
 
 // A coroutine sleeps: what it holds, from its note.
 fn asleep(c: u64, notes: &[u64])
-    requires { ⌜ length (now notes) ≡ 64 ⌝ }
+    requires { ⌜ length (now notes) ≡ 128 ⌝ }
 {
     let at = note_of(c);
     let n = at_most(13, notes[at] as usize);
@@ -105,28 +123,42 @@ fn asleep(c: u64, notes: &[u64])
     show::say(b" and holds");
     let first = at + 3;
     let end = first + n;
-    show::words(&notes[first..end]);
+    show::words(&notes[first..end], n);
+    show::noted(notes, at + 16);
     show::say(b"\n");
 }
 
 // A coroutine runs no more: it sleeps, or it has ended.
 fn left(c: u64, op: Op, notes: &[u64])
-    requires { ⌜ length (now notes) ≡ 64 ⌝ }
+    requires { ⌜ length (now notes) ≡ 128 ⌝ }
 {
     show::name(c);
     match part_of(op) {
-        Part::Waits(_) => asleep(c, notes),
+        Part::Waits(_, _) => asleep(c, notes),
         _ => show::say(b" ends\n"),
     }
 }
 
 // An answer other than 0, to a call made while `coro` ran.
-fn answered(told: Eight, coro: u64, fuel: Fuel) {
+fn answered(op: Op, told: Eight, coro: u64, fuel: Fuel) {
+    let n = told.0;
+    match op {
+        Op::Unwind { fault: _, pc: _ } => show::number(
+            b"the host raises what was answered: no handler may take it, and it answers ",
+            n,
+        ),
+        _ => refused(told, coro),
+    }
+    show::fuel(fuel);
+}
+
+// An instruction that is not done.
+fn refused(told: Eight, coro: u64) {
     let n = told.0;
     match n {
         10 => {
             show::runner(coro);
-            show::number(b" is stopped for want of fuel: its call answers ", n);
+            show::number(b" tries an instruction without fuel: its call answers ", n);
         }
         17 => {
             show::number(
@@ -141,7 +173,6 @@ fn answered(told: Eight, coro: u64, fuel: Fuel) {
             show::number(b" is refused: its call answers ", n);
         }
     }
-    show::fuel(fuel);
 }
 
 // What take outcome answers: a number for what the coroutine did, and its word.
@@ -196,7 +227,7 @@ fn other(frames: &[u64], m: Machine, fuel: Fuel, op: Op, told: Eight) {
 // What there is to say of a call's answer.
 fn replied(frames: &[u64], m: Machine, fuel: Fuel, op: Op, told: Eight, coro: u64) {
     if told.0 != 0 {
-        answered(told, coro, fuel);
+        answered(op, told, coro, fuel);
     } else {
         other(frames, m, fuel, op, told);
     }
@@ -215,7 +246,7 @@ pub(crate) fn after(
     notes: &[u64],
     count: Count,
 ) -> Count
-    requires { ⌜ length (now notes) ≡ 64 ⌝ }
+    requires { ⌜ length (now notes) ≡ 128 ⌝ }
     ensures { λ r. ⌜ r ≡ counted (now (stack .entry)) (now (frames .entry)) (now (chain .entry)) m (numberOf answer) was (now (notes .entry)) count ⌝ }
 {
     let told = memory_calls::answer::words_of(answer);
@@ -239,10 +270,11 @@ pub(crate) fn heading() {
         b"  registers  of a zone: setpoint and last reading in degrees, then others; - is nil, @x refers to x\n",
     );
     show::say(
-        b"  picture    the stack, top frame first: heights | function | script, if it has one | registers\n",
+        b"  picture    the stack, top frame first: heights | function and pc | script, if it has one | registers\n",
     );
+    show::say(b"  at         the functions and pcs of a sleeper's frames, its body first\n");
     show::say(
-        b"  sent       the word that a wake hands over, to the register where the sleeper waits\n\n",
+        b"  sent       the word that a wake hands over, to the register where the sleeper waits; it stands in [ ], and the top pc steps by 1\n\n",
     );
 }
 
@@ -252,10 +284,7 @@ pub(crate) fn end(count: Count) {
     show::number(b" wakes, ", count.equal);
     if all_equal(count.wakes, count.equal) {
         show::say(
-            b" equal: each sleeper held the same words again, with the sent one where it waited.\n",
-        );
-        show::say(
-            b"No coincidence: `woken` in crates/claims_memory/specs/Claim.antt says it of every list of calls.\n",
+            b" equal: each sleeper has its words and frames again, at another height, with the sent word where it waited.\n",
         );
         return;
     }

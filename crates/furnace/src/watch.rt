@@ -127,10 +127,10 @@ pub(crate) fn own_base(frames: &[u64], chain: &[u64], m: Machine) -> usize
     base(frames, floor(chain, last(m.active)))
 }
 
-// What a call is to who watches.
+// What a call is to an observer.
 pub(crate) enum Part {
-    // it suspends who runs, and this register then waits
-    Waits(u16),
+    // it suspends the coroutine that runs; this register then waits, at this pc
+    Waits(u16, u32),
     // it enters a coroutine, and sends it the word in this register
     Sends(u16),
     // it enters a coroutine, and sends it this word
@@ -142,14 +142,14 @@ pub(crate) fn part_of(op: Op) -> Part
     ensures { λ r. ⌜ r ≡ partOf op ⌝ }
 {
     match op {
-        Op::Yield { pc: _, dst, src: _ } => Part::Waits(dst),
+        Op::Yield { pc, dst, src: _ } => Part::Waits(dst, pc),
         Op::YieldKv {
-            pc: _,
+            pc,
             dst,
             src: _,
             key: _,
-        } => Part::Waits(dst),
-        Op::Await { pc: _, dst, src: _ } => Part::Waits(dst),
+        } => Part::Waits(dst, pc),
+        Op::Await { pc, dst, src: _ } => Part::Waits(dst, pc),
         Op::Resume {
             pc: _,
             dst: _,

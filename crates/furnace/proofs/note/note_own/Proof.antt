@@ -26,4 +26,4 @@ returns-2 c =
 
 pub note-own-spec : {M : Type 1} → statement M
 note-own-spec =
-    tie.close (tie.spec (λ c. search needs) (λ c. search needs) note-at-requires returns (λ c. search needs) returns-2)
+    tie.close (tie.spec (λ c. search needs) (λ c. search needs) (λ c. search needs) note-at-requires returns (λ c. search needs) returns-2)

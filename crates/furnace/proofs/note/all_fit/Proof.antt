@@ -1,0 +1,17 @@
+-- `all_fit` meets its contract. Assumes nothing.
+use mathlib.Core.Path.{sym, ap, _∙_}
+use mathlib.Core.Bool.{Bool, _&&_}
+use borrow.Author.Tests.{not-true, not-false}
+use Rattle.furnace.specs.Watch.{framesFit}
+use borrow.Author.Needs.{needs}
+use Rattle.furnace.proofs.note.all_fit.Statement.{statement}
+use Rattle.furnace.proofs.note.all_fit.Tie as tie
+
+returns : tie.Need-returns
+returns c = let a = (c .before .before .before .before) .args in sym (ap (λ (b : Bool). b && (framesFit (a .frames .now) (a .floor) (a .depth))) (sym (c .before .fits2 .ensures) ∙ not-true _ (c .if1 .taken)))
+
+returns-2 : tie.Need-returns-2
+returns-2 c = let a = (c .before .before .before .before .before) .args in c .fit .ensures ∙ sym (ap (λ (b : Bool). b && (framesFit (a .frames .now) (a .floor) (a .depth))) (sym (c .before .before .fits2 .ensures) ∙ not-false _ (c .before .if1 .left)))
+
+pub all-fit-spec : {M : Type 1} → statement M
+all-fit-spec = tie.close (tie.spec (λ c κs. search needs) returns (λ c κs. search needs) returns-2)
