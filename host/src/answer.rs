@@ -1,118 +1,113 @@
-//! What a call answers, and its eight words (docs/CALLS.md, "The answer").
+//! What a call answers, and its eight words (docs/ABI.md, "The answer").
 
-use crate::{FunctionId, Pc, Word};
+use core::{error, fmt};
 
-/// Why a call was refused, or what it raises. [`Fault::number`] is the fault
-/// sheet's.
-#[derive(Clone, Copy, PartialEq, Eq, Debug)]
-pub enum Fault {
-    /// 1: nil or a dead reference.
-    NullReference,
-    /// 2: wrong kind of object or word, wrong argument count, await in a loop.
-    TypeError,
-    /// 3: coroutine state forbids it, or handed over before.
-    InvalidCoroState,
-    /// 4: depth or stack limit passed.
-    StackOverflow,
-    /// 5: suspending without an active coroutine.
-    CannotSuspend,
-    /// 6: yield while closing.
-    CloseIgnored,
-    /// 7: integer out of range.
-    ArithOverflow,
-    /// 8: Spawn without a hook.
-    NoScheduler,
-    /// 9: a memory charge or fit test fails.
-    OutOfMemory,
-    /// 10: bank and fuel both used up.
-    OutOfFuel,
-    /// 11: set-up or machine breaks the rules, or `unwind` gets no such fault.
-    Unsound,
-    /// 12: instruction, put word or function call without a frame.
-    NoFrame,
-    /// 13: register outside the frame, no such function, continuation not
-    /// allowed.
-    BadOperand,
-    /// 14: every slot taken, or every row held by an unfinished coroutine.
-    Full,
-    /// 15: host call or entry while a frame stands.
-    Busy,
-    /// 16: grant's sum above 2^64 - 1.
-    GrantTooLarge,
-    /// 17: a thrown or uncaught word.
-    Throw(Word),
-}
+use crate::{Fault, FunctionId, Pc, Word};
 
-/// Those without a word, from 1 on.
-const PLAIN: [Fault; 16] = [
-    Fault::NullReference,
-    Fault::TypeError,
-    Fault::InvalidCoroState,
-    Fault::StackOverflow,
-    Fault::CannotSuspend,
-    Fault::CloseIgnored,
-    Fault::ArithOverflow,
-    Fault::NoScheduler,
-    Fault::OutOfMemory,
-    Fault::OutOfFuel,
-    Fault::Unsound,
-    Fault::NoFrame,
-    Fault::BadOperand,
-    Fault::Full,
-    Fault::Busy,
-    Fault::GrantTooLarge,
-];
-
-impl Fault {
-    /// The fault sheet's number.
-    ///
-    /// ```
-    /// use humdelzi::{Fault, Word};
-    /// assert_eq!(Fault::StackOverflow.number(), 4);
-    /// assert_eq!(Fault::Throw(Word::NIL).number(), 17);
-    /// ```
-    #[must_use]
-    pub fn number(self) -> u64 {
-        match PLAIN.iter().position(|f| *f == self) {
-            Some(i) => i as u64 + 1,
-            None => 17,
-        }
-    }
-
-    /// The word of a 17; else nil.
-    #[must_use]
-    pub fn word(self) -> Word {
-        match self {
-            Fault::Throw(w) => w,
-            _ => Word::NIL,
-        }
-    }
-
-    fn read(number: u64, word: u64) -> Fault {
-        match number {
-            1..=16 => PLAIN[number as usize - 1],
-            _ => Fault::Throw(Word(word)),
-        }
-    }
-}
-
-/// What an instruction tells the dispatch loop.
-#[derive(Clone, Copy, PartialEq, Eq, Debug)]
+/// How the program goes on after an instruction that was accepted.
+#[must_use = "the dispatch loop has to go on there"]
+#[derive(Clone, Copy, PartialEq, Eq, Hash, Debug)]
 pub enum Step {
-    /// Go on with the next instruction.
+    /// With the next instruction of the same frame: its pc is the host's to
+    /// count.
     Next,
-    /// The top frame changed: go on at its pc.
+    /// At the pc of the frame that is on top now. Where none is, the coroutine
+    /// was the host's: [`take_outcome`](crate::Machine::take_outcome) tells
+    /// what it did.
     Frame,
-    /// The fault is raised at the instruction's own pc: hand it to
-    /// [`unwind`](crate::Machine::unwind) with that pc.
+}
+
+/// What an instruction answered in place of a [`Step`].
+/// [`Machine::raise`](crate::Machine::raise) does with each what is due.
+#[derive(Clone, Copy, PartialEq, Eq, Hash)]
+pub enum StepError {
+    /// Refused at its gate (12 or 13): the program is wrong, and nothing has
+    /// changed.
+    Refused(Fault),
+    /// A fault of the instruction, to be raised at its own pc. Two are for the
+    /// host alone. Of [`Fault::Full`]: `unwind` does not take it. Of
+    /// [`Fault::OutOfFuel`]: nothing was done but what stands at
+    /// [every instruction](crate::Machine#instructions), and the instruction
+    /// can be made again after a grant.
     Fault(Fault),
-    /// The frames changed, and the fault is raised in the new top frame, at
-    /// the pc that it holds: hand it to `unwind` without one.
+    /// The frames changed, and the fault is to be raised in the new top frame,
+    /// at the pc that it holds: of a word thrown into a coroutine, of its close,
+    /// and where a delivery was refused.
     Unwind(Fault),
+    /// The charge started a cleanup: nil is to be raised in the coroutine that
+    /// was entered. The instruction was not done. It comes again when the
+    /// cleanup is over, since the frame below holds its pc.
+    Cleanup {
+        /// Cleanup-queue words taken off.
+        taken: u64,
+    },
+    /// Spawn's 10 at its hook: the coroutine was made and is in no register,
+    /// and one unit is gone. Made again, Spawn makes another.
+    Unpaid,
+}
+
+impl StepError {
+    /// The fault with its number: 17 with nil of a cleanup, 10 of an unpaid
+    /// Spawn.
+    #[must_use]
+    pub fn fault(self) -> Fault {
+        match self {
+            StepError::Refused(f) | StepError::Fault(f) | StepError::Unwind(f) => f,
+            StepError::Cleanup { .. } => Fault::Throw(Word::NIL),
+            StepError::Unpaid => Fault::OutOfFuel,
+        }
+    }
+}
+
+impl fmt::Display for StepError {
+    fn fmt(&self, f: &mut fmt::Formatter<'_>) -> fmt::Result {
+        fmt::Display::fmt(&self.fault(), f)?;
+        f.write_str(match self {
+            StepError::Refused(_) => ", at the gate of the instruction",
+            StepError::Fault(_) => ", at the instruction",
+            StepError::Unwind(_) => ", in the frame that is on top now",
+            StepError::Cleanup { .. } => ", of a cleanup that starts before the instruction",
+            StepError::Unpaid => ", at the hook of the Spawn",
+        })
+    }
+}
+
+/// As it is displayed.
+impl fmt::Debug for StepError {
+    fn fmt(&self, f: &mut fmt::Formatter<'_>) -> fmt::Result {
+        fmt::Display::fmt(self, f)
+    }
+}
+
+impl error::Error for StepError {}
+
+/// Where `finish` leads.
+#[must_use = "the dispatch loop has to go on there"]
+#[derive(Clone, Copy, PartialEq, Eq, Hash, Debug)]
+pub enum Finished {
+    /// The frame of a host call is gone (or there was none): the run is over,
+    /// with this word or with none. Of an integer ([`Value::I64`](crate::Value::I64),
+    /// [`Value::U64`](crate::Value::U64)) the word is its 64 bits as they are.
+    Exit(Option<Word>),
+    /// At the pc of the frame that is on top now. Where none is, the coroutine
+    /// was the host's: [`take_outcome`](crate::Machine::take_outcome).
+    Resume,
+}
+
+/// Where `unwind` leads.
+#[must_use = "the dispatch loop has to go on there"]
+#[derive(Clone, Copy, PartialEq, Eq, Hash, Debug)]
+pub enum Unwound {
+    /// A handler was taken: at the pc of the frame that is on top now.
+    Caught,
+    /// It stopped at a coroutine that the host drives, at a cleanup, or at a
+    /// close that succeeded: at the pc of the frame that is on top now. Where
+    /// none is, [`take_outcome`](crate::Machine::take_outcome) tells the rest.
+    Stopped,
 }
 
 /// What a coroutine that the host drives did.
-#[derive(Clone, Copy, PartialEq, Eq, Debug)]
+#[derive(Clone, Copy, PartialEq, Eq, Hash, Debug)]
 pub enum Outcome {
     /// It yielded this word.
     Yielded(Word),
@@ -126,8 +121,11 @@ pub enum Outcome {
     CloseIgnored,
 }
 
-/// What a call answers.
-#[derive(Clone, Copy, PartialEq, Eq, Debug)]
+/// What any call answers, as [`Machine::call`](crate::Machine::call) and a
+/// [`Batch`](crate::Batch) tell it. The methods for the single calls have
+/// types of their own.
+#[must_use = "a call may have been refused"]
+#[derive(Clone, Copy, PartialEq, Eq, Hash, Debug)]
 pub enum Answer {
     /// Accepted, with no word of its own.
     Accepted,
@@ -135,54 +133,55 @@ pub enum Answer {
     Word(Word),
     /// Refused: a call that is no instruction, or an instruction at its gate.
     Refused(Fault),
-    /// An instruction past its gate.
+    /// An instruction that was accepted.
     Stepped {
-        /// What the dispatch loop does now.
+        /// How the program goes on.
         step: Step,
         /// Cleanup-queue words that its charge took off.
         taken: u64,
     },
-    /// An instruction whose charge started a cleanup: nil is to be unwound in
-    /// the coroutine that was entered, and the instruction comes again after.
-    Cleanup {
-        /// Cleanup-queue words taken off.
+    /// An instruction that was not, past its gate.
+    Raised {
+        /// What is to be raised, and where.
+        error: StepError,
+        /// Cleanup-queue words that its charge took off.
         taken: u64,
     },
-    /// Spawn's 10 at its hook: the coroutine was made, and one unit is gone.
-    Unpaid {
-        /// Cleanup-queue words taken off.
-        taken: u64,
-    },
-    /// `finish`: exit, with its word or none.
-    Exit(Option<Word>),
-    /// `finish`: goes on in the frame below.
-    Resume,
-    /// `unwind`: a handler was taken.
-    Caught,
-    /// `unwind`: stopped at the host, at a cleanup, or at a close that
-    /// succeeded.
-    Stopped,
+    /// `finish`, accepted.
+    Finished(Finished),
+    /// `unwind`, accepted.
+    Unwound(Unwound),
     /// Take outcome: what was there.
     Took(Option<Outcome>),
 }
 
 impl Answer {
+    /// The answer, if it is accepted.
+    ///
+    /// # Errors
+    ///
+    /// The fault of any other.
+    #[inline]
+    pub fn accepted(self) -> Result<Answer, Fault> {
+        match self.fault() {
+            Some(f) => Err(f),
+            None => Ok(self),
+        }
+    }
+
     /// The fault sheet's number; 0 if accepted.
     #[must_use]
     pub fn number(&self) -> u64 {
         self.fault().map_or(0, Fault::number)
     }
 
-    /// The fault of a refusal or of a raising step.
+    /// The fault of a call that is not accepted.
     #[must_use]
     #[inline]
     pub fn fault(&self) -> Option<Fault> {
         match *self {
-            Answer::Refused(f) | Answer::Stepped { step: Step::Fault(f) | Step::Unwind(f), .. } => {
-                Some(f)
-            }
-            Answer::Cleanup { .. } => Some(Fault::Throw(Word::NIL)),
-            Answer::Unpaid { .. } => Some(Fault::OutOfFuel),
+            Answer::Refused(f) => Some(f),
+            Answer::Raised { error, .. } => Some(error.fault()),
             _ => None,
         }
     }
@@ -192,7 +191,7 @@ impl Answer {
     #[must_use]
     pub fn word(&self) -> Word {
         match *self {
-            Answer::Word(w) | Answer::Exit(Some(w)) => w,
+            Answer::Word(w) | Answer::Finished(Finished::Exit(Some(w))) => w,
             Answer::Took(Some(
                 Outcome::Yielded(w)
                 | Outcome::Awaiting(w)
@@ -203,33 +202,33 @@ impl Answer {
         }
     }
 
-    /// The Step of an instruction past its gate; else none.
-    #[must_use]
+    /// How the program goes on after an instruction.
+    ///
+    /// # Errors
+    ///
+    /// What it answered in place of a step; of a call that is no instruction,
+    /// and was refused, the same as of one at its gate.
+    ///
+    /// # Panics
+    ///
+    /// Where it is the accepted answer of a call that is no instruction.
     #[inline]
-    pub fn step(&self) -> Option<Step> {
-        match *self {
-            Answer::Stepped { step, .. } => Some(step),
-            Answer::Cleanup { .. } => Some(Step::Unwind(Fault::Throw(Word::NIL))),
-            Answer::Unpaid { .. } => Some(Step::Fault(Fault::OutOfFuel)),
-            _ => None,
+    pub(crate) fn step(self) -> Result<Step, StepError> {
+        match self {
+            Answer::Stepped { step, .. } => Ok(step),
+            Answer::Raised { error, .. } => Err(error),
+            Answer::Refused(f) => Err(StepError::Refused(f)),
+            _ => unreachable!("an instruction's answer"),
         }
     }
 
-    /// Cleanup-queue words that the call's charge took off.
+    /// Cleanup-queue words that an instruction's charge took off.
     #[must_use]
     pub fn taken(&self) -> u64 {
         match *self {
-            Answer::Stepped { taken, .. }
-            | Answer::Cleanup { taken }
-            | Answer::Unpaid { taken } => taken,
+            Answer::Stepped { taken, .. } | Answer::Raised { taken, .. } => taken,
             _ => 0,
         }
-    }
-
-    /// Whether the call was accepted (number 0).
-    #[must_use]
-    pub fn is_accepted(&self) -> bool {
-        self.number() == 0
     }
 
     /// The answer that eight words tell. That of a switch is told apart first,
@@ -246,34 +245,38 @@ impl Answer {
     fn read_any(words: &[u64; 8]) -> Answer {
         let [number, word, step, taken, case, kind, func, pc] = *words;
         let fault = || Fault::read(number, word);
-        match case {
-            0 => Answer::Accepted,
-            1 => Answer::Word(Word(word)),
-            2 => Answer::Refused(fault()),
-            3 => {
-                let step = match step {
-                    1 => Step::Next,
-                    2 => Step::Frame,
-                    3 => Step::Fault(fault()),
-                    _ => Step::Unwind(fault()),
-                };
-                Answer::Stepped { step, taken }
-            }
-            4 => Answer::Cleanup { taken },
-            5 => Answer::Unpaid { taken },
-            6 => Answer::Exit(None),
-            7 => Answer::Exit(Some(Word(word))),
-            8 => Answer::Resume,
-            9 => Answer::Caught,
-            10 => Answer::Stopped,
-            _ => Answer::Took(match kind {
-                0 => None,
-                1 => Some(Outcome::Yielded(Word(word))),
-                2 => Some(Outcome::Awaiting(Word(word))),
-                3 => Some(Outcome::Returned(Word(word))),
-                4 => Some(Outcome::Failed(Word(word), FunctionId(func as u32), Pc(pc as u32))),
-                _ => Some(Outcome::CloseIgnored),
-            }),
+        let raised = |error| Answer::Raised { error, taken };
+        match (case, step) {
+            (0, _) => Answer::Accepted,
+            (1, _) => Answer::Word(Word(word)),
+            (2, _) => Answer::Refused(fault()),
+            (3, 1) => Answer::Stepped { step: Step::Next, taken },
+            (3, 2) => Answer::Stepped { step: Step::Frame, taken },
+            (3, 3) => raised(StepError::Fault(fault())),
+            (3, _) => raised(StepError::Unwind(fault())),
+            (4, _) => raised(StepError::Cleanup { taken }),
+            (5, _) => raised(StepError::Unpaid),
+            (6, _) => Answer::Finished(Finished::Exit(None)),
+            (7, _) => Answer::Finished(Finished::Exit(Some(Word(word)))),
+            (8, _) => Answer::Finished(Finished::Resume),
+            (9, _) => Answer::Unwound(Unwound::Caught),
+            (10, _) => Answer::Unwound(Unwound::Stopped),
+            _ => Answer::Took(Outcome::read([kind, word, func, pc])),
+        }
+    }
+}
+
+impl Outcome {
+    /// The outcome that four words tell: kind, word, function and pc.
+    pub(crate) fn read([kind, word, func, pc]: [u64; 4]) -> Option<Outcome> {
+        let word = Word(word);
+        match kind {
+            0 => None,
+            1 => Some(Outcome::Yielded(word)),
+            2 => Some(Outcome::Awaiting(word)),
+            3 => Some(Outcome::Returned(word)),
+            4 => Some(Outcome::Failed(word, FunctionId(func as u32), Pc(pc as u32))),
+            _ => Some(Outcome::CloseIgnored),
         }
     }
 }

@@ -1,10 +1,13 @@
 //! Many calls at once.
 
+use alloc::vec;
+use alloc::vec::Vec;
+
 use crate::ffi::{AnswerWords, CallWords};
 use crate::{Answer, Call};
 
-/// Calls in words, and room for their answers, for
-/// [`Machine::run`](crate::Machine::run): as often as wanted.
+/// Calls in words, for [`Machine::run`](crate::Machine::run), as often as
+/// wanted. A batch has no answers: a run gives them.
 ///
 /// ```
 /// # use humdelzi::{Answer, Batch, Call, Function, FunctionId, Reg, Setup, Word};
@@ -13,23 +16,24 @@ use crate::{Answer, Call};
 ///     Call::HostCall { func: FunctionId(0) },
 ///     Call::PutWord { reg: Reg(0), word: Word(7) },
 /// ]);
-/// m.run(&mut fuel, &mut batch);
-/// assert!(batch.answers().all(|a| a == Answer::Accepted));
-/// assert_eq!(m.look(), [7]);
-/// # Ok::<(), humdelzi::Refused>(())
+/// let answers = m.run(&mut fuel, &mut batch);
+/// assert!(answers.iter().all(|a| a == Answer::Accepted));
+/// assert_eq!(m.look(), [Word(7)]);
+/// # Ok::<(), humdelzi::SetupError>(())
 /// ```
-#[derive(Clone, PartialEq, Eq, Debug, Default)]
+#[derive(Clone, Debug, Default)]
 pub struct Batch {
     calls: Vec<CallWords>,
-    answers: Vec<AnswerWords>,
+    /// Room for the answers of a run.
+    room: Vec<AnswerWords>,
 }
 
 impl Batch {
-    /// These calls. Until they are run, their answers are `Accepted`.
+    /// These calls.
     #[must_use]
     pub fn new(calls: &[Call]) -> Batch {
         let calls: Vec<_> = calls.iter().map(Call::words).collect();
-        Batch { answers: vec![[0; 8]; calls.len()], calls }
+        Batch { room: vec![[0; 8]; calls.len()], calls }
     }
 
     /// How many calls there are.
@@ -47,22 +51,46 @@ impl Batch {
     /// The first `n` calls alone, if there are more.
     pub fn truncate(&mut self, n: usize) {
         self.calls.truncate(n);
-        self.answers.truncate(n);
+        self.room.truncate(n);
     }
 
-    /// The answer of call `i`, as it was last run.
+    /// The calls, and as much room for answers.
+    pub(crate) fn words(&mut self) -> (&mut [CallWords], &mut [AnswerWords]) {
+        (&mut self.calls, &mut self.room)
+    }
+
+    /// What the run that just ended has left there.
+    pub(crate) fn answers(&self) -> Answers<'_> {
+        Answers(&self.room)
+    }
+}
+
+/// The answers of a run, in the order of its calls.
+#[must_use = "a call of the batch may have been refused"]
+#[derive(Clone, Copy, Debug)]
+pub struct Answers<'a>(&'a [AnswerWords]);
+
+impl<'a> Answers<'a> {
+    /// How many there are: as many as calls.
     #[must_use]
-    pub fn answer(&self, i: usize) -> Option<Answer> {
-        self.answers.get(i).map(Answer::read)
+    pub fn len(&self) -> usize {
+        self.0.len()
+    }
+
+    /// Whether there is none.
+    #[must_use]
+    pub fn is_empty(&self) -> bool {
+        self.0.is_empty()
+    }
+
+    /// The answer of call `i`.
+    #[must_use]
+    pub fn get(&self, i: usize) -> Option<Answer> {
+        self.0.get(i).map(Answer::read)
     }
 
     /// The answers in order.
-    pub fn answers(&self) -> impl Iterator<Item = Answer> + '_ {
-        self.answers.iter().map(Answer::read)
-    }
-
-    /// As many answers as calls.
-    pub(crate) fn words(&mut self) -> (&mut [CallWords], &mut [AnswerWords]) {
-        (&mut self.calls, &mut self.answers)
+    pub fn iter(&self) -> impl Iterator<Item = Answer> + 'a {
+        self.0.iter().map(Answer::read)
     }
 }

@@ -1,4 +1,4 @@
-//! The calls with typed operands, and their six words (docs/CALLS.md, "The
+//! The calls with typed operands, and their six words (docs/ABI.md, "The
 //! call"). The set-up is [`Setup`](crate::Setup).
 
 use crate::{Fault, Word};
@@ -15,32 +15,48 @@ pub struct Pc(pub u32);
 #[derive(Clone, Copy, PartialEq, Eq, Hash, PartialOrd, Ord, Debug)]
 pub struct FunctionId(pub u32);
 
-/// The kind of a result handed to `finish`.
-#[derive(Clone, Copy, PartialEq, Eq, Debug)]
-pub enum Kind {
+/// The result of a frame, which `finish` hands to its continuation.
+///
+/// An integer is a number, and no word: `Value::I64(5)` is five, where
+/// `Value::Word(Word(5))` is the word with these bits.
+#[derive(Clone, Copy, PartialEq, Eq, Hash, Debug)]
+pub enum Value {
     /// No result.
     None,
     /// A word.
-    Dyn,
-    /// A signed integer of 64 bits.
-    I64,
-    /// An unsigned integer of 64 bits; above 2^63 - 1 it is refused with 7.
-    U64,
+    Word(Word),
+    /// A signed integer.
+    I64(i64),
+    /// An unsigned integer; above 2^63 - 1 it is refused with 7 where it
+    /// becomes a word.
+    U64(u64),
 }
 
-/// What happens to a callee's result. A function call takes [`Cont::Write`],
+impl Value {
+    /// Its kind's code, and its 64 bits.
+    pub(crate) fn words(self) -> [u64; 2] {
+        match self {
+            Value::None => [0, 0],
+            Value::Word(w) => [1, w.0],
+            Value::I64(n) => [2, n as u64],
+            Value::U64(n) => [3, n],
+        }
+    }
+}
+
+/// What happens to a frame's result. A function call takes [`Cont::Write`],
 /// [`Cont::Dyn`], [`Cont::Value`] and [`Cont::Discard`]; the others are
 /// refused with 13.
-#[derive(Clone, Copy, PartialEq, Eq, Debug)]
+#[derive(Clone, Copy, PartialEq, Eq, Hash, Debug)]
 pub enum Cont {
     /// The frame of a host call.
     Entry,
-    /// The raw word goes to a register; a result of kind none leaves it.
+    /// The result's bits go to a register; [`Value::None`] leaves it.
     Write(Reg),
     /// The result as a word goes to a register: an integer as an inline one, or
     /// as an object; nil for none.
     Dyn(Reg),
-    /// The raw word, or nil for none, goes to a register.
+    /// The result's bits, or nil for none, go to a register.
     Value(Reg),
     /// The result is dropped.
     Discard,
@@ -73,9 +89,11 @@ impl Cont {
     }
 }
 
-/// A call. Instructions take the pc first, then their operands in the order
-/// the original spells them.
-#[derive(Clone, Copy, PartialEq, Eq, Debug)]
+/// A call as a value, for [`Machine::call`](crate::Machine::call) and
+/// [`Batch`](crate::Batch). What each needs, does, answers and leaves stands at
+/// the method of [`Machine`](crate::Machine) with its name. Instructions take
+/// the pc first, then their operands in the order the original spells them.
+#[derive(Clone, Copy, PartialEq, Eq, Hash, Debug)]
 #[allow(missing_docs)]
 pub enum Call {
     CoroNew { pc: Pc, dst: Reg, func: FunctionId, argc: u8 },
@@ -92,7 +110,7 @@ pub enum Call {
     CoroKey { pc: Pc, dst: Reg, coro: Reg },
     CoroResult { pc: Pc, dst: Reg, coro: Reg },
     IterNext { pc: Pc, has: Reg, iter: Reg, val: Reg, src: Reg },
-    Finish { kind: Kind, word: Word },
+    Finish { value: Value },
     Unwind { fault: Fault, pc: Option<Pc> },
     SpawnTask { word: Word },
     HostCall { func: FunctionId },
@@ -108,7 +126,7 @@ pub enum Call {
 }
 
 impl Call {
-    /// The call's six words: its code and five operands.
+    /// The call's six words: its code and five operands (docs/ABI.md).
     #[must_use]
     pub fn words(&self) -> [u64; 6] {
         let (p, r) = (|pc: Pc| u64::from(pc.0), |r: Reg| u64::from(r.0));
@@ -132,7 +150,10 @@ impl Call {
             Call::IterNext { pc, has, iter, val, src } => {
                 [13, p(pc), r(has), r(iter), r(val), r(src)]
             }
-            Call::Finish { kind, word } => [14, kind as u64, word.0, 0, 0, 0],
+            Call::Finish { value } => {
+                let [kind, bits] = value.words();
+                [14, kind, bits, 0, 0, 0]
+            }
             Call::Unwind { fault, pc } => {
                 let given = pc.map_or([0, 0], |pc| [1, p(pc)]);
                 [15, fault.number(), fault.word().0, given[0], given[1], 0]

@@ -1,5 +1,5 @@
 //! The one module with `unsafe`: the functions of the static library
-//! (docs/CALLS.md), on words that this module owns.
+//! (docs/ABI.md), on words that this module owns.
 //!
 //! Why each call is safe. The library is compiled from code that is proved to
 //! stay within the slices that it is lent, if what it asks for holds:
@@ -10,29 +10,36 @@
 //!   borrowed for the call each.
 //! - `bvm_set_up` and `bvm_sound` may be lent any words whatever, and
 //!   `bvm_sound` only reads.
-//! - `bvm_kept` asks for the words of a sound machine, and for a sound fuel
+//! - `bvm_call_unchecked` asks for the words of a sound machine, and for a sound fuel
 //!   record. [`Sound`] holds nothing else: it is made where `bvm_set_up`
 //!   answered 0 or where `bvm_sound` said yes, its words are private to this
-//!   module, and only `bvm_kept`, the two tries and `bvm_batch` below, and an
-//!   accepted set-up change them. All leave a sound machine (`crates/claims_linked/specs/Library.antt`:
-//!   `begun`, `called`, `kept`). The same holds of [`Record`]; and a machine
-//!   that passes the test passes with the record of any other that does
-//!   (`any-fuel` there, from `AnyFuel` of
-//!   `crates/claims_memory/specs/Fuel.antt`).
-//! - `bvm_try_resume` and `bvm_try_yield` ask for what `bvm_kept` asks for, of
-//!   the slices that they are lent and some others beside. Where they answer 1
-//!   they leave what it leaves of the same call, where they answer 0 all is as
-//!   it was: `Switched` of `crates/linked_switch/specs/Switch.antt`, the contract of each
-//!   in `crates/linked_switch/src/resume.rt` and `yielding.rt`. So what is said of
-//!   `bvm_kept` above holds of them.
+//!   module, and only `bvm_call_unchecked`, the two tries and `bvm_batch` below,
+//!   and an accepted set-up change them. All leave a sound machine
+//!   (`crates/claims_linked/specs/Library.antt`: `begun`, `called`, `kept`). The
+//!   same holds of [`Record`]; and a machine that passes the test passes with
+//!   the record of any other that does (`any-fuel` there, from `AnyFuel` of
+//!   `crates/claims_memory/specs/Fuel.antt`), so also with those of
+//!   [`Record::of`], which a grant after a set-up, and a hand over after that,
+//!   leave.
+//! - `bvm_try_resume_unchecked` and `bvm_try_yield_unchecked` ask for what
+//!   `bvm_call_unchecked` asks for, of the slices that they are lent and some
+//!   others beside. Where they answer 1 they leave what it leaves of the same
+//!   call, where they answer 0 all is as it was: `Switched` of
+//!   `crates/linked_switch/specs/Switch.antt`, the contract of each in
+//!   `crates/linked_switch/src`. So what is said of `bvm_call_unchecked` above
+//!   holds of them.
 //! - `bvm_batch` may be lent any words whatever, and leaves a sound machine
 //!   sound (`runHost` there; `ran` of `Library.antt`).
 
 #![allow(unsafe_code)]
 
-use std::slice;
+use alloc::boxed::Box;
+use alloc::vec;
+use alloc::vec::Vec;
+use core::slice;
 
 use crate::words::Words;
+use crate::Word;
 
 /// A call in words.
 pub(crate) type CallWords = [u64; 6];
@@ -84,9 +91,15 @@ impl<'a> View<'a> {
 }
 
 /// A sound fuel record: what is left; 1 and how much is set aside, or 0 and 0;
-/// 1 if a cleanup is ready. The empty one is what a set-up gives.
-#[derive(Clone, PartialEq, Eq, Debug, Default)]
+/// 1 if a cleanup is due.
+#[derive(PartialEq, Eq)]
 pub(crate) struct Record([u64; 4]);
+
+/// The same words, by their type.
+pub(crate) fn typed(words: &[u64]) -> &[Word] {
+    // SAFETY: `Word` is `repr(transparent)` over `u64`.
+    unsafe { slice::from_raw_parts(words.as_ptr().cast(), words.len()) }
+}
 
 /// Words of a page, and how far in theirs the slices begin from one another:
 /// where two begin at the same place, loads wait for stores to the other.
@@ -117,7 +130,7 @@ macro_rules! functions {
 
 functions! {
     bvm_set_up(fuel given answer) *mut u64;
-    bvm_kept(fuel call answer) *mut u64;
+    bvm_call_unchecked(fuel call answer) *mut u64;
     bvm_batch(fuel calls answers) *mut u64;
     bvm_sound(fuel) *const u64;
 }
@@ -143,8 +156,8 @@ macro_rules! switches {
 }
 
 switches! {
-    bvm_try_resume(pc: u32, dst: u16, coro: u16, src: u16);
-    bvm_try_yield(pc: u32, dst: u16, src: u16);
+    bvm_try_resume_unchecked(pc: u32, dst: u16, coro: u16, src: u16);
+    bvm_try_yield_unchecked(pc: u32, dst: u16, src: u16);
 }
 
 /// Calls one of the first, with the machine's slices and the others.
@@ -185,7 +198,7 @@ impl Sound {
         let start = block.as_mut_ptr();
         let first = start.align_offset(8 * PAGE);
         let mut at = first;
-        let slices = std::array::from_fn(|i| {
+        let slices = core::array::from_fn(|i| {
             at += (i * APART + PAGE - (at - first) % PAGE) % PAGE;
             assert!(at + lengths[i] <= block.len(), "room for the slice");
             // SAFETY: the part lies in the block.
@@ -243,8 +256,8 @@ impl Sound {
     }
 
     /// A call, without the test of soundness.
-    pub(crate) fn kept(&mut self, fuel: &mut Record, mut call: CallWords) -> &AnswerWords {
-        lend!(bvm_kept(self.slices, fuel.0, call, self.answer) as_mut_ptr);
+    pub(crate) fn call(&mut self, fuel: &mut Record, mut call: CallWords) -> &AnswerWords {
+        lend!(bvm_call_unchecked(self.slices, fuel.0, call, self.answer) as_mut_ptr);
         &self.answer
     }
 
@@ -253,14 +266,14 @@ impl Sound {
     #[inline]
     pub(crate) fn try_resume(&mut self, fuel: &mut Record, pc: u32, r: [u16; 3]) -> bool {
         let [dst, coro, src] = r;
-        switch!(bvm_try_resume(self.slices, fuel.0; pc, dst, coro, src))
+        switch!(bvm_try_resume_unchecked(self.slices, fuel.0; pc, dst, coro, src))
     }
 
     /// Yield to a Resume, where nothing refuses it, in the same way.
     #[inline]
     pub(crate) fn try_yield(&mut self, fuel: &mut Record, pc: u32, r: [u16; 2]) -> bool {
         let [dst, src] = r;
-        switch!(bvm_try_yield(self.slices, fuel.0; pc, dst, src))
+        switch!(bvm_try_yield_unchecked(self.slices, fuel.0; pc, dst, src))
     }
 
     /// Calls one after the other, after one test of soundness.
@@ -295,6 +308,11 @@ impl PartialEq for Sound {
 impl Eq for Sound {}
 
 impl Record {
+    /// One with an amount: set aside, and a cleanup marked, where one is due.
+    pub(crate) fn of(amount: u64, due: bool) -> Record {
+        Record(if due { [0, 1, amount, 1] } else { [amount, 0, 0, 0] })
+    }
+
     /// The words, to be read.
     pub(crate) fn words(&self) -> &[u64; 4] {
         &self.0

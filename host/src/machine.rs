@@ -1,68 +1,42 @@
-//! A machine, and each of 01's calls as a method.
+//! A machine: made, tested, called.
 
-use std::{error, fmt};
+use alloc::vec::Vec;
+use core::fmt;
 
-use crate::answer::Answer;
-use crate::batch::Batch;
-use crate::call::Call;
-use crate::ffi::{Record, Sound, View};
+use crate::batch::{Answers, Batch};
+use crate::ffi::{Sound, View};
 use crate::words::{Unsound, Words};
-use crate::{Cont, Fault, FunctionId, Kind, Pc, Reg, Setup, Step, Word};
-
-/// The fuel record. It is the host's, and each call is lent it; a grant
-/// rewrites it there.
-#[derive(Clone, PartialEq, Eq, Debug, Default)]
-pub struct Fuel(Record);
-
-impl Fuel {
-    /// The units left.
-    #[must_use]
-    pub fn left(&self) -> u64 {
-        self.0.words()[0]
-    }
-
-    /// The units set aside while a cleanup is ready.
-    #[must_use]
-    pub fn banked(&self) -> Option<u64> {
-        let [_, bank, amount, _] = *self.0.words();
-        (bank == 1).then_some(amount)
-    }
-
-    /// Whether a cleanup is ready: the next instruction's charge starts it.
-    #[must_use]
-    pub fn cleanup_ready(&self) -> bool {
-        self.0.words()[3] == 1
-    }
-}
-
-/// A set-up that breaks a rule.
-#[derive(Clone, Copy, PartialEq, Eq, Debug)]
-pub struct Refused(Fault);
-
-impl Refused {
-    /// Its fault: 11.
-    #[must_use]
-    pub fn fault(self) -> Fault {
-        self.0
-    }
-}
-
-impl fmt::Display for Refused {
-    fn fmt(&self, f: &mut fmt::Formatter<'_>) -> fmt::Result {
-        write!(f, "{}: the set-up breaks a rule", self.0.number())
-    }
-}
-
-impl error::Error for Refused {}
+use crate::{Answer, Call, Fault, Fuel, Pc, Setup, SetupError, StepError, Unwound, Word};
 
 /// A machine. Its words are its own: what a call leaves is what the next one
 /// finds.
+///
+/// # Calls
+///
+/// Each of 01's 28 calls is a method, documented in one form: what it *needs*,
+/// what it *does*, what it *answers*, what it *leaves* where it is not
+/// accepted. Every call leaves a sound machine. A refusal by 11, 12, 13, 15 or
+/// 16 changes nothing.
+///
+/// # Instructions
+///
+/// Fourteen calls are the instructions of a script: `coro_new` to `iter_next`
+/// below, each with the pc at which it stands. All of them
+///
+/// - need a frame (else 12), registers of that frame, from its base to the end
+///   of the stack (else 13), and a unit of fuel (else 10);
+/// - do first their charge: it takes the unit, or starts a cleanup that is due,
+///   and takes none ([`StepError::Cleanup`]);
+/// - answer a [`Step`](crate::Step), or what is raised instead
+///   ([`StepError`]); [`Machine::raise`] raises it;
+/// - leave, refused by 12 or 13, all as it was; with 10, no more than a bank of 0
+///   given up; else the charge stays done.
 #[derive(Clone, PartialEq, Eq)]
-pub struct Machine(Sound);
+pub struct Machine(pub(crate) Sound);
 
 impl fmt::Debug for Machine {
     fn fmt(&self, f: &mut fmt::Formatter<'_>) -> fmt::Result {
-        let frames: Vec<_> = (0..self.depth()).filter_map(|i| self.frame(i)).collect();
+        let frames: Vec<_> = self.frames().collect();
         f.debug_struct("Machine")
             .field("stack", &self.stack())
             .field("frames", &frames)
@@ -70,75 +44,90 @@ impl fmt::Debug for Machine {
     }
 }
 
-/// The answer of a switch that nothing refused (`goesOn` of
-/// `crates/linked_switch/specs/Went.antt`).
-const GOES_ON: Answer = Answer::Stepped { step: Step::Frame, taken: 0 };
-
-/// One method for a call.
-macro_rules! calls {
-    ($($(#[$doc:meta])* $name:ident($($operand:ident: $type:ty),*) = $call:ident;)*) => {
-        $($(#[$doc])*
-        pub fn $name(&mut self, fuel: &mut Fuel, $($operand: $type),*) -> Answer {
-            self.call(fuel, Call::$call { $($operand),* })
-        })*
-    };
-}
-
 impl Machine {
-    pub(crate) fn begin(setup: &Setup) -> Result<(Machine, Fuel), Refused> {
-        let made = Sound::set_up(setup.room(), &setup.words());
-        made.map(|(s, f)| (Machine(s), Fuel(f))).ok_or(Refused(Fault::Unsound))
+    /// The library tests the set-up; which rule it breaks is told here.
+    pub(crate) fn begin(setup: &Setup) -> Result<(Machine, Fuel), SetupError> {
+        match Sound::set_up(setup.room(), &setup.words()) {
+            Some((sound, record)) => Ok((Machine(sound), Fuel(record))),
+            None => Err(setup.broken().expect("a refused set-up breaks a rule")),
+        }
     }
 
     pub(crate) fn words(&self) -> View<'_> {
         self.0.words()
     }
 
-    /// A call. The methods below are short for it. A Resume or Yield that
-    /// nothing refuses is done by a function of its own in the library, several
-    /// times as fast.
+    /// Any call, as a value.
     pub fn call(&mut self, fuel: &mut Fuel, call: Call) -> Answer {
-        match call {
-            Call::Resume { pc, dst, coro, src } => self.resume(fuel, pc, dst, coro, src),
-            Call::Yield { pc, dst, src } => self.yield_(fuel, pc, dst, src),
-            _ => self.any(fuel, call),
+        let switched = match call {
+            Call::Resume { pc, dst, coro, src } => {
+                self.0.try_resume(&mut fuel.0, pc.0, [dst.0, coro.0, src.0])
+            }
+            Call::Yield { pc, dst, src } => self.0.try_yield(&mut fuel.0, pc.0, [dst.0, src.0]),
+            _ => false,
+        };
+        if switched {
+            return Answer::Stepped { step: crate::Step::Frame, taken: 0 };
         }
+        self.any(fuel, call)
     }
 
-    /// Any call, by the function for all. Inlined into `resume` it would keep
-    /// the slices for the second call.
+    /// Any call, by the function for all. Inlined it would keep the slices for a
+    /// second call.
     #[inline(never)]
-    fn any(&mut self, fuel: &mut Fuel, call: Call) -> Answer {
-        Answer::read(self.0.kept(&mut fuel.0, call.words()))
-    }
-
-    /// Resume: enters the coroutine in `coro` and sends it the word in `src`;
-    /// what it yields or returns comes to `dst`.
-    #[inline]
-    pub fn resume(&mut self, fuel: &mut Fuel, pc: Pc, dst: Reg, coro: Reg, src: Reg) -> Answer {
-        if self.0.try_resume(&mut fuel.0, pc.0, [dst.0, coro.0, src.0]) {
-            return GOES_ON;
-        }
-        self.any(fuel, Call::Resume { pc, dst, coro, src })
-    }
-
-    /// Yield: suspends with the word in `src` and the next key; a word sent
-    /// later comes to `dst`.
-    #[inline]
-    pub fn yield_(&mut self, fuel: &mut Fuel, pc: Pc, dst: Reg, src: Reg) -> Answer {
-        if self.0.try_yield(&mut fuel.0, pc.0, [dst.0, src.0]) {
-            return GOES_ON;
-        }
-        self.any(fuel, Call::Yield { pc, dst, src })
+    pub(crate) fn any(&mut self, fuel: &mut Fuel, call: Call) -> Answer {
+        Answer::read(self.0.call(&mut fuel.0, call.words()))
     }
 
     /// The batch's calls, one after the other, refused ones too, by one call of
     /// the library. It tests the machine's words first, as
     /// [`check`](Machine::check) does: of few calls on a large machine, single
     /// ones are faster.
-    pub fn run(&mut self, fuel: &mut Fuel, batch: &mut Batch) {
+    pub fn run<'a>(&mut self, fuel: &mut Fuel, batch: &'a mut Batch) -> Answers<'a> {
         let (calls, answers) = batch.words();
         self.0.batch(&mut fuel.0, calls, answers);
+        batch.answers()
+    }
+
+    /// Raises what an instruction at `pc` answered in place of a step: by
+    /// [`unwind`](Machine::unwind), at that pc or in the frame that is on top
+    /// now. After `Ok` the program goes on at the top frame's pc.
+    ///
+    /// ```
+    /// # use humdelzi::{Function, FunctionId, Handler, Pc, Reg, Setup, Unwound};
+    /// let handler = Handler { start: Pc(0), end: Pc(9), target: Pc(20), catch: Reg(1) };
+    /// let setup = Setup::new().function(Function::new(2).handler(handler));
+    /// let (mut m, mut fuel) = setup.machine()?;
+    /// m.grant(&mut fuel, 9)?;
+    /// m.host_call(&mut fuel, FunctionId(0))?;
+    /// // nil is no coroutine (1); the handler takes the error object
+    /// let error = m.resume(&mut fuel, Pc(4), Reg(1), Reg(0), Reg(0)).unwrap_err();
+    /// assert_eq!(m.raise(&mut fuel, error, Pc(4))?, Unwound::Caught);
+    /// assert_eq!(m.top().unwrap().pc, Pc(20));
+    /// # Ok::<(), Box<dyn std::error::Error>>(())
+    /// ```
+    ///
+    /// # Errors
+    ///
+    /// - 12 or 13, which are not raised: the program is wrong.
+    /// - 14 of the instruction, which is not raised either: no handler takes it.
+    ///   Where a row was lacking, it can be made again once a coroutine is over.
+    /// - 10 of an instruction that answered 10 ([`StepError::fault`]): its pc is
+    ///   stored. After a grant the program goes on at the top frame's pc, and
+    ///   makes it again.
+    /// - 10 of any other: a handler could not be paid, and the frames above its
+    ///   own are gone. After a grant, [`unwind`](Machine::unwind) the same fault
+    ///   without a pc.
+    /// - 17 with the word that nobody caught: no frame is left.
+    /// - 9 or 14: no room for the error object.
+    pub fn raise(&mut self, fuel: &mut Fuel, error: StepError, pc: Pc) -> Result<Unwound, Fault> {
+        match error {
+            StepError::Refused(f) | StepError::Fault(f @ Fault::Full) => Err(f),
+            StepError::Fault(f) => self.unwind(fuel, f, Some(pc)),
+            StepError::Unpaid => self.unwind(fuel, Fault::OutOfFuel, Some(pc)),
+            StepError::Unwind(f) => self.unwind(fuel, f, None),
+            StepError::Cleanup { .. } => self.unwind(fuel, Fault::Throw(Word::NIL), None),
+        }
     }
 
     /// The test of soundness, on every word.
@@ -147,7 +136,7 @@ impl Machine {
     /// # use humdelzi::{Function, Setup};
     /// let (m, fuel) = Setup::new().function(Function::new(1)).machine()?;
     /// assert!(m.check(&fuel));
-    /// # Ok::<(), humdelzi::Refused>(())
+    /// # Ok::<(), humdelzi::SetupError>(())
     /// ```
     #[must_use]
     pub fn check(&self, fuel: &Fuel) -> bool {
@@ -166,7 +155,7 @@ impl Machine {
     /// words = *refused.0; // nothing is lost
     /// words.machine[6] = 0;
     /// assert_eq!(Machine::from_words(words).unwrap(), (m, fuel));
-    /// # Ok::<(), humdelzi::Refused>(())
+    /// # Ok::<(), humdelzi::SetupError>(())
     /// ```
     ///
     /// # Errors
@@ -199,77 +188,5 @@ impl Machine {
             machine,
             fuel,
         }
-    }
-
-    /// Set-up: a fresh machine in place of this one, and an empty fuel record.
-    /// Refused with 11, it changes nothing.
-    pub fn set_up(&mut self, fuel: &mut Fuel, setup: &Setup) -> Answer {
-        match Machine::begin(setup) {
-            Ok((machine, record)) => {
-                (*self, *fuel) = (machine, record);
-                Answer::Accepted
-            }
-            Err(refused) => Answer::Refused(refused.0),
-        }
-    }
-
-    calls! {
-        /// CoroNew: a coroutine of a function, with the `argc` words after
-        /// `dst` as arguments, to `dst`.
-        coro_new(pc: Pc, dst: Reg, func: FunctionId, argc: u8) = CoroNew;
-        /// CoroNewIndirect: a coroutine of the function object in `callee`.
-        coro_new_indirect(pc: Pc, dst: Reg, callee: Reg, argc: u8) = CoroNewIndirect;
-        /// Spawn: a coroutine as CoroNewIndirect makes it, handed to the hook.
-        spawn(pc: Pc, dst: Reg, callee: Reg, argc: u8) = Spawn;
-        /// YieldKv: as Yield, with a key of its own.
-        yield_kv(pc: Pc, dst: Reg, src: Reg, key: Reg) = YieldKv;
-        /// Await: suspends with the word in `src` and without a key.
-        await_(pc: Pc, dst: Reg, src: Reg) = Await;
-        /// ResumeThrow: raises the word in `src` where the coroutine sleeps.
-        resume_throw(pc: Pc, dst: Reg, coro: Reg, src: Reg) = ResumeThrow;
-        /// CoroClose: raises the word in `src` as the close signal.
-        coro_close(pc: Pc, dst: Reg, coro: Reg, src: Reg) = CoroClose;
-        /// CoroStatus: the state's code to `dst`.
-        coro_status(pc: Pc, dst: Reg, coro: Reg) = CoroStatus;
-        /// CoroCurrent: the innermost active coroutine, or nil, to `dst`.
-        coro_current(pc: Pc, dst: Reg) = CoroCurrent;
-        /// CoroKey: the key of its last yield to `dst`.
-        coro_key(pc: Pc, dst: Reg, coro: Reg) = CoroKey;
-        /// CoroResult: what it returned to `dst`.
-        coro_result(pc: Pc, dst: Reg, coro: Reg) = CoroResult;
-        /// iter_next: the next word of the coroutine in `src` to `val`, and 1
-        /// to `has`, or 0 at its end.
-        iter_next(pc: Pc, has: Reg, iter: Reg, val: Reg, src: Reg) = IterNext;
-        /// finish: the top frame returns.
-        finish(kind: Kind, word: Word) = Finish;
-        /// unwind: raises a fault 1 to 10 or 17, at the pc given or at the one
-        /// that the top frame holds.
-        unwind(fault: Fault, pc: Option<Pc>) = Unwind;
-        /// spawn_task: makes a coroutine a task.
-        spawn_task(word: Word) = SpawnTask;
-        /// Host call: an Entry frame of a function.
-        host_call(func: FunctionId) = HostCall;
-        /// Host entry: enters a coroutine that the host drives.
-        host_entry(coro: Word, word: Word) = HostEntry;
-        /// Function call: a frame of a function on the top frame.
-        function_call(pc: Pc, func: FunctionId, cont: Cont) = FunctionCall;
-        /// Put word: into one register of the top frame.
-        put_word(reg: Reg, word: Word) = PutWord;
-        /// Make iterator: over a coroutine.
-        make_iterator(src: Word) = MakeIterator;
-        /// Hand over: a sleeping coroutine is to be cleaned up.
-        hand_over(coro: Word) = HandOver;
-        /// Grant: adds to the bank if there is one, else to the fuel.
-        grant(amount: u64) = Grant;
-    }
-
-    /// Take outcome: what the coroutine that the host drives did.
-    pub fn take_outcome(&mut self, fuel: &mut Fuel) -> Answer {
-        self.call(fuel, Call::TakeOutcome)
-    }
-
-    /// Stop run: every active coroutine fails, and no frame is left.
-    pub fn stop_run(&mut self, fuel: &mut Fuel) -> Answer {
-        self.call(fuel, Call::StopRun)
     }
 }

@@ -1,7 +1,9 @@
 //! The set-up: limits, costs, functions.
 
-use crate::machine::{Fuel, Machine, Refused};
-use crate::{FunctionId, Pc, Reg};
+use alloc::vec;
+use alloc::vec::Vec;
+
+use crate::{Fuel, FunctionId, Machine, Pc, Reg, SetupError};
 
 /// A try region of a function: a word raised at a pc from `start` up to, not
 /// including, `end` goes to the register `catch`, and the function goes on at
@@ -18,9 +20,9 @@ pub struct Handler {
 /// A function: how many registers and parameters it has, and its handlers.
 #[derive(Clone, PartialEq, Eq, Debug)]
 pub struct Function {
-    registers: u64,
-    parameters: u64,
-    handlers: Vec<Handler>,
+    pub(crate) registers: u64,
+    pub(crate) parameters: u64,
+    pub(crate) handlers: Vec<Handler>,
 }
 
 impl Function {
@@ -43,6 +45,19 @@ impl Function {
     pub fn handler(mut self, handler: Handler) -> Function {
         self.handlers.push(handler);
         self
+    }
+
+    /// Reads what [`Function::words`] writes.
+    fn read(words: &[u64]) -> Function {
+        let pc = |w: u64| Pc(w as u32);
+        let handler = |h: &[u64]| Handler {
+            start: pc(h[0]),
+            end: pc(h[1]),
+            target: pc(h[2]),
+            catch: Reg(h[3] as u16),
+        };
+        let handlers = words[3..].chunks(4).take(words[2] as usize).map(handler).collect();
+        Function { registers: words[0], parameters: words[1], handlers }
     }
 
     /// More than eight handlers are counted, and so refused.
@@ -84,23 +99,25 @@ impl Default for Costs {
 /// breaks a rule of 01's closing list.
 ///
 /// ```
-/// use humdelzi::{Fault, Function, Setup};
+/// use humdelzi::{Function, Setup, SetupError};
 ///
 /// let good = Setup::new().depth(8).stack(64).function(Function::new(4));
 /// assert!(good.machine().is_ok());
 /// let deep = Setup::new().depth(129).function(Function::new(4));
-/// assert_eq!(deep.machine().unwrap_err().fault(), Fault::Unsound);
+/// let refused = deep.machine().unwrap_err();
+/// assert_eq!(refused, SetupError::Depth(129));
+/// assert_eq!(refused.to_string(), "11: depth 129 is not 1 to 128");
 /// ```
 #[derive(Clone, PartialEq, Eq, Debug)]
 pub struct Setup {
-    depth: u64,
-    stack: u64,
-    rows: u64,
-    slots: u64,
-    memory: u64,
-    costs: Costs,
-    hook: Option<FunctionId>,
-    functions: Vec<Function>,
+    pub(crate) depth: u64,
+    pub(crate) stack: u64,
+    pub(crate) rows: u64,
+    pub(crate) slots: u64,
+    pub(crate) memory: u64,
+    pub(crate) costs: Costs,
+    pub(crate) hook: Option<FunctionId>,
+    pub(crate) functions: Vec<Function>,
 }
 
 /// A set-up's words before its functions, and those of a function.
@@ -191,13 +208,13 @@ impl Setup {
     ///
     /// # Errors
     ///
-    /// 11 if the set-up breaks a rule.
-    pub fn machine(&self) -> Result<(Machine, Fuel), Refused> {
+    /// The first rule that the set-up breaks (11).
+    pub fn machine(&self) -> Result<(Machine, Fuel), SetupError> {
         Machine::begin(self)
     }
 
     /// The set-up in words: five limits, six costs, the hook, the number of
-    /// functions, then 35 words each.
+    /// functions, then 35 words each (docs/ABI.md).
     #[must_use]
     pub fn words(&self) -> Vec<u64> {
         let k = &self.costs;
@@ -207,6 +224,27 @@ impl Setup {
         words.push(self.functions.len() as u64);
         self.functions.iter().for_each(|f| words.extend(f.words()));
         words
+    }
+
+    /// Reads what [`Setup::words`] writes.
+    pub(crate) fn read(words: &[u64]) -> Setup {
+        let [frame, coroutine, object, integer, error, iterator] =
+            [5, 6, 7, 8, 9, 10].map(|i| words[i]);
+        let count = words[13] as usize;
+        Setup {
+            depth: words[0],
+            stack: words[1],
+            rows: words[2],
+            slots: words[3],
+            memory: words[4],
+            costs: Costs { frame, coroutine, object, integer, error, iterator },
+            hook: (words[11] == 1).then_some(FunctionId(words[12] as u32)),
+            functions: words[NUMBERS..]
+                .chunks(FUNCTION_WORDS)
+                .take(count)
+                .map(Function::read)
+                .collect(),
+        }
     }
 
     /// The lengths of the slices that a machine of this set-up needs. A limit

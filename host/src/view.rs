@@ -1,15 +1,17 @@
-//! What a machine holds, to be read. Nothing here changes a word; the layout
-//! is that of docs/CALLS.md and docs/DECISIONS.md, 35 to 38.
+//! What a machine holds, to be read: counts, stack, frames, chain, queues. Nothing
+//! here changes a word; the layout is that of docs/ABI.md and
+//! docs/DECISIONS.md, 35 to 38.
 
-use crate::{Cont, FunctionId, Machine, Pc, Reg, Word};
+use crate::ffi::typed;
+use crate::{Cont, FunctionId, Machine, Outcome, Pc, Reg, Setup, Word};
 
 /// A frame.
 #[derive(Clone, Copy, PartialEq, Eq, Debug)]
 pub struct Frame {
     /// The function that it runs.
     pub function: FunctionId,
-    /// Where it stands; of the top frame: where it goes on after a Step
-    /// `Frame`, a `Resume` or a `Caught`.
+    /// Where it stands; of the top frame: where it goes on after a
+    /// [`Step::Frame`](crate::Step::Frame), a `Resume` or a `Caught`.
     pub pc: Pc,
     /// Its first register on the stack.
     pub base: usize,
@@ -19,82 +21,35 @@ pub struct Frame {
     pub cont: Cont,
 }
 
-/// A coroutine's state; the number is 01's code.
-#[derive(Clone, Copy, PartialEq, Eq, Debug)]
-#[allow(missing_docs)]
-pub enum State {
-    Created,
-    Running,
-    Yielded,
-    Awaiting,
-    Returned,
-    Failed,
+/// By whom a running coroutine was entered.
+#[derive(Clone, Copy, PartialEq, Eq, Hash, Debug)]
+pub enum Driver {
+    /// Resume, ResumeThrow or CoroClose, of the frame below: what comes back
+    /// goes to this register of it.
+    Resume(Reg),
+    /// iter_next, of the frame below, with these registers of it and the word of
+    /// the iterator.
+    #[allow(missing_docs)]
+    Iter { has: Reg, val: Reg, iter: Word },
+    /// The host: what comes back is the outcome.
+    Host,
+    /// A charge, from the cleanup queue.
+    Finalize,
 }
 
-impl State {
-    const ALL: [State; 6] = [
-        State::Created,
-        State::Running,
-        State::Yielded,
-        State::Awaiting,
-        State::Returned,
-        State::Failed,
-    ];
-
-    /// 01's code, which CoroStatus writes.
-    #[must_use]
-    pub fn code(self) -> u64 {
-        self as u64
-    }
-
-    /// The state of a code.
-    #[must_use]
-    pub fn of(code: u64) -> Option<State> {
-        State::ALL.get(usize::try_from(code).ok()?).copied()
-    }
+/// A running coroutine.
+#[derive(Clone, Copy, PartialEq, Eq, Hash, Debug)]
+pub struct Running {
+    /// Its word.
+    pub coroutine: Word,
+    /// The place of its body's frame, from the bottom: the frames from there on
+    /// are its own, up to the next one's floor.
+    pub floor: usize,
+    /// By whom it was entered.
+    pub driver: Driver,
 }
 
-/// A coroutine, as far as a host asks.
-#[derive(Clone, Copy, PartialEq, Eq, Debug)]
-pub struct Coroutine {
-    /// Its state.
-    pub state: State,
-    /// Whether it is being closed.
-    pub closing: bool,
-    /// Whether it was handed over for a cleanup.
-    pub finalized: bool,
-    /// Whether it is a task.
-    pub task: bool,
-    /// Its creation's number.
-    pub sequence: u64,
-    /// Its row, while it is unfinished.
-    pub row: usize,
-    /// How many words it has saved.
-    pub words: usize,
-    /// How many frames it has saved.
-    pub frames: usize,
-    /// The register that a sent word comes to.
-    pub waiting: Reg,
-    /// What it yielded or awaits last.
-    pub payload: Word,
-    /// The key of its last yield.
-    pub key: Word,
-    /// What it returned, or what escaped it.
-    pub result: Word,
-}
-
-/// What a reference finds.
-#[derive(Clone, Copy, PartialEq, Eq, Debug)]
-#[allow(missing_docs)]
-pub enum Object {
-    Function(FunctionId),
-    Integer(i64),
-    Iterator { source: Word, done: bool, key: Option<Word> },
-    Error { number: u64, function: FunctionId, pc: Pc, word: Word },
-    Coroutine(Coroutine),
-}
-
-fn frame(words: &[u64]) -> Frame {
+pub(crate) fn frame(words: &[u64]) -> Frame {
     Frame {
         function: FunctionId(words[0] as u32),
         pc: Pc(words[1] as u32),
@@ -102,6 +57,17 @@ fn frame(words: &[u64]) -> Frame {
         closure: Word(words[3]),
         cont: Cont::read(words[4], words[5]),
     }
+}
+
+fn running(words: &[u64]) -> Running {
+    let reg = |i: usize| Reg(words[i] as u16);
+    let driver = match words[2] {
+        0 => Driver::Resume(reg(3)),
+        1 => Driver::Iter { has: reg(3), val: reg(4), iter: Word(words[5]) },
+        2 => Driver::Host,
+        _ => Driver::Finalize,
+    };
+    Running { coroutine: Word(words[0]), floor: words[1] as usize, driver }
 }
 
 impl Machine {
@@ -123,10 +89,56 @@ impl Machine {
         self.words().machine[2] as usize
     }
 
+    /// How many slots are taken; a slot is never used again.
+    #[must_use]
+    pub fn slots_used(&self) -> usize {
+        self.words().machine[3] as usize
+    }
+
+    /// How many bytes were charged against the memory limit; they are never
+    /// given back.
+    #[must_use]
+    pub fn bytes_used(&self) -> u64 {
+        self.words().machine[7]
+    }
+
+    /// The number of the next coroutine to be made.
+    #[must_use]
+    pub fn next_sequence(&self) -> u64 {
+        self.words().machine[8]
+    }
+
+    /// Whether a cleanup runs.
+    #[must_use]
+    pub fn cleaning(&self) -> bool {
+        self.words().machine[6] == 1
+    }
+
+    /// The outcome that waits to be taken.
+    #[must_use]
+    pub fn outcome(&self) -> Option<Outcome> {
+        let words = self.words().machine;
+        Outcome::read([words[9], words[10], words[11], words[12]])
+    }
+
+    /// The set-up that the machine was made of.
+    ///
+    /// ```
+    /// # use humdelzi::{Function, Setup};
+    /// let setup = Setup::new().depth(5).function(Function::new(4).parameters(2));
+    /// let (m, _) = setup.machine()?;
+    /// assert_eq!(m.setup(), setup);
+    /// # Ok::<(), humdelzi::SetupError>(())
+    /// ```
+    #[must_use]
+    pub fn setup(&self) -> Setup {
+        Setup::read(self.words().setup)
+    }
+
     /// The stack, bottom first.
     #[must_use]
-    pub fn stack(&self) -> &[u64] {
-        &self.words().stack[..self.height()]
+    pub fn stack(&self) -> &[Word] {
+        typed(&self.words().stack[..self.height()])
     }
 
     /// Frame number `i`, from the bottom.
@@ -135,85 +147,52 @@ impl Machine {
         (i < self.depth()).then(|| frame(&self.words().frames[i * 6..]))
     }
 
+    /// The frames, bottom first.
+    pub fn frames(&self) -> impl DoubleEndedIterator<Item = Frame> + ExactSizeIterator + '_ {
+        self.words().frames[..self.depth() * 6].chunks(6).map(frame)
+    }
+
     /// The top frame.
     #[must_use]
     pub fn top(&self) -> Option<Frame> {
         self.frame(self.depth().checked_sub(1)?)
     }
 
-    /// The top frame's registers, as part of the machine's words: from its
-    /// base to the end of the stack; without a frame, an empty part.
+    /// Look, the last of 01's calls: the top frame's registers.
+    ///
+    /// - **Needs** nothing.
+    /// - **Does** nothing.
+    /// - **Answers** the registers as part of the machine's words, from the top
+    ///   frame's base to the end of the stack; without a frame, an empty part.
+    /// - **Leaves** all as it was.
     #[must_use]
-    pub fn look(&self) -> &[u64] {
+    pub fn look(&self) -> &[Word] {
         self.top().map_or(&[], |f| &self.stack()[f.base..])
     }
 
     /// A register of the top frame.
     #[must_use]
     pub fn register(&self, reg: Reg) -> Option<Word> {
-        self.look().get(usize::from(reg.0)).copied().map(Word)
+        self.look().get(usize::from(reg.0)).copied()
     }
 
-    /// The object that a word finds: a filled slot with an equal tag.
+    /// The running coroutines, outermost first: the chain.
+    pub fn chain(&self) -> impl DoubleEndedIterator<Item = Running> + ExactSizeIterator + '_ {
+        self.words().chain[..self.active() * 6].chunks(6).map(running)
+    }
+
+    /// The coroutines in the ready queue, first in first: tasks, for the host to
+    /// run.
     #[must_use]
-    pub fn object(&self, word: Word) -> Option<Object> {
-        let (slot, tag) = word.as_reference()?;
+    pub fn ready_queue(&self) -> &[Word] {
         let words = self.words();
-        let (slot, count) = (slot as usize, words.machine[3] as usize);
-        let x = (slot < count).then(|| &words.slots[slot * 20..][..20])?;
-        if x[0] != u64::from(tag) {
-            return None;
-        }
-        let iterator = |key| Object::Iterator { source: Word(x[2]), done: x[3] != 0, key };
-        Some(match x[1] {
-            1 => Object::Function(FunctionId(x[2] as u32)),
-            2 => Object::Integer(x[2] as i64),
-            3 => iterator(None),
-            4 => iterator(Some(Word(x[4]))),
-            5 => Object::Error {
-                number: x[2],
-                function: FunctionId(x[3] as u32),
-                pc: Pc(x[4] as u32),
-                word: Word(x[5]),
-            },
-            6 => Object::Coroutine(Coroutine {
-                state: State::of(x[2])?,
-                closing: x[3] != 0,
-                finalized: x[4] != 0,
-                task: x[5] != 0,
-                sequence: x[6],
-                row: x[7] as usize,
-                words: x[8] as usize,
-                frames: x[9] as usize,
-                waiting: Reg(x[12] as u16),
-                payload: Word(x[13]),
-                key: Word(x[14]),
-                result: Word(x[16]),
-            }),
-            _ => return None,
-        })
+        typed(&words.ready[..words.machine[4] as usize])
     }
 
-    /// The coroutine that a word names.
+    /// The coroutines in the cleanup queue, first in first: those handed over.
     #[must_use]
-    pub fn coroutine(&self, word: Word) -> Option<Coroutine> {
-        match self.object(word)? {
-            Object::Coroutine(c) => Some(c),
-            _ => None,
-        }
-    }
-
-    /// The words and frames that a sleeping coroutine has saved; bases count
-    /// from 0.
-    #[must_use]
-    pub fn saved(&self, word: Word) -> Option<(&[u64], Vec<Frame>)> {
-        let c = self.coroutine(word)?;
+    pub fn cleanup_queue(&self) -> &[Word] {
         let words = self.words();
-        if matches!(c.state, State::Returned | State::Failed) {
-            return Some((&[], Vec::new()));
-        }
-        let (width, depth) = (words.machine[18] as usize, words.machine[13] as usize * 6);
-        let frames = words.saved_frames[c.row * depth..][..c.frames * 6].chunks(6);
-        Some((&words.saved_stack[c.row * width..][..c.words], frames.map(frame).collect()))
+        typed(&words.finalize[..words.machine[5] as usize])
     }
 }

@@ -1,10 +1,18 @@
 //! The coding of a 64-bit word.
 
-use std::fmt;
+use core::fmt;
+
+use crate::FunctionId;
 
 /// A word: nil, a reference to an object, an inline integer, or a number of
-/// the host's own.
+/// the host's own. `Word(5)` has these bits; five is [`Word::int`]`(5)`. No
+/// number becomes a word by itself:
+///
+/// ```compile_fail,E0277
+/// let five: humdelzi::Word = 5.into();
+/// ```
 #[derive(Clone, Copy, PartialEq, Eq, Hash, PartialOrd, Ord, Default)]
+#[repr(transparent)]
 pub struct Word(pub u64);
 
 impl Word {
@@ -28,6 +36,33 @@ impl Word {
             return None;
         }
         Some(Word(Word::INTEGER_TAG | (n as u64 & ((1 << 48) - 1))))
+    }
+
+    /// The word of a function's object, which CoroNewIndirect and Spawn take:
+    /// a set-up makes one for each function, in slots from 0.
+    ///
+    /// ```
+    /// # use humdelzi::{Function, FunctionId, Object, Setup, Word};
+    /// let (m, _) = Setup::new().function(Function::new(1)).machine()?;
+    /// let word = Word::function(FunctionId(0));
+    /// assert_eq!(m.object(word), Some(Object::Function(FunctionId(0))));
+    /// # Ok::<(), humdelzi::SetupError>(())
+    /// ```
+    #[must_use]
+    pub const fn function(id: FunctionId) -> Word {
+        Word::reference(id.0, 0)
+    }
+
+    /// The word of the object in a slot. Today every object's tag is 0.
+    #[must_use]
+    pub const fn slot(slot: u32) -> Word {
+        Word::reference(slot, 0)
+    }
+
+    /// A reference, of its slot and its tag.
+    #[must_use]
+    pub const fn reference(slot: u32, tag: u16) -> Word {
+        Word(Word::REFERENCE_BASE | (tag as u64) << 32 | slot as u64)
     }
 
     /// The integer that an inline word holds.
@@ -55,9 +90,17 @@ impl Word {
     }
 }
 
-impl From<u64> for Word {
-    fn from(w: u64) -> Word {
-        Word(w)
+/// An integer as its number, a reference as `@` and its slot, nil as `nil`,
+/// any other as its bits.
+impl fmt::Display for Word {
+    fn fmt(&self, f: &mut fmt::Formatter<'_>) -> fmt::Result {
+        match (self.as_int(), self.as_reference()) {
+            (Some(n), _) => n.fmt(f),
+            (_, Some((slot, 0))) => write!(f, "@{slot}"),
+            (_, Some((slot, tag))) => write!(f, "@{slot}.{tag}"),
+            _ if self.is_nil() => f.pad("nil"),
+            _ => write!(f, "#{:x}", self.0),
+        }
     }
 }
 

@@ -1,8 +1,10 @@
 //! A machine as plain words: to store it, to send it, to read it back.
 
-use std::{error, fmt};
+use alloc::boxed::Box;
+use alloc::vec::Vec;
+use core::{error, fmt};
 
-/// All the words of a machine and its fuel (docs/CALLS.md). What they hold is
+/// All the words of a machine and its fuel (docs/ABI.md). What they hold is
 /// nobody's promise: [`Machine::from_words`](crate::Machine::from_words)
 /// tests it.
 #[derive(Clone, PartialEq, Eq, Debug, Default)]

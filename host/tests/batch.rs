@@ -67,8 +67,10 @@ impl Random {
             10 => Call::CoroResult { pc, dst, coro },
             11 => Call::IterNext { pc, has: dst, iter: coro, val: callee, src },
             12 => {
-                let kind = [Kind::None, Kind::Dyn, Kind::I64, Kind::U64][self.below(4) as usize];
-                Call::Finish { kind, word: self.word() }
+                let word = self.word();
+                let values =
+                    [Value::None, Value::Word(word), Value::I64(word.0 as i64), Value::U64(word.0)];
+                Call::Finish { value: values[self.below(4) as usize] }
             }
             13 => {
                 let given = self.below(2) == 0;
@@ -105,7 +107,7 @@ fn machine(units: u64) -> (Machine, Fuel) {
         .function(Function::new(1).parameters(1))
         .function(Function::new(3).handler(handler));
     let (mut m, mut fuel) = setup.machine().expect("a good set-up");
-    assert!(m.grant(&mut fuel, units).is_accepted());
+    assert_eq!(m.grant(&mut fuel, units), Ok(()));
     (m, fuel)
 }
 
@@ -116,17 +118,18 @@ fn a_batch_is_its_calls() {
     for _ in 0..3000 {
         let calls: Vec<Call> = (0..r.below(120)).map(|_| r.call()).collect();
         let (mut one, mut fuel) = machine([15, 60, 500][r.below(3) as usize]);
-        let (mut many, mut its_fuel) = (one.clone(), fuel.clone());
+        let (mut many, mut its_fuel) = (one.clone(), one.fuel(fuel.left()));
+        assert_eq!(its_fuel, fuel);
         let singly: Vec<Answer> = calls.iter().map(|&c| one.call(&mut fuel, c)).collect();
         let mut batch = Batch::new(&calls);
-        many.run(&mut its_fuel, &mut batch);
-        assert_eq!(batch.answers().collect::<Vec<_>>(), singly, "{calls:?}");
+        let answers = many.run(&mut its_fuel, &mut batch);
+        assert_eq!(answers.iter().collect::<Vec<_>>(), singly, "{calls:?}");
         assert!((one, fuel) == (many, its_fuel), "{calls:?}");
         for (c, a) in calls.iter().zip(&singly) {
             kinds.insert(c.words()[0]);
             numbers.insert(a.number());
             let hot = matches!(c, Call::Resume { .. } | Call::Yield { .. });
-            switches += usize::from(hot && a.step() == Some(Step::Frame));
+            switches += usize::from(hot && matches!(a, Answer::Stepped { step: Step::Frame, .. }));
         }
     }
     println!("batch: kinds {kinds:?}, numbers {numbers:?}, {switches} switches");

@@ -13,7 +13,7 @@ fn compiles_and_runs(name: &str, flags: &[&str]) {
         .arg("-I")
         .arg(here.join("include"))
         .arg(here.join("tests/c/sleep.c"))
-        .args(["-L", env!("HUMDELZI_LIB_FOUND"), "-llinked_switch", "-llinked_calls", "-o"])
+        .args(["-L", env!("HUMDELZI_LIB_FOUND"), "-lhumdelzi", "-o"])
         .arg(&program)
         .output();
     let Ok(made) = made else {
@@ -31,5 +31,5 @@ fn compiles_and_runs(name: &str, flags: &[&str]) {
 #[test]
 fn a_script_sleeps_and_wakes_through_c() {
     compiles_and_runs("tested", &[]);
-    compiles_and_runs("kept", &["-DHUMDELZI_KEPT"]);
+    compiles_and_runs("unchecked", &["-DBVM_UNCHECKED"]);
 }

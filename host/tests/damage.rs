@@ -12,7 +12,7 @@ mod program;
 #[path = "pep342/run.rs"]
 mod run;
 
-use humdelzi::{Call, Cont, Fault, Fuel, FunctionId, Kind, Machine, Pc, Reg, Word, Words};
+use humdelzi::{Call, Cont, Fault, Fuel, FunctionId, Machine, Pc, Reg, Value, Word, Words};
 
 use crate::compile::{compile, setup, Code};
 use crate::program::{Program, Rng};
@@ -20,8 +20,8 @@ use crate::run::{End, Run};
 
 fn started<'a>(program: &Program, codes: &'a [Code]) -> Run<'a> {
     let (mut machine, mut fuel) = setup(program, codes).machine().expect("a good set-up");
-    machine.grant(&mut fuel, program.fuel);
-    machine.host_call(&mut fuel, FunctionId(0));
+    machine.grant(&mut fuel, program.fuel).expect("a grant");
+    machine.host_call(&mut fuel, FunctionId(0)).expect("a frame");
     Run::new(machine, fuel, codes)
 }
 
@@ -87,7 +87,7 @@ fn any(rng: &mut Rng, m: &Machine) -> Call {
         11 => Call::CoroKey { pc, dst: a, coro: b },
         12 => Call::CoroResult { pc, dst: a, coro: b },
         13 => Call::IterNext { pc, has: a, iter: b, val: c, src: d },
-        14 => Call::Finish { kind: Kind::Dyn, word },
+        14 => Call::Finish { value: Value::Word(word) },
         15 => Call::Unwind { fault: Fault::Throw(word), pc: Some(pc) },
         16 => Call::SpawnTask { word },
         17 => Call::HostCall { func },
@@ -107,7 +107,7 @@ fn any(rng: &mut Rng, m: &Machine) -> Call {
 fn carry_on(rng: &mut Rng, mut m: Machine, mut fuel: Fuel) {
     for _ in 0..20 {
         let call = any(rng, &m);
-        m.call(&mut fuel, call);
+        let _any = m.call(&mut fuel, call);
         assert!(m.look().len() <= m.height());
     }
     assert!(m.check(&fuel), "sound after every call");

@@ -3,11 +3,9 @@
 #include <string.h>
 #include "humdelzi.h"
 
-enum { DEPTH = 8, STACK = 32, ROWS = 2, SLOTS = 8, FUNCTIONS = 3 };
+enum { DEPTH = 8, STACK = 32, ROWS = 2, SLOTS = 8, FUNCTIONS = 3, WORDS = BVM_WORDS(DEPTH, STACK, ROWS, SLOTS, FUNCTIONS, STACK) };
 
-static uint64_t stack[HUMDELZI_STACK(STACK)], frames[HUMDELZI_FRAMES(DEPTH)], chain[HUMDELZI_CHAIN(DEPTH)], slots[HUMDELZI_SLOTS(SLOTS)],
-    saved_stack[HUMDELZI_SAVED_STACK(ROWS, STACK)], saved_frames[HUMDELZI_SAVED_FRAMES(ROWS, DEPTH)], ready[HUMDELZI_QUEUE(SLOTS)],
-    finalize[HUMDELZI_QUEUE(SLOTS)], setup[HUMDELZI_SETUP(FUNCTIONS)];
+static uint64_t words[WORDS];
 
 static int checks, failures;
 
@@ -20,80 +18,120 @@ static void check(int holds, const char *what)
     }
 }
 #define CHECK(x) check((x), #x)
-#define SLICE(x) {x, sizeof x / sizeof *x}
 
 int main(void)
 {
-    humdelzi_machine m = {SLICE(stack), SLICE(frames), SLICE(chain), SLICE(slots), SLICE(saved_stack), SLICE(saved_frames),
-                          SLICE(ready), SLICE(finalize), SLICE(setup), {0}};
-    humdelzi_fuel f;
-    humdelzi_answer a;
-    /* limits, costs, no hook, three functions: a caller of 4 registers, a script of 6, a function of 5 */
-    uint64_t given[HUMDELZI_SETUP(FUNCTIONS)] = {DEPTH, STACK, ROWS, SLOTS, UINT64_MAX, 32, 104, 160, 56, 56, 112, 0, 0, FUNCTIONS};
-    uint64_t bad[HUMDELZI_SETUP(FUNCTIONS)];
-    const uint64_t registers[FUNCTIONS] = {4, 6, 5};
-    uint64_t held[6];
+    bvm_machine m;
+    bvm_fuel f;
+    bvm_answer a;
+    /* a caller of 4 registers, a script of 6 with a handler for its pc 5, a function of 5 */
+    bvm_function functions[FUNCTIONS] = {{4, 0, 0, {{0, 0, 0, 0}}}, {6, 0, 1, {{5, 6, 9, 5}}}, {5, 0, 0, {{0, 0, 0, 0}}}};
+    bvm_setup setup = bvm_setup_of(functions, FUNCTIONS);
+    uint64_t held[6], *stack;
     size_t i;
-    humdelzi_slice top;
+    bvm_slice top;
 
-    for (i = 0; i < FUNCTIONS; i++)
-        given[14 + i * 35] = registers[i];
-    memcpy(bad, given, sizeof bad);
-    bad[0] = 129;
-    stack[3] = 77;
-    CHECK(humdelzi_set_up(&m, &f, &a, bad, HUMDELZI_SETUP(FUNCTIONS)) == HUMDELZI_UNSOUND);
-    CHECK(stack[3] == 77);
-    CHECK(humdelzi_set_up(&m, &f, &a, given, HUMDELZI_SETUP(FUNCTIONS)) == 0);
-    CHECK(stack[3] == 0 && f.left == 0 && humdelzi_sound(&m, &f));
-    CHECK(humdelzi_look(&m, &f).length == 0);
-    CHECK(humdelzi_coro_current(&m, &f, &a, 0, 0) == HUMDELZI_NO_FRAME);
+    /* a set-up is refused, and changes nothing; a block of words that is too short too */
+    words[3] = 77;
+    CHECK(bvm_setup_room(&setup) == BVM_WORDS_OF(FUNCTIONS));
+    setup.depth = 129;
+    CHECK(bvm_machine_begin(&m, &f, &a, &setup, words, WORDS) == BVM_FAULT_UNSOUND && a.which == BVM_CASE_REFUSED);
+    setup.depth = DEPTH, setup.stack = STACK, setup.rows = ROWS, setup.slots = SLOTS;
+    CHECK(bvm_setup_room(&setup) == WORDS);
+    CHECK(bvm_machine_begin(&m, &f, &a, &setup, words, WORDS - 1) == BVM_FAULT_UNSOUND);
+    setup.functions = 33;
+    CHECK(bvm_machine_begin(&m, &f, &a, &setup, words, WORDS) == BVM_FAULT_UNSOUND);
+    setup.functions = FUNCTIONS, setup.has_hook = 1, setup.hook = 3;
+    CHECK(bvm_machine_begin(&m, &f, &a, &setup, words, WORDS) == BVM_FAULT_UNSOUND);
+    setup.has_hook = 0;
+    CHECK(words[3] == 77);
+    /* it is no machine then: nothing is lent, and a tested call says so; nor is one without a block, or without the functions that it counts */
+    CHECK(m.stack.length == 0 && m.setup.length == 0 && m.machine[13] == 0 && !bvm_machine_sound(&m, &f));
+#ifndef BVM_UNCHECKED
+    CHECK(bvm_machine_grant(&m, &f, &a, 1) == BVM_FAULT_UNSOUND && bvm_machine_look(&m, &f).length == 0);
+#endif
+    CHECK(bvm_machine_begin(&m, &f, &a, &setup, NULL, WORDS) == BVM_FAULT_UNSOUND);
+    setup.function = NULL;
+    CHECK(bvm_setup_room(&setup) == 0 && bvm_machine_begin(&m, &f, &a, &setup, words, WORDS) == BVM_FAULT_UNSOUND);
+    setup.function = functions;
+    CHECK(bvm_machine_begin(&m, &f, &a, &setup, words, WORDS) == 0);
+    stack = m.stack.words;
+    CHECK(words[3] == 0 && bvm_fuel_left(&f) == 0 && bvm_machine_sound(&m, &f));
+    CHECK(m.machine[13] == DEPTH && m.saved_stack.words + m.saved_stack.length == words + WORDS);
+    setup.functions = 33;
+    CHECK(bvm_machine_set_up(&m, &f, &a, &setup) == BVM_FAULT_UNSOUND && bvm_machine_sound(&m, &f));
+    CHECK(bvm_machine_look(&m, &f).length == 0);
+    CHECK(bvm_machine_coro_current(&m, &f, &a, 0, 0) == BVM_FAULT_NO_FRAME);
 
     /* the caller makes the script, and the script sleeps with its registers 1 to 5 full */
-    CHECK(humdelzi_grant(&m, &f, &a, 100) == 0 && f.left == 100);
-    CHECK(humdelzi_host_call(&m, &f, &a, 0) == 0);
-    CHECK(humdelzi_host_call(&m, &f, &a, 0) == HUMDELZI_BUSY);
-    CHECK(humdelzi_coro_new(&m, &f, &a, 0, 0, 1, 0) == 0 && a.step == HUMDELZI_NEXT);
-    CHECK(humdelzi_resume(&m, &f, &a, 1, 1, 0, 2) == 0 && a.step == HUMDELZI_FRAME);
+    CHECK(bvm_machine_grant(&m, &f, &a, 100) == 0 && bvm_fuel_left(&f) == 100);
+    CHECK(bvm_machine_host_call(&m, &f, &a, 0) == 0);
+    CHECK(bvm_machine_host_call(&m, &f, &a, 0) == BVM_FAULT_BUSY);
+    CHECK(bvm_machine_coro_new(&m, &f, &a, 0, 0, 1, 0) == 0 && a.step == BVM_STEP_NEXT);
+    CHECK(bvm_machine_resume(&m, &f, &a, 1, 1, 0, 2) == 0 && a.step == BVM_STEP_FRAME);
     for (i = 1; i < 6; i++)
-        CHECK(humdelzi_put_word(&m, &f, &a, (uint16_t)i, humdelzi_int(820 + (int64_t)i)) == 0);
-    CHECK(humdelzi_put_word(&m, &f, &a, 6, 0) == HUMDELZI_BAD_OPERAND);
-    top = humdelzi_look(&m, &f);
+        CHECK(bvm_machine_put_word(&m, &f, &a, (uint16_t)i, bvm_int(820 + (int64_t)i)) == 0);
+    CHECK(bvm_machine_put_word(&m, &f, &a, 6, 0) == BVM_FAULT_BAD_OPERAND);
+    top = bvm_machine_look(&m, &f);
     CHECK(top.words == stack + 4 && top.length == 6);
     memcpy(held, top.words, sizeof held);
-    CHECK(humdelzi_yield(&m, &f, &a, 5, 0, 1) == 0 && a.step == HUMDELZI_FRAME);
-    top = humdelzi_look(&m, &f);
+    CHECK(bvm_machine_yield(&m, &f, &a, 5, 0, 1) == 0 && a.step == BVM_STEP_FRAME);
+    top = bvm_machine_look(&m, &f);
     CHECK(top.words == stack && top.length == 4);
-    CHECK(top.words[1] == humdelzi_int(821));
-    CHECK(humdelzi_coro_status(&m, &f, &a, 2, 3, 0) == 0 && top.words[3] == HUMDELZI_YIELDED);
+    CHECK(top.words[1] == bvm_int(821));
+    CHECK(bvm_machine_coro_status(&m, &f, &a, 2, 3, 0) == 0 && top.words[3] == BVM_STATE_YIELDED);
     for (i = 4; i < STACK; i++)
         CHECK(stack[i] == 0);
 
     /* it is woken five words higher, inside a function call, with a word sent to its register 0 */
-    CHECK(humdelzi_function_call(&m, &f, &a, 3, 2, HUMDELZI_DISCARD, 0) == 0);
-    CHECK(humdelzi_put_word(&m, &f, &a, 0, stack[0]) == 0);
-    CHECK(humdelzi_put_word(&m, &f, &a, 2, humdelzi_int(-1)) == 0);
-    CHECK(humdelzi_resume(&m, &f, &a, 9, 1, 0, 2) == 0 && a.step == HUMDELZI_FRAME);
-    top = humdelzi_look(&m, &f);
+    CHECK(bvm_machine_function_call(&m, &f, &a, 3, 2, BVM_CONT_DISCARD, 0) == 0);
+    CHECK(bvm_machine_put_word(&m, &f, &a, 0, stack[0]) == 0);
+    CHECK(bvm_machine_put_word(&m, &f, &a, 2, bvm_int(-1)) == 0);
+    CHECK(bvm_machine_resume(&m, &f, &a, 9, 1, 0, 2) == 0 && a.step == BVM_STEP_FRAME);
+    top = bvm_machine_look(&m, &f);
     CHECK(top.words == stack + 9 && top.length == 6);
-    CHECK(top.words[0] == humdelzi_int(-1));
+    CHECK(top.words[0] == bvm_int(-1));
     for (i = 1; i < 6; i++)
         CHECK(top.words[i] == held[i]);
 
     /* it returns; its caller gets the word */
-    CHECK(humdelzi_finish(&m, &f, &a, HUMDELZI_DYN, top.words[2]) == 0 && a.which == HUMDELZI_RESUMED);
+    CHECK(bvm_machine_finish(&m, &f, &a, BVM_RESULT_WORD, top.words[2]) == 0 && a.which == BVM_CASE_RESUME);
     CHECK(stack[4 + 1] == held[2]);
-    CHECK(humdelzi_resume(&m, &f, &a, 10, 1, 0, 2) == HUMDELZI_INVALID_CORO_STATE && a.step == HUMDELZI_FAULT);
-    CHECK(humdelzi_unwind_at(&m, &f, &a, HUMDELZI_INVALID_CORO_STATE, 0, 10) == HUMDELZI_THROW);
-    CHECK(m.machine[1] == 0 && humdelzi_sound(&m, &f));
+    CHECK(bvm_machine_resume(&m, &f, &a, 10, 1, 0, 2) == BVM_FAULT_INVALID_CORO_STATE && a.step == BVM_STEP_FAULT);
+    CHECK(bvm_machine_raise(&m, &f, &a, 10) == BVM_FAULT_THROW);
+    CHECK(m.machine[1] == 0 && bvm_machine_sound(&m, &f));
 
-#ifndef HUMDELZI_KEPT
+    /* a second script sleeps and is handed over; another fuel record knows of it, and the next charge starts its cleanup */
+    CHECK(bvm_machine_host_call(&m, &f, &a, 0) == 0);
+    CHECK(bvm_machine_coro_new(&m, &f, &a, 0, 0, 1, 0) == 0);
+    CHECK(bvm_machine_resume(&m, &f, &a, 1, 1, 0, 2) == 0);
+    CHECK(bvm_machine_yield(&m, &f, &a, 5, 0, 1) == 0);
+    CHECK(bvm_machine_hand_over(&m, &f, &a, stack[0]) == 0 && bvm_fuel_has_bank(&f) && bvm_fuel_left(&f) == 0);
+    f = bvm_fuel_of(&m, 40);
+    CHECK(bvm_fuel_has_bank(&f) && bvm_fuel_banked(&f) == 40 && bvm_fuel_cleanup_ready(&f) && bvm_machine_sound(&m, &f));
+    CHECK(bvm_machine_coro_current(&m, &f, &a, 2, 3) == BVM_FAULT_THROW && a.which == BVM_CASE_CLEANUP && a.taken == 1);
+    CHECK(bvm_machine_raise(&m, &f, &a, 2) == 0 && a.which == BVM_CASE_CAUGHT && m.frames.words[6 + 1] == 9);
+    CHECK(bvm_machine_finish(&m, &f, &a, BVM_RESULT_NONE, 0) == 0 && a.which == BVM_CASE_RESUME);
+    f = bvm_fuel_of(&m, 40);
+    CHECK(!bvm_fuel_has_bank(&f) && bvm_fuel_left(&f) == 40 && bvm_machine_sound(&m, &f));
+    CHECK(bvm_machine_coro_current(&m, &f, &a, 2, 3) == 0 && a.step == BVM_STEP_NEXT);
+    CHECK(bvm_machine_raise(&m, &f, &a, 2) == 0 && a.step == BVM_STEP_NEXT);
+    /* every row is held: 14, which is handed back and not raised */
+    CHECK(bvm_machine_coro_new(&m, &f, &a, 3, 1, 1, 0) == 0 && bvm_machine_coro_new(&m, &f, &a, 4, 1, 1, 0) == 0);
+    CHECK(bvm_machine_coro_new(&m, &f, &a, 5, 1, 1, 0) == BVM_FAULT_FULL && a.step == BVM_STEP_FAULT);
+    CHECK(bvm_machine_raise(&m, &f, &a, 5) == BVM_FAULT_FULL && m.machine[1] == 1 && bvm_machine_sound(&m, &f));
+    CHECK(bvm_machine_finish(&m, &f, &a, BVM_RESULT_I64, 5) == 0 && a.which == BVM_CASE_EXIT_WORD && a.word == 5);
+    CHECK(bvm_as_int(bvm_int(-5)) == -5 && bvm_is_int(bvm_int(-5)) && !bvm_is_int(bvm_slot(5)));
+    CHECK(strcmp(bvm_fault_words(BVM_FAULT_OUT_OF_FUEL), "bank and fuel both used up") == 0);
+
+#ifndef BVM_UNCHECKED
     /* one word damaged: 11, nothing changed; put right, it goes on */
     stack[STACK - 1] = 1;
-    CHECK(!humdelzi_sound(&m, &f));
-    CHECK(humdelzi_call(&m, &f, &a, 17, 0, 0, 0, 0, 0) == HUMDELZI_UNSOUND);
+    CHECK(!bvm_machine_sound(&m, &f));
+    CHECK(bvm_machine_call(&m, &f, &a, 17, 0, 0, 0, 0, 0) == BVM_FAULT_UNSOUND);
     stack[STACK - 1] = 0;
 #endif
-    CHECK(humdelzi_host_call(&m, &f, &a, 0) == 0);
+    CHECK(bvm_machine_host_call(&m, &f, &a, 0) == 0);
 
     printf("c: %d checks, %d failed\n", checks, failures);
     return failures != 0;

@@ -1,4 +1,4 @@
-# CPython's side: generators run as they are. Where this machine departs from PEP 342 (docs/PEP342.md, "Departures"), what CPython does
+# CPython's side: generators run as they are. Where this machine departs from PEP 342 (docs/rules/PEP342.md, "Departures"), what CPython does
 # there is observed first, the departure is counted, and the program goes on as the machine does; there is no other place where the
 # two may differ.
 import gc

@@ -3,7 +3,7 @@
 //! handlers, on the library. What they log must be equal: values yielded,
 //! returned and awaited, exceptions that escape, states.
 //!
-//! Where the machine departs from PEP 342 (docs/PEP342.md), `judge.py`
+//! Where the machine departs from PEP 342 (docs/rules/PEP342.md), `judge.py`
 //! observes what CPython does, counts the departure and goes on as the machine
 //! does; so every difference is a listed one.
 //!
@@ -41,8 +41,8 @@ fn on_library(program: Program) -> Ran {
     let registers: Vec<usize> = codes.iter().map(|c: &Code| c.registers.into()).collect();
     let text = python::text(&program, &registers);
     let (mut machine, mut fuel) = setup(&program, &codes).machine().expect("a good set-up");
-    machine.grant(&mut fuel, program.fuel);
-    machine.host_call(&mut fuel, humdelzi::FunctionId(0));
+    machine.grant(&mut fuel, program.fuel).expect("a grant");
+    machine.host_call(&mut fuel, humdelzi::FunctionId(0)).expect("a frame");
     let mut run = Run::new(machine, fuel, &codes);
     let end = run.go(u32::MAX).expect("it ends");
     let steps = run.steps();

@@ -1,6 +1,6 @@
 //! A compiled program on the library.
 
-use humdelzi::{Answer, Fault, Fuel, Kind, Machine, Object, Pc, Reg, Step, Word};
+use humdelzi::{Fault, Finished, Fuel, Machine, Object, Pc, Reg, Step, Value, Word};
 
 use crate::compile::{int, Code, Inst, Tag, R};
 use crate::program::Pattern;
@@ -41,8 +41,7 @@ impl<'a> Run<'a> {
     }
 
     fn put(&mut self, r: R, w: Word) {
-        let a = self.machine.put_word(&mut self.fuel, Reg(r), w);
-        assert_eq!(a, Answer::Accepted);
+        self.machine.put_word(&mut self.fuel, Reg(r), w).expect("a register of the frame");
     }
 
     fn number(&self, w: Word) -> i64 {
@@ -88,13 +87,6 @@ impl<'a> Run<'a> {
         self.events.push(text);
     }
 
-    fn unwind(&mut self, fault: Fault, pc: Option<Pc>) -> Result<(), End> {
-        match self.machine.unwind(&mut self.fuel, fault, pc) {
-            Answer::Caught | Answer::Stopped => Ok(()),
-            a => Err(ended(a)),
-        }
-    }
-
     /// One instruction; the program goes on where the top frame stands, or at
     /// the pc given back.
     fn step(&mut self, pc: u32, inst: Inst) -> Result<Option<u32>, End> {
@@ -114,12 +106,13 @@ impl<'a> Run<'a> {
             }
             _ => return self.own(pc, inst),
         };
-        match answer.step() {
-            Some(Step::Next) => Ok(Some(pc + 1)),
-            Some(Step::Frame) => Ok(None),
-            Some(Step::Fault(f)) => self.unwind(f, Some(at)).map(|()| None),
-            Some(Step::Unwind(f)) => self.unwind(f, None).map(|()| None),
-            None => Err(ended(answer)),
+        match answer {
+            Ok(Step::Next) => Ok(Some(pc + 1)),
+            Ok(Step::Frame) => Ok(None),
+            Err(error) => match m.raise(fuel, error, at) {
+                Ok(_) => Ok(None),
+                Err(fault) => Err(ended(fault)),
+            },
         }
     }
 
@@ -152,28 +145,25 @@ impl<'a> Run<'a> {
             }
             Inst::Raise(r) => {
                 let word = self.get(r);
-                return self.unwind(Fault::Throw(word), Some(Pc(pc))).map(|()| None);
+                let raised = self.machine.unwind(&mut self.fuel, Fault::Throw(word), Some(Pc(pc)));
+                return raised.map(|_| None).map_err(ended);
             }
             Inst::Return(r) => {
                 let word = self.get(r);
-                return match self.machine.finish(&mut self.fuel, Kind::Dyn, word) {
-                    Answer::Resume => Ok(None),
-                    a => Err(ended(a)),
+                return match self.machine.finish(&mut self.fuel, Value::Word(word)) {
+                    Ok(Finished::Resume) => Ok(None),
+                    Ok(exit) => Err(End::Wrong(format!("{exit:?}"))),
+                    Err(fault) => Err(ended(fault)),
                 };
             }
             Inst::Iterator(to, from) => {
                 let source = self.get(from);
-                match self.machine.make_iterator(&mut self.fuel, source) {
-                    Answer::Word(w) => self.put(to, w),
-                    a => return Err(ended(a)),
-                }
+                let made = self.machine.make_iterator(&mut self.fuel, source);
+                self.put(to, made.map_err(ended)?);
             }
             Inst::HandOver(r) => {
                 let coro = self.get(r);
-                match self.machine.hand_over(&mut self.fuel, coro) {
-                    Answer::Accepted => {}
-                    a => return Err(ended(a)),
-                }
+                self.machine.hand_over(&mut self.fuel, coro).map_err(ended)?;
             }
             Inst::Stop => return Err(End::Done),
             _ => unreachable!("the machine's"),
@@ -207,10 +197,10 @@ impl<'a> Run<'a> {
     }
 }
 
-fn ended(a: Answer) -> End {
-    match a.number() {
+fn ended(fault: Fault) -> End {
+    match fault.number() {
         10 => End::Fuel,
         9 | 14 => End::TooLarge,
-        _ => End::Wrong(format!("{a:?}")),
+        _ => End::Wrong(fault.to_string()),
     }
 }
