@@ -1,8 +1,6 @@
 //! Links the static library. `BVM_LIB` names the folder that holds
-//! liblinked_calls.a, the proved functions, and liblinked_switch.a and liblinked_batch.a, which are
-//! left out where they are not there; without it the crate builds without them.
+//! libhumdelzi.a, the proved functions; without it the crate builds without them.
 
-use std::path::Path;
 use std::{env, fs, process};
 
 fn main() {
@@ -19,23 +17,11 @@ fn main() {
         process::exit(1)
     });
     println!("cargo::rustc-link-search=native={}", lib.display());
-    println!("cargo::rerun-if-changed={}", file(&lib, "linked_calls"));
-    link("linked_calls", "library");
-    for (archive, cfg) in [("linked_switch", "hot"), ("linked_batch", "batch")] {
-        println!("cargo::rerun-if-changed={}", file(&lib, archive));
-        if Path::new(&file(&lib, archive)).exists() {
-            link(archive, cfg);
-        }
+    println!("cargo::rerun-if-changed={}", lib.join("libhumdelzi.a").display());
+    println!("cargo::rustc-link-lib=static=humdelzi");
+    // told here, and to the build script of `cli`: all calls, the two switches, the batch
+    for cfg in ["library", "hot", "batch"] {
+        println!("cargo::rustc-cfg={cfg}");
+        println!("cargo::metadata={cfg}=1");
     }
-}
-
-fn file(lib: &Path, archive: &str) -> String {
-    lib.join(format!("lib{archive}.a")).display().to_string()
-}
-
-/// Links an archive, and tells it here and to the build script of `cli`.
-fn link(archive: &str, cfg: &str) {
-    println!("cargo::rustc-link-lib=static={archive}");
-    println!("cargo::rustc-cfg={cfg}");
-    println!("cargo::metadata={cfg}=1");
 }

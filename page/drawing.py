@@ -84,3 +84,16 @@ def picture(text):
         last = words
     out.append(f'<line x1="20" y1="{floor}" x2="{across - 10}" y2="{floor}" class="ground"/></svg>')
     return "\n".join(one for one in out if one)
+
+
+# The picture as a file of its own, for README: the colours of page/style.css on white.
+STYLE = """svg { font-family: "DejaVu Sans Mono", Menlo, Consolas, monospace; background: #fff; }
+.moment { fill: #1d2430; font-size: 12.5px; text-anchor: middle; font-weight: 600; } .word { fill: #1d2430; font-size: 11.5px; text-anchor: middle; }
+.index { fill: #68707d; font-size: 10px; text-anchor: end; } .name { fill: #1d2430; font-size: 11px; } .side { fill: #68707d; font-size: 10px; } .middle { text-anchor: middle; }
+rect.frame { fill: #e8ebf0; stroke: #fff; } rect.coroutine, rect.saved { fill: #cfe2f9; stroke: #fff; } rect.changed { fill: #f7d99b; }
+rect.edge { fill: none; stroke-width: 1.6; } .frame-edge { stroke: #8d97a6; } .coroutine-edge { stroke: #2f6fbf; } .ground { stroke: #c9ced6; stroke-width: 1.2; }"""
+
+
+def alone(text):
+    head, body = picture(text).split("\n", 1)
+    return head.replace("<svg ", '<svg xmlns="http://www.w3.org/2000/svg" ') + f"\n<style>{STYLE}</style>\n<rect width=\"100%\" height=\"100%\" fill=\"#fff\"/>\n{body}\n"

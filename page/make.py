@@ -1,6 +1,7 @@
 #!/usr/bin/env python3
-"""Makes target/evidence.html from the sources, the papers and what the last `./test` left in target/. Every statement, count and time on
-the page is read from there; what the run did not produce is absent, and the page says so."""
+"""Makes target/evidence.html from the sources, the documents and what the last `./test` left in target/. Every statement, count and time on
+the page is read from there; what the run did not produce is absent, and the page says so. `wake` also writes the picture of README, docs/wake.svg; without it the picture is
+only compared."""
 import re
 import shutil
 import subprocess
@@ -20,7 +21,7 @@ TARGET = ROOT / "target"
 HERE = Path(__file__).resolve().parent
 
 
-# ---- the papers
+# ---- the documents
 
 def inline(text):
     """Markdown within a line."""
@@ -31,7 +32,7 @@ def inline(text):
 
 
 def table_after(page, heading):
-    """The cells of the first table after a heading of a paper."""
+    """The cells of the first table after a heading of a document."""
     text = (ROOT / page).read_text()
     rows = []
     for row in text[text.index(heading):].splitlines()[1:]:
@@ -45,6 +46,22 @@ def table_after(page, heading):
 def breaking(text):
     """Names may be broken between their parts."""
     return re.sub(r"<code>[^<]*</code>", lambda code: re.sub(r"::|/|: ", lambda mark: mark.group() + "<wbr>", code.group()[6:-7]).join(("<code>", "</code>")), text)
+
+
+def promises():
+    """The numbered promises of README: number and text."""
+    text = (ROOT / "README.md").read_text()
+    text = text[text.index("## What is proved"):]
+    text = text[:text.index("\n## ", 5)]
+    for number, body in re.findall(r"^(\d)\. (.*?)(?=^\d\. |^\[|\Z)", text, re.M | re.S):
+        yield number, " ".join(re.sub(r"\n\s+- ", " • ", body).split())
+
+
+def bullets_after(page, heading):
+    """The list after a heading of a document, up to the next heading."""
+    text = (ROOT / page).read_text()
+    text = text[text.index(heading) + len(heading):].partition("\n## ")[0]
+    return [" ".join(one.split()) for one in re.findall(r"^- (.*(?:\n(?!-|\n).*)*)", text, re.M)]
 
 
 def html_table(rows, numbers=(), kind=""):
@@ -93,10 +110,10 @@ def sums(declarations):
 
 
 def statements():
-    """The demands, then the linked functions: what each claims, its statement, and the name of its proof, from docs/ASSURANCE.md and docs/THEOREMS.md; each statement once."""
+    """The demands, then the linked functions: what each claims, its statement, and the name of its proof, from docs/ASSURANCE.md and docs/STATEMENTS.md; each statement once."""
     told = set()
     for claim, statement, proof in (table_after("docs/ASSURANCE.md", "## Which theorem says it")[1:]
-                                    + table_after("docs/THEOREMS.md", "## From the claim to linked code")[1:]):
+                                    + table_after("docs/STATEMENTS.md", "## From the claim to linked code")[1:]):
         name, file = re.search(r"`([^`]+)`, `(crates/[^:`]+)", statement).groups()
         if (name, file) not in told:
             told.add((name, file))
@@ -161,6 +178,78 @@ def refused_at(fact, rows):
     return unfit
 
 
+def changes_of(crate, name):
+    """What an edit changes: file, the line before, the line after."""
+    file, old = "", ""
+    for key, value in re.findall(r"^(file|old|new): (.*)$", (ROOT / "crates" / crate / "must-fail" / f"{name}.edit").read_text(), re.M):
+        if key == "file":
+            file = value
+        elif key == "old":
+            old = value.strip()
+        else:
+            yield file, old, value.strip()
+
+
+def example(wrong):
+    """One wrong answer that was refused at a fact: another sleeper's registers, at the entry; else the first of an edit's changes, with its first fact."""
+    others = []
+    for crate, name, _, facts, _ in wrong:
+        for file, old, new in changes_of(crate, name):
+            for place, (fact, hit) in enumerate(facts):
+                if not (hit and hit[3]):
+                    continue
+                if crate == "coro_enter" and "enter_stack(" in old and fact.startswith("enter/move_in"):
+                    return crate, name, (file, old, new), fact, hit
+                if place == 0 and not others:
+                    others.append((crate, name, (file, old, new), fact, hit))
+    return others[0] if others else None
+
+
+def shown_example(one):
+    """The change of an example, and what the prover said."""
+    if one is None:
+        return ""
+    crate, name, (file, old, new), fact, hit = one
+    return (f"<h3>One of them, open</h3><p>A change of the edit <code>{escape(name)}</code> in <code>crates/{crate}/{escape(file)}</code>:</p>"
+            f"<pre>- {escape(old)}{chr(10)}+ {escape(new)}</pre>"
+            f"<p>The prover refuses it in the proof of <code>{escape(fact)}</code>, at <code>{escape(hit[1])}</code>{f', line {hit[0]}' if hit[0] else ''}:</p><pre>{escape(hit[2][:600])}</pre>")
+
+
+def summary(rows):
+    """The line of a test that counts: the last that has a number."""
+    counted = [row.strip() for row in rows if re.search(r"\d", row)]
+    return counted[-1][:220] if counted else (rows[-1].strip()[:220] if rows else "")
+
+
+def machines():
+    """The wrong machines: file, the field or the statement that refuses it, and the machine as it is defined."""
+    for path in sorted((ROOT / "crates/claims_model/specs").glob("Wrong*.antt")):
+        record, comment = "", []
+        for row in path.read_text().splitlines():
+            if found := re.match(r"pub record (\w+)", row):
+                record, comment = found.group(1), []
+            elif found := re.match(r"\s*-- (.*)", row):
+                comment.append(found.group(1))
+            elif found := re.match(r"  pub ([a-z0-9-]+) : (?:\w*Refuted\w* .*?\(λ [^)]*\) (.*)|(.*) → ⊥)$", row):
+                name, engine, statement = found.groups()
+                yield path.name, f"{record.removeprefix('Refuted')}.{name}", " ".join(comment), engine or statement
+                comment = []
+            else:
+                comment = []
+
+
+def wrong_definitions():
+    """The wrong definitions of tests/wrong-definitions.txt, counted by file of definitions and by what refuses them."""
+    kinds = ["a recorded call", "a state at an edge", "a theorem by hand", "a statement"]
+    found = {}
+    for module, theorem in re.findall(r"^([\w/]+): .*(?:\n[-+ ].*)*\n= (\S+)", (ROOT / "tests/wrong-definitions.txt").read_text(), re.M):
+        kind = 0 if re.match(r"[taw]\d+-\d+$", theorem) else 1 if re.match(r"[a-z]\d+$", theorem) else 2 if re.match(r"(?:Ranges|Calls):", theorem) else 3
+        found.setdefault(module if "/" in module else f"model/{module}", [0, 0, 0, 0])[kind] += 1
+    rows = [[f"`{module}`", str(sum(counts)), *(str(one) if one else "" for one in counts)] for module, counts in sorted(found.items())]
+    whole = [sum(counts[at] for counts in found.values()) for at in range(4)]
+    return [["definitions", "wrong ones", *(f"refused by {kind}" for kind in kinds)], *rows, ["all", str(sum(whole)), *map(str, whole)]]
+
+
 def said():
     """What `./test` printed: for each test of its own its lines; the commit; the last line."""
     log = TARGET / "test.log"
@@ -191,9 +280,9 @@ def of_c(archive):
 
 def wake():
     """The words of a wake, from a program over the compiled library; or why there are none."""
-    library = TARGET / "staticlib" / "liblinked_calls.a"
+    library = TARGET / "staticlib" / "libhumdelzi.a"
     if not library.exists():
-        return None, "target/staticlib/liblinked_calls.a is not there"
+        return None, "target/staticlib/libhumdelzi.a is not there"
     if not shutil.which("cc"):
         return None, "there is no C compiler (cc)"
     with tempfile.TemporaryDirectory() as folder:
@@ -261,20 +350,22 @@ def main():
     head += f". {datetime.now(timezone.utc):%d %B %Y, %H:%M} UTC.</p>"
 
     section("promise", "What is promised")
-    promised = table_after("README.md", "## What is promised")
     there = {name for name, verdict, *_ in proved if verdict}
     rows = [["", "Promise", "In this run"]]
-    for number, promise, state, *_ in promised[1:]:
-        named = list(dict.fromkeys(re.findall(r"crates/(\w+)", state)))
-        lacking = [name for name in named if name not in there]
-        shown = ", ".join(f"`{name}`" for name in lacking or named)
-        # what README says is compared and not proved is so here too
-        compared = next((f" {one.strip()}." for one in state.split(". ") if "compared, and not proved" in one), "")
-        rows.append([number, promise, f"not proved: {shown}" if lacking else f"proved: {shown}" + (f".{compared}" if compared else "")])
+    where = {row[0]: re.findall(r"`(\w+)`", row[1]) for row in table_after("docs/STATEMENTS.md", "### Where each promise is proved")[1:]}
+    for number, promise in promises():
+        lacking = [name for name in where[number] if name not in there]
+        shown = ", ".join(f"`{name}`" for name in lacking or where[number])
+        rows.append([number, promise, f"not proved: {shown}" if lacking else f"proved: {shown}"])
     parts.append(html_table(rows))
+    parts.append("<p>That the definitions are the original's is compared, and not proved.</p>")
 
     section("wake", "A script sleeps, and is woken at another height")
     words, why = wake()
+    picture = ROOT / "docs/wake.svg"
+    if words and sys.argv[1:] == ["wake"]:
+        picture.write_text(drawing.alone(words))
+    stale = bool(words) and (not picture.exists() or picture.read_text() != drawing.alone(words))
     if words:
         parts.append(f"<figure class=scroll>{drawing.picture(words)}<figcaption>The stack, from the bottom up, as a C program over the compiled library found it; "
                      "a box is a frame, its number the index of its first register. Blue is the script; its words go to its row and come back, all moved by one distance. "
@@ -294,7 +385,11 @@ def main():
                      + ", ".join(f'<a href="#{anchor(d)}">{escape(d.name)}</a>' for d in own[1:])
                      + f"</p><p class=faint>And on the toolchain's libraries: {', '.join(f'<code>{escape(name)}</code>' for name in sorted(names))}.</p></div></details>")
 
-    section("axioms", "What is assumed")
+    section("trusted", "What has to be trusted, and what is not claimed")
+    for title, heading in (("The trusted base, beside the definitions below", "The rest of the trusted base:"), ("Not claimed", "## What is not claimed")):
+        parts.append(f"<h3>{title}</h3><ul>" + "".join(f"<li>{breaking(inline(one))}</li>" for one in bullets_after("docs/ASSURANCE.md", heading)) + "</ul>")
+    parts.append("<h3>What was proved, and what was tested</h3>" + html_table(table_after("docs/ASSURANCE.md", "## What is proved, and what is tested")))
+    parts.append("<h3>What the prover's logs say is assumed</h3>")
     if done:
         rows = [["", "assumed"]] + [[f"`{name}`", "; ".join(axioms)] for name, _, _, _, axioms in proved if axioms]
         report = TARGET / "staticlib" / "linked_calls.report"
@@ -304,7 +399,7 @@ def main():
         none = [name for name, verdict, _, _, axioms in proved if verdict and not axioms and "foreign=" not in verdict]
         parts.append("<p>A crate's log names the functions that are not Rattle's and that it declares (<code>foreign=</code>), a program's and a static library's those that it reaches "
                      f"(<code>axioms</code>): their contracts are taken as they stand. {len(none)} crates of {len(done)} have none.</p>")
-        if taken := of_c(TARGET / "staticlib" / "liblinked_calls.a"):
+        if taken := of_c(TARGET / "staticlib" / "libhumdelzi.a"):
             rows.append(["the static library, of C", taken])
         if len(rows) > 1:
             parts.append(html_table(rows))
@@ -315,10 +410,11 @@ def main():
         parts.append(absent("what is assumed, as target/log is not there"))
 
     section("calls", "The calls")
-    parts.append(html_table(table_after("docs/THEOREMS.md", "# Each call"), kind=" class=calls"))
+    parts.append(html_table(table_after("docs/STATEMENTS.md", "# Each call"), kind=" class=calls"))
 
     section("wrong", "Wrong edits, and what refused them")
     if logs:
+        parts.append(shown_example(example(wrong)))
         parts.append(f"<p>{len(wrong)} edits of code, definitions and statements; each names the proofs that it must break. Beside each stands the fact in it that does not hold any more. Where the code is another, a proof may only fail to fit: then it is said that it names a place that is gone, which shows less.</p>")
         by = {}
         for one in wrong:
@@ -333,14 +429,26 @@ def main():
     else:
         parts.append(absent(f"what refused the {len(wrong)} wrong edits, as target/must-fail is not there"))
 
-    section("judges", "What the judges counted")
+    section("machines", "Wrong machines, wrong definitions")
+    rows = [["file", "refused by", "the machine"]] + [[f"`{file}`", f"`{name}`", f"{told} `{text}`".strip()] for file, name, told, text in machines()]
+    parts.append(f"<p>{len(rows) - 1} machines that are wrong, nearly all in one thing, are proved not to have what is promised. What each does is defined in its file, under crates/claims_model/specs.</p>"
+                 f"<details><summary>All {len(rows) - 1}</summary><div>{html_table(rows)}</div></details>")
+
+    rows = wrong_definitions()
+    parts.append(f"<p>{rows[-1][1]} wrong definitions (tests/wrong-definitions.txt) are each refused by a theorem.</p><details><summary>By file</summary><div>{html_table(rows, (1, 2, 3, 4, 5))}</div></details>")
+
+    section("tests", "What the tests counted")
+    parts.append("<p>Measured runs, larger than those of <code>./test</code>, from docs/TESTING.md:</p>" + html_table(table_after("docs/TESTING.md", "## What is compared")))
+    parts.append("<p>Counted from the sources:</p>" + html_table(table_after("docs/TESTING.md", "## Would a wrong answer be noticed?"), (1,)))
     if run and run[1]:
-        for name, rows, verdict in run[1]:
-            state = f"<span class={'good' if verdict and verdict[0] == 'passed' else 'bad'}>{verdict[0] if verdict else 'not ended'}</span>{f', {verdict[1]} s' if verdict and verdict[1] else ''}"
-            shown = rows if len(rows) <= 60 else rows[:20] + [f".. {len(rows) - 50} lines .."] + rows[-30:]
-            parts.append(f"<details><summary><code>{escape(name)}</code>: {state}</summary><div><pre>{escape(chr(10).join(shown))}</pre></div></details>")
+        rows = [["test of this run", "verdict", "seconds", "its last count"]]
+        rows += [[f"`{name}`", verdict[0] if verdict else "not ended", verdict[1] if verdict and verdict[1] else "", summary(lines)] for name, lines, verdict in run[1]]
+        parts.append("<p>This run of <code>./test</code>:</p>" + html_table(rows, (2,)))
+        for name, lines, verdict in run[1]:
+            shown = lines if len(lines) <= 60 else lines[:20] + [f".. {len(lines) - 50} lines .."] + lines[-30:]
+            parts.append(f"<details><summary><code>{escape(name)}</code>: all that it printed</summary><div><pre>{escape(chr(10).join(shown))}</pre></div></details>")
     else:
-        parts.append(absent("what the judges counted, as target/test.log is not there: ./test leaves it"))
+        parts.append(absent("what this run counted, as target/test.log is not there: ./test leaves it"))
 
     section("times", "Times")
     timed = [one for one in proved if one[3] is not None]
@@ -382,6 +490,9 @@ addEventListener('hashchange', show); show();
             print(f"evidence: {crate}/{name}: not shown at a fact: {' '.join(less)}")
     print(f"evidence: target/evidence.html, {len(page) // 1024} kB: {len(done)} of {len(proved)} crates proved, {refused} of {len(wrong)} wrong edits refused in the logs that are there ({logs}),"
           f" {len(every)} definitions, {'a run' if run else 'no run'} of ./test")
+    if stale:
+        print("evidence: docs/wake.svg is not what the library does; `./evidence wake` writes it")
+    return 1 if stale else 0
 
 
-main()
+sys.exit(main())

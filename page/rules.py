@@ -1,8 +1,11 @@
 #!/usr/bin/env python3
-"""Checks docs/RULES.md, docs/ASSURANCE.md, docs/THEOREMS.md and docs/LEGEND.md against the sources, so that none can rot:
-each file and name that a row of RULES names is there, and what is no statement in its column "theorem" is the fault sheet's; a sentence is marked as quoted exactly if a comment of its definition's file quotes it;
-every quotation in a comment of crates/ is 01's, or is listed as another's; the places and counts of ASSURANCE and THEOREMS are those of today, and the names of LEGEND; each file and folder that README, ASSURANCE, LEGEND and THEOREMS name is there.
-README's layout is crates.txt's. What claims_linked says of a linked function is what its contract cites. What a wrong edit changes stands once in its file, and CHEATS names it. No file of specs/ or src/ cites one of proofs/, so that what is to be believed stands in specs/. `page/rules.py mend` writes places and counts into ASSURANCE and THEOREMS, and the marks into RULES."""
+"""Checks the documents against the sources, so that none can rot.
+RULES: each file and name of a row is there; what is no statement in its column "theorem" is the fault sheet's; a sentence is marked as quoted exactly if a comment of its
+definition's file quotes it; every quotation in a comment of crates/ is 01's, or is listed as another's.
+ASSURANCE, STATEMENTS: places and sums are those of today. TESTING, README: counts and sizes are. CONTRIBUTING: the layout is that of crates.txt.
+Every document: each name `FILE: name`, each `Record.field`, each file, each folder and each link is there.
+Sources: what claims_linked says of a linked function is what its contract cites; what a wrong edit changes stands once in its file, and it says what is wrong;
+no file of specs/ or src/ cites one of proofs/. `page/rules.py mend` writes places, sums, counts and marks."""
 import re
 import sys
 from pathlib import Path
@@ -12,8 +15,10 @@ sys.path.insert(0, str(Path(__file__).resolve().parent))
 import closure
 
 ROOT = closure.ROOT
-RULES = ROOT / "docs/RULES.md"
-PLACED = ("docs/ASSURANCE.md", "docs/THEOREMS.md")
+RULES = ROOT / "docs/rules/RULES.md"
+PLACED = ("docs/ASSURANCE.md", "docs/STATEMENTS.md")
+LAYOUT = "docs/CONTRIBUTING.md"
+PAPERS = [ROOT / "README.md", ROOT / "host/README.md", ROOT / "oracle/README.md", *sorted(ROOT.glob("docs/**/*.md"))]
 failed = []
 
 
@@ -106,13 +111,13 @@ def check_judged(number, cell, table, now, mend):
         path = path_of(file)
         wanted = (ROOT / path).exists() and is_definition(path, name)
         if wanted and (str(path), name) not in table:
-            say(f"docs/RULES.md, {number}: {name} of {path} is a definition, and no part of the fault sheet")
+            say(f"docs/rules/RULES.md, {number}: {name} of {path} is a definition, and no part of the fault sheet")
         elif wanted != bool(mark) and mend:
             place = f"`{file}: {name}`"
             fixed = cell.replace(place + " °", place) if mark else cell.replace(place, place + " °")
             now, cell = now.replace(f"| {cell} |", f"| {fixed} |"), fixed
         elif wanted != bool(mark):
-            say(f"docs/RULES.md, {number}: {name} {'has no' if wanted else 'has a'} mark °")
+            say(f"docs/rules/RULES.md, {number}: {name} {'has no' if wanted else 'has a'} mark °")
     return now
 
 
@@ -132,25 +137,25 @@ def check_rules(mend):
         if number == 0:
             continue
         if number != expected:
-            say(f"docs/RULES.md: {number} stands where {expected} should")
+            say(f"docs/rules/RULES.md: {number} stands where {expected} should")
         expected = number + 1
         places = re.findall(r"`([A-Za-z0-9_/]+\.(?:antt|rt)): ([A-Za-z0-9_-]+)`", " ".join(cells))
         for file, name in places:
             names += 1
             path = path_of(file)
             if not (ROOT / path).exists() or not has(path, name):
-                say(f"docs/RULES.md, {number}: no {name} in {path}")
+                say(f"docs/rules/RULES.md, {number}: no {name} in {path}")
         now = check_judged(number, cells[1].removesuffix(" |"), table, now, mend) if len(cells) > 1 else now
         files = [path_of(file) for file in re.findall(r"`([A-Za-z0-9_/]+\.(?:antt|rt)): ", cells[0])]
         found = [plain(one) for file in files for _, one in quotations.get(file, [])]
         quoted += marked
         if marked and not any(shares(one, plain(sentence)) for one in found):
-            say(f"docs/RULES.md, {number}: is quoted no more in {', '.join(map(str, files))}")
+            say(f"docs/rules/RULES.md, {number}: is quoted no more in {', '.join(map(str, files))}")
         if not marked and any(quotes(one, plain(sentence)) for one in found):
             if mend:
                 now = now.replace(f"| {number} | {sentence} |   |", f"| {number} | {sentence} | ” |")
             else:
-                say(f"docs/RULES.md, {number}: is quoted in {', '.join(map(str, files))}, and has no mark")
+                say(f"docs/rules/RULES.md, {number}: is quoted in {', '.join(map(str, files))}, and has no mark")
     if now != page:
         RULES.write_text(now)
     others = [plain(one) for one in re.findall(r'^- "([^"]+)"', page, re.M)]
@@ -200,13 +205,14 @@ def check_places(page, mend):
 
 
 def check_layout():
-    """README's drawing of who may use whom is crates.txt's, and its table has every crate."""
-    text = (ROOT / "README.md").read_text()
+    """The drawing of who may use whom, and whom in turn, is crates.txt's, and the table has every crate."""
+    text = (ROOT / LAYOUT).read_text()
     text = text[text.index("## Layout"):]
     uses = {}
     for row in (ROOT / "crates.txt").read_text().splitlines():
-        if ":" in row and not row.startswith("#"):
-            uses[row.split(":")[0]] = set(row.split(":")[1].split())
+        row = row.split("#")[0]
+        if ":" in row:
+            uses[row.split(":")[0].strip()] = set(row.split(":")[1].split())
     drawn = {}
     for row in text.split("```")[1].splitlines():
         for chain in re.split(r"\s{2,}", row[15:].strip()):
@@ -215,40 +221,60 @@ def check_layout():
                 for one in above:
                     drawn.setdefault(one, set()).update(below)
 
-    def all_of(one):
-        return set().union(*({below} | all_of(below) for below in drawn.get(one, ())))
+    def all_of(one, graph):
+        return set().union(*({below} | all_of(below, graph) for below in graph.get(one, ())))
 
-    for crate, wanted in uses.items():
-        found, wanted = all_of(crate), wanted & uses.keys()
+    for crate in uses:
+        found, wanted = all_of(crate, drawn), all_of(crate, uses) & uses.keys()
         if found != wanted:
-            say(f"README.md, Layout: {crate} may use {', '.join(sorted(wanted ^ found))}: drawn otherwise than crates.txt says")
+            say(f"{LAYOUT}, Layout: {crate} may use {', '.join(sorted(wanted ^ found))}: drawn otherwise than crates.txt says")
         if f"| `{crate}` |" not in text:
-            say(f"README.md, Layout: no row for {crate}")
+            say(f"{LAYOUT}, Layout: no row for {crate}")
     print(f"rules: {len(uses)} crates of the layout")
 
 
-def check_names(page):
-    """Every `FILE: name` of a page is there."""
-    places = re.findall(r"`([A-Za-z0-9_/]+\.(?:antt|rt)): ([A-Za-z0-9_-]+)`", (ROOT / page).read_text())
-    for file, name in places:
-        if not (ROOT / path_of(file)).exists() or not has(path_of(file), name):
-            say(f"{page}: no {name} in {path_of(file)}")
-    print(f"rules: {len(places)} names of {page}")
-
-
-def check_paths(*pages):
-    """Every file and folder that a page names in full is there."""
+def check_names():
+    """Every `FILE: name` of a document is there."""
     count = 0
-    for page in pages:
-        for path in set(re.findall(r"`((?:\.ci|crates|docs|host|oracle|page|tests)/[A-Za-z0-9_/.-]*[A-Za-z0-9_/])", (ROOT / page).read_text())):
+    for page in PAPERS:
+        if page == RULES:
+            continue  # its rows are checked one by one
+        for file, name in re.findall(r"`([A-Za-z0-9_/]+\.(?:antt|rt)): ([A-Za-z0-9_-]+)`", page.read_text()):
             count += 1
-            if not (ROOT / path).exists():
-                say(f"{page}: no {path}")
-    print(f"rules: {count} paths of {', '.join(pages)}")
+            if not (ROOT / path_of(file)).exists() or not has(path_of(file), name):
+                say(f"{page.relative_to(ROOT)}: no {name} in {path_of(file)}")
+    print(f"rules: {count} names in the documents")
+
+
+def check_paths():
+    """Every file and folder that a document names in full is there, and every link leads to one."""
+    count = links = 0
+    for page in PAPERS:
+        text = page.read_text()
+        for path in set(re.findall(r"`((?:\.ci|crates|docs|host|oracle|page|tests)/[A-Za-z0-9_/.-]*[A-Za-z0-9_/])", text)):
+            count += 1
+            if not (ROOT / path).exists() and not (page.parent / path).exists():
+                say(f"{page.relative_to(ROOT)}: no {path}")
+        for link in set(re.findall(r"\]\(([^)\s]+)\)", text)):
+            if re.match(r"[a-z]+:", link):
+                continue
+            links += 1
+            file, _, anchor = link.partition("#")
+            to = (page.parent / file).resolve() if file else page
+            if not to.exists():
+                say(f"{page.relative_to(ROOT)}: no {link}")
+            elif anchor and anchor not in {heading(one) for one in re.findall(r"^#+ (.*)$", to.read_text(), re.M)}:
+                say(f"{page.relative_to(ROOT)}: no heading {link}")
+    print(f"rules: {count} paths and {links} links in {len(PAPERS)} documents")
+
+
+def heading(text):
+    """The anchor of a heading."""
+    return re.sub(r"\s", "-", re.sub(r"[^\w\s-]", "", text.lower()))
 
 
 def check_fields():
-    """Every `Name.field` of a paper is a field of a record, a case of a data type, or a name of a file."""
+    """Every `Name.field` of a document is a field of a record, a case of a data type, or a name of a file."""
     known = {}
     for path in list(ROOT.glob("crates/*/specs/*.antt")) + list(ROOT.glob("crates/*/proofs/*.antt")):
         record = None
@@ -260,12 +286,12 @@ def check_fields():
             elif found := re.match(r"(?:(?:abbrev|unfoldable|pub) )*([A-Za-z0-9-]+) :", row):
                 known.setdefault(path.stem, set()).add(found.group(1))
     count = 0
-    for page in [ROOT / "README.md", *sorted(ROOT.glob("docs/*.md"))]:
+    for page in PAPERS:
         for record, field in set(re.findall(r"`([A-Z][A-Za-z0-9-]*)\.([a-z][A-Za-z0-9-]*)`", page.read_text())) - {(one, "antt") for one in known}:
             count += 1
-            if field not in known.get(record, ()) and field not in ("antt", "md", "rs"):
+            if field not in known.get(record, ()) and field not in ("antt", "md", "rs", "toml"):
                 say(f"{page.relative_to(ROOT)}: no {record}.{field}")
-    print(f"rules: {count} fields named in the papers")
+    print(f"rules: {count} fields named in the documents")
 
 
 def check_cited():
@@ -278,29 +304,93 @@ def check_cited():
     print(f"rules: {count} files of specs/ and src/ cite none of proofs/" if not failed else f"rules: {count} files of specs/ and src/")
 
 
+def wrong_machines():
+    """The wrong machines of claims_model/specs/Wrong*.antt: the fields that say of an engine that it has not a record, or not a field of one."""
+    text = "".join(path.read_text() for path in sorted(ROOT.glob("crates/claims_model/specs/Wrong*.antt")))
+    return re.findall(r"^  pub ([a-z0-9-]+) : (?:.* → ⊥|\w*Refuted\w* .*)$", text, re.M)
+
+
 def check_edits():
-    """What an edit of must-fail/ changes stands once in its file. CHEATS names each wrong machine, and each edit of the definitions and of what is said of them."""
-    cheats, count = (ROOT / "docs/CHEATS.md").read_text(), 0
+    """What an edit of must-fail/ changes stands once in its file, and the edit says what is wrong and which proof refuses it: ./evidence shows both, and each wrong machine."""
+    count = 0
     for path in sorted(ROOT.glob("crates/*/must-fail/*.edit")):
-        file, crate = None, path.parts[-3]
-        for key, text in re.findall(r"^(file|old|new): (.*)$", path.read_text(), re.M):
+        file, crate, text = None, path.parts[-3], path.read_text()
+        if len(plain(text.partition("refutes:")[0])) < 3 or "refutes:" not in text:
+            say(f"{path.relative_to(ROOT)}: does not say what is wrong, or what refuses it")
+        for key, text in re.findall(r"^(file|old|new): (.*)$", text, re.M):
             if key == "file":
                 file = ROOT / "crates" / crate / text
             elif key == "old":
                 count += 1
                 if not file.is_file() or file.read_text().count(text) != 1:
                     say(f"{path.relative_to(ROOT)}: not once in its file: {text}")
-        if crate in ("model", "claims_sheet", "memory_step", "claims_memory") and f"`{path.stem}`" not in cheats:
-            say(f"docs/CHEATS.md: no {path.stem} of {crate}")
-    for name in re.findall(r"^  pub ([a-z0-9-]+) : .* → ⊥$", "".join(path.read_text() for path in ROOT.glob("crates/claims_model/specs/Wrong*.antt")), re.M):
-        if f"`{name}`" not in cheats:
-            say(f"docs/CHEATS.md: no {name}")
-    # and what it names so is an edit, or a word of 01
-    edits, rules = {path.stem for path in ROOT.glob("crates/*/must-fail/*.edit")}, (ROOT / "docs/RULES.md").read_text()
-    for name in sorted(set(re.findall(r"`([a-z0-9]+(?:_[a-z0-9]+)+)`", cheats))):
-        if name not in edits and f"`{name}`" not in rules:
-            say(f"docs/CHEATS.md: {name} is no edit")
-    print(f"rules: {count} texts that edits change")
+    machines = wrong_machines()
+    if len(machines) < 50:
+        say("crates/claims_model/specs/Wrong*.antt have lost their machines")
+    print(f"rules: {count} texts that edits change, {len(machines)} wrong machines")
+
+
+def check_definitions():
+    """What an entry of tests/wrong-definitions.txt changes stands once in its module, and a theorem by hand that refuses it is there."""
+    count, title, old = 0, "", ""
+    for row in (ROOT / "tests/wrong-definitions.txt").read_text().splitlines():
+        if row.startswith("- "):
+            old = row[2:].replace("\\n", "\n")
+        elif row.startswith("= "):
+            count += 1
+            crate, _, module = ("model/" + title if "/" not in title.split(":")[0] else title).split(":")[0].partition("/")
+            path = ROOT / f"crates/{crate}/specs/{module}.antt"
+            if not path.is_file() or path.read_text().count(old) != 1:
+                say(f"tests/wrong-definitions.txt: {title}: not once in its module: {old}")
+            if found := re.fullmatch(r"= (Calls|Ranges):(\S+)", row):
+                if not re.search(rf"^(?:pub )?{re.escape(found.group(2))} :", (ROOT / f"tests/{found.group(1)}.theorems").read_text(), re.M):
+                    say(f"tests/wrong-definitions.txt: {title}: no theorem {row[2:]}")
+        elif row and row[0] not in "+":
+            title = row
+    print(f"rules: {count} wrong definitions, each of a text that stands once")
+
+
+def counts():
+    """What the documents count, as it is today: the words before the number's row, and the number."""
+    crates = [row for row in (ROOT / "crates.txt").read_text().splitlines() if ":" in row.split("#")[0]]
+    edits = [path.read_text() for path in ROOT.glob("crates/*/must-fail/*.edit")]
+    return {
+        "crates": len(crates),
+        "files of wrong edits": len(edits),
+        "facts that an edit must break": sum(len(row.split()) for text in edits for row in re.findall(r"^refutes: (.*)$", text, re.M)),
+        "texts that an edit changes": sum(len(re.findall(r"^old: ", text, re.M)) for text in edits),
+        "wrong machines": len(wrong_machines()),
+        "wrong definitions": len(re.findall(r"^= ", (ROOT / "tests/wrong-definitions.txt").read_text(), re.M)),
+        "recorded sequences": int((ROOT / "oracle/recorded/answers.txt").read_text()[:40].split()[1]),
+        "sentences of 01": sum(1 for _, number, *_ in rows_of(RULES) if number),
+    }
+
+
+def check_counts(mend):
+    """The table "Counted from the sources" of TESTING, and the sizes that README gives, within a tenth."""
+    page = ROOT / "docs/TESTING.md"
+    text = now = page.read_text()
+    for name, today in counts().items():
+        row = re.search(rf"^\| {re.escape(name)} \| ([0-9,]+) \|", text, re.M)
+        if not row:
+            say(f"docs/TESTING.md: no row for {name}")
+        elif mend:
+            now = now.replace(row.group(), f"| {name} | {today:,} |")
+        elif row.group(1) != f"{today:,}":
+            say(f"docs/TESTING.md: {today:,} {name}, not {row.group(1)}")
+    if now != text:
+        page.write_text(now)
+    size = re.search(r"([0-9,]+) lines of code, ([0-9,]+) of definitions and statements, ([0-9,]+) of proofs", (ROOT / "README.md").read_text())
+    if not size:
+        say("README.md: no sizes")
+    for told, folder in zip(size.groups() if size else (), ("src", "specs", "proofs")):
+        today = sum(len(path.read_text().splitlines()) for path in ROOT.glob(f"crates/*/{folder}/**/*") if path.suffix in (".rt", ".antt"))
+        if abs(today - int(told.replace(",", ""))) > today / 10:
+            say(f"README.md: {today:,} lines of {folder}, not {told}")
+    told = re.search(r"all (\d+) crates", (ROOT / "README.md").read_text())
+    if not told or int(told.group(1)) != counts()["crates"]:
+        say(f"README.md: not all {counts()['crates']} crates")
+    print(f"rules: {len(counts())} counts of docs/TESTING.md, and the sizes of README.md")
 
 
 def check_linked():
@@ -310,7 +400,7 @@ def check_linked():
     for path in [*ROOT.glob("crates/linked_calls/src/*.rt"), *ROOT.glob("crates/linked_switch/src/*.rt"), *ROOT.glob("crates/linked_batch/src/*.rt")]:
         for name, text in re.findall(r"pub extern \"C\" fn bvm_(\w+)(.*?)^\{", path.read_text(), re.M | re.S):
             contracts[name] = text[text.index("ensures"):]
-    linked = {"switch": ("try_resume", "try_yield"), "run": ("run", "batch")}
+    linked = {"switch": ("try_resume_unchecked", "try_yield_unchecked"), "run": ("run", "batch")}
     # by way of a record, whose equations are the definition's; what keptIn leaves is doWords written back over the host's words
     records = {"grant": ("linked_calls/specs/Host.antt", "Granted", "callIn"), "switch": ("linked_switch/specs/Switch.antt", "Switched", "keptIn")}
     if len(rows) < 6:
@@ -329,17 +419,18 @@ def check_linked():
     print(f"rules: {len(rows)} linked functions have the contract that Linked.antt says")
 
 
+mending = sys.argv[1:] == ["mend"]
 check_cited()
 check_edits()
+check_definitions()
 check_linked()
 check_layout()
-check_names("docs/PROVING.md")
-check_names("docs/LEGEND.md")
-check_paths("README.md", "docs/ASSURANCE.md", "docs/LEGEND.md", "docs/THEOREMS.md")
+check_names()
+check_paths()
 check_fields()
-mending = sys.argv[1:] == ["mend"]
+check_counts(mending)
 if not check_rules(mending):
-    say("docs/RULES.md has lost its rows")
+    say("docs/rules/RULES.md has lost its rows")
 for placed in PLACED:
     if not check_places(placed, mending):
         say(f"{placed} has lost its places or its sums")

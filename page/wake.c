@@ -4,19 +4,17 @@
 
 #include "humdelzi.h"
 
-enum { DEPTH = 8, STACK = 32, ROWS = 2, SLOTS = 8, FUNCTIONS = 3 };
+enum { DEPTH = 8, STACK = 32, ROWS = 2, SLOTS = 8, FUNCTIONS = 3, WORDS = BVM_WORDS(DEPTH, STACK, ROWS, SLOTS, FUNCTIONS, STACK) };
 
-static uint64_t stack[STACK], frames[DEPTH * 6], chain[DEPTH * 6], slots[SLOTS * 20], saved_stack[ROWS * STACK], saved_frames[ROWS * DEPTH * 6];
-static uint64_t ready[SLOTS], finalize[SLOTS], setup[14 + FUNCTIONS * 35];
-static humdelzi_machine m = {{stack, STACK}, {frames, DEPTH * 6}, {chain, DEPTH * 6}, {slots, SLOTS * 20}, {saved_stack, ROWS * STACK},
-                             {saved_frames, ROWS * DEPTH * 6}, {ready, SLOTS}, {finalize, SLOTS}, {setup, 14 + FUNCTIONS * 35}, {0}};
-static humdelzi_fuel fuel;
-static humdelzi_answer answer;
+static uint64_t block[WORDS];
+static bvm_machine m;
+static bvm_fuel fuel;
+static bvm_answer answer;
 
-static void done(uint64_t number)
+static void done(bvm_fault number)
 {
     if (number != 0) {
-        fprintf(stderr, "wake: answered %llu\n", (unsigned long long)number);
+        fprintf(stderr, "wake: %d: %s\n", (int)number, bvm_fault_words(number));
         exit(1);
     }
 }
@@ -33,38 +31,37 @@ static void words(const char *name, const uint64_t *from, size_t count)
 static void moment(const char *text)
 {
     printf("moment %s\n", text);
-    words("stack", stack, m.machine[0]);
-    words("frames", frames, m.machine[1] * 6);
-    words("chain", chain, m.machine[2] * 6);
-    words("saved", saved_stack, 3);
-    words("savedframe", saved_frames, 6);
+    words("stack", m.stack.words, m.machine[0]);
+    words("frames", m.frames.words, m.machine[1] * 6);
+    words("chain", m.chain.words, m.machine[2] * 6);
+    words("saved", m.saved_stack.words, 3);
+    words("savedframe", m.saved_frames.words, 6);
 }
 
 int main(void)
 {
-    uint64_t given[14 + FUNCTIONS * 35] = {DEPTH, STACK, ROWS, SLOTS, 4096, 32, 104, 160, 56, 56, 112, 0, 0, FUNCTIONS};
-    given[14] = 4;
-    given[14 + 35] = 3;
-    given[14 + 36] = 1;
-    given[14 + 70] = 5;
+    const bvm_function functions[FUNCTIONS] = {{4, 0, 0, {{0, 0, 0, 0}}}, {3, 1, 0, {{0, 0, 0, 0}}}, {5, 0, 0, {{0, 0, 0, 0}}}};
+    bvm_setup setup = bvm_setup_of(functions, FUNCTIONS);
+
+    setup.depth = DEPTH, setup.stack = STACK, setup.rows = ROWS, setup.slots = SLOTS, setup.memory = 4096;
     printf("function controller\nfunction script\nfunction survey\n");
-    done(humdelzi_set_up(&m, &fuel, &answer, given, 14 + FUNCTIONS * 35));
-    done(humdelzi_grant(&m, &fuel, &answer, 100));
-    done(humdelzi_host_call(&m, &fuel, &answer, 0));
-    done(humdelzi_put_word(&m, &fuel, &answer, 1, 70));
-    done(humdelzi_coro_new(&m, &fuel, &answer, 0, 0, 1, 1));
-    done(humdelzi_resume(&m, &fuel, &answer, 1, 2, 0, 1));
-    done(humdelzi_put_word(&m, &fuel, &answer, 1, 25));
+    done(bvm_machine_begin(&m, &fuel, &answer, &setup, block, WORDS));
+    done(bvm_machine_grant(&m, &fuel, &answer, 100));
+    done(bvm_machine_host_call(&m, &fuel, &answer, 0));
+    done(bvm_machine_put_word(&m, &fuel, &answer, 1, 70));
+    done(bvm_machine_coro_new(&m, &fuel, &answer, 0, 0, 1, 1));
+    done(bvm_machine_resume(&m, &fuel, &answer, 1, 2, 0, 1));
+    done(bvm_machine_put_word(&m, &fuel, &answer, 1, 25));
     moment("The script works");
-    done(humdelzi_yield(&m, &fuel, &answer, 5, 2, 1));
+    done(bvm_machine_yield(&m, &fuel, &answer, 5, 2, 1));
     moment("It sleeps");
-    done(humdelzi_function_call(&m, &fuel, &answer, 2, 2, HUMDELZI_WRITE, 3));
-    done(humdelzi_put_word(&m, &fuel, &answer, 0, stack[0]));
-    done(humdelzi_put_word(&m, &fuel, &answer, 1, 72));
+    done(bvm_machine_function_call(&m, &fuel, &answer, 2, 2, BVM_CONT_WRITE, 3));
+    done(bvm_machine_put_word(&m, &fuel, &answer, 0, m.stack.words[0]));
+    done(bvm_machine_put_word(&m, &fuel, &answer, 1, 72));
     moment("The survey is called");
-    done(humdelzi_resume(&m, &fuel, &answer, 3, 2, 0, 1));
+    done(bvm_machine_resume(&m, &fuel, &answer, 3, 2, 0, 1));
     moment("The script is woken");
-    done(humdelzi_yield(&m, &fuel, &answer, 7, 1, 2));
+    done(bvm_machine_yield(&m, &fuel, &answer, 7, 1, 2));
     moment("It yields again");
     return 0;
 }

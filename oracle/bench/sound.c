@@ -1,7 +1,7 @@
-/* How long the test of soundness takes beside a plain pass over the same words: the goal is at most 1.5 times as long. Links liblinked_calls.a;
+/* How long the test of soundness takes beside a plain pass over the same words: the goal is at most 1.5 times as long. Links libhumdelzi.a;
  * compile with -O3.
  *
- * The machines are made word by word, by the layout of docs/CALLS.md. `sound names` only names them, one to a line. `sound WHICH N test` or
+ * The machines are made word by word, by the layout of docs/ABI.md. `sound names` only names them, one to a line. `sound WHICH N test` or
  * `sound WHICH N pass` only runs one of the two N times on one machine, for a tool that counts instructions (tests/instructions).
  */
 #define _POSIX_C_SOURCE 200809L

@@ -3,7 +3,7 @@
 //!
 //! Most files are taken as they are, by `#[path]`. heap.rs gets two edits, and
 //! exec.rs and program.rs are cut down to the parts the coroutine code needs.
-//! Every edit is listed in docs/DIFFERENCES.md.
+//! Every edit is listed in docs/rules/DIFFERENCES.md.
 
 use std::fs;
 use std::path::{Path, PathBuf};

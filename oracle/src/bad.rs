@@ -151,7 +151,7 @@ fn refuses(rng: &mut Rng, words: &Words, lent: &mut Lent, tried: &mut Tried) -> 
             ("bvm_grant", 11)
         }
         _ => {
-            short(rng, lent, tried)?;
+            short(rng, lent, 11, tried)?;
             return same(lent, words);
         }
     };
@@ -159,11 +159,11 @@ fn refuses(rng: &mut Rng, words: &Words, lent: &mut Lent, tried: &mut Tried) -> 
     same(lent, words)
 }
 
-/// Too few words for an answer: 14, before anything else.
-fn short(rng: &mut Rng, lent: &mut Lent, tried: &mut Tried) -> Result<(), String> {
+/// Too few words for an answer: 11 of a machine that is not sound, else 14.
+fn short(rng: &mut Rng, lent: &mut Lent, wanted: u64, tried: &mut Tried) -> Result<(), String> {
     for (function, number) in lent.short(rng.below(8)) {
-        expect(function, number, 14)?;
-        tried.see(function, 14);
+        expect(function, number, wanted)?;
+        tried.see(function, wanted);
     }
     Ok(())
 }
@@ -224,7 +224,7 @@ fn accepted(
             ("bvm_grant", wanted[0])
         }
         _ => {
-            short(rng, lent, tried)?;
+            short(rng, lent, 14, tried)?;
             return same(lent, words);
         }
     };
@@ -269,12 +269,14 @@ pub fn set_ups(rng: &mut Rng, costs: Costs, n: u64, tried: &mut Tried) -> Result
             enough = false;
         }
         let mut lent = Lent::new(&before);
-        let (number, answer) = lent.set_up(&given);
-        let wanted = match told {
-            Ok(_) if enough => [0; 8],
-            _ => refused(11),
-        };
+        let good = told.is_ok() && enough;
         let why = || format!("{told:?}, enough words: {enough}");
+        let number = lent.set_up_short(&given, rng.below(8));
+        expect("set-up without room for its answer", number, if good { 14 } else { 11 })
+            .and_then(|()| same(&lent, &before))
+            .map_err(|e| format!("{e}; {}", why()))?;
+        let (number, answer) = lent.set_up(&given);
+        let wanted = if good { [0; 8] } else { refused(11) };
         expect("set-up", (number, answer), (wanted[0], wanted))
             .map_err(|e| format!("{e}; {}", why()))?;
         let expected = match &told {

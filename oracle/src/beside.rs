@@ -1,10 +1,11 @@
 //! The compiled library beside another engine: the answer and every word
-//! after each call, through `bvm_call`, `bvm_kept`, `bvm_run`, and
-//! `bvm_try_resume` and `bvm_try_yield` where they are linked; `bvm_batch` too,
+//! after each call, through `bvm_call`, `bvm_call_unchecked`, `bvm_run`, and
+//! `bvm_try_resume_unchecked` and `bvm_try_yield_unchecked` where they are linked; `bvm_batch` too,
 //! beside `bvm_run`.
 
 use crate::call::{Answer, Call};
 use crate::coverage::ANSWERS;
+use crate::due::due;
 use crate::engine::Engine;
 use crate::generate::Sequence;
 use crate::layout;
@@ -25,6 +26,9 @@ pub struct Count {
     /// Words of calls that are none.
     pub none: u64,
     pub words: u64,
+    /// Resumes and Yields that the functions of their own did.
+    pub resumes: u64,
+    pub yields: u64,
 }
 
 impl Default for Count {
@@ -36,6 +40,8 @@ impl Default for Count {
             runs: 0,
             none: 0,
             words: 0,
+            resumes: 0,
+            yields: 0,
         }
     }
 }
@@ -182,6 +188,18 @@ impl Library {
             };
             match call_words(call) {
                 Some(words) => {
+                    if let (Some(taken), Some(due)) =
+                        (all.switch.takes(&words), due(&before, call, &told))
+                    {
+                        if taken != due {
+                            return Err(at(format!(
+                                "done by its own function: {taken}, not {due}"
+                            )));
+                        }
+                        let plain = matches!(call, Call::Resume { .. });
+                        *(if plain { &mut count.resumes } else { &mut count.yields }) +=
+                            u64::from(taken);
+                    }
                     all.one(words, answer_words(call, &told), &expected).map_err(&at)?;
                     if all.waiting.len() >= all.most || i + 1 == sequence.calls.len() {
                         all.catch_up(&expected).map_err(&at)?;
@@ -198,7 +216,7 @@ impl Library {
             count.calls += 1;
             count.cells[call.number()][usize::from(told.number)] += 1;
             count.words += expected.count() as u64;
-            if let Some((words, number)) = no_call(i) {
+            if let Some((words, number)) = no_call(i, after.frames.len()) {
                 for (through, lent) in [
                     (Through::Call, &mut all.call),
                     (Through::Kept, &mut all.kept),
@@ -217,28 +235,40 @@ impl Library {
     }
 }
 
-/// Words that are no call, and the number that they are refused with.
+/// Words that are no call, and the number that they are refused with on a sound
+/// machine of so many frames: 01 tests 12 or 15 before 13.
 #[must_use]
-pub fn no_call(i: usize) -> Option<(Vec<u64>, u64)> {
-    let all: [(&[u64], u64); 18] = [
+pub fn no_call(i: usize, frames: usize) -> Option<(Vec<u64>, u64)> {
+    let framed = if frames == 0 { 12 } else { 13 };
+    let busy = if frames == 0 { 13 } else { 15 };
+    let all: [(&[u64], u64); 27] = [
         (&[27, 0, 0, 0, 0, 0], 13),
         (&[u64::MAX, 0, 0, 0, 0, 0], 13),
         (&[26, 0, 0, 0, 0, 1], 13),
         (&[26, 0, 0, 0, 0], 13),
         (&[26, 0, 0, 0, 0, 0, 0], 13),
+        (&[20, 1 << 16, 0, 0, 0], 13),
         (&[], 13),
-        (&[0, 1 << 32, 0, 0, 0, 0], 13),
-        (&[0, 0, 1 << 16, 0, 0, 0], 13),
-        (&[0, 0, 0, 0, 256, 0], 13),
-        (&[13, 0, 0, 0, 0, 1 << 16], 13),
+        (&[0, 1 << 32, 0, 0, 0, 0], framed),
+        (&[0, 0, 1 << 16, 0, 0, 0], framed),
+        (&[0, 0, 0, 0, 256, 0], framed),
+        (&[3, 1 << 32, 0, 0, 0, 0], framed),
+        (&[13, 0, 0, 0, 0, 1 << 16], framed),
         (&[14, 4, 0, 0, 0, 0], 13),
         (&[14, 0, 0, 1, 0, 0], 13),
         (&[15, 18, 0, 0, 0, 0], 11),
         (&[15, u64::MAX, 1, 2, 3, 4], 11),
+        (&[15, 0, 7, 0, 0, 0], 11),
+        (&[15, 11, 7, 0, 0, 0], 11),
+        (&[15, 16, 0, 2, 0, 0], 11),
         (&[15, 5, 1, 0, 0, 0], 13),
         (&[15, 5, 0, 2, 0, 0], 13),
-        (&[15, 5, 0, 0, 1, 0], 13),
-        (&[19, 0, 0, 6, 0, 0], 13),
+        (&[15, 17, 1, 0, 1, 0], 13),
+        (&[17, 1 << 32, 0, 0, 0, 0], busy),
+        (&[18, 0, 0, 1, 0, 0], busy),
+        (&[19, 0, 0, 6, 0, 0], framed),
+        (&[19, 0, 1 << 32, 0, 0, 0], framed),
+        (&[20, 1 << 16, 0, 0, 0, 0], framed),
     ];
     all.get(i % 64).map(|&(words, number)| (words.to_vec(), number))
 }

@@ -1,6 +1,6 @@
 //! States, calls and answers of the coroutine switch as plain values, with a
 //! soundness test, generators, a second engine written from 01 (the build
-//! description with the exact rules, docs/RULES.md), and recorded answers.
+//! description with the exact rules, docs/rules/RULES.md), and recorded answers.
 //! Nothing here needs the original. `library` is the static library, where it
 //! is linked.
 
@@ -14,6 +14,7 @@ pub mod call;
 pub mod codec;
 pub mod compare;
 pub mod coverage;
+pub mod due;
 pub mod engine;
 pub mod examples;
 pub mod generate;

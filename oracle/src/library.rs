@@ -28,7 +28,7 @@ macro_rules! functions {
 functions! {
     bvm_set_up(given answer);
     bvm_call(call answer);
-    bvm_kept(call answer);
+    bvm_call_unchecked(call answer);
     bvm_run(calls answers);
     bvm_look(span);
     bvm_grant(answer; amount: u64);
@@ -57,8 +57,8 @@ macro_rules! switches {
 
 #[cfg(hot)]
 switches! {
-    bvm_try_resume(pc: u32, dst: u16, coro: u16, src: u16);
-    bvm_try_yield(pc: u32, dst: u16, src: u16);
+    bvm_try_resume_unchecked(pc: u32, dst: u16, coro: u16, src: u16);
+    bvm_try_yield_unchecked(pc: u32, dst: u16, src: u16);
 }
 
 #[cfg(batch)]
@@ -112,7 +112,7 @@ fn lent(words: &mut [u64]) -> Slice {
 macro_rules! lend {
     ($name:ident($all:expr, $($slice:expr),* $(; $word:expr)?)) => {{
         let a: [Slice; 11] = $all;
-        // SAFETY: each slice is lent whole and none twice. `bvm_kept` is lent
+        // SAFETY: each slice is lent whole and none twice. `bvm_call_unchecked` is lent
         // a sound machine's words only; the others take any.
         unsafe {
             $name(
@@ -153,7 +153,7 @@ pub enum Through {
     Call,
     Kept,
     /// Resume and Yield by the functions of their own, where they are linked
-    /// and do the call; all else by `bvm_kept`.
+    /// and do the call; all else by `bvm_call_unchecked`.
     Switch,
 }
 
@@ -185,15 +185,24 @@ impl Lent {
         (number, answer.words().try_into().expect("eight words"))
     }
 
+    /// A set-up with too few words for its answer, which must stay as they are.
+    pub fn set_up_short(&mut self, given: &[u64], room: usize) -> u64 {
+        let (mut given, mut answer) = (Guarded::new(given), Guarded::new(&vec![GUARD; room]));
+        let (g, a) = (lent(given.slice()), lent(answer.slice()));
+        let number = lend!(bvm_set_up(self.all(), g, a));
+        assert!(answer.words().iter().all(|&w| w == GUARD), "nothing is written");
+        number
+    }
+
     /// One call, with its words as they are.
     pub fn call(&mut self, through: Through, call: &[u64]) -> (u64, AnswerWords) {
         let (mut call, mut answer) = (Guarded::new(call), Guarded::new(&[GUARD; 8]));
         let (c, a) = (lent(call.slice()), lent(answer.slice()));
         let number = match through {
             Through::Call => lend!(bvm_call(self.all(), c, a)),
-            Through::Kept => lend!(bvm_kept(self.all(), c, a)),
+            Through::Kept => lend!(bvm_call_unchecked(self.all(), c, a)),
             Through::Switch if self.switched(call.words(), a) => 0,
-            Through::Switch => lend!(bvm_kept(self.all(), c, a)),
+            Through::Switch => lend!(bvm_call_unchecked(self.all(), c, a)),
         };
         (number, answer.words().try_into().expect("eight words"))
     }
@@ -224,9 +233,11 @@ impl Lent {
         let reg = |i: usize| u16::try_from(call[i]).ok();
         match *call {
             [6, _, _, _, _, 0] => {
-                Some(switch!(bvm_try_resume(self.all(), pc, reg(2)?, reg(3)?, reg(4)?)))
+                Some(switch!(bvm_try_resume_unchecked(self.all(), pc, reg(2)?, reg(3)?, reg(4)?)))
             }
-            [3, _, _, _, 0, 0] => Some(switch!(bvm_try_yield(self.all(), pc, reg(2)?, reg(3)?))),
+            [3, _, _, _, 0, 0] => {
+                Some(switch!(bvm_try_yield_unchecked(self.all(), pc, reg(2)?, reg(3)?)))
+            }
             _ => None,
         }
     }
@@ -234,6 +245,16 @@ impl Lent {
     #[cfg(not(hot))]
     fn switched(&mut self, _: &[u64], _: Slice) -> bool {
         false
+    }
+
+    /// Whether the function of a switch does the call, which this memory does
+    /// not see; none if the words are no switch, or it is not linked.
+    #[must_use]
+    pub fn takes(&self, call: &[u64]) -> Option<bool> {
+        #[cfg(hot)]
+        return self.clone().tried(call).map(|told| told == 1);
+        #[cfg(not(hot))]
+        return None;
     }
 
     /// Calls in words, one after the other; the answers have so many words,
@@ -283,7 +304,7 @@ impl Lent {
 
     /// Too few words for the answer of each function, which must stay as they
     /// are: what each returns.
-    pub fn short(&mut self, room: usize) -> [(&'static str, u64); 5] {
+    pub fn short(&mut self, room: usize) -> [(&'static str, u64); 4] {
         let mut call = Guarded::new(&[26, 0, 0, 0, 0, 0]);
         let mut answer = Guarded::new(&vec![GUARD; room]);
         let (c, a) = (lent(call.slice()), lent(answer.slice()));
@@ -293,10 +314,9 @@ impl Lent {
             ("bvm_run", lend!(bvm_run(self.all(), c, a))),
             ("bvm_look", lend!(bvm_look(self.all(), span))),
             ("bvm_grant", lend!(bvm_grant(self.all(), a; 1))),
-            ("bvm_set_up", lend!(bvm_set_up(self.all(), c, a))),
         ];
         #[cfg(batch)]
-        assert_eq!(lend!(bvm_batch(self.all(), c, a)), 14, "bvm_batch");
+        assert_eq!(lend!(bvm_batch(self.all(), c, a)), told[1].1, "bvm_batch beside bvm_run");
         assert!(answer.words().iter().all(|&w| w == GUARD), "nothing is written");
         told
     }
@@ -352,7 +372,7 @@ impl Bare {
     #[inline]
     pub fn kept(&mut self, mut call: CallWords) -> &AnswerWords {
         let (c, a) = (lent(&mut call), lent(&mut self.answer));
-        lend!(bvm_kept(self.slices, c, a));
+        lend!(bvm_call_unchecked(self.slices, c, a));
         &self.answer
     }
 
@@ -375,7 +395,7 @@ impl Bare {
     #[cfg(hot)]
     #[inline]
     pub fn resume(&mut self, pc: u32, dst: u16, coro: u16, src: u16) -> u64 {
-        match switch!(bvm_try_resume(self.slices, pc, dst, coro, src)) {
+        match switch!(bvm_try_resume_unchecked(self.slices, pc, dst, coro, src)) {
             1 => 0,
             _ => self.general([6, pc.into(), dst.into(), coro.into(), src.into(), 0]),
         }
@@ -385,7 +405,7 @@ impl Bare {
     #[cfg(hot)]
     #[inline]
     pub fn suspend(&mut self, pc: u32, dst: u16, src: u16) -> u64 {
-        match switch!(bvm_try_yield(self.slices, pc, dst, src)) {
+        match switch!(bvm_try_yield_unchecked(self.slices, pc, dst, src)) {
             1 => 0,
             _ => self.general([3, pc.into(), dst.into(), src.into(), 0, 0]),
         }

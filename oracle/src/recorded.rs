@@ -1,5 +1,5 @@
 //! Recorded answers: plain numbers, so that any language can replay them.
-//! docs/ORACLE.md gives the layout.
+//! oracle/README.md gives the layout.
 
 use crate::call::{Answer, Call};
 use crate::codec::{Codec, NumReader, NumWriter, Res};

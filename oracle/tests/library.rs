@@ -13,10 +13,12 @@ mod linked {
 
     use oracle::bad::{carried, memories, set_ups, Carried, Tried};
     use oracle::beside::{Count, Library};
-    use oracle::generate::{sequence, wild, Rng, Sequence};
+    use oracle::generate::{sequence, setup, wild, Profile, Rng, Sequence};
+    use oracle::lent::{refused, Words, MACHINE};
+    use oracle::library::{Lent, Through};
     use oracle::plain::Plain;
     use oracle::recorded::{digest, read};
-    use oracle::world::Costs;
+    use oracle::world::{Costs, World};
 
     const COSTS: Costs =
         Costs { frame: 32, coro: 104, coro_object: 160, int: 56, error: 56, iter: 112 };
@@ -30,6 +32,13 @@ mod linked {
             count.words,
             start.elapsed().as_secs_f64()
         );
+        // exactly those that must be: `due`
+        println!(
+            "{name}: done by the functions of their own: {} Resumes, {} Yields",
+            count.resumes, count.yields
+        );
+        let done = count.resumes.min(count.yields);
+        assert!(cfg!(not(hot)) || name == "wild" || done >= 100, "{name}: so few are done");
     }
 
     #[test]
@@ -85,6 +94,50 @@ mod linked {
             start.elapsed().as_secs_f64()
         );
         assert!(sound > 1_000 && unsound > 10_000 && tried.far > 500);
+    }
+
+    /// 01's order: 11, then 12 or 15, then 13 or 16; without room for the answer 11, then 14.
+    #[test]
+    fn numbers_in_their_order() {
+        let sound = Words::of(&World::fresh(setup(&mut Rng::new(1), COSTS, Profile::Small)));
+        let refuses = |lent: &mut Lent, call: &[u64], number: u64| {
+            let before = lent.words();
+            for through in [Through::Call, Through::Kept, Through::Switch] {
+                assert_eq!(lent.call(through, call), (number, refused(number)), "{call:?}");
+            }
+            assert_eq!(lent.run(call, 8, 0), (0, refused(number).to_vec()), "{call:?}");
+            assert!(lent.is(&before), "{call:?}");
+        };
+        let mut lent = Lent::new(&sound);
+        for call in [
+            [20, 1 << 16, 0, 0, 0, 0],
+            [3, 1 << 32, 0, 0, 0, 0],
+            [19, 0, 0, 1, 1 << 16, 0],
+        ] {
+            refuses(&mut lent, &call, 12);
+        }
+        refuses(&mut lent, &[17, 1 << 32, 0, 0, 0, 0], 13);
+        assert!(lent.short(7).iter().all(|&(_, n)| n == 14));
+        assert_eq!(lent.call(Through::Call, &[17, 0, 0, 0, 0, 0]).0, 0, "a host call");
+        for call in [
+            [20, 1 << 16, 0, 0, 0, 0],
+            [3, 1 << 32, 0, 0, 0, 0],
+            [19, 0, 0, 1, 1 << 16, 0],
+            [14, 4, 0, 0, 0, 0],
+        ] {
+            refuses(&mut lent, &call, 13);
+        }
+        refuses(&mut lent, &[17, 1 << 32, 0, 0, 0, 0], 15);
+        refuses(&mut lent, &[15, 11, 7, 0, 0, 0], 11);
+        refuses(&mut lent, &[15, 0, 7, 0, 0, 0], 11);
+        // a machine that is not sound: a flag of 2
+        let mut words = lent.words();
+        words.0[MACHINE][6] = 2;
+        let mut lent = Lent::new(&words);
+        for room in [7, 1] {
+            assert!(lent.short(room).iter().all(|&(_, n)| n == 11));
+        }
+        assert!(lent.is(&words));
     }
 
     #[test]

@@ -1,6 +1,6 @@
 //! Stand-in for the crate `bytecode_lang` that the original imports: only the
 //! names that its coroutine, machine, heap and integer files mention. Nothing
-//! here decides how a switch behaves; see docs/DIFFERENCES.md.
+//! here decides how a switch behaves; see docs/rules/DIFFERENCES.md.
 
 mod arith;
 mod module;

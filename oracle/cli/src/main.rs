@@ -1,4 +1,4 @@
-//! The oracle's commands; docs/ORACLE.md says how to use them.
+//! The oracle's commands; oracle/README.md says how to use them.
 
 mod bench;
 mod commands;

@@ -1,8 +1,10 @@
 //! Sequences written by hand, where random ones are silent.
 
 mod arms;
+mod words;
 
 use crate::call::{Call, Kind};
+use crate::examples::sizes_below;
 use crate::generate::Sequence;
 use crate::word::{from_ref, NIL, REF_BASE};
 use crate::world::{Cont, Costs, Func, Handler, Object, Setup, World};
@@ -276,5 +278,8 @@ pub fn all(costs: Costs) -> Vec<Sequence> {
     all.push(calls_of_none(costs));
     all.extend(set_ups(costs));
     all.extend(arms::all(costs));
+    all.extend(words::all(costs));
+    let (start, calls) = sizes_below(costs);
+    all.push(Sequence { start, calls: calls.into() });
     all
 }

@@ -1,5 +1,5 @@
 //! The order in which a state, a call and an answer are written. These files
-//! are the format's definition; docs/ORACLE.md gives it in tables.
+//! are the format's definition; oracle/README.md gives it in tables.
 
 mod calls;
 mod state;

@@ -1,5 +1,5 @@
 //! A machine, calls and answers in words, as the static library takes them
-//! (docs/CALLS.md). Written from that table and 01: what the library
+//! (docs/ABI.md). Written from that table and 01: what the library
 //! leaves is compared with `write`, and which words are sound is asked of
 //! `read`.
 

@@ -35,10 +35,15 @@ impl Plain {
         }
         let (offset, floor) = (self.w.stack.len(), self.w.frames.len());
         let unmoved = self.is(Wrong::BasesNotRaised);
+        let keeps_sizes = self.is(Wrong::EntryKeepsSizes);
         let c = self.coro_mut(coro);
         let regs = std::mem::take(&mut c.regs);
         let mut frames = std::mem::take(&mut c.frames);
         c.state = State::Running;
+        if !keeps_sizes {
+            c.max_regs = c.max_regs.max(regs.len());
+            c.max_frames = c.max_frames.max(frames.len());
+        }
         for f in frames.iter_mut().filter(|_| !unmoved) {
             f.base += offset;
         }

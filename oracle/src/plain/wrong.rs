@@ -51,6 +51,7 @@ wrongs! {
     LargestFollowsEveryKey: "YieldKv raises the largest if the key is a greater integer.",
     IntObjectNoKey: "An integer key may be an integer object.",
     BasesNotLowered: "Saved frames have their bases from the body's base.",
+    EntryKeepsSizes: "The largest saved sizes so far: what is saved is such a size.",
     KeyObjectTakenBack: "A key object made before that 9 stays.",
     LoopAwaitRefusedEarly: "An Await there is 2, after suspending.",
     // Delivery.

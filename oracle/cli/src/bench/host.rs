@@ -1,7 +1,7 @@
 //! Round trips through the crate `host/`: its methods, and its `run`.
 
 use humdelzi::{
-    Answer, Batch, Call, Cont, Fuel, Function, FunctionId, Machine, Pc, Reg, Setup, Step,
+    Answer, Batch, Call, Cont, Fuel, Function, FunctionId, Machine, Pc, Reg, Setup, Step, StepError,
 };
 use oracle::world::{self, Costs};
 
@@ -12,14 +12,14 @@ fn fresh(s: &world::Setup) -> (Machine, Fuel) {
     let limits = Setup::new().depth(s.depth).stack(s.stack).rows(s.rows).slots(s.slots);
     let widths = s.funcs.iter().map(|f| Function::new(f.nregs as u16));
     let (mut m, mut fuel) = widths.fold(limits, Setup::function).machine().expect("a set-up");
-    assert!(m.grant(&mut fuel, 1 << 60).is_accepted(), "fuel");
-    assert!(m.host_call(&mut fuel, FunctionId(0)).is_accepted(), "room for a frame");
+    m.grant(&mut fuel, 1 << 60).expect("fuel");
+    m.host_call(&mut fuel, FunctionId(0)).expect("room for a frame");
     (m, fuel)
 }
 
 /// Whether the frame on top goes on.
-fn switched(a: Answer) -> bool {
-    a.step() == Some(Step::Frame)
+fn switched(step: Result<Step, StepError>) -> bool {
+    matches!(step, Ok(Step::Frame))
 }
 
 /// What makes a round trip ready; nothing else is measured here.
@@ -27,12 +27,12 @@ macro_rules! others {
     () => {
         fn push(&mut self, func: u32) {
             let made = self.0.function_call(&mut self.1, Pc(0), FunctionId(func), Cont::Discard);
-            assert!(made.is_accepted(), "room for a frame");
+            made.expect("room for a frame");
         }
 
         fn create(&mut self, func: u32) {
             let made = self.0.coro_new(&mut self.1, Pc(0), Reg(0), FunctionId(func), 0);
-            assert!(made.is_accepted(), "created");
+            assert_eq!(made, Ok(Step::Next), "created");
         }
 
         fn resume(&mut self) {
@@ -81,7 +81,8 @@ impl Switch for Run {
 
     fn trips(&mut self, n: usize) {
         self.2.truncate(2 * n);
-        self.0.run(&mut self.1, &mut self.2);
-        assert!(self.2.answer(2 * n - 1).is_some_and(switched), "suspended");
+        let answers = self.0.run(&mut self.1, &mut self.2);
+        let last = answers.get(2 * n - 1);
+        assert!(matches!(last, Some(Answer::Stepped { step: Step::Frame, .. })), "suspended");
     }
 }

@@ -17,7 +17,7 @@ fn fresh(s: &Setup) -> Bare {
 const RESUME: CallWords = [6, 0, 1, 0, 2, 0];
 const YIELD: CallWords = [3, 0, 0, 1, 0, 0];
 
-/// The calls other than a round trip's, by `bvm_kept`.
+/// The calls other than a round trip's, by `bvm_call_unchecked`.
 macro_rules! others {
     () => {
         fn push(&mut self, func: u32) {
@@ -70,7 +70,7 @@ fn raised(b: &mut Bare, call: CallWords) {
     assert_eq!(b.kept([15, 17, word, 0, 0, 0])[0], 0, "unwound");
 }
 
-/// `bvm_kept`: calls in words, without the test of soundness.
+/// `bvm_call_unchecked`: calls in words, without the test of soundness.
 pub(crate) struct Kept(pub(crate) Bare);
 
 impl Kept {
@@ -96,7 +96,7 @@ impl Switch for Kept {
     }
 }
 
-/// `bvm_try_resume` and `bvm_try_yield`.
+/// `bvm_try_resume_unchecked` and `bvm_try_yield_unchecked`.
 #[cfg(hot)]
 pub(crate) struct Hot(pub(crate) Bare);
 

@@ -47,7 +47,7 @@ const FAULTS: [&str; 17] = [
 
 const STATES_OF: [&str; 6] = ["Created", "Running", "Yielded", "Awaiting", "Returned", "Failed"];
 
-const HEAD: &str = "use Prim.Native.Nat.{ℕ}
+pub(super) const HEAD: &str = "use Prim.Native.Nat.{ℕ}
 use mathlib.Core.Path.{_≡_, refl}
 use mathlib.Core.Bool.{true, false}
 use mathlib.Core.List.{[], _∷_, _++_}
@@ -248,10 +248,9 @@ fn world(w: &World, old: Option<(&str, &World)>) -> String {
     format!("record {{ {} }}", fields.join("; "))
 }
 
-/// What is claimed of a call, and its proof: of a set-up by `step`; of an operation what `step` does with it, and that its
-/// operands are of their types.
-fn claim(k: &Call, name: &str, out: &str) -> (String, &'static str) {
-    let op = match k {
+/// An operation; a set-up is none.
+pub(super) fn operation(k: &Call) -> Option<String> {
+    Some(match k {
         Call::CoroNew { pc, dst, func, argc } => format!("Op.CoroNew {pc} {dst} {func} {argc}"),
         Call::CoroNewIndirect { pc, dst, callee, argc } => {
             format!("Op.CoroNewIndirect {pc} {dst} {callee} {argc}")
@@ -285,7 +284,7 @@ fn claim(k: &Call, name: &str, out: &str) -> (String, &'static str) {
             format!("Op.Unwind {} {}", fault(*n, *word), option_pc(*pc))
         }
         Call::SpawnTask { word } => format!("Op.SpawnTask {word}"),
-        Call::SetUp(s) => return (format!("step {name} (SetUp ({})) ≡ {out}", setup(s)), "refl"),
+        Call::SetUp(_) => return None,
         Call::HostCall { func } => format!("Op.HostCall {func}"),
         Call::HostEntry { coro, word } => format!("Op.HostEntry {coro} {word}"),
         Call::FunctionCall { pc, func, cont: k } => {
@@ -298,11 +297,20 @@ fn claim(k: &Call, name: &str, out: &str) -> (String, &'static str) {
         Call::Grant { fuel } => format!("Op.Grant {fuel}"),
         Call::StopRun => "Op.StopRun".into(),
         Call::Look => "Op.Look".into(),
-    };
+    })
+}
+
+/// What is claimed of a call, and its proof: of a set-up by `step`; of an operation what `step` does with it, and that its
+/// operands are of their types.
+fn claim(k: &Call, name: &str, out: &str) -> (String, &'static str) {
+    if let Call::SetUp(s) = k {
+        return (format!("step {name} (SetUp ({})) ≡ {out}", setup(s)), "refl");
+    }
+    let op = operation(k).unwrap_or_default();
     (format!("(typed ({op}) ≡ true) × (tested {name} ({op}) ≡ {out})"), "(refl, refl)")
 }
 
-fn answer(k: &Call, a: &Answer) -> String {
+pub(super) fn answer(k: &Call, a: &Answer) -> String {
     let taken = a.taken;
     let refusal = fault(a.number, a.word);
     let stepped = |s: String| format!("Answer.Stepped {s} {taken}");
@@ -397,7 +405,7 @@ fn traces(
     Ok(())
 }
 
-fn save(dir: &Path, name: &str, text: &str, root: &mut String) -> Result<(), String> {
+pub(super) fn save(dir: &Path, name: &str, text: &str, root: &mut String) -> Result<(), String> {
     let _ = writeln!(root, "pub mod {name}");
     fs::write(dir.join(format!("{name}.antt")), text).map_err(|e| e.to_string())
 }
@@ -461,7 +469,7 @@ fn states(
     Ok(())
 }
 
-fn finish(dir: &Path, root: &str) -> Result<(), String> {
+pub(super) fn finish(dir: &Path, root: &str) -> Result<(), String> {
     fs::write(dir.join("Lib.antt"), root).map_err(|e| e.to_string())
 }
 
@@ -472,7 +480,7 @@ pub(crate) fn damaged(costs: Costs, seed: u64, n: u64, dir: &Path) -> Result<(),
     if n > 0 {
         states(&choose(costs, seed, 200_000, n as usize), "Damaged", 'd', dir, &mut root)?;
     }
-    // Not what the original answers: docs/DIFFERENCES.md, "Largest saved sizes below what is saved".
+    // Largest sizes below what is saved: the definitions charge nothing for it, as the original.
     let (start, calls) = sizes_below(costs);
     let mut text = String::from(HEAD);
     theorems(&mut text, &mut Plain::default(), 0, &Sequence { start, calls: calls.into() });
@@ -502,16 +510,24 @@ pub(crate) fn recorded(
     dir: &Path,
 ) -> Result<(), String> {
     let mut root = String::new();
-    let all = super::recorded::load()?;
-    let (from, to) = (from.min(all.len()), to.min(all.len()));
+    let all = replayed(engine, from, to)?;
+    traces(engine, &all, from, dir, &mut root)?;
+    finish(dir, &root)
+}
+
+/// Recorded sequences; the engine must give what is recorded.
+pub(super) fn replayed(
+    engine: &mut dyn Engine,
+    from: usize,
+    to: usize,
+) -> Result<Vec<Sequence>, String> {
     let mut part = Vec::new();
-    for (i, r) in all.into_iter().enumerate().take(to).skip(from) {
+    for (i, r) in super::recorded::load()?.into_iter().enumerate().take(to).skip(from) {
         replay(engine, &r).map_err(|j| format!("sequence {i} differs at its call {j}"))?;
         part.push(Sequence {
             start: r.start,
             calls: r.lines.into_iter().map(|l| l.call).collect(),
         });
     }
-    traces(engine, &part, from, dir, &mut root)?;
-    finish(dir, &root)
+    Ok(part)
 }

@@ -23,7 +23,7 @@ pub(crate) fn original(original: &mut dyn Engine, costs: Costs) -> Result<(), St
     run("original", original, costs)
 }
 
-fn show(name: &str, engine: &mut dyn Engine, costs: Costs) {
+fn show(name: &str, engine: &mut dyn Engine, costs: Costs) -> Result<(), String> {
     let (start, calls) = sizes_below(costs);
     engine.load(&start);
     for call in &calls {
@@ -36,16 +36,17 @@ fn show(name: &str, engine: &mut dyn Engine, costs: Costs) {
             w.used,
             w.setup.memory
         );
+        if answer.number != 0 {
+            return Err(format!("{name}: what is saved was charged again"));
+        }
     }
+    Ok(())
 }
 
-/// Where the original's buffers tell: largest sizes below what is saved.
+/// Largest sizes below what is saved: nothing is charged for what was saved.
 pub(crate) fn sizes(costs: Costs) -> Result<(), String> {
-    show("second engine", &mut Plain::default(), costs);
+    show("second engine", &mut Plain::default(), costs)?;
     #[cfg(original)]
-    {
-        show("original, buffers shrunk at the entry", &mut original::Original::blank(), costs);
-        show("original as it is", &mut original::Original::as_it_is(), costs);
-    }
+    show("original", &mut original::Original::blank(), costs)?;
     Ok(())
 }

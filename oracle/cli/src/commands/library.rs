@@ -29,10 +29,10 @@ mod linked {
                 .map_err(|why| format!("sequence {i}: {why}"))?;
         }
         println!(
-            "{name}: {} sequences, {} calls through bvm_call, bvm_kept, {}{} ({} runs), {} cells, {} words that are no call, {} words of state, {:.1} s, no difference",
+            "{name}: {} sequences, {} calls through bvm_call, bvm_call_unchecked, {}{} ({} runs), {} cells, {} words that are no call, {} words of state, {:.1} s, no difference",
             count.sequences,
             count.calls,
-            if cfg!(hot) { "bvm_try_resume and bvm_try_yield, " } else { "" },
+            if cfg!(hot) { "bvm_try_resume_unchecked and bvm_try_yield_unchecked, " } else { "" },
             if cfg!(batch) { "bvm_run and bvm_batch" } else { "bvm_run" },
             count.runs,
             count.met(),

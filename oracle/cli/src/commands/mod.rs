@@ -8,6 +8,7 @@ mod library;
 mod recorded;
 mod run;
 mod trace;
+mod words;
 
 use std::path::Path;
 
@@ -22,7 +23,7 @@ const USAGE: &str = "usage: oracle COMMAND
   coverage SEED N   the same, with a table of calls by answers
   library SEED N    N random sequences on the original and through the library's functions
   wild SEED N       the same, with operands at and beyond every limit
-  carried SEED N    the same through `bvm_kept`, with one word changed on the way
+  carried SEED N    the same through `bvm_call_unchecked`, with one word changed on the way
   bad SEED N        N lent memories that hold anything, through the library
   set-ups SEED N    N set-ups, good and bad, through the library
   trace SEED N      N random sequences as text
@@ -30,12 +31,15 @@ const USAGE: &str = "usage: oracle COMMAND
   examples          01's P1 to P8
   sizes             largest sizes below the saved ones, on the original as it is
   record SEED N     writes recorded/answers.txt: N sequences or more
+  renew             answers its sequences again, and adds those by hand that it lacks
   verify            replays recorded/answers.txt
   show I            recorded sequence I as text
   mutants           wrong engines against recorded/answers.txt
   antt SEED N DIR   N random sequences as theorems about the definitions
   antt-recorded FROM TO DIR   recorded sequences as theorems
   antt-damaged SEED N DIR     states at each rule's edge as theorems, and damaged ones, each rule broken up to N times
+  antt-words FROM TO DIR      recorded sequences in lent words as theorems
+  antt-memories DIR           lent words, one changed at a rule's edge, as theorems
   bench [MEASURE].. the original's speed, the library's beside it, and others', of these measures by number
   goals N           the benchmark's goals by N processes, each of which is `ratios`
   stores [ENGINE].. instructions, loads and stores of a round trip, by lackey, and its time
@@ -69,6 +73,7 @@ pub(crate) fn run(args: &[&str]) -> Result<(), String> {
         ["examples"] => examples(),
         ["sizes"] => examples::sizes(COSTS),
         ["record", seed, n] => seeded(seed, n, recorded::record),
+        ["renew"] => with_original(recorded::renew),
         ["verify"] => verify(),
         ["show", i] => recorded::show(number(i)?),
         ["mutants"] => recorded::mutants(true),
@@ -79,6 +84,11 @@ pub(crate) fn run(args: &[&str]) -> Result<(), String> {
             let (from, to) = (number(from)? as usize, number(to)? as usize);
             antt::recorded(&mut Plain::default(), from, to, Path::new(dir))
         }
+        ["antt-words", from, to, dir] => {
+            let (from, to) = (number(from)? as usize, number(to)? as usize);
+            words::recorded(&mut Plain::default(), from, to, Path::new(dir))
+        }
+        ["antt-memories", dir] => words::memories(Path::new(dir)),
         ["antt-damaged", seed, n, dir] => {
             antt::damaged(COSTS, number(seed)?, number(n)?, Path::new(dir))
         }

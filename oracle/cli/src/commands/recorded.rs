@@ -8,6 +8,7 @@ use oracle::aimed;
 use oracle::call::Call;
 use oracle::compare::compare;
 use oracle::engine::Engine;
+use oracle::generate::Sequence;
 use oracle::layout;
 use oracle::plain::wrong::Wrong;
 use oracle::plain::Plain;
@@ -46,19 +47,49 @@ pub(crate) fn record(
     let mut all = sample(original, costs, seed, n as usize).map_err(|f| f.text())?;
     let random = all.len();
     for s in aimed::all(costs) {
-        compare(original, &mut Plain::default(), &s, |_| ()).map_err(|f| f.text())?;
-        all.push(oracle::recorded::record(original, &s));
+        all.push(answered(original, &s)?);
     }
-    let text = write(&all);
+    store("record", random, &all)
+}
+
+/// What the original answers, where the second engine agrees.
+fn answered(original: &mut dyn Engine, s: &Sequence) -> Result<Recorded, String> {
+    compare(original, &mut Plain::default(), s, |_| ()).map_err(|f| f.text())?;
+    Ok(oracle::recorded::record(original, s))
+}
+
+fn store(command: &str, random: usize, all: &[Recorded]) -> Result<(), String> {
+    let text = write(all);
     fs::write(file(), &text).map_err(|e| format!("{}: {e}", file().display()))?;
     println!(
-        "record: {random} random sequences, {} by hand, {} calls, {} cells, {} bytes",
+        "{command}: {random} random sequences, {} by hand, {} calls, {} cells, {} bytes",
         all.len() - random,
-        calls(&all),
-        cells(&all),
+        calls(all),
+        cells(all),
         text.len()
     );
     Ok(())
+}
+
+/// The file's sequences answered again, each under its number, and after them
+/// those by hand that it lacks.
+pub(crate) fn renew(original: &mut dyn Engine, costs: Costs) -> Result<(), String> {
+    let mut all = Vec::new();
+    for r in load()? {
+        let calls = r.lines.into_iter().map(|l| l.call).collect();
+        all.push(answered(original, &Sequence { start: r.start, calls })?);
+    }
+    let by_hand = aimed::all(costs);
+    let same = |r: &Recorded, s: &Sequence| {
+        r.start == s.start && r.lines.iter().map(|l| &l.call).eq(&s.calls)
+    };
+    let random = all.iter().filter(|r| !by_hand.iter().any(|s| same(r, s))).count();
+    for s in &by_hand {
+        if !all.iter().any(|r| same(r, s)) {
+            all.push(answered(original, s)?);
+        }
+    }
+    store("renew", random, &all)
 }
 
 /// Replays the file on one engine.

@@ -9,7 +9,6 @@ mod outer;
 
 use oracle::call::{Answer, Call, Step};
 use oracle::engine::{gate, Engine};
-use oracle::word;
 use oracle::world::{Func, Object, Setup, World};
 
 use crate::fault::Fault;
@@ -23,14 +22,11 @@ pub struct Original {
     stack: Vec<u64>,
     /// The state as values: what the last call left.
     world: World,
-    /// Whether an entered coroutine's buffers are given the largest sizes of
-    /// the state, where these are below what was saved.
-    shrinks: bool,
 }
 
 impl Engine for Original {
     fn load(&mut self, w: &World) {
-        *self = Original { shrinks: self.shrinks, ..Original::new(w) };
+        *self = Original::new(w);
     }
 
     fn call(&mut self, call: &Call) -> Answer {
@@ -78,19 +74,13 @@ impl Original {
     pub(crate) fn new(w: &World) -> Original {
         let prog = bridge::program(&w.setup);
         let m = bridge::machine(&prog, w);
-        Original { prog, m, stack: w.stack.clone(), world: w.clone(), shrinks: true }
-    }
-
-    /// The original with its buffers as they are.
-    #[must_use]
-    pub fn as_it_is() -> Original {
-        Original { shrinks: false, ..Original::blank() }
+        Original { prog, m, stack: w.stack.clone(), world: w.clone() }
     }
 
     /// Reads the state back after a call. A new coroutine takes the lowest
     /// free row and a finished one has given its row back. The original knows
-    /// the largest saved sizes as capacities; a loaded state may ask for less
-    /// than what is saved, which a buffer takes on once it is empty.
+    /// the largest saved sizes as capacities, so what a loaded state has below
+    /// what is saved shows until the entry.
     fn note_state(&mut self) {
         let old = &self.world;
         let free = old.rows_taken().iter().position(|&t| !t);
@@ -109,22 +99,9 @@ impl Original {
             if c.state.is_finished() {
                 c.row = 0;
             }
-            if !was.state.is_resumable() {
-                continue;
-            }
-            let word = word::from_ref(i as u32, slot.tag);
-            let co = self.m.heap.coro_mut(word).expect("a coroutine");
-            if c.state.is_resumable() {
+            if was.state.is_resumable() && c.state.is_resumable() {
                 // Still asleep: its sizes are what they were.
                 (c.max_regs, c.max_frames) = (was.max_regs, was.max_frames);
-            } else if !c.state.is_finished() {
-                assert_eq!(c.max_regs, was.max_regs.max(was.regs.len()));
-                assert_eq!(c.max_frames, was.max_frames.max(was.frames.len()));
-                if self.shrinks && (c.max_regs, c.max_frames) != (was.max_regs, was.max_frames) {
-                    co.regs = bridge::buffer(&[], was.max_regs);
-                    co.frames = bridge::buffer(&[], was.max_frames);
-                    (c.max_regs, c.max_frames) = (was.max_regs, was.max_frames);
-                }
             }
         }
         self.world = new;
