@@ -314,16 +314,19 @@ def check_edits():
     """What an edit of must-fail/ changes stands once in its file, and the edit says what is wrong and which proof refuses it: ./evidence shows both, and each wrong machine."""
     count = 0
     for path in sorted(ROOT.glob("crates/*/must-fail/*.edit")):
-        file, crate, text = None, path.parts[-3], path.read_text()
+        file, crate, text, now, old = None, path.parts[-3], path.read_text(), {}, ""
         if len(plain(text.partition("refutes:")[0])) < 3 or "refutes:" not in text:
             say(f"{path.relative_to(ROOT)}: does not say what is wrong, or what refuses it")
         for key, text in re.findall(r"^(file|old|new): (.*)$", text, re.M):
             if key == "file":
                 file = ROOT / "crates" / crate / text
+                now.setdefault(file, file.read_text() if file.is_file() else "")
             elif key == "old":
-                count += 1
-                if not file.is_file() or file.read_text().count(text) != 1:
-                    say(f"{path.relative_to(ROOT)}: not once in its file: {text}")
+                count, old = count + 1, text
+                if now[file].count(text) != 1:
+                    say(f"{path.relative_to(ROOT)}: not once in its file, as the changes before leave it: {text}")
+            else:
+                now[file] = now[file].replace(old, text, 1)
     machines = wrong_machines()
     if len(machines) < 50:
         say("crates/claims_model/specs/Wrong*.antt have lost their machines")
