@@ -397,8 +397,8 @@ def check_counts(mend):
 
 
 def check_linked():
-    """For each linked function that changes a word, `after` of claims_linked/specs/Linked.antt has the definition that its contract cites."""
-    rows = re.findall(r"^after h \(bvm-(\S+) .*?\) = (.*)$", (ROOT / "crates/claims_linked/specs/Linked.antt").read_text(), re.M)
+    """For each linked function that changes a word, `leftBy` of claims_linked/specs/Linked.antt has the definition that its contract cites."""
+    rows = re.findall(r"^leftBy h \(bvm-(\S+) .*?\) = (.*)$", (ROOT / "crates/claims_linked/specs/Linked.antt").read_text(), re.M)
     contracts = {}
     for path in [*ROOT.glob("crates/linked_calls/src/*.rt"), *ROOT.glob("crates/linked_switch/src/*.rt"), *ROOT.glob("crates/linked_batch/src/*.rt")]:
         for name, text in re.findall(r"pub extern \"C\" fn bvm_(\w+)(.*?)^\{", path.read_text(), re.M | re.S):
@@ -407,7 +407,7 @@ def check_linked():
     # by way of a record, whose equations are the definition's; what keptIn leaves is doWords written back over the host's words
     records = {"grant": ("linked_calls/specs/Host.antt", "Granted", "callIn"), "switch": ("linked_switch/specs/Switch.antt", "Switched", "keptIn")}
     if len(rows) < 6:
-        say("crates/claims_linked/specs/Linked.antt: after has lost its rows")
+        say("crates/claims_linked/specs/Linked.antt: leftBy has lost its rows")
     for name, right in rows:
         definition = re.search(r"(?:\w+In|runHost|doWords)\b", right).group()
         if name in records:

@@ -55,12 +55,12 @@ def is_data(text):
 
 # Records that are premises of claims: a premise that says less makes no claim say less. Where such a record is a conclusion too (`Enters`, `Suspends`,
 # `Returns`, `Fails` of `Events`), a field less makes of the premise one under which `step` has not what is claimed.
-PREMISES = {"Enters", "Suspends", "Stops", "Restarts", "Returns", "Fails", "Roomy", "Makes"}
+PREMISES = {"Enters", "Suspends", "Stops", "Restarts", "Returns", "Fails", "Roomy", "IntFits"}
 
 # Fields that no engine can be wrong in alone.
 ALONE = {
     ("NotEmpty", "waits"): "of the empty list it holds of every engine: it says that the turns between are such as `enters` needs",
-    ("NotEmpty", "goes"): "of the empty list it holds of every engine: it says that the turns between are such as `leaves` needs",
+    ("NotEmpty", "goes"): "of the empty list it holds of every engine: it says that the turns between are such as `stops` needs",
 }
 
 

@@ -22,10 +22,10 @@ use Rattle.memory_sound.specs.Words.{restOk}
 use Rattle.check_tables.specs.Queue.{bitAt}
 use Rattle.check_machine.specs.Saved.{coroTest, SavedFits}
 
-module _ (l : Sizes) (s : Setup) (stack frames : List ℕ) where
+module _ (sizes : Sizes) (s : Setup) (stack frames : List ℕ) where
   -- a coroutine at slot i: what it has saved, and "no other coroutine Running" than the chain's
   abbrev pub coroFine : (ℕ → Bool) → ℕ → CoroObj → Bool
-  coroFine chained i c = coroTest l s stack frames c && (not (isRunning (c .state)) || chained i)
+  coroFine chained i c = coroTest sizes s stack frames c && (not (isRunning (c .state)) || chained i)
 
   abbrev pub objectFine : (ℕ → Bool) → ℕ → H.Object → Bool
   objectFine chained i O.Empty = true
@@ -52,10 +52,10 @@ module _ (l : Sizes) (s : Setup) (stack frames : List ℕ) where
 
 -- a row that nobody holds has only zeros
 abbrev pub rowFree : Sizes → List ℕ → List ℕ → ℕ → Bool
-rowFree l stack frames n = restOk (chunkAt (l .width) stack n) 0 && restOk (chunkAt (l .depth * 6) frames n) 0
+rowFree sizes stack frames n = restOk (chunkAt (sizes .width) stack n) 0 && restOk (chunkAt (sizes .depth * 6) frames n) 0
 
 abbrev pub freeTest : Sizes → List ℕ → List ℕ → (ℕ → Bool) → Bool
-freeTest l stack frames held = allBelow (l .rows) (λ n. held n || rowFree l stack frames n)
+freeTest sizes stack frames held = allBelow (sizes .rows) (λ n. held n || rowFree sizes stack frames n)
 
 -- the rows held, in the order of the slots
 abbrev pub rowsOf : H.Object → List ℕ → List ℕ
@@ -72,9 +72,9 @@ rowsHeld (x ∷ xs) = rowsOf (x .object) (rowsHeld xs)
 
 -- each slot, each row held by one, and the rows that nobody holds
 abbrev pub rowsTest : Sizes → Setup → List ℕ → List ℕ → (ℕ → Bool) → List ℕ → ℕ → Bool
-rowsTest l s stack frames chained slots count =
+rowsTest sizes s stack frames chained slots count =
     let held = rowsHeld (slotsOf count slots) in
-    allBelow count (λ i. objectFine l s stack frames chained i (slotIn slots i .object)) && distinct held && freeTest l stack frames (λ n. among n held)
+    allBelow count (λ i. objectFine sizes s stack frames chained i (slotIn slots i .object)) && distinct held && freeTest sizes stack frames (λ n. among n held)
 
 -- a row that is in a set of rows in one word
 abbrev pub heldBit : ℕ → ℕ → Bool
@@ -82,17 +82,17 @@ heldBit mask row = ltb row 64 && bitAt mask row
 
 -- ---- words enough
 
-pub record RowsFit (stack frames need setup set : List ℕ) (l : Sizes) : Type 0 where
-  pub saved : SavedFits stack frames need setup l
+pub record RowsFit (stack frames need setup set : List ℕ) (sizes : Sizes) : Type 0 where
+  pub saved : SavedFits stack frames need setup sizes
   pub long : length set ≡ 64
 
-pub record SlotsFit (stack frames need setup set slots : List ℕ) (l : Sizes) (count : ℕ) : Type 0 where
-  pub rows : RowsFit stack frames need setup set l
+pub record SlotsFit (stack frames need setup set slots : List ℕ) (sizes : Sizes) (count : ℕ) : Type 0 where
+  pub rows : RowsFit stack frames need setup set sizes
   pub table : count * width ≤ length slots
   pub few : count ≤ 4096
 
-pub record FreeFits (stack frames : List ℕ) (l : Sizes) : Type 0 where
-  pub deep : l .depth ≤ 128
-  pub on-stack : l .rows * l .width ≤ length stack
-  pub on-frames : l .rows * (l .depth * 6) ≤ length frames
-  pub few : l .rows ≤ 64
+pub record FreeFits (stack frames : List ℕ) (sizes : Sizes) : Type 0 where
+  pub deep : sizes .depth ≤ 128
+  pub on-stack : sizes .rows * sizes .width ≤ length stack
+  pub on-frames : sizes .rows * (sizes .depth * 6) ≤ length frames
+  pub few : sizes .rows ≤ 64

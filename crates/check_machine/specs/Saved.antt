@@ -19,11 +19,11 @@ use Rattle.check_tables.specs.Frames.{savedFramesOk, Catches}
 
 -- the largest sizes so far
 abbrev pub largestIn : Sizes → CoroObj → Bool
-largestIn l c = leb (c .maxregs) (l .width) && leb (c .maxframes) (l .depth)
+largestIn sizes c = leb (c .maxregs) (sizes .width) && leb (c .maxframes) (sizes .depth)
 
 -- "sizes within limits"
 abbrev pub sizesIn : Sizes → CoroObj → Bool
-sizesIn l c = leb (c .regs) (l .width) && leb (c .frames) (l .depth) && leb (c .maxregs) (l .width) && leb (c .maxframes) (l .depth)
+sizesIn sizes c = leb (c .regs) (sizes .width) && leb (c .frames) (sizes .depth) && leb (c .maxregs) (sizes .width) && leb (c .maxframes) (sizes .depth)
 
 -- "waiting .. registers lie in their frame"
 abbrev pub waitsIn : List ℕ → CoroObj → Bool
@@ -41,10 +41,10 @@ nothingSaved c = eqb (c .row) 0 && eqb (c .frames) 0 && eqb (c .regs) 0
 
 -- a finished one has no row and nothing saved; another has a row, with zeros after what is saved there
 abbrev pub coroTest : Sizes → Setup → List ℕ → List ℕ → CoroObj → Bool
-coroTest l s stack frames c =
-    sizesIn l c
+coroTest sizes s stack frames c =
+    sizesIn sizes c
     && pick (isFinished (c .state)) (nothingSaved c)
-    (ltb (c .row) (l .rows) && restOk (chunkAt (l .width) stack (c .row)) (c .regs) && framesIn s (chunkAt (l .depth * 6) frames (c .row)) c)
+    (ltb (c .row) (sizes .rows) && restOk (chunkAt (sizes .width) stack (c .row)) (c .regs) && framesIn s (chunkAt (sizes .depth * 6) frames (c .row)) c)
 
 -- ---- words enough
 
@@ -54,11 +54,11 @@ pub record RowFits (ws need setup : List ℕ) (i w n : ℕ) : Type 0 where
   pub catches : Catches (setupOf setup) need
   pub numbers : 14 ≤ length setup
 
-pub record SavedFits (stack frames need setup : List ℕ) (l : Sizes) : Type 0 where
-  pub on-stack : l .rows * l .width ≤ length stack
-  pub on-frames : l .rows * (l .depth * 6) ≤ length frames
-  pub few : l .rows ≤ 64
-  pub deep : l .depth ≤ 128
-  pub wide : l .width ≤ 1024
+pub record SavedFits (stack frames need setup : List ℕ) (sizes : Sizes) : Type 0 where
+  pub on-stack : sizes .rows * sizes .width ≤ length stack
+  pub on-frames : sizes .rows * (sizes .depth * 6) ≤ length frames
+  pub few : sizes .rows ≤ 64
+  pub deep : sizes .depth ≤ 128
+  pub wide : sizes .width ≤ 1024
   pub catches : Catches (setupOf setup) need
   pub numbers : 14 ≤ length setup

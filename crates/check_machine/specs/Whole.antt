@@ -31,8 +31,8 @@ lentOf s f c o r q a z u =
 
 -- "sizes within limits, and lent words enough for them"; the outcome; "fuel 0 while banked"
 abbrev pub numbersTest : Sizes → ℕ → ℕ → ℕ → ℕ → ℕ → ℕ → ℕ → ℕ → Machine → Fuel → Bool
-numbersTest l stack frames chain slots saved asleep ready finalize m f =
-    roomTest l stack frames chain slots saved asleep ready finalize && countsTest l m && outcomeTest (m .outcome) && fuelTest f
+numbersTest sizes stack frames chain slots saved asleep ready finalize m f =
+    roomTest sizes stack frames chain slots saved asleep ready finalize && countsTest sizes m && outcomeTest (m .outcome) && fuelTest f
 
 -- the stack, the frames and the chain
 abbrev pub towerTest : Setup → List ℕ → List ℕ → List ℕ → Machine → Bool
@@ -45,9 +45,9 @@ chainedAt chain n i = among i (map slotOf (activeWords chain n))
 
 -- the slots, the running coroutines and the rows, and zeros after them
 abbrev pub objectsTest : Sizes → Setup → List ℕ → List ℕ → List ℕ → List ℕ → Machine → Bool
-objectsTest l s chain slots saved asleep m =
+objectsTest sizes s chain slots saved asleep m =
     tableTest slots (m .count) && runningTest chain (m .active) (slotsOf (m .count) slots)
-    && rowsTest l s saved asleep (chainedAt chain (m .active)) slots (m .count) && restOk saved (l .rows * l .width) && restOk asleep (l .rows * (l .depth * 6))
+    && rowsTest sizes s saved asleep (chainedAt chain (m .active)) slots (m .count) && restOk saved (sizes .rows * sizes .width) && restOk asleep (sizes .rows * (sizes .depth * 6))
 
 abbrev pub queuesTest : List ℕ → List ℕ → List ℕ → Machine → Bool
 queuesTest ready finalize slots m =
@@ -56,10 +56,10 @@ queuesTest ready finalize slots m =
 abbrev pub wholeTest : Lent → Machine → Fuel → Bool
 wholeTest M m f =
     let s = setupOf (M .setup) in
-    let l = sizesOf s in
+    let sizes = sizesOf s in
     setupHeld (M .setup)
-    && numbersTest l (length (M .stack)) (length (M .frames)) (length (M .chain)) (length (M .slots)) (length (M .savedStack)) (length (M .savedFrames)) (length (M .ready)) (length (M .finalize)) m f
-    && towerTest s (M .stack) (M .frames) (M .chain) m && objectsTest l s (M .chain) (M .slots) (M .savedStack) (M .savedFrames) m
+    && numbersTest sizes (length (M .stack)) (length (M .frames)) (length (M .chain)) (length (M .slots)) (length (M .savedStack)) (length (M .savedFrames)) (length (M .ready)) (length (M .finalize)) m f
+    && towerTest s (M .stack) (M .frames) (M .chain) m && objectsTest sizes s (M .chain) (M .slots) (M .savedStack) (M .savedFrames) m
     && queuesTest (M .ready) (M .finalize) (M .slots) m
 
 -- ---- words enough
@@ -70,15 +70,15 @@ pub record TowerFits (frames chain need setup : List ℕ) (m : Machine) : Type 0
   pub catches : Catches (setupOf setup) need
   pub numbers : 14 ≤ length setup
 
-pub record ObjectsFit (chain slots saved asleep need setup : List ℕ) (l : Sizes) (m : Machine) : Type 0 where
+pub record ObjectsFit (chain slots saved asleep need setup : List ℕ) (sizes : Sizes) (m : Machine) : Type 0 where
   pub on-chain : m .active * 6 ≤ length chain
   pub table : m .count * width ≤ length slots
   pub few : m .count ≤ 4096
-  pub on-stack : l .rows * l .width ≤ length saved
-  pub on-frames : l .rows * (l .depth * 6) ≤ length asleep
-  pub rows : l .rows ≤ 64
-  pub deep : l .depth ≤ 128
-  pub wide : l .width ≤ 1024
+  pub on-stack : sizes .rows * sizes .width ≤ length saved
+  pub on-frames : sizes .rows * (sizes .depth * 6) ≤ length asleep
+  pub rows : sizes .rows ≤ 64
+  pub deep : sizes .depth ≤ 128
+  pub wide : sizes .width ≤ 1024
   pub catches : Catches (setupOf setup) need
   pub numbers : 14 ≤ length setup
 

@@ -29,14 +29,14 @@ fn coro_row(
     setup: &[u64],
     need: &[u64; 32],
     set: &[u64; 64],
-    l: Sizes,
+    sizes: Sizes,
     i: usize,
     c: CoroObj,
 ) -> u64
-    requires { ⌜ RowsFit (now saved) (now asleep) (now need) (now setup) (now set) l × (i < 4096) ⌝ }
-    ensures { λ r. ⌜ r ≡ coroRow l (setupOf (now (setup .entry))) (now (saved .entry)) (now (asleep .entry)) (inSet (now (set .entry))) i c ⌝ }
+    requires { ⌜ RowsFit (now saved) (now asleep) (now need) (now setup) (now set) sizes × (i < 4096) ⌝ }
+    ensures { λ r. ⌜ r ≡ coroRow sizes (setupOf (now (setup .entry))) (now (saved .entry)) (now (asleep .entry)) (inSet (now (set .entry))) i c ⌝ }
 {
-    if !coro_ok(saved, asleep, setup, need, l, c) {
+    if !coro_ok(saved, asleep, setup, need, sizes, c) {
         return REFUSED;
     }
     let state = c.state;
@@ -59,15 +59,15 @@ fn slot_row(
     setup: &[u64],
     need: &[u64; 32],
     set: &[u64; 64],
-    l: Sizes,
+    sizes: Sizes,
     i: usize,
 ) -> u64
-    requires { ⌜ RowsFit (now saved) (now asleep) (now need) (now setup) (now set) l × (SlotFits (now slots) i × (i < 4096)) ⌝ }
-    ensures { λ r. ⌜ r ≡ slotRow l (setupOf (now (setup .entry))) (now (saved .entry)) (now (asleep .entry)) (inSet (now (set .entry))) (now (slots .entry)) i ⌝ }
+    requires { ⌜ RowsFit (now saved) (now asleep) (now need) (now setup) (now set) sizes × (SlotFits (now slots) i × (i < 4096)) ⌝ }
+    ensures { λ r. ⌜ r ≡ slotRow sizes (setupOf (now (setup .entry))) (now (saved .entry)) (now (asleep .entry)) (inSet (now (set .entry))) (now (slots .entry)) i ⌝ }
 {
     if heap::slot::is_coro(slots, i) {
         let c = heap::slot::coro_at(slots, i);
-        return coro_row(saved, asleep, setup, need, set, l, i, c);
+        return coro_row(saved, asleep, setup, need, set, sizes, i, c);
     }
     NONE
 }
@@ -92,35 +92,35 @@ fn hold(mask: u64, row: u64) -> u64
 }
 
 // Row n has only zeros.
-fn row_free(saved: &[u64], asleep: &[u64], l: Sizes, n: usize) -> bool
-    requires { ⌜ FreeFits (now saved) (now asleep) l × (n < l .rows) ⌝ }
-    ensures { λ r. ⌜ r ≡ rowFree l (now (saved .entry)) (now (asleep .entry)) n ⌝ }
+fn row_free(saved: &[u64], asleep: &[u64], sizes: Sizes, n: usize) -> bool
+    requires { ⌜ FreeFits (now saved) (now asleep) sizes × (n < sizes .rows) ⌝ }
+    ensures { λ r. ⌜ r ≡ rowFree sizes (now (saved .entry)) (now (asleep .entry)) n ⌝ }
 {
-    if !row_rest(saved, n, l.width, 0) {
+    if !row_rest(saved, n, sizes.width, 0) {
         return false;
     }
-    row_rest(asleep, n, l.depth * FRAME_WIDTH, 0)
+    row_rest(asleep, n, sizes.depth * FRAME_WIDTH, 0)
 }
 
 // Row n is in the set, or has only zeros.
-fn free_at(saved: &[u64], asleep: &[u64], l: Sizes, mask: u64, n: usize) -> bool
-    requires { ⌜ FreeFits (now saved) (now asleep) l × (n < l .rows) ⌝ }
-    ensures { λ r. ⌜ r ≡ (bitAt mask n || rowFree l (now (saved .entry)) (now (asleep .entry)) n) ⌝ }
+fn free_at(saved: &[u64], asleep: &[u64], sizes: Sizes, mask: u64, n: usize) -> bool
+    requires { ⌜ FreeFits (now saved) (now asleep) sizes × (n < sizes .rows) ⌝ }
+    ensures { λ r. ⌜ r ≡ (bitAt mask n || rowFree sizes (now (saved .entry)) (now (asleep .entry)) n) ⌝ }
 {
     if bit(mask, n as u64) {
         return true;
     }
-    row_free(saved, asleep, l, n)
+    row_free(saved, asleep, sizes, n)
 }
 
 // Each row does.
-fn free_ok(saved: &[u64], asleep: &[u64], l: Sizes, mask: u64) -> bool
-    requires { ⌜ FreeFits (now saved) (now asleep) l ⌝ }
-    ensures { λ r. ⌜ r ≡ freeTest l (now (saved .entry)) (now (asleep .entry)) (λ n. bitAt mask n) ⌝ }
+fn free_ok(saved: &[u64], asleep: &[u64], sizes: Sizes, mask: u64) -> bool
+    requires { ⌜ FreeFits (now saved) (now asleep) sizes ⌝ }
+    ensures { λ r. ⌜ r ≡ freeTest sizes (now (saved .entry)) (now (asleep .entry)) (λ n. bitAt mask n) ⌝ }
 {
-    let rows = l.rows;
+    let rows = sizes.rows;
     for n in 0..rows {
-        if !free_at(saved, asleep, l, mask, n) {
+        if !free_at(saved, asleep, sizes, mask, n) {
             return false;
         }
     }
@@ -136,10 +136,10 @@ pub fn rows_ok(
     setup: &[u64],
     need: &[u64; 32],
     set: &[u64; 64],
-    l: Sizes,
+    sizes: Sizes,
 ) -> bool
-    requires { ⌜ SlotsFit (now saved) (now asleep) (now need) (now setup) (now set) (now slots) l count ⌝ }
-    ensures { λ r. ⌜ r ≡ (rangesTest (now (slots .entry)) count && rowsTest l (setupOf (now (setup .entry))) (now (saved .entry)) (now (asleep .entry)) (inSet (now (set .entry))) (now (slots .entry)) count) ⌝ }
+    requires { ⌜ SlotsFit (now saved) (now asleep) (now need) (now setup) (now set) (now slots) sizes count ⌝ }
+    ensures { λ r. ⌜ r ≡ (rangesTest (now (slots .entry)) count && rowsTest sizes (setupOf (now (setup .entry))) (now (saved .entry)) (now (asleep .entry)) (inSet (now (set .entry))) (now (slots .entry)) count) ⌝ }
 {
     let mut mask: u64 = 0;
     let mut i = count;
@@ -148,7 +148,7 @@ pub fn rows_ok(
         if !heap::ranges::slot_ok_at(slots, i) {
             return false;
         }
-        let row = slot_row(slots, saved, asleep, setup, need, set, l, i);
+        let row = slot_row(slots, saved, asleep, setup, need, set, sizes, i);
         if row == REFUSED {
             return false;
         }
@@ -157,5 +157,5 @@ pub fn rows_ok(
         }
         mask = hold(mask, row);
     }
-    free_ok(saved, asleep, l, mask)
+    free_ok(saved, asleep, sizes, mask)
 }

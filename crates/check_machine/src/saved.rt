@@ -26,11 +26,11 @@ pub(crate) fn row_rest(ws: &[u64], i: usize, w: usize, n: usize) -> bool
 }
 
 // The largest counts of a coroutine so far.
-fn largest_ok(l: Sizes, c: CoroObj) -> bool
-    ensures { λ r. ⌜ r ≡ largestIn l c ⌝ }
+fn largest_ok(sizes: Sizes, c: CoroObj) -> bool
+    ensures { λ r. ⌜ r ≡ largestIn sizes c ⌝ }
 {
-    let width = l.width as u64;
-    let depth = l.depth as u64;
+    let width = sizes.width as u64;
+    let depth = sizes.depth as u64;
     if width < c.maxregs {
         return false;
     }
@@ -38,18 +38,18 @@ fn largest_ok(l: Sizes, c: CoroObj) -> bool
 }
 
 // The counts of a coroutine.
-fn sizes_ok(l: Sizes, c: CoroObj) -> bool
-    ensures { λ r. ⌜ r ≡ sizesIn l c ⌝ }
+fn sizes_ok(sizes: Sizes, c: CoroObj) -> bool
+    ensures { λ r. ⌜ r ≡ sizesIn sizes c ⌝ }
 {
-    let width = l.width as u64;
-    let depth = l.depth as u64;
+    let width = sizes.width as u64;
+    let depth = sizes.depth as u64;
     if width < c.regs {
         return false;
     }
     if depth < c.frames {
         return false;
     }
-    largest_ok(l, c)
+    largest_ok(sizes, c)
 }
 
 // The waiting register of a suspended one lies in its top frame: ws are its row's frames.
@@ -111,8 +111,8 @@ fn row_frames(ws: &[u64], i: usize, w: usize, setup: &[u64], need: &[u64; 32], c
 }
 
 // A finished one: nothing saved, and its largest counts.
-fn ended_ok(l: Sizes, c: CoroObj) -> bool
-    ensures { λ r. ⌜ r ≡ (sizesIn l c && nothingSaved c) ⌝ }
+fn ended_ok(sizes: Sizes, c: CoroObj) -> bool
+    ensures { λ r. ⌜ r ≡ (sizesIn sizes c && nothingSaved c) ⌝ }
 {
     if c.row != 0 {
         return false;
@@ -123,7 +123,7 @@ fn ended_ok(l: Sizes, c: CoroObj) -> bool
     if c.regs != 0 {
         return false;
     }
-    largest_ok(l, c)
+    largest_ok(sizes, c)
 }
 
 // A coroutine: its counts; of a finished one nothing, of another its row.
@@ -132,27 +132,27 @@ pub fn coro_ok(
     asleep: &[u64],
     setup: &[u64],
     need: &[u64; 32],
-    l: Sizes,
+    sizes: Sizes,
     c: CoroObj,
 ) -> bool
-    requires { ⌜ SavedFits (now saved) (now asleep) (now need) (now setup) l ⌝ }
-    ensures { λ r. ⌜ r ≡ coroTest l (setupOf (now (setup .entry))) (now (saved .entry)) (now (asleep .entry)) c ⌝ }
+    requires { ⌜ SavedFits (now saved) (now asleep) (now need) (now setup) sizes ⌝ }
+    ensures { λ r. ⌜ r ≡ coroTest sizes (setupOf (now (setup .entry))) (now (saved .entry)) (now (asleep .entry)) c ⌝ }
 {
     let state = c.state;
     if state.is_finished() {
-        return ended_ok(l, c);
+        return ended_ok(sizes, c);
     }
-    if !sizes_ok(l, c) {
+    if !sizes_ok(sizes, c) {
         return false;
     }
-    let rows = l.rows as u64;
+    let rows = sizes.rows as u64;
     if rows <= c.row {
         return false;
     }
     let row = c.row as usize;
     let regs = c.regs as usize;
-    if !row_rest(saved, row, l.width, regs) {
+    if !row_rest(saved, row, sizes.width, regs) {
         return false;
     }
-    row_frames(asleep, row, l.depth * FRAME_WIDTH, setup, need, c)
+    row_frames(asleep, row, sizes.depth * FRAME_WIDTH, setup, need, c)
 }

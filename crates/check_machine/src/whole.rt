@@ -24,7 +24,7 @@ use model::machine::Fuel;
 
 // Lent words enough, numbers within limits; the outcome and the fuel.
 fn numbers_ok(
-    l: Sizes,
+    sizes: Sizes,
     stack: usize,
     frames: usize,
     chain: usize,
@@ -36,11 +36,11 @@ fn numbers_ok(
     m: Machine,
     fuel: Fuel,
 ) -> bool
-    requires { ⌜ SizesFit l ⌝ }
-    ensures { λ r. ⌜ r ≡ numbersTest l stack frames chain slots saved asleep ready finalize m fuel ⌝ }
+    requires { ⌜ SizesFit sizes ⌝ }
+    ensures { λ r. ⌜ r ≡ numbersTest sizes stack frames chain slots saved asleep ready finalize m fuel ⌝ }
 {
     if !room_ok(
-        l,
+        sizes,
         stack,
         frames,
         chain,
@@ -52,7 +52,7 @@ fn numbers_ok(
     ) {
         return false;
     }
-    if !counts_ok(l, m) {
+    if !counts_ok(sizes, m) {
         return false;
     }
     let t = m.outcome;
@@ -91,11 +91,11 @@ fn objects_ok(
     asleep: &[u64],
     setup: &[u64],
     need: &[u64; 32],
-    l: Sizes,
+    sizes: Sizes,
     m: Machine,
 ) -> bool
-    requires { ⌜ ObjectsFit (now chain) (now slots) (now saved) (now asleep) (now need) (now setup) l m ⌝ }
-    ensures { λ r. ⌜ r ≡ objectsTest l (setupOf (now (setup .entry))) (now (chain .entry)) (now (slots .entry)) (now (saved .entry)) (now (asleep .entry)) m ⌝ }
+    requires { ⌜ ObjectsFit (now chain) (now slots) (now saved) (now asleep) (now need) (now setup) sizes m ⌝ }
+    ensures { λ r. ⌜ r ≡ objectsTest sizes (setupOf (now (setup .entry))) (now (chain .entry)) (now (slots .entry)) (now (saved .entry)) (now (asleep .entry)) m ⌝ }
 {
     if !rest_ok(slots, m.count * WIDTH) {
         return false;
@@ -105,13 +105,13 @@ fn objects_ok(
         return false;
     }
     let set = r.set;
-    if !rows_ok(slots, m.count, saved, asleep, setup, need, &set, l) {
+    if !rows_ok(slots, m.count, saved, asleep, setup, need, &set, sizes) {
         return false;
     }
-    if !rest_ok(saved, l.rows * l.width) {
+    if !rest_ok(saved, sizes.rows * sizes.width) {
         return false;
     }
-    rest_ok(asleep, l.rows * (l.depth * FRAME_WIDTH))
+    rest_ok(asleep, sizes.rows * (sizes.depth * FRAME_WIDTH))
 }
 
 // The two queues.
@@ -144,9 +144,9 @@ pub fn sound_words(
     if !setup_held(setup) {
         return false;
     }
-    let l = memory_world::sizes::sizes(setup);
+    let sizes = memory_world::sizes::sizes(setup);
     if !numbers_ok(
-        l,
+        sizes,
         stack.len(),
         frames.len(),
         chain.len(),
@@ -164,7 +164,7 @@ pub fn sound_words(
     if !tower_ok(stack, frames, chain, setup, &need, m) {
         return false;
     }
-    if !objects_ok(chain, slots, saved, asleep, setup, &need, l, m) {
+    if !objects_ok(chain, slots, saved, asleep, setup, &need, sizes, m) {
         return false;
     }
     queues_ok(ready, finalize, slots, m)

@@ -8,19 +8,19 @@ use Rattle.memory_world.specs.declared.machine.Sizes.{Sizes}
 
 -- "lent words enough for them": eight lengths, in the order of the slices
 abbrev pub roomTest : Sizes → ℕ → ℕ → ℕ → ℕ → ℕ → ℕ → ℕ → ℕ → Bool
-roomTest l stack frames chain slots saved asleep ready finalize =
-    leb (l .stack) stack && leb (l .depth * 6) frames && leb (l .depth * 6) chain && leb (l .slots * width) slots
-    && leb (l .rows * l .width) saved && leb (l .rows * (l .depth * 6)) asleep && leb (l .slots) ready && leb (l .slots) finalize
+roomTest sizes stack frames chain slots saved asleep ready finalize =
+    leb (sizes .stack) stack && leb (sizes .depth * 6) frames && leb (sizes .depth * 6) chain && leb (sizes .slots * width) slots
+    && leb (sizes .rows * sizes .width) saved && leb (sizes .rows * (sizes .depth * 6)) asleep && leb (sizes .slots) ready && leb (sizes .slots) finalize
 
 -- "sizes within limits"
 abbrev pub countsTest : Sizes → Machine → Bool
-countsTest l m =
-    leb (m .height) (l .stack) && leb (m .depth) (l .depth) && leb (m .active) (l .depth) && leb (m .count) (l .slots)
-    && leb (m .ready) (l .slots) && leb (m .finalize) (l .slots) && leb (m .used) (l .memory)
+countsTest sizes m =
+    leb (m .height) (sizes .stack) && leb (m .depth) (sizes .depth) && leb (m .active) (sizes .depth) && leb (m .count) (sizes .slots)
+    && leb (m .ready) (sizes .slots) && leb (m .finalize) (sizes .slots) && leb (m .used) (sizes .memory)
 
 -- sizes of an accepted set-up
-pub record SizesFit (l : Sizes) : Type 0 where
-  pub depth : l .depth ≤ 128
-  pub slots : l .slots ≤ 4096
-  pub rows : l .rows ≤ 64
-  pub width : l .width ≤ 1024
+pub record SizesFit (sizes : Sizes) : Type 0 where
+  pub depth : sizes .depth ≤ 128
+  pub slots : sizes .slots ≤ 4096
+  pub rows : sizes .rows ≤ 64
+  pub width : sizes .width ≤ 1024

@@ -8,7 +8,7 @@ use memory_world::machine::Sizes;
 
 // Whether the slices are as long as a set-up of these sizes needs.
 pub fn room_ok(
-    l: Sizes,
+    sizes: Sizes,
     stack: usize,
     frames: usize,
     chain: usize,
@@ -18,11 +18,11 @@ pub fn room_ok(
     ready: usize,
     finalize: usize,
 ) -> bool
-    requires { ⌜ SizesFit l ⌝ }
-    ensures { λ r. ⌜ r ≡ roomTest l stack frames chain slots saved asleep ready finalize ⌝ }
+    requires { ⌜ SizesFit sizes ⌝ }
+    ensures { λ r. ⌜ r ≡ roomTest sizes stack frames chain slots saved asleep ready finalize ⌝ }
 {
-    let records = l.depth * FRAME_WIDTH;
-    if stack < l.stack {
+    let records = sizes.depth * FRAME_WIDTH;
+    if stack < sizes.stack {
         return false;
     }
     if frames < records {
@@ -31,42 +31,42 @@ pub fn room_ok(
     if chain < records {
         return false;
     }
-    if slots < l.slots * WIDTH {
+    if slots < sizes.slots * WIDTH {
         return false;
     }
-    if saved < l.rows * l.width {
+    if saved < sizes.rows * sizes.width {
         return false;
     }
-    if asleep < l.rows * records {
+    if asleep < sizes.rows * records {
         return false;
     }
-    if ready < l.slots {
+    if ready < sizes.slots {
         return false;
     }
-    l.slots <= finalize
+    sizes.slots <= finalize
 }
 
 // Whether a machine's numbers are within its limits.
-pub fn counts_ok(l: Sizes, m: Machine) -> bool
-    ensures { λ r. ⌜ r ≡ countsTest l m ⌝ }
+pub fn counts_ok(sizes: Sizes, m: Machine) -> bool
+    ensures { λ r. ⌜ r ≡ countsTest sizes m ⌝ }
 {
-    if l.stack < m.height {
+    if sizes.stack < m.height {
         return false;
     }
-    if l.depth < m.depth {
+    if sizes.depth < m.depth {
         return false;
     }
-    if l.depth < m.active {
+    if sizes.depth < m.active {
         return false;
     }
-    if l.slots < m.count {
+    if sizes.slots < m.count {
         return false;
     }
-    if l.slots < m.ready {
+    if sizes.slots < m.ready {
         return false;
     }
-    if l.slots < m.finalize {
+    if sizes.slots < m.finalize {
         return false;
     }
-    m.used <= l.memory
+    m.used <= sizes.memory
 }

@@ -27,19 +27,19 @@ fn between(a: u64, b: u64, n: u64) -> bool
 }
 
 // "Depth 1-128, stack 1-1,024 words, rows 1-64, slots 1-4,096 .. Memory limit: any 64-bit number."
-fn limits_ok(l: Limits) -> bool
-    ensures { λ r. ⌜ r ≡ limitsOk l ⌝ }
+fn limits_ok(limits: Limits) -> bool
+    ensures { λ r. ⌜ r ≡ limitsOk limits ⌝ }
 {
-    if !between(1, 128, l.depth) {
+    if !between(1, 128, limits.depth) {
         return false;
     }
-    if !between(1, 1024, l.stack) {
+    if !between(1, 1024, limits.stack) {
         return false;
     }
-    if !between(1, 64, l.rows) {
+    if !between(1, 64, limits.rows) {
         return false;
     }
-    between(1, 4096, l.slots)
+    between(1, 4096, limits.slots)
 }
 
 // "Costs 0-65,536."

@@ -19,38 +19,38 @@ use Rattle.claims_sound.proofs.Tests.{and-left, and-right}
 use Rattle.memory_calls.specs.Answer.{answerWords}
 use Rattle.memory_calls.specs.declared.call.Read.{Read}
 use Rattle.machine_added.specs.Look.{endOn}
-use Rattle.memory_step.specs.Step.{decoded, setUpOk, Do, step}
+use Rattle.memory_step.specs.Step.{decoded, setUpOk, Do, memoryStep}
 use Rattle.outer_run.specs.Run.{Ran, runWords, countOf, callsIn, written, refusals}
-use Rattle.linked_calls.specs.Host.{Host, stateOf, tested, Gave, gave, tells, over, doIn, keptIn, short, callIn, Granted, freshIn, long, setUpIn, Looked, saw, lookIn, runHost}
+use Rattle.linked_calls.specs.Host.{Host, stateOf, passesTest, Gave, gave, tells, overwritten, doIn, keptIn, short, callIn, Granted, freshIn, long, setUpIn, Looked, saw, lookIn, runHost}
 use Rattle.linked_calls.proofs.Hosts.{done}
 use Rattle.linked_calls.proofs.Hosts as Hosts
 use Rattle.claims_linked.specs.Library.{HasRoom, NoRoom, Untested}
 
 -- ---- a call
 
-pub kept : (h : Host) (r : Read) (xs : List ℕ) → tested h ≡ true → 8 ≤ length xs → keptIn h r xs ≡ callIn h r xs
+pub kept : (h : Host) (r : Read) (xs : List ℕ) → passesTest h ≡ true → 8 ≤ length xs → keptIn h r xs ≡ callIn h r xs
 kept h r xs e w = Hosts.called h r xs (keptIn h r xs) w true (sym e) (done h r xs (keptIn h r xs) true refl refl)
 
-pub told : (h : Host) (o : Operation) (xs : List ℕ) → tested h ≡ true → 8 ≤ length xs
-    → let a = step (stateOf h) (Do o) .answer in (callIn h (Read.Is (o .op)) xs .answer ≡ splice xs 0 (answerWords a)) × (callIn h (Read.Is (o .op)) xs .number ≡ numberOf a)
+pub told : (h : Host) (o : Operation) (xs : List ℕ) → passesTest h ≡ true → 8 ≤ length xs
+    → let a = memoryStep (stateOf h) (Do o) .answer in (callIn h (Read.Is (o .op)) xs .answer ≡ splice xs 0 (answerWords a)) × (callIn h (Read.Is (o .op)) xs .number ≡ numberOf a)
 told h o xs e w = let p = sym (kept h (Read.Is (o .op)) xs e w) in (ap (λ (g : Gave). g .answer) p, ap (λ (g : Gave). g .number) p)
 
 -- by room for the answer, and by the test
 abbrev pub by : Host → Read → List ℕ → Bool → Bool → Gave
 by h r xs room ok = pick room (pick ok (keptIn h r xs) (tells h (Answer.Refused Fault.Unsound) xs)) (gave h xs (short ok))
 
-pub call-is : (h : Host) (r : Read) (xs : List ℕ) → callIn h r xs ≡ by h r xs (leb 8 (length xs)) (tested h)
+pub call-is : (h : Host) (r : Read) (xs : List ℕ) → callIn h r xs ≡ by h r xs (leb 8 (length xs)) (passesTest h)
 unfolding callIn
 call-is h r xs = refl
 
-no-answer : (h : Host) (r : Read) (xs : List ℕ) → length xs < 8 → callIn h r xs ≡ gave h xs (short (tested h))
-no-answer h r xs w = call-is h r xs ∙ ap (λ b. by h r xs b (tested h)) (lt-leb 8 (length xs) w) ∙ pick-false _ _
+no-answer : (h : Host) (r : Read) (xs : List ℕ) → length xs < 8 → callIn h r xs ≡ gave h xs (short (passesTest h))
+no-answer h r xs w = call-is h r xs ∙ ap (λ b. by h r xs b (passesTest h)) (lt-leb 8 (length xs) w) ∙ pick-false _ _
 
 by-none : (h : Host) (r : Read) (xs : List ℕ) → by h r xs true false ≡ tells h (Answer.Refused Fault.Unsound) xs
 unfolding pick
 by-none h r xs = refl
 
-pub not-passed : (h : Host) (r : Read) (xs : List ℕ) → tested h ≡ false → 8 ≤ length xs → callIn h r xs ≡ tells h (Answer.Refused Fault.Unsound) xs
+pub not-passed : (h : Host) (r : Read) (xs : List ℕ) → passesTest h ≡ false → 8 ≤ length xs → callIn h r xs ≡ tells h (Answer.Refused Fault.Unsound) xs
 not-passed h r xs e w = call-is h r xs ∙ ap₂ (by h r xs) (le-leb 8 (length xs) w) e ∙ by-none h r xs
 
 -- a grant, by what the call gives
@@ -66,7 +66,7 @@ looked-by h zs room ok =
     let w = decoded (stateOf h) in
     pick room (pick ok (saw (splice zs 0 (topBase (w .frames) ∷ endOn (w .frames) (w .stack) ∷ [])) 0) (saw (splice zs 0 (0 ∷ 0 ∷ [])) 11)) (saw zs (short ok))
 
-look-is : (h : Host) (zs : List ℕ) → lookIn h zs ≡ looked-by h zs (leb 2 (length zs)) (tested h)
+look-is : (h : Host) (zs : List ℕ) → lookIn h zs ≡ looked-by h zs (leb 2 (length zs)) (passesTest h)
 unfolding lookIn
 look-is h zs = refl
 
@@ -74,11 +74,11 @@ sees-nothing : (h : Host) (zs : List ℕ) → looked-by h zs true false ≡ saw 
 unfolding pick
 sees-nothing h zs = refl
 
-unseen : (h : Host) (zs : List ℕ) → tested h ≡ false → 2 ≤ length zs → lookIn h zs ≡ saw (splice zs 0 (0 ∷ 0 ∷ [])) 11
+unseen : (h : Host) (zs : List ℕ) → passesTest h ≡ false → 2 ≤ length zs → lookIn h zs ≡ saw (splice zs 0 (0 ∷ 0 ∷ [])) 11
 unseen h zs e w = look-is h zs ∙ ap₂ (looked-by h zs) (le-leb 2 (length zs) w) e ∙ sees-nothing h zs
 
-no-places : (h : Host) (zs : List ℕ) → length zs < 2 → lookIn h zs ≡ saw zs (short (tested h))
-no-places h zs w = look-is h zs ∙ ap (λ b. looked-by h zs b (tested h)) (lt-leb 2 (length zs) w) ∙ pick-false _ _
+no-places : (h : Host) (zs : List ℕ) → length zs < 2 → lookIn h zs ≡ saw zs (short (passesTest h))
+no-places h zs w = look-is h zs ∙ ap (λ b. looked-by h zs b (passesTest h)) (lt-leb 2 (length zs) w) ∙ pick-false _ _
 
 -- ---- a set-up
 
@@ -138,17 +138,17 @@ module _ (h : Host) (cs xs : List ℕ) where
   -- by room for the answers, and by the test
   abbrev pub ran-by : Bool → Bool → Gave
   ran-by room ok =
-      pick room (pick ok (gave (over h (all .state)) (written xs 0 (all .answers)) 0) (gave h (written xs 0 (refusals count)) 11)) (gave h xs (short ok))
+      pick room (pick ok (gave (overwritten h (all .state)) (written xs 0 (all .answers)) 0) (gave h (written xs 0 (refusals count)) 11)) (gave h xs (short ok))
 
-  pub run-is : runHost h cs xs ≡ ran-by (leb (count * 8) (length xs)) (tested h)
+  pub run-is : runHost h cs xs ≡ ran-by (leb (count * 8) (length xs)) (passesTest h)
   unfolding runHost
   run-is = refl
 
-  all-done : ran-by true true ≡ gave (over h (all .state)) (written xs 0 (all .answers)) 0
+  all-done : ran-by true true ≡ gave (overwritten h (all .state)) (written xs 0 (all .answers)) 0
   unfolding pick
   all-done = refl
 
-  pub answered : tested h ≡ true → count * 8 ≤ length xs → (runHost h cs xs .answer ≡ splice xs 0 (words answerWords (all .answers))) × (runHost h cs xs .number ≡ 0)
+  pub answered : passesTest h ≡ true → count * 8 ≤ length xs → (runHost h cs xs .answer ≡ splice xs 0 (words answerWords (all .answers))) × (runHost h cs xs .number ≡ 0)
   answered e w =
       let p = run-is ∙ ap₂ ran-by (le-leb (count * 8) (length xs) w) e ∙ all-done in
       (ap (λ (g : Gave). g .answer) p, ap (λ (g : Gave). g .number) p)
@@ -161,16 +161,16 @@ module _ (h : Host) (cs xs : List ℕ) where
 
   pub not-run : (runHost h cs xs .number ≡ 0 → ⊥) → runHost h cs xs .host ≡ h
   not-run n =
-      ap (λ (g : Gave). g .host) run-is ∙ not-run-by (leb (count * 8) (length xs)) (tested h) (λ z. n (ap (λ (g : Gave). g .number) run-is ∙ z))
+      ap (λ (g : Gave). g .host) run-is ∙ not-run-by (leb (count * 8) (length xs)) (passesTest h) (λ z. n (ap (λ (g : Gave). g .number) run-is ∙ z))
 
-  no-answers : length xs < count * 8 → runHost h cs xs ≡ gave h xs (short (tested h))
-  no-answers w = run-is ∙ ap (λ b. ran-by b (tested h)) (lt-leb (count * 8) (length xs) w) ∙ pick-false _ _
+  no-answers : length xs < count * 8 → runHost h cs xs ≡ gave h xs (short (passesTest h))
+  no-answers w = run-is ∙ ap (λ b. ran-by b (passesTest h)) (lt-leb (count * 8) (length xs) w) ∙ pick-false _ _
 
   none-run : ran-by true false ≡ gave h (written xs 0 (refusals count)) 11
   unfolding pick
   none-run = refl
 
-  refused-all : tested h ≡ false → count * 8 ≤ length xs → runHost h cs xs ≡ gave h (written xs 0 (refusals count)) 11
+  refused-all : passesTest h ≡ false → count * 8 ≤ length xs → runHost h cs xs ≡ gave h (written xs 0 (refusals count)) 11
   refused-all e w = run-is ∙ ap₂ ran-by (le-leb (count * 8) (length xs) w) e ∙ none-run
 
 -- ---- an answer that does not fit; a machine that does not pass
@@ -182,10 +182,10 @@ no-room h xs =
       run = λ cs w. no-answers h cs xs w;
       look = λ w. no-places h xs w;
       set-up = λ given w. begun-none h given xs w;
-      grant = λ n fs′ xs′ r w k. grant-gave h n xs fs′ xs′ r (gave h xs (short (tested h))) (no-answer h (Read.Is (Op.Grant n)) xs w) k;
+      grant = λ n fs′ xs′ r w k. grant-gave h n xs fs′ xs′ r (gave h xs (short (passesTest h))) (no-answer h (Read.Is (Op.Grant n)) xs w) k;
     }
 
-pub untested : (h : Host) (xs : List ℕ) → tested h ≡ false → Untested h xs
+pub untested : (h : Host) (xs : List ℕ) → passesTest h ≡ false → Untested h xs
 untested h xs e =
     record {
       call = λ r w. not-passed h r xs e w;

@@ -11,11 +11,11 @@ use Rattle.claims_sound.proofs.Tests.{both}
 use Rattle.memory_calls.specs.Call.{opOf}
 use Rattle.memory_calls.specs.declared.call.Read.{Read}
 use Rattle.memory_calls.proofs.Typed.{read-typed}
-use Rattle.claims_model.specs.Engine.{calls, run}
-use Rattle.memory_step.specs.Step.{State, Call, Do, step, stepWords}
-use Rattle.claims_memory.specs.Engine.{outer}
+use Rattle.claims_model.specs.Engine.{turnCall, runTurns}
+use Rattle.memory_step.specs.Step.{MemoryState, MemoryCall, Do, memoryStep, stepWords}
+use Rattle.claims_memory.specs.Engine.{memoryEngine}
 use Rattle.outer_run.specs.Run.{doWords, runWords, callsIn}
-use Rattle.claims_linked.specs.Batch.{Calls, none, is, not, Listed, Batch}
+use Rattle.claims_linked.specs.Batch.{Calls, none, is, not, BatchCalls, Batch}
 
 -- ---- words of 64 bits
 
@@ -30,29 +30,29 @@ each-drop p (suc n) [] e = refl
 each-drop p (suc n) (x ∷ xs) e = each-drop p n xs (each-rest p x xs e)
 
 -- what is read first, and the rest
-pub first : (ws : List ℕ) (r : Read) (rs : List Read) → each isWord ws ≡ true → opOf ws ≡ r → Listed rs → Listed (r ∷ rs)
+pub first : (ws : List ℕ) (r : Read) (rs : List Read) → each isWord ws ≡ true → opOf ws ≡ r → BatchCalls rs → BatchCalls (r ∷ rs)
 first ws (Read.Is o) rs h e t =
     let k : Operation = record { op = o; within = read-typed ws o h e } in
     record { list = Do k ∷ t .list; calls = is k rs (t .list) (t .calls) }
 first ws (Read.Not g) rs h e t = record { list = t .list; calls = not g rs (t .list) (t .calls) }
 
-pub listed : (n : ℕ) (cs : List ℕ) → each isWord cs ≡ true → Listed (callsIn n cs)
+pub listed : (n : ℕ) (cs : List ℕ) → each isWord cs ≡ true → BatchCalls (callsIn n cs)
 listed zero cs h = record { list = []; calls = none }
 listed (suc n) cs h = first (take 6 cs) (opOf (take 6 cs)) (callsIn n (drop 6 cs)) (each-take isWord 6 cs h) refl (listed n (drop 6 cs) (each-drop isWord 6 cs h))
 
 -- ---- one after the other
 
-left : (s : State) {rs : List Read} {ks : List Call} → Calls rs ks → runWords s rs .state ≡ run outer s (map calls ks)
+left : (s : MemoryState) {rs : List Read} {ks : List MemoryCall} → Calls rs ks → runWords s rs .state ≡ runTurns memoryEngine s (map turnCall ks)
 left s none = refl
 left s (is o rs ks c) = left (stepWords s (o .op) .state) c
 left s (not g rs ks c) = left s c
 
-long : (s : State) (rs : List Read) → length (runWords s rs .answers) ≡ length rs
+long : (s : MemoryState) (rs : List Read) → length (runWords s rs .answers) ≡ length rs
 long s [] = refl
 long s (r ∷ rs) = ap suc (long (doWords s r .state) rs)
 
-answer : (s : State) {rs : List Read} {ks : List Call} (r : Read) (more : List Read) (d : Answer) → Calls rs ks
-    → getD (runWords s (rs ++ (r ∷ more)) .answers) (length rs) d ≡ doWords (run outer s (map calls ks)) r .answer
+answer : (s : MemoryState) {rs : List Read} {ks : List MemoryCall} (r : Read) (more : List Read) (d : Answer) → Calls rs ks
+    → getD (runWords s (rs ++ (r ∷ more)) .answers) (length rs) d ≡ doWords (runTurns memoryEngine s (map turnCall ks)) r .answer
 answer s r more d none = refl
 answer s r more d (is o rs ks c) = answer (stepWords s (o .op) .state) r more d c
 answer s r more d (not g rs ks c) = answer s r more d c

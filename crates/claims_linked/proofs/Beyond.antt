@@ -12,10 +12,10 @@ use Rattle.heap.specs.declared.value.Opt.{Opt}
 use Rattle.model.specs.declared.machine.Fuel.{Fuel}
 use Rattle.memory_world.specs.declared.machine.Machine.{Machine}
 use Rattle.memory_calls.specs.declared.call.Read.{Read}
-use Rattle.memory_step.specs.Step.{State, setUpOk, setUpWords}
+use Rattle.memory_step.specs.Step.{MemoryState, setUpOk, setUpWords}
 use Rattle.outer_run.specs.Run.{doWords}
 use Rattle.linked_calls.specs.Words.{machineWords, fuelWords}
-use Rattle.linked_calls.specs.Host.{Host, stateOf, tested, Gave, over, callIn, freshIn, long, setUpIn, runHost}
+use Rattle.linked_calls.specs.Host.{Host, stateOf, passesTest, Gave, overwritten, callIn, freshIn, long, setUpIn, runHost}
 use Rattle.claims_linked.specs.Library.{Beyond}
 use Rattle.claims_linked.proofs.Answered.{by, call-is, begun-by, set-up-is, all, count, ran-by, run-is}
 
@@ -29,7 +29,7 @@ fuel-as fs n (Opt.Some a) r = refl
 fuel-rest : (fs : List ℕ) (f : Fuel) → drop 4 (splice fs 0 (fuelWords f)) ≡ drop 4 fs
 fuel-rest fs f = fuel-as fs (f .fuel) (f .bank) (f .ready)
 
-over-rest : (h : Host) (s : State) → Beyond h (over h s)
+over-rest : (h : Host) (s : MemoryState) → Beyond h (overwritten h s)
 over-rest h s = record { machine = numbers-rest (h .machine) (s .machine); fuel = fuel-rest (h .fuel) (s .fuel) }
 
 same : (h : Host) → Beyond h h
@@ -60,7 +60,7 @@ begun-rest h given xs true true true = fresh-rest h given
 pub beyond : (h : Host) (r : Read) (ws xs : List ℕ) → Beyond h (callIn h r xs .host) × Beyond h (runHost h ws xs .host) × Beyond h (setUpIn h ws xs .host)
 beyond h r ws xs =
     let at : (g k : Gave) → g ≡ k → Beyond h (k .host) → Beyond h (g .host) = λ g k p b. subst (λ (x : Gave). Beyond h (x .host)) (sym p) b in (
-      at (callIn h r xs) _ (call-is h r xs) (called-rest h r xs (leb 8 (length xs)) (tested h)),
-      at (runHost h ws xs) _ (run-is h ws xs) (ran-rest h ws xs (leb (count h ws xs * 8) (length xs)) (tested h)),
+      at (callIn h r xs) _ (call-is h r xs) (called-rest h r xs (leb 8 (length xs)) (passesTest h)),
+      at (runHost h ws xs) _ (run-is h ws xs) (ran-rest h ws xs (leb (count h ws xs * 8) (length xs)) (passesTest h)),
       at (setUpIn h ws xs) _ (set-up-is h ws xs) (begun-rest h ws xs (leb 8 (length xs)) (long h) (setUpOk ws (h .words))),
     )

@@ -35,17 +35,17 @@ use Rattle.memory_calls.specs.declared.call.Read.{Read}
 use Rattle.memory_calls.proofs.Back.{read-back}
 use Rattle.memory_calls.proofs.Typed.{read-typed}
 use Rattle.claims_model.specs.Engine as Engine
-use Rattle.claims_model.specs.Engine.{run}
-use Rattle.memory_step.specs.Step.{State, Left, stateIn, isSound, decoded, stepWords, setUpOk, setUpWords, Call, Do, step}
+use Rattle.claims_model.specs.Engine.{runTurns}
+use Rattle.memory_step.specs.Step.{MemoryState, Left, stateIn, isSound, decoded, stepWords, setUpOk, setUpWords, MemoryCall, Do, memoryStep}
 use Rattle.memory_step.specs.Sentences.{unchanging, NoSuchFault}
 use Rattle.memory_step.proofs.Kept as Kept
 use Rattle.memory_step.proofs.Kept.{words-kept}
 use Rattle.memory_step.proofs.Sentences.{sentences}
-use Rattle.claims_memory.specs.Engine.{outer}
+use Rattle.claims_memory.specs.Engine.{memoryEngine}
 use Rattle.claims_memory.proofs.Fuel as Fuel
 use Rattle.outer_run.specs.Run.{doWords, runWords, countOf, callsIn, written}
 use Rattle.linked_calls.specs.Words.{machineWords, sizesIn, sizesWords, fuelIn, fuelWords}
-use Rattle.linked_calls.specs.Host.{numbersOk, sameSizes, Host, host, stateOf, tested, Gave, gave, tells, over, keptIn, callIn, Granted, freshIn, long, setUpIn, runHost}
+use Rattle.linked_calls.specs.Host.{numbersOk, sameSizes, Host, host, stateOf, passesTest, Gave, gave, tells, overwritten, keptIn, callIn, Granted, freshIn, long, setUpIn, runHost}
 use Rattle.linked_calls.proofs.Hosts.{numbers, sound, sizes}
 use Rattle.claims_linked.specs.Batch.{Calls, none, is, not}
 use Rattle.claims_linked.specs.Library.{NoFault, unknown, none-such, Passes, HasRoom, Begins, smallest, sevens, Library}
@@ -58,10 +58,10 @@ use Rattle.claims_linked.proofs.Words.{machine-back, sizes-stay, same-m
 
 -- ---- a state written over a machine's words
 
-pub over-back : (h : Host) (s : State) → stateOf (over h s) ≡ s
+pub over-back : (h : Host) (s : MemoryState) → stateOf (overwritten h s) ≡ s
 over-back h s = λ i. record { words = s .words; machine = machine-back (h .machine) (s .machine) i; fuel = fuel-back (h .fuel) (s .fuel) i }
 
-over-same : (h : Host) → numbersOk (h .machine) (h .fuel) ≡ true → over h (stateOf h) ≡ h
+over-same : (h : Host) → numbersOk (h .machine) (h .fuel) ≡ true → overwritten h (stateOf h) ≡ h
 over-same h e =
     let t = numbers-each (h .machine) (h .fuel) e in
     let p = same-machine (h .machine) (leb-true 25 (length (h .machine)) (t .0)) (t .2) in
@@ -70,11 +70,11 @@ over-same h e =
     λ i. host (h .words) (p i) (q i)
 
 -- three tests
-passes : (h : Host) → numbersOk (h .machine) (h .fuel) ≡ true → isSound (stateOf h) ≡ true → sizesIn (h .machine) ≡ sizesOf (setupOf (h .words .setup)) → tested h ≡ true
-unfolding tested
+passes : (h : Host) → numbersOk (h .machine) (h .fuel) ≡ true → isSound (stateOf h) ≡ true → sizesIn (h .machine) ≡ sizesOf (setupOf (h .words .setup)) → passesTest h ≡ true
+unfolding passesTest
 passes h a b c = both (both a b) (ap (λ (l : Sizes). sameSizes l (sizesOf (setupOf (h .words .setup)))) c ∙ sizes-self (sizesOf (setupOf (h .words .setup))))
 
-exactly : (h : Host) → Passes h → tested h ≡ true
+exactly : (h : Host) → Passes h → passesTest h ≡ true
 exactly h p =
     let ms = h .machine in
     let fs = h .fuel in
@@ -84,60 +84,60 @@ exactly h p =
     (p .sound) (p .sizes)
 
 -- the set-up stays, and the words are sound
-pub record Stays (s t : State) : Type 0 where
+pub record Stays (s t : MemoryState) : Type 0 where
   pub sound : isSound t ≡ true
   pub setup : setupOf (t .words .setup) ≡ setupOf (s .words .setup)
 
-pub keeps : (h : Host) (t : State) → tested h ≡ true → Stays (stateOf h) t → tested (over h t) ≡ true
+pub keeps : (h : Host) (t : MemoryState) → passesTest h ≡ true → Stays (stateOf h) t → passesTest (overwritten h t) ≡ true
 keeps h t e k =
     let n = numbers-each (h .machine) (h .fuel) (numbers h e) in
-    passes (over h t) (written-ok (h .machine) (h .fuel) (t .machine) (t .fuel) (n .0) (n .1)) (ap isSound (over-back h t) ∙ k .sound)
+    passes (overwritten h t) (written-ok (h .machine) (h .fuel) (t .machine) (t .fuel) (n .0) (n .1)) (ap isSound (over-back h t) ∙ k .sound)
     (sizes-stay (h .machine) (t .machine) ∙ sizes h e ∙ ap sizesOf (sym (k .setup)))
 
 -- ---- a call
 
-stays-set-up : (s : State) (o : Operation) → isSound s ≡ true → setupOf (stepWords s (o .op) .state .words .setup) ≡ setupOf (s .words .setup)
+stays-set-up : (s : MemoryState) (o : Operation) → isSound s ≡ true → setupOf (stepWords s (o .op) .state .words .setup) ≡ setupOf (s .words .setup)
 stays-set-up s o e =
     ap (λ (w : World). w .setup) (words-kept .leaves s o e)
     ∙ ap (λ (x : Out). x .world .setup) (sym (Kept.untested (decoded s) o (words-kept .stands s e)))
     ∙ Sheet.sentences .set-up-stays (decoded s) o
 
-pub call-stays : (s : State) (o : Operation) → isSound s ≡ true → Stays s (stepWords s (o .op) .state)
+pub call-stays : (s : MemoryState) (o : Operation) → isSound s ≡ true → Stays s (stepWords s (o .op) .state)
 call-stays s o e = record { sound = words-kept .kept s o e; setup = stays-set-up s o e }
 
-read-stays : (s : State) (ws : List ℕ) (r : Read) → each isWord ws ≡ true → opOf ws ≡ r → isSound s ≡ true → Stays s (doWords s r .state)
+read-stays : (s : MemoryState) (ws : List ℕ) (r : Read) → each isWord ws ≡ true → opOf ws ≡ r → isSound s ≡ true → Stays s (doWords s r .state)
 read-stays s ws (Read.Is o) w q e = call-stays s (record { op = o; within = read-typed ws o w q }) e
 read-stays s ws (Read.Not g) w q e = record { sound = e; setup = refl }
 
-called-by : (h : Host) (ws xs : List ℕ) → each isWord ws ≡ true → tested h ≡ true → (room : Bool) → tested (by h (opOf ws) xs room true .host) ≡ true
+called-by : (h : Host) (ws xs : List ℕ) → each isWord ws ≡ true → passesTest h ≡ true → (room : Bool) → passesTest (by h (opOf ws) xs room true .host) ≡ true
 unfolding pick
 called-by h ws xs w e true = keeps h (doWords (stateOf h) (opOf ws) .state) e (read-stays (stateOf h) ws (opOf ws) w refl (sound h e))
 called-by h ws xs w e false = e
 
-called : (h : Host) (ws xs : List ℕ) → each isWord ws ≡ true → tested h ≡ true → tested (callIn h (opOf ws) xs .host) ≡ true
+called : (h : Host) (ws xs : List ℕ) → each isWord ws ≡ true → passesTest h ≡ true → passesTest (callIn h (opOf ws) xs .host) ≡ true
 called h ws xs w e =
-    ap (λ (g : Gave). tested (g .host)) (call-is h (opOf ws) xs ∙ ap (by h (opOf ws) xs (leb 8 (length xs))) e) ∙ called-by h ws xs w e (leb 8 (length xs))
+    ap (λ (g : Gave). passesTest (g .host)) (call-is h (opOf ws) xs ∙ ap (by h (opOf ws) xs (leb 8 (length xs))) e) ∙ called-by h ws xs w e (leb 8 (length xs))
 
-calls : (h : Host) (o : Operation) (xs : List ℕ) → tested h ≡ true → 8 ≤ length xs → stateOf (callIn h (Read.Is (o .op)) xs .host) ≡ step (stateOf h) (Do o) .state
+calls : (h : Host) (o : Operation) (xs : List ℕ) → passesTest h ≡ true → 8 ≤ length xs → stateOf (callIn h (Read.Is (o .op)) xs .host) ≡ memoryStep (stateOf h) (Do o) .state
 calls h o xs e w =
     ap (λ (g : Gave). stateOf (g .host)) (sym (kept h (Read.Is (o .op)) xs e w)) ∙ over-back h (stepWords (stateOf h) (o .op) .state)
 
-unchanged-by : (h : Host) (ws xs : List ℕ) (r : Read) → each isWord ws ≡ true → opOf ws ≡ r → (room ok : Bool) → tested h ≡ ok
+unchanged-by : (h : Host) (ws xs : List ℕ) (r : Read) → each isWord ws ≡ true → opOf ws ≡ r → (room ok : Bool) → passesTest h ≡ ok
     → among (by h r xs room ok .number) unchanging ≡ true → by h r xs room ok .host ≡ h
 unfolding pick
 unchanged-by h ws xs r w q false ok e n = refl
 unchanged-by h ws xs r w q true false e n = refl
 unchanged-by h ws xs (Read.Not g) w q true true e n = over-same h (numbers h e)
 unchanged-by h ws xs (Read.Is o) w q true true e n =
-    ap (over h) (sentences .unchanged (stateOf h) (Do (record { op = o; within = read-typed ws o w q })) n) ∙ over-same h (numbers h e)
+    ap (overwritten h) (sentences .unchanged (stateOf h) (Do (record { op = o; within = read-typed ws o w q })) n) ∙ over-same h (numbers h e)
 
 unchanged : (h : Host) (ws xs : List ℕ) → each isWord ws ≡ true → among (callIn h (opOf ws) xs .number) unchanging ≡ true → callIn h (opOf ws) xs .host ≡ h
 unchanged h ws xs w n =
     let p = call-is h (opOf ws) xs in
     ap (λ (g : Gave). g .host) p
-    ∙ unchanged-by h ws xs (opOf ws) w refl (leb 8 (length xs)) (tested h) refl (sym (ap (λ (g : Gave). among (g .number) unchanging) p) ∙ n)
+    ∙ unchanged-by h ws xs (opOf ws) w refl (leb 8 (length xs)) (passesTest h) refl (sym (ap (λ (g : Gave). among (g .number) unchanging) p) ∙ n)
 
-no-call : (h : Host) (ws xs : List ℕ) (g : Gate) → tested h ≡ true → 8 ≤ length xs → opOf ws ≡ Read.Not g
+no-call : (h : Host) (ws xs : List ℕ) (g : Gate) → passesTest h ≡ true → 8 ≤ length xs → opOf ws ≡ Read.Not g
     → callIn h (opOf ws) xs ≡ tells h (Answer.Refused (refusal g (isNil (decoded (stateOf h) .frames)))) xs
 no-call h ws xs g e w q =
     let p = over-same h (numbers h e) in
@@ -157,7 +157,7 @@ only-fault Gate.Host true n = absurd (omega (arith, n))
 only-fault Gate.Host false n = absurd (omega (arith, n))
 only-fault Gate.Operand b n = absurd (omega (arith, n))
 
-eleven-by : (h : Host) (ws xs : List ℕ) (r : Read) → each isWord ws ≡ true → opOf ws ≡ r → (room ok : Bool) → tested h ≡ ok → by h r xs room ok .number ≡ 11 → (tested h ≡ false) ⊎ NoFault r
+eleven-by : (h : Host) (ws xs : List ℕ) (r : Read) → each isWord ws ≡ true → opOf ws ≡ r → (room ok : Bool) → passesTest h ≡ ok → by h r xs room ok .number ≡ 11 → (passesTest h ≡ false) ⊎ NoFault r
 unfolding pick
 eleven-by h ws xs r w q false true e n = absurd (omega (arith, n))
 eleven-by h ws xs r w q false false e n = inl e
@@ -167,15 +167,15 @@ eleven-by h ws xs (Read.Not g) w q true true e n =
     inr (only-fault g b (sym (ap (λ t. numberOf (pick t (refusal g b) Fault.Unsound)) (sound h e)) ∙ n))
 eleven-by h ws xs (Read.Is o) w q true true e n = go (sentences .eleven (stateOf h) (record { op = o; within = read-typed ws o w q }) n)
   where
-    go : (isSound (stateOf h) ≡ false) ⊎ NoSuchFault o → (tested h ≡ false) ⊎ NoFault (Read.Is o)
+    go : (isSound (stateOf h) ≡ false) ⊎ NoSuchFault o → (passesTest h ≡ false) ⊎ NoFault (Read.Is o)
     go (inl x) = no-true (sym (sound h e) ∙ x)
     go (inr x) = inr (none-such o x)
 
-eleven : (h : Host) (ws xs : List ℕ) → each isWord ws ≡ true → callIn h (opOf ws) xs .number ≡ 11 → (tested h ≡ false) ⊎ NoFault (opOf ws)
+eleven : (h : Host) (ws xs : List ℕ) → each isWord ws ≡ true → callIn h (opOf ws) xs .number ≡ 11 → (passesTest h ≡ false) ⊎ NoFault (opOf ws)
 eleven h ws xs w n =
-    eleven-by h ws xs (opOf ws) w refl (leb 8 (length xs)) (tested h) refl (sym (ap (λ (g : Gave). g .number) (call-is h (opOf ws) xs)) ∙ n)
+    eleven-by h ws xs (opOf ws) w refl (leb 8 (length xs)) (passesTest h) refl (sym (ap (λ (g : Gave). g .number) (call-is h (opOf ws) xs)) ∙ n)
 
-no-fault-by : (h : Host) (ws xs : List ℕ) {r : Read} → each isWord ws ≡ true → opOf ws ≡ r → (ok : Bool) → tested h ≡ ok → NoFault r → by h r xs true ok .number ≡ 11
+no-fault-by : (h : Host) (ws xs : List ℕ) {r : Read} → each isWord ws ≡ true → opOf ws ≡ r → (ok : Bool) → passesTest h ≡ ok → NoFault r → by h r xs true ok .number ≡ 11
 unfolding pick
 no-fault-by h ws xs w q false e k = refl
 no-fault-by h ws xs w q true e unknown = ap (λ b. numberOf (pick b Fault.Unsound Fault.Unsound)) (sound h e)
@@ -183,12 +183,12 @@ no-fault-by h ws xs w q true e (none-such o k) = sentences .no-fault (stateOf h)
 
 no-fault : (h : Host) (ws xs : List ℕ) → each isWord ws ≡ true → 8 ≤ length xs → NoFault (opOf ws) → callIn h (opOf ws) xs .number ≡ 11
 no-fault h ws xs w l k =
-    ap (λ (g : Gave). g .number) (call-is h (opOf ws) xs ∙ ap (λ b. by h (opOf ws) xs b (tested h)) (le-leb 8 (length xs) l))
-    ∙ no-fault-by h ws xs w refl (tested h) refl k
+    ap (λ (g : Gave). g .number) (call-is h (opOf ws) xs ∙ ap (λ b. by h (opOf ws) xs b (passesTest h)) (le-leb 8 (length xs) l))
+    ∙ no-fault-by h ws xs w refl (passesTest h) refl k
 
 -- ---- the fuel of another machine
 
-any-fuel : (h g : Host) → tested h ≡ true → tested g ≡ true → tested (host (h .words) (h .machine) (g .fuel)) ≡ true
+any-fuel : (h g : Host) → passesTest h ≡ true → passesTest g ≡ true → passesTest (host (h .words) (h .machine) (g .fuel)) ≡ true
 any-fuel h g e d =
     let a = numbers-each (h .machine) (h .fuel) (numbers h e) in
     let b = numbers-each (g .machine) (g .fuel) (numbers g d) in
@@ -200,14 +200,14 @@ any-fuel h g e d =
 grant-words : (n : ℕ) → isWord n ≡ true → each isWord (opWords (Op.Grant n)) ≡ true
 grant-words n w = both refl (both w refl)
 
-granted : (h : Host) (n : ℕ) (xs fs′ xs′ : List ℕ) (r : ℕ) → isWord n ≡ true → tested h ≡ true → Granted h n xs fs′ xs′ r → tested (host (h .words) (h .machine) fs′) ≡ true
+granted : (h : Host) (n : ℕ) (xs fs′ xs′ : List ℕ) (r : ℕ) → isWord n ≡ true → passesTest h ≡ true → Granted h n xs fs′ xs′ r → passesTest (host (h .words) (h .machine) fs′) ≡ true
 unfolding typed
 granted h n xs fs′ xs′ r w e g =
     let o = Op.Grant n in
     let after = callIn h (Read.Is o) xs .host in
-    let k : tested after ≡ true =
-    ap (λ (x : Read). tested (callIn h x xs .host)) (sym (read-back o w)) ∙ called h (opWords o) xs (grant-words n w) e in
-    ap (λ (fs : List ℕ). tested (host (h .words) (h .machine) fs)) (g .fuel) ∙ any-fuel h after e k
+    let k : passesTest after ≡ true =
+    ap (λ (x : Read). passesTest (callIn h x xs .host)) (sym (read-back o w)) ∙ called h (opWords o) xs (grant-words n w) e in
+    ap (λ (fs : List ℕ). passesTest (host (h .words) (h .machine) fs)) (g .fuel) ∙ any-fuel h after e k
 
 -- of the world only the fuel changes
 abbrev grant-by : ℕ → World → Bool → After Answer
@@ -222,8 +222,8 @@ grant-world : (n : ℕ) (w : World) → call (Op.Grant n) w .world ≡ withFuel 
 unfolding call grant
 grant-world n w = grant-fuel n w (grantTooLarge n w)
 
-module _ (s : State) (n : ℕ) (w : isWord n ≡ true) (e : isSound s ≡ true) where
-  abbrev after-grant : State
+module _ (s : MemoryState) (n : ℕ) (w : isWord n ≡ true) (e : isSound s ≡ true) where
+  abbrev after-grant : MemoryState
   after-grant = stepWords s (Op.Grant n) .state
 
   grant-state : after-grant ≡ stateIn (lengthsOf (s .words)) (withFuel (call (Op.Grant n) (decoded s) .world .fuel) (decoded s))
@@ -233,12 +233,12 @@ module _ (s : State) (n : ℕ) (w : isWord n ≡ true) (e : isSound s ≡ true) 
       ∙ ap (stateIn (lengthsOf (s .words))) (grant-world n (decoded s))
 
   same-words : after-grant .words ≡ s .words
-  same-words = ap (λ (x : State). x .words) grant-state ∙ ap (λ (x : State). x .words) (words-kept .own s e)
+  same-words = ap (λ (x : MemoryState). x .words) grant-state ∙ ap (λ (x : MemoryState). x .words) (words-kept .own s e)
 
   same-numbers : after-grant .machine ≡ s .machine
-  same-numbers = ap (λ (x : State). x .machine) grant-state ∙ ap (λ (x : State). x .machine) (words-kept .own s e)
+  same-numbers = ap (λ (x : MemoryState). x .machine) grant-state ∙ ap (λ (x : MemoryState). x .machine) (words-kept .own s e)
 
-grants-by : (h : Host) (n : ℕ) (xs : List ℕ) → isWord n ≡ true → (room ok : Bool) → tested h ≡ ok
+grants-by : (h : Host) (n : ℕ) (xs : List ℕ) → isWord n ≡ true → (room ok : Bool) → passesTest h ≡ ok
     → let after = by h (Read.Is (Op.Grant n)) xs room ok .host in after ≡ host (h .words) (h .machine) (after .fuel)
 unfolding pick
 grants-by h n xs w false ok e = refl
@@ -255,7 +255,7 @@ grants-by h n xs w true true e =
 grants : (h : Host) (n : ℕ) (xs : List ℕ) → isWord n ≡ true → let after = callIn h (Read.Is (Op.Grant n)) xs .host in after ≡ host (h .words) (h .machine) (after .fuel)
 grants h n xs w =
     let p = ap (λ (g : Gave). g .host) (call-is h (Read.Is (Op.Grant n)) xs) in
-    p ∙ grants-by h n xs w (leb 8 (length xs)) (tested h) refl ∙ sym (ap (λ (x : Host). host (h .words) (h .machine) (x .fuel)) p)
+    p ∙ grants-by h n xs w (leb 8 (length xs)) (passesTest h) refl ∙ sym (ap (λ (x : Host). host (h .words) (h .machine) (x .fuel)) p)
 
 -- ---- a set-up
 
@@ -265,7 +265,7 @@ fresh-state h given =
     let s = setUpWords (stateOf h) given .state in
     λ i. record { words = s .words; machine = machine-back (h .machine) (s .machine) i; fuel = fuel-back (h .fuel) (s .fuel) i }
 
-fresh-passes : (h : Host) (given : List ℕ) → long h ≡ true → setUpOk given (h .words) ≡ true → tested (freshIn h given) ≡ true
+fresh-passes : (h : Host) (given : List ℕ) → long h ≡ true → setUpOk given (h .words) ≡ true → passesTest (freshIn h given) ≡ true
 fresh-passes h given l e =
     let s = setUpWords (stateOf h) given .state in
     let ms = h .machine in
@@ -298,8 +298,8 @@ module _ (h : Host) (given xs : List ℕ) (n : setUpIn h given xs .number ≡ 0)
       let b = begun-as h given xs (leb 8 (length xs)) (long h) (setUpOk given (h .words)) refl refl (sym (ap (λ (g : Gave). g .number) p) ∙ n) in
       (ap (λ (g : Gave). g .host) p ∙ b .0, b .1, b .2)
 
-  begun : tested (setUpIn h given xs .host) ≡ true
-  begun = ap tested (accepted .0) ∙ fresh-passes h given (accepted .1) (accepted .2)
+  begun : passesTest (setUpIn h given xs .host) ≡ true
+  begun = ap passesTest (accepted .0) ∙ fresh-passes h given (accepted .1) (accepted .2)
 
   sets-up : stateOf (setUpIn h given xs .host) ≡ setUpWords (stateOf h) given .state
   sets-up = ap stateOf (accepted .0) ∙ fresh-state h given
@@ -318,7 +318,7 @@ set-up h given xs r e =
     record {
       number = ap (λ (g : Gave). g .number) p;
       answer = ap (λ (g : Gave). g .answer) p;
-      passes = ap (λ (g : Gave). tested (g .host)) p ∙ fresh-passes h given l e;
+      passes = ap (λ (g : Gave). passesTest (g .host)) p ∙ fresh-passes h given l e;
     }
 
 -- ---- one that is accepted, and a machine that does not pass
@@ -330,13 +330,13 @@ smallest-good = refl
 some : Begins sevens smallest (replicate 8 7)
 some = set-up sevens smallest (replicate 8 7) (record { answer = omega arith; machine = omega arith; fuel = omega arith }) smallest-good
 
-fails : tested sevens ≡ false
-unfolding tested
+fails : passesTest sevens ≡ false
+unfolding passesTest
 fails = refl
 
 -- ---- a batch
 
-run-stays : (s : State) {rs : List Read} {ks : List Call} → Calls rs ks → isSound s ≡ true → Stays s (runWords s rs .state)
+run-stays : (s : MemoryState) {rs : List Read} {ks : List MemoryCall} → Calls rs ks → isSound s ≡ true → Stays s (runWords s rs .state)
 run-stays s none e = record { sound = e; setup = refl }
 run-stays s (is o rs ks c) e =
     let a = call-stays s o e in
@@ -345,22 +345,22 @@ run-stays s (is o rs ks c) e =
 run-stays s (not g rs ks c) e = run-stays s c e
 
 module _ (h : Host) (cs xs : List ℕ) where
-  with-room : ran-by h cs xs true true .host ≡ over h (all h cs xs .state)
+  with-room : ran-by h cs xs true true .host ≡ overwritten h (all h cs xs .state)
   unfolding pick
   with-room = refl
 
-  runs : (ks : List Call) → tested h ≡ true → countOf (length cs) * 8 ≤ length xs → Calls (callsIn (countOf (length cs)) cs) ks → stateOf (runHost h cs xs .host) ≡ run outer (stateOf h) (map Engine.calls ks)
+  runs : (ks : List MemoryCall) → passesTest h ≡ true → countOf (length cs) * 8 ≤ length xs → Calls (callsIn (countOf (length cs)) cs) ks → stateOf (runHost h cs xs .host) ≡ runTurns memoryEngine (stateOf h) (map Engine.turnCall ks)
   runs ks e w c =
       let p = run-is h cs xs ∙ ap₂ (ran-by h cs xs) (le-leb (countOf (length cs) * 8) (length xs) w) e in
       ap stateOf (ap (λ (g : Gave). g .host) p ∙ with-room) ∙ over-back h (all h cs xs .state) ∙ batch .left (stateOf h) (callsIn (countOf (length cs)) cs) ks c
 
-  ran-as : each isWord cs ≡ true → tested h ≡ true → (room : Bool) → tested (ran-by h cs xs room true .host) ≡ true
+  ran-as : each isWord cs ≡ true → passesTest h ≡ true → (room : Bool) → passesTest (ran-by h cs xs room true .host) ≡ true
   unfolding pick
   ran-as w e true = keeps h (all h cs xs .state) e (run-stays (stateOf h) (listed (countOf (length cs)) cs w .calls) (sound h e))
   ran-as w e false = e
 
-  ran : each isWord cs ≡ true → tested h ≡ true → tested (runHost h cs xs .host) ≡ true
-  ran w e = ap (λ (g : Gave). tested (g .host)) (run-is h cs xs ∙ ap (ran-by h cs xs (leb (countOf (length cs) * 8) (length xs))) e) ∙ ran-as w e (leb (countOf (length cs) * 8) (length xs))
+  ran : each isWord cs ≡ true → passesTest h ≡ true → passesTest (runHost h cs xs .host) ≡ true
+  ran w e = ap (λ (g : Gave). passesTest (g .host)) (run-is h cs xs ∙ ap (ran-by h cs xs (leb (countOf (length cs) * 8) (length xs))) e) ∙ ran-as w e (leb (countOf (length cs) * 8) (length xs))
 
 pub library : Library
 library =

@@ -13,9 +13,9 @@ use Rattle.model.specs.Frames.{topBase}
 use Rattle.model.specs.Added.{registersOn, registers}
 use Rattle.model.specs.declared.machine.Frame.{Frame}
 use Rattle.machine_added.specs.Look.{endOn}
-use Rattle.memory_step.specs.Step.{State, decoded, looked}
+use Rattle.memory_step.specs.Step.{MemoryState, decoded, looked}
 use Rattle.outer_call.proofs.Stepping.{stands}
-use Rattle.linked_calls.specs.Host.{Host, stateOf, tested, short, Looked, saw, lookIn}
+use Rattle.linked_calls.specs.Host.{Host, stateOf, passesTest, short, Looked, saw, lookIn}
 use Rattle.linked_calls.proofs.Hosts.{sound}
 
 take-none : (k : ℕ) → take {A = ℕ} k [] ≡ []
@@ -34,7 +34,7 @@ span-in h = let w = decoded (stateOf h) in topBase (w .frames) ∷ endOn (w .fra
 abbrev seen-by : Host → List ℕ → Bool → Bool → Looked
 seen-by h zs room ok = pick room (pick ok (saw (splice zs 0 (span-in h)) 0) (saw (splice zs 0 (0 ∷ 0 ∷ [])) 11)) (saw zs (short ok))
 
-look-is : (h : Host) (zs : List ℕ) → lookIn h zs ≡ seen-by h zs (leb 2 (length zs)) (tested h)
+look-is : (h : Host) (zs : List ℕ) → lookIn h zs ≡ seen-by h zs (leb 2 (length zs)) (passesTest h)
 unfolding lookIn
 look-is h zs = refl
 
@@ -42,16 +42,16 @@ look-done : (h : Host) (zs : List ℕ) → seen-by h zs true true ≡ saw (splic
 unfolding pick
 look-done h zs = refl
 
-registers-part : (s : State) → s .machine .height ≡ length (decoded s .stack) → (fs : List Frame)
+registers-part : (s : MemoryState) → s .machine .height ≡ length (decoded s .stack) → (fs : List Frame)
     → part (topBase fs) (endOn fs (decoded s .stack) - topBase fs) (s .words .stack) ≡ registersOn fs (decoded s .stack)
 registers-part s c [] = refl
 registers-part s c (f ∷ fs) =
     ap (λ n. take (n - f .base) (drop (f .base) (s .words .stack))) (sym c) ∙ part-drop (f .base) (s .machine .height) (s .words .stack)
 
-pub sees : (h : Host) (zs : List ℕ) → tested h ≡ true → 2 ≤ length zs → lookIn h zs ≡ saw (splice zs 0 (span-in h)) 0
+pub sees : (h : Host) (zs : List ℕ) → passesTest h ≡ true → 2 ≤ length zs → lookIn h zs ≡ saw (splice zs 0 (span-in h)) 0
 sees h zs e l = look-is h zs ∙ ap₂ (seen-by h zs) (le-leb 2 (length zs) l) e ∙ look-done h zs
 
-pub looks : (h : Host) (zs : List ℕ) → tested h ≡ true → 2 ≤ length zs
+pub looks : (h : Host) (zs : List ℕ) → passesTest h ≡ true → 2 ≤ length zs
     → let span = lookIn h zs .span in part (getD span 0 0) (getD span 1 0 - getD span 0 0) (h .words .stack) ≡ looked (stateOf h)
 unfolding registers
 looks h zs e l =

@@ -14,7 +14,7 @@ use Rattle.memory_world.specs.Told.{told, outcomeIn}
 use Rattle.memory_world.specs.declared.machine.Told.{Told}
 use Rattle.memory_sound.specs.Words.{outcomeHeld}
 use Rattle.memory_sound.proofs.Passed.{passed}
-use Rattle.linked_calls.specs.Host.{Host, stateOf, tested}
+use Rattle.linked_calls.specs.Host.{Host, stateOf, passesTest}
 use Rattle.linked_calls.proofs.Hosts.{numbers, sound, sizes}
 use Rattle.claims_linked.specs.Library.{Passes}
 use Rattle.claims_linked.proofs.Words.{bankSet, numbers-each}
@@ -53,7 +53,7 @@ pub bank-set : (c a : ℕ) → (c ≡ 1) ⊎ ((c ≡ 0) × (a ≡ 0)) → (eqb c
 bank-set c a (inl e) = ap (λ b. b || eqb c 0 && eqb a 0) (eq-eqb c 1 e)
 bank-set c a (inr e) = ap (λ b. eqb c 1 || b) (both (eq-eqb c 0 (e .0)) (eq-eqb a 0 (e .1))) ∙ or-true (eqb c 1)
 
-pub passing : (h : Host) → tested h ≡ true → Passes h
+pub passing : (h : Host) → passesTest h ≡ true → Passes h
 passing h e =
     let n = numbers-each (h .machine) (h .fuel) (numbers h e) in
     let r = leb (getD (h .fuel) 3 0) 1 in

@@ -1,4 +1,4 @@
--- A batch of calls is a list of calls of the Claim's engine (lent_claims/specs/Claim.antt), so what is promised of every list of outer
+-- A batch of calls is a list of calls of the Claim's engine (claims_memory/specs/Claim.antt), so what is promised of every list of outer
 -- calls is promised of every batch. Words that are no call leave the machine as it is, and are not in the list.
 use Prim.Native.Nat.{ℕ}
 use mathlib.Core.Path.{_≡_}
@@ -13,30 +13,30 @@ use Rattle.model.specs.declared.call.Answer.{Answer}
 use Rattle.memory_calls.specs.Call.{refusal}
 use Rattle.memory_calls.specs.declared.call.Gate.{Gate}
 use Rattle.memory_calls.specs.declared.call.Read.{Read}
-use Rattle.claims_model.specs.Engine.{calls, run}
-use Rattle.memory_step.specs.Step.{State, isSound, decoded, Call, Do, step}
-use Rattle.claims_memory.specs.Engine.{outer}
+use Rattle.claims_model.specs.Engine.{turnCall, runTurns}
+use Rattle.memory_step.specs.Step.{MemoryState, isSound, decoded, MemoryCall, Do, memoryStep}
+use Rattle.claims_memory.specs.Engine.{memoryEngine}
 use Rattle.outer_run.specs.Run.{runWords, callsIn}
 
 -- the calls among what was read, in order
-pub data Calls : List Read → List Call → Type 0 where
+pub data Calls : List Read → List MemoryCall → Type 0 where
   none : Calls [] []
-  is : (o : Operation) (rs : List Read) (ks : List Call) → Calls rs ks → Calls (Read.Is (o .op) ∷ rs) (Do o ∷ ks)
-  not : (g : Gate) (rs : List Read) (ks : List Call) → Calls rs ks → Calls (Read.Not g ∷ rs) ks
+  is : (o : Operation) (rs : List Read) (ks : List MemoryCall) → Calls rs ks → Calls (Read.Is (o .op) ∷ rs) (Do o ∷ ks)
+  not : (g : Gate) (rs : List Read) (ks : List MemoryCall) → Calls rs ks → Calls (Read.Not g ∷ rs) ks
 
-pub record Listed (rs : List Read) : Type 0 where
-  pub list : List Call
+pub record BatchCalls (rs : List Read) : Type 0 where
+  pub list : List MemoryCall
   pub calls : Calls rs list
 
 pub record Batch : Type 0 where
   -- whatever is read from words of 64 bits
-  pub listed : (n : ℕ) (cs : List ℕ) → each isWord cs ≡ true → Listed (callsIn n cs)
+  pub listed : (n : ℕ) (cs : List ℕ) → each isWord cs ≡ true → BatchCalls (callsIn n cs)
   -- what the batch leaves
-  pub left : (s : State) (rs : List Read) (ks : List Call) → Calls rs ks → runWords s rs .state ≡ run outer s (map calls ks)
+  pub left : (s : MemoryState) (rs : List Read) (ks : List MemoryCall) → Calls rs ks → runWords s rs .state ≡ runTurns memoryEngine s (map turnCall ks)
   -- what it answers: as many answers; a call's is its answer after the calls before it; what is no call is refused as the call that its code names
-  pub long : (s : State) (rs : List Read) → length (runWords s rs .answers) ≡ length rs
-  pub answer : (s : State) (rs : List Read) (ks : List Call) (o : Operation) (more : List Read) (d : Answer) → Calls rs ks
-      → getD (runWords s (rs ++ (Read.Is (o .op) ∷ more)) .answers) (length rs) d ≡ step (run outer s (map calls ks)) (Do o) .answer
-  pub refused : (s : State) (rs : List Read) (ks : List Call) (g : Gate) (more : List Read) (d : Answer) → Calls rs ks
-      → let t = run outer s (map calls ks) in
+  pub long : (s : MemoryState) (rs : List Read) → length (runWords s rs .answers) ≡ length rs
+  pub answer : (s : MemoryState) (rs : List Read) (ks : List MemoryCall) (o : Operation) (more : List Read) (d : Answer) → Calls rs ks
+      → getD (runWords s (rs ++ (Read.Is (o .op) ∷ more)) .answers) (length rs) d ≡ memoryStep (runTurns memoryEngine s (map turnCall ks)) (Do o) .answer
+  pub refused : (s : MemoryState) (rs : List Read) (ks : List MemoryCall) (g : Gate) (more : List Read) (d : Answer) → Calls rs ks
+      → let t = runTurns memoryEngine s (map turnCall ks) in
       getD (runWords s (rs ++ (Read.Not g ∷ more)) .answers) (length rs) d ≡ Answer.Refused (pick (isSound t) (refusal g (isNil (decoded t .frames))) Fault.Unsound)

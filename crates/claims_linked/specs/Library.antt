@@ -1,4 +1,4 @@
--- What a program that links the library may rely on, from one call to the next. The functions are those of boundary/specs/Host.antt, each
+-- What a program that links the library may rely on, from one call to the next. The functions are those of linked_calls/specs/Host.antt, each
 -- equal to its code; a call's words, as all lent words, have 64 bits.
 use Prim.Native.Nat.{ℕ, _-_, _*_, _≤_, _<_}
 use mathlib.Core.Path.{_≡_}
@@ -23,13 +23,13 @@ use Rattle.memory_calls.specs.Answer.{answerWords}
 use Rattle.memory_calls.specs.declared.call.Gate.{Gate}
 use Rattle.memory_calls.specs.declared.call.Read.{Read}
 use Rattle.claims_model.specs.Engine as Engine
-use Rattle.claims_model.specs.Engine.{run}
-use Rattle.memory_step.specs.Step.{isSound, decoded, looked, setUpOk, Call, SetUp, Do, step}
+use Rattle.claims_model.specs.Engine.{runTurns}
+use Rattle.memory_step.specs.Step.{isSound, decoded, looked, setUpOk, MemoryCall, SetUp, Do, memoryStep}
 use Rattle.memory_step.specs.Sentences.{unchanging, NoSuchFault}
-use Rattle.claims_memory.specs.Engine.{outer}
+use Rattle.claims_memory.specs.Engine.{memoryEngine}
 use Rattle.outer_run.specs.Run.{runWords, countOf, callsIn}
 use Rattle.linked_calls.specs.Words.{sizesIn}
-use Rattle.linked_calls.specs.Host.{Host, host, stateOf, tested, gave, tells, keptIn, short, callIn, Granted, saw, lookIn, long, setUpIn, runHost}
+use Rattle.linked_calls.specs.Host.{Host, host, stateOf, passesTest, gave, tells, keptIn, short, callIn, Granted, saw, lookIn, long, setUpIn, runHost}
 use Rattle.claims_linked.specs.Batch.{Calls}
 
 -- an unwind of a fault that is none of 01's, in words or in its operand
@@ -59,15 +59,15 @@ pub record HasRoom (h : Host) (xs : List ℕ) : Type 0 where
 pub record Begins (h : Host) (given xs : List ℕ) : Type 0 where
   pub number : setUpIn h given xs .number ≡ 0
   pub answer : setUpIn h given xs .answer ≡ splice xs 0 (answerWords Answer.Accepted)
-  pub passes : tested (setUpIn h given xs .host) ≡ true
+  pub passes : passesTest (setUpIn h given xs .host) ≡ true
 
 -- an answer that does not fit: 11 where 11 is due, else 14, and nothing is changed
 pub record NoRoom (h : Host) (xs : List ℕ) : Type 0 where
-  pub call : (r : Read) → length xs < 8 → callIn h r xs ≡ gave h xs (short (tested h))
-  pub run : (cs : List ℕ) → length xs < countOf (length cs) * 8 → runHost h cs xs ≡ gave h xs (short (tested h))
-  pub look : length xs < 2 → lookIn h xs ≡ saw xs (short (tested h))
+  pub call : (r : Read) → length xs < 8 → callIn h r xs ≡ gave h xs (short (passesTest h))
+  pub run : (cs : List ℕ) → length xs < countOf (length cs) * 8 → runHost h cs xs ≡ gave h xs (short (passesTest h))
+  pub look : length xs < 2 → lookIn h xs ≡ saw xs (short (passesTest h))
   pub set-up : (given : List ℕ) → length xs < 8 → setUpIn h given xs ≡ gave h xs (short (long h && setUpOk given (h .words)))
-  pub grant : (n : ℕ) (fs′ xs′ : List ℕ) (r : ℕ) → length xs < 8 → Granted h n xs fs′ xs′ r → (fs′ ≡ h .fuel) × (xs′ ≡ xs) × (r ≡ short (tested h))
+  pub grant : (n : ℕ) (fs′ xs′ : List ℕ) (r : ℕ) → length xs < 8 → Granted h n xs fs′ xs′ r → (fs′ ≡ h .fuel) × (xs′ ≡ xs) × (r ≡ short (passesTest h))
 
 -- the words of the answer 11
 abbrev pub unsound : List ℕ
@@ -97,34 +97,34 @@ sevens =
 
 pub record Library : Type 0 where
   -- each is what the Claim's engine does: the set-up, a call, a batch of them
-  pub sets-up : (h : Host) (given xs : List ℕ) → setUpIn h given xs .number ≡ 0 → stateOf (setUpIn h given xs .host) ≡ step (stateOf h) (SetUp given) .state
-  pub calls : (h : Host) (o : Operation) (xs : List ℕ) → tested h ≡ true → 8 ≤ length xs → stateOf (callIn h (Read.Is (o .op)) xs .host) ≡ step (stateOf h) (Do o) .state
-  pub runs : (h : Host) (cs xs : List ℕ) (ks : List Call) → tested h ≡ true → countOf (length cs) * 8 ≤ length xs → Calls (callsIn (countOf (length cs)) cs) ks
-      → stateOf (runHost h cs xs .host) ≡ run outer (stateOf h) (map Engine.calls ks)
+  pub sets-up : (h : Host) (given xs : List ℕ) → setUpIn h given xs .number ≡ 0 → stateOf (setUpIn h given xs .host) ≡ memoryStep (stateOf h) (SetUp given) .state
+  pub calls : (h : Host) (o : Operation) (xs : List ℕ) → passesTest h ≡ true → 8 ≤ length xs → stateOf (callIn h (Read.Is (o .op)) xs .host) ≡ memoryStep (stateOf h) (Do o) .state
+  pub runs : (h : Host) (cs xs : List ℕ) (ks : List MemoryCall) → passesTest h ≡ true → countOf (length cs) * 8 ≤ length xs → Calls (callsIn (countOf (length cs)) cs) ks
+      → stateOf (runHost h cs xs .host) ≡ runTurns memoryEngine (stateOf h) (map Engine.turnCall ks)
   -- and answers what it answers: eight words each, over those of the caller, and its number; a run's is 0
-  pub told : (h : Host) (o : Operation) (xs : List ℕ) → tested h ≡ true → 8 ≤ length xs
-      → let a = step (stateOf h) (Do o) .answer in (callIn h (Read.Is (o .op)) xs .answer ≡ splice xs 0 (answerWords a)) × (callIn h (Read.Is (o .op)) xs .number ≡ Said.numberOf a)
-  pub answered : (h : Host) (cs xs : List ℕ) → tested h ≡ true → countOf (length cs) * 8 ≤ length xs
+  pub told : (h : Host) (o : Operation) (xs : List ℕ) → passesTest h ≡ true → 8 ≤ length xs
+      → let a = memoryStep (stateOf h) (Do o) .answer in (callIn h (Read.Is (o .op)) xs .answer ≡ splice xs 0 (answerWords a)) × (callIn h (Read.Is (o .op)) xs .number ≡ Said.numberOf a)
+  pub answered : (h : Host) (cs xs : List ℕ) → passesTest h ≡ true → countOf (length cs) * 8 ≤ length xs
       → let told′ = runWords (stateOf h) (callsIn (countOf (length cs)) cs) .answers in (runHost h cs xs .answer ≡ splice xs 0 (words answerWords told′)) × (runHost h cs xs .number ≡ 0)
   -- a set-up is accepted exactly if its words are good and there is room, whatever the machine was: any other is 11, and only the answer is written
   pub set-up : (h : Host) (given xs : List ℕ) → HasRoom h xs → setUpOk given (h .words) ≡ true → Begins h given xs
   pub bad-set-up : (h : Host) (given xs : List ℕ) → 8 ≤ length xs → (HasRoom h xs → setUpOk given (h .words) ≡ true → ⊥) → setUpIn h given xs ≡ gave h (splice xs 0 unsound) 11
   -- some machine does not pass, and a set-up of it does
-  pub fails : tested sevens ≡ false
+  pub fails : passesTest sevens ≡ false
   pub some : Begins sevens smallest (replicate 8 7)
   -- a machine that an accepted set-up leaves passes the test, and every function leaves one that passes as one that passes
-  pub begun : (h : Host) (given xs : List ℕ) → setUpIn h given xs .number ≡ 0 → tested (setUpIn h given xs .host) ≡ true
-  pub called : (h : Host) (ws xs : List ℕ) → each isWord ws ≡ true → tested h ≡ true → tested (callIn h (opOf ws) xs .host) ≡ true
-  pub ran : (h : Host) (cs xs : List ℕ) → each isWord cs ≡ true → tested h ≡ true → tested (runHost h cs xs .host) ≡ true
-  pub granted : (h : Host) (n : ℕ) (xs fs′ xs′ : List ℕ) (r : ℕ) → isWord n ≡ true → tested h ≡ true → Granted h n xs fs′ xs′ r → tested (host (h .words) (h .machine) fs′) ≡ true
+  pub begun : (h : Host) (given xs : List ℕ) → setUpIn h given xs .number ≡ 0 → passesTest (setUpIn h given xs .host) ≡ true
+  pub called : (h : Host) (ws xs : List ℕ) → each isWord ws ≡ true → passesTest h ≡ true → passesTest (callIn h (opOf ws) xs .host) ≡ true
+  pub ran : (h : Host) (cs xs : List ℕ) → each isWord cs ≡ true → passesTest h ≡ true → passesTest (runHost h cs xs .host) ≡ true
+  pub granted : (h : Host) (n : ℕ) (xs fs′ xs′ : List ℕ) (r : ℕ) → isWord n ≡ true → passesTest h ≡ true → Granted h n xs fs′ xs′ r → passesTest (host (h .words) (h .machine) fs′) ≡ true
   -- `bvm_grant`, which writes the fuel and the answer alone, is the call: that leaves all else too
   pub grants : (h : Host) (n : ℕ) (xs : List ℕ) → isWord n ≡ true → let after = callIn h (Read.Is (Op.Grant n)) xs .host in after ≡ host (h .words) (h .machine) (after .fuel)
   -- with its own fuel, or with that of any other machine that passes
-  pub any-fuel : (h g : Host) → tested h ≡ true → tested g ≡ true → tested (host (h .words) (h .machine) (g .fuel)) ≡ true
+  pub any-fuel : (h g : Host) → passesTest h ≡ true → passesTest g ≡ true → passesTest (host (h .words) (h .machine) (g .fuel)) ≡ true
   -- and there `bvm_call_unchecked` is `bvm_call`
-  pub kept : (h : Host) (r : Read) (xs : List ℕ) → tested h ≡ true → 8 ≤ length xs → keptIn h r xs ≡ callIn h r xs
+  pub kept : (h : Host) (r : Read) (xs : List ℕ) → passesTest h ≡ true → 8 ≤ length xs → keptIn h r xs ≡ callIn h r xs
   -- words that are no call are refused as the call that their code names, and only the answer is written
-  pub no-call : (h : Host) (ws xs : List ℕ) (g : Gate) → tested h ≡ true → 8 ≤ length xs → opOf ws ≡ Read.Not g
+  pub no-call : (h : Host) (ws xs : List ℕ) (g : Gate) → passesTest h ≡ true → 8 ≤ length xs → opOf ws ≡ Read.Not g
       → callIn h (opOf ws) xs ≡ tells h (Answer.Refused (refusal g (isNil (decoded (stateOf h) .frames)))) xs
   -- 01: "11, 12, 13, 15, 16 change no word": of the machine's 25 and the fuel's four neither
   pub unchanged : (h : Host) (ws xs : List ℕ) → each isWord ws ≡ true → among (callIn h (opOf ws) xs .number) unchanging ≡ true → callIn h (opOf ws) xs .host ≡ h
@@ -133,14 +133,14 @@ pub record Library : Type 0 where
   pub not-run : (h : Host) (cs xs : List ℕ) → (runHost h cs xs .number ≡ 0 → ⊥) → runHost h cs xs .host ≡ h
   pub no-room : (h : Host) (xs : List ℕ) → NoRoom h xs
   -- 11 exactly if the machine does not pass, or an unwind gets no such fault
-  pub untested : (h : Host) (xs : List ℕ) → tested h ≡ false → Untested h xs
-  pub eleven : (h : Host) (ws xs : List ℕ) → each isWord ws ≡ true → callIn h (opOf ws) xs .number ≡ 11 → (tested h ≡ false) ⊎ NoFault (opOf ws)
+  pub untested : (h : Host) (xs : List ℕ) → passesTest h ≡ false → Untested h xs
+  pub eleven : (h : Host) (ws xs : List ℕ) → each isWord ws ≡ true → callIn h (opOf ws) xs .number ≡ 11 → (passesTest h ≡ false) ⊎ NoFault (opOf ws)
   pub no-fault : (h : Host) (ws xs : List ℕ) → each isWord ws ≡ true → 8 ≤ length xs → NoFault (opOf ws) → callIn h (opOf ws) xs .number ≡ 11
-  pub passing : (h : Host) → tested h ≡ true → Passes h
-  pub exactly : (h : Host) → Passes h → tested h ≡ true
+  pub passing : (h : Host) → passesTest h ≡ true → Passes h
+  pub exactly : (h : Host) → Passes h → passesTest h ≡ true
   pub beyond : (h : Host) (r : Read) (ws xs : List ℕ) → Beyond h (callIn h r xs .host) × Beyond h (runHost h ws xs .host) × Beyond h (setUpIn h ws xs .host)
   -- a look writes where the top frame's registers begin and end, and the words of the stack between these are what a look hands back
-  pub sees : (h : Host) (zs : List ℕ) → tested h ≡ true → 2 ≤ length zs
+  pub sees : (h : Host) (zs : List ℕ) → passesTest h ≡ true → 2 ≤ length zs
       → let w = decoded (stateOf h) in lookIn h zs ≡ saw (splice zs 0 (topBase (w .frames) ∷ endOn (w .frames) (w .stack) ∷ [])) 0
-  pub looks : (h : Host) (zs : List ℕ) → tested h ≡ true → 2 ≤ length zs
+  pub looks : (h : Host) (zs : List ℕ) → passesTest h ≡ true → 2 ≤ length zs
       → let span = lookIn h zs .span in part (getD span 0 0) (getD span 1 0 - getD span 0 0) (h .words .stack) ≡ looked (stateOf h)

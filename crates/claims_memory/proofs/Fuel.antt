@@ -8,15 +8,15 @@ use Rattle.claims_sound.proofs.Sound.{Sound, sound→, →sound}
 use Rattle.claims_sound.proofs.Coros.{fuel-move}
 use Rattle.memory_world.specs.Decode.{setupOf}
 use Rattle.memory_sound.specs.Words.{setupHeld, wordsOk, soundWords}
-use Rattle.memory_step.specs.Step.{State, isSound, decoded}
+use Rattle.memory_step.specs.Step.{MemoryState, isSound, decoded}
 use Rattle.memory_step.proofs.Kept.{words-kept}
 use Rattle.claims_memory.specs.Fuel.{fuelSound, fuelled, AnyFuel}
 
-unpacked : (s : State) → isSound s ≡ true → Sound false (decoded s)
+unpacked : (s : MemoryState) → isSound s ≡ true → Sound false (decoded s)
 unpacked s e = sound→ (decoded s) (words-kept .stands s e) (λ z. no-false z)
 
 -- no rule on the words reads the fuel
-any : (s : State) (f : Fuel) → isSound s ≡ true → fuelSound f ≡ true → isSound (fuelled s f) ≡ true
+any : (s : MemoryState) (f : Fuel) → isSound s ≡ true → fuelSound f ≡ true → isSound (fuelled s f) ≡ true
 unfolding soundWords
 any s f e h =
     let w = decoded s in

@@ -13,30 +13,30 @@ use Rattle.memory_tables.specs.Sizes.{setupWords, stackSize, framesSize, chainS
 use Rattle.memory_world.specs.Memory.{Lent}
 use Rattle.memory_world.specs.Words.{numbersOf}
 use Rattle.memory_world.specs.Decode.{setupOf}
-use Rattle.claims_model.specs.Engine.{Turn, calls, refuels, run}
-use Rattle.claims_model.specs.Promise.{Roomy, Makes, NotEmpty}
+use Rattle.claims_model.specs.Engine.{Turn, turnCall, turnFuel, runTurns}
+use Rattle.claims_model.specs.Promise.{Roomy, IntFits, NotEmpty}
 use Rattle.claims_model.specs.Premises.{premises}
 use Rattle.claims_model.specs.Steps.{steps}
 use Rattle.claims_model.specs.Story.{wide, c, held}
 use Rattle.claims_model.specs.Witness.{nth, between, waiting}
 use Rattle.claims_model.proofs.Premises.{Premises, premises-met}
 use Rattle.claims_model.proofs.Promise.{before, roomy-met, makes-met}
-use Rattle.memory_step.specs.Step.{State, setUpOk, setUpWords, Call, SetUp, Do}
+use Rattle.memory_step.specs.Step.{MemoryState, setUpOk, setUpWords, MemoryCall, SetUp, Do}
 use Rattle.memory_step.proofs.Kept.{words-kept}
 use Rattle.memory_step.proofs.Sentences as Sentences
-use Rattle.claims_memory.specs.Engine.{outer}
+use Rattle.claims_memory.specs.Engine.{memoryEngine}
 use Rattle.claims_memory.proofs.Follows.{along, ran}
 use Rattle.claims_memory.proofs.Carried as Carried
 use Rattle.claims_memory.proofs.Outer.{to, sound-to, follows}
 
 -- a call on worlds as one on words
-abbrev own : Model.Call → Call
+abbrev own : Model.Call → MemoryCall
 own (Model.SetUp s) = SetUp (setupWords s)
 own (Model.Do o) = Do o
 
-abbrev turn : Turn Model.Call → Turn Call
-turn (calls k) = calls (own k)
-turn (refuels f) = refuels f
+abbrev turn : Turn Model.Call → Turn MemoryCall
+turn (turnCall k) = turnCall (own k)
+turn (turnFuel f) = turnFuel f
 
 abbrev sevens : ℕ → List ℕ
 sevens n = replicate n 7
@@ -56,10 +56,10 @@ slices =
       setup = sevens (setupSize wide);
     }
 
-abbrev start : State
+abbrev start : MemoryState
 start = record { words = slices; machine = numbersOf (fresh wide); fuel = record { fuel = 7; bank = Opt.None; ready = false } }
 
-abbrev first : Call
+abbrev first : MemoryCall
 first = SetUp (setupWords wide)
 
 taken : setUpOk (setupWords wide) slices ≡ true
@@ -70,48 +70,48 @@ read : setupOf (setupWords wide) ≡ wide
 unfolding pick
 read = refl
 
-begins : to (outer .next start first) ≡ fresh wide
+begins : to (memoryEngine .next start first) ≡ fresh wide
 begins = sound-to (setUpWords start (setupWords wide) .state) (words-kept .begun start (setupWords wide) taken) ∙ words-kept .anew start (setupWords wide) taken ∙ ap fresh read
 
-split-met : premises steps c (run steps (fresh wide) before) (nth held 13) waiting (nth held 23) (between held 23 26) (nth held 26) ≡ true
+split-met : premises steps c (runTurns steps (fresh wide) before) (nth held 13) waiting (nth held 23) (between held 23 26) (nth held 26) ≡ true
 unfolding computed before
 split-met = refl
 
-has-room : let w = run steps (fresh wide) before in Roomy steps (steps .view w .rules .intCost) c w × Makes (steps .view w)
+has-room : let w = runTurns steps (fresh wide) before in Roomy steps (steps .view w .rules .intCost) c w × IntFits (steps .view w)
 unfolding computed before
 has-room = (roomy-met, makes-met)
 
 -- on words they follow these, whatever the state
-module _ (s : State) where
-  follow-before : along outer steps follows s (map turn before) ≡ before
+module _ (s : MemoryState) where
+  follow-before : along memoryEngine steps follows s (map turn before) ≡ before
   unfolding computed before
   follow-before = refl
 
-  follow-waiting : along outer steps follows s (map turn waiting) ≡ waiting
+  follow-waiting : along memoryEngine steps follows s (map turn waiting) ≡ waiting
   unfolding computed
   follow-waiting = refl
 
-  follow-going : along outer steps follows s (map turn (between held 23 26)) ≡ between held 23 26
+  follow-going : along memoryEngine steps follows s (map turn (between held 23 26)) ≡ between held 23 26
   unfolding computed
   follow-going = refl
 
-abbrev s₁ : State
-s₁ = run outer (outer .next start first) (map turn before)
+abbrev s₁ : MemoryState
+s₁ = runTurns memoryEngine (memoryEngine .next start first) (map turn before)
 
-reached : run steps (fresh wide) before ≡ to s₁
+reached : runTurns steps (fresh wide) before ≡ to s₁
 reached =
-    let s = outer .next start first in
-    ap (λ w. run steps w before) (sym begins) ∙ ap (run steps (to s)) (sym (follow-before s)) ∙ ran outer steps follows s (map turn before)
+    let s = memoryEngine .next start first in
+    ap (λ w. runTurns steps w before) (sym begins) ∙ ap (runTurns steps (to s)) (sym (follow-before s)) ∙ ran memoryEngine steps follows s (map turn before)
 
-pub not-empty : NotEmpty outer
+pub not-empty : NotEmpty memoryEngine
 unfolding computed
 not-empty =
     let waits = map turn waiting in
     let going = map turn (between held 23 26) in
-    let s₂ = outer .next s₁ (own (nth held 13)) in
-    let s₄ = outer .next (run outer s₂ waits) (own (nth held 23)) in
-    let p = subst (λ w. Premises steps c w (nth held 13) waiting (nth held 23) (between held 23 26) (nth held 26)) reached (premises-met steps c (run steps (fresh wide) before) (nth held 13) waiting (nth held 23) (between held 23 26) (nth held 26) split-met) in
+    let s₂ = memoryEngine .next s₁ (own (nth held 13)) in
+    let s₄ = memoryEngine .next (runTurns memoryEngine s₂ waits) (own (nth held 23)) in
+    let p = subst (λ w. Premises steps c w (nth held 13) waiting (nth held 23) (between held 23 26) (nth held 26)) reached (premises-met steps c (runTurns steps (fresh wide) before) (nth held 13) waiting (nth held 23) (between held 23 26) (nth held 26) split-met) in
     let q = subst (λ ws. Premises steps c (to s₁) (nth held 13) ws (nth held 23) (between held 23 26) (nth held 26)) (sym (follow-waiting s₂)) p in
-    let r = subst (λ gs. Premises steps c (to s₁) (nth held 13) (along outer steps follows s₂ waits) (nth held 23) gs (nth held 26)) (sym (follow-going s₄)) q in
-    Carried.not-empty outer steps follows start first (map turn before) (own (nth held 13)) waits (own (nth held 23)) going (own (nth held 26)) c
-    (record { sets-up = refl; accepted = Sentences.sentences .set-up start (setupWords wide) taken }) (subst (λ w. Roomy steps (steps .view w .rules .intCost) c w) reached (has-room .0)) (subst (λ w. Makes (steps .view w)) reached (has-room .1)) r
+    let r = subst (λ gs. Premises steps c (to s₁) (nth held 13) (along memoryEngine steps follows s₂ waits) (nth held 23) gs (nth held 26)) (sym (follow-going s₄)) q in
+    Carried.not-empty memoryEngine steps follows start first (map turn before) (own (nth held 13)) waits (own (nth held 23)) going (own (nth held 26)) c
+    (record { sets-up = refl; accepted = Sentences.sentences .set-up start (setupWords wide) taken }) (subst (λ w. Roomy steps (steps .view w .rules .intCost) c w) reached (has-room .0)) (subst (λ w. IntFits (steps .view w)) reached (has-room .1)) r

@@ -30,9 +30,9 @@ use Rattle.claims_model.specs.Demand3.{Restarts}
 use Rattle.claims_model.specs.Steps as Steps
 use Rattle.claims_model.specs.Steps.{viewOf, steps}
 use Rattle.claims_model.specs.Story.{bad}
-use Rattle.memory_step.specs.Step.{State, Left, isSound, decoded, stepWords, looked, setUpOk, setUpWords, Call, SetUp, Do}
+use Rattle.memory_step.specs.Step.{MemoryState, Left, isSound, decoded, stepWords, looked, setUpOk, setUpWords, MemoryCall, SetUp, Do}
 use Rattle.memory_step.proofs.Kept.{words-kept, untested, stepped, refused-words, set-up, given-ok, refused-set-up}
-use Rattle.claims_memory.specs.Engine.{opOf, asksOf, outer}
+use Rattle.claims_memory.specs.Engine.{memoryOp, memoryAsks, memoryEngine}
 use Rattle.claims_memory.proofs.Follows.{Follows}
 
 -- ---- states
@@ -49,17 +49,17 @@ spoiled-unsound w = go (sound (spoiled w)) refl
     go false e = refl
 
 -- the words are those of a world, sound or not; no such rule reads the fuel
-abbrev heldIn : State → Bool
+abbrev heldIn : MemoryState → Bool
 heldIn s = setupHeld (s .words .setup) && wordsOk (setupOf (s .words .setup)) (decoded s) (s .words) (s .machine)
 
-abbrev pub to : State → World
+abbrev pub to : MemoryState → World
 to s = pick (heldIn s) (decoded s) (spoiled (decoded s))
 
-pub sound-to : (s : State) → isSound s ≡ true → to s ≡ decoded s
+pub sound-to : (s : MemoryState) → isSound s ≡ true → to s ≡ decoded s
 unfolding soundWords
 sound-to s e = ap (λ b. pick b (decoded s) (spoiled (decoded s))) (and-left (heldIn s) (sound (decoded s)) e) ∙ pick-true _ _
 
-unsound-to : (s : State) → isSound s ≡ false → sound (to s) ≡ false
+unsound-to : (s : MemoryState) → isSound s ≡ false → sound (to s) ≡ false
 unfolding soundWords pick
 unsound-to s e = go (heldIn s) e
   where
@@ -67,14 +67,14 @@ unsound-to s e = go (heldIn s) e
     go true q = q
     go false q = spoiled-unsound (decoded s)
 
-pub view : (s : State) → viewOf (to s) ≡ outer .view s
-view s = picked (λ (w : World). viewOf w ≡ outer .view s) (heldIn s) (λ _. refl) (λ _. refl)
+pub view : (s : MemoryState) → viewOf (to s) ≡ memoryEngine .view s
+view s = picked (λ (w : World). viewOf w ≡ memoryEngine .view s) (heldIn s) (λ _. refl) (λ _. refl)
 
-pub refuel : (s : State) (f : Fuel) → withFuel f (to s) ≡ to (outer .refuel s f)
+pub refuel : (s : MemoryState) (f : Fuel) → withFuel f (to s) ≡ to (memoryEngine .refuel s f)
 unfolding pick
 refuel s f = go (heldIn s)
   where
-    go : (b : Bool) → withFuel f (pick b (decoded s) (spoiled (decoded s))) ≡ pick b (decoded (outer .refuel s f)) (spoiled (decoded (outer .refuel s f)))
+    go : (b : Bool) → withFuel f (pick b (decoded s) (spoiled (decoded s))) ≡ pick b (decoded (memoryEngine .refuel s f)) (spoiled (decoded (memoryEngine .refuel s f)))
     go true = refl
     go false = refl
 
@@ -85,7 +85,7 @@ stays : (w : World) (o : Operation) → sound w ≡ false → step w (Model.Do o
 unfolding step tested
 stays w o e = ap (λ b. pick b (call (o .op) w) (told (refused w Fault.Unsound))) e ∙ pick-false _ _
 
-module _ (s : State) (o : Operation) where
+module _ (s : MemoryState) (o : Operation) where
   next-do : (b : Bool) → isSound s ≡ b → step (to s) (Model.Do o) .world ≡ to (stepWords s (o .op) .state)
   next-do true e =
       ap (λ (w : World). step w (Model.Do o) .world) (sound-to s e)
@@ -114,7 +114,7 @@ bad-refused w = refl
 abbrev setting : Bool → List ℕ → Model.Call
 setting b given = pick b (Model.SetUp (setupOf given)) (Model.SetUp bad)
 
-module _ (s : State) (given : List ℕ) where
+module _ (s : MemoryState) (given : List ℕ) where
   -- what the set-up that is followed does
   did : (b : Bool) → setUpOk given (s .words) ≡ b → step (to s) (setting (setUpOk given (s .words)) given) ≡ told (pick b (accepted (fresh (setupOf given))) (refused (to s) Fault.Unsound))
   did true e =
@@ -133,33 +133,33 @@ module _ (s : State) (given : List ℕ) where
 
 -- ---- calls
 
-abbrev pub by : State → Call → Model.Call
+abbrev pub by : MemoryState → MemoryCall → Model.Call
 by s (SetUp given) = setting (setUpOk given (s .words)) given
 by s (Do o) = Model.Do o
 
-pub op : (s : State) (k : Call) → Steps.opOf (by s k) ≡ opOf k
-op s (SetUp given) = picked (λ (c : Model.Call). Steps.opOf c ≡ none) (setUpOk given (s .words)) (λ _. refl) (λ _. refl)
+pub op : (s : MemoryState) (k : MemoryCall) → Steps.modelOp (by s k) ≡ memoryOp k
+op s (SetUp given) = picked (λ (c : Model.Call). Steps.modelOp c ≡ none) (setUpOk given (s .words)) (λ _. refl) (λ _. refl)
 op s (Do o) = refl
 
-pub next : (s : State) (k : Call) → step (to s) (by s k) .world ≡ to (outer .next s k)
+pub next : (s : MemoryState) (k : MemoryCall) → step (to s) (by s k) .world ≡ to (memoryEngine .next s k)
 next s (SetUp given) = next-set-up s given (setUpOk given (s .words)) refl
 next s (Do o) = next-do s o (isSound s) refl
 
-pub number : (s : State) (k : Call) → numberOf (step (to s) (by s k) .answer) ≡ outer .number s k
+pub number : (s : MemoryState) (k : MemoryCall) → numberOf (step (to s) (by s k) .answer) ≡ memoryEngine .number s k
 number s (SetUp given) = number-set-up s given (setUpOk given (s .words)) refl
 number s (Do o) = number-do s o (isSound s) refl
 
-pub asks : (s : State) (k : Call) → Restarts outer s k → Steps.asksOf (by s k) ≡ asksOf k
+pub asks : (s : MemoryState) (k : MemoryCall) → Restarts memoryEngine s k → Steps.modelAsks (by s k) ≡ memoryAsks k
 asks s (Do o) r = refl
 asks s (SetUp given) r = go (setUpOk given (s .words)) refl
   where
-    go : (b : Bool) → setUpOk given (s .words) ≡ b → Steps.asksOf (setting (setUpOk given (s .words)) given) ≡ some (Steps.rulesOf (setupOf given))
-    go true e = ap (λ b. Steps.asksOf (setting b given)) e ∙ ap Steps.asksOf (pick-true _ _)
+    go : (b : Bool) → setUpOk given (s .words) ≡ b → Steps.modelAsks (setting (setUpOk given (s .words)) given) ≡ some (Steps.rulesOf (setupOf given))
+    go true e = ap (λ b. Steps.modelAsks (setting b given)) e ∙ ap Steps.modelAsks (pick-true _ _)
     go false e =
         let z : _≡_ {A = ℕ} 11 0 = ap (λ (x : Left). numberOf (x .answer)) (sym (refused-set-up s given e)) ∙ r .accepted in
         absurd (omega (arith, z))
 
-pub some-call : (s : State) (k : Model.Call) (o : Op) → Steps.opOf k ≡ some o → (j : Call) × (by s j ≡ k)
+pub some-call : (s : MemoryState) (k : Model.Call) (o : Op) → Steps.modelOp k ≡ some o → (j : MemoryCall) × (by s j ≡ k)
 some-call s (Model.SetUp u) o q = let z : _≡_ {A = ℕ} 0 1 = cc in absurd (omega arith)
 some-call s (Model.Do p) o q = (Do p, refl)
 
@@ -169,7 +169,7 @@ look-call : (w : World) → call Op.Look w .seen ≡ registers w
 unfolding call
 look-call w = refl
 
-pub look : (s : State) → Steps.looks (to s) ≡ looked s
+pub look : (s : MemoryState) → Steps.looks (to s) ≡ looked s
 look s = go (isSound s) refl
   where
     go : (b : Bool) → isSound s ≡ b → Steps.looks (to s) ≡ pick (isSound s) (registers (decoded s)) []
@@ -179,5 +179,5 @@ look s = go (isSound s) refl
     go false e =
         ap (λ (x : Out). x .seen) (stays (to s) (record { op = Op.Look; within = Steps.look-typed }) (unsound-to s e)) ∙ sym (ap (λ b. pick b (registers (decoded s)) []) e ∙ pick-false _ _)
 
-abbrev pub follows : Follows outer steps
+abbrev pub follows : Follows memoryEngine steps
 follows = record { to = to; by = by; view = view; op = op; asks = asks; next = next; refuel = refuel; number = number; look = look; some-call = some-call }

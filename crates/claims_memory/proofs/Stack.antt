@@ -16,15 +16,15 @@ use Rattle.claims_sound.proofs.Tests.{and-left, and-right}
 use Rattle.claims_sound.proofs.Sound.{rules}
 use Rattle.memory_tables.proofs.Padded.{set-append-add}
 use Rattle.memory_sound.proofs.Exactly.{tested}
-use Rattle.claims_model.specs.Engine.{runs, is}
-use Rattle.claims_model.specs.Says.{base, Sent, nothing, gets, closes, doing}
-use Rattle.claims_model.specs.Held.{at, into, AllMoved, waitsIn, Held, By, Entered, given, Restored}
+use Rattle.claims_model.specs.Engine.{seenRunning, stateIs}
+use Rattle.claims_model.specs.Says.{firstRegister, Sent, nothing, gets, closes, announcedBy}
+use Rattle.claims_model.specs.Held.{at, into, AllMoved, waitsIn, Held, By, Entered, withSent, Restored}
 use Rattle.claims_model.specs.Demand3.{Enters}
 use Rattle.claims_model.specs.Steps.{viewOf}
-use Rattle.memory_step.specs.Step.{State, Left, isSound, decoded, stepWords, Call, SetUp, Do, step}
+use Rattle.memory_step.specs.Step.{MemoryState, Left, isSound, decoded, stepWords, MemoryCall, SetUp, Do, memoryStep}
 use Rattle.memory_step.proofs.Kept.{words-kept, refused-words}
 use Rattle.memory_step.proofs.Sentences.{clear}
-use Rattle.claims_memory.specs.Engine.{opOf, outer}
+use Rattle.claims_memory.specs.Engine.{memoryOp, memoryEngine}
 use Rattle.claims_memory.specs.Claim.{inUse, Stacked, sentTo, Woken}
 
 -- ---- lists
@@ -45,29 +45,29 @@ no-higher n (g ∷ over) f fs h =
     let b = no-higher (g .base) over f fs (and-right (leb (g .base) n) (basesOk (g .base) (over ++ (f ∷ fs))) h) in
     omega (arith, a, b)
 
-top-above : (n : ℕ) (over : List Frame) (f : Frame) (fs : List Frame) → basesOk n (over ++ (f ∷ fs)) ≡ true → f .base ≤ base (over ++ (f ∷ fs))
+top-above : (n : ℕ) (over : List Frame) (f : Frame) (fs : List Frame) → basesOk n (over ++ (f ∷ fs)) ≡ true → f .base ≤ firstRegister (over ++ (f ∷ fs))
 top-above n [] f fs h = le-refl (f .base)
 top-above n (g ∷ over) f fs h = no-higher (g .base) over f fs (and-right (leb (g .base) n) (basesOk (g .base) (over ++ (f ∷ fs))) h)
 
 -- the top frame moves as all do
 top-moved : (b h p : ℕ) (over : List Frame) (f : Frame) (fs over′ : List Frame) (g : Frame) (gs : List Frame)
-    → AllMoved b h (at p (over ++ (f ∷ []))) (over′ ++ (g ∷ [])) → base (over′ ++ (g ∷ gs)) + b ≡ base (over ++ (f ∷ fs)) + h
+    → AllMoved b h (at p (over ++ (f ∷ []))) (over′ ++ (g ∷ [])) → firstRegister (over′ ++ (g ∷ gs)) + b ≡ firstRegister (over ++ (f ∷ fs)) + h
 top-moved b h p [] f fs [] g gs m = m .0 .base
 top-moved b h p [] f fs (x ∷ over′) g gs m = m .0 .base
 top-moved b h p (y ∷ over) f fs [] g gs m = m .0 .base
 top-moved b h p (y ∷ over) f fs (x ∷ over′) g gs m = m .0 .base
 
-into-top : (over : List Frame) (g : Frame) (gs : List Frame) (r x : ℕ) (xs : List ℕ) → into (over ++ (g ∷ gs)) r x xs ≡ set xs (base (over ++ (g ∷ gs)) + r) x
+into-top : (over : List Frame) (g : Frame) (gs : List Frame) (r x : ℕ) (xs : List ℕ) → into (over ++ (g ∷ gs)) r x xs ≡ set xs (firstRegister (over ++ (g ∷ gs)) + r) x
 into-top [] g gs r x xs = refl
 into-top (f ∷ over) g gs r x xs = refl
 
 -- ---- states
 
 -- the height of sound words counts the words in use
-pub height : (s : State) → isSound s ≡ true → s .machine .height ≡ length (inUse s)
+pub height : (s : MemoryState) → isSound s ≡ true → s .machine .height ≡ length (inUse s)
 height s e = tested .exactly (s .words) (s .machine) (s .fuel) .stands e .rep .stack .count
 
-bases : (s : State) → isSound s ≡ true → basesOk (length (inUse s)) (outer .view s .frames) ≡ true
+bases : (s : MemoryState) → isSound s ≡ true → basesOk (length (inUse s)) (memoryEngine .view s .frames) ≡ true
 unfolding framesOk
 bases s e =
     let w = decoded s in
@@ -78,21 +78,21 @@ bases s e =
     and-left a (each (frameNames (w .setup)) (w .frames)) (and-left b (contsLie (w .frames)) (and-left c (catchesLie (w .setup) n (w .frames)) (rules w (words-kept .stands s e) .frames)))
 
 -- a call that enters someone finds sound words and leaves sound words
-pub record Sounds (s z : State) : Type 0 where
+pub record Sounds (s z : MemoryState) : Type 0 where
   pub found : isSound s ≡ true
   pub left : isSound z ≡ true
 
-pub sounds : (c : ℕ) (s : State) (y : Call) → By (outer .view s) (opOf y) c → Enters outer c s y → Sounds s (step s y .state)
-sounds c s (SetUp given) b h = let q = b .says in let z : _≡_ {A = ℕ} 0 1 = cc in absurd (omega arith)
+pub sounds : (c : ℕ) (s : MemoryState) (y : MemoryCall) → By (memoryEngine .view s) (memoryOp y) c → Enters memoryEngine c s y → Sounds s (memoryStep s y .state)
+sounds c s (SetUp withSent) b h = let q = b .says in let z : _≡_ {A = ℕ} 0 1 = cc in absurd (omega arith)
 sounds c s (Do o) b h = go (isSound s) refl
   where
     go : (a : Bool) → isSound s ≡ a → Sounds s (stepWords s (o .op) .state)
     go true e = record { found = e; left = words-kept .kept s o e }
-    go false e = absurd (true≢false (sym (h .after) ∙ ap (λ (x : Left). is (viewOf (decoded (x .state))) runs c) (refused-words s o e) ∙ h .before))
+    go false e = absurd (true≢false (sym (h .after) ∙ ap (λ (x : Left). stateIs (viewOf (decoded (x .state))) seenRunning c) (refused-words s o e) ∙ h .before))
 
-module _ (c : ℕ) (s : State) (y : Call) (h : Enters outer c s y) (r : Entered (outer .view s) (opOf y) c (outer .view (step s y .state))) where
-  abbrev z : State
-  z = step s y .state
+module _ (c : ℕ) (s : MemoryState) (y : MemoryCall) (h : Enters memoryEngine c s y) (r : Entered (memoryEngine .view s) (memoryOp y) c (memoryEngine .view (memoryStep s y .state))) where
+  abbrev z : MemoryState
+  z = memoryStep s y .state
 
   ok : Sounds s z
   ok = sounds c s y (r .by) h
@@ -113,18 +113,18 @@ module _ (c : ℕ) (s : State) (y : Call) (h : Enters outer c s y) (r : Entered 
       }
 
   -- the top frame that the entry leaves stands above what the caller has in use
-  top-over : length (inUse s) ≤ base (r .over ++ (r .body ∷ at (r .by .pc) (outer .view s .frames)))
+  top-over : length (inUse s) ≤ firstRegister (r .over ++ (r .body ∷ at (r .by .pc) (memoryEngine .view s .frames)))
   top-over =
-      let rest = at (r .by .pc) (outer .view s .frames) in
+      let rest = at (r .by .pc) (memoryEngine .view s .frames) in
       let a = top-above (length (inUse z)) (r .over) (r .body) rest (ap (basesOk (length (inUse z))) (sym (r .frames)) ∙ bases z (ok .left)) in
-      let b = r .floor in
+      let b = r .body-base in
       omega (arith, a, b)
 
-module _ (c : ℕ) (s : State) (x : Call) (t : State) (y : Call) (h : Enters outer c t y) (r : Restored (outer .view s) (opOf x) (outer .view t) (opOf y) c (outer .view (step t y .state))) where
-  abbrev E : Entered (outer .view t) (opOf y) c (outer .view (step t y .state))
+module _ (c : ℕ) (s : MemoryState) (x : MemoryCall) (t : MemoryState) (y : MemoryCall) (h : Enters memoryEngine c t y) (r : Restored (memoryEngine .view s) (memoryOp x) (memoryEngine .view t) (memoryOp y) c (memoryEngine .view (memoryStep t y .state))) where
+  abbrev E : Entered (memoryEngine .view t) (memoryOp y) c (memoryEngine .view (memoryStep t y .state))
   E = r .entered
 
-  abbrev H : Held (outer .view s) c
+  abbrev H : Held (memoryEngine .view s) c
   H = r .held
 
   -- what c held, and the register that waits
@@ -132,30 +132,30 @@ module _ (c : ℕ) (s : State) (x : Call) (t : State) (y : Call) (h : Enters out
   words = drop (H .body .base) (inUse s)
 
   abbrev reg : ℕ
-  reg = waitsIn (doing (outer .view s) (opOf x))
+  reg = waitsIn (announcedBy (memoryEngine .view s) (memoryOp x))
 
   abbrev top : List Frame
-  top = E .over ++ (E .body ∷ at (E .by .pc) (outer .view t .frames))
+  top = E .over ++ (E .body ∷ at (E .by .pc) (memoryEngine .view t .frames))
 
-  place : base top + reg - length (inUse t) ≡ base (outer .view s .frames) - H .body .base + reg
+  place : firstRegister top + reg - length (inUse t) ≡ firstRegister (memoryEngine .view s .frames) - H .body .base + reg
   place =
-      let m = top-moved (H .body .base) (length (inUse t)) _ (H .over) (H .body) (H .under) (E .over) (E .body) (at (E .by .pc) (outer .view t .frames)) (r .moved) in
-      let b = ap base (H .frames) in
+      let m = top-moved (H .body .base) (length (inUse t)) _ (H .over) (H .body) (H .under) (E .over) (E .body) (at (E .by .pc) (memoryEngine .view t .frames)) (r .moved) in
+      let b = ap firstRegister (H .frames) in
       let a = top-over c t y h E in
       omega (arith, m, a, b)
 
-  sent : (o : Sent) → drop (length (inUse t)) (given o (outer .view (step t y .state) .frames) reg (inUse t ++ words)) ≡ sentTo o (base (outer .view s .frames) - H .body .base + reg) words
+  sent : (o : Sent) → drop (length (inUse t)) (withSent o (memoryEngine .view (memoryStep t y .state) .frames) reg (inUse t ++ words)) ≡ sentTo o (firstRegister (memoryEngine .view s .frames) - H .body .base + reg) words
   sent nothing = drop-append-seam (inUse t) words
   sent (closes v) = drop-append-seam (inUse t) words
   sent (gets v) =
       let a = top-over c t y h E in
       ap (λ (fs : List Frame). drop (length (inUse t)) (into fs reg v (inUse t ++ words))) (E .frames)
-      ∙ ap (drop (length (inUse t))) (into-top (E .over) (E .body) (at (E .by .pc) (outer .view t .frames)) reg v (inUse t ++ words))
-      ∙ set-above (inUse t) words (base top + reg) v (omega (arith, a))
+      ∙ ap (drop (length (inUse t))) (into-top (E .over) (E .body) (at (E .by .pc) (memoryEngine .view t .frames)) reg v (inUse t ++ words))
+      ∙ set-above (inUse t) words (firstRegister top + reg) v (omega (arith, a))
       ∙ ap (λ j. set words j v) place
 
   -- what was held stands above the caller's words
-  pub woken : Woken s x t y c (step t y .state)
+  pub woken : Woken s x t y c (memoryStep t y .state)
   woken =
       let n = found-height c t y h E in
       record {
@@ -163,6 +163,6 @@ module _ (c : ℕ) (s : State) (x : Call) (t : State) (y : Call) (h : Enters out
         held = H;
         by = E .by;
         above =
-            ap (drop (t .machine .height)) (r .words) ∙ ap (λ k. drop k (given (E .by .sent) (outer .view (step t y .state) .frames) reg (inUse t ++ words))) n
+            ap (drop (t .machine .height)) (r .words) ∙ ap (λ k. drop k (withSent (E .by .sent) (memoryEngine .view (memoryStep t y .state) .frames) reg (inUse t ++ words))) n
             ∙ sent (E .by .sent);
       }

@@ -6,16 +6,16 @@ use Rattle.model.specs.declared.call.Op.{Op}
 use Rattle.memory_world.specs.Decode.{setupOf}
 use Rattle.claims_model.specs.Engine.{Rules, Engine}
 use Rattle.claims_model.specs.Steps.{rulesOf, viewOf}
-use Rattle.memory_step.specs.Step.{State, decoded, looked, Call, SetUp, Do, step}
+use Rattle.memory_step.specs.Step.{MemoryState, decoded, looked, MemoryCall, SetUp, Do, memoryStep}
 use Rattle.claims_memory.specs.Fuel.{fuelled}
 
-abbrev pub opOf : Call → Option Op
-opOf (SetUp given) = none
-opOf (Do o) = some (o .op)
+abbrev pub memoryOp : MemoryCall → Option Op
+memoryOp (SetUp given) = none
+memoryOp (Do o) = some (o .op)
 
-abbrev pub asksOf : Call → Option Rules
-asksOf (SetUp given) = some (rulesOf (setupOf given))
-asksOf (Do o) = none
+abbrev pub memoryAsks : MemoryCall → Option Rules
+memoryAsks (SetUp given) = some (rulesOf (setupOf given))
+memoryAsks (Do o) = none
 
-abbrev pub outer : Engine
-outer = record { State = State; Call = Call; op = opOf; asks = asksOf; view = λ s. viewOf (decoded s); next = λ s k. step s k .state; refuel = fuelled; number = λ s k. numberOf (step s k .answer); look = looked }
+abbrev pub memoryEngine : Engine
+memoryEngine = record { State = MemoryState; Call = MemoryCall; op = memoryOp; asks = memoryAsks; view = λ s. viewOf (decoded s); next = λ s k. memoryStep s k .state; refuel = fuelled; number = λ s k. numberOf (memoryStep s k .answer); look = looked }

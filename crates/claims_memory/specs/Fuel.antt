@@ -5,15 +5,15 @@ use mathlib.Core.Bool.{Bool, true, _||_}
 use lib.Dec.{eqb}
 use Rattle.model.specs.Sound.{isNone}
 use Rattle.model.specs.declared.machine.Fuel.{Fuel}
-use Rattle.memory_step.specs.Step.{State, isSound}
+use Rattle.memory_step.specs.Step.{MemoryState, isSound}
 
 -- 01: "fuel 0 while banked"
 abbrev pub fuelSound : Fuel → Bool
 fuelSound f = isNone (f .bank) || eqb (f .fuel) 0
 
-abbrev pub fuelled : State → Fuel → State
+abbrev pub fuelled : MemoryState → Fuel → MemoryState
 fuelled s f = record { words = s .words; machine = s .machine; fuel = f }
 
 pub record AnyFuel : Type 0 where
-  pub own : (s : State) → isSound s ≡ true → fuelSound (s .fuel) ≡ true
-  pub any : (s : State) (f : Fuel) → isSound s ≡ true → fuelSound f ≡ true → isSound (fuelled s f) ≡ true
+  pub own : (s : MemoryState) → isSound s ≡ true → fuelSound (s .fuel) ≡ true
+  pub any : (s : MemoryState) (f : Fuel) → isSound s ≡ true → fuelSound f ≡ true → isSound (fuelled s f) ≡ true

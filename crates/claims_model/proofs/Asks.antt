@@ -26,13 +26,13 @@ use Rattle.model.specs.Step.{call}
 use Rattle.model.specs.declared.machine.Active.{Active}
 use Rattle.model.specs.declared.exec.Step.{Step}
 use Rattle.model.specs.declared.call.Op.{Op}
-use Rattle.claims_model.specs.Engine.{code, ended, seenIn, is}
-use Rattle.claims_model.specs.Says.{word, lie}
+use Rattle.claims_model.specs.Engine.{code, seenReturned, seenIn, stateIs}
+use Rattle.claims_model.specs.Says.{registerWord, lie}
 use Rattle.claims_model.specs.Held.{into}
 use Rattle.claims_model.specs.Delivery.{recorded}
 use Rattle.claims_model.specs.Events.{inmost}
 use Rattle.claims_model.specs.Asks.{Admits, Exact, codeIn, orNil, Asks}
-use Rattle.claims_model.specs.Steps.{seenOf, viewOf, opOf, steps}
+use Rattle.claims_model.specs.Steps.{seenOf, viewOf, modelOp, steps}
 use Rattle.claims_model.proofs.Cores.{no-both, coroIn}
 use Rattle.claims_model.proofs.Instr.{Alike}
 use Rattle.claims_model.proofs.Views.{ended-state, base-top}
@@ -100,7 +100,7 @@ key-told dst r v = go (coro v (reg v r))
     go Absent = (λ h. absurd (absent-number 0 zero-not (classOf (reg v r)) (place v (reg v r)) h), λ h. no-both h refl)
     go (Is k s) = (λ h. refl, λ h. refl)
 
-result-told : (dst r : ℕ) (v : World) → Both (stepNumber (coroResult dst r v .answer) ≡ 0) (seenIn (λ x. ended (x .state)) (seenOf (coro v (reg v r))) ≡ true)
+result-told : (dst r : ℕ) (v : World) → Both (stepNumber (coroResult dst r v .answer) ≡ 0) (seenIn (λ x. seenReturned (x .state)) (seenOf (coro v (reg v r))) ≡ true)
 unfolding coroResult pick
 result-told dst r v = go (coro v (reg v r))
   where
@@ -108,7 +108,7 @@ result-told dst r v = go (coro v (reg v r))
     test s true = (λ h. refl, λ h. refl)
     test s false = (λ h. absurd (omega (arith, h)), λ h. no-both h refl)
 
-    go : (y : Coroutine) → Both (stepNumber (resultIn y (notA v (reg v r)) dst v .answer) ≡ 0) (seenIn (λ x. ended (x .state)) (seenOf y) ≡ true)
+    go : (y : Coroutine) → Both (stepNumber (resultIn y (notA v (reg v r)) dst v .answer) ≡ 0) (seenIn (λ x. seenReturned (x .state)) (seenOf y) ≡ true)
     go Absent = (λ h. absurd (absent-number 0 zero-not (classOf (reg v r)) (place v (reg v r)) h), λ h. no-both h refl)
     go (Is k s) = subst (λ b. Both (stepNumber (resultIn (Is k s) (notA v (reg v r)) dst v .answer) ≡ 0) (b ≡ true)) (sym (ended-state (k .state))) (test s (isReturned (k .state)))
 
@@ -135,7 +135,7 @@ exact-instr w h pc ok arm rs t l told = (only, then)
         ap numberOf (paid-number w pc p ok arm (sym (is-none (w .frames)) ∙ a .pays .stands) (sym l ∙ a .lies)) ∙ step-number (p .words) (arm (p .left) .answer) ∙ told (p .left) (p .alike) .1 (a .passes)
 
 -- a call of such an instruction
-exact-call : (o : Op) (rs : List ℕ) (t : World → Bool) → ((w : World) → sound w ≡ true → Both (numberOf (call o w .answer) ≡ 0) (Admits steps w rs (t w))) → (w : World) (k : Call) → opOf k ≡ some o → Exact steps w k rs (t w)
+exact-call : (o : Op) (rs : List ℕ) (t : World → Bool) → ((w : World) → sound w ≡ true → Both (numberOf (call o w .answer) ≡ 0) (Admits steps w rs (t w))) → (w : World) (k : Call) → modelOp k ≡ some o → Exact steps w k rs (t w)
 exact-call o rs t f w k e = (
   stepped (λ w z. Admits steps w rs (t w)) o (λ w. tested-zero w o (λ z. Admits steps w rs (t w)) (λ h. f w h .0)) w k e,
   λ a. let h = healthy-sound w (a .pays .healthy) in at-step w h k o e (f w h .1 a),
@@ -143,7 +143,7 @@ exact-call o rs t f w k e = (
 
 -- whom a register names
 abbrev Whom : (CoroState → Bool) → ℕ → World → Bool
-Whom p r w = is (viewOf w) p (word (viewOf w) r)
+Whom p r w = stateIs (viewOf w) p (registerWord (viewOf w) r)
 
 whom-alike : {pc : ℕ} {w v : World} → Alike pc w v → (p : CoroState → Bool) (r : ℕ) → seenIn (λ x. p (x .state)) (seenOf (coro v (reg v r))) ≡ Whom p r w
 whom-alike {w = w} a p r = λ i. seenIn (λ x. p (x .state)) (seenOf (coroIn (a .slots i) ((reg-alike a r ∙ sym (word-reg w r)) i)))
@@ -160,11 +160,11 @@ exact-key pc dst r w h =
     exact-instr w h pc _ (coroKey dst r) (dst ∷ r ∷ []) (Whom (λ x. true) r w) (rw (base-top (w .frames)) refl)
     (λ v a. subst (λ b. Both (stepNumber (coroKey dst r v .answer) ≡ 0) (b ≡ true)) (whom-alike a (λ x. true) r) (key-told dst r v))
 
-exact-result : (pc dst r : ℕ) (w : World) → sound w ≡ true → Both (numberOf (call (Op.CoroResult pc dst r) w .answer) ≡ 0) (Admits steps w (dst ∷ r ∷ []) (Whom ended r w))
+exact-result : (pc dst r : ℕ) (w : World) → sound w ≡ true → Both (numberOf (call (Op.CoroResult pc dst r) w .answer) ≡ 0) (Admits steps w (dst ∷ r ∷ []) (Whom seenReturned r w))
 unfolding call
 exact-result pc dst r w h =
-    exact-instr w h pc _ (coroResult dst r) (dst ∷ r ∷ []) (Whom ended r w) (rw (base-top (w .frames)) refl)
-    (λ v a. subst (λ b. Both (stepNumber (coroResult dst r v .answer) ≡ 0) (b ≡ true)) (whom-alike a ended r) (result-told dst r v))
+    exact-instr w h pc _ (coroResult dst r) (dst ∷ r ∷ []) (Whom seenReturned r w) (rw (base-top (w .frames)) refl)
+    (λ v a. subst (λ b. Both (stepNumber (coroResult dst r v .answer) ≡ 0) (b ≡ true)) (whom-alike a seenReturned r) (result-told dst r v))
 
 exact-current : (pc dst : ℕ) (w : World) → sound w ≡ true → Both (numberOf (call (Op.CoroCurrent pc dst) w .answer) ≡ 0) (Admits steps w (dst ∷ []) true)
 unfolding call coroCurrent
@@ -173,10 +173,10 @@ exact-current pc dst w h = exact-instr w h pc _ (coroCurrent dst) (dst ∷ []) t
 -- ---- what they write
 
 abbrev StatusIn : ℕ → ℕ → World → World → Type 0
-StatusIn dst r w z = z .stack ≡ into (w .frames) dst (codeIn (viewOf w .coro (word (viewOf w) r))) (w .stack)
+StatusIn dst r w z = z .stack ≡ into (w .frames) dst (codeIn (viewOf w .coro (registerWord (viewOf w) r))) (w .stack)
 
 abbrev ResultIn : ℕ → ℕ → World → World → Type 0
-ResultIn dst r w z = z .stack ≡ into (w .frames) dst (recorded (viewOf w .coro (word (viewOf w) r))) (w .stack)
+ResultIn dst r w z = z .stack ≡ into (w .frames) dst (recorded (viewOf w .coro (registerWord (viewOf w) r))) (w .stack)
 
 abbrev CurrentIn : ℕ → World → World → Type 0
 CurrentIn dst w z = z .stack ≡ into (w .frames) dst (orNil (inmost (w .chain))) (w .stack)
@@ -206,7 +206,7 @@ asks =
       status-if = λ w k pc dst r. exact-call (Op.CoroStatus pc dst r) (dst ∷ r ∷ []) (Whom (λ x. true) r) (exact-status pc dst r) w k;
       current-if = λ w k pc dst. exact-call (Op.CoroCurrent pc dst) (dst ∷ []) (λ w. true) (exact-current pc dst) w k;
       key-if = λ w k pc dst r. exact-call (Op.CoroKey pc dst r) (dst ∷ r ∷ []) (Whom (λ x. true) r) (exact-key pc dst r) w k;
-      result-if = λ w k pc dst r. exact-call (Op.CoroResult pc dst r) (dst ∷ r ∷ []) (Whom ended r) (exact-result pc dst r) w k;
+      result-if = λ w k pc dst r. exact-call (Op.CoroResult pc dst r) (dst ∷ r ∷ []) (Whom seenReturned r) (exact-result pc dst r) w k;
       status = λ w k pc dst r. stepped (StatusIn dst r) (Op.CoroStatus pc dst r) (λ w. tested-zero w (Op.CoroStatus pc dst r) (StatusIn dst r w) (λ h. status-by pc dst r w)) w k;
       current = λ w k pc dst. stepped (CurrentIn dst) (Op.CoroCurrent pc dst) (λ w. tested-zero w (Op.CoroCurrent pc dst) (CurrentIn dst w) (λ h. current-by pc dst w)) w k;
       result = λ w k pc dst r. stepped (ResultIn dst r) (Op.CoroResult pc dst r) (λ w. tested-zero w (Op.CoroResult pc dst r) (ResultIn dst r w) (λ h. result-by pc dst r w)) w k;

@@ -17,7 +17,7 @@ use Rattle.model.specs.declared.machine.Cont.{Cont}
 use Rattle.model.specs.declared.machine.Active.{Active}
 use Rattle.model.specs.declared.machine.Frame.{Frame}
 use Rattle.claims_model.specs.Says.{Sent, nothing, gets, closes}
-use Rattle.claims_model.specs.Held.{at, after, AllMoved, stepped}
+use Rattle.claims_model.specs.Held.{at, pcAfter, AllMoved, stepped}
 use Rattle.claims_model.proofs.Held.{Seat, framesWith}
 use Rattle.claims_model.proofs.Cores.{no-both, and-left, and-right}
 use Rattle.claims_model.proofs.Under.{Lift, l-body, l-plain, base-cons, base-here}
@@ -149,8 +149,8 @@ stays b h p (f ∷ fs) l = all-moved b h (setPc p f ∷ fs) l
 pub moved : (b h p : ℕ) (sent : Sent) (fs : List Frame) (s : Seat) → Low b fs → s .frames ≡ map (lower b) (at p fs) → AllMoved b h (at (stepped sent p) fs) (map (raise h) (framesWith sent s))
 moved b h p nothing fs s l e = subst (λ gs. AllMoved b h (at p fs) (map (raise h) gs)) (sym e) (stays b h p fs l)
 moved b h p (closes x) fs s l e = subst (λ gs. AllMoved b h (at p fs) (map (raise h) gs)) (sym e) (stays b h p fs l)
-moved b h p (gets x) fs s l e = subst (λ gs. AllMoved b h (at (after p) fs) (map (raise h) (onTop stepPc gs))) (sym e) (go fs l)
+moved b h p (gets x) fs s l e = subst (λ gs. AllMoved b h (at (pcAfter p) fs) (map (raise h) (onTop stepPc gs))) (sym e) (go fs l)
   where
-    go : (fs : List Frame) → Low b fs → AllMoved b h (at (after p) fs) (map (raise h) (onTop stepPc (map (lower b) (at p fs))))
+    go : (fs : List Frame) → Low b fs → AllMoved b h (at (pcAfter p) fs) (map (raise h) (onTop stepPc (map (lower b) (at p fs))))
     go [] l = tt
     go (f ∷ fs) l = let l0 = l .0 in (record { func = refl; pc = refl; base = omega (arith, l0); closure = refl; cont = refl }, all-moved b h fs (l .1))

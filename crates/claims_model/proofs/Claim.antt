@@ -22,7 +22,7 @@ use Rattle.model.specs.Step.{told, call, step, tested}
 use Rattle.model.specs.declared.machine.Active.{Active}
 use Rattle.model.specs.declared.machine.Frame.{Frame}
 use Rattle.model.specs.declared.machine.Driver.{Driver}
-use Rattle.claims_model.specs.Engine.{Turn, calls, refuels, run}
+use Rattle.claims_model.specs.Engine.{Turn, turnCall, turnFuel, runTurns}
 use Rattle.claims_model.specs.Says.{Sent}
 use Rattle.claims_model.specs.Steps.{steps}
 use Rattle.claims_model.proofs.Entry.{nobody, entry, act, entryBy, entryOf, driverOf, pcOf}
@@ -90,15 +90,15 @@ stays-firm c w k s f g i r n a h = go (next w k) (step-case w k) i n a
 pub stays : (c : ℕ) (w : World) (k : Call) (s : Seat) → isCreated (s .state) ≡ false → isRunning (s .state) ≡ false → restarts k ≡ false → isRunning (coreAt (next w k) c .state) ≡ false → coreAt w c ≡ s → coreAt (next w k) c ≡ s
 stays c w k s b r n a h = stays-firm c w k s (λ x _. no-both x b) (λ x _. no-both x b) (λ o e x _. no-both x b) r n a h
 
-pub sleep : (c : ℕ) (s : Seat) (w : World) (ts : List (Turn Call)) → Sleeps w c s → Waits c w ts → Sleeps (run steps w ts) c s
+pub sleep : (c : ℕ) (s : Seat) (w : World) (ts : List (Turn Call)) → Sleeps w c s → Waits c w ts → Sleeps (runTurns steps w ts) c s
 sleep c s w [] h q = h
-sleep c s w (refuels f ∷ ts) h q = sleep c s (steps .refuel w f) ts (record { asleep = h .asleep; holds = h .holds }) q
-sleep c s w (calls k ∷ ts) h q = go (isRunning (coreAt (next w k) c .state)) refl (sleep c s (next w k) ts)
+sleep c s w (turnFuel f ∷ ts) h q = sleep c s (steps .refuel w f) ts (record { asleep = h .asleep; holds = h .holds }) q
+sleep c s w (turnCall k ∷ ts) h q = go (isRunning (coreAt (next w k) c .state)) refl (sleep c s (next w k) ts)
   where
     still : isRunning (s .state) ≡ false
     still = susp-run (s .state) (h .asleep)
 
-    go : (b : Bool) → isRunning (coreAt (next w k) c .state) ≡ b → (Sleeps (next w k) c s → Waits c (next w k) ts → Sleeps (run steps (next w k) ts) c s) → Sleeps (run steps (next w k) ts) c s
+    go : (b : Bool) → isRunning (coreAt (next w k) c .state) ≡ b → (Sleeps (next w k) c s → Waits c (next w k) ts → Sleeps (runTurns steps (next w k) ts) c s) → Sleeps (runTurns steps (next w k) ts) c s
     go true e rest = absurd (q .1 (record { before = ap (λ x. isRunning (x .state)) (h .holds) ∙ still; after = e }))
     go false e rest = rest (record { asleep = h .asleep; holds = stays c w k s (susp-born (s .state) (h .asleep)) still (q .0) e (h .holds) }) (q .2)
 
@@ -133,10 +133,10 @@ run-left CoroState.Returned e = sym e
 run-left CoroState.Failed e = refl
 
 -- what has failed stays so
-lost-on : (c : ℕ) (s : Seat) → s .state ≡ CoroState.Failed → (w : World) (ts : List (Turn Call)) → coreAt w c ≡ s → Goes c w ts → coreAt (run steps w ts) c ≡ s
+lost-on : (c : ℕ) (s : Seat) → s .state ≡ CoroState.Failed → (w : World) (ts : List (Turn Call)) → coreAt w c ≡ s → Goes c w ts → coreAt (runTurns steps w ts) c ≡ s
 lost-on c s f w [] h q = h
-lost-on c s f w (refuels x ∷ ts) h q = lost-on c s f (steps .refuel w x) ts h q
-lost-on c s f w (calls k ∷ ts) h q = lost-on c s f (next w k) ts (stays c w k s (ap isCreated f) (ap isRunning f) (q .0) (out (isRunning (coreAt (next w k) c .state)) refl) h) (q .2)
+lost-on c s f w (turnFuel x ∷ ts) h q = lost-on c s f (steps .refuel w x) ts h q
+lost-on c s f w (turnCall k ∷ ts) h q = lost-on c s f (next w k) ts (stays c w k s (ap isCreated f) (ap isRunning f) (q .0) (out (isRunning (coreAt (next w k) c .state)) refl) h) (q .2)
   where
     out : (b : Bool) → isRunning (coreAt (next w k) c .state) ≡ b → isRunning (coreAt (next w k) c .state) ≡ false
     out false e = e
@@ -163,24 +163,24 @@ module _ (c : ℕ) (d : Driver) (bs : List ℕ) (bf : List Frame) (bc : List Act
       go z (same k e) = goes u
       go z (does o e) = cases o z (F.fate c d bs bf bc away (shape w (o .op)) (lifts w e) u)
 
-  goes-on : (w : World) (ts : List (Turn Call)) → Under c d bs bf bc (view w) → Goes c w ts → isRunning (coreAt (run steps w ts) c .state) ≡ true → Under c d bs bf bc (view (run steps w ts))
+  goes-on : (w : World) (ts : List (Turn Call)) → Under c d bs bf bc (view w) → Goes c w ts → isRunning (coreAt (runTurns steps w ts) c .state) ≡ true → Under c d bs bf bc (view (runTurns steps w ts))
   goes-on w [] u q r = u
-  goes-on w (refuels f ∷ ts) u q r = goes-on (steps .refuel w f) ts u q r
-  goes-on w (calls k ∷ ts) u q r = go (fate-one w k u) (goes-on (next w k) ts)
+  goes-on w (turnFuel f ∷ ts) u q r = goes-on (steps .refuel w f) ts u q r
+  goes-on w (turnCall k ∷ ts) u q r = go (fate-one w k u) (goes-on (next w k) ts)
     where
-      go : Fate w k (next w k) → (Under c d bs bf bc (view (next w k)) → Goes c (next w k) ts → isRunning (coreAt (run steps (next w k) ts) c .state) ≡ true → Under c d bs bf bc (view (run steps (next w k) ts)))
-          → Under c d bs bf bc (view (run steps (next w k) ts))
+      go : Fate w k (next w k) → (Under c d bs bf bc (view (next w k)) → Goes c (next w k) ts → isRunning (coreAt (runTurns steps (next w k) ts) c .state) ≡ true → Under c d bs bf bc (view (runTurns steps (next w k) ts)))
+          → Under c d bs bf bc (view (runTurns steps (next w k) ts))
       go (goes x) rest = rest x (q .2) r
       go (left x y e) rest = absurd (q .1 (record { before = u .runs; after = e }))
       go (lost x) rest = no-both r (ap (λ n. isRunning (n .state)) (lost-on c (coreAt (next w k) c) x (next w k) ts refl (q .2)) ∙ ap isRunning x)
       go (over x e) rest = no-both x (q .0)
 
-  pub leaving : (w : World) (ts : List (Turn Call)) (l : Call) → Under c d bs bf bc (view w) → Goes c w ts → let v = run steps w ts in Stops c v l
+  pub leaving : (w : World) (ts : List (Turn Call)) (l : Call) → Under c d bs bf bc (view w) → Goes c w ts → let v = runTurns steps w ts in Stops c v l
       → (mem (next v l .stack) (next v l .frames) ≡ deliverTo d (eventOf v l c) (mem bs bf)) × (next v l .chain ≡ bc)
   leaving w ts l u q h = go (fate-one v l (goes-on w ts u q (h .before)))
     where
       v : World
-      v = run steps w ts
+      v = runTurns steps w ts
 
       go : Fate v l (next v l) → (mem (next v l .stack) (next v l .frames) ≡ deliverTo d (eventOf v l c) (mem bs bf)) × (next v l .chain ≡ bc)
       go (goes x) = no-both (h .after) (run-left (coreAt (next v l) c .state) (x .runs))
@@ -188,9 +188,9 @@ module _ (c : ℕ) (d : Driver) (bs : List ℕ) (bf : List Frame) (bc : List Act
       go (lost x) = no-both (h .after) (ap hasLeft x)
       go (over x e) = no-both (h .after) e
 
-pub untouched : (c : ℕ) (w : World) (k : Call) (ts : List (Turn Call)) (l : Call) → Enters c w k → Goes c (next w k) ts → let v = run steps (next w k) ts in Stops c v l → Left w k c v l (next v l)
+pub untouched : (c : ℕ) (w : World) (k : Call) (ts : List (Turn Call)) (l : Call) → Enters c w k → Goes c (next w k) ts → let v = runTurns steps (next w k) ts in Stops c v l → Left w k c v l (next v l)
 untouched c w k ts l h q e =
     let t = entering c w k h in
     let u = landed w (pcOf w k) c (t .driver) (t .sent) (next w k) (lifts w (t .healthy) c (t .enter .ready) (t .enter .solid)) (t .enter) in
     let x = leaving c (t .driver) (w .stack) (calling w k) (w .chain) (apart w (t .healthy) c (h .before)) (next w k) ts l u q e in
-    record { under = x .0 ∙ ap (λ d. deliverTo d (eventOf (run steps (next w k) ts) l c) (mem (w .stack) (calling w k))) (sym (ap driverOf (t .by))); chain = x .1 }
+    record { under = x .0 ∙ ap (λ d. deliverTo d (eventOf (runTurns steps (next w k) ts) l c) (mem (w .stack) (calling w k))) (sym (ap driverOf (t .by))); chain = x .1 }

@@ -15,12 +15,12 @@ use Rattle.model.specs.Heap.{coro}
 use Rattle.model.specs.Call.{Call}
 use Rattle.model.specs.declared.machine.Active.{Active}
 use Rattle.model.specs.declared.call.Op.{Op}
-use Rattle.claims_model.specs.Engine.{seenIn, is, awaits}
-use Rattle.claims_model.specs.Says.{Does, doing}
+use Rattle.claims_model.specs.Engine.{seenIn, stateIs, seenAwaiting}
+use Rattle.claims_model.specs.Says.{Announced, announcedBy}
 use Rattle.claims_model.specs.Held.{closer}
 use Rattle.claims_model.specs.Demand3 as D
 use Rattle.claims_model.specs.Events.{isAwait, lives}
-use Rattle.claims_model.specs.Steps.{seenOf, rulesOf, viewOf, opOf, steps}
+use Rattle.claims_model.specs.Steps.{seenOf, rulesOf, viewOf, modelOp, steps}
 use Rattle.claims_model.specs.Touches.{May}
 use Rattle.claims_model.proofs.Entry as E
 use Rattle.claims_model.proofs.Held.{Seat, coreIn, coreAt}
@@ -73,7 +73,7 @@ lives-alive CoroState.Awaiting = refl
 lives-alive CoroState.Returned = refl
 lives-alive CoroState.Failed = refl
 
-seen-alive : (w : World) (c : ℕ) → is (viewOf w) lives c ≡ true → alive (coreAt w c .state) ≡ true
+seen-alive : (w : World) (c : ℕ) → stateIs (viewOf w) lives c ≡ true → alive (coreAt w c .state) ≡ true
 seen-alive w c h = go (coro w c) h
   where
     go : (x : Coroutine) → seenIn (λ y. lives (y .state)) (seenOf x) ≡ true → alive (coreIn x .state) ≡ true
@@ -168,7 +168,7 @@ module _ (c : ℕ) {w z : World} (healthy : (a : Active) (chain : List Active) �
       go (inr (inl x)) = no-both h (ap alive x)
       go (inr (inr x)) = ap (λ y. y .closing) (x .1)
 
-pub closing : (c : ℕ) (w : World) (k : Call) → (D.Restarts steps w k → ⊥) → (D.Enters steps c w k → ⊥) → (D.Suspends steps c w k → ⊥) → is (viewOf (next w k)) lives c ≡ true → closer (viewOf (next w k) .coro c) ≡ closer (viewOf w .coro c)
+pub closing : (c : ℕ) (w : World) (k : Call) → (D.Restarts steps w k → ⊥) → (D.Enters steps c w k → ⊥) → (D.Suspends steps c w k → ⊥) → stateIs (viewOf (next w k)) lives c ≡ true → closer (viewOf (next w k) .coro c) ≡ closer (viewOf w .coro c)
 closing c w k r i s h = closer-at (next w k) c ∙ go (next w k) (step-case w k) (restarts-old w k r) (λ a b. i (record { before = is-runs w c ∙ a; after = is-runs (next w k) c ∙ b }))
     (λ a b. s (record { before = is-runs w c ∙ a; after = is-sleeps (next w k) c ∙ b })) (seen-alive (next w k) c h) ∙ sym (closer-at w c)
   where
@@ -184,7 +184,7 @@ awaits-core : (x : Coroutine) → E.awaits x ≡ isAwaiting (coreIn x .state)
 awaits-core Absent = refl
 awaits-core (Is k r) = refl
 
-pub yielded : (c : ℕ) (w : World) (k : Call) → D.Suspends steps c w k → closer (viewOf (next w k) .coro c) ≡ pick (is (viewOf (next w k)) awaits c) (closer (viewOf w .coro c)) none
+pub yielded : (c : ℕ) (w : World) (k : Call) → D.Suspends steps c w k → closer (viewOf (next w k) .coro c) ≡ pick (stateIs (viewOf (next w k)) seenAwaiting c) (closer (viewOf w .coro c)) none
 yielded c w k g = closer-at (next w k) c ∙ go (next w k) (step-case w k) (h .after) ∙ (λ i. pick (sym (is-awaits (next w k) c) i) (sym (closer-at w c) i) none)
   where
     h : Suspends c w k
@@ -210,7 +210,7 @@ awaitsBy (E.finishes kind x) = false
 awaitsBy E.unwinds = false
 awaitsBy E.other = false
 
-alike-await : {a : E.Act} {d : Does} → Alike a d → isAwait d ≡ awaitsBy a
+alike-await : {a : E.Act} {d : Announced} → Alike a d → isAwait d ≡ awaitsBy a
 alike-await (l-at pc ok (E.enters c d x may)) = refl
 alike-await (l-at pc ok (E.suspends s dst x)) = refl
 alike-await (l-at pc ok E.neither) = refl
@@ -219,13 +219,13 @@ alike-await (l-finish kind x) = refl
 alike-await (l-raise f pc) = refl
 alike-await l-other = refl
 
-pub awaited : (c : ℕ) (w : World) (k : Call) → D.Suspends steps c w k → is (viewOf (next w k)) awaits c ≡ isAwait (doing (viewOf w) (opOf k))
+pub awaited : (c : ℕ) (w : World) (k : Call) → D.Suspends steps c w k → stateIs (viewOf (next w k)) seenAwaiting c ≡ isAwait (announcedBy (viewOf w) (modelOp k))
 awaited c w k g = is-awaits (next w k) c ∙ go (next w k) (step-case w k) (h .after)
   where
     h : Suspends c w k
     h = suspends-old c w k g
 
-    go : {k : Call} (z : World) → StepCase w k z → isSuspended (coreAt z c .state) ≡ true → E.awaits (coro z c) ≡ isAwait (doing (viewOf w) (opOf k))
+    go : {k : Call} (z : World) → StepCase w k z → isSuspended (coreAt z c .state) ≡ true → E.awaits (coro z c) ≡ isAwait (announcedBy (viewOf w) (modelOp k))
     go z (anew s e) a = no-both a (ap (λ x. isSuspended (coreIn x .state)) (fresh-absent s c))
     go z (same k e) a = no-both a (run-susp (coreAt w c .state) (h .before))
     go z (does o e) a =

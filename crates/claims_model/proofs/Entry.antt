@@ -82,10 +82,10 @@ pub data Plan : Op → Type 0 where
   finishing : (kind : ResultKind) (v : ℕ) → Plan (Op.Finish kind v)
   unwinding : (f : Fault) (pc : OptPc) → Plan (Op.Unwind f pc)
   -- an instruction that is after neither, and says so; and a call that is no instruction
-  asking : {o : Op} {pc : ℕ} {ok : World → Bool} {arm : World → After Step} → table o ≡ Instruction pc ok arm → ((w : World) → Says.does (viewOf w) o ≡ Says.instr pc (ok w) Says.neither) → Plan o
-  idle : {o : Op} → raises (table o) ≡ true → ((w : World) → Says.does (viewOf w) o ≡ Says.other) → Plan o
+  asking : {o : Op} {pc : ℕ} {ok : World → Bool} {arm : World → After Step} → table o ≡ Instruction pc ok arm → ((w : World) → Says.announced (viewOf w) o ≡ Says.instr pc (ok w) Says.neither) → Plan o
+  idle : {o : Op} → raises (table o) ≡ true → ((w : World) → Says.announced (viewOf w) o ≡ Says.other) → Plan o
 
-pub base-top : (fs : List Frame) → Says.base fs ≡ topBase fs
+pub base-top : (fs : List Frame) → Says.firstRegister fs ≡ topBase fs
 base-top [] = refl
 base-top (f ∷ fs) = refl
 
@@ -108,7 +108,7 @@ pub in-window : (w : World) (pc dst callee argc : ℕ)
     → Says.instr pc (Says.lie (viewOf w) (dst ∷ callee ∷ []) && Says.window (viewOf w) dst argc) Says.neither ≡ Says.instr pc (allIn (dst ∷ callee ∷ []) w && windowIn w dst argc) Says.neither
 in-window w pc dst callee argc = λ i. Says.instr pc (lie-in w (dst ∷ callee ∷ []) i && window-in w dst argc i) Says.neither
 
-pub new-in : (w : World) (pc dst f argc : ℕ) → Says.does (viewOf w) (Op.CoroNew pc dst f argc) ≡ Says.instr pc (inFrame w dst && windowIn w dst argc && isFunction (w .setup) f) Says.neither
+pub new-in : (w : World) (pc dst f argc : ℕ) → Says.announced (viewOf w) (Op.CoroNew pc dst f argc) ≡ Says.instr pc (inFrame w dst && windowIn w dst argc && isFunction (w .setup) f) Says.neither
 new-in w pc dst f argc = λ i. Says.instr pc ((lie-in w (dst ∷ []) ∙ and-unit (inFrame w dst)) i && window-in w dst argc i && isFunction (w .setup) f) Says.neither
 
 abbrev pub plan : (o : Op) → Plan o

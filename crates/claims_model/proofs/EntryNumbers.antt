@@ -34,13 +34,13 @@ use Rattle.model.specs.declared.coro.Entered.{Entered}
 use Rattle.model.specs.declared.exec.Step.{Step}
 use Rattle.model.specs.declared.call.OptPc.{OptPc}
 use Rattle.model.specs.declared.call.Op.{Op}
-use Rattle.claims_model.specs.Engine.{isNew, seenIn, is}
+use Rattle.claims_model.specs.Engine.{seenCreated, seenIn, stateIs}
 use Rattle.claims_model.specs.Says as Says
 use Rattle.claims_model.specs.Says.{Sent, nothing, gets, closes}
 use Rattle.claims_model.specs.Held.{By}
 use Rattle.claims_model.specs.Demand3 as D
-use Rattle.claims_model.specs.Events.{answers}
-use Rattle.claims_model.specs.Steps.{seenOf, viewOf, opOf, steps}
+use Rattle.claims_model.specs.Events.{entryNumber}
+use Rattle.claims_model.specs.Steps.{seenOf, viewOf, modelOp, steps}
 use Rattle.claims_model.proofs.Entry.{yields, yieldsKv, waits, resumes, throws, shuts, turns, Aim, enters, Act, at, awaits, act, Entry, nobody, entry, acceptsAs, accepts, sentTo, aimed, charged, entryBy}
 use Rattle.claims_model.proofs.Cores.{no-both, objectIn, coroIn, and-left, and-right}
 use Rattle.claims_model.proofs.Enters.{EnterCase, e-in, e-out, enter-case, accepts-stored, ChargeCase, c-done, c-spent, c-close, charge-case}
@@ -61,7 +61,7 @@ newIn (Is k r) = isCreated (k .state)
 -- n is what an entry answers, if it is one
 abbrev Tells : World → Entry → ℕ → Type 0
 Tells v nobody n = Unit {0}
-Tells v (entry c d s) n = n ≡ answers (newIn (coro v c)) s
+Tells v (entry c d s) n = n ≡ entryNumber (newIn (coro v c)) s
 
 tells-pick : (v : World) (b : Bool) (e : Entry) (n : ℕ) → (b ≡ true → Tells v e n) → Tells v (pick b e nobody) n
 unfolding pick
@@ -70,28 +70,28 @@ tells-pick v false e n f = tt
 
 tells-at : (v w : World) → ((c : ℕ) → coro v c ≡ coro w c) → (e : Entry) (n : ℕ) → Tells v e n → Tells w e n
 tells-at v w h nobody n t = tt
-tells-at v w h (entry c d s) n t = t ∙ ap (λ y. answers (newIn y) s) (h c)
+tells-at v w h (entry c d s) n t = t ∙ ap (λ y. entryNumber (newIn y) s) (h c)
 
 -- ---- by what is sent
 
-sent-word : (y : Coroutine) (v : World) (x : ℕ) → acceptsAs y v ≡ true → answers (newIn y) (sentTo y (gets x)) ≡ 0
+sent-word : (y : Coroutine) (v : World) (x : ℕ) → acceptsAs y v ≡ true → entryNumber (newIn y) (sentTo y (gets x)) ≡ 0
 unfolding newIn pick
 sent-word Absent v x a = no-both a refl
 sent-word (Is k r) v x a = go (isCreated (k .state))
   where
-    go : (b : Bool) → answers b (pick b nothing (gets x)) ≡ 0
+    go : (b : Bool) → entryNumber b (pick b nothing (gets x)) ≡ 0
     go true = refl
     go false = refl
 
-thrown : (y : Coroutine) → isAsleep y ≡ true → answers (newIn y) (sentTo y nothing) ≡ 17
+thrown : (y : Coroutine) → isAsleep y ≡ true → entryNumber (newIn y) (sentTo y nothing) ≡ 17
 unfolding newIn pick
 thrown Absent a = no-both a refl
-thrown (Is k r) a = ap (λ b. answers b (pick b nothing nothing)) (susp-born (k .state) a)
+thrown (Is k r) a = ap (λ b. entryNumber b (pick b nothing nothing)) (susp-born (k .state) a)
 
-closed : (y : Coroutine) (x : ℕ) → isAsleep y ≡ true → answers (newIn y) (sentTo y (closes x)) ≡ 17
+closed : (y : Coroutine) (x : ℕ) → isAsleep y ≡ true → entryNumber (newIn y) (sentTo y (closes x)) ≡ 17
 unfolding newIn pick
 closed Absent x a = no-both a refl
-closed (Is k r) x a = ap (λ b. answers b (pick b nothing (closes x))) (susp-born (k .state) a)
+closed (Is k r) x a = ap (λ b. entryNumber b (pick b nothing (closes x))) (susp-born (k .state) a)
 
 -- ---- coro_enter, and then a tail that answers n
 
@@ -244,7 +244,7 @@ host-tells c x w = go (isNil (w .frames))
         tells-pick w (accepts w c) (entry c Driver.Host (sentTo (coro w c) (gets x))) (numberOf (andThen (coroEnter c Driver.Host w) (hostArrive x) .answer))
         (λ a. entered-number numberOf (hostArrive x) 0 (λ w. refl) (λ w r. refl) c Driver.Host w a ∙ sym (sent-word (coro w c) w x a))
 
-call-tells : (w : World) {o : Op} {a : Act} {d : Says.Does} → act w o ≡ a → Kind w o a d → Answers w o
+call-tells : (w : World) {o : Op} {a : Act} {d : Says.Announced} → act w o ≡ a → Kind w o a d → Answers w o
 call-tells w {o} q (k-at {a = a} e (to-suspend (yields pc dst src))) = instr-tells w o (λ b s xs. a) e q (λ v. tt)
 call-tells w {o} q (k-at {a = a} e (to-suspend (yieldsKv pc dst src key))) = instr-tells w o (λ b s xs. a) e q (λ v. tt)
 call-tells w {o} q (k-at {a = a} e (to-suspend (waits pc dst src))) = instr-tells w o (λ b s xs. a) e q (λ v. tt)
@@ -263,11 +263,11 @@ call-tells w q (k-finish kind x) = tt
 call-tells w q (k-raise f pc) = tt
 call-tells w {o} q (k-other e) = subst (λ x. Tells w (entryBy x w) (numberOf (call o w .answer))) (sym q) tt
 
-new-is : (w : World) (c : ℕ) → newIn (coro w c) ≡ is (viewOf w) isNew c
+new-is : (w : World) (c : ℕ) → newIn (coro w c) ≡ stateIs (viewOf w) seenCreated c
 unfolding newIn
 new-is w c = go (coro w c)
   where
-    go : (x : Coroutine) → newIn x ≡ seenIn (λ y. isNew (y .state)) (seenOf x)
+    go : (x : Coroutine) → newIn x ≡ seenIn (λ y. seenCreated (y .state)) (seenOf x)
     go Absent = refl
     go (Is k r) = sym (new-state (k .state))
 
@@ -277,14 +277,14 @@ what none = nothing
 what (some e) = e .sent
 
 -- WHAT AN ENTRY ANSWERS
-pub entry-answers : (c : ℕ) (w : World) (k : Call) → D.Enters steps c w k → (b : By (viewOf w) (opOf k) c) → numberOf (step w k .answer) ≡ answers (is (viewOf w) isNew c) (b .sent)
+pub entry-answers : (c : ℕ) (w : World) (k : Call) → D.Enters steps c w k → (b : By (viewOf w) (modelOp k) c) → numberOf (step w k .answer) ≡ entryNumber (stateIs (viewOf w) seenCreated c) (b .sent)
 unfolding what entry-by
 entry-answers c w (SetUp s) h b = no-entry refl (entering c w (SetUp s) (enters-old c w (SetUp s) h) .by)
 entry-answers c w (Do o) h b =
     let t = entering c w (Do o) (enters-old c w (Do o) h) in
     let it : entryBy (act w (o .op)) w ≡ entry c (t .driver) (t .sent) = sym (entry-sound w o (t .healthy)) ∙ t .by in
-    let n : numberOf (call (o .op) w .answer) ≡ answers (newIn (coro w c)) (t .sent) = subst (λ e. Tells w e (numberOf (call (o .op) w .answer))) it (call-tells w refl (kind-of w (o .op))) in
-    ap numberOf (number-sound w o (t .healthy)) ∙ n ∙ (λ i. answers (new-is w c i) (same t i))
+    let n : numberOf (call (o .op) w .answer) ≡ entryNumber (newIn (coro w c)) (t .sent) = subst (λ e. Tells w e (numberOf (call (o .op) w .answer))) it (call-tells w refl (kind-of w (o .op))) in
+    ap numberOf (number-sound w o (t .healthy)) ∙ n ∙ (λ i. entryNumber (new-is w c i) (same t i))
   where
     same : (t : Entering c w (Do o) (step w (Do o) .world)) → t .sent ≡ b .sent
     same t = sym (ap what (entry-by c w (Do o) (step w (Do o) .world) t .says)) ∙ ap what (b .says)

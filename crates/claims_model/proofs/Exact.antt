@@ -17,11 +17,11 @@ use Rattle.model.specs.Call.{Call, SetUp, Do, Operation, typed, asCall}
 use Rattle.model.specs.Step.{call, tested, step, told}
 use Rattle.model.specs.declared.machine.Active.{Active}
 use Rattle.model.specs.declared.call.Op.{Op}
-use Rattle.claims_model.specs.Says.{suspend, neither, Does, does, doing, Entry, entry}
+use Rattle.claims_model.specs.Says.{suspend, neither, Announced, announced, announcedBy, Entry, entry}
 use Rattle.claims_model.specs.Held.{By}
 use Rattle.claims_model.specs.Demand3 as D
-use Rattle.claims_model.specs.Events.{Healthy, inmost, suspended}
-use Rattle.claims_model.specs.Steps.{viewOf, opOf, steps}
+use Rattle.claims_model.specs.Events.{Healthy, inmost, whoSuspends}
+use Rattle.claims_model.specs.Steps.{viewOf, modelOp, steps}
 use Rattle.claims_model.proofs.Entry as E
 use Rattle.claims_model.proofs.Entry.{act, pcBy, entryBy}
 use Rattle.claims_model.proofs.Suspension.{suspendsIn, takesBy}
@@ -67,7 +67,7 @@ pub some-op : {a b : Op} → _≡_ {A = Option Op} (some a) (some b) → a ≡ b
 some-op e = cc
 
 -- what a call answers at a sound machine is what its operation answers
-pub at-step : (w : World) → sound w ≡ true → (k : Call) (o : Op) {x : ℕ} → opOf k ≡ some o → numberOf (call o w .answer) ≡ x → numberOf (step w k .answer) ≡ x
+pub at-step : (w : World) → sound w ≡ true → (k : Call) (o : Op) {x : ℕ} → modelOp k ≡ some o → numberOf (call o w .answer) ≡ x → numberOf (step w k .answer) ≡ x
 at-step w h (SetUp s) o e n = let z : _≡_ {A = ℕ} 0 1 = cc in absurd (omega arith)
 at-step w h (Do j) o e n = ap numberOf (number-sound w j h) ∙ ap (λ p. numberOf (call p w .answer)) (some-op e) ∙ n
 
@@ -97,7 +97,7 @@ abbrev back : Option Entry → E.Entry
 back none = E.nobody
 back (some y) = E.entry (y .coro) (y .driver) (y .sent)
 
-pub entered : (c : ℕ) (w : World) (k : Call) → Healthy steps w → By (viewOf w) (opOf k) c → D.Enters steps c w k
+pub entered : (c : ℕ) (w : World) (k : Call) → Healthy steps w → By (viewOf w) (modelOp k) c → D.Enters steps c w k
 entered c w (SetUp s) h b = let x = b .says in let z : _≡_ {A = ℕ} 0 1 = cc in absurd (omega arith)
 entered c w (Do o) h b =
     let e = healthy-sound w h in
@@ -111,7 +111,7 @@ entered c w (Do o) h b =
 
 -- ---- suspensions
 
-susp-aims : (w : World) (n : ℕ) {a : E.Act} {d : Does} → aimsTo a ≡ true → Alike a d → suspended (viewOf w) d n ≡ pick (okNumber n) (inmost (w .chain)) none
+susp-aims : (w : World) (n : ℕ) {a : E.Act} {d : Announced} → aimsTo a ≡ true → Alike a d → whoSuspends (viewOf w) d n ≡ pick (okNumber n) (inmost (w .chain)) none
 susp-aims w n h (l-at pc ok (E.enters c d x may)) = no-both h refl
 susp-aims w n h (l-at pc ok (E.suspends s dst x)) = refl
 susp-aims w n h (l-at pc ok E.neither) = no-both h refl
@@ -120,7 +120,7 @@ susp-aims w n h (l-finish kind x) = no-both h refl
 susp-aims w n h (l-raise f pc) = no-both h refl
 susp-aims w n h l-other = no-both h refl
 
-susp-not : (w : World) (n : ℕ) {a : E.Act} {d : Does} → aimsTo a ≡ false → Alike a d → suspended (viewOf w) d n ≡ none
+susp-not : (w : World) (n : ℕ) {a : E.Act} {d : Announced} → aimsTo a ≡ false → Alike a d → whoSuspends (viewOf w) d n ≡ none
 susp-not w n h (l-at pc ok (E.enters c d x may)) = refl
 susp-not w n h (l-at pc ok (E.suspends s dst x)) = no-both refl h
 susp-not w n h (l-at pc ok E.neither) = refl
@@ -129,13 +129,13 @@ susp-not w n h (l-finish kind x) = refl
 susp-not w n h (l-raise f pc) = refl
 susp-not w n h l-other = refl
 
-pub suspends : (c : ℕ) (w : World) (k : Call) → D.Suspends steps c w k → suspended (viewOf w) (doing (viewOf w) (opOf k)) (numberOf (step w k .answer)) ≡ some c
+pub suspends : (c : ℕ) (w : World) (k : Call) → D.Suspends steps c w k → whoSuspends (viewOf w) (announcedBy (viewOf w) (modelOp k)) (numberOf (step w k .answer)) ≡ some c
 suspends c w k g = go (next w k) (step-case w k) (h .after)
   where
     h : Suspends c w k
     h = suspends-old c w k g
 
-    go : {k : Call} (z : World) → StepCase w k z → isSuspended (coreAt z c .state) ≡ true → suspended (viewOf w) (doing (viewOf w) (opOf k)) (numberOf (step w k .answer)) ≡ some c
+    go : {k : Call} (z : World) → StepCase w k z → isSuspended (coreAt z c .state) ≡ true → whoSuspends (viewOf w) (announcedBy (viewOf w) (modelOp k)) (numberOf (step w k .answer)) ≡ some c
     go z (anew s e) a = no-both a (ap (λ x. isSuspended (coreIn x .state)) (fresh-absent s c))
     go z (same k e) a = no-both a (run-susp (coreAt w c .state) (h .before))
     go z (Claim.does o e) a =
@@ -147,7 +147,7 @@ suspends c w k g = go (next w k) (step-case w k) (h .after)
         picked : {b : Bool} {x : Option ℕ} → b ≡ true → x ≡ some c → pick b x none ≡ some c
         picked p q = (λ i. pick (p i) (q i) none) ∙ pick-true (some c) none
 
-pub suspended-by : (c : ℕ) (w : World) (k : Call) → suspended (viewOf w) (doing (viewOf w) (opOf k)) (numberOf (step w k .answer)) ≡ some c → D.Suspends steps c w k
+pub suspended-by : (c : ℕ) (w : World) (k : Call) → whoSuspends (viewOf w) (announcedBy (viewOf w) (modelOp k)) (numberOf (step w k .answer)) ≡ some c → D.Suspends steps c w k
 unfolding step tested pick
 suspended-by c w (SetUp s) h = no-some refl h
 suspended-by c w (Do o) h = go (aimsTo (act w (o .op))) refl (sound w) refl

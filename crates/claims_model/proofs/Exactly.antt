@@ -6,10 +6,10 @@ use mathlib.Core.Option.{Option, none, some}
 use Rattle.model.specs.Answer.{numberOf}
 use Rattle.model.specs.Step.{step}
 use Rattle.claims_model.specs.Engine.{View}
-use Rattle.claims_model.specs.Says.{Does, instr, hosts, finishes, raises, other, doing, Entry, whomBy}
+use Rattle.claims_model.specs.Says.{Announced, instr, hosts, finishes, raises, other, announcedBy, Entry, whomBy}
 use Rattle.claims_model.specs.Demand3.{Demand3}
-use Rattle.claims_model.specs.Events.{suspended, returned, Events}
-use Rattle.claims_model.specs.Steps.{viewOf, opOf, steps}
+use Rattle.claims_model.specs.Events.{whoSuspends, whoReturns, Events}
+use Rattle.claims_model.specs.Steps.{viewOf, modelOp, steps}
 use Rattle.claims_model.proofs.EntryNumbers.{entry-answers}
 use Rattle.claims_model.proofs.Acceptance.{exactly}
 use Rattle.claims_model.proofs.Restores as Restores
@@ -25,18 +25,18 @@ use Rattle.claims_model.proofs.Results.{spoilt, stopped}
 use Rattle.claims_model.proofs.Values.{integer, word}
 use Rattle.claims_model.proofs.Closing.{closing, yielded, awaited, fixed}
 use Rattle.claims_model.proofs.Still.{still, unbegun}
-use Rattle.claims_model.proofs.Undone.{closes-new, throws-new, comes}
+use Rattle.claims_model.proofs.Undone.{closes-created, throws-created, comes}
 use Rattle.claims_model.proofs.States.{runs-on}
 
 -- a call that lets one return enters nobody, and suspends nobody
-not-whom : (v : View) (d : Does) (n u : ℕ) → returned v d n ≡ some u → whomBy v d ≡ none
+not-whom : (v : View) (d : Announced) (n u : ℕ) → whoReturns v d n ≡ some u → whomBy v d ≡ none
 not-whom v (instr pc ok a) n u h = no-some refl h
 not-whom v (hosts c x) n u h = no-some refl h
 not-whom v (finishes kind x) n u h = refl
 not-whom v (raises f pc) n u h = refl
 not-whom v other n u h = no-some refl h
 
-not-suspended : (v : View) (d : Does) (n c u : ℕ) → suspended v d n ≡ some c → returned v d n ≡ some u → ⊥
+not-suspended : (v : View) (d : Announced) (n c u : ℕ) → whoSuspends v d n ≡ some c → whoReturns v d n ≡ some u → ⊥
 not-suspended v (instr pc ok a) n c u p q = no-some refl q
 not-suspended v (hosts x y) n c u p q = no-some refl q
 not-suspended v (finishes kind x) n c u p q = no-some refl p
@@ -74,14 +74,14 @@ events =
       awaited = awaited;
       still = still;
       unbegun = unbegun;
-      closes-new = closes-new;
-      throws-new = throws-new;
+      closes-created = closes-created;
+      throws-created = throws-created;
       runs-on = runs-on;
       comes = comes;
       fixed = fixed;
       one-switch = λ c u w k h g. exactly w k c .one-switch u (enters-old c w k h) (suspends-old u w k g);
-      no-return = λ c u w k h g. no-entry (not-whom (viewOf w) (doing (viewOf w) (opOf k)) (numberOf (step w k .answer)) u (returns u w k g)) (Restores.entered c w k h .by .says);
-      one-leaves = λ c u w k h g. not-suspended (viewOf w) (doing (viewOf w) (opOf k)) (numberOf (step w k .answer)) c u (suspends c w k h) (returns u w k g);
+      no-return = λ c u w k h g. no-entry (not-whom (viewOf w) (announcedBy (viewOf w) (modelOp k)) (numberOf (step w k .answer)) u (returns u w k g)) (Restores.entered c w k h .by .says);
+      one-leaves = λ c u w k h g. not-suspended (viewOf w) (announcedBy (viewOf w) (modelOp k)) (numberOf (step w k .answer)) c u (suspends c w k h) (returns u w k g);
     }
 
 -- DEMAND 3

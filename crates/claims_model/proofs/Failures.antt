@@ -30,7 +30,7 @@ use Rattle.model.specs.declared.machine.Charge.{Charge}
 use Rattle.model.specs.declared.call.OptPc.{OptPc}
 use Rattle.model.specs.declared.call.Answer.{Answer}
 use Rattle.claims_model.specs.Engine as Engine
-use Rattle.claims_model.specs.Engine.{seenIn, is}
+use Rattle.claims_model.specs.Engine.{seenIn, stateIs}
 use Rattle.claims_model.specs.Events as Events
 use Rattle.claims_model.specs.Events.{among, goesOn, losing, lost, endedAs}
 use Rattle.claims_model.specs.Steps.{seenOf}
@@ -50,7 +50,7 @@ abbrev pub unmade : Answer → Bool
 unmade a = eqb (numberOf a) 9 || eqb (numberOf a) 14
 
 abbrev pub isFailed : CoroState → Bool
-isFailed s = Events.failed s
+isFailed s = Events.seenFailed s
 
 -- it has failed, with the result x
 abbrev pub Dead : ℕ → Seat → Type 0
@@ -147,7 +147,7 @@ loses-more x w y o v xs e d b l = record {
 -- all of the chain run
 abbrev pub AllRun : Engine.View → List Active → Type 0
 AllRun v [] = Unit {0}
-AllRun v (a ∷ chain) = (is v Engine.runs (a .coro) ≡ true) × AllRun v chain
+AllRun v (a ∷ chain) = (stateIs v Engine.seenRunning (a .coro) ≡ true) × AllRun v chain
 
 -- ---- the search
 
@@ -162,10 +162,10 @@ module _ (v : Engine.View) (value f pc : ℕ) where
   failed-to xs next Driver.Host s w p h r = loses-none w _ (λ c. refl) refl
   failed-to xs next Driver.Finalize s w p h r = loses-none w _ (λ c. refl) refl
 
-  seen-runs : (x : Coroutine) (c : ℕ) → seenOf x ≡ v .coro c → is v Engine.runs c ≡ true → isRunning (coreIn x .state) ≡ true
-  seen-runs x c e h = go x (ap (seenIn (λ y. Engine.runs (y .state))) e ∙ h)
+  seen-runs : (x : Coroutine) (c : ℕ) → seenOf x ≡ v .coro c → stateIs v Engine.seenRunning c ≡ true → isRunning (coreIn x .state) ≡ true
+  seen-runs x c e h = go x (ap (seenIn (λ y. Engine.seenRunning (y .state))) e ∙ h)
     where
-      go : (x : Coroutine) → seenIn (λ y. Engine.runs (y .state)) (seenOf x) ≡ true → isRunning (coreIn x .state) ≡ true
+      go : (x : Coroutine) → seenIn (λ y. Engine.seenRunning (y .state)) (seenOf x) ≡ true → isRunning (coreIn x .state) ≡ true
       go Absent q = no-both q refl
       go (Is k r) q = sym (runs-state (k .state)) ∙ q
 

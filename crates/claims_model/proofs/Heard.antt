@@ -11,10 +11,10 @@ use Rattle.model.specs.Call.{Call, Do}
 use Rattle.model.specs.Step.{step}
 use Rattle.model.specs.declared.machine.Active.{Active}
 use Rattle.claims_model.specs.Engine.{seenIn}
-use Rattle.claims_model.specs.Says.{doing}
+use Rattle.claims_model.specs.Says.{announcedBy}
 use Rattle.claims_model.specs.Demand3 as D
-use Rattle.claims_model.specs.Events.{isAwait, told, toldTo}
-use Rattle.claims_model.specs.Steps.{seenOf, viewOf, opOf, steps}
+use Rattle.claims_model.specs.Events.{isAwait, suspensionNumber, suspensionNumberTo}
+use Rattle.claims_model.specs.Steps.{seenOf, viewOf, modelOp, steps}
 use Rattle.claims_model.proofs.Held.{coreIn, coreAt}
 use Rattle.claims_model.proofs.Split.{next, Suspends}
 use Rattle.claims_model.proofs.Cores.{no-both}
@@ -28,22 +28,22 @@ use Rattle.claims_model.proofs.Exact.{number-sound}
 use Rattle.claims_model.proofs.Numbers.{toldOn, aimsTo, call-number}
 
 -- what the innermost is told, in the claim's words
-told-seen : (w : World) (a : Active) (chain : List Active) (c : ℕ) (await : Bool) → w .chain ≡ a ∷ chain → c ≡ a .coro → toldOn (w .chain) (coro w) await ≡ toldTo (w .chain) await (seenIn (λ x. x .closing) (seenOf (coro w c)))
+told-seen : (w : World) (a : Active) (chain : List Active) (c : ℕ) (await : Bool) → w .chain ≡ a ∷ chain → c ≡ a .coro → toldOn (w .chain) (coro w) await ≡ suspensionNumberTo (w .chain) await (seenIn (λ x. x .closing) (seenOf (coro w c)))
 told-seen w a chain c await e q =
     ap (λ cs. toldOn cs (coro w) await) e
-    ∙ ap (told (a .driver) await) (sym (closing-seen (coro w (a .coro))))
-    ∙ (λ i. toldTo (sym e i) await (seenIn (λ x. x .closing) (seenOf (coro w (sym q i)))))
+    ∙ ap (suspensionNumber (a .driver) await) (sym (closing-seen (coro w (a .coro))))
+    ∙ (λ i. suspensionNumberTo (sym e i) await (seenIn (λ x. x .closing) (seenOf (coro w (sym q i)))))
 
-pub heard : (c : ℕ) (w : World) (k : Call) → D.Suspends steps c w k → numberOf (step w k .answer) ≡ toldTo (w .chain) (isAwait (doing (viewOf w) (opOf k))) (seenIn (λ x. x .closing) (viewOf w .coro c))
+pub heard : (c : ℕ) (w : World) (k : Call) → D.Suspends steps c w k → numberOf (step w k .answer) ≡ suspensionNumberTo (w .chain) (isAwait (announcedBy (viewOf w) (modelOp k))) (seenIn (λ x. x .closing) (viewOf w .coro c))
 heard c w k g = go (next w k) (step-case w k) (h .after)
   where
     h : Suspends c w k
     h = suspends-old c w k g
 
-    go : {k : Call} (z : World) → StepCase w k z → isSuspended (coreAt z c .state) ≡ true → numberOf (step w k .answer) ≡ toldTo (w .chain) (isAwait (doing (viewOf w) (opOf k))) (seenIn (λ x. x .closing) (viewOf w .coro c))
+    go : {k : Call} (z : World) → StepCase w k z → isSuspended (coreAt z c .state) ≡ true → numberOf (step w k .answer) ≡ suspensionNumberTo (w .chain) (isAwait (announcedBy (viewOf w) (modelOp k))) (seenIn (λ x. x .closing) (viewOf w .coro c))
     go z (anew s e) a = no-both a (ap (λ x. isSuspended (coreIn x .state)) (fresh-absent s c))
     go z (same k e) a = no-both a (run-susp (coreAt w c .state) (h .before))
     go z (Claim.does o e) a =
         let s = suspended-one c (shape w (o .op)) (run-susp (coreAt w c .state) (h .before)) a in
-        let await = isAwait (doing (viewOf w) (opOf (Do o))) in
+        let await = isAwait (announcedBy (viewOf w) (modelOp (Do o))) in
         ap numberOf (number-sound w o e) ∙ call-number w e (o .op) (ap aimsTo (s .by)) .which (s .says .takes) ∙ told-seen w (s .body) (s .chain) c await (s .suspend .inmost) (s .its-own)

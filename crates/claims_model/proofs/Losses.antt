@@ -36,13 +36,13 @@ use Rattle.model.specs.declared.call.Answer.{Answer}
 use Rattle.claims_sound.proofs.Sound.{sound→}
 use Rattle.claims_sound.proofs.Point.{finds}
 use Rattle.claims_sound.proofs.Slots.{runs-among}
-use Rattle.claims_model.specs.Engine.{is}
+use Rattle.claims_model.specs.Engine.{stateIs}
 use Rattle.claims_model.specs.Engine as Engine
 use Rattle.claims_model.specs.Held.{at}
-use Rattle.claims_model.specs.Says.{Does, nothing, gets, closes}
+use Rattle.claims_model.specs.Says.{Announced, nothing, gets, closes}
 use Rattle.claims_model.specs.Events as Said
 use Rattle.claims_model.specs.Events.{among, lost, lostAt, raised, Lost, thrown, escapes}
-use Rattle.claims_model.specs.Steps.{seenOf, viewOf, opOf, steps}
+use Rattle.claims_model.specs.Steps.{seenOf, viewOf, modelOp, steps}
 use Rattle.claims_model.specs.Touches.{May}
 use Rattle.claims_model.proofs.Entry.{act}
 use Rattle.claims_model.proofs.Held.{Seat, coreIn, coreAt}
@@ -269,7 +269,7 @@ module _ (w : World) (h : sound w ≡ true) (c : ℕ) (r : isRunning (coreAt w c
       go : (p : Op) → p ≡ Op.StopRun → {n : ℕ} → Lost (viewOf w) n c (some p)
       go p e {n} = subst (λ q. Lost (viewOf w) n c (some q)) (sym e) Said.stops
 
-  call-lost : {o : Op} {a : E.Act} {d : Does} → act w o ≡ a → isFailed (coreAt (call o w .world) c .state) ≡ true → Kind w o a d → Lost (viewOf w) (numberOf (call o w .answer)) c (some o)
+  call-lost : {o : Op} {a : E.Act} {d : Announced} → act w o ≡ a → isFailed (coreAt (call o w .world) c .state) ≡ true → Kind w o a d → Lost (viewOf w) (numberOf (call o w .answer)) c (some o)
   unfolding call
   call-lost {o} q l (k-at e i) = by-stop o (ap S.isEnding q) l
   call-lost {o} q l (k-host u x) = by-stop o refl l
@@ -299,25 +299,25 @@ module _ (w : World) (h : sound w ≡ true) (c : ℕ) (r : isRunning (coreAt w c
       go (inr (inl x)) = x
       go (inr (inr x)) = no-both (x .0) (run-born (coreAt w c .state) r)
 
-pub is-failed : (w : World) (c : ℕ) → is (viewOf w) Said.failed c ≡ isFailed (coreAt w c .state)
+pub is-failed : (w : World) (c : ℕ) → stateIs (viewOf w) Said.seenFailed c ≡ isFailed (coreAt w c .state)
 is-failed w c = go (coro w c)
   where
-    go : (x : Coroutine) → Engine.seenIn (λ y. Said.failed (y .state)) (seenOf x) ≡ isFailed (coreIn x .state)
+    go : (x : Coroutine) → Engine.seenIn (λ y. Said.seenFailed (y .state)) (seenOf x) ≡ isFailed (coreIn x .state)
     go Absent = refl
     go (Is k r) = refl
 
-pub fails-by : (c : ℕ) (w : World) (k : Call) → Said.Fails steps c w k → Lost (viewOf w) (numberOf (step w k .answer)) c (opOf k)
+pub fails-by : (c : ℕ) (w : World) (k : Call) → Said.Fails steps c w k → Lost (viewOf w) (numberOf (step w k .answer)) c (modelOp k)
 fails-by c w k g = go (next w k) (step-case w k) (sym (is-failed (next w k) c) ∙ g .after)
   where
     ran : isRunning (coreAt w c .state) ≡ true
     ran = sym (is-runs w c) ∙ g .before
 
-    go : {k : Call} (z : World) → StepCase w k z → isFailed (coreAt z c .state) ≡ true → Lost (viewOf w) (numberOf (step w k .answer)) c (opOf k)
+    go : {k : Call} (z : World) → StepCase w k z → isFailed (coreAt z c .state) ≡ true → Lost (viewOf w) (numberOf (step w k .answer)) c (modelOp k)
     go z (anew s e) a = no-both a (ap (λ x. isFailed (coreIn x .state)) (fresh-absent s c))
     go z (same k e) a = no-both a (run-fails (coreAt w c .state) ran)
     go z (Claim.does o e) a = subst (λ y. Lost (viewOf w) (numberOf y) c (some (o .op))) (sym (number-sound w o e)) (call-lost w e c ran refl a (kind-of w (o .op)))
 
-pub failed-by : (c : ℕ) (w : World) (k : Call) → sound w ≡ true → is (viewOf w) Engine.runs c ≡ true → Lost (viewOf w) (numberOf (step w k .answer)) c (opOf k) → Said.Fails steps c w k
+pub failed-by : (c : ℕ) (w : World) (k : Call) → sound w ≡ true → stateIs (viewOf w) Engine.seenRunning c ≡ true → Lost (viewOf w) (numberOf (step w k .answer)) c (modelOp k) → Said.Fails steps c w k
 unfolding named
 failed-by c w (SetUp s) h b l = no-both (lost-named l) refl
 failed-by c w (Do o) h b l =

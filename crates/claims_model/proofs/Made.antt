@@ -34,9 +34,9 @@ use Rattle.model.specs.declared.coro.WordOr.{WordOr}
 use Rattle.model.specs.declared.call.OptPc.{OptPc}
 use Rattle.model.specs.declared.call.Op.{Op}
 use Rattle.claims_model.specs.Engine.{Seen}
-use Rattle.claims_model.specs.Says.{word}
+use Rattle.claims_model.specs.Says.{registerWord}
 use Rattle.claims_model.specs.Made.{arguments, made, Creates}
-use Rattle.claims_model.specs.Steps.{seenOf, rulesOf, viewOf, opOf, steps}
+use Rattle.claims_model.specs.Steps.{seenOf, rulesOf, viewOf, modelOp, steps}
 use Rattle.claims_model.proofs.Held.{Seat, coreIn, coreAt}
 use Rattle.claims_model.proofs.Cores.{objectIn, push-cases}
 use Rattle.claims_model.proofs.Enters.{charge-none}
@@ -141,7 +141,7 @@ abbrev NewBy : World → ℕ → ℕ → ℕ → Seen → Type 0
 NewBy w dst f argc x = x ≡ made (rulesOf (w .setup)) f 0 (arguments (viewOf w) dst argc)
 
 abbrev MadeBy : World → ℕ → ℕ → ℕ → Seen → Type 0
-MadeBy w dst r argc x = (f : ℕ) × (x ≡ made (rulesOf (w .setup)) f (word (viewOf w) r) (arguments (viewOf w) dst argc))
+MadeBy w dst r argc x = (f : ℕ) × (x ≡ made (rulesOf (w .setup)) f (registerWord (viewOf w) r) (arguments (viewOf w) dst argc))
 
 module _ (w : World) (c : ℕ) (e : coro w c ≡ Absent) where
   here : {p : ℕ} {v : World} → Alike p w v → coro v c ≡ Absent
@@ -175,7 +175,7 @@ module _ (w : World) (c : ℕ) (e : coro w c ≡ Absent) where
 
 -- by a step
 stepped : (c : ℕ) (w : World) (k : Call) (o : Op) (Q : Seen → Type 0) → ((e : coro w c ≡ Absent) (x : Seen) → coreAt (call o w .world) c .seen ≡ some x → Q x)
-    → (x : Seen) → opOf k ≡ some o → viewOf w .coro c ≡ none → viewOf (step w k .world) .coro c ≡ some x → Q x
+    → (x : Seen) → modelOp k ≡ some o → viewOf w .coro c ≡ none → viewOf (step w k .world) .coro c ≡ some x → Q x
 unfolding step tested pick
 stepped c w (SetUp s) o Q f x q n = let z : _≡_ {A = ℕ} 0 1 = cc in absurd (omega arith)
 stepped c w (Do j) o Q f x q n = go (sound w)

@@ -44,10 +44,10 @@ use Rattle.model.specs.declared.call.OptPc.{OptPc}
 use Rattle.model.specs.declared.call.Op.{Op}
 use Rattle.claims_sound.proofs.Sound.{facts, sound→}
 use Rattle.claims_model.specs.Engine.{Seen}
-use Rattle.claims_model.specs.Says.{word}
+use Rattle.claims_model.specs.Says.{registerWord}
 use Rattle.claims_model.specs.Held.{into}
 use Rattle.claims_model.specs.Made.{arguments, made, Came, Named, Hooked}
-use Rattle.claims_model.specs.Steps.{seenOf, rulesOf, viewOf, opOf}
+use Rattle.claims_model.specs.Steps.{seenOf, rulesOf, viewOf, modelOp}
 use Rattle.claims_model.proofs.Held.{coreIn, coreAt}
 use Rattle.claims_model.proofs.Cores.{no-both, and-right, objectIn, find}
 use Rattle.claims_model.proofs.Quiet.{Same}
@@ -256,7 +256,7 @@ abbrev NewIs : World → ℕ → ℕ → ℕ → Seen
 NewIs w dst f argc = made (rulesOf (w .setup)) f 0 (arguments (viewOf w) dst argc)
 
 abbrev OfIs : World → ℕ → ℕ → ℕ → ℕ → Seen
-OfIs w dst r argc f = made (rulesOf (w .setup)) f (word (viewOf w) r) (arguments (viewOf w) dst argc)
+OfIs w dst r argc f = made (rulesOf (w .setup)) f (registerWord (viewOf w) r) (arguments (viewOf w) dst argc)
 
 abbrev NamedBy : ℕ → ℕ → ℕ → World → World → Type 0
 NamedBy dst f argc w z = Named (viewOf w) dst (NewIs w dst f argc) (viewOf z)
@@ -305,11 +305,11 @@ module _ (w : World) (h : sound w ≡ true) where
           (indirect-born v (few-alike h a) dst r argc (Of dst r argc) (of-alike a dst r argc)) n in
           (q .0, subst (λ x. Hooked (viewOf w) pc dst x (viewOf (spawnWith (Opt.Some hook) pc dst r argc v .world))) (q .1) t)
 
-pub named : (w : World) (k : Call) (pc dst f argc : ℕ) → opOf k ≡ some (Op.CoroNew pc dst f argc) → numberOf (step w k .answer) ≡ 0 → NamedBy dst f argc w (step w k .world)
+pub named : (w : World) (k : Call) (pc dst f argc : ℕ) → modelOp k ≡ some (Op.CoroNew pc dst f argc) → numberOf (step w k .answer) ≡ 0 → NamedBy dst f argc w (step w k .world)
 named w k pc dst f argc = let o = Op.CoroNew pc dst f argc in stepped (NamedBy dst f argc) o (λ w. tested-zero w o (NamedBy dst f argc w) (λ h. new-named w h pc dst f argc)) w k
 
-pub named-indirect : (w : World) (k : Call) (pc dst r argc : ℕ) → opOf k ≡ some (Op.CoroNewIndirect pc dst r argc) → numberOf (step w k .answer) ≡ 0 → NamedOf dst r argc w (step w k .world)
+pub named-indirect : (w : World) (k : Call) (pc dst r argc : ℕ) → modelOp k ≡ some (Op.CoroNewIndirect pc dst r argc) → numberOf (step w k .answer) ≡ 0 → NamedOf dst r argc w (step w k .world)
 named-indirect w k pc dst r argc = let o = Op.CoroNewIndirect pc dst r argc in stepped (NamedOf dst r argc) o (λ w. tested-zero w o (NamedOf dst r argc w) (λ h. indirect-named w h pc dst r argc)) w k
 
-pub hook-called : (w : World) (k : Call) (pc dst r argc : ℕ) → opOf k ≡ some (Op.Spawn pc dst r argc) → numberOf (step w k .answer) ≡ 0 → HookedOf pc dst r argc w (step w k .world)
+pub hook-called : (w : World) (k : Call) (pc dst r argc : ℕ) → modelOp k ≡ some (Op.Spawn pc dst r argc) → numberOf (step w k .answer) ≡ 0 → HookedOf pc dst r argc w (step w k .world)
 hook-called w k pc dst r argc = let o = Op.Spawn pc dst r argc in stepped (HookedOf pc dst r argc) o (λ w. tested-zero w o (HookedOf pc dst r argc w) (λ h. spawned w h pc dst r argc)) w k

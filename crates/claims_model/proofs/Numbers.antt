@@ -39,8 +39,8 @@ use Rattle.model.specs.declared.exec.Step.{Step}
 use Rattle.model.specs.declared.call.OptPc.{OptPc}
 use Rattle.model.specs.declared.call.Op.{Op}
 use Rattle.model.specs.declared.call.Answer.{Answer}
-use Rattle.claims_model.specs.Says.{Does, does}
-use Rattle.claims_model.specs.Events.{isAwait, told}
+use Rattle.claims_model.specs.Says.{Announced, announced}
+use Rattle.claims_model.specs.Events.{isAwait, suspensionNumber}
 use Rattle.claims_model.specs.Steps.{viewOf}
 use Rattle.claims_model.proofs.Entry as E
 use Rattle.claims_model.proofs.Entry.{yields, yieldsKv, waits, resumes, throws, shuts, turns, act}
@@ -61,7 +61,7 @@ okNumber n = eqb n 0 || eqb n 2 || eqb n 6
 -- what the innermost is told
 abbrev pub toldOn : List Active → (ℕ → Coroutine) → Bool → ℕ
 toldOn [] f await = 0
-toldOn (a ∷ chain) f await = told (a .driver) await (marked (λ r. r .closing) (f (a .coro)))
+toldOn (a ∷ chain) f await = suspensionNumber (a .driver) await (marked (λ r. r .closing) (f (a .coro)))
 
 -- n is answered where coro_suspend accepts at w, or does not
 pub record Tells (w : World) (await : Bool) (n : ℕ) (b : Bool) : Type 0 where
@@ -92,7 +92,7 @@ delivered-number Driver.Host e w = refl
 delivered-number Driver.Finalize e w = refl
 
 delivered-told : (d : Driver) (await closing : Bool) (x key : ℕ) (w : World)
-    → stepNumber (andThen (deliver d (pick await (Event.Awaiting x) (pick closing Event.CloseIgnored (Event.Yielded x key))) w) delivered .answer) ≡ told d await closing
+    → stepNumber (andThen (deliver d (pick await (Event.Awaiting x) (pick closing Event.CloseIgnored (Event.Yielded x key))) w) delivered .answer) ≡ suspensionNumber d await closing
 unfolding deliver pick
 delivered-told (Driver.Resume r) true b x key w = refl
 delivered-told (Driver.Resume r) false true x key w = refl
@@ -124,8 +124,8 @@ suspend-number pc s dst x keys v there = go (v .chain) refl
             record {
               ok = delivered-number (a .driver) (Coro.eventOf s x (setKeys keys r)) z;
               which = λ _. delivered-told (a .driver) (isAwaiting s) (setKeys keys r .closing) x (setKeys keys r .key) z
-                  ∙ ap (told (a .driver) (isAwaiting s)) (keys-closing keys r)
-                  ∙ ap (λ y. told (a .driver) (isAwaiting s) (marked (λ r. r .closing) y)) (sym q)
+                  ∙ ap (suspensionNumber (a .driver) (isAwaiting s)) (keys-closing keys r)
+                  ∙ ap (λ y. suspensionNumber (a .driver) (isAwaiting s) (marked (λ r. r .closing) y)) (sym q)
                   ∙ ap (λ cs. toldOn cs (coro v) (isAwaiting s)) (sym e);
             }
 
@@ -240,8 +240,8 @@ aimsTo (E.finishes kind x) = false
 aimsTo E.unwinds = false
 aimsTo E.other = false
 
-kind-number : (w : World) → sound w ≡ true → {o : Op} {a : E.Act} {d : Does} → Kind w o a d → aimsTo a ≡ true
-    → Tells w (isAwait (does (viewOf w) o)) (numberOf (call o w .answer)) (takesBy (act w o) (suspendsIn o) w)
+kind-number : (w : World) → sound w ≡ true → {o : Op} {a : E.Act} {d : Announced} → Kind w o a d → aimsTo a ≡ true
+    → Tells w (isAwait (announced (viewOf w) o)) (numberOf (call o w .answer)) (takesBy (act w o) (suspendsIn o) w)
 unfolding call
 kind-number w h (k-at e (to-suspend (yields pc dst src))) q = instr-number w h pc _ (yield pc dst src) (suspendsIn (Op.Yield pc dst src)) false (yield-number pc dst src)
 kind-number w h (k-at e (to-suspend (yieldsKv pc dst src key))) q = instr-number w h pc _ (yieldKv pc dst src key) (suspendsIn (Op.YieldKv pc dst src key)) false (yieldKv-number pc dst src key)
@@ -256,5 +256,5 @@ kind-number w h (k-finish kind x) q = no-both q refl
 kind-number w h (k-raise f pc) q = no-both q refl
 kind-number w h (k-other e) q = no-both q refl
 
-pub call-number : (w : World) → sound w ≡ true → (o : Op) → aimsTo (act w o) ≡ true → Tells w (isAwait (does (viewOf w) o)) (numberOf (call o w .answer)) (takesBy (act w o) (suspendsIn o) w)
+pub call-number : (w : World) → sound w ≡ true → (o : Op) → aimsTo (act w o) ≡ true → Tells w (isAwait (announced (viewOf w) o)) (numberOf (call o w .answer)) (takesBy (act w o) (suspendsIn o) w)
 call-number w h o q = kind-number w h (kind-of w o) q

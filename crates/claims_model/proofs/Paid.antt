@@ -20,7 +20,7 @@ use Rattle.model.specs.declared.machine.Driver.{Driver}
 use Rattle.model.specs.declared.exec.Step.{Step}
 use Rattle.model.specs.declared.call.OptPc.{OptPc}
 use Rattle.model.specs.declared.call.Answer.{Answer}
-use Rattle.claims_model.specs.Engine.{View, sleeps, is}
+use Rattle.claims_model.specs.Engine.{View, seenSuspended, stateIs}
 use Rattle.claims_model.specs.Says.{nothing, closes, fits, Entry, entry, cleaned, banked, charged}
 use Rattle.claims_model.specs.Events.{goesOn}
 use Rattle.claims_model.specs.Asks.{PaidFor}
@@ -92,7 +92,7 @@ zero-went w pc ok arm = gate (isNil (w .frames)) refl ok refl
 none-cleaned : (v : View) (pc p : ℕ) (q : List ℕ) → cleaned v pc q ≡ none → cleaned v p q ≡ none
 unfolding pick
 none-cleaned v pc p [] h = refl
-none-cleaned v pc p (c ∷ q) h = go (is v sleeps c && fits v c) (none-cleaned v pc p q) h
+none-cleaned v pc p (c ∷ q) h = go (stateIs v seenSuspended c && fits v c) (none-cleaned v pc p q) h
   where
     go : (b : Bool) → (cleaned v pc q ≡ none → cleaned v p q ≡ none) → pick b (some (entry c Driver.Finalize (closes 0) pc)) (cleaned v pc q) ≡ none → pick b (some (entry c Driver.Finalize (closes 0) p)) (cleaned v p q) ≡ none
     go true f e = let z : _≡_ {A = ℕ} 0 1 = cc in absurd (omega arith)

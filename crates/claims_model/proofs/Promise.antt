@@ -44,12 +44,12 @@ use Rattle.claims_sound.proofs.Sound.{sound→, →sound}
 use Rattle.claims_sound.proofs.Coros.{fuel-move}
 use Rattle.claims_invariant.proofs.Call.{call-keeps}
 use Rattle.claims_model.specs.Engine as Engine
-use Rattle.claims_model.specs.Engine.{Turn, calls}
+use Rattle.claims_model.specs.Engine.{Turn, turnCall}
 use Rattle.claims_model.specs.Demand3.{Restarts}
-use Rattle.claims_model.specs.Says.{Does}
-use Rattle.claims_model.specs.Events.{Healthy, raised, endsAt}
-use Rattle.claims_model.specs.Promise.{plain, room, Roomy, Makes, converts, unbanked, fuelSound, Eleven, sets-up, no-fault, Soundness, Fresh, registers, Refuels, NotEmpty, Promise}
-use Rattle.claims_model.specs.Steps.{seenOf, rulesOf, viewOf, opOf, asksOf, looks, steps}
+use Rattle.claims_model.specs.Says.{Announced}
+use Rattle.claims_model.specs.Events.{Healthy, raised, unwindNumberAt}
+use Rattle.claims_model.specs.Promise.{plain, bytesFit, Roomy, IntFits, converts, unbanked, fuelSound, Eleven, sets-up, no-fault, Soundness, Fresh, topRegisters, Refuels, NotEmpty, Promise}
+use Rattle.claims_model.specs.Steps.{seenOf, rulesOf, viewOf, modelOp, modelAsks, looks, steps}
 use Rattle.claims_model.specs.Story.{wide, f, c, held}
 use Rattle.claims_model.specs.Premises.{premises}
 use Rattle.claims_model.specs.Witness.{nth, between, waiting, frame}
@@ -67,7 +67,7 @@ use Rattle.claims_model.proofs.Touches.{touches}
 use Rattle.claims_model.proofs.Made.{creates}
 use Rattle.claims_model.proofs.Asks.{asks}
 use Rattle.claims_model.proofs.Values.{can-make, word-in}
-use Rattle.claims_model.proofs.Undone.{accepts-close, accepts-throw-new}
+use Rattle.claims_model.proofs.Undone.{accepts-close, accepts-throw-created}
 use Rattle.claims_model.proofs.Roomy.{await-takes, kv-takes, yield-takes}
 
 -- ---- soundness
@@ -118,14 +118,14 @@ unraised v Fault.GrantTooLarge h = refl
 unraised v (Fault.Throw x) h = no-both refl h
 
 -- only an unwind can be given what it does not take
-unput : (w : World) {o : Op} {a : Act} {d : Does} → raises (table o) ≡ false → Kind w o a d → Eleven (viewOf w) (some o)
+unput : (w : World) {o : Op} {a : Act} {d : Announced} → raises (table o) ≡ false → Kind w o a d → Eleven (viewOf w) (some o)
 unput w h (k-at e i) = no-both (ap raises e) h
 unput w h (k-host c x) = no-both refl h
 unput w h (k-finish kind x) = no-both refl h
 unput w h (k-raise f pc) = no-fault f pc (unraised (viewOf w) f h) (λ e. no-both (ap raisable e) h) (λ e. no-both (ap raisable e) h)
 unput w h (k-other e) = no-both e h
 
-eleven : (w : World) (k : Call) → sound w ≡ true → numberOf (step w k .answer) ≡ 11 → Eleven (viewOf w) (opOf k)
+eleven : (w : World) (k : Call) → sound w ≡ true → numberOf (step w k .answer) ≡ 11 → Eleven (viewOf w) (modelOp k)
 eleven w (SetUp s) h n = sets-up
 eleven w (Do o) h n = unput w (go (raises (table (o .op))) refl) (kind-of w (o .op))
   where
@@ -177,32 +177,32 @@ finish-zero kind x w here gone = go (w .frames)
     go [] = refl
     go (f ∷ fs) = top (f .cont) f fs
 
-finish-call : (w : World) (k : Call) (kind : ResultKind) (x : ℕ) → Healthy steps w → opOf k ≡ some (Op.Finish kind x) → (x < 2 ^ 64 → numberOf (finish kind x w .answer) ≡ 0) → numberOf (step w k .answer) ≡ 0
+finish-call : (w : World) (k : Call) (kind : ResultKind) (x : ℕ) → Healthy steps w → modelOp k ≡ some (Op.Finish kind x) → (x < 2 ^ 64 → numberOf (finish kind x w .answer) ≡ 0) → numberOf (step w k .answer) ≡ 0
 unfolding call
 finish-call w (SetUp s) kind x h e p = let z : _≡_ {A = ℕ} 0 1 = cc in absurd (omega arith)
 finish-call w (Do o) kind x h e p = ap numberOf (number-sound w o (healthy-sound w h)) ∙ ap (λ q. numberOf (call q w .answer)) (some-op e) ∙ p (word-in (o .op) kind x (some-op e) (o .within))
 
-accepts-finish : (w : World) (k : Call) (kind : ResultKind) (x : ℕ) → Healthy steps w → opOf k ≡ some (Op.Finish kind x) → plain kind ≡ true → numberOf (step w k .answer) ≡ 0
+accepts-finish : (w : World) (k : Call) (kind : ResultKind) (x : ℕ) → Healthy steps w → modelOp k ≡ some (Op.Finish kind x) → plain kind ≡ true → numberOf (step w k .answer) ≡ 0
 accepts-finish w k kind x h e p = finish-call w k kind x h e (λ l. finish-zero kind x w (λ g q. plain-made kind x w g p q) (λ f fs g q. plain-made kind x (popTo f fs w) g p q))
 
-accepts-integer : (w : World) (k : Call) (kind : ResultKind) (x : ℕ) → Healthy steps w → opOf k ≡ some (Op.Finish kind x) → Makes (viewOf w) → converts kind x ≡ true → numberOf (step w k .answer) ≡ 0
+accepts-integer : (w : World) (k : Call) (kind : ResultKind) (x : ℕ) → Healthy steps w → modelOp k ≡ some (Op.Finish kind x) → IntFits (viewOf w) → converts kind x ≡ true → numberOf (step w k .answer) ≡ 0
 accepts-integer w k kind x h e m p =
     finish-call w k kind x h e (λ l. finish-zero kind x w (can-make w kind x l p (m .bytes) (m .slot)) (λ f fs. can-make (popTo f fs w) kind x l p (m .bytes) (m .slot)))
 
 -- an unwind at a machine that is not refused
-unwinds : (w : World) (k : Call) (f : Fault) (pc : OptPc) → sound w ≡ true → opOf k ≡ some (Op.Unwind f pc) → numberOf (step w k .answer) ≡ numberOf (unwind f pc w .answer)
+unwinds : (w : World) (k : Call) (f : Fault) (pc : OptPc) → sound w ≡ true → modelOp k ≡ some (Op.Unwind f pc) → numberOf (step w k .answer) ≡ numberOf (unwind f pc w .answer)
 unfolding call
 unwinds w (SetUp s) f pc h e = let z : _≡_ {A = ℕ} 0 1 = cc in absurd (omega arith)
 unwinds w (Do o) f pc h e = ap numberOf (number-sound w o h) ∙ ap (λ p. numberOf (call p w .answer)) (some-op e)
 
-accepts-throw : (w : World) (k : Call) (x : ℕ) (pc : OptPc) → Healthy steps w → opOf k ≡ some (Op.Unwind (Fault.Throw x) pc) → numberOf (step w k .answer) ≡ endsAt (viewOf w) x pc
+accepts-throw : (w : World) (k : Call) (x : ℕ) (pc : OptPc) → Healthy steps w → modelOp k ≡ some (Op.Unwind (Fault.Throw x) pc) → numberOf (step w k .answer) ≡ unwindNumberAt (viewOf w) x pc
 accepts-throw w k x pc h e = unwinds w k (Fault.Throw x) pc (healthy-sound w h) e ∙ throw-answer w (healthy-sound w h) x pc
 
-accepts-raise : (w : World) (k : Call) (f : Fault) (pc : OptPc) (x : ℕ) → Healthy steps w → opOf k ≡ some (Op.Unwind f pc) → ((y : ℕ) → f ≡ Fault.Throw y → ⊥) → raised (viewOf w) f ≡ some x
-    → let v = viewOf w in numberOf (step w k .answer) ≡ pick (room v (v .rules .errorCost)) (pick (v .full) 14 (endsAt v x pc)) 9
+accepts-raise : (w : World) (k : Call) (f : Fault) (pc : OptPc) (x : ℕ) → Healthy steps w → modelOp k ≡ some (Op.Unwind f pc) → ((y : ℕ) → f ≡ Fault.Throw y → ⊥) → raised (viewOf w) f ≡ some x
+    → let v = viewOf w in numberOf (step w k .answer) ≡ pick (bytesFit v (v .rules .errorCost)) (pick (v .full) 14 (unwindNumberAt v x pc)) 9
 accepts-raise w k f pc x h e n q = unwinds w k f pc (healthy-sound w h) e ∙ raise-answer w (healthy-sound w h) f pc x n q
 
-accepts-pass : (w : World) (k : Call) (f : Fault) (pc : OptPc) → Healthy steps w → opOf k ≡ some (Op.Unwind f pc) → raised (viewOf w) f ≡ none
+accepts-pass : (w : World) (k : Call) (f : Fault) (pc : OptPc) → Healthy steps w → modelOp k ≡ some (Op.Unwind f pc) → raised (viewOf w) f ≡ none
     → numberOf (step w k .answer) ≡ pick (eqb (Faults.numberOf f) 9 || eqb (Faults.numberOf f) 10) (Faults.numberOf f) 11
 accepts-pass w k f pc h e q = unwinds w k f pc (healthy-sound w h) e ∙ pass-answer w (healthy-sound w h) f pc q
 
@@ -229,7 +229,7 @@ set-up-begun w (SetUp s) r = go (setupOk s) (r .accepted)
     go true n = begins-fresh s
     go false n = absurd (omega (arith, n))
 
-set-up-given : (w : World) (k : Call) → Restarts steps w k → asksOf k ≡ some (rulesOf (step w k .world .setup))
+set-up-given : (w : World) (k : Call) → Restarts steps w k → modelAsks k ≡ some (rulesOf (step w k .world .setup))
 unfolding step pick
 set-up-given w (Do o) r = let q = r .sets-up in let z : _≡_ {A = ℕ} 0 1 = cc in absurd (omega arith)
 set-up-given w (SetUp s) r = go (setupOk s) (r .accepted)
@@ -238,7 +238,7 @@ set-up-given w (SetUp s) r = go (setupOk s) (r .accepted)
     go true n = refl
     go false n = absurd (omega (arith, n))
 
-set-up-refused : (w : World) (k : Call) → opOf k ≡ none → (numberOf (step w k .answer) ≡ 0 → ⊥) → (numberOf (step w k .answer) ≡ 11) × (viewOf (step w k .world) ≡ viewOf w)
+set-up-refused : (w : World) (k : Call) → modelOp k ≡ none → (numberOf (step w k .answer) ≡ 0 → ⊥) → (numberOf (step w k .answer) ≡ 11) × (viewOf (step w k .world) ≡ viewOf w)
 unfolding step pick
 set-up-refused w (Do o) e n = let z : _≡_ {A = ℕ} 0 1 = cc in absurd (omega arith)
 set-up-refused w (SetUp s) e n = go (setupOk s) n
@@ -247,11 +247,11 @@ set-up-refused w (SetUp s) e n = go (setupOk s) n
     go true n = absurd (n refl)
     go false n = (refl, refl)
 
-the-part : (fs : List Frame) (xs : List ℕ) → registersOn fs xs ≡ registers fs xs
+the-part : (fs : List Frame) (xs : List ℕ) → registersOn fs xs ≡ topRegisters fs xs
 the-part [] xs = refl
 the-part (f ∷ fs) xs = refl
 
-look-sees : (w : World) → Healthy steps w → looks w ≡ registers (w .frames) (w .stack)
+look-sees : (w : World) → Healthy steps w → looks w ≡ topRegisters (w .frames) (w .stack)
 unfolding step tested call pick Added.registers
 look-sees w h = ap (λ b. pick b (call Op.Look w) (told (refused w Fault.Unsound)) .seen) (healthy-sound w h) ∙ the-part (w .frames) (w .stack)
 
@@ -263,7 +263,7 @@ look-unseen w h = go (sound w) refl
     go true e = absurd (h (sound-healthy w e))
     go false e = refl
 
-look-unmoved : (w : World) (k : Call) → opOf k ≡ some Op.Look → viewOf (step w k .world) ≡ viewOf w
+look-unmoved : (w : World) (k : Call) → modelOp k ≡ some Op.Look → viewOf (step w k .world) ≡ viewOf w
 unfolding step tested call pick
 look-unmoved w (SetUp s) e = let z : _≡_ {A = ℕ} 0 1 = cc in absurd (omega arith)
 look-unmoved w (Do o) e = go (sound w)
@@ -280,7 +280,7 @@ refuelled w f = refl
 -- ---- not empty: the split that Witness.antt shows as lists
 
 unfoldable pub before : List (Turn Call)
-before = map calls (drop 1 (take 13 held))
+before = map turnCall (drop 1 (take 13 held))
 
 begins : step (fresh wide) (SetUp wide) .answer ≡ Answer.Accepted
 unfolding computed
@@ -290,20 +290,20 @@ begins-at : step (fresh wide) (SetUp wide) .world ≡ fresh wide
 unfolding computed
 begins-at = refl
 
-split-met : premises steps c (Engine.run steps (step (fresh wide) (SetUp wide) .world) before) (nth held 13) waiting (nth held 23) (between held 23 26) (nth held 26) ≡ true
+split-met : premises steps c (Engine.runTurns steps (step (fresh wide) (SetUp wide) .world) before) (nth held 13) waiting (nth held 23) (between held 23 26) (nth held 26) ≡ true
 unfolding computed before
 split-met = refl
 
 -- where c yields, it has room
-sound-there : sound (Engine.run steps (fresh wide) before) ≡ true
+sound-there : sound (Engine.runTurns steps (fresh wide) before) ≡ true
 unfolding computed before
 sound-there = refl
 
-pub roomy-met : Roomy steps (wide .costs .int) c (Engine.run steps (fresh wide) before)
+pub roomy-met : Roomy steps (wide .costs .int) c (Engine.runTurns steps (fresh wide) before)
 unfolding computed before
 roomy-met =
     record {
-      healthy = sound-healthy (Engine.run steps (fresh wide) before) sound-there;
+      healthy = sound-healthy (Engine.runTurns steps (fresh wide) before) sound-there;
       paid = λ pc y. refl;
       held = record {
         over = frame 1 0 8 0 (Cont.Dyn 2) ∷ [];
@@ -320,17 +320,17 @@ roomy-met =
       grows = refl;
     }
 
-pub makes-met : Makes (viewOf (Engine.run steps (fresh wide) before))
+pub makes-met : IntFits (viewOf (Engine.runTurns steps (fresh wide) before))
 unfolding computed before
 makes-met = record { slot = refl; bytes = refl }
 
-costs-met : viewOf (Engine.run steps (fresh wide) before) .rules .intCost ≡ wide .costs .int
+costs-met : viewOf (Engine.runTurns steps (fresh wide) before) .rules .intCost ≡ wide .costs .int
 unfolding computed before
 costs-met = refl
 
 pub not-empty : NotEmpty steps
 not-empty =
-    let p = premises-met steps c (Engine.run steps (step (fresh wide) (SetUp wide) .world) before) (nth held 13) waiting (nth held 23) (between held 23 26) (nth held 26) split-met in
+    let p = premises-met steps c (Engine.runTurns steps (step (fresh wide) (SetUp wide) .world) before) (nth held 13) waiting (nth held 23) (between held 23 26) (nth held 26) split-met in
     record {
       start = fresh wide;
       first = SetUp wide;
@@ -343,12 +343,12 @@ not-empty =
       z = nth held 26;
       c = c;
       suspends = p .suspends;
-      roomy = subst (λ w. Roomy steps (viewOf (Engine.run steps w before) .rules .intCost) c (Engine.run steps w before)) (sym begins-at) (subst (λ n. Roomy steps n c (Engine.run steps (fresh wide) before)) (sym costs-met) roomy-met);
-      makes = subst (λ w. Makes (viewOf (Engine.run steps w before))) (sym begins-at) makes-met;
+      roomy = subst (λ w. Roomy steps (viewOf (Engine.runTurns steps w before) .rules .intCost) c (Engine.runTurns steps w before)) (sym begins-at) (subst (λ n. Roomy steps n c (Engine.runTurns steps (fresh wide) before)) (sym costs-met) roomy-met);
+      makes = subst (λ w. IntFits (viewOf (Engine.runTurns steps w before))) (sym begins-at) makes-met;
       waits = p .waits;
       enters = p .enters;
       goes = p .goes;
-      leaves = p .leaves;
+      stops = p .leaves;
     }
 
 -- THE PROMISE
@@ -364,8 +364,8 @@ promise =
         await = λ c w k pc dst src m e l. await-takes w 0 c m k pc dst src e l;
         yield-kv = λ c w k pc dst src key m e l. kv-takes w 0 c m k pc dst src key e l;
         yield = λ c w k pc dst src m s e l. yield-takes w (w .setup .costs .int) c m refl s pc k dst src e l;
-        close-new = λ w k pc dst r src m e l n. accepts-close w pc dst r src m l n k e;
-        throw-new = λ w k pc dst r src m e l n. accepts-throw-new w pc dst r src m l n k e;
+        close-created = λ w k pc dst r src m e l n. accepts-close w pc dst r src m l n k e;
+        throw-created = λ w k pc dst r src m e l n. accepts-throw-created w pc dst r src m l n k e;
         integer = accepts-integer;
         finish = accepts-finish;
         throw = accepts-throw;

@@ -17,12 +17,12 @@ use Rattle.model.specs.Added.{accepted}
 use Rattle.model.specs.Answer.{numberOf}
 use Rattle.model.specs.Call.{Call, SetUp, Do}
 use Rattle.model.specs.Step.{step, told}
-use Rattle.claims_model.specs.Engine.{Turn, calls, refuels, run}
-use Rattle.claims_model.specs.Says.{Does, doing}
+use Rattle.claims_model.specs.Engine.{Turn, turnCall, turnFuel, runTurns}
+use Rattle.claims_model.specs.Says.{Announced, announcedBy}
 use Rattle.claims_model.specs.Held as H
-use Rattle.claims_model.specs.Held.{at, AllMoved, pcOf, waitsIn, stepped, woken, closedBy, By, Entered, Restored}
+use Rattle.claims_model.specs.Held.{at, AllMoved, pcOf, waitsIn, stepped, enteredFrames, closedBy, By, Entered, Restored}
 use Rattle.claims_model.specs.Demand3 as D
-use Rattle.claims_model.specs.Steps.{viewOf, opOf, steps}
+use Rattle.claims_model.specs.Steps.{viewOf, modelOp, steps}
 use Rattle.claims_model.proofs.Entry as E
 use Rattle.claims_model.proofs.Entry.{act, pcBy}
 use Rattle.claims_model.proofs.Held.{Seat, coreIn, coreAt, wordsWith, framesWith}
@@ -59,12 +59,12 @@ restarts-old w (SetUp s) h = go (setupOk s) refl
 
 pub waits-old : (c : ℕ) (w : World) (ts : List (Turn Call)) → D.Waits steps c w ts → Waits c w ts
 waits-old c w [] h = tt
-waits-old c w (refuels f ∷ ts) h = waits-old c (steps .refuel w f) ts h
-waits-old c w (calls k ∷ ts) h = (restarts-old w k (h .0), (λ e. h .1 (record { before = is-runs w c ∙ e .before; after = is-runs (next w k) c ∙ e .after })), waits-old c (next w k) ts (h .2))
+waits-old c w (turnFuel f ∷ ts) h = waits-old c (steps .refuel w f) ts h
+waits-old c w (turnCall k ∷ ts) h = (restarts-old w k (h .0), (λ e. h .1 (record { before = is-runs w c ∙ e .before; after = is-runs (next w k) c ∙ e .after })), waits-old c (next w k) ts (h .2))
 
 -- ---- an entry
 
-unfoldable pub entry-by : (c : ℕ) (w : World) (k : Call) (z : World) → Entering c w k z → By (viewOf w) (opOf k) c
+unfoldable pub entry-by : (c : ℕ) (w : World) (k : Call) (z : World) → Entering c w k z → By (viewOf w) (modelOp k) c
 entry-by c w (SetUp s) z t = no-entry refl (t .by)
 entry-by c w (Do o) z t = record { driver = t .driver; sent = t .sent; pc = pcBy (act w (o .op)); says = whom-told w (t .healthy) (o .op) ∙ ap (Whom.told (pcBy (act w (o .op)))) (sym (entry-sound w o (t .healthy)) ∙ t .by) }
 
@@ -73,7 +73,7 @@ module _ (c : ℕ) (w : World) (k : Call) (z : World) (t : Entering c w k z) whe
   pub back : Body (length (w .stack)) (map (raise (length (w .stack))) (framesWith (t .sent) (coreAt w c)))
   back = raised (length (w .stack)) (lift-with (t .sent) (coreAt w c) (lifts w (t .healthy) c (t .enter .ready) (t .enter .solid)))
 
-unfoldable pub entered-at : (c : ℕ) (w : World) (k : Call) (z : World) (t : Entering c w k z) → Entered (viewOf w) (opOf k) c (viewOf z)
+unfoldable pub entered-at : (c : ℕ) (w : World) (k : Call) (z : World) (t : Entering c w k z) → Entered (viewOf w) (modelOp k) c (viewOf z)
 unfolding entry-by
 entered-at c w (SetUp s) z t = no-entry refl (t .by)
 entered-at c w (Do o) z t =
@@ -86,13 +86,13 @@ entered-at c w (Do o) z t =
       frames = t .enter .frames ∙ (λ i. b .frames i ++ at-top (pcBy (act w (o .op))) (w .frames) i) ∙ append-assoc (b .over) (b .body ∷ []) (at (pcBy (act w (o .op))) (w .frames));
       stack = t .enter .stack;
       its-own = b .its-own;
-      floor = b .floor;
+      body-base = b .floor;
       chain = t .enter .chain;
       closing = closer-at z c ∙ t .enter .closing ∙ ap (closedBy (t .sent)) (sym (closer-at w c));
       saved-words = λ x e.
           t .enter .stack ∙ words-given (t .sent) (coreAt w c) (w .stack) (x .words) (x .waits) (z .frames) (onTop (setPc (pcBy (act w (o .op)))) (w .frames)) (t .enter .solid) (regs-seen (coro w c) x e) (waits-seen (coro w c) x e (t .enter .ready)) (t .enter .frames);
-      saved-frames = λ x e. subst (AllMoved 0 (length (w .stack)) (woken (t .sent) (x .frames)))
-          (ap (map (raise (length (w .stack)))) (ap (woken (t .sent)) (sym (frames-seen (coro w c) x e)) ∙ sym (woken-with (t .sent) (coreAt w c))) ∙ b .frames) (all-raised (length (w .stack)) (woken (t .sent) (x .frames)));
+      saved-frames = λ x e. subst (AllMoved 0 (length (w .stack)) (enteredFrames (t .sent) (x .frames)))
+          (ap (map (raise (length (w .stack)))) (ap (enteredFrames (t .sent)) (sym (frames-seen (coro w c) x e)) ∙ sym (woken-with (t .sent) (coreAt w c))) ∙ b .frames) (all-raised (length (w .stack)) (enteredFrames (t .sent) (x .frames)));
     }
 
 -- ---- what a suspending call finds
@@ -106,14 +106,14 @@ waitsBy (E.finishes kind x) = 0
 waitsBy E.unwinds = 0
 waitsBy E.other = 0
 
-pub alike-pc : {a : E.Act} {d : Does} → Alike a d → pcOf d ≡ pcBy a
+pub alike-pc : {a : E.Act} {d : Announced} → Alike a d → pcOf d ≡ pcBy a
 alike-pc (l-at pc ok a) = refl
 alike-pc (l-host c x) = refl
 alike-pc (l-finish kind x) = refl
 alike-pc (l-raise f pc) = refl
 alike-pc l-other = refl
 
-alike-waits : {a : E.Act} {d : Does} → Alike a d → waitsIn d ≡ waitsBy a
+alike-waits : {a : E.Act} {d : Announced} → Alike a d → waitsIn d ≡ waitsBy a
 alike-waits (l-at pc ok (E.enters c d x may)) = refl
 alike-waits (l-at pc ok (E.suspends s dst x)) = refl
 alike-waits (l-at pc ok E.neither) = refl
@@ -125,9 +125,9 @@ alike-waits l-other = refl
 -- c sleeps with s, which is what k found at v
 pub record Found (v : World) (k : Call) (c : ℕ) (s : Seat) : Type 0 where
   pub held : H.Held (viewOf v) c
-  pub frames : s .frames ≡ map (lower (held .body .base)) (at (pcOf (doing (viewOf v) (opOf k))) (held .over ++ (held .body ∷ [])))
+  pub frames : s .frames ≡ map (lower (held .body .base)) (at (pcOf (announcedBy (viewOf v) (modelOp k))) (held .over ++ (held .body ∷ [])))
   pub regs : s .regs ≡ drop (held .body .base) (v .stack)
-  pub waiting : s .waiting ≡ waitsIn (doing (viewOf v) (opOf k))
+  pub waiting : s .waiting ≡ waitsIn (announcedBy (viewOf v) (modelOp k))
   pub low : Low (held .body .base) (held .over ++ (held .body ∷ []))
 
 pub found : (c : ℕ) (v : World) (k : Call) → Suspends c v k → Found v k c (coreAt (next v k) c)
@@ -141,7 +141,7 @@ found c v k h = go (next v k) (step-case v k) (h .after)
         let t = s .suspend in
         let u = cut-sound v e (s .body) (s .chain) (t .inmost) in
         let mine = ap (coreAt z) (s .its-own) ∙ t .mine in
-        let pc : s .pc ≡ pcOf (doing (viewOf v) (opOf (Do o))) = sym (alike-pc (says-alike v (o .op)) ∙ ap pcBy (s .by)) in
+        let pc : s .pc ≡ pcOf (announcedBy (viewOf v) (modelOp (Do o))) = sym (alike-pc (says-alike v (o .op)) ∙ ap pcBy (s .by)) in
         record {
           held = record {
             over = u .over;
@@ -161,30 +161,30 @@ found c v k h = go (next v k) (step-case v k) (h .after)
 
 -- ---- and what the entry makes of it
 
-restored-as : (c : ℕ) (v : World) (x : Call) (w : World) (y : Call) (z : World) (s : Seat) → Found v x c s → isSuspended (s .state) ≡ true → coreAt w c ≡ s → Entering c w y z → Restored (viewOf v) (opOf x) (viewOf w) (opOf y) c (viewOf z)
+restored-as : (c : ℕ) (v : World) (x : Call) (w : World) (y : Call) (z : World) (s : Seat) → Found v x c s → isSuspended (s .state) ≡ true → coreAt w c ≡ s → Entering c w y z → Restored (viewOf v) (modelOp x) (viewOf w) (modelOp y) c (viewOf z)
 unfolding entry-by entered-at
 restored-as c v x w (SetUp n) z s f a e t = no-entry refl (t .by)
 restored-as c v x w (Do o) z s f a e t =
     record {
       held = f .held;
-      asleep = is-sleeps w c ∙ ap (λ k. isSuspended (k .state)) e ∙ a;
+      suspended = is-sleeps w c ∙ ap (λ k. isSuspended (k .state)) e ∙ a;
       entered = entered-at c w (Do o) z t;
-      moved = subst (AllMoved (f .held .body .base) (length (w .stack)) (at (stepped (t .sent) (pcOf (doing (viewOf v) (opOf x)))) (f .held .over ++ (f .held .body ∷ [])))) (ap (λ k. map (raise (length (w .stack))) (framesWith (t .sent) k)) (sym e) ∙ back c w (Do o) z t .frames)
-          (moved (f .held .body .base) (length (w .stack)) (pcOf (doing (viewOf v) (opOf x))) (t .sent) (f .held .over ++ (f .held .body ∷ [])) s (f .low) (f .frames));
-      words = t .enter .stack ∙ words-given (t .sent) (coreAt w c) (w .stack) (drop (f .held .body .base) (v .stack)) (waitsIn (doing (viewOf v) (opOf x))) (z .frames)
+      moved = subst (AllMoved (f .held .body .base) (length (w .stack)) (at (stepped (t .sent) (pcOf (announcedBy (viewOf v) (modelOp x)))) (f .held .over ++ (f .held .body ∷ [])))) (ap (λ k. map (raise (length (w .stack))) (framesWith (t .sent) k)) (sym e) ∙ back c w (Do o) z t .frames)
+          (moved (f .held .body .base) (length (w .stack)) (pcOf (announcedBy (viewOf v) (modelOp x))) (t .sent) (f .held .over ++ (f .held .body ∷ [])) s (f .low) (f .frames));
+      words = t .enter .stack ∙ words-given (t .sent) (coreAt w c) (w .stack) (drop (f .held .body .base) (v .stack)) (waitsIn (announcedBy (viewOf v) (modelOp x))) (z .frames)
           (onTop (setPc (pcBy (act w (o .op)))) (w .frames)) (t .enter .solid) (ap (λ k. k .regs) e ∙ f .regs) (ap (λ k. k .waiting) e ∙ f .waiting) (t .enter .frames);
     }
 
 -- THE FIRST HALF
-pub entered : (c : ℕ) (w : World) (y : Call) → D.Enters steps c w y → Entered (viewOf w) (opOf y) c (viewOf (next w y))
+pub entered : (c : ℕ) (w : World) (y : Call) → D.Enters steps c w y → Entered (viewOf w) (modelOp y) c (viewOf (next w y))
 entered c w y h = entered-at c w y (next w y) (entering c w y (enters-old c w y h))
 
 pub restored : (c : ℕ) (v : World) (x : Call) (waiting : List (Turn Call)) (y : Call) → D.Suspends steps c v x → D.Waits steps c (next v x) waiting
-    → let w = run steps (next v x) waiting in D.Enters steps c w y → Restored (viewOf v) (opOf x) (viewOf w) (opOf y) c (viewOf (next w y))
+    → let w = runTurns steps (next v x) waiting in D.Enters steps c w y → Restored (viewOf v) (modelOp x) (viewOf w) (modelOp y) c (viewOf (next w y))
 restored c v x waiting y h q e = restored-as c v x w y (next w y) (coreAt (next v x) c) (found c v x s) (s .after) asleep (entering c w y (enters-old c w y e))
   where
     w : World
-    w = run steps (next v x) waiting
+    w = runTurns steps (next v x) waiting
 
     s : Suspends c v x
     s = suspends-old c v x h

@@ -21,7 +21,7 @@ use Rattle.model.specs.declared.call.Op.{Op}
 use Rattle.claims_model.specs.Engine.{Seen}
 use Rattle.claims_model.specs.Events as Said
 use Rattle.claims_model.specs.Events.{raised, endedAs}
-use Rattle.claims_model.specs.Steps.{viewOf, opOf, steps}
+use Rattle.claims_model.specs.Steps.{viewOf, modelOp, steps}
 use Rattle.claims_model.proofs.Held.{coreIn, coreAt}
 use Rattle.claims_model.proofs.Split.{next}
 use Rattle.claims_model.proofs.Cores.{no-both}
@@ -56,20 +56,20 @@ module _ (w : World) (h : sound w ≡ true) (c : ℕ) (r : isRunning (coreAt w c
       go (inr (inr e)) = e
 
 -- a call p that lets c fail, and what it leaves of c
-by-call : (c : ℕ) (w : World) (p : Op) (y : Option Seen) (k : Call) → Said.Fails steps c w k → opOf k ≡ some p
+by-call : (c : ℕ) (w : World) (p : Op) (y : Option Seen) (k : Call) → Said.Fails steps c w k → modelOp k ≡ some p
     → (sound w ≡ true → isRunning (coreAt w c .state) ≡ true → isFailed (coreAt (call p w .world) c .state) ≡ true → coreAt (call p w .world) c .seen ≡ y) → viewOf (next w k) .coro c ≡ y
 by-call c w p y k g o f = go (next w k) (step-case w k) o (sym (is-failed (next w k) c) ∙ g .after)
   where
     ran : isRunning (coreAt w c .state) ≡ true
     ran = sym (is-runs w c) ∙ g .before
 
-    go : {k : Call} (z : World) → StepCase w k z → opOf k ≡ some p → isFailed (coreAt z c .state) ≡ true → viewOf z .coro c ≡ y
+    go : {k : Call} (z : World) → StepCase w k z → modelOp k ≡ some p → isFailed (coreAt z c .state) ≡ true → viewOf z .coro c ≡ y
     go z (anew s e) o a = no-both a (ap (λ x. isFailed (coreIn x .state)) (fresh-absent s c))
     go z (same k e) o a = no-both a (run-fails (coreAt w c .state) ran)
     go z (Claim.does j e) o a = sym (seen-at z c) ∙ subst (λ q. isFailed (coreAt (call q w .world) c .state) ≡ true → coreAt (call q w .world) c .seen ≡ y) (sym (some-op o)) (f e ran) a
 
-pub spoilt : (c : ℕ) (w : World) (k : Call) (f : Fault) (pc : OptPc) (x : ℕ) → Said.Fails steps c w k → opOf k ≡ some (Op.Unwind f pc) → raised (viewOf w) f ≡ some x → viewOf (next w k) .coro c ≡ endedAs CoroState.Failed x
+pub spoilt : (c : ℕ) (w : World) (k : Call) (f : Fault) (pc : OptPc) (x : ℕ) → Said.Fails steps c w k → modelOp k ≡ some (Op.Unwind f pc) → raised (viewOf w) f ≡ some x → viewOf (next w k) .coro c ≡ endedAs CoroState.Failed x
 spoilt c w k f pc x g o e = by-call c w (Op.Unwind f pc) (endedAs CoroState.Failed x) k g o (λ h r l. unwind-spoils w h c r f pc x e l)
 
-pub stopped : (c : ℕ) (w : World) (k : Call) → Said.Fails steps c w k → opOf k ≡ some Op.StopRun → viewOf (next w k) .coro c ≡ endedAs CoroState.Failed 0
+pub stopped : (c : ℕ) (w : World) (k : Call) → Said.Fails steps c w k → modelOp k ≡ some Op.StopRun → viewOf (next w k) .coro c ≡ endedAs CoroState.Failed 0
 stopped c w k g o = by-call c w Op.StopRun (endedAs CoroState.Failed 0) k g o (λ h r l. stop-spoils w h c r)

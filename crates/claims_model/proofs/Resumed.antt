@@ -40,10 +40,10 @@ use Rattle.model.specs.declared.coro.Entered.{Entered}
 use Rattle.model.specs.declared.exec.Step.{Step}
 use Rattle.model.specs.declared.call.OptPc.{OptPc}
 use Rattle.model.specs.declared.call.Op.{Op}
-use Rattle.claims_model.specs.Engine.{ended, seenIn, is}
-use Rattle.claims_model.specs.Says.{word, Sent, gets}
+use Rattle.claims_model.specs.Engine.{seenReturned, seenIn, stateIs}
+use Rattle.claims_model.specs.Says.{registerWord, Sent, gets}
 use Rattle.claims_model.specs.Demand3 as D
-use Rattle.claims_model.specs.Steps.{seenOf, viewOf, opOf, steps}
+use Rattle.claims_model.specs.Steps.{seenOf, viewOf, modelOp, steps}
 use Rattle.claims_model.proofs.Entry as E
 use Rattle.claims_model.proofs.Entry.{act, acceptsAs, accepts, aimed, sentTo, entryBy}
 use Rattle.claims_model.proofs.Split.{next}
@@ -90,7 +90,7 @@ zero-not x a b e = no-both a (ap (ltb 0) e)
 record Own (c : ℕ) (e : E.Entry) : Type 0 where
   driver : Driver
   sent : Sent
-  is : e ≡ E.entry c driver sent
+  stateIs : e ≡ E.entry c driver sent
 
 aimed-in : (c : ℕ) (d : Driver) (x : Sent) (may : Bool) (w : World) → may ≡ true → accepts w c ≡ true → Own c (aimed (E.enters c d x may) w)
 unfolding pick
@@ -193,7 +193,7 @@ answered-sound n other w o h = go (sound w) refl h
     go true e q = e
     go false e q = absurd (other q)
 
-enters-by : (w : World) (k : Call) (p : Op) (c : ℕ) → opOf k ≡ some p → numberOf (step w k .answer) ≡ 0 → (numberOf (call p w .answer) ≡ 0 → Own c (entryBy (act w p) w)) → D.Enters steps c w k
+enters-by : (w : World) (k : Call) (p : Op) (c : ℕ) → modelOp k ≡ some p → numberOf (step w k .answer) ≡ 0 → (numberOf (call p w .answer) ≡ 0 → Own c (entryBy (act w p) w)) → D.Enters steps c w k
 enters-by w (SetUp s) p c e h f = let z : _≡_ {A = ℕ} 0 1 = cc in absurd (omega arith)
 enters-by w (Do o) p c e h f =
     let y = answered-sound 0 (λ q. omega (arith, q)) w o h in
@@ -201,20 +201,20 @@ enters-by w (Do o) p c e h f =
     let t = named-enters w (Do o) c (by .driver) (by .sent) (entry-sound w o y ∙ by .is) in
     record { before = is-runs w c ∙ t .before; after = is-runs (next w (Do o)) c ∙ t .after }
 
-word-reg : (w : World) (q : ℕ) → word (viewOf w) q ≡ reg w q
+word-reg : (w : World) (q : ℕ) → registerWord (viewOf w) q ≡ reg w q
 word-reg w q = ap (λ b. getD (w .stack) (b + q) 0) (base-top (w .frames))
 
-pub resumed : (w : World) (k : Call) (pc dst q src : ℕ) → opOf k ≡ some (Op.Resume pc dst q src) → numberOf (step w k .answer) ≡ 0 → D.Enters steps (word (viewOf w) q) w k
+pub resumed : (w : World) (k : Call) (pc dst q src : ℕ) → modelOp k ≡ some (Op.Resume pc dst q src) → numberOf (step w k .answer) ≡ 0 → D.Enters steps (registerWord (viewOf w) q) w k
 resumed w k pc dst q src e h = subst (λ c. D.Enters steps c w k) (sym (word-reg w q)) (enters-by w k (Op.Resume pc dst q src) (reg w q) e h (resume-by w pc dst q src))
 
-pub hosted : (c : ℕ) (w : World) (k : Call) (x : ℕ) → opOf k ≡ some (Op.HostEntry c x) → numberOf (step w k .answer) ≡ 0 → D.Enters steps c w k
+pub hosted : (c : ℕ) (w : World) (k : Call) (x : ℕ) → modelOp k ≡ some (Op.HostEntry c x) → numberOf (step w k .answer) ≡ 0 → D.Enters steps c w k
 hosted c w k x e h = enters-by w k (Op.HostEntry c x) c e h (host-by w c x)
 
-returned-is : (w : World) (c : ℕ) → is (viewOf w) ended c ≡ false → returnedIn (coro w c) ≡ false
+returned-is : (w : World) (c : ℕ) → stateIs (viewOf w) seenReturned c ≡ false → returnedIn (coro w c) ≡ false
 unfolding returnedIn
 returned-is w c h = go (coro w c) h
   where
-    code : (s : CoroState) → ended s ≡ isReturned s
+    code : (s : CoroState) → seenReturned s ≡ isReturned s
     code CoroState.Created = refl
     code CoroState.Running = refl
     code CoroState.Yielded = refl
@@ -222,13 +222,13 @@ returned-is w c h = go (coro w c) h
     code CoroState.Returned = refl
     code CoroState.Failed = refl
 
-    go : (x : Coroutine) → seenIn (λ y. ended (y .state)) (seenOf x) ≡ false → returnedIn x ≡ false
+    go : (x : Coroutine) → seenIn (λ y. seenReturned (y .state)) (seenOf x) ≡ false → returnedIn x ≡ false
     go Absent q = refl
     go (Is k r) q = sym (code (k .state)) ∙ q
 
-pub turned : (w : World) (k : Call) (pc has iter val src : ℕ) → opOf k ≡ some (Op.IterNext pc has iter val src) → numberOf (step w k .answer) ≡ 0
-    → viewOf w .done (word (viewOf w) iter) ≡ false → is (viewOf w) ended (word (viewOf w) src) ≡ false → D.Enters steps (word (viewOf w) src) w k
+pub turned : (w : World) (k : Call) (pc has iter val src : ℕ) → modelOp k ≡ some (Op.IterNext pc has iter val src) → numberOf (step w k .answer) ≡ 0
+    → viewOf w .done (registerWord (viewOf w) iter) ≡ false → stateIs (viewOf w) seenReturned (registerWord (viewOf w) src) ≡ false → D.Enters steps (registerWord (viewOf w) src) w k
 turned w k pc has iter val src e h d r =
     subst (λ c. D.Enters steps c w k) (sym (word-reg w src))
     (enters-by w k (Op.IterNext pc has iter val src) (reg w src) e h
-    (iter-by w pc has iter val src (ap (λ x. isDone (object w x)) (sym (word-reg w iter)) ∙ d) (returned-is w (reg w src) (ap (is (viewOf w) ended) (sym (word-reg w src)) ∙ r))))
+    (iter-by w pc has iter val src (ap (λ x. isDone (object w x)) (sym (word-reg w iter)) ∙ d) (returned-is w (reg w src) (ap (stateIs (viewOf w) seenReturned) (sym (word-reg w src)) ∙ r))))

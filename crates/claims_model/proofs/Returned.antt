@@ -25,11 +25,11 @@ use Rattle.model.specs.declared.machine.Frame.{Frame}
 use Rattle.model.specs.declared.call.OptPc.{OptPc}
 use Rattle.model.specs.declared.call.Op.{Op}
 use Rattle.model.specs.declared.call.Answer.{Answer}
-use Rattle.claims_model.specs.Says.{Does, finishes, does, doing, Entry}
+use Rattle.claims_model.specs.Says.{Announced, finishes, announced, announcedBy, Entry}
 use Rattle.claims_model.specs.Delivery.{recorded}
 use Rattle.claims_model.specs.Events as Said
-use Rattle.claims_model.specs.Events.{inmost, isBody, onBody, suspended, returned}
-use Rattle.claims_model.specs.Steps.{viewOf, opOf, steps}
+use Rattle.claims_model.specs.Events.{inmost, isBody, onBody, whoSuspends, whoReturns}
+use Rattle.claims_model.specs.Steps.{viewOf, modelOp, steps}
 use Rattle.claims_model.specs.Touches.{May}
 use Rattle.claims_model.proofs.Entry.{Act, act}
 use Rattle.claims_model.proofs.Held.{Seat, coreIn, coreAt}
@@ -186,15 +186,15 @@ on-body (f ∷ fs) = body-coro (f .cont)
 both-true : {a b : Bool} → a ≡ true → b ≡ true → (a && b) ≡ true
 both-true p q = λ i. p i && q i
 
-finish-who : (kind : ResultKind) (x : ℕ) (w : World) (c : ℕ) (o : After Answer) → isRunning (coreAt w c .state) ≡ true → isReturned (coreAt (o .world) c .state) ≡ true → FinishCase kind x w o → returned (viewOf w) (finishes kind x) (numberOf (o .answer)) ≡ some c
+finish-who : (kind : ResultKind) (x : ℕ) (w : World) (c : ℕ) (o : After Answer) → isRunning (coreAt w c .state) ≡ true → isReturned (coreAt (o .world) c .state) ≡ true → FinishCase kind x w o → whoReturns (viewOf w) (finishes kind x) (numberOf (o .answer)) ≡ some c
 finish-who kind x w c o b l (f-other e n) = no-both l (ap (λ k. isReturned (coreIn k .state)) (e c) ∙ run-returned (coreAt w c .state) b)
 finish-who kind x w c o b l (f-returns f fs a chain y p q r m n ends tells ints) = go (ℕ-discrete c (a .coro))
   where
-    go : Dec (c ≡ a .coro) → returned (viewOf w) (finishes kind x) (numberOf (o .answer)) ≡ some c
+    go : Dec (c ≡ a .coro) → whoReturns (viewOf w) (finishes kind x) (numberOf (o .answer)) ≡ some c
     go (yes h) = (λ i. pick (both-true (ap (λ t. eqb t 0) n) (ap onBody p ∙ body-coro (f .cont) ∙ q) i) (inmost (r i)) none) ∙ pick-true (some (a .coro)) none ∙ ap {B = Option ℕ} some (sym h)
     go (no h) = no-both l (ap (λ k. isReturned (k .state)) (ends .others c h) ∙ run-returned (coreAt w c .state) b)
 
-finish-has : (kind : ResultKind) (x : ℕ) (w : World) → sound w ≡ true → (c : ℕ) (o : After Answer) → returned (viewOf w) (finishes kind x) (numberOf (o .answer)) ≡ some c → FinishCase kind x w o → Has w c (o .world)
+finish-has : (kind : ResultKind) (x : ℕ) (w : World) → sound w ≡ true → (c : ℕ) (o : After Answer) → whoReturns (viewOf w) (finishes kind x) (numberOf (o .answer)) ≡ some c → FinishCase kind x w o → Has w c (o .world)
 finish-has kind x w h c o e (f-other all why) = go why
   where
     t : ((eqb (numberOf (o .answer)) 0 && onBody (w .frames)) ≡ true) × (inmost (w .chain) ≡ some c)
@@ -218,8 +218,8 @@ finish-has kind x w h c o e (f-returns f fs a chain y p q r m n ends tells ints)
 
 -- ---- every call
 
-call-who : (w : World) → sound w ≡ true → (c : ℕ) {o : Op} {a : Act} {d : Does} → act w o ≡ a → isRunning (coreAt w c .state) ≡ true
-    → isReturned (coreAt (call o w .world) c .state) ≡ true → Kind w o a d → returned (viewOf w) d (numberOf (call o w .answer)) ≡ some c
+call-who : (w : World) → sound w ≡ true → (c : ℕ) {o : Op} {a : Act} {d : Announced} → act w o ≡ a → isRunning (coreAt w c .state) ≡ true
+    → isReturned (coreAt (call o w .world) c .state) ≡ true → Kind w o a d → whoReturns (viewOf w) d (numberOf (call o w .answer)) ≡ some c
 unfolding call
 call-who w h c {o} q b l (k-at e i) = no-return c (shape w o) (ap S.isEnding q) b l
 call-who w h c {o} q b l (k-host u x) = no-return c (shape w o) refl b l
@@ -227,7 +227,7 @@ call-who w h c q b l (k-finish kind x) = finish-who kind x w c (finish kind x w)
 call-who w h c q b l (k-raise f pc) = ended-who w c (unwind-ended w h f pc) b l
 call-who w h c {o} q b l (k-other e) = no-return c (shape w o) (ap S.isEnding q) b l
 
-call-has : (w : World) → sound w ≡ true → (c : ℕ) {o : Op} {a : Act} {d : Does} → returned (viewOf w) d (numberOf (call o w .answer)) ≡ some c → Kind w o a d
+call-has : (w : World) → sound w ≡ true → (c : ℕ) {o : Op} {a : Act} {d : Announced} → whoReturns (viewOf w) d (numberOf (call o w .answer)) ≡ some c → Kind w o a d
     → Has w c (call o w .world)
 unfolding call
 call-has w h c e (k-at p i) = no-some refl e
@@ -236,21 +236,21 @@ call-has w h c e (k-finish kind x) = finish-has kind x w h c (finish kind x w) e
 call-has w h c e (k-raise f pc) = ended-has w h c (unwind-ended w h f pc) e
 call-has w h c e (k-other p) = no-some refl e
 
-pub returns : (c : ℕ) (w : World) (k : Call) → Said.Returns steps c w k → returned (viewOf w) (doing (viewOf w) (opOf k)) (numberOf (step w k .answer)) ≡ some c
+pub returns : (c : ℕ) (w : World) (k : Call) → Said.Returns steps c w k → whoReturns (viewOf w) (announcedBy (viewOf w) (modelOp k)) (numberOf (step w k .answer)) ≡ some c
 returns c w k g = go (next w k) (step-case w k) (sym (is-ended (next w k) c) ∙ g .after)
   where
     ran : isRunning (coreAt w c .state) ≡ true
     ran = sym (is-runs w c) ∙ g .before
 
-    go : {k : Call} (z : World) → StepCase w k z → isReturned (coreAt z c .state) ≡ true → returned (viewOf w) (doing (viewOf w) (opOf k)) (numberOf (step w k .answer)) ≡ some c
+    go : {k : Call} (z : World) → StepCase w k z → isReturned (coreAt z c .state) ≡ true → whoReturns (viewOf w) (announcedBy (viewOf w) (modelOp k)) (numberOf (step w k .answer)) ≡ some c
     go z (anew s e) a = no-both a (ap (λ x. isReturned (coreIn x .state)) (fresh-absent s c))
     go z (same k e) a = no-both a (run-returned (coreAt w c .state) ran)
-    go z (Claim.does o e) a = ap (λ y. returned (viewOf w) (does (viewOf w) (o .op)) (numberOf y)) (number-sound w o e) ∙ call-who w e c refl ran a (kind-of w (o .op))
+    go z (Claim.does o e) a = ap (λ y. whoReturns (viewOf w) (announced (viewOf w) (o .op)) (numberOf y)) (number-sound w o e) ∙ call-who w e c refl ran a (kind-of w (o .op))
 
-pub returned-by : (c : ℕ) (w : World) (k : Call) → sound w ≡ true → returned (viewOf w) (doing (viewOf w) (opOf k)) (numberOf (step w k .answer)) ≡ some c → Said.Returns steps c w k
+pub returned-by : (c : ℕ) (w : World) (k : Call) → sound w ≡ true → whoReturns (viewOf w) (announcedBy (viewOf w) (modelOp k)) (numberOf (step w k .answer)) ≡ some c → Said.Returns steps c w k
 returned-by c w (SetUp s) h e = no-some refl e
 returned-by c w (Do o) h e =
-    let t = call-has w h c (ap (λ y. returned (viewOf w) (does (viewOf w) (o .op)) (numberOf y)) (sym (number-sound w o h)) ∙ e) (kind-of w (o .op)) in
+    let t = call-has w h c (ap (λ y. whoReturns (viewOf w) (announced (viewOf w) (o .op)) (numberOf y)) (sym (number-sound w o h)) ∙ e) (kind-of w (o .op)) in
     record { before = is-runs w c ∙ t .before; after = is-ended (next w (Do o)) c ∙ ap (λ y. isReturned (coreAt y c .state)) (next-sound w o h) ∙ t .after }
 
 -- ---- a close that its own signal ends is recorded as nil
@@ -267,7 +267,7 @@ unwind-told : (f : Fault) (pc : OptPc) (w : World) (c : ℕ) → sound w ≡ tru
 unfolding call
 unwind-told f pc w c h b l = ended-told w c (unwind-ended w h f pc) b l
 
-pub closed : (c : ℕ) (w : World) (k : Call) (f : Fault) (pc : OptPc) → Said.Returns steps c w k → opOf k ≡ some (Op.Unwind f pc) → recorded (viewOf (next w k) .coro c) ≡ 0
+pub closed : (c : ℕ) (w : World) (k : Call) (f : Fault) (pc : OptPc) → Said.Returns steps c w k → modelOp k ≡ some (Op.Unwind f pc) → recorded (viewOf (next w k) .coro c) ≡ 0
 closed c w k f pc g e = ap recorded (sym (seen-at (next w k) c)) ∙ go (next w k) (step-case w k) (sym (is-ended (next w k) c) ∙ g .after) e
   where
     ran : isRunning (coreAt w c .state) ≡ true
@@ -276,7 +276,7 @@ closed c w k f pc g e = ap recorded (sym (seen-at (next w k) c)) ∙ go (next w 
     told : (o : Op) → o ≡ Op.Unwind f pc → sound w ≡ true → isReturned (coreAt (call o w .world) c .state) ≡ true → recorded (coreAt (call o w .world) c .seen) ≡ 0
     told o q s a = ap (λ p. recorded (coreAt (call p w .world) c .seen)) q ∙ unwind-told f pc w c s ran (ap (λ p. isReturned (coreAt (call p w .world) c .state)) (sym q) ∙ a)
 
-    go : {k : Call} (z : World) → StepCase w k z → isReturned (coreAt z c .state) ≡ true → opOf k ≡ some (Op.Unwind f pc) → recorded (coreAt z c .seen) ≡ 0
+    go : {k : Call} (z : World) → StepCase w k z → isReturned (coreAt z c .state) ≡ true → modelOp k ≡ some (Op.Unwind f pc) → recorded (coreAt z c .seen) ≡ 0
     go z (anew s e) a q = no-both a (ap (λ x. isReturned (coreIn x .state)) (fresh-absent s c))
     go z (same k e) a q = no-both a (run-returned (coreAt w c .state) ran)
     go z (Claim.does o e) a q = told (o .op) (some-op q) e a

@@ -47,8 +47,8 @@ use Rattle.claims_model.specs.Engine.{Seen}
 use Rattle.claims_model.specs.Says.{nothing, lie, Entry, entry, charged}
 use Rattle.claims_model.specs.Held.{at}
 use Rattle.claims_model.specs.Events.{goesOn}
-use Rattle.claims_model.specs.Promise.{suspends, Roomy}
-use Rattle.claims_model.specs.Steps.{seenOf, viewOf, opOf, steps}
+use Rattle.claims_model.specs.Promise.{isSuspension, Roomy}
+use Rattle.claims_model.specs.Steps.{seenOf, viewOf, modelOp, steps}
 use Rattle.claims_model.proofs.Entry as E
 use Rattle.claims_model.proofs.Tries.{taken, tries, keyed, inBody}
 use Rattle.claims_model.proofs.Suspension.{paidBy}
@@ -193,21 +193,21 @@ module _ (w : World) (n c : ℕ) (m : Roomy steps n c w) where
     inner : (f : Active → Bool) → f a ≡ true → inBody (u .chain) f ≡ true
     inner f h = ap (λ (cs : List Active). inBody cs f) (beside .chain ∙ m .held .chain) ∙ h
 
-  pub await-takes : (k : Call) (pc dst src : ℕ) → opOf k ≡ some (Op.Await pc dst src) → lie (viewOf w) (dst ∷ src ∷ []) ≡ true → suspends (numberOf (step w k .answer)) ≡ true
+  pub await-takes : (k : Call) (pc dst src : ℕ) → modelOp k ≡ some (Op.Await pc dst src) → lie (viewOf w) (dst ∷ src ∷ []) ≡ true → isSuspension (numberOf (step w k .answer)) ≡ true
   await-takes (SetUp s) pc dst src e l = let z : _≡_ {A = ℕ} 0 1 = cc in absurd (omega arith)
   await-takes (Do o) pc dst src e l =
-      ap (λ x. suspends (numberOf x)) (number-sound w o well)
-      ∙ (ap (λ q. suspends (numberOf (call q w .answer))) (some-op e)
+      ap (λ x. isSuspension (numberOf x)) (number-sound w o well)
+      ∙ (ap (λ q. isSuspension (numberOf (call q w .answer))) (some-op e)
       ∙ (call-number w well (Op.Await pc dst src) refl .ok
       ∙ takes pc (allIn (dst ∷ src ∷ []) w) _ (rw (← base-top (w .frames)) l)
       (inner pc (λ _. tries pc CoroState.Awaiting dst (reg (u pc) src) (u pc) Keys.Keep) (accepted (u pc) pc (beside pc) (still pc) dst (reg (u pc) src) CoroState.Awaiting Keys.Keep))))
 
-  pub kv-takes : (k : Call) (pc dst src key : ℕ) → opOf k ≡ some (Op.YieldKv pc dst src key) → lie (viewOf w) (dst ∷ src ∷ key ∷ []) ≡ true → suspends (numberOf (step w k .answer)) ≡ true
+  pub kv-takes : (k : Call) (pc dst src key : ℕ) → modelOp k ≡ some (Op.YieldKv pc dst src key) → lie (viewOf w) (dst ∷ src ∷ key ∷ []) ≡ true → isSuspension (numberOf (step w k .answer)) ≡ true
   kv-takes (SetUp s) pc dst src key e l = let z : _≡_ {A = ℕ} 0 1 = cc in absurd (omega arith)
   kv-takes (Do o) pc dst src key e l =
       let keys : Active → Keys = λ b. Keys.Set (reg (u pc) key) (largerOf (largestIn (coro (u pc) (b .coro))) (dynInt (u pc) (reg (u pc) key))) in
-      ap (λ x. suspends (numberOf x)) (number-sound w o well)
-      ∙ (ap (λ q. suspends (numberOf (call q w .answer))) (some-op e)
+      ap (λ x. isSuspension (numberOf x)) (number-sound w o well)
+      ∙ (ap (λ q. isSuspension (numberOf (call q w .answer))) (some-op e)
       ∙ (call-number w well (Op.YieldKv pc dst src key) refl .ok
       ∙ takes pc (allIn (dst ∷ src ∷ key ∷ []) w) _ (rw (← base-top (w .frames)) l)
       (inner pc (λ b. tries pc CoroState.Yielded dst (reg (u pc) src) (u pc) (keys b)) (accepted (u pc) pc (beside pc) (still pc) dst (reg (u pc) src) CoroState.Yielded (keys a)))))
@@ -260,10 +260,10 @@ module _ (w : World) (n c : ℕ) (m : Roomy steps n c w) where
         ap (λ (cs : List Active). yieldOn cs pc dst src y .answer) (beside pc .chain ∙ m .held .chain)
         ∙ ap (λ z. andThen (keyExact z y) (yieldKey pc dst (reg y src)) .answer) e
 
-    pub yield-takes : (k : Call) (dst src : ℕ) → opOf k ≡ some (Op.Yield pc dst src) → lie (viewOf w) (dst ∷ src ∷ []) ≡ true → (suspends (numberOf (step w k .answer)) || eqb (numberOf (step w k .answer)) 7) ≡ true
+    pub yield-takes : (k : Call) (dst src : ℕ) → modelOp k ≡ some (Op.Yield pc dst src) → lie (viewOf w) (dst ∷ src ∷ []) ≡ true → (isSuspension (numberOf (step w k .answer)) || eqb (numberOf (step w k .answer)) 7) ≡ true
     unfolding call
     yield-takes (SetUp s) dst src e l = let z : _≡_ {A = ℕ} 0 1 = cc in absurd (omega arith)
-    yield-takes (Do o) dst src e l = ap (λ x. suspends (numberOf x) || eqb (numberOf x) 7) (number-sound w o well ∙ ap (λ q. call q w .answer) (some-op e)) ∙ go (nextKey largest) refl
+    yield-takes (Do o) dst src e l = ap (λ x. isSuspension (numberOf x) || eqb (numberOf x) 7) (number-sound w o well ∙ ap (λ q. call q w .answer) (some-op e)) ∙ go (nextKey largest) refl
       where
         ok : allIn (dst ∷ src ∷ []) w ≡ true
         ok = rw (← base-top (w .frames)) l
@@ -271,12 +271,12 @@ module _ (w : World) (n c : ℕ) (m : Roomy steps n c w) where
         first : (b d : Bool) → b ≡ true → (b || d) ≡ true
         first b d h = ap (λ x. x || d) h
 
-        go : (z : Exact) → nextKey largest ≡ z → (suspends (numberOf (call (Op.Yield pc dst src) w .answer)) || eqb (numberOf (call (Op.Yield pc dst src) w .answer)) 7) ≡ true
+        go : (z : Exact) → nextKey largest ≡ z → (isSuspension (numberOf (call (Op.Yield pc dst src) w .answer)) || eqb (numberOf (call (Op.Yield pc dst src) w .answer)) 7) ≡ true
         go (Exact.Fits k) q =
-            first (suspends (numberOf (call (Op.Yield pc dst src) w .answer))) _
+            first (isSuspension (numberOf (call (Op.Yield pc dst src) w .answer))) _
             (call-number w well (Op.Yield pc dst src) refl .ok
             ∙ takes pc (allIn (dst ∷ src ∷ []) w) _ ok
             (inner pc (λ b. keyed (tries pc CoroState.Yielded dst (reg y src)) (autoKey (largestIn (coro y (b .coro))) y .world) (autoKey (largestIn (coro y (b .coro))) y .answer)) (key-made dst (reg y src) k q)))
         go Exact.Over q =
-            ap (λ n. suspends n || eqb n 7)
+            ap (λ n. isSuspension n || eqb n 7)
             (ap numberOf (paid-number w pc (p pc) (allIn (dst ∷ src ∷ []) w) (yield pc dst src) (stand pc) ok ∙ ap (answerOf (p pc .words)) (seven dst src q)) ∙ step-number (p pc .words) (Step.Fault Fault.ArithOverflow))

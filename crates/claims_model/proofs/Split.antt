@@ -9,7 +9,7 @@ use Rattle.model.specs.Program.{setupOk}
 use Rattle.model.specs.World.{World}
 use Rattle.model.specs.Call.{Call, SetUp, Do}
 use Rattle.model.specs.Step.{step}
-use Rattle.claims_model.specs.Engine.{Turn, calls, refuels}
+use Rattle.claims_model.specs.Engine.{Turn, turnCall, turnFuel}
 use Rattle.claims_model.specs.Steps.{steps}
 use Rattle.claims_model.proofs.Entry.{entryOf, driverOf}
 use Rattle.claims_model.proofs.Held.{Seat, coreAt, calling, eventOf, mem, deliverTo}
@@ -43,14 +43,14 @@ restarts (Do o) = false
 -- among the calls is no accepted set-up, and none enters c
 abbrev pub Waits : ℕ → World → List (Turn Call) → Type 0
 Waits c w [] = Unit {0}
-Waits c w (calls k ∷ ts) = (restarts k ≡ false) × (Enters c w k → ⊥) × Waits c (next w k) ts
-Waits c w (refuels f ∷ ts) = Waits c (steps .refuel w f) ts
+Waits c w (turnCall k ∷ ts) = (restarts k ≡ false) × (Enters c w k → ⊥) × Waits c (next w k) ts
+Waits c w (turnFuel f ∷ ts) = Waits c (steps .refuel w f) ts
 
 -- among the calls is no accepted set-up, and in none does c yield, await or return
 abbrev pub Goes : ℕ → World → List (Turn Call) → Type 0
 Goes c w [] = Unit {0}
-Goes c w (calls k ∷ ts) = (restarts k ≡ false) × (Stops c w k → ⊥) × Goes c (next w k) ts
-Goes c w (refuels f ∷ ts) = Goes c (steps .refuel w f) ts
+Goes c w (turnCall k ∷ ts) = (restarts k ≡ false) × (Stops c w k → ⊥) × Goes c (next w k) ts
+Goes c w (turnFuel f ∷ ts) = Goes c (steps .refuel w f) ts
 
 -- ---- asleep. 01: "held are its Coro frame with all frames above it, and the words from that frame's base up"
 

@@ -15,12 +15,12 @@ use Rattle.model.specs.World.{World}
 use Rattle.model.specs.Heap.{coro}
 use Rattle.model.specs.Call.{Call}
 use Rattle.model.specs.declared.call.Op.{Op}
-use Rattle.claims_model.specs.Engine.{isNew, runs, sleeps, ended, seenIn, is}
-use Rattle.claims_model.specs.Says.{doing}
+use Rattle.claims_model.specs.Engine.{seenCreated, seenRunning, seenSuspended, seenReturned, seenIn, stateIs}
+use Rattle.claims_model.specs.Says.{announcedBy}
 use Rattle.claims_model.specs.Demand3 as D
 use Rattle.claims_model.specs.Events as Said
 use Rattle.claims_model.specs.Events.{endsUnbegun}
-use Rattle.claims_model.specs.Steps.{seenOf, viewOf, opOf, steps}
+use Rattle.claims_model.specs.Steps.{seenOf, viewOf, modelOp, steps}
 use Rattle.claims_model.specs.Touches.{May}
 use Rattle.claims_model.proofs.Entry.{act}
 use Rattle.claims_model.proofs.Held.{Seat, coreIn, coreAt}
@@ -84,7 +84,7 @@ module _ (c : ℕ) where
       go (inr (inr x)) = no-both (x .0) h
 
 -- who runs, and is not suspended, does not return and does not fail
-pub runs-on : (c : ℕ) (w : World) (k : Call) → (D.Restarts steps w k → ⊥) → is (viewOf w) runs c ≡ true → (D.Suspends steps c w k → ⊥) → (Said.Returns steps c w k → ⊥) → (Said.Fails steps c w k → ⊥) → is (viewOf (next w k)) runs c ≡ true
+pub runs-on : (c : ℕ) (w : World) (k : Call) → (D.Restarts steps w k → ⊥) → stateIs (viewOf w) seenRunning c ≡ true → (D.Suspends steps c w k → ⊥) → (Said.Returns steps c w k → ⊥) → (Said.Fails steps c w k → ⊥) → stateIs (viewOf (next w k)) seenRunning c ≡ true
 runs-on c w k r h s e f = go (coro (next w k) c) refl (begun (next w k) (step-case w k) (restarts-old w k r))
   where
     ran : isCreated (coreAt w c .state) ≡ false
@@ -96,18 +96,18 @@ runs-on c w k r h s e f = go (coro (next w k) c) refl (begun (next w k) (step-ca
     begun z (does o q) n = begun-shape c (shape w (o .op)) ran
 
     -- z is seen so
-    seen : {x : Coroutine} → coro (next w k) c ≡ x → (p : CoroState → Bool) → seenIn (λ y. p (y .state)) (seenOf x) ≡ true → is (viewOf (next w k)) p c ≡ true
+    seen : {x : Coroutine} → coro (next w k) c ≡ x → (p : CoroState → Bool) → seenIn (λ y. p (y .state)) (seenOf x) ≡ true → stateIs (viewOf (next w k)) p c ≡ true
     seen q p t = ap (λ y. seenIn (λ z. p (z .state)) (seenOf y)) q ∙ t
 
-    state : {x : Coroutine} (t : CoroState) → coro (next w k) c ≡ x → ((p : CoroState → Bool) → p t ≡ true → seenIn (λ y. p (y .state)) (seenOf x) ≡ true) → isCreated t ≡ false → is (viewOf (next w k)) runs c ≡ true
+    state : {x : Coroutine} (t : CoroState) → coro (next w k) c ≡ x → ((p : CoroState → Bool) → p t ≡ true → seenIn (λ y. p (y .state)) (seenOf x) ≡ true) → isCreated t ≡ false → stateIs (viewOf (next w k)) seenRunning c ≡ true
     state CoroState.Created q p n = no-both refl n
-    state CoroState.Running q p n = seen q runs (p runs refl)
-    state CoroState.Yielded q p n = absurd (s (record { before = h; after = seen q sleeps (p sleeps refl) }))
-    state CoroState.Awaiting q p n = absurd (s (record { before = h; after = seen q sleeps (p sleeps refl) }))
-    state CoroState.Returned q p n = absurd (e (record { before = h; after = seen q ended (p ended refl) }))
-    state CoroState.Failed q p n = absurd (f (record { before = h; after = seen q Said.failed (p Said.failed refl) }))
+    state CoroState.Running q p n = seen q seenRunning (p seenRunning refl)
+    state CoroState.Yielded q p n = absurd (s (record { before = h; after = seen q seenSuspended (p seenSuspended refl) }))
+    state CoroState.Awaiting q p n = absurd (s (record { before = h; after = seen q seenSuspended (p seenSuspended refl) }))
+    state CoroState.Returned q p n = absurd (e (record { before = h; after = seen q seenReturned (p seenReturned refl) }))
+    state CoroState.Failed q p n = absurd (f (record { before = h; after = seen q Said.seenFailed (p Said.seenFailed refl) }))
 
-    go : (x : Coroutine) → coro (next w k) c ≡ x → isCreated (coreAt (next w k) c .state) ≡ false → is (viewOf (next w k)) runs c ≡ true
+    go : (x : Coroutine) → coro (next w k) c ≡ x → isCreated (coreAt (next w k) c .state) ≡ false → stateIs (viewOf (next w k)) seenRunning c ≡ true
     go Absent q n = no-both (ap (λ y. isCreated (coreIn y .state)) q) n
     go (Is k r) q n = state (k .state) q (λ p t. t) (sym (ap (λ y. isCreated (coreIn y .state)) q) ∙ n)
 
@@ -149,7 +149,7 @@ module _ (c : ℕ) where
       ap (λ x. isCreated (x .state)) (u .ends .others c (subst (Apart c) (u .inmost) (m .0) .0)) ∙ m .1
   comes-shape f (S.stops e i t) n h = ap (λ x. isCreated (x .state)) (t .apart c n) ∙ ap (λ x. isCreated (coreIn x .state)) h
 
-pub comes-else : (c : ℕ) (w : World) (k : Call) → (endsUnbegun (doing (viewOf w) (opOf k)) ≡ some c → ⊥) → viewOf w .coro c ≡ none → (viewOf (next w k) .coro c ≡ none) ⊎ (is (viewOf (next w k)) isNew c ≡ true)
+pub comes-else : (c : ℕ) (w : World) (k : Call) → (endsUnbegun (announcedBy (viewOf w) (modelOp k)) ≡ some c → ⊥) → viewOf w .coro c ≡ none → (viewOf (next w k) .coro c ≡ none) ⊎ (stateIs (viewOf (next w k)) seenCreated c ≡ true)
 comes-else c w k u h = go (coro (next w k) c) refl (new (next w k) (step-case w k) u)
   where
     gone : (x : Coroutine) → seenOf x ≡ none → x ≡ Absent
@@ -159,11 +159,11 @@ comes-else c w k u h = go (coro (next w k) c) refl (new (next w k) (step-case w 
     away : coro w c ≡ Absent
     away = gone (coro w c) h
 
-    new : {k : Call} (z : World) → StepCase w k z → (endsUnbegun (doing (viewOf w) (opOf k)) ≡ some c → ⊥) → isCreated (coreAt z c .state) ≡ true
+    new : {k : Call} (z : World) → StepCase w k z → (endsUnbegun (announcedBy (viewOf w) (modelOp k)) ≡ some c → ⊥) → isCreated (coreAt z c .state) ≡ true
     new z (anew s e) u = ap (λ x. isCreated (coreIn x .state)) (fresh-absent s c)
     new z (same k e) u = ap (λ x. isCreated (coreIn x .state)) away
     new z (does o e) u = comes-shape c (λ m. u (alike-undone (says-alike w (o .op)) ∙ ap undoneBy m)) (shape w (o .op)) (apart w e c (ap (λ x. isRunning (coreIn x .state)) away)) away
 
-    go : (x : Coroutine) → coro (next w k) c ≡ x → isCreated (coreAt (next w k) c .state) ≡ true → (viewOf (next w k) .coro c ≡ none) ⊎ (is (viewOf (next w k)) isNew c ≡ true)
+    go : (x : Coroutine) → coro (next w k) c ≡ x → isCreated (coreAt (next w k) c .state) ≡ true → (viewOf (next w k) .coro c ≡ none) ⊎ (stateIs (viewOf (next w k)) seenCreated c ≡ true)
     go Absent q n = inl (ap seenOf q)
-    go (Is j r) q n = inr (ap (λ y. seenIn (λ z. isNew (z .state)) (seenOf y)) q ∙ new-state (j .state) ∙ (sym (ap (λ y. isCreated (coreIn y .state)) q) ∙ n))
+    go (Is j r) q n = inr (ap (λ y. seenIn (λ z. seenCreated (z .state)) (seenOf y)) q ∙ new-state (j .state) ∙ (sym (ap (λ y. isCreated (coreIn y .state)) q) ∙ n))

@@ -32,10 +32,10 @@ use Rattle.model.specs.declared.coro.Stated.{Stated}
 use Rattle.model.specs.declared.exec.Step.{Step}
 use Rattle.model.specs.declared.call.OptPc.{OptPc}
 use Rattle.model.specs.declared.call.Op.{Op}
-use Rattle.claims_model.specs.Engine.{isNew, seenIn, is}
-use Rattle.claims_model.specs.Says.{Sent, nothing, closes, word}
+use Rattle.claims_model.specs.Engine.{seenCreated, seenIn, stateIs}
+use Rattle.claims_model.specs.Says.{Sent, nothing, closes, registerWord}
 use Rattle.claims_model.specs.Demand3 as D
-use Rattle.claims_model.specs.Steps.{seenOf, viewOf, opOf, steps}
+use Rattle.claims_model.specs.Steps.{seenOf, viewOf, modelOp, steps}
 use Rattle.claims_model.proofs.Entry as E
 use Rattle.claims_model.proofs.Entry.{act, acceptsAs, accepts, aimed, sentTo, entryBy}
 use Rattle.claims_model.proofs.Split.{next}
@@ -161,7 +161,7 @@ close-some w pc dst q src =
 
 -- ---- as claimed
 
-somebody-enters : (w : World) (k : Call) (p : Op) → opOf k ≡ some p → numberOf (step w k .answer) ≡ 17 → (numberOf (call p w .answer) ≡ 17 → Somebody (entryBy (act w p) w)) → (c : ℕ) × D.Enters steps c w k
+somebody-enters : (w : World) (k : Call) (p : Op) → modelOp k ≡ some p → numberOf (step w k .answer) ≡ 17 → (numberOf (call p w .answer) ≡ 17 → Somebody (entryBy (act w p) w)) → (c : ℕ) × D.Enters steps c w k
 somebody-enters w (SetUp s) p e h f = let z : _≡_ {A = ℕ} 0 1 = cc in absurd (omega arith)
 somebody-enters w (Do o) p e h f =
     let y = answered-sound 17 (λ q. omega (arith, q)) w o h in
@@ -169,18 +169,18 @@ somebody-enters w (Do o) p e h f =
     let t = named-enters w (Do o) (b .coro) (b .driver) (b .sent) (entry-sound w o y ∙ b .is) in
     (b .coro, record { before = is-runs w (b .coro) ∙ t .before; after = is-runs (next w (Do o)) (b .coro) ∙ t .after })
 
-new-is : (w : World) (c : ℕ) → is (viewOf w) isNew c ≡ false → newIn (coro w c) ≡ false
+new-is : (w : World) (c : ℕ) → stateIs (viewOf w) seenCreated c ≡ false → newIn (coro w c) ≡ false
 unfolding newIn
 new-is w c h = go (coro w c) h
   where
-    go : (x : Coroutine) → seenIn (λ y. isNew (y .state)) (seenOf x) ≡ false → newIn x ≡ false
+    go : (x : Coroutine) → seenIn (λ y. seenCreated (y .state)) (seenOf x) ≡ false → newIn x ≡ false
     go Absent q = refl
     go (Is k r) q = sym (new-state (k .state)) ∙ q
 
-pub threw : (w : World) (k : Call) (pc dst q src : ℕ) → opOf k ≡ some (Op.ResumeThrow pc dst q src) → numberOf (step w k .answer) ≡ 17 → is (viewOf w) isNew (word (viewOf w) q) ≡ false → (c : ℕ) × D.Enters steps c w k
+pub threw : (w : World) (k : Call) (pc dst q src : ℕ) → modelOp k ≡ some (Op.ResumeThrow pc dst q src) → numberOf (step w k .answer) ≡ 17 → stateIs (viewOf w) seenCreated (registerWord (viewOf w) q) ≡ false → (c : ℕ) × D.Enters steps c w k
 threw w k pc dst q src e h n =
     somebody-enters w k (Op.ResumeThrow pc dst q src) e h
-    (throw-some w pc dst q src (new-is w (reg w q) (ap (λ b. is (viewOf w) isNew (getD (w .stack) (b + q) 0)) (sym (base-top (w .frames))) ∙ n)))
+    (throw-some w pc dst q src (new-is w (reg w q) (ap (λ b. stateIs (viewOf w) seenCreated (getD (w .stack) (b + q) 0)) (sym (base-top (w .frames))) ∙ n)))
 
-pub closed-in : (w : World) (k : Call) (pc dst q src : ℕ) → opOf k ≡ some (Op.CoroClose pc dst q src) → numberOf (step w k .answer) ≡ 17 → (c : ℕ) × D.Enters steps c w k
+pub closed-in : (w : World) (k : Call) (pc dst q src : ℕ) → modelOp k ≡ some (Op.CoroClose pc dst q src) → numberOf (step w k .answer) ≡ 17 → (c : ℕ) × D.Enters steps c w k
 closed-in w k pc dst q src e h = somebody-enters w k (Op.CoroClose pc dst q src) e h (close-some w pc dst q src)

@@ -40,7 +40,7 @@ use Rattle.claims_model.specs.Delivery.{onward}
 use Rattle.claims_model.specs.Demand3 as D
 use Rattle.claims_model.specs.Events.{isBody}
 use Rattle.claims_model.specs.Touches.{May, mayTouch, storing, writing, Over, bare, one, Touched, Called, target, goOn, Finished, Touches}
-use Rattle.claims_model.specs.Steps.{viewOf, opOf, steps}
+use Rattle.claims_model.specs.Steps.{viewOf, modelOp, steps}
 use Rattle.claims_model.proofs.Held.{coreAt}
 use Rattle.claims_model.proofs.Split.{next}
 use Rattle.claims_model.proofs.Cores.{no-both, Mode, m-plain}
@@ -182,14 +182,14 @@ shaped {m} {w} {z} h (S.suspended p ok s dst x a chain e q t) l i = absurd (i (a
 shaped {m} {w} {z} h (S.returns v x f fs a chain e en g t u) l i = no-limit (sym l ∙ en .1)
 shaped {m} {w} {z} h (S.stops s q t) l i = no-limit (sym l ∙ ap mayTouch q)
 
-touched : (w : World) (k : Call) (o : Op) (m : May) → opOf k ≡ some o → mayTouch o ≡ some m → ((c : ℕ) → D.Enters steps c w k → ⊥) → ((c : ℕ) → D.Suspends steps c w k → ⊥) → Touched m (viewOf w) (viewOf (next w k))
+touched : (w : World) (k : Call) (o : Op) (m : May) → modelOp k ≡ some o → mayTouch o ≡ some m → ((c : ℕ) → D.Enters steps c w k → ⊥) → ((c : ℕ) → D.Suspends steps c w k → ⊥) → Touched m (viewOf w) (viewOf (next w k))
 touched w k o m e l i j =
     seen w (next w k) (go (next w k) (step-case w k) e (λ c. (
       (λ a b. i c (record { before = is-runs w c ∙ a; after = is-runs (next w k) c ∙ b })),
       (λ a b. j c (record { before = is-runs w c ∙ a; after = is-sleeps (next w k) c ∙ b })),
     )))
   where
-    go : {k : Call} (z : World) → StepCase w k z → opOf k ≡ some o → Still w z → Left m (view w) (view z)
+    go : {k : Call} (z : World) → StepCase w k z → modelOp k ≡ some o → Still w z → Left m (view w) (view z)
     go z (anew s x) e i = let q : _≡_ {A = ℕ} 0 1 = cc in absurd (omega arith)
     go z (same k x) e i = walk m (view w) {b = m-plain} (near-none m (view w)) done
     go z (does p h) e i = shaped h (shape w (p .op)) (ap mayTouch (some-op e) ∙ l) i
@@ -308,7 +308,7 @@ module _ (kind : ResultKind) (x : ℕ) (f : Frame) (fs : List Frame) (w : World)
       go false n = absurd (omega (arith, n))
 
 -- by a step: what holds of every call that is answered 0
-pub stepped : (P : World → World → Type 0) (o : Op) → ((w : World) → numberOf (tested w o .answer) ≡ 0 → P w (tested w o .world)) → (w : World) (k : Call) → opOf k ≡ some o → numberOf (step w k .answer) ≡ 0 → P w (step w k .world)
+pub stepped : (P : World → World → Type 0) (o : Op) → ((w : World) → numberOf (tested w o .answer) ≡ 0 → P w (tested w o .world)) → (w : World) (k : Call) → modelOp k ≡ some o → numberOf (step w k .answer) ≡ 0 → P w (step w k .world)
 unfolding step
 stepped P o f w (SetUp s) e n = let z : _≡_ {A = ℕ} 0 1 = cc in absurd (omega arith)
 stepped P o f w (Do p) e n = subst (λ q. numberOf (tested w q .answer) ≡ 0 → P w (tested w q .world)) (sym (some-op e)) (f w) n

@@ -36,11 +36,11 @@ use Rattle.model.specs.declared.exec.Step.{Step}
 use Rattle.model.specs.declared.call.OptPc.{OptPc}
 use Rattle.model.specs.declared.call.Op.{Op}
 use Rattle.model.specs.declared.call.Answer.{Answer}
-use Rattle.claims_model.specs.Engine.{Seen, isNew, seenIn, is}
-use Rattle.claims_model.specs.Says.{word, lie, Does, doing, whom}
+use Rattle.claims_model.specs.Engine.{Seen, seenCreated, seenIn, stateIs}
+use Rattle.claims_model.specs.Says.{registerWord, lie, Announced, announcedBy, whom}
 use Rattle.claims_model.specs.Events.{endsUnbegun, endedAs}
 use Rattle.claims_model.specs.Asks.{Pays}
-use Rattle.claims_model.specs.Steps.{seenOf, viewOf, opOf, steps}
+use Rattle.claims_model.specs.Steps.{seenOf, viewOf, modelOp, steps}
 use Rattle.claims_model.proofs.Entry as E
 use Rattle.claims_model.proofs.Entry.{yields, yieldsKv, waits, resumes, throws, shuts, turns, act, entryBy, pcBy}
 use Rattle.claims_model.proofs.Held.{Seat, coreIn, coreAt}
@@ -144,7 +144,7 @@ module _ (w : World) (c : ℕ) (k : Core) (r : Rest) (new : isCreated (k .state)
       instr-ends w c 17 (endedAs CoroState.Failed (reg w src)) (Op.ResumeThrow pc dst q src) pc _ _ (resumeThrow pc dst q src) refl refl refl refl n
       (λ v a. subst (λ x. Ends c 17 (endedAs CoroState.Failed x) (resumeThrow pc dst q src v)) (reg-alike a src) (throw-ends c k r new v (coro-alike a c ∙ e) pc dst q src (reg-alike a q ∙ f)))
 
-by-call : (c : ℕ) (w : World) (p : Op) (n : ℕ) (y : Option Seen) → eqb 11 n ≡ false → Left w c n y p → (k : Call) → opOf k ≡ some p → whom (viewOf w) (opOf k) ≡ none
+by-call : (c : ℕ) (w : World) (p : Op) (n : ℕ) (y : Option Seen) → eqb 11 n ≡ false → Left w c n y p → (k : Call) → modelOp k ≡ some p → whom (viewOf w) (modelOp k) ≡ none
     → viewOf (step w k .world) .coro c ≡ pick (eqb (numberOf (step w k .answer)) n) y (viewOf w .coro c)
 unfolding step tested pick
 by-call c w p n y n11 f (SetUp s) o m = let z : _≡_ {A = ℕ} 0 1 = cc in absurd (omega arith)
@@ -156,32 +156,32 @@ by-call c w p n y n11 f (Do j) o m = go (sound w) refl
         let nobody = told-none (pcBy (act w (j .op))) (entryBy (act w (j .op)) w) (sym (whom-told w e (j .op)) ∙ m) in
         sym (seen-at (call (j .op) w .world) c) ∙ subst (Left w c n y) (sym (some-op o)) f nobody ∙ ap (pick (eqb (numberOf (call (j .op) w .answer)) n) y) (seen-at w c)
 
-pub word-reg : (w : World) (q : ℕ) → word (viewOf w) q ≡ reg w q
+pub word-reg : (w : World) (q : ℕ) → registerWord (viewOf w) q ≡ reg w q
 word-reg w q = ap (λ b. getD (w .stack) (b + q) 0) (base-top (w .frames))
 
 -- one that is new is there
-new-there : {A : Type 0} (w : World) (c : ℕ) → is (viewOf w) isNew c ≡ true → ((k : Core) (r : Rest) → isCreated (k .state) ≡ true → coro w c ≡ Is k r → A) → A
+new-there : {A : Type 0} (w : World) (c : ℕ) → stateIs (viewOf w) seenCreated c ≡ true → ((k : Core) (r : Rest) → isCreated (k .state) ≡ true → coro w c ≡ Is k r → A) → A
 new-there {A} w c h f = go (coro w c) refl h
   where
-    go : (x : Coroutine) → coro w c ≡ x → seenIn (λ y. isNew (y .state)) (seenOf x) ≡ true → A
+    go : (x : Coroutine) → coro w c ≡ x → seenIn (λ y. seenCreated (y .state)) (seenOf x) ≡ true → A
     go Absent e q = no-both q refl
     go (Is k r) e q = f k r (sym (new-state (k .state)) ∙ q) e
 
-pub closes-new : (c : ℕ) (w : World) (k : Call) (pc dst q src : ℕ) → opOf k ≡ some (Op.CoroClose pc dst q src) → word (viewOf w) q ≡ c → is (viewOf w) isNew c ≡ true → whom (viewOf w) (opOf k) ≡ none
+pub closes-created : (c : ℕ) (w : World) (k : Call) (pc dst q src : ℕ) → modelOp k ≡ some (Op.CoroClose pc dst q src) → registerWord (viewOf w) q ≡ c → stateIs (viewOf w) seenCreated c ≡ true → whom (viewOf w) (modelOp k) ≡ none
     → viewOf (step w k .world) .coro c ≡ pick (eqb (numberOf (step w k .answer)) 0) (endedAs CoroState.Returned 0) (viewOf w .coro c)
-closes-new c w k pc dst q src o f h m =
+closes-created c w k pc dst q src o f h m =
     new-there w c h (λ l r new e. by-call c w (Op.CoroClose pc dst q src) 0 (endedAs CoroState.Returned 0) refl (close-left w c l r new e pc dst q src (sym (word-reg w q) ∙ f)) k o m)
 
-pub throws-new : (c : ℕ) (w : World) (k : Call) (pc dst q src : ℕ) → opOf k ≡ some (Op.ResumeThrow pc dst q src) → word (viewOf w) q ≡ c → is (viewOf w) isNew c ≡ true → whom (viewOf w) (opOf k) ≡ none
-    → viewOf (step w k .world) .coro c ≡ pick (eqb (numberOf (step w k .answer)) 17) (endedAs CoroState.Failed (word (viewOf w) src)) (viewOf w .coro c)
-throws-new c w k pc dst q src o f h m =
+pub throws-created : (c : ℕ) (w : World) (k : Call) (pc dst q src : ℕ) → modelOp k ≡ some (Op.ResumeThrow pc dst q src) → registerWord (viewOf w) q ≡ c → stateIs (viewOf w) seenCreated c ≡ true → whom (viewOf w) (modelOp k) ≡ none
+    → viewOf (step w k .world) .coro c ≡ pick (eqb (numberOf (step w k .answer)) 17) (endedAs CoroState.Failed (registerWord (viewOf w) src)) (viewOf w .coro c)
+throws-created c w k pc dst q src o f h m =
     new-there w c h (λ l r new e.
-    by-call c w (Op.ResumeThrow pc dst q src) 17 (endedAs CoroState.Failed (word (viewOf w) src)) refl
+    by-call c w (Op.ResumeThrow pc dst q src) 17 (endedAs CoroState.Failed (registerWord (viewOf w) src)) refl
     (subst (λ x. Left w c 17 (endedAs CoroState.Failed x) (Op.ResumeThrow pc dst q src)) (sym (word-reg w src)) (throw-left w c l r new e pc dst q src (sym (word-reg w q) ∙ f))) k o m)
 
 -- ---- they are answered so where they are paid for
 
-module _ (w : World) (pc dst q src : ℕ) (m : Pays steps w) (l : lie (viewOf w) (dst ∷ q ∷ src ∷ []) ≡ true) (n : is (viewOf w) isNew (word (viewOf w) q) ≡ true) where
+module _ (w : World) (pc dst q src : ℕ) (m : Pays steps w) (l : lie (viewOf w) (dst ∷ q ∷ src ∷ []) ≡ true) (n : stateIs (viewOf w) seenCreated (registerWord (viewOf w) q) ≡ true) where
   well : sound w ≡ true
   well = healthy-sound w (m .healthy)
 
@@ -192,28 +192,28 @@ module _ (w : World) (pc dst q src : ℕ) (m : Pays steps w) (l : lie (viewOf w)
   stand = sym (is-none (w .frames)) ∙ m .stands
 
   -- an arm that ends it so is the instruction's
-  numbered : {y : Option Seen} {x : ℕ} (ok : Bool) (arm : World → After Step) → ok ≡ true → ((k : Core) (r : Rest) → isCreated (k .state) ≡ true → coro (paid .left) (word (viewOf w) q) ≡ Is k r → Ends (word (viewOf w) q) x y (arm (paid .left)))
+  numbered : {y : Option Seen} {x : ℕ} (ok : Bool) (arm : World → After Step) → ok ≡ true → ((k : Core) (r : Rest) → isCreated (k .state) ≡ true → coro (paid .left) (registerWord (viewOf w) q) ≡ Is k r → Ends (registerWord (viewOf w) q) x y (arm (paid .left)))
       → numberOf (instruction pc ok arm w .answer) ≡ x
   numbered ok arm o f =
       ap numberOf (paid-number w pc paid ok arm stand o) ∙ step-number (paid .words) (arm (paid .left) .answer)
-      ∙ new-there w (word (viewOf w) q) n (λ k r new e. f k r new (coro-alike (paid .alike) (word (viewOf w) q) ∙ e) .number)
+      ∙ new-there w (registerWord (viewOf w) q) n (λ k r new e. f k r new (coro-alike (paid .alike) (registerWord (viewOf w) q) ∙ e) .number)
 
-  named : reg (paid .left) q ≡ word (viewOf w) q
+  named : reg (paid .left) q ≡ registerWord (viewOf w) q
   named = reg-alike (paid .alike) q ∙ sym (word-reg w q)
 
   close-number : numberOf (call (Op.CoroClose pc dst q src) w .answer) ≡ 0
   unfolding call
-  close-number = numbered _ (coroClose pc dst q src) (rw (← base-top (w .frames)) l) (λ k r new e. close-ends (word (viewOf w) q) k r new (paid .left) e pc dst q src named)
+  close-number = numbered _ (coroClose pc dst q src) (rw (← base-top (w .frames)) l) (λ k r new e. close-ends (registerWord (viewOf w) q) k r new (paid .left) e pc dst q src named)
 
   throw-number : numberOf (call (Op.ResumeThrow pc dst q src) w .answer) ≡ 17
   unfolding call
-  throw-number = numbered _ (resumeThrow pc dst q src) (rw (← base-top (w .frames)) l) (λ k r new e. throw-ends (word (viewOf w) q) k r new (paid .left) e pc dst q src named)
+  throw-number = numbered _ (resumeThrow pc dst q src) (rw (← base-top (w .frames)) l) (λ k r new e. throw-ends (registerWord (viewOf w) q) k r new (paid .left) e pc dst q src named)
 
-  pub accepts-close : (k : Call) → opOf k ≡ some (Op.CoroClose pc dst q src) → numberOf (step w k .answer) ≡ 0
+  pub accepts-close : (k : Call) → modelOp k ≡ some (Op.CoroClose pc dst q src) → numberOf (step w k .answer) ≡ 0
   accepts-close k e = at-step w well k (Op.CoroClose pc dst q src) e close-number
 
-  pub accepts-throw-new : (k : Call) → opOf k ≡ some (Op.ResumeThrow pc dst q src) → numberOf (step w k .answer) ≡ 17
-  accepts-throw-new k e = at-step w well k (Op.ResumeThrow pc dst q src) e throw-number
+  pub accepts-throw-created : (k : Call) → modelOp k ≡ some (Op.ResumeThrow pc dst q src) → numberOf (step w k .answer) ≡ 17
+  accepts-throw-created k e = at-step w well k (Op.ResumeThrow pc dst q src) e throw-number
 
 -- ---- and of a word that names none: nothing comes of it
 
@@ -256,7 +256,7 @@ module _ (w : World) (c : ℕ) (e : coro w c ≡ Absent) where
   instr-stays : (p : ℕ) (ok : Bool) (arm : World → After Step) → ((v : World) → Alike p w v → coreAt (arm v .world) c .seen ≡ coreAt w c .seen) → coreAt (instruction p ok arm w .world) c .seen ≡ coreAt w c .seen
   instr-stays p ok arm owes = instr-any (λ x. x ≡ coreAt w c .seen) refl p ok arm owes
 
-  absent-stays : {o : Op} {a : E.Act} {d : Does} → Kind w o a d → endsUnbegun d ≡ some c → coreAt (call o w .world) c .seen ≡ coreAt w c .seen
+  absent-stays : {o : Op} {a : E.Act} {d : Announced} → Kind w o a d → endsUnbegun d ≡ some c → coreAt (call o w .world) c .seen ≡ coreAt w c .seen
   unfolding call
   absent-stays (k-at e (to-suspend (yields pc dst src))) n = no-some refl n
   absent-stays (k-at e (to-suspend (yieldsKv pc dst src key))) n = no-some refl n
@@ -272,22 +272,22 @@ module _ (w : World) (c : ℕ) (e : coro w c ≡ Absent) where
   absent-stays (k-other e) n = no-some refl n
 
 -- WHO COMES
-pub comes : (c : ℕ) (w : World) (k : Call) → viewOf w .coro c ≡ none → (viewOf (next w k) .coro c ≡ none) ⊎ (is (viewOf (next w k)) isNew c ≡ true)
-comes c w k h = go (endsUnbegun (doing (viewOf w) (opOf k))) refl
+pub comes : (c : ℕ) (w : World) (k : Call) → viewOf w .coro c ≡ none → (viewOf (next w k) .coro c ≡ none) ⊎ (stateIs (viewOf (next w k)) seenCreated c ≡ true)
+comes c w k h = go (endsUnbegun (announcedBy (viewOf w) (modelOp k))) refl
   where
     gone : (x : Coroutine) → seenOf x ≡ none → x ≡ Absent
     gone Absent e = refl
     gone (Is k r) e = let z : _≡_ {A = ℕ} 0 1 = cc in absurd (omega arith)
 
-    stays : {k : Call} (z : World) → StepCase w k z → endsUnbegun (doing (viewOf w) (opOf k)) ≡ some c → viewOf z .coro c ≡ none
+    stays : {k : Call} (z : World) → StepCase w k z → endsUnbegun (announcedBy (viewOf w) (modelOp k)) ≡ some c → viewOf z .coro c ≡ none
     stays z (anew s e) u = no-some refl u
     stays z (same k e) u = h
     stays z (Claim.does o e) u = sym (seen-at z c) ∙ absent-stays w c (gone (coro w c) h) (kind-of w (o .op)) u ∙ seen-at w c ∙ h
 
-    named : (u : ℕ) → endsUnbegun (doing (viewOf w) (opOf k)) ≡ some u → Dec (u ≡ c) → (viewOf (next w k) .coro c ≡ none) ⊎ (is (viewOf (next w k)) isNew c ≡ true)
+    named : (u : ℕ) → endsUnbegun (announcedBy (viewOf w) (modelOp k)) ≡ some u → Dec (u ≡ c) → (viewOf (next w k) .coro c ≡ none) ⊎ (stateIs (viewOf (next w k)) seenCreated c ≡ true)
     named u e (yes q) = inl (stays (next w k) (step-case w k) (e ∙ ap {B = Option ℕ} some q))
     named u e (no q) = comes-else c w k (λ p. q (one-some e p)) h
 
-    go : (x : Option ℕ) → endsUnbegun (doing (viewOf w) (opOf k)) ≡ x → (viewOf (next w k) .coro c ≡ none) ⊎ (is (viewOf (next w k)) isNew c ≡ true)
+    go : (x : Option ℕ) → endsUnbegun (announcedBy (viewOf w) (modelOp k)) ≡ x → (viewOf (next w k) .coro c ≡ none) ⊎ (stateIs (viewOf (next w k)) seenCreated c ≡ true)
     go none e = comes-else c w k (λ p. no-some e p) h
     go (some u) e = named u e (ℕ-discrete u c)

@@ -42,7 +42,7 @@ use Rattle.claims_model.specs.Delivery.{recorded, resultOf}
 use Rattle.claims_model.specs.Events as Said
 use Rattle.claims_model.specs.Events.{isInteger}
 use Rattle.claims_model.specs.Promise.{converts}
-use Rattle.claims_model.specs.Steps.{seenOf, opOf, steps}
+use Rattle.claims_model.specs.Steps.{seenOf, modelOp, steps}
 use Rattle.claims_model.proofs.Held.{coreIn, coreAt}
 use Rattle.claims_model.proofs.Split.{next}
 use Rattle.claims_model.proofs.Cores.{no-both, objectIn, find}
@@ -173,7 +173,7 @@ pub word-in : (o : Op) (kind : ResultKind) (x : ℕ) → o ≡ Op.Finish kind x 
 unfolding typed
 word-in o kind x e t = ltb-true x (2 ^ 64) (ap typed (sym e) ∙ t)
 
-pub integer : (c : ℕ) (w : World) (k : Call) (kind : ResultKind) (x : ℕ) → Said.Returns steps c w k → opOf k ≡ some (Op.Finish kind x) → isInteger kind ≡ true → dynInt (next w k) (recorded (seenOf (coro (next w k) c))) ≡ Opt.Some x
+pub integer : (c : ℕ) (w : World) (k : Call) (kind : ResultKind) (x : ℕ) → Said.Returns steps c w k → modelOp k ≡ some (Op.Finish kind x) → isInteger kind ≡ true → dynInt (next w k) (recorded (seenOf (coro (next w k) c))) ≡ Opt.Some x
 integer c w k kind x g e i = go (next w k) (step-case w k) (sym (is-ended (next w k) c) ∙ g .after) e
   where
     ran : isRunning (coreAt w c .state) ≡ true
@@ -182,7 +182,7 @@ integer c w k kind x g e i = go (next w k) (step-case w k) (sym (is-ended (next 
     finished : (o : Op) → o ≡ Op.Finish kind x → x < 2 ^ 64 → sound w ≡ true → isReturned (coreAt (call o w .world) c .state) ≡ true → dynInt (call o w .world) (recorded (seenOf (coro (call o w .world) c))) ≡ Opt.Some x
     finished o q l s a = ap (λ p. dynInt (call p w .world) (recorded (seenOf (coro (call p w .world) c)))) q ∙ finish-at w c kind x s l i ran (ap (λ p. isReturned (coreAt (call p w .world) c .state)) (sym q) ∙ a)
 
-    go : {k : Call} (z : World) → StepCase w k z → isReturned (coreAt z c .state) ≡ true → opOf k ≡ some (Op.Finish kind x) → dynInt z (recorded (seenOf (coro z c))) ≡ Opt.Some x
+    go : {k : Call} (z : World) → StepCase w k z → isReturned (coreAt z c .state) ≡ true → modelOp k ≡ some (Op.Finish kind x) → dynInt z (recorded (seenOf (coro z c))) ≡ Opt.Some x
     go z (anew s e) a q = no-both a (ap (λ x. isReturned (coreIn x .state)) (fresh-absent s c))
     go z (same k e) a q = no-both a (run-returned (coreAt w c .state) ran)
     go z (does o e) a q = finished (o .op) (some-op q) (word-in (o .op) kind x (some-op q) (o .within)) e a
@@ -213,7 +213,7 @@ word-at : (w : World) (c : ℕ) (kind : ResultKind) (x : ℕ) → isInteger kind
 unfolding call
 word-at w c kind x i b r = finish-word kind x w i c (finish kind x w) b r (finish-case kind x w)
 
-pub word : (c : ℕ) (w : World) (k : Call) (kind : ResultKind) (x : ℕ) → Said.Returns steps c w k → opOf k ≡ some (Op.Finish kind x) → isInteger kind ≡ false
+pub word : (c : ℕ) (w : World) (k : Call) (kind : ResultKind) (x : ℕ) → Said.Returns steps c w k → modelOp k ≡ some (Op.Finish kind x) → isInteger kind ≡ false
     → recorded (seenOf (coro (next w k) c)) ≡ resultOf kind x 0
 word c w k kind x g e i = go (next w k) (step-case w k) (sym (is-ended (next w k) c) ∙ g .after) e
   where
@@ -223,7 +223,7 @@ word c w k kind x g e i = go (next w k) (step-case w k) (sym (is-ended (next w k
     finished : (o : Op) → o ≡ Op.Finish kind x → isReturned (coreAt (call o w .world) c .state) ≡ true → recorded (seenOf (coro (call o w .world) c)) ≡ resultOf kind x 0
     finished o q a = ap (λ p. recorded (seenOf (coro (call p w .world) c))) q ∙ word-at w c kind x i ran (ap (λ p. isReturned (coreAt (call p w .world) c .state)) (sym q) ∙ a)
 
-    go : {k : Call} (z : World) → StepCase w k z → isReturned (coreAt z c .state) ≡ true → opOf k ≡ some (Op.Finish kind x) → recorded (seenOf (coro z c)) ≡ resultOf kind x 0
+    go : {k : Call} (z : World) → StepCase w k z → isReturned (coreAt z c .state) ≡ true → modelOp k ≡ some (Op.Finish kind x) → recorded (seenOf (coro z c)) ≡ resultOf kind x 0
     go z (anew s e) a q = no-both a (ap (λ x. isReturned (coreIn x .state)) (fresh-absent s c))
     go z (same k e) a q = no-both a (run-returned (coreAt w c .state) ran)
     go z (does o e) a q = finished (o .op) (some-op q) a

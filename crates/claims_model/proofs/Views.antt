@@ -17,8 +17,8 @@ use Rattle.model.specs.declared.machine.Driver.{Driver}
 use Rattle.model.specs.declared.call.OptPc.{OptPc}
 use Rattle.model.specs.declared.call.Op.{Op}
 use Rattle.claims_invariant.specs.Kept as Kept
-use Rattle.claims_model.specs.Engine.{isNew, runs, awaits, sleeps, ended, seenIn, is}
-use Rattle.claims_model.specs.Says.{Aim, enter, suspend, neither, Does, instr, hosts, finishes, raises, other, does, nothing, gets, closes}
+use Rattle.claims_model.specs.Engine.{seenCreated, seenRunning, seenAwaiting, seenSuspended, seenReturned, seenIn, stateIs}
+use Rattle.claims_model.specs.Says.{Aim, enter, suspend, neither, Announced, instr, hosts, finishes, raises, other, announced, nothing, gets, closes}
 use Rattle.claims_model.specs.Held.{closer}
 use Rattle.claims_model.specs.Steps.{seenOf, viewOf}
 use Rattle.claims_model.proofs.Entry as E
@@ -29,7 +29,7 @@ use Rattle.claims_model.proofs.Split.{hasLeft}
 
 -- ---- states
 
-pub runs-state : (s : CoroState) → runs s ≡ isRunning s
+pub runs-state : (s : CoroState) → seenRunning s ≡ isRunning s
 runs-state CoroState.Created = refl
 runs-state CoroState.Running = refl
 runs-state CoroState.Yielded = refl
@@ -37,7 +37,7 @@ runs-state CoroState.Awaiting = refl
 runs-state CoroState.Returned = refl
 runs-state CoroState.Failed = refl
 
-sleeps-state : (s : CoroState) → sleeps s ≡ isSuspended s
+sleeps-state : (s : CoroState) → seenSuspended s ≡ isSuspended s
 sleeps-state CoroState.Created = refl
 sleeps-state CoroState.Running = refl
 sleeps-state CoroState.Yielded = refl
@@ -45,7 +45,7 @@ sleeps-state CoroState.Awaiting = refl
 sleeps-state CoroState.Returned = refl
 sleeps-state CoroState.Failed = refl
 
-pub ended-state : (s : CoroState) → ended s ≡ isReturned s
+pub ended-state : (s : CoroState) → seenReturned s ≡ isReturned s
 ended-state CoroState.Created = refl
 ended-state CoroState.Running = refl
 ended-state CoroState.Yielded = refl
@@ -53,7 +53,7 @@ ended-state CoroState.Awaiting = refl
 ended-state CoroState.Returned = refl
 ended-state CoroState.Failed = refl
 
-awaits-state : (s : CoroState) → awaits s ≡ isAwaiting s
+awaits-state : (s : CoroState) → seenAwaiting s ≡ isAwaiting s
 awaits-state CoroState.Created = refl
 awaits-state CoroState.Running = refl
 awaits-state CoroState.Yielded = refl
@@ -61,7 +61,7 @@ awaits-state CoroState.Awaiting = refl
 awaits-state CoroState.Returned = refl
 awaits-state CoroState.Failed = refl
 
-pub new-state : (s : CoroState) → isNew s ≡ isCreated s
+pub new-state : (s : CoroState) → seenCreated s ≡ isCreated s
 new-state CoroState.Created = refl
 new-state CoroState.Running = refl
 new-state CoroState.Yielded = refl
@@ -69,7 +69,7 @@ new-state CoroState.Awaiting = refl
 new-state CoroState.Returned = refl
 new-state CoroState.Failed = refl
 
-pub ready-state : (s : CoroState) → (isNew s || sleeps s) ≡ isResumable s
+pub ready-state : (s : CoroState) → (seenCreated s || seenSuspended s) ≡ isResumable s
 ready-state CoroState.Created = refl
 ready-state CoroState.Running = refl
 ready-state CoroState.Yielded = refl
@@ -84,45 +84,45 @@ seen-at w c = go (coro w c)
     go Absent = refl
     go (Is k r) = refl
 
-pub is-runs : (w : World) (c : ℕ) → is (viewOf w) runs c ≡ isRunning (coreAt w c .state)
+pub is-runs : (w : World) (c : ℕ) → stateIs (viewOf w) seenRunning c ≡ isRunning (coreAt w c .state)
 is-runs w c = go (coro w c)
   where
-    go : (x : Coroutine) → seenIn (λ y. runs (y .state)) (seenOf x) ≡ isRunning (coreIn x .state)
+    go : (x : Coroutine) → seenIn (λ y. seenRunning (y .state)) (seenOf x) ≡ isRunning (coreIn x .state)
     go Absent = refl
     go (Is k r) = runs-state (k .state)
 
-pub is-sleeps : (w : World) (c : ℕ) → is (viewOf w) sleeps c ≡ isSuspended (coreAt w c .state)
+pub is-sleeps : (w : World) (c : ℕ) → stateIs (viewOf w) seenSuspended c ≡ isSuspended (coreAt w c .state)
 is-sleeps w c = go (coro w c)
   where
-    go : (x : Coroutine) → seenIn (λ y. sleeps (y .state)) (seenOf x) ≡ isSuspended (coreIn x .state)
+    go : (x : Coroutine) → seenIn (λ y. seenSuspended (y .state)) (seenOf x) ≡ isSuspended (coreIn x .state)
     go Absent = refl
     go (Is k r) = sleeps-state (k .state)
 
-pub is-ended : (w : World) (c : ℕ) → is (viewOf w) ended c ≡ isReturned (coreAt w c .state)
+pub is-ended : (w : World) (c : ℕ) → stateIs (viewOf w) seenReturned c ≡ isReturned (coreAt w c .state)
 is-ended w c = go (coro w c)
   where
-    go : (x : Coroutine) → seenIn (λ y. ended (y .state)) (seenOf x) ≡ isReturned (coreIn x .state)
+    go : (x : Coroutine) → seenIn (λ y. seenReturned (y .state)) (seenOf x) ≡ isReturned (coreIn x .state)
     go Absent = refl
     go (Is k r) = ended-state (k .state)
 
-pub is-left : (w : World) (c : ℕ) → is (viewOf w) (λ x. sleeps x || ended x) c ≡ hasLeft (coreAt w c .state)
+pub is-left : (w : World) (c : ℕ) → stateIs (viewOf w) (λ x. seenSuspended x || seenReturned x) c ≡ hasLeft (coreAt w c .state)
 is-left w c = go (coro w c)
   where
-    go : (x : Coroutine) → seenIn (λ y. sleeps (y .state) || ended (y .state)) (seenOf x) ≡ hasLeft (coreIn x .state)
+    go : (x : Coroutine) → seenIn (λ y. seenSuspended (y .state) || seenReturned (y .state)) (seenOf x) ≡ hasLeft (coreIn x .state)
     go Absent = refl
     go (Is k r) = λ i. sleeps-state (k .state) i || ended-state (k .state) i
 
-pub is-asleep : (w : World) (c : ℕ) → is (viewOf w) sleeps c ≡ isAsleep (coro w c)
+pub is-asleep : (w : World) (c : ℕ) → stateIs (viewOf w) seenSuspended c ≡ isAsleep (coro w c)
 is-asleep w c = go (coro w c)
   where
-    go : (x : Coroutine) → seenIn (λ y. sleeps (y .state)) (seenOf x) ≡ isAsleep x
+    go : (x : Coroutine) → seenIn (λ y. seenSuspended (y .state)) (seenOf x) ≡ isAsleep x
     go Absent = refl
     go (Is k r) = sleeps-state (k .state)
 
-pub is-awaits : (w : World) (c : ℕ) → is (viewOf w) awaits c ≡ E.awaits (coro w c)
+pub is-awaits : (w : World) (c : ℕ) → stateIs (viewOf w) seenAwaiting c ≡ E.awaits (coro w c)
 is-awaits w c = go (coro w c)
   where
-    go : (x : Coroutine) → seenIn (λ y. awaits (y .state)) (seenOf x) ≡ E.awaits x
+    go : (x : Coroutine) → seenIn (λ y. seenAwaiting (y .state)) (seenOf x) ≡ E.awaits x
     go Absent = refl
     go (Is k r) = awaits-state (k .state)
 
@@ -141,7 +141,7 @@ aimOf (E.suspends s dst x) = suspend (isAwaiting s) dst x
 aimOf E.neither = neither
 
 -- the proof's words and those of the claim
-pub data Alike : E.Act → Does → Type 0 where
+pub data Alike : E.Act → Announced → Type 0 where
   l-at : (pc : ℕ) (ok : Bool) (a : E.Aim) → Alike (E.at pc ok a) (instr pc ok (aimOf a))
   l-host : (c x : ℕ) → Alike (E.byHost c x) (hosts c x)
   l-finish : (kind : ResultKind) (x : ℕ) → Alike (E.finishes kind x) (finishes kind x)
@@ -155,7 +155,7 @@ pub data Aims (w : World) : Op → E.Aim → Type 0 where
   aimless : {o : Op} → Aims w o E.neither
 
 -- the call and its plan, in the proof's words and in those of the claim
-pub data Kind (w : World) : Op → E.Act → Does → Type 0 where
+pub data Kind (w : World) : Op → E.Act → Announced → Type 0 where
   k-at : {o : Op} {a : E.Aim} {pc : ℕ} {ok : World → Bool} {arm : World → After Step} → table o ≡ Instruction pc ok arm → Aims w o a
       → Kind w o (E.at pc (ok w) a) (instr pc (ok w) (aimOf a))
   k-host : (c x : ℕ) → Kind w (Op.HostEntry c x) (E.byHost c x) (hosts c x)
@@ -163,7 +163,7 @@ pub data Kind (w : World) : Op → E.Act → Does → Type 0 where
   k-raise : (f : Fault) (pc : OptPc) → Kind w (Op.Unwind f pc) E.unwinds (raises f pc)
   k-other : {o : Op} → Kept.raises (table o) ≡ true → Kind w o E.other other
 
-alike : {w : World} {o : Op} {a : E.Act} {d : Does} → Kind w o a d → Alike a d
+alike : {w : World} {o : Op} {a : E.Act} {d : Announced} → Kind w o a d → Alike a d
 alike {w} (k-at {a = a} {pc} {ok} e i) = l-at pc (ok w) a
 alike (k-host c x) = l-host c x
 alike (k-finish kind x) = l-finish kind x
@@ -175,7 +175,7 @@ at : {w : World} {o : Op} {a : E.Aim} {pc : ℕ} {ok : World → Bool} {arm : Wo
 at {w} {o} {a} {pc} {ok} {b = b} e i p q =
     subst (λ y. Kind w o (E.at pc (ok w) a) (instr pc y b)) (sym p) (subst (λ y. Kind w o (E.at pc (ok w) a) (instr pc (ok w) y)) (sym q) (k-at e i))
 
-by-plan : (w : World) {o : Op} (p : E.Plan o) → Kind w o (E.actBy p w) (does (viewOf w) o)
+by-plan : (w : World) {o : Op} (p : E.Plan o) → Kind w o (E.actBy p w) (announced (viewOf w) o)
 by-plan w (E.suspending (yields pc dst src)) = at refl (to-suspend (yields pc dst src)) (rw (base-top (w .frames))) (rw (base-top (w .frames)))
 by-plan w (E.suspending (yieldsKv pc dst src key)) = at refl (to-suspend (yieldsKv pc dst src key)) (rw (base-top (w .frames))) (rw (base-top (w .frames)))
 by-plan w (E.suspending (waits pc dst src)) = at refl (to-suspend (waits pc dst src)) (rw (base-top (w .frames))) (rw (base-top (w .frames)))
@@ -193,8 +193,8 @@ by-plan w (E.unwinding f pc) = k-raise f pc
 by-plan w {o} (E.asking {pc = pc} {ok} e d) = subst (Kind w o (E.at pc (ok w) E.neither)) (sym (d w)) (k-at e aimless)
 by-plan w {o} (E.idle e d) = subst (Kind w o E.other) (sym (d w)) (k-other e)
 
-pub kind-of : (w : World) (o : Op) → Kind w o (act w o) (does (viewOf w) o)
+pub kind-of : (w : World) (o : Op) → Kind w o (act w o) (announced (viewOf w) o)
 kind-of w o = by-plan w (E.plan o)
 
-pub says-alike : (w : World) (o : Op) → Alike (act w o) (does (viewOf w) o)
+pub says-alike : (w : World) (o : Op) → Alike (act w o) (announced (viewOf w) o)
 says-alike w o = alike (kind-of w o)

@@ -14,14 +14,14 @@ use Rattle.model.specs.Frames.{onTop, stepPc, raise, topBase}
 use Rattle.model.specs.declared.machine.Frame.{Frame}
 use Rattle.claims_model.specs.Engine.{Seen}
 use Rattle.claims_model.specs.Says.{Sent, nothing, gets, closes}
-use Rattle.claims_model.specs.Held.{AllMoved, into, given, woken}
+use Rattle.claims_model.specs.Held.{AllMoved, into, withSent, enteredFrames}
 use Rattle.claims_model.specs.Steps.{waitsOf, seenOf}
 use Rattle.claims_model.proofs.Held.{Seat, coreIn, wordsWith, framesWith}
 use Rattle.claims_model.proofs.Cores.{no-both}
 use Rattle.claims_model.proofs.Enters.{set-append-at}
 
 -- the sent word, in the waiting register of the frame that is now on top
-pub words-given : (sent : Sent) (s : Seat) (xs ys : List ℕ) (dst : ℕ) (gs fs : List Frame) → isNil (s .frames) ≡ false → s .regs ≡ ys → s .waiting ≡ dst → gs ≡ map (raise (length xs)) (framesWith sent s) ++ fs → xs ++ wordsWith sent s ≡ given sent gs dst (xs ++ ys)
+pub words-given : (sent : Sent) (s : Seat) (xs ys : List ℕ) (dst : ℕ) (gs fs : List Frame) → isNil (s .frames) ≡ false → s .regs ≡ ys → s .waiting ≡ dst → gs ≡ map (raise (length xs)) (framesWith sent s) ++ fs → xs ++ wordsWith sent s ≡ withSent sent gs dst (xs ++ ys)
 words-given nothing s xs ys dst gs fs n r q e = ap (λ (l : List ℕ). xs ++ l) r
 words-given (closes x) s xs ys dst gs fs n r q e = ap (λ (l : List ℕ). xs ++ l) r
 words-given (gets x) s xs ys dst gs fs n r q e = go (s .frames) n ∙ ap (λ hs. into hs dst x (xs ++ ys)) (sym e)
@@ -31,10 +31,10 @@ words-given (gets x) s xs ys dst gs fs n r q e = go (s .frames) n ∙ ap (λ hs.
     go (f ∷ hs) n = (λ i. xs ++ set (r i) (f .base + q i) x) ∙ sym (set-append-at xs ys (f .base + length xs + dst) (f .base + dst) x (omega arith))
 
 -- the frames that a coroutine is woken with
-pub woken-with : (sent : Sent) (s : Seat) → framesWith sent s ≡ woken sent (s .frames)
+pub woken-with : (sent : Sent) (s : Seat) → framesWith sent s ≡ enteredFrames sent (s .frames)
 woken-with sent s = go sent (s .frames)
   where
-    go : (sent : Sent) (fs : List Frame) → framesWith sent (record { state = s .state; regs = s .regs; frames = fs; waiting = s .waiting; closing = s .closing; seen = s .seen }) ≡ woken sent fs
+    go : (sent : Sent) (fs : List Frame) → framesWith sent (record { state = s .state; regs = s .regs; frames = fs; waiting = s .waiting; closing = s .closing; seen = s .seen }) ≡ enteredFrames sent fs
     go nothing [] = refl
     go nothing (f ∷ fs) = refl
     go (gets x) [] = refl

@@ -26,8 +26,8 @@ use Rattle.model.specs.declared.machine.Charge.{Charge}
 use Rattle.model.specs.declared.coro.Started.{Started}
 use Rattle.model.specs.declared.call.OptPc.{OptPc}
 use Rattle.model.specs.declared.call.Op.{Op}
-use Rattle.claims_model.specs.Engine.{isNew, sleeps, seenIn, is}
-use Rattle.claims_model.specs.Says.{Does, Entry, entry, fits, named, cleaned, banked, charged, whomBy, whom, nothing, gets, closes}
+use Rattle.claims_model.specs.Engine.{seenCreated, seenSuspended, seenIn, stateIs}
+use Rattle.claims_model.specs.Says.{Announced, Entry, entry, fits, named, cleaned, banked, charged, whomBy, whom, nothing, gets, closes}
 use Rattle.claims_model.specs.Steps.{seenOf, viewOf}
 use Rattle.claims_model.proofs.Entry as E
 use Rattle.claims_model.proofs.Entry.{accepts, acceptsAs, sentTo, aimed, pcBy, entryBy, act}
@@ -65,7 +65,7 @@ none-of true y z = refl
 none-of false y z = refl
 
 module _ (w : World) (h : sound w ≡ true) where
-  fits-as : (c : ℕ) (x : Coroutine) → coro w c ≡ x → seenIn (λ x. (isNew (x .state) || sleeps (x .state)) && leb (length (w .frames) + length (x .frames)) (w .setup .limits .depth) && leb (length (w .stack) + length (x .words)) (w .setup .limits .stack)) (seenOf x) ≡ acceptsAs x w
+  fits-as : (c : ℕ) (x : Coroutine) → coro w c ≡ x → seenIn (λ x. (seenCreated (x .state) || seenSuspended (x .state)) && leb (length (w .frames) + length (x .frames)) (w .setup .limits .depth) && leb (length (w .stack) + length (x .words)) (w .setup .limits .stack)) (seenOf x) ≡ acceptsAs x w
   fits-as c Absent e = refl
   fits-as c (Is k r) e = ap (λ b. b && leb (length (w .frames) + length (k .frames)) (w .setup .limits .depth) && leb (length (w .stack) + length (k .regs)) (w .setup .limits .stack)) (ready-state (k .state)) ∙ go (isResumable (k .state)) refl
     where
@@ -88,10 +88,10 @@ module _ (w : World) (h : sound w ≡ true) where
   named-aimed pc (E.suspends s dst x) = refl
   named-aimed pc E.neither = refl
   named-aimed pc (E.enters c d x may) =
-      ap (λ b. pick (may && b) (some (entry c d (pick (is (viewOf w) isNew c) nothing x) pc)) none) (fits-accepts c)
+      ap (λ b. pick (may && b) (some (entry c d (pick (stateIs (viewOf w) seenCreated c) nothing x) pc)) none) (fits-accepts c)
       ∙ go (coro w c) ∙ told-pick pc (may && accepts w c) (E.entry c d (sentTo (coro w c) x)) E.nobody
     where
-      go : (y : Coroutine) → pick (may && acceptsAs y w) (some (entry c d (pick (seenIn (λ x. isNew (x .state)) (seenOf y)) nothing x) pc)) none ≡ pick (may && acceptsAs y w) (told pc (E.entry c d (sentTo y x))) (told pc E.nobody)
+      go : (y : Coroutine) → pick (may && acceptsAs y w) (some (entry c d (pick (seenIn (λ x. seenCreated (x .state)) (seenOf y)) nothing x) pc)) none ≡ pick (may && acceptsAs y w) (told pc (E.entry c d (sentTo y x))) (told pc E.nobody)
       go Absent = none-of may (some (entry c d (pick false nothing x) pc)) none ∙ sym (none-of may (some (entry c d nothing pc)) none)
       go (Is k r) = ap (λ b. pick (may && acceptsAs (Is k r) w) (some (entry c d (pick b nothing x) pc)) none) (new-state (k .state))
 
@@ -175,7 +175,7 @@ module _ (w : World) (h : sound w ≡ true) where
   charged-told : (pc : ℕ) (a : E.Aim) → charged (viewOf w) pc (named (viewOf w) pc (aimOf a)) ≡ told pc (E.charged (charge (OptPc.Some pc) w .answer) w (aimed a w))
   charged-told pc a = ap (charged (viewOf w) pc) (named-aimed w h pc a) ∙ charged-by pc (aimed a w)
 
-  whom-alike : {a : E.Act} {d : Does} → Alike a d → whomBy (viewOf w) d ≡ told (pcBy a) (entryBy a w)
+  whom-alike : {a : E.Act} {d : Announced} → Alike a d → whomBy (viewOf w) d ≡ told (pcBy a) (entryBy a w)
   whom-alike (l-at pc ok a) =
       let x = E.charged (charge (OptPc.Some pc) w .answer) w (aimed a w) in
       (λ i. pick (is-none (w .frames) i) none (pick ok (charged-told pc a i) none))

@@ -23,7 +23,7 @@ use Rattle.model.specs.declared.machine.Frame.{Frame}
 use Rattle.model.specs.declared.machine.Active.{Active}
 use Rattle.model.specs.declared.machine.Driver.{Driver}
 use Rattle.model.specs.declared.call.Op.{Op}
-use Rattle.claims_model.specs.Engine.{Seen, View, Engine, isNew, runs, sleeps, seenIn, is}
+use Rattle.claims_model.specs.Engine.{Seen, View, Engine, seenCreated, seenRunning, seenSuspended, seenIn, stateIs}
 use Rattle.claims_model.specs.Says.{nothing, Entry, entry, whom}
 use Rattle.claims_model.specs.Demand3.{Enters, Suspends}
 use Rattle.claims_model.specs.Events.{Healthy}
@@ -84,14 +84,14 @@ abbrev grant : Call
 grant = asCall (Op.Grant 1) grant-typed
 
 -- a grant that leaves the coroutines as `step` does: nobody is entered or suspended
-module _ (f : World → World → World) (same : (w z : World) (p : CoroState → Bool) (u : ℕ) → is (viewOf (f w z)) p u ≡ is (viewOf z) p u) where
+module _ (f : World → World → World) (same : (w z : World) (p : CoroState → Bool) (u : ℕ) → stateIs (viewOf (f w z)) p u ≡ stateIs (viewOf z) p u) where
   not-entered : (u : ℕ) → Enters (leavingAt Bent.grant f) u begun grant → ⊥
   unfolding pick
-  not-entered u h = no-one (events .enters u begun grant (record { before = h .before; after = sym (same begun (step begun grant .world) runs u) ∙ h .after }) .says)
+  not-entered u h = no-one (events .enters u begun grant (record { before = h .before; after = sym (same begun (step begun grant .world) seenRunning u) ∙ h .after }) .says)
 
   not-suspended : (u : ℕ) → Suspends (leavingAt Bent.grant f) u begun grant → ⊥
   unfolding pick
-  not-suspended u h = no-some refl (events .suspends u begun grant (record { before = h .before; after = sym (same begun (step begun grant .world) sleeps u) ∙ h .after }))
+  not-suspended u h = no-some refl (events .suspends u begun grant (record { before = h .before; after = sym (same begun (step begun grant .world) seenSuspended u) ∙ h .after }))
 
   abbrev granted : Touch (leavingAt Bent.grant f)
   granted = record { s = begun; k = grant; o = Op.Grant 1; m = nothing-may; op = refl; may = refl; no-entry = not-entered; no-suspension = not-suspended }
@@ -227,14 +227,14 @@ creates-named-indirect h =
 
 creates-hooked : Refuted Creates (λ e v. v .hooked) (creating unmade)
 unfolding computed closure
-creates-hooked h = no-both {b = false} (ap (seenIn (λ x. isNew (x .state))) (h closure (asCall (Op.Spawn 1 0 3 0) refl) 1 0 3 0 refl refl .1 .came .there)) refl
+creates-hooked h = no-both {b = false} (ap (seenIn (λ x. seenCreated (x .state))) (h closure (asCall (Op.Spawn 1 0 3 0) refl) 1 0 3 0 refl refl .1 .came .there)) refl
 
 came-unused : RefutedAt came (λ e a r. r .unused) createsAgain
 unfolding computed waiting
 came-unused = (
   record { s = waiting; k = (asCall (Op.CoroNew 1 0 0 0) refl); pc = 1; dst = 0; f = 0; argc = 0; op = refl; accepted = refl },
   λ r h.
-      no-both {b = is (viewOf waiting) isNew c} refl (ap (seenIn (λ x. isNew (x .state))) h),
+      no-both {b = stateIs (viewOf waiting) seenCreated c} refl (ap (seenIn (λ x. seenCreated (x .state))) h),
 )
 
 came-there : RefutedAt came (λ e a r. r .there) (creating unmade)
@@ -242,7 +242,7 @@ unfolding computed Places.called
 came-there = (
   record { s = Places.called; k = (asCall (Op.CoroNew 1 0 0 0) refl); pc = 1; dst = 0; f = 0; argc = 0; op = refl; accepted = refl },
   λ r h.
-      no-both {b = false} (ap (seenIn (λ x. isNew (x .state))) h) refl,
+      no-both {b = false} (ap (seenIn (λ x. seenCreated (x .state))) h) refl,
 )
 
 named-came : RefutedAt named (λ e a r. r .came) (creating unmade)
@@ -250,7 +250,7 @@ unfolding computed Places.called
 named-came = (
   record { s = Places.called; k = (asCall (Op.CoroNew 1 0 0 0) refl); pc = 1; dst = 0; f = 0; argc = 0; op = refl; accepted = refl },
   λ r h.
-      no-both {b = false} (ap (seenIn (λ x. isNew (x .state))) (h .there)) refl,
+      no-both {b = false} (ap (seenIn (λ x. seenCreated (x .state))) (h .there)) refl,
 )
 
 named-names : RefutedAt named (λ e a r. r .names) (creating unnamed)
@@ -267,7 +267,7 @@ unfolding computed closure
 hooked-came = (
   record { s = closure; k = (asCall (Op.Spawn 1 0 3 0) refl); pc = 1; dst = 0; r = 3; argc = 0; op = refl; accepted = refl },
   λ r h.
-      no-both {b = false} (ap (seenIn (λ x. isNew (x .state))) (h .there)) refl,
+      no-both {b = false} (ap (seenIn (λ x. seenCreated (x .state))) (h .there)) refl,
 )
 
 hooked-frames : RefutedAt hooked (λ e a r. r .1 .frames) (leavingAt Bent.spawn storesPc9)

@@ -16,10 +16,10 @@ use Rattle.model.specs.declared.machine.Active.{Active}
 use Rattle.model.specs.declared.machine.Driver.{Driver}
 use Rattle.model.specs.declared.machine.Frame.{Frame}
 use Rattle.model.specs.declared.call.Op.{Op}
-use Rattle.claims_model.specs.Engine.{Engine, Turn, Seen, View, run}
-use Rattle.claims_model.specs.Says.{Sent, nothing, Entry, doing, whom}
-use Rattle.claims_model.specs.Held.{at, Moved, AllMoved, closer, closedBy, stepped, given, woken as wakes, By, Entered}
-use Rattle.claims_model.specs.Delivery.{eventOf, Memory, memory, deliver, Left}
+use Rattle.claims_model.specs.Engine.{Engine, Turn, Seen, View, runTurns}
+use Rattle.claims_model.specs.Says.{Sent, nothing, Entry, announcedBy, whom}
+use Rattle.claims_model.specs.Held.{at, Moved, AllMoved, closer, closedBy, stepped, withSent, enteredFrames, By, Entered}
+use Rattle.claims_model.specs.Delivery.{eventGiven, StackFrames, stackFrames, deliveredTo, LeftBelow}
 use Rattle.claims_model.specs.Premises.{runsIn, sleepsIn, leftIn, waits}
 use Rattle.claims_model.specs.Story.{c}
 use Rattle.claims_model.specs.Witness.{frame}
@@ -114,7 +114,7 @@ abbrev pub entry-at : {e : Engine} (c : ℕ) (s : e .State) (y : e .Call) → ru
 entry-at c s y a b = record { c = c; s = s; y = y; enters = record { before = a; after = b } }
 
 abbrev pub wake-at : {e : Engine} (c : ℕ) (s : e .State) (x : e .Call) (waiting : List (Turn (e .Call))) (y : e .Call) → runsIn e c s ≡ true → sleepsIn e c (e .next s x) ≡ true → waits e c (e .next s x) waiting ≡ true
-    → runsIn e c (run e (e .next s x) waiting) ≡ false → runsIn e c (e .next (run e (e .next s x) waiting) y) ≡ true → Wake e
+    → runsIn e c (runTurns e (e .next s x) waiting) ≡ false → runsIn e c (e .next (runTurns e (e .next s x) waiting) y) ≡ true → Wake e
 wake-at {e} c s x waiting y a b h f g =
     record { c = c; s = s; x = x; waiting = waiting; y = y; suspends = record { before = a; after = b }; waits = waits-true e c (e .next s x) waiting h; enters = record { before = f; after = g } }
 
@@ -142,9 +142,9 @@ module _ {w : View} {y : Option Op} (b : By w y c) where
 pub closed-by : {w : View} {y : Option Op} {z : View} (t : Entered w y c z) → closer (z .coro c) ≡ closedBy (t .by .sent) (closer (w .coro c)) → closer (z .coro c) ≡ closedBy (sentIn (whom w y)) (closer (w .coro c))
 closed-by {w} t h = h ∙ ap (λ s. closedBy s (closer (w .coro c))) (sent-by (t .by))
 
-pub word-by : {w : View} {y : Option Op} {z : View} (t : Entered w y c z) (x : Seen) → z .stack ≡ given (t .by .sent) (z .frames) (x .waits) (w .stack ++ x .words) → (i : ℕ)
-    → getD (z .stack) i 0 ≡ getD (given (sentIn (whom w y)) (z .frames) (x .waits) (w .stack ++ x .words)) i 0
-word-by {w} {y} {z} t x h i = ap (λ xs. getD xs i 0) h ∙ ap (λ s. getD (given s (z .frames) (x .waits) (w .stack ++ x .words)) i 0) (sent-by (t .by))
+pub word-by : {w : View} {y : Option Op} {z : View} (t : Entered w y c z) (x : Seen) → z .stack ≡ withSent (t .by .sent) (z .frames) (x .waits) (w .stack ++ x .words) → (i : ℕ)
+    → getD (z .stack) i 0 ≡ getD (withSent (sentIn (whom w y)) (z .frames) (x .waits) (w .stack ++ x .words)) i 0
+word-by {w} {y} {z} t x h i = ap (λ xs. getD xs i 0) h ∙ ap (λ s. getD (withSent s (z .frames) (x .waits) (w .stack ++ x .words)) i 0) (sent-by (t .by))
 
 -- frames that have something alike
 module _ (F : (b h : ℕ) (f g : Frame) → Moved b h f g → Type 0) (g k : Frame → ℕ) (alike : (b h : ℕ) (f j : Frame) (m : Moved b h f j) → F b h f j m → k j ≡ g f) where
@@ -213,9 +213,9 @@ entered-its-own = (
       absurd (omega (arith, q)),
 )
 
-entered-floor : RefutedAt entered (λ e a r. r .floor) (seeing (eachSeen higher))
+entered-body-base : RefutedAt entered (λ e a r. r .body-base) (seeing (eachSeen higher))
 unfolding computed waiting
-entered-floor = (
+entered-body-base = (
   entry-at c waiting (asCall (Op.Resume 2 1 0 2) refl) refl refl,
   λ r h.
       let q : _≡_ {A = ℕ} 5 4 = ap (λ f. f .base) (sym (first-of (r .over) (r .body) _ _ _ (r .frames))) ∙ h in
@@ -244,16 +244,16 @@ unfolding computed waiting
 entered-saved-frames = (
   entry-at c waiting (asCall (Op.Resume 2 1 0 2) refl) refl refl,
   λ r h.
-      let q : _≡_ {A = ℕ} 1 0 = ap first (first-pc r (wakes (r .by .sent) (frame 0 0 0 0 Cont.Coro ∷ [])) 4 (h fresh-one refl)) ∙ ap (λ s. stepped s 0) (sent-by (r .by)) in
+      let q : _≡_ {A = ℕ} 1 0 = ap first (first-pc r (enteredFrames (r .by .sent) (frame 0 0 0 0 Cont.Coro ∷ [])) 4 (h fresh-one refl)) ∙ ap (λ s. stepped s 0) (sent-by (r .by)) in
       absurd (omega (arith, q)),
 )
 
 -- ---- what is left
 
-word-below : {w : View} {y : Option Op} {v : View} {k : Option Op} {z : View} (l : Left w y c v k z) → memory (z .stack) (z .frames) ≡ deliver (l .by .driver) (eventOf v (doing v k) c z) (memory (w .stack) (at (l .by .pc) (w .frames)))
-    → (i : ℕ) → getD (z .stack) i 0 ≡ getD (deliver (driverIn (whom w y)) (eventOf v (doing v k) c z) (memory (w .stack) (at (l .by .pc) (w .frames))) .stack) i 0
+word-below : {w : View} {y : Option Op} {v : View} {k : Option Op} {z : View} (l : LeftBelow w y c v k z) → stackFrames (z .stack) (z .frames) ≡ deliveredTo (l .by .driver) (eventGiven v (announcedBy v k) c z) (stackFrames (w .stack) (at (l .by .pc) (w .frames)))
+    → (i : ℕ) → getD (z .stack) i 0 ≡ getD (deliveredTo (driverIn (whom w y)) (eventGiven v (announcedBy v k) c z) (stackFrames (w .stack) (at (l .by .pc) (w .frames))) .stack) i 0
 word-below {w} {y} {v} {k} {z} l h i =
-    ap (λ (m : Memory). getD (m .stack) i 0) h ∙ ap (λ d. getD (deliver d (eventOf v (doing v k) c z) (memory (w .stack) (at (l .by .pc) (w .frames))) .stack) i 0) (driver-by (l .by))
+    ap (λ (m : StackFrames). getD (m .stack) i 0) h ∙ ap (λ d. getD (deliveredTo d (eventGiven v (announcedBy v k) c z) (stackFrames (w .stack) (at (l .by .pc) (w .frames))) .stack) i 0) (driver-by (l .by))
 
 left-by : RefutedAt left (λ e a r. r .by) grantResumes
 unfolding computed waiting
@@ -288,12 +288,12 @@ refuted-entered =
       frames = entered-frames;
       stack = entered-stack;
       its-own = entered-its-own;
-      floor = entered-floor;
+      body-base = entered-body-base;
       chain = entered-chain;
       closing = entered-closing;
       saved-words = entered-saved-words;
       saved-frames = entered-saved-frames;
     }
 
-pub refuted-left : W.RefutedLeft
+pub refuted-left : W.RefutedLeftBelow
 refuted-left = record { by = left-by; under = left-under; chain = left-chain }

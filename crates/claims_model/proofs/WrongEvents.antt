@@ -20,10 +20,10 @@ use Rattle.model.specs.Compute.{computed}
 use Rattle.model.specs.declared.machine.Driver.{Driver}
 use Rattle.model.specs.declared.call.OptPc.{OptPc}
 use Rattle.model.specs.declared.call.Op.{Op}
-use Rattle.claims_model.specs.Engine.{Seen, Rules, View, code, isNew, runs, ended, is}
+use Rattle.claims_model.specs.Engine.{Seen, Rules, View, code, seenCreated, seenRunning, seenReturned, stateIs}
 use Rattle.claims_model.specs.Says.{nothing, gets, closes, Entry}
 use Rattle.claims_model.specs.Delivery.{recorded}
-use Rattle.claims_model.specs.Events.{failed as isFailed, Healthy, Lost, thrown, escapes, stops, Events}
+use Rattle.claims_model.specs.Events.{seenFailed, Healthy, Lost, thrown, escapes, stops, Events}
 use Rattle.claims_model.specs.Steps.{viewOf}
 use Rattle.claims_model.specs.Story as Story
 use Rattle.claims_model.specs.Story.{c}
@@ -31,7 +31,7 @@ use Rattle.claims_model.specs.Refuted.{Refuted}
 use Rattle.claims_model.specs.Bent as Bent
 use Rattle.claims_model.specs.Bent.{isA, leavingAt, answeringAt, answeringFor, making}
 use Rattle.claims_model.specs.WrongWakes.{grantResumes, closingEnds}
-use Rattle.claims_model.specs.WrongEvents.{entersNobody, two, entriesAnswer0, returnFails, failureReturns, awaitYields, returns5, reaching, being, result5, closeOfNewFails, shallow, lostIn, failureAnswers9, RefutedEvents, WrongEvents}
+use Rattle.claims_model.specs.WrongEvents.{entersNobody, two, entriesAnswer0, returnFails, failureReturns, awaitYields, returns5, reaching, being, result5, closeOfCreatedFails, shallow, lostIn, failureAnswers9, RefutedEvents, WrongEvents}
 use Rattle.claims_model.proofs.Cores.{no-both}
 use Rattle.claims_model.proofs.Exact.{some-op, sound-healthy}
 use Rattle.claims_model.proofs.Exactly as Exactly
@@ -138,23 +138,23 @@ events-failed : Refuted Events (λ e v. v .failed) failureReturns
 unfolding computed begun
 events-failed h = no-both (h c begun (asCall (Op.Unwind (Fault.Throw 7) OptPc.None) refl) (sound-healthy begun refl) refl (escapes (Fault.Throw 7) OptPc.None refl refl) .after) refl
 
-events-spoilt : Refuted Events (λ e v. v .spoilt) (reaching isFailed result5)
+events-spoilt : Refuted Events (λ e v. v .spoilt) (reaching seenFailed result5)
 unfolding computed begun
 events-spoilt h =
     let q : _≡_ {A = ℕ} 5 7 = ap recorded (h c begun (asCall (Op.Unwind (Fault.Throw 7) OptPc.None) refl) (Fault.Throw 7) OptPc.None 7 (record { before = refl; after = refl }) refl refl) in
     absurd (omega (arith, q))
 
-events-stopped : Refuted Events (λ e v. v .stopped) (reaching isFailed result5)
+events-stopped : Refuted Events (λ e v. v .stopped) (reaching seenFailed result5)
 unfolding computed begun
 events-stopped h = let q : _≡_ {A = ℕ} 5 0 = ap recorded (h c begun (asCall Op.StopRun refl) (record { before = refl; after = refl }) refl) in absurd (omega (arith, q))
 
-events-closes-new : Refuted Events (λ e v. v .closes-new) closeOfNewFails
+events-closes-created : Refuted Events (λ e v. v .closes-created) closeOfCreatedFails
 unfolding computed waiting
-events-closes-new h = let q : _≡_ {A = ℕ} 5 4 = ap stateIn (h c waiting (asCall (Op.CoroClose 3 1 0 2) refl) 3 1 0 2 refl refl refl refl) in absurd (omega (arith, q))
+events-closes-created h = let q : _≡_ {A = ℕ} 5 4 = ap stateIn (h c waiting (asCall (Op.CoroClose 3 1 0 2) refl) 3 1 0 2 refl refl refl refl) in absurd (omega (arith, q))
 
-events-throws-new : Refuted Events (λ e v. v .throws-new) (reaching isFailed result5)
+events-throws-created : Refuted Events (λ e v. v .throws-created) (reaching seenFailed result5)
 unfolding computed waiting
-events-throws-new h = let q : _≡_ {A = ℕ} 5 0 = ap recorded (h c waiting (asCall (Op.ResumeThrow 3 1 0 2) refl) 3 1 0 2 refl refl refl refl) in absurd (omega (arith, q))
+events-throws-created h = let q : _≡_ {A = ℕ} 5 0 = ap recorded (h c waiting (asCall (Op.ResumeThrow 3 1 0 2) refl) 3 1 0 2 refl refl refl refl) in absurd (omega (arith, q))
 
 events-integer : Refuted Events (λ e v. v .integer) returns5
 unfolding computed begun
@@ -187,30 +187,30 @@ events-awaited : Refuted Events (λ e v. v .awaited) awaitYields
 unfolding computed begun
 events-awaited h = no-both (h c begun (asCall (Op.Await 10 3 0) refl) (record { before = refl; after = refl })) refl
 
-events-still : Refuted Events (λ e v. v .still) (being ended result5)
+events-still : Refuted Events (λ e v. v .still) (being seenReturned result5)
 unfolding computed returned
 events-still h =
     let q : _≡_ {A = ℕ} 5 7 = ap recorded (h c returned (asCall (Op.CoroCurrent 9 1) refl) (λ r. no-set-up (r .sets-up)) (λ h. no-both (h .after) refl) refl) in
     absurd (omega (arith, q))
 
-events-unbegun : Refuted Events (λ e v. v .unbegun) (being isNew (making c CoroState.Failed))
+events-unbegun : Refuted Events (λ e v. v .unbegun) (being seenCreated (making c CoroState.Failed))
 unfolding computed waiting
 events-unbegun h =
     let q : _≡_ {A = ℕ} 5 0 = ap stateIn (h c waiting (asCall (Op.CoroCurrent 9 1) refl) (λ r. no-set-up (r .sets-up)) (λ h. no-both (h .after) refl) refl (λ e _. no-word e)) in
     absurd (omega (arith, q))
 
-events-runs-on : Refuted Events (λ e v. v .runs-on) (being runs (making c CoroState.Created))
+events-runs-on : Refuted Events (λ e v. v .runs-on) (being seenRunning (making c CoroState.Created))
 unfolding computed begun
 events-runs-on h = no-both (h c begun (asCall (Op.CoroCurrent 9 1) refl) (λ r. no-set-up (r .sets-up)) refl (λ h. no-both (h .after) refl) (λ h. no-both (h .after) refl) (λ h. no-both (h .after) refl)) refl
 
-events-comes : Refuted Events (λ e v. v .comes) (reaching isNew (making c CoroState.Failed))
+events-comes : Refuted Events (λ e v. v .comes) (reaching seenCreated (making c CoroState.Failed))
 unfolding computed called
 events-comes h = go (h c called (asCall (Op.CoroNew 1 0 0 0) refl) refl)
   where
     z : World
-    z = reaching isNew (making c CoroState.Failed) .next called (asCall (Op.CoroNew 1 0 0 0) refl)
+    z = reaching seenCreated (making c CoroState.Failed) .next called (asCall (Op.CoroNew 1 0 0 0) refl)
 
-    go : (viewOf z .coro c ≡ none) ⊎ (is (viewOf z) isNew c ≡ true) → ⊥
+    go : (viewOf z .coro c ≡ none) ⊎ (stateIs (viewOf z) seenCreated c ≡ true) → ⊥
     go (inl e) = let q : _≡_ {A = ℕ} 5 9 = ap stateIn e in absurd (omega (arith, q))
     go (inr e) = no-both e refl
 
@@ -267,8 +267,8 @@ refuted-events =
       failed = events-failed;
       spoilt = events-spoilt;
       stopped = events-stopped;
-      closes-new = events-closes-new;
-      throws-new = events-throws-new;
+      closes-created = events-closes-created;
+      throws-created = events-throws-created;
       integer = events-integer;
       word = events-word;
       closed = events-closed;

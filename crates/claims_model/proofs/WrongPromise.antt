@@ -24,11 +24,11 @@ use Rattle.model.specs.declared.machine.Active.{Active}
 use Rattle.model.specs.declared.machine.Fuel.{Fuel}
 use Rattle.model.specs.declared.call.OptPc.{OptPc}
 use Rattle.model.specs.declared.call.Op.{Op}
-use Rattle.claims_model.specs.Engine.{Seen, Rules, View, runs, sleeps, ended, isNew, is, seenIn, calls, run}
+use Rattle.claims_model.specs.Engine.{Seen, Rules, View, seenRunning, seenSuspended, seenReturned, seenCreated, stateIs, seenIn, turnCall, runTurns}
 use Rattle.claims_model.specs.Demand3.{Demand3}
 use Rattle.claims_model.specs.Events.{Healthy}
-use Rattle.claims_model.specs.Promise.{room, Roomy, Accepts, Eleven, sets-up, no-fault, Soundness, SetUps, Looks, NotEmpty, Promise}
-use Rattle.claims_model.specs.Steps.{viewOf, opOf}
+use Rattle.claims_model.specs.Promise.{bytesFit, Roomy, Accepts, Eleven, sets-up, no-fault, Soundness, SetUps, Looks, NotEmpty, Promise}
+use Rattle.claims_model.specs.Steps.{viewOf, modelOp}
 use Rattle.claims_model.specs.Story as Story
 use Rattle.claims_model.specs.Story.{wide, bad, c, held}
 use Rattle.claims_model.specs.Witness.{frame, nth, other, waiting as turns}
@@ -108,15 +108,15 @@ accepts-yield : Refuted Accepts (λ e v. v .yield) bankUnused
 unfolding computed banked-calls banked
 accepts-yield h = no-both (h c banked (asCall (Op.Yield 10 3 0) refl) 10 3 0 bank-pays-key refl refl refl) refl
 
-accepts-close-new : Refuted Accepts (λ e v. v .close-new) (refusing Bent.coroClose 9)
+accepts-close-created : Refuted Accepts (λ e v. v .close-created) (refusing Bent.coroClose 9)
 unfolding computed waiting
-accepts-close-new h =
+accepts-close-created h =
     let q : _≡_ {A = ℕ} 9 0 = h waiting (asCall (Op.CoroClose 3 1 0 2) refl) 3 1 0 2 (record { healthy = refusing-healthy Bent.coroClose 9 waiting refl refl; stands = refl; paid = λ pc y. refl }) refl refl refl in
     absurd (omega (arith, q))
 
-accepts-throw-new : Refuted Accepts (λ e v. v .throw-new) (refusing Bent.resumeThrow 9)
+accepts-throw-created : Refuted Accepts (λ e v. v .throw-created) (refusing Bent.resumeThrow 9)
 unfolding computed waiting
-accepts-throw-new h =
+accepts-throw-created h =
     let q : _≡_ {A = ℕ} 9 17 = h waiting (asCall (Op.ResumeThrow 3 1 0 2) refl) 3 1 0 2 (record { healthy = refusing-healthy Bent.resumeThrow 9 waiting refl refl; stands = refl; paid = λ pc y. refl }) refl refl refl in
     absurd (omega (arith, q))
 
@@ -234,7 +234,7 @@ unfolding computed waiting
 fresh-coros = (
   record { s = waiting; k = SetUp wide; restarts = record { sets-up = refl; accepted = refl } },
   λ r h.
-      no-both {b = is (viewOf waiting) isNew c} refl (ap (seenIn (λ x. isNew (x .state))) (h c)),
+      no-both {b = stateIs (viewOf waiting) seenCreated c} refl (ap (seenIn (λ x. seenCreated (x .state))) (h c)),
 )
 
 fresh-loops : RefutedAt R.fresh (λ e a r. r .loops) (leavingAt Bent.setUp loopLeft)
@@ -284,11 +284,11 @@ looks-unmoved h = let q : _≡_ {A = ℕ} 0 8 = ap (λ (v : View). length (v .st
 -- ---- one list of calls
 
 -- who runs neither sleeps nor has returned
-runs-only : (x : Option Seen) → seenIn (λ y. runs (y .state)) x ≡ true → seenIn (λ y. sleeps (y .state) || ended (y .state)) x ≡ true → ⊥
+runs-only : (x : Option Seen) → seenIn (λ y. seenRunning (y .state)) x ≡ true → seenIn (λ y. seenSuspended (y .state) || seenReturned (y .state)) x ≡ true → ⊥
 runs-only none h k = no-both h refl
 runs-only (some x) h k = go (x .state) h k
   where
-    go : (s : CoroState) → runs s ≡ true → (sleeps s || ended s) ≡ true → ⊥
+    go : (s : CoroState) → seenRunning s ≡ true → (seenSuspended s || seenReturned s) ≡ true → ⊥
     go CoroState.Created h k = no-both h refl
     go CoroState.Running h k = no-both k refl
     go CoroState.Yielded h k = no-both h refl
@@ -296,9 +296,9 @@ runs-only (some x) h k = go (x .state) h k
     go CoroState.Returned h k = no-both h refl
     go CoroState.Failed h k = no-both h refl
 
-sleeps-or : (x : Option Seen) → seenIn (λ y. sleeps (y .state)) x ≡ true → seenIn (λ y. sleeps (y .state) || ended (y .state)) x ≡ true
+sleeps-or : (x : Option Seen) → seenIn (λ y. seenSuspended (y .state)) x ≡ true → seenIn (λ y. seenSuspended (y .state) || seenReturned (y .state)) x ≡ true
 sleeps-or none h = h
-sleeps-or (some x) h = ap (λ b. b || ended (x .state)) h
+sleeps-or (some x) h = ap (λ b. b || seenReturned (x .state)) h
 
 not-empty-accepted : RefutedIn NotEmpty (λ e v. v .accepted) (refusing Bent.setUp 11)
 unfolding pick
@@ -308,7 +308,7 @@ not-empty-accepted v h =
 
 not-empty-suspends : RefutedIn NotEmpty (λ e v. v .suspends) doesNothing
 unfolding computed
-not-empty-suspends v h = let x = viewOf (run doesNothing (v .start) (v .before)) .coro (v .c) in runs-only x (h .before) (sleeps-or x (h .after))
+not-empty-suspends v h = let x = viewOf (runTurns doesNothing (v .start) (v .before)) .coro (v .c) in runs-only x (h .before) (sleeps-or x (h .after))
 
 not-empty-roomy : RefutedIn NotEmpty (λ e v. v .roomy) (answeringAt Bent.look 11)
 unfolding computed
@@ -322,10 +322,10 @@ not-empty-enters : RefutedIn NotEmpty (λ e v. v .enters) doesNothing
 unfolding computed
 not-empty-enters v h = no-both (h .after) (h .before)
 
-not-empty-leaves : RefutedIn NotEmpty (λ e v. v .leaves) doesNothing
+not-empty-stops : RefutedIn NotEmpty (λ e v. v .stops) doesNothing
 unfolding computed
-not-empty-leaves v h =
-    let x = viewOf (run doesNothing (run doesNothing (run doesNothing (v .start) (v .before)) (v .waiting)) (v .going)) .coro (v .c) in
+not-empty-stops v h =
+    let x = viewOf (runTurns doesNothing (runTurns doesNothing (runTurns doesNothing (v .start) (v .before)) (v .waiting)) (v .going)) .coro (v .c) in
     runs-only x (h .before) (h .after)
 
 -- ---- all that is promised
@@ -365,7 +365,7 @@ promise-speaks : Refuted Promise (λ e v. v .speaks) hearsLooks
 unfolding computed
 promise-speaks h = let (k, q) = h Op.StopRun refl in go k q
   where
-    go : (k : Call) → heardAs (opOf k) ≡ some Op.StopRun → ⊥
+    go : (k : Call) → heardAs (modelOp k) ≡ some Op.StopRun → ⊥
     go (SetUp s) q = let z : _≡_ {A = ℕ} 0 1 = cc in absurd (omega arith)
     go (Do o) q = let z : _≡_ {A = ℕ} 0 1 = cc in absurd (omega arith)
 
@@ -382,7 +382,7 @@ set-up-answers-12 v = let q : _≡_ {A = ℕ} 12 11 = v .refused begun (SetUp ba
 zeros-after-refuel : Demand3 afterRefuel → ⊥
 unfolding computed
 zeros-after-refuel d =
-    let before = run afterRefuel (record { world = fresh wide; left = 0 }) (map calls (take 13 held)) in
+    let before = runTurns afterRefuel (record { world = fresh wide; left = 0 }) (map turnCall (take 13 held)) in
     let r = d .restored c before (nth held 13) turns (nth held 23) (record { before = refl; after = refl }) (waits-true afterRefuel c (afterRefuel .next before (nth held 13)) turns refl) (record { before = refl; after = refl }) in
     let q : _≡_ {A = ℕ} 0 11 = word-back r (r .words) (frame 0 0 0 0 Cont.Coro) 12 in
     absurd (omega (arith, q))
@@ -394,8 +394,8 @@ refuted-accepts =
       await = accepts-await;
       yield-kv = accepts-yield-kv;
       yield = accepts-yield;
-      close-new = accepts-close-new;
-      throw-new = accepts-throw-new;
+      close-created = accepts-close-created;
+      throw-created = accepts-throw-created;
       integer = accepts-integer;
       finish = accepts-finish;
       throw = accepts-throw;
@@ -433,7 +433,7 @@ refuted-promise =
     }
 
 pub refuted-not-empty : W.RefutedNotEmpty
-refuted-not-empty = record { accepted = not-empty-accepted; suspends = not-empty-suspends; roomy = not-empty-roomy; makes = not-empty-makes; enters = not-empty-enters; leaves = not-empty-leaves }
+refuted-not-empty = record { accepted = not-empty-accepted; suspends = not-empty-suspends; roomy = not-empty-roomy; makes = not-empty-makes; enters = not-empty-enters; stops = not-empty-stops }
 
 pub wrong-promise : W.WrongPromise
 wrong-promise = record { set-up-answers-12 = set-up-answers-12; zeros-after-refuel = zeros-after-refuel }

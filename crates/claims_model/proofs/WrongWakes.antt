@@ -16,9 +16,9 @@ use Rattle.model.specs.declared.machine.Cont.{Cont}
 use Rattle.model.specs.declared.machine.Active.{Active}
 use Rattle.model.specs.declared.machine.Frame.{Frame}
 use Rattle.model.specs.declared.call.Op.{Op}
-use Rattle.claims_model.specs.Engine.{Seen, View, calls, run}
-use Rattle.claims_model.specs.Says.{doing, whom}
-use Rattle.claims_model.specs.Held.{at, Moved, AllMoved, pcOf, waitsIn, stepped, given, Held, Entered, Restored}
+use Rattle.claims_model.specs.Engine.{Seen, View, turnCall, runTurns}
+use Rattle.claims_model.specs.Says.{announcedBy, whom}
+use Rattle.claims_model.specs.Held.{at, Moved, AllMoved, pcOf, waitsIn, stepped, withSent, Held, Entered, Restored}
 use Rattle.claims_model.specs.Demand3.{Demand3}
 use Rattle.claims_model.specs.Premises.{runsIn, sleepsIn, waits}
 use Rattle.claims_model.specs.Story as Story
@@ -73,30 +73,30 @@ module _ {v : View} (r : Held v c) where
 
 module _ {v : View} {x : Option Op} {w : View} {y : Option Op} {z : View} (r : Restored v x w y c z) where
   abbrev moved-from : List Frame
-  moved-from = at (stepped (r .entered .by .sent) (pcOf (doing v x))) (mine (r .held))
+  moved-from = at (stepped (r .entered .by .sent) (pcOf (announcedBy v x))) (mine (r .held))
 
   abbrev moved-to : List Frame
   moved-to = r .entered .over ++ (r .entered .body ∷ [])
 
-  from-found : moved-from ≡ at (stepped (sentIn (whom w y)) (pcOf (doing v x))) (found v)
-  from-found = λ i. at (stepped (sent-by (r .entered .by) i) (pcOf (doing v x))) (sym (found-mine (r .held)) i)
+  from-found : moved-from ≡ at (stepped (sentIn (whom w y)) (pcOf (announcedBy v x))) (found v)
+  from-found = λ i. at (stepped (sent-by (r .entered .by) i) (pcOf (announcedBy v x))) (sym (found-mine (r .held)) i)
 
   -- the frames that stand on the caller's, as many as were found
   pub on-top : (F : (b h : ℕ) (f g : Frame) → Moved b h f g → Type 0) (g : Frame → ℕ) → ((b h : ℕ) (f j : Frame) (m : Moved b h f j) → F b h f j m → g j ≡ g f)
       → (m : AllMoved (r .held .body .base) (length (w .stack)) moved-from moved-to) → Each F (r .held .body .base) (length (w .stack)) moved-from moved-to m
-      → map g (z .frames) ≡ map g (at (stepped (sentIn (whom w y)) (pcOf (doing v x))) (found v)) ++ map g (at (r .entered .by .pc) (w .frames))
+      → map g (z .frames) ≡ map g (at (stepped (sentIn (whom w y)) (pcOf (announcedBy v x))) (found v)) ++ map g (at (r .entered .by .pc) (w .frames))
   on-top F g alike m h =
       let under = at (r .entered .by .pc) (w .frames) in
       ap (map g) (on-others (r .entered)) ∙ map-append g moved-to under ∙ ap (λ l. l ++ map g under) (all-alike F g g alike (r .held .body .base) (length (w .stack)) moved-from moved-to m h ∙ ap (map g) from-found)
 
   pub on-moved : (F : (b h : ℕ) (f g : Frame) → Moved b h f g → Type 0) (g : Frame → ℕ) → ((b h : ℕ) (f j : Frame) (m : Moved b h f j) → F b h f j m → g j ≡ g f) → ((b h : ℕ) (f j : Frame) (m : Moved b h f j) → F b h f j m)
-      → AllMoved (r .held .body .base) (length (w .stack)) moved-from moved-to → map g (z .frames) ≡ map g (at (stepped (sentIn (whom w y)) (pcOf (doing v x))) (found v)) ++ map g (at (r .entered .by .pc) (w .frames))
+      → AllMoved (r .held .body .base) (length (w .stack)) moved-from moved-to → map g (z .frames) ≡ map g (at (stepped (sentIn (whom w y)) (pcOf (announcedBy v x))) (found v)) ++ map g (at (r .entered .by .pc) (w .frames))
   on-moved F g alike p m = on-top F g alike m (each F p (r .held .body .base) (length (w .stack)) moved-from moved-to m)
 
   -- the word at place i
-  pub word-back : z .stack ≡ given (r .entered .by .sent) (z .frames) (waitsIn (doing v x)) (w .stack ++ drop (r .held .body .base) (v .stack)) → (g : Frame) (i : ℕ)
-      → getD (z .stack) i 0 ≡ getD (given (sentIn (whom w y)) (z .frames) (waitsIn (doing v x)) (w .stack ++ drop (lastOr g (found v) .base) (v .stack))) i 0
-  word-back h g i = ap (λ xs. getD xs i 0) h ∙ (λ j. getD (given (sent-by (r .entered .by) j) (z .frames) (waitsIn (doing v x)) (w .stack ++ drop (base-mine (r .held) g j) (v .stack))) i 0)
+  pub word-back : z .stack ≡ withSent (r .entered .by .sent) (z .frames) (waitsIn (announcedBy v x)) (w .stack ++ drop (r .held .body .base) (v .stack)) → (g : Frame) (i : ℕ)
+      → getD (z .stack) i 0 ≡ getD (withSent (sentIn (whom w y)) (z .frames) (waitsIn (announcedBy v x)) (w .stack ++ drop (lastOr g (found v) .base) (v .stack))) i 0
+  word-back h g i = ap (λ xs. getD xs i 0) h ∙ (λ j. getD (withSent (sent-by (r .entered .by) j) (z .frames) (waitsIn (announcedBy v x)) (w .stack ++ drop (base-mine (r .held) g j) (v .stack))) i 0)
 
 -- one distance for two frames
 abbrev baseAlike : (b h : ℕ) (f g : Frame) → Moved b h f g → Type 0
@@ -118,7 +118,7 @@ distances b n (g ∷ k ∷ []) (k₁ ∷ k₂ ∷ k₃ ∷ ks) rest f₁ f₂ e 
 distances b n (g ∷ k ∷ j ∷ fs) ks rest f₁ f₂ e m h = let z = ap length e in absurd (omega (arith, z))
 
 two-moved : {v : View} {x : Option Op} {w : View} {y : Option Op} {z : View} (r : Restored v x w y c z) → Each baseAlike (r .held .body .base) (length (w .stack)) (moved-from r) (moved-to r) (r .moved) → (f₁ f₂ : Frame)
-    → at (stepped (sentIn (whom w y)) (pcOf (doing v x))) (found v) ≡ f₁ ∷ f₂ ∷ [] → first (map (λ k. k .base) (z .frames)) + f₂ .base ≡ second (map (λ k. k .base) (z .frames)) + f₁ .base
+    → at (stepped (sentIn (whom w y)) (pcOf (announcedBy v x))) (found v) ≡ f₁ ∷ f₂ ∷ [] → first (map (λ k. k .base) (z .frames)) + f₂ .base ≡ second (map (λ k. k .base) (z .frames)) + f₁ .base
 two-moved {w = w} r h f₁ f₂ e =
     let under = at (r .entered .by .pc) (w .frames) in
     ap (λ fs. first (map (λ k. k .base) fs) + f₂ .base) (on-others (r .entered)) ∙ distances (r .held .body .base) (length (w .stack)) (moved-from r) (moved-to r) under f₁ f₂ (from-found r ∙ e) (r .moved) h
@@ -145,13 +145,13 @@ five true true false true e h = (refl, refl, refl, refl, h)
 -- a split of the calls ks, of an engine that leaves other worlds: call i suspends c, and call j is its next entry
 module _ (f : World → Call → World) (ks : List Call) (i j : ℕ) where
   abbrev s₁ : World
-  s₁ = run (leaving f) (fresh wide) (map calls (take i ks))
+  s₁ = runTurns (leaving f) (fresh wide) (map turnCall (take i ks))
 
   abbrev s₂ : World
   s₂ = f s₁ (nth ks i)
 
   abbrev s₃ : World
-  s₃ = run (leaving f) s₂ (between ks i j)
+  s₃ = runTurns (leaving f) s₂ (between ks i j)
 
   abbrev s₄ : World
   s₄ = f s₃ (nth ks j)
@@ -212,10 +212,10 @@ restored-held = (
       absurd (omega (arith, n)),
 )
 
-restored-asleep : RefutedAt restored (λ e a r. r .asleep) (leavingAt Bent.grant (λ w z. making c CoroState.Created z))
+restored-suspended : RefutedAt restored (λ e a r. r .suspended) (leavingAt Bent.grant (λ w z. making c CoroState.Created z))
 unfolding computed begun
-restored-asleep = (
-  wake-at c begun (asCall (Op.Yield 8 3 1) refl) (calls (asCall (Op.Grant 1) refl) ∷ []) (asCall (Op.Resume 9 1 0 2) refl) refl refl refl refl refl,
+restored-suspended = (
+  wake-at c begun (asCall (Op.Yield 8 3 1) refl) (turnCall (asCall (Op.Grant 1) refl) ∷ []) (asCall (Op.Resume 9 1 0 2) refl) refl refl refl refl refl,
   λ r h.
       no-both h refl,
 )
@@ -347,7 +347,7 @@ pub refuted-held : W.RefutedHeld
 refuted-held = record { frames = held-frames; its-own = held-its-own; chain = held-chain }
 
 pub refuted-restored : W.RefutedRestored
-refuted-restored = record { held = restored-held; asleep = restored-asleep; entered = restored-entered; moved = restored-moved; words = restored-words }
+refuted-restored = record { held = restored-held; suspended = restored-suspended; entered = restored-entered; moved = restored-moved; words = restored-words }
 
 pub refuted-moved : W.RefutedMoved
 refuted-moved = record { func = moved-func; pc = moved-pc; base = moved-base; closure = moved-closure; cont = moved-cont }

@@ -8,8 +8,8 @@ use mathlib.Core.Option.{Option, none, some}
 use lib.ListN.{length}
 use lib.Dec.{eqb}
 use Rattle.model.specs.declared.call.Op.{Op}
-use Rattle.claims_model.specs.Engine.{Seen, View, Engine, code, ended, is}
-use Rattle.claims_model.specs.Says.{word, lie, Entry, charged}
+use Rattle.claims_model.specs.Engine.{Seen, View, Engine, code, seenReturned, stateIs}
+use Rattle.claims_model.specs.Says.{registerWord, lie, Entry, charged}
 use Rattle.claims_model.specs.Held.{into}
 use Rattle.claims_model.specs.Delivery.{recorded}
 use Rattle.claims_model.specs.Events.{Healthy, inmost}
@@ -49,14 +49,14 @@ orNil (some c) = c
 
 pub record Asks (e : Engine) : Type 0 where
   -- the register r names a coroutine; for CoroResult, one that has returned
-  pub status-if : (s : e .State) (k : e .Call) (pc dst r : ℕ) → e .op k ≡ some (Op.CoroStatus pc dst r) → Exact e s k (dst ∷ r ∷ []) (is (e .view s) (λ x. true) (word (e .view s) r))
+  pub status-if : (s : e .State) (k : e .Call) (pc dst r : ℕ) → e .op k ≡ some (Op.CoroStatus pc dst r) → Exact e s k (dst ∷ r ∷ []) (stateIs (e .view s) (λ x. true) (registerWord (e .view s) r))
   pub current-if : (s : e .State) (k : e .Call) (pc dst : ℕ) → e .op k ≡ some (Op.CoroCurrent pc dst) → Exact e s k (dst ∷ []) true
-  pub key-if : (s : e .State) (k : e .Call) (pc dst r : ℕ) → e .op k ≡ some (Op.CoroKey pc dst r) → Exact e s k (dst ∷ r ∷ []) (is (e .view s) (λ x. true) (word (e .view s) r))
-  pub result-if : (s : e .State) (k : e .Call) (pc dst r : ℕ) → e .op k ≡ some (Op.CoroResult pc dst r) → Exact e s k (dst ∷ r ∷ []) (is (e .view s) ended (word (e .view s) r))
+  pub key-if : (s : e .State) (k : e .Call) (pc dst r : ℕ) → e .op k ≡ some (Op.CoroKey pc dst r) → Exact e s k (dst ∷ r ∷ []) (stateIs (e .view s) (λ x. true) (registerWord (e .view s) r))
+  pub result-if : (s : e .State) (k : e .Call) (pc dst r : ℕ) → e .op k ≡ some (Op.CoroResult pc dst r) → Exact e s k (dst ∷ r ∷ []) (stateIs (e .view s) seenReturned (registerWord (e .view s) r))
   -- what they write
   pub status : (s : e .State) (k : e .Call) (pc dst r : ℕ) → e .op k ≡ some (Op.CoroStatus pc dst r) → e .number s k ≡ 0
-      → let v = e .view s in e .view (e .next s k) .stack ≡ into (v .frames) dst (codeIn (v .coro (word v r))) (v .stack)
+      → let v = e .view s in e .view (e .next s k) .stack ≡ into (v .frames) dst (codeIn (v .coro (registerWord v r))) (v .stack)
   pub current : (s : e .State) (k : e .Call) (pc dst : ℕ) → e .op k ≡ some (Op.CoroCurrent pc dst) → e .number s k ≡ 0
       → let v = e .view s in e .view (e .next s k) .stack ≡ into (v .frames) dst (orNil (inmost (v .chain))) (v .stack)
   pub result : (s : e .State) (k : e .Call) (pc dst r : ℕ) → e .op k ≡ some (Op.CoroResult pc dst r) → e .number s k ≡ 0
-      → let v = e .view s in e .view (e .next s k) .stack ≡ into (v .frames) dst (recorded (v .coro (word v r))) (v .stack)
+      → let v = e .view s in e .view (e .next s k) .stack ≡ into (v .frames) dst (recorded (v .coro (registerWord v r))) (v .stack)

@@ -16,25 +16,25 @@ use Rattle.model.specs.Call.{Call}
 use Rattle.model.specs.Step.{step}
 use Rattle.model.specs.declared.machine.Active.{Active}
 use Rattle.model.specs.declared.call.Op.{Op}
-use Rattle.claims_model.specs.Engine.{View, Engine, isNew, is}
-use Rattle.claims_model.specs.Steps.{viewOf, opOf, asksOf, looks}
+use Rattle.claims_model.specs.Engine.{View, Engine, seenCreated, stateIs}
+use Rattle.claims_model.specs.Steps.{viewOf, modelOp, modelAsks, looks}
 
 -- ---- what is bent
 
 -- the world that it leaves, and the number that it answers
 abbrev pub bentBy : (World → Call → World) → (World → Call → ℕ) → Engine
-bentBy f g = record { State = World; Call = Call; op = opOf; asks = asksOf; view = viewOf; next = f; refuel = λ w x. withFuel x w; number = g; look = looks }
+bentBy f g = record { State = World; Call = Call; op = modelOp; asks = modelAsks; view = viewOf; next = f; refuel = λ w x. withFuel x w; number = g; look = looks }
 
 -- it leaves another world than `step` does; it answers otherwise
 abbrev pub leaving : (World → Call → World) → Engine
 leaving f = bentBy f (λ w k. numberOf (step w k .answer))
 
 abbrev pub answering : (World → Option Op → ℕ → ℕ) → Engine
-answering f = bentBy (λ w k. step w k .world) (λ w k. f w (opOf k) (numberOf (step w k .answer)))
+answering f = bentBy (λ w k. step w k .world) (λ w k. f w (modelOp k) (numberOf (step w k .answer)))
 
 -- another thing is seen
 abbrev pub seeing : (View → View) → Engine
-seeing f = record { State = World; Call = Call; op = opOf; asks = asksOf; view = λ w. f (viewOf w); next = λ w k. step w k .world; refuel = λ w x. withFuel x w; number = λ w k. numberOf (step w k .answer); look = looks }
+seeing f = record { State = World; Call = Call; op = modelOp; asks = modelAsks; view = λ w. f (viewOf w); next = λ w k. step w k .world; refuel = λ w x. withFuel x w; number = λ w k. numberOf (step w k .answer); look = looks }
 
 -- ---- calls of one kind
 
@@ -125,14 +125,14 @@ isA n k = eqb (place k) n
 
 -- such a call leaves f of what it found and of what `step` leaves
 abbrev pub leavingAt : ℕ → (World → World → World) → Engine
-leavingAt n f = leaving (λ w k. let z = step w k .world in pick (isA n (opOf k)) (f w z) z)
+leavingAt n f = leaving (λ w k. let z = step w k .world in pick (isA n (modelOp k)) (f w z) z)
 
 -- such a call is answered m, and done; it is answered m, and not done
 abbrev pub answeringAt : ℕ → ℕ → Engine
 answeringAt n m = answering (λ w k a. pick (isA n k) m a)
 
 abbrev pub refusing : ℕ → ℕ → Engine
-refusing n m = bentBy (λ w k. pick (isA n (opOf k)) w (step w k .world)) (λ w k. pick (isA n (opOf k)) m (numberOf (step w k .answer)))
+refusing n m = bentBy (λ w k. pick (isA n (modelOp k)) w (step w k .world)) (λ w k. pick (isA n (modelOp k)) m (numberOf (step w k .answer)))
 
 -- whatever `step` answers n is answered m
 abbrev pub answeringFor : ℕ → ℕ → Engine
@@ -150,7 +150,7 @@ parting f = leaving (λ w k. let z = step w k .world in pick (ltb (length (z .ch
 -- who is entered has not begun
 abbrev pub begins : World → List Active → Bool
 begins w [] = false
-begins w (a ∷ chain) = is (viewOf w) isNew (a .coro)
+begins w (a ∷ chain) = stateIs (viewOf w) seenCreated (a .coro)
 
 abbrev pub beginning : (World → World → World) → Engine
 beginning f = entering (λ w z. pick (begins w (z .chain)) (f w z) z)

@@ -86,13 +86,13 @@ pub record Engine : Type 1 where
 
 -- a turn of the host: a call, or another fuel record, which the next call then finds. 01: "The fuel record stays with the host"
 pub data Turn (A : Type 0) : Type 0 where
-  calls : A → Turn A
-  refuels : Fuel → Turn A
+  turnCall : A → Turn A
+  turnFuel : Fuel → Turn A
 
-abbrev pub run : (e : Engine) → e .State → List (Turn (e .Call)) → e .State
-run e s [] = s
-run e s (calls k ∷ ts) = run e (e .next s k) ts
-run e s (refuels f ∷ ts) = run e (e .refuel s f) ts
+abbrev pub runTurns : (e : Engine) → e .State → List (Turn (e .Call)) → e .State
+runTurns e s [] = s
+runTurns e s (turnCall k ∷ ts) = runTurns e (e .next s k) ts
+runTurns e s (turnFuel f ∷ ts) = runTurns e (e .refuel s f) ts
 
 -- ---- states
 
@@ -105,26 +105,26 @@ code CoroState.Awaiting = 3
 code CoroState.Returned = 4
 code CoroState.Failed = 5
 
-abbrev pub isNew : CoroState → Bool
-isNew s = eqb (code s) 0
+abbrev pub seenCreated : CoroState → Bool
+seenCreated s = eqb (code s) 0
 
-abbrev pub runs : CoroState → Bool
-runs s = eqb (code s) 1
+abbrev pub seenRunning : CoroState → Bool
+seenRunning s = eqb (code s) 1
 
-abbrev pub awaits : CoroState → Bool
-awaits s = eqb (code s) 3
+abbrev pub seenAwaiting : CoroState → Bool
+seenAwaiting s = eqb (code s) 3
 
 -- Yielded or Awaiting
-abbrev pub sleeps : CoroState → Bool
-sleeps s = eqb (code s) 2 || eqb (code s) 3
+abbrev pub seenSuspended : CoroState → Bool
+seenSuspended s = eqb (code s) 2 || eqb (code s) 3
 
-abbrev pub ended : CoroState → Bool
-ended s = eqb (code s) 4
+abbrev pub seenReturned : CoroState → Bool
+seenReturned s = eqb (code s) 4
 
 -- the coroutine is there, and passes a test
 abbrev pub seenIn : (Seen → Bool) → Option Seen → Bool
 seenIn p none = false
 seenIn p (some x) = p x
 
-abbrev pub is : View → (CoroState → Bool) → ℕ → Bool
-is v p c = seenIn (λ x. p (x .state)) (v .coro c)
+abbrev pub stateIs : View → (CoroState → Bool) → ℕ → Bool
+stateIs v p c = seenIn (λ x. p (x .state)) (v .coro c)

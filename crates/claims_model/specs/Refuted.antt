@@ -10,10 +10,10 @@ use Rattle.heap.specs.declared.heap.ResultKind.{ResultKind}
 use Rattle.model.specs.declared.machine.Cont.{Cont}
 use Rattle.model.specs.declared.machine.Frame.{Frame}
 use Rattle.model.specs.declared.call.Op.{Op}
-use Rattle.claims_model.specs.Engine.{Engine, Turn, run, is}
-use Rattle.claims_model.specs.Says.{word, doing}
+use Rattle.claims_model.specs.Engine.{Engine, Turn, runTurns, stateIs}
+use Rattle.claims_model.specs.Says.{registerWord, announcedBy}
 use Rattle.claims_model.specs.Held.{at, Moved, AllMoved, pcOf, stepped, Held, By, Entered, Restored}
-use Rattle.claims_model.specs.Delivery.{Left}
+use Rattle.claims_model.specs.Delivery.{LeftBelow}
 use Rattle.claims_model.specs.Demand3.{Enters, Suspends, Stops, Restarts, Waits, Goes}
 use Rattle.claims_model.specs.Events.{isBody}
 use Rattle.claims_model.specs.Touches.{May, mayTouch, Touched, Called, Finished}
@@ -57,10 +57,10 @@ pub record Wake (e : Engine) : Type 0 where
   pub y : e .Call
   pub suspends : Suspends e c s x
   pub waits : Waits e c (e .next s x) waiting
-  pub enters : Enters e c (run e (e .next s x) waiting) y
+  pub enters : Enters e c (runTurns e (e .next s x) waiting) y
 
 abbrev pub restored : (e : Engine) → Wake e → Type 0
-restored e a = let t = run e (e .next (a .s) (a .x)) (a .waiting) in Restored (e .view (a .s)) (e .op (a .x)) (e .view t) (e .op (a .y)) (a .c) (e .view (e .next t (a .y)))
+restored e a = let t = runTurns e (e .next (a .s) (a .x)) (a .waiting) in Restored (e .view (a .s)) (e .op (a .x)) (e .view t) (e .op (a .y)) (a .c) (e .view (e .next t (a .y)))
 
 abbrev pub held : (e : Engine) → Wake e → Type 0
 held e a = Held (e .view (a .s)) (a .c)
@@ -74,10 +74,10 @@ pub record Leave (e : Engine) : Type 0 where
   pub z : e .Call
   pub enters : Enters e c s y
   pub goes : Goes e c (e .next s y) going
-  pub stops : Stops e c (run e (e .next s y) going) z
+  pub stops : Stops e c (runTurns e (e .next s y) going) z
 
 abbrev pub left : (e : Engine) → Leave e → Type 0
-left e a = let t = run e (e .next (a .s) (a .y)) (a .going) in Left (e .view (a .s)) (e .op (a .y)) (a .c) (e .view t) (e .op (a .z)) (e .view (e .next t (a .z)))
+left e a = let t = runTurns e (e .next (a .s) (a .y)) (a .going) in LeftBelow (e .view (a .s)) (e .op (a .y)) (a .c) (e .view t) (e .op (a .z)) (e .view (e .next t (a .z)))
 
 -- a call that enters and suspends nobody, and is no set-up, finish, unwind or stop
 pub record Touch (e : Engine) : Type 0 where
@@ -151,7 +151,7 @@ pub record Spawning (e : Engine) : Type 0 where
   pub accepted : e .number s k ≡ 0
 
 abbrev pub hooked : (e : Engine) → Spawning e → Type 0
-hooked e a = let v = e .view (a .s) in (f : ℕ) × Hooked v (a .pc) (a .dst) (made (v .rules) f (word v (a .r)) (arguments v (a .dst) (a .argc))) (e .view (e .next (a .s) (a .k)))
+hooked e a = let v = e .view (a .s) in (f : ℕ) × Hooked v (a .pc) (a .dst) (made (v .rules) f (registerWord v (a .r)) (arguments v (a .dst) (a .argc))) (e .view (e .next (a .s) (a .k)))
 
 -- a CoroStatus that is answered 0
 pub record Asking (e : Engine) : Type 0 where
@@ -164,7 +164,7 @@ pub record Asking (e : Engine) : Type 0 where
   pub accepted : e .number s k ≡ 0
 
 abbrev pub admits : (e : Engine) → Asking e → Type 0
-admits e a = let v = e .view (a .s) in Admits e (a .s) (a .dst ∷ a .r ∷ []) (is v (λ x. true) (word v (a .r)))
+admits e a = let v = e .view (a .s) in Admits e (a .s) (a .dst ∷ a .r ∷ []) (stateIs v (λ x. true) (registerWord v (a .r)))
 
 abbrev pub pays : (e : Engine) → Asking e → Type 0
 pays e a = Pays e (a .s)
@@ -178,7 +178,7 @@ pub record Restart (e : Engine) : Type 0 where
 abbrev pub fresh : (e : Engine) → Restart e → Type 0
 fresh e a = Fresh (e .view (e .next (a .s) (a .k)))
 
--- ---- of a frame that an entry moves: where c is woken, not every frame that it held has the field
+-- ---- of a frame that an entry moves: where c is entered again, not every frame that it held has the field
 
 abbrev pub Each : ((b h : ℕ) (f g : Frame) → Moved b h f g → Type 0) → (b h : ℕ) (fs gs : List Frame) → AllMoved b h fs gs → Type 0
 Each F b h [] [] m = Unit {0}
@@ -189,5 +189,5 @@ Each F b h (f ∷ fs) (g ∷ gs) m = F b h f g (m .0) × Each F b h fs gs (m .1)
 abbrev pub RefutedMoved : {F : (b h : ℕ) (f g : Frame) → Moved b h f g → Type 0} → ((b h : ℕ) (f g : Frame) (m : Moved b h f g) → F b h f g m) → Engine → Type 0
 RefutedMoved {F} field e =
     (a : Wake e)
-    × ((r : restored e a) → let t = run e (e .next (a .s) (a .x)) (a .waiting) in let frames = r .held .over ++ (r .held .body ∷ []) in
-    Each F (r .held .body .base) (length (e .view t .stack)) (at (stepped (r .entered .by .sent) (pcOf (doing (e .view (a .s)) (e .op (a .x))))) frames) (r .entered .over ++ (r .entered .body ∷ [])) (r .moved) → ⊥)
+    × ((r : restored e a) → let t = runTurns e (e .next (a .s) (a .x)) (a .waiting) in let frames = r .held .over ++ (r .held .body ∷ []) in
+    Each F (r .held .body .base) (length (e .view t .stack)) (at (stepped (r .entered .by .sent) (pcOf (announcedBy (e .view (a .s)) (e .op (a .x))))) frames) (r .entered .over ++ (r .entered .body ∷ [])) (r .moved) → ⊥)

@@ -61,13 +61,13 @@ viewOf w =
       used = w .used;
     }
 
-abbrev pub opOf : Call → Option Op
-opOf (SetUp s) = none
-opOf (Do o) = some (o .op)
+abbrev pub modelOp : Call → Option Op
+modelOp (SetUp s) = none
+modelOp (Do o) = some (o .op)
 
-abbrev pub asksOf : Call → Option Rules
-asksOf (SetUp s) = some (rulesOf s)
-asksOf (Do o) = none
+abbrev pub modelAsks : Call → Option Rules
+modelAsks (SetUp s) = some (rulesOf s)
+modelAsks (Do o) = none
 
 pub look-typed : typed Op.Look ≡ true
 unfolding typed
@@ -77,4 +77,4 @@ abbrev pub looks : World → List ℕ
 looks w = step w (asCall Op.Look look-typed) .seen
 
 abbrev pub steps : Engine
-steps = record { State = World; Call = Call; op = opOf; asks = asksOf; view = viewOf; next = λ w k. step w k .world; refuel = λ w f. withFuel f w; number = λ w k. numberOf (step w k .answer); look = looks }
+steps = record { State = World; Call = Call; op = modelOp; asks = modelAsks; view = viewOf; next = λ w k. step w k .world; refuel = λ w f. withFuel f w; number = λ w k. numberOf (step w k .answer); look = looks }

@@ -43,7 +43,7 @@ c = 0x1_0000_0000_0002
 abbrev pub d : ℕ
 d = 0x1_0000_0000_0003
 
--- a run of function 0, which resumes a new coroutine of function n
+-- a run of function 0, which resumes a Created coroutine of function n
 abbrev pub begin : ℕ → List Op
 begin n = Op.Grant 1000 ∷ Op.HostCall 0 ∷ Op.CoroNew 1 0 n 0 ∷ Op.Resume 2 1 0 2 ∷ []
 
@@ -126,7 +126,7 @@ twice =
     ∷ deeper ∷ deeper ∷ Op.PutWord 9 0 ∷ Op.PutWord 3 f ∷ Op.Spawn 12 1 3 0 ∷ finish ∷ Op.PutWord 0 c ∷ Op.PutWord 2 44 ∷ Op.Resume 15 1 0 2
     ∷ Op.PutWord 0 55 ∷ returns 6 ∷ returns 77 ∷ []
 
--- 11. The run is stopped while c sleeps; the host enters it, and it returns to the host.
+-- 11. The run is stopped while c is suspended; the host enters it, and it returns to the host.
 abbrev pub stopped : List Op
 stopped = begin 0 ++ (Op.Yield 8 3 0 ∷ Op.StopRun ∷ Op.HostEntry c 5 ∷ returns 9 ∷ [])
 
@@ -134,7 +134,7 @@ stopped = begin 0 ++ (Op.Yield 8 3 0 ∷ Op.StopRun ∷ Op.HostEntry c 5 ∷ ret
 abbrev pub yielding : List Op
 yielding = begin 1 ++ (Op.Yield 8 3 0 ∷ Op.HandOver c ∷ Op.CoroCurrent 9 1 ∷ throws nil ∷ Op.Yield 60 3 0 ∷ [])
 
--- 13. c sleeps with 7 in its first register, and d with 8, at the same pc: what they hold differs in that word alone. c is resumed, then d.
+-- 13. c is suspended with 7 in its first register, and d with 8, at the same pc: what they hold differs in that word alone. c is resumed, then d.
 abbrev pub pair : List Op
 pair =
     begin 0
@@ -170,6 +170,6 @@ part n = getD (blocks parts written) n []
 abbrev pub past : ℕ → List Call
 past n = joined (take n (blocks parts written))
 
--- part 10, with a set-up that is refused while c sleeps
+-- part 10, with a set-up that is refused while c is suspended
 abbrev pub held : List Call
 held = take 14 (part 10) ++ (SetUp bad ∷ drop 14 (part 10))

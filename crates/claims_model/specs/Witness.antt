@@ -18,7 +18,7 @@ use Rattle.model.specs.declared.machine.Cont.{Cont}
 use Rattle.model.specs.declared.machine.Frame.{Frame}
 use Rattle.model.specs.declared.machine.Fuel.{Fuel}
 use Rattle.model.specs.declared.coro.Stated.{Stated}
-use Rattle.claims_model.specs.Engine.{Turn, calls, refuels}
+use Rattle.claims_model.specs.Engine.{Turn, turnCall, turnFuel}
 use Rattle.claims_model.specs.Premises.{premises}
 use Rattle.claims_model.specs.Steps.{steps}
 use Rattle.claims_model.specs.Story.{wide, f, c, d, story, part, past, held}
@@ -35,14 +35,14 @@ nth ks i = getD ks i (SetUp wide)
 
 -- the calls between two positions
 abbrev pub between : List Call → ℕ → ℕ → List (Turn Call)
-between ks i j = map calls (take (j - suc i) (drop (suc i) ks))
+between ks i j = map turnCall (take (j - suc i) (drop (suc i) ks))
 
 -- another fuel record; and the calls of `held` between 13 and 23, and then that record
 abbrev pub other : Fuel
 other = record { fuel = 500; bank = Opt.None; ready = false }
 
 abbrev pub waiting : List (Turn Call)
-waiting = between held 13 23 ++ (refuels other ∷ [])
+waiting = between held 13 23 ++ (turnFuel other ∷ [])
 
 -- the world before call i
 abbrev pub at : List Call → List Call → ℕ → World

@@ -15,11 +15,11 @@ use Rattle.model.specs.Answer.{numberOf}
 use Rattle.model.specs.Call.{Call}
 use Rattle.model.specs.Step.{step}
 use Rattle.model.specs.declared.machine.Cont.{Cont}
-use Rattle.claims_model.specs.Engine.{View, Engine, isNew, is}
+use Rattle.claims_model.specs.Engine.{View, Engine, seenCreated, stateIs}
 use Rattle.claims_model.specs.Touches.{Touches}
 use Rattle.claims_model.specs.Made.{Creates}
 use Rattle.claims_model.specs.Asks.{Asks}
-use Rattle.claims_model.specs.Steps.{viewOf, opOf, asksOf, looks}
+use Rattle.claims_model.specs.Steps.{viewOf, modelOp, modelAsks, looks}
 use Rattle.claims_model.specs.Story.{c}
 use Rattle.claims_model.specs.Refuted.{Refuted, RefutedAt, touched, finished, called, named, came, hooked, admits, pays}
 use Rattle.claims_model.specs.Bent as Bent
@@ -70,7 +70,7 @@ pub record RefutedCalled : Type 0 where
 
 -- where c comes, f
 abbrev pub creating : (World → World → World) → Engine
-creating f = leaving (λ w k. let z = step w k .world in pick (not (is (viewOf w) isNew c) && is (viewOf z) isNew c) (f w z) z)
+creating f = leaving (λ w k. let z = step w k .world in pick (not (stateIs (viewOf w) seenCreated c) && stateIs (viewOf z) seenCreated c) (f w z) z)
 
 -- what it begins with is bent: 5 in every register; frames without their closure; frames of function 1
 abbrev pub fives : Core → Core
@@ -101,10 +101,10 @@ createsAgain =
     record {
       State = World;
       Call = Call;
-      op = opOf;
-      asks = asksOf;
-      view = λ w. nextIs (pick (is (viewOf w) isNew c) c (nextWord (w .slots))) (viewOf w);
-      next = λ w k. let z = step w k .world in pick (is (viewOf w) isNew c && is (viewOf z) isNew (nextWord (w .slots))) (putReg 0 c (withSlots (w .slots) z)) z;
+      op = modelOp;
+      asks = modelAsks;
+      view = λ w. nextIs (pick (stateIs (viewOf w) seenCreated c) c (nextWord (w .slots))) (viewOf w);
+      next = λ w k. let z = step w k .world in pick (stateIs (viewOf w) seenCreated c && stateIs (viewOf z) seenCreated (nextWord (w .slots))) (putReg 0 c (withSlots (w .slots) z)) z;
       refuel = λ w f. withFuel f w;
       number = λ w k. numberOf (step w k .answer);
       look = looks;

@@ -14,8 +14,8 @@ use Rattle.model.specs.Coro.{inState}
 use Rattle.model.specs.Answer.{numberOf}
 use Rattle.model.specs.Step.{step}
 use Rattle.model.specs.declared.machine.Active.{Active}
-use Rattle.claims_model.specs.Engine.{Engine, isNew, runs, awaits, ended, is}
-use Rattle.claims_model.specs.Events.{failed as isFailed, Events}
+use Rattle.claims_model.specs.Engine.{Engine, seenCreated, seenRunning, seenAwaiting, seenReturned, stateIs}
+use Rattle.claims_model.specs.Events.{seenFailed, Events}
 use Rattle.claims_model.specs.Steps.{viewOf}
 use Rattle.claims_model.specs.Story.{c}
 use Rattle.claims_model.specs.Refuted.{Refuted}
@@ -30,7 +30,7 @@ entersNobody p = entering (λ w z. pick (p w) w z)
 abbrev pub two : World → Bool
 two w = ltb 1 (length (w .finalize))
 
--- every entry answers 0: a word that is thrown into a sleeper is lost
+-- every entry answers 0: a word that is thrown into a suspended coroutine is lost
 abbrev pub entriesAnswer0 : Engine
 entriesAnswer0 = bentBy (λ w k. step w k .world) (λ w k. pick (ltb (length (w .chain)) (length (step w k .world .chain))) 0 (numberOf (step w k .answer)))
 
@@ -44,32 +44,32 @@ changing f = leaving (λ w k. changed f (w .chain) w (step w k .world))
 
 -- who returns is made Failed; who fails is made Returned; who awaits is made Yielded
 abbrev pub returnFails : Engine
-returnFails = changing (λ w c z. pick (is (viewOf z) ended c) (making c CoroState.Failed z) z)
+returnFails = changing (λ w c z. pick (stateIs (viewOf z) seenReturned c) (making c CoroState.Failed z) z)
 
 abbrev pub failureReturns : Engine
-failureReturns = changing (λ w c z. pick (is (viewOf z) isFailed c) (making c CoroState.Returned z) z)
+failureReturns = changing (λ w c z. pick (stateIs (viewOf z) seenFailed c) (making c CoroState.Returned z) z)
 
 abbrev pub awaitYields : Engine
-awaitYields = changing (λ w c z. pick (is (viewOf z) awaits c) (making c CoroState.Yielded z) z)
+awaitYields = changing (λ w c z. pick (stateIs (viewOf z) seenAwaiting c) (making c CoroState.Yielded z) z)
 
 -- who returns has the result 5
 abbrev pub returns5 : Engine
-returns5 = changing (λ w c z. pick (is (viewOf z) ended c) (changeCoro c (λ k. k) (withResult 5) z) z)
+returns5 = changing (λ w c z. pick (stateIs (viewOf z) seenReturned c) (changeCoro c (λ k. k) (withResult 5) z) z)
 
 -- where c comes to a state, it is changed
 abbrev pub reaching : (CoroState → Bool) → (World → World) → Engine
-reaching p f = leaving (λ w k. let z = step w k .world in pick (not (is (viewOf w) p c) && is (viewOf z) p c) (f z) z)
+reaching p f = leaving (λ w k. let z = step w k .world in pick (not (stateIs (viewOf w) p c) && stateIs (viewOf z) p c) (f z) z)
 
 -- where c is in a state, it is changed by the next call
 abbrev pub being : (CoroState → Bool) → (World → World) → Engine
-being p f = leaving (λ w k. pick (is (viewOf w) p c) (f (step w k .world)) (step w k .world))
+being p f = leaving (λ w k. pick (stateIs (viewOf w) p c) (f (step w k .world)) (step w k .world))
 
 abbrev pub result5 : World → World
 result5 z = changeCoro c (λ k. k) (withResult 5) z
 
 -- a close has it fail, where it has not begun
-abbrev pub closeOfNewFails : Engine
-closeOfNewFails = leaving (λ w k. let z = step w k .world in pick (is (viewOf w) isNew c && is (viewOf z) ended c) (making c CoroState.Failed z) z)
+abbrev pub closeOfCreatedFails : Engine
+closeOfCreatedFails = leaving (λ w k. let z = step w k .world in pick (stateIs (viewOf w) seenCreated c && stateIs (viewOf z) seenReturned c) (making c CoroState.Failed z) z)
 
 -- the machine of a set-up with depth 1
 abbrev pub depth1 : Setup → Setup
@@ -97,10 +97,10 @@ pub record RefutedEvents : Type 0 where
   pub returned : Refuted Events (λ e v. v .returned) returnFails
   pub fails : Refuted Events (λ e v. v .fails) returnFails
   pub failed : Refuted Events (λ e v. v .failed) failureReturns
-  pub spoilt : Refuted Events (λ e v. v .spoilt) (reaching isFailed result5)
-  pub stopped : Refuted Events (λ e v. v .stopped) (reaching isFailed result5)
-  pub closes-new : Refuted Events (λ e v. v .closes-new) closeOfNewFails
-  pub throws-new : Refuted Events (λ e v. v .throws-new) (reaching isFailed result5)
+  pub spoilt : Refuted Events (λ e v. v .spoilt) (reaching seenFailed result5)
+  pub stopped : Refuted Events (λ e v. v .stopped) (reaching seenFailed result5)
+  pub closes-created : Refuted Events (λ e v. v .closes-created) closeOfCreatedFails
+  pub throws-created : Refuted Events (λ e v. v .throws-created) (reaching seenFailed result5)
   pub integer : Refuted Events (λ e v. v .integer) returns5
   pub word : Refuted Events (λ e v. v .word) returns5
   pub closed : Refuted Events (λ e v. v .closed) returns5
@@ -108,13 +108,13 @@ pub record RefutedEvents : Type 0 where
   pub yielded : Refuted Events (λ e v. v .yielded) (leavingAt Bent.yield (λ w z. changeCoro c (λ k. k) (withClosing true) z))
   pub closing : Refuted Events (λ e v. v .closing) closingEnds
   pub awaited : Refuted Events (λ e v. v .awaited) awaitYields
-  pub still : Refuted Events (λ e v. v .still) (being ended result5)
-  pub unbegun : Refuted Events (λ e v. v .unbegun) (being isNew (making c CoroState.Failed))
-  pub runs-on : Refuted Events (λ e v. v .runs-on) (being runs (making c CoroState.Created))
-  pub comes : Refuted Events (λ e v. v .comes) (reaching isNew (making c CoroState.Failed))
+  pub still : Refuted Events (λ e v. v .still) (being seenReturned result5)
+  pub unbegun : Refuted Events (λ e v. v .unbegun) (being seenCreated (making c CoroState.Failed))
+  pub runs-on : Refuted Events (λ e v. v .runs-on) (being seenRunning (making c CoroState.Created))
+  pub comes : Refuted Events (λ e v. v .comes) (reaching seenCreated (making c CoroState.Failed))
   -- a grant changes the depth limit
   pub fixed : Refuted Events (λ e v. v .fixed) (leavingAt Bent.grant (λ w z. shallow z))
-  -- who resumes another sleeps too; or has returned. Where another yields, c has returned
+  -- who resumes another is suspended too; or has returned. Where another yields, c has returned
   pub one-switch : Refuted Events (λ e v. v .one-switch) (leavingAt Bent.resume (λ w z. making c CoroState.Yielded z))
   pub no-return : Refuted Events (λ e v. v .no-return) (leavingAt Bent.resume (λ w z. making c CoroState.Returned z))
   pub one-leaves : Refuted Events (λ e v. v .one-leaves) (leavingAt Bent.yield (λ w z. making c CoroState.Returned z))
@@ -124,7 +124,7 @@ pub record RefutedEvents : Type 0 where
 -- where the innermost would fail it answers 9, as if an error object could not be made, and does nothing
 abbrev pub lostIn : List Active → World → Bool
 lostIn [] z = false
-lostIn (a ∷ chain) z = is (viewOf z) isFailed (a .coro)
+lostIn (a ∷ chain) z = stateIs (viewOf z) seenFailed (a .coro)
 
 abbrev pub failureAnswers9 : Engine
 failureAnswers9 = bentBy (λ w k. let z = step w k .world in pick (lostIn (w .chain) z) w z) (λ w k. pick (lostIn (w .chain) (step w k .world)) 9 (numberOf (step w k .answer)))

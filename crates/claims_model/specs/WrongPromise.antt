@@ -18,7 +18,7 @@ use Rattle.model.specs.declared.call.Op.{Op}
 use Rattle.claims_model.specs.Engine.{View, Engine}
 use Rattle.claims_model.specs.Demand3.{Demand3}
 use Rattle.claims_model.specs.Promise.{Accepts, Soundness, SetUps, Looks, NotEmpty, Promise}
-use Rattle.claims_model.specs.Steps.{viewOf, opOf, asksOf, looks}
+use Rattle.claims_model.specs.Steps.{viewOf, modelOp, modelAsks, looks}
 use Rattle.claims_model.specs.Refuted.{Refuted, RefutedIn, RefutedAt, fresh}
 use Rattle.claims_model.specs.Bent as Bent
 use Rattle.claims_model.specs.Bent.{bentBy, answering, seeing, isA, leavingAt, answeringAt, answeringFor, refusing}
@@ -39,8 +39,8 @@ pub record RefutedAccepts : Type 0 where
   pub await : Refuted Accepts (λ e v. v .await) bankUnused
   pub yield-kv : Refuted Accepts (λ e v. v .yield-kv) bankUnused
   pub yield : Refuted Accepts (λ e v. v .yield) bankUnused
-  pub close-new : Refuted Accepts (λ e v. v .close-new) (refusing Bent.coroClose 9)
-  pub throw-new : Refuted Accepts (λ e v. v .throw-new) (refusing Bent.resumeThrow 9)
+  pub close-created : Refuted Accepts (λ e v. v .close-created) (refusing Bent.coroClose 9)
+  pub throw-created : Refuted Accepts (λ e v. v .throw-created) (refusing Bent.resumeThrow 9)
   pub integer : Refuted Accepts (λ e v. v .integer) (refusing Bent.finish 9)
   pub finish : Refuted Accepts (λ e v. v .finish) (refusing Bent.finish 9)
   -- an unwind is answered 17, though the word is caught, and where a fault passes through it; or 9, though there is room
@@ -96,7 +96,7 @@ pub record RefutedFresh : Type 0 where
 
 -- a look hands back the whole stack
 abbrev pub showsStack : Engine
-showsStack = record { State = World; Call = Call; op = opOf; asks = asksOf; view = viewOf; next = λ w k. step w k .world; refuel = λ w f. withFuel f w; number = λ w k. numberOf (step w k .answer); look = λ w. w .stack }
+showsStack = record { State = World; Call = Call; op = modelOp; asks = modelAsks; view = viewOf; next = λ w k. step w k .world; refuel = λ w f. withFuel f w; number = λ w k. numberOf (step w k .answer); look = λ w. w .stack }
 
 pub record RefutedLooks : Type 0 where
   pub sees : Refuted Looks (λ e v. v .sees) showsStack
@@ -108,7 +108,7 @@ pub record RefutedLooks : Type 0 where
 
 -- it goes on with its own fuel
 abbrev pub keepsFuel : Engine
-keepsFuel = record { State = World; Call = Call; op = opOf; asks = asksOf; view = viewOf; next = λ w k. step w k .world; refuel = λ w f. w; number = λ w k. numberOf (step w k .answer); look = looks }
+keepsFuel = record { State = World; Call = Call; op = modelOp; asks = modelAsks; view = viewOf; next = λ w k. step w k .world; refuel = λ w f. w; number = λ w k. numberOf (step w k .answer); look = looks }
 
 -- every operation is taken for a look
 abbrev pub heardAs : Option Op → Option Op
@@ -116,7 +116,7 @@ heardAs none = none
 heardAs (some o) = some Op.Look
 
 abbrev pub hearsLooks : Engine
-hearsLooks = record { State = World; Call = Call; op = λ k. heardAs (opOf k); asks = asksOf; view = viewOf; next = λ w k. step w k .world; refuel = λ w f. withFuel f w; number = λ w k. numberOf (step w k .answer); look = looks }
+hearsLooks = record { State = World; Call = Call; op = λ k. heardAs (modelOp k); asks = modelAsks; view = viewOf; next = λ w k. step w k .world; refuel = λ w f. withFuel f w; number = λ w k. numberOf (step w k .answer); look = looks }
 
 -- ---- one list of calls: 01's "doing nothing", "always refusing"; one that refuses every set-up, one that answers every look 11; and one that is seen to have no slot
 
@@ -132,7 +132,7 @@ pub record RefutedNotEmpty : Type 0 where
   pub roomy : RefutedIn NotEmpty (λ e v. v .roomy) (answeringAt Bent.look 11)
   pub makes : RefutedIn NotEmpty (λ e v. v .makes) (seeing fullSeen)
   pub enters : RefutedIn NotEmpty (λ e v. v .enters) doesNothing
-  pub leaves : RefutedIn NotEmpty (λ e v. v .leaves) doesNothing
+  pub stops : RefutedIn NotEmpty (λ e v. v .stops) doesNothing
 
 -- ---- all that is promised
 
@@ -166,8 +166,8 @@ afterRefuel =
     record {
       State = Fuelled;
       Call = Call;
-      op = opOf;
-      asks = asksOf;
+      op = modelOp;
+      asks = modelAsks;
       view = λ s. viewOf (s .world);
       next = λ s k. let w = s .world in let z = step w k .world in record { world = pick (eqb (w .fuel .fuel) (s .left)) z (zeroed w z); left = z .fuel .fuel };
       refuel = λ s f. record { world = withFuel f (s .world); left = s .left };

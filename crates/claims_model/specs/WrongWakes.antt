@@ -18,10 +18,10 @@ use Rattle.model.specs.declared.machine.Cont.{Cont}
 use Rattle.model.specs.declared.machine.Active.{Active}
 use Rattle.model.specs.declared.machine.Frame.{Frame}
 use Rattle.model.specs.declared.call.Op.{Op}
-use Rattle.claims_model.specs.Engine.{Seen, View, Engine, runs, sleeps, is}
+use Rattle.claims_model.specs.Engine.{Seen, View, Engine, seenRunning, seenSuspended, stateIs}
 use Rattle.claims_model.specs.Demand3.{Demand3}
 use Rattle.claims_model.specs.Events.{isBody}
-use Rattle.claims_model.specs.Steps.{viewOf, opOf, asksOf, looks}
+use Rattle.claims_model.specs.Steps.{viewOf, modelOp, modelAsks, looks}
 use Rattle.claims_model.specs.Story.{c, d}
 use Rattle.claims_model.specs.Refuted.{Refuted, RefutedAt, RefutedMoved as MovedRefuted, entered, by, restored, held, left}
 use Rattle.claims_model.specs.Bent as Bent
@@ -100,7 +100,7 @@ pub record RefutedEntered : Type 0 where
   pub frames : RefutedAt entered (λ e a r. r .frames) (beginsWith (underTop atOne))
   pub stack : RefutedAt entered (λ e a r. r .stack) (beginning fourthWord5)
   pub its-own : RefutedAt entered (λ e a r. r .its-own) (seeing (eachSeen discards))
-  pub floor : RefutedAt entered (λ e a r. r .floor) (seeing (eachSeen higher))
+  pub body-base : RefutedAt entered (λ e a r. r .body-base) (seeing (eachSeen higher))
   pub chain : RefutedAt entered (λ e a r. r .chain) (beginning (λ w z. withChain (map floor0 (z .chain)) z))
   pub closing : RefutedAt entered (λ e a r. r .closing) closingEnds
   pub saved-words : RefutedAt entered (λ e a r. r .saved-words) (beginning firstWord5)
@@ -123,7 +123,7 @@ pub record RefutedHeld : Type 0 where
 -- 01: "moving rows at the first entry and later only changing states": the entry of one that slept leaves stack and frames
 abbrev pub slept : World → List Active → Bool
 slept w [] = false
-slept w (a ∷ chain) = is (viewOf w) sleeps (a .coro)
+slept w (a ∷ chain) = stateIs (viewOf w) seenSuspended (a .coro)
 
 abbrev pub movesOnce : Engine
 movesOnce = entering (λ w z. pick (slept w (z .chain)) (withStack (w .stack) (withFrames (w .frames) z)) z)
@@ -156,7 +156,7 @@ firstOf5 k = record { state = k .state; regs = set (k .regs) 0 5; frames = k .fr
 pub record RefutedRestored : Type 0 where
   pub held : RefutedAt restored (λ e a r. r .held) (seeing unchained)
   -- a grant makes of c one that has not begun
-  pub asleep : RefutedAt restored (λ e a r. r .asleep) (leavingAt Bent.grant (λ w z. making c CoroState.Created z))
+  pub suspended : RefutedAt restored (λ e a r. r .suspended) (leavingAt Bent.grant (λ w z. making c CoroState.Created z))
   pub entered : RefutedAt restored (λ e a r. r .entered) movesOnce
   pub moved : RefutedAt restored (λ e a r. r .moved) (sleepsWith topOfZero)
   pub words : RefutedAt restored (λ e a r. r .words) (sleepsWith firstOf5)
@@ -170,7 +170,7 @@ pub record RefutedMoved : Type 0 where
 
 -- ---- what is left
 
-pub record RefutedLeft : Type 0 where
+pub record RefutedLeftBelow : Type 0 where
   pub by : RefutedAt left (λ e a r. r .by) grantResumes
   pub under : RefutedAt left (λ e a r. r .under) (parting fourthWord5)
   -- who leaves stays in the chain
@@ -192,13 +192,13 @@ savedBy (Is j r) k = record { state = k .state; regs = j .regs; frames = j .fram
 abbrev pub readsRowOf : ℕ → ℕ → Engine
 readsRowOf c d =
     leaving (λ w k. let z = step w k .world in
-    pick (is (viewOf w) sleeps c && is (viewOf w) sleeps d && is (viewOf z) runs c) (step (changeCoro c (savedBy (coro w d)) (λ r. r) w) k .world) z)
+    pick (stateIs (viewOf w) seenSuspended c && stateIs (viewOf w) seenSuspended d && stateIs (viewOf z) seenRunning c) (step (changeCoro c (savedBy (coro w d)) (λ r. r) w) k .world) z)
 
 -- where d is suspended while c sleeps, what they saved is exchanged
 abbrev pub exchangesRows : ℕ → ℕ → Engine
 exchangesRows c d =
     leaving (λ w k. let z = step w k .world in
-    pick (is (viewOf w) sleeps c && is (viewOf w) runs d && is (viewOf z) sleeps d) (changeCoro c (savedBy (coro z d)) (λ r. r) (changeCoro d (savedBy (coro z c)) (λ r. r) z)) z)
+    pick (stateIs (viewOf w) seenSuspended c && stateIs (viewOf w) seenRunning d && stateIs (viewOf z) seenSuspended d) (changeCoro c (savedBy (coro z d)) (λ r. r) (changeCoro d (savedBy (coro z c)) (λ r. r) z)) z)
 
 abbrev pub tail : List Frame → List Frame
 tail [] = []
@@ -215,8 +215,8 @@ wakesUnseen =
     record {
       State = Counting;
       Call = Call;
-      op = opOf;
-      asks = asksOf;
+      op = modelOp;
+      asks = modelAsks;
       view = λ s. viewOf (s .world);
       next = λ s k. let w = s .world in let z = step w k .world in record {
         world = pick (ltb (length (w .chain)) (length (z .chain)) && slept w (z .chain) && not (s .saw)) (firstWord5 w z) z;

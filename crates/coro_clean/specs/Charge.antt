@@ -20,12 +20,12 @@ abbrev pub chargeReady : ℕ → World → After Charge
 chargeReady pc w = chargeOr (startFinalizer (storePc pc w))
 
 -- a sound world with a frame, and a pc, which the gate has tested
-pub record ChargeFits (l : Sizes) (M : Beside → Lent) (m : Machine) (fuel : Fuel) (pc : ℕ) : Type 0 where
-  pub ok : Ok l M (with m fuel)
+pub record ChargeFits (sizes : Sizes) (M : Beside → Lent) (m : Machine) (fuel : Fuel) (pc : ℕ) : Type 0 where
+  pub ok : Ok sizes M (with m fuel)
   pub narrow : pc < 2 ^ 32
   pub some : 1 ≤ m .depth
 
 -- .. and a unit to pay with
-pub record ReadyFits (l : Sizes) (M : Beside → Lent) (m : Machine) (fuel : Fuel) (pc : ℕ) : Type 0 where
-  pub charge : ChargeFits l M m fuel pc
+pub record ReadyFits (sizes : Sizes) (M : Beside → Lent) (m : Machine) (fuel : Fuel) (pc : ℕ) : Type 0 where
+  pub charge : ChargeFits sizes M m fuel pc
   pub paid : 1 ≤ unbankAt (fuel .bank) fuel .fuel

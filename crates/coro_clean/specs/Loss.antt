@@ -25,4 +25,4 @@ pub record LostWords (M M′ : Lent) (m m′ : Machine) (a : Started) : Type 0 w
 
 pub record Loss : Type 0 where
   pub world : (w : World) → Lost w
-  pub words : (l : Sizes) (w : World) (M M′ : Lent) (m m′ : Machine) (f f′ : Fuel) (a : Started) → Rep l w M m f → Does l (startFinalizer w) M′ m′ f′ a → LostWords M M′ m m′ a
+  pub words : (sizes : Sizes) (w : World) (M M′ : Lent) (m m′ : Machine) (f f′ : Fuel) (a : Started) → Rep sizes w M m f → Does sizes (startFinalizer w) M′ m′ f′ a → LostWords M M′ m m′ a

@@ -35,22 +35,22 @@ firstOf p (x ∷ xs) = pick (p x) 0 (suc (firstOf p xs))
 
 -- a coroutine found in the words: it is suspended, and coro_enter accepts it
 abbrev pub startsAs : Machine → Sizes → Coroutine → Bool
-startsAs m l (R.Not f) = false
-startsAs m l (R.At i c) = isSuspended (c .state) && eqb (numberOf (refusalOf (m .height) (m .depth) l c)) 0
+startsAs m sizes (R.Not f) = false
+startsAs m sizes (R.At i c) = isSuspended (c .state) && eqb (numberOf (refusalOf (m .height) (m .depth) sizes c)) 0
 
 -- the coroutine that a word names
 abbrev pub starts : List ℕ → Machine → Sizes → ℕ → Bool
-starts slots m l v = startsAs m l (coroOf (slotsOf (m .count) slots) v)
+starts slots m sizes v = startsAs m sizes (coroOf (slotsOf (m .count) slots) v)
 
 -- the slots lie in the words, the frames and the stack within their limits
-pub record MayFits (slots : List ℕ) (m : Machine) (l : Sizes) : Type 0 where
+pub record MayFits (slots : List ℕ) (m : Machine) (sizes : Sizes) : Type 0 where
   pub table : TableFits slots (m .count)
-  pub depth : m .depth ≤ l .depth
-  pub height : m .height ≤ l .stack
+  pub depth : m .depth ≤ sizes .depth
+  pub height : m .height ≤ sizes .stack
 
 -- .. and so does the queue
-pub record SearchFits (slots queue : List ℕ) (m : Machine) (l : Sizes) : Type 0 where
-  pub may : MayFits slots m l
+pub record SearchFits (slots queue : List ℕ) (m : Machine) (sizes : Sizes) : Type 0 where
+  pub may : MayFits slots m sizes
   pub words : m .finalize ≤ length queue
 
 -- ---- what it leads to
@@ -72,6 +72,6 @@ startAt i w =
     after (setFinalizing true (changeCoro c (λ k. k) (close nil) (e .world))) (started true (suc i))
 
 -- a sound world, and a word of its queue
-pub record StartFits (l : Sizes) (M : Beside → Lent) (m : Machine) (fuel : Fuel) (i : ℕ) : Type 0 where
-  pub ok : Ok l M (with m fuel)
+pub record StartFits (sizes : Sizes) (M : Beside → Lent) (m : Machine) (fuel : Fuel) (i : ℕ) : Type 0 where
+  pub ok : Ok sizes M (with m fuel)
   pub below : i < m .finalize

@@ -43,7 +43,7 @@ pub(crate) fn spend(f: Fuel) -> Fuel
 // A unit is paid, after so many words were taken off the cleanup queue.
 pub(crate) fn charge_done(f: Fuel, taken: u64) -> Charged
     requires { ⌜ 1 ≤ f .fuel ⌝ }
-    ensures { λ r. ⌜ ((m : Machine) → every (λ l. Met any l (chargeDone taken) none (with m f) (with m (r .fuel)) (r .answer))) ⌝ }
+    ensures { λ r. ⌜ ((m : Machine) → every (λ sizes. Met any sizes (chargeDone taken) none (with m f) (with m (r .fuel)) (r .answer))) ⌝ }
 {
     let g = spend(f);
     let fuel = arm_close(g);
@@ -55,7 +55,7 @@ pub(crate) fn charge_done(f: Fuel, taken: u64) -> Charged
 
 // coro.rs: charge_slow, without a pc.
 fn slow_plain(fuel: Fuel) -> Charged
-    ensures { λ r. ⌜ ((m : Machine) → every (λ l. Met any l (chargeSlow None) none (with m fuel) (with m (r .fuel)) (r .answer))) ⌝ }
+    ensures { λ r. ⌜ ((m : Machine) → every (λ sizes. Met any sizes (chargeSlow None) none (with m fuel) (with m (r .fuel)) (r .answer))) ⌝ }
 {
     let f = unbank(fuel);
     if f.fuel == 0 {
@@ -69,7 +69,7 @@ fn slow_plain(fuel: Fuel) -> Charged
 
 // exec.rs: charge, without a pc: no cleanup starts.
 pub fn charge_plain(fuel: Fuel) -> Charged
-    ensures { λ r. ⌜ ((m : Machine) → every (λ l. Met any l (charge None) none (with m fuel) (with m (r .fuel)) (r .answer))) ⌝ }
+    ensures { λ r. ⌜ ((m : Machine) → every (λ sizes. Met any sizes (charge None) none (with m fuel) (with m (r .fuel)) (r .answer))) ⌝ }
 {
     if fuel.fuel != 0 {
         let f = spend(fuel);
@@ -84,7 +84,7 @@ pub fn charge_plain(fuel: Fuel) -> Charged
 // A cleanup has started, or a unit is paid.
 pub(crate) fn charge_or(m: Machine, f: Fuel, s: Started) -> ChargeDid
     requires { ⌜ (s .entered ≡ false → 1 ≤ f .fuel) ⌝ }
-    ensures { λ r. ⌜ every (λ l. Met any l (λ w. chargeOr (after w s)) none (with m f) (with (r .machine) (r .fuel)) (r .answer)) ⌝ }
+    ensures { λ r. ⌜ every (λ sizes. Met any sizes (λ w. chargeOr (after w s)) none (with m f) (with (r .machine) (r .fuel)) (r .answer)) ⌝ }
 {
     if s.entered {
         return ChargeDid {
@@ -113,12 +113,12 @@ pub(crate) fn charge_ready(
     saved_frames: &mut [u64],
     finalize: &mut [u64],
     m: Machine,
-    l: Sizes,
+    sizes: Sizes,
     fuel: Fuel,
     pc: u64,
 ) -> ChargeDid
-    requires { ⌜ ReadyFits l (cleaning stack frames chain slots «saved_stack» «saved_frames» finalize now) m fuel pc ⌝ }
-    ensures { λ r. ⌜ Met ifSound l (chargeReady pc) (cleaning stack frames chain slots «saved_stack» «saved_frames» finalize) (with m fuel) (with (r .machine) (r .fuel)) (r .answer) ⌝ }
+    requires { ⌜ ReadyFits sizes (cleaning stack frames chain slots «saved_stack» «saved_frames» finalize now) m fuel pc ⌝ }
+    ensures { λ r. ⌜ Met ifSound sizes (chargeReady pc) (cleaning stack frames chain slots «saved_stack» «saved_frames» finalize) (with m fuel) (with (r .machine) (r .fuel)) (r .answer) ⌝ }
 {
     machine_state::frame::store_pc(frames, m, pc);
     let did = start_finalizer(
@@ -130,7 +130,7 @@ pub(crate) fn charge_ready(
         saved_frames,
         finalize,
         m,
-        l,
+        sizes,
         fuel,
     );
     let n = did.machine;
@@ -149,12 +149,12 @@ pub(crate) fn charge_slow(
     saved_frames: &mut [u64],
     finalize: &mut [u64],
     m: Machine,
-    l: Sizes,
+    sizes: Sizes,
     fuel: Fuel,
     pc: u64,
 ) -> ChargeDid
-    requires { ⌜ ChargeFits l (cleaning stack frames chain slots «saved_stack» «saved_frames» finalize now) m fuel pc ⌝ }
-    ensures { λ r. ⌜ Met ifSound l (chargeSlow (Some pc)) (cleaning stack frames chain slots «saved_stack» «saved_frames» finalize) (with m fuel) (with (r .machine) (r .fuel)) (r .answer) ⌝ }
+    requires { ⌜ ChargeFits sizes (cleaning stack frames chain slots «saved_stack» «saved_frames» finalize now) m fuel pc ⌝ }
+    ensures { λ r. ⌜ Met ifSound sizes (chargeSlow (Some pc)) (cleaning stack frames chain slots «saved_stack» «saved_frames» finalize) (with m fuel) (with (r .machine) (r .fuel)) (r .answer) ⌝ }
 {
     let f = unbank(fuel);
     if f.fuel == 0 {
@@ -174,7 +174,7 @@ pub(crate) fn charge_slow(
             saved_frames,
             finalize,
             m,
-            l,
+            sizes,
             f,
             pc,
         );
@@ -199,12 +199,12 @@ pub fn charge(
     saved_frames: &mut [u64],
     finalize: &mut [u64],
     m: Machine,
-    l: Sizes,
+    sizes: Sizes,
     fuel: Fuel,
     pc: u64,
 ) -> ChargeDid
-    requires { ⌜ ChargeFits l (cleaning stack frames chain slots «saved_stack» «saved_frames» finalize now) m fuel pc ⌝ }
-    ensures { λ r. ⌜ Met ifSound l (charge (Some pc)) (cleaning stack frames chain slots «saved_stack» «saved_frames» finalize) (with m fuel) (with (r .machine) (r .fuel)) (r .answer) ⌝ }
+    requires { ⌜ ChargeFits sizes (cleaning stack frames chain slots «saved_stack» «saved_frames» finalize now) m fuel pc ⌝ }
+    ensures { λ r. ⌜ Met ifSound sizes (charge (Some pc)) (cleaning stack frames chain slots «saved_stack» «saved_frames» finalize) (with m fuel) (with (r .machine) (r .fuel)) (r .answer) ⌝ }
 {
     if fuel.fuel != 0 {
         let f = spend(fuel);
@@ -223,7 +223,7 @@ pub fn charge(
         saved_frames,
         finalize,
         m,
-        l,
+        sizes,
         fuel,
         pc,
     )

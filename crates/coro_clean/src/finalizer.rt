@@ -27,9 +27,9 @@ pub struct StartDid {
 }
 
 // Whether a word names a suspended coroutine that can be entered.
-pub(crate) fn may_start(slots: &[u64], m: Machine, l: Sizes, v: Word) -> bool
-    requires { ⌜ MayFits (now slots) m l ⌝ }
-    ensures { λ r. ⌜ r ≡ starts (now (slots .entry)) m l (v .0) ⌝ }
+pub(crate) fn may_start(slots: &[u64], m: Machine, sizes: Sizes, v: Word) -> bool
+    requires { ⌜ MayFits (now slots) m sizes ⌝ }
+    ensures { λ r. ⌜ r ≡ starts (now (slots .entry)) m sizes (v .0) ⌝ }
 {
     match heap::heap::coro_place(slots, m.count, v) {
         CoroPlace::Not(_) => false,
@@ -39,21 +39,21 @@ pub(crate) fn may_start(slots: &[u64], m: Machine, l: Sizes, v: Word) -> bool
             if !s.is_suspended() {
                 return false;
             }
-            let f = refusal(m, l, c);
+            let f = refusal(m, sizes, c);
             f.number() == 0
         }
     }
 }
 
 // The index of the first word of the cleanup queue that may start, or their number.
-pub(crate) fn first_start(slots: &[u64], finalize: &[u64], m: Machine, l: Sizes) -> usize
-    requires { ⌜ SearchFits (now slots) (now finalize) m l ⌝ }
-    ensures { λ r. ⌜ r ≡ firstOf (starts (now (slots .entry)) m l) (take (m .finalize) (now (finalize .entry))) ⌝ }
+pub(crate) fn first_start(slots: &[u64], finalize: &[u64], m: Machine, sizes: Sizes) -> usize
+    requires { ⌜ SearchFits (now slots) (now finalize) m sizes ⌝ }
+    ensures { λ r. ⌜ r ≡ firstOf (starts (now (slots .entry)) m sizes) (take (m .finalize) (now (finalize .entry))) ⌝ }
 {
     let n = m.finalize;
     let mut i = 0;
     while i < n {
-        if may_start(slots, m, l, Word(finalize[i])) {
+        if may_start(slots, m, sizes, Word(finalize[i])) {
             return i;
         }
         i += 1;
@@ -64,7 +64,7 @@ pub(crate) fn first_start(slots: &[u64], finalize: &[u64], m: Machine, l: Sizes)
 // No cleanup starts: the queue is empty.
 pub(crate) fn start_none(finalize: &mut [u64], m: Machine, fuel: Fuel) -> StartDid
     requires { ⌜ m .finalize ≤ length (now finalize) ⌝ }
-    ensures { λ r. ⌜ every (λ l. Met any l startNone (queue finalize) (with m fuel) (with (r .machine) (r .fuel)) (r .answer)) ⌝ }
+    ensures { λ r. ⌜ every (λ sizes. Met any sizes startNone (queue finalize) (with m fuel) (with (r .machine) (r .fuel)) (r .answer)) ⌝ }
 {
     memory_tables::queue::take_front(finalize, m.finalize, m.finalize);
     let mut n = m;
@@ -93,12 +93,12 @@ pub(crate) fn start_at(
     saved_frames: &mut [u64],
     finalize: &mut [u64],
     m: Machine,
-    l: Sizes,
+    sizes: Sizes,
     fuel: Fuel,
     i: usize,
 ) -> StartDid
-    requires { ⌜ StartFits l (cleaning stack frames chain slots «saved_stack» «saved_frames» finalize now) m fuel i ⌝ }
-    ensures { λ r. ⌜ Met ifSound l (startAt i) (cleaning stack frames chain slots «saved_stack» «saved_frames» finalize) (with m fuel) (with (r .machine) (r .fuel)) (r .answer) ⌝ }
+    requires { ⌜ StartFits sizes (cleaning stack frames chain slots «saved_stack» «saved_frames» finalize now) m fuel i ⌝ }
+    ensures { λ r. ⌜ Met ifSound sizes (startAt i) (cleaning stack frames chain slots «saved_stack» «saved_frames» finalize) (with m fuel) (with (r .machine) (r .fuel)) (r .answer) ⌝ }
 {
     let v = memory_tables::queue::word_at(finalize, i);
     let taken = i + 1;
@@ -113,7 +113,7 @@ pub(crate) fn start_at(
         saved_stack,
         saved_frames,
         n,
-        l,
+        sizes,
         Word(v),
         Driver::Finalize,
     );
@@ -143,14 +143,14 @@ pub fn start_finalizer(
     saved_frames: &mut [u64],
     finalize: &mut [u64],
     m: Machine,
-    l: Sizes,
+    sizes: Sizes,
     fuel: Fuel,
 ) -> StartDid
-    requires { ⌜ Ok l (cleaning stack frames chain slots «saved_stack» «saved_frames» finalize now) (with m fuel) ⌝ }
-    ensures { λ r. ⌜ Met ifSound l startFinalizer (cleaning stack frames chain slots «saved_stack» «saved_frames» finalize) (with m fuel) (with (r .machine) (r .fuel)) (r .answer) ⌝ }
+    requires { ⌜ Ok sizes (cleaning stack frames chain slots «saved_stack» «saved_frames» finalize now) (with m fuel) ⌝ }
+    ensures { λ r. ⌜ Met ifSound sizes startFinalizer (cleaning stack frames chain slots «saved_stack» «saved_frames» finalize) (with m fuel) (with (r .machine) (r .fuel)) (r .answer) ⌝ }
 {
     let f = unbank(fuel);
-    let i = first_start(slots, finalize, m, l);
+    let i = first_start(slots, finalize, m, sizes);
     if i < m.finalize {
         return start_at(
             stack,
@@ -161,7 +161,7 @@ pub fn start_finalizer(
             saved_frames,
             finalize,
             m,
-            l,
+            sizes,
             f,
             i,
         );

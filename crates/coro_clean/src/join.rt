@@ -23,7 +23,7 @@ pub struct TaskDid {
 // coro.rs: spawn_task.
 pub fn spawn_task(slots: &mut [u64], ready: &mut [u64], m: Machine, v: Word) -> TaskDid
     requires { ⌜ JoinFits (tasks slots ready now) m ⌝ }
-    ensures { λ r. ⌜ every (λ l. Met any l (spawnTask (v .0)) (tasks slots ready) (only m) (only (r .machine)) (r .answer)) ⌝ }
+    ensures { λ r. ⌜ every (λ sizes. Met any sizes (spawnTask (v .0)) (tasks slots ready) (only m) (only (r .machine)) (r .answer)) ⌝ }
 {
     match heap::heap::coro_place(slots, m.count, v) {
         CoroPlace::Not(_) => TaskDid {
@@ -59,7 +59,7 @@ pub fn spawn_task(slots: &mut [u64], ready: &mut [u64], m: Machine, v: Word) -> 
 // 01: "Hand over".
 pub fn hand_over(slots: &mut [u64], finalize: &mut [u64], m: Machine, fuel: Fuel, v: Word) -> Called
     requires { ⌜ JoinFits (cleanups slots finalize now) m ⌝ }
-    ensures { λ r. ⌜ every (λ l. Met any l (handOver (v .0)) (cleanups slots finalize) (with m fuel) (with (r .machine) (r .fuel)) (r .answer)) ⌝ }
+    ensures { λ r. ⌜ every (λ sizes. Met any sizes (handOver (v .0)) (cleanups slots finalize) (with m fuel) (with (r .machine) (r .fuel)) (r .answer)) ⌝ }
 {
     match heap::heap::coro_place(slots, m.count, v) {
         CoroPlace::Not(f) => Called {

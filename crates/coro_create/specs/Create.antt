@@ -40,14 +40,14 @@ abbrev pub rowOr : ℕ → ℕ → Spot
 rowOr rows row = pick (leb rows row) (Spot.Lacks Fault.Full) (Spot.Row row)
 
 abbrev pub spotOf : List (Slot H.Object) → Machine → Sizes → ℕ → Spot
-spotOf xs m l regs =
-    let fault = lacksOf (heapOf m l) (bytesOf regs (l .costs .coro) (l .costs .frame)) in
-    pick (isNone fault) (rowOr (l .rows) (lowestFree (l .rows) 0 (heldIn xs))) (Spot.Lacks fault)
+spotOf xs m sizes regs =
+    let fault = lacksOf (heapOf m sizes) (bytesOf regs (sizes .costs .coro) (sizes .costs .frame)) in
+    pick (isNone fault) (rowOr (sizes .rows) (lowestFree (sizes .rows) 0 (heldIn xs))) (Spot.Lacks fault)
 
-pub record SpotFits (slots : List ℕ) (m : Machine) (l : Sizes) (regs : ℕ) : Type 0 where
+pub record SpotFits (slots : List ℕ) (m : Machine) (sizes : Sizes) (regs : ℕ) : Type 0 where
   pub words : TableFits slots (m .count)
-  pub rows : l .rows ≤ 64
-  pub bytes : bytesOf regs (l .costs .coro) (l .costs .frame) < 2 ^ 64
+  pub rows : sizes .rows ≤ 64
+  pub bytes : bytesOf regs (sizes .costs .coro) (sizes .costs .frame) < 2 ^ 64
 
 -- ---- its record
 
@@ -79,20 +79,20 @@ newObject seq row regs =
 abbrev pub copiedOf : ℕ → ℕ → ℕ
 copiedOf n regs = pick (leb n regs) n 0
 
-pub record WriteFits (savedStack savedFrames : List ℕ) (l : Sizes) (row regs n : ℕ) : Type 0 where
+pub record WriteFits (savedStack savedFrames : List ℕ) (sizes : Sizes) (row regs n : ℕ) : Type 0 where
   pub few : n ≤ 255
-  pub stack : row * l .width + regs ≤ length savedStack
-  pub frames : row * l .depth * 6 + 6 ≤ length savedFrames
+  pub stack : row * sizes .width + regs ≤ length savedStack
+  pub frames : row * sizes .depth * 6 + 6 ≤ length savedFrames
 
 -- the arguments, zeros up to the registers, and one frame
-pub record Writes (savedStack savedFrames savedStack′ savedFrames′ : List ℕ) (l : Sizes) (row regs f closure : ℕ) (args : List ℕ) (n : ℕ) : Type 0 where
-  pub stack : savedStack′ ≡ splice savedStack (row * l .width) (pad regs (take (copiedOf n regs) args))
-  pub frames : savedFrames′ ≡ splice savedFrames (row * l .depth * 6) (frameWords (frame f 0 closure Cont.Coro))
+pub record Writes (savedStack savedFrames savedStack′ savedFrames′ : List ℕ) (sizes : Sizes) (row regs f closure : ℕ) (args : List ℕ) (n : ℕ) : Type 0 where
+  pub stack : savedStack′ ≡ splice savedStack (row * sizes .width) (pad regs (take (copiedOf n regs) args))
+  pub frames : savedFrames′ ≡ splice savedFrames (row * sizes .depth * 6) (frameWords (frame f 0 closure Cont.Coro))
 
 -- ---- coro_create
 
 -- a sound world, one of the set-up's functions (their number is word 13), and arguments that the array holds
-pub record CreateFits (l : Sizes) (slots savedStack savedFrames setup : List ℕ) (m : Machine) (f n : ℕ) : Type 0 where
-  pub ok : Ok l (making slots savedStack savedFrames setup plain) (only m)
+pub record CreateFits (sizes : Sizes) (slots savedStack savedFrames setup : List ℕ) (m : Machine) (f n : ℕ) : Type 0 where
+  pub ok : Ok sizes (making slots savedStack savedFrames setup plain) (only m)
   pub function : f < getD setup 13 0
   pub few : n ≤ 255

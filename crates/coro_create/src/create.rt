@@ -46,18 +46,18 @@ fn bytes(regs: u64, size: u64, frame: u64) -> u64
 }
 
 // 01: "tests 8 times registers + C + F against the limit (9), then 14"
-fn find_spot(slots: &[u64], m: Machine, l: Sizes, regs: u64) -> Spot
-    requires { ⌜ SpotFits (now slots) m l regs ⌝ }
-    ensures { λ r. ⌜ r ≡ spotOf (slotsOf (m .count) (now (slots .entry))) m l regs ⌝ }
+fn find_spot(slots: &[u64], m: Machine, sizes: Sizes, regs: u64) -> Spot
+    requires { ⌜ SpotFits (now slots) m sizes regs ⌝ }
+    ensures { λ r. ⌜ r ≡ spotOf (slotsOf (m .count) (now (slots .entry))) m sizes regs ⌝ }
 {
-    let costs = l.costs;
-    let h = heap_of(m, l);
+    let costs = sizes.costs;
+    let h = heap_of(m, sizes);
     let fault = h.lacks(bytes(regs, costs.coro, costs.frame));
     if fault.number() != 0 {
         return Spot::Lacks(fault);
     }
-    let row = lowest_free_row(slots, m.count, l.rows);
-    if l.rows <= row {
+    let row = lowest_free_row(slots, m.count, sizes.rows);
+    if sizes.rows <= row {
         return Spot::Lacks(Fault::Full);
     }
     Spot::Row(row)
@@ -99,7 +99,7 @@ fn copied(n: usize, regs: usize) -> usize
 fn write_row(
     saved_stack: &mut [u64],
     saved_frames: &mut [u64],
-    l: Sizes,
+    sizes: Sizes,
     row: usize,
     regs: usize,
     f: u64,
@@ -107,10 +107,10 @@ fn write_row(
     args: [u64; 255],
     n: usize,
 )
-    requires { ⌜ WriteFits (now «saved_stack») (now «saved_frames») l row regs n ⌝ }
-    ensures { λ _. ⌜ Writes (now («saved_stack» .entry)) (now («saved_frames» .entry)) (now («saved_stack» .exit)) (now («saved_frames» .exit)) l row regs f closure args n ⌝ }
+    requires { ⌜ WriteFits (now «saved_stack») (now «saved_frames») sizes row regs n ⌝ }
+    ensures { λ _. ⌜ Writes (now («saved_stack» .entry)) (now («saved_frames» .entry)) (now («saved_stack» .exit)) (now («saved_frames» .exit)) sizes row regs f closure args n ⌝ }
 {
-    let at = row * l.width;
+    let at = row * sizes.width;
     let k = copied(n, regs);
     memory_tables::runs::fill_row(saved_stack, at, regs, &args, k);
     let body = Frame {
@@ -120,7 +120,7 @@ fn write_row(
         closure,
         cont: Cont::Coro,
     };
-    memory_tables::frame::put_frame(saved_frames, row * l.depth, body);
+    memory_tables::frame::put_frame(saved_frames, row * sizes.depth, body);
 }
 
 // coro.rs: coro_create. The arguments are the first n words of args.
@@ -130,27 +130,27 @@ pub fn coro_create(
     saved_frames: &mut [u64],
     setup: &[u64],
     m: Machine,
-    l: Sizes,
+    sizes: Sizes,
     f: u64,
     closure: u64,
     args: [u64; 255],
     n: usize,
 ) -> CreateDid
-    requires { ⌜ CreateFits l (now slots) (now «saved_stack») (now «saved_frames») (now setup) m f n ⌝ }
-    ensures { λ r. ⌜ Met ifSound l (coroCreate f closure (take n args)) (making slots «saved_stack» «saved_frames» setup) (only m) (only (r .machine)) (r .answer) ⌝ }
+    requires { ⌜ CreateFits sizes (now slots) (now «saved_stack») (now «saved_frames») (now setup) m f n ⌝ }
+    ensures { λ r. ⌜ Met ifSound sizes (coroCreate f closure (take n args)) (making slots «saved_stack» «saved_frames» setup) (only m) (only (r .machine)) (r .answer) ⌝ }
 {
     let regs = memory_tables::program::regs_at(setup, f as usize);
-    match find_spot(slots, m, l, regs) {
+    match find_spot(slots, m, sizes, regs) {
         Spot::Lacks(g) => CreateDid {
             machine: m,
             answer: WordOr::Refused(g),
         },
         Spot::Row(row) => {
-            let costs = l.costs;
+            let costs = sizes.costs;
             let o = Object::Coro(new_object(m.seq, row as u64, regs));
             let q = sequenced(m);
             let charge = bytes(regs, costs.object, costs.frame);
-            match heap::heap::alloc(slots, heap_of(q, l), charge, o) {
+            match heap::heap::alloc(slots, heap_of(q, sizes), charge, o) {
                 heap::heap::Made::Refused(g) => CreateDid {
                     machine: q,
                     answer: WordOr::Refused(g),
@@ -159,7 +159,7 @@ pub fn coro_create(
                     write_row(
                         saved_stack,
                         saved_frames,
-                        l,
+                        sizes,
                         row,
                         regs as usize,
                         f,

@@ -19,9 +19,9 @@ pub struct KeyDid {
 }
 
 // coro.rs: auto_key. The key after the largest so far; one that is not inline is a new object.
-pub fn auto_key(slots: &mut [u64], m: Machine, l: Sizes, largest: u64) -> KeyDid
-    requires { ⌜ Room (now slots) (heapOf m l) ⌝ }
-    ensures { λ r. ⌜ Met ifSound l (autoKey largest) (table slots) (only m) (only (r .machine)) (r .answer) ⌝ }
+pub fn auto_key(slots: &mut [u64], m: Machine, sizes: Sizes, largest: u64) -> KeyDid
+    requires { ⌜ Room (now slots) (heapOf m sizes) ⌝ }
+    ensures { λ r. ⌜ Met ifSound sizes (autoKey largest) (table slots) (only m) (only (r .machine)) (r .answer) ⌝ }
 {
     match heap::int::next_key(largest) {
         Exact::Over => KeyDid {
@@ -29,8 +29,8 @@ pub fn auto_key(slots: &mut [u64], m: Machine, l: Sizes, largest: u64) -> KeyDid
             answer: AutoKey::Refused(Fault::ArithOverflow),
         },
         Exact::Fits(n) => {
-            let costs = l.costs;
-            match heap::heap::encode_int(slots, heap_of(m, l), costs.int, n) {
+            let costs = sizes.costs;
+            match heap::heap::encode_int(slots, heap_of(m, sizes), costs.int, n) {
                 heap::heap::Made::Refused(g) => KeyDid {
                     machine: m,
                     answer: AutoKey::Refused(g),

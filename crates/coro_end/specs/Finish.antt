@@ -15,8 +15,8 @@ use Rattle.memory_world.specs.declared.machine.Machine.{Machine}
 use Rattle.memory_world.specs.declared.machine.Sizes.{Sizes}
 
 -- a world whose rows are in order is held, and the new state is an end
-pub record FinishFits (l : Sizes) (M : Beside → Lent) (m : Machine) (s : CoroState) : Type 0 where
-  pub held : SomeWorld (λ w. Rowed (w .setup) (w .slots)) l M (only m)
+pub record FinishFits (sizes : Sizes) (M : Beside → Lent) (m : Machine) (s : CoroState) : Type 0 where
+  pub held : SomeWorld (λ w. Rowed (w .setup) (w .slots)) sizes M (only m)
   pub ends : isFinished s ≡ true
 
 -- ---- parts
@@ -44,22 +44,22 @@ endedAs s result c =
     }
 
 -- its row lies in the words
-pub record RowFits (savedStack savedFrames : List ℕ) (l : Sizes) (c : CoroObj) : Type 0 where
-  pub regs : c .regs ≤ l .width
-  pub on-stack : c .row * l .width + l .width ≤ length savedStack
-  pub frames : c .frames ≤ l .depth
-  pub on-frames : c .row * (l .depth * 6) + l .depth * 6 ≤ length savedFrames
+pub record RowFits (savedStack savedFrames : List ℕ) (sizes : Sizes) (c : CoroObj) : Type 0 where
+  pub regs : c .regs ≤ sizes .width
+  pub on-stack : c .row * sizes .width + sizes .width ≤ length savedStack
+  pub frames : c .frames ≤ sizes .depth
+  pub on-frames : c .row * (sizes .depth * 6) + sizes .depth * 6 ≤ length savedFrames
 
 -- its words there are 0
-pub record Cleared (savedStack savedFrames savedStack′ savedFrames′ : List ℕ) (l : Sizes) (c : CoroObj) : Type 0 where
-  pub regs : savedStack′ ≡ splice savedStack (c .row * l .width) (replicate (c .regs) 0)
-  pub frames : savedFrames′ ≡ splice savedFrames (c .row * (l .depth * 6)) (replicate (c .frames * 6) 0)
+pub record Cleared (savedStack savedFrames savedStack′ savedFrames′ : List ℕ) (sizes : Sizes) (c : CoroObj) : Type 0 where
+  pub regs : savedStack′ ≡ splice savedStack (c .row * sizes .width) (replicate (c .regs) 0)
+  pub frames : savedFrames′ ≡ splice savedFrames (c .row * (sizes .depth * 6)) (replicate (c .frames * 6) 0)
 
 -- so it does while the coroutine is unfinished; a finished one has no row
-pub record FreeFits (savedStack savedFrames : List ℕ) (l : Sizes) (c : CoroObj) : Type 0 where
-  pub row : isFinished (c .state) ≡ false → RowFits savedStack savedFrames l c
+pub record FreeFits (savedStack savedFrames : List ℕ) (sizes : Sizes) (c : CoroObj) : Type 0 where
+  pub row : isFinished (c .state) ≡ false → RowFits savedStack savedFrames sizes c
 
 -- the words of its row are 0, or there was no row and nothing is changed
-pub record Freed (savedStack savedFrames savedStack′ savedFrames′ : List ℕ) (l : Sizes) (c : CoroObj) : Type 0 where
-  pub row : isFinished (c .state) ≡ false → Cleared savedStack savedFrames savedStack′ savedFrames′ l c
+pub record Freed (savedStack savedFrames savedStack′ savedFrames′ : List ℕ) (sizes : Sizes) (c : CoroObj) : Type 0 where
+  pub row : isFinished (c .state) ≡ false → Cleared savedStack savedFrames savedStack′ savedFrames′ sizes c
   pub none : isFinished (c .state) ≡ true → (savedStack′ ≡ savedStack) × (savedFrames′ ≡ savedFrames)

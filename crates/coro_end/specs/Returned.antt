@@ -20,7 +20,7 @@ lastLies [] end fs = true
 lastLies (a ∷ chain) end fs = driverLies (a .driver) end fs
 
 -- the words stand for such a world, whose rows are in order and whose top pc has 32 bits
-pub record ReturnFits (l : Sizes) (M : Beside → Lent) (m : Machine) : Type 0 where
-  pub held : SomeWorld (λ w. Rowed (w .setup) (w .slots)) l M (only m)
+pub record ReturnFits (sizes : Sizes) (M : Beside → Lent) (m : Machine) : Type 0 where
+  pub held : SomeWorld (λ w. Rowed (w .setup) (w .slots)) sizes M (only m)
   pub lies : lastLies (held .world .chain) (length (held .world .stack)) (held .world .frames) ≡ true
   pub pc : topPc (held .world .frames) < 2 ^ 32

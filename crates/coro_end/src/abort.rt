@@ -19,15 +19,24 @@ pub(crate) fn fail_all(
     saved_stack: &mut [u64],
     saved_frames: &mut [u64],
     m: Machine,
-    l: Sizes,
+    sizes: Sizes,
 ) -> Machine
-    requires { ⌜ SomeWorld InRows l (ending chain slots «saved_stack» «saved_frames» now) (only m) ⌝ }
-    ensures { λ r. ⌜ Leaves ifRowed l failActive (ending chain slots «saved_stack» «saved_frames») (only m) (only r) ⌝ }
+    requires { ⌜ SomeWorld InRows sizes (ending chain slots «saved_stack» «saved_frames» now) (only m) ⌝ }
+    ensures { λ r. ⌜ Leaves ifRowed sizes failActive (ending chain slots «saved_stack» «saved_frames») (only m) (only r) ⌝ }
 {
     let mut n = m;
     while n.active != 0 {
         let s = CoroState::Failed;
-        n = end_last(chain, slots, saved_stack, saved_frames, n, l, s, Word::NIL);
+        n = end_last(
+            chain,
+            slots,
+            saved_stack,
+            saved_frames,
+            n,
+            sizes,
+            s,
+            Word::NIL,
+        );
     }
     n
 }
@@ -39,13 +48,13 @@ pub fn abort_coros(
     saved_stack: &mut [u64],
     saved_frames: &mut [u64],
     m: Machine,
-    l: Sizes,
+    sizes: Sizes,
     fuel: Fuel,
 ) -> FuelDid
-    requires { ⌜ SomeWorld InRows l (ending chain slots «saved_stack» «saved_frames» now) (only m) ⌝ }
-    ensures { λ r. ⌜ Leaves ifRowed l abortCoros (ending chain slots «saved_stack» «saved_frames») (with m fuel) (with (r .machine) (r .fuel)) ⌝ }
+    requires { ⌜ SomeWorld InRows sizes (ending chain slots «saved_stack» «saved_frames» now) (only m) ⌝ }
+    ensures { λ r. ⌜ Leaves ifRowed sizes abortCoros (ending chain slots «saved_stack» «saved_frames») (with m fuel) (with (r .machine) (r .fuel)) ⌝ }
 {
-    let failed = fail_all(chain, slots, saved_stack, saved_frames, m, l);
+    let failed = fail_all(chain, slots, saved_stack, saved_frames, m, sizes);
     let did = set_finalizing(failed, fuel, false);
     let f = did.fuel;
     let mut n = did.machine;

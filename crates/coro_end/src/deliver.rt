@@ -84,7 +84,7 @@ pub(crate) fn deliver_resume(
     e: Event,
 ) -> Fault
     requires { ⌜ SendFits (now stack) (now frames) (m .height) (m .depth) dst ⌝ }
-    ensures { λ r. ⌜ every (λ l. Met any l (deliver (Resume dst) e) (top stack frames) (only m) (only m) r) ⌝ }
+    ensures { λ r. ⌜ every (λ sizes. Met any sizes (deliver (Resume dst) e) (top stack frames) (only m) (only m) r) ⌝ }
 {
     match e {
         Event::Yielded { payload, key: _ } => {
@@ -112,7 +112,7 @@ pub(crate) fn iter_yielded(
     key: u64,
 )
     requires { ⌜ IterFits (now stack) (now frames) (now slots) m has val ⌝ }
-    ensures { λ _. ⌜ every (λ l. Leaves any l (iterYielded has val iter payload key) (topTable stack frames slots) (only m) (only m)) ⌝ }
+    ensures { λ _. ⌜ every (λ sizes. Leaves any sizes (iterYielded has val iter payload key) (topTable stack frames slots) (only m) (only m)) ⌝ }
 {
     set_key(slots, m, Word(iter), key);
     memory_tables::stack::put_reg(stack, frames, m.height, m.depth, val as usize, payload);
@@ -129,7 +129,7 @@ pub(crate) fn iter_returned(
     iter: u64,
 )
     requires { ⌜ TableFits (now slots) (m .count) × SendFits (now stack) (now frames) (m .height) (m .depth) has ⌝ }
-    ensures { λ _. ⌜ every (λ l. Leaves any l (iterReturned has iter) (topTable stack frames slots) (only m) (only m)) ⌝ }
+    ensures { λ _. ⌜ every (λ sizes. Leaves any sizes (iterReturned has iter) (topTable stack frames slots) (only m) (only m)) ⌝ }
 {
     set_done(slots, m, Word(iter));
     coro_send(stack, frames, m, has, 0);
@@ -147,7 +147,7 @@ pub(crate) fn deliver_iter(
     e: Event,
 ) -> Fault
     requires { ⌜ IterFits (now stack) (now frames) (now slots) m has val ⌝ }
-    ensures { λ r. ⌜ every (λ l. Met any l (deliver (Iter has val iter) e) (topTable stack frames slots) (only m) (only m) r) ⌝ }
+    ensures { λ r. ⌜ every (λ sizes. Met any sizes (deliver (Iter has val iter) e) (topTable stack frames slots) (only m) (only m) r) ⌝ }
 {
     match e {
         Event::Yielded { payload, key } => {
@@ -170,7 +170,7 @@ pub fn deliver(
     e: Event,
 ) -> Delivered
     requires { ⌜ DriverFits (now stack) (now frames) (now slots) m d ⌝ }
-    ensures { λ r. ⌜ every (λ l. Met any l (deliver d e) (topTable stack frames slots) (with m fuel) (with (r .machine) (r .fuel)) (r .answer)) ⌝ }
+    ensures { λ r. ⌜ every (λ sizes. Met any sizes (deliver d e) (topTable stack frames slots) (with m fuel) (with (r .machine) (r .fuel)) (r .answer)) ⌝ }
 {
     match d {
         Driver::Resume(dst) => {
@@ -222,7 +222,7 @@ pub fn deliver_return(
     value: u64,
 ) -> FuelDid
     requires { ⌜ DriverFits (now stack) (now frames) (now slots) m d ⌝ }
-    ensures { λ r. ⌜ every (λ l. Leaves any l (deliverReturn d value) (topTable stack frames slots) (with m fuel) (with (r .machine) (r .fuel))) ⌝ }
+    ensures { λ r. ⌜ every (λ sizes. Leaves any sizes (deliverReturn d value) (topTable stack frames slots) (with m fuel) (with (r .machine) (r .fuel))) ⌝ }
 {
     match d {
         Driver::Resume(dst) => {

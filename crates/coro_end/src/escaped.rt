@@ -30,7 +30,7 @@ pub struct Escaped {
 // Whether the coroutine that a word names is being closed by this signal.
 fn closed_by(slots: &[u64], m: Machine, v: Word, value: u64) -> bool
     requires { ⌜ TableFits (now slots) (m .count) ⌝ }
-    ensures { λ r. ⌜ every (λ l. Reads l (λ w. closedBy (coro w (v .0)) value) (table slots) (only m) r) ⌝ }
+    ensures { λ r. ⌜ every (λ sizes. Reads sizes (λ w. closedBy (coro w (v .0)) value) (table slots) (only m) r) ⌝ }
 {
     match heap::heap::coro(slots, m.count, v) {
         Coroutine::Not(_) => false,
@@ -45,7 +45,7 @@ fn closed_by(slots: &[u64], m: Machine, v: Word, value: u64) -> bool
 
 // Whoever is no frame hears of it, and the unwinding stops there.
 fn fail_to(m: Machine, fuel: Fuel, d: Driver, s: Stop) -> Escaped
-    ensures { λ r. ⌜ every (λ l. Met any l (failTo d s) none (with m fuel) (with (r .machine) (r .fuel)) (r .answer)) ⌝ }
+    ensures { λ r. ⌜ every (λ sizes. Met any sizes (failTo d s) none (with m fuel) (with (r .machine) (r .fuel)) (r .answer)) ⌝ }
 {
     match d {
         Driver::Resume(_) => Escaped {
@@ -92,14 +92,14 @@ pub fn coro_escaped(
     saved_stack: &mut [u64],
     saved_frames: &mut [u64],
     m: Machine,
-    l: Sizes,
+    sizes: Sizes,
     fuel: Fuel,
     value: u64,
     func: u64,
     pc: u64,
 ) -> Escaped
-    requires { ⌜ ReturnFits l (six stack frames chain slots «saved_stack» «saved_frames» now) m ⌝ }
-    ensures { λ r. ⌜ Met ifRowed l (coroEscaped value func pc) (six stack frames chain slots «saved_stack» «saved_frames») (with m fuel) (with (r .machine) (r .fuel)) (r .answer) ⌝ }
+    requires { ⌜ ReturnFits sizes (six stack frames chain slots «saved_stack» «saved_frames» now) m ⌝ }
+    ensures { λ r. ⌜ Met ifRowed sizes (coroEscaped value func pc) (six stack frames chain slots «saved_stack» «saved_frames») (with m fuel) (with (r .machine) (r .fuel)) (r .answer) ⌝ }
 {
     if m.active == 0 {
         return Escaped {
@@ -119,7 +119,7 @@ pub fn coro_escaped(
             saved_stack,
             saved_frames,
             m,
-            l,
+            sizes,
             fuel,
             Word::NIL,
         );
@@ -132,6 +132,6 @@ pub fn coro_escaped(
         };
     }
     let s = CoroState::Failed;
-    let n = end_last(chain, slots, saved_stack, saved_frames, m, l, s, value);
+    let n = end_last(chain, slots, saved_stack, saved_frames, m, sizes, s, value);
     fail_to(n, fuel, d, Stop::Failed(value, func, pc))
 }

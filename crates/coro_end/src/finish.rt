@@ -22,28 +22,33 @@ use memory_world::machine::Machine;
 use memory_world::machine::Sizes;
 
 // The words of a row become 0.
-pub(crate) fn clear_row(saved_stack: &mut [u64], saved_frames: &mut [u64], l: Sizes, c: CoroObj)
-    requires { ⌜ RowFits (now «saved_stack») (now «saved_frames») l c ⌝ }
-    ensures { λ _. ⌜ Cleared (now («saved_stack» .entry)) (now («saved_frames» .entry)) (now («saved_stack» .exit)) (now («saved_frames» .exit)) l c ⌝ }
+pub(crate) fn clear_row(saved_stack: &mut [u64], saved_frames: &mut [u64], sizes: Sizes, c: CoroObj)
+    requires { ⌜ RowFits (now «saved_stack») (now «saved_frames») sizes c ⌝ }
+    ensures { λ _. ⌜ Cleared (now («saved_stack» .entry)) (now («saved_frames» .entry)) (now («saved_stack» .exit)) (now («saved_frames» .exit)) sizes c ⌝ }
 {
-    let at = (c.row as usize) * l.width;
+    let at = (c.row as usize) * sizes.width;
     let n = c.regs as usize;
     clear_part(saved_stack, at, n);
-    let from = (c.row as usize) * (l.depth * FRAME_WIDTH);
+    let from = (c.row as usize) * (sizes.depth * FRAME_WIDTH);
     let k = (c.frames as usize) * FRAME_WIDTH;
     clear_part(saved_frames, from, k);
 }
 
 // An unfinished coroutine gives back its row.
-pub(crate) fn give_back_row(saved_stack: &mut [u64], saved_frames: &mut [u64], l: Sizes, c: CoroObj)
-    requires { ⌜ FreeFits (now «saved_stack») (now «saved_frames») l c ⌝ }
-    ensures { λ _. ⌜ Freed (now («saved_stack» .entry)) (now («saved_frames» .entry)) (now («saved_stack» .exit)) (now («saved_frames» .exit)) l c ⌝ }
+pub(crate) fn give_back_row(
+    saved_stack: &mut [u64],
+    saved_frames: &mut [u64],
+    sizes: Sizes,
+    c: CoroObj,
+)
+    requires { ⌜ FreeFits (now «saved_stack») (now «saved_frames») sizes c ⌝ }
+    ensures { λ _. ⌜ Freed (now («saved_stack» .entry)) (now («saved_frames» .entry)) (now («saved_stack» .exit)) (now («saved_frames» .exit)) sizes c ⌝ }
 {
     let state = c.state;
     if state.is_finished() {
         return;
     }
-    clear_row(saved_stack, saved_frames, l, c);
+    clear_row(saved_stack, saved_frames, sizes, c);
 }
 
 // The record of a coroutine that has ended.
@@ -86,18 +91,18 @@ pub fn finish_coroutine(
     saved_stack: &mut [u64],
     saved_frames: &mut [u64],
     m: Machine,
-    l: Sizes,
+    sizes: Sizes,
     v: Word,
     s: CoroState,
     result: u64,
 )
-    requires { ⌜ FinishFits l (rows slots «saved_stack» «saved_frames» now) m s ⌝ }
-    ensures { λ _. ⌜ Leaves ifRowed l (finishCoroutine (v .0) s result) (rows slots «saved_stack» «saved_frames») (only m) (only m) ⌝ }
+    requires { ⌜ FinishFits sizes (rows slots «saved_stack» «saved_frames» now) m s ⌝ }
+    ensures { λ _. ⌜ Leaves ifRowed sizes (finishCoroutine (v .0) s result) (rows slots «saved_stack» «saved_frames») (only m) (only m) ⌝ }
 {
     match heap::heap::coro(slots, m.count, v) {
         Coroutine::Not(_) => {}
         Coroutine::At(i, c) => {
-            give_back_row(saved_stack, saved_frames, l, c);
+            give_back_row(saved_stack, saved_frames, sizes, c);
             mark_ended(slots, i, v.0, c, s, result);
         }
     }

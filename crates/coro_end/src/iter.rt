@@ -68,7 +68,7 @@ pub(crate) fn put_iter(slots: &mut [u64], i: usize, v: u64, src: u64, done: bool
 // An iterator's key replaced, where the word names one.
 pub fn set_key(slots: &mut [u64], m: Machine, v: Word, key: u64)
     requires { ⌜ TableFits (now slots) (m .count) ⌝ }
-    ensures { λ _. ⌜ every (λ l. Leaves any l (setKey (v .0) key) (table slots) (only m) (only m)) ⌝ }
+    ensures { λ _. ⌜ every (λ sizes. Leaves any sizes (setKey (v .0) key) (table slots) (only m) (only m)) ⌝ }
 {
     match iter_at(slots, m.count, v) {
         Iterator::At {
@@ -84,7 +84,7 @@ pub fn set_key(slots: &mut [u64], m: Machine, v: Word, key: u64)
 // An iterator marked as done, where the word names one.
 pub fn set_done(slots: &mut [u64], m: Machine, v: Word)
     requires { ⌜ TableFits (now slots) (m .count) ⌝ }
-    ensures { λ _. ⌜ every (λ l. Leaves any l (setDone (v .0)) (table slots) (only m) (only m)) ⌝ }
+    ensures { λ _. ⌜ every (λ sizes. Leaves any sizes (setDone (v .0)) (table slots) (only m) (only m)) ⌝ }
 {
     match iter_at(slots, m.count, v) {
         Iterator::At {

@@ -15,12 +15,12 @@ pub(crate) fn end_last(
     saved_stack: &mut [u64],
     saved_frames: &mut [u64],
     m: Machine,
-    l: Sizes,
+    sizes: Sizes,
     s: CoroState,
     result: u64,
 ) -> Machine
-    requires { ⌜ FinishFits l (ending chain slots «saved_stack» «saved_frames» now) m s ⌝ }
-    ensures { λ r. ⌜ Leaves ifRowed l (endLast s result) (ending chain slots «saved_stack» «saved_frames») (only m) (only r) ⌝ }
+    requires { ⌜ FinishFits sizes (ending chain slots «saved_stack» «saved_frames» now) m s ⌝ }
+    ensures { λ r. ⌜ Leaves ifRowed sizes (endLast s result) (ending chain slots «saved_stack» «saved_frames») (only m) (only r) ⌝ }
 {
     if m.active == 0 {
         return m;
@@ -30,6 +30,6 @@ pub(crate) fn end_last(
     let mut n = m;
     n.active = m.active - 1;
     let v = Word(last.coro);
-    finish_coroutine(slots, saved_stack, saved_frames, n, l, v, s, result);
+    finish_coroutine(slots, saved_stack, saved_frames, n, sizes, v, s, result);
     n
 }

@@ -20,12 +20,12 @@ pub fn coro_returned(
     saved_stack: &mut [u64],
     saved_frames: &mut [u64],
     m: Machine,
-    l: Sizes,
+    sizes: Sizes,
     fuel: Fuel,
     value: u64,
 ) -> FuelDid
-    requires { ⌜ ReturnFits l (six stack frames chain slots «saved_stack» «saved_frames» now) m ⌝ }
-    ensures { λ r. ⌜ Leaves ifRowed l (coroReturned value) (six stack frames chain slots «saved_stack» «saved_frames») (with m fuel) (with (r .machine) (r .fuel)) ⌝ }
+    requires { ⌜ ReturnFits sizes (six stack frames chain slots «saved_stack» «saved_frames» now) m ⌝ }
+    ensures { λ r. ⌜ Leaves ifRowed sizes (coroReturned value) (six stack frames chain slots «saved_stack» «saved_frames») (with m fuel) (with (r .machine) (r .fuel)) ⌝ }
 {
     if m.active == 0 {
         return FuelDid { machine: m, fuel };
@@ -33,6 +33,6 @@ pub fn coro_returned(
     let last = memory_tables::active::active_at(chain, m.active - 1);
     let d = last.driver;
     let s = CoroState::Returned;
-    let n = end_last(chain, slots, saved_stack, saved_frames, m, l, s, value);
+    let n = end_last(chain, slots, saved_stack, saved_frames, m, sizes, s, value);
     deliver_return(stack, frames, slots, n, fuel, d, value)
 }

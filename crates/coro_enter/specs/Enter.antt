@@ -15,9 +15,9 @@ use Rattle.memory_world.specs.declared.machine.Sizes.{Sizes}
 
 -- why it is not entered, or None
 abbrev pub refusalOf : ℕ → ℕ → Sizes → CoroObj → Fault
-refusalOf height depth l c =
+refusalOf height depth sizes c =
     pick (not (isResumable (c .state)) || eqb (c .frames) 0) Fault.InvalidCoroState
-    (pick (ltb (l .depth) (depth + c .frames) || ltb (l .stack) (height + c .regs)) Fault.StackOverflow
+    (pick (ltb (sizes .depth) (depth + c .frames) || ltb (sizes .stack) (height + c .regs)) Fault.StackOverflow
     Fault.None)
 
 abbrev pub enteredAs : CoroObj → Entered
@@ -40,12 +40,12 @@ grown m c =
 
 -- ---- the row's words go on top
 
-pub record MoveFits (stack frames savedStack savedFrames : List ℕ) (height depth : ℕ) (l : Sizes) (c : CoroObj) : Type 0 where
+pub record MoveFits (stack frames savedStack savedFrames : List ℕ) (height depth : ℕ) (sizes : Sizes) (c : CoroObj) : Type 0 where
   pub on-stack : height + c .regs ≤ length stack
-  pub in-saved : c .row * l .width + c .regs ≤ length savedStack
-  pub deep : l .depth * 6 ≤ length frames
-  pub entering : EnterFits frames savedFrames depth (c .row * (l .depth * 6)) (c .frames) height
+  pub in-saved : c .row * sizes .width + c .regs ≤ length savedStack
+  pub deep : sizes .depth * 6 ≤ length frames
+  pub entering : EnterFits frames savedFrames depth (c .row * (sizes .depth * 6)) (c .frames) height
 
-pub record Moves (stack frames savedStack savedFrames stack′ frames′ savedStack′ savedFrames′ : List ℕ) (height depth : ℕ) (l : Sizes) (c : CoroObj) : Type 0 where
-  pub on-stack : EntersStack stack savedStack stack′ savedStack′ height (c .row * l .width) (c .regs)
-  pub on-frames : EntersFrames frames savedFrames frames′ savedFrames′ depth (c .row * (l .depth * 6)) (c .frames) height
+pub record Moves (stack frames savedStack savedFrames stack′ frames′ savedStack′ savedFrames′ : List ℕ) (height depth : ℕ) (sizes : Sizes) (c : CoroObj) : Type 0 where
+  pub on-stack : EntersStack stack savedStack stack′ savedStack′ height (c .row * sizes .width) (c .regs)
+  pub on-frames : EntersFrames frames savedFrames frames′ savedFrames′ depth (c .row * (sizes .depth * 6)) (c .frames) height

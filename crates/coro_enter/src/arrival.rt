@@ -26,13 +26,13 @@ pub fn store_enter(
     saved_stack: &mut [u64],
     saved_frames: &mut [u64],
     m: Machine,
-    l: Sizes,
+    sizes: Sizes,
     pc: u64,
     v: u64,
     d: Driver,
 ) -> EnterDid
-    requires { ⌜ EntryFits l (now stack) (now frames) (now chain) (now slots) (now «saved_stack») (now «saved_frames») m pc ⌝ }
-    ensures { λ r. ⌜ Met ifSound l (λ w. coroEnter v d (storePc pc w)) (six stack frames chain slots «saved_stack» «saved_frames») (only m) (only (r .machine)) (r .answer) ⌝ }
+    requires { ⌜ EntryFits sizes (now stack) (now frames) (now chain) (now slots) (now «saved_stack») (now «saved_frames») m pc ⌝ }
+    ensures { λ r. ⌜ Met ifSound sizes (λ w. coroEnter v d (storePc pc w)) (six stack frames chain slots «saved_stack» «saved_frames») (only m) (only (r .machine)) (r .answer) ⌝ }
 {
     machine_state::frame::store_pc(frames, m, pc);
     coro_enter(
@@ -43,7 +43,7 @@ pub fn store_enter(
         saved_stack,
         saved_frames,
         m,
-        l,
+        sizes,
         Word(v),
         d,
     )
@@ -52,7 +52,7 @@ pub fn store_enter(
 // The sent word goes to a coroutine that waits for it.
 pub fn arrive(stack: &mut [u64], frames: &mut [u64], m: Machine, a: Entered, sent: u64) -> Step
     requires { ⌜ ArriveFits (now stack) (now frames) (m .height) (m .depth) a ⌝ }
-    ensures { λ r. ⌜ every (λ l. Met any l (λ w. arrive sent w a) (top stack frames) (only m) (only m) r) ⌝ }
+    ensures { λ r. ⌜ every (λ sizes. Met any sizes (λ w. arrive sent w a) (top stack frames) (only m) (only m) r) ⌝ }
 {
     match a {
         Entered::Fresh => Step::Frame,
@@ -73,14 +73,14 @@ pub fn enter_send(
     saved_stack: &mut [u64],
     saved_frames: &mut [u64],
     m: Machine,
-    l: Sizes,
+    sizes: Sizes,
     pc: u64,
     v: u64,
     d: Driver,
     sent: u64,
 ) -> StepDid
-    requires { ⌜ EntryFits l (now stack) (now frames) (now chain) (now slots) (now «saved_stack») (now «saved_frames») m pc ⌝ }
-    ensures { λ r. ⌜ Met ifSound l (λ w. andThen (coroEnter v d (storePc pc w)) (arrive sent)) (six stack frames chain slots «saved_stack» «saved_frames») (only m) (only (r .machine)) (r .step) ⌝ }
+    requires { ⌜ EntryFits sizes (now stack) (now frames) (now chain) (now slots) (now «saved_stack») (now «saved_frames») m pc ⌝ }
+    ensures { λ r. ⌜ Met ifSound sizes (λ w. andThen (coroEnter v d (storePc pc w)) (arrive sent)) (six stack frames chain slots «saved_stack» «saved_frames») (only m) (only (r .machine)) (r .step) ⌝ }
 {
     let did = store_enter(
         stack,
@@ -90,7 +90,7 @@ pub fn enter_send(
         saved_stack,
         saved_frames,
         m,
-        l,
+        sizes,
         pc,
         v,
         d,

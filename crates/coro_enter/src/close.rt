@@ -11,7 +11,7 @@ use memory_world::machine::Machine;
 // coro.rs: co.closing = true, co.signal = signal, where the word names a coroutine.
 pub fn set_closing(slots: &mut [u64], m: Machine, v: Word, signal: u64)
     requires { ⌜ TableFits (now slots) (m .count) ⌝ }
-    ensures { λ _. ⌜ every (λ l. Leaves any l (changeCoro (v .0) (λ k. k) (close signal)) (table slots) (only m) (only m)) ⌝ }
+    ensures { λ _. ⌜ every (λ sizes. Leaves any sizes (changeCoro (v .0) (λ k. k) (close signal)) (table slots) (only m) (only m)) ⌝ }
 {
     match heap::heap::coro_place(slots, m.count, v) {
         CoroPlace::Not(_) => {}

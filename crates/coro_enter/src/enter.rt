@@ -23,9 +23,9 @@ pub struct EnterDid {
 }
 
 // Why a coroutine is not entered, or None.
-pub fn refusal(m: Machine, l: Sizes, c: CoroObj) -> Fault
-    requires { ⌜ (m .depth ≤ l .depth) × (m .height ≤ l .stack) ⌝ }
-    ensures { λ r. ⌜ r ≡ refusalOf (m .height) (m .depth) l c ⌝ }
+pub fn refusal(m: Machine, sizes: Sizes, c: CoroObj) -> Fault
+    requires { ⌜ (m .depth ≤ sizes .depth) × (m .height ≤ sizes .stack) ⌝ }
+    ensures { λ r. ⌜ r ≡ refusalOf (m .height) (m .depth) sizes c ⌝ }
 {
     let s = c.state;
     if !s.is_resumable() {
@@ -34,10 +34,10 @@ pub fn refusal(m: Machine, l: Sizes, c: CoroObj) -> Fault
     if c.frames == 0 {
         return Fault::InvalidCoroState;
     }
-    if ((l.depth - m.depth) as u64) < c.frames {
+    if ((sizes.depth - m.depth) as u64) < c.frames {
         return Fault::StackOverflow;
     }
-    if ((l.stack - m.height) as u64) < c.regs {
+    if ((sizes.stack - m.height) as u64) < c.regs {
         return Fault::StackOverflow;
     }
     Fault::None
@@ -50,15 +50,15 @@ pub(crate) fn move_in(
     saved_stack: &mut [u64],
     saved_frames: &mut [u64],
     m: Machine,
-    l: Sizes,
+    sizes: Sizes,
     c: CoroObj,
 )
-    requires { ⌜ MoveFits (now stack) (now frames) (now «saved_stack») (now «saved_frames») (m .height) (m .depth) l c ⌝ }
-    ensures { λ _. ⌜ Moves (now (stack .entry)) (now (frames .entry)) (now («saved_stack» .entry)) (now («saved_frames» .entry)) (now (stack .exit)) (now (frames .exit)) (now («saved_stack» .exit)) (now («saved_frames» .exit)) (m .height) (m .depth) l c ⌝ }
+    requires { ⌜ MoveFits (now stack) (now frames) (now «saved_stack») (now «saved_frames») (m .height) (m .depth) sizes c ⌝ }
+    ensures { λ _. ⌜ Moves (now (stack .entry)) (now (frames .entry)) (now («saved_stack» .entry)) (now («saved_frames» .entry)) (now (stack .exit)) (now (frames .exit)) (now («saved_stack» .exit)) (now («saved_frames» .exit)) (m .height) (m .depth) sizes c ⌝ }
 {
-    let at = (c.row as usize) * l.width;
+    let at = (c.row as usize) * sizes.width;
     memory_tables::rows::enter_stack(stack, m.height, saved_stack, at, c.regs as usize);
-    let from = (c.row as usize) * (l.depth * FRAME_WIDTH);
+    let from = (c.row as usize) * (sizes.depth * FRAME_WIDTH);
     memory_tables::rows::enter_frames(
         frames,
         m.depth,
@@ -104,12 +104,12 @@ pub fn coro_enter(
     saved_stack: &mut [u64],
     saved_frames: &mut [u64],
     m: Machine,
-    l: Sizes,
+    sizes: Sizes,
     v: Word,
     d: Driver,
 ) -> EnterDid
-    requires { ⌜ Ok l (six stack frames chain slots «saved_stack» «saved_frames» now) (only m) ⌝ }
-    ensures { λ r. ⌜ Met ifSound l (coroEnter (v .0) d) (six stack frames chain slots «saved_stack» «saved_frames») (only m) (only (r .machine)) (r .answer) ⌝ }
+    requires { ⌜ Ok sizes (six stack frames chain slots «saved_stack» «saved_frames» now) (only m) ⌝ }
+    ensures { λ r. ⌜ Met ifSound sizes (coroEnter (v .0) d) (six stack frames chain slots «saved_stack» «saved_frames») (only m) (only (r .machine)) (r .answer) ⌝ }
 {
     match heap::heap::coro_place(slots, m.count, v) {
         CoroPlace::Not(f) => EnterDid {
@@ -118,14 +118,14 @@ pub fn coro_enter(
         },
         CoroPlace::At(i) => {
             let c = heap::slot::coro_at(slots, i);
-            let fault = refusal(m, l, c);
+            let fault = refusal(m, sizes, c);
             if fault.number() != 0 {
                 return EnterDid {
                     machine: m,
                     answer: Entered::Refused(fault),
                 };
             }
-            move_in(stack, frames, saved_stack, saved_frames, m, l, c);
+            move_in(stack, frames, saved_stack, saved_frames, m, sizes, c);
             memory_tables::chain::push_active(chain, m.active, v.0, m.depth as u64, d);
             heap::slot::put_entered(slots, i);
             EnterDid {

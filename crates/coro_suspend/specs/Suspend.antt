@@ -23,7 +23,7 @@ use Rattle.memory_world.specs.declared.machine.Sizes.{Sizes}
 
 -- coro.rs: coro_suspend, grow: the bytes of registers and frames beyond the largest saved sizes so far
 abbrev pub growthOf : Sizes → CoroObj → ℕ → ℕ → ℕ
-growthOf l c regs frames = (regs - c .maxregs) * 8 + (frames - c .maxframes) * l .costs .frame
+growthOf sizes c regs frames = (regs - c .maxregs) * 8 + (frames - c .maxframes) * sizes .costs .frame
 
 -- the key and the largest integer key after: those of the yield, or as they were
 abbrev pub keyOf : Keys → ℕ → ℕ
@@ -83,23 +83,23 @@ shrunk m base floor used =
 -- ---- the words from the body's base up go to its row
 
 -- they lie in the slices, and no base above the floor is lower than `base`
-pub record LeaveFit (stack frames savedStack savedFrames : List ℕ) (m : Machine) (l : Sizes) (row floor base : ℕ) : Type 0 where
+pub record LeaveFit (stack frames savedStack savedFrames : List ℕ) (m : Machine) (sizes : Sizes) (row floor base : ℕ) : Type 0 where
   pub under : base ≤ m .height
   pub on-stack : m .height ≤ length stack
-  pub in-saved : row * l .width + (m .height - base) ≤ length savedStack
-  pub deep : l .depth * 6 ≤ length frames
-  pub leaving : LeaveFits frames savedFrames (m .depth) floor base (row * (l .depth * 6))
+  pub in-saved : row * sizes .width + (m .height - base) ≤ length savedStack
+  pub deep : sizes .depth * 6 ≤ length frames
+  pub leaving : LeaveFits frames savedFrames (m .depth) floor base (row * (sizes .depth * 6))
 
 -- registers from `base` up, frames from `floor` up
-pub record MovedOut (stack frames savedStack savedFrames stack′ frames′ savedStack′ savedFrames′ : List ℕ) (m : Machine) (l : Sizes) (row floor base : ℕ) : Type 0 where
-  pub on-stack : LeavesStack stack savedStack stack′ savedStack′ (m .height) base (row * l .width)
-  pub on-frames : LeavesFrames frames savedFrames frames′ savedFrames′ (m .depth) floor base (row * (l .depth * 6))
+pub record MovedOut (stack frames savedStack savedFrames stack′ frames′ savedStack′ savedFrames′ : List ℕ) (m : Machine) (sizes : Sizes) (row floor base : ℕ) : Type 0 where
+  pub on-stack : LeavesStack stack savedStack stack′ savedStack′ (m .height) base (row * sizes .width)
+  pub on-frames : LeavesFrames frames savedFrames frames′ savedFrames′ (m .depth) floor base (row * (sizes .depth * 6))
 
 -- ---- what a suspension asks
 
 -- a sound world, the innermost active coroutine a with frames above its floor, and its record c in slot i
-pub record Found (l : Sizes) (stack frames chain slots savedStack savedFrames : List ℕ) (m : Machine) (s : CoroState) (a : Active) (i : ℕ) (c : CoroObj) : Type 0 where
-  pub ok : Ok l (lent stack frames chain slots savedStack savedFrames) (only m)
+pub record Found (sizes : Sizes) (stack frames chain slots savedStack savedFrames : List ℕ) (m : Machine) (s : CoroState) (a : Active) (i : ℕ) (c : CoroObj) : Type 0 where
+  pub ok : Ok sizes (lent stack frames chain slots savedStack savedFrames) (only m)
   pub state : isSuspended s ≡ true
   pub some : 1 ≤ m .active
   pub top : a ≡ activeIn chain (m .active - 1)
@@ -107,6 +107,6 @@ pub record Found (l : Sizes) (stack frames chain slots savedStack savedFrames : 
   pub coro : RV.At i c ≡ coroOf (slotsOf (m .count) slots) (a .coro)
 
 -- a sound world, and a state in which a coroutine sleeps
-pub record SuspendFits (l : Sizes) (stack frames chain slots savedStack savedFrames : List ℕ) (m : Machine) (s : CoroState) : Type 0 where
-  pub ok : Ok l (lent stack frames chain slots savedStack savedFrames) (only m)
+pub record SuspendFits (sizes : Sizes) (stack frames chain slots savedStack savedFrames : List ℕ) (m : Machine) (s : CoroState) : Type 0 where
+  pub ok : Ok sizes (lent stack frames chain slots savedStack savedFrames) (only m)
   pub state : isSuspended s ≡ true

@@ -38,11 +38,11 @@ fn beyond(n: u64, most: u64) -> u64
 }
 
 // The bytes that a suspension charges.
-pub(crate) fn growth(l: Sizes, c: CoroObj, regs: u64, frames: u64) -> u64
-    requires { ⌜ (regs ≤ 1024) × (frames ≤ 128) × (l .costs .frame ≤ 65536) ⌝ }
-    ensures { λ r. ⌜ r ≡ growthOf l c regs frames ⌝ }
+pub(crate) fn growth(sizes: Sizes, c: CoroObj, regs: u64, frames: u64) -> u64
+    requires { ⌜ (regs ≤ 1024) × (frames ≤ 128) × (sizes .costs .frame ≤ 65536) ⌝ }
+    ensures { λ r. ⌜ r ≡ growthOf sizes c regs frames ⌝ }
 {
-    let costs = l.costs;
+    let costs = sizes.costs;
     let wide = beyond(regs, c.maxregs);
     let deep = beyond(frames, c.maxframes);
     wide * 8 + deep * costs.frame
@@ -138,17 +138,17 @@ pub(crate) fn move_out(
     saved_stack: &mut [u64],
     saved_frames: &mut [u64],
     m: Machine,
-    l: Sizes,
+    sizes: Sizes,
     row: u64,
     floor: usize,
     base: usize,
 )
-    requires { ⌜ LeaveFit (now stack) (now frames) (now «saved_stack») (now «saved_frames») m l row floor base ⌝ }
-    ensures { λ _. ⌜ MovedOut (now (stack .entry)) (now (frames .entry)) (now («saved_stack» .entry)) (now («saved_frames» .entry)) (now (stack .exit)) (now (frames .exit)) (now («saved_stack» .exit)) (now («saved_frames» .exit)) m l row floor base ⌝ }
+    requires { ⌜ LeaveFit (now stack) (now frames) (now «saved_stack») (now «saved_frames») m sizes row floor base ⌝ }
+    ensures { λ _. ⌜ MovedOut (now (stack .entry)) (now (frames .entry)) (now («saved_stack» .entry)) (now («saved_frames» .entry)) (now (stack .exit)) (now (frames .exit)) (now («saved_stack» .exit)) (now («saved_frames» .exit)) m sizes row floor base ⌝ }
 {
-    let at = (row as usize) * l.width;
+    let at = (row as usize) * sizes.width;
     memory_tables::rows::leave_stack(stack, m.height, base, saved_stack, at);
-    let from = (row as usize) * (l.depth * FRAME_WIDTH);
+    let from = (row as usize) * (sizes.depth * FRAME_WIDTH);
     memory_tables::rows::leave_frames(frames, m.depth, floor, base as u64, saved_frames, from);
 }
 
@@ -173,7 +173,7 @@ pub(crate) fn suspend_found(
     saved_stack: &mut [u64],
     saved_frames: &mut [u64],
     m: Machine,
-    l: Sizes,
+    sizes: Sizes,
     state: CoroState,
     dst: u64,
     payload: u64,
@@ -182,19 +182,19 @@ pub(crate) fn suspend_found(
     i: usize,
     c: CoroObj,
 ) -> SuspendDid
-    requires { ⌜ Found l (now stack) (now frames) (now chain) (now slots) (now «saved_stack») (now «saved_frames») m state a i c ⌝ }
-    ensures { λ r. ⌜ Met ifSound l (coroSuspend state dst payload keys) (six stack frames chain slots «saved_stack» «saved_frames») (only m) (only (r .machine)) (r .answer) ⌝ }
+    requires { ⌜ Found sizes (now stack) (now frames) (now chain) (now slots) (now «saved_stack») (now «saved_frames») m state a i c ⌝ }
+    ensures { λ r. ⌜ Met ifSound sizes (coroSuspend state dst payload keys) (six stack frames chain slots «saved_stack» «saved_frames») (only m) (only (r .machine)) (r .answer) ⌝ }
 {
     let floor = a.floor as usize;
     let base = memory_tables::frame::base_at(frames, floor);
     let regs = (m.height - base) as u64;
     let deep = (m.depth - floor) as u64;
-    let grow = growth(l, c, regs, deep);
+    let grow = growth(sizes, c, regs, deep);
     let h = Heap {
         count: m.count,
-        slots: l.slots,
+        slots: sizes.slots,
         used: m.used,
-        limit: l.memory,
+        limit: sizes.memory,
     };
     match h.charge(grow) {
         Charged::OutOfMemory => SuspendDid {
@@ -208,7 +208,7 @@ pub(crate) fn suspend_found(
                 saved_stack,
                 saved_frames,
                 m,
-                l,
+                sizes,
                 c.row,
                 floor,
                 base,
@@ -235,14 +235,14 @@ pub fn coro_suspend(
     saved_stack: &mut [u64],
     saved_frames: &mut [u64],
     m: Machine,
-    l: Sizes,
+    sizes: Sizes,
     state: CoroState,
     dst: u64,
     payload: u64,
     keys: Keys,
 ) -> SuspendDid
-    requires { ⌜ SuspendFits l (now stack) (now frames) (now chain) (now slots) (now «saved_stack») (now «saved_frames») m state ⌝ }
-    ensures { λ r. ⌜ Met ifSound l (coroSuspend state dst payload keys) (six stack frames chain slots «saved_stack» «saved_frames») (only m) (only (r .machine)) (r .answer) ⌝ }
+    requires { ⌜ SuspendFits sizes (now stack) (now frames) (now chain) (now slots) (now «saved_stack») (now «saved_frames») m state ⌝ }
+    ensures { λ r. ⌜ Met ifSound sizes (coroSuspend state dst payload keys) (six stack frames chain slots «saved_stack» «saved_frames») (only m) (only (r .machine)) (r .answer) ⌝ }
 {
     if m.active == 0 {
         return SuspendDid {
@@ -272,7 +272,7 @@ pub fn coro_suspend(
                 saved_stack,
                 saved_frames,
                 m,
-                l,
+                sizes,
                 state,
                 dst,
                 payload,

@@ -18,8 +18,8 @@ abbrev pub OfInstruction : Op → (ℕ → (World → Bool) → (World → After
 OfInstruction o said = (pc : ℕ) (operands : World → Bool) (arm : World → After Step) → table o ≡ Instruction pc operands arm → said pc operands arm
 
 -- a sound world with a frame, in which an instruction's operands pass
-pub record Past (l : Sizes) (M : Beside → Lent) (m : Machine) (fuel : Fuel) (o : Op) : Type 0 where
-  pub ok : Ok l M (with m fuel)
+pub record Past (sizes : Sizes) (M : Beside → Lent) (m : Machine) (fuel : Fuel) (o : Op) : Type 0 where
+  pub ok : Ok sizes M (with m fuel)
   pub some : isNil (ok .world .frames) ≡ false
   pub passed : OfInstruction o (λ pc operands arm. operands (ok .world) ≡ true)
   pub narrow : OfInstruction o (λ pc operands arm. pc < 2 ^ 32)

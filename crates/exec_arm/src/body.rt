@@ -22,12 +22,12 @@ pub fn body(
     saved_frames: &mut [u64],
     setup: &[u64],
     m: Machine,
-    l: Sizes,
+    sizes: Sizes,
     fuel: Fuel,
     op: Op,
 ) -> Stepped
-    requires { ⌜ Past l (sixSetup stack frames chain slots «saved_stack» «saved_frames» setup now) m fuel op ⌝ }
-    ensures { λ r. ⌜ OfInstruction op (λ pc operands arm. Met ifSound l arm (sixSetup stack frames chain slots «saved_stack» «saved_frames» setup) (with m fuel) (with (r .machine) (r .fuel)) (r .step)) ⌝ }
+    requires { ⌜ Past sizes (sixSetup stack frames chain slots «saved_stack» «saved_frames» setup now) m fuel op ⌝ }
+    ensures { λ r. ⌜ OfInstruction op (λ pc operands arm. Met ifSound sizes arm (sixSetup stack frames chain slots «saved_stack» «saved_frames» setup) (with m fuel) (with (r .machine) (r .fuel)) (r .step)) ⌝ }
 {
     match op {
         Op::Yield { pc, dst, src } => coro_yield(
@@ -38,7 +38,7 @@ pub fn body(
             saved_stack,
             saved_frames,
             m,
-            l,
+            sizes,
             fuel,
             pc as u64,
             dst as u64,
@@ -52,7 +52,7 @@ pub fn body(
             saved_stack,
             saved_frames,
             m,
-            l,
+            sizes,
             fuel,
             pc as u64,
             dst as u64,
@@ -67,7 +67,7 @@ pub fn body(
             saved_stack,
             saved_frames,
             m,
-            l,
+            sizes,
             fuel,
             pc as u64,
             dst as u64,
@@ -82,7 +82,7 @@ pub fn body(
             saved_frames,
             setup,
             m,
-            l,
+            sizes,
             fuel,
             op,
         ),

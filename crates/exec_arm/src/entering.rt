@@ -22,12 +22,12 @@ pub(crate) fn entering(
     saved_frames: &mut [u64],
     setup: &[u64],
     m: Machine,
-    l: Sizes,
+    sizes: Sizes,
     fuel: Fuel,
     op: Op,
 ) -> Stepped
-    requires { ⌜ Past l (sixSetup stack frames chain slots «saved_stack» «saved_frames» setup now) m fuel op ⌝ }
-    ensures { λ r. ⌜ ((Suspending op → ⊥) → OfInstruction op (λ pc operands arm. Met ifSound l arm (sixSetup stack frames chain slots «saved_stack» «saved_frames» setup) (with m fuel) (with (r .machine) (r .fuel)) (r .step))) ⌝ }
+    requires { ⌜ Past sizes (sixSetup stack frames chain slots «saved_stack» «saved_frames» setup now) m fuel op ⌝ }
+    ensures { λ r. ⌜ ((Suspending op → ⊥) → OfInstruction op (λ pc operands arm. Met ifSound sizes arm (sixSetup stack frames chain slots «saved_stack» «saved_frames» setup) (with m fuel) (with (r .machine) (r .fuel)) (r .step))) ⌝ }
 {
     match op {
         Op::Resume { pc, dst, coro, src } => {
@@ -39,7 +39,7 @@ pub(crate) fn entering(
                 saved_stack,
                 saved_frames,
                 m,
-                l,
+                sizes,
                 pc as u64,
                 dst as u64,
                 coro as u64,
@@ -62,7 +62,7 @@ pub(crate) fn entering(
                 saved_stack,
                 saved_frames,
                 m,
-                l,
+                sizes,
                 pc as u64,
                 dst as u64,
                 coro as u64,
@@ -85,7 +85,7 @@ pub(crate) fn entering(
                 saved_stack,
                 saved_frames,
                 m,
-                l,
+                sizes,
                 pc as u64,
                 dst as u64,
                 coro as u64,
@@ -114,7 +114,7 @@ pub(crate) fn entering(
                 saved_stack,
                 saved_frames,
                 m,
-                l,
+                sizes,
                 pc as u64,
                 has as u64,
                 iter as u64,
@@ -138,7 +138,7 @@ pub(crate) fn entering(
             saved_frames,
             setup,
             m,
-            l,
+            sizes,
             fuel,
             op,
         ),

@@ -25,12 +25,12 @@ pub(crate) fn staying(
     saved_frames: &mut [u64],
     setup: &[u64],
     m: Machine,
-    l: Sizes,
+    sizes: Sizes,
     fuel: Fuel,
     op: Op,
 ) -> Stepped
-    requires { ⌜ Past l (sixSetup stack frames chain slots «saved_stack» «saved_frames» setup now) m fuel op ⌝ }
-    ensures { λ r. ⌜ ((Suspending op → ⊥) → (Entering op → ⊥) → OfInstruction op (λ pc operands arm. Met ifSound l arm (sixSetup stack frames chain slots «saved_stack» «saved_frames» setup) (with m fuel) (with (r .machine) (r .fuel)) (r .step))) ⌝ }
+    requires { ⌜ Past sizes (sixSetup stack frames chain slots «saved_stack» «saved_frames» setup now) m fuel op ⌝ }
+    ensures { λ r. ⌜ ((Suspending op → ⊥) → (Entering op → ⊥) → OfInstruction op (λ pc operands arm. Met ifSound sizes arm (sixSetup stack frames chain slots «saved_stack» «saved_frames» setup) (with m fuel) (with (r .machine) (r .fuel)) (r .step))) ⌝ }
 {
     match op {
         Op::CoroNew {
@@ -47,7 +47,7 @@ pub(crate) fn staying(
                 saved_frames,
                 setup,
                 m,
-                l,
+                sizes,
                 dst as u64,
                 func as u64,
                 argc as u64,
@@ -74,7 +74,7 @@ pub(crate) fn staying(
                 saved_frames,
                 setup,
                 m,
-                l,
+                sizes,
                 dst as u64,
                 callee as u64,
                 argc as u64,
@@ -100,7 +100,7 @@ pub(crate) fn staying(
             saved_frames,
             setup,
             m,
-            l,
+            sizes,
             fuel,
             pc as u64,
             dst as u64,

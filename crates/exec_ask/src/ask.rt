@@ -24,7 +24,7 @@ pub fn coro_status(
     c: u64,
 ) -> Step
     requires { ⌜ AskFits (now stack) (now frames) (now slots) m dst c ⌝ }
-    ensures { λ r. ⌜ every (λ l. Met any l (coroStatus dst c) (topTable stack frames slots) (only m) (only m) r) ⌝ }
+    ensures { λ r. ⌜ every (λ sizes. Met any sizes (coroStatus dst c) (topTable stack frames slots) (only m) (only m) r) ⌝ }
 {
     let v = memory_tables::stack::reg(stack, frames, m.height, m.depth, c as usize);
     match coro_state(slots, m, Word(v)) {
@@ -52,7 +52,7 @@ fn current(chain: &[u64], m: Machine) -> u64
 // coro.rs: exec, CoroCurrent.
 pub fn coro_current(stack: &mut [u64], frames: &[u64], chain: &[u64], m: Machine, dst: u64) -> Step
     requires { ⌜ CurrentFits (now stack) (now frames) (now chain) m dst ⌝ }
-    ensures { λ r. ⌜ every (λ l. Met any l (coroCurrent dst) (topChain stack frames chain) (only m) (only m) r) ⌝ }
+    ensures { λ r. ⌜ every (λ sizes. Met any sizes (coroCurrent dst) (topChain stack frames chain) (only m) (only m) r) ⌝ }
 {
     let v = current(chain, m);
     put(stack, frames, m, dst, v);
@@ -69,7 +69,7 @@ pub fn coro_key(
     c: u64,
 ) -> Step
     requires { ⌜ AskFits (now stack) (now frames) (now slots) m dst c ⌝ }
-    ensures { λ r. ⌜ every (λ l. Met any l (coroKey dst c) (topTable stack frames slots) (only m) (only m) r) ⌝ }
+    ensures { λ r. ⌜ every (λ sizes. Met any sizes (coroKey dst c) (topTable stack frames slots) (only m) (only m) r) ⌝ }
 {
     let v = memory_tables::stack::reg(stack, frames, m.height, m.depth, c as usize);
     match heap::heap::coro_place(slots, m.count, Word(v)) {
@@ -92,7 +92,7 @@ pub fn coro_result(
     c: u64,
 ) -> Step
     requires { ⌜ AskFits (now stack) (now frames) (now slots) m dst c ⌝ }
-    ensures { λ r. ⌜ every (λ l. Met any l (coroResult dst c) (topTable stack frames slots) (only m) (only m) r) ⌝ }
+    ensures { λ r. ⌜ every (λ sizes. Met any sizes (coroResult dst c) (topTable stack frames slots) (only m) (only m) r) ⌝ }
 {
     let v = memory_tables::stack::reg(stack, frames, m.height, m.depth, c as usize);
     match heap::heap::coro_place(slots, m.count, Word(v)) {

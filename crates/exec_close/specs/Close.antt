@@ -18,8 +18,8 @@ abbrev pub endCreated : CoroState → ℕ → World → World
 endCreated s v w = pick (isCreated s) (finishCoroutine v CoroState.Returned nil w) w
 
 -- a sound world, and operands that the gate has tested
-pub record CloseFits (l : Sizes) (stack frames chain slots savedStack savedFrames : List ℕ) (m : Machine) (pc dst c src : ℕ) : Type 0 where
-  pub ok : Ok l (lent stack frames chain slots savedStack savedFrames) (only m)
+pub record CloseFits (sizes : Sizes) (stack frames chain slots savedStack savedFrames : List ℕ) (m : Machine) (pc dst c src : ℕ) : Type 0 where
+  pub ok : Ok sizes (lent stack frames chain slots savedStack savedFrames) (only m)
   pub narrow : pc < 2 ^ 32
   pub result : RegFits stack frames (m .height) (m .depth) dst
   pub coro : RegFits stack frames (m .height) (m .depth) c

@@ -27,7 +27,7 @@ use model::machine::Driver;
 // What an entry to close leads to: the coroutine closes, and its signal is raised where it was suspended.
 pub(crate) fn close_entered(slots: &mut [u64], m: Machine, v: u64, a: Entered, signal: u64) -> Step
     requires { ⌜ TableFits (now slots) (m .count) ⌝ }
-    ensures { λ r. ⌜ every (λ l. Met any l (λ w. closeEntered v signal w a) (table slots) (only m) (only m) r) ⌝ }
+    ensures { λ r. ⌜ every (λ sizes. Met any sizes (λ w. closeEntered v signal w a) (table slots) (only m) (only m) r) ⌝ }
 {
     if let Entered::Refused(f) = a {
         return Step::Fault(f);
@@ -45,14 +45,14 @@ pub(crate) fn close_in(
     saved_stack: &mut [u64],
     saved_frames: &mut [u64],
     m: Machine,
-    l: Sizes,
+    sizes: Sizes,
     pc: u64,
     dst: u64,
     v: u64,
     signal: u64,
 ) -> StepDid
-    requires { ⌜ EntryFits l (now stack) (now frames) (now chain) (now slots) (now «saved_stack») (now «saved_frames») m pc ⌝ }
-    ensures { λ r. ⌜ Met ifSound l (closeIn pc dst v signal) (six stack frames chain slots «saved_stack» «saved_frames») (only m) (only (r .machine)) (r .step) ⌝ }
+    requires { ⌜ EntryFits sizes (now stack) (now frames) (now chain) (now slots) (now «saved_stack») (now «saved_frames») m pc ⌝ }
+    ensures { λ r. ⌜ Met ifSound sizes (closeIn pc dst v signal) (six stack frames chain slots «saved_stack» «saved_frames») (only m) (only (r .machine)) (r .step) ⌝ }
 {
     let did = store_enter(
         stack,
@@ -62,7 +62,7 @@ pub(crate) fn close_in(
         saved_stack,
         saved_frames,
         m,
-        l,
+        sizes,
         pc,
         v,
         Driver::Resume(dst),
@@ -79,12 +79,12 @@ pub(crate) fn end_created(
     saved_stack: &mut [u64],
     saved_frames: &mut [u64],
     m: Machine,
-    l: Sizes,
+    sizes: Sizes,
     s: CoroState,
     v: u64,
 )
-    requires { ⌜ FinishFits l (rows slots «saved_stack» «saved_frames» now) m Returned ⌝ }
-    ensures { λ _. ⌜ Leaves ifRowed l (endCreated s v) (rows slots «saved_stack» «saved_frames») (only m) (only m) ⌝ }
+    requires { ⌜ FinishFits sizes (rows slots «saved_stack» «saved_frames» now) m Returned ⌝ }
+    ensures { λ _. ⌜ Leaves ifRowed sizes (endCreated s v) (rows slots «saved_stack» «saved_frames») (only m) (only m) ⌝ }
 {
     if s.is_created() {
         finish_coroutine(
@@ -92,7 +92,7 @@ pub(crate) fn end_created(
             saved_stack,
             saved_frames,
             m,
-            l,
+            sizes,
             Word(v),
             CoroState::Returned,
             Word::NIL,
@@ -109,15 +109,15 @@ pub(crate) fn close_to(
     saved_stack: &mut [u64],
     saved_frames: &mut [u64],
     m: Machine,
-    l: Sizes,
+    sizes: Sizes,
     s: CoroState,
     pc: u64,
     dst: u64,
     v: u64,
     signal: u64,
 ) -> StepDid
-    requires { ⌜ AnswerFits l (now stack) (now frames) (now chain) (now slots) (now «saved_stack») (now «saved_frames») m pc dst ⌝ }
-    ensures { λ r. ⌜ Met ifSound l (closeTo (In s) pc dst v signal) (six stack frames chain slots «saved_stack» «saved_frames») (only m) (only (r .machine)) (r .step) ⌝ }
+    requires { ⌜ AnswerFits sizes (now stack) (now frames) (now chain) (now slots) (now «saved_stack») (now «saved_frames») m pc dst ⌝ }
+    ensures { λ r. ⌜ Met ifSound sizes (closeTo (In s) pc dst v signal) (six stack frames chain slots «saved_stack» «saved_frames») (only m) (only (r .machine)) (r .step) ⌝ }
 {
     if s.is_suspended() {
         return close_in(
@@ -128,7 +128,7 @@ pub(crate) fn close_to(
             saved_stack,
             saved_frames,
             m,
-            l,
+            sizes,
             pc,
             dst,
             v,
@@ -141,7 +141,7 @@ pub(crate) fn close_to(
             step: Step::Fault(Fault::InvalidCoroState),
         };
     }
-    end_created(slots, saved_stack, saved_frames, m, l, s, v);
+    end_created(slots, saved_stack, saved_frames, m, sizes, s, v);
     put(stack, frames, m, dst, Word::NIL);
     StepDid {
         machine: m,
@@ -158,14 +158,14 @@ pub fn coro_close(
     saved_stack: &mut [u64],
     saved_frames: &mut [u64],
     m: Machine,
-    l: Sizes,
+    sizes: Sizes,
     pc: u64,
     dst: u64,
     c: u64,
     src: u64,
 ) -> StepDid
-    requires { ⌜ CloseFits l (now stack) (now frames) (now chain) (now slots) (now «saved_stack») (now «saved_frames») m pc dst c src ⌝ }
-    ensures { λ r. ⌜ Met ifSound l (coroClose pc dst c src) (six stack frames chain slots «saved_stack» «saved_frames») (only m) (only (r .machine)) (r .step) ⌝ }
+    requires { ⌜ CloseFits sizes (now stack) (now frames) (now chain) (now slots) (now «saved_stack») (now «saved_frames») m pc dst c src ⌝ }
+    ensures { λ r. ⌜ Met ifSound sizes (coroClose pc dst c src) (six stack frames chain slots «saved_stack» «saved_frames») (only m) (only (r .machine)) (r .step) ⌝ }
 {
     let v = memory_tables::stack::reg(stack, frames, m.height, m.depth, c as usize);
     let signal = memory_tables::stack::reg(stack, frames, m.height, m.depth, src as usize);
@@ -182,7 +182,7 @@ pub fn coro_close(
             saved_stack,
             saved_frames,
             m,
-            l,
+            sizes,
             s,
             pc,
             dst,

@@ -18,14 +18,14 @@ pub fn resume(
     saved_stack: &mut [u64],
     saved_frames: &mut [u64],
     m: Machine,
-    l: Sizes,
+    sizes: Sizes,
     pc: u64,
     dst: u64,
     c: u64,
     src: u64,
 ) -> StepDid
-    requires { ⌜ ResumeFits l (now stack) (now frames) (now chain) (now slots) (now «saved_stack») (now «saved_frames») m pc c src ⌝ }
-    ensures { λ r. ⌜ Met ifSound l (resume pc dst c src) (six stack frames chain slots «saved_stack» «saved_frames») (only m) (only (r .machine)) (r .step) ⌝ }
+    requires { ⌜ ResumeFits sizes (now stack) (now frames) (now chain) (now slots) (now «saved_stack») (now «saved_frames») m pc c src ⌝ }
+    ensures { λ r. ⌜ Met ifSound sizes (resume pc dst c src) (six stack frames chain slots «saved_stack» «saved_frames») (only m) (only (r .machine)) (r .step) ⌝ }
 {
     let v = memory_tables::stack::reg(stack, frames, m.height, m.depth, c as usize);
     let sent = memory_tables::stack::reg(stack, frames, m.height, m.depth, src as usize);
@@ -37,7 +37,7 @@ pub fn resume(
         saved_stack,
         saved_frames,
         m,
-        l,
+        sizes,
         pc,
         v,
         Driver::Resume(dst),

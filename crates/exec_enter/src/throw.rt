@@ -41,15 +41,15 @@ pub(crate) fn throw_to(
     saved_stack: &mut [u64],
     saved_frames: &mut [u64],
     m: Machine,
-    l: Sizes,
+    sizes: Sizes,
     s: CoroState,
     pc: u64,
     dst: u64,
     v: u64,
     err: u64,
 ) -> StepDid
-    requires { ⌜ EntryFits l (now stack) (now frames) (now chain) (now slots) (now «saved_stack») (now «saved_frames») m pc ⌝ }
-    ensures { λ r. ⌜ Met ifSound l (throwTo (In s) pc dst v err) (six stack frames chain slots «saved_stack» «saved_frames») (only m) (only (r .machine)) (r .step) ⌝ }
+    requires { ⌜ EntryFits sizes (now stack) (now frames) (now chain) (now slots) (now «saved_stack») (now «saved_frames») m pc ⌝ }
+    ensures { λ r. ⌜ Met ifSound sizes (throwTo (In s) pc dst v err) (six stack frames chain slots «saved_stack» «saved_frames») (only m) (only (r .machine)) (r .step) ⌝ }
 {
     if s.is_created() {
         finish_coroutine(
@@ -57,7 +57,7 @@ pub(crate) fn throw_to(
             saved_stack,
             saved_frames,
             m,
-            l,
+            sizes,
             Word(v),
             CoroState::Failed,
             err,
@@ -75,7 +75,7 @@ pub(crate) fn throw_to(
         saved_stack,
         saved_frames,
         m,
-        l,
+        sizes,
         pc,
         v,
         Driver::Resume(dst),
@@ -95,14 +95,14 @@ pub fn resume_throw(
     saved_stack: &mut [u64],
     saved_frames: &mut [u64],
     m: Machine,
-    l: Sizes,
+    sizes: Sizes,
     pc: u64,
     dst: u64,
     c: u64,
     src: u64,
 ) -> StepDid
-    requires { ⌜ ResumeFits l (now stack) (now frames) (now chain) (now slots) (now «saved_stack») (now «saved_frames») m pc c src ⌝ }
-    ensures { λ r. ⌜ Met ifSound l (resumeThrow pc dst c src) (six stack frames chain slots «saved_stack» «saved_frames») (only m) (only (r .machine)) (r .step) ⌝ }
+    requires { ⌜ ResumeFits sizes (now stack) (now frames) (now chain) (now slots) (now «saved_stack») (now «saved_frames») m pc c src ⌝ }
+    ensures { λ r. ⌜ Met ifSound sizes (resumeThrow pc dst c src) (six stack frames chain slots «saved_stack» «saved_frames») (only m) (only (r .machine)) (r .step) ⌝ }
 {
     let v = memory_tables::stack::reg(stack, frames, m.height, m.depth, c as usize);
     let err = memory_tables::stack::reg(stack, frames, m.height, m.depth, src as usize);
@@ -119,7 +119,7 @@ pub fn resume_throw(
             saved_stack,
             saved_frames,
             m,
-            l,
+            sizes,
             s,
             pc,
             dst,

@@ -46,12 +46,12 @@ pub fn instruction(
     finalize: &mut [u64],
     setup: &[u64],
     m: Machine,
-    l: Sizes,
+    sizes: Sizes,
     fuel: Fuel,
     op: Op,
 ) -> Called
-    requires { ⌜ Ok l (gating stack frames chain slots «saved_stack» «saved_frames» finalize setup now) (with m fuel) ⌝ }
-    ensures { λ r. ⌜ OfInstruction op (λ pc operands arm. Met ifSound l (λ w. instruction pc (operands w) arm w) (gating stack frames chain slots «saved_stack» «saved_frames» finalize setup) (with m fuel) (with (r .machine) (r .fuel)) (r .answer)) ⌝ }
+    requires { ⌜ Ok sizes (gating stack frames chain slots «saved_stack» «saved_frames» finalize setup now) (with m fuel) ⌝ }
+    ensures { λ r. ⌜ OfInstruction op (λ pc operands arm. Met ifSound sizes (λ w. instruction pc (operands w) arm w) (gating stack frames chain slots «saved_stack» «saved_frames» finalize setup) (with m fuel) (with (r .machine) (r .fuel)) (r .answer)) ⌝ }
 {
     if m.depth == 0 {
         return Called {
@@ -77,7 +77,7 @@ pub fn instruction(
         saved_frames,
         finalize,
         m,
-        l,
+        sizes,
         fuel,
         pc_of(op),
     );
@@ -108,7 +108,7 @@ pub fn instruction(
                 saved_frames,
                 setup,
                 n,
-                l,
+                sizes,
                 f,
                 op,
             );

@@ -28,8 +28,8 @@ pub record StopFits (stack frames slots : List ℕ) (m : Machine) (has : ℕ) : 
   pub flag : RegFits stack frames (m .height) (m .depth) has
 
 -- a sound world, and operands that the gate has tested
-pub record NextFits (l : Sizes) (stack frames chain slots savedStack savedFrames : List ℕ) (m : Machine) (pc has iter src : ℕ) : Type 0 where
-  pub ok : Ok l (lent stack frames chain slots savedStack savedFrames) (only m)
+pub record NextFits (sizes : Sizes) (stack frames chain slots savedStack savedFrames : List ℕ) (m : Machine) (pc has iter src : ℕ) : Type 0 where
+  pub ok : Ok sizes (lent stack frames chain slots savedStack savedFrames) (only m)
   pub narrow : pc < 2 ^ 32
   pub flag : RegFits stack frames (m .height) (m .depth) has
   pub iterator : RegFits stack frames (m .height) (m .depth) iter

@@ -23,7 +23,7 @@ use model::machine::Driver;
 // Whether the loop is at its end: the iterator is done, or its source, in state s, has returned.
 fn exhausted(slots: &[u64], m: Machine, iter: u64, s: CoroState) -> bool
     requires { ⌜ TableFits (now slots) (m .count) ⌝ }
-    ensures { λ r. ⌜ every (λ l. Reads l (exhausted iter s) (table slots) (only m) r) ⌝ }
+    ensures { λ r. ⌜ every (λ sizes. Reads sizes (exhausted iter s) (table slots) (only m) r) ⌝ }
 {
     if heap::kind::is_done(slots, m.count, Word(iter)) {
         return true;
@@ -41,7 +41,7 @@ pub(crate) fn stop(
     iter: u64,
 )
     requires { ⌜ StopFits (now stack) (now frames) (now slots) m has ⌝ }
-    ensures { λ _. ⌜ every (λ l. Leaves any l (stopped has iter) (topTable stack frames slots) (only m) (only m)) ⌝ }
+    ensures { λ _. ⌜ every (λ sizes. Leaves any sizes (stopped has iter) (topTable stack frames slots) (only m) (only m)) ⌝ }
 {
     set_done(slots, m, Word(iter));
     put(stack, frames, m, has, 0);
@@ -56,7 +56,7 @@ pub(crate) fn iter_on(
     saved_stack: &mut [u64],
     saved_frames: &mut [u64],
     m: Machine,
-    l: Sizes,
+    sizes: Sizes,
     s: CoroState,
     pc: u64,
     has: u64,
@@ -64,8 +64,8 @@ pub(crate) fn iter_on(
     val: u64,
     src: u64,
 ) -> StepDid
-    requires { ⌜ AnswerFits l (now stack) (now frames) (now chain) (now slots) (now «saved_stack») (now «saved_frames») m pc has ⌝ }
-    ensures { λ r. ⌜ Met ifSound l (iterOn (In s) pc has iter val src) (six stack frames chain slots «saved_stack» «saved_frames») (only m) (only (r .machine)) (r .step) ⌝ }
+    requires { ⌜ AnswerFits sizes (now stack) (now frames) (now chain) (now slots) (now «saved_stack») (now «saved_frames») m pc has ⌝ }
+    ensures { λ r. ⌜ Met ifSound sizes (iterOn (In s) pc has iter val src) (six stack frames chain slots «saved_stack» «saved_frames») (only m) (only (r .machine)) (r .step) ⌝ }
 {
     if exhausted(slots, m, iter, s) {
         stop(stack, frames, slots, m, has, iter);
@@ -88,7 +88,7 @@ pub(crate) fn iter_on(
         saved_stack,
         saved_frames,
         m,
-        l,
+        sizes,
         pc,
         src,
         Driver::Iter { has, val, iter },
@@ -105,15 +105,15 @@ pub fn iter_next(
     saved_stack: &mut [u64],
     saved_frames: &mut [u64],
     m: Machine,
-    l: Sizes,
+    sizes: Sizes,
     pc: u64,
     has: u64,
     iter: u64,
     val: u64,
     src: u64,
 ) -> StepDid
-    requires { ⌜ NextFits l (now stack) (now frames) (now chain) (now slots) (now «saved_stack») (now «saved_frames») m pc has iter src ⌝ }
-    ensures { λ r. ⌜ Met ifSound l (iterNext pc has iter val src) (six stack frames chain slots «saved_stack» «saved_frames») (only m) (only (r .machine)) (r .step) ⌝ }
+    requires { ⌜ NextFits sizes (now stack) (now frames) (now chain) (now slots) (now «saved_stack») (now «saved_frames») m pc has iter src ⌝ }
+    ensures { λ r. ⌜ Met ifSound sizes (iterNext pc has iter val src) (six stack frames chain slots «saved_stack» «saved_frames») (only m) (only (r .machine)) (r .step) ⌝ }
 {
     let it = memory_tables::stack::reg(stack, frames, m.height, m.depth, iter as usize);
     let v = memory_tables::stack::reg(stack, frames, m.height, m.depth, src as usize);
@@ -130,7 +130,7 @@ pub fn iter_next(
             saved_stack,
             saved_frames,
             m,
-            l,
+            sizes,
             s,
             pc,
             has,

@@ -55,8 +55,8 @@ pub record CalledFits (slots setup : List ℕ) (count : ℕ) : Type 0 where
 -- ---- the creation
 
 -- a sound world, two registers of the top frame, and the argument window after the first on the stack
-pub record IndirectFits (l : Sizes) (stack frames slots savedStack savedFrames setup : List ℕ) (m : Machine) (dst callee argc : ℕ) : Type 0 where
-  pub ok : Ok l (topMaking stack frames slots savedStack savedFrames setup plain) (only m)
+pub record IndirectFits (sizes : Sizes) (stack frames slots savedStack savedFrames setup : List ℕ) (m : Machine) (dst callee argc : ℕ) : Type 0 where
+  pub ok : Ok sizes (topMaking stack frames slots savedStack savedFrames setup plain) (only m)
   pub few : argc ≤ 255
   pub reg : RegFits stack frames (m .height) (m .depth) dst
   pub holder : RegFits stack frames (m .height) (m .depth) callee

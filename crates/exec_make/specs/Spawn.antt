@@ -25,10 +25,10 @@ abbrev pub hookPaid : ℕ → ℕ → ℕ → ℕ → World → After Step
 hookPaid hook pc dst c w = andThen (charge OptPc.None w) (callHook hook pc dst c)
 
 -- a frame that calls, and a hook with a register
-pub record HookFits (l : Sizes) (stack frames setup : List ℕ) (m : Machine) (pc hook : ℕ) : Type 0 where
-  pub call : CallFits l stack frames setup m pc hook
+pub record HookFits (sizes : Sizes) (stack frames setup : List ℕ) (m : Machine) (pc hook : ℕ) : Type 0 where
+  pub call : CallFits sizes stack frames setup m pc hook
   pub register : 1 ≤ functionIn setup hook .regs
 
-pub record SpawnFits (l : Sizes) (stack frames slots savedStack savedFrames setup : List ℕ) (m : Machine) (pc dst callee argc : ℕ) : Type 0 where
-  pub indirect : IndirectFits l stack frames slots savedStack savedFrames setup m dst callee argc
+pub record SpawnFits (sizes : Sizes) (stack frames slots savedStack savedFrames setup : List ℕ) (m : Machine) (pc dst callee argc : ℕ) : Type 0 where
+  pub indirect : IndirectFits sizes stack frames slots savedStack savedFrames setup m dst callee argc
   pub narrow : pc < 2 ^ 32

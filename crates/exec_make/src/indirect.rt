@@ -18,7 +18,7 @@ use model::coro::WordOr;
 // The function that a word calls with argc arguments, or the fault.
 pub(crate) fn called(slots: &[u64], setup: &[u64], m: Machine, v: Word, argc: u64) -> Callable
     requires { ⌜ CalledFits (now slots) (now setup) (m .count) ⌝ }
-    ensures { λ r. ⌜ every (λ l. Reads l (called (v .0) argc) (tableSetup slots setup) (only m) r) ⌝ }
+    ensures { λ r. ⌜ every (λ sizes. Reads sizes (called (v .0) argc) (tableSetup slots setup) (only m) r) ⌝ }
 {
     match callee(slots, m.count, v) {
         Callable::Not(g) => Callable::Not(g),
@@ -43,13 +43,13 @@ pub(crate) fn indirect(
     saved_frames: &mut [u64],
     setup: &[u64],
     m: Machine,
-    l: Sizes,
+    sizes: Sizes,
     dst: u64,
     callee: u64,
     argc: u64,
 ) -> CreateDid
-    requires { ⌜ IndirectFits l (now stack) (now frames) (now slots) (now «saved_stack») (now «saved_frames») (now setup) m dst callee argc ⌝ }
-    ensures { λ r. ⌜ Met ifSound l (indirect dst callee argc) (topMaking stack frames slots «saved_stack» «saved_frames» setup) (only m) (only (r .machine)) (r .answer) ⌝ }
+    requires { ⌜ IndirectFits sizes (now stack) (now frames) (now slots) (now «saved_stack») (now «saved_frames») (now setup) m dst callee argc ⌝ }
+    ensures { λ r. ⌜ Met ifSound sizes (indirect dst callee argc) (topMaking stack frames slots «saved_stack» «saved_frames» setup) (only m) (only (r .machine)) (r .answer) ⌝ }
 {
     let v = memory_tables::stack::reg(stack, frames, m.height, m.depth, callee as usize);
     match called(slots, setup, m, Word(v), argc) {
@@ -65,7 +65,7 @@ pub(crate) fn indirect(
             saved_frames,
             setup,
             m,
-            l,
+            sizes,
             dst,
             f,
             v,
@@ -83,13 +83,13 @@ pub fn coro_new_indirect(
     saved_frames: &mut [u64],
     setup: &[u64],
     m: Machine,
-    l: Sizes,
+    sizes: Sizes,
     dst: u64,
     callee: u64,
     argc: u64,
 ) -> StepDid
-    requires { ⌜ IndirectFits l (now stack) (now frames) (now slots) (now «saved_stack») (now «saved_frames») (now setup) m dst callee argc ⌝ }
-    ensures { λ r. ⌜ Met ifSound l (coroNewIndirect dst callee argc) (topMaking stack frames slots «saved_stack» «saved_frames» setup) (only m) (only (r .machine)) (r .step) ⌝ }
+    requires { ⌜ IndirectFits sizes (now stack) (now frames) (now slots) (now «saved_stack») (now «saved_frames») (now setup) m dst callee argc ⌝ }
+    ensures { λ r. ⌜ Met ifSound sizes (coroNewIndirect dst callee argc) (topMaking stack frames slots «saved_stack» «saved_frames» setup) (only m) (only (r .machine)) (r .step) ⌝ }
 {
     let did = indirect(
         stack,
@@ -99,7 +99,7 @@ pub fn coro_new_indirect(
         saved_frames,
         setup,
         m,
-        l,
+        sizes,
         dst,
         callee,
         argc,

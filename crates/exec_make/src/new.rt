@@ -23,14 +23,14 @@ pub(crate) fn create(
     saved_frames: &mut [u64],
     setup: &[u64],
     m: Machine,
-    l: Sizes,
+    sizes: Sizes,
     dst: u64,
     f: u64,
     closure: u64,
     argc: u64,
 ) -> CreateDid
-    requires { ⌜ NewFits l (now stack) (now frames) (now slots) (now «saved_stack») (now «saved_frames») (now setup) m dst f argc ⌝ }
-    ensures { λ r. ⌜ Met ifSound l (λ w. coroCreate f closure (window dst argc w) w) (topMaking stack frames slots «saved_stack» «saved_frames» setup) (only m) (only (r .machine)) (r .answer) ⌝ }
+    requires { ⌜ NewFits sizes (now stack) (now frames) (now slots) (now «saved_stack») (now «saved_frames») (now setup) m dst f argc ⌝ }
+    ensures { λ r. ⌜ Met ifSound sizes (λ w. coroCreate f closure (window dst argc w) w) (topMaking stack frames slots «saved_stack» «saved_frames» setup) (only m) (only (r .machine)) (r .answer) ⌝ }
 {
     let base = memory_tables::frame::base_at(frames, m.depth - 1);
     let at = base + (dst as usize) + 1;
@@ -42,7 +42,7 @@ pub(crate) fn create(
         saved_frames,
         setup,
         m,
-        l,
+        sizes,
         f,
         closure,
         args,
@@ -53,7 +53,7 @@ pub(crate) fn create(
 // r!(dst) = t!(made); Step::Next
 pub(crate) fn put_made(stack: &mut [u64], frames: &[u64], m: Machine, dst: u64, a: WordOr) -> Step
     requires { ⌜ RegFits (now stack) (now frames) (m .height) (m .depth) dst ⌝ }
-    ensures { λ r. ⌜ every (λ l. Met any l (λ w. putMade dst w a) (top stack frames) (only m) (only m) r) ⌝ }
+    ensures { λ r. ⌜ every (λ sizes. Met any sizes (λ w. putMade dst w a) (top stack frames) (only m) (only m) r) ⌝ }
 {
     match a {
         WordOr::Word(v) => {
@@ -73,13 +73,13 @@ pub fn coro_new(
     saved_frames: &mut [u64],
     setup: &[u64],
     m: Machine,
-    l: Sizes,
+    sizes: Sizes,
     dst: u64,
     f: u64,
     argc: u64,
 ) -> StepDid
-    requires { ⌜ NewFits l (now stack) (now frames) (now slots) (now «saved_stack») (now «saved_frames») (now setup) m dst f argc ⌝ }
-    ensures { λ r. ⌜ Met ifSound l (coroNew dst f argc) (topMaking stack frames slots «saved_stack» «saved_frames» setup) (only m) (only (r .machine)) (r .step) ⌝ }
+    requires { ⌜ NewFits sizes (now stack) (now frames) (now slots) (now «saved_stack») (now «saved_frames») (now setup) m dst f argc ⌝ }
+    ensures { λ r. ⌜ Met ifSound sizes (coroNew dst f argc) (topMaking stack frames slots «saved_stack» «saved_frames» setup) (only m) (only (r .machine)) (r .step) ⌝ }
 {
     let did = create(
         stack,
@@ -89,7 +89,7 @@ pub fn coro_new(
         saved_frames,
         setup,
         m,
-        l,
+        sizes,
         dst,
         f,
         Word::NIL,

@@ -24,21 +24,21 @@ pub(crate) fn push_hook(
     frames: &mut [u64],
     setup: &[u64],
     m: Machine,
-    l: Sizes,
+    sizes: Sizes,
     hook: u64,
     pc: u64,
     dst: u64,
     c: u64,
 ) -> StepDid
-    requires { ⌜ HookFits l (now stack) (now frames) (now setup) m pc hook ⌝ }
-    ensures { λ r. ⌜ Met ifSound l (hookFrame hook pc dst c) (topSetup stack frames setup) (only m) (only (r .machine)) (r .step) ⌝ }
+    requires { ⌜ HookFits sizes (now stack) (now frames) (now setup) m pc hook ⌝ }
+    ensures { λ r. ⌜ Met ifSound sizes (hookFrame hook pc dst c) (topSetup stack frames setup) (only m) (only (r .machine)) (r .step) ⌝ }
 {
     let did = machine_state::frame::push_at(
         stack,
         frames,
         setup,
         m,
-        l,
+        sizes,
         pc,
         hook,
         Word::NIL,
@@ -67,15 +67,15 @@ pub(crate) fn call_hook(
     frames: &mut [u64],
     setup: &[u64],
     m: Machine,
-    l: Sizes,
+    sizes: Sizes,
     fuel: Fuel,
     hook: u64,
     pc: u64,
     dst: u64,
     c: u64,
 ) -> Stepped
-    requires { ⌜ HookFits l (now stack) (now frames) (now setup) m pc hook ⌝ }
-    ensures { λ r. ⌜ Met ifSound l (hookPaid hook pc dst c) (topSetup stack frames setup) (with m fuel) (with (r .machine) (r .fuel)) (r .step) ⌝ }
+    requires { ⌜ HookFits sizes (now stack) (now frames) (now setup) m pc hook ⌝ }
+    ensures { λ r. ⌜ Met ifSound sizes (hookPaid hook pc dst c) (topSetup stack frames setup) (with m fuel) (with (r .machine) (r .fuel)) (r .step) ⌝ }
 {
     let paid = charge_plain(fuel);
     let left = paid.fuel;
@@ -87,7 +87,7 @@ pub(crate) fn call_hook(
             step: Step::Fault(Fault::OutOfFuel),
         };
     }
-    let did = push_hook(stack, frames, setup, m, l, hook, pc, dst, c);
+    let did = push_hook(stack, frames, setup, m, sizes, hook, pc, dst, c);
     let next = did.machine;
     let step = did.step;
     Stepped {
@@ -106,15 +106,15 @@ pub fn spawn(
     saved_frames: &mut [u64],
     setup: &[u64],
     m: Machine,
-    l: Sizes,
+    sizes: Sizes,
     fuel: Fuel,
     pc: u64,
     dst: u64,
     callee: u64,
     argc: u64,
 ) -> Stepped
-    requires { ⌜ SpawnFits l (now stack) (now frames) (now slots) (now «saved_stack») (now «saved_frames») (now setup) m pc dst callee argc ⌝ }
-    ensures { λ r. ⌜ Met ifSound l (spawn pc dst callee argc) (topMaking stack frames slots «saved_stack» «saved_frames» setup) (with m fuel) (with (r .machine) (r .fuel)) (r .step) ⌝ }
+    requires { ⌜ SpawnFits sizes (now stack) (now frames) (now slots) (now «saved_stack») (now «saved_frames») (now setup) m pc dst callee argc ⌝ }
+    ensures { λ r. ⌜ Met ifSound sizes (spawn pc dst callee argc) (topMaking stack frames slots «saved_stack» «saved_frames» setup) (with m fuel) (with (r .machine) (r .fuel)) (r .step) ⌝ }
 {
     let Opt::Some(hook) = memory_tables::program::hook(setup) else {
         return Stepped {
@@ -131,7 +131,7 @@ pub fn spawn(
         saved_frames,
         setup,
         m,
-        l,
+        sizes,
         dst,
         callee,
         argc,
@@ -144,6 +144,6 @@ pub fn spawn(
             fuel,
             step: Step::Fault(g),
         },
-        WordOr::Word(c) => call_hook(stack, frames, setup, next, l, fuel, hook, pc, dst, c),
+        WordOr::Word(c) => call_hook(stack, frames, setup, next, sizes, fuel, hook, pc, dst, c),
     }
 }

@@ -27,12 +27,12 @@ pub record DeliverFits (stack frames slots : List ℕ) (m : Machine) (a : Suspen
   pub drives : (d : Driver) (e : Event) → a ≡ Suspension.Done d e → DriverFits stack frames slots m d
 
 -- a sound world in which a coroutine runs, and a pc of 32 bits
-pub record RunFits (l : Sizes) (stack frames chain slots savedStack savedFrames : List ℕ) (m : Machine) (pc : ℕ) : Type 0 where
-  pub ok : Ok l (lent stack frames chain slots savedStack savedFrames) (only m)
+pub record RunFits (sizes : Sizes) (stack frames chain slots savedStack savedFrames : List ℕ) (m : Machine) (pc : ℕ) : Type 0 where
+  pub ok : Ok sizes (lent stack frames chain slots savedStack savedFrames) (only m)
   pub running : 1 ≤ m .active
   pub narrow : pc < 2 ^ 32
 
 -- .. and a state to sleep in
-pub record SuspendFits (l : Sizes) (stack frames chain slots savedStack savedFrames : List ℕ) (m : Machine) (pc : ℕ) (s : CoroState) : Type 0 where
-  pub run : RunFits l stack frames chain slots savedStack savedFrames m pc
+pub record SuspendFits (sizes : Sizes) (stack frames chain slots savedStack savedFrames : List ℕ) (m : Machine) (pc : ℕ) (s : CoroState) : Type 0 where
+  pub run : RunFits sizes stack frames chain slots savedStack savedFrames m pc
   pub state : isSuspended s ≡ true

@@ -16,11 +16,11 @@ abbrev pub keysFor : ℕ → ℕ → World → Keys
 keysFor v key w = Keys.Set key (largerOf (largestIn (coro w v)) (dynInt w key))
 
 -- a sound world, and operands that the gate has tested
-pub record YieldFits (l : Sizes) (stack frames chain slots savedStack savedFrames : List ℕ) (m : Machine) (pc src : ℕ) : Type 0 where
-  pub ok : Ok l (lent stack frames chain slots savedStack savedFrames) (only m)
+pub record YieldFits (sizes : Sizes) (stack frames chain slots savedStack savedFrames : List ℕ) (m : Machine) (pc src : ℕ) : Type 0 where
+  pub ok : Ok sizes (lent stack frames chain slots savedStack savedFrames) (only m)
   pub narrow : pc < 2 ^ 32
   pub sent : RegFits stack frames (m .height) (m .depth) src
 
-pub record YieldKvFits (l : Sizes) (stack frames chain slots savedStack savedFrames : List ℕ) (m : Machine) (pc src key : ℕ) : Type 0 where
-  pub plain : YieldFits l stack frames chain slots savedStack savedFrames m pc src
+pub record YieldKvFits (sizes : Sizes) (stack frames chain slots savedStack savedFrames : List ℕ) (m : Machine) (pc src key : ℕ) : Type 0 where
+  pub plain : YieldFits sizes stack frames chain slots savedStack savedFrames m pc src
   pub named : RegFits stack frames (m .height) (m .depth) key

@@ -36,7 +36,7 @@ pub(crate) fn deliver_all(
     a: Suspension,
 ) -> Stepped
     requires { ⌜ DeliverFits (now stack) (now frames) (now slots) m a ⌝ }
-    ensures { λ r. ⌜ every (λ l. Met any l (λ w. deliverAll w a) (topTable stack frames slots) (with m fuel) (with (r .machine) (r .fuel)) (r .step)) ⌝ }
+    ensures { λ r. ⌜ every (λ sizes. Met any sizes (λ w. deliverAll w a) (topTable stack frames slots) (with m fuel) (with (r .machine) (r .fuel)) (r .step)) ⌝ }
 {
     match a {
         Suspension::Done { driver, event } => {
@@ -68,7 +68,7 @@ pub(crate) fn suspend(
     saved_stack: &mut [u64],
     saved_frames: &mut [u64],
     m: Machine,
-    l: Sizes,
+    sizes: Sizes,
     fuel: Fuel,
     pc: u64,
     state: CoroState,
@@ -76,8 +76,8 @@ pub(crate) fn suspend(
     payload: u64,
     keys: Keys,
 ) -> Stepped
-    requires { ⌜ SuspendFits l (now stack) (now frames) (now chain) (now slots) (now «saved_stack») (now «saved_frames») m pc state ⌝ }
-    ensures { λ r. ⌜ Met ifSound l (suspend pc state dst payload keys) (six stack frames chain slots «saved_stack» «saved_frames») (with m fuel) (with (r .machine) (r .fuel)) (r .step) ⌝ }
+    requires { ⌜ SuspendFits sizes (now stack) (now frames) (now chain) (now slots) (now «saved_stack») (now «saved_frames») m pc state ⌝ }
+    ensures { λ r. ⌜ Met ifSound sizes (suspend pc state dst payload keys) (six stack frames chain slots «saved_stack» «saved_frames») (with m fuel) (with (r .machine) (r .fuel)) (r .step) ⌝ }
 {
     machine_state::frame::store_pc(frames, m, pc);
     let did = coro_suspend(
@@ -88,7 +88,7 @@ pub(crate) fn suspend(
         saved_stack,
         saved_frames,
         m,
-        l,
+        sizes,
         state,
         dst,
         payload,

@@ -27,7 +27,7 @@ use model::machine::Fuel;
 // The largest integer key so far of the coroutine that a word names.
 fn largest_in(slots: &[u64], m: Machine, v: u64) -> u64
     requires { ⌜ TableFits (now slots) (m .count) ⌝ }
-    ensures { λ r. ⌜ every (λ l. Reads l (λ w. largestIn (coro w v)) (table slots) (only m) r) ⌝ }
+    ensures { λ r. ⌜ every (λ sizes. Reads sizes (λ w. largestIn (coro w v)) (table slots) (only m) r) ⌝ }
 {
     match heap::heap::coro_place(slots, m.count, Word(v)) {
         CoroPlace::Not(_) => 0xFFFF_FFFF_FFFF_FFFF,
@@ -56,7 +56,7 @@ fn larger_of(largest: u64, n: Opt) -> u64
 // conv.rs: dyn_int, the integer that a word is or names.
 fn dyn_int(slots: &[u64], m: Machine, v: u64) -> Opt
     requires { ⌜ TableFits (now slots) (m .count) ⌝ }
-    ensures { λ r. ⌜ every (λ l. Reads l (λ w. dynInt w v) (table slots) (only m) r) ⌝ }
+    ensures { λ r. ⌜ every (λ sizes. Reads sizes (λ w. dynInt w v) (table slots) (only m) r) ⌝ }
 {
     heap::heap::dyn_int(slots, m.count, Word(v))
 }
@@ -70,14 +70,14 @@ pub fn coro_await(
     saved_stack: &mut [u64],
     saved_frames: &mut [u64],
     m: Machine,
-    l: Sizes,
+    sizes: Sizes,
     fuel: Fuel,
     pc: u64,
     dst: u64,
     src: u64,
 ) -> Stepped
-    requires { ⌜ YieldFits l (now stack) (now frames) (now chain) (now slots) (now «saved_stack») (now «saved_frames») m pc src ⌝ }
-    ensures { λ r. ⌜ Met ifSound l (await pc dst src) (six stack frames chain slots «saved_stack» «saved_frames») (with m fuel) (with (r .machine) (r .fuel)) (r .step) ⌝ }
+    requires { ⌜ YieldFits sizes (now stack) (now frames) (now chain) (now slots) (now «saved_stack») (now «saved_frames») m pc src ⌝ }
+    ensures { λ r. ⌜ Met ifSound sizes (await pc dst src) (six stack frames chain slots «saved_stack» «saved_frames») (with m fuel) (with (r .machine) (r .fuel)) (r .step) ⌝ }
 {
     if m.active == 0 {
         return Stepped {
@@ -96,7 +96,7 @@ pub fn coro_await(
         saved_stack,
         saved_frames,
         m,
-        l,
+        sizes,
         fuel,
         pc,
         state,
@@ -109,7 +109,7 @@ pub fn coro_await(
 // The key and the largest key that a YieldKv leaves.
 fn keyed(slots: &[u64], m: Machine, v: u64, key: u64) -> Keys
     requires { ⌜ TableFits (now slots) (m .count) ⌝ }
-    ensures { λ r. ⌜ every (λ l. Reads l (keysFor v key) (table slots) (only m) r) ⌝ }
+    ensures { λ r. ⌜ every (λ sizes. Reads sizes (keysFor v key) (table slots) (only m) r) ⌝ }
 {
     let n = dyn_int(slots, m, key);
     let so_far = largest_in(slots, m, v);
@@ -126,15 +126,15 @@ pub fn yield_kv(
     saved_stack: &mut [u64],
     saved_frames: &mut [u64],
     m: Machine,
-    l: Sizes,
+    sizes: Sizes,
     fuel: Fuel,
     pc: u64,
     dst: u64,
     src: u64,
     key: u64,
 ) -> Stepped
-    requires { ⌜ YieldKvFits l (now stack) (now frames) (now chain) (now slots) (now «saved_stack») (now «saved_frames») m pc src key ⌝ }
-    ensures { λ r. ⌜ Met ifSound l (yieldKv pc dst src key) (six stack frames chain slots «saved_stack» «saved_frames») (with m fuel) (with (r .machine) (r .fuel)) (r .step) ⌝ }
+    requires { ⌜ YieldKvFits sizes (now stack) (now frames) (now chain) (now slots) (now «saved_stack») (now «saved_frames») m pc src key ⌝ }
+    ensures { λ r. ⌜ Met ifSound sizes (yieldKv pc dst src key) (six stack frames chain slots «saved_stack» «saved_frames») (with m fuel) (with (r .machine) (r .fuel)) (r .step) ⌝ }
 {
     if m.active == 0 {
         return Stepped {
@@ -156,7 +156,7 @@ pub fn yield_kv(
         saved_stack,
         saved_frames,
         m,
-        l,
+        sizes,
         fuel,
         pc,
         state,
@@ -175,15 +175,15 @@ pub(crate) fn yield_key(
     saved_stack: &mut [u64],
     saved_frames: &mut [u64],
     m: Machine,
-    l: Sizes,
+    sizes: Sizes,
     fuel: Fuel,
     pc: u64,
     dst: u64,
     payload: u64,
     a: AutoKey,
 ) -> Stepped
-    requires { ⌜ RunFits l (now stack) (now frames) (now chain) (now slots) (now «saved_stack») (now «saved_frames») m pc ⌝ }
-    ensures { λ r. ⌜ Met ifSound l (λ w. yieldKey pc dst payload w a) (six stack frames chain slots «saved_stack» «saved_frames») (with m fuel) (with (r .machine) (r .fuel)) (r .step) ⌝ }
+    requires { ⌜ RunFits sizes (now stack) (now frames) (now chain) (now slots) (now «saved_stack») (now «saved_frames») m pc ⌝ }
+    ensures { λ r. ⌜ Met ifSound sizes (λ w. yieldKey pc dst payload w a) (six stack frames chain slots «saved_stack» «saved_frames») (with m fuel) (with (r .machine) (r .fuel)) (r .step) ⌝ }
 {
     match a {
         AutoKey::Key { key, largest } => {
@@ -196,7 +196,7 @@ pub(crate) fn yield_key(
                 saved_stack,
                 saved_frames,
                 m,
-                l,
+                sizes,
                 fuel,
                 pc,
                 state,
@@ -222,14 +222,14 @@ pub fn coro_yield(
     saved_stack: &mut [u64],
     saved_frames: &mut [u64],
     m: Machine,
-    l: Sizes,
+    sizes: Sizes,
     fuel: Fuel,
     pc: u64,
     dst: u64,
     src: u64,
 ) -> Stepped
-    requires { ⌜ YieldFits l (now stack) (now frames) (now chain) (now slots) (now «saved_stack») (now «saved_frames») m pc src ⌝ }
-    ensures { λ r. ⌜ Met ifSound l (yield pc dst src) (six stack frames chain slots «saved_stack» «saved_frames») (with m fuel) (with (r .machine) (r .fuel)) (r .step) ⌝ }
+    requires { ⌜ YieldFits sizes (now stack) (now frames) (now chain) (now slots) (now «saved_stack») (now «saved_frames») m pc src ⌝ }
+    ensures { λ r. ⌜ Met ifSound sizes (yield pc dst src) (six stack frames chain slots «saved_stack» «saved_frames») (with m fuel) (with (r .machine) (r .fuel)) (r .step) ⌝ }
 {
     if m.active == 0 {
         return Stepped {
@@ -241,7 +241,7 @@ pub fn coro_yield(
     let payload = memory_tables::stack::reg(stack, frames, m.height, m.depth, src as usize);
     let a = memory_tables::active::active_at(chain, m.active - 1);
     let largest = largest_in(slots, m, a.coro);
-    let did = auto_key(slots, m, l, largest);
+    let did = auto_key(slots, m, sizes, largest);
     let n = did.machine;
     let key = did.answer;
     yield_key(
@@ -252,7 +252,7 @@ pub fn coro_yield(
         saved_stack,
         saved_frames,
         n,
-        l,
+        sizes,
         fuel,
         pc,
         dst,

@@ -11,13 +11,13 @@ use Rattle.memory_world.proofs.Does.{SameLengths, alike, then-alike}
 use Rattle.memory_world.specs.declared.machine.Machine.{Machine}
 use Rattle.model.specs.declared.machine.Fuel.{Fuel}
 use Rattle.outer_call.specs.State.{state}
-use Rattle.memory_step.specs.Step.{State, Left, stepWords, setUpWords}
+use Rattle.memory_step.specs.Step.{MemoryState, Left, stepWords, setUpWords}
 use Rattle.furnace.specs.Story.{story, blank, empty}
 use Rattle.furnace.specs.declared.note.Seen.{Seen}
 use Rattle.furnace.specs.declared.note.Count.{Count}
 use Rattle.furnace.specs.Watch.{Watched, watched, notesAt, seenAt, countedAt, watch, watches, none}
 
-pub watched-is : (s : State) (notes : List ℕ) (c : Count) (o : Op) (d : Left) (was : Seen) (ns : List ℕ) (t : Count) → d ≡ stepWords s o → was ≡ seenAt s o → ns ≡ notesAt s o notes
+pub watched-is : (s : MemoryState) (notes : List ℕ) (c : Count) (o : Op) (d : Left) (was : Seen) (ns : List ℕ) (t : Count) → d ≡ stepWords s o → was ≡ seenAt s o → ns ≡ notesAt s o notes
     → t ≡ countedAt d was ns c → watched (d .state) ns t ≡ watch (watched s notes c) o
 unfolding watch
 watched-is s notes c o d was ns t e f g h =

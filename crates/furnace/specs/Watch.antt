@@ -13,7 +13,7 @@ use Rattle.model.specs.declared.call.Op.{Op}
 use Rattle.memory_tables.specs.Layout.{baseIn}
 use Rattle.memory_world.specs.declared.machine.Machine.{Machine}
 use Rattle.memory_calls.specs.Codes.{same}
-use Rattle.memory_step.specs.Step.{State, Left, stepWords}
+use Rattle.memory_step.specs.Step.{MemoryState, Left, stepWords}
 use Rattle.furnace.specs.declared.watch.Part.{Part}
 use Rattle.furnace.specs.declared.watch.Sent.{Sent}
 use Rattle.furnace.specs.declared.note.Seen.{Seen}
@@ -204,18 +204,18 @@ allEqual wakes equal = not (eqb wakes 0) && eqb equal wakes
 -- ---- calls, watched
 
 pub record Watched : Type 0 where
-  pub state : State
+  pub state : MemoryState
   pub notes : List ℕ
   pub count : Count
 
-abbrev pub watched : State → List ℕ → Count → Watched
+abbrev pub watched : MemoryState → List ℕ → Count → Watched
 watched s notes c = record { state = s; notes = notes; count = c }
 
 -- the notes before the call, of its words; the count after it
-abbrev pub notesAt : State → Op → List ℕ → List ℕ
+abbrev pub notesAt : MemoryState → Op → List ℕ → List ℕ
 notesAt s o notes = noted (s .words .stack) (s .words .frames) (s .words .chain) (s .machine) (partOf o) notes
 
-abbrev pub seenAt : State → Op → Seen
+abbrev pub seenAt : MemoryState → Op → Seen
 seenAt s o = seenIn (s .words .stack) (s .words .frames) (s .words .chain) (s .machine) o
 
 abbrev pub countedAt : Left → Seen → List ℕ → Count → Count

@@ -14,11 +14,11 @@ use Rattle.memory_world.specs.declared.machine.Sizes.{Sizes}
 use Rattle.memory_world.specs.Words.{sizesOf}
 use Rattle.memory_world.specs.Decode.{setupOf}
 use Rattle.memory_world.proofs.Does.{SameLengths}
-use Rattle.memory_step.specs.Step.{State, isSound}
+use Rattle.memory_step.specs.Step.{MemoryState, isSound}
 use Rattle.outer_run.specs.Run.{doWords, countOf, readIn}
 use Rattle.outer_run.proofs.Along.{Along, along-start, along-more, along-end}
 use Rattle.linked_calls.specs.Words.{fuelWords}
-use Rattle.linked_calls.specs.Host.{Host, host, stateOf, tested, oneOr, gave, over, runHost}
+use Rattle.linked_calls.specs.Host.{Host, host, stateOf, passesTest, oneOr, gave, overwritten, runHost}
 use Rattle.linked_calls.proofs.Hosts as Tested
 use Rattle.linked_calls.proofs.Others.{run-done}
 use Rattle.claims_linked.proofs.Words.{machine-back, fuel-back}
@@ -27,7 +27,7 @@ use Rattle.linked_batch.specs.Batch.{One, BatchFits, Done}
 
 -- ---- numbers and fuel written over their words, and written again
 
-over-back : (h : Host) (s : State) → stateOf (over h s) ≡ s
+over-back : (h : Host) (s : MemoryState) → stateOf (overwritten h s) ≡ s
 over-back h s = λ i. record { words = s .words; machine = machine-back (h .machine) (s .machine) i; fuel = fuel-back (h .fuel) (s .fuel) i }
 
 fuel-twice : (fs : List ℕ) (m n : ℕ) (a b : Opt) (p q : Bool) → let f : Fuel = record { fuel = m; bank = a; ready = p } in let g : Fuel = record { fuel = n; bank = b; ready = q } in
@@ -37,12 +37,12 @@ fuel-twice fs m n Opt.None (Opt.Some y) p q = refl
 fuel-twice fs m n (Opt.Some x) Opt.None p q = refl
 fuel-twice fs m n (Opt.Some x) (Opt.Some y) p q = refl
 
-over-over : (h : Host) (s t : State) → over (over h s) t ≡ over h t
+over-over : (h : Host) (s t : MemoryState) → overwritten (overwritten h s) t ≡ overwritten h t
 over-over h s t =
     let f = s .fuel in
     let g = t .fuel in
     let e = fuel-twice (h .fuel) (f .fuel) (g .fuel) (f .bank) (g .bank) (f .ready) (g .ready) in
-    λ i. host (t .words) (over h t .machine) (e i)
+    λ i. host (t .words) (overwritten h t .machine) (e i)
 
 -- ---- the test as a number
 
@@ -62,8 +62,8 @@ module _ (h₀ : Host) (cs xs₀ : List ℕ) (n : ℕ) where
 
   pub record Going (h : Host) (xs : List ℕ) (i : ℕ) : Type 0 where
     pub along : Along sizes cs xs₀ n (stateOf h₀) (stateOf h) xs i
-    pub written : h ≡ over h₀ (stateOf h)
-    pub sound : tested h ≡ true
+    pub written : h ≡ overwritten h₀ (stateOf h)
+    pub sound : passesTest h ≡ true
     pub machine : length (h .machine) ≡ length (h₀ .machine)
     pub fuel : length (h .fuel) ≡ length (h₀ .fuel)
 
@@ -95,7 +95,7 @@ module _ (h₀ : Host) (cs xs₀ : List ℕ) (n : ℕ) where
               (along-more sizes cs xs₀ n (stateOf h₀) (stateOf h) xs i (g .along) t room d xs′
               (record { is = refl; again = ap isSound (sym at) ∙ Tested.sound h′ (o .sound) }) (o .answers)
               (subst (λ M. SameLengths (h .words) M) ws same) (ap (λ (M : Lent). M .setup) (sym ws) ∙ us) long);
-          written = o .host ∙ ap (λ (k : Host). over k (d .state)) (g .written) ∙ over-over h₀ (stateOf h) (d .state) ∙ ap (over h₀) (sym at);
+          written = o .host ∙ ap (λ (k : Host). overwritten k (d .state)) (g .written) ∙ over-over h₀ (stateOf h) (d .state) ∙ ap (overwritten h₀) (sym at);
           sound = o .sound;
           machine = wide ∙ g .machine;
           fuel = tank ∙ g .fuel;
@@ -106,7 +106,7 @@ module _ (h₀ : Host) (cs xs₀ : List ℕ) (n : ℕ) where
 
   -- ---- all of it is what a run leaves
 
-  pub batch-done : tested h₀ ≡ true → n ≡ countOf (length cs) → n * 8 ≤ length xs₀ → (h′ : Host) (xs′ : List ℕ) → Done h₀ cs xs₀ n h′ xs′ → gave h′ xs′ 0 ≡ runHost h₀ cs xs₀
+  pub batch-done : passesTest h₀ ≡ true → n ≡ countOf (length cs) → n * 8 ≤ length xs₀ → (h′ : Host) (xs′ : List ℕ) → Done h₀ cs xs₀ n h′ xs′ → gave h′ xs′ 0 ≡ runHost h₀ cs xs₀
   batch-done e k room h′ xs′ d =
       run-done h₀ cs xs₀ n k room true (sym e) refl (stateOf h₀) (stateOf h′) refl (h′ .machine) (h′ .fuel) xs′ (d .listed)
       (ap (λ (z : Host). z .machine) (d .written)) (ap (λ (z : Host). z .fuel) (d .written))

@@ -28,7 +28,7 @@ use Rattle.memory_calls.proofs.Reading.{as-six, other-length}
 use Rattle.memory_step.specs.Step.{isSound}
 use Rattle.outer_run.specs.Run.{doWords, readIn}
 use Rattle.outer_run.proofs.Written.{put-back}
-use Rattle.linked_calls.specs.Host.{Host, host, stateOf, tested, Gave, gave, over, keptIn}
+use Rattle.linked_calls.specs.Host.{Host, host, stateOf, passesTest, Gave, gave, overwritten, keptIn}
 use Rattle.linked_calls.proofs.Hosts as Tested
 use Rattle.claims_linked.proofs.Library.{library}
 use Rattle.linked_switch.specs.Went.{goesOn}
@@ -75,11 +75,11 @@ of-read {h} {h′} {xs = xs} {xs′ = xs′} {i = i} e o = subst (λ z. One h z 
 abbrev pub blank : List ℕ
 blank = 0 ∷ 0 ∷ 0 ∷ 0 ∷ 0 ∷ 0 ∷ 0 ∷ 0 ∷ []
 
-module _ (h : Host) (e : tested h ≡ true) where
-  passes-again : (ws : List ℕ) → each isWord ws ≡ true → tested (over h (doWords (stateOf h) (opOf ws) .state)) ≡ true
+module _ (h : Host) (e : passesTest h ≡ true) where
+  passes-again : (ws : List ℕ) → each isWord ws ≡ true → passesTest (overwritten h (doWords (stateOf h) (opOf ws) .state)) ≡ true
   passes-again ws w =
       let k : 8 ≤ 8 = omega arith in
-      ap (λ (g : Gave). tested (g .host)) (library .kept h (opOf ws) blank e k) ∙ library .called h ws blank w e
+      ap (λ (g : Gave). passesTest (g .host)) (library .kept h (opOf ws) blank e k) ∙ library .called h ws blank w e
 
   -- .. that `bvm_call_unchecked` did, of which the answer stands in its part
   pub kept-one : (ws : List ℕ) → each isWord ws ≡ true → (xs : List ℕ) (i : ℕ) → i * 8 + 8 ≤ length xs → (h′ : Host) (p′ : List ℕ) (n : ℕ)
@@ -87,8 +87,8 @@ module _ (h : Host) (e : tested h ≡ true) where
       → One h (opOf ws) xs i h′ (take (i * 8) xs ++ (p′ ++ drop (i * 8 + 8 - i * 8) (drop (i * 8) xs)))
   kept-one ws w xs i room h′ p′ n q =
       let d = doWords (stateOf h) (opOf ws) in
-      let is : h′ ≡ over h (d .state) = ap (λ (g : Gave). g .host) q in
-      record { host = is; answers = put-back xs (answerWords (d .answer)) (i * 8) room p′ (ap (λ (g : Gave). g .answer) q) refl; sound = ap tested is ∙ passes-again ws w }
+      let is : h′ ≡ overwritten h (d .state) = ap (λ (g : Gave). g .host) q in
+      record { host = is; answers = put-back xs (answerWords (d .answer)) (i * 8) room p′ (ap (λ (g : Gave). g .answer) q) refl; sound = ap passesTest is ∙ passes-again ws w }
 
   -- .. that was done on the words
   pub switch-one : (o : Op) → typed o ≡ true → each isWord (opWords o) ≡ true → (xs xs′ : List ℕ) (i : ℕ) (h′ : Host)
@@ -96,9 +96,9 @@ module _ (h : Host) (e : tested h ≡ true) where
   switch-one o t w xs xs′ i h′ q put =
       let d = doWords (stateOf h) (opOf (opWords o)) in
       let r : gave h′ (splice blank 0 (answerWords goesOn)) 0 ≡ keptIn h (opOf (opWords o)) blank = q ∙ ap (λ (z : Read). keptIn h z blank) (sym (read-back o t)) in
-      let is : h′ ≡ over h (d .state) = ap (λ (g : Gave). g .host) r in
+      let is : h′ ≡ overwritten h (d .state) = ap (λ (g : Gave). g .host) r in
       let said : answerWords goesOn ≡ answerWords (d .answer) = ap (λ (g : Gave). take 8 (g .answer)) r in
-      record { host = is; answers = put ∙ ap (putChunk 8 xs i) said; sound = ap tested is ∙ passes-again (opWords o) w }
+      record { host = is; answers = put ∙ ap (putChunk 8 xs i) said; sound = ap passesTest is ∙ passes-again (opWords o) w }
 
   -- .. that is none
   pub no-one : (xs xs′ : List ℕ) (i : ℕ) (r : Read) → Read.Not Gate.Operand ≡ r → xs′ ≡ putChunk 8 xs i (answerWords (Answer.Refused Fault.BadOperand)) → One h r xs i h xs′

@@ -8,11 +8,11 @@ use Rattle.lists.specs.Chunks.{putChunk}
 use Rattle.memory_calls.specs.Answer.{answerWords}
 use Rattle.memory_calls.specs.declared.call.Read.{Read}
 use Rattle.outer_run.specs.Run.{doWords, countOf, Listed}
-use Rattle.linked_calls.specs.Host.{Host, stateOf, tested, over}
+use Rattle.linked_calls.specs.Host.{Host, stateOf, passesTest, overwritten}
 use Rattle.linked_batch.specs.declared.one.Way.{Way}
 
 pub record PutFits (h : Host) (xs : List ℕ) (i : ℕ) : Type 0 where
-  pub sound : tested h ≡ true
+  pub sound : passesTest h ≡ true
   pub room : i * 8 + 8 ≤ length xs
 
 -- a switch, with a pc of 32 bits
@@ -32,16 +32,16 @@ pub record OneFits (h : Host) (cs xs : List ℕ) (i : ℕ) : Type 0 where
 
 -- what `bvm_call_unchecked` leaves (boundary: keptIn), with the answer at its place; the machine is sound again
 pub record One (h : Host) (r : Read) (xs : List ℕ) (i : ℕ) (h′ : Host) (xs′ : List ℕ) : Type 0 where
-  pub host : h′ ≡ over h (doWords (stateOf h) r .state)
+  pub host : h′ ≡ overwritten h (doWords (stateOf h) r .state)
   pub answers : xs′ ≡ putChunk 8 xs i (answerWords (doWords (stateOf h) r .answer))
-  pub sound : tested h′ ≡ true
+  pub sound : passesTest h′ ≡ true
 
 -- as many calls as the words hold, and words enough for their answers
 pub record BatchFits (h : Host) (cs xs : List ℕ) (n : ℕ) : Type 0 where
-  pub sound : tested h ≡ true
+  pub sound : passesTest h ≡ true
   pub calls : n ≡ countOf (length cs)
   pub room : n * 8 ≤ length xs
 
 pub record Done (h : Host) (cs xs : List ℕ) (n : ℕ) (h′ : Host) (xs′ : List ℕ) : Type 0 where
   pub listed : Listed (stateOf h) cs xs n (stateOf h′) xs′
-  pub written : h′ ≡ over h (stateOf h′)
+  pub written : h′ ≡ overwritten h (stateOf h′)

@@ -22,11 +22,11 @@ use Rattle.memory_world.specs.Words.{sizesOf}
 use Rattle.memory_world.specs.Decode.{setupOf}
 use Rattle.memory_calls.specs.Answer.{answerWords}
 use Rattle.memory_calls.specs.declared.call.Read.{Read}
-use Rattle.memory_step.specs.Step.{State, Left, isSound}
+use Rattle.memory_step.specs.Step.{MemoryState, Left, isSound}
 use Rattle.outer_call.specs.State.{state, gives, SoundFits}
 use Rattle.outer_run.specs.Run.{doWords, Reads}
 use Rattle.linked_calls.specs.Words.{machineIn, machineWords, sizesIn, fuelIn, fuelWords}
-use Rattle.linked_calls.specs.Host.{numbersOk, sameCosts, sameSizes, sizesHeld, Host, host, stateOf, tested, Gave, gave, tells, over, keptIn, doIn, short, callIn}
+use Rattle.linked_calls.specs.Host.{numbersOk, sameCosts, sameSizes, sizesHeld, Host, host, stateOf, passesTest, Gave, gave, tells, overwritten, keptIn, doIn, short, callIn}
 
 -- sizes that are the same
 and-same : (p : Bool) (x y : ℕ) → (p && eqb x y) ≡ true → (p ≡ true) × (x ≡ y)
@@ -79,16 +79,16 @@ module _ (ms fs : List ℕ) where
 -- ---- the test
 
 module _ (h : Host) where
-  pub fails-numbers : numbersOk (h .machine) (h .fuel) ≡ false → false ≡ tested h
-  unfolding tested
+  pub fails-numbers : numbersOk (h .machine) (h .fuel) ≡ false → false ≡ passesTest h
+  unfolding passesTest
   fails-numbers e = sym (ap (λ a. a && isSound (stateOf h) && sizesHeld (h .machine) (h .words .setup)) e)
 
-  pub fails-sound : numbersOk (h .machine) (h .fuel) ≡ true → isSound (stateOf h) ≡ false → false ≡ tested h
-  unfolding tested
+  pub fails-sound : numbersOk (h .machine) (h .fuel) ≡ true → isSound (stateOf h) ≡ false → false ≡ passesTest h
+  unfolding passesTest
   fails-sound e k = sym (ap₂ (λ a b. a && b && sizesHeld (h .machine) (h .words .setup)) e k)
 
-  pub all-tested : numbersOk (h .machine) (h .fuel) ≡ true → isSound (stateOf h) ≡ true → sizesHeld (h .machine) (h .words .setup) ≡ tested h
-  unfolding tested
+  pub all-tested : numbersOk (h .machine) (h .fuel) ≡ true → isSound (stateOf h) ≡ true → sizesHeld (h .machine) (h .words .setup) ≡ passesTest h
+  unfolding passesTest
   all-tested e k = sym (ap₂ (λ a b. a && b && sizesHeld (h .machine) (h .words .setup)) e k)
 
   -- of what was read
@@ -97,7 +97,7 @@ module _ (h : Host) where
 
 -- ---- a machine that passes
 
-module _ (h : Host) (e : tested h ≡ true) where
+module _ (h : Host) (e : passesTest h ≡ true) where
   abbrev nums : Bool
   nums = numbersOk (h .machine) (h .fuel)
 
@@ -105,15 +105,15 @@ module _ (h : Host) (e : tested h ≡ true) where
   held = sizesHeld (h .machine) (h .words .setup)
 
   pub numbers : nums ≡ true
-  unfolding tested
+  unfolding passesTest
   numbers = and-left nums (isSound (stateOf h)) (and-left (nums && isSound (stateOf h)) held e)
 
   pub sound : isSound (stateOf h) ≡ true
-  unfolding tested
+  unfolding passesTest
   sound = and-right nums (isSound (stateOf h)) (and-left (nums && isSound (stateOf h)) held e)
 
   pub sizes : sizesIn (h .machine) ≡ sizesOf (setupOf (h .words .setup))
-  unfolding tested
+  unfolding passesTest
   sizes = sizes-same _ _ (and-right (nums && isSound (stateOf h)) held e)
 
   -- what is read from its words may be called
@@ -128,7 +128,7 @@ pub left-in : (h : Host) (r : Read) (xs : List ℕ) (m : Machine) (f : Fuel) (k 
 left-in h r xs m f k M′ d ms′ fs′ xs′ n a b c did e₁ e₂ e₃ e₄ =
     let q : gives M′ d ≡ doWords (stateOf h) r = did .is ∙ (λ i. doWords (state (h .words) (a i) (b i)) (c i)) in
     (λ i. gave (host M′ (e₁ i) (e₂ i)) (e₃ i) (e₄ i))
-    ∙ (λ i. tells (over h (q i .state)) (q i .answer) xs)
+    ∙ (λ i. tells (overwritten h (q i .state)) (q i .answer) xs)
 
 -- ---- by the test
 
@@ -139,11 +139,11 @@ module _ (h : Host) (r : Read) (xs : List ℕ) (g : Gave) where
   pub refused : (ok : Bool) → ok ≡ false → g ≡ tells h (Answer.Refused Fault.Unsound) xs → g ≡ doIn ok h r xs
   refused ok e q = q ∙ sym (ap (λ b. doIn b h r xs) e ∙ pick-false _ _)
 
-  pub called : 8 ≤ length xs → (ok : Bool) → ok ≡ tested h → g ≡ doIn ok h r xs → g ≡ callIn h r xs
+  pub called : 8 ≤ length xs → (ok : Bool) → ok ≡ passesTest h → g ≡ doIn ok h r xs → g ≡ callIn h r xs
   unfolding callIn
   called w ok e q =
-      q ∙ ap (λ b. doIn b h r xs) e ∙ sym (ap (λ b. pick b (doIn (tested h) h r xs) (gave h xs (short (tested h)))) (le-leb 8 (length xs) w) ∙ pick-true _ _)
+      q ∙ ap (λ b. doIn b h r xs) e ∙ sym (ap (λ b. pick b (doIn (passesTest h) h r xs) (gave h xs (short (passesTest h)))) (le-leb 8 (length xs) w) ∙ pick-true _ _)
 
-  pub too-short : length xs < 8 → g ≡ gave h xs (short (tested h)) → g ≡ callIn h r xs
+  pub too-short : length xs < 8 → g ≡ gave h xs (short (passesTest h)) → g ≡ callIn h r xs
   unfolding callIn
-  too-short w q = q ∙ sym (ap (λ b. pick b (doIn (tested h) h r xs) (gave h xs (short (tested h)))) (lt-leb 8 (length xs) w) ∙ pick-false _ _)
+  too-short w q = q ∙ sym (ap (λ b. pick b (doIn (passesTest h) h r xs) (gave h xs (short (passesTest h)))) (lt-leb 8 (length xs) w) ∙ pick-false _ _)

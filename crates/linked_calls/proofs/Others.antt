@@ -30,7 +30,7 @@ use Rattle.machine_added.specs.declared.look.Span.{Span}
 use Rattle.machine_added.specs.declared.fuel.GrantDid.{GrantDid}
 use Rattle.memory_calls.specs.Answer.{answerWords}
 use Rattle.memory_calls.specs.declared.call.Read.{Read}
-use Rattle.memory_step.specs.Step.{State, Left, refuses, isSound, decoded, looked, stepWords, setUpOk, setUpWords}
+use Rattle.memory_step.specs.Step.{MemoryState, Left, refuses, isSound, decoded, looked, stepWords, setUpOk, setUpWords}
 use Rattle.outer_call.specs.State.{state, gives}
 use Rattle.outer_call.specs.SetUp.{begins}
 use Rattle.outer_call.specs.Grant.{grantWords}
@@ -41,7 +41,7 @@ use Rattle.outer_call.proofs.Begun.{given-fits, is-held, accepts, refuses-it}
 use Rattle.outer_run.specs.Run.{runWords, countOf, callsIn, written, refusals, Listed}
 use Rattle.outer_run.proofs.Written.{few}
 use Rattle.linked_calls.specs.Words.{machineIn, machineWords, sizesWords, fuelIn, fuelWords}
-use Rattle.linked_calls.specs.Host.{Host, host, stateOf, tested, Gave, gave, tells, over, keptIn, doIn, short, callIn, Granted, Looked, saw, lookIn, Spans, freshIn, beginIn, long, LongAs, setUpIn, runHost}
+use Rattle.linked_calls.specs.Host.{Host, host, stateOf, passesTest, Gave, gave, tells, overwritten, keptIn, doIn, short, callIn, Granted, Looked, saw, lookIn, Spans, freshIn, beginIn, long, LongAs, setUpIn, runHost}
 use Rattle.linked_calls.proofs.Hosts.{sound, done, refused, called, too-short}
 
 -- ---- a grant
@@ -54,11 +54,11 @@ module _ (h : Host) (n : ℕ) (xs : List ℕ) where
   abbrev read : Read
   read = Read.Is (Op.Grant n)
 
-  pub grant-short : length xs < 8 → (ok : Bool) → ok ≡ tested h → (r : ℕ) → r ≡ short ok → Granted h n xs (h .fuel) xs r
+  pub grant-short : length xs < 8 → (ok : Bool) → ok ≡ passesTest h → (r : ℕ) → r ≡ short ok → Granted h n xs (h .fuel) xs r
   grant-short w ok known r e =
-      let g = gave h xs (short (tested h)) in granted-by h n xs g (too-short h read xs g w refl) (h .fuel) xs r refl refl (e ∙ ap short known)
+      let g = gave h xs (short (passesTest h)) in granted-by h n xs g (too-short h read xs g w refl) (h .fuel) xs r refl refl (e ∙ ap short known)
 
-  module _ (room : 8 ≤ length xs) (ok : Bool) (known : ok ≡ tested h) where
+  module _ (room : 8 ≤ length xs) (ok : Bool) (known : ok ≡ passesTest h) where
     pub grant-refused : ok ≡ false → (xs′ : List ℕ) (r : ℕ) → xs′ ≡ splice xs 0 (answerWords (Answer.Refused Fault.Unsound)) → r ≡ numberOf (Answer.Refused Fault.Unsound) → Granted h n xs (h .fuel) xs′ r
     grant-refused e xs′ r a b =
         let g = tells h (Answer.Refused Fault.Unsound) xs in
@@ -87,17 +87,17 @@ module _ (h : Host) (zs : List ℕ) where
   tried b = pick b (saw (splice zs 0 top) 0) (saw (splice zs 0 (0 ∷ 0 ∷ [])) 11)
 
   abbrev cut : Looked
-  cut = saw zs (short (tested h))
+  cut = saw zs (short (passesTest h))
 
-  pub look-short : length zs < 2 → (ok : Bool) → ok ≡ tested h → (r : ℕ) → r ≡ short ok → saw zs r ≡ lookIn h zs
+  pub look-short : length zs < 2 → (ok : Bool) → ok ≡ passesTest h → (r : ℕ) → r ≡ short ok → saw zs r ≡ lookIn h zs
   unfolding lookIn
-  look-short e ok known r q = ap (saw zs) (q ∙ ap short known) ∙ sym (ap (λ b. pick b (tried (tested h)) cut) (lt-leb 2 (length zs) e) ∙ pick-false _ _)
+  look-short e ok known r q = ap (saw zs) (q ∙ ap short known) ∙ sym (ap (λ b. pick b (tried (passesTest h)) cut) (lt-leb 2 (length zs) e) ∙ pick-false _ _)
 
-  look-long : 2 ≤ length zs → tried (tested h) ≡ lookIn h zs
+  look-long : 2 ≤ length zs → tried (passesTest h) ≡ lookIn h zs
   unfolding lookIn
-  look-long e = sym (ap (λ b. pick b (tried (tested h)) cut) (le-leb 2 (length zs) e) ∙ pick-true _ _)
+  look-long e = sym (ap (λ b. pick b (tried (passesTest h)) cut) (le-leb 2 (length zs) e) ∙ pick-true _ _)
 
-  module _ (room : 2 ≤ length zs) (ok : Bool) (known : ok ≡ tested h) where
+  module _ (room : 2 ≤ length zs) (ok : Bool) (known : ok ≡ passesTest h) where
     stored : (a b : ℕ) → set (set zs 0 a) 1 b ≡ splice zs 0 (a ∷ b ∷ [])
     stored a b = sets-splice zs (a ∷ b ∷ []) 0 room
 
@@ -112,8 +112,8 @@ module _ (h : Host) (zs : List ℕ) where
     not-looked e = ap (λ (z : List ℕ). saw z 11) (stored 0 0) ∙ sym (ap tried (sym known ∙ e) ∙ pick-false _ _) ∙ look-long room
 
 -- of a part that is what a look hands back, by its length
-module _ (h : Host) (e : tested h ≡ true) (m : Machine) (f : Fuel) (is : m ≡ machineIn (h .machine)) (fuelled : f ≡ fuelIn (h .fuel)) where
-  abbrev at : State
+module _ (h : Host) (e : passesTest h ≡ true) (m : Machine) (f : Fuel) (is : m ≡ machineIn (h .machine)) (fuelled : f ≡ fuelIn (h .fuel)) where
+  abbrev at : MemoryState
   at = stateOf h
 
   look-sound : isSound (state (h .words) m f) ≡ true
@@ -259,31 +259,31 @@ module _ (h : Host) (cs xs : List ℕ) where
   n = countOf (length cs)
 
   abbrev ran : Bool → Gave
-  ran t = let u = runWords (stateOf h) (callsIn n cs) in pick t (gave (over h (u .state)) (written xs 0 (u .answers)) 0) (gave h (written xs 0 (refusals n)) 11)
+  ran t = let u = runWords (stateOf h) (callsIn n cs) in pick t (gave (overwritten h (u .state)) (written xs 0 (u .answers)) 0) (gave h (written xs 0 (refusals n)) 11)
 
   abbrev not-ran : Gave
-  not-ran = gave h xs (short (tested h))
+  not-ran = gave h xs (short (passesTest h))
 
-  pub run-short : (k : ℕ) → k ≡ n → length xs / 8 < k → (ok : Bool) → ok ≡ tested h → (r : ℕ) → r ≡ short ok → gave h xs r ≡ runHost h cs xs
+  pub run-short : (k : ℕ) → k ≡ n → length xs / 8 < k → (ok : Bool) → ok ≡ passesTest h → (r : ℕ) → r ≡ short ok → gave h xs r ≡ runHost h cs xs
   unfolding runHost
   run-short k e w ok known r q =
       ap (gave h xs) (q ∙ ap short known)
-      ∙ sym (ap (λ t. pick t (ran (tested h)) not-ran) (sym (ap (λ z. leb (z * 8) (length xs)) e) ∙ few (length xs) k w) ∙ pick-false _ _)
+      ∙ sym (ap (λ t. pick t (ran (passesTest h)) not-ran) (sym (ap (λ z. leb (z * 8) (length xs)) e) ∙ few (length xs) k w) ∙ pick-false _ _)
 
-  room-for : (k : ℕ) → k ≡ n → k * 8 ≤ length xs → ran (tested h) ≡ runHost h cs xs
+  room-for : (k : ℕ) → k ≡ n → k * 8 ≤ length xs → ran (passesTest h) ≡ runHost h cs xs
   unfolding runHost
-  room-for k e w = sym (ap (λ t. pick t (ran (tested h)) not-ran) (sym (ap (λ z. leb (z * 8) (length xs)) e) ∙ le-leb (k * 8) (length xs) w) ∙ pick-true _ _)
+  room-for k e w = sym (ap (λ t. pick t (ran (passesTest h)) not-ran) (sym (ap (λ z. leb (z * 8) (length xs)) e) ∙ le-leb (k * 8) (length xs) w) ∙ pick-true _ _)
 
-  module _ (k : ℕ) (e : k ≡ n) (w : k * 8 ≤ length xs) (ok : Bool) (known : ok ≡ tested h) where
+  module _ (k : ℕ) (e : k ≡ n) (w : k * 8 ≤ length xs) (ok : Bool) (known : ok ≡ passesTest h) where
     pub run-refused : ok ≡ false → (xs′ : List ℕ) → xs′ ≡ written xs 0 (refusals k) → gave h xs′ 11 ≡ runHost h cs xs
     run-refused z xs′ p = ap (λ (y : List ℕ). gave h y 11) (p ∙ ap (λ j. written xs 0 (refusals j)) e) ∙ sym (ap ran (sym known ∙ z) ∙ pick-false _ _) ∙ room-for k e w
 
-    pub run-done : ok ≡ true → (s s′ : State) → s ≡ stateOf h → (ms′ fs′ xs′ : List ℕ) → Listed s cs xs k s′ xs′
+    pub run-done : ok ≡ true → (s s′ : MemoryState) → s ≡ stateOf h → (ms′ fs′ xs′ : List ℕ) → Listed s cs xs k s′ xs′
         → ms′ ≡ splice (h .machine) 0 (machineWords (s′ .machine)) → fs′ ≡ splice (h .fuel) 0 (fuelWords (s′ .fuel)) → gave (host (s′ .words) ms′ fs′) xs′ 0 ≡ runHost h cs xs
     run-done z s s′ is ms′ fs′ xs′ did p q =
-        let d = subst (λ j. Listed (stateOf h) cs xs j s′ xs′) e (subst (λ (y : State). Listed y cs xs k s′ xs′) is did) in
+        let d = subst (λ j. Listed (stateOf h) cs xs j s′ xs′) e (subst (λ (y : MemoryState). Listed y cs xs k s′ xs′) is did) in
         let u = d .state in
         let v = d .answers in
         (λ i. gave (host (s′ .words) (p i) (q i)) xs′ 0)
-        ∙ (λ i. gave (over h (u i)) (v i) 0)
+        ∙ (λ i. gave (overwritten h (u i)) (v i) 0)
         ∙ sym (ap ran (sym known ∙ z) ∙ pick-true _ _) ∙ room-for k e w

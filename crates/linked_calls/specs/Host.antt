@@ -22,7 +22,7 @@ use Rattle.memory_calls.specs.Answer.{answerWords}
 use Rattle.memory_calls.specs.declared.call.Read.{Read}
 use Rattle.machine_added.specs.Look.{endOn}
 use Rattle.machine_added.specs.declared.look.Span.{Span}
-use Rattle.memory_step.specs.Step.{State, isSound, decoded, setUpOk, setUpWords}
+use Rattle.memory_step.specs.Step.{MemoryState, isSound, decoded, setUpOk, setUpWords}
 use Rattle.outer_call.specs.State.{state}
 use Rattle.outer_run.specs.Run.{doWords, runWords, countOf, callsIn, written, refusals}
 use Rattle.linked_calls.specs.Words.{machineIn, machineWords, sizesIn, sizesWords, fuelIn, fuelWords}
@@ -36,7 +36,7 @@ abbrev pub host : Lent → List ℕ → List ℕ → Host
 host M ms fs = record { words = M; machine = ms; fuel = fs }
 
 -- what the words tell
-abbrev pub stateOf : Host → State
+abbrev pub stateOf : Host → MemoryState
 stateOf h = state (h .words) (machineIn (h .machine)) (fuelIn (h .fuel))
 
 -- ---- sound: words enough; a flag is 0 or 1, and an amount is set aside only where there is a bank
@@ -60,8 +60,8 @@ sameSizes a b =
 abbrev pub sizesHeld : List ℕ → List ℕ → Bool
 sizesHeld ms us = sameSizes (sizesIn ms) (sizesOf (setupOf us))
 
-unfoldable pub tested : Host → Bool
-tested h = numbersOk (h .machine) (h .fuel) && isSound (stateOf h) && sizesHeld (h .machine) (h .words .setup)
+unfoldable pub passesTest : Host → Bool
+passesTest h = numbersOk (h .machine) (h .fuel) && isSound (stateOf h) && sizesHeld (h .machine) (h .words .setup)
 
 abbrev pub oneOr : Bool → ℕ
 oneOr b = pick b 1 0
@@ -80,12 +80,12 @@ abbrev pub tells : Host → Answer → List ℕ → Gave
 tells h a xs = gave h (splice xs 0 (answerWords a)) (numberOf a)
 
 -- numbers and fuel are written over their words
-abbrev pub over : Host → State → Host
-over h s = host (s .words) (splice (h .machine) 0 (machineWords (s .machine))) (splice (h .fuel) 0 (fuelWords (s .fuel)))
+abbrev pub overwritten : Host → MemoryState → Host
+overwritten h s = host (s .words) (splice (h .machine) 0 (machineWords (s .machine))) (splice (h .fuel) 0 (fuelWords (s .fuel)))
 
 -- a call in words, on a sound machine
 abbrev pub keptIn : Host → Read → List ℕ → Gave
-keptIn h r xs = let d = doWords (stateOf h) r in tells (over h (d .state)) (d .answer) xs
+keptIn h r xs = let d = doWords (stateOf h) r in tells (overwritten h (d .state)) (d .answer) xs
 
 -- everything as found, and 11
 abbrev pub doIn : Bool → Host → Read → List ℕ → Gave
@@ -96,7 +96,7 @@ abbrev pub short : Bool → ℕ
 short ok = pick ok 14 11
 
 unfoldable pub callIn : Host → Read → List ℕ → Gave
-callIn h r xs = pick (leb 8 (length xs)) (doIn (tested h) h r xs) (gave h xs (short (tested h)))
+callIn h r xs = pick (leb 8 (length xs)) (doIn (passesTest h) h r xs) (gave h xs (short (passesTest h)))
 
 -- ---- a grant: the call, of which the fuel's words and the answer are written
 
@@ -118,8 +118,8 @@ unfoldable pub lookIn : Host → List ℕ → Looked
 lookIn h zs =
     let w = decoded (stateOf h) in
     pick (leb 2 (length zs))
-    (pick (tested h) (saw (splice zs 0 (topBase (w .frames) ∷ endOn (w .frames) (w .stack) ∷ [])) 0) (saw (splice zs 0 (0 ∷ 0 ∷ [])) 11))
-    (saw zs (short (tested h)))
+    (pick (passesTest h) (saw (splice zs 0 (topBase (w .frames) ∷ endOn (w .frames) (w .stack) ∷ [])) 0) (saw (splice zs 0 (0 ∷ 0 ∷ [])) 11))
+    (saw zs (short (passesTest h)))
 
 -- ---- a set-up, which does not test what was there
 
@@ -149,8 +149,8 @@ runHost h cs xs =
     let n = countOf (length cs) in
     let t = runWords (stateOf h) (callsIn n cs) in
     pick (leb (n * 8) (length xs))
-    (pick (tested h) (gave (over h (t .state)) (written xs 0 (t .answers)) 0) (gave h (written xs 0 (refusals n)) 11))
-    (gave h xs (short (tested h)))
+    (pick (passesTest h) (gave (overwritten h (t .state)) (written xs 0 (t .answers)) 0) (gave h (written xs 0 (refusals n)) 11))
+    (gave h xs (short (passesTest h)))
 
 -- ---- what the functions ask
 
@@ -159,11 +159,11 @@ pub record HoldFits (ms us : List ℕ) : Type 0 where
   pub setup : SetupFits us
 
 pub record DoFits (ok : Bool) (h : Host) (xs : List ℕ) : Type 0 where
-  pub known : ok ≡ tested h
+  pub known : ok ≡ passesTest h
   pub room : 8 ≤ length xs
 
 pub record KeptFits (h : Host) (xs : List ℕ) : Type 0 where
-  pub sound : tested h ≡ true
+  pub sound : passesTest h ≡ true
   pub room : 8 ≤ length xs
 
 -- where the top frame's registers begin and end

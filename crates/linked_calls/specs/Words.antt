@@ -35,9 +35,9 @@ machineIn ws =
 -- ---- the sizes: five limits, the words of a row, six costs
 
 abbrev pub sizesWords : Sizes → List ℕ
-sizesWords l =
-    l .depth ∷ l .stack ∷ l .rows ∷ l .slots ∷ l .memory ∷ l .width
-    ∷ l .costs .frame ∷ l .costs .coro ∷ l .costs .object ∷ l .costs .int ∷ l .costs .error ∷ l .costs .iter ∷ []
+sizesWords sizes =
+    sizes .depth ∷ sizes .stack ∷ sizes .rows ∷ sizes .slots ∷ sizes .memory ∷ sizes .width
+    ∷ sizes .costs .frame ∷ sizes .costs .coro ∷ sizes .costs .object ∷ sizes .costs .int ∷ sizes .costs .error ∷ sizes .costs .iter ∷ []
 
 abbrev pub sizesIn : List ℕ → Sizes
 sizesIn ws =

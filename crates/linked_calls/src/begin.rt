@@ -33,17 +33,17 @@ use memory_world::machine::Sizes;
 use model::call::Answer;
 
 // The sizes after the numbers.
-fn put_sizes(ws: &mut [u64], l: Sizes)
+fn put_sizes(ws: &mut [u64], sizes: Sizes)
     requires { ⌜ 25 ≤ length (now ws) ⌝ }
-    ensures { λ _. ⌜ now (ws .exit) ≡ splice (now (ws .entry)) 13 (sizesWords l) ⌝ }
+    ensures { λ _. ⌜ now (ws .exit) ≡ splice (now (ws .entry)) 13 (sizesWords sizes) ⌝ }
 {
-    let c = l.costs;
-    ws[DEPTH_LIMIT] = l.depth as u64;
-    ws[STACK_LIMIT] = l.stack as u64;
-    ws[ROWS] = l.rows as u64;
-    ws[SLOTS] = l.slots as u64;
-    ws[MEMORY] = l.memory;
-    ws[ROW_WIDTH] = l.width as u64;
+    let c = sizes.costs;
+    ws[DEPTH_LIMIT] = sizes.depth as u64;
+    ws[STACK_LIMIT] = sizes.stack as u64;
+    ws[ROWS] = sizes.rows as u64;
+    ws[SLOTS] = sizes.slots as u64;
+    ws[MEMORY] = sizes.memory;
+    ws[ROW_WIDTH] = sizes.width as u64;
     ws[FRAME_COST] = c.frame;
     ws[CORO_COST] = c.coro;
     ws[OBJECT_COST] = c.object;
@@ -96,9 +96,9 @@ fn begin(
     if n != 0 {
         return n;
     }
-    let l = memory_world::sizes::sizes(given);
+    let sizes = memory_world::sizes::sizes(given);
     put_machine(machine, k);
-    put_sizes(machine, l);
+    put_sizes(machine, sizes);
     put_fuel(fuel, left);
     n
 }

@@ -8,7 +8,7 @@ ghost use Rattle.memory_world.specs.Contract.{atEntry, atExit};
 ghost use Rattle.memory_calls.specs.Call.{opOf};
 ghost use Rattle.memory_calls.specs.Answer.{answerWords};
 ghost use Rattle.outer_call.specs.State.{nine};
-ghost use Rattle.linked_calls.specs.Host.{host, gave, tested, doIn, callIn, DoFits, KeptFits, keptIn};
+ghost use Rattle.linked_calls.specs.Host.{host, gave, passesTest, doIn, callIn, DoFits, KeptFits, keptIn};
 use crate::numbers::fuel_of;
 use crate::numbers::machine_of;
 use crate::numbers::put_fuel;
@@ -56,7 +56,7 @@ fn do_call(
         return tell(answer, Answer::Refused(Fault::Unsound));
     }
     let m = machine_of(machine);
-    let l = sizes_of(machine);
+    let sizes = sizes_of(machine);
     let f = fuel_of(fuel);
     let read = op_of(call);
     let did = outer_run::one::do_read(
@@ -70,7 +70,7 @@ fn do_call(
         finalize,
         setup,
         m,
-        l,
+        sizes,
         f,
         read,
     );

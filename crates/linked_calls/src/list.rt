@@ -2,7 +2,7 @@
 ghost use mathlib.Core.Path.{_≡_};
 ghost use Rattle.memory_world.specs.Contract.{atEntry, atExit};
 ghost use Rattle.outer_call.specs.State.{nine};
-ghost use Rattle.linked_calls.specs.Host.{host, gave, tested, runHost};
+ghost use Rattle.linked_calls.specs.Host.{host, gave, passesTest, runHost};
 use crate::numbers::fuel_of;
 use crate::numbers::machine_of;
 use crate::numbers::put_fuel;
@@ -31,7 +31,7 @@ fn do_run(
     calls: &[u64],
     answers: &mut [u64],
 ) -> u64
-    requires { ⌜ ok ≡ tested (host (nine stack frames chain slots «saved_stack» «saved_frames» ready finalize setup now) (now machine) (now fuel)) ⌝ }
+    requires { ⌜ ok ≡ passesTest (host (nine stack frames chain slots «saved_stack» «saved_frames» ready finalize setup now) (now machine) (now fuel)) ⌝ }
     ensures { λ r. ⌜ gave (host (nine stack frames chain slots «saved_stack» «saved_frames» ready finalize setup atExit) (atExit machine)
         (atExit fuel)) (atExit answers) r ≡ runHost (host (nine stack frames chain slots «saved_stack» «saved_frames» ready finalize setup atEntry)
         (atEntry machine) (atEntry fuel)) (now (calls .entry)) (atEntry answers) ⌝ }
@@ -45,7 +45,7 @@ fn do_run(
         return 11;
     }
     let m = machine_of(machine);
-    let l = sizes_of(machine);
+    let sizes = sizes_of(machine);
     let f = fuel_of(fuel);
     let did = run_list(
         stack,
@@ -58,7 +58,7 @@ fn do_run(
         finalize,
         setup,
         m,
-        l,
+        sizes,
         f,
         calls,
         answers,

@@ -3,7 +3,7 @@ ghost use mathlib.Core.Path.{_≡_};
 ghost use mathlib.Core.Bool.{true};
 ghost use Rattle.memory_world.specs.Contract.{atEntry, atExit};
 ghost use Rattle.outer_call.specs.State.{nine};
-ghost use Rattle.linked_calls.specs.Host.{host, tested, Spans, lookIn, saw};
+ghost use Rattle.linked_calls.specs.Host.{host, passesTest, Spans, lookIn, saw};
 use crate::numbers::fuel_of;
 use crate::numbers::machine_of;
 use crate::tested::short;
@@ -24,7 +24,7 @@ fn span_in(
     machine: &[u64],
     fuel: &[u64],
 ) -> Span
-    requires { ⌜ tested (host (nine stack frames chain slots «saved_stack» «saved_frames» ready finalize setup now) (now machine) (now fuel)) ≡ true ⌝ }
+    requires { ⌜ passesTest (host (nine stack frames chain slots «saved_stack» «saved_frames» ready finalize setup now) (now machine) (now fuel)) ≡ true ⌝ }
     ensures { λ r. ⌜ Spans (host (nine stack frames chain slots «saved_stack» «saved_frames» ready finalize setup atEntry) (atEntry machine) (atEntry fuel)) r ⌝ }
 {
     let m = machine_of(machine);

@@ -128,7 +128,7 @@ pub(crate) fn put_machine(ws: &mut [u64], m: Machine)
 // The sizes after them.
 pub(crate) fn sizes_of(ws: &[u64]) -> Sizes
     requires { ⌜ 25 ≤ length (now ws) ⌝ }
-    ensures { λ l. ⌜ l ≡ sizesIn (now (ws .entry)) ⌝ }
+    ensures { λ sizes. ⌜ sizes ≡ sizesIn (now (ws .entry)) ⌝ }
 {
     let costs = Costs {
         frame: ws[FRAME_COST],

@@ -5,7 +5,7 @@ ghost use lib.ListN.{length};
 ghost use Rattle.memory_world.specs.Contract.{atEntry};
 ghost use Rattle.outer_call.specs.State.{nine};
 ghost use Rattle.linked_calls.specs.Words.{sizesIn};
-ghost use Rattle.linked_calls.specs.Host.{numbersOk, sameCosts, sameSizes, host, tested, HoldFits, sizesHeld, oneOr, short};
+ghost use Rattle.linked_calls.specs.Host.{numbersOk, sameCosts, sameSizes, host, passesTest, HoldFits, sizesHeld, oneOr, short};
 use crate::numbers::BANK;
 use crate::numbers::BANKED;
 use crate::numbers::CLEANUPS;
@@ -88,7 +88,7 @@ pub(crate) fn tested(
     machine: &[u64],
     fuel: &[u64],
 ) -> bool
-    ensures { λ r. ⌜ r ≡ tested (host (nine stack frames chain slots «saved_stack» «saved_frames» ready finalize setup atEntry) (atEntry machine) (atEntry fuel)) ⌝ }
+    ensures { λ r. ⌜ r ≡ passesTest (host (nine stack frames chain slots «saved_stack» «saved_frames» ready finalize setup atEntry) (atEntry machine) (atEntry fuel)) ⌝ }
 {
     if !numbers_ok(machine, fuel) {
         return false;
@@ -138,7 +138,7 @@ pub extern "C" fn bvm_sound(
     machine: &[u64],
     fuel: &[u64],
 ) -> u64
-    ensures { λ r. ⌜ r ≡ oneOr (tested (host (nine stack frames chain slots «saved_stack» «saved_frames» ready finalize setup atEntry) (atEntry machine) (atEntry fuel))) ⌝ }
+    ensures { λ r. ⌜ r ≡ oneOr (passesTest (host (nine stack frames chain slots «saved_stack» «saved_frames» ready finalize setup atEntry) (atEntry machine) (atEntry fuel))) ⌝ }
 {
     if tested(
         stack,

@@ -25,7 +25,7 @@ use Rattle.memory_step.specs.Step.{Left, left, stepWords}
 use Rattle.outer_call.specs.State.{state}
 use Rattle.outer_call.proofs.Stepping.{may-call, stepped}
 use Rattle.linked_calls.specs.Words.{machineIn, machineWords, sizesIn, bankOf, bankWords, fuelIn, fuelWords}
-use Rattle.linked_calls.specs.Host.{Host, host, stateOf, tested, gave, tells, over, keptIn}
+use Rattle.linked_calls.specs.Host.{Host, host, stateOf, passesTest, gave, tells, overwritten, keptIn}
 use Rattle.linked_calls.proofs.Hosts as Tested
 use Rattle.linked_switch.specs.Words.{Numbers, Fuelled}
 use Rattle.linked_switch.specs.Went.{Holds, goesOn, Went}
@@ -86,7 +86,7 @@ tells-fuel ws h₀ =
 
 -- ---- a machine that passes the test
 
-module _ (h : Host) (e : tested h ≡ true) where
+module _ (h : Host) (e : passesTest h ≡ true) where
   abbrev ms : List ℕ
   ms = h .machine
 
@@ -170,4 +170,4 @@ module _ (h : Host) (e : tested h ≡ true) where
         stepped (h .words) left-words m (machineIn ms′) f (fuelIn fs′) (sizesIn ms) o goesOn (record { sound = Tested.sound h e; sizes = Tested.sizes h e }) same met in
         let p = w .numbers in
         let q = w .fuel in
-        (λ i. gave (host left-words (p i) (q i)) (told i) 0) ∙ ap (λ (x : Left). tells (over h (x .state)) (x .answer) xs) d
+        (λ i. gave (host left-words (p i) (q i)) (told i) 0) ∙ ap (λ (x : Left). tells (overwritten h (x .state)) (x .answer) xs) d

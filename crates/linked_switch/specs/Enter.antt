@@ -32,9 +32,9 @@ pub record MoveInFits (stack frames slots savedStack savedFrames ms : List ℕ) 
   pub fits : MoveFits stack frames savedStack savedFrames (machineIn ms .height) (machineIn ms .depth) (sizesIn ms) (recordAt slots i)
 
 -- it stands there under the word v
-pub record May (slots : List ℕ) (m : Machine) (l : Sizes) (v i : ℕ) : Type 0 where
+pub record May (slots : List ℕ) (m : Machine) (sizes : Sizes) (v i : ℕ) : Type 0 where
   pub found : L.At i ≡ placeOf (coroOf (slotsOf (m .count) slots) v)
-  pub fits : Fault.None ≡ refusalOf (m .height) (m .depth) l (recordAt slots i)
+  pub fits : Fault.None ≡ refusalOf (m .height) (m .depth) sizes (recordAt slots i)
 
 pub record EnterAtFits (stack frames chain slots savedStack savedFrames ms : List ℕ) (v i : ℕ) : Type 0 where
   pub words : 25 ≤ length ms

@@ -41,11 +41,11 @@ abbrev pub entryTests : List ℕ → List ℕ → ℕ → List Bool
 entryTests slots ms i =
     let c = recordAt slots i in
     let m = machineIn ms in
-    let l = sizesIn ms in
+    let sizes = sizesIn ms in
     -- Created, Yielded or Awaiting, with frames
     isResumable (c .state) ∷ not (eqb (c .frames) 0)
     -- the depth limit and the stack limit, with what it saved
-    ∷ leb (m .depth + c .frames) (l .depth) ∷ leb (m .height + c .regs) (l .stack) ∷ []
+    ∷ leb (m .depth + c .frames) (sizes .depth) ∷ leb (m .height + c .regs) (sizes .stack) ∷ []
 
 -- what the word in register c names
 abbrev pub toEnter : List ℕ → List ℕ → List ℕ → List ℕ → ℕ → CoroPlace

@@ -28,4 +28,4 @@ pub record Seen (w : World) (ws : List ℕ) (s : Span) : Type 0 where
 
 -- of every world that the words stand for
 abbrev pub Sees : List ℕ → Machine → Span → Type 0
-Sees frames m s = (l : Sizes) (w : World) (b : Beside) → Rep l w (onFrames frames (b .words)) m (b .fuel) → Seen w (b .words .stack) s
+Sees frames m s = (sizes : Sizes) (w : World) (b : Beside) → Rep sizes w (onFrames frames (b .words)) m (b .fuel) → Seen w (b .words .stack) s

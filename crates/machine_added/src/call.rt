@@ -37,13 +37,13 @@ pub fn host_call(
     frames: &mut [u64],
     setup: &[u64],
     m: Machine,
-    l: Sizes,
+    sizes: Sizes,
     f: u64,
 ) -> CallDid
-    requires { ⌜ PushFits l (now stack) (now frames) (now setup) m f ⌝ }
-    ensures { λ r. ⌜ Met ifSound l (hostCall f) (topSetup stack frames setup) (only m) (only (r .machine)) (r .answer) ⌝ }
+    requires { ⌜ PushFits sizes (now stack) (now frames) (now setup) m f ⌝ }
+    ensures { λ r. ⌜ Met ifSound sizes (hostCall f) (topSetup stack frames setup) (only m) (only (r .machine)) (r .answer) ⌝ }
 {
-    let did = push_frame(stack, frames, setup, m, l, f, Word::NIL, Cont::Entry);
+    let did = push_frame(stack, frames, setup, m, sizes, f, Word::NIL, Cont::Entry);
     let n = did.machine;
     let a = did.answer;
     CallDid {
@@ -58,15 +58,15 @@ pub fn function_call(
     frames: &mut [u64],
     setup: &[u64],
     m: Machine,
-    l: Sizes,
+    sizes: Sizes,
     pc: u64,
     f: u64,
     cont: Cont,
 ) -> CallDid
-    requires { ⌜ CallFits l (now stack) (now frames) (now setup) m pc f ⌝ }
-    ensures { λ r. ⌜ Met ifSound l (functionCall pc f cont) (topSetup stack frames setup) (only m) (only (r .machine)) (r .answer) ⌝ }
+    requires { ⌜ CallFits sizes (now stack) (now frames) (now setup) m pc f ⌝ }
+    ensures { λ r. ⌜ Met ifSound sizes (functionCall pc f cont) (topSetup stack frames setup) (only m) (only (r .machine)) (r .answer) ⌝ }
 {
-    let did = push_at(stack, frames, setup, m, l, pc, f, Word::NIL, cont);
+    let did = push_at(stack, frames, setup, m, sizes, pc, f, Word::NIL, cont);
     let n = did.machine;
     let a = did.answer;
     CallDid {
@@ -78,7 +78,7 @@ pub fn function_call(
 // "Put word: one register of the top frame."
 pub fn put_word(stack: &mut [u64], frames: &[u64], m: Machine, r: u64, v: u64) -> Answer
     requires { ⌜ RegFits (now stack) (now frames) (m .height) (m .depth) r ⌝ }
-    ensures { λ a. ⌜ every (λ l. Met any l (putWord r v) (top stack frames) (only m) (only m) a) ⌝ }
+    ensures { λ a. ⌜ every (λ sizes. Met any sizes (putWord r v) (top stack frames) (only m) (only m) a) ⌝ }
 {
     machine_state::frame::put(stack, frames, m, r, v);
     Answer::Accepted

@@ -34,12 +34,12 @@ pub fn host_entry(
     saved_stack: &mut [u64],
     saved_frames: &mut [u64],
     m: Machine,
-    l: Sizes,
+    sizes: Sizes,
     c: u64,
     v: u64,
 ) -> CallDid
-    requires { ⌜ Ok l (six stack frames chain slots «saved_stack» «saved_frames» now) (only m) ⌝ }
-    ensures { λ r. ⌜ Met ifSound l (hostEntry c v) (six stack frames chain slots «saved_stack» «saved_frames») (only m) (only (r .machine)) (r .answer) ⌝ }
+    requires { ⌜ Ok sizes (six stack frames chain slots «saved_stack» «saved_frames» now) (only m) ⌝ }
+    ensures { λ r. ⌜ Met ifSound sizes (hostEntry c v) (six stack frames chain slots «saved_stack» «saved_frames») (only m) (only (r .machine)) (r .answer) ⌝ }
 {
     let did = coro_enter(
         stack,
@@ -49,7 +49,7 @@ pub fn host_entry(
         saved_stack,
         saved_frames,
         m,
-        l,
+        sizes,
         Word(c),
         Driver::Host,
     );

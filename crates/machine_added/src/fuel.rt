@@ -47,7 +47,7 @@ fn refuel(f: Fuel, n: u64) -> Fuel
 
 // The machine is not changed.
 pub fn grant(m: Machine, f: Fuel, n: u64) -> GrantDid
-    ensures { λ r. ⌜ every (λ l. Met any l (grant n) none (with m f) (with m (r .fuel)) (r .answer)) ⌝ }
+    ensures { λ r. ⌜ every (λ sizes. Met any sizes (grant n) none (with m f) (with m (r .fuel)) (r .answer)) ⌝ }
 {
     let had = reserve(f);
     if 18446744073709551615 - had < n {

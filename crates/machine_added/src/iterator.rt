@@ -26,9 +26,9 @@ pub fn made_as(a: WordOr) -> Answer
     }
 }
 
-pub fn make_iterator(slots: &mut [u64], m: Machine, l: Sizes, v: u64) -> CallDid
-    requires { ⌜ Ok l (table slots now) (only m) ⌝ }
-    ensures { λ r. ⌜ Met ifSound l (makeIterator v) (table slots) (only m) (only (r .machine)) (r .answer) ⌝ }
+pub fn make_iterator(slots: &mut [u64], m: Machine, sizes: Sizes, v: u64) -> CallDid
+    requires { ⌜ Ok sizes (table slots now) (only m) ⌝ }
+    ensures { λ r. ⌜ Met ifSound sizes (makeIterator v) (table slots) (only m) (only (r .machine)) (r .answer) ⌝ }
 {
     match coro_state(slots, m, Word(v)) {
         Stated::Refused(f) => CallDid {
@@ -36,13 +36,13 @@ pub fn make_iterator(slots: &mut [u64], m: Machine, l: Sizes, v: u64) -> CallDid
             answer: Answer::Refused(f),
         },
         Stated::In(_) => {
-            let costs = l.costs;
+            let costs = sizes.costs;
             let o = Object::Iter {
                 src: v,
                 done: false,
                 key: Opt::None,
             };
-            let did = alloc_plain(slots, m, l, costs.iter, o);
+            let did = alloc_plain(slots, m, sizes, costs.iter, o);
             let n = did.machine;
             let a = did.answer;
             CallDid {

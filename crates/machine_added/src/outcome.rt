@@ -54,7 +54,7 @@ fn untold(m: Machine) -> Machine
 }
 
 pub fn take_outcome(m: Machine) -> CallDid
-    ensures { λ r. ⌜ every (λ l. Met any l takeOutcome none (only m) (only (r .machine)) (r .answer)) ⌝ }
+    ensures { λ r. ⌜ every (λ sizes. Met any sizes takeOutcome none (only m) (only (r .machine)) (r .answer)) ⌝ }
 {
     let t = m.outcome;
     let o = outcome_in(t);

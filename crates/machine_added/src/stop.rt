@@ -28,13 +28,13 @@ pub fn stop_run(
     saved_stack: &mut [u64],
     saved_frames: &mut [u64],
     m: Machine,
-    l: Sizes,
+    sizes: Sizes,
     fuel: Fuel,
 ) -> Called
-    requires { ⌜ Ok l (six stack frames chain slots «saved_stack» «saved_frames» now) (with m fuel) ⌝ }
-    ensures { λ r. ⌜ Met ifSound l stopRun (six stack frames chain slots «saved_stack» «saved_frames») (with m fuel) (with (r .machine) (r .fuel)) (r .answer) ⌝ }
+    requires { ⌜ Ok sizes (six stack frames chain slots «saved_stack» «saved_frames» now) (with m fuel) ⌝ }
+    ensures { λ r. ⌜ Met ifSound sizes stopRun (six stack frames chain slots «saved_stack» «saved_frames») (with m fuel) (with (r .machine) (r .fuel)) (r .answer) ⌝ }
 {
-    let did = abort_coros(chain, slots, saved_stack, saved_frames, m, l, fuel);
+    let did = abort_coros(chain, slots, saved_stack, saved_frames, m, sizes, fuel);
     let n = did.machine;
     let f = did.fuel;
     memory_tables::frames::clear_frames(frames, n.depth);

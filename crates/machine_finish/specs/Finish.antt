@@ -16,19 +16,19 @@ use Rattle.machine_state.specs.declared.way.Way.{Way}
 -- ---- apply_cont
 
 -- a sound world, and a continuation whose register lies in its top frame
-pub record ContFits (l : Sizes) (M : Beside → Lent) (m : Machine) (c : Cont) : Type 0 where
-  pub ok : Ok l M (only m)
+pub record ContFits (sizes : Sizes) (M : Beside → Lent) (m : Machine) (c : Cont) : Type 0 where
+  pub ok : Ok sizes M (only m)
   pub lies : contLies c (length (ok .world .stack)) (ok .world .frames) ≡ true
 
 -- ---- finish
 
 -- a sound world with a top frame, and the continuation of that frame
-pub record TopFits (l : Sizes) (M : Beside → Lent) (m : Machine) (c : Cont) : Type 0 where
-  pub ok : Ok l M (only m)
+pub record TopFits (sizes : Sizes) (M : Beside → Lent) (m : Machine) (c : Cont) : Type 0 where
+  pub ok : Ok sizes M (only m)
   pub some : 1 ≤ m .depth
   pub top : frameIn (M (ok .beside) .frames) (m .depth - 1) .cont ≡ c
 
 -- .. which is a call's
-pub record EndFits (l : Sizes) (M : Beside → Lent) (m : Machine) (c : Cont) : Type 0 where
-  pub on : TopFits l M m c
+pub record EndFits (sizes : Sizes) (M : Beside → Lent) (m : Machine) (c : Cont) : Type 0 where
+  pub on : TopFits sizes M m c
   pub call : wayOf c ≡ Way.Caller

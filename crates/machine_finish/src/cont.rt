@@ -49,15 +49,15 @@ fn write_dyn(
     frames: &[u64],
     slots: &mut [u64],
     m: Machine,
-    l: Sizes,
+    sizes: Sizes,
     dst: u64,
     kind: ResultKind,
     v: u64,
 ) -> Applied
-    requires { ⌜ ContFits l (topTable stack frames slots now) m (Dyn dst) ⌝ }
-    ensures { λ r. ⌜ Met any l (applyCont (Dyn dst) kind v) (topTable stack frames slots) (only m) (only (r .machine)) (r .answer) ⌝ }
+    requires { ⌜ ContFits sizes (topTable stack frames slots now) m (Dyn dst) ⌝ }
+    ensures { λ r. ⌜ Met any sizes (applyCont (Dyn dst) kind v) (topTable stack frames slots) (only m) (only (r .machine)) (r .answer) ⌝ }
 {
-    let did = to_dyn(slots, m, l, kind, v);
+    let did = to_dyn(slots, m, sizes, kind, v);
     let n = did.machine;
     let made = did.answer;
     match made {
@@ -81,13 +81,13 @@ pub(crate) fn apply_cont(
     frames: &[u64],
     slots: &mut [u64],
     m: Machine,
-    l: Sizes,
+    sizes: Sizes,
     cont: Cont,
     kind: ResultKind,
     v: u64,
 ) -> Applied
-    requires { ⌜ ContFits l (topTable stack frames slots now) m cont ⌝ }
-    ensures { λ r. ⌜ Met any l (applyCont cont kind v) (topTable stack frames slots) (only m) (only (r .machine)) (r .answer) ⌝ }
+    requires { ⌜ ContFits sizes (topTable stack frames slots now) m cont ⌝ }
+    ensures { λ r. ⌜ Met any sizes (applyCont cont kind v) (topTable stack frames slots) (only m) (only (r .machine)) (r .answer) ⌝ }
 {
     match cont {
         Cont::Entry => {}
@@ -98,7 +98,7 @@ pub(crate) fn apply_cont(
                 Opt::Some(x) => put(stack, frames, m, dst, x),
             }
         }
-        Cont::Dyn(dst) => return write_dyn(stack, frames, slots, m, l, dst, kind, v),
+        Cont::Dyn(dst) => return write_dyn(stack, frames, slots, m, sizes, dst, kind, v),
         Cont::Value(dst) => {
             let x = or_nil(result_of(kind, v));
             put(stack, frames, m, dst, x);

@@ -13,12 +13,18 @@ use memory_world::machine::Sizes;
 use model::coro::WordOr;
 
 // A result of a kind as a dynamic word; nil for none.
-pub(crate) fn to_dyn(slots: &mut [u64], m: Machine, l: Sizes, kind: ResultKind, v: u64) -> WordDid
-    requires { ⌜ Room (now slots) (heapOf m l) ⌝ }
-    ensures { λ r. ⌜ Met any l (toDyn kind v) (table slots) (only m) (only (r .machine)) (r .answer) ⌝ }
+pub(crate) fn to_dyn(
+    slots: &mut [u64],
+    m: Machine,
+    sizes: Sizes,
+    kind: ResultKind,
+    v: u64,
+) -> WordDid
+    requires { ⌜ Room (now slots) (heapOf m sizes) ⌝ }
+    ensures { λ r. ⌜ Met any sizes (toDyn kind v) (table slots) (only m) (only (r .machine)) (r .answer) ⌝ }
 {
-    let costs = l.costs;
-    match heap::heap::to_dyn(slots, heap_of(m, l), costs.int, kind, v) {
+    let costs = sizes.costs;
+    match heap::heap::to_dyn(slots, heap_of(m, sizes), costs.int, kind, v) {
         heap::heap::Made::Refused(g) => WordDid {
             machine: m,
             answer: WordOr::Refused(g),

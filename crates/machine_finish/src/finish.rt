@@ -32,7 +32,7 @@ pub struct CallDid {
 // The caller goes on, unless its result was refused.
 fn resume_in(frames: &mut [u64], m: Machine, f: Fault) -> Answer
     requires { ⌜ StepFits (now frames) (m .depth) ⌝ }
-    ensures { λ r. ⌜ every (λ l. Met any l (λ w. resumeIn w f) (frame frames) (only m) (only m) r) ⌝ }
+    ensures { λ r. ⌜ every (λ sizes. Met any sizes (λ w. resumeIn w f) (frame frames) (only m) (only m) r) ⌝ }
 {
     if f.number() == 0 {
         next_pc(frames, m);
@@ -47,16 +47,16 @@ fn end_call(
     frames: &mut [u64],
     slots: &mut [u64],
     m: Machine,
-    l: Sizes,
+    sizes: Sizes,
     cont: Cont,
     kind: ResultKind,
     v: u64,
 ) -> CallDid
-    requires { ⌜ EndFits l (topTable stack frames slots now) m cont ⌝ }
-    ensures { λ r. ⌜ Met any l (finish kind v) (topTable stack frames slots) (only m) (only (r .machine)) (r .answer) ⌝ }
+    requires { ⌜ EndFits sizes (topTable stack frames slots now) m cont ⌝ }
+    ensures { λ r. ⌜ Met any sizes (finish kind v) (topTable stack frames slots) (only m) (only (r .machine)) (r .answer) ⌝ }
 {
     let n = pop(stack, frames, m);
-    let did = apply_cont(stack, frames, slots, n, l, cont, kind, v);
+    let did = apply_cont(stack, frames, slots, n, sizes, cont, kind, v);
     let k = did.machine;
     let fault = did.answer;
     let answer = resume_in(frames, k, fault);
@@ -72,15 +72,15 @@ fn finish_coro(
     saved_stack: &mut [u64],
     saved_frames: &mut [u64],
     m: Machine,
-    l: Sizes,
+    sizes: Sizes,
     fuel: Fuel,
     kind: ResultKind,
     v: u64,
 ) -> Called
-    requires { ⌜ TopFits l (six stack frames chain slots «saved_stack» «saved_frames» now) m Coro ⌝ }
-    ensures { λ r. ⌜ Met ifSound l (finish kind v) (six stack frames chain slots «saved_stack» «saved_frames») (with m fuel) (with (r .machine) (r .fuel)) (r .answer) ⌝ }
+    requires { ⌜ TopFits sizes (six stack frames chain slots «saved_stack» «saved_frames» now) m Coro ⌝ }
+    ensures { λ r. ⌜ Met ifSound sizes (finish kind v) (six stack frames chain slots «saved_stack» «saved_frames») (with m fuel) (with (r .machine) (r .fuel)) (r .answer) ⌝ }
 {
-    let did = to_dyn(slots, m, l, kind, v);
+    let did = to_dyn(slots, m, sizes, kind, v);
     let n = did.machine;
     let made = did.answer;
     match made {
@@ -99,7 +99,7 @@ fn finish_coro(
                 saved_stack,
                 saved_frames,
                 k,
-                l,
+                sizes,
                 fuel,
                 x,
             );
@@ -123,13 +123,13 @@ pub fn finish(
     saved_stack: &mut [u64],
     saved_frames: &mut [u64],
     m: Machine,
-    l: Sizes,
+    sizes: Sizes,
     fuel: Fuel,
     kind: ResultKind,
     v: u64,
 ) -> Called
-    requires { ⌜ Ok l (six stack frames chain slots «saved_stack» «saved_frames» now) (only m) ⌝ }
-    ensures { λ r. ⌜ Met ifSound l (finish kind v) (six stack frames chain slots «saved_stack» «saved_frames») (with m fuel) (with (r .machine) (r .fuel)) (r .answer) ⌝ }
+    requires { ⌜ Ok sizes (six stack frames chain slots «saved_stack» «saved_frames» now) (only m) ⌝ }
+    ensures { λ r. ⌜ Met ifSound sizes (finish kind v) (six stack frames chain slots «saved_stack» «saved_frames») (with m fuel) (with (r .machine) (r .fuel)) (r .answer) ⌝ }
 {
     if m.depth == 0 {
         let answer = Answer::Exit(result_of(kind, v));
@@ -152,7 +152,7 @@ pub fn finish(
             }
         }
         Way::Caller => {
-            let did = end_call(stack, frames, slots, m, l, cont, kind, v);
+            let did = end_call(stack, frames, slots, m, sizes, cont, kind, v);
             let n = did.machine;
             let answer = did.answer;
             Called {
@@ -169,7 +169,7 @@ pub fn finish(
             saved_stack,
             saved_frames,
             m,
-            l,
+            sizes,
             fuel,
             kind,
             v,

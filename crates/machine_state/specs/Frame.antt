@@ -31,15 +31,15 @@ pub record StepFits (frames : List ℕ) (depth : ℕ) : Type 0 where
 
 -- a frame too many, or too wide
 abbrev pub overflowing : Machine → Sizes → ℕ → Bool
-overflowing m l n = leb (l .depth) (m .depth) || ltb (l .stack) (m .height + n)
+overflowing m sizes n = leb (sizes .depth) (m .depth) || ltb (sizes .stack) (m .height + n)
 
 -- one frame more, of n registers
 abbrev pub pushed : Machine → ℕ → Machine
 pushed m n = withHeight (m .height + n) (withDepth (m .depth + 1) m)
 
 -- a sound world, and one of its functions; word 13 of a set-up is their number
-pub record PushFits (l : Sizes) (stack frames setup : List ℕ) (m : Machine) (f : ℕ) : Type 0 where
-  pub ok : Ok l (topSetup stack frames setup plain) (only m)
+pub record PushFits (sizes : Sizes) (stack frames setup : List ℕ) (m : Machine) (f : ℕ) : Type 0 where
+  pub ok : Ok sizes (topSetup stack frames setup plain) (only m)
   pub function : f < getD setup 13 0
 
 -- a frame pushed by a call at pc: the pc is stored only if the frame fits
@@ -51,8 +51,8 @@ unfoldable pub pushAt : ℕ → ℕ → ℕ → Cont → World → After WordOr
 pushAt pc f closure cont w = andThen (pushFrame f closure cont (storePc pc w)) (pushedOr w)
 
 -- .. and a frame stands there that calls
-pub record CallFits (l : Sizes) (stack frames setup : List ℕ) (m : Machine) (pc f : ℕ) : Type 0 where
-  pub push : PushFits l stack frames setup m f
+pub record CallFits (sizes : Sizes) (stack frames setup : List ℕ) (m : Machine) (pc f : ℕ) : Type 0 where
+  pub push : PushFits sizes stack frames setup m f
   pub some : 1 ≤ m .depth
   pub narrow : pc < 2 ^ 32
 

@@ -5,7 +5,7 @@ use Rattle.memory_world.specs.declared.machine.Machine.{Machine}
 use Rattle.memory_world.specs.declared.machine.Sizes.{Sizes}
 
 abbrev pub heapOf : Machine → Sizes → Heap
-heapOf m l = record { count = m .count; slots = l .slots; used = m .used; limit = l .memory }
+heapOf m sizes = record { count = m .count; slots = sizes .slots; used = m .used; limit = sizes .memory }
 
 -- after an allocation
 abbrev pub allocated : Machine → Heap → Machine

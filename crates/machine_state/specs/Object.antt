@@ -11,4 +11,4 @@ use Rattle.memory_world.specs.declared.machine.Sizes.{Sizes}
 
 -- o in the slots is such an object of the world
 abbrev pub Allocates : Sizes → ℕ → H.Object → Lending → Numbers → Numbers → WordOr → Type 0
-Allocates l bytes o L n n′ a = (x : Object) → toObject x ≡ o → asCoro x ≡ Absent → Met any l (alloc bytes x) L n n′ a
+Allocates sizes bytes o L n n′ a = (x : Object) → toObject x ≡ o → asCoro x ≡ Absent → Met any sizes (alloc bytes x) L n n′ a

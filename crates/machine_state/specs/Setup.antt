@@ -40,4 +40,4 @@ pub record SetUpFits (slots setup given : List ℕ) : Type 0 where
 
 -- if the words given are a set-up's, and there is room, the words stand for its fresh world
 abbrev pub SetsUp : List ℕ → Lent → Machine → Type 0
-SetsUp given M m = (s : Setup) (l : Sizes) → given ≡ setupWords s → Sized s l → Room s M → Rep l (fresh s) M m (fresh s .fuel)
+SetsUp given M m = (s : Setup) (sizes : Sizes) → given ≡ setupWords s → Sized s sizes → Room s M → Rep sizes (fresh s) M m (fresh s .fuel)

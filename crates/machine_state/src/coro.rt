@@ -11,7 +11,7 @@ use model::coro::Stated;
 // The state of the coroutine that a word names.
 pub fn coro_state(slots: &[u64], m: Machine, v: Word) -> Stated
     requires { ⌜ TableFits (now slots) (m .count) ⌝ }
-    ensures { λ r. ⌜ every (λ l. Reads l (λ w. coroState w (v .0)) (table slots) (only m) r) ⌝ }
+    ensures { λ r. ⌜ every (λ sizes. Reads sizes (λ w. coroState w (v .0)) (table slots) (only m) r) ⌝ }
 {
     match heap::heap::coro_place(slots, m.count, v) {
         CoroPlace::Not(f) => Stated::Refused(f),

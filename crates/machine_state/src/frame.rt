@@ -22,7 +22,7 @@ pub struct FrameDid {
 // The pc of the top frame.
 pub fn store_pc(frames: &mut [u64], m: Machine, pc: u64)
     requires { ⌜ DepthFits (now frames) (m .depth) ⌝ }
-    ensures { λ _. ⌜ every (λ l. Leaves any l (storePc pc) (frame frames) (only m) (only m)) ⌝ }
+    ensures { λ _. ⌜ every (λ sizes. Leaves any sizes (storePc pc) (frame frames) (only m) (only m)) ⌝ }
 {
     memory_tables::frames::store_pc(frames, m.depth, pc);
 }
@@ -30,7 +30,7 @@ pub fn store_pc(frames: &mut [u64], m: Machine, pc: u64)
 // The pc of the top frame, if there is one, steps.
 pub fn next_pc(frames: &mut [u64], m: Machine)
     requires { ⌜ StepFits (now frames) (m .depth) ⌝ }
-    ensures { λ _. ⌜ every (λ l. Leaves any l nextPc (frame frames) (only m) (only m)) ⌝ }
+    ensures { λ _. ⌜ every (λ sizes. Leaves any sizes nextPc (frame frames) (only m) (only m)) ⌝ }
 {
     if m.depth == 0 {
         return;
@@ -41,20 +41,20 @@ pub fn next_pc(frames: &mut [u64], m: Machine)
 // A word into a register of the top frame.
 pub fn put(stack: &mut [u64], frames: &[u64], m: Machine, r: u64, v: u64)
     requires { ⌜ RegFits (now stack) (now frames) (m .height) (m .depth) r ⌝ }
-    ensures { λ _. ⌜ every (λ l. Leaves any l (putReg r v) (top stack frames) (only m) (only m)) ⌝ }
+    ensures { λ _. ⌜ every (λ sizes. Leaves any sizes (putReg r v) (top stack frames) (only m) (only m)) ⌝ }
 {
     memory_tables::stack::put_reg(stack, frames, m.height, m.depth, r as usize, v);
 }
 
 // Whether a frame of n registers is one too many, or too wide.
-fn overflows(m: Machine, l: Sizes, n: u64) -> bool
-    requires { ⌜ m .height ≤ l .stack ⌝ }
-    ensures { λ r. ⌜ r ≡ overflowing m l n ⌝ }
+fn overflows(m: Machine, sizes: Sizes, n: u64) -> bool
+    requires { ⌜ m .height ≤ sizes .stack ⌝ }
+    ensures { λ r. ⌜ r ≡ overflowing m sizes n ⌝ }
 {
-    if l.depth <= m.depth {
+    if sizes.depth <= m.depth {
         return true;
     }
-    if ((l.stack - m.height) as u64) < n {
+    if ((sizes.stack - m.height) as u64) < n {
         return true;
     }
     false
@@ -76,16 +76,16 @@ pub fn push_frame(
     frames: &mut [u64],
     setup: &[u64],
     m: Machine,
-    l: Sizes,
+    sizes: Sizes,
     f: u64,
     closure: u64,
     cont: Cont,
 ) -> FrameDid
-    requires { ⌜ PushFits l (now stack) (now frames) (now setup) m f ⌝ }
-    ensures { λ r. ⌜ Met ifSound l (pushFrame f closure cont) (topSetup stack frames setup) (only m) (only (r .machine)) (r .answer) ⌝ }
+    requires { ⌜ PushFits sizes (now stack) (now frames) (now setup) m f ⌝ }
+    ensures { λ r. ⌜ Met ifSound sizes (pushFrame f closure cont) (topSetup stack frames setup) (only m) (only (r .machine)) (r .answer) ⌝ }
 {
     let n = memory_tables::program::regs_at(setup, f as usize);
-    if overflows(m, l, n) {
+    if overflows(m, sizes, n) {
         return FrameDid {
             machine: m,
             answer: WordOr::Refused(Fault::StackOverflow),
@@ -105,30 +105,30 @@ pub fn push_at(
     frames: &mut [u64],
     setup: &[u64],
     m: Machine,
-    l: Sizes,
+    sizes: Sizes,
     pc: u64,
     f: u64,
     closure: u64,
     cont: Cont,
 ) -> FrameDid
-    requires { ⌜ CallFits l (now stack) (now frames) (now setup) m pc f ⌝ }
-    ensures { λ r. ⌜ Met ifSound l (pushAt pc f closure cont) (topSetup stack frames setup) (only m) (only (r .machine)) (r .answer) ⌝ }
+    requires { ⌜ CallFits sizes (now stack) (now frames) (now setup) m pc f ⌝ }
+    ensures { λ r. ⌜ Met ifSound sizes (pushAt pc f closure cont) (topSetup stack frames setup) (only m) (only (r .machine)) (r .answer) ⌝ }
 {
     let n = memory_tables::program::regs_at(setup, f as usize);
-    if overflows(m, l, n) {
+    if overflows(m, sizes, n) {
         return FrameDid {
             machine: m,
             answer: WordOr::Refused(Fault::StackOverflow),
         };
     }
     store_pc(frames, m, pc);
-    push_frame(stack, frames, setup, m, l, f, closure, cont)
+    push_frame(stack, frames, setup, m, sizes, f, closure, cont)
 }
 
 // The top frame goes, with its registers.
 pub fn pop(stack: &mut [u64], frames: &mut [u64], m: Machine) -> Machine
     requires { ⌜ PopFits (now stack) (now frames) m ⌝ }
-    ensures { λ r. ⌜ every (λ l. Leaves any l popTop (top stack frames) (only m) (only r)) ⌝ }
+    ensures { λ r. ⌜ every (λ sizes. Leaves any sizes popTop (top stack frames) (only m) (only r)) ⌝ }
 {
     let base = memory_tables::frame::base_at(frames, m.depth - 1);
     memory_tables::stack::cut(stack, m.height, base);

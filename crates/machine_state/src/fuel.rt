@@ -60,7 +60,7 @@ fn close_ready(running: bool, waiting: usize) -> bool
 
 // coro.rs: set_finalizing.
 pub fn set_finalizing(m: Machine, f: Fuel, running: bool) -> FuelDid
-    ensures { λ r. ⌜ every (λ l. Leaves any l (setFinalizing running) none (with m f) (with (r .machine) (r .fuel))) ⌝ }
+    ensures { λ r. ⌜ every (λ sizes. Leaves any sizes (setFinalizing running) none (with m f) (with (r .machine) (r .fuel))) ⌝ }
 {
     let ready = close_ready(running, m.finalize);
     let mut n = m;

@@ -5,14 +5,14 @@ use heap::heap::Heap;
 use memory_world::machine::Machine;
 use memory_world::machine::Sizes;
 
-pub fn heap_of(m: Machine, l: Sizes) -> Heap
-    ensures { λ r. ⌜ r ≡ heapOf m l ⌝ }
+pub fn heap_of(m: Machine, sizes: Sizes) -> Heap
+    ensures { λ r. ⌜ r ≡ heapOf m sizes ⌝ }
 {
     Heap {
         count: m.count,
-        slots: l.slots,
+        slots: sizes.slots,
         used: m.used,
-        limit: l.memory,
+        limit: sizes.memory,
     }
 }
 

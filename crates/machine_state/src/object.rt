@@ -18,11 +18,11 @@ pub struct WordDid {
 }
 
 // heap.rs: alloc.
-pub fn alloc_plain(slots: &mut [u64], m: Machine, l: Sizes, bytes: u64, o: Object) -> WordDid
-    requires { ⌜ Room (now slots) (heapOf m l) ⌝ }
-    ensures { λ r. ⌜ Allocates l bytes o (table slots) (only m) (only (r .machine)) (r .answer) ⌝ }
+pub fn alloc_plain(slots: &mut [u64], m: Machine, sizes: Sizes, bytes: u64, o: Object) -> WordDid
+    requires { ⌜ Room (now slots) (heapOf m sizes) ⌝ }
+    ensures { λ r. ⌜ Allocates sizes bytes o (table slots) (only m) (only (r .machine)) (r .answer) ⌝ }
 {
-    match heap::heap::alloc(slots, heap_of(m, l), bytes, o) {
+    match heap::heap::alloc(slots, heap_of(m, sizes), bytes, o) {
         heap::heap::Made::Refused(g) => WordDid {
             machine: m,
             answer: WordOr::Refused(g),

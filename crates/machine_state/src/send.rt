@@ -8,7 +8,7 @@ use memory_world::machine::Machine;
 // A word into a register of the top frame, whose pc then steps.
 pub fn coro_send(stack: &mut [u64], frames: &mut [u64], m: Machine, dst: u64, v: u64)
     requires { ⌜ SendFits (now stack) (now frames) (m .height) (m .depth) dst ⌝ }
-    ensures { λ _. ⌜ every (λ l. Leaves any l (coroSend dst v) (top stack frames) (only m) (only m)) ⌝ }
+    ensures { λ _. ⌜ every (λ sizes. Leaves any sizes (coroSend dst v) (top stack frames) (only m) (only m)) ⌝ }
 {
     memory_tables::stack::put_reg(stack, frames, m.height, m.depth, dst as usize, v);
     memory_tables::frames::step_pc(frames, m.depth);

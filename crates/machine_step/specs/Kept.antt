@@ -18,14 +18,14 @@ abbrev pub did : Op → World → After Answer
 did o w = after (call o w .world) (call o w .answer)
 
 -- a sound world, and operands that their types hold, as those of any `Op` do (`widths`)
-pub record DispatchFits (l : Sizes) (M : Beside → Lent) (m : Machine) (fuel : Fuel) (o : Op) : Type 0 where
-  pub ok : Ok l M (with m fuel)
+pub record DispatchFits (sizes : Sizes) (M : Beside → Lent) (m : Machine) (fuel : Fuel) (o : Op) : Type 0 where
+  pub ok : Ok sizes M (with m fuel)
   pub within : typed o ≡ true
 
-pub record Keeps (l : Sizes) (o : Op) (L : Lending) (n n′ : Numbers) (a : Answer) : Type 0 where
+pub record Keeps (sizes : Sizes) (o : Op) (L : Lending) (n n′ : Numbers) (a : Answer) : Type 0 where
   -- of every sound world that the words stood for, they stand for what the call leaves, and the answer is the call's
-  pub met : Met ifSound l (did o) L n n′ a
+  pub met : Met ifSound sizes (did o) L n n′ a
   -- which is sound again
   pub sound : (w : World) → sound w ≡ true → sound (did o w .world) ≡ true
   -- so they stand for a sound world, with words enough: the next call may be made
-  pub again : Ok l (L atExit) n′
+  pub again : Ok sizes (L atExit) n′

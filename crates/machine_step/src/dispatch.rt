@@ -35,12 +35,12 @@ pub(crate) fn dispatch(
     finalize: &mut [u64],
     setup: &[u64],
     m: Machine,
-    l: Sizes,
+    sizes: Sizes,
     fuel: Fuel,
     op: Op,
 ) -> Called
-    requires { ⌜ DispatchFits l (all stack frames chain slots «saved_stack» «saved_frames» ready finalize setup now) m fuel op ⌝ }
-    ensures { λ r. ⌜ Met ifSound l (did op) (all stack frames chain slots «saved_stack» «saved_frames» ready finalize setup) (with m fuel) (with (r .machine) (r .fuel)) (r .answer) ⌝ }
+    requires { ⌜ DispatchFits sizes (all stack frames chain slots «saved_stack» «saved_frames» ready finalize setup now) m fuel op ⌝ }
+    ensures { λ r. ⌜ Met ifSound sizes (did op) (all stack frames chain slots «saved_stack» «saved_frames» ready finalize setup) (with m fuel) (with (r .machine) (r .fuel)) (r .answer) ⌝ }
 {
     match op {
         Op::Finish { kind, word } => {
@@ -52,7 +52,7 @@ pub(crate) fn dispatch(
                 saved_stack,
                 saved_frames,
                 m,
-                l,
+                sizes,
                 fuel,
                 kind,
                 word,
@@ -76,7 +76,7 @@ pub(crate) fn dispatch(
                 saved_frames,
                 setup,
                 m,
-                l,
+                sizes,
                 fuel,
                 fault,
                 pc,
@@ -102,7 +102,7 @@ pub(crate) fn dispatch(
             }
         }
         Op::HostCall { func } => {
-            let did = host_call(stack, frames, setup, m, l, func);
+            let did = host_call(stack, frames, setup, m, sizes, func);
             let machine = did.machine;
             let answer = did.answer;
             Called {
@@ -120,7 +120,7 @@ pub(crate) fn dispatch(
                 saved_stack,
                 saved_frames,
                 m,
-                l,
+                sizes,
                 coro,
                 word,
             );
@@ -133,7 +133,7 @@ pub(crate) fn dispatch(
             }
         }
         Op::FunctionCall { pc, func, cont } => {
-            let did = function_call(stack, frames, setup, m, l, pc, func, cont);
+            let did = function_call(stack, frames, setup, m, sizes, pc, func, cont);
             let machine = did.machine;
             let answer = did.answer;
             Called {
@@ -143,7 +143,7 @@ pub(crate) fn dispatch(
             }
         }
         Op::PutWord { reg, word } => {
-            let answer = put_word(stack, frames, setup, m, l, reg, word);
+            let answer = put_word(stack, frames, setup, m, sizes, reg, word);
             Called {
                 machine: m,
                 fuel,
@@ -151,7 +151,7 @@ pub(crate) fn dispatch(
             }
         }
         Op::MakeIterator { src } => {
-            let did = make_iterator(slots, m, l, src);
+            let did = make_iterator(slots, m, sizes, src);
             let machine = did.machine;
             let answer = did.answer;
             Called {
@@ -200,7 +200,7 @@ pub(crate) fn dispatch(
                 saved_stack,
                 saved_frames,
                 m,
-                l,
+                sizes,
                 fuel,
             );
             let machine = did.machine;
@@ -227,7 +227,7 @@ pub(crate) fn dispatch(
             finalize,
             setup,
             m,
-            l,
+            sizes,
             fuel,
             op,
         ),

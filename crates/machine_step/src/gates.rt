@@ -18,11 +18,11 @@ pub(crate) fn host_call(
     frames: &mut [u64],
     setup: &[u64],
     m: Machine,
-    l: Sizes,
+    sizes: Sizes,
     f: u32,
 ) -> CallDid
-    requires { ⌜ Ok l (topSetup stack frames setup now) (only m) ⌝ }
-    ensures { λ r. ⌜ Met ifSound l (did (HostCall f)) (topSetup stack frames setup) (only m) (only (r .machine)) (r .answer) ⌝ }
+    requires { ⌜ Ok sizes (topSetup stack frames setup now) (only m) ⌝ }
+    ensures { λ r. ⌜ Met ifSound sizes (did (HostCall f)) (topSetup stack frames setup) (only m) (only (r .machine)) (r .answer) ⌝ }
 {
     if m.depth != 0 {
         return CallDid {
@@ -36,7 +36,7 @@ pub(crate) fn host_call(
             answer: Answer::Refused(Fault::BadOperand),
         };
     }
-    machine_added::call::host_call(stack, frames, setup, m, l, f as u64)
+    machine_added::call::host_call(stack, frames, setup, m, sizes, f as u64)
 }
 
 // Host entry.
@@ -48,12 +48,12 @@ pub(crate) fn host_entry(
     saved_stack: &mut [u64],
     saved_frames: &mut [u64],
     m: Machine,
-    l: Sizes,
+    sizes: Sizes,
     c: u64,
     v: u64,
 ) -> CallDid
-    requires { ⌜ Ok l (six stack frames chain slots «saved_stack» «saved_frames» now) (only m) ⌝ }
-    ensures { λ r. ⌜ Met ifSound l (did (HostEntry c v)) (six stack frames chain slots «saved_stack» «saved_frames») (only m) (only (r .machine)) (r .answer) ⌝ }
+    requires { ⌜ Ok sizes (six stack frames chain slots «saved_stack» «saved_frames» now) (only m) ⌝ }
+    ensures { λ r. ⌜ Met ifSound sizes (did (HostEntry c v)) (six stack frames chain slots «saved_stack» «saved_frames») (only m) (only (r .machine)) (r .answer) ⌝ }
 {
     if m.depth != 0 {
         return CallDid {
@@ -69,7 +69,7 @@ pub(crate) fn host_entry(
         saved_stack,
         saved_frames,
         m,
-        l,
+        sizes,
         c,
         v,
     )
@@ -81,13 +81,13 @@ pub(crate) fn function_call(
     frames: &mut [u64],
     setup: &[u64],
     m: Machine,
-    l: Sizes,
+    sizes: Sizes,
     pc: u32,
     f: u32,
     cont: Cont,
 ) -> CallDid
-    requires { ⌜ Ok l (topSetup stack frames setup now) (only m) ⌝ }
-    ensures { λ r. ⌜ Met ifSound l (did (FunctionCall pc f cont)) (topSetup stack frames setup) (only m) (only (r .machine)) (r .answer) ⌝ }
+    requires { ⌜ Ok sizes (topSetup stack frames setup now) (only m) ⌝ }
+    ensures { λ r. ⌜ Met ifSound sizes (did (FunctionCall pc f cont)) (topSetup stack frames setup) (only m) (only (r .machine)) (r .answer) ⌝ }
 {
     if m.depth == 0 {
         return CallDid {
@@ -103,7 +103,7 @@ pub(crate) fn function_call(
             answer: Answer::Refused(Fault::BadOperand),
         };
     }
-    machine_added::call::function_call(stack, frames, setup, m, l, pc as u64, f as u64, cont)
+    machine_added::call::function_call(stack, frames, setup, m, sizes, pc as u64, f as u64, cont)
 }
 
 // Put word.
@@ -112,12 +112,12 @@ pub(crate) fn put_word(
     frames: &[u64],
     setup: &[u64],
     m: Machine,
-    l: Sizes,
+    sizes: Sizes,
     r: u16,
     v: u64,
 ) -> Answer
-    requires { ⌜ Ok l (topSetup stack frames setup now) (only m) ⌝ }
-    ensures { λ a. ⌜ Met ifSound l (did (PutWord r v)) (topSetup stack frames setup) (only m) (only m) a ⌝ }
+    requires { ⌜ Ok sizes (topSetup stack frames setup now) (only m) ⌝ }
+    ensures { λ a. ⌜ Met ifSound sizes (did (PutWord r v)) (topSetup stack frames setup) (only m) (only m) a ⌝ }
 {
     if m.depth == 0 {
         return Answer::Refused(Fault::NoFrame);

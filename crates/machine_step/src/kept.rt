@@ -21,12 +21,12 @@ pub fn kept(
     finalize: &mut [u64],
     setup: &[u64],
     m: Machine,
-    l: Sizes,
+    sizes: Sizes,
     fuel: Fuel,
     op: Op,
 ) -> Called
-    requires { ⌜ Ok l (all stack frames chain slots «saved_stack» «saved_frames» ready finalize setup now) (with m fuel) ⌝ }
-    ensures { λ r. ⌜ Keeps l op (all stack frames chain slots «saved_stack» «saved_frames» ready finalize setup) (with m fuel) (with (r .machine) (r .fuel)) (r .answer) ⌝ }
+    requires { ⌜ Ok sizes (all stack frames chain slots «saved_stack» «saved_frames» ready finalize setup now) (with m fuel) ⌝ }
+    ensures { λ r. ⌜ Keeps sizes op (all stack frames chain slots «saved_stack» «saved_frames» ready finalize setup) (with m fuel) (with (r .machine) (r .fuel)) (r .answer) ⌝ }
 {
     widths(op);
     dispatch(
@@ -40,7 +40,7 @@ pub fn kept(
         finalize,
         setup,
         m,
-        l,
+        sizes,
         fuel,
         op,
     )

@@ -28,22 +28,22 @@ pub record HandlerFits (frames setup : List ℕ) (depth : ℕ) : Type 0 where
   pub few : functionIn setup (funcIn frames (depth - 1)) .count ≤ 8
 
 -- a sound world with a frame
-pub record FrameFits (l : Sizes) (M : Beside → Lent) (m : Machine) (fuel : Fuel) : Type 0 where
-  pub ok : Ok l M (with m fuel)
+pub record FrameFits (sizes : Sizes) (M : Beside → Lent) (m : Machine) (fuel : Fuel) : Type 0 where
+  pub ok : Ok sizes M (with m fuel)
   pub some : 1 ≤ m .depth
 
 -- a sound world, and where a word was raised
-pub record SearchFits (l : Sizes) (M : Beside → Lent) (m : Machine) (fuel : Fuel) (fn at : ℕ) : Type 0 where
-  pub ok : Ok l M (with m fuel)
+pub record SearchFits (sizes : Sizes) (M : Beside → Lent) (m : Machine) (fuel : Fuel) (fn at : ℕ) : Type 0 where
+  pub ok : Ok sizes M (with m fuel)
   pub func : fn < 2 ^ 32
   pub pc : at < 2 ^ 32
 
 -- a sound world, and what is raised in it
-pub record RaiseFits (l : Sizes) (M : Beside → Lent) (m : Machine) (fuel : Fuel) (fault : Fault) : Type 0 where
-  pub ok : Ok l M (with m fuel)
+pub record RaiseFits (sizes : Sizes) (M : Beside → Lent) (m : Machine) (fuel : Fuel) (fault : Fault) : Type 0 where
+  pub ok : Ok sizes M (with m fuel)
   pub raises : raisable fault ≡ true
 
 -- a sound world, and a pc of 32 bits if one is given
-pub record UnwindFits (l : Sizes) (M : Beside → Lent) (m : Machine) (fuel : Fuel) (pc : OptPc) : Type 0 where
-  pub ok : Ok l M (with m fuel)
+pub record UnwindFits (sizes : Sizes) (M : Beside → Lent) (m : Machine) (fuel : Fuel) (pc : OptPc) : Type 0 where
+  pub ok : Ok sizes M (with m fuel)
   pub narrow : optPc pc ≡ true

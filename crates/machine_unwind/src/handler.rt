@@ -20,7 +20,7 @@ use model::program::Handler;
 // The first handler of the top frame's function that covers its pc.
 pub(crate) fn handler_in(frames: &[u64], setup: &[u64], m: Machine) -> Caught
     requires { ⌜ HandlerFits (now frames) (now setup) (m .depth) ⌝ }
-    ensures { λ r. ⌜ every (λ l. Reads l handlerIn (frameSetup frames setup) (only m) r) ⌝ }
+    ensures { λ r. ⌜ every (λ sizes. Reads sizes handlerIn (frameSetup frames setup) (only m) r) ⌝ }
 {
     let i = m.depth - 1;
     let f = memory_tables::frame::func_at(frames, i);
@@ -38,7 +38,7 @@ pub(crate) fn take_handler(
     value: u64,
 ) -> Called
     requires { ⌜ RegFits (now stack) (now frames) (m .height) (m .depth) (h .catch) ⌝ }
-    ensures { λ r. ⌜ every (λ l. Met any l (takeHandler h value) (top stack frames) (with m fuel) (with (r .machine) (r .fuel)) (r .answer)) ⌝ }
+    ensures { λ r. ⌜ every (λ sizes. Met any sizes (takeHandler h value) (top stack frames) (with m fuel) (with (r .machine) (r .fuel)) (r .answer)) ⌝ }
 {
     let did = charge_plain(fuel);
     let f = did.fuel;

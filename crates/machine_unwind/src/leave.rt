@@ -22,14 +22,14 @@ pub(crate) fn leave(
     saved_stack: &mut [u64],
     saved_frames: &mut [u64],
     m: Machine,
-    l: Sizes,
+    sizes: Sizes,
     fuel: Fuel,
     value: u64,
     func: u64,
     pc: u64,
 ) -> Called
-    requires { ⌜ FrameFits l (six stack frames chain slots «saved_stack» «saved_frames» now) m fuel ⌝ }
-    ensures { λ r. ⌜ Met ifSound l (leave value func pc) (six stack frames chain slots «saved_stack» «saved_frames») (with m fuel) (with (r .machine) (r .fuel)) (r .answer) ⌝ }
+    requires { ⌜ FrameFits sizes (six stack frames chain slots «saved_stack» «saved_frames» now) m fuel ⌝ }
+    ensures { λ r. ⌜ Met ifSound sizes (leave value func pc) (six stack frames chain slots «saved_stack» «saved_frames») (with m fuel) (with (r .machine) (r .fuel)) (r .answer) ⌝ }
 {
     let k = memory_tables::frame::cont_at(frames, m.depth - 1);
     let n = pop(stack, frames, m);
@@ -48,7 +48,7 @@ pub(crate) fn leave(
         saved_stack,
         saved_frames,
         n,
-        l,
+        sizes,
         fuel,
         value,
         func,

@@ -25,14 +25,14 @@ pub(crate) fn turn(
     saved_frames: &mut [u64],
     setup: &[u64],
     m: Machine,
-    l: Sizes,
+    sizes: Sizes,
     fuel: Fuel,
     value: u64,
     func: u64,
     pc: u64,
 ) -> Called
-    requires { ⌜ FrameFits l (sixSetup stack frames chain slots «saved_stack» «saved_frames» setup now) m fuel ⌝ }
-    ensures { λ r. ⌜ Met ifSound l (turn value func pc) (sixSetup stack frames chain slots «saved_stack» «saved_frames» setup) (with m fuel) (with (r .machine) (r .fuel)) (r .answer) ⌝ }
+    requires { ⌜ FrameFits sizes (sixSetup stack frames chain slots «saved_stack» «saved_frames» setup now) m fuel ⌝ }
+    ensures { λ r. ⌜ Met ifSound sizes (turn value func pc) (sixSetup stack frames chain slots «saved_stack» «saved_frames» setup) (with m fuel) (with (r .machine) (r .fuel)) (r .answer) ⌝ }
 {
     match handler_in(frames, setup, m) {
         Caught::By(h) => take_handler(stack, frames, m, fuel, h, value),
@@ -44,7 +44,7 @@ pub(crate) fn turn(
             saved_stack,
             saved_frames,
             m,
-            l,
+            sizes,
             fuel,
             value,
             func,
@@ -63,14 +63,14 @@ pub(crate) fn search(
     saved_frames: &mut [u64],
     setup: &[u64],
     m: Machine,
-    l: Sizes,
+    sizes: Sizes,
     fuel: Fuel,
     value: u64,
     func: u64,
     pc: u64,
 ) -> Called
-    requires { ⌜ SearchFits l (sixSetup stack frames chain slots «saved_stack» «saved_frames» setup now) m fuel func pc ⌝ }
-    ensures { λ r. ⌜ Met ifSound l (searchFrom value func pc) (sixSetup stack frames chain slots «saved_stack» «saved_frames» setup) (with m fuel) (with (r .machine) (r .fuel)) (r .answer) ⌝ }
+    requires { ⌜ SearchFits sizes (sixSetup stack frames chain slots «saved_stack» «saved_frames» setup now) m fuel func pc ⌝ }
+    ensures { λ r. ⌜ Met ifSound sizes (searchFrom value func pc) (sixSetup stack frames chain slots «saved_stack» «saved_frames» setup) (with m fuel) (with (r .machine) (r .fuel)) (r .answer) ⌝ }
 {
     let mut n = m;
     let mut f = fuel;
@@ -84,7 +84,7 @@ pub(crate) fn search(
             saved_frames,
             setup,
             n,
-            l,
+            sizes,
             f,
             value,
             func,

@@ -27,7 +27,7 @@ use model::machine::Fuel;
 // Function and pc of the top frame; 0 and 0 without one.
 pub(crate) fn origin(frames: &[u64], m: Machine) -> Origin
     requires { ⌜ m .depth * 6 ≤ length (now frames) ⌝ }
-    ensures { λ r. ⌜ every (λ l. Reads l originOf (frame frames) (only m) r) ⌝ }
+    ensures { λ r. ⌜ every (λ sizes. Reads sizes originOf (frame frames) (only m) r) ⌝ }
 {
     if m.depth == 0 {
         return Origin { func: 0, pc: 0 };
@@ -40,9 +40,15 @@ pub(crate) fn origin(frames: &[u64], m: Machine) -> Origin
 }
 
 // The word that a fault is raised as: its own, or that of an error object. 9 and 10 pass.
-pub(crate) fn thrown(slots: &mut [u64], m: Machine, l: Sizes, fault: Fault, at: Origin) -> WordDid
-    requires { ⌜ Room (now slots) (heapOf m l) ⌝ }
-    ensures { λ r. ⌜ Met (ifAt at) l (thrown fault) (table slots) (only m) (only (r .machine)) (r .answer) ⌝ }
+pub(crate) fn thrown(
+    slots: &mut [u64],
+    m: Machine,
+    sizes: Sizes,
+    fault: Fault,
+    at: Origin,
+) -> WordDid
+    requires { ⌜ Room (now slots) (heapOf m sizes) ⌝ }
+    ensures { λ r. ⌜ Met (ifAt at) sizes (thrown fault) (table slots) (only m) (only (r .machine)) (r .answer) ⌝ }
 {
     let kind = fault.number();
     if kind == 17 {
@@ -52,14 +58,14 @@ pub(crate) fn thrown(slots: &mut [u64], m: Machine, l: Sizes, fault: Fault, at: 
         };
     }
     if kind <= 8 {
-        let costs = l.costs;
+        let costs = sizes.costs;
         let o = Object::Error {
             kind,
             func: at.func,
             pc: at.pc,
             payload: Word::NIL,
         };
-        return alloc_plain(slots, m, l, costs.error, o);
+        return alloc_plain(slots, m, sizes, costs.error, o);
     }
     WordDid {
         machine: m,
@@ -77,15 +83,15 @@ pub(crate) fn raise(
     saved_frames: &mut [u64],
     setup: &[u64],
     m: Machine,
-    l: Sizes,
+    sizes: Sizes,
     fuel: Fuel,
     fault: Fault,
 ) -> Called
-    requires { ⌜ RaiseFits l (sixSetup stack frames chain slots «saved_stack» «saved_frames» setup now) m fuel fault ⌝ }
-    ensures { λ r. ⌜ Met ifSound l (unwindFault fault) (sixSetup stack frames chain slots «saved_stack» «saved_frames» setup) (with m fuel) (with (r .machine) (r .fuel)) (r .answer) ⌝ }
+    requires { ⌜ RaiseFits sizes (sixSetup stack frames chain slots «saved_stack» «saved_frames» setup now) m fuel fault ⌝ }
+    ensures { λ r. ⌜ Met ifSound sizes (unwindFault fault) (sixSetup stack frames chain slots «saved_stack» «saved_frames» setup) (with m fuel) (with (r .machine) (r .fuel)) (r .answer) ⌝ }
 {
     let at = origin(frames, m);
-    let did = thrown(slots, m, l, fault, at);
+    let did = thrown(slots, m, sizes, fault, at);
     let n = did.machine;
     let made = did.answer;
     match made {
@@ -103,7 +109,7 @@ pub(crate) fn raise(
             saved_frames,
             setup,
             n,
-            l,
+            sizes,
             fuel,
             v,
             at.func,
@@ -129,7 +135,7 @@ fn is_raisable(fault: Fault) -> bool
 // A pc that is given goes to the top frame, if there is one.
 fn store_some(frames: &mut [u64], m: Machine, pc: OptPc)
     requires { ⌜ m .depth * 6 ≤ length (now frames) ⌝ }
-    ensures { λ _. ⌜ every (λ l. Leaves any l (storeSome pc) (frame frames) (only m) (only m)) ⌝ }
+    ensures { λ _. ⌜ every (λ sizes. Leaves any sizes (storeSome pc) (frame frames) (only m) (only m)) ⌝ }
 {
     if m.depth == 0 {
         return;
@@ -150,13 +156,13 @@ pub fn unwind(
     saved_frames: &mut [u64],
     setup: &[u64],
     m: Machine,
-    l: Sizes,
+    sizes: Sizes,
     fuel: Fuel,
     fault: Fault,
     pc: OptPc,
 ) -> Called
-    requires { ⌜ UnwindFits l (sixSetup stack frames chain slots «saved_stack» «saved_frames» setup now) m fuel pc ⌝ }
-    ensures { λ r. ⌜ Met ifSound l (unwind fault pc) (sixSetup stack frames chain slots «saved_stack» «saved_frames» setup) (with m fuel) (with (r .machine) (r .fuel)) (r .answer) ⌝ }
+    requires { ⌜ UnwindFits sizes (sixSetup stack frames chain slots «saved_stack» «saved_frames» setup now) m fuel pc ⌝ }
+    ensures { λ r. ⌜ Met ifSound sizes (unwind fault pc) (sixSetup stack frames chain slots «saved_stack» «saved_frames» setup) (with m fuel) (with (r .machine) (r .fuel)) (r .answer) ⌝ }
 {
     if !is_raisable(fault) {
         return Called {
@@ -175,7 +181,7 @@ pub fn unwind(
         saved_frames,
         setup,
         m,
-        l,
+        sizes,
         fuel,
         fault,
     )

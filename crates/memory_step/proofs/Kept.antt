@@ -30,7 +30,7 @@ use Rattle.memory_sound.specs.Exactly.{Stands}
 use Rattle.memory_sound.proofs.Passed.{room-of}
 use Rattle.memory_sound.proofs.Exactly as Words
 use Rattle.memory_step.specs.Step as Outer
-use Rattle.memory_step.specs.Step.{State, Left, refuses, stateIn, isSound, decoded, does, stepWords, setUpOk, begins, setUpWords, Call, SetUp, Do}
+use Rattle.memory_step.specs.Step.{MemoryState, Left, refuses, stateIn, isSound, decoded, stepSound, stepWords, setUpOk, begins, setUpWords, MemoryCall, SetUp, Do}
 use Rattle.memory_step.specs.Kept.{Kept}
 use Rattle.memory_step.proofs.Lengths.{same-lengths}
 
@@ -64,7 +64,7 @@ module _ (w : World) (M : Lent) (e : sound w ≡ true) (r : Room (w .setup) M) w
 
 -- ---- sound words
 
-module _ (s : State) (e : isSound s ≡ true) where
+module _ (s : MemoryState) (e : isSound s ≡ true) where
   stood : Stands (s .words) (s .machine) (s .fuel) (decoded s)
   stood = Words.tested .exactly (s .words) (s .machine) (s .fuel) .stands e
 
@@ -81,7 +81,7 @@ unfolding step tested
 untested w o e = ap (λ b. pick b (call (o .op) w) (told (refused w Fault.Unsound))) e ∙ pick-true _ _
 
 -- what a call leaves is sound, and has the same set-up
-module _ (s : State) (o : Operation) (e : isSound s ≡ true) where
+module _ (s : MemoryState) (o : Operation) (e : isSound s ≡ true) where
   abbrev after : World
   after = call (o .op) (decoded s) .world
 
@@ -96,9 +96,9 @@ module _ (s : State) (o : Operation) (e : isSound s ≡ true) where
       let p = ap (λ (x : World). x .setup) (sym after-is) ∙ sentences .set-up-stays (decoded s) o in
       subst (λ (u : Setup). Room u (s .words)) (sym p) (stood s e .room)
 
-  pub stepped : stepWords s (o .op) ≡ does s (o .op)
+  pub stepped : stepWords s (o .op) ≡ stepSound s (o .op)
   unfolding stepWords
-  stepped = ap (λ b. pick b (does s (o .op)) (refuses s Fault.Unsound)) e ∙ pick-true _ _
+  stepped = ap (λ b. pick b (stepSound s (o .op)) (refuses s Fault.Unsound)) e ∙ pick-true _ _
 
   kept : isSound (stepWords s (o .op) .state) ≡ true
   kept = ap (λ (x : Left). isSound (x .state)) stepped ∙ passes after (s .words) after-sound after-room
@@ -110,13 +110,13 @@ module _ (s : State) (o : Operation) (e : isSound s ≡ true) where
   kept-lengths = ap (λ (x : Left). lengthsOf (x .state .words)) stepped ∙ same-lengths after (s .words) after-sound after-room
 
 -- words that are not sound stay
-pub refused-words : (s : State) (o : Operation) → isSound s ≡ false → stepWords s (o .op) ≡ refuses s Fault.Unsound
+pub refused-words : (s : MemoryState) (o : Operation) → isSound s ≡ false → stepWords s (o .op) ≡ refuses s Fault.Unsound
 unfolding stepWords
-refused-words s o e = ap (λ b. pick b (does s (o .op)) (refuses s Fault.Unsound)) e ∙ pick-false _ _
+refused-words s o e = ap (λ b. pick b (stepSound s (o .op)) (refuses s Fault.Unsound)) e ∙ pick-false _ _
 
 -- ---- a set-up
 
-module _ (s : State) (given : List ℕ) (e : setUpOk given (s .words) ≡ true) where
+module _ (s : MemoryState) (given : List ℕ) (e : setUpOk given (s .words) ≡ true) where
   abbrev begun-as : Setup
   begun-as = setupOf given
 
@@ -150,13 +150,13 @@ module _ (s : State) (given : List ℕ) (e : setUpOk given (s .words) ≡ true) 
   begun-lengths : lengthsOf (setUpWords s given .state .words) ≡ lengthsOf (s .words)
   begun-lengths = ap (λ (x : Left). lengthsOf (x .state .words)) set-up ∙ same-lengths (fresh begun-as) (s .words) given-sound given-room
 
-pub refused-set-up : (s : State) (given : List ℕ) → setUpOk given (s .words) ≡ false → setUpWords s given ≡ refuses s Fault.Unsound
+pub refused-set-up : (s : MemoryState) (given : List ℕ) → setUpOk given (s .words) ≡ false → setUpWords s given ≡ refuses s Fault.Unsound
 unfolding setUpWords
 refused-set-up s given e = ap (λ b. pick b (begins s given) (refuses s Fault.Unsound)) e ∙ pick-false _ _
 
 -- ---- both
 
-lengths : (s : State) (k : Call) → lengthsOf (Outer.step s k .state .words) ≡ lengthsOf (s .words)
+lengths : (s : MemoryState) (k : MemoryCall) → lengthsOf (Outer.memoryStep s k .state .words) ≡ lengthsOf (s .words)
 lengths s (SetUp given) = go (setUpOk given (s .words)) refl
   where
     go : (b : Bool) → setUpOk given (s .words) ≡ b → lengthsOf (setUpWords s given .state .words) ≡ lengthsOf (s .words)

@@ -39,33 +39,33 @@ use Rattle.memory_world.specs.Rows.{rowAt}
 use Rattle.memory_world.specs.Words.{lengthsOf}
 use Rattle.memory_sound.specs.Words.{restOk, coded, framesHeld}
 use Rattle.memory_sound.proofs.Passed.{passed}
-use Rattle.memory_step.specs.Step.{State, Left, stateIn, isSound, decoded, looked, stepWords, setUpOk, setUpWords, Call, SetUp, Do, step}
-use Rattle.memory_step.specs.Sentences.{number, unchanging, faults, NoSuchFault, no-such, Clear, Sentences}
+use Rattle.memory_step.specs.Step.{MemoryState, Left, stateIn, isSound, decoded, looked, stepWords, setUpOk, setUpWords, MemoryCall, SetUp, Do, memoryStep}
+use Rattle.memory_step.specs.Sentences.{answerNumber, unchanging, faults, NoSuchFault, no-such, Clear, Sentences}
 use Rattle.memory_step.proofs.Kept.{words-kept, own, untested, stepped, refused-words, set-up, refused-set-up}
 
 -- ---- numbers
 
-sound-number : (s : State) (o : Operation) → isSound s ≡ true → number s (Do o) ≡ numberOf (call (o .op) (decoded s) .answer)
+sound-number : (s : MemoryState) (o : Operation) → isSound s ≡ true → answerNumber s (Do o) ≡ numberOf (call (o .op) (decoded s) .answer)
 sound-number s o e = ap (λ (x : Left). numberOf (x .answer)) (stepped s o e)
 
-unsound-number : (s : State) (o : Operation) → isSound s ≡ false → number s (Do o) ≡ 11
+unsound-number : (s : MemoryState) (o : Operation) → isSound s ≡ false → answerNumber s (Do o) ≡ 11
 unsound-number s o e = ap (λ (x : Left). numberOf (x .answer)) (refused-words s o e)
 
-set-up-number : (s : State) (given : List ℕ) → setUpOk given (s .words) ≡ true → number s (SetUp given) ≡ 0
+set-up-number : (s : MemoryState) (given : List ℕ) → setUpOk given (s .words) ≡ true → answerNumber s (SetUp given) ≡ 0
 set-up-number s given e = ap (λ (x : Left). numberOf (x .answer)) (set-up s given e)
 
-bad-number : (s : State) (given : List ℕ) → setUpOk given (s .words) ≡ false → number s (SetUp given) ≡ 11
+bad-number : (s : MemoryState) (given : List ℕ) → setUpOk given (s .words) ≡ false → answerNumber s (SetUp given) ≡ 11
 bad-number s given e = ap (λ (x : Left). numberOf (x .answer)) (refused-set-up s given e)
 
 -- ---- what changes nothing
 
-same-world : (s : State) (o : Operation) → isSound s ≡ true → among (number s (Do o)) unchanging ≡ true → call (o .op) (decoded s) .world ≡ decoded s
+same-world : (s : MemoryState) (o : Operation) → isSound s ≡ true → among (answerNumber s (Do o)) unchanging ≡ true → call (o .op) (decoded s) .world ≡ decoded s
 same-world s o e h =
     let q = untested (decoded s) o (words-kept .stands s e) in
-    let n : numberOf (Step.step (decoded s) (Model.Do o) .answer) ≡ number s (Do o) = ap (λ (x : Out). numberOf (x .answer)) q ∙ sym (sound-number s o e) in
+    let n : numberOf (Step.step (decoded s) (Model.Do o) .answer) ≡ answerNumber s (Do o) = ap (λ (x : Out). numberOf (x .answer)) q ∙ sym (sound-number s o e) in
     ap (λ (x : Out). x .world) (sym q) ∙ Sheet.sentences .unchanged (decoded s) (Model.Do o) (ap (λ m. among m unchanging) n ∙ h)
 
-unchanged : (s : State) (k : Call) → among (number s k) unchanging ≡ true → step s k .state ≡ s
+unchanged : (s : MemoryState) (k : MemoryCall) → among (answerNumber s k) unchanging ≡ true → memoryStep s k .state ≡ s
 unchanged s (SetUp given) h = go (setUpOk given (s .words)) refl
   where
     go : (b : Bool) → setUpOk given (s .words) ≡ b → setUpWords s given .state ≡ s
@@ -103,7 +103,7 @@ among-raisable (Fault.Throw x) = refl
 none-such : (o : Operation) → raises (table (o .op)) ≡ false → NoSuchFault (o .op)
 none-such o h = let u = unwound (o .op) (o .within) h in subst (λ p. NoSuchFault p) (sym (u .is)) (no-such (u .fault) (u .pc) (among-raisable (u .fault) ∙ u .bad))
 
-eleven : (s : State) (o : Operation) → number s (Do o) ≡ 11 → (isSound s ≡ false) ⊎ NoSuchFault (o .op)
+eleven : (s : MemoryState) (o : Operation) → answerNumber s (Do o) ≡ 11 → (isSound s ≡ false) ⊎ NoSuchFault (o .op)
 eleven s o n = go (isSound s) refl
   where
     from : isSound s ≡ true → (b : Bool) → raises (table (o .op)) ≡ b → NoSuchFault (o .op)
@@ -124,15 +124,15 @@ refused-fault f pc w e = ap (λ b. numberOf (pick b (unwindFault f (storeSome pc
 given-none : {o : Op} (w : World) → NoSuchFault o → numberOf (call o w .answer) ≡ 11
 given-none w (no-such f pc h) = refused-fault f pc w (sym (among-raisable f) ∙ h)
 
-no-fault : (s : State) (o : Operation) → NoSuchFault (o .op) → number s (Do o) ≡ 11
+no-fault : (s : MemoryState) (o : Operation) → NoSuchFault (o .op) → answerNumber s (Do o) ≡ 11
 no-fault s o h = go (isSound s) refl
   where
-    go : (b : Bool) → isSound s ≡ b → number s (Do o) ≡ 11
+    go : (b : Bool) → isSound s ≡ b → answerNumber s (Do o) ≡ 11
     go true e = sound-number s o e ∙ given-none (decoded s) h
     go false e = unsound-number s o e
 
 -- an answer but 11 is given to sound words
-tested : (s : State) (o : Operation) → eqb (number s (Do o)) 11 ≡ false → isSound s ≡ true
+tested : (s : MemoryState) (o : Operation) → eqb (answerNumber s (Do o)) 11 ≡ false → isSound s ≡ true
 tested s o h = go (isSound s) refl
   where
     go : (b : Bool) → isSound s ≡ b → isSound s ≡ true
@@ -141,7 +141,7 @@ tested s o h = go (isSound s) refl
 
 -- ---- zeros
 
-pub clear : (s : State) → isSound s ≡ true → Clear s
+pub clear : (s : MemoryState) → isSound s ≡ true → Clear s
 clear s e =
     let M = s .words in
     let m = s .machine in
@@ -166,22 +166,22 @@ clear s e =
 
 -- ---- a look
 
-unseen : (s : State) → isSound s ≡ false → looked s ≡ []
+unseen : (s : MemoryState) → isSound s ≡ false → looked s ≡ []
 unseen s e = ap (λ b. pick b (registers (decoded s)) []) e ∙ pick-false _ _
 
 -- the registers of the top one of n frames
-abbrev registers-of : ℕ → State → List ℕ
+abbrev registers-of : ℕ → MemoryState → List ℕ
 registers-of n s = registersOn (piled 6 frameOf n (s .words .frames)) (take (s .machine .height) (s .words .stack))
 
 pick-nothing : (b : Bool) → pick {A = List ℕ} b [] [] ≡ []
 pick-nothing true = pick-true _ _
 pick-nothing false = pick-false _ _
 
-frameless : (s : State) → s .machine .depth ≡ 0 → looked s ≡ []
+frameless : (s : MemoryState) → s .machine .depth ≡ 0 → looked s ≡ []
 unfolding registers
 frameless s e = ap (λ n. pick (isSound s) (registers-of n s) []) e ∙ pick-nothing (isSound s)
 
-seen : (s : State) (i : ℕ) → isSound s ≡ true → s .machine .depth ≡ suc i
+seen : (s : MemoryState) (i : ℕ) → isSound s ≡ true → s .machine .depth ≡ suc i
     → looked s ≡ drop (getD (chunkAt 6 (s .words .frames) i) 2 0) (take (s .machine .height) (s .words .stack))
 unfolding registers
 seen s i h e = ap (λ b. pick b (registers (decoded s)) []) h ∙ pick-true _ _ ∙ ap (λ n. registers-of n s) e
@@ -196,7 +196,7 @@ sentences =
       set-up = set-up-number;
       bad-set-up = bad-number;
       enough = λ s o h. words-kept .room s (tested s o h);
-      closing = λ s o h. passed (s .words) (s .machine) (s .fuel) (tested s o h) .setup;
+      in-closing-list = λ s o h. passed (s .words) (s .machine) (s .fuel) (tested s o h) .setup;
       unseen = unseen;
       frameless = frameless;
       seen = seen;

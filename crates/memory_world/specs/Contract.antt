@@ -29,17 +29,17 @@ with m f = record { machine = m; fuel = λ b. f }
 -- ---- what is asked; M is of what the function is not lent
 
 -- the words stand for some world of the kind P
-pub record SomeWorld (P : World → Type 0) (l : Sizes) (M : Beside → Lent) (n : Numbers) : Type 0 where
+pub record SomeWorld (P : World → Type 0) (sizes : Sizes) (M : Beside → Lent) (n : Numbers) : Type 0 where
   pub world : World
   pub beside : Beside
-  pub rep : Rep l world (M beside) (n .machine) (n .fuel beside)
+  pub rep : Rep sizes world (M beside) (n .machine) (n .fuel beside)
   pub known : P world
 
 -- they stand for some sound world, and there are words enough
-pub record Ok (l : Sizes) (M : Beside → Lent) (n : Numbers) : Type 0 where
+pub record Ok (sizes : Sizes) (M : Beside → Lent) (n : Numbers) : Type 0 where
   pub world : World
   pub beside : Beside
-  pub rep : Rep l world (M beside) (n .machine) (n .fuel beside)
+  pub rep : Rep sizes world (M beside) (n .machine) (n .fuel beside)
   pub sound : sound world ≡ true
   pub room : Room (world .setup) (M beside)
 
@@ -73,30 +73,30 @@ abbrev pub Lending : Type 0
 Lending = (Slice → List ℕ) → Beside → Lent
 
 -- the words stand for what `o` leaves, and the answer is `o`'s
-pub record Does {A : Type 0} (l : Sizes) (o : After A) (M : Lent) (m : Machine) (f : Fuel) (a : A) : Type 0 where
-  pub world : Rep l (o .world) M m f
+pub record Does {A : Type 0} (sizes : Sizes) (o : After A) (M : Lent) (m : Machine) (f : Fuel) (a : A) : Type 0 where
+  pub world : Rep sizes (o .world) M m f
   pub answer : a ≡ o .answer
 
 -- from the words M to the words M′: what is left and answered; what is left; what is answered
 abbrev pub Gives : {A : Type 0} → Kind → Sizes → (World → After A) → (Beside → Lent) → Numbers → (Beside → Lent) → Numbers → A → Type 0
-Gives K l g M n M′ n′ a = (w : World) (b : Beside) → Rep l w (M b) (n .machine) (n .fuel b) → K w (Does l (g w) (M′ b) (n′ .machine) (n′ .fuel b) a)
+Gives K sizes g M n M′ n′ a = (w : World) (b : Beside) → Rep sizes w (M b) (n .machine) (n .fuel b) → K w (Does sizes (g w) (M′ b) (n′ .machine) (n′ .fuel b) a)
 
 abbrev pub Turns : Kind → Sizes → (World → World) → (Beside → Lent) → Numbers → (Beside → Lent) → Numbers → Type 0
-Turns K l g M n M′ n′ = (w : World) (b : Beside) → Rep l w (M b) (n .machine) (n .fuel b) → K w (Rep l (g w) (M′ b) (n′ .machine) (n′ .fuel b))
+Turns K sizes g M n M′ n′ = (w : World) (b : Beside) → Rep sizes w (M b) (n .machine) (n .fuel b) → K w (Rep sizes (g w) (M′ b) (n′ .machine) (n′ .fuel b))
 
 abbrev pub Tells : {A : Type 0} → Sizes → (World → A) → (Beside → Lent) → Numbers → A → Type 0
-Tells l g M n a = (w : World) (b : Beside) → Rep l w (M b) (n .machine) (n .fuel b) → a ≡ g w
+Tells sizes g M n a = (w : World) (b : Beside) → Rep sizes w (M b) (n .machine) (n .fuel b) → a ≡ g w
 
 -- a function that changes the machine and answers, one that changes it, one that answers
 abbrev pub Met : {A : Type 0} → Kind → Sizes → (World → After A) → Lending → Numbers → Numbers → A → Type 0
-Met K l g L n n′ a = Gives K l g (L atEntry) n (L atExit) n′ a
+Met K sizes g L n n′ a = Gives K sizes g (L atEntry) n (L atExit) n′ a
 
 abbrev pub Leaves : Kind → Sizes → (World → World) → Lending → Numbers → Numbers → Type 0
-Leaves K l g L n n′ = Turns K l g (L atEntry) n (L atExit) n′
+Leaves K sizes g L n n′ = Turns K sizes g (L atEntry) n (L atExit) n′
 
 abbrev pub Reads : {A : Type 0} → Sizes → (World → A) → Lending → Numbers → A → Type 0
-Reads l g L n a = Tells l g (L atEntry) n a
+Reads sizes g L n a = Tells sizes g (L atEntry) n a
 
 -- a function that is given no sizes serves them all
 abbrev pub every : (Sizes → Type 0) → Type 0
-every P = (l : Sizes) → P l
+every P = (sizes : Sizes) → P sizes

@@ -112,13 +112,13 @@ pub record SomeSound (M : Lent) (m : Machine) (f : Fuel) : Type 0 where
 
 pub record OneWorld : Type 0 where
   -- what stands for a sound world decodes to it
-  pub decoded : {l : Sizes} {w : World} {M : Lent} {m : Machine} {f : Fuel} → sound w ≡ true → Rep l w M m f → worldOf M m f ≡ w
+  pub decoded : {sizes : Sizes} {w : World} {M : Lent} {m : Machine} {f : Fuel} → sound w ≡ true → Rep sizes w M m f → worldOf M m f ≡ w
   -- so it stands for no other
-  pub one : {l l′ : Sizes} {w w′ : World} {M : Lent} {m : Machine} {f : Fuel} → sound w ≡ true → sound w′ ≡ true → Rep l w M m f → Rep l′ w′ M m f → w ≡ w′
+  pub one : {sizes l′ : Sizes} {w w′ : World} {M : Lent} {m : Machine} {f : Fuel} → sound w ≡ true → sound w′ ≡ true → Rep sizes w M m f → Rep l′ w′ M m f → w ≡ w′
   -- words are sound exactly if they stand for some sound world
   pub held : {M : Lent} {m : Machine} {f : Fuel} → SoundWords M m f → SomeSound M m f
   pub sounds : {M : Lent} {m : Machine} {f : Fuel} → SomeSound M m f → SoundWords M m f
   -- a world comes back from its words
   pub back : (w : World) → sound w ≡ true → worldOf (wordsOf w) (numbersOf w) (w .fuel) ≡ w
   -- what stands for a world is its words, its numbers and its fuel, to the last word of each slice
-  pub exactly : {l : Sizes} {w : World} {M : Lent} {m : Machine} {f : Fuel} → Rep l w M m f → (M ≡ wordsIn (lengthsOf M) w) × (m ≡ numbersOf w) × (f ≡ w .fuel)
+  pub exactly : {sizes : Sizes} {w : World} {M : Lent} {m : Machine} {f : Fuel} → Rep sizes w M m f → (M ≡ wordsIn (lengthsOf M) w) × (m ≡ numbersOf w) × (f ≡ w .fuel)

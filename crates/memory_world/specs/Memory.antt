@@ -86,19 +86,19 @@ regsRows n xs = tabled (λ i. rowAt i xs .regs) 0 n
 abbrev pub framesRows : ℕ → List (Slot Object) → List (List Frame)
 framesRows n xs = tabled (λ i. rowAt i xs .frames) 0 n
 
-pub record Sized (s : Setup) (l : Sizes) : Type 0 where
-  pub depth : l .depth ≡ s .limits .depth
-  pub stack : l .stack ≡ s .limits .stack
-  pub rows : l .rows ≡ s .limits .rows
-  pub slots : l .slots ≡ s .limits .slots
-  pub memory : l .memory ≡ s .limits .memory
-  pub width : l .width ≡ rowWords s
-  pub costs : l .costs ≡ s .costs
+pub record Sized (s : Setup) (sizes : Sizes) : Type 0 where
+  pub depth : sizes .depth ≡ s .limits .depth
+  pub stack : sizes .stack ≡ s .limits .stack
+  pub rows : sizes .rows ≡ s .limits .rows
+  pub slots : sizes .slots ≡ s .limits .slots
+  pub memory : sizes .memory ≡ s .limits .memory
+  pub width : sizes .width ≡ rowWords s
+  pub costs : sizes .costs ≡ s .costs
 
 -- ---- the words M, the numbers m and the fuel f stand for the world w
 
-pub record Rep (l : Sizes) (w : World) (M : Lent) (m : Machine) (f : Fuel) : Type 0 where
-  pub sizes : Sized (w .setup) l
+pub record Rep (given : Sizes) (w : World) (M : Lent) (m : Machine) (f : Fuel) : Type 0 where
+  pub sizes : Sized (w .setup) given
   pub setup : M .setup ≡ pad (length (M .setup)) (setupWords (w .setup))
   pub stack : Stack (w .stack) (M .stack) (m .height)
   pub frames : Frames (w .frames) (M .frames) (m .depth)

@@ -17,6 +17,6 @@ pub record SetupFits (ws : List ℕ) : Type 0 where
   pub functions : 14 + getD ws 13 0 * 35 ≤ length ws
 
 -- the sizes of what the words decode to, and so of every accepted set-up that they hold
-pub record SizesTold (ws : List ℕ) (l : Sizes) : Type 0 where
-  pub words : l ≡ sizesOf (setupOf ws)
-  pub setup : (s : Setup) → setupOk s ≡ true → ws ≡ pad (length ws) (setupWords s) → l ≡ sizesOf s
+pub record SizesTold (ws : List ℕ) (sizes : Sizes) : Type 0 where
+  pub words : sizes ≡ sizesOf (setupOf ws)
+  pub setup : (s : Setup) → setupOk s ≡ true → ws ≡ pad (length ws) (setupWords s) → sizes ≡ sizesOf s

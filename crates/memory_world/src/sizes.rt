@@ -39,15 +39,15 @@ pub fn sizes(setup: &[u64]) -> Sizes
     requires { ⌜ SetupFits (now setup) ⌝ }
     ensures { λ r. ⌜ SizesTold (now (setup .entry)) r ⌝ }
 {
-    let l = memory_tables::program::limits(setup);
+    let limits = memory_tables::program::limits(setup);
     let costs = memory_tables::program::costs(setup);
     let width = row_words(setup);
     Sizes {
-        depth: l.depth as usize,
-        stack: l.stack as usize,
-        rows: l.rows as usize,
-        slots: l.slots as usize,
-        memory: l.memory,
+        depth: limits.depth as usize,
+        stack: limits.stack as usize,
+        rows: limits.rows as usize,
+        slots: limits.slots as usize,
+        memory: limits.memory,
         width,
         costs,
     }

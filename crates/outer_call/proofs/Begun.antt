@@ -35,7 +35,7 @@ use Rattle.memory_sound.specs.Words.{same, setupHeld, roomOk}
 use Rattle.memory_sound.proofs.Held.{same-true}
 use Rattle.memory_sound.proofs.Passed.{room-of}
 use Rattle.check_tables.specs.Room.{roomTest, SizesFit}
-use Rattle.memory_step.specs.Step.{State, Left, left, refuses, stateIn, setUpOk, setUpWords}
+use Rattle.memory_step.specs.Step.{MemoryState, Left, left, refuses, stateIn, setUpOk, setUpWords}
 use Rattle.outer_call.specs.State.{state}
 use Rattle.outer_call.specs.SetUp.{lengths, begins}
 use Rattle.outer_call.proofs.Stepping.{same-lengths, exact}
@@ -140,7 +140,7 @@ module _ (ws : List ℕ) (M : Lent) (h : setUpOk ws M ≡ true) where
 
 -- ---- the call
 
-module _ (s : State) (ws : List ℕ) where
+module _ (s : MemoryState) (ws : List ℕ) where
   pub accepts : setUpOk ws (s .words) ≡ true → begins (s .words) ws ≡ setUpWords s ws
   unfolding setUpWords
   accepts h = sym (ap (λ b. pick b (begins (s .words) ws) (refuses s Fault.Unsound)) h ∙ pick-true _ _)

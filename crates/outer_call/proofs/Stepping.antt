@@ -21,7 +21,7 @@ use Rattle.memory_world.proofs.Widest.{held-fits}
 use Rattle.memory_world.proofs.Decoded.{one-world}
 use Rattle.memory_sound.specs.Exactly.{Stands}
 use Rattle.memory_sound.proofs.Exactly.{tested}
-use Rattle.memory_step.specs.Step.{State, Left, left, refuses, stateIn, isSound, decoded, stepWords}
+use Rattle.memory_step.specs.Step.{MemoryState, Left, left, refuses, stateIn, isSound, decoded, stepWords}
 use Rattle.machine_step.specs.Kept.{did}
 use Rattle.outer_call.specs.State.{state, SoundFits}
 

@@ -2,8 +2,8 @@
 use Prim.Native.Nat.{ℕ}
 use Rattle.model.specs.declared.call.Op.{Op}
 use Rattle.machine_added.specs.declared.fuel.GrantDid.{GrantDid}
-use Rattle.memory_step.specs.Step.{State, stepWords}
+use Rattle.memory_step.specs.Step.{MemoryState, stepWords}
 
 -- what the call leaves of the fuel, and answers
-abbrev pub grantWords : State → ℕ → GrantDid
+abbrev pub grantWords : MemoryState → ℕ → GrantDid
 grantWords s n = let d = stepWords s (Op.Grant n) in record { fuel = d .state .fuel; answer = d .answer }

@@ -11,7 +11,7 @@ use Rattle.memory_world.specs.declared.machine.Sizes.{Sizes}
 use Rattle.machine_state.specs.declared.called.Called.{Called}
 use Rattle.memory_world.specs.Words.{sizesOf}
 use Rattle.memory_world.specs.Decode.{setupOf}
-use Rattle.memory_step.specs.Step.{State, Left, left, isSound, stepWords}
+use Rattle.memory_step.specs.Step.{MemoryState, Left, left, isSound, stepWords}
 
 -- the nine slices, by a way to read one
 module _ {X : Type 0} where
@@ -19,7 +19,7 @@ module _ {X : Type 0} where
   nine s f c o r q a z u t =
       record { stack = t s; frames = t f; chain = t c; slots = t o; savedStack = t r; savedFrames = t q; ready = t a; finalize = t z; setup = t u }
 
-abbrev pub state : Lent → Machine → Fuel → State
+abbrev pub state : Lent → Machine → Fuel → MemoryState
 state M m f = record { words = M; machine = m; fuel = f }
 
 -- the words that a call left, and its result
@@ -27,11 +27,11 @@ abbrev pub gives : Lent → Called → Left
 gives M r = left (state M (r .machine) (r .fuel)) (r .answer)
 
 -- sound words, and the sizes of their set-up
-pub record SoundFits (l : Sizes) (s : State) : Type 0 where
+pub record SoundFits (given : Sizes) (s : MemoryState) : Type 0 where
   pub sound : isSound s ≡ true
-  pub sizes : l ≡ sizesOf (setupOf (s .words .setup))
+  pub sizes : given ≡ sizesOf (setupOf (s .words .setup))
 
-pub record Steps (s : State) (o : Op) (d : Left) : Type 0 where
+pub record Steps (s : MemoryState) (o : Op) (d : Left) : Type 0 where
   pub is : d ≡ stepWords s o
   -- so the next call may be made
   pub again : isSound (d .state) ≡ true

@@ -24,11 +24,11 @@ pub fn sound_call(
     finalize: &mut [u64],
     setup: &[u64],
     m: Machine,
-    l: Sizes,
+    sizes: Sizes,
     fuel: Fuel,
     op: Op,
 ) -> Called
-    requires { ⌜ SoundFits l (state (nine stack frames chain slots «saved_stack» «saved_frames» ready finalize setup now) m fuel) ⌝ }
+    requires { ⌜ SoundFits sizes (state (nine stack frames chain slots «saved_stack» «saved_frames» ready finalize setup now) m fuel) ⌝ }
     ensures { λ r. ⌜ Steps (state (nine stack frames chain slots «saved_stack» «saved_frames» ready finalize setup atEntry) m fuel) op (gives (nine stack frames chain slots «saved_stack» «saved_frames» ready finalize setup atExit) r) ⌝ }
 {
     machine_step::kept::kept(
@@ -42,7 +42,7 @@ pub fn sound_call(
         finalize,
         setup,
         m,
-        l,
+        sizes,
         fuel,
         op,
     )
@@ -81,7 +81,7 @@ fn called(
     if !ok {
         return unsound(m, fuel);
     }
-    let l = memory_world::sizes::sizes(setup);
+    let sizes = memory_world::sizes::sizes(setup);
     sound_call(
         stack,
         frames,
@@ -93,7 +93,7 @@ fn called(
         finalize,
         setup,
         m,
-        l,
+        sizes,
         fuel,
         op,
     )

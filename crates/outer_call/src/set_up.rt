@@ -34,9 +34,9 @@ pub fn allowed(
     if !check_tables::setup::setup_held(given) {
         return false;
     }
-    let l = memory_world::sizes::sizes(given);
+    let sizes = memory_world::sizes::sizes(given);
     if !check_tables::room::room_ok(
-        l,
+        sizes,
         stack,
         frames,
         chain,

@@ -16,17 +16,17 @@ use Rattle.memory_world.specs.Words.{sizesOf}
 use Rattle.memory_world.specs.Decode.{setupOf}
 use Rattle.memory_calls.specs.Answer.{answerWords}
 use Rattle.memory_calls.specs.declared.call.Read.{Read}
-use Rattle.memory_step.specs.Step.{State, Left, isSound}
+use Rattle.memory_step.specs.Step.{MemoryState, Left, isSound}
 use Rattle.outer_call.specs.State.{SoundFits}
 use Rattle.outer_run.specs.Run.{doWords, Ran, runWords, countOf, readIn, callsIn, written, refusals, Reads, ListFits, Listed}
 use Rattle.outer_run.proofs.Written.{splice-next}
 
-module _ (l : Sizes) (cs xs₀ : List ℕ) (n : ℕ) (s₀ : State) where
+module _ (l : Sizes) (cs xs₀ : List ℕ) (n : ℕ) (s₀ : MemoryState) where
   -- the calls from place i on
   abbrev pub left-at : ℕ → List Read
   left-at i = callsIn (n - i) (drop (i * 6) cs)
 
-  pub record Along (s : State) (xs : List ℕ) (i : ℕ) : Type 0 where
+  pub record Along (s : MemoryState) (xs : List ℕ) (i : ℕ) : Type 0 where
     pub fits : SoundFits l s
     pub within : i ≤ n
     pub lengths : SameLengths (s₀ .words) (s .words)
@@ -46,7 +46,7 @@ module _ (l : Sizes) (cs xs₀ : List ℕ) (n : ℕ) (s₀ : State) where
         answers = ap (λ k. written xs₀ 0 (runWords s₀ (callsIn k cs) .answers)) e;
       }
 
-  pub along-end : (s : State) (xs : List ℕ) (i : ℕ) → n ≤ i → Along s xs i → Listed s₀ cs xs₀ n s xs
+  pub along-end : (s : MemoryState) (xs : List ℕ) (i : ℕ) → n ≤ i → Along s xs i → Listed s₀ cs xs₀ n s xs
   along-end s xs i h a =
       let w = a .within in
       let e : n - i ≡ 0 = omega arith in
@@ -62,14 +62,14 @@ module _ (l : Sizes) (cs xs₀ : List ℕ) (n : ℕ) (s₀ : State) where
       ap (λ k. callsIn k (drop (i * 6) cs)) e
       ∙ ap (λ (z : List ℕ). readIn cs i ∷ callsIn (n - (i + 1)) z) (drop-drop 6 (i * 6) cs ∙ ap (λ k. drop k cs) p)
 
-  module _ (s : State) (xs : List ℕ) (i : ℕ) (a : Along s xs i) (h : i < n) (room : n * 8 ≤ length xs₀) where
+  module _ (s : MemoryState) (xs : List ℕ) (i : ℕ) (a : Along s xs i) (h : i < n) (room : n * 8 ≤ length xs₀) where
     pub along-more : (d : Left) (xs′ : List ℕ) → Reads s (readIn cs i) d → xs′ ≡ putChunk 8 xs i (answerWords (d .answer)) → SameLengths (s .words) (d .state .words)
         → d .state .words .setup ≡ s .words .setup → length xs′ ≡ length xs → Along (d .state) xs′ (i + 1)
     along-more d xs′ r e q u g =
         let rs = left-at (i + 1) in
         let A = answerWords (d .answer) in
-        let at : State → Ran = λ x. runWords x rs in
-        let W : State → List ℕ = λ x. words answerWords (at x .answers) in
+        let at : MemoryState → Ran = λ x. runWords x rs in
+        let W : MemoryState → List ℕ = λ x. words answerWords (at x .answers) in
         let step = next i h in
         let D = doWords s (readIn cs i) in
         let is : d ≡ D = r .is in
@@ -90,7 +90,7 @@ module _ (l : Sizes) (cs xs₀ : List ℕ) (n : ℕ) (s₀ : State) where
         }
 
 -- the next turn, by what was read, done and put
-pub along-next : {l : Sizes} {cs xs₀ xs xs′ : List ℕ} {n i : ℕ} {s₀ s : State} {r : Read} {d : Left} → Along l cs xs₀ n s₀ s xs i → i < n → n * 8 ≤ length xs₀ → r ≡ readIn cs i
+pub along-next : {l : Sizes} {cs xs₀ xs xs′ : List ℕ} {n i : ℕ} {s₀ s : MemoryState} {r : Read} {d : Left} → Along l cs xs₀ n s₀ s xs i → i < n → n * 8 ≤ length xs₀ → r ≡ readIn cs i
     → Reads s r d → xs′ ≡ putChunk 8 xs i (answerWords (d .answer)) → SameLengths (s .words) (d .state .words) → d .state .words .setup ≡ s .words .setup → length xs′ ≡ length xs
     → Along l cs xs₀ n s₀ (d .state) xs′ (i + 1)
 along-next {l} {cs} {xs₀} {xs} {xs′} {n} {i} {s₀} {s} {r} {d} a h room e did = along-more l cs xs₀ n s₀ s xs i a h room d xs′ (subst (λ z. Reads s z d) e did)

@@ -17,7 +17,7 @@ use Rattle.memory_world.specs.declared.machine.Machine.{Machine}
 use Rattle.memory_calls.specs.Call.{refusal}
 use Rattle.memory_calls.specs.declared.call.Gate.{Gate}
 use Rattle.memory_calls.specs.declared.call.Read.{Read}
-use Rattle.memory_step.specs.Step.{State, Left, refuses, isSound, decoded}
+use Rattle.memory_step.specs.Step.{MemoryState, Left, refuses, isSound, decoded}
 use Rattle.outer_call.specs.State.{state, Steps}
 use Rattle.outer_call.proofs.Stepping.{stands}
 use Rattle.outer_run.specs.Run.{doWords, Reads}
@@ -39,5 +39,5 @@ module _ (M : Lent) (m : Machine) (f : Fuel) (e : isSound (state M m f) ≡ true
       record { is = ap (refuses s) (k ∙ ap (refusal g) no-frames ∙ sym (ap (λ b. pick b y Fault.Unsound) e ∙ pick-true _ _)) ∙ ap (doWords s) (sym q); again = e }
 
 -- a call
-pub call-read : (s : State) (r : Read) (o : Op) (d : Left) → r ≡ Read.Is o → Steps s o d → Reads s r d
+pub call-read : (s : MemoryState) (r : Read) (o : Op) (d : Left) → r ≡ Read.Is o → Steps s o d → Reads s r d
 call-read s r o d e k = record { is = k .is ∙ ap (doWords s) (sym e); again = k .again }

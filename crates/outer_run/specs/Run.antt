@@ -15,23 +15,23 @@ use Rattle.memory_world.specs.declared.machine.Sizes.{Sizes}
 use Rattle.memory_calls.specs.Call.{refusal, opOf}
 use Rattle.memory_calls.specs.Answer.{answerWords}
 use Rattle.memory_calls.specs.declared.call.Read.{Read}
-use Rattle.memory_step.specs.Step.{State, Left, refuses, isSound, decoded, stepWords}
+use Rattle.memory_step.specs.Step.{MemoryState, Left, refuses, isSound, decoded, stepWords}
 use Rattle.outer_call.specs.State.{SoundFits}
 
 -- ---- one
 
 -- words that are no call are refused too in 01's order: "Each tests 11 first, then 12 or 15, then 13 or 16"
-abbrev pub doWords : State → Read → Left
+abbrev pub doWords : MemoryState → Read → Left
 doWords s (Read.Is o) = stepWords s o
 doWords s (Read.Not g) = refuses s (pick (isSound s) (refusal g (isNil (decoded s .frames))) Fault.Unsound)
 
 -- ---- a list: the states one after the other, and the answers
 
 pub record Ran : Type 0 where
-  pub state : State
+  pub state : MemoryState
   pub answers : List Answer
 
-abbrev pub runWords : State → List Read → Ran
+abbrev pub runWords : MemoryState → List Read → Ran
 runWords s [] = record { state = s; answers = [] }
 runWords s (r ∷ rs) =
     let d = doWords s r in
@@ -58,17 +58,17 @@ refusals n = replicate n (Answer.Refused Fault.Unsound)
 
 -- ---- what the functions ask and promise, on sound words
 
-pub record Reads (s : State) (r : Read) (d : Left) : Type 0 where
+pub record Reads (s : MemoryState) (r : Read) (d : Left) : Type 0 where
   pub is : d ≡ doWords s r
   -- so the next call may be made
   pub again : isSound (d .state) ≡ true
 
 -- as many calls as the words hold, and words enough for their answers
-pub record ListFits (l : Sizes) (s : State) (cs xs : List ℕ) (n : ℕ) : Type 0 where
-  pub fits : SoundFits l s
+pub record ListFits (sizes : Sizes) (s : MemoryState) (cs xs : List ℕ) (n : ℕ) : Type 0 where
+  pub fits : SoundFits sizes s
   pub calls : n ≡ countOf (length cs)
   pub room : n * 8 ≤ length xs
 
-pub record Listed (s : State) (cs xs : List ℕ) (n : ℕ) (s′ : State) (xs′ : List ℕ) : Type 0 where
+pub record Listed (s : MemoryState) (cs xs : List ℕ) (n : ℕ) (s′ : MemoryState) (xs′ : List ℕ) : Type 0 where
   pub state : s′ ≡ runWords s (callsIn n cs) .state
   pub answers : xs′ ≡ written xs 0 (runWords s (callsIn n cs) .answers)

@@ -81,13 +81,13 @@ pub fn run_list(
     finalize: &mut [u64],
     setup: &[u64],
     m: Machine,
-    l: Sizes,
+    sizes: Sizes,
     fuel: Fuel,
     calls: &[u64],
     answers: &mut [u64],
     n: usize,
 ) -> Ran
-    requires { ⌜ ListFits l (state (nine stack frames chain slots «saved_stack» «saved_frames» ready finalize setup now) m fuel) (now calls) (now answers) n ⌝ }
+    requires { ⌜ ListFits sizes (state (nine stack frames chain slots «saved_stack» «saved_frames» ready finalize setup now) m fuel) (now calls) (now answers) n ⌝ }
     ensures { λ r. ⌜ Listed (state (nine stack frames chain slots «saved_stack» «saved_frames» ready finalize setup atEntry) m fuel)
         (now (calls .entry)) (now (answers .entry)) n (state (nine stack frames chain slots «saved_stack» «saved_frames» ready finalize setup atExit)
         (r .machine) (r .fuel)) (now (answers .exit)) ⌝ }
@@ -108,7 +108,7 @@ pub fn run_list(
             finalize,
             setup,
             k,
-            l,
+            sizes,
             f,
             read,
         );

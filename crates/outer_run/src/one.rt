@@ -23,11 +23,11 @@ pub fn do_read(
     finalize: &mut [u64],
     setup: &[u64],
     m: Machine,
-    l: Sizes,
+    sizes: Sizes,
     fuel: Fuel,
     read: Read,
 ) -> Called
-    requires { ⌜ SoundFits l (state (nine stack frames chain slots «saved_stack» «saved_frames» ready finalize setup now) m fuel) ⌝ }
+    requires { ⌜ SoundFits sizes (state (nine stack frames chain slots «saved_stack» «saved_frames» ready finalize setup now) m fuel) ⌝ }
     ensures { λ r. ⌜ Reads (state (nine stack frames chain slots «saved_stack» «saved_frames» ready finalize setup atEntry) m fuel) read (gives (nine stack frames chain slots «saved_stack» «saved_frames» ready finalize setup atExit) r) ⌝ }
 {
     match read {
@@ -42,7 +42,7 @@ pub fn do_read(
             finalize,
             setup,
             m,
-            l,
+            sizes,
             fuel,
             op,
         ),

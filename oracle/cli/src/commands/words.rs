@@ -29,7 +29,7 @@ use Rattle.memory_calls.specs.Call.{opOf}
 use Rattle.memory_calls.specs.Answer.{answerWords, answerIn}
 use Rattle.memory_calls.specs.declared.call.Read.{Read}
 use Rattle.memory_world.specs.Words.{lengthsOf}
-use Rattle.memory_step.specs.Step.{State, left, stateIn, decoded, stepWords, setUpWords, looked}
+use Rattle.memory_step.specs.Step.{MemoryState, left, stateIn, decoded, stepWords, setUpWords, looked}
 ";
 
 /// The fields of `Lent`, in the order of the slices.
@@ -106,7 +106,7 @@ fn theorems(text: &mut String, engine: &mut dyn Engine, i: usize, s: &Sequence) 
     engine.load(&s.start);
     let mut was = Words::of(&s.start);
     let mut name = format!("h{i}-0");
-    let _ = writeln!(text, "\nabbrev {name} : State\n{name} = {}", state(&was, None));
+    let _ = writeln!(text, "\nabbrev {name} : MemoryState\n{name} = {}", state(&was, None));
     for (j, k) in s.calls.iter().enumerate() {
         let a = engine.call(k);
         if matches!(k, Call::SetUp(_)) && a.number == 0 {
@@ -116,7 +116,7 @@ fn theorems(text: &mut String, engine: &mut dyn Engine, i: usize, s: &Sequence) 
         let next = format!("h{i}-{}", j + 1);
         let _ = writeln!(
             text,
-            "\nabbrev {next} : State\n{next} = {}",
+            "\nabbrev {next} : MemoryState\n{next} = {}",
             state(&now, Some((&name, &was)))
         );
         let (statement, n) = claim(k, &a, &answer(k, &a), &name, &next);
@@ -265,7 +265,7 @@ pub(crate) fn memories(dir: &Path) -> Result<(), String> {
     let whole = Words::of(&world);
     let begin = String::from(HEAD)
         + MORE
-        + &format!("\nabbrev whole : State\nwhole = {}\n", state(&whole, None));
+        + &format!("\nabbrev whole : MemoryState\nwhole = {}\n", state(&whole, None));
     for (n, (good, change)) in CHANGES.iter().enumerate() {
         if n % MEMORIES == 0 {
             text.clone_from(&begin);
@@ -276,7 +276,7 @@ pub(crate) fn memories(dir: &Path) -> Result<(), String> {
             return Err(format!("memory {n}: the oracle's own test says {:?}", read(&w).err()));
         }
         let _ =
-            writeln!(text, "\nabbrev h{n} : State\nh{n} = {}", state(&w, Some(("whole", &whole))));
+            writeln!(text, "\nabbrev h{n} : MemoryState\nh{n} = {}", state(&w, Some(("whole", &whole))));
         let tested = format!("soundWords (h{n} .words) (h{n} .machine) (h{n} .fuel) ≡ {good}");
         let _ = writeln!(text, "m{n} : {tested}\nunfolding computed soundWords\nm{n} = refl");
         let _ = if *good {
@@ -302,7 +302,7 @@ pub(crate) fn memories(dir: &Path) -> Result<(), String> {
         let given = words(&setup_words(&s));
         let _ = writeln!(
             text,
-            "\nabbrev f{n} : State\nf{n} = {}",
+            "\nabbrev f{n} : MemoryState\nf{n} = {}",
             state(&after, Some(("whole", &whole)))
         );
         let _ = writeln!(

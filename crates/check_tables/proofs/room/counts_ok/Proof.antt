@@ -11,7 +11,7 @@ use Rattle.check_tables.proofs.room.counts_ok.Tie as tie
 
 abbrev tests : tie.Start → List Bool
 tests c =
-    let m = c .args .m in let l = c .args .l in
+    let m = c .args .m in let l = c .args .sizes in
     leb (m .height) (l .stack) ∷ leb (m .depth) (l .depth) ∷ leb (m .active) (l .depth) ∷ leb (m .count) (l .slots) ∷ leb (m .ready) (l .slots)
     ∷ leb (m .finalize) (l .slots) ∷ leb (m .used) (l .memory) ∷ []
 

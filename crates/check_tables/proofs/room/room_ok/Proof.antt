@@ -14,7 +14,7 @@ use Rattle.check_tables.proofs.room.room_ok.Tie as tie
 
 abbrev tests : tie.Start → List Bool
 tests c =
-    let a = c .args in let l = a .l in
+    let a = c .args in let l = a .sizes in
     leb (l .stack) (a .stack) ∷ leb (l .depth * 6) (a .frames) ∷ leb (l .depth * 6) (a .chain) ∷ leb (l .slots * width) (a .slots) ∷ leb (l .rows * l .width) (a .saved)
     ∷ leb (l .rows * (l .depth * 6)) (a .asleep) ∷ leb (l .slots) (a .ready) ∷ leb (l .slots) (a .finalize) ∷ []
 
@@ -47,8 +47,8 @@ passed-7 : (c : tie.Else7) → Passed 7 (c .before .before .before .before .befo
 passed-7 c = pass (passed-6 (c .before .before)) (le-leb _ _ (c .if7 .left))
 
 -- the rows' products are small
-products : (c : tie.Start) → let l = c .args .l in (l .rows * l .width ≤ 64 * l .width) × (l .rows * (l .depth * 6) ≤ 64 * (l .depth * 6))
-products c = let l = c .args .l in (mul-le-mul-right (l .width) (c .pre .rows), mul-le-mul-right (l .depth * 6) (c .pre .rows))
+products : (c : tie.Start) → let l = c .args .sizes in (l .rows * l .width ≤ 64 * l .width) × (l .rows * (l .depth * 6) ≤ 64 * (l .depth * 6))
+products c = let l = c .args .sizes in (mul-le-mul-right (l .width) (c .pre .rows), mul-le-mul-right (l .depth * 6) (c .pre .rows))
 
 mul-records : tie.Need-mul-records
 mul-records c = let p = c .before .pre in omega arith

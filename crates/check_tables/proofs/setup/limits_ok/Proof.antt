@@ -30,7 +30,7 @@ returns-4 : tie.Need-returns-4
 returns-4 c =
     let at-if3 = c .before in let at-between3 = at-if3 .before in let at-if2 = at-between3 .before in let at-between2 = at-if2 .before in let at-if1 = at-between2 .before in
     let at-between = at-if1 .before in let start = at-between .before in
-    let l = start .args .l in
+    let l = start .args .limits in
     let m : ltb (l .memory) (2 ^ 64) ≡ true = lt-ltb (l .memory) (2 ^ 64) (omega (arith, start .good)) in
     c .between4 .ensures ∙ sym (rw (sym (at-between .between .ensures) ∙ not-false _ (at-if1 .if1 .left), sym (at-between2 .between2 .ensures) ∙ not-false _ (at-if2 .if2 .left), sym (at-between3 .between3 .ensures) ∙ not-false _ (at-if3 .if3 .left), m, and-true (between 1 4096 (l .slots))))
 

@@ -14,14 +14,14 @@ mem c b = cleaning (c .args .stack .now) (c .args .frames .now) (c .args .chain 
 returns : tie.Need-returns
 returns c =
     let at-if1 = c .before in let start = at-if1 .before .before .before .before .before .before .before .before .before in
-    λ w b rep snd. charge-fast (start .args .l) (mem start b) (start .args .m) (start .args .fuel) w rep (OptPc.Some (start .args .pc)) _ (at-if1 .if1 .taken) (c .spend .ensures)
+    λ w b rep snd. charge-fast (start .args .sizes) (mem start b) (start .args .m) (start .args .fuel) w rep (OptPc.Some (start .args .pc)) _ (at-if1 .if1 .taken) (c .spend .ensures)
 
 returns-2 : tie.Need-returns-2
 returns-2 c =
     let at-charge-slow = c .before .before .before .before .before .before .before .before .before .before .before .before .before .before in
     let at-if1 = at-charge-slow .before .before .before .before .before .before .before .before in
     let start = at-if1 .before .before .before .before .before .before .before .before .before in
-    λ w b rep snd. charge-slow (start .args .l) (mem start b) (start .args .m) (start .args .fuel) w rep (OptPc.Some (start .args .pc)) _ _ _ _
+    λ w b rep snd. charge-slow (start .args .sizes) (mem start b) (start .args .m) (start .args .fuel) w rep (OptPc.Some (start .args .pc)) _ _ _ _
     (at-if1 .if1 .left) (at-charge-slow .charge-slow .ensures w b rep snd)
 
 pub charge-spec : {M : Type 1} → statement M

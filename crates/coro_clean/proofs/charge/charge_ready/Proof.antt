@@ -36,13 +36,13 @@ words c b =
 
 searched : (c : tie.After-start-finalizer) (w : World) (b : Beside) →
     let entry = start-of c in
-    Rep (entry .args .l) w (mem entry b) (entry .args .m) (entry .args .fuel) → sound w ≡ true
-    → Does (entry .args .l) (startFinalizer (storePc (entry .args .pc) w)) (words c b) (c .start-finalizer .result .machine) (c .start-finalizer .result .fuel)
+    Rep (entry .args .sizes) w (mem entry b) (entry .args .m) (entry .args .fuel) → sound w ≡ true
+    → Does (entry .args .sizes) (startFinalizer (storePc (entry .args .pc) w)) (words c b) (c .start-finalizer .result .machine) (c .start-finalizer .result .fuel)
     (c .start-finalizer .result .answer)
 searched c w b rep snd =
     let at-store-pc = store-pc-of (c .before) in
     let entry = at-store-pc .before .before .before .before .before .before .before .before .before in
-    c .start-finalizer .ensures (storePc (entry .args .pc) w) b (at-store-pc .store-pc .ensures (entry .args .l) w (record { words = mem entry b; fuel = entry .args .fuel }) rep)
+    c .start-finalizer .ensures (storePc (entry .args .pc) w) b (at-store-pc .store-pc .ensures (entry .args .sizes) w (record { words = mem entry b; fuel = entry .args .fuel }) rep)
     (store-sounds (entry .args .pc) w (entry .pre .charge .narrow) snd)
 
 start-finalizer-requires : tie.Need-start-finalizer-requires
@@ -50,16 +50,16 @@ start-finalizer-requires c κs =
     let at-store-pc = store-pc-of c in
     let entry = at-store-pc .before .before .before .before .before .before .before .before .before in
     let o = entry .pre .charge .ok in
-    stored-ok (entry .args .l) (entry .args .m) (entry .args .fuel) (entry .args .stack .now) (entry .args .frames .now) (entry .args .chain .now)
+    stored-ok (entry .args .sizes) (entry .args .m) (entry .args .fuel) (entry .args .stack .now) (entry .args .frames .now) (entry .args .chain .now)
     (entry .args .slots .now) (entry .args .saved-stack .now) (entry .args .saved-frames .now)
     (entry .args .finalize .now) (at-store-pc .store-pc .last .0) (entry .args .pc) (at-store-pc .store-pc .kept .0) (entry .pre .charge .narrow) o
-    (at-store-pc .store-pc .ensures (entry .args .l) (o .world) (record { words = mem entry (o .beside); fuel = entry .args .fuel }) (o .rep))
+    (at-store-pc .store-pc .ensures (entry .args .sizes) (o .world) (record { words = mem entry (o .beside); fuel = entry .args .fuel }) (o .rep))
 
 charge-or-requires : tie.Need-charge-or-requires
 charge-or-requires c κs =
     let at-start-finalizer = start-finalizer-of c in let start = start-of at-start-finalizer in
     let o = start .pre .charge .ok in
-    unit-left (start .args .l) _ _ _ (start .args .fuel) (storePc (start .args .pc) (o .world)) _ (o .rep .fuel)
+    unit-left (start .args .sizes) _ _ _ (start .args .fuel) (storePc (start .args .pc) (o .world)) _ (o .rep .fuel)
     (searched at-start-finalizer (o .world) (o .beside) (o .rep) (o .sound)) (start .pre .paid)
 
 same-length-2 : tie.Need-same-length-2
@@ -72,8 +72,8 @@ returns c =
     let at-start-finalizer = start-finalizer-of (c .before) in let start = start-of at-start-finalizer in
     λ w b rep snd.
     let d = searched at-start-finalizer w b rep snd in
-    sought (start .args .l) _ _ _ (start .args .pc) w _ _ (d .answer)
-    (c .charge-or .ensures (start .args .l) (startFinalizer (storePc (start .args .pc) w) .world) (record { words = words at-start-finalizer b; fuel = start .args .fuel }) (d .world))
+    sought (start .args .sizes) _ _ _ (start .args .pc) w _ _ (d .answer)
+    (c .charge-or .ensures (start .args .sizes) (startFinalizer (storePc (start .args .pc) w) .world) (record { words = words at-start-finalizer b; fuel = start .args .fuel }) (d .world))
 
 pub charge-ready-spec : {M : Type 1} → statement M
 charge-ready-spec =

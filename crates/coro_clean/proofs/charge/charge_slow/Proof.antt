@@ -23,7 +23,7 @@ mem c b = cleaning (c .args .stack .now) (c .args .frames .now) (c .args .chain 
 returns : tie.Need-returns
 returns c =
     let at-unbank = c .before .before in let start = start-of at-unbank in
-    λ w b rep snd. slow-spent (start .args .l) (mem start b) (start .args .m) (start .args .fuel) w rep (at-unbank .unbank .result) (at-unbank .unbank .ensures)
+    λ w b rep snd. slow-spent (start .args .sizes) (mem start b) (start .args .m) (start .args .fuel) w rep (at-unbank .unbank .result) (at-unbank .unbank .ensures)
     (OptPc.Some (start .args .pc)) (c .if1 .taken)
 
 charge-ready-requires : tie.Need-charge-ready-requires
@@ -33,7 +33,7 @@ charge-ready-requires c κs =
     let p = start .pre in
     record {
       charge = record {
-        ok = unbank-ok (start .args .l) (mem start) (start .args .m) (start .args .fuel) (at-unbank .unbank .result) (at-unbank .unbank .ensures) (p .ok);
+        ok = unbank-ok (start .args .sizes) (mem start) (start .args .m) (start .args .fuel) (at-unbank .unbank .result) (at-unbank .unbank .ensures) (p .ok);
         narrow = p .narrow;
         some = p .some;
       };
@@ -47,9 +47,9 @@ returns-2 c =
     let at-unbank = at-if1 .before .before in let start = start-of at-unbank in
     λ w b rep snd.
     let f = at-unbank .unbank .result in
-    let again = back-rep (start .args .l) (mem start b) (start .args .m) (start .args .fuel) w rep f (at-unbank .unbank .ensures) in
-    slow-paid (start .args .l) (mem start b) (start .args .m) (start .args .fuel) w rep f (at-unbank .unbank .ensures) (OptPc.Some (start .args .pc)) _ _ _ _ (at-if1 .if1 .left)
-    (at-ready (start .args .l) _ _ _ (start .args .pc) (unbank w) _ (sym (ap (λ (x : Fuel). x .ready) (again .fuel)) ∙ at-if2 .if2 .taken)
+    let again = back-rep (start .args .sizes) (mem start b) (start .args .m) (start .args .fuel) w rep f (at-unbank .unbank .ensures) in
+    slow-paid (start .args .sizes) (mem start b) (start .args .m) (start .args .fuel) w rep f (at-unbank .unbank .ensures) (OptPc.Some (start .args .pc)) _ _ _ _ (at-if1 .if1 .left)
+    (at-ready (start .args .sizes) _ _ _ (start .args .pc) (unbank w) _ (sym (ap (λ (x : Fuel). x .ready) (again .fuel)) ∙ at-if2 .if2 .taken)
     (at-charge-ready .charge-ready .ensures (unbank w) b again (unbank-sounds w snd)))
 
 returns-3 : tie.Need-returns-3
@@ -58,11 +58,11 @@ returns-3 c =
     let at-unbank = at-if1 .before .before in let start = start-of at-unbank in
     λ w b rep snd.
     let f = at-unbank .unbank .result in
-    let again = back-rep (start .args .l) (mem start b) (start .args .m) (start .args .fuel) w rep f (at-unbank .unbank .ensures) in
-    slow-paid (start .args .l) (mem start b) (start .args .m) (start .args .fuel) w rep f (at-unbank .unbank .ensures) (OptPc.Some (start .args .pc)) (mem start b)
+    let again = back-rep (start .args .sizes) (mem start b) (start .args .m) (start .args .fuel) w rep f (at-unbank .unbank .ensures) in
+    slow-paid (start .args .sizes) (mem start b) (start .args .m) (start .args .fuel) w rep f (at-unbank .unbank .ensures) (OptPc.Some (start .args .pc)) (mem start b)
     (start .args .m) _ _ (at-if1 .if1 .left)
-    (at-idle (start .args .l) (mem start b) (start .args .m) _ (start .args .pc) (unbank w) _ (sym (ap (λ (x : Fuel). x .ready) (again .fuel)) ∙ at-if2 .if2 .left)
-    (at-charge-done .charge-done .ensures (start .args .m) (start .args .l) (unbank w) (record { words = mem start b; fuel = f }) again))
+    (at-idle (start .args .sizes) (mem start b) (start .args .m) _ (start .args .pc) (unbank w) _ (sym (ap (λ (x : Fuel). x .ready) (again .fuel)) ∙ at-if2 .if2 .left)
+    (at-charge-done .charge-done .ensures (start .args .m) (start .args .sizes) (unbank w) (record { words = mem start b; fuel = f }) again))
 
 pub charge-slow-spec : {M : Type 1} → statement M
 charge-slow-spec =

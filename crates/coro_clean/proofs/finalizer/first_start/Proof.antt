@@ -16,7 +16,7 @@ abbrev μ-loop : tie.MeasureT-loop
 loop-holds : tie.Need-loop-holds Inv-loop μ-loop
 loop-holds c =
     let start = c .before .before in
-    (omega arith, ahead-start (starts (start .args .slots .now) (start .args .m) (start .args .l)) (start .args .finalize .now) (start .args .m .finalize))
+    (omega arith, ahead-start (starts (start .args .slots .now) (start .args .m) (start .args .sizes)) (start .args .finalize .now) (start .args .m .finalize))
 
 mul-t9 : tie.Need-mul-t9 Inv-loop μ-loop
 mul-t9 c = omega arith
@@ -34,7 +34,7 @@ may-start-requires c κs =
 returns : tie.Need-returns Inv-loop μ-loop
 returns c =
     let asked = c .before in let loop = asked .before .before .before in let start = loop .before .before .before in
-    ahead-hit (starts (start .args .slots .now) (start .args .m) (start .args .l)) (start .args .finalize .now) (start .args .m .finalize) (loop .loop .i)
+    ahead-hit (starts (start .args .slots .now) (start .args .m) (start .args .sizes)) (start .args .finalize .now) (start .args .m .finalize) (loop .loop .i)
     (start .pre .words) (loop .loop .inv .1)
     (omega arith) (sym (asked .may-start .ensures) ∙ c .if1 .taken)
 
@@ -48,7 +48,7 @@ loop-again : tie.Need-loop-again Inv-loop μ-loop
 loop-again c =
     let asked = c .before in let loop = asked .before .before .before in let start = loop .before .before .before in (
       omega arith,
-      ahead-next (starts (start .args .slots .now) (start .args .m) (start .args .l)) (start .args .finalize .now) (start .args .m .finalize) (loop .loop .i)
+      ahead-next (starts (start .args .slots .now) (start .args .m) (start .args .sizes)) (start .args .finalize .now) (start .args .m .finalize) (loop .loop .i)
           (start .pre .words) (loop .loop .inv .1)
           (omega arith) (sym (asked .may-start .ensures) ∙ c .if1 .left),
     )
@@ -56,7 +56,7 @@ loop-again c =
 returns-2 : tie.Need-returns-2 Inv-loop μ-loop
 returns-2 c =
     let loop = c .before in let start = loop .before .before .before in
-    ahead-end (starts (start .args .slots .now) (start .args .m) (start .args .l)) (start .args .finalize .now) (start .args .m .finalize) (loop .loop .i)
+    ahead-end (starts (start .args .slots .now) (start .args .m) (start .args .sizes)) (start .args .finalize .now) (start .args .m .finalize) (loop .loop .i)
     (start .pre .words) (loop .loop .inv .1) (omega arith)
 
 pub first-start-spec : {M : Type 1} → statement M

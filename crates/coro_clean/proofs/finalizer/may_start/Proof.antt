@@ -50,7 +50,7 @@ returns : tie.Need-returns
 returns c =
     let asked = c .before in let read = asked .before in let at-known-told = read .before in
     let start = at-known-told .before .before .before .before .before in
-    starts-awake (start .args .slots .now) (start .args .m) (start .args .l) (start .args .v .0) (slot at-known-told) (read .coro-at .result) (found read)
+    starts-awake (start .args .slots .now) (start .args .m) (start .args .sizes) (start .args .v .0) (slot at-known-told) (read .coro-at .result) (found read)
     (sym (asked .is-suspended .ensures) ∙ not-true _ (c .if1 .taken))
 
 refusal-requires : tie.Need-refusal-requires
@@ -63,7 +63,7 @@ returns-2 : tie.Need-returns-2
 returns-2 c =
     let placed = c .before .before in
     let start = placed .before .before in
-    starts-not (start .args .slots .now) (start .args .m) (start .args .l) (start .args .v .0) _
+    starts-not (start .args .slots .now) (start .args .m) (start .args .sizes) (start .args .v .0) _
     (none-there (coroOf (slotsOf (start .args .m .count) (start .args .slots .now)) (start .args .v .0)) _ (sym (c .enum-told .given .1) ∙ placed .coro-place .ensures))
 
 returns-3 : tie.Need-returns-3
@@ -71,7 +71,7 @@ returns-3 c =
     let refused = c .before in let tested = refused .before in let asked = tested .before in let read = asked .before in
     let at-known-told = read .before in let start = at-known-told .before .before .before .before .before in
     ap (λ n. eqb n 0) (c .number .ensures)
-    ∙ starts-asleep (start .args .slots .now) (start .args .m) (start .args .l) (start .args .v .0) (slot at-known-told) (read .coro-at .result) (found read) (refused .refusal .result)
+    ∙ starts-asleep (start .args .slots .now) (start .args .m) (start .args .sizes) (start .args .v .0) (slot at-known-told) (read .coro-at .result) (found read) (refused .refusal .result)
     (sym (asked .is-suspended .ensures) ∙ not-false _ (tested .if1 .left)) (refused .refusal .ensures)
 
 pub may-start-spec : {M : Type 1} → statement M

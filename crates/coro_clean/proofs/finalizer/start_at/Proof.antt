@@ -48,19 +48,19 @@ words c b =
 
 entered : (c : tie.After-coro-enter) (w : World) (b : Beside) →
     let at-word-at = word-at-of c in let entry = start-of at-word-at in
-    Rep (entry .args .l) w (mem entry b) (entry .args .m) (entry .args .fuel) → sound w ≡ true
-    → Does (entry .args .l) (coroEnter (at-word-at .word-at .result) Driver.Finalize (fewer entry w)) (words c b) (c .coro-enter .result .machine)
+    Rep (entry .args .sizes) w (mem entry b) (entry .args .m) (entry .args .fuel) → sound w ≡ true
+    → Does (entry .args .sizes) (coroEnter (at-word-at .word-at .result) Driver.Finalize (fewer entry w)) (words c b) (c .coro-enter .result .machine)
     (entry .args .fuel) (c .coro-enter .result .answer)
 entered c w b rep snd =
     let at-take-front = take-front-of (c .before) in let entry = start-of (at-take-front .before .before) in
     c .coro-enter .ensures (fewer entry w) (record { words = onFinalize (at-take-front .take-front .last .0) (b .words); fuel = entry .args .fuel })
-    (fewer-rep (entry .args .l) (mem entry b) (entry .args .m) (entry .args .fuel) w rep (entry .args .i + 1) _ _ (at-take-front .take-front .ensures))
+    (fewer-rep (entry .args .sizes) (mem entry b) (entry .args .m) (entry .args .fuel) w rep (entry .args .i + 1) _ _ (at-take-front .take-front .ensures))
     (fewer-sound w (entry .args .i + 1) snd)
 
 coro-enter-requires : tie.Need-coro-enter-requires
 coro-enter-requires c κs =
     let at-take-front = take-front-of c in let entry = start-of (at-take-front .before .before) in
-    fewer-ok (entry .args .l) (entry .args .m) (entry .args .fuel) (entry .args .stack .now) (entry .args .frames .now) (entry .args .chain .now)
+    fewer-ok (entry .args .sizes) (entry .args .m) (entry .args .fuel) (entry .args .stack .now) (entry .args .frames .now) (entry .args .chain .now)
     (entry .args .slots .now) (entry .args .saved-stack .now) (entry .args .saved-frames .now)
     (entry .args .finalize .now) (at-take-front .take-front .last .0) (entry .args .i + 1) _ (entry .pre .ok) (at-take-front .take-front .ensures) (at-take-front .take-front .kept .0)
 
@@ -85,11 +85,11 @@ returns c =
     let v = at-word-at .word-at .result in
     let u = coroEnter v Driver.Finalize (fewer entry w) .world in
     let f = entry .args .fuel in
-    start-does (entry .args .l) (mem entry b) (entry .args .m) f w rep (entry .args .i) v _ _ _
+    start-does (entry .args .sizes) (mem entry b) (entry .args .m) f w rep (entry .args .i) v _ _ _
     (at-word-at .word-at .ensures (w .finalize) (entry .args .m .finalize) (rep .finalize) (entry .pre .below) .is)
-    (at-set-finalizing .set-finalizing .ensures (entry .args .l) (changeCoro v (λ k. k) (close 0) u)
+    (at-set-finalizing .set-finalizing .ensures (entry .args .sizes) (changeCoro v (λ k. k) (close 0) u)
     (record { words = onSlots (at-set-closing .set-closing .last .0) (words at-coro-enter b); fuel = f })
-    (at-set-closing .set-closing .ensures (entry .args .l) u (record { words = words at-coro-enter b; fuel = f }) (entered at-coro-enter w b rep snd .world)))
+    (at-set-closing .set-closing .ensures (entry .args .sizes) u (record { words = words at-coro-enter b; fuel = f }) (entered at-coro-enter w b rep snd .world)))
 
 pub start-at-spec : {M : Type 1} → statement M
 start-at-spec =

@@ -20,14 +20,14 @@ first-start-requires : tie.Need-first-start-requires
 first-start-requires c κs =
     let entry = start-of (c .before .before) in
     let o = entry .pre in
-    search-fits (entry .args .l) (mem entry (o .beside)) (entry .args .m) (entry .args .fuel) (o .world) (o .rep) (o .sound)
+    search-fits (entry .args .sizes) (mem entry (o .beside)) (entry .args .m) (entry .args .fuel) (o .world) (o .rep) (o .sound)
 
 start-at-requires : tie.Need-start-at-requires
 start-at-requires c κs =
     let at-if1 = c .before .before .before .before .before .before .before in
     let at-unbank = at-if1 .before .before .before .before .before in let entry = start-of at-unbank in
     record {
-      ok = unbank-ok (entry .args .l) (mem entry) (entry .args .m) (entry .args .fuel) (at-unbank .unbank .result) (at-unbank .unbank .ensures)
+      ok = unbank-ok (entry .args .sizes) (mem entry) (entry .args .m) (entry .args .fuel) (at-unbank .unbank .result) (at-unbank .unbank .ensures)
           (entry .pre);
       below = at-if1 .if1 .taken;
     }
@@ -39,8 +39,8 @@ returns c =
     let at-first-start = at-if1 .before .before in let at-unbank = at-first-start .before .before .before in
     let entry = start-of at-unbank in
     λ w b rep snd.
-    let again = unbank-rep (entry .args .l) (mem entry b) (entry .args .m) (entry .args .fuel) w rep (at-unbank .unbank .result) (at-unbank .unbank .ensures) in
-    finalizer-at (entry .args .l) (mem entry b) (entry .args .m) (at-unbank .unbank .result) w again (at-first-start .first-start .result)
+    let again = unbank-rep (entry .args .sizes) (mem entry b) (entry .args .m) (entry .args .fuel) w rep (at-unbank .unbank .result) (at-unbank .unbank .ensures) in
+    finalizer-at (entry .args .sizes) (mem entry b) (entry .args .m) (at-unbank .unbank .result) w again (at-first-start .first-start .result)
     (at-first-start .first-start .ensures) _ _ _ _ (at-if1 .if1 .taken)
     (at-start-at .start-at .ensures (unbank w) b again (unbank-sounds w snd))
 
@@ -50,10 +50,10 @@ returns-2 c =
     let at-first-start = at-if1 .before .before in let at-unbank = at-first-start .before .before .before in
     let entry = start-of at-unbank in
     λ w b rep snd.
-    let again = unbank-rep (entry .args .l) (mem entry b) (entry .args .m) (entry .args .fuel) w rep (at-unbank .unbank .result) (at-unbank .unbank .ensures) in
-    finalizer-none (entry .args .l) (mem entry b) (entry .args .m) (at-unbank .unbank .result) w again (at-first-start .first-start .result)
+    let again = unbank-rep (entry .args .sizes) (mem entry b) (entry .args .m) (entry .args .fuel) w rep (at-unbank .unbank .result) (at-unbank .unbank .ensures) in
+    finalizer-none (entry .args .sizes) (mem entry b) (entry .args .m) (at-unbank .unbank .result) w again (at-first-start .first-start .result)
     (at-first-start .first-start .ensures) _ _ _ _ (at-if1 .if1 .left)
-    (at-start-none .start-none .ensures (entry .args .l) (unbank w) (record { words = mem entry b; fuel = b .fuel }) again)
+    (at-start-none .start-none .ensures (entry .args .sizes) (unbank w) (record { words = mem entry b; fuel = b .fuel }) again)
 
 pub start-finalizer-spec : {M : Type 1} → statement M
 start-finalizer-spec =

@@ -28,7 +28,7 @@ mem c b = making (c .args .slots .now) (c .args .saved-stack .now) (c .args .sav
 few : (c : tie.Start) → c .args .n ≤ length (c .args .args)
 few c = let l : length (c .args .args) ≡ 255 = search needs in let k = c .pre .few in omega arith
 
-room : (c : tie.Start) → TableFits (c .args .slots .now) (c .args .l .slots)
+room : (c : tie.Start) → TableFits (c .args .slots .now) (c .args .sizes .slots)
 room c = let z = c .pre .ok .rep .sizes .slots in let r = c .pre .ok .room .slots in omega arith
 
 -- the row that was found
@@ -36,18 +36,18 @@ abbrev row : tie.After-known-told2 → ℕ
 row c = c .before .row .given .0 .0
 
 found : (c : tie.After-known-told2) →
-    let a = start-of (regs-at-of c) .args in Spot.Row (row c) ≡ spotOf (slotsOf (a .m .count) (a .slots .now)) (a .m) (a .l) (regs-at-of c .regs-at .result)
+    let a = start-of (regs-at-of c) .args in Spot.Row (row c) ≡ spotOf (slotsOf (a .m .count) (a .slots .now)) (a .m) (a .sizes) (regs-at-of c .regs-at .result)
 found c = sym (c .before .row .given .1) ∙ c .before .before .before .find-spot .ensures
 
-told : (c : tie.After-regs-at) → Numbers (start-of c .args .l) (c .regs-at .result)
+told : (c : tie.After-regs-at) → Numbers (start-of c .args .sizes) (c .regs-at .result)
 told c =
     let start = start-of c in let a = start .args in let o = start .pre .ok in
-    numbers (a .l) (mem start (o .beside)) (a .m) (o .beside .fuel) (o .world) (o .rep) (a .f) (o .sound) (start .pre .function) (c .regs-at .result) (c .regs-at .ensures)
+    numbers (a .sizes) (mem start (o .beside)) (a .m) (o .beside .fuel) (o .world) (o .rep) (a .f) (o .sound) (start .pre .function) (c .regs-at .result) (c .regs-at .ensures)
 
 regs-at-requires : tie.Need-regs-at-requires
 regs-at-requires c κs =
     let start = c .before .before .before .before in let a = start .args in let o = start .pre .ok in
-    in-setup (a .l) (mem start (o .beside)) (a .m) (o .beside .fuel) (o .world) (o .rep) (a .f) (o .sound) (start .pre .function) (o .room)
+    in-setup (a .sizes) (mem start (o .beside)) (a .m) (o .beside .fuel) (o .world) (o .rep) (a .f) (o .sound) (start .pre .function) (o .room)
 
 find-spot-requires : tie.Need-find-spot-requires
 find-spot-requires c κs = let k = told (c .before) in record { words = start-of (c .before) .pre .ok .rep .slots .within; rows = k .rows; bytes = k .first }
@@ -58,7 +58,7 @@ bytes-requires c κs = told (regs-at-of (c .before .before .before)) .second
 alloc-requires : tie.Need-alloc-requires
 alloc-requires c κs =
     let at-regs-at = regs-at-of (c .before .before .before .before .before .before) in let start = start-of at-regs-at in
-    let e : c .heap-of .result .slots ≡ start .args .l .slots = ap (λ x. x .slots) (c .heap-of .ensures) in
+    let e : c .heap-of .result .slots ≡ start .args .sizes .slots = ap (λ x. x .slots) (c .heap-of .ensures) in
     let k = told at-regs-at .slots in let r = room start in
     record { words = omega arith; slots = omega arith }
 
@@ -66,14 +66,14 @@ write-row-requires : tie.Need-write-row-requires
 write-row-requires c κs =
     let place = c .before .before .before .before .before .before .before .before .before .before .before .before .before .before in
     let at-regs-at = regs-at-of place in let start = start-of at-regs-at in let a = start .args in let o = start .pre .ok in
-    write-fits (a .l) (mem start (o .beside)) (a .m) (o .beside .fuel) (o .world) (o .rep) (o .sound) (a .f) (a .closure) (a .n) (at-regs-at .regs-at .result) (a .args)
+    write-fits (a .sizes) (mem start (o .beside)) (a .m) (o .beside .fuel) (o .world) (o .rep) (o .sound) (a .f) (a .closure) (a .n) (at-regs-at .regs-at .result) (a .args)
     (few start) (start .pre .function) (at-regs-at .regs-at .ensures) (row place) (found place) (start .pre .few)
 
 returns : tie.Need-returns
 returns c =
     let at-g = c .before in let at-find-spot = at-g .before .before in let at-regs-at = at-find-spot .before .before in let start = start-of at-regs-at in let a = start .args in
     λ w b rep snd.
-    not-created (a .l) (mem start b) (a .m) (b .fuel) w rep snd (a .f) (a .closure) (a .n) (at-regs-at .regs-at .result) (a .args)
+    not-created (a .sizes) (mem start b) (a .m) (b .fuel) w rep snd (a .f) (a .closure) (a .n) (at-regs-at .regs-at .result) (a .args)
     (few start) (start .pre .function) (at-regs-at .regs-at .ensures) _ (sym (at-g .g .given .1) ∙ at-find-spot .find-spot .ensures)
 
 returns-2 : tie.Need-returns-2
@@ -82,10 +82,10 @@ returns-2 c =
     let at-sequenced = at-bytes .before in let at-new-object = at-sequenced .before in let place = at-new-object .before .before in
     let at-regs-at = regs-at-of place in let start = start-of at-regs-at in let a = start .args in
     λ w b rep snd.
-    not-charged (a .l) (mem start b) (a .m) (b .fuel) w rep snd (a .f) (a .closure) (a .n) (at-regs-at .regs-at .result) (a .args)
+    not-charged (a .sizes) (mem start b) (a .m) (b .fuel) w rep snd (a .f) (a .closure) (a .n) (at-regs-at .regs-at .result) (a .args)
     (few start) (start .pre .function) (at-regs-at .regs-at .ensures) (row place) (found place) _ (at-sequenced .sequenced .result) _ (at-sequenced .sequenced .ensures)
     (alloc-told (a .slots .now) _ _ _ _ _ _ _ _ _ (at-alloc .alloc .ensures) (at-g2 .g2 .given .1)
-    (at-heap-of .heap-of .ensures ∙ ap (λ q. heapOf q (a .l)) (at-sequenced .sequenced .ensures)) (at-bytes .bytes .ensures) (at-new-object .new-object .ensures))
+    (at-heap-of .heap-of .ensures ∙ ap (λ q. heapOf q (a .sizes)) (at-sequenced .sequenced .ensures)) (at-bytes .bytes .ensures) (at-new-object .new-object .ensures))
 
 returns-3 : tie.Need-returns-3
 returns-3 c =
@@ -94,10 +94,10 @@ returns-3 c =
     let at-sequenced = at-bytes .before in let at-new-object = at-sequenced .before in let place = at-new-object .before .before in
     let at-regs-at = regs-at-of place in let start = start-of at-regs-at in let a = start .args in
     λ w b rep snd.
-    was-created (a .l) (mem start b) (a .m) (b .fuel) w rep snd (a .f) (a .closure) (a .n) (at-regs-at .regs-at .result) (a .args)
+    was-created (a .sizes) (mem start b) (a .m) (b .fuel) w rep snd (a .f) (a .closure) (a .n) (at-regs-at .regs-at .result) (a .args)
     (few start) (start .pre .function) (at-regs-at .regs-at .ensures) (row place) (found place) _ (room start) (at-sequenced .sequenced .result) (c .allocated .result) _ _ _ _
     (at-sequenced .sequenced .ensures) (c .allocated .ensures) (alloc-told (a .slots .now) _ _ _ _ _ _ _ _ _ (at-alloc .alloc .ensures) (at-v .v .given .1)
-    (at-heap-of .heap-of .ensures ∙ ap (λ q. heapOf q (a .l)) (at-sequenced .sequenced .ensures)) (at-bytes .bytes .ensures) (at-new-object .new-object .ensures)) (at-write-row .write-row .ensures)
+    (at-heap-of .heap-of .ensures ∙ ap (λ q. heapOf q (a .sizes)) (at-sequenced .sequenced .ensures)) (at-bytes .bytes .ensures) (at-new-object .new-object .ensures)) (at-write-row .write-row .ensures)
 
 pub coro-create-spec : {M : Type 1} → statement M
 coro-create-spec =

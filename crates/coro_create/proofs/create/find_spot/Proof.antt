@@ -15,7 +15,7 @@ start-of c = c .before .before .before .before .before
 -- what is lacking for the first test
 fault : (c : tie.After-number) →
     let at-lacks = c .before in let start = start-of at-lacks in
-    at-lacks .lacks .result ≡ lacksOf (heapOf (start .args .m) (start .args .l)) (bytesOf (start .args .regs) (start .args .l .costs .coro) (start .args .l .costs .frame))
+    at-lacks .lacks .result ≡ lacksOf (heapOf (start .args .m) (start .args .sizes)) (bytesOf (start .args .regs) (start .args .sizes .costs .coro) (start .args .sizes .costs .frame))
 fault c =
     let at-lacks = c .before in let at-bytes = at-lacks .before in let at-heap-of = at-bytes .before in
     at-lacks .lacks .ensures ∙ ap₂ lacksOf (at-heap-of .heap-of .ensures) (at-bytes .bytes .ensures)
@@ -23,21 +23,21 @@ fault c =
 returns : tie.Need-returns
 returns c =
     let at-number = c .before in let at-lacks = at-number .before in let start = start-of at-lacks in
-    spot-lacks (slotsOf (start .args .m .count) (start .args .slots .now)) (start .args .m) (start .args .l) (start .args .regs) (at-lacks .lacks .result)
+    spot-lacks (slotsOf (start .args .m .count) (start .args .slots .now)) (start .args .m) (start .args .sizes) (start .args .regs) (at-lacks .lacks .result)
     (fault at-number) (λ z. c .if1 .taken (at-number .number .ensures ∙ z))
 
 returns-2 : tie.Need-returns-2
 returns-2 c =
     let at-lowest-free-row = c .before .before in let at-if1 = at-lowest-free-row .before in let at-number = at-if1 .before in
     let at-lacks = at-number .before in let start = start-of at-lacks in
-    spot-full (slotsOf (start .args .m .count) (start .args .slots .now)) (start .args .m) (start .args .l) (start .args .regs) (at-lacks .lacks .result)
+    spot-full (slotsOf (start .args .m .count) (start .args .slots .now)) (start .args .m) (start .args .sizes) (start .args .regs) (at-lacks .lacks .result)
     (fault at-number) (sym (at-number .number .ensures) ∙ at-if1 .if1 .left) (at-lowest-free-row .lowest-free-row .result) (at-lowest-free-row .lowest-free-row .ensures) (c .if2 .taken)
 
 returns-3 : tie.Need-returns-3
 returns-3 c =
     let at-lowest-free-row = c .before .before in let at-if1 = at-lowest-free-row .before in let at-number = at-if1 .before in
     let at-lacks = at-number .before in let start = start-of at-lacks in
-    spot-row (slotsOf (start .args .m .count) (start .args .slots .now)) (start .args .m) (start .args .l) (start .args .regs) (at-lacks .lacks .result)
+    spot-row (slotsOf (start .args .m .count) (start .args .slots .now)) (start .args .m) (start .args .sizes) (start .args .regs) (at-lacks .lacks .result)
     (fault at-number) (sym (at-number .number .ensures) ∙ at-if1 .if1 .left) (at-lowest-free-row .lowest-free-row .result) (at-lowest-free-row .lowest-free-row .ensures) (c .if2 .left)
 
 pub find-spot-spec : {M : Type 1} → statement M

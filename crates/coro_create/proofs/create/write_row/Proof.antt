@@ -29,7 +29,7 @@ returns c =
     let at-put-frame = c .before .before in let at-fill-row = at-put-frame .before .before .before .before .before in
     let at-copied = at-fill-row .before .before .before in let start = at-copied .before .before .before .before in
     record {
-      stack = at-fill-row .fill-row .ensures ∙ ap (λ k. splice (start .args .saved-stack .now) (start .args .row * start .args .l .width)
+      stack = at-fill-row .fill-row .ensures ∙ ap (λ k. splice (start .args .saved-stack .now) (start .args .row * start .args .sizes .width)
           (pad (start .args .regs) (take k (start .args .t8)))) (at-copied .copied .ensures);
       frames = at-put-frame .put-frame .ensures;
     }

@@ -18,8 +18,8 @@ returns c =
     let g = set .set-finalizing in
     λ w b rep rowed.
     let M = ending (f .last .0) (f .last .1 .0) (f .last .1 .1 .0) (f .last .1 .1 .1 .0) plain b in
-    aborted (a .l) M (g .result .machine) (g .result .fuel) w
-    (g .ensures (a .l) (failActive w) (record { words = M; fuel = b .fuel }) (f .ensures w (record { words = b .words; fuel = a .fuel }) rep rowed))
+    aborted (a .sizes) M (g .result .machine) (g .result .fuel) w
+    (g .ensures (a .sizes) (failActive w) (record { words = M; fuel = b .fuel }) (f .ensures w (record { words = b .words; fuel = a .fuel }) rep rowed))
 
 pub abort-coros-spec : {M : Type 1} → statement M
 abort-coros-spec =

@@ -38,7 +38,7 @@ so-far c = c .loop .inv .kept (c .loop .inv .some .beside)
 loop-holds : tie.Need-loop-holds Inv-loop μ-loop
 loop-holds c =
     let start = c .before .before .before .before in let a = start .args in
-    along-start (a .l) (ending (a .chain .now) (a .slots .now) (a .saved-stack .now) (a .saved-frames .now) plain) (a .m) (start .pre)
+    along-start (a .sizes) (ending (a .chain .now) (a .slots .now) (a .saved-stack .now) (a .saved-frames .now) plain) (a .m) (start .pre)
 
 end-last-requires : tie.Need-end-last-requires Inv-loop μ-loop
 end-last-requires c κs = record { held = c .before .before .before .before .before .before .loop .inv .some; ends = refl }

@@ -20,7 +20,7 @@ returns : tie.Need-returns
 returns c =
     let a = start-of (c .before) .args in
     λ w b rep rowed.
-    none-escaped (a .l) (lent (a .stack .now) (a .frames .now) (a .chain .now) (a .slots .now) (a .saved-stack .now) (a .saved-frames .now) b) (a .m) (a .fuel)
+    none-escaped (a .sizes) (lent (a .stack .now) (a .frames .now) (a .chain .now) (a .slots .now) (a .saved-stack .now) (a .saved-frames .now) b) (a .m) (a .fuel)
     w (a .value) (a .func) (a .pc) rep (c .if1 .taken)
 
 closed-by-requires : tie.Need-closed-by-requires
@@ -38,16 +38,16 @@ returns-2 c =
     let active : 1 ≤ a .m .active = omega (arith, some .if1 .left) in
     λ w b rep rowed.
     let M = lent (a .stack .now) (a .frames .now) (a .chain .now) (a .slots .now) (a .saved-stack .now) (a .saved-frames .now) b in
-    let t = last (a .l) M (a .m) (a .fuel) w rep x active (read .active-at .ensures) in
-    let closed = sym (asked .closed-by .ensures (a .l) w (record { words = M; fuel = a .fuel }) rep) ∙ test .if2 .taken in
-    close-succeeds (a .l) (lent (f .last .0) (f .last .1 .0) (f .last .1 .1 .0) (f .last .1 .1 .1 .0) (f .last .1 .1 .1 .1 .0) (f .last .1 .1 .1 .1 .1 .0) b)
+    let t = last (a .sizes) M (a .m) (a .fuel) w rep x active (read .active-at .ensures) in
+    let closed = sym (asked .closed-by .ensures (a .sizes) w (record { words = M; fuel = a .fuel }) rep) ∙ test .if2 .taken in
+    close-succeeds (a .sizes) (lent (f .last .0) (f .last .1 .0) (f .last .1 .1 .0) (f .last .1 .1 .1 .0) (f .last .1 .1 .1 .1 .0) (f .last .1 .1 .1 .1 .1 .0) b)
     (f .result .machine) (f .result .fuel) w (a .value) (a .func) (a .pc) x t closed (f .ensures w b rep rowed)
 
 end-last-requires : tie.Need-end-last-requires
 end-last-requires c κs =
     let start = start-of (c .before .before .before .before .before .before .before .before .before .before .before) in
     let a = start .args in
-    end-fits (a .l) (a .m) (a .stack .now) (a .frames .now) (a .chain .now) (a .slots .now) (a .saved-stack .now) (a .saved-frames .now) (start .pre) CoroState.Failed refl
+    end-fits (a .sizes) (a .m) (a .stack .now) (a .frames .now) (a .chain .now) (a .slots .now) (a .saved-stack .now) (a .saved-frames .now) (start .pre) CoroState.Failed refl
 
 returns-3 : tie.Need-returns-3
 returns-3 c =
@@ -62,11 +62,11 @@ returns-3 c =
     λ w b rep rowed.
     let M = lent (a .stack .now) (a .frames .now) (a .chain .now) (a .slots .now) (a .saved-stack .now) (a .saved-frames .now) b in
     let M′ = lent (a .stack .now) (a .frames .now) (f .last .0) (f .last .1 .0) (f .last .1 .1 .0) (f .last .1 .1 .1 .0) b in
-    let t = last (a .l) M (a .m) (a .fuel) w rep x active (read .active-at .ensures) in
-    let left = sym (asked .closed-by .ensures (a .l) w (record { words = M; fuel = a .fuel }) rep) ∙ test .if2 .left in
+    let t = last (a .sizes) M (a .m) (a .fuel) w rep x active (read .active-at .ensures) in
+    let left = sym (asked .closed-by .ensures (a .sizes) w (record { words = M; fuel = a .fuel }) rep) ∙ test .if2 .left in
     let e = f .ensures w (record { words = onStack (a .stack .now) (onFrames (a .frames .now) (b .words)); fuel = a .fuel }) rep rowed in
-    fails (a .l) M′ (g .result .machine) (g .result .fuel) w (a .value) (a .func) (a .pc) x t (g .result .answer) left
-    (g .ensures (a .l) (endLast CoroState.Failed (a .value) w) (record { words = M′; fuel = b .fuel }) e)
+    fails (a .sizes) M′ (g .result .machine) (g .result .fuel) w (a .value) (a .func) (a .pc) x t (g .result .answer) left
+    (g .ensures (a .sizes) (endLast CoroState.Failed (a .value) w) (record { words = M′; fuel = b .fuel }) e)
 
 pub coro-escaped-spec : {M : Type 1} → statement M
 coro-escaped-spec =

@@ -13,7 +13,7 @@ returns : tie.Need-returns
 returns c =
     let start = c .before .before .before .before .before .before in
     let a = start .args in
-    λ w b rep rowed. none-ends-last (a .l) (ending (a .chain .now) (a .slots .now) (a .saved-stack .now) (a .saved-frames .now) plain b) (a .m) (b .fuel) w rep
+    λ w b rep rowed. none-ends-last (a .sizes) (ending (a .chain .now) (a .slots .now) (a .saved-stack .now) (a .saved-frames .now) plain b) (a .m) (b .fuel) w rep
     (a .s) (a .result) (c .if1 .taken)
 
 finish-coroutine-requires : tie.Need-finish-coroutine-requires
@@ -22,7 +22,7 @@ finish-coroutine-requires c κs =
     let test = read .before .before .before in let start = test .before .before .before .before .before .before in
     let a = start .args in
     let some : 1 ≤ a .m .active = omega (arith, test .if1 .left) in
-    finish-fits (a .l) (a .m) (a .chain .now) (a .slots .now) (a .saved-stack .now) (a .saved-frames .now) (a .s) (start .pre) (read .active-at .result) some
+    finish-fits (a .sizes) (a .m) (a .chain .now) (a .slots .now) (a .saved-stack .now) (a .saved-frames .now) (a .s) (start .pre) (read .active-at .result) some
     (read .active-at .ensures) (gone .pop-active .last .0)
     (gone .pop-active .ensures)
 
@@ -35,10 +35,10 @@ returns-2 c =
     let some : 1 ≤ a .m .active = omega (arith, test .if1 .left) in
     λ w b rep rowed.
     let M = ending (a .chain .now) (a .slots .now) (a .saved-stack .now) (a .saved-frames .now) plain b in
-    let t = last (a .l) M (a .m) (b .fuel) w rep x some (read .active-at .ensures) in
-    let p = popped (a .l) M (a .m) (b .fuel) w rep x t (gone .pop-active .last .0) (gone .pop-active .ensures) in
+    let t = last (a .sizes) M (a .m) (b .fuel) w rep x some (read .active-at .ensures) in
+    let p = popped (a .sizes) M (a .m) (b .fuel) w rep x t (gone .pop-active .last .0) (gone .pop-active .ensures) in
     let f = done .finish-coroutine in
-    ends-last (a .l) (ending (gone .pop-active .last .0) (f .last .0) (f .last .1 .0) (f .last .1 .1 .0) plain b) _ (b .fuel) w (a .s) (a .result) x t
+    ends-last (a .sizes) (ending (gone .pop-active .last .0) (f .last .0) (f .last .1 .0) (f .last .1 .1 .0) plain b) _ (b .fuel) w (a .s) (a .result) x t
     (f .ensures _ (record { words = onChain (gone .pop-active .last .0) (b .words); fuel = b .fuel }) p rowed)
 
 pub end-last-spec : {M : Type 1} → statement M

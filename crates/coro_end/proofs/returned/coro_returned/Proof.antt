@@ -20,14 +20,14 @@ returns : tie.Need-returns
 returns c =
     let a = start-of (c .before) .args in
     λ w b rep rowed.
-    none-active (a .l) (lent (a .stack .now) (a .frames .now) (a .chain .now) (a .slots .now) (a .saved-stack .now) (a .saved-frames .now) b) (a .m) (a .fuel) w
+    none-active (a .sizes) (lent (a .stack .now) (a .frames .now) (a .chain .now) (a .slots .now) (a .saved-stack .now) (a .saved-frames .now) b) (a .m) (a .fuel) w
     (a .value) rep (c .if1 .taken)
 
 end-last-requires : tie.Need-end-last-requires
 end-last-requires c κs =
     let start = start-of (c .before .before .before .before .before .before .before .before) in
     let a = start .args in
-    end-fits (a .l) (a .m) (a .stack .now) (a .frames .now) (a .chain .now) (a .slots .now) (a .saved-stack .now) (a .saved-frames .now) (start .pre) CoroState.Returned refl
+    end-fits (a .sizes) (a .m) (a .stack .now) (a .frames .now) (a .chain .now) (a .slots .now) (a .saved-stack .now) (a .saved-frames .now) (start .pre) CoroState.Returned refl
 
 deliver-return-requires : tie.Need-deliver-return-requires
 deliver-return-requires c κs =
@@ -37,7 +37,7 @@ deliver-return-requires c κs =
     let a = start .args in
     let f = done .end-last in
     let some : 1 ≤ a .m .active = omega (arith, test .if1 .left) in
-    return-fits (a .l) (a .m) (a .stack .now) (a .frames .now) (a .chain .now) (a .slots .now) (a .saved-stack .now) (a .saved-frames .now) (start .pre)
+    return-fits (a .sizes) (a .m) (a .stack .now) (a .frames .now) (a .chain .now) (a .slots .now) (a .saved-stack .now) (a .saved-frames .now) (start .pre)
     (read .active-at .result) some (read .active-at .ensures)
     (f .last .0) (f .last .1 .0) (f .last .1 .1 .0) (f .last .1 .1 .1 .0) (f .result) CoroState.Returned (a .value) (f .ensures)
 
@@ -53,13 +53,13 @@ returns-2 c =
     let g = told .deliver-return in
     let some : 1 ≤ a .m .active = omega (arith, test .if1 .left) in
     λ w b rep rowed.
-    let t = last (a .l) (lent (a .stack .now) (a .frames .now) (a .chain .now) (a .slots .now) (a .saved-stack .now) (a .saved-frames .now) b) (a .m) (a .fuel)
+    let t = last (a .sizes) (lent (a .stack .now) (a .frames .now) (a .chain .now) (a .slots .now) (a .saved-stack .now) (a .saved-frames .now) b) (a .m) (a .fuel)
     w rep x some (read .active-at .ensures) in
     let e = f .ensures w (record { words = onStack (a .stack .now) (onFrames (a .frames .now) (b .words)); fuel = a .fuel }) rep rowed in
     let d =
-    g .ensures (a .l) (endLast CoroState.Returned (a .value) w)
+    g .ensures (a .sizes) (endLast CoroState.Returned (a .value) w)
     (record { words = onChain (f .last .0) (onSaved (f .last .1 .1 .0) (f .last .1 .1 .1 .0) (b .words)); fuel = b .fuel }) e in
-    returned (a .l) (lent (g .last .0) (g .last .1 .0) (f .last .0) (g .last .1 .1 .0) (f .last .1 .1 .0) (f .last .1 .1 .1 .0) b) (g .result .machine) (g .result .fuel) w (a .value) x t d
+    returned (a .sizes) (lent (g .last .0) (g .last .1 .0) (f .last .0) (g .last .1 .1 .0) (f .last .1 .1 .0) (f .last .1 .1 .1 .0) b) (g .result .machine) (g .result .fuel) w (a .value) x t d
 
 pub coro-returned-spec : {M : Type 1} → statement M
 coro-returned-spec =

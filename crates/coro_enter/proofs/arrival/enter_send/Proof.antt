@@ -20,7 +20,7 @@ arrive-requires : tie.Need-arrive-requires
 arrive-requires c κs =
     let at-store-enter = store-enter-of c in let start = start-of at-store-enter in
     let o = start .pre .ok in let u = storePc (start .args .pc) (o .world) in
-    arrive-fits (start .args .l) _ (at-store-enter .store-enter .result .machine) _ (start .args .v) (start .args .d) u
+    arrive-fits (start .args .sizes) _ (at-store-enter .store-enter .result .machine) _ (start .args .v) (start .args .d) u
     (at-store-enter .store-enter .result .answer) (store-sounds (start .args .pc) (o .world) (start .pre .narrow) (o .sound))
     (at-store-enter .store-enter .ensures (o .world) (o .beside) (o .rep) (o .sound))
 
@@ -31,9 +31,9 @@ returns c =
     λ w b rep snd. let e = coroEnter (start .args .v) (start .args .d) (storePc (start .args .pc) w) in
     let d = at-store-enter .store-enter .ensures w b rep snd in
     let L = at-store-enter .store-enter .last in
-    then-does (start .args .l) _ (at-store-enter .store-enter .result .machine) (b .fuel) e (arrive (start .args .sent))
+    then-does (start .args .sizes) _ (at-store-enter .store-enter .result .machine) (b .fuel) e (arrive (start .args .sent))
     (at-store-enter .store-enter .result .answer) (at-arrive .arrive .result) (d .answer)
-    (at-arrive .arrive .ensures (start .args .l) (e .world)
+    (at-arrive .arrive .ensures (start .args .sizes) (e .world)
     (record { words = lent (L .0) (L .1 .0) (L .1 .1 .0) (L .1 .1 .1 .0) (L .1 .1 .1 .1 .0) (L .1 .1 .1 .1 .1 .0) b; fuel = b .fuel }) (d .world))
 
 pub enter-send-spec : {M : Type 1} → statement M

@@ -16,17 +16,17 @@ coro-enter-requires c κs =
     let at-store-pc = c .before .before .before .before .before .before .before .before in
     let start = at-store-pc .before .before .before .before .before .before .before .before in
     let o = start .pre .ok in
-    stored-ok (start .args .l) (only (start .args .m)) (start .args .stack .now) (start .args .frames .now) (start .args .chain .now) (start .args .slots .now)
+    stored-ok (start .args .sizes) (only (start .args .m)) (start .args .stack .now) (start .args .frames .now) (start .args .chain .now) (start .args .slots .now)
     (start .args .saved-stack .now) (start .args .saved-frames .now)
     (at-store-pc .store-pc .last .0) (start .args .pc) (at-store-pc .store-pc .kept .0) (start .pre .narrow) o
-    (at-store-pc .store-pc .ensures (start .args .l) (o .world) (record { words = mem start (o .beside); fuel = o .beside .fuel }) (o .rep))
+    (at-store-pc .store-pc .ensures (start .args .sizes) (o .world) (record { words = mem start (o .beside); fuel = o .beside .fuel }) (o .rep))
 
 returns : tie.Need-returns
 returns c =
     let at-coro-enter = c .before .before .before .before .before .before .before .before .before .before .before .before in
     let at-store-pc = at-coro-enter .before .before .before .before .before .before .before .before .before in
     let start = at-store-pc .before .before .before .before .before .before .before .before in
-    λ w b rep snd. at-coro-enter .coro-enter .ensures (storePc (start .args .pc) w) b (at-store-pc .store-pc .ensures (start .args .l) w
+    λ w b rep snd. at-coro-enter .coro-enter .ensures (storePc (start .args .pc) w) b (at-store-pc .store-pc .ensures (start .args .sizes) w
     (record { words = mem start b; fuel = b .fuel }) rep) (store-sounds (start .args .pc) w (start .pre .narrow) snd)
 
 pub store-enter-spec : {M : Type 1} → statement M

@@ -47,7 +47,7 @@ none c = sym (c .before .number .ensures) ∙ c .if1 .left
 
 sum : (c : tie.Else1) →
     let at-coro-at = c .before .before .before in let start = start-of at-coro-at in
-    Grows (start .args .l) (mem start (start .pre .beside)) (start .args .m) (slot at-coro-at) (coro at-coro-at)
+    Grows (start .args .sizes) (mem start (start .pre .beside)) (start .args .m) (slot at-coro-at) (coro at-coro-at)
 sum c =
     let at-refusal = c .before .before in let at-coro-at = at-refusal .before in let start = start-of at-coro-at in
     ok-sums (start .pre) (start .args .v .0) (found at-coro-at) (at-refusal .refusal .ensures) (none c)
@@ -64,7 +64,7 @@ refusal-requires c κs = let start = start-of c in ok-before (start .pre) (start
 returns : tie.Need-returns
 returns c =
     let at-number = c .before in let at-refusal = at-number .before in let at-coro-at = at-refusal .before in let start = start-of at-coro-at in
-    λ w b rep snd. refused (start .args .l) (mem start b) (start .args .m) (b .fuel) (start .args .v .0) w rep (slot at-coro-at) (coro at-coro-at)
+    λ w b rep snd. refused (start .args .sizes) (mem start b) (start .args .m) (b .fuel) (start .args .v .0) w rep (slot at-coro-at) (coro at-coro-at)
     (found at-coro-at) (start .args .d) (at-refusal .refusal .result) (at-refusal .refusal .ensures) (λ z. c .if1 .taken (at-number .number .ensures ∙ z))
 
 move-in-requires : tie.Need-move-in-requires
@@ -87,7 +87,7 @@ entered-requires c κs =
 returns-2 : tie.Need-returns-2
 returns-2 c =
     let at-f = c .before in let at-coro-place = at-f .before .before in let start = start-of-coro-place at-coro-place in
-    λ w b rep snd. not-found (start .args .l) (mem start b) (start .args .m) (b .fuel) (start .args .v .0) w rep (start .args .d)
+    λ w b rep snd. not-found (start .args .sizes) (mem start b) (start .args .m) (b .fuel) (start .args .v .0) w rep (start .args .d)
     _ (none-there (coroOf (slotsOf (start .args .m .count) (start .args .slots .now)) (start .args .v .0)) (at-f .f .given .0 .0)
     (sym (at-f .f .given .1) ∙ at-coro-place .coro-place .ensures))
 
@@ -96,7 +96,7 @@ returns-3 c =
     let at-entered = c .before in let at-put-entered = at-entered .before .before .before in let at-push-active = at-put-entered .before .before .before .before in
     let at-if1 = if1-of (at-push-active .before) in let at-refusal = at-if1 .before .before in let at-coro-at = at-refusal .before in let start = start-of at-coro-at in
     let at-move-in = at-push-active .before .before .before .before .before .before .before .before .before .before in
-    λ w b rep snd. accepted (start .args .l) (mem start b) (start .args .m) (b .fuel) (start .args .v .0) w rep (slot at-coro-at) (coro at-coro-at)
+    λ w b rep snd. accepted (start .args .sizes) (mem start b) (start .args .m) (b .fuel) (start .args .v .0) w rep (slot at-coro-at) (coro at-coro-at)
     (found at-coro-at) snd (at-refusal .refusal .result) (at-refusal .refusal .ensures) (none at-if1) (start .args .d) _ _ _ _ _ _ (at-entered .entered .result)
     (c .entered-as .result) (at-move-in .move-in .ensures) (at-push-active .push-active .ensures) (at-put-entered .put-entered .ensures) (c .entered-as .ensures)
     (at-entered .entered .ensures)

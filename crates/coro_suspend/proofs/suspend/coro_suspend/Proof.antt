@@ -28,12 +28,12 @@ some c = let h = c .if1 .left in omega arith
 returns : tie.Need-returns
 returns c =
     let start = c .before .before .before .before .before .before .before .before in
-    λ w b rep snd. idle (start .args .l) (mem start b) (start .args .m) (b .fuel) (start .args .state) (start .args .dst) (start .args .payload) (start .args .keys) w rep (c .if1 .taken)
+    λ w b rep snd. idle (start .args .sizes) (mem start b) (start .args .m) (b .fuel) (start .args .state) (start .args .dst) (start .args .payload) (start .args .keys) w rep (c .if1 .taken)
 
 returns-2 : tie.Need-returns-2
 returns-2 c =
     let at-active-at = c .before .before in let at-if1 = at-active-at .before .before .before in let start = start-of at-if1 in
-    λ w b rep snd. no-frame (start .args .l) (mem start b) (start .args .m) (b .fuel) (start .args .state) (start .args .dst) (start .args .payload)
+    λ w b rep snd. no-frame (start .args .sizes) (mem start b) (start .args .m) (b .fuel) (start .args .state) (start .args .dst) (start .args .payload)
     (start .args .keys) w rep (at-active-at .active-at .result) (some at-if1) (at-active-at .active-at .ensures) (c .if2 .taken)
 
 coro-place-requires : tie.Need-coro-place-requires
@@ -65,7 +65,7 @@ returns-3 : tie.Need-returns-3
 returns-3 c =
     let at-coro-place = c .before .before in let at-if2 = at-coro-place .before .before in
     let at-active-at = at-if2 .before .before in let at-if1 = at-active-at .before .before .before in let start = start-of at-if1 in
-    λ w b rep snd. not-found (start .args .l) (mem start b) (start .args .m) (b .fuel) (start .args .state) (start .args .dst) (start .args .payload)
+    λ w b rep snd. not-found (start .args .sizes) (mem start b) (start .args .m) (b .fuel) (start .args .state) (start .args .dst) (start .args .payload)
     (start .args .keys) w rep (at-active-at .active-at .result) (some at-if1) (at-active-at .active-at .ensures) (at-if2 .if2 .left) _
     (none-there (coroOf (slotsOf (start .args .m .count) (start .args .slots .now)) (at-active-at .active-at .result .coro)) (c .enum-told .given .0 .0)
     (sym (c .enum-told .given .1) ∙ at-coro-place .coro-place .ensures))

@@ -49,9 +49,9 @@ returns : tie.Need-returns
 returns c =
     let at-charge = c .before .before in let at-growth = at-charge .before in
     let read = at-growth .before .before .before in let start = start-of read in
-    λ w b rep snd. spent (start .args .l) (mem start b) (start .args .m) (b .fuel) (start .args .state) (start .args .dst) (start .args .payload)
+    λ w b rep snd. spent (start .args .sizes) (mem start b) (start .args .m) (b .fuel) (start .args .state) (start .args .dst) (start .args .payload)
     (start .args .keys) w rep (start .args .a) (start .pre .some) (start .pre .top) (start .pre .floor) (start .args .i) (start .args .c) (start .pre .coro)
-    (read .base-at .result) (read .base-at .ensures) (sym (c .enum-told .given .1) ∙ at-charge .charge .ensures ∙ ap (chargeOf (heapOf (start .args .m) (start .args .l))) (at-growth .growth .ensures))
+    (read .base-at .result) (read .base-at .ensures) (sym (c .enum-told .given .1) ∙ at-charge .charge .ensures ∙ ap (chargeOf (heapOf (start .args .m) (start .args .sizes))) (at-growth .growth .ensures))
 
 returns-2 : tie.Need-returns-2
 returns-2 c =
@@ -60,10 +60,10 @@ returns-2 c =
     let at-move-out = at-pop-active .before .before .before .before .before .before .before .before .before .before in
     let at-g = at-move-out .before .before .before .before .before .before in let at-charge = at-g .before .before in
     let at-growth = at-charge .before in let read = at-growth .before .before .before in let start = start-of read in
-    λ w b rep snd. accepted (start .args .l) (mem start b) (start .args .m) (b .fuel) (start .args .state) (start .args .dst) (start .args .payload)
+    λ w b rep snd. accepted (start .args .sizes) (mem start b) (start .args .m) (b .fuel) (start .args .state) (start .args .dst) (start .args .payload)
     (start .args .keys) w rep (start .args .a) (start .pre .some) (start .pre .top) (start .pre .floor) (start .args .i) (start .args .c) (start .pre .coro)
     (read .base-at .result) (read .base-at .ensures) snd _ _ _ _ _ _ (at-g .g .given .0 .0) (at-asleep .asleep .result) (c .shrunk .result) (at-event-of .event-of .result) (start .pre .state)
-    (sym (at-g .g .given .1) ∙ at-charge .charge .ensures ∙ ap (chargeOf (heapOf (start .args .m) (start .args .l))) (at-growth .growth .ensures))
+    (sym (at-g .g .given .1) ∙ at-charge .charge .ensures ∙ ap (chargeOf (heapOf (start .args .m) (start .args .sizes))) (at-growth .growth .ensures))
     (at-move-out .move-out .ensures) (at-pop-active .pop-active .ensures) (at-asleep .asleep .ensures) (at-put-sleep .put-sleep .ensures)
     (at-event-of .event-of .ensures) (c .shrunk .ensures)
 

@@ -29,9 +29,9 @@ returns c =
     λ w b rep snd. let e = coroEnter (start .args .v) (Driver.Resume (start .args .dst)) (storePc (start .args .pc) w) in
     let did = at-store-enter .store-enter .ensures w b rep snd in
     let L = at-store-enter .store-enter .last in
-    then-does (start .args .l) _ (at-store-enter .store-enter .result .machine) (b .fuel) e (closeEntered (start .args .v) (start .args .signal))
+    then-does (start .args .sizes) _ (at-store-enter .store-enter .result .machine) (b .fuel) e (closeEntered (start .args .v) (start .args .signal))
     (at-store-enter .store-enter .result .answer) (at-close-entered .close-entered .result) (did .answer)
-    (at-close-entered .close-entered .ensures (start .args .l) (e .world)
+    (at-close-entered .close-entered .ensures (start .args .sizes) (e .world)
     (record { words = lent (L .0) (L .1 .0) (L .1 .1 .0) (L .1 .1 .1 .0) (L .1 .1 .1 .1 .0) (L .1 .1 .1 .1 .1 .0) b; fuel = b .fuel }) (did .world))
 
 pub close-in-spec : {M : Type 1} → statement M

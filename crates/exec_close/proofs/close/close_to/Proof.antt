@@ -22,19 +22,19 @@ returns : tie.Need-returns
 returns c =
     let at-close-in = c .before .before .before .before .before .before .before .before .before .before .before .before in
     let at-if1 = at-close-in .before .before .before .before .before .before .before in let at-is-suspended = at-if1 .before in let start = start-of at-is-suspended in
-    λ w b rep snd. close-woken (start .args .l) _ (at-close-in .close-in .result .machine) (b .fuel) w (start .args .pc) (start .args .dst) (start .args .v) (start .args .signal)
+    λ w b rep snd. close-woken (start .args .sizes) _ (at-close-in .close-in .result .machine) (b .fuel) w (start .args .pc) (start .args .dst) (start .args .v) (start .args .signal)
     (start .args .s) (at-close-in .close-in .result .step) (sym (at-is-suspended .is-suspended .ensures) ∙ at-if1 .if1 .taken) (at-close-in .close-in .ensures w b rep snd)
 
 returns-2 : tie.Need-returns-2
 returns-2 c =
     let at-is-running = c .before in let start = start-of (at-is-running .before .before) in
-    λ w b rep snd. close-busy (start .args .l) _ (start .args .m) (b .fuel) w (start .args .pc) (start .args .dst) (start .args .v) (start .args .signal) (start .args .s)
+    λ w b rep snd. close-busy (start .args .sizes) _ (start .args .m) (b .fuel) w (start .args .pc) (start .args .dst) (start .args .v) (start .args .signal) (start .args .s)
     (sym (at-is-running .is-running .ensures) ∙ c .if2 .taken) rep
 
 end-created-requires : tie.Need-end-created-requires
 end-created-requires c κs =
     let start = start-of (c .before .before .before .before .before .before) in let o = start .pre .entry .ok in
-    finish-asks (o .world) (o .sound) (start .args .l) (rows (start .args .slots .now) (start .args .saved-stack .now) (start .args .saved-frames .now) plain) (start .args .m)
+    finish-asks (o .world) (o .sound) (start .args .sizes) (rows (start .args .slots .now) (start .args .saved-stack .now) (start .args .saved-frames .now) plain) (start .args .m)
     (record { words = mem start (o .beside); fuel = o .beside .fuel }) CoroState.Returned refl (o .rep)
 
 returns-3 : tie.Need-returns-3
@@ -43,9 +43,9 @@ returns-3 c =
     let at-if2 = at-end-created .before .before .before .before in let at-is-running = at-if2 .before in
     let at-if1 = at-is-running .before in let at-is-suspended = at-if1 .before in let start = start-of at-is-suspended in
     let L = at-end-created .end-created .last in
-    λ w b rep snd. close-idle (start .args .l) _ (start .args .m) (b .fuel) w (start .args .pc) (start .args .dst) (start .args .v) (start .args .signal) (start .args .s)
+    λ w b rep snd. close-idle (start .args .sizes) _ (start .args .m) (b .fuel) w (start .args .pc) (start .args .dst) (start .args .v) (start .args .signal) (start .args .s)
     (sym (at-is-suspended .is-suspended .ensures) ∙ at-if1 .if1 .left) (sym (at-is-running .is-running .ensures) ∙ at-if2 .if2 .left)
-    (at-put .put .ensures (start .args .l) (endCreated (start .args .s) (start .args .v) w)
+    (at-put .put .ensures (start .args .sizes) (endCreated (start .args .s) (start .args .v) w)
     (record { words = lent (start .args .stack .now) (start .args .frames .now) (start .args .chain .now) (L .0) (L .1 .0) (L .1 .1 .0) b; fuel = b .fuel })
     (at-end-created .end-created .ensures w (record { words = mem start b; fuel = b .fuel }) rep (sound-rowed w snd)))
 

@@ -9,13 +9,13 @@ returns : tie.Need-returns
 returns c =
     let at-finish-coroutine = c .before .before .before .before .before .before in let at-if1 = at-finish-coroutine .before .before .before .before in let at-is-created = at-if1 .before in
     let start = at-is-created .before .before .before .before in
-    λ w b rep rowed. end-fresh (start .args .l) _ (start .args .m) (b .fuel) w (start .args .s) (start .args .v) (sym (at-is-created .is-created .ensures) ∙ at-if1 .if1 .taken)
+    λ w b rep rowed. end-fresh (start .args .sizes) _ (start .args .m) (b .fuel) w (start .args .s) (start .args .v) (sym (at-is-created .is-created .ensures) ∙ at-if1 .if1 .taken)
     (at-finish-coroutine .finish-coroutine .ensures w b rep rowed)
 
 returns-2 : tie.Need-returns-2
 returns-2 c =
     let at-is-created = c .before in let start = at-is-created .before .before .before .before in
-    λ w b rep rowed. end-other (start .args .l) _ (start .args .m) (b .fuel) w (start .args .s) (start .args .v) (sym (at-is-created .is-created .ensures) ∙ c .if1 .left) rep
+    λ w b rep rowed. end-other (start .args .sizes) _ (start .args .m) (b .fuel) w (start .args .s) (start .args .v) (sym (at-is-created .is-created .ensures) ∙ c .if1 .left) rep
 
 pub end-created-spec : {M : Type 1} → statement M
 end-created-spec =

@@ -15,7 +15,7 @@ returns c =
     let at-reg2 = at-enter-send .before .before .before .before .before .before .before in
     let at-reg = at-reg2 .before .before .before in
     let start = at-reg .before .before .before .before .before .before .before .before .before in
-    λ w b rep snd. resumed (start .args .l) _ _ (b .fuel) w (start .args .pc) (start .args .dst) (start .args .c) (start .args .src) (at-reg .reg .result) (at-reg2 .reg2 .result) _
+    λ w b rep snd. resumed (start .args .sizes) _ _ (b .fuel) w (start .args .pc) (start .args .dst) (start .args .c) (start .args .src) (at-reg .reg .result) (at-reg2 .reg2 .result) _
     (at-reg .reg .ensures (w .stack) (w .frames) (rep .stack) (rep .frames) .is) (at-reg2 .reg2 .ensures (w .stack) (w .frames) (rep .stack) (rep .frames) .is)
     (at-enter-send .enter-send .ensures w b rep snd)
 

@@ -21,7 +21,7 @@ finish-coroutine-requires : tie.Need-finish-coroutine-requires
 finish-coroutine-requires c κs =
     let start = start-of (c .before .before .before .before) in
     let o = start .pre .ok in
-    finish-asks (o .world) (o .sound) (start .args .l) (rows (start .args .slots .now) (start .args .saved-stack .now) (start .args .saved-frames .now) plain) (start .args .m)
+    finish-asks (o .world) (o .sound) (start .args .sizes) (rows (start .args .slots .now) (start .args .saved-stack .now) (start .args .saved-frames .now) plain) (start .args .m)
     (record { words = mem start (o .beside); fuel = o .beside .fuel }) CoroState.Failed refl (o .rep)
 
 returns : tie.Need-returns
@@ -29,7 +29,7 @@ returns c =
     let at-finish-coroutine = c .before .before .before .before .before .before in
     let at-if1 = at-finish-coroutine .before .before .before .before in let at-is-created = at-if1 .before in
     let start = start-of at-is-created in
-    λ w b rep snd. throw-created (start .args .l) _ (start .args .m) (b .fuel) w (start .args .pc) (start .args .dst) (start .args .v) (start .args .err)
+    λ w b rep snd. throw-created (start .args .sizes) _ (start .args .m) (b .fuel) w (start .args .pc) (start .args .dst) (start .args .v) (start .args .err)
     (start .args .s) (sym (at-is-created .is-created .ensures) ∙ at-if1 .if1 .taken)
     (at-finish-coroutine .finish-coroutine .ensures w (record { words = mem start b; fuel = b .fuel }) rep (sound-rowed w snd))
 
@@ -38,7 +38,7 @@ returns-2 c =
     let at-store-enter = c .before .before .before .before .before .before .before .before .before .before .before .before .before .before in
     let at-if1 = at-store-enter .before .before .before .before .before .before .before in let at-is-created = at-if1 .before in
     let start = start-of at-is-created in
-    λ w b rep snd. throw-entered (start .args .l) _ (at-store-enter .store-enter .result .machine) (b .fuel) w (start .args .pc) (start .args .dst)
+    λ w b rep snd. throw-entered (start .args .sizes) _ (at-store-enter .store-enter .result .machine) (b .fuel) w (start .args .pc) (start .args .dst)
     (start .args .v) (start .args .err) (start .args .s) (at-store-enter .store-enter .result .answer) (c .raised .result)
     (sym (at-is-created .is-created .ensures) ∙ at-if1 .if1 .left) (at-store-enter .store-enter .ensures w b rep snd) (c .raised .ensures)
 

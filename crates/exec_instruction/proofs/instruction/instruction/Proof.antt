@@ -44,7 +44,7 @@ some c = let h = c .if1 .left in omega arith
 abbrev Stands : tie.Start → World → Beside → Type 0
 Stands c w b =
     let a = c .args in
-    Rep (a .l) w (gating (a .stack .now) (a .frames .now) (a .chain .now) (a .slots .now) (a .saved-stack .now) (a .saved-frames .now) (a .finalize .now) (a .setup .now) plain b) (a .m) (a .fuel)
+    Rep (a .sizes) w (gating (a .stack .now) (a .frames .now) (a .chain .now) (a .slots .now) (a .saved-stack .now) (a .saved-frames .now) (a .finalize .now) (a .setup .now) plain b) (a .m) (a .fuel)
 
 told : (c : tie.After-passes) (w : World) (b : Beside) {pc : ℕ} {t : World → Bool} {arm : World → After Step} → table (start-of (frame-of c) .args .op) ≡ Instruction pc t arm
     → Stands (start-of (frame-of c)) w b → t w ≡ c .passes .result

@@ -18,23 +18,23 @@ around c b = record { words = lent (c .args .stack .now) (c .args .frames .now) 
 returns : tie.Need-returns
 returns c =
     let at-stop = c .before .before .before .before in let at-if1 = at-stop .before .before .before .before in let at-exhausted = at-if1 .before in let start = start-of at-exhausted in
-    λ w b rep snd. next-ended (start .args .l) _ (start .args .m) (b .fuel) w (start .args .pc) (start .args .has) (start .args .iter) (start .args .val) (start .args .src) (start .args .s)
-    (sym (at-exhausted .exhausted .ensures (start .args .l) w (around start b) rep) ∙ at-if1 .if1 .taken) (at-stop .stop .ensures (start .args .l) w (around start b) rep)
+    λ w b rep snd. next-ended (start .args .sizes) _ (start .args .m) (b .fuel) w (start .args .pc) (start .args .has) (start .args .iter) (start .args .val) (start .args .src) (start .args .s)
+    (sym (at-exhausted .exhausted .ensures (start .args .sizes) w (around start b) rep) ∙ at-if1 .if1 .taken) (at-stop .stop .ensures (start .args .sizes) w (around start b) rep)
 
 returns-2 : tie.Need-returns-2
 returns-2 c =
     let at-is-awaiting = c .before in let at-if1 = at-is-awaiting .before in let at-exhausted = at-if1 .before in let start = start-of at-exhausted in
-    λ w b rep snd. next-awaiting (start .args .l) _ (start .args .m) (b .fuel) w (start .args .pc) (start .args .has) (start .args .iter) (start .args .val) (start .args .src) (start .args .s)
-    (sym (at-exhausted .exhausted .ensures (start .args .l) w (around start b) rep) ∙ at-if1 .if1 .left) (sym (at-is-awaiting .is-awaiting .ensures) ∙ c .if2 .taken) rep
+    λ w b rep snd. next-awaiting (start .args .sizes) _ (start .args .m) (b .fuel) w (start .args .pc) (start .args .has) (start .args .iter) (start .args .val) (start .args .src) (start .args .s)
+    (sym (at-exhausted .exhausted .ensures (start .args .sizes) w (around start b) rep) ∙ at-if1 .if1 .left) (sym (at-is-awaiting .is-awaiting .ensures) ∙ c .if2 .taken) rep
 
 returns-3 : tie.Need-returns-3
 returns-3 c =
     let at-enter-send = c .before .before .before .before .before .before .before .before .before .before .before .before in
     let at-if2 = at-enter-send .before .before .before .before .before .before .before in let at-is-awaiting = at-if2 .before in
     let at-if1 = at-is-awaiting .before in let at-exhausted = at-if1 .before in let start = start-of at-exhausted in
-    λ w b rep snd. next-entered (start .args .l) _ (at-enter-send .enter-send .result .machine) (b .fuel) w
+    λ w b rep snd. next-entered (start .args .sizes) _ (at-enter-send .enter-send .result .machine) (b .fuel) w
     (start .args .pc) (start .args .has) (start .args .iter) (start .args .val) (start .args .src) (start .args .s)
-    (sym (at-exhausted .exhausted .ensures (start .args .l) w (around start b) rep) ∙ at-if1 .if1 .left) (at-enter-send .enter-send .result .step)
+    (sym (at-exhausted .exhausted .ensures (start .args .sizes) w (around start b) rep) ∙ at-if1 .if1 .left) (at-enter-send .enter-send .result .step)
     (sym (at-is-awaiting .is-awaiting .ensures) ∙ at-if2 .if2 .left) (at-enter-send .enter-send .ensures w b rep snd)
 
 pub iter-on-spec : {M : Type 1} → statement M

@@ -16,7 +16,7 @@ mem s b = topMaking (s .args .stack .now) (s .args .frames .now) (s .args .slots
 put-made-requires : tie.Need-put-made-requires
 put-made-requires c κs =
     let creating = c .before .before .before .before .before .before .before .before in let start = creating .before .before .before .before .before .before .before .before .before .before .before in let o = start .pre .ok in
-    still-fits (start .args .l) (o .world) _ (mem start (o .beside)) _ (start .args .m) _ (o .beside .fuel) (o .beside .fuel) (start .args .dst)
+    still-fits (start .args .sizes) (o .world) _ (mem start (o .beside)) _ (start .args .m) _ (o .beside .fuel) (o .beside .fuel) (start .args .dst)
     (indirect-good (start .args .dst) (start .args .callee) (start .args .argc) (o .world) (known (o .world) (o .sound)) .fact .still)
     (o .rep) (creating .indirect .ensures (o .world) (o .beside) (o .rep) (o .sound) .world) (start .pre .reg)
 
@@ -27,8 +27,8 @@ returns c =
     let made = creating .indirect .ensures w b rep snd in
     let left = topMaking (start .args .stack .now) (start .args .frames .now) (creating .indirect .last .1 .1 .0) (creating .indirect .last .1 .1 .1 .0)
     (creating .indirect .last .1 .1 .1 .1 .0) (start .args .setup .now) plain b in
-    indirect-met w (start .args .dst) (start .args .callee) (start .args .argc) (start .args .l) _ _ (b .fuel) _ _ (made .answer)
-    (put .put-made .ensures (start .args .l) (indirect (start .args .dst) (start .args .callee) (start .args .argc) w .world) (record { words = left; fuel = b .fuel }) (made .world))
+    indirect-met w (start .args .dst) (start .args .callee) (start .args .argc) (start .args .sizes) _ _ (b .fuel) _ _ (made .answer)
+    (put .put-made .ensures (start .args .sizes) (indirect (start .args .dst) (start .args .callee) (start .args .argc) w .world) (record { words = left; fuel = b .fuel }) (made .world))
 
 pub coro-new-indirect-spec : {M : Type 1} → statement M
 coro-new-indirect-spec =

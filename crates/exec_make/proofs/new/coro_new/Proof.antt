@@ -14,8 +14,8 @@ mem s b = topMaking (s .args .stack .now) (s .args .frames .now) (s .args .slots
 put-made-requires : tie.Need-put-made-requires
 put-made-requires c κs =
     let at-create = c .before .before .before .before .before .before .before .before in let start = at-create .before .before .before .before .before .before .before .before .before .before .before in let o = start .pre .ok in
-    still-fits (start .args .l) (o .world) _ (mem start (o .beside)) _ (start .args .m) _ (o .beside .fuel) (o .beside .fuel) (start .args .dst)
-    (create-still (start .args .l) (mem start (o .beside)) (start .args .m) (o .beside .fuel) (o .world) (o .rep) (o .sound) (start .args .f) 0
+    still-fits (start .args .sizes) (o .world) _ (mem start (o .beside)) _ (start .args .m) _ (o .beside .fuel) (o .beside .fuel) (start .args .dst)
+    (create-still (start .args .sizes) (mem start (o .beside)) (start .args .m) (o .beside .fuel) (o .world) (o .rep) (o .sound) (start .args .f) 0
     (window (start .args .dst) (start .args .argc) (o .world)) (start .pre .function))
     (o .rep) (at-create .create .ensures (o .world) (o .beside) (o .rep) (o .sound) .world) (start .pre .reg)
 
@@ -26,8 +26,8 @@ returns c =
     let made = at-create .create .ensures w b rep snd in
     let left = topMaking (start .args .stack .now) (start .args .frames .now) (at-create .create .last .1 .1 .0) (at-create .create .last .1 .1 .1 .0)
     (at-create .create .last .1 .1 .1 .1 .0) (start .args .setup .now) plain b in
-    new-met (start .args .l) _ _ (b .fuel) w (start .args .dst) (start .args .f) (start .args .argc) _ _ (made .answer)
-    (put .put-made .ensures (start .args .l) (coroCreate (start .args .f) 0 (window (start .args .dst) (start .args .argc) w) w .world) (record { words = left; fuel = b .fuel }) (made .world))
+    new-met (start .args .sizes) _ _ (b .fuel) w (start .args .dst) (start .args .f) (start .args .argc) _ _ (made .answer)
+    (put .put-made .ensures (start .args .sizes) (coroCreate (start .args .f) 0 (window (start .args .dst) (start .args .argc) w) w .world) (record { words = left; fuel = b .fuel }) (made .world))
 
 pub coro-new-spec : {M : Type 1} → statement M
 coro-new-spec = tie.close (tie.spec (λ c κs. search needs) put-made-requires (λ c. search needs) (λ c. search needs) (λ c. search needs) (λ c. search needs) returns)

@@ -30,8 +30,8 @@ returns c =
     λ w b rep snd.
     let h = start .pre .window in
     let at = aside .before .base-at .ensures in
-    with-window (start .args .l) w _ _ _ _ (start .args .f) (start .args .closure) _ _
-    (window-is (start .args .l) w (mem start b) (start .args .m) (b .fuel) rep (start .args .dst) (start .args .argc) _ (aside .set-aside .result)
+    with-window (start .args .sizes) w _ _ _ _ (start .args .f) (start .args .closure) _ _
+    (window-is (start .args .sizes) w (mem start b) (start .args .m) (b .fuel) rep (start .args .dst) (start .args .argc) _ (aside .set-aside .result)
     (start .pre .reg) (start .pre .few) (ap (λ x. x + start .args .dst + 1) at) (omega arith) (aside .set-aside .ensures))
     (at-create .coro-create .ensures w (around start b) rep snd)
 

@@ -22,9 +22,9 @@ returns : tie.Need-returns
 returns c =
     let paying = c .before .before .before in let start = paying .before .before .before .before in
     λ w b rep snd.
-    let did = paying .charge-plain .ensures (start .args .m) (start .args .l) w (around start b) rep in
-    not-paid (start .args .hook) (start .args .pc) (start .args .dst) (start .args .c) w (start .args .l) (mem start b) (start .args .m) (paying .charge-plain .result .fuel)
-    (subst (λ a. Does (start .args .l) (charge OptPc.None w) (mem start b) (start .args .m) (paying .charge-plain .result .fuel) a) (c .enum-told .given .1) did)
+    let did = paying .charge-plain .ensures (start .args .m) (start .args .sizes) w (around start b) rep in
+    not-paid (start .args .hook) (start .args .pc) (start .args .dst) (start .args .c) w (start .args .sizes) (mem start b) (start .args .m) (paying .charge-plain .result .fuel)
+    (subst (λ a. Does (start .args .sizes) (charge OptPc.None w) (mem start b) (start .args .m) (paying .charge-plain .result .fuel) a) (c .enum-told .given .1) did)
 
 push-hook-requires : tie.Need-push-hook-requires
 push-hook-requires c κs = let start = c .before .before .before .before .before .before .before .before in start .pre
@@ -33,8 +33,8 @@ returns-2 : tie.Need-returns-2
 returns-2 c =
     let pushing = c .before .before .before .before .before in let going = pushing .before .before .before in let paying = going .before .before in let start = paying .before .before .before .before in
     λ w b rep snd.
-    let did = paying .charge-plain .ensures (start .args .m) (start .args .l) w (around start b) rep in
-    was-paid (start .args .hook) (start .args .pc) (start .args .dst) (start .args .c) w (start .args .l) _ _ _ (paying .charge-plain .result .answer) _ (going .match .keys2) (did .answer)
+    let did = paying .charge-plain .ensures (start .args .m) (start .args .sizes) w (around start b) rep in
+    was-paid (start .args .hook) (start .args .pc) (start .args .dst) (start .args .c) w (start .args .sizes) _ _ _ (paying .charge-plain .result .answer) _ (going .match .keys2) (did .answer)
     (pushing .push-hook .ensures (charge OptPc.None w .world) (record { words = b .words; fuel = paying .charge-plain .result .fuel }) (did .world) (paid-sound w snd))
 
 pub call-hook-spec : {M : Type 1} → statement M

@@ -26,7 +26,7 @@ put-requires : tie.Need-put-requires
 put-requires c κs =
     let told = c .before .before .before in let pushing = told .before .before .before .before .before in let start = pushing .before .before .before .before .before .before in let o = start .pre .call .push .ok in
     let did = pushing .push-at .ensures (o .world) (o .beside) (o .rep) (o .sound) in
-    hook-fits (start .args .hook) (start .args .pc) (start .args .dst) (start .args .c) (o .world) (start .args .l) _ _ (o .beside .fuel) (told .answer2 .given .0 .0)
+    hook-fits (start .args .hook) (start .args .pc) (start .args .dst) (start .args .c) (o .world) (start .args .sizes) _ _ (o .beside .fuel) (told .answer2 .given .0 .0)
     (sym (told .answer2 .given .1) ∙ did .answer) (did .world)
     (subst (λ k. 1 ≤ k) (regs-in (o .world .setup) (start .args .setup .now) (o .rep .setup) (start .args .hook) (start .pre .call .push .function)) (start .pre .register))
 
@@ -35,7 +35,7 @@ returns c =
     let told = c .before in let pushing = told .before .before .before .before .before in let start = pushing .before .before .before .before .before .before in
     λ w b rep snd.
     let did = pushing .push-at .ensures w b rep snd in
-    hook-refused (start .args .hook) (start .args .pc) (start .args .dst) (start .args .c) w (start .args .l) _ _ (b .fuel) (told .answer .given .0 .0)
+    hook-refused (start .args .hook) (start .args .pc) (start .args .dst) (start .args .c) w (start .args .sizes) _ _ (b .fuel) (told .answer .given .0 .0)
     (sym (told .answer .given .1) ∙ did .answer) (did .world)
 
 returns-2 : tie.Need-returns-2
@@ -43,9 +43,9 @@ returns-2 c =
     let put = c .before .before in let told = put .before .before .before .before in let pushing = told .before .before .before .before .before in let start = pushing .before .before .before .before .before .before in
     λ w b rep snd.
     let did = pushing .push-at .ensures w b rep snd in
-    hook-done (start .args .hook) (start .args .pc) (start .args .dst) (start .args .c) w (start .args .l) _ _ (b .fuel) (told .answer2 .given .0 .0)
+    hook-done (start .args .hook) (start .args .pc) (start .args .dst) (start .args .c) w (start .args .sizes) _ _ (b .fuel) (told .answer2 .given .0 .0)
     (sym (told .answer2 .given .1) ∙ did .answer)
-    (put .put .ensures (start .args .l) (pushAt (start .args .pc) (start .args .hook) nil (Cont.Value (start .args .dst)) w .world)
+    (put .put .ensures (start .args .sizes) (pushAt (start .args .pc) (start .args .hook) nil (Cont.Value (start .args .dst)) w .world)
     (record { words = topSetup (start .args .stack .now) (pushing .push-at .last .1 .0) (start .args .setup .now) plain b; fuel = b .fuel }) (did .world))
 
 pub push-hook-spec : {M : Type 1} → statement M

@@ -27,7 +27,7 @@ returns : tie.Need-returns
 returns c =
     let asked = c .before .before in let start = asked .before .before .before .before .before .before .before in
     λ w b rep snd.
-    no-hook (start .args .l) w (mem start b) (start .args .m) (start .args .fuel) rep (start .args .pc) (start .args .dst) (start .args .callee) (start .args .argc)
+    no-hook (start .args .sizes) w (mem start b) (start .args .m) (start .args .fuel) rep (start .args .pc) (start .args .dst) (start .args .callee) (start .args .argc)
     (sym (c .enum-told .given .1) ∙ asked .hook .ensures)
 
 indirect-requires : tie.Need-indirect-requires
@@ -49,7 +49,7 @@ returns-2 c =
     let told = c .before in let creating = told .before .before .before .before .before .before .before .before .before in
     let named = named-of creating in let a = start-of creating .args in
     λ w b rep snd.
-    spawn-refused (a .l) w (mem (start-of creating) b) (a .m) (a .fuel) rep (a .pc) (a .dst) (a .callee) (a .argc)
+    spawn-refused (a .sizes) w (mem (start-of creating) b) (a .m) (a .fuel) rep (a .pc) (a .dst) (a .callee) (a .argc)
     (named .hook2 .given .0 .0) (sym (named .hook2 .given .1) ∙ named .before .before .hook .ensures) _ _ (a .fuel) _ (told .answer .given .0 .0) (told .answer .given .1)
     (creating .indirect .ensures w (record { words = b .words; fuel = a .fuel }) rep snd)
 
@@ -60,7 +60,7 @@ returns-3 c =
     λ w b rep snd.
     let did = creating .indirect .ensures w (record { words = b .words; fuel = a .fuel }) rep snd in
     let u = indirect (a .dst) (a .callee) (a .argc) w .world in
-    spawn-called (a .l) w (mem (start-of creating) b) (a .m) (a .fuel) rep (a .pc) (a .dst) (a .callee) (a .argc)
+    spawn-called (a .sizes) w (mem (start-of creating) b) (a .m) (a .fuel) rep (a .pc) (a .dst) (a .callee) (a .argc)
     (named .hook2 .given .0 .0) (sym (named .hook2 .given .1) ∙ named .before .before .hook .ensures) _ _ _ (told .answer2 .given .0 .0) _ (sym (told .answer2 .given .1) ∙ did .answer)
     (calling .call-hook .ensures u (record { words = left creating b; fuel = b .fuel }) (did .world) (→sound u (indirect-good (a .dst) (a .callee) (a .argc) w (known w snd) .sound)))
 

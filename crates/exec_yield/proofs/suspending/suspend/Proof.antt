@@ -34,10 +34,10 @@ coro-suspend-requires : tie.Need-coro-suspend-requires
 coro-suspend-requires c κs =
     let at-store-pc = store-pc-of c in let start = start-of (at-store-pc .before) in
     let o = start .pre .run .ok in record {
-      ok = stored-ok (start .args .l) (only (start .args .m)) (start .args .stack .now) (start .args .frames .now) (start .args .chain .now)
+      ok = stored-ok (start .args .sizes) (only (start .args .m)) (start .args .stack .now) (start .args .frames .now) (start .args .chain .now)
           (start .args .slots .now) (start .args .saved-stack .now) (start .args .saved-frames .now) (at-store-pc .store-pc .last .0) (start .args .pc)
           (at-store-pc .store-pc .kept .0) (start .pre .run .narrow) o
-          (at-store-pc .store-pc .ensures (start .args .l) (o .world) (record { words = mem start (o .beside); fuel = o .beside .fuel }) (o .rep));
+          (at-store-pc .store-pc .ensures (start .args .sizes) (o .world) (record { words = mem start (o .beside); fuel = o .beside .fuel }) (o .rep));
       state = start .pre .state;
     }
 
@@ -48,9 +48,9 @@ deliver-all-requires c κs =
     let o = start .pre .run .ok in
     let u = storePc (start .args .pc) (o .world) in
     let k = store-sounds (start .args .pc) (o .world) (start .pre .run .narrow) (o .sound) in
-    drives (start .args .l) _ _ _ (start .args .state) (start .args .dst) (start .args .payload) (start .args .keys) u k _
+    drives (start .args .sizes) _ _ _ (start .args .state) (start .args .dst) (start .args .payload) (start .args .keys) u k _
     (at-coro-suspend .coro-suspend .ensures u (o .beside)
-    (at-store-pc .store-pc .ensures (start .args .l) (o .world) (record { words = mem start (o .beside); fuel = o .beside .fuel }) (o .rep)) k)
+    (at-store-pc .store-pc .ensures (start .args .sizes) (o .world) (record { words = mem start (o .beside); fuel = o .beside .fuel }) (o .rep)) k)
 
 same-length-2 : tie.Need-same-length-2
 same-length-2 c =
@@ -68,9 +68,9 @@ returns c =
     let u = storePc (start .args .pc) w in
     let k = store-sounds (start .args .pc) w (start .pre .run .narrow) snd in
     let d = at-coro-suspend .coro-suspend .ensures u (record { words = b .words; fuel = f })
-    (at-store-pc .store-pc .ensures (start .args .l) w (record { words = mem start b; fuel = f }) rep) k in
-    suspended (start .args .l) _ _ _ w (start .args .pc) (start .args .state) (start .args .dst) (start .args .payload) (start .args .keys) _ _ (d .answer)
-    (at-deliver-all .deliver-all .ensures (start .args .l) (coroSuspend (start .args .state) (start .args .dst) (start .args .payload)
+    (at-store-pc .store-pc .ensures (start .args .sizes) w (record { words = mem start b; fuel = f }) rep) k in
+    suspended (start .args .sizes) _ _ _ w (start .args .pc) (start .args .state) (start .args .dst) (start .args .payload) (start .args .keys) _ _ (d .answer)
+    (at-deliver-all .deliver-all .ensures (start .args .sizes) (coroSuspend (start .args .state) (start .args .dst) (start .args .payload)
     (start .args .keys) u .world) (record {
       words = lent (at-coro-suspend .coro-suspend .last .0) (at-coro-suspend .coro-suspend .last .1 .0)
           (at-coro-suspend .coro-suspend .last .1 .1 .0) (at-coro-suspend .coro-suspend .last .1 .1 .1 .0) (at-coro-suspend .coro-suspend .last .1 .1 .1 .1 .0)

@@ -17,8 +17,8 @@ mem c b = lent (c .args .stack .now) (c .args .frames .now) (c .args .chain .now
 returns : tie.Need-returns
 returns c =
     let start = start-of (c .before) in
-    λ w b rep snd. await-idle (start .args .l) (mem start b) (start .args .m) (start .args .fuel) w (start .args .pc) (start .args .dst) (start .args .src)
-    (idle (start .args .l) w (mem start b) (start .args .m) (start .args .fuel) rep (c .if1 .taken)) rep
+    λ w b rep snd. await-idle (start .args .sizes) (mem start b) (start .args .m) (start .args .fuel) w (start .args .pc) (start .args .dst) (start .args .src)
+    (idle (start .args .sizes) w (mem start b) (start .args .m) (start .args .fuel) rep (c .if1 .taken)) rep
 
 suspend-requires : tie.Need-suspend-requires
 suspend-requires c κs =
@@ -30,8 +30,8 @@ returns-2 c =
     let at-suspend = c .before .before .before .before .before .before .before .before .before .before .before .before in
     let at-reg = at-suspend .before .before .before .before .before .before .before in let at-if1 = at-reg .before .before .before in
     let start = start-of (at-if1 .before) in
-    λ w b rep snd. await-runs (start .args .l) _ _ _ w (start .args .pc) (start .args .dst) (start .args .src)
-    (runs (start .args .l) w (mem start b) (start .args .m) (start .args .fuel) rep (some-active (start .args .m .active) (at-if1 .if1 .left))) _ _
+    λ w b rep snd. await-runs (start .args .sizes) _ _ _ w (start .args .pc) (start .args .dst) (start .args .src)
+    (runs (start .args .sizes) w (mem start b) (start .args .m) (start .args .fuel) rep (some-active (start .args .m .active) (at-if1 .if1 .left))) _ _
     (at-reg .reg .ensures (w .stack) (w .frames) (rep .stack) (rep .frames) .is) (at-suspend .suspend .ensures w b rep snd)
 
 pub coro-await-spec : {M : Type 1} → statement M

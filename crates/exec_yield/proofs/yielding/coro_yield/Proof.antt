@@ -20,8 +20,8 @@ mem c b = lent (c .args .stack .now) (c .args .frames .now) (c .args .chain .now
 returns : tie.Need-returns
 returns c =
     let start = c .before .before .before .before .before .before .before .before in
-    λ w b rep snd. yield-idle (start .args .l) (mem start b) (start .args .m) (start .args .fuel) w (start .args .pc) (start .args .dst) (start .args .src)
-    (idle (start .args .l) w (mem start b) (start .args .m) (start .args .fuel) rep (c .if1 .taken)) rep
+    λ w b rep snd. yield-idle (start .args .sizes) (mem start b) (start .args .m) (start .args .fuel) w (start .args .pc) (start .args .dst) (start .args .src)
+    (idle (start .args .sizes) w (mem start b) (start .args .m) (start .args .fuel) rep (c .if1 .taken)) rep
 
 sub-active-at : tie.Need-sub-active-at
 sub-active-at c =
@@ -49,7 +49,7 @@ yield-key-requires c κs =
     let at-largest-in = at-auto-key .before .before in
     let at-if1 = at-largest-in .before .before .before .before .before .before .before .before in let start = start-of at-if1 in
     let o = start .pre .ok in
-    key-run (start .args .l) (start .args .m) _ (start .args .stack .now) (start .args .frames .now) (start .args .chain .now) (start .args .slots .now)
+    key-run (start .args .sizes) (start .args .m) _ (start .args .stack .now) (start .args .frames .now) (start .args .chain .now) (start .args .slots .now)
     (start .args .saved-stack .now) (start .args .saved-frames .now) _ (at-largest-in .largest-in .result) (start .args .pc) o (at-auto-key .auto-key .kept .0)
     (some-active (start .args .m .active) (at-if1 .if1 .left)) (start .pre .narrow)
     (at-auto-key .auto-key .ensures (o .world) (record { words = mem start (o .beside); fuel = o .beside .fuel }) (o .rep) (o .sound) .world)
@@ -63,11 +63,11 @@ returns-2 c =
     λ w b rep snd.
     let h = some-active (start .args .m .active) (at-if1 .if1 .left) in
     let d = at-auto-key .auto-key .ensures w (record { words = mem start b; fuel = start .args .fuel }) rep snd in
-    yield-runs (start .args .l) _ _ _ w (start .args .pc) (start .args .dst) (start .args .src)
-    (runs (start .args .l) w (mem start b) (start .args .m) (start .args .fuel) rep h) _ _ (at-largest-in .largest-in .result) _ _
+    yield-runs (start .args .sizes) _ _ _ w (start .args .pc) (start .args .dst) (start .args .src)
+    (runs (start .args .sizes) w (mem start b) (start .args .m) (start .args .fuel) rep h) _ _ (at-largest-in .largest-in .result) _ _
     (at-reg .reg .ensures (w .stack) (w .frames) (rep .stack) (rep .frames) .is)
-    (ap (λ z. z .coro) (at-active-at .active-at .ensures ∙ innermost (start .args .l) w (mem start b) (start .args .m) (start .args .fuel) rep h))
-    (at-largest-in .largest-in .ensures (start .args .l) w (record { words = mem start b; fuel = start .args .fuel }) rep)
+    (ap (λ z. z .coro) (at-active-at .active-at .ensures ∙ innermost (start .args .sizes) w (mem start b) (start .args .m) (start .args .fuel) rep h))
+    (at-largest-in .largest-in .ensures (start .args .sizes) w (record { words = mem start b; fuel = start .args .fuel }) rep)
     (d .answer)
     (at-yield-key .yield-key .ensures (autoKey (at-largest-in .largest-in .result) w .world) b (d .world) (key-sounds (at-largest-in .largest-in .result) w snd))
 

@@ -20,13 +20,13 @@ returns c =
     let at-suspend = c .before .before .before .before .before .before .before .before .before .before .before .before in
     let at-a = at-suspend .before .before .before .before .before .before .before .before in
     let start = at-a .before .before .before .before .before .before .before .before in
-    λ w b rep snd. keyed-yield (start .args .l) _ _ _ w (start .args .pc) (start .args .dst) (start .args .payload) (start .args .a) _ (at-a .a .given .0 .0)
+    λ w b rep snd. keyed-yield (start .args .sizes) _ _ _ w (start .args .pc) (start .args .dst) (start .args .payload) (start .args .a) _ (at-a .a .given .0 .0)
     (at-a .a .given .0 .1 .0) (at-a .a .given .1) (at-suspend .suspend .ensures w b rep snd)
 
 returns-2 : tie.Need-returns-2
 returns-2 c =
     let at-a2 = c .before in let start = at-a2 .before .before .before .before .before .before .before .before in
-    λ w b rep snd. unkeyed-yield (start .args .l) (mem start b) (start .args .m) (start .args .fuel) w (start .args .pc) (start .args .dst)
+    λ w b rep snd. unkeyed-yield (start .args .sizes) (mem start b) (start .args .m) (start .args .fuel) w (start .args .pc) (start .args .dst)
     (start .args .payload) (start .args .a) (at-a2 .a2 .given .0 .0) (at-a2 .a2 .given .1) rep
 
 pub yield-key-spec : {M : Type 1} → statement M

@@ -18,8 +18,8 @@ mem c b = lent (c .args .stack .now) (c .args .frames .now) (c .args .chain .now
 returns : tie.Need-returns
 returns c =
     let start = start-of (c .before) in
-    λ w b rep snd. kv-idle (start .args .l) (mem start b) (start .args .m) (start .args .fuel) w (start .args .pc) (start .args .dst) (start .args .src)
-    (start .args .key) (idle (start .args .l) w (mem start b) (start .args .m) (start .args .fuel) rep (c .if1 .taken)) rep
+    λ w b rep snd. kv-idle (start .args .sizes) (mem start b) (start .args .m) (start .args .fuel) w (start .args .pc) (start .args .dst) (start .args .src)
+    (start .args .key) (idle (start .args .sizes) w (mem start b) (start .args .m) (start .args .fuel) rep (c .if1 .taken)) rep
 
 active-at-requires : tie.Need-active-at-requires
 active-at-requires c κs =
@@ -46,12 +46,12 @@ returns-2 c =
     let start = start-of (at-if1 .before) in
     λ w b rep snd.
     let h = some-active (start .args .m .active) (at-if1 .if1 .left) in
-    kv-runs (start .args .l) _ _ _ w (start .args .pc) (start .args .dst) (start .args .src) (start .args .key)
-    (runs (start .args .l) w (mem start b) (start .args .m) (start .args .fuel) rep h) _ _ _ _ _
+    kv-runs (start .args .sizes) _ _ _ w (start .args .pc) (start .args .dst) (start .args .src) (start .args .key)
+    (runs (start .args .sizes) w (mem start b) (start .args .m) (start .args .fuel) rep h) _ _ _ _ _
     (at-reg .reg .ensures (w .stack) (w .frames) (rep .stack) (rep .frames) .is)
-    (ap (λ z. z .coro) (at-active-at .active-at .ensures ∙ innermost (start .args .l) w (mem start b) (start .args .m) (start .args .fuel) rep h))
+    (ap (λ z. z .coro) (at-active-at .active-at .ensures ∙ innermost (start .args .sizes) w (mem start b) (start .args .m) (start .args .fuel) rep h))
     (at-reg2 .reg2 .ensures (w .stack) (w .frames) (rep .stack) (rep .frames) .is)
-    (at-keyed .keyed .ensures (start .args .l) w (record { words = mem start b; fuel = start .args .fuel }) rep)
+    (at-keyed .keyed .ensures (start .args .sizes) w (record { words = mem start b; fuel = start .args .fuel }) rep)
     (at-suspend .suspend .ensures w b rep snd)
 
 pub yield-kv-spec : {M : Type 1} → statement M

@@ -9,7 +9,7 @@ use Rattle.memory_world.specs.Memory.{Lent}
 use Rattle.memory_world.specs.Lendings.{plain}
 use Rattle.outer_call.specs.State.{nine}
 use Rattle.outer_run.proofs.Written.{enough}
-use Rattle.linked_calls.specs.Host.{Host, host, tested, short}
+use Rattle.linked_calls.specs.Host.{Host, host, passesTest, short}
 use Rattle.linked_calls.proofs.Others.{run-short, run-refused}
 use Rattle.linked_batch.proofs.Going.{no-pass, passed, batch-done}
 use borrow.Author.Needs.{needs}
@@ -36,7 +36,7 @@ room c =
     enough (length xs) n (let h = c .if1 .left in let z : n ≤ length xs / 8 = omega arith in z)
 
 -- it passed
-sure : (c : tie.Else3) → tested (of (start-of (count-of (c .before .before)))) ≡ true
+sure : (c : tie.Else3) → passesTest (of (start-of (count-of (c .before .before)))) ≡ true
 sure c = let at-bvm-sound = c .before .before in passed _ (at-bvm-sound .bvm-sound .result) (at-bvm-sound .bvm-sound .ensures) (c .if3 .left)
 
 abbrev list-of : tie.After-slice-known23 → tie.After-do-list
@@ -45,21 +45,21 @@ list-of c = c .before .before .before .before .before .before .before .before .b
 returns : tie.Need-returns
 returns c =
     let at-bvm-sound = c .before .before in let at-count = count-of at-bvm-sound in let start = start-of at-count in let a = start .args in
-    run-short (of start) (a .calls .now) (a .answers .now) (at-count .count .result) (at-count .count .ensures) (c .before .if1 .taken) (tested (of start)) refl 11
+    run-short (of start) (a .calls .now) (a .answers .now) (at-count .count .result) (at-count .count .ensures) (c .before .if1 .taken) (passesTest (of start)) refl 11
     (sym (ap short (no-pass _ (at-bvm-sound .bvm-sound .result) (at-bvm-sound .bvm-sound .ensures) (c .if2 .taken)) ∙ pick-false 14 11))
 
 returns-2 : tie.Need-returns-2
 returns-2 c =
     let at-bvm-sound = c .before .before in let at-count = count-of at-bvm-sound in let start = start-of at-count in let a = start .args in
-    run-short (of start) (a .calls .now) (a .answers .now) (at-count .count .result) (at-count .count .ensures) (c .before .if1 .taken) (tested (of start)) refl 14
+    run-short (of start) (a .calls .now) (a .answers .now) (at-count .count .result) (at-count .count .ensures) (c .before .if1 .taken) (passesTest (of start)) refl 14
     (sym (ap short (passed _ (at-bvm-sound .bvm-sound .result) (at-bvm-sound .bvm-sound .ensures) (c .if2 .left)) ∙ pick-true 14 11))
 
 returns-3 : tie.Need-returns-3
 returns-3 c =
     let at-refuse-list = c .before .before in let at-if3 = at-refuse-list .before .before in let at-if1 = at-if3 .before in let at-bvm-sound = at-if1 .before in
     let at-count = count-of at-bvm-sound in let start = start-of at-count in let a = start .args in
-    run-refused (of start) (a .calls .now) (a .answers .now) (at-count .count .result) (at-count .count .ensures) (room at-if1) (tested (of start)) refl
-    (no-pass (tested (of start)) (at-bvm-sound .bvm-sound .result) (at-bvm-sound .bvm-sound .ensures) (at-if3 .if3 .taken)) _ (at-refuse-list .refuse-list .ensures)
+    run-refused (of start) (a .calls .now) (a .answers .now) (at-count .count .result) (at-count .count .ensures) (room at-if1) (passesTest (of start)) refl
+    (no-pass (passesTest (of start)) (at-bvm-sound .bvm-sound .result) (at-bvm-sound .bvm-sound .ensures) (at-if3 .if3 .taken)) _ (at-refuse-list .refuse-list .ensures)
 
 do-list-requires : tie.Need-do-list-requires
 do-list-requires c κs =

@@ -44,7 +44,7 @@ slice-write-ws-12 : tie.Need-slice-write-ws-12
 slice-write-ws-12 c = let h = c .before .pre in simp length-set (omega arith)
 
 returns : tie.Need-returns
-returns c = let start = c .before in let h = start .pre in sets-splice (start .args .ws .now) (sizesWords (start .args .l)) 13 (omega arith)
+returns c = let start = c .before in let h = start .pre in sets-splice (start .args .ws .now) (sizesWords (start .args .sizes)) 13 (omega arith)
 
 pub put-sizes-spec : {M : Type 1} → statement M
 put-sizes-spec = tie.close (tie.spec slice-write-ws slice-write-ws-2 slice-write-ws-3 slice-write-ws-4 slice-write-ws-5 slice-write-ws-6 slice-write-ws-7 slice-write-ws-8 slice-write-ws-9 slice-write-ws-10 slice-write-ws-11 slice-write-ws-12 (λ c. search needs) returns)

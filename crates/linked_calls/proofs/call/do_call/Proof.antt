@@ -8,7 +8,7 @@ use Rattle.memory_world.specs.Memory.{Lent}
 use Rattle.memory_world.specs.Lendings.{plain}
 use Rattle.outer_call.specs.State.{nine}
 use Rattle.memory_calls.specs.Call.{opOf}
-use Rattle.linked_calls.specs.Host.{Host, host, tested, gave}
+use Rattle.linked_calls.specs.Host.{Host, host, passesTest, gave}
 use Rattle.linked_calls.proofs.Hosts.{long-numbers, numbers, may-read, left-in, done, refused}
 use borrow.Author.Needs.{needs}
 use Rattle.linked_calls.proofs.call.do_call.Statement.{statement}
@@ -38,7 +38,7 @@ left-by c = nine (c .do-read .last .0) (c .do-read .last .1 .0) (c .do-read .las
     (c .do-read .last .1 .1 .1 .1 .0) (c .do-read .last .1 .1 .1 .1 .1 .0) (c .do-read .last .1 .1 .1 .1 .1 .1 .0)
     (c .do-read .last .1 .1 .1 .1 .1 .1 .1 .0) (begin-of c .args .setup .now) plain
 
-sound : (c : tie.Else1) → tested (of (start-of c)) ≡ true
+sound : (c : tie.Else1) → passesTest (of (start-of c)) ≡ true
 sound c = sym (start-of c .pre .known) ∙ not-false _ (c .if1 .left)
 
 long : (c : tie.Else1) → let a = start-of c .args in (25 ≤ length (a .machine .now)) × (4 ≤ length (a .fuel .now))

@@ -8,7 +8,7 @@ use borrow.Author.Tests.{not-true, not-false}
 use Rattle.memory_world.specs.Memory.{Lent}
 use Rattle.memory_world.specs.Lendings.{plain}
 use Rattle.outer_call.specs.State.{nine}
-use Rattle.linked_calls.specs.Host.{Host, host, tested}
+use Rattle.linked_calls.specs.Host.{Host, host, passesTest}
 use Rattle.linked_calls.proofs.Hosts.{long-numbers, numbers}
 use Rattle.linked_calls.proofs.Others.{grant-refused, grant-done}
 use borrow.Author.Needs.{needs}
@@ -24,7 +24,7 @@ of c = host (mem c) (c .args .machine .now) (c .args .fuel .now)
 abbrev start-of : tie.Else1 → tie.Start
 start-of c = c .before .before .before .before .before .before .before .before .before .before .before .before .before
 
-sound : (c : tie.Else1) → tested (of (start-of c)) ≡ true
+sound : (c : tie.Else1) → passesTest (of (start-of c)) ≡ true
 sound c = sym (start-of c .pre .known) ∙ not-false _ (c .if1 .left)
 
 long : (c : tie.Else1) → let a = start-of c .args in (25 ≤ length (a .machine .now)) × (4 ≤ length (a .fuel .now))

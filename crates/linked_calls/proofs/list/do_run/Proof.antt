@@ -9,7 +9,7 @@ use Rattle.memory_world.specs.Memory.{Lent}
 use Rattle.memory_world.specs.Lendings.{plain}
 use Rattle.outer_call.specs.State.{nine, state}
 use Rattle.outer_run.proofs.Written.{enough}
-use Rattle.linked_calls.specs.Host.{Host, host, tested}
+use Rattle.linked_calls.specs.Host.{Host, host, passesTest}
 use Rattle.linked_calls.proofs.Hosts.{long-numbers, numbers, may-read}
 use Rattle.linked_calls.proofs.Others.{run-short, run-refused, run-done}
 use borrow.Author.Needs.{needs}
@@ -34,7 +34,7 @@ run-list-of c = c .before .before .before .before .before .before .before .befor
 abbrev else-of : tie.After-run-list → tie.Else2
 else-of c = c .before .before .before .before .before .before .before .before .before .before .before .before .before .before .before .before
 
-sound : (c : tie.Else2) → tested (of (start-of (count-of c))) ≡ true
+sound : (c : tie.Else2) → passesTest (of (start-of (count-of c))) ≡ true
 sound c = sym (start-of (count-of c) .pre) ∙ not-false _ (c .if2 .left)
 
 long : (c : tie.Else2) → let a = start-of (count-of c) .args in (25 ≤ length (a .machine .now)) × (4 ≤ length (a .fuel .now))

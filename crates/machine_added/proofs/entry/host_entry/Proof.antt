@@ -18,7 +18,7 @@ start-of c = c .before .before .before .before .before .before .before .before .
 arrive-requires : tie.Need-arrive-requires
 arrive-requires c κs =
     let at-coro-enter = coro-enter-of c in let start = start-of at-coro-enter in let o = start .pre in
-    arrive-fits (start .args .l) _ (at-coro-enter .coro-enter .result .machine) _ (start .args .c) Driver.Host (o .world) (at-coro-enter .coro-enter .result .answer) (o .sound)
+    arrive-fits (start .args .sizes) _ (at-coro-enter .coro-enter .result .machine) _ (start .args .c) Driver.Host (o .world) (at-coro-enter .coro-enter .result .answer) (o .sound)
     (at-coro-enter .coro-enter .ensures (o .world) (o .beside) (o .rep) (o .sound))
 
 returns : tie.Need-returns
@@ -26,9 +26,9 @@ returns c =
     let at-arrive = c .before .before .before .before .before in let at-coro-enter = coro-enter-of (at-arrive .before) in let start = start-of at-coro-enter in
     λ w b rep snd. let did = at-coro-enter .coro-enter .ensures w b rep snd in
     let L = at-coro-enter .coro-enter .last in
-    host-entered (start .args .l) _ (at-coro-enter .coro-enter .result .machine) (b .fuel) w (start .args .c) (start .args .v)
+    host-entered (start .args .sizes) _ (at-coro-enter .coro-enter .result .machine) (b .fuel) w (start .args .c) (start .args .v)
     (at-coro-enter .coro-enter .result .answer) (at-arrive .arrive .result) (c .entered-as .result) (c .entered-as .ensures) (did .answer)
-    (at-arrive .arrive .ensures (start .args .l) (coroEnter (start .args .c) Driver.Host w .world)
+    (at-arrive .arrive .ensures (start .args .sizes) (coroEnter (start .args .c) Driver.Host w .world)
     (record { words = lent (L .0) (L .1 .0) (L .1 .1 .0) (L .1 .1 .1 .0) (L .1 .1 .1 .1 .0) (L .1 .1 .1 .1 .1 .0) b; fuel = b .fuel }) (did .world))
 
 pub host-entry-spec : {M : Type 1} → statement M

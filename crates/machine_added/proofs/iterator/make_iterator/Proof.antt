@@ -17,14 +17,14 @@ alloc-plain-requires c κs =
 returns : tie.Need-returns
 returns c =
     let at-f = c .before in let at-coro-state = at-f .before .before in let start = at-coro-state .before .before .before in
-    λ w b rep snd. not-over (start .args .l) _ (start .args .m) (b .fuel) w (start .args .v) _ (sym (at-f .f .given .1) ∙ at-coro-state .coro-state .ensures (start .args .l) w b rep) rep
+    λ w b rep snd. not-over (start .args .sizes) _ (start .args .m) (b .fuel) w (start .args .v) _ (sym (at-f .f .given .1) ∙ at-coro-state .coro-state .ensures (start .args .sizes) w b rep) rep
 
 returns-2 : tie.Need-returns-2
 returns-2 c =
     let at-alloc-plain = c .before .before .before .before in let at-enum-told = at-alloc-plain .before .before .before in
     let at-coro-state = at-enum-told .before .before in let start = at-coro-state .before .before .before in
-    λ w b rep snd. over (start .args .l) _ _ (b .fuel) w (start .args .v) _ _ _ (start .args .l .costs .iter)
-    (sym (at-enum-told .enum-told .given .1) ∙ at-coro-state .coro-state .ensures (start .args .l) w b rep) (ap (λ k. k .iter) (rep .sizes .costs)) (c .made-as .ensures)
+    λ w b rep snd. over (start .args .sizes) _ _ (b .fuel) w (start .args .v) _ _ _ (start .args .sizes .costs .iter)
+    (sym (at-enum-told .enum-told .given .1) ∙ at-coro-state .coro-state .ensures (start .args .sizes) w b rep) (ap (λ k. k .iter) (rep .sizes .costs)) (c .made-as .ensures)
     (at-alloc-plain .alloc-plain .ensures (Object.Iter (start .args .v) false Opt.None) refl refl w b rep)
 
 pub make-iterator-spec : {M : Type 1} → statement M

@@ -18,7 +18,7 @@ around s b = record { words = lent (s .args .stack .now) (s .args .frames .now) 
 aborted : (c : tie.After-abort-coros) →
     let s = c .before .before .before .before .before .before .before .before .before .before .before in
     let k = c .abort-coros in
-    Rep (s .args .l) (abortCoros (s .pre .world)) (lent (s .args .stack .now) (s .args .frames .now) (k .last .0) (k .last .1 .0) (k .last .1 .1 .0) (k .last .1 .1 .1 .0) (s .pre .beside))
+    Rep (s .args .sizes) (abortCoros (s .pre .world)) (lent (s .args .stack .now) (s .args .frames .now) (k .last .0) (k .last .1 .0) (k .last .1 .1 .0) (k .last .1 .1 .1 .0) (s .pre .beside))
     (k .result .machine) (k .result .fuel)
 aborted c =
     let s = c .before .before .before .before .before .before .before .before .before .before .before in
@@ -44,7 +44,7 @@ returns c =
     let at-cut = c .before .before .before in let at-clear-frames = at-cut .before .before .before .before in
     let at-abort-coros = at-clear-frames .before .before .before .before .before .before .before .before .before .before .before .before in
     let s = at-abort-coros .before .before .before .before .before .before .before .before .before .before .before in
-    λ w b rep snd. stopped (s .args .l) _ (at-abort-coros .abort-coros .result .machine) _ _ w _ _
+    λ w b rep snd. stopped (s .args .sizes) _ (at-abort-coros .abort-coros .result .machine) _ _ w _ _
     (at-abort-coros .abort-coros .ensures w (around s b) rep (sound-rowed w snd)) (c .emptied .ensures) (at-clear-frames .clear-frames .ensures) (at-cut .cut .ensures)
 
 pub stop-run-spec : {M : Type 1} → statement M

@@ -15,7 +15,7 @@ use Rattle.machine_finish.proofs.cont.apply_cont.Tie as tie
 put-requires : tie.Need-put-requires
 put-requires c κs =
     let arm = c .before .before .before .before .before .before in let start = arm .before .before .before .before .before in let a = start .args in let w = start .pre .ok .world in
-    put-fits (a .l) (topTable (a .stack .now) (a .frames .now) (a .slots .now) plain) (a .m) (a .cont) (start .pre) (arm .cont .given .0 .0)
+    put-fits (a .sizes) (topTable (a .stack .now) (a .frames .now) (a .slots .now) plain) (a .m) (a .cont) (start .pre) (arm .cont .given .0 .0)
     (ap (λ x. contLies x (length (w .stack)) (w .frames)) (arm .cont .given .1))
 
 write-dyn-requires : tie.Need-write-dyn-requires
@@ -27,13 +27,13 @@ returns : tie.Need-returns
 returns c =
     let did = c .before .before .before .before in let arm = did .before .before .before .before in let a = arm .before .before .before .before .before .args in let f = did .write-dyn in
     λ w b rep.
-    subst (λ y. Does (a .l) (applyCont y (a .kind) (a .v) w) (topTable (f .last .0) (a .frames .now) (f .last .1 .1 .0) plain b) (f .result .machine) (b .fuel) (f .result .answer))
+    subst (λ y. Does (a .sizes) (applyCont y (a .kind) (a .v) w) (topTable (f .last .0) (a .frames .now) (f .last .1 .1 .0) plain b) (f .result .machine) (b .fuel) (f .result .answer))
     (sym (arm .cont2 .given .1)) (f .ensures w b rep)
 
 put-requires-2 : tie.Need-put-requires-2
 put-requires-2 c κs =
     let arm = c .before .before .before .before in let start = arm .before .before .before .before .before in let a = start .args in let w = start .pre .ok .world in
-    put-fits (a .l) (topTable (a .stack .now) (a .frames .now) (a .slots .now) plain) (a .m) (a .cont) (start .pre) (arm .cont3 .given .0 .0)
+    put-fits (a .sizes) (topTable (a .stack .now) (a .frames .now) (a .slots .now) plain) (a .m) (a .cont) (start .pre) (arm .cont3 .given .0 .0)
     (ap (λ x. contLies x (length (w .stack)) (w .frames)) (arm .cont3 .given .1))
 
 returns-2 : tie.Need-returns-2
@@ -54,7 +54,7 @@ returns-4 c =
     λ w b rep.
     applies (a .kind) (a .v) w (arm .cont .given .1)
     (write-some (a .kind) (a .v) w (arm .cont .given .0 .0) (some .result .given .0 .0) (sym (some .result .given .1) ∙ result .result-of .ensures))
-    (written .put .ensures (a .l) w (record { words = onSlots (a .slots .now) (b .words); fuel = b .fuel }) rep)
+    (written .put .ensures (a .sizes) w (record { words = onSlots (a .slots .now) (b .words); fuel = b .fuel }) rep)
 
 returns-5 : tie.Need-returns-5
 returns-5 c =
@@ -63,7 +63,7 @@ returns-5 c =
     λ w b rep.
     applies (a .kind) (a .v) w (arm .cont3 .given .1)
     (value-is (a .kind) (a .v) w (arm .cont3 .given .0 .0) (word .or-nil .result) (word .or-nil .ensures ∙ ap orNil (result .result-of2 .ensures)))
-    (written .put2 .ensures (a .l) w (record { words = onSlots (a .slots .now) (b .words); fuel = b .fuel }) rep)
+    (written .put2 .ensures (a .sizes) w (record { words = onSlots (a .slots .now) (b .words); fuel = b .fuel }) rep)
 
 returns-6 : tie.Need-returns-6
 returns-6 c =

@@ -17,7 +17,7 @@ to-dyn-requires : tie.Need-to-dyn-requires
 to-dyn-requires c κs =
     let start = c .before .before .before .before in
     let a = start .args in
-    dyn-room (a .l) (topTable (a .stack .now) (a .frames .now) (a .slots .now) plain) (a .m) (Cont.Dyn (a .dst)) (start .pre)
+    dyn-room (a .sizes) (topTable (a .stack .now) (a .frames .now) (a .slots .now) plain) (a .m) (Cont.Dyn (a .dst)) (start .pre)
 
 put-requires : tie.Need-put-requires
 put-requires c κs =
@@ -26,7 +26,7 @@ put-requires c κs =
     let o = start .pre .ok in
     let f = did .to-dyn in
     let rep = f .ensures (o .world) (record { words = onStack (a .stack .now) (onFrames (a .frames .now) (o .beside .words)); fuel = o .beside .fuel }) (o .rep) .world in
-    put-fits-dyn (a .l) (topTable (a .stack .now) (a .frames .now) (a .slots .now) plain) (a .m) (Cont.Dyn (a .dst)) (start .pre) (a .kind) (a .v) (a .dst)
+    put-fits-dyn (a .sizes) (topTable (a .stack .now) (a .frames .now) (a .slots .now) plain) (a .m) (Cont.Dyn (a .dst)) (start .pre) (a .kind) (a .v) (a .dst)
     (topTable (a .stack .now) (a .frames .now) (f .last .0) plain (o .beside)) (f .result .machine) refl rep
 
 returns : tie.Need-returns
@@ -40,9 +40,9 @@ returns c =
     let d = f .ensures w (record { words = onStack (a .stack .now) (onFrames (a .frames .now) (b .words)); fuel = b .fuel }) rep in
     let x = arm .made .given .0 .0 in
     let u = toDyn (a .kind) (a .v) w .world in
-    does (a .l) (topTable (p .last .0) (a .frames .now) (f .last .0) plain b) (f .result .machine) (b .fuel) (applyCont (Cont.Dyn (a .dst)) (a .kind) (a .v) w) (putReg (a .dst) x u) Fault.None
+    does (a .sizes) (topTable (p .last .0) (a .frames .now) (f .last .0) plain b) (f .result .machine) (b .fuel) (applyCont (Cont.Dyn (a .dst)) (a .kind) (a .v) w) (putReg (a .dst) x u) Fault.None
     (dyn-put (a .kind) (a .v) w (a .dst) x (sym (arm .made .given .1) ∙ d .answer))
-    (p .ensures (a .l) u (record { words = onSlots (f .last .0) (b .words); fuel = b .fuel }) (d .world))
+    (p .ensures (a .sizes) u (record { words = onSlots (f .last .0) (b .words); fuel = b .fuel }) (d .world))
 
 returns-2 : tie.Need-returns-2
 returns-2 c =
@@ -52,7 +52,7 @@ returns-2 c =
     λ w b rep.
     let d = f .ensures w (record { words = onStack (a .stack .now) (onFrames (a .frames .now) (b .words)); fuel = b .fuel }) rep in
     let g = arm .made2 .given .0 .0 in
-    does (a .l) (topTable (a .stack .now) (a .frames .now) (f .last .0) plain b) (f .result .machine) (b .fuel) (applyCont (Cont.Dyn (a .dst)) (a .kind) (a .v) w) (toDyn (a .kind) (a .v) w .world) g
+    does (a .sizes) (topTable (a .stack .now) (a .frames .now) (f .last .0) plain b) (f .result .machine) (b .fuel) (applyCont (Cont.Dyn (a .dst)) (a .kind) (a .v) w) (toDyn (a .kind) (a .v) w .world) g
     (dyn-not (a .kind) (a .v) w (a .dst) g (sym (arm .made2 .given .1) ∙ d .answer)) (d .world)
 
 pub write-dyn-spec : {M : Type 1} → statement M

@@ -21,13 +21,13 @@ abbrev left : tie.After-pop → Beside → Lent
 left c = topTable (c .pop .last .0) (c .pop .last .1 .0) (start-of c .args .slots .now) plain
 
 popped : (c : tie.After-pop) (w : World) (b : Beside) → let s = start-of c in
-    Rep (s .args .l) w (mem s b) (s .args .m) (b .fuel) → Rep (s .args .l) (popTop w) (left c b) (c .pop .result) (b .fuel)
-popped c w b rep = let a = start-of c .args in c .pop .ensures (a .l) w (record { words = onSlots (a .slots .now) (b .words); fuel = b .fuel }) rep
+    Rep (s .args .sizes) w (mem s b) (s .args .m) (b .fuel) → Rep (s .args .sizes) (popTop w) (left c b) (c .pop .result) (b .fuel)
+popped c w b rep = let a = start-of c .args in c .pop .ensures (a .sizes) w (record { words = onSlots (a .slots .now) (b .words); fuel = b .fuel }) rep
 
 pop-requires : tie.Need-pop-requires
 pop-requires c κs =
     let start = c .before .before .before .before .before in
-    may-pop (start .args .l) (mem start) (start .args .m) (start .pre .on .ok) (start .pre .on .some)
+    may-pop (start .args .sizes) (mem start) (start .args .m) (start .pre .on .ok) (start .pre .on .some)
 
 apply-cont-requires : tie.Need-apply-cont-requires
 apply-cont-requires c κs =
@@ -35,7 +35,7 @@ apply-cont-requires c κs =
     let a = start .args in
     let o = start .pre .on .ok in
     let k = gone .pop .kept in
-    end-applies (a .l) (mem start) (a .m) (a .cont) (start .pre) (left gone) (gone .pop .result) (popped gone (o .world) (o .beside) (o .rep))
+    end-applies (a .sizes) (mem start) (a .m) (a .cont) (start .pre) (left gone) (gone .pop .result) (popped gone (o .world) (o .beside) (o .rep))
     (record { stack = k .0; frames = k .1 .0; chain = refl; slots = refl; savedStack = refl; savedFrames = refl; ready = refl; finalize = refl; setup = refl })
 
 resume-in-requires : tie.Need-resume-in-requires
@@ -46,7 +46,7 @@ resume-in-requires c κs =
     let o = start .pre .on .ok in
     let f = did .apply-cont in
     let rep = popped gone (o .world) (o .beside) (o .rep) in
-    end-steps (a .l) (mem start) (a .m) (a .cont) (start .pre) (left gone) (gone .pop .result) rep (a .kind) (a .v)
+    end-steps (a .sizes) (mem start) (a .m) (a .cont) (start .pre) (left gone) (gone .pop .result) rep (a .kind) (a .v)
     (topTable (f .last .0) (gone .pop .last .1 .0) (f .last .1 .1 .0) plain (o .beside)) (f .result .machine) (f .ensures (popTop (o .world)) (o .beside) rep .world)
 
 returns : tie.Need-returns
@@ -59,9 +59,9 @@ returns c =
     let g = on .resume-in in
     λ w b rep.
     let d = f .ensures (popTop w) b (popped gone w b rep) in
-    call-ends (a .l) (topTable (f .last .0) (g .last .0) (f .last .1 .1 .0) plain b) (f .result .machine) (b .fuel) w (a .cont) (a .kind) (a .v)
-    (on-top (a .l) (mem start b) (a .m) (b .fuel) w rep (start .pre .on .some) (a .cont) (start .pre .on .top)) (start .pre .call) (f .result .answer) (g .result) (d .answer)
-    (g .ensures (a .l) (applyCont (a .cont) (a .kind) (a .v) (popTop w) .world) (record { words = onStack (f .last .0) (onSlots (f .last .1 .1 .0) (b .words)); fuel = b .fuel }) (d .world))
+    call-ends (a .sizes) (topTable (f .last .0) (g .last .0) (f .last .1 .1 .0) plain b) (f .result .machine) (b .fuel) w (a .cont) (a .kind) (a .v)
+    (on-top (a .sizes) (mem start b) (a .m) (b .fuel) w rep (start .pre .on .some) (a .cont) (start .pre .on .top)) (start .pre .call) (f .result .answer) (g .result) (d .answer)
+    (g .ensures (a .sizes) (applyCont (a .cont) (a .kind) (a .v) (popTop w) .world) (record { words = onStack (f .last .0) (onSlots (f .last .1 .1 .0) (b .words)); fuel = b .fuel }) (d .world))
 
 pub end-call-spec : {M : Type 1} → statement M
 end-call-spec =

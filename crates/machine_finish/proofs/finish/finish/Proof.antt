@@ -38,21 +38,21 @@ some c = omega (arith, c .before .before .before .if1 .left)
 read : (c : tie.After-frame-at) → let a = start-of c .args in frameIn (a .frames .now) (a .m .depth - 1) .cont ≡ c .frame-at .result .cont
 read c = sym (ap (λ (x : Frame). x .cont) (c .frame-at .ensures))
 
-top : (c : tie.After-frame-at) (w : World) (b : Beside) → let s = start-of c in Rep (s .args .l) w (mem s b) (s .args .m) (s .args .fuel) → On (w .frames) (c .frame-at .result .cont)
-top c w b rep = let s = start-of c in on-top (s .args .l) (mem s b) (s .args .m) (s .args .fuel) w rep (some c) (c .frame-at .result .cont) (read c)
+top : (c : tie.After-frame-at) (w : World) (b : Beside) → let s = start-of c in Rep (s .args .sizes) w (mem s b) (s .args .m) (s .args .fuel) → On (w .frames) (c .frame-at .result .cont)
+top c w b rep = let s = start-of c in on-top (s .args .sizes) (mem s b) (s .args .m) (s .args .fuel) w rep (some c) (c .frame-at .result .cont) (read c)
 
 returns : tie.Need-returns
 returns c =
     let start = c .before .before .before .before .before .before .before .before .before in
     let a = start .args in
     λ w b rep snd.
-    does (a .l) (mem start b) (a .m) (a .fuel) (finish (a .kind) (a .v) w) w (Answer.Exit (c .result-of .result))
+    does (a .sizes) (mem start b) (a .m) (a .fuel) (finish (a .kind) (a .v) w) w (Answer.Exit (c .result-of .result))
     (no-frame (a .kind) (a .v) w (c .result-of .result) (no-top (w .frames) (a .frames .now) (a .m .depth) (rep .frames) (c .before .if1 .taken)) (c .result-of .ensures)) rep
 
 pop-requires : tie.Need-pop-requires
 pop-requires c κs =
     let at-top = c .before .before .before .before .before in let start = start-of at-top in
-    may-pop (start .args .l) (mem start) (start .args .m) (start .pre) (some at-top)
+    may-pop (start .args .sizes) (mem start) (start .args .m) (start .pre) (some at-top)
 
 end-call-requires : tie.Need-end-call-requires
 end-call-requires c κs =
@@ -82,10 +82,10 @@ returns-2 c =
     let p = gone .pop in
     let o = c .result-of2 in
     λ w b rep snd.
-    does (a .l) (lent (p .last .0) (p .last .1 .0) (a .chain .now) (a .slots .now) (a .saved-stack .now) (a .saved-frames .now) b) (p .result) (a .fuel)
+    does (a .sizes) (lent (p .last .0) (p .last .1 .0) (a .chain .now) (a .slots .now) (a .saved-stack .now) (a .saved-frames .now) b) (p .result) (a .fuel)
     (finish (a .kind) (a .v) w) (popTop w) (Answer.Exit (o .result))
     (finish-out (a .kind) (a .v) w (at-top .frame-at .result .cont) (top at-top w b rep) (o .result) (sym (told .way-of .ensures) ∙ arm .enum-told .given .1) (o .ensures))
-    (p .ensures (a .l) w (under start (record { words = b .words; fuel = a .fuel })) rep)
+    (p .ensures (a .sizes) w (under start (record { words = b .words; fuel = a .fuel })) rep)
 
 returns-3 : tie.Need-returns-3
 returns-3 c =

@@ -28,8 +28,8 @@ around s b =
 abbrev under : tie.Start → List ℕ → Beside → Beside
 under s slots b = record { words = onChain (s .args .chain .now) (onSlots slots (onSaved (s .args .saved-stack .now) (s .args .saved-frames .now) (b .words))); fuel = b .fuel }
 
-top : (s : tie.Start) (w : World) (b : Beside) → Rep (s .args .l) w (mem s (s .args .slots .now) b) (s .args .m) (s .args .fuel) → On (w .frames) Cont.Coro
-top s w b rep = on-top (s .args .l) (mem s (s .args .slots .now) b) (s .args .m) (s .args .fuel) w rep (s .pre .some) Cont.Coro (s .pre .top)
+top : (s : tie.Start) (w : World) (b : Beside) → Rep (s .args .sizes) w (mem s (s .args .slots .now) b) (s .args .m) (s .args .fuel) → On (w .frames) Cont.Coro
+top s w b rep = on-top (s .args .sizes) (mem s (s .args .slots .now) b) (s .args .m) (s .args .fuel) w rep (s .pre .some) Cont.Coro (s .pre .top)
 
 abbrev start-of : tie.After-to-dyn → tie.Start
 start-of c = c .before .before .before .before .before .before .before .before
@@ -41,7 +41,7 @@ to-dyn-requires c κs =
 pop-requires : tie.Need-pop-requires
 pop-requires c κs =
     let did = c .before .before .before .before .before .before .before .before in let start = start-of did in let a = start .args in let o = start .pre .ok in let f = did .to-dyn in
-    body-pops (a .l) (mem start (a .slots .now)) (a .m) (start .pre) (a .kind) (a .v) (mem start (f .last .0) (o .beside)) (f .result .machine)
+    body-pops (a .sizes) (mem start (a .slots .now)) (a .m) (start .pre) (a .kind) (a .v) (mem start (f .last .0) (o .beside)) (f .result .machine)
     (f .ensures (o .world) (around start (o .beside)) (o .rep) .world)
 
 coro-returned-requires : tie.Need-coro-returned-requires
@@ -49,16 +49,16 @@ coro-returned-requires c κs =
     let gone = c .before .before .before .before .before .before .before .before .before .before in
     let did = gone .before .before .before .before .before .before .before .before .before in let start = start-of did in let a = start .args in
     let o = start .pre .ok in let f = did .to-dyn in let p = gone .pop in
-    body-asks (a .l) (mem start (a .slots .now)) (a .m) (start .pre) (a .kind) (a .v)
+    body-asks (a .sizes) (mem start (a .slots .now)) (a .m) (start .pre) (a .kind) (a .v)
     (lent (p .last .0) (p .last .1 .0) (a .chain .now) (f .last .0) (a .saved-stack .now) (a .saved-frames .now)) (p .result)
-    (p .ensures (a .l) (toDyn (a .kind) (a .v) (o .world) .world) (under start (f .last .0) (o .beside)) (f .ensures (o .world) (around start (o .beside)) (o .rep) .world))
+    (p .ensures (a .sizes) (toDyn (a .kind) (a .v) (o .world) .world) (under start (f .last .0) (o .beside)) (f .ensures (o .world) (around start (o .beside)) (o .rep) .world))
 
 returns : tie.Need-returns
 returns c =
     let arm = c .before in let did = arm .before .before .before .before .before in let start = start-of did in let a = start .args in let f = did .to-dyn in
     λ w b rep snd.
     let d = f .ensures w (around start (record { words = b .words; fuel = a .fuel })) rep in
-    body-refused (a .l) (mem start (f .last .0) b) (f .result .machine) (a .fuel) w (a .kind) (a .v) (top start w b rep) (arm .made .given .0 .0) (sym (arm .made .given .1) ∙ d .answer) (d .world)
+    body-refused (a .sizes) (mem start (f .last .0) b) (f .result .machine) (a .fuel) w (a .kind) (a .v) (top start w b rep) (arm .made .given .0 .0) (sym (arm .made .given .1) ∙ d .answer) (d .world)
 
 returns-2 : tie.Need-returns-2
 returns-2 c =
@@ -71,11 +71,11 @@ returns-2 c =
     let t = top start w b rep in
     let fed : Beside = record { words = b .words; fuel = a .fuel } in
     let d = f .ensures w (around start fed) rep in
-    let r = p .ensures (a .l) u (under start (f .last .0) fed) (d .world) in
+    let r = p .ensures (a .sizes) u (under start (f .last .0) fed) (d .world) in
     let N = lent (p .last .0) (p .last .1 .0) (a .chain .now) (f .last .0) (a .saved-stack .now) (a .saved-frames .now) b in
-    let q = popped-to (a .l) N (p .result) (a .fuel) u (t .top) (t .rest) (dyn-top (a .kind) (a .v) w snd t) r in
+    let q = popped-to (a .sizes) N (p .result) (a .fuel) u (t .top) (t .rest) (dyn-top (a .kind) (a .v) w snd t) r in
     let L = g .last in
-    body-returns (a .l) (lent (L .0) (L .1 .0) (L .1 .1 .0) (L .1 .1 .1 .0) (L .1 .1 .1 .1 .0) (L .1 .1 .1 .1 .1 .0) b) (g .result .machine) (g .result .fuel) w (a .kind) (a .v) t
+    body-returns (a .sizes) (lent (L .0) (L .1 .0) (L .1 .1 .0) (L .1 .1 .1 .0) (L .1 .1 .1 .1 .0) (L .1 .1 .1 .1 .1 .0) b) (g .result .machine) (g .result .fuel) w (a .kind) (a .v) t
     (arm .made2 .given .0 .0) (sym (arm .made2 .given .1) ∙ d .answer) (g .ensures (popTo (t .top) (t .rest) u) b q (sound-rowed u (dyn-sounds (a .kind) (a .v) w snd)))
 
 pub finish-coro-spec : {M : Type 1} → statement M

@@ -18,37 +18,37 @@ mem c b = onStack (c .args .stack .now) (onFrames (c .args .frames .now) (onSetu
 regs-at-requires : tie.Need-regs-at-requires
 regs-at-requires c κs =
     let start = c .before .before .before in
-    asked (start .args .l) (start .pre .ok .world) (mem start (start .pre .ok .beside)) (start .args .m) (start .pre .ok .beside .fuel) (start .pre .ok .rep)
+    asked (start .args .sizes) (start .pre .ok .world) (mem start (start .pre .ok .beside)) (start .args .m) (start .pre .ok .beside .fuel) (start .pre .ok .rep)
     (start .pre .ok .sound) (start .args .f) (start .pre .function) (start .pre .ok .room) .function-there
 
 overflows-requires : tie.Need-overflows-requires
 overflows-requires c κs =
     let start = c .before .before .before .before in
-    asked (start .args .l) (start .pre .ok .world) (mem start (start .pre .ok .beside)) (start .args .m) (start .pre .ok .beside .fuel) (start .pre .ok .rep)
+    asked (start .args .sizes) (start .pre .ok .world) (mem start (start .pre .ok .beside)) (start .args .m) (start .pre .ok .beside .fuel) (start .pre .ok .rep)
     (start .pre .ok .sound) (start .args .f) (start .pre .function) (start .pre .ok .room) .height
 
 returns : tie.Need-returns
 returns c =
     let at-overflows = c .before in let at-regs-at = at-overflows .before in let start = at-regs-at .before .before .before .before in
-    λ w b rep snd. push-refused (start .args .l) w (mem start b) (start .args .m) (b .fuel)
+    λ w b rep snd. push-refused (start .args .sizes) w (mem start b) (start .args .m) (b .fuel)
     rep snd (start .args .f) (start .pre .function) (start .args .closure) (start .args .cont)
-    (ap (overflowing (start .args .m) (start .args .l)) (sym (at-regs-at .regs-at .ensures)) ∙ sym (at-overflows .overflows .ensures) ∙ c .if1 .taken)
+    (ap (overflowing (start .args .m) (start .args .sizes)) (sym (at-regs-at .regs-at .ensures)) ∙ sym (at-overflows .overflows .ensures) ∙ c .if1 .taken)
 
 push-frame-requires : tie.Need-push-frame-requires
 push-frame-requires c κs =
     let at-if1 = c .before in let at-overflows = at-if1 .before in let at-regs-at = at-overflows .before in
     let start = at-regs-at .before .before .before .before in
-    fitting (start .args .l) (start .pre .ok .world) (mem start (start .pre .ok .beside)) (start .args .m) (start .pre .ok .beside .fuel)
+    fitting (start .args .sizes) (start .pre .ok .world) (mem start (start .pre .ok .beside)) (start .args .m) (start .pre .ok .beside .fuel)
     (start .pre .ok .rep) (start .pre .ok .sound) (start .args .f) (start .pre .function) (start .args .closure) (start .args .cont) (start .pre .ok .room) (ap
-    (overflowing (start .args .m) (start .args .l)) (sym (at-regs-at .regs-at .ensures)) ∙ sym (at-overflows .overflows .ensures) ∙ at-if1 .if1 .left) .frames
+    (overflowing (start .args .m) (start .args .sizes)) (sym (at-regs-at .regs-at .ensures)) ∙ sym (at-overflows .overflows .ensures) ∙ at-if1 .if1 .left) .frames
 
 grown-requires : tie.Need-grown-requires
 grown-requires c κs =
     let at-if1 = c .before .before .before .before in let at-overflows = at-if1 .before in let at-regs-at = at-overflows .before in
     let start = at-regs-at .before .before .before .before in
-    let h = fitting (start .args .l) (start .pre .ok .world) (mem start (start .pre .ok .beside)) (start .args .m) (start .pre .ok .beside .fuel)
+    let h = fitting (start .args .sizes) (start .pre .ok .world) (mem start (start .pre .ok .beside)) (start .args .m) (start .pre .ok .beside .fuel)
     (start .pre .ok .rep) (start .pre .ok .sound) (start .args .f) (start .pre .function) (start .args .closure) (start .args .cont) (start .pre .ok .room)
-    (ap (overflowing (start .args .m) (start .args .l)) (sym (at-regs-at .regs-at .ensures)) ∙ sym (at-overflows .overflows .ensures) ∙ at-if1 .if1 .left) in
+    (ap (overflowing (start .args .m) (start .args .sizes)) (sym (at-regs-at .regs-at .ensures)) ∙ sym (at-overflows .overflows .ensures) ∙ at-if1 .if1 .left) in
     (subst (λ n. start .args .m .height + n < 2 ^ 64) (sym (at-regs-at .regs-at .ensures)) (h .height), h .depth)
 
 returns-2 : tie.Need-returns-2
@@ -58,10 +58,10 @@ returns-2 c =
     let start = at-regs-at .before .before .before .before in
     λ w b rep snd. let q = start .pre .ok .room .stack in
     let z = start .pre .ok .rep .sizes .stack in
-    subst (λ z. Does (start .args .l) (pushFrame (start .args .f) (start .args .closure) (start .args .cont) w) (onFrames (at-push-frame .push-frame .last .0)
+    subst (λ z. Does (start .args .sizes) (pushFrame (start .args .f) (start .args .closure) (start .args .cont) w) (onFrames (at-push-frame .push-frame .last .0)
     (mem start b)) z (b .fuel) (WordOr.Word (start .args .m .height))) (sym (c .grown .ensures ∙ ap (pushed (start .args .m)) (at-regs-at .regs-at .ensures)))
-    (push-done (start .args .l) w (mem start b) (start .args .m) (b .fuel) rep snd (start .args .f) (start .pre .function) (start .args .closure)
-    (start .args .cont) (omega arith) (ap (overflowing (start .args .m) (start .args .l)) (sym (at-regs-at .regs-at .ensures))
+    (push-done (start .args .sizes) w (mem start b) (start .args .m) (b .fuel) rep snd (start .args .f) (start .pre .function) (start .args .closure)
+    (start .args .cont) (omega arith) (ap (overflowing (start .args .m) (start .args .sizes)) (sym (at-regs-at .regs-at .ensures))
     ∙ sym (at-overflows .overflows .ensures) ∙ at-if1 .if1 .left) _ (at-push-frame .push-frame .ensures))
 
 pub push-frame-spec : {M : Type 1} → statement M

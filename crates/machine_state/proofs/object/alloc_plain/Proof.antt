@@ -11,7 +11,7 @@ use Rattle.machine_state.proofs.object.alloc_plain.Tie as tie
 alloc-requires : tie.Need-alloc-requires
 alloc-requires c κs =
     let start = c .before .before .before in
-    let e : c .heap-of .result .slots ≡ start .args .l .slots = ap (λ x. x .slots) (c .heap-of .ensures) in
+    let e : c .heap-of .result .slots ≡ start .args .sizes .slots = ap (λ x. x .slots) (c .heap-of .ensures) in
     let p₁ = start .pre .words in
     let p₂ = start .pre .slots in
     record { words = omega arith; slots = omega arith }
@@ -22,7 +22,7 @@ returns c =
     let start = numbers .before .before .before in
     let a = start .args in
     λ x e none w b rep.
-    plain-refused (a .l) (table (a .slots .now) plain b) (a .m) (b .fuel) w rep (a .bytes) x none (did .alloc .last .0) (numbers .heap-of .result) (did .alloc .result)
+    plain-refused (a .sizes) (table (a .slots .now) plain b) (a .m) (b .fuel) w rep (a .bytes) x none (did .alloc .last .0) (numbers .heap-of .result) (did .alloc .result)
     (did .alloc .ensures ∙ ap (allocOf (a .slots .now) (numbers .heap-of .result) (a .bytes)) (sym e)) (numbers .heap-of .ensures) (arm .g .given .0 .0) (arm .g .given .1)
 
 returns-2 : tie.Need-returns-2
@@ -31,7 +31,7 @@ returns-2 c =
     let start = numbers .before .before .before in
     let a = start .args in
     λ x e none w b rep.
-    plain-made (a .l) (table (a .slots .now) plain b) (a .m) (b .fuel) w rep (a .bytes) x none (did .alloc .last .0) (numbers .heap-of .result) (did .alloc .result)
+    plain-made (a .sizes) (table (a .slots .now) plain b) (a .m) (b .fuel) w rep (a .bytes) x none (did .alloc .last .0) (numbers .heap-of .result) (did .alloc .result)
     (did .alloc .ensures ∙ ap (allocOf (a .slots .now) (numbers .heap-of .result) (a .bytes)) (sym e)) (numbers .heap-of .ensures) (start .pre .words)
     (arm .v .given .0 .0) (arm .v .given .0 .1 .0)
     (c .allocated .result) (arm .v .given .1) (c .allocated .ensures)

@@ -20,7 +20,7 @@ unwind-requires c κs =
     record { ok = lent-ok ok (ok .rep) (ok .room); narrow = unwind-narrow (s .args .op) _ _ (at-op .op2 .given .1) (s .pre .within) }
 
 spawn-task-requires : tie.Need-spawn-task-requires
-spawn-task-requires c κs = let s = start-of (c .before .before .before .before .before) in let ok = s .pre .ok in record { sizes = s .args .l; ok = lent-ok ok (ok .rep) (ok .room) }
+spawn-task-requires c κs = let s = start-of (c .before .before .before .before .before) in let ok = s .pre .ok in record { sizes = s .args .sizes; ok = lent-ok ok (ok .rep) (ok .room) }
 
 host-call-requires : tie.Need-host-call-requires
 host-call-requires c κs = let s = start-of (c .before .before .before .before .before) in let ok = s .pre .ok in lent-ok ok (ok .rep) (ok .room)
@@ -38,7 +38,7 @@ make-iterator-requires : tie.Need-make-iterator-requires
 make-iterator-requires c κs = let s = start-of (c .before .before .before .before) in let ok = s .pre .ok in lent-ok ok (ok .rep) (ok .room)
 
 hand-over-requires : tie.Need-hand-over-requires
-hand-over-requires c κs = let s = start-of (c .before .before .before .before .before) in let ok = s .pre .ok in record { sizes = s .args .l; ok = lent-ok ok (ok .rep) (ok .room) }
+hand-over-requires c κs = let s = start-of (c .before .before .before .before .before) in let ok = s .pre .ok in record { sizes = s .args .sizes; ok = lent-ok ok (ok .rep) (ok .room) }
 
 stop-run-requires : tie.Need-stop-run-requires
 stop-run-requires c κs = let s = start-of (c .before .before .before .before .before .before .before .before) in let ok = s .pre .ok in lent-ok ok (ok .rep) (ok .room)

@@ -14,7 +14,7 @@ returns c =
     let start = c .before .before .before .before .before .before .before .before in
     let a = start .args in
     λ w b rep snd. as-host w (Op.HostEntry (a .c) (a .v)) _ _ refl
-    (busy (a .l) (six (a .stack .now) (a .frames .now) (a .chain .now) (a .slots .now) (a .saved-stack .now) (a .saved-frames .now) plain b) (a .m) (b .fuel) w _ _ (some-frames (w .frames)
+    (busy (a .sizes) (six (a .stack .now) (a .frames .now) (a .chain .now) (a .slots .now) (a .saved-stack .now) (a .saved-frames .now) plain b) (a .m) (b .fuel) w _ _ (some-frames (w .frames)
     (a .frames .now) (a .m .depth) (rep .frames) (let h = c .if1 .taken in omega arith)) rep)
 
 returns-2 : tie.Need-returns-2
@@ -24,7 +24,7 @@ returns-2 c =
     let start = at-if1 .before .before .before .before .before .before .before .before in
     let a = start .args in
     λ w b rep snd. as-host w (Op.HostEntry (a .c) (a .v)) _ _ refl
-    (host-past (a .l) _ _ (b .fuel) w _ _ _ (no-frames (w .frames) (a .frames .now) (a .m .depth) (rep .frames) (let h = at-if1 .if1 .left in omega arith)) refl
+    (host-past (a .sizes) _ _ (b .fuel) w _ _ _ (no-frames (w .frames) (a .frames .now) (a .m .depth) (rep .frames) (let h = at-if1 .if1 .left in omega arith)) refl
     (at-host-entry .host-entry .ensures w b rep snd))
 
 pub host-entry-spec : {M : Type 1} → statement M

@@ -26,7 +26,7 @@ returns c =
     record {
       met = did;
       sound = sound-again (a .op) within;
-      again = next-ok (a .l) (mem start) (all (at-dispatch .dispatch .last .0) (at-dispatch .dispatch .last .1 .0) (at-dispatch .dispatch .last .1 .1 .0) (at-dispatch .dispatch .last .1 .1
+      again = next-ok (a .sizes) (mem start) (all (at-dispatch .dispatch .last .0) (at-dispatch .dispatch .last .1 .0) (at-dispatch .dispatch .last .1 .1 .0) (at-dispatch .dispatch .last .1 .1
           .1 .0) (at-dispatch .dispatch .last .1 .1 .1 .1 .0) (at-dispatch .dispatch .last .1 .1 .1 .1 .1 .0) (at-dispatch .dispatch .last .1 .1 .1 .1 .1 .1 .0) (at-dispatch .dispatch .last
           .1 .1 .1 .1 .1 .1 .1 .0) (a .setup .now) plain)
           (with (a .m) (a .fuel)) (with (at-dispatch .dispatch .result .machine) (at-dispatch .dispatch .result .fuel)) (a .op) (at-dispatch .dispatch .result .answer) within ok

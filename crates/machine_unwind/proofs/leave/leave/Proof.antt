@@ -30,7 +30,7 @@ start-of c = c .before .before .before .before .before .before .before .before .
 pop-requires : tie.Need-pop-requires
 pop-requires c κs =
     let start = start-of (c .before .before) in let a = start .args in let o = start .pre .ok in
-    pop-fits (a .l) (mem start (o .beside)) (a .m) (a .fuel) (o .world) (o .rep) (o .sound) (start .pre .some)
+    pop-fits (a .sizes) (mem start (o .beside)) (a .m) (a .fuel) (o .world) (o .rep) (o .sound) (start .pre .some)
 
 passed-requires : tie.Need-passed-requires
 passed-requires c κs = sym (c .before .is-coro .ensures) ∙ not-true _ (c .if1 .taken)
@@ -41,9 +41,9 @@ returns c =
     λ w b rep snd.
     let t = some-top (w .frames) (a .frames .now) (a .m .depth) (rep .frames) (start .pre .some) in
     let e = gone .pop .last in
-    left-plain (a .value) (a .func) (a .pc) (a .l) (lent (e .0) (e .1 .0) (a .chain .now) (a .slots .now) (a .saved-stack .now) (a .saved-frames .now) b) (gone .pop .result) (a .fuel)
+    left-plain (a .value) (a .func) (a .pc) (a .sizes) (lent (e .0) (e .1 .0) (a .chain .now) (a .slots .now) (a .saved-stack .now) (a .saved-frames .now) b) (gone .pop .result) (a .fuel)
     w (t .top) (t .rest) (t .are) (read .cont-at .result) (read .cont-at .ensures ∙ its-cont (w .frames) (a .frames .now) (a .m .depth) (rep .frames) t) (c .passed .result)
-    (c .passed .ensures) (gone .pop .ensures (a .l) w (record { words = mem start b; fuel = a .fuel }) rep)
+    (c .passed .ensures) (gone .pop .ensures (a .sizes) w (record { words = mem start b; fuel = a .fuel }) rep)
 
 coro-escaped-requires : tie.Need-coro-escaped-requires
 coro-escaped-requires c κs =
@@ -53,10 +53,10 @@ coro-escaped-requires c κs =
     let is = read .cont-at .ensures ∙ its-cont (w .frames) (a .frames .now) (a .m .depth) (o .rep .frames) t in
     let e = gone .pop .last in
     let M = lent (e .0) (e .1 .0) (a .chain .now) (a .slots .now) (a .saved-stack .now) (a .saved-frames .now) in
-    return-asks w (o .sound) (t .top) (t .rest) (t .are) (ap isCoro (sym is) ∙ sym (asked .is-coro .ensures) ∙ not-false _ (test .if1 .left)) (a .l) M (gone .pop .result)
+    return-asks w (o .sound) (t .top) (t .rest) (t .are) (ap isCoro (sym is) ∙ sym (asked .is-coro .ensures) ∙ not-false _ (test .if1 .left)) (a .sizes) M (gone .pop .result)
     (record { words = o .beside .words; fuel = a .fuel })
-    (subst (λ fs. Rep (a .l) (popOn fs w) (M (o .beside)) (gone .pop .result) (a .fuel)) (t .are)
-    (gone .pop .ensures (a .l) w (record { words = mem start (o .beside); fuel = a .fuel }) (o .rep)))
+    (subst (λ fs. Rep (a .sizes) (popOn fs w) (M (o .beside)) (gone .pop .result) (a .fuel)) (t .are)
+    (gone .pop .ensures (a .sizes) w (record { words = mem start (o .beside); fuel = a .fuel }) (o .rep)))
 
 returns-2 : tie.Need-returns-2
 returns-2 c =
@@ -65,10 +65,10 @@ returns-2 c =
     let start = start-of read in let a = start .args in let r = told .coro-escaped in let e = r .last in
     λ w b rep snd.
     let t = some-top (w .frames) (a .frames .now) (a .m .depth) (rep .frames) (start .pre .some) in
-    left-body (a .value) (a .func) (a .pc) (a .l) (lent (e .0) (e .1 .0) (e .1 .1 .0) (e .1 .1 .1 .0) (e .1 .1 .1 .1 .0) (e .1 .1 .1 .1 .1 .0) b) (r .result .machine) (r .result .fuel)
+    left-body (a .value) (a .func) (a .pc) (a .sizes) (lent (e .0) (e .1 .0) (e .1 .1 .0) (e .1 .1 .1 .0) (e .1 .1 .1 .1 .0) (e .1 .1 .1 .1 .1 .0) b) (r .result .machine) (r .result .fuel)
     w (t .top) (t .rest) (t .are) (read .cont-at .result) (read .cont-at .ensures ∙ its-cont (w .frames) (a .frames .now) (a .m .depth) (rep .frames) t) (r .result .answer) (c .halted .result)
     (sym (asked .is-coro .ensures) ∙ not-false _ (test .if1 .left)) (c .halted .ensures)
-    (r .ensures (popTop w) b (gone .pop .ensures (a .l) w (record { words = mem start b; fuel = a .fuel }) rep) (pop-rowed w (t .top) (t .rest) (t .are) (sound-rowed w snd)))
+    (r .ensures (popTop w) b (gone .pop .ensures (a .sizes) w (record { words = mem start b; fuel = a .fuel }) rep) (pop-rowed w (t .top) (t .rest) (t .are) (sound-rowed w snd)))
 
 pub leave-spec : {M : Type 1} → statement M
 leave-spec =

@@ -57,7 +57,7 @@ same-turn c b =
 loop-holds : tie.Need-loop-holds Inv-loop μ-loop
 loop-holds c =
     let start = c .before .before .before .before .before .before .before in
-    along-start (start .args .l) (start .args .value) (start .args .func) (start .args .pc) (at-start start) (with (start .args .m) (start .args .fuel)) (start .pre .ok)
+    along-start (start .args .sizes) (start .args .value) (start .args .func) (start .args .pc) (at-start start) (with (start .args .m) (start .args .fuel)) (start .pre .ok)
 
 turn-requires : tie.Need-turn-requires Inv-loop μ-loop
 turn-requires c κs =

@@ -20,14 +20,14 @@ abbrev start-of : tie.After-handler-in → tie.Start
 start-of c = c .before .before .before .before .before .before .before .before .before
 
 -- the handler that the words tell is the world's
-read : (c : tie.After-handler-in) (w : World) (b : Beside) → Rep (start-of c .args .l) w (mem (start-of c) b) (start-of c .args .m) (start-of c .args .fuel) → c .handler-in .result ≡ handlerIn w
-read c w b rep = c .handler-in .ensures (start-of c .args .l) w (record { words = mem (start-of c) b; fuel = start-of c .args .fuel }) rep
+read : (c : tie.After-handler-in) (w : World) (b : Beside) → Rep (start-of c .args .sizes) w (mem (start-of c) b) (start-of c .args .m) (start-of c .args .fuel) → c .handler-in .result ≡ handlerIn w
+read c w b rep = c .handler-in .ensures (start-of c .args .sizes) w (record { words = mem (start-of c) b; fuel = start-of c .args .fuel }) rep
 
 handler-in-requires : tie.Need-handler-in-requires
 handler-in-requires c κs =
     let start = c .before .before .before .before .before .before .before .before in let a = start .args in
     let o = start .pre .ok in
-    handler-fits (a .l) (mem start (o .beside)) (a .m) (a .fuel) (o .world) (o .rep) (o .sound) (start .pre .some) (o .room)
+    handler-fits (a .sizes) (mem start (o .beside)) (a .m) (a .fuel) (o .world) (o .rep) (o .sound) (start .pre .some) (o .room)
 
 take-handler-requires : tie.Need-take-handler-requires
 take-handler-requires c κs =
@@ -36,7 +36,7 @@ take-handler-requires c κs =
     let start = start-of asked in
     let a = start .args in
     let o = start .pre .ok in
-    catch-fits (a .l) (mem start (o .beside)) (a .m) (a .fuel) (o .world) (o .rep) (o .sound) (start .pre .some) (arm .h .given .0 .0)
+    catch-fits (a .sizes) (mem start (o .beside)) (a .m) (a .fuel) (o .world) (o .rep) (o .sound) (start .pre .some) (arm .h .given .0 .0)
     (sym (arm .h .given .1) ∙ read asked (o .world) (o .beside) (o .rep))
 
 leave-requires : tie.Need-leave-requires
@@ -52,9 +52,9 @@ returns c =
     let took = c .before .before .before .before in let arm = took .before .before .before .before in let asked = arm .before .before in
     let a = start-of asked .args in let t = took .take-handler in let e = t .last in
     λ w b rep snd.
-    turn-takes (a .l) (sixSetup (e .0) (e .1 .0) (a .chain .now) (a .slots .now) (a .saved-stack .now) (a .saved-frames .now) (a .setup .now) plain b) (t .result .machine) (t .result .fuel) w
+    turn-takes (a .sizes) (sixSetup (e .0) (e .1 .0) (a .chain .now) (a .slots .now) (a .saved-stack .now) (a .saved-frames .now) (a .setup .now) plain b) (t .result .machine) (t .result .fuel) w
     (a .value) (a .func) (a .pc) (t .result .answer) (arm .h .given .0 .0) (sym (arm .h .given .1) ∙ read asked w b rep)
-    (t .ensures (a .l) w (record { words = mem (start-of asked) b; fuel = b .fuel }) rep)
+    (t .ensures (a .sizes) w (record { words = mem (start-of asked) b; fuel = b .fuel }) rep)
 
 returns-2 : tie.Need-returns-2
 returns-2 c =
@@ -62,7 +62,7 @@ returns-2 c =
     let arm = left .before .before .before .before .before .before .before in let asked = arm .before .before in
     let a = start-of asked .args in let t = left .leave in let e = t .last in
     λ w b rep snd.
-    turn-leaves (a .l) (sixSetup (e .0) (e .1 .0) (e .1 .1 .0) (e .1 .1 .1 .0) (e .1 .1 .1 .1 .0) (e .1 .1 .1 .1 .1 .0) (a .setup .now) plain b) (t .result .machine) (t .result .fuel) w
+    turn-leaves (a .sizes) (sixSetup (e .0) (e .1 .0) (e .1 .1 .0) (e .1 .1 .1 .0) (e .1 .1 .1 .1 .0) (e .1 .1 .1 .1 .1 .0) (a .setup .now) plain b) (t .result .machine) (t .result .fuel) w
     (a .value) (a .func) (a .pc) (t .result .answer) (sym (arm .enum-told .given .1) ∙ read asked w b rep)
     (t .ensures w (record { words = onSetup (a .setup .now) (b .words); fuel = b .fuel }) rep snd)
 

@@ -34,7 +34,7 @@ returns c =
     let asked = c .before in
     let start = start-of asked in
     let a = start .args in
-    λ w b rep snd. unwind-refused (a .l) (mem start b) (a .m) (a .fuel) w (a .fault) (a .pc) (sym (asked .is-raisable .ensures) ∙ not-true _ (c .if1 .taken)) rep
+    λ w b rep snd. unwind-refused (a .sizes) (mem start b) (a .m) (a .fuel) w (a .fault) (a .pc) (sym (asked .is-raisable .ensures) ∙ not-true _ (c .if1 .taken)) rep
 
 raise-requires : tie.Need-raise-requires
 raise-requires c κs =
@@ -47,9 +47,9 @@ raise-requires c κs =
     let u = storeSome (a .pc) (o .world) in
     record {
       ok =
-          ok-next (a .l) (mem start) (at-pc stored) n n o u (some-setup (a .pc) (o .world)) (some-sounds (a .pc) (o .world) (start .pre .narrow) (o .sound))
+          ok-next (a .sizes) (mem start) (at-pc stored) n n o u (some-setup (a .pc) (o .world)) (some-sounds (a .pc) (o .world) (start .pre .narrow) (o .sound))
           (record { stack = refl; frames = stored .store-some .kept .0; chain = refl; slots = refl; savedStack = refl; savedFrames = refl; ready = refl; finalize = refl; setup = refl })
-          (stored .store-some .ensures (a .l) (o .world) (record { words = mem start (o .beside); fuel = a .fuel }) (o .rep));
+          (stored .store-some .ensures (a .sizes) (o .world) (record { words = mem start (o .beside); fuel = a .fuel }) (o .rep));
       raises = sym (asked .is-raisable .ensures) ∙ not-false _ (stored .before .before .if1 .left);
     }
 
@@ -83,9 +83,9 @@ returns-2 c =
     let r = raised .raise in
     let e = r .last in
     λ w b rep snd.
-    unwind-raises (a .l) (sixSetup (e .0) (e .1 .0) (e .1 .1 .0) (e .1 .1 .1 .0) (e .1 .1 .1 .1 .0) (e .1 .1 .1 .1 .1 .0) (a .setup .now) plain b)
+    unwind-raises (a .sizes) (sixSetup (e .0) (e .1 .0) (e .1 .1 .0) (e .1 .1 .1 .0) (e .1 .1 .1 .1 .0) (e .1 .1 .1 .1 .1 .0) (a .setup .now) plain b)
     (r .result .machine) (r .result .fuel) w (a .fault) (a .pc) (r .result .answer) (sym (asked .is-raisable .ensures) ∙ not-false _ (stored .before .before .if1 .left))
-    (r .ensures (storeSome (a .pc) w) b (stored .store-some .ensures (a .l) w (record { words = mem start b; fuel = a .fuel }) rep) (some-sounds (a .pc) w (start .pre .narrow) snd))
+    (r .ensures (storeSome (a .pc) w) b (stored .store-some .ensures (a .sizes) w (record { words = mem start b; fuel = a .fuel }) rep) (some-sounds (a .pc) w (start .pre .narrow) snd))
 
 pub unwind-spec : {M : Type 1} → statement M
 unwind-spec =

@@ -21,7 +21,7 @@ abbrev left-by : tie.After-kept → Lent
 left-by c = nine (c .kept .last .0) (c .kept .last .1 .0) (c .kept .last .1 .1 .0) (c .kept .last .1 .1 .1 .0) (c .kept .last .1 .1 .1 .1 .0) (c .kept .last .1 .1 .1 .1 .1 .0) (c .kept .last .1 .1 .1 .1 .1 .1 .0) (c .kept .last .1 .1 .1 .1 .1 .1 .1 .0) (start-of c .args .setup .now) plain
 
 kept-requires : tie.Need-kept-requires
-kept-requires c κs = let start = c .before .before .before .before .before .before .before .before .before .before .before .before .before .before .before .before .before in let a = start .args in may-call (mem start) (a .m) (a .fuel) (a .l) (start .pre)
+kept-requires c κs = let start = c .before .before .before .before .before .before .before .before .before .before .before .before .before .before .before .before .before in let a = start .args in may-call (mem start) (a .m) (a .fuel) (a .sizes) (start .pre)
 
 same-length : tie.Need-same-length
 same-length c = kept-of c .kept .kept .0
@@ -56,7 +56,7 @@ returns c =
     let same = at-kept .kept .kept in
     record {
       is =
-          stepped (mem start) (left-by at-kept) (a .m) (r .machine) (a .fuel) (r .fuel) (a .l) (a .op) (r .answer) (start .pre)
+          stepped (mem start) (left-by at-kept) (a .m) (r .machine) (a .fuel) (r .fuel) (a .sizes) (a .op) (r .answer) (start .pre)
           (record {
             stack = same .0;
             frames = same .1 .0;
@@ -69,7 +69,7 @@ returns c =
             setup = refl;
           })
           (at-kept .kept .ensures .met);
-      again = sound-again (left-by at-kept) (r .machine) (r .fuel) (a .l) (at-kept .kept .ensures .again);
+      again = sound-again (left-by at-kept) (r .machine) (r .fuel) (a .sizes) (at-kept .kept .ensures .again);
     }
 
 pub sound-call-spec : {M : Type 1} → statement M
