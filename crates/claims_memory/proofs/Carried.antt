@@ -118,7 +118,7 @@ module _ (e d : Engine) (f : Follows e d) where
             (p .throws-created c (f .to s) (f .by s k) pc dst r src (f .op s k ∙ o) (ap (λ v. registerWord v r) (f .view s) ∙ i) (ap (λ v. stateIs v seenCreated c) (f .view s) ∙ n) (up (λ v. whom (v .before) (v .op) ≡ none) s k u));
         integer = λ c s k kind x h o i.
             down (λ v. v .after .integer (recorded (v .after .coro c)) ≡ Opt.Some x) s k (p .integer c (f .to s) (f .by s k) kind x (up-returns e d f s k c h) (f .op s k ∙ o) i);
-        registerWord = λ c s k kind x h o i.
+        word = λ c s k kind x h o i.
             down (λ v. recorded (v .after .coro c) ≡ resultOf kind x 0) s k (p .word c (f .to s) (f .by s k) kind x (up-returns e d f s k c h) (f .op s k ∙ o) i);
         closed = λ c s k g pc h o. down (λ v. recorded (v .after .coro c) ≡ 0) s k (p .closed c (f .to s) (f .by s k) g pc (up-returns e d f s k c h) (f .op s k ∙ o));
         yielded = λ c s k h.
