@@ -1,18 +1,21 @@
-//! Finds the proved library, `libhumdelzi.a`, and takes it only if its sum is
-//! the one that was recorded when it was made.
+//! Finds the proved library, `libhumdelzi.a`, and takes it only if it is what was
+//! recorded when it was made.
 //!
 //! `HUMDELZI_LIB` names its folder. Without it: `../lib`, in a release, or
-//! `../target/staticlib`, in the repository, where an archive that is older than
-//! a source is refused. Nothing is proved or built here, and nothing is written.
+//! `../target/staticlib`, in the repository. In a release the archive's sum is
+//! that of `PROVENANCE`, beside the folder. In the repository the sources are
+//! those that the archive was made of, by their sum (`tests/sum`). Nothing is
+//! proved or built here, and nothing is written.
 
 #[path = "build/sha256.rs"]
 mod sha256;
 
 use std::path::{self, Path, PathBuf};
-use std::time::SystemTime;
 use std::{env, fs, process};
 
 const ARCHIVE: &str = "libhumdelzi.a";
+/// What the library is made of, in the repository.
+const SOURCES: [&str; 3] = ["crates", "crates.txt", "toolchain"];
 
 fn main() {
     println!("cargo::rerun-if-changed=build.rs");
@@ -22,23 +25,22 @@ fn main() {
     let root = here.parent().unwrap_or(&here).to_path_buf();
     let lib = folder(&root);
     let archive = lib.join(ARCHIVE);
-    let record = lib.join(format!("{ARCHIVE}.sha256"));
-    for file in [&archive, &record] {
-        println!("cargo::rerun-if-changed={}", file.display());
-    }
+    println!("cargo::rerun-if-changed={}", archive.display());
     let Ok(bytes) = fs::read(&archive) else {
         fail(&root, &format!("{} is not there", archive.display()));
     };
-    let recorded = fs::read_to_string(&record).unwrap_or_default();
-    let recorded = recorded.split_whitespace().next().unwrap_or("none");
     let sum = sha256::sha256(&bytes);
-    if sum != recorded {
+    let beside = told(&lib.join(format!("{ARCHIVE}.sha256")));
+    let beside = beside.split_whitespace().next().unwrap_or("none");
+    if sum != beside {
         let archive = archive.display();
-        fail(&root, &format!("the sum of {archive} is {sum}, and the recorded one is {recorded}"));
+        fail(&root, &format!("the sum of {archive} is {sum}, and the recorded one is {beside}"));
     }
     let own = fs::canonicalize(root.join("target/staticlib"));
     if own.is_ok_and(|own| fs::canonicalize(&lib).is_ok_and(|lib| lib == own)) {
-        fresh(&root, &archive);
+        of_these_sources(&root, &lib, &sum);
+    } else {
+        of_its_provenance(&root, &lib, &sum);
     }
     println!("cargo::rustc-link-search=native={}", lib.display());
     println!("cargo::rustc-link-lib=static=humdelzi");
@@ -60,29 +62,38 @@ fn folder(root: &Path) -> PathBuf {
     }
 }
 
-/// The repository's own archive: no source is newer, by the rule of
-/// `tests/archives`.
-fn fresh(root: &Path, archive: &Path) {
-    let made = changed(archive);
-    for name in ["crates", "crates.txt"] {
+/// A file that decides: its text, or none.
+fn told(file: &Path) -> String {
+    println!("cargo::rerun-if-changed={}", file.display());
+    fs::read_to_string(file).unwrap_or_default()
+}
+
+/// A release: `PROVENANCE` has the sum.
+fn of_its_provenance(root: &Path, lib: &Path, sum: &str) {
+    let file = lib.parent().unwrap_or(lib).join("PROVENANCE");
+    let text = told(&file);
+    let said = text.lines().find_map(|l| l.strip_prefix("archive "));
+    let said = said.and_then(|l| l.split_whitespace().next()).unwrap_or("none");
+    if sum != said {
+        let (archive, file) = (lib.join(ARCHIVE).display().to_string(), file.display());
+        fail(root, &format!("the sum of {archive} is {sum}, and that in {file} is {said}"));
+    }
+}
+
+/// The repository's own archive: `tests/archives` has recorded of which sources
+/// it is. Cargo comes here again when the time of a source has changed.
+fn of_these_sources(root: &Path, lib: &Path, sum: &str) {
+    for name in SOURCES {
         println!("cargo::rerun-if-changed={}", root.join(name).display());
-        if let Some(file) = newer(&root.join(name), made) {
-            fail(root, &format!("{} is newer than {}", file.display(), archive.display()));
-        }
     }
-}
-
-fn changed(file: &Path) -> SystemTime {
-    file.metadata().and_then(|m| m.modified()).unwrap_or(SystemTime::UNIX_EPOCH)
-}
-
-/// A file that changed after `made`.
-fn newer(path: &Path, made: SystemTime) -> Option<PathBuf> {
-    if path.is_dir() {
-        let entries = fs::read_dir(path).ok()?;
-        return entries.flatten().find_map(|e| newer(&e.path(), made));
+    let now = process::Command::new(root.join("tests/sum")).args(SOURCES).output();
+    let Some(now) = now.ok().filter(|o| o.status.success()) else {
+        fail(root, &format!("{} fails", root.join("tests/sum").display()));
+    };
+    let now = String::from_utf8_lossy(&now.stdout).into_owned();
+    if told(&lib.join("humdelzi.sources")).trim() != format!("{} {sum}", now.trim()) {
+        fail(root, &format!("{} was made of other sources", lib.join(ARCHIVE).display()));
     }
-    (changed(path) > made).then(|| path.to_path_buf())
 }
 
 fn fail(root: &Path, why: &str) -> ! {

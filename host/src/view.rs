@@ -1,6 +1,6 @@
 //! What a machine holds, to be read: counts, stack, frames, chain, queues. Nothing
 //! here changes a word; the layout is that of docs/ABI.md and
-//! docs/DECISIONS.md, 35 to 38.
+//! docs/DECISIONS.md, 35, 36 and 38.
 
 use crate::ffi::typed;
 use crate::{Cont, FunctionId, Machine, Outcome, Pc, Reg, Setup, Word};

@@ -20,7 +20,8 @@ pub record Suspends (e : Engine) (c : ℕ) (s : e .State) (k : e .Call) : Type 0
   pub before : stateIs (e .view s) seenRunning c ≡ true
   pub after : stateIs (e .view (e .next s k)) seenSuspended c ≡ true
 
--- it yields, awaits or returns. 01: "a return if `finish` or `unwind` makes it Returned"
+-- it yields, awaits or returns. 01: "a return if `finish` or `unwind` makes it Returned".
+-- Such an `unwind` stops there, and after 2, 6 and 17 the unwinding is a later call: no call both returns and unwinds further.
 pub record Stops (e : Engine) (c : ℕ) (s : e .State) (k : e .Call) : Type 0 where
   pub before : stateIs (e .view s) seenRunning c ≡ true
   pub after : stateIs (e .view (e .next s k)) (λ x. seenSuspended x || seenReturned x) c ≡ true

@@ -159,7 +159,8 @@ moves w x = not (eqb (length (x .frames)) (length (w .frames)) && eqb (length (x
 abbrev pub faultFor : ℕ → ℕ → Fault
 faultFor n v = pick (eqb n 17) (Fault.Throw v) (fault n)
 
--- Next and Fault go on in the frame that stood on top; Frame and Unwind in another
+-- Next and Fault go on in the frame that stood on top; Frame and Unwind in another. Told by what the call leaves: by call and
+-- number it would be the table a second time.
 abbrev pub stepFor : ℕ → ℕ → Bool → Step
 stepFor n v moved = pick (eqb n 0) (pick moved Step.Frame Step.Next) (pick moved (Step.Unwind (faultFor n v)) (Step.Fault (faultFor n v)))
 

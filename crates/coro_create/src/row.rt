@@ -1,4 +1,4 @@
-// The lowest free row, by one pass over the slots.
+// The lowest free row, by one pass over the slots into 64 flags: a set-up has at most 64 rows.
 ghost use mathlib.Core.Path.{_≡_};
 ghost use mathlib.Core.Bool.{Bool, false};
 ghost use Prim.Native.Nat.{_*_, _≤_};

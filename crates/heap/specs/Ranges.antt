@@ -30,6 +30,7 @@ flags = range 0 1
 abbrev pub states : Range
 states = range 0 5
 
+-- the faults that an unwinding turns into an object
 abbrev pub errors : Range
 errors = range 1 8
 

@@ -29,6 +29,7 @@ intWord z = 0xFFFE * 2 ^ 48 + bitsOf 47 z
 abbrev pub topOf : ℕ → ℕ
 topOf w = w / 2 ^ 48
 
+-- 01 names nil, references and integers; every other word is opaque and never followed. A handle is the word itself, as in value.rs.
 abbrev pub classOf : ℕ → Class
 classOf w =
     pick (eqb w nil) C.Nil

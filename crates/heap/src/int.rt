@@ -30,7 +30,7 @@ pub fn larger(a: u64, b: u64) -> u64
     if a <= b { b } else { a }
 }
 
-// int.rs: value. The value of register bits read at a type, as an i64.
+// int.rs: value. The value of register bits read at a type, as an i64. The Rust gives an i128, and uses only whether the value fits.
 pub fn value(ty: IntTy, bits: u64) -> Exact
     ensures { λ r. ⌜ r ≡ exactly (valueOf ty bits) ⌝ }
 {

@@ -1,4 +1,5 @@
-// Whether the words of a slot are within the ranges of their places.
+// Whether the words of a slot are within the ranges of their places. The table `kinds` decides; straight tests for each kind save time
+// (docs/BENCHMARK.md).
 ghost use mathlib.Core.Path.{_≡_};
 ghost use mathlib.Core.List.{[]};
 ghost use lib.ListN.{length, getD};

@@ -233,7 +233,7 @@ enum Way {
     General,
 }
 
-// A pc of 32 bits, and 0 after the operands.
+// A pc of 32 bits, and 0 after the operands: what a switch does not test. A register outside the top frame goes the general way.
 fn way_of(n: u64, a: u64, d: u64, e: u64) -> Way
     ensures { λ r. ⌜ Goes n a d e r ⌝ }
 {

@@ -53,7 +53,8 @@ pub(crate) fn turn(
     }
 }
 
-// A word, raised at pc of function func, goes from frame to frame until one takes it.
+// A word, raised at pc of function func, goes from frame to frame until one takes it. The invariant: what is left of the search, done to
+// the present world, is the whole search done to the first.
 pub(crate) fn search(
     stack: &mut [u64],
     frames: &mut [u64],

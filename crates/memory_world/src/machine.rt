@@ -2,6 +2,7 @@
 use model::program::Costs;
 
 // An outcome in words: 0 for none, else the number of what the coroutine did; the word handed on; of a failure, function and pc.
+// Not the model's enum: most functions only pass it on, and the compiler copies an enum case by case. An outcome has one such form.
 pub struct Told(pub u64, pub u64, pub u64, pub u64);
 
 // Words on the stack, frames, running coroutines, slots taken, words in the two queues; whether a cleanup runs, the outcome, the

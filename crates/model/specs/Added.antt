@@ -40,6 +40,7 @@ pushedOr w u (WordOr.Word base) = accepted u
 pushedOr w u (WordOr.Refused f) = refused w f
 
 -- "Host call: an Entry frame."; "Frames made by a host call or function call have a nil closure."
+-- It takes no arguments, since put word fills registers. Neither host call nor host entry resets anything.
 unfoldable pub hostCall : ℕ → World → After Answer
 hostCall f w = andThen (pushFrame f nil Cont.Entry w) (pushedOr w)
 

@@ -36,6 +36,7 @@ stepWord Step.Frame = 0
 stepWord (Step.Fault f) = Faults.wordOf f
 stepWord (Step.Unwind f) = Faults.wordOf f
 
+-- take outcome's word: that of the stop, and 0 where there is none
 abbrev pub stopWord : Stop → ℕ
 stopWord (Stop.Yielded v) = v
 stopWord (Stop.Awaiting v) = v

@@ -18,7 +18,8 @@ pub record Func : Type 0 where
   pub params : ℕ
   pub handlers : List Handler
 
--- program.rs: FuncInfo, in its form by value
+-- program.rs: FuncInfo, in its form by value, with eight handlers and a count. So their number is a test of the set-up, and handlers after
+-- the count are padding.
 abbrev pub funcOf : Function → Func
 funcOf f = record { regs = f .regs; params = f .params; handlers = take (f .count) (f .handlers) }
 

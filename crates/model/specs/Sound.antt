@@ -138,6 +138,8 @@ runsAmong vs i (x ∷ xs) = (not (runs (asCoro (x .object))) || among (reference
 unfoldable pub runningOk : World → Bool
 runningOk w = each (λ a. runs (coro w (a .coro))) (w .chain) && distinct (coros (w .chain)) && runsAmong (coros (w .chain)) 0 (w .slots)
 
+-- No rule is about a coroutine's signal, result, closing mark, payload or keys: in any state they are what the Rust leaves there.
+
 -- ---- what is saved
 
 -- "the first Coro .., the rest neither Coro nor Entry", and at least one

@@ -52,7 +52,7 @@ pub fn allowed(
     NUMBERS_WIDTH + n * FUNCTION_WIDTH <= setup
 }
 
-// A fresh machine. Zeros may follow the set-up's words.
+// A fresh machine. Zeros may follow the set-up's words; its slice gets these words and zeros to its end, so the same come back either way.
 fn begin(
     stack: &mut [u64],
     frames: &mut [u64],

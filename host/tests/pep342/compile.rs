@@ -40,6 +40,10 @@ pub enum Inst {
     Return(R),
     Iterator(R, R),
     HandOver(R),
+    /// A hand over when no fuel is left; the first register is written.
+    HandOverSpent(R, R),
+    /// A hand over, then a charge on a stack as deep as it can be.
+    HandOverDeep(R),
     // the machine's instructions
     New(R, u32, u8),
     Resume(R, R, R),
@@ -436,6 +440,16 @@ fn action_code(m: &mut Maker, action: Action, [a, b, c]: [R; 3]) {
         m.push(Inst::Status(b, r));
         m.push(Inst::LogResult(a, b));
     };
+    let if_asleep = |m: &mut Maker, r: usize, insts: &[Inst]| {
+        let (asleep, end) = (m.label(), m.label());
+        m.push(Inst::Status(a, r as R));
+        m.push(Inst::JumpIs(a, Word(2), asleep as u32));
+        m.push(Inst::JumpIs(a, Word(3), asleep as u32));
+        m.jump(end);
+        m.place(asleep);
+        insts.iter().for_each(|i| m.push(*i));
+        m.place(end);
+    };
     let make = |m: &mut Maker, r: usize, f: usize| {
         m.push(Inst::Const(b, Word::NIL));
         m.push(Inst::New(a, 1 + f as u32, 1));
@@ -484,25 +498,25 @@ fn action_code(m: &mut Maker, action: Action, [a, b, c]: [R; 3]) {
             m.push(Inst::Log(Tag::Status, a));
         }
         Action::Drop(r, f) => {
-            let (asleep, end) = (m.label(), m.label());
-            m.push(Inst::Status(a, r as R));
-            m.push(Inst::JumpIs(a, Word(2), asleep as u32));
-            m.push(Inst::JumpIs(a, Word(3), asleep as u32));
-            m.jump(end);
-            m.place(asleep);
-            m.push(Inst::HandOver(r as R));
             // the cleanup starts at this instruction's charge
-            m.push(Inst::Current(a));
-            m.place(end);
+            if_asleep(m, r, &[Inst::HandOver(r as R), Inst::Current(a)]);
             make(m, r, f);
         }
+        Action::DropSpent(r, f) => {
+            // no cleanup starts at this instruction's charge
+            if_asleep(m, r, &[Inst::HandOverSpent(a, r as R), Inst::Current(a)]);
+            make(m, r, f);
+        }
+        Action::DropDeep(r) => if_asleep(m, r, &[Inst::HandOverDeep(r as R)]),
     }
 }
 
-/// The codes of all functions, the main program's first.
+/// The codes of all functions, the main program's first. The last one has no
+/// code: its frames fill the stack.
 pub fn compile(p: &Program) -> Vec<Code> {
     let mut all = vec![main_code(p)];
     all.extend((0..p.functions.len()).map(|f| generator(p, f)));
+    all.push(Code { registers: 1, ..Code::default() });
     all
 }
 

@@ -38,6 +38,7 @@ class Handle:
         self.over = None      # Returned or Failed
         self.awaits = False   # suspended by an await
         self.closing = OPEN   # the signal, while it is closed
+        self.handed = False   # handed over, and not closed
 
 
 class World:
@@ -51,6 +52,7 @@ def begin():
     w.events, w.departures, w.handles, w.running = [], set(), [], []
     w.await_now = False
     w.operations = {}
+    w.waiting = []  # handed over, for a cleanup that waits
 
 
 def limits(depth, stack, registers, real_close):
@@ -192,11 +194,13 @@ def enter(h, f, *args):
 def told(h, what, value):
     """A suspension or an end that a send or a throw leads to."""
     if what == YIELDED and h.closing is not OPEN:
-        seen(9)
+        # it awaited inside a close; CPython's send returns the value
+        seen(15)
         h.closing = OPEN
         raise RuntimeError("yield while closing")
     if what == "closed":
-        seen(9)
+        # CPython's send raised the signal
+        seen(15)
     if what == RETURNED:
         seen(4)
     return value
@@ -334,8 +338,17 @@ def each(h):
 
 
 def drop(h):
-    """The last reference goes: CPython closes it now, and prints what escapes."""
+    """The last reference goes. Those that waited for a cleanup are closed before it."""
     tried("drop", status(h))
+    if h.handed:
+        raise ValueError
+    waiting, w.waiting = w.waiting, []
+    for one in waiting + [h]:
+        delete(one)
+
+
+def delete(h):
+    """CPython closes it now, and prints what escapes."""
     lost = []
     sys.unraisablehook = lambda u: lost.append(u.exc_value)
     h.closing = "exit"
@@ -351,6 +364,45 @@ def drop(h):
             raise e
         seen(8 if isinstance(e, RuntimeError) else 7)
     h.over = RETURNED
+
+
+def closes_at_once():
+    """CPython closes a generator when its last reference goes, whatever is left of fuel and stack."""
+    ran = []
+
+    def sleeper():
+        try:
+            yield
+        finally:
+            ran.append(True)
+
+    g = sleeper()
+    next(g)
+    del g
+    if not ran:
+        raise Wrong("not closed at once")
+
+
+def drop_spent(h):
+    """No fuel is left: here it waits until a later drop."""
+    tried("drop", status(h))
+    if h.handed:
+        raise ValueError
+    closes_at_once()
+    seen(16)
+    w.waiting.append(h)
+
+
+def drop_deep(h):
+    """It does not fit: here it stays as it was, and cannot be handed over again. Those that waited are lost too."""
+    tried("drop", status(h))
+    if h.handed:
+        raise ValueError
+    closes_at_once()
+    seen(14)
+    h.handed = True
+    w.waiting = []
+    raise ValueError
 
 
 def run(text):

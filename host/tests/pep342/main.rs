@@ -7,7 +7,7 @@
 //! observes what CPython does, counts the departure and goes on as the machine
 //! does; so every difference is a listed one.
 //!
-//! `PROGRAMS` sets how many programs are run (500), `SEED` the first seed (1).
+//! `PROGRAMS` sets how many programs are run (1000), `SEED` the first seed (1).
 
 mod compile;
 mod program;
@@ -124,7 +124,7 @@ fn generators_in_cpython_and_here() {
         println!("pep342: skipped: python3 is not here, so no program was compared");
         return;
     };
-    let (programs, seed, start) = (number("PROGRAMS", 500), number("SEED", 1), Instant::now());
+    let (programs, seed, start) = (number("PROGRAMS", 1000), number("SEED", 1), Instant::now());
     let mut seen: BTreeMap<u32, u64> = BTreeMap::new();
     let mut kinds: BTreeMap<String, u64> = BTreeMap::new();
     let mut tried: BTreeMap<String, u64> = BTreeMap::new();
@@ -202,6 +202,6 @@ fn generators_in_cpython_and_here() {
             );
         }
     }
-    let missing: Vec<u32> = (1..=13).filter(|d| !seen.contains_key(d)).collect();
+    let missing: Vec<u32> = (1..=16).filter(|d| !seen.contains_key(d)).collect();
     assert!(missing.is_empty(), "departures not seen: {missing:?}");
 }

@@ -116,6 +116,10 @@ pub enum Action {
     Status(usize),
     /// The last reference goes, if it is suspended; it is made again after.
     Drop(usize, usize),
+    /// The same while no fuel is left: the cleanup waits for a later drop.
+    DropSpent(usize, usize),
+    /// The same while it does not fit: no cleanup comes, and it goes on.
+    DropDeep(usize),
 }
 
 #[derive(Clone, Debug)]
@@ -250,6 +254,9 @@ impl Maker<'_> {
     }
 
     fn trying(&mut self, p: Place) -> Stmt {
+        if self.rng.chance(if p.awaits { 40 } else { 10 }) {
+            return self.closed(p);
+        }
         let shape = self.rng.below(3);
         let (excepts, finally) = (shape != 1, shape != 0);
         self.handlers -= usize::from(excepts) + usize::from(finally);
@@ -266,6 +273,24 @@ impl Maker<'_> {
         }
         let finally = finally.then(|| self.block(Place { in_except: false, ..p }, 2));
         Stmt::Try { body, clauses, finally }
+    }
+
+    /// A yield, and what its close does: it may await; then the signal goes on,
+    /// or a value is yielded or returned.
+    fn closed(&mut self, p: Place) -> Stmt {
+        self.handlers -= 1;
+        let v = self.rng.below(VARIABLES);
+        let body = vec![Stmt::Yield(v, self.expr())];
+        let mut clause = Vec::new();
+        if p.awaits {
+            clause.push(Stmt::Await(v, self.expr()));
+        }
+        clause.push(match self.rng.below(3) {
+            0 => Stmt::Again,
+            1 => Stmt::Yield(v, self.expr()),
+            _ => Stmt::Return(self.expr()),
+        });
+        Stmt::Try { body, clauses: vec![(Pattern::Exit, clause)], finally: None }
     }
 }
 
@@ -302,19 +327,28 @@ impl Program {
         for _ in 0..4 + rng.below(10) {
             let r = rng.below(ROOTS);
             let exc = Maker { rng: &mut rng, handlers: 0, size: 0 }.exc();
-            let action = match rng.below(20) {
+            let action = match rng.below(21) {
                 0..=9 => Action::Send(r, if rng.chance(70) { Expr::None } else { Expr::Int(7) }),
                 10..=12 => Action::Throw(r, exc),
                 13 => Action::ThrowNone(r),
                 14..=15 => Action::Close(r, if rng.chance(70) { Exc::Exit } else { exc }),
                 16..=17 if !awaits => Action::For(r, 1 + rng.below(4)),
-                18 => Action::Drop(r, rng.below(n)),
+                18..=19 => match rng.below(6) {
+                    0 => Action::DropSpent(r, rng.below(n)),
+                    1 => Action::DropDeep(r),
+                    _ => Action::Drop(r, rng.below(n)),
+                },
                 _ => Action::Status(r),
             };
             // most are started before they are thrown into, and made anew after
             let ends = matches!(
                 action,
-                Action::Throw(..) | Action::ThrowNone(_) | Action::Close(..) | Action::Drop(..)
+                Action::Throw(..)
+                    | Action::ThrowNone(_)
+                    | Action::Close(..)
+                    | Action::Drop(..)
+                    | Action::DropSpent(..)
+                    | Action::DropDeep(_)
             );
             if ends && rng.chance(70) {
                 actions.push(Action::Send(r, Expr::None));

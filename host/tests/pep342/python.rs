@@ -41,6 +41,11 @@ fn whom(w: Whom) -> String {
     }
 }
 
+/// A suspended one is dropped; then it is made again.
+fn dropped(r: usize, how: &str, f: usize) -> String {
+    format!("if status(r{r}) in (2, 3):\n  {how}(r{r})\n r{r} = make({f})")
+}
+
 struct Text(String);
 
 impl Text {
@@ -129,10 +134,9 @@ impl Text {
                 1,
             ),
             Action::Status(r) => (format!("log('status', status(r{r}))"), 1),
-            Action::Drop(r, f) => (
-                format!("if status(r{r}) in (2, 3):\n  drop(r{r})\n r{r} = make({f})"),
-                1,
-            ),
+            Action::Drop(r, f) => (dropped(r, "drop", f), 1),
+            Action::DropSpent(r, f) => (dropped(r, "drop_spent", f), 1),
+            Action::DropDeep(r) => (format!("if status(r{r}) in (2, 3):\n  drop_deep(r{r})"), 1),
         };
         self.line(0, "try:");
         self.line(d, &text);

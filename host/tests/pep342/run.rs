@@ -1,6 +1,8 @@
 //! A compiled program on the library.
 
-use humdelzi::{Fault, Finished, Fuel, Machine, Object, Pc, Reg, Step, Value, Word};
+use humdelzi::{
+    Cont, Fault, Finished, Fuel, FunctionId, Machine, Object, Pc, Reg, Step, StepError, Value, Word,
+};
 
 use crate::compile::{int, Code, Inst, Tag, R};
 use crate::program::Pattern;
@@ -143,11 +145,7 @@ impl<'a> Run<'a> {
                 let text = format!("{kind} {}", self.value(self.get(r)));
                 self.events.push(text);
             }
-            Inst::Raise(r) => {
-                let word = self.get(r);
-                let raised = self.machine.unwind(&mut self.fuel, Fault::Throw(word), Some(Pc(pc)));
-                return raised.map(|_| None).map_err(ended);
-            }
+            Inst::Raise(r) => return self.raise(pc, Fault::Throw(self.get(r))),
             Inst::Return(r) => {
                 let word = self.get(r);
                 return match self.machine.finish(&mut self.fuel, Value::Word(word)) {
@@ -163,12 +161,85 @@ impl<'a> Run<'a> {
             }
             Inst::HandOver(r) => {
                 let coro = self.get(r);
-                self.machine.hand_over(&mut self.fuel, coro).map_err(ended)?;
+                if let Err(fault) = self.machine.hand_over(&mut self.fuel, coro) {
+                    return self.raise(pc, fault);
+                }
+            }
+            Inst::HandOverSpent(to, r) => {
+                if let Err(fault) = self.hand_over_spent(pc, to, self.get(r))? {
+                    return self.raise(pc, fault);
+                }
+            }
+            Inst::HandOverDeep(r) => {
+                let fault = self.hand_over_deep(pc, self.get(r))?;
+                return self.raise(pc, fault);
             }
             Inst::Stop => return Err(End::Done),
             _ => unreachable!("the machine's"),
         }
         next
+    }
+
+    fn raise(&mut self, pc: u32, fault: Fault) -> Result<Option<u32>, End> {
+        let raised = self.machine.unwind(&mut self.fuel, fault, Some(Pc(pc)));
+        raised.map(|_| None).map_err(ended)
+    }
+
+    /// Departure 16: no unit is left at the hand over. The next charge answers
+    /// 10 and takes the bank back; units granted after it start no cleanup.
+    fn hand_over_spent(&mut self, pc: u32, to: R, coro: Word) -> Result<Result<(), Fault>, End> {
+        let (m, left) = (&mut self.machine, self.fuel.left() + self.fuel.banked().unwrap_or(0));
+        if let Err(fault) = m.hand_over(&mut self.fuel, coro) {
+            return Ok(Err(fault));
+        }
+        self.fuel = m.fuel(0);
+        let queue = m.cleanup_queue().to_vec();
+        let spent = m.coro_current(&mut self.fuel, Pc(pc), Reg(to));
+        if spent != Err(StepError::Fault(Fault::OutOfFuel)) {
+            return Err(End::Wrong(format!("no unit is left, and it answers {spent:?}")));
+        }
+        m.grant(&mut self.fuel, left).map_err(ended)?;
+        if self.fuel.banked().is_some() || m.cleanup_queue() != queue || queue.last() != Some(&coro)
+        {
+            return Err(End::Wrong(format!("after 10: {:?}", self.fuel)));
+        }
+        Ok(Ok(()))
+    }
+
+    /// Departure 14: frames fill the stack when a charge searches the queue. The
+    /// coroutine is off it and as it was. To hand it over again is the fault.
+    fn hand_over_deep(&mut self, pc: u32, coro: Word) -> Result<Fault, End> {
+        let (m, fuel) = (&mut self.machine, &mut self.fuel);
+        if let Err(fault) = m.hand_over(fuel, coro) {
+            return Ok(fault);
+        }
+        let (handed, depth) = (m.coroutine(coro), m.depth());
+        let filler = FunctionId(self.codes.len() as u32 - 1);
+        let full = loop {
+            if let Err(fault) = m.function_call(fuel, Pc(pc), filler, Cont::Discard) {
+                break fault;
+            }
+        };
+        let charged = m.coro_current(fuel, Pc(pc), Reg(0));
+        if charged == Err(StepError::Fault(Fault::OutOfFuel)) {
+            return Err(End::Fuel);
+        }
+        if full != Fault::StackOverflow || charged != Ok(Step::Next) {
+            return Err(End::Wrong(format!("{full}; at the full stack {charged:?}")));
+        }
+        while m.depth() > depth {
+            let finished = m.finish(fuel, Value::Word(Word::NIL)).map_err(ended)?;
+            if finished != Finished::Resume {
+                return Err(End::Wrong(format!("{finished:?}")));
+            }
+        }
+        if !m.cleanup_queue().is_empty() || m.coroutine(coro) != handed {
+            return Err(End::Wrong(format!("after the search: {:?}", m.coroutine(coro))));
+        }
+        match m.hand_over(fuel, coro) {
+            Err(fault) => Ok(fault),
+            Ok(()) => Err(End::Wrong("handed over twice".into())),
+        }
     }
 
     /// How many instructions were run.
