@@ -112,3 +112,25 @@ asEntered c =
       result = c .result;
       signal = c .signal;
     }
+
+-- coro.rs: coro_suspend of a Yield, where it saves no more than before and closes nothing
+abbrev pub asYielded : ℕ → ℕ → ℕ → ℕ → ℕ → ℕ → CoroObj → CoroObj
+asYielded regs frames waiting payload key largest c =
+    record {
+      state = CoroState.Yielded;
+      closing = c .closing;
+      finalized = c .finalized;
+      task = c .task;
+      seq = c .seq;
+      row = c .row;
+      regs = regs;
+      frames = frames;
+      maxregs = c .maxregs;
+      maxframes = c .maxframes;
+      waiting = waiting;
+      payload = payload;
+      key = key;
+      largest = largest;
+      result = c .result;
+      signal = c .signal;
+    }

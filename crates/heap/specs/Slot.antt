@@ -64,6 +64,12 @@ enteredWords ws =
     let a = set (set (set ws 2 (codeOf CoroState.Running)) 8 0) 9 0 in
     set (set a 10 (max (getD ws 10 0) (getD ws 8 0))) 11 (max (getD ws 11 0) (getD ws 9 0))
 
+-- what a yield changes where it saves no more than before and closes nothing
+abbrev pub yieldedWords : ℕ → ℕ → ℕ → ℕ → ℕ → ℕ → List ℕ → List ℕ
+yieldedWords regs frames waiting payload key largest ws =
+    let a = set (set (set ws 2 (codeOf CoroState.Yielded)) 8 regs) 9 frames in
+    set (set (set (set a 12 waiting) 13 payload) 14 key) 15 largest
+
 -- what a suspension changes: neither finalized, task, seq and row nor the result
 abbrev pub sleepWords : CoroObj → List ℕ → List ℕ
 sleepWords c ws =

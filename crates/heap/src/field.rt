@@ -42,6 +42,14 @@ pub fn state_at(slots: &[u64], i: usize) -> CoroState
     CoroState::of_code(word_at(slots, i, 2))
 }
 
+// Whether it closes.
+pub fn closing_at(slots: &[u64], i: usize) -> bool
+    requires { ⌜ SlotFits (now slots) i ⌝ }
+    ensures { λ r. ⌜ r ≡ coroIn (now (slots .entry)) i .closing ⌝ }
+{
+    flag_at(slots, i, 3)
+}
+
 // Whether it was handed over for a cleanup.
 pub fn finalized_at(slots: &[u64], i: usize) -> bool
     requires { ⌜ SlotFits (now slots) i ⌝ }
@@ -58,12 +66,68 @@ pub fn task_at(slots: &[u64], i: usize) -> bool
     flag_at(slots, i, 5)
 }
 
+// The row of its saved registers and frames.
+pub fn row_at(slots: &[u64], i: usize) -> u64
+    requires { ⌜ SlotFits (now slots) i ⌝ }
+    ensures { λ r. ⌜ r ≡ coroIn (now (slots .entry)) i .row ⌝ }
+{
+    word_at(slots, i, 7)
+}
+
+// How many registers are saved there.
+pub fn regs_at(slots: &[u64], i: usize) -> u64
+    requires { ⌜ SlotFits (now slots) i ⌝ }
+    ensures { λ r. ⌜ r ≡ coroIn (now (slots .entry)) i .regs ⌝ }
+{
+    word_at(slots, i, 8)
+}
+
+// How many frames.
+pub fn frames_at(slots: &[u64], i: usize) -> u64
+    requires { ⌜ SlotFits (now slots) i ⌝ }
+    ensures { λ r. ⌜ r ≡ coroIn (now (slots .entry)) i .frames ⌝ }
+{
+    word_at(slots, i, 9)
+}
+
+// The largest number of registers that it saved so far.
+pub fn maxregs_at(slots: &[u64], i: usize) -> u64
+    requires { ⌜ SlotFits (now slots) i ⌝ }
+    ensures { λ r. ⌜ r ≡ coroIn (now (slots .entry)) i .maxregs ⌝ }
+{
+    word_at(slots, i, 10)
+}
+
+// The largest number of frames.
+pub fn maxframes_at(slots: &[u64], i: usize) -> u64
+    requires { ⌜ SlotFits (now slots) i ⌝ }
+    ensures { λ r. ⌜ r ≡ coroIn (now (slots .entry)) i .maxframes ⌝ }
+{
+    word_at(slots, i, 11)
+}
+
+// The register that receives the sent word.
+pub fn waiting_at(slots: &[u64], i: usize) -> u64
+    requires { ⌜ SlotFits (now slots) i ⌝ }
+    ensures { λ r. ⌜ r ≡ coroIn (now (slots .entry)) i .waiting ⌝ }
+{
+    word_at(slots, i, 12)
+}
+
 // Its key.
 pub fn key_at(slots: &[u64], i: usize) -> u64
     requires { ⌜ SlotFits (now slots) i ⌝ }
     ensures { λ r. ⌜ r ≡ coroIn (now (slots .entry)) i .key ⌝ }
 {
     word_at(slots, i, 14)
+}
+
+// Its largest integer key so far.
+pub fn largest_at(slots: &[u64], i: usize) -> u64
+    requires { ⌜ SlotFits (now slots) i ⌝ }
+    ensures { λ r. ⌜ r ≡ coroIn (now (slots .entry)) i .largest ⌝ }
+{
+    word_at(slots, i, 15)
 }
 
 // Its result.

@@ -5,7 +5,7 @@ ghost use lib.Dec.{eqb};
 ghost use Rattle.lists.specs.Chunks.{chunkAt, putChunk};
 ghost use Rattle.heap.specs.Table.{slot};
 ghost use Rattle.heap.specs.Object.{isFilled};
-ghost use Rattle.heap.specs.Slot.{coroAt, objectAt, fieldsOf, fills, slotWords, enteredWords, sleepWords};
+ghost use Rattle.heap.specs.Slot.{coroAt, objectAt, fieldsOf, fills, slotWords, enteredWords, yieldedWords, sleepWords};
 ghost use Rattle.heap.specs.Heap.{SlotFits, slotIn, putSlot};
 ghost use Rattle.heap.specs.declared.object.Object.the-variants.{Iter, Coro};
 use crate::int::larger;
@@ -238,6 +238,29 @@ fn write_sleep(s: &mut [u64], c: CoroObj)
     s[17] = c.signal;
 }
 
+// It yielded: what was saved is not larger than before, and it does not close.
+fn write_yielded(
+    s: &mut [u64],
+    regs: u64,
+    frames: u64,
+    waiting: u64,
+    payload: u64,
+    key: u64,
+    largest: u64,
+)
+    requires { ⌜ length (now s) ≡ 20 ⌝ }
+    ensures { λ _. ⌜ now (s .exit) ≡ yieldedWords regs frames waiting payload key largest (now (s .entry)) ⌝ }
+{
+    let state = CoroState::Yielded;
+    s[2] = state.code();
+    s[8] = regs;
+    s[9] = frames;
+    s[12] = waiting;
+    s[13] = payload;
+    s[14] = key;
+    s[15] = largest;
+}
+
 // The coroutine at place i entered: the words that an entry changes.
 pub fn put_entered(slots: &mut [u64], i: usize)
     requires { ⌜ SlotFits (now slots) i ⌝ }
@@ -256,6 +279,33 @@ pub fn put_sleep(slots: &mut [u64], i: usize, c: CoroObj)
     let b = i * WIDTH;
     let e = b + WIDTH;
     write_sleep(&mut slots[b..e], c);
+}
+
+// The coroutine at place i yielded: the words that a suspension changes where it saves no more than before and closes nothing.
+pub fn put_yielded(
+    slots: &mut [u64],
+    i: usize,
+    regs: u64,
+    frames: u64,
+    waiting: u64,
+    payload: u64,
+    key: u64,
+    largest: u64,
+)
+    requires { ⌜ SlotFits (now slots) i ⌝ }
+    ensures { λ _. ⌜ now (slots .exit) ≡ putChunk 20 (now (slots .entry)) i (yieldedWords regs frames waiting payload key largest (chunkAt 20 (now (slots .entry)) i)) ⌝ }
+{
+    let b = i * WIDTH;
+    let e = b + WIDTH;
+    write_yielded(
+        &mut slots[b..e],
+        regs,
+        frames,
+        waiting,
+        payload,
+        key,
+        largest,
+    );
 }
 
 // Whether a slot of this kind holds an object.

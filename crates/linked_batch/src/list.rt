@@ -4,6 +4,7 @@ ghost use Rattle.memory_world.specs.Contract.{atEntry, atExit};
 ghost use Rattle.outer_call.specs.State.{nine};
 ghost use Rattle.linked_calls.specs.Host.{host, gave, runHost};
 ghost use Rattle.linked_batch.specs.Batch.{BatchFits, Done};
+use crate::one::ANSWER_WIDTH;
 use crate::one::one;
 use linked_calls::tested::bvm_sound;
 use outer_run::list::count;
@@ -88,7 +89,7 @@ pub extern "C" fn bvm_batch(
         machine,
         fuel,
     );
-    if answers.len() / 8 < n {
+    if answers.len() / ANSWER_WIDTH < n {
         if ok == 0 {
             return 11;
         }

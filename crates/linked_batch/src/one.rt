@@ -24,12 +24,25 @@ use linked_switch::yielding::yield_at;
 use model::call::Answer;
 use outer_run::list::put_at;
 
+// The words of a call, and of an answer.
+const CALL_WIDTH: usize = 6;
+
+pub(crate) const ANSWER_WIDTH: usize = 8;
+
+// A call's first word: those that have a way of their own.
+const RESUME: u64 = 6;
+
+const YIELD: u64 = 3;
+
+// The largest pc.
+const MOST32: u64 = 0xFFFF_FFFF;
+
 // Word k of call i.
 fn word(calls: &[u64], i: usize, k: usize) -> u64
     requires { ⌜ (i * 6 + 6 ≤ length (now calls)) × (k < 6) ⌝ }
     ensures { λ r. ⌜ r ≡ getD (chunkAt 6 (now (calls .entry)) i) k 0 ⌝ }
 {
-    calls[i * 6 + k]
+    calls[i * CALL_WIDTH + k]
 }
 
 // Answer i: the frame on top goes on.
@@ -37,8 +50,8 @@ fn goes_on_at(answers: &mut [u64], i: usize)
     requires { ⌜ i * 8 + 8 ≤ length (now answers) ⌝ }
     ensures { λ _. ⌜ now (answers .exit) ≡ putChunk 8 (now (answers .entry)) i (answerWords goesOn) ⌝ }
 {
-    let from = i * 8;
-    let to = from + 8;
+    let from = i * ANSWER_WIDTH;
+    let to = from + ANSWER_WIDTH;
     goes_on(&mut answers[from..to]);
 }
 
@@ -70,8 +83,8 @@ fn general_at(
         (host (nine stack frames chain slots «saved_stack» «saved_frames» ready finalize setup atExit) (atExit machine) (atExit fuel)) (now (answers .exit)) ⌝ }
 {
     let call = [n, a, b, c, d, e];
-    let at = i * 8;
-    let end = at + 8;
+    let at = i * ANSWER_WIDTH;
+    let end = at + ANSWER_WIDTH;
     bvm_call_unchecked(
         stack,
         frames,
@@ -148,7 +161,7 @@ fn resume_call(
             fuel,
             answers,
             i,
-            6,
+            RESUME,
             pc,
             dst,
             c,
@@ -183,7 +196,7 @@ fn yield_call(
         (host (nine stack frames chain slots «saved_stack» «saved_frames» ready finalize setup atExit) (atExit machine) (atExit fuel)) (now (answers .exit)) ⌝ }
 {
     match may_leave(frames, chain, slots, machine, fuel[FUEL], dst, src) {
-        Sleeper::At(k, key, largest) => {
+        Sleeper::At(k, to, key, largest) => {
             yield_at(
                 stack,
                 frames,
@@ -197,6 +210,7 @@ fn yield_call(
                 dst,
                 src,
                 k,
+                to,
                 key,
                 largest,
             );
@@ -216,7 +230,7 @@ fn yield_call(
             fuel,
             answers,
             i,
-            3,
+            YIELD,
             pc,
             dst,
             src,
@@ -237,16 +251,16 @@ enum Way {
 fn way_of(n: u64, a: u64, d: u64, e: u64) -> Way
     ensures { λ r. ⌜ Goes n a d e r ⌝ }
 {
-    if 4294967295 < a {
+    if MOST32 < a {
         return Way::General;
     }
     if e != 0 {
         return Way::General;
     }
-    if n == 6 {
+    if n == RESUME {
         return Way::Resume;
     }
-    if n != 3 {
+    if n != YIELD {
         return Way::General;
     }
     if d != 0 {
@@ -277,7 +291,7 @@ pub(crate) fn one(
         (readIn (now (calls .entry)) i) (now (answers .entry)) i
         (host (nine stack frames chain slots «saved_stack» «saved_frames» ready finalize setup atExit) (atExit machine) (atExit fuel)) (now (answers .exit)) ⌝ }
 {
-    if calls.len() - i * 6 < 6 {
+    if calls.len() - i * CALL_WIDTH < CALL_WIDTH {
         put_at(answers, i, Answer::Refused(Fault::BadOperand));
         return;
     }

@@ -3,7 +3,7 @@ use mathlib.Core.Path.{_≡_, refl, sym, subst}
 use mathlib.Core.List.{List}
 use Prim.Native.Nat.{ℕ, _+_, _*_, _^_, _≤_, _<_}
 use lib.ListN.{length}
-use Rattle.heap.specs.Heap.{slotsOf, coroOf}
+use Rattle.heap.specs.Heap.{SlotFits, slotsOf, coroOf}
 use Rattle.heap.specs.declared.fault.Fault.{Fault}
 use Rattle.heap.specs.declared.heap.Coroutine.the-variants as RV
 use Rattle.heap.proofs.Place.{stands}
@@ -43,7 +43,7 @@ module _ {stack frames chain slots savedStack savedFrames ms : List ℕ} {i floo
   abbrev words : Lent
   words = lent stack frames chain slots savedStack savedFrames (h .ok .beside)
 
-  pub slot-at : i * 20 + 20 ≤ length slots
+  pub slot-at : SlotFits slots i
   slot-at = let ok = h .ok in slot (sizesIn ms) words (machineIn ms) (ok .beside .fuel) (ok .world) (ok .rep) (ok .sound) i (h .may) 0 0 0 0
 
   -- the body begins on the stack

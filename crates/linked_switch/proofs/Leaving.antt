@@ -5,20 +5,21 @@ use mathlib.Core.List.{List, [], _∷_}
 use Prim.Native.Nat.{ℕ, zero, suc, _+_, _-_, _*_, _≤_, _<_}
 use native.Mathlib.Omega.{arith}
 use lib.ListN.{length, getD, drop}
-use lib.Dec.{eqb}
-use Rattle.lists.specs.Pick.{pick, pick-true}
+use Rattle.lists.specs.Pick.{pick-true}
 use Rattle.lists.specs.Chunks.{chunkAt, putChunk}
-use Rattle.lists.proofs.Tables.{length-chunk}
 use Rattle.heap.specs.Coding.{ofBits}
 use Rattle.heap.specs.Int.{inlineOf, nextKey}
-use Rattle.heap.specs.Slot.{isSet}
-use Rattle.heap.specs.Heap.{slotsOf, coroOf}
+use Rattle.heap.specs.Word.{tagOf}
+use Rattle.heap.specs.Object.{asYielded}
+use Rattle.heap.specs.Slot.{width, yieldedWords}
+use Rattle.heap.specs.Heap.{SlotFits, slotsOf, coroOf}
 use Rattle.heap.specs.declared.fault.Fault.{Fault}
 use Rattle.heap.specs.declared.heap.Coroutine.the-variants as RV
 use Rattle.heap.specs.declared.int.Exact.{Exact}
 use Rattle.heap.specs.declared.int.Inline.{Inline}
 use Rattle.heap.specs.declared.object.CoroObj.{CoroObj}
 use Rattle.heap.specs.declared.object.CoroState.{CoroState}
+use Rattle.heap.proofs.Fields as H
 use Rattle.heap.proofs.Place.{stands, stands-words}
 use Rattle.model.specs.World.{World, After, after, andThen}
 use Rattle.model.specs.Frames.{reg, baseAt, onTop, setPc, storePc}
@@ -39,15 +40,16 @@ use Rattle.claims_sound.proofs.Tests.{no-false}
 use Rattle.claims_sound.proofs.Stand.{Stands}
 use Rattle.claims_sound.proofs.Cut.{Cut, cut, base-cut, floor-below}
 use Rattle.claims_sound.proofs.Sound.{Sound, sound→}
-use Rattle.memory_tables.specs.Layout.{baseIn, driverOf}
+use Rattle.memory_tables.specs.Layout.{baseIn}
 use Rattle.memory_tables.specs.Does.{ChainDo}
 use Rattle.memory_tables.proofs.Decode.{base-at}
 use Rattle.memory_world.specs.Memory.{Lent, Rep, Room}
 use Rattle.memory_world.specs.Contract.{Does}
 use Rattle.memory_world.specs.declared.machine.Machine.{Machine}
 use Rattle.memory_world.specs.declared.machine.Sizes.{Sizes}
+use Rattle.memory_world.proofs.Slotted.{placed-words}
 use Rattle.machine_state.specs.Send.{SendFits}
-use Rattle.coro_suspend.specs.Suspend.{LeaveFit, MovedOut, asleep, shrunk}
+use Rattle.coro_suspend.specs.Suspend.{LeaveFit, MovedOut, shrunk}
 use Rattle.coro_suspend.proofs.Parts.{yielded}
 use Rattle.coro_suspend.proofs.Innermost.{other}
 use Rattle.coro_suspend.proofs.Asleep as Asleep
@@ -55,8 +57,8 @@ use Rattle.exec_yield.proofs.Settled.{drives, deliver-done, suspended}
 use Rattle.exec_yield.proofs.Keys.{largest-at}
 use Rattle.exec_yield.proofs.Yields.{runs, innermost, yield-runs, keyed-yield}
 use Rattle.linked_switch.specs.Words.{recordAt}
-use Rattle.linked_switch.specs.Leave.{innermostIn, napWords, May, Keyed, suspendsBy, toldTo}
-use Rattle.linked_switch.proofs.Napping.{naps, charged, paid, shrinks}
+use Rattle.linked_switch.specs.Leave.{innermostIn, May, Keyed, suspendsBy, toldTo}
+use Rattle.linked_switch.proofs.Uncharged.{sleeps, charged, paid, shrinks}
 
 -- ---- the suspension
 
@@ -76,7 +78,7 @@ module _ (l : Sizes) (M : Lent) (m : Machine) (f : Fuel) (w : World) (rep : Rep 
   pub found : RV.At i c ≡ coroOf (slotsOf (m .count) (M .slots)) (a .coro)
   found = stands (m .count) (M .slots) (a .coro) i (may .found) .coro
 
-  pub slot : i * 20 + 20 ≤ length (M .slots)
+  pub slot : SlotFits (M .slots) i
   slot = stands-words (m .count) (M .slots) (a .coro) i (may .found) (rep .slots .within)
 
   pub before : Asleep.Before l M m f CoroState.Yielded dst payload keys w rep a (may .running) refl (may .floor) i c found base refl snd
@@ -98,25 +100,24 @@ module _ (l : Sizes) (M : Lent) (m : Machine) (f : Fuel) (w : World) (rep : Rep 
 
     leaves : MovedOut (M .stack) (M .frames) (M .savedStack) (M .savedFrames) stack′ frames′ savedStack′ savedFrames′ m l (c .row) (a .floor) base
         → ChainDo (drop 1) (M .chain) chain′ (m .active) (m .active - 1)
-        → slots′ ≡ putChunk 20 (M .slots) i (napWords (m .height - base) (m .depth - a .floor) dst payload key largest (chunkAt 20 (M .slots) i))
+        → slots′ ≡ putChunk width (M .slots) i (yieldedWords (m .height - base) (m .depth - a .floor) dst payload key largest (chunkAt width (M .slots) i))
         → Does l (suspendsBy dst payload key largest w) M′ (shrunk m base (a .floor) (m .used)) f (toldTo (a .driver) payload key)
     leaves moves pop mark =
         let regs = m .height - base in
         let deep = m .depth - a .floor in
-        let ws = chunkAt 20 (M .slots) i in
-        let n = length-chunk 20 i (M .slots) slot in
-        let same = naps regs deep dst payload key largest ws (omega arith) (may .unclosed) (may .wide) (may .deep) in
+        let d = asYielded regs deep dst payload key largest c in
         Asleep.accepted l M m f CoroState.Yielded dst payload keys w rep a (may .running) refl (may .floor) i c found base refl snd stack′ frames′ chain′ slots′ savedStack′ savedFrames′
-        (charged l M m f w rep snd c regs deep (may .wide) (may .deep)) (asleep CoroState.Yielded regs deep dst payload keys c) (shrunk m base (a .floor) (m .used)) (Event.Yielded payload key) refl
-        (paid l M m f w rep snd c regs deep (may .wide) (may .deep)) moves pop refl (mark ∙ ap (λ (y : List ℕ). putChunk 20 (M .slots) i y) same)
-        (yielded CoroState.Yielded payload (c .closing) key refl (ap isSet (may .unclosed)))
+        (charged l M m f w rep snd c regs deep (may .wide) (may .deep)) d (shrunk m base (a .floor) (m .used)) (Event.Yielded payload key) refl
+        (paid l M m f w rep snd c regs deep (may .wide) (may .deep)) moves pop (sleeps c regs deep dst payload key largest (may .unclosed) (may .wide) (may .deep))
+        (H.yields (M .slots) i (tagOf (a .coro)) c (placed-words l M m f (a .coro) w rep i (may .found)) slots′ regs deep dst payload key largest mark)
+        (yielded CoroState.Yielded payload (c .closing) key refl (may .unclosed))
         (shrinks l M m f w rep snd c regs deep (may .wide) (may .deep) base (a .floor))
 
     -- by the numbers that the code read
     pub left : (row floor b regs deep : ℕ) → row ≡ c .row → floor ≡ a .floor → b ≡ base → regs ≡ m .height - b → deep ≡ m .depth - floor
         → MovedOut (M .stack) (M .frames) (M .savedStack) (M .savedFrames) stack′ frames′ savedStack′ savedFrames′ m l row floor b
         → ChainDo (drop 1) (M .chain) chain′ (m .active) (m .active - 1)
-        → slots′ ≡ putChunk 20 (M .slots) i (napWords regs deep dst payload key largest (chunkAt 20 (M .slots) i))
+        → slots′ ≡ putChunk width (M .slots) i (yieldedWords regs deep dst payload key largest (chunkAt width (M .slots) i))
         → Does l (suspendsBy dst payload key largest w) M′ (shrunk m b floor (m .used)) f (toldTo (a .driver) payload key)
     left row floor b regs deep er ef eb en ed moves pop mark =
         let moved = subst (λ z. MovedOut (M .stack) (M .frames) (M .savedStack) (M .savedFrames) stack′ frames′ savedStack′ savedFrames′ m l (c .row) (a .floor) z) eb
@@ -126,7 +127,7 @@ module _ (l : Sizes) (M : Lent) (m : Machine) (f : Fuel) (w : World) (rep : Rep 
         let q : deep ≡ m .depth - a .floor = ed ∙ ap (λ z. m .depth - z) ef in
         subst (λ z. Does l (suspendsBy dst payload key largest w) M′ (shrunk m b z (m .used)) f (toldTo (a .driver) payload key)) (sym ef)
         (subst (λ z. Does l (suspendsBy dst payload key largest w) M′ (shrunk m z (a .floor) (m .used)) f (toldTo (a .driver) payload key)) (sym eb)
-        (leaves moved pop (mark ∙ ap₂ (λ x y. putChunk 20 (M .slots) i (napWords x y dst payload key largest (chunkAt 20 (M .slots) i))) p q)))
+        (leaves moved pop (mark ∙ ap₂ (λ x y. putChunk width (M .slots) i (yieldedWords x y dst payload key largest (chunkAt width (M .slots) i))) p q)))
 
 -- ---- where the innermost coroutine stands
 
@@ -161,10 +162,7 @@ same-base l w M M′ m f pc floor r r′ h =
     base-at (storePc pc w .frames) (M′ .frames) (m .depth) floor other (r′ .frames) h ∙ base-stays pc (w .frames) (m .depth - suc floor)
     ∙ sym (base-at (w .frames) (M .frames) (m .depth) floor other (r .frames) h)
 
--- ---- the driver, and the key
-
-pub driven-by : (n x y z : ℕ) → n ≡ 0 → driverOf n x y z ≡ Driver.Resume x
-driven-by n x y z e = ap (λ k. driverOf k x y z) e ∙ pick-true _ _
+-- ---- the key
 
 pub key-made : (so-far key largest : ℕ) (w : World) → Exact.Fits largest ≡ nextKey so-far → Inline.At (record { 0 = key }) ≡ inlineOf (ofBits 63 largest)
     → after w (AutoKey.Key key largest) ≡ autoKey so-far w

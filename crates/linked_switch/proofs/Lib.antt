@@ -6,7 +6,7 @@ pub mod Places
 pub mod Entering
 pub mod Enterable
 pub mod Resuming
-pub mod Napping
+pub mod Uncharged
 pub mod Leaving
 pub mod Leavable
 pub mod Fits

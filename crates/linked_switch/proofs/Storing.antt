@@ -3,8 +3,8 @@ use mathlib.Core.Path.{_≡_, refl, sym, ap, ap₂, _∙_, subst}
 use mathlib.Core.Bool.{true, false}
 use mathlib.Core.List.{List}
 use Prim.Native.Nat.{ℕ, _+_, _-_, _≤_}
-use lib.ListN.{length, getD}
-use Rattle.lists.specs.Chunks.{chunkAt}
+use lib.ListN.{length}
+use Rattle.lists.specs.Pick.{pick, pick-true}
 use Rattle.heap.specs.declared.object.CoroState.{CoroState}
 use Rattle.heap.specs.declared.object.CoroObj.{CoroObj}
 use Rattle.model.specs.State.{isCreated}
@@ -13,6 +13,7 @@ use Rattle.model.specs.Frames.{onTop, setPc, storePc, reg}
 use Rattle.model.specs.Coro.{coroEnter}
 use Rattle.model.specs.Exec.{yield, arrive}
 use Rattle.model.specs.Sound.{sound}
+use Rattle.model.specs.declared.coro.Entered.{Entered}
 use Rattle.model.specs.declared.coro.Event.{Event}
 use Rattle.model.specs.declared.coro.Keys.{Keys}
 use Rattle.model.specs.declared.exec.Step.{Step}
@@ -27,19 +28,19 @@ use Rattle.machine_state.specs.Send.{SendFits}
 use Rattle.machine_state.proofs.Stored.{store-sounds, stored-ok}
 use Rattle.coro_enter.specs.Enter.{grown, enteredAs}
 use Rattle.coro_enter.proofs.Entries.{then-does, arrive-fresh, arrive-sent, arrive-fits}
-use Rattle.coro_enter.proofs.Parts.{fresh-as, waits-as}
+use Rattle.coro_enter.proofs.Parts.{waits-as}
 use Rattle.exec_yield.proofs.Settled.{drives}
 use Rattle.linked_calls.specs.Words.{machineIn, sizesIn}
 use Rattle.linked_switch.specs.Words.{recordAt}
 use Rattle.linked_switch.specs.Enter.{EnterAtFits, EnterFits, Sends, entersBy, resumesBy}
 use Rattle.linked_switch.specs.Leave.{innermostIn, LeaveAtFits, LeaveFits, suspendsBy, toldTo, shrunkTo, leftIn}
 use Rattle.linked_switch.proofs.Entering.{stored-rep, sends-rep, send-fits}
-use Rattle.linked_switch.proofs.Leaving.{same-base, driven-by, yields}
+use Rattle.linked_switch.proofs.Leaving.{same-base, yields}
 
 -- ---- an entry
 
 module _ {stack frames chain slots savedStack savedFrames ms : List ℕ} {pc src v i : ℕ} (h : EnterFits stack frames chain slots savedStack savedFrames ms pc src v i)
-    (frames′ : List ℕ) (put : FramesDo (onTop (setPc pc)) frames frames′ (getD ms 1 0) (getD ms 1 0)) where
+    (frames′ : List ℕ) (put : FramesDo (onTop (setPc pc)) frames frames′ (machineIn ms .depth) (machineIn ms .depth)) where
   abbrev was : Beside → Lent
   was = lent stack frames chain slots savedStack savedFrames
 
@@ -72,13 +73,14 @@ module _ {stack frames chain slots savedStack savedFrames ms : List ℕ} {pc src
         (arrive-fits (sizesIn ms) (M (o .beside)) (grown (machineIn ms) k) (o .beside .fuel) v (Driver.Resume dst) (storePc pc (o .world)) (enteredAs k)
         (store-sounds pc (o .world) (h .entry .narrow) (o .sound)) (entered (o .world) (o .beside) (o .rep) (o .sound)) .waits (k .waiting) (sym (waits-as k begun)))
 
-    pub enter-fresh : k .state ≡ CoroState.Created → Gives ifSound (sizesIn ms) (resumesBy pc dst src v) was (only (machineIn ms)) M (only (grown (machineIn ms) k)) Step.Frame
+    pub enter-fresh : isCreated (k .state) ≡ true → Gives ifSound (sizesIn ms) (resumesBy pc dst src v) was (only (machineIn ms)) M (only (grown (machineIn ms) k)) Step.Frame
     enter-fresh new w b rep snd =
         let d = entered w b rep snd in let e = entersBy v dst (storePc pc w) in
+        let fresh : enteredAs k ≡ Entered.Fresh = ap (λ t. pick t Entered.Fresh (Entered.Suspended (k .waiting))) new ∙ pick-true _ _ in
         then-does (sizesIn ms) (M b) (grown (machineIn ms) k) (b .fuel) e (arrive (reg w src)) (enteredAs k) Step.Frame (d .answer)
-        (arrive-fresh (sizesIn ms) (M b) (grown (machineIn ms) k) (b .fuel) (e .world) (enteredAs k) (reg w src) (sym (fresh-as k new)) (d .world))
+        (arrive-fresh (sizesIn ms) (M b) (grown (machineIn ms) k) (b .fuel) (e .world) (enteredAs k) (reg w src) fresh (d .world))
 
-    pub enter-sent : (sent regs deep waits : ℕ) → Gets stack frames (getD ms 0 0) (getD ms 1 0) src sent → regs ≡ k .regs → deep ≡ k .frames → waits ≡ k .waiting → isCreated (k .state) ≡ false
+    pub enter-sent : (sent regs deep waits : ℕ) → Gets stack frames (machineIn ms .height) (machineIn ms .depth) src sent → regs ≡ k .regs → deep ≡ k .frames → waits ≡ k .waiting → isCreated (k .state) ≡ false
         → (w : World) (b : Beside) (stack″ frames″ : List ℕ) → Sends (M b .stack) (M b .frames) stack″ frames″ (machineIn ms .height + regs) (machineIn ms .depth + deep) waits sent
         → Rep (sizesIn ms) w (was b) (machineIn ms) (b .fuel) → sound w ≡ true
         → Does (sizesIn ms) (resumesBy pc dst src v w) (onFrames frames″ (onStack stack″ (M b))) (grown (machineIn ms) k) (b .fuel) Step.Frame
@@ -91,8 +93,8 @@ module _ {stack frames chain slots savedStack savedFrames ms : List ℕ} {pc src
 
 -- ---- a suspension
 
-module _ {stack frames chain slots savedStack savedFrames ms : List ℕ} {pc src i key largest : ℕ} (h : LeaveFits stack frames chain slots savedStack savedFrames ms pc src i key largest)
-    (frames′ : List ℕ) (put : FramesDo (onTop (setPc pc)) frames frames′ (getD ms 1 0) (getD ms 1 0)) where
+module _ {stack frames chain slots savedStack savedFrames ms : List ℕ} {pc src i to key largest : ℕ} (h : LeaveFits stack frames chain slots savedStack savedFrames ms pc src i to key largest)
+    (frames′ : List ℕ) (put : FramesDo (onTop (setPc pc)) frames frames′ (machineIn ms .depth) (machineIn ms .depth)) where
   abbrev before : Beside → Lent
   before = lent stack frames chain slots savedStack savedFrames
 
@@ -130,12 +132,12 @@ module _ {stack frames chain slots savedStack savedFrames ms : List ℕ} {pc src
         at-base = eb;
       }
 
-  module _ (dst payload floor base to : ℕ) (at-to : to ≡ getD (chunkAt 6 chain (getD ms 2 0 - 1)) 3 0) (M : Beside → Lent)
+  module _ (dst payload floor base : ℕ) (M : Beside → Lent)
       (left : Gives ifSound (sizesIn ms) (suspendsBy dst payload key largest) after (only (machineIn ms)) M (only (shrunkTo ms base floor))
       (toldTo (innermostIn chain (machineIn ms) .driver) payload key)) where
     -- a Resume waits for it
     told : toldTo (innermostIn chain (machineIn ms) .driver) payload key ≡ toldTo (Driver.Resume to) payload key
-    told = ap (λ (d : Driver). toldTo d payload key) (driven-by _ _ _ _ (h .driven) ∙ ap Driver.Resume (sym at-to))
+    told = ap (λ (d : Driver). toldTo d payload key) (h .driven)
 
     asleep : (w : World) (b : Beside) → Rep (sizesIn ms) w (before b) (machineIn ms) (b .fuel) → sound w ≡ true
         → Does (sizesIn ms) (suspendsBy dst payload key largest (storePc pc w)) (M b) (shrunkTo ms base floor) (b .fuel) (toldTo (innermostIn chain (machineIn ms) .driver) payload key)
@@ -147,7 +149,7 @@ module _ {stack frames chain slots savedStack savedFrames ms : List ℕ} {pc src
         drives (sizesIn ms) (M (o .beside)) (shrunkTo ms base floor) (o .beside .fuel) CoroState.Yielded dst payload (Keys.Set key largest) (storePc pc (o .world))
         (store-sounds pc (o .world) (h .run .narrow) (o .sound)) _ (asleep (o .world) (o .beside) (o .rep) (o .sound)) .drives (Driver.Resume to) (Event.Yielded payload key) told .resumes to refl
 
-    pub leave-done : Gets stack frames (getD ms 0 0) (getD ms 1 0) src payload → floor ≡ a → base ≡ baseIn frames′ a
+    pub leave-done : Gets stack frames (machineIn ms .height) (machineIn ms .depth) src payload → floor ≡ a → base ≡ baseIn frames′ a
         → (w : World) (b : Beside) (stack″ frames″ : List ℕ) → Sends (M b .stack) (M b .frames) stack″ frames″ base floor to payload
         → Rep (sizesIn ms) w (before b) (machineIn ms) (b .fuel) → sound w ≡ true
         → Does (sizesIn ms) (yield pc dst src w) (onFrames frames″ (onStack stack″ (M b))) (leftIn frames chain ms) (b .fuel) Step.Frame

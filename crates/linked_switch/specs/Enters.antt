@@ -9,6 +9,7 @@ use Rattle.heap.specs.Slot.{width}
 use Rattle.heap.specs.Heap.{slotsOf, coroOf, placeOf}
 use Rattle.heap.specs.declared.heap.CoroPlace.{CoroPlace}
 use Rattle.heap.specs.declared.heap.CoroPlace.the-variants as L
+use Rattle.heap.specs.declared.object.CoroObj.{CoroObj}
 use Rattle.model.specs.State.{isResumable}
 use Rattle.memory_tables.specs.Layout.{baseIn}
 use Rattle.memory_tables.specs.Does.{Gets}
@@ -20,26 +21,25 @@ use Rattle.linked_switch.specs.declared.enters.Enters.{Enters}
 -- words enough for the numbers, which are within the limits
 pub record EntersFits (stack frames slots ms : List ℕ) : Type 0 where
   pub words : 25 ≤ length ms
-  pub on-stack : getD ms 0 0 ≤ length stack
-  pub on-frames : getD ms 1 0 * 6 ≤ length frames
-  pub in-slots : getD ms 3 0 * width ≤ length slots
-  pub deep : getD ms 1 0 ≤ getD ms 13 0
-  pub high : getD ms 0 0 ≤ getD ms 14 0
+  pub on-stack : machineIn ms .height ≤ length stack
+  pub on-frames : machineIn ms .depth * 6 ≤ length frames
+  pub in-slots : machineIn ms .count * width ≤ length slots
+  pub deep : machineIn ms .depth ≤ sizesIn ms .depth
+  pub high : machineIn ms .height ≤ sizesIn ms .stack
 
 -- ---- the tests, on the words
 
 -- where the top frame's registers begin
 abbrev pub topIn : List ℕ → List ℕ → ℕ
-topIn frames ms = baseIn frames (getD ms 1 0 - 1)
+topIn frames ms = baseIn frames (machineIn ms .depth - 1)
 
 -- "Every register operand must lie between the top frame's base and the stack's end"
 abbrev pub inTop : List ℕ → List ℕ → ℕ → Bool
-inTop frames ms r = ltb (topIn frames ms + r) (getD ms 0 0)
+inTop frames ms r = ltb (topIn frames ms + r) (machineIn ms .height)
 
--- of the coroutine in slot i
-abbrev pub entryTests : List ℕ → List ℕ → ℕ → List Bool
-entryTests slots ms i =
-    let c = recordAt slots i in
+-- of a coroutine, by its record
+abbrev pub entryTests : CoroObj → List ℕ → List Bool
+entryTests c ms =
     let m = machineIn ms in
     let sizes = sizesIn ms in
     -- Created, Yielded or Awaiting, with frames
@@ -49,12 +49,12 @@ entryTests slots ms i =
 
 -- what the word in register c names
 abbrev pub toEnter : List ℕ → List ℕ → List ℕ → List ℕ → ℕ → CoroPlace
-toEnter stack frames slots ms c = placeOf (coroOf (slotsOf (getD ms 3 0) slots) (getD stack (topIn frames ms + c) 0))
+toEnter stack frames slots ms c = placeOf (coroOf (slotsOf (machineIn ms .count) slots) (getD stack (topIn frames ms + c) 0))
 
 -- where it names a coroutine
 abbrev pub entersIn : List ℕ → List ℕ → CoroPlace → Bool
 entersIn slots ms (L.Not f) = false
-entersIn slots ms (L.At i) = all (entryTests slots ms i)
+entersIn slots ms (L.At i) = all (entryTests (recordAt slots i) ms)
 
 abbrev pub enterTests : List ℕ → List ℕ → List ℕ → List ℕ → ℕ → ℕ → ℕ → ℕ → List Bool
 enterTests stack frames slots ms fuel dst c src =
@@ -71,12 +71,12 @@ mayEnter stack frames slots ms fuel dst c src = all (enterTests stack frames slo
 -- ---- what the tests tell
 
 pub record Enterable (stack frames slots ms : List ℕ) (fuel dst c src i v : ℕ) : Type 0 where
-  pub some : 1 ≤ getD ms 1 0
+  pub some : 1 ≤ machineIn ms .depth
   pub paid : 1 ≤ fuel
-  pub dst-in : topIn frames ms + dst < getD ms 0 0
-  pub coro-in : topIn frames ms + c < getD ms 0 0
-  pub src-in : topIn frames ms + src < getD ms 0 0
-  pub is : Gets stack frames (getD ms 0 0) (getD ms 1 0) c v
+  pub dst-in : topIn frames ms + dst < machineIn ms .height
+  pub coro-in : topIn frames ms + c < machineIn ms .height
+  pub src-in : topIn frames ms + src < machineIn ms .height
+  pub is : Gets stack frames (machineIn ms .height) (machineIn ms .depth) c v
   pub may : May slots (machineIn ms) (sizesIn ms) v i
 
 abbrev pub enters : Enters → Bool

@@ -1,11 +1,10 @@
 -- coro.rs: coro_suspend of a Yield, of the innermost coroutine, in slot i, that nothing refuses.
 use mathlib.Core.Path.{_≡_}
+use mathlib.Core.Bool.{false}
 use mathlib.Core.List.{List}
 use Prim.Native.Nat.{ℕ, _+_, _-_, _*_, _≤_, _<_}
-use lib.ListN.{length, getD, set}
-use Rattle.lists.specs.Chunks.{chunkAt}
+use lib.ListN.{length}
 use Rattle.heap.specs.Coding.{ofBits}
-use Rattle.heap.specs.Slot.{width}
 use Rattle.heap.specs.Int.{inlineOf, nextKey}
 use Rattle.heap.specs.Heap.{slotsOf, coroOf, placeOf}
 use Rattle.heap.specs.declared.heap.CoroPlace.the-variants as L
@@ -33,11 +32,6 @@ use Rattle.linked_switch.specs.Words.{recordAt}
 abbrev pub innermostIn : List ℕ → Machine → Active
 innermostIn chain m = activeIn chain (m .active - 1)
 
--- the words of a slot that a yield changes where it closes nothing and charges nothing
-abbrev pub napWords : ℕ → ℕ → ℕ → ℕ → ℕ → ℕ → List ℕ → List ℕ
-napWords regs frames dst payload key largest ws =
-    set (set (set (set (set (set (set ws 2 2) 8 regs) 9 frames) 12 dst) 13 payload) 14 key) 15 largest
-
 pub record MoveOutFits (stack frames savedStack savedFrames ms : List ℕ) (row floor base : ℕ) : Type 0 where
   pub words : 25 ≤ length ms
   pub fits : LeaveFit stack frames savedStack savedFrames (machineIn ms) (sizesIn ms) row floor base
@@ -47,7 +41,7 @@ pub record May (frames chain slots : List ℕ) (m : Machine) (i : ℕ) : Type 0 
   pub running : 1 ≤ m .active
   pub floor : innermostIn chain m .floor < m .depth
   pub found : L.At i ≡ placeOf (coroOf (slotsOf (m .count) slots) (innermostIn chain m .coro))
-  pub unclosed : getD (chunkAt width slots i) 3 0 ≡ 0
+  pub unclosed : recordAt slots i .closing ≡ false
   pub wide : m .height - baseIn frames (innermostIn chain m .floor) ≤ recordAt slots i .maxregs
   pub deep : m .depth - innermostIn chain m .floor ≤ recordAt slots i .maxframes
 
@@ -74,14 +68,14 @@ pub record Keyed (slots : List ℕ) (i key largest : ℕ) : Type 0 where
   pub next : Exact.Fits largest ≡ nextKey (recordAt slots i .largest)
   pub inline : Inline.At (record { 0 = key }) ≡ inlineOf (ofBits 63 largest)
 
--- .. driven by a Resume
-pub record LeaveFits (stack frames chain slots savedStack savedFrames ms : List ℕ) (pc src i key largest : ℕ) : Type 0 where
+-- .. driven by a Resume, whose register is `to`
+pub record LeaveFits (stack frames chain slots savedStack savedFrames ms : List ℕ) (pc src i to key largest : ℕ) : Type 0 where
   pub words : 25 ≤ length ms
   pub run : RunFits (sizesIn ms) stack frames chain slots savedStack savedFrames (machineIn ms) pc
   pub sent : RegFits stack frames (machineIn ms .height) (machineIn ms .depth) src
   pub may : May frames chain slots (machineIn ms) i
   pub keyed : Keyed slots i key largest
-  pub driven : getD (chunkAt 6 chain (machineIn ms .active - 1)) 2 0 ≡ 0
+  pub driven : innermostIn chain (machineIn ms) .driver ≡ Driver.Resume to
 
 -- the numbers after, by the innermost coroutine's floor
 abbrev pub leftIn : List ℕ → List ℕ → List ℕ → Machine

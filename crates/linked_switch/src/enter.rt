@@ -10,12 +10,17 @@ ghost use Rattle.machine_state.specs.Send.{SendFits};
 ghost use Rattle.model.specs.declared.exec.Step.the-variants.{Frame};
 ghost use Rattle.memory_world.specs.Lendings.{six};
 ghost use Rattle.memory_world.specs.Contract.{Met, ifSound, only};
-use crate::record::FRAMES;
-use crate::record::REGS;
-use crate::record::ROW;
-use crate::record::STATE;
-use crate::record::WAITING;
-use crate::record::word;
+use heap::field::frames_at;
+use heap::field::regs_at;
+use heap::field::row_at;
+use heap::field::state_at;
+use heap::field::waiting_at;
+use linked_calls::numbers::ACTIVE;
+use linked_calls::numbers::DEPTH;
+use linked_calls::numbers::DEPTH_LIMIT;
+use linked_calls::numbers::HEIGHT;
+use linked_calls::numbers::ROW_WIDTH;
+use memory_tables::frame::FRAME_WIDTH;
 use model::machine::Driver;
 
 // The row's registers and frames on top of the machine's.
@@ -33,22 +38,22 @@ fn move_in(
         (now (frames .exit)) (now («saved_stack» .exit)) (now («saved_frames» .exit)) (machineIn (now (machine .entry)) .height) (machineIn
         (now (machine .entry)) .depth) (sizesIn (now (machine .entry))) (recordAt (now (slots .entry)) i) ⌝ }
 {
-    let at = (word(slots, i, ROW) as usize) * (machine[18] as usize);
+    let at = (row_at(slots, i) as usize) * (machine[ROW_WIDTH] as usize);
     memory_tables::rows::enter_stack(
         stack,
-        machine[0] as usize,
+        machine[HEIGHT] as usize,
         saved_stack,
         at,
-        word(slots, i, REGS) as usize,
+        regs_at(slots, i) as usize,
     );
-    let from = (word(slots, i, ROW) as usize) * ((machine[13] as usize) * 6);
+    let from = (row_at(slots, i) as usize) * ((machine[DEPTH_LIMIT] as usize) * FRAME_WIDTH);
     memory_tables::rows::enter_frames(
         frames,
-        machine[1] as usize,
+        machine[DEPTH] as usize,
         saved_frames,
         from,
-        word(slots, i, FRAMES) as usize,
-        machine[0],
+        frames_at(slots, i) as usize,
+        machine[HEIGHT],
     );
 }
 
@@ -73,9 +78,9 @@ fn enter_at(
     move_in(stack, frames, slots, saved_stack, saved_frames, machine, i);
     memory_tables::chain::push_active(
         chain,
-        machine[2] as usize,
+        machine[ACTIVE] as usize,
         v,
-        machine[1],
+        machine[DEPTH],
         Driver::Resume(dst),
     );
     heap::slot::put_entered(slots, i);
@@ -86,9 +91,9 @@ pub(crate) fn put_numbers(machine: &mut [u64], height: u64, depth: u64, active: 
     requires { ⌜ 25 ≤ length (now machine) ⌝ }
     ensures { λ _. ⌜ now (machine .exit) ≡ set (set (set (now (machine .entry)) 0 height) 1 depth) 2 active ⌝ }
 {
-    machine[0] = height;
-    machine[1] = depth;
-    machine[2] = active;
+    machine[HEIGHT] = height;
+    machine[DEPTH] = depth;
+    machine[ACTIVE] = active;
 }
 
 // coro.rs: coro_send.
@@ -131,15 +136,15 @@ pub(crate) fn enter(
     let sent = memory_tables::stack::reg(
         stack,
         frames,
-        machine[0] as usize,
-        machine[1] as usize,
+        machine[HEIGHT] as usize,
+        machine[DEPTH] as usize,
         src as usize,
     );
-    memory_tables::frames::store_pc(frames, machine[1] as usize, pc);
-    let state = word(slots, i, STATE);
-    let regs = word(slots, i, REGS);
-    let deep = word(slots, i, FRAMES);
-    let waiting = word(slots, i, WAITING);
+    memory_tables::frames::store_pc(frames, machine[DEPTH] as usize, pc);
+    let state = state_at(slots, i);
+    let regs = regs_at(slots, i);
+    let deep = frames_at(slots, i);
+    let waiting = waiting_at(slots, i);
     enter_at(
         stack,
         frames,
@@ -152,11 +157,11 @@ pub(crate) fn enter(
         dst,
         i,
     );
-    let height = machine[0] + regs;
-    let depth = machine[1] + deep;
-    let active = machine[2] + 1;
+    let height = machine[HEIGHT] + regs;
+    let depth = machine[DEPTH] + deep;
+    let active = machine[ACTIVE] + 1;
     put_numbers(machine, height, depth, active);
-    if state != 0 {
+    if !state.is_created() {
         send(
             stack,
             frames,

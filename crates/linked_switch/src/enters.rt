@@ -1,11 +1,12 @@
 // Whether a Resume meets no refusal.
 ghost use Rattle.linked_switch.specs.Enters.{EntersFits, Entering};
-use crate::record::FRAMES;
-use crate::record::REGS;
-use crate::record::STATE;
-use crate::record::word;
 use heap::heap::CoroPlace;
 use heap::value::Word;
+use linked_calls::numbers::COUNT;
+use linked_calls::numbers::DEPTH;
+use linked_calls::numbers::DEPTH_LIMIT;
+use linked_calls::numbers::HEIGHT;
+use linked_calls::numbers::STACK_LIMIT;
 
 // The slot of the coroutine that may be entered, and its word.
 pub enum Enters {
@@ -27,17 +28,17 @@ pub fn may_enter(
     requires { ⌜ EntersFits (now stack) (now frames) (now slots) (now machine) ⌝ }
     ensures { λ r. ⌜ Entering (now (stack .entry)) (now (frames .entry)) (now (slots .entry)) (now (machine .entry)) fuel dst c src r ⌝ }
 {
-    if machine[1] == 0 {
+    if machine[DEPTH] == 0 {
         return Enters::Not;
     }
     if fuel == 0 {
         return Enters::Not;
     }
-    let base = memory_tables::frame::base_at(frames, (machine[1] - 1) as usize) as u64;
-    if machine[0] <= base {
+    let base = memory_tables::frame::base_at(frames, (machine[DEPTH] - 1) as usize) as u64;
+    if machine[HEIGHT] <= base {
         return Enters::Not;
     }
-    let wide = machine[0] - base;
+    let wide = machine[HEIGHT] - base;
     if wide <= dst {
         return Enters::Not;
     }
@@ -48,24 +49,21 @@ pub fn may_enter(
         return Enters::Not;
     }
     let v = stack[(base + c) as usize];
-    match heap::heap::coro_place(slots, machine[3] as usize, Word(v)) {
+    match heap::heap::coro_place(slots, machine[COUNT] as usize, Word(v)) {
         CoroPlace::Not(_) => Enters::Not,
         CoroPlace::At(i) => {
-            let state = word(slots, i, STATE);
-            if state == 1 {
+            let state = heap::field::state_at(slots, i);
+            if !state.is_resumable() {
                 return Enters::Not;
             }
-            if 3 < state {
-                return Enters::Not;
-            }
-            let deep = word(slots, i, FRAMES);
+            let deep = heap::field::frames_at(slots, i);
             if deep == 0 {
                 return Enters::Not;
             }
-            if machine[13] - machine[1] < deep {
+            if machine[DEPTH_LIMIT] - machine[DEPTH] < deep {
                 return Enters::Not;
             }
-            if machine[14] - machine[0] < word(slots, i, REGS) {
+            if machine[STACK_LIMIT] - machine[HEIGHT] < heap::field::regs_at(slots, i) {
                 return Enters::Not;
             }
             Enters::At(i, v)

@@ -4,6 +4,5 @@ pub mod enter;
 pub mod enters;
 pub mod leave;
 pub mod leaves;
-pub mod record;
 pub mod resume;
 pub mod yielding;

@@ -10,6 +10,7 @@ ghost use Rattle.memory_world.specs.Contract.{atEntry, atExit};
 use crate::enter::enter;
 use crate::enters::Enters;
 use crate::enters::may_enter;
+use linked_calls::numbers::FUEL;
 
 // One unit of fuel, then the entry.
 pub fn resume_at(
@@ -31,7 +32,7 @@ pub fn resume_at(
     requires { ⌜ ResumeAtFits (now stack) (now frames) (now chain) (now slots) (now «saved_stack») (now «saved_frames») (now machine) (now fuel) pc dst c src v i ⌝ }
     ensures { λ _. ⌜ Went (Resume pc dst c src) (six stack frames chain slots «saved_stack» «saved_frames» atEntry) (six stack frames chain slots «saved_stack» «saved_frames» atExit) (now (machine .entry)) (now (fuel .entry)) (now (machine .exit)) (now (fuel .exit)) ⌝ }
 {
-    fuel[0] = fuel[0] - 1;
+    fuel[FUEL] = fuel[FUEL] - 1;
     enter(
         stack,
         frames,
@@ -74,7 +75,7 @@ pub extern "C" fn bvm_try_resume_unchecked(
         frames,
         slots,
         machine,
-        fuel[0],
+        fuel[FUEL],
         dst as u64,
         coro as u64,
         src as u64,

@@ -10,6 +10,7 @@ ghost use Rattle.memory_world.specs.Contract.{atEntry, atExit};
 use crate::leave::leave;
 use crate::leaves::Sleeper;
 use crate::leaves::may_leave;
+use linked_calls::numbers::FUEL;
 
 // One unit of fuel, then the suspension.
 pub fn yield_at(
@@ -25,13 +26,14 @@ pub fn yield_at(
     dst: u64,
     src: u64,
     i: usize,
+    to: u64,
     key: u64,
     largest: u64,
 )
-    requires { ⌜ YieldAtFits (now stack) (now frames) (now chain) (now slots) (now «saved_stack») (now «saved_frames») (now machine) (now fuel) pc dst src i key largest ⌝ }
+    requires { ⌜ YieldAtFits (now stack) (now frames) (now chain) (now slots) (now «saved_stack») (now «saved_frames») (now machine) (now fuel) pc dst src i to key largest ⌝ }
     ensures { λ _. ⌜ Went (Yield pc dst src) (six stack frames chain slots «saved_stack» «saved_frames» atEntry) (six stack frames chain slots «saved_stack» «saved_frames» atExit) (now (machine .entry)) (now (fuel .entry)) (now (machine .exit)) (now (fuel .exit)) ⌝ }
 {
-    fuel[0] = fuel[0] - 1;
+    fuel[FUEL] = fuel[FUEL] - 1;
     leave(
         stack,
         frames,
@@ -44,6 +46,7 @@ pub fn yield_at(
         dst,
         src,
         i,
+        to,
         key,
         largest,
     );
@@ -74,11 +77,11 @@ pub extern "C" fn bvm_try_yield_unchecked(
         chain,
         slots,
         machine,
-        fuel[0],
+        fuel[FUEL],
         dst as u64,
         src as u64,
     ) {
-        Sleeper::At(i, key, largest) => {
+        Sleeper::At(i, to, key, largest) => {
             yield_at(
                 stack,
                 frames,
@@ -92,6 +95,7 @@ pub extern "C" fn bvm_try_yield_unchecked(
                 dst as u64,
                 src as u64,
                 i,
+                to,
                 key,
                 largest,
             );

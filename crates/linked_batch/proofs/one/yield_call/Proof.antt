@@ -47,7 +47,7 @@ may-leave-requires c κs =
 yield-at-requires : tie.Need-yield-at-requires
 yield-at-requires c κs =
     let at-k = c .before .before .before .before .before .before .before .before .before in let at-may-leave = at-k .before .before in let start = start-of at-may-leave in
-    record { held = holds (of start) (start .pre .put .sound) (start .args .pc) (start .pre .narrow); leavable = at-may-leave .may-leave .ensures .at _ _ _ (at-k .k .given .1) }
+    record { held = holds (of start) (start .pre .put .sound) (start .args .pc) (start .pre .narrow); leavable = at-may-leave .may-leave .ensures .at _ _ _ _ (at-k .k .given .1) }
 
 returns : tie.Need-returns
 returns c =
@@ -55,7 +55,7 @@ returns c =
     let at-yield-at = at-goes-on-at .before .before .before .before .before .before .before .before .before .before .before .before .before .before .before .before .before .before in
     let at-k = at-yield-at .before .before .before .before .before .before .before .before .before .before in let at-may-leave = at-k .before .before in
     let start = start-of at-may-leave in let a = start .args in
-    let sure = start .pre .put .sound in let may = at-may-leave .may-leave .ensures .at _ _ _ (at-k .k .given .1) in
+    let sure = start .pre .put .sound in let may = at-may-leave .may-leave .ensures .at _ _ _ _ (at-k .k .given .1) in
     let k = at-yield-at .yield-at .kept in let s = at-yield-at .yield-at .last in let w = start .fits in
     let short = low (of start) sure in let op = Op.Yield (a .pc) (a .dst) (a .src) in
     switch-one (of start) sure op (yield-typed (a .pc) (a .dst) (a .src) (start .pre .narrow) (omega (arith, short, may .dst-in)) (omega (arith, short, may .src-in)))

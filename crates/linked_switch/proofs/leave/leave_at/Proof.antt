@@ -19,7 +19,7 @@ mem c = let a = c .args in lent (a .stack .now) (a .frames .now) (a .chain .now)
 move-out-requires : tie.Need-move-out-requires
 move-out-requires c κs =
     let start = (c .before .before .before .before .before .before .before .before .before .before .before .before .before) in
-    record { words = start .pre .words; fits = leave-fits (start .pre) _ (c .before .before .before .before .word .ensures) }
+    record { words = start .pre .words; fits = leave-fits (start .pre) _ (c .before .before .before .before .row-at .ensures) }
 
 sub-regs : tie.Need-sub-regs
 sub-regs c = let u = under (start-of (c .before .before .before .before .before .before .before .before .before .before .before .before .before .before) .pre) in omega (arith, u)
@@ -32,17 +32,17 @@ sub-deep c =
 returns : tie.Need-returns
 returns c =
     let at-move-out = (c .before .before .before .before .before .before .before .before .before .before .before .before .before .before .before .before .before .before .before) in
-    let at-word = at-move-out .before .before .before .before .before in let start = start-of at-move-out in let a = start .args in let ms = a .machine .now in
-    let s = at-move-out .move-out .last in let at-pop-active = (c .before .before .before .before .before .before .before .before) in let at-put-nap = (c .before .before) in
+    let at-row-at = at-move-out .before .before .before .before .before in let start = start-of at-move-out in let a = start .args in let ms = a .machine .now in
+    let s = at-move-out .move-out .last in let at-pop-active = (c .before .before .before .before .before .before .before .before) in let at-put-yielded = (c .before .before) in
     λ w b rep snd. left (sizesIn ms) (mem start b) (machineIn ms) (b .fuel) w rep snd (a .i) (start .pre .may) (a .dst) (a .payload) (a .key) (a .largest)
-    (s .0) (s .1 .0) (at-pop-active .pop-active .last .0) (at-put-nap .put-nap .last .0) (s .1 .1 .0) (s .1 .1 .1 .0) (at-word .word .result) (a .floor) (a .base) _ _
-    (at-word .word .ensures) (start .pre .at-floor) (start .pre .at-base) refl refl (at-move-out .move-out .ensures) (at-pop-active .pop-active .ensures) (at-put-nap .put-nap .ensures)
+    (s .0) (s .1 .0) (at-pop-active .pop-active .last .0) (at-put-yielded .put-yielded .last .0) (s .1 .1 .0) (s .1 .1 .1 .0) (at-row-at .row-at .result) (a .floor) (a .base) _ _
+    (at-row-at .row-at .ensures) (start .pre .at-floor) (start .pre .at-base) refl refl (at-move-out .move-out .ensures) (at-pop-active .pop-active .ensures) (at-put-yielded .put-yielded .ensures)
 
 pub leave-at-spec : {M : Type 1} → statement M
 leave-at-spec =
     tie.close
     (tie.spec
-    (λ c κs. (slot-at (c .before .before .before .before .before .before .before .before .pre), omega arith))
+    (λ c κs. slot-at (c .before .before .before .before .before .before .before .before .pre))
     move-out-requires
     (λ c. search needs)
     (λ c κs. search needs)

@@ -40,7 +40,7 @@ yield-at-requires : tie.Need-yield-at-requires
 yield-at-requires c κs =
     let at-i = c .before .before .before .before .before .before .before .before .before in let at-may-leave = at-i .before .before in
     let start = start-of at-may-leave in
-    record { held = holds (of start) (start .pre .sound) (start .args .pc) (start .fits .pc .fits); leavable = at-may-leave .may-leave .ensures .at _ _ _ (at-i .i .given .1) }
+    record { held = holds (of start) (start .pre .sound) (start .args .pc) (start .fits .pc .fits); leavable = at-may-leave .may-leave .ensures .at _ _ _ _ (at-i .i .given .1) }
 
 returns : tie.Need-returns
 returns c =

@@ -1,10 +1,9 @@
--- `write_nap` meets its contract: seven words are written. Assumes nothing.
-use mathlib.Core.Path.{refl}
+-- `write_yielded` meets its contract: seven words are written. Assumes nothing.
 use native.Mathlib.Omega.{arith}
 use lib.ListN.{length-set}
 use borrow.Author.Needs.{needs}
-use Rattle.linked_switch.proofs.leave.write_nap.Statement.{statement}
-use Rattle.linked_switch.proofs.leave.write_nap.Tie as tie
+use Rattle.heap.proofs.slot.write_yielded.Statement.{statement}
+use Rattle.heap.proofs.slot.write_yielded.Tie as tie
 
 slice-write-s-2 : tie.Need-slice-write-s-2
 slice-write-s-2 c = simp length-set (omega arith)
@@ -28,12 +27,13 @@ same-length : tie.Need-same-length
 same-length c = simp length-set
 
 returns : tie.Need-returns
-returns c = refl
+returns c = rw (c .code .ensures)
 
-pub write-nap-spec : {M : Type 1} → statement M
-write-nap-spec =
+pub write-yielded-spec : {M : Type 1} → statement M
+write-yielded-spec =
     tie.close
     (tie.spec
+    (λ c κs. search needs)
     (λ c. search needs)
     slice-write-s-2
     slice-write-s-3
