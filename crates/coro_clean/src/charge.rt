@@ -18,7 +18,7 @@ use model::machine::Charge;
 use model::machine::Fuel;
 
 // What a charge without a pc leaves of the fuel, and answers.
-pub struct Charged {
+pub struct PlainChargeDid {
     pub fuel: Fuel,
     pub answer: Charge,
 }
@@ -41,25 +41,25 @@ pub(crate) fn spend(f: Fuel) -> Fuel
 }
 
 // A unit is paid, after so many words were taken off the cleanup queue.
-pub(crate) fn charge_done(f: Fuel, taken: u64) -> Charged
+pub(crate) fn charge_done(f: Fuel, taken: u64) -> PlainChargeDid
     requires { ⌜ 1 ≤ f .fuel ⌝ }
     ensures { λ r. ⌜ ((m : Machine) → every (λ sizes. Met any sizes (chargeDone taken) none (with m f) (with m (r .fuel)) (r .answer))) ⌝ }
 {
     let g = spend(f);
     let fuel = arm_close(g);
-    Charged {
+    PlainChargeDid {
         fuel,
         answer: Charge::Done(taken),
     }
 }
 
 // coro.rs: charge_slow, without a pc.
-fn slow_plain(fuel: Fuel) -> Charged
+fn slow_plain(fuel: Fuel) -> PlainChargeDid
     ensures { λ r. ⌜ ((m : Machine) → every (λ sizes. Met any sizes (chargeSlow None) none (with m fuel) (with m (r .fuel)) (r .answer))) ⌝ }
 {
     let f = unbank(fuel);
     if f.fuel == 0 {
-        return Charged {
+        return PlainChargeDid {
             fuel: f,
             answer: Charge::Spent,
         };
@@ -68,12 +68,12 @@ fn slow_plain(fuel: Fuel) -> Charged
 }
 
 // exec.rs: charge, without a pc: no cleanup starts.
-pub fn charge_plain(fuel: Fuel) -> Charged
+pub fn charge_plain(fuel: Fuel) -> PlainChargeDid
     ensures { λ r. ⌜ ((m : Machine) → every (λ sizes. Met any sizes (charge None) none (with m fuel) (with m (r .fuel)) (r .answer))) ⌝ }
 {
     if fuel.fuel != 0 {
         let f = spend(fuel);
-        return Charged {
+        return PlainChargeDid {
             fuel: f,
             answer: Charge::Done(0),
         };

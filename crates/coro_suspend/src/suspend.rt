@@ -86,7 +86,7 @@ fn signal_after(ignored: bool, signal: u64) -> u64
 }
 
 // A coroutine that sleeps, with so many registers and frames saved.
-pub fn asleep(
+pub(crate) fn asleep(
     s: CoroState,
     regs: u64,
     frames: u64,

@@ -9,21 +9,21 @@ use Rattle.memory_calls.specs.Answer.{answerWords}
 use Rattle.memory_calls.specs.declared.call.Read.{Read}
 use Rattle.outer_run.specs.Run.{doWords, countOf, Listed}
 use Rattle.linked_calls.specs.Host.{Host, stateOf, passesTest, overwritten}
-use Rattle.linked_batch.specs.declared.one.Way.{Way}
+use Rattle.linked_batch.specs.declared.one.Route.{Route}
 
 pub record PutFits (h : Host) (xs : List ℕ) (i : ℕ) : Type 0 where
   pub sound : passesTest h ≡ true
   pub room : i * 8 + 8 ≤ length xs
 
 -- a switch, with a pc of 32 bits
-pub record SwitchFits (h : Host) (xs : List ℕ) (i pc : ℕ) : Type 0 where
+pub record SwitchPutFits (h : Host) (xs : List ℕ) (i pc : ℕ) : Type 0 where
   pub put : PutFits h xs i
   pub narrow : pc < 2 ^ 32
 
 -- a switch goes by its code; its pc has 32 bits, and 0 stands after its operands
-pub record Goes (n a d e : ℕ) (r : Way) : Type 0 where
-  pub resume : r ≡ Way.Resume → (n ≡ 6) × (a < 2 ^ 32) × (e ≡ 0)
-  pub yield : r ≡ Way.Yield → (n ≡ 3) × (a < 2 ^ 32) × (d ≡ 0) × (e ≡ 0)
+pub record Goes (n a d e : ℕ) (r : Route) : Type 0 where
+  pub resume : r ≡ Route.Resume → (n ≡ 6) × (a < 2 ^ 32) × (e ≡ 0)
+  pub yield : r ≡ Route.Yield → (n ≡ 3) × (a < 2 ^ 32) × (d ≡ 0) × (e ≡ 0)
 
 -- the call at place i, whose words may be fewer than six
 pub record OneFits (h : Host) (cs xs : List ℕ) (i : ℕ) : Type 0 where

@@ -10,7 +10,7 @@ ghost use Rattle.outer_call.specs.State.{nine};
 ghost use Rattle.outer_run.specs.Run.{readIn};
 ghost use Rattle.linked_calls.specs.Host.{host};
 ghost use Rattle.linked_switch.specs.Went.{goesOn};
-ghost use Rattle.linked_batch.specs.Batch.{PutFits, SwitchFits, Goes, OneFits, One};
+ghost use Rattle.linked_batch.specs.Batch.{PutFits, SwitchPutFits, Goes, OneFits, One};
 use heap::fault::Fault;
 use linked_calls::call::bvm_call_unchecked;
 use linked_calls::numbers::FUEL;
@@ -122,7 +122,7 @@ fn resume_call(
     c: u64,
     src: u64,
 )
-    requires { ⌜ SwitchFits (host (nine stack frames chain slots «saved_stack» «saved_frames» ready finalize setup now) (now machine) (now fuel)) (now answers) i pc ⌝ }
+    requires { ⌜ SwitchPutFits (host (nine stack frames chain slots «saved_stack» «saved_frames» ready finalize setup now) (now machine) (now fuel)) (now answers) i pc ⌝ }
     ensures { λ _. ⌜ One (host (nine stack frames chain slots «saved_stack» «saved_frames» ready finalize setup atEntry) (atEntry machine) (atEntry fuel))
         (opOf (six 6 pc dst c src 0)) (now (answers .entry)) i
         (host (nine stack frames chain slots «saved_stack» «saved_frames» ready finalize setup atExit) (atExit machine) (atExit fuel)) (now (answers .exit)) ⌝ }
@@ -190,7 +190,7 @@ fn yield_call(
     dst: u64,
     src: u64,
 )
-    requires { ⌜ SwitchFits (host (nine stack frames chain slots «saved_stack» «saved_frames» ready finalize setup now) (now machine) (now fuel)) (now answers) i pc ⌝ }
+    requires { ⌜ SwitchPutFits (host (nine stack frames chain slots «saved_stack» «saved_frames» ready finalize setup now) (now machine) (now fuel)) (now answers) i pc ⌝ }
     ensures { λ _. ⌜ One (host (nine stack frames chain slots «saved_stack» «saved_frames» ready finalize setup atEntry) (atEntry machine) (atEntry fuel))
         (opOf (six 3 pc dst src 0 0)) (now (answers .entry)) i
         (host (nine stack frames chain slots «saved_stack» «saved_frames» ready finalize setup atExit) (atExit machine) (atExit fuel)) (now (answers .exit)) ⌝ }
@@ -240,33 +240,33 @@ fn yield_call(
     }
 }
 
-// Which way a call goes.
-enum Way {
+// Which route a call takes.
+enum Route {
     Resume,
     Yield,
     General,
 }
 
 // A pc of 32 bits, and 0 after the operands: what a switch does not test. A register outside the top frame goes the general way.
-fn way_of(n: u64, a: u64, d: u64, e: u64) -> Way
+fn route_of(n: u64, a: u64, d: u64, e: u64) -> Route
     ensures { λ r. ⌜ Goes n a d e r ⌝ }
 {
     if MOST32 < a {
-        return Way::General;
+        return Route::General;
     }
     if e != 0 {
-        return Way::General;
+        return Route::General;
     }
     if n == RESUME {
-        return Way::Resume;
+        return Route::Resume;
     }
     if n != YIELD {
-        return Way::General;
+        return Route::General;
     }
     if d != 0 {
-        return Way::General;
+        return Route::General;
     }
-    Way::Yield
+    Route::Yield
 }
 
 // The call at place i. A last part of fewer than six words is none.
@@ -301,8 +301,8 @@ pub(crate) fn one(
     let c = word(calls, i, 3);
     let d = word(calls, i, 4);
     let e = word(calls, i, 5);
-    match way_of(n, a, d, e) {
-        Way::Resume => resume_call(
+    match route_of(n, a, d, e) {
+        Route::Resume => resume_call(
             stack,
             frames,
             chain,
@@ -321,7 +321,7 @@ pub(crate) fn one(
             c,
             d,
         ),
-        Way::Yield => yield_call(
+        Route::Yield => yield_call(
             stack,
             frames,
             chain,
@@ -339,7 +339,7 @@ pub(crate) fn one(
             b,
             c,
         ),
-        Way::General => general_at(
+        Route::General => general_at(
             stack,
             frames,
             chain,

@@ -24,7 +24,7 @@ use model::machine::Cont;
 use model::machine::Fuel;
 
 // What the end of a call leaves of the numbers, and answers.
-pub struct CallDid {
+pub struct FinishDid {
     pub machine: Machine,
     pub answer: Answer,
 }
@@ -51,7 +51,7 @@ fn end_call(
     cont: Cont,
     kind: ResultKind,
     v: u64,
-) -> CallDid
+) -> FinishDid
     requires { ⌜ EndFits sizes (topTable stack frames slots now) m cont ⌝ }
     ensures { λ r. ⌜ Met any sizes (finish kind v) (topTable stack frames slots) (only m) (only (r .machine)) (r .answer) ⌝ }
 {
@@ -60,7 +60,7 @@ fn end_call(
     let k = did.machine;
     let fault = did.answer;
     let answer = resume_in(frames, k, fault);
-    CallDid { machine: k, answer }
+    FinishDid { machine: k, answer }
 }
 
 // machine.rs: finish_coro. A body ends, and its result goes to whoever drove it; one that does not convert leaves the frame.

@@ -26,8 +26,8 @@ of c = host (mem c) (c .args .machine .now) (c .args .fuel .now)
 abbrev start-of : tie.Else1 → tie.Start
 start-of c = c .before .before .before .before .before .before .before .before .before .before .before .before .before .before
 
-abbrev from-way : tie.After-way-of → tie.Start
-from-way c = start-of (c .before .before .before .before .before .before .before)
+abbrev from-route : tie.After-route-of → tie.Start
+from-route c = start-of (c .before .before .before .before .before .before .before)
 
 abbrev resume-of : tie.After-slice-known23 → tie.After-resume-call
 resume-of c = c .before .before .before .before .before .before .before .before .before .before .before .before .before .before .before .before .before .before .before .before .before .before
@@ -60,25 +60,25 @@ returns c =
 
 resume-call-requires : tie.Need-resume-call-requires
 resume-call-requires c κs =
-    let at-enum-told = c .before .before .before .before .before .before .before .before .before .before .before in let at-way-of = at-enum-told .before .before in
-    record { put = from-way at-way-of .pre .put; narrow = at-way-of .way-of .ensures .resume (at-enum-told .enum-told .given .1) .1 }
+    let at-enum-told = c .before .before .before .before .before .before .before .before .before .before .before in let at-route-of = at-enum-told .before .before in
+    record { put = from-route at-route-of .pre .put; narrow = at-route-of .route-of .ensures .resume (at-enum-told .enum-told .given .1) .1 }
 
 yield-call-requires : tie.Need-yield-call-requires
 yield-call-requires c κs =
-    let at-enum-told2 = c .before .before .before .before .before .before .before .before .before .before .before in let at-way-of = at-enum-told2 .before .before in
-    record { put = from-way at-way-of .pre .put; narrow = at-way-of .way-of .ensures .yield (at-enum-told2 .enum-told2 .given .1) .1 }
+    let at-enum-told2 = c .before .before .before .before .before .before .before .before .before .before .before in let at-route-of = at-enum-told2 .before .before in
+    record { put = from-route at-route-of .pre .put; narrow = at-route-of .route-of .ensures .yield (at-enum-told2 .enum-told2 .given .1) .1 }
 
 returns-2 : tie.Need-returns-2
 returns-2 c =
-    let at-enum-told = resume-of c .before .before .before .before .before .before .before .before .before .before .before .before in let at-way-of = at-enum-told .before .before in
-    let is = at-way-of .way-of .ensures .resume (at-enum-told .enum-told .given .1) in
-    of-read (read-as (at-way-of .before) (is .0) refl (is .2)) (resume-of c .resume-call .ensures)
+    let at-enum-told = resume-of c .before .before .before .before .before .before .before .before .before .before .before .before in let at-route-of = at-enum-told .before .before in
+    let is = at-route-of .route-of .ensures .resume (at-enum-told .enum-told .given .1) in
+    of-read (read-as (at-route-of .before) (is .0) refl (is .2)) (resume-of c .resume-call .ensures)
 
 returns-3 : tie.Need-returns-3
 returns-3 c =
-    let at-enum-told2 = yield-of c .before .before .before .before .before .before .before .before .before .before .before .before in let at-way-of = at-enum-told2 .before .before in
-    let is = at-way-of .way-of .ensures .yield (at-enum-told2 .enum-told2 .given .1) in
-    of-read (read-as (at-way-of .before) (is .0) (is .2) (is .3)) (yield-of c .yield-call .ensures)
+    let at-enum-told2 = yield-of c .before .before .before .before .before .before .before .before .before .before .before .before in let at-route-of = at-enum-told2 .before .before in
+    let is = at-route-of .route-of .ensures .yield (at-enum-told2 .enum-told2 .given .1) in
+    of-read (read-as (at-route-of .before) (is .0) (is .2) (is .3)) (yield-of c .yield-call .ensures)
 
 returns-4 : tie.Need-returns-4
 returns-4 c =
@@ -102,7 +102,7 @@ one-spec =
     (λ c. search needs)
     yield-call-requires
     (λ c. search needs)
-    (λ c κs. from-way (c .before .before .before .before .before .before .before .before .before .before .before .before .before) .pre .put)
+    (λ c κs. from-route (c .before .before .before .before .before .before .before .before .before .before .before .before .before) .pre .put)
     (λ c. resume-of c .resume-call .kept .0) (λ c. resume-of c .resume-call .kept .1 .0) (λ c. resume-of c .resume-call .kept .1 .1 .0) (λ c. resume-of c .resume-call .kept .1 .1 .1 .0)
     (λ c. resume-of c .resume-call .kept .1 .1 .1 .1 .0) (λ c. resume-of c .resume-call .kept .1 .1 .1 .1 .1 .0) (λ c. resume-of c .resume-call .kept .1 .1 .1 .1 .1 .1 .0)
     (λ c. resume-of c .resume-call .kept .1 .1 .1 .1 .1 .1 .1 .0) (λ c. resume-of c .resume-call .kept .1 .1 .1 .1 .1 .1 .1 .1 .1 .0)

@@ -1,20 +1,20 @@
--- `way_of` meets its contract: a switch only where every test was passed. Assumes nothing.
+-- `route_of` meets its contract: a switch only where every test was passed. Assumes nothing.
 use mathlib.Core.Path.{_≡_}
 use Prim.Native.Nat.{ℕ, _^_, _<_}
 use native.Mathlib.Omega.{arith}
 use Rattle.lists.proofs.Tests.{never}
 use Rattle.linked_batch.specs.Batch.{Goes}
-use Rattle.linked_batch.specs.declared.one.Way.{Way}
-use Rattle.linked_batch.proofs.one.way_of.Statement.{statement}
-use Rattle.linked_batch.proofs.one.way_of.Tie as tie
+use Rattle.linked_batch.specs.declared.one.Route.{Route}
+use Rattle.linked_batch.proofs.one.route_of.Statement.{statement}
+use Rattle.linked_batch.proofs.one.route_of.Tie as tie
 
-general : (n a d e : ℕ) → Goes n a d e Way.General
+general : (n a d e : ℕ) → Goes n a d e Route.General
 general n a d e = record { resume = λ z. never cc; yield = λ z. never cc }
 
-resumes : (n a d e : ℕ) → n ≡ 6 → a < 2 ^ 32 → e ≡ 0 → Goes n a d e Way.Resume
+resumes : (n a d e : ℕ) → n ≡ 6 → a < 2 ^ 32 → e ≡ 0 → Goes n a d e Route.Resume
 resumes n a d e p q r = record { resume = λ z. (p, q, r); yield = λ z. never cc }
 
-yields : (n a d e : ℕ) → n ≡ 3 → a < 2 ^ 32 → d ≡ 0 → e ≡ 0 → Goes n a d e Way.Yield
+yields : (n a d e : ℕ) → n ≡ 3 → a < 2 ^ 32 → d ≡ 0 → e ≡ 0 → Goes n a d e Route.Yield
 yields n a d e p q r s = record { resume = λ z. never cc; yield = λ z. (p, q, r, s) }
 
 returns : tie.Need-returns
@@ -41,5 +41,5 @@ returns-6 c =
     let h = at-a .if1 .left in
     yields _ _ _ _ (let k = at-n .if4 .left in omega (arith, k)) (omega (arith, h)) (let k = at-d .if5 .left in omega (arith, k)) (let k = at-e .if2 .left in omega (arith, k))
 
-pub way-of-spec : {M : Type 1} → statement M
-way-of-spec = tie.close (tie.spec returns returns-2 returns-3 returns-4 returns-5 returns-6)
+pub route-of-spec : {M : Type 1} → statement M
+route-of-spec = tie.close (tie.spec returns returns-2 returns-3 returns-4 returns-5 returns-6)
