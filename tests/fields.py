@@ -122,9 +122,12 @@ def of_engines():
 
 # Records that are of no engine: of the fault sheet, of lent words, of linked calls.
 RECORDS = {
-    "claims_sheet": ["FaultSheet", "Sentences", "Answers", "Queue", "SetUps", "Mistakes", "Keeps"],
+    "claims_sheet": [
+        "FaultSheet", "Sentences", "Answers", "Queue", "SetUps", "Fresh", "Mistakes", "Paid", "Runs", "Keeps",
+        "Send", "Throw", "Close", "Next", "Yields", "Yielding", "Comes", "Ending", "Handlers", "Closing", "Deletion", "Later", "Escaped", "Missed",
+    ],
     "claims_memory": ["Claim", "AnyFuel", "Stacked", "Woken", "Back"],
-    "claims_linked": ["Library", "Passes", "Begins", "NoRoom", "Untested", "Beyond", "Linked", "Batch"],
+    "claims_linked": ["Library", "Passes", "HasRoom", "Begins", "NoRoom", "Untested", "Beyond", "Linked", "Between", "BatchCalls", "Batch"],
 }
 
 

@@ -6,3 +6,4 @@ pub mod Look
 pub mod Passing
 pub mod Library
 pub mod Linked
+pub mod Refutes

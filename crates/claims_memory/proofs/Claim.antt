@@ -10,7 +10,7 @@ use Rattle.model.specs.declared.call.Op.{Op}
 use Rattle.claims_sound.proofs.Tests.{and-left, and-right, no-true}
 use Rattle.claims_model.specs.Engine.{Turn, turnCall, turnFuel, runTurns}
 use Rattle.claims_model.specs.Events.{Healthy}
-use Rattle.claims_model.specs.Promise.{Promise}
+use Rattle.claims_model.specs.Promise.{fuelSound, Promise}
 use Rattle.claims_model.specs.Steps.{steps}
 use Rattle.claims_model.proofs.Operands.{as-typed}
 use Rattle.claims_model.proofs.Exact as Exact
@@ -19,7 +19,6 @@ use Rattle.memory_step.specs.Step.{MemoryState, Left, isSound, decoded, setUpOk
 use Rattle.memory_step.specs.Sentences.{answerNumber, NoSuchFault}
 use Rattle.memory_step.proofs.Kept.{words-kept, refused-set-up}
 use Rattle.memory_step.proofs.Sentences.{sentences}
-use Rattle.claims_memory.specs.Fuel.{fuelSound}
 use Rattle.claims_memory.specs.Engine.{memoryEngine}
 use Rattle.claims_memory.specs.Claim.{OwnFault, bad-set-up, no-fault, fuelsSound, Claim}
 use Rattle.claims_memory.proofs.Fuel.{any-fuel}

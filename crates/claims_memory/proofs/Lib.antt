@@ -6,3 +6,4 @@ pub mod Stack
 pub mod Back
 pub mod Claim
 pub mod Fuel
+pub mod Refutes

@@ -14,10 +14,9 @@ use Rattle.claims_model.specs.Held.{at, waitsIn, Held, By}
 use Rattle.claims_model.specs.Delivery.{eventGiven, stackFrames, deliveredTo}
 use Rattle.claims_model.specs.Demand3.{Enters, Suspends, Stops, Waits, Goes}
 use Rattle.claims_model.specs.Events.{Healthy}
-use Rattle.claims_model.specs.Promise.{Promise}
+use Rattle.claims_model.specs.Promise.{fuelSound, Promise}
 use Rattle.memory_step.specs.Step.{MemoryState, isSound, setUpOk, MemoryCall, SetUp, Do, memoryStep}
 use Rattle.memory_step.specs.Sentences.{answerNumber, NoSuchFault}
-use Rattle.claims_memory.specs.Fuel.{fuelSound}
 use Rattle.claims_memory.specs.Engine.{memoryOp, memoryEngine}
 
 -- ---- an entry, and what follows, in words of the stack slice

@@ -1,15 +1,10 @@
 -- The fuel record is the host's (01), and Sound speaks of it by itself ("fuel 0 while banked"): a sound machine is sound with any record
 -- that is so, be it another machine's.
 use mathlib.Core.Path.{_≡_}
-use mathlib.Core.Bool.{Bool, true, _||_}
-use lib.Dec.{eqb}
-use Rattle.model.specs.Sound.{isNone}
+use mathlib.Core.Bool.{true}
 use Rattle.model.specs.declared.machine.Fuel.{Fuel}
+use Rattle.claims_model.specs.Promise.{fuelSound}
 use Rattle.memory_step.specs.Step.{MemoryState, isSound}
-
--- 01: "fuel 0 while banked"
-abbrev pub fuelSound : Fuel → Bool
-fuelSound f = isNone (f .bank) || eqb (f .fuel) 0
 
 abbrev pub fuelled : MemoryState → Fuel → MemoryState
 fuelled s f = record { words = s .words; machine = s .machine; fuel = f }

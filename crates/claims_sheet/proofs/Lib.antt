@@ -37,3 +37,5 @@ pub mod Queue
 pub mod Cheats
 pub mod Attained
 pub mod Premises
+pub mod Refutes
+pub mod RefutesPep342
