@@ -1,5 +1,6 @@
 // A furnace line whose scripts sleep and are woken: what each held, and what came back.
 mod body;
+mod call;
 mod note;
 mod show;
 mod story;
@@ -91,7 +92,7 @@ fn turn(
         ≡ watch (watched (state (nine stack frames chain slots «saved_stack» «saved_frames» ready finalize setup atEntry) m fuel) (atEntry notes) count) op ⌝ }
 {
     let was = note::before(stack, frames, chain, m, op, notes);
-    let called = outer_call::call::call(
+    let called = call::call(
         stack,
         frames,
         chain,
@@ -112,6 +113,12 @@ fn turn(
         stack,
         frames,
         chain,
+        slots,
+        saved_stack,
+        saved_frames,
+        ready,
+        finalize,
+        setup,
         next,
         left,
         op,

@@ -2,6 +2,7 @@
 use crate::watch::Sent;
 use crate::watch::base;
 use crate::watch::field;
+use crate::watch::last;
 use crate::watch::owner;
 use heap::value::Class;
 use heap::value::Opt;
@@ -164,12 +165,14 @@ fn place(start: usize, own: usize, mark: usize) -> usize {
     mark - (start - own)
 }
 
-// One frame: the part of the stack that is its own, its function, the coroutine that it belongs to, its words.
+// One frame: the part of the stack that is its own, its function, the coroutine that it belongs to, its words. Those of the top frame are
+// what a look handed back.
 fn frame(
     stack: &[u64],
     frames: &[u64],
     chain: &[u64],
-    active: usize,
+    top: &[u64],
+    m: Machine,
     i: usize,
     end: usize,
     own: usize,
@@ -186,9 +189,13 @@ fn frame(
     function(field(frames, i, 0));
     right(field(frames, i, 1));
     say(b" | ");
-    name(owner(chain, active, i));
+    name(owner(chain, m.active, i));
     say(b" |");
-    registers(stack, start, end, own, mark);
+    if i == last(m.depth) {
+        words(top, place(start, own, mark));
+    } else {
+        registers(stack, start, end, own, mark);
+    }
     say(b"\n");
 }
 
@@ -223,11 +230,12 @@ pub(crate) fn bodies(frames: &[u64], floor: usize, depth: usize) {
     }
 }
 
-// The stack as it stands, the top frame first; the word at `mark` above `own` in brackets.
+// The stack as it stands, the top frame first, with its registers `top`; the word at `mark` above `own` in brackets.
 pub(crate) fn stack(
     stack: &[u64],
     frames: &[u64],
     chain: &[u64],
+    top: &[u64],
     m: Machine,
     own: usize,
     mark: usize,
@@ -236,7 +244,7 @@ pub(crate) fn stack(
     let mut end = m.height;
     while i > 0 {
         i -= 1;
-        frame(stack, frames, chain, m.active, i, end, own, mark);
+        frame(stack, frames, chain, top, m, i, end, own, mark);
         end = base(frames, i);
     }
 }

@@ -28,11 +28,12 @@ use model::call::Answer;
 use model::call::Op;
 use model::machine::Fuel;
 
-// A sleeper was woken: the stack as it stands, what it held and what came back. Its note of n words begins at `at`.
+// A sleeper was woken: the stack as it stands, with the registers `top` of the top frame, what it held and what came back. Its note of n words begins at `at`.
 fn woken(
     stack: &[u64],
     frames: &[u64],
     chain: &[u64],
+    top: &[u64],
     m: Machine,
     sent: Sent,
     notes: &[u64],
@@ -60,7 +61,7 @@ fn woken(
     show::say(b")");
     show::sent(sent);
     let mark = marked(sent.is, place);
-    show::stack(stack, frames, chain, m, own, mark);
+    show::stack(stack, frames, chain, top, m, own, mark);
     show::say(b"     held     ");
     show::words(held, held.len());
     show::noted(notes, at + 16);
@@ -94,6 +95,7 @@ fn entered(
     stack: &[u64],
     frames: &[u64],
     chain: &[u64],
+    top: &[u64],
     m: Machine,
     sent: Sent,
     notes: &[u64],
@@ -110,7 +112,7 @@ fn entered(
         show::say(b" starts\n");
         return count;
     }
-    woken(stack, frames, chain, m, sent, notes, at, n, count)
+    woken(stack, frames, chain, top, m, sent, notes, at, n, count)
 }
 
 // A coroutine sleeps: what it holds, from its note.
@@ -238,6 +240,12 @@ pub(crate) fn after(
     stack: &[u64],
     frames: &[u64],
     chain: &[u64],
+    slots: &[u64],
+    saved_stack: &[u64],
+    saved_frames: &[u64],
+    ready: &[u64],
+    finalize: &[u64],
+    setup: &[u64],
     m: Machine,
     fuel: Fuel,
     op: Op,
@@ -253,7 +261,20 @@ pub(crate) fn after(
     replied(frames, m, fuel, op, told, was.coro);
     if was.active < m.active {
         let sent = arrives(told.0, was.sent);
-        return entered(stack, frames, chain, m, sent, notes, count);
+        let top = outer_call::look::look(
+            stack,
+            frames,
+            chain,
+            slots,
+            saved_stack,
+            saved_frames,
+            ready,
+            finalize,
+            setup,
+            m,
+            fuel,
+        );
+        return entered(stack, frames, chain, top, m, sent, notes, count);
     }
     if m.active < was.active {
         left(was.coro, op, notes);

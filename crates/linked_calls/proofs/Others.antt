@@ -33,11 +33,10 @@ use Rattle.memory_calls.specs.declared.call.Read.{Read}
 use Rattle.memory_step.specs.Step.{MemoryState, Left, refuses, isSound, decoded, looked, stepWords, setUpOk, setUpWords}
 use Rattle.outer_call.specs.State.{state, gives}
 use Rattle.outer_call.specs.SetUp.{begins}
-use Rattle.outer_call.specs.Grant.{grantWords}
 use Rattle.outer_call.proofs.Stepping.{stands}
 use Rattle.outer_call.proofs.Seen.{within, whole, as-many}
-use Rattle.outer_call.proofs.Granted as Law
 use Rattle.outer_call.proofs.Begun.{given-fits, is-held, accepts, refuses-it}
+use Rattle.outer_grant.proofs.Stepping as Law
 use Rattle.outer_run.specs.Run.{runWords, countOf, callsIn, written, refusals, Listed}
 use Rattle.outer_run.proofs.Written.{few}
 use Rattle.linked_calls.specs.Words.{machineIn, machineWords, sizesWords, fuelIn, fuelWords}
@@ -70,12 +69,12 @@ module _ (h : Host) (n : ℕ) (xs : List ℕ) where
     grant-done e m f d a b met fs′ xs′ r p₁ p₂ p₃ =
         let g = keptIn h read xs in
         let s = sound h (sym known ∙ e) in
-        let q : d ≡ grantWords (state (h .words) m f) n = Law.granted (h .words) m f n ((λ i. isSound (state (h .words) (a i) (b i))) ∙ s) d met in
-        let w : d ≡ grantWords (stateOf h) n = q ∙ (λ i. grantWords (state (h .words) (a i) (b i)) n) in
+        let q = Law.granted (h .words) m f n ((λ i. isSound (state (h .words) (a i) (b i))) ∙ s) (d .fuel) (d .answer) met in
+        let w = q ∙ (λ i. stepWords (state (h .words) (a i) (b i)) (Op.Grant n)) in
         granted-by h n xs g (called h read xs g room ok known (done h read xs g ok e refl)) fs′ xs′ r
-        (p₁ ∙ ap (λ (x : GrantDid). splice (h .fuel) 0 (fuelWords (x .fuel))) w)
-        (p₂ ∙ ap (λ (x : GrantDid). splice xs 0 (answerWords (x .answer))) w)
-        (p₃ ∙ ap (λ (x : GrantDid). numberOf (x .answer)) w)
+        (p₁ ∙ ap (λ (x : Left). splice (h .fuel) 0 (fuelWords (x .state .fuel))) w)
+        (p₂ ∙ ap (λ (x : Left). splice xs 0 (answerWords (x .answer))) w)
+        (p₃ ∙ ap (λ (x : Left). numberOf (x .answer)) w)
 
 -- ---- a look
 

@@ -37,7 +37,7 @@ fn do_grant(
     }
     let m = machine_of(machine);
     let f = fuel_of(fuel);
-    let did = machine_added::fuel::grant(m, f, amount);
+    let did = outer_grant::granted(f, m, amount);
     let left = did.fuel;
     let a = did.answer;
     put_fuel(fuel, left);

@@ -1,4 +1,3 @@
 pub mod Stepping
 pub mod Begun
 pub mod Seen
-pub mod Granted

@@ -1,4 +1,3 @@
 pub mod State
 pub mod SetUp
 pub mod Look
-pub mod Grant

@@ -1,5 +1,4 @@
 // The outer calls: every call of 01 on lent words, whatever they hold.
 pub mod call;
-pub mod grant;
 pub mod look;
 pub mod set_up;

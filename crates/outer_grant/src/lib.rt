@@ -1,45 +1,28 @@
-// 01: "The fuel record stays with the host, and a grant rewrites it there": the fuel is lent, and the call is the one by value.
-ghost use mathlib.Core.Path.{_≡_};
-ghost use Rattle.memory_world.specs.Contract.{atEntry};
-ghost use Rattle.outer_call.specs.State.{nine, state};
-ghost use Rattle.outer_call.specs.Grant.{grantWords};
+// 01: "The fuel record stays with the host, and a grant rewrites it there".
+pub mod call;
+
+ghost use Rattle.model.specs.Added.{grant};
+ghost use Rattle.memory_world.specs.Lendings.{none};
+ghost use Rattle.memory_world.specs.Contract.{Met, any, every, with};
+use machine_added::fuel::GrantDid;
 use memory_world::machine::Machine;
 use model::call::Answer;
 use model::machine::Fuel;
 
-pub fn grant(
-    fuel: &mut Fuel,
-    stack: &[u64],
-    frames: &[u64],
-    chain: &[u64],
-    slots: &[u64],
-    saved_stack: &[u64],
-    saved_frames: &[u64],
-    ready: &[u64],
-    finalize: &[u64],
-    setup: &[u64],
-    m: Machine,
-    n: u64,
-) -> Answer
-    ensures { λ r. ⌜ (now (fuel .exit) ≡ grantWords
-        (state (nine stack frames chain slots «saved_stack» «saved_frames» ready finalize setup atEntry) m (now (fuel .entry))) n .fuel)
-        × (r ≡ grantWords (state (nine stack frames chain slots «saved_stack» «saved_frames» ready finalize setup atEntry) m
-        (now (fuel .entry))) n .answer) ⌝ }
+// The record is lent, and rewritten where it stands; what it is to hold is told by the grant by value.
+pub fn grant(fuel: &mut Fuel, m: Machine, n: u64) -> Answer
+    ensures { λ r. ⌜ every (λ sizes. Met any sizes (grant n) none (with m (now (fuel .entry))) (with m (now (fuel .exit))) r) ⌝ }
 {
-    let g = outer_call::grant::granted(
-        *fuel,
-        stack,
-        frames,
-        chain,
-        slots,
-        saved_stack,
-        saved_frames,
-        ready,
-        finalize,
-        setup,
-        m,
-        n,
-    );
+    let g = machine_added::fuel::grant(m, *fuel, n);
     *fuel = g.fuel;
     g.answer
+}
+
+// For who reads the record from words: it stands in a local, which is lent.
+pub fn granted(fuel: Fuel, m: Machine, n: u64) -> GrantDid
+    ensures { λ r. ⌜ every (λ sizes. Met any sizes (grant n) none (with m fuel) (with m (r .fuel)) (r .answer)) ⌝ }
+{
+    let mut f = fuel;
+    let answer = grant(&mut f, m, n);
+    GrantDid { fuel: f, answer }
 }

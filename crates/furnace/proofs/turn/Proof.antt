@@ -9,7 +9,7 @@ use Rattle.furnace.proofs.turn.Tie as tie
 
 -- from the end to the call, from there to what is noted before it, and to the start
 abbrev call-of : tie.After-after → tie.After-call
-call-of c = c .before .before .before .before .before .before .before .before .before .before .before .before .before .before .before .before .before .before .before .before .before .before .before
+call-of c = c .before .before .before .before .before .before .before .before .before .before .before .before .before .before .before .before .before .before .before .before .before .before .before .before .before .before .before .before
 
 abbrev noted-of : tie.After-call → tie.After-before2
 noted-of c = c .before .before .before .before .before .before .before .before .before .before .before
@@ -25,7 +25,7 @@ call-requires c κs = tt
 
 after-requires : tie.Need-after-requires
 after-requires c κs =
-    let noted = c .before .before .before .before .before .before .before .before .before .before .before .before .before .before .before .before .before .before .before .before .before .before .before .before .before .before .before .before .before .before .before .before .before in
+    let noted = c .before .before .before .before .before .before .before .before .before .before .before .before .before .before .before .before .before .before .before .before .before .before .before .before .before .before .before .before .before .before .before .before .before .before .before .before .before .before in
     noted .before2 .kept .1 .1 .1 .1 .1 .0 ∙ start-of noted .pre
 
 same-length : tie.Need-same-length

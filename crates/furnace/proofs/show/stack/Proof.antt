@@ -8,10 +8,10 @@ use Rattle.furnace.proofs.show.stack.Statement.{statement}
 use Rattle.furnace.proofs.show.stack.Tie as tie
 
 abbrev Inv-loop : tie.InvT-loop
-Inv-loop stack frames chain m own mark i₀ end₀ i end = Unit {0}
+Inv-loop stack frames chain top m own mark i₀ end₀ i end = Unit {0}
 
 abbrev μ-loop : tie.MeasureT-loop
-μ-loop stack frames chain m own mark i₀ end₀ i end = i
+μ-loop stack frames chain top m own mark i₀ end₀ i end = i
 
 loop-holds : tie.Need-loop-holds Inv-loop μ-loop
 loop-holds c = tt

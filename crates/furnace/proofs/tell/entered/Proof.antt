@@ -11,15 +11,15 @@ use Rattle.furnace.proofs.tell.entered.Statement.{statement}
 use Rattle.furnace.proofs.tell.entered.Tie as tie
 
 -- a note has 32 words
-room : (c : tie.After-note-of) → c .note-of .result + 32 ≤ length ((c .before .before .before .before .before .before .before) .args .notes .now)
+room : (c : tie.After-note-of) → c .note-of .result + 32 ≤ length ((c .before .before .before .before .before .before .before .before) .args .notes .now)
 room c =
-    let at-coroutine = c .before in let start = at-coroutine .before .before .before .before .before .before in
+    let at-coroutine = c .before in let start = at-coroutine .before .before .before .before .before .before .before in
     let h = subst (λ n. n ≤ 96) (sym (c .note-of .ensures)) (note-below (at-coroutine .coroutine .result)) in omega (arith, h, start .pre)
 
 -- it is the note of the coroutine that was entered
-noted : (c : tie.After-note-of) → let a = (c .before .before .before .before .before .before .before) .args in c .note-of .result ≡ noteOf (coroIn (a .chain .now) (a .m .active - 1))
+noted : (c : tie.After-note-of) → let a = (c .before .before .before .before .before .before .before .before) .args in c .note-of .result ≡ noteOf (coroIn (a .chain .now) (a .m .active - 1))
 noted c =
-    let at-coroutine = c .before in let at-last = at-coroutine .before in let start = at-last .before .before .before .before .before in
+    let at-coroutine = c .before in let at-last = at-coroutine .before in let start = at-last .before .before .before .before .before .before in
     c .note-of .ensures ∙ ap noteOf (at-coroutine .coroutine .ensures ∙ ap (coroIn (start .args .chain .now)) (at-last .last .ensures))
 
 mul-at-most : tie.Need-mul-at-most
@@ -33,7 +33,7 @@ shared-slice-read-at-most c =
 returns : tie.Need-returns
 returns c =
     let at-if1 = c .before .before in let at-at-most = at-if1 .before .before in let at-note-of = at-at-most .before .before in
-    let start = at-note-of .before .before .before .before .before .before .before in
+    let start = at-note-of .before .before .before .before .before .before .before .before in
     starts (start .args .stack .now) (start .args .frames .now) (start .args .chain .now) (start .args .m) (start .args .sent) (start .args .notes .now) (start .args .count) _
     _ (noted at-note-of) (at-at-most .at-most .ensures) (at-if1 .if1 .taken)
 
@@ -45,7 +45,7 @@ woken-requires c κs =
 returns-2 : tie.Need-returns-2
 returns-2 c =
     let at-if1 = c .before in let at-at-most = at-if1 .before .before in let at-note-of = at-at-most .before .before in
-    let start = at-note-of .before .before .before .before .before .before .before in
+    let start = at-note-of .before .before .before .before .before .before .before .before in
     wakes (start .args .stack .now) (start .args .frames .now) (start .args .chain .now) (start .args .m) (start .args .sent) (start .args .notes .now) (start .args .count) _
     _ (noted at-note-of) (at-at-most .at-most .ensures) (at-if1 .if1 .left) _ (c .woken .ensures)
 

@@ -16,9 +16,9 @@ begins c =
     let at-at-most = c .before in let at-own-base = at-at-most .before in
     subst (λ n. n ≤ at-at-most .at-most .result) (sym (c .at-most2 .ensures)) (at-most (at-at-most .at-most .result) (at-own-base .own-base .result))
 
-ends : (c : tie.After-at-most) → c .at-most .result ≤ length ((c .before .before .before .before .before .before) .args .stack .now)
+ends : (c : tie.After-at-most) → c .at-most .result ≤ length ((c .before .before .before .before .before .before .before) .args .stack .now)
 ends c =
-    let start = c .before .before .before .before .before .before in
+    let start = c .before .before .before .before .before .before .before in
     subst (λ n. n ≤ length (start .args .stack .now)) (sym (c .at-most .ensures)) (at-most (length (start .args .stack .now)) (start .args .m .height))
 
 -- the part of the note has at most 13 words
@@ -27,7 +27,7 @@ few c = subst (λ n. n ≤ 13) (sym (c .pre .1)) (at-most 13 (getD (c .args .not
 
 mul-back : tie.Need-mul-back
 mul-back c =
-    let at-at-most = c .before in let start = at-at-most .before .before .before .before .before .before in
+    let at-at-most = c .before in let start = at-at-most .before .before .before .before .before .before .before in
     omega (arith, begins c, ends at-at-most, start .good)
 
 sub-back : tie.Need-sub-back
@@ -43,72 +43,72 @@ part-back-end c =
 
 add-first : tie.Need-add-first
 add-first c =
-    let start = c .before .before .before .before .before .before .before .before in
+    let start = c .before .before .before .before .before .before .before .before .before in
     omega (arith, start .pre, few start)
 
 add-held : tie.Need-add-held
 add-held c =
-    let start = c .before .before .before .before .before .before .before .before in
+    let start = c .before .before .before .before .before .before .before .before .before in
     omega (arith, start .pre, few start)
 
 mul-held : tie.Need-mul-held
 mul-held c =
-    let start = c .before .before .before .before .before .before .before .before in
+    let start = c .before .before .before .before .before .before .before .before .before in
     omega (arith, start .pre, few start)
 
 sub-held : tie.Need-sub-held
 sub-held c =
-    let start = c .before .before .before .before .before .before .before .before in
+    let start = c .before .before .before .before .before .before .before .before .before in
     omega (arith, start .pre, few start)
 
 part-held-start : tie.Need-part-held-start
 part-held-start c =
-    let start = c .before .before .before .before .before .before .before .before in
+    let start = c .before .before .before .before .before .before .before .before .before in
     omega (arith, start .pre, few start)
 
 part-held-end : tie.Need-part-held-end
 part-held-end c =
-    let start = c .before .before .before .before .before .before .before .before in
+    let start = c .before .before .before .before .before .before .before .before .before in
     omega (arith, start .pre, few start)
 
 add-place : tie.Need-add-place
 add-place c =
-    let start = c .before .before .before .before .before .before .before .before .before in
+    let start = c .before .before .before .before .before .before .before .before .before .before in
     omega (arith, start .pre, few start)
 
 mul-place : tie.Need-mul-place
 mul-place c =
-    let start = c .before .before .before .before .before .before .before .before .before in
+    let start = c .before .before .before .before .before .before .before .before .before .before in
     omega (arith, start .pre, few start)
 
 shared-slice-read-place : tie.Need-shared-slice-read-place
 shared-slice-read-place c =
-    let start = c .before .before .before .before .before .before .before .before .before .before in
+    let start = c .before .before .before .before .before .before .before .before .before .before .before in
     omega (arith, start .pre, few start)
 
 add-from : tie.Need-add-from
 add-from c =
-    let start = c .before .before .before .before .before .before .before .before .before .before in
+    let start = c .before .before .before .before .before .before .before .before .before .before .before in
     omega (arith, start .pre, few start)
 
 mul-from : tie.Need-mul-from
 mul-from c =
-    let start = c .before .before .before .before .before .before .before .before .before .before in
+    let start = c .before .before .before .before .before .before .before .before .before .before .before in
     omega (arith, start .pre, few start)
 
 shared-slice-read-from : tie.Need-shared-slice-read-from
 shared-slice-read-from c =
-    let start = c .before .before .before .before .before .before .before .before .before .before .before in
+    let start = c .before .before .before .before .before .before .before .before .before .before .before .before in
     omega (arith, start .pre, few start)
 
 back-requires : tie.Need-back-requires
 back-requires c κs =
-    let start = c .before .before .before .before .before .before .before .before .before .before .before .before .before .before in
+    let start = c .before .before .before .before .before .before .before .before .before .before .before .before .before .before .before in
     omega (arith, start .pre)
 
 add-noted : tie.Need-add-noted
 add-noted c =
-    let start = c .before .before .before .before .before .before .before .before .before .before .before .before .before .before .before .before .before .before .before .before .before .before .before .before .before .before .before .before in
+    let start = c .before .before .before .before .before .before .before .before .before .before .before .before .before .before .before .before .before .before .before .before .before .before .before .before .before .before .before .before .before in
     omega (arith, start .pre, few start, start .good)
 
 returns : tie.Need-returns
@@ -116,7 +116,7 @@ returns c =
     let at-both = c .before .before .before .before .before .before .before .before .before .before .before .before .before .before .before .before .before .before .before in
     let at-back2 = at-both .before in let at-floor = at-back2 .before in let at-last = at-floor .before in let at-woke = at-last .before in
     let at-at-most2 = at-woke .before .before .before .before .before in let at-at-most = at-at-most2 .before in
-    let at-own-base = at-at-most .before in let start = at-own-base .before .before .before .before .before in
+    let at-own-base = at-at-most .before in let start = at-own-base .before .before .before .before .before .before in
     let s = start in let a = s .args in
     woken-is (a .stack .now) (a .frames .now) (a .chain .now) (a .m) (a .sent) (a .notes .now) (a .at) (a .n) (a .count)
     (at-own-base .own-base .result) (at-at-most .at-most .result) (at-at-most2 .at-most2 .result) (at-floor .floor .result) _ _ _ (s .pre .1) (at-own-base .own-base .ensures)

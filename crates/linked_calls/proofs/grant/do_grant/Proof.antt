@@ -1,4 +1,4 @@
--- `do_grant` meets its contract: refused, or as `grant` says, in words. Assumes nothing.
+-- `do_grant` meets its contract: refused, or as `granted` says, in words. Assumes nothing.
 use mathlib.Core.Path.{_≡_, refl, sym, _∙_, subst}
 use mathlib.Core.Bool.{true}
 use Prim.Native.Nat.{_≤_, _*_, _/_}
@@ -71,8 +71,8 @@ returns-2 c =
     let a = start .args in
     grant-done (of start) (a .amount) (a .answer .now) (start .pre .room) (a .ok) (start .pre .known)
     (not-false _ (at-machine .before .if1 .left))
-    (at-machine .machine-of .result) (at-fuel .fuel-of .result) (did .grant .result) (at-machine .machine-of .ensures) (at-fuel .fuel-of .ensures)
-    (did .grant .ensures) _ _ (told .tell2 .result) (told .before .before .before .before .put-fuel .ensures) (told .tell2 .ensures .0) (told .tell2 .ensures .1)
+    (at-machine .machine-of .result) (at-fuel .fuel-of .result) (did .granted .result) (at-machine .machine-of .ensures) (at-fuel .fuel-of .ensures)
+    (did .granted .ensures) _ _ (told .tell2 .result) (told .before .before .before .before .put-fuel .ensures) (told .tell2 .ensures .0) (told .tell2 .ensures .1)
 
 pub do-grant-spec : {M : Type 1} → statement M
 do-grant-spec = tie.close (tie.spec tell-requires same-length returns machine-of-requires fuel-of-requires (λ c κs. search needs) put-fuel-requires tell-requires-2 same-length-2 same-length-3 returns-2)
