@@ -225,12 +225,12 @@ def machines():
     """The wrong machines: file, the field or the statement that refuses it, and the machine as it is defined."""
     for path in sorted((ROOT / "crates/claims_model/specs").glob("Wrong*.antt")):
         record, comment = "", []
-        for row in path.read_text().splitlines():
+        for row in re.sub(r"\n {6,}", " ", path.read_text()).splitlines():
             if found := re.match(r"pub record (\w+)", row):
                 record, comment = found.group(1), []
             elif found := re.match(r"\s*-- (.*)", row):
                 comment.append(found.group(1))
-            elif found := re.match(r"  pub ([a-z0-9-]+) : (?:\w*Refuted\w* .*?\(λ [^)]*\) (.*)|(.*) → ⊥)$", row):
+            elif found := re.match(r"  pub ([a-z0-9-]+) : (?:\w*Refuted\w* .*\(λ [a-z ]+\. \w+(?: \.[\w-]+)+\) (.*)|(.*) → ⊥)$", row):
                 name, engine, statement = found.groups()
                 yield path.name, f"{record.removeprefix('Refuted')}.{name}", " ".join(comment), engine or statement
                 comment = []

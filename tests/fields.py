@@ -57,11 +57,21 @@ def is_data(text):
 # `Returns`, `Fails` of `Events`), a field less makes of the premise one under which `step` has not what is claimed.
 PREMISES = {"Enters", "Suspends", "Stops", "Restarts", "Returns", "Fails", "Roomy", "IntFits"}
 
-# Fields that no engine can be wrong in alone.
-ALONE = {
-    ("NotEmpty", "waits"): "of the empty list it holds of every engine: it says that the turns between are such as `enters` needs",
-    ("NotEmpty", "goes"): "of the empty list it holds of every engine: it says that the turns between are such as `stops` needs",
-}
+def arguments(text):
+    """The words of an application, brackets as one word."""
+    words, depth, word = [], 0, ""
+    for letter in text:
+        if letter == " " and not depth:
+            words += [word] if word else []
+            word = ""
+            continue
+        depth += (letter in "([{") - (letter in ")]}")
+        word += letter
+    return words + [word]
+
+
+# How a refutation is stated (specs/Refuted.antt). In each the field stands alone, but for its ground: the things of its record that it speaks of.
+FORMS = {"Refuted": 4, "RefutedAt": 4, "MovedRefuted": 3, "RefutedOn": 6, "RefutedOver": 6, "RefutedIn": 6}
 
 
 def of_engines():
@@ -86,37 +96,35 @@ def of_engines():
     refuted = {name[len("Refuted"):]: fields for name, fields in records.items() if name.startswith("Refuted") and len(name) > len("Refuted")}
     texts = {path.stem: path.read_text() for path in (ROOT / specs).glob("*.antt")}
     proofs = "".join(path.read_text() for path in (ROOT / "crates/claims_model/proofs").glob("Wrong*.antt"))
-    count, engines = 0, set()
+    count, engines, forms = 0, set(), dict.fromkeys(FORMS, 0)
     for one in sorted(reached & records.keys() & claims - PREMISES):
         statements = [field for field, text in records[one].items() if not is_data(text)]
         table = refuted.get(one, {})
         if not re.search(rf"^pub refuted-\S+ : (?:W\.)?Refuted{one}$", proofs, re.M):
             say(f"Refuted{one} is not proved in crates/claims_model/proofs/Wrong*.antt")
         for field in statements:
-            if (one, field) in ALONE:
-                continue
             count += 1
-            found = re.fullmatch(r"(Refuted|RefutedIn|RefutedAt|MovedRefuted)(?: (\w+))? \(λ [^.]*\. .*?\.([\w-]+)\) (.+)", table.get(field, ""))
+            words = arguments(table.get(field, ""))
+            found = re.fullmatch(r"\(λ [^.]*\. .*?\.([\w-]+)\)", words[-2]) if len(words) == FORMS.get(words[0]) else None
             if not found:
                 say(f"{one}.{field} refutes no engine: Refuted{one} of {specs}/Wrong*.antt has no such field")
                 continue
-            how, of, projected, engine = found.groups()
+            how, of, engine = words[0], words[1], words[-1]
+            forms[how] += 1
             engines.add(engine)
-            if projected != field:
-                say(f"Refuted{one}.{field} is of the field {projected}")
+            if found.group(1) != field:
+                say(f"Refuted{one}.{field} is of the field {found.group(1)}")
             if how in ("Refuted", "RefutedIn") and of != one:
                 say(f"Refuted{one}.{field} is of the record {of}")
-            if how == "RefutedAt" and one not in names(re.search(rf"^{of} e a = (.*)$", texts["Refuted"], re.M).group(1)):
+            if how in ("RefutedAt", "RefutedOn", "RefutedOver") and one not in names(re.search(rf"^{of} e a = (.*)$", texts["Refuted"], re.M).group(1)):
                 say(f"Refuted{one}.{field} is of another record: {of} of {specs}/Refuted.antt")
         for field in table.keys() - set(statements):
             say(f"Refuted{one}.{field}: {one} has no such statement")
     for one in refuted.keys() - (reached & claims):
         say(f"Refuted{one}: no record {one} is promised")
-    for one, field in ALONE:
-        if field not in records.get(one, {}):
-            say(f"no {one}.{field}: its reason is stale")
     each = ", each refutes one" if not failed else ""
-    print(f"fields: {count} statements of {len(reached & records.keys() & claims - PREMISES)} records of an engine{each} of {len(engines)} engines; {len(ALONE)} that no engine is wrong in alone; {len(PREMISES)} records of premises")
+    ground = forms["RefutedOn"] + forms["RefutedOver"] + forms["RefutedIn"] + forms["MovedRefuted"]
+    print(f"fields: {count} statements of {len(reached & records.keys() & claims - PREMISES)} records of an engine{each} of {len(engines)} engines, {count - ground} alone and {ground} on their ground; {len(PREMISES)} records of premises")
     return count > 100
 
 

@@ -10,6 +10,7 @@ use Rattle.claims_model.specs.Says.{Announced, instr, hosts, finishes, r
 use Rattle.claims_model.specs.Demand3.{Demand3}
 use Rattle.claims_model.specs.Events.{whoSuspends, whoReturns, Events}
 use Rattle.claims_model.specs.Steps.{viewOf, modelOp, steps}
+use Rattle.claims_model.specs.Refuted.{Said}
 use Rattle.claims_model.proofs.EntryNumbers.{entry-answers}
 use Rattle.claims_model.proofs.Acceptance.{exactly}
 use Rattle.claims_model.proofs.Restores as Restores
@@ -46,6 +47,22 @@ not-suspended v other n c u p q = no-some refl p
 no-entry : {x : Option Entry} {y : Entry} → x ≡ none → x ≡ some y → ⊥
 no-entry p q = let z : _≡_ {A = ℕ} 0 1 = cc in absurd (omega arith)
 
+-- theorems of other files, as the fields say them
+unbegun-said : Said Events (λ e v. v .unbegun) steps
+unbegun-said = unbegun
+
+integer-said : Said Events (λ e v. v .integer) steps
+integer-said = integer
+
+word-said : Said Events (λ e v. v .word) steps
+word-said = word
+
+still-said : Said Events (λ e v. v .still) steps
+still-said = still
+
+yielded-said : Said Events (λ e v. v .yielded) steps
+yielded-said = yielded
+
 pub events : Events steps
 events =
     record {
@@ -66,14 +83,14 @@ events =
       failed = λ c w k h r l. failed-by c w k (healthy-sound w h) r l;
       spoilt = spoilt;
       stopped = stopped;
-      integer = integer;
-      word = word;
+      integer = integer-said;
+      word = word-said;
       closed = closed;
-      yielded = yielded;
+      yielded = yielded-said;
       closing = closing;
       awaited = awaited;
-      still = still;
-      unbegun = unbegun;
+      still = still-said;
+      unbegun = unbegun-said;
       closes-created = closes-created;
       throws-created = throws-created;
       runs-on = runs-on;

@@ -62,5 +62,8 @@ pub mod Places
 pub mod WrongEntries
 pub mod WrongWakes
 pub mod WrongEvents
+pub mod WrongTouches
 pub mod WrongCalls
+pub mod WrongSetUps
+pub mod WrongLists
 pub mod WrongPromise

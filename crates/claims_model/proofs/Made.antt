@@ -37,6 +37,7 @@ use Rattle.claims_model.specs.Engine.{Seen}
 use Rattle.claims_model.specs.Says.{registerWord}
 use Rattle.claims_model.specs.Made.{arguments, made, Creates}
 use Rattle.claims_model.specs.Steps.{seenOf, rulesOf, viewOf, modelOp, steps}
+use Rattle.claims_model.specs.Refuted.{Said}
 use Rattle.claims_model.proofs.Held.{Seat, coreIn, coreAt}
 use Rattle.claims_model.proofs.Cores.{objectIn, push-cases}
 use Rattle.claims_model.proofs.Enters.{charge-none}
@@ -189,13 +190,16 @@ stepped c w (Do j) o Q f x q n = go (sound w)
     go false h = no-one n h
 
 -- WHAT IS MADE
+named-said : Said Creates (λ e v. v .named) steps
+named-said = named
+
 pub creates : Creates steps
 creates =
     record {
       new = λ c w k pc dst f argc. stepped c w k (Op.CoroNew pc dst f argc) (NewBy w dst f argc) (λ e. new-made w c e pc dst f argc);
       indirect = λ c w k pc dst r argc. stepped c w k (Op.CoroNewIndirect pc dst r argc) (MadeBy w dst r argc) (λ e. indirect-by w c e pc dst r argc);
       spawned = λ c w k pc dst r argc. stepped c w k (Op.Spawn pc dst r argc) (MadeBy w dst r argc) (λ e. spawn-by w c e pc dst r argc);
-      named = named;
+      named = named-said;
       named-indirect = named-indirect;
       hooked = hook-called;
     }

@@ -2,6 +2,7 @@
 use mathlib.Core.List.{List, [], _∷_, _++_}
 use Rattle.model.specs.World.{World, fresh, withStack}
 use Rattle.model.specs.Step.{runOps}
+use Rattle.model.specs.declared.machine.Cont.{Cont}
 use Rattle.model.specs.declared.call.Op.{Op}
 use Rattle.claims_model.specs.Story as Story
 use Rattle.claims_model.specs.Story.{wide, c, f, begin}
@@ -23,6 +24,14 @@ itself = runOps (fresh wide) (begin 0 ++ (Op.PutWord 0 c ∷ []))
 
 unfoldable pub deeper : World
 deeper = runOps (fresh wide) (begin 0 ++ (Story.deeper ∷ []))
+
+-- c, of a closure, holds 11, and called function 1
+unfoldable pub inside : World
+inside = runOps (fresh wide) (Op.Grant 1000 ∷ Op.HostCall 0 ∷ Op.PutWord 1 f ∷ Op.CoroNewIndirect 1 0 1 0 ∷ Op.Resume 2 1 0 2 ∷ Op.PutWord 0 11 ∷ Op.FunctionCall 5 1 (Cont.Dyn 2) ∷ Op.PutWord 1 22 ∷ [])
+
+-- c runs, with 7 in its first register
+unfoldable pub seven : World
+seven = runOps (fresh wide) (begin 0 ++ (Op.PutWord 0 7 ∷ []))
 
 -- c sleeps, with 7 in its first register; 9 stands in the caller's third
 unfoldable pub sleeping : World

@@ -48,9 +48,10 @@ use Rattle.claims_model.specs.Engine.{Turn, turnCall}
 use Rattle.claims_model.specs.Demand3.{Restarts}
 use Rattle.claims_model.specs.Says.{Announced}
 use Rattle.claims_model.specs.Events.{Healthy, raised, unwindNumberAt}
-use Rattle.claims_model.specs.Promise.{plain, bytesFit, Roomy, IntFits, converts, unbanked, fuelSound, Eleven, sets-up, no-fault, Soundness, Fresh, topRegisters, Refuels, NotEmpty, Promise}
+use Rattle.claims_model.specs.Promise.{plain, bytesFit, Roomy, IntFits, converts, Accepts, unbanked, fuelSound, Eleven, sets-up, no-fault, Soundness, Fresh, SetUps, topRegisters, Looks, Refuels, NotEmpty, Promise}
 use Rattle.claims_model.specs.Steps.{seenOf, rulesOf, viewOf, modelOp, modelAsks, looks, steps}
 use Rattle.claims_model.specs.Story.{wide, f, c, held}
+use Rattle.claims_model.specs.Refuted.{Said}
 use Rattle.claims_model.specs.Premises.{premises}
 use Rattle.claims_model.specs.Witness.{nth, between, waiting, frame}
 use Rattle.claims_model.proofs.Entry.{Act}
@@ -238,7 +239,7 @@ set-up-given w (SetUp s) r = go (setupOk s) (r .accepted)
     go true n = refl
     go false n = absurd (omega (arith, n))
 
-set-up-refused : (w : World) (k : Call) → modelOp k ≡ none → (numberOf (step w k .answer) ≡ 0 → ⊥) → (numberOf (step w k .answer) ≡ 11) × (viewOf (step w k .world) ≡ viewOf w)
+set-up-refused : Said SetUps (λ e v. v .refused) steps
 unfolding step pick
 set-up-refused w (Do o) e n = let z : _≡_ {A = ℕ} 0 1 = cc in absurd (omega arith)
 set-up-refused w (SetUp s) e n = go (setupOk s) n
@@ -255,7 +256,7 @@ look-sees : (w : World) → Healthy steps w → looks w ≡ topRegisters (w .fra
 unfolding step tested call pick Added.registers
 look-sees w h = ap (λ b. pick b (call Op.Look w) (told (refused w Fault.Unsound)) .seen) (healthy-sound w h) ∙ the-part (w .frames) (w .stack)
 
-look-unseen : (w : World) → (Healthy steps w → ⊥) → looks w ≡ []
+look-unseen : Said Looks (λ e v. v .unseen) steps
 unfolding step tested pick
 look-unseen w h = go (sound w) refl
   where
@@ -351,6 +352,9 @@ not-empty =
       stops = p .leaves;
     }
 
+throw-created-said : Said Accepts (λ e v. v .throw-created) steps
+throw-created-said w k pc dst r src m e l n = accepts-throw-created w pc dst r src m l n k e
+
 -- THE PROMISE
 pub promise : Promise steps
 promise =
@@ -365,7 +369,7 @@ promise =
         yield-kv = λ c w k pc dst src key m e l. kv-takes w 0 c m k pc dst src key e l;
         yield = λ c w k pc dst src m s e l. yield-takes w (w .setup .costs .int) c m refl s pc k dst src e l;
         close-created = λ w k pc dst r src m e l n. accepts-close w pc dst r src m l n k e;
-        throw-created = λ w k pc dst r src m e l n. accepts-throw-created w pc dst r src m l n k e;
+        throw-created = throw-created-said;
         integer = accepts-integer;
         finish = accepts-finish;
         throw = accepts-throw;

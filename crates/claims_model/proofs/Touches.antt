@@ -41,6 +41,7 @@ use Rattle.claims_model.specs.Demand3 as D
 use Rattle.claims_model.specs.Events.{isBody}
 use Rattle.claims_model.specs.Touches.{May, mayTouch, storing, writing, Over, bare, one, Touched, Called, target, goOn, Finished, Touches}
 use Rattle.claims_model.specs.Steps.{viewOf, modelOp, steps}
+use Rattle.claims_model.specs.Refuted.{Said}
 use Rattle.claims_model.proofs.Held.{coreAt}
 use Rattle.claims_model.proofs.Split.{next}
 use Rattle.claims_model.proofs.Cores.{no-both, Mode, m-plain}
@@ -314,6 +315,9 @@ stepped P o f w (SetUp s) e n = let z : _≡_ {A = ℕ} 0 1 = cc in absurd (omeg
 stepped P o f w (Do p) e n = subst (λ q. numberOf (tested w q .answer) ≡ 0 → P w (tested w q .world)) (sym (some-op e)) (f w) n
 
 -- WHAT IS LEFT ALONE
+put-said : Said Touches (λ e v. v .put) steps
+put-said = λ w k r x. stepped (λ w z. z .stack ≡ into (w .frames) r x (w .stack)) (Op.PutWord r x) (λ w. put-tested w r x) w k
+
 pub touches : Touches steps
 touches =
     record {
@@ -322,5 +326,5 @@ touches =
           stepped (λ w z. w .frames ≡ f ∷ fs → Finished f fs (viewOf w) (viewOf z)) (Op.Finish kind x) (λ w n p. finished-tested kind x f fs w p b n) w k q n p;
       called = λ w k pc f cont. stepped (λ w z. Called f cont (at pc (w .frames)) (viewOf w) (viewOf z)) (Op.FunctionCall pc f cont) (λ w. called-tested w pc f cont) w k;
       host-called = λ w k f. stepped (λ w z. Called f Cont.Entry [] (viewOf w) (viewOf z)) (Op.HostCall f) (λ w. host-tested w f) w k;
-      put = λ w k r x. stepped (λ w z. z .stack ≡ into (w .frames) r x (w .stack)) (Op.PutWord r x) (λ w. put-tested w r x) w k;
+      put = put-said;
     }

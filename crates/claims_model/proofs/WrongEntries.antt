@@ -3,7 +3,7 @@ use Prim.Native.Nat.{ℕ, _+_}
 use native.Mathlib.Omega.{arith}
 use mathlib.Core.Path.{_≡_, refl, sym, ap, _∙_}
 use mathlib.Core.Logic.{_⊎_, inl, inr}
-use mathlib.Core.Bool.{true, false, not, _&&_}
+use mathlib.Core.Bool.{true, false}
 use mathlib.Core.List.{List, [], _∷_, _++_, map, append-assoc}
 use mathlib.Core.Option.{Option, none, some}
 use lib.ListN.{length, getD, length-append}
@@ -17,19 +17,20 @@ use Rattle.model.specs.declared.machine.Driver.{Driver}
 use Rattle.model.specs.declared.machine.Frame.{Frame}
 use Rattle.model.specs.declared.call.Op.{Op}
 use Rattle.claims_model.specs.Engine.{Engine, Turn, Seen, View, runTurns}
-use Rattle.claims_model.specs.Says.{Sent, nothing, Entry, announcedBy, whom}
-use Rattle.claims_model.specs.Held.{at, Moved, AllMoved, closer, closedBy, stepped, withSent, enteredFrames, By, Entered}
-use Rattle.claims_model.specs.Delivery.{eventGiven, StackFrames, stackFrames, deliveredTo, LeftBelow}
+use Rattle.claims_model.specs.Says.{Sent, nothing, closes, Entry, entry, announcedBy, whom}
+use Rattle.claims_model.specs.Held.{at, Moved, AllMoved, closer, closedBy, stepped, withSent, enteredFrames, By}
+use Rattle.claims_model.specs.Delivery.{eventGiven, StackFrames, stackFrames, deliveredTo}
+use Rattle.claims_model.specs.Steps.{viewOf}
 use Rattle.claims_model.specs.Premises.{runsIn, sleepsIn, leftIn, waits}
 use Rattle.claims_model.specs.Story.{c}
 use Rattle.claims_model.specs.Witness.{frame}
 use Rattle.claims_model.specs.Refuted as R
-use Rattle.claims_model.specs.Refuted.{RefutedAt, Each, Wake, entered, by, left}
+use Rattle.claims_model.specs.Refuted.{RefutedAt, RefutedOn, Each, Stands, Wake, entered, by, parts, stands, left, underIs}
 use Rattle.claims_model.specs.Bent.{seeing, parting, beginning}
 use Rattle.claims_model.specs.WrongWakes as W
-use Rattle.claims_model.specs.WrongWakes.{grantResumes, beginsWith, underTop, fourthWord5, floor0, closingEnds, eachSeen, onTop, discards, atOne, higher, firstWord5}
+use Rattle.claims_model.specs.WrongWakes.{grantResumes, beginsWith, underTop, fourthWord5, floor0, closingEnds, eachSeen, bodiesSeen, onTop, discards, atOne, higher, firstWord5}
 use Rattle.claims_model.proofs.Premises.{waits-true}
-use Rattle.claims_model.proofs.Places.{waiting, begun, sleeping}
+use Rattle.claims_model.proofs.Places.{waiting, sleeping}
 
 -- ---- small things
 
@@ -139,31 +140,31 @@ module _ {w : View} {y : Option Op} (b : By w y c) where
   driver-by = ap driverIn (sym (b .says))
 
 -- what the call says is sent
-pub closed-by : {w : View} {y : Option Op} {z : View} (t : Entered w y c z) → closer (z .coro c) ≡ closedBy (t .by .sent) (closer (w .coro c)) → closer (z .coro c) ≡ closedBy (sentIn (whom w y)) (closer (w .coro c))
-closed-by {w} t h = h ∙ ap (λ s. closedBy s (closer (w .coro c))) (sent-by (t .by))
+pub closed-by : {w : View} {y : Option Op} {m : Option ℕ} (b : By w y c) → m ≡ closedBy (b .sent) (closer (w .coro c)) → m ≡ closedBy (sentIn (whom w y)) (closer (w .coro c))
+closed-by {w} b h = h ∙ ap (λ s. closedBy s (closer (w .coro c))) (sent-by b)
 
-pub word-by : {w : View} {y : Option Op} {z : View} (t : Entered w y c z) (x : Seen) → z .stack ≡ withSent (t .by .sent) (z .frames) (x .waits) (w .stack ++ x .words) → (i : ℕ)
+pub word-by : {w : View} {y : Option Op} (z : View) (b : By w y c) (x : Seen) → z .stack ≡ withSent (b .sent) (z .frames) (x .waits) (w .stack ++ x .words) → (i : ℕ)
     → getD (z .stack) i 0 ≡ getD (withSent (sentIn (whom w y)) (z .frames) (x .waits) (w .stack ++ x .words)) i 0
-word-by {w} {y} {z} t x h i = ap (λ xs. getD xs i 0) h ∙ ap (λ s. getD (withSent s (z .frames) (x .waits) (w .stack ++ x .words)) i 0) (sent-by (t .by))
+word-by {w} z b x h i = ap (λ xs. getD xs i 0) h ∙ ap (λ s. getD (withSent s (z .frames) (x .waits) (w .stack ++ x .words)) i 0) (sent-by b)
 
 -- frames that have something alike
-module _ (F : (b h : ℕ) (f g : Frame) → Moved b h f g → Type 0) (g k : Frame → ℕ) (alike : (b h : ℕ) (f j : Frame) (m : Moved b h f j) → F b h f j m → k j ≡ g f) where
-  pub all-alike : (b n : ℕ) (fs ks : List Frame) (m : AllMoved b n fs ks) → Each F b n fs ks m → map k ks ≡ map g fs
-  all-alike b n [] [] m h = refl
-  all-alike b n [] (j ∷ js) m h = absurd m
-  all-alike b n (f ∷ fs) [] m h = absurd m
-  all-alike b n (f ∷ fs) (j ∷ js) m h = λ i. alike b n f j (m .0) (h .0) i ∷ all-alike b n fs js (m .1) (h .1) i
+module _ (F : (b h : ℕ) (f g : Frame) → Type 0) (g k : Frame → ℕ) (alike : (b h : ℕ) (f j : Frame) → F b h f j → k j ≡ g f) where
+  pub all-alike : (b n : ℕ) (fs ks : List Frame) → Each F b n fs ks → map k ks ≡ map g fs
+  all-alike b n [] [] h = refl
+  all-alike b n [] (j ∷ js) h = absurd h
+  all-alike b n (f ∷ fs) [] h = absurd h
+  all-alike b n (f ∷ fs) (j ∷ js) h = λ i. alike b n f j (h .0) i ∷ all-alike b n fs js (h .1) i
 
 -- each frame that was moved has the field
-module _ (F : (b h : ℕ) (f g : Frame) → Moved b h f g → Type 0) (p : (b h : ℕ) (f g : Frame) (m : Moved b h f g) → F b h f g m) where
-  pub each : (b n : ℕ) (fs ks : List Frame) (m : AllMoved b n fs ks) → Each F b n fs ks m
+module _ (F : (b h : ℕ) (f g : Frame) → Type 0) (p : (b h : ℕ) (f g : Frame) → Moved b h f g → F b h f g) where
+  pub each : (b n : ℕ) (fs ks : List Frame) → AllMoved b n fs ks → Each F b n fs ks
   each b n [] [] m = tt
-  each b n [] (j ∷ js) m = tt
-  each b n (f ∷ fs) [] m = tt
+  each b n [] (j ∷ js) m = absurd m
+  each b n (f ∷ fs) [] m = absurd m
   each b n (f ∷ fs) (j ∷ js) m = (p b n f j (m .0), each b n fs js (m .1))
 
-abbrev pub pcAlike : (b h : ℕ) (f g : Frame) → Moved b h f g → Type 0
-pcAlike b h f g m = g .pc ≡ f .pc
+abbrev pub pcAlike : (b h : ℕ) (f g : Frame) → Type 0
+pcAlike b h f g = g .pc ≡ f .pc
 
 abbrev pub pcIs : Frame → ℕ
 pcIs f = f .pc
@@ -173,98 +174,114 @@ map-append g [] ys = refl
 map-append g (x ∷ xs) ys = ap (λ (l : List ℕ). g x ∷ l) (map-append g xs ys)
 
 -- c's frames, over and body, stand on others
-pub on-others : {w : View} {y : Option Op} {z : View} (t : Entered w y c z) → z .frames ≡ (t .over ++ (t .body ∷ [])) ++ at (t .by .pc) (w .frames)
+pub on-others : {w : View} {y : Option Op} {z : View} (t : Stands w y c z) → z .frames ≡ (t .over ++ (t .body ∷ [])) ++ at (t .by .pc) (w .frames)
 on-others {w} t = t .frames ∙ sym (append-assoc (t .over) (t .body ∷ []) (at (t .by .pc) (w .frames)))
 
 -- the first frame's pc, where c's saved frames are those of fs
-pub first-pc : {w : View} {y : Option Op} {z : View} (t : Entered w y c z) (fs : List Frame) (n : ℕ) → AllMoved 0 n fs (t .over ++ (t .body ∷ [])) → map pcIs (z .frames) ≡ map pcIs fs ++ map pcIs (at (t .by .pc) (w .frames))
+pub first-pc : {w : View} {y : Option Op} {z : View} (t : Stands w y c z) (fs : List Frame) (n : ℕ) → AllMoved 0 n fs (t .over ++ (t .body ∷ [])) → map pcIs (z .frames) ≡ map pcIs fs ++ map pcIs (at (t .by .pc) (w .frames))
 first-pc {w} t fs n m =
     let mine = t .over ++ (t .body ∷ []) in
     ap (map pcIs) (on-others t) ∙ map-append pcIs mine (at (t .by .pc) (w .frames))
-    ∙ ap (λ l. l ++ map pcIs (at (t .by .pc) (w .frames))) (all-alike pcAlike pcIs pcIs (λ b h f j m e. e) 0 n fs mine m (each pcAlike (λ b h f g m. m .pc) 0 n fs mine m))
+    ∙ ap (λ l. l ++ map pcIs (at (t .by .pc) (w .frames))) (all-alike pcAlike pcIs pcIs (λ b h f j e. e) 0 n fs mine (each pcAlike (λ b h f g m. m .pc) 0 n fs mine m))
 
-by-says : RefutedAt by (λ e a r. r .says) grantResumes
+by-says : RefutedOn by (λ e a r. entry (a .c) (r .driver) (r .sent) (r .pc)) (λ e a g. whom (e .view (a .s)) (e .op (a .y)) ≡ some g) (λ e a r. r .says) grantResumes
 unfolding computed waiting
-by-says = (entry-at c waiting (asCall (Op.Grant 1) refl) refl refl, λ r h. no-one h)
+by-says = (entry-at c waiting (asCall (Op.Grant 1) refl) refl refl, entry c Driver.Host nothing 0, λ g h. no-one h)
 
 pub entered-by : RefutedAt entered (λ e a r. r .by) grantResumes
 unfolding computed waiting
-entered-by = (entry-at c waiting (asCall (Op.Grant 1) refl) refl refl, λ r h. no-one (h .says))
+entered-by = (entry-at c waiting (asCall (Op.Grant 1) refl) refl refl, λ h. no-one (h .says))
 
-entered-frames : RefutedAt entered (λ e a r. r .frames) (beginsWith (underTop atOne))
+-- what the resume of c says
+abbrev resumes : {w : View} {y : Option Op} → whom w y ≡ some (entry c (Driver.Resume 1) nothing 2) → By w y c
+resumes e = record { driver = Driver.Resume 1; sent = nothing; pc = 2; says = e }
+
+entered-frames : RefutedOn entered parts (λ e a g. e .view (e .next (a .s) (a .y)) .frames ≡ g .1 ++ (g .2 ∷ at (g .0 .pc) (e .view (a .s) .frames))) (λ e a r. r .frames) (beginsWith (underTop atOne))
 unfolding computed waiting
 entered-frames = (
   entry-at c waiting (asCall (Op.Resume 2 1 0 2) refl) refl refl,
-  λ r h.
-      let q : _≡_ {A = ℕ} 1 2 = ap (λ fs. lastOr (r .body) fs .pc) h ∙ ap pcIs (last-two (r .body) (r .over) (r .body) (frame 0 (r .by .pc) 0 0 Cont.Entry)) ∙ pc-by (r .by) in
+  (resumes refl, [], frame 0 0 0 0 Cont.Coro),
+  λ g h.
+      let q : _≡_ {A = ℕ} 1 2 = ap (λ fs. lastOr (g .2) fs .pc) h ∙ ap pcIs (last-two (g .2) (g .1) (g .2) (frame 0 (g .0 .pc) 0 0 Cont.Entry)) ∙ pc-by (g .0) in
       absurd (omega (arith, q)),
 )
 
-entered-stack : RefutedAt entered (λ e a r. r .stack) (beginning fourthWord5)
+entered-stack : RefutedOn entered (λ e a r. r .words) (λ e a g. e .view (e .next (a .s) (a .y)) .stack ≡ e .view (a .s) .stack ++ g) (λ e a r. r .stack) (beginning fourthWord5)
 unfolding computed waiting
-entered-stack = (entry-at c waiting (asCall (Op.Resume 2 1 0 2) refl) refl refl, λ r h. let q : _≡_ {A = ℕ} 5 0 = ap (λ xs. getD xs 3 0) h in absurd (omega (arith, q)))
+entered-stack = (entry-at c waiting (asCall (Op.Resume 2 1 0 2) refl) refl refl, [], λ g h. let q : _≡_ {A = ℕ} 5 0 = ap (λ xs. getD xs 3 0) h in absurd (omega (arith, q)))
 
-entered-its-own : RefutedAt entered (λ e a r. r .its-own) (seeing (eachSeen discards))
+entered-its-own : RefutedOn entered stands (λ e a g. g .body .cont ≡ Cont.Coro) (λ e a r. r .its-own) (seeing (eachSeen discards))
 unfolding computed waiting
 entered-its-own = (
   entry-at c waiting (asCall (Op.Resume 2 1 0 2) refl) refl refl,
-  λ r h.
-      let q : _≡_ {A = ℕ} 4 5 = ap (λ f. codeOf (f .cont)) (sym (first-of (r .over) (r .body) _ _ _ (r .frames))) ∙ ap codeOf h in
+  record { by = resumes refl; over = []; body = frame 0 0 4 0 Cont.Discard; frames = refl },
+  λ g h.
+      let q : _≡_ {A = ℕ} 4 5 = ap (λ f. codeOf (f .cont)) (sym (first-of (g .over) (g .body) _ _ _ (g .frames))) ∙ ap codeOf h in
       absurd (omega (arith, q)),
 )
 
-entered-body-base : RefutedAt entered (λ e a r. r .body-base) (seeing (eachSeen higher))
+entered-body-base : RefutedOn entered stands (λ e a g. g .body .base ≡ length (e .view (a .s) .stack)) (λ e a r. r .body-base) (seeing (bodiesSeen higher))
 unfolding computed waiting
 entered-body-base = (
   entry-at c waiting (asCall (Op.Resume 2 1 0 2) refl) refl refl,
-  λ r h.
-      let q : _≡_ {A = ℕ} 5 4 = ap (λ f. f .base) (sym (first-of (r .over) (r .body) _ _ _ (r .frames))) ∙ h in
+  record { by = resumes refl; over = []; body = frame 0 0 5 0 Cont.Coro; frames = refl },
+  λ g h.
+      let q : _≡_ {A = ℕ} 5 4 = ap (λ f. f .base) (sym (first-of (g .over) (g .body) _ _ _ (g .frames))) ∙ h in
       absurd (omega (arith, q)),
 )
 
-entered-chain : RefutedAt entered (λ e a r. r .chain) (beginning (λ w z. withChain (map floor0 (z .chain)) z))
+entered-chain : RefutedOn entered (λ e a r. r .by) (λ e a g. let w = e .view (a .s) in e .view (e .next (a .s) (a .y)) .chain ≡ record { coro = a .c; floor = length (w .frames); driver = g .driver } ∷ w .chain) (λ e a r. r .chain)
+    (beginning (λ w z. withChain (map floor0 (z .chain)) z))
 unfolding computed waiting
-entered-chain = (entry-at c waiting (asCall (Op.Resume 2 1 0 2) refl) refl refl, λ r h. let q : _≡_ {A = ℕ} 0 1 = ap floorIn h in absurd (omega (arith, q)))
+entered-chain = (entry-at c waiting (asCall (Op.Resume 2 1 0 2) refl) refl refl, resumes refl, λ g h. let q : _≡_ {A = ℕ} 0 1 = ap floorIn h in absurd (omega (arith, q)))
 
-entered-closing : RefutedAt entered (λ e a r. r .closing) closingEnds
+entered-closing : RefutedOn entered (λ e a r. r .by) (λ e a g. closer (e .view (e .next (a .s) (a .y)) .coro (a .c)) ≡ closedBy (g .sent) (closer (e .view (a .s) .coro (a .c)))) (λ e a r. r .closing) closingEnds
 unfolding computed sleeping
-entered-closing = (entry-at c sleeping (asCall (Op.CoroClose 3 1 0 2) refl) refl refl, λ r h. no-word (closed-by r h))
+entered-closing = (entry-at c sleeping (asCall (Op.CoroClose 3 1 0 2) refl) refl refl, record { driver = Driver.Resume 1; sent = closes 9; pc = 3; says = refl }, λ g h. no-word (closed-by g h))
 
-entered-saved-words : RefutedAt entered (λ e a r. r .saved-words) (beginning firstWord5)
+entered-saved-words : RefutedOn entered (λ e a r. r .by)
+    (λ e a g. let w = e .view (a .s) in let z = e .view (e .next (a .s) (a .y)) in (x : Seen) → w .coro (a .c) ≡ some x → z .stack ≡ withSent (g .sent) (z .frames) (x .waits) (w .stack ++ x .words))
+    (λ e a r. r .saved-words) (beginning firstWord5)
 unfolding computed waiting
 entered-saved-words = (
   entry-at c waiting (asCall (Op.Resume 2 1 0 2) refl) refl refl,
-  λ r h.
-      let q : _≡_ {A = ℕ} 5 0 = word-by r fresh-one (h fresh-one refl) 4 in
+  resumes refl,
+  λ g h.
+      let q : _≡_ {A = ℕ} 5 0 = word-by (viewOf (beginning firstWord5 .next waiting (asCall (Op.Resume 2 1 0 2) refl))) g fresh-one (h fresh-one refl) 4 in
       absurd (omega (arith, q)),
 )
 
-entered-saved-frames : RefutedAt entered (λ e a r. r .saved-frames) (beginsWith (onTop atOne))
+entered-saved-frames : RefutedOn entered stands
+    (λ e a g. let w = e .view (a .s) in (x : Seen) → w .coro (a .c) ≡ some x → AllMoved 0 (length (w .stack)) (enteredFrames (g .by .sent) (x .frames)) (g .over ++ (g .body ∷ [])))
+    (λ e a r. r .saved-frames) (beginsWith (onTop atOne))
 unfolding computed waiting
 entered-saved-frames = (
   entry-at c waiting (asCall (Op.Resume 2 1 0 2) refl) refl refl,
-  λ r h.
-      let q : _≡_ {A = ℕ} 1 0 = ap first (first-pc r (enteredFrames (r .by .sent) (frame 0 0 0 0 Cont.Coro ∷ [])) 4 (h fresh-one refl)) ∙ ap (λ s. stepped s 0) (sent-by (r .by)) in
+  record { by = resumes refl; over = []; body = frame 0 1 4 0 Cont.Coro; frames = refl },
+  λ g h.
+      let q : _≡_ {A = ℕ} 1 0 = ap first (first-pc g (enteredFrames (g .by .sent) (frame 0 0 0 0 Cont.Coro ∷ [])) 4 (h fresh-one refl)) ∙ ap (λ s. stepped s 0) (sent-by (g .by)) in
       absurd (omega (arith, q)),
 )
 
 -- ---- what is left
 
-word-below : {w : View} {y : Option Op} {v : View} {k : Option Op} {z : View} (l : LeftBelow w y c v k z) → stackFrames (z .stack) (z .frames) ≡ deliveredTo (l .by .driver) (eventGiven v (announcedBy v k) c z) (stackFrames (w .stack) (at (l .by .pc) (w .frames)))
-    → (i : ℕ) → getD (z .stack) i 0 ≡ getD (deliveredTo (driverIn (whom w y)) (eventGiven v (announcedBy v k) c z) (stackFrames (w .stack) (at (l .by .pc) (w .frames))) .stack) i 0
-word-below {w} {y} {v} {k} {z} l h i =
-    ap (λ (m : StackFrames). getD (m .stack) i 0) h ∙ ap (λ d. getD (deliveredTo d (eventGiven v (announcedBy v k) c z) (stackFrames (w .stack) (at (l .by .pc) (w .frames))) .stack) i 0) (driver-by (l .by))
+word-below : {w : View} {y : Option Op} (v : View) (k : Option Op) (z : View) (b : By w y c) → stackFrames (z .stack) (z .frames) ≡ deliveredTo (b .driver) (eventGiven v (announcedBy v k) c z) (stackFrames (w .stack) (at (b .pc) (w .frames)))
+    → (i : ℕ) → getD (z .stack) i 0 ≡ getD (deliveredTo (driverIn (whom w y)) (eventGiven v (announcedBy v k) c z) (stackFrames (w .stack) (at (b .pc) (w .frames))) .stack) i 0
+word-below {w} v k z b h i =
+    ap (λ (m : StackFrames). getD (m .stack) i 0) h ∙ ap (λ d. getD (deliveredTo d (eventGiven v (announcedBy v k) c z) (stackFrames (w .stack) (at (b .pc) (w .frames))) .stack) i 0) (driver-by b)
 
 left-by : RefutedAt left (λ e a r. r .by) grantResumes
 unfolding computed waiting
-left-by = (leave-at c waiting (asCall (Op.Grant 1) refl) (asCall (Op.Yield 3 0 1) refl) refl refl refl refl, λ r h. no-one (h .says))
+left-by = (leave-at c waiting (asCall (Op.Grant 1) refl) (asCall (Op.Yield 3 0 1) refl) refl refl refl refl, λ h. no-one (h .says))
 
-pub left-under : RefutedAt left (λ e a r. r .under) (parting fourthWord5)
+pub left-under : RefutedOn left (λ e a r. r .by) underIs (λ e a r. r .under) (parting fourthWord5)
 unfolding computed waiting
 left-under = (
   leave-at c waiting (asCall (Op.Resume 2 1 0 2) refl) (asCall (Op.Yield 3 0 1) refl) refl refl refl refl,
-  λ r h.
-      let q : _≡_ {A = ℕ} 5 0 = word-below r h 3 in
+  resumes refl,
+  λ g h.
+      let at-yield = parting fourthWord5 .next waiting (asCall (Op.Resume 2 1 0 2) refl) in
+      let q : _≡_ {A = ℕ} 5 0 = word-below (viewOf at-yield) (some (Op.Yield 3 0 1)) (viewOf (parting fourthWord5 .next at-yield (asCall (Op.Yield 3 0 1) refl))) g h 3 in
       absurd (omega (arith, q)),
 )
 
@@ -272,7 +289,7 @@ left-chain : RefutedAt left (λ e a r. r .chain) (parting (λ w z. withChain (w 
 unfolding computed waiting
 left-chain = (
   leave-at c waiting (asCall (Op.Resume 2 1 0 2) refl) (asCall (Op.Yield 3 0 1) refl) refl refl refl refl,
-  λ r h.
+  λ h.
       let q : _≡_ {A = ℕ} 1 0 = ap someOne h in
       absurd (omega (arith, q)),
 )

@@ -1,18 +1,18 @@
--- The engines that are wrong in what they accept, in set-ups, looks, fuel records or calls, or lose their soundness: one call tells each, by the
--- field that WrongPromise.antt names.
-use Prim.Native.Nat.{ℕ, _+_, _*_}
+-- The engines that are wrong in what they accept, in fuel records or calls, or lose their soundness: one call tells each, by the field that
+-- WrongPromise.antt names.
+use Prim.Native.Nat.{ℕ}
 use native.Mathlib.Omega.{arith}
-use mathlib.Core.Path.{_≡_, refl, sym, ap, _∙_}
-use mathlib.Core.Bool.{Bool, true, false, _&&_, _||_}
-use mathlib.Core.List.{List, [], _∷_, map}
-use mathlib.Core.Option.{Option, none, some, orElse}
-use lib.ListN.{length, take}
+use mathlib.Core.Path.{_≡_, refl, ap, _∙_}
+use mathlib.Core.Bool.{Bool, true, false, _&&_}
+use mathlib.Core.List.{List, [], _∷_}
+use mathlib.Core.Option.{Option, some, orElse}
+use lib.ListN.{length}
 use lib.Dec.{eqb}
 use Rattle.lists.specs.Pick.{pick}
 use Rattle.heap.specs.declared.fault.Fault.{Fault}
 use Rattle.heap.specs.declared.object.CoroState.{CoroState}
 use Rattle.heap.specs.declared.heap.ResultKind.{ResultKind}
-use Rattle.model.specs.World.{World, fresh, withStack, withFrames, withChain, withSlots, withFinalize, withUsed, withFuel}
+use Rattle.model.specs.World.{World, fresh}
 use Rattle.model.specs.Step as M
 use Rattle.model.specs.Step.{step}
 use Rattle.model.specs.Answer.{numberOf}
@@ -20,34 +20,33 @@ use Rattle.model.specs.Call.{Call, SetUp, Do, asCall}
 use Rattle.model.specs.Compute.{computed}
 use Rattle.model.specs.declared.machine.Cont.{Cont}
 use Rattle.model.specs.declared.machine.Driver.{Driver}
-use Rattle.model.specs.declared.machine.Active.{Active}
-use Rattle.model.specs.declared.machine.Fuel.{Fuel}
 use Rattle.model.specs.declared.call.OptPc.{OptPc}
 use Rattle.model.specs.declared.call.Op.{Op}
-use Rattle.claims_model.specs.Engine.{Seen, Rules, View, seenRunning, seenSuspended, seenReturned, seenCreated, stateIs, seenIn, turnCall, runTurns}
+use Rattle.claims_model.specs.Engine.{View, Turn, turnFuel}
 use Rattle.claims_model.specs.Demand3.{Demand3}
 use Rattle.claims_model.specs.Events.{Healthy}
-use Rattle.claims_model.specs.Promise.{bytesFit, Roomy, Accepts, Eleven, sets-up, no-fault, Soundness, SetUps, Looks, NotEmpty, Promise}
-use Rattle.claims_model.specs.Steps.{viewOf, modelOp}
+use Rattle.claims_model.specs.Promise.{Roomy, Accepts, Eleven, sets-up, no-fault, Soundness, Promise}
+use Rattle.claims_model.specs.Steps.{modelOp}
 use Rattle.claims_model.specs.Story as Story
-use Rattle.claims_model.specs.Story.{wide, bad, c, held}
-use Rattle.claims_model.specs.Witness.{frame, nth, other, waiting as turns}
+use Rattle.claims_model.specs.Story.{wide, c, held}
+use Rattle.claims_model.specs.Witness.{frame, other}
 use Rattle.claims_model.specs.Refuted as R
-use Rattle.claims_model.specs.Refuted.{Refuted, RefutedIn, RefutedAt}
+use Rattle.claims_model.specs.Refuted.{Refuted}
 use Rattle.claims_model.specs.Bent as Bent
-use Rattle.claims_model.specs.Bent.{isA, answering, seeing, leavingAt, answeringAt, answeringFor, refusing}
+use Rattle.claims_model.specs.Bent.{isA, answering, leavingAt, answeringAt, answeringFor, refusing}
 use Rattle.claims_model.specs.WrongWakes.{grantResumes, movesOnce}
 use Rattle.claims_model.specs.WrongCalls.{fives, creates}
 use Rattle.claims_model.specs.WrongPromise as W
-use Rattle.claims_model.specs.WrongPromise.{unpaid, bankUnused, refusesLooks, setsDepth1, loopLeft, showsStack, keepsFuel, heardAs, hearsLooks, doesNothing, fullSeen, setUpAnswers12, afterRefuel}
-use Rattle.claims_model.proofs.Premises.{waits-true}
+use Rattle.claims_model.specs.WrongPromise.{Fuelled, unpaid, bankUnused, refusesLooks, setsDepth1, showsStack, keepsFuel, heardAs, hearsLooks, doesNothing, afterRefuel}
 use Rattle.claims_model.proofs.Cores.{no-both}
-use Rattle.claims_model.proofs.Exact.{some-op, sound-healthy}
-use Rattle.claims_model.proofs.WrongCalls.{refusing-healthy, touches-put, creates-new, asks-status-if}
+use Rattle.claims_model.proofs.Exact.{some-op}
+use Rattle.claims_model.proofs.WrongCalls.{refusing-healthy, creates-new, asks-status-if}
+use Rattle.claims_model.proofs.WrongTouches.{touches-put}
 use Rattle.claims_model.proofs.WrongWakes.{word-back, demand3-restored}
 use Rattle.claims_model.proofs.WrongEvents.{events-enters}
+use Rattle.claims_model.proofs.WrongSetUps.{set-ups-given, looks-sees, set-up-answers-12}
 use Rattle.claims_model.proofs.Places as Places
-use Rattle.claims_model.proofs.Places.{waiting, begun, itself, raising, queued, banked-calls, banked, over, unsound}
+use Rattle.claims_model.proofs.Places.{waiting, begun, itself, raising, banked-calls, banked, seven}
 
 -- ---- what is accepted
 
@@ -180,154 +179,6 @@ soundness-eleven : Refuted Soundness (λ e v. v .eleven) (answeringFor 3 11)
 unfolding computed itself
 soundness-eleven h = no-eleven _ (h itself (asCall (Op.Resume 5 1 0 2) refl) (answering-healthy (λ w k a. pick (eqb a 3) 11 a) itself refl) refl) refl
 
--- ---- set-ups
-
-abbrev depthIn : Option Rules → ℕ
-depthIn none = 0
-depthIn (some r) = r .depth
-
-abbrev someOne : List Active → ℕ
-someOne [] = 0
-someOne (a ∷ chain) = 1
-
-set-ups-begun : Refuted SetUps (λ e v. v .begun) (leavingAt Bent.setUp (λ w z. withFuel (w .fuel) z))
-unfolding computed begun
-set-ups-begun h = let q : _≡_ {A = ℕ} 998 0 = ap (λ (f : Fuel). f .fuel) (h begun (SetUp wide) (record { sets-up = refl; accepted = refl }) .fuel) in absurd (omega (arith, q))
-
-set-ups-given : Refuted SetUps (λ e v. v .given) setsDepth1
-unfolding computed begun
-set-ups-given h = let q : _≡_ {A = ℕ} 6 1 = ap depthIn (h begun (SetUp wide) (record { sets-up = refl; accepted = refl })) in absurd (omega (arith, q))
-
-set-ups-refused : Refuted SetUps (λ e v. v .refused) (leavingAt Bent.setUp (λ w z. withStack [] z))
-unfolding computed begun
-set-ups-refused h = let q : _≡_ {A = ℕ} 0 8 = ap (λ (v : View). length (v .stack)) (h begun (SetUp bad) refl (λ e. absurd (omega (arith, e))) .1) in absurd (omega (arith, q))
-
-fresh-stack : RefutedAt R.fresh (λ e a r. r .stack) (leavingAt Bent.setUp (λ w z. withStack (w .stack) z))
-unfolding computed begun
-fresh-stack = (
-  record { s = begun; k = SetUp wide; restarts = record { sets-up = refl; accepted = refl } },
-  λ r h.
-      let q : _≡_ {A = ℕ} 8 0 = ap length h in
-      absurd (omega (arith, q)),
-)
-
-fresh-frames : RefutedAt R.fresh (λ e a r. r .frames) (leavingAt Bent.setUp (λ w z. withFrames (w .frames) z))
-unfolding computed begun
-fresh-frames = (
-  record { s = begun; k = SetUp wide; restarts = record { sets-up = refl; accepted = refl } },
-  λ r h.
-      let q : _≡_ {A = ℕ} 2 0 = ap length h in
-      absurd (omega (arith, q)),
-)
-
-fresh-chain : RefutedAt R.fresh (λ e a r. r .chain) (leavingAt Bent.setUp (λ w z. withChain (w .chain) z))
-unfolding computed begun
-fresh-chain = (
-  record { s = begun; k = SetUp wide; restarts = record { sets-up = refl; accepted = refl } },
-  λ r h.
-      let q : _≡_ {A = ℕ} 1 0 = ap someOne h in
-      absurd (omega (arith, q)),
-)
-
-fresh-coros : RefutedAt R.fresh (λ e a r. r .coros) (leavingAt Bent.setUp (λ w z. withSlots (w .slots) z))
-unfolding computed waiting
-fresh-coros = (
-  record { s = waiting; k = SetUp wide; restarts = record { sets-up = refl; accepted = refl } },
-  λ r h.
-      no-both {b = stateIs (viewOf waiting) seenCreated c} refl (ap (seenIn (λ x. seenCreated (x .state))) (h c)),
-)
-
-fresh-loops : RefutedAt R.fresh (λ e a r. r .loops) (leavingAt Bent.setUp loopLeft)
-unfolding computed
-fresh-loops = (record { s = fresh wide; k = SetUp wide; restarts = record { sets-up = refl; accepted = refl } }, λ r h. no-both refl (h c))
-
-fresh-queue : RefutedAt R.fresh (λ e a r. r .queue) (leavingAt Bent.setUp (λ w z. withFinalize (w .finalize) z))
-unfolding computed queued
-fresh-queue = (
-  record { s = queued; k = SetUp wide; restarts = record { sets-up = refl; accepted = refl } },
-  λ r h.
-      let q : _≡_ {A = ℕ} 2 0 = ap length h in
-      absurd (omega (arith, q)),
-)
-
-fresh-fuel : RefutedAt R.fresh (λ e a r. r .fuel) (leavingAt Bent.setUp (λ w z. withFuel (w .fuel) z))
-unfolding computed begun
-fresh-fuel = (
-  record { s = begun; k = SetUp wide; restarts = record { sets-up = refl; accepted = refl } },
-  λ r h.
-      let q : _≡_ {A = ℕ} 998 0 = ap (λ (f : Fuel). f .fuel) h in
-      absurd (omega (arith, q)),
-)
-
-fresh-used : RefutedAt R.fresh (λ e a r. r .used) (leavingAt Bent.setUp (λ w z. withUsed (w .used) z))
-unfolding computed waiting
-fresh-used = (record { s = waiting; k = SetUp wide; restarts = record { sets-up = refl; accepted = refl } }, λ r h. absurd (no-used h))
-  where
-    no-used : viewOf waiting .used ≡ 0 → ⊥
-    no-used e = absurd (omega (arith, e))
-
-looks-sees : Refuted Looks (λ e v. v .sees) showsStack
-unfolding computed begun
-looks-sees h = let q : _≡_ {A = ℕ} 8 4 = ap length (h begun (sound-healthy begun refl)) in absurd (omega (arith, q))
-
-looks-unseen : Refuted Looks (λ e v. v .unseen) showsStack
-unfolding computed
-looks-unseen h =
-    let q : _≡_ {A = ℕ} 1 0 = ap length (h unsound (λ g. let e : _≡_ {A = ℕ} 11 0 = g (asCall Op.Look refl) refl in
-    absurd (omega (arith, e)))) in
-    absurd (omega (arith, q))
-
-looks-unmoved : Refuted Looks (λ e v. v .unmoved) (leavingAt Bent.look (λ w z. withStack [] z))
-unfolding computed begun
-looks-unmoved h = let q : _≡_ {A = ℕ} 0 8 = ap (λ (v : View). length (v .stack)) (h begun (asCall Op.Look refl) refl) in absurd (omega (arith, q))
-
--- ---- one list of calls
-
--- who runs neither sleeps nor has returned
-runs-only : (x : Option Seen) → seenIn (λ y. seenRunning (y .state)) x ≡ true → seenIn (λ y. seenSuspended (y .state) || seenReturned (y .state)) x ≡ true → ⊥
-runs-only none h k = no-both h refl
-runs-only (some x) h k = go (x .state) h k
-  where
-    go : (s : CoroState) → seenRunning s ≡ true → (seenSuspended s || seenReturned s) ≡ true → ⊥
-    go CoroState.Created h k = no-both h refl
-    go CoroState.Running h k = no-both k refl
-    go CoroState.Yielded h k = no-both h refl
-    go CoroState.Awaiting h k = no-both h refl
-    go CoroState.Returned h k = no-both h refl
-    go CoroState.Failed h k = no-both h refl
-
-sleeps-or : (x : Option Seen) → seenIn (λ y. seenSuspended (y .state)) x ≡ true → seenIn (λ y. seenSuspended (y .state) || seenReturned (y .state)) x ≡ true
-sleeps-or none h = h
-sleeps-or (some x) h = ap (λ b. b || seenReturned (x .state)) h
-
-not-empty-accepted : RefutedIn NotEmpty (λ e v. v .accepted) (refusing Bent.setUp 11)
-unfolding pick
-not-empty-accepted v h =
-    let q : _≡_ {A = ℕ} 11 0 = sym (ap (λ o. pick (isA Bent.setUp o) 11 (numberOf (step (v .start) (v .first) .answer))) (h .sets-up)) ∙ h .accepted in
-    absurd (omega (arith, q))
-
-not-empty-suspends : RefutedIn NotEmpty (λ e v. v .suspends) doesNothing
-unfolding computed
-not-empty-suspends v h = let x = viewOf (runTurns doesNothing (v .start) (v .before)) .coro (v .c) in runs-only x (h .before) (sleeps-or x (h .after))
-
-not-empty-roomy : RefutedIn NotEmpty (λ e v. v .roomy) (answeringAt Bent.look 11)
-unfolding computed
-not-empty-roomy v h = let q : _≡_ {A = ℕ} 11 0 = h .healthy (asCall Op.Look refl) refl in absurd (omega (arith, q))
-
-not-empty-makes : RefutedIn NotEmpty (λ e v. v .makes) (seeing fullSeen)
-unfolding computed
-not-empty-makes v h = no-both refl (h .slot)
-
-not-empty-enters : RefutedIn NotEmpty (λ e v. v .enters) doesNothing
-unfolding computed
-not-empty-enters v h = no-both (h .after) (h .before)
-
-not-empty-stops : RefutedIn NotEmpty (λ e v. v .stops) doesNothing
-unfolding computed
-not-empty-stops v h =
-    let x = viewOf (runTurns doesNothing (runTurns doesNothing (runTurns doesNothing (v .start) (v .before)) (v .waiting)) (v .going)) .coro (v .c) in
-    runs-only x (h .before) (h .after)
-
 -- ---- all that is promised
 
 promise-demand3 : Refuted Promise (λ e v. v .demand3) movesOnce
@@ -370,21 +221,19 @@ promise-speaks h = let (k, q) = h Op.StopRun refl in go k q
     go (Do o) q = let z : _≡_ {A = ℕ} 0 1 = cc in absurd (omega arith)
 
 promise-not-empty : Refuted Promise (λ e v. v .not-empty) doesNothing
-promise-not-empty h = not-empty-suspends h (h .suspends)
+promise-not-empty h = no-both (h .enters .after) (h .enters .before)
 
 -- ---- more of them
 
-set-up-answers-12 : SetUps setUpAnswers12 → ⊥
-unfolding computed begun
-set-up-answers-12 v = let q : _≡_ {A = ℕ} 12 11 = v .refused begun (SetUp bad) refl (λ e. absurd (omega (arith, e))) .0 in absurd (omega (arith, q))
-
--- at the split that Witness.antt shows as lists: the first word that was held is 0, and was 11
+-- c yields with 7 in its first register, and is resumed after another fuel record: the word is 0
 zeros-after-refuel : Demand3 afterRefuel → ⊥
-unfolding computed
+unfolding computed seven
 zeros-after-refuel d =
-    let before = runTurns afterRefuel (record { world = fresh wide; left = 0 }) (map turnCall (take 13 held)) in
-    let r = d .restored c before (nth held 13) turns (nth held 23) (record { before = refl; after = refl }) (waits-true afterRefuel c (afterRefuel .next before (nth held 13)) turns refl) (record { before = refl; after = refl }) in
-    let q : _≡_ {A = ℕ} 0 11 = word-back r (r .words) (frame 0 0 0 0 Cont.Coro) 12 in
+    let start : Fuelled = record { world = seven; left = seven .fuel .fuel } in
+    let yield = asCall (Op.Yield 8 3 1) refl in
+    let refuelled : List (Turn Call) = turnFuel other ∷ [] in
+    let r = d .restored c start yield refuelled (asCall (Op.Resume 9 1 0 2) refl) (record { before = refl; after = refl }) tt (record { before = refl; after = refl }) in
+    let q : _≡_ {A = ℕ} 0 7 = word-back (some (Op.Yield 8 3 1)) (r .held) (R.standing (r .entered)) (r .words) (frame 0 0 0 0 Cont.Coro) 4 in
     absurd (omega (arith, q))
 
 -- NONE OF THEM
@@ -406,15 +255,6 @@ refuted-accepts =
 pub refuted-soundness : W.RefutedSoundness
 refuted-soundness = record { begun = soundness-begun; kept = soundness-kept; refuelled = soundness-refuelled; eleven = soundness-eleven }
 
-pub refuted-set-ups : W.RefutedSetUps
-refuted-set-ups = record { begun = set-ups-begun; given = set-ups-given; refused = set-ups-refused }
-
-pub refuted-fresh : W.RefutedFresh
-refuted-fresh = record { stack = fresh-stack; frames = fresh-frames; chain = fresh-chain; coros = fresh-coros; loops = fresh-loops; queue = fresh-queue; fuel = fresh-fuel; used = fresh-used }
-
-pub refuted-looks : W.RefutedLooks
-refuted-looks = record { sees = looks-sees; unseen = looks-unseen; unmoved = looks-unmoved }
-
 pub refuted-promise : W.RefutedPromise
 refuted-promise =
     record {
@@ -431,9 +271,6 @@ refuted-promise =
       speaks = promise-speaks;
       not-empty = promise-not-empty;
     }
-
-pub refuted-not-empty : W.RefutedNotEmpty
-refuted-not-empty = record { accepted = not-empty-accepted; suspends = not-empty-suspends; roomy = not-empty-roomy; makes = not-empty-makes; enters = not-empty-enters; stops = not-empty-stops }
 
 pub wrong-promise : W.WrongPromise
 wrong-promise = record { set-up-answers-12 = set-up-answers-12; zeros-after-refuel = zeros-after-refuel }

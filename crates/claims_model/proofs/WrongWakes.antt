@@ -5,51 +5,53 @@ use mathlib.Core.Path.{_≡_, refl, sym, ap, _∙_}
 use mathlib.Core.Logic.{_⊎_, inl, inr}
 use mathlib.Core.Bool.{Bool, true, false, not, _&&_}
 use mathlib.Core.List.{List, [], _∷_, _++_, map, append-assoc}
-use mathlib.Core.Option.{Option, none}
+use mathlib.Core.Option.{Option, some}
 use lib.ListN.{length, getD, take, drop, length-append}
 use lib.Seq.{take-append-seam}
 use Rattle.heap.specs.declared.object.CoroState.{CoroState}
-use Rattle.model.specs.World.{World, fresh}
-use Rattle.model.specs.Call.{Call, asCall}
+use Rattle.model.specs.World.{World}
+use Rattle.model.specs.Call.{Call, typed, asCall}
 use Rattle.model.specs.Compute.{computed}
 use Rattle.model.specs.declared.machine.Cont.{Cont}
+use Rattle.model.specs.declared.machine.Driver.{Driver}
 use Rattle.model.specs.declared.machine.Active.{Active}
 use Rattle.model.specs.declared.machine.Frame.{Frame}
 use Rattle.model.specs.declared.call.Op.{Op}
-use Rattle.claims_model.specs.Engine.{Seen, View, turnCall, runTurns}
+use Rattle.claims_model.specs.Engine.{Engine, Turn, Seen, View, turnCall, runTurns}
 use Rattle.claims_model.specs.Says.{announcedBy, whom}
-use Rattle.claims_model.specs.Held.{at, Moved, AllMoved, pcOf, waitsIn, stepped, withSent, Held, Entered, Restored}
+use Rattle.claims_model.specs.Held.{at, Moved, AllMoved, pcOf, waitsIn, stepped, withSent, Held, Entered}
 use Rattle.claims_model.specs.Demand3.{Demand3}
 use Rattle.claims_model.specs.Premises.{runsIn, sleepsIn, waits}
 use Rattle.claims_model.specs.Story as Story
-use Rattle.claims_model.specs.Story.{wide, c, part, held}
-use Rattle.claims_model.specs.Witness.{nth, between, frame}
-use Rattle.claims_model.specs.Refuted.{Refuted, RefutedAt, RefutedMoved, Each, Wake, entered, restored, held as heldAt}
+use Rattle.claims_model.specs.Steps.{viewOf}
+use Rattle.claims_model.specs.Story.{c}
+use Rattle.claims_model.specs.Witness.{frame}
+use Rattle.claims_model.specs.Refuted.{Refuted, RefutedAt, RefutedOn, RefutedOver, RefutedMoved, Each, Stands, standing, Wake, entered, restored, woken, framesAre, wordsAre, held, thirds, splits, linked}
 use Rattle.claims_model.specs.Bent as Bent
 use Rattle.claims_model.specs.Bent.{leaving, parting, seeing, leavingAt, making}
 use Rattle.claims_model.specs.WrongWakes as W
 use Rattle.claims_model.specs.WrongWakes.{grantResumes, fourthWord5, unchained, framed, onTop, tail, ofZero, discards, bare, atOne, further, higher, movesOnce, wakesWith, topOfZero, firstOf5, sleepsWith, readsRowOf, exchangesRows, wakesUnseen}
 use Rattle.claims_model.proofs.Premises.{waits-true}
 use Rattle.claims_model.proofs.Cores.{no-both}
-use Rattle.claims_model.proofs.Places.{waiting, begun, sleeping}
+use Rattle.claims_model.proofs.Places.{begun, inside, seven, sleeping}
 use Rattle.claims_model.proofs.WrongEntries.{entered-by, left-under, first, second, codeOf, floorIn, someOne, lastOr, last-is, one-of, sentIn, wake-at, sent-by, word-by, all-alike, each, pcAlike, pcIs, map-append, on-others}
 
 -- ---- what is put back
 
-abbrev funcAlike : (b h : ℕ) (f g : Frame) → Moved b h f g → Type 0
-funcAlike b h f g m = g .func ≡ f .func
+abbrev funcAlike : (b h : ℕ) (f g : Frame) → Type 0
+funcAlike b h f g = g .func ≡ f .func
 
 abbrev funcOf : Frame → ℕ
 funcOf f = f .func
 
-abbrev closureAlike : (b h : ℕ) (f g : Frame) → Moved b h f g → Type 0
-closureAlike b h f g m = g .closure ≡ f .closure
+abbrev closureAlike : (b h : ℕ) (f g : Frame) → Type 0
+closureAlike b h f g = g .closure ≡ f .closure
 
 abbrev closureOf : Frame → ℕ
 closureOf f = f .closure
 
-abbrev contAlike : (b h : ℕ) (f g : Frame) → Moved b h f g → Type 0
-contAlike b h f g m = g .cont ≡ f .cont
+abbrev contAlike : (b h : ℕ) (f g : Frame) → Type 0
+contAlike b h f g = g .cont ≡ f .cont
 
 abbrev contOf : Frame → ℕ
 contOf f = codeOf (f .cont)
@@ -71,58 +73,59 @@ module _ {v : View} (r : Held v c) where
   pub base-mine : (g : Frame) → r .body .base ≡ lastOr g (found v) .base
   base-mine g = sym (ap (λ fs. lastOr g fs .base) found-mine ∙ ap (λ f. f .base) (last-is g (r .over) (r .body)))
 
-module _ {v : View} {x : Option Op} {w : View} {y : Option Op} {z : View} (r : Restored v x w y c z) where
+-- it was held, and stands again
+module _ {v : View} (x : Option Op) {w : View} {y : Option Op} {z : View} (h : Held v c) (t : Stands w y c z) where
   abbrev moved-from : List Frame
-  moved-from = at (stepped (r .entered .by .sent) (pcOf (announcedBy v x))) (mine (r .held))
+  moved-from = at (stepped (t .by .sent) (pcOf (announcedBy v x))) (mine h)
 
   abbrev moved-to : List Frame
-  moved-to = r .entered .over ++ (r .entered .body ∷ [])
+  moved-to = t .over ++ (t .body ∷ [])
 
   from-found : moved-from ≡ at (stepped (sentIn (whom w y)) (pcOf (announcedBy v x))) (found v)
-  from-found = λ i. at (stepped (sent-by (r .entered .by) i) (pcOf (announcedBy v x))) (sym (found-mine (r .held)) i)
+  from-found = λ i. at (stepped (sent-by (t .by) i) (pcOf (announcedBy v x))) (sym (found-mine h) i)
 
   -- the frames that stand on the caller's, as many as were found
-  pub on-top : (F : (b h : ℕ) (f g : Frame) → Moved b h f g → Type 0) (g : Frame → ℕ) → ((b h : ℕ) (f j : Frame) (m : Moved b h f j) → F b h f j m → g j ≡ g f)
-      → (m : AllMoved (r .held .body .base) (length (w .stack)) moved-from moved-to) → Each F (r .held .body .base) (length (w .stack)) moved-from moved-to m
-      → map g (z .frames) ≡ map g (at (stepped (sentIn (whom w y)) (pcOf (announcedBy v x))) (found v)) ++ map g (at (r .entered .by .pc) (w .frames))
-  on-top F g alike m h =
-      let under = at (r .entered .by .pc) (w .frames) in
-      ap (map g) (on-others (r .entered)) ∙ map-append g moved-to under ∙ ap (λ l. l ++ map g under) (all-alike F g g alike (r .held .body .base) (length (w .stack)) moved-from moved-to m h ∙ ap (map g) from-found)
+  pub on-top : (F : (b h : ℕ) (f g : Frame) → Type 0) (g : Frame → ℕ) → ((b h : ℕ) (f j : Frame) → F b h f j → g j ≡ g f) → Each F (h .body .base) (length (w .stack)) moved-from moved-to
+      → map g (z .frames) ≡ map g (at (stepped (sentIn (whom w y)) (pcOf (announcedBy v x))) (found v)) ++ map g (at (t .by .pc) (w .frames))
+  on-top F g alike m =
+      let under = at (t .by .pc) (w .frames) in
+      ap (map g) (on-others t) ∙ map-append g moved-to under ∙ ap (λ l. l ++ map g under) (all-alike F g g alike (h .body .base) (length (w .stack)) moved-from moved-to m ∙ ap (map g) from-found)
 
-  pub on-moved : (F : (b h : ℕ) (f g : Frame) → Moved b h f g → Type 0) (g : Frame → ℕ) → ((b h : ℕ) (f j : Frame) (m : Moved b h f j) → F b h f j m → g j ≡ g f) → ((b h : ℕ) (f j : Frame) (m : Moved b h f j) → F b h f j m)
-      → AllMoved (r .held .body .base) (length (w .stack)) moved-from moved-to → map g (z .frames) ≡ map g (at (stepped (sentIn (whom w y)) (pcOf (announcedBy v x))) (found v)) ++ map g (at (r .entered .by .pc) (w .frames))
-  on-moved F g alike p m = on-top F g alike m (each F p (r .held .body .base) (length (w .stack)) moved-from moved-to m)
+  pub on-moved : (F : (b h : ℕ) (f g : Frame) → Type 0) (g : Frame → ℕ) → ((b h : ℕ) (f j : Frame) → F b h f j → g j ≡ g f) → ((b h : ℕ) (f j : Frame) → Moved b h f j → F b h f j)
+      → AllMoved (h .body .base) (length (w .stack)) moved-from moved-to → map g (z .frames) ≡ map g (at (stepped (sentIn (whom w y)) (pcOf (announcedBy v x))) (found v)) ++ map g (at (t .by .pc) (w .frames))
+  on-moved F g alike p m = on-top F g alike (each F p (h .body .base) (length (w .stack)) moved-from moved-to m)
 
   -- the word at place i
-  pub word-back : z .stack ≡ withSent (r .entered .by .sent) (z .frames) (waitsIn (announcedBy v x)) (w .stack ++ drop (r .held .body .base) (v .stack)) → (g : Frame) (i : ℕ)
+  pub word-back : z .stack ≡ withSent (t .by .sent) (z .frames) (waitsIn (announcedBy v x)) (w .stack ++ drop (h .body .base) (v .stack)) → (g : Frame) (i : ℕ)
       → getD (z .stack) i 0 ≡ getD (withSent (sentIn (whom w y)) (z .frames) (waitsIn (announcedBy v x)) (w .stack ++ drop (lastOr g (found v) .base) (v .stack))) i 0
-  word-back h g i = ap (λ xs. getD xs i 0) h ∙ (λ j. getD (withSent (sent-by (r .entered .by) j) (z .frames) (waitsIn (announcedBy v x)) (w .stack ++ drop (base-mine (r .held) g j) (v .stack))) i 0)
+  word-back e g i = ap (λ xs. getD xs i 0) e ∙ (λ j. getD (withSent (sent-by (t .by) j) (z .frames) (waitsIn (announcedBy v x)) (w .stack ++ drop (base-mine h g j) (v .stack))) i 0)
 
 -- one distance for two frames
-abbrev baseAlike : (b h : ℕ) (f g : Frame) → Moved b h f g → Type 0
-baseAlike b h f g m = g .base + b ≡ f .base + h
+abbrev baseAlike : (b h : ℕ) (f g : Frame) → Type 0
+baseAlike b h f g = g .base + b ≡ f .base + h
 
-distances : (b n : ℕ) (fs ks rest : List Frame) (f₁ f₂ : Frame) → fs ≡ f₁ ∷ f₂ ∷ [] → (m : AllMoved b n fs ks) → Each baseAlike b n fs ks m
+distances : (b n : ℕ) (fs ks rest : List Frame) (f₁ f₂ : Frame) → fs ≡ f₁ ∷ f₂ ∷ [] → Each baseAlike b n fs ks
     → first (map (λ k. k .base) (ks ++ rest)) + f₂ .base ≡ second (map (λ k. k .base) (ks ++ rest)) + f₁ .base
-distances b n [] ks rest f₁ f₂ e m h = let z = ap length e in absurd (omega (arith, z))
-distances b n (g ∷ []) ks rest f₁ f₂ e m h = let z = ap length e in absurd (omega (arith, z))
-distances b n (g ∷ k ∷ []) [] rest f₁ f₂ e m h = absurd m
-distances b n (g ∷ k ∷ []) (k₁ ∷ []) rest f₁ f₂ e m h = absurd (m .1)
-distances b n (g ∷ k ∷ []) (k₁ ∷ k₂ ∷ []) rest f₁ f₂ e m h =
+distances b n [] ks rest f₁ f₂ e h = let z = ap length e in absurd (omega (arith, z))
+distances b n (g ∷ []) ks rest f₁ f₂ e h = let z = ap length e in absurd (omega (arith, z))
+distances b n (g ∷ k ∷ []) [] rest f₁ f₂ e h = absurd h
+distances b n (g ∷ k ∷ []) (k₁ ∷ []) rest f₁ f₂ e h = absurd (h .1)
+distances b n (g ∷ k ∷ []) (k₁ ∷ k₂ ∷ []) rest f₁ f₂ e h =
     let p = h .0 in
     let q = h .1 .0 in
     let x = ap (λ fs. first (map (λ k. k .base) fs)) e in
     let y = ap (λ fs. second (map (λ k. k .base) fs)) e in
     omega (arith, p, q, x, y)
-distances b n (g ∷ k ∷ []) (k₁ ∷ k₂ ∷ k₃ ∷ ks) rest f₁ f₂ e m h = absurd (m .1 .1)
-distances b n (g ∷ k ∷ j ∷ fs) ks rest f₁ f₂ e m h = let z = ap length e in absurd (omega (arith, z))
+distances b n (g ∷ k ∷ []) (k₁ ∷ k₂ ∷ k₃ ∷ ks) rest f₁ f₂ e h = absurd (h .1 .1)
+distances b n (g ∷ k ∷ j ∷ fs) ks rest f₁ f₂ e h = let z = ap length e in absurd (omega (arith, z))
 
-two-moved : {v : View} {x : Option Op} {w : View} {y : Option Op} {z : View} (r : Restored v x w y c z) → Each baseAlike (r .held .body .base) (length (w .stack)) (moved-from r) (moved-to r) (r .moved) → (f₁ f₂ : Frame)
+two-moved : {v : View} (x : Option Op) {w : View} {y : Option Op} {z : View} (h : Held v c) (t : Stands w y c z) → Each baseAlike (h .body .base) (length (w .stack)) (moved-from x h t) (moved-to x h t) → (f₁ f₂ : Frame)
     → at (stepped (sentIn (whom w y)) (pcOf (announcedBy v x))) (found v) ≡ f₁ ∷ f₂ ∷ [] → first (map (λ k. k .base) (z .frames)) + f₂ .base ≡ second (map (λ k. k .base) (z .frames)) + f₁ .base
-two-moved {w = w} r h f₁ f₂ e =
-    let under = at (r .entered .by .pc) (w .frames) in
-    ap (λ fs. first (map (λ k. k .base) fs) + f₂ .base) (on-others (r .entered)) ∙ distances (r .held .body .base) (length (w .stack)) (moved-from r) (moved-to r) under f₁ f₂ (from-found r ∙ e) (r .moved) h
-    ∙ ap (λ fs. second (map (λ k. k .base) fs) + f₁ .base) (sym (on-others (r .entered)))
+two-moved x {w = w} h t m f₁ f₂ e =
+    let under = at (t .by .pc) (w .frames) in
+    ap (λ fs. first (map (λ k. k .base) fs) + f₂ .base) (on-others t)
+    ∙ distances (h .body .base) (length (w .stack)) (moved-from x h t) (moved-to x h t) under f₁ f₂ (from-found x h t ∙ e) m
+    ∙ ap (λ fs. second (map (λ k. k .base) fs) + f₁ .base) (sym (on-others t))
 
 more-frames : {w : View} {y : Option Op} {z : View} → Entered w y c z → (n : ℕ) → length (z .frames) ≡ n → length (w .frames) ≡ n → ⊥
 more-frames {w = w} {z = z} t n p q =
@@ -135,6 +138,29 @@ more-frames {w = w} {z = z} t n p q =
     at-length p [] = refl
     at-length p (f ∷ fs) = refl
 
+-- c yields inside the call that it made, and is woken from one frame deeper
+abbrev yields : Option Op
+yields = some (Op.Yield 7 3 1)
+
+yield-typed : typed (Op.Yield 7 3 1) ≡ true
+unfolding typed
+yield-typed = refl
+
+deeper-typed : typed Story.deeper ≡ true
+unfolding typed
+deeper-typed = refl
+
+put-typed : typed (Op.PutWord 0 c) ≡ true
+unfolding typed
+put-typed = refl
+
+resume-typed : typed (Op.Resume 9 1 0 2) ≡ true
+unfolding typed
+resume-typed = refl
+
+abbrev between : List (Turn Call)
+between = turnCall (asCall Story.deeper deeper-typed) ∷ turnCall (asCall (Op.PutWord 0 c) put-typed) ∷ []
+
 five : (a b c d e : Bool) → (a && b && not c && d && e) ≡ true → (a ≡ true) × (b ≡ true) × (c ≡ false) × (d ≡ true) × (e ≡ true)
 five false b c d e h = no-both h refl
 five true false c d e h = no-both h refl
@@ -142,63 +168,51 @@ five true true true d e h = no-both h refl
 five true true false false e h = no-both h refl
 five true true false true e h = (refl, refl, refl, refl, h)
 
--- a split of the calls ks, of an engine that leaves other worlds: call i suspends c, and call j is its next entry
-module _ (f : World → Call → World) (ks : List Call) (i j : ℕ) where
-  abbrev s₁ : World
-  s₁ = runTurns (leaving f) (fresh wide) (map turnCall (take i ks))
-
+-- where x suspends c, and y is its next entry, of an engine that leaves other worlds
+module _ (f : World → Call → World) (s₁ : World) (x : Call) (ts : List (Turn Call)) (y : Call) where
   abbrev s₂ : World
-  s₂ = f s₁ (nth ks i)
+  s₂ = f s₁ x
 
   abbrev s₃ : World
-  s₃ = runTurns (leaving f) s₂ (between ks i j)
-
-  abbrev s₄ : World
-  s₄ = f s₃ (nth ks j)
+  s₃ = runTurns (leaving f) s₂ ts
 
   abbrev met : Bool
-  met = runsIn (leaving f) c s₁ && sleepsIn (leaving f) c s₂ && not (runsIn (leaving f) c s₃) && runsIn (leaving f) c s₄ && waits (leaving f) c s₂ (between ks i j)
+  met = runsIn (leaving f) c s₁ && sleepsIn (leaving f) c s₂ && not (runsIn (leaving f) c s₃) && runsIn (leaving f) c (f s₃ y) && waits (leaving f) c s₂ ts
 
   pub wake : met ≡ true → Wake (leaving f)
   wake h =
-      let t = five (runsIn (leaving f) c s₁) (sleepsIn (leaving f) c s₂) (runsIn (leaving f) c s₃) (runsIn (leaving f) c s₄) (waits (leaving f) c s₂ (between ks i j)) h in
-      record {
-        c = c;
-        s = s₁;
-        x = nth ks i;
-        waiting = between ks i j;
-        y = nth ks j;
-        suspends = record { before = t .0; after = t .1 };
-        waits = waits-true (leaving f) c s₂ (between ks i j) (t .4);
-        enters = record { before = t .2; after = t .3 };
-      }
+      let t = five (runsIn (leaving f) c s₁) (sleepsIn (leaving f) c s₂) (runsIn (leaving f) c s₃) (runsIn (leaving f) c (f s₃ y)) (waits (leaving f) c s₂ ts) h in
+      record { c = c; s = s₁; x = x; waiting = ts; y = y; suspends = record { before = t .0; after = t .1 }; waits = waits-true (leaving f) c s₂ ts (t .4); enters = record { before = t .2; after = t .3 } }
 
-held-frames : RefutedAt heldAt (λ e a r. r .frames) (seeing (framed (λ fs. [])))
+held-frames : RefutedOn held thirds (λ e a g. e .view (a .s) .frames ≡ g .0 ++ (g .1 ∷ g .2)) (λ e a r. r .frames) (seeing (framed (λ fs. [])))
 unfolding computed begun
 held-frames = (
   wake-at c begun (asCall (Op.Yield 8 3 1) refl) [] (asCall (Op.Resume 9 1 0 2) refl) refl refl refl refl refl,
-  λ r h.
-      let n = ap length h in let m = length-append (r .over) (r .body ∷ r .under) in
+  ([], frame 0 0 4 0 Cont.Coro, []),
+  λ g h.
+      let n = ap length h in let m = length-append (g .0) (g .1 ∷ g .2) in
       absurd (omega (arith, n, m)),
 )
 
-held-its-own : RefutedAt heldAt (λ e a r. r .its-own) (seeing (framed (map discards)))
+held-its-own : RefutedOn held splits (λ e a g. g .body .cont ≡ Cont.Coro) (λ e a r. r .its-own) (seeing (framed (map discards)))
 unfolding computed begun
 held-its-own = (
   wake-at c begun (asCall (Op.Yield 8 3 1) refl) [] (asCall (Op.Resume 9 1 0 2) refl) refl refl refl refl refl,
-  λ r h.
-      go (r .body) h (one-of (r .over) (r .body) (r .under) (frame 0 0 4 0 Cont.Discard) (frame 0 2 0 0 Cont.Discard) (r .frames)),
+  record { over = []; body = frame 0 0 4 0 Cont.Discard; under = frame 0 2 0 0 Cont.Discard ∷ []; frames = refl },
+  λ g h.
+      go (g .body) h (one-of (g .over) (g .body) (g .under) (frame 0 0 4 0 Cont.Discard) (frame 0 2 0 0 Cont.Discard) (g .frames)),
 )
   where
     go : (b : Frame) → b .cont ≡ Cont.Coro → (b ≡ frame 0 0 4 0 Cont.Discard) ⊎ (b ≡ frame 0 2 0 0 Cont.Discard) → ⊥
     go b h (inl e) = let q : _≡_ {A = ℕ} 4 5 = ap (λ f. codeOf (f .cont)) (sym e) ∙ ap codeOf h in absurd (omega (arith, q))
     go b h (inr e) = let q : _≡_ {A = ℕ} 4 5 = ap (λ f. codeOf (f .cont)) (sym e) ∙ ap codeOf h in absurd (omega (arith, q))
 
-held-chain : RefutedAt heldAt (λ e a r. r .chain) (seeing unchained)
+held-chain : RefutedOn held linked (λ e a g. e .view (a .s) .chain ≡ record { coro = a .c; floor = length (g .0); driver = g .1 } ∷ g .2) (λ e a r. r .chain) (seeing unchained)
 unfolding computed begun
 held-chain = (
   wake-at c begun (asCall (Op.Yield 8 3 1) refl) [] (asCall (Op.Resume 9 1 0 2) refl) refl refl refl refl refl,
-  λ r h.
+  ([], Driver.Host, []),
+  λ g h.
       let n : _≡_ {A = ℕ} 0 1 = ap (λ (l : List Active). someOne l) h in
       absurd (omega (arith, n)),
 )
@@ -207,7 +221,7 @@ restored-held : RefutedAt restored (λ e a r. r .held) (seeing unchained)
 unfolding computed begun
 restored-held = (
   wake-at c begun (asCall (Op.Yield 8 3 1) refl) [] (asCall (Op.Resume 9 1 0 2) refl) refl refl refl refl refl,
-  λ r h.
+  λ h.
       let n : _≡_ {A = ℕ} 0 1 = ap (λ (l : List Active). someOne l) (h .chain) in
       absurd (omega (arith, n)),
 )
@@ -216,119 +230,127 @@ restored-suspended : RefutedAt restored (λ e a r. r .suspended) (leavingAt Bent
 unfolding computed begun
 restored-suspended = (
   wake-at c begun (asCall (Op.Yield 8 3 1) refl) (turnCall (asCall (Op.Grant 1) refl) ∷ []) (asCall (Op.Resume 9 1 0 2) refl) refl refl refl refl refl,
-  λ r h.
+  λ h.
       no-both h refl,
 )
 
 restored-entered : RefutedAt restored (λ e a r. r .entered) movesOnce
-unfolding computed wake
-restored-entered = (wake (movesOnce .next) held 13 23 refl, λ r h. more-frames h 3 refl refl)
+unfolding computed inside wake
+restored-entered = (wake (movesOnce .next) inside (asCall (Op.Yield 7 3 1) yield-typed) between (asCall (Op.Resume 9 1 0 2) resume-typed) refl, λ h. more-frames h 2 refl refl)
 
-restored-moved : RefutedAt restored (λ e a r. r .moved) (sleepsWith topOfZero)
-unfolding computed wake
+restored-moved : RefutedOver restored woken (framesAre AllMoved) (λ e a r. r .moved) (sleepsWith topOfZero)
+unfolding computed inside wake
 restored-moved = (
-  wake (sleepsWith topOfZero .next) held 13 23 refl,
-  λ r h.
-      let q : _≡_ {A = ℕ} 0 1 = ap first (on-moved r funcAlike funcOf (λ b h f j m e. e) (λ b h f j m. m .func) h) in
+  wake (sleepsWith topOfZero .next) inside (asCall (Op.Yield 7 3 1) yield-typed) between (asCall (Op.Resume 9 1 0 2) resume-typed) refl,
+  λ g h.
+      let q : _≡_ {A = ℕ} 0 1 = ap first (on-moved yields (g .0) (g .1) funcAlike funcOf (λ b h f j e. e) (λ b h f j m. m .func) h) in
       absurd (omega (arith, q)),
 )
 
-restored-words : RefutedAt restored (λ e a r. r .words) (sleepsWith firstOf5)
-unfolding computed wake
-restored-words = (wake (sleepsWith firstOf5 .next) held 13 23 refl, λ r h. let q : _≡_ {A = ℕ} 5 11 = word-back r h (frame 0 0 0 0 Cont.Coro) 12 in absurd (omega (arith, q)))
+restored-words : RefutedOver restored woken wordsAre (λ e a r. r .words) (sleepsWith firstOf5)
+unfolding computed inside wake
+restored-words = (
+  wake (sleepsWith firstOf5 .next) inside (asCall (Op.Yield 7 3 1) yield-typed) between (asCall (Op.Resume 9 1 0 2) resume-typed) refl,
+  λ g h.
+      let q : _≡_ {A = ℕ} 5 11 = word-back yields (g .0) (g .1) h (frame 0 0 0 0 Cont.Coro) 8 in
+      absurd (omega (arith, q)),
+)
 
 moved-func : RefutedMoved (λ b h f g m. m .func) (wakesWith (onTop ofZero))
-unfolding computed wake
+unfolding computed inside wake
 moved-func = (
-  wake (wakesWith (onTop ofZero) .next) held 13 23 refl,
-  λ r h.
-      let q : _≡_ {A = ℕ} 0 1 = ap first (on-top r funcAlike funcOf (λ b h f j m e. e) (r .moved) h) in
+  wake (wakesWith (onTop ofZero) .next) inside (asCall (Op.Yield 7 3 1) yield-typed) between (asCall (Op.Resume 9 1 0 2) resume-typed) refl,
+  λ g m.
+      let q : _≡_ {A = ℕ} 0 1 = ap first (on-top yields (g .0) (g .1) funcAlike funcOf (λ b h f j e. e) m) in
       absurd (omega (arith, q)),
 )
 
 moved-pc : RefutedMoved (λ b h f g m. m .pc) (wakesWith (onTop atOne))
-unfolding computed wake
+unfolding computed inside wake
 moved-pc = (
-  wake (wakesWith (onTop atOne) .next) held 13 23 refl,
-  λ r h.
-      let q : _≡_ {A = ℕ} 1 8 = ap first (on-top r pcAlike pcIs (λ b h f j m e. e) (r .moved) h) in
+  wake (wakesWith (onTop atOne) .next) inside (asCall (Op.Yield 7 3 1) yield-typed) between (asCall (Op.Resume 9 1 0 2) resume-typed) refl,
+  λ g m.
+      let q : _≡_ {A = ℕ} 1 8 = ap first (on-top yields (g .0) (g .1) pcAlike pcIs (λ b h f j e. e) m) in
       absurd (omega (arith, q)),
 )
 
 moved-base : RefutedMoved (λ b h f g m. m .base) (wakesWith (onTop higher))
-unfolding computed wake
+unfolding computed inside wake
 moved-base = (
-  wake (wakesWith (onTop higher) .next) held 13 23 refl,
-  λ r h.
-      let q : _≡_ {A = ℕ} 21 20 = two-moved r h (frame 1 8 8 0 (Cont.Dyn 2)) (frame 0 5 4 Story.f Cont.Coro) refl in
+  wake (wakesWith (onTop higher) .next) inside (asCall (Op.Yield 7 3 1) yield-typed) between (asCall (Op.Resume 9 1 0 2) resume-typed) refl,
+  λ g m.
+      let q : _≡_ {A = ℕ} 17 16 = two-moved yields (g .0) (g .1) m (frame 1 8 8 0 (Cont.Dyn 2)) (frame 0 5 4 Story.f Cont.Coro) refl in
       absurd (omega (arith, q)),
 )
 
 moved-closure : RefutedMoved (λ b h f g m. m .closure) (wakesWith (map bare))
-unfolding computed wake
+unfolding computed inside wake
 moved-closure = (
-  wake (wakesWith (map bare) .next) held 13 23 refl,
-  λ r h.
-      let q : _≡_ {A = ℕ} 0 Story.f = ap second (on-top r closureAlike closureOf (λ b h f j m e. e) (r .moved) h) in
+  wake (wakesWith (map bare) .next) inside (asCall (Op.Yield 7 3 1) yield-typed) between (asCall (Op.Resume 9 1 0 2) resume-typed) refl,
+  λ g m.
+      let q : _≡_ {A = ℕ} 0 Story.f = ap second (on-top yields (g .0) (g .1) closureAlike closureOf (λ b h f j e. e) m) in
       absurd (omega (arith, q)),
 )
 
 moved-cont : RefutedMoved (λ b h f g m. m .cont) (wakesWith (onTop discards))
-unfolding computed wake
+unfolding computed inside wake
 moved-cont = (
-  wake (wakesWith (onTop discards) .next) held 13 23 refl,
-  λ r h.
-      let q : _≡_ {A = ℕ} 4 2 = ap first (on-top r contAlike contOf (λ b h f j m e. ap codeOf e) (r .moved) h) in
+  wake (wakesWith (onTop discards) .next) inside (asCall (Op.Yield 7 3 1) yield-typed) between (asCall (Op.Resume 9 1 0 2) resume-typed) refl,
+  λ g m.
+      let q : _≡_ {A = ℕ} 4 2 = ap first (on-top yields (g .0) (g .1) contAlike contOf (λ b h f j e. ap codeOf e) m) in
       absurd (omega (arith, q)),
 )
 
 -- ---- demand 3
 
 demand3-entered : Refuted Demand3 (λ e v. v .entered) grantResumes
-demand3-entered h =
-    let a = entered-by .0 in
-    let r = h (a .c) (a .s) (a .y) (a .enters) in
-    entered-by .1 r (r .by)
+demand3-entered h = let a = entered-by .0 in entered-by .1 (h (a .c) (a .s) (a .y) (a .enters) .by)
 
 pub demand3-restored : Refuted Demand3 (λ e v. v .restored) movesOnce
-demand3-restored h =
-    let a = restored-entered .0 in
-    let r = h (a .c) (a .s) (a .x) (a .waiting) (a .y) (a .suspends) (a .waits) (a .enters) in
-    restored-entered .1 r (r .entered)
+demand3-restored h = let a = restored-entered .0 in restored-entered .1 (h (a .c) (a .s) (a .x) (a .waiting) (a .y) (a .suspends) (a .waits) (a .enters) .entered)
 
 demand3-untouched : Refuted Demand3 (λ e v. v .untouched) (parting fourthWord5)
 demand3-untouched h =
     let a = left-under .0 in
     let r = h (a .c) (a .s) (a .y) (a .going) (a .z) (a .enters) (a .goes) (a .stops) in
-    left-under .1 r (r .under)
+    left-under .2 (r .by) (r .under)
 
 -- ---- more of them
 
-woken : (f : World → Call → World) (ks : List Call) (i j : ℕ) → Demand3 (leaving f) → (h : met f ks i j ≡ true) → restored (leaving f) (wake f ks i j h)
-unfolding wake
-woken f ks i j d h = let a = wake f ks i j h in d .restored c (a .s) (a .x) (a .waiting) (a .y) (a .suspends) (a .waits) (a .enters)
+restored-in : (e : Engine) → Demand3 e → (a : Wake e) → restored e a
+restored-in e d a = d .restored (a .c) (a .s) (a .x) (a .waiting) (a .y) (a .suspends) (a .waits) (a .enters)
 
--- two sleep, with 7 and 8: the first of them gets the other's
+-- c sleeps with 7, then d with 8: c gets the other's
 others-registers : Demand3 (readsRowOf c Story.d) → ⊥
-unfolding computed wake
-others-registers d = let r = woken (readsRowOf c Story.d .next) (part 13) 6 11 d refl in let q : _≡_ {A = ℕ} 8 7 = word-back r (r .words) (frame 0 0 0 0 Cont.Coro) 4 in absurd (omega (arith, q))
+unfolding computed seven wake
+others-registers d =
+    let a = wake (readsRowOf c Story.d .next) seven (asCall (Op.Yield 8 3 1) refl) (map turnCall (asCall (Op.CoroNew 9 3 0 0) refl ∷ asCall (Op.Resume 10 1 3 2) refl ∷ asCall (Op.PutWord 0 8) refl ∷ asCall (Op.Yield 8 3 1) refl ∷ [])) (asCall (Op.Resume 11 1 0 2) refl) refl in
+    let r = restored-in (readsRowOf c Story.d) d a in
+    let q : _≡_ {A = ℕ} 8 7 = word-back (some (Op.Yield 8 3 1)) (r .held) (standing (r .entered)) (r .words) (frame 0 0 0 0 Cont.Coro) 4 in
+    absurd (omega (arith, q))
 
 rows-exchanged : Demand3 (exchangesRows c Story.d) → ⊥
-unfolding computed wake
-rows-exchanged d = let r = woken (exchangesRows c Story.d .next) (part 13) 6 11 d refl in let q : _≡_ {A = ℕ} 8 7 = word-back r (r .words) (frame 0 0 0 0 Cont.Coro) 4 in absurd (omega (arith, q))
+unfolding computed seven wake
+rows-exchanged d =
+    let a = wake (exchangesRows c Story.d .next) seven (asCall (Op.Yield 8 3 1) refl) (map turnCall (asCall (Op.CoroNew 9 3 0 0) refl ∷ asCall (Op.Resume 10 1 3 2) refl ∷ asCall (Op.PutWord 0 8) refl ∷ asCall (Op.Yield 8 3 1) refl ∷ [])) (asCall (Op.Resume 11 1 0 2) refl) refl in
+    let r = restored-in (exchangesRows c Story.d) d a in
+    let q : _≡_ {A = ℕ} 8 7 = word-back (some (Op.Yield 8 3 1)) (r .held) (standing (r .entered)) (r .words) (frame 0 0 0 0 Cont.Coro) 4 in
+    absurd (omega (arith, q))
 
 top-dropped : Demand3 (wakesWith tail) → ⊥
-unfolding computed wake
+unfolding computed inside wake
 top-dropped d =
-    let r = woken (wakesWith tail .next) held 13 23 d refl in
-    let q : _≡_ {A = ℕ} 0 1 = ap first (on-moved r funcAlike funcOf (λ b h f j m e. e) (λ b h f j m. m .func) (r .moved)) in
+    let a = wake (wakesWith tail .next) inside (asCall (Op.Yield 7 3 1) yield-typed) between (asCall (Op.Resume 9 1 0 2) resume-typed) refl in
+    let r = restored-in (wakesWith tail) d a in
+    let q : _≡_ {A = ℕ} 0 1 = ap first (on-moved yields (r .held) (standing (r .entered)) funcAlike funcOf (λ b h f j e. e) (λ b h f j m. m .func) (r .moved)) in
     absurd (omega (arith, q))
 
 stepped-twice : Demand3 (wakesWith (onTop further)) → ⊥
-unfolding computed wake
+unfolding computed inside wake
 stepped-twice d =
-    let r = woken (wakesWith (onTop further) .next) held 13 23 d refl in
-    let q : _≡_ {A = ℕ} 9 8 = ap first (on-moved r pcAlike pcIs (λ b h f j m e. e) (λ b h f j m. m .pc) (r .moved)) in
+    let a = wake (wakesWith (onTop further) .next) inside (asCall (Op.Yield 7 3 1) yield-typed) between (asCall (Op.Resume 9 1 0 2) resume-typed) refl in
+    let r = restored-in (wakesWith (onTop further)) d a in
+    let q : _≡_ {A = ℕ} 9 8 = ap first (on-moved yields (r .held) (standing (r .entered)) pcAlike pcIs (λ b h f j e. e) (λ b h f j m. m .pc) (r .moved)) in
     absurd (omega (arith, q))
 
 -- c slept before the first call, with 7 in its first register: a word is thrown into it, so that none is sent
@@ -339,7 +361,7 @@ sleeper-gets-others : Demand3 wakesUnseen → ⊥
 unfolding computed sleeping asleep-one
 sleeper-gets-others d =
     let r = d .entered c (record { world = sleeping; saw = false }) (asCall (Op.ResumeThrow 3 1 0 2) refl) (record { before = refl; after = refl }) in
-    let q : _≡_ {A = ℕ} 5 7 = word-by r asleep-one (r .saved-words asleep-one refl) 4 in
+    let q : _≡_ {A = ℕ} 5 7 = word-by (viewOf (wakesUnseen .next (record { world = sleeping; saw = false }) (asCall (Op.ResumeThrow 3 1 0 2) refl) .world)) (r .by) asleep-one (r .saved-words asleep-one refl) 4 in
     absurd (omega (arith, q))
 
 -- NONE OF THEM

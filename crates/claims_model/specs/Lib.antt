@@ -18,4 +18,5 @@ pub mod Bent
 pub mod WrongWakes
 pub mod WrongEvents
 pub mod WrongCalls
+pub mod WrongLists
 pub mod WrongPromise

@@ -2,38 +2,55 @@
 -- so a field that says nothing refuses nobody.
 use Prim.Native.Nat.{ℕ}
 use mathlib.Core.Path.{_≡_}
+use mathlib.Core.Logic.{_⊎_}
 use mathlib.Core.Bool.{true, false}
 use mathlib.Core.List.{List, [], _∷_, _++_}
-use mathlib.Core.Option.{some}
-use lib.ListN.{length}
+use mathlib.Core.Option.{Option, some}
+use lib.ListN.{length, drop}
 use Rattle.heap.specs.declared.heap.ResultKind.{ResultKind}
 use Rattle.model.specs.declared.machine.Cont.{Cont}
+use Rattle.model.specs.declared.machine.Driver.{Driver}
+use Rattle.model.specs.declared.machine.Active.{Active}
 use Rattle.model.specs.declared.machine.Frame.{Frame}
 use Rattle.model.specs.declared.call.Op.{Op}
-use Rattle.claims_model.specs.Engine.{Engine, Turn, runTurns, stateIs}
+use Rattle.claims_model.specs.Engine.{View, Engine, Turn, runTurns, stateIs}
 use Rattle.claims_model.specs.Says.{registerWord, announcedBy}
-use Rattle.claims_model.specs.Held.{at, Moved, AllMoved, pcOf, stepped, Held, By, Entered, Restored}
-use Rattle.claims_model.specs.Delivery.{LeftBelow}
+use Rattle.claims_model.specs.Held.{at, Moved, pcOf, waitsIn, stepped, withSent, Held, By, Entered, Restored}
+use Rattle.claims_model.specs.Delivery.{eventGiven, stackFrames, deliveredTo, LeftBelow}
 use Rattle.claims_model.specs.Demand3.{Enters, Suspends, Stops, Restarts, Waits, Goes}
 use Rattle.claims_model.specs.Events.{isBody}
-use Rattle.claims_model.specs.Touches.{May, mayTouch, Touched, Called, Finished}
+use Rattle.claims_model.specs.Touches.{May, mayTouch, storing, Over, Touched, Called, Finished}
 use Rattle.claims_model.specs.Made.{arguments, made, Came, Named, Hooked}
 use Rattle.claims_model.specs.Asks.{Pays, Admits}
-use Rattle.claims_model.specs.Promise.{Fresh}
+use Rattle.claims_model.specs.Promise.{Fresh, NotEmpty}
+
+-- what a field of a record says of an engine
+abbrev pub Said : (R : Engine → Type 0) {F : Engine → Type 0} → ((e : Engine) → R e → F e) → Engine → Type 0
+Said R {F} field e = F e
 
 -- ---- of a record of an engine: what its field says of the engine does not hold
 
 abbrev pub Refuted : (R : Engine → Type 0) {F : Engine → Type 0} → ((e : Engine) → R e → F e) → Engine → Type 0
 Refuted R {F} field e = F e → ⊥
 
--- of a record whose fields rest on one another: there is none with its field
-abbrev pub RefutedIn : (R : Engine → Type 0) {F : (e : Engine) → R e → Type 0} → ((e : Engine) (v : R e) → F e v) → Engine → Type 0
-RefutedIn R {F} field e = (v : R e) → F e v → ⊥
+-- where the field speaks of other things that the record has, its ground: there are such things, and of none is said what holds. `F` is the
+-- field's type over the ground, which its projection has to have
+abbrev pub RefutedIn : (R : Engine → Type 0) {G : Engine → Type 0} (ground : (e : Engine) → R e → G e) (F : (e : Engine) → G e → Type 0) → ((e : Engine) (v : R e) → F e (ground e v)) → Engine → Type 0
+RefutedIn R {G} ground F field e = G e × ((g : G e) → F e g → ⊥)
 
--- ---- of a record that such a field asks of one case: in some case of the engine there is no such record with its field
+-- ---- of a record that such a field asks of one case: in some case of the engine what its field says does not hold
 
-abbrev pub RefutedAt : {A : Engine → Type 0} (R : (e : Engine) → A e → Type 0) {F : (e : Engine) (a : A e) → R e a → Type 0} → ((e : Engine) (a : A e) (r : R e a) → F e a r) → Engine → Type 0
-RefutedAt {A} R {F} field e = (a : A e) × ((r : R e a) → F e a r → ⊥)
+abbrev pub RefutedAt : {A : Engine → Type 0} (R : (e : Engine) → A e → Type 0) {F : (e : Engine) → A e → Type 0} → ((e : Engine) (a : A e) → R e a → F e a) → Engine → Type 0
+RefutedAt {A} R {F} field e = (a : A e) × (F e a → ⊥)
+
+abbrev pub RefutedOn : {A : Engine → Type 0} (R : (e : Engine) → A e → Type 0) {G : (e : Engine) → A e → Type 0} (ground : (e : Engine) (a : A e) → R e a → G e a) (F : (e : Engine) (a : A e) → G e a → Type 0)
+    → ((e : Engine) (a : A e) (r : R e a) → F e a (ground e a r)) → Engine → Type 0
+RefutedOn {A} R {G} ground F field e = (a : A e) × G e a × ((g : G e a) → F e a g → ⊥)
+
+-- the same, where only the field's refutation is shown
+abbrev pub RefutedOver : {A : Engine → Type 0} (R : (e : Engine) → A e → Type 0) {G : (e : Engine) → A e → Type 0} (ground : (e : Engine) (a : A e) → R e a → G e a) (F : (e : Engine) (a : A e) → G e a → Type 0)
+    → ((e : Engine) (a : A e) (r : R e a) → F e a (ground e a r)) → Engine → Type 0
+RefutedOver {A} R {G} ground F field e = (a : A e) × ((g : G e a) → F e a g → ⊥)
 
 -- y enters c
 pub record Entering (e : Engine) : Type 0 where
@@ -47,6 +64,22 @@ entered e a = Entered (e .view (a .s)) (e .op (a .y)) (a .c) (e .view (e .next (
 
 abbrev pub by : (e : Engine) → Entering e → Type 0
 by e a = By (e .view (a .s)) (e .op (a .y)) (a .c)
+
+-- what the call says, and two parts of the frames; and where these are the frames
+abbrev pub parts : (e : Engine) (a : Entering e) → entered e a → by e a × List Frame × Frame
+parts e a r = (r .by, r .over, r .body)
+
+pub record Stands (w : View) (k : Option Op) (c : ℕ) (z : View) : Type 0 where
+  pub by : By w k c
+  pub over : List Frame
+  pub body : Frame
+  pub frames : z .frames ≡ over ++ (body ∷ at (by .pc) (w .frames))
+
+abbrev pub standing : {w : View} {k : Option Op} {c : ℕ} {z : View} → Entered w k c z → Stands w k c z
+standing r = record { by = r .by; over = r .over; body = r .body; frames = r .frames }
+
+abbrev pub stands : (e : Engine) (a : Entering e) → entered e a → Stands (e .view (a .s)) (e .op (a .y)) (a .c) (e .view (e .next (a .s) (a .y)))
+stands e a r = standing r
 
 -- x suspends c, and y is its next entry
 pub record Wake (e : Engine) : Type 0 where
@@ -65,6 +98,52 @@ restored e a = let t = runTurns e (e .next (a .s) (a .x)) (a .waiting) in Restor
 abbrev pub held : (e : Engine) → Wake e → Type 0
 held e a = Held (e .view (a .s)) (a .c)
 
+-- three parts of the frames; where these are the frames; and what the chain has of it
+abbrev pub thirds : (e : Engine) (a : Wake e) → held e a → List Frame × Frame × List Frame
+thirds e a r = (r .over, r .body, r .under)
+
+pub record Splits (v : View) : Type 0 where
+  pub over : List Frame
+  pub body : Frame
+  pub under : List Frame
+  pub frames : v .frames ≡ over ++ (body ∷ under)
+
+abbrev pub splits : (e : Engine) (a : Wake e) → held e a → Splits (e .view (a .s))
+splits e a r = record { over = r .over; body = r .body; under = r .under; frames = r .frames }
+
+abbrev pub linked : (e : Engine) (a : Wake e) → held e a → List Frame × Driver × List Active
+linked e a r = (r .under, r .driver, r .outer)
+
+-- what c held, and where it stands again
+abbrev pub Woken : (e : Engine) → Wake e → Type 0
+Woken e a = let t = runTurns e (e .next (a .s) (a .x)) (a .waiting) in held e a × Stands (e .view t) (e .op (a .y)) (a .c) (e .view (e .next t (a .y)))
+
+abbrev pub woken : (e : Engine) (a : Wake e) → restored e a → Woken e a
+woken e a r = (r .held, standing (r .entered))
+
+-- the frames that it held, and those that stand, are as M says, from its Coro frame's base to the caller's height
+abbrev pub framesAre : ((b h : ℕ) → List Frame → List Frame → Type 0) → (e : Engine) (a : Wake e) → Woken e a → Type 0
+framesAre M e a g =
+    let t = runTurns e (e .next (a .s) (a .x)) (a .waiting) in let frames = g .0 .over ++ (g .0 .body ∷ []) in
+    M (g .0 .body .base) (length (e .view t .stack)) (at (stepped (g .1 .by .sent) (pcOf (announcedBy (e .view (a .s)) (e .op (a .x))))) frames) (g .1 .over ++ (g .1 .body ∷ []))
+
+-- the stack, as `Restored.words` says it
+abbrev pub wordsAre : (e : Engine) (a : Wake e) → Woken e a → Type 0
+wordsAre e a g =
+    let v = e .view (a .s) in let t = runTurns e (e .next (a .s) (a .x)) (a .waiting) in let z = e .view (e .next t (a .y)) in
+    z .stack ≡ withSent (g .1 .by .sent) (z .frames) (waitsIn (announcedBy v (e .op (a .x)))) (e .view t .stack ++ drop (g .0 .body .base) (v .stack))
+
+-- the frames one by one
+abbrev pub Each : ((b h : ℕ) (f g : Frame) → Type 0) → (b h : ℕ) → List Frame → List Frame → Type 0
+Each F b h [] [] = Unit {0}
+Each F b h [] (g ∷ gs) = ⊥
+Each F b h (f ∷ fs) [] = ⊥
+Each F b h (f ∷ fs) (g ∷ gs) = F b h f g × Each F b h fs gs
+
+-- of a frame that an entry moves: where c is entered again, not every frame that it held has the field
+abbrev pub RefutedMoved : {F : (b h : ℕ) (f g : Frame) → Type 0} → ((b h : ℕ) (f g : Frame) → Moved b h f g → F b h f g) → Engine → Type 0
+RefutedMoved {F} field e = (a : Wake e) × ((g : Woken e a) → framesAre (Each F) e a g → ⊥)
+
 -- y enters c, and z is where it next yields, awaits or returns
 pub record Leave (e : Engine) : Type 0 where
   pub c : ℕ
@@ -79,6 +158,12 @@ pub record Leave (e : Engine) : Type 0 where
 abbrev pub left : (e : Engine) → Leave e → Type 0
 left e a = let t = runTurns e (e .next (a .s) (a .y)) (a .going) in LeftBelow (e .view (a .s)) (e .op (a .y)) (a .c) (e .view t) (e .op (a .z)) (e .view (e .next t (a .z)))
 
+-- what is left, as `Left.under` says it
+abbrev pub underIs : (e : Engine) (a : Leave e) → By (e .view (a .s)) (e .op (a .y)) (a .c) → Type 0
+underIs e a g =
+    let w = e .view (a .s) in let t = runTurns e (e .next (a .s) (a .y)) (a .going) in let v = e .view t in let z = e .view (e .next t (a .z)) in
+    stackFrames (z .stack) (z .frames) ≡ deliveredTo (g .driver) (eventGiven v (announcedBy v (e .op (a .z))) (a .c) z) (stackFrames (w .stack) (at (g .pc) (w .frames)))
+
 -- a call that enters and suspends nobody, and is no set-up, finish, unwind or stop
 pub record Touch (e : Engine) : Type 0 where
   pub s : e .State
@@ -92,6 +177,28 @@ pub record Touch (e : Engine) : Type 0 where
 
 abbrev pub touched : (e : Engine) → Touch e → Type 0
 touched e a = Touched (a .m) (e .view (a .s)) (e .view (e .next (a .s) (a .k)))
+
+-- what it found and what stands over that: `stored`, `frames` and `calls` speak of the two together, so each is refuted where the others hold
+abbrev pub FramesThere : (e : Engine) → Touch e → List Frame → List Frame → Type 0
+FramesThere e a own over = e .view (e .next (a .s) (a .k)) .frames ≡ over ++ own
+
+abbrev pub StoredThere : (e : Engine) → Touch e → List Frame → Type 0
+StoredThere e a own = let fs = e .view (a .s) .frames in (own ≡ fs) ⊎ (own ≡ storing (a .m .pc) fs)
+
+abbrev pub CallsThere : (e : Engine) → Touch e → List Frame → List ℕ → Type 0
+CallsThere e a over words = Over (a .m .calls) (length (e .view (a .s) .stack)) over words
+
+abbrev pub butStored : (e : Engine) (a : Touch e) → touched e a → (own : List Frame) × (over : List Frame) × (words : List ℕ) × FramesThere e a own over × CallsThere e a over words
+butStored e a r = (r .own, r .over, r .words, r .frames, r .calls)
+
+abbrev pub butFrames : (e : Engine) (a : Touch e) → touched e a → (own : List Frame) × (over : List Frame) × (words : List ℕ) × StoredThere e a own × CallsThere e a over words
+butFrames e a r = (r .own, r .over, r .words, r .stored, r .calls)
+
+abbrev pub butCalls : (e : Engine) (a : Touch e) → touched e a → (own : List Frame) × (over : List Frame) × (words : List ℕ) × StoredThere e a own × FramesThere e a own over
+butCalls e a r = (r .own, r .over, r .words, r .stored, r .frames)
+
+abbrev pub written : (e : Engine) (a : Touch e) → touched e a → ℕ × List ℕ
+written e a r = (r .word, r .words)
 
 -- an accepted finish of a frame that is no body
 pub record Finish (e : Engine) : Type 0 where
@@ -178,16 +285,56 @@ pub record Restart (e : Engine) : Type 0 where
 abbrev pub fresh : (e : Engine) → Restart e → Type 0
 fresh e a = Fresh (e .view (e .next (a .s) (a .k)))
 
--- ---- of a frame that an entry moves: where c is entered again, not every frame that it held has the field
+-- ---- one list of calls
 
-abbrev pub Each : ((b h : ℕ) (f g : Frame) → Moved b h f g → Type 0) → (b h : ℕ) (fs gs : List Frame) → AllMoved b h fs gs → Type 0
-Each F b h [] [] m = Unit {0}
-Each F b h [] (g ∷ gs) m = Unit {0}
-Each F b h (f ∷ fs) [] m = Unit {0}
-Each F b h (f ∷ fs) (g ∷ gs) m = F b h f g (m .0) × Each F b h fs gs (m .1)
+pub record Listed (S C : Type 0) : Type 0 where
+  pub start : S
+  pub first : C
+  pub before : List (Turn C)
+  pub x : C
+  pub waiting : List (Turn C)
+  pub y : C
+  pub going : List (Turn C)
+  pub z : C
+  pub c : ℕ
 
-abbrev pub RefutedMoved : {F : (b h : ℕ) (f g : Frame) → Moved b h f g → Type 0} → ((b h : ℕ) (f g : Frame) (m : Moved b h f g) → F b h f g m) → Engine → Type 0
-RefutedMoved {F} field e =
-    (a : Wake e)
-    × ((r : restored e a) → let t = runTurns e (e .next (a .s) (a .x)) (a .waiting) in let frames = r .held .over ++ (r .held .body ∷ []) in
-    Each F (r .held .body .base) (length (e .view t .stack)) (at (stepped (r .entered .by .sent) (pcOf (announcedBy (e .view (a .s)) (e .op (a .x))))) frames) (r .entered .over ++ (r .entered .body ∷ [])) (r .moved) → ⊥)
+abbrev pub listed : (e : Engine) → NotEmpty e → Listed (e .State) (e .Call)
+listed e v = record { start = v .start; first = v .first; before = v .before; x = v .x; waiting = v .waiting; y = v .y; going = v .going; z = v .z; c = v .c }
+
+module _ (e : Engine) (l : Listed (e .State) (e .Call)) where
+  abbrev pub beforeX : e .State
+  beforeX = runTurns e (e .next (l .start) (l .first)) (l .before)
+
+  abbrev pub beforeY : e .State
+  beforeY = runTurns e (e .next beforeX (l .x)) (l .waiting)
+
+  abbrev pub beforeZ : e .State
+  beforeZ = runTurns e (e .next beforeY (l .y)) (l .going)
+
+  abbrev pub Suspended : Type 0
+  Suspended = Suspends e (l .c) beforeX (l .x)
+
+  abbrev pub Waited : Type 0
+  Waited = Waits e (l .c) (e .next beforeX (l .x)) (l .waiting)
+
+  abbrev pub WokenBy : Type 0
+  WokenBy = Enters e (l .c) beforeY (l .y)
+
+  abbrev pub Gone : Type 0
+  Gone = Goes e (l .c) (e .next beforeY (l .y)) (l .going)
+
+  abbrev pub LeftBy : Type 0
+  LeftBy = Stops e (l .c) beforeZ (l .z)
+
+-- a list in which all of these hold but one
+abbrev pub butWaits : (e : Engine) → NotEmpty e → (l : Listed (e .State) (e .Call)) × Suspended e l × WokenBy e l × Gone e l × LeftBy e l
+butWaits e v = (listed e v, v .suspends, v .enters, v .goes, v .stops)
+
+abbrev pub butEnters : (e : Engine) → NotEmpty e → (l : Listed (e .State) (e .Call)) × Suspended e l × Waited e l × Gone e l × LeftBy e l
+butEnters e v = (listed e v, v .suspends, v .waits, v .goes, v .stops)
+
+abbrev pub butGoes : (e : Engine) → NotEmpty e → (l : Listed (e .State) (e .Call)) × Suspended e l × Waited e l × WokenBy e l × LeftBy e l
+butGoes e v = (listed e v, v .suspends, v .waits, v .enters, v .stops)
+
+abbrev pub butLeaves : (e : Engine) → NotEmpty e → (l : Listed (e .State) (e .Call)) × Suspended e l × Waited e l × WokenBy e l × Gone e l
+butLeaves e v = (listed e v, v .suspends, v .waits, v .enters, v .goes)

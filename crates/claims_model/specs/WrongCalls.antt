@@ -1,10 +1,10 @@
 -- Engines that touch the script that runs, make another coroutine, or answer wrongly what is asked, and else are `step`; and the field that
 -- refuses each (`proofs/WrongCalls.antt`).
-use Prim.Native.Nat.{ℕ}
-use mathlib.Core.Bool.{Bool, not, _&&_}
-use mathlib.Core.List.{[], _∷_, map}
-use lib.ListN.{length}
-use lib.Dec.{ltb}
+use Prim.Native.Nat.{ℕ, _-_}
+use mathlib.Core.Path.{_≡_}
+use mathlib.Core.Bool.{not, _&&_}
+use mathlib.Core.List.{[], _∷_, _++_, map}
+use lib.ListN.{length, take, replicate}
 use Rattle.lists.specs.Pick.{pick}
 use Rattle.heap.specs.Table.{nextWord}
 use Rattle.model.specs.Object.{Core}
@@ -16,12 +16,14 @@ use Rattle.model.specs.Call.{Call}
 use Rattle.model.specs.Step.{step}
 use Rattle.model.specs.declared.machine.Cont.{Cont}
 use Rattle.claims_model.specs.Engine.{View, Engine, seenCreated, stateIs}
-use Rattle.claims_model.specs.Touches.{Touches}
-use Rattle.claims_model.specs.Made.{Creates}
+use Rattle.claims_model.specs.Says.{registerWord}
+use Rattle.claims_model.specs.Held.{at}
+use Rattle.claims_model.specs.Touches.{writing, target, Touches}
+use Rattle.claims_model.specs.Made.{arguments, made, Came, Creates}
 use Rattle.claims_model.specs.Asks.{Asks}
 use Rattle.claims_model.specs.Steps.{viewOf, modelOp, modelAsks, looks}
 use Rattle.claims_model.specs.Story.{c}
-use Rattle.claims_model.specs.Refuted.{Refuted, RefutedAt, touched, finished, called, named, came, hooked, admits, pays}
+use Rattle.claims_model.specs.Refuted.{Refuted, RefutedAt, RefutedOn, touched, FramesThere, StoredThere, CallsThere, butStored, butFrames, butCalls, written, finished, called, named, came, hooked, admits, pays}
 use Rattle.claims_model.specs.Bent as Bent
 use Rattle.claims_model.specs.Bent.{leaving, leavingAt, answeringAt, answeringFor, refusing}
 use Rattle.claims_model.specs.WrongWakes.{bare, firstWord5}
@@ -51,15 +53,17 @@ pub record RefutedTouches : Type 0 where
   pub put : Refuted Touches (λ e v. v .put) (leavingAt Bent.putWord (λ w z. w))
 
 pub record RefutedTouched : Type 0 where
-  pub stored : RefutedAt touched (λ e a r. r .stored) (leavingAt Bent.grant storesPc9)
-  pub frames : RefutedAt touched (λ e a r. r .frames) (leavingAt Bent.grant storesPc9)
-  pub stack : RefutedAt touched (λ e a r. r .stack) (leavingAt Bent.grant writes5)
-  pub calls : RefutedAt touched (λ e a r. r .calls) (leavingAt Bent.grant callsOne)
+  pub stored : RefutedOn touched butStored (λ e a g. StoredThere e a (g .0)) (λ e a r. r .stored) (leavingAt Bent.grant storesPc9)
+  pub frames : RefutedOn touched butFrames (λ e a g. FramesThere e a (g .0) (g .1)) (λ e a r. r .frames) (leavingAt Bent.grant storesPc9)
+  pub stack : RefutedOn touched written (λ e a g. let v = e .view (a .s) in e .view (e .next (a .s) (a .k)) .stack ≡ writing (a .m .register) (v .frames) (g .0) (v .stack) ++ g .1) (λ e a r. r .stack)
+      (leavingAt Bent.grant writes5)
+  pub calls : RefutedOn touched butCalls (λ e a g. CallsThere e a (g .1) (g .2)) (λ e a r. r .calls) (leavingAt Bent.grant callsOne)
   pub chain : RefutedAt touched (λ e a r. r .chain) (leavingAt Bent.grant emptiesChain)
 
 pub record RefutedFinished : Type 0 where
   pub frames : RefutedAt finished (λ e a r. r .frames) (leavingAt Bent.finish storesPc9)
-  pub stack : RefutedAt finished (λ e a r. r .stack) (leavingAt Bent.finish writes5)
+  pub stack : RefutedOn finished (λ e a r. r .word) (λ e a g. e .view (e .next (a .s) (a .k)) .stack ≡ writing (target (a .f .cont)) (a .fs) g (take (a .f .base) (e .view (a .s) .stack))) (λ e a r. r .stack)
+      (leavingAt Bent.finish writes5)
   pub chain : RefutedAt finished (λ e a r. r .chain) (leavingAt Bent.finish emptiesChain)
 
 pub record RefutedCalled : Type 0 where
@@ -127,9 +131,13 @@ pub record RefutedNamed : Type 0 where
   pub names : RefutedAt named (λ e a r. r .names) (creating unnamed)
 
 pub record RefutedHooked : Type 0 where
-  pub came : RefutedAt hooked (λ e a r. r .1 .came) (creating unmade)
-  pub frames : RefutedAt hooked (λ e a r. r .1 .frames) (leavingAt Bent.spawn storesPc9)
-  pub stack : RefutedAt hooked (λ e a r. r .1 .stack) (leavingAt Bent.spawn firstWord5)
+  pub came : RefutedOn hooked (λ e a r. r .0) (λ e a g. let v = e .view (a .s) in Came v (made (v .rules) g (registerWord v (a .r)) (arguments v (a .dst) (a .argc))) (e .view (e .next (a .s) (a .k)))) (λ e a r. r .1 .came)
+      (creating unmade)
+  pub frames : RefutedOn hooked (λ e a r. r .1 .hook)
+      (λ e a g. let v = e .view (a .s) in e .view (e .next (a .s) (a .k)) .frames ≡ record { func = g; pc = 0; base = length (v .stack); closure = 0; cont = Cont.Value (a .dst) } ∷ at (a .pc) (v .frames)) (λ e a r. r .1 .frames)
+      (leavingAt Bent.spawn storesPc9)
+  pub stack : RefutedOn hooked (λ e a r. r .1 .hook) (λ e a g. let v = e .view (a .s) in e .view (e .next (a .s) (a .k)) .stack ≡ v .stack ++ (v .fresh ∷ replicate (v .rules .registers g - 1) 0)) (λ e a r. r .1 .stack)
+      (leavingAt Bent.spawn firstWord5)
 
 -- ---- the asking calls
 
@@ -138,14 +146,21 @@ abbrev pub writing9 : ℕ → Engine
 writing9 n = leavingAt n (λ w z. putReg 1 9 z)
 
 pub record RefutedAsks : Type 0 where
-  -- a word that names nobody (1), or one that has not returned (3), is no hindrance; or the call is refused
+  -- 0 is answered only then: a word that names nobody (1), or one that has not returned (3), is no hindrance; or the call is answered 0 whatever stands there
   pub status-if : Refuted Asks (λ e v. v .status-if) (answeringFor 1 0)
-  pub current-if : Refuted Asks (λ e v. v .current-if) (refusing Bent.coroCurrent 9)
+  pub current-if : Refuted Asks (λ e v. v .current-if) (answeringAt Bent.coroCurrent 0)
   pub key-if : Refuted Asks (λ e v. v .key-if) (answeringFor 1 0)
   pub result-if : Refuted Asks (λ e v. v .result-if) (answeringFor 3 0)
   pub status : Refuted Asks (λ e v. v .status) (writing9 Bent.coroStatus)
   pub current : Refuted Asks (λ e v. v .current) (writing9 Bent.coroCurrent)
   pub result : Refuted Asks (λ e v. v .result) (writing9 Bent.coroResult)
+
+-- 0 is answered then: the call is refused
+pub record RefusedAsks : Type 0 where
+  pub status-if : Refuted Asks (λ e v. v .status-if) (refusing Bent.coroStatus 9)
+  pub current-if : Refuted Asks (λ e v. v .current-if) (refusing Bent.coroCurrent 9)
+  pub key-if : Refuted Asks (λ e v. v .key-if) (refusing Bent.coroKey 9)
+  pub result-if : Refuted Asks (λ e v. v .result-if) (refusing Bent.coroResult 9)
 
 -- CoroStatus is answered 0 whatever stands there
 pub record RefutedAdmits : Type 0 where
@@ -162,6 +177,4 @@ pub record RefutedPays : Type 0 where
 
 pub record WrongCalls : Type 0 where
   pub other-function : Creates (creates ofOne) → ⊥
-  pub status-refused : Asks (refusing Bent.coroStatus 9) → ⊥
-  pub key-refused : Asks (refusing Bent.coroKey 9) → ⊥
   pub status-writes-two : Touches (leavingAt Bent.coroStatus (λ w z. putReg 2 5 z)) → ⊥

@@ -10,7 +10,6 @@ use Rattle.model.specs.Program.{Setup}
 use Rattle.model.specs.Object.{withClosing, withResult}
 use Rattle.model.specs.World.{World}
 use Rattle.model.specs.Heap.{changeCoro}
-use Rattle.model.specs.Coro.{inState}
 use Rattle.model.specs.Answer.{numberOf}
 use Rattle.model.specs.Step.{step}
 use Rattle.model.specs.declared.machine.Active.{Active}
@@ -20,7 +19,7 @@ use Rattle.claims_model.specs.Steps.{viewOf}
 use Rattle.claims_model.specs.Story.{c}
 use Rattle.claims_model.specs.Refuted.{Refuted}
 use Rattle.claims_model.specs.Bent as Bent
-use Rattle.claims_model.specs.Bent.{bentBy, leaving, leavingAt, answering, answeringAt, answeringFor, entering, making}
+use Rattle.claims_model.specs.Bent.{bentBy, leaving, leavingAt, answeringAt, answeringFor, entering, making}
 use Rattle.claims_model.specs.WrongWakes.{grantResumes, closingEnds}
 
 -- an entry is left undone, where a test says so: always; or while two coroutines wait for a cleanup

@@ -1,8 +1,8 @@
 -- Engines that are wrong in what they accept, in set-ups, looks, fuel records or calls, or lose their soundness, and else are `step`; and the
 -- field that refuses each (`proofs/WrongPromise.antt`).
 use Prim.Native.Nat.{ℕ, _-_}
-use mathlib.Core.Bool.{Bool, true, false, not, _&&_}
-use mathlib.Core.List.{List, [], _∷_, _++_}
+use mathlib.Core.Bool.{Bool, true, _&&_}
+use mathlib.Core.List.{[], _∷_, _++_}
 use mathlib.Core.Option.{Option, none, some}
 use lib.ListN.{length, replicate}
 use lib.Dec.{eqb, ltb}
@@ -15,13 +15,13 @@ use Rattle.model.specs.Answer.{numberOf}
 use Rattle.model.specs.Call.{Call, SetUp, Do}
 use Rattle.model.specs.Step.{step}
 use Rattle.model.specs.declared.call.Op.{Op}
-use Rattle.claims_model.specs.Engine.{View, Engine}
+use Rattle.claims_model.specs.Engine.{Engine}
 use Rattle.claims_model.specs.Demand3.{Demand3}
-use Rattle.claims_model.specs.Promise.{Accepts, Soundness, SetUps, Looks, NotEmpty, Promise}
+use Rattle.claims_model.specs.Promise.{Accepts, Soundness, SetUps, Looks, Promise}
 use Rattle.claims_model.specs.Steps.{viewOf, modelOp, modelAsks, looks}
-use Rattle.claims_model.specs.Refuted.{Refuted, RefutedIn, RefutedAt, fresh}
+use Rattle.claims_model.specs.Refuted.{Refuted, RefutedAt, fresh}
 use Rattle.claims_model.specs.Bent as Bent
-use Rattle.claims_model.specs.Bent.{bentBy, answering, seeing, isA, leavingAt, answeringAt, answeringFor, refusing}
+use Rattle.claims_model.specs.Bent.{bentBy, answering, isA, leavingAt, answeringAt, answeringFor, refusing}
 use Rattle.claims_model.specs.WrongWakes.{grantResumes, movesOnce}
 use Rattle.claims_model.specs.WrongEvents.{depth1}
 use Rattle.claims_model.specs.WrongCalls.{fives, creates as creating}
@@ -118,23 +118,11 @@ heardAs (some o) = some Op.Look
 abbrev pub hearsLooks : Engine
 hearsLooks = record { State = World; Call = Call; op = λ k. heardAs (modelOp k); asks = modelAsks; view = viewOf; next = λ w k. step w k .world; refuel = λ w f. withFuel f w; number = λ w k. numberOf (step w k .answer); look = looks }
 
--- ---- one list of calls: 01's "doing nothing", "always refusing"; one that refuses every set-up, one that answers every look 11; and one that is seen to have no slot
+-- ---- all that is promised
 
+-- 01: "doing nothing", "always refusing"
 abbrev pub doesNothing : Engine
 doesNothing = bentBy (λ w k. w) (λ w k. 11)
-
-abbrev pub fullSeen : View → View
-fullSeen v = record { stack = v .stack; frames = v .frames; chain = v .chain; coro = v .coro; done = v .done; queue = v .queue; fuel = v .fuel; rules = v .rules; fresh = v .fresh; full = true; integer = v .integer; used = v .used }
-
-pub record RefutedNotEmpty : Type 0 where
-  pub accepted : RefutedIn NotEmpty (λ e v. v .accepted) (refusing Bent.setUp 11)
-  pub suspends : RefutedIn NotEmpty (λ e v. v .suspends) doesNothing
-  pub roomy : RefutedIn NotEmpty (λ e v. v .roomy) (answeringAt Bent.look 11)
-  pub makes : RefutedIn NotEmpty (λ e v. v .makes) (seeing fullSeen)
-  pub enters : RefutedIn NotEmpty (λ e v. v .enters) doesNothing
-  pub stops : RefutedIn NotEmpty (λ e v. v .stops) doesNothing
-
--- ---- all that is promised
 
 pub record RefutedPromise : Type 0 where
   pub demand3 : Refuted Promise (λ e v. v .demand3) movesOnce

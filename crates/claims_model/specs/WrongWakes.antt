@@ -1,8 +1,9 @@
 -- Engines that are wrong in one thing of an entry, of what is put back, or of what a coroutine leaves, and else are `step`; and the field of
 -- demand 3 that refuses each (`proofs/WrongWakes.antt`).
 use Prim.Native.Nat.{ℕ, _+_}
-use mathlib.Core.Bool.{Bool, true, false, not, _&&_, _||_}
-use mathlib.Core.List.{List, [], _∷_, map}
+use mathlib.Core.Path.{_≡_}
+use mathlib.Core.Bool.{Bool, false, not, _&&_, _||_}
+use mathlib.Core.List.{List, [], _∷_, _++_, map}
 use mathlib.Core.Option.{Option, none, some}
 use lib.ListN.{length, set}
 use lib.Dec.{ltb}
@@ -19,11 +20,14 @@ use Rattle.model.specs.declared.machine.Active.{Active}
 use Rattle.model.specs.declared.machine.Frame.{Frame}
 use Rattle.model.specs.declared.call.Op.{Op}
 use Rattle.claims_model.specs.Engine.{Seen, View, Engine, seenRunning, seenSuspended, stateIs}
+use Rattle.claims_model.specs.Says.{entry, whom}
+use Rattle.claims_model.specs.Held.{at, AllMoved, closer, closedBy, withSent, enteredFrames}
 use Rattle.claims_model.specs.Demand3.{Demand3}
 use Rattle.claims_model.specs.Events.{isBody}
 use Rattle.claims_model.specs.Steps.{viewOf, modelOp, modelAsks, looks}
 use Rattle.claims_model.specs.Story.{c, d}
-use Rattle.claims_model.specs.Refuted.{Refuted, RefutedAt, RefutedMoved as MovedRefuted, entered, by, restored, held, left}
+use Rattle.claims_model.specs.Refuted as R
+use Rattle.claims_model.specs.Refuted.{Refuted, RefutedAt, RefutedOn, RefutedOver, RefutedMoved as MovedRefuted, entered, by, parts, stands, restored, held, thirds, splits, linked, framesAre, wordsAre, left, underIs}
 use Rattle.claims_model.specs.Bent as Bent
 use Rattle.claims_model.specs.Bent.{leaving, seeing, leavingAt, entering, parting, beginning, making}
 
@@ -92,19 +96,33 @@ savedSeen g (some x) = some (record { state = x .state; words = x .words; frames
 abbrev pub eachSeen : (Frame → Frame) → View → View
 eachSeen g v = record { stack = v .stack; frames = map g (v .frames); chain = v .chain; coro = λ u. savedSeen g (v .coro u); done = v .done; queue = v .queue; fuel = v .fuel; rules = v .rules; fresh = v .fresh; full = v .full; integer = v .integer; used = v .used }
 
+-- so are the frames that stand on another, and the saved ones
+abbrev pub onOthers : (Frame → Frame) → List Frame → List Frame
+onOthers g [] = []
+onOthers g (f ∷ []) = f ∷ []
+onOthers g (f ∷ h ∷ fs) = g f ∷ onOthers g (h ∷ fs)
+
+abbrev pub bodiesSeen : (Frame → Frame) → View → View
+bodiesSeen g v = record { stack = v .stack; frames = onOthers g (v .frames); chain = v .chain; coro = λ u. savedSeen g (v .coro u); done = v .done; queue = v .queue; fuel = v .fuel; rules = v .rules; fresh = v .fresh; full = v .full; integer = v .integer; used = v .used }
+
 pub record RefutedBy : Type 0 where
-  pub says : RefutedAt by (λ e a r. r .says) grantResumes
+  pub says : RefutedOn by (λ e a r. entry (a .c) (r .driver) (r .sent) (r .pc)) (λ e a g. whom (e .view (a .s)) (e .op (a .y)) ≡ some g) (λ e a r. r .says) grantResumes
 
 pub record RefutedEntered : Type 0 where
   pub by : RefutedAt entered (λ e a r. r .by) grantResumes
-  pub frames : RefutedAt entered (λ e a r. r .frames) (beginsWith (underTop atOne))
-  pub stack : RefutedAt entered (λ e a r. r .stack) (beginning fourthWord5)
-  pub its-own : RefutedAt entered (λ e a r. r .its-own) (seeing (eachSeen discards))
-  pub body-base : RefutedAt entered (λ e a r. r .body-base) (seeing (eachSeen higher))
-  pub chain : RefutedAt entered (λ e a r. r .chain) (beginning (λ w z. withChain (map floor0 (z .chain)) z))
-  pub closing : RefutedAt entered (λ e a r. r .closing) closingEnds
-  pub saved-words : RefutedAt entered (λ e a r. r .saved-words) (beginning firstWord5)
-  pub saved-frames : RefutedAt entered (λ e a r. r .saved-frames) (beginsWith (onTop atOne))
+  pub frames : RefutedOn entered parts (λ e a g. e .view (e .next (a .s) (a .y)) .frames ≡ g .1 ++ (g .2 ∷ at (g .0 .pc) (e .view (a .s) .frames))) (λ e a r. r .frames) (beginsWith (underTop atOne))
+  pub stack : RefutedOn entered (λ e a r. r .words) (λ e a g. e .view (e .next (a .s) (a .y)) .stack ≡ e .view (a .s) .stack ++ g) (λ e a r. r .stack) (beginning fourthWord5)
+  pub its-own : RefutedOn entered stands (λ e a g. g .body .cont ≡ Cont.Coro) (λ e a r. r .its-own) (seeing (eachSeen discards))
+  pub body-base : RefutedOn entered stands (λ e a g. g .body .base ≡ length (e .view (a .s) .stack)) (λ e a r. r .body-base) (seeing (bodiesSeen higher))
+  pub chain : RefutedOn entered (λ e a r. r .by) (λ e a g. let w = e .view (a .s) in e .view (e .next (a .s) (a .y)) .chain ≡ record { coro = a .c; floor = length (w .frames); driver = g .driver } ∷ w .chain) (λ e a r. r .chain)
+      (beginning (λ w z. withChain (map floor0 (z .chain)) z))
+  pub closing : RefutedOn entered (λ e a r. r .by) (λ e a g. closer (e .view (e .next (a .s) (a .y)) .coro (a .c)) ≡ closedBy (g .sent) (closer (e .view (a .s) .coro (a .c)))) (λ e a r. r .closing) closingEnds
+  pub saved-words : RefutedOn entered (λ e a r. r .by)
+      (λ e a g. let w = e .view (a .s) in let z = e .view (e .next (a .s) (a .y)) in (x : Seen) → w .coro (a .c) ≡ some x → z .stack ≡ withSent (g .sent) (z .frames) (x .waits) (w .stack ++ x .words))
+      (λ e a r. r .saved-words) (beginning firstWord5)
+  pub saved-frames : RefutedOn entered stands
+      (λ e a g. let w = e .view (a .s) in (x : Seen) → w .coro (a .c) ≡ some x → AllMoved 0 (length (w .stack)) (enteredFrames (g .by .sent) (x .frames)) (g .over ++ (g .body ∷ [])))
+      (λ e a r. r .saved-frames) (beginsWith (onTop atOne))
 
 -- ---- what is put back
 
@@ -116,9 +134,9 @@ abbrev pub framed : (List Frame → List Frame) → View → View
 framed g v = record { stack = v .stack; frames = g (v .frames); chain = v .chain; coro = v .coro; done = v .done; queue = v .queue; fuel = v .fuel; rules = v .rules; fresh = v .fresh; full = v .full; integer = v .integer; used = v .used }
 
 pub record RefutedHeld : Type 0 where
-  pub frames : RefutedAt held (λ e a r. r .frames) (seeing (framed (λ fs. [])))
-  pub its-own : RefutedAt held (λ e a r. r .its-own) (seeing (framed (map discards)))
-  pub chain : RefutedAt held (λ e a r. r .chain) (seeing unchained)
+  pub frames : RefutedOn held thirds (λ e a g. e .view (a .s) .frames ≡ g .0 ++ (g .1 ∷ g .2)) (λ e a r. r .frames) (seeing (framed (λ fs. [])))
+  pub its-own : RefutedOn held splits (λ e a g. g .body .cont ≡ Cont.Coro) (λ e a r. r .its-own) (seeing (framed (map discards)))
+  pub chain : RefutedOn held linked (λ e a g. e .view (a .s) .chain ≡ record { coro = a .c; floor = length (g .0); driver = g .1 } ∷ g .2) (λ e a r. r .chain) (seeing unchained)
 
 -- 01: "moving rows at the first entry and later only changing states": the entry of one that slept leaves stack and frames
 abbrev pub slept : World → List Active → Bool
@@ -158,8 +176,8 @@ pub record RefutedRestored : Type 0 where
   -- a grant makes of c one that has not begun
   pub suspended : RefutedAt restored (λ e a r. r .suspended) (leavingAt Bent.grant (λ w z. making c CoroState.Created z))
   pub entered : RefutedAt restored (λ e a r. r .entered) movesOnce
-  pub moved : RefutedAt restored (λ e a r. r .moved) (sleepsWith topOfZero)
-  pub words : RefutedAt restored (λ e a r. r .words) (sleepsWith firstOf5)
+  pub moved : RefutedOver restored R.woken (framesAre AllMoved) (λ e a r. r .moved) (sleepsWith topOfZero)
+  pub words : RefutedOver restored R.woken wordsAre (λ e a r. r .words) (sleepsWith firstOf5)
 
 pub record RefutedMoved : Type 0 where
   pub func : MovedRefuted (λ b h f g m. m .func) (wakesWith (onTop ofZero))
@@ -172,7 +190,7 @@ pub record RefutedMoved : Type 0 where
 
 pub record RefutedLeftBelow : Type 0 where
   pub by : RefutedAt left (λ e a r. r .by) grantResumes
-  pub under : RefutedAt left (λ e a r. r .under) (parting fourthWord5)
+  pub under : RefutedOn left (λ e a r. r .by) underIs (λ e a r. r .under) (parting fourthWord5)
   -- who leaves stays in the chain
   pub chain : RefutedAt left (λ e a r. r .chain) (parting (λ w z. withChain (w .chain) z))
 
