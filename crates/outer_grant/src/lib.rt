@@ -9,7 +9,7 @@ use memory_world::machine::Machine;
 use model::call::Answer;
 use model::machine::Fuel;
 
-// The record is lent, and rewritten where it stands; what it is to hold is told by the grant by value.
+// The record is lent and rewritten where it stands. The grant by value says what it holds then.
 pub fn grant(fuel: &mut Fuel, m: Machine, n: u64) -> Answer
     ensures { λ r. ⌜ every (λ sizes. Met any sizes (grant n) none (with m (now (fuel .entry))) (with m (now (fuel .exit))) r) ⌝ }
 {
@@ -18,7 +18,7 @@ pub fn grant(fuel: &mut Fuel, m: Machine, n: u64) -> Answer
     g.answer
 }
 
-// For who reads the record from words: it stands in a local, which is lent.
+// For a caller that has the record as a value: it stands in a local, and the local is lent.
 pub fn granted(fuel: Fuel, m: Machine, n: u64) -> GrantDid
     ensures { λ r. ⌜ every (λ sizes. Met any sizes (grant n) none (with m fuel) (with m (r .fuel)) (r .answer)) ⌝ }
 {
