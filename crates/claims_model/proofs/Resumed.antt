@@ -90,7 +90,7 @@ zero-not x a b e = no-both a (ap (ltb 0) e)
 record Own (c : ℕ) (e : E.Entry) : Type 0 where
   driver : Driver
   sent : Sent
-  stateIs : e ≡ E.entry c driver sent
+  is : e ≡ E.entry c driver sent
 
 aimed-in : (c : ℕ) (d : Driver) (x : Sent) (may : Bool) (w : World) → may ≡ true → accepts w c ≡ true → Own c (aimed (E.enters c d x may) w)
 unfolding pick
