@@ -31,14 +31,14 @@ put-long : (r x : ℕ) (m : StackFrames) → length (put r x m .stack) ≡ lengt
 put-long r x m = into-long (m .frames) r x (m .stack)
 
 deliver-long : (d : Driver) (e : Event) (m : StackFrames) → length (deliveredTo d e m .stack) ≡ length (m .stack)
-deliver-long (Driver.Resume r) (Event.Yields x) m = put-long r x m
-deliver-long (Driver.Resume r) (Event.Awaits x) m = put-long r x m
+deliver-long (Driver.Resume r) (Event.YieldOf x) m = put-long r x m
+deliver-long (Driver.Resume r) (Event.AwaitOf x) m = put-long r x m
 deliver-long (Driver.Resume r) Event.Ignores m = refl
-deliver-long (Driver.Resume r) (Event.Returns x) m = put-long r x m
-deliver-long (Driver.Iter has val iter) (Event.Yields x) m = put-long has 1 (put val x m) ∙ put-long val x m
-deliver-long (Driver.Iter has val iter) (Event.Awaits x) m = refl
+deliver-long (Driver.Resume r) (Event.ReturnOf x) m = put-long r x m
+deliver-long (Driver.Iter has val iter) (Event.YieldOf x) m = put-long has 1 (put val x m) ∙ put-long val x m
+deliver-long (Driver.Iter has val iter) (Event.AwaitOf x) m = refl
 deliver-long (Driver.Iter has val iter) Event.Ignores m = refl
-deliver-long (Driver.Iter has val iter) (Event.Returns x) m = put-long has 0 m
+deliver-long (Driver.Iter has val iter) (Event.ReturnOf x) m = put-long has 0 m
 deliver-long Driver.Host e m = refl
 deliver-long Driver.Finalize e m = refl
 

@@ -334,5 +334,5 @@ module _ (e d : Engine) (f : Follows e d) where
           waits = down-waits e d f c s₂ waiting (subst (λ u. Waits d c u ws) at₂ (p .waits));
           enters = down-enters e d f s₃ y c (subst (λ u. Enters d c u (f .by s₃ y)) at₃ (p .enters));
           goes = down-goes e d f c s₄ going (subst (λ u. Goes d c u gs) at₄ (p .goes));
-          stops = down-leaves e d f s₅ z c (subst (λ u. Stops d c u (f .by s₅ z)) at₅ (p .stops));
+          stops = down-leaves e d f s₅ z c (subst (λ u. Stops d c u (f .by s₅ z)) at₅ (p .leaves));
         }
