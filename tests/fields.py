@@ -48,6 +48,17 @@ def names(text):
     return set(re.findall(r"(?<![\w.·-])[A-Z][\w-]*", text))
 
 
+def promised(records, others):
+    """What `Promise` reaches."""
+    reached, ahead = set(), ["Promise"]
+    while ahead:
+        one = ahead.pop()
+        if one not in reached and one != "Engine" and (one in records or one in others):
+            reached.add(one)
+            ahead += names(" ".join(records[one].values()) if one in records else others[one])
+    return reached
+
+
 def is_data(text):
     """A field that holds a thing, and says nothing: a state, a call, a number, a frame, a list of such."""
     return re.fullmatch(r"(?:e \.(?:State|Call)|ℕ|Bool|Frame|Driver|Sent|Seen|(?:List|Option) (?:\w+|\([^→≡]*\)))", text)
@@ -77,13 +88,7 @@ FORMS = {"Refuted": 4, "RefutedAt": 4, "MovedRefuted": 3, "RefutedOn": 6, "Refut
 def of_engines():
     specs = "crates/claims_model/specs"
     records, others = declared(specs)
-    # what `Promise` reaches
-    reached, ahead = set(), ["Promise"]
-    while ahead:
-        one = ahead.pop()
-        if one not in reached and one != "Engine" and (one in records or one in others):
-            reached.add(one)
-            ahead += names(" ".join(records[one].values()) if one in records else others[one])
+    reached = promised(records, others)
     # a record or a type has a statement if it says an equation or an order, or names a record or a type that has one
     claims, more = set(), True
     while more:
@@ -175,6 +180,25 @@ def of_records():
     return len(found) > 100
 
 
-if not of_engines() or not of_records():
+def quoted():
+    """What the promise says, word for word: a row of tests/promise.txt for each field of a record that `Promise` reaches, and for each definition. A
+    statement can say less and refute its engine still; then it is not what stands there. `tests/fields mend` writes the rows anew."""
+    records, others = declared("crates/claims_model/specs")
+    rows = []
+    for one in sorted(promised(records, others)):
+        rows += [f"{one}.{field} | {text}" for field, text in records[one].items()] if one in records else [f"{one} | {others[one].strip()}"]
+    path = ROOT / "tests/promise.txt"
+    if sys.argv[1:] == ["mend"]:
+        path.write_text("# What `Promise` of crates/claims_model says, word for word: see tests/fields.\n" + "\n".join(rows) + "\n")
+    written = [row for row in path.read_text().splitlines() if not row.startswith("#")]
+    for row in [row for row in written if row not in rows]:
+        say(f"the promise does not say any more: {row}")
+    for row in [row for row in rows if row not in written]:
+        say(f"tests/promise.txt does not have: {row}")
+    print(f"fields: {len(rows)} rows of tests/promise.txt, word for word")
+    return len(rows) > 150
+
+
+if not of_engines() or not of_records() or not quoted():
     say("records have lost their fields")
 sys.exit(1 if failed else 0)
