@@ -7,6 +7,7 @@ ghost use Rattle.furnace.specs.Watch.{framesFit, noteFrames, notedFrames
 use crate::watch::above;
 use crate::watch::at_most;
 use crate::watch::field;
+use memory_tables::frame::FRAME_WIDTH;
 
 // Whether the frames from place `floor` on can be noted: at most two.
 pub(crate) fn fit(frames: &[u64], floor: usize, depth: usize) -> bool
@@ -18,7 +19,7 @@ pub(crate) fn fit(frames: &[u64], floor: usize, depth: usize) -> bool
     if 2 < depth - floor {
         return false;
     }
-    depth <= frames.len() / 6
+    depth <= frames.len() / FRAME_WIDTH
 }
 
 // Word i replaced.
@@ -43,8 +44,8 @@ pub(crate) fn keep(notes: &mut [u64], at: usize, frames: &[u64], floor: usize, n
     ensures { λ _. ⌜ now (notes .exit) ≡ noteFrames (now (frames .entry)) at floor n pc (now (notes .entry)) ⌝ }
 {
     put(notes, at + 16, n as u64);
-    copy(notes, at + 17, frames, floor * 6, n * 6);
-    put(notes, at + 17 + (n * 6 - 5), pc);
+    copy(notes, at + 17, frames, floor * FRAME_WIDTH, n * FRAME_WIDTH);
+    put(notes, at + 17 + (n * FRAME_WIDTH - 5), pc);
 }
 
 // Whether word p of n frames is as it should be: it was `was`, and is `is`.

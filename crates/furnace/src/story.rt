@@ -10,15 +10,15 @@ use model::call::OptPc;
 use model::machine::Cont;
 
 // The words of the coroutines, and of the iterator over the sensor: the slots after the six functions.
-const ZONE1: u64 = 0x1_0000_0000_0006;
+const ZONE1: u64 = Word::REF + 6;
 
-const ZONE2: u64 = 0x1_0000_0000_0007;
+const ZONE2: u64 = Word::REF + 7;
 
-const RECIPE: u64 = 0x1_0000_0000_0008;
+const RECIPE: u64 = Word::REF + 8;
 
-const SENSOR: u64 = 0x1_0000_0000_0009;
+const SENSOR: u64 = Word::REF + 9;
 
-const READINGS: u64 = 0x1_0000_0000_000A;
+const READINGS: u64 = Word::REF + 10;
 
 // The integer 0 as a word.
 const INT: u64 = Word::INT;

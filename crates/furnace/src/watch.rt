@@ -6,6 +6,7 @@ ghost use Rattle.memory_calls.specs.Codes.{same};
 ghost use Rattle.memory_tables.specs.Layout.{baseIn};
 ghost use Rattle.furnace.specs.Watch.{floorIn, coroIn, innermost, ownerIn, topBase, ownBase, partOf, sentBy, arriving, atMost, sentTo, allEqual};
 use heap::value::Word;
+use memory_tables::frame::FRAME_WIDTH;
 use memory_world::machine::Machine;
 use model::call::Op;
 
@@ -14,10 +15,10 @@ pub(crate) fn field(table: &[u64], i: usize, k: usize) -> u64
     ensures { λ r. ⌜ r ≡ getD (now (table .entry)) (i * 6 + k) 0 ⌝ }
 {
     let n = table.len();
-    if n / 6 < i {
+    if n / FRAME_WIDTH < i {
         return 0;
     }
-    let at = i * 6;
+    let at = i * FRAME_WIDTH;
     if n - at <= k {
         return 0;
     }

@@ -4,9 +4,9 @@ ghost use Rattle.memory_world.specs.Contract.{atEntry, atExit};
 ghost use Rattle.outer_call.specs.State.{nine};
 ghost use Rattle.linked_calls.specs.Host.{host, gave, runHost};
 ghost use Rattle.linked_batch.specs.Batch.{BatchFits, Done};
-use crate::one::ANSWER_WIDTH;
 use crate::one::one;
 use linked_calls::tested::bvm_sound;
+use memory_calls::answer::ANSWER_WIDTH;
 use outer_run::list::count;
 use outer_run::list::refuse_list;
 

@@ -12,6 +12,7 @@ ghost use Rattle.linked_calls.specs.Host.{host};
 ghost use Rattle.linked_switch.specs.Went.{goesOn};
 ghost use Rattle.linked_batch.specs.Batch.{PutFits, SwitchPutFits, Goes, OneFits, One};
 use heap::fault::Fault;
+use heap::value::BITS32;
 use linked_calls::call::bvm_call_unchecked;
 use linked_calls::numbers::FUEL;
 use linked_switch::answer::goes_on;
@@ -21,13 +22,10 @@ use linked_switch::leaves::Sleeper;
 use linked_switch::leaves::may_leave;
 use linked_switch::resume::resume_at;
 use linked_switch::yielding::yield_at;
+use memory_calls::answer::ANSWER_WIDTH;
+use memory_calls::call::CALL_WIDTH;
 use model::call::Answer;
 use outer_run::list::put_at;
-
-// The words of a call, and of an answer.
-const CALL_WIDTH: usize = 6;
-
-pub(crate) const ANSWER_WIDTH: usize = 8;
 
 // A call's first word: those that have a way of their own.
 const RESUME: u64 = 6;
@@ -35,7 +33,7 @@ const RESUME: u64 = 6;
 const YIELD: u64 = 3;
 
 // The largest pc.
-const MOST32: u64 = 0xFFFF_FFFF;
+const MOST32: u64 = BITS32 - 1;
 
 // Word k of call i.
 fn word(calls: &[u64], i: usize, k: usize) -> u64

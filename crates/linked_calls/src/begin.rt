@@ -15,8 +15,10 @@ use crate::numbers::CORO_COST;
 use crate::numbers::DEPTH_LIMIT;
 use crate::numbers::ERROR_COST;
 use crate::numbers::FRAME_COST;
+use crate::numbers::FUEL_WIDTH;
 use crate::numbers::INT_COST;
 use crate::numbers::ITER_COST;
+use crate::numbers::MACHINE_WIDTH;
 use crate::numbers::MEMORY;
 use crate::numbers::OBJECT_COST;
 use crate::numbers::ROW_WIDTH;
@@ -29,6 +31,7 @@ use crate::numbers::put_fuel;
 use crate::numbers::put_machine;
 use crate::tested::short;
 use heap::fault::Fault;
+use memory_calls::answer::ANSWER_WIDTH;
 use memory_world::machine::Sizes;
 use model::call::Answer;
 
@@ -120,10 +123,10 @@ fn accepts(
 ) -> bool
     ensures { λ r. ⌜ ((h : Host) → LongAs h (lengths stack frames chain slots «saved_stack» «saved_frames» ready finalize setup) machine fuel → r ≡ (long h && setUpOk (now (given .entry)) (h .words))) ⌝ }
 {
-    if machine < 25 {
+    if machine < MACHINE_WIDTH {
         return false;
     }
-    if fuel < 4 {
+    if fuel < FUEL_WIDTH {
         return false;
     }
     outer_call::set_up::allowed(
@@ -160,7 +163,7 @@ pub extern "C" fn bvm_set_up(
         (atExit fuel)) (atExit answer) r ≡ setUpIn (host (nine stack frames chain slots «saved_stack» «saved_frames» ready finalize setup atEntry)
         (atEntry machine) (atEntry fuel)) (now (given .entry)) (atEntry answer) ⌝ }
 {
-    if answer.len() < 8 {
+    if answer.len() < ANSWER_WIDTH {
         let ok = accepts(
             given,
             stack.len(),
@@ -177,10 +180,10 @@ pub extern "C" fn bvm_set_up(
         );
         return short(ok);
     }
-    if machine.len() < 25 {
+    if machine.len() < MACHINE_WIDTH {
         return tell(answer, Answer::Refused(Fault::Unsound));
     }
-    if fuel.len() < 4 {
+    if fuel.len() < FUEL_WIDTH {
         return tell(answer, Answer::Refused(Fault::Unsound));
     }
     begin(

@@ -17,6 +17,7 @@ use crate::numbers::sizes_of;
 use crate::tested::short;
 use crate::tested::tested;
 use heap::fault::Fault;
+use memory_calls::answer::ANSWER_WIDTH;
 use memory_calls::answer::put_answer;
 use memory_calls::call::op_of;
 use model::call::Answer;
@@ -116,7 +117,7 @@ pub extern "C" fn bvm_call(
         machine,
         fuel,
     );
-    if answer.len() < 8 {
+    if answer.len() < ANSWER_WIDTH {
         return short(ok);
     }
     do_call(

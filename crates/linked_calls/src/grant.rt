@@ -10,6 +10,7 @@ use crate::numbers::put_fuel;
 use crate::tested::short;
 use crate::tested::tested;
 use heap::fault::Fault;
+use memory_calls::answer::ANSWER_WIDTH;
 use model::call::Answer;
 
 // On a machine of which it is known whether it is sound.
@@ -75,7 +76,7 @@ pub extern "C" fn bvm_grant(
         machine,
         fuel,
     );
-    if answer.len() < 8 {
+    if answer.len() < ANSWER_WIDTH {
         return short(ok);
     }
     do_grant(

@@ -10,6 +10,7 @@ use crate::numbers::put_machine;
 use crate::numbers::sizes_of;
 use crate::tested::short;
 use crate::tested::tested;
+use memory_calls::answer::ANSWER_WIDTH;
 use outer_run::list::count;
 use outer_run::list::refuse_list;
 use outer_run::list::run_list;
@@ -37,7 +38,7 @@ fn do_run(
         (atEntry machine) (atEntry fuel)) (now (calls .entry)) (atEntry answers) ⌝ }
 {
     let n = count(calls.len());
-    if answers.len() / 8 < n {
+    if answers.len() / ANSWER_WIDTH < n {
         return short(ok);
     }
     if !ok {

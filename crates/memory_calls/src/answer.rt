@@ -15,6 +15,9 @@ use model::exec::Step;
 use model::machine::Outcome;
 use model::machine::Stop;
 
+// The words of an answer.
+pub const ANSWER_WIDTH: usize = 8;
+
 // A step's number and word, and its code.
 pub struct Three(pub u64, pub u64, pub u64);
 

@@ -9,6 +9,9 @@ use crate::written::words_of;
 use heap::fault::Fault;
 use model::call::Op;
 
+// The words of a call.
+pub const CALL_WIDTH: usize = 6;
+
 // What is tested before the operands of a call.
 pub enum Gate {
     // 11: an unwind of no such fault
@@ -125,7 +128,7 @@ fn read_six(n: u64, a: u64, b: u64, c: u64, d: u64, e: u64) -> Read
 pub fn op_of(words: &[u64]) -> Read
     ensures { λ r. ⌜ r ≡ opOf (now (words .entry)) ⌝ }
 {
-    if words.len() != 6 {
+    if words.len() != CALL_WIDTH {
         return Read::Not(Gate::Operand);
     }
     read_six(words[0], words[1], words[2], words[3], words[4], words[5])

@@ -10,6 +10,8 @@ ghost use Rattle.outer_call.specs.State.{nine, state};
 ghost use Rattle.outer_run.specs.Run.{countOf, readIn, written, refusals, ListFits, Listed};
 use crate::one::do_read;
 use heap::fault::Fault;
+use memory_calls::answer::ANSWER_WIDTH;
+use memory_calls::call::CALL_WIDTH;
 use memory_calls::call::Read;
 use memory_world::machine::Machine;
 use memory_world::machine::Sizes;
@@ -26,8 +28,8 @@ pub struct Ran {
 pub fn count(n: usize) -> usize
     ensures { λ r. ⌜ r ≡ countOf n ⌝ }
 {
-    let q = n / 6;
-    if n % 6 == 0 {
+    let q = n / CALL_WIDTH;
+    if n % CALL_WIDTH == 0 {
         return q;
     }
     q + 1
@@ -38,12 +40,12 @@ fn read_at(calls: &[u64], i: usize) -> Read
     requires { ⌜ i * 6 ≤ length (now calls) ⌝ }
     ensures { λ r. ⌜ r ≡ readIn (now (calls .entry)) i ⌝ }
 {
-    let a = i * 6;
+    let a = i * CALL_WIDTH;
     let left = calls.len() - a;
-    if left < 6 {
+    if left < CALL_WIDTH {
         return memory_calls::call::op_of(&calls[a..calls.len()]);
     }
-    let e = a + 6;
+    let e = a + CALL_WIDTH;
     memory_calls::call::op_of(&calls[a..e])
 }
 
@@ -52,8 +54,8 @@ pub fn put_at(answers: &mut [u64], i: usize, a: Answer)
     requires { ⌜ i * 8 + 8 ≤ length (now answers) ⌝ }
     ensures { λ _. ⌜ now (answers .exit) ≡ putChunk 8 (now (answers .entry)) i (answerWords a) ⌝ }
 {
-    let at = i * 8;
-    let e = at + 8;
+    let at = i * ANSWER_WIDTH;
+    let e = at + ANSWER_WIDTH;
     memory_calls::answer::put_answer(&mut answers[at..e], a);
 }
 
