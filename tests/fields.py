@@ -82,7 +82,7 @@ def arguments(text):
 
 
 # How a refutation is stated (specs/Refuted.antt). In each the field stands alone, but for its ground: the things of its record that it speaks of.
-FORMS = {"Refuted": 4, "RefutedAt": 4, "MovedRefuted": 3, "RefutedOn": 6, "RefutedOver": 6, "RefutedIn": 6}
+FORMS = {"Refuted": 4, "RefutedAt": 4, "MovedRefuted": 3, "RefutedOn": 6, "RefutedIn": 6}
 
 
 def of_engines():
@@ -101,35 +101,41 @@ def of_engines():
     refuted = {name[len("Refuted"):]: fields for name, fields in records.items() if name.startswith("Refuted") and len(name) > len("Refuted")}
     texts = {path.stem: path.read_text() for path in (ROOT / specs).glob("*.antt")}
     proofs = "".join(path.read_text() for path in (ROOT / "crates/claims_model/proofs").glob("Wrong*.antt"))
-    count, engines, forms = 0, set(), dict.fromkeys(FORMS, 0)
+    count, seconds, engines, forms = 0, 0, set(), dict.fromkeys(FORMS, 0)
     for one in sorted(reached & records.keys() & claims - PREMISES):
         statements = [field for field, text in records[one].items() if not is_data(text)]
         table = refuted.get(one, {})
         if not re.search(rf"^pub refuted-\S+ : (?:W\.)?Refuted{one}$", proofs, re.M):
             say(f"Refuted{one} is not proved in crates/claims_model/proofs/Wrong*.antt")
-        for field in statements:
-            count += 1
-            words = arguments(table.get(field, ""))
+        # a second engine of a field, for another part of what it says: `under-frames` of `under`
+        halves = {name: max((field for field in statements if name.startswith(field + "-")), key=len, default="") for name in table.keys() - set(statements)}
+        for name, field in [(field, field) for field in statements] + sorted(halves.items()):
+            if not field:
+                say(f"Refuted{one}.{name}: {one} has no such statement")
+                continue
+            words = arguments(table.get(name, ""))
             found = re.fullmatch(r"\(λ [^.]*\. .*?\.([\w-]+)\)", words[-2]) if len(words) == FORMS.get(words[0]) else None
             if not found:
-                say(f"{one}.{field} refutes no engine: Refuted{one} of {specs}/Wrong*.antt has no such field")
+                say(f"{one}.{field} refutes no engine: Refuted{one} of {specs}/Wrong*.antt has no such field, or {name} is not of a form of Refuted.antt")
                 continue
             how, of, engine = words[0], words[1], words[-1]
-            forms[how] += 1
+            if name == field:
+                count += 1
+                forms[how] += 1
+            else:
+                seconds += 1
             engines.add(engine)
             if found.group(1) != field:
-                say(f"Refuted{one}.{field} is of the field {found.group(1)}")
+                say(f"Refuted{one}.{name} is of the field {found.group(1)}")
             if how in ("Refuted", "RefutedIn") and of != one:
-                say(f"Refuted{one}.{field} is of the record {of}")
-            if how in ("RefutedAt", "RefutedOn", "RefutedOver") and one not in names(re.search(rf"^{of} e a = (.*)$", texts["Refuted"], re.M).group(1)):
-                say(f"Refuted{one}.{field} is of another record: {of} of {specs}/Refuted.antt")
-        for field in table.keys() - set(statements):
-            say(f"Refuted{one}.{field}: {one} has no such statement")
+                say(f"Refuted{one}.{name} is of the record {of}")
+            if how in ("RefutedAt", "RefutedOn") and one not in names(re.search(rf"^{of} e a = (.*)$", texts["Refuted"], re.M).group(1)):
+                say(f"Refuted{one}.{name} is of another record: {of} of {specs}/Refuted.antt")
     for one in refuted.keys() - (reached & claims):
         say(f"Refuted{one}: no record {one} is promised")
     each = ", each refutes one" if not failed else ""
-    ground = forms["RefutedOn"] + forms["RefutedOver"] + forms["RefutedIn"] + forms["MovedRefuted"]
-    print(f"fields: {count} statements of {len(reached & records.keys() & claims - PREMISES)} records of an engine{each} of {len(engines)} engines, {count - ground} alone and {ground} on their ground; {len(PREMISES)} records of premises")
+    ground = forms["RefutedOn"] + forms["RefutedIn"] + forms["MovedRefuted"]
+    print(f"fields: {count} statements of {len(reached & records.keys() & claims - PREMISES)} records of an engine{each} of {len(engines)} engines, {count - ground} alone and {ground} on their ground, with {seconds} refutations more of another part of a field; {len(PREMISES)} records of premises")
     return count > 100
 
 

@@ -60,6 +60,7 @@ pub mod Roomy
 pub mod Promise
 pub mod Places
 pub mod WrongEntries
+pub mod WrongHeld
 pub mod WrongWakes
 pub mod WrongEvents
 pub mod WrongTouches

@@ -6,9 +6,9 @@ use mathlib.Core.Logic.{_⊎_, inl, inr}
 use mathlib.Core.Bool.{true, false}
 use mathlib.Core.List.{List, [], _∷_, _++_, map, append-assoc}
 use mathlib.Core.Option.{Option, none, some}
-use lib.ListN.{length, getD, length-append}
+use lib.ListN.{length, getD, take, length-append}
 use Rattle.heap.specs.declared.object.CoroState.{CoroState}
-use Rattle.model.specs.World.{withChain}
+use Rattle.model.specs.World.{withFrames, withChain}
 use Rattle.model.specs.Call.{asCall}
 use Rattle.model.specs.Compute.{computed}
 use Rattle.model.specs.declared.machine.Cont.{Cont}
@@ -22,15 +22,15 @@ use Rattle.claims_model.specs.Held.{at, Moved, AllMoved, closer, closedB
 use Rattle.claims_model.specs.Delivery.{eventGiven, StackFrames, stackFrames, deliveredTo}
 use Rattle.claims_model.specs.Steps.{viewOf}
 use Rattle.claims_model.specs.Premises.{runsIn, sleepsIn, leftIn, waits}
-use Rattle.claims_model.specs.Story.{c}
+use Rattle.claims_model.specs.Story.{c, d}
 use Rattle.claims_model.specs.Witness.{frame}
 use Rattle.claims_model.specs.Refuted as R
-use Rattle.claims_model.specs.Refuted.{RefutedAt, RefutedOn, Each, Stands, Wake, entered, by, parts, stands, left, underIs}
+use Rattle.claims_model.specs.Refuted.{RefutedAt, RefutedOn, Each, Stands, Wake, entered, by, chainIs, closingIs, parts, stands, left, underIs}
 use Rattle.claims_model.specs.Bent.{seeing, parting, beginning}
 use Rattle.claims_model.specs.WrongWakes as W
-use Rattle.claims_model.specs.WrongWakes.{grantResumes, beginsWith, underTop, fourthWord5, floor0, closingEnds, eachSeen, bodiesSeen, onTop, discards, atOne, higher, firstWord5}
+use Rattle.claims_model.specs.WrongWakes.{grantResumes, beginsWith, underTop, fourthWord5, floor0, hosted, marked, closingEnds, eachSeen, bodiesSeen, onTop, discards, atOne, further, higher, firstWord5}
 use Rattle.claims_model.proofs.Premises.{waits-true}
-use Rattle.claims_model.proofs.Places.{waiting, sleeping}
+use Rattle.claims_model.proofs.Places.{waiting, holding, sleeping}
 
 -- ---- small things
 
@@ -57,6 +57,16 @@ floorIn (a ∷ chain) = a .floor
 abbrev pub someOne : List Active → ℕ
 someOne [] = 0
 someOne (a ∷ chain) = 1
+
+abbrev driverCode : Driver → ℕ
+driverCode Driver.Host = 0
+driverCode (Driver.Resume r) = 1
+driverCode (Driver.Iter has val iter) = 2
+driverCode Driver.Finalize = 3
+
+abbrev drivenIn : List Active → ℕ
+drivenIn [] = 4
+drivenIn (a ∷ chain) = driverCode (a .driver)
 
 abbrev pub headOr : Frame → List Frame → Frame
 headOr g [] = g
@@ -129,7 +139,7 @@ leave-at c s y z a b f g = record { c = c; s = s; y = y; going = []; z = z; ente
 abbrev pub fresh-one : Seen
 fresh-one = record { state = CoroState.Created; words = 0 ∷ 0 ∷ 0 ∷ 0 ∷ []; frames = frame 0 0 0 0 Cont.Coro ∷ []; waits = 0; mostWords = 4; mostFrames = 1; closing = false; signal = 0; result = 0 }
 
-module _ {w : View} {y : Option Op} (b : By w y c) where
+module _ {u : ℕ} {w : View} {y : Option Op} (b : By w y u) where
   pub sent-by : b .sent ≡ sentIn (whom w y)
   sent-by = ap sentIn (sym (b .says))
 
@@ -192,8 +202,8 @@ pub entered-by : RefutedAt entered (λ e a r. r .by) grantResumes
 unfolding computed waiting
 entered-by = (entry-at c waiting (asCall (Op.Grant 1) refl) refl refl, λ h. no-one (h .says))
 
--- what the resume of c says
-abbrev resumes : {w : View} {y : Option Op} → whom w y ≡ some (entry c (Driver.Resume 1) nothing 2) → By w y c
+-- what a resume says
+abbrev resumes : {u : ℕ} {w : View} {y : Option Op} → whom w y ≡ some (entry u (Driver.Resume 1) nothing 2) → By w y u
 resumes e = record { driver = Driver.Resume 1; sent = nothing; pc = 2; says = e }
 
 entered-frames : RefutedOn entered parts (λ e a g. e .view (e .next (a .s) (a .y)) .frames ≡ g .1 ++ (g .2 ∷ at (g .0 .pc) (e .view (a .s) .frames))) (λ e a r. r .frames) (beginsWith (underTop atOne))
@@ -230,12 +240,30 @@ entered-body-base = (
       absurd (omega (arith, q)),
 )
 
-entered-chain : RefutedOn entered (λ e a r. r .by) (λ e a g. let w = e .view (a .s) in e .view (e .next (a .s) (a .y)) .chain ≡ record { coro = a .c; floor = length (w .frames); driver = g .driver } ∷ w .chain) (λ e a r. r .chain)
-    (beginning (λ w z. withChain (map floor0 (z .chain)) z))
+entered-chain : RefutedOn entered (λ e a r. r .by) chainIs (λ e a r. r .chain) (beginning (λ w z. withChain (map floor0 (z .chain)) z))
 unfolding computed waiting
 entered-chain = (entry-at c waiting (asCall (Op.Resume 2 1 0 2) refl) refl refl, resumes refl, λ g h. let q : _≡_ {A = ℕ} 0 1 = ap floorIn h in absurd (omega (arith, q)))
 
-entered-closing : RefutedOn entered (λ e a r. r .by) (λ e a g. closer (e .view (e .next (a .s) (a .y)) .coro (a .c)) ≡ closedBy (g .sent) (closer (e .view (a .s) .coro (a .c)))) (λ e a r. r .closing) closingEnds
+entered-chain-driver : RefutedOn entered (λ e a r. r .by) chainIs (λ e a r. r .chain) (beginning (λ w z. withChain (map hosted (z .chain)) z))
+unfolding computed waiting
+entered-chain-driver = (
+  entry-at c waiting (asCall (Op.Resume 2 1 0 2) refl) refl refl,
+  resumes refl,
+  λ g h.
+      let q : _≡_ {A = ℕ} 0 1 = ap drivenIn h ∙ ap driverCode (driver-by g) in
+      absurd (omega (arith, q)),
+)
+
+-- c makes d and resumes it
+entered-chain-outer : RefutedOn entered (λ e a r. r .by) chainIs (λ e a r. r .chain) (beginning (λ w z. withChain (take 1 (z .chain)) z))
+unfolding computed holding
+entered-chain-outer = (entry-at d holding (asCall (Op.Resume 2 1 0 2) refl) refl refl, resumes refl, λ g h. let q : _≡_ {A = ℕ} 1 2 = ap length h in absurd (omega (arith, q)))
+
+entered-closing-unasked : RefutedOn entered (λ e a r. r .by) closingIs (λ e a r. r .closing) (beginning (λ w z. marked true (z .chain) z))
+unfolding computed waiting
+entered-closing-unasked = (entry-at c waiting (asCall (Op.Resume 2 1 0 2) refl) refl refl, resumes refl, λ g h. no-word (sym (closed-by g h)))
+
+entered-closing : RefutedOn entered (λ e a r. r .by) closingIs (λ e a r. r .closing) closingEnds
 unfolding computed sleeping
 entered-closing = (entry-at c sleeping (asCall (Op.CoroClose 3 1 0 2) refl) refl refl, record { driver = Driver.Resume 1; sent = closes 9; pc = 3; says = refl }, λ g h. no-word (closed-by g h))
 
@@ -265,6 +293,11 @@ entered-saved-frames = (
 
 -- ---- what is left
 
+frames-below : {u : ℕ} {w : View} {y : Option Op} (v : View) (k : Option Op) (z : View) (b : By w y u) → stackFrames (z .stack) (z .frames) ≡ deliveredTo (b .driver) (eventGiven v (announcedBy v k) u z) (stackFrames (w .stack) (at (b .pc) (w .frames)))
+    → z .frames ≡ deliveredTo (driverIn (whom w y)) (eventGiven v (announcedBy v k) u z) (stackFrames (w .stack) (at (pcIn (whom w y)) (w .frames))) .frames
+frames-below {u} {w} v k z b h =
+    ap (λ (m : StackFrames). m .frames) h ∙ (λ i. deliveredTo (driver-by b i) (eventGiven v (announcedBy v k) u z) (stackFrames (w .stack) (at (pc-by b i) (w .frames))) .frames)
+
 word-below : {w : View} {y : Option Op} (v : View) (k : Option Op) (z : View) (b : By w y c) → stackFrames (z .stack) (z .frames) ≡ deliveredTo (b .driver) (eventGiven v (announcedBy v k) c z) (stackFrames (w .stack) (at (b .pc) (w .frames)))
     → (i : ℕ) → getD (z .stack) i 0 ≡ getD (deliveredTo (driverIn (whom w y)) (eventGiven v (announcedBy v k) c z) (stackFrames (w .stack) (at (b .pc) (w .frames))) .stack) i 0
 word-below {w} v k z b h i =
@@ -282,6 +315,31 @@ left-under = (
   λ g h.
       let at-yield = parting fourthWord5 .next waiting (asCall (Op.Resume 2 1 0 2) refl) in
       let q : _≡_ {A = ℕ} 5 0 = word-below (viewOf at-yield) (some (Op.Yield 3 0 1)) (viewOf (parting fourthWord5 .next at-yield (asCall (Op.Yield 3 0 1) refl))) g h 3 in
+      absurd (omega (arith, q)),
+)
+
+left-under-caller : RefutedOn left (λ e a r. r .by) underIs (λ e a r. r .under) (parting (λ w z. withFrames (onTop further (z .frames)) z))
+unfolding computed waiting
+left-under-caller = (
+  leave-at c waiting (asCall (Op.Resume 2 1 0 2) refl) (asCall (Op.Yield 3 0 1) refl) refl refl refl refl,
+  resumes refl,
+  λ g h.
+      let e = parting (λ w z. withFrames (onTop further (z .frames)) z) in
+      let at-yield = e .next waiting (asCall (Op.Resume 2 1 0 2) refl) in
+      let q : _≡_ {A = ℕ} 4 3 = ap (λ fs. first (map pcIs fs)) (frames-below (viewOf at-yield) (some (Op.Yield 3 0 1)) (viewOf (e .next at-yield (asCall (Op.Yield 3 0 1) refl))) g h) in
+      absurd (omega (arith, q)),
+)
+
+-- d yields to c, under which function 0 stands
+left-under-frames : RefutedOn left (λ e a r. r .by) underIs (λ e a r. r .under) (parting (λ w z. withFrames (underTop higher (z .frames)) z))
+unfolding computed holding
+left-under-frames = (
+  leave-at d holding (asCall (Op.Resume 2 1 0 2) refl) (asCall (Op.Yield 3 0 1) refl) refl refl refl refl,
+  resumes refl,
+  λ g h.
+      let e = parting (λ w z. withFrames (underTop higher (z .frames)) z) in
+      let at-yield = e .next holding (asCall (Op.Resume 2 1 0 2) refl) in
+      let q : _≡_ {A = ℕ} 1 0 = ap (λ fs. second (map (λ f. f .base) fs)) (frames-below (viewOf at-yield) (some (Op.Yield 3 0 1)) (viewOf (e .next at-yield (asCall (Op.Yield 3 0 1) refl))) g h) in
       absurd (omega (arith, q)),
 )
 
@@ -307,10 +365,13 @@ refuted-entered =
       its-own = entered-its-own;
       body-base = entered-body-base;
       chain = entered-chain;
+      chain-driver = entered-chain-driver;
+      chain-outer = entered-chain-outer;
       closing = entered-closing;
+      closing-unasked = entered-closing-unasked;
       saved-words = entered-saved-words;
       saved-frames = entered-saved-frames;
     }
 
 pub refuted-left : W.RefutedLeftBelow
-refuted-left = record { by = left-by; under = left-under; chain = left-chain }
+refuted-left = record { by = left-by; under = left-under; under-caller = left-under-caller; under-frames = left-under-frames; chain = left-chain }

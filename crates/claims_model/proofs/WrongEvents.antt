@@ -31,7 +31,7 @@ use Rattle.claims_model.specs.Refuted.{Refuted}
 use Rattle.claims_model.specs.Bent as Bent
 use Rattle.claims_model.specs.Bent.{isA, leavingAt, answeringAt, answeringFor, making}
 use Rattle.claims_model.specs.WrongWakes.{grantResumes, closingEnds}
-use Rattle.claims_model.specs.WrongEvents.{entersNobody, two, entriesAnswer0, returnFails, failureReturns, awaitYields, returns5, reaching, being, result5, closeOfCreatedFails, shallow, lostIn, failureAnswers9, RefutedEvents, WrongEvents}
+use Rattle.claims_model.specs.WrongEvents.{signed, unsigned, finishing5, entersNobody, two, entriesAnswer0, returnFails, failureReturns, awaitYields, returns5, reaching, being, result5, closeOfCreatedFails, shallow, lostIn, failureAnswers9, RefutedEvents, WrongEvents}
 use Rattle.claims_model.proofs.Cores.{no-both}
 use Rattle.claims_model.proofs.Exact.{some-op, sound-healthy}
 use Rattle.claims_model.proofs.Exactly as Exactly
@@ -156,7 +156,13 @@ events-throws-created : Refuted Events (λ e v. v .throws-created) (reaching see
 unfolding computed waiting
 events-throws-created h = let q : _≡_ {A = ℕ} 5 0 = ap recorded (h c waiting (asCall (Op.ResumeThrow 3 1 0 2) refl) 3 1 0 2 refl refl refl refl) in absurd (omega (arith, q))
 
-events-integer : Refuted Events (λ e v. v .integer) returns5
+events-integer-unsigned : Refuted Events (λ e v. v .integer) (finishing5 unsigned)
+unfolding computed begun
+events-integer-unsigned h =
+    let q : _≡_ {A = ℕ} 0 7 = ap value (h c begun (asCall (Op.Finish ResultKind.U64 7) refl) ResultKind.U64 7 (record { before = refl; after = refl }) refl refl) in
+    absurd (omega (arith, q))
+
+events-integer : Refuted Events (λ e v. v .integer) (finishing5 signed)
 unfolding computed begun
 events-integer h =
     let q : _≡_ {A = ℕ} 0 7 = ap value (h c begun (asCall (Op.Finish ResultKind.I64 7) refl) ResultKind.I64 7 (record { before = refl; after = refl }) refl refl) in
@@ -270,6 +276,7 @@ refuted-events =
       closes-created = events-closes-created;
       throws-created = events-throws-created;
       integer = events-integer;
+      integer-unsigned = events-integer-unsigned;
       word = events-word;
       closed = events-closed;
       yielded = events-yielded;

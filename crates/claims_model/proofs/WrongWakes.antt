@@ -2,7 +2,6 @@
 use Prim.Native.Nat.{ℕ, _+_, _-_}
 use native.Mathlib.Omega.{arith}
 use mathlib.Core.Path.{_≡_, refl, sym, ap, _∙_}
-use mathlib.Core.Logic.{_⊎_, inl, inr}
 use mathlib.Core.Bool.{Bool, true, false, not, _&&_}
 use mathlib.Core.List.{List, [], _∷_, _++_, map, append-assoc}
 use mathlib.Core.Option.{Option, some}
@@ -18,23 +17,23 @@ use Rattle.model.specs.declared.machine.Active.{Active}
 use Rattle.model.specs.declared.machine.Frame.{Frame}
 use Rattle.model.specs.declared.call.Op.{Op}
 use Rattle.claims_model.specs.Engine.{Engine, Turn, Seen, View, turnCall, runTurns}
-use Rattle.claims_model.specs.Says.{announcedBy, whom}
-use Rattle.claims_model.specs.Held.{at, Moved, AllMoved, pcOf, waitsIn, stepped, withSent, Held, Entered}
+use Rattle.claims_model.specs.Says.{gets, entry, announcedBy, whom}
+use Rattle.claims_model.specs.Held.{at, Moved, AllMoved, pcOf, waitsIn, stepped, withSent, By, Held, Entered}
 use Rattle.claims_model.specs.Demand3.{Demand3}
 use Rattle.claims_model.specs.Premises.{runsIn, sleepsIn, waits}
 use Rattle.claims_model.specs.Story as Story
 use Rattle.claims_model.specs.Steps.{viewOf}
 use Rattle.claims_model.specs.Story.{c}
 use Rattle.claims_model.specs.Witness.{frame}
-use Rattle.claims_model.specs.Refuted.{Refuted, RefutedAt, RefutedOn, RefutedOver, RefutedMoved, Each, Stands, standing, Wake, entered, restored, woken, framesAre, wordsAre, held, thirds, splits, linked}
+use Rattle.claims_model.specs.Refuted.{Refuted, RefutedAt, RefutedOn, RefutedMoved, Each, Stands, standing, Wake, entered, restored, woken, framesAre, wordsAre}
 use Rattle.claims_model.specs.Bent as Bent
 use Rattle.claims_model.specs.Bent.{leaving, parting, seeing, leavingAt, making}
 use Rattle.claims_model.specs.WrongWakes as W
-use Rattle.claims_model.specs.WrongWakes.{grantResumes, fourthWord5, unchained, framed, onTop, tail, ofZero, discards, bare, atOne, further, higher, movesOnce, wakesWith, topOfZero, firstOf5, sleepsWith, readsRowOf, exchangesRows, wakesUnseen}
+use Rattle.claims_model.specs.WrongWakes.{grantResumes, fourthWord5, unchained, onTop, onSecond, tail, ofZero, discards, bare, atOne, further, higher, movesOnce, wakesWith, topOfZero, firstOf5, sleepsWith, readsRowOf, exchangesRows, wakesUnseen}
 use Rattle.claims_model.proofs.Premises.{waits-true}
 use Rattle.claims_model.proofs.Cores.{no-both}
 use Rattle.claims_model.proofs.Places.{begun, inside, seven, sleeping}
-use Rattle.claims_model.proofs.WrongEntries.{entered-by, left-under, first, second, codeOf, floorIn, someOne, lastOr, last-is, one-of, sentIn, wake-at, sent-by, word-by, all-alike, each, pcAlike, pcIs, map-append, on-others}
+use Rattle.claims_model.proofs.WrongEntries.{entered-by, left-under, first, second, codeOf, floorIn, someOne, lastOr, last-is, sentIn, wake-at, sent-by, word-by, all-alike, each, pcAlike, pcIs, map-append, on-others}
 
 -- ---- what is put back
 
@@ -127,6 +126,10 @@ two-moved x {w = w} h t m f₁ f₂ e =
     ∙ distances (h .body .base) (length (w .stack)) (moved-from x h t) (moved-to x h t) under f₁ f₂ (from-found x h t ∙ e) m
     ∙ ap (λ fs. second (map (λ k. k .base) fs) + f₁ .base) (sym (on-others t))
 
+all-moved : {v : View} (x : Option Op) {w : View} {y : Option Op} {z : View} (h : Held v c) (t : Stands w y c z) → AllMoved (h .body .base) (length (w .stack)) (moved-from x h t) (moved-to x h t) → (f₁ f₂ : Frame)
+    → at (stepped (sentIn (whom w y)) (pcOf (announcedBy v x))) (found v) ≡ f₁ ∷ f₂ ∷ [] → first (map (λ k. k .base) (z .frames)) + f₂ .base ≡ second (map (λ k. k .base) (z .frames)) + f₁ .base
+all-moved x {w = w} h t m = two-moved x h t (each baseAlike (λ b n f j e. e .base) (h .body .base) (length (w .stack)) (moved-from x h t) (moved-to x h t) m)
+
 more-frames : {w : View} {y : Option Op} {z : View} → Entered w y c z → (n : ℕ) → length (z .frames) ≡ n → length (w .frames) ≡ n → ⊥
 more-frames {w = w} {z = z} t n p q =
     let a = ap length (t .frames) in
@@ -184,38 +187,20 @@ module _ (f : World → Call → World) (s₁ : World) (x : Call) (ts : List (Tu
       let t = five (runsIn (leaving f) c s₁) (sleepsIn (leaving f) c s₂) (runsIn (leaving f) c s₃) (runsIn (leaving f) c (f s₃ y)) (waits (leaving f) c s₂ ts) h in
       record { c = c; s = s₁; x = x; waiting = ts; y = y; suspends = record { before = t .0; after = t .1 }; waits = waits-true (leaving f) c s₂ ts (t .4); enters = record { before = t .2; after = t .3 } }
 
-held-frames : RefutedOn held thirds (λ e a g. e .view (a .s) .frames ≡ g .0 ++ (g .1 ∷ g .2)) (λ e a r. r .frames) (seeing (framed (λ fs. [])))
-unfolding computed begun
-held-frames = (
-  wake-at c begun (asCall (Op.Yield 8 3 1) refl) [] (asCall (Op.Resume 9 1 0 2) refl) refl refl refl refl refl,
-  ([], frame 0 0 4 0 Cont.Coro, []),
-  λ g h.
-      let n = ap length h in let m = length-append (g .0) (g .1 ∷ g .2) in
-      absurd (omega (arith, n, m)),
-)
+-- what it held there
+unfoldable was-held : Held (viewOf inside) c
+unfolding computed inside
+was-held = record { over = frame 1 0 8 0 (Cont.Dyn 2) ∷ []; body = frame 0 5 4 Story.f Cont.Coro; under = frame 0 2 0 0 Cont.Entry ∷ []; driver = Driver.Resume 1; outer = []; frames = refl; its-own = refl; chain = refl }
 
-held-its-own : RefutedOn held splits (λ e a g. g .body .cont ≡ Cont.Coro) (λ e a r. r .its-own) (seeing (framed (map discards)))
-unfolding computed begun
-held-its-own = (
-  wake-at c begun (asCall (Op.Yield 8 3 1) refl) [] (asCall (Op.Resume 9 1 0 2) refl) refl refl refl refl refl,
-  record { over = []; body = frame 0 0 4 0 Cont.Discard; under = frame 0 2 0 0 Cont.Discard ∷ []; frames = refl },
-  λ g h.
-      go (g .body) h (one-of (g .over) (g .body) (g .under) (frame 0 0 4 0 Cont.Discard) (frame 0 2 0 0 Cont.Discard) (g .frames)),
-)
-  where
-    go : (b : Frame) → b .cont ≡ Cont.Coro → (b ≡ frame 0 0 4 0 Cont.Discard) ⊎ (b ≡ frame 0 2 0 0 Cont.Discard) → ⊥
-    go b h (inl e) = let q : _≡_ {A = ℕ} 4 5 = ap (λ f. codeOf (f .cont)) (sym e) ∙ ap codeOf h in absurd (omega (arith, q))
-    go b h (inr e) = let q : _≡_ {A = ℕ} 4 5 = ap (λ f. codeOf (f .cont)) (sym e) ∙ ap codeOf h in absurd (omega (arith, q))
+-- what its second resume says; the frames of that caller; the frames that stand, computed
+abbrev again : {w : View} {y : Option Op} → whom w y ≡ some (entry c (Driver.Resume 1) (gets 0) 9) → By w y c
+again e = record { driver = Driver.Resume 1; sent = gets 0; pc = 9; says = e }
 
-held-chain : RefutedOn held linked (λ e a g. e .view (a .s) .chain ≡ record { coro = a .c; floor = length (g .0); driver = g .1 } ∷ g .2) (λ e a r. r .chain) (seeing unchained)
-unfolding computed begun
-held-chain = (
-  wake-at c begun (asCall (Op.Yield 8 3 1) refl) [] (asCall (Op.Resume 9 1 0 2) refl) refl refl refl refl refl,
-  ([], Driver.Host, []),
-  λ g h.
-      let n : _≡_ {A = ℕ} 0 1 = ap (λ (l : List Active). someOne l) h in
-      absurd (omega (arith, n)),
-)
+abbrev callers : List Frame
+callers = frame 0 9 4 0 Cont.Discard ∷ frame 0 5 0 0 Cont.Entry ∷ []
+
+through : {fs gs : List Frame} (ks : List Frame) → fs ≡ ks → gs ≡ ks → fs ≡ gs
+through ks a b = a ∙ sym b
 
 restored-held : RefutedAt restored (λ e a r. r .held) (seeing unchained)
 unfolding computed begun
@@ -238,64 +223,81 @@ restored-entered : RefutedAt restored (λ e a r. r .entered) movesOnce
 unfolding computed inside wake
 restored-entered = (wake (movesOnce .next) inside (asCall (Op.Yield 7 3 1) yield-typed) between (asCall (Op.Resume 9 1 0 2) resume-typed) refl, λ h. more-frames h 2 refl refl)
 
-restored-moved : RefutedOver restored woken (framesAre AllMoved) (λ e a r. r .moved) (sleepsWith topOfZero)
+restored-moved : RefutedOn restored woken (framesAre AllMoved) (λ e a r. r .moved) (sleepsWith topOfZero)
 unfolding computed inside wake
 restored-moved = (
   wake (sleepsWith topOfZero .next) inside (asCall (Op.Yield 7 3 1) yield-typed) between (asCall (Op.Resume 9 1 0 2) resume-typed) refl,
+  (was-held, record { by = again refl; over = frame 0 8 12 0 (Cont.Dyn 2) ∷ []; body = frame 0 5 8 Story.f Cont.Coro; frames = through (frame 0 8 12 0 (Cont.Dyn 2) ∷ frame 0 5 8 Story.f Cont.Coro ∷ callers) refl refl }),
   λ g h.
       let q : _≡_ {A = ℕ} 0 1 = ap first (on-moved yields (g .0) (g .1) funcAlike funcOf (λ b h f j e. e) (λ b h f j m. m .func) h) in
       absurd (omega (arith, q)),
 )
 
-restored-words : RefutedOver restored woken wordsAre (λ e a r. r .words) (sleepsWith firstOf5)
+restored-moved-rest : RefutedOn restored woken (framesAre AllMoved) (λ e a r. r .moved) (wakesWith (onSecond higher))
+unfolding computed inside wake
+restored-moved-rest = (
+  wake (wakesWith (onSecond higher) .next) inside (asCall (Op.Yield 7 3 1) yield-typed) between (asCall (Op.Resume 9 1 0 2) resume-typed) refl,
+  (was-held, record { by = again refl; over = frame 1 8 12 0 (Cont.Dyn 2) ∷ []; body = frame 0 5 9 Story.f Cont.Coro; frames = through (frame 1 8 12 0 (Cont.Dyn 2) ∷ frame 0 5 9 Story.f Cont.Coro ∷ callers) refl refl }),
+  λ g h.
+      let q : _≡_ {A = ℕ} 16 17 = all-moved yields (g .0) (g .1) h (frame 1 8 8 0 (Cont.Dyn 2)) (frame 0 5 4 Story.f Cont.Coro) refl in
+      absurd (omega (arith, q)),
+)
+
+restored-words : RefutedOn restored woken wordsAre (λ e a r. r .words) (sleepsWith firstOf5)
 unfolding computed inside wake
 restored-words = (
   wake (sleepsWith firstOf5 .next) inside (asCall (Op.Yield 7 3 1) yield-typed) between (asCall (Op.Resume 9 1 0 2) resume-typed) refl,
+  (was-held, record { by = again refl; over = frame 1 8 12 0 (Cont.Dyn 2) ∷ []; body = frame 0 5 8 Story.f Cont.Coro; frames = through (frame 1 8 12 0 (Cont.Dyn 2) ∷ frame 0 5 8 Story.f Cont.Coro ∷ callers) refl refl }),
   λ g h.
       let q : _≡_ {A = ℕ} 5 11 = word-back yields (g .0) (g .1) h (frame 0 0 0 0 Cont.Coro) 8 in
       absurd (omega (arith, q)),
 )
 
 moved-func : RefutedMoved (λ b h f g m. m .func) (wakesWith (onTop ofZero))
-unfolding computed inside wake
+unfolding computed inside wake was-held
 moved-func = (
   wake (wakesWith (onTop ofZero) .next) inside (asCall (Op.Yield 7 3 1) yield-typed) between (asCall (Op.Resume 9 1 0 2) resume-typed) refl,
+  ((was-held, record { by = again refl; over = frame 0 8 12 0 (Cont.Dyn 2) ∷ []; body = frame 0 5 8 Story.f Cont.Coro; frames = through (frame 0 8 12 0 (Cont.Dyn 2) ∷ frame 0 5 8 Story.f Cont.Coro ∷ callers) refl refl }), (tt, (tt, tt))),
   λ g m.
       let q : _≡_ {A = ℕ} 0 1 = ap first (on-top yields (g .0) (g .1) funcAlike funcOf (λ b h f j e. e) m) in
       absurd (omega (arith, q)),
 )
 
 moved-pc : RefutedMoved (λ b h f g m. m .pc) (wakesWith (onTop atOne))
-unfolding computed inside wake
+unfolding computed inside wake was-held
 moved-pc = (
   wake (wakesWith (onTop atOne) .next) inside (asCall (Op.Yield 7 3 1) yield-typed) between (asCall (Op.Resume 9 1 0 2) resume-typed) refl,
+  ((was-held, record { by = again refl; over = frame 1 1 12 0 (Cont.Dyn 2) ∷ []; body = frame 0 5 8 Story.f Cont.Coro; frames = through (frame 1 1 12 0 (Cont.Dyn 2) ∷ frame 0 5 8 Story.f Cont.Coro ∷ callers) refl refl }), (tt, (tt, tt))),
   λ g m.
       let q : _≡_ {A = ℕ} 1 8 = ap first (on-top yields (g .0) (g .1) pcAlike pcIs (λ b h f j e. e) m) in
       absurd (omega (arith, q)),
 )
 
 moved-base : RefutedMoved (λ b h f g m. m .base) (wakesWith (onTop higher))
-unfolding computed inside wake
+unfolding computed inside wake was-held
 moved-base = (
   wake (wakesWith (onTop higher) .next) inside (asCall (Op.Yield 7 3 1) yield-typed) between (asCall (Op.Resume 9 1 0 2) resume-typed) refl,
+  ((was-held, record { by = again refl; over = frame 1 8 13 0 (Cont.Dyn 2) ∷ []; body = frame 0 5 8 Story.f Cont.Coro; frames = through (frame 1 8 13 0 (Cont.Dyn 2) ∷ frame 0 5 8 Story.f Cont.Coro ∷ callers) refl refl }), (tt, (tt, tt))),
   λ g m.
       let q : _≡_ {A = ℕ} 17 16 = two-moved yields (g .0) (g .1) m (frame 1 8 8 0 (Cont.Dyn 2)) (frame 0 5 4 Story.f Cont.Coro) refl in
       absurd (omega (arith, q)),
 )
 
 moved-closure : RefutedMoved (λ b h f g m. m .closure) (wakesWith (map bare))
-unfolding computed inside wake
+unfolding computed inside wake was-held
 moved-closure = (
   wake (wakesWith (map bare) .next) inside (asCall (Op.Yield 7 3 1) yield-typed) between (asCall (Op.Resume 9 1 0 2) resume-typed) refl,
+  ((was-held, record { by = again refl; over = frame 1 8 12 0 (Cont.Dyn 2) ∷ []; body = frame 0 5 8 0 Cont.Coro; frames = through (frame 1 8 12 0 (Cont.Dyn 2) ∷ frame 0 5 8 0 Cont.Coro ∷ callers) refl refl }), (tt, (tt, tt))),
   λ g m.
       let q : _≡_ {A = ℕ} 0 Story.f = ap second (on-top yields (g .0) (g .1) closureAlike closureOf (λ b h f j e. e) m) in
       absurd (omega (arith, q)),
 )
 
 moved-cont : RefutedMoved (λ b h f g m. m .cont) (wakesWith (onTop discards))
-unfolding computed inside wake
+unfolding computed inside wake was-held
 moved-cont = (
   wake (wakesWith (onTop discards) .next) inside (asCall (Op.Yield 7 3 1) yield-typed) between (asCall (Op.Resume 9 1 0 2) resume-typed) refl,
+  ((was-held, record { by = again refl; over = frame 1 8 12 0 Cont.Discard ∷ []; body = frame 0 5 8 Story.f Cont.Coro; frames = through (frame 1 8 12 0 Cont.Discard ∷ frame 0 5 8 Story.f Cont.Coro ∷ callers) refl refl }), (tt, (tt, tt))),
   λ g m.
       let q : _≡_ {A = ℕ} 4 2 = ap first (on-top yields (g .0) (g .1) contAlike contOf (λ b h f j e. ap codeOf e) m) in
       absurd (omega (arith, q)),
@@ -365,11 +367,8 @@ sleeper-gets-others d =
     absurd (omega (arith, q))
 
 -- NONE OF THEM
-pub refuted-held : W.RefutedHeld
-refuted-held = record { frames = held-frames; its-own = held-its-own; chain = held-chain }
-
 pub refuted-restored : W.RefutedRestored
-refuted-restored = record { held = restored-held; suspended = restored-suspended; entered = restored-entered; moved = restored-moved; words = restored-words }
+refuted-restored = record { held = restored-held; suspended = restored-suspended; entered = restored-entered; moved = restored-moved; moved-rest = restored-moved-rest; words = restored-words }
 
 pub refuted-moved : W.RefutedMoved
 refuted-moved = record { func = moved-func; pc = moved-pc; base = moved-base; closure = moved-closure; cont = moved-cont }

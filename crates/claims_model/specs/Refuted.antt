@@ -15,7 +15,7 @@ use Rattle.model.specs.declared.machine.Frame.{Frame}
 use Rattle.model.specs.declared.call.Op.{Op}
 use Rattle.claims_model.specs.Engine.{View, Engine, Turn, runTurns, stateIs}
 use Rattle.claims_model.specs.Says.{registerWord, announcedBy}
-use Rattle.claims_model.specs.Held.{at, Moved, pcOf, waitsIn, stepped, withSent, Held, By, Entered, Restored}
+use Rattle.claims_model.specs.Held.{at, Moved, pcOf, waitsIn, stepped, withSent, closer, closedBy, Held, By, Entered, Restored}
 use Rattle.claims_model.specs.Delivery.{eventGiven, stackFrames, deliveredTo, LeftBelow}
 use Rattle.claims_model.specs.Demand3.{Enters, Suspends, Stops, Restarts, Waits, Goes}
 use Rattle.claims_model.specs.Events.{isBody}
@@ -47,11 +47,6 @@ abbrev pub RefutedOn : {A : Engine → Type 0} (R : (e : Engine) → A e → Typ
     → ((e : Engine) (a : A e) (r : R e a) → F e a (ground e a r)) → Engine → Type 0
 RefutedOn {A} R {G} ground F field e = (a : A e) × G e a × ((g : G e a) → F e a g → ⊥)
 
--- the same, where only the field's refutation is shown
-abbrev pub RefutedOver : {A : Engine → Type 0} (R : (e : Engine) → A e → Type 0) {G : (e : Engine) → A e → Type 0} (ground : (e : Engine) (a : A e) → R e a → G e a) (F : (e : Engine) (a : A e) → G e a → Type 0)
-    → ((e : Engine) (a : A e) (r : R e a) → F e a (ground e a r)) → Engine → Type 0
-RefutedOver {A} R {G} ground F field e = (a : A e) × ((g : G e a) → F e a g → ⊥)
-
 -- y enters c
 pub record Entering (e : Engine) : Type 0 where
   pub c : ℕ
@@ -64,6 +59,13 @@ entered e a = Entered (e .view (a .s)) (e .op (a .y)) (a .c) (e .view (e .next (
 
 abbrev pub by : (e : Engine) → Entering e → Type 0
 by e a = By (e .view (a .s)) (e .op (a .y)) (a .c)
+
+-- the chain, and who is being closed, as `Entered` says them
+abbrev pub chainIs : (e : Engine) (a : Entering e) → by e a → Type 0
+chainIs e a g = let w = e .view (a .s) in e .view (e .next (a .s) (a .y)) .chain ≡ record { coro = a .c; floor = length (w .frames); driver = g .driver } ∷ w .chain
+
+abbrev pub closingIs : (e : Engine) (a : Entering e) → by e a → Type 0
+closingIs e a g = closer (e .view (e .next (a .s) (a .y)) .coro (a .c)) ≡ closedBy (g .sent) (closer (e .view (a .s) .coro (a .c)))
 
 -- what the call says, and two parts of the frames; and where these are the frames
 abbrev pub parts : (e : Engine) (a : Entering e) → entered e a → by e a × List Frame × Frame
@@ -140,9 +142,9 @@ Each F b h [] (g ∷ gs) = ⊥
 Each F b h (f ∷ fs) [] = ⊥
 Each F b h (f ∷ fs) (g ∷ gs) = F b h f g × Each F b h fs gs
 
--- of a frame that an entry moves: where c is entered again, not every frame that it held has the field
+-- of a frame that an entry moves: where c is entered again with as many frames as it held, not every one of them has the field
 abbrev pub RefutedMoved : {F : (b h : ℕ) (f g : Frame) → Type 0} → ((b h : ℕ) (f g : Frame) → Moved b h f g → F b h f g) → Engine → Type 0
-RefutedMoved {F} field e = (a : Wake e) × ((g : Woken e a) → framesAre (Each F) e a g → ⊥)
+RefutedMoved {F} field e = (a : Wake e) × ((g : Woken e a) × framesAre (Each (λ b h f j. Unit {0})) e a g) × ((g : Woken e a) → framesAre (Each F) e a g → ⊥)
 
 -- y enters c, and z is where it next yields, awaits or returns
 pub record Leave (e : Engine) : Type 0 where

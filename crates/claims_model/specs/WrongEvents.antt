@@ -6,6 +6,7 @@ use lib.ListN.{length}
 use lib.Dec.{ltb}
 use Rattle.lists.specs.Pick.{pick}
 use Rattle.heap.specs.declared.object.CoroState.{CoroState}
+use Rattle.heap.specs.declared.heap.ResultKind.{ResultKind}
 use Rattle.model.specs.Program.{Setup}
 use Rattle.model.specs.Object.{withClosing, withResult}
 use Rattle.model.specs.World.{World}
@@ -14,8 +15,9 @@ use Rattle.model.specs.Answer.{numberOf}
 use Rattle.model.specs.Step.{step}
 use Rattle.model.specs.declared.machine.Active.{Active}
 use Rattle.claims_model.specs.Engine.{Engine, seenCreated, seenRunning, seenAwaiting, seenReturned, stateIs}
+use Rattle.claims_model.specs.Says.{Announced, instr, hosts, finishes, raises, other, announcedBy}
 use Rattle.claims_model.specs.Events.{seenFailed, Events}
-use Rattle.claims_model.specs.Steps.{viewOf}
+use Rattle.claims_model.specs.Steps.{viewOf, modelOp}
 use Rattle.claims_model.specs.Story.{c}
 use Rattle.claims_model.specs.Refuted.{Refuted}
 use Rattle.claims_model.specs.Bent as Bent
@@ -77,6 +79,29 @@ depth1 s = let l = s .limits in record { limits = record { depth = 1; stack = l 
 abbrev pub shallow : World → World
 shallow w = record { setup = depth1 (w .setup); stack = w .stack; frames = w .frames; chain = w .chain; slots = w .slots; ready = w .ready; finalize = w .finalize; finalizing = w .finalizing; outcome = w .outcome; used = w .used; seq = w .seq; fuel = w .fuel }
 
+-- c has the result 5 where a call finishes with a result of one kind: I64, U64
+abbrev pub signed : ResultKind → Bool
+signed ResultKind.None = false
+signed ResultKind.Dyn = false
+signed ResultKind.I64 = true
+signed ResultKind.U64 = false
+
+abbrev pub unsigned : ResultKind → Bool
+unsigned ResultKind.None = false
+unsigned ResultKind.Dyn = false
+unsigned ResultKind.I64 = false
+unsigned ResultKind.U64 = true
+
+abbrev pub finishesWith : (ResultKind → Bool) → Announced → Bool
+finishesWith p (instr pc ok a) = false
+finishesWith p (hosts u x) = false
+finishesWith p (finishes kind x) = p kind
+finishesWith p (raises f pc) = false
+finishesWith p other = false
+
+abbrev pub finishing5 : (ResultKind → Bool) → Engine
+finishing5 p = leaving (λ w k. let z = step w k .world in pick (finishesWith p (announcedBy (viewOf w) (modelOp k))) (result5 z) z)
+
 pub record RefutedEvents : Type 0 where
   pub enters : Refuted Events (λ e v. v .enters) grantResumes
   pub entered : Refuted Events (λ e v. v .entered) (entersNobody (λ w. true))
@@ -100,7 +125,8 @@ pub record RefutedEvents : Type 0 where
   pub stopped : Refuted Events (λ e v. v .stopped) (reaching seenFailed result5)
   pub closes-created : Refuted Events (λ e v. v .closes-created) closeOfCreatedFails
   pub throws-created : Refuted Events (λ e v. v .throws-created) (reaching seenFailed result5)
-  pub integer : Refuted Events (λ e v. v .integer) returns5
+  pub integer : Refuted Events (λ e v. v .integer) (finishing5 signed)
+  pub integer-unsigned : Refuted Events (λ e v. v .integer) (finishing5 unsigned)
   pub word : Refuted Events (λ e v. v .word) returns5
   pub closed : Refuted Events (λ e v. v .closed) returns5
   -- a Yield marks c as being closed

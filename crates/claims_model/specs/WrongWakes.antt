@@ -1,11 +1,11 @@
 -- Engines that are wrong in one thing of an entry, of what is put back, or of what a coroutine leaves, and else are `step`; and the field of
--- demand 3 that refuses each (`proofs/WrongWakes.antt`).
+-- demand 3 that refuses each (`WrongEntries`, `WrongHeld` and `WrongWakes` of `proofs/`).
 use Prim.Native.Nat.{ℕ, _+_}
 use mathlib.Core.Path.{_≡_}
-use mathlib.Core.Bool.{Bool, false, not, _&&_, _||_}
+use mathlib.Core.Bool.{Bool, true, false, not, _&&_, _||_}
 use mathlib.Core.List.{List, [], _∷_, _++_, map}
 use mathlib.Core.Option.{Option, none, some}
-use lib.ListN.{length, set}
+use lib.ListN.{length, take, set}
 use lib.Dec.{ltb}
 use Rattle.lists.specs.Pick.{pick}
 use Rattle.heap.specs.declared.object.CoroState.{CoroState}
@@ -16,18 +16,19 @@ use Rattle.model.specs.Answer.{numberOf}
 use Rattle.model.specs.Call.{Call}
 use Rattle.model.specs.Step.{tested, step}
 use Rattle.model.specs.declared.machine.Cont.{Cont}
+use Rattle.model.specs.declared.machine.Driver.{Driver}
 use Rattle.model.specs.declared.machine.Active.{Active}
 use Rattle.model.specs.declared.machine.Frame.{Frame}
 use Rattle.model.specs.declared.call.Op.{Op}
 use Rattle.claims_model.specs.Engine.{Seen, View, Engine, seenRunning, seenSuspended, stateIs}
 use Rattle.claims_model.specs.Says.{entry, whom}
-use Rattle.claims_model.specs.Held.{at, AllMoved, closer, closedBy, withSent, enteredFrames}
+use Rattle.claims_model.specs.Held.{at, AllMoved, withSent, enteredFrames}
 use Rattle.claims_model.specs.Demand3.{Demand3}
 use Rattle.claims_model.specs.Events.{isBody}
 use Rattle.claims_model.specs.Steps.{viewOf, modelOp, modelAsks, looks}
 use Rattle.claims_model.specs.Story.{c, d}
 use Rattle.claims_model.specs.Refuted as R
-use Rattle.claims_model.specs.Refuted.{Refuted, RefutedAt, RefutedOn, RefutedOver, RefutedMoved as MovedRefuted, entered, by, parts, stands, restored, held, thirds, splits, linked, framesAre, wordsAre, left, underIs}
+use Rattle.claims_model.specs.Refuted.{Refuted, RefutedAt, RefutedOn, RefutedMoved as MovedRefuted, entered, by, chainIs, closingIs, parts, stands, restored, held, thirds, splits, linked, framesAre, wordsAre, left, underIs}
 use Rattle.claims_model.specs.Bent as Bent
 use Rattle.claims_model.specs.Bent.{leaving, seeing, leavingAt, entering, parting, beginning, making}
 
@@ -44,6 +45,10 @@ onTop g (f ∷ fs) = g f ∷ fs
 abbrev pub underTop : (Frame → Frame) → List Frame → List Frame
 underTop g [] = []
 underTop g (f ∷ fs) = f ∷ map g fs
+
+abbrev pub onSecond : (Frame → Frame) → List Frame → List Frame
+onSecond g [] = []
+onSecond g (f ∷ fs) = f ∷ onTop g fs
 
 -- a frame at pc 1, one instruction further, one word higher, of function 0, without its closure, with Discard for its continuation
 abbrev pub atOne : Frame → Frame
@@ -80,13 +85,17 @@ fourthWord5 w z = withStack (set (z .stack) 3 5) z
 abbrev pub floor0 : Active → Active
 floor0 a = record { coro = a .coro; floor = 0; driver = a .driver }
 
--- whoever runs innermost is not being closed
-abbrev pub unmarked : List Active → World → World
-unmarked [] z = z
-unmarked (a ∷ chain) z = changeCoro (a .coro) (λ k. k) (withClosing false) z
+-- the host for a driver
+abbrev pub hosted : Active → Active
+hosted a = record { coro = a .coro; floor = a .floor; driver = Driver.Host }
+
+-- whoever runs innermost is being closed, or is not
+abbrev pub marked : Bool → List Active → World → World
+marked m [] z = z
+marked m (a ∷ chain) z = changeCoro (a .coro) (λ k. k) (withClosing m) z
 
 abbrev pub closingEnds : Engine
-closingEnds = leaving (λ w k. let z = step w k .world in unmarked (z .chain) z)
+closingEnds = leaving (λ w k. let z = step w k .world in marked false (z .chain) z)
 
 -- each frame is seen bent, where it stands and where it is saved
 abbrev pub savedSeen : (Frame → Frame) → Option Seen → Option Seen
@@ -114,9 +123,11 @@ pub record RefutedEntered : Type 0 where
   pub stack : RefutedOn entered (λ e a r. r .words) (λ e a g. e .view (e .next (a .s) (a .y)) .stack ≡ e .view (a .s) .stack ++ g) (λ e a r. r .stack) (beginning fourthWord5)
   pub its-own : RefutedOn entered stands (λ e a g. g .body .cont ≡ Cont.Coro) (λ e a r. r .its-own) (seeing (eachSeen discards))
   pub body-base : RefutedOn entered stands (λ e a g. g .body .base ≡ length (e .view (a .s) .stack)) (λ e a r. r .body-base) (seeing (bodiesSeen higher))
-  pub chain : RefutedOn entered (λ e a r. r .by) (λ e a g. let w = e .view (a .s) in e .view (e .next (a .s) (a .y)) .chain ≡ record { coro = a .c; floor = length (w .frames); driver = g .driver } ∷ w .chain) (λ e a r. r .chain)
-      (beginning (λ w z. withChain (map floor0 (z .chain)) z))
-  pub closing : RefutedOn entered (λ e a r. r .by) (λ e a g. closer (e .view (e .next (a .s) (a .y)) .coro (a .c)) ≡ closedBy (g .sent) (closer (e .view (a .s) .coro (a .c)))) (λ e a r. r .closing) closingEnds
+  pub chain : RefutedOn entered (λ e a r. r .by) chainIs (λ e a r. r .chain) (beginning (λ w z. withChain (map floor0 (z .chain)) z))
+  pub chain-driver : RefutedOn entered (λ e a r. r .by) chainIs (λ e a r. r .chain) (beginning (λ w z. withChain (map hosted (z .chain)) z))
+  pub chain-outer : RefutedOn entered (λ e a r. r .by) chainIs (λ e a r. r .chain) (beginning (λ w z. withChain (take 1 (z .chain)) z))
+  pub closing : RefutedOn entered (λ e a r. r .by) closingIs (λ e a r. r .closing) closingEnds
+  pub closing-unasked : RefutedOn entered (λ e a r. r .by) closingIs (λ e a r. r .closing) (beginning (λ w z. marked true (z .chain) z))
   pub saved-words : RefutedOn entered (λ e a r. r .by)
       (λ e a g. let w = e .view (a .s) in let z = e .view (e .next (a .s) (a .y)) in (x : Seen) → w .coro (a .c) ≡ some x → z .stack ≡ withSent (g .sent) (z .frames) (x .waits) (w .stack ++ x .words))
       (λ e a r. r .saved-words) (beginning firstWord5)
@@ -176,8 +187,9 @@ pub record RefutedRestored : Type 0 where
   -- a grant makes of c one that has not begun
   pub suspended : RefutedAt restored (λ e a r. r .suspended) (leavingAt Bent.grant (λ w z. making c CoroState.Created z))
   pub entered : RefutedAt restored (λ e a r. r .entered) movesOnce
-  pub moved : RefutedOver restored R.woken (framesAre AllMoved) (λ e a r. r .moved) (sleepsWith topOfZero)
-  pub words : RefutedOver restored R.woken wordsAre (λ e a r. r .words) (sleepsWith firstOf5)
+  pub moved : RefutedOn restored R.woken (framesAre AllMoved) (λ e a r. r .moved) (sleepsWith topOfZero)
+  pub moved-rest : RefutedOn restored R.woken (framesAre AllMoved) (λ e a r. r .moved) (wakesWith (onSecond higher))
+  pub words : RefutedOn restored R.woken wordsAre (λ e a r. r .words) (sleepsWith firstOf5)
 
 pub record RefutedMoved : Type 0 where
   pub func : MovedRefuted (λ b h f g m. m .func) (wakesWith (onTop ofZero))
@@ -191,6 +203,9 @@ pub record RefutedMoved : Type 0 where
 pub record RefutedLeftBelow : Type 0 where
   pub by : RefutedAt left (λ e a r. r .by) grantResumes
   pub under : RefutedOn left (λ e a r. r .by) underIs (λ e a r. r .under) (parting fourthWord5)
+  -- the stack is left as it has to be: the calling frame's pc steps twice; the frames under that one are a word higher
+  pub under-caller : RefutedOn left (λ e a r. r .by) underIs (λ e a r. r .under) (parting (λ w z. withFrames (onTop further (z .frames)) z))
+  pub under-frames : RefutedOn left (λ e a r. r .by) underIs (λ e a r. r .under) (parting (λ w z. withFrames (underTop higher (z .frames)) z))
   -- who leaves stays in the chain
   pub chain : RefutedAt left (λ e a r. r .chain) (parting (λ w z. withChain (w .chain) z))
 
