@@ -25,7 +25,8 @@ call-requires c κs = tt
 
 after-requires : tie.Need-after-requires
 after-requires c κs =
-    let noted = c .before .before .before .before .before .before .before .before .before .before .before .before .before .before .before .before .before .before .before .before .before .before .before .before .before .before .before .before .before .before .before .before .before .before .before .before .before .before in
+    let told = c .before .before .before .before .before .before .before .before .before .before .before .before .before .before .before .before .before .before .before in
+    let noted = told .before .before .before .before .before .before .before .before .before .before .before .before .before .before .before .before .before .before .before in
     noted .before2 .kept .1 .1 .1 .1 .1 .0 ∙ start-of noted .pre
 
 same-length : tie.Need-same-length
