@@ -16,7 +16,7 @@ const BITS: usize = 64;
 pub const SET_WIDTH: usize = MOST_SLOTS / BITS;
 
 // Whether they are in order, and the set of their slots.
-#[derive(Drop)]
+#[derive(Clone, Copy)]
 pub struct Runs {
     pub good: bool,
     pub set: [u64; SET_WIDTH],

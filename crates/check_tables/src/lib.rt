@@ -1,4 +1,6 @@
 // Whether lent words are a sound machine's, table by table.
+#![tactic(auto)]
+
 pub mod catches;
 pub mod chain;
 pub mod frames;

@@ -1,1 +1,2 @@
 // Soundness is kept: a claim about the definitions, with no code.
+#![tactic(auto)]

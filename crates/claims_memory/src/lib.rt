@@ -1,1 +1,2 @@
 // The claims over lent words: definitions and theorems only.
+#![tactic(auto)]

@@ -1,1 +1,2 @@
 // The fault sheet, as theorems on the model.
+#![tactic(auto)]

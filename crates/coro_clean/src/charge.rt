@@ -14,14 +14,14 @@ use model::coro::Started;
 use model::machine::{Charge, Fuel};
 
 // What a charge without a pc leaves of the fuel, and answers.
-#[derive(Drop)]
+#[derive(Clone, Copy)]
 pub struct PlainChargeDid {
     pub fuel: Fuel,
     pub answer: Charge,
 }
 
 // What a charge leaves of the numbers and of the fuel, and answers.
-#[derive(Drop)]
+#[derive(Clone, Copy)]
 pub struct ChargeDid {
     pub machine: Machine,
     pub fuel: Fuel,

@@ -15,7 +15,7 @@ use model::coro::Started;
 use model::machine::{Driver, Fuel};
 
 // What a search for a cleanup leaves of the numbers and of the fuel, and answers.
-#[derive(Drop)]
+#[derive(Clone, Copy)]
 pub struct StartDid {
     pub machine: Machine,
     pub fuel: Fuel,

@@ -16,7 +16,7 @@ use model::coro::WordOr;
 use model::machine::Fuel;
 
 // What spawn_task leaves of the numbers, and answers.
-#[derive(Drop)]
+#[derive(Clone, Copy)]
 pub struct TaskDid {
     pub machine: Machine,
     pub answer: WordOr,

@@ -19,14 +19,14 @@ use model::machine::{Cont, Frame};
 use model::program::MOST_ARGS;
 
 // What a creation leaves of the numbers, and answers.
-#[derive(Drop)]
+#[derive(Clone, Copy)]
 pub struct CreateDid {
     pub machine: Machine,
     pub answer: WordOr,
 }
 
 // The row of a new coroutine, or what is lacking.
-#[derive(Drop)]
+#[derive(Clone, Copy)]
 pub(crate) enum Spot {
     Row(usize),
     Lacks(Fault),

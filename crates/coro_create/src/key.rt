@@ -12,7 +12,7 @@ use memory_world::machine::{Machine, Sizes};
 use model::coro::AutoKey;
 
 // What a new key leaves of the numbers, and answers.
-#[derive(Drop)]
+#[derive(Clone, Copy)]
 pub struct KeyDid {
     pub machine: Machine,
     pub answer: AutoKey,

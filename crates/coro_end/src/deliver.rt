@@ -19,7 +19,7 @@ use model::coro::Event;
 use model::machine::{Driver, Fuel, Stop};
 
 // What a delivery leaves of the numbers and of the fuel, and answers.
-#[derive(Drop)]
+#[derive(Clone, Copy)]
 pub struct Delivered {
     pub machine: Machine,
     pub fuel: Fuel,

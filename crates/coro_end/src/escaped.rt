@@ -18,7 +18,7 @@ use memory_world::machine::{Machine, Sizes};
 use model::machine::{Driver, Fuel, Stop};
 
 // What an escape leaves of the numbers and of the fuel, and whether the unwinding stops.
-#[derive(Drop)]
+#[derive(Clone, Copy)]
 pub struct Escaped {
     pub machine: Machine,
     pub fuel: Fuel,

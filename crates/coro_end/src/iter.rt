@@ -15,7 +15,7 @@ use heap::value::{Obj, Opt, Word};
 use memory_world::machine::Machine;
 
 // The iterator that a word names: its slot, and what it holds.
-#[derive(Drop)]
+#[derive(Clone, Copy)]
 pub enum Iterator {
     At {
         slot: usize,

@@ -1,4 +1,6 @@
 // coro.rs: deliveries, and the end of a coroutine.
+#![tactic(auto)]
+
 pub mod abort;
 pub mod deliver;
 pub mod escaped;

@@ -15,7 +15,7 @@ use model::coro::Entered;
 use model::machine::Driver;
 
 // What an entry leaves of the numbers, and answers.
-#[derive(Drop)]
+#[derive(Clone, Copy)]
 pub struct EnterDid {
     pub machine: Machine,
     pub answer: Entered,

@@ -18,7 +18,7 @@ use model::coro::{Event, Keys, Suspension};
 use model::machine::Active;
 
 // What a suspension leaves of the numbers, and answers.
-#[derive(Drop)]
+#[derive(Clone, Copy)]
 pub struct SuspendDid {
     pub machine: Machine,
     pub answer: Suspension,

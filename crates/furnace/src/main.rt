@@ -1,4 +1,6 @@
 // A furnace line whose scripts sleep and are woken: what each held, and what came back.
+#![tactic(auto)]
+
 mod body;
 mod call;
 mod note;
@@ -102,7 +104,7 @@ fn furnace() -> [u64; SETUP_WIDTH]
 }
 
 // What calls leave of the numbers and of the fuel, and the wakes counted.
-#[derive(Drop)]
+#[derive(Clone, Copy)]
 struct Played {
     machine: Machine,
     fuel: Fuel,

@@ -10,7 +10,7 @@ use memory_world::machine::Machine;
 use model::call::Op;
 
 // What was seen before a call: running coroutines, the innermost of them, and the word that the call sends.
-#[derive(Drop)]
+#[derive(Clone, Copy)]
 pub(crate) struct Seen {
     pub(crate) active: usize,
     pub(crate) coro: u64,
@@ -18,7 +18,7 @@ pub(crate) struct Seen {
 }
 
 // Coroutines woken, and those of them that came back with what they held.
-#[derive(Drop)]
+#[derive(Clone, Copy)]
 pub(crate) struct Count {
     pub(crate) wakes: u64,
     pub(crate) equal: u64,

@@ -129,7 +129,7 @@ pub(crate) fn own_base(frames: &[u64], chain: &[u64], m: Machine) -> usize
 }
 
 // What a call is to an observer.
-#[derive(Drop)]
+#[derive(Clone, Copy)]
 pub(crate) enum Part {
     // it suspends the coroutine that runs; this register then waits, at this pc
     Waits(u16, u32),
@@ -171,7 +171,7 @@ pub(crate) fn part_of(op: Op) -> Part
 }
 
 // The word that a call sends to the coroutine that it enters, or none.
-#[derive(Drop)]
+#[derive(Clone, Copy)]
 pub(crate) struct Sent {
     pub(crate) is: bool,
     pub(crate) word: u64,

@@ -2,7 +2,7 @@
 ghost use Rattle.std.specs.Prelude.{◌≡◌};
 ghost use Rattle.heap.specs.Fault.{number_of, word_of, is_none};
 
-#[derive(Drop)]
+#[derive(Clone, Copy)]
 pub enum Fault {
     // 0: accepted
     None,

@@ -15,28 +15,28 @@ use crate::slot;
 use crate::value::{Class, MOST64, Opt, Word};
 
 // The slot that a word names.
-#[derive(Drop)]
+#[derive(Clone, Copy)]
 pub enum Place {
     Nothing,
     At(usize),
 }
 
 // The coroutine that a word names, or the fault of a word that names none.
-#[derive(Drop)]
+#[derive(Clone, Copy)]
 pub enum Coroutine {
     At(usize, CoroObj),
     Not(Fault),
 }
 
 // Its place alone.
-#[derive(Drop)]
+#[derive(Clone, Copy)]
 pub enum CoroPlace {
     At(usize),
     Not(Fault),
 }
 
 // heap.rs: Heap, as numbers: slots taken, slots there are, bytes charged, and the memory limit.
-#[derive(Drop)]
+#[derive(Clone, Copy)]
 pub struct Heap {
     pub count: usize,
     pub slots: usize,
@@ -44,21 +44,21 @@ pub struct Heap {
     pub limit: u64,
 }
 
-#[derive(Drop)]
+#[derive(Clone, Copy)]
 pub enum Charged {
     Done(Heap),
     OutOfMemory,
 }
 
 // What an allocation or a conversion answers.
-#[derive(Drop)]
+#[derive(Clone, Copy)]
 pub enum Made {
     Done(Word, Heap),
     Refused(Fault),
 }
 
 // 01: "Result kinds: none, dynamic word, i64, u64."
-#[derive(Drop)]
+#[derive(Clone, Copy)]
 pub enum ResultKind {
     None,
     Dyn,

@@ -13,21 +13,21 @@ const MOST_INT: u64 = SIGN - 1;
 pub const MINUS_ONE: u64 = MOST64;
 
 // The types that a result is read at.
-#[derive(Drop)]
+#[derive(Clone, Copy)]
 pub enum IntTy {
     I64,
     U64,
 }
 
 // An integer of 64 bits, or one that is out of their range.
-#[derive(Drop)]
+#[derive(Clone, Copy)]
 pub enum Exact {
     Fits(u64),
     Over,
 }
 
 // An integer's word, where it is inline.
-#[derive(Drop)]
+#[derive(Clone, Copy)]
 pub enum Inline {
     At(Word),
     Large,

@@ -11,7 +11,7 @@ use crate::layout;
 use crate::value::Word;
 
 // The function that a word names, or the fault of a word that names none.
-#[derive(Drop)]
+#[derive(Clone, Copy)]
 pub enum Callable {
     Func(u64),
     Not(Fault),

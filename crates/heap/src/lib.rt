@@ -1,4 +1,6 @@
 // The lower crate: words, integers, the object table and its charges.
+#![tactic(auto)]
+
 pub mod fault;
 pub mod field;
 pub mod heap;

@@ -6,7 +6,7 @@ ghost use Rattle.heap.specs.State.{is_created, is_running, is_awaiting, is_retur
 use crate::value::Opt;
 
 // 01: "State codes"
-#[derive(Drop)]
+#[derive(Clone, Copy)]
 pub enum CoroState {
     Created,
     Running,
@@ -101,7 +101,7 @@ impl CoroState {
 }
 
 // heap.rs: CoroObj
-#[derive(Drop)]
+#[derive(Clone, Copy)]
 pub struct CoroObj {
     pub state: CoroState,
     pub closing: bool,
@@ -128,7 +128,7 @@ pub struct CoroObj {
     pub signal: u64,
 }
 
-#[derive(Drop)]
+#[derive(Clone, Copy)]
 pub enum Object {
     // no object: heap.rs's None in a slot
     Empty,

@@ -7,15 +7,15 @@ ghost use Rattle.heap.specs.Word.{nil, reference, class_of, slot_of, tag_of};
 use crate::int::Inline;
 
 // A word of the machine.
-#[derive(Drop)]
+#[derive(Clone, Copy)]
 pub struct Word(pub u64);
 
 // value.rs: Obj, a handle to an object: a word that is a reference.
-#[derive(Drop)]
+#[derive(Clone, Copy)]
 pub struct Obj(pub u64);
 
 // Rust's Option<u64>.
-#[derive(Drop)]
+#[derive(Clone, Copy)]
 pub enum Opt {
     None,
     Some(u64),
@@ -36,7 +36,7 @@ pub const MOST32: u64 = BITS32 - 1;
 pub const MOST16: u64 = BITS16 - 1;
 
 // What a word is.
-#[derive(Drop)]
+#[derive(Clone, Copy)]
 pub enum Class {
     Nil,
     Ref(Obj),

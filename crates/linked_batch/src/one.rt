@@ -229,7 +229,7 @@ fn yield_call(
 }
 
 // Which route a call takes.
-#[derive(Drop)]
+#[derive(Clone, Copy)]
 enum Route {
     Resume,
     Yield,

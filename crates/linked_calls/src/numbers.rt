@@ -168,7 +168,7 @@ pub(crate) fn fuel_of(ws: &[u64]) -> Fuel
 }
 
 // Whether there is a bank, its units, and whether cleanups are ready.
-#[derive(Drop)]
+#[derive(Clone, Copy)]
 struct BankWords(u64, u64, u64);
 
 fn told_bank(bank: Opt, ready: bool) -> BankWords

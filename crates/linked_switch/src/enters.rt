@@ -6,7 +6,7 @@ use heap::value::Word;
 use linked_calls::numbers::{COUNT, DEPTH, DEPTH_LIMIT, HEIGHT, STACK_LIMIT};
 
 // The slot of the coroutine that may be entered, and its word.
-#[derive(Drop)]
+#[derive(Clone, Copy)]
 pub enum Enters {
     At(usize, u64),
     Not,

@@ -8,7 +8,7 @@ use linked_calls::numbers::{ACTIVE, COUNT, DEPTH, HEIGHT};
 use model::machine::Driver;
 
 // The slot of the coroutine that may be suspended, the register of the Resume that waits for it, its next key and that key's integer.
-#[derive(Drop)]
+#[derive(Clone, Copy)]
 pub enum Yielder {
     At(usize, u64, u64, u64),
     Not,

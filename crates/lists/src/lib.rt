@@ -1,4 +1,6 @@
 // Runs of words in lent slices, and two tests as one.
+#![tactic(auto)]
+
 ghost use Rattle.std.specs.Prelude.{◌≡◌, ◌&&◌, length, replicate};
 ghost use Rattle.lists.specs.Tests.{zeros};
 

@@ -15,7 +15,7 @@ use model::coro::WordOr;
 use model::machine::Cont;
 
 // What a call leaves of the numbers, and answers.
-#[derive(Drop)]
+#[derive(Clone, Copy)]
 pub struct CallDid {
     pub machine: Machine,
     pub answer: Answer,

@@ -11,7 +11,7 @@ use model::call::Answer;
 use model::machine::Fuel;
 
 // What a grant leaves of the fuel, and answers.
-#[derive(Drop)]
+#[derive(Clone, Copy)]
 pub struct GrantDid {
     pub fuel: Fuel,
     pub answer: Answer,

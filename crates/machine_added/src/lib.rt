@@ -1,4 +1,6 @@
 // 01: "Added calls", behind their gates.
+#![tactic(auto)]
+
 pub mod call;
 pub mod entry;
 pub mod fuel;

@@ -4,7 +4,7 @@ ghost use Rattle.machine_added.specs.Look.{LookFits, Sees};
 use memory_world::machine::Machine;
 
 // The part of the stack from `start` to `end`.
-#[derive(Drop)]
+#[derive(Clone, Copy)]
 pub struct Span {
     pub start: usize,
     pub end: usize,

@@ -16,7 +16,7 @@ use model::coro::WordOr;
 use model::machine::Cont;
 
 // What a result leaves of the numbers, and answers.
-#[derive(Drop)]
+#[derive(Clone, Copy)]
 pub struct Applied {
     pub machine: Machine,
     pub answer: Fault,

@@ -20,7 +20,7 @@ use model::coro::WordOr;
 use model::machine::{Cont, Fuel};
 
 // What the end of a call leaves of the numbers, and answers.
-#[derive(Drop)]
+#[derive(Clone, Copy)]
 pub struct FinishDid {
     pub machine: Machine,
     pub answer: Answer,

@@ -1,4 +1,6 @@
 // machine.rs: finish. conv.rs: to_dyn.
+#![tactic(auto)]
+
 pub mod cont;
 pub mod convert;
 pub mod finish;

@@ -3,7 +3,7 @@ use memory_world::machine::Machine;
 use model::call::Answer;
 use model::machine::Fuel;
 
-#[derive(Drop)]
+#[derive(Clone, Copy)]
 pub struct Called {
     pub machine: Machine,
     pub fuel: Fuel,

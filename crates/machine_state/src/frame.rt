@@ -13,7 +13,7 @@ use model::coro::WordOr;
 use model::machine::Cont;
 
 // What a push leaves of the numbers, and answers.
-#[derive(Drop)]
+#[derive(Clone, Copy)]
 pub struct FrameDid {
     pub machine: Machine,
     pub answer: WordOr,

@@ -9,7 +9,7 @@ use memory_world::machine::Machine;
 use model::machine::Fuel;
 
 // What a call leaves of the numbers and of the fuel.
-#[derive(Drop)]
+#[derive(Clone, Copy)]
 pub struct FuelDid {
     pub machine: Machine,
     pub fuel: Fuel,

@@ -1,4 +1,6 @@
 // machine.rs: impl Machine, on the lent words.
+#![tactic(auto)]
+
 pub mod called;
 pub mod coro;
 pub mod frame;

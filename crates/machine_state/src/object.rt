@@ -11,7 +11,7 @@ use memory_world::machine::{Machine, Sizes};
 use model::coro::WordOr;
 
 // What an allocation leaves of the numbers, and answers.
-#[derive(Drop)]
+#[derive(Clone, Copy)]
 pub struct WordDid {
     pub machine: Machine,
     pub answer: WordOr,

@@ -3,13 +3,13 @@ use memory_world::machine::Machine;
 use model::exec::Step;
 use model::machine::Fuel;
 
-#[derive(Drop)]
+#[derive(Clone, Copy)]
 pub struct StepDid {
     pub machine: Machine,
     pub step: Step,
 }
 
-#[derive(Drop)]
+#[derive(Clone, Copy)]
 pub struct Stepped {
     pub machine: Machine,
     pub fuel: Fuel,

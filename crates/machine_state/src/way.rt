@@ -5,7 +5,7 @@ ghost use Rattle.machine_state.specs.Way.{way_of};
 use model::machine::Cont;
 
 // Out of the machine, to the caller's frame, to whoever drove a coroutine.
-#[derive(Drop)]
+#[derive(Clone, Copy)]
 pub enum Way {
     Out,
     Caller,

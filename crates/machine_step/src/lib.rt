@@ -1,4 +1,6 @@
 // Every call on sound words.
+#![tactic(auto)]
+
 pub mod dispatch;
 pub mod gates;
 pub mod kept;

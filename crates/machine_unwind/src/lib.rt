@@ -1,4 +1,6 @@
 // machine.rs: unwind.
+#![tactic(auto)]
+
 pub mod handler;
 pub mod leave;
 pub mod search;

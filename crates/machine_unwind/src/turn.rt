@@ -8,7 +8,7 @@ use model::call::Answer;
 use model::machine::{Charge, Cont};
 
 // Where a word was raised.
-#[derive(Drop)]
+#[derive(Clone, Copy)]
 pub struct Origin {
     pub func: u64,
     pub pc: u64,

@@ -15,7 +15,7 @@ use model::exec::Step;
 pub const ANSWER_WIDTH: usize = 8;
 
 // A step's number and word, and its code.
-#[derive(Drop)]
+#[derive(Clone, Copy)]
 pub struct Three(pub u64, pub u64, pub u64);
 
 fn told_step(s: Step) -> Three
@@ -29,7 +29,7 @@ fn told_step(s: Step) -> Three
     }
 }
 
-#[derive(Drop)]
+#[derive(Clone, Copy)]
 pub struct Eight(
     pub u64,
     pub u64,

@@ -11,7 +11,7 @@ use model::call::Op;
 pub const CALL_WIDTH: usize = 6;
 
 // What is tested before the operands of a call.
-#[derive(Drop)]
+#[derive(Clone, Copy)]
 pub enum Gate {
     // 11: an unwind of no such fault
     NoFault,
@@ -23,7 +23,7 @@ pub enum Gate {
     Operand,
 }
 
-#[derive(Drop)]
+#[derive(Clone, Copy)]
 pub enum Read {
     Is(Op),
     // no call, and the test that refuses the words

@@ -1,4 +1,6 @@
 // A call in six words, and its answer in eight (docs/ABI.md).
+#![tactic(auto)]
+
 pub mod answer;
 pub mod call;
 pub mod codes;

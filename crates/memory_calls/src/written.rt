@@ -124,7 +124,7 @@ pub(crate) fn op_by(n: u64, a: u64, b: u64, c: u64, d: u64, e: u64) -> Op
     }
 }
 
-#[derive(Drop)]
+#[derive(Clone, Copy)]
 pub struct Six(pub u64, pub u64, pub u64, pub u64, pub u64, pub u64);
 
 // The words of a call.

@@ -1,4 +1,6 @@
 // The machine's tables in lent words.
+#![tactic(auto)]
+
 pub mod active;
 pub mod chain;
 pub mod frame;

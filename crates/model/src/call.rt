@@ -7,7 +7,7 @@ use heap::heap::ResultKind;
 use heap::value::Opt;
 
 // Option<u32>: a pc to store, or none
-#[derive(Drop)]
+#[derive(Clone, Copy)]
 pub enum OptPc {
     None,
     Some(u32),
@@ -16,7 +16,7 @@ pub enum OptPc {
 // Every call but the set-up, whose operands are a table. An instruction has its pc first, then its operands in the order
 // that exec spells them. pc and function numbers have 32 bits, registers 16, argument counts 8, words 64; a continuation
 // is the one that a frame stores.
-#[derive(Drop)]
+#[derive(Clone, Copy)]
 pub enum Op {
     CoroNew {
         pc: u32,
@@ -137,7 +137,7 @@ pub enum Op {
     Look,
 }
 
-#[derive(Drop)]
+#[derive(Clone, Copy)]
 pub enum Answer {
     // accepted, with no word of its own
     Accepted,

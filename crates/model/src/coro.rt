@@ -5,7 +5,7 @@ use heap::fault::Fault;
 use heap::object::CoroState;
 
 // What a suspending coroutine hands its driver.
-#[derive(Drop)]
+#[derive(Clone, Copy)]
 pub enum Event {
     Yielded { payload: u64, key: u64 },
     Awaiting(u64),
@@ -14,21 +14,21 @@ pub enum Event {
 }
 
 // coro_create, alloc, encode_int, to_dyn, push_frame: Result<u64, Fault>
-#[derive(Drop)]
+#[derive(Clone, Copy)]
 pub enum WordOr {
     Word(u64),
     Refused(Fault),
 }
 
 // coro_state: Result<CoroState, Fault>
-#[derive(Drop)]
+#[derive(Clone, Copy)]
 pub enum Stated {
     In(CoroState),
     Refused(Fault),
 }
 
 // coro_enter: Result<Entered, Fault>
-#[derive(Drop)]
+#[derive(Clone, Copy)]
 pub enum Entered {
     // it was Created: its body starts at pc 0
     Fresh,
@@ -38,28 +38,28 @@ pub enum Entered {
 }
 
 // The new key and largest integer key of a yield: Option<(u64, i64)>
-#[derive(Drop)]
+#[derive(Clone, Copy)]
 pub enum Keys {
     Keep,
     Set { key: u64, largest: u64 },
 }
 
 // auto_key: Result<(u64, i64), Fault>
-#[derive(Drop)]
+#[derive(Clone, Copy)]
 pub enum AutoKey {
     Key { key: u64, largest: u64 },
     Refused(Fault),
 }
 
 // coro_suspend: Result<(Driver, Event), Fault>
-#[derive(Drop)]
+#[derive(Clone, Copy)]
 pub enum Suspension {
     Done { driver: Driver, event: Event },
     Refused(Fault),
 }
 
 // start_finalizer: whether a coroutine was entered. Added: the number of queue words that it took off.
-#[derive(Drop)]
+#[derive(Clone, Copy)]
 pub struct Started {
     pub entered: bool,
     pub taken: u64,

@@ -2,7 +2,7 @@
 
 use heap::fault::Fault;
 
-#[derive(Drop)]
+#[derive(Clone, Copy)]
 pub enum Step {
     // go on with the next instruction
     Next,

@@ -1,4 +1,6 @@
 // The machine as definitions: the types that the definitions and the code share.
+#![tactic(auto)]
+
 pub mod call;
 pub mod coro;
 pub mod exec;

@@ -3,7 +3,7 @@
 use heap::value::Opt;
 
 // What happens to a callee's result when its frame returns.
-#[derive(Drop)]
+#[derive(Clone, Copy)]
 pub enum Cont {
     // the bottom frame of a run: the result leaves the machine
     Entry,
@@ -19,7 +19,7 @@ pub enum Cont {
 }
 
 // Who resumed a running coroutine, and so receives what it produces next.
-#[derive(Drop)]
+#[derive(Clone, Copy)]
 pub enum Driver {
     // Resume, ResumeThrow or CoroClose: a register of the resumer's frame
     Resume(u64),
@@ -31,14 +31,14 @@ pub enum Driver {
 }
 
 // A running coroutine: its word, the index of its body frame, its driver.
-#[derive(Drop)]
+#[derive(Clone, Copy)]
 pub struct Active {
     pub coro: u64,
     pub floor: u64,
     pub driver: Driver,
 }
 
-#[derive(Drop)]
+#[derive(Clone, Copy)]
 pub struct Frame {
     pub func: u64,
     // where it goes on; of a frame below the top, its call instruction
@@ -50,7 +50,7 @@ pub struct Frame {
 }
 
 // What a coroutine driven by the host did.
-#[derive(Drop)]
+#[derive(Clone, Copy)]
 pub enum Stop {
     Yielded(u64),
     Awaiting(u64),
@@ -61,14 +61,14 @@ pub enum Stop {
 }
 
 // Option<Stop>
-#[derive(Drop)]
+#[derive(Clone, Copy)]
 pub enum Outcome {
     None,
     Some(Stop),
 }
 
 // The fuel left; the fuel set aside while a cleanup is armed; whether one is ready (close_ready).
-#[derive(Drop)]
+#[derive(Clone, Copy)]
 pub struct Fuel {
     pub fuel: u64,
     pub bank: Opt,
@@ -76,7 +76,7 @@ pub struct Fuel {
 }
 
 // The outcome of a fuel charge. Added: the number of queue words that it took off.
-#[derive(Drop)]
+#[derive(Clone, Copy)]
 pub enum Charge {
     // charged: go on
     Done(u64),

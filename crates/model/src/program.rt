@@ -23,7 +23,7 @@ pub const MOST_COST: u64 = 65536;
 pub const MOST_ARGS: usize = 255;
 
 // A try region: at start ≤ pc < end the thrown word goes to register catch, and the frame to target.
-#[derive(Drop)]
+#[derive(Clone, Copy)]
 pub struct Handler {
     pub start: u64,
     pub end: u64,
@@ -32,7 +32,7 @@ pub struct Handler {
 }
 
 // FuncInfo. 01: "Every function has at most eight handlers, each with a catch register"
-#[derive(Drop)]
+#[derive(Clone, Copy)]
 pub struct Function {
     pub regs: u64,
     pub params: u64,
@@ -41,13 +41,13 @@ pub struct Function {
 }
 
 // The first handler that covers a pc.
-#[derive(Drop)]
+#[derive(Clone, Copy)]
 pub enum Caught {
     Nothing,
     By(Handler),
 }
 
-#[derive(Drop)]
+#[derive(Clone, Copy)]
 pub struct Limits {
     pub depth: u64,
     pub stack: u64,
@@ -57,7 +57,7 @@ pub struct Limits {
 }
 
 // 01: "Costs are set-up numbers read from the Rust build"
-#[derive(Drop)]
+#[derive(Clone, Copy)]
 pub struct Costs {
     // F: FRAME_BYTES
     pub frame: u64,

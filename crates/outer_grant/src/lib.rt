@@ -1,4 +1,6 @@
 // 01: "The fuel record stays with the host, and a grant rewrites it there".
+#![tactic(auto)]
+
 pub mod call;
 
 ghost use Rattle.model.specs.Added.{grant};

@@ -16,7 +16,7 @@ use model::call::Answer;
 use model::machine::Fuel;
 
 // The numbers and the fuel that a run leaves.
-#[derive(Drop)]
+#[derive(Clone, Copy)]
 pub struct Ran {
     pub machine: Machine,
     pub fuel: Fuel,
