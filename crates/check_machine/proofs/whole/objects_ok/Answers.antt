@@ -1,0 +1,118 @@
+-- `objects_ok` meets its contract: each test fails the whole, and the last decides it. Assumes nothing.
+use mathlib.Core.Path.{◌≡◌, sym, ap, ◌∙◌}
+use mathlib.Core.Bool.{Bool, true, false, ◌&&◌}
+use mathlib.Core.List.{List, [], ◌∷◌}
+use Prim.Native.Nat.{ℕ, ◌*◌}
+use native.Mathlib.Omega.{arith}
+use borrow.Author.Tests.{not-true, not-false}
+use Rattle.heap.specs.Heap.{slots_of}
+use Rattle.memory_world.specs.Decode.{setup_of}
+use Rattle.memory_sound.specs.Words.{rest_ok}
+use Rattle.check_tables.specs.Queue.{in_set}
+use Rattle.check_tables.proofs.Bools.{Left, upto, from, pass, stop, last}
+use Rattle.check_machine.specs.Table.{ranges_test}
+use Rattle.check_machine.specs.Running.{running_test}
+use Rattle.check_machine.specs.Rows.{rows_test}
+use Rattle.check_machine.specs.Whole.{chained_at, objects_test}
+use Rattle.check_machine.proofs.Slotted.{table_same}
+use Rattle.check_machine.proofs.Ordered.{made-later}
+use Rattle.check_machine.proofs.whole.objects_ok.Goals as goal
+use Rattle.check_machine.proofs.whole.objects_ok.Goals.{After-rows_ok, After-struct_known-1, Else-not-r, Else-not-rest_ok, Else-not-rows_ok}
+
+-- `objects_ok` meets its contract: each test fails the whole, and the last decides it. Assumes nothing.
+abbrev run : Start → Bool
+run z = let a = z.args in running_test a.chain.now a.m.active (slots_of a.m.count a.slots.now)
+
+abbrev ranges : Start → Bool
+ranges z = ranges_test z.args.slots.now z.args.m.count
+
+abbrev rows-by : Start → (ℕ → Bool) → Bool
+rows-by z chained = let a = z.args in rows_test a.sizes (setup_of a.setup.now) a.saved-stack.now a.saved-frames.now chained a.slots.now a.m.count
+
+abbrev rows : Start → Bool
+rows z = rows-by z (chained_at z.args.chain.now z.args.m.active)
+
+abbrev zeros : Start → List Bool
+zeros z = let a = z.args in rest_ok a.saved-stack.now (a.sizes.rows * a.sizes.width) ∷ rest_ok a.saved-frames.now (a.sizes.rows * (a.sizes.depth * 6)) ∷ []
+
+-- in the code's order: the ranges are tested with the rows
+abbrev tests : Start → List Bool
+tests z = rest_ok z.args.slots.now (z.args.m.count * 20) ∷ run z ∷ (ranges z && rows z) ∷ zeros z
+
+-- the first n have passed
+abbrev Passed : ℕ → Start → Type 0
+Passed n z = let a = z.args in Left (from n (tests z)) (objects_test a.sizes (setup_of a.setup.now) a.chain.now a.slots.now a.saved-stack.now a.saved-frames.now a.m)
+
+abbrev start_of : After-struct_known-1 → Start
+start_of c = c.before.before.before.before.before.before
+
+-- words have 64 bits, so the ranges are the rule
+begun : (c : After-struct_known-1) → Passed 0 (start_of c)
+begun c =
+    let z = start_of c in record {
+      is = made-later _ (run z) (ranges z) (rows z) _ _
+          ∙ ap (λ t. upto t (run z ∷ rows z ∷ zeros z)) (table_same z.args.slots.now z.args.m.count z.pre.table (λ i. (c.shared_slice_known-2-1.given i).fits));
+    }
+
+-- the set has the chain's slots
+rows_are : (c : After-rows_ok) (t : Bool) → c.rows_ok.result ≡ t → let z = start_of c.before.before.before.before.before.before.before.before in (ranges z && rows z) ≡ t
+rows_are c t e =
+    let z = start_of c.before.before.before.before.before.before.before.before in
+    let same : in_set c.running-r.result.set ≡ chained_at z.args.chain.now z.args.m.active =
+    λ j x. c.running-r.ensures.set (not-false _ c.if-not-r.false) x j in
+    sym (ap (λ (f : ℕ → Bool). ranges z && rows-by z f) same) ∙ sym c.rows_ok.ensures ∙ e
+
+passed-1 : (c : Else-not-rest_ok) → Passed 1 (start_of c.before.before)
+passed-1 c = pass (begun c.before.before) (sym c.rest_ok.ensures ∙ not-false _ c.if-not-rest_ok.false)
+
+passed-2 : (c : Else-not-r) → Passed 2 (start_of c.before.before.before.before.before)
+passed-2 c = pass (passed-1 c.before.before.before) (sym c.running-r.ensures.good ∙ not-false _ c.if-not-r.false)
+
+passed-3 : (c : Else-not-rows_ok) → Passed 3 (start_of c.before.before.before.before.before.before.before.before.before)
+passed-3 c = pass (passed-2 c.before.before.before.before) (rows_are c.before true (not-false _ c.if-not-rows_ok.false))
+
+pub overflow_mul-m : goal.overflow_mul-m
+overflow_mul-m c = let start = start_of c in omega (arith, start.pre.table, start.good)
+
+pub returns-then-not-rest_ok : goal.returns-then-not-rest_ok
+returns-then-not-rest_ok c = stop (begun c.before.before) (sym c.rest_ok.ensures ∙ not-true _ c.if-not-rest_ok.true)
+
+pub running-r-requires : goal.running-r-requires
+running-r-requires c κs = let p = (start_of c.before.before).requires in record { on_chain = p.on_chain; table = p.table; few = p.few }
+
+pub returns-then-not-r : goal.returns-then-not-r
+returns-then-not-r c = stop (passed-1 c.before.before.before) (sym c.running-r.ensures.good ∙ not-true _ c.if-not-r.true)
+
+pub rows_ok-requires : goal.rows_ok-requires
+rows_ok-requires c κs =
+    let p = (start_of c.before.before.before.before.before.before.before).requires in
+    record {
+      rows =
+          record {
+            saved = record
+                { on-stack = p.on-stack; on-frames = p.on-frames; few = p.rows; deep = p.deep; wide = p.wide; catches = p.catches; numbers = p.numbers };
+            long = c.running-r.ensures.long;
+          };
+      table = p.table;
+      few = p.few;
+    }
+
+pub returns-then-not-rows_ok : goal.returns-then-not-rows_ok
+returns-then-not-rows_ok c = stop (passed-2 c.before.before.before.before) (rows_are c.before false (not-true _ c.if-not-rows_ok.true))
+
+pub overflow_mul-sizes : goal.overflow_mul-sizes
+overflow_mul-sizes c = let start = start_of c.before.before.before.before.before.before.before.before.before.before in omega (arith, start.pre.on-stack, start.good)
+
+pub returns-then-not-rest_ok-2 : goal.returns-then-not-rest_ok-2
+returns-then-not-rest_ok-2 c = stop (passed-3 c.before.before.before) (sym c.rest_ok-2.ensures ∙ not-true _ c.if-not-rest_ok-2.true)
+
+pub overflow_mul-sizes-2 : goal.overflow_mul-sizes-2
+overflow_mul-sizes-2 c = omega (arith, (start_of c.before.before.before.before.before.before.before.before.before.before.before.before.before).requires.deep)
+
+pub overflow_mul-sizes-3 : goal.overflow_mul-sizes-3
+overflow_mul-sizes-3 c = let start = start_of c.before.before.before.before.before.before.before.before.before.before.before.before.before.before in omega (arith, start.pre.on-frames, start.good)
+
+pub returns : goal.returns
+returns c = let at-if4 =
+    c.before.before.before in
+    last (pass (passed-3 at-if4.before.before.before) (sym at-if4.before.rest-ok2.ensures ∙ not-false _ at-if4.if4.false)) c.rest_ok-3.ensures

@@ -1,0 +1,120 @@
+-- `sound_words` meets its contract: each part fails the whole, and the last decides it. Assumes nothing.
+use mathlib.Core.Path.{◌≡◌, sym, ap, ◌∙◌, subst}
+use mathlib.Core.Bool.{Bool, true, false}
+use mathlib.Core.List.{List, [], ◌∷◌}
+use Prim.Native.Nat.{ℕ}
+use lib.ListN.{length}
+use borrow.Author.Tests.{not-true, not-false}
+use Rattle.memory_world.specs.Memory.{Lent}
+use Rattle.memory_world.specs.declared.machine.Sizes.{Sizes}
+use Rattle.memory_world.specs.Words.{sizes_of}
+use Rattle.memory_world.specs.Decode.{setup_of}
+use Rattle.memory_sound.specs.Words.{setup_held, sound_words}
+use Rattle.check_tables.specs.Room.{SizesFit}
+use Rattle.check_tables.proofs.Bools.{Left, from, pass, stop, last}
+use Rattle.check_machine.specs.Whole.{lent_of, numbers_test, tower_test, objects_test, queues_test, ObjectsFit}
+use Rattle.check_machine.proofs.Fitting.{counted, setup-fits, sizes-fit, tower-fits, objects-fit, queues-fit}
+use Rattle.check_machine.proofs.Wholly.{whole_same}
+use Rattle.check_machine.proofs.whole.sound_words.Goals as goal
+use Rattle.check_machine.proofs.whole.sound_words.Goals.{After-numbers_ok, After-objects_ok, Else-not-numbers_ok, Else-not-setup_held, Else-not-tower_ok, Start}
+
+-- `sound_words` meets its contract: each part fails the whole, and the last decides it. Assumes nothing.
+abbrev lent : Start → Lent
+lent c = let a = c.args in lent_of a.stack.now a.frames.now a.chain.now a.slots.now a.saved-stack.now a.saved-frames.now a.ready.now a.finalize.now a.setup.now
+
+abbrev numbers-by : Start → Sizes → Bool
+numbers-by c l =
+    let M = lent c in
+    numbers_test l (length M.stack) (length M.frames) (length M.chain) (length M.slots) (length M.saved_stack) (length M.saved_frames) (length M.ready)
+    (length M.finalize) c.args.m c.args.fuel
+
+abbrev objects-by : Start → Sizes → Bool
+objects-by c l = let M = lent c in objects_test l (setup_of M.setup) M.chain M.slots M.saved_stack M.saved_frames c.args.m
+
+abbrev tests : Start → List Bool
+tests c =
+    let M = lent c in let m = c.args.m in let s = setup_of M.setup in
+    setup_held M.setup ∷ counted M m c.args.fuel ∷ tower_test s M.stack M.frames M.chain m ∷ objects-by c (sizes_of s)
+    ∷ queues_test M.ready M.finalize M.slots m ∷ []
+
+-- the first n have passed
+abbrev Passed : ℕ → Start → Type 0
+Passed n c = Left (from n (tests c)) (sound_words (lent c) c.args.m c.args.fuel)
+
+begun : (c : Start) → Passed 0 c
+begun c = record { is = whole_same (lent c) c.args.m c.args.fuel }
+
+abbrev begin-of : After-sizes-sizes → Start
+begin-of c = c.before.before.before.before.before.before.before.before.before.before.before.before
+
+abbrev start_of : Else-not-numbers_ok → Start
+start_of c = begin-of c.before.before
+
+-- what each part told
+held : (c : Else-not-setup_held) → setup_held c.before.before.before.before.before.before.before.before.before.before.before.args.setup.now ≡ true
+held c = sym c.setup_held.ensures ∙ not-false _ c.if-not-setup_held.false
+
+numbers : (c : After-numbers_ok) (b : Bool) → c.numbers-ok.result ≡ b → let start = begin-of c.before in counted (lent start) start.args.m start.args.fuel ≡ b
+numbers c b e = sym (ap (numbers-by (begin-of c.before)) c.sizes-sizes.ensures.words) ∙ sym c.numbers_ok.ensures ∙ e
+
+ready : (c : Else-not-numbers_ok) → let start = start_of c in counted (lent start) start.args.m start.args.fuel ≡ true
+ready c = numbers c.before true (not-false _ c.if-not-numbers_ok.false)
+
+abbrev sizes-of : After-objects_ok → After-sizes-sizes
+sizes-of c = c.before.before.before.before.before.before.before.before
+
+objects : (c : After-objects_ok) (b : Bool) → c.objects-ok.result ≡ b → let start = begin-of (sizes-of c) in objects-by start (sizes_of (setup_of start.args.setup.now)) ≡ b
+objects c b e = sym (ap (objects-by (begin-of (sizes-of c))) (sizes-of c).sizes.ensures.words) ∙ sym c.objects_ok.ensures ∙ e
+
+passed-1 : (c : Else-not-setup_held) → Passed 1 c.before.before.before.before.before.before.before.before.before.before.before
+passed-1 c = pass (begun c.before.before.before.before.before.before.before.before.before.before.before) (held c)
+
+passed-2 : (c : Else-not-numbers_ok) → Passed 2 (start_of c)
+passed-2 c = pass (passed-1 c.before.before.before) (ready c)
+
+passed-3 : (c : Else-not-tower_ok) → Passed 3 (start_of c.before.before.before.before)
+passed-3 c = pass (passed-2 c.before.before.before.before) (sym c.tower_ok.ensures ∙ not-false _ c.if-not-tower_ok.false)
+
+pub returns-then-not-setup_held : goal.returns-then-not-setup_held
+returns-then-not-setup_held c = stop (begun c.before.before.before.before.before.before.before.before.before.before.before) (sym c.setup_held.ensures ∙ not-true _ c.if-not-setup_held.true)
+
+pub sizes-sizes-requires : goal.sizes-sizes-requires
+sizes-sizes-requires c κs = setup-fits c.args.setup.now (held c)
+
+pub numbers_ok-requires : goal.numbers_ok-requires
+numbers_ok-requires c κs = subst SizesFit (sym c.sizes-sizes.ensures.words) (sizes-fit (begin-of c).args.setup.now (held c.before))
+
+pub returns-then-not-numbers_ok : goal.returns-then-not-numbers_ok
+returns-then-not-numbers_ok c = stop (passed-1 c.before.before.before) (numbers c.before false (not-true _ c.if-not-numbers_ok.true))
+
+pub catches-need-requires : goal.catches-need-requires
+catches-need-requires c κs = held c.before.before.before
+
+pub tower_ok-requires : goal.tower_ok-requires
+tower_ok-requires c κs = let at-if2 =
+    c.before.before in let start = start_of at-if2 in
+    tower-fits (lent start) start.args.m start.args.fuel (held at-if2.before.before.before) (ready at-if2) _ c.catches-need.ensures
+
+pub returns-then-not-tower_ok : goal.returns-then-not-tower_ok
+returns-then-not-tower_ok c = stop (passed-2 c.before.before.before.before) (sym c.tower_ok.ensures ∙ not-true _ c.if-not-tower_ok.true)
+
+pub objects_ok-requires : goal.objects_ok-requires
+objects_ok-requires c κs =
+    let start = start_of c.before.before.before.before.before in let a = start.args in
+    subst
+    (λ (l : Sizes). ObjectsFit a.chain.now a.slots.now a.saved-stack.now a.saved-frames.now c.catches-need.result a.setup.now l a.m)
+    (sym c.sizes-sizes.ensures.words)
+    (objects-fit (lent start) a.m a.fuel (held c.before.before.before.before.before.before.before.before) (ready c.before.before.before.before.before) _ c.catches-need.ensures)
+
+pub returns-then-not-objects_ok : goal.returns-then-not-objects_ok
+returns-then-not-objects_ok c = stop (passed-3 c.before.before.before) (objects c.before false (not-true _ c.if-not-objects_ok.true))
+
+pub queues_ok-requires : goal.queues_ok-requires
+queues_ok-requires c κs = let at-if2 =
+    c.before.before.before.before.before.before.before in let start = start_of at-if2 in
+    queues-fit (lent start) start.args.m start.args.fuel (held at-if2.before.before.before) (ready at-if2)
+
+pub returns : goal.returns
+returns c = let at-if4 =
+    c.before in
+    last (pass (passed-3 at-if4.before.before.before) (objects at-if4.before true (not-false _ at-if4.if4.false))) c.queues_ok.ensures

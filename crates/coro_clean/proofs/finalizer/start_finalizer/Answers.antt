@@ -1,0 +1,49 @@
+-- `start_finalizer` meets the definition: the first word that starts, or none. Assumes nothing.
+use Rattle.model.specs.Fuel.{unbank}
+use Rattle.memory_world.specs.Memory.{Lent, Beside}
+use Rattle.memory_world.specs.Lendings.{cleaning, plain}
+use Rattle.machine_state.proofs.Flags.{unbank-rep}
+use Rattle.coro_clean.proofs.Starting.{unbank-sounds, search-fits, unbank-ok, finalizer-at, finalizer-none}
+use Rattle.coro_clean.proofs.finalizer.start_finalizer.Goals as goal
+
+-- `start_finalizer` meets the definition: the first word that starts, or none. Assumes nothing.
+-- the ways back that several clauses take
+abbrev start_of : After-unbank-f → Start
+start_of c = c.before.before.before.before.before.before.before.before
+
+abbrev mem : Start → Beside → Lent
+mem c b = cleaning c.args.stack.now c.args.frames.now c.args.chain.now c.args.slots.now c.args.saved-stack.now
+    c.args.saved-frames.now c.args.finalize.now plain b
+
+pub first_start-i-requires : goal.first_start-i-requires
+first_start-i-requires c κs =
+    let entry = start_of c.before.before in
+    let o = entry.pre in
+    search-fits entry.args.sizes (mem entry o.beside) entry.args.m entry.args.fuel o.world o.rep o.sound
+
+pub start_at-requires : goal.start_at-requires
+start_at-requires c κs =
+    let entry = start_of c.before.before.before.before.before.before.before.before.before.before.before.before in
+    record {
+      ok = unbank-ok entry.args.sizes (mem entry) entry.args.m entry.args.fuel c.unbank-f.result c.unbank-f.ensures
+          entry.pre;
+      below = c.if-i-m.true;
+    }
+
+pub returns-then-i-m : goal.returns-then-i-m
+returns-then-i-m c =
+    let entry = start_of c.before.before.before.before.before.before.before.before.before.before.before.before.before.before.before.before.before.before.before.before.before.before.before.before.before.before.before in
+    λ w b rep snd.
+    let again = unbank-rep entry.args.sizes (mem entry b) entry.args.m entry.args.fuel w rep c.unbank-f.result c.unbank-f.ensures in
+    finalizer-at entry.args.sizes (mem entry b) entry.args.m c.unbank-f.result w again c.first_start-i.result
+    c.first_start-i.ensures _ _ _ _ c.if-i-m.true
+    (c.start_at.ensures (unbank w) b again (unbank-sounds w snd))
+
+pub returns : goal.returns
+returns c =
+    let entry = start_of c.before.before.before.before.before.before.before.before.before in
+    λ w b rep snd.
+    let again = unbank-rep entry.args.sizes (mem entry b) entry.args.m entry.args.fuel w rep c.unbank-f.result c.unbank-f.ensures in
+    finalizer-none entry.args.sizes (mem entry b) entry.args.m c.unbank-f.result w again c.first_start-i.result
+    c.first_start-i.ensures _ _ _ _ c.if-i-m.false
+    (c.start_none.ensures entry.args.sizes (unbank w) (record { words = mem entry b; fuel = b.fuel }) again)

@@ -1,0 +1,98 @@
+-- `hand_over` meets the definition: no coroutine, one that is not suspended, one handed over before, a new one. Assumes nothing.
+use mathlib.Core.Path.{◌≡◌, sym, ◌∙◌}
+use mathlib.Core.Path.{ap}
+use Prim.Native.Nat.{ℕ, ◌<◌}
+use lib.ListN.{length}
+use native.Mathlib.Omega.{arith}
+use borrow.Author.Tests.{not-true, not-false}
+use Rattle.heap.specs.Heap.{SlotFits, coro_in, slots_of, coro_of}
+use Rattle.heap.proofs.Place.{none-there, stands-words}
+use Rattle.memory_world.specs.Memory.{Lent, Beside, Rep}
+use Rattle.memory_world.specs.declared.machine.Sizes.{Sizes}
+use Rattle.model.specs.World.{World}
+use Rattle.model.specs.declared.machine.Fuel.{Fuel}
+use Rattle.heap.specs.State.{is_suspended}
+use Rattle.memory_world.specs.Memory.{on_slots, on_finalize}
+use Rattle.memory_world.specs.Lendings.{cleanups, plain}
+use Rattle.coro_clean.proofs.Joins.{Hands, hand-refused, hands-at}
+use Rattle.coro_clean.proofs.join.hand_over.Goals as goal
+use Rattle.coro_clean.proofs.join.hand_over.Goals.{After-is_suspended, Else-finalized_at, In-At}
+
+-- `hand_over` meets the definition: no coroutine, one that is not suspended, one handed over before, a new one. Assumes nothing.
+-- the ways back that several clauses take
+abbrev start_of : In-At → Start
+start_of c = c.before.before.before.before.before.before.before
+
+abbrev mem : Start → Beside → Lent
+mem c b = cleanups c.args.slots.now c.args.finalize.now plain b
+
+-- where a coroutine was found
+abbrev slot : In-At → ℕ
+slot c = c.before.i.given.0.0
+
+fits : (c : In-At) → SlotFits (start_of c).args.slots.now (slot c)
+fits c =
+    let s = start_of c in
+    stands-words s.args.m.count s.args.slots.now s.args.v.0 (slot c) (sym c.in-At.is ∙ c.coro_place.ensures) s.pre.ok.rep.slots.within
+
+found : (c : In-At) (l : Sizes) (w : World) (b : Beside) (f : Fuel) →
+    let s = start_of c in
+    Rep l w (mem s b) s.args.m f → Hands l (mem s b) s.args.m f s.args.v.0 w (slot c)
+found c l w b f rep =
+    let s = start_of c in
+    hands-at l (mem s b) s.args.m f s.args.v.0 w rep (slot c) (sym c.in-At.is ∙ c.coro_place.ensures)
+
+-- it is suspended or not, and handed over before or not
+suspended-at : (c : After-is_suspended) → is_suspended (coro_in (start_of c.before.before.before).args.slots.now (slot c.before.before.before)).state ≡ c.is-suspended.result
+suspended-at c = ap is_suspended (sym c.state_at-s.ensures) ∙ sym c.is_suspended.ensures
+
+abbrev place_of : After-finalized_at → In-At
+place_of c = c.before.before.before.before.before.before
+
+-- the cleanup queue has room for it
+room : (c : Else-finalized_at) → let s = start_of (place_of c.before) in s.args.m.finalize < length s.args.finalize.now
+room c =
+    let place = place_of c.before in let p = (start_of place).pre in let o = p.ok in
+    (found place p.sizes o.world o.beside o.beside.fuel o.rep).room o.sound o.room (sym c.finalized_at.ensures ∙ c.if-finalized_at.false)
+
+pub coro_place-requires : goal.coro_place-requires
+coro_place-requires c κs = c.requires.ok.rep.slots.within
+
+pub state_at-s-requires : goal.state_at-s-requires
+state_at-s-requires c κs = fits c.before
+
+pub returns-then-not-is_suspended : goal.returns-then-not-is_suspended
+returns-then-not-is_suspended c = λ l w b rep. (found c.before.before.before.before l w b (start_of c.before.before.before.before).args.fuel rep).not-suspended (suspended-at c.before ∙ not-true _ c.if-not-is_suspended.true)
+
+pub finalized_at-requires : goal.finalized_at-requires
+finalized_at-requires c κs = fits c.before.before.before.before.before
+
+pub returns-then-finalized_at : goal.returns-then-finalized_at
+returns-then-finalized_at c =
+    let place = place_of c.before in
+    λ l w b rep. (found place l w b (start_of place).args.fuel rep).twice (suspended-at c.before.before.before.before ∙ not-false _ c.if-not-is_suspended.false)
+    (sym c.finalized_at.ensures ∙ c.if-finalized_at.true)
+
+pub put_finalized-requires : goal.put_finalized-requires
+put_finalized-requires c κs = fits (place_of c.before.before)
+
+pub push_back-requires : goal.push_back-requires
+push_back-requires c κs = room c.before.before.before.before.before
+
+pub overflow_add-n : goal.overflow_add-n
+overflow_add-n c = omega (arith, room c.before.before.before.before.before.before.before.before.before, (start_of (place_of c.before.before.before.before.before.before.before.before.before.before)).well-formed)
+
+pub returns-in-Not : goal.returns-in-Not
+returns-in-Not c =
+    λ l w b rep.
+    hand-refused l (mem c.before.before.before.before.before.before.before b) c.args.m c.args.fuel c.args.v.0 w rep _
+    (none-there (coro_of (slots_of c.args.m.count c.args.slots.now) c.args.v.0) _ (sym c.in-Not.is ∙ c.coro_place.ensures))
+
+pub returns-else-finalized_at : goal.returns-else-finalized_at
+returns-else-finalized_at c =
+    let place = place_of c.before.before.before.before.before.before.before.before.before.before.before.before.before in
+    λ l w b rep.
+    (found place l w b (start_of place).args.fuel rep).joins (suspended-at c.before.before.before.before.before.before.before.before.before.before.before.before.before.before.before.before ∙ not-false _ c.if-not-is_suspended.false) (sym c.finalized_at.ensures ∙ c.if-finalized_at.false)
+    _ _ c.put_finalized.ensures c.push_back.ensures _ _
+    (λ u r. c.set_finalizing-did.ensures l u
+    (record { words = on_slots c.put_finalized.new.slots (on_finalize c.push_back.new.queue (mem (start_of place) b)); fuel = (start_of place).args.fuel }) r)

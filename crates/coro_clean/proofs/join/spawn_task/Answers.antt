@@ -1,0 +1,95 @@
+-- `spawn_task` meets the definition: no coroutine, a task already, one that cannot be resumed, a new task. Assumes nothing.
+use mathlib.Core.Path.{◌≡◌, sym, ◌∙◌}
+use mathlib.Core.Path.{ap}
+use Prim.Native.Nat.{ℕ, ◌<◌}
+use lib.ListN.{length}
+use native.Mathlib.Omega.{arith}
+use borrow.Author.Tests.{not-true, not-false}
+use Rattle.heap.specs.Heap.{SlotFits, coro_in, slots_of, coro_of}
+use Rattle.heap.proofs.Place.{none-there, stands-words}
+use Rattle.memory_world.specs.Memory.{Lent, Beside, Rep}
+use Rattle.memory_world.specs.declared.machine.Sizes.{Sizes}
+use Rattle.model.specs.World.{World}
+use Rattle.model.specs.State.{is_resumable}
+use Rattle.memory_world.specs.Lendings.{tasks, plain}
+use Rattle.coro_clean.proofs.Joins.{Tasks, task-refused, tasks-at}
+use Rattle.coro_clean.proofs.join.spawn_task.Goals as goal
+use Rattle.coro_clean.proofs.join.spawn_task.Goals.{After-is_resumable, Else-not-is_resumable, In-At}
+
+-- `spawn_task` meets the definition: no coroutine, a task already, one that cannot be resumed, a new task. Assumes nothing.
+-- the ways back that several clauses take
+abbrev start_of : In-At → Start
+start_of c = c.before.before.before.before.before.before.before
+
+abbrev mem : Start → Beside → Lent
+mem c b = tasks c.args.slots.now c.args.ready.now plain b
+
+-- where a coroutine was found
+abbrev slot : In-At → ℕ
+slot c = c.before.i.given.0.0
+
+fits : (c : In-At) → SlotFits (start_of c).args.slots.now (slot c)
+fits c =
+    let s = start_of c in
+    stands-words s.args.m.count s.args.slots.now s.args.v.0 (slot c) (sym c.in-At.is ∙ c.coro_place.ensures) s.pre.ok.rep.slots.within
+
+found : (c : In-At) (l : Sizes) (w : World) (b : Beside) →
+    let s = start_of c in
+    Rep l w (mem s b) s.args.m b.fuel → Tasks l (mem s b) s.args.m b.fuel s.args.v.0 w (slot c)
+found c l w b rep =
+    let s = start_of c in
+    tasks-at l (mem s b) s.args.m b.fuel s.args.v.0 w rep (slot c) (sym c.in-At.is ∙ c.coro_place.ensures)
+
+-- it can be resumed or not
+resumable : (c : After-is_resumable) →
+    let place = c.before.before.before.before.before.before in
+    is_resumable (coro_in (start_of place).args.slots.now (slot place)).state ≡ c.is-resumable.result
+resumable c = ap is_resumable (sym c.state_at-s.ensures) ∙ sym c.is_resumable.ensures
+
+abbrev task-of : Else-not-is_resumable → After-task_at
+task-of c = c.before.before.before.before.before
+
+-- the ready queue has room for it
+room : (c : Else-not-is_resumable) → let s = start_of (task-of c).before.before in s.args.m.ready < length s.args.ready.now
+room c =
+    let asked = task-of c in let p = (start_of asked.before.before).requires in let o = p.ok in
+    (found asked.before.before p.sizes o.world o.beside o.rep).room o.sound o.room (sym asked.task-at.ensures ∙ c.if-task_at.false)
+
+pub coro_place-requires : goal.coro_place-requires
+coro_place-requires c κs = c.requires.ok.rep.slots.within
+
+pub task_at-requires : goal.task_at-requires
+task_at-requires c κs = fits c.before
+
+pub returns-then-task_at : goal.returns-then-task_at
+returns-then-task_at c = λ l w b rep. (found c.before.before.before l w b rep).already (sym c.task_at.ensures ∙ c.if-task_at.true)
+
+pub state_at-s-requires : goal.state_at-s-requires
+state_at-s-requires c κs = fits c.before.before.before.before
+
+pub returns-then-not-is_resumable : goal.returns-then-not-is_resumable
+returns-then-not-is_resumable c =
+    λ l w b rep.
+    (found c.before.before.before.before.before.before.before l w b rep).late (sym c.task_at.ensures ∙ c.if-task_at.false) (resumable c.before ∙ not-true _ c.if-not-is_resumable.true)
+
+pub put_task-requires : goal.put_task-requires
+put_task-requires c κs = fits (task-of c.before).before.before
+
+pub push_back-requires : goal.push_back-requires
+push_back-requires c κs = room c.before.before.before.before.before
+
+pub overflow_add-n : goal.overflow_add-n
+overflow_add-n c = omega (arith, room c.before.before.before.before.before.before.before.before.before, (start_of (task-of c.before.before.before.before.before.before.before.before.before).before.before).well-formed)
+
+pub returns-in-Not : goal.returns-in-Not
+returns-in-Not c =
+    λ l w b rep.
+    task-refused l (mem c.before.before.before.before.before.before b) c.args.m b.fuel c.args.v.0 w rep _
+    (none-there (coro_of (slots_of c.args.m.count c.args.slots.now) c.args.v.0) _ (sym c.in-Not.is ∙ c.coro_place.ensures))
+
+pub returns-else-not-is_resumable : goal.returns-else-not-is_resumable
+returns-else-not-is_resumable c =
+    let at-task-at = task-of c.before.before.before.before.before.before.before.before.before in
+    λ l w b rep.
+    (found at-task-at.before.before l w b rep).joins (sym at-task-at.task-at.ensures ∙ c.if-task_at.false)
+    (resumable c.before.before.before.before.before.before.before.before.before.before ∙ not-false _ c.if-not-is_resumable.false) _ _ c.put_task.ensures c.push_back.ensures

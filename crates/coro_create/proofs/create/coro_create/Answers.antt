@@ -1,0 +1,91 @@
+-- `coro_create` meets the model, outcome by outcome. Assumes nothing.
+use Rattle.std.proofs.Common.{◌≡◌, ℕ, ◌≤◌, length, sym, ap, ◌∙◌, arith, rules}
+use Rattle.heap.specs.Heap.{slots_of, TableFits}
+use Rattle.memory_world.specs.Memory.{Lent, Beside}
+use Rattle.machine_state.specs.Numbers.{heap_of}
+use Rattle.memory_world.specs.Lendings.{making, plain}
+use Rattle.coro_create.specs.Create.{spot_of}
+use Rattle.coro_create.specs.declared.create.Spot.{Spot}
+use Rattle.coro_create.proofs.Setting.{Numbers, in-setup, numbers}
+use Rattle.coro_create.proofs.Creation.{alloc_told, write-fits, not-created, not-charged, was-created}
+use Rattle.coro_create.proofs.create.coro_create.Goals as goal
+use Rattle.coro_create.proofs.create.coro_create.Goals.{After-regs_at-regs, In-Row, Start}
+
+-- `coro_create` meets the model, outcome by outcome. Assumes nothing.
+-- the ways back that several clauses take
+abbrev regs-at-of : In-Row → After-regs_at-regs
+regs-at-of c = c.before.before.before.before.before
+
+abbrev start_of : After-regs_at-regs → Start
+start_of c = c.before.before.before.before.before
+
+abbrev mem : Start → Beside → Lent
+mem c b = making c.args.slots.now c.args.saved-stack.now c.args.saved-frames.now c.args.setup.now plain b
+
+few : (c : Start) → c.args.n ≤ length c.args.args
+few c = let l : length c.args.args ≡ 255 = search rules in let k = c.requires.few in omega arith
+
+room : (c : Start) → TableFits c.args.slots.now c.args.sizes.slots
+room c = let z = c.requires.ok.rep.sizes.slots in let r = c.requires.ok.room.slots in omega arith
+
+-- the row that was found
+abbrev row : In-Row → ℕ
+row c = c.before.row.given.0.0
+
+found : (c : In-Row) →
+    let a = (start_of (regs-at-of c)).args in Spot.Row (row c) ≡ spot_of (slots_of a.m.count a.slots.now) a.m a.sizes (regs-at-of c).regs-at.result
+found c = sym c.in-Row.is ∙ c.find_spot.ensures
+
+told : (c : After-regs_at-regs) → Numbers (start_of c).args.sizes c.regs-at.result
+told c =
+    let start = start_of c in let a = start.args in let o = start.pre.ok in
+    numbers a.sizes (mem start o.beside) a.m o.beside.fuel o.world o.rep a.f o.sound start.pre.function c.regs_at-regs.result c.regs_at-regs.ensures
+
+pub regs_at-regs-requires : goal.regs_at-regs-requires
+regs_at-regs-requires c κs =
+    let a = c.args in let o = c.requires.ok in
+    in-setup a.sizes (mem c.before.before.before.before o.beside) a.m o.beside.fuel o.world o.rep a.f o.sound c.requires.function o.room
+
+pub find_spot-requires : goal.find_spot-requires
+find_spot-requires c κs = let k = told c.before in record { words = (start_of c.before).requires.ok.rep.slots.within; rows = k.rows; bytes = k.first }
+
+pub bytes-charge-requires : goal.bytes-charge-requires
+bytes-charge-requires c κs = (told (regs-at-of c.before.before.before)).second
+
+pub alloc-requires : goal.alloc-requires
+alloc-requires c κs =
+    let at-regs-at = regs-at-of c.before.before.before.before.before.before in let start = start_of at-regs-at in
+    let e : c.heap_of.result.slots ≡ start.args.sizes.slots = ap (λ x. x.slots) c.heap_of.ensures in
+    let k = (told at-regs-at).slots in let r = room start in
+    record { words = omega arith; slots = omega arith }
+
+pub write_row-requires : goal.write_row-requires
+write_row-requires c κs =
+    let at-regs-at = regs-at-of c.before.before.before.before.before.before.before.before.before.before.before.before.before.before in let start = start_of at-regs-at in let a = start.args in let o = start.pre.ok in
+    write-fits a.sizes (mem start o.beside) a.m o.beside.fuel o.world o.rep o.sound a.f a.closure a.n at-regs-at.regs-at.result a.args
+    (few start) start.pre.function at-regs-at.regs-at.ensures (row c.before.before.before.before.before.before.before.before.before.before.before.before.before.before) (found c.before.before.before.before.before.before.before.before.before.before.before.before.before.before) start.pre.few
+
+pub returns-in-Lacks : goal.returns-in-Lacks
+returns-in-Lacks c =
+    let start = start_of c.before.before.before.before.before in let a = start.args in
+    λ w b rep snd.
+    not-created a.sizes (mem start b) a.m b.fuel w rep snd a.f a.closure a.n c.regs_at-regs.result a.args
+    (few start) start.pre.function c.regs_at-regs.ensures _ (sym c.in-Lacks.is ∙ c.find_spot.ensures)
+
+pub returns-in-Refused : goal.returns-in-Refused
+returns-in-Refused c =
+    let at-regs-at = regs-at-of c.before.before.before.before.before.before.before.before.before.before.before.before in let start = start_of at-regs-at in let a = start.args in
+    λ w b rep snd.
+    not-charged a.sizes (mem start b) a.m b.fuel w rep snd a.f a.closure a.n at-regs-at.regs-at.result a.args
+    (few start) start.pre.function at-regs-at.regs-at.ensures (row c.before.before.before.before.before.before.before.before.before.before.before.before) (found c.before.before.before.before.before.before.before.before.before.before.before.before) _ c.sequenced-q.result _ c.sequenced-q.ensures
+    (alloc_told a.slots.now _ _ _ _ _ _ _ _ _ c.alloc.ensures c.in-Refused.is
+    (c.heap_of.ensures ∙ ap (λ q. heap_of q a.sizes) c.sequenced-q.ensures) c.bytes-charge.ensures c.new_object.ensures)
+
+pub returns-in-Done : goal.returns-in-Done
+returns-in-Done c =
+    let at-regs-at = regs-at-of c.before.before.before.before.before.before.before.before.before.before.before.before.before.before.before.before.before.before.before.before in let start = start_of at-regs-at in let a = start.args in
+    λ w b rep snd.
+    was-created a.sizes (mem start b) a.m b.fuel w rep snd a.f a.closure a.n at-regs-at.regs-at.result a.args
+    (few start) start.pre.function at-regs-at.regs-at.ensures (row c.before.before.before.before.before.before.before.before.before.before.before.before.before.before.before.before.before.before.before.before) (found c.before.before.before.before.before.before.before.before.before.before.before.before.before.before.before.before.before.before.before.before) _ (room start) c.sequenced-q.result c.allocated.result _ _ _ _
+    c.sequenced-q.ensures c.allocated.ensures (alloc_told a.slots.now _ _ _ _ _ _ _ _ _ c.alloc.ensures c.in-Done.is
+    (c.heap_of.ensures ∙ ap (λ q. heap_of q a.sizes) c.sequenced-q.ensures) c.bytes-charge.ensures c.new_object.ensures) c.write_row.ensures

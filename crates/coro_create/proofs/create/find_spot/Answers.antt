@@ -1,0 +1,38 @@
+-- `find_spot` meets its contract, by its tests in order. Assumes nothing.
+use Rattle.std.proofs.Common.{◌≡◌, sym, ◌∙◌, ap₂}
+use Rattle.heap.specs.Heap.{slots_of, lacks_of}
+use Rattle.machine_state.specs.Numbers.{heap_of}
+use Rattle.coro_create.specs.Create.{bytes_of}
+use Rattle.coro_create.proofs.Parts.{spot-lacks, spot-full, spot-row}
+use Rattle.coro_create.proofs.create.find_spot.Goals as goal
+use Rattle.coro_create.proofs.create.find_spot.Goals.{After-number}
+
+-- `find_spot` meets its contract, by its tests in order. Assumes nothing.
+-- the ways back that several clauses take
+abbrev start_of : After-lacks-fault → Start
+start_of c = c.before.before.before.before.before
+
+-- what is lacking for the first test
+fault : (c : After-number) →
+    let at-lacks = c.before in let start = start_of at-lacks in
+    at-lacks.lacks.result ≡ lacks_of (heap_of start.args.m start.args.sizes) (bytes_of start.args.regs start.args.sizes.costs.coro start.args.sizes.costs.frame)
+fault c =
+    c.lacks-fault.ensures ∙ ap₂ lacks_of c.heap_of-h.ensures c.bytes.ensures
+
+pub returns-then-number-ne0 : goal.returns-then-number-ne0
+returns-then-number-ne0 c =
+    let start = start_of c.before.before in
+    spot-lacks (slots_of start.args.m.count start.args.slots.now) start.args.m start.args.sizes start.args.regs c.lacks-fault.result
+    (fault c.before) (λ z. c.if-number-ne0.true (c.number.ensures ∙ z))
+
+pub returns-then-sizes-row : goal.returns-then-sizes-row
+returns-then-sizes-row c =
+    let start = start_of c.before.before.before.before.before in
+    spot-full (slots_of start.args.m.count start.args.slots.now) start.args.m start.args.sizes start.args.regs c.lacks-fault.result
+    (fault c.before.before.before.before) (sym c.number.ensures ∙ c.if-number-ne0.false) c.lowest_free_row-row.result c.lowest_free_row-row.ensures c.if-sizes-row.true
+
+pub returns : goal.returns
+returns c =
+    let start = start_of c.before.before.before.before.before in
+    spot-row (slots_of start.args.m.count start.args.slots.now) start.args.m start.args.sizes start.args.regs c.lacks-fault.result
+    (fault c.before.before.before.before) (sym c.number.ensures ∙ c.if-number-ne0.false) c.lowest_free_row-row.result c.lowest_free_row-row.ensures c.if-sizes-row.false

@@ -1,0 +1,63 @@
+-- `fail_all` meets its contract: those that are left fail in the present world as all do in that of the start. The measure is the number
+-- of active coroutines. Assumes nothing.
+use mathlib.Core.Path.{refl}
+use native.Mathlib.Omega.{arith}
+use Rattle.memory_world.specs.Memory.{Lent, Beside}
+use Rattle.memory_world.specs.Lendings.{plain}
+use Rattle.memory_world.proofs.Does.{SameLengths}
+use Rattle.coro_end.specs.Last.{ending}
+use Rattle.coro_end.proofs.Failing.{along-start, along-none, along-fewer, along-more}
+use Rattle.coro_end.proofs.abort.fail_all.Goals as goal
+use Rattle.coro_end.proofs.abort.fail_all.Goals.{At-loop-n}
+
+-- the ways back that several clauses take, and the words there
+abbrev start_of : At-loop-n → Start
+start_of c = c.before.before.before.before.before
+
+abbrev loop-of : After-end_last-n → At-loop-n
+loop-of c = c.before.before.before.before.before.before.before
+
+abbrev end_of : After-slice_known-in-loop-n-4-1 → After-end_last-n
+end_of c = c.before.before.before.before.before.before.before.before
+
+abbrev at-end : After-end_last-n → Beside → Lent
+at-end c = let e = c.end-last.new in ending e.0 e.1.0 e.1.1.0 e.1.1.1.0 plain
+
+so_far : (c : At-loop-n) →
+    let a = (start_of c).args in let n = c.loop in let b = n.invariant.some.beside in
+    SameLengths (ending a.chain.now a.slots.now a.saved-stack.now a.saved-frames.now plain b) (ending n.chain n.slots n.saved-stack n.saved-frames plain b)
+so_far c = c.loop-n.invariant.kept c.loop-n.invariant.some.beside
+
+pub loop-n-init : goal.loop-n-init
+loop-n-init c =
+    let a = c.args in
+    along-start a.sizes (ending a.chain.now a.slots.now a.saved_stack.now a.saved_frames.now plain) a.m c.requires
+
+pub end_last-n-requires : goal.end_last-n-requires
+end_last-n-requires c κs = record { held = c.loop-n.invariant.some; ends = refl }
+
+pub loop-n-smaller : goal.loop-n-smaller
+loop-n-smaller c =
+    let did = end_of c in
+    along-fewer (loop-of did).loop.inv (omega (arith, did.before.before.before.before.before.if1.taken)) (at-end did) did.end-last.result did.end-last.ensures
+
+pub loop-n-preserved : goal.loop-n-preserved
+loop-n-preserved c =
+    let did = end_of c in let k = did.end-last.kept in
+    along-more (loop-of did).loop.inv (omega (arith, did.before.before.before.before.before.if1.taken)) (at-end did) did.end-last.result did.end-last.ensures
+    (λ b. record { stack = refl; frames = refl; chain = k.0; slots = k.1.0; saved_stack = k.1.1.0; saved_frames = k.1.1.1.0; ready = refl; finalize = refl; setup = refl })
+
+pub shape_of-chain : goal.shape_of-chain
+shape_of-chain c = (so_far c.before.before).chain
+
+pub shape_of-slots : goal.shape_of-slots
+shape_of-slots c = (so_far c.before.before).slots
+
+pub shape_of-saved_stack : goal.shape_of-saved_stack
+shape_of-saved_stack c = (so_far c.before.before).saved_stack
+
+pub shape_of-saved_frames : goal.shape_of-saved_frames
+shape_of-saved_frames c = (so_far c.before.before).saved_frames
+
+pub returns : goal.returns
+returns c = along-none c.loop-n.invariant (omega (arith, c.loop-n-test.false))

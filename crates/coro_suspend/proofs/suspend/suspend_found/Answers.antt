@@ -1,0 +1,79 @@
+-- `suspend_found` meets the model, outcome by outcome. Assumes nothing.
+use mathlib.Core.Path.{sym, ap, ◌∙◌}
+use Rattle.heap.specs.Charge.{charge_of}
+use Rattle.memory_world.specs.Memory.{Lent, Beside}
+use Rattle.memory_world.specs.Lendings.{lent}
+use Rattle.coro_suspend.proofs.Parts.{heap_of}
+use Rattle.coro_suspend.proofs.Suspended.{found_before, found-leaves, spent, accepted}
+use Rattle.coro_suspend.proofs.suspend.suspend_found.Goals as goal
+
+-- `suspend_found` meets the model, outcome by outcome. Assumes nothing.
+-- the ways back that several clauses take
+abbrev move-out-of : After-event_of-event → After-move_out
+move-out-of c = c.before.before.before.before.before.before.before.before.before.before.before.before.before.before.before.before.before.before
+
+abbrev read_of : After-move_out-arg-in-Done-3-1 → After-base_at-base
+read_of c = c.before.before.before.before.before.before.before.before.before.before.before
+
+abbrev start_of : After-base_at-base → Start
+start_of c = c.before.before.before.before.before.before.before.before
+
+abbrev mem : Start → Beside → Lent
+mem c b = lent c.args.stack.now c.args.frames.now c.args.chain.now c.args.slots.now c.args.saved-stack.now c.args.saved-frames.now b
+
+pub overflow_sub-regs : goal.overflow_sub-regs
+overflow_sub-regs c = (found_before (start_of c.before).requires c.base_at-base.ensures).under
+
+pub growth-grow-requires : goal.growth-grow-requires
+growth-grow-requires c κs = let k = found_before (start_of c.before.before).requires c.base_at-base.ensures in (k.regs, k.frames, k.cost)
+
+pub move_out-requires : goal.move_out-requires
+move_out-requires c κs = let read = read_of c in found-leaves (start_of read).pre read.base-at.ensures
+
+pub pop_active-requires : goal.pop_active-requires
+pop_active-requires c κs =
+    let read = read_of c.before.before.before.before.before.before.before.before.before.before in let p = (start_of read).pre in
+    (p.some, (found_before p read.base-at.ensures).chain)
+
+pub put_suspended-requires : goal.put_suspended-requires
+put_suspended-requires c κs =
+    let read = read_of c.before.before.before.before.before.before.before.before.before.before.before.before.before.before.before in
+    (found_before (start_of read).pre read.base-at.ensures).slot
+
+pub shrunk-requires : goal.shrunk-requires
+shrunk-requires c κs = (start_of (read_of (move-out-of c).before)).requires.some
+
+pub returns-in-OutOfMemory : goal.returns-in-OutOfMemory
+returns-in-OutOfMemory c =
+    let start = start_of c.before.before.before.before.before.before in
+    λ w b rep snd. spent start.args.sizes (mem start b) start.args.m b.fuel start.args.state start.args.dst start.args.payload
+    start.args.keys w rep start.args.a start.pre.some start.pre.top start.pre.floor start.args.i start.args.c start.pre.coro
+    c.base_at-base.result c.base_at-base.ensures (sym c.in-OutOfMemory.is ∙ c.charge.ensures ∙ ap (charge_of (heap_of start.args.m start.args.sizes)) c.growth-grow.ensures)
+
+pub shape_of-stack : goal.shape_of-stack
+shape_of-stack c = (move-out-of c.before).move-out.auto.0
+
+pub shape_of-frames-in-Done : goal.shape_of-frames-in-Done
+shape_of-frames-in-Done c = (move-out-of c.before).move-out.auto.1.0
+
+pub shape_of-chain : goal.shape_of-chain
+shape_of-chain c = c.pop_active.auto.0
+
+pub shape_of-slots : goal.shape_of-slots
+shape_of-slots c = c.put_suspended.auto.0
+
+pub shape_of-saved_stack : goal.shape_of-saved_stack
+shape_of-saved_stack c = (move-out-of c.before).move-out.auto.1.1.0
+
+pub shape_of-saved_frames : goal.shape_of-saved_frames
+shape_of-saved_frames c = (move-out-of c.before).move-out.auto.1.1.1.0
+
+pub returns-in-Done : goal.returns-in-Done
+returns-in-Done c =
+    let start = start_of c.before.before.before.before.before.before.before.before.before.before.before.before.before.before.before.before.before.before.before.before.before.before.before.before.before.before.before.before.before.before.before in
+    λ w b rep snd. accepted start.args.sizes (mem start b) start.args.m b.fuel start.args.state start.args.dst start.args.payload
+    start.args.keys w rep start.args.a start.pre.some start.pre.top start.pre.floor start.args.i start.args.c start.pre.coro
+    c.base_at-base.result c.base_at-base.ensures snd _ _ _ _ _ _ c.in-Done.g c.suspended-d.result c.shrunk.result c.event_of-event.result start.pre.state
+    (sym c.in-Done.is ∙ c.charge.ensures ∙ ap (charge_of (heap_of start.args.m start.args.sizes)) c.growth-grow.ensures)
+    c.move_out.ensures c.pop_active.ensures c.suspended-d.ensures c.put_suspended.ensures
+    c.event_of-event.ensures c.shrunk.ensures

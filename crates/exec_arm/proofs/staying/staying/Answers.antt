@@ -1,0 +1,57 @@
+-- `staying` meets the definition, by the instruction after which the same coroutine runs. Assumes nothing.
+use mathlib.Core.Path.{ap}
+use native.Mathlib.Omega.{arith}
+use Rattle.model.specs.Calls.{table}
+use Rattle.exec_arm.proofs.Tags.{no-group}
+use Rattle.exec_arm.proofs.Fitting.{around, as-arm, new-fits, indirect-fits, spawn-fits, current-fits, ask-fits}
+use Rattle.exec_arm.proofs.staying.staying.Goals as goal
+
+-- `staying` meets the definition, by the instruction after which the same coroutine runs. Assumes nothing.
+-- from a match to the start
+abbrev start_of : After-shared_slice_known-1 → Start
+start_of c = c.before.before.before.before.before.before.before
+
+pub coro_new-did-requires : goal.coro_new-did-requires
+coro_new-did-requires c κs = let at_told = c.before.before.before.before.before in let at_op = at_told.before in new-fits (start_of at_op.before.before).requires at_op.op.given.1 (let k = at_told.known-told.given in omega arith)
+
+pub coro_new_indirect-did-requires : goal.coro_new_indirect-did-requires
+coro_new_indirect-did-requires c κs = let at_told = c.before.before.before.before.before in let at_op = at_told.before in indirect-fits (start_of at_op.before.before).requires at_op.op2.given.1 (let k = at_told.known-told2.given in omega arith)
+
+pub spawn-requires : goal.spawn-requires
+spawn-requires c κs = let at_told = c.before.before.before.before.before in let at_op = at_told.before in spawn-fits (start_of at_op.before.before).requires at_op.op3.given.1 (let k = at_told.known-told3.given in omega arith)
+
+pub coro_status-step-requires : goal.coro_status-step-requires
+coro_status-step-requires c κs = let at_op = c.before.before.before.before in ask-fits (start_of at_op.before.before).requires (ap table at_op.op4.given.1)
+
+pub coro_current-step-requires : goal.coro_current-step-requires
+coro_current-step-requires c κs = let at_op = c.before.before.before.before in current-fits (start_of at_op.before.before).requires at_op.op5.given.1
+
+pub coro_key-step-requires : goal.coro_key-step-requires
+coro_key-step-requires c κs = let at_op = c.before.before.before.before in ask-fits (start_of at_op.before.before).requires (ap table at_op.op6.given.1)
+
+pub coro_result-step-requires : goal.coro_result-step-requires
+coro_result-step-requires c κs = let at_op = c.before.before.before.before in ask-fits (start_of at_op.before.before).requires (ap table at_op.op7.given.1)
+
+pub returns-in-CoroNew : goal.returns-in-CoroNew
+returns-in-CoroNew c = λ s e pc t arm q w b rep snd. as-arm q c.in-CoroNew.is (c.coro_new-did.ensures w (around rep) rep snd)
+
+pub returns-in-CoroNewIndirect : goal.returns-in-CoroNewIndirect
+returns-in-CoroNewIndirect c = λ s e pc t arm q w b rep snd. as-arm q c.in-CoroNewIndirect.is (c.coro_new_indirect-did.ensures w (around rep) rep snd)
+
+pub returns-in-Spawn : goal.returns-in-Spawn
+returns-in-Spawn c = λ s e pc t arm q w b rep snd. as-arm q c.in-Spawn.is (c.spawn.ensures w (around rep) rep snd)
+
+pub returns-in-CoroStatus : goal.returns-in-CoroStatus
+returns-in-CoroStatus c = λ s e pc t arm q w b rep snd. as-arm q c.in-CoroStatus.is (c.coro_status-step.ensures _ w (around rep) rep)
+
+pub returns-in-CoroCurrent : goal.returns-in-CoroCurrent
+returns-in-CoroCurrent c = λ s e pc t arm q w b rep snd. as-arm q c.in-CoroCurrent.is (c.coro_current-step.ensures _ w (around rep) rep)
+
+pub returns-in-CoroKey : goal.returns-in-CoroKey
+returns-in-CoroKey c = λ s e pc t arm q w b rep snd. as-arm q c.in-CoroKey.is (c.coro_key-step.ensures _ w (around rep) rep)
+
+pub returns-in-CoroResult : goal.returns-in-CoroResult
+returns-in-CoroResult c = λ s e pc t arm q w b rep snd. as-arm q c.in-CoroResult.is (c.coro_result-step.ensures _ w (around rep) rep)
+
+pub returns-in_default : goal.returns-in_default
+returns-in_default c = λ s e. no-group c.args.op _ s e c.in_default.keys8

@@ -1,0 +1,34 @@
+-- `coro_close` meets the definition: the words of two registers, and what the first names. Assumes nothing.
+use mathlib.Core.Path.{sym, ◌∙◌}
+use Rattle.memory_world.specs.Memory.{Lent, Beside}
+use Rattle.memory_world.specs.Lendings.{lent}
+use Rattle.exec_close.proofs.Closed.{close-refused, closes}
+use Rattle.exec_close.proofs.close.coro_close.Goals as goal
+
+-- `coro_close` meets the definition: the words of two registers, and what the first names. Assumes nothing.
+-- the ways back that several clauses take
+abbrev start_of : After-reg-v → Start
+start_of c = c.before.before.before.before.before.before.before.before.before
+
+abbrev mem : Start → Beside → Lent
+mem c b = lent c.args.stack.now c.args.frames.now c.args.chain.now c.args.slots.now c.args.saved-stack.now c.args.saved-frames.now b
+
+pub close_to-requires : goal.close_to-requires
+close_to-requires c κs =
+    let p = (start_of c.before.before.before.before.before.before.before.before.before.before.before.before.before.before).requires in
+    record { entry = record { ok = p.ok; narrow = p.narrow; some = p.result.some }; result = p.result }
+
+pub returns-in-Refused : goal.returns-in-Refused
+returns-in-Refused c =
+    let start = start_of c.before.before.before.before.before.before.before.before in
+    λ w b rep snd. close-refused start.args.sizes (mem start b) start.args.m b.fuel w start.args.pc start.args.dst c.reg-v.result
+    c.reg-signal.result start.args.c start.args.src
+    (c.reg-v.ensures w.stack w.frames rep.stack rep.frames).is (c.reg-signal.ensures w.stack w.frames rep.stack rep.frames).is _
+    (sym c.in-Refused.is ∙ c.coro_state.ensures start.args.sizes w (record { words = mem start b; fuel = b.fuel }) rep) rep
+
+pub returns-in-In : goal.returns-in-In
+returns-in-In c =
+    let start = start_of c.before.before.before.before.before.before.before.before.before.before.before.before.before.before.before.before.before.before.before.before.before.before.before.before.before.before.before in
+    λ w b rep snd. closes start.args.sizes _ _ b.fuel w start.args.pc start.args.dst c.reg-v.result c.reg-signal.result start.args.c start.args.src
+    (c.reg-v.ensures w.stack w.frames rep.stack rep.frames).is (c.reg-signal.ensures w.stack w.frames rep.stack rep.frames).is c.in-In.s _
+    (sym c.in-In.is ∙ c.coro_state.ensures start.args.sizes w (record { words = mem start b; fuel = b.fuel }) rep) (c.close_to.ensures w b rep snd)

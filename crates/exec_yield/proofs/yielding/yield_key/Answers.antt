@@ -1,0 +1,23 @@
+-- `yield_key` meets the model, arm by arm. Assumes nothing.
+use mathlib.Core.Path.{refl}
+use Rattle.memory_world.specs.Memory.{Lent, Beside}
+use Rattle.memory_world.specs.Lendings.{lent}
+use Rattle.exec_yield.proofs.Yields.{keyed-yield, unkeyed-yield}
+use Rattle.exec_yield.proofs.yielding.yield_key.Goals as goal
+
+-- `yield_key` meets the model, arm by arm. Assumes nothing.
+abbrev mem : Start → Beside → Lent
+mem c b = lent c.args.stack.now c.args.frames.now c.args.chain.now c.args.slots.now c.args.saved-stack.now c.args.saved-frames.now b
+
+pub suspend-requires : goal.suspend-requires
+suspend-requires c κs = record { run = c.requires; state = refl }
+
+pub returns-in-Key : goal.returns-in-Key
+returns-in-Key c =
+    λ w b rep snd. keyed-yield c.args.sizes _ _ _ w c.args.pc c.args.dst c.args.payload c.args.a _ c.in-Key.key
+    c.in-Key.largest c.in-Key.is (c.suspend.ensures w b rep snd)
+
+pub returns-in-Refused : goal.returns-in-Refused
+returns-in-Refused c =
+    λ w b rep snd. unkeyed-yield c.args.sizes (mem c.before.before.before.before.before.before.before.before.before b) c.args.m c.args.fuel w c.args.pc c.args.dst
+    c.args.payload c.args.a c.in-Refused.f c.in-Refused.is rep

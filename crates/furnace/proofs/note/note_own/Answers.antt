@@ -1,0 +1,18 @@
+-- `note_own` meets its contract, arm by arm. Assumes nothing.
+use Rattle.std.proofs.Common.{sym, ap, ◌∙◌}
+use Rattle.furnace.proofs.Watching.{no-waits}
+use Rattle.furnace.specs.Watch.{noted}
+use Rattle.furnace.proofs.note.note_own.Goals as goal
+
+pub note_at-requires : goal.note_at-requires
+note_at-requires c κs = c.requires
+
+pub returns-in_default : goal.returns-in_default
+returns-in_default c =
+    let a = c.args in
+    no-waits a.stack.now a.frames.now a.chain.now a.m a.notes.now a.p c.in_default.keys2
+
+pub returns : goal.returns
+returns c =
+    let a = c.args in
+    c.note_at.ensures ∙ ap (λ x. noted a.stack.now a.frames.now a.chain.now a.m x a.notes.now) (sym c.in-Waits.is)

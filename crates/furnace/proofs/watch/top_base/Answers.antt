@@ -1,0 +1,7 @@
+-- `top_base` meets its contract. Assumes nothing.
+use Rattle.std.proofs.Common.{ap, ◌∙◌}
+use Rattle.memory_tables.specs.Layout.{base_in}
+use Rattle.furnace.proofs.watch.top_base.Goals as goal
+
+pub returns : goal.returns
+returns c = c.base.ensures ∙ ap (base_in c.args.frames.now) c.last.ensures

@@ -1,0 +1,106 @@
+-- `bvm_batch` meets its contract: no room, refused, or all calls done. Assumes nothing.
+use mathlib.Core.Path.{◌≡◌, refl, sym, ap, ◌∙◌}
+use mathlib.Core.Bool.{true, false}
+use Prim.Native.Nat.{◌*◌, ◌/◌, ◌≤◌}
+use native.Mathlib.Omega.{arith}
+use lib.ListN.{length}
+use Rattle.lists.specs.Pick.{pick_true, pick-false}
+use Rattle.memory_world.specs.Memory.{Lent}
+use Rattle.memory_world.specs.Lendings.{plain}
+use Rattle.outer_call.specs.State.{nine}
+use Rattle.outer_run.proofs.Written.{enough}
+use Rattle.linked_calls.specs.Host.{Host, host, passes_test, short}
+use Rattle.linked_calls.proofs.Others.{run_short, run-refused}
+use Rattle.linked_batch.proofs.Going.{no-pass, passed, batch-done}
+use Rattle.linked_batch.proofs.list.bvm_batch.Goals as goal
+use Rattle.linked_batch.proofs.list.bvm_batch.Goals.{Else-answers-n, Else-ok-eq0-2}
+
+-- `bvm_batch` meets its contract: no room, refused, or all calls done. Assumes nothing.
+abbrev mem : Start → Lent
+mem c =
+    let a = c.args in
+    nine a.stack.now a.frames.now a.chain.now a.slots.now a.saved-stack.now a.saved-frames.now a.ready.now a.finalize.now a.setup.now plain
+
+abbrev of : Start → Host
+of c = host (mem c) c.args.machine.now c.args.fuel.now
+
+abbrev start_of : After-count-n → Start
+start_of c = c.before.before.before.before.before.before.before.before.before.before.before.before.before.before
+
+abbrev count_of : After-bvm_sound-ok → After-count-n
+count_of c = c.before.before.before.before.before.before.before.before.before.before.before
+
+room : (c : Else-answers-n) → let at_count = count_of c.before in at_count.count.result * 8 ≤ length (start_of at_count).args.answers.now
+room c =
+    let at_count = count_of c.before in let n = at_count.count.result in let xs = (start_of at_count).args.answers.now in
+    enough (length xs) n (let h = c.if-answers-n.false in let z : n ≤ length xs / 8 = omega arith in z)
+
+-- it passed
+sure : (c : Else-ok-eq0-2) → passes_test (of (start_of (count_of c.before.before))) ≡ true
+sure c = let at-bvm-sound = c.before.before in passed _ at-bvm-sound.bvm-sound.result at-bvm-sound.bvm-sound.ensures c.if-ok-eq0-2.false
+
+abbrev list_of : After-slice_known-22-1 → After-do_list
+list_of c = c.before.before.before.before.before.before.before.before.before.before.before.before.before.before.before.before.before.before.before.before.before.before
+
+pub returns-then-ok-eq0 : goal.returns-then-ok-eq0
+returns-then-ok-eq0 c =
+    let at_count = count_of c.before.before in let start = start_of at_count in let a = start.args in
+    run_short (of start) a.calls.now a.answers.now at_count.count.result at_count.count.ensures c.if-answers-n.true (passes_test (of start)) refl 11
+    (sym (ap short (no-pass _ c.bvm_sound-ok.result c.bvm_sound-ok.ensures c.if-ok-eq0.true) ∙ pick-false 14 11))
+
+pub returns-then-answers-n : goal.returns-then-answers-n
+returns-then-answers-n c =
+    let at_count = count_of c.before.before in let start = start_of at_count in let a = start.args in
+    run_short (of start) a.calls.now a.answers.now at_count.count.result at_count.count.ensures c.if-answers-n.true (passes_test (of start)) refl 14
+    (sym (ap short (passed _ c.bvm_sound-ok.result c.bvm_sound-ok.ensures c.if-ok-eq0.false) ∙ pick_true 14 11))
+
+pub refuse_list-requires : goal.refuse_list-requires
+refuse_list-requires c κs = room c.before.before
+
+pub returns-then-ok-eq0-2 : goal.returns-then-ok-eq0-2
+returns-then-ok-eq0-2 c =
+    let at_count = count_of c.before.before.before.before.before.before in let start = start_of at_count in let a = start.args in
+    run-refused (of start) a.calls.now a.answers.now at_count.count.result at_count.count.ensures (room c.before.before.before.before.before) (passes_test (of start)) refl
+    (no-pass (passes_test (of start)) c.bvm_sound-ok.result c.bvm_sound-ok.ensures c.if-ok-eq0-2.true) _ c.refuse_list.ensures
+
+pub do_list-requires : goal.do_list-requires
+do_list-requires c κs = record { sound = sure c.before.before.before.before.before.before.before.before.before.before.before; calls = (count_of c.before.before.before.before.before.before.before.before.before.before.before.before.before).count.ensures; room = room c.before.before.before.before.before.before.before.before.before.before.before.before }
+
+pub shape_of-stack : goal.shape_of-stack
+shape_of-stack c = (list_of c).do-list.auto.0
+
+pub shape_of-frames : goal.shape_of-frames
+shape_of-frames c = (list_of c).do-list.auto.1.0
+
+pub shape_of-chain : goal.shape_of-chain
+shape_of-chain c = (list_of c).do-list.auto.1.1.0
+
+pub shape_of-slots : goal.shape_of-slots
+shape_of-slots c = (list_of c).do-list.auto.1.1.1.0
+
+pub shape_of-saved_stack : goal.shape_of-saved_stack
+shape_of-saved_stack c = (list_of c).do-list.auto.1.1.1.1.0
+
+pub shape_of-saved_frames : goal.shape_of-saved_frames
+shape_of-saved_frames c = (list_of c).do-list.auto.1.1.1.1.1.0
+
+pub shape_of-ready : goal.shape_of-ready
+shape_of-ready c = (list_of c).do-list.auto.1.1.1.1.1.1.0
+
+pub shape_of-finalize : goal.shape_of-finalize
+shape_of-finalize c = (list_of c).do-list.auto.1.1.1.1.1.1.1.0
+
+pub shape_of-machine : goal.shape_of-machine
+shape_of-machine c = (list_of c).do-list.auto.1.1.1.1.1.1.1.1.1.0
+
+pub shape_of-fuel : goal.shape_of-fuel
+shape_of-fuel c = (list_of c).do-list.auto.1.1.1.1.1.1.1.1.1.1.0
+
+pub shape_of-answers : goal.shape_of-answers
+shape_of-answers c = (list_of c).do-list.auto.1.1.1.1.1.1.1.1.1.1.1.1.0
+
+pub returns : goal.returns
+returns c =
+    let at-do-list = list_of c in let at-if3 = at-do-list.before.before.before.before.before.before.before.before.before.before.before.before in
+    let at-if1 = at-if3.before in let at_count = count_of at-if1.before in let start = start_of at_count in let a = start.args in
+    batch-done (of start) a.calls.now a.answers.now at_count.count.result (sure at-if3) at_count.count.ensures (room at-if1) _ _ at-do-list.do-list.ensures

@@ -1,0 +1,29 @@
+-- `bvm_grant` meets its contract: by the test and by room for the answer. Assumes nothing.
+use Rattle.memory_world.specs.Memory.{Lent}
+use Rattle.memory_world.specs.Lendings.{plain}
+use Rattle.outer_call.specs.State.{nine}
+use Rattle.linked_calls.specs.Host.{Host, host}
+use Rattle.linked_calls.proofs.Others.{grant-short}
+use Rattle.linked_calls.proofs.grant.bvm_grant.Goals as goal
+
+-- `bvm_grant` meets its contract: by the test and by room for the answer. Assumes nothing.
+abbrev mem : Start → Lent
+mem c = nine c.args.stack.now c.args.frames.now c.args.chain.now c.args.slots.now c.args.saved-stack.now c.args.saved-frames.now c.args.ready.now c.args.finalize.now c.args.setup.now plain
+
+abbrev of : Start → Host
+of c = host (mem c) c.args.machine.now c.args.fuel.now
+
+pub returns-then-answer-lt-ANSWER_WIDTH : goal.returns-then-answer-lt-ANSWER_WIDTH
+returns-then-answer-lt-ANSWER_WIDTH c = grant-short (of c.before.before.before.before.before.before.before.before.before.before.before.before.before.before.before.before) c.args.amount c.args.answer.now c.if-answer-lt-ANSWER_WIDTH.true c.tested-ok.result c.tested-ok.ensures c.short.result c.short.ensures
+
+pub do_grant-requires : goal.do_grant-requires
+do_grant-requires c κs = let at-if = c.before.before in record { known = at-if.before.tested.ensures; room = at-if.if1.false }
+
+pub shape_of-fuel : goal.shape_of-fuel
+shape_of-fuel c = c.do_grant.auto.1.1.1.1.1.1.1.1.1.1.1.0
+
+pub shape_of-answer : goal.shape_of-answer
+shape_of-answer c = c.do_grant.auto.1.1.1.1.1.1.1.1.1.1.1.1.0
+
+pub returns : goal.returns
+returns c = c.do_grant.ensures

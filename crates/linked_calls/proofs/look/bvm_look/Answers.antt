@@ -1,0 +1,51 @@
+-- `bvm_look` meets its contract: by the test and by room for the two places. Assumes nothing.
+use mathlib.Core.Path.{sym, ◌∙◌}
+use native.Mathlib.Omega.{arith}
+use lib.ListN.{length-set}
+use borrow.Author.Tests.{not-true, not-false}
+use Rattle.memory_world.specs.Memory.{Lent}
+use Rattle.memory_world.specs.Lendings.{plain}
+use Rattle.outer_call.specs.State.{nine}
+use Rattle.linked_calls.specs.Host.{Host, host}
+use Rattle.linked_calls.proofs.Others.{look-short, looked-at, not-looked}
+use Rattle.linked_calls.proofs.look.bvm_look.Goals as goal
+
+-- `bvm_look` meets its contract: by the test and by room for the two places. Assumes nothing.
+abbrev mem : Start → Lent
+mem c = nine c.args.stack.now c.args.frames.now c.args.chain.now c.args.slots.now c.args.saved-stack.now c.args.saved-frames.now c.args.ready.now c.args.finalize.now c.args.setup.now plain
+
+abbrev of : Start → Host
+of c = host (mem c) c.args.machine.now c.args.fuel.now
+
+abbrev start_of : After-tested-ok → Start
+start_of c = c.before.before.before.before.before.before.before.before.before.before.before.before.before
+
+pub returns-then-span-lt-SPAN_WIDTH : goal.returns-then-span-lt-SPAN_WIDTH
+returns-then-span-lt-SPAN_WIDTH c =
+    let start = start_of c.before.before in
+    look-short (of start) start.args.span.now c.if-span-lt-SPAN_WIDTH.true c.tested-ok.result c.tested-ok.ensures c.short.result c.short.ensures
+
+pub bounds-span-0 : goal.bounds-span-0
+bounds-span-0 c = let h = c.if-span-lt-SPAN_WIDTH.false in omega arith
+
+pub bounds-span-1 : goal.bounds-span-1
+bounds-span-1 c = let h = c.if-span-lt-SPAN_WIDTH.false in simp length-set (omega arith)
+
+pub returns-then-not-ok : goal.returns-then-not-ok
+returns-then-not-ok c =
+    let start = start_of c.before.before in
+    not-looked (of start) start.args.span.now c.if-span-lt-SPAN_WIDTH.false c.tested-ok.result c.tested-ok.ensures (not-true _ c.if-not-ok.true)
+
+pub span_in-s-requires : goal.span_in-s-requires
+span_in-s-requires c κs = sym c.tested-ok.ensures ∙ not-false _ c.if-not-ok.false
+
+pub bounds-span-0-2 : goal.bounds-span-0-2
+bounds-span-0-2 c = let h = c.if-span-lt-SPAN_WIDTH.false in omega arith
+
+pub bounds-span-1-2 : goal.bounds-span-1-2
+bounds-span-1-2 c = let h = c.if-span-lt-SPAN_WIDTH.false in simp length-set (omega arith)
+
+pub returns : goal.returns
+returns c =
+    let start = start_of c.before.before.before in
+    looked-at (of start) start.args.span.now c.if-span-lt-SPAN_WIDTH.false c.tested-ok.result c.tested-ok.ensures (not-false _ c.if-not-ok.false) c.span_in-s.result c.span_in-s.ensures

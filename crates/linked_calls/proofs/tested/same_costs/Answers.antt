@@ -1,0 +1,5 @@
+-- `same_costs` meets its contract: one equation after the other. Assumes nothing.
+use Rattle.linked_calls.proofs.tested.same_costs.Goals as goal
+
+pub returns : goal.returns
+returns c = cc

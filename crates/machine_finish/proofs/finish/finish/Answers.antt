@@ -1,0 +1,91 @@
+-- `finish` meets the definition: without a frame, and by the way of the top frame's continuation. Assumes nothing.
+use mathlib.Core.Path.{◌≡◌, sym, ap, ◌∙◌}
+use Prim.Native.Nat.{◌-◌, ◌≤◌}
+use native.Mathlib.Omega.{arith}
+use Rattle.model.specs.World.{World}
+use Rattle.model.specs.Machine.{finish}
+use Rattle.model.specs.declared.call.Answer.{Answer}
+use Rattle.model.specs.declared.machine.Frame.{Frame}
+use Rattle.memory_tables.specs.Layout.{frame_in}
+use Rattle.memory_world.specs.Memory.{Lent, Beside, Rep, on_chain, on_slots, on_saved}
+use Rattle.memory_world.specs.Lendings.{lent}
+use Rattle.memory_world.proofs.Does.{does}
+use Rattle.machine_state.specs.Frame.{pop_top}
+use Rattle.machine_state.proofs.Tops.{no_top}
+use Rattle.machine_state.proofs.Ways.{driver-way}
+use Rattle.machine_finish.proofs.Ends.{On, on-top, no-frame, finish-out, may-pop}
+use Rattle.machine_finish.proofs.finish.finish.Goals as goal
+use Rattle.machine_finish.proofs.finish.finish.Goals.{After-frame_at-f}
+
+-- `finish` meets the definition: without a frame, and by the way of the top frame's continuation. Assumes nothing.
+abbrev mem : Start → Beside → Lent
+mem s = let a = s.args in lent a.stack.now a.frames.now a.chain.now a.slots.now a.saved-stack.now a.saved-frames.now
+
+-- what a pop is not lent, and what the end of a call is not
+abbrev under : Start → Beside → Beside
+under s b = record { words = on_chain s.args.chain.now (on_slots s.args.slots.now (on_saved s.args.saved-stack.now s.args.saved-frames.now b.words)); fuel = b.fuel }
+
+abbrev beyond : Start → Beside → Beside
+beyond s b = record { words = on_chain s.args.chain.now (on_saved s.args.saved-stack.now s.args.saved-frames.now b.words); fuel = b.fuel }
+
+-- there is a top frame, and its continuation has been read
+abbrev start_of : After-frame_at-f → Start
+start_of c = c.before.before.before.before.before.before.before.before.before.before.before
+
+some : (c : After-frame_at-f) → 1 ≤ (start_of c).args.m.depth
+some c = omega (arith, c.if-m-eq0.false)
+
+read : (c : After-frame_at-f) → let a = (start_of c).args in (frame_in a.frames.now (a.m.depth - 1)).cont ≡ c.frame_at.result.cont
+read c = sym (ap (λ (x : Frame). x.cont) c.frame_at-f.ensures)
+
+top : (c : After-frame_at-f) (w : World) (b : Beside) → let s = start_of c in Rep s.args.sizes w (mem s b) s.args.m s.args.fuel → On w.frames c.frame_at.result.cont
+top c w b rep = let s = start_of c in on-top s.args.sizes (mem s b) s.args.m s.args.fuel w rep (some c) c.frame_at-f.result.cont (read c)
+
+pub returns-then-m-eq0 : goal.returns-then-m-eq0
+returns-then-m-eq0 c =
+    let a = c.args in
+    λ w b rep snd.
+    does a.sizes (mem c.before.before.before.before.before.before.before.before.before b) a.m a.fuel (finish a.kind a.v w) w (Answer.Exit c.result_of.result)
+    (no-frame a.kind a.v w c.result_of.result (no_top w.frames a.frames.now a.m.depth rep.frames c.if-m-eq0.true) c.result_of.ensures) rep
+
+pub pop-n-requires : goal.pop-n-requires
+pop-n-requires c κs =
+    let start = start_of c.before.before.before.before.before in
+    may-pop start.args.sizes (mem start) start.args.m start.pre (some c.before.before.before.before.before)
+
+pub end_call-did-requires : goal.end_call-did-requires
+end_call-did-requires c κs =
+    let start = start_of c.before.before.before.before.before.before in
+    let o = start.pre in
+    record {
+      on = record { ok = record { world = o.world; beside = beyond start o.beside; rep = o.rep; sound = o.sound; room = o.room }; some = some c.before.before.before.before.before.before; top = read c.before.before.before.before.before.before };
+      call = sym c.Way-of.ensures ∙ c.in-Caller.is;
+    }
+
+pub finish_coro-requires : goal.finish_coro-requires
+finish_coro-requires c κs =
+    record {
+      ok = (start_of c.before.before.before.before.before.before.before.before.before).requires;
+      some = some c.before.before.before.before.before.before.before.before.before;
+      top = read c.before.before.before.before.before.before.before.before.before ∙ driver-way c.frame_at-f.result.cont (sym c.Way-of.ensures ∙ c.in-Driver.is);
+    }
+
+pub returns-in-Out : goal.returns-in-Out
+returns-in-Out c =
+    let start = start_of c.before.before.before.before.before.before.before.before.before.before.before in
+    let a = start.args in
+    let p = c.pop-n in
+    let o = c.result_of-result in
+    λ w b rep snd.
+    does a.sizes (lent p.new.stack p.new.frames a.chain.now a.slots.now a.saved-stack.now a.saved-frames.now b) p.result a.fuel
+    (finish a.kind a.v w) (pop_top w) (Answer.Exit o.result)
+    (finish-out a.kind a.v w c.frame_at-f.result.cont (top c.before.before.before.before.before.before.before.before.before.before.before w b rep) o.result (sym c.Way-of.ensures ∙ c.in-Out.is) o.ensures)
+    (p.ensures a.sizes w (under start (record { words = b.words; fuel = a.fuel })) rep)
+
+pub returns-in-Caller : goal.returns-in-Caller
+returns-in-Caller c =
+    let start = start_of c.before.before.before.before.before.before.before.before.before.before.before.before.before.before in
+    λ w b rep snd. c.end_call-did.ensures w (beyond start (record { words = b.words; fuel = start.args.fuel })) rep
+
+pub returns-in-Driver : goal.returns-in-Driver
+returns-in-Driver c = c.finish_coro.ensures

@@ -1,0 +1,39 @@
+-- `kept` meets its contract: what `dispatch` left may be lent again. Assumes nothing.
+use mathlib.Core.Path.{refl}
+use Rattle.memory_world.specs.Memory.{Lent, Beside}
+use Rattle.memory_world.specs.Lendings.{all, plain}
+use Rattle.memory_world.specs.Contract.{with}
+use Rattle.machine_step.proofs.Keeping.{sound-again, next-ok}
+use Rattle.machine_step.proofs.kept.kept.Goals as goal
+
+-- `kept` meets its contract: what `dispatch` left may be lent again. Assumes nothing.
+abbrev mem : Start → Beside → Lent
+mem c = all c.args.stack.now c.args.frames.now c.args.chain.now c.args.slots.now c.args.saved-stack.now c.args.saved-frames.now
+    c.args.ready.now c.args.finalize.now c.args.setup.now plain
+
+pub dispatch-requires : goal.dispatch-requires
+dispatch-requires c κs = let at-widths = c.before.before.before.before.before.before.before.before in record { ok = at-widths.before.before.before.before.before.before.before.before.before.before.requires; within = at-widths.widths.ensures }
+
+pub returns : goal.returns
+returns c =
+    let a = c.args in let ok = c.requires in
+    let within = c.widths.ensures in
+    let did = c.dispatch.ensures in
+    record {
+      met = did;
+      sound = sound-again a.op within;
+      again = next-ok a.sizes (mem c.before.before.before.before.before.before.before.before.before.before.before.before.before.before.before.before.before.before.before.before.before.before.before.before.before.before.before.before.before.before.before.before.before.before.before) (all c.dispatch.new.stack c.dispatch.new.frames c.dispatch.new.chain c.dispatch.new.slots c.dispatch.new.saved_stack c.dispatch.new.saved_frames c.dispatch.new.ready c.dispatch.new.finalize a.setup.now plain)
+          (with a.m a.fuel) (with c.dispatch.result.machine c.dispatch.result.fuel) a.op c.dispatch.result.answer within ok
+          (record {
+            stack = c.dispatch.auto.0;
+            frames = c.dispatch.auto.1.0;
+            chain = c.dispatch.auto.1.1.0;
+            slots = c.dispatch.auto.1.1.1.0;
+            saved_stack = c.dispatch.auto.1.1.1.1.0;
+            saved_frames = c.dispatch.auto.1.1.1.1.1.0;
+            ready = c.dispatch.auto.1.1.1.1.1.1.0;
+            finalize = c.dispatch.auto.1.1.1.1.1.1.1.0;
+            setup = refl;
+          })
+          refl (did ok.world ok.beside ok.rep ok.sound);
+    }

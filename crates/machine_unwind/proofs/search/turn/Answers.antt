@@ -1,0 +1,86 @@
+-- `turn` meets its contract: a handler taken, or the frame left. Assumes nothing.
+use mathlib.Core.Path.{◌≡◌, sym, ◌∙◌}
+use Rattle.model.specs.World.{World}
+use Rattle.memory_world.specs.Memory.{Lent, Beside, Rep, on_setup}
+use Rattle.memory_world.specs.Lendings.{six_setup, plain}
+use Rattle.machine_unwind.specs.Turns.{handler_in}
+use Rattle.machine_unwind.proofs.Handlers.{handler-fits, catch-fits}
+use Rattle.machine_unwind.proofs.Turning.{turn-takes, turn-leaves}
+use Rattle.machine_unwind.proofs.search.turn.Goals as goal
+use Rattle.machine_unwind.proofs.search.turn.Goals.{After-handler_in}
+
+-- `turn` meets its contract: a handler taken, or the frame left. Assumes nothing.
+abbrev mem : Start → Beside → Lent
+mem c b =
+    let a = c.args in
+    six_setup a.stack.now a.frames.now a.chain.now a.slots.now a.saved-stack.now a.saved-frames.now a.setup.now plain b
+
+-- the way back to the start
+abbrev start_of : After-handler_in → Start
+start_of c = c.before.before.before.before.before.before.before.before.before
+
+-- the handler that the words tell is the world's
+read : (c : After-handler_in) (w : World) (b : Beside) → Rep (start_of c).args.sizes w (mem (start_of c) b) (start_of c).args.m (start_of c).args.fuel → c.handler-in.result ≡ handler_in w
+read c w b rep = c.handler_in.ensures (start_of c).args.sizes w (record { words = mem (start_of c) b; fuel = (start_of c).args.fuel }) rep
+
+pub handler_in-requires : goal.handler_in-requires
+handler_in-requires c κs =
+    let a = c.args in
+    let o = c.requires.ok in
+    handler-fits a.sizes (mem c.before.before.before.before.before.before.before.before o.beside) a.m a.fuel o.world o.rep o.sound c.requires.some o.room
+
+pub take_handler-requires : goal.take_handler-requires
+take_handler-requires c κs =
+    let start = start_of c.before.before.before.before.before in
+    let a = start.args in
+    let o = start.pre.ok in
+    catch-fits a.sizes (mem start o.beside) a.m a.fuel o.world o.rep o.sound start.pre.some c.in-By.h
+    (sym c.in-By.is ∙ read c.before.before.before.before.before o.world o.beside o.rep)
+
+pub leave-requires : goal.leave-requires
+leave-requires c κs =
+    let start = start_of c.before.before.before.before.before.before.before.before in
+    let a = start.args in
+    let o = start.pre.ok in
+    let beside : Beside = record { words = on_setup a.setup.now o.beside.words; fuel = o.beside.fuel } in
+    record { ok = record { world = o.world; beside = beside; rep = o.rep; sound = o.sound; room = o.room }; some = start.pre.some }
+
+pub shape_of-stack-in-By : goal.shape_of-stack-in-By
+shape_of-stack-in-By c = c.take_handler.auto.0
+
+pub shape_of-frames-in-By : goal.shape_of-frames-in-By
+shape_of-frames-in-By c = c.take_handler.auto.1.0
+
+pub returns-in-By : goal.returns-in-By
+returns-in-By c =
+    let a = (start_of c.before.before.before.before.before.before.before.before.before.before).args in let t = c.take_handler in let e = t.new in
+    λ w b rep snd.
+    turn-takes a.sizes (six_setup e.0 e.1.0 a.chain.now a.slots.now a.saved-stack.now a.saved-frames.now a.setup.now plain b) t.result.machine t.result.fuel w
+    a.value a.func a.pc t.result.answer c.in-By.h (sym c.in-By.is ∙ read c.before.before.before.before.before.before.before.before.before.before w b rep)
+    (t.ensures a.sizes w (record { words = mem (start_of c.before.before.before.before.before.before.before.before.before.before) b; fuel = b.fuel }) rep)
+
+pub shape_of-stack-in-Nothing : goal.shape_of-stack-in-Nothing
+shape_of-stack-in-Nothing c = c.leave.auto.0
+
+pub shape_of-frames-in-Nothing : goal.shape_of-frames-in-Nothing
+shape_of-frames-in-Nothing c = c.leave.auto.1.0
+
+pub shape_of-chain : goal.shape_of-chain
+shape_of-chain c = c.leave.auto.1.1.0
+
+pub shape_of-slots : goal.shape_of-slots
+shape_of-slots c = c.leave.auto.1.1.1.0
+
+pub shape_of-saved_stack : goal.shape_of-saved_stack
+shape_of-saved_stack c = c.leave.auto.1.1.1.1.0
+
+pub shape_of-saved_frames : goal.shape_of-saved_frames
+shape_of-saved_frames c = c.leave.auto.1.1.1.1.1.0
+
+pub returns-in-Nothing : goal.returns-in-Nothing
+returns-in-Nothing c =
+    let a = (start_of c.before.before.before.before.before.before.before.before.before.before.before.before.before.before.before.before.before.before.before.before.before).args in let t = c.leave in let e = t.new in
+    λ w b rep snd.
+    turn-leaves a.sizes (six_setup e.0 e.1.0 e.1.1.0 e.1.1.1.0 e.1.1.1.1.0 e.1.1.1.1.1.0 a.setup.now plain b) t.result.machine t.result.fuel w
+    a.value a.func a.pc t.result.answer (sym c.in-Nothing.is ∙ read c.before.before.before.before.before.before.before.before.before.before.before.before.before.before.before.before.before.before.before.before.before w b rep)
+    (t.ensures w (record { words = on_setup a.setup.now b.words; fuel = b.fuel }) rep snd)

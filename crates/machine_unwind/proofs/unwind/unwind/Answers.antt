@@ -1,0 +1,81 @@
+-- `unwind` meets the definition: no such fault, or a pc stored and the fault raised. Assumes nothing.
+use mathlib.Core.Path.{refl, sym, ◌∙◌}
+use borrow.Author.Tests.{not-true, not-false}
+use Rattle.model.specs.Machine.{store_some}
+use Rattle.memory_world.specs.Memory.{Lent, Beside}
+use Rattle.memory_world.specs.Lendings.{six_setup, plain}
+use Rattle.memory_world.specs.Contract.{with}
+use Rattle.memory_world.proofs.Does.{ok-next}
+use Rattle.machine_unwind.proofs.Raising.{some-sounds, some-setup, unwind-refused, unwind-raises}
+use Rattle.machine_unwind.proofs.unwind.unwind.Goals as goal
+
+-- `unwind` meets the definition: no such fault, or a pc stored and the fault raised. Assumes nothing.
+abbrev mem : Start → Beside → Lent
+mem c b =
+    let a = c.args in
+    six_setup a.stack.now a.frames.now a.chain.now a.slots.now a.saved-stack.now a.saved-frames.now a.setup.now plain b
+
+-- the words with the pc stored
+abbrev at-pc : After-store_some → Beside → Lent
+at-pc c b =
+    let a = c.before.before.before.before.before.before.before.before.before.before.before.args in
+    six_setup a.stack.now c.store-some.new.0 a.chain.now a.slots.now a.saved-stack.now a.saved-frames.now a.setup.now plain b
+
+-- the way back to the test
+abbrev asked_of : After-store_some → After-is_raisable
+asked_of c = c.before.before.before
+
+abbrev start_of : After-is_raisable → Start
+start_of c = c.before.before.before.before.before.before.before.before
+
+pub returns-then-not-is_raisable : goal.returns-then-not-is_raisable
+returns-then-not-is_raisable c =
+    let start = start_of c.before in
+    let a = start.args in
+    λ w b rep snd. unwind-refused a.sizes (mem start b) a.m a.fuel w a.fault a.pc (sym c.is_raisable.ensures ∙ not-true _ c.if-not-is_raisable.true) rep
+
+pub raise-requires : goal.raise-requires
+raise-requires c κs =
+    let asked = asked_of c.before.before.before.before.before.before.before.before in
+    let start = start_of asked in
+    let a = start.args in
+    let o = start.pre.ok in
+    let n = with a.m a.fuel in
+    let u = store_some a.pc o.world in
+    record {
+      ok =
+          ok-next a.sizes (mem start) (at-pc c.before.before.before.before.before.before.before.before) n n o u (some-setup a.pc o.world) (some-sounds a.pc o.world start.pre.narrow o.sound)
+          (record { stack = refl; frames = c.store_some.auto.0; chain = refl; slots = refl; saved_stack = refl; saved_frames = refl; ready = refl; finalize = refl; setup = refl })
+          (c.store_some.ensures a.sizes o.world (record { words = mem start o.beside; fuel = a.fuel }) o.rep);
+      raises = sym asked.is-raisable.ensures ∙ not-false _ c.if-not-is_raisable.false;
+    }
+
+pub shape_of-stack : goal.shape_of-stack
+shape_of-stack c = c.raise.auto.0
+
+pub shape_of-frames : goal.shape_of-frames
+shape_of-frames c = c.raise.auto.1.0 ∙ c.store_some.auto.0
+
+pub shape_of-chain : goal.shape_of-chain
+shape_of-chain c = c.raise.auto.1.1.0
+
+pub shape_of-slots : goal.shape_of-slots
+shape_of-slots c = c.raise.auto.1.1.1.0
+
+pub shape_of-saved_stack : goal.shape_of-saved_stack
+shape_of-saved_stack c = c.raise.auto.1.1.1.1.0
+
+pub shape_of-saved_frames : goal.shape_of-saved_frames
+shape_of-saved_frames c = c.raise.auto.1.1.1.1.1.0
+
+pub returns : goal.returns
+returns c =
+    let asked = asked_of c.before.before.before.before.before.before.before.before.before.before.before.before.before.before.before.before.before.before.before.before.before in
+    let start = start_of asked in
+    let a = start.args in
+    let r = c.raise in
+    let e = r.new in
+    λ w b rep snd.
+    unwind-raises a.sizes (six_setup e.0 e.1.0 e.1.1.0 e.1.1.1.0 e.1.1.1.1.0 e.1.1.1.1.1.0 a.setup.now plain b)
+    r.result.machine r.result.fuel w a.fault a.pc r.result.answer (sym asked.is-raisable.ensures ∙ not-false _ c.if-not-is_raisable.false)
+    (r.ensures (store_some a.pc w) b (c.store_some.ensures a.sizes w (record { words = mem start b; fuel = a.fuel }) rep) (some-sounds a.pc w start.pre.narrow snd))

@@ -1,0 +1,31 @@
+-- `cont_of` meets its contract, by cases of the code. Assumes nothing.
+use Rattle.std.proofs.Common.{ne_eqb}
+use Rattle.lists.specs.Pick.{pick}
+use Rattle.memory_tables.proofs.frame.cont_of.Goals as goal
+
+pub returns-in-0 : goal.returns-in-0
+unfolding pick
+returns-in-0 c = rw c.in-0.is
+
+pub returns-in-1 : goal.returns-in-1
+unfolding pick
+returns-in-1 c = rw c.in-1.is
+
+pub returns-in-2 : goal.returns-in-2
+unfolding pick
+returns-in-2 c = rw c.in-2.is
+
+pub returns-in-3 : goal.returns-in-3
+unfolding pick
+returns-in-3 c = rw c.in-3.is
+
+pub returns-in-4 : goal.returns-in-4
+unfolding pick
+returns-in-4 c = rw c.in-4.is
+
+pub returns-in_default : goal.returns-in_default
+unfolding pick
+returns-in_default c =
+    let n = c.args.code in
+    let r = c.in_default.rest in
+    rw (ne_eqb n 0 r.0.0.0.0.1, ne_eqb n 1 r.0.0.0.1, ne_eqb n 2 r.0.0.1, ne_eqb n 3 r.0.1, ne_eqb n 4 r.1)

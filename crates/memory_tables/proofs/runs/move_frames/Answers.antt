@@ -1,0 +1,55 @@
+-- `move_frames` meets its contract: after j turns j frames are moved. Assumes nothing.
+use Rattle.std.proofs.Common.{◌≡◌, ◌+◌, ◌-◌, ◌*◌, drop, replicate, sym, refl, ap, ◌∙◌, arith, take-append-drop, rules}
+use Rattle.lists.specs.Parts.{part, splice}
+use Rattle.memory_tables.specs.Runs.{rebase, between}
+use Rattle.memory_tables.proofs.Shifts.{frames-more, zeros-more, behind, frame-asks}
+use Rattle.memory_tables.proofs.runs.move_frames.Goals as goal
+use Rattle.memory_tables.proofs.runs.move_frames.Goals.{In-loop-j}
+
+-- the frames that are not moved yet are as they were
+ahead : (c : In-loop-j) →
+    let at-loop = c.before in let start = at-loop.before.before.before in
+    drop (start.args.from + at-loop.loop.j * 6) at-loop.loop.src ≡ drop (start.args.from + at-loop.loop.j * 6) start.args.src.now
+ahead c =
+    let a = c.args in
+    let inside = c.requires.1.inside in
+    ap (drop (a.from + c.loop-j.j * 6)) c.loop-j.invariant.4 ∙ behind a.src.now a.from (c.loop-j.j * 6) (omega arith)
+
+pub loop-j-init : goal.loop-j-init
+loop-j-init c =
+    let a = c.args in
+    (search rules, refl, refl, sym (take-append-drop a.at a.dst.now), sym (take-append-drop a.from a.src.now))
+
+pub move_frame-requires : goal.move_frame-requires
+move_frame-requires c κs =
+    let a = c.args in
+    let l = c.loop-j in
+    (omega arith, frame-asks a.src.now l.src a.from a.n l.j a.old a.new c.requires.1 (omega arith) l.invariant.2 (ahead c.before.before))
+
+pub loop-j-preserved : goal.loop-j-preserved
+loop-j-preserved c =
+    let a = c.args in
+    let l = c.loop-j in
+    let m = c.move_frame in
+    let inside = c.requires.1.inside in (
+      search rules,
+      m.auto.0 ∙ l.invariant.1,
+      m.auto.1.1.0 ∙ l.invariant.2,
+      m.ensures.0 ∙ frames-more (between a.old a.new) a.at a.dst.now a.src.now a.from l.j (omega arith) (omega arith) l.dst l.src l.invariant.3 (ahead c.before.before.before.before.before.before.before),
+      m.ensures.1 ∙ ap (λ z. splice z (a.from + l.j * 6) (replicate 6 0)) l.invariant.4 ∙ zeros-more a.src.now a.from l.j (omega arith),
+    )
+
+pub shape_of-dst : goal.shape_of-dst
+shape_of-dst c = c.loop-j.invariant.1
+
+pub shape_of-src : goal.shape_of-src
+shape_of-src c = c.loop-j.invariant.2
+
+pub returns : goal.returns
+returns c =
+    let a = c.args in
+    let l = c.loop-j in
+    let e : l.j ≡ a.n = omega arith in (
+      l.invariant.3 ∙ ap (λ n. rebase (between a.old a.new) n a.at (splice a.dst.now a.at (part a.from (n * 6) a.src.now))) e,
+      l.invariant.4 ∙ ap (λ n. splice a.src.now a.from (replicate (n * 6) 0)) e,
+    )
