@@ -59,6 +59,7 @@ module _ {A : Type 0} (w : ℕ) (dec : List ℕ → A) where
   pub chunks-at : (n i : ℕ) (ws : List ℕ) (d : A) → i < n → get_or (chunks w dec n ws) i d ≡ dec (chunk_at w ws i)
   chunks-at (suc n) zero ws d h = rw zero-mul
   chunks-at (suc n) (suc i) ws d h = rw drop-step (chunks-at n i (drop w ws) d (le_of_suc-le-suc h))
+  chunks-at zero i ws d h = elim h [ ]
 
   -- replacing the words at place i replaces record i
   pub chunks-put : (n i : ℕ) (ws vs : List ℕ) → i < n → n * w ≤ length ws → length vs ≡ w
@@ -72,6 +73,7 @@ module _ {A : Type 0} (w : ℕ) (dec : List ℕ → A) where
       rw put_step
       (rw (take_at (take w ws) (put_chunk w (drop w ws) i vs) w t, drop_at (take w ws) (put_chunk w (drop w ws) i vs) w t)
       (ap (λ (l : List A). dec (take w ws) ∷ l) (chunks-put n i (drop w ws) vs (le_of_suc-le-suc h) r e)))
+  chunks-put zero i ws vs h k e = elim h [ ]
 
   -- the words after n records hold the next one
   pub chunks-push : (n : ℕ) (ws vs : List ℕ) → n * w + w ≤ length ws → length vs ≡ w

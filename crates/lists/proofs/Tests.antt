@@ -33,6 +33,7 @@ by_place n i p false t f h e = let d = eqb-false i n t in rw (f (omega arith))
 
 pub fails-at : (n i : ℕ) (p : ℕ → Bool) → i < n → p i ≡ false → all_below n p ≡ false
 fails-at (suc n) i p h e = by_place n i p (eqb i n) refl (λ g. fails-at n i p g e) h e
+fails-at zero i p h e = elim h [ ]
 
 pub holds-next : (i : ℕ) (p : ℕ → Bool) → all_below i p ≡ true → p i ≡ true → all_below (i + 1) p ≡ true
 holds-next i p h e = rw add-one (rw (h, e))
@@ -44,6 +45,7 @@ at_place n i p false t f h e = let d = eqb-false i n t in f (omega arith)
 
 pub holds_at : (n i : ℕ) (p : ℕ → Bool) → i < n → all_below n p ≡ true → p i ≡ true
 holds_at (suc n) i p h e = at_place n i p (eqb i n) refl (λ g. holds_at n i p g (and_left (all_below n p) (p n) e)) h (and_right (all_below n p) (p n) e)
+holds_at zero i p h e = elim h [ ]
 
 pub holds-all : (n : ℕ) (p : ℕ → Bool) → ((i : ℕ) → i < n → p i ≡ true) → all_below n p ≡ true
 holds-all zero p h = refl

@@ -17,7 +17,7 @@ abbrev start_of : After-set_up-began → Start
 start_of c = c.before.before.before.before.before.before.before.before.before.before.before.before.before.before.before.before.before.before.before.before.before.before.before
 
 pub play-did-requires : goal.play-did-requires
-play-did-requires c κs = (start_of c.before.before.before.before.before.before.before.before.before.before.before.before.before.before.before.before.before.before.before.before.before.before.before.before.before.before.before.before.before.before).requires
+play-did-requires c = (start_of c.before.before.before.before.before.before.before.before.before.before.before.before.before.before.before.before.before.before.before.before.before.before.before.before.before.before.before.before.before.before).requires
 
 pub shape_of-stack : goal.shape_of-stack
 shape_of-stack c = (played c).play.auto.0 ∙ (began (played c)).set-up.auto.0

@@ -30,7 +30,7 @@ pub loop-i-init : goal.loop-i-init
 loop-i-init c = let start = c.before.before.before.before.before.before.before.before.before.before in along-start (at-start start)
 
 pub turn-did-requires : goal.turn-did-requires
-turn-did-requires c κs = c.loop-i.invariant.long ∙ (start_of c.before.before.before.before.before.before.before.before.before.before.before).requires
+turn-did-requires c = c.loop-i.invariant.long ∙ (start_of c.before.before.before.before.before.before.before.before.before.before.before).requires
 
 pub overflow_add-i : goal.overflow_add-i
 overflow_add-i c = let t = (test_of (turn-of c)).loop-test.taken in omega arith

@@ -17,10 +17,10 @@ abbrev start_of : After-before-was → Start
 start_of c = c.before.before.before.before.before.before.before.before.before.before.before.before.before.before.before
 
 pub before-was-requires : goal.before-was-requires
-before-was-requires c κs = c.requires
+before-was-requires c = c.requires
 
 pub after-told-requires : goal.after-told-requires
-after-told-requires c κs = c.before-was.auto.1.1.1.1.1.0 ∙ (start_of c.before.before.before.before.before.before.before.before.before.before.before.before.before.before.before.before.before.before.before.before.before.before.before.before.before.before.before.before.before.before.before.before.before.before.before.before.before.before).requires
+after-told-requires c = c.before-was.auto.1.1.1.1.1.0 ∙ (start_of c.before.before.before.before.before.before.before.before.before.before.before.before.before.before.before.before.before.before.before.before.before.before.before.before.before.before.before.before.before.before.before.before.before.before.before.before.before.before).requires
 
 pub shape_of-stack : goal.shape_of-stack
 shape_of-stack c = (call-of c).call.auto.0

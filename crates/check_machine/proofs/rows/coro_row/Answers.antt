@@ -7,7 +7,7 @@ use Rattle.check_machine.proofs.Coros.{bad-coro, no-row, not-chained, chained-ro
 use Rattle.check_machine.proofs.rows.coro_row.Goals as goal
 
 pub coro_ok-requires : goal.coro_ok-requires
-coro_ok-requires c κs = c.requires.0.saved
+coro_ok-requires c = c.requires.0.saved
 
 pub returns-then-not-coro_ok : goal.returns-then-not-coro_ok
 returns-then-not-coro_ok c =
@@ -22,7 +22,7 @@ returns-then-is_finished c =
     (sym c.coro_ok.ensures ∙ not-false _ c.if-not-coro_ok.false) (sym c.is_finished.ensures ∙ c.if-is_finished.true)
 
 pub in_set-requires : goal.in_set-requires
-in_set-requires c κs = (c.requires.1, c.requires.0.long)
+in_set-requires c = (c.requires.1, c.requires.0.long)
 
 pub returns-then-not-in_set : goal.returns-then-not-in_set
 returns-then-not-in_set c =

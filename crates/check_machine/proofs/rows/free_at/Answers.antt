@@ -6,7 +6,7 @@ use Rattle.check_machine.specs.Rows.{row_free}
 use Rattle.check_machine.proofs.rows.free_at.Goals as goal
 
 pub bit-requires : goal.bit-requires
-bit-requires c κs = omega (arith, c.requires.0.few, c.requires.1)
+bit-requires c = omega (arith, c.requires.0.few, c.requires.1)
 
 pub returns-then-bit : goal.returns-then-bit
 returns-then-bit c =
@@ -14,7 +14,7 @@ returns-then-bit c =
     sym (ap (λ b. b || row_free a.sizes a.saved_stack.now a.saved_frames.now a.n) (sym c.bit.ensures ∙ c.if-bit.true))
 
 pub row_free-requires : goal.row_free-requires
-row_free-requires c κs = c.requires
+row_free-requires c = c.requires
 
 pub returns : goal.returns
 returns c =

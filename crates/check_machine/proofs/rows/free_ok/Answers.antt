@@ -19,7 +19,7 @@ pub loop-n-init : goal.loop-n-init
 loop-n-init c = (omega arith, refl)
 
 pub free_at-requires : goal.free_at-requires
-free_at-requires c κs = (c.requires, c.loop-n-test.true)
+free_at-requires c = (c.requires, c.loop-n-test.true)
 
 pub returns-then-not-free_at : goal.returns-then-not-free_at
 returns-then-not-free_at c =

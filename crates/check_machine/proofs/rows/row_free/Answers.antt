@@ -9,7 +9,7 @@ use Rattle.check_machine.proofs.Coros.{row_inside}
 use Rattle.check_machine.proofs.rows.row_free.Goals as goal
 
 pub row_rest-requires : goal.row_rest-requires
-row_rest-requires c κs = let a = c.args in row_inside a.sizes.rows a.sizes.width a.n (length a.saved_stack.now) c.requires.1 c.requires.0.on_stack
+row_rest-requires c = let a = c.args in row_inside a.sizes.rows a.sizes.width a.n (length a.saved_stack.now) c.requires.1 c.requires.0.on_stack
 
 pub returns-then-not-row_rest : goal.returns-then-not-row_rest
 returns-then-not-row_rest c = first-fails _ _ _ c.row_rest.result refl c.row_rest.ensures (not-true _ c.if-not-row_rest.true)
@@ -18,7 +18,7 @@ pub overflow_mul-sizes : goal.overflow_mul-sizes
 overflow_mul-sizes c = omega (arith, c.requires.0.deep)
 
 pub row_rest-requires-2 : goal.row_rest-requires-2
-row_rest-requires-2 c κs = let a = c.args in row_inside a.sizes.rows (a.sizes.depth * 6) a.n (length a.saved_frames.now) c.requires.1 c.requires.0.on-frames
+row_rest-requires-2 c = let a = c.args in row_inside a.sizes.rows (a.sizes.depth * 6) a.n (length a.saved_frames.now) c.requires.1 c.requires.0.on-frames
 
 pub returns : goal.returns
 returns c =

@@ -25,7 +25,7 @@ pub overflow_sub-i : goal.overflow_sub-i
 overflow_sub-i c = omega (arith, c.loop-i-test.true)
 
 pub slot_ok_at-requires : goal.slot_ok_at-requires
-slot_ok_at-requires c κs = omega (arith, c.requires.table, c.loop-i.invariant.0.within, c.loop-i-test.true)
+slot_ok_at-requires c = omega (arith, c.requires.table, c.loop-i.invariant.0.within, c.loop-i-test.true)
 
 pub returns-then-not-slot_ok_at : goal.returns-then-not-slot_ok_at
 returns-then-not-slot_ok_at c =
@@ -34,7 +34,7 @@ returns-then-not-slot_ok_at c =
     (sym c.slot_ok_at.ensures ∙ not-true _ c.if-not-slot_ok_at.true)
 
 pub slot_row-row-requires : goal.slot_row-row-requires
-slot_row-row-requires c κs =
+slot_row-row-requires c =
     let w = c.loop-i.invariant.0.within in
     (c.requires.rows, (omega (arith, c.requires.table, w, c.loop-i-test.true), omega (arith, c.requires.few, w, c.loop-i-test.true)))
 
@@ -68,7 +68,7 @@ loop-i-preserved c =
     )
 
 pub free_ok-requires : goal.free_ok-requires
-free_ok-requires c κs =
+free_ok-requires c =
     let p = c.requires.rows.saved in
     record { deep = p.deep; on-stack = p.on-stack; on-frames = p.on-frames; few = p.few }
 

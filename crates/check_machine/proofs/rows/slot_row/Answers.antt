@@ -36,13 +36,13 @@ none-held l s stack frames chained i (O.Error k f p v) e = refl
 none-held l s stack frames chained i (O.Coro c) e = absurd (subst told e tt)
 
 pub is_coro-requires : goal.is_coro-requires
-is_coro-requires c κs = c.requires.1.0
+is_coro-requires c = c.requires.1.0
 
 pub coro_at-c-requires : goal.coro_at-c-requires
-coro_at-c-requires c κs = c.requires.1.0
+coro_at-c-requires c = c.requires.1.0
 
 pub coro_row-requires : goal.coro_row-requires
-coro_row-requires c κs = let start = c.before.before.before.before.before.before.before in (start.requires.0, start.requires.1.1)
+coro_row-requires c = let start = c.before.before.before.before.before.before.before in (start.requires.0, start.requires.1.1)
 
 pub returns-then-is_coro : goal.returns-then-is_coro
 returns-then-is_coro c =

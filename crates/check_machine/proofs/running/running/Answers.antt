@@ -52,7 +52,7 @@ pub bounds-chain-k : goal.bounds-chain-k
 bounds-chain-k c = omega (arith, c.requires.on_chain, c.loop-k.invariant.within)
 
 pub is_running-requires : goal.is_running-requires
-is_running-requires c κs = c.requires.table
+is_running-requires c = c.requires.table
 
 pub returns-then-not-is_running : goal.returns-then-not-is_running
 returns-then-not-is_running c =

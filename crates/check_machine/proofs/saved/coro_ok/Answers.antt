@@ -29,7 +29,7 @@ returns-then-rows-c c =
     (le-ltb a.c.row a.sizes.rows c.if-rows-c.true)
 
 pub row_rest-requires : goal.row_rest-requires
-row_rest-requires c κs =
+row_rest-requires c =
     let a = c.args in
     row_inside a.sizes.rows a.sizes.width a.c.row (length a.saved_stack.now) c.if-rows-c.false c.requires.on-stack
 
@@ -44,7 +44,7 @@ pub overflow_mul-sizes : goal.overflow_mul-sizes
 overflow_mul-sizes c = omega (arith, c.requires.deep)
 
 pub row_frames-requires : goal.row_frames-requires
-row_frames-requires c κs =
+row_frames-requires c =
     let a = c.args in
     record {
       row = row_inside a.sizes.rows (a.sizes.depth * 6) a.c.row (length a.saved_frames.now) c.if-rows-c.false c.requires.on-frames;

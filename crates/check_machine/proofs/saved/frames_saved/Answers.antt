@@ -10,7 +10,7 @@ pub returns-then-not-saved_frames_ok : goal.returns-then-not-saved_frames_ok
 returns-then-not-saved_frames_ok c = first-fails _ _ _ c.saved_frames_ok.result refl c.saved_frames_ok.ensures (not-true _ c.if-not-saved_frames_ok.true)
 
 pub waits_ok-requires : goal.waits_ok-requires
-waits_ok-requires c κs =
+waits_ok-requires c =
     let a = c.args in
     (some-frame (setup_of a.setup.now) a.ws.now a.c.frames a.c.regs (sym c.saved_frames_ok.ensures ∙ not-false _ c.if-not-saved_frames_ok.false), c.requires.inside)
 

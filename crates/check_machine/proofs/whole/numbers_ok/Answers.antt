@@ -31,7 +31,7 @@ passed-2 : (c : Else-not-counts_ok) → Passed 2 c.before.before.before.before
 passed-2 c = pass (passed-1 c.before.before) (sym c.counts_ok.ensures ∙ not-false _ c.if-not-counts_ok.false)
 
 pub room_ok-requires : goal.room_ok-requires
-room_ok-requires c κs = c.requires
+room_ok-requires c = c.requires
 
 pub returns-then-not-room_ok : goal.returns-then-not-room_ok
 returns-then-not-room_ok c = stop (begun c.before.before) (sym c.room_ok.ensures ∙ not-true _ c.if-not-room_ok.true)

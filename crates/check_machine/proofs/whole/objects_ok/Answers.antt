@@ -78,13 +78,13 @@ pub returns-then-not-rest_ok : goal.returns-then-not-rest_ok
 returns-then-not-rest_ok c = stop (begun c.before.before) (sym c.rest_ok.ensures ∙ not-true _ c.if-not-rest_ok.true)
 
 pub running-r-requires : goal.running-r-requires
-running-r-requires c κs = let p = (start_of c.before.before).requires in record { on_chain = p.on_chain; table = p.table; few = p.few }
+running-r-requires c = let p = (start_of c.before.before).requires in record { on_chain = p.on_chain; table = p.table; few = p.few }
 
 pub returns-then-not-r : goal.returns-then-not-r
 returns-then-not-r c = stop (passed-1 c.before.before.before) (sym c.running-r.ensures.good ∙ not-true _ c.if-not-r.true)
 
 pub rows_ok-requires : goal.rows_ok-requires
-rows_ok-requires c κs =
+rows_ok-requires c =
     let p = (start_of c.before.before.before.before.before.before.before).requires in
     record {
       rows =

@@ -79,19 +79,19 @@ pub returns-then-not-setup_held : goal.returns-then-not-setup_held
 returns-then-not-setup_held c = stop (begun c.before.before.before.before.before.before.before.before.before.before.before) (sym c.setup_held.ensures ∙ not-true _ c.if-not-setup_held.true)
 
 pub sizes-sizes-requires : goal.sizes-sizes-requires
-sizes-sizes-requires c κs = setup-fits c.args.setup.now (held c)
+sizes-sizes-requires c = setup-fits c.args.setup.now (held c)
 
 pub numbers_ok-requires : goal.numbers_ok-requires
-numbers_ok-requires c κs = subst SizesFit (sym c.sizes-sizes.ensures.words) (sizes-fit (begin-of c).args.setup.now (held c.before))
+numbers_ok-requires c = subst SizesFit (sym c.sizes-sizes.ensures.words) (sizes-fit (begin-of c).args.setup.now (held c.before))
 
 pub returns-then-not-numbers_ok : goal.returns-then-not-numbers_ok
 returns-then-not-numbers_ok c = stop (passed-1 c.before.before.before) (numbers c.before false (not-true _ c.if-not-numbers_ok.true))
 
 pub catches-need-requires : goal.catches-need-requires
-catches-need-requires c κs = held c.before.before.before
+catches-need-requires c = held c.before.before.before
 
 pub tower_ok-requires : goal.tower_ok-requires
-tower_ok-requires c κs = let at-if2 =
+tower_ok-requires c = let at-if2 =
     c.before.before in let start = start_of at-if2 in
     tower-fits (lent start) start.args.m start.args.fuel (held at-if2.before.before.before) (ready at-if2) _ c.catches-need.ensures
 
@@ -99,7 +99,7 @@ pub returns-then-not-tower_ok : goal.returns-then-not-tower_ok
 returns-then-not-tower_ok c = stop (passed-2 c.before.before.before.before) (sym c.tower_ok.ensures ∙ not-true _ c.if-not-tower_ok.true)
 
 pub objects_ok-requires : goal.objects_ok-requires
-objects_ok-requires c κs =
+objects_ok-requires c =
     let start = start_of c.before.before.before.before.before in let a = start.args in
     subst
     (λ (l : Sizes). ObjectsFit a.chain.now a.slots.now a.saved-stack.now a.saved-frames.now c.catches-need.result a.setup.now l a.m)
@@ -110,7 +110,7 @@ pub returns-then-not-objects_ok : goal.returns-then-not-objects_ok
 returns-then-not-objects_ok c = stop (passed-3 c.before.before.before) (objects c.before false (not-true _ c.if-not-objects_ok.true))
 
 pub queues_ok-requires : goal.queues_ok-requires
-queues_ok-requires c κs = let at-if2 =
+queues_ok-requires c = let at-if2 =
     c.before.before.before.before.before.before.before in let start = start_of at-if2 in
     queues-fit (lent start) start.args.m start.args.fuel (held at-if2.before.before.before) (ready at-if2)
 

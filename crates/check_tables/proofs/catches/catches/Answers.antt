@@ -36,7 +36,7 @@ pub overflow_add-at-in-loop-i : goal.overflow_add-at-in-loop-i
 overflow_add-at-in-loop-i c = omega (arith, turn c.before)
 
 pub widest_catch-w-requires : goal.widest_catch-w-requires
-widest_catch-w-requires c κs = (turn c.before).fits
+widest_catch-w-requires c = (turn c.before).fits
 
 pub offset_bounds-need-i : goal.offset_bounds-need-i
 offset_bounds-need-i c = omega (arith, turn c.before.before)

@@ -17,10 +17,10 @@ pub returns-then-not-driver_held : goal.returns-then-not-driver_held
 returns-then-not-driver_held c = let a = c.args in bad-driver a.chain.now a.frames.now a.k a.i c.if-chain-at.false c.driver_held.result c.driver_held.ensures (not-true _ c.if-not-driver_held.true)
 
 pub base_at-base-requires : goal.base_at-base-requires
-base_at-base-requires c κs = c.requires.1
+base_at-base-requires c = c.requires.1
 
 pub driver_lies-requires : goal.driver_lies-requires
-driver_lies-requires c κs = omega (arith, c.requires.1)
+driver_lies-requires c = omega (arith, c.requires.1)
 
 pub returns : goal.returns
 returns c =

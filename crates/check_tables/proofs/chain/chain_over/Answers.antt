@@ -24,7 +24,7 @@ pub returns-then-k-eq0 : goal.returns-then-k-eq0
 returns-then-k-eq0 c = let a = c.args in none_left a.chain.now a.frames.now c.loop-i.i c.loop-i.k _ c.loop-i.invariant.2 c.loop-i-test.true c.if-frames-i-gt-DISCARD.true c.if-k-eq0.true
 
 pub active_ok-requires : goal.active_ok-requires
-active_ok-requires c κs = let on_chain = c.requires.on_chain in let on-frames = c.requires.on-frames in (omega arith, omega arith)
+active_ok-requires c = let on_chain = c.requires.on_chain in let on-frames = c.requires.on-frames in (omega arith, omega arith)
 
 pub returns-then-not-active_ok : goal.returns-then-not-active_ok
 returns-then-not-active_ok c =

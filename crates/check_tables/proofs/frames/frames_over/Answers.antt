@@ -12,13 +12,13 @@ pub loop-i-init : goal.loop-i-init
 loop-i-init c = (omega arith, refl)
 
 pub frame_ok-requires : goal.frame_ok-requires
-frame_ok-requires c κs = record { inside = omega (arith, c.requires.inside); catches = c.requires.catches; numbers = c.requires.numbers }
+frame_ok-requires c = record { inside = omega (arith, c.requires.inside); catches = c.requires.catches; numbers = c.requires.numbers }
 
 pub returns-then-not-frame_ok : goal.returns-then-not-frame_ok
 returns-then-not-frame_ok c = let a = c.args in frames-stop a.saved (setup_of a.setup.now) a.ws.now c.loop-i.i c.loop-i.e _ c.loop-i.invariant.1 c.frame_ok.result c.loop-i-test.true c.frame_ok.ensures (not-true _ c.if-not-frame_ok.true)
 
 pub base_at-e-requires : goal.base_at-e-requires
-base_at-e-requires c κs = omega (arith, c.requires.inside)
+base_at-e-requires c = omega (arith, c.requires.inside)
 
 pub loop-i-preserved : goal.loop-i-preserved
 loop-i-preserved c =

@@ -33,7 +33,7 @@ pub bounds-q-i : goal.bounds-q-i
 bounds-q-i c = omega (arith, c.loop-i.invariant.once.within, c.requires.within)
 
 pub is_marked-requires : goal.is_marked-requires
-is_marked-requires c κs = let start = c.before.before.before.before.before in start.requires.table
+is_marked-requires c = let start = c.before.before.before.before.before in start.requires.table
 
 pub returns-then-not-is_marked : goal.returns-then-not-is_marked
 returns-then-not-is_marked c =

@@ -6,7 +6,7 @@ use Rattle.check_tables.proofs.Marks.{by-task, by-cleanup, no-mark}
 use Rattle.check_tables.proofs.queue.is_marked.Goals as goal
 
 pub task_at-requires : goal.task_at-requires
-task_at-requires c κs = stands-words c.args.count c.args.slots.now c.args.w c.in-At.i (sym c.in-At.is ∙ c.coro_place.ensures) c.requires
+task_at-requires c = stands-words c.args.count c.args.slots.now c.args.w c.in-At.i (sym c.in-At.is ∙ c.coro_place.ensures) c.requires
 
 pub returns-then-task : goal.returns-then-task
 returns-then-task c =
@@ -17,7 +17,7 @@ returns-then-task c =
     c.if-task.true
 
 pub finalized_at-requires : goal.finalized_at-requires
-finalized_at-requires c κs = stands-words c.args.count c.args.slots.now c.args.w c.in-At.i (sym c.in-At.is ∙ c.coro_place.ensures) c.requires
+finalized_at-requires c = stands-words c.args.count c.args.slots.now c.args.w c.in-At.i (sym c.in-At.is ∙ c.coro_place.ensures) c.requires
 
 pub returns-in-Not : goal.returns-in-Not
 returns-in-Not c =

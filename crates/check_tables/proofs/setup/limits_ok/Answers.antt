@@ -21,5 +21,5 @@ returns-then-not-between-3 c = sym (rw (sym c.between.ensures ∙ not-false _ c.
 pub returns : goal.returns
 returns c =
     let l = c.args.limits in
-    let m : ltb l.memory (2 ^ 64) ≡ true = lt-ltb l.memory (2 ^ 64) (omega (arith, c.well-formed)) in
+    let m : ltb l.memory (2 ^ 64) ≡ true = lt-ltb l.memory (2 ^ 64) (omega (arith, c.well_formed)) in
     c.between-4.ensures ∙ sym (rw (sym c.between.ensures ∙ not-false _ c.if-not-between.false, sym c.between-2.ensures ∙ not-false _ c.if-not-between-2.false, sym c.between-3.ensures ∙ not-false _ c.if-not-between-3.false, m, and-true (between 1 4096 l.slots)))

@@ -66,13 +66,13 @@ pub bounds-setup-13 : goal.bounds-setup-13
 bounds-setup-13 c = omega (arith, enough c.before)
 
 pub limits-requires : goal.limits-requires
-limits-requires c κs = omega (arith, enough c.before)
+limits-requires c = omega (arith, enough c.before)
 
 pub returns-then-not-limits_ok : goal.returns-then-not-limits_ok
 returns-then-not-limits_ok c = stop (passed-1 c.before.before.before.before) (limits c.before false (not-true _ c.if-not-limits_ok.true))
 
 pub costs-requires : goal.costs-requires
-costs-requires c κs = omega (arith, enough c.before.before.before.before)
+costs-requires c = omega (arith, enough c.before.before.before.before)
 
 pub returns-then-not-costs_ok : goal.returns-then-not-costs_ok
 returns-then-not-costs_ok c = stop (passed-2 c.before.before.before) (costs c.before false (not-true _ c.if-not-costs_ok.true))
@@ -87,13 +87,13 @@ pub returns-then-setup : goal.returns-then-setup
 returns-then-setup c = stop (passed-3 c.before.before.before) (lt-leb _ _ c.if-setup.true)
 
 pub functions_ok-requires : goal.functions_ok-requires
-functions_ok-requires c κs = omega (arith, enough c.before.before.before.before.before.before.before.before.before.before)
+functions_ok-requires c = omega (arith, enough c.before.before.before.before.before.before.before.before.before.before)
 
 pub returns-then-not-functions_ok : goal.returns-then-not-functions_ok
 returns-then-not-functions_ok c = stop (passed-4 c.before.before) (sym c.functions_ok.ensures ∙ not-true _ c.if-not-functions_ok.true)
 
 pub hook_ok-requires : goal.hook_ok-requires
-hook_ok-requires c κs = let l = enough c.before.before.before.before.before.before.before.before.before.before.before.before in record { numbers = l.0; functions = l.1 }
+hook_ok-requires c = let l = enough c.before.before.before.before.before.before.before.before.before.before.before.before in record { numbers = l.0; functions = l.1 }
 
 pub returns-then-not-hook_ok : goal.returns-then-not-hook_ok
 returns-then-not-hook_ok c = stop (passed-5 c.before.before) (sym c.hook_ok.ensures ∙ not-true _ c.if-not-hook_ok.true)

@@ -6,7 +6,7 @@ pub returns-then-s : goal.returns-then-s
 returns-then-s c = λ l w b rep. or-close l b.words c.args.m c.args.f w c.args.s rep c.if-s.true
 
 pub charge_done-did-requires : goal.charge_done-did-requires
-charge_done-did-requires c κs = c.requires c.if-s.false
+charge_done-did-requires c = c.requires c.if-s.false
 
 pub returns : goal.returns
 returns c =

@@ -46,7 +46,7 @@ searched c w b rep snd =
     (store-sounds entry.args.pc w entry.pre.charge.narrow snd)
 
 pub start_finalizer-did-requires : goal.start_finalizer-did-requires
-start_finalizer-did-requires c κs =
+start_finalizer-did-requires c =
     let at-store-pc = store-pc-of c in
     let entry = at-store-pc.before.before.before.before.before.before.before.before.before in
     let o = entry.pre.charge.ok in
@@ -56,7 +56,7 @@ start_finalizer-did-requires c κs =
     (at-store-pc.store-pc.ensures entry.args.sizes o.world (record { words = mem entry o.beside; fuel = entry.args.fuel }) o.rep)
 
 pub charge_or-requires : goal.charge_or-requires
-charge_or-requires c κs =
+charge_or-requires c =
     let at-start-finalizer = start-finalizer-of c in let start = start_of at-start-finalizer in
     let o = start.pre.charge.ok in
     unit_left start.args.sizes _ _ _ start.args.fuel (store_pc start.args.pc o.world) _ o.rep.fuel

@@ -26,7 +26,7 @@ returns-then-f-eq0 c =
     (OptPc.Some start.args.pc) c.if-f-eq0.true
 
 pub charge_ready-requires : goal.charge_ready-requires
-charge_ready-requires c κs =
+charge_ready-requires c =
     let start = start_of c.before.before.before.before.before.before.before.before.before.before in
     let p = start.pre in
     record {

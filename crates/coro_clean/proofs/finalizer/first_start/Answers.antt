@@ -13,7 +13,7 @@ pub bounds-finalize-i : goal.bounds-finalize-i
 bounds-finalize-i c = let h = c.requires.words in omega arith
 
 pub may_start-requires : goal.may_start-requires
-may_start-requires c κs = c.requires.may
+may_start-requires c = c.requires.may
 
 pub returns-then-may_start : goal.returns-then-may_start
 returns-then-may_start c =

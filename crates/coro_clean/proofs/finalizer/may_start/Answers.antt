@@ -23,7 +23,7 @@ found c =
     ∙ (stands c.args.m.count c.args.slots.now c.args.v.0 (slot c.before) (sym c.in-At.is ∙ c.coro_place.ensures)).coro
 
 pub coro_at-c-requires : goal.coro_at-c-requires
-coro_at-c-requires c κs = stands-words c.args.m.count c.args.slots.now c.args.v.0 (slot c) (sym c.in-At.is ∙ c.coro_place.ensures) c.requires.table
+coro_at-c-requires c = stands-words c.args.m.count c.args.slots.now c.args.v.0 (slot c) (sym c.in-At.is ∙ c.coro_place.ensures) c.requires.table
 
 pub returns-then-not-is_suspended : goal.returns-then-not-is_suspended
 returns-then-not-is_suspended c =

@@ -58,14 +58,14 @@ entered c w b rep snd =
     (fewer-sound w (entry.args.i + 1) snd)
 
 pub coro_enter-did-requires : goal.coro_enter-did-requires
-coro_enter-did-requires c κs =
+coro_enter-did-requires c =
     let at-take-front = take-front-of c in let entry = start_of at-take-front.before.before in
     fewer-ok entry.args.sizes entry.args.m entry.args.fuel entry.args.stack.now entry.args.frames.now entry.args.chain.now
     entry.args.slots.now entry.args.saved-stack.now entry.args.saved-frames.now
     entry.args.finalize.now at-take-front.take-front.last.0 (entry.args.i + 1) _ entry.pre.ok at-take-front.take-front.ensures at-take-front.take-front.kept.0
 
 pub set_closing-requires : goal.set_closing-requires
-set_closing-requires c κs =
+set_closing-requires c =
     let at-coro-enter = coro-enter-of c in let at-word-at = word-at-of at-coro-enter in let entry = start_of at-word-at in
     let o = entry.pre.ok in
     (entered at-coro-enter o.world o.beside o.rep o.sound).world.slots.within

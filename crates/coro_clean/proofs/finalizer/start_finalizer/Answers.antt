@@ -16,13 +16,13 @@ mem c b = cleaning c.args.stack.now c.args.frames.now c.args.chain.now c.args.sl
     c.args.saved-frames.now c.args.finalize.now plain b
 
 pub first_start-i-requires : goal.first_start-i-requires
-first_start-i-requires c κs =
+first_start-i-requires c =
     let entry = start_of c.before.before in
     let o = entry.pre in
     search-fits entry.args.sizes (mem entry o.beside) entry.args.m entry.args.fuel o.world o.rep o.sound
 
 pub start_at-requires : goal.start_at-requires
-start_at-requires c κs =
+start_at-requires c =
     let entry = start_of c.before.before.before.before.before.before.before.before.before.before.before.before in
     record {
       ok = unbank-ok entry.args.sizes (mem entry) entry.args.m entry.args.fuel c.unbank-f.result c.unbank-f.ensures

@@ -56,16 +56,16 @@ room c =
     (found place p.sizes o.world o.beside o.beside.fuel o.rep).room o.sound o.room (sym c.finalized_at.ensures ∙ c.if-finalized_at.false)
 
 pub coro_place-requires : goal.coro_place-requires
-coro_place-requires c κs = c.requires.ok.rep.slots.within
+coro_place-requires c = c.requires.ok.rep.slots.within
 
 pub state_at-s-requires : goal.state_at-s-requires
-state_at-s-requires c κs = fits c.before
+state_at-s-requires c = fits c.before
 
 pub returns-then-not-is_suspended : goal.returns-then-not-is_suspended
 returns-then-not-is_suspended c = λ l w b rep. (found c.before.before.before.before l w b (start_of c.before.before.before.before).args.fuel rep).not-suspended (suspended-at c.before ∙ not-true _ c.if-not-is_suspended.true)
 
 pub finalized_at-requires : goal.finalized_at-requires
-finalized_at-requires c κs = fits c.before.before.before.before.before
+finalized_at-requires c = fits c.before.before.before.before.before
 
 pub returns-then-finalized_at : goal.returns-then-finalized_at
 returns-then-finalized_at c =
@@ -74,10 +74,10 @@ returns-then-finalized_at c =
     (sym c.finalized_at.ensures ∙ c.if-finalized_at.true)
 
 pub put_finalized-requires : goal.put_finalized-requires
-put_finalized-requires c κs = fits (place_of c.before.before)
+put_finalized-requires c = fits (place_of c.before.before)
 
 pub push_back-requires : goal.push_back-requires
-push_back-requires c κs = room c.before.before.before.before.before
+push_back-requires c = room c.before.before.before.before.before
 
 pub overflow_add-n : goal.overflow_add-n
 overflow_add-n c = omega (arith, room c.before.before.before.before.before.before.before.before.before, (start_of (place_of c.before.before.before.before.before.before.before.before.before.before)).well-formed)

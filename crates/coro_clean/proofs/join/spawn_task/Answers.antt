@@ -56,16 +56,16 @@ room c =
     (found asked.before.before p.sizes o.world o.beside o.rep).room o.sound o.room (sym asked.task-at.ensures ∙ c.if-task_at.false)
 
 pub coro_place-requires : goal.coro_place-requires
-coro_place-requires c κs = c.requires.ok.rep.slots.within
+coro_place-requires c = c.requires.ok.rep.slots.within
 
 pub task_at-requires : goal.task_at-requires
-task_at-requires c κs = fits c.before
+task_at-requires c = fits c.before
 
 pub returns-then-task_at : goal.returns-then-task_at
 returns-then-task_at c = λ l w b rep. (found c.before.before.before l w b rep).already (sym c.task_at.ensures ∙ c.if-task_at.true)
 
 pub state_at-s-requires : goal.state_at-s-requires
-state_at-s-requires c κs = fits c.before.before.before.before
+state_at-s-requires c = fits c.before.before.before.before
 
 pub returns-then-not-is_resumable : goal.returns-then-not-is_resumable
 returns-then-not-is_resumable c =
@@ -73,10 +73,10 @@ returns-then-not-is_resumable c =
     (found c.before.before.before.before.before.before.before l w b rep).late (sym c.task_at.ensures ∙ c.if-task_at.false) (resumable c.before ∙ not-true _ c.if-not-is_resumable.true)
 
 pub put_task-requires : goal.put_task-requires
-put_task-requires c κs = fits (task-of c.before).before.before
+put_task-requires c = fits (task-of c.before).before.before
 
 pub push_back-requires : goal.push_back-requires
-push_back-requires c κs = room c.before.before.before.before.before
+push_back-requires c = room c.before.before.before.before.before
 
 pub overflow_add-n : goal.overflow_add-n
 overflow_add-n c = omega (arith, room c.before.before.before.before.before.before.before.before.before, (start_of (task-of c.before.before.before.before.before.before.before.before.before).before.before).well-formed)

@@ -42,25 +42,25 @@ told c =
     numbers a.sizes (mem start o.beside) a.m o.beside.fuel o.world o.rep a.f o.sound start.pre.function c.regs_at-regs.result c.regs_at-regs.ensures
 
 pub regs_at-regs-requires : goal.regs_at-regs-requires
-regs_at-regs-requires c κs =
+regs_at-regs-requires c =
     let a = c.args in let o = c.requires.ok in
     in-setup a.sizes (mem c.before.before.before.before o.beside) a.m o.beside.fuel o.world o.rep a.f o.sound c.requires.function o.room
 
 pub find_spot-requires : goal.find_spot-requires
-find_spot-requires c κs = let k = told c.before in record { words = (start_of c.before).requires.ok.rep.slots.within; rows = k.rows; bytes = k.first }
+find_spot-requires c = let k = told c.before in record { words = (start_of c.before).requires.ok.rep.slots.within; rows = k.rows; bytes = k.first }
 
 pub bytes-charge-requires : goal.bytes-charge-requires
-bytes-charge-requires c κs = (told (regs-at-of c.before.before.before)).second
+bytes-charge-requires c = (told (regs-at-of c.before.before.before)).second
 
 pub alloc-requires : goal.alloc-requires
-alloc-requires c κs =
+alloc-requires c =
     let at-regs-at = regs-at-of c.before.before.before.before.before.before in let start = start_of at-regs-at in
     let e : c.heap_of.result.slots ≡ start.args.sizes.slots = ap (λ x. x.slots) c.heap_of.ensures in
     let k = (told at-regs-at).slots in let r = room start in
     record { words = omega arith; slots = omega arith }
 
 pub write_row-requires : goal.write_row-requires
-write_row-requires c κs =
+write_row-requires c =
     let at-regs-at = regs-at-of c.before.before.before.before.before.before.before.before.before.before.before.before.before.before in let start = start_of at-regs-at in let a = start.args in let o = start.pre.ok in
     write-fits a.sizes (mem start o.beside) a.m o.beside.fuel o.world o.rep o.sound a.f a.closure a.n at-regs-at.regs-at.result a.args
     (few start) start.pre.function at-regs-at.regs-at.ensures (row c.before.before.before.before.before.before.before.before.before.before.before.before.before.before) (found c.before.before.before.before.before.before.before.before.before.before.before.before.before.before) start.pre.few

@@ -13,7 +13,7 @@ abbrev start_of : After-args-1 → Start
 start_of c = c.before.before.before.before.before.before
 
 pub fill_row-requires : goal.fill_row-requires
-fill_row-requires c κs = let k =
+fill_row-requires c = let k =
     copied-fits (start_of c).args.n (start_of c).args.regs in
     let e = (copied-of c).copied.ensures in
     let p = (start_of c).requires in

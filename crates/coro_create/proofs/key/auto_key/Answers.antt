@@ -5,7 +5,7 @@ use Rattle.coro_create.proofs.Keying.{key-over, key-refused, key-made}
 use Rattle.coro_create.proofs.key.auto_key.Goals as goal
 
 pub encode_int-requires : goal.encode_int-requires
-encode_int-requires c κs =
+encode_int-requires c =
     let e : c.heap_of.result.slots ≡ c.args.sizes.slots = ap (λ x. x.slots) c.heap_of.ensures in
     let p = c.requires in
     let p₁ = p.words in

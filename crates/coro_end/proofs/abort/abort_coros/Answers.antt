@@ -5,7 +5,7 @@ use Rattle.coro_end.proofs.Failing.{aborted}
 use Rattle.coro_end.proofs.abort.abort_coros.Goals as goal
 
 pub fail_all-failed-requires : goal.fail_all-failed-requires
-fail_all-failed-requires c κs = c.requires
+fail_all-failed-requires c = c.requires
 
 pub returns : goal.returns
 returns c =

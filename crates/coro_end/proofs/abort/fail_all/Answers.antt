@@ -34,7 +34,7 @@ loop-n-init c =
     along-start a.sizes (ending a.chain.now a.slots.now a.saved_stack.now a.saved_frames.now plain) a.m c.requires
 
 pub end_last-n-requires : goal.end_last-n-requires
-end_last-n-requires c κs = record { held = c.loop-n.invariant.some; ends = refl }
+end_last-n-requires c = record { held = c.loop-n.invariant.some; ends = refl }
 
 pub loop-n-smaller : goal.loop-n-smaller
 loop-n-smaller c =

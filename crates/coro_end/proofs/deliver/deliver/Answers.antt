@@ -6,10 +6,10 @@ use Rattle.coro_end.proofs.Delivery.{told-host, to-driver, to-host, to-cleanup}
 use Rattle.coro_end.proofs.deliver.deliver.Goals as goal
 
 pub deliver_resume-answer-requires : goal.deliver_resume-answer-requires
-deliver_resume-answer-requires c κs = c.requires.resumes c.in-Resume.dst c.in-Resume.is
+deliver_resume-answer-requires c = c.requires.resumes c.in-Resume.dst c.in-Resume.is
 
 pub deliver_iter-answer-requires : goal.deliver_iter-answer-requires
-deliver_iter-answer-requires c κs = c.requires.iterates c.in-Iter.has c.in-Iter.val c.in-Iter.iter c.in-Iter.is
+deliver_iter-answer-requires c = c.requires.iterates c.in-Iter.has c.in-Iter.val c.in-Iter.iter c.in-Iter.is
 
 pub returns-in-Resume : goal.returns-in-Resume
 returns-in-Resume c =

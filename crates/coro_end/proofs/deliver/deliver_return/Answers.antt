@@ -6,10 +6,10 @@ use Rattle.coro_end.proofs.Delivery.{sent, told-host, return-to}
 use Rattle.coro_end.proofs.deliver.deliver_return.Goals as goal
 
 pub coro_send-requires : goal.coro_send-requires
-coro_send-requires c κs = c.requires.resumes c.in-Resume.dst c.in-Resume.is
+coro_send-requires c = c.requires.resumes c.in-Resume.dst c.in-Resume.is
 
 pub iter_returned-requires : goal.iter_returned-requires
-iter_returned-requires c κs = let f = c.requires.iterates c.in-Iter.has c.in-Iter.val c.in-Iter.iter c.in-Iter.is in (f.table, f.flag)
+iter_returned-requires c = let f = c.requires.iterates c.in-Iter.has c.in-Iter.val c.in-Iter.iter c.in-Iter.is in (f.table, f.flag)
 
 pub returns-in-Resume : goal.returns-in-Resume
 returns-in-Resume c =

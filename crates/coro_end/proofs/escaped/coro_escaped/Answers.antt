@@ -23,7 +23,7 @@ returns-then-m-eq0 c =
     w a.value a.func a.pc rep c.if-m-eq0.true
 
 pub closed_by-requires : goal.closed_by-requires
-closed_by-requires c κs = (start_of c.before.before.before.before.before).requires.held.rep.slots.within
+closed_by-requires c = (start_of c.before.before.before.before.before).requires.held.rep.slots.within
 
 pub returns-then-closed_by : goal.returns-then-closed_by
 returns-then-closed_by c =
@@ -40,7 +40,7 @@ returns-then-closed_by c =
     f.result.machine f.result.fuel w a.value a.func a.pc x t closed (f.ensures w b rep rowed)
 
 pub end_last-n-requires : goal.end_last-n-requires
-end_last-n-requires c κs =
+end_last-n-requires c =
     let start = start_of c.before.before.before.before.before.before.before.before.before.before.before in
     let a = start.args in
     end_fits a.sizes a.m a.stack.now a.frames.now a.chain.now a.slots.now a.saved-stack.now a.saved-frames.now start.pre CoroState.Failed refl

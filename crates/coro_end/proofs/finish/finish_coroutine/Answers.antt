@@ -10,7 +10,7 @@ abbrev start_of : After-coro → Start
 start_of c = c.before.before.before.before.before
 
 pub give_back_row-requires : goal.give_back_row-requires
-give_back_row-requires c κs =
+give_back_row-requires c =
     let start = start_of c.before.before.before.before.before in
     let h = start.pre.held in
     free-fits start.args.sizes (rows start.args.slots.now start.args.saved-stack.now start.args.saved-frames.now plain h.beside)
@@ -18,7 +18,7 @@ give_back_row-requires c κs =
     (sym c.in-At.is ∙ c.coro.ensures)
 
 pub mark_ended-requires : goal.mark_ended-requires
-mark_ended-requires c κs =
+mark_ended-requires c =
     let start = start_of c.before.before.before.before.before.before.before.before.before.before.before in
     let h = start.pre.held in
     slot-fits start.args.sizes (rows start.args.slots.now start.args.saved-stack.now start.args.saved-frames.now plain h.beside)

@@ -7,7 +7,7 @@ pub returns-then-is_finished : goal.returns-then-is_finished
 returns-then-is_finished c = record { row = λ e. no_true (sym (sym c.is_finished.ensures ∙ c.if-is_finished.true) ∙ e); none = λ e. (refl, refl) }
 
 pub clear_row-requires : goal.clear_row-requires
-clear_row-requires c κs = c.requires.row (sym c.is_finished.ensures ∙ c.if-is_finished.false)
+clear_row-requires c = c.requires.row (sym c.is_finished.ensures ∙ c.if-is_finished.false)
 
 pub returns : goal.returns
 returns c = record { row = λ e. c.clear_row.ensures; none = λ e. no_true (sym e ∙ sym c.is_finished.ensures ∙ c.if-is_finished.false) }

@@ -7,7 +7,7 @@ use Rattle.coro_end.proofs.Iterators.{iter-here}
 use Rattle.coro_end.proofs.iter.iter_at.Goals as goal
 
 pub object_at-requires : goal.object_at-requires
-object_at-requires c κs = found-words c.args.count c.args.slots.now c.args.v.0 c.in-At.i (sym c.in-At.is ∙ c.get.ensures) c.requires
+object_at-requires c = found-words c.args.count c.args.slots.now c.args.v.0 c.in-At.i (sym c.in-At.is ∙ c.get.ensures) c.requires
 
 pub returns-in-Nothing : goal.returns-in-Nothing
 returns-in-Nothing c = ap (iter_by (slots_of c.args.count c.args.slots.now)) (sym c.in-Nothing.is ∙ c.get.ensures)

@@ -6,7 +6,7 @@ use Rattle.coro_end.proofs.Iterators.{iter-words, iter-absent, iter-changed}
 use Rattle.coro_end.proofs.iter.set_key.Goals as goal
 
 pub put_iter-requires : goal.put_iter-requires
-put_iter-requires c κs =
+put_iter-requires c =
     iter-words c.args.m.count c.args.slots.now c.args.v.0 c.in-At.slot c.in-At.src
     c.in-At.done c.in-At.key (sym c.in-At.is ∙ c.iter_at.ensures) c.requires
 

@@ -14,7 +14,7 @@ returns-then-m-eq0 c =
     a.s a.result c.if-m-eq0.true
 
 pub finish_coroutine-requires : goal.finish_coroutine-requires
-finish_coroutine-requires c κs =
+finish_coroutine-requires c =
     let a = c.args in
     let some : 1 ≤ a.m.active = omega (arith, c.if-m-eq0.false) in
     finish-fits a.sizes a.m a.chain.now a.slots.now a.saved_stack.now a.saved_frames.now a.s c.requires c.active_at-last.result some

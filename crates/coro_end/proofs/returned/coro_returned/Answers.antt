@@ -23,13 +23,13 @@ returns-then-m-eq0 c =
     a.value rep c.if-m-eq0.true
 
 pub end_last-n-requires : goal.end_last-n-requires
-end_last-n-requires c κs =
+end_last-n-requires c =
     let start = start_of c.before.before.before.before.before.before.before.before in
     let a = start.args in
     end_fits a.sizes a.m a.stack.now a.frames.now a.chain.now a.slots.now a.saved-stack.now a.saved-frames.now start.pre CoroState.Returned refl
 
 pub deliver_return-requires : goal.deliver_return-requires
-deliver_return-requires c κs =
+deliver_return-requires c =
     let start = start_of c.before.before.before.before.before.before.before.before.before.before.before.before.before.before.before.before.before.before.before.before in
     let a = start.args in
     let f = c.end_last-n in

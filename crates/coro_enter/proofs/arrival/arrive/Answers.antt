@@ -3,7 +3,7 @@ use Rattle.coro_enter.proofs.Entries.{arrive-fresh, arrive-sent, arrive-refused}
 use Rattle.coro_enter.proofs.arrival.arrive.Goals as goal
 
 pub coro_send-requires : goal.coro_send-requires
-coro_send-requires c κs = c.requires.waits c.in-Suspended.d c.in-Suspended.is
+coro_send-requires c = c.requires.waits c.in-Suspended.d c.in-Suspended.is
 
 pub returns-in-Fresh : goal.returns-in-Fresh
 returns-in-Fresh c = λ l w b rep. arrive-fresh l _ c.args.m b.fuel w c.args.a c.args.sent c.in-Fresh.is rep

@@ -16,7 +16,7 @@ abbrev start_of : After-store_enter-did → Start
 start_of c = c.before.before.before.before.before.before.before.before.before.before.before.before.before
 
 pub arrive-step-requires : goal.arrive-step-requires
-arrive-step-requires c κs =
+arrive-step-requires c =
     let at-store-enter = store-enter-of c in let start = start_of at-store-enter in
     let o = start.pre.ok in let u = store_pc start.args.pc o.world in
     arrive-fits start.args.sizes _ at-store-enter.store-enter.result.machine _ start.args.v start.args.d u

@@ -11,7 +11,7 @@ abbrev mem : Start → Beside → Lent
 mem c b = lent c.args.stack.now c.args.frames.now c.args.chain.now c.args.slots.now c.args.saved-stack.now c.args.saved-frames.now b
 
 pub coro_enter-requires : goal.coro_enter-requires
-coro_enter-requires c κs =
+coro_enter-requires c =
     let o = c.requires.ok in
     stored_ok c.args.sizes (only c.args.m) c.args.stack.now c.args.frames.now c.args.chain.now c.args.slots.now
     c.args.saved_stack.now c.args.saved_frames.now

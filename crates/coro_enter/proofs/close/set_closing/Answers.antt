@@ -9,7 +9,7 @@ use Rattle.coro_enter.proofs.Closing.{closing-rep}
 use Rattle.coro_enter.proofs.close.set_closing.Goals as goal
 
 pub put_closing-requires : goal.put_closing-requires
-put_closing-requires c κs = stands-words c.args.m.count c.args.slots.now c.args.v.0 c.in-At.i (sym c.in-At.is ∙ c.coro_place.ensures) c.requires
+put_closing-requires c = stands-words c.args.m.count c.args.slots.now c.args.v.0 c.in-At.i (sym c.in-At.is ∙ c.coro_place.ensures) c.requires
 
 pub returns-in-Not : goal.returns-in-Not
 returns-in-Not c =

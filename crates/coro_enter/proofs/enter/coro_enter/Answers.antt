@@ -53,13 +53,13 @@ sum c =
     ok-sums start.pre start.args.v.0 (found c.before.before.before) c.refusal-fault.ensures (none c)
 
 pub coro_at-c-requires : goal.coro_at-c-requires
-coro_at-c-requires c κs =
+coro_at-c-requires c =
     let start = start-of-coro-place c.before.before.before.before in
     stands-words start.args.m.count start.args.slots.now start.args.v.0 c.in-At.i
     (sym c.in-At.is ∙ c.coro_place.ensures) start.pre.rep.slots.within
 
 pub refusal-fault-requires : goal.refusal-fault-requires
-refusal-fault-requires c κs = let start = start_of c in ok-before start.pre start.args.v.0 (found c)
+refusal-fault-requires c = let start = start_of c in ok-before start.pre start.args.v.0 (found c)
 
 pub returns-then-number-ne0 : goal.returns-then-number-ne0
 returns-then-number-ne0 c =
@@ -68,18 +68,18 @@ returns-then-number-ne0 c =
     (found c.before.before.before) start.args.d c.refusal-fault.result c.refusal-fault.ensures (λ z. c.if-number-ne0.true (c.number.ensures ∙ z))
 
 pub move_in-requires : goal.move_in-requires
-move_in-requires c κs =
+move_in-requires c =
     let start = start_of c.before.before.before.before.before.before.before in
     ok-moves start.pre start.args.v.0 (found c.before.before.before.before.before.before.before) c.refusal-fault.ensures (none c.before.before.before.before) (omega (arith, start.good))
 
 pub push_active-requires : goal.push_active-requires
-push_active-requires c κs = (sum (if1-of c)).chain
+push_active-requires c = (sum (if1-of c)).chain
 
 pub put_entered-requires : goal.put_entered-requires
-put_entered-requires c κs = (sum (if1-of c.before.before.before.before)).slot
+put_entered-requires c = (sum (if1-of c.before.before.before.before)).slot
 
 pub entered-requires : goal.entered-requires
-entered-requires c κs =
+entered-requires c =
     let at-if1 = if1-of c.before.before.before.before.before.before.before in
     let start = start_of at-if1.before.before.before in
     let s = sum at-if1 in let h₁ = s.height in let h₂ = s.depth in let h₃ = s.active in (omega (arith, h₁, start.good), omega (arith, h₂, start.good), omega (arith, h₃, start.good))

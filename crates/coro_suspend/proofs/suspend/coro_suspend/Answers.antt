@@ -35,16 +35,16 @@ returns-then-m-a c =
     start.args.keys w rep c.active_at-a.result (some c.before.before.before.before.before) c.active_at-a.ensures c.if-m-a.true
 
 pub coro_place-requires : goal.coro_place-requires
-coro_place-requires c κs = (start_of c.before.before.before.before.before.before).requires.ok.rep.slots.within
+coro_place-requires c = (start_of c.before.before.before.before.before.before).requires.ok.rep.slots.within
 
 pub coro_at-c-requires : goal.coro_at-c-requires
-coro_at-c-requires c κs =
+coro_at-c-requires c =
     let start = start_of c.before.before.before.before.before.before.before.before.before.before.before in
     stands-words start.args.m.count start.args.slots.now c.active_at-a.result.coro c.in-At.i
     (sym c.in-At.is ∙ c.coro_place.ensures) start.pre.ok.rep.slots.within
 
 pub suspend_found-requires : goal.suspend_found-requires
-suspend_found-requires c κs =
+suspend_found-requires c =
     let start = start_of c.before.before.before.before.before.before.before.before.before.before.before.before.before.before.before.before.before.before in
     record {
       ok = start.pre.ok;

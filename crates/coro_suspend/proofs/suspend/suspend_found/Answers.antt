@@ -25,23 +25,23 @@ pub overflow_sub-regs : goal.overflow_sub-regs
 overflow_sub-regs c = (found_before (start_of c.before).requires c.base_at-base.ensures).under
 
 pub growth-grow-requires : goal.growth-grow-requires
-growth-grow-requires c κs = let k = found_before (start_of c.before.before).requires c.base_at-base.ensures in (k.regs, k.frames, k.cost)
+growth-grow-requires c = let k = found_before (start_of c.before.before).requires c.base_at-base.ensures in (k.regs, k.frames, k.cost)
 
 pub move_out-requires : goal.move_out-requires
-move_out-requires c κs = let read = read_of c in found-leaves (start_of read).pre read.base-at.ensures
+move_out-requires c = let read = read_of c in found-leaves (start_of read).pre read.base-at.ensures
 
 pub pop_active-requires : goal.pop_active-requires
-pop_active-requires c κs =
+pop_active-requires c =
     let read = read_of c.before.before.before.before.before.before.before.before.before.before in let p = (start_of read).pre in
     (p.some, (found_before p read.base-at.ensures).chain)
 
 pub put_suspended-requires : goal.put_suspended-requires
-put_suspended-requires c κs =
+put_suspended-requires c =
     let read = read_of c.before.before.before.before.before.before.before.before.before.before.before.before.before.before.before in
     (found_before (start_of read).pre read.base-at.ensures).slot
 
 pub shrunk-requires : goal.shrunk-requires
-shrunk-requires c κs = (start_of (read_of (move-out-of c).before)).requires.some
+shrunk-requires c = (start_of (read_of (move-out-of c).before)).requires.some
 
 pub returns-in-OutOfMemory : goal.returns-in-OutOfMemory
 returns-in-OutOfMemory c =

@@ -9,19 +9,19 @@ abbrev start_of : After-shared_slice_known-1 → Start
 start_of c = c.before.before.before.before.before.before.before
 
 pub resume-did-requires : goal.resume-did-requires
-resume-did-requires c κs = let at_op = c.before.before.before.before.before.before.before in resume-fits (start_of at_op.before.before).requires at_op.op.given.1
+resume-did-requires c = let at_op = c.before.before.before.before.before.before.before in resume-fits (start_of at_op.before.before).requires at_op.op.given.1
 
 pub resume_throw-did-requires : goal.resume_throw-did-requires
-resume_throw-did-requires c κs = let at_op = c.before.before.before.before.before.before.before in throw-fits (start_of at_op.before.before).requires at_op.op2.given.1
+resume_throw-did-requires c = let at_op = c.before.before.before.before.before.before.before in throw-fits (start_of at_op.before.before).requires at_op.op2.given.1
 
 pub coro_close-did-requires : goal.coro_close-did-requires
-coro_close-did-requires c κs = let at_op = c.before.before.before.before.before.before.before in close-fits (start_of at_op.before.before).requires at_op.op3.given.1
+coro_close-did-requires c = let at_op = c.before.before.before.before.before.before.before in close-fits (start_of at_op.before.before).requires at_op.op3.given.1
 
 pub iter_next-did-requires : goal.iter_next-did-requires
-iter_next-did-requires c κs = let at_op = c.before.before.before.before.before.before.before in next_fits (start_of at_op.before.before).requires at_op.op4.given.1
+iter_next-did-requires c = let at_op = c.before.before.before.before.before.before.before in next_fits (start_of at_op.before.before).requires at_op.op4.given.1
 
 pub staying-requires : goal.staying-requires
-staying-requires c κs = (start_of c.before.before.before.before.before.before.before).requires
+staying-requires c = (start_of c.before.before.before.before.before.before.before).requires
 
 pub returns-in-Resume : goal.returns-in-Resume
 returns-in-Resume c = λ s pc t arm q w b rep snd. as-arm q c.in-Resume.is (c.resume-did.ensures w (around rep) rep snd)
@@ -38,4 +38,4 @@ returns-in-IterNext c = λ s pc t arm q w b rep snd. as-arm q c.in-IterNext.is (
 pub returns-in_default : goal.returns-in_default
 returns-in_default c =
     λ s.
-    c.staying.ensures s (not-entering _ c.in_default.keys5)
+    c.staying.ensures s (not-entering _ c.in_default.in_default-own.keys5)

@@ -12,25 +12,25 @@ abbrev start_of : After-shared_slice_known-1 → Start
 start_of c = c.before.before.before.before.before.before.before
 
 pub coro_new-did-requires : goal.coro_new-did-requires
-coro_new-did-requires c κs = let at_told = c.before.before.before.before.before in let at_op = at_told.before in new-fits (start_of at_op.before.before).requires at_op.op.given.1 (let k = at_told.known-told.given in omega arith)
+coro_new-did-requires c = let at_told = c.before.before.before.before.before in let at_op = at_told.before in new-fits (start_of at_op.before.before).requires at_op.op.given.1 (let k = at_told.known-told.given in omega arith)
 
 pub coro_new_indirect-did-requires : goal.coro_new_indirect-did-requires
-coro_new_indirect-did-requires c κs = let at_told = c.before.before.before.before.before in let at_op = at_told.before in indirect-fits (start_of at_op.before.before).requires at_op.op2.given.1 (let k = at_told.known-told2.given in omega arith)
+coro_new_indirect-did-requires c = let at_told = c.before.before.before.before.before in let at_op = at_told.before in indirect-fits (start_of at_op.before.before).requires at_op.op2.given.1 (let k = at_told.known-told2.given in omega arith)
 
 pub spawn-requires : goal.spawn-requires
-spawn-requires c κs = let at_told = c.before.before.before.before.before in let at_op = at_told.before in spawn-fits (start_of at_op.before.before).requires at_op.op3.given.1 (let k = at_told.known-told3.given in omega arith)
+spawn-requires c = let at_told = c.before.before.before.before.before in let at_op = at_told.before in spawn-fits (start_of at_op.before.before).requires at_op.op3.given.1 (let k = at_told.known-told3.given in omega arith)
 
 pub coro_status-step-requires : goal.coro_status-step-requires
-coro_status-step-requires c κs = let at_op = c.before.before.before.before in ask-fits (start_of at_op.before.before).requires (ap table at_op.op4.given.1)
+coro_status-step-requires c = let at_op = c.before.before.before.before in ask-fits (start_of at_op.before.before).requires (ap table at_op.op4.given.1)
 
 pub coro_current-step-requires : goal.coro_current-step-requires
-coro_current-step-requires c κs = let at_op = c.before.before.before.before in current-fits (start_of at_op.before.before).requires at_op.op5.given.1
+coro_current-step-requires c = let at_op = c.before.before.before.before in current-fits (start_of at_op.before.before).requires at_op.op5.given.1
 
 pub coro_key-step-requires : goal.coro_key-step-requires
-coro_key-step-requires c κs = let at_op = c.before.before.before.before in ask-fits (start_of at_op.before.before).requires (ap table at_op.op6.given.1)
+coro_key-step-requires c = let at_op = c.before.before.before.before in ask-fits (start_of at_op.before.before).requires (ap table at_op.op6.given.1)
 
 pub coro_result-step-requires : goal.coro_result-step-requires
-coro_result-step-requires c κs = let at_op = c.before.before.before.before in ask-fits (start_of at_op.before.before).requires (ap table at_op.op7.given.1)
+coro_result-step-requires c = let at_op = c.before.before.before.before in ask-fits (start_of at_op.before.before).requires (ap table at_op.op7.given.1)
 
 pub returns-in-CoroNew : goal.returns-in-CoroNew
 returns-in-CoroNew c = λ s e pc t arm q w b rep snd. as-arm q c.in-CoroNew.is (c.coro_new-did.ensures w (around rep) rep snd)
@@ -54,4 +54,4 @@ pub returns-in-CoroResult : goal.returns-in-CoroResult
 returns-in-CoroResult c = λ s e pc t arm q w b rep snd. as-arm q c.in-CoroResult.is (c.coro_result-step.ensures _ w (around rep) rep)
 
 pub returns-in_default : goal.returns-in_default
-returns-in_default c = λ s e. no-group c.args.op _ s e c.in_default.keys8
+returns-in_default c = λ s e. no-group c.args.op _ s e c.in_default.in_default-own.keys8

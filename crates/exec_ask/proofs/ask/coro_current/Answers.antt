@@ -4,7 +4,7 @@ use Rattle.exec_ask.proofs.Asked.{current-told}
 use Rattle.exec_ask.proofs.ask.coro_current.Goals as goal
 
 pub current-v-requires : goal.current-v-requires
-current-v-requires c κs = c.requires.running
+current-v-requires c = c.requires.running
 
 pub returns : goal.returns
 returns c =

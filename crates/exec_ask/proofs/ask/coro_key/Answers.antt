@@ -10,7 +10,7 @@ use Rattle.exec_ask.proofs.Asked.{key-refused, key-told}
 use Rattle.exec_ask.proofs.ask.coro_key.Goals as goal
 
 pub key_at-key-requires : goal.key_at-key-requires
-key_at-key-requires c κs =
+key_at-key-requires c =
     stands-words c.args.m.count c.args.slots.now c.reg-v.result c.in-At.i
     (sym c.in-At.is ∙ c.coro_place.ensures) c.requires.table
 

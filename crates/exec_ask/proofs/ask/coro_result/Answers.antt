@@ -17,7 +17,7 @@ abbrev start_of : After-reg-v → Start
 start_of c = c.before.before.before.before.before
 
 pub state_at-state-requires : goal.state_at-state-requires
-state_at-state-requires c κs =
+state_at-state-requires c =
     let start = start_of c.before.before.before.before in
     stands-words start.args.m.count start.args.slots.now c.reg-v.result c.in-At.i
     (sym c.in-At.is ∙ c.coro_place.ensures) start.pre.table
@@ -34,7 +34,7 @@ returns-then-not-is_returned c =
     ∙ sym c.is_returned.ensures ∙ not-true _ c.if-not-is_returned.true) rep
 
 pub result_at-result-requires : goal.result_at-result-requires
-result_at-result-requires c κs =
+result_at-result-requires c =
     let start = start_of c.before.before.before.before.before.before.before in
     stands-words start.args.m.count start.args.slots.now c.reg-v.result c.in-At.i
     (sym c.in-At.is ∙ c.coro_place.ensures) start.pre.table

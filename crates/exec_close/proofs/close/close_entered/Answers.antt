@@ -7,5 +7,5 @@ returns-in-Refused c = λ l w b rep. closes-refused l _ c.args.m b.fuel w c.args
 
 pub returns : goal.returns
 returns c =
-    λ l w b rep. closes-entered l _ c.args.m b.fuel w c.args.v c.args.signal c.args.a c.in_default.keys2
+    λ l w b rep. closes-entered l _ c.args.m b.fuel w c.args.v c.args.signal c.args.a c.in_default.in_default-own.keys2
     (c.set_closing.ensures l w b rep)

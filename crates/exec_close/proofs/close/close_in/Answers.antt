@@ -16,7 +16,7 @@ abbrev start_of : After-store_enter-did → Start
 start_of c = c.before.before.before.before.before.before.before.before.before.before.before.before.before
 
 pub close_entered-step-requires : goal.close_entered-step-requires
-close_entered-step-requires c κs =
+close_entered-step-requires c =
     let at-store-enter = store-enter-of c in let o = (start_of at-store-enter).pre.ok in
     let did = at-store-enter.store-enter.ensures o.world o.beside o.rep o.sound in
     did.world.slots.within

@@ -30,7 +30,7 @@ returns-then-is_running c =
     (sym c.is_running.ensures ∙ c.if-is_running.true) rep
 
 pub end_created-requires : goal.end_created-requires
-end_created-requires c κs =
+end_created-requires c =
     let start = start_of c.before.before.before.before.before.before in let o = start.pre.entry.ok in
     finish-asks o.world o.sound start.args.sizes (rows start.args.slots.now start.args.saved-stack.now start.args.saved-frames.now plain) start.args.m
     (record { words = mem start o.beside; fuel = o.beside.fuel }) CoroState.Returned refl o.rep

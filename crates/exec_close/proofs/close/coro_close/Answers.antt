@@ -14,7 +14,7 @@ abbrev mem : Start → Beside → Lent
 mem c b = lent c.args.stack.now c.args.frames.now c.args.chain.now c.args.slots.now c.args.saved-stack.now c.args.saved-frames.now b
 
 pub close_to-requires : goal.close_to-requires
-close_to-requires c κs =
+close_to-requires c =
     let p = (start_of c.before.before.before.before.before.before.before.before.before.before.before.before.before.before).requires in
     record { entry = record { ok = p.ok; narrow = p.narrow; some = p.result.some }; result = p.result }
 

@@ -3,7 +3,7 @@ use Rattle.exec_enter.proofs.Sent.{resumed}
 use Rattle.exec_enter.proofs.resume.resume.Goals as goal
 
 pub enter_send-requires : goal.enter_send-requires
-enter_send-requires c κs =
+enter_send-requires c =
     let p = c.requires in
     record { ok = p.ok; narrow = p.narrow; some = p.coro.some }
 

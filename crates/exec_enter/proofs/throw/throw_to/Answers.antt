@@ -17,7 +17,7 @@ abbrev mem : Start → Beside → Lent
 mem c b = lent c.args.stack.now c.args.frames.now c.args.chain.now c.args.slots.now c.args.saved-stack.now c.args.saved-frames.now b
 
 pub finish_coroutine-requires : goal.finish_coroutine-requires
-finish_coroutine-requires c κs =
+finish_coroutine-requires c =
     let start = start_of c.before.before.before.before in
     let o = start.pre.ok in
     finish-asks o.world o.sound start.args.sizes (rows start.args.slots.now start.args.saved-stack.now start.args.saved-frames.now plain) start.args.m

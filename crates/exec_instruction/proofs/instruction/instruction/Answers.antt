@@ -61,7 +61,7 @@ pub overflow_sub-m : goal.overflow_sub-m
 overflow_sub-m c = let h = some c.before.before in omega arith
 
 pub base_at-base-requires : goal.base_at-base-requires
-base_at-base-requires c κs = let h = some c.before.before in let k = (start_of c.before.before).requires.rep.frames.within in omega arith
+base_at-base-requires c = let h = some c.before.before in let k = (start_of c.before.before).requires.rep.frames.within in omega arith
 
 pub bounds-setup-13 : goal.bounds-setup-13
 bounds-setup-13 c = let k = (start_of c.before.before.before.before).requires.room.setup in omega arith
@@ -72,10 +72,10 @@ returns-then-not-passes c = let at-passes =
     λ pc t arm q w b rep snd. bad-operand _ _ _ _ w pc (t w) arm (has-frame rep (some (frame-of at-passes))) (told at-passes w b q rep ∙ not-true _ c.if-not-passes.true) rep
 
 pub charge-paid-requires : goal.charge-paid-requires
-charge-paid-requires c κs = record { ok = charge-ok (start_of c.before.before.before.before.before.before.before.before.before.before.before.before.before.before).requires; narrow = c.pc_of.ensures.narrow; some = some c.before.before.before.before.before.before.before.before.before.before.before.before.before.before }
+charge-paid-requires c = record { ok = charge-ok (start_of c.before.before.before.before.before.before.before.before.before.before.before.before.before.before).requires; narrow = c.pc_of.ensures.narrow; some = some c.before.before.before.before.before.before.before.before.before.before.before.before.before.before }
 
 pub body-did-requires : goal.body-did-requires
-body-did-requires c κs =
+body-did-requires c =
     let at-charge = paid-of c.before.before.before.before.before.before.before in let at-if2 = gate-of at-charge in let at-passes = at-if2.before in
     let ok = (start_of (frame-of at-passes)).requires in let k = at-charge.charge.kept in
     arm-fits ok (some (frame-of at-passes)) refl at-passes.before.before.base-at.ensures

@@ -64,4 +64,4 @@ pub returns-in-PutWord : goal.returns-in-PutWord
 returns-in-PutWord c = λ w k. tested-as w c.in-PutWord.is (and_at c.both-in-PutWord.ensures (c.in_frame-in-PutWord.ensures w k.based) refl)
 
 pub returns-in_default : goal.returns-in_default
-returns-in_default c = λ w k. no-operands c.args.op w c.in_default.keys18
+returns-in_default c = λ w k. no-operands c.args.op w c.in_default.in_default-own.keys18

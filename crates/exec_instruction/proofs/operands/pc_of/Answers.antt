@@ -49,4 +49,4 @@ pub returns-in-IterNext : goal.returns-in-IterNext
 returns-in-IterNext c = record { is = λ n t arm q. sym (ap (λ o. pc_of (table o)) c.in-IterNext.is) ∙ ap pc_of q; narrow = search rules }
 
 pub returns-in_default : goal.returns-in_default
-returns-in_default c = record { is = no_arm c.args.op _ c.in_default.keys15; narrow = omega arith }
+returns-in_default c = record { is = no_arm c.args.op _ c.in_default.in_default-own.keys15; narrow = omega arith }

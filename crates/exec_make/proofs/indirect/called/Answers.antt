@@ -21,7 +21,7 @@ returns-then-not-is_function c =
     (sym c.is_function.ensures ∙ not-true _ c.if-not-is_function.true)
 
 pub params_at-requires : goal.params_at-requires
-params_at-requires c κs =
+params_at-requires c =
     let h : c.in-Func.f < get_or c.args.setup.now 13 0 = ltb-true _ _ (sym c.is_function.ensures ∙ not-false _ c.if-not-is_function.false) in
     omega (arith, c.requires.functions)
 

@@ -13,7 +13,7 @@ abbrev mem : Start → Beside → Lent
 mem s b = top_making s.args.stack.now s.args.frames.now s.args.slots.now s.args.saved-stack.now s.args.saved-frames.now s.args.setup.now plain b
 
 pub put_made-step-requires : goal.put_made-step-requires
-put_made-step-requires c κs =
+put_made-step-requires c =
     let o = c.requires.ok in
     still-fits c.args.sizes o.world _ (mem c.before.before.before.before.before.before.before.before.before.before.before.before.before.before.before.before.before.before.before o.beside) _ c.args.m _ o.beside.fuel o.beside.fuel c.args.dst
     (indirect-good c.args.dst c.args.callee c.args.argc o.world (known o.world o.sound)).fact.still
@@ -23,7 +23,7 @@ pub returns : goal.returns
 returns c =
     λ w b rep snd.
     let made = c.indirect-did.ensures w b rep snd in
-    let left = top_making c.args.stack.now c.args.frames.now c.indirect-did.new.saved_frames c.indirect-did.new.1.1.1.0
-    c.indirect-did.new.1.1.1.1.0 c.args.setup.now plain b in
+    let left = top_making c.args.stack.now c.args.frames.now c.indirect-did.new.slots c.indirect-did.new.saved_stack
+    c.indirect-did.new.saved_frames c.args.setup.now plain b in
     indirect-met w c.args.dst c.args.callee c.args.argc c.args.sizes _ _ b.fuel _ _ made.answer
     (c.put_made-step.ensures c.args.sizes (indirect c.args.dst c.args.callee c.args.argc w).world (record { words = left; fuel = b.fuel }) made.world)

@@ -14,12 +14,12 @@ abbrev around : Start → Beside → Beside
 around s b = record { words = mem s b; fuel = b.fuel }
 
 pub called-requires : goal.called-requires
-called-requires c κs =
+called-requires c =
     let o = c.requires.ok in
     called-fits c.args.sizes o.world (mem c.before.before.before.before.before.before.before.before o.beside) c.args.m o.beside.fuel o.rep o.room
 
 pub create-requires : goal.create-requires
-create-requires c κs =
+create-requires c =
     let o = c.requires.ok in
     record {
       ok = o;

@@ -11,7 +11,7 @@ abbrev mem : Start → Beside → Lent
 mem s b = top_making s.args.stack.now s.args.frames.now s.args.slots.now s.args.saved-stack.now s.args.saved-frames.now s.args.setup.now plain b
 
 pub put_made-step-requires : goal.put_made-step-requires
-put_made-step-requires c κs =
+put_made-step-requires c =
     let o = c.requires.ok in
     still-fits c.args.sizes o.world _ (mem c.before.before.before.before.before.before.before.before.before.before.before.before.before.before.before.before.before.before.before o.beside) _ c.args.m _ o.beside.fuel o.beside.fuel c.args.dst
     (create-still c.args.sizes (mem c.before.before.before.before.before.before.before.before.before.before.before.before.before.before.before.before.before.before.before o.beside) c.args.m o.beside.fuel o.world o.rep o.sound c.args.f 0
@@ -22,7 +22,7 @@ pub returns : goal.returns
 returns c =
     λ w b rep snd.
     let made = c.create-did.ensures w b rep snd in
-    let left = top_making c.args.stack.now c.args.frames.now c.create-did.new.saved_frames c.create-did.new.1.1.1.0
-    c.create-did.new.1.1.1.1.0 c.args.setup.now plain b in
+    let left = top_making c.args.stack.now c.args.frames.now c.create-did.new.slots c.create-did.new.saved_stack
+    c.create-did.new.saved_frames c.args.setup.now plain b in
     new-met c.args.sizes _ _ b.fuel w c.args.dst c.args.f c.args.argc _ _ made.answer
     (c.put_made-step.ensures c.args.sizes (coro_create c.args.f 0 (window c.args.dst c.args.argc w) w).world (record { words = left; fuel = b.fuel }) made.world)

@@ -15,7 +15,7 @@ abbrev around : Start → Beside → Beside
 around s b = record { words = mem s b; fuel = b.fuel }
 
 pub coro_create-requires : goal.coro_create-requires
-coro_create-requires c κs =
+coro_create-requires c =
     let o = c.requires.ok in
     record {
       ok = record { world = o.world; beside = around c.before.before.before.before.before.before.before.before.before.before.before.before o.beside; rep = o.rep; sound = o.sound; room = o.room };

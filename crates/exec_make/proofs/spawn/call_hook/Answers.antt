@@ -24,11 +24,11 @@ returns-in-Spent c =
     (subst (λ a. Does c.args.sizes (charge OptPc.None w) (mem c.before.before.before.before.before.before.before b) c.args.m c.charge_plain-paid.result.fuel a) c.in-Spent.is did)
 
 pub push_hook-did-requires : goal.push_hook-did-requires
-push_hook-did-requires c κs = let start = c.before.before.before.before.before.before.before.before in start.requires
+push_hook-did-requires c = let start = c.before.before.before.before.before.before.before.before in start.requires
 
 pub returns : goal.returns
 returns c =
     λ w b rep snd.
     let did = c.charge_plain-paid.ensures c.args.m c.args.sizes w (around c.before.before.before.before.before.before.before.before.before.before.before.before.before.before b) rep in
-    was-paid c.args.hook c.args.pc c.args.dst c.args.c w c.args.sizes _ _ _ c.charge_plain-paid.result.answer _ c.in_default.keys2 did.answer
+    was-paid c.args.hook c.args.pc c.args.dst c.args.c w c.args.sizes _ _ _ c.charge_plain-paid.result.answer _ c.in_default.in_default-own.keys2 did.answer
     (c.push_hook-did.ensures (charge OptPc.None w).world (record { words = b.words; fuel = c.charge_plain-paid.result.fuel }) did.world (paid-sound w snd))

@@ -19,10 +19,10 @@ abbrev around : Start → Beside → Beside
 around s b = record { words = mem s b; fuel = b.fuel }
 
 pub push_at-did-requires : goal.push_at-did-requires
-push_at-did-requires c κs = let start = c.before.before.before.before.before in start.requires.call
+push_at-did-requires c = let start = c.before.before.before.before.before in start.requires.call
 
 pub put-requires : goal.put-requires
-put-requires c κs =
+put-requires c =
     let o = c.requires.call.push.ok in
     let did = c.push_at-did.ensures o.world o.beside o.rep o.sound in
     hook-fits c.args.hook c.args.pc c.args.dst c.args.c o.world c.args.sizes _ _ o.beside.fuel c.in-Word._base
@@ -43,4 +43,4 @@ returns-in-Word c =
     hook-done c.args.hook c.args.pc c.args.dst c.args.c w c.args.sizes _ _ b.fuel c.in-Word._base
     (sym c.in-Word.is ∙ did.answer)
     (c.put.ensures c.args.sizes (push_at c.args.pc c.args.hook nil (Cont.Value c.args.dst) w).world
-    (record { words = top_setup c.args.stack.now c.push_at-did.new.1.0 c.args.setup.now plain b; fuel = b.fuel }) did.world)
+    (record { words = top_setup c.args.stack.now c.push_at-did.new.frames c.args.setup.now plain b; fuel = b.fuel }) did.world)

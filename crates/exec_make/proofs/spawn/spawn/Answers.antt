@@ -33,10 +33,10 @@ returns-in_default c =
     (sym c.in_default.is ∙ c.hook.ensures)
 
 pub indirect-did-requires : goal.indirect-did-requires
-indirect-did-requires c κs = c.requires.indirect
+indirect-did-requires c = c.requires.indirect
 
 pub call_hook-requires : goal.call_hook-requires
-call_hook-requires c κs =
+call_hook-requires c =
     let named = named-of c.before.before.before.before.before.before.before.before.before.before.before.before in
     let p = (start_of c.before.before.before.before.before.before.before.before.before.before.before.before).requires in let o = p.indirect.ok in let k = c.indirect-did.auto in
     hook-asks p named.hook2.given.0.0 (sym named.hook2.given.1 ∙ named.before.before.hook.ensures)

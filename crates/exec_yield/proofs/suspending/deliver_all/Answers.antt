@@ -3,7 +3,7 @@ use Rattle.exec_yield.proofs.Settled.{deliver-done, deliver-refused}
 use Rattle.exec_yield.proofs.suspending.deliver_all.Goals as goal
 
 pub deliver-did-requires : goal.deliver-did-requires
-deliver-did-requires c κs = c.requires.drives c.in-Done.driver c.in-Done.event c.in-Done.is
+deliver-did-requires c = c.requires.drives c.in-Done.driver c.in-Done.event c.in-Done.is
 
 pub returns-in-Done : goal.returns-in-Done
 returns-in-Done c =

@@ -25,12 +25,12 @@ abbrev mem : Start → Beside → Lent
 mem c b = lent c.args.stack.now c.args.frames.now c.args.chain.now c.args.slots.now c.args.saved-stack.now c.args.saved-frames.now b
 
 pub store_pc-requires : goal.store_pc-requires
-store_pc-requires c κs =
+store_pc-requires c =
     let start = start_of c in
     record { some = framed start.pre.run.ok.rep start.pre.run.ok.sound start.pre.run.running; within = start.pre.run.ok.rep.frames.within }
 
 pub coro_suspend-did-requires : goal.coro_suspend-did-requires
-coro_suspend-did-requires c κs =
+coro_suspend-did-requires c =
     let at-store-pc = store-pc-of c in let start = start_of at-store-pc.before in
     let o = start.pre.run.ok in record {
       ok = stored_ok start.args.sizes (only start.args.m) start.args.stack.now start.args.frames.now start.args.chain.now
@@ -41,7 +41,7 @@ coro_suspend-did-requires c κs =
     }
 
 pub deliver_all-requires : goal.deliver_all-requires
-deliver_all-requires c κs =
+deliver_all-requires c =
     let at-coro-suspend = coro-suspend-of c in let at-store-pc = store-pc-of at-coro-suspend.before in
     let start = start_of at-store-pc.before in
     let o = start.pre.run.ok in

@@ -20,7 +20,7 @@ returns-then-m-eq0 c =
     (idle start.args.sizes w (mem start b) start.args.m start.args.fuel rep c.if-m-eq0.true) rep
 
 pub suspend-requires : goal.suspend-requires
-suspend-requires c κs =
+suspend-requires c =
     let start = start_of c.before.before.before.before.before.before.before.before.before.before in
     record { run = record { ok = start.pre.ok; running = some-active start.args.m.active c.if-m-eq0.false; narrow = start.pre.narrow }; state = refl }
 

@@ -27,22 +27,22 @@ overflow_sub-m c =
     some-active start.args.m.active c.if-m-eq0.false
 
 pub active_at-a-requires : goal.active_at-a-requires
-active_at-a-requires c κs =
+active_at-a-requires c =
     let start = start_of c.before.before.before.before.before in
     let h = some-active start.args.m.active c.if-m-eq0.false in let k = start.pre.ok.rep.chain.within in omega arith
 
 pub largest_in-largest-requires : goal.largest_in-largest-requires
-largest_in-largest-requires c κs =
+largest_in-largest-requires c =
     let start = start_of c.before.before.before.before.before.before.before in
     start.pre.ok.rep.slots.within
 
 pub auto_key-did-requires : goal.auto_key-did-requires
-auto_key-did-requires c κs =
+auto_key-did-requires c =
     let start = start_of c.before.before.before.before.before.before.before.before.before in
     heap-room start.pre.ok.rep start.pre.ok.sound start.pre.ok.room
 
 pub yield_key-requires : goal.yield_key-requires
-yield_key-requires c κs =
+yield_key-requires c =
     let start = start_of c.before.before.before.before.before.before.before.before.before.before.before.before.before.before.before.before.before.before.before in
     let o = start.pre.ok in
     key-run start.args.sizes start.args.m _ start.args.stack.now start.args.frames.now start.args.chain.now start.args.slots.now

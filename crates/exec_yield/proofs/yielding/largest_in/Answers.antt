@@ -7,7 +7,7 @@ use Rattle.exec_yield.proofs.Keys.{largest-none, largest-at}
 use Rattle.exec_yield.proofs.yielding.largest_in.Goals as goal
 
 pub coro_at-c-requires : goal.coro_at-c-requires
-coro_at-c-requires c κs = stands-words c.args.m.count c.args.slots.now c.args.v c.in-At.i (sym c.in-At.is ∙ c.coro_place.ensures) c.requires
+coro_at-c-requires c = stands-words c.args.m.count c.args.slots.now c.args.v c.in-At.i (sym c.in-At.is ∙ c.coro_place.ensures) c.requires
 
 pub returns-in-Not : goal.returns-in-Not
 returns-in-Not c =

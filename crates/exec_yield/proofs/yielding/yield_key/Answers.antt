@@ -10,7 +10,7 @@ abbrev mem : Start → Beside → Lent
 mem c b = lent c.args.stack.now c.args.frames.now c.args.chain.now c.args.slots.now c.args.saved-stack.now c.args.saved-frames.now b
 
 pub suspend-requires : goal.suspend-requires
-suspend-requires c κs = record { run = c.requires; state = refl }
+suspend-requires c = record { run = c.requires; state = refl }
 
 pub returns-in-Key : goal.returns-in-Key
 returns-in-Key c =

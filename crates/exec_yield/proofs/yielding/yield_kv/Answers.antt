@@ -21,17 +21,17 @@ returns-then-m-eq0 c =
     start.args.key (idle start.args.sizes w (mem start b) start.args.m start.args.fuel rep c.if-m-eq0.true) rep
 
 pub active_at-a-requires : goal.active_at-a-requires
-active_at-a-requires c κs =
+active_at-a-requires c =
     let start = start_of c.before.before.before.before.before.before.before.before.before in
     let h = some-active start.args.m.active c.if-m-eq0.false in let k = start.pre.plain.ok.rep.chain.within in omega arith
 
 pub keyed-keys-requires : goal.keyed-keys-requires
-keyed-keys-requires c κs =
+keyed-keys-requires c =
     let start = start_of c.before.before.before.before.before.before.before.before.before.before.before in
     start.pre.plain.ok.rep.slots.within
 
 pub suspend-requires : goal.suspend-requires
-suspend-requires c κs =
+suspend-requires c =
     let start = start_of c.before.before.before.before.before.before.before.before.before.before.before.before.before.before.before.before.before.before in
     record { run = record { ok = start.pre.plain.ok; running = some-active start.args.m.active c.if-m-eq0.false; narrow = start.pre.plain.narrow }; state = refl }
 

@@ -25,19 +25,19 @@ pub overflow_mul-n : goal.overflow_mul-n
 overflow_mul-n c = omega (arith, few c.before.before.before)
 
 pub overflow_add-was : goal.overflow_add-was
-overflow_add-was c = omega (arith, c.requires, c.well-formed)
+overflow_add-was c = omega (arith, c.requires, c.well_formed)
 
 pub overflow_add-was-in-loop-p : goal.overflow_add-was-in-loop-p
-overflow_add-was-in-loop-p c = omega (arith, few c.before.before.before.before, c.requires, c.well-formed, c.loop-p-test.true)
+overflow_add-was-in-loop-p c = omega (arith, few c.before.before.before.before, c.requires, c.well_formed, c.loop-p-test.true)
 
 pub offset_bounds-notes-at-in-loop-p : goal.offset_bounds-notes-at-in-loop-p
-offset_bounds-notes-at-in-loop-p c = omega (arith, few c.before.before.before.before, c.requires, c.well-formed, c.loop-p-test.true)
+offset_bounds-notes-at-in-loop-p c = omega (arith, few c.before.before.before.before, c.requires, c.well_formed, c.loop-p-test.true)
 
 pub bounds-notes-at-in-loop-p : goal.bounds-notes-at-in-loop-p
 bounds-notes-at-in-loop-p c = omega (arith, few c.before.before.before.before.before, c.requires, c.loop-p-test.true)
 
 pub word_back-requires : goal.word_back-requires
-word_back-requires c κs = few c.before.before.before.before.before.before
+word_back-requires c = few c.before.before.before.before.before.before
 
 pub returns-then-not-word_back : goal.returns-then-not-word_back
 returns-then-not-word_back c =

@@ -4,7 +4,7 @@ use Rattle.furnace.specs.Watch.{sent_by, noted}
 use Rattle.furnace.proofs.note.before.Goals as goal
 
 pub note_own-requires : goal.note_own-requires
-note_own-requires c κs = c.requires
+note_own-requires c = c.requires
 
 pub returns : goal.returns
 returns c =

@@ -39,10 +39,10 @@ pub overflow_sub-n : goal.overflow_sub-n
 overflow_sub-n c = (words-fit c.before.before).above
 
 pub overflow_add-place : goal.overflow_add-place
-overflow_add-place c = let f = words-fit c.before.before.before in omega (arith, f.among, c.above.ensures, c.well-formed)
+overflow_add-place c = let f = words-fit c.before.before.before in omega (arith, f.among, c.above.ensures, c.well_formed)
 
 pub keep-requires : goal.keep-requires
-keep-requires c κs =
+keep-requires c =
     let f = words-fit c.before.before.before.before in
     let b = note-below c.coroutine.result in
     (omega (arith, f.above, f.few, c.note_of-at.ensures, b, c.requires), omega (arith, f.above, f.within))
@@ -51,7 +51,7 @@ pub overflow_sub-depth : goal.overflow_sub-depth
 overflow_sub-depth c = let f = frames-fit c.before.before.before.before.before.before.before.before in omega (arith, f.some)
 
 pub keep-requires-2 : goal.keep-requires-2
-keep-requires-2 c κs =
+keep-requires-2 c =
     let f = frames-fit c.before.before.before.before.before.before.before.before in
     let b = note-below c.coroutine.result in
     (omega (arith, c.note_of-at.ensures, b, c.requires, c.keep.auto.0), (omega (arith, f.some), (f.few, omega (arith, f.some, f.whole))))

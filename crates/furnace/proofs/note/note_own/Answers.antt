@@ -5,12 +5,12 @@ use Rattle.furnace.specs.Watch.{noted}
 use Rattle.furnace.proofs.note.note_own.Goals as goal
 
 pub note_at-requires : goal.note_at-requires
-note_at-requires c κs = c.requires
+note_at-requires c = c.requires
 
 pub returns-in_default : goal.returns-in_default
 returns-in_default c =
     let a = c.args in
-    no-waits a.stack.now a.frames.now a.chain.now a.m a.notes.now a.p c.in_default.keys2
+    no-waits a.stack.now a.frames.now a.chain.now a.m a.notes.now a.p c.in_default.in_default-own.keys2
 
 pub returns : goal.returns
 returns c =

@@ -183,4 +183,4 @@ returns-in-57 c = rw c.in-57.is
 pub returns-in_default : goal.returns-in_default
 returns-in_default c =
     let i = c.args.i in
-    sym (get_or-eq_default story Op.Look {n = i} (past i 58 c.in_default.rest))
+    sym (get_or-eq_default story Op.Look {n = i} (past i 58 c.in_default.in_default-own.rest))

@@ -29,4 +29,4 @@ woken-requires c =
     _ (noted c.before.before.before.before.before.before) c.at_most-n.ensures c.if-n-eq0.true
 
 pub returns : goal.returns
-returns c κs = (room c.before.before.before.before, c.at_most-n.ensures)
+returns c = (room c.before.before.before.before, c.at_most-n.ensures)

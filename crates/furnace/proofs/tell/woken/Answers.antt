@@ -19,7 +19,7 @@ few : (c : Start) → c.args.n ≤ 13
 few c = subst (λ n. n ≤ 13) (sym c.requires.1) (at-most 13 (get_or c.args.notes.now c.args.at 0))
 
 pub offset_bounds-stack-start : goal.offset_bounds-stack-start
-offset_bounds-stack-start c = omega (arith, begins c, ends c.before, c.well-formed)
+offset_bounds-stack-start c = omega (arith, begins c, ends c.before, c.well_formed)
 
 pub slice_bounds-back-count : goal.slice_bounds-back-count
 slice_bounds-back-count c = begins c
@@ -67,7 +67,7 @@ pub bounds-notes-at-2 : goal.bounds-notes-at-2
 bounds-notes-at-2 c = omega (arith, c.requires, few c.before.before.before.before.before.before.before.before.before.before.before.before)
 
 pub back-bodies-requires : goal.back-bodies-requires
-back-bodies-requires c κs = omega (arith, c.requires)
+back-bodies-requires c = omega (arith, c.requires)
 
 pub bodies-requires : goal.bodies-requires
-bodies-requires c = omega (arith, c.requires, few c.before.before.before.before.before.before.before.before.before.before.before.before.before.before.before.before.before.before.before.before.before.before.before.before.before.before.before.before.before, c.well-formed)
+bodies-requires c = omega (arith, c.requires, few c.before.before.before.before.before.before.before.before.before.before.before.before.before.before.before.before.before.before.before.before.before.before.before.before.before.before.before.before.before, c.well_formed)

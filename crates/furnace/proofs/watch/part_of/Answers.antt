@@ -21,4 +21,4 @@ pub returns-in-HostEntry : goal.returns-in-HostEntry
 returns-in-HostEntry c = rw c.in-HostEntry.is
 
 pub returns-in_default : goal.returns-in_default
-returns-in_default c = no_part c.args.op c.in_default.keys7
+returns-in_default c = no_part c.args.op c.in_default.in_default-own.keys7

@@ -17,4 +17,4 @@ returns-in-Hands c =
 pub returns-in_default : goal.returns-in_default
 returns-in_default c =
     let a = c.args in
-    no-sends a.stack.now a.frames.now a.m a.p c.in_default.keys3
+    no-sends a.stack.now a.frames.now a.m a.p c.in_default.in_default-own.keys3

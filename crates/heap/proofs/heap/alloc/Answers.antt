@@ -11,7 +11,7 @@ returns-then-not-is_none c =
     refused a.slots.now a.h a.bytes a.o c.lacks-fault.result c.lacks-fault.ensures (sym c.is_none.ensures ∙ not-true _ c.if-not-is_none.true)
 
 pub put_slot-requires : goal.put_slot-requires
-put_slot-requires c κs =
+put_slot-requires c =
     let a = c.args in
     slot-words a.slots.now a.h a.bytes a.o c.lacks-fault.result c.lacks-fault.ensures
     (sym c.is_none.ensures ∙ not-false _ c.if-not-is_none.false) c.requires

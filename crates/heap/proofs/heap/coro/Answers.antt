@@ -6,7 +6,7 @@ use Rattle.heap.proofs.Place.{none-there, stands, stands-words}
 use Rattle.heap.proofs.heap.coro.Goals as goal
 
 pub coro_at-c-requires : goal.coro_at-c-requires
-coro_at-c-requires c κs = stands-words c.args.count c.args.slots.now c.args.w.0 c.in-At.i (sym c.in-At.is ∙ c.coro_place.ensures) c.requires
+coro_at-c-requires c = stands-words c.args.count c.args.slots.now c.args.w.0 c.in-At.i (sym c.in-At.is ∙ c.coro_place.ensures) c.requires
 
 pub returns-in-Not : goal.returns-in-Not
 returns-in-Not c = none-there (coro_of (slots_of c.args.count c.args.slots.now) c.args.w.0) c.in-Not.f (sym c.in-Not.is ∙ c.coro_place.ensures)

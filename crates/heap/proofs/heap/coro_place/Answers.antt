@@ -12,7 +12,7 @@ use Rattle.heap.proofs.Slots.{coro-kind, other-kind}
 use Rattle.heap.proofs.heap.coro_place.Goals as goal
 
 pub is_coro-requires : goal.is_coro-requires
-is_coro-requires c κs = found-words c.args.count c.args.slots.now c.args.w.0 c.in-At.i (sym c.in-At.is ∙ c.get.ensures) c.requires
+is_coro-requires c = found-words c.args.count c.args.slots.now c.args.w.0 c.in-At.i (sym c.in-At.is ∙ c.get.ensures) c.requires
 
 pub returns-then-is_coro : goal.returns-then-is_coro
 returns-then-is_coro c =

@@ -8,7 +8,7 @@ use Rattle.heap.proofs.Lookups.{found-words, found-object}
 use Rattle.heap.proofs.heap.dyn_int.Goals as goal
 
 pub object_at-requires : goal.object_at-requires
-object_at-requires c κs = found-words c.args.count c.args.slots.now c.in-Ref.o.0 c.in-At.i (sym c.in-At.is ∙ c.get.ensures) c.requires
+object_at-requires c = found-words c.args.count c.args.slots.now c.in-Ref.o.0 c.in-At.i (sym c.in-At.is ∙ c.get.ensures) c.requires
 
 pub returns-in-Nil : goal.returns-in-Nil
 returns-in-Nil c = ap (dyn_int_by Empty is_filled int_of (slots_of c.args.count c.args.slots.now)) (sym c.in-Nil.is ∙ c.class.ensures)

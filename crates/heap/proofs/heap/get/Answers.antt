@@ -28,7 +28,7 @@ other n ws (C.Int z) h = refl
 other n ws C.Opaque h = refl
 
 pub returns-in_default : goal.returns-in_default
-returns-in_default c = other c.args.count c.args.slots.now c.class.result c.in_default.keys2 ∙ ap (look c.args.count c.args.slots.now) c.class.ensures
+returns-in_default c = other c.args.count c.args.slots.now c.class.result c.in_default.in_default-own.keys2 ∙ ap (look c.args.count c.args.slots.now) c.class.ensures
 
 pub returns-then-count-i : goal.returns-then-count-i
 returns-then-count-i c =

@@ -9,7 +9,7 @@ use Rattle.heap.proofs.Lookups.{found-words, found-object}
 use Rattle.heap.proofs.kind.callee.Goals as goal
 
 pub callee_at-requires : goal.callee_at-requires
-callee_at-requires c κs =
+callee_at-requires c =
     let a = c.args in
     found-words a.count a.slots.now a.w.0 c.in-At.i (sym c.in-At.is ∙ c.get.ensures) c.requires
 

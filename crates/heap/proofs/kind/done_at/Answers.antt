@@ -17,5 +17,5 @@ returns-in-4 c =
 pub returns-in_default : goal.returns-in_default
 returns-in_default c =
     let a = c.args in
-    let other = c.in_default.rest in
+    let other = c.in_default.in_default-own.rest in
     sym (no-iter (chunk_at 20 a.slots.now a.i) (λ e. other.0.1 (c.word_at-kind.ensures ∙ e)) (λ e. other.1 (c.word_at-kind.ensures ∙ e)))

@@ -7,7 +7,7 @@ use Rattle.heap.proofs.Lookups.{found-words, found-object}
 use Rattle.heap.proofs.kind.is_done.Goals as goal
 
 pub done_at-requires : goal.done_at-requires
-done_at-requires c κs =
+done_at-requires c =
     let a = c.args in
     found-words a.count a.slots.now a.w.0 c.in-At.n (sym c.in-At.is ∙ c.get.ensures) c.requires
 

@@ -63,63 +63,63 @@ split (x ∷ y ∷ z ∷ u ∷ v ∷ w ∷ xs) l t k a b c d e =
     rw (from_zero x t, from_zero y k, from_zero u b, from_zero v c, from_zero w d, unused 14 xs n)
 
 begin : (z : Start) → whole z ≡ (leb (word z 0) z.args.tag && from1 z)
-begin z = let a = z.args in split a.s.now a.least a.tag a.kind a.a a.b a.c a.d z.pre
+begin z = let a = z.args in split a.s.now a.least a.tag a.kind a.a a.b a.c a.d z.requires
 
 abbrev at1 : Else-tag-s → Start
 at1 c = c.before.before.before
 
 past1 : (c : Else-tag-s) → whole (at1 c) ≡ from1 (at1 c)
-past1 c = let z = at1 c in begin z ∙ (rw (le-leb (word z 0) z.args.tag c.if-tag-s.left))
+past1 c = let z = at1 c in begin z ∙ (rw (le-leb (word z 0) z.args.tag c.if-tag-s.false))
 
 abbrev at2 : Else-kind-s → Start
 at2 c = at1 c.before.before
 
 past2 : (c : Else-kind-s) → whole (at2 c) ≡ from2 (at2 c)
-past2 c = let z = at2 c in past1 c.before.before ∙ (rw (le-leb (word z 1) z.args.kind c.if-kind-s.left))
+past2 c = let z = at2 c in past1 c.before.before ∙ (rw (le-leb (word z 1) z.args.kind c.if-kind-s.false))
 
 abbrev at3 : Else-not-between → Start
 at3 c = at2 c.before.before.before
 
 past3 : (c : Else-not-between) → whole (at3 c) ≡ from3 (at3 c)
-past3 c = let z = at3 c in past2 c.before.before.before ∙ ap (λ (b : Bool). b && from3 z) (sym c.between.ensures ∙ not-false _ c.if-not-between.left)
+past3 c = let z = at3 c in past2 c.before.before.before ∙ ap (λ (b : Bool). b && from3 z) (sym c.between.ensures ∙ not-false _ c.if-not-between.false)
 
 abbrev at4 : Else-b-s → Start
 at4 c = at3 c.before.before
 
 past4 : (c : Else-b-s) → whole (at4 c) ≡ from4 (at4 c)
-past4 c = let z = at4 c in past3 c.before.before ∙ (rw (le-leb (word z 3) z.args.b c.if-b-s.left))
+past4 c = let z = at4 c in past3 c.before.before ∙ (rw (le-leb (word z 3) z.args.b c.if-b-s.false))
 
 abbrev at5 : Else-c-s → Start
 at5 c = at4 c.before.before
 
 past5 : (c : Else-c-s) → whole (at5 c) ≡ from5 (at5 c)
-past5 c = let z = at5 c in past4 c.before.before ∙ (rw (le-leb (word z 4) z.args.c c.if-c-s.left))
+past5 c = let z = at5 c in past4 c.before.before ∙ (rw (le-leb (word z 4) z.args.c c.if-c-s.false))
 
 abbrev at6 : Else-d-s → Start
 at6 c = at5 c.before.before
 
 past6 : (c : Else-d-s) → whole (at6 c) ≡ from6 (at6 c)
-past6 c = let z = at6 c in past5 c.before.before ∙ (rw (le-leb (word z 5) z.args.d c.if-d-s.left))
+past6 c = let z = at6 c in past5 c.before.before ∙ (rw (le-leb (word z 5) z.args.d c.if-d-s.false))
 
 pub returns-then-tag-s : goal.returns-then-tag-s
-returns-then-tag-s c = let z = c.before.before.before in sym (begin z ∙ (rw (lt-leb (word z 0) z.args.tag c.if-tag-s.taken)))
+returns-then-tag-s c = let z = c.before.before.before in sym (begin z ∙ (rw (lt-leb (word z 0) z.args.tag c.if-tag-s.true)))
 
 pub returns-then-kind-s : goal.returns-then-kind-s
-returns-then-kind-s c = let past = c.before.before in let z = at1 past in sym (past1 past ∙ (rw (lt-leb (word z 1) z.args.kind c.if-kind-s.taken)))
+returns-then-kind-s c = let past = c.before.before in let z = at1 past in sym (past1 past ∙ (rw (lt-leb (word z 1) z.args.kind c.if-kind-s.true)))
 
 pub returns-then-not-between : goal.returns-then-not-between
 returns-then-not-between c =
     let z = at2 c.before.before.before in
-    sym (past2 c.before.before.before ∙ ap (λ (b : Bool). b && from3 z) (sym c.between.ensures ∙ not-true _ c.if-not-between.taken))
+    sym (past2 c.before.before.before ∙ ap (λ (b : Bool). b && from3 z) (sym c.between.ensures ∙ not-true _ c.if-not-between.true))
 
 pub returns-then-b-s : goal.returns-then-b-s
-returns-then-b-s c = let past = c.before.before in let z = at3 past in sym (past3 past ∙ (rw (lt-leb (word z 3) z.args.b c.if-b-s.taken)))
+returns-then-b-s c = let past = c.before.before in let z = at3 past in sym (past3 past ∙ (rw (lt-leb (word z 3) z.args.b c.if-b-s.true)))
 
 pub returns-then-c-s : goal.returns-then-c-s
-returns-then-c-s c = let past = c.before.before in let z = at4 past in sym (past4 past ∙ (rw (lt-leb (word z 4) z.args.c c.if-c-s.taken)))
+returns-then-c-s c = let past = c.before.before in let z = at4 past in sym (past4 past ∙ (rw (lt-leb (word z 4) z.args.c c.if-c-s.true)))
 
 pub returns-then-d-s : goal.returns-then-d-s
-returns-then-d-s c = let past = c.before.before in let z = at5 past in sym (past5 past ∙ (rw (lt-leb (word z 5) z.args.d c.if-d-s.taken)))
+returns-then-d-s c = let past = c.before.before in let z = at5 past in sym (past5 past ∙ (rw (lt-leb (word z 5) z.args.d c.if-d-s.true)))
 
 pub returns : goal.returns
 returns c =

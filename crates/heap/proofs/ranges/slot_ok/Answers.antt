@@ -52,21 +52,21 @@ none [] h = absurd (omega arith)
 none (x ∷ s) h = refl
 
 pub returns-then-kind-eq6 : goal.returns-then-kind-eq6
-returns-then-kind-eq6 c = row c.args.s.now 6 c.coro_ok.result c.coro_ok.ensures c.if-kind-eq6.taken
+returns-then-kind-eq6 c = row c.args.s.now 6 c.coro_ok.result c.coro_ok.ensures c.if-kind-eq6.true
 
 pub returns-then-kind-eq5 : goal.returns-then-kind-eq5
-returns-then-kind-eq5 c = row c.args.s.now 5 c.fields_ok.result c.fields_ok.ensures c.if-kind-eq5.taken
+returns-then-kind-eq5 c = row c.args.s.now 5 c.fields_ok.result c.fields_ok.ensures c.if-kind-eq5.true
 
 pub returns-then-kind-gt4 : goal.returns-then-kind-gt4
 returns-then-kind-gt4 c =
     let s = c.args.s.now in
-    let n : length s ≡ 20 = c.pre in
-    none s (omega arith) ∙ ap (λ (rs : List Range). within rs s) (sym (past (get_or s 1 0) c.if-kind-gt4.taken c.if-kind-eq5.left c.if-kind-eq6.left))
+    let n : length s ≡ 20 = c.requires in
+    none s (omega arith) ∙ ap (λ (rs : List Range). within rs s) (sym (past (get_or s 1 0) c.if-kind-gt4.true c.if-kind-eq5.false c.if-kind-eq6.false))
 
 pub returns-then-kind-eq1 : goal.returns-then-kind-eq1
-returns-then-kind-eq1 c = row c.args.s.now 1 c.fields_ok-then-kind-eq1.result c.fields_ok-then-kind-eq1.ensures c.if-kind-eq1.taken
+returns-then-kind-eq1 c = row c.args.s.now 1 c.fields_ok-then-kind-eq1.result c.fields_ok-then-kind-eq1.ensures c.if-kind-eq1.true
 
 pub returns : goal.returns
 returns c =
     let s = c.args.s.now in
-    by-table s (get_or s 1 0) c.fields_ok-2.result c.if-kind-gt4.left c.if-kind-eq1.left c.fields_ok-2.ensures
+    by-table s (get_or s 1 0) c.fields_ok-2.result c.if-kind-gt4.false c.if-kind-eq1.false c.fields_ok-2.ensures

@@ -31,5 +31,5 @@ pub returns-in_default : goal.returns-in_default
 unfolding pick
 returns-in_default c =
     let k = c.args.kind in
-    let r = c.in_default.rest in
+    let r = c.in_default.in_default-own.rest in
     rw (ne_eqb k 1 r.0.0.0.0.0.1, ne_eqb k 2 r.0.0.0.0.1, ne_eqb k 3 r.0.0.0.1, ne_eqb k 4 r.0.0.1, ne_eqb k 5 r.0.1, ne_eqb k 6 r.1)

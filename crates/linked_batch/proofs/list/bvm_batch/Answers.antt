@@ -55,7 +55,7 @@ returns-then-answers-n c =
     (sym (ap short (passed _ c.bvm_sound-ok.result c.bvm_sound-ok.ensures c.if-ok-eq0.false) ∙ pick_true 14 11))
 
 pub refuse_list-requires : goal.refuse_list-requires
-refuse_list-requires c κs = room c.before.before
+refuse_list-requires c = room c.before.before
 
 pub returns-then-ok-eq0-2 : goal.returns-then-ok-eq0-2
 returns-then-ok-eq0-2 c =
@@ -64,7 +64,7 @@ returns-then-ok-eq0-2 c =
     (no-pass (passes_test (of start)) c.bvm_sound-ok.result c.bvm_sound-ok.ensures c.if-ok-eq0-2.true) _ c.refuse_list.ensures
 
 pub do_list-requires : goal.do_list-requires
-do_list-requires c κs = record { sound = sure c.before.before.before.before.before.before.before.before.before.before.before; calls = (count_of c.before.before.before.before.before.before.before.before.before.before.before.before.before).count.ensures; room = room c.before.before.before.before.before.before.before.before.before.before.before.before }
+do_list-requires c = record { sound = sure c.before.before.before.before.before.before.before.before.before.before.before; calls = (count_of c.before.before.before.before.before.before.before.before.before.before.before.before.before).count.ensures; room = room c.before.before.before.before.before.before.before.before.before.before.before.before }
 
 pub shape_of-stack : goal.shape_of-stack
 shape_of-stack c = (list_of c).do-list.auto.0

@@ -42,7 +42,7 @@ loop-i-init c =
     going_start (at-start c.before.before.before.before.before.before.before.before.before.before.before.before.before) a.calls.now a.answers.now a.n c.requires
 
 pub one-requires : goal.one-requires
-one-requires c κs =
+one-requires c =
     let start = start_of c.before.before.before.before.before.before.before.before.before.before.before.before in
     let t = c.loop-i-test.true in let r = start.pre.room in let k = c.loop-i.invariant.along.long in
     record { put = record { sound = c.loop-i.invariant.sound; room = omega (arith, t, r, k) }; call = in-calls start.args.calls.now c.loop-i.i start.args.n start.pre.calls t }

@@ -20,7 +20,7 @@ abbrev kept_of : After-slice_known-22-1 → After-bvm_call_unchecked
 kept_of c = c.before.before.before.before.before.before.before.before.before.before.before.before.before.before.before.before.before.before.before.before.before.before
 
 pub bvm_call_unchecked-requires : goal.bvm_call_unchecked-requires
-bvm_call_unchecked-requires c κs = record { sound = c.requires.sound; room = part-long c.args.answers.now (c.args.i * 8) c.requires.room }
+bvm_call_unchecked-requires c = record { sound = c.requires.sound; room = part-long c.args.answers.now (c.args.i * 8) c.requires.room }
 
 pub shape_of-stack : goal.shape_of-stack
 shape_of-stack c = (kept_of c).bvm-call-unchecked.auto.0

@@ -52,7 +52,7 @@ read_as c p q r =
     (sym q ∙ c.word-d.ensures) (sym r ∙ c.word-e.ensures)
 
 pub put_at-requires : goal.put_at-requires
-put_at-requires c κs = c.requires.put.room
+put_at-requires c = c.requires.put.room
 
 pub returns-then-calls-i-lt-CALL_WIDTH : goal.returns-then-calls-i-lt-CALL_WIDTH
 returns-then-calls-i-lt-CALL_WIDTH c =
@@ -61,31 +61,31 @@ returns-then-calls-i-lt-CALL_WIDTH c =
     (no_call a.calls.now a.i c.requires.call c.if-calls-i-lt-CALL_WIDTH.true) c.put_at.ensures
 
 pub word-n-requires : goal.word-n-requires
-word-n-requires c κs = (full c, omega arith)
+word-n-requires c = (full c, omega arith)
 
 pub word-a-requires : goal.word-a-requires
-word-a-requires c κs = (full c.before, omega arith)
+word-a-requires c = (full c.before, omega arith)
 
 pub word-b-requires : goal.word-b-requires
-word-b-requires c κs = (full c.before.before, omega arith)
+word-b-requires c = (full c.before.before, omega arith)
 
 pub word-c-requires : goal.word-c-requires
-word-c-requires c κs = (full c.before.before.before, omega arith)
+word-c-requires c = (full c.before.before.before, omega arith)
 
 pub word-d-requires : goal.word-d-requires
-word-d-requires c κs = (full c.before.before.before.before, omega arith)
+word-d-requires c = (full c.before.before.before.before, omega arith)
 
 pub word-e-requires : goal.word-e-requires
-word-e-requires c κs = (full c.before.before.before.before.before, omega arith)
+word-e-requires c = (full c.before.before.before.before.before, omega arith)
 
 pub resume_call-requires : goal.resume_call-requires
-resume_call-requires c κs = record { put = (from-route c.before.before.before.before.before.before.before.before.before.before.before.before.before).requires.put; narrow = (c.route_of.ensures.resume c.in-Resume.is).1 }
+resume_call-requires c = record { put = (from-route c.before.before.before.before.before.before.before.before.before.before.before.before.before).requires.put; narrow = (c.route_of.ensures.resume c.in-Resume.is).1 }
 
 pub yield_call-requires : goal.yield_call-requires
-yield_call-requires c κs = record { put = (from-route c.before.before.before.before.before.before.before.before.before.before.before.before.before).requires.put; narrow = (c.route_of.ensures.yield c.in-Yield.is).1 }
+yield_call-requires c = record { put = (from-route c.before.before.before.before.before.before.before.before.before.before.before.before.before).requires.put; narrow = (c.route_of.ensures.yield c.in-Yield.is).1 }
 
 pub general_at-requires : goal.general_at-requires
-general_at-requires c κs = (from-route c.before.before.before.before.before.before.before.before.before.before.before.before.before).requires.put
+general_at-requires c = (from-route c.before.before.before.before.before.before.before.before.before.before.before.before.before).requires.put
 
 pub shape_of-stack-in-Resume : goal.shape_of-stack-in-Resume
 shape_of-stack-in-Resume c = (resume-of c).resume-call.auto.0

@@ -35,18 +35,18 @@ pub bounds-fuel-0 : goal.bounds-fuel-0
 bounds-fuel-0 c = let h = (long (of c.before.before.before.before.before.before.before.before.before.before.before.before.before.before.before.before.before) c.requires.put.sound).1 in omega (arith, h)
 
 pub may_enter-requires : goal.may_enter-requires
-may_enter-requires c κs = enters-fit (of c.before.before.before.before.before.before.before.before.before.before.before.before.before.before.before.before.before) c.requires.put.sound
+may_enter-requires c = enters-fit (of c.before.before.before.before.before.before.before.before.before.before.before.before.before.before.before.before.before) c.requires.put.sound
 
 pub resume_at-requires : goal.resume_at-requires
-resume_at-requires c κs =
+resume_at-requires c =
     let start = start_of c.before.before.before.before.before.before.before.before.before.before.before in
     record { held = holds (of start) start.pre.put.sound start.args.pc start.pre.narrow; enterable = c.may_enter.ensures.at _ _ c.in-At.is }
 
 pub goes_on_at-requires : goal.goes_on_at-requires
-goes_on_at-requires c κs = (done-of c.before.before.before.before.before.before.before.before.before.before.before.before.before.before.before.before.before).requires.put.room
+goes_on_at-requires c = (done-of c.before.before.before.before.before.before.before.before.before.before.before.before.before.before.before.before.before).requires.put.room
 
 pub general_at-requires : goal.general_at-requires
-general_at-requires c κs = (start_of c.before.before.before.before.before.before.before.before.before.before.before.before.before).requires.put
+general_at-requires c = (start_of c.before.before.before.before.before.before.before.before.before.before.before.before.before).requires.put
 
 pub returns-in-At : goal.returns-in-At
 returns-in-At c =

@@ -35,18 +35,18 @@ pub bounds-fuel-0 : goal.bounds-fuel-0
 bounds-fuel-0 c = let h = (long (of c.before.before.before.before.before.before.before.before.before.before.before.before.before.before.before.before.before) c.requires.put.sound).1 in omega (arith, h)
 
 pub may_leave-requires : goal.may_leave-requires
-may_leave-requires c κs = leaves-fit (of c.before.before.before.before.before.before.before.before.before.before.before.before.before.before.before.before.before) c.requires.put.sound
+may_leave-requires c = leaves-fit (of c.before.before.before.before.before.before.before.before.before.before.before.before.before.before.before.before.before) c.requires.put.sound
 
 pub yield_at-requires : goal.yield_at-requires
-yield_at-requires c κs =
+yield_at-requires c =
     let start = start_of c.before.before.before.before.before.before.before.before.before.before.before in
     record { held = holds (of start) start.pre.put.sound start.args.pc start.pre.narrow; leavable = c.may_leave.ensures.at _ _ _ _ c.in-At.is }
 
 pub goes_on_at-requires : goal.goes_on_at-requires
-goes_on_at-requires c κs = (done-of c.before.before.before.before.before.before.before.before.before.before.before.before.before.before.before.before.before).requires.put.room
+goes_on_at-requires c = (done-of c.before.before.before.before.before.before.before.before.before.before.before.before.before.before.before.before.before).requires.put.room
 
 pub general_at-requires : goal.general_at-requires
-general_at-requires c κs = (start_of c.before.before.before.before.before.before.before.before.before.before.before.before.before).requires.put
+general_at-requires c = (start_of c.before.before.before.before.before.before.before.before.before.before.before.before.before).requires.put
 
 pub returns-in-At : goal.returns-in-At
 returns-in-At c =

@@ -43,13 +43,13 @@ tried c =
     }
 
 pub machine_of-m-requires : goal.machine_of-m-requires
-machine_of-m-requires c κs = c.requires.machine
+machine_of-m-requires c = c.requires.machine
 
 pub fuel_of-f-requires : goal.fuel_of-f-requires
-fuel_of-f-requires c κs = c.requires.fuel
+fuel_of-f-requires c = c.requires.fuel
 
 pub tell-n-requires : goal.tell-n-requires
-tell-n-requires c κs = (start_of c.before.before.before.before.before.before.before.before.before.before.before.before.before.before.before.before.before.before.before.before.before).requires.answer
+tell-n-requires c = (start_of c.before.before.before.before.before.before.before.before.before.before.before.before.before.before.before.before.before.before.before.before.before).requires.answer
 
 pub shape_of-stack-then-n-ne0 : goal.shape_of-stack-then-n-ne0
 shape_of-stack-then-n-ne0 c = (set-up-of c.before.before.before).set-up.auto.0
@@ -87,20 +87,20 @@ returns-then-n-ne0 c =
     begin-refused (of start) start.args.given.now start.args.answer.now (tried c.before.before.before) c.if-n-ne0.true _ c.tell-n.ensures.0
 
 pub sizes-sizes-requires : goal.sizes-sizes-requires
-sizes-sizes-requires c κs =
+sizes-sizes-requires c =
     let start = start_of (set-up-of c.before.before.before) in let a = start.args in
     fits-given (of start) a.given.now a.answer.now (accepted (of start) a.given.now a.answer.now (tried c.before.before.before) c.if-n-ne0.false)
 
 pub put_machine-requires : goal.put_machine-requires
-put_machine-requires c κs = (start_of (set-up-of c.before.before.before.before.before)).requires.machine
+put_machine-requires c = (start_of (set-up-of c.before.before.before.before.before)).requires.machine
 
 pub put_sizes-requires : goal.put_sizes-requires
-put_sizes-requires c κs = let start =
+put_sizes-requires c = let start =
     start_of (set-up-of c.before.before.before.before.before.before.before.before.before) in
     let k = c.put_machine.auto.0 in let h = start.pre.machine in omega arith
 
 pub put_fuel-requires : goal.put_fuel-requires
-put_fuel-requires c κs = (start_of (set-up-of c.before.before.before.before.before.before.before.before.before.before.before.before.before)).requires.fuel
+put_fuel-requires c = (start_of (set-up-of c.before.before.before.before.before.before.before.before.before.before.before.before.before)).requires.fuel
 
 pub shape_of-stack : goal.shape_of-stack
 shape_of-stack c = (set-up-of (tell-of c)).set-up.auto.0

@@ -29,7 +29,7 @@ returns-then-answer-lt-ANSWER_WIDTH c =
     (c.accepts-ok.ensures (of c.before.before.before.before.before.before.before.before.before.before.before.before.before.before.before.before) (record { words = refl; machine = refl; fuel = refl })) c.short.result c.short.ensures
 
 pub tell-requires : goal.tell-requires
-tell-requires c κs = c.if-answer-lt-ANSWER_WIDTH.false
+tell-requires c = c.if-answer-lt-ANSWER_WIDTH.false
 
 pub shape_of-answer-then-machine-lt-MACHINE_WIDTH : goal.shape_of-answer-then-machine-lt-MACHINE_WIDTH
 shape_of-answer-then-machine-lt-MACHINE_WIDTH c = c.tell.auto.0
@@ -40,7 +40,7 @@ returns-then-machine-lt-MACHINE_WIDTH c =
     short-machine (of start) start.args.given.now start.args.answer.now c.if-answer-lt-ANSWER_WIDTH.false c.if-machine-lt-MACHINE_WIDTH.true _ c.tell.result c.tell.ensures.0 c.tell.ensures.1
 
 pub tell-requires-then-fuel-lt-FUEL_WIDTH : goal.tell-requires-then-fuel-lt-FUEL_WIDTH
-tell-requires-then-fuel-lt-FUEL_WIDTH c κs = c.if-answer-lt-ANSWER_WIDTH.false
+tell-requires-then-fuel-lt-FUEL_WIDTH c = c.if-answer-lt-ANSWER_WIDTH.false
 
 pub shape_of-answer-then-fuel-lt-FUEL_WIDTH : goal.shape_of-answer-then-fuel-lt-FUEL_WIDTH
 shape_of-answer-then-fuel-lt-FUEL_WIDTH c = c.tell-then-fuel-lt-FUEL_WIDTH.auto.0
@@ -53,7 +53,7 @@ returns-then-fuel-lt-FUEL_WIDTH c =
     c.tell-then-fuel-lt-FUEL_WIDTH.ensures.0 c.tell-then-fuel-lt-FUEL_WIDTH.ensures.1
 
 pub begin-requires : goal.begin-requires
-begin-requires c κs = record { machine = c.if-machine-lt-MACHINE_WIDTH.false; fuel = c.if-fuel-lt-FUEL_WIDTH.false; answer = c.if-answer-lt-ANSWER_WIDTH.false }
+begin-requires c = record { machine = c.if-machine-lt-MACHINE_WIDTH.false; fuel = c.if-fuel-lt-FUEL_WIDTH.false; answer = c.if-answer-lt-ANSWER_WIDTH.false }
 
 pub shape_of-stack : goal.shape_of-stack
 shape_of-stack c = (begin-of c).begin.auto.0

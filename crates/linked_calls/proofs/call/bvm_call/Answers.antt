@@ -28,7 +28,7 @@ returns-then-answer-lt-ANSWER_WIDTH c =
     too_short (of start) (op_of a.call.now) a.answer.now _ c.if-answer-lt-ANSWER_WIDTH.true (ap (gave (of start) a.answer.now) (c.short.ensures ∙ ap short c.tested-ok.ensures))
 
 pub do_call-requires : goal.do_call-requires
-do_call-requires c κs = let at-if = c.before.before.before.before.before.before.before.before.before.before.before in record { known = at-if.before.tested.ensures; room = at-if.if1.false }
+do_call-requires c = let at-if = c.before.before.before.before.before.before.before.before.before.before.before in record { known = at-if.before.tested.ensures; room = at-if.if1.false }
 
 pub shape_of-stack : goal.shape_of-stack
 shape_of-stack c = (do-call-of c).do-call.auto.1.0

@@ -8,7 +8,7 @@ abbrev do-call-of : After-slice_known-22-1 → After-do_call
 do-call-of c = c.before.before.before.before.before.before.before.before.before.before.before.before.before.before.before.before.before.before.before.before.before.before
 
 pub do_call-requires : goal.do_call-requires
-do_call-requires c κs = record { known = sym c.requires.sound; room = c.requires.room }
+do_call-requires c = record { known = sym c.requires.sound; room = c.requires.room }
 
 pub shape_of-stack : goal.shape_of-stack
 shape_of-stack c = (do-call-of c).do-call.auto.1.0

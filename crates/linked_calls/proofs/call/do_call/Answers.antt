@@ -48,7 +48,7 @@ abbrev do-read-of : After-slice_known-22-1 → After-do_read-did
 do-read-of c = c.before.before.before.before.before.before.before.before.before.before.before.before.before.before.before.before.before.before.before.before.before.before.before.before.before.before.before.before.before.before
 
 pub tell-requires : goal.tell-requires
-tell-requires c κs = c.requires.room
+tell-requires c = c.requires.room
 
 pub shape_of-answer-then-not-ok : goal.shape_of-answer-then-not-ok
 shape_of-answer-then-not-ok c = c.tell.auto.0
@@ -59,28 +59,28 @@ returns-then-not-ok c =
     refused (of c.before.before.before.before.before.before.before.before.before.before.before.before.before.before.before.before.before.before) (op_of a.call.now) a.answer.now _ a.ok (not-true _ c.if-not-ok.true) (λ i. gave (of c.before.before.before.before.before.before.before.before.before.before.before.before.before.before.before.before.before.before) (c.tell.ensures.0 i) (c.tell.ensures.1 i))
 
 pub machine_of-m-requires : goal.machine_of-m-requires
-machine_of-m-requires c κs = (long c.before).0
+machine_of-m-requires c = (long c.before).0
 
 pub sizes_of-sizes-requires : goal.sizes_of-sizes-requires
-sizes_of-sizes-requires c κs = (long c.before.before.before).0
+sizes_of-sizes-requires c = (long c.before.before.before).0
 
 pub fuel_of-f-requires : goal.fuel_of-f-requires
-fuel_of-f-requires c κs = (long c.before.before.before.before.before).1
+fuel_of-f-requires c = (long c.before.before.before.before.before).1
 
 pub do_read-did-requires : goal.do_read-did-requires
-do_read-did-requires c κs =
+do_read-did-requires c =
     let at-if = else-of c.before.before.before.before.before.before.before.before.before.before.before.before.before in
     may_read (of (start_of at-if)) (sound at-if) c.machine_of-m.result c.fuel_of-f.result c.sizes_of-sizes.result
     c.machine_of-m.ensures c.fuel_of-f.ensures c.sizes_of-sizes.ensures
 
 pub put_machine-requires : goal.put_machine-requires
-put_machine-requires c κs = (long (else-of (machine-at c.before.before.before.before.before.before.before.before.before.before.before.before.before.before.before.before.before.before.before))).0
+put_machine-requires c = (long (else-of (machine-at c.before.before.before.before.before.before.before.before.before.before.before.before.before.before.before.before.before.before.before))).0
 
 pub put_fuel-requires : goal.put_fuel-requires
-put_fuel-requires c κs = (long (else-of (machine-at c.before.before.before.before.before.before.before.before.before.before.before.before.before.before.before.before.before.before.before.before.before.before.before))).1
+put_fuel-requires c = (long (else-of (machine-at c.before.before.before.before.before.before.before.before.before.before.before.before.before.before.before.before.before.before.before.before.before.before.before))).1
 
 pub tell-requires-2 : goal.tell-requires-2
-tell-requires-2 c κs = (begin-of c.before.before.before.before.before.before.before.before.before.before.before.before.before.before.before.before.before.before.before.before.before.before.before.before.before.before.before).requires.room
+tell-requires-2 c = (begin-of c.before.before.before.before.before.before.before.before.before.before.before.before.before.before.before.before.before.before.before.before.before.before.before.before.before.before.before).requires.room
 
 pub shape_of-stack : goal.shape_of-stack
 shape_of-stack c = (do-read-of c).do-read.auto.0

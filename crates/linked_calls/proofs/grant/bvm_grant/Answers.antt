@@ -17,7 +17,7 @@ pub returns-then-answer-lt-ANSWER_WIDTH : goal.returns-then-answer-lt-ANSWER_WID
 returns-then-answer-lt-ANSWER_WIDTH c = grant-short (of c.before.before.before.before.before.before.before.before.before.before.before.before.before.before.before.before) c.args.amount c.args.answer.now c.if-answer-lt-ANSWER_WIDTH.true c.tested-ok.result c.tested-ok.ensures c.short.result c.short.ensures
 
 pub do_grant-requires : goal.do_grant-requires
-do_grant-requires c κs = let at-if = c.before.before in record { known = at-if.before.tested.ensures; room = at-if.if1.false }
+do_grant-requires c = let at-if = c.before.before in record { known = at-if.before.tested.ensures; room = at-if.if1.false }
 
 pub shape_of-fuel : goal.shape_of-fuel
 shape_of-fuel c = c.do_grant.auto.1.1.1.1.1.1.1.1.1.1.1.0

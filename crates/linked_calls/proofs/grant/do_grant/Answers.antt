@@ -30,7 +30,7 @@ long : (c : Else-not-ok) → let a = (start_of c).args in (25 ≤ length a.machi
 long c = let a = (start_of c).args in long-numbers a.machine.now a.fuel.now (numbers (of (start_of c)) (sound c))
 
 pub tell-requires : goal.tell-requires
-tell-requires c κs = c.requires.room
+tell-requires c = c.requires.room
 
 pub shape_of-answer-then-not-ok : goal.shape_of-answer-then-not-ok
 shape_of-answer-then-not-ok c = c.tell.auto.0
@@ -41,16 +41,16 @@ returns-then-not-ok c =
     grant-refused (of c.before.before.before.before.before.before.before.before.before.before.before.before.before.before.before.before.before) a.amount a.answer.now c.requires.room a.ok c.requires.known (not-true _ c.if-not-ok.true) _ c.tell.result c.tell.ensures.0 c.tell.ensures.1
 
 pub machine_of-m-requires : goal.machine_of-m-requires
-machine_of-m-requires c κs = (long c).0
+machine_of-m-requires c = (long c).0
 
 pub fuel_of-f-requires : goal.fuel_of-f-requires
-fuel_of-f-requires c κs = (long c.before.before).1
+fuel_of-f-requires c = (long c.before.before).1
 
 pub put_fuel-requires : goal.put_fuel-requires
-put_fuel-requires c κs = (long c.before.before.before.before.before.before).1
+put_fuel-requires c = (long c.before.before.before.before.before.before).1
 
 pub tell-requires-2 : goal.tell-requires-2
-tell-requires-2 c κs = (start_of c.before.before.before.before.before.before.before.before.before.before).requires.room
+tell-requires-2 c = (start_of c.before.before.before.before.before.before.before.before.before.before).requires.room
 
 pub shape_of-fuel : goal.shape_of-fuel
 shape_of-fuel c = c.put_fuel.auto.0

@@ -12,7 +12,7 @@ abbrev start_of : After-tested-ok → Start
 start_of c = c.before.before.before.before.before.before.before.before.before.before.before.before.before.before.before.before.before.before.before.before.before.before.before.before
 
 pub do_run-requires : goal.do_run-requires
-do_run-requires c κs = c.tested-ok.ensures
+do_run-requires c = c.tested-ok.ensures
 
 pub shape_of-stack : goal.shape_of-stack
 shape_of-stack c = (do-run-of c).do-run.auto.1.0

@@ -58,7 +58,7 @@ returns-then-answers-n c =
     run_short (of start) a.calls.now a.answers.now c.count-n.result c.count-n.ensures c.if-answers-n.true a.ok start.pre c.short.result c.short.ensures
 
 pub refuse_list-requires : goal.refuse_list-requires
-refuse_list-requires c κs = room c.before.before
+refuse_list-requires c = room c.before.before
 
 pub shape_of-answers-then-not-ok : goal.shape_of-answers-then-not-ok
 shape_of-answers-then-not-ok c = c.refuse_list.auto.0
@@ -70,16 +70,16 @@ returns-then-not-ok c =
     (not-true _ c.if-not-ok.true) _ c.refuse_list.ensures
 
 pub machine_of-m-requires : goal.machine_of-m-requires
-machine_of-m-requires c κs = (long c.before).0
+machine_of-m-requires c = (long c.before).0
 
 pub sizes_of-sizes-requires : goal.sizes_of-sizes-requires
-sizes_of-sizes-requires c κs = (long c.before.before.before).0
+sizes_of-sizes-requires c = (long c.before.before.before).0
 
 pub fuel_of-f-requires : goal.fuel_of-f-requires
-fuel_of-f-requires c κs = (long c.before.before.before.before.before).1
+fuel_of-f-requires c = (long c.before.before.before.before.before).1
 
 pub run_list-did-requires : goal.run_list-did-requires
-run_list-did-requires c κs =
+run_list-did-requires c =
     let at_count = count_of c.before.before.before.before.before.before.before.before.before.before.before.before.before.before.before in let start = start_of at_count in
     record {
       fits =
@@ -90,10 +90,10 @@ run_list-did-requires c κs =
     }
 
 pub put_machine-requires : goal.put_machine-requires
-put_machine-requires c κs = (long (else-of c.before.before.before.before.before.before.before.before.before.before.before.before.before.before.before.before.before.before.before.before.before)).0
+put_machine-requires c = (long (else-of c.before.before.before.before.before.before.before.before.before.before.before.before.before.before.before.before.before.before.before.before.before)).0
 
 pub put_fuel-requires : goal.put_fuel-requires
-put_fuel-requires c κs = (long (else-of c.before.before.before.before.before.before.before.before.before.before.before.before.before.before.before.before.before.before.before.before.before.before.before.before.before)).1
+put_fuel-requires c = (long (else-of c.before.before.before.before.before.before.before.before.before.before.before.before.before.before.before.before.before.before.before.before.before.before.before.before.before)).1
 
 pub shape_of-stack : goal.shape_of-stack
 shape_of-stack c = (run-list-of c).run-list.auto.0

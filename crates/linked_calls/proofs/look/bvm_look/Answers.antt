@@ -37,7 +37,7 @@ returns-then-not-ok c =
     not-looked (of start) start.args.span.now c.if-span-lt-SPAN_WIDTH.false c.tested-ok.result c.tested-ok.ensures (not-true _ c.if-not-ok.true)
 
 pub span_in-s-requires : goal.span_in-s-requires
-span_in-s-requires c κs = sym c.tested-ok.ensures ∙ not-false _ c.if-not-ok.false
+span_in-s-requires c = sym c.tested-ok.ensures ∙ not-false _ c.if-not-ok.false
 
 pub bounds-span-0-2 : goal.bounds-span-0-2
 bounds-span-0-2 c = let h = c.if-span-lt-SPAN_WIDTH.false in omega arith

@@ -30,13 +30,13 @@ told c =
     spans (of start) start.pre c.machine_of-m.result c.fuel_of-f.result c.machine_of-m.ensures c.fuel_of-f.ensures c.seen-part.result.now c.seen-part.ensures
 
 pub machine_of-m-requires : goal.machine_of-m-requires
-machine_of-m-requires c κs = (wide c.before.before.before.before.before.before.before.before.before.before.before).0
+machine_of-m-requires c = (wide c.before.before.before.before.before.before.before.before.before.before.before).0
 
 pub fuel_of-f-requires : goal.fuel_of-f-requires
-fuel_of-f-requires c κs = (wide (start_of c)).1
+fuel_of-f-requires c = (wide (start_of c)).1
 
 pub seen-part-requires : goal.seen-part-requires
-seen-part-requires c κs =
+seen-part-requires c =
     let start = start_of c.before in
     may-see (of start) start.pre c.machine_of-m.result c.fuel_of-f.result c.machine_of-m.ensures c.fuel_of-f.ensures
 

@@ -28,10 +28,10 @@ pub returns-then-not-numbers_ok : goal.returns-then-not-numbers_ok
 returns-then-not-numbers_ok c = fails-numbers (of (start_of c.before)) (sym c.numbers_ok.ensures ∙ not-true _ c.if-not-numbers_ok.true)
 
 pub machine_of-m-requires : goal.machine_of-m-requires
-machine_of-m-requires c κs = let a = (start_of c.before).args in (long-numbers a.machine.now a.fuel.now (passed c)).0
+machine_of-m-requires c = let a = (start_of c.before).args in (long-numbers a.machine.now a.fuel.now (passed c)).0
 
 pub fuel_of-f-requires : goal.fuel_of-f-requires
-fuel_of-f-requires c κs = let a = (start_of c.before.before).args in (long-numbers a.machine.now a.fuel.now (passed c.before)).1
+fuel_of-f-requires c = let a = (start_of c.before.before).args in (long-numbers a.machine.now a.fuel.now (passed c.before)).1
 
 pub returns-then-not-sound_words : goal.returns-then-not-sound_words
 returns-then-not-sound_words c =
@@ -41,7 +41,7 @@ returns-then-not-sound_words c =
     ∙ not-true _ c.if-not-sound_words.true)
 
 pub sizes_held-requires : goal.sizes_held-requires
-sizes_held-requires c κs =
+sizes_held-requires c =
     let start = start_of c.before.before.before.before.before in
     let a = start.args in
     record {

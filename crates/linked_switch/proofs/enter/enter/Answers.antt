@@ -49,19 +49,19 @@ new : (c : After-is_created) → let a = (begun (entry_of c.before.before.before
 new c = c.is_created.ensures ∙ ap is_created (read_of (entry_of c.before.before.before)).before.before.before.before.before.before.state-at.ensures
 
 pub state_at-state-requires : goal.state_at-state-requires
-state_at-state-requires c κs = (sum (at-fits (start_of c.before.before.before).requires)).slot
+state_at-state-requires c = (sum (at-fits (start_of c.before.before.before).requires)).slot
 
 pub regs_at-regs-requires : goal.regs_at-regs-requires
-regs_at-regs-requires c κs = (sum (at-fits (start_of c.before.before.before.before.before).requires)).slot
+regs_at-regs-requires c = (sum (at-fits (start_of c.before.before.before.before.before).requires)).slot
 
 pub frames_at-deep-requires : goal.frames_at-deep-requires
-frames_at-deep-requires c κs = (sum (at-fits (start_of c.before.before.before.before.before.before.before).requires)).slot
+frames_at-deep-requires c = (sum (at-fits (start_of c.before.before.before.before.before.before.before).requires)).slot
 
 pub waiting_at-waiting-requires : goal.waiting_at-waiting-requires
-waiting_at-waiting-requires c κs = (sum (at-fits (start_of c.before.before.before.before.before.before.before.before.before).requires)).slot
+waiting_at-waiting-requires c = (sum (at-fits (start_of c.before.before.before.before.before.before.before.before.before).requires)).slot
 
 pub enter_at-requires : goal.enter_at-requires
-enter_at-requires c κs = let s = c.store_pc in enter-asks (start_of c.before.before.before.before.before.before.before.before.before.before.before.before.before.before.before.before.before).requires s.new.frames s.ensures s.auto.0
+enter_at-requires c = let s = c.store_pc in enter-asks (start_of c.before.before.before.before.before.before.before.before.before.before.before.before.before.before.before.before.before).requires s.new.frames s.ensures s.auto.0
 
 pub bounds-machine-0-2 : goal.bounds-machine-0-2
 bounds-machine-0-2 c = let h = (begun c.before.before.before.before.before.before.before.before.before.before.before.before.before).requires.words in omega (arith, h)
@@ -90,10 +90,10 @@ overflow_add-active c =
     let h = (sum (at-fits start.pre)).chain in record { fits = omega (arith, h, start.good) }
 
 pub put_numbers-requires : goal.put_numbers-requires
-put_numbers-requires c κs = (begun c.before.before.before.before.before.before.before.before.before.before.before.before.before.before.before.before).requires.words
+put_numbers-requires c = (begun c.before.before.before.before.before.before.before.before.before.before.before.before.before.before.before.before).requires.words
 
 pub send-requires : goal.send-requires
-send-requires c κs =
+send-requires c =
     let at-enter-at = entry_of c.before.before.before.before.before.before in let at-waiting-at = read_of at-enter-at in let start = begun at-enter-at in let s = (pc-of at-enter-at).store-pc in
     enter-sends start.pre s.last.0 s.ensures start.args.dst (left-words at-enter-at) at-enter-at.enter-at.ensures _ _ _
     at-waiting-at.before.before.before.before.regs-at.ensures at-waiting-at.before.before.frames-at.ensures at-waiting-at.waiting-at.ensures (sym (new c.before.before.before) ∙ not-true _ c.if-not-is_created.true)

@@ -19,13 +19,13 @@ abbrev mem : Start → Beside → Lent
 mem c = let a = c.args in lent a.stack.now a.frames.now a.chain.now a.slots.now a.saved-stack.now a.saved-frames.now
 
 pub move_in-requires : goal.move_in-requires
-move_in-requires c κs = record { words = c.requires.words; slot = (sum c.requires).slot; fits = fit c.requires (omega (arith, c.well-formed)) }
+move_in-requires c = record { words = c.requires.words; slot = (sum c.requires).slot; fits = fit c.requires (omega (arith, c.well_formed)) }
 
 pub push_active-requires : goal.push_active-requires
-push_active-requires c κs = (sum (start_of c.before.before.before.before.before.before.before.before.before.before.before).requires).chain
+push_active-requires c = (sum (start_of c.before.before.before.before.before.before.before.before.before.before.before).requires).chain
 
 pub put_entered-requires : goal.put_entered-requires
-put_entered-requires c κs = (sum (start_of c.before.before.before.before.before.before.before.before.before.before.before.before.before.before.before).requires).slot
+put_entered-requires c = (sum (start_of c.before.before.before.before.before.before.before.before.before.before.before.before.before.before.before).requires).slot
 
 pub returns : goal.returns
 returns c =

@@ -7,10 +7,10 @@ pub overflow_mul-at : goal.overflow_mul-at
 overflow_mul-at c =
     let at = regs-place c.args.slots.now c.args.machine.now c.args.i c.row_at.result c.row_at.ensures in
     let inside = c.requires.fits.in-saved in
-    record { fits = omega (arith, at, inside, c.well-formed) }
+    record { fits = omega (arith, at, inside, c.well_formed) }
 
 pub enter_stack-requires : goal.enter_stack-requires
-enter_stack-requires c κs =
+enter_stack-requires c =
     let at = regs-place c.args.slots.now c.args.machine.now c.args.i c.row_at.result c.row_at.ensures in
     let n = c.regs_at.ensures in
     let room = c.requires.fits.on-stack in
@@ -20,16 +20,16 @@ enter_stack-requires c κs =
 pub overflow_mul-from : goal.overflow_mul-from
 overflow_mul-from c =
     let deep = c.requires.fits.deep in
-    record { fits = omega (arith, deep, c.well-formed) }
+    record { fits = omega (arith, deep, c.well_formed) }
 
 pub overflow_mul-from-2 : goal.overflow_mul-from-2
 overflow_mul-from-2 c =
     let at = frames-place c.args.slots.now c.args.machine.now c.args.i c.row_at-2.result c.row_at-2.ensures in
     let inside = c.requires.fits.entering.in-saved in
-    record { fits = omega (arith, at, inside, c.well-formed) }
+    record { fits = omega (arith, at, inside, c.well_formed) }
 
 pub enter_frames-requires : goal.enter_frames-requires
-enter_frames-requires c κs =
+enter_frames-requires c =
     let s = c.args.slots.now in let ms = c.args.machine.now in let i = c.args.i in
     frames-fit s ms i c.row_at-2.result c.row_at-2.ensures c.args.frames.now c.args.saved_frames.now c.frames_at.result c.frames_at.ensures c.requires.fits.entering
 

@@ -70,13 +70,13 @@ pub returns-then-wide-src : goal.returns-then-wide-src
 returns-then-wide-src c = no_src (omega arith)
 
 pub state_at-state-requires : goal.state_at-state-requires
-state_at-state-requires c κs = slot c.before
+state_at-state-requires c = slot c.before
 
 pub returns-then-not-is_resumable : goal.returns-then-not-is_resumable
 returns-then-not-is_resumable c = no-state (found c.before.before.before.before) (sym (state-of c.before) ∙ not-true _ c.if-not-is_resumable.true)
 
 pub frames_at-deep-requires : goal.frames_at-deep-requires
-frames_at-deep-requires c κs = slot c.before.before.before.before
+frames_at-deep-requires c = slot c.before.before.before.before
 
 pub returns-then-deep-eq0 : goal.returns-then-deep-eq0
 returns-then-deep-eq0 c = no_frames (found c.before.before.before.before.before.before) (sym c.frames_at-deep.ensures ∙ c.if-deep-eq0.true)
@@ -85,7 +85,7 @@ pub returns-then-machine-deep : goal.returns-then-machine-deep
 returns-then-machine-deep c = no-depth (found c.before.before.before.before.before.before.before.before.before) (omega arith)
 
 pub regs_at-requires : goal.regs_at-requires
-regs_at-requires c κs = slot c.before.before.before.before.before.before.before.before.before.before.before
+regs_at-requires c = slot c.before.before.before.before.before.before.before.before.before.before.before
 
 pub returns-then-machine-regs_at : goal.returns-then-machine-regs_at
 returns-then-machine-regs_at c = no_stack (found c.before.before.before.before.before.before.before.before.before.before.before.before.before) (omega arith)

@@ -50,23 +50,23 @@ chained : (c : Start) → ((machine_in c.args.machine.now).active - 1) * 6 + 6 �
 chained c = let h = c.requires.run.ok.rep.chain.within in let r = c.requires.may.running in omega (arith, h, r)
 
 pub active_at-a-requires : goal.active_at-a-requires
-active_at-a-requires c κs = chained (start_of c.before.before.before.before)
+active_at-a-requires c = chained (start_of c.before.before.before.before)
 
 pub base_at-base-requires : goal.base_at-base-requires
-base_at-base-requires c κs =
+base_at-base-requires c =
     let at-store-pc = pc-of c.before in let start = start_of at-store-pc in let k = at-store-pc.store-pc.kept.0 in
     let f = start.pre.may.floor in let h = start.pre.sent.on-frames in let e = floored c.before in omega (arith, f, h, e, k)
 
 pub leave_at-requires : goal.leave_at-requires
-leave_at-requires c κs =
+leave_at-requires c =
     let at-active-at = active-of c.before.before.before.before.before.before.before in let at-store-pc = pc-of at-active-at in let s = at-store-pc.store-pc in
     leave-asks (start_of at-store-pc).pre s.last.0 s.ensures s.kept.0 _ _ (floored at-active-at) (base_read c.before.before.before.before.before.before.before)
 
 pub put_numbers-requires : goal.put_numbers-requires
-put_numbers-requires c κs = (start_of (pc-of (active-of (base-of c.before.before.before.before.before.before.before.before.before.before.before.before.before)))).requires.words
+put_numbers-requires c = (start_of (pc-of (active-of (base-of c.before.before.before.before.before.before.before.before.before.before.before.before.before)))).requires.words
 
 pub send-requires : goal.send-requires
-send-requires c κs =
+send-requires c =
     let at-leave-at = leave-of c.before.before.before.before in let at-base-at = base-of at-leave-at in let at-active-at = active-of at-base-at in
     let at-store-pc = pc-of at-active-at in let start = start_of at-store-pc in let s = at-store-pc.store-pc in
     leave-sends start.pre s.last.0 s.ensures start.args.dst at-store-pc.before.before.before.reg.result at-active-at.active-at.result.floor at-base-at.base-at.result

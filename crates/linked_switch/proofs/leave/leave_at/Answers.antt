@@ -16,10 +16,10 @@ abbrev mem : Start → Beside → Lent
 mem c = let a = c.args in lent a.stack.now a.frames.now a.chain.now a.slots.now a.saved-stack.now a.saved-frames.now
 
 pub row_at-row-requires : goal.row_at-row-requires
-row_at-row-requires c κs = slot_at c.requires
+row_at-row-requires c = slot_at c.requires
 
 pub move_out-requires : goal.move_out-requires
-move_out-requires c κs = record { words = c.requires.words; fits = leave_fits c.requires _ c.row_at-row.ensures }
+move_out-requires c = record { words = c.requires.words; fits = leave_fits c.requires _ c.row_at-row.ensures }
 
 pub overflow_sub-regs : goal.overflow_sub-regs
 overflow_sub-regs c = let u = under (start_of c.before.before.before.before.before.before.before.before.before.before.before.before.before.before).requires in omega (arith, u)
@@ -30,7 +30,7 @@ overflow_sub-deep c =
     let e = start.pre.at-floor in omega (arith, u, e)
 
 pub put_yielded-requires : goal.put_yielded-requires
-put_yielded-requires c κs = slot_at (start_of c.before.before.before.before.before.before.before.before.before.before.before.before.before.before.before.before).requires
+put_yielded-requires c = slot_at (start_of c.before.before.before.before.before.before.before.before.before.before.before.before.before.before.before.before).requires
 
 pub returns : goal.returns
 returns c =

@@ -12,7 +12,7 @@ pub bounds-machine-0 : goal.bounds-machine-0
 bounds-machine-0 c = let h = c.requires.words in omega (arith, h)
 
 pub leave_stack-requires : goal.leave_stack-requires
-leave_stack-requires c κs = let fit = c.requires.fits in let inside = fit.in-saved in (fit.under, fit.on-stack, omega (arith, inside))
+leave_stack-requires c = let fit = c.requires.fits in let inside = fit.in-saved in (fit.under, fit.on-stack, omega (arith, inside))
 
 pub bounds-machine-13 : goal.bounds-machine-13
 bounds-machine-13 c = let h = c.requires.words in omega (arith, h)
@@ -27,7 +27,7 @@ pub bounds-machine-1 : goal.bounds-machine-1
 bounds-machine-1 c = let h = c.requires.words in omega (arith, h)
 
 pub leave_frames-requires : goal.leave_frames-requires
-leave_frames-requires c κs =
+leave_frames-requires c =
     let fit = c.requires.fits.leaving in let inside = fit.in-saved in
     record { under = fit.under; on-frames = fit.on-frames; in-saved = omega (arith, inside); above = fit.above }
 

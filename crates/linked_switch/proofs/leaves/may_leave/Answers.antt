@@ -98,25 +98,25 @@ pub returns-then-width-src : goal.returns-then-width-src
 returns-then-width-src c = no_src (omega arith)
 
 pub returns-in_default : goal.returns-in_default
-returns-in_default c = no-resume (ap (λ (x : Active). by_resume x.driver) (sym c.active_at-a.ensures) ∙ not-resume c.active_at-a.result.driver c.in_default.keys2)
+returns-in_default c = no-resume (ap (λ (x : Active). by_resume x.driver) (sym c.active_at-a.ensures) ∙ not-resume c.active_at-a.result.driver c.in_default.in_default-own.keys2)
 
 pub bounds-machine-3 : goal.bounds-machine-3
 bounds-machine-3 c = let h = (start_of c.before.before.before.before).requires.words in omega (arith, h)
 
 pub coro_place-requires : goal.coro_place-requires
-coro_place-requires c κs = (start_of c.before.before.before.before).requires.in-slots
+coro_place-requires c = (start_of c.before.before.before.before).requires.in-slots
 
 pub closing_at-requires : goal.closing_at-requires
-closing_at-requires c κs = slot c.before
+closing_at-requires c = slot c.before
 
 pub returns-then-closing_at : goal.returns-then-closing_at
 returns-then-closing_at c = closing (found c.before.before.before) (sym c.Closing-at.ensures ∙ c.if-closing_at.true)
 
 pub base_at-base-requires : goal.base_at-base-requires
-base_at-base-requires c κs = let f = floored c.before.before.before.before.before.before.before.before.before.before in let h = (start_of c.before.before.before.before.before.before.before.before.before.before).requires.on-frames in omega (arith, f, h)
+base_at-base-requires c = let f = floored c.before.before.before.before.before.before.before.before.before.before in let h = (start_of c.before.before.before.before.before.before.before.before.before.before).requires.on-frames in omega (arith, f, h)
 
 pub maxregs_at-requires : goal.maxregs_at-requires
-maxregs_at-requires c κs = slot c.before.before.before.before
+maxregs_at-requires c = slot c.before.before.before.before
 
 pub bounds-machine-0-in-At : goal.bounds-machine-0-in-At
 bounds-machine-0-in-At c = let h = (start_of c.before.before.before.before.before.before.before.before.before.before.before.before.before).requires.words in omega (arith, h)
@@ -130,7 +130,7 @@ pub returns-then-maxregs_at-machine : goal.returns-then-maxregs_at-machine
 returns-then-maxregs_at-machine c = let e = based c.before.before.before in let n = c.maxregs_at.ensures in too_wide (found c.before.before.before.before.before.before.before) (omega (arith, e, n, c.if-maxregs_at-machine.true))
 
 pub maxframes_at-requires : goal.maxframes_at-requires
-maxframes_at-requires c κs = slot c.before.before.before.before.before.before.before
+maxframes_at-requires c = slot c.before.before.before.before.before.before.before
 
 pub bounds-machine-1-in-At : goal.bounds-machine-1-in-At
 bounds-machine-1-in-At c = let h = (start_of c.before.before.before.before.before.before.before.before.before.before.before.before.before.before.before.before).requires.words in omega (arith, h)
@@ -144,7 +144,7 @@ returns-then-maxframes_at-machine c =
     too-deep (found c.before.before.before.before.before.before.before.before.before.before.before) (omega (arith, f, n, c.if-maxframes_at-machine.true))
 
 pub largest_at-requires : goal.largest_at-requires
-largest_at-requires c κs = slot c.before.before.before.before.before.before.before.before.before.before.before
+largest_at-requires c = slot c.before.before.before.before.before.before.before.before.before.before.before
 
 pub returns-in-Not : goal.returns-in-Not
 returns-in-Not c = no_place (sym c.in-Not.is ∙ named c.before.before)

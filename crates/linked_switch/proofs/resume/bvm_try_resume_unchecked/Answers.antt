@@ -29,10 +29,10 @@ pub bounds-fuel-0 : goal.bounds-fuel-0
 bounds-fuel-0 c = let h = (long (of c.before.before.before.before.before.before.before.before.before.before.before.before.before) c.requires.sound).1 in omega (arith, h)
 
 pub may_enter-requires : goal.may_enter-requires
-may_enter-requires c κs = enters-fit (of c.before.before.before.before.before.before.before.before.before.before.before.before.before) c.requires.sound
+may_enter-requires c = enters-fit (of c.before.before.before.before.before.before.before.before.before.before.before.before.before) c.requires.sound
 
 pub resume_at-requires : goal.resume_at-requires
-resume_at-requires c κs =
+resume_at-requires c =
     let start = start_of c.before.before.before.before.before.before.before.before.before.before.before in
     record { held = holds (of start) start.pre.sound start.args.pc start.fits.pc.fits; enterable = c.may_enter.ensures.at _ _ c.in-At.is }
 

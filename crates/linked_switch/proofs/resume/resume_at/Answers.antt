@@ -19,7 +19,7 @@ abbrev mem : Start → Beside → Lent
 mem c b = lent c.args.stack.now c.args.frames.now c.args.chain.now c.args.slots.now c.args.saved-stack.now c.args.saved-frames.now b
 
 pub enter-requires : goal.enter-requires
-enter-requires c κs =
+enter-requires c =
     let e = c.requires.enterable in
     let ok = c.requires.held.ok in
     record {

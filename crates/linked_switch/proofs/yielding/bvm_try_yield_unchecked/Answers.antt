@@ -29,10 +29,10 @@ pub bounds-fuel-0 : goal.bounds-fuel-0
 bounds-fuel-0 c = let h = (long (of c.before.before.before.before.before.before.before.before.before.before.before.before.before) c.requires.sound).1 in omega (arith, h)
 
 pub may_leave-requires : goal.may_leave-requires
-may_leave-requires c κs = leaves-fit (of c.before.before.before.before.before.before.before.before.before.before.before.before.before) c.requires.sound
+may_leave-requires c = leaves-fit (of c.before.before.before.before.before.before.before.before.before.before.before.before.before) c.requires.sound
 
 pub yield_at-requires : goal.yield_at-requires
-yield_at-requires c κs =
+yield_at-requires c =
     let start = start_of c.before.before.before.before.before.before.before.before.before.before.before in
     record { held = holds (of start) start.pre.sound start.args.pc start.fits.pc.fits; leavable = c.may_leave.ensures.at _ _ _ _ c.in-At.is }
 

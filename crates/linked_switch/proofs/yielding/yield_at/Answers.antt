@@ -19,7 +19,7 @@ abbrev mem : Start → Beside → Lent
 mem c b = lent c.args.stack.now c.args.frames.now c.args.chain.now c.args.slots.now c.args.saved-stack.now c.args.saved-frames.now b
 
 pub leave-requires : goal.leave-requires
-leave-requires c κs =
+leave-requires c =
     let e = c.requires.leavable in
     let ok = c.requires.held.ok in
     record {

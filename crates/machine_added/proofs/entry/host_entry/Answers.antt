@@ -15,7 +15,7 @@ abbrev start_of : After-coro_enter-did → Start
 start_of c = c.before.before.before.before.before.before.before.before.before.before.before.before.before
 
 pub arrive-requires : goal.arrive-requires
-arrive-requires c κs =
+arrive-requires c =
     let at-coro-enter = coro-enter-of c in let start = start_of at-coro-enter in let o = start.pre in
     arrive-fits start.args.sizes _ at-coro-enter.coro-enter.result.machine _ start.args.c Driver.Host o.world at-coro-enter.coro-enter.result.answer o.sound
     (at-coro-enter.coro-enter.ensures o.world o.beside o.rep o.sound)

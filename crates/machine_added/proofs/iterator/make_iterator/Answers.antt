@@ -8,7 +8,7 @@ use Rattle.machine_added.proofs.Iterators.{not-over, over}
 use Rattle.machine_added.proofs.iterator.make_iterator.Goals as goal
 
 pub alloc_plain-did-requires : goal.alloc_plain-did-requires
-alloc_plain-did-requires c κs = heap-room c.requires.rep c.requires.sound c.requires.room
+alloc_plain-did-requires c = heap-room c.requires.rep c.requires.sound c.requires.room
 
 pub returns-in-Refused : goal.returns-in-Refused
 returns-in-Refused c = λ w b rep snd. not-over c.args.sizes _ c.args.m b.fuel w c.args.v _ (sym c.in-Refused.is ∙ c.coro_state.ensures c.args.sizes w b rep) rep

@@ -23,15 +23,15 @@ aborted c =
     c.abort_coros-did.ensures c.requires.world (around c.before.before.before.before.before.before.before.before.before.before.before c.requires.beside) c.requires.rep (sound-rowed c.requires.world c.requires.sound)
 
 pub abort_coros-did-requires : goal.abort_coros-did-requires
-abort_coros-did-requires c κs =
+abort_coros-did-requires c =
     let o = c.requires in
     record { world = o.world; beside = around c.before.before.before.before.before.before.before.before.before.before o.beside; rep = o.rep; known = sound-rowed o.world o.sound }
 
 pub clear_frames-requires : goal.clear_frames-requires
-clear_frames-requires c κs = (aborted c.before.before.before.before.before.before.before.before.before.before.before).frames.within
+clear_frames-requires c = (aborted c.before.before.before.before.before.before.before.before.before.before.before).frames.within
 
 pub cut-requires : goal.cut-requires
-cut-requires c κs = let h = (aborted c.before.before.before.before.before.before.before.before.before.before.before.before.before.before.before).stack.within in (omega arith, h)
+cut-requires c = let h = (aborted c.before.before.before.before.before.before.before.before.before.before.before.before.before.before.before).stack.within in (omega arith, h)
 
 pub returns : goal.returns
 returns c =

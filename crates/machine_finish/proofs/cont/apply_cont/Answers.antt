@@ -11,13 +11,13 @@ use Rattle.machine_finish.proofs.Results.{entry-is, discard-is, coro-is, write-n
 use Rattle.machine_finish.proofs.cont.apply_cont.Goals as goal
 
 pub put-requires : goal.put-requires
-put-requires c κs =
+put-requires c =
     let a = c.args in let w = c.requires.ok.world in
     put-fits a.sizes (top_table a.stack.now a.frames.now a.slots.now plain) a.m a.cont c.requires c.in-Write.dst
     (ap (λ x. cont_lies x (length w.stack) w.frames) c.in-Write.is)
 
 pub write_dyn-requires : goal.write_dyn-requires
-write_dyn-requires c κs =
+write_dyn-requires c =
     let w = c.requires.ok.world in
     record { ok = c.requires.ok; lies = subst (λ x. cont_lies x (length w.stack) w.frames ≡ true) c.in-Dyn.is c.requires.lies }
 
@@ -25,11 +25,11 @@ pub returns-in-Dyn : goal.returns-in-Dyn
 returns-in-Dyn c =
     let a = c.args in let f = c.write_dyn in
     λ w b rep.
-    subst (λ y. Does a.sizes (apply_cont y a.kind a.v w) (top_table f.new.stack a.frames.now f.new.1.1.0 plain b) f.result.machine b.fuel f.result.answer)
+    subst (λ y. Does a.sizes (apply_cont y a.kind a.v w) (top_table f.new.stack a.frames.now f.new.slots plain b) f.result.machine b.fuel f.result.answer)
     (sym c.in-Dyn.is) (f.ensures w b rep)
 
 pub put-requires-in-Value : goal.put-requires-in-Value
-put-requires-in-Value c κs =
+put-requires-in-Value c =
     let a = c.args in let w = c.requires.ok.world in
     put-fits a.sizes (top_table a.stack.now a.frames.now a.slots.now plain) a.m a.cont c.requires c.in-Value.dst
     (ap (λ x. cont_lies x (length w.stack) w.frames) c.in-Value.is)

@@ -12,12 +12,12 @@ use Rattle.machine_finish.proofs.Results.{dyn-put, dyn-not, dyn-room, put-fits-d
 use Rattle.machine_finish.proofs.cont.write_dyn.Goals as goal
 
 pub to_dyn-did-requires : goal.to_dyn-did-requires
-to_dyn-did-requires c κs =
+to_dyn-did-requires c =
     let a = c.args in
     dyn-room a.sizes (top_table a.stack.now a.frames.now a.slots.now plain) a.m (Cont.Dyn a.dst) c.requires
 
 pub put-requires : goal.put-requires
-put-requires c κs =
+put-requires c =
     let a = c.args in
     let o = c.requires.ok in
     let f = c.to_dyn-did in

@@ -6,7 +6,7 @@ use Rattle.machine_finish.proofs.Conversion.{dyn-refused, dyn-made}
 use Rattle.machine_finish.proofs.convert.to_dyn.Goals as goal
 
 pub to_dyn-requires : goal.to_dyn-requires
-to_dyn-requires c κs =
+to_dyn-requires c =
     let e : c.heap_of.result.slots ≡ c.args.sizes.slots = ap (λ x. x.slots) c.heap_of.ensures in
     let p₁ = c.requires.words in
     let p₂ = c.requires.slots in

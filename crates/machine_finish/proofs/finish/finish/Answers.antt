@@ -49,12 +49,12 @@ returns-then-m-eq0 c =
     (no-frame a.kind a.v w c.result_of.result (no_top w.frames a.frames.now a.m.depth rep.frames c.if-m-eq0.true) c.result_of.ensures) rep
 
 pub pop-n-requires : goal.pop-n-requires
-pop-n-requires c κs =
+pop-n-requires c =
     let start = start_of c.before.before.before.before.before in
     may-pop start.args.sizes (mem start) start.args.m start.pre (some c.before.before.before.before.before)
 
 pub end_call-did-requires : goal.end_call-did-requires
-end_call-did-requires c κs =
+end_call-did-requires c =
     let start = start_of c.before.before.before.before.before.before in
     let o = start.pre in
     record {
@@ -63,7 +63,7 @@ end_call-did-requires c κs =
     }
 
 pub finish_coro-requires : goal.finish_coro-requires
-finish_coro-requires c κs =
+finish_coro-requires c =
     record {
       ok = (start_of c.before.before.before.before.before.before.before.before.before).requires;
       some = some c.before.before.before.before.before.before.before.before.before;

@@ -35,16 +35,16 @@ abbrev start_of : After-to_dyn-did → Start
 start_of c = c.before.before.before.before.before.before.before.before
 
 pub to_dyn-did-requires : goal.to_dyn-did-requires
-to_dyn-did-requires c κs = let o = c.requires.ok in heap-room o.rep o.sound o.room
+to_dyn-did-requires c = let o = c.requires.ok in heap-room o.rep o.sound o.room
 
 pub pop-k-requires : goal.pop-k-requires
-pop-k-requires c κs =
+pop-k-requires c =
     let start = start_of c.before.before.before.before.before.before.before.before in let a = start.args in let o = start.pre.ok in let f = c.to_dyn-did in
     body-pops a.sizes (mem start a.slots.now) a.m start.pre a.kind a.v (mem start f.new.slots o.beside) f.result.machine
     (f.ensures o.world (around start o.beside) o.rep).world
 
 pub coro_returned-told-requires : goal.coro_returned-told-requires
-coro_returned-told-requires c κs =
+coro_returned-told-requires c =
     let start = start_of c.before.before.before.before.before.before.before.before.before.before.before.before.before.before.before.before.before.before.before in let a = start.args in
     let o = start.pre.ok in let f = c.to_dyn-did in let p = c.pop-k in
     body-asks a.sizes (mem start a.slots.now) a.m start.pre a.kind a.v

@@ -6,7 +6,7 @@ use Rattle.machine_state.proofs.Named.{state-none, state-at}
 use Rattle.machine_state.proofs.coro.coro_state.Goals as goal
 
 pub state_at-s-requires : goal.state_at-s-requires
-state_at-s-requires c κs = stands-words c.args.m.count c.args.slots.now c.args.v.0 c.in-At.i (sym c.in-At.is ∙ c.coro_place.ensures) c.requires
+state_at-s-requires c = stands-words c.args.m.count c.args.slots.now c.args.v.0 c.in-At.i (sym c.in-At.is ∙ c.coro_place.ensures) c.requires
 
 pub returns-in-Not : goal.returns-in-Not
 returns-in-Not c =

@@ -13,7 +13,7 @@ returns-then-m-eq0 c =
     λ l w b rep. none-steps l w (frame a.frames.now plain b) a.m b.fuel rep c.if-m-eq0.true
 
 pub step_pc-requires : goal.step_pc-requires
-step_pc-requires c κs =
+step_pc-requires c =
     let some : 1 ≤ c.args.m.depth = omega (arith, c.if-m-eq0.false) in
     (some, c.requires.within, c.requires.narrow some)
 

@@ -33,12 +33,12 @@ test c =
     ap (overflowing c.args.m c.args.sizes) (sym c.regs_at-n.ensures) ∙ sym c.overflows.ensures
 
 pub regs_at-n-requires : goal.regs_at-n-requires
-regs_at-n-requires c κs =
+regs_at-n-requires c =
     let o = c.requires.push.ok in
     (asked c.args.sizes o.world (mem c.before.before.before o.beside) c.args.m o.beside.fuel o.rep o.sound c.args.f c.requires.push.function o.room).function-there
 
 pub overflows-requires : goal.overflows-requires
-overflows-requires c κs =
+overflows-requires c =
     let o = c.requires.push.ok in
     (asked c.args.sizes o.world (mem c.before.before.before.before o.beside) c.args.m o.beside.fuel o.rep o.sound c.args.f c.requires.push.function o.room).height
 
@@ -49,13 +49,13 @@ returns-then-overflows c =
     (test c.before ∙ c.if-overflows.true)
 
 pub store_pc-requires : goal.store_pc-requires
-store_pc-requires c κs =
+store_pc-requires c =
     let s = start_of c.before.before in
     let q = s.pre.push.ok.rep.frames.within in
     record { some = s.pre.some; within = q }
 
 pub push_frame-requires : goal.push_frame-requires
-push_frame-requires c κs =
+push_frame-requires c =
     let s = start_of c.before.before.before.before.before.before in
     let o = s.pre.push.ok in
     let frames' = c.store_pc.new.frames in

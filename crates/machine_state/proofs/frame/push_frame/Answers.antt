@@ -15,12 +15,12 @@ abbrev mem : Start → Beside → Lent
 mem c b = on_stack c.args.stack.now (on_frames c.args.frames.now (on_setup c.args.setup.now b.words))
 
 pub regs_at-n-requires : goal.regs_at-n-requires
-regs_at-n-requires c κs =
+regs_at-n-requires c =
     (asked c.args.sizes c.requires.ok.world (mem c.before.before.before c.requires.ok.beside) c.args.m c.requires.ok.beside.fuel c.requires.ok.rep
     c.requires.ok.sound c.args.f c.requires.function c.requires.ok.room).function-there
 
 pub overflows-requires : goal.overflows-requires
-overflows-requires c κs =
+overflows-requires c =
     (asked c.args.sizes c.requires.ok.world (mem c.before.before.before.before c.requires.ok.beside) c.args.m c.requires.ok.beside.fuel c.requires.ok.rep
     c.requires.ok.sound c.args.f c.requires.function c.requires.ok.room).height
 
@@ -31,13 +31,13 @@ returns-then-overflows c =
     (ap (overflowing c.args.m c.args.sizes) (sym c.regs_at-n.ensures) ∙ sym c.overflows.ensures ∙ c.if-overflows.true)
 
 pub push_frame-requires : goal.push_frame-requires
-push_frame-requires c κs =
+push_frame-requires c =
     (fitting c.args.sizes c.requires.ok.world (mem c.before.before.before.before.before.before.before c.requires.ok.beside) c.args.m c.requires.ok.beside.fuel
     c.requires.ok.rep c.requires.ok.sound c.args.f c.requires.function c.args.closure c.args.cont c.requires.ok.room (ap
     (overflowing c.args.m c.args.sizes) (sym c.regs_at-n.ensures) ∙ sym c.overflows.ensures ∙ c.if-overflows.false)).frames
 
 pub grown-requires : goal.grown-requires
-grown-requires c κs =
+grown-requires c =
     let h = fitting c.args.sizes c.requires.ok.world (mem c.before.before.before.before.before.before.before.before.before.before c.requires.ok.beside) c.args.m c.requires.ok.beside.fuel
     c.requires.ok.rep c.requires.ok.sound c.args.f c.requires.function c.args.closure c.args.cont c.requires.ok.room
     (ap (overflowing c.args.m c.args.sizes) (sym c.regs_at-n.ensures) ∙ sym c.overflows.ensures ∙ c.if-overflows.false) in

@@ -7,7 +7,7 @@ use Rattle.machine_state.proofs.Allocation.{plain-refused, plain-made}
 use Rattle.machine_state.proofs.object.alloc_plain.Goals as goal
 
 pub alloc-requires : goal.alloc-requires
-alloc-requires c κs =
+alloc-requires c =
     let e : c.heap_of.result.slots ≡ c.args.sizes.slots = ap (λ x. x.slots) c.heap_of.ensures in
     let p₁ = c.requires.words in
     let p₂ = c.requires.slots in

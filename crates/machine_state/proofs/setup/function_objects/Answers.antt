@@ -12,7 +12,7 @@ pub loop-i-init : goal.loop-i-init
 loop-i-init c = (omega arith, refl, slots-none _ (length c.args.slots.now) c.clear_words.ensures)
 
 pub put_slot-requires : goal.put_slot-requires
-put_slot-requires c κs =
+put_slot-requires c =
     let k : length c.clear_words.new.s ≡ length c.args.slots.now = c.clear_words.auto.0 in
     let a = c.loop-i.invariant.0 in
     let b = c.loop-i.invariant.1 in

@@ -16,7 +16,7 @@ returns-then-m-ne0 c =
     (busy a.sizes (top_setup a.stack.now a.frames.now a.setup.now plain b) a.m b.fuel w _ _ (some-frames w.frames a.frames.now a.m.depth rep.frames (let h = c.if-m-ne0.true in omega arith)) rep)
 
 pub is_function-requires : goal.is_function-requires
-is_function-requires c κs = let k = c.requires.room.setup in omega arith
+is_function-requires c = let k = c.requires.room.setup in omega arith
 
 pub returns-then-not-is_function : goal.returns-then-not-is_function
 returns-then-not-is_function c =
@@ -26,7 +26,7 @@ returns-then-not-is_function c =
     c.if-m-ne0.false in omega arith)) (function-told a.sizes (top_setup a.stack.now a.frames.now a.setup.now plain b) a.m b.fuel w a.f _ rep c.is_function.ensures ∙ not-true _ c.if-not-is_function.true) rep)
 
 pub host_call-requires : goal.host_call-requires
-host_call-requires c κs =
+host_call-requires c =
     let a = c.args in
     push-fits a.sizes a.stack.now a.frames.now a.setup.now a.m c.requires a.f (sym (not-false _ c.if-not-is_function.false) ∙ c.is_function.ensures)
 

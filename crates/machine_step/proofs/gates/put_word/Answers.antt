@@ -22,7 +22,7 @@ pub overflow_sub-m : goal.overflow_sub-m
 overflow_sub-m c = let h = c.if-m-eq0.false in omega arith
 
 pub base_at-base-requires : goal.base_at-base-requires
-base_at-base-requires c κs = let h = c.if-m-eq0.false in let k = c.requires.rep.frames.within in omega arith
+base_at-base-requires c = let h = c.if-m-eq0.false in let k = c.requires.rep.frames.within in omega arith
 
 pub bounds-setup-13 : goal.bounds-setup-13
 bounds-setup-13 c = let k = c.requires.room.setup in omega arith
@@ -38,7 +38,7 @@ returns-then-not-passes c =
     (sym (c.passes.ensures w N) ∙ not-true _ c.if-not-passes.true) rep)
 
 pub put_word-requires : goal.put_word-requires
-put_word-requires c κs =
+put_word-requires c =
     let a = c.args in let ok = c.requires in let w = ok.world in let b = ok.beside in let rep = ok.rep in
     let some : 1 ≤ a.m.depth = (let h = c.if-m-eq0.false in omega arith) in
     let N = numbered a.sizes w (top_setup a.stack.now a.frames.now a.setup.now plain b) a.m b.fuel (get_or a.setup.now 13 0) c.base_at-base.result rep some refl c.base_at-base.ensures in

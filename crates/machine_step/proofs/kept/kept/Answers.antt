@@ -12,7 +12,7 @@ mem c = all c.args.stack.now c.args.frames.now c.args.chain.now c.args.slots.now
     c.args.ready.now c.args.finalize.now c.args.setup.now plain
 
 pub dispatch-requires : goal.dispatch-requires
-dispatch-requires c κs = let at-widths = c.before.before.before.before.before.before.before.before in record { ok = at-widths.before.before.before.before.before.before.before.before.before.before.requires; within = at-widths.widths.ensures }
+dispatch-requires c = let at-widths = c.before.before.before.before.before.before.before.before in record { ok = at-widths.before.before.before.before.before.before.before.before.before.before.requires; within = at-widths.widths.ensures }
 
 pub returns : goal.returns
 returns c =

@@ -10,5 +10,5 @@ returns-in-None c = ap opt_pc c.in-None.is
 
 pub returns-in-Some : goal.returns-in-Some
 returns-in-Some c =
-    let n = c.in-Some.n in let k = c.known_told-1.given in
+    let n = c.in-Some.n in let k = c.in-Some.known_told-1-own.given in
     ap opt_pc c.in-Some.is ∙ pc n (omega arith)

@@ -10,7 +10,7 @@ use Rattle.machine_unwind.proofs.Handlers.{handler-read}
 use Rattle.machine_unwind.proofs.handler.handler_in.Goals as goal
 
 pub handler_at-requires : goal.handler_at-requires
-handler_at-requires c κs =
+handler_at-requires c =
     let e = c.func_at-f.ensures in let setup = c.args.setup.now in
     (subst (λ i. 14 + i * 35 + 35 ≤ length setup) (sym e) c.requires.there, subst (λ i. (function_in setup i).count ≤ 8) (sym e) c.requires.few)
 

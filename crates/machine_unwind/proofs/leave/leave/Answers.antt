@@ -27,12 +27,12 @@ abbrev start_of : After-cont_at-k → Start
 start_of c = c.before.before.before.before.before.before.before.before.before
 
 pub pop-n-requires : goal.pop-n-requires
-pop-n-requires c κs =
+pop-n-requires c =
     let start = start_of c.before.before in let a = start.args in let o = start.pre.ok in
     pop-fits a.sizes (mem start o.beside) a.m a.fuel o.world o.rep o.sound start.pre.some
 
 pub passed-requires : goal.passed-requires
-passed-requires c κs = sym c.is_coro.ensures ∙ not-true _ c.if-not-is_coro.true
+passed-requires c = sym c.is_coro.ensures ∙ not-true _ c.if-not-is_coro.true
 
 pub shape_of-stack-then-not-is_coro : goal.shape_of-stack-then-not-is_coro
 shape_of-stack-then-not-is_coro c = (gone_of c.before.before).pop.auto.0
@@ -51,7 +51,7 @@ returns-then-not-is_coro c =
     c.passed.ensures (gone.pop.ensures a.sizes w (record { words = mem start b; fuel = a.fuel }) rep)
 
 pub coro_escaped-did-requires : goal.coro_escaped-did-requires
-coro_escaped-did-requires c κs =
+coro_escaped-did-requires c =
     let gone = gone_of c.before.before.before.before.before.before.before in let read = read_of gone in
     let start = start_of read in let a = start.args in let o = start.pre.ok in let w = o.world in
     let t = some-top w.frames a.frames.now a.m.depth o.rep.frames start.pre.some in

@@ -48,7 +48,7 @@ pub loop-n-init : goal.loop-n-init
 loop-n-init c = along-start c.args.sizes c.args.value c.args.func c.args.pc (at-start c.before.before.before.before.before.before.before) (with c.args.m c.args.fuel) c.requires.ok
 
 pub turn-did-requires : goal.turn-did-requires
-turn-did-requires c κs = record { ok = c.loop-n.invariant.ok; some = omega (arith, c.loop-n-test.true) }
+turn-did-requires c = record { ok = c.loop-n.invariant.ok; some = omega (arith, c.loop-n-test.true) }
 
 pub shape_of-stack-then-not-goes_on : goal.shape_of-stack-then-not-goes_on
 shape_of-stack-then-not-goes_on c = let did = turn-of c.before in did.turn.kept.0 ∙ (so_far (loop-of did)).stack

@@ -24,13 +24,13 @@ read : (c : After-handler_in) (w : World) (b : Beside) → Rep (start_of c).args
 read c w b rep = c.handler_in.ensures (start_of c).args.sizes w (record { words = mem (start_of c) b; fuel = (start_of c).args.fuel }) rep
 
 pub handler_in-requires : goal.handler_in-requires
-handler_in-requires c κs =
+handler_in-requires c =
     let a = c.args in
     let o = c.requires.ok in
     handler-fits a.sizes (mem c.before.before.before.before.before.before.before.before o.beside) a.m a.fuel o.world o.rep o.sound c.requires.some o.room
 
 pub take_handler-requires : goal.take_handler-requires
-take_handler-requires c κs =
+take_handler-requires c =
     let start = start_of c.before.before.before.before.before in
     let a = start.args in
     let o = start.pre.ok in
@@ -38,7 +38,7 @@ take_handler-requires c κs =
     (sym c.in-By.is ∙ read c.before.before.before.before.before o.world o.beside o.rep)
 
 pub leave-requires : goal.leave-requires
-leave-requires c κs =
+leave-requires c =
     let start = start_of c.before.before.before.before.before.before.before.before in
     let a = start.args in
     let o = start.pre.ok in

@@ -33,10 +33,10 @@ told c w b rep =
     c.thrown-did.ensures w beside rep (c.origin-at.ensures a.sizes w beside rep)
 
 pub thrown-did-requires : goal.thrown-did-requires
-thrown-did-requires c κs = let o = c.requires.ok in heap-room o.rep o.sound o.room
+thrown-did-requires c = let o = c.requires.ok in heap-room o.rep o.sound o.room
 
 pub search-requires : goal.search-requires
-search-requires c κs =
+search-requires c =
     let start = start_of c.before.before.before.before.before.before.before.before.before.before.before.before in let a = start.args in let o = start.pre.ok in
     raised-fits a.sizes (mem start) (after-made c.before.before.before.before.before.before.before.before.before.before.before.before) a.m c.thrown-did.result.machine a.fuel o a.fault start.pre.raises c.origin-at.result
     (c.origin-at.ensures a.sizes o.world (record { words = mem start o.beside; fuel = a.fuel }) o.rep)

@@ -35,7 +35,7 @@ returns-then-not-is_raisable c =
     λ w b rep snd. unwind-refused a.sizes (mem start b) a.m a.fuel w a.fault a.pc (sym c.is_raisable.ensures ∙ not-true _ c.if-not-is_raisable.true) rep
 
 pub raise-requires : goal.raise-requires
-raise-requires c κs =
+raise-requires c =
     let asked = asked_of c.before.before.before.before.before.before.before.before in
     let start = start_of asked in
     let a = start.args in

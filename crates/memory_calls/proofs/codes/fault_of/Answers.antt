@@ -58,4 +58,4 @@ pub returns-in-16 : goal.returns-in-16
 returns-in-16 c = rw c.in-16.is
 
 pub returns-in-17-to-18446744073709551615 : goal.returns-in-17-to-18446744073709551615
-returns-in-17-to-18446744073709551615 c = sym (get_or-eq_default faults (F.Throw c.args.w) {n = c.args.n} (past c.args.n 17 c.in-17-to-18446744073709551615.rest))
+returns-in-17-to-18446744073709551615 c = sym (get_or-eq_default faults (F.Throw c.args.w) {n = c.args.n} (past c.args.n 17 c.in-17-to-18446744073709551615.in-17-to-18446744073709551615-own.rest))

@@ -118,4 +118,4 @@ returns-in-25 c = rw c.in-25.is
 pub returns-in-26-to-18446744073709551615 : goal.returns-in-26-to-18446744073709551615
 returns-in-26-to-18446744073709551615 c =
     let g = c.args in
-    sym (get_or-eq_default (table g.a g.b g.c g.d g.e) Op.Look {n = g.n} (past g.n 26 c.in-26-to-18446744073709551615.rest))
+    sym (get_or-eq_default (table g.a g.b g.c g.d g.e) Op.Look {n = g.n} (past g.n 26 c.in-26-to-18446744073709551615.in-26-to-18446744073709551615-own.rest))

@@ -27,5 +27,5 @@ pub returns-in_default : goal.returns-in_default
 unfolding pick
 returns-in_default c =
     let n = c.args.code in
-    let r = c.in_default.rest in
+    let r = c.in_default.in_default-own.rest in
     rw (ne_eqb n 0 r.0.0.0.0.1, ne_eqb n 1 r.0.0.0.1, ne_eqb n 2 r.0.0.1, ne_eqb n 3 r.0.1, ne_eqb n 4 r.1)

@@ -4,7 +4,7 @@ use Rattle.memory_tables.proofs.Switch.{enter-asks, enters-frames}
 use Rattle.memory_tables.proofs.rows.enter_frames.Goals as goal
 
 pub move_frames-requires : goal.move_frames-requires
-move_frames-requires c κs =
+move_frames-requires c =
     let a = c.args in
     enter-asks a.frames.now a.saved.now a.depth a.at a.n a.by c.requires
 

@@ -4,7 +4,7 @@ use Rattle.memory_tables.proofs.Switch.{leave-asks, leaves-frames}
 use Rattle.memory_tables.proofs.rows.leave_frames.Goals as goal
 
 pub move_frames-requires : goal.move_frames-requires
-move_frames-requires c κs =
+move_frames-requires c =
     let a = c.args in
     leave-asks a.frames.now a.saved.now a.depth a.floor a.by a.at c.requires (λ i. (c.slice_known-1.given i).fits)
 

@@ -8,7 +8,7 @@ pub slice_bounds-copy_words-end-2 : goal.slice_bounds-copy_words-end-2
 slice_bounds-copy_words-end-2 c = sym (length-take-le c.args.n c.args.src.now c.requires.1)
 
 pub copy_words-requires : goal.copy_words-requires
-copy_words-requires c κs =
+copy_words-requires c =
     let a = c.args in
     ap (λ n. length (take n (drop a.at a.rows.now))) (span a.at a.n) ∙ length_part a.at a.n a.rows.now (omega arith)
     ∙ sym (length-take-le a.n a.src.now c.requires.1)

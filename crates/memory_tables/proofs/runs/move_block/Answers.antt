@@ -28,7 +28,7 @@ pub slice_bounds-copy_words-end : goal.slice_bounds-copy_words-end
 slice_bounds-copy_words-end c = sym (length-take-le c.args.n (replicate 1024 0) c.requires.0)
 
 pub copy_words-requires : goal.copy_words-requires
-copy_words-requires c κs =
+copy_words-requires c =
     let a = c.args in
     length-take-le a.n (replicate 1024 0) c.requires.0
     ∙ sym (ap (λ n. length (take n (drop a.from a.src.now))) (span a.from a.n) ∙ length_part a.from a.n a.src.now c.requires.2)
@@ -42,7 +42,7 @@ slice_bounds-copy_words-end-4 c =
     sym (ap length (held c.before.before.before) ∙ length_part a.from a.n a.src.now c.requires.2)
 
 pub copy_words-requires-2 : goal.copy_words-requires-2
-copy_words-requires-2 c κs =
+copy_words-requires-2 c =
     let a = c.args in
     ap (λ n. length (take n (drop a.at a.dst.now))) (span a.at a.n) ∙ length_part a.at a.n a.dst.now c.requires.1
     ∙ sym (ap length (held c.before.before.before) ∙ length_part a.from a.n a.src.now c.requires.2)

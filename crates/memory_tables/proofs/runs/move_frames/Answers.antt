@@ -21,7 +21,7 @@ loop-j-init c =
     (search rules, refl, refl, sym (take-append-drop a.at a.dst.now), sym (take-append-drop a.from a.src.now))
 
 pub move_frame-requires : goal.move_frame-requires
-move_frame-requires c κs =
+move_frame-requires c =
     let a = c.args in
     let l = c.loop-j in
     (omega arith, frame-asks a.src.now l.src a.from a.n l.j a.old a.new c.requires.1 (omega arith) l.invariant.2 (ahead c.before.before))

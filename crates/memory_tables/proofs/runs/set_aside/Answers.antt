@@ -9,7 +9,7 @@ pub slice_bounds-copy_words-end : goal.slice_bounds-copy_words-end
 slice_bounds-copy_words-end c = sym (length-take-le c.args.n (replicate 255 0) c.requires.0)
 
 pub copy_words-requires : goal.copy_words-requires
-copy_words-requires c κs =
+copy_words-requires c =
     let a = c.args in
     length-take-le a.n (replicate 255 0) c.requires.0
     ∙ sym (ap (λ n. length (take n (drop a.at a.src.now))) (span a.at a.n) ∙ length_part a.at a.n a.src.now c.requires.1)

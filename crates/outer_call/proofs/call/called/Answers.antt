@@ -23,10 +23,10 @@ returns-then-not-ok c =
     ap (λ r. gives (mem c.before.before.before.before.before.before.before.before.before.before.before) r) c.unsound.ensures ∙ refused (mem c.before.before.before.before.before.before.before.before.before.before.before) a.m a.fuel a.op (sym c.requires ∙ not-true _ c.if-not-ok.true)
 
 pub sizes-sizes-requires : goal.sizes-sizes-requires
-sizes-sizes-requires c κs = setup-fits (mem c.before.before.before.before.before.before.before.before.before.before) c.args.m c.args.fuel (sym c.requires ∙ not-false _ c.if-not-ok.false)
+sizes-sizes-requires c = setup-fits (mem c.before.before.before.before.before.before.before.before.before.before) c.args.m c.args.fuel (sym c.requires ∙ not-false _ c.if-not-ok.false)
 
 pub sound_call-requires : goal.sound_call-requires
-sound_call-requires c κs = record { sound = sym c.requires ∙ not-false _ c.if-not-ok.false; sizes = c.sizes-sizes.ensures.words }
+sound_call-requires c = record { sound = sym c.requires ∙ not-false _ c.if-not-ok.false; sizes = c.sizes-sizes.ensures.words }
 
 pub shape_of-stack : goal.shape_of-stack
 shape_of-stack c = (sound-call-of c).sound-call.auto.0

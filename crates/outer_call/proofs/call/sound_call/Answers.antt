@@ -20,7 +20,7 @@ abbrev left_by : After-kept → Lent
 left_by c = nine c.kept.new.0 c.kept.new.1.0 c.kept.new.1.1.0 c.kept.new.1.1.1.0 c.kept.new.1.1.1.1.0 c.kept.new.1.1.1.1.1.0 c.kept.new.1.1.1.1.1.1.0 c.kept.new.1.1.1.1.1.1.1.0 (start_of c).args.setup.now plain
 
 pub kept-requires : goal.kept-requires
-kept-requires c κs = let start = c.before.before.before.before.before.before.before.before.before.before.before.before.before.before.before.before.before in let a = start.args in may-call (mem start) a.m a.fuel a.sizes start.requires
+kept-requires c = let start = c.before.before.before.before.before.before.before.before.before.before.before.before.before.before.before.before.before in let a = start.args in may-call (mem start) a.m a.fuel a.sizes start.requires
 
 pub shape_of-stack : goal.shape_of-stack
 shape_of-stack c = (kept_of c).kept.auto.0

@@ -22,7 +22,7 @@ told c =
     part_of (mem start) a.m a.fuel a.ok c.place-s.result start.pre c.place-s.ensures
 
 pub place-s-requires : goal.place-s-requires
-place-s-requires c κs =
+place-s-requires c =
     let a = c.args in
     λ e. look-fits (mem c.before.before.before.before.before.before.before.before.before) a.m a.fuel (sym c.requires ∙ e)
 

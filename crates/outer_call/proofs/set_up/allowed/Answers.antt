@@ -19,10 +19,10 @@ returns-then-not-setup_held c =
     λ M e. not-held a.given.now M (lengths a.stack a.frames a.chain a.slots a.saved_stack a.saved_frames a.ready a.finalize a.setup) e (sym c.setup_held.ensures ∙ not-true _ c.if-not-setup_held.true)
 
 pub sizes-sizes-requires : goal.sizes-sizes-requires
-sizes-sizes-requires c κs = given-fits c.args.given.now (held c)
+sizes-sizes-requires c = given-fits c.args.given.now (held c)
 
 pub room_ok-requires : goal.room_ok-requires
-room_ok-requires c κs = sizes-fit c.args.given.now (held c.before) c.sizes-sizes.result c.sizes-sizes.ensures.words
+room_ok-requires c = sizes-fit c.args.given.now (held c.before) c.sizes-sizes.result c.sizes-sizes.ensures.words
 
 pub returns-then-not-room_ok : goal.returns-then-not-room_ok
 returns-then-not-room_ok c =
@@ -35,10 +35,10 @@ pub bounds-given-13 : goal.bounds-given-13
 bounds-given-13 c = let f = given-fits c.args.given.now (held c.before.before.before.before) in let h = f.numbers in omega arith
 
 pub overflow_mul-result : goal.overflow_mul-result
-overflow_mul-result c = let f = given-fits c.args.given.now (held c.before.before.before.before) in let h = f.functions in omega (arith, c.well-formed)
+overflow_mul-result c = let f = given-fits c.args.given.now (held c.before.before.before.before) in let h = f.functions in omega (arith, c.well_formed)
 
 pub overflow_add-result : goal.overflow_add-result
-overflow_add-result c = let f = given-fits c.args.given.now (held c.before.before.before.before) in let h = f.functions in omega (arith, c.well-formed)
+overflow_add-result c = let f = given-fits c.args.given.now (held c.before.before.before.before) in let h = f.functions in omega (arith, c.well_formed)
 
 pub returns : goal.returns
 returns c =

@@ -40,7 +40,7 @@ pub slice_bounds-set_up-end : goal.slice_bounds-set_up-end
 slice_bounds-set_up-end c = let start = c.before.before.before.before.before.before.before.before.before.before.before.before.before.before.before.before.before.before.before.before in let h = (long start).functions in omega arith
 
 pub set_up-machine-requires : goal.set_up-machine-requires
-set_up-machine-requires c κs =
+set_up-machine-requires c =
     let ws = c.args.given.now in
     fits ws (mem c.before.before.before.before.before.before.before.before.before.before.before.before.before.before.before.before.before.before.before.before.before) c.requires _ (own-part ws (is_held ws (mem c.before.before.before.before.before.before.before.before.before.before.before.before.before.before.before.before.before.before.before.before.before) c.requires))
 

@@ -30,7 +30,7 @@ returns-then-not-allowed c =
     ∙ refuses-it (state (mem c.before.before.before.before.before.before.before.before.before.before.before.before.before) a.m a.fuel) a.given.now (sym (c.allowed.ensures (mem c.before.before.before.before.before.before.before.before.before.before.before.before.before) refl) ∙ not-true _ c.if-not-allowed.true)
 
 pub begin-requires : goal.begin-requires
-begin-requires c κs = accepted c.before.before.before.before.before.before.before.before.before
+begin-requires c = accepted c.before.before.before.before.before.before.before.before.before
 
 pub shape_of-stack : goal.shape_of-stack
 shape_of-stack c = (begin-of c).begin.auto.0

@@ -8,7 +8,7 @@ pub loop-j-init : goal.loop-j-init
 loop-j-init c = let start = c.before in refused-start start.args.answers.now start.args.n
 
 pub put_at-requires : goal.put_at-requires
-put_at-requires c κs =
+put_at-requires c =
     let t = c.loop-j-test.true in
     let k = c.loop-j.invariant.long in
     let p = c.requires in
@@ -17,7 +17,7 @@ put_at-requires c κs =
 pub overflow_add-j : goal.overflow_add-j
 overflow_add-j c =
     let t = c.loop-j-test.true in
-    omega (arith, c.well-formed)
+    omega (arith, c.well_formed)
 
 pub loop-j-smaller : goal.loop-j-smaller
 loop-j-smaller c = let t = c.loop-j-test.true in omega arith

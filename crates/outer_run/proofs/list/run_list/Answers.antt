@@ -20,15 +20,15 @@ pub loop-i-init : goal.loop-i-init
 loop-i-init c = along-start _ _ _ _ _ c.requires
 
 pub read_at-read-requires : goal.read_at-read-requires
-read_at-read-requires c κs =
+read_at-read-requires c =
     let start = start_of c.before in
     in-calls start.args.calls.now c.loop-i.i start.args.n start.pre.calls c.loop-i-test.true
 
 pub do_read-did-requires : goal.do_read-did-requires
-do_read-did-requires c κs = let at-loop = c.before.before.before.before.before.before.before.before.before.before in at-loop.loop.invariant.fits
+do_read-did-requires c = let at-loop = c.before.before.before.before.before.before.before.before.before.before in at-loop.loop.invariant.fits
 
 pub put_at-requires : goal.put_at-requires
-put_at-requires c κs =
+put_at-requires c =
     let test = test_of c.before.before.before.before.before.before.before.before.before.before.before.before.before.before.before.before.before.before.before in
     let r = (start_of test.before).pre.room in let k = test.before.loop.inv.long in let t = test.loop-test.taken in omega arith
 

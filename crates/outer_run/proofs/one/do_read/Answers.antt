@@ -19,7 +19,7 @@ abbrev sound-call-of : After-slice_known-in-Is-8-1 → After-sound_call
 sound-call-of c = c.before.before.before.before.before.before.before.before.before.before.before.before.before.before.before.before
 
 pub sound_call-requires : goal.sound_call-requires
-sound_call-requires c κs = c.requires
+sound_call-requires c = c.requires
 
 pub shape_of-stack : goal.shape_of-stack
 shape_of-stack c = (sound-call-of c).sound-call.auto.0

@@ -38,4 +38,4 @@ pub returns-in-Throw : goal.returns-in-Throw
 returns-in-Throw c = rw c.in-Throw.is
 
 pub returns-in_default : goal.returns-in_default
-returns-in_default c = other c.args.self c.in_default.keys2
+returns-in_default c = other c.args.self c.in_default.in_default-own.keys2

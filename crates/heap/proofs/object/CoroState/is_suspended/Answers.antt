@@ -35,7 +35,7 @@ are-not S.Returned h = refl
 are-not S.Failed h = refl
 
 pub returns-in-Yielded : goal.returns-in-Yielded
-returns-in-Yielded c = are c.args.self c.in-Yielded.keys1
+returns-in-Yielded c = are c.args.self c.in-Yielded.in-Yielded-own.keys1
 
 pub returns-in-Created : goal.returns-in-Created
-returns-in-Created c = are-not c.args.self c.in-Created.keys2
+returns-in-Created c = are-not c.args.self c.in-Created.in-Created-own.keys2
