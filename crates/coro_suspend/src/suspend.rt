@@ -209,7 +209,7 @@ pub(crate) fn suspend_found(
             );
             memory_tables::chain::pop_active(chain, m.active);
             let d = suspended(state, regs, deep, dst, payload, keys, c);
-            heap::slot::put_suspended(slots, i, d);
+            heap::slot::put_sleep(slots, i, d);
             let driver = a.driver;
             let event = event_of(state, payload, c.closing, d.key);
             SuspendDid {

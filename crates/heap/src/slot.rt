@@ -251,7 +251,7 @@ pub fn put_entered(slots: &mut [u64], i: usize)
 }
 
 // The coroutine at place i suspended: the words that a suspension changes.
-pub fn put_suspended(slots: &mut [u64], i: usize, c: CoroObj)
+pub fn put_sleep(slots: &mut [u64], i: usize, c: CoroObj)
     requires { SlotFits slots.old i }
     ensures { slots.new ≡ put_chunk 20 slots.old i (suspended_words c (chunk_at 20 slots.old i)) }
 {

@@ -13,13 +13,13 @@ pub returns-then-not-coro_ok : goal.returns-then-not-coro_ok
 returns-then-not-coro_ok c =
     let a = c.args in
     bad-coro a.sizes (setup_of a.setup.now) a.saved_stack.now a.saved_frames.now a.c (in_set a.set.now) a.i
-    (sym c.coro_ok.ensures ∙ not-true _ c.if-not-coro_ok.true)
+    (sym c.coro_ok.ensures ∙ c.if-not-coro_ok.true)
 
 pub returns-then-is_finished : goal.returns-then-is_finished
 returns-then-is_finished c =
     let a = c.args in
     no-row a.sizes (setup_of a.setup.now) a.saved_stack.now a.saved_frames.now a.c (in_set a.set.now) a.i
-    (sym c.coro_ok.ensures ∙ not-false _ c.if-not-coro_ok.false) (sym c.is_finished.ensures ∙ c.if-is_finished.true)
+    (sym c.coro_ok.ensures ∙ c.if-not-coro_ok.false) (sym c.is_finished.ensures ∙ c.if-is_finished.true)
 
 pub in_set-requires : goal.in_set-requires
 in_set-requires c = (c.requires.1, c.requires.0.long)
@@ -28,19 +28,19 @@ pub returns-then-not-in_set : goal.returns-then-not-in_set
 returns-then-not-in_set c =
     let a = c.args in
     not-chained a.sizes (setup_of a.setup.now) a.saved_stack.now a.saved_frames.now a.c (in_set a.set.now) a.i
-    (sym c.coro_ok.ensures ∙ not-false _ c.if-not-coro_ok.false) (sym c.is_running.ensures ∙ c.if-is_running.true)
-    (sym c.in_set.ensures ∙ not-true _ c.if-not-in_set.true)
+    (sym c.coro_ok.ensures ∙ c.if-not-coro_ok.false) (sym c.is_running.ensures ∙ c.if-is_running.true)
+    (sym c.in_set.ensures ∙ c.if-not-in_set.true)
 
 pub returns-else-not-in_set : goal.returns-else-not-in_set
 returns-else-not-in_set c =
     let a = c.args in
     chained-row a.sizes (setup_of a.setup.now) a.saved_stack.now a.saved_frames.now a.c (in_set a.set.now) a.i
-    (sym c.coro_ok.ensures ∙ not-false _ c.if-not-coro_ok.false) (sym c.is_finished.ensures ∙ c.if-is_finished.false)
-    (sym c.is_running.ensures ∙ c.if-is_running.true) (sym c.in_set.ensures ∙ not-false _ c.if-not-in_set.false)
+    (sym c.coro_ok.ensures ∙ c.if-not-coro_ok.false) (sym c.is_finished.ensures ∙ c.if-is_finished.false)
+    (sym c.is_running.ensures ∙ c.if-is_running.true) (sym c.in_set.ensures ∙ c.if-not-in_set.false)
 
 pub returns-else-is_running : goal.returns-else-is_running
 returns-else-is_running c =
     let a = c.args in
     saved-frames-row a.sizes (setup_of a.setup.now) a.saved_stack.now a.saved_frames.now a.c (in_set a.set.now) a.i
-    (sym c.coro_ok.ensures ∙ not-false _ c.if-not-coro_ok.false) (sym c.is_finished.ensures ∙ c.if-is_finished.false)
+    (sym c.coro_ok.ensures ∙ c.if-not-coro_ok.false) (sym c.is_finished.ensures ∙ c.if-is_finished.false)
     (sym c.is_running.ensures ∙ c.if-is_running.false)

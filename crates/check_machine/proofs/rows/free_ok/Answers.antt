@@ -25,7 +25,7 @@ pub returns-then-not-free_at : goal.returns-then-not-free_at
 returns-then-not-free_at c =
     let a = c.args in
     sym
-    (fails-at a.sizes.rows c.loop-n.n (free a.sizes a.saved_stack.now a.saved_frames.now a.mask) c.loop-n-test.true (sym c.free_at.ensures ∙ not-true _ c.if-not-free_at.true))
+    (fails-at a.sizes.rows c.loop-n.n (free a.sizes a.saved_stack.now a.saved_frames.now a.mask) c.loop-n-test.true (sym c.free_at.ensures ∙ c.if-not-free_at.true))
 
 pub overflow_step-n : goal.overflow_step-n
 overflow_step-n c = omega (arith, c.requires.few, c.loop-n-test.true)
@@ -36,7 +36,7 @@ loop-n-smaller c = omega (arith, c.loop-n-test.true)
 pub loop-n-preserved : goal.loop-n-preserved
 loop-n-preserved c =
     let a = c.args in
-    (omega (arith, c.loop-n-test.true), holds-next c.loop-n.n (free a.sizes a.saved_stack.now a.saved_frames.now a.mask) c.loop-n.invariant.1 (sym c.free_at.ensures ∙ not-false _ c.if-not-free_at.false))
+    (omega (arith, c.loop-n-test.true), holds-next c.loop-n.n (free a.sizes a.saved_stack.now a.saved_frames.now a.mask) c.loop-n.invariant.1 (sym c.free_at.ensures ∙ c.if-not-free_at.false))
 
 pub returns : goal.returns
 returns c =

@@ -12,7 +12,7 @@ pub row_rest-requires : goal.row_rest-requires
 row_rest-requires c = let a = c.args in row_inside a.sizes.rows a.sizes.width a.n (length a.saved_stack.now) c.requires.1 c.requires.0.on_stack
 
 pub returns-then-not-row_rest : goal.returns-then-not-row_rest
-returns-then-not-row_rest c = first-fails _ _ _ c.row_rest.result refl c.row_rest.ensures (not-true _ c.if-not-row_rest.true)
+returns-then-not-row_rest c = first-fails _ _ _ c.row_rest.result refl c.row_rest.ensures c.if-not-row_rest.true
 
 pub overflow_mul-sizes : goal.overflow_mul-sizes
 overflow_mul-sizes c = omega (arith, c.requires.0.deep)
@@ -23,4 +23,4 @@ row_rest-requires-2 c = let a = c.args in row_inside a.sizes.rows (a.sizes.depth
 pub returns : goal.returns
 returns c =
     second-decides _ _ _ c.row_rest.result c.row_rest-2.result refl c.row_rest.ensures
-    (not-false _ c.if-not-row_rest.false) c.row_rest-2.ensures
+    c.if-not-row_rest.false c.row_rest-2.ensures

@@ -42,7 +42,7 @@ pub coro_at-c-requires : goal.coro_at-c-requires
 coro_at-c-requires c = c.requires.1.0
 
 pub coro_row-requires : goal.coro_row-requires
-coro_row-requires c = let start = c.before.before.before.before.before.before.before in (start.requires.0, start.requires.1.1)
+coro_row-requires c = (c.requires.0, c.requires.1.1)
 
 pub returns-then-is_coro : goal.returns-then-is_coro
 returns-then-is_coro c =

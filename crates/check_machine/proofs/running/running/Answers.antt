@@ -17,18 +17,26 @@ use Rattle.check_tables.specs.Queue.{in_set}
 use Rattle.check_tables.proofs.Bits.{empty-set, put-set}
 use Rattle.check_machine.specs.Running.{running_test, RunningTold}
 use Rattle.check_machine.proofs.Chained.{runs, stops, twice, passes, all-run, set-of, word-inside}
+use Rattle.check_machine.proofs.running.running.Lts as lts
+use Rattle.check_machine.proofs.running.running.Reads as reads
+use Rattle.check_machine.proofs.running.running.Tie as tie
 use Rattle.check_machine.proofs.running.running.Goals as goal
-use Rattle.check_machine.proofs.running.running.Goals.{At-loop-k, Else-not-is_running}
+
+abbrev At-loop-k : Type 0
+At-loop-k = lts.At-loop tie.the-claims reads.Pre reads.Post goal.invariant-loop-k goal.decreases-loop-k
+
+abbrev Else-not-is_running : Type 0
+Else-not-is_running = lts.Else1 tie.the-claims reads.Pre reads.Post goal.invariant-loop-k goal.decreases-loop-k
 
 -- the coroutines, and the next one's word
 abbrev table : At-loop-k → List (Slot H.Object)
-table c = let a = c.before.before.before.args in slots_of a.count a.slots.now
+table c = let a = c.args in slots_of a.count a.slots.now
 
 abbrev word : At-loop-k → ℕ
-word c = get_or c.before.before.before.args.chain.now (c.loop.k * 6) 0
+word c = get_or c.args.chain.now (c.loop-k.k * 6) 0
 
 runs-now : (c : Else-not-is_running) → let at-loop = c.before.before.before.before in runs (table at-loop) (word at-loop) ≡ true
-runs-now c = sym c.is_running.ensures ∙ not-false _ c.if-not-is_running.false
+runs-now c = sym c.is_running.ensures ∙ c.if-not-is_running.false
 
 small : (c : Else-not-is_running) → slot_of (word c.before.before.before.before) < 4096
 small c =
@@ -57,27 +65,27 @@ is_running-requires c = c.requires.table
 pub returns-then-not-is_running : goal.returns-then-not-is_running
 returns-then-not-is_running c =
     let a = c.args in
-    refused c.before.before.before.before
-    (stops (table c.before.before.before.before) a.chain.now a.n c.loop-k.k c.loop-k-test.true (sym c.is_running.ensures ∙ not-true _ c.if-not-is_running.true))
+    refused c.before.before.before.before.before
+    (stops (table c.before.before.before.before.before) a.chain.now a.n c.loop-k.k c.loop-k-test.true (sym c.is_running.ensures ∙ c.if-not-is_running.true))
 
 pub offset_bounds-seen-at : goal.offset_bounds-seen-at
-offset_bounds-seen-at c = omega (arith, small c.before, c.slot-x.ensures)
+offset_bounds-seen-at c = omega (arith, small c.before.before, c.slot-x.ensures)
 
 pub bounds-seen-at : goal.bounds-seen-at
-bounds-seen-at c = omega (arith, small c.before, c.slot-x.ensures)
+bounds-seen-at c = omega (arith, small c.before.before, c.slot-x.ensures)
 
 pub returns-then-bit : goal.returns-then-bit
 returns-then-bit c =
     let a = c.args in
-    refused c.before.before.before.before.before.before.before
-    (twice (table c.before.before.before.before.before.before.before) a.chain.now a.n c.loop-k.k c.loop-k.seen c.loop-k.invariant c.loop-k-test.true (runs-now c.before.before.before)
+    refused c.before.before.before.before.before.before.before.before
+    (twice (table c.before.before.before.before.before.before.before.before) a.chain.now a.n c.loop-k.k c.loop-k.seen c.loop-k.invariant c.loop-k-test.true (runs-now c.before.before.before.before)
     (ap (in_set c.loop-k.seen) (sym c.slot-x.ensures) ∙ sym c.bit.ensures ∙ c.if-bit.true))
 
 pub offset_bounds-seen-at-in-loop-k : goal.offset_bounds-seen-at-in-loop-k
-offset_bounds-seen-at-in-loop-k c = omega (arith, small c.before.before.before.before, c.slot-x.ensures)
+offset_bounds-seen-at-in-loop-k c = omega (arith, small c.before.before.before.before.before, c.slot-x.ensures)
 
 pub bounds-seen-at-in-loop-k : goal.bounds-seen-at-in-loop-k
-bounds-seen-at-in-loop-k c = omega (arith, small c.before.before.before.before, c.slot-x.ensures)
+bounds-seen-at-in-loop-k c = omega (arith, small c.before.before.before.before.before, c.slot-x.ensures)
 
 pub overflow_add-k : goal.overflow_add-k
 overflow_add-k c = omega (arith, c.loop-k-test.true)
@@ -87,9 +95,9 @@ loop-k-smaller c = omega (arith, c.loop-k-test.true)
 
 pub loop-k-preserved : goal.loop-k-preserved
 loop-k-preserved c =
-    let a = c.args in let h = small c.before.before.before.before in let e = c.slot-x.ensures in
-    passes (table c.before.before.before.before.before.before.before.before) a.chain.now a.n c.loop-k.k c.loop-k.seen c.loop-k.invariant
-    c.loop-k-test.true (runs-now c.before.before.before.before) _ (ap (in_set c.loop-k.seen) (sym e) ∙ sym c.bit.ensures ∙ c.if-bit.false)
+    let a = c.args in let h = small c.before.before.before.before.before in let e = c.slot-x.ensures in
+    passes (table c.before.before.before.before.before.before.before.before.before) a.chain.now a.n c.loop-k.k c.loop-k.seen c.loop-k.invariant
+    c.loop-k-test.true (runs-now c.before.before.before.before.before) _ (ap (in_set c.loop-k.seen) (sym e) ∙ sym c.bit.ensures ∙ c.if-bit.false)
     (λ y. put-set c.loop-k.seen _ c.slot-x.result y (let q = c.loop-k.invariant.long in omega arith) c.with_bit-u.ensures ∙ ap (λ x. eqb y x || in_set c.loop-k.seen y) e)
     (simp length-set c.loop-k.invariant.long)
 
@@ -97,7 +105,7 @@ pub returns : goal.returns
 returns c =
     let a = c.args in let inv = c.loop-k.invariant in
     record {
-      good = all-run (table c.before) a.chain.now a.n c.loop-k.k c.loop-k.seen inv c.loop-k-test.false;
+      good = all-run (table c.before.before) a.chain.now a.n c.loop-k.k c.loop-k.seen inv c.loop-k-test.false;
       long = inv.long;
-      set = λ e. set-of (table c.before) a.chain.now a.n c.loop-k.k c.loop-k.seen inv c.loop-k-test.false;
+      set = λ e. set-of (table c.before.before) a.chain.now a.n c.loop-k.k c.loop-k.seen inv c.loop-k-test.false;
     }

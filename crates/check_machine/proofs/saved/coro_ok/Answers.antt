@@ -19,13 +19,13 @@ pub returns-then-not-sizes_ok : goal.returns-then-not-sizes_ok
 returns-then-not-sizes_ok c =
     let a = c.args in
     sizes-stop a.sizes (setup_of a.setup.now) a.saved_stack.now a.saved_frames.now a.c
-    (sym c.sizes_ok.ensures ∙ not-true _ c.if-not-sizes_ok.true)
+    (sym c.sizes_ok.ensures ∙ c.if-not-sizes_ok.true)
 
 pub returns-then-rows-c : goal.returns-then-rows-c
 returns-then-rows-c c =
     let a = c.args in
     three-1 _ _ _ _
-    (live a.sizes (setup_of a.setup.now) a.saved_stack.now a.saved_frames.now a.c (sym c.sizes_ok.ensures ∙ not-false _ c.if-not-sizes_ok.false) (sym c.is_finished.ensures ∙ c.if-is_finished.false))
+    (live a.sizes (setup_of a.setup.now) a.saved_stack.now a.saved_frames.now a.c (sym c.sizes_ok.ensures ∙ c.if-not-sizes_ok.false) (sym c.is_finished.ensures ∙ c.if-is_finished.false))
     (le-ltb a.c.row a.sizes.rows c.if-rows-c.true)
 
 pub row_rest-requires : goal.row_rest-requires
@@ -37,8 +37,8 @@ pub returns-then-not-row_rest : goal.returns-then-not-row_rest
 returns-then-not-row_rest c =
     let a = c.args in
     three-2 _ _ _ _
-    (live a.sizes (setup_of a.setup.now) a.saved_stack.now a.saved_frames.now a.c (sym c.sizes_ok.ensures ∙ not-false _ c.if-not-sizes_ok.false) (sym c.is_finished.ensures ∙ c.if-is_finished.false))
-    (lt-ltb a.c.row a.sizes.rows c.if-rows-c.false) (sym c.row_rest.ensures ∙ not-true _ c.if-not-row_rest.true)
+    (live a.sizes (setup_of a.setup.now) a.saved_stack.now a.saved_frames.now a.c (sym c.sizes_ok.ensures ∙ c.if-not-sizes_ok.false) (sym c.is_finished.ensures ∙ c.if-is_finished.false))
+    (lt-ltb a.c.row a.sizes.rows c.if-rows-c.false) (sym c.row_rest.ensures ∙ c.if-not-row_rest.true)
 
 pub overflow_mul-sizes : goal.overflow_mul-sizes
 overflow_mul-sizes c = omega (arith, c.requires.deep)
@@ -48,7 +48,7 @@ row_frames-requires c =
     let a = c.args in
     record {
       row = row_inside a.sizes.rows (a.sizes.depth * 6) a.c.row (length a.saved_frames.now) c.if-rows-c.false c.requires.on-frames;
-      inside = frames-few a.sizes a.c (sym c.sizes_ok.ensures ∙ not-false _ c.if-not-sizes_ok.false);
+      inside = frames-few a.sizes a.c (sym c.sizes_ok.ensures ∙ c.if-not-sizes_ok.false);
       catches = c.requires.catches;
       numbers = c.requires.numbers;
     }
@@ -57,6 +57,6 @@ pub returns : goal.returns
 returns c =
     let a = c.args in
     three-3 _ _ _ _ _
-    (live a.sizes (setup_of a.setup.now) a.saved_stack.now a.saved_frames.now a.c (sym c.sizes_ok.ensures ∙ not-false _ c.if-not-sizes_ok.false) (sym c.is_finished.ensures ∙ c.if-is_finished.false))
-    (lt-ltb a.c.row a.sizes.rows c.if-rows-c.false) (sym c.row_rest.ensures ∙ not-false _ c.if-not-row_rest.false)
+    (live a.sizes (setup_of a.setup.now) a.saved_stack.now a.saved_frames.now a.c (sym c.sizes_ok.ensures ∙ c.if-not-sizes_ok.false) (sym c.is_finished.ensures ∙ c.if-is_finished.false))
+    (lt-ltb a.c.row a.sizes.rows c.if-rows-c.false) (sym c.row_rest.ensures ∙ c.if-not-row_rest.false)
     c.row_frames.ensures

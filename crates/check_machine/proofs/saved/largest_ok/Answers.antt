@@ -7,4 +7,4 @@ pub returns-then-width-c : goal.returns-then-width-c
 returns-then-width-c c = let a = c.args in sym (rw (lt-leb a.c.maxregs a.sizes.width c.if-width-c.true))
 
 pub returns : goal.returns
-returns c = let at-if1 = c.before in let a = at-if1.before.before.args in sym (rw (le-leb a.c.maxregs a.sizes.width at-if1.if1.false))
+returns c = let a = c.args in sym (rw (le-leb a.c.maxregs a.sizes.width c.if-width-c.false))

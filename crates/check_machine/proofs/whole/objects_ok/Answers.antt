@@ -16,8 +16,28 @@ use Rattle.check_machine.specs.Rows.{rows_test}
 use Rattle.check_machine.specs.Whole.{chained_at, objects_test}
 use Rattle.check_machine.proofs.Slotted.{table_same}
 use Rattle.check_machine.proofs.Ordered.{made-later}
+use Rattle.check_machine.proofs.whole.objects_ok.Lts as lts
+use Rattle.check_machine.proofs.whole.objects_ok.Reads as reads
+use Rattle.check_machine.proofs.whole.objects_ok.Tie as tie
 use Rattle.check_machine.proofs.whole.objects_ok.Goals as goal
-use Rattle.check_machine.proofs.whole.objects_ok.Goals.{After-rows_ok, After-struct_known-1, Else-not-r, Else-not-rest_ok, Else-not-rows_ok}
+
+abbrev Start : Type 0
+Start = lts.Start tie.the-claims reads.Pre reads.Post
+
+abbrev After-struct_known-1 : Type 0
+After-struct_known-1 = lts.After-struct_known tie.the-claims reads.Pre reads.Post
+
+abbrev Else-not-rest_ok : Type 0
+Else-not-rest_ok = lts.Else1 tie.the-claims reads.Pre reads.Post
+
+abbrev Else-not-r : Type 0
+Else-not-r = lts.Else2 tie.the-claims reads.Pre reads.Post
+
+abbrev After-rows_ok : Type 0
+After-rows_ok = lts.After-rows_ok tie.the-claims reads.Pre reads.Post
+
+abbrev Else-not-rows_ok : Type 0
+Else-not-rows_ok = lts.Else3 tie.the-claims reads.Pre reads.Post
 
 -- `objects_ok` meets its contract: each test fails the whole, and the last decides it. Assumes nothing.
 abbrev run : Start → Bool
@@ -27,13 +47,13 @@ abbrev ranges : Start → Bool
 ranges z = ranges_test z.args.slots.now z.args.m.count
 
 abbrev rows-by : Start → (ℕ → Bool) → Bool
-rows-by z chained = let a = z.args in rows_test a.sizes (setup_of a.setup.now) a.saved-stack.now a.saved-frames.now chained a.slots.now a.m.count
+rows-by z chained = let a = z.args in rows_test a.sizes (setup_of a.setup.now) a.saved_stack.now a.saved_frames.now chained a.slots.now a.m.count
 
 abbrev rows : Start → Bool
 rows z = rows-by z (chained_at z.args.chain.now z.args.m.active)
 
 abbrev zeros : Start → List Bool
-zeros z = let a = z.args in rest_ok a.saved-stack.now (a.sizes.rows * a.sizes.width) ∷ rest_ok a.saved-frames.now (a.sizes.rows * (a.sizes.depth * 6)) ∷ []
+zeros z = let a = z.args in rest_ok a.saved_stack.now (a.sizes.rows * a.sizes.width) ∷ rest_ok a.saved_frames.now (a.sizes.rows * (a.sizes.depth * 6)) ∷ []
 
 -- in the code's order: the ranges are tested with the rows
 abbrev tests : Start → List Bool
@@ -59,33 +79,33 @@ rows_are : (c : After-rows_ok) (t : Bool) → c.rows_ok.result ≡ t → let z =
 rows_are c t e =
     let z = start_of c.before.before.before.before.before.before.before.before in
     let same : in_set c.running-r.result.set ≡ chained_at z.args.chain.now z.args.m.active =
-    λ j x. c.running-r.ensures.set (not-false _ c.if-not-r.false) x j in
+    λ j x. c.running-r.ensures.set c.if-not-r.false x j in
     sym (ap (λ (f : ℕ → Bool). ranges z && rows-by z f) same) ∙ sym c.rows_ok.ensures ∙ e
 
 passed-1 : (c : Else-not-rest_ok) → Passed 1 (start_of c.before.before)
-passed-1 c = pass (begun c.before.before) (sym c.rest_ok.ensures ∙ not-false _ c.if-not-rest_ok.false)
+passed-1 c = pass (begun c.before.before) (sym c.rest_ok.ensures ∙ c.if-not-rest_ok.false)
 
 passed-2 : (c : Else-not-r) → Passed 2 (start_of c.before.before.before.before.before)
-passed-2 c = pass (passed-1 c.before.before.before) (sym c.running-r.ensures.good ∙ not-false _ c.if-not-r.false)
+passed-2 c = pass (passed-1 c.before.before.before) (sym c.running-r.ensures.good ∙ c.if-not-r.false)
 
 passed-3 : (c : Else-not-rows_ok) → Passed 3 (start_of c.before.before.before.before.before.before.before.before.before)
-passed-3 c = pass (passed-2 c.before.before.before.before) (rows_are c.before true (not-false _ c.if-not-rows_ok.false))
+passed-3 c = pass (passed-2 c.before.before.before.before) (rows_are c.before true c.if-not-rows_ok.false)
 
 pub overflow_mul-m : goal.overflow_mul-m
-overflow_mul-m c = let start = start_of c in omega (arith, start.pre.table, start.good)
+overflow_mul-m c = let start = start_of c.before in omega (arith, start.pre.table, start.good)
 
 pub returns-then-not-rest_ok : goal.returns-then-not-rest_ok
-returns-then-not-rest_ok c = stop (begun c.before.before) (sym c.rest_ok.ensures ∙ not-true _ c.if-not-rest_ok.true)
+returns-then-not-rest_ok c = stop (begun c.before.before.before) (sym c.rest_ok.ensures ∙ c.if-not-rest_ok.true)
 
 pub running-r-requires : goal.running-r-requires
-running-r-requires c = let p = (start_of c.before.before).requires in record { on_chain = p.on_chain; table = p.table; few = p.few }
+running-r-requires c = let p = (start_of c.before.before.before).requires in record { on_chain = p.on_chain; table = p.table; few = p.few }
 
 pub returns-then-not-r : goal.returns-then-not-r
-returns-then-not-r c = stop (passed-1 c.before.before.before) (sym c.running-r.ensures.good ∙ not-true _ c.if-not-r.true)
+returns-then-not-r c = stop (passed-1 c.before.before.before.before) (sym c.running-r.ensures.good ∙ c.if-not-r.true)
 
 pub rows_ok-requires : goal.rows_ok-requires
 rows_ok-requires c =
-    let p = (start_of c.before.before.before.before.before.before.before).requires in
+    let p = (start_of c.before.before.before.before.before.before.before.before).requires in
     record {
       rows =
           record {
@@ -98,21 +118,19 @@ rows_ok-requires c =
     }
 
 pub returns-then-not-rows_ok : goal.returns-then-not-rows_ok
-returns-then-not-rows_ok c = stop (passed-2 c.before.before.before.before) (rows_are c.before false (not-true _ c.if-not-rows_ok.true))
+returns-then-not-rows_ok c = stop (passed-2 c.before.before.before.before.before) (rows_are c.before.before false c.if-not-rows_ok.true)
 
 pub overflow_mul-sizes : goal.overflow_mul-sizes
-overflow_mul-sizes c = let start = start_of c.before.before.before.before.before.before.before.before.before.before in omega (arith, start.pre.on-stack, start.good)
+overflow_mul-sizes c = let start = start_of c.before.before.before.before.before.before.before.before.before.before.before in omega (arith, start.pre.on-stack, start.good)
 
 pub returns-then-not-rest_ok-2 : goal.returns-then-not-rest_ok-2
-returns-then-not-rest_ok-2 c = stop (passed-3 c.before.before.before) (sym c.rest_ok-2.ensures ∙ not-true _ c.if-not-rest_ok-2.true)
+returns-then-not-rest_ok-2 c = stop (passed-3 c.before.before.before.before) (sym c.rest_ok-2.ensures ∙ c.if-not-rest_ok-2.true)
 
 pub overflow_mul-sizes-2 : goal.overflow_mul-sizes-2
-overflow_mul-sizes-2 c = omega (arith, (start_of c.before.before.before.before.before.before.before.before.before.before.before.before.before).requires.deep)
+overflow_mul-sizes-2 c = omega (arith, (start_of c.before.before.before.before.before.before.before.before.before.before.before.before.before.before).requires.deep)
 
 pub overflow_mul-sizes-3 : goal.overflow_mul-sizes-3
-overflow_mul-sizes-3 c = let start = start_of c.before.before.before.before.before.before.before.before.before.before.before.before.before.before in omega (arith, start.pre.on-frames, start.good)
+overflow_mul-sizes-3 c = let start = start_of c.before.before.before.before.before.before.before.before.before.before.before.before.before.before.before in omega (arith, start.pre.on-frames, start.good)
 
 pub returns : goal.returns
-returns c = let at-if4 =
-    c.before.before.before in
-    last (pass (passed-3 at-if4.before.before.before) (sym at-if4.before.rest-ok2.ensures ∙ not-false _ at-if4.if4.false)) c.rest_ok-3.ensures
+returns c = last (pass (passed-3 c.before.before.before.before.before.before.before) (sym c.rest_ok-2.ensures ∙ c.if-not-rest_ok-2.false)) c.rest_ok-3.ensures

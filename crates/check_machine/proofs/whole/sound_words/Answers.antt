@@ -15,12 +15,35 @@ use Rattle.check_tables.proofs.Bools.{Left, from, pass, stop, last}
 use Rattle.check_machine.specs.Whole.{lent_of, numbers_test, tower_test, objects_test, queues_test, ObjectsFit}
 use Rattle.check_machine.proofs.Fitting.{counted, setup-fits, sizes-fit, tower-fits, objects-fit, queues-fit}
 use Rattle.check_machine.proofs.Wholly.{whole_same}
+use Rattle.check_machine.proofs.whole.sound_words.Lts as lts
+use Rattle.check_machine.proofs.whole.sound_words.Reads as reads
+use Rattle.check_machine.proofs.whole.sound_words.Tie as tie
 use Rattle.check_machine.proofs.whole.sound_words.Goals as goal
-use Rattle.check_machine.proofs.whole.sound_words.Goals.{After-numbers_ok, After-objects_ok, Else-not-numbers_ok, Else-not-setup_held, Else-not-tower_ok, Start}
+
+abbrev Start : Type 0
+Start = lts.Start tie.the-claims reads.Pre reads.Post
+
+abbrev Else-not-setup_held : Type 0
+Else-not-setup_held = lts.Else1 tie.the-claims reads.Pre reads.Post
+
+abbrev After-sizes-sizes : Type 0
+After-sizes-sizes = lts.After-sizes tie.the-claims reads.Pre reads.Post
+
+abbrev After-numbers_ok : Type 0
+After-numbers_ok = lts.After-numbers_ok tie.the-claims reads.Pre reads.Post
+
+abbrev Else-not-numbers_ok : Type 0
+Else-not-numbers_ok = lts.Else2 tie.the-claims reads.Pre reads.Post
+
+abbrev Else-not-tower_ok : Type 0
+Else-not-tower_ok = lts.Else3 tie.the-claims reads.Pre reads.Post
+
+abbrev After-objects_ok : Type 0
+After-objects_ok = lts.After-objects_ok tie.the-claims reads.Pre reads.Post
 
 -- `sound_words` meets its contract: each part fails the whole, and the last decides it. Assumes nothing.
 abbrev lent : Start → Lent
-lent c = let a = c.args in lent_of a.stack.now a.frames.now a.chain.now a.slots.now a.saved-stack.now a.saved-frames.now a.ready.now a.finalize.now a.setup.now
+lent c = let a = c.args in lent_of a.stack.now a.frames.now a.chain.now a.slots.now a.saved_stack.now a.saved_frames.now a.ready.now a.finalize.now a.setup.now
 
 abbrev numbers-by : Start → Sizes → Bool
 numbers-by c l =
@@ -52,13 +75,13 @@ start_of c = begin-of c.before.before
 
 -- what each part told
 held : (c : Else-not-setup_held) → setup_held c.before.before.before.before.before.before.before.before.before.before.before.args.setup.now ≡ true
-held c = sym c.setup_held.ensures ∙ not-false _ c.if-not-setup_held.false
+held c = sym c.setup_held.ensures ∙ c.if-not-setup_held.false
 
 numbers : (c : After-numbers_ok) (b : Bool) → c.numbers-ok.result ≡ b → let start = begin-of c.before in counted (lent start) start.args.m start.args.fuel ≡ b
 numbers c b e = sym (ap (numbers-by (begin-of c.before)) c.sizes-sizes.ensures.words) ∙ sym c.numbers_ok.ensures ∙ e
 
 ready : (c : Else-not-numbers_ok) → let start = start_of c in counted (lent start) start.args.m start.args.fuel ≡ true
-ready c = numbers c.before true (not-false _ c.if-not-numbers_ok.false)
+ready c = numbers c.before true c.if-not-numbers_ok.false
 
 abbrev sizes-of : After-objects_ok → After-sizes-sizes
 sizes-of c = c.before.before.before.before.before.before.before.before
@@ -73,48 +96,46 @@ passed-2 : (c : Else-not-numbers_ok) → Passed 2 (start_of c)
 passed-2 c = pass (passed-1 c.before.before.before) (ready c)
 
 passed-3 : (c : Else-not-tower_ok) → Passed 3 (start_of c.before.before.before.before)
-passed-3 c = pass (passed-2 c.before.before.before.before) (sym c.tower_ok.ensures ∙ not-false _ c.if-not-tower_ok.false)
+passed-3 c = pass (passed-2 c.before.before.before.before) (sym c.tower_ok.ensures ∙ c.if-not-tower_ok.false)
 
 pub returns-then-not-setup_held : goal.returns-then-not-setup_held
-returns-then-not-setup_held c = stop (begun c.before.before.before.before.before.before.before.before.before.before.before) (sym c.setup_held.ensures ∙ not-true _ c.if-not-setup_held.true)
+returns-then-not-setup_held c = stop (begun c.before.before.before.before.before.before.before.before.before.before.before.before) (sym c.setup_held.ensures ∙ c.if-not-setup_held.true)
 
 pub sizes-sizes-requires : goal.sizes-sizes-requires
-sizes-sizes-requires c = setup-fits c.args.setup.now (held c)
+sizes-sizes-requires c = setup-fits c.args.setup.now (held c.before)
 
 pub numbers_ok-requires : goal.numbers_ok-requires
-numbers_ok-requires c = subst SizesFit (sym c.sizes-sizes.ensures.words) (sizes-fit (begin-of c).args.setup.now (held c.before))
+numbers_ok-requires c = subst SizesFit (sym c.sizes-sizes.ensures.words) (sizes-fit (begin-of c.before).args.setup.now (held c.before.before))
 
 pub returns-then-not-numbers_ok : goal.returns-then-not-numbers_ok
-returns-then-not-numbers_ok c = stop (passed-1 c.before.before.before) (numbers c.before false (not-true _ c.if-not-numbers_ok.true))
+returns-then-not-numbers_ok c = stop (passed-1 c.before.before.before.before) (numbers c.before.before false c.if-not-numbers_ok.true)
 
 pub catches-need-requires : goal.catches-need-requires
-catches-need-requires c = held c.before.before.before
+catches-need-requires c = held c.before.before.before.before
 
 pub tower_ok-requires : goal.tower_ok-requires
-tower_ok-requires c = let at-if2 =
-    c.before.before in let start = start_of at-if2 in
-    tower-fits (lent start) start.args.m start.args.fuel (held at-if2.before.before.before) (ready at-if2) _ c.catches-need.ensures
+tower_ok-requires c =
+    let start = start_of c.before.before.before in
+    tower-fits (lent start) start.args.m start.args.fuel (held c.before.before.before.before.before.before) (ready c.before.before.before) _ c.catches-need.ensures
 
 pub returns-then-not-tower_ok : goal.returns-then-not-tower_ok
-returns-then-not-tower_ok c = stop (passed-2 c.before.before.before.before) (sym c.tower_ok.ensures ∙ not-true _ c.if-not-tower_ok.true)
+returns-then-not-tower_ok c = stop (passed-2 c.before.before.before.before.before) (sym c.tower_ok.ensures ∙ c.if-not-tower_ok.true)
 
 pub objects_ok-requires : goal.objects_ok-requires
 objects_ok-requires c =
-    let start = start_of c.before.before.before.before.before in let a = start.args in
+    let start = start_of c.before.before.before.before.before.before in let a = start.args in
     subst
     (λ (l : Sizes). ObjectsFit a.chain.now a.slots.now a.saved-stack.now a.saved-frames.now c.catches-need.result a.setup.now l a.m)
     (sym c.sizes-sizes.ensures.words)
-    (objects-fit (lent start) a.m a.fuel (held c.before.before.before.before.before.before.before.before) (ready c.before.before.before.before.before) _ c.catches-need.ensures)
+    (objects-fit (lent start) a.m a.fuel (held c.before.before.before.before.before.before.before.before.before) (ready c.before.before.before.before.before.before) _ c.catches-need.ensures)
 
 pub returns-then-not-objects_ok : goal.returns-then-not-objects_ok
-returns-then-not-objects_ok c = stop (passed-3 c.before.before.before) (objects c.before false (not-true _ c.if-not-objects_ok.true))
+returns-then-not-objects_ok c = stop (passed-3 c.before.before.before.before) (objects c.before.before false c.if-not-objects_ok.true)
 
 pub queues_ok-requires : goal.queues_ok-requires
-queues_ok-requires c = let at-if2 =
-    c.before.before.before.before.before.before.before in let start = start_of at-if2 in
-    queues-fit (lent start) start.args.m start.args.fuel (held at-if2.before.before.before) (ready at-if2)
+queues_ok-requires c =
+    let start = start_of c.before.before.before.before.before.before.before.before in
+    queues-fit (lent start) start.args.m start.args.fuel (held c.before.before.before.before.before.before.before.before.before.before.before) (ready c.before.before.before.before.before.before.before.before)
 
 pub returns : goal.returns
-returns c = let at-if4 =
-    c.before in
-    last (pass (passed-3 at-if4.before.before.before) (objects at-if4.before true (not-false _ at-if4.if4.false))) c.queues_ok.ensures
+returns c = last (pass (passed-3 c.before.before.before.before.before) (objects c.before.before.before true c.if-not-objects_ok.false)) c.queues_ok.ensures

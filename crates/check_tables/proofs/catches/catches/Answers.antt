@@ -4,52 +4,57 @@ use Prim.Native.Nat.{◌-◌}
 use native.Mathlib.Omega.{arith}
 use lib.ListN.{length-set}
 use Rattle.check_tables.proofs.Widths.{Function, setup-facts, kept, told}
+use Rattle.check_tables.proofs.catches.catches.Lts as lts
+use Rattle.check_tables.proofs.catches.catches.Reads as reads
+use Rattle.check_tables.proofs.catches.catches.Tie as tie
 use Rattle.check_tables.proofs.catches.catches.Goals as goal
-use Rattle.check_tables.proofs.catches.catches.Goals.{In-loop-i}
+
+abbrev In-loop-i : Type 0
+In-loop-i = lts.In-loop tie.the-claims reads.Pre reads.Post goal.invariant-loop-i goal.decreases-loop-i
 
 -- the function of this turn
 turn : (c : In-loop-i) → Function c.before.before.before.before.args.setup.now c.before.loop.i
-turn c = let start = c.before.before.before.before in (setup-facts start.args.setup.now start.requires).each c.loop-i.i (omega arith)
+turn c = (setup-facts c.args.setup.now c.requires).each c.loop-i.i (omega arith)
 
 pub bounds-setup-13 : goal.bounds-setup-13
-bounds-setup-13 c = let start = c.before.before in omega (arith, (setup-facts start.args.setup.now start.requires).numbers)
+bounds-setup-13 c = omega (arith, (setup-facts c.args.setup.now c.requires).numbers)
 
 pub loop-i-init : goal.loop-i-init
 loop-i-init c = (omega arith, refl, λ j h. absurd (omega arith))
 
 pub overflow_mul-at : goal.overflow_mul-at
-overflow_mul-at c = omega (arith, turn c)
+overflow_mul-at c = omega (arith, turn c.before)
 
 pub overflow_add-at : goal.overflow_add-at
-overflow_add-at c = omega (arith, turn c)
+overflow_add-at c = omega (arith, turn c.before)
 
 pub overflow_add-k : goal.overflow_add-k
-overflow_add-k c = omega (arith, turn c)
+overflow_add-k c = omega (arith, turn c.before)
 
 pub offset_bounds-setup-at : goal.offset_bounds-setup-at
-offset_bounds-setup-at c = omega (arith, turn c)
+offset_bounds-setup-at c = omega (arith, turn c.before)
 
 pub bounds-setup-at : goal.bounds-setup-at
-bounds-setup-at c = omega (arith, turn c.before)
+bounds-setup-at c = omega (arith, turn c.before.before)
 
 pub overflow_add-at-in-loop-i : goal.overflow_add-at-in-loop-i
-overflow_add-at-in-loop-i c = omega (arith, turn c.before)
+overflow_add-at-in-loop-i c = omega (arith, turn c.before.before)
 
 pub widest_catch-w-requires : goal.widest_catch-w-requires
-widest_catch-w-requires c = (turn c.before).fits
+widest_catch-w-requires c = (turn c.before.before).fits
 
 pub offset_bounds-need-i : goal.offset_bounds-need-i
-offset_bounds-need-i c = omega (arith, turn c.before.before)
+offset_bounds-need-i c = omega (arith, turn c.before.before.before)
 
 pub bounds-need-i : goal.bounds-need-i
-bounds-need-i c = omega (arith, turn c.before.before)
+bounds-need-i c = omega (arith, turn c.before.before.before)
 
 pub overflow_add-i : goal.overflow_add-i
-overflow_add-i c = let start = c.before.before.before.before.before.before in omega (arith, (setup-facts start.args.setup.now start.requires).few)
+overflow_add-i c = omega (arith, (setup-facts c.args.setup.now c.requires).few)
 
 pub loop-i-preserved : goal.loop-i-preserved
 loop-i-preserved c =
-    let k = turn c.before.before in let ws = c.args.setup.now in
+    let k = turn c.before.before.before in let ws = c.args.setup.now in
     (omega arith, simp length-set c.loop-i.invariant.1, kept ws c.loop-i.need c.loop-i.i c.widest_catch-w.result (omega arith) c.loop-i.invariant.2 c.widest_catch-w.ensures)
 
 pub returns : goal.returns

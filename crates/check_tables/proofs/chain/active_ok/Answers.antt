@@ -14,7 +14,7 @@ pub returns-then-chain-at : goal.returns-then-chain-at
 returns-then-chain-at c = let a = c.args in other-floor a.chain.now a.frames.now a.k a.i c.if-chain-at.true
 
 pub returns-then-not-driver_held : goal.returns-then-not-driver_held
-returns-then-not-driver_held c = let a = c.args in bad-driver a.chain.now a.frames.now a.k a.i c.if-chain-at.false c.driver_held.result c.driver_held.ensures (not-true _ c.if-not-driver_held.true)
+returns-then-not-driver_held c = let a = c.args in bad-driver a.chain.now a.frames.now a.k a.i c.if-chain-at.false c.driver_held.result c.driver_held.ensures c.if-not-driver_held.true
 
 pub base_at-base-requires : goal.base_at-base-requires
 base_at-base-requires c = c.requires.1
@@ -25,5 +25,5 @@ driver_lies-requires c = omega (arith, c.requires.1)
 pub returns : goal.returns
 returns c =
     let a = c.args in
-    last-lies a.chain.now a.frames.now a.k a.i c.if-chain-at.false c.driver_held.result c.driver_lies.result c.driver_held.ensures (not-false _ c.if-not-driver_held.false)
+    last-lies a.chain.now a.frames.now a.k a.i c.if-chain-at.false c.driver_held.result c.driver_lies.result c.driver_held.ensures c.if-not-driver_held.false
     (c.driver_lies.ensures ∙ ap (λ (x : ℕ). driver_lies (driver_in a.chain.now a.k) x (piled 6 frame_of a.i a.frames.now)) c.base_at-base.ensures)

@@ -8,7 +8,7 @@ use Rattle.check_tables.proofs.chain.chain_ok.Goals as goal
 pub returns-then-not-chain_over : goal.returns-then-not-chain_over
 returns-then-not-chain_over c =
     let a = c.args in
-    first-fails _ _ _ c.chain_over.result (chain-rules a.chain.now a.frames.now a.n a.depth c.requires.on_chain) c.chain_over.ensures (not-true _ c.if-not-chain_over.true)
+    first-fails _ _ _ c.chain_over.result (chain-rules a.chain.now a.frames.now a.n a.depth c.requires.on_chain) c.chain_over.ensures c.if-not-chain_over.true
 
 pub overflow_mul-n : goal.overflow_mul-n
 overflow_mul-n c = omega (arith, c.requires.on_chain)
@@ -16,4 +16,4 @@ overflow_mul-n c = omega (arith, c.requires.on_chain)
 pub returns : goal.returns
 returns c =
     let a = c.args in
-    second-decides _ _ _ c.chain_over.result c.rest_ok.result (chain-rules a.chain.now a.frames.now a.n a.depth c.requires.on_chain) c.chain_over.ensures (not-false _ c.if-not-chain_over.false) c.rest_ok.ensures
+    second-decides _ _ _ c.chain_over.result c.rest_ok.result (chain-rules a.chain.now a.frames.now a.n a.depth c.requires.on_chain) c.chain_over.ensures c.if-not-chain_over.false c.rest_ok.ensures

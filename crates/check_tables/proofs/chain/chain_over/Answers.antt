@@ -29,7 +29,7 @@ active_ok-requires c = let on_chain = c.requires.on_chain in let on-frames = c.r
 pub returns-then-not-active_ok : goal.returns-then-not-active_ok
 returns-then-not-active_ok c =
     let a = c.args in
-    active-stop a.chain.now a.frames.now c.loop-i.i c.loop-i.k _ c.loop-i.invariant.2 c.loop-i-test.true c.if-frames-i-gt-DISCARD.true (omega arith) c.active_ok.result c.active_ok.ensures (not-true _ c.if-not-active_ok.true)
+    active-stop a.chain.now a.frames.now c.loop-i.i c.loop-i.k _ c.loop-i.invariant.2 c.loop-i-test.true c.if-frames-i-gt-DISCARD.true (omega arith) c.active_ok.result c.active_ok.ensures c.if-not-active_ok.true
 
 pub loop-i-preserved-else-not-active_ok : goal.loop-i-preserved-else-not-active_ok
 loop-i-preserved-else-not-active_ok c =
@@ -37,7 +37,7 @@ loop-i-preserved-else-not-active_ok c =
       omega arith,
       omega arith,
       active-more a.chain.now a.frames.now c.loop-i.i c.loop-i.k _ c.loop-i.invariant.2 c.loop-i-test.true
-          c.if-frames-i-gt-DISCARD.true (omega arith) c.active_ok.result c.active_ok.ensures (not-false _ c.if-not-active_ok.false),
+          c.if-frames-i-gt-DISCARD.true (omega arith) c.active_ok.result c.active_ok.ensures c.if-not-active_ok.false,
     )
 
 pub loop-i-preserved : goal.loop-i-preserved

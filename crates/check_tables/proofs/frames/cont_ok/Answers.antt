@@ -31,14 +31,14 @@ returns-then-r-ne0-2 c =
 pub returns-then-not-saved : goal.returns-then-not-saved
 returns-then-not-saved c =
     let a = c.args in
-    on-stack a.saved a.ws.now a.i a.code a.r a.base c.if-code-lt-DISCARD.false c.if-r-ne0-2.false (not-true _ c.if-not-saved.true)
+    on-stack a.saved a.ws.now a.i a.code a.r a.base c.if-code-lt-DISCARD.false c.if-r-ne0-2.false c.if-not-saved.true
 
 pub returns-then-i-eq0 : goal.returns-then-i-eq0
 returns-then-i-eq0 c =
     let a = c.args in
-    in-row-low a.saved a.ws.now a.i a.code a.r a.base c.if-code-lt-DISCARD.false c.if-r-ne0-2.false (not-false _ c.if-not-saved.false) c.if-i-eq0.true
+    in-row-low a.saved a.ws.now a.i a.code a.r a.base c.if-code-lt-DISCARD.false c.if-r-ne0-2.false c.if-not-saved.false c.if-i-eq0.true
 
 pub returns : goal.returns
 returns c =
     let a = c.args in
-    in-row-over a.saved a.ws.now a.i a.code a.r a.base c.if-code-lt-DISCARD.false c.if-r-ne0-2.false (not-false _ c.if-not-saved.false) c.if-i-eq0.false
+    in-row-over a.saved a.ws.now a.i a.code a.r a.base c.if-code-lt-DISCARD.false c.if-r-ne0-2.false c.if-not-saved.false c.if-i-eq0.false

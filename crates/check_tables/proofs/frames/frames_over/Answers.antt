@@ -15,7 +15,7 @@ pub frame_ok-requires : goal.frame_ok-requires
 frame_ok-requires c = record { inside = omega (arith, c.requires.inside); catches = c.requires.catches; numbers = c.requires.numbers }
 
 pub returns-then-not-frame_ok : goal.returns-then-not-frame_ok
-returns-then-not-frame_ok c = let a = c.args in frames-stop a.saved (setup_of a.setup.now) a.ws.now c.loop-i.i c.loop-i.e _ c.loop-i.invariant.1 c.frame_ok.result c.loop-i-test.true c.frame_ok.ensures (not-true _ c.if-not-frame_ok.true)
+returns-then-not-frame_ok c = let a = c.args in frames-stop a.saved (setup_of a.setup.now) a.ws.now c.loop-i.i c.loop-i.e _ c.loop-i.invariant.1 c.frame_ok.result c.loop-i-test.true c.frame_ok.ensures c.if-not-frame_ok.true
 
 pub base_at-e-requires : goal.base_at-e-requires
 base_at-e-requires c = omega (arith, c.requires.inside)
@@ -24,7 +24,7 @@ pub loop-i-preserved : goal.loop-i-preserved
 loop-i-preserved c =
     let a = c.args in (
       omega arith,
-      frames-more a.saved (setup_of a.setup.now) a.ws.now c.loop-i.i c.loop-i.e _ c.loop-i.invariant.1 c.frame_ok.result c.loop-i-test.true c.frame_ok.ensures (not-false _ c.if-not-frame_ok.false)
+      frames-more a.saved (setup_of a.setup.now) a.ws.now c.loop-i.i c.loop-i.e _ c.loop-i.invariant.1 c.frame_ok.result c.loop-i-test.true c.frame_ok.ensures c.if-not-frame_ok.false
           ∙ ap (frames_test a.saved (setup_of a.setup.now) a.ws.now (c.loop-i.i - 1)) (sym c.base_at-e.ensures),
     )
 

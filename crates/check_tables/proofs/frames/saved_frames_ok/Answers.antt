@@ -12,9 +12,9 @@ returns-then-n-eq0 c = let a = c.args in no_frames (setup_of a.setup.now) a.ws.n
 pub returns-then-not-frames_over : goal.returns-then-not-frames_over
 returns-then-not-frames_over c =
     let a = c.args in
-    first-fails _ _ _ c.frames_over.result (saved-frames (setup_of a.setup.now) a.ws.now a.n a.regs c.requires.inside (omega arith)) c.frames_over.ensures (not-true _ c.if-not-frames_over.true)
+    first-fails _ _ _ c.frames_over.result (saved-frames (setup_of a.setup.now) a.ws.now a.n a.regs c.requires.inside (omega arith)) c.frames_over.ensures c.if-not-frames_over.true
 
 pub returns : goal.returns
 returns c =
     let a = c.args in
-    second-decides _ _ _ c.frames_over.result c.rest_ok.result (saved-frames (setup_of a.setup.now) a.ws.now a.n a.regs c.requires.inside (omega arith)) c.frames_over.ensures (not-false _ c.if-not-frames_over.false) c.rest_ok.ensures
+    second-decides _ _ _ c.frames_over.result c.rest_ok.result (saved-frames (setup_of a.setup.now) a.ws.now a.n a.regs c.requires.inside (omega arith)) c.frames_over.ensures c.if-not-frames_over.false c.rest_ok.ensures

@@ -10,13 +10,18 @@ use Rattle.heap.specs.Word.{slot_of}
 use Rattle.heap.specs.Heap.{slots_of, coro_of}
 use Rattle.check_tables.specs.Queue.{by_coro, mark_of}
 use Rattle.check_tables.proofs.Entries.{has, put-mark, first, small, unmarked, again, one_more, all}
+use Rattle.check_tables.proofs.queue.entries_ok.Lts as lts
+use Rattle.check_tables.proofs.queue.entries_ok.Reads as reads
+use Rattle.check_tables.proofs.queue.entries_ok.Tie as tie
 use Rattle.check_tables.proofs.queue.entries_ok.Goals as goal
-use Rattle.check_tables.proofs.queue.entries_ok.Goals.{Else-not-is_marked}
+
+abbrev Else-not-is_marked : Type 0
+Else-not-is_marked = lts.Else1 tie.the-claims reads.Pre reads.Post goal.invariant-loop-i goal.decreases-loop-i
 
 -- the word is marked, and its slot in range
 marked : (c : Else-not-is_marked)
     → let at-loop = c.before.before.before.before in let a = at-loop.before.before.before.args in by_coro (mark_of a.task) (coro_of (slots_of a.count a.slots.now) (get_or a.q.now (at-loop.loop.i - 1) 0)) ≡ true
-marked c = sym c.is_marked.ensures ∙ not-false _ c.if-not-is_marked.false
+marked c = sym c.is_marked.ensures ∙ c.if-not-is_marked.false
 
 in-range : (c : Else-not-is_marked) → let at-loop = c.before.before.before.before in let a = at-loop.before.before.before.args in slot_of (get_or a.q.now (at-loop.loop.i - 1) 0) < 4096
 in-range c =
@@ -24,7 +29,7 @@ in-range c =
     small a.task a.slots.now a.q.now a.n a.count c.requires (c.loop-i.i - 1) (marked c)
 
 pub loop-i-init : goal.loop-i-init
-loop-i-init c = let start = c.before.before in let a = start.args in first a.task a.slots.now a.q.now a.n a.count start.requires
+loop-i-init c = let a = c.args in first a.task a.slots.now a.q.now a.n a.count c.requires
 
 pub offset_bounds-q-i : goal.offset_bounds-q-i
 offset_bounds-q-i c = omega (arith, c.loop-i.invariant.once.within, c.requires.within)
@@ -33,15 +38,15 @@ pub bounds-q-i : goal.bounds-q-i
 bounds-q-i c = omega (arith, c.loop-i.invariant.once.within, c.requires.within)
 
 pub is_marked-requires : goal.is_marked-requires
-is_marked-requires c = let start = c.before.before.before.before.before in start.requires.table
+is_marked-requires c = c.requires.table
 
 pub returns-then-not-is_marked : goal.returns-then-not-is_marked
 returns-then-not-is_marked c =
     let a = c.args in
-    unmarked a.task a.slots.now a.q.now a.n a.count c.requires (c.loop-i.i - 1) (omega (arith, c.loop-i.invariant.once.within)) (sym c.is_marked.ensures ∙ not-true _ c.if-not-is_marked.true)
+    unmarked a.task a.slots.now a.q.now a.n a.count c.requires (c.loop-i.i - 1) (omega (arith, c.loop-i.invariant.once.within)) (sym c.is_marked.ensures ∙ c.if-not-is_marked.true)
 
 pub bounds-seen-x : goal.bounds-seen-x
-bounds-seen-x c = omega (arith, in-range c.before, c.slot-x.ensures)
+bounds-seen-x c = omega (arith, in-range c.before.before, c.slot-x.ensures)
 
 pub returns-then-seen-x : goal.returns-then-seen-x
 returns-then-seen-x c =
@@ -50,13 +55,13 @@ returns-then-seen-x c =
     (ap (has c.loop-i.seen) (sym c.slot-x.ensures) ∙ c.if-seen-x.true)
 
 pub bounds-seen-x-in-loop-i : goal.bounds-seen-x-in-loop-i
-bounds-seen-x-in-loop-i c = omega (arith, in-range c.before.before, c.slot-x.ensures)
+bounds-seen-x-in-loop-i c = omega (arith, in-range c.before.before.before, c.slot-x.ensures)
 
 pub loop-i-preserved : goal.loop-i-preserved
 loop-i-preserved c =
     let a = c.args in
-    let h = in-range c.before.before in let e = c.slot-x.ensures in
-    one_more a.task a.slots.now a.q.now a.n a.count c.requires c.loop-i.seen c.loop-i.i c.loop-i.invariant c.loop-i-test.true _ (marked c.before.before)
+    let h = in-range c.before.before.before in let e = c.slot-x.ensures in
+    one_more a.task a.slots.now a.q.now a.n a.count c.requires c.loop-i.seen c.loop-i.i c.loop-i.invariant c.loop-i-test.true _ (marked c.before.before.before)
     (ap (has c.loop-i.seen) (sym e) ∙ c.if-seen-x.false)
     (λ y. put-mark c.loop-i.seen _ y (omega (arith, c.loop-i.invariant.long)) ∙ ap (λ x. eqb y x || has c.loop-i.seen y) e) (simp length-set c.loop-i.invariant.long)
 

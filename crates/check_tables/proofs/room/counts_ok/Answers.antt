@@ -6,8 +6,30 @@ use Prim.Native.Nat.{ℕ}
 use borrow.Author.Tests.{le-leb, lt-leb}
 use lib.Dec.{leb}
 use Rattle.check_tables.proofs.Bools.{Left, upto, from, pass, stop, last}
+use Rattle.check_tables.proofs.room.counts_ok.Lts as lts
+use Rattle.check_tables.proofs.room.counts_ok.Reads as reads
 use Rattle.check_tables.proofs.room.counts_ok.Goals as goal
-use Rattle.check_tables.proofs.room.counts_ok.Goals.{Else-sizes-m, Else-sizes-m-2, Else-sizes-m-3, Else-sizes-m-4, Else-sizes-m-5, Else-sizes-m-6, Start}
+
+abbrev Start : Type 0
+Start = lts.Start reads.Pre reads.Post
+
+abbrev Else-sizes-m : Type 0
+Else-sizes-m = lts.Else1 reads.Pre reads.Post
+
+abbrev Else-sizes-m-2 : Type 0
+Else-sizes-m-2 = lts.Else2 reads.Pre reads.Post
+
+abbrev Else-sizes-m-3 : Type 0
+Else-sizes-m-3 = lts.Else3 reads.Pre reads.Post
+
+abbrev Else-sizes-m-4 : Type 0
+Else-sizes-m-4 = lts.Else4 reads.Pre reads.Post
+
+abbrev Else-sizes-m-5 : Type 0
+Else-sizes-m-5 = lts.Else5 reads.Pre reads.Post
+
+abbrev Else-sizes-m-6 : Type 0
+Else-sizes-m-6 = lts.Else6 reads.Pre reads.Post
 
 -- `counts_ok` meets its contract: each test fails the whole, and the last decides it. Assumes nothing.
 abbrev tests : Start → List Bool

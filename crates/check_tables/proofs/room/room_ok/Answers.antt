@@ -9,15 +9,40 @@ use borrow.Author.Tests.{le-leb, lt-leb}
 use lib.Dec.{leb}
 use Rattle.heap.specs.Slot.{width}
 use Rattle.check_tables.proofs.Bools.{Left, upto, from, pass, stop, last}
+use Rattle.check_tables.proofs.room.room_ok.Lts as lts
+use Rattle.check_tables.proofs.room.room_ok.Reads as reads
 use Rattle.check_tables.proofs.room.room_ok.Goals as goal
-use Rattle.check_tables.proofs.room.room_ok.Goals.{Else-chain-records, Else-frames-records, Else-ready-sizes, Else-saved_frames-sizes, Else-saved_stack-sizes, Else-slots-sizes, Else-stack-sizes, Start}
+
+abbrev Start : Type 0
+Start = lts.Start reads.Pre reads.Post
+
+abbrev Else-stack-sizes : Type 0
+Else-stack-sizes = lts.Else1 reads.Pre reads.Post
+
+abbrev Else-frames-records : Type 0
+Else-frames-records = lts.Else2 reads.Pre reads.Post
+
+abbrev Else-chain-records : Type 0
+Else-chain-records = lts.Else3 reads.Pre reads.Post
+
+abbrev Else-slots-sizes : Type 0
+Else-slots-sizes = lts.Else4 reads.Pre reads.Post
+
+abbrev Else-saved_stack-sizes : Type 0
+Else-saved_stack-sizes = lts.Else5 reads.Pre reads.Post
+
+abbrev Else-saved_frames-sizes : Type 0
+Else-saved_frames-sizes = lts.Else6 reads.Pre reads.Post
+
+abbrev Else-ready-sizes : Type 0
+Else-ready-sizes = lts.Else7 reads.Pre reads.Post
 
 -- `room_ok` meets its contract: each test fails the whole, and the last decides it. Assumes nothing.
 abbrev tests : Start → List Bool
 tests c =
     let a = c.args in let l = a.sizes in
-    leb l.stack a.stack ∷ leb (l.depth * 6) a.frames ∷ leb (l.depth * 6) a.chain ∷ leb (l.slots * width) a.slots ∷ leb (l.rows * l.width) a.saved-stack
-    ∷ leb (l.rows * (l.depth * 6)) a.saved-frames ∷ leb l.slots a.ready ∷ leb l.slots a.finalize ∷ []
+    leb l.stack a.stack ∷ leb (l.depth * 6) a.frames ∷ leb (l.depth * 6) a.chain ∷ leb (l.slots * width) a.slots ∷ leb (l.rows * l.width) a.saved_stack
+    ∷ leb (l.rows * (l.depth * 6)) a.saved_frames ∷ leb l.slots a.ready ∷ leb l.slots a.finalize ∷ []
 
 -- the first n have passed
 abbrev Passed : ℕ → Start → Type 0
@@ -70,13 +95,13 @@ pub returns-then-slots-sizes : goal.returns-then-slots-sizes
 returns-then-slots-sizes c = stop (passed-3 c.before.before) (lt-leb _ _ c.if-slots-sizes.true)
 
 pub overflow_mul-sizes-2 : goal.overflow_mul-sizes-2
-overflow_mul-sizes-2 c = let start = c.before.before.before.before.before.before.before.before in let p = start.requires in omega (arith, products start)
+overflow_mul-sizes-2 c = let p = c.requires in omega (arith, products c.before.before.before.before.before.before.before.before)
 
 pub returns-then-saved_stack-sizes : goal.returns-then-saved_stack-sizes
 returns-then-saved_stack-sizes c = stop (passed-4 c.before.before) (lt-leb _ _ c.if-saved_stack-sizes.true)
 
 pub overflow_mul-sizes-3 : goal.overflow_mul-sizes-3
-overflow_mul-sizes-3 c = let start = c.before.before.before.before.before.before.before.before.before.before in let p = start.requires in omega (arith, products start)
+overflow_mul-sizes-3 c = let p = c.requires in omega (arith, products c.before.before.before.before.before.before.before.before.before.before)
 
 pub returns-then-saved_frames-sizes : goal.returns-then-saved_frames-sizes
 returns-then-saved_frames-sizes c = stop (passed-5 c.before.before) (lt-leb _ _ c.if-saved_frames-sizes.true)

@@ -26,7 +26,7 @@ returns-then-count c =
 pub returns-then-not-handlers_ok : goal.returns-then-not-handlers_ok
 returns-then-not-handlers_ok c =
     let ws = c.args.setup.now in let at = c.args.at in let k = get_or ws (at + 2) 0 in
-    sym (rw (le-leb (get_or ws at 0) 256 c.if-regs-gt-MOST_REGS.false, le-leb (get_or ws (at + 1) 0) (get_or ws at 0) c.if-regs-setup.false, le-leb k 8 c.if-count.false, sym c.handlers_ok.ensures ∙ not-true _ c.if-not-handlers_ok.true))
+    sym (rw (le-leb (get_or ws at 0) 256 c.if-regs-gt-MOST_REGS.false, le-leb (get_or ws (at + 1) 0) (get_or ws at 0) c.if-regs-setup.false, le-leb k 8 c.if-count.false, sym c.handlers_ok.ensures ∙ c.if-not-handlers_ok.true))
 
 pub returns : goal.returns
 returns c =
@@ -37,5 +37,5 @@ returns c =
       le-leb (get_or ws (at + 1) 0)
           (get_or ws at 0) c.if-regs-setup.false,
       le-leb k 8 c.if-count.false,
-      sym c.handlers_ok.ensures ∙ not-false _ c.if-not-handlers_ok.false,
+      sym c.handlers_ok.ensures ∙ c.if-not-handlers_ok.false,
     ))

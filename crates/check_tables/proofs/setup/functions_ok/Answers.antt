@@ -20,12 +20,12 @@ loop-i-init c = (omega arith, refl)
 pub returns-then-not-function_ok : goal.returns-then-not-function_ok
 returns-then-not-function_ok c =
     let a = c.args in
-    sym (fails-at a.n c.loop-i.i (test a.setup.now) c.loop-i-test.true (sym c.function_ok.ensures ∙ not-true _ c.if-not-function_ok.true))
+    sym (fails-at a.n c.loop-i.i (test a.setup.now) c.loop-i-test.true (sym c.function_ok.ensures ∙ c.if-not-function_ok.true))
 
 pub loop-i-preserved : goal.loop-i-preserved
 loop-i-preserved c =
     let a = c.args in
-    (omega arith, holds-next c.loop-i.i (test a.setup.now) c.loop-i.invariant.1 (sym c.function_ok.ensures ∙ not-false _ c.if-not-function_ok.false))
+    (omega arith, holds-next c.loop-i.i (test a.setup.now) c.loop-i.invariant.1 (sym c.function_ok.ensures ∙ c.if-not-function_ok.false))
 
 pub returns : goal.returns
 returns c =

@@ -22,12 +22,12 @@ pub returns-then-not-handler_ok : goal.returns-then-not-handler_ok
 returns-then-not-handler_ok c =
     let a = c.args in
     let t = test a.setup.now a.at a.regs in
-    sym (fails-at a.n c.loop-j.j t c.loop-j-test.true (sym c.handler_ok.ensures ∙ not-true _ c.if-not-handler_ok.true))
+    sym (fails-at a.n c.loop-j.j t c.loop-j-test.true (sym c.handler_ok.ensures ∙ c.if-not-handler_ok.true))
 
 pub loop-j-preserved : goal.loop-j-preserved
 loop-j-preserved c =
     let a = c.args in
-    (omega arith, holds-next c.loop-j.j (test a.setup.now a.at a.regs) c.loop-j.invariant.1 (sym c.handler_ok.ensures ∙ not-false _ c.if-not-handler_ok.false))
+    (omega arith, holds-next c.loop-j.j (test a.setup.now a.at a.regs) c.loop-j.invariant.1 (sym c.handler_ok.ensures ∙ c.if-not-handler_ok.false))
 
 pub returns : goal.returns
 returns c =

@@ -10,8 +10,25 @@ use Rattle.memory_world.specs.Lendings.{cleaning, plain}
 use Rattle.memory_world.specs.Contract.{Does}
 use Rattle.machine_state.proofs.Stored.{store-sounds}
 use Rattle.coro_clean.proofs.Closes.{sought, unit_left, stored_ok}
+use Rattle.coro_clean.proofs.charge.charge_ready.Lts as lts
+use Rattle.coro_clean.proofs.charge.charge_ready.Reads as reads
+use Rattle.coro_clean.proofs.charge.charge_ready.Tie as tie
 use Rattle.coro_clean.proofs.charge.charge_ready.Goals as goal
-use Rattle.coro_clean.proofs.charge.charge_ready.Goals.{After-start_finalizer-did}
+
+abbrev Start : Type 0
+Start = lts.Start tie.the-claims reads.Pre reads.Post
+
+abbrev After-store_pc : Type 0
+After-store_pc = lts.After-store_pc tie.the-claims reads.Pre reads.Post
+
+abbrev After-start_finalizer-arg-7-1 : Type 0
+After-start_finalizer-arg-7-1 = lts.After-start_finalizer-arg7 tie.the-claims reads.Pre reads.Post
+
+abbrev After-start_finalizer-did : Type 0
+After-start_finalizer-did = lts.After-start_finalizer tie.the-claims reads.Pre reads.Post
+
+abbrev After-s-1 : Type 0
+After-s-1 = lts.After-s tie.the-claims reads.Pre reads.Post
 
 -- `charge_ready` meets the definition: a pc stored, a search for a cleanup, and what it comes to. Assumes nothing.
 -- the ways back that several clauses take
@@ -25,14 +42,14 @@ abbrev store-pc-of : After-start_finalizer-arg-7-1 → After-store_pc
 store-pc-of c = c.before.before.before.before.before.before.before.before.before
 
 abbrev mem : Start → Beside → Lent
-mem c b = cleaning c.args.stack.now c.args.frames.now c.args.chain.now c.args.slots.now c.args.saved-stack.now
-    c.args.saved-frames.now c.args.finalize.now plain b
+mem c b = cleaning c.args.stack.now c.args.frames.now c.args.chain.now c.args.slots.now c.args.saved_stack.now
+    c.args.saved_frames.now c.args.finalize.now plain b
 
 -- what a search for a cleanup leaves
 abbrev words : After-start_finalizer-did → Beside → Lent
 words c b =
-    let e = c.start-finalizer in
-    cleaning e.new.0 e.new.1.0 e.new.1.1.0 e.new.1.1.1.0 e.new.1.1.1.1.0 e.new.1.1.1.1.1.0 e.new.1.1.1.1.1.1.0 plain b
+    let e = c.start_finalizer-did in
+    cleaning e.new.stack e.new.frames e.new.chain e.new.slots e.new.saved_stack e.new.saved_frames e.new.finalize plain b
 
 searched : (c : After-start_finalizer-did) (w : World) (b : Beside) →
     let entry = start_of c in
@@ -51,25 +68,25 @@ start_finalizer-did-requires c =
     let entry = at-store-pc.before.before.before.before.before.before.before.before.before in
     let o = entry.pre.charge.ok in
     stored_ok entry.args.sizes entry.args.m entry.args.fuel entry.args.stack.now entry.args.frames.now entry.args.chain.now
-    entry.args.slots.now entry.args.saved-stack.now entry.args.saved-frames.now
+    entry.args.slots.now entry.args.saved_stack.now entry.args.saved_frames.now
     entry.args.finalize.now at-store-pc.store-pc.last.0 entry.args.pc at-store-pc.store-pc.kept.0 entry.pre.charge.narrow o
     (at-store-pc.store-pc.ensures entry.args.sizes o.world (record { words = mem entry o.beside; fuel = entry.args.fuel }) o.rep)
 
 pub charge_or-requires : goal.charge_or-requires
 charge_or-requires c =
-    let at-start-finalizer = start-finalizer-of c in let start = start_of at-start-finalizer in
+    let at-start-finalizer = start-finalizer-of c.before in let start = start_of at-start-finalizer in
     let o = start.pre.charge.ok in
     unit_left start.args.sizes _ _ _ start.args.fuel (store_pc start.args.pc o.world) _ o.rep.fuel
     (searched at-start-finalizer o.world o.beside o.rep o.sound) start.pre.paid
 
 pub shape_of-frames : goal.shape_of-frames
 shape_of-frames c =
-    let at-start-finalizer = start-finalizer-of c.before in let at-store-pc = store-pc-of at-start-finalizer.before in
+    let at-start-finalizer = start-finalizer-of c.before.before in let at-store-pc = store-pc-of at-start-finalizer.before in
     at-start-finalizer.start-finalizer.kept.1.0 ∙ at-store-pc.store-pc.kept.0
 
 pub returns : goal.returns
 returns c =
-    let at-start-finalizer = start-finalizer-of c.before in let start = start_of at-start-finalizer in
+    let at-start-finalizer = start-finalizer-of c.before.before in let start = start_of at-start-finalizer in
     λ w b rep snd.
     let d = searched at-start-finalizer w b rep snd in
     sought start.args.sizes _ _ _ start.args.pc w _ _ d.answer

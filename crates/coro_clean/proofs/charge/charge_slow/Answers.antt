@@ -8,7 +8,16 @@ use Rattle.memory_world.specs.Lendings.{cleaning, plain}
 use Rattle.coro_clean.proofs.Paid.{back-rep, slow-spent, slow-paid}
 use Rattle.coro_clean.proofs.Starting.{unbank-sounds, unbank-ok}
 use Rattle.coro_clean.proofs.Closes.{at_ready, at-idle, paid-again}
+use Rattle.coro_clean.proofs.charge.charge_slow.Lts as lts
+use Rattle.coro_clean.proofs.charge.charge_slow.Reads as reads
+use Rattle.coro_clean.proofs.charge.charge_slow.Tie as tie
 use Rattle.coro_clean.proofs.charge.charge_slow.Goals as goal
+
+abbrev Start : Type 0
+Start = lts.Start tie.the-claims reads.Pre reads.Post
+
+abbrev After-unbank-f : Type 0
+After-unbank-f = lts.After-unbank tie.the-claims reads.Pre reads.Post
 
 -- `charge_slow` meets the definition, by the fuel taken back and whether cleanups are ready. Assumes nothing.
 -- the ways back that several clauses take
@@ -16,12 +25,12 @@ abbrev start_of : After-unbank-f → Start
 start_of c = c.before.before.before.before.before.before.before.before
 
 abbrev mem : Start → Beside → Lent
-mem c b = cleaning c.args.stack.now c.args.frames.now c.args.chain.now c.args.slots.now c.args.saved-stack.now
-    c.args.saved-frames.now c.args.finalize.now plain b
+mem c b = cleaning c.args.stack.now c.args.frames.now c.args.chain.now c.args.slots.now c.args.saved_stack.now
+    c.args.saved_frames.now c.args.finalize.now plain b
 
 pub returns-then-f-eq0 : goal.returns-then-f-eq0
 returns-then-f-eq0 c =
-    let start = start_of c.before.before in
+    let start = start_of c.before.before.before in
     λ w b rep snd. slow-spent start.args.sizes (mem start b) start.args.m start.args.fuel w rep c.unbank-f.result c.unbank-f.ensures
     (OptPc.Some start.args.pc) c.if-f-eq0.true
 
@@ -40,7 +49,7 @@ charge_ready-requires c =
 
 pub returns-then-f : goal.returns-then-f
 returns-then-f c =
-    let start = start_of c.before.before.before.before.before.before.before.before.before.before.before.before.before.before.before.before.before.before.before.before.before.before.before.before.before in
+    let start = start_of c.before.before.before.before.before.before.before.before.before.before.before.before.before.before.before.before.before.before.before.before.before.before.before.before.before.before in
     λ w b rep snd.
     let f = c.unbank-f.result in
     let again = back-rep start.args.sizes (mem start b) start.args.m start.args.fuel w rep f c.unbank-f.ensures in
@@ -50,7 +59,7 @@ returns-then-f c =
 
 pub returns : goal.returns
 returns c =
-    let start = start_of c.before.before.before.before.before in
+    let start = start_of c.before.before.before.before.before.before in
     λ w b rep snd.
     let f = c.unbank-f.result in
     let again = back-rep start.args.sizes (mem start b) start.args.m start.args.fuel w rep f c.unbank-f.ensures in

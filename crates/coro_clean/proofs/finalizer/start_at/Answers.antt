@@ -13,8 +13,28 @@ use Rattle.memory_world.specs.Lendings.{lent, cleaning, plain}
 use Rattle.memory_world.specs.Contract.{Does}
 use mathlib.Core.Bool.{true}
 use Rattle.coro_clean.proofs.Starting.{fewer-sound, fewer-rep, fewer-ok, start-does}
+use Rattle.coro_clean.proofs.finalizer.start_at.Lts as lts
+use Rattle.coro_clean.proofs.finalizer.start_at.Reads as reads
+use Rattle.coro_clean.proofs.finalizer.start_at.Tie as tie
 use Rattle.coro_clean.proofs.finalizer.start_at.Goals as goal
-use Rattle.coro_clean.proofs.finalizer.start_at.Goals.{After-coro_enter-did}
+
+abbrev Start : Type 0
+Start = lts.Start tie.the-claims reads.Pre reads.Post
+
+abbrev After-word_at-v : Type 0
+After-word_at-v = lts.After-word_at tie.the-claims reads.Pre reads.Post
+
+abbrev After-take_front : Type 0
+After-take_front = lts.After-take_front tie.the-claims reads.Pre reads.Post
+
+abbrev After-coro_enter-arg-6-1 : Type 0
+After-coro_enter-arg-6-1 = lts.After-coro_enter-arg6 tie.the-claims reads.Pre reads.Post
+
+abbrev After-coro_enter-did : Type 0
+After-coro_enter-did = lts.After-coro_enter tie.the-claims reads.Pre reads.Post
+
+abbrev After-set_closing-arg-1 : Type 0
+After-set_closing-arg-1 = lts.After-set_closing-arg tie.the-claims reads.Pre reads.Post
 
 -- `start_at` meets the definition: words taken off, an entry, a close, the mark of a running cleanup. Assumes nothing.
 -- the ways back that several clauses take
@@ -28,11 +48,11 @@ abbrev take-front-of : After-coro_enter-arg-6-1 → After-take_front
 take-front-of c = c.before.before.before.before.before.before.before.before.before
 
 abbrev start_of : After-word_at-v → Start
-start_of c = c.before.before.before.before.before.before.before.before.before
+start_of c = c.before.before.before.before.before.before.before.before
 
 abbrev mem : Start → Beside → Lent
-mem c b = cleaning c.args.stack.now c.args.frames.now c.args.chain.now c.args.slots.now c.args.saved-stack.now
-    c.args.saved-frames.now c.args.finalize.now plain b
+mem c b = cleaning c.args.stack.now c.args.frames.now c.args.chain.now c.args.slots.now c.args.saved_stack.now
+    c.args.saved_frames.now c.args.finalize.now plain b
 
 -- the world without the words taken off
 abbrev fewer : Start → World → World
@@ -42,8 +62,8 @@ fewer c w = with_finalize (drop (c.args.i + 1) w.finalize) w
 abbrev words : After-coro_enter-did → Beside → Lent
 words c b =
     let at-take-front = take-front-of c.before in let entry = start_of at-take-front.before.before in
-    let e = c.coro-enter in
-    lent e.new.0 e.new.1.0 e.new.1.1.0 e.new.1.1.1.0 e.new.1.1.1.1.0 e.new.1.1.1.1.1.0
+    let e = c.coro_enter-did in
+    lent e.new.stack e.new.frames e.new.chain e.new.slots e.new.saved_stack e.new.saved_frames
     (record { words = on_finalize at-take-front.take-front.last.0 b.words; fuel = entry.args.fuel })
 
 entered : (c : After-coro_enter-did) (w : World) (b : Beside) →
@@ -59,26 +79,26 @@ entered c w b rep snd =
 
 pub coro_enter-did-requires : goal.coro_enter-did-requires
 coro_enter-did-requires c =
-    let at-take-front = take-front-of c in let entry = start_of at-take-front.before.before in
+    let at-take-front = take-front-of c.before in let entry = start_of at-take-front.before.before in
     fewer-ok entry.args.sizes entry.args.m entry.args.fuel entry.args.stack.now entry.args.frames.now entry.args.chain.now
-    entry.args.slots.now entry.args.saved-stack.now entry.args.saved-frames.now
+    entry.args.slots.now entry.args.saved_stack.now entry.args.saved_frames.now
     entry.args.finalize.now at-take-front.take-front.last.0 (entry.args.i + 1) _ entry.pre.ok at-take-front.take-front.ensures at-take-front.take-front.kept.0
 
 pub set_closing-requires : goal.set_closing-requires
 set_closing-requires c =
-    let at-coro-enter = coro-enter-of c in let at-word-at = word-at-of at-coro-enter in let entry = start_of at-word-at in
+    let at-coro-enter = coro-enter-of c.before in let at-word-at = word-at-of at-coro-enter in let entry = start_of at-word-at in
     let o = entry.pre.ok in
     (entered at-coro-enter o.world o.beside o.rep o.sound).world.slots.within
 
 pub shape_of-finalize : goal.shape_of-finalize
 shape_of-finalize c =
-    let after-coro-enter = coro-enter-of c.before.before.before.before.before.before in
+    let after-coro-enter = coro-enter-of c.before.before.before.before.before.before.before in
     let at-take-front = take-front-of after-coro-enter.before in
     at-take-front.take-front.kept.0
 
 pub returns : goal.returns
 returns c =
-    let at-coro-enter = coro-enter-of c.before.before.before.before.before.before in let at-word-at = word-at-of at-coro-enter in
+    let at-coro-enter = coro-enter-of c.before.before.before.before.before.before.before in let at-word-at = word-at-of at-coro-enter in
     let entry = start_of at-word-at in
     λ w b rep snd.
     let v = at-word-at.word_at.result in

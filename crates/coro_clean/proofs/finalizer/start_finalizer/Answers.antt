@@ -4,7 +4,16 @@ use Rattle.memory_world.specs.Memory.{Lent, Beside}
 use Rattle.memory_world.specs.Lendings.{cleaning, plain}
 use Rattle.machine_state.proofs.Flags.{unbank-rep}
 use Rattle.coro_clean.proofs.Starting.{unbank-sounds, search-fits, unbank-ok, finalizer-at, finalizer-none}
+use Rattle.coro_clean.proofs.finalizer.start_finalizer.Lts as lts
+use Rattle.coro_clean.proofs.finalizer.start_finalizer.Reads as reads
+use Rattle.coro_clean.proofs.finalizer.start_finalizer.Tie as tie
 use Rattle.coro_clean.proofs.finalizer.start_finalizer.Goals as goal
+
+abbrev Start : Type 0
+Start = lts.Start tie.the-claims reads.Pre reads.Post
+
+abbrev After-unbank-f : Type 0
+After-unbank-f = lts.After-unbank tie.the-claims reads.Pre reads.Post
 
 -- `start_finalizer` meets the definition: the first word that starts, or none. Assumes nothing.
 -- the ways back that several clauses take
@@ -12,18 +21,18 @@ abbrev start_of : After-unbank-f → Start
 start_of c = c.before.before.before.before.before.before.before.before
 
 abbrev mem : Start → Beside → Lent
-mem c b = cleaning c.args.stack.now c.args.frames.now c.args.chain.now c.args.slots.now c.args.saved-stack.now
-    c.args.saved-frames.now c.args.finalize.now plain b
+mem c b = cleaning c.args.stack.now c.args.frames.now c.args.chain.now c.args.slots.now c.args.saved_stack.now
+    c.args.saved_frames.now c.args.finalize.now plain b
 
 pub first_start-i-requires : goal.first_start-i-requires
 first_start-i-requires c =
-    let entry = start_of c.before.before in
+    let entry = start_of c.before in
     let o = entry.pre in
     search-fits entry.args.sizes (mem entry o.beside) entry.args.m entry.args.fuel o.world o.rep o.sound
 
 pub start_at-requires : goal.start_at-requires
 start_at-requires c =
-    let entry = start_of c.before.before.before.before.before.before.before.before.before.before.before.before in
+    let entry = start_of c.before.before.before.before.before.before.before.before.before.before in
     record {
       ok = unbank-ok entry.args.sizes (mem entry) entry.args.m entry.args.fuel c.unbank-f.result c.unbank-f.ensures
           entry.pre;
@@ -32,7 +41,7 @@ start_at-requires c =
 
 pub returns-then-i-m : goal.returns-then-i-m
 returns-then-i-m c =
-    let entry = start_of c.before.before.before.before.before.before.before.before.before.before.before.before.before.before.before.before.before.before.before.before.before.before.before.before.before.before.before in
+    let entry = start_of c.before.before.before.before.before.before.before.before.before.before.before.before.before.before.before.before.before.before.before.before.before.before.before.before.before.before in
     λ w b rep snd.
     let again = unbank-rep entry.args.sizes (mem entry b) entry.args.m entry.args.fuel w rep c.unbank-f.result c.unbank-f.ensures in
     finalizer-at entry.args.sizes (mem entry b) entry.args.m c.unbank-f.result w again c.first_start-i.result
@@ -41,7 +50,7 @@ returns-then-i-m c =
 
 pub returns : goal.returns
 returns c =
-    let entry = start_of c.before.before.before.before.before.before.before.before.before in
+    let entry = start_of c.before.before.before.before.before.before.before.before in
     λ w b rep snd.
     let again = unbank-rep entry.args.sizes (mem entry b) entry.args.m entry.args.fuel w rep c.unbank-f.result c.unbank-f.ensures in
     finalizer-none entry.args.sizes (mem entry b) entry.args.m c.unbank-f.result w again c.first_start-i.result

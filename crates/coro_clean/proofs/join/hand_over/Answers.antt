@@ -15,20 +15,37 @@ use Rattle.heap.specs.State.{is_suspended}
 use Rattle.memory_world.specs.Memory.{on_slots, on_finalize}
 use Rattle.memory_world.specs.Lendings.{cleanups, plain}
 use Rattle.coro_clean.proofs.Joins.{Hands, hand-refused, hands-at}
+use Rattle.coro_clean.proofs.join.hand_over.Lts as lts
+use Rattle.coro_clean.proofs.join.hand_over.Reads as reads
+use Rattle.coro_clean.proofs.join.hand_over.Tie as tie
 use Rattle.coro_clean.proofs.join.hand_over.Goals as goal
-use Rattle.coro_clean.proofs.join.hand_over.Goals.{After-is_suspended, Else-finalized_at, In-At}
+
+abbrev Start : Type 0
+Start = lts.Start tie.the-claims reads.Pre reads.Post
+
+abbrev In-At : Type 0
+In-At = lts.After-known_told2 tie.the-claims reads.Pre reads.Post
+
+abbrev After-is_suspended : Type 0
+After-is_suspended = lts.After-is_suspended tie.the-claims reads.Pre reads.Post
+
+abbrev After-finalized_at : Type 0
+After-finalized_at = lts.After-finalized_at tie.the-claims reads.Pre reads.Post
+
+abbrev Else-finalized_at : Type 0
+Else-finalized_at = lts.Else2 tie.the-claims reads.Pre reads.Post
 
 -- `hand_over` meets the definition: no coroutine, one that is not suspended, one handed over before, a new one. Assumes nothing.
 -- the ways back that several clauses take
 abbrev start_of : In-At → Start
-start_of c = c.before.before.before.before.before.before.before
+start_of c = c.before.before.before.before.before.before
 
 abbrev mem : Start → Beside → Lent
 mem c b = cleanups c.args.slots.now c.args.finalize.now plain b
 
 -- where a coroutine was found
 abbrev slot : In-At → ℕ
-slot c = c.before.i.given.0.0
+slot c = c.in-At.i
 
 fits : (c : In-At) → SlotFits (start_of c).args.slots.now (slot c)
 fits c =
@@ -47,7 +64,7 @@ suspended-at : (c : After-is_suspended) → is_suspended (coro_in (start_of c.be
 suspended-at c = ap is_suspended (sym c.state_at-s.ensures) ∙ sym c.is_suspended.ensures
 
 abbrev place_of : After-finalized_at → In-At
-place_of c = c.before.before.before.before.before.before
+place_of c = c.before.before.before.before
 
 -- the cleanup queue has room for it
 room : (c : Else-finalized_at) → let s = start_of (place_of c.before) in s.args.m.finalize < length s.args.finalize.now
@@ -62,25 +79,25 @@ pub state_at-s-requires : goal.state_at-s-requires
 state_at-s-requires c = fits c.before
 
 pub returns-then-not-is_suspended : goal.returns-then-not-is_suspended
-returns-then-not-is_suspended c = λ l w b rep. (found c.before.before.before.before l w b (start_of c.before.before.before.before).args.fuel rep).not-suspended (suspended-at c.before ∙ not-true _ c.if-not-is_suspended.true)
+returns-then-not-is_suspended c = λ l w b rep. (found c.before.before.before.before l w b (start_of c.before.before.before.before).args.fuel rep).not-suspended (suspended-at c.before.before ∙ c.if-not-is_suspended.true)
 
 pub finalized_at-requires : goal.finalized_at-requires
-finalized_at-requires c = fits c.before.before.before.before.before
+finalized_at-requires c = fits c.before.before.before.before
 
 pub returns-then-finalized_at : goal.returns-then-finalized_at
 returns-then-finalized_at c =
-    let place = place_of c.before in
-    λ l w b rep. (found place l w b (start_of place).args.fuel rep).twice (suspended-at c.before.before.before.before ∙ not-false _ c.if-not-is_suspended.false)
+    let place = place_of c.before.before in
+    λ l w b rep. (found place l w b (start_of place).args.fuel rep).twice (suspended-at c.before.before.before.before ∙ c.if-not-is_suspended.false)
     (sym c.finalized_at.ensures ∙ c.if-finalized_at.true)
 
 pub put_finalized-requires : goal.put_finalized-requires
-put_finalized-requires c = fits (place_of c.before.before)
+put_finalized-requires c = fits (place_of c.before.before.before)
 
 pub push_back-requires : goal.push_back-requires
-push_back-requires c = room c.before.before.before.before.before
+push_back-requires c = room c.before.before.before.before.before.before
 
 pub overflow_add-n : goal.overflow_add-n
-overflow_add-n c = omega (arith, room c.before.before.before.before.before.before.before.before.before, (start_of (place_of c.before.before.before.before.before.before.before.before.before.before)).well-formed)
+overflow_add-n c = omega (arith, room c.before.before.before.before.before.before.before.before.before.before, (start_of (place_of c.before.before.before.before.before.before.before.before.before.before.before)).well-formed)
 
 pub returns-in-Not : goal.returns-in-Not
 returns-in-Not c =
@@ -90,9 +107,9 @@ returns-in-Not c =
 
 pub returns-else-finalized_at : goal.returns-else-finalized_at
 returns-else-finalized_at c =
-    let place = place_of c.before.before.before.before.before.before.before.before.before.before.before.before.before in
+    let place = place_of c.before.before.before.before.before.before.before.before.before.before.before.before.before.before in
     λ l w b rep.
-    (found place l w b (start_of place).args.fuel rep).joins (suspended-at c.before.before.before.before.before.before.before.before.before.before.before.before.before.before.before.before ∙ not-false _ c.if-not-is_suspended.false) (sym c.finalized_at.ensures ∙ c.if-finalized_at.false)
+    (found place l w b (start_of place).args.fuel rep).joins (suspended-at c.before.before.before.before.before.before.before.before.before.before.before.before.before.before.before.before ∙ c.if-not-is_suspended.false) (sym c.finalized_at.ensures ∙ c.if-finalized_at.false)
     _ _ c.put_finalized.ensures c.push_back.ensures _ _
     (λ u r. c.set_finalizing-did.ensures l u
     (record { words = on_slots c.put_finalized.new.slots (on_finalize c.push_back.new.queue (mem (start_of place) b)); fuel = (start_of place).args.fuel }) r)

@@ -13,20 +13,37 @@ use Rattle.model.specs.World.{World}
 use Rattle.model.specs.State.{is_resumable}
 use Rattle.memory_world.specs.Lendings.{tasks, plain}
 use Rattle.coro_clean.proofs.Joins.{Tasks, task-refused, tasks-at}
+use Rattle.coro_clean.proofs.join.spawn_task.Lts as lts
+use Rattle.coro_clean.proofs.join.spawn_task.Reads as reads
+use Rattle.coro_clean.proofs.join.spawn_task.Tie as tie
 use Rattle.coro_clean.proofs.join.spawn_task.Goals as goal
-use Rattle.coro_clean.proofs.join.spawn_task.Goals.{After-is_resumable, Else-not-is_resumable, In-At}
+
+abbrev Start : Type 0
+Start = lts.Start tie.the-claims reads.Pre reads.Post
+
+abbrev In-At : Type 0
+In-At = lts.After-known_told tie.the-claims reads.Pre reads.Post
+
+abbrev After-task_at : Type 0
+After-task_at = lts.After-task_at tie.the-claims reads.Pre reads.Post
+
+abbrev After-is_resumable : Type 0
+After-is_resumable = lts.After-is_resumable tie.the-claims reads.Pre reads.Post
+
+abbrev Else-not-is_resumable : Type 0
+Else-not-is_resumable = lts.Else2 tie.the-claims reads.Pre reads.Post
 
 -- `spawn_task` meets the definition: no coroutine, a task already, one that cannot be resumed, a new task. Assumes nothing.
 -- the ways back that several clauses take
 abbrev start_of : In-At → Start
-start_of c = c.before.before.before.before.before.before.before
+start_of c = c.before.before.before.before.before.before
 
 abbrev mem : Start → Beside → Lent
 mem c b = tasks c.args.slots.now c.args.ready.now plain b
 
 -- where a coroutine was found
 abbrev slot : In-At → ℕ
-slot c = c.before.i.given.0.0
+slot c = c.in-At.i
 
 fits : (c : In-At) → SlotFits (start_of c).args.slots.now (slot c)
 fits c =
@@ -47,7 +64,7 @@ resumable : (c : After-is_resumable) →
 resumable c = ap is_resumable (sym c.state_at-s.ensures) ∙ sym c.is_resumable.ensures
 
 abbrev task-of : Else-not-is_resumable → After-task_at
-task-of c = c.before.before.before.before.before
+task-of c = c.before.before.before.before
 
 -- the ready queue has room for it
 room : (c : Else-not-is_resumable) → let s = start_of (task-of c).before.before in s.args.m.ready < length s.args.ready.now
@@ -65,21 +82,21 @@ pub returns-then-task_at : goal.returns-then-task_at
 returns-then-task_at c = λ l w b rep. (found c.before.before.before l w b rep).already (sym c.task_at.ensures ∙ c.if-task_at.true)
 
 pub state_at-s-requires : goal.state_at-s-requires
-state_at-s-requires c = fits c.before.before.before.before
+state_at-s-requires c = fits c.before.before.before
 
 pub returns-then-not-is_resumable : goal.returns-then-not-is_resumable
 returns-then-not-is_resumable c =
     λ l w b rep.
-    (found c.before.before.before.before.before.before.before l w b rep).late (sym c.task_at.ensures ∙ c.if-task_at.false) (resumable c.before ∙ not-true _ c.if-not-is_resumable.true)
+    (found c.before.before.before.before.before.before l w b rep).late (sym c.task_at.ensures ∙ c.if-task_at.false) (resumable c.before.before ∙ c.if-not-is_resumable.true)
 
 pub put_task-requires : goal.put_task-requires
-put_task-requires c = fits (task-of c.before).before.before
+put_task-requires c = fits (task-of c.before.before).before.before
 
 pub push_back-requires : goal.push_back-requires
-push_back-requires c = room c.before.before.before.before.before
+push_back-requires c = room c.before.before.before.before.before.before
 
 pub overflow_add-n : goal.overflow_add-n
-overflow_add-n c = omega (arith, room c.before.before.before.before.before.before.before.before.before, (start_of (task-of c.before.before.before.before.before.before.before.before.before).before.before).well-formed)
+overflow_add-n c = omega (arith, room c.before.before.before.before.before.before.before.before.before.before, (start_of (task-of c.before.before.before.before.before.before.before.before.before.before).before.before).well-formed)
 
 pub returns-in-Not : goal.returns-in-Not
 returns-in-Not c =
@@ -89,7 +106,7 @@ returns-in-Not c =
 
 pub returns-else-not-is_resumable : goal.returns-else-not-is_resumable
 returns-else-not-is_resumable c =
-    let at-task-at = task-of c.before.before.before.before.before.before.before.before.before in
+    let at-task-at = task-of c.before.before.before.before.before.before.before.before.before.before in
     λ l w b rep.
     (found at-task-at.before.before l w b rep).joins (sym at-task-at.task-at.ensures ∙ c.if-task_at.false)
-    (resumable c.before.before.before.before.before.before.before.before.before.before ∙ not-false _ c.if-not-is_resumable.false) _ _ c.put_task.ensures c.push_back.ensures
+    (resumable c.before.before.before.before.before.before.before.before.before.before.before ∙ c.if-not-is_resumable.false) _ _ c.put_task.ensures c.push_back.ensures

@@ -8,19 +8,30 @@ use Rattle.coro_create.specs.Create.{spot_of}
 use Rattle.coro_create.specs.declared.create.Spot.{Spot}
 use Rattle.coro_create.proofs.Setting.{Numbers, in-setup, numbers}
 use Rattle.coro_create.proofs.Creation.{alloc_told, write-fits, not-created, not-charged, was-created}
+use Rattle.coro_create.proofs.create.coro_create.Lts as lts
+use Rattle.coro_create.proofs.create.coro_create.Reads as reads
+use Rattle.coro_create.proofs.create.coro_create.Tie as tie
 use Rattle.coro_create.proofs.create.coro_create.Goals as goal
-use Rattle.coro_create.proofs.create.coro_create.Goals.{After-regs_at-regs, In-Row, Start}
+
+abbrev Start : Type 0
+Start = lts.Start tie.the-claims reads.Pre reads.Post
+
+abbrev After-regs_at-regs : Type 0
+After-regs_at-regs = lts.After-regs_at tie.the-claims reads.Pre reads.Post
+
+abbrev In-Row : Type 0
+In-Row = lts.After-known_told2 tie.the-claims reads.Pre reads.Post
 
 -- `coro_create` meets the model, outcome by outcome. Assumes nothing.
 -- the ways back that several clauses take
 abbrev regs-at-of : In-Row → After-regs_at-regs
-regs-at-of c = c.before.before.before.before.before
+regs-at-of c = c.before.before.before.before
 
 abbrev start_of : After-regs_at-regs → Start
 start_of c = c.before.before.before.before.before
 
 abbrev mem : Start → Beside → Lent
-mem c b = making c.args.slots.now c.args.saved-stack.now c.args.saved-frames.now c.args.setup.now plain b
+mem c b = making c.args.slots.now c.args.saved_stack.now c.args.saved_frames.now c.args.setup.now plain b
 
 few : (c : Start) → c.args.n ≤ length c.args.args
 few c = let l : length c.args.args ≡ 255 = search rules in let k = c.requires.few in omega arith
@@ -30,7 +41,7 @@ room c = let z = c.requires.ok.rep.sizes.slots in let r = c.requires.ok.room.slo
 
 -- the row that was found
 abbrev row : In-Row → ℕ
-row c = c.before.row.given.0.0
+row c = c.in-Row.row
 
 found : (c : In-Row) →
     let a = (start_of (regs-at-of c)).args in Spot.Row (row c) ≡ spot_of (slots_of a.m.count a.slots.now) a.m a.sizes (regs-at-of c).regs-at.result
@@ -44,26 +55,26 @@ told c =
 pub regs_at-regs-requires : goal.regs_at-regs-requires
 regs_at-regs-requires c =
     let a = c.args in let o = c.requires.ok in
-    in-setup a.sizes (mem c.before.before.before.before o.beside) a.m o.beside.fuel o.world o.rep a.f o.sound c.requires.function o.room
+    in-setup a.sizes (mem c.before.before.before.before.before o.beside) a.m o.beside.fuel o.world o.rep a.f o.sound c.requires.function o.room
 
 pub find_spot-requires : goal.find_spot-requires
 find_spot-requires c = let k = told c.before in record { words = (start_of c.before).requires.ok.rep.slots.within; rows = k.rows; bytes = k.first }
 
 pub bytes-charge-requires : goal.bytes-charge-requires
-bytes-charge-requires c = (told (regs-at-of c.before.before.before)).second
+bytes-charge-requires c = (told (regs-at-of c.before.before.before.before)).second
 
 pub alloc-requires : goal.alloc-requires
 alloc-requires c =
-    let at-regs-at = regs-at-of c.before.before.before.before.before.before in let start = start_of at-regs-at in
+    let at-regs-at = regs-at-of c.before.before.before.before.before.before.before in let start = start_of at-regs-at in
     let e : c.heap_of.result.slots ≡ start.args.sizes.slots = ap (λ x. x.slots) c.heap_of.ensures in
     let k = (told at-regs-at).slots in let r = room start in
     record { words = omega arith; slots = omega arith }
 
 pub write_row-requires : goal.write_row-requires
 write_row-requires c =
-    let at-regs-at = regs-at-of c.before.before.before.before.before.before.before.before.before.before.before.before.before.before in let start = start_of at-regs-at in let a = start.args in let o = start.pre.ok in
+    let at-regs-at = regs-at-of c.before.before.before.before.before.before.before.before.before.before.before.before.before.before.before in let start = start_of at-regs-at in let a = start.args in let o = start.pre.ok in
     write-fits a.sizes (mem start o.beside) a.m o.beside.fuel o.world o.rep o.sound a.f a.closure a.n at-regs-at.regs-at.result a.args
-    (few start) start.pre.function at-regs-at.regs-at.ensures (row c.before.before.before.before.before.before.before.before.before.before.before.before.before.before) (found c.before.before.before.before.before.before.before.before.before.before.before.before.before.before) start.pre.few
+    (few start) start.pre.function at-regs-at.regs-at.ensures (row c.before.before.before.before.before.before.before.before.before.before.before.before.before.before.before) (found c.before.before.before.before.before.before.before.before.before.before.before.before.before.before.before) start.pre.few
 
 pub returns-in-Lacks : goal.returns-in-Lacks
 returns-in-Lacks c =
@@ -74,18 +85,18 @@ returns-in-Lacks c =
 
 pub returns-in-Refused : goal.returns-in-Refused
 returns-in-Refused c =
-    let at-regs-at = regs-at-of c.before.before.before.before.before.before.before.before.before.before.before.before in let start = start_of at-regs-at in let a = start.args in
+    let at-regs-at = regs-at-of c.before.before.before.before.before.before.before.before.before.before.before.before.before in let start = start_of at-regs-at in let a = start.args in
     λ w b rep snd.
     not-charged a.sizes (mem start b) a.m b.fuel w rep snd a.f a.closure a.n at-regs-at.regs-at.result a.args
-    (few start) start.pre.function at-regs-at.regs-at.ensures (row c.before.before.before.before.before.before.before.before.before.before.before.before) (found c.before.before.before.before.before.before.before.before.before.before.before.before) _ c.sequenced-q.result _ c.sequenced-q.ensures
+    (few start) start.pre.function at-regs-at.regs-at.ensures (row c.before.before.before.before.before.before.before.before.before.before.before.before.before) (found c.before.before.before.before.before.before.before.before.before.before.before.before.before) _ c.sequenced-q.result _ c.sequenced-q.ensures
     (alloc_told a.slots.now _ _ _ _ _ _ _ _ _ c.alloc.ensures c.in-Refused.is
     (c.heap_of.ensures ∙ ap (λ q. heap_of q a.sizes) c.sequenced-q.ensures) c.bytes-charge.ensures c.new_object.ensures)
 
 pub returns-in-Done : goal.returns-in-Done
 returns-in-Done c =
-    let at-regs-at = regs-at-of c.before.before.before.before.before.before.before.before.before.before.before.before.before.before.before.before.before.before.before.before in let start = start_of at-regs-at in let a = start.args in
+    let at-regs-at = regs-at-of c.before.before.before.before.before.before.before.before.before.before.before.before.before.before.before.before.before.before.before.before.before in let start = start_of at-regs-at in let a = start.args in
     λ w b rep snd.
     was-created a.sizes (mem start b) a.m b.fuel w rep snd a.f a.closure a.n at-regs-at.regs-at.result a.args
-    (few start) start.pre.function at-regs-at.regs-at.ensures (row c.before.before.before.before.before.before.before.before.before.before.before.before.before.before.before.before.before.before.before.before) (found c.before.before.before.before.before.before.before.before.before.before.before.before.before.before.before.before.before.before.before.before) _ (room start) c.sequenced-q.result c.allocated.result _ _ _ _
+    (few start) start.pre.function at-regs-at.regs-at.ensures (row c.before.before.before.before.before.before.before.before.before.before.before.before.before.before.before.before.before.before.before.before.before) (found c.before.before.before.before.before.before.before.before.before.before.before.before.before.before.before.before.before.before.before.before.before) _ (room start) c.sequenced-q.result c.allocated.result _ _ _ _
     c.sequenced-q.ensures c.allocated.ensures (alloc_told a.slots.now _ _ _ _ _ _ _ _ _ c.alloc.ensures c.in-Done.is
     (c.heap_of.ensures ∙ ap (λ q. heap_of q a.sizes) c.sequenced-q.ensures) c.bytes-charge.ensures c.new_object.ensures) c.write_row.ensures

@@ -4,8 +4,19 @@ use Rattle.heap.specs.Heap.{slots_of, lacks_of}
 use Rattle.machine_state.specs.Numbers.{heap_of}
 use Rattle.coro_create.specs.Create.{bytes_of}
 use Rattle.coro_create.proofs.Parts.{spot-lacks, spot-full, spot-row}
+use Rattle.coro_create.proofs.create.find_spot.Lts as lts
+use Rattle.coro_create.proofs.create.find_spot.Reads as reads
+use Rattle.coro_create.proofs.create.find_spot.Tie as tie
 use Rattle.coro_create.proofs.create.find_spot.Goals as goal
-use Rattle.coro_create.proofs.create.find_spot.Goals.{After-number}
+
+abbrev Start : Type 0
+Start = lts.Start tie.the-claims reads.Pre reads.Post
+
+abbrev After-lacks-fault : Type 0
+After-lacks-fault = lts.After-lacks tie.the-claims reads.Pre reads.Post
+
+abbrev After-number : Type 0
+After-number = lts.After-number tie.the-claims reads.Pre reads.Post
 
 -- `find_spot` meets its contract, by its tests in order. Assumes nothing.
 -- the ways back that several clauses take
@@ -21,18 +32,18 @@ fault c =
 
 pub returns-then-number-ne0 : goal.returns-then-number-ne0
 returns-then-number-ne0 c =
-    let start = start_of c.before.before in
+    let start = start_of c.before.before.before in
     spot-lacks (slots_of start.args.m.count start.args.slots.now) start.args.m start.args.sizes start.args.regs c.lacks-fault.result
-    (fault c.before) (λ z. c.if-number-ne0.true (c.number.ensures ∙ z))
+    (fault c.before.before) (λ z. c.if-number-ne0.true (c.number.ensures ∙ z))
 
 pub returns-then-sizes-row : goal.returns-then-sizes-row
 returns-then-sizes-row c =
-    let start = start_of c.before.before.before.before.before in
+    let start = start_of c.before.before.before.before.before.before in
     spot-full (slots_of start.args.m.count start.args.slots.now) start.args.m start.args.sizes start.args.regs c.lacks-fault.result
-    (fault c.before.before.before.before) (sym c.number.ensures ∙ c.if-number-ne0.false) c.lowest_free_row-row.result c.lowest_free_row-row.ensures c.if-sizes-row.true
+    (fault c.before.before.before.before.before) (sym c.number.ensures ∙ c.if-number-ne0.false) c.lowest_free_row-row.result c.lowest_free_row-row.ensures c.if-sizes-row.true
 
 pub returns : goal.returns
 returns c =
-    let start = start_of c.before.before.before.before.before in
+    let start = start_of c.before.before.before.before.before.before in
     spot-row (slots_of start.args.m.count start.args.slots.now) start.args.m start.args.sizes start.args.regs c.lacks-fault.result
-    (fault c.before.before.before.before) (sym c.number.ensures ∙ c.if-number-ne0.false) c.lowest_free_row-row.result c.lowest_free_row-row.ensures c.if-sizes-row.false
+    (fault c.before.before.before.before.before) (sym c.number.ensures ∙ c.if-number-ne0.false) c.lowest_free_row-row.result c.lowest_free_row-row.ensures c.if-sizes-row.false

@@ -2,7 +2,19 @@
 use Rattle.std.proofs.Common.{◌*◌, take, ap, ◌∙◌, arith}
 use Rattle.lists.specs.Parts.{splice, pad}
 use Rattle.coro_create.proofs.Parts.{copied-fits}
+use Rattle.coro_create.proofs.create.write_row.Lts as lts
+use Rattle.coro_create.proofs.create.write_row.Reads as reads
+use Rattle.coro_create.proofs.create.write_row.Tie as tie
 use Rattle.coro_create.proofs.create.write_row.Goals as goal
+
+abbrev Start : Type 0
+Start = lts.Start tie.the-claims reads.Pre reads.Post
+
+abbrev After-copied-k : Type 0
+After-copied-k = lts.After-copied tie.the-claims reads.Pre reads.Post
+
+abbrev After-args-1 : Type 0
+After-args-1 = lts.After-args2 tie.the-claims reads.Pre reads.Post
 
 -- `write_row` meets its contract: the registers, then the frame. Assumes nothing.
 -- the ways back that several clauses take
@@ -13,10 +25,10 @@ abbrev start_of : After-args-1 → Start
 start_of c = c.before.before.before.before.before.before
 
 pub fill_row-requires : goal.fill_row-requires
-fill_row-requires c = let k =
-    copied-fits (start_of c).args.n (start_of c).args.regs in
-    let e = (copied-of c).copied.ensures in
-    let p = (start_of c).requires in
+fill_row-requires c =
+    let k = copied-fits (start_of c.before).args.n (start_of c.before).args.regs in
+    let e = (copied-of c.before).copied.ensures in
+    let p = (start_of c.before).requires in
     let few = p.few in
     let on = p.stack in
     (omega arith, omega arith, omega arith)

@@ -9,8 +9,13 @@ use Rattle.heap.specs.declared.object.Object as H
 use Rattle.heap.specs.declared.object.Object.TheVariants as O
 use Rattle.coro_create.specs.Row.{row_of, marked}
 use Rattle.coro_create.proofs.Held.{mark-next, mark-none}
+use Rattle.coro_create.proofs.row.held_rows.Lts as lts
+use Rattle.coro_create.proofs.row.held_rows.Reads as reads
+use Rattle.coro_create.proofs.row.held_rows.Tie as tie
 use Rattle.coro_create.proofs.row.held_rows.Goals as goal
-use Rattle.coro_create.proofs.row.held_rows.Goals.{Joined-row-lt-NONE}
+
+abbrev Joined-row-lt-NONE : Type 0
+Joined-row-lt-NONE = lts.Joined1 tie.the-claims reads.Pre reads.Post goal.invariant-loop-i goal.decreases-loop-i
 
 -- `held_rows` meets its contract: what is left, marked on the present marks, is the whole marked on none. Assumes nothing.
 abbrev none : List Bool
@@ -49,7 +54,7 @@ loop-i-init c = (omega arith, refl, refl)
 
 pub loop-i-preserved : goal.loop-i-preserved
 loop-i-preserved c =
-    let e = marks c in (
+    let e = marks c.before in (
       omega arith,
       ap length e ∙ length-set c.loop-i.held c.row_of-row.result true ∙ c.loop-i.invariant.1,
       next c.args.slots.now c.args.count c.loop-i.i c.row_of-row.result c.object_at.result c.loop-i.held

@@ -7,8 +7,22 @@ use Rattle.memory_world.specs.Lendings.{plain}
 use Rattle.memory_world.proofs.Does.{SameLengths}
 use Rattle.coro_end.specs.Last.{ending}
 use Rattle.coro_end.proofs.Failing.{along-start, along-none, along-fewer, along-more}
+use Rattle.coro_end.proofs.abort.fail_all.Lts as lts
+use Rattle.coro_end.proofs.abort.fail_all.Reads as reads
+use Rattle.coro_end.proofs.abort.fail_all.Tie as tie
 use Rattle.coro_end.proofs.abort.fail_all.Goals as goal
-use Rattle.coro_end.proofs.abort.fail_all.Goals.{At-loop-n}
+
+abbrev Start : Type 0
+Start = lts.Start tie.the-claims reads.Pre reads.Post goal.invariant-loop-n goal.decreases-loop-n
+
+abbrev At-loop-n : Type 0
+At-loop-n = lts.At-loop tie.the-claims reads.Pre reads.Post goal.invariant-loop-n goal.decreases-loop-n
+
+abbrev After-end_last-n : Type 0
+After-end_last-n = lts.After-end_last tie.the-claims reads.Pre reads.Post goal.invariant-loop-n goal.decreases-loop-n
+
+abbrev After-slice_known-in-loop-n-4-1 : Type 0
+After-slice_known-in-loop-n-4-1 = lts.After-slice_known8 tie.the-claims reads.Pre reads.Post goal.invariant-loop-n goal.decreases-loop-n
 
 -- the ways back that several clauses take, and the words there
 abbrev start_of : At-loop-n → Start
@@ -21,7 +35,7 @@ abbrev end_of : After-slice_known-in-loop-n-4-1 → After-end_last-n
 end_of c = c.before.before.before.before.before.before.before.before
 
 abbrev at-end : After-end_last-n → Beside → Lent
-at-end c = let e = c.end-last.new in ending e.0 e.1.0 e.1.1.0 e.1.1.1.0 plain
+at-end c = let e = c.end_last-n.new in ending e.0 e.1.0 e.1.1.0 e.1.1.1.0 plain
 
 so_far : (c : At-loop-n) →
     let a = (start_of c).args in let n = c.loop in let b = n.invariant.some.beside in
@@ -38,12 +52,12 @@ end_last-n-requires c = record { held = c.loop-n.invariant.some; ends = refl }
 
 pub loop-n-smaller : goal.loop-n-smaller
 loop-n-smaller c =
-    let did = end_of c in
+    let did = end_of c.before in
     along-fewer (loop-of did).loop.inv (omega (arith, did.before.before.before.before.before.if1.taken)) (at-end did) did.end-last.result did.end-last.ensures
 
 pub loop-n-preserved : goal.loop-n-preserved
 loop-n-preserved c =
-    let did = end_of c in let k = did.end-last.kept in
+    let did = end_of c.before in let k = did.end-last.kept in
     along-more (loop-of did).loop.inv (omega (arith, did.before.before.before.before.before.if1.taken)) (at-end did) did.end-last.result did.end-last.ensures
     (λ b. record { stack = refl; frames = refl; chain = k.0; slots = k.1.0; saved_stack = k.1.1.0; saved_frames = k.1.1.1.0; ready = refl; finalize = refl; setup = refl })
 

@@ -8,7 +8,16 @@ use Rattle.memory_world.specs.Lendings.{lent}
 use Rattle.coro_end.specs.Last.{end_last}
 use Rattle.coro_end.proofs.Innermost.{last}
 use Rattle.coro_end.proofs.Homecoming.{none-escaped, close-succeeds, fails, end_fits}
+use Rattle.coro_end.proofs.escaped.coro_escaped.Lts as lts
+use Rattle.coro_end.proofs.escaped.coro_escaped.Reads as reads
+use Rattle.coro_end.proofs.escaped.coro_escaped.Tie as tie
 use Rattle.coro_end.proofs.escaped.coro_escaped.Goals as goal
+
+abbrev Start : Type 0
+Start = lts.Start tie.the-claims reads.Pre reads.Post
+
+abbrev After-struct_known-1 : Type 0
+After-struct_known-1 = lts.After-struct_known tie.the-claims reads.Pre reads.Post
 
 -- `coro_escaped` meets the definition: no coroutine, a close that succeeds, a failure. Assumes nothing.
 -- the ways back that several clauses take
@@ -17,17 +26,17 @@ start_of c = c.before.before.before.before.before.before.before
 
 pub returns-then-m-eq0 : goal.returns-then-m-eq0
 returns-then-m-eq0 c =
-    let a = (start_of c.before).args in
+    let a = (start_of c.before.before).args in
     λ w b rep rowed.
     none-escaped a.sizes (lent a.stack.now a.frames.now a.chain.now a.slots.now a.saved-stack.now a.saved-frames.now b) a.m a.fuel
     w a.value a.func a.pc rep c.if-m-eq0.true
 
 pub closed_by-requires : goal.closed_by-requires
-closed_by-requires c = (start_of c.before.before.before.before.before).requires.held.rep.slots.within
+closed_by-requires c = (start_of c.before.before.before.before).requires.held.rep.slots.within
 
 pub returns-then-closed_by : goal.returns-then-closed_by
 returns-then-closed_by c =
-    let start = start_of c.before.before.before.before.before.before.before.before.before.before.before.before.before.before.before.before.before.before.before.before.before.before.before.before.before.before.before.before in
+    let start = start_of c.before.before.before.before.before.before.before.before.before.before.before.before.before.before.before.before.before.before.before.before.before.before.before.before.before.before.before in
     let a = start.args in
     let x = c.active_at-last.result in
     let f = c.coro_returned-did in
@@ -41,7 +50,7 @@ returns-then-closed_by c =
 
 pub end_last-n-requires : goal.end_last-n-requires
 end_last-n-requires c =
-    let start = start_of c.before.before.before.before.before.before.before.before.before.before.before in
+    let start = start_of c.before.before.before.before.before.before.before.before.before.before in
     let a = start.args in
     end_fits a.sizes a.m a.stack.now a.frames.now a.chain.now a.slots.now a.saved-stack.now a.saved-frames.now start.pre CoroState.Failed refl
 

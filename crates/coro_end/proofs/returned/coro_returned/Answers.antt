@@ -8,7 +8,16 @@ use Rattle.memory_world.specs.Lendings.{lent}
 use Rattle.coro_end.specs.Last.{end_last}
 use Rattle.coro_end.proofs.Innermost.{last}
 use Rattle.coro_end.proofs.Homecoming.{none-active, returned, end_fits, return_fits}
+use Rattle.coro_end.proofs.returned.coro_returned.Lts as lts
+use Rattle.coro_end.proofs.returned.coro_returned.Reads as reads
+use Rattle.coro_end.proofs.returned.coro_returned.Tie as tie
 use Rattle.coro_end.proofs.returned.coro_returned.Goals as goal
+
+abbrev Start : Type 0
+Start = lts.Start tie.the-claims reads.Pre reads.Post
+
+abbrev After-struct_known-1 : Type 0
+After-struct_known-1 = lts.After-struct_known tie.the-claims reads.Pre reads.Post
 
 -- `coro_returned` meets the definition, whether a coroutine is active or not. Assumes nothing.
 -- the ways back that several clauses take
@@ -17,7 +26,7 @@ start_of c = c.before.before.before.before.before.before.before
 
 pub returns-then-m-eq0 : goal.returns-then-m-eq0
 returns-then-m-eq0 c =
-    let a = (start_of c.before).args in
+    let a = (start_of c.before.before).args in
     λ w b rep rowed.
     none-active a.sizes (lent a.stack.now a.frames.now a.chain.now a.slots.now a.saved-stack.now a.saved-frames.now b) a.m a.fuel w
     a.value rep c.if-m-eq0.true

@@ -3,8 +3,13 @@ use mathlib.Core.Path.{ap₂}
 use Prim.Native.Nat.{◌+◌, ◌*◌, ◌≤◌}
 use native.Mathlib.Omega.{arith}
 use Rattle.coro_suspend.proofs.Parts.{small_product}
+use Rattle.coro_suspend.proofs.suspend.growth.Lts as lts
+use Rattle.coro_suspend.proofs.suspend.growth.Reads as reads
+use Rattle.coro_suspend.proofs.suspend.growth.Tie as tie
 use Rattle.coro_suspend.proofs.suspend.growth.Goals as goal
-use Rattle.coro_suspend.proofs.suspend.growth.Goals.{After-beyond-deep}
+
+abbrev After-beyond-deep : Type 0
+After-beyond-deep = lts.After-beyond2 tie.the-claims reads.Pre reads.Post
 
 -- `growth` meets its contract: the numbers are small. Assumes nothing.
 product : (c : After-beyond-deep) → c.beyond2.result * c.before.before.before.args.sizes.costs.frame ≤ 8388608

@@ -4,7 +4,16 @@ use native.Mathlib.Omega.{arith}
 use Rattle.model.specs.Calls.{table}
 use Rattle.exec_arm.proofs.Tags.{no-group}
 use Rattle.exec_arm.proofs.Fitting.{around, as-arm, new-fits, indirect-fits, spawn-fits, current-fits, ask-fits}
+use Rattle.exec_arm.proofs.staying.staying.Lts as lts
+use Rattle.exec_arm.proofs.staying.staying.Reads as reads
+use Rattle.exec_arm.proofs.staying.staying.Tie as tie
 use Rattle.exec_arm.proofs.staying.staying.Goals as goal
+
+abbrev Start : Type 0
+Start = lts.Start tie.the-claims reads.Pre reads.Post
+
+abbrev After-shared_slice_known-1 : Type 0
+After-shared_slice_known-1 = lts.After-shared_slice_known tie.the-claims reads.Pre reads.Post
 
 -- `staying` meets the definition, by the instruction after which the same coroutine runs. Assumes nothing.
 -- from a match to the start
@@ -12,25 +21,25 @@ abbrev start_of : After-shared_slice_known-1 → Start
 start_of c = c.before.before.before.before.before.before.before
 
 pub coro_new-did-requires : goal.coro_new-did-requires
-coro_new-did-requires c = let at_told = c.before.before.before.before.before in let at_op = at_told.before in new-fits (start_of at_op.before.before).requires at_op.op.given.1 (let k = at_told.known-told.given in omega arith)
+coro_new-did-requires c = new-fits (start_of c.before.before.before.before.before.before.before.before).requires c.in-CoroNew.is (let k = c.in-CoroNew.known_told-1-own.given in omega arith)
 
 pub coro_new_indirect-did-requires : goal.coro_new_indirect-did-requires
-coro_new_indirect-did-requires c = let at_told = c.before.before.before.before.before in let at_op = at_told.before in indirect-fits (start_of at_op.before.before).requires at_op.op2.given.1 (let k = at_told.known-told2.given in omega arith)
+coro_new_indirect-did-requires c = indirect-fits (start_of c.before.before.before.before.before.before.before.before).requires c.in-CoroNewIndirect.is (let k = c.in-CoroNewIndirect.known_told-in-CoroNewIndirect-1-own.given in omega arith)
 
 pub spawn-requires : goal.spawn-requires
-spawn-requires c = let at_told = c.before.before.before.before.before in let at_op = at_told.before in spawn-fits (start_of at_op.before.before).requires at_op.op3.given.1 (let k = at_told.known-told3.given in omega arith)
+spawn-requires c = spawn-fits (start_of c.before.before.before.before.before.before.before.before.before).requires c.in-Spawn.is (let k = c.in-Spawn.known_told-in-Spawn-1-own.given in omega arith)
 
 pub coro_status-step-requires : goal.coro_status-step-requires
-coro_status-step-requires c = let at_op = c.before.before.before.before in ask-fits (start_of at_op.before.before).requires (ap table at_op.op4.given.1)
+coro_status-step-requires c = ask-fits (start_of c.before.before.before.before.before).requires (ap table c.in-CoroStatus.is)
 
 pub coro_current-step-requires : goal.coro_current-step-requires
-coro_current-step-requires c = let at_op = c.before.before.before.before in current-fits (start_of at_op.before.before).requires at_op.op5.given.1
+coro_current-step-requires c = current-fits (start_of c.before.before.before.before.before).requires c.in-CoroCurrent.is
 
 pub coro_key-step-requires : goal.coro_key-step-requires
-coro_key-step-requires c = let at_op = c.before.before.before.before in ask-fits (start_of at_op.before.before).requires (ap table at_op.op6.given.1)
+coro_key-step-requires c = ask-fits (start_of c.before.before.before.before.before).requires (ap table c.in-CoroKey.is)
 
 pub coro_result-step-requires : goal.coro_result-step-requires
-coro_result-step-requires c = let at_op = c.before.before.before.before in ask-fits (start_of at_op.before.before).requires (ap table at_op.op7.given.1)
+coro_result-step-requires c = ask-fits (start_of c.before.before.before.before.before).requires (ap table c.in-CoroResult.is)
 
 pub returns-in-CoroNew : goal.returns-in-CoroNew
 returns-in-CoroNew c = λ s e pc t arm q w b rep snd. as-arm q c.in-CoroNew.is (c.coro_new-did.ensures w (around rep) rep snd)

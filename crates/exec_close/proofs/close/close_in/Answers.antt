@@ -5,7 +5,19 @@ use Rattle.model.specs.Exec.{close_entered}
 use Rattle.model.specs.declared.machine.Driver.{Driver}
 use Rattle.memory_world.specs.Lendings.{lent}
 use Rattle.coro_enter.proofs.Entries.{then-does}
+use Rattle.exec_close.proofs.close.close_in.Lts as lts
+use Rattle.exec_close.proofs.close.close_in.Reads as reads
+use Rattle.exec_close.proofs.close.close_in.Tie as tie
 use Rattle.exec_close.proofs.close.close_in.Goals as goal
+
+abbrev Start : Type 0
+Start = lts.Start tie.the-claims reads.Pre reads.Post
+
+abbrev After-store_enter-did : Type 0
+After-store_enter-did = lts.After-store_enter tie.the-claims reads.Pre reads.Post
+
+abbrev After-close_entered-arg-1 : Type 0
+After-close_entered-arg-1 = lts.After-close_entered-arg tie.the-claims reads.Pre reads.Post
 
 -- `close_in` meets the definition: an entry, and a close. Assumes nothing.
 -- the ways back that several clauses take
@@ -17,13 +29,13 @@ start_of c = c.before.before.before.before.before.before.before.before.before.be
 
 pub close_entered-step-requires : goal.close_entered-step-requires
 close_entered-step-requires c =
-    let at-store-enter = store-enter-of c in let o = (start_of at-store-enter).pre.ok in
+    let at-store-enter = store-enter-of c.before in let o = (start_of at-store-enter).pre.ok in
     let did = at-store-enter.store-enter.ensures o.world o.beside o.rep o.sound in
     did.world.slots.within
 
 pub returns : goal.returns
 returns c =
-    let at-store-enter = store-enter-of c.before.before.before in
+    let at-store-enter = store-enter-of c.before.before.before.before in
     let start = start_of at-store-enter in
     λ w b rep snd. let e = coro_enter start.args.v (Driver.Resume start.args.dst) (store_pc start.args.pc w) in
     let did = at-store-enter.store-enter.ensures w b rep snd in

@@ -3,24 +3,33 @@ use mathlib.Core.Path.{sym, ◌∙◌}
 use Rattle.memory_world.specs.Memory.{Lent, Beside}
 use Rattle.memory_world.specs.Lendings.{lent}
 use Rattle.exec_close.proofs.Closed.{close-refused, closes}
+use Rattle.exec_close.proofs.close.coro_close.Lts as lts
+use Rattle.exec_close.proofs.close.coro_close.Reads as reads
+use Rattle.exec_close.proofs.close.coro_close.Tie as tie
 use Rattle.exec_close.proofs.close.coro_close.Goals as goal
+
+abbrev Start : Type 0
+Start = lts.Start tie.the-claims reads.Pre reads.Post
+
+abbrev After-reg-v : Type 0
+After-reg-v = lts.After-reg tie.the-claims reads.Pre reads.Post
 
 -- `coro_close` meets the definition: the words of two registers, and what the first names. Assumes nothing.
 -- the ways back that several clauses take
 abbrev start_of : After-reg-v → Start
-start_of c = c.before.before.before.before.before.before.before.before.before
+start_of c = c.before.before.before.before.before.before.before
 
 abbrev mem : Start → Beside → Lent
-mem c b = lent c.args.stack.now c.args.frames.now c.args.chain.now c.args.slots.now c.args.saved-stack.now c.args.saved-frames.now b
+mem c b = lent c.args.stack.now c.args.frames.now c.args.chain.now c.args.slots.now c.args.saved_stack.now c.args.saved_frames.now b
 
 pub close_to-requires : goal.close_to-requires
 close_to-requires c =
-    let p = (start_of c.before.before.before.before.before.before.before.before.before.before.before.before.before.before).requires in
+    let p = (start_of c.before.before.before.before.before.before.before.before.before.before.before).requires in
     record { entry = record { ok = p.ok; narrow = p.narrow; some = p.result.some }; result = p.result }
 
 pub returns-in-Refused : goal.returns-in-Refused
 returns-in-Refused c =
-    let start = start_of c.before.before.before.before.before.before.before.before in
+    let start = start_of c.before.before.before.before.before.before in
     λ w b rep snd. close-refused start.args.sizes (mem start b) start.args.m b.fuel w start.args.pc start.args.dst c.reg-v.result
     c.reg-signal.result start.args.c start.args.src
     (c.reg-v.ensures w.stack w.frames rep.stack rep.frames).is (c.reg-signal.ensures w.stack w.frames rep.stack rep.frames).is _
@@ -28,7 +37,7 @@ returns-in-Refused c =
 
 pub returns-in-In : goal.returns-in-In
 returns-in-In c =
-    let start = start_of c.before.before.before.before.before.before.before.before.before.before.before.before.before.before.before.before.before.before.before.before.before.before.before.before.before.before.before in
+    let start = start_of c.before.before.before.before.before.before.before.before.before.before.before.before.before.before.before.before.before.before.before.before.before.before.before.before.before in
     λ w b rep snd. closes start.args.sizes _ _ b.fuel w start.args.pc start.args.dst c.reg-v.result c.reg-signal.result start.args.c start.args.src
     (c.reg-v.ensures w.stack w.frames rep.stack rep.frames).is (c.reg-signal.ensures w.stack w.frames rep.stack rep.frames).is c.in-In.s _
     (sym c.in-In.is ∙ c.coro_state.ensures start.args.sizes w (record { words = mem start b; fuel = b.fuel }) rep) (c.close_to.ensures w b rep snd)

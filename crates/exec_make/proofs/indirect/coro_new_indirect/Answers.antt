@@ -6,11 +6,17 @@ use Rattle.exec_make.proofs.Newly.{still-fits}
 use Rattle.claims_sound.proofs.Made.{indirect-good}
 use Rattle.coro_create.proofs.Setting.{known}
 use Rattle.exec_make.proofs.Callee.{indirect-met}
+use Rattle.exec_make.proofs.indirect.coro_new_indirect.Lts as lts
+use Rattle.exec_make.proofs.indirect.coro_new_indirect.Reads as reads
+use Rattle.exec_make.proofs.indirect.coro_new_indirect.Tie as tie
 use Rattle.exec_make.proofs.indirect.coro_new_indirect.Goals as goal
+
+abbrev Start : Type 0
+Start = lts.Start tie.the-claims reads.Pre reads.Post
 
 -- `coro_new_indirect` meets the model: a creation, and its word. Assumes nothing.
 abbrev mem : Start → Beside → Lent
-mem s b = top_making s.args.stack.now s.args.frames.now s.args.slots.now s.args.saved-stack.now s.args.saved-frames.now s.args.setup.now plain b
+mem s b = top_making s.args.stack.now s.args.frames.now s.args.slots.now s.args.saved_stack.now s.args.saved_frames.now s.args.setup.now plain b
 
 pub put_made-step-requires : goal.put_made-step-requires
 put_made-step-requires c =

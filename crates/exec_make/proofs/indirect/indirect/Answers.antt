@@ -3,11 +3,17 @@ use mathlib.Core.Path.{sym, ◌∙◌}
 use Rattle.memory_world.specs.Memory.{Lent, Beside}
 use Rattle.memory_world.specs.Lendings.{top_making, plain}
 use Rattle.exec_make.proofs.Callee.{called-fits, called-function, indirect-refused, indirect-made}
+use Rattle.exec_make.proofs.indirect.indirect.Lts as lts
+use Rattle.exec_make.proofs.indirect.indirect.Reads as reads
+use Rattle.exec_make.proofs.indirect.indirect.Tie as tie
 use Rattle.exec_make.proofs.indirect.indirect.Goals as goal
+
+abbrev Start : Type 0
+Start = lts.Start tie.the-claims reads.Pre reads.Post
 
 -- `indirect` meets the model, by the function that is called. Assumes nothing.
 abbrev mem : Start → Beside → Lent
-mem s b = top_making s.args.stack.now s.args.frames.now s.args.slots.now s.args.saved-stack.now s.args.saved-frames.now s.args.setup.now plain b
+mem s b = top_making s.args.stack.now s.args.frames.now s.args.slots.now s.args.saved_stack.now s.args.saved_frames.now s.args.setup.now plain b
 
 -- the words that are lent, to a callee that is lent some of them
 abbrev around : Start → Beside → Beside

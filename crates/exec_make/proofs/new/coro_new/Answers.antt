@@ -4,11 +4,17 @@ use Rattle.model.specs.Exec.{window}
 use Rattle.memory_world.specs.Memory.{Lent, Beside}
 use Rattle.memory_world.specs.Lendings.{top_making, plain}
 use Rattle.exec_make.proofs.Newly.{still-fits, create-still, new-met}
+use Rattle.exec_make.proofs.new.coro_new.Lts as lts
+use Rattle.exec_make.proofs.new.coro_new.Reads as reads
+use Rattle.exec_make.proofs.new.coro_new.Tie as tie
 use Rattle.exec_make.proofs.new.coro_new.Goals as goal
+
+abbrev Start : Type 0
+Start = lts.Start tie.the-claims reads.Pre reads.Post
 
 -- `coro_new` meets the model: a creation, and its word. Assumes nothing.
 abbrev mem : Start → Beside → Lent
-mem s b = top_making s.args.stack.now s.args.frames.now s.args.slots.now s.args.saved-stack.now s.args.saved-frames.now s.args.setup.now plain b
+mem s b = top_making s.args.stack.now s.args.frames.now s.args.slots.now s.args.saved_stack.now s.args.saved_frames.now s.args.setup.now plain b
 
 pub put_made-step-requires : goal.put_made-step-requires
 put_made-step-requires c =

@@ -8,7 +8,13 @@ use Rattle.memory_world.specs.Memory.{Lent, Beside}
 use Rattle.memory_world.specs.Lendings.{top_setup, plain}
 use Rattle.machine_state.specs.Frame.{push_at}
 use Rattle.exec_make.proofs.Hooked.{hook-refused, hook-fits, hook-done}
+use Rattle.exec_make.proofs.spawn.push_hook.Lts as lts
+use Rattle.exec_make.proofs.spawn.push_hook.Reads as reads
+use Rattle.exec_make.proofs.spawn.push_hook.Tie as tie
 use Rattle.exec_make.proofs.spawn.push_hook.Goals as goal
+
+abbrev Start : Type 0
+Start = lts.Start tie.the-claims reads.Pre reads.Post
 
 -- `push_hook` meets the model: a frame pushed by a call, and a word in its first register. Assumes nothing.
 abbrev mem : Start → Beside → Lent
@@ -19,7 +25,7 @@ abbrev around : Start → Beside → Beside
 around s b = record { words = mem s b; fuel = b.fuel }
 
 pub push_at-did-requires : goal.push_at-did-requires
-push_at-did-requires c = let start = c.before.before.before.before.before in start.requires.call
+push_at-did-requires c = c.requires.call
 
 pub put-requires : goal.put-requires
 put-requires c =

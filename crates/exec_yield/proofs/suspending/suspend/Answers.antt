@@ -8,7 +8,28 @@ use Rattle.machine_state.proofs.Stored.{store-sounds}
 use Rattle.machine_state.proofs.Stored.{stored_ok}
 use Rattle.exec_yield.proofs.Settled.{drives, suspended, framed}
 use Rattle.memory_world.specs.Contract.{only}
+use Rattle.exec_yield.proofs.suspending.suspend.Lts as lts
+use Rattle.exec_yield.proofs.suspending.suspend.Reads as reads
+use Rattle.exec_yield.proofs.suspending.suspend.Tie as tie
 use Rattle.exec_yield.proofs.suspending.suspend.Goals as goal
+
+abbrev Start : Type 0
+Start = lts.Start tie.the-claims reads.Pre reads.Post
+
+abbrev After-store_pc-arg-1 : Type 0
+After-store_pc-arg-1 = lts.After-store_pc-arg tie.the-claims reads.Pre reads.Post
+
+abbrev After-store_pc : Type 0
+After-store_pc = lts.After-store_pc tie.the-claims reads.Pre reads.Post
+
+abbrev After-coro_suspend-arg-6-1 : Type 0
+After-coro_suspend-arg-6-1 = lts.After-coro_suspend-arg6 tie.the-claims reads.Pre reads.Post
+
+abbrev After-coro_suspend-did : Type 0
+After-coro_suspend-did = lts.After-coro_suspend tie.the-claims reads.Pre reads.Post
+
+abbrev After-deliver_all-arg-3-1 : Type 0
+After-deliver_all-arg-3-1 = lts.After-deliver_all-arg3 tie.the-claims reads.Pre reads.Post
 
 -- `suspend` meets the model: a pc stored, a suspension, a delivery. Assumes nothing.
 -- the ways back that several clauses take
@@ -22,11 +43,11 @@ abbrev start_of : After-store_pc-arg-1 → Start
 start_of c = c.before.before.before.before.before.before.before
 
 abbrev mem : Start → Beside → Lent
-mem c b = lent c.args.stack.now c.args.frames.now c.args.chain.now c.args.slots.now c.args.saved-stack.now c.args.saved-frames.now b
+mem c b = lent c.args.stack.now c.args.frames.now c.args.chain.now c.args.slots.now c.args.saved_stack.now c.args.saved_frames.now b
 
 pub store_pc-requires : goal.store_pc-requires
 store_pc-requires c =
-    let start = start_of c in
+    let start = start_of c.before in
     record { some = framed start.pre.run.ok.rep start.pre.run.ok.sound start.pre.run.running; within = start.pre.run.ok.rep.frames.within }
 
 pub coro_suspend-did-requires : goal.coro_suspend-did-requires
@@ -34,7 +55,7 @@ coro_suspend-did-requires c =
     let at-store-pc = store-pc-of c in let start = start_of at-store-pc.before in
     let o = start.pre.run.ok in record {
       ok = stored_ok start.args.sizes (only start.args.m) start.args.stack.now start.args.frames.now start.args.chain.now
-          start.args.slots.now start.args.saved-stack.now start.args.saved-frames.now at-store-pc.store-pc.last.0 start.args.pc
+          start.args.slots.now start.args.saved_stack.now start.args.saved_frames.now at-store-pc.store-pc.last.0 start.args.pc
           at-store-pc.store-pc.kept.0 start.pre.run.narrow o
           (at-store-pc.store-pc.ensures start.args.sizes o.world (record { words = mem start o.beside; fuel = o.beside.fuel }) o.rep);
       state = start.pre.state;
@@ -42,7 +63,7 @@ coro_suspend-did-requires c =
 
 pub deliver_all-requires : goal.deliver_all-requires
 deliver_all-requires c =
-    let at-coro-suspend = coro-suspend-of c in let at-store-pc = store-pc-of at-coro-suspend.before in
+    let at-coro-suspend = coro-suspend-of c.before in let at-store-pc = store-pc-of at-coro-suspend.before in
     let start = start_of at-store-pc.before in
     let o = start.pre.run.ok in
     let u = store_pc start.args.pc o.world in
@@ -53,12 +74,12 @@ deliver_all-requires c =
 
 pub shape_of-frames : goal.shape_of-frames
 shape_of-frames c =
-    let at-coro-suspend = coro-suspend-of c.before.before.before.before.before.before.before in let at-store-pc = store-pc-of at-coro-suspend.before in
+    let at-coro-suspend = coro-suspend-of c.before.before.before.before.before.before.before.before in let at-store-pc = store-pc-of at-coro-suspend.before in
     c.deliver_all.auto.1.0 ∙ at-coro-suspend.coro-suspend.kept.1.0 ∙ at-store-pc.store-pc.kept.0
 
 pub returns : goal.returns
 returns c =
-    let at-coro-suspend = coro-suspend-of c.before.before.before.before.before.before.before in let at-store-pc = store-pc-of at-coro-suspend.before in
+    let at-coro-suspend = coro-suspend-of c.before.before.before.before.before.before.before.before in let at-store-pc = store-pc-of at-coro-suspend.before in
     let start = start_of at-store-pc.before in
     λ w b rep snd.
     let f = start.args.fuel in

@@ -6,7 +6,16 @@ use Rattle.memory_world.specs.Memory.{Lent, Beside}
 use Rattle.memory_world.specs.Lendings.{lent}
 use Rattle.machine_state.proofs.Allocation.{heap-room}
 use Rattle.exec_yield.proofs.Yields.{some-active, idle, runs, innermost, yield-idle, yield-runs, key-sounds, key-run}
+use Rattle.exec_yield.proofs.yielding.coro_yield.Lts as lts
+use Rattle.exec_yield.proofs.yielding.coro_yield.Reads as reads
+use Rattle.exec_yield.proofs.yielding.coro_yield.Tie as tie
 use Rattle.exec_yield.proofs.yielding.coro_yield.Goals as goal
+
+abbrev Start : Type 0
+Start = lts.Start tie.the-claims reads.Pre reads.Post
+
+abbrev Else-m-eq0 : Type 0
+Else-m-eq0 = lts.Else1 tie.the-claims reads.Pre reads.Post
 
 -- `coro_yield` meets the model: none runs, or a key is made and the innermost one suspends. Assumes nothing.
 -- the ways back that several clauses take
@@ -14,45 +23,45 @@ abbrev start_of : Else-m-eq0 → Start
 start_of c = c.before.before.before.before.before.before.before.before
 
 abbrev mem : Start → Beside → Lent
-mem c b = lent c.args.stack.now c.args.frames.now c.args.chain.now c.args.slots.now c.args.saved-stack.now c.args.saved-frames.now b
+mem c b = lent c.args.stack.now c.args.frames.now c.args.chain.now c.args.slots.now c.args.saved_stack.now c.args.saved_frames.now b
 
 pub returns-then-m-eq0 : goal.returns-then-m-eq0
 returns-then-m-eq0 c =
-    λ w b rep snd. yield-idle c.args.sizes (mem c.before.before.before.before.before.before.before.before b) c.args.m c.args.fuel w c.args.pc c.args.dst c.args.src
-    (idle c.args.sizes w (mem c.before.before.before.before.before.before.before.before b) c.args.m c.args.fuel rep c.if-m-eq0.true) rep
+    λ w b rep snd. yield-idle c.args.sizes (mem c.before.before.before.before.before.before.before.before.before b) c.args.m c.args.fuel w c.args.pc c.args.dst c.args.src
+    (idle c.args.sizes w (mem c.before.before.before.before.before.before.before.before.before b) c.args.m c.args.fuel rep c.if-m-eq0.true) rep
 
 pub overflow_sub-m : goal.overflow_sub-m
 overflow_sub-m c =
-    let start = start_of c.before.before.before.before.before in
+    let start = start_of c.before.before.before in
     some-active start.args.m.active c.if-m-eq0.false
 
 pub active_at-a-requires : goal.active_at-a-requires
 active_at-a-requires c =
-    let start = start_of c.before.before.before.before.before in
+    let start = start_of c.before.before.before in
     let h = some-active start.args.m.active c.if-m-eq0.false in let k = start.pre.ok.rep.chain.within in omega arith
 
 pub largest_in-largest-requires : goal.largest_in-largest-requires
 largest_in-largest-requires c =
-    let start = start_of c.before.before.before.before.before.before.before in
+    let start = start_of c.before.before.before.before in
     start.pre.ok.rep.slots.within
 
 pub auto_key-did-requires : goal.auto_key-did-requires
 auto_key-did-requires c =
-    let start = start_of c.before.before.before.before.before.before.before.before.before in
+    let start = start_of c.before.before.before.before.before.before in
     heap-room start.pre.ok.rep start.pre.ok.sound start.pre.ok.room
 
 pub yield_key-requires : goal.yield_key-requires
 yield_key-requires c =
-    let start = start_of c.before.before.before.before.before.before.before.before.before.before.before.before.before.before.before.before.before.before.before in
+    let start = start_of c.before.before.before.before.before.before.before.before.before.before.before.before.before.before.before in
     let o = start.pre.ok in
     key-run start.args.sizes start.args.m _ start.args.stack.now start.args.frames.now start.args.chain.now start.args.slots.now
-    start.args.saved-stack.now start.args.saved-frames.now _ c.largest_in-largest.result start.args.pc o c.auto_key-did.auto.0
+    start.args.saved_stack.now start.args.saved_frames.now _ c.largest_in-largest.result start.args.pc o c.auto_key-did.auto.0
     (some-active start.args.m.active c.if-m-eq0.false) start.pre.narrow
     (c.auto_key-did.ensures o.world (record { words = mem start o.beside; fuel = o.beside.fuel }) o.rep o.sound).world
 
 pub returns : goal.returns
 returns c =
-    let start = start_of c.before.before.before.before.before.before.before.before.before.before.before.before.before.before.before.before.before.before.before.before.before.before.before.before.before.before.before.before.before.before.before.before in
+    let start = start_of c.before.before.before.before.before.before.before.before.before.before.before.before.before.before.before.before.before.before.before.before.before.before.before.before.before.before.before.before.before in
     λ w b rep snd.
     let h = some-active start.args.m.active c.if-m-eq0.false in
     let d = c.auto_key-did.ensures w (record { words = mem start b; fuel = start.args.fuel }) rep snd in

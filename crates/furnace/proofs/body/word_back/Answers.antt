@@ -7,10 +7,10 @@ pub returns-then-p-eq-BASE : goal.returns-then-p-eq-BASE
 returns-then-p-eq-BASE c = let a = c.args in base_back a.sent a.n a.from a.to a.p a.was a.is _ _ c.if-p-eq-BASE.true c.above.ensures c.above-then-p-eq-BASE.ensures
 
 pub returns-then-not-sent : goal.returns-then-not-sent
-returns-then-not-sent c = let a = c.args in unsent-back a.sent a.n a.from a.to a.p a.was a.is c.if-p-eq-BASE.false (not-true _ c.if-not-sent.true)
+returns-then-not-sent c = let a = c.args in unsent-back a.sent a.n a.from a.to a.p a.was a.is c.if-p-eq-BASE.false c.if-not-sent.true
 
 pub returns-then-p-top : goal.returns-then-p-top
-returns-then-p-top c = let a = c.args in other-back a.sent a.n a.from a.to a.p a.was a.is c.if-p-eq-BASE.false (not-false _ c.if-not-sent.false) _ c.above-top.ensures c.if-p-top.true
+returns-then-p-top c = let a = c.args in other-back a.sent a.n a.from a.to a.p a.was a.is c.if-p-eq-BASE.false c.if-not-sent.false _ c.above-top.ensures c.if-p-top.true
 
 pub returns : goal.returns
-returns c = let a = c.args in pc-back a.sent a.n a.from a.to a.p a.was a.is c.if-p-eq-BASE.false (not-false _ c.if-not-sent.false) _ c.above-top.ensures c.if-p-top.false
+returns c = let a = c.args in pc-back a.sent a.n a.from a.to a.p a.was a.is c.if-p-eq-BASE.false c.if-not-sent.false _ c.above-top.ensures c.if-p-top.false

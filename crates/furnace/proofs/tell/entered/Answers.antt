@@ -3,8 +3,13 @@ use Rattle.std.proofs.Common.{◌≡◌, ◌+◌, ◌-◌, ◌≤◌, length, sy
 use Rattle.furnace.specs.Watch.{coro_in, note_of}
 use Rattle.furnace.proofs.Words.{note-below}
 use Rattle.furnace.proofs.Watching.{starts}
+use Rattle.furnace.proofs.tell.entered.Lts as lts
+use Rattle.furnace.proofs.tell.entered.Reads as reads
+use Rattle.furnace.proofs.tell.entered.Tie as tie
 use Rattle.furnace.proofs.tell.entered.Goals as goal
-use Rattle.furnace.proofs.tell.entered.Goals.{After-note_of-at}
+
+abbrev After-note_of-at : Type 0
+After-note_of-at = lts.After-note_of tie.the-claims reads.Pre reads.Post
 
 -- `entered` meets its contract: it starts, or it is woken. Assumes nothing.
 -- a note has 32 words
@@ -18,15 +23,15 @@ noted c =
     c.note_of-at.ensures ∙ ap note_of (c.coroutine-c.ensures ∙ ap (coro_in c.args.chain.now) c.last.ensures)
 
 pub offset_bounds-notes-at : goal.offset_bounds-notes-at
-offset_bounds-notes-at c = omega (arith, room c)
+offset_bounds-notes-at c = omega (arith, room c.before)
 
 pub bounds-notes-at : goal.bounds-notes-at
-bounds-notes-at c = omega (arith, room c.before)
+bounds-notes-at c = omega (arith, room c.before.before)
 
 pub woken-requires : goal.woken-requires
 woken-requires c =
     starts c.args.stack.now c.args.frames.now c.args.chain.now c.args.m c.args.sent c.args.notes.now c.args.count _
-    _ (noted c.before.before.before.before.before.before) c.at_most-n.ensures c.if-n-eq0.true
+    _ (noted c.before.before.before.before.before) c.at_most-n.ensures c.if-n-eq0.true
 
 pub returns : goal.returns
-returns c = (room c.before.before.before.before, c.at_most-n.ensures)
+returns c = (room c.before.before.before.before.before.before, c.at_most-n.ensures)

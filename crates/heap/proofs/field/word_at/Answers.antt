@@ -4,4 +4,4 @@ use Rattle.lists.proofs.Tables.{chunk-get}
 use Rattle.heap.proofs.field.word_at.Goals as goal
 
 pub returns : goal.returns
-returns c = let begin = c.before in sym (chunk-get 20 begin.args.i begin.args.k begin.args.slots.now begin.requires.1)
+returns c = sym (chunk-get 20 c.args.i c.args.k c.args.slots.now c.requires.1)

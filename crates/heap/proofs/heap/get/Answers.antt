@@ -3,6 +3,7 @@ use mathlib.Core.Path.{◌≡◌, refl, sym, ap, ◌∙◌}
 use mathlib.Core.List.{List, [], ◌∷◌}
 use Prim.Native.Nat.{ℕ}
 use types.Run.{OneOf, miss}
+use borrow.Enum.Refused.{opened}
 use denote.Enum.Declared.{tag_of}
 use Rattle.lists.specs.Pick.{pick}
 use Rattle.heap.specs.Object.{is_filled}
@@ -28,7 +29,7 @@ other n ws (C.Int z) h = refl
 other n ws C.Opaque h = refl
 
 pub returns-in_default : goal.returns-in_default
-returns-in_default c = other c.args.count c.args.slots.now c.class.result c.in_default.in_default-own.keys2 ∙ ap (look c.args.count c.args.slots.now) c.class.ensures
+returns-in_default c = other c.args.count c.args.slots.now c.class.result (opened c.in_default.in_default-own.keys2) ∙ ap (look c.args.count c.args.slots.now) c.class.ensures
 
 pub returns-then-count-i : goal.returns-then-count-i
 returns-then-count-i c =

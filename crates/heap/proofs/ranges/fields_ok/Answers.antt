@@ -12,8 +12,31 @@ use Rattle.lists.specs.Tests.{zeros}
 use Rattle.heap.specs.Slot.{fields_of}
 use Rattle.heap.specs.Ranges.{ranges_of, within}
 use Rattle.heap.proofs.Within.{from_zero, at_zero}
+use Rattle.heap.proofs.ranges.fields_ok.Lts as lts
+use Rattle.heap.proofs.ranges.fields_ok.Reads as reads
+use Rattle.heap.proofs.ranges.fields_ok.Tie as tie
 use Rattle.heap.proofs.ranges.fields_ok.Goals as goal
-use Rattle.heap.proofs.ranges.fields_ok.Goals.{Else-b-s, Else-c-s, Else-d-s, Else-kind-s, Else-not-between, Else-tag-s, Start}
+
+abbrev Start : Type 0
+Start = lts.Start tie.the-claims reads.Pre reads.Post
+
+abbrev Else-tag-s : Type 0
+Else-tag-s = lts.Else1 tie.the-claims reads.Pre reads.Post
+
+abbrev Else-kind-s : Type 0
+Else-kind-s = lts.Else2 tie.the-claims reads.Pre reads.Post
+
+abbrev Else-not-between : Type 0
+Else-not-between = lts.Else3 tie.the-claims reads.Pre reads.Post
+
+abbrev Else-b-s : Type 0
+Else-b-s = lts.Else4 tie.the-claims reads.Pre reads.Post
+
+abbrev Else-c-s : Type 0
+Else-c-s = lts.Else5 tie.the-claims reads.Pre reads.Post
+
+abbrev Else-d-s : Type 0
+Else-d-s = lts.Else6 tie.the-claims reads.Pre reads.Post
 
 -- `fields_ok` meets its contract: what the tests so far leave decides the whole. Assumes nothing.
 -- words of which none is used
@@ -81,7 +104,7 @@ abbrev at3 : Else-not-between → Start
 at3 c = at2 c.before.before.before
 
 past3 : (c : Else-not-between) → whole (at3 c) ≡ from3 (at3 c)
-past3 c = let z = at3 c in past2 c.before.before.before ∙ ap (λ (b : Bool). b && from3 z) (sym c.between.ensures ∙ not-false _ c.if-not-between.false)
+past3 c = let z = at3 c in past2 c.before.before.before ∙ ap (λ (b : Bool). b && from3 z) (sym c.between.ensures ∙ c.if-not-between.false)
 
 abbrev at4 : Else-b-s → Start
 at4 c = at3 c.before.before
@@ -102,27 +125,27 @@ past6 : (c : Else-d-s) → whole (at6 c) ≡ from6 (at6 c)
 past6 c = let z = at6 c in past5 c.before.before ∙ (rw (le-leb (word z 5) z.args.d c.if-d-s.false))
 
 pub returns-then-tag-s : goal.returns-then-tag-s
-returns-then-tag-s c = let z = c.before.before.before in sym (begin z ∙ (rw (lt-leb (word z 0) z.args.tag c.if-tag-s.true)))
+returns-then-tag-s c = sym (begin c.before.before.before.before ∙ (rw (lt-leb (word c.before.before.before.before 0) c.args.tag c.if-tag-s.true)))
 
 pub returns-then-kind-s : goal.returns-then-kind-s
-returns-then-kind-s c = let past = c.before.before in let z = at1 past in sym (past1 past ∙ (rw (lt-leb (word z 1) z.args.kind c.if-kind-s.true)))
+returns-then-kind-s c = let z = at1 c.before.before.before in sym (past1 c.before.before.before ∙ (rw (lt-leb (word z 1) z.args.kind c.if-kind-s.true)))
 
 pub returns-then-not-between : goal.returns-then-not-between
 returns-then-not-between c =
-    let z = at2 c.before.before.before in
-    sym (past2 c.before.before.before ∙ ap (λ (b : Bool). b && from3 z) (sym c.between.ensures ∙ not-true _ c.if-not-between.true))
+    let z = at2 c.before.before.before.before in
+    sym (past2 c.before.before.before.before ∙ ap (λ (b : Bool). b && from3 z) (sym c.between.ensures ∙ c.if-not-between.true))
 
 pub returns-then-b-s : goal.returns-then-b-s
-returns-then-b-s c = let past = c.before.before in let z = at3 past in sym (past3 past ∙ (rw (lt-leb (word z 3) z.args.b c.if-b-s.true)))
+returns-then-b-s c = let z = at3 c.before.before.before in sym (past3 c.before.before.before ∙ (rw (lt-leb (word z 3) z.args.b c.if-b-s.true)))
 
 pub returns-then-c-s : goal.returns-then-c-s
-returns-then-c-s c = let past = c.before.before in let z = at4 past in sym (past4 past ∙ (rw (lt-leb (word z 4) z.args.c c.if-c-s.true)))
+returns-then-c-s c = let z = at4 c.before.before.before in sym (past4 c.before.before.before ∙ (rw (lt-leb (word z 4) z.args.c c.if-c-s.true)))
 
 pub returns-then-d-s : goal.returns-then-d-s
-returns-then-d-s c = let past = c.before.before in let z = at5 past in sym (past5 past ∙ (rw (lt-leb (word z 5) z.args.d c.if-d-s.true)))
+returns-then-d-s c = let z = at5 c.before.before.before in sym (past5 c.before.before.before ∙ (rw (lt-leb (word z 5) z.args.d c.if-d-s.true)))
 
 pub returns : goal.returns
 returns c =
-    let s = (at6 c.before.before).args.s.now in
+    let s = (at6 c.before.before.before).args.s.now in
     let n : length (drop 6 s) ≤ length s - 6 = simp length-drop (omega arith) in
-    c.all_zero.ensures ∙ ap zeros (take_all (length s - 6) (drop 6 s) n) ∙ sym (past6 c.before.before)
+    c.all_zero.ensures ∙ ap zeros (take_all (length s - 6) (drop 6 s) n) ∙ sym (past6 c.before.before.before)

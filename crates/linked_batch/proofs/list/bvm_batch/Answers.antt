@@ -12,14 +12,37 @@ use Rattle.outer_run.proofs.Written.{enough}
 use Rattle.linked_calls.specs.Host.{Host, host, passes_test, short}
 use Rattle.linked_calls.proofs.Others.{run_short, run-refused}
 use Rattle.linked_batch.proofs.Going.{no-pass, passed, batch-done}
+use Rattle.linked_batch.proofs.list.bvm_batch.Lts as lts
+use Rattle.linked_batch.proofs.list.bvm_batch.Reads as reads
+use Rattle.linked_batch.proofs.list.bvm_batch.Tie as tie
 use Rattle.linked_batch.proofs.list.bvm_batch.Goals as goal
-use Rattle.linked_batch.proofs.list.bvm_batch.Goals.{Else-answers-n, Else-ok-eq0-2}
+
+abbrev Start : Type 0
+Start = lts.Start tie.the-claims reads.Pre reads.Post
+
+abbrev After-count-n : Type 0
+After-count-n = lts.After-count tie.the-claims reads.Pre reads.Post
+
+abbrev After-bvm_sound-ok : Type 0
+After-bvm_sound-ok = lts.After-bvm_sound tie.the-claims reads.Pre reads.Post
+
+abbrev Else-answers-n : Type 0
+Else-answers-n = lts.Else1 tie.the-claims reads.Pre reads.Post
+
+abbrev Else-ok-eq0-2 : Type 0
+Else-ok-eq0-2 = lts.Else3 tie.the-claims reads.Pre reads.Post
+
+abbrev After-do_list : Type 0
+After-do_list = lts.After-do_list tie.the-claims reads.Pre reads.Post
+
+abbrev After-slice_known-22-1 : Type 0
+After-slice_known-22-1 = lts.After-slice_known23 tie.the-claims reads.Pre reads.Post
 
 -- `bvm_batch` meets its contract: no room, refused, or all calls done. Assumes nothing.
 abbrev mem : Start → Lent
 mem c =
     let a = c.args in
-    nine a.stack.now a.frames.now a.chain.now a.slots.now a.saved-stack.now a.saved-frames.now a.ready.now a.finalize.now a.setup.now plain
+    nine a.stack.now a.frames.now a.chain.now a.slots.now a.saved_stack.now a.saved_frames.now a.ready.now a.finalize.now a.setup.now plain
 
 abbrev of : Start → Host
 of c = host (mem c) c.args.machine.now c.args.fuel.now
@@ -28,7 +51,7 @@ abbrev start_of : After-count-n → Start
 start_of c = c.before.before.before.before.before.before.before.before.before.before.before.before.before.before
 
 abbrev count_of : After-bvm_sound-ok → After-count-n
-count_of c = c.before.before.before.before.before.before.before.before.before.before.before
+count_of c = c.before
 
 room : (c : Else-answers-n) → let at_count = count_of c.before in at_count.count.result * 8 ≤ length (start_of at_count).args.answers.now
 room c =
@@ -37,70 +60,70 @@ room c =
 
 -- it passed
 sure : (c : Else-ok-eq0-2) → passes_test (of (start_of (count_of c.before.before))) ≡ true
-sure c = let at-bvm-sound = c.before.before in passed _ at-bvm-sound.bvm-sound.result at-bvm-sound.bvm-sound.ensures c.if-ok-eq0-2.false
+sure c = passed _ c.bvm_sound-ok.result c.bvm_sound-ok.ensures c.if-ok-eq0-2.false
 
 abbrev list_of : After-slice_known-22-1 → After-do_list
 list_of c = c.before.before.before.before.before.before.before.before.before.before.before.before.before.before.before.before.before.before.before.before.before.before
 
 pub returns-then-ok-eq0 : goal.returns-then-ok-eq0
 returns-then-ok-eq0 c =
-    let at_count = count_of c.before.before in let start = start_of at_count in let a = start.args in
+    let at_count = count_of c.before.before.before in let start = start_of at_count in let a = start.args in
     run_short (of start) a.calls.now a.answers.now at_count.count.result at_count.count.ensures c.if-answers-n.true (passes_test (of start)) refl 11
     (sym (ap short (no-pass _ c.bvm_sound-ok.result c.bvm_sound-ok.ensures c.if-ok-eq0.true) ∙ pick-false 14 11))
 
 pub returns-then-answers-n : goal.returns-then-answers-n
 returns-then-answers-n c =
-    let at_count = count_of c.before.before in let start = start_of at_count in let a = start.args in
+    let at_count = count_of c.before.before.before in let start = start_of at_count in let a = start.args in
     run_short (of start) a.calls.now a.answers.now at_count.count.result at_count.count.ensures c.if-answers-n.true (passes_test (of start)) refl 14
     (sym (ap short (passed _ c.bvm_sound-ok.result c.bvm_sound-ok.ensures c.if-ok-eq0.false) ∙ pick_true 14 11))
 
 pub refuse_list-requires : goal.refuse_list-requires
-refuse_list-requires c = room c.before.before
+refuse_list-requires c = room c.before.before.before
 
 pub returns-then-ok-eq0-2 : goal.returns-then-ok-eq0-2
 returns-then-ok-eq0-2 c =
-    let at_count = count_of c.before.before.before.before.before.before in let start = start_of at_count in let a = start.args in
-    run-refused (of start) a.calls.now a.answers.now at_count.count.result at_count.count.ensures (room c.before.before.before.before.before) (passes_test (of start)) refl
+    let at_count = count_of c.before.before.before.before.before.before.before in let start = start_of at_count in let a = start.args in
+    run-refused (of start) a.calls.now a.answers.now at_count.count.result at_count.count.ensures (room c.before.before.before.before.before.before) (passes_test (of start)) refl
     (no-pass (passes_test (of start)) c.bvm_sound-ok.result c.bvm_sound-ok.ensures c.if-ok-eq0-2.true) _ c.refuse_list.ensures
 
 pub do_list-requires : goal.do_list-requires
-do_list-requires c = record { sound = sure c.before.before.before.before.before.before.before.before.before.before.before; calls = (count_of c.before.before.before.before.before.before.before.before.before.before.before.before.before).count.ensures; room = room c.before.before.before.before.before.before.before.before.before.before.before.before }
+do_list-requires c = record { sound = sure c.before.before.before.before.before.before.before.before.before.before.before.before; calls = (count_of c.before.before.before.before.before.before.before.before.before.before.before.before.before.before).count.ensures; room = room c.before.before.before.before.before.before.before.before.before.before.before.before.before }
 
 pub shape_of-stack : goal.shape_of-stack
-shape_of-stack c = (list_of c).do-list.auto.0
+shape_of-stack c = (list_of c.before).do-list.auto.0
 
 pub shape_of-frames : goal.shape_of-frames
-shape_of-frames c = (list_of c).do-list.auto.1.0
+shape_of-frames c = (list_of c.before).do-list.auto.1.0
 
 pub shape_of-chain : goal.shape_of-chain
-shape_of-chain c = (list_of c).do-list.auto.1.1.0
+shape_of-chain c = (list_of c.before).do-list.auto.1.1.0
 
 pub shape_of-slots : goal.shape_of-slots
-shape_of-slots c = (list_of c).do-list.auto.1.1.1.0
+shape_of-slots c = (list_of c.before).do-list.auto.1.1.1.0
 
 pub shape_of-saved_stack : goal.shape_of-saved_stack
-shape_of-saved_stack c = (list_of c).do-list.auto.1.1.1.1.0
+shape_of-saved_stack c = (list_of c.before).do-list.auto.1.1.1.1.0
 
 pub shape_of-saved_frames : goal.shape_of-saved_frames
-shape_of-saved_frames c = (list_of c).do-list.auto.1.1.1.1.1.0
+shape_of-saved_frames c = (list_of c.before).do-list.auto.1.1.1.1.1.0
 
 pub shape_of-ready : goal.shape_of-ready
-shape_of-ready c = (list_of c).do-list.auto.1.1.1.1.1.1.0
+shape_of-ready c = (list_of c.before).do-list.auto.1.1.1.1.1.1.0
 
 pub shape_of-finalize : goal.shape_of-finalize
-shape_of-finalize c = (list_of c).do-list.auto.1.1.1.1.1.1.1.0
+shape_of-finalize c = (list_of c.before).do-list.auto.1.1.1.1.1.1.1.0
 
 pub shape_of-machine : goal.shape_of-machine
-shape_of-machine c = (list_of c).do-list.auto.1.1.1.1.1.1.1.1.1.0
+shape_of-machine c = (list_of c.before).do-list.auto.1.1.1.1.1.1.1.1.1.0
 
 pub shape_of-fuel : goal.shape_of-fuel
-shape_of-fuel c = (list_of c).do-list.auto.1.1.1.1.1.1.1.1.1.1.0
+shape_of-fuel c = (list_of c.before).do-list.auto.1.1.1.1.1.1.1.1.1.1.0
 
 pub shape_of-answers : goal.shape_of-answers
-shape_of-answers c = (list_of c).do-list.auto.1.1.1.1.1.1.1.1.1.1.1.1.0
+shape_of-answers c = (list_of c.before).do-list.auto.1.1.1.1.1.1.1.1.1.1.1.1.0
 
 pub returns : goal.returns
 returns c =
-    let at-do-list = list_of c in let at-if3 = at-do-list.before.before.before.before.before.before.before.before.before.before.before.before in
+    let at-do-list = list_of c.before in let at-if3 = at-do-list.before.before.before.before.before.before.before.before.before.before.before.before in
     let at-if1 = at-if3.before in let at_count = count_of at-if1.before in let start = start_of at_count in let a = start.args in
     batch-done (of start) a.calls.now a.answers.now at_count.count.result (sure at-if3) at_count.count.ensures (room at-if1) _ _ at-do-list.do-list.ensures

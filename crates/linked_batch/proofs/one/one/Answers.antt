@@ -10,14 +10,46 @@ use Rattle.memory_calls.specs.Call.{six, op_of}
 use Rattle.outer_run.specs.Run.{read_in}
 use Rattle.linked_calls.specs.Host.{Host, host}
 use Rattle.linked_batch.proofs.Ones.{no_call, no_one, words-read, of-read}
+use Rattle.linked_batch.proofs.one.one.Lts as lts
+use Rattle.linked_batch.proofs.one.one.Reads as reads
+use Rattle.linked_batch.proofs.one.one.Tie as tie
 use Rattle.linked_batch.proofs.one.one.Goals as goal
-use Rattle.linked_batch.proofs.one.one.Goals.{After-word-e, Else-calls-i-lt-CALL_WIDTH}
+
+abbrev Start : Type 0
+Start = lts.Start tie.the-claims reads.Pre reads.Post
+
+abbrev Else-calls-i-lt-CALL_WIDTH : Type 0
+Else-calls-i-lt-CALL_WIDTH = lts.Else1 tie.the-claims reads.Pre reads.Post
+
+abbrev After-word-e : Type 0
+After-word-e = lts.After-word6 tie.the-claims reads.Pre reads.Post
+
+abbrev After-route_of : Type 0
+After-route_of = lts.After-route_of tie.the-claims reads.Pre reads.Post
+
+abbrev After-resume_call : Type 0
+After-resume_call = lts.After-resume_call tie.the-claims reads.Pre reads.Post
+
+abbrev After-slice_known-in-Resume-11-1 : Type 0
+After-slice_known-in-Resume-11-1 = lts.After-slice_known23 tie.the-claims reads.Pre reads.Post
+
+abbrev After-yield_call : Type 0
+After-yield_call = lts.After-yield_call tie.the-claims reads.Pre reads.Post
+
+abbrev After-slice_known-in-Yield-11-1 : Type 0
+After-slice_known-in-Yield-11-1 = lts.After-slice_known34 tie.the-claims reads.Pre reads.Post
+
+abbrev After-general_at : Type 0
+After-general_at = lts.After-general_at tie.the-claims reads.Pre reads.Post
+
+abbrev After-slice_known-in-General-11-1 : Type 0
+After-slice_known-in-General-11-1 = lts.After-slice_known45 tie.the-claims reads.Pre reads.Post
 
 -- `one` meets its contract: no call, a switch, or any other. Assumes nothing.
 abbrev mem : Start → Lent
 mem c =
     let a = c.args in
-    nine a.stack.now a.frames.now a.chain.now a.slots.now a.saved-stack.now a.saved-frames.now a.ready.now a.finalize.now a.setup.now plain
+    nine a.stack.now a.frames.now a.chain.now a.slots.now a.saved_stack.now a.saved_frames.now a.ready.now a.finalize.now a.setup.now plain
 
 abbrev of : Start → Host
 of c = host (mem c) c.args.machine.now c.args.fuel.now
@@ -57,148 +89,148 @@ put_at-requires c = c.requires.put.room
 pub returns-then-calls-i-lt-CALL_WIDTH : goal.returns-then-calls-i-lt-CALL_WIDTH
 returns-then-calls-i-lt-CALL_WIDTH c =
     let a = c.args in
-    no_one (of c.before.before.before.before.before.before.before.before.before.before.before.before.before.before.before.before.before.before) c.requires.put.sound a.answers.now _ a.i (read_in a.calls.now a.i)
+    no_one (of c.before.before.before.before.before.before.before.before.before.before.before.before.before.before.before.before.before.before.before) c.requires.put.sound a.answers.now _ a.i (read_in a.calls.now a.i)
     (no_call a.calls.now a.i c.requires.call c.if-calls-i-lt-CALL_WIDTH.true) c.put_at.ensures
 
 pub word-n-requires : goal.word-n-requires
-word-n-requires c = (full c, omega arith)
+word-n-requires c = (full c.before, omega arith)
 
 pub word-a-requires : goal.word-a-requires
-word-a-requires c = (full c.before, omega arith)
+word-a-requires c = (full c.before.before, omega arith)
 
 pub word-b-requires : goal.word-b-requires
-word-b-requires c = (full c.before.before, omega arith)
+word-b-requires c = (full c.before.before.before, omega arith)
 
 pub word-c-requires : goal.word-c-requires
-word-c-requires c = (full c.before.before.before, omega arith)
+word-c-requires c = (full c.before.before.before.before, omega arith)
 
 pub word-d-requires : goal.word-d-requires
-word-d-requires c = (full c.before.before.before.before, omega arith)
+word-d-requires c = (full c.before.before.before.before.before, omega arith)
 
 pub word-e-requires : goal.word-e-requires
-word-e-requires c = (full c.before.before.before.before.before, omega arith)
+word-e-requires c = (full c.before.before.before.before.before.before, omega arith)
 
 pub resume_call-requires : goal.resume_call-requires
-resume_call-requires c = record { put = (from-route c.before.before.before.before.before.before.before.before.before.before.before.before.before).requires.put; narrow = (c.route_of.ensures.resume c.in-Resume.is).1 }
+resume_call-requires c = record { put = (from-route c.before.before.before.before.before.before.before.before.before.before.before.before.before.before).requires.put; narrow = (c.route_of.ensures.resume c.in-Resume.is).1 }
 
 pub yield_call-requires : goal.yield_call-requires
-yield_call-requires c = record { put = (from-route c.before.before.before.before.before.before.before.before.before.before.before.before.before).requires.put; narrow = (c.route_of.ensures.yield c.in-Yield.is).1 }
+yield_call-requires c = record { put = (from-route c.before.before.before.before.before.before.before.before.before.before.before.before.before.before).requires.put; narrow = (c.route_of.ensures.yield c.in-Yield.is).1 }
 
 pub general_at-requires : goal.general_at-requires
-general_at-requires c = (from-route c.before.before.before.before.before.before.before.before.before.before.before.before.before).requires.put
+general_at-requires c = (from-route c.before.before.before.before.before.before.before.before.before.before.before.before.before.before).requires.put
 
 pub shape_of-stack-in-Resume : goal.shape_of-stack-in-Resume
-shape_of-stack-in-Resume c = (resume-of c).resume-call.auto.0
+shape_of-stack-in-Resume c = (resume-of c.before).resume-call.auto.0
 
 pub shape_of-frames-in-Resume : goal.shape_of-frames-in-Resume
-shape_of-frames-in-Resume c = (resume-of c).resume-call.auto.1.0
+shape_of-frames-in-Resume c = (resume-of c.before).resume-call.auto.1.0
 
 pub shape_of-chain-in-Resume : goal.shape_of-chain-in-Resume
-shape_of-chain-in-Resume c = (resume-of c).resume-call.auto.1.1.0
+shape_of-chain-in-Resume c = (resume-of c.before).resume-call.auto.1.1.0
 
 pub shape_of-slots-in-Resume : goal.shape_of-slots-in-Resume
-shape_of-slots-in-Resume c = (resume-of c).resume-call.auto.1.1.1.0
+shape_of-slots-in-Resume c = (resume-of c.before).resume-call.auto.1.1.1.0
 
 pub shape_of-saved_stack-in-Resume : goal.shape_of-saved_stack-in-Resume
-shape_of-saved_stack-in-Resume c = (resume-of c).resume-call.auto.1.1.1.1.0
+shape_of-saved_stack-in-Resume c = (resume-of c.before).resume-call.auto.1.1.1.1.0
 
 pub shape_of-saved_frames-in-Resume : goal.shape_of-saved_frames-in-Resume
-shape_of-saved_frames-in-Resume c = (resume-of c).resume-call.auto.1.1.1.1.1.0
+shape_of-saved_frames-in-Resume c = (resume-of c.before).resume-call.auto.1.1.1.1.1.0
 
 pub shape_of-ready-in-Resume : goal.shape_of-ready-in-Resume
-shape_of-ready-in-Resume c = (resume-of c).resume-call.auto.1.1.1.1.1.1.0
+shape_of-ready-in-Resume c = (resume-of c.before).resume-call.auto.1.1.1.1.1.1.0
 
 pub shape_of-finalize-in-Resume : goal.shape_of-finalize-in-Resume
-shape_of-finalize-in-Resume c = (resume-of c).resume-call.auto.1.1.1.1.1.1.1.0
+shape_of-finalize-in-Resume c = (resume-of c.before).resume-call.auto.1.1.1.1.1.1.1.0
 
 pub shape_of-machine-in-Resume : goal.shape_of-machine-in-Resume
-shape_of-machine-in-Resume c = (resume-of c).resume-call.auto.1.1.1.1.1.1.1.1.1.0
+shape_of-machine-in-Resume c = (resume-of c.before).resume-call.auto.1.1.1.1.1.1.1.1.1.0
 
 pub shape_of-fuel-in-Resume : goal.shape_of-fuel-in-Resume
-shape_of-fuel-in-Resume c = (resume-of c).resume-call.auto.1.1.1.1.1.1.1.1.1.1.0
+shape_of-fuel-in-Resume c = (resume-of c.before).resume-call.auto.1.1.1.1.1.1.1.1.1.1.0
 
 pub shape_of-answers-in-Resume : goal.shape_of-answers-in-Resume
-shape_of-answers-in-Resume c = (resume-of c).resume-call.auto.1.1.1.1.1.1.1.1.1.1.1.0
+shape_of-answers-in-Resume c = (resume-of c.before).resume-call.auto.1.1.1.1.1.1.1.1.1.1.1.0
 
 pub returns-in-Resume : goal.returns-in-Resume
 returns-in-Resume c =
-    let at-enum-told = (resume-of c).before.before.before.before.before.before.before.before.before.before.before.before in let at-route-of = at-enum-told.before.before in
+    let at-enum-told = (resume-of c.before).before.before.before.before.before.before.before.before.before.before.before.before in let at-route-of = at-enum-told.before.before in
     let is = at-route-of.route-of.ensures.resume at-enum-told.enum_told.given.1 in
-    of-read (read_as at-route-of.before is.0 refl is.2) (resume-of c).resume-call.ensures
+    of-read (read_as at-route-of.before is.0 refl is.2) (resume-of c.before).resume-call.ensures
 
 pub shape_of-stack-in-Yield : goal.shape_of-stack-in-Yield
-shape_of-stack-in-Yield c = (yield-of c).yield-call.auto.0
+shape_of-stack-in-Yield c = (yield-of c.before).yield-call.auto.0
 
 pub shape_of-frames-in-Yield : goal.shape_of-frames-in-Yield
-shape_of-frames-in-Yield c = (yield-of c).yield-call.auto.1.0
+shape_of-frames-in-Yield c = (yield-of c.before).yield-call.auto.1.0
 
 pub shape_of-chain-in-Yield : goal.shape_of-chain-in-Yield
-shape_of-chain-in-Yield c = (yield-of c).yield-call.auto.1.1.0
+shape_of-chain-in-Yield c = (yield-of c.before).yield-call.auto.1.1.0
 
 pub shape_of-slots-in-Yield : goal.shape_of-slots-in-Yield
-shape_of-slots-in-Yield c = (yield-of c).yield-call.auto.1.1.1.0
+shape_of-slots-in-Yield c = (yield-of c.before).yield-call.auto.1.1.1.0
 
 pub shape_of-saved_stack-in-Yield : goal.shape_of-saved_stack-in-Yield
-shape_of-saved_stack-in-Yield c = (yield-of c).yield-call.auto.1.1.1.1.0
+shape_of-saved_stack-in-Yield c = (yield-of c.before).yield-call.auto.1.1.1.1.0
 
 pub shape_of-saved_frames-in-Yield : goal.shape_of-saved_frames-in-Yield
-shape_of-saved_frames-in-Yield c = (yield-of c).yield-call.auto.1.1.1.1.1.0
+shape_of-saved_frames-in-Yield c = (yield-of c.before).yield-call.auto.1.1.1.1.1.0
 
 pub shape_of-ready-in-Yield : goal.shape_of-ready-in-Yield
-shape_of-ready-in-Yield c = (yield-of c).yield-call.auto.1.1.1.1.1.1.0
+shape_of-ready-in-Yield c = (yield-of c.before).yield-call.auto.1.1.1.1.1.1.0
 
 pub shape_of-finalize-in-Yield : goal.shape_of-finalize-in-Yield
-shape_of-finalize-in-Yield c = (yield-of c).yield-call.auto.1.1.1.1.1.1.1.0
+shape_of-finalize-in-Yield c = (yield-of c.before).yield-call.auto.1.1.1.1.1.1.1.0
 
 pub shape_of-machine-in-Yield : goal.shape_of-machine-in-Yield
-shape_of-machine-in-Yield c = (yield-of c).yield-call.auto.1.1.1.1.1.1.1.1.1.0
+shape_of-machine-in-Yield c = (yield-of c.before).yield-call.auto.1.1.1.1.1.1.1.1.1.0
 
 pub shape_of-fuel-in-Yield : goal.shape_of-fuel-in-Yield
-shape_of-fuel-in-Yield c = (yield-of c).yield-call.auto.1.1.1.1.1.1.1.1.1.1.0
+shape_of-fuel-in-Yield c = (yield-of c.before).yield-call.auto.1.1.1.1.1.1.1.1.1.1.0
 
 pub shape_of-answers-in-Yield : goal.shape_of-answers-in-Yield
-shape_of-answers-in-Yield c = (yield-of c).yield-call.auto.1.1.1.1.1.1.1.1.1.1.1.0
+shape_of-answers-in-Yield c = (yield-of c.before).yield-call.auto.1.1.1.1.1.1.1.1.1.1.1.0
 
 pub returns-in-Yield : goal.returns-in-Yield
 returns-in-Yield c =
-    let at-enum-told2 = (yield-of c).before.before.before.before.before.before.before.before.before.before.before.before in let at-route-of = at-enum-told2.before.before in
+    let at-enum-told2 = (yield-of c.before).before.before.before.before.before.before.before.before.before.before.before.before in let at-route-of = at-enum-told2.before.before in
     let is = at-route-of.route-of.ensures.yield at-enum-told2.enum-told2.given.1 in
-    of-read (read_as at-route-of.before is.0 is.2 is.3) (yield-of c).yield-call.ensures
+    of-read (read_as at-route-of.before is.0 is.2 is.3) (yield-of c.before).yield-call.ensures
 
 pub shape_of-stack-in-General : goal.shape_of-stack-in-General
-shape_of-stack-in-General c = (general-of c).general-at.auto.0
+shape_of-stack-in-General c = (general-of c.before).general-at.auto.0
 
 pub shape_of-frames-in-General : goal.shape_of-frames-in-General
-shape_of-frames-in-General c = (general-of c).general-at.auto.1.0
+shape_of-frames-in-General c = (general-of c.before).general-at.auto.1.0
 
 pub shape_of-chain-in-General : goal.shape_of-chain-in-General
-shape_of-chain-in-General c = (general-of c).general-at.auto.1.1.0
+shape_of-chain-in-General c = (general-of c.before).general-at.auto.1.1.0
 
 pub shape_of-slots-in-General : goal.shape_of-slots-in-General
-shape_of-slots-in-General c = (general-of c).general-at.auto.1.1.1.0
+shape_of-slots-in-General c = (general-of c.before).general-at.auto.1.1.1.0
 
 pub shape_of-saved_stack-in-General : goal.shape_of-saved_stack-in-General
-shape_of-saved_stack-in-General c = (general-of c).general-at.auto.1.1.1.1.0
+shape_of-saved_stack-in-General c = (general-of c.before).general-at.auto.1.1.1.1.0
 
 pub shape_of-saved_frames-in-General : goal.shape_of-saved_frames-in-General
-shape_of-saved_frames-in-General c = (general-of c).general-at.auto.1.1.1.1.1.0
+shape_of-saved_frames-in-General c = (general-of c.before).general-at.auto.1.1.1.1.1.0
 
 pub shape_of-ready-in-General : goal.shape_of-ready-in-General
-shape_of-ready-in-General c = (general-of c).general-at.auto.1.1.1.1.1.1.0
+shape_of-ready-in-General c = (general-of c.before).general-at.auto.1.1.1.1.1.1.0
 
 pub shape_of-finalize-in-General : goal.shape_of-finalize-in-General
-shape_of-finalize-in-General c = (general-of c).general-at.auto.1.1.1.1.1.1.1.0
+shape_of-finalize-in-General c = (general-of c.before).general-at.auto.1.1.1.1.1.1.1.0
 
 pub shape_of-machine-in-General : goal.shape_of-machine-in-General
-shape_of-machine-in-General c = (general-of c).general-at.auto.1.1.1.1.1.1.1.1.1.0
+shape_of-machine-in-General c = (general-of c.before).general-at.auto.1.1.1.1.1.1.1.1.1.0
 
 pub shape_of-fuel-in-General : goal.shape_of-fuel-in-General
-shape_of-fuel-in-General c = (general-of c).general-at.auto.1.1.1.1.1.1.1.1.1.1.0
+shape_of-fuel-in-General c = (general-of c.before).general-at.auto.1.1.1.1.1.1.1.1.1.1.0
 
 pub shape_of-answers-in-General : goal.shape_of-answers-in-General
-shape_of-answers-in-General c = (general-of c).general-at.auto.1.1.1.1.1.1.1.1.1.1.1.0
+shape_of-answers-in-General c = (general-of c.before).general-at.auto.1.1.1.1.1.1.1.1.1.1.1.0
 
 pub returns-in-General : goal.returns-in-General
 returns-in-General c =
-    of-read (read_as (general-of c).before.before.before.before.before.before.before.before.before.before.before.before.before.before.before refl refl refl)
-    (general-of c).general-at.ensures
+    of-read (read_as (general-of c.before).before.before.before.before.before.before.before.before.before.before.before.before.before.before.before refl refl refl)
+    (general-of c.before).general-at.ensures

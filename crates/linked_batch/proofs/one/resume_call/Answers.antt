@@ -11,19 +11,37 @@ use Rattle.linked_calls.specs.Host.{Host, host}
 use Rattle.linked_switch.specs.Went.{goes_on}
 use Rattle.linked_switch.proofs.Hosts.{long, holds, enters-fit, went-in}
 use Rattle.linked_batch.proofs.Ones.{all_words, blank, switch-one, low, resume-typed}
+use Rattle.linked_batch.proofs.one.resume_call.Lts as lts
+use Rattle.linked_batch.proofs.one.resume_call.Reads as reads
+use Rattle.linked_batch.proofs.one.resume_call.Tie as tie
 use Rattle.linked_batch.proofs.one.resume_call.Goals as goal
+
+abbrev Start : Type 0
+Start = lts.Start tie.the-claims reads.Pre reads.Post
+
+abbrev After-may_enter : Type 0
+After-may_enter = lts.After-may_enter tie.the-claims reads.Pre reads.Post
+
+abbrev After-resume_at : Type 0
+After-resume_at = lts.After-resume_at tie.the-claims reads.Pre reads.Post
+
+abbrev After-general_at : Type 0
+After-general_at = lts.After-general_at tie.the-claims reads.Pre reads.Post
+
+abbrev After-slice_known-in-Not-11-1 : Type 0
+After-slice_known-in-Not-11-1 = lts.After-slice_known32 tie.the-claims reads.Pre reads.Post
 
 -- `resume_call` meets its contract: an entry done on the words, or what any call does. Assumes nothing.
 abbrev mem : Start → Lent
 mem c =
     let a = c.args in
-    nine a.stack.now a.frames.now a.chain.now a.slots.now a.saved-stack.now a.saved-frames.now a.ready.now a.finalize.now a.setup.now plain
+    nine a.stack.now a.frames.now a.chain.now a.slots.now a.saved_stack.now a.saved_frames.now a.ready.now a.finalize.now a.setup.now plain
 
 abbrev of : Start → Host
 of c = host (mem c) c.args.machine.now c.args.fuel.now
 
 abbrev start_of : After-may_enter → Start
-start_of c = c.before.before.before.before.before.before.before.before.before.before.before.before.before.before.before.before.before.before
+start_of c = c.before.before.before.before.before.before.before.before.before.before.before.before.before.before
 
 abbrev done-of : After-resume_at → Start
 done-of c = start_of c.before.before.before.before.before.before.before.before.before.before.before.before
@@ -32,25 +50,25 @@ abbrev general-of : After-slice_known-in-Not-11-1 → After-general_at
 general-of c = c.before.before.before.before.before.before.before.before.before.before.before.before.before.before.before.before.before.before.before.before.before.before
 
 pub bounds-fuel-0 : goal.bounds-fuel-0
-bounds-fuel-0 c = let h = (long (of c.before.before.before.before.before.before.before.before.before.before.before.before.before.before.before.before.before) c.requires.put.sound).1 in omega (arith, h)
+bounds-fuel-0 c = let h = (long (of c.before.before.before.before.before.before.before.before.before.before.before.before.before.before) c.requires.put.sound).1 in omega (arith, h)
 
 pub may_enter-requires : goal.may_enter-requires
-may_enter-requires c = enters-fit (of c.before.before.before.before.before.before.before.before.before.before.before.before.before.before.before.before.before) c.requires.put.sound
+may_enter-requires c = enters-fit (of c.before.before.before.before.before.before.before.before.before.before.before.before.before.before) c.requires.put.sound
 
 pub resume_at-requires : goal.resume_at-requires
 resume_at-requires c =
-    let start = start_of c.before.before.before.before.before.before.before.before.before.before.before in
+    let start = start_of c.before.before.before.before.before.before.before.before.before.before.before.before in
     record { held = holds (of start) start.pre.put.sound start.args.pc start.pre.narrow; enterable = c.may_enter.ensures.at _ _ c.in-At.is }
 
 pub goes_on_at-requires : goal.goes_on_at-requires
-goes_on_at-requires c = (done-of c.before.before.before.before.before.before.before.before.before.before.before.before.before.before.before.before.before).requires.put.room
+goes_on_at-requires c = (done-of c.before.before.before.before.before.before.before.before.before.before.before.before.before.before.before.before.before.before).requires.put.room
 
 pub general_at-requires : goal.general_at-requires
-general_at-requires c = (start_of c.before.before.before.before.before.before.before.before.before.before.before.before.before).requires.put
+general_at-requires c = (start_of c.before.before.before.before.before.before.before.before.before.before.before.before.before.before).requires.put
 
 pub returns-in-At : goal.returns-in-At
 returns-in-At c =
-    let start = start_of c.before.before.before.before.before.before.before.before.before.before.before.before.before.before.before.before.before.before.before.before.before.before.before.before.before.before.before.before.before.before.before.before in let a = start.args in
+    let start = start_of c.before.before.before.before.before.before.before.before.before.before.before.before.before.before.before.before.before.before.before.before.before.before.before.before.before.before.before.before.before.before.before.before.before in let a = start.args in
     let sure = start.pre.put.sound in let may = c.may_enter.ensures.at _ _ c.in-At.is in
     let k = c.resume_at.auto in let s = c.resume_at.new in let w = start.fits in
     let short = low (of start) sure in let op = Op.Resume a.pc a.dst a.c a.src in
@@ -63,37 +81,37 @@ returns-in-At c =
     c.resume_at.ensures refl) c.goes_on_at.ensures
 
 pub shape_of-stack-in-Not : goal.shape_of-stack-in-Not
-shape_of-stack-in-Not c = (general-of c).general-at.auto.0
+shape_of-stack-in-Not c = (general-of c.before).general-at.auto.0
 
 pub shape_of-frames-in-Not : goal.shape_of-frames-in-Not
-shape_of-frames-in-Not c = (general-of c).general-at.auto.1.0
+shape_of-frames-in-Not c = (general-of c.before).general-at.auto.1.0
 
 pub shape_of-chain-in-Not : goal.shape_of-chain-in-Not
-shape_of-chain-in-Not c = (general-of c).general-at.auto.1.1.0
+shape_of-chain-in-Not c = (general-of c.before).general-at.auto.1.1.0
 
 pub shape_of-slots-in-Not : goal.shape_of-slots-in-Not
-shape_of-slots-in-Not c = (general-of c).general-at.auto.1.1.1.0
+shape_of-slots-in-Not c = (general-of c.before).general-at.auto.1.1.1.0
 
 pub shape_of-saved_stack-in-Not : goal.shape_of-saved_stack-in-Not
-shape_of-saved_stack-in-Not c = (general-of c).general-at.auto.1.1.1.1.0
+shape_of-saved_stack-in-Not c = (general-of c.before).general-at.auto.1.1.1.1.0
 
 pub shape_of-saved_frames-in-Not : goal.shape_of-saved_frames-in-Not
-shape_of-saved_frames-in-Not c = (general-of c).general-at.auto.1.1.1.1.1.0
+shape_of-saved_frames-in-Not c = (general-of c.before).general-at.auto.1.1.1.1.1.0
 
 pub shape_of-ready : goal.shape_of-ready
-shape_of-ready c = (general-of c).general-at.auto.1.1.1.1.1.1.0
+shape_of-ready c = (general-of c.before).general-at.auto.1.1.1.1.1.1.0
 
 pub shape_of-finalize : goal.shape_of-finalize
-shape_of-finalize c = (general-of c).general-at.auto.1.1.1.1.1.1.1.0
+shape_of-finalize c = (general-of c.before).general-at.auto.1.1.1.1.1.1.1.0
 
 pub shape_of-machine-in-Not : goal.shape_of-machine-in-Not
-shape_of-machine-in-Not c = (general-of c).general-at.auto.1.1.1.1.1.1.1.1.1.0
+shape_of-machine-in-Not c = (general-of c.before).general-at.auto.1.1.1.1.1.1.1.1.1.0
 
 pub shape_of-fuel-in-Not : goal.shape_of-fuel-in-Not
-shape_of-fuel-in-Not c = (general-of c).general-at.auto.1.1.1.1.1.1.1.1.1.1.0
+shape_of-fuel-in-Not c = (general-of c.before).general-at.auto.1.1.1.1.1.1.1.1.1.1.0
 
 pub shape_of-answers-in-Not : goal.shape_of-answers-in-Not
-shape_of-answers-in-Not c = (general-of c).general-at.auto.1.1.1.1.1.1.1.1.1.1.1.0
+shape_of-answers-in-Not c = (general-of c.before).general-at.auto.1.1.1.1.1.1.1.1.1.1.1.0
 
 pub returns-in-Not : goal.returns-in-Not
-returns-in-Not c = (general-of c).general-at.ensures
+returns-in-Not c = (general-of c.before).general-at.ensures

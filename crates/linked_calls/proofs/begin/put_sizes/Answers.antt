@@ -42,4 +42,4 @@ pub bounds-ws-24 : goal.bounds-ws-24
 bounds-ws-24 c = let h = c.requires in simp length-set (omega arith)
 
 pub returns : goal.returns
-returns c = let start = c.before in let h = start.requires in sets-splice start.args.ws.now (sizes_words start.args.sizes) 13 (omega arith)
+returns c = let h = c.requires in sets-splice c.args.ws.now (sizes_words c.args.sizes) 13 (omega arith)

@@ -10,12 +10,29 @@ use Rattle.outer_call.specs.State.{nine}
 use Rattle.memory_calls.specs.Call.{op_of}
 use Rattle.linked_calls.specs.Host.{Host, host, passes_test, gave}
 use Rattle.linked_calls.proofs.Hosts.{long-numbers, numbers, may_read, left_in, done, refused}
+use Rattle.linked_calls.proofs.call.do_call.Lts as lts
+use Rattle.linked_calls.proofs.call.do_call.Reads as reads
+use Rattle.linked_calls.proofs.call.do_call.Tie as tie
 use Rattle.linked_calls.proofs.call.do_call.Goals as goal
-use Rattle.linked_calls.proofs.call.do_call.Goals.{Else-not-ok}
+
+abbrev Start : Type 0
+Start = lts.Start tie.the-claims reads.Pre reads.Post
+
+abbrev Else-not-ok : Type 0
+Else-not-ok = lts.Else1 tie.the-claims reads.Pre reads.Post
+
+abbrev After-machine_of-m : Type 0
+After-machine_of-m = lts.After-machine_of tie.the-claims reads.Pre reads.Post
+
+abbrev After-do_read-did : Type 0
+After-do_read-did = lts.After-do_read tie.the-claims reads.Pre reads.Post
+
+abbrev After-slice_known-22-1 : Type 0
+After-slice_known-22-1 = lts.After-slice_known23 tie.the-claims reads.Pre reads.Post
 
 -- `do_call` meets its contract: refused, or what `do_read` leaves, in words. Assumes nothing.
 abbrev mem : Start → Lent
-mem c = nine c.args.stack.now c.args.frames.now c.args.chain.now c.args.slots.now c.args.saved-stack.now c.args.saved-frames.now c.args.ready.now c.args.finalize.now c.args.setup.now plain
+mem c = nine c.args.stack.now c.args.frames.now c.args.chain.now c.args.slots.now c.args.saved_stack.now c.args.saved_frames.now c.args.ready.now c.args.finalize.now c.args.setup.now plain
 
 abbrev of : Start → Host
 of c = host (mem c) c.args.machine.now c.args.fuel.now
@@ -25,21 +42,21 @@ start_of c = c.before.before.before.before.before.before.before.before.before.be
 
 -- the ways back from what `do_read` leaves
 abbrev machine-at : After-do_read-did → After-machine_of-m
-machine-at c = c.before.before.before.before.before.before.before.before.before.before.before.before.before.before
+machine-at c = c.before.before.before.before.before.before.before.before.before.before.before.before
 
 abbrev else-of : After-machine_of-m → Else-not-ok
-else-of c = c.before.before
+else-of c = c.before
 
 abbrev begin-of : After-do_read-did → Start
 begin-of c = start_of (else-of (machine-at c))
 
 abbrev left_by : After-do_read-did → Lent
-left_by c = nine c.do-read.new.0 c.do-read.new.1.0 c.do-read.new.1.1.0 c.do-read.new.1.1.1.0
-    c.do-read.new.1.1.1.1.0 c.do-read.new.1.1.1.1.1.0 c.do-read.new.1.1.1.1.1.1.0
-    c.do-read.new.1.1.1.1.1.1.1.0 (begin-of c).args.setup.now plain
+left_by c = nine c.do_read-did.new.stack c.do_read-did.new.frames c.do_read-did.new.chain c.do_read-did.new.slots
+    c.do_read-did.new.saved_stack c.do_read-did.new.saved_frames c.do_read-did.new.ready
+    c.do_read-did.new.finalize (begin-of c).args.setup.now plain
 
 sound : (c : Else-not-ok) → passes_test (of (start_of c)) ≡ true
-sound c = sym (start_of c).requires.known ∙ not-false _ c.if-not-ok.false
+sound c = sym (start_of c).requires.known ∙ c.if-not-ok.false
 
 long : (c : Else-not-ok) → let a = (start_of c).args in (25 ≤ length a.machine.now) × (4 ≤ length a.fuel.now)
 long c = let a = (start_of c).args in long-numbers a.machine.now a.fuel.now (numbers (of (start_of c)) (sound c))
@@ -56,55 +73,55 @@ shape_of-answer-then-not-ok c = c.tell.auto.0
 pub returns-then-not-ok : goal.returns-then-not-ok
 returns-then-not-ok c =
     let a = c.args in
-    refused (of c.before.before.before.before.before.before.before.before.before.before.before.before.before.before.before.before.before.before) (op_of a.call.now) a.answer.now _ a.ok (not-true _ c.if-not-ok.true) (λ i. gave (of c.before.before.before.before.before.before.before.before.before.before.before.before.before.before.before.before.before.before) (c.tell.ensures.0 i) (c.tell.ensures.1 i))
+    refused (of c.before.before.before.before.before.before.before.before.before.before.before.before.before.before.before.before.before.before.before) (op_of a.call.now) a.answer.now _ a.ok c.if-not-ok.true (λ i. gave (of c.before.before.before.before.before.before.before.before.before.before.before.before.before.before.before.before.before.before.before) (c.tell.ensures.0 i) (c.tell.ensures.1 i))
 
 pub machine_of-m-requires : goal.machine_of-m-requires
 machine_of-m-requires c = (long c.before).0
 
 pub sizes_of-sizes-requires : goal.sizes_of-sizes-requires
-sizes_of-sizes-requires c = (long c.before.before.before).0
+sizes_of-sizes-requires c = (long c.before.before).0
 
 pub fuel_of-f-requires : goal.fuel_of-f-requires
-fuel_of-f-requires c = (long c.before.before.before.before.before).1
+fuel_of-f-requires c = (long c.before.before.before).1
 
 pub do_read-did-requires : goal.do_read-did-requires
 do_read-did-requires c =
-    let at-if = else-of c.before.before.before.before.before.before.before.before.before.before.before.before.before in
+    let at-if = else-of c.before.before.before.before.before.before.before.before.before.before.before.before in
     may_read (of (start_of at-if)) (sound at-if) c.machine_of-m.result c.fuel_of-f.result c.sizes_of-sizes.result
     c.machine_of-m.ensures c.fuel_of-f.ensures c.sizes_of-sizes.ensures
 
 pub put_machine-requires : goal.put_machine-requires
-put_machine-requires c = (long (else-of (machine-at c.before.before.before.before.before.before.before.before.before.before.before.before.before.before.before.before.before.before.before))).0
+put_machine-requires c = (long (else-of (machine-at c.before.before.before.before.before.before.before.before.before.before.before.before.before.before.before.before.before.before.before.before))).0
 
 pub put_fuel-requires : goal.put_fuel-requires
-put_fuel-requires c = (long (else-of (machine-at c.before.before.before.before.before.before.before.before.before.before.before.before.before.before.before.before.before.before.before.before.before.before.before))).1
+put_fuel-requires c = (long (else-of (machine-at c.before.before.before.before.before.before.before.before.before.before.before.before.before.before.before.before.before.before.before.before.before.before.before.before))).1
 
 pub tell-requires-2 : goal.tell-requires-2
-tell-requires-2 c = (begin-of c.before.before.before.before.before.before.before.before.before.before.before.before.before.before.before.before.before.before.before.before.before.before.before.before.before.before.before).requires.room
+tell-requires-2 c = (begin-of c.before.before.before.before.before.before.before.before.before.before.before.before.before.before.before.before.before.before.before.before.before.before.before.before.before.before.before.before).requires.room
 
 pub shape_of-stack : goal.shape_of-stack
-shape_of-stack c = (do-read-of c).do-read.auto.0
+shape_of-stack c = (do-read-of c.before).do-read.auto.0
 
 pub shape_of-frames : goal.shape_of-frames
-shape_of-frames c = (do-read-of c).do-read.auto.1.0
+shape_of-frames c = (do-read-of c.before).do-read.auto.1.0
 
 pub shape_of-chain : goal.shape_of-chain
-shape_of-chain c = (do-read-of c).do-read.auto.1.1.0
+shape_of-chain c = (do-read-of c.before).do-read.auto.1.1.0
 
 pub shape_of-slots : goal.shape_of-slots
-shape_of-slots c = (do-read-of c).do-read.auto.1.1.1.0
+shape_of-slots c = (do-read-of c.before).do-read.auto.1.1.1.0
 
 pub shape_of-saved_stack : goal.shape_of-saved_stack
-shape_of-saved_stack c = (do-read-of c).do-read.auto.1.1.1.1.0
+shape_of-saved_stack c = (do-read-of c.before).do-read.auto.1.1.1.1.0
 
 pub shape_of-saved_frames : goal.shape_of-saved_frames
-shape_of-saved_frames c = (do-read-of c).do-read.auto.1.1.1.1.1.0
+shape_of-saved_frames c = (do-read-of c.before).do-read.auto.1.1.1.1.1.0
 
 pub shape_of-ready : goal.shape_of-ready
-shape_of-ready c = (do-read-of c).do-read.auto.1.1.1.1.1.1.0
+shape_of-ready c = (do-read-of c.before).do-read.auto.1.1.1.1.1.1.0
 
 pub shape_of-finalize : goal.shape_of-finalize
-shape_of-finalize c = (do-read-of c).do-read.auto.1.1.1.1.1.1.1.0
+shape_of-finalize c = (do-read-of c.before).do-read.auto.1.1.1.1.1.1.1.0
 
 pub shape_of-machine : goal.shape_of-machine
 shape_of-machine c = c.put_machine.auto.0
@@ -117,7 +134,7 @@ shape_of-answer c = c.tell-2.auto.0
 
 pub returns : goal.returns
 returns c =
-    let did = do-read-of c in let at_op = did.before.before.before.before.before.before.before.before.before in let at_fuel = at_op.before in
+    let did = do-read-of c.before in let at_op = did.before.before.before.before.before.before.before.before.before in let at_fuel = at_op.before in
     let at-machine = machine-at did in let at-if = else-of at-machine in let start = start_of at-if in let a = start.args in let r = op_of a.call.now in
     done (of start) r a.answer.now _ a.ok (not-false _ at-if.if1.left)
     (left_in (of start) r a.answer.now at-machine.machine-of.result at_fuel.fuel-of.result at_op.op-of.result (left_by did) did.do-read.result _ _ _ c.tell-2.result

@@ -10,12 +10,20 @@ use Rattle.outer_call.specs.State.{nine}
 use Rattle.linked_calls.specs.Host.{Host, host, passes_test}
 use Rattle.linked_calls.proofs.Hosts.{long-numbers, numbers}
 use Rattle.linked_calls.proofs.Others.{grant-refused, grant-done}
+use Rattle.linked_calls.proofs.grant.do_grant.Lts as lts
+use Rattle.linked_calls.proofs.grant.do_grant.Reads as reads
+use Rattle.linked_calls.proofs.grant.do_grant.Tie as tie
 use Rattle.linked_calls.proofs.grant.do_grant.Goals as goal
-use Rattle.linked_calls.proofs.grant.do_grant.Goals.{Else-not-ok}
+
+abbrev Start : Type 0
+Start = lts.Start tie.the-claims reads.Pre reads.Post
+
+abbrev Else-not-ok : Type 0
+Else-not-ok = lts.Else1 tie.the-claims reads.Pre reads.Post
 
 -- `do_grant` meets its contract: refused, or as `granted` says, in words. Assumes nothing.
 abbrev mem : Start → Lent
-mem c = nine c.args.stack.now c.args.frames.now c.args.chain.now c.args.slots.now c.args.saved-stack.now c.args.saved-frames.now c.args.ready.now c.args.finalize.now c.args.setup.now plain
+mem c = nine c.args.stack.now c.args.frames.now c.args.chain.now c.args.slots.now c.args.saved_stack.now c.args.saved_frames.now c.args.ready.now c.args.finalize.now c.args.setup.now plain
 
 abbrev of : Start → Host
 of c = host (mem c) c.args.machine.now c.args.fuel.now
@@ -24,7 +32,7 @@ abbrev start_of : Else-not-ok → Start
 start_of c = c.before.before.before.before.before.before.before.before.before.before.before.before.before
 
 sound : (c : Else-not-ok) → passes_test (of (start_of c)) ≡ true
-sound c = sym (start_of c).requires.known ∙ not-false _ c.if-not-ok.false
+sound c = sym (start_of c).requires.known ∙ c.if-not-ok.false
 
 long : (c : Else-not-ok) → let a = (start_of c).args in (25 ≤ length a.machine.now) × (4 ≤ length a.fuel.now)
 long c = let a = (start_of c).args in long-numbers a.machine.now a.fuel.now (numbers (of (start_of c)) (sound c))
@@ -38,10 +46,10 @@ shape_of-answer-then-not-ok c = c.tell.auto.0
 pub returns-then-not-ok : goal.returns-then-not-ok
 returns-then-not-ok c =
     let a = c.args in
-    grant-refused (of c.before.before.before.before.before.before.before.before.before.before.before.before.before.before.before.before.before) a.amount a.answer.now c.requires.room a.ok c.requires.known (not-true _ c.if-not-ok.true) _ c.tell.result c.tell.ensures.0 c.tell.ensures.1
+    grant-refused (of c.before.before.before.before.before.before.before.before.before.before.before.before.before.before.before.before.before.before) a.amount a.answer.now c.requires.room a.ok c.requires.known c.if-not-ok.true _ c.tell.result c.tell.ensures.0 c.tell.ensures.1
 
 pub machine_of-m-requires : goal.machine_of-m-requires
-machine_of-m-requires c = (long c).0
+machine_of-m-requires c = (long c.before).0
 
 pub fuel_of-f-requires : goal.fuel_of-f-requires
 fuel_of-f-requires c = (long c.before.before).1
@@ -63,6 +71,6 @@ returns c =
     let start = start_of c.before.before.before.before.before.before.before.before.before.before.before.before.before in
     let a = start.args in
     grant-done (of start) a.amount a.answer.now start.pre.room a.ok start.pre.known
-    (not-false _ c.if-not-ok.false)
+    c.if-not-ok.false
     c.machine_of-m.result c.fuel_of-f.result c.granted-did.result c.machine_of-m.ensures c.fuel_of-f.ensures
     c.granted-did.ensures _ _ c.tell-2.result c.put_fuel.ensures c.tell-2.ensures.0 c.tell-2.ensures.1

@@ -7,8 +7,24 @@ use lib.ListN.{length, get_or}
 use lib.Dec.{leb, eqb}
 use borrow.Author.Tests.{le-leb, lt-leb, eq-eqb, ne_eqb}
 use Rattle.check_tables.proofs.Bools.{Left, upto, from, pass, stop, last}
+use Rattle.linked_calls.proofs.tested.numbers_ok.Lts as lts
+use Rattle.linked_calls.proofs.tested.numbers_ok.Reads as reads
 use Rattle.linked_calls.proofs.tested.numbers_ok.Goals as goal
-use Rattle.linked_calls.proofs.tested.numbers_ok.Goals.{Else-fuel-gt1, Else-fuel-lt-FUEL_WIDTH, Else-machine-gt1, Else-machine-lt-MACHINE_WIDTH, Start}
+
+abbrev Start : Type 0
+Start = lts.Start reads.Pre reads.Post
+
+abbrev Else-machine-lt-MACHINE_WIDTH : Type 0
+Else-machine-lt-MACHINE_WIDTH = lts.Else1 reads.Pre reads.Post
+
+abbrev Else-fuel-lt-FUEL_WIDTH : Type 0
+Else-fuel-lt-FUEL_WIDTH = lts.Else2 reads.Pre reads.Post
+
+abbrev Else-machine-gt1 : Type 0
+Else-machine-gt1 = lts.Else3 reads.Pre reads.Post
+
+abbrev Else-fuel-gt1 : Type 0
+Else-fuel-gt1 = lts.Else4 reads.Pre reads.Post
 
 -- `numbers_ok` meets its contract: each test fails the whole, and the last decides it. Assumes nothing.
 abbrev tests : Start → List Bool
@@ -42,20 +58,20 @@ pub returns-then-fuel-lt-FUEL_WIDTH : goal.returns-then-fuel-lt-FUEL_WIDTH
 returns-then-fuel-lt-FUEL_WIDTH c = stop (passed-1 c.before) (lt-leb _ _ c.if-fuel-lt-FUEL_WIDTH.true)
 
 pub returns-then-machine-gt1 : goal.returns-then-machine-gt1
-returns-then-machine-gt1 c = stop (passed-2 c.before.before) (lt-leb _ _ c.if-machine-gt1.true)
+returns-then-machine-gt1 c = stop (passed-2 c.before.before.before) (lt-leb _ _ c.if-machine-gt1.true)
 
 pub returns-then-fuel-gt1 : goal.returns-then-fuel-gt1
-returns-then-fuel-gt1 c = stop (passed-3 c.before.before) (lt-leb _ _ c.if-fuel-gt1.true)
+returns-then-fuel-gt1 c = stop (passed-3 c.before.before.before) (lt-leb _ _ c.if-fuel-gt1.true)
 
 pub returns-then-fuel-eq1 : goal.returns-then-fuel-eq1
-returns-then-fuel-eq1 c = let fs = c.args.fuel.now in last (passed-4 c.before.before) (sym (rw (eq-eqb (get_or fs 1 0) 1 c.if-fuel-eq1.true)))
+returns-then-fuel-eq1 c = let fs = c.args.fuel.now in last (passed-4 c.before.before.before) (sym (rw (eq-eqb (get_or fs 1 0) 1 c.if-fuel-eq1.true)))
 
 pub returns-then-fuel-ne0 : goal.returns-then-fuel-ne0
 returns-then-fuel-ne0 c =
     let fs = c.args.fuel.now in
-    last (passed-4 c.before.before.before.before) (sym (rw (ne_eqb (get_or fs 1 0) 1 c.if-fuel-eq1.false, ne_eqb (get_or fs 1 0) 0 c.if-fuel-ne0.true)))
+    last (passed-4 c.before.before.before.before.before) (sym (rw (ne_eqb (get_or fs 1 0) 1 c.if-fuel-eq1.false, ne_eqb (get_or fs 1 0) 0 c.if-fuel-ne0.true)))
 
 pub returns : goal.returns
 returns c =
     let fs = c.args.fuel.now in
-    last (passed-4 c.before.before.before.before.before) (sym (rw (ne_eqb (get_or fs 1 0) 1 c.if-fuel-eq1.false, eq-eqb (get_or fs 1 0) 0 c.if-fuel-ne0.false)))
+    last (passed-4 c.before.before.before.before.before.before) (sym (rw (ne_eqb (get_or fs 1 0) 1 c.if-fuel-eq1.false, eq-eqb (get_or fs 1 0) 0 c.if-fuel-ne0.false)))

@@ -15,8 +15,31 @@ use Rattle.linked_calls.specs.Words.{machine_in, sizes_in}
 use Rattle.linked_switch.specs.Words.{record_at}
 use Rattle.linked_switch.specs.Enters.{top_in, to_enter}
 use Rattle.linked_switch.proofs.Enterable.{no-frame, no_fuel, no-dst, no-coro, no_src, no_place, no-state, no_frames, no-depth, no_stack, at_slot}
+use Rattle.linked_switch.proofs.enters.may_enter.Lts as lts
+use Rattle.linked_switch.proofs.enters.may_enter.Reads as reads
+use Rattle.linked_switch.proofs.enters.may_enter.Tie as tie
 use Rattle.linked_switch.proofs.enters.may_enter.Goals as goal
-use Rattle.linked_switch.proofs.enters.may_enter.Goals.{After-coro_place, After-is_resumable, In-At-2}
+
+abbrev Start : Type 0
+Start = lts.Start tie.the-claims reads.Pre reads.Post
+
+abbrev Else-fuel-eq0 : Type 0
+Else-fuel-eq0 = lts.Else2 tie.the-claims reads.Pre reads.Post
+
+abbrev Else-machine-base : Type 0
+Else-machine-base = lts.Else3 tie.the-claims reads.Pre reads.Post
+
+abbrev Else-wide-src : Type 0
+Else-wide-src = lts.Else6 tie.the-claims reads.Pre reads.Post
+
+abbrev After-coro_place : Type 0
+After-coro_place = lts.After-coro_place tie.the-claims reads.Pre reads.Post
+
+abbrev In-At-2 : Type 0
+In-At-2 = lts.After-i tie.the-claims reads.Pre reads.Post
+
+abbrev After-is_resumable : Type 0
+After-is_resumable = lts.After-is_resumable tie.the-claims reads.Pre reads.Post
 
 -- `may_enter` meets its contract: each test that fails is one of the definition's, and those that are passed tell their part. Assumes nothing.
 abbrev start_of : After-coro_place → Start
@@ -70,40 +93,40 @@ pub returns-then-wide-src : goal.returns-then-wide-src
 returns-then-wide-src c = no_src (omega arith)
 
 pub state_at-state-requires : goal.state_at-state-requires
-state_at-state-requires c = slot c.before
+state_at-state-requires c = slot c.before.before
 
 pub returns-then-not-is_resumable : goal.returns-then-not-is_resumable
-returns-then-not-is_resumable c = no-state (found c.before.before.before.before) (sym (state-of c.before) ∙ not-true _ c.if-not-is_resumable.true)
+returns-then-not-is_resumable c = no-state (found c.before.before.before.before.before) (sym (state-of c.before.before) ∙ c.if-not-is_resumable.true)
 
 pub frames_at-deep-requires : goal.frames_at-deep-requires
-frames_at-deep-requires c = slot c.before.before.before.before
+frames_at-deep-requires c = slot c.before.before.before.before.before
 
 pub returns-then-deep-eq0 : goal.returns-then-deep-eq0
-returns-then-deep-eq0 c = no_frames (found c.before.before.before.before.before.before) (sym c.frames_at-deep.ensures ∙ c.if-deep-eq0.true)
+returns-then-deep-eq0 c = no_frames (found c.before.before.before.before.before.before.before) (sym c.frames_at-deep.ensures ∙ c.if-deep-eq0.true)
 
 pub returns-then-machine-deep : goal.returns-then-machine-deep
-returns-then-machine-deep c = no-depth (found c.before.before.before.before.before.before.before.before.before) (omega arith)
+returns-then-machine-deep c = no-depth (found c.before.before.before.before.before.before.before.before.before.before) (omega arith)
 
 pub regs_at-requires : goal.regs_at-requires
-regs_at-requires c = slot c.before.before.before.before.before.before.before.before.before.before.before
+regs_at-requires c = slot c.before.before.before.before.before.before.before.before.before.before.before.before
 
 pub returns-then-machine-regs_at : goal.returns-then-machine-regs_at
-returns-then-machine-regs_at c = no_stack (found c.before.before.before.before.before.before.before.before.before.before.before.before.before) (omega arith)
+returns-then-machine-regs_at c = no_stack (found c.before.before.before.before.before.before.before.before.before.before.before.before.before.before) (omega arith)
 
 pub returns-in-Not : goal.returns-in-Not
-returns-in-Not c = no_place (sym c.in-Not.is ∙ named c.before.before)
+returns-in-Not c = no_place (sym c.in-Not.is ∙ named c.before.before.before)
 
 pub returns-else-machine-regs_at : goal.returns-else-machine-regs_at
 returns-else-machine-regs_at c =
-    let at-if6 = if6-of c.before.before.before.before.before.before.before.before.before.before.before.before.before.before.before in let at-if3 = if3-of at-if6 in let at-if2 = if2-of at-if3 in
-    let start = start_of c.before.before.before.before.before.before.before.before.before.before.before.before.before.before.before in let ms = start.args.machine.now in let k = record_at start.args.slots.now c.in-At.i in
+    let at-if6 = if6-of c.before.before.before.before.before.before.before.before.before.before.before.before.before.before.before.before in let at-if3 = if3-of at-if6 in let at-if2 = if2-of at-if3 in
+    let start = start_of c.before.before.before.before.before.before.before.before.before.before.before.before.before.before.before.before in let ms = start.args.machine.now in let k = record_at start.args.slots.now c.in-At.i in
     let low = at-if3.before.before.base-at.ensures in let above = at-if3.if3.left in let in_c = at-if6.before.if5.left in
     let some = some-active _ at-if2.before.if1.left in let deep = start.pre.deep in let high = start.pre.high in
-    let state = sym (state-of c.before.before.before.before.before.before.before.before.before.before) ∙ not-false _ c.if-not-is_resumable.false in
+    let state = sym (state-of c.before.before.before.before.before.before.before.before.before.before.before) ∙ c.if-not-is_resumable.false in
     let n = c.frames_at-deep.ensures in let r = c.regs_at.ensures in
     let saved : k.frames ≡ 0 → ⊥ = λ z. c.if-deep-eq0.false (n ∙ z) in
     let under = c.if-machine-deep.false in let fitted = c.if-machine-regs_at.false in
-    at_slot (found c.before.before.before.before.before.before.before.before.before.before.before.before.before) state saved (omega (arith, n, deep, under)) (omega (arith, r, high, fitted))
+    at_slot (found c.before.before.before.before.before.before.before.before.before.before.before.before.before.before) state saved (omega (arith, n, deep, under)) (omega (arith, r, high, fitted))
     (record {
       some = some;
       paid = some-active _ at-if2.if2.left;

@@ -6,7 +6,7 @@ pub bounds-machine-18 : goal.bounds-machine-18
 bounds-machine-18 c = let h = c.requires.words in omega (arith, h)
 
 pub overflow_mul-at : goal.overflow_mul-at
-overflow_mul-at c = let start = c.before.before.before.before.before.before in let inside = start.requires.fits.in-saved in record { fits = omega (arith, inside, start.well-formed) }
+overflow_mul-at c = let inside = c.requires.fits.in-saved in record { fits = omega (arith, inside, c.well_formed) }
 
 pub bounds-machine-0 : goal.bounds-machine-0
 bounds-machine-0 c = let h = c.requires.words in omega (arith, h)
@@ -18,10 +18,10 @@ pub bounds-machine-13 : goal.bounds-machine-13
 bounds-machine-13 c = let h = c.requires.words in omega (arith, h)
 
 pub overflow_mul-from : goal.overflow_mul-from
-overflow_mul-from c = let start = c.before.before.before.before.before.before.before.before.before.before.before.before.before.before.before in let deep = start.requires.fits.deep in record { fits = omega (arith, deep, start.well-formed) }
+overflow_mul-from c = let deep = c.requires.fits.deep in record { fits = omega (arith, deep, c.well_formed) }
 
 pub overflow_mul-from-2 : goal.overflow_mul-from-2
-overflow_mul-from-2 c = let start = c.before.before.before.before.before.before.before.before.before.before.before.before.before.before.before in let inside = start.requires.fits.leaving.in-saved in record { fits = omega (arith, inside, start.well-formed) }
+overflow_mul-from-2 c = let inside = c.requires.fits.leaving.in-saved in record { fits = omega (arith, inside, c.well_formed) }
 
 pub bounds-machine-1 : goal.bounds-machine-1
 bounds-machine-1 c = let h = c.requires.words in omega (arith, h)

@@ -15,8 +15,40 @@ use Rattle.linked_switch.specs.Words.{record_at}
 use Rattle.linked_switch.specs.Leave.{innermost_in}
 use Rattle.linked_switch.specs.Leaves.{by_resume, to_leave}
 use Rattle.linked_switch.proofs.Leavable.{no-frame, no_fuel, none_runs, no-dst, no_src, not-resume, no-resume, no_place, closing, too_wide, too-deep, no_key, no_word, at_slot}
+use Rattle.linked_switch.proofs.leaves.may_leave.Lts as lts
+use Rattle.linked_switch.proofs.leaves.may_leave.Reads as reads
+use Rattle.linked_switch.proofs.leaves.may_leave.Tie as tie
 use Rattle.linked_switch.proofs.leaves.may_leave.Goals as goal
-use Rattle.linked_switch.proofs.leaves.may_leave.Goals.{After-active_at-a, After-base_at-base, After-coro_place, After-next_key, In-At-2}
+
+abbrev Start : Type 0
+Start = lts.Start tie.the-claims reads.Pre reads.Post
+
+abbrev Else-fuel-eq0 : Type 0
+Else-fuel-eq0 = lts.Else2 tie.the-claims reads.Pre reads.Post
+
+abbrev Else-machine-eq0-2 : Type 0
+Else-machine-eq0-2 = lts.Else3 tie.the-claims reads.Pre reads.Post
+
+abbrev Else-width-src : Type 0
+Else-width-src = lts.Else6 tie.the-claims reads.Pre reads.Post
+
+abbrev After-active_at-a : Type 0
+After-active_at-a = lts.After-active_at tie.the-claims reads.Pre reads.Post
+
+abbrev After-coro_place : Type 0
+After-coro_place = lts.After-coro_place tie.the-claims reads.Pre reads.Post
+
+abbrev In-At-2 : Type 0
+In-At-2 = lts.After-i tie.the-claims reads.Pre reads.Post
+
+abbrev After-base_at-base : Type 0
+After-base_at-base = lts.After-base_at2 tie.the-claims reads.Pre reads.Post
+
+abbrev Else-maxframes_at-machine : Type 0
+Else-maxframes_at-machine = lts.Else9 tie.the-claims reads.Pre reads.Post
+
+abbrev After-next_key : Type 0
+After-next_key = lts.After-next_key tie.the-claims reads.Pre reads.Post
 
 -- `may_leave` meets its contract: each test that fails is one of the definition's, and those that are passed tell their part. Assumes nothing.
 abbrev start_of : After-active_at-a → Start
@@ -101,68 +133,68 @@ pub returns-in_default : goal.returns-in_default
 returns-in_default c = no-resume (ap (λ (x : Active). by_resume x.driver) (sym c.active_at-a.ensures) ∙ not-resume c.active_at-a.result.driver c.in_default.in_default-own.keys2)
 
 pub bounds-machine-3 : goal.bounds-machine-3
-bounds-machine-3 c = let h = (start_of c.before.before.before.before).requires.words in omega (arith, h)
+bounds-machine-3 c = let h = (start_of c.before.before.before.before.before).requires.words in omega (arith, h)
 
 pub coro_place-requires : goal.coro_place-requires
-coro_place-requires c = (start_of c.before.before.before.before).requires.in-slots
+coro_place-requires c = (start_of c.before.before.before.before.before).requires.in-slots
 
 pub closing_at-requires : goal.closing_at-requires
-closing_at-requires c = slot c.before
+closing_at-requires c = slot c.before.before
 
 pub returns-then-closing_at : goal.returns-then-closing_at
-returns-then-closing_at c = closing (found c.before.before.before) (sym c.Closing-at.ensures ∙ c.if-closing_at.true)
+returns-then-closing_at c = closing (found c.before.before.before.before) (sym c.Closing-at.ensures ∙ c.if-closing_at.true)
 
 pub base_at-base-requires : goal.base_at-base-requires
-base_at-base-requires c = let f = floored c.before.before.before.before.before.before.before.before.before.before in let h = (start_of c.before.before.before.before.before.before.before.before.before.before).requires.on-frames in omega (arith, f, h)
+base_at-base-requires c = let f = floored c.before.before.before.before.before.before.before.before.before.before.before in let h = (start_of c.before.before.before.before.before.before.before.before.before.before.before).requires.on-frames in omega (arith, f, h)
 
 pub maxregs_at-requires : goal.maxregs_at-requires
-maxregs_at-requires c = slot c.before.before.before.before
+maxregs_at-requires c = slot c.before.before.before.before.before
 
 pub bounds-machine-0-in-At : goal.bounds-machine-0-in-At
-bounds-machine-0-in-At c = let h = (start_of c.before.before.before.before.before.before.before.before.before.before.before.before.before).requires.words in omega (arith, h)
+bounds-machine-0-in-At c = let h = (start_of c.before.before.before.before.before.before.before.before.before.before.before.before.before.before).requires.words in omega (arith, h)
 
 pub overflow_sub-machine-in-At : goal.overflow_sub-machine-in-At
 overflow_sub-machine-in-At c =
-    let e = based c.before.before in
-    let h = (start_of c.before.before.before.before.before.before.before.before.before.before.before.before.before).requires.base (runs c.before.before.before.before.before.before.before.before.before.before.before.before.before) in omega (arith, h, e)
+    let e = based c.before.before.before in
+    let h = (start_of c.before.before.before.before.before.before.before.before.before.before.before.before.before.before).requires.base (runs c.before.before.before.before.before.before.before.before.before.before.before.before.before.before) in omega (arith, h, e)
 
 pub returns-then-maxregs_at-machine : goal.returns-then-maxregs_at-machine
-returns-then-maxregs_at-machine c = let e = based c.before.before.before in let n = c.maxregs_at.ensures in too_wide (found c.before.before.before.before.before.before.before) (omega (arith, e, n, c.if-maxregs_at-machine.true))
+returns-then-maxregs_at-machine c = let e = based c.before.before.before.before in let n = c.maxregs_at.ensures in too_wide (found c.before.before.before.before.before.before.before.before) (omega (arith, e, n, c.if-maxregs_at-machine.true))
 
 pub maxframes_at-requires : goal.maxframes_at-requires
-maxframes_at-requires c = slot c.before.before.before.before.before.before.before
+maxframes_at-requires c = slot c.before.before.before.before.before.before.before.before
 
 pub bounds-machine-1-in-At : goal.bounds-machine-1-in-At
-bounds-machine-1-in-At c = let h = (start_of c.before.before.before.before.before.before.before.before.before.before.before.before.before.before.before.before).requires.words in omega (arith, h)
+bounds-machine-1-in-At c = let h = (start_of c.before.before.before.before.before.before.before.before.before.before.before.before.before.before.before.before.before).requires.words in omega (arith, h)
 
 pub overflow_sub-machine-in-At-2 : goal.overflow_sub-machine-in-At-2
-overflow_sub-machine-in-At-2 c = let f = floored c.before.before.before.before.before.before.before.before.before.before.before.before.before.before.before.before.before in omega (arith, f)
+overflow_sub-machine-in-At-2 c = let f = floored c.before.before.before.before.before.before.before.before.before.before.before.before.before.before.before.before.before.before in omega (arith, f)
 
 pub returns-then-maxframes_at-machine : goal.returns-then-maxframes_at-machine
 returns-then-maxframes_at-machine c =
-    let f = ap (λ (x : Active). x.floor) (active-of c.before.before.before.before.before.before.before.before.before.before.before).active-at.ensures in let n = c.maxframes_at.ensures in
-    too-deep (found c.before.before.before.before.before.before.before.before.before.before.before) (omega (arith, f, n, c.if-maxframes_at-machine.true))
+    let f = ap (λ (x : Active). x.floor) (active-of c.before.before.before.before.before.before.before.before.before.before.before.before).active-at.ensures in let n = c.maxframes_at.ensures in
+    too-deep (found c.before.before.before.before.before.before.before.before.before.before.before.before) (omega (arith, f, n, c.if-maxframes_at-machine.true))
 
 pub largest_at-requires : goal.largest_at-requires
-largest_at-requires c = slot c.before.before.before.before.before.before.before.before.before.before.before
+largest_at-requires c = slot c.before.before.before.before.before.before.before.before.before.before.before.before
 
 pub returns-in-Not : goal.returns-in-Not
-returns-in-Not c = no_place (sym c.in-Not.is ∙ named c.before.before)
+returns-in-Not c = no_place (sym c.in-Not.is ∙ named c.before.before.before)
 
 pub returns-in-Over : goal.returns-in-Over
-returns-in-Over c = let at-next-key = c.before.before in no_key (found (i-of at-next-key)) (sym c.in-Over.is ∙ next-key at-next-key)
+returns-in-Over c = no_key (found (i-of c.before.before.before)) (sym c.in-Over.is ∙ next-key c.before.before.before)
 
 pub returns-in-Large : goal.returns-in-Large
-returns-in-Large c = no_word (found (i-of c.before.before.before.before.before.before)) (sym c.in-Fits.is ∙ next-key c.before.before.before.before.before.before) (sym c.in-Large.is ∙ c.inline_int.ensures)
+returns-in-Large c = no_word (found (i-of c.before.before.before.before.before.before.before)) (sym c.in-Fits.is ∙ next-key c.before.before.before.before.before.before.before) (sym c.in-Large.is ∙ c.inline_int.ensures)
 
 pub returns-in-At-inline_int : goal.returns-in-At-inline_int
 returns-in-At-inline_int c =
-    let at-active-at = active-of c.before.before.before.before.before.before.before.before.before.before.before.before.before.before.before.before.before.before.before.before in let is = at-active-at.active-at.ensures in
+    let at-active-at = active-of c.before.before.before.before.before.before.before.before.before.before.before.before.before.before.before.before.before.before.before.before.before in let is = at-active-at.active-at.ensures in
     let at-if6 = if6-of at-active-at in let at-if3 = if3-of at-if6 in let at-if2 = if2-of at-if3 in
     let start = start_of at-active-at in let low = at-if6.before.before.before.before.before.base-at.ensures in let above = at-if6.before.before.before.if4.left in
-    let run = runs at-active-at in let e = based (base-of c.before.before.before.before.before.before.before.before.before) in let f = ap (λ (x : Active). x.floor) is in
+    let run = runs at-active-at in let e = based (base-of c.before.before.before.before.before.before.before.before.before.before) in let f = ap (λ (x : Active). x.floor) is in
     let wide = c.maxregs_at.ensures in let deep = c.maxframes_at.ensures in
-    at_slot (found c.before.before.before.before.before.before.before.before.before.before.before.before.before.before.before.before.before.before.before.before)
+    at_slot (found c.before.before.before.before.before.before.before.before.before.before.before.before.before.before.before.before.before.before.before.before.before)
     (record {
       some = some-active _ at-if2.before.if1.left;
       paid = some-active _ at-if2.if2.left;
@@ -172,15 +204,15 @@ returns-in-At-inline_int c =
           record {
             running = run;
             floor = start.pre.floor run;
-            found = found c.before.before.before.before.before.before.before.before.before.before.before.before.before.before.before.before.before.before.before.before;
+            found = found c.before.before.before.before.before.before.before.before.before.before.before.before.before.before.before.before.before.before.before.before.before;
             unclosed = sym c.Closing-at.ensures ∙ c.if-closing_at.false;
             wide = omega (arith, e, wide, c.if-maxregs_at-machine.false);
             deep = omega (arith, f, deep, c.if-maxframes_at-machine.false);
           };
       keyed =
           record {
-            next = sym c.in-Fits.is ∙ next-key c.before.before.before.before.before.before.before;
+            next = sym c.in-Fits.is ∙ next-key c.before.before.before.before.before.before.before.before;
             inline = sym c.in-At-inline_int.is ∙ c.inline_int.ensures;
           };
-      driven = ap (λ (x : Active). x.driver) (sym is) ∙ by-resume c.before.before.before.before.before.before.before.before.before.before.before.before.before.before.before.before.before.before.before.before;
+      driven = ap (λ (x : Active). x.driver) (sym is) ∙ by-resume c.before.before.before.before.before.before.before.before.before.before.before.before.before.before.before.before.before.before.before.before.before;
     })

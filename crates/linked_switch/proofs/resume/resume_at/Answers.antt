@@ -12,11 +12,17 @@ use Rattle.linked_calls.specs.Words.{machine_in, sizes_in, fuel_in}
 use Rattle.linked_switch.specs.Went.{goes_on}
 use Rattle.linked_switch.specs.Words.{record_at}
 use Rattle.linked_switch.proofs.Resuming.{held-only, spent-in, spent-words, grown-in, grown-words, paid, paid-rep, paid-sound, resume-done, told-as}
+use Rattle.linked_switch.proofs.resume.resume_at.Lts as lts
+use Rattle.linked_switch.proofs.resume.resume_at.Reads as reads
+use Rattle.linked_switch.proofs.resume.resume_at.Tie as tie
 use Rattle.linked_switch.proofs.resume.resume_at.Goals as goal
+
+abbrev Start : Type 0
+Start = lts.Start tie.the-claims reads.Pre reads.Post
 
 -- `resume_at` meets the model's call: a unit of fuel, then the entry. Assumes nothing.
 abbrev mem : Start → Beside → Lent
-mem c b = lent c.args.stack.now c.args.frames.now c.args.chain.now c.args.slots.now c.args.saved-stack.now c.args.saved-frames.now b
+mem c b = lent c.args.stack.now c.args.frames.now c.args.chain.now c.args.slots.now c.args.saved_stack.now c.args.saved_frames.now b
 
 pub enter-requires : goal.enter-requires
 enter-requires c =
@@ -39,7 +45,7 @@ returns c =
     let rich : get_or fs 0 0 ≡ 0 → ⊥ = λ z. let h = e.paid in omega (arith, h, z) in
     record {
       met = λ w b rep snd.
-          let M = mem c.before.before.before.before.before.before.before.before.before.before.before.before.before.before.before.before.before.before.before.before.before.before.before.before.before.before.before.before.before.before.before b in
+          let M = mem c.before.before.before.before.before.before.before.before.before.before.before.before.before.before.before.before.before.before.before.before.before.before.before.before.before.before.before.before.before.before.before.before b in
           let w₁ = paid (sizes_in ms) M (machine_in ms) (fuel_in fs) w rep snd a.pc a.dst a.c a.src c.requires.held.narrow e.some rich in
           let r₁ = paid-rep (sizes_in ms) M (machine_in ms) (fuel_in fs) w rep snd a.pc a.dst a.c a.src c.requires.held.narrow e.some rich in
           let s₁ = paid-sound (sizes_in ms) M (machine_in ms) (fuel_in fs) w rep snd a.pc a.dst a.c a.src c.requires.held.narrow e.some rich in

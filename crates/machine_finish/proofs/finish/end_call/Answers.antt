@@ -6,8 +6,16 @@ use Rattle.memory_world.specs.Memory.{Lent, Beside, Rep, on_stack, on_slots}
 use Rattle.memory_world.specs.Lendings.{top_table, plain}
 use Rattle.machine_state.specs.Frame.{pop_top}
 use Rattle.machine_finish.proofs.Ends.{on-top, may-pop, end-applies, end-steps, call_ends}
+use Rattle.machine_finish.proofs.finish.end_call.Lts as lts
+use Rattle.machine_finish.proofs.finish.end_call.Reads as reads
+use Rattle.machine_finish.proofs.finish.end_call.Tie as tie
 use Rattle.machine_finish.proofs.finish.end_call.Goals as goal
-use Rattle.machine_finish.proofs.finish.end_call.Goals.{After-pop-n}
+
+abbrev Start : Type 0
+Start = lts.Start tie.the-claims reads.Pre reads.Post
+
+abbrev After-pop-n : Type 0
+After-pop-n = lts.After-pop tie.the-claims reads.Pre reads.Post
 
 -- `end_call` meets the definition of a call's frame: it goes, the result lands, the caller goes on. Assumes nothing.
 abbrev mem : Start → Beside → Lent
@@ -18,22 +26,22 @@ abbrev start_of : After-pop-n → Start
 start_of c = c.before.before.before.before.before.before
 
 abbrev left : After-pop-n → Beside → Lent
-left c = top_table c.pop.new.0 c.pop.new.1.0 (start_of c).args.slots.now plain
+left c = top_table c.pop-n.new.stack c.pop-n.new.frames (start_of c).args.slots.now plain
 
 popped : (c : After-pop-n) (w : World) (b : Beside) → let s = start_of c in
     Rep s.args.sizes w (mem s b) s.args.m b.fuel → Rep s.args.sizes (pop_top w) (left c b) c.pop.result b.fuel
 popped c w b rep = let a = (start_of c).args in c.pop-n.ensures a.sizes w (record { words = on_slots a.slots.now b.words; fuel = b.fuel }) rep
 
 pub pop-n-requires : goal.pop-n-requires
-pop-n-requires c = may-pop c.args.sizes (mem c.before.before.before.before.before) c.args.m c.requires.on.ok c.requires.on.some
+pop-n-requires c = may-pop c.args.sizes (mem c.before.before.before.before.before.before) c.args.m c.requires.on.ok c.requires.on.some
 
 pub apply_cont-did-requires : goal.apply_cont-did-requires
 apply_cont-did-requires c =
-    let start = start_of c.before.before.before.before.before.before.before in
+    let start = start_of c.before.before.before.before.before.before in
     let a = start.args in
     let o = start.pre.on.ok in
     let k = c.pop-n.auto in
-    end-applies a.sizes (mem start) a.m a.cont start.pre (left c.before.before.before.before.before.before.before) c.pop-n.result (popped c.before.before.before.before.before.before.before o.world o.beside o.rep)
+    end-applies a.sizes (mem start) a.m a.cont start.pre (left c.before.before.before.before.before.before) c.pop-n.result (popped c.before.before.before.before.before.before o.world o.beside o.rep)
     (record { stack = k.0; frames = k.1.0; chain = refl; slots = refl; saved_stack = refl; saved_frames = refl; ready = refl; finalize = refl; setup = refl })
 
 pub resume_in-answer-requires : goal.resume_in-answer-requires

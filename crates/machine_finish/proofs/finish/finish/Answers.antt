@@ -14,23 +14,31 @@ use Rattle.machine_state.specs.Frame.{pop_top}
 use Rattle.machine_state.proofs.Tops.{no_top}
 use Rattle.machine_state.proofs.Ways.{driver-way}
 use Rattle.machine_finish.proofs.Ends.{On, on-top, no-frame, finish-out, may-pop}
+use Rattle.machine_finish.proofs.finish.finish.Lts as lts
+use Rattle.machine_finish.proofs.finish.finish.Reads as reads
+use Rattle.machine_finish.proofs.finish.finish.Tie as tie
 use Rattle.machine_finish.proofs.finish.finish.Goals as goal
-use Rattle.machine_finish.proofs.finish.finish.Goals.{After-frame_at-f}
+
+abbrev Start : Type 0
+Start = lts.Start tie.the-claims reads.Pre reads.Post
+
+abbrev After-frame_at-f : Type 0
+After-frame_at-f = lts.After-frame_at tie.the-claims reads.Pre reads.Post
 
 -- `finish` meets the definition: without a frame, and by the way of the top frame's continuation. Assumes nothing.
 abbrev mem : Start → Beside → Lent
-mem s = let a = s.args in lent a.stack.now a.frames.now a.chain.now a.slots.now a.saved-stack.now a.saved-frames.now
+mem s = let a = s.args in lent a.stack.now a.frames.now a.chain.now a.slots.now a.saved_stack.now a.saved_frames.now
 
 -- what a pop is not lent, and what the end of a call is not
 abbrev under : Start → Beside → Beside
-under s b = record { words = on_chain s.args.chain.now (on_slots s.args.slots.now (on_saved s.args.saved-stack.now s.args.saved-frames.now b.words)); fuel = b.fuel }
+under s b = record { words = on_chain s.args.chain.now (on_slots s.args.slots.now (on_saved s.args.saved_stack.now s.args.saved_frames.now b.words)); fuel = b.fuel }
 
 abbrev beyond : Start → Beside → Beside
-beyond s b = record { words = on_chain s.args.chain.now (on_saved s.args.saved-stack.now s.args.saved-frames.now b.words); fuel = b.fuel }
+beyond s b = record { words = on_chain s.args.chain.now (on_saved s.args.saved_stack.now s.args.saved_frames.now b.words); fuel = b.fuel }
 
 -- there is a top frame, and its continuation has been read
 abbrev start_of : After-frame_at-f → Start
-start_of c = c.before.before.before.before.before.before.before.before.before.before.before
+start_of c = c.before.before.before.before.before.before.before.before.before.before
 
 some : (c : After-frame_at-f) → 1 ≤ (start_of c).args.m.depth
 some c = omega (arith, c.if-m-eq0.false)
@@ -45,20 +53,20 @@ pub returns-then-m-eq0 : goal.returns-then-m-eq0
 returns-then-m-eq0 c =
     let a = c.args in
     λ w b rep snd.
-    does a.sizes (mem c.before.before.before.before.before.before.before.before.before b) a.m a.fuel (finish a.kind a.v w) w (Answer.Exit c.result_of.result)
+    does a.sizes (mem c.before.before.before.before.before.before.before.before.before.before b) a.m a.fuel (finish a.kind a.v w) w (Answer.Exit c.result_of.result)
     (no-frame a.kind a.v w c.result_of.result (no_top w.frames a.frames.now a.m.depth rep.frames c.if-m-eq0.true) c.result_of.ensures) rep
 
 pub pop-n-requires : goal.pop-n-requires
 pop-n-requires c =
-    let start = start_of c.before.before.before.before.before in
-    may-pop start.args.sizes (mem start) start.args.m start.pre (some c.before.before.before.before.before)
+    let start = start_of c.before.before.before.before.before.before in
+    may-pop start.args.sizes (mem start) start.args.m start.pre (some c.before.before.before.before.before.before)
 
 pub end_call-did-requires : goal.end_call-did-requires
 end_call-did-requires c =
-    let start = start_of c.before.before.before.before.before.before in
+    let start = start_of c.before.before.before.before.before.before.before in
     let o = start.pre in
     record {
-      on = record { ok = record { world = o.world; beside = beyond start o.beside; rep = o.rep; sound = o.sound; room = o.room }; some = some c.before.before.before.before.before.before; top = read c.before.before.before.before.before.before };
+      on = record { ok = record { world = o.world; beside = beyond start o.beside; rep = o.rep; sound = o.sound; room = o.room }; some = some c.before.before.before.before.before.before.before; top = read c.before.before.before.before.before.before.before };
       call = sym c.Way-of.ensures ∙ c.in-Caller.is;
     }
 
@@ -72,19 +80,19 @@ finish_coro-requires c =
 
 pub returns-in-Out : goal.returns-in-Out
 returns-in-Out c =
-    let start = start_of c.before.before.before.before.before.before.before.before.before.before.before in
+    let start = start_of c.before.before.before.before.before.before.before.before.before.before.before.before in
     let a = start.args in
     let p = c.pop-n in
     let o = c.result_of-result in
     λ w b rep snd.
     does a.sizes (lent p.new.stack p.new.frames a.chain.now a.slots.now a.saved-stack.now a.saved-frames.now b) p.result a.fuel
     (finish a.kind a.v w) (pop_top w) (Answer.Exit o.result)
-    (finish-out a.kind a.v w c.frame_at-f.result.cont (top c.before.before.before.before.before.before.before.before.before.before.before w b rep) o.result (sym c.Way-of.ensures ∙ c.in-Out.is) o.ensures)
+    (finish-out a.kind a.v w c.frame_at-f.result.cont (top c.before.before.before.before.before.before.before.before.before.before.before.before w b rep) o.result (sym c.Way-of.ensures ∙ c.in-Out.is) o.ensures)
     (p.ensures a.sizes w (under start (record { words = b.words; fuel = a.fuel })) rep)
 
 pub returns-in-Caller : goal.returns-in-Caller
 returns-in-Caller c =
-    let start = start_of c.before.before.before.before.before.before.before.before.before.before.before.before.before.before in
+    let start = start_of c.before.before.before.before.before.before.before.before.before.before.before.before.before.before.before in
     λ w b rep snd. c.end_call-did.ensures w (beyond start (record { words = b.words; fuel = start.args.fuel })) rep
 
 pub returns-in-Driver : goal.returns-in-Driver

@@ -11,22 +11,30 @@ use Rattle.memory_world.specs.Lendings.{lent}
 use Rattle.machine_state.proofs.Allocation.{heap-room}
 use Rattle.coro_end.proofs.Ending.{sound-rowed}
 use Rattle.machine_finish.proofs.Ends.{On, on-top, dyn-sounds, dyn-top, popped-to, body-pops, body-asks, body_refused, body-returns}
+use Rattle.machine_finish.proofs.finish.finish_coro.Lts as lts
+use Rattle.machine_finish.proofs.finish.finish_coro.Reads as reads
+use Rattle.machine_finish.proofs.finish.finish_coro.Tie as tie
 use Rattle.machine_finish.proofs.finish.finish_coro.Goals as goal
-use Rattle.machine_finish.proofs.finish.finish_coro.Goals.{Start}
+
+abbrev Start : Type 0
+Start = lts.Start tie.the-claims reads.Pre reads.Post
+
+abbrev After-to_dyn-did : Type 0
+After-to_dyn-did = lts.After-to_dyn tie.the-claims reads.Pre reads.Post
 
 -- `finish_coro` meets the definition of a body's frame: the result converts and goes to the driver, or the frame stays. Assumes nothing.
 -- the words, with other slots
 abbrev mem : Start → List ℕ → Beside → Lent
-mem s slots = let a = s.args in lent a.stack.now a.frames.now a.chain.now slots a.saved-stack.now a.saved-frames.now
+mem s slots = let a = s.args in lent a.stack.now a.frames.now a.chain.now slots a.saved_stack.now a.saved_frames.now
 
 -- what the conversion is not lent, and what the pop is not
 abbrev around : Start → Beside → Beside
 around s b =
     let a = s.args in
-    record { words = on_stack a.stack.now (on_frames a.frames.now (on_chain a.chain.now (on_saved a.saved-stack.now a.saved-frames.now b.words))); fuel = b.fuel }
+    record { words = on_stack a.stack.now (on_frames a.frames.now (on_chain a.chain.now (on_saved a.saved_stack.now a.saved_frames.now b.words))); fuel = b.fuel }
 
 abbrev under : Start → List ℕ → Beside → Beside
-under s slots b = record { words = on_chain s.args.chain.now (on_slots slots (on_saved s.args.saved-stack.now s.args.saved-frames.now b.words)); fuel = b.fuel }
+under s slots b = record { words = on_chain s.args.chain.now (on_slots slots (on_saved s.args.saved_stack.now s.args.saved_frames.now b.words)); fuel = b.fuel }
 
 top : (s : Start) (w : World) (b : Beside) → Rep s.args.sizes w (mem s s.args.slots.now b) s.args.m s.args.fuel → On w.frames Cont.Coro
 top s w b rep = on-top s.args.sizes (mem s s.args.slots.now b) s.args.m s.args.fuel w rep s.requires.some Cont.Coro s.requires.top
@@ -39,7 +47,7 @@ to_dyn-did-requires c = let o = c.requires.ok in heap-room o.rep o.sound o.room
 
 pub pop-k-requires : goal.pop-k-requires
 pop-k-requires c =
-    let start = start_of c.before.before.before.before.before.before.before.before in let a = start.args in let o = start.pre.ok in let f = c.to_dyn-did in
+    let start = start_of c.before.before.before.before.before.before.before.before.before in let a = start.args in let o = start.pre.ok in let f = c.to_dyn-did in
     body-pops a.sizes (mem start a.slots.now) a.m start.pre a.kind a.v (mem start f.new.slots o.beside) f.result.machine
     (f.ensures o.world (around start o.beside) o.rep).world
 
@@ -53,7 +61,7 @@ coro_returned-told-requires c =
 
 pub returns-in-Refused : goal.returns-in-Refused
 returns-in-Refused c =
-    let start = start_of c.before.before.before.before.before.before in let a = start.args in let f = c.to_dyn-did in
+    let start = start_of c.before.before.before.before.before.before.before in let a = start.args in let f = c.to_dyn-did in
     λ w b rep snd.
     let d = f.ensures w (around start (record { words = b.words; fuel = a.fuel })) rep in
     body_refused a.sizes (mem start f.new.slots b) f.result.machine a.fuel w a.kind a.v (top start w b rep) c.in-Refused.e (sym c.in-Refused.is ∙ d.answer) d.world
@@ -63,7 +71,7 @@ shape_of-slots-in-Word c = c.coro_returned-told.auto.1.1.1.0 ∙ c.to_dyn-did.au
 
 pub returns-in-Word : goal.returns-in-Word
 returns-in-Word c =
-    let start = start_of c.before.before.before.before.before.before.before.before.before.before.before.before.before.before.before.before.before.before.before.before.before.before.before.before.before.before.before.before.before.before.before.before.before.before in
+    let start = start_of c.before.before.before.before.before.before.before.before.before.before.before.before.before.before.before.before.before.before.before.before.before.before.before.before.before.before.before.before.before.before.before.before.before.before.before in
     let a = start.args in let f = c.to_dyn-did in let p = c.pop-k in let g = c.coro_returned-told in
     λ w b rep snd.
     let u = (to_dyn a.kind a.v w).world in

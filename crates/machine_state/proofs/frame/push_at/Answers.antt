@@ -10,8 +10,16 @@ use Rattle.machine_state.specs.Frame.{overflowing}
 use Rattle.machine_state.proofs.Frames.{asked}
 use Rattle.machine_state.proofs.Stored.{store-sounds}
 use Rattle.machine_state.proofs.Calling.{call-refused, call-done}
+use Rattle.machine_state.proofs.frame.push_at.Lts as lts
+use Rattle.machine_state.proofs.frame.push_at.Reads as reads
+use Rattle.machine_state.proofs.frame.push_at.Tie as tie
 use Rattle.machine_state.proofs.frame.push_at.Goals as goal
-use Rattle.machine_state.proofs.frame.push_at.Goals.{After-overflows}
+
+abbrev Start : Type 0
+Start = lts.Start tie.the-claims reads.Pre reads.Post
+
+abbrev After-overflows : Type 0
+After-overflows = lts.After-overflows tie.the-claims reads.Pre reads.Post
 
 -- `push_at` meets its contract: refused, nothing is stored; else a pc stored, and a frame pushed. Assumes nothing.
 -- the ways back that several clauses take
@@ -35,28 +43,28 @@ test c =
 pub regs_at-n-requires : goal.regs_at-n-requires
 regs_at-n-requires c =
     let o = c.requires.push.ok in
-    (asked c.args.sizes o.world (mem c.before.before.before o.beside) c.args.m o.beside.fuel o.rep o.sound c.args.f c.requires.push.function o.room).function-there
+    (asked c.args.sizes o.world (mem c.before.before.before.before o.beside) c.args.m o.beside.fuel o.rep o.sound c.args.f c.requires.push.function o.room).function-there
 
 pub overflows-requires : goal.overflows-requires
 overflows-requires c =
     let o = c.requires.push.ok in
-    (asked c.args.sizes o.world (mem c.before.before.before.before o.beside) c.args.m o.beside.fuel o.rep o.sound c.args.f c.requires.push.function o.room).height
+    (asked c.args.sizes o.world (mem c.before.before.before.before.before o.beside) c.args.m o.beside.fuel o.rep o.sound c.args.f c.requires.push.function o.room).height
 
 pub returns-then-overflows : goal.returns-then-overflows
 returns-then-overflows c =
-    let s = start_of c.before in
+    let s = start_of c.before.before in
     λ w b rep snd. call-refused s.args.sizes w (mem s b) s.args.m b.fuel rep snd s.args.f s.pre.push.function s.args.closure s.args.cont s.args.pc
-    (test c.before ∙ c.if-overflows.true)
+    (test c.before.before ∙ c.if-overflows.true)
 
 pub store_pc-requires : goal.store_pc-requires
 store_pc-requires c =
-    let s = start_of c.before.before in
+    let s = start_of c.before.before.before in
     let q = s.pre.push.ok.rep.frames.within in
     record { some = s.pre.some; within = q }
 
 pub push_frame-requires : goal.push_frame-requires
 push_frame-requires c =
-    let s = start_of c.before.before.before.before.before.before in
+    let s = start_of c.before.before.before.before.before.before.before in
     let o = s.pre.push.ok in
     let frames' = c.store_pc.new.frames in
     record {
@@ -70,8 +78,8 @@ push_frame-requires c =
 
 pub returns : goal.returns
 returns c =
-    let s = start_of c.before.before.before.before.before.before.before.before.before in
+    let s = start_of c.before.before.before.before.before.before.before.before.before.before in
     λ w b rep snd.
     call-done s.args.sizes w (mem s b) s.args.m b.fuel rep snd s.args.f s.pre.push.function s.args.closure s.args.cont s.args.pc _ _ _
-    (test c.before.before.before.before.before.before.before.before.before ∙ c.if-overflows.false)
+    (test c.before.before.before.before.before.before.before.before.before.before ∙ c.if-overflows.false)
     (c.push_frame.ensures (store_pc s.args.pc w) b (c.store_pc.ensures s.args.sizes w (around s b) rep) (store-sounds s.args.pc w s.pre.narrow snd))

@@ -3,7 +3,16 @@ use mathlib.Core.Path.{refl}
 use Rattle.exec_arm.proofs.Fitting.{around}
 use Rattle.machine_step.proofs.Calls.{as_row, as_same, as-instruction, made_of, lent_ok}
 use Rattle.machine_step.proofs.Ranges.{unwind-narrow, are-instructions}
+use Rattle.machine_step.proofs.dispatch.dispatch.Lts as lts
+use Rattle.machine_step.proofs.dispatch.dispatch.Reads as reads
+use Rattle.machine_step.proofs.dispatch.dispatch.Tie as tie
 use Rattle.machine_step.proofs.dispatch.dispatch.Goals as goal
+
+abbrev Start : Type 0
+Start = lts.Start tie.the-claims reads.Pre reads.Post
+
+abbrev After-shared_slice_known-1 : Type 0
+After-shared_slice_known-1 = lts.After-shared_slice_known tie.the-claims reads.Pre reads.Post
 
 -- `dispatch` meets the definition, by the operation. Assumes nothing.
 -- from a match to the start
@@ -11,21 +20,21 @@ abbrev start_of : After-shared_slice_known-1 → Start
 start_of c = c.before.before.before.before.before.before.before.before.before
 
 pub finish-did-requires : goal.finish-did-requires
-finish-did-requires c = let s = start_of c.before.before.before.before.before.before.before.before.before in let ok = s.pre.ok in lent_ok ok ok.rep ok.room
+finish-did-requires c = let s = start_of c.before.before.before.before.before.before.before.before.before.before in let ok = s.pre.ok in lent_ok ok ok.rep ok.room
 
 pub unwind-did-requires : goal.unwind-did-requires
 unwind-did-requires c =
-    let s = start_of c.before.before.before.before.before.before.before.before.before in let ok = s.pre.ok in
+    let s = start_of c.before.before.before.before.before.before.before.before.before.before in let ok = s.pre.ok in
     record { ok = lent_ok ok ok.rep ok.room; narrow = unwind-narrow s.args.op _ _ c.in-Unwind.is s.pre.within }
 
 pub spawn_task-did-requires : goal.spawn_task-did-requires
-spawn_task-did-requires c = let s = start_of c.before.before.before.before.before in let ok = s.pre.ok in record { sizes = s.args.sizes; ok = lent_ok ok ok.rep ok.room }
+spawn_task-did-requires c = let s = start_of c.before.before.before.before.before.before in let ok = s.pre.ok in record { sizes = s.args.sizes; ok = lent_ok ok ok.rep ok.room }
 
 pub host_call-did-requires : goal.host_call-did-requires
 host_call-did-requires c = let s = start_of c.before.before.before.before.before in let ok = s.pre.ok in lent_ok ok ok.rep ok.room
 
 pub host_entry-did-requires : goal.host_entry-did-requires
-host_entry-did-requires c = let s = start_of c.before.before.before.before.before.before.before.before.before in let ok = s.pre.ok in lent_ok ok ok.rep ok.room
+host_entry-did-requires c = let s = start_of c.before.before.before.before.before.before.before.before.before.before in let ok = s.pre.ok in lent_ok ok ok.rep ok.room
 
 pub function_call-did-requires : goal.function_call-did-requires
 function_call-did-requires c = let s = start_of c.before.before.before.before.before in let ok = s.pre.ok in lent_ok ok ok.rep ok.room
@@ -34,16 +43,16 @@ pub put_word-answer-requires : goal.put_word-answer-requires
 put_word-answer-requires c = let s = start_of c.before.before.before.before.before in let ok = s.pre.ok in lent_ok ok ok.rep ok.room
 
 pub make_iterator-did-requires : goal.make_iterator-did-requires
-make_iterator-did-requires c = let s = start_of c.before.before.before.before in let ok = s.pre.ok in lent_ok ok ok.rep ok.room
+make_iterator-did-requires c = let s = start_of c.before.before.before.before.before in let ok = s.pre.ok in lent_ok ok ok.rep ok.room
 
 pub hand_over-did-requires : goal.hand_over-did-requires
-hand_over-did-requires c = let s = start_of c.before.before.before.before.before in let ok = s.pre.ok in record { sizes = s.args.sizes; ok = lent_ok ok ok.rep ok.room }
+hand_over-did-requires c = let s = start_of c.before.before.before.before.before.before in let ok = s.pre.ok in record { sizes = s.args.sizes; ok = lent_ok ok ok.rep ok.room }
 
 pub stop_run-did-requires : goal.stop_run-did-requires
-stop_run-did-requires c = let s = start_of c.before.before.before.before.before.before.before.before in let ok = s.pre.ok in lent_ok ok ok.rep ok.room
+stop_run-did-requires c = let s = start_of c.before.before.before.before.before.before.before.before.before in let ok = s.pre.ok in lent_ok ok ok.rep ok.room
 
 pub instruction-requires : goal.instruction-requires
-instruction-requires c = let s = start_of c.before.before.before.before.before.before.before.before in let ok = s.pre.ok in lent_ok ok ok.rep ok.room
+instruction-requires c = let s = start_of c.before.before.before.before.before.before.before.before.before in let ok = s.pre.ok in lent_ok ok ok.rep ok.room
 
 pub shape_of-stack-in-Finish : goal.shape_of-stack-in-Finish
 shape_of-stack-in-Finish c = search
@@ -103,7 +112,7 @@ pub shape_of-frames-in-HostCall : goal.shape_of-frames-in-HostCall
 shape_of-frames-in-HostCall c = search
 
 pub returns-in-HostCall : goal.returns-in-HostCall
-returns-in-HostCall c = let at = c.before.before.before in λ w b rep snd. as_same w at.before.before.before.before.op4.given.1 (at.host-call.ensures w (around rep) rep snd)
+returns-in-HostCall c = λ w b rep snd. as_same w c.in-HostCall.is (c.host_call-did.ensures w (around rep) rep snd)
 
 pub shape_of-stack-in-HostEntry : goal.shape_of-stack-in-HostEntry
 shape_of-stack-in-HostEntry c = search
@@ -133,7 +142,7 @@ pub shape_of-frames-in-FunctionCall : goal.shape_of-frames-in-FunctionCall
 shape_of-frames-in-FunctionCall c = search
 
 pub returns-in-FunctionCall : goal.returns-in-FunctionCall
-returns-in-FunctionCall c = let at = c.before.before.before in λ w b rep snd. as_same w at.before.before.before.before.op6.given.1 (at.function-call.ensures w (around rep) rep snd)
+returns-in-FunctionCall c = λ w b rep snd. as_same w c.in-FunctionCall.is (c.function_call-did.ensures w (around rep) rep snd)
 
 pub shape_of-stack-in-PutWord : goal.shape_of-stack-in-PutWord
 shape_of-stack-in-PutWord c = search
@@ -142,16 +151,16 @@ pub shape_of-frames-in-PutWord : goal.shape_of-frames-in-PutWord
 shape_of-frames-in-PutWord c = search
 
 pub returns-in-PutWord : goal.returns-in-PutWord
-returns-in-PutWord c = let at = c.before.before in λ w b rep snd. as_same w at.before.before.before.before.op7.given.1 (at.put_word.ensures w (around rep) rep snd)
+returns-in-PutWord c = λ w b rep snd. as_same w c.in-PutWord.is (c.put_word-answer.ensures w (around rep) rep snd)
 
 pub shape_of-slots-in-MakeIterator : goal.shape_of-slots-in-MakeIterator
 shape_of-slots-in-MakeIterator c = search
 
 pub returns-in-MakeIterator : goal.returns-in-MakeIterator
-returns-in-MakeIterator c = let at = c.before.before.before in λ w b rep snd. as_row w at.before.before.before.op8.given.1 (at.make-iterator.ensures w (around rep) rep snd)
+returns-in-MakeIterator c = λ w b rep snd. as_row w c.in-MakeIterator.is (c.make_iterator-did.ensures w (around rep) rep snd)
 
 pub returns-in-TakeOutcome : goal.returns-in-TakeOutcome
-returns-in-TakeOutcome c = let at = c.before in λ w b rep snd. as_row w at.before.enum_told.given.1 (at.take-outcome.ensures _ w (around rep) rep)
+returns-in-TakeOutcome c = λ w b rep snd. as_row w c.in-TakeOutcome.is (c.take_outcome-did.ensures _ w (around rep) rep)
 
 pub shape_of-slots-in-HandOver : goal.shape_of-slots-in-HandOver
 shape_of-slots-in-HandOver c = search
@@ -163,7 +172,7 @@ pub returns-in-HandOver : goal.returns-in-HandOver
 returns-in-HandOver c = λ w b rep snd. as_row w c.in-HandOver.is (c.hand_over-did.ensures _ w (around rep) rep)
 
 pub returns-in-Grant : goal.returns-in-Grant
-returns-in-Grant c = let at = c.before in λ w b rep snd. as_row w at.before.before.op10.given.1 (at.grant.ensures _ w (around rep) rep)
+returns-in-Grant c = λ w b rep snd. as_row w c.in-Grant.is (c.grant-did.ensures _ w (around rep) rep)
 
 pub shape_of-stack-in-StopRun : goal.shape_of-stack-in-StopRun
 shape_of-stack-in-StopRun c = search
@@ -212,5 +221,5 @@ shape_of-finalize-in_default c = search
 
 pub returns-in_default : goal.returns-in_default
 returns-in_default c =
-    let o = (start_of c.before.before.before.before.before.before.before.before.before.before.before.before.before.before.before.before.before.before.before.before.before.before.before).args.op in
+    let o = (start_of c.before.before.before.before.before.before.before.before.before.before.before.before.before.before.before.before.before.before.before.before.before.before.before.before).args.op in
     λ w b rep snd. as-instruction _ _ _ _ w o _ (are-instructions o c.in_default.in_default-own.keys14) (λ pc t arm q. c.instruction.ensures pc t arm q w (around rep) rep snd)

@@ -23,16 +23,16 @@ returns-then-not-is_function c =
     let a = c.args in
     λ w b rep snd. as-host w (Op.HostCall a.f) _ _ refl
     (host-bad a.sizes (top_setup a.stack.now a.frames.now a.setup.now plain b) a.m b.fuel w _ _ (no_frames w.frames a.frames.now a.m.depth rep.frames (let h =
-    c.if-m-ne0.false in omega arith)) (function-told a.sizes (top_setup a.stack.now a.frames.now a.setup.now plain b) a.m b.fuel w a.f _ rep c.is_function.ensures ∙ not-true _ c.if-not-is_function.true) rep)
+    c.if-m-ne0.false in omega arith)) (function-told a.sizes (top_setup a.stack.now a.frames.now a.setup.now plain b) a.m b.fuel w a.f _ rep c.is_function.ensures ∙ c.if-not-is_function.true) rep)
 
 pub host_call-requires : goal.host_call-requires
 host_call-requires c =
     let a = c.args in
-    push-fits a.sizes a.stack.now a.frames.now a.setup.now a.m c.requires a.f (sym (not-false _ c.if-not-is_function.false) ∙ c.is_function.ensures)
+    push-fits a.sizes a.stack.now a.frames.now a.setup.now a.m c.requires a.f (sym c.if-not-is_function.false ∙ c.is_function.ensures)
 
 pub returns : goal.returns
 returns c =
     let a = c.args in
     λ w b rep snd. as-host w (Op.HostCall a.f) _ _ refl
-    (host-past a.sizes _ _ b.fuel w _ _ _ (no_frames w.frames a.frames.now a.m.depth rep.frames (let h = c.if-m-ne0.false in omega arith)) (function-told a.sizes (top_setup a.stack.now a.frames.now a.setup.now plain b) a.m b.fuel w a.f _ rep c.is_function.ensures ∙ not-false _ c.if-not-is_function.false)
+    (host-past a.sizes _ _ b.fuel w _ _ _ (no_frames w.frames a.frames.now a.m.depth rep.frames (let h = c.if-m-ne0.false in omega arith)) (function-told a.sizes (top_setup a.stack.now a.frames.now a.setup.now plain b) a.m b.fuel w a.f _ rep c.is_function.ensures ∙ c.if-not-is_function.false)
     (c.host_call.ensures w b rep snd))

@@ -35,14 +35,14 @@ returns-then-not-passes c =
     let N = numbered a.sizes w (top_setup a.stack.now a.frames.now a.setup.now plain b) a.m b.fuel (get_or a.setup.now 13 0) c.base_at-base.result rep some refl c.base_at-base.ensures in
     as-frame w (Op.PutWord a.r a.v) _ _ refl
     (frame-bad a.sizes (top_setup a.stack.now a.frames.now a.setup.now plain b) a.m b.fuel w _ _ (some-frames w.frames a.frames.now a.m.depth rep.frames some)
-    (sym (c.passes.ensures w N) ∙ not-true _ c.if-not-passes.true) rep)
+    (sym (c.passes.ensures w N) ∙ c.if-not-passes.true) rep)
 
 pub put_word-requires : goal.put_word-requires
 put_word-requires c =
     let a = c.args in let ok = c.requires in let w = ok.world in let b = ok.beside in let rep = ok.rep in
     let some : 1 ≤ a.m.depth = (let h = c.if-m-eq0.false in omega arith) in
     let N = numbered a.sizes w (top_setup a.stack.now a.frames.now a.setup.now plain b) a.m b.fuel (get_or a.setup.now 13 0) c.base_at-base.result rep some refl c.base_at-base.ensures in
-    word_fits a.sizes a.stack.now a.frames.now a.setup.now a.m ok a.r a.v some (sym (c.passes.ensures w N) ∙ not-false _ c.if-not-passes.false)
+    word_fits a.sizes a.stack.now a.frames.now a.setup.now a.m ok a.r a.v some (sym (c.passes.ensures w N) ∙ c.if-not-passes.false)
 
 pub returns : goal.returns
 returns c =
@@ -51,5 +51,5 @@ returns c =
     let some : 1 ≤ a.m.depth = (let h = c.if-m-eq0.false in omega arith) in
     let N = numbered a.sizes w (top_setup a.stack.now a.frames.now a.setup.now plain b) a.m b.fuel (get_or a.setup.now 13 0) c.base_at-base.result rep some refl c.base_at-base.ensures in
     as-frame w (Op.PutWord a.r a.v) _ _ refl
-    (frame_past a.sizes _ _ b.fuel w _ _ _ (some-frames w.frames a.frames.now a.m.depth rep.frames some) (sym (c.passes.ensures w N) ∙ not-false _ c.if-not-passes.false)
+    (frame_past a.sizes _ _ b.fuel w _ _ _ (some-frames w.frames a.frames.now a.m.depth rep.frames some) (sym (c.passes.ensures w N) ∙ c.if-not-passes.false)
     (c.put_word.ensures a.sizes w (record { words = on_setup a.setup.now b.words; fuel = b.fuel }) rep))

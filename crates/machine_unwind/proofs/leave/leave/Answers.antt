@@ -10,11 +10,26 @@ use Rattle.coro_end.proofs.Known.{return_asks}
 use Rattle.coro_end.proofs.Ending.{sound-rowed}
 use Rattle.machine_unwind.proofs.Handlers.{its-cont}
 use Rattle.machine_unwind.proofs.Turning.{pop-rowed, left-plain, left_body}
+use Rattle.machine_unwind.proofs.leave.leave.Lts as lts
+use Rattle.machine_unwind.proofs.leave.leave.Reads as reads
+use Rattle.machine_unwind.proofs.leave.leave.Tie as tie
 use Rattle.machine_unwind.proofs.leave.leave.Goals as goal
+
+abbrev Start : Type 0
+Start = lts.Start tie.the-claims reads.Pre reads.Post
+
+abbrev After-cont_at-k : Type 0
+After-cont_at-k = lts.After-cont_at tie.the-claims reads.Pre reads.Post
+
+abbrev After-pop-n : Type 0
+After-pop-n = lts.After-pop tie.the-claims reads.Pre reads.Post
+
+abbrev After-is_coro : Type 0
+After-is_coro = lts.After-is_coro tie.the-claims reads.Pre reads.Post
 
 -- `leave` meets its contract: a frame gone, and its continuation followed. Assumes nothing.
 abbrev mem : Start → Beside → Lent
-mem c b = lent c.args.stack.now c.args.frames.now c.args.chain.now c.args.slots.now c.args.saved-stack.now c.args.saved-frames.now b
+mem c b = lent c.args.stack.now c.args.frames.now c.args.chain.now c.args.slots.now c.args.saved_stack.now c.args.saved_frames.now b
 
 -- the ways back that several clauses take
 abbrev gone_of : After-is_coro → After-pop-n
@@ -24,25 +39,25 @@ abbrev read_of : After-pop-n → After-cont_at-k
 read_of c = c.before.before.before
 
 abbrev start_of : After-cont_at-k → Start
-start_of c = c.before.before.before.before.before.before.before.before.before
+start_of c = c.before.before.before.before.before.before.before.before
 
 pub pop-n-requires : goal.pop-n-requires
 pop-n-requires c =
-    let start = start_of c.before.before in let a = start.args in let o = start.pre.ok in
+    let start = start_of c.before.before.before in let a = start.args in let o = start.pre.ok in
     pop-fits a.sizes (mem start o.beside) a.m a.fuel o.world o.rep o.sound start.pre.some
 
 pub passed-requires : goal.passed-requires
-passed-requires c = sym c.is_coro.ensures ∙ not-true _ c.if-not-is_coro.true
+passed-requires c = sym c.is_coro.ensures ∙ c.if-not-is_coro.true
 
 pub shape_of-stack-then-not-is_coro : goal.shape_of-stack-then-not-is_coro
-shape_of-stack-then-not-is_coro c = (gone_of c.before.before).pop.auto.0
+shape_of-stack-then-not-is_coro c = (gone_of c.before.before.before).pop.auto.0
 
 pub shape_of-frames-then-not-is_coro : goal.shape_of-frames-then-not-is_coro
-shape_of-frames-then-not-is_coro c = (gone_of c.before.before).pop.auto.1.0
+shape_of-frames-then-not-is_coro c = (gone_of c.before.before.before).pop.auto.1.0
 
 pub returns-then-not-is_coro : goal.returns-then-not-is_coro
 returns-then-not-is_coro c =
-    let gone = gone_of c.before.before in let read = read_of gone in let start = start_of read in let a = start.args in
+    let gone = gone_of c.before.before.before in let read = read_of gone in let start = start_of read in let a = start.args in
     λ w b rep snd.
     let t = some-top w.frames a.frames.now a.m.depth rep.frames start.pre.some in
     let e = gone.pop.last in
@@ -58,16 +73,16 @@ coro_escaped-did-requires c =
     let is = read.cont-at.ensures ∙ its-cont w.frames a.frames.now a.m.depth o.rep.frames t in
     let e = gone.pop.last in
     let M = lent e.0 e.1.0 a.chain.now a.slots.now a.saved-stack.now a.saved-frames.now in
-    return_asks w o.sound t.top t.rest t.are (ap is_coro (sym is) ∙ sym c.is_coro.ensures ∙ not-false _ c.if-not-is_coro.false) a.sizes M gone.pop.result
+    return_asks w o.sound t.top t.rest t.are (ap is_coro (sym is) ∙ sym c.is_coro.ensures ∙ c.if-not-is_coro.false) a.sizes M gone.pop.result
     (record { words = o.beside.words; fuel = a.fuel })
     (subst (λ fs. Rep a.sizes (pop_on fs w) (M o.beside) gone.pop.result a.fuel) t.are
     (gone.pop.ensures a.sizes w (record { words = mem start o.beside; fuel = a.fuel }) o.rep))
 
 pub shape_of-stack : goal.shape_of-stack
-shape_of-stack c = c.coro_escaped-did.auto.0 ∙ (gone_of c.before.before.before.before.before.before.before.before.before.before.before.before.before.before.before.before.before.before.before.before.before.before.before).pop.auto.0
+shape_of-stack c = c.coro_escaped-did.auto.0 ∙ (gone_of c.before.before.before.before.before.before.before.before.before.before.before.before.before.before.before.before.before.before.before.before.before.before.before.before).pop.auto.0
 
 pub shape_of-frames : goal.shape_of-frames
-shape_of-frames c = c.coro_escaped-did.auto.1.0 ∙ (gone_of c.before.before.before.before.before.before.before.before.before.before.before.before.before.before.before.before.before.before.before.before.before.before.before).pop.auto.1.0
+shape_of-frames c = c.coro_escaped-did.auto.1.0 ∙ (gone_of c.before.before.before.before.before.before.before.before.before.before.before.before.before.before.before.before.before.before.before.before.before.before.before.before).pop.auto.1.0
 
 pub shape_of-chain : goal.shape_of-chain
 shape_of-chain c = c.coro_escaped-did.auto.1.1.0
@@ -83,11 +98,11 @@ shape_of-saved_frames c = c.coro_escaped-did.auto.1.1.1.1.1.0
 
 pub returns : goal.returns
 returns c =
-    let gone = gone_of c.before.before.before.before.before.before.before.before.before.before.before.before.before.before.before.before.before.before.before.before.before.before.before in let read = read_of gone in
+    let gone = gone_of c.before.before.before.before.before.before.before.before.before.before.before.before.before.before.before.before.before.before.before.before.before.before.before.before in let read = read_of gone in
     let start = start_of read in let a = start.args in let r = c.coro_escaped-did in let e = r.new in
     λ w b rep snd.
     let t = some-top w.frames a.frames.now a.m.depth rep.frames start.pre.some in
     left_body a.value a.func a.pc a.sizes (lent e.0 e.1.0 e.1.1.0 e.1.1.1.0 e.1.1.1.1.0 e.1.1.1.1.1.0 b) r.result.machine r.result.fuel
     w t.top t.rest t.are read.cont-at.result (read.cont-at.ensures ∙ its-cont w.frames a.frames.now a.m.depth rep.frames t) r.result.answer c.halted.result
-    (sym c.is_coro.ensures ∙ not-false _ c.if-not-is_coro.false) c.halted.ensures
+    (sym c.is_coro.ensures ∙ c.if-not-is_coro.false) c.halted.ensures
     (r.ensures (pop_top w) b (gone.pop.ensures a.sizes w (record { words = mem start b; fuel = a.fuel }) rep) (pop-rowed w t.top t.rest t.are (sound-rowed w snd)))

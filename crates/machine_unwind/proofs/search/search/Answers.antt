@@ -9,8 +9,25 @@ use Rattle.memory_world.specs.Lendings.{six_setup, plain}
 use Rattle.memory_world.specs.Contract.{with}
 use Rattle.memory_world.proofs.Does.{SameLengths}
 use Rattle.machine_unwind.proofs.Along.{along-start, along-none, along-ends, along-fewer, along-more}
+use Rattle.machine_unwind.proofs.search.search.Lts as lts
+use Rattle.machine_unwind.proofs.search.search.Reads as reads
+use Rattle.machine_unwind.proofs.search.search.Tie as tie
 use Rattle.machine_unwind.proofs.search.search.Goals as goal
-use Rattle.machine_unwind.proofs.search.search.Goals.{After-turn-did, At-loop-n, In-loop-n}
+
+abbrev Start : Type 0
+Start = lts.Start tie.the-claims reads.Pre reads.Post goal.invariant-loop-n goal.decreases-loop-n
+
+abbrev At-loop-n : Type 0
+At-loop-n = lts.At-loop tie.the-claims reads.Pre reads.Post goal.invariant-loop-n goal.decreases-loop-n
+
+abbrev In-loop-n : Type 0
+In-loop-n = lts.Then1 tie.the-claims reads.Pre reads.Post goal.invariant-loop-n goal.decreases-loop-n
+
+abbrev After-turn-did : Type 0
+After-turn-did = lts.After-turn tie.the-claims reads.Pre reads.Post goal.invariant-loop-n goal.decreases-loop-n
+
+abbrev After-goes_on : Type 0
+After-goes_on = lts.After-goes_on tie.the-claims reads.Pre reads.Post goal.invariant-loop-n goal.decreases-loop-n
 
 -- the ways back that several clauses take, and the words there
 abbrev start_of : At-loop-n → Start
@@ -23,14 +40,14 @@ abbrev turn-of : After-goes_on → After-turn-did
 turn-of c = c.before.before.before.before.before.before.before.before.before.before.before.before.before.before.before
 
 abbrev at-start : Start → Beside → Lent
-at-start c = let a = c.args in six_setup a.stack.now a.frames.now a.chain.now a.slots.now a.saved-stack.now a.saved-frames.now a.setup.now plain
+at-start c = let a = c.args in six_setup a.stack.now a.frames.now a.chain.now a.slots.now a.saved_stack.now a.saved_frames.now a.setup.now plain
 
 abbrev at-loop : At-loop-n → Beside → Lent
-at-loop c = let a = c.loop in six_setup a.stack a.frames a.chain a.slots a.saved-stack a.saved-frames (start_of c).args.setup.now plain
+at-loop c = let a = c.loop-n in six_setup a.stack a.frames a.chain a.slots a.saved-stack a.saved-frames (start_of c).args.setup.now plain
 
 abbrev at_turn : After-turn-did → Beside → Lent
 at_turn c =
-    let e = c.turn.new in
+    let e = c.turn-did.new in
     six_setup e.0 e.1.0 e.1.1.0 e.1.1.1.0 e.1.1.1.1.0 e.1.1.1.1.1.0 (start_of (loop-of c)).args.setup.now plain
 
 some_left : (c : In-loop-n) → 1 ≤ c.before.before.loop.n.depth
@@ -45,64 +62,64 @@ same_turn c b =
     record { stack = k.0; frames = k.1.0; chain = k.1.1.0; slots = k.1.1.1.0; saved_stack = k.1.1.1.1.0; saved_frames = k.1.1.1.1.1.0; ready = refl; finalize = refl; setup = refl }
 
 pub loop-n-init : goal.loop-n-init
-loop-n-init c = along-start c.args.sizes c.args.value c.args.func c.args.pc (at-start c.before.before.before.before.before.before.before) (with c.args.m c.args.fuel) c.requires.ok
+loop-n-init c = along-start c.args.sizes c.args.value c.args.func c.args.pc (at-start c.before.before.before.before.before.before.before.before) (with c.args.m c.args.fuel) c.requires.ok
 
 pub turn-did-requires : goal.turn-did-requires
 turn-did-requires c = record { ok = c.loop-n.invariant.ok; some = omega (arith, c.loop-n-test.true) }
 
 pub shape_of-stack-then-not-goes_on : goal.shape_of-stack-then-not-goes_on
-shape_of-stack-then-not-goes_on c = let did = turn-of c.before in did.turn.kept.0 ∙ (so_far (loop-of did)).stack
+shape_of-stack-then-not-goes_on c = let did = turn-of c.before.before in did.turn.kept.0 ∙ (so_far (loop-of did)).stack
 
 pub shape_of-frames-then-not-goes_on : goal.shape_of-frames-then-not-goes_on
-shape_of-frames-then-not-goes_on c = let did = turn-of c.before in did.turn.kept.1.0 ∙ (so_far (loop-of did)).frames
+shape_of-frames-then-not-goes_on c = let did = turn-of c.before.before in did.turn.kept.1.0 ∙ (so_far (loop-of did)).frames
 
 pub shape_of-chain-then-not-goes_on : goal.shape_of-chain-then-not-goes_on
-shape_of-chain-then-not-goes_on c = let did = turn-of c.before in did.turn.kept.1.1.0 ∙ (so_far (loop-of did)).chain
+shape_of-chain-then-not-goes_on c = let did = turn-of c.before.before in did.turn.kept.1.1.0 ∙ (so_far (loop-of did)).chain
 
 pub shape_of-slots-then-not-goes_on : goal.shape_of-slots-then-not-goes_on
-shape_of-slots-then-not-goes_on c = let did = turn-of c.before in did.turn.kept.1.1.1.0 ∙ (so_far (loop-of did)).slots
+shape_of-slots-then-not-goes_on c = let did = turn-of c.before.before in did.turn.kept.1.1.1.0 ∙ (so_far (loop-of did)).slots
 
 pub shape_of-saved_stack-then-not-goes_on : goal.shape_of-saved_stack-then-not-goes_on
-shape_of-saved_stack-then-not-goes_on c = let did = turn-of c.before in did.turn.kept.1.1.1.1.0 ∙ (so_far (loop-of did)).saved_stack
+shape_of-saved_stack-then-not-goes_on c = let did = turn-of c.before.before in did.turn.kept.1.1.1.1.0 ∙ (so_far (loop-of did)).saved_stack
 
 pub shape_of-saved_frames-then-not-goes_on : goal.shape_of-saved_frames-then-not-goes_on
-shape_of-saved_frames-then-not-goes_on c = let did = turn-of c.before in did.turn.kept.1.1.1.1.1.0 ∙ (so_far (loop-of did)).saved_frames
+shape_of-saved_frames-then-not-goes_on c = let did = turn-of c.before.before in did.turn.kept.1.1.1.1.1.0 ∙ (so_far (loop-of did)).saved_frames
 
 pub returns-then-not-goes_on : goal.returns-then-not-goes_on
 returns-then-not-goes_on c =
-    let did = turn-of c.before in let loop = loop-of did in let p = (start_of loop).pre in let r = did.turn.result in
+    let did = turn-of c.before.before in let loop = loop-of did in let p = (start_of loop).pre in let r = did.turn.result in
     along-ends loop.loop.inv (some_left did.before.before.before.before.before.before.before) p.func p.pc (at_turn did) (with r.machine r.fuel) r.answer
-    did.turn.ensures (sym c.goes_on.ensures ∙ not-true _ c.if-not-goes_on.true)
+    did.turn.ensures (sym c.goes_on.ensures ∙ c.if-not-goes_on.true)
 
 pub loop-n-smaller : goal.loop-n-smaller
 loop-n-smaller c =
-    let did = turn-of c.before in let loop = loop-of did in let p = (start_of loop).pre in let r = did.turn.result in
+    let did = turn-of c.before.before in let loop = loop-of did in let p = (start_of loop).pre in let r = did.turn.result in
     along-fewer loop.loop.inv (some_left did.before.before.before.before.before.before.before) p.func p.pc (at_turn did) (with r.machine r.fuel) r.answer
-    did.turn.ensures (same_turn did) (sym c.goes_on.ensures ∙ not-false _ c.if-not-goes_on.false)
+    did.turn.ensures (same_turn did) (sym c.goes_on.ensures ∙ c.if-not-goes_on.false)
 
 pub loop-n-preserved : goal.loop-n-preserved
 loop-n-preserved c =
-    let did = turn-of c.before in let loop = loop-of did in let p = (start_of loop).pre in let r = did.turn.result in
+    let did = turn-of c.before.before in let loop = loop-of did in let p = (start_of loop).pre in let r = did.turn.result in
     along-more loop.loop.inv (some_left did.before.before.before.before.before.before.before) p.func p.pc (at_turn did) (with r.machine r.fuel) r.answer
-    did.turn.ensures (same_turn did) (sym c.goes_on.ensures ∙ not-false _ c.if-not-goes_on.false)
+    did.turn.ensures (same_turn did) (sym c.goes_on.ensures ∙ c.if-not-goes_on.false)
 
 pub shape_of-stack : goal.shape_of-stack
-shape_of-stack c = (so_far c.before.before).stack
+shape_of-stack c = (so_far c.before.before.before).stack
 
 pub shape_of-frames : goal.shape_of-frames
-shape_of-frames c = (so_far c.before.before).frames
+shape_of-frames c = (so_far c.before.before.before).frames
 
 pub shape_of-chain : goal.shape_of-chain
-shape_of-chain c = (so_far c.before.before).chain
+shape_of-chain c = (so_far c.before.before.before).chain
 
 pub shape_of-slots : goal.shape_of-slots
-shape_of-slots c = (so_far c.before.before).slots
+shape_of-slots c = (so_far c.before.before.before).slots
 
 pub shape_of-saved_stack : goal.shape_of-saved_stack
-shape_of-saved_stack c = (so_far c.before.before).saved_stack
+shape_of-saved_stack c = (so_far c.before.before.before).saved_stack
 
 pub shape_of-saved_frames : goal.shape_of-saved_frames
-shape_of-saved_frames c = (so_far c.before.before).saved_frames
+shape_of-saved_frames c = (so_far c.before.before.before).saved_frames
 
 pub returns : goal.returns
 returns c = along-none c.loop-n.invariant (omega (arith, c.loop-n-test.false))

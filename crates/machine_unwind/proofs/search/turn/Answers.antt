@@ -6,18 +6,26 @@ use Rattle.memory_world.specs.Lendings.{six_setup, plain}
 use Rattle.machine_unwind.specs.Turns.{handler_in}
 use Rattle.machine_unwind.proofs.Handlers.{handler-fits, catch-fits}
 use Rattle.machine_unwind.proofs.Turning.{turn-takes, turn-leaves}
+use Rattle.machine_unwind.proofs.search.turn.Lts as lts
+use Rattle.machine_unwind.proofs.search.turn.Reads as reads
+use Rattle.machine_unwind.proofs.search.turn.Tie as tie
 use Rattle.machine_unwind.proofs.search.turn.Goals as goal
-use Rattle.machine_unwind.proofs.search.turn.Goals.{After-handler_in}
+
+abbrev Start : Type 0
+Start = lts.Start tie.the-claims reads.Pre reads.Post
+
+abbrev After-handler_in : Type 0
+After-handler_in = lts.After-handler_in tie.the-claims reads.Pre reads.Post
 
 -- `turn` meets its contract: a handler taken, or the frame left. Assumes nothing.
 abbrev mem : Start → Beside → Lent
 mem c b =
     let a = c.args in
-    six_setup a.stack.now a.frames.now a.chain.now a.slots.now a.saved-stack.now a.saved-frames.now a.setup.now plain b
+    six_setup a.stack.now a.frames.now a.chain.now a.slots.now a.saved_stack.now a.saved_frames.now a.setup.now plain b
 
 -- the way back to the start
 abbrev start_of : After-handler_in → Start
-start_of c = c.before.before.before.before.before.before.before.before.before
+start_of c = c.before.before.before.before.before.before.before.before
 
 -- the handler that the words tell is the world's
 read : (c : After-handler_in) (w : World) (b : Beside) → Rep (start_of c).args.sizes w (mem (start_of c) b) (start_of c).args.m (start_of c).args.fuel → c.handler-in.result ≡ handler_in w
@@ -31,15 +39,15 @@ handler_in-requires c =
 
 pub take_handler-requires : goal.take_handler-requires
 take_handler-requires c =
-    let start = start_of c.before.before.before.before.before in
+    let start = start_of c.before.before.before.before.before.before in
     let a = start.args in
     let o = start.pre.ok in
     catch-fits a.sizes (mem start o.beside) a.m a.fuel o.world o.rep o.sound start.pre.some c.in-By.h
-    (sym c.in-By.is ∙ read c.before.before.before.before.before o.world o.beside o.rep)
+    (sym c.in-By.is ∙ read c.before.before.before.before.before.before o.world o.beside o.rep)
 
 pub leave-requires : goal.leave-requires
 leave-requires c =
-    let start = start_of c.before.before.before.before.before.before.before.before in
+    let start = start_of c.before.before.before.before.before.before.before.before.before in
     let a = start.args in
     let o = start.pre.ok in
     let beside : Beside = record { words = on_setup a.setup.now o.beside.words; fuel = o.beside.fuel } in
@@ -53,11 +61,11 @@ shape_of-frames-in-By c = c.take_handler.auto.1.0
 
 pub returns-in-By : goal.returns-in-By
 returns-in-By c =
-    let a = (start_of c.before.before.before.before.before.before.before.before.before.before).args in let t = c.take_handler in let e = t.new in
+    let a = (start_of c.before.before.before.before.before.before.before.before.before.before.before).args in let t = c.take_handler in let e = t.new in
     λ w b rep snd.
     turn-takes a.sizes (six_setup e.0 e.1.0 a.chain.now a.slots.now a.saved-stack.now a.saved-frames.now a.setup.now plain b) t.result.machine t.result.fuel w
-    a.value a.func a.pc t.result.answer c.in-By.h (sym c.in-By.is ∙ read c.before.before.before.before.before.before.before.before.before.before w b rep)
-    (t.ensures a.sizes w (record { words = mem (start_of c.before.before.before.before.before.before.before.before.before.before) b; fuel = b.fuel }) rep)
+    a.value a.func a.pc t.result.answer c.in-By.h (sym c.in-By.is ∙ read c.before.before.before.before.before.before.before.before.before.before.before w b rep)
+    (t.ensures a.sizes w (record { words = mem (start_of c.before.before.before.before.before.before.before.before.before.before.before) b; fuel = b.fuel }) rep)
 
 pub shape_of-stack-in-Nothing : goal.shape_of-stack-in-Nothing
 shape_of-stack-in-Nothing c = c.leave.auto.0
@@ -79,8 +87,8 @@ shape_of-saved_frames c = c.leave.auto.1.1.1.1.1.0
 
 pub returns-in-Nothing : goal.returns-in-Nothing
 returns-in-Nothing c =
-    let a = (start_of c.before.before.before.before.before.before.before.before.before.before.before.before.before.before.before.before.before.before.before.before.before).args in let t = c.leave in let e = t.new in
+    let a = (start_of c.before.before.before.before.before.before.before.before.before.before.before.before.before.before.before.before.before.before.before.before.before.before).args in let t = c.leave in let e = t.new in
     λ w b rep snd.
     turn-leaves a.sizes (six_setup e.0 e.1.0 e.1.1.0 e.1.1.1.0 e.1.1.1.1.0 e.1.1.1.1.1.0 a.setup.now plain b) t.result.machine t.result.fuel w
-    a.value a.func a.pc t.result.answer (sym c.in-Nothing.is ∙ read c.before.before.before.before.before.before.before.before.before.before.before.before.before.before.before.before.before.before.before.before.before w b rep)
+    a.value a.func a.pc t.result.answer (sym c.in-Nothing.is ∙ read c.before.before.before.before.before.before.before.before.before.before.before.before.before.before.before.before.before.before.before.before.before.before w b rep)
     (t.ensures w (record { words = on_setup a.setup.now b.words; fuel = b.fuel }) rep snd)

@@ -5,8 +5,13 @@ use Rattle.model.specs.declared.call.Op.{Op}
 use Rattle.memory_calls.specs.Codes.{as_pc, as_reg, as_argc}
 use Rattle.memory_calls.specs.Call.{table}
 use Rattle.memory_calls.proofs.Past.{past}
+use Rattle.memory_calls.proofs.written.op_by.Lts as lts
+use Rattle.memory_calls.proofs.written.op_by.Reads as reads
+use Rattle.memory_calls.proofs.written.op_by.Tie as tie
 use Rattle.memory_calls.proofs.written.op_by.Goals as goal
-use Rattle.memory_calls.proofs.written.op_by.Goals.{After-as_argc-nd}
+
+abbrev After-as_argc-nd : Type 0
+After-as_argc-nd = lts.After-as_argc tie.the-claims reads.Pre reads.Post
 
 -- `op_by` meets its contract, by the code. Assumes nothing.
 -- the operands, narrowed; z is the place after the last
@@ -38,46 +43,46 @@ nd : (z : After-as_argc-nd) → z.as-argc.result ≡ as_argc z.before.before.bef
 nd z = z.as_argc-nd.ensures
 
 pub returns-in-0 : goal.returns-in-0
-returns-in-0 c = let z = c.before in rw (c.in-0.is, pa z, rb z, pc z, nd z)
+returns-in-0 c = rw (c.in-0.is, pa c.before, rb c.before, pc c.before, nd c.before)
 
 pub returns-in-1 : goal.returns-in-1
-returns-in-1 c = let z = c.before in rw (c.in-1.is, pa z, rb z, rc z, nd z)
+returns-in-1 c = rw (c.in-1.is, pa c.before, rb c.before, rc c.before, nd c.before)
 
 pub returns-in-2 : goal.returns-in-2
-returns-in-2 c = let z = c.before in rw (c.in-2.is, pa z, rb z, rc z, nd z)
+returns-in-2 c = rw (c.in-2.is, pa c.before, rb c.before, rc c.before, nd c.before)
 
 pub returns-in-3 : goal.returns-in-3
-returns-in-3 c = let z = c.before in rw (c.in-3.is, pa z, rb z, rc z)
+returns-in-3 c = rw (c.in-3.is, pa c.before, rb c.before, rc c.before)
 
 pub returns-in-4 : goal.returns-in-4
-returns-in-4 c = let z = c.before in rw (c.in-4.is, pa z, rb z, rc z, rd z)
+returns-in-4 c = rw (c.in-4.is, pa c.before, rb c.before, rc c.before, rd c.before)
 
 pub returns-in-5 : goal.returns-in-5
-returns-in-5 c = let z = c.before in rw (c.in-5.is, pa z, rb z, rc z)
+returns-in-5 c = rw (c.in-5.is, pa c.before, rb c.before, rc c.before)
 
 pub returns-in-6 : goal.returns-in-6
-returns-in-6 c = let z = c.before in rw (c.in-6.is, pa z, rb z, rc z, rd z)
+returns-in-6 c = rw (c.in-6.is, pa c.before, rb c.before, rc c.before, rd c.before)
 
 pub returns-in-7 : goal.returns-in-7
-returns-in-7 c = let z = c.before in rw (c.in-7.is, pa z, rb z, rc z, rd z)
+returns-in-7 c = rw (c.in-7.is, pa c.before, rb c.before, rc c.before, rd c.before)
 
 pub returns-in-8 : goal.returns-in-8
-returns-in-8 c = let z = c.before in rw (c.in-8.is, pa z, rb z, rc z, rd z)
+returns-in-8 c = rw (c.in-8.is, pa c.before, rb c.before, rc c.before, rd c.before)
 
 pub returns-in-9 : goal.returns-in-9
-returns-in-9 c = let z = c.before in rw (c.in-9.is, pa z, rb z, rc z)
+returns-in-9 c = rw (c.in-9.is, pa c.before, rb c.before, rc c.before)
 
 pub returns-in-10 : goal.returns-in-10
-returns-in-10 c = let z = c.before in rw (c.in-10.is, pa z, rb z)
+returns-in-10 c = rw (c.in-10.is, pa c.before, rb c.before)
 
 pub returns-in-11 : goal.returns-in-11
-returns-in-11 c = let z = c.before in rw (c.in-11.is, pa z, rb z, rc z)
+returns-in-11 c = rw (c.in-11.is, pa c.before, rb c.before, rc c.before)
 
 pub returns-in-12 : goal.returns-in-12
-returns-in-12 c = let z = c.before in rw (c.in-12.is, pa z, rb z, rc z)
+returns-in-12 c = rw (c.in-12.is, pa c.before, rb c.before, rc c.before)
 
 pub returns-in-13 : goal.returns-in-13
-returns-in-13 c = let z = c.before in rw (c.in-13.is, pa z, rb z, rc z, rd z, re z)
+returns-in-13 c = rw (c.in-13.is, pa c.before, rb c.before, rc c.before, rd c.before, re c.before)
 
 pub returns-in-14 : goal.returns-in-14
 returns-in-14 c = rw (c.in-14.is, c.kind_of.ensures)
@@ -89,16 +94,16 @@ pub returns-in-16 : goal.returns-in-16
 returns-in-16 c = rw c.in-16.is
 
 pub returns-in-17 : goal.returns-in-17
-returns-in-17 c = let z = c.before in rw (c.in-17.is, pa z)
+returns-in-17 c = rw (c.in-17.is, pa c.before)
 
 pub returns-in-18 : goal.returns-in-18
 returns-in-18 c = rw c.in-18.is
 
 pub returns-in-19 : goal.returns-in-19
-returns-in-19 c = let z = c.before.before in rw (c.in-19.is, pa z, pb z, c.cont_of.ensures)
+returns-in-19 c = rw (c.in-19.is, pa c.before.before, pb c.before.before, c.cont_of.ensures)
 
 pub returns-in-20 : goal.returns-in-20
-returns-in-20 c = let z = c.before in rw (c.in-20.is, ra z)
+returns-in-20 c = rw (c.in-20.is, ra c.before)
 
 pub returns-in-21 : goal.returns-in-21
 returns-in-21 c = rw c.in-21.is

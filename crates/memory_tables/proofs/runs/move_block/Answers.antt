@@ -3,8 +3,13 @@ use Rattle.std.proofs.Common.{◌≡◌, ◌≤◌, ◌++◌, length, take, drop
 use Rattle.lists.specs.Parts.{part}
 use Rattle.memory_tables.proofs.Padded.{length_part, span, back, cleared}
 use Rattle.memory_tables.proofs.Moves.{aside-part}
+use Rattle.memory_tables.proofs.runs.move_block.Lts as lts
+use Rattle.memory_tables.proofs.runs.move_block.Reads as reads
+use Rattle.memory_tables.proofs.runs.move_block.Tie as tie
 use Rattle.memory_tables.proofs.runs.move_block.Goals as goal
-use Rattle.memory_tables.proofs.runs.move_block.Goals.{After-copy_words}
+
+abbrev After-copy_words : Type 0
+After-copy_words = lts.After-copy_words tie.the-claims reads.Pre reads.Post
 
 -- the words that are set aside
 held : (c : After-copy_words) →
@@ -54,6 +59,6 @@ returns c =
     record {
       there =
           back a.dst.now _ (part a.from a.n a.src.now) a.at a.n _ (span a.at a.n) (length_part a.from a.n a.src.now inside)
-          (c.copy_words-2.ensures ∙ held c.before.before.before.before.before.before.before.before.before.before);
+          (c.copy_words-2.ensures ∙ held c.before.before.before.before.before.before.before.before.before.before.before);
       here = cleared a.src.now _ a.from a.n inside c.clear_words.ensures;
     }

@@ -3,8 +3,13 @@ use Rattle.std.proofs.Common.{◌≡◌, ◌+◌, ◌-◌, ◌*◌, drop, replic
 use Rattle.lists.specs.Parts.{part, splice}
 use Rattle.memory_tables.specs.Runs.{rebase, between}
 use Rattle.memory_tables.proofs.Shifts.{frames-more, zeros-more, behind, frame-asks}
+use Rattle.memory_tables.proofs.runs.move_frames.Lts as lts
+use Rattle.memory_tables.proofs.runs.move_frames.Reads as reads
+use Rattle.memory_tables.proofs.runs.move_frames.Tie as tie
 use Rattle.memory_tables.proofs.runs.move_frames.Goals as goal
-use Rattle.memory_tables.proofs.runs.move_frames.Goals.{In-loop-j}
+
+abbrev In-loop-j : Type 0
+In-loop-j = lts.In-loop tie.the-claims reads.Pre reads.Post goal.invariant-loop-j goal.decreases-loop-j
 
 -- the frames that are not moved yet are as they were
 ahead : (c : In-loop-j) →
@@ -35,7 +40,7 @@ loop-j-preserved c =
       search rules,
       m.auto.0 ∙ l.invariant.1,
       m.auto.1.1.0 ∙ l.invariant.2,
-      m.ensures.0 ∙ frames-more (between a.old a.new) a.at a.dst.now a.src.now a.from l.j (omega arith) (omega arith) l.dst l.src l.invariant.3 (ahead c.before.before.before.before.before.before.before),
+      m.ensures.0 ∙ frames-more (between a.old a.new) a.at a.dst.now a.src.now a.from l.j (omega arith) (omega arith) l.dst l.src l.invariant.3 (ahead c.before.before.before.before.before.before.before.before),
       m.ensures.1 ∙ ap (λ z. splice z (a.from + l.j * 6) (replicate 6 0)) l.invariant.4 ∙ zeros-more a.src.now a.from l.j (omega arith),
     )
 

@@ -5,11 +5,23 @@ use Rattle.memory_world.specs.Memory.{Lent}
 use Rattle.memory_world.specs.Lendings.{plain}
 use Rattle.outer_call.specs.State.{nine, gives}
 use Rattle.outer_call.proofs.Stepping.{refused, setup-fits}
+use Rattle.outer_call.proofs.call.called.Lts as lts
+use Rattle.outer_call.proofs.call.called.Reads as reads
+use Rattle.outer_call.proofs.call.called.Tie as tie
 use Rattle.outer_call.proofs.call.called.Goals as goal
+
+abbrev Start : Type 0
+Start = lts.Start tie.the-claims reads.Pre reads.Post
+
+abbrev After-sound_call : Type 0
+After-sound_call = lts.After-sound_call tie.the-claims reads.Pre reads.Post
+
+abbrev After-slice_known-16-1 : Type 0
+After-slice_known-16-1 = lts.After-slice_known16 tie.the-claims reads.Pre reads.Post
 
 -- `called` meets its contract: refused, or done on sound words. Assumes nothing.
 abbrev mem : Start → Lent
-mem c = nine c.args.stack.now c.args.frames.now c.args.chain.now c.args.slots.now c.args.saved-stack.now c.args.saved-frames.now c.args.ready.now c.args.finalize.now c.args.setup.now plain
+mem c = nine c.args.stack.now c.args.frames.now c.args.chain.now c.args.slots.now c.args.saved_stack.now c.args.saved_frames.now c.args.ready.now c.args.finalize.now c.args.setup.now plain
 
 abbrev start_of : After-sound_call → Start
 start_of c = c.before.before.before.before.before.before.before.before.before.before.before.before.before.before.before.before.before.before.before.before
@@ -20,37 +32,37 @@ sound-call-of c = c.before.before.before.before.before.before.before.before.befo
 pub returns-then-not-ok : goal.returns-then-not-ok
 returns-then-not-ok c =
     let a = c.args in
-    ap (λ r. gives (mem c.before.before.before.before.before.before.before.before.before.before.before) r) c.unsound.ensures ∙ refused (mem c.before.before.before.before.before.before.before.before.before.before.before) a.m a.fuel a.op (sym c.requires ∙ not-true _ c.if-not-ok.true)
+    ap (λ r. gives (mem c.before.before.before.before.before.before.before.before.before.before.before.before) r) c.unsound.ensures ∙ refused (mem c.before.before.before.before.before.before.before.before.before.before.before.before) a.m a.fuel a.op (sym c.requires ∙ c.if-not-ok.true)
 
 pub sizes-sizes-requires : goal.sizes-sizes-requires
-sizes-sizes-requires c = setup-fits (mem c.before.before.before.before.before.before.before.before.before.before) c.args.m c.args.fuel (sym c.requires ∙ not-false _ c.if-not-ok.false)
+sizes-sizes-requires c = setup-fits (mem c.before.before.before.before.before.before.before.before.before.before.before) c.args.m c.args.fuel (sym c.requires ∙ c.if-not-ok.false)
 
 pub sound_call-requires : goal.sound_call-requires
-sound_call-requires c = record { sound = sym c.requires ∙ not-false _ c.if-not-ok.false; sizes = c.sizes-sizes.ensures.words }
+sound_call-requires c = record { sound = sym c.requires ∙ c.if-not-ok.false; sizes = c.sizes-sizes.ensures.words }
 
 pub shape_of-stack : goal.shape_of-stack
-shape_of-stack c = (sound-call-of c).sound-call.auto.0
+shape_of-stack c = (sound-call-of c.before).sound-call.auto.0
 
 pub shape_of-frames : goal.shape_of-frames
-shape_of-frames c = (sound-call-of c).sound-call.auto.1.0
+shape_of-frames c = (sound-call-of c.before).sound-call.auto.1.0
 
 pub shape_of-chain : goal.shape_of-chain
-shape_of-chain c = (sound-call-of c).sound-call.auto.1.1.0
+shape_of-chain c = (sound-call-of c.before).sound-call.auto.1.1.0
 
 pub shape_of-slots : goal.shape_of-slots
-shape_of-slots c = (sound-call-of c).sound-call.auto.1.1.1.0
+shape_of-slots c = (sound-call-of c.before).sound-call.auto.1.1.1.0
 
 pub shape_of-saved_stack : goal.shape_of-saved_stack
-shape_of-saved_stack c = (sound-call-of c).sound-call.auto.1.1.1.1.0
+shape_of-saved_stack c = (sound-call-of c.before).sound-call.auto.1.1.1.1.0
 
 pub shape_of-saved_frames : goal.shape_of-saved_frames
-shape_of-saved_frames c = (sound-call-of c).sound-call.auto.1.1.1.1.1.0
+shape_of-saved_frames c = (sound-call-of c.before).sound-call.auto.1.1.1.1.1.0
 
 pub shape_of-ready : goal.shape_of-ready
-shape_of-ready c = (sound-call-of c).sound-call.auto.1.1.1.1.1.1.0
+shape_of-ready c = (sound-call-of c.before).sound-call.auto.1.1.1.1.1.1.0
 
 pub shape_of-finalize : goal.shape_of-finalize
-shape_of-finalize c = (sound-call-of c).sound-call.auto.1.1.1.1.1.1.1.0
+shape_of-finalize c = (sound-call-of c.before).sound-call.auto.1.1.1.1.1.1.1.0
 
 pub returns : goal.returns
-returns c = (sound-call-of c).sound-call.ensures.is
+returns c = (sound-call-of c.before).sound-call.ensures.is

@@ -5,15 +5,23 @@ use Rattle.memory_world.specs.Memory.{Lent}
 use Rattle.memory_world.specs.Lendings.{plain}
 use Rattle.outer_call.specs.State.{nine}
 use Rattle.outer_call.proofs.Seen.{Part, look-fits, part_of}
+use Rattle.outer_call.proofs.look.seen.Lts as lts
+use Rattle.outer_call.proofs.look.seen.Reads as reads
+use Rattle.outer_call.proofs.look.seen.Tie as tie
 use Rattle.outer_call.proofs.look.seen.Goals as goal
-use Rattle.outer_call.proofs.look.seen.Goals.{After-place-s}
+
+abbrev Start : Type 0
+Start = lts.Start tie.the-claims reads.Pre reads.Post
+
+abbrev After-place-s : Type 0
+After-place-s = lts.After-place tie.the-claims reads.Pre reads.Post
 
 -- `seen` meets its contract: the part is the one that `place` tells. Assumes nothing.
 abbrev start_of : After-place-s → Start
 start_of c = c.before.before.before.before.before.before.before.before.before.before
 
 abbrev mem : Start → Lent
-mem c = nine c.args.stack.now c.args.frames.now c.args.chain.now c.args.slots.now c.args.saved-stack.now c.args.saved-frames.now c.args.ready.now c.args.finalize.now c.args.setup.now plain
+mem c = nine c.args.stack.now c.args.frames.now c.args.chain.now c.args.slots.now c.args.saved_stack.now c.args.saved_frames.now c.args.ready.now c.args.finalize.now c.args.setup.now plain
 
 told : (c : After-place-s) → Part (mem (start_of c)) (start_of c).args.m (start_of c).args.fuel c.place.result
 told c =
@@ -24,19 +32,19 @@ told c =
 pub place-s-requires : goal.place-s-requires
 place-s-requires c =
     let a = c.args in
-    λ e. look-fits (mem c.before.before.before.before.before.before.before.before.before) a.m a.fuel (sym c.requires ∙ e)
+    λ e. look-fits (mem c.before.before.before.before.before.before.before.before.before.before) a.m a.fuel (sym c.requires ∙ e)
 
 pub offset_bounds-stack-start : goal.offset_bounds-stack-start
-offset_bounds-stack-start c = let p = told c in let h = p.order in let k = p.inside in omega (arith, (start_of c).well-formed)
+offset_bounds-stack-start c = let p = told c.before in let h = p.order in let k = p.inside in omega (arith, (start_of c.before).well-formed)
 
 pub slice_bounds-result-count : goal.slice_bounds-result-count
-slice_bounds-result-count c = let p = told c in let h = p.order in omega arith
+slice_bounds-result-count c = let p = told c.before in let h = p.order in omega arith
 
 pub slice_bounds-result-start : goal.slice_bounds-result-start
-slice_bounds-result-start c = let p = told c in let h = p.order in omega arith
+slice_bounds-result-start c = let p = told c.before in let h = p.order in omega arith
 
 pub slice_bounds-result-end : goal.slice_bounds-result-end
-slice_bounds-result-end c = let p = told c in let k = p.inside in omega arith
+slice_bounds-result-end c = let p = told c.before in let k = p.inside in omega arith
 
 pub returns : goal.returns
-returns c = (told c.before).is
+returns c = (told c.before.before).is

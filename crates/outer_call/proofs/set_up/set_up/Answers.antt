@@ -7,12 +7,26 @@ use Rattle.memory_world.specs.Lendings.{plain}
 use Rattle.memory_step.specs.Step.{set_up_ok}
 use Rattle.outer_call.specs.State.{nine, state, gives}
 use Rattle.outer_call.proofs.Begun.{accepts, refuses-it}
+use Rattle.outer_call.proofs.set_up.set_up.Lts as lts
+use Rattle.outer_call.proofs.set_up.set_up.Reads as reads
+use Rattle.outer_call.proofs.set_up.set_up.Tie as tie
 use Rattle.outer_call.proofs.set_up.set_up.Goals as goal
-use Rattle.outer_call.proofs.set_up.set_up.Goals.{Else-not-allowed}
+
+abbrev Start : Type 0
+Start = lts.Start tie.the-claims reads.Pre reads.Post
+
+abbrev Else-not-allowed : Type 0
+Else-not-allowed = lts.Else1 tie.the-claims reads.Pre reads.Post
+
+abbrev After-begin : Type 0
+After-begin = lts.After-begin tie.the-claims reads.Pre reads.Post
+
+abbrev After-slice_known-18-1 : Type 0
+After-slice_known-18-1 = lts.After-slice_known18 tie.the-claims reads.Pre reads.Post
 
 -- `set_up` meets its contract: refused, or a fresh machine. Assumes nothing.
 abbrev mem : Start → Lent
-mem c = nine c.args.stack.now c.args.frames.now c.args.chain.now c.args.slots.now c.args.saved-stack.now c.args.saved-frames.now c.args.ready.now c.args.finalize.now c.args.setup.now plain
+mem c = nine c.args.stack.now c.args.frames.now c.args.chain.now c.args.slots.now c.args.saved_stack.now c.args.saved_frames.now c.args.ready.now c.args.finalize.now c.args.setup.now plain
 
 abbrev allowed_of : After-begin → Else-not-allowed
 allowed_of c = c.before.before.before.before.before.before.before.before.before.before
@@ -21,47 +35,47 @@ abbrev begin-of : After-slice_known-18-1 → After-begin
 begin-of c = c.before.before.before.before.before.before.before.before.before.before.before.before.before.before.before.before.before.before
 
 accepted : (c : Else-not-allowed) → let start = c.before.before.before.before.before.before.before.before.before.before.before.before in set_up_ok start.args.given.now (mem start) ≡ true
-accepted c = sym (c.allowed.ensures (mem c.before.before.before.before.before.before.before.before.before.before.before.before) refl) ∙ not-false _ c.if-not-allowed.false
+accepted c = sym (c.allowed.ensures (mem c.before.before.before.before.before.before.before.before.before.before.before.before) refl) ∙ c.if-not-allowed.false
 
 pub returns-then-not-allowed : goal.returns-then-not-allowed
 returns-then-not-allowed c =
     let a = c.args in
-    ap (λ r. gives (mem c.before.before.before.before.before.before.before.before.before.before.before.before.before) r) c.unsound.ensures
-    ∙ refuses-it (state (mem c.before.before.before.before.before.before.before.before.before.before.before.before.before) a.m a.fuel) a.given.now (sym (c.allowed.ensures (mem c.before.before.before.before.before.before.before.before.before.before.before.before.before) refl) ∙ not-true _ c.if-not-allowed.true)
+    ap (λ r. gives (mem c.before.before.before.before.before.before.before.before.before.before.before.before.before.before) r) c.unsound.ensures
+    ∙ refuses-it (state (mem c.before.before.before.before.before.before.before.before.before.before.before.before.before.before) a.m a.fuel) a.given.now (sym (c.allowed.ensures (mem c.before.before.before.before.before.before.before.before.before.before.before.before.before.before) refl) ∙ c.if-not-allowed.true)
 
 pub begin-requires : goal.begin-requires
-begin-requires c = accepted c.before.before.before.before.before.before.before.before.before
+begin-requires c = accepted c.before.before.before.before.before.before.before.before.before.before
 
 pub shape_of-stack : goal.shape_of-stack
-shape_of-stack c = (begin-of c).begin.auto.0
+shape_of-stack c = (begin-of c.before).begin.auto.0
 
 pub shape_of-frames : goal.shape_of-frames
-shape_of-frames c = (begin-of c).begin.auto.1.0
+shape_of-frames c = (begin-of c.before).begin.auto.1.0
 
 pub shape_of-chain : goal.shape_of-chain
-shape_of-chain c = (begin-of c).begin.auto.1.1.0
+shape_of-chain c = (begin-of c.before).begin.auto.1.1.0
 
 pub shape_of-slots : goal.shape_of-slots
-shape_of-slots c = (begin-of c).begin.auto.1.1.1.0
+shape_of-slots c = (begin-of c.before).begin.auto.1.1.1.0
 
 pub shape_of-saved_stack : goal.shape_of-saved_stack
-shape_of-saved_stack c = (begin-of c).begin.auto.1.1.1.1.0
+shape_of-saved_stack c = (begin-of c.before).begin.auto.1.1.1.1.0
 
 pub shape_of-saved_frames : goal.shape_of-saved_frames
-shape_of-saved_frames c = (begin-of c).begin.auto.1.1.1.1.1.0
+shape_of-saved_frames c = (begin-of c.before).begin.auto.1.1.1.1.1.0
 
 pub shape_of-ready : goal.shape_of-ready
-shape_of-ready c = (begin-of c).begin.auto.1.1.1.1.1.1.0
+shape_of-ready c = (begin-of c.before).begin.auto.1.1.1.1.1.1.0
 
 pub shape_of-finalize : goal.shape_of-finalize
-shape_of-finalize c = (begin-of c).begin.auto.1.1.1.1.1.1.1.0
+shape_of-finalize c = (begin-of c.before).begin.auto.1.1.1.1.1.1.1.0
 
 pub shape_of-setup : goal.shape_of-setup
-shape_of-setup c = (begin-of c).begin.auto.1.1.1.1.1.1.1.1.0
+shape_of-setup c = (begin-of c.before).begin.auto.1.1.1.1.1.1.1.1.0
 
 pub returns : goal.returns
 returns c =
-    let at-begin = begin-of c in
+    let at-begin = begin-of c.before in
     let at-if = allowed_of at-begin in
     let start = at-if.before.before.before.before.before.before.before.before.before.before.before.before in
     let a = start.args in

@@ -5,7 +5,7 @@ use Rattle.outer_run.proofs.Along.{refused-start, refused_end, refused-more}
 use Rattle.outer_run.proofs.list.refuse_list.Goals as goal
 
 pub loop-j-init : goal.loop-j-init
-loop-j-init c = let start = c.before in refused-start start.args.answers.now start.args.n
+loop-j-init c = refused-start c.args.answers.now c.args.n
 
 pub put_at-requires : goal.put_at-requires
 put_at-requires c =

@@ -3,6 +3,7 @@ use mathlib.Core.Path.{◌≡◌, refl}
 use mathlib.Core.List.{List, [], ◌∷◌}
 use Prim.Native.Nat.{ℕ}
 use types.Run.{OneOf, miss}
+use borrow.Enum.Refused.{opened}
 use denote.Enum.Declared.{tag_of}
 use Rattle.heap.specs.Fault.{word_of}
 use Rattle.heap.specs.declared.fault.Fault.{Fault}
@@ -38,4 +39,4 @@ pub returns-in-Throw : goal.returns-in-Throw
 returns-in-Throw c = rw c.in-Throw.is
 
 pub returns-in_default : goal.returns-in_default
-returns-in_default c = other c.args.self c.in_default.in_default-own.keys2
+returns-in_default c = other c.args.self (opened c.in_default.in_default-own.keys2)

@@ -5,8 +5,8 @@ use Rattle.heap.proofs.heap.Heap.charge.Goals as goal
 
 pub returns-then-fits : goal.returns-then-fits
 unfolding pick
-returns-then-fits c = rw (sym c.fits2.ensures ∙ c.if-fits.true, c.sat_add.ensures)
+returns-then-fits c = rw (sym c.fits.ensures ∙ c.if-fits.true, c.sat_add.ensures)
 
 pub returns-else-fits : goal.returns-else-fits
 unfolding pick
-returns-else-fits c = rw (sym c.fits2.ensures ∙ c.if-fits.false)
+returns-else-fits c = rw (sym c.fits.ensures ∙ c.if-fits.false)

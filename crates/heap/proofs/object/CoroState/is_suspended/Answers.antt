@@ -4,6 +4,7 @@ use mathlib.Core.Bool.{true, false}
 use mathlib.Core.List.{List, [], ◌∷◌}
 use Prim.Native.Nat.{ℕ}
 use types.Run.{OneOf, miss}
+use borrow.Enum.Refused.{opened}
 use denote.Enum.Declared.{tag_of}
 use Rattle.heap.specs.State.{is_suspended}
 use Rattle.heap.specs.declared.object.CoroState.{CoroState}
@@ -38,4 +39,4 @@ pub returns-in-Yielded : goal.returns-in-Yielded
 returns-in-Yielded c = are c.args.self c.in-Yielded.in-Yielded-own.keys1
 
 pub returns-in-Created : goal.returns-in-Created
-returns-in-Created c = are-not c.args.self c.in-Created.in-Created-own.keys2
+returns-in-Created c = are-not c.args.self (opened c.in-Created.in-Created-own.keys2)

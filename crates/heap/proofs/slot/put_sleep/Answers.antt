@@ -1,11 +1,11 @@
--- `put_suspended` meets its contract: the part that is lent comes back with the words of a suspension changed. Assumes nothing.
+-- `put_sleep` meets its contract: the part that is lent comes back with the words of a suspension changed. Assumes nothing.
 use mathlib.Core.Path.{◌≡◌, ap, ap₂, ◌∙◌}
 use mathlib.Core.List.{List, ◌++◌}
 use Prim.Native.Nat.{ℕ, ◌+◌, ◌*◌, ◌-◌}
 use native.Mathlib.Omega.{arith}
 use lib.ListN.{take, drop}
 use Rattle.heap.specs.Slot.{suspended_words}
-use Rattle.heap.proofs.slot.put_suspended.Goals as goal
+use Rattle.heap.proofs.slot.put_sleep.Goals as goal
 
 pub returns : goal.returns
 returns c =
