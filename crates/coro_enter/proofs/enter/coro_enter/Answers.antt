@@ -113,5 +113,5 @@ returns-else-number-ne0 c =
     let at-if1 = if1-of c.before.before.before.before.before.before.before.before.before.before in let at-refusal = at-if1.before.before in let at-coro-at = at-refusal.before in let start = start_of at-coro-at in
     λ w b rep snd. accepted start.args.sizes (mem start b) start.args.m b.fuel start.args.v.0 w rep (slot at-coro-at) (coro at-coro-at)
     (found at-coro-at) snd at-refusal.refusal.result at-refusal.refusal.ensures (none at-if1) start.args.d _ _ _ _ _ _ c.entered.result
-    c.entered_as.result c.Move-in.ensures c.push_active.ensures c.put_entered.ensures c.entered_as.ensures
+    c.entered_as.result c.move_in.ensures c.push_active.ensures c.put_entered.ensures c.entered_as.ensures
     c.entered.ensures

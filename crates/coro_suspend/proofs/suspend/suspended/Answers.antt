@@ -4,7 +4,7 @@ use Rattle.coro_suspend.proofs.suspend.suspended.Goals as goal
 pub returns : goal.returns
 returns c =
     rw (
-      c.Closing-after.ensures,
+      c.closing_after.ensures,
       c.larger.ensures,
       c.larger-2.ensures,
       c.key_of.ensures,

@@ -142,7 +142,7 @@ pub closing_at-requires : goal.closing_at-requires
 closing_at-requires c = slot c.before.before
 
 pub returns-then-closing_at : goal.returns-then-closing_at
-returns-then-closing_at c = closing (found c.before.before.before.before) (sym c.Closing-at.ensures ∙ c.if-closing_at.true)
+returns-then-closing_at c = closing (found c.before.before.before.before) (sym c.closing_at.ensures ∙ c.if-closing_at.true)
 
 pub base_at-base-requires : goal.base_at-base-requires
 base_at-base-requires c = let f = floored c.before.before.before.before.before.before.before.before.before.before.before in let h = (start_of c.before.before.before.before.before.before.before.before.before.before.before).requires.on-frames in omega (arith, f, h)
@@ -205,7 +205,7 @@ returns-in-At-inline_int c =
             running = run;
             floor = start.pre.floor run;
             found = found c.before.before.before.before.before.before.before.before.before.before.before.before.before.before.before.before.before.before.before.before.before;
-            unclosed = sym c.Closing-at.ensures ∙ c.if-closing_at.false;
+            unclosed = sym c.closing_at.ensures ∙ c.if-closing_at.false;
             wide = omega (arith, e, wide, c.if-maxregs_at-machine.false);
             deep = omega (arith, f, deep, c.if-maxframes_at-machine.false);
           };

@@ -16,5 +16,5 @@ returns-in-Refused c = λ w b rep snd. not-over c.args.sizes _ c.args.m b.fuel w
 pub returns-in-In : goal.returns-in-In
 returns-in-In c =
     λ w b rep snd. over c.args.sizes _ _ b.fuel w c.args.v _ _ _ c.args.sizes.costs.iter
-    (sym c.in-In.is ∙ c.coro_state.ensures c.args.sizes w b rep) (ap (λ k. k.iter) rep.sizes.costs) c.Made-as.ensures
+    (sym c.in-In.is ∙ c.coro_state.ensures c.args.sizes w b rep) (ap (λ k. k.iter) rep.sizes.costs) c.made_as.ensures
     (c.alloc_plain-did.ensures (Object.Iter c.args.v false Opt.None) refl refl w b rep)

@@ -67,7 +67,7 @@ end_call-did-requires c =
     let o = start.pre in
     record {
       on = record { ok = record { world = o.world; beside = beyond start o.beside; rep = o.rep; sound = o.sound; room = o.room }; some = some c.before.before.before.before.before.before.before; top = read c.before.before.before.before.before.before.before };
-      call = sym c.Way-of.ensures ∙ c.in-Caller.is;
+      call = sym c.way_of.ensures ∙ c.in-Caller.is;
     }
 
 pub finish_coro-requires : goal.finish_coro-requires
@@ -75,7 +75,7 @@ finish_coro-requires c =
     record {
       ok = (start_of c.before.before.before.before.before.before.before.before.before).requires;
       some = some c.before.before.before.before.before.before.before.before.before;
-      top = read c.before.before.before.before.before.before.before.before.before ∙ driver-way c.frame_at-f.result.cont (sym c.Way-of.ensures ∙ c.in-Driver.is);
+      top = read c.before.before.before.before.before.before.before.before.before ∙ driver-way c.frame_at-f.result.cont (sym c.way_of.ensures ∙ c.in-Driver.is);
     }
 
 pub returns-in-Out : goal.returns-in-Out
@@ -87,7 +87,7 @@ returns-in-Out c =
     λ w b rep snd.
     does a.sizes (lent p.new.stack p.new.frames a.chain.now a.slots.now a.saved-stack.now a.saved-frames.now b) p.result a.fuel
     (finish a.kind a.v w) (pop_top w) (Answer.Exit o.result)
-    (finish-out a.kind a.v w c.frame_at-f.result.cont (top c.before.before.before.before.before.before.before.before.before.before.before.before w b rep) o.result (sym c.Way-of.ensures ∙ c.in-Out.is) o.ensures)
+    (finish-out a.kind a.v w c.frame_at-f.result.cont (top c.before.before.before.before.before.before.before.before.before.before.before.before w b rep) o.result (sym c.way_of.ensures ∙ c.in-Out.is) o.ensures)
     (p.ensures a.sizes w (under start (record { words = b.words; fuel = a.fuel })) rep)
 
 pub returns-in-Caller : goal.returns-in-Caller

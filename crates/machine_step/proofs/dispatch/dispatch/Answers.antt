@@ -103,7 +103,7 @@ pub shape_of-ready : goal.shape_of-ready
 shape_of-ready c = search
 
 pub returns-in-SpawnTask : goal.returns-in-SpawnTask
-returns-in-SpawnTask c = λ w b rep snd. as_row w c.in-SpawnTask.is (made_of (c.spawn_task-did.ensures _ w (around rep) rep) c.Made-as.ensures)
+returns-in-SpawnTask c = λ w b rep snd. as_row w c.in-SpawnTask.is (made_of (c.spawn_task-did.ensures _ w (around rep) rep) c.made_as-answer.ensures)
 
 pub shape_of-stack-in-HostCall : goal.shape_of-stack-in-HostCall
 shape_of-stack-in-HostCall c = search
