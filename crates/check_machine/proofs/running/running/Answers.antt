@@ -17,16 +17,17 @@ use Rattle.check_tables.specs.Queue.{in_set}
 use Rattle.check_tables.proofs.Bits.{empty-set, put-set}
 use Rattle.check_machine.specs.Running.{running_test, RunningTold}
 use Rattle.check_machine.proofs.Chained.{runs, stops, twice, passes, all-run, set-of, word-inside}
+use Rattle.check_machine.proofs.running.running.Invariants as inv
 use Rattle.check_machine.proofs.running.running.Lts as lts
 use Rattle.check_machine.proofs.running.running.Reads as reads
 use Rattle.check_machine.proofs.running.running.Tie as tie
 use Rattle.check_machine.proofs.running.running.Goals as goal
 
 abbrev At-loop-k : Type 0
-At-loop-k = lts.At-loop tie.the-claims reads.Pre reads.Post goal.invariant-loop-k goal.decreases-loop-k
+At-loop-k = lts.At-loop tie.the-claims reads.Pre reads.Post inv.invariant-loop-k inv.decreases-loop-k
 
 abbrev Else-not-is_running : Type 0
-Else-not-is_running = lts.Else1 tie.the-claims reads.Pre reads.Post goal.invariant-loop-k goal.decreases-loop-k
+Else-not-is_running = lts.Else1 tie.the-claims reads.Pre reads.Post inv.invariant-loop-k inv.decreases-loop-k
 
 -- the coroutines, and the next one's word
 abbrev table : At-loop-k → List (Slot H.Object)
@@ -35,7 +36,7 @@ table c = let a = c.args in slots_of a.count a.slots.now
 abbrev word : At-loop-k → ℕ
 word c = get_or c.args.chain.now (c.loop-k.k * 6) 0
 
-runs-now : (c : Else-not-is_running) → let at-loop = c.before.before.before.before in runs (table at-loop) (word at-loop) ≡ true
+runs-now : (c : Else-not-is_running) → runs (table c.before.before.before.before) (word c.before.before.before.before) ≡ true
 runs-now c = sym c.is_running.ensures ∙ c.if-not-is_running.false
 
 small : (c : Else-not-is_running) → slot_of (word c.before.before.before.before) < 4096
@@ -43,8 +44,8 @@ small c =
     omega (arith, word-inside (table c.before.before.before.before) (word c.before.before.before.before) (runs-now c), length-chunks width slot_of_words c.args.count c.args.slots.now, c.requires.few)
 
 -- one that does not run, or runs twice, refuses the whole
-refused : (c : At-loop-k) → let a = c.before.before.before.args in
-    false ≡ running_test a.chain.now a.n (table c) → RunningTold a.chain.now a.n (table c) (record { good = false; set = c.loop.seen })
+refused : (c : At-loop-k) → let a = c.args in
+    false ≡ running_test a.chain.now a.n (table c) → RunningTold a.chain.now a.n (table c) (record { good = false; set = c.loop-k.seen })
 refused c e = record { good = e; long = c.loop-k.invariant.long; set = λ f. absurd (false≢true f) }
 
 pub loop-k-init : goal.loop-k-init

@@ -74,10 +74,10 @@ abbrev start_of : Else-not-numbers_ok → Start
 start_of c = begin-of c.before.before
 
 -- what each part told
-held : (c : Else-not-setup_held) → setup_held c.before.before.before.before.before.before.before.before.before.before.before.args.setup.now ≡ true
+held : (c : Else-not-setup_held) → setup_held c.args.setup.now ≡ true
 held c = sym c.setup_held.ensures ∙ c.if-not-setup_held.false
 
-numbers : (c : After-numbers_ok) (b : Bool) → c.numbers-ok.result ≡ b → let start = begin-of c.before in counted (lent start) start.args.m start.args.fuel ≡ b
+numbers : (c : After-numbers_ok) (b : Bool) → c.numbers_ok.result ≡ b → let start = begin-of c.before in counted (lent start) start.args.m start.args.fuel ≡ b
 numbers c b e = sym (ap (numbers-by (begin-of c.before)) c.sizes-sizes.ensures.words) ∙ sym c.numbers_ok.ensures ∙ e
 
 ready : (c : Else-not-numbers_ok) → let start = start_of c in counted (lent start) start.args.m start.args.fuel ≡ true
@@ -86,7 +86,7 @@ ready c = numbers c.before true c.if-not-numbers_ok.false
 abbrev sizes-of : After-objects_ok → After-sizes-sizes
 sizes-of c = c.before.before.before.before.before.before.before.before
 
-objects : (c : After-objects_ok) (b : Bool) → c.objects-ok.result ≡ b → let start = begin-of (sizes-of c) in objects-by start (sizes_of (setup_of start.args.setup.now)) ≡ b
+objects : (c : After-objects_ok) (b : Bool) → c.objects_ok.result ≡ b → let start = begin-of (sizes-of c) in objects-by start (sizes_of (setup_of start.args.setup.now)) ≡ b
 objects c b e = sym (ap (objects-by (begin-of (sizes-of c))) (sizes-of c).sizes.ensures.words) ∙ sym c.objects_ok.ensures ∙ e
 
 passed-1 : (c : Else-not-setup_held) → Passed 1 c.before.before.before.before.before.before.before.before.before.before.before

@@ -4,16 +4,17 @@ use Prim.Native.Nat.{◌-◌}
 use native.Mathlib.Omega.{arith}
 use lib.ListN.{length-set}
 use Rattle.check_tables.proofs.Widths.{Function, setup-facts, kept, told}
+use Rattle.check_tables.proofs.catches.catches.Invariants as inv
 use Rattle.check_tables.proofs.catches.catches.Lts as lts
 use Rattle.check_tables.proofs.catches.catches.Reads as reads
 use Rattle.check_tables.proofs.catches.catches.Tie as tie
 use Rattle.check_tables.proofs.catches.catches.Goals as goal
 
 abbrev In-loop-i : Type 0
-In-loop-i = lts.In-loop tie.the-claims reads.Pre reads.Post goal.invariant-loop-i goal.decreases-loop-i
+In-loop-i = lts.In-loop tie.the-claims reads.Pre reads.Post inv.invariant-loop-i inv.decreases-loop-i
 
 -- the function of this turn
-turn : (c : In-loop-i) → Function c.before.before.before.before.args.setup.now c.before.loop.i
+turn : (c : In-loop-i) → Function c.args.setup.now c.loop-i.i
 turn c = (setup-facts c.args.setup.now c.requires).each c.loop-i.i (omega arith)
 
 pub bounds-setup-13 : goal.bounds-setup-13

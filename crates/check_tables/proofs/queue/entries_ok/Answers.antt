@@ -10,20 +10,21 @@ use Rattle.heap.specs.Word.{slot_of}
 use Rattle.heap.specs.Heap.{slots_of, coro_of}
 use Rattle.check_tables.specs.Queue.{by_coro, mark_of}
 use Rattle.check_tables.proofs.Entries.{has, put-mark, first, small, unmarked, again, one_more, all}
+use Rattle.check_tables.proofs.queue.entries_ok.Invariants as inv
 use Rattle.check_tables.proofs.queue.entries_ok.Lts as lts
 use Rattle.check_tables.proofs.queue.entries_ok.Reads as reads
 use Rattle.check_tables.proofs.queue.entries_ok.Tie as tie
 use Rattle.check_tables.proofs.queue.entries_ok.Goals as goal
 
 abbrev Else-not-is_marked : Type 0
-Else-not-is_marked = lts.Else1 tie.the-claims reads.Pre reads.Post goal.invariant-loop-i goal.decreases-loop-i
+Else-not-is_marked = lts.Else1 tie.the-claims reads.Pre reads.Post inv.invariant-loop-i inv.decreases-loop-i
 
 -- the word is marked, and its slot in range
 marked : (c : Else-not-is_marked)
-    → let at-loop = c.before.before.before.before in let a = at-loop.before.before.before.args in by_coro (mark_of a.task) (coro_of (slots_of a.count a.slots.now) (get_or a.q.now (at-loop.loop.i - 1) 0)) ≡ true
+    → let a = c.args in by_coro (mark_of a.task) (coro_of (slots_of a.count a.slots.now) (get_or a.q.now (c.loop-i.i - 1) 0)) ≡ true
 marked c = sym c.is_marked.ensures ∙ c.if-not-is_marked.false
 
-in-range : (c : Else-not-is_marked) → let at-loop = c.before.before.before.before in let a = at-loop.before.before.before.args in slot_of (get_or a.q.now (at-loop.loop.i - 1) 0) < 4096
+in-range : (c : Else-not-is_marked) → let a = c.args in slot_of (get_or a.q.now (c.loop-i.i - 1) 0) < 4096
 in-range c =
     let a = c.args in
     small a.task a.slots.now a.q.now a.n a.count c.requires (c.loop-i.i - 1) (marked c)

@@ -59,13 +59,13 @@ Passed n c = let ws = c.args.setup.now in Left (from n (tests ws)) (setup_held w
 begun : (c : Start) → Passed 0 c
 begun c = record { is = setup-test c.args.setup.now }
 
-long : (c : After-long_ok) (b : Bool) → c.long_ok.result ≡ b → long_test c.before.before.args.setup.now ≡ b
+long : (c : After-long_ok) (b : Bool) → c.long_ok.result ≡ b → long_test c.args.setup.now ≡ b
 long c b e = sym c.long_ok.ensures ∙ e
 
-limits : (c : After-limits_ok) (b : Bool) → c.limits-ok.result ≡ b → limits_ok (limits_of c.before.before.before.before.before.before.args.setup.now) ≡ b
+limits : (c : After-limits_ok) (b : Bool) → c.limits_ok.result ≡ b → limits_ok (limits_of c.args.setup.now) ≡ b
 limits c b e = sym (ap limits_ok c.limits.ensures) ∙ sym c.limits_ok.ensures ∙ e
 
-costs : (c : After-costs_ok) (b : Bool) → c.costs-ok.result ≡ b → costs_ok (costs_of c.before.before.before.before.before.before.before.before.before.args.setup.now) ≡ b
+costs : (c : After-costs_ok) (b : Bool) → c.costs_ok.result ≡ b → costs_ok (costs_of c.args.setup.now) ≡ b
 costs c b e = sym (ap costs_ok c.costs.ensures) ∙ sym c.costs_ok.ensures ∙ e
 
 passed-1 : (c : Else-not-long_ok) → Passed 1 c.before.before.before
@@ -84,7 +84,7 @@ passed-5 : (c : Else-not-functions_ok) → Passed 5 c.before.before.before.befor
 passed-5 c = pass (passed-4 c.before.before) (sym c.functions_ok.ensures ∙ c.if-not-functions_ok.false)
 
 -- words enough for the numbers and the functions
-enough : (c : Else-not-long_ok) → let ws = c.before.before.before.args.setup.now in
+enough : (c : Else-not-long_ok) → let ws = c.args.setup.now in
     (14 ≤ length ws) × (14 + get_or ws 13 0 * 35 ≤ length ws) × (between 1 32 (get_or ws 13 0) ≡ true)
 enough c = long_of c.args.setup.now (long c.before true c.if-not-long_ok.false)
 

@@ -54,8 +54,8 @@ words c b =
 searched : (c : After-start_finalizer-did) (w : World) (b : Beside) →
     let entry = start_of c in
     Rep entry.args.sizes w (mem entry b) entry.args.m entry.args.fuel → sound w ≡ true
-    → Does entry.args.sizes (start_finalizer (store_pc entry.args.pc w)) (words c b) c.start-finalizer.result.machine c.start-finalizer.result.fuel
-    c.start-finalizer.result.answer
+    → Does entry.args.sizes (start_finalizer (store_pc entry.args.pc w)) (words c b) c.start_finalizer-did.result.machine c.start_finalizer-did.result.fuel
+    c.start_finalizer-did.result.answer
 searched c w b rep snd =
     let at-store-pc = store-pc-of c.before in
     let entry = at-store-pc.before.before.before.before.before.before.before.before.before in

@@ -24,8 +24,7 @@ abbrev slot : In-At → ℕ
 slot c = c.in-At.i
 
 found : (c : After-coro_at-c) →
-    let at-known-told = c.before in let start = at-known-told.before.before.before.before.before in
-    RV.At (slot at-known-told) c.coro-at.result ≡ coro_of (slots_of start.args.m.count start.args.slots.now) start.args.v.0
+    RV.At (slot c.before) c.coro_at-c.result ≡ coro_of (slots_of c.args.m.count c.args.slots.now) c.args.v.0
 found c =
     ap (RV.At (slot c.before)) c.coro_at-c.ensures
     ∙ (stands c.args.m.count c.args.slots.now c.args.v.0 (slot c.before) (sym c.in-At.is ∙ c.coro_place.ensures)).coro

@@ -69,8 +69,8 @@ words c b =
 entered : (c : After-coro_enter-did) (w : World) (b : Beside) →
     let at-word-at = word-at-of c in let entry = start_of at-word-at in
     Rep entry.args.sizes w (mem entry b) entry.args.m entry.args.fuel → sound w ≡ true
-    → Does entry.args.sizes (coro_enter at-word-at.word_at.result Driver.Finalize (fewer entry w)) (words c b) c.coro-enter.result.machine
-    entry.args.fuel c.coro-enter.result.answer
+    → Does entry.args.sizes (coro_enter at-word-at.word_at.result Driver.Finalize (fewer entry w)) (words c b) c.coro_enter-did.result.machine
+    entry.args.fuel c.coro_enter-did.result.answer
 entered c w b rep snd =
     let at-take-front = take-front-of c.before in let entry = start_of at-take-front.before.before in
     c.coro_enter-did.ensures (fewer entry w) (record { words = on_finalize at-take-front.take-front.last.0 b.words; fuel = entry.args.fuel })

@@ -60,7 +60,7 @@ found c l w b f rep =
     hands-at l (mem s b) s.args.m f s.args.v.0 w rep (slot c) (sym c.in-At.is ∙ c.coro_place.ensures)
 
 -- it is suspended or not, and handed over before or not
-suspended-at : (c : After-is_suspended) → is_suspended (coro_in (start_of c.before.before.before).args.slots.now (slot c.before.before.before)).state ≡ c.is-suspended.result
+suspended-at : (c : After-is_suspended) → is_suspended (coro_in (start_of c.before.before).args.slots.now (slot c.before.before)).state ≡ c.is_suspended.result
 suspended-at c = ap is_suspended (sym c.state_at-s.ensures) ∙ sym c.is_suspended.ensures
 
 abbrev place_of : After-finalized_at → In-At

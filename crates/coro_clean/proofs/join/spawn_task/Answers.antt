@@ -59,8 +59,7 @@ found c l w b rep =
 
 -- it can be resumed or not
 resumable : (c : After-is_resumable) →
-    let place = c.before.before.before.before.before.before in
-    is_resumable (coro_in (start_of place).args.slots.now (slot place)).state ≡ c.is-resumable.result
+    is_resumable (coro_in (start_of c.before.before.before.before).args.slots.now (slot c.before.before.before.before)).state ≡ c.is_resumable.result
 resumable c = ap is_resumable (sym c.state_at-s.ensures) ∙ sym c.is_resumable.ensures
 
 abbrev task-of : Else-not-is_resumable → After-task_at

@@ -47,7 +47,7 @@ found : (c : In-Row) →
     let a = (start_of (regs-at-of c)).args in Spot.Row (row c) ≡ spot_of (slots_of a.m.count a.slots.now) a.m a.sizes (regs-at-of c).regs-at.result
 found c = sym c.in-Row.is ∙ c.find_spot.ensures
 
-told : (c : After-regs_at-regs) → Numbers (start_of c).args.sizes c.regs-at.result
+told : (c : After-regs_at-regs) → Numbers (start_of c).args.sizes c.regs_at-regs.result
 told c =
     let start = start_of c in let a = start.args in let o = start.pre.ok in
     numbers a.sizes (mem start o.beside) a.m o.beside.fuel o.world o.rep a.f o.sound start.pre.function c.regs_at-regs.result c.regs_at-regs.ensures

@@ -25,8 +25,8 @@ start_of c = c.before.before.before.before.before
 
 -- what is lacking for the first test
 fault : (c : After-number) →
-    let at-lacks = c.before in let start = start_of at-lacks in
-    at-lacks.lacks.result ≡ lacks_of (heap_of start.args.m start.args.sizes) (bytes_of start.args.regs start.args.sizes.costs.coro start.args.sizes.costs.frame)
+    let start = start_of c.before in
+    c.lacks-fault.result ≡ lacks_of (heap_of start.args.m start.args.sizes) (bytes_of start.args.regs start.args.sizes.costs.coro start.args.sizes.costs.frame)
 fault c =
     c.lacks-fault.ensures ∙ ap₂ lacks_of c.heap_of-h.ensures c.bytes.ensures
 

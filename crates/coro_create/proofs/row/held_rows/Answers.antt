@@ -9,13 +9,14 @@ use Rattle.heap.specs.declared.object.Object as H
 use Rattle.heap.specs.declared.object.Object.TheVariants as O
 use Rattle.coro_create.specs.Row.{row_of, marked}
 use Rattle.coro_create.proofs.Held.{mark-next, mark-none}
+use Rattle.coro_create.proofs.row.held_rows.Invariants as inv
 use Rattle.coro_create.proofs.row.held_rows.Lts as lts
 use Rattle.coro_create.proofs.row.held_rows.Reads as reads
 use Rattle.coro_create.proofs.row.held_rows.Tie as tie
 use Rattle.coro_create.proofs.row.held_rows.Goals as goal
 
 abbrev Joined-row-lt-NONE : Type 0
-Joined-row-lt-NONE = lts.Joined1 tie.the-claims reads.Pre reads.Post goal.invariant-loop-i goal.decreases-loop-i
+Joined-row-lt-NONE = lts.Joined1 tie.the-claims reads.Pre reads.Post inv.invariant-loop-i inv.decreases-loop-i
 
 -- `held_rows` meets its contract: what is left, marked on the present marks, is the whole marked on none. Assumes nothing.
 abbrev none : List Bool
@@ -42,8 +43,7 @@ end ws count i held h k v =
 
 -- a row that is no row leaves the marks
 marks : (c : Joined-row-lt-NONE) →
-    let at-row-of = c.before in let at-loop = at-row-of.before.before.before in
-    c.if1.held ≡ set at-loop.loop.held at-row-of.row-of.result true
+    c.if-row-lt-NONE.held ≡ set c.loop-i.held c.row_of-row.result true
 marks c =
     ⊎_elim (λ z. z.1)
     (λ z. let l = c.loop-i.invariant.1 in let k = z.0.left in z.1 ∙ sym (mark-none c.loop-i.held c.row_of-row.result (omega arith)))

@@ -7,22 +7,23 @@ use Rattle.memory_world.specs.Lendings.{plain}
 use Rattle.memory_world.proofs.Does.{SameLengths}
 use Rattle.coro_end.specs.Last.{ending}
 use Rattle.coro_end.proofs.Failing.{along-start, along-none, along-fewer, along-more}
+use Rattle.coro_end.proofs.abort.fail_all.Invariants as inv
 use Rattle.coro_end.proofs.abort.fail_all.Lts as lts
 use Rattle.coro_end.proofs.abort.fail_all.Reads as reads
 use Rattle.coro_end.proofs.abort.fail_all.Tie as tie
 use Rattle.coro_end.proofs.abort.fail_all.Goals as goal
 
 abbrev Start : Type 0
-Start = lts.Start tie.the-claims reads.Pre reads.Post goal.invariant-loop-n goal.decreases-loop-n
+Start = lts.Start tie.the-claims reads.Pre reads.Post inv.invariant-loop-n inv.decreases-loop-n
 
 abbrev At-loop-n : Type 0
-At-loop-n = lts.At-loop tie.the-claims reads.Pre reads.Post goal.invariant-loop-n goal.decreases-loop-n
+At-loop-n = lts.At-loop tie.the-claims reads.Pre reads.Post inv.invariant-loop-n inv.decreases-loop-n
 
 abbrev After-end_last-n : Type 0
-After-end_last-n = lts.After-end_last tie.the-claims reads.Pre reads.Post goal.invariant-loop-n goal.decreases-loop-n
+After-end_last-n = lts.After-end_last tie.the-claims reads.Pre reads.Post inv.invariant-loop-n inv.decreases-loop-n
 
 abbrev After-slice_known-in-loop-n-4-1 : Type 0
-After-slice_known-in-loop-n-4-1 = lts.After-slice_known8 tie.the-claims reads.Pre reads.Post goal.invariant-loop-n goal.decreases-loop-n
+After-slice_known-in-loop-n-4-1 = lts.After-slice_known8 tie.the-claims reads.Pre reads.Post inv.invariant-loop-n inv.decreases-loop-n
 
 -- the ways back that several clauses take, and the words there
 abbrev start_of : At-loop-n → Start
@@ -38,7 +39,7 @@ abbrev at-end : After-end_last-n → Beside → Lent
 at-end c = let e = c.end_last-n.new in ending e.0 e.1.0 e.1.1.0 e.1.1.1.0 plain
 
 so_far : (c : At-loop-n) →
-    let a = (start_of c).args in let n = c.loop in let b = n.invariant.some.beside in
+    let a = (start_of c).args in let n = c.loop-n in let b = n.invariant.some.beside in
     SameLengths (ending a.chain.now a.slots.now a.saved-stack.now a.saved-frames.now plain b) (ending n.chain n.slots n.saved-stack n.saved-frames plain b)
 so_far c = c.loop-n.invariant.kept c.loop-n.invariant.some.beside
 

@@ -21,7 +21,7 @@ coro_enter-requires c =
     let o = c.requires.ok in
     stored_ok c.args.sizes (only c.args.m) c.args.stack.now c.args.frames.now c.args.chain.now c.args.slots.now
     c.args.saved_stack.now c.args.saved_frames.now
-    c.store_pc.new.frames c.args.pc c.store_pc.auto.0 c.requires.narrow o
+    c.store_pc.new.frames c.args.pc c.store_pc.auto.frames c.requires.narrow o
     (c.store_pc.ensures c.args.sizes o.world (record { words = mem c.before.before.before.before.before.before.before.before.before.before.before.before.before.before.before.before o.beside; fuel = o.beside.fuel }) o.rep)
 
 pub returns : goal.returns

@@ -59,12 +59,12 @@ found c =
     ap (RV.At (slot c)) c.coro_at-c.ensures
     ∙ (stands start.args.m.count start.args.slots.now start.args.v.0 (slot c) (sym c.in-At.is ∙ c.coro_place.ensures)).coro
 
-none : (c : Else-number-ne0) → number_of c.before.before.refusal.result ≡ 0
+none : (c : Else-number-ne0) → number_of c.refusal-fault.result ≡ 0
 none c = sym c.number.ensures ∙ c.if-number-ne0.false
 
 sum : (c : Else-number-ne0) →
-    let at-coro-at = c.before.before.before in let start = start_of at-coro-at in
-    Grows start.args.sizes (mem start start.pre.beside) start.args.m (slot at-coro-at) (coro at-coro-at)
+    let start = start_of c.before.before.before in
+    Grows start.args.sizes (mem start start.pre.beside) start.args.m (slot c.before.before.before) (coro c.before.before.before)
 sum c =
     let start = start_of c.before.before.before in
     ok-sums start.pre start.args.v.0 (found c.before.before.before) c.refusal-fault.ensures (none c)

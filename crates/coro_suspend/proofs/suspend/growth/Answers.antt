@@ -12,7 +12,7 @@ abbrev After-beyond-deep : Type 0
 After-beyond-deep = lts.After-beyond2 tie.the-claims reads.Pre reads.Post
 
 -- `growth` meets its contract: the numbers are small. Assumes nothing.
-product : (c : After-beyond-deep) → c.beyond2.result * c.before.before.before.args.sizes.costs.frame ≤ 8388608
+product : (c : After-beyond-deep) → c.beyond-deep.result * c.args.sizes.costs.frame ≤ 8388608
 product c =
     let a = c.args in let e = c.beyond-deep.ensures in let p = c.requires in small_product c.beyond-deep.result a.sizes.costs.frame (omega (arith, p.1)) p.2
 

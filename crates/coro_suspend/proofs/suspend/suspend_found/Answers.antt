@@ -75,7 +75,7 @@ pub shape_of-frames-in-Done : goal.shape_of-frames-in-Done
 shape_of-frames-in-Done c = (move-out-of c.before.before).move-out.auto.1.0
 
 pub shape_of-chain : goal.shape_of-chain
-shape_of-chain c = c.pop_active.auto.0
+shape_of-chain c = c.pop_active.auto.chain
 
 pub shape_of-slots : goal.shape_of-slots
 shape_of-slots c = c.put_sleep.auto.0

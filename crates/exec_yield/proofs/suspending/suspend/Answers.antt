@@ -75,7 +75,7 @@ deliver_all-requires c =
 pub shape_of-frames : goal.shape_of-frames
 shape_of-frames c =
     let at-coro-suspend = coro-suspend-of c.before.before.before.before.before.before.before.before in let at-store-pc = store-pc-of at-coro-suspend.before in
-    c.deliver_all.auto.1.0 ∙ at-coro-suspend.coro-suspend.kept.1.0 ∙ at-store-pc.store-pc.kept.0
+    c.deliver_all.auto.frames ∙ at-coro-suspend.coro-suspend.kept.1.0 ∙ at-store-pc.store-pc.kept.0
 
 pub returns : goal.returns
 returns c =

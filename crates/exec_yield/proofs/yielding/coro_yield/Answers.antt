@@ -55,7 +55,7 @@ yield_key-requires c =
     let start = start_of c.before.before.before.before.before.before.before.before.before.before.before.before.before.before.before in
     let o = start.pre.ok in
     key-run start.args.sizes start.args.m _ start.args.stack.now start.args.frames.now start.args.chain.now start.args.slots.now
-    start.args.saved_stack.now start.args.saved_frames.now _ c.largest_in-largest.result start.args.pc o c.auto_key-did.auto.0
+    start.args.saved_stack.now start.args.saved_frames.now _ c.largest_in-largest.result start.args.pc o c.auto_key-did.auto.slots
     (some-active start.args.m.active c.if-m-eq0.false) start.pre.narrow
     (c.auto_key-did.ensures o.world (record { words = mem start o.beside; fuel = o.beside.fuel }) o.rep o.sound).world
 

@@ -7,25 +7,26 @@ use Rattle.outer_call.specs.State.{nine}
 use Rattle.outer_run.proofs.Written.{in-calls}
 use Rattle.linked_calls.specs.Host.{Host, host}
 use Rattle.linked_batch.proofs.Going.{going_start, going_more, going_end}
+use Rattle.linked_batch.proofs.list.do_list.Invariants as inv
 use Rattle.linked_batch.proofs.list.do_list.Lts as lts
 use Rattle.linked_batch.proofs.list.do_list.Reads as reads
 use Rattle.linked_batch.proofs.list.do_list.Tie as tie
 use Rattle.linked_batch.proofs.list.do_list.Goals as goal
 
 abbrev Start : Type 0
-Start = lts.Start tie.the-claims reads.Pre reads.Post goal.invariant-loop-i goal.decreases-loop-i
+Start = lts.Start tie.the-claims reads.Pre reads.Post inv.invariant-loop-i inv.decreases-loop-i
 
 abbrev At-loop-i : Type 0
-At-loop-i = lts.At-loop tie.the-claims reads.Pre reads.Post goal.invariant-loop-i goal.decreases-loop-i
+At-loop-i = lts.At-loop tie.the-claims reads.Pre reads.Post inv.invariant-loop-i inv.decreases-loop-i
 
 abbrev In-loop-i : Type 0
-In-loop-i = lts.In-loop tie.the-claims reads.Pre reads.Post goal.invariant-loop-i goal.decreases-loop-i
+In-loop-i = lts.In-loop tie.the-claims reads.Pre reads.Post inv.invariant-loop-i inv.decreases-loop-i
 
 abbrev After-one : Type 0
-After-one = lts.After-one tie.the-claims reads.Pre reads.Post goal.invariant-loop-i goal.decreases-loop-i
+After-one = lts.After-one tie.the-claims reads.Pre reads.Post inv.invariant-loop-i inv.decreases-loop-i
 
 abbrev After-slice_known-in-loop-i-11-1 : Type 0
-After-slice_known-in-loop-i-11-1 = lts.After-slice_known22 tie.the-claims reads.Pre reads.Post goal.invariant-loop-i goal.decreases-loop-i
+After-slice_known-in-loop-i-11-1 = lts.After-slice_known22 tie.the-claims reads.Pre reads.Post inv.invariant-loop-i inv.decreases-loop-i
 
 -- the ways back that several clauses take, and the machine there
 abbrev start_of : At-loop-i → Start

@@ -75,9 +75,9 @@ full : (c : Else-calls-i-lt-CALL_WIDTH) → let a = (start_of c).args in a.i * 6
 full c = let h = (start_of c).requires.call in let k = c.if-calls-i-lt-CALL_WIDTH.false in omega (arith, h, k)
 
 -- the call that they say, where the first and the last two are known
-read_as : {n d e : ℕ} (c : After-word-e) → c.before.before.before.before.before.word.result ≡ n → c.before.word5.result ≡ d → c.word6.result ≡ e →
+read_as : {n d e : ℕ} (c : After-word-e) → c.word-n.result ≡ n → c.word-d.result ≡ d → c.word-e.result ≡ e →
     let a = (start_of c.before.before.before.before.before.before).args in
-    op_of (six n c.before.before.before.before.word2.result c.before.before.before.word3.result c.before.before.word4.result d e) ≡ read_in a.calls.now a.i
+    op_of (six n c.word-a.result c.word-b.result c.word-c.result d e) ≡ read_in a.calls.now a.i
 read_as c p q r =
     let a = (start_of c.before.before.before.before.before.before).args in
     words-read a.calls.now a.i (full c.before.before.before.before.before.before) (sym p ∙ c.word-n.ensures) c.word-a.ensures c.word-b.ensures c.word-c.ensures

@@ -44,7 +44,7 @@ left_by c = nine c.set_up-did.new.stack c.set_up-did.new.frames c.set_up-did.new
     c.set_up-did.new.saved_stack c.set_up-did.new.saved_frames c.set_up-did.new.ready
     c.set_up-did.new.finalize c.set_up-did.new.setup plain
 
-tried : (c : After-tell-n) → let set = set-up-of c in let start = start_of set in Tried (of start) start.args.given.now (left_by set) set.set-up.result c.tell.result
+tried : (c : After-tell-n) → let set = set-up-of c in let start = start_of set in Tried (of start) start.args.given.now (left_by set) set.set-up.result c.tell-n.result
 tried c =
     let set = set-up-of c in let at_fuel = set.before.before.before.before.before.before.before.before.before.before in let at-machine = at_fuel.before.before in
     record {
@@ -93,7 +93,7 @@ pub shape_of-setup-then-n-ne0 : goal.shape_of-setup-then-n-ne0
 shape_of-setup-then-n-ne0 c = (set-up-of c.before.before.before.before).set-up.auto.1.1.1.1.1.1.1.1.0
 
 pub shape_of-answer-then-n-ne0 : goal.shape_of-answer-then-n-ne0
-shape_of-answer-then-n-ne0 c = c.tell-n.auto.0
+shape_of-answer-then-n-ne0 c = c.tell-n.auto.answer
 
 pub returns-then-n-ne0 : goal.returns-then-n-ne0
 returns-then-n-ne0 c =
@@ -111,7 +111,7 @@ put_machine-requires c = (start_of (set-up-of c.before.before.before.before.befo
 pub put_sizes-requires : goal.put_sizes-requires
 put_sizes-requires c =
     let start = start_of (set-up-of c.before.before.before.before.before.before.before.before.before.before) in
-    let k = c.put_machine.auto.0 in let h = start.pre.machine in omega arith
+    let k = c.put_machine.auto.ws in let h = start.pre.machine in omega arith
 
 pub put_fuel-requires : goal.put_fuel-requires
 put_fuel-requires c = (start_of (set-up-of c.before.before.before.before.before.before.before.before.before.before.before.before.before.before)).requires.fuel
@@ -144,10 +144,10 @@ pub shape_of-setup : goal.shape_of-setup
 shape_of-setup c = (set-up-of (tell-of c.before)).set-up.auto.1.1.1.1.1.1.1.1.0
 
 pub shape_of-machine : goal.shape_of-machine
-shape_of-machine c = c.put_sizes.auto.0 ∙ c.put_machine.auto.0
+shape_of-machine c = c.put_sizes.auto.ws ∙ c.put_machine.auto.ws
 
 pub shape_of-fuel : goal.shape_of-fuel
-shape_of-fuel c = c.put_fuel.auto.0
+shape_of-fuel c = c.put_fuel.auto.ws
 
 pub shape_of-answer : goal.shape_of-answer
 shape_of-answer c = (tell-of c.before).tell.auto.0

@@ -50,7 +50,7 @@ pub tell-requires : goal.tell-requires
 tell-requires c = c.if-answer-lt-ANSWER_WIDTH.false
 
 pub shape_of-answer-then-machine-lt-MACHINE_WIDTH : goal.shape_of-answer-then-machine-lt-MACHINE_WIDTH
-shape_of-answer-then-machine-lt-MACHINE_WIDTH c = c.tell.auto.0
+shape_of-answer-then-machine-lt-MACHINE_WIDTH c = c.tell.auto.answer
 
 pub returns-then-machine-lt-MACHINE_WIDTH : goal.returns-then-machine-lt-MACHINE_WIDTH
 returns-then-machine-lt-MACHINE_WIDTH c =
@@ -61,7 +61,7 @@ pub tell-requires-then-fuel-lt-FUEL_WIDTH : goal.tell-requires-then-fuel-lt-FUEL
 tell-requires-then-fuel-lt-FUEL_WIDTH c = c.if-answer-lt-ANSWER_WIDTH.false
 
 pub shape_of-answer-then-fuel-lt-FUEL_WIDTH : goal.shape_of-answer-then-fuel-lt-FUEL_WIDTH
-shape_of-answer-then-fuel-lt-FUEL_WIDTH c = c.tell-then-fuel-lt-FUEL_WIDTH.auto.0
+shape_of-answer-then-fuel-lt-FUEL_WIDTH c = c.tell-then-fuel-lt-FUEL_WIDTH.auto.answer
 
 pub returns-then-fuel-lt-FUEL_WIDTH : goal.returns-then-fuel-lt-FUEL_WIDTH
 returns-then-fuel-lt-FUEL_WIDTH c =

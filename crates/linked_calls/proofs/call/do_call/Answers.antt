@@ -68,7 +68,7 @@ pub tell-requires : goal.tell-requires
 tell-requires c = c.requires.room
 
 pub shape_of-answer-then-not-ok : goal.shape_of-answer-then-not-ok
-shape_of-answer-then-not-ok c = c.tell.auto.0
+shape_of-answer-then-not-ok c = c.tell.auto.answer
 
 pub returns-then-not-ok : goal.returns-then-not-ok
 returns-then-not-ok c =
@@ -124,13 +124,13 @@ pub shape_of-finalize : goal.shape_of-finalize
 shape_of-finalize c = (do-read-of c.before).do-read.auto.1.1.1.1.1.1.1.0
 
 pub shape_of-machine : goal.shape_of-machine
-shape_of-machine c = c.put_machine.auto.0
+shape_of-machine c = c.put_machine.auto.ws
 
 pub shape_of-fuel : goal.shape_of-fuel
-shape_of-fuel c = c.put_fuel.auto.0
+shape_of-fuel c = c.put_fuel.auto.ws
 
 pub shape_of-answer : goal.shape_of-answer
-shape_of-answer c = c.tell-2.auto.0
+shape_of-answer c = c.tell-2.auto.answer
 
 pub returns : goal.returns
 returns c =

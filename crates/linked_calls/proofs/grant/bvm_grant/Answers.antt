@@ -26,10 +26,10 @@ pub do_grant-requires : goal.do_grant-requires
 do_grant-requires c = record { known = c.tested-ok.ensures; room = c.if-answer-lt-ANSWER_WIDTH.false }
 
 pub shape_of-fuel : goal.shape_of-fuel
-shape_of-fuel c = c.do_grant.auto.1.1.1.1.1.1.1.1.1.1.1.0
+shape_of-fuel c = c.do_grant.auto.fuel
 
 pub shape_of-answer : goal.shape_of-answer
-shape_of-answer c = c.do_grant.auto.1.1.1.1.1.1.1.1.1.1.1.1.0
+shape_of-answer c = c.do_grant.auto.answer
 
 pub returns : goal.returns
 returns c = c.do_grant.ensures

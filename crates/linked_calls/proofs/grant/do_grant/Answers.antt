@@ -41,7 +41,7 @@ pub tell-requires : goal.tell-requires
 tell-requires c = c.requires.room
 
 pub shape_of-answer-then-not-ok : goal.shape_of-answer-then-not-ok
-shape_of-answer-then-not-ok c = c.tell.auto.0
+shape_of-answer-then-not-ok c = c.tell.auto.answer
 
 pub returns-then-not-ok : goal.returns-then-not-ok
 returns-then-not-ok c =
@@ -61,10 +61,10 @@ pub tell-requires-2 : goal.tell-requires-2
 tell-requires-2 c = (start_of c.before.before.before.before.before.before.before.before.before.before).requires.room
 
 pub shape_of-fuel : goal.shape_of-fuel
-shape_of-fuel c = c.put_fuel.auto.0
+shape_of-fuel c = c.put_fuel.auto.ws
 
 pub shape_of-answer : goal.shape_of-answer
-shape_of-answer c = c.tell-2.auto.0
+shape_of-answer c = c.tell-2.auto.answer
 
 pub returns : goal.returns
 returns c =

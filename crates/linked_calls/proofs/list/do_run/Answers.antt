@@ -60,7 +60,7 @@ sound c = sym (start_of (count_of c)).requires ∙ c.if-not-ok.false
 long : (c : Else-not-ok) → let a = (start_of (count_of c)).args in (25 ≤ length a.machine.now) × (4 ≤ length a.fuel.now)
 long c = let start = start_of (count_of c) in long-numbers start.args.machine.now start.args.fuel.now (numbers (of start) (sound c))
 
-room : (c : Else-answers-n) → c.before.count.result * 8 ≤ length (start_of c.before).args.answers.now
+room : (c : Else-answers-n) → c.count-n.result * 8 ≤ length (start_of c.before).args.answers.now
 room c =
     let xs = (start_of c.before).args.answers.now in
     let h = c.if-answers-n.false in
@@ -81,7 +81,7 @@ pub refuse_list-requires : goal.refuse_list-requires
 refuse_list-requires c = room c.before.before.before
 
 pub shape_of-answers-then-not-ok : goal.shape_of-answers-then-not-ok
-shape_of-answers-then-not-ok c = c.refuse_list.auto.0
+shape_of-answers-then-not-ok c = c.refuse_list.auto.answers
 
 pub returns-then-not-ok : goal.returns-then-not-ok
 returns-then-not-ok c =
@@ -140,10 +140,10 @@ pub shape_of-finalize : goal.shape_of-finalize
 shape_of-finalize c = (run-list-of c.before).run-list.auto.1.1.1.1.1.1.1.0
 
 pub shape_of-machine : goal.shape_of-machine
-shape_of-machine c = c.put_machine.auto.0
+shape_of-machine c = c.put_machine.auto.ws
 
 pub shape_of-fuel : goal.shape_of-fuel
-shape_of-fuel c = c.put_fuel.auto.0
+shape_of-fuel c = c.put_fuel.auto.ws
 
 pub shape_of-answers : goal.shape_of-answers
 shape_of-answers c = (run-list-of c.before).run-list.auto.1.1.1.1.1.1.1.1.1.1.1.1.1.0

@@ -34,7 +34,7 @@ start_of c = c.before.before.before.before.before.before.before.before.before.be
 wide : (c : Start) → (25 ≤ length c.args.machine.now) × (4 ≤ length c.args.fuel.now)
 wide c = long-numbers c.args.machine.now c.args.fuel.now (numbers (of c) c.requires)
 
-told : (c : After-seen-part) → let m = c.before.before.machine-of.result in let xs = c.seen.result.now in
+told : (c : After-seen-part) → let m = c.machine_of-m.result in let xs = c.seen-part.result.now in
     (length xs ≤ m.height) × Spans (of (start_of c.before.before)) (record { start = m.height - length xs; end = m.height })
 told c =
     let start = start_of c.before.before in

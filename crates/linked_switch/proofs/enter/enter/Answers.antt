@@ -58,14 +58,14 @@ left-words c = let s = c.enter_at.new in lent s.0 s.1.0 s.1.1.0 s.1.1.1.0 s.1.1.
 
 -- what the numbers' words hold
 told : (c : After-put_numbers) →
-    let a = (begun (entry_of c)).args in c.put-numbers.new.0 ≡ entered_over (grown (machine_in a.machine.now) (record_at a.slots.now a.i)) a.machine.now
+    let a = (begun (entry_of c)).args in c.put_numbers.new.machine ≡ entered_over (grown (machine_in a.machine.now) (record_at a.slots.now a.i)) a.machine.now
 told c =
     let at-enter-at = entry_of c in let ms = (begun at-enter-at).args.machine.now in
     c.put_numbers.ensures ∙ ap₂ (λ x y. set (set (set ms 0 ((machine_in ms).height + x)) 1 ((machine_in ms).depth + y)) 2 ((machine_in ms).active + 1))
     (read_of at-enter-at).before.before.before.before.regs-at.ensures (read_of at-enter-at).before.before.frames-at.ensures
 
 -- whether it is new, by its state
-new : (c : After-is_created) → let a = (begun (entry_of c.before.before.before)).args in c.is-created.result ≡ is_created (record_at a.slots.now a.i).state
+new : (c : After-is_created) → let a = (begun (entry_of c.before.before.before)).args in c.is_created.result ≡ is_created (record_at a.slots.now a.i).state
 new c = c.is_created.ensures ∙ ap is_created (read_of (entry_of c.before.before.before)).before.before.before.before.before.before.state-at.ensures
 
 pub state_at-state-requires : goal.state_at-state-requires
@@ -81,7 +81,7 @@ pub waiting_at-waiting-requires : goal.waiting_at-waiting-requires
 waiting_at-waiting-requires c = (sum (at-fits (start_of c.before.before.before.before.before.before).requires)).slot
 
 pub enter_at-requires : goal.enter_at-requires
-enter_at-requires c = let s = c.store_pc in enter-asks (start_of c.before.before.before.before.before.before.before.before.before.before.before.before).requires s.new.frames s.ensures s.auto.0
+enter_at-requires c = let s = c.store_pc in enter-asks (start_of c.before.before.before.before.before.before.before.before.before.before.before.before).requires s.new.frames s.ensures s.auto.frames
 
 pub bounds-machine-0-2 : goal.bounds-machine-0-2
 bounds-machine-0-2 c = let h = (begun c.before.before.before.before.before.before.before.before.before.before.before.before.before.before).requires.words in omega (arith, h)
@@ -121,7 +121,7 @@ send-requires c =
 pub shape_of-frames-then-not-is_created : goal.shape_of-frames-then-not-is_created
 shape_of-frames-then-not-is_created c =
     let at-enter-at = entry_of c.before.before.before.before.before.before.before.before.before.before.before.before in
-    c.send.auto.1.0 ∙ at-enter-at.enter-at.kept.1.0 ∙ (pc-of at-enter-at).store-pc.kept.0
+    c.send.auto.frames ∙ at-enter-at.enter-at.kept.1.0 ∙ (pc-of at-enter-at).store-pc.kept.0
 
 pub returns-then-not-is_created : goal.returns-then-not-is_created
 returns-then-not-is_created c =

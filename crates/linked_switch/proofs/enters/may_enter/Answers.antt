@@ -55,23 +55,23 @@ abbrev if2-of : Else-machine-base → Else-fuel-eq0
 if2-of c = c.before.before.before.before
 
 -- what the word in register c names
-named : (c : After-coro_place) → let a = (start_of c).args in c.coro-place.result ≡ to_enter a.stack.now a.frames.now a.slots.now a.machine.now a.c
+named : (c : After-coro_place) → let a = (start_of c).args in c.coro_place.result ≡ to_enter a.stack.now a.frames.now a.slots.now a.machine.now a.c
 named c =
     let a = (start_of c).args in
     c.coro_place.ensures ∙ ap (λ b. place_of (coro_of (slots_of (machine_in a.machine.now).count a.slots.now) (get_or a.stack.now (b + a.c) 0)))
     c.base_at-base.ensures
 
-found : (c : In-At-2) → let a = (start_of c.before.before).args in L.At c.i.given.0.0 ≡ to_enter a.stack.now a.frames.now a.slots.now a.machine.now a.c
+found : (c : In-At-2) → let a = (start_of c.before.before).args in L.At c.in-At.i ≡ to_enter a.stack.now a.frames.now a.slots.now a.machine.now a.c
 found c = sym c.in-At.is ∙ named c.before.before
 
 -- its slot lies in the slice
-slot : (c : In-At-2) → SlotFits (start_of c.before.before).args.slots.now c.i.given.0.0
+slot : (c : In-At-2) → SlotFits (start_of c.before.before).args.slots.now c.in-At.i
 slot c =
     let start = start_of c.before.before in let a = start.args in
     stands-words (machine_in a.machine.now).count a.slots.now (get_or a.stack.now (top_in a.frames.now a.machine.now + a.c) 0) c.in-At.i (found c) start.pre.in-slots
 
 -- what its state tells
-state-of : (c : After-is_resumable) → let at_i = c.before.before.before in c.is-resumable.result ≡ is_resumable (record_at (start_of at_i.before.before).args.slots.now at_i.i.given.0.0).state
+state-of : (c : After-is_resumable) → c.is_resumable.result ≡ is_resumable (record_at (start_of c.before.before.before.before.before).args.slots.now c.in-At.i).state
 state-of c = c.is_resumable.ensures ∙ ap is_resumable c.state_at-state.ensures
 
 pub returns-then-machine-eq0 : goal.returns-then-machine-eq0

@@ -56,13 +56,13 @@ left-words c = let s = c.leave_at.new in lent s.0 s.1.0 s.1.1.0 s.1.1.1.0 s.1.1.
 
 -- its floor
 floored : (c : After-active_at-a) →
-    let a = (start_of (pc-of c)).args in c.active-at.result.floor ≡ (innermost_in a.chain.now (machine_in a.machine.now)).floor
+    let a = (start_of (pc-of c)).args in c.active_at-a.result.floor ≡ (innermost_in a.chain.now (machine_in a.machine.now)).floor
 floored c = ap (λ (x : Active). x.floor) c.active_at-a.ensures
 
 -- where the body begins
 base_read : (c : After-base_at-base) →
     let at-store-pc = pc-of (active-of c) in let a = (start_of at-store-pc).args in
-    c.base-at.result ≡ base_in at-store-pc.store-pc.last.0 (innermost_in a.chain.now (machine_in a.machine.now)).floor
+    c.base_at-base.result ≡ base_in at-store-pc.store-pc.last.0 (innermost_in a.chain.now (machine_in a.machine.now)).floor
 base_read c = c.base_at-base.ensures ∙ ap (base_in (pc-of (active-of c)).store-pc.new.0) (floored (active-of c))
 
 -- a coroutine runs: its words are there
@@ -93,12 +93,12 @@ send-requires c =
     (left-words at-leave-at) at-leave-at.leave-at.ensures
 
 pub shape_of-stack : goal.shape_of-stack
-shape_of-stack c = c.send.auto.0 ∙ (leave-of c.before.before.before.before.before.before.before.before.before.before).leave-at.auto.0
+shape_of-stack c = c.send.auto.stack ∙ (leave-of c.before.before.before.before.before.before.before.before.before.before).leave-at.auto.0
 
 pub shape_of-frames : goal.shape_of-frames
 shape_of-frames c =
     let at-leave-at = leave-of c.before.before.before.before.before.before.before.before.before.before in
-    c.send.auto.1.0 ∙ at-leave-at.leave-at.kept.1.0 ∙ (pc-of (active-of (base-of at-leave-at))).store-pc.auto.0
+    c.send.auto.frames ∙ at-leave-at.leave-at.kept.1.0 ∙ (pc-of (active-of (base-of at-leave-at))).store-pc.auto.0
 
 pub shape_of-chain : goal.shape_of-chain
 shape_of-chain c = (leave-of c.before.before.before.before.before.before.before.before.before.before).leave-at.auto.1.1.0
@@ -113,7 +113,7 @@ pub shape_of-saved_frames : goal.shape_of-saved_frames
 shape_of-saved_frames c = (leave-of c.before.before.before.before.before.before.before.before.before.before).leave-at.auto.1.1.1.1.1.0
 
 pub shape_of-machine : goal.shape_of-machine
-shape_of-machine c = c.put_numbers.auto.0
+shape_of-machine c = c.put_numbers.auto.machine
 
 pub returns : goal.returns
 returns c =

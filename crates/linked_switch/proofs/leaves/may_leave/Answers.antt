@@ -70,16 +70,16 @@ abbrev base-of : Else-maxframes_at-machine → After-base_at-base
 base-of c = c.before.before.before.before.before.before.before
 
 -- what the innermost coroutine's word names
-named : (c : After-coro_place) → let a = (start_of c.before.before.before.before.before).args in c.coro-place.result ≡ to_leave a.chain.now a.slots.now a.machine.now
+named : (c : After-coro_place) → let a = (start_of c.before.before.before.before.before).args in c.coro_place.result ≡ to_leave a.chain.now a.slots.now a.machine.now
 named c =
     let a = (start_of c.before.before.before.before.before).args in
     c.coro_place.ensures ∙ ap (λ (x : Active). place_of (coro_of (slots_of (machine_in a.machine.now).count a.slots.now) x.coro)) c.active_at-a.ensures
 
-found : (c : In-At-2) → let a = (start_of (active-of c)).args in L.At c.i.given.0.0 ≡ to_leave a.chain.now a.slots.now a.machine.now
+found : (c : In-At-2) → let a = (start_of (active-of c)).args in L.At c.in-At.i ≡ to_leave a.chain.now a.slots.now a.machine.now
 found c = sym c.in-At.is ∙ named c.before.before
 
 -- its slot lies in the slice
-slot : (c : In-At-2) → SlotFits (start_of (active-of c)).args.slots.now c.i.given.0.0
+slot : (c : In-At-2) → SlotFits (start_of (active-of c)).args.slots.now c.in-At.i
 slot c =
     let start = start_of (active-of c) in let a = start.args in
     stands-words (machine_in a.machine.now).count a.slots.now (innermost_in a.chain.now (machine_in a.machine.now)).coro c.in-At.i (found c) start.pre.in-slots
@@ -88,7 +88,7 @@ runs : (c : After-active_at-a) → 1 ≤ (machine_in (start_of c).args.machine.n
 runs c = some-active _ c.if-machine-eq0-2.false
 
 -- its floor is a frame's
-floored : (c : After-active_at-a) → c.active-at.result.floor < (machine_in (start_of c).args.machine.now).depth
+floored : (c : After-active_at-a) → c.active_at-a.result.floor < (machine_in (start_of c).args.machine.now).depth
 floored c =
     let e = ap (λ (x : Active). x.floor) c.active_at-a.ensures in let h = (start_of c).requires.floor (runs c) in
     omega (arith, h, e)
@@ -96,7 +96,7 @@ floored c =
 -- where its body begins
 based : (c : After-base_at-base) →
     let a = (start_of c.before.before.before.before.before.before.before.before.before.before.before).args in
-    c.base-at2.result ≡ base_in a.frames.now (innermost_in a.chain.now (machine_in a.machine.now)).floor
+    c.base_at-base.result ≡ base_in a.frames.now (innermost_in a.chain.now (machine_in a.machine.now)).floor
 based c =
     c.base_at-base.ensures ∙ ap (λ (x : Active). base_in (start_of c.before.before.before.before.before.before.before.before.before.before.before).args.frames.now x.floor) c.active_at-a.ensures
 
@@ -104,11 +104,11 @@ based c =
 abbrev i-of : After-next_key → In-At-2
 i-of c = c.before.before.before.before.before.before.before.before.before.before.before.before.before
 
-next-key : (c : After-next_key) → let at_i = i-of c in c.next-key.result ≡ next_key (record_at (start_of (active-of at_i)).args.slots.now at_i.i.given.0.0).largest
+next-key : (c : After-next_key) → let at_i = i-of c in c.next_key.result ≡ next_key (record_at (start_of (active-of at_i)).args.slots.now at_i.i.given.0.0).largest
 next-key c = c.next_key.ensures ∙ ap next_key c.largest_at.ensures
 
 -- a Resume waits for it
-by-resume : (c : In-At-2) → (active-of c).active-at.result.driver ≡ Driver.Resume c.before.before.before.before.before.driver.given.0.0
+by-resume : (c : In-At-2) → (active-of c).active-at.result.driver ≡ Driver.Resume c.in-Resume.to
 by-resume c = c.in-Resume.is
 
 pub returns-then-machine-eq0 : goal.returns-then-machine-eq0

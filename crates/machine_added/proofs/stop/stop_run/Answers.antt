@@ -23,9 +23,8 @@ around s b = record { words = lent s.args.stack.now s.args.frames.now s.args.cha
 
 -- where every coroutine has failed
 aborted : (c : After-abort_coros-did) →
-    let s = c.before.before.before.before.before.before.before.before.before.before.before in
-    let k = c.abort-coros in
-    Rep s.args.sizes (abort_coros s.requires.world) (lent s.args.stack.now s.args.frames.now k.new.0 k.new.1.0 k.new.1.1.0 k.new.1.1.1.0 s.requires.beside)
+    let k = c.abort_coros-did in
+    Rep c.args.sizes (abort_coros c.requires.world) (lent c.args.stack.now c.args.frames.now k.new.chain k.new.slots k.new.saved_stack k.new.saved_frames c.requires.beside)
     k.result.machine k.result.fuel
 aborted c =
     c.abort_coros-did.ensures c.requires.world (around c.before.before.before.before.before.before.before.before.before.before.before c.requires.beside) c.requires.rep (sound-rowed c.requires.world c.requires.sound)

@@ -29,7 +29,7 @@ abbrev left : After-pop-n → Beside → Lent
 left c = top_table c.pop-n.new.stack c.pop-n.new.frames (start_of c).args.slots.now plain
 
 popped : (c : After-pop-n) (w : World) (b : Beside) → let s = start_of c in
-    Rep s.args.sizes w (mem s b) s.args.m b.fuel → Rep s.args.sizes (pop_top w) (left c b) c.pop.result b.fuel
+    Rep s.args.sizes w (mem s b) s.args.m b.fuel → Rep s.args.sizes (pop_top w) (left c b) c.pop-n.result b.fuel
 popped c w b rep = let a = (start_of c).args in c.pop-n.ensures a.sizes w (record { words = on_slots a.slots.now b.words; fuel = b.fuel }) rep
 
 pub pop-n-requires : goal.pop-n-requires

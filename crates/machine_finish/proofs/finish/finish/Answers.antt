@@ -43,10 +43,10 @@ start_of c = c.before.before.before.before.before.before.before.before.before.be
 some : (c : After-frame_at-f) → 1 ≤ (start_of c).args.m.depth
 some c = omega (arith, c.if-m-eq0.false)
 
-read : (c : After-frame_at-f) → let a = (start_of c).args in (frame_in a.frames.now (a.m.depth - 1)).cont ≡ c.frame_at.result.cont
+read : (c : After-frame_at-f) → let a = (start_of c).args in (frame_in a.frames.now (a.m.depth - 1)).cont ≡ c.frame_at-f.result.cont
 read c = sym (ap (λ (x : Frame). x.cont) c.frame_at-f.ensures)
 
-top : (c : After-frame_at-f) (w : World) (b : Beside) → let s = start_of c in Rep s.args.sizes w (mem s b) s.args.m s.args.fuel → On w.frames c.frame_at.result.cont
+top : (c : After-frame_at-f) (w : World) (b : Beside) → let s = start_of c in Rep s.args.sizes w (mem s b) s.args.m s.args.fuel → On w.frames c.frame_at-f.result.cont
 top c w b rep = let s = start_of c in on-top s.args.sizes (mem s b) s.args.m s.args.fuel w rep (some c) c.frame_at-f.result.cont (read c)
 
 pub returns-then-m-eq0 : goal.returns-then-m-eq0

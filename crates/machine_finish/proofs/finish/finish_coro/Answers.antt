@@ -67,7 +67,7 @@ returns-in-Refused c =
     body_refused a.sizes (mem start f.new.slots b) f.result.machine a.fuel w a.kind a.v (top start w b rep) c.in-Refused.e (sym c.in-Refused.is ∙ d.answer) d.world
 
 pub shape_of-slots-in-Word : goal.shape_of-slots-in-Word
-shape_of-slots-in-Word c = c.coro_returned-told.auto.1.1.1.0 ∙ c.to_dyn-did.auto.0
+shape_of-slots-in-Word c = c.coro_returned-told.auto.slots ∙ c.to_dyn-did.auto.slots
 
 pub returns-in-Word : goal.returns-in-Word
 returns-in-Word c =

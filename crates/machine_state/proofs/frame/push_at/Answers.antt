@@ -71,7 +71,7 @@ push_frame-requires c =
       ok =
           ok-next s.args.sizes (mem s) (top_setup s.args.stack.now frames' s.args.setup.now plain) (only s.args.m) (only s.args.m) o (store_pc s.args.pc o.world) refl
           (store-sounds s.args.pc o.world s.pre.narrow o.sound)
-          (record { stack = refl; frames = c.store_pc.auto.0; chain = refl; slots = refl; saved_stack = refl; saved_frames = refl; ready = refl; finalize = refl; setup = refl })
+          (record { stack = refl; frames = c.store_pc.auto.frames; chain = refl; slots = refl; saved_stack = refl; saved_frames = refl; ready = refl; finalize = refl; setup = refl })
           (c.store_pc.ensures s.args.sizes o.world (around s o.beside) o.rep);
       function = s.pre.push.function;
     }

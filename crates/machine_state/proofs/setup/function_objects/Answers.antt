@@ -13,7 +13,7 @@ loop-i-init c = (omega arith, refl, slots-none _ (length c.args.slots.now) c.cle
 
 pub put_slot-requires : goal.put_slot-requires
 put_slot-requires c =
-    let k : length c.clear_words.new.s ≡ length c.args.slots.now = c.clear_words.auto.0 in
+    let k : length c.clear_words.new.s ≡ length c.args.slots.now = c.clear_words.auto.s in
     let a = c.loop-i.invariant.0 in
     let b = c.loop-i.invariant.1 in
     let t = c.loop-i-test.true in
@@ -22,18 +22,18 @@ put_slot-requires c =
 
 pub loop-i-preserved : goal.loop-i-preserved
 loop-i-preserved c =
-    let k : length c.clear_words.new.s ≡ length c.args.slots.now = c.clear_words.auto.0 in
+    let k : length c.clear_words.new.s ≡ length c.args.slots.now = c.clear_words.auto.s in
     let a = c.loop-i.invariant.0 in
     let b = c.loop-i.invariant.1 in
     let t = c.loop-i-test.true in
     let p = c.requires in (
       omega arith,
-      c.put_slot.auto.0 ∙ c.loop-i.invariant.1,
+      c.put_slot.auto.slots ∙ c.loop-i.invariant.1,
       next-slot c.loop-i.slots _ c.loop-i.i c.put_slot.ensures c.loop-i.invariant.2 (omega arith),
     )
 
 pub shape_of-slots : goal.shape_of-slots
-shape_of-slots c = c.loop-i.invariant.1 ∙ c.clear_words.auto.0
+shape_of-slots c = c.loop-i.invariant.1 ∙ c.clear_words.auto.s
 
 pub returns : goal.returns
 returns c =

@@ -14,4 +14,4 @@ returns c =
     c.clear_tables.ensures.0 c.clear_tables.ensures.1 c.clear_tables.ensures.2
     c.clear_tables.ensures.3 c.clear_tables.ensures.4
     c.clear_words.ensures c.clear_words-2.ensures (c.put_setup.ensures
-    ∙ ap (λ n. pad n c.args.given.now) (sym c.put_setup.auto.0)) c.function_objects.ensures
+    ∙ ap (λ n. pad n c.args.given.now) (sym c.put_setup.auto.setup)) c.function_objects.ensures

@@ -31,14 +31,14 @@ returns c =
       again = next-ok a.sizes (mem c.before.before.before.before.before.before.before.before.before.before.before.before.before.before.before.before.before.before.before.before.before.before.before.before.before.before.before.before.before.before.before.before.before.before.before.before) (all c.dispatch.new.stack c.dispatch.new.frames c.dispatch.new.chain c.dispatch.new.slots c.dispatch.new.saved_stack c.dispatch.new.saved_frames c.dispatch.new.ready c.dispatch.new.finalize a.setup.now plain)
           (with a.m a.fuel) (with c.dispatch.result.machine c.dispatch.result.fuel) a.op c.dispatch.result.answer within ok
           (record {
-            stack = c.dispatch.auto.0;
-            frames = c.dispatch.auto.1.0;
-            chain = c.dispatch.auto.1.1.0;
-            slots = c.dispatch.auto.1.1.1.0;
-            saved_stack = c.dispatch.auto.1.1.1.1.0;
-            saved_frames = c.dispatch.auto.1.1.1.1.1.0;
-            ready = c.dispatch.auto.1.1.1.1.1.1.0;
-            finalize = c.dispatch.auto.1.1.1.1.1.1.1.0;
+            stack = c.dispatch.auto.stack;
+            frames = c.dispatch.auto.frames;
+            chain = c.dispatch.auto.chain;
+            slots = c.dispatch.auto.slots;
+            saved_stack = c.dispatch.auto.saved_stack;
+            saved_frames = c.dispatch.auto.saved_frames;
+            ready = c.dispatch.auto.ready;
+            finalize = c.dispatch.auto.finalize;
             setup = refl;
           })
           refl (did ok.world ok.beside ok.rep ok.sound);

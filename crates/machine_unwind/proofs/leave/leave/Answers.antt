@@ -79,22 +79,22 @@ coro_escaped-did-requires c =
     (gone.pop.ensures a.sizes w (record { words = mem start o.beside; fuel = a.fuel }) o.rep))
 
 pub shape_of-stack : goal.shape_of-stack
-shape_of-stack c = c.coro_escaped-did.auto.0 ∙ (gone_of c.before.before.before.before.before.before.before.before.before.before.before.before.before.before.before.before.before.before.before.before.before.before.before.before).pop.auto.0
+shape_of-stack c = c.coro_escaped-did.auto.stack ∙ (gone_of c.before.before.before.before.before.before.before.before.before.before.before.before.before.before.before.before.before.before.before.before.before.before.before.before).pop.auto.0
 
 pub shape_of-frames : goal.shape_of-frames
-shape_of-frames c = c.coro_escaped-did.auto.1.0 ∙ (gone_of c.before.before.before.before.before.before.before.before.before.before.before.before.before.before.before.before.before.before.before.before.before.before.before.before).pop.auto.1.0
+shape_of-frames c = c.coro_escaped-did.auto.frames ∙ (gone_of c.before.before.before.before.before.before.before.before.before.before.before.before.before.before.before.before.before.before.before.before.before.before.before.before).pop.auto.1.0
 
 pub shape_of-chain : goal.shape_of-chain
-shape_of-chain c = c.coro_escaped-did.auto.1.1.0
+shape_of-chain c = c.coro_escaped-did.auto.chain
 
 pub shape_of-slots : goal.shape_of-slots
-shape_of-slots c = c.coro_escaped-did.auto.1.1.1.0
+shape_of-slots c = c.coro_escaped-did.auto.slots
 
 pub shape_of-saved_stack : goal.shape_of-saved_stack
-shape_of-saved_stack c = c.coro_escaped-did.auto.1.1.1.1.0
+shape_of-saved_stack c = c.coro_escaped-did.auto.saved_stack
 
 pub shape_of-saved_frames : goal.shape_of-saved_frames
-shape_of-saved_frames c = c.coro_escaped-did.auto.1.1.1.1.1.0
+shape_of-saved_frames c = c.coro_escaped-did.auto.saved_frames
 
 pub returns : goal.returns
 returns c =

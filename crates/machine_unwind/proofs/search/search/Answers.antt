@@ -9,25 +9,26 @@ use Rattle.memory_world.specs.Lendings.{six_setup, plain}
 use Rattle.memory_world.specs.Contract.{with}
 use Rattle.memory_world.proofs.Does.{SameLengths}
 use Rattle.machine_unwind.proofs.Along.{along-start, along-none, along-ends, along-fewer, along-more}
+use Rattle.machine_unwind.proofs.search.search.Invariants as inv
 use Rattle.machine_unwind.proofs.search.search.Lts as lts
 use Rattle.machine_unwind.proofs.search.search.Reads as reads
 use Rattle.machine_unwind.proofs.search.search.Tie as tie
 use Rattle.machine_unwind.proofs.search.search.Goals as goal
 
 abbrev Start : Type 0
-Start = lts.Start tie.the-claims reads.Pre reads.Post goal.invariant-loop-n goal.decreases-loop-n
+Start = lts.Start tie.the-claims reads.Pre reads.Post inv.invariant-loop-n inv.decreases-loop-n
 
 abbrev At-loop-n : Type 0
-At-loop-n = lts.At-loop tie.the-claims reads.Pre reads.Post goal.invariant-loop-n goal.decreases-loop-n
+At-loop-n = lts.At-loop tie.the-claims reads.Pre reads.Post inv.invariant-loop-n inv.decreases-loop-n
 
 abbrev In-loop-n : Type 0
-In-loop-n = lts.Then1 tie.the-claims reads.Pre reads.Post goal.invariant-loop-n goal.decreases-loop-n
+In-loop-n = lts.Then1 tie.the-claims reads.Pre reads.Post inv.invariant-loop-n inv.decreases-loop-n
 
 abbrev After-turn-did : Type 0
-After-turn-did = lts.After-turn tie.the-claims reads.Pre reads.Post goal.invariant-loop-n goal.decreases-loop-n
+After-turn-did = lts.After-turn tie.the-claims reads.Pre reads.Post inv.invariant-loop-n inv.decreases-loop-n
 
 abbrev After-goes_on : Type 0
-After-goes_on = lts.After-goes_on tie.the-claims reads.Pre reads.Post goal.invariant-loop-n goal.decreases-loop-n
+After-goes_on = lts.After-goes_on tie.the-claims reads.Pre reads.Post inv.invariant-loop-n inv.decreases-loop-n
 
 -- the ways back that several clauses take, and the words there
 abbrev start_of : At-loop-n → Start
@@ -50,10 +51,10 @@ at_turn c =
     let e = c.turn-did.new in
     six_setup e.0 e.1.0 e.1.1.0 e.1.1.1.0 e.1.1.1.1.0 e.1.1.1.1.1.0 (start_of (loop-of c)).args.setup.now plain
 
-some_left : (c : In-loop-n) → 1 ≤ c.before.before.loop.n.depth
+some_left : (c : In-loop-n) → 1 ≤ c.loop-n.n.depth
 some_left c = omega (arith, c.loop-n-test.true)
 
-so_far : (c : At-loop-n) → SameLengths (at-start (start_of c) c.loop.invariant.ok.beside) (at-loop c c.loop.invariant.ok.beside)
+so_far : (c : At-loop-n) → SameLengths (at-start (start_of c) c.loop-n.invariant.ok.beside) (at-loop c c.loop-n.invariant.ok.beside)
 so_far c = c.loop-n.invariant.kept c.loop-n.invariant.ok.beside
 
 same_turn : (c : After-turn-did) (b : Beside) → SameLengths (at-loop (loop-of c) b) (at_turn c b)

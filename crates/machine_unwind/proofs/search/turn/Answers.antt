@@ -28,7 +28,7 @@ abbrev start_of : After-handler_in → Start
 start_of c = c.before.before.before.before.before.before.before.before
 
 -- the handler that the words tell is the world's
-read : (c : After-handler_in) (w : World) (b : Beside) → Rep (start_of c).args.sizes w (mem (start_of c) b) (start_of c).args.m (start_of c).args.fuel → c.handler-in.result ≡ handler_in w
+read : (c : After-handler_in) (w : World) (b : Beside) → Rep (start_of c).args.sizes w (mem (start_of c) b) (start_of c).args.m (start_of c).args.fuel → c.handler_in.result ≡ handler_in w
 read c w b rep = c.handler_in.ensures (start_of c).args.sizes w (record { words = mem (start_of c) b; fuel = (start_of c).args.fuel }) rep
 
 pub handler_in-requires : goal.handler_in-requires
@@ -54,10 +54,10 @@ leave-requires c =
     record { ok = record { world = o.world; beside = beside; rep = o.rep; sound = o.sound; room = o.room }; some = start.pre.some }
 
 pub shape_of-stack-in-By : goal.shape_of-stack-in-By
-shape_of-stack-in-By c = c.take_handler.auto.0
+shape_of-stack-in-By c = c.take_handler.auto.stack
 
 pub shape_of-frames-in-By : goal.shape_of-frames-in-By
-shape_of-frames-in-By c = c.take_handler.auto.1.0
+shape_of-frames-in-By c = c.take_handler.auto.frames
 
 pub returns-in-By : goal.returns-in-By
 returns-in-By c =
@@ -68,22 +68,22 @@ returns-in-By c =
     (t.ensures a.sizes w (record { words = mem (start_of c.before.before.before.before.before.before.before.before.before.before.before) b; fuel = b.fuel }) rep)
 
 pub shape_of-stack-in-Nothing : goal.shape_of-stack-in-Nothing
-shape_of-stack-in-Nothing c = c.leave.auto.0
+shape_of-stack-in-Nothing c = c.leave.auto.stack
 
 pub shape_of-frames-in-Nothing : goal.shape_of-frames-in-Nothing
-shape_of-frames-in-Nothing c = c.leave.auto.1.0
+shape_of-frames-in-Nothing c = c.leave.auto.frames
 
 pub shape_of-chain : goal.shape_of-chain
-shape_of-chain c = c.leave.auto.1.1.0
+shape_of-chain c = c.leave.auto.chain
 
 pub shape_of-slots : goal.shape_of-slots
-shape_of-slots c = c.leave.auto.1.1.1.0
+shape_of-slots c = c.leave.auto.slots
 
 pub shape_of-saved_stack : goal.shape_of-saved_stack
-shape_of-saved_stack c = c.leave.auto.1.1.1.1.0
+shape_of-saved_stack c = c.leave.auto.saved_stack
 
 pub shape_of-saved_frames : goal.shape_of-saved_frames
-shape_of-saved_frames c = c.leave.auto.1.1.1.1.1.0
+shape_of-saved_frames c = c.leave.auto.saved_frames
 
 pub returns-in-Nothing : goal.returns-in-Nothing
 returns-in-Nothing c =

@@ -34,7 +34,7 @@ after-made c b =
     six_setup a.stack.now a.frames.now a.chain.now c.thrown-did.new.slots a.saved-stack.now a.saved-frames.now a.setup.now plain b
 
 told : (c : After-thrown-did) (w : World) (b : Beside) → Rep (start_of c).args.sizes w (mem (start_of c) b) (start_of c).args.m (start_of c).args.fuel
-    → Does (start_of c).args.sizes (thrown (start_of c).args.fault w) (after-made c b) c.thrown.result.machine (start_of c).args.fuel c.thrown.result.answer
+    → Does (start_of c).args.sizes (thrown (start_of c).args.fault w) (after-made c b) c.thrown-did.result.machine (start_of c).args.fuel c.thrown-did.result.answer
 told c w b rep =
     let a = (start_of c).args in
     let beside : Beside = record { words = mem (start_of c) b; fuel = a.fuel } in
@@ -48,7 +48,7 @@ search-requires c =
     let start = start_of c.before.before.before.before.before.before.before.before.before.before.before.before.before in let a = start.args in let o = start.pre.ok in
     raised-fits a.sizes (mem start) (after-made c.before.before.before.before.before.before.before.before.before.before.before.before.before) a.m c.thrown-did.result.machine a.fuel o a.fault start.pre.raises c.origin-at.result
     (c.origin-at.ensures a.sizes o.world (record { words = mem start o.beside; fuel = a.fuel }) o.rep)
-    (record { stack = refl; frames = refl; chain = refl; slots = c.thrown-did.auto.0; saved_stack = refl; saved_frames = refl; ready = refl; finalize = refl; setup = refl })
+    (record { stack = refl; frames = refl; chain = refl; slots = c.thrown-did.auto.slots; saved_stack = refl; saved_frames = refl; ready = refl; finalize = refl; setup = refl })
     (told c.before.before.before.before.before.before.before.before.before.before.before.before.before o.world o.beside o.rep).world
 
 pub returns-in-Refused : goal.returns-in-Refused
@@ -58,22 +58,22 @@ returns-in-Refused c =
     raise-refused a.fault w a.sizes (after-made c.before.before.before.before.before.before.before b) c.thrown-did.result.machine a.fuel c.in-Refused.f c.thrown-did.result.answer c.in-Refused.is (told c.before.before.before.before.before.before.before w b rep)
 
 pub shape_of-stack : goal.shape_of-stack
-shape_of-stack c = c.search.auto.0
+shape_of-stack c = c.search.auto.stack
 
 pub shape_of-frames-in-Word : goal.shape_of-frames-in-Word
-shape_of-frames-in-Word c = c.search.auto.1.0
+shape_of-frames-in-Word c = c.search.auto.frames
 
 pub shape_of-chain : goal.shape_of-chain
-shape_of-chain c = c.search.auto.1.1.0
+shape_of-chain c = c.search.auto.chain
 
 pub shape_of-slots-in-Word : goal.shape_of-slots-in-Word
-shape_of-slots-in-Word c = c.search.auto.1.1.1.0 ∙ c.thrown-did.auto.0
+shape_of-slots-in-Word c = c.search.auto.slots ∙ c.thrown-did.auto.slots
 
 pub shape_of-saved_stack : goal.shape_of-saved_stack
-shape_of-saved_stack c = c.search.auto.1.1.1.1.0
+shape_of-saved_stack c = c.search.auto.saved_stack
 
 pub shape_of-saved_frames : goal.shape_of-saved_frames
-shape_of-saved_frames c = c.search.auto.1.1.1.1.1.0
+shape_of-saved_frames c = c.search.auto.saved_frames
 
 pub returns-in-Word : goal.returns-in-Word
 returns-in-Word c =

@@ -57,28 +57,28 @@ raise-requires c =
     record {
       ok =
           ok-next a.sizes (mem start) (at-pc c.before.before.before.before.before.before.before.before.before) n n o u (some-setup a.pc o.world) (some-sounds a.pc o.world start.pre.narrow o.sound)
-          (record { stack = refl; frames = c.store_some.auto.0; chain = refl; slots = refl; saved_stack = refl; saved_frames = refl; ready = refl; finalize = refl; setup = refl })
+          (record { stack = refl; frames = c.store_some.auto.frames; chain = refl; slots = refl; saved_stack = refl; saved_frames = refl; ready = refl; finalize = refl; setup = refl })
           (c.store_some.ensures a.sizes o.world (record { words = mem start o.beside; fuel = a.fuel }) o.rep);
       raises = sym asked.is-raisable.ensures ∙ c.if-not-is_raisable.false;
     }
 
 pub shape_of-stack : goal.shape_of-stack
-shape_of-stack c = c.raise.auto.0
+shape_of-stack c = c.raise.auto.stack
 
 pub shape_of-frames : goal.shape_of-frames
-shape_of-frames c = c.raise.auto.1.0 ∙ c.store_some.auto.0
+shape_of-frames c = c.raise.auto.frames ∙ c.store_some.auto.frames
 
 pub shape_of-chain : goal.shape_of-chain
-shape_of-chain c = c.raise.auto.1.1.0
+shape_of-chain c = c.raise.auto.chain
 
 pub shape_of-slots : goal.shape_of-slots
-shape_of-slots c = c.raise.auto.1.1.1.0
+shape_of-slots c = c.raise.auto.slots
 
 pub shape_of-saved_stack : goal.shape_of-saved_stack
-shape_of-saved_stack c = c.raise.auto.1.1.1.1.0
+shape_of-saved_stack c = c.raise.auto.saved_stack
 
 pub shape_of-saved_frames : goal.shape_of-saved_frames
-shape_of-saved_frames c = c.raise.auto.1.1.1.1.1.0
+shape_of-saved_frames c = c.raise.auto.saved_frames
 
 pub returns : goal.returns
 returns c =

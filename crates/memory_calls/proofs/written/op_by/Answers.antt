@@ -15,31 +15,31 @@ After-as_argc-nd = lts.After-as_argc tie.the-claims reads.Pre reads.Post
 
 -- `op_by` meets its contract, by the code. Assumes nothing.
 -- the operands, narrowed; z is the place after the last
-pa : (z : After-as_argc-nd) → z.before.before.before.before.before.before.before.before.as-pc.result ≡ as_pc z.before.before.before.before.before.before.before.before.before.args.a
+pa : (z : After-as_argc-nd) → z.as_pc-pa.result ≡ as_pc z.args.a
 pa z = z.as_pc-pa.ensures
 
-pb : (z : After-as_argc-nd) → z.before.before.before.before.before.before.before.as-pc2.result ≡ as_pc z.before.before.before.before.before.before.before.before.before.args.b
+pb : (z : After-as_argc-nd) → z.as_pc-pb.result ≡ as_pc z.args.b
 pb z = z.as_pc-pb.ensures
 
-pc : (z : After-as_argc-nd) → z.before.before.before.before.before.before.as-pc3.result ≡ as_pc z.before.before.before.before.before.before.before.before.before.args.c
+pc : (z : After-as_argc-nd) → z.as_pc-pc.result ≡ as_pc z.args.c
 pc z = z.as_pc-pc.ensures
 
-ra : (z : After-as_argc-nd) → z.before.before.before.before.before.as-reg.result ≡ as_reg z.before.before.before.before.before.before.before.before.before.args.a
+ra : (z : After-as_argc-nd) → z.as_reg-ra.result ≡ as_reg z.args.a
 ra z = z.as_reg-ra.ensures
 
-rb : (z : After-as_argc-nd) → z.before.before.before.before.as-reg2.result ≡ as_reg z.before.before.before.before.before.before.before.before.before.args.b
+rb : (z : After-as_argc-nd) → z.as_reg-rb.result ≡ as_reg z.args.b
 rb z = z.as_reg-rb.ensures
 
-rc : (z : After-as_argc-nd) → z.before.before.before.as-reg3.result ≡ as_reg z.before.before.before.before.before.before.before.before.before.args.c
+rc : (z : After-as_argc-nd) → z.as_reg-rc.result ≡ as_reg z.args.c
 rc z = z.as_reg-rc.ensures
 
-rd : (z : After-as_argc-nd) → z.before.before.as-reg4.result ≡ as_reg z.before.before.before.before.before.before.before.before.before.args.d
+rd : (z : After-as_argc-nd) → z.as_reg-rd.result ≡ as_reg z.args.d
 rd z = z.as_reg-rd.ensures
 
-re : (z : After-as_argc-nd) → z.before.as-reg5.result ≡ as_reg z.before.before.before.before.before.before.before.before.before.args.e
+re : (z : After-as_argc-nd) → z.as_reg-re.result ≡ as_reg z.args.e
 re z = z.as_reg-re.ensures
 
-nd : (z : After-as_argc-nd) → z.as-argc.result ≡ as_argc z.before.before.before.before.before.before.before.before.before.args.d
+nd : (z : After-as_argc-nd) → z.as_argc-nd.result ≡ as_argc z.args.d
 nd z = z.as_argc-nd.ensures
 
 pub returns-in-0 : goal.returns-in-0

@@ -37,16 +37,16 @@ pub returns-then-covered : goal.returns-then-covered
 returns-then-covered c =
     let a = c.args in
     let v = c.loop-i.invariant in
-    sym (v.3 ∙ look a.pc a.n c.loop-i.i a.t1 none (omega arith) (omega arith) ∙ yes _ _ _ (sym c.covered.ensures ∙ c.if-covered.true))
+    sym (v.3 ∙ look a.pc a.n c.loop-i.i a.hs none (omega arith) (omega arith) ∙ yes _ _ _ (sym c.covered.ensures ∙ c.if-covered.true))
 
 pub loop-i-preserved : goal.loop-i-preserved
 loop-i-preserved c =
     let a = c.args in
     let v = c.loop-i.invariant in
-    (omega arith, v.1, v.2, v.3 ∙ look a.pc a.n c.loop-i.i a.t1 none (omega arith) (omega arith) ∙ no _ _ _ (sym c.covered.ensures ∙ c.if-covered.false))
+    (omega arith, v.1, v.2, v.3 ∙ look a.pc a.n c.loop-i.i a.hs none (omega arith) (omega arith) ∙ no _ _ _ (sym c.covered.ensures ∙ c.if-covered.false))
 
 pub returns : goal.returns
 returns c =
     let a = c.args in
     let v = c.loop-i.invariant in
-    sym (v.3 ∙ end a.pc a.n c.loop-i.i a.t1 (omega arith) (omega arith) (omega arith))
+    sym (v.3 ∙ end a.pc a.n c.loop-i.i a.hs (omega arith) (omega arith) (omega arith))

@@ -12,5 +12,5 @@ pub returns : goal.returns
 returns c =
     let a = c.args in
     let m = c.move_frames in
-    enters-frames a.frames.now a.saved.now _ m.new.1.1.0 m.new.dst a.depth a.at a.n a.by c.requires
+    enters-frames a.frames.now a.saved.now _ m.new.src m.new.dst a.depth a.at a.n a.by c.requires
     (record { there = refl; here = m.ensures.1 }) m.ensures.0

@@ -6,4 +6,4 @@ pub returns : goal.returns
 returns c =
     let a = c.args in
     let m = c.move_words in
-    enters-stack a.stack.now a.saved.now m.new.dst m.new.1.1.0 a.height a.at a.n c.requires.0 m.ensures
+    enters-stack a.stack.now a.saved.now m.new.dst m.new.src a.height a.at a.n c.requires.0 m.ensures

@@ -12,5 +12,5 @@ pub returns : goal.returns
 returns c =
     let a = c.args in
     let m = c.move_frames in
-    leaves-frames a.frames.now a.saved.now _ m.new.dst m.new.1.1.0 a.depth a.floor a.by a.at c.requires
+    leaves-frames a.frames.now a.saved.now _ m.new.dst m.new.src a.depth a.floor a.by a.at c.requires
     (record { there = refl; here = m.ensures.1 }) m.ensures.0

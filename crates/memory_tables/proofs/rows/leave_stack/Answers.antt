@@ -6,4 +6,4 @@ pub returns : goal.returns
 returns c =
     let a = c.args in
     let m = c.move_words in
-    leaves-stack a.stack.now a.saved.now m.new.1.1.0 m.new.dst a.height a.base a.at c.requires.0 m.ensures
+    leaves-stack a.stack.now a.saved.now m.new.src m.new.dst a.height a.base a.at c.requires.0 m.ensures

@@ -13,16 +13,16 @@ After-copy_words = lts.After-copy_words tie.the-claims reads.Pre reads.Post
 
 -- the words that are set aside
 held : (c : After-copy_words) →
-    let start = c.before.before.before.before.before.before in let a = start.args in
-    take a.n (c.copy-words.new.0 ++ drop a.n (replicate 1024 0)) ≡ part a.from a.n a.src.now
+    let a = c.args in
+    take a.n (c.copy_words.new.dst ++ drop a.n (replicate 1024 0)) ≡ part a.from a.n a.src.now
 held c =
     let a = c.args in
     aside-part 1024 a.n _ (part a.from a.n a.src.now) (length_part a.from a.n a.src.now c.requires.2)
     (c.copy_words.ensures ∙ ap (λ n. take n (drop a.from a.src.now)) (span a.from a.n))
 
 long : (c : After-copy_words) →
-    let start = c.before.before.before.before.before.before in let a = start.args in
-    a.n ≤ length (c.copy-words.new.0 ++ drop a.n (replicate 1024 0))
+    let a = c.args in
+    a.n ≤ length (c.copy_words.new.dst ++ drop a.n (replicate 1024 0))
 long c =
     let a = c.args in
     let l = length-append c.copy_words.new.dst (drop a.n (replicate 1024 0)) in

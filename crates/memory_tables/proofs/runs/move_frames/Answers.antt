@@ -1,24 +1,13 @@
 -- `move_frames` meets its contract: after j turns j frames are moved. Assumes nothing.
-use Rattle.std.proofs.Common.{◌≡◌, ◌+◌, ◌-◌, ◌*◌, drop, replicate, sym, refl, ap, ◌∙◌, arith, take-append-drop, rules}
+use Rattle.std.proofs.Common.{ℕ, List, length, ◌≤◌, ◌≡◌, ◌+◌, ◌-◌, ◌*◌, drop, replicate, sym, refl, ap, ◌∙◌, arith, take-append-drop, rules}
 use Rattle.lists.specs.Parts.{part, splice}
 use Rattle.memory_tables.specs.Runs.{rebase, between}
 use Rattle.memory_tables.proofs.Shifts.{frames-more, zeros-more, behind, frame-asks}
-use Rattle.memory_tables.proofs.runs.move_frames.Lts as lts
-use Rattle.memory_tables.proofs.runs.move_frames.Reads as reads
-use Rattle.memory_tables.proofs.runs.move_frames.Tie as tie
 use Rattle.memory_tables.proofs.runs.move_frames.Goals as goal
 
-abbrev In-loop-j : Type 0
-In-loop-j = lts.In-loop tie.the-claims reads.Pre reads.Post goal.invariant-loop-j goal.decreases-loop-j
-
 -- the frames that are not moved yet are as they were
-ahead : (c : In-loop-j) →
-    let at-loop = c.before in let start = at-loop.before.before.before in
-    drop (start.args.from + at-loop.loop.j * 6) at-loop.loop.src ≡ drop (start.args.from + at-loop.loop.j * 6) start.args.src.now
-ahead c =
-    let a = c.args in
-    let inside = c.requires.1.inside in
-    ap (drop (a.from + c.loop-j.j * 6)) c.loop-j.invariant.4 ∙ behind a.src.now a.from (c.loop-j.j * 6) (omega arith)
+ahead : (src l : List ℕ) (from k : ℕ) → from ≤ length src → l ≡ splice src from (replicate k 0) → drop (from + k) l ≡ drop (from + k) src
+ahead src l from k h e = ap (drop (from + k)) e ∙ behind src from k h
 
 pub loop-j-init : goal.loop-j-init
 loop-j-init c =
@@ -29,7 +18,8 @@ pub move_frame-requires : goal.move_frame-requires
 move_frame-requires c =
     let a = c.args in
     let l = c.loop-j in
-    (omega arith, frame-asks a.src.now l.src a.from a.n l.j a.old a.new c.requires.1 (omega arith) l.invariant.2 (ahead c.before.before))
+    let inside = c.requires.1.inside in
+    (omega arith, frame-asks a.src.now l.src a.from a.n l.j a.old a.new c.requires.1 (omega arith) l.invariant.2 (ahead a.src.now l.src a.from (l.j * 6) (omega arith) l.invariant.4))
 
 pub loop-j-preserved : goal.loop-j-preserved
 loop-j-preserved c =
@@ -38,9 +28,9 @@ loop-j-preserved c =
     let m = c.move_frame in
     let inside = c.requires.1.inside in (
       search rules,
-      m.auto.0 ∙ l.invariant.1,
-      m.auto.1.1.0 ∙ l.invariant.2,
-      m.ensures.0 ∙ frames-more (between a.old a.new) a.at a.dst.now a.src.now a.from l.j (omega arith) (omega arith) l.dst l.src l.invariant.3 (ahead c.before.before.before.before.before.before.before.before),
+      m.auto.dst ∙ l.invariant.1,
+      m.auto.src ∙ l.invariant.2,
+      m.ensures.0 ∙ frames-more (between a.old a.new) a.at a.dst.now a.src.now a.from l.j (omega arith) (omega arith) l.dst l.src l.invariant.3 (ahead a.src.now l.src a.from (l.j * 6) (omega arith) l.invariant.4),
       m.ensures.1 ∙ ap (λ z. splice z (a.from + l.j * 6) (replicate 6 0)) l.invariant.4 ∙ zeros-more a.src.now a.from l.j (omega arith),
     )
 

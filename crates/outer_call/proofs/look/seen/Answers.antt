@@ -23,7 +23,7 @@ start_of c = c.before.before.before.before.before.before.before.before.before.be
 abbrev mem : Start → Lent
 mem c = nine c.args.stack.now c.args.frames.now c.args.chain.now c.args.slots.now c.args.saved_stack.now c.args.saved_frames.now c.args.ready.now c.args.finalize.now c.args.setup.now plain
 
-told : (c : After-place-s) → Part (mem (start_of c)) (start_of c).args.m (start_of c).args.fuel c.place.result
+told : (c : After-place-s) → Part (mem (start_of c)) (start_of c).args.m (start_of c).args.fuel c.place-s.result
 told c =
     let start = start_of c in
     let a = start.args in

@@ -15,7 +15,7 @@ abbrev Else-not-setup_held : Type 0
 Else-not-setup_held = lts.Else1 tie.the-claims reads.Pre reads.Post
 
 -- `allowed` meets its contract: each test fails the whole, and the last decides it. Assumes nothing.
-held : (c : Else-not-setup_held) → setup_held c.before.before.before.args.given.now ≡ true
+held : (c : Else-not-setup_held) → setup_held c.args.given.now ≡ true
 held c = sym c.setup_held.ensures ∙ c.if-not-setup_held.false
 
 pub returns-then-not-setup_held : goal.returns-then-not-setup_held

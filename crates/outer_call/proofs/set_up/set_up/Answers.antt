@@ -34,7 +34,7 @@ allowed_of c = c.before.before.before.before.before.before.before.before.before.
 abbrev begin-of : After-slice_known-18-1 → After-begin
 begin-of c = c.before.before.before.before.before.before.before.before.before.before.before.before.before.before.before.before.before.before
 
-accepted : (c : Else-not-allowed) → let start = c.before.before.before.before.before.before.before.before.before.before.before.before in set_up_ok start.args.given.now (mem start) ≡ true
+accepted : (c : Else-not-allowed) → set_up_ok c.args.given.now (mem c.before.before.before.before.before.before.before.before.before.before.before.before) ≡ true
 accepted c = sym (c.allowed.ensures (mem c.before.before.before.before.before.before.before.before.before.before.before.before) refl) ∙ c.if-not-allowed.false
 
 pub returns-then-not-allowed : goal.returns-then-not-allowed

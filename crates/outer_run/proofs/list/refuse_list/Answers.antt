@@ -23,7 +23,7 @@ pub loop-j-smaller : goal.loop-j-smaller
 loop-j-smaller c = let t = c.loop-j-test.true in omega arith
 
 pub loop-j-preserved : goal.loop-j-preserved
-loop-j-preserved c = refused-more c.args.answers.now c.args.n c.loop-j.answers _ c.loop-j.j c.requires c.loop-j-test.true c.loop-j.invariant c.put_at.ensures c.put_at.auto.0
+loop-j-preserved c = refused-more c.args.answers.now c.args.n c.loop-j.answers _ c.loop-j.j c.requires c.loop-j-test.true c.loop-j.invariant c.put_at.ensures c.put_at.auto.answers
 
 pub shape_of-answers : goal.shape_of-answers
 shape_of-answers c = c.loop-j.invariant.long

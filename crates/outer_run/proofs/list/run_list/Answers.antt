@@ -4,25 +4,26 @@ use Prim.Native.Nat.{◌-◌, ◌≤◌}
 use native.Mathlib.Omega.{arith}
 use Rattle.outer_run.proofs.Along.{along-start, along-end, along-next}
 use Rattle.outer_run.proofs.Written.{in-calls}
+use Rattle.outer_run.proofs.list.run_list.Invariants as inv
 use Rattle.outer_run.proofs.list.run_list.Lts as lts
 use Rattle.outer_run.proofs.list.run_list.Reads as reads
 use Rattle.outer_run.proofs.list.run_list.Tie as tie
 use Rattle.outer_run.proofs.list.run_list.Goals as goal
 
 abbrev Start : Type 0
-Start = lts.Start tie.the-claims reads.Pre reads.Post goal.invariant-loop-i goal.decreases-loop-i
+Start = lts.Start tie.the-claims reads.Pre reads.Post inv.invariant-loop-i inv.decreases-loop-i
 
 abbrev At-loop-i : Type 0
-At-loop-i = lts.At-loop tie.the-claims reads.Pre reads.Post goal.invariant-loop-i goal.decreases-loop-i
+At-loop-i = lts.At-loop tie.the-claims reads.Pre reads.Post inv.invariant-loop-i inv.decreases-loop-i
 
 abbrev In-loop-i : Type 0
-In-loop-i = lts.In-loop tie.the-claims reads.Pre reads.Post goal.invariant-loop-i goal.decreases-loop-i
+In-loop-i = lts.In-loop tie.the-claims reads.Pre reads.Post inv.invariant-loop-i inv.decreases-loop-i
 
 abbrev After-do_read-did : Type 0
-After-do_read-did = lts.After-do_read tie.the-claims reads.Pre reads.Post goal.invariant-loop-i goal.decreases-loop-i
+After-do_read-did = lts.After-do_read tie.the-claims reads.Pre reads.Post inv.invariant-loop-i inv.decreases-loop-i
 
 abbrev After-slice_known-in-loop-i-9-1 : Type 0
-After-slice_known-in-loop-i-9-1 = lts.After-slice_known18 tie.the-claims reads.Pre reads.Post goal.invariant-loop-i goal.decreases-loop-i
+After-slice_known-in-loop-i-9-1 = lts.After-slice_known18 tie.the-claims reads.Pre reads.Post inv.invariant-loop-i inv.decreases-loop-i
 
 -- the ways back that several clauses take
 abbrev start_of : At-loop-i → Start
@@ -73,7 +74,7 @@ loop-i-preserved c =
       finalize = same.1.1.1.1.1.1.1.0;
       setup = refl;
     })
-    refl c.put_at.auto.0
+    refl c.put_at.auto.answers
 
 pub returns : goal.returns
 returns c =
