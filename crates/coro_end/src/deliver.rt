@@ -3,7 +3,9 @@ ghost use Rattle.std.specs.Prelude.{◌≡◌, ◌*◌, ◌≤◌, length};
 ghost use Rattle.heap.specs.Heap.{TableFits};
 ghost use Rattle.model.specs.Coro.{outcome_of, deliver, deliver_return};
 ghost use Rattle.model.specs.declared.machine.Driver.TheVariants.{Resume, Iter};
+ghost use Rattle.model.specs.declared.machine.Outcome.TheVariants.{Some};
 ghost use Rattle.machine_state.specs.Send.{SendFits};
+ghost use Rattle.memory_world.specs.Told.{told};
 ghost use Rattle.coro_end.specs.Deliver.{IterFits, DriverFits, iter_yielded, iter_returned, stopped};
 ghost use Rattle.memory_world.specs.Lendings.{top, top_table};
 ghost use Rattle.memory_world.specs.Contract.{Leaves, Met, any, every, only, with};
@@ -13,8 +15,7 @@ use heap::fault::Fault;
 use heap::value::Word;
 use machine_state::fuel::{FuelDid, set_finalizing};
 use machine_state::send::coro_send;
-use memory_world::machine::Machine;
-use memory_world::outcome::told_stop;
+use memory_world::machine::{Machine, Told};
 use model::coro::Event;
 use model::machine::{Driver, Fuel, Stop};
 
@@ -34,6 +35,19 @@ fn outcome_of(e: Event) -> Stop
         Event::Yielded { payload, key: _ } => Stop::Yielded(payload),
         Event::Awaiting(payload) => Stop::Awaiting(payload),
         Event::CloseIgnored => Stop::CloseIgnored,
+    }
+}
+
+// What the coroutine did, in words.
+fn told_stop(s: Stop) -> Told
+    ensures { result ≡ told (Some s) }
+{
+    match s {
+        Stop::Yielded(v) => Told(1, v, 0, 0),
+        Stop::Awaiting(v) => Told(2, v, 0, 0),
+        Stop::Returned(v) => Told(3, v, 0, 0),
+        Stop::Failed(v, f, p) => Told(4, v, f, p),
+        Stop::CloseIgnored => Told(5, 0, 0, 0),
     }
 }
 
