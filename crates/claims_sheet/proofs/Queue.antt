@@ -23,9 +23,9 @@ use Rattle.claims_sheet.specs.Sheet.{table_of, sheet}
 use Rattle.claims_sheet.specs.Answers.{is_instruction}
 use Rattle.claims_sheet.specs.Queue.{Queue}
 use Rattle.claims_sheet.proofs.Among.{and_left, and_right, not-true, not-false}
-use Rattle.claims_sheet.proofs.Choice.{both, by-test}
+use Rattle.claims_sheet.proofs.Choice.{both}
 use Rattle.claims_sheet.proofs.Sheet.{holds, leads-to}
-use Rattle.claims_sheet.proofs.Led.{here, Every, led}
+use Rattle.claims_sheet.proofs.Led.{here, Every, led-in-turn, in-turn}
 use Rattle.claims_sheet.proofs.Walk.{EveryLine, Own, Owns}
 
 -- ---- the search
@@ -82,12 +82,9 @@ module _ (pc : ℕ) (w : World) where
 
   loses : (ok : Bool) (own : World → Lines Step) → Owns (charged pc w) (own (charged pc w)) → Loses (leads_from (refuse 11 (not (sound w)) w ∷ (instruction pc ok own w).tests) (instruction pc ok own w).done)
   loses ok own o =
-      by-test Loses (not (sound w)) (λ _. nothing)
-      (λ _. by-test Loses (is_nil w.frames) (λ _. nothing)
-      (λ _. by-test Loses (not ok) (λ _. nothing)
-      (λ _. by-test Loses (used_up w) (λ _. nothing)
-      (λ _. by-test Loses (starts pc w) cleaned
-      (λ h. led Loses (map (as_answer (lost pc w)) (own u).tests) (as_answer (lost pc w) (own u).done) (own-lines (own u).tests h o.0) (own_line (own u).done.left (eqb (own u).done.number 10) (own u).done.answer h o.1.kept.queue))))))
+      led-in-turn Loses (refuse 11 (not (sound w)) w ∷ (instruction pc ok own w).tests) (instruction pc ok own w).done
+      (λ _. nothing, λ _. (λ _. nothing, λ _. (λ _. nothing, λ _. (λ _. nothing, λ _. (cleaned, λ h. in-turn Loses (map (as_answer (lost pc w)) (own u).tests) (as_answer (lost pc w) (own u).done) (own-lines (own u).tests h o.0)
+      (own_line (own u).done.left (eqb (own u).done.number 10) (own u).done.answer h o.1.kept.queue))))))
     where
       u : World
       u = charged pc w

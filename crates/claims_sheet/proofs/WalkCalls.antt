@@ -289,9 +289,9 @@ no-14 l [] h = tt
 no-14 l (t ∷ ts) h =
     let is = eqb t.number 14 in (λ e. never (sym (not-true is (and_left (not is) _ h)) ∙ and_left is t.stops e), no-14 t ts (and_right (not is) _ h))
 
-search-14 : (l : Line Answer) (fs : List Frame) (value f pc : ℕ) (w : World) → Behind9 l (search fs value f pc w)
-search-14 l [] value f pc w = (never, tt)
-search-14 l (x ∷ xs) value f pc w = (never, (never, (never, (never, (never, search-14 _ xs value f pc (left x xs value w))))))
+search-14 : (fs : List Frame) (value f pc : ℕ) (w : World) (l : Line Answer) → Behind9 l (search fs value f pc w)
+search-14 [] value f pc w l = (never, tt)
+search-14 (x ∷ xs) value f pc w l = (never, (never, (never, (never, (never, search-14 xs value f pc (left x xs value w) _)))))
 
 finish-14 : (c : Cont) (f : Frame) (fs : List Frame) (k : ResultKind) (v : ℕ) (w : World) (l : Line Answer) → Behind9 l (finish_by c f fs k v w).tests
 finish-14 Cont.Entry f fs k v w l = tt
@@ -312,5 +312,5 @@ pub unwind-14 : (e : Fault) (pc : OptPc) (w : World) (l : Line Answer) → Behin
 unwind-14 e pc w l =
     let n = number_of e in
     let y = z e pc w in
-    let found = both (λ (ts : List (Line Answer)). Behind9 (refuse 14 (leb n 8 && no_slot y) y) ts) (leb n 8) (search-14 _ y.frames (new_word y) _ _ _) (search-14 _ y.frames (word_of e) _ _ _) in
+    let found = both (λ (ts : List (Line Answer)). Behind9 (refuse 14 (leb n 8 && no_slot y) y) ts) (leb n 8) (search-14 y.frames (new_word y) _ _ _ _) (search-14 y.frames (word_of e) _ _ _ _) in
     (never, (nine-ten n, (never, (λ _. (refl, refl), found))))

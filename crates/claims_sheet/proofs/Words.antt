@@ -30,7 +30,7 @@ le-true m n h = go (leb m n) (le→leb m n h)
   where
     go : (b : Bool) → T b → b ≡ true
     go true t = refl
-go false t = elim t [ ]
+    go false t = elim t [ ]
 
 pub true-le : (m n : ℕ) → leb m n ≡ true → m ≤ n
 true-le m n e = leb→le m n (subst (λ x. T x) (sym e) tt)
