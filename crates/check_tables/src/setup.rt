@@ -1,13 +1,12 @@
 // The set-up's words. 01: Closing list.
 ghost use Rattle.std.specs.Prelude.{◌≡◌, ◌+◌, ◌*◌, ◌≤◌, length};
 ghost use Rattle.lists.specs.Tests.{all_below};
-ghost use Rattle.model.specs.Program.{limits_ok, costs_ok, handler_ok};
+ghost use Rattle.model.specs.Program.{between, limits_ok, costs_ok, handler_ok};
 ghost use Rattle.memory_tables.specs.Layout.{handler_from};
 ghost use Rattle.memory_world.specs.Sizes.{SetupFits};
 ghost use Rattle.memory_sound.specs.Words.{setup_held};
 ghost use Rattle.check_tables.specs.Setup.{handlers_test, function_test, hook_test, long_test};
 
-use heap::ranges::between;
 use heap::value::BITS32;
 use memory_tables::layout;
 use memory_tables::program::{FUNCTION_WIDTH, HANDLER_WIDTH, NUMBERS_WIDTH};
@@ -16,20 +15,29 @@ use model::program::{
     MOST_SLOTS, MOST_STACK,
 };
 
+fn between(a: u64, b: u64, n: u64) -> bool
+    ensures { result ≡ between a b n }
+{
+    if n < a {
+        return false;
+    }
+    n <= b
+}
+
 // "Depth 1-128, stack 1-1,024 words, rows 1-64, slots 1-4,096 .. Memory limit: any 64-bit number."
 fn limits_ok(limits: Limits) -> bool
     ensures { result ≡ limits_ok limits }
 {
-    if !between(limits.depth, 1, MOST_DEPTH) {
+    if !between(1, MOST_DEPTH, limits.depth) {
         return false;
     }
-    if !between(limits.stack, 1, MOST_STACK as u64) {
+    if !between(1, MOST_STACK as u64, limits.stack) {
         return false;
     }
-    if !between(limits.rows, 1, MOST_ROWS as u64) {
+    if !between(1, MOST_ROWS as u64, limits.rows) {
         return false;
     }
-    between(limits.slots, 1, MOST_SLOTS as u64)
+    between(1, MOST_SLOTS as u64, limits.slots)
 }
 
 // "Costs 0-65,536."
@@ -149,7 +157,7 @@ fn long_ok(setup: &[u64]) -> bool
         return false;
     }
     let n = setup[layout::FUNCTIONS];
-    if !between(n, 1, MOST_FUNCTIONS as u64) {
+    if !between(1, MOST_FUNCTIONS as u64, n) {
         return false;
     }
     let k = n as usize;
