@@ -5,8 +5,10 @@ use Rattle.heap.specs.declared.value.Opt.{Opt}
 use Rattle.model.specs.Answer.{number_of, word_of, step_of, taken_off}
 use Rattle.model.specs.declared.exec.Step.{Step}
 use Rattle.model.specs.declared.machine.Outcome.{Outcome}
+use Rattle.model.specs.declared.machine.Stop.{Stop}
 use Rattle.model.specs.declared.call.Answer.{Answer}
 use Rattle.memory_world.specs.Told.{told, outcome_in}
+use Rattle.memory_world.specs.declared.machine.Told.{Told}
 use Rattle.memory_calls.specs.Codes.{fault_of}
 
 abbrev pub step_code : Option Step → ℕ
@@ -51,6 +53,10 @@ answer_words a =
 -- an exit's
 abbrev pub exit_words : Opt → List ℕ
 exit_words v = answer_words (Answer.Exit v)
+
+-- an outcome's
+abbrev pub told_stop : Stop → Told
+told_stop s = told (Outcome.Some s)
 
 -- ---- the answer of its words: of each case, from 0 on
 

@@ -3,13 +3,15 @@ ghost use Rattle.std.specs.Prelude.{◌≡◌, [], ◌∷◌, ◌≤◌, length}
 ghost use Rattle.std.proofs.Math.Option.{some};
 ghost use Rattle.lists.specs.Parts.{splice};
 ghost use Rattle.model.specs.Answer.{step_number, step_word};
-ghost use Rattle.memory_calls.specs.Answer.{step_code, answer_words, exit_words};
+ghost use Rattle.memory_world.specs.Told.{told};
+ghost use Rattle.memory_calls.specs.Answer.{step_code, answer_words, exit_words, told_stop};
 
 use crate::layout;
 use heap::value::Opt;
-use memory_world::outcome::told_outcome;
+use memory_world::machine::Told;
 use model::call::Answer;
 use model::exec::Step;
+use model::machine::{Outcome, Stop};
 
 // The words of an answer.
 pub const ANSWER_WIDTH: usize = 8;
@@ -26,6 +28,27 @@ fn told_step(s: Step) -> Three
         Step::Frame => Three(0, 0, layout::FRAME),
         Step::Fault(f) => Three(f.number(), f.word(), layout::FAULT),
         Step::Unwind(f) => Three(f.number(), f.word(), layout::UNWIND),
+    }
+}
+
+fn told_stop(s: Stop) -> Told
+    ensures { result ≡ told_stop s }
+{
+    match s {
+        Stop::Yielded(v) => Told(1, v, 0, 0),
+        Stop::Awaiting(v) => Told(2, v, 0, 0),
+        Stop::Returned(v) => Told(3, v, 0, 0),
+        Stop::Failed(v, f, pc) => Told(4, v, f, pc),
+        Stop::CloseIgnored => Told(5, 0, 0, 0),
+    }
+}
+
+fn told_outcome(o: Outcome) -> Told
+    ensures { result ≡ told o }
+{
+    match o {
+        Outcome::None => Told(0, 0, 0, 0),
+        Outcome::Some(s) => told_stop(s),
     }
 }
 
