@@ -1,24 +1,55 @@
 // 01: "Take outcome: reads and clears it, or answers none."
 ghost use Rattle.std.specs.Prelude.{◌≡◌};
 ghost use Rattle.model.specs.Added.{take_outcome};
+ghost use Rattle.memory_world.specs.Told.{outcome_in};
 ghost use Rattle.memory_world.specs.Lendings.{none};
 ghost use Rattle.memory_world.specs.Contract.{Met, any, every, only};
 ghost use Rattle.machine_added.specs.Outcome.{untold};
 
 use crate::call::CallDid;
-use memory_world::machine::Machine;
-use memory_world::outcome::{outcome_in, told_outcome};
+use memory_world::machine::{Machine, Told};
 use model::call::Answer;
-use model::machine::Outcome;
+use model::machine::{Outcome, Stop};
+
+// The outcome that the words tell.
+fn outcome_in(t: Told) -> Outcome
+    ensures { result ≡ outcome_in t }
+{
+    if t.0 == 0 {
+        return Outcome::None;
+    }
+    if t.0 == 1 {
+        return Outcome::Some(Stop::Yielded(t.1));
+    }
+    if t.0 == 2 {
+        return Outcome::Some(Stop::Awaiting(t.1));
+    }
+    if t.0 == 3 {
+        return Outcome::Some(Stop::Returned(t.1));
+    }
+    if t.0 == 4 {
+        return Outcome::Some(Stop::Failed(t.1, t.2, t.3));
+    }
+    Outcome::Some(Stop::CloseIgnored)
+}
 
 // The numbers with no outcome.
 fn untold(m: Machine) -> Machine
     ensures { result ≡ untold m }
 {
-    let mut n = m;
-    let outcome = told_outcome(Outcome::None);
-    n.outcome = outcome;
-    n
+    let outcome = Told(0, 0, 0, 0);
+    Machine {
+        height: m.height,
+        depth: m.depth,
+        active: m.active,
+        count: m.count,
+        ready: m.ready,
+        finalize: m.finalize,
+        finalizing: m.finalizing,
+        outcome,
+        used: m.used,
+        seq: m.seq,
+    }
 }
 
 pub fn take_outcome(m: Machine) -> CallDid
