@@ -51,7 +51,7 @@ use Rattle.claims_model.specs.Promise.{is_suspension, Roomy}
 use Rattle.claims_model.specs.Steps.{seen_of, view_of, model_op, steps}
 use Rattle.claims_model.proofs.Entry as E
 use Rattle.claims_model.proofs.Tries.{taken, tries, keyed, in_body}
-use Rattle.claims_model.proofs.Suspension.{paid_by}
+use Rattle.claims_model.proofs.Suspension.{suspends_in, paid_by}
 use Rattle.claims_model.proofs.Cores.{no_both}
 use Rattle.claims_model.proofs.Quiet.{Same, same_none, alloc_same}
 use Rattle.claims_model.proofs.Enters.{length-top, ChargeCase, c-done, c-spent, c-close, charge-case}
@@ -199,7 +199,7 @@ module _ (w : World) (n c : ℕ) (m : Roomy steps n c w) where
       ap (λ x. is_suspension (number_of x)) (number-sound w o well)
       ∙ (ap (λ q. is_suspension (number_of (call q w).answer)) (some-op e)
       ∙ ((call-number w well (Op.Await pc dst src) refl).ok
-      ∙ takes pc (all_in (dst ∷ src ∷ []) w) _ (rw (← base-top w.frames) l)
+      ∙ takes pc (all_in (dst ∷ src ∷ []) w) (suspends_in (Op.Await pc dst src)) (rw (← base-top w.frames) l)
       (inner pc (λ _. tries pc CoroState.Awaiting dst (reg (u pc) src) (u pc) Keys.Keep) (accepted (u pc) pc (beside pc) (still pc) dst (reg (u pc) src) CoroState.Awaiting Keys.Keep))))
 
   pub kv-takes : (k : Call) (pc dst src key : ℕ) → model_op k ≡ some (Op.YieldKv pc dst src key) → lie (view_of w) (dst ∷ src ∷ key ∷ []) ≡ true → is_suspension (number_of (step w k).answer) ≡ true
@@ -209,7 +209,7 @@ module _ (w : World) (n c : ℕ) (m : Roomy steps n c w) where
       ap (λ x. is_suspension (number_of x)) (number-sound w o well)
       ∙ (ap (λ q. is_suspension (number_of (call q w).answer)) (some-op e)
       ∙ ((call-number w well (Op.YieldKv pc dst src key) refl).ok
-      ∙ takes pc (all_in (dst ∷ src ∷ key ∷ []) w) _ (rw (← base-top w.frames) l)
+      ∙ takes pc (all_in (dst ∷ src ∷ key ∷ []) w) (suspends_in (Op.YieldKv pc dst src key)) (rw (← base-top w.frames) l)
       (inner pc (λ b. tries pc CoroState.Yielded dst (reg (u pc) src) (u pc) (keys b)) (accepted (u pc) pc (beside pc) (still pc) dst (reg (u pc) src) CoroState.Yielded (keys a)))))
 
   -- ---- a Yield: its key is made, or there is none (7)
@@ -273,9 +273,9 @@ module _ (w : World) (n c : ℕ) (m : Roomy steps n c w) where
 
         go : (z : Exact) → next_key largest ≡ z → (is_suspension (number_of (call (Op.Yield pc dst src) w).answer) || eqb (number_of (call (Op.Yield pc dst src) w).answer) 7) ≡ true
         go (Exact.Fits k) q =
-            first (is_suspension (number_of (call (Op.Yield pc dst src) w).answer)) _
+            first (is_suspension (number_of (call (Op.Yield pc dst src) w).answer)) (eqb (number_of (call (Op.Yield pc dst src) w).answer) 7)
             ((call-number w well (Op.Yield pc dst src) refl).ok
-            ∙ takes pc (all_in (dst ∷ src ∷ []) w) _ ok
+            ∙ takes pc (all_in (dst ∷ src ∷ []) w) (suspends_in (Op.Yield pc dst src)) ok
             (inner pc (λ b. keyed (tries pc CoroState.Yielded dst (reg y src)) (auto_key (largest_in (coro y b.coro)) y).world (auto_key (largest_in (coro y b.coro)) y).answer) (key-made dst (reg y src) k q)))
         go Exact.Over q =
             ap (λ n. is_suspension n || eqb n 7)
