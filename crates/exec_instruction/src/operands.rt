@@ -1,15 +1,23 @@
 // 01: "Every register operand must lie between the top frame's base and the stack's end; for CoroNew, CoroNewIndirect and Spawn the
 // argument window too. The last register passes. A function number must name a function (13)."
-ghost use Rattle.std.specs.Prelude.{◌≡◌, [], ◌∷◌, ltb};
+ghost use Rattle.std.specs.Prelude.{◌≡◌, ◌&&◌, [], ◌∷◌, ltb};
 ghost use Rattle.model.specs.Gate.{in_frame, all_in, window_in};
 ghost use Rattle.model.specs.Added.{cont_allowed};
 ghost use Rattle.model.specs.Calls.{table};
 ghost use Rattle.exec_instruction.specs.Operands.{Tested, Passes};
 ghost use Rattle.exec_instruction.specs.Instruction.{PcIs};
 
-use lists::both;
 use model::call::Op;
 use model::machine::Cont;
+
+pub fn both(a: bool, b: bool) -> bool
+    ensures { result ≡ (a && b) }
+{
+    if a {
+        return b;
+    }
+    false
+}
 
 fn in_frame(base: u64, height: u64, r: u64) -> bool
     ensures { Tested base height (λ w. in_frame w r) result }
