@@ -4,6 +4,7 @@
 mod body;
 mod call;
 mod note;
+mod page;
 mod show;
 mod story;
 mod tell;
@@ -18,6 +19,7 @@ ghost use Rattle.furnace.specs.Story.{furnace, story, blank, empty};
 ghost use Rattle.furnace.specs.Watch.{watched, watch, watches, none};
 
 use crate::note::Count;
+use crate::page::Page;
 use heap::slot::WIDTH;
 use heap::value::Opt;
 use memory_tables::active::ACTIVE_WIDTH;
@@ -27,6 +29,7 @@ use memory_tables::program::{FUNCTION_WIDTH, NUMBERS_WIDTH};
 use memory_world::machine::{Machine, Told};
 use model::call::Op;
 use model::machine::Fuel;
+use std::io;
 
 // The depth, the words of the stack, the rows and the slots.
 const DEPTH: usize = 8;
@@ -113,6 +116,7 @@ struct Played {
 
 // One call, with what is noted before it and told after it.
 fn turn(
+    page: &mut Page,
     stack: &mut [u64],
     frames: &mut [u64],
     chain: &mut [u64],
@@ -151,6 +155,7 @@ fn turn(
     let left = called.fuel;
     let answer = called.answer;
     let told = tell::after(
+        page,
         stack,
         frames,
         chain,
@@ -206,6 +211,7 @@ fn empty() -> Fuel
 
 // All calls of the story.
 fn play(
+    page: &mut Page,
     stack: &mut [u64],
     frames: &mut [u64],
     chain: &mut [u64],
@@ -230,6 +236,7 @@ fn play(
     while i < story::CALLS {
         let op = story::call(i);
         let did = turn(
+            page,
             stack,
             frames,
             chain,
@@ -259,6 +266,7 @@ fn play(
 
 // The set-up, then the story.
 fn line(
+    page: &mut Page,
     stack: &mut [u64],
     frames: &mut [u64],
     chain: &mut [u64],
@@ -291,6 +299,7 @@ fn line(
     let m = began.machine;
     let fuel = began.fuel;
     let did = play(
+        page,
         stack,
         frames,
         chain,
@@ -307,7 +316,7 @@ fn line(
     did.count
 }
 
-fn main() {
+fn main(rt: HostRuntime) -> io::Result<()> {
     let given = furnace();
     let mut stack = [0u64; STACK];
     let mut frames = [0u64; DEPTH * FRAME_WIDTH];
@@ -319,8 +328,10 @@ fn main() {
     let mut finalize = [0u64; SLOTS];
     let mut setup = [0u64; SETUP_WIDTH];
     let mut notes = [0u64; NOTES_WIDTH];
-    tell::heading();
+    let mut page = Page::new(rt.stdout());
+    tell::heading(&mut page);
     let count = line(
+        &mut page,
         &mut stack,
         &mut frames,
         &mut chain,
@@ -333,5 +344,6 @@ fn main() {
         &mut notes,
         &given,
     );
-    tell::end(count);
+    tell::end(&mut page, count);
+    page.end()
 }

@@ -58,12 +58,11 @@ pub loop-p-smaller : goal.loop-p-smaller
 loop-p-smaller c = omega (arith, c.loop-p-test.true)
 
 pub loop-p-preserved : goal.loop-p-preserved
-loop-p-preserved c =
-    (
-      omega (arith, c.loop-p-test.true),
-      holds-next c.loop-p.p _ c.loop-p.invariant.1
-          (let a = c.args in sym (c.word_back.ensures ∙ ap (word_back a.sent c.at_most-n.result a.from a.to c.loop-p.p (get_or a.notes.now (a.at + 17 + c.loop-p.p) 0)) c.field-is.ensures) ∙ c.if-not-word_back.false),
-    )
+loop-p-preserved c = (
+  omega (arith, c.loop-p-test.true),
+  holds-next c.loop-p.p _ c.loop-p.invariant.1
+      (let a = c.args in sym (c.word_back.ensures ∙ ap (word_back a.sent c.at_most-n.result a.from a.to c.loop-p.p (get_or a.notes.now (a.at + 17 + c.loop-p.p) 0)) c.field-is.ensures) ∙ c.if-not-word_back.false),
+)
 
 pub returns : goal.returns
 returns c =
