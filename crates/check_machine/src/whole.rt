@@ -139,15 +139,15 @@ pub fn sound_words(
     frames: &[u64],
     chain: &[u64],
     slots: &[u64],
-    saved_stack: &[u64],
-    saved_frames: &[u64],
+    saved: &[u64],
+    asleep: &[u64],
     ready: &[u64],
     finalize: &[u64],
     setup: &[u64],
     m: Machine,
     fuel: Fuel,
 ) -> bool
-    ensures { result ≡ sound_words (lent_of stack.now frames.now chain.now slots.now saved_stack.now saved_frames.now ready.now finalize.now setup.now) m fuel }
+    ensures { result ≡ sound_words (lent_of stack.now frames.now chain.now slots.now saved.now asleep.now ready.now finalize.now setup.now) m fuel }
 {
     if !setup_held(setup) {
         return false;
@@ -159,8 +159,8 @@ pub fn sound_words(
         frames.len(),
         chain.len(),
         slots.len(),
-        saved_stack.len(),
-        saved_frames.len(),
+        saved.len(),
+        asleep.len(),
         ready.len(),
         finalize.len(),
         m,
@@ -172,16 +172,7 @@ pub fn sound_words(
     if !tower_ok(stack, frames, chain, setup, &need, m) {
         return false;
     }
-    if !objects_ok(
-        chain,
-        slots,
-        saved_stack,
-        saved_frames,
-        setup,
-        &need,
-        sizes,
-        m,
-    ) {
+    if !objects_ok(chain, slots, saved, asleep, setup, &need, sizes, m) {
         return false;
     }
     queues_ok(ready, finalize, slots, m)

@@ -43,7 +43,7 @@ After-objects_ok = lts.After-objects_ok tie.the-claims reads.Pre reads.Post
 
 -- `sound_words` meets its contract: each part fails the whole, and the last decides it. Assumes nothing.
 abbrev lent : Start → Lent
-lent c = let a = c.args in lent_of a.stack.now a.frames.now a.chain.now a.slots.now a.saved_stack.now a.saved_frames.now a.ready.now a.finalize.now a.setup.now
+lent c = let a = c.args in lent_of a.stack.now a.frames.now a.chain.now a.slots.now a.saved.now a.asleep.now a.ready.now a.finalize.now a.setup.now
 
 abbrev numbers-by : Start → Sizes → Bool
 numbers-by c l =
@@ -125,7 +125,7 @@ pub objects_ok-requires : goal.objects_ok-requires
 objects_ok-requires c =
     let start = start_of c.before.before.before.before.before.before in let a = start.args in
     subst
-    (λ (l : Sizes). ObjectsFit a.chain.now a.slots.now a.saved-stack.now a.saved-frames.now c.catches-need.result a.setup.now l a.m)
+    (λ (l : Sizes). ObjectsFit a.chain.now a.slots.now a.saved.now a.asleep.now c.catches-need.result a.setup.now l a.m)
     (sym c.sizes-sizes.ensures.words)
     (objects-fit (lent start) a.m a.fuel (held c.before.before.before.before.before.before.before.before.before) (ready c.before.before.before.before.before.before) _ c.catches-need.ensures)
 
