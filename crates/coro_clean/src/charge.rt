@@ -3,8 +3,8 @@ ghost use Rattle.std.specs.Prelude.{◌≡◌, false, ◌≤◌};
 ghost use Rattle.model.specs.World.{after};
 ghost use Rattle.model.specs.Cleanup.{charge_done, charge_or, charge_slow, charge};
 ghost use Rattle.model.specs.declared.call.OptPc.TheVariants.{None, Some};
-ghost use Rattle.memory_world.specs.Lendings.{none, cleaning};
-ghost use Rattle.memory_world.specs.Contract.{Met, any, every, if_sound, with};
+ghost use Rattle.memory_world.specs.Lendings.{none, cleaning, plain};
+ghost use Rattle.memory_world.specs.Contract.{Met, any, every, if_sound, with, of_mut};
 ghost use Rattle.coro_clean.specs.Charge.{spent, charge_ready, ChargeFits, ReadyFits};
 
 use crate::finalizer::start_finalizer;
@@ -115,8 +115,8 @@ pub(crate) fn charge_ready(
     fuel: Fuel,
     pc: u64,
 ) -> ChargeDid
-    requires { ReadyFits sizes (cleaning stack frames chain slots saved_stack saved_frames finalize (λ x. x.now)) m fuel pc }
-    ensures { Met if_sound sizes (charge_ready pc) (cleaning stack frames chain slots saved_stack saved_frames finalize) (with m fuel) (with result.machine result.fuel) result.answer }
+    requires { ReadyFits sizes (cleaning stack.old frames.old chain.old slots.old saved_stack.old saved_frames.old finalize.old plain) m fuel pc }
+    ensures { Met if_sound sizes (charge_ready pc) (cleaning (of_mut stack) (of_mut frames) (of_mut chain) (of_mut slots) (of_mut saved_stack) (of_mut saved_frames) (of_mut finalize)) (with m fuel) (with result.machine result.fuel) result.answer }
 {
     machine_state::frame::store_pc(frames, m, pc);
     let did = start_finalizer(
@@ -151,8 +151,8 @@ pub(crate) fn charge_slow(
     fuel: Fuel,
     pc: u64,
 ) -> ChargeDid
-    requires { ChargeFits sizes (cleaning stack frames chain slots saved_stack saved_frames finalize (λ x. x.now)) m fuel pc }
-    ensures { Met if_sound sizes (charge_slow (Some pc)) (cleaning stack frames chain slots saved_stack saved_frames finalize) (with m fuel) (with result.machine result.fuel) result.answer }
+    requires { ChargeFits sizes (cleaning stack.old frames.old chain.old slots.old saved_stack.old saved_frames.old finalize.old plain) m fuel pc }
+    ensures { Met if_sound sizes (charge_slow (Some pc)) (cleaning (of_mut stack) (of_mut frames) (of_mut chain) (of_mut slots) (of_mut saved_stack) (of_mut saved_frames) (of_mut finalize)) (with m fuel) (with result.machine result.fuel) result.answer }
 {
     let f = unbank(fuel);
     if f.fuel == 0 {
@@ -201,8 +201,8 @@ pub fn charge(
     fuel: Fuel,
     pc: u64,
 ) -> ChargeDid
-    requires { ChargeFits sizes (cleaning stack frames chain slots saved_stack saved_frames finalize (λ x. x.now)) m fuel pc }
-    ensures { Met if_sound sizes (charge (Some pc)) (cleaning stack frames chain slots saved_stack saved_frames finalize) (with m fuel) (with result.machine result.fuel) result.answer }
+    requires { ChargeFits sizes (cleaning stack.old frames.old chain.old slots.old saved_stack.old saved_frames.old finalize.old plain) m fuel pc }
+    ensures { Met if_sound sizes (charge (Some pc)) (cleaning (of_mut stack) (of_mut frames) (of_mut chain) (of_mut slots) (of_mut saved_stack) (of_mut saved_frames) (of_mut finalize)) (with m fuel) (with result.machine result.fuel) result.answer }
 {
     if fuel.fuel != 0 {
         let f = spend(fuel);

@@ -1,8 +1,8 @@
 // coro.rs: start_finalizer. The queue is searched before anything is lent.
 ghost use Rattle.std.specs.Prelude.{◌≡◌, ◌≤◌, length, take};
 ghost use Rattle.model.specs.Cleanup.{start_finalizer};
-ghost use Rattle.memory_world.specs.Lendings.{cleaning};
-ghost use Rattle.memory_world.specs.Contract.{Met, Ok, any, every, if_sound, with};
+ghost use Rattle.memory_world.specs.Lendings.{cleaning, plain};
+ghost use Rattle.memory_world.specs.Contract.{Met, Ok, any, every, if_sound, with, of_mut};
 ghost use Rattle.coro_clean.specs.Start.{first_of, starts, MayFits, SearchFits, queue, start_none, start_at, StartFits};
 
 use coro_enter::close::set_closing;
@@ -60,7 +60,7 @@ pub(crate) fn first_start(slots: &[u64], finalize: &[u64], m: Machine, sizes: Si
 // No cleanup starts: the queue is empty.
 pub(crate) fn start_none(finalize: &mut [u64], m: Machine, fuel: Fuel) -> StartDid
     requires { m.finalize ≤ length finalize.old }
-    ensures { every (λ sizes. Met any sizes start_none (queue finalize) (with m fuel) (with result.machine result.fuel) result.answer) }
+    ensures { every (λ sizes. Met any sizes start_none (queue (of_mut finalize)) (with m fuel) (with result.machine result.fuel) result.answer) }
 {
     memory_tables::queue::take_front(finalize, m.finalize, m.finalize);
     let mut n = m;
@@ -93,8 +93,8 @@ pub(crate) fn start_at(
     fuel: Fuel,
     i: usize,
 ) -> StartDid
-    requires { StartFits sizes (cleaning stack frames chain slots saved_stack saved_frames finalize (λ x. x.now)) m fuel i }
-    ensures { Met if_sound sizes (start_at i) (cleaning stack frames chain slots saved_stack saved_frames finalize) (with m fuel) (with result.machine result.fuel) result.answer }
+    requires { StartFits sizes (cleaning stack.old frames.old chain.old slots.old saved_stack.old saved_frames.old finalize.old plain) m fuel i }
+    ensures { Met if_sound sizes (start_at i) (cleaning (of_mut stack) (of_mut frames) (of_mut chain) (of_mut slots) (of_mut saved_stack) (of_mut saved_frames) (of_mut finalize)) (with m fuel) (with result.machine result.fuel) result.answer }
 {
     let v = memory_tables::queue::word_at(finalize, i);
     let taken = i + 1;
@@ -142,8 +142,8 @@ pub fn start_finalizer(
     sizes: Sizes,
     fuel: Fuel,
 ) -> StartDid
-    requires { Ok sizes (cleaning stack frames chain slots saved_stack saved_frames finalize (λ x. x.now)) (with m fuel) }
-    ensures { Met if_sound sizes start_finalizer (cleaning stack frames chain slots saved_stack saved_frames finalize) (with m fuel) (with result.machine result.fuel) result.answer }
+    requires { Ok sizes (cleaning stack.old frames.old chain.old slots.old saved_stack.old saved_frames.old finalize.old plain) (with m fuel) }
+    ensures { Met if_sound sizes start_finalizer (cleaning (of_mut stack) (of_mut frames) (of_mut chain) (of_mut slots) (of_mut saved_stack) (of_mut saved_frames) (of_mut finalize)) (with m fuel) (with result.machine result.fuel) result.answer }
 {
     let f = unbank(fuel);
     let i = first_start(slots, finalize, m, sizes);

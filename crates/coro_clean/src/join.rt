@@ -1,8 +1,8 @@
 // coro.rs: spawn_task. 01: "Hand over". A coroutine joins a queue, once.
 ghost use Rattle.model.specs.Cleanup.{spawn_task};
 ghost use Rattle.model.specs.Added.{hand_over};
-ghost use Rattle.memory_world.specs.Lendings.{tasks, cleanups};
-ghost use Rattle.memory_world.specs.Contract.{Met, any, every, only, with};
+ghost use Rattle.memory_world.specs.Lendings.{tasks, cleanups, plain};
+ghost use Rattle.memory_world.specs.Contract.{Met, any, every, only, with, of_mut};
 ghost use Rattle.coro_clean.specs.Join.{JoinFits};
 
 use heap::fault::Fault;
@@ -24,8 +24,8 @@ pub struct TaskDid {
 
 // coro.rs: spawn_task.
 pub fn spawn_task(slots: &mut [u64], ready: &mut [u64], m: Machine, v: Word) -> TaskDid
-    requires { JoinFits (tasks slots ready (λ x. x.now)) m }
-    ensures { every (λ sizes. Met any sizes (spawn_task v.0) (tasks slots ready) (only m) (only result.machine) result.answer) }
+    requires { JoinFits (tasks slots.old ready.old plain) m }
+    ensures { every (λ sizes. Met any sizes (spawn_task v.0) (tasks (of_mut slots) (of_mut ready)) (only m) (only result.machine) result.answer) }
 {
     match heap::heap::coro_place(slots, m.count, v) {
         CoroPlace::Not(_) => TaskDid {
@@ -60,8 +60,8 @@ pub fn spawn_task(slots: &mut [u64], ready: &mut [u64], m: Machine, v: Word) -> 
 
 // 01: "Hand over".
 pub fn hand_over(slots: &mut [u64], finalize: &mut [u64], m: Machine, fuel: Fuel, v: Word) -> Called
-    requires { JoinFits (cleanups slots finalize (λ x. x.now)) m }
-    ensures { every (λ sizes. Met any sizes (hand_over v.0) (cleanups slots finalize) (with m fuel) (with result.machine result.fuel) result.answer) }
+    requires { JoinFits (cleanups slots.old finalize.old plain) m }
+    ensures { every (λ sizes. Met any sizes (hand_over v.0) (cleanups (of_mut slots) (of_mut finalize)) (with m fuel) (with result.machine result.fuel) result.answer) }
 {
     match heap::heap::coro_place(slots, m.count, v) {
         CoroPlace::Not(f) => Called {

@@ -3,7 +3,7 @@ ghost use Rattle.std.specs.Prelude.{◌≡◌, ◌^◌, ◌<◌, take};
 ghost use Rattle.heap.specs.Heap.{slots_of};
 ghost use Rattle.model.specs.Coro.{coro_create};
 ghost use Rattle.coro_create.specs.Create.{new_object, bytes_of, SpotFits, spot_of, copied_of, WriteFits, Writes, CreateFits};
-ghost use Rattle.memory_world.specs.Contract.{Met, if_sound, only};
+ghost use Rattle.memory_world.specs.Contract.{Met, if_sound, only, of_mut, of_ref};
 ghost use Rattle.memory_world.specs.Lendings.{making};
 
 use crate::numbers::sequenced;
@@ -132,7 +132,7 @@ pub fn coro_create(
     n: usize,
 ) -> CreateDid
     requires { CreateFits sizes slots.old saved_stack.old saved_frames.old setup.now m f n }
-    ensures { Met if_sound sizes (coro_create f closure (take n args)) (making slots saved_stack saved_frames setup) (only m) (only result.machine) result.answer }
+    ensures { Met if_sound sizes (coro_create f closure (take n args)) (making (of_mut slots) (of_mut saved_stack) (of_mut saved_frames) (of_ref setup)) (only m) (only result.machine) result.answer }
 {
     let regs = memory_tables::program::regs_at(setup, f as usize);
     match find_spot(slots, m, sizes, regs) {

@@ -3,7 +3,7 @@ ghost use Rattle.heap.specs.Heap.{Room};
 ghost use Rattle.model.specs.Exec.{auto_key};
 ghost use Rattle.machine_state.specs.Numbers.{heap_of};
 ghost use Rattle.memory_world.specs.Lendings.{table};
-ghost use Rattle.memory_world.specs.Contract.{Met, if_sound, only};
+ghost use Rattle.memory_world.specs.Contract.{Met, if_sound, only, of_mut};
 
 use heap::fault::Fault;
 use heap::int::Exact;
@@ -21,7 +21,7 @@ pub struct KeyDid {
 // coro.rs: auto_key. The key after the largest so far; one that is not inline is a new object.
 pub fn auto_key(slots: &mut [u64], m: Machine, sizes: Sizes, largest: u64) -> KeyDid
     requires { Room slots.old (heap_of m sizes) }
-    ensures { Met if_sound sizes (auto_key largest) (table slots) (only m) (only result.machine) result.answer }
+    ensures { Met if_sound sizes (auto_key largest) (table (of_mut slots)) (only m) (only result.machine) result.answer }
 {
     match heap::int::next_key(largest) {
         Exact::Over => KeyDid {

@@ -1,7 +1,8 @@
 // coro.rs: abort_coros.
 ghost use Rattle.model.specs.Coro.{abort_coros};
-ghost use Rattle.memory_world.specs.Contract.{SomeWorld, Leaves, if_rowed, only, with};
+ghost use Rattle.memory_world.specs.Contract.{SomeWorld, Leaves, if_rowed, only, with, of_mut};
 ghost use Rattle.coro_end.specs.Last.{InRows, ending, fail_active};
+ghost use Rattle.memory_world.specs.Lendings.{plain};
 
 use crate::last::end_last;
 use heap::object::CoroState;
@@ -20,8 +21,8 @@ pub(crate) fn fail_all(
     m: Machine,
     sizes: Sizes,
 ) -> Machine
-    requires { SomeWorld InRows sizes (ending chain slots saved_stack saved_frames (λ x. x.now)) (only m) }
-    ensures { Leaves if_rowed sizes fail_active (ending chain slots saved_stack saved_frames) (only m) (only result) }
+    requires { SomeWorld InRows sizes (ending chain.old slots.old saved_stack.old saved_frames.old plain) (only m) }
+    ensures { Leaves if_rowed sizes fail_active (ending (of_mut chain) (of_mut slots) (of_mut saved_stack) (of_mut saved_frames)) (only m) (only result) }
 {
     let mut n = m;
     while n.active != 0 {
@@ -50,8 +51,8 @@ pub fn abort_coros(
     sizes: Sizes,
     fuel: Fuel,
 ) -> FuelDid
-    requires { SomeWorld InRows sizes (ending chain slots saved_stack saved_frames (λ x. x.now)) (only m) }
-    ensures { Leaves if_rowed sizes abort_coros (ending chain slots saved_stack saved_frames) (with m fuel) (with result.machine result.fuel) }
+    requires { SomeWorld InRows sizes (ending chain.old slots.old saved_stack.old saved_frames.old plain) (only m) }
+    ensures { Leaves if_rowed sizes abort_coros (ending (of_mut chain) (of_mut slots) (of_mut saved_stack) (of_mut saved_frames)) (with m fuel) (with result.machine result.fuel) }
 {
     let failed = fail_all(chain, slots, saved_stack, saved_frames, m, sizes);
     let did = set_finalizing(failed, fuel, false);

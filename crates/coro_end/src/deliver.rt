@@ -8,7 +8,7 @@ ghost use Rattle.machine_state.specs.Send.{SendFits};
 ghost use Rattle.memory_world.specs.Told.{told};
 ghost use Rattle.coro_end.specs.Deliver.{IterFits, DriverFits, iter_yielded, iter_returned, stopped};
 ghost use Rattle.memory_world.specs.Lendings.{top, top_table};
-ghost use Rattle.memory_world.specs.Contract.{Leaves, Met, any, every, only, with};
+ghost use Rattle.memory_world.specs.Contract.{Leaves, Met, any, every, only, with, of_mut};
 
 use crate::iter::{set_done, set_key};
 use heap::fault::Fault;
@@ -70,7 +70,7 @@ pub(crate) fn deliver_resume(
     e: Event,
 ) -> Fault
     requires { SendFits stack.old frames.old m.height m.depth dst }
-    ensures { every (λ sizes. Met any sizes (deliver (Resume dst) e) (top stack frames) (only m) (only m) result) }
+    ensures { every (λ sizes. Met any sizes (deliver (Resume dst) e) (top (of_mut stack) (of_mut frames)) (only m) (only m) result) }
 {
     match e {
         Event::Yielded { payload, key: _ } => {
@@ -98,7 +98,7 @@ pub(crate) fn iter_yielded(
     key: u64,
 )
     requires { IterFits stack.old frames.old slots.old m has val }
-    ensures { every (λ sizes. Leaves any sizes (iter_yielded has val iter payload key) (top_table stack frames slots) (only m) (only m)) }
+    ensures { every (λ sizes. Leaves any sizes (iter_yielded has val iter payload key) (top_table (of_mut stack) (of_mut frames) (of_mut slots)) (only m) (only m)) }
 {
     set_key(slots, m, Word(iter), key);
     memory_tables::stack::put_reg(stack, frames, m.height, m.depth, val as usize, payload);
@@ -115,7 +115,7 @@ pub(crate) fn iter_returned(
     iter: u64,
 )
     requires { TableFits slots.old m.count × SendFits stack.old frames.old m.height m.depth has }
-    ensures { every (λ sizes. Leaves any sizes (iter_returned has iter) (top_table stack frames slots) (only m) (only m)) }
+    ensures { every (λ sizes. Leaves any sizes (iter_returned has iter) (top_table (of_mut stack) (of_mut frames) (of_mut slots)) (only m) (only m)) }
 {
     set_done(slots, m, Word(iter));
     coro_send(stack, frames, m, has, 0);
@@ -133,7 +133,7 @@ pub(crate) fn deliver_iter(
     e: Event,
 ) -> Fault
     requires { IterFits stack.old frames.old slots.old m has val }
-    ensures { every (λ sizes. Met any sizes (deliver (Iter has val iter) e) (top_table stack frames slots) (only m) (only m) result) }
+    ensures { every (λ sizes. Met any sizes (deliver (Iter has val iter) e) (top_table (of_mut stack) (of_mut frames) (of_mut slots)) (only m) (only m) result) }
 {
     match e {
         Event::Yielded { payload, key } => {
@@ -156,7 +156,7 @@ pub fn deliver(
     e: Event,
 ) -> Delivered
     requires { DriverFits stack.old frames.old slots.old m d }
-    ensures { every (λ sizes. Met any sizes (deliver d e) (top_table stack frames slots) (with m fuel) (with result.machine result.fuel) result.answer) }
+    ensures { every (λ sizes. Met any sizes (deliver d e) (top_table (of_mut stack) (of_mut frames) (of_mut slots)) (with m fuel) (with result.machine result.fuel) result.answer) }
 {
     match d {
         Driver::Resume(dst) => {
@@ -208,7 +208,7 @@ pub fn deliver_return(
     value: u64,
 ) -> FuelDid
     requires { DriverFits stack.old frames.old slots.old m d }
-    ensures { every (λ sizes. Leaves any sizes (deliver_return d value) (top_table stack frames slots) (with m fuel) (with result.machine result.fuel)) }
+    ensures { every (λ sizes. Leaves any sizes (deliver_return d value) (top_table (of_mut stack) (of_mut frames) (of_mut slots)) (with m fuel) (with result.machine result.fuel)) }
 {
     match d {
         Driver::Resume(dst) => {

@@ -4,8 +4,8 @@ ghost use Rattle.heap.specs.Heap.{TableFits};
 ghost use Rattle.model.specs.Heap.{coro};
 ghost use Rattle.model.specs.Coro.{closed_by, fail_to, coro_escaped};
 ghost use Rattle.coro_end.specs.Returned.{ReturnFits};
-ghost use Rattle.memory_world.specs.Lendings.{none, six, table};
-ghost use Rattle.memory_world.specs.Contract.{Met, Reads, any, every, if_rowed, only, with};
+ghost use Rattle.memory_world.specs.Lendings.{none, six, table, plain};
+ghost use Rattle.memory_world.specs.Contract.{Met, Reads, any, every, if_rowed, only, with, of_mut, of_ref};
 
 use crate::deliver::stopped;
 use crate::last::end_last;
@@ -28,7 +28,7 @@ pub struct Escaped {
 // Whether the coroutine that a word names is being closed by this signal.
 fn closed_by(slots: &[u64], m: Machine, v: Word, value: u64) -> bool
     requires { TableFits slots.now m.count }
-    ensures { every (λ sizes. Reads sizes (λ w. closed_by (coro w v.0) value) (table slots) (only m) result) }
+    ensures { every (λ sizes. Reads sizes (λ w. closed_by (coro w v.0) value) (table (of_ref slots)) (only m) result) }
 {
     match heap::heap::coro(slots, m.count, v) {
         Coroutine::Not(_) => false,
@@ -96,8 +96,8 @@ pub fn coro_escaped(
     func: u64,
     pc: u64,
 ) -> Escaped
-    requires { ReturnFits sizes (six stack frames chain slots saved_stack saved_frames (λ x. x.now)) m }
-    ensures { Met if_rowed sizes (coro_escaped value func pc) (six stack frames chain slots saved_stack saved_frames) (with m fuel) (with result.machine result.fuel) result.answer }
+    requires { ReturnFits sizes (six stack.old frames.old chain.old slots.old saved_stack.old saved_frames.old plain) m }
+    ensures { Met if_rowed sizes (coro_escaped value func pc) (six (of_mut stack) (of_mut frames) (of_mut chain) (of_mut slots) (of_mut saved_stack) (of_mut saved_frames)) (with m fuel) (with result.machine result.fuel) result.answer }
 {
     if m.active == 0 {
         return Escaped {

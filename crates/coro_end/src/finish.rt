@@ -6,8 +6,8 @@ ghost use Rattle.heap.specs.Word.{tag_of};
 ghost use Rattle.heap.specs.declared.object.Object.TheVariants.{Coro};
 ghost use Rattle.model.specs.Coro.{finish_coroutine};
 ghost use Rattle.coro_end.specs.Finish.{FinishFits, ended_as, RowFits, Cleared, FreeFits, Freed};
-ghost use Rattle.memory_world.specs.Lendings.{rows};
-ghost use Rattle.memory_world.specs.Contract.{Leaves, if_rowed, only};
+ghost use Rattle.memory_world.specs.Lendings.{rows, plain};
+ghost use Rattle.memory_world.specs.Contract.{Leaves, if_rowed, only, of_mut};
 
 use heap::heap::Coroutine;
 use heap::object::{CoroObj, CoroState, Object};
@@ -91,8 +91,8 @@ pub fn finish_coroutine(
     s: CoroState,
     res: u64,
 )
-    requires { FinishFits sizes (rows slots saved_stack saved_frames (λ x. x.now)) m s }
-    ensures { Leaves if_rowed sizes (finish_coroutine v.0 s res) (rows slots saved_stack saved_frames) (only m) (only m) }
+    requires { FinishFits sizes (rows slots.old saved_stack.old saved_frames.old plain) m s }
+    ensures { Leaves if_rowed sizes (finish_coroutine v.0 s res) (rows (of_mut slots) (of_mut saved_stack) (of_mut saved_frames)) (only m) (only m) }
 {
     match heap::heap::coro(slots, m.count, v) {
         Coroutine::Not(_) => {}

@@ -7,7 +7,7 @@ ghost use Rattle.heap.specs.declared.object.Object.TheVariants.{Iter};
 ghost use Rattle.model.specs.Heap.{set_key, set_done};
 ghost use Rattle.coro_end.specs.Iter.{iter_of};
 ghost use Rattle.memory_world.specs.Lendings.{table};
-ghost use Rattle.memory_world.specs.Contract.{Leaves, any, every, only};
+ghost use Rattle.memory_world.specs.Contract.{Leaves, any, every, only, of_mut};
 
 use heap::heap::Place;
 use heap::object::Object;
@@ -66,7 +66,7 @@ pub(crate) fn put_iter(slots: &mut [u64], i: usize, v: u64, src: u64, done: bool
 // An iterator's key replaced, where the word names one.
 pub fn set_key(slots: &mut [u64], m: Machine, v: Word, key: u64)
     requires { TableFits slots.old m.count }
-    ensures { every (λ sizes. Leaves any sizes (set_key v.0 key) (table slots) (only m) (only m)) }
+    ensures { every (λ sizes. Leaves any sizes (set_key v.0 key) (table (of_mut slots)) (only m) (only m)) }
 {
     match iter_at(slots, m.count, v) {
         Iterator::At {
@@ -82,7 +82,7 @@ pub fn set_key(slots: &mut [u64], m: Machine, v: Word, key: u64)
 // An iterator marked as done, where the word names one.
 pub fn set_done(slots: &mut [u64], m: Machine, v: Word)
     requires { TableFits slots.old m.count }
-    ensures { every (λ sizes. Leaves any sizes (set_done v.0) (table slots) (only m) (only m)) }
+    ensures { every (λ sizes. Leaves any sizes (set_done v.0) (table (of_mut slots)) (only m) (only m)) }
 {
     match iter_at(slots, m.count, v) {
         Iterator::At {

@@ -1,7 +1,8 @@
 // coro.rs: what coro_returned, coro_escaped and abort_coros share: the innermost coroutine leaves the chain, and ends.
 ghost use Rattle.coro_end.specs.Finish.{FinishFits};
 ghost use Rattle.coro_end.specs.Last.{ending, end_last};
-ghost use Rattle.memory_world.specs.Contract.{Leaves, if_rowed, only};
+ghost use Rattle.memory_world.specs.Contract.{Leaves, if_rowed, only, of_mut};
+ghost use Rattle.memory_world.specs.Lendings.{plain};
 
 use crate::finish::finish_coroutine;
 use heap::object::CoroState;
@@ -19,8 +20,8 @@ pub(crate) fn end_last(
     s: CoroState,
     res: u64,
 ) -> Machine
-    requires { FinishFits sizes (ending chain slots saved_stack saved_frames (λ x. x.now)) m s }
-    ensures { Leaves if_rowed sizes (end_last s res) (ending chain slots saved_stack saved_frames) (only m) (only result) }
+    requires { FinishFits sizes (ending chain.old slots.old saved_stack.old saved_frames.old plain) m s }
+    ensures { Leaves if_rowed sizes (end_last s res) (ending (of_mut chain) (of_mut slots) (of_mut saved_stack) (of_mut saved_frames)) (only m) (only result) }
 {
     if m.active == 0 {
         return m;

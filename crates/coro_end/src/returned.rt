@@ -1,8 +1,8 @@
 // coro.rs: coro_returned. The body's frame has been popped.
 ghost use Rattle.model.specs.Coro.{coro_returned};
 ghost use Rattle.coro_end.specs.Returned.{ReturnFits};
-ghost use Rattle.memory_world.specs.Lendings.{six};
-ghost use Rattle.memory_world.specs.Contract.{Leaves, if_rowed, with};
+ghost use Rattle.memory_world.specs.Lendings.{six, plain};
+ghost use Rattle.memory_world.specs.Contract.{Leaves, if_rowed, with, of_mut};
 
 use crate::deliver::deliver_return;
 use crate::last::end_last;
@@ -24,8 +24,8 @@ pub fn coro_returned(
     fuel: Fuel,
     value: u64,
 ) -> FuelDid
-    requires { ReturnFits sizes (six stack frames chain slots saved_stack saved_frames (λ x. x.now)) m }
-    ensures { Leaves if_rowed sizes (coro_returned value) (six stack frames chain slots saved_stack saved_frames) (with m fuel) (with result.machine result.fuel) }
+    requires { ReturnFits sizes (six stack.old frames.old chain.old slots.old saved_stack.old saved_frames.old plain) m }
+    ensures { Leaves if_rowed sizes (coro_returned value) (six (of_mut stack) (of_mut frames) (of_mut chain) (of_mut slots) (of_mut saved_stack) (of_mut saved_frames)) (with m fuel) (with result.machine result.fuel) }
 {
     if m.active == 0 {
         return FuelDid { machine: m, fuel };

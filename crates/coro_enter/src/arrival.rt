@@ -5,7 +5,7 @@ ghost use Rattle.model.specs.Coro.{coro_enter};
 ghost use Rattle.model.specs.Exec.{arrive};
 ghost use Rattle.coro_enter.specs.Entry.{EntryFits, ArriveFits};
 ghost use Rattle.memory_world.specs.Lendings.{six, top};
-ghost use Rattle.memory_world.specs.Contract.{Met, any, every, if_sound, only};
+ghost use Rattle.memory_world.specs.Contract.{Met, any, every, if_sound, only, of_mut};
 
 use crate::enter::{EnterDid, coro_enter};
 use heap::value::Word;
@@ -31,7 +31,7 @@ pub fn store_enter(
     d: Driver,
 ) -> EnterDid
     requires { EntryFits sizes stack.old frames.old chain.old slots.old saved_stack.old saved_frames.old m pc }
-    ensures { Met if_sound sizes (λ w. coro_enter v d (store_pc pc w)) (six stack frames chain slots saved_stack saved_frames) (only m) (only result.machine) result.answer }
+    ensures { Met if_sound sizes (λ w. coro_enter v d (store_pc pc w)) (six (of_mut stack) (of_mut frames) (of_mut chain) (of_mut slots) (of_mut saved_stack) (of_mut saved_frames)) (only m) (only result.machine) result.answer }
 {
     machine_state::frame::store_pc(frames, m, pc);
     coro_enter(
@@ -51,7 +51,7 @@ pub fn store_enter(
 // The sent word goes to a coroutine that waits for it.
 pub fn arrive(stack: &mut [u64], frames: &mut [u64], m: Machine, a: Entered, sent: u64) -> Step
     requires { ArriveFits stack.old frames.old m.height m.depth a }
-    ensures { every (λ sizes. Met any sizes (λ w. arrive sent w a) (top stack frames) (only m) (only m) result) }
+    ensures { every (λ sizes. Met any sizes (λ w. arrive sent w a) (top (of_mut stack) (of_mut frames)) (only m) (only m) result) }
 {
     match a {
         Entered::Fresh => Step::Frame,
@@ -79,7 +79,7 @@ pub fn enter_send(
     sent: u64,
 ) -> StepDid
     requires { EntryFits sizes stack.old frames.old chain.old slots.old saved_stack.old saved_frames.old m pc }
-    ensures { Met if_sound sizes (λ w. and_then (coro_enter v d (store_pc pc w)) (arrive sent)) (six stack frames chain slots saved_stack saved_frames) (only m) (only result.machine) result.step }
+    ensures { Met if_sound sizes (λ w. and_then (coro_enter v d (store_pc pc w)) (arrive sent)) (six (of_mut stack) (of_mut frames) (of_mut chain) (of_mut slots) (of_mut saved_stack) (of_mut saved_frames)) (only m) (only result.machine) result.step }
 {
     let did = store_enter(
         stack,

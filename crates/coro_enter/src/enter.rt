@@ -1,8 +1,8 @@
 // coro.rs: coro_enter. What it refuses is tested before anything is lent.
 ghost use Rattle.std.specs.Prelude.{◌≡◌, ◌+◌, ◌^◌, ◌≤◌, ◌<◌};
 ghost use Rattle.model.specs.Coro.{coro_enter};
-ghost use Rattle.memory_world.specs.Lendings.{six};
-ghost use Rattle.memory_world.specs.Contract.{Ok, Met, if_sound, only};
+ghost use Rattle.memory_world.specs.Lendings.{six, plain};
+ghost use Rattle.memory_world.specs.Contract.{Ok, Met, if_sound, only, of_mut};
 ghost use Rattle.coro_enter.specs.Enter.{refusal_of, entered_as, grown, MoveFits, Moves};
 
 use heap::fault::Fault;
@@ -107,8 +107,8 @@ pub fn coro_enter(
     v: Word,
     d: Driver,
 ) -> EnterDid
-    requires { Ok sizes (six stack frames chain slots saved_stack saved_frames (λ x. x.now)) (only m) }
-    ensures { Met if_sound sizes (coro_enter v.0 d) (six stack frames chain slots saved_stack saved_frames) (only m) (only result.machine) result.answer }
+    requires { Ok sizes (six stack.old frames.old chain.old slots.old saved_stack.old saved_frames.old plain) (only m) }
+    ensures { Met if_sound sizes (coro_enter v.0 d) (six (of_mut stack) (of_mut frames) (of_mut chain) (of_mut slots) (of_mut saved_stack) (of_mut saved_frames)) (only m) (only result.machine) result.answer }
 {
     match heap::heap::coro_place(slots, m.count, v) {
         CoroPlace::Not(f) => EnterDid {

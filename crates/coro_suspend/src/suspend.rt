@@ -5,7 +5,7 @@ ghost use Rattle.heap.specs.Word.{nil};
 ghost use Rattle.model.specs.Coro.{coro_suspend};
 ghost use Rattle.coro_suspend.specs.Suspend.{growth_of, key_of, largest_of, ignores, suspended, event_as, shrunk, LeaveFit, MovedOut, Found, SuspendFits};
 ghost use Rattle.memory_world.specs.Lendings.{six};
-ghost use Rattle.memory_world.specs.Contract.{Met, if_sound, only};
+ghost use Rattle.memory_world.specs.Contract.{Met, if_sound, only, of_mut};
 
 use heap::fault::Fault;
 use heap::heap::{Charged, CoroPlace, Heap};
@@ -177,7 +177,7 @@ pub(crate) fn suspend_found(
     c: CoroObj,
 ) -> SuspendDid
     requires { Found sizes stack.old frames.old chain.old slots.old saved_stack.old saved_frames.old m state a i c }
-    ensures { Met if_sound sizes (coro_suspend state dst payload keys) (six stack frames chain slots saved_stack saved_frames) (only m) (only result.machine) result.answer }
+    ensures { Met if_sound sizes (coro_suspend state dst payload keys) (six (of_mut stack) (of_mut frames) (of_mut chain) (of_mut slots) (of_mut saved_stack) (of_mut saved_frames)) (only m) (only result.machine) result.answer }
 {
     let floor = a.floor as usize;
     let base = memory_tables::frame::base_at(frames, floor);
@@ -236,7 +236,7 @@ pub fn coro_suspend(
     keys: Keys,
 ) -> SuspendDid
     requires { SuspendFits sizes stack.old frames.old chain.old slots.old saved_stack.old saved_frames.old m state }
-    ensures { Met if_sound sizes (coro_suspend state dst payload keys) (six stack frames chain slots saved_stack saved_frames) (only m) (only result.machine) result.answer }
+    ensures { Met if_sound sizes (coro_suspend state dst payload keys) (six (of_mut stack) (of_mut frames) (of_mut chain) (of_mut slots) (of_mut saved_stack) (of_mut saved_frames)) (only m) (only result.machine) result.answer }
 {
     if m.active == 0 {
         return SuspendDid {

@@ -1,7 +1,7 @@
 // coro.rs: exec, its arms. The operands have been tested, and the charge is taken.
 ghost use Rattle.exec_arm.specs.Arm.{Past, OfInstruction};
-ghost use Rattle.memory_world.specs.Lendings.{six_setup};
-ghost use Rattle.memory_world.specs.Contract.{Met, if_sound, with};
+ghost use Rattle.memory_world.specs.Lendings.{six_setup, plain};
+ghost use Rattle.memory_world.specs.Contract.{Met, if_sound, with, of_mut, of_ref};
 
 use crate::entering::entering;
 use exec_yield::yielding::{coro_await, coro_yield, yield_kv};
@@ -24,8 +24,8 @@ pub fn body(
     fuel: Fuel,
     op: Op,
 ) -> Stepped
-    requires { Past sizes (six_setup stack frames chain slots saved_stack saved_frames setup (λ x. x.now)) m fuel op }
-    ensures { OfInstruction op (λ pc operands arm. Met if_sound sizes arm (six_setup stack frames chain slots saved_stack saved_frames setup) (with m fuel) (with result.machine result.fuel) result.step) }
+    requires { Past sizes (six_setup stack.old frames.old chain.old slots.old saved_stack.old saved_frames.old setup.now plain) m fuel op }
+    ensures { OfInstruction op (λ pc operands arm. Met if_sound sizes arm (six_setup (of_mut stack) (of_mut frames) (of_mut chain) (of_mut slots) (of_mut saved_stack) (of_mut saved_frames) (of_ref setup)) (with m fuel) (with result.machine result.fuel) result.step) }
 {
     match op {
         Op::Yield { pc, dst, src } => coro_yield(

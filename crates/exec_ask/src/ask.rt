@@ -3,7 +3,7 @@ ghost use Rattle.std.specs.Prelude.{◌*◌, ◌≤◌, length};
 ghost use Rattle.model.specs.Exec.{coro_status, coro_current, coro_key, coro_result};
 ghost use Rattle.exec_ask.specs.Ask.{AskFits, CurrentFits, Current};
 ghost use Rattle.memory_world.specs.Lendings.{top_table, top_chain};
-ghost use Rattle.memory_world.specs.Contract.{Met, any, every, only};
+ghost use Rattle.memory_world.specs.Contract.{Met, any, every, only, of_mut, of_ref};
 
 use heap::fault::Fault;
 use heap::heap::CoroPlace;
@@ -24,7 +24,7 @@ pub fn coro_status(
     c: u64,
 ) -> Step
     requires { AskFits stack.old frames.now slots.now m dst c }
-    ensures { every (λ sizes. Met any sizes (coro_status dst c) (top_table stack frames slots) (only m) (only m) result) }
+    ensures { every (λ sizes. Met any sizes (coro_status dst c) (top_table (of_mut stack) (of_ref frames) (of_ref slots)) (only m) (only m) result) }
 {
     let v = memory_tables::stack::reg(stack, frames, m.height, m.depth, c as usize);
     match coro_state(slots, m, Word(v)) {
@@ -52,7 +52,7 @@ fn current(chain: &[u64], m: Machine) -> u64
 // coro.rs: exec, CoroCurrent.
 pub fn coro_current(stack: &mut [u64], frames: &[u64], chain: &[u64], m: Machine, dst: u64) -> Step
     requires { CurrentFits stack.old frames.now chain.now m dst }
-    ensures { every (λ sizes. Met any sizes (coro_current dst) (top_chain stack frames chain) (only m) (only m) result) }
+    ensures { every (λ sizes. Met any sizes (coro_current dst) (top_chain (of_mut stack) (of_ref frames) (of_ref chain)) (only m) (only m) result) }
 {
     let v = current(chain, m);
     put(stack, frames, m, dst, v);
@@ -69,7 +69,7 @@ pub fn coro_key(
     c: u64,
 ) -> Step
     requires { AskFits stack.old frames.now slots.now m dst c }
-    ensures { every (λ sizes. Met any sizes (coro_key dst c) (top_table stack frames slots) (only m) (only m) result) }
+    ensures { every (λ sizes. Met any sizes (coro_key dst c) (top_table (of_mut stack) (of_ref frames) (of_ref slots)) (only m) (only m) result) }
 {
     let v = memory_tables::stack::reg(stack, frames, m.height, m.depth, c as usize);
     match heap::heap::coro_place(slots, m.count, Word(v)) {
@@ -92,7 +92,7 @@ pub fn coro_result(
     c: u64,
 ) -> Step
     requires { AskFits stack.old frames.now slots.now m dst c }
-    ensures { every (λ sizes. Met any sizes (coro_result dst c) (top_table stack frames slots) (only m) (only m) result) }
+    ensures { every (λ sizes. Met any sizes (coro_result dst c) (top_table (of_mut stack) (of_ref frames) (of_ref slots)) (only m) (only m) result) }
 {
     let v = memory_tables::stack::reg(stack, frames, m.height, m.depth, c as usize);
     match heap::heap::coro_place(slots, m.count, Word(v)) {

@@ -6,8 +6,8 @@ ghost use Rattle.heap.specs.declared.object.CoroState.TheVariants.{Returned};
 ghost use Rattle.coro_end.specs.Finish.{FinishFits};
 ghost use Rattle.coro_enter.specs.Entry.{EntryFits, AnswerFits};
 ghost use Rattle.exec_close.specs.Close.{end_created, CloseFits};
-ghost use Rattle.memory_world.specs.Lendings.{rows, six, table};
-ghost use Rattle.memory_world.specs.Contract.{Leaves, Met, any, every, if_rowed, if_sound, only};
+ghost use Rattle.memory_world.specs.Lendings.{rows, six, table, plain};
+ghost use Rattle.memory_world.specs.Contract.{Leaves, Met, any, every, if_rowed, if_sound, only, of_mut};
 
 use coro_end::finish::finish_coroutine;
 use coro_enter::arrival::store_enter;
@@ -26,7 +26,7 @@ use model::machine::Driver;
 // What an entry to close leads to: the coroutine closes, and its signal is raised where it was suspended.
 pub(crate) fn close_entered(slots: &mut [u64], m: Machine, v: u64, a: Entered, signal: u64) -> Step
     requires { TableFits slots.old m.count }
-    ensures { every (λ sizes. Met any sizes (λ w. close_entered v signal w a) (table slots) (only m) (only m) result) }
+    ensures { every (λ sizes. Met any sizes (λ w. close_entered v signal w a) (table (of_mut slots)) (only m) (only m) result) }
 {
     if let Entered::Refused(f) = a {
         return Step::Fault(f);
@@ -51,7 +51,7 @@ pub(crate) fn close_in(
     signal: u64,
 ) -> StepDid
     requires { EntryFits sizes stack.old frames.old chain.old slots.old saved_stack.old saved_frames.old m pc }
-    ensures { Met if_sound sizes (close_in pc dst v signal) (six stack frames chain slots saved_stack saved_frames) (only m) (only result.machine) result.step }
+    ensures { Met if_sound sizes (close_in pc dst v signal) (six (of_mut stack) (of_mut frames) (of_mut chain) (of_mut slots) (of_mut saved_stack) (of_mut saved_frames)) (only m) (only result.machine) result.step }
 {
     let did = store_enter(
         stack,
@@ -82,8 +82,8 @@ pub(crate) fn end_created(
     s: CoroState,
     v: u64,
 )
-    requires { FinishFits sizes (rows slots saved_stack saved_frames (λ x. x.now)) m Returned }
-    ensures { Leaves if_rowed sizes (end_created s v) (rows slots saved_stack saved_frames) (only m) (only m) }
+    requires { FinishFits sizes (rows slots.old saved_stack.old saved_frames.old plain) m Returned }
+    ensures { Leaves if_rowed sizes (end_created s v) (rows (of_mut slots) (of_mut saved_stack) (of_mut saved_frames)) (only m) (only m) }
 {
     if s.is_created() {
         finish_coroutine(
@@ -116,7 +116,7 @@ pub(crate) fn close_to(
     signal: u64,
 ) -> StepDid
     requires { AnswerFits sizes stack.old frames.old chain.old slots.old saved_stack.old saved_frames.old m pc dst }
-    ensures { Met if_sound sizes (close_to (In s) pc dst v signal) (six stack frames chain slots saved_stack saved_frames) (only m) (only result.machine) result.step }
+    ensures { Met if_sound sizes (close_to (In s) pc dst v signal) (six (of_mut stack) (of_mut frames) (of_mut chain) (of_mut slots) (of_mut saved_stack) (of_mut saved_frames)) (only m) (only result.machine) result.step }
 {
     if s.is_suspended() {
         return close_in(
@@ -164,7 +164,7 @@ pub fn coro_close(
     src: u64,
 ) -> StepDid
     requires { CloseFits sizes stack.old frames.old chain.old slots.old saved_stack.old saved_frames.old m pc dst c src }
-    ensures { Met if_sound sizes (coro_close pc dst c src) (six stack frames chain slots saved_stack saved_frames) (only m) (only result.machine) result.step }
+    ensures { Met if_sound sizes (coro_close pc dst c src) (six (of_mut stack) (of_mut frames) (of_mut chain) (of_mut slots) (of_mut saved_stack) (of_mut saved_frames)) (only m) (only result.machine) result.step }
 {
     let v = memory_tables::stack::reg(stack, frames, m.height, m.depth, c as usize);
     let signal = memory_tables::stack::reg(stack, frames, m.height, m.depth, src as usize);

@@ -2,7 +2,7 @@
 ghost use Rattle.model.specs.Exec.{resume};
 ghost use Rattle.exec_enter.specs.Resume.{ResumeFits};
 ghost use Rattle.memory_world.specs.Lendings.{six};
-ghost use Rattle.memory_world.specs.Contract.{Met, if_sound, only};
+ghost use Rattle.memory_world.specs.Contract.{Met, if_sound, only, of_mut};
 
 use coro_enter::arrival::enter_send;
 use machine_state::step::StepDid;
@@ -25,7 +25,7 @@ pub fn resume(
     src: u64,
 ) -> StepDid
     requires { ResumeFits sizes stack.old frames.old chain.old slots.old saved_stack.old saved_frames.old m pc c src }
-    ensures { Met if_sound sizes (resume pc dst c src) (six stack frames chain slots saved_stack saved_frames) (only m) (only result.machine) result.step }
+    ensures { Met if_sound sizes (resume pc dst c src) (six (of_mut stack) (of_mut frames) (of_mut chain) (of_mut slots) (of_mut saved_stack) (of_mut saved_frames)) (only m) (only result.machine) result.step }
 {
     let v = memory_tables::stack::reg(stack, frames, m.height, m.depth, c as usize);
     let sent = memory_tables::stack::reg(stack, frames, m.height, m.depth, src as usize);

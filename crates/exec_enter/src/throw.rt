@@ -6,7 +6,7 @@ ghost use Rattle.coro_enter.specs.Entry.{EntryFits};
 ghost use Rattle.exec_enter.specs.Resume.{ResumeFits};
 ghost use Rattle.exec_enter.specs.Throw.{raised};
 ghost use Rattle.memory_world.specs.Lendings.{six};
-ghost use Rattle.memory_world.specs.Contract.{Met, if_sound, only};
+ghost use Rattle.memory_world.specs.Contract.{Met, if_sound, only, of_mut};
 
 use coro_end::finish::finish_coroutine;
 use coro_enter::arrival::store_enter;
@@ -48,7 +48,7 @@ pub(crate) fn throw_to(
     err: u64,
 ) -> StepDid
     requires { EntryFits sizes stack.old frames.old chain.old slots.old saved_stack.old saved_frames.old m pc }
-    ensures { Met if_sound sizes (throw_to (In s) pc dst v err) (six stack frames chain slots saved_stack saved_frames) (only m) (only result.machine) result.step }
+    ensures { Met if_sound sizes (throw_to (In s) pc dst v err) (six (of_mut stack) (of_mut frames) (of_mut chain) (of_mut slots) (of_mut saved_stack) (of_mut saved_frames)) (only m) (only result.machine) result.step }
 {
     if s.is_created() {
         finish_coroutine(
@@ -101,7 +101,7 @@ pub fn resume_throw(
     src: u64,
 ) -> StepDid
     requires { ResumeFits sizes stack.old frames.old chain.old slots.old saved_stack.old saved_frames.old m pc c src }
-    ensures { Met if_sound sizes (resume_throw pc dst c src) (six stack frames chain slots saved_stack saved_frames) (only m) (only result.machine) result.step }
+    ensures { Met if_sound sizes (resume_throw pc dst c src) (six (of_mut stack) (of_mut frames) (of_mut chain) (of_mut slots) (of_mut saved_stack) (of_mut saved_frames)) (only m) (only result.machine) result.step }
 {
     let v = memory_tables::stack::reg(stack, frames, m.height, m.depth, c as usize);
     let err = memory_tables::stack::reg(stack, frames, m.height, m.depth, src as usize);

@@ -3,7 +3,8 @@ ghost use Rattle.std.specs.Prelude.{◌≡◌};
 ghost use Rattle.model.specs.Gate.{answer_of, instruction};
 ghost use Rattle.exec_arm.specs.Arm.{OfInstruction};
 ghost use Rattle.exec_instruction.specs.Instruction.{gating};
-ghost use Rattle.memory_world.specs.Contract.{Met, Ok, if_sound, with};
+ghost use Rattle.memory_world.specs.Contract.{Met, Ok, if_sound, with, of_mut, of_ref};
+ghost use Rattle.memory_world.specs.Lendings.{plain};
 
 use crate::operands::{passes, pc_of};
 use coro_clean::charge::charge;
@@ -48,8 +49,8 @@ pub fn instruction(
     fuel: Fuel,
     op: Op,
 ) -> Called
-    requires { Ok sizes (gating stack frames chain slots saved_stack saved_frames finalize setup (λ x. x.now)) (with m fuel) }
-    ensures { OfInstruction op (λ pc operands arm. Met if_sound sizes (λ w. instruction pc (operands w) arm w) (gating stack frames chain slots saved_stack saved_frames finalize setup) (with m fuel) (with result.machine result.fuel) result.answer) }
+    requires { Ok sizes (gating stack.old frames.old chain.old slots.old saved_stack.old saved_frames.old finalize.old setup.now plain) (with m fuel) }
+    ensures { OfInstruction op (λ pc operands arm. Met if_sound sizes (λ w. instruction pc (operands w) arm w) (gating (of_mut stack) (of_mut frames) (of_mut chain) (of_mut slots) (of_mut saved_stack) (of_mut saved_frames) (of_mut finalize) (of_ref setup)) (with m fuel) (with result.machine result.fuel) result.answer) }
 {
     if m.depth == 0 {
         return Called {

@@ -5,7 +5,7 @@ ghost use Rattle.model.specs.declared.coro.Stated.TheVariants.{In};
 ghost use Rattle.coro_enter.specs.Entry.{AnswerFits};
 ghost use Rattle.exec_iter.specs.Iter.{exhausted, stopped, StopFits, NextFits};
 ghost use Rattle.memory_world.specs.Lendings.{six, table, top_table};
-ghost use Rattle.memory_world.specs.Contract.{Leaves, Met, Reads, any, every, if_sound, only};
+ghost use Rattle.memory_world.specs.Contract.{Leaves, Met, Reads, any, every, if_sound, only, of_mut, of_ref};
 
 use coro_end::iter::set_done;
 use coro_enter::arrival::enter_send;
@@ -23,7 +23,7 @@ use model::machine::Driver;
 // Whether the loop is at its end: the iterator is done, or its source, in state s, has returned.
 fn exhausted(slots: &[u64], m: Machine, iter: u64, s: CoroState) -> bool
     requires { TableFits slots.now m.count }
-    ensures { every (λ sizes. Reads sizes (exhausted iter s) (table slots) (only m) result) }
+    ensures { every (λ sizes. Reads sizes (exhausted iter s) (table (of_ref slots)) (only m) result) }
 {
     if heap::kind::is_done(slots, m.count, Word(iter)) {
         return true;
@@ -41,7 +41,7 @@ pub(crate) fn stop(
     iter: u64,
 )
     requires { StopFits stack.old frames.now slots.old m has }
-    ensures { every (λ sizes. Leaves any sizes (stopped has iter) (top_table stack frames slots) (only m) (only m)) }
+    ensures { every (λ sizes. Leaves any sizes (stopped has iter) (top_table (of_mut stack) (of_ref frames) (of_mut slots)) (only m) (only m)) }
 {
     set_done(slots, m, Word(iter));
     put(stack, frames, m, has, 0);
@@ -65,7 +65,7 @@ pub(crate) fn iter_on(
     src: u64,
 ) -> StepDid
     requires { AnswerFits sizes stack.old frames.old chain.old slots.old saved_stack.old saved_frames.old m pc has }
-    ensures { Met if_sound sizes (iter_on (In s) pc has iter val src) (six stack frames chain slots saved_stack saved_frames) (only m) (only result.machine) result.step }
+    ensures { Met if_sound sizes (iter_on (In s) pc has iter val src) (six (of_mut stack) (of_mut frames) (of_mut chain) (of_mut slots) (of_mut saved_stack) (of_mut saved_frames)) (only m) (only result.machine) result.step }
 {
     if exhausted(slots, m, iter, s) {
         stop(stack, frames, slots, m, has, iter);
@@ -113,7 +113,7 @@ pub fn iter_next(
     src: u64,
 ) -> StepDid
     requires { NextFits sizes stack.old frames.old chain.old slots.old saved_stack.old saved_frames.old m pc has iter src }
-    ensures { Met if_sound sizes (iter_next pc has iter val src) (six stack frames chain slots saved_stack saved_frames) (only m) (only result.machine) result.step }
+    ensures { Met if_sound sizes (iter_next pc has iter val src) (six (of_mut stack) (of_mut frames) (of_mut chain) (of_mut slots) (of_mut saved_stack) (of_mut saved_frames)) (only m) (only result.machine) result.step }
 {
     let it = memory_tables::stack::reg(stack, frames, m.height, m.depth, iter as usize);
     let v = memory_tables::stack::reg(stack, frames, m.height, m.depth, src as usize);

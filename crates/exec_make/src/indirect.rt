@@ -2,7 +2,7 @@
 ghost use Rattle.model.specs.Exec.{indirect, coro_new_indirect};
 ghost use Rattle.exec_make.specs.Indirect.{called, table_setup, CalledFits, IndirectFits};
 ghost use Rattle.memory_world.specs.Lendings.{top_making};
-ghost use Rattle.memory_world.specs.Contract.{Met, Reads, every, if_sound, only};
+ghost use Rattle.memory_world.specs.Contract.{Met, Reads, every, if_sound, only, of_mut, of_ref};
 
 use crate::new::{create, put_made};
 use coro_create::create::CreateDid;
@@ -16,7 +16,7 @@ use model::coro::WordOr;
 // The function that a word calls with argc arguments, or the fault.
 pub(crate) fn called(slots: &[u64], setup: &[u64], m: Machine, v: Word, argc: u64) -> Callable
     requires { CalledFits slots.now setup.now m.count }
-    ensures { every (λ sizes. Reads sizes (called v.0 argc) (table_setup slots setup) (only m) result) }
+    ensures { every (λ sizes. Reads sizes (called v.0 argc) (table_setup (of_ref slots) (of_ref setup)) (only m) result) }
 {
     match callee(slots, m.count, v) {
         Callable::Not(g) => Callable::Not(g),
@@ -47,7 +47,7 @@ pub(crate) fn indirect(
     argc: u64,
 ) -> CreateDid
     requires { IndirectFits sizes stack.now frames.now slots.old saved_stack.old saved_frames.old setup.now m dst callee argc }
-    ensures { Met if_sound sizes (indirect dst callee argc) (top_making stack frames slots saved_stack saved_frames setup) (only m) (only result.machine) result.answer }
+    ensures { Met if_sound sizes (indirect dst callee argc) (top_making (of_ref stack) (of_ref frames) (of_mut slots) (of_mut saved_stack) (of_mut saved_frames) (of_ref setup)) (only m) (only result.machine) result.answer }
 {
     let v = memory_tables::stack::reg(stack, frames, m.height, m.depth, callee as usize);
     match called(slots, setup, m, Word(v), argc) {
@@ -87,7 +87,7 @@ pub fn coro_new_indirect(
     argc: u64,
 ) -> StepDid
     requires { IndirectFits sizes stack.old frames.now slots.old saved_stack.old saved_frames.old setup.now m dst callee argc }
-    ensures { Met if_sound sizes (coro_new_indirect dst callee argc) (top_making stack frames slots saved_stack saved_frames setup) (only m) (only result.machine) result.step }
+    ensures { Met if_sound sizes (coro_new_indirect dst callee argc) (top_making (of_mut stack) (of_ref frames) (of_mut slots) (of_mut saved_stack) (of_mut saved_frames) (of_ref setup)) (only m) (only result.machine) result.step }
 {
     let did = indirect(
         stack,

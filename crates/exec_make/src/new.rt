@@ -4,7 +4,7 @@ ghost use Rattle.model.specs.Exec.{put_made, window, coro_new};
 ghost use Rattle.memory_tables.specs.Does.{RegFits};
 ghost use Rattle.exec_make.specs.New.{NewFits};
 ghost use Rattle.memory_world.specs.Lendings.{top, top_making};
-ghost use Rattle.memory_world.specs.Contract.{Met, any, every, if_sound, only};
+ghost use Rattle.memory_world.specs.Contract.{Met, any, every, if_sound, only, of_mut, of_ref};
 
 use coro_create::create::{CreateDid, coro_create};
 use heap::value::Word;
@@ -29,7 +29,7 @@ pub(crate) fn create(
     argc: u64,
 ) -> CreateDid
     requires { NewFits sizes stack.now frames.now slots.old saved_stack.old saved_frames.old setup.now m dst f argc }
-    ensures { Met if_sound sizes (λ w. coro_create f closure (window dst argc w) w) (top_making stack frames slots saved_stack saved_frames setup) (only m) (only result.machine) result.answer }
+    ensures { Met if_sound sizes (λ w. coro_create f closure (window dst argc w) w) (top_making (of_ref stack) (of_ref frames) (of_mut slots) (of_mut saved_stack) (of_mut saved_frames) (of_ref setup)) (only m) (only result.machine) result.answer }
 {
     let base = memory_tables::frame::base_at(frames, m.depth - 1);
     let at = base + (dst as usize) + 1;
@@ -52,7 +52,7 @@ pub(crate) fn create(
 // r!(dst) = t!(made); Step::Next
 pub(crate) fn put_made(stack: &mut [u64], frames: &[u64], m: Machine, dst: u64, a: WordOr) -> Step
     requires { RegFits stack.old frames.now m.height m.depth dst }
-    ensures { every (λ sizes. Met any sizes (λ w. put_made dst w a) (top stack frames) (only m) (only m) result) }
+    ensures { every (λ sizes. Met any sizes (λ w. put_made dst w a) (top (of_mut stack) (of_ref frames)) (only m) (only m) result) }
 {
     match a {
         WordOr::Word(v) => {
@@ -78,7 +78,7 @@ pub fn coro_new(
     argc: u64,
 ) -> StepDid
     requires { NewFits sizes stack.old frames.now slots.old saved_stack.old saved_frames.old setup.now m dst f argc }
-    ensures { Met if_sound sizes (coro_new dst f argc) (top_making stack frames slots saved_stack saved_frames setup) (only m) (only result.machine) result.step }
+    ensures { Met if_sound sizes (coro_new dst f argc) (top_making (of_mut stack) (of_ref frames) (of_mut slots) (of_mut saved_stack) (of_mut saved_frames) (of_ref setup)) (only m) (only result.machine) result.step }
 {
     let did = create(
         stack,

@@ -2,7 +2,7 @@
 ghost use Rattle.model.specs.Exec.{spawn};
 ghost use Rattle.exec_make.specs.Spawn.{hook_frame, hook_paid, HookFits, SpawnFits};
 ghost use Rattle.memory_world.specs.Lendings.{top_making, top_setup};
-ghost use Rattle.memory_world.specs.Contract.{Met, if_sound, only, with};
+ghost use Rattle.memory_world.specs.Contract.{Met, if_sound, only, with, of_mut, of_ref};
 
 use crate::indirect::indirect;
 use coro_clean::charge::charge_plain;
@@ -27,7 +27,7 @@ pub(crate) fn push_hook(
     c: u64,
 ) -> StepDid
     requires { HookFits sizes stack.old frames.old setup.now m pc hook }
-    ensures { Met if_sound sizes (hook_frame hook pc dst c) (top_setup stack frames setup) (only m) (only result.machine) result.step }
+    ensures { Met if_sound sizes (hook_frame hook pc dst c) (top_setup (of_mut stack) (of_mut frames) (of_ref setup)) (only m) (only result.machine) result.step }
 {
     let did = machine_state::frame::push_at(
         stack,
@@ -71,7 +71,7 @@ pub(crate) fn call_hook(
     c: u64,
 ) -> Stepped
     requires { HookFits sizes stack.old frames.old setup.now m pc hook }
-    ensures { Met if_sound sizes (hook_paid hook pc dst c) (top_setup stack frames setup) (with m fuel) (with result.machine result.fuel) result.step }
+    ensures { Met if_sound sizes (hook_paid hook pc dst c) (top_setup (of_mut stack) (of_mut frames) (of_ref setup)) (with m fuel) (with result.machine result.fuel) result.step }
 {
     let paid = charge_plain(fuel);
     let left = paid.fuel;
@@ -110,7 +110,7 @@ pub fn spawn(
     argc: u64,
 ) -> Stepped
     requires { SpawnFits sizes stack.old frames.old slots.old saved_stack.old saved_frames.old setup.now m pc dst callee argc }
-    ensures { Met if_sound sizes (spawn pc dst callee argc) (top_making stack frames slots saved_stack saved_frames setup) (with m fuel) (with result.machine result.fuel) result.step }
+    ensures { Met if_sound sizes (spawn pc dst callee argc) (top_making (of_mut stack) (of_mut frames) (of_mut slots) (of_mut saved_stack) (of_mut saved_frames) (of_ref setup)) (with m fuel) (with result.machine result.fuel) result.step }
 {
     let Opt::Some(hook) = memory_tables::program::hook(setup) else {
         return Stepped {

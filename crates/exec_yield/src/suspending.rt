@@ -3,7 +3,7 @@ ghost use Rattle.std.specs.Prelude.{◌≡◌};
 ghost use Rattle.model.specs.Exec.{deliver_all, suspend};
 ghost use Rattle.exec_yield.specs.Suspend.{stepped_by, DeliverFits, SuspendFits};
 ghost use Rattle.memory_world.specs.Lendings.{six, top_table};
-ghost use Rattle.memory_world.specs.Contract.{Met, any, every, if_sound, with};
+ghost use Rattle.memory_world.specs.Contract.{Met, any, every, if_sound, with, of_mut};
 
 use coro_end::deliver::deliver;
 use coro_suspend::suspend::coro_suspend;
@@ -35,7 +35,7 @@ pub(crate) fn deliver_all(
     a: Suspension,
 ) -> Stepped
     requires { DeliverFits stack.old frames.old slots.old m a }
-    ensures { every (λ sizes. Met any sizes (λ w. deliver_all w a) (top_table stack frames slots) (with m fuel) (with result.machine result.fuel) result.step) }
+    ensures { every (λ sizes. Met any sizes (λ w. deliver_all w a) (top_table (of_mut stack) (of_mut frames) (of_mut slots)) (with m fuel) (with result.machine result.fuel) result.step) }
 {
     match a {
         Suspension::Done { driver, event } => {
@@ -76,7 +76,7 @@ pub(crate) fn suspend(
     keys: Keys,
 ) -> Stepped
     requires { SuspendFits sizes stack.old frames.old chain.old slots.old saved_stack.old saved_frames.old m pc state }
-    ensures { Met if_sound sizes (suspend pc state dst payload keys) (six stack frames chain slots saved_stack saved_frames) (with m fuel) (with result.machine result.fuel) result.step }
+    ensures { Met if_sound sizes (suspend pc state dst payload keys) (six (of_mut stack) (of_mut frames) (of_mut chain) (of_mut slots) (of_mut saved_stack) (of_mut saved_frames)) (with m fuel) (with result.machine result.fuel) result.step }
 {
     machine_state::frame::store_pc(frames, m, pc);
     let did = coro_suspend(

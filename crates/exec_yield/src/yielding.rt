@@ -6,7 +6,7 @@ ghost use Rattle.model.specs.Heap.{coro, dyn_int};
 ghost use Rattle.exec_yield.specs.Suspend.{RunFits};
 ghost use Rattle.exec_yield.specs.Yielding.{keys_for, YieldFits, YieldKvFits};
 ghost use Rattle.memory_world.specs.Lendings.{six, table};
-ghost use Rattle.memory_world.specs.Contract.{Met, Reads, every, if_sound, only, with};
+ghost use Rattle.memory_world.specs.Contract.{Met, Reads, every, if_sound, only, with, of_mut, of_ref};
 
 use crate::suspending::suspend;
 use coro_create::key::auto_key;
@@ -24,7 +24,7 @@ use model::machine::Fuel;
 // The largest integer key so far of the coroutine that a word names.
 fn largest_in(slots: &[u64], m: Machine, v: u64) -> u64
     requires { TableFits slots.now m.count }
-    ensures { every (λ sizes. Reads sizes (λ w. largest_in (coro w v)) (table slots) (only m) result) }
+    ensures { every (λ sizes. Reads sizes (λ w. largest_in (coro w v)) (table (of_ref slots)) (only m) result) }
 {
     match heap::heap::coro_place(slots, m.count, Word(v)) {
         CoroPlace::Not(_) => MINUS_ONE,
@@ -53,7 +53,7 @@ fn larger_of(largest: u64, n: Opt) -> u64
 // conv.rs: dyn_int, the integer that a word is or names.
 fn dyn_int(slots: &[u64], m: Machine, v: u64) -> Opt
     requires { TableFits slots.now m.count }
-    ensures { every (λ sizes. Reads sizes (λ w. dyn_int w v) (table slots) (only m) result) }
+    ensures { every (λ sizes. Reads sizes (λ w. dyn_int w v) (table (of_ref slots)) (only m) result) }
 {
     heap::heap::dyn_int(slots, m.count, Word(v))
 }
@@ -74,7 +74,7 @@ pub fn coro_await(
     src: u64,
 ) -> Stepped
     requires { YieldFits sizes stack.old frames.old chain.old slots.old saved_stack.old saved_frames.old m pc src }
-    ensures { Met if_sound sizes (await pc dst src) (six stack frames chain slots saved_stack saved_frames) (with m fuel) (with result.machine result.fuel) result.step }
+    ensures { Met if_sound sizes (await pc dst src) (six (of_mut stack) (of_mut frames) (of_mut chain) (of_mut slots) (of_mut saved_stack) (of_mut saved_frames)) (with m fuel) (with result.machine result.fuel) result.step }
 {
     if m.active == 0 {
         return Stepped {
@@ -106,7 +106,7 @@ pub fn coro_await(
 // The key and the largest key that a YieldKv leaves.
 fn keyed(slots: &[u64], m: Machine, v: u64, key: u64) -> Keys
     requires { TableFits slots.now m.count }
-    ensures { every (λ sizes. Reads sizes (keys_for v key) (table slots) (only m) result) }
+    ensures { every (λ sizes. Reads sizes (keys_for v key) (table (of_ref slots)) (only m) result) }
 {
     let n = dyn_int(slots, m, key);
     let so_far = largest_in(slots, m, v);
@@ -131,7 +131,7 @@ pub fn yield_kv(
     key: u64,
 ) -> Stepped
     requires { YieldKvFits sizes stack.old frames.old chain.old slots.old saved_stack.old saved_frames.old m pc src key }
-    ensures { Met if_sound sizes (yield_kv pc dst src key) (six stack frames chain slots saved_stack saved_frames) (with m fuel) (with result.machine result.fuel) result.step }
+    ensures { Met if_sound sizes (yield_kv pc dst src key) (six (of_mut stack) (of_mut frames) (of_mut chain) (of_mut slots) (of_mut saved_stack) (of_mut saved_frames)) (with m fuel) (with result.machine result.fuel) result.step }
 {
     if m.active == 0 {
         return Stepped {
@@ -180,7 +180,7 @@ pub(crate) fn yield_key(
     a: AutoKey,
 ) -> Stepped
     requires { RunFits sizes stack.old frames.old chain.old slots.old saved_stack.old saved_frames.old m pc }
-    ensures { Met if_sound sizes (λ w. yield_key pc dst payload w a) (six stack frames chain slots saved_stack saved_frames) (with m fuel) (with result.machine result.fuel) result.step }
+    ensures { Met if_sound sizes (λ w. yield_key pc dst payload w a) (six (of_mut stack) (of_mut frames) (of_mut chain) (of_mut slots) (of_mut saved_stack) (of_mut saved_frames)) (with m fuel) (with result.machine result.fuel) result.step }
 {
     match a {
         AutoKey::Key { key, largest } => {
@@ -226,7 +226,7 @@ pub fn coro_yield(
     src: u64,
 ) -> Stepped
     requires { YieldFits sizes stack.old frames.old chain.old slots.old saved_stack.old saved_frames.old m pc src }
-    ensures { Met if_sound sizes (yield pc dst src) (six stack frames chain slots saved_stack saved_frames) (with m fuel) (with result.machine result.fuel) result.step }
+    ensures { Met if_sound sizes (yield pc dst src) (six (of_mut stack) (of_mut frames) (of_mut chain) (of_mut slots) (of_mut saved_stack) (of_mut saved_frames)) (with m fuel) (with result.machine result.fuel) result.step }
 {
     if m.active == 0 {
         return Stepped {

@@ -1,6 +1,6 @@
 // A call of the story, as the host makes it: a grant rewrites the fuel record, any other goes by its code.
 ghost use Rattle.std.specs.Prelude.{◌≡◌};
-ghost use Rattle.memory_world.specs.Contract.{at_entry, at_exit};
+ghost use Rattle.memory_world.specs.Contract.{at_entry, at_exit, of_mut, of_ref};
 ghost use Rattle.memory_step.specs.Step.{step_words};
 ghost use Rattle.outer_call.specs.State.{nine, state, gives};
 
@@ -23,7 +23,7 @@ pub(crate) fn call(
     fuel: Fuel,
     op: Op,
 ) -> Called
-    ensures { gives (nine stack frames chain slots saved_stack saved_frames ready finalize setup at_exit) result ≡ step_words (state (nine stack frames chain slots saved_stack saved_frames ready finalize setup at_entry) m fuel) op }
+    ensures { gives (nine (of_mut stack) (of_mut frames) (of_mut chain) (of_mut slots) (of_mut saved_stack) (of_mut saved_frames) (of_mut ready) (of_mut finalize) (of_ref setup) at_exit) result ≡ step_words (state (nine (of_mut stack) (of_mut frames) (of_mut chain) (of_mut slots) (of_mut saved_stack) (of_mut saved_frames) (of_mut ready) (of_mut finalize) (of_ref setup) at_entry) m fuel) op }
 {
     match op {
         Op::Grant { amount } => outer_grant::call::call(

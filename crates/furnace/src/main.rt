@@ -11,7 +11,7 @@ mod tell;
 mod watch;
 
 ghost use Rattle.std.specs.Prelude.{◌≡◌, length};
-ghost use Rattle.memory_world.specs.Contract.{at_entry, at_exit};
+ghost use Rattle.memory_world.specs.Contract.{at_entry, at_exit, of_mut, of_ref};
 ghost use Rattle.outer_call.specs.State.{nine, state};
 ghost use Rattle.memory_step.specs.Step.{set_up_words};
 ghost use Rattle.memory_tables.specs.Sizes.{setup_words};
@@ -133,8 +133,8 @@ fn turn(
     count: Count,
 ) -> Played
     requires { length notes.old ≡ 128 }
-    ensures { watched (state (nine stack frames chain slots saved_stack saved_frames ready finalize setup at_exit) result.machine result.fuel) (at_exit notes) result.count
-        ≡ watch (watched (state (nine stack frames chain slots saved_stack saved_frames ready finalize setup at_entry) m fuel) (at_entry notes) count) op }
+    ensures { watched (state (nine (of_mut stack) (of_mut frames) (of_mut chain) (of_mut slots) (of_mut saved_stack) (of_mut saved_frames) (of_mut ready) (of_mut finalize) (of_ref setup) at_exit) result.machine result.fuel) (at_exit (of_mut notes)) result.count
+        ≡ watch (watched (state (nine (of_mut stack) (of_mut frames) (of_mut chain) (of_mut slots) (of_mut saved_stack) (of_mut saved_frames) (of_mut ready) (of_mut finalize) (of_ref setup) at_entry) m fuel) (at_entry (of_mut notes)) count) op }
 {
     let was = note::before(stack, frames, chain, m, op, notes);
     let called = call::call(
@@ -226,8 +226,8 @@ fn play(
     notes: &mut [u64],
 ) -> Played
     requires { length notes.old ≡ 128 }
-    ensures { watched (state (nine stack frames chain slots saved_stack saved_frames ready finalize setup at_exit) result.machine result.fuel) (at_exit notes) result.count
-        ≡ watches (watched (state (nine stack frames chain slots saved_stack saved_frames ready finalize setup at_entry) m fuel) (at_entry notes) none) story }
+    ensures { watched (state (nine (of_mut stack) (of_mut frames) (of_mut chain) (of_mut slots) (of_mut saved_stack) (of_mut saved_frames) (of_mut ready) (of_mut finalize) (of_ref setup) at_exit) result.machine result.fuel) (at_exit (of_mut notes)) result.count
+        ≡ watches (watched (state (nine (of_mut stack) (of_mut frames) (of_mut chain) (of_mut slots) (of_mut saved_stack) (of_mut saved_frames) (of_mut ready) (of_mut finalize) (of_ref setup) at_entry) m fuel) (at_entry (of_mut notes)) none) story }
 {
     let mut k = m;
     let mut f = fuel;
@@ -280,7 +280,7 @@ fn line(
     given: &[u64],
 ) -> Count
     requires { length notes.old ≡ 128 }
-    ensures { result ≡ (watches (watched (set_up_words (state (nine stack frames chain slots saved_stack saved_frames ready finalize setup at_entry) blank empty) given.now).state (at_entry notes) none) story).count }
+    ensures { result ≡ (watches (watched (set_up_words (state (nine (of_mut stack) (of_mut frames) (of_mut chain) (of_mut slots) (of_mut saved_stack) (of_mut saved_frames) (of_mut ready) (of_mut finalize) (of_mut setup) at_entry) blank empty) given.now).state (at_entry (of_mut notes)) none) story).count }
 {
     let began = outer_call::set_up::set_up(
         stack,

@@ -1,7 +1,7 @@
 // One call of a list, on a machine that is known to be sound.
 ghost use Rattle.std.specs.Prelude.{◌≡◌, ◌+◌, ◌*◌, ◌≤◌, ◌<◌, length, get_or};
 ghost use Rattle.lists.specs.Chunks.{chunk_at, put_chunk};
-ghost use Rattle.memory_world.specs.Contract.{at_entry, at_exit};
+ghost use Rattle.memory_world.specs.Contract.{at_entry, at_exit, of_mut, of_ref};
 ghost use Rattle.memory_calls.specs.Call.{six, op_of};
 ghost use Rattle.memory_calls.specs.Answer.{answer_words};
 ghost use Rattle.outer_call.specs.State.{nine};
@@ -9,6 +9,7 @@ ghost use Rattle.outer_run.specs.Run.{read_in};
 ghost use Rattle.linked_calls.specs.Host.{host};
 ghost use Rattle.linked_switch.specs.Went.{goes_on};
 ghost use Rattle.linked_batch.specs.Batch.{PutFits, SwitchPutFits, Goes, OneFits, One};
+ghost use Rattle.memory_world.specs.Lendings.{plain};
 
 use heap::fault::Fault;
 use heap::value::MOST32;
@@ -65,10 +66,10 @@ fn general_at(
     d: u64,
     e: u64,
 )
-    requires { PutFits (host (nine stack frames chain slots saved_stack saved_frames ready finalize setup (λ x. x.now)) machine.old fuel.old) answers.old i }
-    ensures { One (host (nine stack frames chain slots saved_stack saved_frames ready finalize setup at_entry) (at_entry machine) (at_entry fuel))
+    requires { PutFits (host (nine stack.old frames.old chain.old slots.old saved_stack.old saved_frames.old ready.old finalize.old setup.now plain) machine.old fuel.old) answers.old i }
+    ensures { One (host (nine (of_mut stack) (of_mut frames) (of_mut chain) (of_mut slots) (of_mut saved_stack) (of_mut saved_frames) (of_mut ready) (of_mut finalize) (of_ref setup) at_entry) (at_entry (of_mut machine)) (at_entry (of_mut fuel)))
         (op_of (six n a b c d e)) answers.old i
-        (host (nine stack frames chain slots saved_stack saved_frames ready finalize setup at_exit) (at_exit machine) (at_exit fuel)) answers.new }
+        (host (nine (of_mut stack) (of_mut frames) (of_mut chain) (of_mut slots) (of_mut saved_stack) (of_mut saved_frames) (of_mut ready) (of_mut finalize) (of_ref setup) at_exit) (at_exit (of_mut machine)) (at_exit (of_mut fuel))) answers.new }
 {
     let call = [n, a, b, c, d, e];
     let at = i * ANSWER_WIDTH;
@@ -110,10 +111,10 @@ fn resume_call(
     c: u64,
     src: u64,
 )
-    requires { SwitchPutFits (host (nine stack frames chain slots saved_stack saved_frames ready finalize setup (λ x. x.now)) machine.old fuel.old) answers.old i pc }
-    ensures { One (host (nine stack frames chain slots saved_stack saved_frames ready finalize setup at_entry) (at_entry machine) (at_entry fuel))
+    requires { SwitchPutFits (host (nine stack.old frames.old chain.old slots.old saved_stack.old saved_frames.old ready.old finalize.old setup.now plain) machine.old fuel.old) answers.old i pc }
+    ensures { One (host (nine (of_mut stack) (of_mut frames) (of_mut chain) (of_mut slots) (of_mut saved_stack) (of_mut saved_frames) (of_mut ready) (of_mut finalize) (of_ref setup) at_entry) (at_entry (of_mut machine)) (at_entry (of_mut fuel)))
         (op_of (six 6 pc dst c src 0)) answers.old i
-        (host (nine stack frames chain slots saved_stack saved_frames ready finalize setup at_exit) (at_exit machine) (at_exit fuel)) answers.new }
+        (host (nine (of_mut stack) (of_mut frames) (of_mut chain) (of_mut slots) (of_mut saved_stack) (of_mut saved_frames) (of_mut ready) (of_mut finalize) (of_ref setup) at_exit) (at_exit (of_mut machine)) (at_exit (of_mut fuel))) answers.new }
 {
     match may_enter(stack, frames, slots, machine, fuel[FUEL], dst, c, src) {
         Enters::At(k, v) => {
@@ -178,10 +179,10 @@ fn yield_call(
     dst: u64,
     src: u64,
 )
-    requires { SwitchPutFits (host (nine stack frames chain slots saved_stack saved_frames ready finalize setup (λ x. x.now)) machine.old fuel.old) answers.old i pc }
-    ensures { One (host (nine stack frames chain slots saved_stack saved_frames ready finalize setup at_entry) (at_entry machine) (at_entry fuel))
+    requires { SwitchPutFits (host (nine stack.old frames.old chain.old slots.old saved_stack.old saved_frames.old ready.old finalize.old setup.now plain) machine.old fuel.old) answers.old i pc }
+    ensures { One (host (nine (of_mut stack) (of_mut frames) (of_mut chain) (of_mut slots) (of_mut saved_stack) (of_mut saved_frames) (of_mut ready) (of_mut finalize) (of_ref setup) at_entry) (at_entry (of_mut machine)) (at_entry (of_mut fuel)))
         (op_of (six 3 pc dst src 0 0)) answers.old i
-        (host (nine stack frames chain slots saved_stack saved_frames ready finalize setup at_exit) (at_exit machine) (at_exit fuel)) answers.new }
+        (host (nine (of_mut stack) (of_mut frames) (of_mut chain) (of_mut slots) (of_mut saved_stack) (of_mut saved_frames) (of_mut ready) (of_mut finalize) (of_ref setup) at_exit) (at_exit (of_mut machine)) (at_exit (of_mut fuel))) answers.new }
 {
     match may_leave(frames, chain, slots, machine, fuel[FUEL], dst, src) {
         Yielder::At(k, to, key, largest) => {
@@ -275,10 +276,10 @@ pub(crate) fn one(
     answers: &mut [u64],
     i: usize,
 )
-    requires { OneFits (host (nine stack frames chain slots saved_stack saved_frames ready finalize setup (λ x. x.now)) machine.old fuel.old) calls.now answers.old i }
-    ensures { One (host (nine stack frames chain slots saved_stack saved_frames ready finalize setup at_entry) (at_entry machine) (at_entry fuel))
+    requires { OneFits (host (nine stack.old frames.old chain.old slots.old saved_stack.old saved_frames.old ready.old finalize.old setup.now plain) machine.old fuel.old) calls.now answers.old i }
+    ensures { One (host (nine (of_mut stack) (of_mut frames) (of_mut chain) (of_mut slots) (of_mut saved_stack) (of_mut saved_frames) (of_mut ready) (of_mut finalize) (of_ref setup) at_entry) (at_entry (of_mut machine)) (at_entry (of_mut fuel)))
         (read_in calls.now i) answers.old i
-        (host (nine stack frames chain slots saved_stack saved_frames ready finalize setup at_exit) (at_exit machine) (at_exit fuel)) answers.new }
+        (host (nine (of_mut stack) (of_mut frames) (of_mut chain) (of_mut slots) (of_mut saved_stack) (of_mut saved_frames) (of_mut ready) (of_mut finalize) (of_ref setup) at_exit) (at_exit (of_mut machine)) (at_exit (of_mut fuel))) answers.new }
 {
     if calls.len() - i * CALL_WIDTH < CALL_WIDTH {
         put_at(answers, i, Answer::Refused(Fault::BadOperand));

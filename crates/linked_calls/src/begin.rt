@@ -3,7 +3,7 @@ ghost use Rattle.std.specs.Prelude.{◌≡◌, ◌≤◌, length, ◌&&◌};
 ghost use Rattle.lists.specs.Parts.{splice};
 ghost use Rattle.memory_step.specs.Step.{set_up_ok};
 ghost use Rattle.outer_call.specs.SetUp.{lengths};
-ghost use Rattle.memory_world.specs.Contract.{at_entry, at_exit};
+ghost use Rattle.memory_world.specs.Contract.{at_entry, at_exit, of_mut};
 ghost use Rattle.outer_call.specs.State.{nine};
 ghost use Rattle.linked_calls.specs.Words.{sizes_words};
 ghost use Rattle.linked_calls.specs.Host.{Host, host, gave, long, LongAs, BeginFits, begin_in, set_up_in};
@@ -57,9 +57,9 @@ fn begin(
     answer: &mut [u64],
 ) -> u64
     requires { BeginFits machine.old fuel.old answer.old }
-    ensures { gave (host (nine stack frames chain slots saved_stack saved_frames ready finalize setup at_exit) (at_exit machine)
-        (at_exit fuel)) (at_exit answer) result ≡ begin_in (host (nine stack frames chain slots saved_stack saved_frames ready finalize setup at_entry)
-        (at_entry machine) (at_entry fuel)) given.now (at_entry answer) }
+    ensures { gave (host (nine (of_mut stack) (of_mut frames) (of_mut chain) (of_mut slots) (of_mut saved_stack) (of_mut saved_frames) (of_mut ready) (of_mut finalize) (of_mut setup) at_exit) (at_exit (of_mut machine))
+        (at_exit (of_mut fuel))) (at_exit (of_mut answer)) result ≡ begin_in (host (nine (of_mut stack) (of_mut frames) (of_mut chain) (of_mut slots) (of_mut saved_stack) (of_mut saved_frames) (of_mut ready) (of_mut finalize) (of_mut setup) at_entry)
+        (at_entry (of_mut machine)) (at_entry (of_mut fuel))) given.now (at_entry (of_mut answer)) }
 {
     let m = machine_of(machine);
     let f = fuel_of(fuel);
@@ -144,9 +144,9 @@ pub extern "C" fn bvm_set_up(
     given: &[u64],
     answer: &mut [u64],
 ) -> u64
-    ensures { gave (host (nine stack frames chain slots saved_stack saved_frames ready finalize setup at_exit) (at_exit machine)
-        (at_exit fuel)) (at_exit answer) result ≡ set_up_in (host (nine stack frames chain slots saved_stack saved_frames ready finalize setup at_entry)
-        (at_entry machine) (at_entry fuel)) given.now (at_entry answer) }
+    ensures { gave (host (nine (of_mut stack) (of_mut frames) (of_mut chain) (of_mut slots) (of_mut saved_stack) (of_mut saved_frames) (of_mut ready) (of_mut finalize) (of_mut setup) at_exit) (at_exit (of_mut machine))
+        (at_exit (of_mut fuel))) (at_exit (of_mut answer)) result ≡ set_up_in (host (nine (of_mut stack) (of_mut frames) (of_mut chain) (of_mut slots) (of_mut saved_stack) (of_mut saved_frames) (of_mut ready) (of_mut finalize) (of_mut setup) at_entry)
+        (at_entry (of_mut machine)) (at_entry (of_mut fuel))) given.now (at_entry (of_mut answer)) }
 {
     if answer.len() < ANSWER_WIDTH {
         let ok = accepts(

@@ -2,11 +2,12 @@
 ghost use Rattle.std.specs.Prelude.{◌≡◌, ◌≤◌, length};
 ghost use Rattle.lists.specs.Parts.{splice};
 ghost use Rattle.model.specs.Answer.{number_of};
-ghost use Rattle.memory_world.specs.Contract.{at_entry, at_exit};
+ghost use Rattle.memory_world.specs.Contract.{at_entry, at_exit, of_mut, of_ref};
 ghost use Rattle.memory_calls.specs.Call.{op_of};
 ghost use Rattle.memory_calls.specs.Answer.{answer_words};
 ghost use Rattle.outer_call.specs.State.{nine};
 ghost use Rattle.linked_calls.specs.Host.{host, gave, passes_test, do_in, call_in, DoFits, KeptFits, kept_in};
+ghost use Rattle.memory_world.specs.Lendings.{plain};
 
 use crate::numbers::{fuel_of, machine_of, put_fuel, put_machine, sizes_of};
 use crate::tested::{short, tested};
@@ -42,10 +43,10 @@ fn do_call(
     call: &[u64],
     answer: &mut [u64],
 ) -> u64
-    requires { DoFits ok (host (nine stack frames chain slots saved_stack saved_frames ready finalize setup (λ x. x.now)) machine.old fuel.old) answer.old }
-    ensures { gave (host (nine stack frames chain slots saved_stack saved_frames ready finalize setup at_exit) (at_exit machine)
-        (at_exit fuel)) (at_exit answer) result ≡ do_in ok (host (nine stack frames chain slots saved_stack saved_frames ready finalize setup at_entry)
-        (at_entry machine) (at_entry fuel)) (op_of call.now) (at_entry answer) }
+    requires { DoFits ok (host (nine stack.old frames.old chain.old slots.old saved_stack.old saved_frames.old ready.old finalize.old setup.now plain) machine.old fuel.old) answer.old }
+    ensures { gave (host (nine (of_mut stack) (of_mut frames) (of_mut chain) (of_mut slots) (of_mut saved_stack) (of_mut saved_frames) (of_mut ready) (of_mut finalize) (of_ref setup) at_exit) (at_exit (of_mut machine))
+        (at_exit (of_mut fuel))) (at_exit (of_mut answer)) result ≡ do_in ok (host (nine (of_mut stack) (of_mut frames) (of_mut chain) (of_mut slots) (of_mut saved_stack) (of_mut saved_frames) (of_mut ready) (of_mut finalize) (of_ref setup) at_entry)
+        (at_entry (of_mut machine)) (at_entry (of_mut fuel))) (op_of call.now) (at_entry (of_mut answer)) }
 {
     if !ok {
         return tell(answer, Answer::Refused(Fault::Unsound));
@@ -94,9 +95,9 @@ pub extern "C" fn bvm_call(
     call: &[u64],
     answer: &mut [u64],
 ) -> u64
-    ensures { gave (host (nine stack frames chain slots saved_stack saved_frames ready finalize setup at_exit) (at_exit machine)
-        (at_exit fuel)) (at_exit answer) result ≡ call_in (host (nine stack frames chain slots saved_stack saved_frames ready finalize setup at_entry)
-        (at_entry machine) (at_entry fuel)) (op_of call.now) (at_entry answer) }
+    ensures { gave (host (nine (of_mut stack) (of_mut frames) (of_mut chain) (of_mut slots) (of_mut saved_stack) (of_mut saved_frames) (of_mut ready) (of_mut finalize) (of_ref setup) at_exit) (at_exit (of_mut machine))
+        (at_exit (of_mut fuel))) (at_exit (of_mut answer)) result ≡ call_in (host (nine (of_mut stack) (of_mut frames) (of_mut chain) (of_mut slots) (of_mut saved_stack) (of_mut saved_frames) (of_mut ready) (of_mut finalize) (of_ref setup) at_entry)
+        (at_entry (of_mut machine)) (at_entry (of_mut fuel))) (op_of call.now) (at_entry (of_mut answer)) }
 {
     let ok = tested(
         stack,
@@ -149,10 +150,10 @@ pub extern "C" fn bvm_call_unchecked(
     call: &[u64],
     answer: &mut [u64],
 ) -> u64
-    requires { KeptFits (host (nine stack frames chain slots saved_stack saved_frames ready finalize setup (λ x. x.now)) machine.old fuel.old) answer.old }
-    ensures { gave (host (nine stack frames chain slots saved_stack saved_frames ready finalize setup at_exit) (at_exit machine)
-        (at_exit fuel)) (at_exit answer) result ≡ kept_in (host (nine stack frames chain slots saved_stack saved_frames ready finalize setup at_entry)
-        (at_entry machine) (at_entry fuel)) (op_of call.now) (at_entry answer) }
+    requires { KeptFits (host (nine stack.old frames.old chain.old slots.old saved_stack.old saved_frames.old ready.old finalize.old setup.now plain) machine.old fuel.old) answer.old }
+    ensures { gave (host (nine (of_mut stack) (of_mut frames) (of_mut chain) (of_mut slots) (of_mut saved_stack) (of_mut saved_frames) (of_mut ready) (of_mut finalize) (of_ref setup) at_exit) (at_exit (of_mut machine))
+        (at_exit (of_mut fuel))) (at_exit (of_mut answer)) result ≡ kept_in (host (nine (of_mut stack) (of_mut frames) (of_mut chain) (of_mut slots) (of_mut saved_stack) (of_mut saved_frames) (of_mut ready) (of_mut finalize) (of_ref setup) at_entry)
+        (at_entry (of_mut machine)) (at_entry (of_mut fuel))) (op_of call.now) (at_entry (of_mut answer)) }
 {
     let sound = true;
     do_call(

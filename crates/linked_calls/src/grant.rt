@@ -1,8 +1,9 @@
 // A grant to a machine in words: it writes the fuel's words and the answer.
 ghost use Rattle.std.specs.Prelude.{◌≡◌};
-ghost use Rattle.memory_world.specs.Contract.{at_entry, at_exit};
+ghost use Rattle.memory_world.specs.Contract.{at_entry, at_exit, of_mut, of_ref};
 ghost use Rattle.outer_call.specs.State.{nine};
 ghost use Rattle.linked_calls.specs.Host.{host, Granted, DoFits};
+ghost use Rattle.memory_world.specs.Lendings.{plain};
 
 use crate::call::tell;
 use crate::numbers::{fuel_of, machine_of, put_fuel};
@@ -28,8 +29,8 @@ fn do_grant(
     answer: &mut [u64],
     amount: u64,
 ) -> u64
-    requires { DoFits ok (host (nine stack frames chain slots saved_stack saved_frames ready finalize setup (λ x. x.now)) machine.now fuel.old) answer.old }
-    ensures { Granted (host (nine stack frames chain slots saved_stack saved_frames ready finalize setup at_entry) (at_entry machine) (at_entry fuel)) amount (at_entry answer) (at_exit fuel) (at_exit answer) result }
+    requires { DoFits ok (host (nine stack.now frames.now chain.now slots.now saved_stack.now saved_frames.now ready.now finalize.now setup.now plain) machine.now fuel.old) answer.old }
+    ensures { Granted (host (nine (of_ref stack) (of_ref frames) (of_ref chain) (of_ref slots) (of_ref saved_stack) (of_ref saved_frames) (of_ref ready) (of_ref finalize) (of_ref setup) at_entry) (at_entry (of_ref machine)) (at_entry (of_mut fuel))) amount (at_entry (of_mut answer)) (at_exit (of_mut fuel)) (at_exit (of_mut answer)) result }
 {
     if !ok {
         return tell(answer, Answer::Refused(Fault::Unsound));
@@ -59,7 +60,7 @@ pub extern "C" fn bvm_grant(
     answer: &mut [u64],
     amount: u64,
 ) -> u64
-    ensures { Granted (host (nine stack frames chain slots saved_stack saved_frames ready finalize setup at_entry) (at_entry machine) (at_entry fuel)) amount (at_entry answer) (at_exit fuel) (at_exit answer) result }
+    ensures { Granted (host (nine (of_ref stack) (of_ref frames) (of_ref chain) (of_ref slots) (of_ref saved_stack) (of_ref saved_frames) (of_ref ready) (of_ref finalize) (of_ref setup) at_entry) (at_entry (of_ref machine)) (at_entry (of_mut fuel))) amount (at_entry (of_mut answer)) (at_exit (of_mut fuel)) (at_exit (of_mut answer)) result }
 {
     let ok = tested(
         stack,

@@ -1,8 +1,9 @@
 // Calls in words, one after the other, on a machine in words: it is tested once.
 ghost use Rattle.std.specs.Prelude.{◌≡◌};
-ghost use Rattle.memory_world.specs.Contract.{at_entry, at_exit};
+ghost use Rattle.memory_world.specs.Contract.{at_entry, at_exit, of_mut, of_ref};
 ghost use Rattle.outer_call.specs.State.{nine};
 ghost use Rattle.linked_calls.specs.Host.{host, gave, passes_test, run_host};
+ghost use Rattle.memory_world.specs.Lendings.{plain};
 
 use crate::numbers::{fuel_of, machine_of, put_fuel, put_machine, sizes_of};
 use crate::tested::{short, tested};
@@ -26,10 +27,10 @@ fn do_run(
     calls: &[u64],
     answers: &mut [u64],
 ) -> u64
-    requires { ok ≡ passes_test (host (nine stack frames chain slots saved_stack saved_frames ready finalize setup (λ x. x.now)) machine.old fuel.old) }
-    ensures { gave (host (nine stack frames chain slots saved_stack saved_frames ready finalize setup at_exit) (at_exit machine)
-        (at_exit fuel)) (at_exit answers) result ≡ run_host (host (nine stack frames chain slots saved_stack saved_frames ready finalize setup at_entry)
-        (at_entry machine) (at_entry fuel)) calls.now (at_entry answers) }
+    requires { ok ≡ passes_test (host (nine stack.old frames.old chain.old slots.old saved_stack.old saved_frames.old ready.old finalize.old setup.now plain) machine.old fuel.old) }
+    ensures { gave (host (nine (of_mut stack) (of_mut frames) (of_mut chain) (of_mut slots) (of_mut saved_stack) (of_mut saved_frames) (of_mut ready) (of_mut finalize) (of_ref setup) at_exit) (at_exit (of_mut machine))
+        (at_exit (of_mut fuel))) (at_exit (of_mut answers)) result ≡ run_host (host (nine (of_mut stack) (of_mut frames) (of_mut chain) (of_mut slots) (of_mut saved_stack) (of_mut saved_frames) (of_mut ready) (of_mut finalize) (of_ref setup) at_entry)
+        (at_entry (of_mut machine)) (at_entry (of_mut fuel))) calls.now (at_entry (of_mut answers)) }
 {
     let n = count(calls.len());
     if answers.len() / ANSWER_WIDTH < n {
@@ -82,9 +83,9 @@ pub extern "C" fn bvm_run(
     calls: &[u64],
     answers: &mut [u64],
 ) -> u64
-    ensures { gave (host (nine stack frames chain slots saved_stack saved_frames ready finalize setup at_exit) (at_exit machine)
-        (at_exit fuel)) (at_exit answers) result ≡ run_host (host (nine stack frames chain slots saved_stack saved_frames ready finalize setup at_entry)
-        (at_entry machine) (at_entry fuel)) calls.now (at_entry answers) }
+    ensures { gave (host (nine (of_mut stack) (of_mut frames) (of_mut chain) (of_mut slots) (of_mut saved_stack) (of_mut saved_frames) (of_mut ready) (of_mut finalize) (of_ref setup) at_exit) (at_exit (of_mut machine))
+        (at_exit (of_mut fuel))) (at_exit (of_mut answers)) result ≡ run_host (host (nine (of_mut stack) (of_mut frames) (of_mut chain) (of_mut slots) (of_mut saved_stack) (of_mut saved_frames) (of_mut ready) (of_mut finalize) (of_ref setup) at_entry)
+        (at_entry (of_mut machine)) (at_entry (of_mut fuel))) calls.now (at_entry (of_mut answers)) }
 {
     let ok = tested(
         stack,

@@ -1,8 +1,9 @@
 // Where the registers of the top frame stand: the part that a look hands back ends with the stack.
 ghost use Rattle.std.specs.Prelude.{◌≡◌, true};
-ghost use Rattle.memory_world.specs.Contract.{at_entry, at_exit};
+ghost use Rattle.memory_world.specs.Contract.{at_entry, at_exit, of_mut, of_ref};
 ghost use Rattle.outer_call.specs.State.{nine};
 ghost use Rattle.linked_calls.specs.Host.{host, passes_test, Spans, look_in, saw};
+ghost use Rattle.memory_world.specs.Lendings.{plain};
 
 use crate::numbers::{fuel_of, machine_of};
 use crate::tested::{short, tested};
@@ -29,8 +30,8 @@ fn span_in(
     machine: &[u64],
     fuel: &[u64],
 ) -> Span
-    requires { passes_test (host (nine stack frames chain slots saved_stack saved_frames ready finalize setup (λ x. x.now)) machine.now fuel.now) ≡ true }
-    ensures { Spans (host (nine stack frames chain slots saved_stack saved_frames ready finalize setup at_entry) (at_entry machine) (at_entry fuel)) result }
+    requires { passes_test (host (nine stack.now frames.now chain.now slots.now saved_stack.now saved_frames.now ready.now finalize.now setup.now plain) machine.now fuel.now) ≡ true }
+    ensures { Spans (host (nine (of_ref stack) (of_ref frames) (of_ref chain) (of_ref slots) (of_ref saved_stack) (of_ref saved_frames) (of_ref ready) (of_ref finalize) (of_ref setup) at_entry) (at_entry (of_ref machine)) (at_entry (of_ref fuel))) result }
 {
     let m = machine_of(machine);
     let f = fuel_of(fuel);
@@ -70,7 +71,7 @@ pub extern "C" fn bvm_look(
     fuel: &[u64],
     span: &mut [u64],
 ) -> u64
-    ensures { saw (at_exit span) result ≡ look_in (host (nine stack frames chain slots saved_stack saved_frames ready finalize setup at_entry) (at_entry machine) (at_entry fuel)) (at_entry span) }
+    ensures { saw (at_exit (of_mut span)) result ≡ look_in (host (nine (of_ref stack) (of_ref frames) (of_ref chain) (of_ref slots) (of_ref saved_stack) (of_ref saved_frames) (of_ref ready) (of_ref finalize) (of_ref setup) at_entry) (at_entry (of_ref machine)) (at_entry (of_ref fuel))) (at_entry (of_mut span)) }
 {
     let ok = tested(
         stack,

@@ -1,6 +1,6 @@
 // Whether a machine in words is sound: its numbers and its fuel in words too, and the sizes beside them.
 ghost use Rattle.std.specs.Prelude.{◌≡◌, ◌≤◌, length};
-ghost use Rattle.memory_world.specs.Contract.{at_entry};
+ghost use Rattle.memory_world.specs.Contract.{at_entry, of_ref};
 ghost use Rattle.outer_call.specs.State.{nine};
 ghost use Rattle.linked_calls.specs.Words.{sizes_in};
 ghost use Rattle.linked_calls.specs.Host.{numbers_ok, same_costs, same_sizes, host, passes_test, HoldFits, sizes_held, one_or, short};
@@ -81,7 +81,7 @@ pub(crate) fn tested(
     machine: &[u64],
     fuel: &[u64],
 ) -> bool
-    ensures { result ≡ passes_test (host (nine stack frames chain slots saved_stack saved_frames ready finalize setup at_entry) (at_entry machine) (at_entry fuel)) }
+    ensures { result ≡ passes_test (host (nine (of_ref stack) (of_ref frames) (of_ref chain) (of_ref slots) (of_ref saved_stack) (of_ref saved_frames) (of_ref ready) (of_ref finalize) (of_ref setup) at_entry) (at_entry (of_ref machine)) (at_entry (of_ref fuel))) }
 {
     if !numbers_ok(machine, fuel) {
         return false;
@@ -131,7 +131,7 @@ pub extern "C" fn bvm_sound(
     machine: &[u64],
     fuel: &[u64],
 ) -> u64
-    ensures { result ≡ one_or (passes_test (host (nine stack frames chain slots saved_stack saved_frames ready finalize setup at_entry) (at_entry machine) (at_entry fuel))) }
+    ensures { result ≡ one_or (passes_test (host (nine (of_ref stack) (of_ref frames) (of_ref chain) (of_ref slots) (of_ref saved_stack) (of_ref saved_frames) (of_ref ready) (of_ref finalize) (of_ref setup) at_entry) (at_entry (of_ref machine)) (at_entry (of_ref fuel)))) }
 {
     if tested(
         stack,

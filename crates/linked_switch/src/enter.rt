@@ -7,7 +7,7 @@ ghost use Rattle.coro_enter.specs.Enter.{Moves, grown, entered_as};
 ghost use Rattle.machine_state.specs.Send.{SendFits};
 ghost use Rattle.model.specs.declared.exec.Step.TheVariants.{Frame};
 ghost use Rattle.memory_world.specs.Lendings.{six};
-ghost use Rattle.memory_world.specs.Contract.{Met, if_sound, only};
+ghost use Rattle.memory_world.specs.Contract.{Met, if_sound, only, of_mut};
 
 use heap::field::{frames_at, regs_at, row_at, state_at, waiting_at};
 use linked_calls::numbers::{ACTIVE, DEPTH, DEPTH_LIMIT, HEIGHT, ROW_WIDTH};
@@ -62,7 +62,7 @@ fn enter_at(
     i: usize,
 )
     requires { EnterAtFits stack.old frames.old chain.old slots.old saved_stack.old saved_frames.old machine.now v i }
-    ensures { Met if_sound (sizes_in machine.now) (enters_by v dst) (six stack frames chain slots saved_stack saved_frames)
+    ensures { Met if_sound (sizes_in machine.now) (enters_by v dst) (six (of_mut stack) (of_mut frames) (of_mut chain) (of_mut slots) (of_mut saved_stack) (of_mut saved_frames))
         (only (machine_in machine.now)) (only (grown (machine_in machine.now) (record_at
         slots.old i))) (entered_as (record_at slots.old i)) }
 {
@@ -121,7 +121,7 @@ pub(crate) fn enter(
     requires { EnterFits stack.old frames.old chain.old slots.old saved_stack.old saved_frames.old machine.old pc src v i }
     ensures { (machine.new ≡ entered_over (grown (machine_in machine.old) (record_at slots.old i))
         machine.old) × Met if_sound (sizes_in machine.old) (resumes_by pc dst src v)
-        (six stack frames chain slots saved_stack saved_frames) (only (machine_in machine.old)) (only (grown (machine_in
+        (six (of_mut stack) (of_mut frames) (of_mut chain) (of_mut slots) (of_mut saved_stack) (of_mut saved_frames)) (only (machine_in machine.old)) (only (grown (machine_in
         machine.old) (record_at slots.old i))) Frame }
 {
     let sent = memory_tables::stack::reg(

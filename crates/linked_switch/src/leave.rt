@@ -3,7 +3,7 @@ ghost use Rattle.std.specs.Prelude.{◌≡◌};
 ghost use Rattle.model.specs.Exec.{yield};
 ghost use Rattle.model.specs.declared.exec.Step.TheVariants.{Frame};
 ghost use Rattle.memory_world.specs.Lendings.{six};
-ghost use Rattle.memory_world.specs.Contract.{Met, if_sound, only};
+ghost use Rattle.memory_world.specs.Contract.{Met, if_sound, only, of_mut};
 ghost use Rattle.coro_suspend.specs.Suspend.{MovedOut};
 ghost use Rattle.linked_calls.specs.Words.{machine_in, sizes_in};
 ghost use Rattle.linked_switch.specs.Leave.{innermost_in, MoveOutFits, LeaveAtFits, suspends_by, told_to, shrunk_to, LeaveFits, left_in};
@@ -61,7 +61,7 @@ fn leave_at(
 )
     requires { LeaveAtFits stack.old frames.old chain.old slots.old saved_stack.old saved_frames.old machine.now i floor base }
     ensures { Met if_sound (sizes_in machine.now) (suspends_by dst payload key largest)
-        (six stack frames chain slots saved_stack saved_frames) (only (machine_in machine.now)) (only (shrunk_to
+        (six (of_mut stack) (of_mut frames) (of_mut chain) (of_mut slots) (of_mut saved_stack) (of_mut saved_frames)) (only (machine_in machine.now)) (only (shrunk_to
         machine.now base floor)) (told_to (innermost_in chain.old (machine_in machine.now)).driver payload key) }
 {
     let row = heap::field::row_at(slots, i);
@@ -101,7 +101,7 @@ pub(crate) fn leave(
     requires { LeaveFits stack.old frames.old chain.old slots.old saved_stack.old saved_frames.old machine.old pc src i to key largest }
     ensures { (machine.new ≡ entered_over (left_in frames.old chain.old machine.old)
         machine.old) × Met if_sound (sizes_in machine.old) (yield pc dst src)
-        (six stack frames chain slots saved_stack saved_frames) (only (machine_in machine.old)) (only (left_in frames.old
+        (six (of_mut stack) (of_mut frames) (of_mut chain) (of_mut slots) (of_mut saved_stack) (of_mut saved_frames)) (only (machine_in machine.old)) (only (left_in frames.old
         chain.old machine.old)) Frame }
 {
     let payload = memory_tables::stack::reg(

@@ -5,8 +5,8 @@ ghost use Rattle.linked_switch.specs.Yield.{YieldAtFits};
 ghost use Rattle.linked_switch.specs.Went.{Went};
 ghost use Rattle.linked_switch.specs.Switch.{SwitchFits, Switched};
 ghost use Rattle.model.specs.declared.call.Op.TheVariants.{Yield};
-ghost use Rattle.memory_world.specs.Lendings.{six};
-ghost use Rattle.memory_world.specs.Contract.{at_entry, at_exit};
+ghost use Rattle.memory_world.specs.Lendings.{six, plain};
+ghost use Rattle.memory_world.specs.Contract.{at_entry, at_exit, of_mut};
 
 use crate::leave::leave;
 use crate::leaves::{Yielder, may_leave};
@@ -31,7 +31,7 @@ pub fn yield_at(
     largest: u64,
 )
     requires { YieldAtFits stack.old frames.old chain.old slots.old saved_stack.old saved_frames.old machine.old fuel.old pc dst src i to key largest }
-    ensures { Went (Yield pc dst src) (six stack frames chain slots saved_stack saved_frames at_entry) (six stack frames chain slots saved_stack saved_frames at_exit) machine.old fuel.old machine.new fuel.new }
+    ensures { Went (Yield pc dst src) (six (of_mut stack) (of_mut frames) (of_mut chain) (of_mut slots) (of_mut saved_stack) (of_mut saved_frames) at_entry) (six (of_mut stack) (of_mut frames) (of_mut chain) (of_mut slots) (of_mut saved_stack) (of_mut saved_frames) at_exit) machine.old fuel.old machine.new fuel.new }
 {
     fuel[FUEL] = fuel[FUEL] - 1;
     leave(
@@ -67,9 +67,9 @@ pub extern "C" fn bvm_try_yield_unchecked(
     dst: u16,
     src: u16,
 ) -> u64
-    requires { SwitchFits (six stack frames chain slots saved_stack saved_frames (λ x. x.now)) machine.old fuel.old }
+    requires { SwitchFits (six stack.old frames.old chain.old slots.old saved_stack.old saved_frames.old plain) machine.old fuel.old }
     ensures { Switched (Yield pc dst src) (may_leave frames.old chain.old slots.old machine.old (get_or fuel.old 0 0) dst src)
-        (six stack frames chain slots saved_stack saved_frames at_entry) (six stack frames chain slots saved_stack saved_frames at_exit)
+        (six (of_mut stack) (of_mut frames) (of_mut chain) (of_mut slots) (of_mut saved_stack) (of_mut saved_frames) at_entry) (six (of_mut stack) (of_mut frames) (of_mut chain) (of_mut slots) (of_mut saved_stack) (of_mut saved_frames) at_exit)
         machine.old fuel.old machine.new fuel.new result }
 {
     match may_leave(

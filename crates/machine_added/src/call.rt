@@ -4,7 +4,7 @@ ghost use Rattle.model.specs.World.{World};
 ghost use Rattle.model.specs.Added.{pushed_or, host_call, function_call, put_word};
 ghost use Rattle.memory_tables.specs.Does.{RegFits};
 ghost use Rattle.memory_world.specs.Lendings.{top, top_setup};
-ghost use Rattle.memory_world.specs.Contract.{Met, any, every, if_sound, only};
+ghost use Rattle.memory_world.specs.Contract.{Met, any, every, if_sound, only, of_mut, of_ref};
 ghost use Rattle.machine_state.specs.Frame.{PushFits, CallFits};
 
 use heap::value::Word;
@@ -41,7 +41,7 @@ pub fn host_call(
     f: u64,
 ) -> CallDid
     requires { PushFits sizes stack.now frames.old setup.now m f }
-    ensures { Met if_sound sizes (host_call f) (top_setup stack frames setup) (only m) (only result.machine) result.answer }
+    ensures { Met if_sound sizes (host_call f) (top_setup (of_ref stack) (of_mut frames) (of_ref setup)) (only m) (only result.machine) result.answer }
 {
     let did = push_frame(stack, frames, setup, m, sizes, f, Word::NIL, Cont::Entry);
     let n = did.machine;
@@ -64,7 +64,7 @@ pub fn function_call(
     cont: Cont,
 ) -> CallDid
     requires { CallFits sizes stack.now frames.old setup.now m pc f }
-    ensures { Met if_sound sizes (function_call pc f cont) (top_setup stack frames setup) (only m) (only result.machine) result.answer }
+    ensures { Met if_sound sizes (function_call pc f cont) (top_setup (of_ref stack) (of_mut frames) (of_ref setup)) (only m) (only result.machine) result.answer }
 {
     let did = push_at(stack, frames, setup, m, sizes, pc, f, Word::NIL, cont);
     let n = did.machine;
@@ -78,7 +78,7 @@ pub fn function_call(
 // "Put word: one register of the top frame."
 pub fn put_word(stack: &mut [u64], frames: &[u64], m: Machine, r: u64, v: u64) -> Answer
     requires { RegFits stack.old frames.now m.height m.depth r }
-    ensures { every (λ sizes. Met any sizes (put_word r v) (top stack frames) (only m) (only m) result) }
+    ensures { every (λ sizes. Met any sizes (put_word r v) (top (of_mut stack) (of_ref frames)) (only m) (only m) result) }
 {
     machine_state::frame::put(stack, frames, m, r, v);
     Answer::Accepted

@@ -2,8 +2,8 @@
 ghost use Rattle.std.specs.Prelude.{◌≡◌, ℕ};
 ghost use Rattle.model.specs.World.{World};
 ghost use Rattle.model.specs.Added.{host_arrive, host_entry};
-ghost use Rattle.memory_world.specs.Lendings.{six};
-ghost use Rattle.memory_world.specs.Contract.{Ok, Met, if_sound, only};
+ghost use Rattle.memory_world.specs.Lendings.{six, plain};
+ghost use Rattle.memory_world.specs.Contract.{Ok, Met, if_sound, only, of_mut};
 
 use crate::call::CallDid;
 use coro_enter::arrival::arrive;
@@ -37,8 +37,8 @@ pub fn host_entry(
     c: u64,
     v: u64,
 ) -> CallDid
-    requires { Ok sizes (six stack frames chain slots saved_stack saved_frames (λ x. x.now)) (only m) }
-    ensures { Met if_sound sizes (host_entry c v) (six stack frames chain slots saved_stack saved_frames) (only m) (only result.machine) result.answer }
+    requires { Ok sizes (six stack.old frames.old chain.old slots.old saved_stack.old saved_frames.old plain) (only m) }
+    ensures { Met if_sound sizes (host_entry c v) (six (of_mut stack) (of_mut frames) (of_mut chain) (of_mut slots) (of_mut saved_stack) (of_mut saved_frames)) (only m) (only result.machine) result.answer }
 {
     let did = coro_enter(
         stack,

@@ -2,8 +2,8 @@
 ghost use Rattle.std.specs.Prelude.{◌≡◌};
 ghost use Rattle.model.specs.World.{World};
 ghost use Rattle.model.specs.Added.{answer_made, make_iterator};
-ghost use Rattle.memory_world.specs.Lendings.{table};
-ghost use Rattle.memory_world.specs.Contract.{Ok, Met, if_sound, only};
+ghost use Rattle.memory_world.specs.Lendings.{table, plain};
+ghost use Rattle.memory_world.specs.Contract.{Ok, Met, if_sound, only, of_mut};
 
 use crate::call::CallDid;
 use heap::object::Object;
@@ -25,8 +25,8 @@ pub fn made_as(a: WordOr) -> Answer
 }
 
 pub fn make_iterator(slots: &mut [u64], m: Machine, sizes: Sizes, v: u64) -> CallDid
-    requires { Ok sizes (table slots (λ x. x.now)) (only m) }
-    ensures { Met if_sound sizes (make_iterator v) (table slots) (only m) (only result.machine) result.answer }
+    requires { Ok sizes (table slots.old plain) (only m) }
+    ensures { Met if_sound sizes (make_iterator v) (table (of_mut slots)) (only m) (only result.machine) result.answer }
 {
     match coro_state(slots, m, Word(v)) {
         Stated::Refused(f) => CallDid {

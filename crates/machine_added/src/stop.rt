@@ -1,8 +1,8 @@
 // 01: "Stop run: `abort_coros`, then frames and stack emptied."
 ghost use Rattle.std.specs.Prelude.{◌≡◌};
 ghost use Rattle.model.specs.Added.{stop_run};
-ghost use Rattle.memory_world.specs.Lendings.{six};
-ghost use Rattle.memory_world.specs.Contract.{Ok, Met, if_sound, with};
+ghost use Rattle.memory_world.specs.Lendings.{six, plain};
+ghost use Rattle.memory_world.specs.Contract.{Ok, Met, if_sound, with, of_mut};
 ghost use Rattle.machine_added.specs.Stop.{emptied};
 
 use coro_end::abort::abort_coros;
@@ -31,8 +31,8 @@ pub fn stop_run(
     sizes: Sizes,
     fuel: Fuel,
 ) -> Called
-    requires { Ok sizes (six stack frames chain slots saved_stack saved_frames (λ x. x.now)) (with m fuel) }
-    ensures { Met if_sound sizes stop_run (six stack frames chain slots saved_stack saved_frames) (with m fuel) (with result.machine result.fuel) result.answer }
+    requires { Ok sizes (six stack.old frames.old chain.old slots.old saved_stack.old saved_frames.old plain) (with m fuel) }
+    ensures { Met if_sound sizes stop_run (six (of_mut stack) (of_mut frames) (of_mut chain) (of_mut slots) (of_mut saved_stack) (of_mut saved_frames)) (with m fuel) (with result.machine result.fuel) result.answer }
 {
     let did = abort_coros(chain, slots, saved_stack, saved_frames, m, sizes, fuel);
     let n = did.machine;

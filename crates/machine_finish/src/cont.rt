@@ -3,8 +3,8 @@ ghost use Rattle.std.specs.Prelude.{◌≡◌};
 ghost use Rattle.model.specs.Machine.{result_of, or_nil, apply_cont};
 ghost use Rattle.model.specs.declared.machine.Cont.TheVariants.{Dyn};
 ghost use Rattle.machine_finish.specs.Finish.{ContFits};
-ghost use Rattle.memory_world.specs.Lendings.{top_table};
-ghost use Rattle.memory_world.specs.Contract.{Met, any, only};
+ghost use Rattle.memory_world.specs.Lendings.{top_table, plain};
+ghost use Rattle.memory_world.specs.Contract.{Met, any, only, of_mut, of_ref};
 
 use crate::convert::to_dyn;
 use heap::fault::Fault;
@@ -54,8 +54,8 @@ fn write_dyn(
     kind: ResultKind,
     v: u64,
 ) -> Applied
-    requires { ContFits sizes (top_table stack frames slots (λ x. x.now)) m (Dyn dst) }
-    ensures { Met any sizes (apply_cont (Dyn dst) kind v) (top_table stack frames slots) (only m) (only result.machine) result.answer }
+    requires { ContFits sizes (top_table stack.old frames.now slots.old plain) m (Dyn dst) }
+    ensures { Met any sizes (apply_cont (Dyn dst) kind v) (top_table (of_mut stack) (of_ref frames) (of_mut slots)) (only m) (only result.machine) result.answer }
 {
     let did = to_dyn(slots, m, sizes, kind, v);
     let n = did.machine;
@@ -86,8 +86,8 @@ pub(crate) fn apply_cont(
     kind: ResultKind,
     v: u64,
 ) -> Applied
-    requires { ContFits sizes (top_table stack frames slots (λ x. x.now)) m cont }
-    ensures { Met any sizes (apply_cont cont kind v) (top_table stack frames slots) (only m) (only result.machine) result.answer }
+    requires { ContFits sizes (top_table stack.old frames.now slots.old plain) m cont }
+    ensures { Met any sizes (apply_cont cont kind v) (top_table (of_mut stack) (of_ref frames) (of_mut slots)) (only m) (only result.machine) result.answer }
 {
     match cont {
         Cont::Entry => {}

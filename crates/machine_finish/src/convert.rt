@@ -3,7 +3,7 @@ ghost use Rattle.heap.specs.Heap.{Room};
 ghost use Rattle.model.specs.Heap.{to_dyn};
 ghost use Rattle.machine_state.specs.Numbers.{heap_of};
 ghost use Rattle.memory_world.specs.Lendings.{table};
-ghost use Rattle.memory_world.specs.Contract.{Met, any, only};
+ghost use Rattle.memory_world.specs.Contract.{Met, any, only, of_mut};
 
 use heap::heap::ResultKind;
 use machine_state::numbers::{allocated, heap_of};
@@ -20,7 +20,7 @@ pub(crate) fn to_dyn(
     v: u64,
 ) -> WordDid
     requires { Room slots.old (heap_of m sizes) }
-    ensures { Met any sizes (to_dyn kind v) (table slots) (only m) (only result.machine) result.answer }
+    ensures { Met any sizes (to_dyn kind v) (table (of_mut slots)) (only m) (only result.machine) result.answer }
 {
     let costs = sizes.costs;
     match heap::heap::to_dyn(slots, heap_of(m, sizes), costs.int, kind, v) {

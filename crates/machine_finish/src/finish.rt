@@ -3,8 +3,8 @@ ghost use Rattle.model.specs.Machine.{resume_in, finish};
 ghost use Rattle.model.specs.declared.machine.Cont.TheVariants.{Coro};
 ghost use Rattle.machine_state.specs.Frame.{StepFits};
 ghost use Rattle.machine_finish.specs.Finish.{TopFits, EndFits};
-ghost use Rattle.memory_world.specs.Lendings.{frame, six, top_table};
-ghost use Rattle.memory_world.specs.Contract.{Met, Ok, any, every, if_sound, only, with};
+ghost use Rattle.memory_world.specs.Lendings.{frame, six, top_table, plain};
+ghost use Rattle.memory_world.specs.Contract.{Met, Ok, any, every, if_sound, only, with, of_mut};
 
 use crate::cont::{apply_cont, result_of};
 use crate::convert::to_dyn;
@@ -29,7 +29,7 @@ pub struct FinishDid {
 // The caller goes on, unless its result was refused.
 fn resume_in(frames: &mut [u64], m: Machine, f: Fault) -> Answer
     requires { StepFits frames.old m.depth }
-    ensures { every (λ sizes. Met any sizes (λ w. resume_in w f) (frame frames) (only m) (only m) result) }
+    ensures { every (λ sizes. Met any sizes (λ w. resume_in w f) (frame (of_mut frames)) (only m) (only m) result) }
 {
     if f.number() == 0 {
         next_pc(frames, m);
@@ -49,8 +49,8 @@ fn end_call(
     kind: ResultKind,
     v: u64,
 ) -> FinishDid
-    requires { EndFits sizes (top_table stack frames slots (λ x. x.now)) m cont }
-    ensures { Met any sizes (finish kind v) (top_table stack frames slots) (only m) (only result.machine) result.answer }
+    requires { EndFits sizes (top_table stack.old frames.old slots.old plain) m cont }
+    ensures { Met any sizes (finish kind v) (top_table (of_mut stack) (of_mut frames) (of_mut slots)) (only m) (only result.machine) result.answer }
 {
     let n = pop(stack, frames, m);
     let did = apply_cont(stack, frames, slots, n, sizes, cont, kind, v);
@@ -74,8 +74,8 @@ fn finish_coro(
     kind: ResultKind,
     v: u64,
 ) -> Called
-    requires { TopFits sizes (six stack frames chain slots saved_stack saved_frames (λ x. x.now)) m Coro }
-    ensures { Met if_sound sizes (finish kind v) (six stack frames chain slots saved_stack saved_frames) (with m fuel) (with result.machine result.fuel) result.answer }
+    requires { TopFits sizes (six stack.old frames.old chain.old slots.old saved_stack.old saved_frames.old plain) m Coro }
+    ensures { Met if_sound sizes (finish kind v) (six (of_mut stack) (of_mut frames) (of_mut chain) (of_mut slots) (of_mut saved_stack) (of_mut saved_frames)) (with m fuel) (with result.machine result.fuel) result.answer }
 {
     let did = to_dyn(slots, m, sizes, kind, v);
     let n = did.machine;
@@ -125,8 +125,8 @@ pub fn finish(
     kind: ResultKind,
     v: u64,
 ) -> Called
-    requires { Ok sizes (six stack frames chain slots saved_stack saved_frames (λ x. x.now)) (only m) }
-    ensures { Met if_sound sizes (finish kind v) (six stack frames chain slots saved_stack saved_frames) (with m fuel) (with result.machine result.fuel) result.answer }
+    requires { Ok sizes (six stack.old frames.old chain.old slots.old saved_stack.old saved_frames.old plain) (only m) }
+    ensures { Met if_sound sizes (finish kind v) (six (of_mut stack) (of_mut frames) (of_mut chain) (of_mut slots) (of_mut saved_stack) (of_mut saved_frames)) (with m fuel) (with result.machine result.fuel) result.answer }
 {
     if m.depth == 0 {
         let answer = Answer::Exit(result_of(kind, v));

@@ -5,7 +5,7 @@ ghost use Rattle.model.specs.Machine.{push_frame};
 ghost use Rattle.memory_tables.specs.Does.{RegFits};
 ghost use Rattle.machine_state.specs.Frame.{DepthFits, StepFits, PushFits, overflowing, pushed, push_at, CallFits, PopFits, pop_top};
 ghost use Rattle.memory_world.specs.Lendings.{frame, top, top_setup};
-ghost use Rattle.memory_world.specs.Contract.{Leaves, Met, any, every, if_sound, only};
+ghost use Rattle.memory_world.specs.Contract.{Leaves, Met, any, every, if_sound, only, of_mut, of_ref};
 
 use heap::fault::Fault;
 use memory_world::machine::{Machine, Sizes};
@@ -22,7 +22,7 @@ pub struct FrameDid {
 // The pc of the top frame.
 pub fn store_pc(frames: &mut [u64], m: Machine, pc: u64)
     requires { DepthFits frames.old m.depth }
-    ensures { every (λ sizes. Leaves any sizes (store_pc pc) (frame frames) (only m) (only m)) }
+    ensures { every (λ sizes. Leaves any sizes (store_pc pc) (frame (of_mut frames)) (only m) (only m)) }
 {
     memory_tables::frames::store_pc(frames, m.depth, pc);
 }
@@ -30,7 +30,7 @@ pub fn store_pc(frames: &mut [u64], m: Machine, pc: u64)
 // The pc of the top frame, if there is one, steps.
 pub fn next_pc(frames: &mut [u64], m: Machine)
     requires { StepFits frames.old m.depth }
-    ensures { every (λ sizes. Leaves any sizes next_pc (frame frames) (only m) (only m)) }
+    ensures { every (λ sizes. Leaves any sizes next_pc (frame (of_mut frames)) (only m) (only m)) }
 {
     if m.depth == 0 {
         return;
@@ -41,7 +41,7 @@ pub fn next_pc(frames: &mut [u64], m: Machine)
 // A word into a register of the top frame.
 pub fn put(stack: &mut [u64], frames: &[u64], m: Machine, r: u64, v: u64)
     requires { RegFits stack.old frames.now m.height m.depth r }
-    ensures { every (λ sizes. Leaves any sizes (put_reg r v) (top stack frames) (only m) (only m)) }
+    ensures { every (λ sizes. Leaves any sizes (put_reg r v) (top (of_mut stack) (of_ref frames)) (only m) (only m)) }
 {
     memory_tables::stack::put_reg(stack, frames, m.height, m.depth, r as usize, v);
 }
@@ -82,7 +82,7 @@ pub fn push_frame(
     cont: Cont,
 ) -> FrameDid
     requires { PushFits sizes stack.now frames.old setup.now m f }
-    ensures { Met if_sound sizes (push_frame f closure cont) (top_setup stack frames setup) (only m) (only result.machine) result.answer }
+    ensures { Met if_sound sizes (push_frame f closure cont) (top_setup (of_ref stack) (of_mut frames) (of_ref setup)) (only m) (only result.machine) result.answer }
 {
     let n = memory_tables::program::regs_at(setup, f as usize);
     if overflows(m, sizes, n) {
@@ -112,7 +112,7 @@ pub fn push_at(
     cont: Cont,
 ) -> FrameDid
     requires { CallFits sizes stack.now frames.old setup.now m pc f }
-    ensures { Met if_sound sizes (push_at pc f closure cont) (top_setup stack frames setup) (only m) (only result.machine) result.answer }
+    ensures { Met if_sound sizes (push_at pc f closure cont) (top_setup (of_ref stack) (of_mut frames) (of_ref setup)) (only m) (only result.machine) result.answer }
 {
     let n = memory_tables::program::regs_at(setup, f as usize);
     if overflows(m, sizes, n) {
@@ -128,7 +128,7 @@ pub fn push_at(
 // The top frame goes, with its registers.
 pub fn pop(stack: &mut [u64], frames: &mut [u64], m: Machine) -> Machine
     requires { PopFits stack.old frames.old m }
-    ensures { every (λ sizes. Leaves any sizes pop_top (top stack frames) (only m) (only result)) }
+    ensures { every (λ sizes. Leaves any sizes pop_top (top (of_mut stack) (of_mut frames)) (only m) (only result)) }
 {
     let base = memory_tables::frame::base_at(frames, m.depth - 1);
     memory_tables::stack::cut(stack, m.height, base);

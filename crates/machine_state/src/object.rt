@@ -3,7 +3,7 @@ ghost use Rattle.heap.specs.Heap.{Room};
 ghost use Rattle.machine_state.specs.Numbers.{heap_of};
 ghost use Rattle.machine_state.specs.Object.{Allocates};
 ghost use Rattle.memory_world.specs.Lendings.{table};
-ghost use Rattle.memory_world.specs.Contract.{only};
+ghost use Rattle.memory_world.specs.Contract.{only, of_mut};
 
 use crate::numbers::{allocated, heap_of};
 use heap::object::Object;
@@ -20,7 +20,7 @@ pub struct WordDid {
 // heap.rs: alloc.
 pub fn alloc_plain(slots: &mut [u64], m: Machine, sizes: Sizes, bytes: u64, o: Object) -> WordDid
     requires { Room slots.old (heap_of m sizes) }
-    ensures { Allocates sizes bytes o (table slots) (only m) (only result.machine) result.answer }
+    ensures { Allocates sizes bytes o (table (of_mut slots)) (only m) (only result.machine) result.answer }
 {
     match heap::heap::alloc(slots, heap_of(m, sizes), bytes, o) {
         heap::heap::Made::Refused(g) => WordDid {

@@ -1,7 +1,7 @@
 // A call on sound words, by the operation.
 ghost use Rattle.machine_step.specs.Kept.{did, DispatchFits};
-ghost use Rattle.memory_world.specs.Lendings.{all};
-ghost use Rattle.memory_world.specs.Contract.{Met, if_sound, with};
+ghost use Rattle.memory_world.specs.Lendings.{all, plain};
+ghost use Rattle.memory_world.specs.Contract.{Met, if_sound, with, of_mut, of_ref};
 
 use crate::gates::{function_call, host_call, host_entry, put_word};
 use coro_clean::join::{hand_over, spawn_task};
@@ -33,8 +33,8 @@ pub(crate) fn dispatch(
     fuel: Fuel,
     op: Op,
 ) -> Called
-    requires { DispatchFits sizes (all stack frames chain slots saved_stack saved_frames ready finalize setup (λ x. x.now)) m fuel op }
-    ensures { Met if_sound sizes (did op) (all stack frames chain slots saved_stack saved_frames ready finalize setup) (with m fuel) (with result.machine result.fuel) result.answer }
+    requires { DispatchFits sizes (all stack.old frames.old chain.old slots.old saved_stack.old saved_frames.old ready.old finalize.old setup.now plain) m fuel op }
+    ensures { Met if_sound sizes (did op) (all (of_mut stack) (of_mut frames) (of_mut chain) (of_mut slots) (of_mut saved_stack) (of_mut saved_frames) (of_mut ready) (of_mut finalize) (of_ref setup)) (with m fuel) (with result.machine result.fuel) result.answer }
 {
     match op {
         Op::Finish { kind, word } => {

@@ -1,8 +1,8 @@
 // 01: "Each tests 11 first, then 12 or 15, then 13 or 16, then what its Rust function tests." 11 is the caller's.
 ghost use Rattle.model.specs.declared.call.Op.TheVariants.{HostCall, HostEntry, FunctionCall, PutWord};
 ghost use Rattle.machine_step.specs.Kept.{did};
-ghost use Rattle.memory_world.specs.Lendings.{six, top_setup};
-ghost use Rattle.memory_world.specs.Contract.{Met, Ok, if_sound, only};
+ghost use Rattle.memory_world.specs.Lendings.{six, top_setup, plain};
+ghost use Rattle.memory_world.specs.Contract.{Met, Ok, if_sound, only, of_mut, of_ref};
 
 use exec_instruction::operands::passes;
 use heap::fault::Fault;
@@ -21,8 +21,8 @@ pub(crate) fn host_call(
     sizes: Sizes,
     f: u32,
 ) -> CallDid
-    requires { Ok sizes (top_setup stack frames setup (λ x. x.now)) (only m) }
-    ensures { Met if_sound sizes (did (HostCall f)) (top_setup stack frames setup) (only m) (only result.machine) result.answer }
+    requires { Ok sizes (top_setup stack.now frames.old setup.now plain) (only m) }
+    ensures { Met if_sound sizes (did (HostCall f)) (top_setup (of_ref stack) (of_mut frames) (of_ref setup)) (only m) (only result.machine) result.answer }
 {
     if m.depth != 0 {
         return CallDid {
@@ -52,8 +52,8 @@ pub(crate) fn host_entry(
     c: u64,
     v: u64,
 ) -> CallDid
-    requires { Ok sizes (six stack frames chain slots saved_stack saved_frames (λ x. x.now)) (only m) }
-    ensures { Met if_sound sizes (did (HostEntry c v)) (six stack frames chain slots saved_stack saved_frames) (only m) (only result.machine) result.answer }
+    requires { Ok sizes (six stack.old frames.old chain.old slots.old saved_stack.old saved_frames.old plain) (only m) }
+    ensures { Met if_sound sizes (did (HostEntry c v)) (six (of_mut stack) (of_mut frames) (of_mut chain) (of_mut slots) (of_mut saved_stack) (of_mut saved_frames)) (only m) (only result.machine) result.answer }
 {
     if m.depth != 0 {
         return CallDid {
@@ -86,8 +86,8 @@ pub(crate) fn function_call(
     f: u32,
     cont: Cont,
 ) -> CallDid
-    requires { Ok sizes (top_setup stack frames setup (λ x. x.now)) (only m) }
-    ensures { Met if_sound sizes (did (FunctionCall pc f cont)) (top_setup stack frames setup) (only m) (only result.machine) result.answer }
+    requires { Ok sizes (top_setup stack.now frames.old setup.now plain) (only m) }
+    ensures { Met if_sound sizes (did (FunctionCall pc f cont)) (top_setup (of_ref stack) (of_mut frames) (of_ref setup)) (only m) (only result.machine) result.answer }
 {
     if m.depth == 0 {
         return CallDid {
@@ -116,8 +116,8 @@ pub(crate) fn put_word(
     r: u16,
     v: u64,
 ) -> Answer
-    requires { Ok sizes (top_setup stack frames setup (λ x. x.now)) (only m) }
-    ensures { Met if_sound sizes (did (PutWord r v)) (top_setup stack frames setup) (only m) (only m) result }
+    requires { Ok sizes (top_setup stack.old frames.now setup.now plain) (only m) }
+    ensures { Met if_sound sizes (did (PutWord r v)) (top_setup (of_mut stack) (of_ref frames) (of_ref setup)) (only m) (only m) result }
 {
     if m.depth == 0 {
         return Answer::Refused(Fault::NoFrame);

@@ -1,7 +1,7 @@
 // Any call of document 01 but the set-up, on words that stand for a sound machine. Nothing is tested that soundness gives.
 ghost use Rattle.machine_step.specs.Kept.{Keeps};
-ghost use Rattle.memory_world.specs.Lendings.{all};
-ghost use Rattle.memory_world.specs.Contract.{Ok, with};
+ghost use Rattle.memory_world.specs.Lendings.{all, plain};
+ghost use Rattle.memory_world.specs.Contract.{Ok, with, of_mut, of_ref};
 
 use crate::dispatch::dispatch;
 use crate::widths::widths;
@@ -25,8 +25,8 @@ pub fn kept(
     fuel: Fuel,
     op: Op,
 ) -> Called
-    requires { Ok sizes (all stack frames chain slots saved_stack saved_frames ready finalize setup (λ x. x.now)) (with m fuel) }
-    ensures { Keeps sizes op (all stack frames chain slots saved_stack saved_frames ready finalize setup) (with m fuel) (with result.machine result.fuel) result.answer }
+    requires { Ok sizes (all stack.old frames.old chain.old slots.old saved_stack.old saved_frames.old ready.old finalize.old setup.now plain) (with m fuel) }
+    ensures { Keeps sizes op (all (of_mut stack) (of_mut frames) (of_mut chain) (of_mut slots) (of_mut saved_stack) (of_mut saved_frames) (of_mut ready) (of_mut finalize) (of_ref setup)) (with m fuel) (with result.machine result.fuel) result.answer }
 {
     widths(op);
     dispatch(

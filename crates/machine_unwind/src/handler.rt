@@ -1,6 +1,6 @@
 // machine.rs: unwind, the handler of a frame. program.rs: FuncInfo.
 ghost use Rattle.memory_world.specs.Lendings.{top};
-ghost use Rattle.memory_world.specs.Contract.{Met, Reads, any, every, only, with};
+ghost use Rattle.memory_world.specs.Contract.{Met, Reads, any, every, only, with, of_mut, of_ref};
 ghost use Rattle.model.specs.Machine.{take_handler};
 ghost use Rattle.memory_tables.specs.Does.{RegFits};
 ghost use Rattle.machine_unwind.specs.Turns.{handler_in};
@@ -19,7 +19,7 @@ use model::program::{Caught, Handler};
 // The first handler of the top frame's function that covers its pc.
 pub(crate) fn handler_in(frames: &[u64], setup: &[u64], m: Machine) -> Caught
     requires { HandlerFits frames.now setup.now m.depth }
-    ensures { every (λ sizes. Reads sizes handler_in (frame_setup frames setup) (only m) result) }
+    ensures { every (λ sizes. Reads sizes handler_in (frame_setup (of_ref frames) (of_ref setup)) (only m) result) }
 {
     let i = m.depth - 1;
     let f = memory_tables::frame::func_at(frames, i);
@@ -37,7 +37,7 @@ pub(crate) fn take_handler(
     value: u64,
 ) -> Called
     requires { RegFits stack.old frames.old m.height m.depth h.catch }
-    ensures { every (λ sizes. Met any sizes (take_handler h value) (top stack frames) (with m fuel) (with result.machine result.fuel) result.answer) }
+    ensures { every (λ sizes. Met any sizes (take_handler h value) (top (of_mut stack) (of_mut frames)) (with m fuel) (with result.machine result.fuel) result.answer) }
 {
     let did = charge_plain(fuel);
     let f = did.fuel;

@@ -1,6 +1,6 @@
 // machine.rs: unwind, a frame without a handler.
-ghost use Rattle.memory_world.specs.Lendings.{six};
-ghost use Rattle.memory_world.specs.Contract.{Met, if_sound, with};
+ghost use Rattle.memory_world.specs.Lendings.{six, plain};
+ghost use Rattle.memory_world.specs.Contract.{Met, if_sound, with, of_mut};
 ghost use Rattle.machine_unwind.specs.Turns.{leave};
 ghost use Rattle.machine_unwind.specs.Fits.{FrameFits};
 
@@ -26,8 +26,8 @@ pub(crate) fn leave(
     func: u64,
     pc: u64,
 ) -> Called
-    requires { FrameFits sizes (six stack frames chain slots saved_stack saved_frames (λ x. x.now)) m fuel }
-    ensures { Met if_sound sizes (leave value func pc) (six stack frames chain slots saved_stack saved_frames) (with m fuel) (with result.machine result.fuel) result.answer }
+    requires { FrameFits sizes (six stack.old frames.old chain.old slots.old saved_stack.old saved_frames.old plain) m fuel }
+    ensures { Met if_sound sizes (leave value func pc) (six (of_mut stack) (of_mut frames) (of_mut chain) (of_mut slots) (of_mut saved_stack) (of_mut saved_frames)) (with m fuel) (with result.machine result.fuel) result.answer }
 {
     let k = memory_tables::frame::cont_at(frames, m.depth - 1);
     let n = pop(stack, frames, m);

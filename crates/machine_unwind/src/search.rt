@@ -1,6 +1,6 @@
 // machine.rs: unwind's loop, from the top frame down.
-ghost use Rattle.memory_world.specs.Lendings.{six_setup};
-ghost use Rattle.memory_world.specs.Contract.{Met, if_sound, with};
+ghost use Rattle.memory_world.specs.Lendings.{six_setup, plain};
+ghost use Rattle.memory_world.specs.Contract.{Met, if_sound, with, of_mut, of_ref};
 ghost use Rattle.machine_unwind.specs.Turns.{turn, search_from};
 ghost use Rattle.machine_unwind.specs.Fits.{FrameFits, SearchFits};
 
@@ -30,8 +30,8 @@ pub(crate) fn turn(
     func: u64,
     pc: u64,
 ) -> Called
-    requires { FrameFits sizes (six_setup stack frames chain slots saved_stack saved_frames setup (λ x. x.now)) m fuel }
-    ensures { Met if_sound sizes (turn value func pc) (six_setup stack frames chain slots saved_stack saved_frames setup) (with m fuel) (with result.machine result.fuel) result.answer }
+    requires { FrameFits sizes (six_setup stack.old frames.old chain.old slots.old saved_stack.old saved_frames.old setup.now plain) m fuel }
+    ensures { Met if_sound sizes (turn value func pc) (six_setup (of_mut stack) (of_mut frames) (of_mut chain) (of_mut slots) (of_mut saved_stack) (of_mut saved_frames) (of_ref setup)) (with m fuel) (with result.machine result.fuel) result.answer }
 {
     match handler_in(frames, setup, m) {
         Caught::By(h) => take_handler(stack, frames, m, fuel, h, value),
@@ -69,8 +69,8 @@ pub(crate) fn search(
     func: u64,
     pc: u64,
 ) -> Called
-    requires { SearchFits sizes (six_setup stack frames chain slots saved_stack saved_frames setup (λ x. x.now)) m fuel func pc }
-    ensures { Met if_sound sizes (search_from value func pc) (six_setup stack frames chain slots saved_stack saved_frames setup) (with m fuel) (with result.machine result.fuel) result.answer }
+    requires { SearchFits sizes (six_setup stack.old frames.old chain.old slots.old saved_stack.old saved_frames.old setup.now plain) m fuel func pc }
+    ensures { Met if_sound sizes (search_from value func pc) (six_setup (of_mut stack) (of_mut frames) (of_mut chain) (of_mut slots) (of_mut saved_stack) (of_mut saved_frames) (of_ref setup)) (with m fuel) (with result.machine result.fuel) result.answer }
 {
     let mut n = m;
     let mut f = fuel;

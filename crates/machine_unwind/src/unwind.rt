@@ -3,8 +3,8 @@ ghost use Rattle.std.specs.Prelude.{◌≡◌, ◌*◌, ◌≤◌, length};
 ghost use Rattle.heap.specs.Heap.{Room};
 ghost use Rattle.model.specs.Machine.{unwind_fault, store_some, raisable, unwind};
 ghost use Rattle.machine_state.specs.Numbers.{heap_of};
-ghost use Rattle.memory_world.specs.Lendings.{frame, table, six_setup};
-ghost use Rattle.memory_world.specs.Contract.{Leaves, Met, Reads, any, every, if_sound, only, with};
+ghost use Rattle.memory_world.specs.Lendings.{frame, table, six_setup, plain};
+ghost use Rattle.memory_world.specs.Contract.{Leaves, Met, Reads, any, every, if_sound, only, with, of_mut, of_ref};
 ghost use Rattle.machine_unwind.specs.Turns.{origin_of, if_at, thrown};
 ghost use Rattle.machine_unwind.specs.Fits.{RaiseFits, UnwindFits};
 
@@ -23,7 +23,7 @@ use model::machine::Fuel;
 // Function and pc of the top frame; 0 and 0 without one.
 pub(crate) fn origin(frames: &[u64], m: Machine) -> Origin
     requires { m.depth * 6 ≤ length frames.now }
-    ensures { every (λ sizes. Reads sizes origin_of (frame frames) (only m) result) }
+    ensures { every (λ sizes. Reads sizes origin_of (frame (of_ref frames)) (only m) result) }
 {
     if m.depth == 0 {
         return Origin { func: 0, pc: 0 };
@@ -44,7 +44,7 @@ pub(crate) fn thrown(
     at: Origin,
 ) -> WordDid
     requires { Room slots.old (heap_of m sizes) }
-    ensures { Met (if_at at) sizes (thrown fault) (table slots) (only m) (only result.machine) result.answer }
+    ensures { Met (if_at at) sizes (thrown fault) (table (of_mut slots)) (only m) (only result.machine) result.answer }
 {
     let kind = fault.number();
     if kind == 17 {
@@ -83,8 +83,8 @@ pub(crate) fn raise(
     fuel: Fuel,
     fault: Fault,
 ) -> Called
-    requires { RaiseFits sizes (six_setup stack frames chain slots saved_stack saved_frames setup (λ x. x.now)) m fuel fault }
-    ensures { Met if_sound sizes (unwind_fault fault) (six_setup stack frames chain slots saved_stack saved_frames setup) (with m fuel) (with result.machine result.fuel) result.answer }
+    requires { RaiseFits sizes (six_setup stack.old frames.old chain.old slots.old saved_stack.old saved_frames.old setup.now plain) m fuel fault }
+    ensures { Met if_sound sizes (unwind_fault fault) (six_setup (of_mut stack) (of_mut frames) (of_mut chain) (of_mut slots) (of_mut saved_stack) (of_mut saved_frames) (of_ref setup)) (with m fuel) (with result.machine result.fuel) result.answer }
 {
     let at = origin(frames, m);
     let did = thrown(slots, m, sizes, fault, at);
@@ -131,7 +131,7 @@ fn is_raisable(fault: Fault) -> bool
 // A pc that is given goes to the top frame, if there is one.
 fn store_some(frames: &mut [u64], m: Machine, pc: OptPc)
     requires { m.depth * 6 ≤ length frames.old }
-    ensures { every (λ sizes. Leaves any sizes (store_some pc) (frame frames) (only m) (only m)) }
+    ensures { every (λ sizes. Leaves any sizes (store_some pc) (frame (of_mut frames)) (only m) (only m)) }
 {
     if m.depth == 0 {
         return;
@@ -157,8 +157,8 @@ pub fn unwind(
     fault: Fault,
     pc: OptPc,
 ) -> Called
-    requires { UnwindFits sizes (six_setup stack frames chain slots saved_stack saved_frames setup (λ x. x.now)) m fuel pc }
-    ensures { Met if_sound sizes (unwind fault pc) (six_setup stack frames chain slots saved_stack saved_frames setup) (with m fuel) (with result.machine result.fuel) result.answer }
+    requires { UnwindFits sizes (six_setup stack.old frames.old chain.old slots.old saved_stack.old saved_frames.old setup.now plain) m fuel pc }
+    ensures { Met if_sound sizes (unwind fault pc) (six_setup (of_mut stack) (of_mut frames) (of_mut chain) (of_mut slots) (of_mut saved_stack) (of_mut saved_frames) (of_ref setup)) (with m fuel) (with result.machine result.fuel) result.answer }
 {
     if !is_raisable(fault) {
         return Called {

@@ -1,7 +1,7 @@
 -- What a function on lent words asks and promises: of every world of a kind that the words stood for, what they stand for after it,
 -- and what it answers.
 use Rattle.std.specs.Prelude.{◌≡◌, true, List, ℕ}
-use Rattle.std.specs.Borrow.{Bor}
+use Rattle.std.specs.Borrow.{Bor, MutBor}
 use denote.Triple.Both.{Both}
 use Rattle.model.specs.World.{World, After}
 use Rattle.model.specs.Sound.{sound}
@@ -56,14 +56,22 @@ abbrev pub if_sound : Kind
 if_sound w X = sound w ≡ true → X
 
 -- a slice at a function's two moments
-abbrev pub Slice : Type 0
-Slice = Both (Bor (List ℕ)) (Bor (List ℕ))
+pub record Slice : Type 0 where
+  pub entry : List ℕ
+  pub exit : List ℕ
 
 abbrev pub at_entry : Slice → List ℕ
-at_entry s = s.entry.now
+at_entry s = s.entry
 
 abbrev pub at_exit : Slice → List ℕ
-at_exit s = s.exit.now
+at_exit s = s.exit
+
+-- that of a parameter that is a `&mut`, and of one that is a `&`
+abbrev pub of_mut : Both (MutBor (List ℕ)) (MutBor (List ℕ)) → Slice
+of_mut s = record { entry = s.entry.now; exit = s.exit.now }
+
+abbrev pub of_ref : Both (Bor (List ℕ)) (Bor (List ℕ)) → Slice
+of_ref s = record { entry = s.entry.now; exit = s.exit.now }
 
 -- the lent words at either moment
 abbrev pub Lending : Type 0

@@ -1,8 +1,9 @@
 // A call on lent words, whatever they hold. 01: "Outer calls test this".
 ghost use Rattle.std.specs.Prelude.{◌≡◌};
-ghost use Rattle.memory_world.specs.Contract.{at_entry, at_exit};
+ghost use Rattle.memory_world.specs.Contract.{at_entry, at_exit, of_mut, of_ref};
 ghost use Rattle.memory_step.specs.Step.{is_sound, step_words};
 ghost use Rattle.outer_call.specs.State.{nine, state, gives, SoundFits, Steps};
+ghost use Rattle.memory_world.specs.Lendings.{plain};
 
 use check_machine::whole::sound_words;
 use heap::fault::Fault;
@@ -27,8 +28,8 @@ pub fn sound_call(
     fuel: Fuel,
     op: Op,
 ) -> Called
-    requires { SoundFits sizes (state (nine stack frames chain slots saved_stack saved_frames ready finalize setup (λ x. x.now)) m fuel) }
-    ensures { Steps (state (nine stack frames chain slots saved_stack saved_frames ready finalize setup at_entry) m fuel) op (gives (nine stack frames chain slots saved_stack saved_frames ready finalize setup at_exit) result) }
+    requires { SoundFits sizes (state (nine stack.old frames.old chain.old slots.old saved_stack.old saved_frames.old ready.old finalize.old setup.now plain) m fuel) }
+    ensures { Steps (state (nine (of_mut stack) (of_mut frames) (of_mut chain) (of_mut slots) (of_mut saved_stack) (of_mut saved_frames) (of_mut ready) (of_mut finalize) (of_ref setup) at_entry) m fuel) op (gives (nine (of_mut stack) (of_mut frames) (of_mut chain) (of_mut slots) (of_mut saved_stack) (of_mut saved_frames) (of_mut ready) (of_mut finalize) (of_ref setup) at_exit) result) }
 {
     machine_step::kept::kept(
         stack,
@@ -74,8 +75,8 @@ fn called(
     fuel: Fuel,
     op: Op,
 ) -> Called
-    requires { ok ≡ is_sound (state (nine stack frames chain slots saved_stack saved_frames ready finalize setup (λ x. x.now)) m fuel) }
-    ensures { gives (nine stack frames chain slots saved_stack saved_frames ready finalize setup at_exit) result ≡ step_words (state (nine stack frames chain slots saved_stack saved_frames ready finalize setup at_entry) m fuel) op }
+    requires { ok ≡ is_sound (state (nine stack.old frames.old chain.old slots.old saved_stack.old saved_frames.old ready.old finalize.old setup.now plain) m fuel) }
+    ensures { gives (nine (of_mut stack) (of_mut frames) (of_mut chain) (of_mut slots) (of_mut saved_stack) (of_mut saved_frames) (of_mut ready) (of_mut finalize) (of_ref setup) at_exit) result ≡ step_words (state (nine (of_mut stack) (of_mut frames) (of_mut chain) (of_mut slots) (of_mut saved_stack) (of_mut saved_frames) (of_mut ready) (of_mut finalize) (of_ref setup) at_entry) m fuel) op }
 {
     if !ok {
         return unsound(m, fuel);
@@ -113,7 +114,7 @@ pub fn call(
     fuel: Fuel,
     op: Op,
 ) -> Called
-    ensures { gives (nine stack frames chain slots saved_stack saved_frames ready finalize setup at_exit) result ≡ step_words (state (nine stack frames chain slots saved_stack saved_frames ready finalize setup at_entry) m fuel) op }
+    ensures { gives (nine (of_mut stack) (of_mut frames) (of_mut chain) (of_mut slots) (of_mut saved_stack) (of_mut saved_frames) (of_mut ready) (of_mut finalize) (of_ref setup) at_exit) result ≡ step_words (state (nine (of_mut stack) (of_mut frames) (of_mut chain) (of_mut slots) (of_mut saved_stack) (of_mut saved_frames) (of_mut ready) (of_mut finalize) (of_ref setup) at_entry) m fuel) op }
 {
     let ok = sound_words(
         stack,

@@ -1,10 +1,11 @@
 // 01: "a look at the top frame hands back its registers as part of the lent words; without a frame, or on 11, an empty part"
 ghost use Rattle.std.specs.Prelude.{◌≡◌, true};
-ghost use Rattle.memory_world.specs.Contract.{at_entry};
+ghost use Rattle.memory_world.specs.Contract.{at_entry, of_ref};
 ghost use Rattle.machine_added.specs.Look.{LookFits};
 ghost use Rattle.memory_step.specs.Step.{is_sound, looked};
 ghost use Rattle.outer_call.specs.State.{nine, state};
 ghost use Rattle.outer_call.specs.Look.{Placed};
+ghost use Rattle.memory_world.specs.Lendings.{plain};
 
 use check_machine::whole::sound_words;
 use machine_added::look::Span;
@@ -38,8 +39,8 @@ pub fn seen<'a>(
     m: Machine,
     fuel: Fuel,
 ) -> &'a [u64]
-    requires { ok ≡ is_sound (state (nine stack frames chain slots saved_stack saved_frames ready finalize setup (λ x. x.now)) m fuel) }
-    ensures { result.now ≡ looked (state (nine stack frames chain slots saved_stack saved_frames ready finalize setup at_entry) m fuel) }
+    requires { ok ≡ is_sound (state (nine stack.now frames.now chain.now slots.now saved_stack.now saved_frames.now ready.now finalize.now setup.now plain) m fuel) }
+    ensures { result.now ≡ looked (state (nine (of_ref stack) (of_ref frames) (of_ref chain) (of_ref slots) (of_ref saved_stack) (of_ref saved_frames) (of_ref ready) (of_ref finalize) (of_ref setup) at_entry) m fuel) }
 {
     let s = place(ok, frames, m);
     let start = s.start;
@@ -61,7 +62,7 @@ pub fn look<'a>(
     m: Machine,
     fuel: Fuel,
 ) -> &'a [u64]
-    ensures { result.now ≡ looked (state (nine stack frames chain slots saved_stack saved_frames ready finalize setup at_entry) m fuel) }
+    ensures { result.now ≡ looked (state (nine (of_ref stack) (of_ref frames) (of_ref chain) (of_ref slots) (of_ref saved_stack) (of_ref saved_frames) (of_ref ready) (of_ref finalize) (of_ref setup) at_entry) m fuel) }
 {
     let ok = sound_words(
         stack,

@@ -1,11 +1,12 @@
 // The set-up as a call. 01: "Set-up (fuel 0)"; every rule of the closing list and the room are tested first.
 ghost use Rattle.std.specs.Prelude.{◌≡◌, true};
 ghost use Rattle.memory_world.specs.Memory.{Lent};
-ghost use Rattle.memory_world.specs.Contract.{at_entry, at_exit};
+ghost use Rattle.memory_world.specs.Contract.{at_entry, at_exit, of_mut};
 ghost use Rattle.memory_world.specs.Words.{lengths_of};
 ghost use Rattle.memory_step.specs.Step.{set_up_ok, set_up_words};
 ghost use Rattle.outer_call.specs.State.{nine, state, gives};
 ghost use Rattle.outer_call.specs.SetUp.{lengths, begins};
+ghost use Rattle.memory_world.specs.Lendings.{plain};
 
 use crate::call::unsound;
 use heap::value::Opt;
@@ -65,8 +66,8 @@ fn begin(
     setup: &mut [u64],
     given: &[u64],
 ) -> Called
-    requires { set_up_ok given.now (nine stack frames chain slots saved_stack saved_frames ready finalize setup (λ x. x.now)) ≡ true }
-    ensures { gives (nine stack frames chain slots saved_stack saved_frames ready finalize setup at_exit) result ≡ begins (nine stack frames chain slots saved_stack saved_frames ready finalize setup at_entry) given.now }
+    requires { set_up_ok given.now (nine stack.old frames.old chain.old slots.old saved_stack.old saved_frames.old ready.old finalize.old setup.old plain) ≡ true }
+    ensures { gives (nine (of_mut stack) (of_mut frames) (of_mut chain) (of_mut slots) (of_mut saved_stack) (of_mut saved_frames) (of_mut ready) (of_mut finalize) (of_mut setup) at_exit) result ≡ begins (nine (of_mut stack) (of_mut frames) (of_mut chain) (of_mut slots) (of_mut saved_stack) (of_mut saved_frames) (of_mut ready) (of_mut finalize) (of_mut setup) at_entry) given.now }
 {
     let n = given[layout::FUNCTIONS] as usize;
     let k = NUMBERS_WIDTH + n * FUNCTION_WIDTH;
@@ -109,7 +110,7 @@ pub fn set_up(
     fuel: Fuel,
     given: &[u64],
 ) -> Called
-    ensures { gives (nine stack frames chain slots saved_stack saved_frames ready finalize setup at_exit) result ≡ set_up_words (state (nine stack frames chain slots saved_stack saved_frames ready finalize setup at_entry) m fuel) given.now }
+    ensures { gives (nine (of_mut stack) (of_mut frames) (of_mut chain) (of_mut slots) (of_mut saved_stack) (of_mut saved_frames) (of_mut ready) (of_mut finalize) (of_mut setup) at_exit) result ≡ set_up_words (state (nine (of_mut stack) (of_mut frames) (of_mut chain) (of_mut slots) (of_mut saved_stack) (of_mut saved_frames) (of_mut ready) (of_mut finalize) (of_mut setup) at_entry) m fuel) given.now }
 {
     if !allowed(
         given,

@@ -1,7 +1,7 @@
 // A grant as an outer call. 01: "Outer calls test this".
 ghost use Rattle.std.specs.Prelude.{◌≡◌};
 ghost use Rattle.model.specs.declared.call.Op.{Op};
-ghost use Rattle.memory_world.specs.Contract.{at_entry};
+ghost use Rattle.memory_world.specs.Contract.{at_entry, of_ref};
 ghost use Rattle.memory_step.specs.Step.{step_words};
 ghost use Rattle.outer_call.specs.State.{nine, state, gives};
 
@@ -27,7 +27,7 @@ pub fn call(
     fuel: Fuel,
     n: u64,
 ) -> Called
-    ensures { gives (nine stack frames chain slots saved_stack saved_frames ready finalize setup at_entry) result ≡ step_words (state (nine stack frames chain slots saved_stack saved_frames ready finalize setup at_entry) m fuel) (Op.Grant n) }
+    ensures { gives (nine (of_ref stack) (of_ref frames) (of_ref chain) (of_ref slots) (of_ref saved_stack) (of_ref saved_frames) (of_ref ready) (of_ref finalize) (of_ref setup) at_entry) result ≡ step_words (state (nine (of_ref stack) (of_ref frames) (of_ref chain) (of_ref slots) (of_ref saved_stack) (of_ref saved_frames) (of_ref ready) (of_ref finalize) (of_ref setup) at_entry) m fuel) (Op.Grant n) }
 {
     if !sound_words(
         stack,

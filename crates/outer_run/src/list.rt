@@ -1,11 +1,12 @@
 // Calls in words, one after the other, on sound words.
 ghost use Rattle.std.specs.Prelude.{◌≡◌, ◌+◌, ◌*◌, ◌≤◌, length};
 ghost use Rattle.lists.specs.Chunks.{chunk_at, put_chunk};
-ghost use Rattle.memory_world.specs.Contract.{at_entry, at_exit};
+ghost use Rattle.memory_world.specs.Contract.{at_entry, at_exit, of_mut, of_ref};
 ghost use Rattle.memory_calls.specs.Call.{op_of};
 ghost use Rattle.memory_calls.specs.Answer.{answer_words};
 ghost use Rattle.outer_call.specs.State.{nine, state};
 ghost use Rattle.outer_run.specs.Run.{count_of, read_in, written, refusals, ListFits, Listed};
+ghost use Rattle.memory_world.specs.Lendings.{plain};
 
 use crate::one::do_read;
 use heap::fault::Fault;
@@ -87,9 +88,9 @@ pub fn run_list(
     answers: &mut [u64],
     n: usize,
 ) -> Ran
-    requires { ListFits sizes (state (nine stack frames chain slots saved_stack saved_frames ready finalize setup (λ x. x.now)) m fuel) calls.now answers.old n }
-    ensures { Listed (state (nine stack frames chain slots saved_stack saved_frames ready finalize setup at_entry) m fuel)
-        calls.now answers.old n (state (nine stack frames chain slots saved_stack saved_frames ready finalize setup at_exit)
+    requires { ListFits sizes (state (nine stack.old frames.old chain.old slots.old saved_stack.old saved_frames.old ready.old finalize.old setup.now plain) m fuel) calls.now answers.old n }
+    ensures { Listed (state (nine (of_mut stack) (of_mut frames) (of_mut chain) (of_mut slots) (of_mut saved_stack) (of_mut saved_frames) (of_mut ready) (of_mut finalize) (of_ref setup) at_entry) m fuel)
+        calls.now answers.old n (state (nine (of_mut stack) (of_mut frames) (of_mut chain) (of_mut slots) (of_mut saved_stack) (of_mut saved_frames) (of_mut ready) (of_mut finalize) (of_ref setup) at_exit)
         result.machine result.fuel) answers.new }
 {
     let mut k = m;

@@ -1,7 +1,8 @@
 // One call in words, on sound words.
-ghost use Rattle.memory_world.specs.Contract.{at_entry, at_exit};
+ghost use Rattle.memory_world.specs.Contract.{at_entry, at_exit, of_mut, of_ref};
 ghost use Rattle.outer_call.specs.State.{nine, state, gives, SoundFits};
 ghost use Rattle.outer_run.specs.Run.{Reads};
+ghost use Rattle.memory_world.specs.Lendings.{plain};
 
 use machine_state::called::Called;
 use memory_calls::call::{Read, refusal};
@@ -26,8 +27,8 @@ pub fn do_read(
     fuel: Fuel,
     read: Read,
 ) -> Called
-    requires { SoundFits sizes (state (nine stack frames chain slots saved_stack saved_frames ready finalize setup (λ x. x.now)) m fuel) }
-    ensures { Reads (state (nine stack frames chain slots saved_stack saved_frames ready finalize setup at_entry) m fuel) read (gives (nine stack frames chain slots saved_stack saved_frames ready finalize setup at_exit) result) }
+    requires { SoundFits sizes (state (nine stack.old frames.old chain.old slots.old saved_stack.old saved_frames.old ready.old finalize.old setup.now plain) m fuel) }
+    ensures { Reads (state (nine (of_mut stack) (of_mut frames) (of_mut chain) (of_mut slots) (of_mut saved_stack) (of_mut saved_frames) (of_mut ready) (of_mut finalize) (of_ref setup) at_entry) m fuel) read (gives (nine (of_mut stack) (of_mut frames) (of_mut chain) (of_mut slots) (of_mut saved_stack) (of_mut saved_frames) (of_mut ready) (of_mut finalize) (of_ref setup) at_exit) result) }
 {
     match read {
         Read::Is(op) => sound_call(
